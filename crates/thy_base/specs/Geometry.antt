@@ -1,0 +1,69 @@
+-- The numbers of a configuration in range, and the places of the NVM that follow from them.
+use Rattle.std.specs.Prelude.{◌≡◌, ℕ, ◌+◌, ◌-◌, ◌*◌, ◌%◌, ◌^◌, ◌<◌, ◌≤◌, Option, Some, None, Result, Ok, Err}
+use Rattle.thy_base.specs.declared.config.Config.{Config}
+use Rattle.thy_base.specs.declared.config.ConfigError.{ConfigError}
+use Rattle.thy_base.specs.declared.config.Parameters.{Parameters}
+use Rattle.thy_base.specs.Config.{fault_of}
+
+-- each number is in its range
+pub record IsInRange (p : Parameters) : Type 0 where
+  pub base_aligned : p.base % 4096 ≡ 0
+  pub base_below : p.base < 2 ^ 62
+  pub pages_least : 8 ≤ p.pages
+  pub pages_most : p.pages ≤ 4096
+  pub console_least : 1 ≤ p.console
+  pub console_most : p.console ≤ 16
+  pub console_below : p.console < p.pages
+  pub epoch_least : 1 ≤ p.epoch
+  pub epoch_most : p.epoch ≤ 1000000
+  pub btt_least : 8 ≤ p.btt
+  pub btt_most : p.btt ≤ 4096
+  pub ptt_least : 8 ≤ p.ptt
+  pub ptt_most : p.ptt ≤ 512
+  pub nvmq_least : 1 ≤ p.nvmq
+  pub nvmq_most : p.nvmq ≤ 64
+  pub dramq_least : 1 ≤ p.dramq
+  pub dramq_most : p.dramq ≤ 64
+  pub limit_least : 1 ≤ p.limit
+  pub limit_most : p.limit ≤ 10 ^ 12
+
+-- a configuration without its lists
+abbrev pub parameters_of : Config → Parameters
+parameters_of c = record { base = c.base; pages = c.pages; console = c.console; epoch = c.epoch; btt = c.btt; ptt = c.ptt; sets = c.sets; ways = c.ways; nvmq = c.nvmq; dramq = c.dramq; high = c.high; low = c.low; mix = c.mix; limit = c.limit }
+
+-- the numbers, or the fault
+abbrev pub geometry_or : Option ConfigError → Parameters → Result Parameters ConfigError
+geometry_or None p = Ok p
+geometry_or (Some fault) p = Err fault
+
+-- the geometry of a configuration, or the first field out of its range
+abbrev pub geometry_of : Config → Result Parameters ConfigError
+geometry_of c = geometry_or (fault_of c) (parameters_of c)
+
+-- how many blocks memory has
+abbrev pub memory_blocks : Parameters → ℕ
+memory_blocks p = 64 * p.pages
+
+-- how many blocks a slot has: the processor's record of 5, then all of memory
+abbrev pub slot_blocks : Parameters → ℕ
+slot_blocks p = 5 + 64 * p.pages
+
+-- the first block of a slot, behind the header (block 0) and the commit block (block 1)
+abbrev pub slot_of : Parameters → ℕ → ℕ
+slot_of p s = 2 + s * slot_blocks p
+
+-- how many blocks the NVM has
+abbrev pub blocks_of : Parameters → ℕ
+blocks_of p = 2 + 2 * slot_blocks p
+
+-- how many bytes the program can address
+abbrev pub program_size : Parameters → ℕ
+program_size p = 4096 * (p.pages - p.console)
+
+-- how many bytes the console holds
+abbrev pub console_room : Parameters → ℕ
+console_room p = 4096 * p.console
+
+-- the stack pointer at the start
+abbrev pub stack_top : Parameters → ℕ
+stack_top p = p.base + program_size p - 256

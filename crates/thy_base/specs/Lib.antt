@@ -1,0 +1,5 @@
+pub mod Bytes
+pub mod Config
+pub mod Geometry
+pub mod Lcg
+pub mod Mix

@@ -1,0 +1,117 @@
+//! Bytes that contracts see as a list.
+ghost use Rattle.std.specs.Prelude.{◌≡◌, ◌==◌, ◌+◌, ◌-◌, ◌<◌, ◌≤◌, ◌++◌, [], length, take, drop, slice_index, slice_set, IfOk, OnOk, OnErr};
+ghost use Rattle.thy_base.specs.Bytes.{bytes_of, room_of, written};
+
+use std::alloc::{AllocError, Global};
+
+/// A list of bytes in memory. `bytes_of` is the list, and `room_of` how many bytes it can hold
+/// before it has to take memory.
+#[derive(Debug, Drop)]
+pub struct Bytes {
+    items: Vec<u8>,
+}
+
+impl Bytes {
+    /// No bytes. Takes no memory.
+    pub fn new(alloc: Global) -> Bytes
+        ensures { bytes_of result ≡ [] }
+    {
+        Bytes {
+            items: Vec::new(alloc),
+        }
+    }
+
+    /// No bytes, with room for `room` of them.
+    pub fn with_room(alloc: Global, room: usize) -> Result<Bytes, AllocError>
+        ensures empty { IfOk result (λ b. bytes_of b ≡ []) }
+        ensures room { IfOk result (λ b. room_of b ≡ room) }
+    {
+        let items = Vec::with_capacity(alloc, room)?;
+        Ok(Bytes { items })
+    }
+
+    /// The bytes of a vector. Takes no memory.
+    pub fn from_vec(items: Vec<u8>) -> Bytes
+        ensures bytes { bytes_of result ≡ items.items }
+    {
+        Bytes { items }
+    }
+
+    /// The vector of these bytes. Takes no memory.
+    pub fn into_vec(self) -> Vec<u8>
+        ensures { result.items ≡ bytes_of self }
+    {
+        self.items
+    }
+
+    /// The bytes.
+    pub fn as_slice(&self) -> &[u8]
+        ensures { result.now ≡ bytes_of self.now }
+    {
+        self.items.as_slice()
+    }
+
+    /// How many bytes there are.
+    pub fn len(&self) -> usize
+        ensures { result ≡ length (bytes_of self.now) }
+    {
+        self.items.len()
+    }
+
+    /// Whether there is none.
+    pub fn is_empty(&self) -> bool
+        ensures { result ≡ (length (bytes_of self.now) == 0) }
+    {
+        self.items.is_empty()
+    }
+
+    /// Byte `at`.
+    pub fn get(&self, at: usize) -> u8
+        requires { at < length (bytes_of self.now) }
+        ensures { result ≡ slice_index (bytes_of self.now) at }
+    {
+        self.items[at]
+    }
+
+    /// Writes a byte at `at`.
+    pub fn set(&mut self, at: usize, byte: u8)
+        requires { at < length (bytes_of self.old) }
+        ensures bytes { bytes_of self.new ≡ slice_set (bytes_of self.old) at byte }
+        ensures room { room_of self.new ≡ room_of self.old }
+    {
+        self.items[at] = byte;
+    }
+
+    /// Writes a piece over the bytes from `at` on.
+    pub fn put(&mut self, at: usize, piece: &[u8])
+        requires { at + length piece.now ≤ length (bytes_of self.old) }
+        ensures bytes { bytes_of self.new ≡ written (bytes_of self.old) at piece.now }
+        ensures room { room_of self.new ≡ room_of self.old }
+    {
+        put_in(&mut self.items, at, piece);
+    }
+
+    /// Adds a piece at the end. Takes memory only where the room does not suffice.
+    pub fn extend(&mut self, piece: &[u8]) -> Result<(), AllocError>
+        ensures ok { OnOk result (bytes_of self.new ≡ bytes_of self.old ++ piece.now) }
+        ensures err { OnErr result (bytes_of self.new ≡ bytes_of self.old) }
+        ensures full { OnErr result (room_of self.old < length (bytes_of self.old) + length piece.now) }
+    {
+        self.items.extend_from_slice(piece)
+    }
+
+    /// A copy.
+    pub fn duplicate(&self, alloc: Global) -> Result<Bytes, AllocError>
+        ensures { IfOk result (λ b. bytes_of b ≡ bytes_of self.now) }
+    {
+        let items = Vec::from_slice(alloc, self.items.as_slice())?;
+        Ok(Bytes { items })
+    }
+}
+
+fn put_in(items: &mut [u8], at: usize, piece: &[u8])
+    requires { at + length piece.now ≤ length items.old }
+    ensures { items.new ≡ written items.old at piece.now }
+{
+    items[at..at + piece.len()].copy_from_slice(piece);
+}

@@ -1,0 +1,90 @@
+//! The configuration of a run, as its options give it.
+
+use crate::Numbers;
+
+/// Every number that an option sets. `Geometry::new` tests the ranges.
+#[derive(Debug, Drop)]
+pub struct Config {
+    /// The first address of program memory, in bytes: a multiple of 4096 below `2^62`.
+    pub base: u64,
+    /// Memory in pages of 4096 bytes: 8 to 4096.
+    pub pages: u64,
+    /// The pages at the end of memory that hold the console's bytes: 1 to 16, below `pages`.
+    pub console: u64,
+    /// The instructions of an epoch: 1 to 1,000,000.
+    pub epoch: u64,
+    /// Entries of the block translation table: 8 to 4096, a multiple of 8.
+    pub btt: u64,
+    /// Entries of the page translation table: 8 to 512, a multiple of 8.
+    pub ptt: u64,
+    /// Sets of the cache: a power of two, 1 to 64.
+    pub sets: u64,
+    /// Ways of each set: 1 to 8.
+    pub ways: u64,
+    /// Writes that the NVM's queue holds: 1 to 64.
+    pub nvmq: u64,
+    /// Writes that the DRAM's queue holds: 1 to 64.
+    pub dramq: u64,
+    /// The store count above which a page is promoted: at most 63.
+    pub high: u64,
+    /// The store count below which a page leaves: at most `high`.
+    pub low: u64,
+    /// The seed of the schedule. 0 gives the four actors in turn.
+    pub mix: u64,
+    /// The cycles after which power is cut: at most 64, rising, the first above 0, and
+    /// `pages * (cuts + 1)` at most 65536.
+    pub cuts: Numbers,
+    /// The picks of the cuts in order, and then of a save: at most one more than `cuts`.
+    pub tears: Numbers,
+    /// The cycles (or, for the flat machine, instructions) after which the run stops: 1 to `10^12`.
+    pub limit: u64,
+}
+
+/// A field of the configuration, or the number of a made program.
+#[derive(Clone, Copy, Debug, PartialEq, Eq)]
+pub enum Field {
+    Base,
+    Pages,
+    Console,
+    Epoch,
+    Btt,
+    Ptt,
+    Sets,
+    Ways,
+    Nvmq,
+    Dramq,
+    High,
+    Low,
+    Mix,
+    Cuts,
+    Tears,
+    Limit,
+    N,
+}
+
+/// A value out of its range.
+#[derive(Clone, Copy, Debug, PartialEq, Eq)]
+pub struct ConfigError {
+    pub field: Field,
+    pub value: u64,
+}
+
+/// The numbers of a configuration, without the lists of cuts and tears. Units and ranges are those
+/// of `Config`.
+#[derive(Clone, Copy, Debug, PartialEq, Eq)]
+pub struct Parameters {
+    pub base: u64,
+    pub pages: u64,
+    pub console: u64,
+    pub epoch: u64,
+    pub btt: u64,
+    pub ptt: u64,
+    pub sets: u64,
+    pub ways: u64,
+    pub nvmq: u64,
+    pub dramq: u64,
+    pub high: u64,
+    pub low: u64,
+    pub mix: u64,
+    pub limit: u64,
+}

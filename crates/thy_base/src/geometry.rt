@@ -1,0 +1,88 @@
+//! A configuration in range, and the places that follow from it.
+ghost use Rattle.std.specs.Prelude.{◌≡◌, ◌+◌, ◌*◌, ◌-◌, ◌<◌, ◌≤◌};
+ghost use Rattle.thy_base.specs.Geometry.{IsInRange, geometry_of, blocks_of, slot_of, memory_blocks, program_size, console_room, stack_top};
+
+use crate::Parameters;
+use std::marker::Model;
+
+/// The numbers of a configuration whose every field is in range, and the places of the NVM that
+/// follow from them. Places count blocks of 64 bytes.
+#[derive(Clone, Copy, Debug)]
+pub struct Geometry {
+    numbers: Parameters,
+}
+
+impl Model for Geometry {
+    ghost use Rattle.thy_base.specs.declared.config.Parameters.{Parameters as Numbers};
+
+    ghost Value = { Numbers };
+
+    ghost use Rattle.thy_base.specs.Geometry.{IsInRange};
+
+    ghost view = { λ g. g.numbers };
+
+    ghost invariant = { λ g. IsInRange g.numbers };
+
+    ghost inverse = { λ p. record { numbers = p } };
+}
+
+impl Geometry {
+    /// The geometry of numbers that are all in range.
+    pub fn of(numbers: Parameters) -> Geometry
+        requires { IsInRange numbers }
+        ensures { result ≡ numbers }
+    {
+        Geometry { numbers }
+    }
+
+    /// The numbers, each in its range.
+    pub fn numbers(&self) -> Parameters
+        ensures same { result ≡ self.now }
+        ensures in_range { IsInRange self.now }
+    {
+        self.numbers
+    }
+
+    /// How many blocks the NVM has.
+    pub fn blocks(&self) -> u64
+        ensures { result ≡ blocks_of self.now }
+    {
+        2 + 2 * (5 + 64 * self.numbers.pages)
+    }
+
+    /// The first block of slot `s`, 0 or 1.
+    pub fn slot(&self, s: u64) -> u64
+        requires { s < 2 }
+        ensures { result ≡ slot_of self.now s }
+    {
+        2 + s * (5 + 64 * self.numbers.pages)
+    }
+
+    /// How many blocks memory has, the console's included.
+    pub fn memory_blocks(&self) -> u64
+        ensures { result ≡ memory_blocks self.now }
+    {
+        64 * self.numbers.pages
+    }
+
+    /// How many bytes of memory the program can address, from `base` on.
+    pub fn program_size(&self) -> u64
+        ensures { result ≡ program_size self.now }
+    {
+        4096 * (self.numbers.pages - self.numbers.console)
+    }
+
+    /// How many bytes the console holds.
+    pub fn console_room(&self) -> u64
+        ensures { result ≡ console_room self.now }
+    {
+        4096 * self.numbers.console
+    }
+
+    /// The stack pointer at the start: 256 bytes below the end of program memory.
+    pub fn stack_top(&self) -> u64
+        ensures { result ≡ stack_top self.now }
+    {
+        self.numbers.base + 4096 * (self.numbers.pages - self.numbers.console) - 256
+    }
+}

@@ -1,0 +1,22 @@
+//! What every other crate stands on: blocks, bytes, the configuration and its places, the numbers
+//! drawn for schedules, and the traits of the outside world.
+#![tactic(auto)]
+
+mod block;
+mod bytes;
+mod cause;
+mod config;
+mod geometry;
+mod lcg;
+mod mix;
+mod numbers;
+mod ranges;
+
+pub use block::{BLOCK_SIZE, Block};
+pub use bytes::Bytes;
+pub use cause::EndCause;
+pub use config::{Config, ConfigError, Field, Parameters};
+pub use geometry::Geometry;
+pub use lcg::Lcg;
+pub use mix::{Mix, Pick};
+pub use numbers::Numbers;
