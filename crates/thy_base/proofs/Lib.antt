@@ -1,1 +1,3 @@
+pub mod CrashLemmas
+pub mod DeviceLemmas
 pub mod RangeLemmas

@@ -1,5 +1,6 @@
 pub mod Bytes
 pub mod Config
+pub mod Device
 pub mod Geometry
 pub mod Lcg
 pub mod Mix

@@ -1,0 +1,194 @@
+-- What follows from the definitions of a device: reads, possible contents and crashes after each call.
+use Rattle.std.proofs.Common.{◌≡◌, ◌≢◌, ◌⊎◌, ℕ, ◌<◌, ◌≤◌, ◌==◌, true, false, List, [], ◌∷◌, ◌++◌, length, take, drop, slice_set, Contains, refl, sym, ◌∙◌, ap, subst, inl, inr, arith, if◌then◌else◌}
+use Rattle.std.proofs.lemmas.Bool.{cases_eq, cases_lt, eq-eqb, ne_eqb}
+use Rattle.std.proofs.lemmas.List.{append-nil, take-append-drop, length-append, nil_from_length, length-set, get_or_past}
+use Rattle.std.proofs.lemmas.List.Elements.{Contains-push, Contains-push_cases, Contains-append_left, Contains-append_right, Contains-append_cases}
+use Rattle.std.proofs.lemmas.Grind.{common_steps}
+use Rattle.thy_base.specs.declared.block.Block.{Block}
+use Rattle.thy_base.specs.declared.nvm.Write.{Write}
+use Rattle.thy_base.specs.Device.{Device, HoldsNoMore, HoldsNoMoreBut, IsSettled, zero_block, write_of, block_at, queued_for, newest_over, applied, possible, newest, landed, drained, settled, surplus, written_to}
+
+-- the blocks queued by one list of writes and then by another
+pub queued_for-append : (ws vs : List Write) (x : ℕ) → queued_for (ws ++ vs) x ≡ queued_for ws x ++ queued_for vs x
+queued_for-append [] vs x = refl
+queued_for-append (w ∷ ws) vs x = grind (arith, queued_for-append ws vs x)
+
+-- the newest of one list of writes and then of another
+pub newest_over-append : (block : Block) (ws vs : List Write) (x : ℕ)
+    → newest_over block (ws ++ vs) x ≡ newest_over (newest_over block ws x) vs x
+newest_over-append block [] vs x = refl
+newest_over-append block (w ∷ ws) vs x = newest_over-append (if w.at == x then w.block else block) ws vs x
+
+-- writes keep an image's length
+pub length-applied : (image : List Block) (ws : List Write) → length (applied image ws) ≡ length image
+length-applied image [] = refl
+length-applied image (w ∷ ws) = length-applied (slice_set image w.at w.block) ws ∙ length-set image w.at w.block
+
+-- one write applied, read at any place of the image
+pub block_at-set : (image : List Block) (at : ℕ) (block : Block) (x : ℕ) → x < length image
+    → block_at (slice_set image at block) x ≡ (if at == x then block else block_at image x)
+block_at-set image at block x l = grind (arith, common_steps)
+
+-- writes applied in order leave the newest at each place
+pub block_at-applied : (image : List Block) (ws : List Write) (x : ℕ) → x < length image
+    → block_at (applied image ws) x ≡ newest_over (block_at image x) ws x
+block_at-applied image [] x l = refl
+block_at-applied image (w ∷ ws) x l =
+    let inside : x < length (slice_set image w.at w.block) = omega (arith, length-set image w.at w.block) in
+    block_at-applied (slice_set image w.at w.block) ws x inside ∙ ap (λ b. newest_over b ws x) (block_at-set image w.at w.block x l)
+
+-- a place past the end of an image stays there
+pub block_at-past : (image : List Block) (x : ℕ) → length image ≤ x → block_at image x ≡ zero_block
+block_at-past image x l = get_or_past image x zero_block l
+
+-- what a list of one block holds
+pub same_as_only : (only b : Block) → Contains (only ∷ []) b → only ≡ b
+same_as_only only b h = elim (Contains-push_cases [] only b h) as (λ _. only ≡ b) [ inl none ↦ absurd (omega (arith, none.1)) | inr e ↦ e ]
+
+-- the newest is the block that stands, or one of those queued
+pub Contains-newest_over : (block : Block) (ws : List Write) (x : ℕ) → Contains (block ∷ queued_for ws x) (newest_over block ws x)
+Contains-newest_over block [] x = Contains-push [] block
+Contains-newest_over block (w ∷ ws) x =
+    elim (w.at == x) as (λ t. Contains (block ∷ (if t then w.block ∷ queued_for ws x else queued_for ws x)) (newest_over (if t then w.block else block) ws x)) [
+      | true ↦ Contains-append_right (block ∷ []) (w.block ∷ queued_for ws x) _ (Contains-newest_over w.block ws x)
+      | false ↦ Contains-newest_over block ws x
+    ]
+
+-- writes applied in order leave at each place, past the end too, a block that was possible there
+pub Contains-applied : (image : List Block) (ws : List Write) (x : ℕ) → Contains (block_at image x ∷ queued_for ws x) (block_at (applied image ws) x)
+Contains-applied image ws x = elim (cases_lt x (length image)) as (λ _. Contains (block_at image x ∷ queued_for ws x) (block_at (applied image ws) x)) [
+  | inl l ↦ rw (block_at-applied image ws x l) (Contains-newest_over (block_at image x) ws x)
+  | inr l ↦
+      let past : length (applied image ws) ≤ x = omega (arith, length-applied image ws) in
+      let e : block_at (applied image ws) x ≡ block_at image x = get_or_past (applied image ws) x zero_block past ∙ sym (get_or_past image x zero_block l) in
+      rw e (Contains-append_left (block_at image x ∷ []) (queued_for ws x) _ (Contains-push [] (block_at image x)))
+]
+
+-- where the first of two lists of writes has landed, nothing more is possible
+pub Contains-landed : (image : List Block) (ws vs : List Write) (x : ℕ) (b : Block)
+    → Contains (block_at (applied image ws) x ∷ queued_for vs x) b → Contains (block_at image x ∷ queued_for (ws ++ vs) x) b
+Contains-landed image ws vs x b h =
+    rw (queued_for-append ws vs x)
+    (elim (Contains-append_cases (block_at (applied image ws) x ∷ []) (queued_for vs x) b h) as (λ _. Contains (block_at image x ∷ (queued_for ws x ++ queued_for vs x)) b) [
+      | inl here ↦ Contains-append_left (block_at image x ∷ queued_for ws x) (queued_for vs x) b
+          (subst (Contains (block_at image x ∷ queued_for ws x)) (same_as_only _ b here) (Contains-applied image ws x))
+      | inr later ↦ Contains-append_right (block_at image x ∷ queued_for ws x) (queued_for vs x) b later
+    ])
+
+-- where the oldest k writes have landed, nothing more is possible
+pub no_more-landed : (k : ℕ) (n : Device) → HoldsNoMore n (landed k n)
+no_more-landed k n x b h =
+    subst (λ (q : List Write). Contains (block_at n.image x ∷ queued_for q x) b) (take-append-drop k n.queue)
+    (Contains-landed n.image (take k n.queue) (drop k n.queue) x b h)
+
+-- a drain makes nothing more possible
+pub no_more-drained : (n : Device) → HoldsNoMore n (drained n)
+no_more-drained n = no_more-landed 1 n
+
+-- a barrier makes nothing more possible
+pub no_more-settled : (n : Device) → HoldsNoMore n (settled n)
+no_more-settled n x b h =
+    subst (λ (q : List Write). Contains (block_at n.image x ∷ queued_for q x) b) (append-nil n.queue) (Contains-landed n.image n.queue [] x b h)
+
+-- one write is queued for its own place alone
+pub queued_for-one : (at : ℕ) (block : Block) (x : ℕ) → x ≢ at → queued_for (write_of at block ∷ []) x ≡ []
+queued_for-one at block x other = ap (λ t. if t then block ∷ [] else []) (ne_eqb at x (λ e. other (sym e)))
+
+-- what one queued write makes possible: its block at its place
+pub Contains-queued_for_one : (at : ℕ) (block : Block) (x : ℕ) (b : Block)
+    → Contains (queued_for (write_of at block ∷ []) x) b → (x ≡ at) × (b ≡ block)
+Contains-queued_for_one at block x b h = elim (cases_eq at x) as (λ _. (x ≡ at) × (b ≡ block)) [
+  | inl e ↦ (sym e, sym (same_as_only block b (subst (λ (q : List Block). Contains q b) (ap (λ t. if t then block ∷ [] else []) (eq-eqb at x e)) h)))
+  | inr ne ↦
+      let none : Contains [] b = subst (λ (q : List Block). Contains q b) (queued_for-one at block x (λ e. ne (sym e))) h in
+      absurd (omega (arith, none.1))
+]
+
+-- a write makes its block possible at its place, and nothing else
+pub no_more_but-written_to : (n : Device) (at : ℕ) (block : Block) → HoldsNoMoreBut at block n (written_to n at block)
+no_more_but-written_to n at block x b h =
+    let kept : List Write = drop (surplus n) n.queue in
+    let first : Block = block_at (applied n.image (take (surplus n) n.queue)) x in
+    let split : Contains ((first ∷ queued_for kept x) ++ queued_for (write_of at block ∷ []) x) b
+    = subst (λ (q : List Block). Contains (first ∷ q) b) (queued_for-append kept (write_of at block ∷ []) x) h in
+    elim (Contains-append_cases (first ∷ queued_for kept x) (queued_for (write_of at block ∷ []) x) b split)
+    as (λ _. Contains (possible n x) b ⊎ ((x ≡ at) × (b ≡ block))) [
+      | inl before ↦ inl (no_more-landed (surplus n) n x b before)
+      | inr this ↦ inr (Contains-queued_for_one at block x b this)
+    ]
+
+-- at every other place a write makes nothing more possible
+pub no_more-written_to_other : (n : Device) (at : ℕ) (block : Block) (x : ℕ) (b : Block) → x ≢ at
+    → Contains (possible (written_to n at block) x) b → Contains (possible n x) b
+no_more-written_to_other n at block x b other h = elim (no_more_but-written_to n at block x b h) as (λ _. Contains (possible n x) b) [
+  | inl before ↦ before
+  | inr this ↦ absurd (other this.0)
+]
+
+-- reads are as before where writes have landed
+pub newest-landed : (k : ℕ) (n : Device) (x : ℕ) → x < length n.image → newest (landed k n) x ≡ newest n x
+newest-landed k n x l =
+    ap (λ b. newest_over b (drop k n.queue) x) (block_at-applied n.image (take k n.queue) x l)
+    ∙ sym (newest_over-append (block_at n.image x) (take k n.queue) (drop k n.queue) x)
+    ∙ ap (λ q. newest_over (block_at n.image x) q x) (take-append-drop k n.queue)
+
+-- a drain keeps every read
+pub newest-drained : (n : Device) (x : ℕ) → x < length n.image → newest (drained n) x ≡ newest n x
+newest-drained n x l = newest-landed 1 n x l
+
+-- a barrier keeps every read
+pub newest-settled : (n : Device) (x : ℕ) → x < length n.image → newest (settled n) x ≡ newest n x
+newest-settled n x l = block_at-applied n.image n.queue x l
+
+-- a read after a write, at its place
+pub newest-written_to : (n : Device) (at : ℕ) (block : Block) → newest (written_to n at block) at ≡ block
+newest-written_to n at block =
+    newest_over-append (block_at (applied n.image (take (surplus n) n.queue)) at) (drop (surplus n) n.queue) (write_of at block ∷ []) at
+    ∙ ap (λ t. if t then block else newest (landed (surplus n) n) at) (eq-eqb at at refl)
+
+-- and at every other place
+pub newest-written_to_other : (n : Device) (at : ℕ) (block : Block) (x : ℕ) → x ≢ at → x < length n.image
+    → newest (written_to n at block) x ≡ newest n x
+newest-written_to_other n at block x other l =
+    newest_over-append (block_at (applied n.image (take (surplus n) n.queue)) x) (drop (surplus n) n.queue) (write_of at block ∷ []) x
+    ∙ ap (λ t. if t then block else newest (landed (surplus n) n) x) (ne_eqb at x (λ e. other (sym e)))
+    ∙ newest-landed (surplus n) n x l
+
+-- calls keep the number of blocks
+pub length-landed : (k : ℕ) (n : Device) → length (landed k n).image ≡ length n.image
+length-landed k n = length-applied n.image (take k n.queue)
+
+pub length-drained : (n : Device) → length (drained n).image ≡ length n.image
+length-drained n = length-landed 1 n
+
+pub length-settled : (n : Device) → length (settled n).image ≡ length n.image
+length-settled n = length-applied n.image n.queue
+
+pub length-written_to : (n : Device) (at : ℕ) (block : Block) → length (written_to n at block).image ≡ length n.image
+length-written_to n at block = length-landed (surplus n) n
+
+-- the end of a list without blocks has none
+pub nothing_after : (xs ys : List Block) → xs ++ ys ≡ [] → ys ≡ []
+nothing_after xs ys e = nil_from_length ys (omega (arith, length-append xs ys, ap length e))
+
+-- a settled place stays settled where writes land
+pub IsSettled-landed : (k : ℕ) (n : Device) (x : ℕ) → IsSettled n x → IsSettled (landed k n) x
+IsSettled-landed k n x s = record {
+  nothing_queued = nothing_after (queued_for (take k n.queue) x) (queued_for (drop k n.queue) x)
+      (sym (queued_for-append (take k n.queue) (drop k n.queue) x) ∙ ap (λ q. queued_for q x) (take-append-drop k n.queue) ∙ s.nothing_queued);
+}
+
+pub IsSettled-drained : (n : Device) (x : ℕ) → IsSettled n x → IsSettled (drained n) x
+IsSettled-drained n x s = IsSettled-landed 1 n x s
+
+-- after a barrier every place is settled
+pub IsSettled-settled : (n : Device) (x : ℕ) → IsSettled (settled n) x
+IsSettled-settled n x = record { nothing_queued = refl }
+
+-- a settled place stays settled where another is written
+pub IsSettled-written_to : (n : Device) (at : ℕ) (block : Block) (x : ℕ) → x ≢ at → IsSettled n x → IsSettled (written_to n at block) x
+IsSettled-written_to n at block x other s = record {
+  nothing_queued = queued_for-append (drop (surplus n) n.queue) (write_of at block ∷ []) x
+      ∙ ap (λ q. q ++ queued_for (write_of at block ∷ []) x) (IsSettled-landed (surplus n) n x s).nothing_queued
+      ∙ queued_for-one at block x other;
+}

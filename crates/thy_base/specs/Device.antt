@@ -1,0 +1,151 @@
+-- What a block device holds, what each call makes of it, and what a power cut may leave.
+use Rattle.std.specs.Prelude.{◌≡◌, ◌⊎◌, ℕ, ◌+◌, ◌-◌, ◌^◌, ◌≤◌, ◌==◌, min, nat_lt, if◌then◌else◌, Bool, true, false, List, [], ◌∷◌, ◌++◌, length, take, drop, replicate, slice_index_or, slice_set, Contains, Result, MatchResult}
+use Rattle.thy_base.specs.declared.block.Block.{Block}
+use Rattle.thy_base.specs.declared.nvm.Shape.{Shape}
+use Rattle.thy_base.specs.declared.nvm.Write.{Write}
+use Rattle.thy_base.specs.declared.nvm.FitError.{FitError}
+use Rattle.thy_base.specs.declared.nvm.FitError.TheVariants.{Failed, Memory}
+
+-- a block of zeros
+unfoldable pub zero_block : Block
+zero_block = record { 0 = replicate 64 0 }
+
+-- what a device holds
+pub record Device : Type 0 where
+  -- the blocks that stand
+  pub image : List Block
+  -- the writes that have not landed yet, oldest first
+  pub queue : List Write
+  -- the images that the cuts since the last fit left, in order
+  pub left : List (List Block)
+  -- how many writes the queue holds
+  pub queue_room : ℕ
+  -- how many images can be kept
+  pub left_room : ℕ
+  -- a call has failed since the last fit or cut
+  pub down : Bool
+  -- how many calls have failed
+  pub faults : ℕ
+
+-- a queued write
+abbrev pub write_of : ℕ → Block → Write
+write_of at block = record { at = at; block = block }
+
+-- the block at a place of an image, which holds zeros past its end
+abbrev pub block_at : List Block → ℕ → Block
+block_at image x = slice_index_or image x zero_block
+
+-- the blocks queued for a place, oldest first
+abbrev pub queued_for : List Write → ℕ → List Block
+queued_for [] x = []
+queued_for (w ∷ ws) x = if w.at == x then w.block ∷ queued_for ws x else queued_for ws x
+
+-- the newest block queued for a place, or this one where there is none
+abbrev pub newest_over : Block → List Write → ℕ → Block
+newest_over block [] x = block
+newest_over block (w ∷ ws) x = newest_over (if w.at == x then w.block else block) ws x
+
+-- an image to which writes were applied in order
+abbrev pub applied : List Block → List Write → List Block
+applied image [] = image
+applied image (w ∷ ws) = applied (slice_set image w.at w.block) ws
+
+-- what a cut may leave at a place: the image's block, or any block queued for it
+abbrev pub possible : Device → ℕ → List Block
+possible n x = block_at n.image x ∷ queued_for n.queue x
+
+-- what a read of a place gives
+abbrev pub newest : Device → ℕ → Block
+newest n x = newest_over (block_at n.image x) n.queue x
+
+-- an image that a cut may leave: at each place its own choice
+pub record Crash (n : Device) (g : List Block) : Type 0 where
+  pub same_length : length g ≡ length n.image
+  pub each : (x : ℕ) → Contains (possible n x) (block_at g x)
+
+-- the oldest k writes have landed
+abbrev pub landed : ℕ → Device → Device
+landed k n = record n { image = applied n.image (take k n.queue); queue = drop k n.queue }
+
+-- after a drain: the oldest write has landed
+abbrev pub drained : Device → Device
+drained n = landed 1 n
+
+-- after a barrier: every write has landed
+abbrev pub settled : Device → Device
+settled n = record n { image = applied n.image n.queue; queue = [] }
+
+-- how many writes have to land before one more is queued
+abbrev pub surplus : Device → ℕ
+surplus n = if nat_lt (length n.queue) n.queue_room then 0 else 1
+
+-- after a write: of a full queue the oldest has landed, and this one is queued
+abbrev pub written_to : Device → ℕ → Block → Device
+written_to n at block = record n {
+  image = applied n.image (take (surplus n) n.queue);
+  queue = drop (surplus n) n.queue ++ write_of at block ∷ [];
+}
+
+-- after a cut that left this image
+abbrev pub cut_to : Device → List Block → Device
+cut_to n g = record n { image = g; queue = []; left = n.left ++ g ∷ []; down = false }
+
+-- after a fit: the start and then zeros
+abbrev pub fitted : Shape → List Block → Device → Device
+fitted shape start n = record {
+  image = start ++ replicate (shape.blocks - length start) zero_block;
+  queue = [];
+  left = [];
+  queue_room = shape.queue;
+  left_room = shape.cuts + 1;
+  down = false;
+  faults = n.faults;
+}
+
+-- a cut leaves an image that it may leave, and keeps it
+pub record IsCut (old new : Device) : Type 0 where
+  pub crash : Crash old new.image
+  pub device : new ≡ cut_to old new.image
+
+-- what only a fit and a cut change
+pub record IsFramed (old new : Device) : Type 0 where
+  pub blocks : length new.image ≡ length old.image
+  pub left : new.left ≡ old.left
+  pub queue_room : new.queue_room ≡ old.queue_room
+  pub left_room : new.left_room ≡ old.left_room
+
+-- nothing is queued for a place
+pub record IsSettled (n : Device) (x : ℕ) : Type 0 where
+  pub nothing_queued : queued_for n.queue x ≡ []
+
+-- no place may hold after a cut what it could not hold before
+abbrev pub HoldsNoMore : Device → Device → Type 0
+HoldsNoMore old new = (x : ℕ) (b : Block) → Contains (possible new x) b → Contains (possible old x) b
+
+-- the same, but that one place may hold this block
+abbrev pub HoldsNoMoreBut : ℕ → Block → Device → Device → Type 0
+HoldsNoMoreBut at block old new =
+    (x : ℕ) (b : Block) → Contains (possible new x) b → Contains (possible old x) b ⊎ ((x ≡ at) × (b ≡ block))
+
+-- after a call that failed
+pub record HasFailed (old new : Device) : Type 0 where
+  pub down : new.down ≡ true
+  pub no_more : HoldsNoMore old new
+
+-- after a write that failed
+pub record HasFailedToWrite (at : ℕ) (block : Block) (old new : Device) : Type 0 where
+  pub down : new.down ≡ true
+  pub no_more : HoldsNoMoreBut at block old new
+
+-- the count of failed calls rose, or stands at the last value that 64 bits hold
+abbrev pub RoseFaults : ℕ → ℕ → Type 0
+RoseFaults old new = (old ≤ new) × (min (old + 1) (2 ^ 64 - 1) ≤ new)
+
+-- the count stays where a call succeeds, and rose where it fails
+abbrev pub CountsFault : {T E : Type 0} → Result T E → ℕ → ℕ → Type 0
+CountsFault result old new = MatchResult result (λ _. new ≡ old) (λ _. RoseFaults old new)
+
+-- after a fit that failed: for want of memory nothing has changed
+abbrev pub HasFailedToFit : FitError → Device → Device → Type 0
+HasFailedToFit Failed old new = HasFailed old new × IsFramed old new × RoseFaults old.faults new.faults
+HasFailedToFit (Memory e) old new = new ≡ old

@@ -1,0 +1,109 @@
+//! The non-volatile memory: a block device with a queue of writes, whose power can be cut.
+ghost use Rattle.std.specs.Prelude.{◌≡◌, ◌<◌, ◌≤◌, false, length, IfOk, OnOk, OnErr, IfErr, slice_index_or, []};
+ghost use Rattle.thy_base.specs.Device.{Device, newest, block_at, written_to, drained, settled, fitted, IsCut, IsFramed, HasFailed, HasFailedToWrite, HasFailedToFit, CountsFault};
+
+use crate::Block;
+use std::alloc::{AllocError, Global};
+
+/// A block on its way to a place of a device.
+#[derive(Clone, Copy, Debug, PartialEq, Eq)]
+pub struct Write {
+    /// The place, in blocks.
+    pub at: u64,
+    /// What it is to hold.
+    pub block: Block,
+}
+
+/// The size of a device.
+#[derive(Clone, Copy, Debug, PartialEq, Eq)]
+pub struct Shape {
+    /// How many blocks it has.
+    pub blocks: u64,
+    /// How many writes its queue holds.
+    pub queue: u64,
+    /// How many cuts are to come. One image more than these can be kept.
+    pub cuts: u64,
+}
+
+/// A call of a device failed.
+#[derive(Clone, Copy, Debug, PartialEq, Eq)]
+pub enum NvmError {
+    Failed,
+}
+
+/// A device could not be fitted.
+#[derive(Clone, Copy, Debug, PartialEq, Eq)]
+pub enum FitError {
+    /// The device failed.
+    Failed,
+    /// There was not enough memory, and the device is as it was.
+    Memory(AllocError),
+}
+
+/// A block device. A write is queued first, and lands later: by `drain`, by `barrier`, or because
+/// the queue was full. A cut of power leaves at each place the block that stood there or any one
+/// that was queued for it, each place by itself.
+///
+/// Only `fit` takes memory. A call that fails counts a fault and leaves the device down until it is
+/// fitted again or its power is cut.
+pub trait Nvm {
+    /// What the device holds.
+    ghost device: { Self → Device };
+
+    /// Makes the device anew: the blocks of `start` and then zeros, an empty queue, no kept images.
+    fn fit(&mut self, alloc: Global, shape: &Shape, start: &[Block]) -> Result<(), FitError>
+        requires queue { 0 < shape.now.queue }
+        requires start { length start.now ≤ shape.now.blocks }
+        ensures ok { OnOk result (device self.new ≡ fitted shape.now start.now (device self.old)) }
+        ensures err { IfErr result (λ e. HasFailedToFit e (device self.old) (device self.new)) };
+
+    /// How many writes are queued.
+    fn queued(&self) -> u64
+        ensures { result ≡ length (device self.now).queue };
+
+    /// The newest block queued for a place, else the one that stands there.
+    fn read(&mut self, at: u64) -> Result<Block, NvmError>
+        requires { at < length (device self.old).image }
+        ensures ok { IfOk result (λ block. block ≡ newest (device self.old) at) }
+        ensures same { OnOk result (device self.new ≡ device self.old) }
+        ensures err { OnErr result (HasFailed (device self.old) (device self.new)) }
+        ensures frame { IsFramed (device self.old) (device self.new) }
+        ensures cause { CountsFault result (device self.old).faults (device self.new).faults };
+
+    /// Queues a block for a place. Where the queue is full, its oldest write lands first.
+    fn write(&mut self, at: u64, block: &Block) -> Result<(), NvmError>
+        requires place { at < length (device self.old).image }
+        requires up { (device self.old).down ≡ false }
+        ensures ok { OnOk result (device self.new ≡ written_to (device self.old) at block.now) }
+        ensures err { OnErr result (HasFailedToWrite at block.now (device self.old) (device self.new)) }
+        ensures frame { IsFramed (device self.old) (device self.new) }
+        ensures cause { CountsFault result (device self.old).faults (device self.new).faults };
+
+    /// Lets the oldest queued write land.
+    fn drain(&mut self) -> Result<(), NvmError>
+        requires queued { 0 < length (device self.old).queue }
+        requires up { (device self.old).down ≡ false }
+        ensures ok { OnOk result (device self.new ≡ drained (device self.old)) }
+        ensures err { OnErr result (HasFailed (device self.old) (device self.new)) }
+        ensures frame { IsFramed (device self.old) (device self.new) }
+        ensures cause { CountsFault result (device self.old).faults (device self.new).faults };
+
+    /// Lets every queued write land, in order.
+    fn barrier(&mut self) -> Result<(), NvmError>
+        requires { (device self.old).down ≡ false }
+        ensures ok { OnOk result (device self.new ≡ settled (device self.old)) }
+        ensures err { OnErr result (HasFailed (device self.old) (device self.new)) }
+        ensures frame { IsFramed (device self.old) (device self.new) }
+        ensures cause { CountsFault result (device self.old).faults (device self.new).faults };
+
+    /// Cuts the power. The pick chooses what is left, of which a copy is kept; the device is up again.
+    fn cut(&mut self, pick: u64)
+        requires { length (device self.old).left < (device self.old).left_room }
+        ensures { IsCut (device self.old) (device self.new) };
+
+    /// The block at a place of the kept image `i`.
+    fn kept(&self, i: u64, at: u64) -> Block
+        requires image { i < length (device self.now).left }
+        requires place { at < length (device self.now).image }
+        ensures { result ≡ block_at (slice_index_or (device self.now).left i []) at };
+}
