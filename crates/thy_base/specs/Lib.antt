@@ -3,3 +3,4 @@ pub mod Config
 pub mod Geometry
 pub mod Lcg
 pub mod Mix
+pub mod Outside

@@ -10,6 +10,7 @@ mod geometry;
 mod lcg;
 mod mix;
 mod numbers;
+mod outside;
 mod ranges;
 
 pub use block::{BLOCK_SIZE, Block};
@@ -20,3 +21,4 @@ pub use geometry::Geometry;
 pub use lcg::Lcg;
 pub use mix::{Mix, Pick};
 pub use numbers::Numbers;
+pub use outside::{FetchError, PutError, Shelf, Sink, SinkError};
