@@ -1,3 +1,4 @@
 pub mod CrashLemmas
 pub mod DeviceLemmas
 pub mod RangeLemmas
+pub mod Streams

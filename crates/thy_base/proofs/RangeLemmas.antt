@@ -1,11 +1,11 @@
 -- A configuration without a fault has each number in its range.
-use Rattle.std.proofs.Common.{◌≡◌, ℕ, ◌+◌, ◌*◌, ◌%◌, ◌^◌, ◌<◌, ◌≤◌, arith, Bool, true, false, ◌&&◌, ◌==◌, nat_lt, nat_le, Option, Some, None, refl, List, length}
+use Rattle.std.proofs.Common.{◌≡◌, ℕ, ◌%◌, ◌^◌, ◌<◌, ◌≤◌, arith, Bool, true, false, ◌&&◌, ◌==◌, nat_lt, nat_le, Option, Some, None, refl}
 use Rattle.std.proofs.lemmas.Bool.Decides.{nat_tests}
 use Rattle.std.specs.Option.{option_or}
 use Rattle.thy_base.specs.declared.config.Config.{Config}
 use Rattle.thy_base.specs.declared.config.ConfigError.{ConfigError}
 use Rattle.thy_base.specs.declared.config.Field.{Field}
-use Rattle.thy_base.specs.Config.{within, or_fault, memory_fault, table_fault, queue_fault, threshold_fault, cut_fault, end_fault, fault_of}
+use Rattle.thy_base.specs.Config.{within, or_fault, memory_fault, table_fault, queue_fault, end_fault, fault_of}
 use Rattle.thy_base.specs.Geometry.{IsInRange, parameters_of}
 
 none_of_fault : (fits : Bool) (field : Field) (value : ℕ) (rest : Option ConfigError) → or_fault fits field value rest ≡ None → (fits ≡ true) × (rest ≡ None)

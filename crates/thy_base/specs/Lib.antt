@@ -4,3 +4,4 @@ pub mod Device
 pub mod Geometry
 pub mod Lcg
 pub mod Mix
+pub mod Outside

@@ -11,6 +11,7 @@ mod lcg;
 mod mix;
 mod numbers;
 mod nvm;
+mod outside;
 mod ranges;
 
 pub use block::{BLOCK_SIZE, Block};
@@ -22,3 +23,4 @@ pub use lcg::Lcg;
 pub use mix::{Mix, Pick};
 pub use numbers::Numbers;
 pub use nvm::{FitError, Nvm, NvmError, Shape, Write};
+pub use outside::{FetchError, PutError, Shelf, Sink, SinkError};

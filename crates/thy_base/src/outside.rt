@@ -1,0 +1,72 @@
+//! The outside of the machine: shelves that files stand on, and sinks that bytes go to.
+//!
+//! Each has a count of faults, which never falls. A call that succeeds leaves it, and a call answers
+//! `Failed` only where the count rose in that call, or stands at the last value of a `u64`.
+
+use std::alloc::{AllocError, Global};
+
+/// Why a shelf gave no bytes.
+#[derive(Clone, Copy, Debug, PartialEq, Eq)]
+pub enum FetchError {
+    /// The shelf failed, and its count of faults rose.
+    Failed,
+    /// Nothing stands under the name.
+    NotThere,
+    /// More bytes stand there than were asked for.
+    TooLong,
+    /// Memory ran out.
+    Memory(AllocError),
+}
+
+/// Why a shelf did not take bytes.
+#[derive(Clone, Copy, Debug, PartialEq, Eq)]
+pub enum PutError {
+    /// The shelf failed, and its count of faults rose.
+    Failed,
+    /// Memory ran out.
+    Memory(AllocError),
+}
+
+/// Why a sink did not take a whole piece.
+#[derive(Clone, Copy, Debug, PartialEq, Eq)]
+pub enum SinkError {
+    /// The sink failed, and its count of faults rose.
+    Failed,
+}
+
+/// Named files. A shelf may tell what it holds; then its answers are tied to that.
+pub trait Shelf {
+    ghost use Rattle.std.specs.Prelude.{◌≡◌, OnOk, Some};
+    ghost use Rattle.thy_base.specs.Outside.{Stock, Files, Fetched, FetchCounts, KeepsOthers, Holds, PutCounts};
+
+    /// What the shelf holds, where it tells, and its count of faults.
+    ghost stock: { Self → Stock };
+
+    /// The bytes under `name`, if they are at most `limit`. A shelf that tells answers `NotThere`
+    /// exactly where nothing is held there and `TooLong` exactly where more than `limit` bytes are,
+    /// `Failed` and `Memory` aside. It changes nothing that is held.
+    fn fetch(&mut self, alloc: Global, name: &str, limit: u64) -> Result<Vec<u8>, FetchError>
+        ensures keeps { (stock self.new).held ≡ (stock self.old).held }
+        ensures answer { (files : Files) → (stock self.old).held ≡ Some files → Fetched files name.now limit result }
+        ensures faults { FetchCounts (stock self.old) (stock self.new) result };
+
+    /// Makes `name` hold these bytes. No other name changes, whatever the answer.
+    fn put(&mut self, alloc: Global, name: &str, bytes: &[u8]) -> Result<(), PutError>
+        ensures ok { OnOk result (Holds (stock self.new) name.now bytes.now) }
+        ensures others { KeepsOthers (stock self.old) (stock self.new) name.now }
+        ensures faults { PutCounts (stock self.old) (stock self.new) result };
+}
+
+/// Where bytes go, as to a terminal or a report. A sink may tell what it has taken.
+pub trait Sink {
+    ghost use Rattle.std.specs.Prelude.{OnOk, OnErr};
+    ghost use Rattle.thy_base.specs.Outside.{Stream, Took, TookPart};
+
+    /// What the sink has taken, where it tells, and its count of faults.
+    ghost stream: { Self → Stream };
+
+    /// Takes the whole piece, or fails and has taken only the first part of it, or none.
+    fn write(&mut self, piece: &[u8]) -> Result<(), SinkError>
+        ensures whole { OnOk result (Took (stream self.old) (stream self.new) piece.now) }
+        ensures failed { OnErr result (TookPart (stream self.old) (stream self.new) piece.now) };
+}
