@@ -45,7 +45,8 @@ impl Geometry {
 
     /// How many blocks the NVM has.
     pub fn blocks(&self) -> u64
-        ensures { result ≡ blocks_of self.now }
+        ensures blocks { result ≡ blocks_of self.now }
+        ensures in_range { IsInRange self.now }
     {
         2 + 2 * (5 + 64 * self.numbers.pages)
     }
@@ -53,21 +54,24 @@ impl Geometry {
     /// The first block of slot `s`, 0 or 1.
     pub fn slot(&self, s: u64) -> u64
         requires { s < 2 }
-        ensures { result ≡ slot_of self.now s }
+        ensures place { result ≡ slot_of self.now s }
+        ensures in_range { IsInRange self.now }
     {
         2 + s * (5 + 64 * self.numbers.pages)
     }
 
     /// How many blocks memory has, the console's included.
     pub fn memory_blocks(&self) -> u64
-        ensures { result ≡ memory_blocks self.now }
+        ensures blocks { result ≡ memory_blocks self.now }
+        ensures in_range { IsInRange self.now }
     {
         64 * self.numbers.pages
     }
 
     /// How many bytes of memory the program can address, from `base` on.
     pub fn program_size(&self) -> u64
-        ensures { result ≡ program_size self.now }
+        ensures size { result ≡ program_size self.now }
+        ensures in_range { IsInRange self.now }
     {
         4096 * (self.numbers.pages - self.numbers.console)
     }
