@@ -6,3 +6,4 @@ pub mod Effects
 pub mod Calls
 pub mod Memory
 pub mod Step
+pub mod Storable

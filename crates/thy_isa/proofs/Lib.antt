@@ -1,0 +1,4 @@
+pub mod StepLaws
+pub mod NumberBounds
+pub mod MemoryBounds
+pub mod InstrBounds
