@@ -2,3 +2,4 @@ pub mod StepLaws
 pub mod NumberBounds
 pub mod MemoryBounds
 pub mod InstrBounds
+pub mod StorableLaws
