@@ -233,7 +233,7 @@ advanced-storable g size s h =
     let e = effect_at g.base s in
     let n = read_by g.base s.memory e in
     let c : IsCpu (finished (cpu_of s) e n (call_state_of g s)) =
-        finished-keeps (cpu_of s) e n (call_state_of g s) (cpu_from_storable size s h) (effect_at-numbers g.base s h.numbers) (read_by-number g.base s.memory e h.memory) in
+    finished-keeps (cpu_of s) e n (call_state_of g s) (cpu_from_storable size s h) (effect_at-numbers g.base s h.numbers) (read_by-number g.base s.memory e h.memory) in
     record {
       pc = c.pc;
       registers = c.registers;

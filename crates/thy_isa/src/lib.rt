@@ -11,6 +11,8 @@ mod memory;
 mod perform;
 mod regs;
 mod state;
+#[cfg(test)]
+mod vectors;
 
 pub use arith::alu;
 pub use decoding::decode;

@@ -1,7 +1,7 @@
 //! What an instruction does, given the program counter and the registers.
 #![tactic(auto, unfolding(crate::specs::Effects::effect_of))]
 
-ghost use Rattle.std.specs.Prelude.{◌≡◌};
+ghost use Rattle.std.specs.Prelude.{◌≡◌, ◌≤◌};
 ghost use Rattle.thy_isa.specs.Effects.{effect_of, size_of, holds, after, linked, branched, word_effect};
 
 use crate::arith::alu;
@@ -108,7 +108,8 @@ pub fn word_effect(word: u32, pc: u64, regs: &Regs) -> Effect
 
 /// How many bytes a load or a store moves.
 pub fn bytes_in(width: Width) -> u64
-    ensures { result ≡ size_of width }
+    ensures size { result ≡ size_of width }
+    ensures range { result ≤ 8 }
 {
     match width {
         Width::Byte => 1,
