@@ -1,0 +1,5 @@
+pub mod StepLaws
+pub mod NumberBounds
+pub mod MemoryBounds
+pub mod InstrBounds
+pub mod StorableLaws

@@ -1,0 +1,67 @@
+-- Laws of steps: an ended state stays, the count grows by one at each step of a state that runs, and the console and
+-- what only the start sets stay.
+use Rattle.std.proofs.Common.{◌≡◌, ℕ, zero, suc, ◌+◌, ◌≤◌, Bool, true, false, List, refl, ap, sym, ◌∙◌, arith, add-one, add-suc, add-zero}
+use Rattle.thy_isa.specs.declared.state.Status.{Status}
+use Rattle.thy_isa.specs.declared.state.Effect.{Effect}
+use Rattle.thy_isa.specs.declared.state.Effect.TheVariants.{Next, Set, Read, Write, Environment, Trap}
+use Rattle.thy_isa.specs.declared.state.Call.{Call}
+use Rattle.thy_isa.specs.declared.state.Call.TheVariants.{Answer, Exit}
+use Rattle.thy_isa.specs.declared.state.CallState.{CallState}
+use Rattle.thy_isa.specs.declared.state.CpuState.{CpuState}
+use Rattle.thy_isa.specs.Calls.{call_of}
+use Rattle.thy_isa.specs.Step.{State, Setting, served, finished, advanced, is_running, step, steps}
+
+-- a step of an ended state changes nothing
+pub step-ended : (g : Setting) (s : State) → is_running s.status ≡ false → step g s ≡ s
+unfolding step
+step-ended g s h = rw h
+
+-- a step of a state that runs
+pub step-running : (g : Setting) (s : State) → is_running s.status ≡ true → step g s ≡ advanced g s
+unfolding step
+step-running g s h = rw h
+
+pub steps-zero : (g : Setting) (s : State) → steps g 0 s ≡ s
+unfolding steps
+steps-zero g s = refl
+
+pub steps-suc : (g : Setting) (k : ℕ) (s : State) → steps g (suc k) s ≡ step g (steps g k s)
+unfolding steps
+steps-suc g k s = refl
+
+pub steps-one_more : (g : Setting) (k : ℕ) (s : State) → steps g (k + 1) s ≡ step g (steps g k s)
+unfolding steps
+steps-one_more g k s = ap (λ n. steps g n s) (add-one k)
+
+-- any number of steps of an ended state changes nothing
+pub steps-ended : (g : Setting) (k : ℕ) (s : State) → is_running s.status ≡ false → steps g k s ≡ s
+unfolding steps
+steps-ended g zero s h = refl
+steps-ended g (suc k) s h = ap (step g) (steps-ended g k s h) ∙ step-ended g s h
+
+-- j steps and then k are j + k
+pub steps-add : (g : Setting) (j k : ℕ) (s : State) → steps g (j + k) s ≡ steps g k (steps g j s)
+unfolding steps
+steps-add g j zero s = ap (λ n. steps g n s) (add-zero j)
+steps-add g j (suc k) s = ap (λ n. steps g n s) (add-suc j k) ∙ ap (step g) (steps-add g j k s)
+
+-- ---- the count
+
+served-count : (c : CpuState) (k : Call) → (served c k).count ≡ c.count + 1
+unfolding served
+served-count c (Answer v) = refl
+served-count c (Exit v) = refl
+
+pub finished-count : (c : CpuState) (e : Effect) (n : ℕ) (k : CallState) → (finished c e n k).count ≡ c.count + 1
+unfolding finished
+finished-count c (Next pc) n k = refl
+finished-count c (Set pc rd v) n k = refl
+finished-count c (Read pc at width extend rd) n k = refl
+finished-count c (Write pc at width v) n k = refl
+finished-count c Environment n k = served-count c (call_of c.regs k)
+finished-count c (Trap cause) n k = refl
+
+-- a step of a state that runs adds one to the count
+pub step-count : (g : Setting) (s : State) → is_running s.status ≡ true → (step g s).count ≡ s.count + 1
+unfolding step advanced
+step-count g s h = rw h (finished-count _ _ _ _)

@@ -1,0 +1,193 @@
+-- One step of the plain machine, whose memory is one flat list of bytes, and k of them.
+use Rattle.std.specs.Prelude.{ℕ, zero, suc, ◌+◌, ◌-◌, ◌%◌, ◌==◌, Bool, true, false, ◌&&◌, nat_le, if◌then◌else◌, List, length, Option, Some, None}
+use Rattle.thy_base.specs.Bytes.{bytes_of, written}
+use Rattle.thy_isa.specs.declared.state.Status.{Status}
+use Rattle.thy_isa.specs.declared.state.Status.TheVariants.{Running, Exited, Trapped}
+use Rattle.thy_isa.specs.declared.state.Cause.{Cause}
+use Rattle.thy_isa.specs.declared.state.Cause.TheVariants.{FetchMisaligned, FetchAccess, Illegal, Breakpoint, LoadMisaligned, LoadAccess, StoreMisaligned, StoreAccess}
+use Rattle.thy_isa.specs.declared.state.Effect.{Effect}
+use Rattle.thy_isa.specs.declared.state.Effect.TheVariants.{Next, Set, Read, Write, Environment, Trap}
+use Rattle.thy_isa.specs.declared.state.Call.{Call}
+use Rattle.thy_isa.specs.declared.state.Call.TheVariants.{Answer, Exit}
+use Rattle.thy_isa.specs.declared.state.CallState.{CallState}
+use Rattle.thy_isa.specs.declared.state.CpuState.{CpuState}
+use Rattle.thy_isa.specs.declared.state.MachState.{MachState}
+use Rattle.thy_isa.specs.Regs.{regs_with}
+use Rattle.thy_isa.specs.Calls.{call_of}
+use Rattle.thy_isa.specs.Memory.{number_at, number_bytes, extended}
+use Rattle.thy_isa.specs.Effects.{size_of, after, word_effect}
+
+-- all that a program sees
+pub record State : Type 0 where
+  pub pc : ℕ
+  pub regs : List ℕ
+  pub memory : List ℕ
+  pub console : List ℕ
+  pub cursor : ℕ
+  pub brk : ℕ
+  pub floor : ℕ
+  pub count : ℕ
+  pub status : Status
+
+-- what stays the same over a run: the address of the first byte of program memory, the input, and how many
+-- bytes the console takes at most
+pub record Setting : Type 0 where
+  pub base : ℕ
+  pub input : List ℕ
+  pub room : ℕ
+
+-- the state that the program holds
+abbrev pub state_of : MachState → State
+state_of m = record {
+  pc = m.pc;
+  regs = m.regs;
+  memory = bytes_of m.memory;
+  console = bytes_of m.console;
+  cursor = m.cursor;
+  brk = m.brk;
+  floor = m.floor;
+  count = m.count;
+  status = m.status;
+}
+
+-- a state without its memory, and with the length of its console
+abbrev pub cpu_of : State → CpuState
+cpu_of s = record {
+  pc = s.pc;
+  regs = s.regs;
+  console_len = length s.console;
+  cursor = s.cursor;
+  brk = s.brk;
+  floor = s.floor;
+  count = s.count;
+  status = s.status;
+}
+
+-- and with a memory and a console again
+abbrev pub state_with : CpuState → List ℕ → List ℕ → State
+state_with c memory console = record {
+  pc = c.pc;
+  regs = c.regs;
+  memory = memory;
+  console = console;
+  cursor = c.cursor;
+  brk = c.brk;
+  floor = c.floor;
+  count = c.count;
+  status = c.status;
+}
+
+-- what an environment call is decided by
+abbrev pub call_state_of : Setting → State → CallState
+call_state_of g s = record {
+  cursor = s.cursor;
+  input_len = length g.input;
+  console_len = length s.console;
+  room = g.room - length s.console;
+  base = g.base;
+  size = length s.memory;
+  floor = s.floor;
+  brk = s.brk;
+}
+
+-- ---- traps
+
+-- the number of a trap
+abbrev pub cause_number : Cause → ℕ
+cause_number FetchMisaligned = 0
+cause_number FetchAccess = 1
+cause_number Illegal = 2
+cause_number Breakpoint = 3
+cause_number LoadMisaligned = 4
+cause_number LoadAccess = 5
+cause_number StoreMisaligned = 6
+cause_number StoreAccess = 7
+
+-- n bytes at an address lie within a memory of that base and size
+abbrev pub is_inside : ℕ → ℕ → ℕ → ℕ → Bool
+is_inside base size at n = nat_le base at && nat_le (at + n) (base + size)
+
+-- why no word can be fetched at pc, if so
+unfoldable pub fetch_fault : ℕ → ℕ → ℕ → Option Cause
+fetch_fault base size pc =
+    if pc % 4 == 0 then (if is_inside base size pc 4 then None else Some FetchAccess) else Some FetchMisaligned
+
+-- an effect, or the trap where it would read or write outside memory
+unfoldable pub within : ℕ → ℕ → Effect → Effect
+within base size (Next pc) = Next pc
+within base size (Set pc rd v) = Set pc rd v
+within base size (Read pc at width extend rd) =
+    if is_inside base size at (size_of width) then Read pc at width extend rd else Trap LoadAccess
+within base size (Write pc at width v) =
+    if is_inside base size at (size_of width) then Write pc at width v else Trap StoreAccess
+within base size Environment = Environment
+within base size (Trap c) = Trap c
+
+abbrev pub fetched : Option Cause → Effect → Effect
+fetched (Some c) e = Trap c
+fetched None e = e
+
+-- ---- one step
+
+-- the word at pc
+abbrev pub word_at : ℕ → State → ℕ
+word_at base s = number_at 4 s.memory (s.pc - base)
+
+-- what the instruction at pc does
+unfoldable pub effect_at : ℕ → State → Effect
+effect_at base s =
+    let size = length s.memory in
+    fetched (fetch_fault base size s.pc) (within base size (word_effect (word_at base s) s.pc s.regs))
+
+-- the number that an effect reads
+unfoldable pub read_by : ℕ → List ℕ → Effect → ℕ
+read_by base memory (Next pc) = 0
+read_by base memory (Set pc rd v) = 0
+read_by base memory (Read pc at width extend rd) = number_at (size_of width) memory (at - base)
+read_by base memory (Write pc at width v) = 0
+read_by base memory Environment = 0
+read_by base memory (Trap c) = 0
+
+-- memory after an effect
+unfoldable pub written_by : ℕ → List ℕ → Effect → List ℕ
+written_by base memory (Next pc) = memory
+written_by base memory (Set pc rd v) = memory
+written_by base memory (Read pc at width extend rd) = memory
+written_by base memory (Write pc at width v) = written memory (at - base) (number_bytes (size_of width) v)
+written_by base memory Environment = memory
+written_by base memory (Trap c) = memory
+
+-- the rest of the state after an environment call, a0 being x10
+unfoldable pub served : CpuState → Call → CpuState
+served c (Answer v) = record c { pc = after c.pc; regs = regs_with c.regs 10 v; count = c.count + 1 }
+served c (Exit v) = record c { count = c.count + 1; status = Exited v }
+
+-- the rest of the state after an effect, which has read this number
+unfoldable pub finished : CpuState → Effect → ℕ → CallState → CpuState
+finished c (Next pc) number calls = record c { pc = pc; count = c.count + 1 }
+finished c (Set pc rd v) number calls = record c { pc = pc; regs = regs_with c.regs rd v; count = c.count + 1 }
+finished c (Read pc at width extend rd) number calls =
+    record c { pc = pc; regs = regs_with c.regs rd (extended width extend number); count = c.count + 1 }
+finished c (Write pc at width v) number calls = record c { pc = pc; count = c.count + 1 }
+finished c Environment number calls = served c (call_of c.regs calls)
+finished c (Trap cause) number calls = record c { count = c.count + 1; status = Trapped (cause_number cause) }
+
+-- a step of a state that runs
+unfoldable pub advanced : Setting → State → State
+advanced g s =
+    let e = effect_at g.base s in
+    state_with (finished (cpu_of s) e (read_by g.base s.memory e) (call_state_of g s)) (written_by g.base s.memory e) s.console
+
+abbrev pub is_running : Status → Bool
+is_running Running = true
+is_running (Exited v) = false
+is_running (Trapped v) = false
+
+-- a step: an ended state stays
+unfoldable pub step : Setting → State → State
+step g s = if is_running s.status then advanced g s else s
+
+-- k steps
+unfoldable pub steps : Setting → ℕ → State → State
+steps g zero s = s
+steps g (suc k) s = step g (steps g k s)

@@ -1,0 +1,33 @@
+-- What every state keeps that a machine can store: the number of registers, the ranges of numbers and bytes.
+use Rattle.std.specs.Prelude.{ℕ, ◌≡◌, ◌<◌, ◌+◌, ◌^◌, length, slice_index}
+use Rattle.std.specs.List.{All}
+use Rattle.thy_isa.specs.declared.state.Status.{Status}
+use Rattle.thy_isa.specs.declared.state.Status.TheVariants.{Running, Exited, Trapped}
+use Rattle.thy_isa.specs.Step.{State}
+
+-- a number of 64 bits, and a byte
+abbrev pub IsNumber : ℕ → Type 0
+IsNumber n = n < 2 ^ 64
+
+abbrev pub IsByte : ℕ → Type 0
+IsByte n = n < 256
+
+-- an exit's value is a byte, and a trap's number below 8
+abbrev pub IsStatus : Status → Type 0
+IsStatus Running = Unit {0}
+IsStatus (Exited v) = v < 256
+IsStatus (Trapped v) = v < 8
+
+-- a state whose program memory has that size. Its count is left out: that is what a step makes larger.
+pub record IsStorable (size : ℕ) (s : State) : Type 0 where
+  pub pc : IsNumber s.pc
+  pub registers : length s.regs ≡ 32
+  pub numbers : All IsNumber s.regs
+  pub zero_register : slice_index s.regs 0 ≡ 0
+  pub memory_size : length s.memory ≡ size
+  pub memory : All IsByte s.memory
+  pub console : All IsByte s.console
+  pub cursor : IsNumber s.cursor
+  pub brk : IsNumber s.brk
+  pub floor : IsNumber s.floor
+  pub status : IsStatus s.status

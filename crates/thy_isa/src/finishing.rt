@@ -1,0 +1,100 @@
+//! The parts of one step, shared by machines that keep their memory in different ways.
+#![tactic(auto, unfolding(crate::specs::Step::fetch_fault, crate::specs::Step::within, crate::specs::Step::served, crate::specs::Step::finished))]
+
+ghost use Rattle.std.specs.Prelude.{◌≡◌, ◌+◌, ◌<◌, ◌^◌};
+ghost use Rattle.thy_isa.specs.Step.{is_inside, fetch_fault, within, cause_number, served, finished};
+
+use crate::environment::call;
+use crate::instr::Reg;
+use crate::memory::extended;
+use crate::perform::{after, bytes_in};
+use crate::state::{Call, CallState, Cause, CpuState, Effect, Status};
+
+/// Whether `n` bytes at an address lie within a memory of that base and size, over whole numbers.
+pub fn is_inside(base: u64, size: u64, at: u64, n: u64) -> bool
+    ensures { result ≡ is_inside base size at n }
+{
+    base <= at && n <= size && at - base <= size - n
+}
+
+/// Why no word can be fetched at `pc`; None exactly where one can.
+pub fn fetch_fault(base: u64, size: u64, pc: u64) -> Option<Cause>
+    ensures { result ≡ fetch_fault base size pc }
+{
+    if pc % 4 != 0 {
+        Some(Cause::FetchMisaligned)
+    } else if is_inside(base, size, pc, 4) {
+        None
+    } else {
+        Some(Cause::FetchAccess)
+    }
+}
+
+/// The effect, or the trap where it would read or write outside memory.
+pub fn within(base: u64, size: u64, effect: Effect) -> Effect
+    ensures { result ≡ within base size effect }
+{
+    match effect {
+        Effect::Read { at, width, .. } if !is_inside(base, size, at, bytes_in(width)) => {
+            Effect::Trap(Cause::LoadAccess)
+        }
+        Effect::Write { at, width, .. } if !is_inside(base, size, at, bytes_in(width)) => {
+            Effect::Trap(Cause::StoreAccess)
+        }
+        _ => effect,
+    }
+}
+
+/// The number of a trap, 0 to 7.
+pub fn cause_number(cause: Cause) -> u64
+    ensures { result ≡ cause_number cause }
+{
+    cause as u64
+}
+
+/// The state after an environment call: its answer in a0, or the end of the program.
+fn serve(cpu: &CpuState, call: Call) -> CpuState
+    requires { cpu.now.count + 1 < 2 ^ 64 }
+    ensures { result ≡ served cpu.now call }
+{
+    let mut next = *cpu;
+    next.count += 1;
+    match call {
+        Call::Answer(value) => {
+            next.pc = after(cpu.pc);
+            next.regs.set(Reg::new(10), value);
+        }
+        Call::Exit(value) => next.status = Status::Exited(value),
+    }
+    next
+}
+
+/// The state after an effect, memory aside. `number` is what was read where the effect reads, and
+/// `calls` what an environment call is decided by.
+pub fn finish(cpu: &CpuState, effect: &Effect, number: u64, calls: &CallState) -> CpuState
+    requires { cpu.now.count + 1 < 2 ^ 64 }
+    ensures { result ≡ finished cpu.now effect.now number calls.now }
+{
+    let mut next = *cpu;
+    match *effect {
+        Effect::Next { pc } | Effect::Write { pc, .. } => next.pc = pc,
+        Effect::Set { pc, rd, value } => {
+            next.pc = pc;
+            next.regs.set(rd, value);
+        }
+        Effect::Read {
+            pc,
+            width,
+            extend,
+            rd,
+            ..
+        } => {
+            next.pc = pc;
+            next.regs.set(rd, extended(width, extend, number));
+        }
+        Effect::Environment => return serve(cpu, call(&cpu.regs, calls)),
+        Effect::Trap(cause) => next.status = Status::Trapped(cause_number(cause)),
+    }
+    next.count += 1;
+    next
+}

@@ -1,0 +1,172 @@
+//! The instructions, as enums of operations. Names are those of the RISC-V unprivileged ISA manual.
+ghost use Rattle.std.specs.Prelude.{ℕ, ◌≡◌, ◌<◌};
+
+use std::marker::Model;
+
+/// The number of an integer register, 0 to 31.
+#[derive(Clone, Copy, Debug, PartialEq, Eq)]
+pub struct Reg {
+    number: u8,
+}
+
+impl Model for Reg {
+    ghost Value = { ℕ };
+
+    ghost view = { λ r. r.number };
+
+    ghost invariant = { λ r. r.number < 32 };
+
+    ghost inverse = { λ n. record { number = n } };
+}
+
+impl Reg {
+    /// The register of this number.
+    pub fn new(number: u8) -> Reg
+        requires { number < 32 }
+        ensures { result ≡ number }
+    {
+        Reg { number }
+    }
+
+    /// Its number.
+    pub fn number(self) -> u8
+        ensures number { result ≡ self }
+        ensures range { result < 32 }
+    {
+        self.number
+    }
+}
+
+/// How many bytes a load or a store moves: 1, 2, 4 or 8.
+#[derive(Clone, Copy, Debug, PartialEq, Eq)]
+pub enum Width {
+    Byte,
+    Half,
+    Word,
+    Double,
+}
+
+/// How a load fills the bits above the bytes that it reads.
+#[derive(Clone, Copy, Debug, PartialEq, Eq)]
+pub enum Extend {
+    /// With copies of the highest bit read.
+    Sign,
+    /// With zeros.
+    Zero,
+}
+
+/// What a branch asks of its two operands. The last two compare them as unsigned numbers.
+#[derive(Clone, Copy, Debug, PartialEq, Eq)]
+pub enum Cond {
+    Equal,
+    NotEqual,
+    Less,
+    GreaterEqual,
+    LessUnsigned,
+    GreaterEqualUnsigned,
+}
+
+/// An operation on two numbers of 64 bits. A name that ends in `w` works on the low 32 bits of both
+/// and extends its result of 32 bits by its sign.
+#[derive(Clone, Copy, Debug, PartialEq, Eq)]
+pub enum Alu {
+    Add,
+    Sub,
+    Sll,
+    Slt,
+    Sltu,
+    Xor,
+    Srl,
+    Sra,
+    Or,
+    And,
+    Mul,
+    Mulh,
+    Mulhsu,
+    Mulhu,
+    Div,
+    Divu,
+    Rem,
+    Remu,
+    Addw,
+    Subw,
+    Sllw,
+    Srlw,
+    Sraw,
+    Mulw,
+    Divw,
+    Divuw,
+    Remw,
+    Remuw,
+}
+
+/// An instruction. Immediates are extended to 64 bits by their sign and held in two's complement;
+/// those of shifts are the number of places.
+#[derive(Clone, Copy, Debug, PartialEq, Eq)]
+pub enum Instr {
+    /// LUI: the immediate, whose low twelve bits are 0, into rd.
+    Lui {
+        rd: Reg,
+        imm: u64,
+    },
+    /// AUIPC: the program counter plus the immediate into rd.
+    Auipc {
+        rd: Reg,
+        imm: u64,
+    },
+    /// JAL: to the program counter plus the immediate, the address after it into rd.
+    Jal {
+        rd: Reg,
+        imm: u64,
+    },
+    /// JALR: to rs1 plus the immediate with bit 0 cleared, the address after it into rd.
+    Jalr {
+        rd: Reg,
+        rs1: Reg,
+        imm: u64,
+    },
+    /// BEQ to BGEU: to the program counter plus the immediate where the condition holds.
+    Branch {
+        cond: Cond,
+        rs1: Reg,
+        rs2: Reg,
+        imm: u64,
+    },
+    /// LB to LWU: from rs1 plus the immediate into rd.
+    Load {
+        width: Width,
+        extend: Extend,
+        rd: Reg,
+        rs1: Reg,
+        imm: u64,
+    },
+    /// SB to SD: the low bytes of rs2 to rs1 plus the immediate.
+    Store {
+        width: Width,
+        rs1: Reg,
+        rs2: Reg,
+        imm: u64,
+    },
+    /// ADDI to SRAIW: an operation on rs1 and the immediate, into rd.
+    OpImm {
+        op: Alu,
+        rd: Reg,
+        rs1: Reg,
+        imm: u64,
+    },
+    /// ADD to REMUW: an operation on rs1 and rs2, into rd.
+    Op {
+        op: Alu,
+        rd: Reg,
+        rs1: Reg,
+        rs2: Reg,
+    },
+    /// FENCE: nothing, on a machine with one hart.
+    Fence,
+    /// FENCE.I: nothing, on a machine with one unified memory.
+    FenceI,
+    /// ECALL: an environment call.
+    Ecall,
+    /// EBREAK: a breakpoint.
+    Ebreak,
+}

@@ -1,0 +1,25 @@
+//! The instructions of RV64IM with FENCE.I: what each word means, what each instruction computes, and
+//! what one step does to the state of the plain machine.
+#![tactic(auto)]
+
+mod arith;
+mod decoding;
+mod environment;
+mod finishing;
+mod instr;
+mod memory;
+mod perform;
+mod regs;
+mod state;
+#[cfg(test)]
+mod vectors;
+
+pub use arith::alu;
+pub use decoding::decode;
+pub use environment::call;
+pub use finishing::{cause_number, fetch_fault, finish, is_inside, within};
+pub use instr::{Alu, Cond, Extend, Instr, Reg, Width};
+pub use memory::{number, put_number};
+pub use perform::{bytes_in, effect, word_effect};
+pub use regs::Regs;
+pub use state::{Call, CallState, Cause, CpuState, Effect, MachState, Status};

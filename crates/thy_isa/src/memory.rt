@@ -1,0 +1,73 @@
+//! Numbers in memory, the lowest byte first.
+#![tactic(auto, unfolding(crate::specs::Memory::number_at, crate::specs::Memory::number_bytes, crate::specs::Memory::extended))]
+
+ghost use Rattle.std.specs.Prelude.{◌≡◌, ◌+◌, ◌≤◌, length};
+ghost use Rattle.thy_base.specs.Bytes.{written};
+ghost use Rattle.thy_isa.specs.Effects.{size_of};
+ghost use Rattle.thy_isa.specs.Memory.{number_at, number_bytes, extended};
+
+use crate::instr::{Extend, Width};
+use crate::perform::bytes_in;
+
+/// The number of `width` bytes from index `at` on.
+pub fn number(bytes: &[u8], at: usize, width: Width) -> u64
+    requires { at + size_of width ≤ length bytes.now }
+    ensures { result ≡ number_at (size_of width) bytes.now at }
+{
+    match width {
+        Width::Byte => u64::from(bytes[at]),
+        Width::Half => u64::from(u16::from_le_bytes([bytes[at], bytes[at + 1]])),
+        Width::Word => u64::from(word(bytes, at)),
+        Width::Double => double(bytes, at),
+    }
+}
+
+fn word(bytes: &[u8], at: usize) -> u32
+    requires { at + 4 ≤ length bytes.now }
+    ensures { result ≡ number_at 4 bytes.now at }
+{
+    u32::from_le_bytes([bytes[at], bytes[at + 1], bytes[at + 2], bytes[at + 3]])
+}
+
+fn double(bytes: &[u8], at: usize) -> u64
+    requires { at + 8 ≤ length bytes.now }
+    ensures { result ≡ number_at 8 bytes.now at }
+{
+    u64::from(word(bytes, at)) + (u64::from(word(bytes, at + 4)) << 32)
+}
+
+/// Writes the low bytes of a number from index `at` on.
+pub fn put_number(bytes: &mut [u8], at: usize, width: Width, value: u64)
+    requires { at + size_of width ≤ length bytes.old }
+    ensures { bytes.new ≡ written bytes.old at (number_bytes (size_of width) value) }
+{
+    let size = bytes_in(width) as usize;
+    let piece = value.to_le_bytes();
+    bytes[at..at + size].copy_from_slice(&piece[..size]);
+}
+
+/// The low bytes of a number, extended to 64 bits.
+pub fn extended(width: Width, extend: Extend, value: u64) -> u64
+    ensures { result ≡ extended width extend value }
+{
+    match extend {
+        Extend::Sign => sign_extended(width, value),
+        Extend::Zero => match width {
+            Width::Byte => value & 0xff,
+            Width::Half => value & 0xffff,
+            Width::Word => value & 0xffff_ffff,
+            Width::Double => value,
+        },
+    }
+}
+
+fn sign_extended(width: Width, value: u64) -> u64
+    ensures { result ≡ extended width Extend.Sign value }
+{
+    match width {
+        Width::Byte => i64::from(((value & 0xff) as u8).cast_signed()).cast_unsigned(),
+        Width::Half => i64::from(((value & 0xffff) as u16).cast_signed()).cast_unsigned(),
+        Width::Word => i64::from(((value & 0xffff_ffff) as u32).cast_signed()).cast_unsigned(),
+        Width::Double => value,
+    }
+}

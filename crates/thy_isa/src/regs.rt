@@ -1,0 +1,55 @@
+//! The integer registers.
+ghost use Rattle.std.specs.Prelude.{ℕ, ◌≡◌, ◌<◌, List, length, replicate};
+ghost use Rattle.thy_isa.specs.Regs.{reg_at, regs_with};
+
+use crate::instr::Reg;
+use std::marker::Model;
+
+/// The 32 integer registers, each a number of 64 bits. Register 0 reads as 0 whatever is written to it.
+#[derive(Clone, Copy, Debug, PartialEq, Eq)]
+pub struct Regs {
+    numbers: [u64; 32],
+}
+
+impl Model for Regs {
+    ghost use Rattle.std.specs.Prelude.{ℕ, ◌≡◌, List, length};
+
+    ghost Value = { List ℕ };
+
+    ghost view = { λ r. r.numbers };
+
+    ghost invariant = { λ r. length r.numbers ≡ 32 };
+
+    ghost inverse = { λ l. record { numbers = l } };
+}
+
+impl Regs {
+    /// All zero.
+    pub fn new() -> Regs
+        ensures { result ≡ replicate 32 0 }
+    {
+        Regs { numbers: [0; 32] }
+    }
+
+    /// What a register reads as.
+    pub fn get(&self, reg: Reg) -> u64
+        ensures { result ≡ reg_at self.now reg }
+    {
+        let number = reg.number();
+        if number == 0 {
+            0
+        } else {
+            self.numbers[number as usize]
+        }
+    }
+
+    /// Writes a register; register 0 stays.
+    pub fn set(&mut self, reg: Reg, value: u64)
+        ensures { self.new ≡ regs_with self.old reg value }
+    {
+        let number = reg.number();
+        if number != 0 {
+            self.numbers[number as usize] = value;
+        }
+    }
+}

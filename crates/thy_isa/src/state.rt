@@ -1,0 +1,129 @@
+//! The state of the machine as a program sees it, and what one instruction does to it.
+
+use crate::instr::{Extend, Reg, Width};
+use crate::regs::Regs;
+use thy_base::Bytes;
+
+/// Whether the program runs, and else how it ended.
+#[derive(Clone, Copy, Debug, PartialEq, Eq)]
+pub enum Status {
+    Running,
+    /// By an exit call, with a value of 0 to 255.
+    Exited(u64),
+    /// By a trap, with its number of 0 to 7.
+    Trapped(u64),
+}
+
+/// Why an instruction traps. The variants stand in the order of their numbers, 0 to 7, which are the
+/// exception codes of the RISC-V privileged architecture.
+#[derive(Clone, Copy, Debug, PartialEq, Eq)]
+pub enum Cause {
+    FetchMisaligned,
+    FetchAccess,
+    Illegal,
+    Breakpoint,
+    LoadMisaligned,
+    LoadAccess,
+    StoreMisaligned,
+    StoreAccess,
+}
+
+/// All that a program sees: registers, memory and what the environment calls keep.
+#[derive(Debug, Drop)]
+pub struct MachState {
+    /// The program counter, an address in bytes.
+    pub pc: u64,
+    pub regs: Regs,
+    /// The program memory alone; its first byte has the address `base` of the configuration.
+    pub memory: Bytes,
+    /// What the program has written to its outputs.
+    pub console: Bytes,
+    /// How many bytes of the input were read.
+    pub cursor: u64,
+    /// The program break, an address in bytes.
+    pub brk: u64,
+    /// The least address that the break may have.
+    pub floor: u64,
+    /// How many steps were taken, that of a trap or an exit included.
+    pub count: u64,
+    pub status: Status,
+}
+
+/// A `MachState` without its memory, and with the length of its console in place of the console.
+#[derive(Clone, Copy, Debug, PartialEq, Eq)]
+pub struct CpuState {
+    pub pc: u64,
+    pub regs: Regs,
+    /// The length of the console in bytes.
+    pub console_len: u64,
+    pub cursor: u64,
+    pub brk: u64,
+    pub floor: u64,
+    pub count: u64,
+    pub status: Status,
+}
+
+/// What an environment call is decided by besides the registers.
+#[derive(Clone, Copy, Debug, PartialEq, Eq)]
+pub struct CallState {
+    /// How many bytes of the input were read.
+    pub cursor: u64,
+    /// The length of the input in bytes.
+    pub input_len: u64,
+    /// The length of the console in bytes.
+    pub console_len: u64,
+    /// How many bytes more the console takes.
+    pub room: u64,
+    /// The address of the first byte of program memory.
+    pub base: u64,
+    /// The size of program memory in bytes.
+    pub size: u64,
+    /// The least address that the break may have.
+    pub floor: u64,
+    /// The program break.
+    pub brk: u64,
+}
+
+/// What an instruction does, given the program counter and the registers. `pc` is the next program
+/// counter.
+#[derive(Clone, Copy, Debug, PartialEq, Eq)]
+pub enum Effect {
+    /// Nothing but to go on.
+    Next {
+        pc: u64,
+    },
+    /// The value becomes that of rd.
+    Set {
+        pc: u64,
+        rd: Reg,
+        value: u64,
+    },
+    /// The number at an address that is a multiple of the width, extended, becomes that of rd.
+    Read {
+        pc: u64,
+        at: u64,
+        width: Width,
+        extend: Extend,
+        rd: Reg,
+    },
+    /// The low bytes of the value go to an address that is a multiple of the width.
+    Write {
+        pc: u64,
+        at: u64,
+        width: Width,
+        value: u64,
+    },
+    /// An environment call.
+    Environment,
+    /// A trap, which ends the program and changes nothing else.
+    Trap(Cause),
+}
+
+/// What an environment call does.
+#[derive(Clone, Copy, Debug, PartialEq, Eq)]
+pub enum Call {
+    /// The answer goes into a0, and the program goes on after the call.
+    Answer(u64),
+    /// The program ends with this value of 0 to 255; the program counter and the registers stay.
+    Exit(u64),
+}
