@@ -10,4 +10,7 @@ mod number;
 mod program_header;
 
 pub use error::ElfError;
-pub use image::Image;
+pub use image::{Image, read};
+
+#[cfg(test)]
+mod tests;
