@@ -6,7 +6,8 @@ use Rattle.thy_elf.specs.declared.header.Header.{Header}
 use Rattle.thy_elf.specs.Number.{number_at}
 use Rattle.thy_elf.specs.Refusal.{Row, due}
 
--- the fields of the header that matter here, by size and place
+-- the fields of the header that matter here, by size and place: e_type, e_machine, e_version,
+-- e_entry, e_phoff, e_flags, e_ehsize, e_phentsize, e_phnum (System V ABI, "ELF Header")
 abbrev pub header_of : List ℕ → Header
 header_of file = record {
   kind = number_at 2 16 file;
@@ -20,11 +21,12 @@ header_of file = record {
   count = number_at 2 56 file;
 }
 
--- the first four bytes of an ELF file
+-- the first four bytes of an ELF file: 7F and "ELF"
 abbrev pub begins_as_elf : List ℕ → Bool
 begins_as_elf file = starts_with nat_eq file (0x7F ∷ 0x45 ∷ 0x4C ∷ 0x46 ∷ [])
 
--- the bytes of e_ident and of the header's own fields
+-- what is asked of the header, in order: bytes 4 to 6 are the class (64-bit), the byte order (little)
+-- and the version; the flags are RISC-V's, 1 for compressed code, 6 for a float ABI, 8 for RVE
 unfoldable pub header_rows : List ℕ → List Row
 header_rows file =
     let h = header_of file in

@@ -11,7 +11,8 @@ use Rattle.thy_elf.specs.Refusal.{Row, due}
 abbrev pub place_of : List ℕ → ℕ → ℕ
 place_of file k = (header_of file).table + 56 * k
 
--- the fields of program header k that matter here, by size and place
+-- the fields of program header k that matter here, by size and place: p_type, p_offset, p_vaddr,
+-- p_filesz, p_memsz (System V ABI, "Program Header")
 unfoldable pub program_header : List ℕ → ℕ → ProgramHeader
 program_header file k = record {
   kind = number_at 4 (place_of file k) file;
