@@ -1,0 +1,73 @@
+-- What a file means: an image, or the first refusal that is due.
+use Rattle.std.specs.Prelude.{◌≡◌, ℕ, ◌+◌, ◌-◌, ◌*◌, ◌/◌, max, List, ◌∷◌, ◌++◌, take, drop, replicate, Option, Some, None, Result, Ok, Err, IsOk, if◌then◌else◌}
+use Rattle.std.specs.List.{flat_map, fold, list_any}
+use Rattle.thy_base.specs.Bytes.{bytes_of, written}
+use Rattle.thy_elf.specs.declared.error.ElfError.{ElfError}
+use Rattle.thy_elf.specs.declared.error.ElfError.TheVariants.{NeedsLoader, Memory}
+use Rattle.thy_elf.specs.declared.image.Image.{Image}
+use Rattle.thy_elf.specs.declared.program_header.ProgramHeader.{ProgramHeader}
+use Rattle.thy_elf.specs.Header.{header_of, header_rows}
+use Rattle.thy_elf.specs.ProgramHeader.{program_header, indices_of, needs_loader, takes_memory, segment_rows, HasHeaders}
+use Rattle.thy_elf.specs.Refusal.{Row, due, first_due}
+
+-- the table of refusals: the header's, then the one of all program headers, then each one's by rising index
+abbrev pub rows_of : List ℕ → ℕ → ℕ → List Row
+rows_of file base size =
+    header_rows file
+    ++ (due NeedsLoader (list_any (λ k. needs_loader (program_header file k)) (indices_of file))
+    ∷ flat_map (segment_rows file base size) (indices_of file))
+
+-- the bytes of a segment: those of the file, then zeros
+abbrev pub segment_bytes : List ℕ → ProgramHeader → List ℕ
+segment_bytes file p = take p.file_size (drop p.offset file) ++ replicate (p.memory_size - p.file_size) 0
+
+-- memory with the segment of program header k written over it
+abbrev pub with_segment : List ℕ → ℕ → List ℕ → ℕ → List ℕ
+with_segment file base memory k =
+    let p = program_header file k in
+    if takes_memory p then written memory (p.address - base) (segment_bytes file p) else memory
+
+-- memory: zeros, with the segments written over them in the table's order
+abbrev pub memory_of : List ℕ → ℕ → ℕ → List ℕ
+memory_of file base size = fold (with_segment file base) (replicate size 0) (indices_of file)
+
+-- the end of the segment of program header k, or what was reached before where that is more
+abbrev pub reached : List ℕ → ℕ → ℕ → ℕ
+reached file end k =
+    let p = program_header file k in
+    if takes_memory p then max end (p.address + p.memory_size) else end
+
+-- the greatest end of a segment, or base where there is none, rounded up to a multiple of 16
+abbrev pub floor_of : List ℕ → ℕ → ℕ
+floor_of file base = (fold (reached file) base (indices_of file) + 15) / 16 * 16
+
+-- what an image says: where the run starts, where the heap starts, and memory
+pub record Contents : Type 0 where
+  pub entry : ℕ
+  pub floor : ℕ
+  pub memory : List ℕ
+
+-- the contents of an image
+abbrev pub contents_of : Image → Contents
+contents_of image = record { entry = image.entry; floor = image.floor; memory = bytes_of image.memory }
+
+-- the refusal, or else the contents
+abbrev pub refused_or : Option ElfError → Contents → Result Contents ElfError
+refused_or None contents = Ok contents
+refused_or (Some e) contents = Err e
+
+-- what a file means where program memory is `size` bytes from `base` on
+abbrev pub read_of : List ℕ → ℕ → ℕ → Result Contents ElfError
+read_of file base size =
+    refused_or (first_due (rows_of file base size))
+    (record { entry = (header_of file).entry; floor = floor_of file base; memory = memory_of file base size })
+
+-- an error is the file's refusal; want of memory comes only where the file is an image
+abbrev pub IsCause : Result Contents ElfError → ElfError → Type 0
+IsCause meaning (Memory e) = IsOk meaning
+IsCause meaning e = meaning ≡ Err e
+
+-- no refusal is due
+pub record IsAccepted (file : List ℕ) (base size : ℕ) : Type 0 where
+  pub headers : HasHeaders file
+  pub segments : first_due (flat_map (segment_rows file base size) (indices_of file)) ≡ None

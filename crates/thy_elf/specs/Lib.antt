@@ -1,0 +1,5 @@
+pub mod Refusal
+pub mod Number
+pub mod Header
+pub mod ProgramHeader
+pub mod Image
