@@ -1,0 +1,85 @@
+-- The fields of a configuration as the words give them.
+use Rattle.std.specs.Prelude.{ℕ, Bool, true, false, if◌then◌else◌, List, [], ◌∷◌, Option, codes, find}
+use Rattle.std.specs.Prelude.{not, option_and_then, unwrap_or}
+use Rattle.std.specs.Option.{option_map_or}
+use Rattle.clap.specs.Walk.{Row, Text, first_of}
+use Rattle.thy_base.specs.declared.config.Config.{Config}
+use Rattle.thy_base.specs.declared.config.Field.{Field}
+use Rattle.thy_base.specs.declared.config.Field.TheVariants.{Base, Pages, Console, Epoch, Btt, Ptt, Sets, Ways, Nvmq, Dramq, High, Low, Mix, Cuts, Tears, Limit, N}
+use Rattle.thy_words.specs.Numbers.{is_list, is_number, number_in, numbers_in}
+
+-- in the order in which they are read, and then tested
+abbrev pub fields : List Field
+fields = Base ∷ Pages ∷ Console ∷ Epoch ∷ Btt ∷ Ptt ∷ Sets ∷ Ways ∷ Nvmq ∷ Dramq ∷ High ∷ Low
+    ∷ Mix ∷ Cuts ∷ Tears ∷ Limit ∷ []
+
+-- the name of a field's option, and of the field in a refusal
+abbrev pub name_of : Field → Text
+name_of Base = codes "base"
+name_of Pages = codes "pages"
+name_of Console = codes "console"
+name_of Epoch = codes "epoch"
+name_of Btt = codes "btt"
+name_of Ptt = codes "ptt"
+name_of Sets = codes "sets"
+name_of Ways = codes "ways"
+name_of Nvmq = codes "nvmq"
+name_of Dramq = codes "dramq"
+name_of High = codes "high"
+name_of Low = codes "low"
+name_of Mix = codes "mix"
+name_of Cuts = codes "cuts"
+name_of Tears = codes "tears"
+name_of Limit = codes "limit"
+name_of N = codes "n"
+
+-- the text of a field, where the words have its option
+abbrev pub text_of : List Row → Field → Option Text
+text_of rows f = first_of (name_of f) rows
+
+-- the field's value is a list
+abbrev pub takes_list : Field → Bool
+takes_list Cuts = true
+takes_list Tears = true
+takes_list _ = false
+
+-- the text is a value of the field
+abbrev pub reads : Field → Text → Bool
+reads f t = if takes_list f then is_list t else is_number t
+
+-- the words leave the field out, or give it a value
+abbrev pub is_readable : List Row → Field → Bool
+is_readable rows f = option_map_or (reads f) (text_of rows f) true
+
+-- the first field whose text is no value of it
+abbrev pub unreadable : List Row → Option Field
+unreadable rows = find (λ f. not (is_readable rows f)) fields
+
+-- the number of a field, or this one where the words leave it out
+abbrev pub number_at : List Row → Field → ℕ → ℕ
+number_at rows f otherwise = unwrap_or (option_and_then number_in (text_of rows f)) otherwise
+
+-- the list of a field, with no item where the words leave it out
+abbrev pub list_at : List Row → Field → List ℕ
+list_at rows f = option_map_or numbers_in (text_of rows f) []
+
+-- the configuration of rows in which each field is readable
+abbrev pub config_at : List Row → Config
+config_at rows = record {
+  base = number_at rows Base 65536;
+  pages = number_at rows Pages 256;
+  console = number_at rows Console 1;
+  epoch = number_at rows Epoch 10000;
+  btt = number_at rows Btt 512;
+  ptt = number_at rows Ptt 64;
+  sets = number_at rows Sets 16;
+  ways = number_at rows Ways 4;
+  nvmq = number_at rows Nvmq 16;
+  dramq = number_at rows Dramq 16;
+  high = number_at rows High 22;
+  low = number_at rows Low 16;
+  mix = number_at rows Mix 0;
+  cuts = list_at rows Cuts;
+  tears = list_at rows Tears;
+  limit = number_at rows Limit 1000000000;
+}

@@ -1,0 +1,52 @@
+-- The program's command line, as data: what `clap` is told of it.
+use Rattle.std.specs.Prelude.{◌≡◌, ◌++◌, Some, true, false, List, [], ◌∷◌, codes, fold, map}
+use Rattle.clap.specs.Walk.{Text}
+use Rattle.clap.specs.Simple.{App, app_of, new_app, new_rule, new_shape, with_rule}
+use Rattle.clap.specs.Simple.{with_subcommand}
+use Rattle.clap.specs.declared.builder.command.Command.{Command}
+use Rattle.clap.specs.declared.builder.command.Command.TheViews.{out-Command}
+use Rattle.thy_words.specs.Fields.{fields, name_of}
+
+-- a name that has to stand in its place
+abbrev pub with_operand : App → Text → App
+with_operand a name = with_rule a (record (new_rule name) { required = true })
+
+-- an option `--name value` or `--name=value`, which stands at most once
+abbrev pub with_option : App → Text → App
+with_option a name = with_rule a (record (new_rule name) { long = Some name })
+
+-- a command: its name, its operands in their order, and its options
+pub record Form : Type 0 where
+  pub name : Text
+  pub operands : List Text
+  pub options : List Text
+
+abbrev pub app_of_form : Form → App
+app_of_form f = fold with_option (fold with_operand (new_app f.name) f.operands) f.options
+
+-- `run FILE` takes an option for each field of the configuration, and the input's name
+abbrev pub run_form : Form
+run_form = record {
+  name = codes "run";
+  operands = codes "FILE" ∷ [];
+  options = map name_of fields ++ codes "input" ∷ [];
+}
+
+abbrev pub run_command : App
+run_command = app_of_form run_form
+
+-- the program: one of its commands has to be named, and no word asks for help
+abbrev pub program : App
+program = with_subcommand (record {
+  top = record (new_shape (codes "thynvm")) {
+    subcommand_required = true;
+    disable_help_flag = true;
+    disable_help_subcommand = true;
+  };
+  subs = [];
+}) run_command.top
+
+-- the command is this one, with no argument that its subcommands share
+pub record IsBuilt (c : Command) (a : App) : Type 0 where
+  pub app : app_of c ≡ a
+  pub local : (out-Command c).has_globals ≡ false

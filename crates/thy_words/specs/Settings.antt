@@ -1,0 +1,79 @@
+-- What the words ask for.
+use Rattle.std.specs.Prelude.{◌≡◌, List, [], Option, Some, None, Result, Ok, Err, codes, if◌then◌else◌}
+use Rattle.std.specs.Prelude.{option_map, unwrap_or}
+use Rattle.std.specs.Option.{option_map_or}
+use Rattle.std.specs.Str.{bytes_eq}
+use Rattle.std.specs.String.{string_bytes}
+use Rattle.clap.specs.Walk.{Row, Text, first_of, is_empty}
+use Rattle.clap.specs.Simple.{subcommand_of}
+use Rattle.clap.specs.Faults.{fault_of as parse_fault}
+use Rattle.thy_base.specs.Config.{fault_of as range_fault}
+use Rattle.thy_base.specs.declared.config.Config.{Config}
+use Rattle.thy_base.specs.declared.config.ConfigError.{ConfigError}
+use Rattle.thy_words.specs.Fields.{config_at, unreadable}
+use Rattle.thy_words.specs.Program.{program}
+use Rattle.thy_words.specs.declared.words.Command.{Command}
+use Rattle.thy_words.specs.declared.words.Command.TheVariants as command
+use Rattle.thy_words.specs.declared.words.WordsError.{WordsError}
+use Rattle.thy_words.specs.declared.words.WordsError.TheVariants.{Usage, Word, Value, Memory}
+
+-- a command that the words ask for: `run`, with FILE, the input's name and the configuration
+pub data Order : Type 0 where
+  run : Text → Option Text → Config → Order
+
+-- what `clap` makes of the words: the command that they name, and what it finds for its arguments;
+-- nothing where it refuses them
+unfoldable pub named : List Text → Option (Text × List Row)
+named words = if is_empty (parse_fault program words) then subcommand_of program words else None
+
+-- the configuration, unless a value is out of range
+abbrev pub ranged : Config → Option ConfigError → Result Config WordsError
+ranged c None = Ok c
+ranged c (Some e) = Err (Value e.field e.value)
+
+-- the configuration, or the first field that is unreadable, or else the first out of range
+abbrev pub config_in : List Row → Result Config WordsError
+config_in rows = option_map_or (λ f. Err (Word f))
+    (unreadable rows) (ranged (config_at rows) (range_fault (config_at rows)))
+
+-- the name of the program file; it has to stand, so there is one
+abbrev pub file_in : List Row → Text
+file_in rows = unwrap_or (first_of (codes "FILE") rows) []
+
+-- `run`, with its configuration
+abbrev pub run_with : List Row → Result Config WordsError → Result Order WordsError
+run_with rows (Ok c) = Ok (run (file_in rows) (first_of (codes "input") rows) c)
+run_with rows (Err e) = Err e
+
+abbrev pub run_in : List Row → Result Order WordsError
+run_in rows = run_with rows (config_in rows)
+
+-- what a command asks for, by its name and what is found for its arguments
+abbrev pub order_in : Text × List Row → Result Order WordsError
+order_in p = if bytes_eq p.0 (codes "run") then run_in p.1 else Err Usage
+
+abbrev pub order_named : Option (Text × List Row) → Result Order WordsError
+order_named found = option_map_or order_in found (Err Usage)
+
+-- the settings that the words ask for, the program's name first, or why they are refused
+unfoldable pub settings_of : List Text → Result Order WordsError
+settings_of words = order_named (named words)
+
+-- the answer shows exactly what is asked for, or is want of memory
+abbrev pub ShowsOrMemory : {A B : Type 0} → (A → B) → Result B WordsError → Result A WordsError
+    → Type 0
+ShowsOrMemory shown asked (Ok x) = asked ≡ Ok (shown x)
+ShowsOrMemory shown asked (Err (Memory e)) = Unit {0}
+ShowsOrMemory shown asked (Err e) = asked ≡ Err e
+
+-- a command as an order
+abbrev pub order_of : Command → Order
+order_of (command.Run file input config) =
+    run (string_bytes file) (option_map string_bytes input) config
+
+abbrev pub Answers : Result Order WordsError → Result Command WordsError → Type 0
+Answers = ShowsOrMemory order_of
+
+-- the order's configuration is in range
+abbrev pub IsInRange : Order → Type 0
+IsInRange (run file input config) = range_fault config ≡ None

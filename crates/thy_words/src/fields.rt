@@ -1,0 +1,142 @@
+//! The fields of a configuration as the words give them.
+ghost use Rattle.std.specs.Prelude.{◌≡◌, IfOk, option_map};
+ghost use Rattle.clap.specs.Matches.{found_of};
+ghost use Rattle.clap.specs.Walk.{first_of, rows_of};
+ghost use Rattle.thy_words.specs.Fields.{config_at, is_readable, list_at, name_of, number_at, takes_list, unreadable};
+
+use crate::numbers::{is_list, is_number, number, numbers};
+use clap::ArgMatches;
+use std::alloc::{AllocError, Global};
+use thy_base::{Config, Field, Numbers};
+
+/// The fields, in the order in which they are read.
+static FIELDS: [Field; 16] = [
+    Field::Base,
+    Field::Pages,
+    Field::Console,
+    Field::Epoch,
+    Field::Btt,
+    Field::Ptt,
+    Field::Sets,
+    Field::Ways,
+    Field::Nvmq,
+    Field::Dramq,
+    Field::High,
+    Field::Low,
+    Field::Mix,
+    Field::Cuts,
+    Field::Tears,
+    Field::Limit,
+];
+
+/// The name of a field's option, and of the field in a refusal.
+pub fn name_of(field: Field) -> &'static str
+    ensures { result.now ≡ name_of field }
+{
+    match field {
+        Field::Base => "base",
+        Field::Pages => "pages",
+        Field::Console => "console",
+        Field::Epoch => "epoch",
+        Field::Btt => "btt",
+        Field::Ptt => "ptt",
+        Field::Sets => "sets",
+        Field::Ways => "ways",
+        Field::Nvmq => "nvmq",
+        Field::Dramq => "dramq",
+        Field::High => "high",
+        Field::Low => "low",
+        Field::Mix => "mix",
+        Field::Cuts => "cuts",
+        Field::Tears => "tears",
+        Field::Limit => "limit",
+        Field::N => "n",
+    }
+}
+
+/// The text of an argument, where the words have it.
+pub(crate) fn text_of<'a>(matches: &ArgMatches<'a>, name: &str) -> Option<&'a str>
+    ensures { option_map (λ s. s.now) result ≡ first_of name.now (rows_of (found_of matches.now)) }
+{
+    matches.get_str(name)
+}
+
+/// Whether the field's value is a list.
+fn takes_list(field: Field) -> bool
+    ensures { result ≡ takes_list field }
+{
+    matches!(field, Field::Cuts | Field::Tears)
+}
+
+/// Whether the words leave the field out, or give it a value.
+fn is_readable(matches: &ArgMatches<'_>, field: Field) -> bool
+    ensures { result ≡ is_readable (rows_of (found_of matches.now)) field }
+{
+    match text_of(matches, name_of(field)) {
+        None => true,
+        Some(text) => {
+            if takes_list(field) {
+                is_list(text)
+            } else {
+                is_number(text)
+            }
+        }
+    }
+}
+
+/// The first field whose text is no value of it.
+pub(crate) fn unreadable(matches: &ArgMatches<'_>) -> Option<Field>
+    ensures { result ≡ unreadable (rows_of (found_of matches.now)) }
+{
+    FIELDS
+        .iter()
+        .copied()
+        .find(|field| !is_readable(matches, *field))
+}
+
+/// The number of a field, or `otherwise` where the words leave it out.
+fn number_at(matches: &ArgMatches<'_>, field: Field, otherwise: u64) -> u64
+    ensures { result ≡ number_at (rows_of (found_of matches.now)) field otherwise }
+{
+    match text_of(matches, name_of(field)) {
+        Some(text) => number(text).unwrap_or(otherwise),
+        None => otherwise,
+    }
+}
+
+/// The list of a field, with no item where the words leave it out.
+fn list_at(alloc: Global, matches: &ArgMatches<'_>, field: Field) -> Result<Numbers, AllocError>
+    ensures { IfOk result (λ v. v ≡ list_at (rows_of (found_of matches.now)) field) }
+{
+    let items = match text_of(matches, name_of(field)) {
+        Some(text) => numbers(alloc, text)?,
+        None => Vec::new(alloc),
+    };
+    Ok(Numbers::from_vec(items))
+}
+
+/// The configuration that the words give, in which each field is readable.
+pub(crate) fn config_at(alloc: Global, matches: &ArgMatches<'_>) -> Result<Config, AllocError>
+    ensures { IfOk result (λ c. c ≡ config_at (rows_of (found_of matches.now))) }
+{
+    let cuts = list_at(alloc, matches, Field::Cuts)?;
+    let tears = list_at(alloc, matches, Field::Tears)?;
+    Ok(Config {
+        base: number_at(matches, Field::Base, 65_536),
+        pages: number_at(matches, Field::Pages, 256),
+        console: number_at(matches, Field::Console, 1),
+        epoch: number_at(matches, Field::Epoch, 10_000),
+        btt: number_at(matches, Field::Btt, 512),
+        ptt: number_at(matches, Field::Ptt, 64),
+        sets: number_at(matches, Field::Sets, 16),
+        ways: number_at(matches, Field::Ways, 4),
+        nvmq: number_at(matches, Field::Nvmq, 16),
+        dramq: number_at(matches, Field::Dramq, 16),
+        high: number_at(matches, Field::High, 22),
+        low: number_at(matches, Field::Low, 16),
+        mix: number_at(matches, Field::Mix, 0),
+        cuts,
+        tears,
+        limit: number_at(matches, Field::Limit, 1_000_000_000),
+    })
+}

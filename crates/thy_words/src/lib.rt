@@ -1,0 +1,13 @@
+//! The command line: what the words after the program's name ask for, as a command with its
+//! configuration, or why they are refused.
+#![tactic(auto)]
+
+mod fields;
+mod numbers;
+mod program;
+#[cfg(test)]
+mod tests;
+mod words;
+
+pub use fields::name_of;
+pub use words::{Command, WordsError, settings};

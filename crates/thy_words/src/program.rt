@@ -1,0 +1,67 @@
+//! The program's command line as `clap` is told of it.
+ghost use Rattle.std.specs.Prelude.{◌≡◌, IfOk, fold, map};
+ghost use Rattle.clap.specs.Simple.{app_of};
+ghost use Rattle.thy_words.specs.Program.{IsBuilt, program, run_command, with_operand, with_option};
+
+use clap::{Arg, Command};
+use std::alloc::{AllocError, Global};
+
+/// The operand of `run`: the name of the program file.
+pub(crate) static RUN_OPERANDS: [&str; 1] = ["FILE"];
+
+/// The options of `run`, each of which takes a value.
+pub(crate) static RUN_OPTIONS: [&str; 17] = [
+    "base", "pages", "console", "epoch", "btt", "ptt", "sets", "ways", "nvmq", "dramq", "high",
+    "low", "mix", "cuts", "tears", "limit", "input",
+];
+
+fn with_operands<'a>(
+    alloc: Global,
+    command: Command<'a>,
+    names: &'static [&'static str],
+) -> Result<Command<'a>, AllocError>
+    requires { IsBuilt command (app_of command) }
+    ensures { IfOk result (λ c. IsBuilt c
+        (fold with_operand (app_of command.entry) (map (λ s. s.now) names.entry.now))) }
+{
+    let mut wider = command;
+    for name in names {
+        wider = wider.arg(Arg::new(alloc, *name).required(true))?;
+    }
+    Ok(wider)
+}
+
+fn with_options<'a>(
+    alloc: Global,
+    command: Command<'a>,
+    names: &'static [&'static str],
+) -> Result<Command<'a>, AllocError>
+    requires { IsBuilt command (app_of command) }
+    ensures { IfOk result (λ c. IsBuilt c
+        (fold with_option (app_of command.entry) (map (λ s. s.now) names.entry.now))) }
+{
+    let mut wider = command;
+    for name in names {
+        wider = wider.arg(Arg::new(alloc, *name).long(*name))?;
+    }
+    Ok(wider)
+}
+
+/// `run FILE`, with its options.
+fn run<'a>(alloc: Global) -> Result<Command<'a>, AllocError>
+    ensures { IfOk result (λ c. IsBuilt c run_command) }
+{
+    let command = with_operands(alloc, Command::new(alloc, "run"), RUN_OPERANDS.as_slice())?;
+    with_options(alloc, command, RUN_OPTIONS.as_slice())
+}
+
+/// The program, with its commands. It answers no call for help or for a version.
+pub(crate) fn thynvm<'a>(alloc: Global) -> Result<Command<'a>, AllocError>
+    ensures { IfOk result (λ c. app_of c ≡ program) }
+{
+    Command::new(alloc, "thynvm")
+        .subcommand_required(true)
+        .disable_help_flag(true)
+        .disable_help_subcommand(true)
+        .subcommand(run(alloc)?)
+}

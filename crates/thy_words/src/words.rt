@@ -1,0 +1,145 @@
+//! What the words ask for.
+ghost use Rattle.std.specs.Prelude.{◌≡◌, IfOk, map, option_map};
+ghost use Rattle.std.specs.String.{string_bytes};
+ghost use Rattle.clap.specs.Matches.{found_of};
+ghost use Rattle.clap.specs.Simple.{subcommand_rows_of};
+ghost use Rattle.clap.specs.Values.{kind_of};
+ghost use Rattle.clap.specs.Walk.{rows_of};
+ghost use Rattle.thy_base.specs.Config.{fault_of as range_fault};
+ghost use Rattle.thy_words.specs.Settings.{Answers, IsInRange, ShowsOrMemory, order_of, config_in, order_named, ranged, run_in, settings_of};
+ghost use Rattle.thy_words.specs.Refused.{is_out_of_memory, refused};
+
+use crate::fields::{config_at, text_of, unreadable};
+use crate::program::thynvm;
+use clap::ArgMatches;
+use clap::error::ErrorKind;
+use std::alloc::{AllocError, Global};
+use thy_base::{Config, Field, Geometry};
+
+/// A command that the words ask for.
+#[derive(Debug, Drop)]
+pub enum Command {
+    /// Run the program file FILE on a fresh machine. `input` is the name of what it reads.
+    Run {
+        file: String,
+        input: Option<String>,
+        config: Config,
+    },
+}
+
+/// Why the words are refused, or were not read.
+#[derive(Clone, Copy, Debug)]
+pub enum WordsError {
+    /// They are no command line.
+    Usage,
+    /// The first field whose text is no value of it.
+    Word(Field),
+    /// The first field that is out of range, and the value that is.
+    Value(Field, u64),
+    /// Memory ran out.
+    Memory(AllocError),
+}
+
+/// The configuration, unless a value is out of range.
+fn ranged(config: Config) -> Result<Config, WordsError>
+    ensures { result ≡ ranged config (range_fault config) }
+{
+    match Geometry::new(&config) {
+        Ok(_) => Ok(config),
+        Err(refusal) => Err(WordsError::Value(refusal.field, refusal.value)),
+    }
+}
+
+/// The configuration of what `clap` found for a command's arguments.
+fn config_in(alloc: Global, matches: &ArgMatches<'_>) -> Result<Config, WordsError>
+    ensures { ShowsOrMemory (λ c. c) (config_in (rows_of (found_of matches.now))) result }
+{
+    match unreadable(matches) {
+        Some(field) => Err(WordsError::Word(field)),
+        None => match config_at(alloc, matches) {
+            Ok(config) => ranged(config),
+            Err(error) => Err(WordsError::Memory(error)),
+        },
+    }
+}
+
+/// A text of the caller's own.
+fn owned(alloc: Global, text: Option<&str>) -> Result<Option<String>, AllocError>
+    ensures { IfOk result (λ o. option_map string_bytes o ≡ option_map (λ s. s.now) text.entry) }
+{
+    match text {
+        Some(text) => Ok(Some(String::from_str(alloc, text)?)),
+        None => Ok(None),
+    }
+}
+
+/// `run`, of what `clap` found for its arguments.
+fn run(alloc: Global, matches: &ArgMatches<'_>) -> Result<Command, WordsError>
+    ensures { Answers (run_in (rows_of (found_of matches.now))) result }
+{
+    let config = config_in(alloc, matches)?;
+    let file = match String::from_str(alloc, text_of(matches, "FILE").unwrap_or("")) {
+        Ok(file) => file,
+        Err(error) => return Err(WordsError::Memory(error)),
+    };
+    match owned(alloc, text_of(matches, "input")) {
+        Ok(input) => Ok(Command::Run {
+            file,
+            input,
+            config,
+        }),
+        Err(error) => Err(WordsError::Memory(error)),
+    }
+}
+
+/// What the words ask for, of what `clap` found in them.
+fn order(alloc: Global, matches: &ArgMatches<'_>) -> Result<Command, WordsError>
+    ensures { Answers (order_named (subcommand_rows_of matches.now)) result }
+{
+    match matches.subcommand() {
+        Some((name, found)) => {
+            if name == "run" {
+                run(alloc, found)
+            } else {
+                Err(WordsError::Usage)
+            }
+        }
+        None => Err(WordsError::Usage),
+    }
+}
+
+/// Whether `clap` failed for want of memory.
+fn is_out_of_memory(kind: ErrorKind) -> bool
+    ensures { result ≡ is_out_of_memory kind }
+{
+    matches!(kind, ErrorKind::OutOfMemory)
+}
+
+/// The refusal of words that `clap` refuses.
+fn refused(error: &clap::Error) -> WordsError
+    ensures { result ≡ refused (kind_of error.now) }
+{
+    if is_out_of_memory(error.kind()) {
+        WordsError::Memory(AllocError)
+    } else {
+        WordsError::Usage
+    }
+}
+
+/// The command and the configuration that the words ask for, the program's name first.
+///
+/// Words that are no command line are refused as `Usage`. Else the first field whose text is no
+/// value of it is refused as `Word`, and else the first that is out of range as `Value`.
+pub fn settings(alloc: Global, words: &[String]) -> Result<Command, WordsError>
+    ensures exact { Answers (settings_of (map string_bytes words.now)) result }
+    ensures in_range { IfOk result (λ command. IsInRange (order_of command)) }
+{
+    let program = match thynvm(alloc) {
+        Ok(program) => program,
+        Err(error) => return Err(WordsError::Memory(error)),
+    };
+    match program.try_get_matches_from(words) {
+        Ok(matches) => order(alloc, &matches),
+        Err(error) => Err(refused(&error)),
+    }
+}
