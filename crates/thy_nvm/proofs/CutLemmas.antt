@@ -1,11 +1,10 @@
 -- A cut of a device in memory.
-use Rattle.std.proofs.Common.{◌≡◌, ℕ, ◌+◌, ◌*◌, ◌<◌, ◌≤◌, suc, List, [], ◌∷◌, ◌++◌, length, Option, refl, sym, ◌∙◌, ap, subst, arith}
+use Rattle.std.proofs.Common.{◌≡◌, ℕ, ◌+◌, ◌*◌, ◌<◌, ◌≤◌, suc, List, [], ◌∷◌, ◌++◌, length, Option, ◌∙◌, ap, arith}
 use Rattle.circular_buffer.specs.Buffer.{Buffer}
 use Rattle.thy_base.specs.declared.block.Block.{Block}
 use Rattle.thy_base.specs.declared.nvm.Write.{Write}
 use Rattle.thy_base.specs.Device.{Device, cut_to}
 use Rattle.thy_nvm.specs.Memory.{queued_in, room_in, images_of, device_in}
-use Rattle.thy_nvm.specs.Pick.{picked}
 use Rattle.thy_nvm.proofs.KeptLemmas.{length-images_of, images_of-push}
 
 -- the parts after a cut hold the device after the cut
@@ -14,7 +13,7 @@ pub device_in-cut : (image left : List Block) (queue emptied : Option (Buffer Wr
     → device_in left emptied more (count + 1) room ≡ cut_to (device_in image queue kept count room) left
 device_in-cut image left queue emptied kept more count room same empty kept_room pushed whole =
     let images : images_of (length left) (count + 1) more ≡ images_of (length image) count kept ++ left ∷ []
-        = ap (λ size. images_of size (count + 1) more) same ∙ ap (λ n. images_of (length image) n more) next ∙ ap (images_of (length image) (suc count)) pushed ∙ images_of-push (length image) count kept left whole same in
+    = ap (λ size. images_of size (count + 1) more) same ∙ ap (λ n. images_of (length image) n more) next ∙ ap (images_of (length image) (suc count)) pushed ∙ images_of-push (length image) count kept left whole same in
     cc
   where
     next : count + 1 ≡ suc count

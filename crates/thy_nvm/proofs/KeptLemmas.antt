@@ -1,6 +1,6 @@
 -- Images of one size, one after another.
-use Rattle.std.proofs.Common.{◌≡◌, ℕ, ◌+◌, ◌*◌, ◌-◌, ◌<◌, ◌≤◌, zero, suc, List, [], ◌∷◌, ◌++◌, length, take, drop, slice_index_or, Option, refl, sym, ◌∙◌, ap, subst, arith}
-use Rattle.std.proofs.lemmas.List.{length-drop, length-append, nil_from_length, append-nil, take-append-le, drop-append-le, take_at, drop_at, take_all, drop_all, get_or-take, get_or-drop}
+use Rattle.std.proofs.Common.{◌≡◌, ℕ, ◌+◌, ◌*◌, ◌<◌, ◌≤◌, zero, suc, List, [], ◌∷◌, ◌++◌, length, take, drop, slice_index_or, Option, refl, sym, ◌∙◌, ap, subst, arith}
+use Rattle.std.proofs.lemmas.List.{length-drop, nil_from_length, take-append-le, drop-append-le, take_all, get_or-take, get_or-drop}
 use Rattle.thy_base.specs.declared.block.Block.{Block}
 use Rattle.circular_buffer.specs.Buffer.{Buffer}
 use Rattle.thy_base.specs.declared.nvm.Write.{Write}
@@ -48,6 +48,7 @@ pub block_at-kept : (image : List Block) (queue : Option (Buffer Write)) (kept :
     → (i * length image + at < length kept) × (block_at kept (i * length image + at) ≡ block_at (slice_index_or d.left i []) at)
 block_at-kept image queue kept count room d i at e whole il al =
     let image_in : i < count = omega (arith, ap (λ n. length n.left) e, length-images_of (length image) count kept) in
-    let place_in : at < length image = omega (arith, ap (λ n. length n.image) e) in
-    ( omega (arith, within_images (length image) count i at image_in place_in),
-      sym (block_at-images_of (length image) count kept i at image_in place_in) ∙ ap (λ n. block_at (slice_index_or n.left i []) at) e )
+    let place_in : at < length image = omega (arith, ap (λ n. length n.image) e) in (
+      omega (arith, within_images (length image) count i at image_in place_in),
+      sym (block_at-images_of (length image) count kept i at image_in place_in) ∙ ap (λ n. block_at (slice_index_or n.left i []) at) e,
+    )

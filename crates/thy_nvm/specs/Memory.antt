@@ -33,7 +33,8 @@ device_in image queue kept count room = record {
   queue_room = room_in queue;
   left_room = room;
   down = false;
-  faults = 0 }
+  faults = 0;
+}
 
 -- what holds of the parts of a device in memory
 pub record IsSound (image : List Block) (queue : Option (Buffer Write)) (kept : List Block) (count room space : ℕ) : Type 0 where

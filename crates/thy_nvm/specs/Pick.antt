@@ -2,7 +2,7 @@
 use Rattle.std.specs.Prelude.{ℕ, ◌+◌, ◌%◌, ◌==◌, if◌then◌else◌, List, [], ◌∷◌, length, slice_index_or}
 use Rattle.thy_base.specs.declared.block.Block.{Block}
 use Rattle.thy_base.specs.declared.nvm.Write.{Write}
-use Rattle.thy_base.specs.Device.{Device, queued_for, applied}
+use Rattle.thy_base.specs.Device.{queued_for, applied}
 use Rattle.thy_base.specs.Lcg.{lcg_next, lcg_draw}
 
 -- what a place's draw leaves of the block that stands there and those queued for it, oldest first

@@ -20,7 +20,11 @@ pub(crate) fn len_of(queue: &Option<HeapCircularBuffer<Write>>) -> usize
 }
 
 /// The newest block queued for a place, else the one that stands there.
-pub(crate) fn newest_in(queue: &Option<HeapCircularBuffer<Write>>, at: u64, standing: Block) -> Block
+pub(crate) fn newest_in(
+    queue: &Option<HeapCircularBuffer<Write>>,
+    at: u64,
+    standing: Block,
+) -> Block
     ensures { result ≡ newest_over standing (queued_in queue.now) at }
 {
     match queue {
@@ -30,7 +34,11 @@ pub(crate) fn newest_in(queue: &Option<HeapCircularBuffer<Write>>, at: u64, stan
 }
 
 /// Queues a write. Where the queue is full, its oldest is applied first.
-pub(crate) fn push_in(image: &mut [Block], queue: &mut Option<HeapCircularBuffer<Write>>, write: Write)
+pub(crate) fn push_in(
+    image: &mut [Block],
+    queue: &mut Option<HeapCircularBuffer<Write>>,
+    write: Write,
+)
     requires placed { All (λ w. w.at < length image.old) (queued_in queue.old) }
     requires room { 0 < room_in queue.old }
     ensures image { image.new ≡ applied image.old (take (surplus_in queue.old) (queued_in queue.old)) }
@@ -68,7 +76,11 @@ pub(crate) fn apply_all_in(image: &mut [Block], queue: &mut Option<HeapCircularB
 }
 
 /// Leaves the image that the pick gives, and empties the queue.
-pub(crate) fn leave_in(image: &mut [Block], queue: &mut Option<HeapCircularBuffer<Write>>, pick: u64)
+pub(crate) fn leave_in(
+    image: &mut [Block],
+    queue: &mut Option<HeapCircularBuffer<Write>>,
+    pick: u64,
+)
     requires { All (λ w. w.at < length image.old) (queued_in queue.old) }
     ensures image { image.new ≡ picked pick image.old (queued_in queue.old) }
     ensures queue { queued_in queue.new ≡ [] }

@@ -133,7 +133,11 @@ impl Nvm for MemNvm {
     }
 
     fn write(&mut self, at: u64, block: &Block) -> Result<(), NvmError> {
-        push_in(&mut self.image, &mut self.queue, Write { at, block: *block });
+        push_in(
+            &mut self.image,
+            &mut self.queue,
+            Write { at, block: *block },
+        );
         Ok(())
     }
 

@@ -1,4 +1,4 @@
-use Rattle.std.proofs.Common.{◌≡◌, ◌++◌, take, drop, length}
+use Rattle.std.proofs.Common.{◌≡◌, ◌++◌, take, drop}
 use Rattle.thy_nvm.specs.Pick.{drawn}
 use Rattle.thy_nvm.proofs.pick.draw_places.Given as goal
 

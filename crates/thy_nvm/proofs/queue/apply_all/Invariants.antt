@@ -6,4 +6,5 @@ use Rattle.thy_nvm.proofs.queue.apply_all.Given as goal
 abbrev pub invariant-loop-write : goal.invariant-loop-write
 invariant-loop-write l = record {
   same : applied l.image l.write-iterator ≡ applied l.initial.image l.queue.items;
-  placed : All (λ (w : Write). w.at < length l.image) l.write-iterator }
+  placed : All (λ (w : Write). w.at < length l.image) l.write-iterator;
+}
