@@ -1,0 +1,9 @@
+//! A memory with a queue of writes, which forgets what it holds when its power is cut. It reads as a
+//! list of blocks without a queue.
+#![tactic(auto)]
+
+mod dram;
+mod draws;
+mod queue;
+
+pub use dram::Dram;
