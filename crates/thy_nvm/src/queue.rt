@@ -1,7 +1,8 @@
 //! A queue of writes over an image.
-ghost use Rattle.std.specs.Prelude.{◌≡◌, ◌<◌, ◌≤◌, ℕ, ◌++◌, [], ◌∷◌, length, slice_set, take, drop, All, nat_lt, if◌then◌else◌};
+ghost use Rattle.std.specs.Prelude.{◌≡◌, ◌<◌, ◌≤◌, ℕ, ◌++◌, [], ◌∷◌, length, slice_set, take, drop, All};
 ghost use Rattle.circular_buffer.specs.Buffer.{buffer};
-ghost use Rattle.thy_base.specs.Device.{newest_over, applied, write_of};
+ghost use Rattle.thy_base.specs.Device.{newest_over, applied};
+ghost use Rattle.thy_nvm.specs.Memory.{surplus_in};
 
 use circular_buffer::HeapCircularBuffer;
 use thy_base::{Block, Write};
@@ -52,8 +53,8 @@ pub(crate) fn apply_oldest(image: &mut [Block], queue: &mut HeapCircularBuffer<W
 pub(crate) fn make_room(image: &mut [Block], queue: &mut HeapCircularBuffer<Write>)
     requires placed { All (λ w. w.at < length image.old) queue.old.items }
     requires room { 0 < queue.old.capacity }
-    ensures image { image.new ≡ applied image.old (take (if nat_lt (length queue.old.items) queue.old.capacity then 0 else 1) queue.old.items) }
-    ensures queue { queue.new ≡ buffer (drop (if nat_lt (length queue.old.items) queue.old.capacity then 0 else 1) queue.old.items) queue.old.capacity }
+    ensures image { image.new ≡ applied image.old (take (surplus_in (Some queue.old)) queue.old.items) }
+    ensures queue { queue.new ≡ buffer (drop (surplus_in (Some queue.old)) queue.old.items) queue.old.capacity }
     ensures room { length queue.new.items < queue.new.capacity }
 {
     if queue.len() >= queue.capacity() {
@@ -65,8 +66,8 @@ pub(crate) fn make_room(image: &mut [Block], queue: &mut HeapCircularBuffer<Writ
 pub(crate) fn push_write(image: &mut [Block], queue: &mut HeapCircularBuffer<Write>, write: Write)
     requires placed { All (λ w. w.at < length image.old) queue.old.items }
     requires room { 0 < queue.old.capacity }
-    ensures image { image.new ≡ applied image.old (take (if nat_lt (length queue.old.items) queue.old.capacity then 0 else 1) queue.old.items) }
-    ensures queue { queue.new ≡ buffer (drop (if nat_lt (length queue.old.items) queue.old.capacity then 0 else 1) queue.old.items ++ write ∷ []) queue.old.capacity }
+    ensures image { image.new ≡ applied image.old (take (surplus_in (Some queue.old)) queue.old.items) }
+    ensures queue { queue.new ≡ buffer (drop (surplus_in (Some queue.old)) queue.old.items ++ write ∷ []) queue.old.capacity }
 {
     make_room(image, queue);
     let _ = queue.push_back(write);
