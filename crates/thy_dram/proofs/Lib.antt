@@ -1,0 +1,2 @@
+pub mod DramLemmas
+pub mod DrawLemmas

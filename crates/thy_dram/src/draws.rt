@@ -1,0 +1,37 @@
+//! Bytes drawn from a seed.
+ghost use Rattle.std.specs.Prelude.{◌≡◌, ℕ, List};
+ghost use Rattle.thy_dram.specs.Draws.{bytes_over, after_bytes, drawn_block, after_block, blocks_over};
+
+use thy_base::{Block, Lcg};
+
+/// Writes over each byte the low 8 bits of one draw.
+#[tactic(auto, unfolding(crate::specs::Draws::bytes_over, crate::specs::Draws::after_bytes))]
+fn fill_bytes(bytes: &mut [u8], draws: &mut Lcg)
+    ensures bytes { bytes.new ≡ bytes_over draws.old bytes.old }
+    ensures draws { draws.new ≡ after_bytes draws.old bytes.old }
+{
+    for byte in bytes.iter_mut() {
+        *byte = (draws.next() % 256) as u8;
+    }
+}
+
+/// A block of drawn bytes.
+#[tactic(auto, unfolding(crate::specs::Draws::drawn_block, crate::specs::Draws::after_block))]
+fn next_block(draws: &mut Lcg) -> Block
+    ensures block { result ≡ drawn_block draws.old }
+    ensures draws { draws.new ≡ after_block draws.old }
+{
+    let mut bytes = [0; 64];
+    fill_bytes(&mut bytes, draws);
+    Block(bytes)
+}
+
+/// Writes over each block, in order, drawn bytes.
+pub(crate) fn fill_blocks(image: &mut [Block], seed: u64)
+    ensures { image.new ≡ blocks_over seed image.old }
+{
+    let mut draws = Lcg::new(seed);
+    for block in image.iter_mut() {
+        *block = next_block(&mut draws);
+    }
+}
