@@ -42,13 +42,13 @@ pub record Stock : Type 0 where
   pub held : Option Files
   pub faults : ℕ
 
--- A fetch by what is held: these bytes within the limit, or nothing, or bytes past the limit.
-abbrev pub Fetched : Files → List ℕ → ℕ → Result (Vec ℕ Global) FetchError → Type 0
-Fetched files name limit (Ok bytes) = (files name ≡ Some bytes.items) × (length bytes.items ≤ limit)
-Fetched files name limit (Err NotThere) = files name ≡ None
-Fetched files name limit (Err TooLong) = (bytes : List ℕ) × (files name ≡ Some bytes) × (limit < length bytes)
-Fetched files name limit (Err Failed) = Unit {0}
-Fetched files name limit (Err (Memory e)) = Unit {0}
+-- A fetch by what stands under the name: these bytes within the limit, or nothing, or bytes past the limit.
+abbrev pub Fetched : Option (List ℕ) → ℕ → Result (Vec ℕ Global) FetchError → Type 0
+Fetched there limit (Ok bytes) = (there ≡ Some bytes.items) × (length bytes.items ≤ limit)
+Fetched there limit (Err NotThere) = there ≡ None
+Fetched there limit (Err TooLong) = (bytes : List ℕ) × (there ≡ Some bytes) × (limit < length bytes)
+Fetched there limit (Err Failed) = Unit {0}
+Fetched there limit (Err (Memory e)) = Unit {0}
 
 -- A fetch and the count: Failed raises it. A shelf that tells raises it by nothing else, and one that
 -- does not tell raises it with every answer but bytes and want of memory.

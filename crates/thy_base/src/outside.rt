@@ -47,7 +47,7 @@ pub trait Shelf {
     /// `Failed` and `Memory` aside. It changes nothing that is held.
     fn fetch(&mut self, alloc: Global, name: &str, limit: u64) -> Result<Vec<u8>, FetchError>
         ensures keeps { (stock self.new).held ≡ (stock self.old).held }
-        ensures answer { (files : Files) → (stock self.old).held ≡ Some files → Fetched files name.now limit result }
+        ensures answer { (files : Files) → (stock self.old).held ≡ Some files → Fetched (files name.now) limit result }
         ensures faults { FetchCounts (stock self.old) (stock self.new) result };
 
     /// Makes `name` hold these bytes. No other name changes, whatever the answer.

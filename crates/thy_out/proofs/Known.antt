@@ -1,0 +1,54 @@
+-- What a writer of std holds, as what a sink has taken.
+use Rattle.std.proofs.Common.{◌≡◌, ℕ, ◌+◌, ◌<◌, Err, IfSome, length-append, refl, List, ◌++◌, take, drop, length, ◌-◌, length-drop, arith, Option, Some, None, ap, subst, sym, ◌∙◌, append_assoc}
+use Rattle.std.proofs.Math.Seq.{take-add}
+use Rattle.std.proofs.lemmas.List.{take_all}
+use Rattle.std.specs.Io.KnownBytes.{Keeps, Appends, Consumes}
+use Rattle.thy_base.specs.Outside.{Grew, Fetched}
+use Rattle.thy_base.specs.declared.outside.FetchError.TheVariants.{TooLong}
+
+-- known bytes with more behind them
+pub Appends-told : (b c : Option (List ℕ)) (known more : List ℕ) → b ≡ Some known → Appends b c more → c ≡ Some (known ++ more)
+Appends-told None c known more told h = cc
+Appends-told (Some x) None known more told h = absurd h
+Appends-told (Some x) (Some y) known more told h = cc
+
+-- known bytes that stay
+pub Keeps-told : (b c : Option (List ℕ)) (known : List ℕ) → b ≡ Some known → Keeps b c → c ≡ Some known
+Keeps-told None c known told h = cc
+Keeps-told (Some x) None known told h = absurd h
+Keeps-told (Some x) (Some y) known told h = cc
+
+-- some bytes came, then more
+pub Grew-appends : (a b c : Option (List ℕ)) (some more : List ℕ) → Grew a b some → Appends b c more → Grew a c (some ++ more)
+Grew-appends a b c some more grew h = λ had e.
+    Appends-told b c (had ++ some) more (grew had e) h ∙ ap Some (append_assoc had some more)
+
+-- some bytes came, then none
+pub Grew-keeps : (a b c : Option (List ℕ)) (some : List ℕ) → Grew a b some → Keeps b c → Grew a c some
+Grew-keeps a b c some grew h = λ had e. Keeps-told b c (had ++ some) (grew had e) h
+
+-- the rest of a piece, as code slices it
+pub take-rest : (piece : List ℕ) (done : ℕ) → take (length piece - done) (drop done piece) ≡ drop done piece
+take-rest piece done = take_all (length piece - done) (drop done piece) (omega (arith, length-drop done piece))
+
+-- the first bytes of a piece came, then the first of the rest
+pub Grew-take : (a b c : Option (List ℕ)) (piece : List ℕ) (done more sum : ℕ) → sum ≡ done + more → Grew a b (take done piece) → Appends b c (take more (take (length piece - done) (drop done piece))) → Grew a c (take sum piece)
+Grew-take a b c piece done more sum e grew h =
+    let all : take sum piece ≡ take done piece ++ take more (drop done piece) = ap (λ n. take n piece) e ∙ take-add done more piece in
+    let come : Appends b c (take more (drop done piece)) = subst (λ (bytes : List ℕ). Appends b c (take more bytes)) (take-rest piece done) h in
+    subst (λ (bytes : List ℕ). Grew a c bytes) (sym all) (Grew-appends a b c (take done piece) (take more (drop done piece)) grew come)
+
+-- more bytes were read than the limit
+pub Consumes-long : (old new : Option (List ℕ)) (bytes : List ℕ) (limit : ℕ) → Consumes old new bytes → limit < length bytes → IfSome old (λ there. Fetched (Some there) limit (Err TooLong))
+Consumes-long None new bytes limit read long = tt
+Consumes-long (Some there) None bytes limit read long = absurd read
+Consumes-long (Some there) (Some left) bytes limit read long =
+    (there, refl, omega (arith, ap length read, length-append bytes left))
+
+-- some bytes were read, then more
+pub Consumes-append : (a b c : Option (List ℕ)) (some more : List ℕ) → Consumes a b some → Consumes b c more → Consumes a c (some ++ more)
+Consumes-append None b c some more one two = tt
+Consumes-append (Some x) None c some more one two = absurd one
+Consumes-append (Some x) (Some y) None some more one two = absurd two
+Consumes-append (Some x) (Some y) (Some z) some more one two =
+    one ∙ ap (λ l. some ++ l) two ∙ sym (append_assoc some more z)

@@ -1,0 +1,10 @@
+use Rattle.std.proofs.Common.{arith}
+use Rattle.std.proofs.lemmas.Grind.{common_steps}
+use Rattle.thy_base.proofs.Streams.{Grew-some, TookPart-take}
+use Rattle.thy_out.proofs.mem_sink.MemSinkSink.write.Goals as goal
+
+pub returns-then-fitting-piece-clause-failed : goal.returns-then-fitting-piece-clause-failed
+returns-then-fitting-piece-clause-failed c =
+    TookPart-take _ _ _ c.min-fitting.result
+    (Grew-some _ _ _ (grind (arith, common_steps, c.unwrap.ensures, c.extend_from_slice.ensures.items)))
+    (record { no_less = grind (arith, common_steps); more = grind (arith, common_steps) })

@@ -1,0 +1,14 @@
+//! Shelves and sinks: in memory, with calls that can be made to fail, and over files and streams.
+#![tactic(auto)]
+
+mod file_shelf;
+mod mem_shelf;
+mod mem_sink;
+mod std_sink;
+#[cfg(test)]
+mod tests;
+
+pub use file_shelf::FileShelf;
+pub use mem_shelf::MemShelf;
+pub use mem_sink::MemSink;
+pub use std_sink::StdSink;

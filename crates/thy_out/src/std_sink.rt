@@ -1,0 +1,74 @@
+//! A sink over a writer.
+ghost use Rattle.std.specs.Prelude.{◌≡◌, ◌≤◌, length, take, None, OnOk, OnErr};
+ghost use Rattle.thy_base.specs.Outside.{Grew, Took, TookPart};
+
+use std::io::{ErrorKind, Stderr, Stdout, Write};
+use thy_base::{Sink, SinkError};
+
+/// Writes each piece through at once, so that nothing is left behind when the program ends. It tells
+/// what it took where its writer tells what it holds.
+#[derive(Drop)]
+pub struct StdSink<W> {
+    to: W,
+    faults: u64,
+}
+
+impl StdSink<Stdout> {
+    /// Standard output.
+    pub fn output(to: Stdout) -> StdSink<Stdout>
+        ensures { ⟦<StdSink<Stdout> as Sink>⟧.stream result ≡ record { taken = None; faults = 0 } }
+    {
+        StdSink { to, faults: 0 }
+    }
+}
+
+impl StdSink<Stderr> {
+    /// Standard error.
+    pub fn error(to: Stderr) -> StdSink<Stderr>
+        ensures { ⟦<StdSink<Stderr> as Sink>⟧.stream result ≡ record { taken = None; faults = 0 } }
+    {
+        StdSink { to, faults: 0 }
+    }
+}
+
+/// Writes until the piece is taken or the writer fails. Answers how many bytes were taken.
+fn write_on<W: Write>(to: &mut W, piece: &[u8]) -> usize
+    ensures within { result ≤ length piece.now }
+    ensures taken { Grew (W.contents to.old) (W.contents to.new) (take result piece.now) }
+{
+    let mut done = 0;
+    for _ in 0..u64::MAX {
+        if done == piece.len() {
+            break;
+        }
+        match to.write(&piece[done..]) {
+            Ok(0) => break,
+            Ok(taken) => done += taken,
+            Err(error) => {
+                if error.kind() != ErrorKind::Interrupted {
+                    break;
+                }
+            }
+        }
+    }
+    done
+}
+
+impl<W: Write> Sink for StdSink<W> {
+    ghost stream = { λ s. record { taken = W.contents s.to; faults = s.faults } };
+
+    fn write(&mut self, piece: &[u8]) -> Result<(), SinkError> {
+        let taken = write_on(&mut self.to, piece);
+        if taken < piece.len() {
+            self.faults = self.faults.saturating_add(1);
+            return Err(SinkError::Failed);
+        }
+        match self.to.flush() {
+            Ok(()) => Ok(()),
+            Err(_) => {
+                self.faults = self.faults.saturating_add(1);
+                Err(SinkError::Failed)
+            }
+        }
+    }
+}

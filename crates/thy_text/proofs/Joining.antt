@@ -1,0 +1,24 @@
+-- Parts that are taken one after another.
+use Rattle.std.proofs.Common.{◌≡◌, ℕ, ◌+◌, ◌<◌, List, [], ◌∷◌, ◌++◌, map, take, drop, length, get_or, refl, sym, ap, ◌∙◌, append_assoc, append-nil}
+use Rattle.std.proofs.lemmas.List.{take-append-drop, take_more, map-append}
+use Rattle.thy_text.specs.Lines.{joined}
+
+-- the parts of two lists
+pub joined-append : (xs ys : List (List ℕ)) → joined (xs ++ ys) ≡ joined xs ++ joined ys
+joined-append [] ys = refl
+joined-append (x ∷ xs) ys = ap (λ l. x ++ l) (joined-append xs ys) ∙ sym (append_assoc x (joined xs) (joined ys))
+
+-- one more of the texts that a list's elements stand for
+pub joined-take-more : {X : Type 0} (f : X → List ℕ) (xs : List X) (i : ℕ) (d : X) → i < length xs → joined (map f (take (i + 1) xs)) ≡ joined (map f (take i xs)) ++ f (get_or xs i d)
+joined-take-more f xs i d h =
+    ap (λ l. joined (map f l)) (take_more xs i d h)
+    ∙ ap joined (map-append f (take i xs) (get_or xs i d ∷ []))
+    ∙ joined-append (map f (take i xs)) (f (get_or xs i d) ∷ [])
+    ∙ ap (λ l. joined (map f (take i xs)) ++ l) (append-nil (f (get_or xs i d)))
+
+-- the first of them, and the rest
+pub joined-split : {X : Type 0} (f : X → List ℕ) (xs : List X) (i : ℕ) → joined (map f xs) ≡ joined (map f (take i xs)) ++ joined (map f (drop i xs))
+joined-split f xs i =
+    ap (λ l. joined (map f l)) (sym (take-append-drop i xs))
+    ∙ ap joined (map-append f (take i xs) (drop i xs))
+    ∙ joined-append (map f (take i xs)) (map f (drop i xs))

@@ -1,0 +1,21 @@
+-- A sink that takes the texts of a list's elements, one after another.
+use Rattle.std.proofs.Common.{ℕ, ◌+◌, ◌<◌, List, map, take, drop, length, get_or, sym, subst}
+use Rattle.thy_base.specs.Outside.{Stream, Took, TookPart}
+use Rattle.thy_base.proofs.Streams.{Took-append, TookPart-append, TookPart-more}
+use Rattle.thy_text.specs.Lines.{joined}
+use Rattle.thy_text.proofs.Joining.{joined-take-more, joined-split}
+
+-- it took one more
+pub Took-more : {X : Type 0} (f : X → List ℕ) (xs : List X) (i : ℕ) (d : X) (a b c : Stream) → i < length xs → Took a b (joined (map f (take i xs))) → Took b c (f (get_or xs i d)) → Took a c (joined (map f (take (i + 1) xs)))
+Took-more f xs i d a b c h before now =
+    subst (λ (bytes : List ℕ). Took a c bytes) (sym (joined-take-more f xs i d h))
+    (Took-append a b c (joined (map f (take i xs))) (f (get_or xs i d)) before now)
+
+-- it failed at one
+pub TookPart-at : {X : Type 0} (f : X → List ℕ) (xs : List X) (i : ℕ) (d : X) (a b c : Stream) → i < length xs → Took a b (joined (map f (take i xs))) → TookPart b c (f (get_or xs i d)) → TookPart a c (joined (map f xs))
+TookPart-at f xs i d a b c h before now =
+    let here : TookPart a c (joined (map f (take (i + 1) xs))) =
+    subst (λ (bytes : List ℕ). TookPart a c bytes) (sym (joined-take-more f xs i d h))
+    (TookPart-append a b c (joined (map f (take i xs))) (f (get_or xs i d)) before now) in
+    subst (λ (bytes : List ℕ). TookPart a c bytes) (sym (joined-split f xs (i + 1)))
+    (TookPart-more a c (joined (map f (take (i + 1) xs))) (joined (map f (drop (i + 1) xs))) here)

@@ -1,0 +1,19 @@
+-- What happens in a run, with the states of the plain machine.
+use Rattle.std.specs.Prelude.{ℕ}
+use Rattle.thy_base.specs.declared.cause.EndCause.{EndCause}
+use Rattle.thy_isa.specs.declared.state.Status.{Status}
+use Rattle.thy_isa.specs.Step.{State}
+
+pub data Happening : Type 0 where
+  -- this epoch was sealed at this count of instructions, for this cause
+  EpochEnd : (epoch count : ℕ) (cause : EndCause) → Happening
+  -- the sealed checkpoint of this epoch was committed in this cycle; so many instructions retired meanwhile
+  Commit : (epoch cycle overlapped : ℕ) → Happening
+  -- power was cut for this time, counted from 1, after this cycle
+  Cut : (index cycle : ℕ) → Happening
+  -- the run went on from the checkpoint of this epoch, whose state has this count
+  Restart : (epoch count : ℕ) (state : State) → Happening
+  -- no checkpoint was there, and the file is loaded again
+  Reload : Happening
+  -- the program is over, by the committed checkpoint of this count
+  Ended : (status : Status) (count cycle : ℕ) (state : State) → Happening

@@ -1,0 +1,7 @@
+pub mod Closings
+pub mod Happening
+pub mod Lines
+pub mod Marks
+pub mod Pieces
+pub mod Released
+pub mod Seen

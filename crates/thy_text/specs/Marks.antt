@@ -1,0 +1,88 @@
+-- The checkpoints that events tell of, and the events that may come after others.
+use Rattle.std.specs.Prelude.{◌≡◌, ◌≢◌, ◌⊎◌, ℕ, ◌+◌, ◌<◌, ◌≤◌, true, false, List, [], ◌∷◌, Option, Some, None}
+use Rattle.thy_base.specs.declared.cause.EndCause.{EndCause}
+use Rattle.thy_base.specs.declared.cause.EndCause.TheVariants.{Length, Exhausted, Ended as EndedCause}
+use Rattle.thy_isa.specs.Step.{State, is_running}
+use Rattle.thy_text.specs.Happening.{Happening, EpochEnd, Commit, Cut, Restart, Reload, Ended}
+
+-- a checkpoint: its epoch, and the instructions that its state has retired
+pub record Mark : Type 0 where
+  pub epoch : ℕ
+  pub count : ℕ
+
+abbrev pub mark : ℕ → ℕ → Mark
+mark epoch count = record { epoch = epoch; count = count }
+
+-- the checkpoint that is committed, and the one that is sealed and may be
+pub record Marks : Type 0 where
+  pub kept : Option Mark
+  pub sealed : Option Mark
+
+-- while the file is loaded: nothing is committed, and the start is sealed as epoch 0
+abbrev pub loading_marks : ℕ → Marks
+loading_marks start = record { kept = None; sealed = Some (mark 0 start) }
+
+-- what an event makes of the marks; `start` is the count at which the run starts
+abbrev pub marks_after : ℕ → Marks → Happening → Marks
+marks_after start m (EpochEnd epoch count cause) = record m { sealed = Some (mark epoch count) }
+marks_after start m (Commit epoch cycle overlapped) = record { kept = m.sealed; sealed = None }
+marks_after start m (Cut index cycle) = m
+marks_after start m (Restart epoch count state) = record { kept = Some (mark epoch count); sealed = None }
+marks_after start m Reload = loading_marks start
+marks_after start m (Ended status count cycle state) = m
+
+-- what events make of the marks
+abbrev pub marks_from : ℕ → Marks → List Happening → Marks
+marks_from start m [] = m
+marks_from start m (v ∷ vs) = marks_from start (marks_after start m v) vs
+
+-- What events are held against: the plain machine's state at each count, the count at which the run
+-- starts, and the instructions of an epoch.
+pub record Course : Type 0 where
+  pub at : ℕ → State
+  pub start : ℕ
+  pub epoch : ℕ
+
+-- the cause of an epoch's end at a count, where the epoch began after `last` instructions
+abbrev pub FitsCause : Course → ℕ → ℕ → EndCause → Type 0
+FitsCause c last count EndedCause = is_running (c.at count).status ≡ false
+FitsCause c last count Length = (is_running (c.at count).status ≡ true) × (count ≡ last + c.epoch)
+FitsCause c last count (Exhausted free dirty need) =
+    (is_running (c.at count).status ≡ true) × (count ≢ last + c.epoch) × (free < dirty + need) × (1 ≤ need) × (need ≤ 2)
+
+-- an epoch ends: nothing else is sealed, and it follows the committed one
+pub record EndsEpoch (c : Course) (m : Marks) (epoch count : ℕ) (cause : EndCause) : Type 0 where
+  pub before : ℕ
+  pub last : ℕ
+  pub follows : epoch ≡ before + 1
+  pub kept : m.kept ≡ Some (mark before last)
+  pub alone : m.sealed ≡ None
+  pub from : last ≤ count
+  pub to : count ≤ last + c.epoch
+  pub fits : FitsCause c last count cause
+
+-- a run goes on from one of the two checkpoints, with the plain machine's state
+pub record Restarts (c : Course) (m : Marks) (epoch count : ℕ) (state : State) : Type 0 where
+  pub marked : (m.kept ≡ Some (mark epoch count)) ⊎ (m.sealed ≡ Some (mark epoch count))
+  pub whole : state ≡ c.at count
+
+-- the program ended: the committed checkpoint has the plain machine's last state
+pub record EndsRun (c : Course) (m : Marks) (count : ℕ) (state : State) : Type 0 where
+  pub epoch : ℕ
+  pub kept : m.kept ≡ Some (mark epoch count)
+  pub whole : state ≡ c.at count
+  pub over : is_running state.status ≡ false
+
+-- an event may come where the events before it left these marks
+abbrev pub Lawful : Course → Marks → Happening → Type 0
+Lawful c m (EpochEnd epoch count cause) = EndsEpoch c m epoch count cause
+Lawful c m (Commit epoch cycle overlapped) = (count : ℕ) × (m.sealed ≡ Some (mark epoch count))
+Lawful c m (Cut index cycle) = Unit {0}
+Lawful c m (Restart epoch count state) = Restarts c m epoch count state
+Lawful c m Reload = m.kept ≡ None
+Lawful c m (Ended status count cycle state) = EndsRun c m count state × (status ≡ state.status)
+
+-- each event is lawful after those before it
+abbrev pub AllLawful : Course → Marks → List Happening → Type 0
+AllLawful c m [] = Unit {0}
+AllLawful c m (v ∷ vs) = Lawful c m v × AllLawful c (marks_after c.start m v) vs

@@ -1,0 +1,24 @@
+-- What the terminal has of the console.
+use Rattle.std.specs.Prelude.{ℕ, Bool, true, false, if◌then◌else◌, List, [], Option, Some, None}
+use Rattle.std.specs.List.{list_any}
+use Rattle.thy_text.specs.Happening.{Happening, EpochEnd, Commit, Cut, Restart, Reload, Ended}
+use Rattle.thy_text.specs.Marks.{Mark, Marks, marks_from}
+
+-- an event after which a committed state is known
+abbrev pub shows : Happening → Bool
+shows (EpochEnd epoch count cause) = false
+shows (Commit epoch cycle overlapped) = true
+shows (Cut index cycle) = false
+shows (Restart epoch count state) = true
+shows Reload = false
+shows (Ended status count cycle state) = false
+
+-- the console at a mark
+abbrev pub console_of : (ℕ → List ℕ) → Option Mark → List ℕ
+console_of console_at None = []
+console_of console_at (Some m) = console_at m.count
+
+-- the console of the committed state, once an event has told of one
+abbrev pub released : (ℕ → List ℕ) → ℕ → Marks → List Happening → List ℕ
+released console_at start m vs =
+    if list_any shows vs then console_of console_at (marks_from start m vs).kept else []

@@ -1,0 +1,171 @@
+//! The last line of a report.
+ghost use Rattle.std.specs.Prelude.{◌≡◌, ◌∷◌, [], OnOk, OnErr, codes};
+ghost use Rattle.std.specs.Fmt.{decimal};
+ghost use Rattle.thy_base.specs.Outside.{Took, TookPart};
+ghost use Rattle.thy_text.specs.Closings.{closing_of, fault_text, field_name};
+ghost use Rattle.thy_text.specs.Lines.{joined, line_feed};
+
+use crate::piece::{Piece, write_pieces};
+use thy_base::{Field, Sink, SinkError};
+
+/// Why the bytes under a name were not had.
+#[derive(Clone, Copy, Debug, PartialEq, Eq)]
+pub enum FetchFault {
+    Failed,
+    /// Nothing is there.
+    Missing,
+    /// More bytes are there than are taken.
+    TooLong,
+}
+
+/// How a run's report closes.
+#[derive(Clone, Copy, Debug, PartialEq, Eq)]
+pub enum Closing<'a> {
+    /// No line: the last event says how the program ended, or the report failed.
+    Silent,
+    /// The words are no command line.
+    Usage,
+    /// The value of an option can't be read.
+    Word(Field),
+    /// The value of an option is out of its range.
+    Value(Field, u64),
+    /// The bytes under a name were not had.
+    Fetch(&'a str, FetchFault),
+    /// The file is refused: the refusal's number and name.
+    File(u64, &'a str),
+    /// The same, with the number of the program header at fault.
+    FileAt(u64, &'a str, u64),
+    /// The terminal failed.
+    Terminal,
+    /// The device failed.
+    Nvm,
+    /// So many cycles are done, and the run has not ended.
+    Limit(u64),
+    /// There was not enough memory.
+    Memory,
+}
+
+/// A field's name, as the options have it.
+pub fn field_text(field: Field) -> &'static str
+    ensures { result.now ≡ field_name field }
+{
+    match field {
+        Field::Base => "base",
+        Field::Pages => "pages",
+        Field::Console => "console",
+        Field::Epoch => "epoch",
+        Field::Btt => "btt",
+        Field::Ptt => "ptt",
+        Field::Sets => "sets",
+        Field::Ways => "ways",
+        Field::Nvmq => "nvmq",
+        Field::Dramq => "dramq",
+        Field::High => "high",
+        Field::Low => "low",
+        Field::Mix => "mix",
+        Field::Cuts => "cuts",
+        Field::Tears => "tears",
+        Field::Limit => "limit",
+        Field::N => "n",
+    }
+}
+
+/// Writes the closing line in pieces, none of them empty. On an error the sink has taken only the
+/// first part of the line. Takes no memory.
+pub fn write_closing<R: Sink>(closing: Closing, report: &mut R) -> Result<(), SinkError>
+    ensures whole { OnOk result (Took (R.stream report.old) (R.stream report.new) (closing_of closing.entry)) }
+    ensures failed { OnErr result (TookPart (R.stream report.old) (R.stream report.new) (closing_of closing.entry)) }
+{
+    let end = Piece::Text("\n");
+    match closing {
+        Closing::Silent => Ok(()),
+        Closing::Usage => write_pieces(&[Piece::Text("usage"), end], report),
+        Closing::Word(field) => write_pieces(
+            &[Piece::Text("word "), Piece::Text(field_text(field)), end],
+            report,
+        ),
+        Closing::Value(field, value) => write_value(field, value, report),
+        Closing::Fetch(name, fault) => write_fetch(name, fault, report),
+        Closing::File(number, name) => write_file(number, name, report),
+        Closing::FileAt(number, name, k) => write_file_at(number, name, k, report),
+        Closing::Terminal => write_pieces(&[Piece::Text("terminal failed"), end], report),
+        Closing::Nvm => write_pieces(&[Piece::Text("nvm failed"), end], report),
+        Closing::Limit(limit) => write_pieces(
+            &[Piece::Text("limit "), Piece::Number(limit), end],
+            report,
+        ),
+        Closing::Memory => write_pieces(&[Piece::Text("memory"), end], report),
+    }
+}
+
+/// Writes the line of a value out of its range.
+fn write_value<R: Sink>(field: Field, value: u64, report: &mut R) -> Result<(), SinkError>
+    ensures whole { OnOk result (Took (R.stream report.old) (R.stream report.new) (joined (codes "value " ∷ field_name field ∷ codes " " ∷ decimal value ∷ line_feed ∷ []))) }
+    ensures failed { OnErr result (TookPart (R.stream report.old) (R.stream report.new) (joined (codes "value " ∷ field_name field ∷ codes " " ∷ decimal value ∷ line_feed ∷ []))) }
+{
+    let pieces = [
+        Piece::Text("value "),
+        Piece::Text(field_text(field)),
+        Piece::Text(" "),
+        Piece::Number(value),
+        Piece::Text("\n"),
+    ];
+    write_pieces(&pieces, report)
+}
+
+/// Why bytes were not had, in words.
+fn fault_words(fault: FetchFault) -> &'static str
+    ensures { result.now ≡ fault_text fault }
+{
+    match fault {
+        FetchFault::Failed => " failed",
+        FetchFault::Missing => " missing",
+        FetchFault::TooLong => " too long",
+    }
+}
+
+/// Writes the line of bytes that were not had.
+fn write_fetch<R: Sink>(name: &str, fault: FetchFault, report: &mut R) -> Result<(), SinkError>
+    ensures whole { OnOk result (Took (R.stream report.old) (R.stream report.new) (joined (codes "fetch " ∷ name.now ∷ fault_text fault ∷ line_feed ∷ []))) }
+    ensures failed { OnErr result (TookPart (R.stream report.old) (R.stream report.new) (joined (codes "fetch " ∷ name.now ∷ fault_text fault ∷ line_feed ∷ []))) }
+{
+    let pieces = [
+        Piece::Text("fetch "),
+        Piece::Text(name),
+        Piece::Text(fault_words(fault)),
+        Piece::Text("\n"),
+    ];
+    write_pieces(&pieces, report)
+}
+
+/// Writes the line of a refused file.
+fn write_file<R: Sink>(number: u64, name: &str, report: &mut R) -> Result<(), SinkError>
+    ensures whole { OnOk result (Took (R.stream report.old) (R.stream report.new) (joined (codes "file " ∷ decimal number ∷ codes " " ∷ name.now ∷ line_feed ∷ []))) }
+    ensures failed { OnErr result (TookPart (R.stream report.old) (R.stream report.new) (joined (codes "file " ∷ decimal number ∷ codes " " ∷ name.now ∷ line_feed ∷ []))) }
+{
+    let pieces = [
+        Piece::Text("file "),
+        Piece::Number(number),
+        Piece::Text(" "),
+        Piece::Text(name),
+        Piece::Text("\n"),
+    ];
+    write_pieces(&pieces, report)
+}
+
+/// Writes the line of a file that is refused for a program header.
+fn write_file_at<R: Sink>(number: u64, name: &str, k: u64, report: &mut R) -> Result<(), SinkError>
+    ensures whole { OnOk result (Took (R.stream report.old) (R.stream report.new) (joined (codes "file " ∷ decimal number ∷ codes " " ∷ name.now ∷ codes " " ∷ decimal k ∷ line_feed ∷ []))) }
+    ensures failed { OnErr result (TookPart (R.stream report.old) (R.stream report.new) (joined (codes "file " ∷ decimal number ∷ codes " " ∷ name.now ∷ codes " " ∷ decimal k ∷ line_feed ∷ []))) }
+{
+    let pieces = [
+        Piece::Text("file "),
+        Piece::Number(number),
+        Piece::Text(" "),
+        Piece::Text(name),
+        Piece::Text(" "),
+        Piece::Number(k),
+        Piece::Text("\n"),
+    ];
+    write_pieces(&pieces, report)
+}

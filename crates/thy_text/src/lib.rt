@@ -1,0 +1,15 @@
+//! What happened in a run: its events, what they say of the checkpoints, and their lines in a report.
+#![tactic(auto)]
+
+mod closing;
+mod event;
+mod events;
+mod line;
+mod piece;
+#[cfg(test)]
+mod tests;
+
+pub use closing::{Closing, FetchFault, field_text, write_closing};
+pub use event::Event;
+pub use events::Events;
+pub use line::write_event;
