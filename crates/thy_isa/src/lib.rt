@@ -19,7 +19,7 @@ pub use decoding::decode;
 pub use environment::call;
 pub use finishing::{cause_number, fetch_fault, finish, is_inside, within};
 pub use instr::{Alu, Cond, Extend, Instr, Reg, Width};
-pub use memory::{number, put_number};
+pub use memory::{number, put_number, word};
 pub use perform::{bytes_in, effect, word_effect};
 pub use regs::Regs;
 pub use state::{Call, CallState, Cause, CpuState, Effect, MachState, Status};

@@ -22,7 +22,8 @@ pub fn number(bytes: &[u8], at: usize, width: Width) -> u64
     }
 }
 
-fn word(bytes: &[u8], at: usize) -> u32
+/// The word of 32 bits from index `at` on.
+pub fn word(bytes: &[u8], at: usize) -> u32
     requires { at + 4 ≤ length bytes.now }
     ensures { result ≡ number_at 4 bytes.now at }
 {

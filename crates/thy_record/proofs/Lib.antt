@@ -1,0 +1,5 @@
+pub mod WordLemmas
+pub mod CpuLemmas
+pub mod ReadBackLemmas
+pub mod DecodeLemmas
+pub mod FlatLemmas

@@ -1,0 +1,35 @@
+-- Words of a block that was made of words.
+use Rattle.std.proofs.Common.{◌≡◌, ℕ, zero, suc, ◌+◌, ◌*◌, ◌^◌, ◌<◌, List, [], ◌∷◌, ◌++◌, length, drop, slice_index, refl, sym, ◌∙◌, ap, arith}
+use Rattle.std.proofs.lemmas.List.{drop-drop}
+use Rattle.std.specs.List.{flat_map}
+use Rattle.byteorder.specs.Endian.{little_bytes, little_number}
+use Rattle.byteorder.specs.Numbers.{little_number-reads_back}
+use Rattle.thy_record.specs.Words.{word_of, block_of}
+
+-- the bytes of words from word i on
+drop-words : (ws : List ℕ) (i : ℕ) → i < length ws
+    → drop (8 * i) (flat_map (little_bytes 8) ws) ≡ little_bytes 8 (slice_index ws i) ++ flat_map (little_bytes 8) (drop (suc i) ws)
+drop-words [] i l = absurd (omega arith)
+drop-words (w ∷ ws) zero l = refl
+drop-words (w ∷ ws) (suc i) l =
+    let e : 8 * suc i ≡ 8 + 8 * i = omega arith in
+    ap (λ n. drop n (flat_map (little_bytes 8) (w ∷ ws))) e
+    ∙ sym (drop-drop (8 * i) 8 (flat_map (little_bytes 8) (w ∷ ws)))
+    ∙ drop-words ws i (omega arith)
+
+-- a word that was written reads back
+pub word_of-block_of : (ws : List ℕ) (i : ℕ) → i < length ws → slice_index ws i < 2 ^ 64 → word_of (block_of ws) i ≡ slice_index ws i
+unfolding word_of block_of
+word_of-block_of ws i l fits =
+    ap (little_number 8) (drop-words ws i l)
+    ∙ little_number-reads_back 8 (slice_index ws i) (flat_map (little_bytes 8) (drop (suc i) ws)) fits
+
+-- how many bytes words have
+length-words : (ws : List ℕ) → length (flat_map (little_bytes 8) ws) ≡ 8 * length ws
+length-words [] = refl
+length-words (w ∷ ws) = let e = length-words ws in omega (arith, e)
+
+-- a block of eight words has 64 bytes
+pub length-block_of : (ws : List ℕ) → length ws ≡ 8 → length (block_of ws).0 ≡ 64
+unfolding block_of
+length-block_of ws l = length-words ws ∙ ap (λ n. 8 * n) l

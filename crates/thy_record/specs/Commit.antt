@@ -1,0 +1,36 @@
+-- The commit block, block 1 of an image: the epoch of the committed checkpoint.
+use Rattle.std.specs.Prelude.{ℕ, Bool, ◌&&◌, ◌==◌, nat_lt, if◌then◌else◌, List, [], ◌∷◌, Option, Some, None, codes}
+use Rattle.std.specs.List.{list_all}
+use Rattle.byteorder.specs.Endian.{little_number}
+use Rattle.thy_base.specs.declared.block.Block.{Block}
+use Rattle.thy_record.specs.declared.image.BadImage.{BadImage}
+use Rattle.thy_record.specs.declared.image.BadImage.TheVariants.{Commit}
+use Rattle.thy_record.specs.Words.{word_of, block_of}
+
+-- the bytes THYNCMT1 as a number
+abbrev pub commit_magic : ℕ
+commit_magic = little_number 8 (codes "THYNCMT1")
+
+abbrev pub commit_words : ℕ → List ℕ
+commit_words epoch = commit_magic ∷ epoch ∷ 0 ∷ 0 ∷ 0 ∷ 0 ∷ 0 ∷ 0 ∷ []
+
+abbrev pub commit_of : ℕ → Block
+commit_of epoch = block_of (commit_words epoch)
+
+-- there is no checkpoint: every byte is zero
+unfoldable pub is_zero : Block → Bool
+is_zero b = list_all (λ byte. byte == 0) b.0
+
+-- the epoch that a commit block names
+abbrev pub epoch_of : Block → ℕ
+epoch_of b = word_of b 1
+
+-- the words after the epoch are zero
+abbrev pub has_zero_rest : Block → Bool
+has_zero_rest b =
+    (word_of b 2 == 0 && word_of b 3 == 0 && word_of b 4 == 0) && (word_of b 5 == 0 && word_of b 6 == 0 && word_of b 7 == 0)
+
+-- the fault of a commit block; epochs are below the ceiling
+unfoldable pub commit_fault : Block → ℕ → Option BadImage
+commit_fault b ceiling =
+    if (word_of b 0 == commit_magic && nat_lt (epoch_of b) ceiling) && has_zero_rest b then None else Some Commit

@@ -1,0 +1,99 @@
+-- What an image decodes to: nothing, a refusal, or the epoch of its checkpoint and a state.
+use Rattle.std.specs.Prelude.{◌≡◌, ℕ, ◌+◌, ◌%◌, ◌^◌, ◌<◌, ◌≤◌, true, false, if◌then◌else◌, List, take, drop, length, slice_index, slice_set, Option, Some, None}
+use Rattle.std.specs.List.{flat_map}
+use Rattle.std.specs.Option.{option_or}
+use Rattle.thy_base.specs.declared.block.Block.{Block}
+use Rattle.thy_base.specs.declared.config.Parameters.{Parameters}
+use Rattle.thy_base.specs.Bytes.{written}
+use Rattle.thy_base.specs.Device.{block_at}
+use Rattle.thy_base.specs.Geometry.{slot_of, program_size, console_room, memory_blocks}
+use Rattle.thy_isa.specs.declared.state.CpuState.{CpuState}
+use Rattle.thy_isa.specs.Step.{State, state_with}
+use Rattle.thy_record.specs.declared.image.BadImage.{BadImage}
+use Rattle.thy_record.specs.Header.{header_fault}
+use Rattle.thy_record.specs.Commit.{is_zero, epoch_of, commit_fault}
+use Rattle.thy_record.specs.Cpu.{cpu_of_record, record_fault, is_status, status_tag, status_value}
+
+pub data Decoded : Type 0 where
+  -- no checkpoint was committed
+  Nothing : Decoded
+  -- the image is refused
+  Refused : (bad : BadImage) → Decoded
+  -- the epoch of the committed checkpoint, and its state
+  At : (epoch : ℕ) (state : State) → Decoded
+
+-- the bytes of a list of blocks
+unfoldable pub flat : List Block → List ℕ
+flat blocks = flat_map (λ b. b.0) blocks
+
+-- every block has 64 bytes
+pub record AllLong (blocks : List Block) : Type 0 where
+  pub each : (k : ℕ) → k < length blocks → length (block_at blocks k).0 ≡ 64
+
+-- n blocks of an image from block x on
+abbrev pub window : List Block → ℕ → ℕ → List Block
+window g x n = take n (drop x g)
+
+-- the blocks with a piece written over the bytes of block k from byte j on
+abbrev pub block_written : List Block → ℕ → ℕ → List ℕ → List Block
+block_written blocks k j piece = slice_set blocks k (record { 0 = written (block_at blocks k).0 j piece })
+
+-- program memory
+abbrev pub memory_bytes : Parameters → List Block → List ℕ
+memory_bytes p blocks = take (program_size p) (flat blocks)
+
+-- the first n bytes of the console's pages
+abbrev pub console_bytes : Parameters → List Block → ℕ → List ℕ
+console_bytes p blocks n = take n (drop (program_size p) (flat blocks))
+
+-- the state that a processor and the blocks of memory make
+unfoldable pub state_from : Parameters → CpuState → List Block → State
+state_from p cpu blocks = state_with cpu (memory_bytes p blocks) (console_bytes p blocks cpu.console_len)
+
+-- the record and the memory in the slot of an epoch
+abbrev pub record_in : Parameters → List Block → ℕ → List Block
+record_in p g epoch = window g (slot_of p (epoch % 2)) 5
+
+abbrev pub memory_in : Parameters → List Block → ℕ → List Block
+memory_in p g epoch = window g (slot_of p (epoch % 2) + 5) (memory_blocks p)
+
+-- the first fault of an image whose commit block names this epoch
+abbrev pub image_fault : Parameters → ℕ → List Block → ℕ → Option BadImage
+image_fault p ceiling g epoch =
+    option_or (header_fault (block_at g 0) p)
+    (option_or (commit_fault (block_at g 1) ceiling) (record_fault (record_in p g epoch) epoch p ceiling))
+
+-- a refusal where there is a fault, else the state
+abbrev pub refused_or_at : Option BadImage → ℕ → State → Decoded
+refused_or_at None epoch state = At epoch state
+refused_or_at (Some bad) epoch state = Refused bad
+
+unfoldable pub decode : Parameters → ℕ → List Block → Decoded
+decode p ceiling g =
+    let epoch = epoch_of (block_at g 1) in
+    if is_zero (block_at g 1) then Nothing
+    else refused_or_at (image_fault p ceiling g epoch) epoch (state_from p (cpu_of_record (record_in p g epoch)) (memory_in p g epoch))
+
+-- these blocks are together a checkpoint of a state: what a decoding finds, part by part
+pub record IsWhole (p : Parameters) (ceiling : ℕ) (header commit : Block) (cpu memory : List Block) (epoch : ℕ) (state : State) : Type 0 where
+  pub committed : is_zero commit ≡ false
+  pub of_epoch : epoch_of commit ≡ epoch
+  pub header_fits : header_fault header p ≡ None
+  pub commit_fits : commit_fault commit ceiling ≡ None
+  pub cpu_fits : record_fault cpu epoch p ceiling ≡ None
+  pub cpu_length : length cpu ≡ 5
+  pub memory_length : length memory ≡ memory_blocks p
+  pub state_is : state_from p (cpu_of_record cpu) memory ≡ state
+
+-- a processor's state that a record can hold, with counts below the ceiling
+pub record IsRecordable (p : Parameters) (ceiling : ℕ) (cpu : CpuState) : Type 0 where
+  pub pc : cpu.pc < 2 ^ 64
+  pub regs_length : length cpu.regs ≡ 32
+  pub regs_zero : slice_index cpu.regs 0 ≡ 0
+  pub regs : (i : ℕ) → slice_index cpu.regs i < 2 ^ 64
+  pub console : cpu.console_len ≤ console_room p
+  pub cursor : cpu.cursor < 2 ^ 64
+  pub brk : cpu.brk < 2 ^ 64
+  pub floor : cpu.floor < 2 ^ 64
+  pub count : cpu.count < ceiling
+  pub status : is_status (status_tag cpu.status) (status_value cpu.status) ≡ true

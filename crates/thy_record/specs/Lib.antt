@@ -1,0 +1,6 @@
+pub mod Words
+pub mod Header
+pub mod Commit
+pub mod Cpu
+pub mod Decode
+pub mod Laws

@@ -1,0 +1,21 @@
+//! The records of the NVM: header, commit block and processor's record, exactly as bytes, and what an
+//! image decodes to.
+#![tactic(auto)]
+
+mod commit;
+mod cpu;
+mod header;
+mod image;
+mod laws;
+mod memory;
+#[cfg(test)]
+mod tests;
+mod words;
+
+pub use commit::{COMMIT_MAGIC, commit_block, commit_fault, is_zero};
+pub use cpu::{cpu_block, cpu_state, record_fault};
+pub use header::{HEADER_MAGIC, VERSION, header_block, header_fault};
+pub use image::BadImage;
+pub use laws::{decoded_is_whole, written_decodes};
+pub use memory::{load, store};
+pub use words::word;
