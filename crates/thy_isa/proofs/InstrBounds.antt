@@ -1,5 +1,5 @@
 -- The immediates of every word, and what every instruction gives, are numbers of 64 bits.
-use Rattle.std.proofs.Common.{◌≡◌, ℕ, ◌+◌, ◌-◌, ◌*◌, ◌/◌, ◌%◌, ◌<◌, ◌≤◌, ◌^◌, ◌==◌, Bool, true, false, if◌then◌else◌, nat_lt, List, [], ◌∷◌, ◌++◌, Option, Some, None, arith, lit<, get_or}
+use Rattle.std.proofs.Common.{ℕ, ◌+◌, ◌*◌, ◌%◌, ◌^◌, ◌==◌, Bool, true, false, if◌then◌else◌, nat_lt, List, [], ◌∷◌, ◌++◌, Option, Some, None, arith, lit<, get_or}
 use Rattle.std.specs.List.{All}
 use Rattle.std.specs.Prelude.{IfSome}
 use Rattle.thy_isa.specs.declared.instr.Instr.{Instr}
@@ -7,7 +7,7 @@ use Rattle.thy_isa.specs.declared.instr.Instr.TheVariants.{Lui, Auipc, Jal, Jalr
 use Rattle.thy_isa.specs.declared.state.Effect.{Effect}
 use Rattle.thy_isa.specs.declared.state.Effect.TheVariants.{Next, Set, Read, Write, Environment, Trap}
 use Rattle.thy_isa.specs.declared.state.Cause.TheVariants.{FetchMisaligned, LoadMisaligned, StoreMisaligned}
-use Rattle.thy_isa.specs.Words.{sign_extended, bits_of, imm_i, imm_u, shamt_of, shamt_w_of}
+use Rattle.thy_isa.specs.Words.{bits_of, imm_i, imm_u, shamt_of, shamt_w_of}
 use Rattle.thy_isa.specs.Table.{Row, has_row, memory_rows, integer_rows, word_rows, system_rows, multiply_rows, table, first_row, instr_of}
 use Rattle.thy_isa.specs.Arith.{low64}
 use Rattle.thy_isa.specs.Regs.{reg_at}

@@ -3,3 +3,5 @@ pub mod NumberBounds
 pub mod MemoryBounds
 pub mod InstrBounds
 pub mod StorableLaws
+pub mod OneRow
+pub mod AccessLaws

@@ -1,5 +1,5 @@
 -- Reading bytes gives a number that fits them, writing bytes gives bytes, and neither changes the size of memory.
-use Rattle.std.proofs.Common.{◌≡◌, ℕ, zero, suc, ◌+◌, ◌-◌, ◌*◌, ◌/◌, ◌%◌, ◌<◌, ◌≤◌, ◌^◌, List, [], ◌∷◌, ◌++◌, length, take, drop, get_or, to_z, of_z, arith, refl, pow-suc, length-append, length-take, length-drop}
+use Rattle.std.proofs.Common.{◌≡◌, ℕ, zero, suc, ◌+◌, ◌%◌, ◌<◌, ◌≤◌, ◌^◌, List, [], ◌∷◌, ◌++◌, length, take, drop, get_or, to_z, arith, refl, pow-suc}
 use Rattle.std.specs.Int.{w8, w16, w32, w64, to_le_bytes, byte_at}
 use Rattle.std.specs.List.{All}
 use Rattle.std.proofs.lemmas.Int.{ints}

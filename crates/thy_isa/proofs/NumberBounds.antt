@@ -1,15 +1,14 @@
 -- What the operations, the loads and the immediates give are numbers of 64 bits.
-use Rattle.std.proofs.Common.{◌≡◌, ℕ, zero, suc, ◌+◌, ◌-◌, ◌*◌, ◌/◌, ◌%◌, ◌<◌, ◌≤◌, ◌^◌, ◌==◌, Bool, true, false, if◌then◌else◌, nat_lt, List, [], ◌∷◌, length, get_or, ℤ, pos, negsuc, ◌*ℤ◌, neg_ℤ, FitsSigned, int_lt, unsigned_abs, to_z, of_z, arith, lit<, lit≤, refl, div-le_self}
+use Rattle.std.proofs.Common.{ℕ, zero, suc, ◌+◌, ◌-◌, ◌*◌, ◌/◌, ◌%◌, ◌<◌, ◌≤◌, ◌^◌, ◌==◌, Bool, true, false, if◌then◌else◌, nat_lt, ℤ, pos, negsuc, ◌*ℤ◌, neg_ℤ, FitsSigned, int_lt, to_z, of_z, arith, lit<, div-le_self}
 use Rattle.std.proofs.Math.Nat.{mod-le}
-use Rattle.std.specs.Int.{Width, w8, w16, w32, w64, w128, int_shr, cast_signed, cast_unsigned}
+use Rattle.std.specs.Int.{w32, w64, w128, int_shr}
 use Rattle.std.specs.Int.RustNames.{int_div, int_rem}
 use Rattle.std.proofs.lemmas.Int.{ints, fits_signed_mul}
 use Rattle.std.proofs.lemmas.Nat.{and_le_l, or_lt, xor_lt, shr_le, mul-lt, div_below}
-use mir.Val.{bits, hbits}
 use lib.Signed.{mag, mag_shr, mag_rem, nat_abs-le}
 use Rattle.thy_isa.specs.declared.instr.Alu.{Alu}
 use Rattle.thy_isa.specs.declared.instr.Alu.TheVariants.{Add, Sub, Sll, Slt, Sltu, Xor, Srl, Sra, Or, And, Mul, Mulh, Mulhsu, Mulhu, Div, Divu, Rem, Remu, Addw, Subw, Sllw, Srlw, Sraw, Mulw, Divw, Divuw, Remw, Remuw}
-use Rattle.thy_isa.specs.Arith.{alu_of, low64, low32, sx32, quotient, quotient_unsigned, remainder, remainder_unsigned, quotient_w, quotient_unsigned_w, remainder_w, remainder_unsigned_w, high_signed, high_mixed, high_unsigned}
+use Rattle.thy_isa.specs.Arith.{alu_of, low64, low32, sx32, quotient, remainder}
 use Rattle.thy_isa.specs.Storable.{IsNumber}
 
 -- a choice between two numbers of 64 bits is one

@@ -1,7 +1,6 @@
 -- Laws of steps: an ended state stays, the count grows by one at each step of a state that runs, and the console and
 -- what only the start sets stay.
-use Rattle.std.proofs.Common.{◌≡◌, ℕ, zero, suc, ◌+◌, ◌≤◌, Bool, true, false, List, refl, ap, sym, ◌∙◌, arith, add-one, add-suc, add-zero}
-use Rattle.thy_isa.specs.declared.state.Status.{Status}
+use Rattle.std.proofs.Common.{◌≡◌, ℕ, zero, suc, ◌+◌, Bool, true, false, refl, ap, sym, ◌∙◌, arith, add-one, add-suc, add-zero}
 use Rattle.thy_isa.specs.declared.state.Effect.{Effect}
 use Rattle.thy_isa.specs.declared.state.Effect.TheVariants.{Next, Set, Read, Write, Environment, Trap}
 use Rattle.thy_isa.specs.declared.state.Call.{Call}
@@ -65,3 +64,20 @@ finished-count c (Trap cause) n k = refl
 pub step-count : (g : Setting) (s : State) → is_running s.status ≡ true → (step g s).count ≡ s.count + 1
 unfolding step advanced
 step-count g s h = rw h (finished-count _ _ _ _)
+
+by_cases : (b : Bool) (P : Type 0) → (b ≡ true → P) → (b ≡ false → P) → P
+by_cases true P t f = t refl
+by_cases false P t f = f refl
+
+-- a state that runs after a step ran before it
+pub step-was_running : (g : Setting) (s : State) → is_running (step g s).status ≡ true → is_running s.status ≡ true
+step-was_running g s h =
+    by_cases (is_running s.status) (is_running s.status ≡ true) (λ e. e) (λ e. sym (ap (λ (t : State). is_running t.status) (step-ended g s e)) ∙ h)
+
+-- k steps to a state that runs add k to the count
+pub steps-count : (g : Setting) (k : ℕ) (s : State) → is_running (steps g k s).status ≡ true → (steps g k s).count ≡ s.count + k
+unfolding steps
+steps-count g zero s h = sym (add-zero s.count)
+steps-count g (suc k) s h =
+    let was : is_running (steps g k s).status ≡ true = step-was_running g (steps g k s) h in
+    omega (arith, step-count g (steps g k s) was, steps-count g k s was)

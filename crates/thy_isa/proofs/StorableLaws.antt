@@ -1,12 +1,10 @@
 -- A step of a storable state is storable, and what a step never changes.
-use Rattle.std.proofs.Common.{◌≡◌, ◌≢◌, ℕ, zero, suc, ◌+◌, ◌-◌, ◌%◌, ◌<◌, ◌≤◌, ◌^◌, ◌==◌, ◌&&◌, Bool, true, false, if◌then◌else◌, List, length, get_or, set, Option, Some, None, refl, ap, sym, ◌∙◌, arith, lit<, length-set, get_or-set_other}
+use Rattle.std.proofs.Common.{◌≡◌, ℕ, zero, suc, ◌+◌, ◌-◌, ◌%◌, ◌<◌, ◌==◌, Bool, true, false, if◌then◌else◌, List, length, get_or, set, Option, Some, None, refl, ◌∙◌, arith, lit<, length-set, get_or-set_other}
 use Rattle.std.specs.List.{All}
 use Rattle.std.proofs.lemmas.Bool.Decides.{nat_tests}
-use Rattle.std.proofs.lemmas.Grind.{common_steps}
 use Rattle.std.proofs.lemmas.List.Elements.{All-set}
-use Rattle.thy_isa.specs.declared.instr.Width.{Width}
 use Rattle.thy_isa.specs.declared.state.Status.{Status}
-use Rattle.thy_isa.specs.declared.state.Status.TheVariants.{Running, Exited, Trapped}
+use Rattle.thy_isa.specs.declared.state.Status.TheVariants.{Exited, Trapped}
 use Rattle.thy_isa.specs.declared.state.Cause.{Cause}
 use Rattle.thy_isa.specs.declared.state.Cause.TheVariants.{FetchMisaligned, FetchAccess, Illegal, Breakpoint, LoadMisaligned, LoadAccess, StoreMisaligned, StoreAccess}
 use Rattle.thy_isa.specs.declared.state.Effect.{Effect}
@@ -15,13 +13,14 @@ use Rattle.thy_isa.specs.declared.state.Call.{Call}
 use Rattle.thy_isa.specs.declared.state.Call.TheVariants.{Answer, Exit}
 use Rattle.thy_isa.specs.declared.state.CallState.{CallState}
 use Rattle.thy_isa.specs.declared.state.CpuState.{CpuState}
-use Rattle.thy_base.specs.Bytes.{written}
 use Rattle.thy_isa.specs.Regs.{regs_with}
 use Rattle.thy_isa.specs.Calls.{a0, a7, refusal, call_of}
-use Rattle.thy_isa.specs.Effects.{size_of, word_effect}
+use Rattle.thy_isa.specs.Effects.{size_of}
 use Rattle.thy_isa.specs.Memory.{number_bytes}
 use Rattle.thy_isa.specs.Step.{State, Setting, cpu_of, call_state_of, is_inside, cause_number, fetch_fault, within, fetched, word_at, effect_at, read_by, written_by, served, finished, advanced, is_running, step, steps}
 use Rattle.thy_isa.specs.Storable.{IsNumber, IsByte, IsStatus, IsStorable}
+use Rattle.thy_isa.specs.Access.{IsWithin}
+use Rattle.thy_isa.proofs.AccessLaws.{effect_at-within}
 use Rattle.thy_isa.proofs.NumberBounds.{low64_number}
 use Rattle.thy_isa.proofs.MemoryBounds.{number_at-number, extended-number, length-number_bytes, number_bytes-bytes, length-written, written-bytes}
 use Rattle.thy_isa.proofs.InstrBounds.{EffectNumbers, if_effect, word_effect-numbers}
@@ -145,42 +144,6 @@ unfolding effect_at
 effect_at-numbers base s h =
     fetched-numbers (fetch_fault base (length s.memory) s.pc) _
     (within-numbers base (length s.memory) _ (word_effect-numbers (word_at base s) s.pc s.regs h))
-
--- a read or a write lies within a memory of that base and size
-abbrev pub IsWithin : ℕ → ℕ → Effect → Type 0
-IsWithin base size (Next pc) = Unit {0}
-IsWithin base size (Set pc rd v) = Unit {0}
-IsWithin base size (Read pc at width extend rd) = (base ≤ at) × (at + size_of width ≤ base + size)
-IsWithin base size (Write pc at width v) = (base ≤ at) × (at + size_of width ≤ base + size)
-IsWithin base size Environment = Unit {0}
-IsWithin base size (Trap c) = Unit {0}
-
-inside_facts : (base size at n : ℕ) → is_inside base size at n ≡ true → (base ≤ at) × (at + n ≤ base + size)
-inside_facts base size at n h = (grind (arith, nat_tests), grind (arith, nat_tests))
-
-if_within : (base size : ℕ) (b : Bool) (e : Effect) (c : Cause) → (b ≡ true → IsWithin base size e) → IsWithin base size (if b then e else Trap c)
-if_within base size true e c h = h refl
-if_within base size false e c h = tt
-
-pub within-is : (base size : ℕ) (e : Effect) → IsWithin base size (within base size e)
-unfolding within
-within-is base size (Next pc) = tt
-within-is base size (Set pc rd v) = tt
-within-is base size (Read pc at width extend rd) =
-    if_within base size (is_inside base size at (size_of width)) (Read pc at width extend rd) LoadAccess (inside_facts base size at (size_of width))
-within-is base size (Write pc at width v) =
-    if_within base size (is_inside base size at (size_of width)) (Write pc at width v) StoreAccess (inside_facts base size at (size_of width))
-within-is base size Environment = tt
-within-is base size (Trap c) = tt
-
-fetched-within : (base size : ℕ) (o : Option Cause) (e : Effect) → IsWithin base size e → IsWithin base size (fetched o e)
-fetched-within base size None e h = h
-fetched-within base size (Some c) e h = tt
-
-pub effect_at-within : (base : ℕ) (s : State) → IsWithin base (length s.memory) (effect_at base s)
-unfolding effect_at
-effect_at-within base s =
-    fetched-within base (length s.memory) (fetch_fault base (length s.memory) s.pc) _ (within-is base (length s.memory) _)
 
 -- ---- memory
 

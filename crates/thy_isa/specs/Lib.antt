@@ -7,3 +7,4 @@ pub mod Calls
 pub mod Memory
 pub mod Step
 pub mod Storable
+pub mod Access

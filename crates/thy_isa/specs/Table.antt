@@ -1,5 +1,5 @@
 -- The instructions of RV64I 2.1, M 2.0 and Zifencei 2.0, in the order of the RISC-V unprivileged ISA manual's listings.
-use Rattle.std.specs.Prelude.{ℕ, Bool, true, ◌==◌, ◌&&◌, if◌then◌else◌, List, [], ◌∷◌, ◌++◌, Option, Some, None}
+use Rattle.std.specs.Prelude.{ℕ, suc, Bool, true, ◌==◌, ◌&&◌, if◌then◌else◌, List, [], ◌∷◌, ◌++◌, Option, Some, None}
 use Rattle.thy_isa.specs.declared.instr.Instr.{Instr}
 use Rattle.thy_isa.specs.declared.instr.Instr.TheVariants.{Lui, Auipc, Jal, Jalr, Branch, Load, Store, OpImm, Op, Fence, FenceI, Ecall, Ebreak}
 use Rattle.thy_isa.specs.declared.instr.Alu.{Alu}
@@ -166,3 +166,12 @@ first_row (r ∷ rows) w = if has_row r w then Some (r.instr w) else first_row r
 -- what a word means: the instruction of its row, or none
 unfoldable pub instr_of : ℕ → Option Instr
 instr_of w = first_row table w
+
+-- how many of these rows a word has
+abbrev pub count_rows : List Row → ℕ → ℕ
+count_rows [] w = 0
+count_rows (r ∷ rows) w = if has_row r w then suc (count_rows rows w) else count_rows rows w
+
+-- how many rows of the table a word has
+unfoldable pub rows_of : ℕ → ℕ
+rows_of w = count_rows table w

@@ -2,9 +2,9 @@
 //! unprivileged ISA manual.
 #![tactic(auto, unfolding(crate::specs::Table::instr_of))]
 
-ghost use Rattle.std.specs.Prelude.{◌≡◌, ◌+◌, ◌-◌, ◌*◌, ◌^◌, ◌<◌, ◌≤◌, nat_lt, if◌then◌else◌, Some, ◌⊎◌};
+ghost use Rattle.std.specs.Prelude.{◌≡◌, ◌+◌, ◌-◌, ◌*◌, ◌^◌, ◌<◌, ◌≤◌, nat_lt, if◌then◌else◌, Some, ◌⊎◌, ◌==◌};
 ghost use Rattle.thy_isa.specs.Words.{bits_of, opcode_of, rd_of, rs1_of, rs2_of, funct3_of, funct7_of, funct6_of, imm_i, imm_s, imm_b, imm_u, imm_j, shamt_of, shamt_w_of};
-ghost use Rattle.thy_isa.specs.Table.{instr_of};
+ghost use Rattle.thy_isa.specs.Table.{instr_of, rows_of};
 
 use crate::instr::{Alu, Cond, Extend, Instr, Reg, Width};
 
@@ -37,6 +37,14 @@ pub fn decode(word: u32) -> Option<Instr>
         0b1110011 => decode_system(word),
         _ => None,
     }
+}
+
+/// Whether a word means an instruction: no word has two rows of the table, so this says that it has
+/// exactly one.
+pub fn is_legal(word: u32) -> bool
+    ensures { result ≡ (rows_of word == 1) }
+{
+    decode(word).is_some()
 }
 
 fn decode_jalr(word: u32) -> Option<Instr>

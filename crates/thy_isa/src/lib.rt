@@ -15,7 +15,7 @@ mod state;
 mod vectors;
 
 pub use arith::alu;
-pub use decoding::decode;
+pub use decoding::{decode, is_legal};
 pub use environment::call;
 pub use finishing::{cause_number, fetch_fault, finish, is_inside, within};
 pub use instr::{Alu, Cond, Extend, Instr, Reg, Width};

@@ -1,0 +1,8 @@
+use Rattle.std.proofs.Common.{◌∙◌, ap, Option}
+use Rattle.std.specs.Prelude.{is_some}
+use Rattle.thy_isa.specs.declared.instr.Instr.{Instr}
+use Rattle.thy_isa.proofs.OneRow.{is_some-instr_of}
+use Rattle.thy_isa.proofs.decoding.is_legal.Goals as goal
+
+pub returns : goal.returns
+returns c = c.is_some.ensures ∙ ap (λ (o : Option Instr). is_some o) c.decode.ensures ∙ is_some-instr_of c.args.word

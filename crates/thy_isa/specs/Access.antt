@@ -1,0 +1,23 @@
+-- Where the effects of instructions read and write.
+use Rattle.std.specs.Prelude.{ℕ, ◌≡◌, ◌+◌, ◌%◌, ◌≤◌}
+use Rattle.thy_isa.specs.declared.state.Effect.{Effect}
+use Rattle.thy_isa.specs.declared.state.Effect.TheVariants.{Next, Set, Read, Write, Environment, Trap}
+use Rattle.thy_isa.specs.Effects.{size_of}
+
+-- a read or a write lies within a memory of that base and size
+abbrev pub IsWithin : ℕ → ℕ → Effect → Type 0
+IsWithin base size (Next pc) = Unit {0}
+IsWithin base size (Set pc rd v) = Unit {0}
+IsWithin base size (Read pc at width extend rd) = (base ≤ at) × (at + size_of width ≤ base + size)
+IsWithin base size (Write pc at width v) = (base ≤ at) × (at + size_of width ≤ base + size)
+IsWithin base size Environment = Unit {0}
+IsWithin base size (Trap c) = Unit {0}
+
+-- a read or a write has an address that is a multiple of its width
+abbrev pub IsAligned : Effect → Type 0
+IsAligned (Next pc) = Unit {0}
+IsAligned (Set pc rd v) = Unit {0}
+IsAligned (Read pc at width extend rd) = at % size_of width ≡ 0
+IsAligned (Write pc at width v) = at % size_of width ≡ 0
+IsAligned Environment = Unit {0}
+IsAligned (Trap c) = Unit {0}
