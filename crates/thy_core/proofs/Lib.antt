@@ -1,0 +1,7 @@
+pub mod EffectLemmas
+pub mod BlockLemmas
+pub mod StageLemmas
+pub mod RetireLemmas
+pub mod BelowLemmas
+pub mod GeometryLemmas
+pub mod SnapshotLemmas

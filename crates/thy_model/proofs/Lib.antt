@@ -1,0 +1,12 @@
+pub mod FixedLemmas
+pub mod SafeLaws
+pub mod IssueLemmas
+pub mod CheckpointLaws
+pub mod DrainLaws
+pub mod StateLemmas
+pub mod RecoverLaws
+pub mod LoadLaws
+pub mod BootLaws
+pub mod RunLaws
+pub mod CutLaws
+pub mod FailLaws

@@ -1,0 +1,21 @@
+//! What the machine is made of.
+
+use crate::{Memory, Stage, View};
+use thy_base::{Block, Geometry};
+use thy_isa::CpuState;
+
+/// The machine's parts. The layers above see its view alone.
+#[derive(Debug, Drop)]
+pub struct Parts {
+    pub geometry: Geometry,
+    /// All of memory, the console's pages included.
+    pub memory: Memory,
+    pub cpu: CpuState,
+    /// The processor's record that the boot reads.
+    pub slot_record: [Block; 5],
+    /// The view since the boot read the commit block.
+    pub view: View,
+    pub stage: Stage,
+    /// A step has failed.
+    pub failed: bool,
+}

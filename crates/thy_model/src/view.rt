@@ -1,0 +1,45 @@
+//! What the machine tells of itself: where it is in a run, and which checkpoints it has.
+
+use thy_base::EndCause;
+
+/// A checkpoint: its epoch, and how many instructions were retired at its end.
+#[derive(Clone, Copy, Debug, PartialEq, Eq)]
+pub struct Mark {
+    pub epoch: u64,
+    pub count: u64,
+}
+
+/// Where the machine is since its power came on.
+#[derive(Clone, Copy, Debug, PartialEq, Eq)]
+pub enum Phase {
+    /// It loads the program, or recovers a checkpoint.
+    Boot,
+    /// It executes.
+    Run,
+    /// The program has ended and its last checkpoint is committed.
+    Halt,
+}
+
+/// The machine as it is seen from above.
+#[derive(Clone, Copy, Debug, PartialEq, Eq)]
+pub struct View {
+    pub phase: Phase,
+    /// The committed checkpoint.
+    pub done: Option<Mark>,
+    /// The checkpoint that is under way.
+    pub sealed: Option<Mark>,
+    /// The epoch that executes.
+    pub epoch: u64,
+    /// The instructions retired from the program's start on.
+    pub count: u64,
+    /// The instructions retired since the boot's end or the latest seal.
+    pub retired: u64,
+    /// The cycles of hart and engine since then, but for those that did nothing.
+    pub spent: u64,
+    /// The instructions retired since the latest seal.
+    pub lap: u64,
+    /// Why the epoch is over, if it is.
+    pub over: Option<EndCause>,
+    /// The commit block of the checkpoint under way was written, and no barrier has come since.
+    pub written: bool,
+}
