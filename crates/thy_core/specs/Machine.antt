@@ -1,24 +1,13 @@
 -- The machine as its calls leave it.
 use Rattle.std.specs.Prelude.{◌≡◌, ℕ, ◌*◌, ◌-◌, List, take, drop, Bool, true, false, ◌&&◌, not, None, replicate}
 use Rattle.thy_base.specs.declared.config.Parameters.{Parameters}
-use Rattle.thy_base.specs.Device.{zero_block}
-use Rattle.thy_base.specs.Geometry.{memory_blocks}
 use Rattle.thy_isa.specs.Step.{State, state_with}
 use Rattle.thy_record.specs.Decode.{flat}
 use Rattle.thy_model.specs.declared.parts.Parts.{Parts}
 use Rattle.thy_model.specs.declared.stage.Stage.{Stage}
-use Rattle.thy_model.specs.declared.stage.Stage.TheVariants.{Unread, Writing}
+use Rattle.thy_model.specs.declared.stage.Stage.TheVariants.{Writing}
 use Rattle.thy_model.specs.declared.view.Phase.{Phase}
 use Rattle.thy_model.specs.declared.view.Phase.TheVariants.{Boot, Run, Halt}
-use Rattle.thy_model.specs.Boot.{boot_view}
-
--- the power has just come on: nothing was read, and memory holds zeros
-pub record IsPoweredOn (p : Parameters) (m : Parts) : Type 0 where
-  pub geometry : m.geometry ≡ p
-  pub memory : m.memory ≡ replicate (memory_blocks p) zero_block
-  pub view : m.view ≡ boot_view None None
-  pub stage : m.stage ≡ Unread
-  pub failed : m.failed ≡ false
 
 abbrev pub is_halt : Phase → Bool
 is_halt Boot = false

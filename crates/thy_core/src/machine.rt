@@ -9,7 +9,8 @@ ghost use Rattle.thy_model.specs.Action.{after, FailsTo};
 ghost use Rattle.thy_model.specs.Boot.{boot_view};
 ghost use Rattle.thy_model.specs.Bounds.{IsStart, IsBelow};
 ghost use Rattle.thy_model.specs.Cycle.{cycle_action, cycle_next, cycle_did, cycle_stall};
-ghost use Rattle.thy_core.specs.Machine.{IsPoweredOn, is_halt, has_halted, is_loading};
+ghost use Rattle.thy_model.specs.Moments.{IsNoCpu, IsPoweredOn};
+ghost use Rattle.thy_core.specs.Machine.{is_halt, has_halted, is_loading};
 
 use crate::boot::boot_view;
 use crate::cycle::cycle;
@@ -137,7 +138,8 @@ fn has_halted(before: Phase, after: Phase) -> bool
 }
 
 fn no_cpu() -> CpuState
-    ensures { length result.regs ≡ 32 }
+    ensures regs { length result.regs ≡ 32 }
+    ensures nothing { IsNoCpu result }
 {
     CpuState {
         pc: 0,

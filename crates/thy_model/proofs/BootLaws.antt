@@ -2,6 +2,7 @@
 use Rattle.std.proofs.Common.{◌≡◌, subst}
 use Rattle.thy_base.specs.Device.{Device}
 use Rattle.thy_record.specs.declared.image.BadImage.{BadImage}
+use Rattle.thy_model.specs.Moments.{Goes}
 use Rattle.thy_model.specs.declared.parts.Parts.{Parts}
 use Rattle.thy_model.specs.declared.stage.Stage.{Stage}
 use Rattle.thy_model.specs.declared.stage.Stage.TheVariants.{Unread, Header, Record, Restoring, Refused, Writing, Idle}
@@ -13,10 +14,10 @@ use Rattle.thy_model.specs.Origin.{Origin}
 use Rattle.thy_model.specs.Sound.{SoundBoot, SoundRun, SoundHalt, SoundIn, Sound, view_in, view_of}
 use Rattle.thy_model.specs.Steps.{boot_action, boot_next, boot_did}
 use Rattle.thy_model.proofs.SafeLaws.{blocks_of_sound}
-use Rattle.thy_model.proofs.RecoverLaws.{Goes, IsBooting, Goes-unread, Goes-header, Goes-record, Goes-memory}
+use Rattle.thy_model.proofs.RecoverLaws.{IsBooting, Goes-unread, Goes-header, Goes-record, Goes-memory}
 use Rattle.thy_model.proofs.LoadLaws.{Goes-load}
 
-IsBooting-sound : (o : Origin) (m : Parts) (n : Device) → Sound o m n → m.view.phase ≡ Boot → IsBooting o m n
+pub IsBooting-sound : (o : Origin) (m : Parts) (n : Device) → Sound o m n → m.view.phase ≡ Boot → IsBooting o m n
 IsBooting-sound o m n s phase = record { origin = s.origin; geometry = s.geometry; full = blocks_of_sound o m n s; up = s.up; phase = phase }
 
 Goes-boot_in : (o : Origin) (m : Parts) (n : Device) (stage : Stage) → IsBooting o m n → IsBounded m → IsStage m.geometry m.cpu stage → SoundBoot o m n stage

@@ -1,5 +1,5 @@
 -- After a power cut, and on a fresh device, a machine that powers on is sound.
-use Rattle.std.proofs.Common.{◌≡◌, ◌⊎◌, ℕ, ◌+◌, ◌-◌, ◌%◌, ◌<◌, false, List, [], length, Option, Some, None, refl, sym, ◌∙◌, ap, subst, inl, inr, arith}
+use Rattle.std.proofs.Common.{◌≡◌, ℕ, ◌+◌, ◌-◌, ◌%◌, ◌<◌, false, List, [], length, Option, Some, None, refl, sym, ◌∙◌, ap, subst, inl, inr, arith}
 use Rattle.std.proofs.lemmas.List.{length-replicate, get_or-replicate}
 use Rattle.thy_base.specs.declared.block.Block.{Block}
 use Rattle.thy_base.specs.declared.nvm.Shape.{Shape}
@@ -11,13 +11,11 @@ use Rattle.thy_record.specs.Commit.{is_zero}
 use Rattle.thy_record.specs.Decode.{Decoded, Nothing, Refused as RefusedImage, At, IsWhole, record_in, memory_in, decode}
 use Rattle.thy_record.proofs.DecodeLemmas.{decode-nothing_back, decode-at_back}
 use Rattle.thy_record.proofs.ReadBackLemmas.{is_zero-zero_block}
+use Rattle.thy_model.specs.Moments.{IsNew, booting_view, Finds}
 use Rattle.thy_model.specs.declared.parts.Parts.{Parts}
 use Rattle.thy_model.specs.declared.stage.Stage.TheVariants.{Unread}
 use Rattle.thy_model.specs.declared.view.Mark.{Mark}
-use Rattle.thy_model.specs.declared.view.Phase.TheVariants.{Boot}
-use Rattle.thy_model.specs.declared.view.View.{View}
 use Rattle.thy_model.specs.Boot.{boot_view, loading_view, view_of_image}
-use Rattle.thy_model.specs.Bounds.{IsBounded}
 use Rattle.thy_model.specs.CoreStep.{mark}
 use Rattle.thy_model.specs.Origin.{Origin, at}
 use Rattle.thy_model.specs.Safe.{ceiling, IsOneOf, Safe}
@@ -25,13 +23,6 @@ use Rattle.thy_model.specs.Stored.{Stands, IsKept}
 use Rattle.thy_model.specs.Sound.{IsOrigin, SoundBoot, SoundIn, Sound, view_in, view_of}
 use Rattle.thy_model.proofs.FixedLemmas.{IsFixed-cut_to, AreFixed-cut_to}
 use Rattle.thy_model.proofs.SafeLaws.{slot_within, decode-kept}
-
--- a machine whose power has just come on
-pub record IsPoweredOn (o : Origin) (m : Parts) : Type 0 where
-  pub geometry : m.geometry ≡ o.geometry
-  pub bounded : IsBounded m
-  pub stage : m.stage ≡ Unread
-  pub phase : m.view.phase ≡ Boot
 
 -- ---- what a cut leaves is kept
 
@@ -61,7 +52,7 @@ kept_left o n kept sealed g (At epoch state) full e h =
 
 -- ---- sound after power-on
 
-pub Sound-unread : (o : Origin) (m : Parts) (n : Device) (kept : Option Mark) → IsOrigin o → IsPoweredOn o m → length n.image ≡ blocks_of o.geometry → n.down ≡ false
+pub Sound-unread : (o : Origin) (m : Parts) (n : Device) (kept : Option Mark) → IsOrigin o → IsNew o m → length n.image ≡ blocks_of o.geometry → n.down ≡ false
     → IsKept o n kept → Sound o m n
 Sound-unread o m n kept origin on full up k = record {
   origin = origin;
@@ -73,7 +64,7 @@ Sound-unread o m n kept origin on full up k = record {
 }
 
 -- after a cut of a safe device
-pub Sound-cut : (o : Origin) (m : Parts) (n : Device) (kept sealed : Option Mark) (g : List Block) → IsOrigin o → IsPoweredOn o m
+pub Sound-cut : (o : Origin) (m : Parts) (n : Device) (kept sealed : Option Mark) (g : List Block) → IsOrigin o → IsNew o m
     → length n.image ≡ blocks_of o.geometry → Safe o kept sealed n → Crash n g → Sound o m (cut_to n g)
 Sound-cut o m n kept sealed g origin on full safe c =
     let long : length g ≡ blocks_of o.geometry = c.same_length ∙ full in
@@ -82,18 +73,9 @@ Sound-cut o m n kept sealed g origin on full safe c =
 
 -- ---- the view after power-on
 
--- the view of a boot that recovers a checkpoint, or loads the program where there is none
-abbrev pub booting_view : ℕ → Option Mark → View
-booting_view count None = loading_view count
-booting_view count (Some m) = boot_view (Some m) None
-
 pub view-unread : (o : Origin) (m : Parts) (n : Device) → m.stage ≡ Unread → view_of o m n ≡ view_of_image o.start.count (decode o.geometry ceiling n.image)
 unfolding view_of
 view-unread o m n e = ap (view_in o m n) e
-
--- a boot finds what was kept, or what was sealed
-abbrev pub Finds : ℕ → Option Mark → Option Mark → View → Type 0
-Finds count kept sealed v = (v ≡ booting_view count kept) ⊎ ((m : Mark) × (sealed ≡ Some m) × (v ≡ booting_view count (Some m)))
 
 finds : (o : Origin) (kept sealed : Option Mark) (d : Decoded) → IsOneOf o kept sealed d → Finds o.start.count kept sealed (view_of_image o.start.count d)
 finds o kept sealed Nothing h = inl (ap (booting_view o.start.count) (sym h))
@@ -105,7 +87,7 @@ finds o kept sealed (At epoch state) h =
     ]
 
 -- the view after a cut of a safe device has the mark that was kept or the one that was sealed
-pub Finds-cut : (o : Origin) (m : Parts) (n : Device) (kept sealed : Option Mark) (g : List Block) → IsPoweredOn o m → Safe o kept sealed n → Crash n g
+pub Finds-cut : (o : Origin) (m : Parts) (n : Device) (kept sealed : Option Mark) (g : List Block) → IsNew o m → Safe o kept sealed n → Crash n g
     → Finds o.start.count kept sealed (view_of o m (cut_to n g))
 Finds-cut o m n kept sealed g on safe c =
     subst (Finds o.start.count kept sealed) (sym (view-unread o m (cut_to n g) on.stage)) (finds o kept sealed (decode o.geometry ceiling g) (safe g c))
@@ -126,14 +108,14 @@ length-fresh : (shape : Shape) (n : Device) → length (fitted shape [] n).image
 length-fresh shape n = let same : shape.blocks - 0 ≡ shape.blocks = omega arith in length-replicate (shape.blocks - 0) zero_block ∙ same
 
 -- a device of zeros with a new machine is sound
-pub Sound-fresh : (o : Origin) (m : Parts) (shape : Shape) (n : Device) → IsOrigin o → IsPoweredOn o m → shape.blocks ≡ blocks_of o.geometry
+pub Sound-fresh : (o : Origin) (m : Parts) (shape : Shape) (n : Device) → IsOrigin o → IsNew o m → shape.blocks ≡ blocks_of o.geometry
     → Sound o m (fitted shape [] n)
 Sound-fresh o m shape n origin on same =
     let some : 1 < shape.blocks = omega arith in
     Sound-unread o m (fitted shape [] n) None origin on (length-fresh shape n ∙ same) refl (IsKept-fresh o shape n some)
 
 -- and its boot loads the program
-pub view-fresh : (o : Origin) (m : Parts) (shape : Shape) (n : Device) → IsPoweredOn o m → shape.blocks ≡ blocks_of o.geometry
+pub view-fresh : (o : Origin) (m : Parts) (shape : Shape) (n : Device) → IsNew o m → shape.blocks ≡ blocks_of o.geometry
     → view_of o m (fitted shape [] n) ≡ loading_view o.start.count
 view-fresh o m shape n on same =
     let some : 1 < shape.blocks = omega arith in

@@ -10,3 +10,12 @@ pub mod BootLaws
 pub mod RunLaws
 pub mod CutLaws
 pub mod FailLaws
+pub mod CycleLaws
+pub mod TurnLaws
+pub mod LongLemmas
+pub mod BoundLaws
+pub mod ExecutedLemmas
+pub mod MomentLaws
+pub mod HartLemmas
+pub mod HartLaws
+pub mod SmallLaws

@@ -11,6 +11,7 @@ use Rattle.thy_record.specs.Header.{header_of}
 use Rattle.thy_record.specs.Commit.{commit_of}
 use Rattle.thy_record.specs.Cpu.{cpu_block_of}
 use Rattle.thy_record.specs.Decode.{state_from, IsRecordable}
+use Rattle.thy_model.specs.Moments.{Goes}
 use Rattle.thy_model.specs.declared.did.Did.TheVariants.{Boot as DidBoot, Loaded}
 use Rattle.thy_model.specs.declared.parts.Parts.{Parts}
 use Rattle.thy_model.specs.declared.stage.Issue.{Issue}
@@ -32,7 +33,7 @@ use Rattle.thy_model.specs.Sound.{IsOrigin, Holds, IsWritten, is_finish, filled_
 use Rattle.thy_model.specs.Steps.{filled, loaded_view, loading_on, loading_did}
 use Rattle.thy_model.proofs.CheckpointLaws.{if_less, IsWriting, IsIssuedTo, IsIssuedTo-after}
 use Rattle.thy_model.proofs.IssueLemmas.{IsIssued-same}
-use Rattle.thy_model.proofs.RecoverLaws.{Goes, IsBooting, Sound-booting}
+use Rattle.thy_model.proofs.RecoverLaws.{IsBooting, Sound-booting}
 use Rattle.thy_model.proofs.StateLemmas.{state_from-start, at-start}
 
 -- what is written does not hang on view and stage

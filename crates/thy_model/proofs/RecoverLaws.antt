@@ -14,7 +14,7 @@ use Rattle.thy_record.specs.Header.{header_fault}
 use Rattle.thy_record.specs.Commit.{is_zero, epoch_of, commit_fault}
 use Rattle.thy_record.specs.Cpu.{cpu_of_record, record_fault}
 use Rattle.thy_record.specs.Decode.{Decoded, Nothing, Refused as RefusedImage, At, state_from, IsRecordable, decode}
-use Rattle.thy_model.specs.declared.did.Did.{Did}
+use Rattle.thy_model.specs.Moments.{Goes}
 use Rattle.thy_model.specs.declared.did.Did.TheVariants.{Boot as DidBoot, Restarted}
 use Rattle.thy_model.specs.declared.parts.Parts.{Parts}
 use Rattle.thy_model.specs.declared.stage.Issue.TheVariants.{Memory}
@@ -37,11 +37,6 @@ use Rattle.thy_model.proofs.SafeLaws.{decode-kept, IsKept-restoring}
 use Rattle.thy_model.proofs.CheckpointLaws.{if_less}
 use Rattle.thy_model.proofs.StateLemmas.{SameBelow-more, SameBelow-all, IsRecordable-read, count-state_from, status-state_from}
 
--- sound after a step, and the step
-pub record Goes (o : Origin) (v : View) (did : Did) (next : Parts) (n : Device) : Type 0 where
-  pub sound : Sound o next n
-  pub step : CoreStep o v did (view_of o next n)
-
 -- a machine that boots
 pub record IsBooting (o : Origin) (m : Parts) (n : Device) : Type 0 where
   pub origin : IsOrigin o
@@ -58,7 +53,7 @@ image_view o n = view_of_image o.start.count (decode o.geometry ceiling n.image)
 abbrev GoesRead : Origin → Device → Parts → Type 0
 GoesRead o n x = IsBounded x → Goes o (image_view o n) (read_did x.stage x) x n
 
-image_phase : (count : ℕ) (d : Decoded) → (view_of_image count d).phase ≡ Boot
+pub image_phase : (count : ℕ) (d : Decoded) → (view_of_image count d).phase ≡ Boot
 image_phase count Nothing = refl
 image_phase count (RefusedImage bad) = refl
 image_phase count (At epoch state) = refl
@@ -153,7 +148,7 @@ module _ (o : Origin) (m : Parts) (n : Device) (h : IsBooting o m n) where
 
     -- ---- the record
 
-    record_read : (k : ℕ) → k < 5 → newest n (record_place m.geometry epoch k) ≡ block_at r.stands.cpu k
+    pub record_read : (k : ℕ) → k < 5 → newest n (record_place m.geometry epoch k) ≡ block_at r.stands.cpu k
     record_read k l =
         ap (λ p. newest n (record_place p epoch k)) h.geometry
         ∙ ap (λ e. newest n (record_place o.geometry e k)) r.of_epoch
@@ -207,7 +202,7 @@ module _ (o : Origin) (m : Parts) (n : Device) (h : IsBooting o m n) where
 
     -- ---- memory
 
-    memory_read : (i : ℕ) → i < memory_blocks m.geometry → newest n (memory_place m.geometry epoch i) ≡ block_at r.stands.memory i
+    pub memory_read : (i : ℕ) → i < memory_blocks m.geometry → newest n (memory_place m.geometry epoch i) ≡ block_at r.stands.memory i
     memory_read i l =
         ap (λ p. newest n (memory_place p epoch i)) h.geometry
         ∙ ap (λ e. newest n (memory_place o.geometry e i)) r.of_epoch

@@ -11,7 +11,8 @@ use Rattle.thy_isa.specs.declared.state.CpuState.{CpuState}
 use Rattle.thy_isa.specs.declared.state.Status.{Status}
 use Rattle.thy_isa.specs.declared.state.Status.TheVariants.{Running, Exited, Trapped}
 use Rattle.thy_isa.specs.Step.{step, steps, is_running}
-use Rattle.thy_record.specs.Decode.{state_from, IsRecordable}
+use Rattle.thy_record.specs.Decode.{AllLong, state_from, IsRecordable}
+use Rattle.thy_model.specs.Moments.{Goes}
 use Rattle.thy_model.specs.declared.did.Did.TheVariants.{Retired, Sealed, Engine, Committed}
 use Rattle.thy_model.specs.declared.parts.Parts.{Parts}
 use Rattle.thy_model.specs.declared.stage.Issue.{Issue}
@@ -33,7 +34,7 @@ use Rattle.thy_model.specs.Steps.{noted, committed_view, checkpoint_on, engine_s
 use Rattle.thy_model.proofs.CheckpointLaws.{if_less, if_equal, count-held, IsIssuedTo, IsIssuedTo-after}
 use Rattle.thy_model.proofs.DrainLaws.{IsPresent-sound, IsWriting-checkpointing}
 use Rattle.thy_model.proofs.LoadLaws.{IsWritten-with}
-use Rattle.thy_model.proofs.RecoverLaws.{Goes, idle_moment}
+use Rattle.thy_model.proofs.RecoverLaws.{idle_moment}
 use Rattle.thy_model.proofs.StateLemmas.{status-state_from}
 
 -- ---- actions
@@ -220,19 +221,19 @@ Goes-checkpoint o m n epoch issue s phase stage within =
 
 -- ---- a seal
 
-IsQuiet-sound : (o : Origin) (m : Parts) (n : Device) → Sound o m n → m.view.phase ≡ Run → m.stage ≡ Idle
+pub IsQuiet-sound : (o : Origin) (m : Parts) (n : Device) → Sound o m n → m.view.phase ≡ Run → m.stage ≡ Idle
     → IsQuiet o m n × (m.view.over ≡ None → m.cpu.status ≡ Running)
 IsQuiet-sound o m n s phase stage = subst (SoundRun o m n) stage (subst (SoundIn o m n) phase s.moment)
 
-counted_on : (phase : Phase) (cpu : CpuState) (v next : View) → next.count ≡ v.count → IsCounted phase cpu v → IsCounted phase cpu next
+pub counted_on : (phase : Phase) (cpu : CpuState) (v next : View) → next.count ≡ v.count → IsCounted phase cpu v → IsCounted phase cpu next
 counted_on Boot cpu v next e h = h
 counted_on Run cpu v next e h = h ∙ sym e
 counted_on Halt cpu v next e h = h ∙ sym e
 
-some_memory : (p : Parameters) → IsInRange p → 0 < memory_blocks p
+pub some_memory : (p : Parameters) → IsInRange p → 0 < memory_blocks p
 some_memory p r = let pages = r.pages_least in omega arith
 
-IsBounded-sealed : (o : Origin) (m : Parts) (n : Device) → Sound o m n → IsBounded (sealed_on m)
+pub IsBounded-sealed : (o : Origin) (m : Parts) (n : Device) → Sound o m n → IsBounded (sealed_on m)
 IsBounded-sealed o m n s = record {
   memory = s.bounded.memory;
   long = s.bounded.long;
@@ -277,7 +278,7 @@ Goes-seal o m n cause s phase stage over below =
 -- ---- an instruction
 
 -- the plain machine one instruction on
-at-next : (o : Origin) (k : ℕ) → o.start.count ≤ k → at o (k + 1) ≡ step (setting_of o) (at o k)
+pub at-next : (o : Origin) (k : ℕ) → o.start.count ≤ k → at o (k + 1) ≡ step (setting_of o) (at o k)
 unfolding at steps
 at-next o k l =
     let e : k + 1 - o.start.count ≡ suc (k - o.start.count) = omega arith in
@@ -290,7 +291,7 @@ at-early o k l =
     ap (λ i. steps (setting_of o) i o.start) e
 
 -- a count that is held is not below the start's
-held_late : (o : Origin) (m : Parts) (count : ℕ) → Holds o m count → o.start.count ≤ count
+pub held_late : (o : Origin) (m : Parts) (count : ℕ) → Holds o m count → o.start.count ≤ count
 held_late o m count h = elim (cases_lt count o.start.count) as (λ _. o.start.count ≤ count) [
   | inl l ↦
       let early : o.start.count ≡ count = ap (λ s. s.count) (sym (at-early o count (omega arith))) ∙ count-held o m count h in
@@ -307,11 +308,17 @@ pub executed-stage : (input_len : ℕ) (m : Parts) → (executed input_len m).st
 unfolding executed performed
 executed-stage input_len m = refl
 
--- what the instruction has to leave: the plain machine's next state, which can be recorded
+pub executed-slot : (input_len : ℕ) (m : Parts) → (executed input_len m).slot_record ≡ m.slot_record
+unfolding executed performed
+executed-slot input_len m = refl
+
+-- what the instruction has to leave: the plain machine's next state, which can be recorded, in blocks of 64 bytes
 pub record IsExecuted (o : Origin) (m next : Parts) : Type 0 where
   pub state : state_from o.geometry next.cpu next.memory ≡ step (setting_of o) (state_from o.geometry m.cpu m.memory)
   pub count : next.cpu.count ≡ m.cpu.count + 1
   pub recordable : IsRecordable o.geometry ceiling next.cpu
+  pub memory : length next.memory ≡ length m.memory
+  pub long : AllLong next.memory
 
 Holds-executed : (o : Origin) (m next : Parts) (count : ℕ) → Holds o m count → IsExecuted o m next → Holds o next (count + 1)
 Holds-executed o m next count h e = record {

@@ -54,7 +54,7 @@ flat-blocks (b ∷ blocks) bytes l each =
     ∙ ap (λ xs. take 64 bytes ++ xs) rest
     ∙ take-append-drop 64 bytes
 
-length-start_bytes : (o : Origin) → IsOrigin o → length (start_bytes o.geometry o.start) ≡ 64 * memory_blocks o.geometry
+pub length-start_bytes : (o : Origin) → IsOrigin o → length (start_bytes o.geometry o.start) ≡ 64 * memory_blocks o.geometry
 length-start_bytes o h =
     let room = h.recordable.console in
     let least = h.geometry.console_below in
@@ -118,12 +118,12 @@ split_fault true true false h = cc
 split_fault true false room h = cc
 split_fault false inside room h = cc
 
-both_hold : (a b : Bool) → (a && b) ≡ true → (a ≡ true) × (b ≡ true)
+pub both_hold : (a b : Bool) → (a && b) ≡ true → (a ≡ true) × (b ≡ true)
 both_hold true b h = (refl, h)
 both_hold false b h = cc
 
 -- what the tests of a record say
-record_tests : (blocks : List Block) (epoch : ℕ) (p : Parameters) (top : ℕ) → record_fault blocks epoch p top ≡ None
+pub record_tests : (blocks : List Block) (epoch : ℕ) (p : Parameters) (top : ℕ) → record_fault blocks epoch p top ≡ None
     → (is_status (record_word blocks 36) (record_word blocks 37) ≡ true) × (record_word blocks 32 < top) × (record_word blocks 34 ≤ console_room p)
 unfolding record_fault
 record_tests blocks epoch p top h =

@@ -1,5 +1,5 @@
 -- What a cycle asks of the device, and what that leaves.
-use Rattle.std.specs.Prelude.{◌≡◌, ℕ}
+use Rattle.std.specs.Prelude.{ℕ}
 use Rattle.thy_base.specs.declared.block.Block.{Block}
 use Rattle.thy_base.specs.Device.{Device, written_to, settled, drained, HasFailed, HasFailedToWrite}
 

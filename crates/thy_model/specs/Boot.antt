@@ -1,9 +1,8 @@
 -- The boot: what each of its reads makes of the machine's parts.
-use Rattle.std.specs.Prelude.{ℕ, ◌+◌, ◌-◌, ◌*◌, ◌==◌, nat_lt, if◌then◌else◌, Bool, true, false, List, [], ◌∷◌, ◌++◌, zero, suc, length, take, drop, replicate, slice_set, Option, Some, None}
+use Rattle.std.specs.Prelude.{ℕ, ◌+◌, ◌-◌, ◌*◌, nat_lt, if◌then◌else◌, false, List, [], ◌∷◌, ◌++◌, zero, suc, length, take, drop, replicate, slice_set, Option, Some, None}
 use Rattle.std.specs.Option.{option_or}
 use Rattle.thy_base.specs.declared.block.Block.{Block}
 use Rattle.thy_base.specs.declared.config.Parameters.{Parameters}
-use Rattle.thy_base.specs.Device.{block_at}
 use Rattle.thy_base.specs.Geometry.{memory_blocks, console_room}
 use Rattle.thy_isa.specs.declared.state.CpuState.{CpuState}
 use Rattle.thy_isa.specs.Step.{State, cpu_of, is_running}
@@ -16,10 +15,9 @@ use Rattle.thy_model.specs.declared.view.Mark.{Mark}
 use Rattle.thy_model.specs.declared.view.Phase.{Phase}
 use Rattle.thy_model.specs.declared.view.Phase.TheVariants.{Boot, Run, Halt}
 use Rattle.thy_model.specs.declared.view.View.{View}
-use Rattle.thy_model.specs.declared.stage.Issue.{Issue}
 use Rattle.thy_model.specs.declared.stage.Issue.TheVariants.{Memory}
 use Rattle.thy_model.specs.declared.stage.Stage.{Stage}
-use Rattle.thy_model.specs.declared.stage.Stage.TheVariants.{Unread, Header, Record, Restoring, Refused, Writing, Idle}
+use Rattle.thy_model.specs.declared.stage.Stage.TheVariants.{Header, Record, Restoring, Refused, Writing, Idle}
 use Rattle.thy_model.specs.declared.parts.Parts.{Parts}
 use Rattle.thy_model.specs.CoreStep.{mark}
 use Rattle.thy_model.specs.Safe.{ceiling}

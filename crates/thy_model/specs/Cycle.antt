@@ -1,5 +1,5 @@
 -- One cycle: what it asks of the device, what it makes of the machine's parts, and what is told of it.
-use Rattle.std.specs.Prelude.{◌≡◌, ℕ, ◌==◌, Bool, true, false, if◌then◌else◌, is_some, Option, Some, None, not}
+use Rattle.std.specs.Prelude.{ℕ, ◌==◌, Bool, false, if◌then◌else◌, is_some, Option, Some, None, not}
 use Rattle.thy_base.specs.declared.cause.EndCause.{EndCause}
 use Rattle.thy_base.specs.declared.mix.Pick.{Pick}
 use Rattle.thy_base.specs.declared.mix.Pick.TheVariants.{Hart, Engine as EnginePick, NvmDrain, DramDrain}
@@ -11,10 +11,9 @@ use Rattle.thy_model.specs.declared.did.Stall.{Stall}
 use Rattle.thy_model.specs.declared.did.Stall.TheVariants.{Booting, Sealing, Waiting, Halted}
 use Rattle.thy_model.specs.declared.parts.Parts.{Parts}
 use Rattle.thy_model.specs.declared.stage.Stage.{Stage}
-use Rattle.thy_model.specs.declared.stage.Stage.TheVariants.{Unread, Header, Record, Restoring, Refused, Writing, Idle}
+use Rattle.thy_model.specs.declared.stage.Stage.TheVariants.{Writing}
 use Rattle.thy_model.specs.declared.view.Phase.{Phase}
 use Rattle.thy_model.specs.declared.view.Phase.TheVariants.{Boot, Run, Halt}
-use Rattle.thy_model.specs.declared.view.View.{View}
 use Rattle.thy_model.specs.Action.{Action, Rest, Drain}
 use Rattle.thy_model.specs.Checkpoint.{issue_action, issue_after}
 use Rattle.thy_model.specs.Steps.{boot_action, boot_next, boot_did, checkpoint_on, checkpoint_did, retired_on, sealed_on}

@@ -1,7 +1,6 @@
 -- The hart over a memory of blocks: what one instruction makes of the machine's parts.
-use Rattle.std.specs.Prelude.{◌≡◌, ℕ, ◌+◌, ◌-◌, ◌*◌, ◌/◌, ◌%◌, ◌<◌, ◌≤◌, List, length, slice_set, Option, Some, None, is_none, if◌then◌else◌}
+use Rattle.std.specs.Prelude.{ℕ, ◌+◌, ◌-◌, ◌/◌, ◌%◌, ◌<◌, ◌≤◌, List, slice_set}
 use Rattle.thy_base.specs.declared.block.Block.{Block}
-use Rattle.thy_base.specs.declared.cause.EndCause.{EndCause}
 use Rattle.thy_base.specs.declared.config.Parameters.{Parameters}
 use Rattle.thy_base.specs.Bytes.{written}
 use Rattle.thy_base.specs.Device.{block_at}
@@ -12,12 +11,8 @@ use Rattle.thy_isa.specs.declared.state.Effect.{Effect}
 use Rattle.thy_isa.specs.declared.state.Effect.TheVariants.{Next, Set, Read, Write, Environment, Trap}
 use Rattle.thy_isa.specs.Effects.{size_of, word_effect}
 use Rattle.thy_isa.specs.Memory.{number_at, number_bytes}
-use Rattle.thy_isa.specs.Step.{fetch_fault, fetched, within, finished, is_running}
+use Rattle.thy_isa.specs.Step.{fetch_fault, fetched, within, finished}
 use Rattle.thy_model.specs.declared.parts.Parts.{Parts}
-use Rattle.thy_model.specs.declared.stage.Issue.TheVariants.{Memory}
-use Rattle.thy_model.specs.declared.stage.Stage.TheVariants.{Writing}
-use Rattle.thy_model.specs.declared.view.View.{View}
-use Rattle.thy_model.specs.CoreStep.{mark, busier}
 
 -- the number of n bytes at an offset, within one block
 unfoldable pub loaded : List Block → ℕ → ℕ → ℕ

@@ -11,3 +11,5 @@ pub mod Sound
 pub mod Steps
 pub mod Stored
 pub mod Turn
+pub mod Moments
+pub mod Laws

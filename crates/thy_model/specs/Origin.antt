@@ -1,5 +1,5 @@
 -- Where a run starts, and the plain machine from there on.
-use Rattle.std.specs.Prelude.{ℕ, ◌+◌, ◌-◌, List, Bool}
+use Rattle.std.specs.Prelude.{ℕ, ◌-◌, List, Bool}
 use Rattle.thy_base.specs.declared.config.Parameters.{Parameters}
 use Rattle.thy_base.specs.Geometry.{console_room}
 use Rattle.thy_isa.specs.Step.{State, Setting, steps, is_running}

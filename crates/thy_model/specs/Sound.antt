@@ -1,14 +1,13 @@
 -- What holds of the machine's parts and the device at every moment of a run.
-use Rattle.std.specs.Prelude.{◌≡◌, ◌⊎◌, ℕ, ◌+◌, ◌-◌, ◌*◌, ◌%◌, ◌^◌, ◌<◌, ◌≤◌, Bool, true, false, if◌then◌else◌, List, length, Option, Some, None}
+use Rattle.std.specs.Prelude.{◌≡◌, ℕ, ◌+◌, ◌-◌, ◌%◌, ◌^◌, ◌<◌, Bool, true, false, if◌then◌else◌, List, length, Option, Some, None}
 use Rattle.thy_base.specs.declared.block.Block.{Block}
 use Rattle.thy_base.specs.declared.config.Parameters.{Parameters}
 use Rattle.thy_base.specs.Device.{Device, block_at, newest}
-use Rattle.thy_base.specs.Geometry.{IsInRange, slot_of, blocks_of, memory_blocks, program_size, console_room}
-use Rattle.thy_isa.specs.declared.state.CpuState.{CpuState}
+use Rattle.thy_base.specs.Geometry.{IsInRange, slot_of, memory_blocks, program_size}
 use Rattle.thy_isa.specs.declared.state.Status.TheVariants.{Running}
-use Rattle.thy_isa.specs.Step.{State, cpu_of, is_running}
-use Rattle.thy_record.specs.declared.image.BadImage.{BadImage}
-use Rattle.thy_record.specs.Header.{header_of, header_fault}
+use Rattle.thy_isa.specs.Step.{cpu_of}
+use Rattle.thy_isa.specs.Storable.{IsStorable}
+use Rattle.thy_record.specs.Header.{header_fault}
 use Rattle.thy_record.specs.Commit.{commit_of, commit_fault}
 use Rattle.thy_record.specs.Cpu.{cpu_block_of, cpu_of_record}
 use Rattle.thy_record.specs.Decode.{state_from, IsRecordable, decode}
@@ -23,16 +22,17 @@ use Rattle.thy_model.specs.declared.view.Phase.TheVariants.{Boot, Run, Halt}
 use Rattle.thy_model.specs.declared.view.View.{View}
 use Rattle.thy_model.specs.Boot.{start_bytes, block_from, loading_view, view_of_image}
 use Rattle.thy_model.specs.Bounds.{IsBounded, IsSized}
-use Rattle.thy_model.specs.CoreStep.{mark, over_at}
+use Rattle.thy_model.specs.CoreStep.{mark}
 use Rattle.thy_model.specs.Origin.{Origin, at}
 use Rattle.thy_model.specs.Safe.{ceiling}
-use Rattle.thy_model.specs.Stored.{IsFixed, AreFixed, AreRead, Stands, IsKept, IsInDoubt}
+use Rattle.thy_model.specs.Stored.{IsFixed, AreRead, Stands, IsKept, IsInDoubt}
 
--- the start of a run fits its geometry, and runs
+-- the start of a run fits its geometry, can be stored, and runs
 pub record IsOrigin (o : Origin) : Type 0 where
   pub geometry : IsInRange o.geometry
   pub recordable : IsRecordable o.geometry (2 ^ 62) (cpu_of o.start)
   pub memory : length o.start.memory ≡ program_size o.geometry
+  pub storable : IsStorable (program_size o.geometry) o.start
   pub running : o.start.status ≡ Running
 
 -- the parts hold the state of the plain machine at this count

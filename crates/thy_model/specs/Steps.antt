@@ -1,5 +1,5 @@
 -- The steps of the machine: what each asks of the device, and what it makes of the machine's parts.
-use Rattle.std.specs.Prelude.{◌≡◌, ℕ, ◌+◌, ◌-◌, ◌==◌, Bool, true, false, if◌then◌else◌, List, length, slice_set, Option, Some, None}
+use Rattle.std.specs.Prelude.{ℕ, ◌+◌, ◌-◌, ◌==◌, true, false, if◌then◌else◌, slice_set, Option, Some, None}
 use Rattle.thy_base.specs.declared.cause.EndCause.{EndCause}
 use Rattle.thy_base.specs.declared.cause.EndCause.TheVariants.{Length, Ended}
 use Rattle.thy_base.specs.declared.config.Parameters.{Parameters}
@@ -7,7 +7,7 @@ use Rattle.thy_base.specs.Device.{Device, newest}
 use Rattle.thy_isa.specs.declared.state.CpuState.{CpuState}
 use Rattle.thy_isa.specs.Step.{State, is_running}
 use Rattle.thy_model.specs.declared.did.Did.{Did}
-use Rattle.thy_model.specs.declared.did.Did.TheVariants.{Boot, Loaded, Restarted, Refused as DidRefused, Retired, Sealed, Engine, Committed, Nothing}
+use Rattle.thy_model.specs.declared.did.Did.TheVariants.{Boot, Loaded, Restarted, Refused as DidRefused, Engine, Committed}
 use Rattle.thy_model.specs.declared.did.EngineStep.{EngineStep}
 use Rattle.thy_model.specs.declared.did.EngineStep.TheVariants.{Copied, StateBlock, Barrier as EngineBarrier, CommitWritten}
 use Rattle.thy_model.specs.declared.parts.Parts.{Parts}

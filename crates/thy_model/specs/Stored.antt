@@ -2,8 +2,7 @@
 use Rattle.std.specs.Prelude.{◌≡◌, ◌⊎◌, ℕ, ◌+◌, ◌%◌, ◌<◌, true, List, length, Contains, Option, Some, None}
 use Rattle.thy_base.specs.declared.block.Block.{Block}
 use Rattle.thy_base.specs.Device.{Device, block_at, possible, newest}
-use Rattle.thy_base.specs.Geometry.{slot_of, memory_blocks}
-use Rattle.thy_isa.specs.Step.{State}
+use Rattle.thy_base.specs.Geometry.{slot_of}
 use Rattle.thy_record.specs.Commit.{is_zero}
 use Rattle.thy_record.specs.Decode.{IsWhole}
 use Rattle.thy_model.specs.declared.view.Mark.{Mark}
@@ -52,3 +51,7 @@ pub record IsInDoubt (o : Origin) (n : Device) (kept : Option Mark) (sealed : Ma
   pub stands : Stands o n after sealed
   pub either : (c : Block) → Contains (possible n 1) c → (c ≡ before) ⊎ (c ≡ after)
   pub read : newest n 1 ≡ after
+
+-- every block that a device may hold after a cut has 64 bytes
+pub record IsLong (n : Device) : Type 0 where
+  pub each : (x : ℕ) (b : Block) → Contains (possible n x) b → length b.0 ≡ 64

@@ -3,6 +3,7 @@
 #![tactic(auto)]
 
 mod did;
+mod laws;
 mod memory;
 mod parts;
 mod stage;
@@ -10,6 +11,11 @@ mod start;
 mod view;
 
 pub use did::{Did, EngineStep, Stall, Stepped};
+pub use laws::{
+    a_cut_is_small, a_cut_leads_on, a_cycle_is_a_turn, a_cycle_leads_on, a_failure_is_safe,
+    a_failure_is_small, a_failure_leads_on, a_fresh_start_leads_on, a_moment_is_safe,
+    a_step_is_small, power_makes_a_new_machine,
+};
 pub use memory::Memory;
 pub use parts::Parts;
 pub use stage::{Issue, Stage};

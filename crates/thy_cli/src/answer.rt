@@ -1,0 +1,45 @@
+//! What a run answers, and why it stopped.
+
+use thy_isa::Status;
+use thy_text::Events;
+
+/// The answer of the top call.
+#[derive(Debug, Drop)]
+pub struct Answer {
+    /// The exit status: 0 where the program exited, 1 where it trapped, 2 to 9 as `docs/FORMATS.md`
+    /// lists them.
+    pub status: u8,
+    /// What happened, in order.
+    pub events: Events,
+    /// How many cycles are done.
+    pub cycles: u64,
+}
+
+/// Why the cycles of a run stopped.
+#[derive(Clone, Copy, Debug, PartialEq, Eq)]
+pub enum Stop {
+    /// The program has ended, and its last checkpoint is committed.
+    Ended(Status),
+    /// The device failed.
+    Nvm,
+    /// There was not enough memory.
+    Memory,
+    /// The terminal failed.
+    Terminal,
+    /// The report failed.
+    Report,
+    /// As many cycles as the limit allows are done.
+    Limit,
+}
+
+/// The status of a stop.
+pub fn status_of(stop: Stop) -> u8 {
+    match stop {
+        Stop::Ended(Status::Trapped(_)) => 1,
+        Stop::Ended(_) => 0,
+        Stop::Terminal | Stop::Report => 6,
+        Stop::Nvm => 7,
+        Stop::Limit => 8,
+        Stop::Memory => 9,
+    }
+}
