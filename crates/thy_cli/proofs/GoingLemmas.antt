@@ -1,13 +1,10 @@
 -- A step and a cut keep what holds between two cycles.
-use Rattle.std.proofs.Common.{◌≡◌, ℕ, ◌+◌, ◌^◌, ◌≤◌, ◌<◌, true, false, List, [], length, refl, sym, ◌∙◌, ap, subst, arith}
-use Rattle.thy_base.specs.declared.block.Block.{Block}
+use Rattle.std.proofs.Common.{◌≡◌, ℕ, ◌+◌, ◌^◌, ◌≤◌, length, refl, ◌∙◌, ap, subst, arith}
 use Rattle.thy_base.specs.declared.config.Parameters.{Parameters}
 use Rattle.thy_base.specs.Device.{Device, IsFramed}
-use Rattle.thy_base.specs.Geometry.{blocks_of}
 use Rattle.thy_model.specs.declared.parts.Parts.{Parts}
 use Rattle.thy_model.specs.declared.view.View.{View}
 use Rattle.thy_model.specs.Action.{Action, Rest, ReadAt, WriteAt, Barrier, Drain, after}
-use Rattle.thy_model.specs.Boot.{boot_view}
 use Rattle.thy_model.specs.Bounds.{IsBelow}
 use Rattle.thy_cli.specs.Going.{IsGoing}
 

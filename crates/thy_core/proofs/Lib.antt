@@ -5,3 +5,4 @@ pub mod RetireLemmas
 pub mod BelowLemmas
 pub mod GeometryLemmas
 pub mod SnapshotLemmas
+pub mod MomentSteps

@@ -19,7 +19,7 @@ use Rattle.thy_model.specs.declared.view.Phase.TheVariants.{Run}
 use Rattle.thy_model.specs.declared.view.View.{View}
 use Rattle.thy_model.specs.Bounds.{IsConsistent, IsCounted, IsStage, HasCount}
 use Rattle.thy_model.specs.Steps.{retired_on}
-use Rattle.thy_model.specs.Hart.{performed, executed, effect_in, written_in, stored, read_in, calls_in}
+use Rattle.thy_model.specs.Hart.{performed, executed, effect_in, written_in, stored}
 
 length_if : (b : Bool) (xs ys : List ℕ) → length ys ≡ length xs → length (if b then xs else ys) ≡ length xs
 length_if true xs ys h = refl

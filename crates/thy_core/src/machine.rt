@@ -10,7 +10,8 @@ ghost use Rattle.thy_model.specs.Boot.{boot_view};
 ghost use Rattle.thy_model.specs.Bounds.{IsStart, IsBelow};
 ghost use Rattle.thy_model.specs.Cycle.{cycle_action, cycle_next, cycle_did, cycle_stall};
 ghost use Rattle.thy_model.specs.Moments.{IsNoCpu, IsPoweredOn};
-ghost use Rattle.thy_core.specs.Machine.{is_halt, has_halted, is_loading};
+ghost use Rattle.thy_core.specs.Machine.{is_halt, has_halted, is_loading, IsAt, IsStep, LeavesSafe};
+ghost use Rattle.thy_model.specs.Origin.{Origin};
 
 use crate::boot::boot_view;
 use crate::cycle::cycle;
@@ -72,6 +73,11 @@ impl Machine {
         requires below { IsBelow (2 ^ 64 - 2) self.old.view }
         requires blocks { length (N.device nvm.old).image ≡ blocks_of self.old.geometry }
         requires up { (N.device nvm.old).down ≡ false }
+        // A step from a moment of a run leads to the next one, and one that fails leaves the device safe.
+        ensures sound { (o : Origin) → IsAt o start.now self.old (N.device nvm.old) → IfOk result (IsStep o pick self.old self.new (N.device nvm.old) (N.device nvm.new)) }
+        ensures safe { (o : Origin) → IsAt o start.now self.old (N.device nvm.old) → OnErr result (LeavesSafe o pick self.old (N.device nvm.old) (N.device nvm.new)) }
+
+        // What it does exactly.
         ensures parts { OnOk result (self.new ≡ cycle_next (state_of start.now.state) (length (bytes_of start.now.input)) (N.device nvm.old) pick (length (N.device nvm.old).queue) self.old) }
         ensures did { IfOk result (λ r. r.did ≡ cycle_did pick (length (N.device nvm.old).queue) self.old self.new) }
         ensures stall { IfOk result (λ r. r.stall ≡ cycle_stall pick (length (N.device nvm.old).queue) self.old) }

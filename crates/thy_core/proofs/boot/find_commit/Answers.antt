@@ -1,4 +1,4 @@
-use Rattle.std.proofs.Common.{◌≡◌, ◌^◌, sym, ◌∙◌, arith}
+use Rattle.std.proofs.Common.{◌^◌, sym, ◌∙◌, arith}
 use Rattle.thy_core.proofs.StageLemmas.{epoch_below}
 use Rattle.thy_core.proofs.boot.find_commit.Goals as goal
 

@@ -1,4 +1,4 @@
-use Rattle.std.proofs.Common.{◌≡◌, ℕ, ◌<◌, ◌^◌, sym, ◌∙◌, ap, subst, length, arith}
+use Rattle.std.proofs.Common.{◌^◌, sym, ◌∙◌, ap, subst, length, arith}
 use Rattle.thy_isa.specs.declared.state.CpuState.{CpuState}
 use Rattle.thy_model.specs.declared.stage.Stage.{Stage}
 use Rattle.thy_model.specs.declared.stage.Stage.TheVariants.{Restoring}

@@ -1,7 +1,7 @@
-use Rattle.std.proofs.Common.{◌≡◌, ℕ, ◌+◌, ◌-◌, ◌*◌, ◌≤◌, List, ◌∙◌, ap, sym, length, take, drop, replicate, ◌++◌, arith}
+use Rattle.std.proofs.Common.{◌≡◌, ℕ, ◌+◌, ◌-◌, ◌*◌, ◌≤◌, List, ◌∙◌, ap, length, take, drop, replicate, ◌++◌, arith}
 use Rattle.thy_base.specs.declared.block.Block.{Block}
 use Rattle.thy_base.specs.Bytes.{bytes_of}
-use Rattle.thy_base.specs.Geometry.{program_size, console_room}
+use Rattle.thy_base.specs.Geometry.{console_room}
 use Rattle.thy_core.proofs.BlockLemmas.{block_of_memory, block_behind_memory}
 use Rattle.thy_core.proofs.loading.start_block.Goals as goal
 
