@@ -339,6 +339,9 @@ pub Goes-retire : (o : Origin) (m : Parts) (n : Device) → Sound o m n → m.vi
     → Goes o (view_of o m n) Retired (retired_on (length o.input) m) n
 Goes-retire o m n s phase stage over e within =
     let q = (IsQuiet-sound o m n s phase stage).0 in
+    let running : runs_at o m.view.count ≡ true
+    = ap (λ t. is_running t.status) (sym q.holds.state) ∙ ap is_running (status-state_from o.geometry m.cpu m.memory)
+    ∙ ap is_running ((IsQuiet-sound o m n s phase stage).1 over) in
     let ex : Parts = executed (length o.input) m in
     let x : Parts = retired_on (length o.input) m in
     let geometry : ex.geometry ≡ m.geometry = executed-geometry (length o.input) m in
@@ -370,5 +373,5 @@ Goes-retire o m n s phase stage over e within =
       step =
           subst (λ v. CoreStep o v Retired (view_of o x n)) (sym (view-idle o m n stage))
           (subst (λ v. CoreStep o m.view Retired v) (sym (view-idle o x n idle))
-          (phase, over, ap (λ (c : Option EndCause). record (busier m.view) { count = m.view.count + 1; retired = m.view.retired + 1; lap = m.view.lap + 1; over = c }) cause));
+          (phase, over, running, ap (λ (c : Option EndCause). record (busier m.view) { count = m.view.count + 1; retired = m.view.retired + 1; lap = m.view.lap + 1; over = c }) cause));
     }

@@ -93,15 +93,15 @@ module _ (o : Origin) (k : ℕ) (v next : View) (h : IsSmall o k v) where
         sealed = λ m is. more_mark o k m (h.sealed m (sym (ap (λ w. w.sealed) s.4) ∙ is));
       }
   IsSmall-step (Refused bad) s = same s.1
-  IsSmall-step Moved s = moves s.2
+  IsSmall-step Moved s = moves s.3
   IsSmall-step Retired s =
       let before = h.count in
       let epoch = h.epoch in
       record {
-        epoch = let e : next.epoch ≡ v.epoch = ap (λ w. w.epoch) s.2 in omega arith;
-        count = let e : next.count ≡ v.count + 1 = ap (λ w. w.count) s.2 in omega arith;
-        done = λ m is. more_mark o k m (h.done m (sym (ap (λ w. w.done) s.2) ∙ is));
-        sealed = λ m is. more_mark o k m (h.sealed m (sym (ap (λ w. w.sealed) s.2) ∙ is));
+        epoch = let e : next.epoch ≡ v.epoch = ap (λ w. w.epoch) s.3 in omega arith;
+        count = let e : next.count ≡ v.count + 1 = ap (λ w. w.count) s.3 in omega arith;
+        done = λ m is. more_mark o k m (h.done m (sym (ap (λ w. w.done) s.3) ∙ is));
+        sealed = λ m is. more_mark o k m (h.sealed m (sym (ap (λ w. w.sealed) s.3) ∙ is));
       }
   IsSmall-step Flushed s = busy s.1
   IsSmall-step Merged s = busy s.1

@@ -60,9 +60,9 @@ CoreStep o v (Restarted epoch count) next =
     (v.phase ≡ BootPhase) × (v.done ≡ Some (mark epoch count)) × (v.sealed ≡ None) × (v.written ≡ false)
     × (next ≡ record v { phase = phase_at o count; epoch = epoch + 1; count = count })
 CoreStep o v (Refused bad) next = (v.phase ≡ BootPhase) × (next ≡ v)
-CoreStep o v Moved next = (v.phase ≡ Run) × (v.over ≡ None) × MovesTo v next
+CoreStep o v Moved next = (v.phase ≡ Run) × (v.over ≡ None) × (runs_at o v.count ≡ true) × MovesTo v next
 CoreStep o v Retired next =
-    (v.phase ≡ Run) × (v.over ≡ None)
+    (v.phase ≡ Run) × (v.over ≡ None) × (runs_at o v.count ≡ true)
     × (next ≡ record (busier v) { count = v.count + 1; retired = v.retired + 1; lap = v.lap + 1; over = over_at o (v.retired + 1) (v.count + 1) })
 CoreStep o v Flushed next = (v.phase ≡ Run) × (next ≡ busier v)
 CoreStep o v Merged next = (v.phase ≡ Run) × (next ≡ busier v)

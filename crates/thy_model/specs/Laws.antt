@@ -1,15 +1,18 @@
 -- What holds of every run: its moments follow each other, and a power cut at any of them leaves a checkpoint whole.
-use Rattle.std.specs.Prelude.{◌≡◌, ℕ, ◌+◌, ◌<◌, List, []}
+use Rattle.std.specs.Prelude.{◌≡◌, ℕ, ◌+◌, ◌^◌, ◌<◌, List, []}
 use Rattle.thy_base.specs.declared.block.Block.{Block}
 use Rattle.thy_base.specs.declared.mix.Pick.{Pick}
 use Rattle.thy_base.specs.declared.nvm.Shape.{Shape}
 use Rattle.thy_base.specs.Device.{Device, Crash, IsFramed, cut_to, fitted}
 use Rattle.thy_base.specs.Geometry.{blocks_of}
+use Rattle.thy_record.specs.Decode.{decode}
 use Rattle.thy_model.specs.declared.did.Did.{Did}
 use Rattle.thy_model.specs.declared.view.View.{View}
 use Rattle.thy_model.specs.declared.parts.Parts.{Parts}
+use Rattle.thy_model.specs.declared.start.Start.{Start}
 use Rattle.thy_model.specs.Action.{FailsTo}
-use Rattle.thy_model.specs.Boot.{loading_view}
+use Rattle.thy_model.specs.Boot.{loading_view, view_of_image}
+use Rattle.thy_model.specs.Calls.{Core, Begins, IsAt, CanStep}
 use Rattle.thy_model.specs.Cycle.{cycle_action, cycle_did, cycle_stall}
 use Rattle.thy_model.specs.CoreStep.{CoreStep}
 use Rattle.thy_model.specs.Moments.{IsPoweredOn, IsNew, Moment, Leads, IsSmall, cycle_doubt, Finds}
@@ -83,3 +86,28 @@ abbrev pub FailureIsSmall : Type 0
 FailureIsSmall =
     (o : Origin) (m : Parts) (v next : View) (pick : Pick) (queued k : ℕ)
     → IsSmall o k v → Finds o.start.count v.done (cycle_doubt pick queued m v) next → IsSmall o k next
+
+-- a step may be asked for at every moment of a run, within its number of cycles
+abbrev pub MomentCanStep : Type 0
+MomentCanStep =
+    (o : Origin) (start : Start) (k : ℕ) (m : Core) (n : Device)
+    → Begins o o.geometry start → IsAt o k m n → k < 2 ^ 62 → CanStep start m n
+
+-- a run begins with a new machine over a device that was fitted and holds zeros
+abbrev pub FreshIsAt : Type 0
+FreshIsAt =
+    (o : Origin) (m : Core) (shape : Shape) (n : Device)
+    → IsOrigin o → IsPoweredOn o.geometry m → shape.blocks ≡ blocks_of o.geometry
+    → IsAt o 0 m (fitted shape [] n) × (view_of o m (fitted shape [] n) ≡ loading_view o.start.count)
+
+-- a power cut leads to a moment of the same run, whose view is what the image that was left decodes to
+abbrev pub CutIsAt : Type 0
+CutIsAt =
+    (o : Origin) (k : ℕ) (m next : Core) (n : Device) (g : List Block)
+    → IsAt o k m n → IsPoweredOn o.geometry next → Crash n g
+    → IsAt o k next (cut_to n g) × (view_of o next (cut_to n g) ≡ view_of_image o.start.count (decode o.geometry ceiling g))
+
+-- whatever a power cut leaves at a moment is the committed checkpoint, whole, or the one that is sealed
+abbrev pub MomentIsSafeFor : Type 0
+MomentIsSafeFor =
+    (o : Origin) (k : ℕ) (m : Core) (n : Device) → IsAt o k m n → Safe o (view_of o m n).done (doubt_of (view_of o m n)) n

@@ -1,3 +1,4 @@
+pub mod Calls
 pub mod Action
 pub mod Boot
 pub mod Bounds
