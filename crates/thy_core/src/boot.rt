@@ -9,9 +9,9 @@ ghost use Rattle.thy_model.specs.declared.view.Phase.TheVariants.{Boot as BootPh
 ghost use Rattle.thy_model.specs.Bounds.{IsConsistent};
 ghost use Rattle.thy_model.specs.Boot.{boot_view, loading_view, restored_view, phase_of, stage_unless, found_commit, found_header, found_record, found_last_record, found_memory};
 
-use thy_base::Block;
+use thy_base::{Block, Mark};
 use thy_isa::{CpuState, MachState, Status};
-use thy_model::{Issue, Mark, Parts, Phase, Stage, Start, View};
+use thy_model::{Issue, Parts, Phase, Stage, Start, View};
 use thy_record::{BadImage, commit_fault, cpu_state, header_fault, is_zero, record_fault, word};
 
 /// Epochs and counts of the images of a run are below this.

@@ -14,9 +14,9 @@ use crate::boot::{find_commit, find_header, find_memory, find_record, phase_of};
 use crate::engine::{issue, memory_place, next_issue, record_place};
 use crate::hart::execute;
 use crate::loading::start_block;
-use thy_base::{Block, EndCause, Geometry, Nvm, NvmError};
+use thy_base::{Block, EndCause, Geometry, Mark, Nvm, NvmError};
 use thy_isa::{CpuState, Status};
-use thy_model::{Did, EngineStep, Issue, Mark, Parts, Phase, Stage, Start, View};
+use thy_model::{Did, EngineStep, Issue, Parts, Phase, Stage, Start, View};
 
 fn busier(view: &View) -> View
     requires { view.now.spent + 1 < 2 ^ 64 }

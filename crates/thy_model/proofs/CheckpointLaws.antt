@@ -16,7 +16,7 @@ use Rattle.thy_record.proofs.DecodeLemmas.{written_whole}
 use Rattle.thy_model.specs.declared.parts.Parts.{Parts}
 use Rattle.thy_model.specs.declared.stage.Issue.{Issue}
 use Rattle.thy_model.specs.declared.stage.Issue.TheVariants.{Memory, Record as RecordIssue, Header as HeaderIssue, Settle, Commit, Finish}
-use Rattle.thy_model.specs.declared.view.Mark.{Mark}
+use Rattle.thy_base.specs.declared.mark.Mark.{Mark}
 use Rattle.thy_model.specs.Action.{after, FailsTo}
 use Rattle.thy_model.specs.Bounds.{IsIssue}
 use Rattle.thy_model.specs.Checkpoint.{record_place, memory_place, issue_action, issue_after}

@@ -14,7 +14,7 @@ use Rattle.thy_record.proofs.ReadBackLemmas.{is_zero-zero_block}
 use Rattle.thy_model.specs.Moments.{IsNew, booting_view, Finds}
 use Rattle.thy_model.specs.declared.parts.Parts.{Parts}
 use Rattle.thy_model.specs.declared.stage.Stage.TheVariants.{Unread}
-use Rattle.thy_model.specs.declared.view.Mark.{Mark}
+use Rattle.thy_base.specs.declared.mark.Mark.{Mark}
 use Rattle.thy_model.specs.Boot.{boot_view, loading_view, view_of_image}
 use Rattle.thy_model.specs.CoreStep.{mark}
 use Rattle.thy_model.specs.Origin.{Origin, at}

@@ -7,7 +7,7 @@ use Rattle.thy_base.specs.Device.{Device, Crash, HoldsNoMore, HoldsNoMoreBut, ze
 use Rattle.thy_base.specs.Geometry.{slot_of, slot_blocks, memory_blocks}
 use Rattle.thy_base.proofs.DeviceLemmas.{same_as_only, block_at-applied, Contains-newest_over}
 use Rattle.thy_record.specs.Decode.{window}
-use Rattle.thy_model.specs.declared.view.Mark.{Mark}
+use Rattle.thy_base.specs.declared.mark.Mark.{Mark}
 use Rattle.thy_model.specs.Origin.{Origin}
 use Rattle.thy_model.specs.Stored.{IsFixed, AreFixed, AreRead, Stands, Gives, IsKept}
 

@@ -8,7 +8,7 @@ use Rattle.thy_base.specs.Geometry.{slot_of, slot_blocks, blocks_of, memory_bloc
 use Rattle.thy_base.proofs.DeviceLemmas.{newest-written_to, newest-written_to_other, newest-drained}
 use Rattle.thy_record.specs.Cpu.{cpu_block_of}
 use Rattle.thy_model.specs.declared.parts.Parts.{Parts}
-use Rattle.thy_model.specs.declared.view.Mark.{Mark}
+use Rattle.thy_base.specs.declared.mark.Mark.{Mark}
 use Rattle.thy_model.specs.Checkpoint.{record_place, memory_place}
 use Rattle.thy_model.specs.Sound.{IsIssued, IsBefore}
 use Rattle.thy_model.proofs.FixedLemmas.{Spares, SparesKept}

@@ -19,7 +19,7 @@ use Rattle.thy_model.specs.declared.did.Did.TheVariants.{Boot as DidBoot, Restar
 use Rattle.thy_model.specs.declared.parts.Parts.{Parts}
 use Rattle.thy_model.specs.declared.stage.Issue.TheVariants.{Memory}
 use Rattle.thy_model.specs.declared.stage.Stage.TheVariants.{Header, Record, Restoring, Writing, Idle}
-use Rattle.thy_model.specs.declared.view.Mark.{Mark}
+use Rattle.thy_base.specs.declared.mark.Mark.{Mark}
 use Rattle.thy_model.specs.declared.view.Phase.{Phase}
 use Rattle.thy_model.specs.declared.view.Phase.TheVariants.{Boot, Run, Halt}
 use Rattle.thy_model.specs.declared.view.View.{View}

@@ -10,7 +10,7 @@ use Rattle.thy_model.specs.declared.stage.Issue.{Issue}
 use Rattle.thy_model.specs.declared.stage.Issue.TheVariants.{Memory, Record as RecordIssue, Header as HeaderIssue, Settle, Commit, Finish}
 use Rattle.thy_model.specs.declared.stage.Stage.{Stage}
 use Rattle.thy_model.specs.declared.stage.Stage.TheVariants.{Unread, Header, Record, Restoring, Refused as RefusedStage, Writing, Idle as IdleStage}
-use Rattle.thy_model.specs.declared.view.Mark.{Mark}
+use Rattle.thy_base.specs.declared.mark.Mark.{Mark}
 use Rattle.thy_model.specs.declared.view.View.{View}
 use Rattle.thy_model.specs.Boot.{loading_view}
 use Rattle.thy_model.specs.CoreStep.{mark, busier, BootsTo, MovesTo, EngineTo, CoreStep}

@@ -11,7 +11,7 @@ use Rattle.thy_record.specs.Header.{header_fault}
 use Rattle.thy_record.specs.Commit.{is_zero, epoch_of, commit_fault}
 use Rattle.thy_record.specs.Cpu.{cpu_of_record, record_fault}
 use Rattle.thy_record.specs.Decode.{Decoded, Nothing, Refused as RefusedImage, At}
-use Rattle.thy_model.specs.declared.view.Mark.{Mark}
+use Rattle.thy_base.specs.declared.mark.Mark.{Mark}
 use Rattle.thy_model.specs.declared.view.Phase.{Phase}
 use Rattle.thy_model.specs.declared.view.Phase.TheVariants.{Boot, Run, Halt}
 use Rattle.thy_model.specs.declared.view.View.{View}

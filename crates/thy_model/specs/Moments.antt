@@ -8,7 +8,7 @@ use Rattle.thy_isa.specs.declared.state.CpuState.{CpuState}
 use Rattle.thy_model.specs.declared.did.Did.{Did}
 use Rattle.thy_model.specs.declared.parts.Parts.{Parts}
 use Rattle.thy_model.specs.declared.stage.Stage.TheVariants.{Unread}
-use Rattle.thy_model.specs.declared.view.Mark.{Mark}
+use Rattle.thy_base.specs.declared.mark.Mark.{Mark}
 use Rattle.thy_model.specs.declared.view.Phase.TheVariants.{Boot}
 use Rattle.thy_model.specs.declared.view.View.{View}
 use Rattle.thy_model.specs.Action.{after}

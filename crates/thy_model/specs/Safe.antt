@@ -4,7 +4,7 @@ use Rattle.thy_base.specs.declared.block.Block.{Block}
 use Rattle.thy_base.specs.Device.{Device, Crash}
 use Rattle.thy_isa.specs.Step.{State}
 use Rattle.thy_record.specs.Decode.{Decoded, Nothing, Refused, At, decode}
-use Rattle.thy_model.specs.declared.view.Mark.{Mark}
+use Rattle.thy_base.specs.declared.mark.Mark.{Mark}
 use Rattle.thy_model.specs.CoreStep.{mark}
 use Rattle.thy_model.specs.Origin.{Origin, at}
 

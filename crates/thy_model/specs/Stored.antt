@@ -5,7 +5,7 @@ use Rattle.thy_base.specs.Device.{Device, block_at, possible, newest}
 use Rattle.thy_base.specs.Geometry.{slot_of}
 use Rattle.thy_record.specs.Commit.{is_zero}
 use Rattle.thy_record.specs.Decode.{IsWhole}
-use Rattle.thy_model.specs.declared.view.Mark.{Mark}
+use Rattle.thy_base.specs.declared.mark.Mark.{Mark}
 use Rattle.thy_model.specs.Origin.{Origin, at}
 use Rattle.thy_model.specs.Safe.{ceiling}
 

@@ -20,4 +20,4 @@ pub use memory::Memory;
 pub use parts::Parts;
 pub use stage::{Issue, Stage};
 pub use start::Start;
-pub use view::{Mark, Phase, View};
+pub use view::{Phase, View};

@@ -1,13 +1,6 @@
 //! What the machine tells of itself: where it is in a run, and which checkpoints it has.
 
-use thy_base::EndCause;
-
-/// A checkpoint: its epoch, and how many instructions were retired at its end.
-#[derive(Clone, Copy, Debug, PartialEq, Eq)]
-pub struct Mark {
-    pub epoch: u64,
-    pub count: u64,
-}
+use thy_base::{EndCause, Mark};
 
 /// Where the machine is since its power came on.
 #[derive(Clone, Copy, Debug, PartialEq, Eq)]

@@ -2,7 +2,8 @@
 use Rattle.std.specs.Prelude.{ℕ, Bool, true, false, if◌then◌else◌, List, [], Option, Some, None}
 use Rattle.std.specs.List.{list_any}
 use Rattle.thy_text.specs.Happening.{Happening, EpochEnd, Commit, Cut, Restart, Reload, Ended}
-use Rattle.thy_text.specs.Marks.{Mark, Marks, marks_from}
+use Rattle.thy_base.specs.declared.mark.Mark.{Mark}
+use Rattle.thy_text.specs.Marks.{Marks, marks_from}
 
 -- an event after which a committed state is known
 abbrev pub shows : Happening → Bool
