@@ -1,0 +1,41 @@
+-- The listed cuts as events.
+use Rattle.std.specs.Prelude.{ℕ, ◌+◌, ◌-◌, Bool, true, false, nat_le, if◌then◌else◌, List, [], ◌∷◌, filter, take_while}
+use Rattle.std.specs.List.{list_any}
+use Rattle.thy_text.specs.Happening.{Happening, EpochEnd, Commit, Cut, Restart, Reload, Ended}
+
+abbrev pub is_cut : Happening → Bool
+is_cut (Cut index cycle) = true
+is_cut (EpochEnd epoch count cause) = false
+is_cut (Commit epoch cycle overlapped) = false
+is_cut (Restart epoch count state) = false
+is_cut Reload = false
+is_cut (Ended status count cycle state) = false
+
+abbrev pub is_end : Happening → Bool
+is_end (Ended status count cycle state) = true
+is_end (EpochEnd epoch count cause) = false
+is_end (Commit epoch cycle overlapped) = false
+is_end (Cut index cycle) = false
+is_end (Restart epoch count state) = false
+is_end Reload = false
+
+-- the run has ended
+abbrev pub has_ended : List Happening → Bool
+has_ended events = list_any is_end events
+
+-- the cuts among events
+abbrev pub cuts_among : List Happening → List Happening
+cuts_among events = filter is_cut events
+
+-- cuts after these cycles, numbered from an index on
+abbrev pub numbered : ℕ → List ℕ → List Happening
+numbered index [] = []
+numbered index (cycle ∷ cycles) = Cut index cycle ∷ numbered (index + 1) cycles
+
+-- the last cycle after which a cut may have fallen: no cut falls after the cycle that ended the run
+abbrev pub last_cuttable : List Happening → ℕ → ℕ
+last_cuttable events cycles = if has_ended events then cycles - 1 else cycles
+
+-- the listed cuts up to a cycle
+abbrev pub cuts_up_to : ℕ → List ℕ → List ℕ
+cuts_up_to cycle cuts = take_while (λ c. nat_le c cycle) cuts

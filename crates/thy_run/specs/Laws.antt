@@ -1,0 +1,35 @@
+-- What follows for every run, whatever the cuts left.
+use Rattle.std.specs.Prelude.{◌≡◌, ℕ, List, length, None}
+use Rattle.thy_base.specs.Config.{first_not_rising}
+use Rattle.thy_base.specs.Device.{Device}
+use Rattle.thy_text.specs.Happening.{Happening}
+use Rattle.thy_text.specs.Marks.{Marks, Course, loading_marks, marks_from, AllLawful}
+use Rattle.thy_model.specs.Origin.{Origin, at}
+use Rattle.thy_model.specs.Safe.{Safe}
+use Rattle.thy_model.specs.Sound.{IsOrigin}
+use Rattle.thy_run.specs.Cuts.{cuts_among, numbered, cuts_up_to, last_cuttable}
+use Rattle.thy_run.specs.Images.{RestartsDecode}
+use Rattle.thy_run.specs.Unfinished.{Finished}
+
+-- what the events of a run are held against
+abbrev pub course_of : Origin → Course
+course_of o = record { at = at o; start = o.start.count; epoch = o.geometry.epoch }
+
+-- the marks that events leave
+abbrev pub marks_of : Origin → List Happening → Marks
+marks_of o events = marks_from o.start.count (loading_marks o.start.count) events
+
+-- What is promised of a run: its events are lawful, its restarts are what the cuts left, its cuts are the listed ones,
+-- each left one image, and the device is safe for the marks that the events leave.
+pub record Promise (o : Origin) (cuts : List ℕ) (cycles : ℕ) (events : List Happening) (n : Device) : Type 0 where
+  pub events_lawful : AllLawful (course_of o) (loading_marks o.start.count) events
+  pub restarts_decode : RestartsDecode o n.left cycles events
+  pub cuts_listed : cuts_among events ≡ numbered 1 (cuts_up_to (last_cuttable events cycles) cuts)
+  pub images_left : length n.left ≡ length (cuts_among events)
+  pub safe_at_return : Safe o (marks_of o events).kept (marks_of o events).sealed n
+
+-- every run keeps it
+abbrev pub RunKeepsPromise : Type 0
+RunKeepsPromise =
+    (o : Origin) (cuts : List ℕ) (seed cycles : ℕ) (events : List Happening) (n : Device)
+    → IsOrigin o → first_not_rising 0 cuts ≡ None → Finished o cuts seed cycles events n → Promise o cuts cycles events n

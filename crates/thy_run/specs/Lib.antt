@@ -1,0 +1,5 @@
+pub mod World
+pub mod Cuts
+pub mod Images
+pub mod Unfinished
+pub mod Laws

@@ -1,0 +1,133 @@
+-- A run: its cycles, the power cuts between them, and the events that they give.
+use Rattle.std.specs.Prelude.{◌≡◌, ℕ, zero, suc, ◌+◌, ◌==◌, Bool, true, false, ◌&&◌, not, nat_lt, if◌then◌else◌, MatchBool, List, [], ◌∷◌, ◌++◌, length, slice_index}
+use Rattle.thy_base.specs.declared.mix.Mix.{Mix}
+use Rattle.thy_base.specs.Device.{Device, IsCut, IsFramed}
+use Rattle.thy_base.specs.Mix.{mix_start, mix_pick, mix_next}
+use Rattle.thy_record.specs.Decode.{decode}
+use Rattle.thy_text.specs.Happening.{Happening, EpochEnd, Commit, Cut, Restart, Reload, Ended}
+use Rattle.thy_model.specs.declared.did.Did.{Did}
+use Rattle.thy_model.specs.declared.did.Did.TheVariants.{Boot, Loaded, Restarted, Refused, Moved, Retired, Flushed, Merged, Sealed, Promoted, Engine, Committed, NvmDrained, DramDrained, Nothing}
+use Rattle.thy_model.specs.declared.did.Stepped.{Stepped}
+use Rattle.thy_model.specs.declared.view.View.{View}
+use Rattle.thy_model.specs.Boot.{loading_view, view_of_image}
+use Rattle.thy_model.specs.Calls.{Core, IsAt, IsStep, loads, halts, is_halt}
+use Rattle.thy_model.specs.Origin.{Origin, at}
+use Rattle.thy_model.specs.Safe.{ceiling}
+use Rattle.thy_model.specs.Sound.{view_of}
+
+-- a run between two cycles
+pub record World : Type 0 where
+  pub machine : Core
+  pub device : Device
+  -- the schedule from here on
+  pub mix : Mix
+  -- how many cuts have fallen
+  pub passed : ℕ
+  -- how many cycles are done
+  pub cycles : ℕ
+  -- no cycle was done since the latest cut
+  pub fresh : Bool
+  pub events : List Happening
+
+-- what is seen of the machine
+abbrev pub seen : Origin → World → View
+seen o w = view_of o w.machine w.device
+
+-- ---- events
+
+-- the event of what a cycle did
+abbrev pub told : Origin → Did → ℕ → List Happening
+told o Loaded cycle = Commit 0 cycle 0 ∷ []
+told o (Restarted epoch count) cycle = Restart epoch count (at o count) ∷ []
+told o (Sealed epoch count cause) cycle = EpochEnd epoch count cause ∷ []
+told o (Committed epoch overlapped) cycle = Commit epoch cycle overlapped ∷ []
+told o Boot cycle = []
+told o (Refused bad) cycle = []
+told o Moved cycle = []
+told o Retired cycle = []
+told o Flushed cycle = []
+told o Merged cycle = []
+told o Promoted cycle = []
+told o (Engine step) cycle = []
+told o NvmDrained cycle = []
+told o DramDrained cycle = []
+told o Nothing cycle = []
+
+-- the first cycle after a cut tells that the file is loaded again
+abbrev pub reload_told : Bool → View → List Happening
+reload_told fresh next = if fresh && loads next then Reload ∷ [] else []
+
+-- a cycle that halts tells the end
+abbrev pub end_told : Origin → View → View → ℕ → List Happening
+end_told o v next cycle = if halts v next then Ended (at o next.count).status next.count cycle (at o next.count) ∷ [] else []
+
+-- the events of a cycle
+abbrev pub events_of : Origin → Bool → View → Did → View → ℕ → List Happening
+events_of o fresh v did next cycle = reload_told fresh next ++ told o did cycle ++ end_told o v next cycle
+
+-- ---- cycles
+
+-- the world after a step
+abbrev pub stepped : Origin → World → Core → Device → Did → World
+stepped o w m n did = record {
+  machine = m;
+  device = n;
+  mix = mix_next w.mix;
+  passed = w.passed;
+  cycles = w.cycles + 1;
+  fresh = false;
+  events = w.events ++ events_of o w.fresh (seen o w) did (view_of o m n) (w.cycles + 1);
+}
+
+-- the machine takes the schedule's next step
+pub record Steps (o : Origin) (w next : World) : Type 0 where
+  pub r : Stepped
+  pub going : is_halt (seen o w).phase ≡ false
+  pub is_step : IsStep o w.cycles (mix_pick w.mix) w.machine next.machine w.device next.device r
+  pub framed : IsFramed w.device next.device
+  pub next_is : next ≡ stepped o w next.machine next.device r.did
+
+-- a cut is due: the next one that is listed falls after this cycle, and the run has not ended
+abbrev pub is_due : Origin → List ℕ → World → Bool
+is_due o cuts w = not (is_halt (seen o w).phase) && (nat_lt w.passed (length cuts) && slice_index cuts w.passed == w.cycles)
+
+-- the world after a cut
+abbrev pub cut_off : World → Core → Device → World
+cut_off w m n = record {
+  machine = m;
+  device = n;
+  mix = w.mix;
+  passed = w.passed + 1;
+  cycles = w.cycles;
+  fresh = true;
+  events = w.events ++ Cut (w.passed + 1) w.cycles ∷ [];
+}
+
+-- Power is cut, and comes on again: a new machine, which will find what the device's image decodes to.
+pub record IsCutOff (o : Origin) (w next : World) : Type 0 where
+  pub cut : IsCut w.device next.device
+  pub powered : IsAt o w.cycles next.machine next.device
+  pub found : seen o next ≡ view_of_image o.start.count (decode o.geometry ceiling next.device.image)
+  pub next_is : next ≡ cut_off w next.machine next.device
+
+-- one cycle: a step, and the cut that is due after it
+pub record Cycle (o : Origin) (cuts : List ℕ) (w next : World) : Type 0 where
+  pub between : World
+  pub steps : Steps o w between
+  pub cut : MatchBool (is_due o cuts between) (IsCutOff o between next) (next ≡ between)
+
+-- power comes on for the first time, over a device of zeros
+pub record IsFirst (o : Origin) (seed : ℕ) (w : World) : Type 0 where
+  pub powered : IsAt o 0 w.machine w.device
+  pub loading : seen o w ≡ loading_view o.start.count
+  pub left : w.device.left ≡ []
+  pub mix : w.mix ≡ mix_start seed
+  pub passed : w.passed ≡ 0
+  pub cycles : w.cycles ≡ 0
+  pub fresh : w.fresh ≡ false
+  pub events : w.events ≡ []
+
+-- a world after k cycles from the first
+abbrev pub Ran : Origin → List ℕ → ℕ → ℕ → World → Type 0
+Ran o cuts seed zero w = IsFirst o seed w
+Ran o cuts seed (suc k) w = (before : World) × Ran o cuts seed k before × Cycle o cuts before w
