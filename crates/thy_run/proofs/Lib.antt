@@ -1,1 +1,7 @@
-pub mod WorldLaws
+pub mod Fitting
+pub mod FittingLaws
+pub mod EventLaws
+pub mod CoverLaws
+pub mod ListedLemmas
+pub mod ImageLemmas
+pub mod ImageLaws

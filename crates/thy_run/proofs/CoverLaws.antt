@@ -1,0 +1,272 @@
+-- What a view has committed or in doubt is among the marks that the events tell of, also in the midst of a cycle's events.
+use Rattle.std.proofs.Common.{◌≡◌, ◌⊎◌, ℕ, ◌+◌, ◌≤◌, Bool, true, false, ◌&&◌, if◌then◌else◌, Option, Some, None, List, [], ◌∷◌, ◌++◌, refl, sym, ◌∙◌, ap, subst, inl, inr}
+use Rattle.thy_base.specs.declared.block.Block.{Block}
+use Rattle.thy_base.specs.declared.cause.EndCause.{EndCause}
+use Rattle.thy_base.specs.declared.mark.Mark.{Mark}
+use Rattle.thy_base.specs.Device.{Device, Crash}
+use Rattle.thy_record.specs.Decode.{Decoded, Nothing as NothingLeft, Refused as RefusedImage, At, decode}
+use Rattle.thy_text.specs.Happening.{Happening, Reload, Ended}
+use Rattle.thy_text.specs.Marks.{Marks, loading_marks, marks_from}
+use Rattle.thy_text.proofs.Histories.{marks_from-append}
+use Rattle.thy_model.specs.declared.did.Did.{Did}
+use Rattle.thy_model.specs.declared.did.Did.TheVariants.{Boot, Loaded, Restarted, Refused, Moved, Retired, Flushed, Merged, Sealed, Promoted, Engine, Committed, NvmDrained, DramDrained, Nothing}
+use Rattle.thy_model.specs.declared.view.Phase.{Phase}
+use Rattle.thy_model.specs.declared.view.Phase.TheVariants.{Boot as BootPhase, Run, Halt}
+use Rattle.thy_model.specs.declared.view.View.{View}
+use Rattle.thy_model.specs.Calls.{loads, halts}
+use Rattle.thy_model.specs.CoreStep.{mark, CoreStep}
+use Rattle.thy_model.specs.Origin.{Origin, at}
+use Rattle.thy_model.specs.Safe.{ceiling, Safe, IsOneOf}
+use Rattle.thy_model.specs.Sound.{doubt_of}
+use Rattle.thy_run.specs.World.{told, reload_told, end_told, events_of}
+use Rattle.thy_run.proofs.Fitting.{IsEither, Loading, Recovering, BootFits, Follows, RunFits, HaltFits, FitsIn, Fits, Covers}
+use Rattle.thy_run.proofs.FittingLaws.{Fits-told}
+use Rattle.thy_run.proofs.EventLaws.{Reloads-told}
+
+none_some : (o : Option Mark) (d : Mark) {A : Type 0} → o ≡ None → o ≡ Some d → A
+none_some o d none some = absurd (cc)
+
+-- what is in doubt is what is sealed
+doubt_sealed : (written : Bool) (sealed : Option Mark) (d : Mark) → (if written then sealed else None) ≡ Some d → sealed ≡ Some d
+doubt_sealed true sealed d e = e
+doubt_sealed false sealed d e = absurd (cc)
+
+-- with the sealed mark for the one in doubt
+covers_boot : (o : Origin) (v : View) (m : Marks) → BootFits o v m → Covers m.kept m.sealed v.done v.sealed
+covers_boot o v m f = elim f.boots as (λ _. Covers m.kept m.sealed v.done v.sealed) [
+  | inl l ↦ record {
+    nothing = λ none. ap (λ n. n.kept) l.marks;
+    of_done = λ d some. none_some v.done d l.done some;
+    of_doubt = λ d some. inr (ap (λ n. n.sealed) l.marks ∙ sym l.sealed ∙ some);
+  }
+  | inr r ↦ record {
+    nothing = λ none. none_some v.done r.mark none r.done;
+    of_done = λ d some. let same : r.mark ≡ d = (let e : Some r.mark ≡ Some d = sym r.done ∙ some in cc) in subst (IsEither m.kept m.sealed) same r.either;
+    of_doubt = λ d some. none_some v.sealed d r.sealed some;
+  }
+]
+
+covers_run : (o : Origin) (v : View) (m : Marks) → RunFits o v m → Covers m.kept m.sealed v.done v.sealed
+covers_run o v m f = record {
+  nothing = λ none. none_some v.done f.mark none f.done;
+  of_done = λ d some. inl (f.kept ∙ sym f.done ∙ some);
+  of_doubt = λ d some. inr (f.sealed ∙ some);
+}
+
+covers_halt : (o : Origin) (v : View) (m : Marks) → HaltFits o v m → Covers m.kept m.sealed v.done v.sealed
+covers_halt o v m f = record {
+  nothing = λ none. none_some v.done f.mark none f.done;
+  of_done = λ d some. inl (f.kept ∙ sym f.done ∙ some);
+  of_doubt = λ d some. none_some v.sealed d f.sealed some;
+}
+
+covers_in : (o : Origin) (v : View) (m : Marks) (p : Phase) → FitsIn o v m p → Covers m.kept m.sealed v.done v.sealed
+covers_in o v m BootPhase f = covers_boot o v m f
+covers_in o v m Run f = covers_run o v m f
+covers_in o v m Halt f = covers_halt o v m f
+
+-- the marks cover a view that fits them, whatever of its sealed mark is in doubt
+pub Covers-sealed : (o : Origin) (v : View) (m : Marks) → Fits o v m → Covers m.kept m.sealed v.done v.sealed
+Covers-sealed o v m f = covers_in o v m v.phase f
+
+unsealed : (kept sealed done doubt : Option Mark) (written : Bool) → Covers kept sealed done doubt → Covers kept sealed done (if written then doubt else None)
+unsealed kept sealed done doubt written c = record { nothing = c.nothing; of_done = c.of_done; of_doubt = λ d some. c.of_doubt d (doubt_sealed written doubt d some) }
+
+pub Covers-fits : (o : Origin) (v : View) (m : Marks) → Fits o v m → Covers m.kept m.sealed v.done (doubt_of v)
+Covers-fits o v m f = unsealed m.kept m.sealed v.done v.sealed v.written (Covers-sealed o v m f)
+
+-- a step's view, before its event is told
+before_commit : (o : Origin) (v next : View) (m : Marks) (s : Mark) → RunFits o v m → v.sealed ≡ Some s → next.done ≡ v.sealed → next.sealed ≡ None
+    → Covers m.kept m.sealed next.done next.sealed
+before_commit o v next m s f sealed done none = record {
+  nothing = λ missing. none_some next.done s missing (done ∙ sealed);
+  of_done = λ d some. inr (f.sealed ∙ sym done ∙ some);
+  of_doubt = λ d some. none_some next.sealed d none some;
+}
+
+module _ (o : Origin) (v next : View) (m : Marks) (least : 1 ≤ o.geometry.epoch) (h : Fits o v m) where
+  before_loaded : (s : CoreStep o v Loaded next) → Covers m.kept m.sealed next.done next.sealed
+  before_loaded s =
+      let c = Covers-sealed o v m h in
+      let done : next.done ≡ v.sealed = ap (λ w. w.done) s.4 in
+      record {
+        nothing = λ none. c.nothing s.1;
+        of_done = λ d some. c.of_doubt d (sym done ∙ some);
+        of_doubt = λ d some. none_some next.sealed d (ap (λ w. w.sealed) s.4) some;
+      }
+
+  before_sealed : (epoch count : ℕ) (cause : EndCause) (s : CoreStep o v (Sealed epoch count cause) next) → Covers m.kept m.sealed next.done (doubt_of next)
+  before_sealed epoch count cause s =
+      let c = Covers-sealed o v m h in
+      let f : RunFits o v m = subst (FitsIn o v m) s.0 h in
+      let g : Follows o v f.mark None = subst (Follows o v f.mark) s.1 f.follows in
+      let done : next.done ≡ v.done = ap (λ w. w.done) s.5 in
+      let unwritten : next.written ≡ false = ap (λ w. w.written) s.5 ∙ g.0 in
+      record {
+        nothing = λ none. c.nothing (sym done ∙ none);
+        of_done = λ d some. c.of_done d (sym done ∙ some);
+        of_doubt = λ d some. absurd (let e : (if next.written then next.sealed else None) ≡ None = ap (λ b. if b then next.sealed else None) unwritten in cc);
+      }
+
+  -- the marks before a step's event cover the view after it
+  pub Covers-before : (did : Did) → CoreStep o v did next → Covers m.kept m.sealed next.done (doubt_of next)
+  Covers-before Boot s = Covers-fits o next m (Fits-told o v next m least h Boot 0 s).0
+  Covers-before Loaded s = unsealed m.kept m.sealed next.done next.sealed next.written (before_loaded s)
+  Covers-before (Restarted epoch count) s =
+      let c = Covers-sealed o v m h in
+      let done : next.done ≡ v.done = ap (λ w. w.done) s.4 in
+      let sealed : next.sealed ≡ v.sealed = ap (λ w. w.sealed) s.4 in
+      unsealed m.kept m.sealed next.done next.sealed next.written
+      (record { nothing = λ none. c.nothing (sym done ∙ none); of_done = λ d some. c.of_done d (sym done ∙ some); of_doubt = λ d some. c.of_doubt d (sym sealed ∙ some) })
+  Covers-before (Refused bad) s = Covers-fits o next m (Fits-told o v next m least h (Refused bad) 0 s).0
+  Covers-before Moved s = Covers-fits o next m (Fits-told o v next m least h Moved 0 s).0
+  Covers-before Retired s = Covers-fits o next m (Fits-told o v next m least h Retired 0 s).0
+  Covers-before Flushed s = Covers-fits o next m (Fits-told o v next m least h Flushed 0 s).0
+  Covers-before Merged s = Covers-fits o next m (Fits-told o v next m least h Merged 0 s).0
+  Covers-before Promoted s = Covers-fits o next m (Fits-told o v next m least h Promoted 0 s).0
+  Covers-before (Sealed epoch count cause) s = before_sealed epoch count cause s
+  Covers-before (Engine step) s = Covers-fits o next m (Fits-told o v next m least h (Engine step) 0 s).0
+  Covers-before (Committed epoch overlapped) s =
+      let f : RunFits o v m = subst (FitsIn o v m) s.0 h in
+      unsealed m.kept m.sealed next.done next.sealed next.written
+      (before_commit o v next m (mark epoch s.3.0) f s.3.1 (ap (λ w. w.done) s.3.2) (ap (λ w. w.sealed) s.3.2))
+  Covers-before NvmDrained s = Covers-fits o next m (Fits-told o v next m least h NvmDrained 0 s).0
+  Covers-before DramDrained s = Covers-fits o next m (Fits-told o v next m least h DramDrained 0 s).0
+  Covers-before Nothing s = Covers-fits o next m (Fits-told o v next m least h Nothing 0 s).0
+
+-- ---- the first of a cycle's events
+
+-- a first part of two lists is one of the first, or all of it and a first part of the second
+data Cutting (part xs ys : List Happening) : Type 0 where
+  within : (rest : List Happening) → part ++ rest ≡ xs → Cutting part xs ys
+  beyond : (more rest : List Happening) → part ≡ xs ++ more → more ++ rest ≡ ys → Cutting part xs ys
+
+longer : (x : Happening) (part xs ys : List Happening) → Cutting part xs ys → Cutting (x ∷ part) (x ∷ xs) ys
+longer x part xs ys (within rest e) = within rest (ap (λ l. x ∷ l) e)
+longer x part xs ys (beyond more rest e f) = beyond more rest (ap (λ l. x ∷ l) e) f
+
+cutting : (part rest xs ys : List Happening) → part ++ rest ≡ xs ++ ys → Cutting part xs ys
+cutting part rest [] ys e = beyond part rest refl e
+cutting [] rest (x ∷ xs) ys e = within (x ∷ xs) refl
+cutting (p ∷ part) rest (x ∷ xs) ys e =
+    let same : p ≡ x = cc in
+    let tails : part ++ rest ≡ xs ++ ys = cc in
+    subst (λ q. Cutting (q ∷ part) (x ∷ xs) ys) (sym same) (longer x part xs ys (cutting part rest xs ys tails))
+
+-- the marks that a first part of a list of at most one event leaves
+abbrev pub IsShort : List Happening → Type 0
+IsShort vs = (vs ≡ []) ⊎ ((v : Happening) × (vs ≡ v ∷ []))
+
+part_of_one : (part rest : List Happening) (v : Happening) → part ++ rest ≡ v ∷ [] → (part ≡ []) ⊎ (part ≡ v ∷ [])
+part_of_one [] rest v e = inl refl
+part_of_one (p ∷ []) rest v e = inr (let same : p ≡ v = cc in ap (λ q. q ∷ []) same)
+part_of_one (p ∷ q ∷ part) rest v e = absurd (cc)
+
+part_of_none : (part rest : List Happening) → part ++ rest ≡ [] → part ≡ []
+part_of_none [] rest e = refl
+part_of_none (p ∷ part) rest e = absurd (cc)
+
+part_of_short : (part rest vs : List Happening) → IsShort vs → part ++ rest ≡ vs → (part ≡ []) ⊎ (part ≡ vs)
+part_of_short part rest vs (inl none) e = inl (part_of_none part rest (e ∙ none))
+part_of_short part rest vs (inr (v, one)) e = elim (part_of_one part rest v (e ∙ one)) as (λ _. (part ≡ []) ⊎ (part ≡ vs)) [ inl a ↦ inl a | inr b ↦ inr (b ∙ sym one) ]
+
+pub told_short : (o : Origin) (did : Did) (cycle : ℕ) → IsShort (told o did cycle)
+told_short o Boot cycle = inl refl
+told_short o Loaded cycle = inr (_, refl)
+told_short o (Restarted epoch count) cycle = inr (_, refl)
+told_short o (Refused bad) cycle = inl refl
+told_short o Moved cycle = inl refl
+told_short o Retired cycle = inl refl
+told_short o Flushed cycle = inl refl
+told_short o Merged cycle = inl refl
+told_short o Promoted cycle = inl refl
+told_short o (Sealed epoch count cause) cycle = inr (_, refl)
+told_short o (Engine step) cycle = inl refl
+told_short o (Committed epoch overlapped) cycle = inr (_, refl)
+told_short o NvmDrained cycle = inl refl
+told_short o DramDrained cycle = inl refl
+told_short o Nothing cycle = inl refl
+
+if_short : (b : Bool) (v : Happening) → IsShort (if b then v ∷ [] else [])
+if_short true v = inr (v, refl)
+if_short false v = inl refl
+
+end_kept : (o : Origin) (m : Marks) (next : View) (cycle : ℕ) (part : List Happening) (b : Bool)
+    → (part ≡ []) ⊎ (part ≡ (if b then Ended (at o next.count).status next.count cycle (at o next.count) ∷ [] else []))
+    → marks_from o.start.count m part ≡ m
+end_kept o m next cycle part b (inl none) = ap (marks_from o.start.count m) none
+end_kept o m next cycle part true (inr all) = ap (marks_from o.start.count m) all
+end_kept o m next cycle part false (inr none) = ap (marks_from o.start.count m) none
+
+module _ (o : Origin) (v next : View) (m : Marks) (did : Did) (fresh : Bool) (cycle : ℕ) (least : 1 ≤ o.geometry.epoch) (h : Fits o v m) (s : CoreStep o v did next) where
+  -- the marks that some events leave cover the view after the step
+  IsCovered : List Happening → Type 0
+  IsCovered part = Covers (marks_from o.start.count m part).kept (marks_from o.start.count m part).sealed next.done (doubt_of next)
+
+  covered_by : (part : List Happening) (n : Marks) → marks_from o.start.count m part ≡ n → Covers n.kept n.sealed next.done (doubt_of next) → IsCovered part
+  unfolding IsCovered
+  covered_by part n is c = subst (λ (x : Marks). Covers x.kept x.sealed next.done (doubt_of next)) (sym is) c
+
+  before : (part : List Happening) → marks_from o.start.count m part ≡ m → IsCovered part
+  before part is = covered_by part m is (Covers-before o v next m least h did s)
+
+  behind : (part : List Happening) → marks_from o.start.count m part ≡ marks_from o.start.count m (told o did cycle) → IsCovered part
+  behind part is = covered_by part (marks_from o.start.count m (told o did cycle)) is (Covers-fits o next _ (Fits-told o v next m least h did cycle s).0)
+
+  reload_kept : marks_from o.start.count m (reload_told fresh next) ≡ m
+  reload_kept = (Reloads-told o v next m did fresh least h s).marks
+
+  after_reload : (more : List Happening) → marks_from o.start.count m (reload_told fresh next ++ more) ≡ marks_from o.start.count m more
+  after_reload more = marks_from-append o.start.count m (reload_told fresh next) more ∙ ap (λ n. marks_from o.start.count n more) reload_kept
+
+  of_reload : (part rest : List Happening) → part ++ rest ≡ reload_told fresh next → IsCovered part
+  of_reload part rest e = elim (part_of_short part rest (reload_told fresh next) (if_short (fresh && loads next) Reload) e) as (λ _. IsCovered part) [
+    | inl none ↦ before part (ap (marks_from o.start.count m) none)
+    | inr all ↦ before part (ap (marks_from o.start.count m) all ∙ reload_kept)
+  ]
+
+  of_told : (part more rest : List Happening) → part ≡ reload_told fresh next ++ more → more ++ rest ≡ told o did cycle → IsCovered part
+  of_told part more rest is e = elim (part_of_short more rest (told o did cycle) (told_short o did cycle) e) as (λ _. IsCovered part) [
+    | inl none ↦ before part (ap (marks_from o.start.count m) is ∙ after_reload more ∙ ap (marks_from o.start.count m) none)
+    | inr all ↦ behind part (ap (marks_from o.start.count m) is ∙ after_reload more ∙ ap (marks_from o.start.count m) all)
+  ]
+
+  of_both : (part rest : List Happening) → part ++ rest ≡ reload_told fresh next ++ told o did cycle → IsCovered part
+  of_both part rest e = elim (cutting part rest (reload_told fresh next) (told o did cycle) e) as (λ _. IsCovered part) [
+    | within r f ↦ of_reload part r f
+    | beyond more r is f ↦ of_told part more r is f
+  ]
+
+  of_end : (part more rest : List Happening) → part ≡ reload_told fresh next ++ told o did cycle ++ more → more ++ rest ≡ end_told o v next cycle → IsCovered part
+  of_end part more rest is e =
+      behind part (
+      ap (marks_from o.start.count m) is ∙ marks_from-append o.start.count m (reload_told fresh next ++ told o did cycle) more
+      ∙ end_kept o (marks_from o.start.count m (reload_told fresh next ++ told o did cycle)) next cycle more (halts v next)
+          (part_of_short more rest (end_told o v next cycle) (if_short (halts v next) _) e)
+      ∙ after_reload (told o did cycle))
+
+  -- so the first of a cycle's events do
+  all_covered : (part rest : List Happening) → part ++ rest ≡ events_of o fresh v did next cycle → IsCovered part
+  all_covered part rest e = elim (cutting part rest (reload_told fresh next ++ told o did cycle) (end_told o v next cycle) e) as (λ _. IsCovered part) [
+    | within r f ↦ of_both part r f
+    | beyond more r is f ↦ of_end part more r is f
+  ]
+
+  pub Covers-part : (part rest : List Happening) → part ++ rest ≡ events_of o fresh v did next cycle
+      → Covers (marks_from o.start.count m part).kept (marks_from o.start.count m part).sealed next.done (doubt_of next)
+  unfolding IsCovered
+  Covers-part part rest e = all_covered part rest e
+
+-- ---- safety
+
+-- what is safe for a view is safe for marks that cover it
+pub Safe-covered : (o : Origin) (kept sealed done doubt : Option Mark) (n : Device) → Covers kept sealed done doubt → Safe o done doubt n → Safe o kept sealed n
+Safe-covered o kept sealed done doubt n c safe = λ g crash. weaker (decode o.geometry ceiling g) (safe g crash)
+  where
+    weaker : (d : Decoded) → IsOneOf o done doubt d → IsOneOf o kept sealed d
+    weaker NothingLeft h = c.nothing h
+    weaker (RefusedImage bad) h = h
+    weaker (At epoch state) h = (elim h.0 as (λ _. IsEither kept sealed (mark epoch state.count)) [
+      | inl is ↦ c.of_done (mark epoch state.count) is
+      | inr is ↦ c.of_doubt (mark epoch state.count) is
+    ], h.1)

@@ -1,0 +1,129 @@
+-- All the events of a cycle are lawful, and leave marks that fit the view.
+use Rattle.std.proofs.Common.{◌≡◌, ◌⊎◌, ℕ, ◌+◌, ◌≤◌, Bool, true, false, ◌&&◌, not, is_none, if◌then◌else◌, Option, Some, None, List, [], ◌∷◌, ◌++◌, refl, sym, ◌∙◌, ap, subst, inl, inr, append-nil}
+use Rattle.thy_base.specs.declared.cause.EndCause.{EndCause}
+use Rattle.thy_base.specs.declared.mark.Mark.{Mark}
+use Rattle.thy_text.specs.Happening.{Happening, Reload, Ended}
+use Rattle.thy_text.specs.Marks.{Marks, loading_marks, marks_from, marks_after, AllLawful, Lawful}
+use Rattle.thy_text.proofs.Histories.{marks_from-append, AllLawful-append}
+use Rattle.thy_model.specs.declared.did.Did.{Did}
+use Rattle.thy_model.specs.declared.did.Did.TheVariants.{Boot, Loaded, Restarted, Refused, Moved, Retired, Flushed, Merged, Sealed, Promoted, Engine, Committed, NvmDrained, DramDrained, Nothing}
+use Rattle.thy_model.specs.declared.view.Phase.{Phase}
+use Rattle.thy_model.specs.declared.view.Phase.TheVariants.{Boot as BootPhase, Run, Halt}
+use Rattle.thy_model.specs.declared.view.View.{View}
+use Rattle.thy_model.specs.Calls.{is_boot, is_halt, loads, halts}
+use Rattle.thy_model.specs.CoreStep.{CoreStep, phase_at}
+use Rattle.thy_model.specs.Origin.{Origin, runs_at, at}
+use Rattle.thy_model.proofs.StateLemmas.{both_hold}
+use Rattle.thy_run.specs.Laws.{course_of}
+use Rattle.thy_run.specs.World.{told, reload_told, end_told, events_of}
+use Rattle.thy_run.proofs.Fitting.{Loading, Recovering, BootFits, HaltFits, FitsIn, Fits}
+use Rattle.thy_run.proofs.FittingLaws.{Fits-told}
+
+-- a phase that is none of a boot's
+not_boot : (b : Bool) → (if b then Run else Halt) ≡ BootPhase → {A : Type 0} → A
+not_boot true e = absurd (cc)
+not_boot false e = absurd (cc)
+
+-- a boot that goes on tells nothing but a reload
+pub told-booting : (o : Origin) (v next : View) (did : Did) (cycle : ℕ) → CoreStep o v did next → next.phase ≡ BootPhase → told o did cycle ≡ []
+told-booting o v next Boot cycle s boot = refl
+told-booting o v next Loaded cycle s boot = absurd (let e : next.phase ≡ Run = ap (λ w. w.phase) s.4 in cc)
+told-booting o v next (Restarted epoch count) cycle s boot = not_boot (runs_at o count) (sym (ap (λ w. w.phase) s.4) ∙ boot)
+told-booting o v next (Refused bad) cycle s boot = refl
+told-booting o v next Moved cycle s boot = refl
+told-booting o v next Retired cycle s boot = refl
+told-booting o v next Flushed cycle s boot = refl
+told-booting o v next Merged cycle s boot = refl
+told-booting o v next Promoted cycle s boot = refl
+told-booting o v next (Sealed epoch count cause) cycle s boot = absurd (let e : next.phase ≡ v.phase = ap (λ w. w.phase) s.5 in let r : v.phase ≡ Run = s.0 in cc)
+told-booting o v next (Engine step) cycle s boot = refl
+told-booting o v next (Committed epoch overlapped) cycle s boot = not_boot (runs_at o s.3.0) (sym (ap (λ w. w.phase) s.3.2) ∙ boot)
+told-booting o v next NvmDrained cycle s boot = refl
+told-booting o v next DramDrained cycle s boot = refl
+told-booting o v next Nothing cycle s boot = refl
+
+boot_is : (p : Phase) → is_boot p ≡ true → p ≡ BootPhase
+boot_is BootPhase e = refl
+boot_is Run e = absurd (cc)
+boot_is Halt e = absurd (cc)
+
+halt_is : (p : Phase) → is_halt p ≡ true → p ≡ Halt
+halt_is BootPhase e = absurd (cc)
+halt_is Run e = absurd (cc)
+halt_is Halt e = refl
+
+none_is : (done : Option Mark) → is_none done ≡ true → done ≡ None
+none_is None e = refl
+none_is (Some m) e = absurd (cc)
+
+-- a view that loads is one of a boot that has no committed mark
+pub loads-view : (v : View) → loads v ≡ true → (v.phase ≡ BootPhase) × (v.done ≡ None)
+loads-view v e =
+    let both = both_hold (is_boot v.phase) (is_none v.done) e in
+    (boot_is v.phase both.0, none_is v.done both.1)
+
+-- a view that halts has halted
+pub halts-view : (v next : View) → halts v next ≡ true → next.phase ≡ Halt
+halts-view v next e = halt_is next.phase (both_hold (not (is_halt v.phase)) (is_halt next.phase) e).1
+
+-- the marks of a view that loads are those of a file that is loaded
+loading_marks_of : (o : Origin) (v : View) (m : Marks) → Fits o v m → v.phase ≡ BootPhase → v.done ≡ None → m ≡ loading_marks o.start.count
+loading_marks_of o v m h phase none =
+    let f : BootFits o v m = subst (FitsIn o v m) phase h in
+    elim f.boots as (λ _. m ≡ loading_marks o.start.count) [
+      | inl l ↦ l.marks
+      | inr r ↦ absurd (let some : v.done ≡ Some r.mark = r.done in cc)
+    ]
+
+-- the end of a run is lawful
+end_lawful : (o : Origin) (v next : View) (m : Marks) (cycle : ℕ) → Fits o next m → (b : Bool) → halts v next ≡ b
+    → AllLawful (course_of o) m (if b then Ended (at o next.count).status next.count cycle (at o next.count) ∷ [] else [])
+end_lawful o v next m cycle h false is = tt
+end_lawful o v next m cycle h true is =
+    let f : HaltFits o next m = subst (FitsIn o next m) (halts-view v next is) h in
+    let kept : m.kept ≡ Some (record { epoch = f.mark.epoch; count = next.count }) = f.kept ∙ ap (λ c. Some (record { epoch = f.mark.epoch; count = c })) (sym f.count) in
+    ((record { epoch = f.mark.epoch; kept = kept; whole = refl; over = f.over }, refl), tt)
+
+-- and leaves the marks
+end_marks : (o : Origin) (m : Marks) (next : View) (cycle : ℕ) (b : Bool)
+    → marks_from o.start.count m (if b then Ended (at o next.count).status next.count cycle (at o next.count) ∷ [] else []) ≡ m
+end_marks o m next cycle true = refl
+end_marks o m next cycle false = refl
+
+-- what follows a reload, or none
+pub record Reloads (o : Origin) (m : Marks) (reload : List Happening) : Type 0 where
+  pub lawful : AllLawful (course_of o) m reload
+  pub marks : marks_from o.start.count m reload ≡ m
+
+-- the marks that a reload leaves are those that stood
+pub Reloads-told : (o : Origin) (v next : View) (m : Marks) (did : Did) (fresh : Bool) → 1 ≤ o.geometry.epoch → Fits o v m → CoreStep o v did next
+    → Reloads o m (reload_told fresh next)
+Reloads-told o v next m did fresh least h s = by_test (fresh && loads next) refl
+  where
+    by_test : (b : Bool) → (fresh && loads next) ≡ b → Reloads o m (if b then Reload ∷ [] else [])
+    by_test false is = record { lawful = tt; marks = refl }
+    by_test true is =
+        let view = loads-view next (both_hold fresh (loads next) is).1 in
+        let after : Fits o next (marks_from o.start.count m (told o did 0)) = (Fits-told o v next m least h did 0 s).0 in
+        let now : Fits o next m = subst (λ vs. Fits o next (marks_from o.start.count m vs)) (told-booting o v next did 0 s view.0) after in
+        let marks : m ≡ loading_marks o.start.count = loading_marks_of o next m now view.0 view.1 in
+        record { lawful = (ap (λ n. n.kept) marks, tt); marks = sym marks }
+
+-- all events of a cycle
+pub Fits-events : (o : Origin) (v next : View) (m : Marks) (did : Did) (fresh : Bool) (cycle : ℕ) → 1 ≤ o.geometry.epoch → Fits o v m → CoreStep o v did next
+    → Fits o next (marks_from o.start.count m (events_of o fresh v did next cycle)) × AllLawful (course_of o) m (events_of o fresh v did next cycle)
+Fits-events o v next m did fresh cycle least h s =
+    let reload : List Happening = reload_told fresh next in
+    let step : List Happening = told o did cycle in
+    let end : List Happening = end_told o v next cycle in
+    let reloads = Reloads-told o v next m did fresh least h s in
+    let tells = Fits-told o v next m least h did cycle s in
+    let start : ℕ = o.start.count in
+    let after_step : marks_from start m (reload ++ step) ≡ marks_from start m step = marks_from-append start m reload step ∙ ap (λ n. marks_from start n step) reloads.marks in
+    let after_all : marks_from start m (reload ++ step ++ end) ≡ marks_from start m step
+    = marks_from-append start m (reload ++ step) end ∙ end_marks o (marks_from start m (reload ++ step)) next cycle (halts v next) ∙ after_step in
+    let lawful_step : AllLawful (course_of o) m (reload ++ step)
+    = AllLawful-append (course_of o) m reload step reloads.lawful (subst (λ n. AllLawful (course_of o) n step) (sym reloads.marks) tells.1) in
+    let fits_step : Fits o next (marks_from start m (reload ++ step)) = subst (Fits o next) (sym after_step) tells.0 in
+    (subst (Fits o next) (sym after_all) tells.0,
+    AllLawful-append (course_of o) m (reload ++ step) end lawful_step (end_lawful o v next (marks_from start m (reload ++ step)) cycle fits_step (halts v next) refl))

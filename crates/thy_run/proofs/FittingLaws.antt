@@ -1,0 +1,258 @@
+-- A step keeps view and marks fitting, and its events are lawful.
+use Rattle.std.proofs.Common.{◌≡◌, ◌⊎◌, ℕ, ◌+◌, ◌<◌, ◌≤◌, Bool, true, false, ◌==◌, if◌then◌else◌, Option, Some, None, List, [], ◌∷◌, ◌++◌, refl, sym, ◌∙◌, ap, subst, inl, inr, arith}
+use Rattle.thy_base.specs.declared.cause.EndCause.{EndCause}
+use Rattle.thy_base.specs.declared.cause.EndCause.TheVariants.{Length, Exhausted, Ended as EndedCause}
+use Rattle.thy_base.specs.declared.mark.Mark.{Mark}
+use Rattle.thy_text.specs.Happening.{Happening}
+use Rattle.thy_text.specs.Marks.{Marks, loading_marks, marks_from, marks_after, FitsCause, EndsEpoch, AllLawful, Lawful}
+use Rattle.thy_model.specs.declared.did.Did.{Did}
+use Rattle.thy_model.specs.declared.did.Did.TheVariants.{Boot, Loaded, Restarted, Refused, Moved, Retired, Flushed, Merged, Sealed, Promoted, Engine, Committed, NvmDrained, DramDrained, Nothing}
+use Rattle.thy_model.specs.declared.did.EngineStep.{EngineStep}
+use Rattle.thy_model.specs.declared.did.EngineStep.TheVariants.{Idle, Copied, StateBlock, Barrier, CommitWritten, Committed as EngineCommitted}
+use Rattle.thy_model.specs.declared.view.Phase.{Phase}
+use Rattle.thy_model.specs.declared.view.Phase.TheVariants.{Boot as BootPhase, Run, Halt}
+use Rattle.thy_model.specs.declared.view.View.{View}
+use Rattle.thy_model.specs.CoreStep.{mark, IsShort, busier, BootsTo, MovesTo, EngineTo, CoreStep, over_at, phase_at}
+use Rattle.thy_model.specs.Origin.{Origin, runs_at, at}
+use Rattle.thy_model.proofs.CheckpointLaws.{if_equal}
+use Rattle.thy_run.specs.Laws.{course_of}
+use Rattle.thy_run.specs.World.{told}
+use Rattle.thy_run.proofs.Fitting.{OverFits, IsEither, Rises, Loading, Recovering, BootFits, Follows, RunFits, HaltFits, FitsIn, Fits}
+
+some_is : (a b : Mark) → Some a ≡ Some b → a ≡ b
+some_is a b e = cc
+
+-- marks of which one is missing do not go back
+rises_unsealed : (m : Marks) → m.sealed ≡ None → Rises m
+rises_unsealed m none = λ k s kept sealed. absurd (cc)
+
+-- the fitting of a view by its phase
+in_phase : (o : Origin) (v : View) (m : Marks) (p : Phase) → v.phase ≡ p → FitsIn o v m p → Fits o v m
+in_phase o v m p e h = subst (FitsIn o v m) (sym e) h
+
+of_phase : (o : Origin) (v : View) (m : Marks) (p : Phase) → v.phase ≡ p → Fits o v m → FitsIn o v m p
+of_phase o v m p e h = subst (FitsIn o v m) e h
+
+-- an instruction more: why the epoch is over then
+over_fits : (o : Origin) (retired count : ℕ) → retired < o.geometry.epoch → OverFits o (retired + 1) count (over_at o (retired + 1) count)
+over_fits o retired count few = by_run (runs_at o count) refl
+  where
+    by_length : runs_at o count ≡ true → OverFits o (retired + 1) count (if retired + 1 == o.geometry.epoch then Some Length else None)
+    by_length r =
+        if_equal (OverFits o (retired + 1) count) (retired + 1) o.geometry.epoch (Some Length) None
+        (λ e. (r, e)) (λ d. omega (arith, d, few))
+
+    by_run : (b : Bool) → runs_at o count ≡ b → OverFits o (retired + 1) count (if b then (if retired + 1 == o.geometry.epoch then Some Length else None) else Some EndedCause)
+    by_run true r = by_length r
+    by_run false r = r
+
+module _ (o : Origin) (v next : View) (m : Marks) (least : 1 ≤ o.geometry.epoch) (h : Fits o v m) where
+  -- a step that changes nothing
+  same : next ≡ v → Fits o next m
+  same e = subst (λ w. Fits o w m) (sym e) h
+
+  -- one more cycle of hart or engine
+  busy : v.phase ≡ Run → next ≡ busier v → Fits o next m
+  busy phase e =
+      let f : RunFits o v m = of_phase o v m Run phase h in
+      let now : RunFits o (busier v) m = record { mark = f.mark; done = f.done; kept = f.kept; sealed = f.sealed; follows = f.follows; few = f.few; over = f.over } in
+      subst (λ w. Fits o w m) (sym e) (in_phase o (busier v) m Run phase now)
+
+  -- the boot goes on
+  boots : v.phase ≡ BootPhase → BootsTo v next → Fits o next m
+  boots phase (inl e) = same e
+  boots phase (inr b) =
+      let f : BootFits o v m = of_phase o v m BootPhase phase h in
+      let w : View = record v { written = true } in
+      let loading : Loading o v m ⊎ Recovering v m → Loading o w m ⊎ Recovering w m = λ x. elim x as (λ _. Loading o w m ⊎ Recovering w m) [
+        | inl l ↦ inl (record { done = l.done; sealed = l.sealed; marks = l.marks })
+        | inr r ↦ absurd (let some : v.done ≡ Some r.mark = r.done in let none : v.done ≡ None = b.0 in cc)
+      ] in
+      let now : BootFits o w m = record { retired = f.retired; over = f.over; boots = loading f.boots } in
+      subst (λ w. Fits o w m) (sym b.1) (in_phase o w m BootPhase phase now)
+
+  -- the engine goes on
+  engine : v.phase ≡ Run → ((s : Mark) × (v.sealed ≡ Some s)) → (step : EngineStep) → EngineTo step v next → Fits o next m
+  engine phase some Idle e = busy phase e
+  engine phase some Copied e = busy phase e
+  engine phase some StateBlock e = busy phase e
+  engine phase some Barrier e = busy phase e
+  engine phase some (EngineCommitted epoch) e = absurd e
+  engine phase (s, is) CommitWritten e =
+      let f : RunFits o v m = of_phase o v m Run phase h in
+      let w : View = record (busier v) { written = true } in
+      let follows : Follows o w f.mark w.sealed =
+          subst (Follows o w f.mark) (sym is) (let g : Follows o v f.mark (Some s) = subst (Follows o v f.mark) is f.follows in (g.0, g.1, g.2, g.3)) in
+      let now : RunFits o w m = record { mark = f.mark; done = f.done; kept = f.kept; sealed = f.sealed; follows = follows; few = f.few; over = f.over } in
+      subst (λ w. Fits o w m) (sym e) (in_phase o w m Run phase now)
+
+  -- an instruction more
+  retires : v.phase ≡ Run → v.over ≡ None → runs_at o v.count ≡ true
+      → next ≡ record (busier v) { count = v.count + 1; retired = v.retired + 1; lap = v.lap + 1; over = over_at o (v.retired + 1) (v.count + 1) } → Fits o next m
+  retires phase over runs e =
+      let f : RunFits o v m = of_phase o v m Run phase h in
+      let w : View = record (busier v) { count = v.count + 1; retired = v.retired + 1; lap = v.lap + 1; over = over_at o (v.retired + 1) (v.count + 1) } in
+      let few : v.retired < o.geometry.epoch = subst (OverFits o v.retired v.count) over f.over in
+      let follows : (sealed : Option Mark) → Follows o v f.mark sealed → Follows o w f.mark sealed = λ sealed g. later sealed g in
+      let now : RunFits o w m = record {
+        mark = f.mark;
+        done = f.done;
+        kept = f.kept;
+        sealed = f.sealed;
+        follows = follows v.sealed f.follows;
+        few = omega (arith, few);
+        over = over_fits o v.retired (v.count + 1) few;
+      } in
+      subst (λ w. Fits o w m) (sym e) (in_phase o w m Run phase now)
+    where
+      later : (sealed : Option Mark) → Follows o v (of_phase o v m Run phase h).mark sealed → Follows o (record (busier v) { count = v.count + 1; retired = v.retired + 1; lap = v.lap + 1; over = over_at o (v.retired + 1) (v.count + 1) }) (of_phase o v m Run phase h).mark sealed
+      later None g = (g.0, g.1, omega (arith, g.2))
+      later (Some s) g = (g.0, omega (arith, g.1), g.2, λ ended. absurd (
+          let still : v.count ≡ s.count = omega (arith, g.1, g.3 ended) in
+          let no : runs_at o v.count ≡ false = ap (runs_at o) still ∙ ended in cc))
+
+  -- the hart moves on, or its epoch is exhausted
+  moves : v.phase ≡ Run → v.over ≡ None → runs_at o v.count ≡ true → MovesTo v next → Fits o next m
+  moves phase over runs (inl e) = busy phase e
+  moves phase over runs (inr (free, dirty, need, short, e)) =
+      let f : RunFits o v m = of_phase o v m Run phase h in
+      let w : View = record (busier v) { over = Some (Exhausted free dirty need) } in
+      let few : v.retired < o.geometry.epoch = subst (OverFits o v.retired v.count) over f.over in
+      let now : RunFits o w m = record { mark = f.mark; done = f.done; kept = f.kept; sealed = f.sealed; follows = f.follows; few = f.few; over = (runs, few, short) } in
+      subst (λ w. Fits o w m) (sym e) (in_phase o w m Run phase now)
+
+  -- the program is loaded: its checkpoint is committed
+  loads : (cycle : ℕ) → v.phase ≡ BootPhase → v.done ≡ None → v.sealed ≡ Some (mark 0 o.start.count)
+      → next ≡ record v { phase = Run; done = v.sealed; sealed = None; epoch = 1; count = o.start.count; written = false }
+      → Fits o next (marks_from o.start.count m (told o Loaded cycle)) × AllLawful (course_of o) m (told o Loaded cycle)
+  loads cycle phase none sealed e =
+      let f : BootFits o v m = of_phase o v m BootPhase phase h in
+      let is : m ≡ loading_marks o.start.count = elim f.boots as (λ _. m ≡ loading_marks o.start.count) [
+        | inl l ↦ l.marks
+        | inr r ↦ absurd (let some : v.done ≡ Some r.mark = r.done in cc)
+      ] in
+      let w : View = record v { phase = Run; done = v.sealed; sealed = None; epoch = 1; count = o.start.count; written = false } in
+      let retired : v.retired ≡ 0 = f.retired in
+      let now : RunFits o w (marks_from o.start.count m (told o Loaded cycle)) = record {
+        mark = mark 0 o.start.count;
+        done = sealed;
+        kept = ap (λ n. n.sealed) is;
+        sealed = refl;
+        follows = (refl, refl, omega (arith, retired));
+        few = omega (arith, retired);
+        over = subst (OverFits o v.retired o.start.count) (sym f.over) (omega (arith, retired, least));
+      } in
+      (subst (λ w. Fits o w (marks_from o.start.count m (told o Loaded cycle))) (sym e) now, ((o.start.count, ap (λ n. n.sealed) is), tt))
+
+  -- an epoch was restored
+  restarts : (epoch count cycle : ℕ) → v.phase ≡ BootPhase → v.done ≡ Some (mark epoch count) → v.sealed ≡ None → v.written ≡ false
+      → next ≡ record v { phase = phase_at o count; epoch = epoch + 1; count = count }
+      → Fits o next (marks_from o.start.count m (told o (Restarted epoch count) cycle)) × AllLawful (course_of o) m (told o (Restarted epoch count) cycle)
+  restarts epoch count cycle phase done none written e =
+      let f : BootFits o v m = of_phase o v m BootPhase phase h in
+      let either : IsEither m.kept m.sealed (mark epoch count) = elim f.boots as (λ _. IsEither m.kept m.sealed (mark epoch count)) [
+        | inl l ↦ absurd (let missing : v.done ≡ None = l.done in cc)
+        | inr r ↦ subst (IsEither m.kept m.sealed) (some_is r.mark (mark epoch count) (sym r.done ∙ done)) r.either
+      ] in
+      let retired : v.retired ≡ 0 = f.retired in
+      let now : Marks = marks_from o.start.count m (told o (Restarted epoch count) cycle) in
+      let by_run : (b : Bool) → runs_at o count ≡ b → Fits o (record v { phase = if b then Run else Halt; epoch = epoch + 1; count = count }) now = λ b runs. begun f b runs in
+      (subst (λ w. Fits o w now) (sym e) (by_run (runs_at o count) refl), ((record { marked = either; whole = refl }), tt))
+    where
+      begun : BootFits o v m → (b : Bool) → runs_at o count ≡ b
+          → Fits o (record v { phase = if b then Run else Halt; epoch = epoch + 1; count = count }) (marks_from o.start.count m (told o (Restarted epoch count) cycle))
+      begun f true runs = let retired : v.retired ≡ 0 = f.retired in record {
+        mark = mark epoch count;
+        done = done;
+        kept = refl;
+        sealed = sym none;
+        follows = subst (Follows o (record v { phase = Run; epoch = epoch + 1; count = count }) (mark epoch count)) (sym none) (written, refl, omega (arith, retired));
+        few = omega (arith, retired);
+        over = subst (OverFits o v.retired count) (sym f.over) (omega (arith, retired, least));
+      }
+      begun f false runs = record { mark = mark epoch count; done = done; sealed = none; written = written; kept = refl; none = refl; count = refl; over = runs }
+
+  -- an epoch is sealed: it ends lawfully
+  seals : (epoch count cycle : ℕ) (cause : EndCause) → v.phase ≡ Run → v.sealed ≡ None → epoch ≡ v.epoch → count ≡ v.count → v.over ≡ Some cause
+      → next ≡ record v { sealed = Some (mark epoch count); epoch = v.epoch + 1; retired = 0; spent = 0; lap = 0; over = None }
+      → Fits o next (marks_from o.start.count m (told o (Sealed epoch count cause) cycle)) × AllLawful (course_of o) m (told o (Sealed epoch count cause) cycle)
+  seals epoch count cycle cause phase none of at_count over e =
+      let f : RunFits o v m = of_phase o v m Run phase h in
+      let g : Follows o v f.mark None = subst (Follows o v f.mark) none f.follows in
+      let w : View = record v { sealed = Some (mark epoch count); epoch = v.epoch + 1; retired = 0; spent = 0; lap = 0; over = None } in
+      let fits : OverFits o v.retired v.count (Some cause) = subst (OverFits o v.retired v.count) over f.over in
+      let now : RunFits o w (marks_from o.start.count m (told o (Sealed epoch count cause) cycle)) = record {
+        mark = f.mark;
+        done = f.done;
+        kept = f.kept;
+        sealed = refl;
+        follows = (omega (arith, of), omega (arith, at_count), omega (arith, g.2, at_count), λ ended. refl);
+        few = omega arith;
+        over = least;
+      } in
+      let ends : EndsEpoch (course_of o) m epoch count cause = record {
+        before = f.mark.epoch;
+        last = f.mark.count;
+        follows = of ∙ g.1;
+        kept = f.kept;
+        alone = f.sealed ∙ none;
+        from = omega (arith, g.2, at_count);
+        to = omega (arith, g.2, at_count, f.few);
+        fits = for_cause f.mark cause g.2 fits;
+      } in
+      (subst (λ w. Fits o w (marks_from o.start.count m (told o (Sealed epoch count cause) cycle))) (sym e) (in_phase o w _ Run phase now), (ends, tt))
+    where
+      for_cause : (d : Mark) (c : EndCause) → v.count ≡ d.count + v.retired → OverFits o v.retired v.count (Some c) → FitsCause (course_of o) d.count count c
+      for_cause d EndedCause from fits = ap (runs_at o) at_count ∙ fits
+      for_cause d Length from fits = (ap (runs_at o) at_count ∙ fits.0, omega (arith, from, at_count, fits.1))
+      for_cause d (Exhausted free dirty need) from fits =
+          (ap (runs_at o) at_count ∙ fits.0, λ same. absurd (omega (arith, from, at_count, fits.1, same)), fits.2.short, fits.2.some, fits.2.most)
+
+  -- a checkpoint is committed
+  commits : (epoch overlapped cycle count : ℕ) → v.phase ≡ Run → v.sealed ≡ Some (mark epoch count)
+      → next ≡ record (busier v) { phase = phase_at o count; done = v.sealed; sealed = None; written = false }
+      → Fits o next (marks_from o.start.count m (told o (Committed epoch overlapped) cycle)) × AllLawful (course_of o) m (told o (Committed epoch overlapped) cycle)
+  commits epoch overlapped cycle count phase sealed e =
+      let f : RunFits o v m = of_phase o v m Run phase h in
+      let g : Follows o v f.mark (Some (mark epoch count)) = subst (Follows o v f.mark) sealed f.follows in
+      let now : Marks = marks_from o.start.count m (told o (Committed epoch overlapped) cycle) in
+      (subst (λ w. Fits o w now) (sym e) (goes_on f g (runs_at o count) refl), ((count, f.sealed ∙ sealed), tt))
+    where
+      goes_on : (f : RunFits o v m) → Follows o v f.mark (Some (mark epoch count)) → (b : Bool) → runs_at o count ≡ b
+          → Fits o (record (busier v) { phase = if b then Run else Halt; done = v.sealed; sealed = None; written = false }) (marks_from o.start.count m (told o (Committed epoch overlapped) cycle))
+      goes_on f g true runs = record {
+        mark = mark epoch count;
+        done = sealed;
+        kept = f.sealed ∙ sealed;
+        sealed = refl;
+        follows = (refl, g.0, g.1);
+        few = f.few;
+        over = f.over;
+      }
+      goes_on f g false runs =
+          let still : v.count ≡ count = omega (arith, g.1, g.3 runs) in
+          record { mark = mark epoch count; done = sealed; sealed = refl; written = refl; kept = f.sealed ∙ sealed; none = refl; count = still; over = ap (runs_at o) still ∙ runs }
+
+  -- a step that tells nothing
+  quiet : (did : Did) (cycle : ℕ) → told o did cycle ≡ [] → Fits o next m → Fits o next (marks_from o.start.count m (told o did cycle)) × AllLawful (course_of o) m (told o did cycle)
+  quiet did cycle none fits =
+      (subst (λ vs. Fits o next (marks_from o.start.count m vs)) (sym none) fits, subst (AllLawful (course_of o) m) (sym none) tt)
+
+  -- a step keeps view and marks fitting, and what it tells is lawful
+  pub Fits-told : (did : Did) (cycle : ℕ) → CoreStep o v did next
+      → Fits o next (marks_from o.start.count m (told o did cycle)) × AllLawful (course_of o) m (told o did cycle)
+  Fits-told Boot cycle s = quiet Boot cycle refl (boots s.0 s.1)
+  Fits-told Loaded cycle s = loads cycle s.0 s.1 s.3 s.4
+  Fits-told (Restarted epoch count) cycle s = restarts epoch count cycle s.0 s.1 s.2 s.3 s.4
+  Fits-told (Refused bad) cycle s = quiet (Refused bad) cycle refl (same s.1)
+  Fits-told Moved cycle s = quiet Moved cycle refl (moves s.0 s.1 s.2 s.3)
+  Fits-told Retired cycle s = quiet Retired cycle refl (retires s.0 s.1 s.2 s.3)
+  Fits-told Flushed cycle s = quiet Flushed cycle refl (busy s.0 s.1)
+  Fits-told Merged cycle s = quiet Merged cycle refl (busy s.0 s.1)
+  Fits-told Promoted cycle s = quiet Promoted cycle refl (busy s.0 s.1)
+  Fits-told (Sealed epoch count cause) cycle s = seals epoch count cycle cause s.0 s.1 s.2 s.3 s.4 s.5
+  Fits-told (Engine step) cycle s = quiet (Engine step) cycle refl (engine s.0 s.1 step s.2)
+  Fits-told (Committed epoch overlapped) cycle s = commits epoch overlapped cycle s.3.0 s.0 s.3.1 s.3.2
+  Fits-told NvmDrained cycle s = quiet NvmDrained cycle refl (same s)
+  Fits-told DramDrained cycle s = quiet DramDrained cycle refl (same s)
+  Fits-told Nothing cycle s = quiet Nothing cycle refl (same s.1)

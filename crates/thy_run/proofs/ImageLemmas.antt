@@ -1,0 +1,84 @@
+-- What the images that cuts left have to do with events, as cycles and cuts add to both.
+use Rattle.std.proofs.Common.{◌≡◌, ◌⊎◌, ℕ, ◌+◌, ◌-◌, ◌<◌, ◌≤◌, Bool, true, false, ◌&&◌, not, if◌then◌else◌, Option, Some, None, List, [], ◌∷◌, ◌++◌, length, get_or, refl, sym, ◌∙◌, ap, subst, inl, inr, arith}
+use Rattle.std.specs.Prelude.{◌≢◌, slice_index_or}
+use Rattle.std.proofs.lemmas.List.{get_or_append_left}
+use Rattle.thy_base.specs.declared.block.Block.{Block}
+use Rattle.thy_base.specs.declared.mark.Mark.{Mark}
+use Rattle.thy_record.specs.Decode.{Decoded, Nothing as NothingLeft, Refused as RefusedImage, At, decode}
+use Rattle.thy_text.specs.Happening.{Happening, EpochEnd, Commit, Cut, Restart, Reload, Ended}
+use Rattle.thy_model.specs.Origin.{Origin}
+use Rattle.thy_model.specs.Safe.{ceiling}
+use Rattle.thy_run.specs.Images.{left_by, Since, since_after, since_from, no_cuts, HasLeft, FitsImage, AllFitImages, EndsFitting}
+
+-- ---- events one after another
+
+pub since_from-append : (s : Since) (vs ws : List Happening) → since_from s (vs ++ ws) ≡ since_from (since_from s vs) ws
+since_from-append s [] ws = refl
+since_from-append s (v ∷ vs) ws = since_from-append (since_after s v) vs ws
+
+pub AllFitImages-append : (o : Origin) (left : List (List Block)) (s : Since) (vs ws : List Happening)
+    → AllFitImages o left s vs → AllFitImages o left (since_from s vs) ws → AllFitImages o left s (vs ++ ws)
+AllFitImages-append o left s [] ws before more = more
+AllFitImages-append o left s (v ∷ vs) ws before more = (before.0, AllFitImages-append o left (since_after s v) vs ws before.1 more)
+
+-- and the first of them
+pub AllFitImages-part : (o : Origin) (left : List (List Block)) (s : Since) (vs ws : List Happening) → AllFitImages o left s (vs ++ ws) → AllFitImages o left s vs
+AllFitImages-part o left s [] ws all = tt
+AllFitImages-part o left s (v ∷ vs) ws all = (all.0, AllFitImages-part o left (since_after s v) vs ws all.1)
+
+-- ---- one more image
+
+-- right behind a cut, there has been one
+abbrev pub IsValid : Since → Type 0
+IsValid s = (cycle : ℕ) → s.just ≡ Some cycle → 0 < s.cuts
+
+valid_after : (s : Since) (v : Happening) → IsValid (since_after s v)
+valid_after s (Cut index at) = λ cycle e. omega arith
+valid_after s (EpochEnd epoch count cause) = λ cycle e. absurd (cc)
+valid_after s (Commit epoch at overlapped) = λ cycle e. absurd (cc)
+valid_after s (Restart epoch count state) = λ cycle e. absurd (cc)
+valid_after s Reload = λ cycle e. absurd (cc)
+valid_after s (Ended status count at state) = λ cycle e. absurd (cc)
+
+valid_from : (s : Since) (vs : List Happening) → IsValid s → IsValid (since_from s vs)
+valid_from s [] h = h
+valid_from s (v ∷ vs) h = valid_from (since_after s v) vs (valid_after s v)
+
+pub valid_events : (vs : List Happening) → IsValid (since_from no_cuts vs)
+valid_events vs = valid_from no_cuts vs (λ cycle e. absurd (cc))
+
+more_cuts : (s : Since) (v : Happening) → s.cuts ≤ (since_after s v).cuts
+more_cuts s (Cut index at) = omega arith
+more_cuts s (EpochEnd epoch count cause) = omega arith
+more_cuts s (Commit epoch at overlapped) = omega arith
+more_cuts s (Restart epoch count state) = omega arith
+more_cuts s Reload = omega arith
+more_cuts s (Ended status count at state) = omega arith
+
+cuts_grow : (s : Since) (vs : List Happening) → s.cuts ≤ (since_from s vs).cuts
+cuts_grow s [] = omega arith
+cuts_grow s (v ∷ vs) = let one = more_cuts s v in let rest = cuts_grow (since_after s v) vs in omega (arith, one, rest)
+
+-- an earlier image is as it was
+pub left_by-more : (o : Origin) (left : List (List Block)) (g : List Block) (k : ℕ) → 0 < k → k ≤ length left → left_by o (left ++ g ∷ []) k ≡ left_by o left k
+left_by-more o left g k some few = ap (decode o.geometry ceiling) (get_or_append_left left (g ∷ []) [] (k - 1) (omega arith))
+
+HasLeft-more : (o : Origin) (left : List (List Block)) (g : List Block) (s : Since) → IsValid s → s.cuts ≤ length left → HasLeft o left s → HasLeft o (left ++ g ∷ []) s
+HasLeft-more o left g s valid few h = λ cycle e f. h cycle e (sym (left_by-more o left g s.cuts (valid cycle e) few) ∙ f)
+
+fits_more : (o : Origin) (left : List (List Block)) (g : List Block) (s : Since) (v : Happening) → IsValid s → s.cuts ≤ length left → FitsImage o left s v → FitsImage o (left ++ g ∷ []) s v
+fits_more o left g s (Restart epoch count state) valid few h = (h.0, left_by-more o left g s.cuts h.0 few ∙ h.1)
+fits_more o left g s Reload valid few h = (left_by-more o left g s.cuts (valid h.1.0 h.1.1) few ∙ h.0, h.1)
+fits_more o left g s (EpochEnd epoch count cause) valid few h = HasLeft-more o left g s valid few h
+fits_more o left g s (Commit epoch at overlapped) valid few h = HasLeft-more o left g s valid few h
+fits_more o left g s (Cut index at) valid few h = HasLeft-more o left g s valid few h
+fits_more o left g s (Ended status count at state) valid few h = HasLeft-more o left g s valid few h
+
+pub AllFitImages-more : (o : Origin) (left : List (List Block)) (g : List Block) (s : Since) (vs : List Happening) → IsValid s → (since_from s vs).cuts ≤ length left
+    → AllFitImages o left s vs → AllFitImages o (left ++ g ∷ []) s vs
+AllFitImages-more o left g s [] valid few all = tt
+AllFitImages-more o left g s (v ∷ vs) valid few all =
+    let one = more_cuts s v in
+    let rest = cuts_grow (since_after s v) vs in
+    (fits_more o left g s v valid (omega (arith, one, rest, few)) all.0,
+    AllFitImages-more o left g (since_after s v) vs (valid_after s v) few all.1)
