@@ -63,7 +63,7 @@ cuts_grow s (v ∷ vs) = let one = more_cuts s v in let rest = cuts_grow (since_
 pub left_by-more : (o : Origin) (left : List (List Block)) (g : List Block) (k : ℕ) → 0 < k → k ≤ length left → left_by o (left ++ g ∷ []) k ≡ left_by o left k
 left_by-more o left g k some few = ap (decode o.geometry ceiling) (get_or_append_left left (g ∷ []) [] (k - 1) (omega arith))
 
-HasLeft-more : (o : Origin) (left : List (List Block)) (g : List Block) (s : Since) → IsValid s → s.cuts ≤ length left → HasLeft o left s → HasLeft o (left ++ g ∷ []) s
+pub HasLeft-more : (o : Origin) (left : List (List Block)) (g : List Block) (s : Since) → IsValid s → s.cuts ≤ length left → HasLeft o left s → HasLeft o (left ++ g ∷ []) s
 HasLeft-more o left g s valid few h = λ cycle e f. h cycle e (sym (left_by-more o left g s.cuts (valid cycle e) few) ∙ f)
 
 fits_more : (o : Origin) (left : List (List Block)) (g : List Block) (s : Since) (v : Happening) → IsValid s → s.cuts ≤ length left → FitsImage o left s v → FitsImage o (left ++ g ∷ []) s v

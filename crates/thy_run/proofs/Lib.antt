@@ -5,3 +5,4 @@ pub mod CoverLaws
 pub mod ListedLemmas
 pub mod ImageLemmas
 pub mod ImageLaws
+pub mod WorldLaws

@@ -33,7 +33,7 @@ up_false : (c n : ℕ) (ns : List ℕ) → c < n → cuts_up_to c (n ∷ ns) ≡
 up_false c n ns lt = take_while-cons (λ x. nat_le x c) n ns ∙ ap (λ b. cond b (n ∷ take_while (λ x. nat_le x c) ns) []) (not_le n c lt)
 
 -- none of a list that rises from there on
-up_none : (c before : ℕ) (ns : List ℕ) → first_not_rising before ns ≡ None → c ≤ before → cuts_up_to c ns ≡ []
+pub up_none : (c before : ℕ) (ns : List ℕ) → first_not_rising before ns ≡ None → c ≤ before → cuts_up_to c ns ≡ []
 up_none c before [] rising le = refl
 up_none c before (n ∷ ns) rising le = let above = (rises_on before n ns rising).0 in up_false c n ns (omega arith)
 

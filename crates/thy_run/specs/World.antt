@@ -1,5 +1,5 @@
 -- A run: its cycles, the power cuts between them, and the events that they give.
-use Rattle.std.specs.Prelude.{◌≡◌, ℕ, zero, suc, ◌+◌, ◌==◌, Bool, true, false, ◌&&◌, not, nat_lt, if◌then◌else◌, MatchBool, List, [], ◌∷◌, ◌++◌, length, slice_index}
+use Rattle.std.specs.Prelude.{◌≡◌, ℕ, zero, suc, ◌+◌, ◌==◌, Bool, true, false, ◌&&◌, not, nat_lt, if◌then◌else◌, MatchBool, List, [], ◌∷◌, ◌++◌, length, slice_index, None}
 use Rattle.thy_base.specs.declared.mix.Mix.{Mix}
 use Rattle.thy_base.specs.Device.{Device, IsCut, IsFramed}
 use Rattle.thy_base.specs.Mix.{mix_start, mix_pick, mix_next}
@@ -12,7 +12,7 @@ use Rattle.thy_model.specs.declared.view.View.{View}
 use Rattle.thy_model.specs.Boot.{loading_view, view_of_image}
 use Rattle.thy_model.specs.Calls.{Core, IsAt, IsStep, loads, halts, is_halt}
 use Rattle.thy_model.specs.Origin.{Origin, at}
-use Rattle.thy_model.specs.Safe.{ceiling}
+use Rattle.thy_model.specs.Safe.{ceiling, Safe}
 use Rattle.thy_model.specs.Sound.{view_of}
 
 -- a run between two cycles
@@ -120,6 +120,7 @@ pub record Cycle (o : Origin) (cuts : List ℕ) (w next : World) : Type 0 where
 pub record IsFirst (o : Origin) (seed : ℕ) (w : World) : Type 0 where
   pub powered : IsAt o 0 w.machine w.device
   pub loading : seen o w ≡ loading_view o.start.count
+  pub safe : Safe o None None w.device
   pub left : w.device.left ≡ []
   pub mix : w.mix ≡ mix_start seed
   pub passed : w.passed ≡ 0

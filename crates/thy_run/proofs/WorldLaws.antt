@@ -1,0 +1,441 @@
+-- What holds of a run between two cycles, and that one more cycle keeps it.
+use Rattle.std.proofs.Common.{◌≡◌, ◌⊎◌, ℕ, zero, suc, ◌+◌, ◌-◌, ◌<◌, ◌≤◌, Bool, true, false, ◌&&◌, ◌||◌, ◌==◌, not, nat_lt, if◌then◌else◌, Option, Some, None, List, [], ◌∷◌, ◌++◌, length, take, refl, sym, ◌∙◌, ap, subst, inl, inr, append-nil, length-append, add-zero, arith}
+use Rattle.std.specs.Prelude.{◌≢◌, slice_index, slice_index_or, MatchBool}
+use Rattle.std.specs.List.{list_any}
+use Rattle.std.proofs.lemmas.Bool.{or_from, eq-eqb, eqb-true, ltb-true, lt-ltb}
+use Rattle.std.proofs.lemmas.List.Folds.{list_any-append}
+use Rattle.std.proofs.Math.Seq.{get_or-append_seam}
+use Rattle.thy_base.specs.declared.block.Block.{Block}
+use Rattle.thy_base.specs.declared.mark.Mark.{Mark}
+use Rattle.thy_base.specs.Config.{first_not_rising}
+use Rattle.thy_base.specs.Device.{Device, Crash, IsCut, IsFramed, cut_to}
+use Rattle.thy_base.proofs.CrashLemmas.{Crash-cut_to}
+use Rattle.thy_record.specs.Decode.{Decoded, Nothing as NothingLeft, Refused as RefusedImage, At, decode}
+use Rattle.thy_text.specs.Happening.{Happening, EpochEnd, Commit, Cut, Restart, Reload, Ended}
+use Rattle.thy_text.specs.Marks.{Marks, loading_marks, marks_from, AllLawful}
+use Rattle.thy_text.proofs.Histories.{marks_from-append, AllLawful-append}
+use Rattle.thy_model.specs.declared.did.Did.{Did}
+use Rattle.thy_model.specs.declared.did.Did.TheVariants.{Boot, Loaded, Restarted, Refused, Moved, Retired, Flushed, Merged, Sealed, Promoted, Engine, Committed, NvmDrained, DramDrained, Nothing}
+use Rattle.thy_model.specs.declared.view.Phase.{Phase}
+use Rattle.thy_model.specs.declared.view.Phase.TheVariants.{Boot as BootPhase, Run, Halt}
+use Rattle.thy_model.specs.declared.view.View.{View}
+use Rattle.thy_model.specs.Boot.{boot_view, loading_view, view_of_image}
+use Rattle.thy_model.specs.Calls.{IsAt, is_boot, is_halt, loads, halts}
+use Rattle.thy_model.specs.CoreStep.{mark, CoreStep}
+use Rattle.thy_model.specs.Origin.{Origin, at}
+use Rattle.thy_model.specs.Safe.{ceiling, Safe, IsOneOf}
+use Rattle.thy_model.specs.Sound.{doubt_of}
+use Rattle.thy_model.proofs.CycleLaws.{Safe-doubt}
+use Rattle.thy_run.specs.Cuts.{is_cut, is_end, has_ended, cuts_among, numbered, last_cuttable, cuts_up_to}
+use Rattle.thy_run.specs.Images.{left_by, Since, since_after, since_from, no_cuts, HasLeft, FitsImage, AllFitImages, EndsFitting}
+use Rattle.thy_run.specs.Laws.{course_of, marks_of}
+use Rattle.thy_run.specs.World.{World, seen, told, reload_told, end_told, events_of, stepped, Steps, is_due, cut_off, IsCutOff, Cycle, IsFirst, Ran}
+use Rattle.thy_run.proofs.Fitting.{IsEither, Rises, Loading, Recovering, BootFits, Follows, RunFits, HaltFits, FitsIn, Fits, Covers}
+use Rattle.thy_run.proofs.CoverLaws.{Covers-fits, Safe-covered}
+use Rattle.thy_run.proofs.EventLaws.{Fits-events}
+use Rattle.thy_run.proofs.ImageLaws.{IsFound, BootFinds, ImagesFit, StepFits, StepFits-events}
+use Rattle.thy_run.proofs.ImageLemmas.{since_from-append, AllFitImages-append, AllFitImages-more, valid_events, left_by-more, HasLeft-more}
+use Rattle.thy_run.proofs.ListedLemmas.{NextCut, next_cut, cuts_among-append, numbered-take, up_none}
+
+-- ---- the events of a step are neither cuts nor, unless it halts, an end
+
+told_uncut : (o : Origin) (did : Did) (cycle : ℕ) → (cuts_among (told o did cycle) ≡ []) × (has_ended (told o did cycle) ≡ false)
+told_uncut o Boot cycle = (refl, refl)
+told_uncut o Loaded cycle = (refl, refl)
+told_uncut o (Restarted epoch count) cycle = (refl, refl)
+told_uncut o (Refused bad) cycle = (refl, refl)
+told_uncut o Moved cycle = (refl, refl)
+told_uncut o Retired cycle = (refl, refl)
+told_uncut o Flushed cycle = (refl, refl)
+told_uncut o Merged cycle = (refl, refl)
+told_uncut o Promoted cycle = (refl, refl)
+told_uncut o (Sealed epoch count cause) cycle = (refl, refl)
+told_uncut o (Engine step) cycle = (refl, refl)
+told_uncut o (Committed epoch overlapped) cycle = (refl, refl)
+told_uncut o NvmDrained cycle = (refl, refl)
+told_uncut o DramDrained cycle = (refl, refl)
+told_uncut o Nothing cycle = (refl, refl)
+
+reload_uncut : (b : Bool) → (cuts_among (if b then Reload ∷ [] else []) ≡ []) × (has_ended (if b then Reload ∷ [] else []) ≡ false)
+reload_uncut true = (refl, refl)
+reload_uncut false = (refl, refl)
+
+end_uncut : (o : Origin) (next : View) (cycle : ℕ) (b : Bool)
+    → (cuts_among (if b then Ended (at o next.count).status next.count cycle (at o next.count) ∷ [] else []) ≡ [])
+    × (has_ended (if b then Ended (at o next.count).status next.count cycle (at o next.count) ∷ [] else []) ≡ b)
+end_uncut o next cycle true = (refl, refl)
+end_uncut o next cycle false = (refl, refl)
+
+pub events_uncut : (o : Origin) (fresh : Bool) (v : View) (did : Did) (next : View) (cycle : ℕ) → cuts_among (events_of o fresh v did next cycle) ≡ []
+events_uncut o fresh v did next cycle =
+    cuts_among-append (reload_told fresh next ++ told o did cycle) (end_told o v next cycle)
+    ∙ ap (λ (l : List Happening). l ++ cuts_among (end_told o v next cycle)) (cuts_among-append (reload_told fresh next) (told o did cycle)
+    ∙ ap (λ (l : List Happening). l ++ cuts_among (told o did cycle)) (reload_uncut (fresh && loads next)).0
+    ∙ (told_uncut o did cycle).0)
+    ∙ (end_uncut o next cycle (halts v next)).0
+
+pub events_end : (o : Origin) (fresh : Bool) (v : View) (did : Did) (next : View) (cycle : ℕ) → has_ended (events_of o fresh v did next cycle) ≡ halts v next
+events_end o fresh v did next cycle =
+    list_any-append is_end (reload_told fresh next ++ told o did cycle) (end_told o v next cycle)
+    ∙ ap (λ b. b || has_ended (end_told o v next cycle)) (list_any-append is_end (reload_told fresh next) (told o did cycle)
+    ∙ or_from (has_ended (reload_told fresh next)) (has_ended (told o did cycle)) (reload_uncut (fresh && loads next)).1 (told_uncut o did cycle).1)
+    ∙ (end_uncut o next cycle (halts v next)).1
+
+-- ---- between two cycles
+
+-- what holds whatever the cuts are
+pub record Coheres (o : Origin) (w : World) : Type 0 where
+  pub at_moment : IsAt o w.cycles w.machine w.device
+  pub fits : Fits o (seen o w) (marks_of o w.events)
+  pub lawful : AllLawful (course_of o) (loading_marks o.start.count) w.events
+  pub safe : Safe o (marks_of o w.events).kept (marks_of o w.events).sealed w.device
+  pub each : AllFitImages o w.device.left no_cuts w.events
+  pub images : ImagesFit o w.device.left w.cycles w.fresh (seen o w) (since_from no_cuts w.events)
+  pub since : (since_from no_cuts w.events).cuts ≡ w.passed
+  pub left : length w.device.left ≡ w.passed
+  pub ended : has_ended w.events ≡ is_halt (seen o w).phase
+  pub queue : w.fresh ≡ true → w.device.queue ≡ []
+
+-- the cuts that have fallen are the listed ones up to a cycle
+pub record Listed (cuts : List ℕ) (cycle : ℕ) (w : World) : Type 0 where
+  pub few : w.passed ≤ length cuts
+  pub up_to : cuts_up_to cycle cuts ≡ take w.passed cuts
+  pub among : cuts_among w.events ≡ numbered 1 (take w.passed cuts)
+
+pub record Good (o : Origin) (cuts : List ℕ) (w : World) : Type 0 where
+  pub stands : Coheres o w
+  pub listed : Listed cuts (last_cuttable w.events w.cycles) w
+
+-- ---- a step
+
+and_true : (b : Bool) → (true && b) ≡ b
+and_true true = refl
+and_true false = refl
+
+module _ (o : Origin) (w : World) (least : 1 ≤ o.geometry.epoch) (h : Coheres o w) where
+  -- the world after a step, given as the definition has it
+  stepped_coheres : (x : World) (step : Steps o w x) → Coheres o (stepped o w x.machine x.device step.r.did)
+  stepped_coheres x step =
+      let next : View = seen o x in
+      let v : View = seen o w in
+      let did : Did = step.r.did in
+      let m : Marks = marks_of o w.events in
+      let e : List Happening = events_of o w.fresh v did next (w.cycles + 1) in
+      let core : CoreStep o v did next = step.is_step.step in
+      let events = Fits-events o v next m did w.fresh (w.cycles + 1) least h.fits core in
+      let marks : marks_of o (w.events ++ e) ≡ marks_from o.start.count m e = marks_from-append o.start.count (loading_marks o.start.count) w.events e in
+      let fits : Fits o next (marks_of o (w.events ++ e)) = subst (Fits o next) (sym marks) events.0 in
+      let image = StepFits-events o w.device.left w.cycles w.fresh v next (since_from no_cuts w.events) h.images did (w.cycles + 1) core in
+      let since : since_from no_cuts (w.events ++ e) ≡ since_from (since_from no_cuts w.events) e = since_from-append no_cuts w.events e in
+      let left : x.device.left ≡ w.device.left = step.framed.left in
+      record {
+        at_moment = step.is_step.at_next;
+        fits = fits;
+        lawful = AllLawful-append (course_of o) (loading_marks o.start.count) w.events e h.lawful events.1;
+        safe = Safe-covered o (marks_of o (w.events ++ e)).kept (marks_of o (w.events ++ e)).sealed next.done (doubt_of next) x.device
+            (Covers-fits o next (marks_of o (w.events ++ e)) fits) step.is_step.safe;
+        each = subst (λ (l : List (List Block)). AllFitImages o l no_cuts (w.events ++ e)) (sym left)
+            (AllFitImages-append o w.device.left no_cuts w.events e h.each image.each);
+        images = subst (λ (l : List (List Block)). ImagesFit o l (w.cycles + 1) false next (since_from no_cuts (w.events ++ e))) (sym left)
+            (subst (ImagesFit o w.device.left (w.cycles + 1) false next) (sym since) image.images);
+        since = ap (λ s. s.cuts) since ∙ image.cuts ∙ h.since;
+        left = ap length left ∙ h.left;
+        ended = list_any-append is_end w.events e ∙ ap (λ b. b || has_ended e) (h.ended ∙ step.going) ∙ events_end o w.fresh v did next (w.cycles + 1)
+            ∙ ap (λ b. not b && is_halt next.phase) step.going ∙ and_true (is_halt next.phase);
+        queue = λ fresh. absurd (cc);
+      }
+
+  -- a step
+  pub Coheres-stepped : (x : World) (step : Steps o w x) → Coheres o x
+  Coheres-stepped x step = subst (Coheres o) (sym step.next_is) (stepped_coheres x step)
+
+-- ---- the cuts that are listed
+
+listed_stepped : (o : Origin) (cuts : List ℕ) (w x : World) (cycle : ℕ) → Steps o w x → Listed cuts cycle w → Listed cuts cycle x
+listed_stepped o cuts w x cycle step l =
+    let e : List Happening = events_of o w.fresh (seen o w) step.r.did (seen o x) (w.cycles + 1) in
+    let now : Listed cuts cycle (stepped o w x.machine x.device step.r.did) = record {
+      few = l.few;
+      up_to = l.up_to;
+      among = cuts_among-append w.events e ∙ ap (λ (c : List Happening). cuts_among w.events ++ c) (events_uncut o w.fresh (seen o w) step.r.did (seen o x) (w.cycles + 1))
+          ∙ append-nil (cuts_among w.events) ∙ l.among;
+    } in
+    subst (Listed cuts cycle) (sym step.next_is) now
+
+stepped_cycles : (o : Origin) (w x : World) → Steps o w x → x.cycles ≡ w.cycles + 1
+stepped_cycles o w x step = ap (λ (y : World). y.cycles) step.next_is
+
+-- a run that goes on: the cuts up to its cycle
+pub listed_going : (o : Origin) (cuts : List ℕ) (w : World) → Good o cuts w → is_halt (seen o w).phase ≡ false → Listed cuts w.cycles w
+listed_going o cuts w g going =
+    let e : last_cuttable w.events w.cycles ≡ w.cycles = ap (λ b. if b then w.cycles - 1 else w.cycles) (g.stands.ended ∙ going) in
+    subst (λ c. Listed cuts c w) e g.listed
+
+due_parts : (a b c : Bool) → (not a && (b && c)) ≡ true → (a ≡ false) × (b ≡ true) × (c ≡ true)
+due_parts true b c e = absurd (cc)
+due_parts false true true e = (refl, refl, refl)
+due_parts false true false e = absurd (cc)
+due_parts false false c e = absurd (cc)
+
+due_not : (a b c : Bool) → (not a && (b && c)) ≡ false → a ≡ false → b ≡ true → c ≡ true → ⊥
+due_not a b c e f g h = let t : (not a && (b && c)) ≡ true = ap (λ x. not x && (b && c)) f ∙ ap (λ x. x && c) g ∙ h in cc
+
+not_due : (o : Origin) (cuts : List ℕ) (x : World) (c : ℕ) → x.cycles ≡ c + 1 → Listed cuts c x → first_not_rising 0 cuts ≡ None
+    → is_due o cuts x ≡ false → is_halt (seen o x).phase ≡ false → Listed cuts (c + 1) x
+not_due o cuts x c cycles l rising due going = elim (next_cut c 0 cuts x.passed rising l.few l.up_to) as (λ _. Listed cuts (c + 1) x) [
+  | inl comes ↦ absurd (due_not (is_halt (seen o x).phase) (nat_lt x.passed (length cuts)) (slice_index cuts x.passed == x.cycles) due going
+      (lt-ltb x.passed (length cuts) comes.0) (eq-eqb (slice_index cuts x.passed) x.cycles (comes.1 ∙ sym cycles)))
+  | inr none ↦ record { few = l.few; up_to = none.1; among = l.among }
+]
+
+-- no cut is due after the step
+good_stepped : (o : Origin) (cuts : List ℕ) (w x : World) → first_not_rising 0 cuts ≡ None → Steps o w x → Listed cuts w.cycles w → Coheres o x → is_due o cuts x ≡ false
+    → Listed cuts (last_cuttable x.events x.cycles) x
+good_stepped o cuts w x rising step l stands due = by_end (is_halt (seen o x).phase) refl
+  where
+    cycles : x.cycles ≡ w.cycles + 1
+    cycles = stepped_cycles o w x step
+
+    at_cycle : (b : Bool) → is_halt (seen o x).phase ≡ b → last_cuttable x.events x.cycles ≡ (if b then x.cycles - 1 else x.cycles)
+    at_cycle b is = ap (λ c. if c then x.cycles - 1 else x.cycles) (stands.ended ∙ is)
+
+    by_end : (b : Bool) → is_halt (seen o x).phase ≡ b → Listed cuts (last_cuttable x.events x.cycles) x
+    by_end true is =
+        let last : last_cuttable x.events x.cycles ≡ w.cycles = at_cycle true is ∙ (let e : x.cycles - 1 ≡ w.cycles = omega (arith, cycles) in e) in
+        subst (λ c. Listed cuts c x) (sym last) (listed_stepped o cuts w x w.cycles step l)
+    by_end false is =
+        subst (λ c. Listed cuts c x) (sym (at_cycle false is ∙ cycles))
+        (not_due o cuts x w.cycles cycles (listed_stepped o cuts w x w.cycles step l) rising due is)
+
+-- ---- a cut
+
+-- what the view behind a cut fits
+cut_found : (o : Origin) (d : Decoded) (left : List (List Block)) (k : ℕ) (v : View) → IsOneOf o v.done (doubt_of v) d → IsFound o (view_of_image o.start.count d) d
+cut_found o NothingLeft left k v one = refl
+cut_found o (RefusedImage bad) left k v one = absurd one
+cut_found o (At epoch state) left k v one = (refl, one.1)
+
+rises_in : (o : Origin) (v : View) (m : Marks) (p : Phase) → FitsIn o v m p → Rises m
+rises_in o v m BootPhase f = elim f.boots as (λ _. Rises m) [
+  | inl l ↦ λ k s kept sealed. absurd (let none : m.kept ≡ None = ap (λ n. n.kept) l.marks in cc)
+  | inr r ↦ r.rises
+]
+rises_in o v m Run f = λ k s kept sealed.
+    let of_sealed : v.sealed ≡ Some s = sym f.sealed ∙ sealed in
+    let follows : Follows o v f.mark (Some s) = subst (Follows o v f.mark) of_sealed f.follows in
+    let same : f.mark ≡ k = (let e : Some f.mark ≡ Some k = sym f.kept ∙ kept in cc) in
+    let counts : f.mark.count ≡ k.count = ap (λ (x : Mark). x.count) same in
+    omega (arith, follows.2, counts)
+rises_in o v m Halt f = λ k s kept sealed. absurd (let none : m.sealed ≡ None = f.none in cc)
+
+-- marks do not go back
+pub Rises-fits : (o : Origin) (v : View) (m : Marks) → Fits o v m → Rises m
+Rises-fits o v m f = rises_in o v m v.phase f
+
+loading_in : (o : Origin) (v : View) (m : Marks) (p : Phase) → FitsIn o v m p → v.done ≡ None → m ≡ loading_marks o.start.count
+loading_in o v m BootPhase f none = elim f.boots as (λ _. m ≡ loading_marks o.start.count) [
+  | inl l ↦ l.marks
+  | inr r ↦ absurd (let some : v.done ≡ Some r.mark = r.done in cc)
+]
+loading_in o v m Run f none = absurd (let some : v.done ≡ Some f.mark = f.done in cc)
+loading_in o v m Halt f none = absurd (let some : v.done ≡ Some f.mark = f.done in cc)
+
+-- the view of what a cut left fits the marks that stood
+fits_cut : (o : Origin) (v : View) (m : Marks) (d : Decoded) → Fits o v m → IsOneOf o v.done (doubt_of v) d → Fits o (view_of_image o.start.count d) m
+fits_cut o v m NothingLeft f one =
+    record { retired = refl; over = refl; boots = inl (record { done = refl; sealed = refl; marks = loading_in o v m v.phase f one }) }
+fits_cut o v m (RefusedImage bad) f one = absurd one
+fits_cut o v m (At epoch state) f one =
+    let c = Covers-fits o v m f in
+    let either : IsEither m.kept m.sealed (mark epoch state.count) = elim one.0 as (λ _. IsEither m.kept m.sealed (mark epoch state.count)) [
+      | inl done ↦ c.of_done (mark epoch state.count) done
+      | inr doubt ↦ c.of_doubt (mark epoch state.count) doubt
+    ] in
+    record { retired = refl; over = refl; boots = inr (record { mark = mark epoch state.count; done = refl; sealed = refl; written = refl; either = either; rises = Rises-fits o v m f }) }
+
+image_phase : (count : ℕ) (d : Decoded) → ((view_of_image count d).phase ≡ BootPhase) × ((view_of_image count d).written ≡ false)
+image_phase count NothingLeft = (refl, refl)
+image_phase count (RefusedImage bad) = (refl, refl)
+image_phase count (At epoch state) = (refl, refl)
+
+-- after a cut the device is safe for what it was safe for
+pub Safe-cut : (o : Origin) (kept sealed : Option Mark) (old new : Device) → IsCut old new → Safe o kept sealed old → Safe o kept sealed new
+Safe-cut o kept sealed old new cut safe = λ h crash.
+    let at_cut : Crash (cut_to old new.image) h = subst (λ n. Crash n h) cut.device crash in
+    subst (λ g. IsOneOf o kept sealed (decode o.geometry ceiling g)) (sym (Crash-cut_to old new.image h at_cut)) (safe new.image cut.crash)
+
+module _ (o : Origin) (x next : World) (h : Coheres o x) (late : x.fresh ≡ false) (going : is_halt (seen o x).phase ≡ false)
+  (safe : Safe o (seen o x).done (doubt_of (seen o x)) x.device) (cut : IsCutOff o x next) where
+
+  cut_event : List Happening
+  cut_event = Cut (x.passed + 1) x.cycles ∷ []
+
+  -- what the image that was left decodes to
+  abbrev left_image : Decoded
+  left_image = decode o.geometry ceiling next.device.image
+
+  one_of : IsOneOf o (seen o x).done (doubt_of (seen o x)) left_image
+  one_of = safe next.device.image cut.cut.crash
+
+  lefts : next.device.left ≡ x.device.left ++ next.device.image ∷ []
+  lefts = ap (λ (n : Device). n.left) cut.cut.device
+
+  cut_marks : marks_of o (x.events ++ Cut (x.passed + 1) x.cycles ∷ []) ≡ marks_of o x.events
+  cut_marks = marks_from-append o.start.count (loading_marks o.start.count) x.events (Cut (x.passed + 1) x.cycles ∷ [])
+
+  cut_since : since_from no_cuts (x.events ++ Cut (x.passed + 1) x.cycles ∷ []) ≡ since_after (since_from no_cuts x.events) (Cut (x.passed + 1) x.cycles)
+  cut_since = since_from-append no_cuts x.events (Cut (x.passed + 1) x.cycles ∷ [])
+
+  has_left : HasLeft o x.device.left (since_from no_cuts x.events)
+  has_left = λ cycle e. elim (h.images.just cycle e) as (λ _. left_by o x.device.left (since_from no_cuts x.events).cuts ≢ NothingLeft) [
+    | inl now ↦ absurd (let f : x.fresh ≡ true = now.0 in cc)
+    | inr before ↦ h.images.last cycle e before
+  ]
+
+  few_left : (since_from no_cuts x.events).cuts ≤ length x.device.left
+  few_left = omega (arith, h.since, h.left)
+
+  each_cut : AllFitImages o (x.device.left ++ next.device.image ∷ []) no_cuts (x.events ++ Cut (x.passed + 1) x.cycles ∷ [])
+  each_cut =
+      AllFitImages-append o (x.device.left ++ next.device.image ∷ []) no_cuts x.events (Cut (x.passed + 1) x.cycles ∷ [])
+      (AllFitImages-more o x.device.left next.device.image no_cuts x.events (λ cycle e. absurd (cc)) few_left h.each)
+      (HasLeft-more o x.device.left next.device.image (since_from no_cuts x.events) (valid_events x.events) few_left has_left, tt)
+
+  last_left : left_by o (x.device.left ++ next.device.image ∷ []) ((since_from no_cuts x.events).cuts + 1) ≡ left_image
+  last_left =
+      let index : (since_from no_cuts x.events).cuts + 1 - 1 ≡ length x.device.left = omega (arith, h.since, h.left) in
+      ap (decode o.geometry ceiling) (ap (λ i. slice_index_or (x.device.left ++ next.device.image ∷ []) i []) index
+      ∙ get_or-append_seam x.device.left next.device.image [] [])
+
+  cut_images : ImagesFit o (x.device.left ++ next.device.image ∷ []) x.cycles true (view_of_image o.start.count left_image)
+      (since_after (since_from no_cuts x.events) (Cut (x.passed + 1) x.cycles))
+  cut_images = record {
+    last = λ cycle e before. absurd (let same : x.cycles ≡ cycle = cc in omega (arith, same, before));
+    just = λ cycle e. inl (refl, (let same : x.cycles ≡ cycle = cc in sym same));
+    fresh_boot = λ e. ((image_phase o.start.count left_image).0, (image_phase o.start.count left_image).1, refl, omega arith);
+    boot = λ e. inr (omega arith, subst (IsFound o (view_of_image o.start.count left_image)) (sym last_left)
+        (cut_found o left_image x.device.left 0 (seen o x) one_of));
+  }
+
+  cut_coheres : Coheres o (cut_off x next.machine next.device)
+  cut_coheres = record {
+    at_moment = cut.powered;
+    fits = subst (λ v. Fits o v (marks_of o (x.events ++ Cut (x.passed + 1) x.cycles ∷ []))) (sym cut.found)
+        (subst (Fits o (view_of_image o.start.count left_image)) (sym cut_marks) (fits_cut o (seen o x) (marks_of o x.events) left_image h.fits one_of));
+    lawful = AllLawful-append (course_of o) (loading_marks o.start.count) x.events (Cut (x.passed + 1) x.cycles ∷ []) h.lawful (tt, tt);
+    safe = subst (λ (m : Marks). Safe o m.kept m.sealed next.device) (sym cut_marks) (Safe-cut o (marks_of o x.events).kept (marks_of o x.events).sealed x.device next.device cut.cut h.safe);
+    each = subst (λ (l : List (List Block)). AllFitImages o l no_cuts (x.events ++ Cut (x.passed + 1) x.cycles ∷ [])) (sym lefts) each_cut;
+    images = subst (λ (l : List (List Block)). ImagesFit o l x.cycles true (seen o next) (since_from no_cuts (x.events ++ Cut (x.passed + 1) x.cycles ∷ []))) (sym lefts)
+        (subst (λ v. ImagesFit o (x.device.left ++ next.device.image ∷ []) x.cycles true v (since_from no_cuts (x.events ++ Cut (x.passed + 1) x.cycles ∷ []))) (sym cut.found)
+        (subst (ImagesFit o (x.device.left ++ next.device.image ∷ []) x.cycles true (view_of_image o.start.count left_image)) (sym cut_since) cut_images));
+    since = ap (λ s. s.cuts) cut_since ∙ ap (λ c. c + 1) h.since;
+    left = ap length lefts ∙ length-append x.device.left (next.device.image ∷ []) ∙ ap (λ c. c + 1) h.left;
+    ended = list_any-append is_end x.events (Cut (x.passed + 1) x.cycles ∷ []) ∙ or_from (has_ended x.events) false (h.ended ∙ going) refl
+        ∙ sym (ap is_halt (ap (λ v. v.phase) cut.found ∙ (image_phase o.start.count left_image).0));
+    queue = λ e. ap (λ (n : Device). n.queue) cut.cut.device;
+  }
+
+  -- a cut
+  pub Coheres-cut : Coheres o next
+  Coheres-cut = subst (Coheres o) (sym cut.next_is) cut_coheres
+
+  -- and the listed cuts up to it
+  pub Listed-cut : (cuts : List ℕ) (c : ℕ) → x.cycles ≡ c + 1 → Listed cuts c x → first_not_rising 0 cuts ≡ None → nat_lt x.passed (length cuts) ≡ true
+      → (slice_index cuts x.passed == x.cycles) ≡ true → Listed cuts (last_cuttable next.events next.cycles) next
+  Listed-cut cuts c cycles l rising some due =
+      let last : last_cuttable next.events next.cycles ≡ x.cycles =
+          ap (λ b. if b then next.cycles - 1 else next.cycles) (Coheres-cut.ended ∙ ap is_halt (ap (λ v. v.phase) cut.found ∙ (image_phase o.start.count left_image).0))
+          ∙ ap (λ (y : World). y.cycles) cut.next_is in
+      let now : Listed cuts x.cycles (cut_off x next.machine next.device) = elim (next_cut c 0 cuts x.passed rising l.few l.up_to) as (λ _. Listed cuts x.cycles (cut_off x next.machine next.device)) [
+        | inl comes ↦ record {
+          few = omega (arith, comes.0);
+          up_to = ap (λ k. cuts_up_to k cuts) cycles ∙ comes.2 ∙ ap (λ k. take k cuts) (let e : suc x.passed ≡ x.passed + 1 = omega arith in e);
+          among = cuts_among-append x.events (Cut (x.passed + 1) x.cycles ∷ []) ∙ ap (λ (e : List Happening). e ++ Cut (x.passed + 1) x.cycles ∷ []) l.among
+              ∙ ap (λ i. numbered 1 (take x.passed cuts) ++ Cut i x.cycles ∷ []) (let e : x.passed + 1 ≡ 1 + x.passed = omega arith in e)
+              ∙ ap (λ i. numbered 1 (take x.passed cuts) ++ Cut (1 + x.passed) i ∷ []) (sym (eqb-true (slice_index cuts x.passed) x.cycles due))
+              ∙ sym (numbered-take 1 cuts x.passed comes.0)
+              ∙ ap (λ k. numbered 1 (take k cuts)) (let e : suc x.passed ≡ x.passed + 1 = omega arith in e);
+        }
+        | inr none ↦ absurd (none.0 (ltb-true x.passed (length cuts) some) (eqb-true (slice_index cuts x.passed) x.cycles due ∙ cycles))
+      ] in
+      subst (Listed cuts (last_cuttable next.events next.cycles)) (sym cut.next_is) (subst (λ k. Listed cuts k (cut_off x next.machine next.device)) (sym last) now)
+
+-- ---- cycles
+
+by_due : (o : Origin) (cuts : List ℕ) (w x next : World) → first_not_rising 0 cuts ≡ None → Steps o w x → Listed cuts w.cycles w → Coheres o x
+    → (b : Bool) → is_due o cuts x ≡ b → MatchBool b (IsCutOff o x next) (next ≡ x) → Good o cuts next
+by_due o cuts w x next rising step l stands false due is =
+    subst (Good o cuts) (sym is) (record { stands = stands; listed = good_stepped o cuts w x rising step l stands due })
+by_due o cuts w x next rising step l stands true due cut =
+    let parts = due_parts (is_halt (seen o x).phase) (nat_lt x.passed (length cuts)) (slice_index cuts x.passed == x.cycles) due in
+    let late : x.fresh ≡ false = ap (λ (y : World). y.fresh) step.next_is in
+    record {
+      stands = Coheres-cut o x next stands late parts.0 step.is_step.safe cut;
+      listed = Listed-cut o x next stands late parts.0 step.is_step.safe cut cuts w.cycles (stepped_cycles o w x step)
+          (listed_stepped o cuts w x w.cycles step l) rising parts.1 parts.2;
+    }
+
+-- one more cycle keeps what holds between two
+pub Good-cycle : (o : Origin) (cuts : List ℕ) (w next : World) → 1 ≤ o.geometry.epoch → first_not_rising 0 cuts ≡ None → Good o cuts w → Cycle o cuts w next → Good o cuts next
+Good-cycle o cuts w next least rising g c =
+    by_due o cuts w c.between next rising c.steps (listed_going o cuts w g c.steps.going) (Coheres-stepped o w least g.stands c.between c.steps)
+    (is_due o cuts c.between) refl c.cut
+
+-- and it holds at first
+pub Good-first : (o : Origin) (cuts : List ℕ) (seed : ℕ) (w : World) → first_not_rising 0 cuts ≡ None → IsFirst o seed w → Good o cuts w
+Good-first o cuts seed w rising f =
+    let none : w.events ≡ [] = f.events in
+    let marks : marks_of o w.events ≡ loading_marks o.start.count = ap (marks_of o) none in
+    let since : since_from no_cuts w.events ≡ no_cuts = ap (since_from no_cuts) none in
+    let boot : (loading_view o.start.count).phase ≡ BootPhase = refl in
+    let fits : Fits o (loading_view o.start.count) (loading_marks o.start.count) =
+        record { retired = refl; over = refl; boots = inl (record { done = refl; sealed = refl; marks = refl }) } in
+    let images : ImagesFit o w.device.left w.cycles false (loading_view o.start.count) no_cuts = record {
+      last = λ cycle e. absurd (cc);
+      just = λ cycle e. absurd (cc);
+      fresh_boot = λ e. absurd (cc);
+      boot = λ e. inl (refl, refl);
+    } in
+    let ended : has_ended w.events ≡ false = ap has_ended none in
+    let cycles : w.cycles ≡ 0 = f.cycles in
+    let last : last_cuttable w.events w.cycles ≡ 0 = ap (λ b. if b then w.cycles - 1 else w.cycles) ended ∙ cycles in
+    let passed : w.passed ≡ 0 = f.passed in
+    record {
+      stands = record {
+        at_moment = subst (λ k. IsAt o k w.machine w.device) (sym cycles) f.powered;
+        fits = subst (λ v. Fits o v (marks_of o w.events)) (sym f.loading) (subst (Fits o (loading_view o.start.count)) (sym marks) fits);
+        lawful = subst (AllLawful (course_of o) (loading_marks o.start.count)) (sym none) tt;
+        safe = subst (λ (m : Marks). Safe o m.kept m.sealed w.device) (sym marks) (Safe-doubt o None (Some (mark 0 o.start.count)) w.device f.safe);
+        each = subst (AllFitImages o w.device.left no_cuts) (sym none) tt;
+        images = subst (λ b. ImagesFit o w.device.left w.cycles b (seen o w) (since_from no_cuts w.events)) (sym f.fresh)
+            (subst (λ v. ImagesFit o w.device.left w.cycles false v (since_from no_cuts w.events)) (sym f.loading)
+            (subst (ImagesFit o w.device.left w.cycles false (loading_view o.start.count)) (sym since) images));
+        since = ap (λ s. s.cuts) since ∙ sym passed;
+        left = ap length f.left ∙ sym passed;
+        ended = ended ∙ sym (ap is_halt (ap (λ v. v.phase) f.loading));
+        queue = λ e. absurd (let no_cut : w.fresh ≡ false = f.fresh in cc);
+      };
+      listed = record {
+        few = omega (arith, passed);
+        up_to = ap (λ k. cuts_up_to k cuts) last ∙ up_none 0 0 cuts rising (omega arith) ∙ sym (ap (λ k. take k cuts) passed);
+        among = ap cuts_among none ∙ sym (ap (λ k. numbered 1 (take k cuts)) passed);
+      };
+    }
+
+-- so it holds after any number of cycles
+pub Good-ran : (o : Origin) (cuts : List ℕ) (seed k : ℕ) (w : World) → 1 ≤ o.geometry.epoch → first_not_rising 0 cuts ≡ None → Ran o cuts seed k w → Good o cuts w
+Good-ran o cuts seed zero w least rising first = Good-first o cuts seed w rising first
+Good-ran o cuts seed (suc k) w least rising (before, ran, cycle) =
+    Good-cycle o cuts before w least rising (Good-ran o cuts seed k before least rising ran) cycle
+
+cycle_counts : (o : Origin) (cuts : List ℕ) (w x next : World) → Steps o w x → (b : Bool) → MatchBool b (IsCutOff o x next) (next ≡ x) → next.cycles ≡ w.cycles + 1
+cycle_counts o cuts w x next step true cut = ap (λ (y : World). y.cycles) cut.next_is ∙ stepped_cycles o w x step
+cycle_counts o cuts w x next step false is = ap (λ (y : World). y.cycles) is ∙ stepped_cycles o w x step
+
+-- each counts one
+pub cycles-ran : (o : Origin) (cuts : List ℕ) (seed k : ℕ) (w : World) → Ran o cuts seed k w → w.cycles ≡ k
+cycles-ran o cuts seed zero w first = first.cycles
+cycles-ran o cuts seed (suc k) w (before, ran, cycle) =
+    let e : before.cycles ≡ k = cycles-ran o cuts seed k before ran in
+    let f : w.cycles ≡ before.cycles + 1 = cycle_counts o cuts before cycle.between w cycle.steps (is_due o cuts cycle.between) cycle.cut in
+    omega (arith, e, f)
