@@ -199,19 +199,9 @@ end_kept o m next cycle part true (inr all) = ap (marks_from o.start.count m) al
 end_kept o m next cycle part false (inr none) = ap (marks_from o.start.count m) none
 
 module _ (o : Origin) (v next : View) (m : Marks) (did : Did) (fresh : Bool) (cycle : ℕ) (least : 1 ≤ o.geometry.epoch) (h : Fits o v m) (s : CoreStep o v did next) where
-  -- the marks that some events leave cover the view after the step
-  IsCovered : List Happening → Type 0
-  IsCovered part = Covers (marks_from o.start.count m part).kept (marks_from o.start.count m part).sealed next.done (doubt_of next)
-
-  covered_by : (part : List Happening) (n : Marks) → marks_from o.start.count m part ≡ n → Covers n.kept n.sealed next.done (doubt_of next) → IsCovered part
-  unfolding IsCovered
-  covered_by part n is c = subst (λ (x : Marks). Covers x.kept x.sealed next.done (doubt_of next)) (sym is) c
-
-  before : (part : List Happening) → marks_from o.start.count m part ≡ m → IsCovered part
-  before part is = covered_by part m is (Covers-before o v next m least h did s)
-
-  behind : (part : List Happening) → marks_from o.start.count m part ≡ marks_from o.start.count m (told o did cycle) → IsCovered part
-  behind part is = covered_by part (marks_from o.start.count m (told o did cycle)) is (Covers-fits o next _ (Fits-told o v next m least h did cycle s).0)
+  -- some events leave the marks that stood, or those that what was done leaves
+  abbrev pub LeavesEither : List Happening → Type 0
+  LeavesEither part = (marks_from o.start.count m part ≡ m) ⊎ (marks_from o.start.count m part ≡ marks_from o.start.count m (told o did cycle))
 
   reload_kept : marks_from o.start.count m (reload_told fresh next) ≡ m
   reload_kept = (Reloads-told o v next m did fresh least h s).marks
@@ -219,43 +209,50 @@ module _ (o : Origin) (v next : View) (m : Marks) (did : Did) (fresh : Bool) (cy
   after_reload : (more : List Happening) → marks_from o.start.count m (reload_told fresh next ++ more) ≡ marks_from o.start.count m more
   after_reload more = marks_from-append o.start.count m (reload_told fresh next) more ∙ ap (λ n. marks_from o.start.count n more) reload_kept
 
-  of_reload : (part rest : List Happening) → part ++ rest ≡ reload_told fresh next → IsCovered part
-  of_reload part rest e = elim (part_of_short part rest (reload_told fresh next) (if_short (fresh && loads next) Reload) e) as (λ _. IsCovered part) [
-    | inl none ↦ before part (ap (marks_from o.start.count m) none)
-    | inr all ↦ before part (ap (marks_from o.start.count m) all ∙ reload_kept)
+  of_reload : (part rest : List Happening) → part ++ rest ≡ reload_told fresh next → LeavesEither part
+  of_reload part rest e = elim (part_of_short part rest (reload_told fresh next) (if_short (fresh && loads next) Reload) e) as (λ _. LeavesEither part) [
+    | inl none ↦ inl (ap (marks_from o.start.count m) none)
+    | inr all ↦ inl (ap (marks_from o.start.count m) all ∙ reload_kept)
   ]
 
-  of_told : (part more rest : List Happening) → part ≡ reload_told fresh next ++ more → more ++ rest ≡ told o did cycle → IsCovered part
-  of_told part more rest is e = elim (part_of_short more rest (told o did cycle) (told_short o did cycle) e) as (λ _. IsCovered part) [
-    | inl none ↦ before part (ap (marks_from o.start.count m) is ∙ after_reload more ∙ ap (marks_from o.start.count m) none)
-    | inr all ↦ behind part (ap (marks_from o.start.count m) is ∙ after_reload more ∙ ap (marks_from o.start.count m) all)
+  of_told : (part more rest : List Happening) → part ≡ reload_told fresh next ++ more → more ++ rest ≡ told o did cycle → LeavesEither part
+  of_told part more rest is e = elim (part_of_short more rest (told o did cycle) (told_short o did cycle) e) as (λ _. LeavesEither part) [
+    | inl none ↦ inl (ap (marks_from o.start.count m) is ∙ after_reload more ∙ ap (marks_from o.start.count m) none)
+    | inr all ↦ inr (ap (marks_from o.start.count m) is ∙ after_reload more ∙ ap (marks_from o.start.count m) all)
   ]
 
-  of_both : (part rest : List Happening) → part ++ rest ≡ reload_told fresh next ++ told o did cycle → IsCovered part
-  of_both part rest e = elim (cutting part rest (reload_told fresh next) (told o did cycle) e) as (λ _. IsCovered part) [
+  of_both : (part rest : List Happening) → part ++ rest ≡ reload_told fresh next ++ told o did cycle → LeavesEither part
+  of_both part rest e = elim (cutting part rest (reload_told fresh next) (told o did cycle) e) as (λ _. LeavesEither part) [
     | within r f ↦ of_reload part r f
     | beyond more r is f ↦ of_told part more r is f
   ]
 
-  of_end : (part more rest : List Happening) → part ≡ reload_told fresh next ++ told o did cycle ++ more → more ++ rest ≡ end_told o v next cycle → IsCovered part
+  of_end : (part more rest : List Happening) → part ≡ reload_told fresh next ++ told o did cycle ++ more → more ++ rest ≡ end_told o v next cycle → LeavesEither part
   of_end part more rest is e =
-      behind part (
+      inr (
       ap (marks_from o.start.count m) is ∙ marks_from-append o.start.count m (reload_told fresh next ++ told o did cycle) more
       ∙ end_kept o (marks_from o.start.count m (reload_told fresh next ++ told o did cycle)) next cycle more (halts v next)
           (part_of_short more rest (end_told o v next cycle) (if_short (halts v next) _) e)
       ∙ after_reload (told o did cycle))
 
   -- so the first of a cycle's events do
-  all_covered : (part rest : List Happening) → part ++ rest ≡ events_of o fresh v did next cycle → IsCovered part
-  all_covered part rest e = elim (cutting part rest (reload_told fresh next ++ told o did cycle) (end_told o v next cycle) e) as (λ _. IsCovered part) [
+  pub marks-part : (part rest : List Happening) → part ++ rest ≡ events_of o fresh v did next cycle → LeavesEither part
+  marks-part part rest e = elim (cutting part rest (reload_told fresh next ++ told o did cycle) (end_told o v next cycle) e) as (λ _. LeavesEither part) [
     | within r f ↦ of_both part r f
     | beyond more r is f ↦ of_end part more r is f
   ]
 
+  covered_by : (n x : Marks) → x ≡ n → Covers n.kept n.sealed next.done (doubt_of next) → Covers x.kept x.sealed next.done (doubt_of next)
+  covered_by n x is c = subst (λ (y : Marks). Covers y.kept y.sealed next.done (doubt_of next)) (sym is) c
+
+  -- the marks that the first of a cycle's events leave cover the view after it
   pub Covers-part : (part rest : List Happening) → part ++ rest ≡ events_of o fresh v did next cycle
       → Covers (marks_from o.start.count m part).kept (marks_from o.start.count m part).sealed next.done (doubt_of next)
-  unfolding IsCovered
-  Covers-part part rest e = all_covered part rest e
+  Covers-part part rest e = elim (marks-part part rest e) as (λ _. Covers (marks_from o.start.count m part).kept (marks_from o.start.count m part).sealed next.done (doubt_of next)) [
+    | inl stood ↦ covered_by m (marks_from o.start.count m part) stood (Covers-before o v next m least h did s)
+    | inr done ↦ covered_by (marks_from o.start.count m (told o did cycle)) (marks_from o.start.count m part) done
+        (Covers-fits o next _ (Fits-told o v next m least h did cycle s).0)
+  ]
 
 -- ---- safety
 

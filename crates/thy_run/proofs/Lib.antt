@@ -6,3 +6,4 @@ pub mod ListedLemmas
 pub mod ImageLemmas
 pub mod ImageLaws
 pub mod WorldLaws
+pub mod PromiseLaws

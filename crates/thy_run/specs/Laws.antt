@@ -4,6 +4,7 @@ use Rattle.thy_base.specs.Config.{first_not_rising}
 use Rattle.thy_base.specs.Device.{Device}
 use Rattle.thy_text.specs.Happening.{Happening}
 use Rattle.thy_text.specs.Marks.{Marks, Course, loading_marks, marks_from, AllLawful}
+use Rattle.thy_text.specs.Released.{released}
 use Rattle.thy_model.specs.Origin.{Origin, at}
 use Rattle.thy_model.specs.Safe.{Safe}
 use Rattle.thy_model.specs.Sound.{IsOrigin}
@@ -18,6 +19,14 @@ course_of o = record { at = at o; start = o.start.count; epoch = o.geometry.epoc
 -- the marks that events leave
 abbrev pub marks_of : Origin → List Happening → Marks
 marks_of o events = marks_from o.start.count (loading_marks o.start.count) events
+
+-- the console of the uninterrupted program at each count
+abbrev pub console_at : Origin → ℕ → List ℕ
+console_at o k = (at o k).console
+
+-- what the terminal has of the console once events were told: that of the committed checkpoint
+abbrev pub released_of : Origin → List Happening → List ℕ
+released_of o events = released (console_at o) o.start.count (loading_marks o.start.count) events
 
 -- What is promised of a run: its events are lawful, its restarts are what the cuts left, its cuts are the listed ones,
 -- each left one image, and the device is safe for the marks that the events leave.
