@@ -109,6 +109,17 @@ Reloads-told o v next m did fresh least h s = by_test (fresh && loads next) refl
         let marks : m ≡ loading_marks o.start.count = loading_marks_of o next m now view.0 view.1 in
         record { lawful = (ap (λ n. n.kept) marks, tt); marks = sym marks }
 
+-- all events of a cycle leave the marks that what was done leaves
+pub marks-events : (o : Origin) (v next : View) (m : Marks) (did : Did) (fresh : Bool) (cycle : ℕ) → 1 ≤ o.geometry.epoch → Fits o v m → CoreStep o v did next
+    → marks_from o.start.count m (events_of o fresh v did next cycle) ≡ marks_from o.start.count m (told o did cycle)
+marks-events o v next m did fresh cycle least h s =
+    let reload : List Happening = reload_told fresh next in
+    let step : List Happening = told o did cycle in
+    let start : ℕ = o.start.count in
+    marks_from-append start m (reload ++ step) (end_told o v next cycle)
+    ∙ end_marks o (marks_from start m (reload ++ step)) next cycle (halts v next)
+    ∙ marks_from-append start m reload step ∙ ap (λ n. marks_from start n step) (Reloads-told o v next m did fresh least h s).marks
+
 -- all events of a cycle
 pub Fits-events : (o : Origin) (v next : View) (m : Marks) (did : Did) (fresh : Bool) (cycle : ℕ) → 1 ≤ o.geometry.epoch → Fits o v m → CoreStep o v did next
     → Fits o next (marks_from o.start.count m (events_of o fresh v did next cycle)) × AllLawful (course_of o) m (events_of o fresh v did next cycle)
@@ -120,8 +131,7 @@ Fits-events o v next m did fresh cycle least h s =
     let tells = Fits-told o v next m least h did cycle s in
     let start : ℕ = o.start.count in
     let after_step : marks_from start m (reload ++ step) ≡ marks_from start m step = marks_from-append start m reload step ∙ ap (λ n. marks_from start n step) reloads.marks in
-    let after_all : marks_from start m (reload ++ step ++ end) ≡ marks_from start m step
-    = marks_from-append start m (reload ++ step) end ∙ end_marks o (marks_from start m (reload ++ step)) next cycle (halts v next) ∙ after_step in
+    let after_all = marks-events o v next m did fresh cycle least h s in
     let lawful_step : AllLawful (course_of o) m (reload ++ step)
     = AllLawful-append (course_of o) m reload step reloads.lawful (subst (λ n. AllLawful (course_of o) n step) (sym reloads.marks) tells.1) in
     let fits_step : Fits o next (marks_from start m (reload ++ step)) = subst (Fits o next) (sym after_step) tells.0 in

@@ -7,3 +7,4 @@ pub mod ImageLemmas
 pub mod ImageLaws
 pub mod WorldLaws
 pub mod PromiseLaws
+pub mod ConsoleLaws

@@ -1,0 +1,181 @@
+-- What the terminal has grows by what each cycle's end releases.
+use Rattle.std.proofs.Common.{◌≡◌, ◌⊎◌, ℕ, zero, suc, ◌+◌, ◌-◌, ◌<◌, ◌≤◌, Bool, true, false, if◌then◌else◌, Option, Some, None, List, [], ◌∷◌, ◌++◌, length, drop, refl, sym, ◌∙◌, ap, subst, inl, inr, append-nil, arith}
+use Rattle.std.proofs.Math.Seq.{drop-append_seam}
+use Rattle.thy_base.specs.declared.mark.Mark.{Mark}
+use Rattle.thy_base.specs.declared.cause.EndCause.{EndCause}
+use Rattle.thy_isa.specs.Step.{steps}
+use Rattle.thy_isa.proofs.StorableLaws.{steps-console}
+use Rattle.thy_text.specs.Happening.{Happening, Reload, Ended, Cut}
+use Rattle.thy_text.specs.Marks.{Marks, loading_marks, marks_from, marks_after}
+use Rattle.thy_text.specs.Released.{console_of}
+use Rattle.thy_text.proofs.Histories.{marks_from-append, released-kept}
+use Rattle.thy_model.specs.declared.did.Did.{Did}
+use Rattle.thy_model.specs.declared.did.Did.TheVariants.{Boot, Loaded, Restarted, Refused, Moved, Retired, Flushed, Merged, Sealed, Promoted, Engine, Committed, NvmDrained, DramDrained, Nothing}
+use Rattle.thy_model.specs.declared.view.Phase.{Phase}
+use Rattle.thy_model.specs.declared.view.Phase.TheVariants.{Boot as BootPhase, Run, Halt}
+use Rattle.thy_model.specs.declared.view.View.{View}
+use Rattle.thy_model.specs.CoreStep.{mark, CoreStep}
+use Rattle.thy_model.specs.Origin.{Origin, at, setting_of}
+use Rattle.thy_run.specs.Due.{shows_console, due_of}
+use Rattle.thy_run.specs.Laws.{marks_of, console_at, released_of}
+use Rattle.thy_run.specs.World.{World, seen, told, events_of, Steps}
+use Rattle.thy_run.proofs.CoverLaws.{Covers-sealed, marks-part}
+use Rattle.thy_run.proofs.Fitting.{IsEither, Loading, Recovering, BootFits, Follows, RunFits, HaltFits, FitsIn, Fits}
+use Rattle.thy_run.proofs.EventLaws.{marks-events}
+use Rattle.thy_run.proofs.WorldLaws.{Coheres, Rises-fits}
+
+-- ---- the console of the plain machine
+
+-- it only grows
+pub console-grows : (o : Origin) (j k : ℕ) → j ≤ k → (more : List ℕ) × (console_at o k ≡ console_at o j ++ more)
+unfolding at
+console-grows o j k le =
+    ([], steps-console (setting_of o) (k - o.start.count) o.start ∙ sym (steps-console (setting_of o) (j - o.start.count) o.start) ∙ sym (append-nil (console_at o j)))
+
+-- a committed mark does not go back
+abbrev pub Grows : Option Mark → Option Mark → Type 0
+Grows a b = (k : Mark) → a ≡ Some k → (later : Mark) × (b ≡ Some later) × (k.count ≤ later.count)
+
+some_same : (a b : Mark) → Some a ≡ Some b → a ≡ b
+some_same a b e = cc
+
+grows_same : (a b : Option Mark) → b ≡ a → Grows a b
+grows_same a b e = λ k some. (k, e ∙ some, omega arith)
+
+grows_none : (a b : Option Mark) → a ≡ None → Grows a b
+grows_none a b none = λ k some. absurd (cc)
+
+-- so what is released grows
+pub grown : (o : Origin) (a b : Option Mark) → Grows a b
+    → console_of (console_at o) b ≡ console_of (console_at o) a ++ drop (length (console_of (console_at o) a)) (console_of (console_at o) b)
+grown o None b g = refl
+grown o (Some k) b g =
+    let later = g k refl in
+    let more = console-grows o k.count later.0.count later.2 in
+    let is : console_of (console_at o) b ≡ console_at o k.count ++ more.0 = ap (console_of (console_at o)) later.1 ∙ more.1 in
+    is ∙ ap (λ (l : List ℕ). console_at o k.count ++ l) (sym (ap (drop (length (console_at o k.count))) is ∙ drop-append_seam (console_at o k.count) more.0))
+
+-- ---- what was done
+
+module _ (o : Origin) (v next : View) (m : Marks) (h : Fits o v m) where
+  -- the marks that a step's event leaves keep the committed one, or a later one
+  pub Grows-told : (did : Did) (cycle : ℕ) → CoreStep o v did next → Grows m.kept (marks_from o.start.count m (told o did cycle)).kept
+  Grows-told Boot cycle s = grows_same m.kept m.kept refl
+  Grows-told Loaded cycle s = grows_none m.kept m.sealed ((Covers-sealed o v m h).nothing s.1)
+  Grows-told (Restarted epoch count) cycle s = λ k kept.
+      elim ((Covers-sealed o v m h).of_done (mark epoch count) s.1) as (λ _. (later : Mark) × (Some (mark epoch count) ≡ Some later) × (k.count ≤ later.count)) [
+        | inl same ↦ (mark epoch count, refl, (let e : k ≡ mark epoch count = some_same k (mark epoch count) (sym kept ∙ same) in let c : k.count ≡ count = ap (λ (x : Mark). x.count) e in omega arith))
+        | inr sealed ↦ (mark epoch count, refl, Rises-fits o v m h k (mark epoch count) kept sealed)
+      ]
+  Grows-told (Refused bad) cycle s = grows_same m.kept m.kept refl
+  Grows-told Moved cycle s = grows_same m.kept m.kept refl
+  Grows-told Retired cycle s = grows_same m.kept m.kept refl
+  Grows-told Flushed cycle s = grows_same m.kept m.kept refl
+  Grows-told Merged cycle s = grows_same m.kept m.kept refl
+  Grows-told Promoted cycle s = grows_same m.kept m.kept refl
+  Grows-told (Sealed epoch count cause) cycle s = grows_same m.kept m.kept refl
+  Grows-told (Engine step) cycle s = grows_same m.kept m.kept refl
+  Grows-told (Committed epoch overlapped) cycle s = λ k kept.
+      let f : RunFits o v m = subst (FitsIn o v m) s.0 h in
+      let sealed : m.sealed ≡ Some (mark epoch s.3.0) = f.sealed ∙ s.3.1 in
+      (mark epoch s.3.0, sealed, Rises-fits o v m h k (mark epoch s.3.0) kept sealed)
+  Grows-told NvmDrained cycle s = grows_same m.kept m.kept refl
+  Grows-told DramDrained cycle s = grows_same m.kept m.kept refl
+  Grows-told Nothing cycle s = grows_same m.kept m.kept refl
+
+  loading_sealed : v.done ≡ None → v.phase ≡ BootPhase → m.sealed ≡ v.sealed
+  loading_sealed none boot =
+      let f : BootFits o v m = subst (FitsIn o v m) boot h in
+      elim f.boots as (λ _. m.sealed ≡ v.sealed) [
+        | inl l ↦ ap (λ (x : Marks). x.sealed) l.marks ∙ sym l.sealed
+        | inr r ↦ absurd (let some : v.done ≡ Some r.mark = r.done in cc)
+      ]
+
+  -- after what shows a console the committed mark is the view's, after anything else it is the one before
+  pub kept-told : (did : Did) (cycle : ℕ) → CoreStep o v did next → (marks_from o.start.count m (told o did cycle)).kept ≡ (if shows_console did then next.done else m.kept)
+  kept-told Boot cycle s = refl
+  kept-told Loaded cycle s = loading_sealed s.1 s.0 ∙ sym (ap (λ w. w.done) s.4)
+  kept-told (Restarted epoch count) cycle s = sym s.1 ∙ sym (ap (λ w. w.done) s.4)
+  kept-told (Refused bad) cycle s = refl
+  kept-told Moved cycle s = refl
+  kept-told Retired cycle s = refl
+  kept-told Flushed cycle s = refl
+  kept-told Merged cycle s = refl
+  kept-told Promoted cycle s = refl
+  kept-told (Sealed epoch count cause) cycle s = refl
+  kept-told (Engine step) cycle s = refl
+  kept-told (Committed epoch overlapped) cycle s =
+      let f : RunFits o v m = subst (FitsIn o v m) s.0 h in
+      f.sealed ∙ sym (ap (λ w. w.done) s.3.2)
+  kept-told NvmDrained cycle s = refl
+  kept-told DramDrained cycle s = refl
+  kept-told Nothing cycle s = refl
+
+-- ---- what is released
+
+released_marks : (o : Origin) (events : List Happening) → released_of o events ≡ console_of (console_at o) (marks_of o events).kept
+released_marks o events = released-kept (console_at o) o.start.count (loading_marks o.start.count) events refl
+
+module _ (o : Origin) (w next : World) (least : 1 ≤ o.geometry.epoch) (h : Coheres o w) (step : Steps o w next) where
+  abbrev marks_now : Marks
+  marks_now = marks_of o w.events
+
+  abbrev marks_told : Marks
+  marks_told = marks_from o.start.count (marks_of o w.events) (told o step.r.did (w.cycles + 1))
+
+  marks_more : (part : List Happening) → marks_of o (w.events ++ part) ≡ marks_from o.start.count (marks_of o w.events) part
+  marks_more part = marks_from-append o.start.count (loading_marks o.start.count) w.events part
+
+  told_grows : Grows (marks_of o w.events).kept (marks_from o.start.count (marks_of o w.events) (told o step.r.did (w.cycles + 1))).kept
+  told_grows = Grows-told o (seen o w) (seen o next) (marks_of o w.events) h.fits step.r.did (w.cycles + 1) step.is_step.step
+
+  part_grows : (part rest : List Happening) → part ++ rest ≡ events_of o w.fresh (seen o w) step.r.did (seen o next) (w.cycles + 1)
+      → Grows (marks_of o w.events).kept (marks_of o (w.events ++ part)).kept
+  part_grows part rest e =
+      subst (λ (x : Marks). Grows (marks_of o w.events).kept x.kept) (sym (marks_more part))
+      (elim (marks-part o (seen o w) (seen o next) (marks_of o w.events) step.r.did w.fresh (w.cycles + 1) least h.fits step.is_step.step part rest e)
+      as (λ _. Grows (marks_of o w.events).kept (marks_from o.start.count (marks_of o w.events) part).kept) [
+        | inl stood ↦ grows_same (marks_of o w.events).kept (marks_from o.start.count (marks_of o w.events) part).kept (ap (λ (x : Marks). x.kept) stood)
+        | inr done ↦ subst (λ (x : Marks). Grows (marks_of o w.events).kept x.kept) (sym done) told_grows
+      ])
+
+  -- the first of a cycle's events release more, or nothing
+  pub released-part : (part rest : List Happening) → part ++ rest ≡ events_of o w.fresh (seen o w) step.r.did (seen o next) (w.cycles + 1)
+      → (more : List ℕ) × (released_of o (w.events ++ part) ≡ released_of o w.events ++ more)
+  released-part part rest e =
+      let more : List ℕ = drop (length (console_of (console_at o) (marks_of o w.events).kept)) (console_of (console_at o) (marks_of o (w.events ++ part)).kept) in
+      (more, released_marks o (w.events ++ part) ∙ grown o (marks_of o w.events).kept (marks_of o (w.events ++ part)).kept (part_grows part rest e)
+      ∙ ap (λ (l : List ℕ). l ++ more) (sym (released_marks o w.events)))
+
+  all_kept : (marks_of o next.events).kept ≡ (if shows_console step.r.did then (seen o next).done else (marks_of o w.events).kept)
+  all_kept =
+      let es : List Happening = events_of o w.fresh (seen o w) step.r.did (seen o next) (w.cycles + 1) in
+      ap (λ (x : World). (marks_of o x.events).kept) step.next_is
+      ∙ ap (λ (x : Marks). x.kept) (marks_more es ∙ marks-events o (seen o w) (seen o next) (marks_of o w.events) step.r.did w.fresh (w.cycles + 1) least h.fits step.is_step.step)
+      ∙ kept-told o (seen o w) (seen o next) (marks_of o w.events) h.fits step.r.did (w.cycles + 1) step.is_step.step
+
+  by_show : (b : Bool) → shows_console step.r.did ≡ b
+      → released_of o next.events ≡ released_of o w.events ++ (if b then drop (length (released_of o w.events)) (console_of (console_at o) (seen o next).done) else [])
+  by_show true shows =
+      let before : Option Mark = (marks_of o w.events).kept in
+      let kept : (marks_of o next.events).kept ≡ (seen o next).done = all_kept ∙ ap (λ b. if b then (seen o next).done else before) shows in
+      let later : (marks_from o.start.count (marks_of o w.events) (told o step.r.did (w.cycles + 1))).kept ≡ (seen o next).done =
+          kept-told o (seen o w) (seen o next) (marks_of o w.events) h.fits step.r.did (w.cycles + 1) step.is_step.step ∙ ap (λ b. if b then (seen o next).done else before) shows in
+      let grows : Grows before (seen o next).done = subst (Grows before) later told_grows in
+      released_marks o next.events ∙ ap (console_of (console_at o)) kept ∙ grown o before (seen o next).done grows
+      ∙ ap (λ (l : List ℕ). l ++ drop (length l) (console_of (console_at o) (seen o next).done)) (sym (released_marks o w.events))
+  by_show false hides =
+      let before : Option Mark = (marks_of o w.events).kept in
+      let kept : (marks_of o next.events).kept ≡ before = all_kept ∙ ap (λ b. if b then (seen o next).done else before) hides in
+      released_marks o next.events ∙ ap (console_of (console_at o)) kept ∙ sym (released_marks o w.events) ∙ sym (append-nil (released_of o w.events))
+
+  -- a cycle's events release what is due
+  pub released-stepped : released_of o next.events ≡ released_of o w.events ++ due_of o w.events step.r.did (seen o next)
+  released-stepped = by_show (shows_console step.r.did) refl
+
+-- a cut releases nothing
+pub released-cut : (o : Origin) (events : List Happening) (index cycle : ℕ) → released_of o (events ++ Cut index cycle ∷ []) ≡ released_of o events
+released-cut o events index cycle =
+    released_marks o (events ++ Cut index cycle ∷ [])
+    ∙ ap (λ (x : Marks). console_of (console_at o) x.kept) (marks_from-append o.start.count (loading_marks o.start.count) events (Cut index cycle ∷ []))
+    ∙ sym (released_marks o events)

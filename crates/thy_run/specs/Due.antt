@@ -1,0 +1,32 @@
+-- What of the console a cycle's end releases to the terminal.
+use Rattle.std.specs.Prelude.{ℕ, Bool, true, false, if◌then◌else◌, List, [], length, drop}
+use Rattle.thy_text.specs.Happening.{Happening}
+use Rattle.thy_text.specs.Released.{console_of}
+use Rattle.thy_model.specs.declared.did.Did.{Did}
+use Rattle.thy_model.specs.declared.did.Did.TheVariants.{Boot, Loaded, Restarted, Refused, Moved, Retired, Flushed, Merged, Sealed, Promoted, Engine, Committed, NvmDrained, DramDrained, Nothing}
+use Rattle.thy_model.specs.declared.view.View.{View}
+use Rattle.thy_model.specs.Origin.{Origin}
+use Rattle.thy_run.specs.Laws.{console_at, released_of}
+
+-- what was done makes the console of another checkpoint known
+abbrev pub shows_console : Did → Bool
+shows_console Loaded = true
+shows_console (Restarted epoch count) = true
+shows_console (Committed epoch overlapped) = true
+shows_console Boot = false
+shows_console (Refused bad) = false
+shows_console Moved = false
+shows_console Retired = false
+shows_console Flushed = false
+shows_console Merged = false
+shows_console Promoted = false
+shows_console (Sealed epoch count cause) = false
+shows_console (Engine step) = false
+shows_console NvmDrained = false
+shows_console DramDrained = false
+shows_console Nothing = false
+
+-- the bytes of the console that the terminal has not had yet
+abbrev pub due_of : Origin → List Happening → Did → View → List ℕ
+due_of o events did next =
+    if shows_console did then drop (length (released_of o events)) (console_of (console_at o) next.done) else []
