@@ -19,3 +19,4 @@ pub mod MomentLaws
 pub mod HartLemmas
 pub mod HartLaws
 pub mod SmallLaws
+pub mod CallLaws
