@@ -20,3 +20,4 @@ pub mod HartLemmas
 pub mod HartLaws
 pub mod SmallLaws
 pub mod CallLaws
+pub mod ViewLaws
