@@ -21,3 +21,4 @@ pub mod HartLaws
 pub mod SmallLaws
 pub mod CallLaws
 pub mod ViewLaws
+pub mod ReadLaws
