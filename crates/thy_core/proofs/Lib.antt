@@ -6,3 +6,4 @@ pub mod BelowLemmas
 pub mod GeometryLemmas
 pub mod SnapshotLemmas
 pub mod MomentSteps
+mod LoadingLemmas

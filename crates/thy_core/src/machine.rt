@@ -1,14 +1,14 @@
 //! The machine and its calls.
 ghost use Rattle.std.specs.Prelude.{◌≡◌, ◌<◌, ◌≤◌, ◌+◌, ◌-◌, ◌^◌, ℕ, true, false, is_ok, not, ◌&&◌, length, replicate, OnOk, OnErr, IfOk, None, IsTrue, ◌↔◌};
 ghost use Rattle.thy_base.specs.Bytes.{bytes_of};
-ghost use Rattle.thy_base.specs.Device.{IsFramed, CountsFault, zero_block};
+ghost use Rattle.thy_base.specs.Device.{Device, IsFramed, CountsFault, zero_block};
 ghost use Rattle.thy_base.specs.Geometry.{blocks_of, memory_blocks};
 ghost use Rattle.thy_isa.specs.Step.{state_of};
 ghost use Rattle.thy_model.specs.declared.view.Phase.TheVariants.{Boot as BootPhase, Halt as HaltPhase};
 ghost use Rattle.thy_model.specs.Action.{after, FailsTo};
 ghost use Rattle.thy_model.specs.Boot.{boot_view};
 ghost use Rattle.thy_model.specs.Bounds.{IsBelow};
-ghost use Rattle.thy_model.specs.Calls.{Begins, IsAt, CanStep, IsStep, is_halt, halts};
+ghost use Rattle.thy_model.specs.Calls.{Begins, IsAt, CanStep, IsStep, is_halt, halts, has_read, loads};
 ghost use Rattle.thy_model.specs.Cycle.{cycle_action, cycle_next, cycle_did, cycle_stall};
 ghost use Rattle.thy_model.specs.Moments.{IsNoCpu, IsPoweredOn};
 ghost use Rattle.thy_core.specs.Machine.{is_loading, LeavesSafe};
@@ -122,12 +122,10 @@ impl Machine {
 
     /// Whether the boot goes on and has found no checkpoint.
     pub fn loading(&self) -> bool
-        ensures { result ≡ is_loading self.now.view.phase self.now.stage }
+        ensures loads { (o : Origin) (k : ℕ) (n : Device) → IsAt o k self.now n → result ≡ (has_read self.now && loads (view_of o self.now n)) }
+        ensures parts { result ≡ is_loading self.now.view.phase self.now.stage }
     {
-        matches!(
-            (self.parts.view.phase, self.parts.stage),
-            (Phase::Boot, Stage::Writing { .. })
-        )
+        is_loading(self.parts.view.phase, self.parts.stage)
     }
 
     /// Whether a step has failed.
@@ -136,6 +134,12 @@ impl Machine {
     {
         self.parts.failed
     }
+}
+
+fn is_loading(phase: Phase, stage: Stage) -> bool
+    ensures { result ≡ is_loading phase stage }
+{
+    matches!((phase, stage), (Phase::Boot, Stage::Writing { .. }))
 }
 
 fn has_halted(before: Phase, after: Phase) -> bool
