@@ -6,4 +6,5 @@ pub mod BelowLemmas
 pub mod GeometryLemmas
 pub mod SnapshotLemmas
 pub mod MomentSteps
-mod LoadingLemmas
+pub mod LoadingLemmas
+pub mod ConsoleLemmas

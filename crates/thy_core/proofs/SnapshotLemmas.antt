@@ -37,7 +37,7 @@ gathered_more blocks i d bytes new l so_far is =
 
 -- ---- the bytes of the first blocks are the first bytes
 
-AllLong-take : (k : ℕ) (blocks : List Block) → AllLong blocks → k ≤ length blocks → AllLong (take k blocks)
+pub AllLong-take : (k : ℕ) (blocks : List Block) → AllLong blocks → k ≤ length blocks → AllLong (take k blocks)
 AllLong-take k blocks long l = record {
   each = λ j below.
       let few : j < k = omega (arith, length-take-le k blocks l) in

@@ -1,11 +1,14 @@
 -- The machine as its calls leave it.
-use Rattle.std.specs.Prelude.{◌≡◌, ℕ, ◌*◌, ◌-◌, List, length, take, drop, Bool, true, false}
+use Rattle.std.specs.Prelude.{◌≡◌, ℕ, min, ◌*◌, ◌-◌, List, length, take, drop, Bool, true, false}
 use Rattle.thy_base.specs.declared.config.Parameters.{Parameters}
 use Rattle.thy_base.specs.declared.mix.Pick.{Pick}
-use Rattle.thy_base.specs.Device.{Device, HasFailed, RoseFaults}
+use Rattle.thy_base.specs.Device.{Device, newest, HasFailed, RoseFaults}
+use Rattle.thy_base.specs.Geometry.{console_room}
 use Rattle.thy_isa.specs.declared.state.MachState.{MachState}
 use Rattle.thy_isa.specs.Step.{State, state_of, state_with}
 use Rattle.thy_record.specs.Decode.{flat}
+use Rattle.thy_record.specs.Words.{word_of}
+use Rattle.thy_model.specs.Checkpoint.{record_place}
 use Rattle.thy_model.specs.Moments.{cycle_doubt}
 use Rattle.thy_model.specs.Origin.{Origin, at}
 use Rattle.thy_model.specs.Safe.{Safe}
@@ -39,6 +42,10 @@ is_loading phase stage = false
 -- a step that failed leaves on the device the checkpoint that was done, whole, or the one in doubt
 abbrev pub LeavesSafe : Origin → Pick → Parts → Device → Device → Type 0
 LeavesSafe o pick m n new = Safe o (view_of o m n).done (cycle_doubt pick (length n.queue) m (view_of o m n)) new
+
+-- how long the console in the slot of an epoch is, at most what its pages hold
+abbrev pub stored_len : Parameters → ℕ → Device → ℕ
+stored_len p epoch n = min (word_of (newest n (record_place p epoch 4)) 2) (console_room p)
 
 -- a state is the plain machine's at a view's count
 pub record IsSnapshot (o : Origin) (v : View) (s : MachState) : Type 0 where

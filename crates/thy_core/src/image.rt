@@ -60,7 +60,7 @@ fn gathered(alloc: Global, blocks: &[Block]) -> Result<Bytes, AllocError>
 }
 
 /// At most `count` bytes from `from` on.
-fn part(bytes: &[u8], from: usize, count: usize) -> &[u8]
+pub fn part(bytes: &[u8], from: usize, count: usize) -> &[u8]
     ensures { result.now ≡ take count (drop from bytes.now) }
 {
     let rest = &bytes[from.min(bytes.len())..];
