@@ -6,3 +6,5 @@ pub mod BelowLemmas
 pub mod GeometryLemmas
 pub mod SnapshotLemmas
 pub mod MomentSteps
+pub mod LoadingLemmas
+pub mod ConsoleLemmas

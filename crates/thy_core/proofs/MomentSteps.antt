@@ -1,26 +1,32 @@
 -- The exact step of a machine at a moment of a run is a sound one.
-use Rattle.std.proofs.Common.{◌≡◌, ℕ, ◌+◌, ◌<◌, Option, length, sym, ◌∙◌, ap, subst}
+use Rattle.std.proofs.Common.{◌≡◌, ℕ, ◌+◌, ◌^◌, ◌<◌, ◌≤◌, Option, length, sym, ◌∙◌, ap, subst, arith}
 use Rattle.thy_base.specs.declared.mix.Pick.{Pick}
+use Rattle.thy_base.specs.Bytes.{bytes_of}
 use Rattle.thy_base.specs.Device.{Device, IsFramed}
-use Rattle.thy_isa.specs.Step.{State}
+use Rattle.thy_isa.specs.Step.{State, state_of}
 use Rattle.thy_model.specs.declared.did.Did.{Did}
 use Rattle.thy_model.specs.declared.did.Stall.{Stall}
 use Rattle.thy_model.specs.declared.did.Stepped.{Stepped}
 use Rattle.thy_model.specs.declared.parts.Parts.{Parts}
+use Rattle.thy_model.specs.declared.start.Start.{Start}
 use Rattle.thy_model.specs.declared.view.View.{View}
 use Rattle.thy_model.specs.Action.{Action, after, FailsTo}
+use Rattle.thy_model.specs.Bounds.{IsBelow}
+use Rattle.thy_model.specs.Calls.{Begins, IsAt, IsStep, has_read, halts}
 use Rattle.thy_model.specs.CoreStep.{CoreStep}
 use Rattle.thy_model.specs.Cycle.{cycle_action, cycle_next, cycle_did, cycle_stall}
-use Rattle.thy_model.specs.Moments.{Moment, Leads}
+use Rattle.thy_model.specs.Moments.{Moment, Leads, IsSmall}
 use Rattle.thy_model.specs.Origin.{Origin}
-use Rattle.thy_model.specs.Safe.{ceiling}
-use Rattle.thy_model.specs.Sound.{view_of}
+use Rattle.thy_model.specs.Safe.{ceiling, Safe}
+use Rattle.thy_model.specs.Sound.{IsOrigin, view_of}
 use Rattle.thy_model.specs.Turn.{Turn}
+use Rattle.thy_model.proofs.CycleLaws.{Safe-failed_cycle, Safe-failed_sealed}
 use Rattle.thy_model.proofs.MomentLaws.{Leads-cycle}
 use Rattle.thy_model.proofs.SafeLaws.{Safe-sound}
+use Rattle.thy_model.proofs.SmallLaws.{IsSmall-step}
 use Rattle.thy_model.proofs.TurnLaws.{Turn-cycle}
-use Rattle.thy_model.proofs.CycleLaws.{Safe-failed_cycle}
-use Rattle.thy_core.specs.Machine.{IsStep, LeavesSafe}
+use Rattle.thy_model.proofs.ViewLaws.{halts-view, has_read-cycle}
+use Rattle.thy_core.specs.Machine.{LeavesSafe}
 
 -- the next parts and the next device are those that the law speaks of
 same_next : (o : Origin) (s : State) (len : ℕ) (n : Device) (pick : Pick) (q : ℕ) (m next : Parts) → o.start ≡ s → length o.input ≡ len
@@ -50,26 +56,62 @@ turned pick q v did d stall t did_is stall_is h =
     let Q : Option Stall → Type 0 = λ x. Turn pick q 0 v did x in
     subst Q (sym stall_is) (subst P (sym did_is) h)
 
+-- what so many cycles can have reached is below the ceiling
+epoch_below : (o : Origin) (k : ℕ) (v : View) → IsSmall o k v → k < 2 ^ 62 → v.epoch < ceiling
+epoch_below o k v small few = let least : v.epoch ≤ k + 1 = small.epoch in omega arith
+
+count_below : (o : Origin) (k : ℕ) (v : View) → IsOrigin o → IsSmall o k v → k < 2 ^ 62 → v.count + 1 < ceiling
+count_below o k v origin small few =
+    let least : v.count ≤ o.start.count + k = small.count in
+    let start : o.start.count < 2 ^ 62 = origin.recordable.count in
+    omega arith
+
+-- no number of a view is past its bound, which grows by one
+more_below : (k : ℕ) (v next : View) → ((top : ℕ) → 2 ^ 63 ≤ top → IsBelow top v → IsBelow (top + 1) next) → IsBelow (2 ^ 63 + k) v → IsBelow (2 ^ 63 + (k + 1)) next
+more_below k v next counts below =
+    let same : (2 ^ 63 + k) + 1 ≡ 2 ^ 63 + (k + 1) = omega arith in
+    subst (λ (top : ℕ). IsBelow top next) same (counts (2 ^ 63 + k) (omega arith) below)
+
 -- a step that succeeded
-pub step_sound : (o : Origin) (s : State) (len : ℕ) (pick : Pick) (m next : Parts) (n new : Device) (r : Stepped)
-    → o.start ≡ s → length o.input ≡ len → Moment o m n → (view_of o m n).epoch < ceiling → (view_of o m n).count + 1 < ceiling
-    → next ≡ cycle_next s len n pick (length n.queue) m → new ≡ after (cycle_action s pick (length n.queue) m) n
-    → r.did ≡ cycle_did pick (length n.queue) m next → r.stall ≡ cycle_stall pick (length n.queue) m → IsStep o pick m next n new r
-step_sound o s len pick m next n new r starts input moment epoch count next_is new_is did_is stall_is =
+pub step_sound : (o : Origin) (k : ℕ) (start : Start) (pick : Pick) (m next : Parts) (n new : Device) (r : Stepped)
+    → Begins o m.geometry start → IsAt o k m n → k < 2 ^ 62
+    → next ≡ cycle_next (state_of start.state) (length (bytes_of start.input)) n pick (length n.queue) m
+    → new ≡ after (cycle_action (state_of start.state) pick (length n.queue) m) n
+    → r.did ≡ cycle_did pick (length n.queue) m next → r.stall ≡ cycle_stall pick (length n.queue) m → r.ended ≡ halts m.view next.view
+    → ((top : ℕ) → 2 ^ 63 ≤ top → IsBelow top m.view → IsBelow (top + 1) next.view)
+    → IsStep o k pick m next n new r
+step_sound o k start pick m next n new r begins at few next_is new_is did_is stall_is ended_is counts =
     let q : ℕ = length n.queue in
-    let device : new ≡ after (cycle_action o.start pick q m) n = new_is ∙ ap (λ (a : Action). after a n) (same_action o s pick q m starts) in
-    let l = led o m n pick q next new r (Leads-cycle o m n pick q moment epoch count) (same_next o s len n pick q m next starts input next_is) device did_is in
+    let s : State = state_of start.state in
+    let moment : Moment o m n = at.moment in
+    let device : new ≡ after (cycle_action o.start pick q m) n = new_is ∙ ap (λ (a : Action). after a n) (same_action o s pick q m begins.state) in
+    let there : next ≡ cycle_next o.start (length o.input) n pick q m = same_next o s (length (bytes_of start.input)) n pick q m next begins.state (ap length begins.input) next_is in
+    let leads = Leads-cycle o m n pick q moment (epoch_below o k (view_of o m n) at.small few) (count_below o k (view_of o m n) moment.sound.origin at.small few) in
+    let l = led o m n pick q next new r leads there device did_is in
     record {
-      moment = l.0;
+      at_next = record {
+        moment = l.0;
+        small = IsSmall-step o k (view_of o m n) (view_of o next new) at.small r.did l.1;
+        below = more_below k m.view next.view counts at.below;
+      };
       step = l.1;
       turn = turned pick q (view_of o m n) r.did (cycle_did pick q m next) r.stall (cycle_stall pick q m) did_is stall_is
           (Turn-cycle o m n moment.sound pick q next);
+      ended = ended_is ∙ halts-view o m next n new moment.sound l.0.sound;
       safe = Safe-sound o next new l.0.sound;
+      read = λ empty. ap has_read there ∙ has_read-cycle o m n moment.sound pick empty;
     }
 
 -- a step that failed
-pub step_safe : (o : Origin) (s : State) (pick : Pick) (m : Parts) (n new : Device) → o.start ≡ s → Moment o m n
-    → FailsTo (cycle_action s pick (length n.queue) m) n new → IsFramed n new → LeavesSafe o pick m n new
-step_safe o s pick m n new starts moment failed framed =
+pub step_safe : (o : Origin) (k : ℕ) (start : Start) (pick : Pick) (m : Parts) (n new : Device) → Begins o m.geometry start → IsAt o k m n
+    → FailsTo (cycle_action (state_of start.state) pick (length n.queue) m) n new → IsFramed n new → LeavesSafe o pick m n new
+step_safe o k start pick m n new begins at failed framed =
     let F : Action → Type 0 = λ a. FailsTo a n new in
-    Safe-failed_cycle o m n moment.sound pick (length n.queue) new (subst F (same_action o s pick (length n.queue) m starts) failed) framed
+    Safe-failed_cycle o m n at.moment.sound pick (length n.queue) new (subst F (same_action o (state_of start.state) pick (length n.queue) m begins.state) failed) framed
+
+-- and so, whatever the step was, for the sealed mark
+pub step_sealed : (o : Origin) (k : ℕ) (start : Start) (pick : Pick) (m : Parts) (n new : Device) → Begins o m.geometry start → IsAt o k m n
+    → FailsTo (cycle_action (state_of start.state) pick (length n.queue) m) n new → IsFramed n new → Safe o (view_of o m n).done (view_of o m n).sealed new
+step_sealed o k start pick m n new begins at failed framed =
+    let F : Action → Type 0 = λ a. FailsTo a n new in
+    Safe-failed_sealed o m n at.moment.sound pick (length n.queue) new (subst F (same_action o (state_of start.state) pick (length n.queue) m begins.state) failed) framed

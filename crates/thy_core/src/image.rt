@@ -1,10 +1,14 @@
-//! What the machine can be read for: the state, and the console of the committed checkpoint.
-ghost use Rattle.std.specs.Prelude.{◌≡◌, ◌<◌, ◌^◌, ◌-◌, length, take, drop, IfOk};
+//! The state that the machine executes.
+ghost use Rattle.std.specs.Prelude.{◌≡◌, ℕ, ◌<◌, ◌^◌, false, length, take, drop, IfOk, IfErr, OnOk};
 ghost use Rattle.thy_base.specs.Bytes.{bytes_of};
+ghost use Rattle.thy_base.specs.Device.{IsFramed};
 ghost use Rattle.thy_base.specs.Geometry.{memory_blocks};
 ghost use Rattle.thy_isa.specs.Step.{state_of};
 ghost use Rattle.thy_record.specs.Decode.{flat};
-ghost use Rattle.thy_core.specs.Machine.{program_blocks_of, held_console, held_state};
+ghost use Rattle.thy_model.specs.Calls.{IsAt, is_boot};
+ghost use Rattle.thy_model.specs.Origin.{Origin};
+ghost use Rattle.thy_model.specs.Sound.{view_of};
+ghost use Rattle.thy_core.specs.Machine.{program_blocks_of, held_console, held_state, IsSnapshot, HasFailedToRead};
 
 use crate::Machine;
 use std::alloc::{AllocError, Global};
@@ -56,7 +60,7 @@ fn gathered(alloc: Global, blocks: &[Block]) -> Result<Bytes, AllocError>
 }
 
 /// At most `count` bytes from `from` on.
-fn part(bytes: &[u8], from: usize, count: usize) -> &[u8]
+pub fn part(bytes: &[u8], from: usize, count: usize) -> &[u8]
     ensures { result.now ≡ take count (drop from bytes.now) }
 {
     let rest = &bytes[from.min(bytes.len())..];
@@ -64,47 +68,41 @@ fn part(bytes: &[u8], from: usize, count: usize) -> &[u8]
 }
 
 impl Machine {
-    /// The state that the machine holds.
+    /// The state that the machine executes.
     ///
     /// # Errors
     /// `Memory` for want of memory. This machine has all of its memory at hand, so the device is not
     /// read.
-    pub fn snapshot<N: Nvm>(&self, alloc: Global, _nvm: &mut N) -> Result<MachState, CoreError>
-        ensures state { IfOk result (λ s. state_of s ≡ held_state self.now) }
-        ensures device { N.device _nvm.new ≡ N.device _nvm.old }
+    pub fn snapshot<N: Nvm>(&self, alloc: Global, nvm: &mut N) -> Result<MachState, CoreError>
+        ensures state { (o : Origin) (k : ℕ) → IsAt o k self.now (N.device nvm.old) → is_boot (view_of o self.now (N.device nvm.old)).phase ≡ false → IfOk result (λ s. IsSnapshot o (view_of o self.now (N.device nvm.old)) s) }
+        ensures held { IfOk result (λ s. state_of s ≡ held_state self.now) }
+        ensures same { OnOk result (N.device nvm.new ≡ N.device nvm.old) }
+        ensures err { IfErr result (λ e. HasFailedToRead e (N.device nvm.old) (N.device nvm.new)) }
+        ensures frame { IsFramed (N.device nvm.old) (N.device nvm.new) }
     {
-        let parts = self.parts();
-        let memory = gathered(alloc, program_blocks(parts))?;
-        let console = console_from(alloc, parts, 0)?;
-        Ok(MachState {
-            pc: parts.cpu.pc,
-            regs: parts.cpu.regs,
-            memory,
-            console,
-            cursor: parts.cpu.cursor,
-            brk: parts.cpu.brk,
-            floor: parts.cpu.floor,
-            count: parts.cpu.count,
-            status: parts.cpu.status,
-        })
+        let state = held(alloc, self.parts())?;
+        Ok(state)
     }
+}
 
-    /// The console from byte `from` on.
-    ///
-    /// # Errors
-    /// `Memory` for want of memory.
-    pub fn console<N: Nvm>(
-        &self,
-        alloc: Global,
-        from: u64,
-        _nvm: &mut N,
-    ) -> Result<Bytes, CoreError>
-        ensures console { IfOk result (λ b. bytes_of b ≡ held_console self.now from) }
-        ensures device { N.device _nvm.new ≡ N.device _nvm.old }
-    {
-        let bytes = console_from(alloc, self.parts(), from)?;
-        Ok(bytes)
-    }
+/// The state that the machine's parts hold.
+fn held(alloc: Global, parts: &Parts) -> Result<MachState, AllocError>
+    requires { length parts.now.memory ≡ memory_blocks parts.now.geometry }
+    ensures { IfOk result (λ s. state_of s ≡ held_state parts.now) }
+{
+    let memory = gathered(alloc, program_blocks(parts))?;
+    let console = held_console(alloc, parts)?;
+    Ok(MachState {
+        pc: parts.cpu.pc,
+        regs: parts.cpu.regs,
+        memory,
+        console,
+        cursor: parts.cpu.cursor,
+        brk: parts.cpu.brk,
+        floor: parts.cpu.floor,
+        count: parts.cpu.count,
+        status: parts.cpu.status,
+    })
 }
 
 /// The blocks of program memory.
@@ -129,13 +127,12 @@ fn console_blocks(m: &Parts) -> &[Block]
     &m.memory.as_slice()[count as usize..]
 }
 
-fn console_from(alloc: Global, m: &Parts, from: u64) -> Result<Bytes, AllocError>
+fn held_console(alloc: Global, m: &Parts) -> Result<Bytes, AllocError>
     requires { length m.now.memory ≡ memory_blocks m.now.geometry }
-    ensures { IfOk result (λ b. bytes_of b ≡ held_console m.now from) }
+    ensures { IfOk result (λ b. bytes_of b ≡ held_console m.now) }
 {
     let all = gathered(alloc, console_blocks(m))?;
-    let count = m.cpu.console_len.saturating_sub(from);
-    let piece = part(all.as_slice(), from as usize, count as usize);
+    let piece = part(all.as_slice(), 0, m.cpu.console_len as usize);
     let bytes = Vec::from_slice(alloc, piece)?;
     Ok(Bytes::from_vec(bytes))
 }

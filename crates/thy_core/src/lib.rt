@@ -3,6 +3,7 @@
 
 mod boot;
 mod boots;
+mod console;
 mod cycle;
 mod engine;
 mod hart;

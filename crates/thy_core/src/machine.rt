@@ -1,17 +1,20 @@
 //! The machine and its calls.
 ghost use Rattle.std.specs.Prelude.{◌≡◌, ◌<◌, ◌≤◌, ◌+◌, ◌-◌, ◌^◌, ℕ, true, false, is_ok, not, ◌&&◌, length, replicate, OnOk, OnErr, IfOk, None, IsTrue, ◌↔◌};
 ghost use Rattle.thy_base.specs.Bytes.{bytes_of};
-ghost use Rattle.thy_base.specs.Device.{IsFramed, CountsFault, zero_block};
+ghost use Rattle.thy_base.specs.Device.{Device, IsFramed, CountsFault, zero_block};
 ghost use Rattle.thy_base.specs.Geometry.{blocks_of, memory_blocks};
 ghost use Rattle.thy_isa.specs.Step.{state_of};
 ghost use Rattle.thy_model.specs.declared.view.Phase.TheVariants.{Boot as BootPhase, Halt as HaltPhase};
 ghost use Rattle.thy_model.specs.Action.{after, FailsTo};
 ghost use Rattle.thy_model.specs.Boot.{boot_view};
-ghost use Rattle.thy_model.specs.Bounds.{IsStart, IsBelow};
+ghost use Rattle.thy_model.specs.Bounds.{IsBelow};
+ghost use Rattle.thy_model.specs.Calls.{Begins, IsAt, CanStep, IsStep, is_halt, halts, has_read, loads};
 ghost use Rattle.thy_model.specs.Cycle.{cycle_action, cycle_next, cycle_did, cycle_stall};
 ghost use Rattle.thy_model.specs.Moments.{IsNoCpu, IsPoweredOn};
-ghost use Rattle.thy_core.specs.Machine.{is_halt, has_halted, is_loading, IsAt, IsStep, LeavesSafe};
+ghost use Rattle.thy_core.specs.Machine.{is_loading, LeavesSafe};
 ghost use Rattle.thy_model.specs.Origin.{Origin};
+ghost use Rattle.thy_model.specs.Safe.{Safe};
+ghost use Rattle.thy_model.specs.Sound.{view_of};
 
 use crate::boot::boot_view;
 use crate::cycle::cycle;
@@ -69,19 +72,17 @@ impl Machine {
         start: &Start,
         nvm: &mut N,
     ) -> Result<Stepped, NvmError>
-        requires start { IsStart self.old.geometry start.now }
-        requires below { IsBelow (2 ^ 64 - 2) self.old.view }
-        requires blocks { length (N.device nvm.old).image ≡ blocks_of self.old.geometry }
-        requires up { (N.device nvm.old).down ≡ false }
+        requires { CanStep start.now self.old (N.device nvm.old) }
         // A step from a moment of a run leads to the next one, and one that fails leaves the device safe.
-        ensures sound { (o : Origin) → IsAt o start.now self.old (N.device nvm.old) → IfOk result (IsStep o pick self.old self.new (N.device nvm.old) (N.device nvm.new)) }
-        ensures safe { (o : Origin) → IsAt o start.now self.old (N.device nvm.old) → OnErr result (LeavesSafe o pick self.old (N.device nvm.old) (N.device nvm.new)) }
+        ensures sound { (o : Origin) (k : ℕ) → Begins o self.old.geometry start.now → IsAt o k self.old (N.device nvm.old) → k < 2 ^ 62 → IfOk result (λ r. IsStep o k pick self.old self.new (N.device nvm.old) (N.device nvm.new) r) }
+        ensures safe { (o : Origin) (k : ℕ) → Begins o self.old.geometry start.now → IsAt o k self.old (N.device nvm.old) → OnErr result (LeavesSafe o pick self.old (N.device nvm.old) (N.device nvm.new)) }
+        ensures at_failure { (o : Origin) (k : ℕ) → Begins o self.old.geometry start.now → IsAt o k self.old (N.device nvm.old) → OnErr result (Safe o (view_of o self.old (N.device nvm.old)).done (view_of o self.old (N.device nvm.old)).sealed (N.device nvm.new)) }
 
         // What it does exactly.
         ensures parts { OnOk result (self.new ≡ cycle_next (state_of start.now.state) (length (bytes_of start.now.input)) (N.device nvm.old) pick (length (N.device nvm.old).queue) self.old) }
         ensures did { IfOk result (λ r. r.did ≡ cycle_did pick (length (N.device nvm.old).queue) self.old self.new) }
         ensures stall { IfOk result (λ r. r.stall ≡ cycle_stall pick (length (N.device nvm.old).queue) self.old) }
-        ensures ended { IfOk result (λ r. r.ended ≡ has_halted self.old self.new) }
+        ensures ended { IfOk result (λ r. r.ended ≡ halts self.old.view self.new.view) }
         ensures counts { (n : ℕ) → 2 ^ 63 ≤ n → IsBelow n self.old.view → OnOk result (IsBelow (n + 1) self.new.view) }
         ensures geometry { OnOk result (self.new.geometry ≡ self.old.geometry) }
         ensures failed { OnErr result (self.new.failed ≡ true) }
@@ -121,12 +122,10 @@ impl Machine {
 
     /// Whether the boot goes on and has found no checkpoint.
     pub fn loading(&self) -> bool
-        ensures { result ≡ is_loading self.now.view.phase self.now.stage }
+        ensures loads { (o : Origin) (k : ℕ) (n : Device) → IsAt o k self.now n → result ≡ (has_read self.now && loads (view_of o self.now n)) }
+        ensures parts { result ≡ is_loading self.now.view.phase self.now.stage }
     {
-        matches!(
-            (self.parts.view.phase, self.parts.stage),
-            (Phase::Boot, Stage::Writing { .. })
-        )
+        is_loading(self.parts.view.phase, self.parts.stage)
     }
 
     /// Whether a step has failed.
@@ -135,6 +134,12 @@ impl Machine {
     {
         self.parts.failed
     }
+}
+
+fn is_loading(phase: Phase, stage: Stage) -> bool
+    ensures { result ≡ is_loading phase stage }
+{
+    matches!((phase, stage), (Phase::Boot, Stage::Writing { .. }))
 }
 
 fn has_halted(before: Phase, after: Phase) -> bool

@@ -79,8 +79,11 @@ module _ (o : Origin) (m : Parts) (n : Device) (s : Sound o m n) where
   halt_idle (Restoring epoch next) h = absurd h
   halt_idle (Refused bad) h = absurd h
 
+  pub halted_stage : m.view.phase ≡ Halt → m.stage ≡ Idle
+  halted_stage phase = halt_idle m.stage (subst (SoundIn o m n) phase s.moment)
+
   pub halted_view : m.view.phase ≡ Halt → view_of o m n ≡ m.view
-  halted_view phase = view-idle o m n (halt_idle m.stage (subst (SoundIn o m n) phase s.moment))
+  halted_view phase = view-idle o m n (halted_stage phase)
 
   phase_goes : (phase : Phase) → m.view.phase ≡ phase → Executes o m → SealsBelow m → IsBounded (phase_next o.start (length o.input) n phase m)
       → Goes o (view_of o m n) (phase_did phase m (phase_next o.start (length o.input) n phase m)) (phase_next o.start (length o.input) n phase m)

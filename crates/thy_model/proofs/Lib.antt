@@ -19,3 +19,6 @@ pub mod MomentLaws
 pub mod HartLemmas
 pub mod HartLaws
 pub mod SmallLaws
+pub mod CallLaws
+pub mod ViewLaws
+pub mod ReadLaws

@@ -1,5 +1,5 @@
 //! Laws of the machine, each the contract of a function that does nothing.
-ghost use Rattle.thy_model.specs.Laws.{CycleLeads, CycleIsTurn, MomentIsSafe, FailureIsSafe, CutLeads, FailureLeads, FreshLeads, PowerIsNew, StepIsSmall, CutIsSmall, FailureIsSmall};
+ghost use Rattle.thy_model.specs.Laws.{CycleLeads, CycleIsTurn, MomentIsSafe, FailureIsSafe, CutLeads, FailureLeads, FreshLeads, PowerIsNew, StepIsSmall, CutIsSmall, FailureIsSmall, MomentCanStep, FreshIsAt, CutIsAt, MomentIsSafeFor};
 
 /// A cycle leads from a moment of a run to the next one, by a step of the view.
 pub fn a_cycle_leads_on()
@@ -55,4 +55,25 @@ pub fn a_failure_is_small()
 /// A machine whose power has just come on is one that a run can begin or go on with.
 pub fn power_makes_a_new_machine()
     ensures { PowerIsNew }
+{}
+
+/// A step may be asked for at every moment of a run, within its number of cycles.
+pub fn a_step_may_be_asked_for()
+    ensures { MomentCanStep }
+{}
+
+/// A run begins at a moment: a machine whose power has just come on, over a fitted device of zeros.
+pub fn a_run_begins_at_a_moment()
+    ensures { FreshIsAt }
+{}
+
+/// After a power cut a machine whose power has just come on is at a moment of the same run, and
+/// shows what the image that was left decodes to.
+pub fn a_cut_is_at_a_moment()
+    ensures { CutIsAt }
+{}
+
+/// A device is safe at every moment, for the marks that the machine shows.
+pub fn a_moment_is_safe_for_its_marks()
+    ensures { MomentIsSafeFor }
 {}

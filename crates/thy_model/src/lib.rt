@@ -12,9 +12,10 @@ mod view;
 
 pub use did::{Did, EngineStep, Stall, Stepped};
 pub use laws::{
-    a_cut_is_small, a_cut_leads_on, a_cycle_is_a_turn, a_cycle_leads_on, a_failure_is_safe,
-    a_failure_is_small, a_failure_leads_on, a_fresh_start_leads_on, a_moment_is_safe,
-    a_step_is_small, power_makes_a_new_machine,
+    a_cut_is_at_a_moment, a_cut_is_small, a_cut_leads_on, a_cycle_is_a_turn, a_cycle_leads_on,
+    a_failure_is_safe, a_failure_is_small, a_failure_leads_on, a_fresh_start_leads_on,
+    a_moment_is_safe, a_moment_is_safe_for_its_marks, a_run_begins_at_a_moment, a_step_is_small,
+    a_step_may_be_asked_for, power_makes_a_new_machine,
 };
 pub use memory::Memory;
 pub use parts::Parts;

@@ -1,0 +1,78 @@
+-- What the machine's calls stand on at a moment of a run.
+use Rattle.std.proofs.Common.{◌≡◌, ℕ, ◌+◌, ◌-◌, ◌^◌, ◌<◌, ◌≤◌, length, sym, ◌∙◌, ap, subst, arith}
+use Rattle.thy_base.specs.Bytes.{bytes_of}
+use Rattle.thy_base.specs.Device.{Device, cut_to}
+use Rattle.thy_base.specs.Geometry.{program_size, console_room}
+use Rattle.thy_isa.specs.Step.{State}
+use Rattle.thy_model.specs.declared.parts.Parts.{Parts}
+use Rattle.thy_model.specs.declared.start.Start.{Start}
+use Rattle.thy_model.specs.declared.view.View.{View}
+use Rattle.thy_model.specs.Bounds.{IsStart, IsBelow}
+use Rattle.thy_model.specs.Calls.{Begins}
+use Rattle.thy_model.specs.Laws.{MomentCanStep, FreshIsAt, CutIsAt, MomentIsSafeFor}
+use Rattle.thy_model.specs.Moments.{IsPoweredOn, IsNew, IsSmall}
+use Rattle.thy_model.specs.Origin.{Origin}
+use Rattle.thy_model.specs.Sound.{Sound, view_of}
+use Rattle.thy_model.proofs.CutLaws.{view-unread, view-fresh}
+use Rattle.thy_model.proofs.MomentLaws.{IsNew-powered_on, Moment-fresh, Moment-power_cut, Finds-power_cut}
+use Rattle.thy_model.proofs.SafeLaws.{Safe-sound}
+use Rattle.thy_model.proofs.SmallLaws.{IsSmall-loading, IsSmall-cut}
+
+-- ---- a step may be asked for
+
+-- the start of a run fits its geometry
+IsStart-begins : (o : Origin) (m : Parts) (n : Device) (start : Start) → Sound o m n → Begins o o.geometry start → IsStart m.geometry start
+IsStart-begins o m n start s b =
+    let memory : length (bytes_of start.state.memory) ≡ program_size o.geometry = ap (λ (t : State). length t.memory) (sym b.state) ∙ s.origin.memory in
+    let console : length (bytes_of start.state.console) ≡ length o.start.console = ap (λ (t : State). length t.console) (sym b.state) in
+    let short : length o.start.console ≤ console_room o.geometry = s.origin.recordable.console in
+    let room : console_room m.geometry ≡ console_room o.geometry = ap console_room s.geometry in
+    let count : start.state.count ≡ o.start.count = ap (λ (t : State). t.count) (sym b.state) in
+    let few : o.start.count < 2 ^ 62 = s.origin.recordable.count in
+    record {
+      memory = memory ∙ ap program_size (sym s.geometry);
+      console = omega arith;
+      regs = ap (λ (t : State). length t.regs) (sym b.state) ∙ s.origin.recordable.regs_length;
+      count = omega arith;
+    }
+
+IsBelow-more : (a b : ℕ) (v : View) → IsBelow a v → a ≤ b → IsBelow b v
+IsBelow-more a b v h l = record { count = omega (arith, h.count); epoch = omega (arith, h.epoch); retired = omega (arith, h.retired); spent = omega (arith, h.spent); lap = omega (arith, h.lap) }
+
+-- a step may be asked for at every moment of a run, within its number of cycles
+pub CanStep-at : MomentCanStep
+CanStep-at = λ o start k m n begins at few. record {
+  start_fits = IsStart-begins o m n start at.moment.sound begins;
+  below = IsBelow-more (2 ^ 63 + k) (2 ^ 64 - 2) m.view at.below (omega arith);
+  blocks = at.moment.sound.sized.blocks;
+  up = at.moment.sound.up;
+}
+
+-- ---- where a run begins, and goes on after a cut
+
+-- all numbers are zero when the power comes on
+IsBelow-powered_on : (o : Origin) (m : Parts) (top : ℕ) → IsPoweredOn o.geometry m → IsBelow top m.view
+IsBelow-powered_on o m top on = subst (IsBelow top) (sym on.view) (record { count = omega arith; epoch = omega arith; retired = omega arith; spent = omega arith; lap = omega arith })
+
+-- a new machine over a fitted device of zeros
+pub IsAt-fresh : FreshIsAt
+IsAt-fresh = λ o m shape n origin on same.
+    let new : IsNew o m = IsNew-powered_on o m on in
+    let seen = view-fresh o m shape n new same in
+    (record { moment = Moment-fresh o m shape n origin new same; small = subst (IsSmall o 0) (sym seen) (IsSmall-loading o); below = IsBelow-powered_on o m (2 ^ 63 + 0) on }, seen)
+
+-- a new machine over what a cut left
+pub IsAt-cut : CutIsAt
+IsAt-cut = λ o k m next n g at on crash.
+    let new : IsNew o next = IsNew-powered_on o next on in (
+      record {
+        moment = Moment-power_cut o m next n g at.moment new crash;
+        small = IsSmall-cut o (view_of o m n) (view_of o next (cut_to n g)) k at.small (Finds-power_cut o m next n g at.moment new crash);
+        below = IsBelow-powered_on o next (2 ^ 63 + k) on;
+      },
+      view-unread o next (cut_to n g) on.stage,
+    )
+
+-- whatever a cut leaves is committed or in doubt
+pub Safe-at : MomentIsSafeFor
+Safe-at = λ o k m n at. Safe-sound o m n at.moment.sound
