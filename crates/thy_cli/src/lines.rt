@@ -10,7 +10,7 @@ fn write_lines<R: Sink>(events: &Events, first: usize, report: &mut R) -> Option
     requires { first ≤ length events.now }
 {
     for i in first..events.len() {
-        if write_event(events.get(i), report).is_err() {
+        if write_event(events.get(i), false, report).is_err() {
             return Some(Stop::Report);
         }
     }

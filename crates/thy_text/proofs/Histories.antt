@@ -25,13 +25,16 @@ pub AllLawful-more : (c : Course) (m : Marks) (vs : List Happening) (v : Happeni
 AllLawful-more c m vs v before lawful = AllLawful-append c m vs (v ∷ []) before (lawful, tt)
 
 -- the lines of more events
-pub report_of-append : (vs ws : List Happening) → report_of (vs ++ ws) ≡ report_of vs ++ report_of ws
-report_of-append [] ws = refl
-report_of-append (v ∷ vs) ws = ap (λ l. line_of v ++ l) (report_of-append vs ws) ∙ sym (append_assoc (line_of v) (report_of vs) (report_of ws))
+pub report_of-append : (digest : Bool) (vs ws : List Happening) → report_of digest (vs ++ ws) ≡ report_of digest vs ++ report_of digest ws
+report_of-append digest [] ws = refl
+report_of-append digest (v ∷ vs) ws =
+    ap (λ l. line_of digest v ++ l) (report_of-append digest vs ws)
+    ∙ sym (append_assoc (line_of digest v) (report_of digest vs) (report_of digest ws))
 
 -- the line of one more event
-pub report_of-more : (vs : List Happening) (v : Happening) → report_of (vs ++ v ∷ []) ≡ report_of vs ++ line_of v
-report_of-more vs v = report_of-append vs (v ∷ []) ∙ ap (λ l. report_of vs ++ l) (append-nil (line_of v))
+pub report_of-more : (digest : Bool) (vs : List Happening) (v : Happening) → report_of digest (vs ++ v ∷ []) ≡ report_of digest vs ++ line_of digest v
+report_of-more digest vs v =
+    report_of-append digest vs (v ∷ []) ∙ ap (λ l. report_of digest vs ++ l) (append-nil (line_of digest v))
 
 -- where nothing is kept, nothing is until an event shows a committed state
 pub kept-unshown : (start : ℕ) (m : Marks) (vs : List Happening) → m.kept ≡ None → list_any shows vs ≡ false → (marks_from start m vs).kept ≡ None

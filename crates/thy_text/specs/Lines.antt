@@ -1,6 +1,8 @@
 -- The lines of a report, as bytes.
-use Rattle.std.specs.Prelude.{ℕ, List, [], ◌∷◌, ◌++◌, codes}
+use Rattle.std.specs.Prelude.{ℕ, Bool, true, false, List, [], ◌∷◌, ◌++◌, codes}
 use Rattle.std.specs.Fmt.{decimal}
+use Rattle.hex.specs.Hex.{encode_lower}
+use Rattle.sha2.specs.Sha256.{sha256}
 use Rattle.thy_base.specs.declared.cause.EndCause.{EndCause}
 use Rattle.thy_base.specs.declared.cause.EndCause.TheVariants.{Length, Exhausted, Ended as EndedCause}
 use Rattle.thy_isa.specs.declared.state.Status.{Status}
@@ -23,28 +25,43 @@ cause_parts (Exhausted free dirty need) =
     codes "exhausted " ∷ decimal free ∷ codes " " ∷ decimal dirty ∷ codes " " ∷ decimal need ∷ line_feed ∷ []
 cause_parts EndedCause = codes "end" ∷ line_feed ∷ []
 
+-- the line of memory's digest: its SHA-256, in hexadecimal digits of lower case
+abbrev pub memory_line : List ℕ → List ℕ
+memory_line memory = joined (codes "memory " ∷ encode_lower (sha256 memory) ∷ line_feed ∷ [])
+
+-- the same, where digests are told
+abbrev pub digest_line : Bool → List ℕ → List ℕ
+digest_line false memory = []
+digest_line true memory = memory_line memory
+
+-- a word, a number, and the count of a state; behind it memory's digest, where digests are told
+abbrev pub state_lines : Bool → List ℕ → ℕ → ℕ → List ℕ → List ℕ
+state_lines digest word number count memory =
+    joined (word ∷ decimal number ∷ codes " at " ∷ decimal count ∷ line_feed ∷ []) ++ digest_line digest memory
+
 -- how the program ended, after so many instructions; a program that runs on has no line
-abbrev pub end_parts : Status → ℕ → List (List ℕ)
-end_parts Running count = []
-end_parts (Exited value) count = codes "exit " ∷ decimal value ∷ codes " at " ∷ decimal count ∷ line_feed ∷ []
-end_parts (Trapped cause) count = codes "trap " ∷ decimal cause ∷ codes " at " ∷ decimal count ∷ line_feed ∷ []
+abbrev pub ended_lines : Bool → Status → ℕ → List ℕ → List ℕ
+ended_lines digest Running count memory = []
+ended_lines digest (Exited value) count memory = state_lines digest (codes "exit ") value count memory
+ended_lines digest (Trapped cause) count memory = state_lines digest (codes "trap ") cause count memory
 
--- the line of what happened, in parts
-abbrev pub parts_of : Happening → List (List ℕ)
-parts_of (EpochEnd epoch count cause) =
+-- an epoch's end, in parts
+abbrev pub epoch_end_parts : ℕ → ℕ → EndCause → List (List ℕ)
+epoch_end_parts epoch count cause =
     codes "epoch " ∷ decimal epoch ∷ codes " ends at " ∷ decimal count ∷ codes " by " ∷ cause_parts cause
-parts_of (Commit epoch cycle overlapped) =
-    codes "commit " ∷ decimal epoch ∷ codes " overlapped " ∷ decimal overlapped ∷ line_feed ∷ []
-parts_of (Cut index cycle) = codes "cut " ∷ decimal index ∷ codes " at cycle " ∷ decimal cycle ∷ line_feed ∷ []
-parts_of (Restart epoch count state) = codes "restart " ∷ decimal epoch ∷ codes " at " ∷ decimal count ∷ line_feed ∷ []
-parts_of Reload = codes "reload" ∷ line_feed ∷ []
-parts_of (Ended status count cycle state) = end_parts status count
 
--- the line of what happened
-abbrev pub line_of : Happening → List ℕ
-line_of v = joined (parts_of v)
+-- the line of what happened, and behind a restart and an end memory's digest, where digests are told
+abbrev pub line_of : Bool → Happening → List ℕ
+line_of digest (EpochEnd epoch count cause) = joined (epoch_end_parts epoch count cause)
+line_of digest (Commit epoch cycle overlapped) =
+    joined (codes "commit " ∷ decimal epoch ∷ codes " overlapped " ∷ decimal overlapped ∷ line_feed ∷ [])
+line_of digest (Cut index cycle) =
+    joined (codes "cut " ∷ decimal index ∷ codes " at cycle " ∷ decimal cycle ∷ line_feed ∷ [])
+line_of digest (Restart epoch count state) = state_lines digest (codes "restart ") epoch count state.memory
+line_of digest Reload = joined (codes "reload" ∷ line_feed ∷ [])
+line_of digest (Ended status count cycle state) = ended_lines digest status count state.memory
 
 -- the lines of all that happened
-abbrev pub report_of : List Happening → List ℕ
-report_of [] = []
-report_of (v ∷ vs) = line_of v ++ report_of vs
+abbrev pub report_of : Bool → List Happening → List ℕ
+report_of digest [] = []
+report_of digest (v ∷ vs) = line_of digest v ++ report_of digest vs

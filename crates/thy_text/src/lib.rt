@@ -5,6 +5,7 @@ mod closing;
 mod event;
 mod events;
 mod line;
+mod memory;
 mod piece;
 #[cfg(test)]
 mod tests;
@@ -12,4 +13,5 @@ mod tests;
 pub use closing::{Closing, FetchFault, field_text, write_closing};
 pub use event::Event;
 pub use events::Events;
-pub use line::write_event;
+pub use line::{write_ended, write_event};
+pub use memory::digest;

@@ -1,21 +1,23 @@
 //! The lines of events.
 ghost use Rattle.std.specs.Prelude.{◌∷◌, [], OnOk, OnErr};
 ghost use Rattle.std.specs.Fmt.{decimal};
+ghost use Rattle.thy_base.specs.Bytes.{bytes_of};
 ghost use Rattle.thy_base.specs.Outside.{Took, TookPart};
-ghost use Rattle.thy_text.specs.Happening.{EpochEnd};
-ghost use Rattle.thy_text.specs.Lines.{joined, line_feed, line_of, end_parts};
+ghost use Rattle.thy_text.specs.Lines.{joined, line_feed, line_of, state_lines, ended_lines, epoch_end_parts};
 ghost use Rattle.thy_text.specs.Seen.{happening_of};
 
 use crate::Event;
+use crate::memory::write_digest;
 use crate::piece::{Piece, write_pieces};
 use thy_base::{EndCause, Sink, SinkError};
-use thy_isa::Status;
+use thy_isa::{MachState, Status};
 
-/// Writes the line of an event in pieces, none of them empty. On an error the sink has taken only the
-/// first part of the line. Takes no memory.
-pub fn write_event<R: Sink>(event: &Event, report: &mut R) -> Result<(), SinkError>
-    ensures whole { OnOk result (Took (R.stream report.old) (R.stream report.new) (line_of (happening_of event.now))) }
-    ensures failed { OnErr result (TookPart (R.stream report.old) (R.stream report.new) (line_of (happening_of event.now))) }
+/// Writes the line of an event in pieces, none of them empty. With `digest`, the line of a restart and
+/// that of an end are followed by the line of memory's digest. On an error the sink has taken only the
+/// first part of these lines. Takes no memory.
+pub fn write_event<R: Sink>(event: &Event, digest: bool, report: &mut R) -> Result<(), SinkError>
+    ensures whole { OnOk result (Took (R.stream report.old) (R.stream report.new) (line_of digest (happening_of event.now))) }
+    ensures failed { OnErr result (TookPart (R.stream report.old) (R.stream report.new) (line_of digest (happening_of event.now))) }
 {
     match event {
         Event::EpochEnd {
@@ -29,11 +31,18 @@ pub fn write_event<R: Sink>(event: &Event, report: &mut R) -> Result<(), SinkErr
             ..
         } => write_numbers("commit ", *epoch, " overlapped ", *overlapped, report),
         Event::Cut { index, cycle } => write_numbers("cut ", *index, " at cycle ", *cycle, report),
-        Event::Restart { epoch, count, .. } => {
-            write_numbers("restart ", *epoch, " at ", *count, report)
-        }
+        Event::Restart {
+            epoch,
+            count,
+            state,
+        } => write_state("restart ", *epoch, *count, state, digest, report),
         Event::Reload => write_pieces(&[Piece::Text("reload"), Piece::Text("\n")], report),
-        Event::Ended { status, count, .. } => write_end(*status, *count, report),
+        Event::Ended {
+            status,
+            count,
+            state,
+            ..
+        } => write_end(*status, *count, state, digest, report),
     }
 }
 
@@ -65,8 +74,8 @@ fn write_epoch_end<R: Sink>(
     cause: EndCause,
     report: &mut R,
 ) -> Result<(), SinkError>
-    ensures whole { OnOk result (Took (R.stream report.old) (R.stream report.new) (line_of (EpochEnd epoch count cause))) }
-    ensures failed { OnErr result (TookPart (R.stream report.old) (R.stream report.new) (line_of (EpochEnd epoch count cause))) }
+    ensures whole { OnOk result (Took (R.stream report.old) (R.stream report.new) (joined (epoch_end_parts epoch count cause))) }
+    ensures failed { OnErr result (TookPart (R.stream report.old) (R.stream report.new) (joined (epoch_end_parts epoch count cause))) }
 {
     let first = Piece::Text("epoch ");
     let number = Piece::Number(epoch);
@@ -103,14 +112,51 @@ fn write_epoch_end<R: Sink>(
     }
 }
 
-/// Writes the line of a program's end.
-fn write_end<R: Sink>(status: Status, count: u64, report: &mut R) -> Result<(), SinkError>
-    ensures whole { OnOk result (Took (R.stream report.old) (R.stream report.new) (joined (end_parts status count))) }
-    ensures failed { OnErr result (TookPart (R.stream report.old) (R.stream report.new) (joined (end_parts status count))) }
+/// Writes the line of a state that has ended, and with `digest` that of its memory's digest behind it;
+/// of a state that runs on, nothing. On an error the sink has taken only the first part of these lines.
+/// Takes no memory.
+pub fn write_ended<R: Sink>(
+    state: &MachState,
+    digest: bool,
+    report: &mut R,
+) -> Result<(), SinkError>
+    ensures whole { OnOk result (Took (R.stream report.old) (R.stream report.new) (ended_lines digest state.now.status state.now.count (bytes_of state.now.memory))) }
+    ensures failed { OnErr result (TookPart (R.stream report.old) (R.stream report.new) (ended_lines digest state.now.status state.now.count (bytes_of state.now.memory))) }
+{
+    write_end(state.status, state.count, state, digest, report)
+}
+
+/// Writes the lines of an end with this status and count, `state` being the last.
+fn write_end<R: Sink>(
+    status: Status,
+    count: u64,
+    state: &MachState,
+    digest: bool,
+    report: &mut R,
+) -> Result<(), SinkError>
+    ensures whole { OnOk result (Took (R.stream report.old) (R.stream report.new) (ended_lines digest status count (bytes_of state.now.memory))) }
+    ensures failed { OnErr result (TookPart (R.stream report.old) (R.stream report.new) (ended_lines digest status count (bytes_of state.now.memory))) }
 {
     match status {
         Status::Running => Ok(()),
-        Status::Exited(value) => write_numbers("exit ", value, " at ", count, report),
-        Status::Trapped(cause) => write_numbers("trap ", cause, " at ", count, report),
+        Status::Exited(value) => { write_state("exit ", value, count, state, digest, report) }
+        Status::Trapped(cause) => { write_state("trap ", cause, count, state, digest, report) }
     }
+}
+
+/// Writes the line of a state, a word and a number before its count, and with `digest` that of its
+/// memory's digest behind it.
+fn write_state<R: Sink>(
+    word: &'static str,
+    number: u64,
+    count: u64,
+    state: &MachState,
+    digest: bool,
+    report: &mut R,
+) -> Result<(), SinkError>
+    ensures whole { OnOk result (Took (R.stream report.old) (R.stream report.new) (state_lines digest word.now number count (bytes_of state.now.memory))) }
+    ensures failed { OnErr result (TookPart (R.stream report.old) (R.stream report.new) (state_lines digest word.now number count (bytes_of state.now.memory))) }
+{
+    write_numbers(word, number, " at ", count, report)?;
+    write_digest(state, digest, report)
 }

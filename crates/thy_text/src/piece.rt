@@ -13,6 +13,8 @@ pub(crate) enum Piece<'a> {
     Text(&'a str),
     /// In decimal digits.
     Number(u64),
+    /// Digits that stand already.
+    Digits(&'a [u8; 64]),
 }
 
 /// Writes a part, unless it is empty.
@@ -31,6 +33,7 @@ fn write_piece<R: Sink>(piece: &Piece, to: &mut R) -> Result<(), SinkError>
             let mut buffer = Buffer::new();
             to.write(buffer.format(*number).as_bytes())
         }
+        Piece::Digits(digits) => to.write(digits.as_slice()),
     }
 }
 

@@ -1,6 +1,7 @@
-use crate::{Closing, Event, Events, FetchFault, write_closing, write_event};
+use crate::{Closing, Event, Events, FetchFault, digest, write_closing, write_ended, write_event};
 use std::test::Fail;
-use thy_base::{EndCause, Field, Sink, SinkError};
+use thy_base::{Bytes, EndCause, Field, Sink, SinkError};
+use thy_isa::{MachState, Regs, Status};
 
 /// Keeps what it is given.
 #[derive(Drop)]
@@ -52,7 +53,7 @@ fn events_have_their_lines(rt: HostRuntime) -> Result<(), Fail> {
         faults: 0,
     };
     for i in 0..events.len() {
-        assert!(rt; write_event(events.get(i), &mut page).is_ok());
+        assert!(rt; write_event(events.get(i), false, &mut page).is_ok());
     }
     let text =
         b"commit 0 overlapped 0\nepoch 1 ends at 8 by exhausted 8 9 1\ncut 1 at cycle 1391\nreload\n";
@@ -75,4 +76,48 @@ fn closings_have_their_lines(rt: HostRuntime) {
     let text =
         b"word pages\nvalue low 16\nfetch F too long\nfile 1 TooShort\nfile 17 SegmentOutsideMemory 0\nlimit 717\n";
     assert_eq!(rt; page.bytes.as_slice(), text.as_slice());
+}
+
+/// A state with this memory, a console and this status, after seven steps.
+fn state_with(rt: &HostRuntime, memory: &[u8], status: Status) -> Result<MachState, Fail> {
+    let mut console = Bytes::new(rt.alloc());
+    console.extend(b"out")?;
+    let mut bytes = Bytes::new(rt.alloc());
+    bytes.extend(memory)?;
+    Ok(MachState {
+        pc: 65536,
+        regs: Regs::new(),
+        memory: bytes,
+        console,
+        cursor: 0,
+        brk: 65536,
+        floor: 65536,
+        count: 7,
+        status,
+    })
+}
+
+/// The digests are those of `printf 'abc' | sha256sum` and `head -c 4096 /dev/zero | sha256sum`.
+#[test]
+fn memory_has_its_digest(rt: HostRuntime) -> Result<(), Fail> {
+    let abc = state_with(&rt, b"abc", Status::Exited(3))?;
+    assert_eq!(rt; digest(&abc)[0], 0xba);
+    let mut page = Page {
+        bytes: Vec::new(rt.alloc()),
+        faults: 0,
+    };
+    assert!(rt; write_ended(&abc, false, &mut page).is_ok());
+    assert!(rt; write_ended(&abc, true, &mut page).is_ok());
+    let zeros = state_with(&rt, &[0; 4096], Status::Running)?;
+    assert!(rt; write_ended(&zeros, true, &mut page).is_ok());
+    let restart = Event::Restart {
+        epoch: 2,
+        count: 7,
+        state: zeros,
+    };
+    assert!(rt; write_event(&restart, true, &mut page).is_ok());
+    let text =
+        b"exit 3 at 7\nexit 3 at 7\nmemory ba7816bf8f01cfea414140de5dae2223b00361a396177a9cb410ff61f20015ad\nrestart 2 at 7\nmemory ad7facb2586fc6e966c004d7d1d16b024f5805ff7cb47c7a85dabd8b48892ca7\n";
+    assert_eq!(rt; page.bytes.as_slice(), text.as_slice());
+    Ok(())
 }
