@@ -5,3 +5,4 @@ pub mod Geometry
 pub mod Lcg
 pub mod Mix
 pub mod Outside
+pub mod Store

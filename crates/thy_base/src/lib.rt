@@ -14,6 +14,7 @@ mod numbers;
 mod nvm;
 mod outside;
 mod ranges;
+mod store;
 
 pub use block::{BLOCK_SIZE, Block};
 pub use bytes::Bytes;
@@ -26,3 +27,4 @@ pub use mix::{Mix, Pick};
 pub use numbers::Numbers;
 pub use nvm::{FitError, Nvm, NvmError, Shape, Write};
 pub use outside::{FetchError, PutError, Shelf, Sink, SinkError};
+pub use store::{BlockStore, Stored};

@@ -1,0 +1,76 @@
+//! Where blocks are kept: what a cache loads from and stores to.
+ghost use Rattle.std.specs.Prelude.{◌≡◌, ◌<◌, true, length, IfOk, OnOk};
+ghost use Rattle.thy_base.specs.Device.{block_at, CountsFault};
+ghost use Rattle.thy_base.specs.Store.{Holding, IsKeptByLoad, HasStored};
+
+use crate::{Block, NvmError};
+
+/// How a store of a block ended.
+#[derive(Clone, Copy, Debug, PartialEq, Eq)]
+pub enum Stored {
+    /// The block was stored.
+    Done,
+    /// A copy that had to go first was made in its place. The block was not stored: store it again.
+    CopyFirst,
+}
+
+/// A list of blocks that lies in a store and in the device `N` behind it.
+///
+/// A call answers `NvmError` only where it raised the count of faults. Whatever it answers, the
+/// store and the device stay what `stays` says of them.
+pub trait BlockStore<N> {
+    /// What the store and the device hold together.
+    ghost holding: { Self → N → Holding };
+
+    /// What every call keeps, one that fails too: a relation from an earlier store and device to
+    /// later ones.
+    ghost stays: { Self → N → Self → N → Type 0 };
+
+    /// Block `b`. Nothing changes.
+    fn load(&mut self, b: u64, nvm: &mut N) -> Result<Block, NvmError>
+        requires { b < length (holding self.old nvm.old).blocks }
+        ensures ok { IfOk result (λ block. block ≡ block_at (holding self.old nvm.old).blocks b) }
+        ensures same { OnOk result (holding self.new nvm.new ≡ holding self.old nvm.old) }
+        ensures kept { IsKeptByLoad (holding self.old nvm.old) (holding self.new nvm.new) }
+        ensures stays { stays self.old nvm.old self.new nvm.new }
+        ensures cause { CountsFault result (holding self.old nvm.old).faults (holding self.new nvm.new).faults };
+
+    /// Stores block `b`, or makes the copy that has to go first.
+    fn store(&mut self, b: u64, block: &Block, nvm: &mut N) -> Result<Stored, NvmError>
+        requires inside { b < length (holding self.old nvm.old).blocks }
+        requires ready { (holding self.old nvm.old).ready ≡ true }
+        requires room { 0 < (holding self.old nvm.old).free }
+        ensures ok { IfOk result (λ stored. HasStored stored b block.now (holding self.old nvm.old) (holding self.new nvm.new)) }
+        ensures stays { stays self.old nvm.old self.new nvm.new }
+        ensures cause { CountsFault result (holding self.old nvm.old).faults (holding self.new nvm.new).faults };
+
+    /// What stays is as it was where nothing happens.
+    ghost stays_same: { (store : Self) (nvm : N) → stays store nvm store nvm };
+
+    /// What stays from one moment to the next stays over both.
+    ghost stays_on: { (a : Self) (m : N) (b : Self) (n : N) (c : Self) (o : N) → stays a m b n → stays b n c o → stays a m c o };
+}
+
+/// A plain list of blocks, with nothing behind it. Every store is done, and no call fails.
+impl BlockStore<()> for Vec<Block> {
+    ghost use Rattle.std.specs.Prelude.{◌≡◌, ◌<◌, true, length, IfOk, OnOk, Ok};
+    ghost use Rattle.thy_base.specs.Device.{block_at, CountsFault};
+    ghost use Rattle.thy_base.specs.Store.{Holding, flat_list, IsKeptByLoad, HasStored};
+
+    ghost holding = { λ list nothing. flat_list list.items };
+
+    ghost stays = { λ a m b n. Unit {0} };
+
+    fn load(&mut self, b: u64, _nvm: &mut ()) -> Result<Block, NvmError> {
+        Ok(self[b as usize])
+    }
+
+    fn store(&mut self, b: u64, block: &Block, _nvm: &mut ()) -> Result<Stored, NvmError> {
+        self[b as usize] = *block;
+        Ok(Stored::Done)
+    }
+
+    ghost stays_same = { λ list nothing. tt };
+
+    ghost stays_on = { λ a m b n c o first second. tt };
+}
