@@ -15,7 +15,7 @@ use Rattle.thy_record.specs.Cpu.{record_word, cpu_of_record}
 use Rattle.thy_record.specs.Decode.{AllLong, flat, state_from}
 use Rattle.thy_record.specs.Words.{word_of}
 use Rattle.thy_model.specs.declared.parts.Parts.{Parts}
-use Rattle.thy_model.specs.declared.view.Mark.{Mark}
+use Rattle.thy_base.specs.declared.mark.Mark.{Mark}
 use Rattle.thy_model.specs.declared.view.View.{View}
 use Rattle.thy_model.specs.Calls.{IsAt, is_boot}
 use Rattle.thy_model.specs.Checkpoint.{memory_place, record_place}

@@ -5,7 +5,7 @@ use Rattle.thy_record.specs.Decode.{decode}
 use Rattle.thy_model.specs.declared.parts.Parts.{Parts}
 use Rattle.thy_model.specs.declared.stage.Stage.{Stage}
 use Rattle.thy_model.specs.declared.stage.Stage.TheVariants.{Unread, Header, Record, Restoring, Refused, Writing, Idle}
-use Rattle.thy_model.specs.declared.view.Mark.{Mark}
+use Rattle.thy_base.specs.declared.mark.Mark.{Mark}
 use Rattle.thy_model.specs.declared.view.Phase.{Phase}
 use Rattle.thy_model.specs.declared.view.Phase.TheVariants.{Boot, Run, Halt}
 use Rattle.thy_model.specs.declared.view.View.{View}

@@ -5,7 +5,7 @@ ghost use Rattle.thy_base.specs.Bytes.{bytes_of};
 ghost use Rattle.thy_base.specs.Device.{IsFramed, newest};
 ghost use Rattle.thy_base.specs.Geometry.{blocks_of, console_room};
 ghost use Rattle.thy_record.specs.Decode.{AllLong, flat};
-ghost use Rattle.thy_model.specs.declared.view.Mark.{Mark as MarkValue};
+ghost use Rattle.thy_base.specs.declared.mark.Mark.{Mark as MarkValue};
 ghost use Rattle.thy_model.specs.Calls.{IsAt, is_boot};
 ghost use Rattle.thy_model.specs.Checkpoint.{memory_place};
 ghost use Rattle.thy_model.specs.Origin.{Origin, at};
