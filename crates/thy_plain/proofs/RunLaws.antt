@@ -1,0 +1,39 @@
+-- Steps one after another, while the program runs.
+use Rattle.std.proofs.Common.{◌≡◌, ℕ, ◌+◌, ◌<◌, ◌≤◌, Bool, true, false, refl, ap, sym, subst, ◌∙◌, arith}
+use borrow.Author.Count.{below_more}
+use Rattle.thy_isa.specs.Step.{State, Setting, is_running, step, steps}
+use Rattle.thy_isa.proofs.StepLaws.{steps-zero, steps-one_more, steps-count}
+use Rattle.thy_plain.specs.Machine.{Machine, after_steps, stepped, StopsAt}
+
+-- the program runs at every count of steps below k
+pub record Ran (m : Machine) (k : ℕ) : Type 0 where
+  pub each : (j : ℕ) → j < k → is_running (steps m.setting j m.state).status ≡ true
+
+pub Ran-none : (m : Machine) → Ran m 0
+Ran-none m = record { each = λ j h. absurd (omega arith) }
+
+pub Ran-more : (m : Machine) (k : ℕ) → Ran m k → is_running (steps m.setting k m.state).status ≡ true → Ran m (k + 1)
+Ran-more m k before here = record { each = below_more (λ (j : ℕ). is_running (steps m.setting j m.state).status ≡ true) k before.each here }
+
+-- no steps change nothing
+pub after_none : (m : Machine) → after_steps 0 m ≡ m
+after_none m = ap (λ (s : State). record m { state = s }) (steps-zero m.setting m.state)
+
+-- one step more
+pub after_more : (m : Machine) (k : ℕ) → stepped (after_steps k m) ≡ after_steps (k + 1) m
+after_more m k = ap (λ (s : State). record m { state = s }) (sym (steps-one_more m.setting k m.state))
+
+-- the count of a machine that runs
+pub count_below : (m now : Machine) (k bound : ℕ) → now ≡ after_steps k m → is_running now.state.status ≡ true → m.state.count + k < bound → now.state.count < bound
+count_below m now k bound is runs below =
+    let still : is_running (steps m.setting k m.state).status ≡ true = ap (λ (n : Machine). is_running n.state.status) (sym is) ∙ runs in
+    omega (arith, ap (λ (n : Machine). n.state.count) is, steps-count m.setting k m.state still)
+
+-- it stopped before the limit, since the program runs no more
+pub StopsAt-ended : (m now : Machine) (limit k : ℕ) → k ≤ limit → Ran m k → now ≡ after_steps k m → is_running now.state.status ≡ false → StopsAt m limit k
+StopsAt-ended m now limit k h ran is over =
+    record { within = h; ran = ran.each; over = λ _. ap (λ (n : Machine). is_running n.state.status) (sym is) ∙ over }
+
+-- it stopped at the limit
+pub StopsAt-limit : (m : Machine) (limit : ℕ) → Ran m limit → StopsAt m limit limit
+StopsAt-limit m limit ran = record { within = omega arith; ran = ran.each; over = λ h. absurd (omega arith) }

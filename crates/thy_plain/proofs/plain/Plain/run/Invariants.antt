@@ -1,0 +1,7 @@
+use Rattle.std.proofs.Common.{◌≡◌}
+use Rattle.thy_plain.specs.Machine.{after_steps}
+use Rattle.thy_plain.proofs.RunLaws.{Ran}
+use Rattle.thy_plain.proofs.plain.Plain.run.Given as goal
+
+abbrev pub invariant-loop-done : goal.invariant-loop-done
+invariant-loop-done l = record { ran : Ran l.initial.self l.done; state : l.self ≡ after_steps l.done l.initial.self }

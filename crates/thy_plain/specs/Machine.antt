@@ -1,0 +1,46 @@
+-- The plain machine as its callers see it: what stays the same over a run, and a state.
+use Rattle.std.specs.Prelude.{◌≡◌, ℕ, ◌<◌, ◌≤◌, true, false, List, length}
+use Rattle.thy_base.specs.declared.config.Parameters.{Parameters}
+use Rattle.thy_base.specs.Bytes.{bytes_of}
+use Rattle.thy_base.specs.Geometry.{console_room}
+use Rattle.thy_elf.specs.Image.{Contents}
+use Rattle.thy_isa.specs.declared.state.Effect.{Effect}
+use Rattle.thy_isa.specs.Step.{State, Setting, is_running, step, steps, finished, read_by, written_by, cpu_of, state_with, call_state_of}
+use Rattle.thy_plain.specs.declared.world.World.{World}
+use Rattle.thy_plain.specs.Start.{start_state}
+
+-- a machine: what stays the same over a run, and a state
+pub record Machine : Type 0 where
+  pub setting : Setting
+  pub state : State
+
+-- what stays the same over a run in these numbers, with this input
+abbrev pub setting_for : Parameters → List ℕ → Setting
+setting_for p input = record { base = p.base; input = input; room = console_room p }
+
+-- a machine at the start of a program
+abbrev pub loaded : Parameters → Contents → List ℕ → Machine
+loaded p image input = record { setting = setting_for p input; state = start_state p image }
+
+-- a machine after one step
+abbrev pub stepped : Machine → Machine
+stepped m = record m { state = step m.setting m.state }
+
+-- a machine after k steps
+abbrev pub after_steps : ℕ → Machine → Machine
+after_steps k m = record m { state = steps m.setting k m.state }
+
+-- k is the least number of steps after which the program runs no more, or the limit where that comes first
+pub record StopsAt (m : Machine) (limit k : ℕ) : Type 0 where
+  pub within : k ≤ limit
+  pub ran : (j : ℕ) → j < k → is_running (steps m.setting j m.state).status ≡ true
+  pub over : k < limit → is_running (steps m.setting k m.state).status ≡ false
+
+-- what the code keeps beside a state
+abbrev pub setting_of : World → Setting
+setting_of w = record { base = w.base; input = bytes_of w.input; room = w.room }
+
+-- a state that runs, after what the instruction at its program counter does
+unfoldable pub performed : Setting → State → Effect → State
+performed g s e =
+    state_with (finished (cpu_of s) e (read_by g.base s.memory e) (call_state_of g s)) (written_by g.base s.memory e) s.console

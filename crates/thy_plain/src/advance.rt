@@ -1,0 +1,151 @@
+//! One instruction, in place.
+#![tactic(auto, unfolding(crate::specs::Machine::performed, thy_isa::specs::Step::effect_at, thy_isa::specs::Step::read_by, thy_isa::specs::Step::written_by, thy_isa::specs::Step::served, thy_isa::specs::Step::finished, thy_isa::specs::Step::step, thy_isa::specs::Step::advanced, thy_isa::specs::Memory::number_bytes))]
+
+ghost use Rattle.std.specs.Prelude.{◌≡◌, ◌+◌, ◌<◌, ◌≤◌, ◌^◌, length};
+ghost use Rattle.thy_base.specs.Bytes.{bytes_of, room_of, written};
+ghost use Rattle.thy_isa.specs.declared.state.Effect.TheVariants.{Environment};
+ghost use Rattle.thy_isa.specs.Access.{IsWithin};
+ghost use Rattle.thy_isa.specs.Effects.{size_of};
+ghost use Rattle.thy_isa.specs.Memory.{number_bytes};
+ghost use Rattle.thy_isa.specs.Step.{state_of, call_state_of, effect_at, is_running, step};
+ghost use Rattle.thy_plain.specs.Machine.{setting_of, performed};
+
+use crate::world::World;
+use thy_base::Bytes;
+use thy_isa::{
+    Call, CallState, Effect, MachState, Reg, Status, Width, after, bytes_in, call, cause_number,
+    extended, fetch_fault, number, within, word, word_effect,
+};
+
+/// The register of an environment call's answer.
+const A0: u8 = 10;
+
+/// What the instruction at the program counter does.
+fn next_effect(state: &MachState, base: u64) -> Effect
+    ensures effect { result ≡ effect_at base (state_of state.now) }
+    ensures inside { IsWithin base (length (bytes_of state.now.memory)) result }
+{
+    let size = state.memory.len() as u64;
+    match fetch_fault(base, size, state.pc) {
+        Some(cause) => Effect::Trap(cause),
+        None => {
+            let at = (state.pc - base) as usize;
+            let word = word(state.memory.as_slice(), at);
+            within(base, size, word_effect(word, state.pc, &state.regs))
+        }
+    }
+}
+
+/// Writes the low bytes of a number from index `at` on.
+fn write_number(memory: &mut Bytes, at: usize, width: Width, value: u64)
+    requires { at + size_of width ≤ length (bytes_of memory.old) }
+    ensures { bytes_of memory.new ≡ written (bytes_of memory.old) at (number_bytes (size_of width) value) }
+{
+    let size = bytes_in(width) as usize;
+    memory.put(at, &value.to_le_bytes()[..size]);
+}
+
+/// What an environment call is decided by.
+fn call_state(state: &MachState, world: &World) -> CallState
+    ensures { result ≡ call_state_of (setting_of world.now) (state_of state.now) }
+{
+    let console_len = state.console.len() as u64;
+    CallState {
+        cursor: state.cursor,
+        input_len: world.input.len() as u64,
+        console_len,
+        room: world.room.saturating_sub(console_len),
+        base: world.base,
+        size: state.memory.len() as u64,
+        floor: state.floor,
+        brk: state.brk,
+    }
+}
+
+/// Does an environment call.
+fn serve(state: &mut MachState, world: &World)
+    requires { state.old.count < 2 ^ 63 }
+    ensures state { state_of state.new ≡ performed (setting_of world.now) (state_of state.old) Environment }
+    ensures room { room_of state.new.console ≡ room_of state.old.console }
+{
+    match call(&state.regs, &call_state(state, world)) {
+        Call::Answer(value) => {
+            state.regs.set(Reg::new(A0), value);
+            state.pc = after(state.pc);
+            state.count += 1;
+        }
+        Call::Exit(value) => {
+            state.status = Status::Exited(value);
+            state.count += 1;
+        }
+    }
+}
+
+/// Does what an instruction does, to a state that runs.
+fn perform(state: &mut MachState, world: &World, effect: Effect)
+    requires count { state.old.count < 2 ^ 63 }
+    requires inside { IsWithin world.now.base (length (bytes_of state.old.memory)) effect }
+    ensures state { state_of state.new ≡ performed (setting_of world.now) (state_of state.old) effect }
+    ensures room { room_of state.new.console ≡ room_of state.old.console }
+{
+    match effect {
+        Effect::Next { pc } => {
+            state.pc = pc;
+            state.count += 1;
+        }
+        Effect::Set { pc, rd, value } => {
+            state.regs.set(rd, value);
+            state.pc = pc;
+            state.count += 1;
+        }
+        Effect::Read {
+            pc,
+            at,
+            width,
+            extend,
+            rd,
+        } => {
+            let value = number(state.memory.as_slice(), (at - world.base) as usize, width);
+            state.regs.set(rd, extended(width, extend, value));
+            state.pc = pc;
+            state.count += 1;
+        }
+        Effect::Write {
+            pc,
+            at,
+            width,
+            value,
+        } => {
+            write_number(&mut state.memory, (at - world.base) as usize, width, value);
+            state.pc = pc;
+            state.count += 1;
+        }
+        Effect::Environment => serve(state, world),
+        Effect::Trap(cause) => {
+            state.status = Status::Trapped(cause_number(cause));
+            state.count += 1;
+        }
+    }
+}
+
+/// Whether a program of this status runs.
+pub(crate) fn runs(status: Status) -> bool
+    ensures { result ≡ is_running status }
+{
+    match status {
+        Status::Running => true,
+        Status::Exited(_) | Status::Trapped(_) => false,
+    }
+}
+
+/// Takes a step. An ended state stays as it is.
+pub(crate) fn take_step(state: &mut MachState, world: &World)
+    requires { state.old.count < 2 ^ 63 }
+    ensures state { state_of state.new ≡ step (setting_of world.now) (state_of state.old) }
+    ensures room { room_of state.new.console ≡ room_of state.old.console }
+{
+    if runs(state.status) {
+        let effect = next_effect(state, world.base);
+        perform(state, world, effect);
+    }
+}

@@ -1,0 +1,110 @@
+//! The machine.
+ghost use Rattle.std.specs.Prelude.{◌≡◌, ◌+◌, ◌<◌, ◌^◌, length, IfOk};
+ghost use Rattle.thy_base.specs.Bytes.{bytes_of};
+ghost use Rattle.thy_base.specs.Geometry.{program_size};
+ghost use Rattle.thy_elf.specs.Image.{contents_of};
+ghost use Rattle.thy_isa.specs.Step.{state_of, is_running};
+ghost use Rattle.thy_isa.specs.Storable.{IsStorable};
+ghost use Rattle.thy_plain.specs.Machine.{loaded, stepped, after_steps, StopsAt};
+
+use crate::advance::{runs, take_step};
+use crate::start::state_over;
+use crate::world::World;
+use std::alloc::{AllocError, Global};
+use std::marker::Model;
+use thy_base::{Bytes, Geometry};
+use thy_elf::Image;
+use thy_isa::MachState;
+
+/// The plain machine. Contracts see its state, and what stays the same over a run. Only `load` takes
+/// memory, and no other call can fail.
+#[derive(Debug, Drop)]
+pub struct Plain {
+    state: MachState,
+    world: World,
+}
+
+impl Model for Plain {
+    ghost use Rattle.std.specs.Prelude.{◌≤◌};
+    ghost use Rattle.thy_base.specs.Bytes.{room_of};
+    ghost use Rattle.thy_isa.specs.Step.{state_of};
+    ghost use Rattle.thy_plain.specs.Machine.{Machine, setting_of};
+
+    ghost Value = { Machine };
+
+    ghost view = { λ p. record { setting = setting_of p.world; state = state_of p.state } };
+
+    ghost invariant = { λ p. p.world.room ≤ room_of p.state.console };
+}
+
+impl Plain {
+    /// A machine at the start of an image's program, which can read this input. Takes memory for copies of
+    /// the image's memory and of the input, and for the whole console.
+    pub fn load(
+        alloc: Global,
+        image: &Image,
+        geometry: &Geometry,
+        input: &[u8],
+    ) -> Result<Plain, AllocError>
+        requires { length (bytes_of image.now.memory) ≡ program_size geometry.now }
+        ensures machine { IfOk result (λ m. m ≡ loaded geometry.now (contents_of image.now) input.now) }
+        ensures storable { IfOk result (λ m. IsStorable (program_size geometry.now) m.state) }
+    {
+        let room = geometry.console_room();
+        let memory = image.memory.duplicate(alloc)?;
+        let console = Bytes::with_room(alloc, room as usize)?;
+        let input = Bytes::from_vec(Vec::from_slice(alloc, input)?);
+        Ok(Plain {
+            state: state_over(image.entry, image.floor, memory, console, geometry),
+            world: World {
+                base: geometry.numbers().base,
+                input,
+                room,
+            },
+        })
+    }
+
+    /// Takes one step. An ended state stays as it is.
+    pub fn step(&mut self)
+        requires { self.old.state.count < 2 ^ 63 }
+        ensures { self.new ≡ stepped self.old }
+    {
+        take_step(&mut self.state, &self.world);
+    }
+
+    /// Takes steps until the program runs no more, or `limit` steps are done. Answers how many it took.
+    pub fn run(&mut self, limit: u64) -> u64
+        requires { self.old.state.count + limit < 2 ^ 63 }
+        ensures stops { StopsAt self.old limit result }
+        ensures state { self.new ≡ after_steps result self.old }
+    {
+        for done in 0..limit {
+            if !self.is_running() {
+                return done;
+            }
+            self.step();
+        }
+        limit
+    }
+
+    /// Whether the program runs.
+    fn is_running(&self) -> bool
+        ensures { result ≡ is_running self.now.state.status }
+    {
+        runs(self.state.status)
+    }
+
+    /// The state as it stands.
+    pub fn state(&self) -> &MachState
+        ensures { state_of result.now ≡ self.now.state }
+    {
+        &self.state
+    }
+
+    /// The state as it stands. Takes no memory.
+    pub fn into_state(self) -> MachState
+        ensures { state_of result ≡ self.state }
+    {
+        self.state
+    }
+}

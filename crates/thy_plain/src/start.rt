@@ -1,0 +1,79 @@
+//! The state at which a program starts.
+#![tactic(auto, unfolding(crate::specs::Start::start_regs))]
+
+ghost use Rattle.std.specs.Prelude.{◌≡◌, [], length};
+ghost use Rattle.std.specs.List.{All};
+ghost use Rattle.thy_base.specs.Bytes.{bytes_of, room_of};
+ghost use Rattle.thy_base.specs.Geometry.{program_size, stack_top};
+ghost use Rattle.thy_elf.specs.Image.{contents_of};
+ghost use Rattle.thy_isa.specs.Storable.{IsNumber, IsByte, IsStorable};
+ghost use Rattle.thy_isa.specs.Step.{state_of};
+ghost use Rattle.thy_plain.specs.Start.{start_regs, start_state};
+
+use std::alloc::Global;
+use thy_base::{Bytes, Geometry};
+use thy_elf::Image;
+use thy_isa::{MachState, Reg, Regs, Status};
+
+/// The number of the stack pointer.
+const SP: u8 = 2;
+
+/// The registers at the start: all 0 but the stack pointer.
+fn start_regs(geometry: &Geometry) -> Regs
+    ensures regs { result ≡ start_regs geometry.now }
+    ensures top { IsNumber (stack_top geometry.now) }
+{
+    let mut regs = Regs::new();
+    regs.set(Reg::new(SP), geometry.stack_top());
+    regs
+}
+
+/// Does nothing: a proof learns here what the type says of each byte.
+fn are_bytes(bytes: &[u8])
+    ensures { All IsByte bytes.now }
+{
+    let _ = bytes;
+}
+
+/// The start with this memory and this console, which is empty.
+pub(crate) fn state_over(
+    entry: u64,
+    floor: u64,
+    memory: Bytes,
+    console: Bytes,
+    geometry: &Geometry,
+) -> MachState
+    requires { bytes_of console ≡ [] }
+    ensures state { state_of result ≡ start_state geometry.now (record { entry = entry; floor = floor; memory = bytes_of memory }) }
+    ensures storable { IsStorable (length (bytes_of memory)) (state_of result) }
+    ensures room { room_of result.console ≡ room_of console }
+{
+    are_bytes(memory.as_slice());
+    MachState {
+        pc: entry,
+        regs: start_regs(geometry),
+        memory,
+        console,
+        cursor: 0,
+        brk: floor,
+        floor,
+        count: 0,
+        status: Status::Running,
+    }
+}
+
+/// The state at which the program of an image starts, for a machine that keeps memory and console
+/// elsewhere than in the state. It takes the image's memory over, and takes none besides.
+pub fn start_of(alloc: Global, image: Image, geometry: &Geometry) -> MachState
+    requires { length (bytes_of image.memory) ≡ program_size geometry.now }
+    ensures state { state_of result ≡ start_state geometry.now (contents_of image) }
+    ensures storable { IsStorable (program_size geometry.now) (state_of result) }
+{
+    state_over(
+        image.entry,
+        image.floor,
+        image.memory,
+        Bytes::new(alloc),
+        geometry,
+    )
+}

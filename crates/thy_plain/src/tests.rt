@@ -1,0 +1,104 @@
+ghost use Rattle.std.specs.Prelude.{◌≡◌, length, IfOk};
+ghost use Rattle.thy_base.specs.Bytes.{bytes_of};
+ghost use Rattle.thy_base.specs.Geometry.{program_size};
+
+use crate::{Plain, start_of};
+use std::test::Fail;
+use thy_base::{Bytes, Geometry, Parameters};
+use thy_elf::Image;
+use thy_isa::{Reg, Status};
+
+/// The smallest machine: seven pages of program memory from 65536 on, and one of console.
+fn smallest() -> Geometry
+    ensures { program_size result ≡ 28672 }
+{
+    Geometry::of(Parameters {
+        base: 65536,
+        pages: 8,
+        console: 1,
+        epoch: 10000,
+        btt: 8,
+        ptt: 8,
+        sets: 16,
+        ways: 4,
+        nvmq: 16,
+        dramq: 16,
+        high: 22,
+        low: 16,
+        mix: 0,
+        limit: 1000,
+    })
+}
+
+/// An image of words at the base, where it starts.
+fn image_of(rt: &HostRuntime, words: &[u32]) -> Result<Image, Fail>
+    ensures { IfOk result (λ image. length (bytes_of image.memory) ≡ 28672) }
+{
+    let mut memory = Vec::new(rt.alloc());
+    for word in words {
+        memory.extend_from_slice(&word.to_le_bytes())?;
+    }
+    memory.resize(7 * 4096, 0)?;
+    Ok(Image {
+        entry: 65536,
+        floor: 65552,
+        memory: Bytes::from_vec(memory),
+    })
+}
+
+/// `addi a7, zero, 93`, `addi a0, zero, 7`, `ecall`.
+#[test]
+fn a_program_exits_with_seven(rt: HostRuntime) -> Result<(), Fail> {
+    let image = image_of(&rt, &[0x05d00893, 0x00700513, 0x00000073])?;
+    let mut plain = Plain::load(rt.alloc(), &image, &smallest(), b"")?;
+    assert_eq!(rt; plain.run(100), 3);
+    let state = plain.into_state();
+    assert_eq!(rt; state.status, Status::Exited(7));
+    assert_eq!(rt; state.count, 3);
+    assert_eq!(rt; state.pc, 65544);
+    Ok(())
+}
+
+/// The same, for two steps of the three.
+#[test]
+fn a_run_ends_at_its_limit(rt: HostRuntime) -> Result<(), Fail> {
+    let image = image_of(&rt, &[0x05d00893, 0x00700513, 0x00000073])?;
+    let mut plain = Plain::load(rt.alloc(), &image, &smallest(), b"")?;
+    assert_eq!(rt; plain.run(2), 2);
+    assert_eq!(rt; plain.state().status, Status::Running);
+    assert_eq!(rt; plain.state().regs.get(Reg::new(10)), 7);
+    Ok(())
+}
+
+#[test]
+fn a_step_is_one_instruction(rt: HostRuntime) -> Result<(), Fail> {
+    let image = image_of(&rt, &[0x05d00893, 0x00700513])?;
+    let mut plain = Plain::load(rt.alloc(), &image, &smallest(), b"")?;
+    plain.step();
+    assert_eq!(rt; plain.state().pc, 65540);
+    assert_eq!(rt; plain.state().regs.get(Reg::new(17)), 93);
+    Ok(())
+}
+
+/// `sd zero, 0(sp)`, then `jalr x1, 2(x0)`, which traps for its target and leaves x1.
+#[test]
+fn a_jump_to_an_odd_place_traps(rt: HostRuntime) -> Result<(), Fail> {
+    let image = image_of(&rt, &[0x00013023, 0x002000e7])?;
+    let mut plain = Plain::load(rt.alloc(), &image, &smallest(), b"")?;
+    assert_eq!(rt; plain.run(5), 2);
+    assert_eq!(rt; plain.state().status, Status::Trapped(0));
+    assert_eq!(rt; plain.state().count, 2);
+    assert_eq!(rt; plain.state().pc, 65540);
+    assert_eq!(rt; plain.state().regs.get(Reg::new(1)), 0);
+    Ok(())
+}
+
+#[test]
+fn a_program_starts_at_its_entry(rt: HostRuntime) -> Result<(), Fail> {
+    let start = start_of(rt.alloc(), image_of(&rt, &[])?, &smallest());
+    assert_eq!(rt; start.pc, 65536);
+    assert_eq!(rt; start.regs.get(Reg::new(2)), 93952);
+    assert_eq!(rt; start.brk, 65552);
+    assert_eq!(rt; start.memory.len(), 28672);
+    Ok(())
+}

@@ -1,0 +1,14 @@
+//! What stays the same over a run.
+
+use thy_base::Bytes;
+
+/// What a step needs besides the state.
+#[derive(Debug, Drop)]
+pub(crate) struct World {
+    /// The address of the first byte of program memory.
+    pub(crate) base: u64,
+    /// The bytes that the program can read.
+    pub(crate) input: Bytes,
+    /// How many bytes the console takes at most.
+    pub(crate) room: u64,
+}
