@@ -162,7 +162,7 @@ module _ (o : Origin) (cuts : List ℕ) (w : World) (least : 1 ≤ o.geometry.ep
 
 -- every run keeps its promise
 pub Promise-finished : RunKeepsPromise
-Promise-finished o cuts seed cycles events n origin rising f =
+Promise-finished o given cycles events n origin rising f =
     let least : 1 ≤ o.geometry.epoch = origin.geometry.epoch_least in
-    let good = Good-ran o cuts seed cycles f.last least rising f.ran in
-    subst (λ k. Promise o cuts k events n) (cycles-ran o cuts seed cycles f.last f.ran) (ends_promise o cuts f.last least good events n f.ends)
+    let good = Good-ran o given cycles f.last least rising f.ran in
+    subst (λ k. Promise o given.cuts k events n) (cycles-ran o given cycles f.last f.ran) (ends_promise o given.cuts f.last least good events n f.ends)

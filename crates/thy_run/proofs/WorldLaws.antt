@@ -29,7 +29,7 @@ use Rattle.thy_model.proofs.CycleLaws.{Safe-doubt}
 use Rattle.thy_run.specs.Cuts.{is_cut, is_end, has_ended, cuts_among, numbered, last_cuttable, cuts_up_to}
 use Rattle.thy_run.specs.Images.{left_by, Since, since_after, since_from, no_cuts, HasLeft, FitsImage, AllFitImages, EndsFitting}
 use Rattle.thy_run.specs.Laws.{course_of, marks_of}
-use Rattle.thy_run.specs.World.{World, seen, told, reload_told, end_told, events_of, stepped, Steps, is_due, cut_off, IsCutOff, Cycle, IsFirst, Ran}
+use Rattle.thy_run.specs.World.{World, seen, told, reload_told, end_told, events_of, stepped, Steps, is_due, cut_off, IsCutOff, Cycle, Given, IsFirst, Ran}
 use Rattle.thy_run.proofs.Fitting.{IsEither, Rises, Loading, Recovering, BootFits, Follows, RunFits, HaltFits, FitsIn, Fits, Covers}
 use Rattle.thy_run.proofs.CoverLaws.{Covers-fits, Safe-covered}
 use Rattle.thy_run.proofs.EventLaws.{Fits-events}
@@ -382,8 +382,8 @@ Good-cycle o cuts w next least rising g c =
     (is_due o cuts c.between) refl c.cut
 
 -- and it holds at first
-pub Good-first : (o : Origin) (cuts : List ℕ) (seed : ℕ) (w : World) → first_not_rising 0 cuts ≡ None → IsFirst o seed w → Good o cuts w
-Good-first o cuts seed w rising f =
+pub Good-first : (o : Origin) (given : Given) (w : World) → first_not_rising 0 given.cuts ≡ None → IsFirst o given w → Good o given.cuts w
+Good-first o given w rising f =
     let none : w.events ≡ [] = f.events in
     let marks : marks_of o w.events ≡ loading_marks o.start.count = ap (marks_of o) none in
     let since : since_from no_cuts w.events ≡ no_cuts = ap (since_from no_cuts) none in
@@ -417,25 +417,25 @@ Good-first o cuts seed w rising f =
       };
       listed = record {
         few = omega (arith, passed);
-        up_to = ap (λ k. cuts_up_to k cuts) last ∙ up_none 0 0 cuts rising (omega arith) ∙ sym (ap (λ k. take k cuts) passed);
-        among = ap cuts_among none ∙ sym (ap (λ k. numbered 1 (take k cuts)) passed);
+        up_to = ap (λ k. cuts_up_to k given.cuts) last ∙ up_none 0 0 given.cuts rising (omega arith) ∙ sym (ap (λ k. take k given.cuts) passed);
+        among = ap cuts_among none ∙ sym (ap (λ k. numbered 1 (take k given.cuts)) passed);
       };
     }
 
 -- so it holds after any number of cycles
-pub Good-ran : (o : Origin) (cuts : List ℕ) (seed k : ℕ) (w : World) → 1 ≤ o.geometry.epoch → first_not_rising 0 cuts ≡ None → Ran o cuts seed k w → Good o cuts w
-Good-ran o cuts seed zero w least rising first = Good-first o cuts seed w rising first
-Good-ran o cuts seed (suc k) w least rising (before, ran, cycle) =
-    Good-cycle o cuts before w least rising (Good-ran o cuts seed k before least rising ran) cycle
+pub Good-ran : (o : Origin) (given : Given) (k : ℕ) (w : World) → 1 ≤ o.geometry.epoch → first_not_rising 0 given.cuts ≡ None → Ran o given k w → Good o given.cuts w
+Good-ran o given zero w least rising first = Good-first o given w rising first
+Good-ran o given (suc k) w least rising (before, ran, cycle) =
+    Good-cycle o given.cuts before w least rising (Good-ran o given k before least rising ran) cycle
 
 cycle_counts : (o : Origin) (cuts : List ℕ) (w x next : World) → Steps o w x → (b : Bool) → MatchBool b (IsCutOff o x next) (next ≡ x) → next.cycles ≡ w.cycles + 1
 cycle_counts o cuts w x next step true cut = ap (λ (y : World). y.cycles) cut.next_is ∙ stepped_cycles o w x step
 cycle_counts o cuts w x next step false is = ap (λ (y : World). y.cycles) is ∙ stepped_cycles o w x step
 
 -- each counts one
-pub cycles-ran : (o : Origin) (cuts : List ℕ) (seed k : ℕ) (w : World) → Ran o cuts seed k w → w.cycles ≡ k
-cycles-ran o cuts seed zero w first = first.cycles
-cycles-ran o cuts seed (suc k) w (before, ran, cycle) =
-    let e : before.cycles ≡ k = cycles-ran o cuts seed k before ran in
-    let f : w.cycles ≡ before.cycles + 1 = cycle_counts o cuts before cycle.between w cycle.steps (is_due o cuts cycle.between) cycle.cut in
+pub cycles-ran : (o : Origin) (given : Given) (k : ℕ) (w : World) → Ran o given k w → w.cycles ≡ k
+cycles-ran o given zero w first = first.cycles
+cycles-ran o given (suc k) w (before, ran, cycle) =
+    let e : before.cycles ≡ k = cycles-ran o given k before ran in
+    let f : w.cycles ≡ before.cycles + 1 = cycle_counts o given.cuts before cycle.between w cycle.steps (is_due o given.cuts cycle.between) cycle.cut in
     omega (arith, e, f)

@@ -11,6 +11,7 @@ use Rattle.thy_model.specs.Sound.{IsOrigin}
 use Rattle.thy_run.specs.Cuts.{cuts_among, numbered, cuts_up_to, last_cuttable}
 use Rattle.thy_run.specs.Images.{RestartsDecode}
 use Rattle.thy_run.specs.Unfinished.{Finished}
+use Rattle.thy_run.specs.World.{Given}
 
 -- what the events of a run are held against
 abbrev pub course_of : Origin → Course
@@ -40,5 +41,5 @@ pub record Promise (o : Origin) (cuts : List ℕ) (cycles : ℕ) (events : List 
 -- every run keeps it
 abbrev pub RunKeepsPromise : Type 0
 RunKeepsPromise =
-    (o : Origin) (cuts : List ℕ) (seed cycles : ℕ) (events : List Happening) (n : Device)
-    → IsOrigin o → first_not_rising 0 cuts ≡ None → Finished o cuts seed cycles events n → Promise o cuts cycles events n
+    (o : Origin) (given : Given) (cycles : ℕ) (events : List Happening) (n : Device)
+    → IsOrigin o → first_not_rising 0 given.cuts ≡ None → Finished o given cycles events n → Promise o given.cuts cycles events n

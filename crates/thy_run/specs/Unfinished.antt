@@ -6,7 +6,7 @@ use Rattle.thy_model.specs.Calls.{is_halt}
 use Rattle.thy_model.specs.Origin.{Origin}
 use Rattle.thy_model.specs.Safe.{Safe}
 use Rattle.thy_run.specs.Cuts.{has_ended}
-use Rattle.thy_run.specs.World.{World, seen, Steps, Ran}
+use Rattle.thy_run.specs.World.{World, Given, seen, Steps, Ran}
 
 -- the machine's step failed with a fault of the device
 pub record StepFailed (o : Origin) (w : World) (events : List Happening) (n : Device) : Type 0 where
@@ -38,7 +38,7 @@ abbrev pub Ends : Origin → World → List Happening → Device → Type 0
 Ends o w events n = ((events ≡ w.events) × (n ≡ w.device)) ⊎ (StepFailed o w events n ⊎ TellingFailed o w events n)
 
 -- a run of so many cycles has given these events and left this device
-pub record Finished (o : Origin) (cuts : List ℕ) (seed cycles : ℕ) (events : List Happening) (n : Device) : Type 0 where
+pub record Finished (o : Origin) (given : Given) (cycles : ℕ) (events : List Happening) (n : Device) : Type 0 where
   pub last : World
-  pub ran : Ran o cuts seed cycles last
+  pub ran : Ran o given cycles last
   pub ends : Ends o last events n

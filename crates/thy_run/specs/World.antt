@@ -116,19 +116,26 @@ pub record Cycle (o : Origin) (cuts : List ℕ) (w next : World) : Type 0 where
   pub steps : Steps o w between
   pub cut : MatchBool (is_due o cuts between) (IsCutOff o between next) (next ≡ between)
 
+-- what a run is given besides its program: the listed cuts, the schedule's seed, and the device as it was fitted
+pub record Given : Type 0 where
+  pub cuts : List ℕ
+  pub seed : ℕ
+  pub fitted : Device
+
 -- power comes on for the first time, over a device of zeros
-pub record IsFirst (o : Origin) (seed : ℕ) (w : World) : Type 0 where
+pub record IsFirst (o : Origin) (given : Given) (w : World) : Type 0 where
+  pub device : w.device ≡ given.fitted
   pub powered : IsAt o 0 w.machine w.device
   pub loading : seen o w ≡ loading_view o.start.count
   pub safe : Safe o None None w.device
   pub left : w.device.left ≡ []
-  pub mix : w.mix ≡ mix_start seed
+  pub mix : w.mix ≡ mix_start given.seed
   pub passed : w.passed ≡ 0
   pub cycles : w.cycles ≡ 0
   pub fresh : w.fresh ≡ false
   pub events : w.events ≡ []
 
 -- a world after k cycles from the first
-abbrev pub Ran : Origin → List ℕ → ℕ → ℕ → World → Type 0
-Ran o cuts seed zero w = IsFirst o seed w
-Ran o cuts seed (suc k) w = (before : World) × Ran o cuts seed k before × Cycle o cuts before w
+abbrev pub Ran : Origin → Given → ℕ → World → Type 0
+Ran o given zero w = IsFirst o given w
+Ran o given (suc k) w = (before : World) × Ran o given k before × Cycle o given.cuts before w
