@@ -1,1 +1,6 @@
-pub mod GoingLemmas
+pub mod GatherLemmas
+pub mod NoteLemmas
+pub mod TellLemmas
+pub mod AdvanceLemmas
+pub mod TurnLemmas
+pub mod StartLemmas

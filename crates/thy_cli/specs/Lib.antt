@@ -1,1 +1,4 @@
+pub mod Sending
 pub mod Going
+pub mod Stopping
+pub mod Turning

@@ -1,5 +1,7 @@
 //! What a run answers, and why it stopped.
 
+use thy_base::{NvmError};
+use thy_core::CoreError;
 use thy_isa::Status;
 use thy_text::Events;
 
@@ -30,6 +32,20 @@ pub enum Stop {
     Report,
     /// As many cycles as the limit allows are done.
     Limit,
+}
+
+impl From<CoreError> for Stop {
+    ghost use Rattle.thy_cli.specs.Stopping.{stop_of};
+    ghost use Rattle.std.specs.Prelude.{◌≡◌};
+
+    ghost from_gives = { λ e stop. stop ≡ stop_of e };
+
+    fn from(error: CoreError) -> Stop {
+        match error {
+            CoreError::Nvm => Stop::Nvm,
+            CoreError::Memory(_) => Stop::Memory,
+        }
+    }
 }
 
 /// The status of a stop.

@@ -1,355 +1,155 @@
-//! The cycles of a run, with its cuts of power.
-ghost use Rattle.std.specs.Prelude.{◌≡◌, ◌≤◌, ◌<◌, ◌+◌, ◌^◌, length, [], false, OnOk, IsTrue};
-ghost use Rattle.thy_base.specs.Geometry.{blocks_of};
-ghost use Rattle.thy_model.specs.Bounds.{IsStart};
-ghost use Rattle.thy_cli.specs.Going.{IsGoing};
+//! The cycles of a run, one after another.
+ghost use Rattle.std.specs.Prelude.{◌≡◌, ◌<◌, ◌≤◌, ◌+◌, ◌^◌, []};
+ghost use Rattle.thy_base.specs.Device.{Device as DeviceValue};
+ghost use Rattle.thy_base.specs.Outside.{Stream};
+ghost use Rattle.thy_cli.specs.Going.{IsPlanned};
+ghost use Rattle.thy_cli.specs.Turning.{first_progress, stopped_for, turned_of, IsFitted, Running, RunEnds, IsTurned};
 
+use crate::advance::{Advance, Outcome, take_cycle};
 use crate::answer::Stop;
-use crate::lines::tell;
-use std::alloc::{AllocError, Global};
-use thy_base::{Bytes, Config, Geometry, Mix, Nvm, NvmError, Pick, Sink};
-use thy_core::{CoreError, Machine};
-use thy_isa::Status;
-use thy_model::{Did, Start, Stepped};
-use thy_text::{Event, Events};
+use crate::plan::Plan;
+use crate::progress::Progress;
+use crate::tell::{Failures, tell};
+use std::alloc::Global;
+use thy_base::{Mix, Nvm, Sink};
+use thy_core::Machine;
+use thy_text::Events;
 
-/// What the cycles of a run leave.
+/// How a run ended.
 #[derive(Debug, Drop)]
-pub struct Outcome {
+pub struct Ending {
     pub stop: Stop,
     pub events: Events,
     /// How many cycles are done.
     pub cycles: u64,
+    /// The terminal has failed.
+    pub mute: bool,
+    /// The report has failed.
+    pub deaf: bool,
 }
 
-/// A run between two cycles.
-#[derive(Debug, Drop)]
-struct World {
-    machine: Machine,
-    mix: Mix,
-    events: Events,
-    /// How many cuts have fallen.
-    passed: usize,
-    /// How many bytes of the console the terminal has.
-    released: u64,
-    /// No cycle was done since the last cut.
-    fresh: bool,
+/// What a turn of the loop comes to.
+#[derive(Clone, Copy, Debug, PartialEq, Eq)]
+pub enum Turned {
+    /// The cycle is done, and the run goes on.
+    GoesOn,
+    /// The cycle is done, and the run stops.
+    Stops(Stop),
+    /// The cycle is not done, and the run stops.
+    Breaks(Stop),
 }
 
-impl From<CoreError> for Stop {
-    fn from(error: CoreError) -> Stop {
-        match error {
-            CoreError::Nvm => Stop::Nvm,
-            CoreError::Memory(_) => Stop::Memory,
-        }
+/// What a cycle comes to once it was told: a sink that failed stops the run.
+fn come_to(outcome: Outcome, failures: Failures) -> Turned
+    ensures { result ≡ turned_of outcome failures.terminal failures.report }
+{
+    match outcome {
+        Outcome::Fails(stop) => Turned::Breaks(stop),
+        Outcome::Goes => stopped_for(failures, Turned::GoesOn),
+        Outcome::Ends(status) => stopped_for(failures, Turned::Stops(Stop::Ended(status))),
     }
 }
 
-impl From<AllocError> for Stop {
-    fn from(_: AllocError) -> Stop {
-        Stop::Memory
+/// A stop for a sink that failed, else what the cycle came to.
+fn stopped_for(failures: Failures, turned: Turned) -> Turned
+    ensures { result ≡ stopped_for failures.terminal failures.report turned }
+{
+    if failures.report {
+        return Turned::Stops(Stop::Report);
     }
-}
-
-/// The events that the machine's own cycle gives, but for what needs its state.
-fn note(events: &mut Events, did: Did, cycle: u64) -> Result<(), AllocError>
-    ensures { length events.old ≤ length events.new }
-{
-    match did {
-        Did::Loaded => events.push(Event::Commit {
-            epoch: 0,
-            cycle,
-            overlapped: 0,
-        }),
-        Did::Sealed(epoch, count, cause) => events.push(Event::EpochEnd {
-            epoch,
-            count,
-            cause,
-        }),
-        Did::Committed { epoch, overlapped } => events.push(Event::Commit {
-            epoch,
-            cycle,
-            overlapped,
-        }),
-        _ => Ok(()),
+    if failures.terminal {
+        return Turned::Stops(Stop::Terminal);
     }
+    turned
 }
 
-/// Whether a cycle makes the console of another checkpoint known.
-fn shows(did: Did) -> bool {
-    matches!(
-        did,
-        Did::Loaded | Did::Restarted(..) | Did::Committed { .. }
-    )
-}
-
-/// What a cycle tells besides its events.
-#[derive(Debug, Drop)]
-struct Told {
-    /// The bytes that the terminal is due.
-    bytes: Bytes,
-    /// How the program ended, where this cycle ended the run.
-    ended: Option<Status>,
-}
-
-/// Notes that the file is loaded again, where the first cycle after a cut found no checkpoint.
-fn note_reload(world: &mut World) -> Result<(), AllocError>
-    ensures machine { world.new.machine ≡ world.old.machine }
-    ensures passed { world.new.passed ≡ world.old.passed }
-    ensures events { length world.old.events ≤ length world.new.events }
-{
-    let reloads = world.fresh && world.machine.loading();
-    world.fresh = false;
-    if reloads {
-        world.events.push(Event::Reload)?;
-    }
-    Ok(())
-}
-
-/// Notes a restart, with the state that was restored.
-fn note_restart<N: Nvm>(alloc: Global, world: &mut World, did: Did, nvm: &mut N) -> Result<(), Stop>
-    ensures machine { world.new.machine ≡ world.old.machine }
-    ensures passed { world.new.passed ≡ world.old.passed }
-    ensures events { length world.old.events ≤ length world.new.events }
-    ensures device { N.device nvm.new ≡ N.device nvm.old }
-{
-    if let Did::Restarted(epoch, count) = did {
-        let state = world.machine.snapshot(alloc, nvm)?;
-        world.events.push(Event::Restart {
-            epoch,
-            count,
-            state,
-        })?;
-    }
-    Ok(())
-}
-
-/// Notes the end of the run, with the state that is committed.
-fn note_end<N: Nvm>(
-    alloc: Global,
-    world: &mut World,
-    ended: bool,
-    cycle: u64,
-    nvm: &mut N,
-) -> Result<Option<Status>, Stop>
-    ensures machine { world.new.machine ≡ world.old.machine }
-    ensures passed { world.new.passed ≡ world.old.passed }
-    ensures events { length world.old.events ≤ length world.new.events }
-    ensures device { N.device nvm.new ≡ N.device nvm.old }
-{
-    if !ended {
-        return Ok(None);
-    }
-    let state = world.machine.snapshot(alloc, nvm)?;
-    let status = state.status;
-    let count = state.count;
-    world.events.push(Event::Ended {
-        status,
-        count,
-        cycle,
-        state,
-    })?;
-    Ok(Some(status))
-}
-
-/// The events of a cycle, and what else it tells.
-fn gather<N: Nvm>(
-    alloc: Global,
-    world: &mut World,
-    stepped: &Stepped,
-    cycle: u64,
-    nvm: &mut N,
-) -> Result<Told, Stop>
-    ensures machine { world.new.machine ≡ world.old.machine }
-    ensures passed { world.new.passed ≡ world.old.passed }
-    ensures events { length world.old.events ≤ length world.new.events }
-    ensures device { N.device nvm.new ≡ N.device nvm.old }
-{
-    note_reload(world)?;
-    note(&mut world.events, stepped.did, cycle)?;
-    note_restart(alloc, world, stepped.did, nvm)?;
-    let ended = note_end(alloc, world, stepped.ended, cycle, nvm)?;
-    let bytes = due(alloc, world, stepped.did, nvm)?;
-    Ok(Told { bytes, ended })
-}
-
-/// What of the console the terminal has not had yet, where a cycle makes another checkpoint known.
-fn due<N: Nvm>(alloc: Global, world: &mut World, did: Did, nvm: &mut N) -> Result<Bytes, Stop>
-    ensures machine { world.new.machine ≡ world.old.machine }
-    ensures passed { world.new.passed ≡ world.old.passed }
-    ensures events { world.new.events ≡ world.old.events }
-    ensures device { N.device nvm.new ≡ N.device nvm.old }
-{
-    if !shows(did) {
-        return Ok(Bytes::new(alloc));
-    }
-    let bytes = world.machine.console(alloc, world.released, nvm)?;
-    world.released = world.released.saturating_add(bytes.len() as u64);
-    Ok(bytes)
-}
-
-/// Whether a cut falls after this cycle.
-fn is_due(config: &Config, passed: usize, cycle: u64) -> bool
-    ensures { IsTrue result → passed < length config.now.cuts }
-{
-    passed < config.cuts.len() && config.cuts.get(passed) == cycle
-}
-
-/// The pick of a cut: that of its place in the list, 0 where the list is shorter.
-fn tear(config: &Config, index: usize) -> u64 {
-    if index < config.tears.len() {
-        config.tears.get(index)
-    } else {
-        0
-    }
-}
-
-/// Cuts the power, and lets it come on again.
-fn cut<N: Nvm>(
-    alloc: Global,
-    world: &mut World,
-    config: &Config,
-    geometry: &Geometry,
-    cycle: u64,
-    nvm: &mut N,
-) -> Result<(), AllocError>
-    requires going { IsGoing geometry.now (length config.now.cuts) world.old.machine (N.device nvm.old) world.old.passed cycle }
-    requires due { world.old.passed < length config.now.cuts }
-    ensures going { OnOk result (IsGoing geometry.now (length config.now.cuts) world.new.machine (N.device nvm.new) world.new.passed cycle) }
-    ensures events { length world.old.events ≤ length world.new.events }
-{
-    let index = (world.passed as u64).saturating_add(1);
-    world.events.push(Event::Cut { index, cycle })?;
-    let pick = tear(config, world.passed);
-    nvm.cut(pick);
-    world.passed = config.cuts.len().min(world.passed.saturating_add(1));
-    world.fresh = true;
-    world.machine = Machine::power_on(alloc, geometry)?;
-    Ok(())
-}
-
-/// Steps the machine by the next pick.
-fn step<N: Nvm>(
-    world: &mut World,
-    start: &Start,
-    geometry: &Geometry,
-    cuts: usize,
-    cycle: u64,
-    nvm: &mut N,
-) -> Result<Stepped, NvmError>
-    requires start { IsStart geometry.now start.now }
-    requires going { IsGoing geometry.now cuts world.old.machine (N.device nvm.old) world.old.passed cycle }
-    requires limit { cycle < 2 ^ 62 }
-    ensures going { OnOk result (IsGoing geometry.now cuts world.new.machine (N.device nvm.new) world.new.passed (cycle + 1)) }
-    ensures passed { world.new.passed ≡ world.old.passed }
-    ensures events { world.new.events ≡ world.old.events }
-{
-    let pick = world.mix.next();
-    let stepped = world.machine.step(pick, start, nvm)?;
-    Ok(stepped)
-}
-
-/// One cycle: a step, its events, the cut that is due after it, and then what the sinks are due.
-/// An error is a cycle that is not done.
+/// One cycle, and then what the sinks are due for it.
 fn turn<T: Sink, R: Sink, N: Nvm>(
     alloc: Global,
-    world: &mut World,
-    config: &Config,
-    geometry: &Geometry,
-    start: &Start,
+    progress: &mut Progress,
+    plan: &Plan,
     done: u64,
     terminal: &mut T,
     report: &mut R,
     nvm: &mut N,
-) -> Result<Option<Stop>, Stop>
-    requires start { IsStart geometry.now start.now }
-    requires going { IsGoing geometry.now (length config.now.cuts) world.old.machine (N.device nvm.old) world.old.passed done }
-    requires limit { done < 2 ^ 62 }
-    ensures going { result ≡ Ok None → IsGoing geometry.now (length config.now.cuts) world.new.machine (N.device nvm.new) world.new.passed (done + 1) }
+) -> Turned
+    requires planned { IsPlanned plan.now }
+    requires running { (fitted : DeviceValue) × (t : Stream) × (r : Stream) × Running plan.now fitted progress.old (N.device nvm.old) done t (T.stream terminal.old) r (R.stream report.old) }
+    requires few { done < plan.now.geometry.limit }
+    ensures { (fitted : DeviceValue) (t r : Stream) → Running plan.now fitted progress.old (N.device nvm.old) done t (T.stream terminal.old) r (R.stream report.old) → IsTurned plan.now fitted progress.new (N.device nvm.new) done t (T.stream terminal.new) r (R.stream report.new) result }
 {
-    let cycle = done + 1;
-    let first = world.events.len();
-    let stepped = match step(world, start, geometry, config.cuts.len(), done, nvm) {
-        Ok(stepped) => stepped,
-        Err(_) => return Err(Stop::Nvm),
-    };
-    let told = match gather(alloc, world, &stepped, cycle, nvm) {
-        Ok(told) => told,
-        Err(stop) => {
-            let _ = tell(&[], &world.events, first, terminal, report);
-            return Err(stop);
-        }
-    };
-    if told.ended.is_none() && is_due(config, world.passed, cycle) {
-        if cut(alloc, world, config, geometry, cycle, nvm).is_err() {
-            let _ = tell(
-                told.bytes.as_slice(),
-                &world.events,
-                first,
-                terminal,
-                report,
-            );
-            return Err(Stop::Memory);
-        }
-    }
-    let failed = tell(
-        told.bytes.as_slice(),
-        &world.events,
+    let first = progress.events.len();
+    let Advance { bytes, outcome } = take_cycle(alloc, progress, plan, done, nvm);
+    let failures = tell(
+        bytes.as_slice(),
+        &progress.events,
         first,
+        plan.digest,
         terminal,
         report,
     );
-    Ok(failed.or(told.ended.map(Stop::Ended)))
+    progress.mute = failures.terminal;
+    progress.deaf = failures.report;
+    come_to(outcome, failures)
+}
+
+/// A run before its first cycle.
+fn started(alloc: Global, plan: &Plan, machine: Machine) -> Progress
+    ensures { result ≡ first_progress plan.now machine }
+{
+    Progress {
+        machine,
+        mix: Mix::new(plan.config.mix),
+        events: Events::new(alloc),
+        passed: 0,
+        released: 0,
+        fresh: false,
+        mute: false,
+        deaf: false,
+    }
 }
 
 /// Runs the machine over a device that was fitted, until it ends or stops.
 pub fn run<T: Sink, R: Sink, N: Nvm>(
     alloc: Global,
-    config: &Config,
-    geometry: &Geometry,
-    start: &Start,
+    plan: &Plan,
     terminal: &mut T,
     report: &mut R,
     nvm: &mut N,
-) -> Outcome
-    requires start { IsStart geometry.now start.now }
-    requires blocks { length (N.device nvm.old).image ≡ blocks_of geometry.now }
-    requires up { (N.device nvm.old).down ≡ false }
-    requires left { (N.device nvm.old).left ≡ [] }
-    requires room { (N.device nvm.old).left_room ≡ length config.now.cuts + 1 }
+) -> Ending
+    requires planned { IsPlanned plan.now }
+    requires fitted { IsFitted plan.now (N.device nvm.old) }
+    ensures { RunEnds plan.now (N.device nvm.old) (N.device nvm.new) result (T.stream terminal.old) (T.stream terminal.new) (R.stream report.old) (R.stream report.new) }
 {
-    let Ok(machine) = Machine::power_on(alloc, geometry) else {
-        return Outcome {
+    let Ok(machine) = Machine::power_on(alloc, &plan.geometry) else {
+        return Ending {
             stop: Stop::Memory,
             events: Events::new(alloc),
             cycles: 0,
+            mute: false,
+            deaf: false,
         };
     };
-    let mut world = World {
-        machine,
-        mix: Mix::new(config.mix),
-        events: Events::new(alloc),
-        passed: 0,
-        released: 0,
-        fresh: false,
-    };
-    let limit = geometry.numbers().limit;
+    let mut progress = started(alloc, plan, machine);
+    let limit = plan.geometry.numbers().limit;
     for done in 0..limit {
-        match turn(
-            alloc, &mut world, config, geometry, start, done, terminal, report, nvm,
-        ) {
-            Ok(None) => {}
-            Ok(Some(stop)) => return finish(stop, world, done + 1),
-            Err(stop) => return finish(stop, world, done),
+        match turn(alloc, &mut progress, plan, done, terminal, report, nvm) {
+            Turned::GoesOn => {}
+            Turned::Stops(stop) => return ended_by(stop, progress, done + 1),
+            Turned::Breaks(stop) => return ended_by(stop, progress, done),
         }
     }
-    finish(Stop::Limit, world, limit)
+    ended_by(Stop::Limit, progress, limit)
 }
 
-fn finish(stop: Stop, world: World, cycles: u64) -> Outcome {
-    Outcome {
+fn ended_by(stop: Stop, progress: Progress, cycles: u64) -> Ending
+    ensures { result ≡ record { stop = stop; events = progress.events; cycles = cycles; mute = progress.mute; deaf = progress.deaf } }
+{
+    Ending {
         stop,
-        events: world.events,
+        events: progress.events,
         cycles,
+        mute: progress.mute,
+        deaf: progress.deaf,
     }
 }

@@ -8,7 +8,7 @@ use Rattle.thy_model.specs.declared.parts.Parts.{Parts}
 use Rattle.thy_model.specs.declared.start.Start.{Start}
 use Rattle.thy_model.specs.declared.view.View.{View}
 use Rattle.thy_model.specs.Bounds.{IsStart, IsBelow}
-use Rattle.thy_model.specs.Calls.{Begins}
+use Rattle.thy_model.specs.Calls.{IsAt, Begins}
 use Rattle.thy_model.specs.Laws.{MomentCanStep, FreshIsAt, CutIsAt, MomentIsSafeFor}
 use Rattle.thy_model.specs.Moments.{IsPoweredOn, IsNew, IsSmall}
 use Rattle.thy_model.specs.Origin.{Origin}
@@ -76,3 +76,7 @@ IsAt-cut = λ o k m next n g at on crash.
 -- whatever a cut leaves is committed or in doubt
 pub Safe-at : MomentIsSafeFor
 Safe-at = λ o k m n at. Safe-sound o m n at.moment.sound
+
+-- the machine has the run's geometry
+pub geometry-at : (o : Origin) (k : ℕ) (m : Parts) (n : Device) → IsAt o k m n → m.geometry ≡ o.geometry
+geometry-at o k m n h = h.moment.sound.geometry

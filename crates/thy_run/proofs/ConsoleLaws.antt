@@ -1,5 +1,5 @@
 -- What the terminal has grows by what each cycle's end releases.
-use Rattle.std.proofs.Common.{◌≡◌, ◌⊎◌, ℕ, zero, suc, ◌+◌, ◌-◌, ◌<◌, ◌≤◌, Bool, true, false, if◌then◌else◌, Option, Some, None, List, [], ◌∷◌, ◌++◌, length, drop, refl, sym, ◌∙◌, ap, subst, inl, inr, append-nil, arith}
+use Rattle.std.proofs.Common.{◌≡◌, ◌⊎◌, ℕ, zero, suc, ◌+◌, ◌-◌, ◌*◌, ◌^◌, ◌<◌, ◌≤◌, Bool, true, false, if◌then◌else◌, Option, Some, None, List, [], ◌∷◌, ◌++◌, length, drop, refl, sym, ◌∙◌, ap, subst, inl, inr, append-nil, arith}
 use Rattle.std.proofs.Math.Seq.{drop-append_seam}
 use Rattle.thy_base.specs.declared.mark.Mark.{Mark}
 use Rattle.thy_base.specs.declared.cause.EndCause.{EndCause}
@@ -15,7 +15,9 @@ use Rattle.thy_model.specs.declared.view.Phase.{Phase}
 use Rattle.thy_model.specs.declared.view.Phase.TheVariants.{Boot as BootPhase, Run, Halt}
 use Rattle.thy_model.specs.declared.view.View.{View}
 use Rattle.thy_model.specs.CoreStep.{mark, CoreStep}
+use Rattle.thy_base.specs.Geometry.{console_room}
 use Rattle.thy_model.specs.Origin.{Origin, at, setting_of}
+use Rattle.thy_model.specs.Sound.{IsOrigin}
 use Rattle.thy_run.specs.Due.{shows_console, due_of}
 use Rattle.thy_run.specs.Laws.{marks_of, console_at, released_of}
 use Rattle.thy_run.specs.World.{World, seen, told, events_of, Steps}
@@ -179,3 +181,22 @@ released-cut o events index cycle =
     released_marks o (events ++ Cut index cycle ∷ [])
     ∙ ap (λ (x : Marks). console_of (console_at o) x.kept) (marks_from-append o.start.count (loading_marks o.start.count) events (Cut index cycle ∷ []))
     ∙ sym (released_marks o events)
+
+-- ---- how much the console can be
+
+console-few : (o : Origin) (k : ℕ) → IsOrigin o → length (console_at o k) < 2 ^ 64
+unfolding at
+console-few o k origin =
+    let same : length (console_at o k) ≡ length o.start.console = ap length (steps-console (setting_of o) (k - o.start.count) o.start) in
+    let room : length o.start.console ≤ console_room o.geometry = origin.recordable.console in
+    let few : o.geometry.console ≤ 16 = origin.geometry.console_most in
+    omega (arith, same, room, few)
+
+kept_few : (o : Origin) (kept : Option Mark) → IsOrigin o → length (console_of (console_at o) kept) < 2 ^ 64
+kept_few o None origin = omega arith
+kept_few o (Some m) origin = console-few o m.count origin
+
+-- what is released has a length of 64 bits
+pub length-released : (o : Origin) (events : List Happening) → IsOrigin o → length (released_of o events) < 2 ^ 64
+length-released o events origin =
+    subst (λ (l : List ℕ). length l < 2 ^ 64) (sym (released_marks o events)) (kept_few o (marks_of o events).kept origin)

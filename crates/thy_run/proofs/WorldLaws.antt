@@ -39,7 +39,7 @@ use Rattle.thy_run.proofs.ListedLemmas.{NextCut, next_cut, cuts_among-append, nu
 
 -- ---- the events of a step are neither cuts nor, unless it halts, an end
 
-told_uncut : (o : Origin) (did : Did) (cycle : ℕ) → (cuts_among (told o did cycle) ≡ []) × (has_ended (told o did cycle) ≡ false)
+pub told_uncut : (o : Origin) (did : Did) (cycle : ℕ) → (cuts_among (told o did cycle) ≡ []) × (has_ended (told o did cycle) ≡ false)
 told_uncut o Boot cycle = (refl, refl)
 told_uncut o Loaded cycle = (refl, refl)
 told_uncut o (Restarted epoch count) cycle = (refl, refl)
@@ -56,7 +56,7 @@ told_uncut o NvmDrained cycle = (refl, refl)
 told_uncut o DramDrained cycle = (refl, refl)
 told_uncut o Nothing cycle = (refl, refl)
 
-reload_uncut : (b : Bool) → (cuts_among (if b then Reload ∷ [] else []) ≡ []) × (has_ended (if b then Reload ∷ [] else []) ≡ false)
+pub reload_uncut : (b : Bool) → (cuts_among (if b then Reload ∷ [] else []) ≡ []) × (has_ended (if b then Reload ∷ [] else []) ≡ false)
 reload_uncut true = (refl, refl)
 reload_uncut false = (refl, refl)
 

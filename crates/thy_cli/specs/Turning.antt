@@ -1,0 +1,97 @@
+-- The program's loop over cycles, with what its sinks take.
+use Rattle.std.specs.Prelude.{◌≡◌, ℕ, ◌+◌, ◌≤◌, Bool, true, false, [], length, Some}
+use Rattle.thy_base.specs.declared.nvm.Shape.{Shape}
+use Rattle.thy_base.specs.Device.{Device, fitted, RoseFaults}
+use Rattle.thy_base.specs.Geometry.{blocks_of}
+use Rattle.thy_base.specs.Mix.{mix_start}
+use Rattle.thy_base.specs.Outside.{Stream}
+use Rattle.thy_text.specs.Lines.{report_of}
+use Rattle.thy_model.specs.Calls.{Core}
+use Rattle.thy_run.specs.Cuts.{has_ended}
+use Rattle.thy_run.specs.Laws.{released_of}
+use Rattle.thy_run.specs.Unfinished.{Finished}
+use Rattle.thy_cli.specs.declared.advance.Outcome.{Outcome}
+use Rattle.thy_cli.specs.declared.advance.Outcome.TheVariants.{Goes, Ends, Fails}
+use Rattle.thy_cli.specs.declared.answer.Stop.{Stop}
+use Rattle.thy_cli.specs.declared.answer.Stop.TheVariants.{Ended, Nvm, Memory, Terminal, Report, Limit}
+use Rattle.thy_cli.specs.declared.cycles.Ending.{Ending}
+use Rattle.thy_cli.specs.declared.cycles.Turned.{Turned}
+use Rattle.thy_cli.specs.declared.cycles.Turned.TheVariants.{GoesOn as TurnedOn, Stops, Breaks as BreaksOff}
+use Rattle.thy_cli.specs.declared.plan.Plan.{Plan}
+use Rattle.thy_cli.specs.declared.progress.Progress.{Progress}
+use Rattle.thy_cli.specs.Going.{origin_of, given_of, end_of, GoesOn}
+use Rattle.thy_cli.specs.Sending.{Sends, Delivers}
+
+-- a stop for a sink that failed comes before the others of a cycle that is done
+abbrev pub stopped_for : (terminal report : Bool) → Turned → Turned
+stopped_for terminal true turned = Stops Report
+stopped_for true false turned = Stops Terminal
+stopped_for false false turned = turned
+
+-- what a cycle comes to once it was told
+abbrev pub turned_of : Outcome → (terminal report : Bool) → Turned
+turned_of (Fails stop) terminal report = BreaksOff stop
+turned_of Goes terminal report = stopped_for terminal report TurnedOn
+turned_of (Ends status) terminal report = stopped_for terminal report (Stops (Ended status))
+
+-- a device that was fitted for a plan
+pub record IsFitted (plan : Plan) (n : Device) : Type 0 where
+  pub shape : Shape
+  pub before : Device
+  pub blocks : shape.blocks ≡ blocks_of plan.geometry
+  pub cuts : shape.cuts ≡ length plan.config.cuts
+  pub is_fitted : n ≡ fitted shape [] before
+
+-- the run goes on, and the sinks took all that was due so far
+pub record Running (plan : Plan) (fitted : Device) (p : Progress) (n : Device) (cycles : ℕ) (terminal shown report read : Stream) : Type 0 where
+  pub goes : GoesOn plan fitted p n cycles
+  pub shown_all : Sends [] (released_of (origin_of plan) p.events) false terminal shown
+  pub read_all : Sends [] (report_of plan.digest p.events) false report read
+
+-- memory was short
+abbrev pub is_memory : Stop → Bool
+is_memory Memory = true
+is_memory (Ended status) = false
+is_memory Nvm = false
+is_memory Terminal = false
+is_memory Report = false
+is_memory Limit = false
+
+-- what a stop says of the run
+abbrev pub StopFits : Plan → Device → Device → Ending → Stop → Type 0
+StopFits plan fitted new e (Ended status) = (end_of e.events ≡ Some status) × (e.mute ≡ false) × (e.deaf ≡ false)
+StopFits plan fitted new e Nvm = RoseFaults fitted.faults new.faults
+StopFits plan fitted new e Memory = Unit {0}
+StopFits plan fitted new e Terminal = (e.mute ≡ true) × (e.deaf ≡ false)
+StopFits plan fitted new e Report = e.deaf ≡ true
+StopFits plan fitted new e Limit =
+    (e.cycles ≡ plan.geometry.limit) × (has_ended e.events ≡ false) × (e.mute ≡ false) × (e.deaf ≡ false)
+
+-- what a run leaves
+pub record RunEnds (plan : Plan) (fitted new : Device) (e : Ending) (terminal shown report read : Stream) : Type 0 where
+  pub finished : Finished (origin_of plan) (given_of plan fitted) e.cycles e.events new
+  pub few : e.cycles ≤ plan.geometry.limit
+  pub shown_all : Delivers (is_memory e.stop) e.mute [] (released_of (origin_of plan) e.events) terminal shown
+  pub read_all : Sends [] (report_of plan.digest e.events) e.deaf report read
+  pub stop_fits : StopFits plan fitted new e e.stop
+
+-- what a turn of the loop comes to
+abbrev pub IsTurned : Plan → Device → Progress → Device → ℕ → Stream → Stream → Stream → Stream → Turned → Type 0
+IsTurned plan fitted p n cycles terminal shown report read TurnedOn = Running plan fitted p n (cycles + 1) terminal shown report read
+IsTurned plan fitted p n cycles terminal shown report read (Stops stop) =
+    RunEnds plan fitted n (record { stop = stop; events = p.events; cycles = cycles + 1; mute = p.mute; deaf = p.deaf }) terminal shown report read
+IsTurned plan fitted p n cycles terminal shown report read (BreaksOff stop) =
+    RunEnds plan fitted n (record { stop = stop; events = p.events; cycles = cycles; mute = p.mute; deaf = p.deaf }) terminal shown report read
+
+-- a run before its first cycle
+abbrev pub first_progress : Plan → Core → Progress
+first_progress plan machine = record {
+  machine = machine;
+  mix = mix_start plan.config.mix;
+  events = [];
+  passed = 0;
+  released = 0;
+  fresh = false;
+  mute = false;
+  deaf = false;
+}

@@ -1,0 +1,16 @@
+//! What a run is to do.
+
+use thy_base::{Config, Geometry};
+use thy_model::Start;
+
+/// What a run is to do: its program, and how it is run.
+#[derive(Debug, Drop)]
+pub struct Plan {
+    pub config: Config,
+    /// The numbers of the configuration, which are in range.
+    pub geometry: Geometry,
+    /// Where the program starts.
+    pub start: Start,
+    /// Whether the report tells digests of memory.
+    pub digest: bool,
+}

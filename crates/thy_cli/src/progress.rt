@@ -1,0 +1,24 @@
+//! How far a run is.
+
+use thy_base::Mix;
+use thy_core::Machine;
+use thy_text::Events;
+
+/// A run between two cycles.
+#[derive(Debug, Drop)]
+pub struct Progress {
+    pub machine: Machine,
+    /// The schedule from here on.
+    pub mix: Mix,
+    pub events: Events,
+    /// How many cuts have fallen.
+    pub passed: usize,
+    /// How many bytes of the console the terminal was given.
+    pub released: u64,
+    /// No cycle was done since the last cut.
+    pub fresh: bool,
+    /// The terminal has failed.
+    pub mute: bool,
+    /// The report has failed.
+    pub deaf: bool,
+}
