@@ -1,15 +1,14 @@
 -- A set and a store that agree still do after each change.
-use Rattle.std.proofs.Common.{◌≡◌, ◌≢◌, ◌⊎◌, ℕ, ◌<◌, ◌%◌, Bool, true, false, List, length, get_or, slice_set, Option, Some, None, unwrap_or, cond, refl, sym, ◌∙◌, ap, subst, inl, inr, arith}
-use Rattle.std.specs.Option.{option_map, option_map_or}
-use Rattle.std.proofs.lemmas.Bool.{cases_Bool, cases_eq, lt-ltb, ne_eqb, eq-eqb}
+use Rattle.std.proofs.Common.{◌≡◌, ◌≢◌, ◌⊎◌, ℕ, ◌<◌, ◌%◌, false, List, length, get_or, slice_set, Option, Some, None, refl, sym, ◌∙◌, ap, inl, inr, arith}
+use Rattle.std.specs.Option.{option_map}
+use Rattle.std.proofs.lemmas.Bool.{cases_eq}
 use Rattle.std.proofs.lemmas.List.{length-set, get_or-set_same, get_or-set_other}
-use Rattle.std.proofs.lemmas.List.Folds.{position_or_len-set}
 use Rattle.thy_base.specs.declared.block.Block.{Block}
 use Rattle.thy_base.specs.Device.{zero_block, block_at}
 use Rattle.thy_cache.specs.declared.line.Line.{Line}
-use Rattle.thy_cache.specs.Ways.{Ways, line_at, line_in, holds, is_dirty, way_of, used, used_for, with_line, over_line, clean, changed, written_to, fresh_line, filled, victim_way}
-use Rattle.thy_cache.specs.Flat.{IsLineOf, SetAgrees}
-use Rattle.thy_cache.proofs.LineLemmas.{KeepsBlock, place, held, holding, line_at-inside, place-way_of, line_in-place, line_in-found, line_in-none, none_held, holds_one}
+use Rattle.thy_cache.specs.Ways.{Ways, line_at, line_in, over_line}
+use Rattle.thy_cache.specs.Flat.{SetAgrees}
+use Rattle.thy_cache.proofs.LineLemmas.{KeepsBlock, line_at-inside, line_in-found, none_held}
 
 -- a set in which one way was written
 abbrev pub rewritten : ℕ → Option Line → Ways → Ways

@@ -1,6 +1,5 @@
 -- How many lines are dirty after a change.
-use Rattle.std.proofs.Common.{◌≡◌, ℕ, ◌+◌, ◌*◌, ◌^◌, ◌<◌, ◌≤◌, Bool, true, false, cond, List, length, slice_set, sum_by, Option, Some, None, refl, sym, ◌∙◌, ap, arith}
-use Rattle.std.specs.Option.{option_map}
+use Rattle.std.proofs.Common.{◌≡◌, ℕ, ◌+◌, ◌^◌, ◌<◌, ◌≤◌, cond, length, slice_set, Option, None, arith}
 use Rattle.std.proofs.lemmas.List.{length-set}
 use Rattle.std.proofs.lemmas.List.Sums.{sum_by-set, sum_by-le-sum_by, count_by-le-length}
 use Rattle.thy_cache.specs.declared.line.Line.{Line}

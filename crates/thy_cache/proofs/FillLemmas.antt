@@ -1,16 +1,16 @@
 -- A set into which a block was filled reads as before, and agrees with its store.
-use Rattle.std.proofs.Common.{◌≡◌, ◌≢◌, ◌⊎◌, ℕ, ◌<◌, ◌%◌, Bool, true, false, List, length, get_or, slice_set, Option, Some, None, unwrap_or, cond, nat_lt, refl, sym, ◌∙◌, ap, inl, inr, arith}
+use Rattle.std.proofs.Common.{◌≡◌, ◌≢◌, ◌⊎◌, ℕ, ◌<◌, ◌%◌, true, false, List, length, Some, None, unwrap_or, cond, sym, ◌∙◌, ap, inl, inr, arith}
 use Rattle.std.specs.Option.{option_map}
-use Rattle.std.proofs.lemmas.Bool.{cases_Bool, cases_eq, cases_lt, lt-ltb, ne_eqb}
-use Rattle.std.proofs.lemmas.List.{length-set, get_or-set_same, get_or-set_other}
+use Rattle.std.proofs.lemmas.Bool.{cases_Bool, cases_eq, lt-ltb, ne_eqb}
+use Rattle.std.proofs.lemmas.List.{get_or-set_same, get_or-set_other}
 use Rattle.std.proofs.lemmas.List.Folds.{position_or_len-set}
 use Rattle.thy_base.specs.declared.block.Block.{Block}
 use Rattle.thy_base.specs.Device.{block_at}
 use Rattle.thy_cache.specs.declared.line.Line.{Line}
 use Rattle.thy_cache.specs.Ways.{Ways, line_at, line_in, holds, is_dirty, way_of, with_line, fresh_line}
 use Rattle.thy_cache.specs.Flat.{IsLineOf, SetAgrees}
-use Rattle.thy_cache.proofs.LineLemmas.{place, held, line_at-inside, place-way_of, line_in-place, line_in-none, none_held}
-use Rattle.thy_cache.proofs.AgreeLemmas.{rewritten, line_at-rewritten, line_in-single, none_is_none, some_is}
+use Rattle.thy_cache.proofs.LineLemmas.{place, held, place-way_of, line_in-place, line_in-none, none_held}
+use Rattle.thy_cache.proofs.AgreeLemmas.{line_at-rewritten, line_in-single, some_is}
 
 -- what is filled in
 pub record Filling (n : ℕ) (blocks : List Block) (s w b : ℕ) (block : Block) (ways : Ways) : Type 0 where

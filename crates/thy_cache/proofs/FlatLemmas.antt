@@ -1,17 +1,14 @@
 -- A cache read as a flat list, after one of its sets has changed.
-use Rattle.std.proofs.Common.{◌≡◌, ◌≢◌, ◌⊎◌, ℕ, ◌+◌, ◌<◌, ◌%◌, List, length, get_or, slice_set, map, Option, Some, None, unwrap_or, refl, sym, ◌∙◌, ap, inl, inr, arith}
-use Rattle.std.specs.List.{range_with_len}
-use Rattle.std.specs.Option.{option_map}
+use Rattle.std.proofs.Common.{◌≡◌, ◌≢◌, ℕ, ◌<◌, ◌%◌, List, length, slice_set, Option, sym, ◌∙◌, ap, inl, inr, arith}
 use Rattle.std.proofs.lemmas.Bool.{cases_eq}
 use Rattle.std.proofs.lemmas.List.{length-set, get_or-set_same, get_or-set_other, ext_get_or}
 use Rattle.std.proofs.lemmas.List.FromFn.{length-map-range_with_len, get_or-map-range_with_len}
 use Rattle.thy_base.specs.declared.block.Block.{Block}
 use Rattle.thy_base.specs.Device.{zero_block, block_at}
 use Rattle.thy_cache.specs.declared.line.Line.{Line}
-use Rattle.thy_cache.specs.Ways.{Ways, line_at, line_in}
-use Rattle.thy_cache.specs.Contents.{Contents, no_ways, set_at, set_of, index_of, line_of, peeked, with_set}
+use Rattle.thy_cache.specs.Ways.{Ways, line_in}
+use Rattle.thy_cache.specs.Contents.{Contents, no_ways, set_at, set_of, index_of, line_of, with_set}
 use Rattle.thy_cache.specs.Flat.{flat_at, flat, SetAgrees, Agrees}
-use Rattle.thy_cache.proofs.FillLemmas.{seen}
 
 -- the flat list is as long as the store's
 pub length-flat : (c : Contents) (blocks : List Block) → length (flat c blocks) ≡ length blocks

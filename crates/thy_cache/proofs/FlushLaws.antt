@@ -1,5 +1,5 @@
 -- Where no line is dirty, and what a cache reads as then.
-use Rattle.std.proofs.Common.{◌≡◌, ◌≢◌, ℕ, ◌+◌, ◌*◌, ◌%◌, ◌^◌, ◌<◌, ◌≤◌, Bool, true, false, cond, nat_lt, List, length, get_or, replicate, sum_by, All, Option, Some, None, unwrap_or, refl, sym, ◌∙◌, ap, inl, inr, arith}
+use Rattle.std.proofs.Common.{◌≡◌, ℕ, ◌*◌, ◌^◌, ◌<◌, ◌≤◌, Bool, true, false, cond, nat_lt, List, length, get_or, replicate, sum_by, All, Option, Some, None, unwrap_or, refl, sym, ◌∙◌, ap, inl, inr, arith}
 use Rattle.std.specs.List.{position, position_or_len}
 use Rattle.std.specs.Option.{option_map, is_some}
 use Rattle.std.proofs.lemmas.Bool.{cases_Bool, cases_lt, ltb-false}
@@ -11,9 +11,9 @@ use Rattle.std.proofs.lemmas.List.Quantifiers.{position-Some}
 use Rattle.thy_base.specs.declared.block.Block.{Block}
 use Rattle.thy_base.specs.Device.{block_at}
 use Rattle.thy_cache.specs.declared.line.Line.{Line}
-use Rattle.thy_cache.specs.Ways.{Ways, line_at, line_in, is_dirty, has_dirty, dirty_lines, empty_ways}
+use Rattle.thy_cache.specs.Ways.{Ways, line_at, is_dirty, has_dirty, dirty_lines, empty_ways}
 use Rattle.thy_cache.specs.Contents.{Contents, IsSound, empty_cache, no_ways, set_at, set_of, index_of, line_of, dirty_count}
-use Rattle.thy_cache.specs.Flat.{flat_at, flat, SetAgrees, Agrees}
+use Rattle.thy_cache.specs.Flat.{flat, Agrees}
 use Rattle.thy_cache.proofs.LineLemmas.{passed_over, line_in-found}
 use Rattle.thy_cache.proofs.AgreeLemmas.{none_is_none}
 use Rattle.thy_cache.proofs.FlatLemmas.{flat-none}

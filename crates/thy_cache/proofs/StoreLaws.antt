@@ -1,8 +1,10 @@
 -- What a fill and a store of a line leave.
-use Rattle.std.proofs.Common.{◌≡◌, ◌≢◌, ℕ, ◌+◌, ◌%◌, ◌<◌, ◌≤◌, Bool, true, false, cond, List, length, slice_set, Option, Some, None, unwrap_or, refl, sym, ◌∙◌, ap, inl, inr, arith}
-use Rattle.std.specs.Option.{option_map, is_some}
+use Rattle.std.proofs.Common.{◌≡◌, ◌≢◌, ℕ, ◌+◌, ◌%◌, ◌<◌, true, false, cond, nat_lt, List, length, slice_index, slice_set, Option, Some, None, unwrap_or, refl, sym, ◌∙◌, ap, inl, inr, arith}
+use Rattle.std.specs.List.{position_or_len}
+use Rattle.std.specs.Option.{option_map, is_some, is_none}
 use Rattle.std.proofs.lemmas.Bool.{cases_Bool, cases_eq}
 use Rattle.std.proofs.lemmas.List.{length-set, get_or-set_same, get_or-set_other}
+use Rattle.std.proofs.lemmas.List.Folds.{position_or_len-set}
 use Rattle.thy_base.specs.declared.block.Block.{Block}
 use Rattle.thy_base.specs.Device.{zero_block, block_at}
 use Rattle.thy_base.specs.declared.store.Stored.{Stored}
@@ -10,8 +12,8 @@ use Rattle.thy_base.specs.declared.store.Stored.TheVariants.{Done, CopyFirst}
 use Rattle.thy_base.specs.Store.{Holding, HasStored}
 use Rattle.thy_cache.specs.declared.line.Line.{Line}
 use Rattle.thy_cache.specs.declared.line.Victim.TheVariants.{Room, Dirty}
-use Rattle.thy_cache.specs.Ways.{Ways, line_at, line_in, is_dirty, over_line, clean, fresh_line, filled, victim_way, victim_line, used, with_line, dirty_lines}
-use Rattle.thy_cache.specs.Contents.{Contents, set_at, set_of, index_of, line_of, peeked, hits, with_set, filled_with, cleaned_at, victim_line_of, is_dirty_victim, dirty_count, stored_at, CountsStored}
+use Rattle.thy_cache.specs.Ways.{Ways, line_at, line_in, is_dirty, over_line, clean, fresh_line, filled, victim_way, victim_line, used}
+use Rattle.thy_cache.specs.Contents.{Contents, set_at, set_of, index_of, line_of, peeked, hits, filled_with, cleaned_at, victim_line_of, victim_of, is_dirty_victim, dirty_count, stored_at, CountsStored}
 use Rattle.thy_cache.specs.Flat.{flat_at, flat, SetAgrees, Agrees, PeeksSame, HitsSame}
 use Rattle.thy_cache.proofs.LineLemmas.{KeepsBlock, line_at-inside, line_in-kept}
 use Rattle.thy_cache.proofs.AgreeLemmas.{SetAgrees-same, SetAgrees-over_line, SetAgrees-stored, line_in-single, some_is}
@@ -221,3 +223,42 @@ pub after-count : (stored : Stored) (c : Contents) (s w : ℕ) (line : Line) →
     → CountsStored stored (dirty_count c) (dirty_count (stored_at stored s w c))
 after-count Done c s w line inside stands dirty = store-count c s w line inside stands dirty
 after-count CopyFirst c s w line inside stands dirty = refl
+
+-- a clean line makes room
+pub clean-room : (o : Option Line) → victim_line (option_map clean o) ≡ Room
+clean-room None = refl
+clean-room (Some line) = refl
+
+-- it does not change where lines are
+pub is_none-clean : (o : Option Line) → is_none (option_map clean o) ≡ is_none o
+is_none-clean None = refl
+is_none-clean (Some line) = refl
+
+-- nor which way is the victim
+pub victim_way-clean : (w : ℕ) (set : Ways) → victim_way (over_line clean w set) ≡ victim_way set
+victim_way-clean w set =
+    let same : position_or_len is_none (slice_set set.lines w (option_map clean (line_at set w))) ≡ position_or_len is_none set.lines
+    = position_or_len-set is_none set.lines w (option_map clean (line_at set w)) None (is_none-clean (line_at set w)) in
+    let long : length (slice_set set.lines w (option_map clean (line_at set w))) ≡ length set.lines = length-set set.lines w (option_map clean (line_at set w)) in
+    ap (λ k. unwrap_or (cond (nat_lt k (length (slice_set set.lines w (option_map clean (line_at set w))))) (Some k) None) (slice_index set.order 0)) same
+    ∙ ap (λ n. unwrap_or (cond (nat_lt (position_or_len is_none set.lines) n) (Some (position_or_len is_none set.lines)) None) (slice_index set.order 0)) long
+
+-- so after a store of the victim there is room
+pub evict-room : (c : Contents) (b : ℕ) (line : Line) → index_of c b < length c.sets → victim_line_of c b ≡ Some line
+    → victim_of (cleaned_at (index_of c b) (victim_way (set_of c b)) c) b ≡ Room
+evict-room c b line inside stands =
+    let within : victim_way (set_of c b) < length (set_of c b).lines = line_at-inside (set_of c b) (victim_way (set_of c b)) line stands in
+    ap (λ s. victim_line (line_at s (victim_way s))) (set_of-same c (index_of c b) (over_line clean (victim_way (set_of c b)) (set_of c b)) b inside refl)
+    ∙ ap (λ w. victim_line (line_at (over_line clean (victim_way (set_of c b)) (set_of c b)) w)) (victim_way-clean (victim_way (set_of c b)) (set_of c b))
+    ∙ ap victim_line (get_or-set_same (set_of c b).lines (victim_way (set_of c b)) (option_map clean (victim_line_of c b)) None within)
+    ∙ clean-room (victim_line_of c b)
+
+pub evict-room_at : (old new : Contents) (b s w : ℕ) (line : Line) → s ≡ index_of old b → s < length old.sets → w ≡ victim_way (set_of old b) → new ≡ cleaned_at s w old
+    → line_at (set_at old s) w ≡ Some line → victim_of new b ≡ Room
+evict-room_at old new b s w line set inside way cleaned stands =
+    let here : index_of old b < length old.sets = omega (arith, set, inside) in
+    let is_now : new ≡ cleaned_at (index_of old b) (victim_way (set_of old b)) old
+    = cleaned ∙ ap (λ t. cleaned_at t w old) set ∙ ap (λ v. cleaned_at (index_of old b) v old) way in
+    let stood : victim_line_of old b ≡ Some line
+    = ap (line_at (set_of old b)) (sym way) ∙ ap (λ t. line_at (set_at old t) w) (sym set) ∙ stands in
+    ap (λ (d : Contents). victim_of d b) is_now ∙ evict-room old b line here stood

@@ -1,7 +1,7 @@
 -- The parts of a set after each change.
-use Rattle.std.proofs.Common.{◌≡◌, ℕ, suc, ◌+◌, ◌<◌, List, [], ◌∷◌, ◌++◌, length, slice_index_or, slice_set, map, Option, Some, None, All, refl, sym, ◌∙◌, ap, arith, add-zero, zero-add}
+use Rattle.std.proofs.Common.{◌≡◌, ℕ, suc, ◌+◌, ◌<◌, List, [], ◌∷◌, ◌++◌, length, slice_set, Option, None, All, sym, ◌∙◌, ap, arith}
 use Rattle.std.specs.List.{remove, range_with_len}
-use Rattle.std.proofs.lemmas.List.{map-id, length-append, length-set, length-replicate, length_push, take_more}
+use Rattle.std.proofs.lemmas.List.{map-id, length-set, length-replicate, length_push}
 use Rattle.std.proofs.lemmas.List.Edits.{length-remove}
 use Rattle.std.proofs.lemmas.List.FromFn.{map-range_with_len_more, length-range_with_len, get_or-range_with_len}
 use Rattle.std.proofs.lemmas.List.Elements.{All-append, All-take, All-drop, All-push, All-from_get_or}

@@ -1,5 +1,5 @@
 -- A cache: its sets, and what each call makes of them.
-use Rattle.std.specs.Prelude.{◌≡◌, ℕ, ◌+◌, ◌%◌, ◌^◌, ◌<◌, Bool, true, false, List, [], ◌∷◌, length, replicate, slice_index_or, slice_set, sum_by, position, Option, Some, is_some, unwrap_or}
+use Rattle.std.specs.Prelude.{◌≡◌, ℕ, ◌+◌, ◌%◌, ◌^◌, ◌<◌, Bool, true, false, List, [], length, replicate, slice_index_or, slice_set, sum_by, position, Option, Some, is_some, unwrap_or}
 use Rattle.std.specs.Option.{option_map}
 use Rattle.thy_base.specs.declared.block.Block.{Block}
 use Rattle.thy_base.specs.declared.store.Stored.{Stored}

@@ -1,15 +1,13 @@
 //! The cache.
-ghost use Rattle.std.specs.Prelude.{◌≡◌, ◌<◌, ◌≤◌, ◌+◌, ◌↔◌, replicate, Ok, ℕ, List, Some, true, false, if◌then◌else◌, length, position, is_some, IfOk, IfSome, IfNone, OnOk, OnErr};
-ghost use Rattle.std.specs.Option.{ForSome, option_map};
-ghost use Rattle.thy_base.specs.declared.block.Block.{Block as BaseBlock};
+ghost use Rattle.std.specs.Prelude.{◌≡◌, ◌<◌, ◌≤◌, ◌+◌, ◌↔◌, Ok, Some, true, false, if◌then◌else◌, length, position, is_some, IfOk, IfSome, IfNone, OnOk, OnErr};
 ghost use Rattle.thy_base.specs.Device.{block_at, CountsFault};
 ghost use Rattle.thy_base.specs.Store.{IsKeptByLoad};
-ghost use Rattle.thy_cache.specs.Ways.{is_dirty, line_at, line_in, fresh_line, victim_way, has_dirty, empty_ways};
+ghost use Rattle.thy_cache.specs.Ways.{is_dirty, line_at, victim_way, has_dirty};
 ghost use Rattle.thy_cache.specs.Contents.{Contents, empty_cache, set_at, set_of, index_of, victim_line_of, is_dirty_victim, cleaned_at, filled_with, evicted_for, stored_at, dirty_set, dirty_way, flushed_from, HasFlushed, CountsFlushed, StoresLine, CountsStored, line_of, peeked, hits, victim_of, dirty_count, read_from, written_at};
 ghost use Rattle.thy_cache.specs.Flat.{flat, Agrees, PeeksSame, HitsSame, ReadsSame, ReadsAs, AgreesWithAll, ReadsAsStore, WritesOver, AgreesStill};
 
 use crate::line::{Flushed, Line, Victim};
-use crate::ways::WaySet;
+use crate::ways::{WaySet, empty_sets};
 use std::alloc::{AllocError, Global};
 use std::marker::Model;
 use thy_base::{Block, BlockStore, NvmError, Stored};
@@ -30,18 +28,6 @@ impl Model for Cache {
     ghost view = { λ c. record { sets = c.sets.items } };
 
     ghost invariant = { λ c. IsSound c.sets.items c.dirty };
-}
-
-/// So many sets of so many ways without lines.
-fn empty_sets(alloc: Global, sets: u64, ways: usize) -> Result<Vec<WaySet>, AllocError>
-    requires { 0 < ways }
-    ensures { IfOk result (λ all. all.items ≡ replicate sets (empty_ways ways)) }
-{
-    let mut all = Vec::with_capacity(alloc, sets as usize)?;
-    for _set in 0..sets {
-        all.push(WaySet::new(alloc, ways)?)?;
-    }
-    Ok(all)
 }
 
 impl Cache {
@@ -89,7 +75,8 @@ impl Cache {
 
     /// What the line of block `b` holds, where there is one. It does not count as a use.
     pub fn peek(&self, b: u64) -> Option<Block>
-        ensures { result ≡ peeked self.now b }
+        ensures block { result ≡ peeked self.now b }
+        ensures hit { is_some result ≡ hits self.now b }
     {
         match self.line_of(b) {
             Some(line) => Some(line.block),
@@ -305,6 +292,7 @@ impl Cache {
         ensures cache { IfOk result (λ stored. self.new ≡ evicted_for stored b self.old) }
         ensures store { IfOk result (λ stored. StoresLine stored (victim_line_of self.old b) (S.holding store.old nvm.old) (S.holding store.new nvm.new)) }
         ensures err { OnErr result (self.new ≡ self.old) }
+        ensures room { result ≡ Ok Stored.Done → victim_of self.new b ≡ Victim.Room }
 
         // What the lines hold stays, and the flat list is as before.
         ensures peeks { PeeksSame self.old self.new }

@@ -8,3 +8,6 @@ mod ways;
 
 pub use cache::Cache;
 pub use line::{Flushed, Line, Victim};
+
+#[cfg(test)]
+mod tests;

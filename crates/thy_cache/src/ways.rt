@@ -208,6 +208,18 @@ impl WaySet {
     }
 }
 
+/// So many sets of so many ways without lines.
+pub(crate) fn empty_sets(alloc: Global, sets: u64, ways: usize) -> Result<Vec<WaySet>, AllocError>
+    requires { 0 < ways }
+    ensures { IfOk result (λ all. all.items ≡ replicate sets (empty_ways ways)) }
+{
+    let mut all = Vec::with_capacity(alloc, sets as usize)?;
+    for _set in 0..sets {
+        all.push(WaySet::new(alloc, ways)?)?;
+    }
+    Ok(all)
+}
+
 /// A line as its store has it now.
 fn cleaned(line: Option<Line>) -> Option<Line>
     ensures { result ≡ option_map clean line }

@@ -1,12 +1,8 @@
-use Rattle.std.proofs.Common.{◌≡◌, ◌<◌, true, false, List, length, ap, sym, ◌∙◌}
+use Rattle.std.proofs.Common.{ap, ◌∙◌}
 use Rattle.std.specs.Option.{is_some}
-use Rattle.thy_base.specs.declared.block.Block.{Block}
 use Rattle.thy_base.specs.Store.{Holding}
-use Rattle.thy_base.specs.Device.{block_at}
-use Rattle.thy_cache.specs.declared.line.Victim.TheVariants.{Room}
-use Rattle.thy_cache.specs.Ways.{victim_way}
-use Rattle.thy_cache.specs.Contents.{Contents, set_of, index_of, hits, victim_of, victim_line_of, filled_with}
-use Rattle.thy_cache.specs.Flat.{flat, Agrees}
+use Rattle.thy_cache.specs.Contents.{hits, victim_line_of, filled_with}
+use Rattle.thy_cache.specs.Flat.{flat}
 use Rattle.thy_cache.proofs.StoreLaws.{CanFill, fill-line_of, fill-flat, fill-agrees, room-clean}
 use Rattle.thy_cache.proofs.cache.Cache.fill.Goals as goal
 
