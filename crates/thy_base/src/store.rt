@@ -53,9 +53,7 @@ pub trait BlockStore<N> {
 
 /// A plain list of blocks, with nothing behind it. Every store is done, and no call fails.
 impl BlockStore<()> for Vec<Block> {
-    ghost use Rattle.std.specs.Prelude.{◌≡◌, ◌<◌, true, length, IfOk, OnOk, Ok};
-    ghost use Rattle.thy_base.specs.Device.{block_at, CountsFault};
-    ghost use Rattle.thy_base.specs.Store.{Holding, flat_list, IsKeptByLoad, HasStored};
+    ghost use Rattle.thy_base.specs.Store.{flat_list};
 
     ghost holding = { λ list nothing. flat_list list.items };
 

@@ -1,0 +1,45 @@
+-- How many lines are dirty after a change.
+use Rattle.std.proofs.Common.{◌≡◌, ℕ, ◌+◌, ◌^◌, ◌<◌, ◌≤◌, cond, length, slice_set, Option, None, arith}
+use Rattle.std.proofs.lemmas.List.{length-set}
+use Rattle.std.proofs.lemmas.List.Sums.{sum_by-set, sum_by-le-sum_by, count_by-le-length}
+use Rattle.thy_cache.specs.declared.line.Line.{Line}
+use Rattle.thy_cache.specs.Ways.{Ways, line_at, is_dirty, dirty_lines}
+use Rattle.thy_cache.specs.Contents.{Contents, IsSound, no_ways, set_at, with_set, dirty_count, way_count}
+use Rattle.thy_cache.proofs.AgreeLemmas.{rewritten}
+
+-- a dirty line counts as one
+abbrev pub dirt : Option Line → ℕ
+dirt o = cond (is_dirty o) 1 0
+
+-- one way was written
+pub dirty_lines-rewritten : (ways : Ways) (w : ℕ) (o : Option Line) → w < length ways.lines → dirty_lines (rewritten w o ways) + dirt (line_at ways w) ≡ dirty_lines ways + dirt o
+dirty_lines-rewritten ways w o inside = sum_by-set dirt ways.lines w o None inside
+
+-- one set has changed
+pub dirty_count-with_set : (c : Contents) (s : ℕ) (set : Ways) → s < length c.sets → dirty_count (with_set s set c) + dirty_lines (set_at c s) ≡ dirty_count c + dirty_lines set
+dirty_count-with_set c s set inside = sum_by-set dirty_lines c.sets s set no_ways inside
+
+-- a set's number of lines
+abbrev pub width : Ways → ℕ
+width set = length set.lines
+
+-- the number of ways is as before
+pub way_count-with_set : (c : Contents) (s : ℕ) (set : Ways) → s < length c.sets → width set ≡ width (set_at c s) → way_count (with_set s set c) ≡ way_count c
+way_count-with_set c s set inside same = omega (arith, sum_by-set width c.sets s set no_ways inside, same)
+
+-- no more lines are dirty than there are
+pub dirty_count-le : (c : Contents) → dirty_count c ≤ way_count c
+dirty_count-le c = sum_by-le-sum_by dirty_lines width c.sets (λ set. count_by-le-length is_dirty set.lines)
+
+-- the parts are sound with the new number
+pub IsSound-with_set : (c : Contents) (s : ℕ) (set : Ways) (dirty now : ℕ) → IsSound c.sets dirty → s < length c.sets → width set ≡ width (set_at c s)
+    → now ≡ dirty_count (with_set s set c) → IsSound (slice_set c.sets s set) now
+IsSound-with_set c s set dirty now sound inside same e = record {
+  some_set = omega (arith, sound.some_set, length-set c.sets s set);
+  counted = e;
+  fits = omega (arith, sound.fits, way_count-with_set c s set inside same);
+}
+
+-- and so it fits
+pub dirty-fits : (c : Contents) (s : ℕ) (set : Ways) (dirty : ℕ) → IsSound c.sets dirty → s < length c.sets → width set ≡ width (set_at c s) → dirty_count (with_set s set c) < 2 ^ 64
+dirty-fits c s set dirty sound inside same = omega (arith, sound.fits, way_count-with_set c s set inside same, dirty_count-le (with_set s set c))

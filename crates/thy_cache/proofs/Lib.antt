@@ -1,0 +1,9 @@
+pub mod WaysLemmas
+pub mod LineLemmas
+pub mod AgreeLemmas
+pub mod FillLemmas
+pub mod FlatLemmas
+pub mod CountLemmas
+pub mod WriteLaws
+pub mod StoreLaws
+pub mod FlushLaws

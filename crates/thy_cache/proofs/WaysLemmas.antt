@@ -1,0 +1,53 @@
+-- The parts of a set after each change.
+use Rattle.std.proofs.Common.{◌≡◌, ℕ, suc, ◌+◌, ◌<◌, List, [], ◌∷◌, ◌++◌, length, slice_set, Option, None, All, sym, ◌∙◌, ap, arith}
+use Rattle.std.specs.List.{remove, range_with_len}
+use Rattle.std.proofs.lemmas.List.{map-id, length-set, length-replicate, length_push}
+use Rattle.std.proofs.lemmas.List.Edits.{length-remove}
+use Rattle.std.proofs.lemmas.List.FromFn.{map-range_with_len_more, length-range_with_len, get_or-range_with_len}
+use Rattle.std.proofs.lemmas.List.Elements.{All-append, All-take, All-drop, All-push, All-from_get_or}
+use Rattle.thy_cache.specs.declared.line.Line.{Line}
+use Rattle.thy_cache.specs.Ways.{IsSound, empty_ways}
+
+-- one number more
+pub range_with_len_more : (n : ℕ) → range_with_len 0 (n + 1) ≡ range_with_len 0 n ++ n ∷ []
+range_with_len_more n =
+    sym (map-id (range_with_len 0 (n + 1))) ∙ map-range_with_len_more (λ k. k) 0 n n (omega arith) ∙ ap (λ xs. xs ++ n ∷ []) (map-id (range_with_len 0 n))
+
+-- the numbers from 0 on are below their count
+pub range_below : (n : ℕ) → All (λ w. w < n) (range_with_len 0 n)
+range_below n =
+    let Below : ℕ → Type 0 = λ w. w < n in
+    All-from_get_or Below (range_with_len 0 n) 0
+    (λ i h. let inside : i < n = omega (arith, h, length-range_with_len 0 n) in omega (arith, inside, get_or-range_with_len 0 n i 0 inside))
+
+-- new parts are sound
+pub IsSound-empty : (n : ℕ) (lines : List (Option Line)) (order : List ℕ) → 0 < n → lines ≡ (empty_ways n).lines → order ≡ range_with_len 0 n → IsSound lines order
+IsSound-empty n lines order some e f =
+    let many : length lines ≡ n = ap length e ∙ length-replicate n None in
+    record {
+      some_way = omega (arith, many, some);
+      all_ordered = ap length f ∙ length-range_with_len 0 n ∙ sym many;
+      ordered = rw (many, f) (range_below n);
+    }
+
+-- and stay so after a use
+pub IsSound-used : (lines : List (Option Line)) (order moved : List ℕ) (at way : ℕ) → IsSound lines order → at < length order → way < length lines
+    → moved ≡ remove order at ++ way ∷ [] → IsSound lines moved
+IsSound-used lines order moved at way sound inside here e =
+    let Below : ℕ → Type 0 = λ w. w < length lines in
+    let left : All Below (remove order at) = All-append Below _ _ (All-take Below at order sound.ordered) (All-drop Below (suc at) order sound.ordered) in
+    record {
+      some_way = sound.some_way;
+      all_ordered = ap length e ∙ length_push (remove order at) way ∙ length-remove order at inside ∙ sound.all_ordered;
+      ordered = rw e (All-push Below (remove order at) way left here);
+    }
+
+-- and after a line was put in
+pub IsSound-with_line : (lines : List (Option Line)) (order : List ℕ) (way : ℕ) (line : Option Line) → IsSound lines order → IsSound (slice_set lines way line) order
+IsSound-with_line lines order way line sound =
+    let same : length (slice_set lines way line) ≡ length lines = length-set lines way line in
+    record {
+      some_way = omega (arith, same, sound.some_way);
+      all_ordered = sound.all_ordered ∙ sym same;
+      ordered = rw same sound.ordered;
+    }

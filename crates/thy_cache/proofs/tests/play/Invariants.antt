@@ -1,0 +1,9 @@
+use Rattle.std.proofs.Common.{◌≡◌, length}
+use Rattle.thy_cache.specs.Flat.{Agrees}
+use Rattle.thy_cache.proofs.tests.play.Given as goal
+
+abbrev pub invariant-loop-asked : goal.invariant-loop-asked
+invariant-loop-asked g l = record {
+  eight : length (g.S.BlockStore.holding l.store tt).blocks ≡ 8;
+  agree : Agrees l.cache (g.S.BlockStore.holding l.store tt).blocks;
+}

@@ -1,0 +1,70 @@
+-- A cache over a store, read as one flat list of blocks.
+use Rattle.std.specs.Prelude.{◌≡◌, ℕ, ◌<◌, ◌%◌, List, length, map, slice_set, false, Some, unwrap_or}
+use Rattle.std.specs.List.{range_with_len}
+use Rattle.thy_base.specs.declared.block.Block.{Block}
+use Rattle.thy_base.specs.Bytes.{written}
+use Rattle.thy_base.specs.Device.{block_at}
+use Rattle.thy_cache.specs.declared.line.Line.{Line}
+use Rattle.thy_cache.specs.Ways.{Ways, line_at}
+use Rattle.thy_cache.specs.Contents.{Contents, set_at, peeked, hits}
+
+-- a block: its line where it hits, else the store's block
+abbrev pub flat_at : Contents → List Block → ℕ → Block
+flat_at c blocks b = unwrap_or (peeked c b) (block_at blocks b)
+
+-- every block of the store so read
+unfoldable pub flat : Contents → List Block → List Block
+flat c blocks = map (flat_at c blocks) (range_with_len 0 (length blocks))
+
+-- a block with bytes written over it from a byte on
+abbrev pub overwritten : ℕ → List ℕ → Block → Block
+overwritten at bytes block = record { 0 = written block.0 at bytes }
+
+-- a line of set s among so many is of one of the store's blocks, lies in its set, and is the store's block if it is clean
+pub record IsLineOf (sets : ℕ) (blocks : List Block) (s : ℕ) (line : Line) : Type 0 where
+  pub inside : line.at < length blocks
+  pub own_set : s ≡ line.at % sets
+  pub clean : line.dirty ≡ false → line.block ≡ block_at blocks line.at
+
+-- a set and a store agree
+pub record SetAgrees (sets : ℕ) (blocks : List Block) (s : ℕ) (set : Ways) : Type 0 where
+  pub lines : (w : ℕ) (line : Line) → line_at set w ≡ Some line → IsLineOf sets blocks s line
+  -- no block has two lines, since all its lines lie in its set
+  pub single : (w v : ℕ) (line other : Line) → line_at set w ≡ Some line → line_at set v ≡ Some other → line.at ≡ other.at → w ≡ v
+
+-- a cache and a store agree
+pub record Agrees (c : Contents) (blocks : List Block) : Type 0 where
+  pub sets : (s : ℕ) → SetAgrees (length c.sets) blocks s (set_at c s)
+
+-- each block has a line that holds what its line held, or none as before
+abbrev pub PeeksSame : Contents → Contents → Type 0
+PeeksSame old new = (x : ℕ) → peeked new x ≡ peeked old x
+
+-- the same blocks hit
+abbrev pub HitsSame : Contents → Contents → Type 0
+HitsSame old new = (x : ℕ) → hits new x ≡ hits old x
+
+-- the flat list is the same, over every store
+abbrev pub ReadsSame : Contents → Contents → Type 0
+ReadsSame old new = (blocks : List Block) → flat new blocks ≡ flat old blocks
+
+-- the flat list has this block, over every store
+abbrev pub ReadsAs : Contents → ℕ → Block → Type 0
+ReadsAs c b block = (blocks : List Block) → b < length blocks → block_at (flat c blocks) b ≡ block
+
+-- the flat list has these bytes of a block and is else the same, over every store
+abbrev pub WritesOver : ℕ → ℕ → List ℕ → Contents → Contents → Type 0
+WritesOver b at bytes old new = (blocks : List Block) → b < length blocks
+    → flat new blocks ≡ slice_set (flat old blocks) b (overwritten at bytes (block_at (flat old blocks) b))
+
+-- every store that agreed does so still
+abbrev pub AgreesStill : Contents → Contents → Type 0
+AgreesStill old new = (blocks : List Block) → Agrees old blocks → Agrees new blocks
+
+-- every store agrees
+abbrev pub AgreesWithAll : Contents → Type 0
+AgreesWithAll c = (blocks : List Block) → Agrees c blocks
+
+-- the flat list is the store's list, whatever the store
+abbrev pub ReadsAsStore : Contents → Type 0
+ReadsAsStore c = (blocks : List Block) → flat c blocks ≡ blocks

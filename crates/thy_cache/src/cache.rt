@@ -1,0 +1,391 @@
+//! The cache.
+ghost use Rattle.std.specs.Prelude.{◌≡◌, ◌<◌, ◌≤◌, ◌+◌, ◌↔◌, Ok, Some, true, false, if◌then◌else◌, length, position, is_some, IfOk, IfSome, IfNone, OnOk, OnErr};
+ghost use Rattle.thy_base.specs.Device.{block_at, CountsFault};
+ghost use Rattle.thy_base.specs.Store.{IsKeptByLoad};
+ghost use Rattle.thy_cache.specs.Ways.{is_dirty, line_at, victim_way, has_dirty};
+ghost use Rattle.thy_cache.specs.Contents.{Contents, empty_cache, set_at, set_of, index_of, victim_line_of, is_dirty_victim, cleaned_at, filled_with, evicted_for, stored_at, dirty_set, dirty_way, flushed_from, HasFlushed, CountsFlushed, StoresLine, CountsStored, line_of, peeked, hits, victim_of, dirty_count, read_from, written_at};
+ghost use Rattle.thy_cache.specs.Flat.{flat, Agrees, PeeksSame, HitsSame, ReadsSame, ReadsAs, AgreesWithAll, ReadsAsStore, WritesOver, AgreesStill};
+
+use crate::line::{Flushed, Line, Victim};
+use crate::ways::{WaySet, empty_sets};
+use std::alloc::{AllocError, Global};
+use std::marker::Model;
+use thy_base::{Block, BlockStore, NvmError, Stored};
+
+/// A write-back cache over a store of blocks. Block `b` belongs to set `b` modulo the number of sets.
+/// Only `new` takes memory.
+#[derive(Drop)]
+pub struct Cache {
+    sets: Vec<WaySet>,
+    dirty: u64,
+}
+
+impl Model for Cache {
+    ghost use Rattle.thy_cache.specs.Contents.{Contents, IsSound};
+
+    ghost Value = { Contents };
+
+    ghost view = { λ c. record { sets = c.sets.items } };
+
+    ghost invariant = { λ c. IsSound c.sets.items c.dirty };
+}
+
+impl Cache {
+    /// A cache without lines, of so many sets of so many ways each.
+    pub fn new(alloc: Global, sets: u64, ways: u64) -> Result<Cache, AllocError>
+        requires sets { 0 < sets }
+        requires ways { 0 < ways }
+        ensures cache { IfOk result (λ cache. cache ≡ empty_cache sets ways) }
+        ensures dirty { IfOk result (λ cache. dirty_count cache ≡ 0) }
+
+        // It agrees with every store, and reads as that store.
+        ensures agree { IfOk result (λ cache. AgreesWithAll cache) }
+        ensures flat { IfOk result (λ cache. ReadsAsStore cache) }
+    {
+        // More ways than a number can count do not fit into memory.
+        if sets.checked_mul(ways).is_none() {
+            return Err(AllocError);
+        }
+        let sets = empty_sets(alloc, sets, ways as usize)?;
+        Ok(Cache { sets, dirty: 0 })
+    }
+
+    /// The number of the set of block `b`.
+    fn index_of(&self, b: u64) -> usize
+        ensures index { result ≡ index_of self.now b }
+        ensures inside { result < length self.now.sets }
+    {
+        (b % self.sets.len() as u64) as usize
+    }
+
+    /// The line of block `b`.
+    fn line_of(&self, b: u64) -> Option<Line>
+        ensures { result ≡ line_of self.now b }
+    {
+        let set = self.index_of(b);
+        self.sets[set].line_of(b)
+    }
+
+    /// Whether the cache has a line of block `b`.
+    pub fn hit(&self, b: u64) -> bool
+        ensures { result ≡ hits self.now b }
+    {
+        self.line_of(b).is_some()
+    }
+
+    /// What the line of block `b` holds, where there is one. It does not count as a use.
+    pub fn peek(&self, b: u64) -> Option<Block>
+        ensures block { result ≡ peeked self.now b }
+        ensures hit { is_some result ≡ hits self.now b }
+    {
+        match self.line_of(b) {
+            Some(line) => Some(line.block),
+            None => None,
+        }
+    }
+
+    /// How many lines are dirty.
+    pub fn dirty(&self) -> u64
+        ensures { result ≡ dirty_count self.now }
+    {
+        self.dirty
+    }
+
+    /// What has to happen before block `b` can be filled in.
+    pub fn victim(&self, b: u64) -> Victim
+        ensures { result ≡ victim_of self.now b }
+    {
+        let set = self.index_of(b);
+        let ways = &self.sets[set];
+        match ways.line(ways.victim()) {
+            Some(line) if line.dirty => Victim::Dirty(line.at),
+            _ => Victim::Room,
+        }
+    }
+
+    /// Notes that the line of block `b` was used.
+    fn touch(&mut self, b: u64)
+        ensures cache { self.new ≡ read_from b self.old }
+        ensures inside { index_of self.old b < length self.old.sets }
+    {
+        let set = self.index_of(b);
+        self.sets[set].touch_block(b);
+    }
+
+    /// Block `b`, which hits. Its line is now the most recently used of its set.
+    pub fn read(&mut self, b: u64) -> Block
+        requires { hits self.old b ≡ true }
+        ensures block { peeked self.old b ≡ Some result }
+        ensures reads { ReadsAs self.old b result }
+        ensures cache { self.new ≡ read_from b self.old }
+
+        // No line changes.
+        ensures peeks { PeeksSame self.old self.new }
+        ensures hits { HitsSame self.old self.new }
+        ensures flat { ReadsSame self.old self.new }
+        ensures agree { AgreesStill self.old self.new }
+        ensures dirty { dirty_count self.new ≡ dirty_count self.old }
+    {
+        let line = self.line_of(b);
+        self.touch(b);
+        match line {
+            Some(line) => line.block,
+            None => unreachable!(),
+        }
+    }
+
+    /// Writes bytes over block `b`, which hits, from byte `at` on. Its line is dirty then, and the
+    /// most recently used of its set.
+    pub fn write(&mut self, b: u64, at: u64, bytes: &[u8])
+        requires hit { hits self.old b ≡ true }
+        requires within { at + length bytes.now ≤ 64 }
+        ensures cache { self.new ≡ written_at b at bytes.now self.old }
+
+        // These bytes of the flat list change, and nothing else.
+        ensures flat { WritesOver b at bytes.now self.old self.new }
+        ensures hits { HitsSame self.old self.new }
+        ensures agree { AgreesStill self.old self.new }
+        ensures dirty { dirty_count self.new + (if is_dirty (line_of self.old b) then 1 else 0) ≡ dirty_count self.old + 1 }
+    {
+        self.write_line(b, at as usize, bytes);
+    }
+
+    /// Writes bytes over the line of block `b`, which hits, from byte `at` on.
+    fn write_line(&mut self, b: u64, at: usize, bytes: &[u8])
+        requires hit { hits self.old b ≡ true }
+        requires within { at + length bytes.now ≤ 64 }
+        ensures cache { self.new ≡ written_at b at bytes.now self.old }
+        ensures inside { index_of self.old b < length self.old.sets }
+    {
+        let was_dirty = self.is_dirty(b);
+        let set = self.index_of(b);
+        self.sets[set].write(b, at, bytes);
+        if !was_dirty {
+            self.dirty += 1;
+        }
+    }
+
+    /// Whether the line of block `b` is dirty.
+    fn is_dirty(&self, b: u64) -> bool
+        ensures { result ≡ is_dirty (line_of self.now b) }
+    {
+        match self.line_of(b) {
+            Some(line) => line.dirty,
+            None => false,
+        }
+    }
+
+    /// Puts block `b` in the place of its victim, clean.
+    fn place(&mut self, b: u64, block: &Block)
+        requires { is_dirty (victim_line_of self.old b) ≡ false }
+        ensures cache { self.new ≡ filled_with b block.now self.old }
+        ensures inside { index_of self.old b < length self.old.sets }
+        ensures way { victim_way (set_of self.old b) < length (set_of self.old b).lines }
+    {
+        let set = self.index_of(b);
+        let _way = self.sets[set].victim();
+        self.sets[set].fill(b, block);
+    }
+
+    /// Loads block `b`, which does not hit, into its set, where there is room for it. Where the store
+    /// fails nothing has changed here.
+    pub fn fill<N, S: BlockStore<N>>(
+        &mut self,
+        b: u64,
+        store: &mut S,
+        nvm: &mut N,
+    ) -> Result<(), NvmError>
+        requires inside { b < length (S.holding store.old nvm.old).blocks }
+        requires miss { hits self.old b ≡ false }
+        requires room { victim_of self.old b ≡ Victim.Room }
+        requires agree { Agrees self.old (S.holding store.old nvm.old).blocks }
+        ensures cache { OnOk result (self.new ≡ filled_with b (block_at (S.holding store.old nvm.old).blocks b) self.old) }
+        ensures same { OnOk result (S.holding store.new nvm.new ≡ S.holding store.old nvm.old) }
+        ensures err { OnErr result (self.new ≡ self.old) }
+
+        // The flat list is as before, and the block hits now.
+        ensures hit { OnOk result (hits self.new b ≡ true) }
+        ensures flat { OnOk result (flat self.new (S.holding store.new nvm.new).blocks ≡ flat self.old (S.holding store.old nvm.old).blocks) }
+        ensures agree { OnOk result (Agrees self.new (S.holding store.new nvm.new).blocks) }
+        ensures dirty { dirty_count self.new ≡ dirty_count self.old }
+
+        ensures kept { IsKeptByLoad (S.holding store.old nvm.old) (S.holding store.new nvm.new) }
+        ensures stays { S.stays store.old nvm.old store.new nvm.new }
+        ensures cause { CountsFault result (S.holding store.old nvm.old).faults (S.holding store.new nvm.new).faults }
+    {
+        let block = store.load(b, nvm)?;
+        self.place(b, &block);
+        Ok(())
+    }
+
+    /// The line in a way of a set.
+    fn line_at(&self, set: usize, way: usize) -> Line
+        requires set { set < length self.now.sets }
+        requires dirty { is_dirty (line_at (set_at self.now set) way) ≡ true }
+        ensures { line_at (set_at self.now set) way ≡ Some result }
+    {
+        let ways = &self.sets[set];
+        match ways.line(way) {
+            Some(line) => line,
+            None => unreachable!(),
+        }
+    }
+
+    /// Notes that the store has the dirty line in a way of a set.
+    fn clean(&mut self, set: usize, way: usize)
+        requires set { set < length self.old.sets }
+        requires dirty { is_dirty (line_at (set_at self.old set) way) ≡ true }
+        ensures { self.new ≡ cleaned_at set way self.old }
+    {
+        self.sets[set].clean(way);
+        self.dirty -= 1;
+    }
+
+    /// Stores the dirty line in a way of a set, or makes the copy that has to go first.
+    fn store_line<N, S: BlockStore<N>>(
+        &mut self,
+        set: usize,
+        way: usize,
+        store: &mut S,
+        nvm: &mut N,
+    ) -> Result<Stored, NvmError>
+        requires set { set < length self.old.sets }
+        requires dirty { is_dirty (line_at (set_at self.old set) way) ≡ true }
+        requires agree { Agrees self.old (S.holding store.old nvm.old).blocks }
+        requires ready { (S.holding store.old nvm.old).ready ≡ true }
+        requires room { dirty_count self.old ≤ (S.holding store.old nvm.old).free }
+        ensures cache { IfOk result (λ stored. self.new ≡ stored_at stored set way self.old) }
+        ensures store { IfOk result (λ stored. StoresLine stored (line_at (set_at self.old set) way) (S.holding store.old nvm.old) (S.holding store.new nvm.new)) }
+        ensures err { OnErr result (self.new ≡ self.old) }
+
+        ensures peeks { PeeksSame self.old self.new }
+        ensures hits { HitsSame self.old self.new }
+        ensures flat { OnOk result (flat self.new (S.holding store.new nvm.new).blocks ≡ flat self.old (S.holding store.old nvm.old).blocks) }
+        ensures agree { OnOk result (Agrees self.new (S.holding store.new nvm.new).blocks) }
+        ensures dirty { IfOk result (λ stored. CountsStored stored (dirty_count self.old) (dirty_count self.new)) }
+
+        ensures stays { S.stays store.old nvm.old store.new nvm.new }
+        ensures cause { CountsFault result (S.holding store.old nvm.old).faults (S.holding store.new nvm.new).faults }
+    {
+        let line = self.line_at(set, way);
+        match store.store(line.at, &line.block, nvm)? {
+            Stored::Done => {
+                self.clean(set, way);
+                Ok(Stored::Done)
+            }
+            Stored::CopyFirst => Ok(Stored::CopyFirst),
+        }
+    }
+
+    /// Stores the line that stands in the way of block `b`, which is dirty, or makes the copy that has
+    /// to go first. Where the line was stored it is clean then, and stays.
+    pub fn evict<N, S: BlockStore<N>>(
+        &mut self,
+        b: u64,
+        store: &mut S,
+        nvm: &mut N,
+    ) -> Result<Stored, NvmError>
+        requires dirty { is_dirty_victim (victim_of self.old b) ≡ true }
+        requires agree { Agrees self.old (S.holding store.old nvm.old).blocks }
+        requires ready { (S.holding store.old nvm.old).ready ≡ true }
+        requires room { dirty_count self.old ≤ (S.holding store.old nvm.old).free }
+        ensures cache { IfOk result (λ stored. self.new ≡ evicted_for stored b self.old) }
+        ensures store { IfOk result (λ stored. StoresLine stored (victim_line_of self.old b) (S.holding store.old nvm.old) (S.holding store.new nvm.new)) }
+        ensures err { OnErr result (self.new ≡ self.old) }
+        ensures room { result ≡ Ok Stored.Done → victim_of self.new b ≡ Victim.Room }
+
+        // What the lines hold stays, and the flat list is as before.
+        ensures peeks { PeeksSame self.old self.new }
+        ensures hits { HitsSame self.old self.new }
+        ensures flat { OnOk result (flat self.new (S.holding store.new nvm.new).blocks ≡ flat self.old (S.holding store.old nvm.old).blocks) }
+        ensures agree { OnOk result (Agrees self.new (S.holding store.new nvm.new).blocks) }
+        ensures dirty { IfOk result (λ stored. CountsStored stored (dirty_count self.old) (dirty_count self.new)) }
+
+        ensures stays { S.stays store.old nvm.old store.new nvm.new }
+        ensures cause { CountsFault result (S.holding store.old nvm.old).faults (S.holding store.new nvm.new).faults }
+    {
+        let (set, way) = self.victim_place(b);
+        self.store_line(set, way, store, nvm)
+    }
+
+    /// The set of block `b`, and the way in it for the next line.
+    fn victim_place(&self, b: u64) -> (usize, usize)
+        ensures set { result.0 ≡ index_of self.now b }
+        ensures inside { result.0 < length self.now.sets }
+        ensures way { result.1 ≡ victim_way (set_of self.now b) }
+    {
+        let set = self.index_of(b);
+        (set, self.sets[set].victim())
+    }
+
+    /// Stores the first dirty line by set, then way, or makes the copy that has to go first, or answers
+    /// that no line is dirty. No line leaves.
+    pub fn flush_one<N, S: BlockStore<N>>(
+        &mut self,
+        store: &mut S,
+        nvm: &mut N,
+    ) -> Result<Flushed, NvmError>
+        requires agree { Agrees self.old (S.holding store.old nvm.old).blocks }
+        requires ready { (S.holding store.old nvm.old).ready ≡ true }
+        requires room { dirty_count self.old ≤ (S.holding store.old nvm.old).free }
+        ensures cache { IfOk result (λ flushed. self.new ≡ flushed_from flushed self.old) }
+        ensures store { IfOk result (λ flushed. HasFlushed flushed self.old (S.holding store.old nvm.old) (S.holding store.new nvm.new)) }
+        ensures err { OnErr result (self.new ≡ self.old) }
+
+        // Once no line is dirty the store's list is the flat list.
+        ensures clean { (result ≡ Ok Flushed.Clean) ↔ (dirty_count self.old ≡ 0) }
+        ensures written { result ≡ Ok Flushed.Clean → flat self.new (S.holding store.new nvm.new).blocks ≡ (S.holding store.new nvm.new).blocks }
+
+        // What the lines hold stays, and the flat list is as before.
+        ensures peeks { PeeksSame self.old self.new }
+        ensures hits { HitsSame self.old self.new }
+        ensures flat { OnOk result (flat self.new (S.holding store.new nvm.new).blocks ≡ flat self.old (S.holding store.old nvm.old).blocks) }
+        ensures agree { OnOk result (Agrees self.new (S.holding store.new nvm.new).blocks) }
+        ensures dirty { IfOk result (λ flushed. CountsFlushed flushed (dirty_count self.old) (dirty_count self.new)) }
+
+        ensures stays { S.stays store.old nvm.old store.new nvm.new }
+        ensures cause { CountsFault result (S.holding store.old nvm.old).faults (S.holding store.new nvm.new).faults }
+    {
+        let Some((set, way)) = self.dirty_place() else {
+            return Ok(Flushed::Clean);
+        };
+        match self.store_line(set, way, store, nvm)? {
+            Stored::Done => Ok(Flushed::Line),
+            Stored::CopyFirst => Ok(Flushed::CopyFirst),
+        }
+    }
+
+    /// The set and the way of the first dirty line.
+    fn dirty_place(&self) -> Option<(usize, usize)>
+        ensures none { IfNone result (dirty_count self.now ≡ 0) }
+        ensures some { IfSome result (λ place. 0 < dirty_count self.now) }
+        ensures set { IfSome result (λ place. place.0 ≡ dirty_set self.now) }
+        ensures inside { IfSome result (λ place. place.0 < length self.now.sets) }
+        ensures way { IfSome result (λ place. place.1 ≡ dirty_way self.now) }
+        ensures dirty { IfSome result (λ place. is_dirty (line_at (set_at self.now place.0) place.1) ≡ true) }
+    {
+        match self.dirty_set() {
+            None => None,
+            Some(set) => match self.dirty_way(set) {
+                Some(way) => Some((set, way)),
+                None => None,
+            },
+        }
+    }
+
+    /// The first way of a set whose line is dirty.
+    fn dirty_way(&self, set: usize) -> Option<usize>
+        requires { set < length self.now.sets }
+        ensures { result ≡ position is_dirty (set_at self.now set).lines }
+    {
+        self.sets[set].dirty_way()
+    }
+
+    /// The first set with a dirty line.
+    fn dirty_set(&self) -> Option<usize>
+        ensures set { result ≡ position has_dirty self.now.sets }
+        ensures inside { IfSome result (λ set. set < length self.now.sets) }
+    {
+        self.sets.iter().position(|set| set.has_dirty())
+    }
+}

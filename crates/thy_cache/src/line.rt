@@ -1,0 +1,34 @@
+//! What a cache holds of a block.
+
+use thy_base::Block;
+
+/// A block that a cache holds.
+#[derive(Clone, Copy, Debug, PartialEq, Eq)]
+pub struct Line {
+    /// Which block it is.
+    pub at: u64,
+    /// What it holds.
+    pub block: Block,
+    /// It was written to, and its store does not have it yet.
+    pub dirty: bool,
+}
+
+/// What has to happen before a block can be filled into its set.
+#[derive(Clone, Copy, Debug, PartialEq, Eq)]
+pub enum Victim {
+    /// Nothing: a way is empty, or the line that goes is clean.
+    Room,
+    /// The line of this block has to be stored.
+    Dirty(u64),
+}
+
+/// How one step of a flush ended.
+#[derive(Clone, Copy, Debug, PartialEq, Eq)]
+pub enum Flushed {
+    /// No line is dirty.
+    Clean,
+    /// A dirty line was stored.
+    Line,
+    /// A copy went first, and no line was stored.
+    CopyFirst,
+}

@@ -1,0 +1,256 @@
+//! One set of a cache.
+ghost use Rattle.std.specs.Prelude.{◌≡◌, ◌<◌, ◌≤◌, ◌+◌, ◌==◌, ◌++◌, [], ◌∷◌, length, replicate, remove, position, is_none, IfOk, IfSome};
+ghost use Rattle.std.specs.List.{range_with_len};
+ghost use Rattle.std.specs.Option.{option_map};
+ghost use Rattle.thy_base.specs.Bytes.{written};
+ghost use Rattle.thy_cache.specs.Ways.{is_dirty, has_dirty, empty_ways, line_at, line_in, way_of, used, used_for, with_line, over_line, clean, changed, written_to, filled, victim_way};
+
+use crate::line::Line;
+use std::alloc::{AllocError, Global};
+use std::marker::Model;
+use thy_base::Block;
+
+/// A set: as many ways as it was made with, each with at most one line, and the order in which they
+/// were last used.
+#[derive(Drop)]
+pub(crate) struct WaySet {
+    lines: Vec<Option<Line>>,
+    order: Vec<usize>,
+}
+
+impl Model for WaySet {
+    ghost use Rattle.thy_cache.specs.Ways.{Ways, IsSound};
+
+    ghost Value = { Ways };
+
+    ghost view = { λ s. record { lines = s.lines.items; order = s.order.items } };
+
+    ghost invariant = { λ s. IsSound s.lines.items s.order.items };
+}
+
+/// Takes the way at a place of the order and puts it, now `way`, at its end.
+fn move_last(order: &mut Vec<usize>, at: usize, way: usize)
+    requires { at < length order.old.items }
+    ensures { order.new.items ≡ remove order.old.items at ++ way ∷ [] }
+{
+    order.remove(at);
+    order.push_reserved(way);
+}
+
+/// Ways without lines.
+fn no_lines(alloc: Global, ways: usize) -> Result<Vec<Option<Line>>, AllocError>
+    ensures { IfOk result (λ lines. lines.items ≡ replicate ways None) }
+{
+    let mut lines = Vec::with_capacity(alloc, ways)?;
+    lines.resize(ways, None)?;
+    Ok(lines)
+}
+
+/// The ways from 0 on.
+fn rising(alloc: Global, ways: usize) -> Result<Vec<usize>, AllocError>
+    ensures { IfOk result (λ order. order.items ≡ range_with_len 0 ways) }
+{
+    let mut order = Vec::with_capacity(alloc, ways)?;
+    for way in 0..ways {
+        order.push(way)?;
+    }
+    Ok(order)
+}
+
+impl WaySet {
+    /// So many ways without lines.
+    pub(crate) fn new(alloc: Global, ways: usize) -> Result<WaySet, AllocError>
+        requires { 0 < ways }
+        ensures { IfOk result (λ set. set ≡ empty_ways ways) }
+    {
+        let lines = no_lines(alloc, ways)?;
+        let order = rising(alloc, ways)?;
+        Ok(WaySet { lines, order })
+    }
+
+    /// The way that has a line of block `b`.
+    pub(crate) fn way_of(&self, b: u64) -> Option<usize>
+        ensures { result ≡ way_of self.now b }
+    {
+        self.lines
+            .iter()
+            .position(|way| matches!(way, Some(line) if line.at == b))
+    }
+
+    /// The first way whose line is dirty.
+    pub(crate) fn dirty_way(&self) -> Option<usize>
+        ensures { result ≡ position is_dirty self.now.lines }
+    {
+        self.lines
+            .iter()
+            .position(|way| matches!(way, Some(line) if line.dirty))
+    }
+
+    /// Whether some line is dirty.
+    pub(crate) fn has_dirty(&self) -> bool
+        ensures { result ≡ has_dirty self.now }
+    {
+        self.dirty_way().is_some()
+    }
+
+    /// The lowest way without a line.
+    fn empty_way(&self) -> Option<usize>
+        ensures way { result ≡ position is_none self.now.lines }
+        ensures inside { IfSome result (λ way. way < length self.now.lines) }
+    {
+        self.lines.iter().position(|way| way.is_none())
+    }
+
+    /// The way for the next line: the lowest empty one, else the least recently used.
+    pub(crate) fn victim(&self) -> usize
+        ensures way { result ≡ victim_way self.now }
+        ensures inside { result < length self.now.lines }
+    {
+        match self.empty_way() {
+            Some(way) => way,
+            None => self.order[0],
+        }
+    }
+
+    /// The line in a way.
+    pub(crate) fn line(&self, way: usize) -> Option<Line>
+        requires { way < length self.now.lines }
+        ensures { result ≡ line_at self.now way }
+    {
+        self.lines[way]
+    }
+
+    /// The place of a way in the order.
+    fn place_of(&self, way: usize) -> Option<usize>
+        ensures place { result ≡ position (λ other. other == way) self.now.order }
+        ensures inside { IfSome result (λ at. at < length self.now.order) }
+    {
+        self.order.iter().position(|other| *other == way)
+    }
+
+    /// Notes that a way was used.
+    pub(crate) fn touch(&mut self, way: usize)
+        requires { way < length self.old.lines }
+        ensures { self.new ≡ used way self.old }
+    {
+        if let Some(at) = self.place_of(way) {
+            move_last(&mut self.order, at, way);
+        }
+    }
+
+    /// Puts a line into a way.
+    pub(crate) fn put(&mut self, way: usize, line: Line)
+        requires { way < length self.old.lines }
+        ensures { self.new ≡ with_line way line self.old }
+    {
+        self.lines[way] = Some(line);
+    }
+
+    /// The line of block `b`.
+    pub(crate) fn line_of(&self, b: u64) -> Option<Line>
+        ensures { result ≡ line_in self.now b }
+    {
+        match self.way_of(b) {
+            Some(way) => self.line(way),
+            None => None,
+        }
+    }
+
+    /// Notes that the line of block `b` was used.
+    pub(crate) fn touch_block(&mut self, b: u64)
+        ensures { self.new ≡ used_for b self.old }
+    {
+        if let Some(way) = self.way_of(b) {
+            self.touch(way);
+        }
+    }
+
+    /// Writes bytes over the line of block `b`, from byte `at` on.
+    pub(crate) fn write(&mut self, b: u64, at: usize, bytes: &[u8])
+        requires { at + length bytes.now ≤ 64 }
+        ensures { self.new ≡ written_to b at bytes.now self.old }
+    {
+        if let Some(way) = self.way_of(b) {
+            self.touch(way);
+            self.change(way, at, bytes);
+        }
+    }
+
+    /// Writes bytes over the line in a way, from byte `at` on.
+    fn change(&mut self, way: usize, at: usize, bytes: &[u8])
+        requires way { way < length self.old.lines }
+        requires bytes { at + length bytes.now ≤ 64 }
+        ensures { self.new ≡ over_line (changed at bytes.now) way self.old }
+    {
+        self.lines[way] = changed(self.lines[way], at, bytes);
+    }
+
+    /// Notes that the store has the line in a way.
+    pub(crate) fn clean(&mut self, way: usize)
+        requires { way < length self.old.lines }
+        ensures { self.new ≡ over_line clean way self.old }
+    {
+        self.lines[way] = cleaned(self.lines[way]);
+    }
+
+    /// Puts block `b` in the place of the victim.
+    pub(crate) fn fill(&mut self, b: u64, block: &Block)
+        ensures { self.new ≡ filled b block.now self.old }
+    {
+        let way = self.victim();
+        self.touch(way);
+        let line = Line {
+            at: b,
+            block: *block,
+            dirty: false,
+        };
+        self.put(way, line);
+    }
+}
+
+/// So many sets of so many ways without lines.
+pub(crate) fn empty_sets(alloc: Global, sets: u64, ways: usize) -> Result<Vec<WaySet>, AllocError>
+    requires { 0 < ways }
+    ensures { IfOk result (λ all. all.items ≡ replicate sets (empty_ways ways)) }
+{
+    let mut all = Vec::with_capacity(alloc, sets as usize)?;
+    for _set in 0..sets {
+        all.push(WaySet::new(alloc, ways)?)?;
+    }
+    Ok(all)
+}
+
+/// A line as its store has it now.
+fn cleaned(line: Option<Line>) -> Option<Line>
+    ensures { result ≡ option_map clean line }
+{
+    line.map(|line| Line {
+        dirty: false,
+        ..line
+    })
+}
+
+/// A line with bytes written over it from byte `at` on.
+fn changed(line: Option<Line>, at: usize, bytes: &[u8]) -> Option<Line>
+    requires { at + length bytes.now ≤ 64 }
+    ensures { result ≡ option_map (changed at bytes.now) line }
+{
+    match line {
+        Some(line) => Some(Line {
+            at: line.at,
+            block: overwritten(line.block, at, bytes),
+            dirty: true,
+        }),
+        None => None,
+    }
+}
+
+/// A block with bytes written over it from byte `at` on.
+fn overwritten(block: Block, at: usize, bytes: &[u8]) -> Block
+    requires { at + length bytes.now ≤ 64 }
+    ensures { result ≡ record { 0 = written block.0 at bytes.now } }
+{
+    let mut block = block;
+    block.0[at..at + bytes.len()].copy_from_slice(bytes);
+    block
+}
