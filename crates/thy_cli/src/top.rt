@@ -191,10 +191,10 @@ fn run_command<H: Shelf, T: Sink, R: Sink, N: Nvm>(
     report: &mut R,
     nvm: &mut N,
 ) -> Answer {
-    let Command::Run {
-        file,
-        input: _,
-        config,
-    } = command;
-    run_file(alloc, file.as_str(), &config, shelf, terminal, report, nvm)
+    match command {
+        Command::Run { file, config, .. } => {
+            run_file(alloc, file.as_str(), &config, shelf, terminal, report, nvm)
+        }
+        Command::Plain { .. } => closed(alloc, 2, Closing::Usage, report),
+    }
 }
