@@ -1,7 +1,7 @@
 -- Steps one after another, while the program runs.
-use Rattle.std.proofs.Common.{◌≡◌, ℕ, ◌+◌, ◌<◌, ◌≤◌, Bool, true, false, refl, ap, sym, subst, ◌∙◌, arith}
+use Rattle.std.proofs.Common.{◌≡◌, ℕ, ◌+◌, ◌<◌, ◌≤◌, true, false, ap, sym, ◌∙◌, arith}
 use borrow.Author.Count.{below_more}
-use Rattle.thy_isa.specs.Step.{State, Setting, is_running, step, steps}
+use Rattle.thy_isa.specs.Step.{State, is_running, steps}
 use Rattle.thy_isa.proofs.StepLaws.{steps-zero, steps-one_more, steps-count}
 use Rattle.thy_plain.specs.Machine.{Machine, after_steps, stepped, StopsAt}
 

@@ -1,5 +1,5 @@
 -- What the command that is named asks for.
-use Rattle.std.proofs.Common.{◌≡◌, Bool, true, false, cond, refl, sym, subst, ap, ap₂, ◌∙◌, List, Option, Some, None, Result, Err, codes, option_map}
+use Rattle.std.proofs.Common.{◌≡◌, Bool, true, false, cond, refl, sym, subst, ap₂, List, Option, Some, None, Result, Err, codes, option_map}
 use Rattle.std.specs.Box.{box_value}
 use Rattle.std.specs.Str.{bytes_eq}
 use Rattle.clap.specs.Matches.{subcommand_name_of}
@@ -7,7 +7,7 @@ use Rattle.clap.specs.Simple.{subcommand_rows, subcommand_rows_of}
 use Rattle.clap.specs.Walk.{Row, Text}
 use Rattle.clap.specs.declared.parser.matches.ArgMatches.{ArgMatches}
 use Rattle.clap.specs.declared.parser.matches.ArgMatches.TheViews.{out-ArgMatches, out-SubCommand}
-use Rattle.thy_words.specs.Settings.{Answers, Order, job_in, order_named, order_with, plain, run}
+use Rattle.thy_words.specs.Settings.{Answers, job_in, order_named, order_with, plain, run}
 use Rattle.thy_words.specs.declared.words.Command.{Command}
 use Rattle.thy_words.specs.declared.words.WordsError.{WordsError}
 use Rattle.thy_words.specs.declared.words.WordsError.TheVariants.{Usage}

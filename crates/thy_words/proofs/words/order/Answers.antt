@@ -1,4 +1,4 @@
-use Rattle.std.proofs.Common.{◌≡◌, ◌∙◌, sym, true, false}
+use Rattle.std.proofs.Common.{◌∙◌, sym}
 use Rattle.clap.specs.Simple.{subcommand_rows_of}
 use Rattle.thy_words.proofs.Naming.{found_by, name_found, names_plain, names_run}
 use Rattle.thy_words.proofs.words.order.Goals as goal
