@@ -1,17 +1,23 @@
 #!/usr/bin/env python3
-"""Makes the table of instruction vectors in crates/thy_isa/src/vectors.rt.
+"""Makes the tables of instruction vectors, crates/thy_isa/src/vector_rows.rt: prints that file.
+
+    python3 docs/vectors/instructions.py > crates/thy_isa/src/vector_rows.rt   (then rt fmt in that crate)
 
 Needs the Debian packages binutils-riscv64-unknown-elf and qemu-user. Each instruction is assembled by
-riscv64-unknown-elf-as; its expected number is what qemu-riscv64 computes for it. Prints the table.
+riscv64-unknown-elf-as; what is expected of it is what qemu-riscv64 does with it.
 
-A row is (word, a, b, expected): x5 and x31 hold a, x6 holds b, every other register is 0, and pc is 65536.
-The expected number is
-- for an operation, an upper immediate or a link: the number that rd gets (0 where rd is x0);
-- for a branch and JAL: the next pc;
+A row of VECTORS is (word, a, b, expected): x5 and x31 hold a, x6 holds b, every other register is 0, and pc is
+65536. The expected number is
+- for an operation, an upper immediate, or a jump to the next instruction: the number that rd gets (0 where rd is x0);
+- for a branch, a jump elsewhere and a fence: the next pc;
 - for a load at offset 0 from x5: what rd gets where the eight bytes at that address are b;
 - for a store of x6 at offset 0 from x5: the eight bytes at that address afterwards, where they were all 0xaa.
+
+A row of EXITS is (word, a7, a0, value): the environment call ends the program with that value. A row of ANSWERS is
+(word, a7, a0, answer): it names no call, and the answer is what a0 gets. A word of BREAKS ends the program by a
+breakpoint.
 """
-import os, re, struct, subprocess, sys, tempfile
+import os, signal, struct, subprocess, tempfile
 
 M = (1 << 64) - 1
 MIN, MIN32 = 1 << 63, 1 << 31
@@ -35,6 +41,14 @@ def word_of(directory, text):
     raw = os.path.join(directory, "a.bin")
     run("riscv64-unknown-elf-objcopy", "-O", "binary", "-j", ".text", obj, raw)
     return struct.unpack("<I", open(raw, "rb").read()[:4])[0]
+
+
+def ended(directory, code):
+    """How a program of this code ends, by qemu: its exit value, or the signal as a negative number."""
+    obj = assembled(directory, ".globl _start\n_start:\n" + code)
+    exe = os.path.join(directory, "a.elf")
+    run("riscv64-unknown-elf-ld", "-Ttext=0x10000", "-o", exe, obj)
+    return subprocess.run(["qemu-riscv64", exe], capture_output=True).returncode
 
 
 def observed(directory, pieces):
@@ -104,6 +118,21 @@ def rows(d):
     ]
     for text, code in links:
         codes.append(set_up(0, 0) + code)
+    # a jump through x5: how far from x5 it lands, or, where it goes to the next instruction, the link
+    landings = [(off, odd) for off in (-2048, 2044) for odd in (0, 1)]
+    for off, odd in landings:
+        codes.append(
+            set_up(0, 0)
+            + f"la x5, 4f\naddi x5, x5, {-off // 2}\naddi x5, x5, {-off - (-off // 2)}\naddi x5, x5, {odd}\nmv x6, x5\n"
+            + f"jalr x8, {off}(x5)\nli x7, -1\nj 5f\n4: auipc x7, 0\nsub x7, x7, x6\n5:"
+        )
+    nexts = [("jalr x7, 0(x5)", 0), ("jalr x5, 0(x5)", 0), ("jalr x7, -3(x5)", 3)]
+    for text, over in nexts:
+        rd = text.split()[1].strip(",")
+        codes.append(set_up(0, 0) + f"la x8, 3f\naddi x5, x8, {4 + over}\n3: {text}\nsub x7, {rd}, x8")
+    fences = ["fence", "fence rw, w", "fence.tso", "fence.i"]
+    for text in fences:
+        codes.append(set_up(0, 0) + f"la x8, 3f\n3: {text}\nauipc x7, 0\nsub x7, x7, x8")
     seen = observed(d, codes)
     k = 0
     for text, a, b, code in cases:
@@ -116,13 +145,49 @@ def rows(d):
         out.append((text, word_of(d, text), a, b, seen[k])); k += 1
     for text, code in links:
         out.append((text, word_of(d, text), 0, 0, (PC + seen[k]) & M)); k += 1
+    for off, odd in landings:
+        text, a = f"jalr x7, {off}(x5)", PC + 0x1000 + odd
+        out.append((text, word_of(d, text), a, 0, (a + seen[k]) & M)); k += 1
+    for text, over in nexts:
+        out.append((text, word_of(d, text), PC + 4 + over, 0, (PC + seen[k]) & M)); k += 1
+    for text in fences:
+        out.append((text, word_of(d, text), 0, 0, (PC + seen[k]) & M)); k += 1
     for off in (-1048576, 1048572, 2048):
         text = f"jal x7, .{off:+d}"
         out.append((text, word_of(d, text), 0, 0, (PC + off) & M))
     return out
 
 
+def calls(d):
+    """The rows of EXITS, of ANSWERS and the words of BREAKS."""
+    ecall, ebreak = word_of(d, "ecall"), word_of(d, "ebreak")
+    exits = [(ecall, 93, a0, ended(d, f"li a0, {a0:#x}\nli a7, 93\necall\n")) for a0 in (7, 0x1FF, M - 1)]
+    answers = []
+    for a7, a0 in ((1000, 5), (M, 0)):
+        answers.append((ecall, a7, a0, observed(d, [f"li a0, {a0:#x}\nli a7, {a7:#x}\necall\nmv x7, a0"])[0]))
+    assert ended(d, "ebreak\n") == -signal.SIGTRAP
+    return exits, answers, [ebreak]
+
+
+def table(name, doc, kind, lines):
+    print(f"\n/// {doc}\npub(crate) const {name}: [{kind}; {len(lines)}] = [")
+    for line in lines:
+        print("    " + line)
+    print("];")
+
+
+def shown(row):
+    return "(" + ", ".join(f"0x{n:x}" if k else f"0x{n:08x}" for k, n in enumerate(row)) + ")"
+
+
 if __name__ == "__main__":
     with tempfile.TemporaryDirectory() as d:
-        for text, word, a, b, e in rows(d):
-            print(f"    (0x{word:08x}, 0x{a:x}, 0x{b:x}, 0x{e:x}), // {text}")
+        made = rows(d)
+        exits, answers, breaks = calls(d)
+    print("//! What an assembler and an emulator make of instructions: the output of `docs/vectors/instructions.py`, whose")
+    print("//! head says what each table is.")
+    row = "(u32, u64, u64, u64)"
+    table("EXITS", "Environment calls that end the program.", row, [shown(r) + "," for r in exits])
+    table("ANSWERS", "Environment calls by a number that names none.", row, [shown(r) + "," for r in answers])
+    table("BREAKS", "Breakpoints.", "u32", [f"0x{w:08x}," for w in breaks])
+    table("VECTORS", "Every other instruction.", row, [shown((w, a, b, e)) + f", // {text}" for text, w, a, b, e in made])

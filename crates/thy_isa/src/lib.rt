@@ -12,6 +12,8 @@ mod perform;
 mod regs;
 mod state;
 #[cfg(test)]
+mod vector_rows;
+#[cfg(test)]
 mod vectors;
 
 pub use arith::alu;

@@ -1,7 +1,8 @@
 -- Steps one after another, while the program runs.
-use Rattle.std.proofs.Common.{◌≡◌, ℕ, ◌+◌, ◌<◌, ◌≤◌, Bool, true, false, refl, ap, sym, subst, ◌∙◌, arith}
+use Rattle.std.proofs.Common.{◌≡◌, ℕ, ◌+◌, ◌<◌, ◌≤◌, true, false, inl, inr, ap, sym, ◌∙◌, arith}
+use Rattle.std.proofs.lemmas.Bool.{cases_order}
 use borrow.Author.Count.{below_more}
-use Rattle.thy_isa.specs.Step.{State, Setting, is_running, step, steps}
+use Rattle.thy_isa.specs.Step.{State, is_running, steps}
 use Rattle.thy_isa.proofs.StepLaws.{steps-zero, steps-one_more, steps-count}
 use Rattle.thy_plain.specs.Machine.{Machine, after_steps, stepped, StopsAt}
 
@@ -37,3 +38,19 @@ StopsAt-ended m now limit k h ran is over =
 -- it stopped at the limit
 pub StopsAt-limit : (m : Machine) (limit : ℕ) → Ran m limit → StopsAt m limit limit
 StopsAt-limit m limit ran = record { within = omega arith; ran = ran.each; over = λ h. absurd (omega arith) }
+
+earlier_runs : (m : Machine) (limit j k : ℕ) → StopsAt m limit j → StopsAt m limit k → j < k → ⊥
+earlier_runs m limit j k a b less =
+    let bound : k ≤ limit = b.within in
+    let below : j < limit = omega arith in
+    let runs : is_running (steps m.setting j m.state).status ≡ true = b.ran j less in
+    let over : is_running (steps m.setting j m.state).status ≡ false = a.over below in
+    let both : true ≡ false = sym runs ∙ over in
+    cc
+
+-- a run has one number of steps
+pub StopsAt-unique : (m : Machine) (limit j k : ℕ) → StopsAt m limit j → StopsAt m limit k → j ≡ k
+StopsAt-unique m limit j k a b = elim (cases_order j k) [
+  | inl same ↦ same
+  | inr other ↦ absurd (elim other [ | inl less ↦ earlier_runs m limit j k a b less | inr more ↦ earlier_runs m limit k j b a more ])
+]

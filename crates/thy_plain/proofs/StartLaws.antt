@@ -1,6 +1,5 @@
 -- What holds of the state at which a program starts: it has 32 registers, register 0 is 0, and it can be stored.
-use Rattle.std.proofs.Common.{◌≡◌, ℕ, ◌<◌, ◌≤◌, ◌^◌, [], length, replicate, slice_index, get_or, refl, arith}
-use Rattle.std.proofs.Math.ListN.{set}
+use Rattle.std.proofs.Common.{◌≡◌, ℕ, ◌<◌, ◌^◌, length, replicate, slice_index, refl, arith}
 use Rattle.std.specs.List.{All}
 use Rattle.std.proofs.lemmas.List.Elements.{All-set, All-nil, All-replicate}
 use Rattle.thy_base.specs.declared.config.Parameters.{Parameters}

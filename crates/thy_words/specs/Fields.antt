@@ -13,6 +13,10 @@ abbrev pub fields : List Field
 fields = Base ∷ Pages ∷ Console ∷ Epoch ∷ Btt ∷ Ptt ∷ Sets ∷ Ways ∷ Nvmq ∷ Dramq ∷ High ∷ Low
     ∷ Mix ∷ Cuts ∷ Tears ∷ Limit ∷ []
 
+-- those that `plain` has an option for
+abbrev pub plain_fields : List Field
+plain_fields = Base ∷ Pages ∷ Console ∷ Limit ∷ []
+
 -- the name of a field's option, and of the field in a refusal
 abbrev pub name_of : Field → Text
 name_of Base = codes "base"

@@ -3,9 +3,10 @@ use Rattle.std.specs.Prelude.{◌≡◌, ◌++◌, Some, true, false, List, [], 
 use Rattle.clap.specs.Walk.{Text}
 use Rattle.clap.specs.Simple.{App, app_of, new_app, new_rule, new_shape, with_rule}
 use Rattle.clap.specs.Simple.{with_subcommand}
+use Rattle.clap.specs.declared.builder.action.ArgAction.TheVariants.{SetTrue}
 use Rattle.clap.specs.declared.builder.command.Command.{Command}
 use Rattle.clap.specs.declared.builder.command.Command.TheViews.{out-Command}
-use Rattle.thy_words.specs.Fields.{fields, name_of}
+use Rattle.thy_words.specs.Fields.{fields, plain_fields, name_of}
 
 -- a name that has to stand in its place
 abbrev pub with_operand : App → Text → App
@@ -15,36 +16,54 @@ with_operand a name = with_rule a (record (new_rule name) { required = true })
 abbrev pub with_option : App → Text → App
 with_option a name = with_rule a (record (new_rule name) { long = Some name })
 
--- a command: its name, its operands in their order, and its options
+-- a flag `--name`, which stands at most once and takes no value
+abbrev pub with_flag : App → Text → App
+with_flag a name = with_rule a (record (new_rule name) { long = Some name; action = Some SetTrue })
+
+-- a command: its name, its operands in their order, its options and its flags
 pub record Form : Type 0 where
   pub name : Text
   pub operands : List Text
   pub options : List Text
+  pub flags : List Text
 
 abbrev pub app_of_form : Form → App
-app_of_form f = fold with_option (fold with_operand (new_app f.name) f.operands) f.options
+app_of_form f = fold with_flag (fold with_option (fold with_operand (new_app f.name) f.operands) f.options) f.flags
 
--- `run FILE` takes an option for each field of the configuration, and the input's name
+-- `run FILE` takes an option for each field of the configuration, the input's name, and whether digests are told
 abbrev pub run_form : Form
 run_form = record {
   name = codes "run";
   operands = codes "FILE" ∷ [];
   options = map name_of fields ++ codes "input" ∷ [];
+  flags = codes "digest" ∷ [];
+}
+
+-- `plain FILE` takes the same, but of the fields only those of memory and the limit
+abbrev pub plain_form : Form
+plain_form = record {
+  name = codes "plain";
+  operands = codes "FILE" ∷ [];
+  options = map name_of plain_fields ++ codes "input" ∷ [];
+  flags = codes "digest" ∷ [];
 }
 
 abbrev pub run_command : App
 run_command = app_of_form run_form
 
+abbrev pub plain_command : App
+plain_command = app_of_form plain_form
+
 -- the program: one of its commands has to be named, and no word asks for help
 abbrev pub program : App
-program = with_subcommand (record {
+program = with_subcommand (with_subcommand (record {
   top = record (new_shape (codes "thynvm")) {
     subcommand_required = true;
     disable_help_flag = true;
     disable_help_subcommand = true;
   };
   subs = [];
-}) run_command.top
+}) run_command.top) plain_command.top
 
 -- the command is this one, with no argument that its subcommands share
 pub record IsBuilt (c : Command) (a : App) : Type 0 where

@@ -1,19 +1,25 @@
 //! The program's command line as `clap` is told of it.
 ghost use Rattle.std.specs.Prelude.{◌≡◌, IfOk, fold, map};
 ghost use Rattle.clap.specs.Simple.{app_of};
-ghost use Rattle.thy_words.specs.Program.{IsBuilt, program, run_command, with_operand, with_option};
+ghost use Rattle.thy_words.specs.Program.{IsBuilt, program, run_command, plain_command, with_operand, with_option, with_flag};
 
-use clap::{Arg, Command};
+use clap::{Arg, ArgAction, Command};
 use std::alloc::{AllocError, Global};
 
-/// The operand of `run`: the name of the program file.
-pub(crate) static RUN_OPERANDS: [&str; 1] = ["FILE"];
+/// The operand of `run` and of `plain`: the name of the program file.
+static OPERANDS: [&str; 1] = ["FILE"];
+
+/// Their flag: whether digests of memory are told.
+static FLAGS: [&str; 1] = ["digest"];
 
 /// The options of `run`, each of which takes a value.
-pub(crate) static RUN_OPTIONS: [&str; 17] = [
+static RUN_OPTIONS: [&str; 17] = [
     "base", "pages", "console", "epoch", "btt", "ptt", "sets", "ways", "nvmq", "dramq", "high",
     "low", "mix", "cuts", "tears", "limit", "input",
 ];
+
+/// The options of `plain`, each of which takes a value.
+static PLAIN_OPTIONS: [&str; 5] = ["base", "pages", "console", "limit", "input"];
 
 fn with_operands<'a>(
     alloc: Global,
@@ -47,12 +53,42 @@ fn with_options<'a>(
     Ok(wider)
 }
 
+fn with_flags<'a>(
+    alloc: Global,
+    command: Command<'a>,
+    names: &'static [&'static str],
+) -> Result<Command<'a>, AllocError>
+    requires { IsBuilt command (app_of command) }
+    ensures { IfOk result (λ c. IsBuilt c
+        (fold with_flag (app_of command.entry) (map (λ s. s.now) names.entry.now))) }
+{
+    let mut wider = command;
+    for name in names {
+        wider = wider.arg(
+            Arg::new(alloc, *name)
+                .long(*name)
+                .action(ArgAction::SetTrue),
+        )?;
+    }
+    Ok(wider)
+}
+
 /// `run FILE`, with its options.
 fn run<'a>(alloc: Global) -> Result<Command<'a>, AllocError>
     ensures { IfOk result (λ c. IsBuilt c run_command) }
 {
-    let command = with_operands(alloc, Command::new(alloc, "run"), RUN_OPERANDS.as_slice())?;
-    with_options(alloc, command, RUN_OPTIONS.as_slice())
+    let command = with_operands(alloc, Command::new(alloc, "run"), OPERANDS.as_slice())?;
+    let command = with_options(alloc, command, RUN_OPTIONS.as_slice())?;
+    with_flags(alloc, command, FLAGS.as_slice())
+}
+
+/// `plain FILE`, with its options.
+fn plain<'a>(alloc: Global) -> Result<Command<'a>, AllocError>
+    ensures { IfOk result (λ c. IsBuilt c plain_command) }
+{
+    let command = with_operands(alloc, Command::new(alloc, "plain"), OPERANDS.as_slice())?;
+    let command = with_options(alloc, command, PLAIN_OPTIONS.as_slice())?;
+    with_flags(alloc, command, FLAGS.as_slice())
 }
 
 /// The program, with its commands. It answers no call for help or for a version.
@@ -63,5 +99,6 @@ pub(crate) fn thynvm<'a>(alloc: Global) -> Result<Command<'a>, AllocError>
         .subcommand_required(true)
         .disable_help_flag(true)
         .disable_help_subcommand(true)
-        .subcommand(run(alloc)?)
+        .subcommand(run(alloc)?)?
+        .subcommand(plain(alloc)?)
 }

@@ -4,7 +4,7 @@ use std::alloc::{AllocError, Global};
 use thy_base::Config;
 
 /// Words with a bar between each two, the program's name first, and what they ask for.
-static ROWS: [(&str, &str); 62] = [
+static ROWS: [(&str, &str); 74] = [
     // no command line
     ("thynvm", "usage"),
     ("thynvm|run", "usage"),
@@ -98,6 +98,28 @@ static ROWS: [(&str, &str); 62] = [
         "|run|F|--base|8192|--pages|8|--console|2|--epoch|3|--btt|16|--ptt|24|--sets|1|--ways|5|--nvmq|6|--dramq|7|--high|9|--low|8|--mix|10|--cuts|11|--tears|12|--limit|13|--input|I",
         "F in:I 8192 8 2 3 16 24 1 5 6 7 9 8 10 [11] [12] 13",
     ),
+    // digests, and the plain machine
+    (
+        "thynvm|run|F|--digest",
+        "digest F - 65536 256 1 10000 512 64 16 4 16 16 22 16 0 [] [] 1000000000",
+    ),
+    ("thynvm|run|F|--digest|--digest", "usage"),
+    ("thynvm|run|F|--digest=true", "usage"),
+    ("thynvm|run|--digest", "usage"),
+    (
+        "thynvm|plain|F",
+        "plain F - 65536 256 1 10000 512 64 16 4 16 16 22 16 0 [] [] 1000000000",
+    ),
+    (
+        "thynvm|plain|--digest|F|--limit|9|--base|8192|--console|2|--pages|8|--input|I",
+        "plain digest F in:I 8192 8 2 10000 512 64 16 4 16 16 22 16 0 [] [] 9",
+    ),
+    ("thynvm|plain", "usage"),
+    ("thynvm|plain|F|--epoch|9", "usage"),
+    ("thynvm|plain|F|--cuts|9", "usage"),
+    ("thynvm|plain|F|--limit|x", "word limit"),
+    ("thynvm|plain|F|--pages|8|--console|8", "value console 8"),
+    ("thynvm|run|plain|F", "usage"),
 ];
 
 /// A configuration in the order of its fields.
@@ -114,6 +136,14 @@ fn shown(alloc: Global, c: &Config) -> Result<String, AllocError> {
     )
 }
 
+/// The name of the input, or a dash for none.
+fn name_shown(alloc: Global, name: Option<String>) -> Result<String, AllocError> {
+    match name {
+        Some(name) => format!(in alloc; "in:{name}"),
+        None => String::from_str(alloc, "-"),
+    }
+}
+
 fn answer(alloc: Global, words: &[String]) -> Result<String, AllocError> {
     match settings(alloc, words) {
         Ok(
@@ -121,13 +151,24 @@ fn answer(alloc: Global, words: &[String]) -> Result<String, AllocError> {
                 file,
                 input,
                 config,
+                digest,
             },
         ) => {
-            let input = match input {
-                Some(name) => format!(in alloc; "in:{name}")?,
-                None => String::from_str(alloc, "-")?,
-            };
-            format!(in alloc; "{file} {input} {}", shown(alloc, &config)?)
+            let told = if digest { "digest " } else { "" };
+            let input = name_shown(alloc, input)?;
+            format!(in alloc; "{told}{file} {input} {}", shown(alloc, &config)?)
+        }
+        Ok(
+            Command::Plain {
+                file,
+                input,
+                config,
+                digest,
+            },
+        ) => {
+            let told = if digest { "digest " } else { "" };
+            let input = name_shown(alloc, input)?;
+            format!(in alloc; "plain {told}{file} {input} {}", shown(alloc, &config)?)
         }
         Err(WordsError::Usage) => String::from_str(alloc, "usage"),
         Err(WordsError::Word(field)) => format!(in alloc; "word {}", name_of(field)),

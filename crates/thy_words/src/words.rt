@@ -6,10 +6,10 @@ ghost use Rattle.clap.specs.Simple.{subcommand_rows_of};
 ghost use Rattle.clap.specs.Values.{kind_of};
 ghost use Rattle.clap.specs.Walk.{rows_of};
 ghost use Rattle.thy_base.specs.Config.{fault_of as range_fault};
-ghost use Rattle.thy_words.specs.Settings.{Answers, IsInRange, ShowsOrMemory, order_of, config_in, order_named, ranged, run_in, settings_of};
+ghost use Rattle.thy_words.specs.Settings.{Answers, IsInRange, ShowsOrMemory, job_in, job_of, order_of, order_with, config_in, order_named, ranged, run as RunOrder, plain as PlainOrder, settings_of};
 ghost use Rattle.thy_words.specs.Refused.{is_out_of_memory, refused};
 
-use crate::fields::{config_at, text_of, unreadable};
+use crate::fields::{config_at, has_flag, text_of, unreadable};
 use crate::program::thynvm;
 use clap::ArgMatches;
 use clap::error::ErrorKind;
@@ -19,12 +19,30 @@ use thy_base::{Config, Field, Geometry};
 /// A command that the words ask for.
 #[derive(Debug, Drop)]
 pub enum Command {
-    /// Run the program file FILE on a fresh machine. `input` is the name of what it reads.
+    /// Run the program file FILE on a fresh machine. `input` is the name of what it reads, and `digest`
+    /// says that digests of memory are told.
     Run {
         file: String,
         input: Option<String>,
         config: Config,
+        digest: bool,
     },
+    /// The same on the plain machine. A field that it has no option for has its default.
+    Plain {
+        file: String,
+        input: Option<String>,
+        config: Config,
+        digest: bool,
+    },
+}
+
+/// A program to be run.
+#[derive(Debug, Drop)]
+struct Job {
+    file: String,
+    input: Option<String>,
+    config: Config,
+    digest: bool,
 }
 
 /// Why the words are refused, or were not read.
@@ -73,22 +91,54 @@ fn owned(alloc: Global, text: Option<&str>) -> Result<Option<String>, AllocError
     }
 }
 
-/// `run`, of what `clap` found for its arguments.
-fn run(alloc: Global, matches: &ArgMatches<'_>) -> Result<Command, WordsError>
-    ensures { Answers (run_in (rows_of (found_of matches.now))) result }
+/// A program to be run, of what `clap` found for a command's arguments.
+fn job_in(alloc: Global, matches: &ArgMatches<'_>) -> Result<Job, WordsError>
+    ensures { ShowsOrMemory job_of (job_in (rows_of (found_of matches.now))) result }
 {
     let config = config_in(alloc, matches)?;
+    let digest = has_flag(matches, "digest");
     let file = match String::from_str(alloc, text_of(matches, "FILE").unwrap_or("")) {
         Ok(file) => file,
         Err(error) => return Err(WordsError::Memory(error)),
     };
     match owned(alloc, text_of(matches, "input")) {
-        Ok(input) => Ok(Command::Run {
+        Ok(input) => Ok(Job {
             file,
             input,
             config,
+            digest,
         }),
         Err(error) => Err(WordsError::Memory(error)),
+    }
+}
+
+/// `run`, of what `clap` found for its arguments.
+fn run(alloc: Global, matches: &ArgMatches<'_>) -> Result<Command, WordsError>
+    ensures { Answers (order_with RunOrder (job_in (rows_of (found_of matches.now)))) result }
+{
+    match job_in(alloc, matches) {
+        Ok(job) => Ok(Command::Run {
+            file: job.file,
+            input: job.input,
+            config: job.config,
+            digest: job.digest,
+        }),
+        Err(error) => Err(error),
+    }
+}
+
+/// `plain`, of what `clap` found for its arguments.
+fn plain(alloc: Global, matches: &ArgMatches<'_>) -> Result<Command, WordsError>
+    ensures { Answers (order_with PlainOrder (job_in (rows_of (found_of matches.now)))) result }
+{
+    match job_in(alloc, matches) {
+        Ok(job) => Ok(Command::Plain {
+            file: job.file,
+            input: job.input,
+            config: job.config,
+            digest: job.digest,
+        }),
+        Err(error) => Err(error),
     }
 }
 
@@ -100,6 +150,8 @@ fn order(alloc: Global, matches: &ArgMatches<'_>) -> Result<Command, WordsError>
         Some((name, found)) => {
             if name == "run" {
                 run(alloc, found)
+            } else if name == "plain" {
+                plain(alloc, found)
             } else {
                 Err(WordsError::Usage)
             }

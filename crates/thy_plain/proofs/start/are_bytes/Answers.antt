@@ -1,4 +1,3 @@
-use Rattle.std.proofs.Common.{arith}
 use Rattle.std.proofs.lemmas.List.Elements.{All-from_get_or}
 use Rattle.thy_isa.specs.Storable.{IsByte}
 use Rattle.thy_plain.proofs.start.are_bytes.Goals as goal

@@ -1,6 +1,6 @@
-use Rattle.std.proofs.Common.{◌≡◌, ◌+◌, ◌<◌, true, sym, ap, ◌∙◌, arith}
-use Rattle.thy_isa.specs.Step.{is_running, step, steps}
-use Rattle.thy_plain.specs.Machine.{Machine, after_steps, stepped}
+use Rattle.std.proofs.Common.{◌≡◌, true, sym, ap, ◌∙◌, arith}
+use Rattle.thy_isa.specs.Step.{is_running, steps}
+use Rattle.thy_plain.specs.Machine.{Machine, stepped}
 use Rattle.thy_plain.proofs.RunLaws.{Ran-none, Ran-more, after_none, after_more, count_below}
 use Rattle.thy_plain.proofs.plain.Plain.run.Goals as goal
 
