@@ -85,8 +85,8 @@ end_of-events : (o : Origin) (fresh : Bool) (v : View) (did : Did) (next : View)
     → end_of (events_of o fresh v did next cycle) ≡ Some (at o next.count).status
 end_of-events o fresh v did next cycle halt =
     end_of-append (reload_told fresh next ++ told o did cycle) (end_told o v next cycle)
-        (list_any-append is_end (reload_told fresh next) (told o did cycle)
-        ∙ or_from (has_ended (reload_told fresh next)) (has_ended (told o did cycle)) (reload_uncut (fresh && loads next)).1 (told_uncut o did cycle).1)
+    (list_any-append is_end (reload_told fresh next) (told o did cycle)
+    ∙ or_from (has_ended (reload_told fresh next)) (has_ended (told o did cycle)) (reload_uncut (fresh && loads next)).1 (told_uncut o did cycle).1)
     ∙ ap (λ b. end_of (if b then EndedEvent (at o next.count).status next.count cycle (at o next.count) ∷ [] else [])) halt
 
 module _ (plan : Plan) (p q : Progress) (n m : Device) (k : ℕ) (ended : Option Status) (bytes : List ℕ) (noted : IsNoted plan p q n m k ended bytes) where
@@ -135,7 +135,7 @@ module _ (plan : Plan) (p q : Progress) (n m : Device) (k : ℕ) (ended : Option
       let halt : is_halt next.phase ≡ true = halted_next (is_halt v.phase) (is_halt next.phase) end.0 in
       let before : has_ended p.events ≡ false = (good_of plan fitted p n k planned g).stands.ended ∙ g.going in
       let said : end_of q.events ≡ Some status =
-          ap end_of told_all ∙ end_of-append p.events _ before ∙ end_of-events (origin_of plan) p.fresh v noted.steps.r.did next (k + 1) end.0 ∙ ap Some (sym end.1) in
+      ap end_of told_all ∙ end_of-append p.events _ before ∙ end_of-events (origin_of plan) p.fresh v noted.steps.r.did next (k + 1) end.0 ∙ ap Some (sym end.1) in
       (done_uncut (halted_due (is_halt next.phase) _ halt), halt, said)
 
   going_on : ended ≡ None → is_halt (seen (origin_of plan) (world_at q m (k + 1))).phase ≡ false
@@ -151,7 +151,7 @@ module _ (plan : Plan) (p q : Progress) (n m : Device) (k : ℕ) (ended : Option
   done_going is cycle at_cycle due =
       let next : View = seen (origin_of plan) (world_at q m (k + 1)) in
       let due_now : (nat_lt q.passed (length plan.config.cuts) && slice_index plan.config.cuts q.passed == k + 1) ≡ false =
-          subst (λ c. (nat_lt q.passed (length plan.config.cuts) && slice_index plan.config.cuts q.passed == c) ≡ false) at_cycle due in
+      subst (λ c. (nat_lt q.passed (length plan.config.cuts) && slice_index plan.config.cuts q.passed == c) ≡ false) at_cycle due in
       (done_uncut (going_due (is_halt next.phase) _ (going_on is) due_now), going_on is)
 
   -- a cut was due, and fell
@@ -161,12 +161,12 @@ module _ (plan : Plan) (p q : Progress) (n m : Device) (k : ℕ) (ended : Option
   done_cut q' m' is cycle at_cycle due cut =
       let next : View = seen (origin_of plan) (world_at q m (k + 1)) in
       let due_now : (nat_lt q.passed (length plan.config.cuts) && slice_index plan.config.cuts q.passed == k + 1) ≡ true =
-          subst (λ c. (nat_lt q.passed (length plan.config.cuts) && slice_index plan.config.cuts q.passed == c) ≡ true) at_cycle due in
+      subst (λ c. (nat_lt q.passed (length plan.config.cuts) && slice_index plan.config.cuts q.passed == c) ≡ true) at_cycle due in
       let is_cut : is_due (origin_of plan) plan.config.cuts (world_at q m (k + 1)) ≡ true = due_both (is_halt next.phase) _ (going_on is) due_now in
       let law = IsAt-cut (origin_of plan) (k + 1) q.machine q'.machine m m'.image noted.steps.is_step.at_next cut.powered cut.cut.crash in
       let device : m' ≡ cut_to m m'.image = cut.cut.device in
       let found : seen (origin_of plan) (world_at q' m' (k + 1)) ≡ view_of_image (origin_of plan).start.count (decode (origin_of plan).geometry ceiling m'.image) =
-          ap (λ d. view_of (origin_of plan) q'.machine d) device ∙ law.1 in
+      ap (λ d. view_of (origin_of plan) q'.machine d) device ∙ law.1 in
       let off : IsCutOff (origin_of plan) (world_at q m (k + 1)) (world_at q' m' (k + 1)) = record {
         cut = cut.cut;
         powered = subst (λ d. IsAt (origin_of plan) (k + 1) q'.machine d) (sym device) law.0;
@@ -175,22 +175,23 @@ module _ (plan : Plan) (p q : Progress) (n m : Device) (k : ℕ) (ended : Option
             ∙ ap (λ c. world_at (record q { machine = q'.machine; passed = q.passed + 1; fresh = true; events = q.events ++ Cut (q.passed + 1) c ∷ [] }) m' (k + 1)) at_cycle;
       } in
       let events : q'.events ≡ q.events ++ Cut (q.passed + 1) cycle ∷ [] = ap (λ (y : Progress). y.events) cut.same in
-      let releases : released_of (origin_of plan) q'.events ≡ released_of (origin_of plan) q.events = ap (released_of (origin_of plan)) events ∙ released-cut (origin_of plan) q.events (q.passed + 1) cycle in
-      (record {
-        cycle = record {
-          between = world_at q m (k + 1);
-          steps = noted.steps;
-          cut = subst (λ b. MatchBool b (IsCutOff (origin_of plan) (world_at q m (k + 1)) (world_at q' m' (k + 1))) (world_at q' m' (k + 1) ≡ world_at q m (k + 1))) (sym is_cut) off;
-        };
-        released = ap (λ (y : Progress). y.released) cut.same ∙ noted.released ∙ ap length (sym releases);
-        releases = releases ∙ noted.releases;
-        told = (_, events ∙ ap (λ (l : List Happening). l ++ Cut (q.passed + 1) cycle ∷ []) told_all ∙ append_assoc p.events _ (Cut (q.passed + 1) cycle ∷ []));
-        room = ap (λ (d : Device). d.left_room) device ∙ noted.steps.framed.left_room;
-        calm = ap (λ (d : Device). d.faults) device ∙ noted.calm;
-        spoken = ap (λ (y : Progress). y.mute) cut.same ∙ noted.spoken;
-        heard = ap (λ (y : Progress). y.deaf) cut.same ∙ noted.heard;
-      },
-      ap (λ v. is_halt v.phase) found ∙ image_going (origin_of plan).start.count (decode (origin_of plan).geometry ceiling m'.image))
+      let releases : released_of (origin_of plan) q'.events ≡ released_of (origin_of plan) q.events = ap (released_of (origin_of plan)) events ∙ released-cut (origin_of plan) q.events (q.passed + 1) cycle in (
+        record {
+          cycle = record {
+            between = world_at q m (k + 1);
+            steps = noted.steps;
+            cut = subst (λ b. MatchBool b (IsCutOff (origin_of plan) (world_at q m (k + 1)) (world_at q' m' (k + 1))) (world_at q' m' (k + 1) ≡ world_at q m (k + 1))) (sym is_cut) off;
+          };
+          released = ap (λ (y : Progress). y.released) cut.same ∙ noted.released ∙ ap length (sym releases);
+          releases = releases ∙ noted.releases;
+          told = (_, events ∙ ap (λ (l : List Happening). l ++ Cut (q.passed + 1) cycle ∷ []) told_all ∙ append_assoc p.events _ (Cut (q.passed + 1) cycle ∷ []));
+          room = ap (λ (d : Device). d.left_room) device ∙ noted.steps.framed.left_room;
+          calm = ap (λ (d : Device). d.faults) device ∙ noted.calm;
+          spoken = ap (λ (y : Progress). y.mute) cut.same ∙ noted.spoken;
+          heard = ap (λ (y : Progress). y.deaf) cut.same ∙ noted.heard;
+        },
+        ap (λ v. is_halt v.phase) found ∙ image_going (origin_of plan).start.count (decode (origin_of plan).geometry ceiling m'.image),
+      )
 
   -- a cut was due, and memory was short for it
   pub broken_cut : (q' : Progress) (m' : Device) → ended ≡ None → q' ≡ q → m' ≡ m → IsBroken plan p q' n m' k bytes
@@ -264,12 +265,12 @@ IsNoted-made plan fitted p q t n m k r ended bytes planned g s made same release
       next_is =
           ap (λ (y : Progress). world_at (record y { events = t.events; fresh = false }) m (k + 1)) s.same
           ∙ ap (λ (l : List Happening). world_at (record p { machine = q.machine; mix = mix_next p.mix; events = l; fresh = false }) m (k + 1))
-              (made ∙ ap (λ (l : List Happening). l ++ events_of o q.fresh v r.did (view_of o q.machine m) (k + 1)) events_q
-              ∙ ap (λ b. p.events ++ events_of o b v r.did (view_of o q.machine m) (k + 1)) fresh_q);
+          (made ∙ ap (λ (l : List Happening). l ++ events_of o q.fresh v r.did (view_of o q.machine m) (k + 1)) events_q
+          ∙ ap (λ b. p.events ++ events_of o b v r.did (view_of o q.machine m) (k + 1)) fresh_q);
     } in
     let releases : released_of o t.events ≡ released_of o p.events ++ bytes =
-        released-stepped o (world_at p n k) _ planned.origin.geometry.epoch_least good.stands steps
-        ∙ ap (λ (l : List ℕ). released_of o p.events ++ l) (ap (λ (e : List Happening). due_of o e r.did (view_of o q.machine m)) (sym events_q) ∙ sym bytes_is) in
+    released-stepped o (world_at p n k) _ planned.origin.geometry.epoch_least good.stands steps
+    ∙ ap (λ (l : List ℕ). released_of o p.events ++ l) (ap (λ (e : List Happening). due_of o e r.did (view_of o q.machine m)) (sym events_q) ∙ sym bytes_is) in
     let now : IsNoted plan p (record q { events = t.events; released = t.released; fresh = false }) n m k ended bytes = record {
       steps = steps;
       is_end = is_end;
@@ -346,9 +347,10 @@ IsBroken-read plan fitted p q n m m' k r e planned g s failed framed =
   where
     by_error : (e : CoreError) → HasFailedToRead e m m' → (((m' ≡ m) ⊎ ReadFailed m m') → IsBroken plan p q n m' k []) → q.events ≡ p.events
         → IsBroken plan p q n m' k [] × Breaks p q n m' [] (stop_of e)
-    by_error NvmFailed f broken events =
-        (broken (inr (record { failed = f.0; framed = framed; rose = f.1 })),
-        record { events = events; none = refl; rose = subst (λ c. RoseFaults c m'.faults) s.calm f.1 })
+    by_error NvmFailed f broken events = (
+      broken (inr (record { failed = f.0; framed = framed; rose = f.1 })),
+      record { events = events; none = refl; rose = subst (λ c. RoseFaults c m'.faults) s.calm f.1 },
+    )
     by_error (NoMemory x) f broken events = (broken (inl f), tt)
 
 -- the step itself failed
@@ -356,15 +358,17 @@ pub IsBroken-stuck : (plan : Plan) (fitted : Device) (p q : Progress) (n m : Dev
     → IsBroken plan p q n m k [] × Breaks p q n m [] Nvm
 IsBroken-stuck plan fitted p q n m k g s =
     let o : Origin = origin_of plan in
-    let events_q : q.events ≡ p.events = ap (λ (y : Progress). y.events) s.same in
-    (record {
-      unfinished = inl (record { going = g.going; safe = s.safe; framed = s.framed; rose = s.rose; nothing_told = events_q });
-      rest = [];
-      releases = ap (released_of o) events_q ∙ sym (append-nil (released_of o p.events)) ∙ sym (append-nil (released_of o p.events ++ []));
-      told = ([], events_q ∙ sym (append-nil p.events));
-      spoken = ap (λ (y : Progress). y.mute) s.same;
-      heard = ap (λ (y : Progress). y.deaf) s.same;
-    }, record { events = events_q; none = refl; rose = s.rose })
+    let events_q : q.events ≡ p.events = ap (λ (y : Progress). y.events) s.same in (
+      record {
+        unfinished = inl (record { going = g.going; safe = s.safe; framed = s.framed; rose = s.rose; nothing_told = events_q });
+        rest = [];
+        releases = ap (released_of o) events_q ∙ sym (append-nil (released_of o p.events)) ∙ sym (append-nil (released_of o p.events ++ []));
+        told = ([], events_q ∙ sym (append-nil p.events));
+        spoken = ap (λ (y : Progress). y.mute) s.same;
+        heard = ap (λ (y : Progress). y.deaf) s.same;
+      },
+      record { events = events_q; none = refl; rose = s.rose },
+    )
 
 -- ---- what the calls ask for
 
@@ -378,8 +382,8 @@ few_released plan fitted p q n m k r bytes planned g s due =
     let next : World = stepped o (world_at p n k) q.machine m r.did in
     let steps : Steps o (world_at p n k) next = record { r = r; going = g.going; is_step = s.is_step; framed = s.framed; next_is = refl } in
     let releases : released_of o next.events ≡ released_of o p.events ++ bytes =
-        released-stepped o (world_at p n k) next planned.origin.geometry.epoch_least good.stands steps
-        ∙ ap (λ (l : List ℕ). released_of o p.events ++ l) (ap (λ (e : List Happening). due_of o e r.did (view_of o q.machine m)) (sym events_q) ∙ sym due) in
+    released-stepped o (world_at p n k) next planned.origin.geometry.epoch_least good.stands steps
+    ∙ ap (λ (l : List ℕ). released_of o p.events ++ l) (ap (λ (e : List Happening). due_of o e r.did (view_of o q.machine m)) (sym events_q) ∙ sym due) in
     let released : q.released ≡ length (released_of o p.events) = ap (λ (y : Progress). y.released) s.same ∙ g.released in
     let sum : length (released_of o next.events) ≡ length (released_of o p.events) + length bytes = ap length releases ∙ length-append (released_of o p.events) bytes in
     let few : length (released_of o next.events) < 2 ^ 64 = length-released o next.events planned.origin in
@@ -435,7 +439,7 @@ broken_from plan fitted p q n m k r e bytes cycle did planned g s did_is cycle_i
     let next : View = view_of o q.machine m in
     let P : List Happening → Type 0 = λ all. MadeSome e all q.events in
     let some_of : MadeSome e (events_of o q.fresh v r.did next (k + 1)) q.events =
-        subst P (ap (λ (d : Did). events_of o q.fresh v d next cycle) (sym did_is) ∙ ap (λ c. events_of o q.fresh v r.did next c) cycle_is) some in
+    subst P (ap (λ (d : Did). events_of o q.fresh v d next cycle) (sym did_is) ∙ ap (λ c. events_of o q.fresh v r.did next c) cycle_is) some in
     subst (λ (b : List ℕ). IsBroken plan p (record q { events = e }) n m k b) (sym none)
     (IsBroken-made plan fitted p q (record q { events = e }) n m k r planned g s some_of refl)
 

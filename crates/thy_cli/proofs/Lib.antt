@@ -4,3 +4,4 @@ pub mod TellLemmas
 pub mod AdvanceLemmas
 pub mod TurnLemmas
 pub mod StartLemmas
+pub mod TopLemmas

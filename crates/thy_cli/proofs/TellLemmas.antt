@@ -33,7 +33,7 @@ lines_failed digest events i v before a b c is so_far took =
     let within = slice_get_within events i v is in
     let rest : List ℕ = report_of digest (drop (i + 1) events) in
     let whole : report_of digest events ≡ report_of digest (take (i + 1) events) ++ rest =
-        ap (report_of digest) (sym (take-append-drop (i + 1) events)) ∙ report_of-append digest (take (i + 1) events) (drop (i + 1) events) in
+    ap (report_of digest) (sym (take-append-drop (i + 1) events)) ∙ report_of-append digest (take (i + 1) events) (drop (i + 1) events) in
     record {
       more = so_far.more ++ line_of digest v ++ rest;
       grew = whole ∙ ap (λ (l : List ℕ). l ++ rest) (one_more digest events i v within is ∙ ap (λ (l : List ℕ). l ++ line_of digest v) so_far.grew)

@@ -75,9 +75,8 @@ told_more plan p q n m k bytes outcome c =
 -- ---- turns
 
 module _ (plan : Plan) (fitted : Device) (p q : Progress) (n m : Device) (k : ℕ) (bytes : List ℕ) (mute deaf : Bool) (t0 t1 t2 r0 r1 r2 : Stream)
-  (running : Running plan fitted p n k t0 t1 r0 r1) (few : k < plan.geometry.limit) (sent : Sent mute t1 t2 bytes)
-  (lines : Sends (report_of plan.digest (take (length p.events) q.events)) (report_of plan.digest q.events) deaf r1 r2) where
-
+    (running : Running plan fitted p n k t0 t1 r0 r1) (few : k < plan.geometry.limit) (sent : Sent mute t1 t2 bytes)
+    (lines : Sends (report_of plan.digest (take (length p.events) q.events)) (report_of plan.digest q.events) deaf r1 r2) where
   abbrev told_progress : Progress
   told_progress = record q { mute = mute; deaf = deaf }
 

@@ -174,15 +174,7 @@ pub fn take_cycle<N: Nvm>(
         }
     };
     match gather(alloc, progress, &stepped, nvm) {
-        Ok(readings) => conclude(
-            alloc,
-            progress,
-            plan,
-            stepped.did,
-            readings,
-            done + 1,
-            nvm,
-        ),
+        Ok(readings) => conclude(alloc, progress, plan, stepped.did, readings, done + 1, nvm),
         Err(error) => Advance {
             bytes: Bytes::new(alloc),
             outcome: Outcome::Fails(Stop::from(error)),

@@ -1,6 +1,8 @@
 //! What a run answers, and why it stopped.
 
-use thy_base::{NvmError};
+ghost use Rattle.std.specs.Prelude.{◌≡◌};
+ghost use Rattle.thy_cli.specs.Answering.{stop_status};
+
 use thy_core::CoreError;
 use thy_isa::Status;
 use thy_text::Events;
@@ -49,7 +51,9 @@ impl From<CoreError> for Stop {
 }
 
 /// The status of a stop.
-pub fn status_of(stop: Stop) -> u8 {
+pub fn status_of(stop: Stop) -> u8
+    ensures { result ≡ stop_status stop }
+{
     match stop {
         Stop::Ended(Status::Trapped(_)) => 1,
         Stop::Ended(_) => 0,

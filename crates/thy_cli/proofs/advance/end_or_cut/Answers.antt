@@ -23,6 +23,8 @@ returns-in-Ok g c = λ fitted p n k bytes goes noted cycle.
     (sym c.is_due.ensures ∙ c.if-not-is_due.false) c.in-Ok.ensures.ok
 
 pub returns-in-Err : goal.returns-in-Err
-returns-in-Err g c = λ fitted p n k bytes goes noted cycle.
-    (broken_cut c.args.plan.now p c.args.progress.now n (g.N.Nvm.device c.args.nvm.now) k c.args.ended bytes noted c.cut.new.progress (g.N.Nvm.device c.cut.new.nvm) c.in_default.is
-    c.in-Err.ensures.err.0 c.in-Err.ensures.err.1, tt)
+returns-in-Err g c = λ fitted p n k bytes goes noted cycle. (
+  broken_cut c.args.plan.now p c.args.progress.now n (g.N.Nvm.device c.args.nvm.now) k c.args.ended bytes noted c.cut.new.progress (g.N.Nvm.device c.cut.new.nvm) c.in_default.is
+      c.in-Err.ensures.err.0 c.in-Err.ensures.err.1,
+  tt,
+)

@@ -38,14 +38,23 @@ conclude-requires-clause-gathered g c =
     let n = g.N.Nvm.device c.args.nvm.now in
     let m = g.N.Nvm.device c.step.new.nvm in
     let stepped : IsStepped plan p q n m c.args.done c.in-Ok.stepped =
-        c.in-Ok.ensures.stepped c.args.done (begins_of plan fitted p n c.args.done c.requires.planned goes) (at_of plan fitted p n c.args.done c.requires.planned goes) c.requires.few in
+    c.in-Ok.ensures.stepped c.args.done (begins_of plan fitted p n c.args.done c.requires.planned goes) (at_of plan fitted p n c.args.done c.requires.planned goes) c.requires.few in
     let o = origin_of plan in
     let v = seen o (world_at p n c.args.done) in
     let S : Device → Type 0 = λ d. IsStepped plan p q n d c.args.done c.in-Ok.stepped in
-    let R : Device → Type 0 = λ d. IsGathered o v (view_of o q.machine d) q c.in-Ok.stepped.did c.in-Ok-gather.readings in
-    (fitted, p, n, c.args.done, c.in-Ok.stepped, goes, subst S (sym c.in-Ok-gather.ensures.same) stepped,
-    subst R (sym c.in-Ok-gather.ensures.same)
-    (c.in-Ok-gather.ensures.read o (c.args.done + 1) v (CanGather-stepped plan fitted p q n m c.args.done c.in-Ok.stepped c.requires.planned goes stepped)), refl, refl)
+    let R : Device → Type 0 = λ d. IsGathered o v (view_of o q.machine d) q c.in-Ok.stepped.did c.in-Ok-gather.readings in (
+      fitted,
+      p,
+      n,
+      c.args.done,
+      c.in-Ok.stepped,
+      goes,
+      subst S (sym c.in-Ok-gather.ensures.same) stepped,
+      subst R (sym c.in-Ok-gather.ensures.same)
+          (c.in-Ok-gather.ensures.read o (c.args.done + 1) v (CanGather-stepped plan fitted p q n m c.args.done c.in-Ok.stepped c.requires.planned goes stepped)),
+      refl,
+      refl,
+    )
 
 pub returns-in-Ok-gather : goal.returns-in-Ok-gather
 returns-in-Ok-gather g c = λ fitted goes.
@@ -55,7 +64,7 @@ returns-in-Ok-gather g c = λ fitted goes.
     let n = g.N.Nvm.device c.args.nvm.now in
     let m = g.N.Nvm.device c.step.new.nvm in
     let stepped : IsStepped plan p q n m c.args.done c.in-Ok.stepped =
-        c.in-Ok.ensures.stepped c.args.done (begins_of plan fitted p n c.args.done c.requires.planned goes) (at_of plan fitted p n c.args.done c.requires.planned goes) c.requires.few in
+    c.in-Ok.ensures.stepped c.args.done (begins_of plan fitted p n c.args.done c.requires.planned goes) (at_of plan fitted p n c.args.done c.requires.planned goes) c.requires.few in
     let o = origin_of plan in
     let v = seen o (world_at p n c.args.done) in
     let S : Device → Type 0 = λ d. IsStepped plan p q n d c.args.done c.in-Ok.stepped in
@@ -72,7 +81,7 @@ returns-in-Err-gather g c = λ fitted goes.
     let n = g.N.Nvm.device c.args.nvm.now in
     let m = g.N.Nvm.device c.step.new.nvm in
     let stepped : IsStepped plan p q n m c.args.done c.in-Ok.stepped =
-        c.in-Ok.ensures.stepped c.args.done (begins_of plan fitted p n c.args.done c.requires.planned goes) (at_of plan fitted p n c.args.done c.requires.planned goes) c.requires.few in
+    c.in-Ok.ensures.stepped c.args.done (begins_of plan fitted p n c.args.done c.requires.planned goes) (at_of plan fitted p n c.args.done c.requires.planned goes) c.requires.few in
     broken_none plan p q n (g.N.Nvm.device c.gather.new.nvm) c.args.done (bytes_of c.new-in-Err-gather.result) (stop_of c.in-Err-gather.error) c.from.result
     c.new-in-Err-gather.ensures c.from.ensures
     (IsBroken-read plan fitted p q n m (g.N.Nvm.device c.gather.new.nvm) c.args.done c.in-Ok.stepped c.in-Err-gather.error c.requires.planned goes stepped

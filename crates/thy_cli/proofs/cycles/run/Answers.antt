@@ -17,21 +17,21 @@ loop-done-init g c =
 pub returns-in-Stops : goal.returns-in-Stops
 returns-in-Stops g c =
     let P : Ending → Type 0 = λ e. RunEnds c.args.plan.now (g.N.Nvm.device c.args.nvm.now) (g.N.Nvm.device c.turn.new.nvm) e (g.T.Sink.stream c.args.terminal.now) (g.T.Sink.stream c.turn.new.terminal)
-        (g.R.Sink.stream c.args.report.now) (g.R.Sink.stream c.turn.new.report) in
+    (g.R.Sink.stream c.args.report.now) (g.R.Sink.stream c.turn.new.report) in
     subst P (sym c.ended_by.ensures)
     (c.in-Stops.ensures (g.N.Nvm.device c.args.nvm.now) (g.T.Sink.stream c.args.terminal.now) (g.R.Sink.stream c.args.report.now) c.loop-done.invariant)
 
 pub returns-in-Breaks : goal.returns-in-Breaks
 returns-in-Breaks g c =
     let P : Ending → Type 0 = λ e. RunEnds c.args.plan.now (g.N.Nvm.device c.args.nvm.now) (g.N.Nvm.device c.turn.new.nvm) e (g.T.Sink.stream c.args.terminal.now) (g.T.Sink.stream c.turn.new.terminal)
-        (g.R.Sink.stream c.args.report.now) (g.R.Sink.stream c.turn.new.report) in
+    (g.R.Sink.stream c.args.report.now) (g.R.Sink.stream c.turn.new.report) in
     subst P (sym c.ended_by-in-Breaks.ensures)
     (c.in-Breaks.ensures (g.N.Nvm.device c.args.nvm.now) (g.T.Sink.stream c.args.terminal.now) (g.R.Sink.stream c.args.report.now) c.loop-done.invariant)
 
 pub returns : goal.returns
 returns g c =
     let P : Ending → Type 0 = λ e. RunEnds c.args.plan.now (g.N.Nvm.device c.args.nvm.now) (g.N.Nvm.device c.loop-done.nvm) e (g.T.Sink.stream c.args.terminal.now) (g.T.Sink.stream c.loop-done.terminal)
-        (g.R.Sink.stream c.args.report.now) (g.R.Sink.stream c.loop-done.report) in
+    (g.R.Sink.stream c.args.report.now) (g.R.Sink.stream c.loop-done.report) in
     subst P (sym c.ended_by-2.ensures)
     (RunEnds-limit c.args.plan.now (g.N.Nvm.device c.args.nvm.now) c.loop-done.progress (g.N.Nvm.device c.loop-done.nvm) c.loop-done.done c.numbers-limit.result.limit
     (g.T.Sink.stream c.args.terminal.now) (g.T.Sink.stream c.loop-done.terminal) (g.R.Sink.stream c.args.report.now) (g.R.Sink.stream c.loop-done.report)

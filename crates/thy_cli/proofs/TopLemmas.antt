@@ -1,0 +1,152 @@
+-- What the top call makes of a job.
+use Rattle.std.proofs.Common.{◌≡◌, ◌⊎◌, ℕ, ◌+◌, ◌*◌, ◌^◌, ◌<◌, ◌≤◌, Bool, true, false, if◌then◌else◌, Option, Some, None, List, [], ◌∷◌, length, refl, sym, ◌∙◌, ap, subst, inl, inr, lit<, arith}
+use Rattle.std.specs.Prelude.{Result, Ok, Err, slice_index}
+use Rattle.std.specs.List.{All}
+use Rattle.std.specs.Option.{option_or}
+use Rattle.thy_base.specs.declared.config.Config.{Config}
+use Rattle.thy_base.specs.declared.config.ConfigError.{ConfigError}
+use Rattle.thy_base.specs.declared.config.Field.{Field}
+use Rattle.thy_base.specs.declared.config.Parameters.{Parameters}
+use Rattle.thy_base.specs.declared.nvm.Shape.{Shape}
+use Rattle.thy_base.specs.Bytes.{bytes_of}
+use Rattle.thy_base.specs.Config.{fault_of, or_fault, or_value, memory_fault, table_fault, queue_fault, threshold_fault, cut_fault, end_fault, first_not_rising}
+use Rattle.thy_base.specs.Device.{Device, fitted}
+use Rattle.thy_base.specs.Geometry.{IsInRange, geometry_or, geometry_of, parameters_of, program_size, console_room, blocks_of}
+use Rattle.thy_base.specs.Outside.{Stock, Stream}
+use Rattle.thy_isa.specs.declared.state.Status.TheVariants.{Running}
+use Rattle.thy_isa.specs.Storable.{IsNumber, IsStorable}
+use Rattle.thy_isa.specs.Step.{State, cpu_of}
+use Rattle.thy_isa.proofs.MemoryBounds.{anywhere}
+use Rattle.thy_record.specs.Cpu.{is_status, status_tag, status_value}
+use Rattle.thy_record.specs.Decode.{IsRecordable}
+use Rattle.thy_elf.specs.declared.error.ElfError.{ElfError}
+use Rattle.thy_elf.specs.Image.{Contents, read_of}
+use Rattle.thy_plain.specs.Start.{start_state}
+use Rattle.thy_words.specs.declared.words.WordsError.{WordsError}
+use Rattle.thy_words.specs.declared.words.WordsError.TheVariants.{Usage, Word, Value, Memory as WordsMemory}
+use Rattle.thy_words.specs.Settings.{Job, run, settings_of, order_of, ShowsOrMemory}
+use Rattle.thy_model.specs.Origin.{Origin}
+use Rattle.thy_model.specs.Sound.{IsOrigin}
+use Rattle.thy_run.specs.Laws.{Promise}
+use Rattle.thy_run.proofs.PromiseLaws.{Promise-finished}
+use Rattle.thy_cli.specs.declared.answer.Answer.{Answer}
+use Rattle.thy_cli.specs.declared.cycles.Ending.{Ending}
+use Rattle.thy_cli.specs.declared.plan.Plan.{Plan}
+use Rattle.thy_cli.specs.declared.refusal.Refusal.{Refusal}
+use Rattle.thy_cli.specs.declared.refusal.Refusal.TheVariants.{Words, Fetch, File, Device as DeviceRefusal}
+use Rattle.thy_cli.specs.Answering.{Task, task_of, WordsDue, meaning_of, TaskDue, RefusalDue, IsRefused, IsPlanOf, IsRunOf, ClosesRun, TaskAnswered, Answered, stop_line, stop_status}
+use Rattle.thy_cli.specs.Going.{origin_of, given_of, IsPlanned}
+use Rattle.thy_cli.specs.Turning.{IsFitted, RunEnds}
+
+-- ---- configurations
+
+none_both : {A : Type 0} (a b : Option A) → option_or a b ≡ None → (a ≡ None) × (b ≡ None)
+none_both None b e = (refl, e)
+none_both (Some x) b e = absurd (cc)
+
+none_rest : (t : Bool) (field : Field) (value : ℕ) (rest : Option ConfigError) → or_fault t field value rest ≡ None → rest ≡ None
+none_rest true field value rest e = e
+none_rest false field value rest e = absurd (cc)
+
+none_value : (o : Option ℕ) (field : Field) (rest : Option ConfigError) → or_value o field rest ≡ None → o ≡ None
+none_value None field rest e = refl
+none_value (Some x) field rest e = absurd (cc)
+
+-- the cuts of a configuration in range rise
+pub rising_of : (c : Config) → fault_of c ≡ None → first_not_rising 0 c.cuts ≡ None
+rising_of c e =
+    let one = (none_both (memory_fault c) _ e).1 in
+    let two = (none_both (table_fault c) _ one).1 in
+    let three = (none_both (queue_fault c) _ two).1 in
+    let four = (none_both (threshold_fault c) _ three).1 in
+    let cuts = (none_both (cut_fault c) _ four).0 in
+    none_value (first_not_rising 0 c.cuts) _ _ (none_rest _ _ _ _ cuts)
+
+ok_is : (p q : Parameters) → Ok p ≡ geometry_or None q → p ≡ q
+ok_is p q e = cc
+
+-- and its geometry is that of its numbers
+pub geometry_is : (c : Config) (p : Parameters) → fault_of c ≡ None → Ok p ≡ geometry_of c → p ≡ parameters_of c
+geometry_is c p none e = ok_is p (parameters_of c) (e ∙ ap (λ f. geometry_or f (parameters_of c)) none)
+
+-- ---- the start of a run
+
+-- a start state begins a run
+pub IsOrigin-start : (o : Origin) (contents : Contents) → IsInRange o.geometry → o.start ≡ start_state o.geometry contents → IsStorable (program_size o.geometry) o.start → IsOrigin o
+IsOrigin-start o contents range is storable =
+    let console : length o.start.console ≡ 0 = ap (λ (s : State). length s.console) is in
+    let count : o.start.count ≡ 0 = ap (λ (s : State). s.count) is in
+    let status : o.start.status ≡ Running = ap (λ (s : State). s.status) is in
+    record {
+      geometry = range;
+      recordable = record {
+        pc = storable.pc;
+        regs_length = storable.registers;
+        regs_zero = storable.zero_register;
+        regs = anywhere IsNumber (lit< tt) o.start.regs storable.numbers;
+        console = omega (arith, console);
+        cursor = storable.cursor;
+        brk = storable.brk;
+        floor = storable.floor;
+        count = omega (arith, count);
+        status = ap (λ s. is_status (status_tag s) (status_value s)) status;
+      };
+      memory = storable.memory_size;
+      storable = storable;
+      running = status;
+    }
+
+-- ---- answers
+
+-- a run that was begun keeps its promise
+pub IsRunOf-ran : (task : Task) (stock : Stock) (plan : Plan) (n d m : Device) (shape : Shape) (e : Ending) (a : Answer) (t0 t r0 told r : Stream) → IsPlanOf task stock plan
+    → d ≡ fitted shape [] n → shape.blocks ≡ blocks_of plan.geometry → shape.cuts ≡ length plan.config.cuts → RunEnds plan d m e t0 t r0 told
+    → ClosesRun e.deaf (stop_line e.stop plan.geometry.limit) told r → a.events ≡ e.events → a.cycles ≡ e.cycles → a.status ≡ stop_status e.stop → IsRunOf task stock n m a t0 t r0 r
+IsRunOf-ran task stock plan n d m shape e a t0 t r0 told r p fit blocks cuts ends closes events cycles status =
+    let o : Origin = origin_of plan in
+    let kept = Promise-finished o (given_of plan d) e.cycles e.events m p.planned.origin p.planned.rising ends.finished in
+    record {
+      plan = plan;
+      is_plan = p;
+      device = d;
+      is_fitted = record { shape = shape; before = n; blocks = blocks; cuts = cuts; is_fitted = fit };
+      from_entry = (shape, fit);
+      ending = e;
+      told = told;
+      ends = ends;
+      closes = closes;
+      events = events;
+      cycles = cycles;
+      status = status;
+      promise =
+          subst (λ (c : Config). Promise o c.cuts a.cycles a.events m) p.config
+          (subst (λ k. Promise o plan.config.cuts k a.events m) (sym cycles)
+          (subst (λ vs. Promise o plan.config.cuts e.cycles vs m) (sym events) kept));
+    }
+
+-- what is due to a task is due to the words that ask for it
+due_of_job : (words : List (List ℕ)) (job : Job) (old new : Stock) (n m : Device) (r : Refusal) → settings_of words ≡ Ok (run job) → TaskDue (task_of job) old new n m r → RefusalDue words old new n m r
+due_of_job words job old new n m (Words e) is due = absurd due
+due_of_job words job old new n m (Fetch name e) is due = (job, is, due)
+due_of_job words job old new n m (File e) is due = (job, is, due)
+due_of_job words job old new n m (DeviceRefusal e) is due = (job, is, due)
+
+pub Answered-job : (words : List (List ℕ)) (job : Job) (old new : Stock) (n m : Device) (t0 t r0 r : Stream) (a : Answer) → settings_of words ≡ Ok (run job)
+    → TaskAnswered (task_of job) old new n m t0 t r0 r a → Answered words old new n m t0 t r0 r a
+Answered-job words job old new n m t0 t r0 r a is (inl (refusal, due, refused)) = inl (refusal, due_of_job words job old new n m refusal is due, refused)
+Answered-job words job old new n m t0 t r0 r a is (inr ran) = inr (job, is, ran)
+
+-- why words are refused
+pub WordsDue-shown : (words : List (List ℕ)) (e : WordsError) → ShowsOrMemory order_of (settings_of words) (Err e) → WordsDue words e
+WordsDue-shown words Usage h = inl h
+WordsDue-shown words (Word field) h = h
+WordsDue-shown words (Value field value) h = h
+WordsDue-shown words (WordsMemory e) h = tt
+
+-- what a file was read as is what it means
+pub meaning_is : (task : Task) (bytes read : List ℕ) (p numbers : Parameters) (size : ℕ) (means : Result Contents ElfError) → p ≡ parameters_of task.config → numbers ≡ p → read ≡ bytes
+    → size ≡ program_size p → read_of read numbers.base size ≡ means → meaning_of task bytes ≡ means
+meaning_is task bytes read p numbers size means geometry same read_is size_is h =
+    ap (λ b. read_of b task.config.base (program_size (parameters_of task.config))) (sym read_is)
+    ∙ ap (λ b. read_of read b (program_size (parameters_of task.config))) (sym (ap (λ (x : Parameters). x.base) (same ∙ geometry)))
+    ∙ ap (read_of read numbers.base) (sym (size_is ∙ ap program_size geometry)) ∙ h

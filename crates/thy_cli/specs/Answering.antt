@@ -1,0 +1,205 @@
+-- What the top call answers.
+use Rattle.std.specs.Prelude.{◌≡◌, ◌⊎◌, ℕ, ◌<◌, Bool, true, false, List, [], ◌∷◌, ◌++◌, length, codes, Option, Some, None, Result, Ok, Err, MatchOption}
+use Rattle.std.specs.Fmt.{decimal}
+use Rattle.thy_base.specs.declared.outside.FetchError.{FetchError}
+use Rattle.thy_base.specs.declared.outside.FetchError.TheVariants.{Failed as FetchFailed, NotThere, TooLong, Memory as FetchMemory}
+use Rattle.thy_base.specs.declared.nvm.FitError.{FitError}
+use Rattle.thy_base.specs.declared.nvm.FitError.TheVariants.{Failed as FitFailed, Memory as FitMemory}
+use Rattle.thy_base.specs.declared.config.Config.{Config}
+use Rattle.thy_base.specs.declared.nvm.Shape.{Shape}
+use Rattle.thy_base.specs.Device.{Device, HasFailedToFit, fitted}
+use Rattle.thy_base.specs.Geometry.{parameters_of, program_size}
+use Rattle.thy_base.specs.Outside.{Stock, Files, Stream, Rose}
+use Rattle.thy_elf.specs.declared.error.ElfError.{ElfError}
+use Rattle.thy_elf.specs.declared.error.ElfError.TheVariants.{Memory as ElfMemory}
+use Rattle.thy_elf.specs.Image.{Contents, read_of}
+use Rattle.thy_elf.specs.Refusal.{number_of, name_of, index_of}
+use Rattle.thy_isa.specs.declared.state.Status.TheVariants.{Running, Exited, Trapped}
+use Rattle.thy_plain.specs.Start.{start_state}
+use Rattle.thy_text.specs.declared.closing.Closing.{Closing}
+use Rattle.thy_text.specs.declared.closing.Closing.TheVariants as closing
+use Rattle.thy_text.specs.declared.closing.FetchFault.TheVariants as fault
+use Rattle.thy_text.specs.Closings.{closing_of}
+use Rattle.thy_text.specs.Lines.{joined, line_feed}
+use Rattle.thy_words.specs.declared.words.WordsError.{WordsError}
+use Rattle.thy_words.specs.declared.words.WordsError.TheVariants.{Usage, Word, Value, Memory as WordsMemory}
+use Rattle.thy_words.specs.Settings.{Job, run, plain, settings_of}
+use Rattle.thy_run.specs.Laws.{Promise}
+use Rattle.thy_cli.specs.declared.answer.Answer.{Answer}
+use Rattle.thy_cli.specs.declared.answer.Stop.{Stop}
+use Rattle.thy_cli.specs.declared.answer.Stop.TheVariants.{Ended, Nvm, Memory, Terminal, Report, Limit}
+use Rattle.thy_cli.specs.declared.cycles.Ending.{Ending}
+use Rattle.thy_cli.specs.declared.plan.Plan.{Plan}
+use Rattle.thy_cli.specs.declared.refusal.Refusal.{Refusal}
+use Rattle.thy_cli.specs.declared.refusal.Refusal.TheVariants.{Words, Fetch, File, Device as DeviceRefusal}
+use Rattle.thy_cli.specs.Going.{origin_of, IsPlanned}
+use Rattle.thy_cli.specs.Sending.{Sent}
+use Rattle.thy_cli.specs.Turning.{IsFitted, RunEnds}
+
+-- ---- refusals, and what is reported of them
+
+-- the number of a program header, where it is told, and the line's end
+abbrev pub index_parts : Option ℕ → List (List ℕ)
+index_parts None = line_feed ∷ []
+index_parts (Some k) = codes " " ∷ decimal k ∷ line_feed ∷ []
+
+-- the line of a file that is refused
+abbrev pub file_line : ElfError → List ℕ
+file_line e =
+    joined (codes "file " ∷ decimal (number_of e) ∷ codes " " ∷ name_of e ∷ index_parts (index_of e))
+
+-- the exit status of a refusal
+abbrev pub refused_status : Refusal → ℕ
+refused_status (Words (WordsMemory e)) = 9
+refused_status (Words e) = 2
+refused_status (Fetch name (FetchMemory e)) = 9
+refused_status (Fetch name e) = 3
+refused_status (File (ElfMemory e)) = 9
+refused_status (File e) = 4
+refused_status (DeviceRefusal FitFailed) = 7
+refused_status (DeviceRefusal (FitMemory e)) = 9
+
+-- the closing line of a refusal
+abbrev pub refused_line : Refusal → List ℕ
+refused_line (Words Usage) = closing_of closing.Usage
+refused_line (Words (Word field)) = closing_of (closing.Word field)
+refused_line (Words (Value field value)) = closing_of (closing.Value field value)
+refused_line (Words (WordsMemory e)) = closing_of closing.Memory
+refused_line (Fetch name FetchFailed) = closing_of (closing.Fetch name fault.Failed)
+refused_line (Fetch name NotThere) = closing_of (closing.Fetch name fault.Missing)
+refused_line (Fetch name TooLong) = closing_of (closing.Fetch name fault.TooLong)
+refused_line (Fetch name (FetchMemory e)) = closing_of closing.Memory
+refused_line (File (ElfMemory e)) = closing_of closing.Memory
+refused_line (File e) = file_line e
+refused_line (DeviceRefusal FitFailed) = closing_of closing.Nvm
+refused_line (DeviceRefusal (FitMemory e)) = closing_of closing.Memory
+
+-- a line was written, or the report failed in it
+abbrev pub Closes : List ℕ → Stream → Stream → Type 0
+Closes line old new = (failed : Bool) × Sent failed old new line
+
+-- what is to be done with a file; no input is read yet
+pub record Task : Type 0 where
+  pub file : List ℕ
+  pub config : Config
+  pub digest : Bool
+
+-- what a job asks for
+abbrev pub task_of : Job → Task
+task_of job = record { file = job.file; config = job.config; digest = job.digest }
+
+-- what stands under a name, where the shelf tells
+abbrev pub IsHeld : Stock → List ℕ → List ℕ → Type 0
+IsHeld stock name bytes = (files : Files) → stock.held ≡ Some files → files name ≡ Some bytes
+
+-- why a file was not had: the shelf's count rose, or a shelf that tells has nothing there, or too much
+abbrev pub FetchDue : Stock → Stock → List ℕ → FetchError → Type 0
+FetchDue old new name FetchFailed = Rose old.faults new.faults
+FetchDue old new name NotThere = MatchOption old.held (Rose old.faults new.faults) (λ files. files name ≡ None)
+FetchDue old new name TooLong =
+    MatchOption old.held (Rose old.faults new.faults) (λ files. (bytes : List ℕ) × (files name ≡ Some bytes) × (67108864 < length bytes))
+FetchDue old new name (FetchMemory e) = Unit {0}
+
+-- what the bytes of a file mean to a task
+abbrev pub meaning_of : Task → List ℕ → Result Contents ElfError
+meaning_of task bytes = read_of bytes task.config.base (program_size (parameters_of task.config))
+
+-- why a file is refused; want of memory is free
+abbrev pub FileDue : Task → Stock → ElfError → Type 0
+FileDue task stock (ElfMemory e) = Unit {0}
+FileDue task stock e = (bytes : List ℕ) × IsHeld stock task.file bytes × (meaning_of task bytes ≡ Err e)
+
+-- why the words are refused: what they mean; want of memory is free, and the plain machine is no command yet
+abbrev pub WordsDue : List (List ℕ) → WordsError → Type 0
+WordsDue words (WordsMemory e) = Unit {0}
+WordsDue words Usage = (settings_of words ≡ Err Usage) ⊎ ((job : Job) × (settings_of words ≡ Ok (plain job)))
+WordsDue words e = settings_of words ≡ Err e
+
+-- why a task is refused
+abbrev pub TaskDue : Task → Stock → Stock → Device → Device → Refusal → Type 0
+TaskDue task old new n m (Words e) = ⊥
+TaskDue task old new n m (Fetch name e) = (name.now ≡ task.file) × FetchDue old new task.file e × (m ≡ n)
+TaskDue task old new n m (File e) = FileDue task old e × (m ≡ n)
+TaskDue task old new n m (DeviceRefusal e) = HasFailedToFit e n m
+
+-- why a call is refused
+abbrev pub RefusalDue : List (List ℕ) → Stock → Stock → Device → Device → Refusal → Type 0
+RefusalDue words old new n m (Words e) = WordsDue words e × (m ≡ n)
+RefusalDue words old new n m refusal = (job : Job) × (settings_of words ≡ Ok (run job)) × TaskDue (task_of job) old new n m refusal
+
+-- a call that began no run: a line says why
+pub record IsRefused (r : Refusal) (a : Answer) (terminal shown report read : Stream) : Type 0 where
+  pub status : a.status ≡ refused_status r
+  pub events : a.events ≡ []
+  pub cycles : a.cycles ≡ 0
+  pub shown_none : shown ≡ terminal
+  pub closes : Closes (refused_line r) report read
+
+-- ---- runs
+
+-- a plan is that of a task: its program is what the file means
+pub record IsPlanOf (task : Task) (stock : Stock) (p : Plan) : Type 0 where
+  pub config : p.config ≡ task.config
+  pub geometry : p.geometry ≡ parameters_of task.config
+  pub digest : p.digest ≡ task.digest
+  pub bytes : List ℕ
+  pub held : IsHeld stock task.file bytes
+  pub contents : Contents
+  pub means : meaning_of task bytes ≡ Ok contents
+  pub start : (origin_of p).start ≡ start_state p.geometry contents
+  pub input : (origin_of p).input ≡ []
+  pub planned : IsPlanned p
+
+-- the exit status of a stop
+abbrev pub stop_status : Stop → ℕ
+stop_status (Ended (Trapped cause)) = 1
+stop_status (Ended (Exited value)) = 0
+stop_status (Ended Running) = 0
+stop_status Terminal = 6
+stop_status Report = 6
+stop_status Nvm = 7
+stop_status Limit = 8
+stop_status Memory = 9
+
+-- the closing line of a stop
+abbrev pub stop_line : Stop → ℕ → List ℕ
+stop_line (Ended status) limit = []
+stop_line Report limit = []
+stop_line Terminal limit = closing_of closing.Terminal
+stop_line Nvm limit = closing_of closing.Nvm
+stop_line Limit limit = closing_of (closing.Limit limit)
+stop_line Memory limit = closing_of closing.Memory
+
+-- what the sinks took of a run and its closing line: a report that failed got no more
+abbrev pub ClosesRun : Bool → List ℕ → Stream → Stream → Type 0
+ClosesRun true line old new = new ≡ old
+ClosesRun false line old new = Closes line old new
+
+-- A run was begun over a device that was fitted, and ended. Its cycles are those of a run, and keep what is promised
+-- of every run; the sinks took what its events say.
+pub record IsRunOf (task : Task) (stock : Stock) (n m : Device) (a : Answer) (terminal shown report read : Stream) : Type 0 where
+  pub plan : Plan
+  pub is_plan : IsPlanOf task stock plan
+  pub device : Device
+  pub is_fitted : IsFitted plan device
+  pub from_entry : (shape : Shape) × (device ≡ fitted shape [] n)
+  pub ending : Ending
+  pub told : Stream
+  pub ends : RunEnds plan device m ending terminal shown report told
+  pub closes : ClosesRun ending.deaf (stop_line ending.stop plan.geometry.limit) told read
+  pub events : a.events ≡ ending.events
+  pub cycles : a.cycles ≡ ending.cycles
+  pub status : a.status ≡ stop_status ending.stop
+  pub promise : Promise (origin_of plan) task.config.cuts a.cycles a.events m
+
+-- what the answer to a task is
+abbrev pub TaskAnswered : Task → Stock → Stock → Device → Device → Stream → Stream → Stream → Stream → Answer → Type 0
+TaskAnswered task old new n m terminal shown report read a =
+    ((r : Refusal) × TaskDue task old new n m r × IsRefused r a terminal shown report read)
+    ⊎ IsRunOf task old n m a terminal shown report read
+
+-- what the answer to a call is: a refusal that is due, or a run
+abbrev pub Answered : List (List ℕ) → Stock → Stock → Device → Device → Stream → Stream → Stream → Stream → Answer → Type 0
+Answered words old new n m terminal shown report read a =
+    ((r : Refusal) × RefusalDue words old new n m r × IsRefused r a terminal shown report read)
+    ⊎ ((job : Job) × (settings_of words ≡ Ok (run job)) × IsRunOf (task_of job) old n m a terminal shown report read)

@@ -1,0 +1,265 @@
+//! Whole runs over memory: what is reported, and with which status.
+use crate::top::thynvm;
+use std::alloc::{AllocError, Global};
+use std::process::Abort;
+use std::test::Fail;
+use thy_nvm::MemNvm;
+use thy_out::{MemShelf, MemSink};
+
+/// The ELF header and the one program header of a small program file: its words stand behind these, at
+/// the address 65536, where it starts. The numbers of bytes, in the file and in memory, are for three.
+const HEADERS: [u8; 120] = [
+    0x7f, 0x45, 0x4c, 0x46, 0x02, 0x01, 0x01, 0x00, 0x00, 0x00, 0x00, 0x00, 0x00, 0x00, 0x00, 0x00,
+    0x02, 0x00, 0xf3, 0x00, 0x01, 0x00, 0x00, 0x00, 0x00, 0x00, 0x01, 0x00, 0x00, 0x00, 0x00, 0x00,
+    0x40, 0x00, 0x00, 0x00, 0x00, 0x00, 0x00, 0x00, 0x00, 0x00, 0x00, 0x00, 0x00, 0x00, 0x00, 0x00,
+    0x00, 0x00, 0x00, 0x00, 0x40, 0x00, 0x38, 0x00, 0x01, 0x00, 0x00, 0x00, 0x00, 0x00, 0x00, 0x00,
+    0x01, 0x00, 0x00, 0x00, 0x07, 0x00, 0x00, 0x00, 0x78, 0x00, 0x00, 0x00, 0x00, 0x00, 0x00, 0x00,
+    0x00, 0x00, 0x01, 0x00, 0x00, 0x00, 0x00, 0x00, 0x00, 0x00, 0x01, 0x00, 0x00, 0x00, 0x00, 0x00,
+    0x0c, 0x00, 0x00, 0x00, 0x00, 0x00, 0x00, 0x00, 0x0c, 0x00, 0x00, 0x00, 0x00, 0x00, 0x00, 0x00,
+    0x04, 0x00, 0x00, 0x00, 0x00, 0x00, 0x00, 0x00,
+];
+
+/// `addi a7,zero,93; addi a0,zero,7; ecall`
+const EXIT_SEVEN: [u32; 3] = [0x05d00893, 0x00700513, 0x00000073];
+
+/// `auipc t0,0; lw t1,24(t0); sw t1,16(t0); fence.i; addi a0,zero,1; jal zero,+8; addi a0,zero,9;
+/// addi a7,zero,93; ecall`: it puts its seventh word in place of its fifth.
+const SELF_MODIFYING: [u32; 9] = [
+    0x00000297, 0x0182a303, 0x0062a823, 0x0000100f, 0x00100513, 0x0080006f, 0x00900513, 0x05d00893,
+    0x00000073,
+];
+
+/// A program file of these words, of which there are fewer than 64.
+fn small_file(alloc: Global, words: &[u32]) -> Result<Vec<u8>, AllocError> {
+    let size = (4 * words.len().min(63)) as u8;
+    let mut headers = HEADERS;
+    headers[96] = size;
+    headers[104] = size;
+    let mut file = Vec::from_slice(alloc, &headers)?;
+    for word in words {
+        file.extend_from_slice(&word.to_le_bytes())?;
+    }
+    Ok(file)
+}
+
+/// What a run gave.
+#[derive(Drop)]
+struct Given {
+    status: u8,
+    cycles: u64,
+    terminal: Vec<u8>,
+    report: Vec<u8>,
+}
+
+/// Runs the words, parted by spaces, with the program that exits with 7 under the name F, the one that
+/// modifies itself under S, and 63 bytes of the first under G.
+fn ran(alloc: Global, line: &str) -> Result<Given, AllocError> {
+    let mut words = Vec::new(alloc);
+    for word in line.split(' ') {
+        words.push(String::from_str(alloc, word)?)?;
+    }
+    let mut files = Vec::new(alloc);
+    files.push((
+        String::from_str(alloc, "F")?,
+        small_file(alloc, &EXIT_SEVEN)?,
+    ))?;
+    files.push((
+        String::from_str(alloc, "S")?,
+        small_file(alloc, &SELF_MODIFYING)?,
+    ))?;
+    let mut short = small_file(alloc, &EXIT_SEVEN)?;
+    short.truncate(63);
+    files.push((String::from_str(alloc, "G")?, short))?;
+    let mut shelf = MemShelf::new(files, Vec::new(alloc));
+    let mut terminal = MemSink::new(alloc, 4096, Vec::new(alloc))?;
+    let mut report = MemSink::new(alloc, 4096, Vec::new(alloc))?;
+    let mut nvm = MemNvm::new(alloc);
+    let answer = thynvm(
+        alloc,
+        &words,
+        &mut shelf,
+        &mut terminal,
+        &mut report,
+        &mut nvm,
+    );
+    Ok(Given {
+        status: answer.status,
+        cycles: answer.cycles,
+        terminal: Vec::from_slice(alloc, terminal.taken())?,
+        report: Vec::from_slice(alloc, report.taken())?,
+    })
+}
+
+/// Runs a line and compares its status and its report.
+fn expect(
+    rt: &impl Abort,
+    alloc: Global,
+    line: &str,
+    status: u8,
+    report: &str,
+) -> Result<(), AllocError> {
+    let given = ran(alloc, line)?;
+    assert!(rt; given.status == status, "{line}");
+    assert!(rt; given.report.as_slice() == report.as_bytes(), "{line}");
+    assert!(rt; given.terminal.is_empty());
+    Ok(())
+}
+
+#[test]
+fn the_program_exits_after_1392_cycles(rt: HostRuntime) -> Result<(), Fail> {
+    let alloc = rt.alloc();
+    let given = ran(alloc, "thynvm run F --pages 8 --btt 8 --ptt 8")?;
+    assert_eq!(rt; given.status, 0);
+    assert_eq!(rt; given.cycles, 1392);
+    assert!(rt;
+        given.report.as_slice()
+            == b"commit 0 overlapped 0\nepoch 1 ends at 3 by end\ncommit 1 overlapped 0\nexit 7 at 3\n".as_slice()
+    );
+    Ok(())
+}
+
+#[test]
+fn power_cuts_are_survived(rt: HostRuntime) -> Result<(), Fail> {
+    let alloc = rt.alloc();
+    for (line, status, report) in [
+        (
+            "thynvm run F --pages 8 --btt 8 --ptt 8 --limit 1391",
+            8,
+            "commit 0 overlapped 0\nepoch 1 ends at 3 by end\nlimit 1391\n",
+        ),
+        (
+            "thynvm run F --pages 8 --btt 8 --ptt 8 --cuts 1391 --tears 0",
+            0,
+            "commit 0 overlapped 0\nepoch 1 ends at 3 by end\ncut 1 at cycle 1391\nrestart 0 at 0\nepoch 1 ends at 3 by end\ncommit 1 overlapped 0\nexit 7 at 3\n",
+        ),
+        (
+            "thynvm run F --pages 8 --btt 8 --ptt 8 --cuts 1391 --tears 1",
+            0,
+            "commit 0 overlapped 0\nepoch 1 ends at 3 by end\ncut 1 at cycle 1391\nrestart 1 at 3\nexit 7 at 3\n",
+        ),
+        (
+            "thynvm run F --pages 8 --btt 8 --ptt 8 --cuts 694 --tears 0",
+            0,
+            "cut 1 at cycle 694\nreload\ncommit 0 overlapped 0\nepoch 1 ends at 3 by end\ncommit 1 overlapped 0\nexit 7 at 3\n",
+        ),
+        (
+            "thynvm run F --pages 8 --btt 8 --ptt 8 --cuts 694 --tears 1",
+            0,
+            "cut 1 at cycle 694\nrestart 0 at 0\nepoch 1 ends at 3 by end\ncommit 1 overlapped 0\nexit 7 at 3\n",
+        ),
+        (
+            "thynvm run F --pages 8 --btt 8 --ptt 8 --cuts 1",
+            0,
+            "cut 1 at cycle 1\nreload\ncommit 0 overlapped 0\nepoch 1 ends at 3 by end\ncommit 1 overlapped 0\nexit 7 at 3\n",
+        ),
+    ] {
+        expect(&rt, alloc, line, status, report)?;
+    }
+    Ok(())
+}
+
+#[test]
+fn each_refusal_has_its_line(rt: HostRuntime) -> Result<(), Fail> {
+    let alloc = rt.alloc();
+    for (line, status, report) in [
+        ("thynvm run", 2, "usage\n"),
+        ("thynvm run F --pages 7", 2, "value pages 7\n"),
+        ("thynvm run F --pages x", 2, "word pages\n"),
+        ("thynvm run F --cuts 5,5", 2, "value cuts 5\n"),
+        ("thynvm run F --high 10", 2, "value low 16\n"),
+        ("thynvm run H", 3, "fetch H missing\n"),
+        ("thynvm run G", 4, "file 1 TooShort\n"),
+    ] {
+        expect(&rt, alloc, line, status, report)?;
+    }
+    Ok(())
+}
+
+#[test]
+fn a_program_that_modifies_itself_over_an_epochs_end_exits_with_9(
+    rt: HostRuntime,
+) -> Result<(), Fail> {
+    let alloc = rt.alloc();
+    let given = ran(alloc, "thynvm run S --pages 8 --epoch 3")?;
+    assert_eq!(rt; given.status, 0);
+    assert!(rt; has(&given.report, "\nexit 9 at 8\n"));
+    Ok(())
+}
+
+/// Whether a text has a piece in it.
+fn has(text: &[u8], piece: &str) -> bool {
+    match std::str::from_utf8(text) {
+        Ok(text) => text.contains(piece),
+        Err(_) => false,
+    }
+}
+
+/// What the first boot after a cut reports, with pick 0 and with pick 1: nothing was committed before
+/// the commit block of loading is written in cycle 694, and it is committed from cycle 695 on; that of
+/// the checkpoint is written in cycle 1391.
+fn comes_after(cycle: u64, tear: u64) -> &'static str {
+    if cycle < 694 || (cycle == 694 && tear == 0) {
+        "\nreload\n"
+    } else if cycle == 1391 && tear == 1 {
+        "\nrestart 1 at 3\n"
+    } else {
+        "\nrestart 0 at 0\n"
+    }
+}
+
+/// A cut at each cycle of the run, with one pick: what comes after it, and the same end.
+fn cut_everywhere(rt: &impl Abort, alloc: Global, tear: u64) -> Result<(), AllocError> {
+    for cycle in 1..1392 {
+        let line = format!(in alloc;
+            "thynvm run F --pages 8 --btt 8 --ptt 8 --cuts {cycle} --tears {tear}"
+        )?;
+        let given = ran(alloc, line.as_str())?;
+        assert!(rt; given.status == 0, "{line}");
+        assert!(rt; has(&given.report, "\nexit 7 at 3\n"), "{line}");
+        assert!(rt;
+            tear == 7 || has(&given.report, comes_after(cycle, tear)),
+            "{line}"
+        );
+    }
+    Ok(())
+}
+
+#[test]
+fn a_cut_anywhere_of_which_no_write_lands(rt: HostRuntime) -> Result<(), Fail> {
+    cut_everywhere(&rt, rt.alloc(), 0)?;
+    Ok(())
+}
+
+#[test]
+fn a_cut_anywhere_of_which_every_write_lands(rt: HostRuntime) -> Result<(), Fail> {
+    cut_everywhere(&rt, rt.alloc(), 1)?;
+    Ok(())
+}
+
+#[test]
+fn a_cut_anywhere_with_drawn_blocks(rt: HostRuntime) -> Result<(), Fail> {
+    cut_everywhere(&rt, rt.alloc(), 7)?;
+    Ok(())
+}
+
+#[test]
+fn every_schedule_and_queue_ends_alike(rt: HostRuntime) -> Result<(), Fail> {
+    let alloc = rt.alloc();
+    for seed in 0..6u64 {
+        for queue in [1, 2, 64] {
+            let line = format!(in alloc;
+                "thynvm run F --pages 8 --btt 8 --ptt 8 --epoch 1 --mix {seed} --nvmq {queue}"
+            )?;
+            let given = ran(alloc, line.as_str())?;
+            assert_eq!(rt; given.status, 0);
+            assert!(rt;
+                has(
+                    &given.report,
+                    "\nepoch 3 ends at 3 by end\ncommit 3 overlapped 0\nexit 7 at 3\n"
+                ),
+                "{seed}"
+            );
+        }
+    }
+    Ok(())
+}
