@@ -52,5 +52,5 @@ earlier_runs m limit j k a b less =
 pub StopsAt-unique : (m : Machine) (limit j k : ℕ) → StopsAt m limit j → StopsAt m limit k → j ≡ k
 StopsAt-unique m limit j k a b = elim (cases_order j k) [
   | inl same ↦ same
-  | inr other ↦ absurd (elim other [ | inl less ↦ earlier_runs m limit j k a b less | inr more ↦ earlier_runs m limit k j b a more ])
+  | inr other ↦ absurd (elim other [ inl less ↦ earlier_runs m limit j k a b less | inr more ↦ earlier_runs m limit k j b a more ])
 ]

@@ -145,9 +145,11 @@ module _ (o : Origin) (w next : World) (least : 1 ≤ o.geometry.epoch) (h : Coh
   pub released-part : (part rest : List Happening) → part ++ rest ≡ events_of o w.fresh (seen o w) step.r.did (seen o next) (w.cycles + 1)
       → (more : List ℕ) × (released_of o (w.events ++ part) ≡ released_of o w.events ++ more)
   released-part part rest e =
-      let more : List ℕ = drop (length (console_of (console_at o) (marks_of o w.events).kept)) (console_of (console_at o) (marks_of o (w.events ++ part)).kept) in
-      (more, released_marks o (w.events ++ part) ∙ grown o (marks_of o w.events).kept (marks_of o (w.events ++ part)).kept (part_grows part rest e)
-      ∙ ap (λ (l : List ℕ). l ++ more) (sym (released_marks o w.events)))
+      let more : List ℕ = drop (length (console_of (console_at o) (marks_of o w.events).kept)) (console_of (console_at o) (marks_of o (w.events ++ part)).kept) in (
+        more,
+        released_marks o (w.events ++ part) ∙ grown o (marks_of o w.events).kept (marks_of o (w.events ++ part)).kept (part_grows part rest e)
+            ∙ ap (λ (l : List ℕ). l ++ more) (sym (released_marks o w.events)),
+      )
 
   all_kept : (marks_of o next.events).kept ≡ (if shows_console step.r.did then (seen o next).done else (marks_of o w.events).kept)
   all_kept =
@@ -162,7 +164,7 @@ module _ (o : Origin) (w next : World) (least : 1 ≤ o.geometry.epoch) (h : Coh
       let before : Option Mark = (marks_of o w.events).kept in
       let kept : (marks_of o next.events).kept ≡ (seen o next).done = all_kept ∙ ap (λ b. if b then (seen o next).done else before) shows in
       let later : (marks_from o.start.count (marks_of o w.events) (told o step.r.did (w.cycles + 1))).kept ≡ (seen o next).done =
-          kept-told o (seen o w) (seen o next) (marks_of o w.events) h.fits step.r.did (w.cycles + 1) step.is_step.step ∙ ap (λ b. if b then (seen o next).done else before) shows in
+      kept-told o (seen o w) (seen o next) (marks_of o w.events) h.fits step.r.did (w.cycles + 1) step.is_step.step ∙ ap (λ b. if b then (seen o next).done else before) shows in
       let grows : Grows before (seen o next).done = subst (Grows before) later told_grows in
       released_marks o next.events ∙ ap (console_of (console_at o)) kept ∙ grown o before (seen o next).done grows
       ∙ ap (λ (l : List ℕ). l ++ drop (length l) (console_of (console_at o) (seen o next).done)) (sym (released_marks o w.events))

@@ -232,7 +232,7 @@ module _ (o : Origin) (v next : View) (m : Marks) (did : Did) (fresh : Bool) (cy
       inr (
       ap (marks_from o.start.count m) is ∙ marks_from-append o.start.count m (reload_told fresh next ++ told o did cycle) more
       ∙ end_kept o (marks_from o.start.count m (reload_told fresh next ++ told o did cycle)) next cycle more (halts v next)
-          (part_of_short more rest (end_told o v next cycle) (if_short (halts v next) _) e)
+      (part_of_short more rest (end_told o v next cycle) (if_short (halts v next) _) e)
       ∙ after_reload (told o did cycle))
 
   -- so the first of a cycle's events do
@@ -263,7 +263,10 @@ Safe-covered o kept sealed done doubt n c safe = λ g crash. weaker (decode o.ge
     weaker : (d : Decoded) → IsOneOf o done doubt d → IsOneOf o kept sealed d
     weaker NothingLeft h = c.nothing h
     weaker (RefusedImage bad) h = h
-    weaker (At epoch state) h = (elim h.0 as (λ _. IsEither kept sealed (mark epoch state.count)) [
-      | inl is ↦ c.of_done (mark epoch state.count) is
-      | inr is ↦ c.of_doubt (mark epoch state.count) is
-    ], h.1)
+    weaker (At epoch state) h = (
+      elim h.0 as (λ _. IsEither kept sealed (mark epoch state.count)) [
+        | inl is ↦ c.of_done (mark epoch state.count) is
+        | inr is ↦ c.of_doubt (mark epoch state.count) is
+      ],
+      h.1,
+    )

@@ -134,6 +134,7 @@ Fits-events o v next m did fresh cycle least h s =
     let after_all = marks-events o v next m did fresh cycle least h s in
     let lawful_step : AllLawful (course_of o) m (reload ++ step)
     = AllLawful-append (course_of o) m reload step reloads.lawful (subst (λ n. AllLawful (course_of o) n step) (sym reloads.marks) tells.1) in
-    let fits_step : Fits o next (marks_from start m (reload ++ step)) = subst (Fits o next) (sym after_step) tells.0 in
-    (subst (Fits o next) (sym after_all) tells.0,
-    AllLawful-append (course_of o) m (reload ++ step) end lawful_step (end_lawful o v next (marks_from start m (reload ++ step)) cycle fits_step (halts v next) refl))
+    let fits_step : Fits o next (marks_from start m (reload ++ step)) = subst (Fits o next) (sym after_step) tells.0 in (
+      subst (Fits o next) (sym after_all) tells.0,
+      AllLawful-append (course_of o) m (reload ++ step) end lawful_step (end_lawful o v next (marks_from start m (reload ++ step)) cycle fits_step (halts v next) refl),
+    )

@@ -82,7 +82,7 @@ module _ (o : Origin) (v next : View) (m : Marks) (least : 1 ≤ o.geometry.epoc
       let f : RunFits o v m = of_phase o v m Run phase h in
       let w : View = record (busier v) { written = true } in
       let follows : Follows o w f.mark w.sealed =
-          subst (Follows o w f.mark) (sym is) (let g : Follows o v f.mark (Some s) = subst (Follows o v f.mark) is f.follows in (g.0, g.1, g.2, g.3)) in
+      subst (Follows o w f.mark) (sym is) (let g : Follows o v f.mark (Some s) = subst (Follows o v f.mark) is f.follows in (g.0, g.1, g.2, g.3)) in
       let now : RunFits o w m = record { mark = f.mark; done = f.done; kept = f.kept; sealed = f.sealed; follows = follows; few = f.few; over = f.over } in
       subst (λ w. Fits o w m) (sym e) (in_phase o w m Run phase now)
 
@@ -107,9 +107,14 @@ module _ (o : Origin) (v next : View) (m : Marks) (least : 1 ≤ o.geometry.epoc
     where
       later : (sealed : Option Mark) → Follows o v (of_phase o v m Run phase h).mark sealed → Follows o (record (busier v) { count = v.count + 1; retired = v.retired + 1; lap = v.lap + 1; over = over_at o (v.retired + 1) (v.count + 1) }) (of_phase o v m Run phase h).mark sealed
       later None g = (g.0, g.1, omega (arith, g.2))
-      later (Some s) g = (g.0, omega (arith, g.1), g.2, λ ended. absurd (
-          let still : v.count ≡ s.count = omega (arith, g.1, g.3 ended) in
-          let no : runs_at o v.count ≡ false = ap (runs_at o) still ∙ ended in cc))
+      later (Some s) g = (
+        g.0,
+        omega (arith, g.1),
+        g.2,
+        λ ended. absurd (
+            let still : v.count ≡ s.count = omega (arith, g.1, g.3 ended) in
+            let no : runs_at o v.count ≡ false = ap (runs_at o) still ∙ ended in cc),
+      )
 
   -- the hart moves on, or its epoch is exhausted
   moves : v.phase ≡ Run → v.over ≡ None → runs_at o v.count ≡ true → MovesTo v next → Fits o next m

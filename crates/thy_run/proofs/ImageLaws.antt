@@ -239,8 +239,7 @@ boot_none : (v : View) → v.phase ≡ BootPhase → loads v ≡ false → v.don
 boot_none v boot unloaded none = absurd (let loaded : loads v ≡ true = ap (λ p. is_boot p && is_none v.done) boot ∙ ap (λ (d : Option Mark). is_none d) none in cc)
 
 module _ (o : Origin) (left : List (List Block)) (cycles : ℕ) (fresh : Bool) (v next : View) (s : Since) (f : ImagesFit o left cycles fresh v s)
-  (did : Did) (cycle : ℕ) (c : CoreStep o v did next) where
-
+    (did : Did) (cycle : ℕ) (c : CoreStep o v did next) where
   next_boot : next.phase ≡ BootPhase → BootFinds o left s.cuts next
   next_boot boot =
       let stays = Stays-quiet o v next did cycle c (told-booting o v next did cycle c boot) in
@@ -292,7 +291,7 @@ module _ (o : Origin) (left : List (List Block)) (cycles : ℕ) (fresh : Bool) (
   by_shape (something since is) =
       let end : List Happening = end_told o v next cycle in
       let state : since_from s (told o did cycle ++ end) ≡ settled_since s =
-          since_from-append s (told o did cycle) end ∙ ap (λ t. since_from t end) since ∙ end_since o s next cycle (halts v next) in
+      since_from-append s (told o did cycle) end ∙ ap (λ t. since_from t end) since ∙ end_since o s next cycle (halts v next) in
       subst (StepFits o left cycles next s) (sym is) (record {
         each = AllFitImages-append o left s (told o did cycle) end (told_fits o left cycles fresh v next s f did cycle c)
             (subst (λ t. AllFitImages o left t end) (sym since) (end_fits o left s next cycle (halts v next)));

@@ -79,6 +79,7 @@ pub AllFitImages-more : (o : Origin) (left : List (List Block)) (g : List Block)
 AllFitImages-more o left g s [] valid few all = tt
 AllFitImages-more o left g s (v ∷ vs) valid few all =
     let one = more_cuts s v in
-    let rest = cuts_grow (since_after s v) vs in
-    (fits_more o left g s v valid (omega (arith, one, rest, few)) all.0,
-    AllFitImages-more o left g (since_after s v) vs (valid_after s v) few all.1)
+    let rest = cuts_grow (since_after s v) vs in (
+      fits_more o left g s v valid (omega (arith, one, rest, few)) all.0,
+      AllFitImages-more o left g (since_after s v) vs (valid_after s v) few all.1,
+    )

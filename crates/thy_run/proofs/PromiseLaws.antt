@@ -75,9 +75,10 @@ uncut_since s (v ∷ vs) uncut = inr (first_uncut s v vs (λ none. settled_rest 
 
 -- what the listed cuts come to
 cuts_fit : (cuts : List ℕ) (k : ℕ) (w : World) → Listed cuts k w → (cuts_among w.events ≡ numbered 1 (cuts_up_to k cuts)) × (length (cuts_among w.events) ≡ w.passed)
-cuts_fit cuts k w l =
-    (l.among ∙ ap (numbered 1) (sym l.up_to),
-    ap length l.among ∙ length-numbered 1 (take w.passed cuts) ∙ length-taken w.passed cuts l.few)
+cuts_fit cuts k w l = (
+  l.among ∙ ap (numbered 1) (sym l.up_to),
+  ap length l.among ∙ length-numbered 1 (take w.passed cuts) ∙ length-taken w.passed cuts l.few,
+)
 
 module _ (o : Origin) (cuts : List ℕ) (w : World) (least : 1 ≤ o.geometry.epoch) (g : Good o cuts w) where
   done_promise : Promise o cuts w.cycles w.events w.device
@@ -114,18 +115,18 @@ module _ (o : Origin) (cuts : List ℕ) (w : World) (least : 1 ≤ o.geometry.ep
       let after : Coheres o next = Coheres-stepped o w least g.stands next step in
       let whole : es ≡ part ++ rest = behind_same w.events es (part ++ rest) (sym (ap (λ (x : World). x.events) step.next_is) ∙ split ∙ append_assoc w.events part rest) in
       let uncut : cuts_among part ≡ [] =
-          first_none (cuts_among part) (cuts_among rest) (sym (cuts_among-append part rest) ∙ ap cuts_among (sym whole) ∙ events_uncut o w.fresh (seen o w) step.r.did (seen o next) (w.cycles + 1)) in
+      first_none (cuts_among part) (cuts_among rest) (sym (cuts_among-append part rest) ∙ ap cuts_among (sym whole) ∙ events_uncut o w.fresh (seen o w) step.r.did (seen o next) (w.cycles + 1)) in
       let left_next : next.device.left ≡ w.device.left = step.framed.left in
       let left : n.left ≡ next.device.left = elim device as (λ _. n.left ≡ next.device.left) [ inl e ↦ ap (λ (x : Device). x.left) e | inr f ↦ f.framed.left ] in
       let fit = cuts_fit cuts w.cycles w (listed_going o cuts w g step.going) in
       let same_cuts : cuts_among (w.events ++ part) ≡ cuts_among w.events =
-          cuts_among-append w.events part ∙ ap (λ (l : List Happening). cuts_among w.events ++ l) uncut ∙ append-nil (cuts_among w.events) in
+      cuts_among-append w.events part ∙ ap (λ (l : List Happening). cuts_among w.events ++ l) uncut ∙ append-nil (cuts_among w.events) in
       let going : has_ended (w.events ++ part) ≡ false =
-          list_any-append is_end w.events part ∙ or_from (has_ended w.events) (has_ended part) (g.stands.ended ∙ step.going) unended in
+      list_any-append is_end w.events part ∙ or_from (has_ended w.events) (has_ended part) (g.stands.ended ∙ step.going) unended in
       let marks : marks_of o (w.events ++ part) ≡ marks_from o.start.count m part = marks_from-append o.start.count (loading_marks o.start.count) w.events part in
       let covered = Covers-part o (seen o w) (seen o next) m step.r.did w.fresh (w.cycles + 1) least g.stands.fits step.is_step.step part rest (sym whole) in
       let safe_next : Safe o (marks_from o.start.count m part).kept (marks_from o.start.count m part).sealed next.device =
-          Safe-covered o _ _ (seen o next).done (doubt_of (seen o next)) next.device covered step.is_step.safe in
+      Safe-covered o _ _ (seen o next).done (doubt_of (seen o next)) next.device covered step.is_step.safe in
       let safe : Safe o (marks_from o.start.count m part).kept (marks_from o.start.count m part).sealed n = elim device as (λ _. Safe o (marks_from o.start.count m part).kept (marks_from o.start.count m part).sealed n) [
         | inl e ↦ subst (Safe o (marks_from o.start.count m part).kept (marks_from o.start.count m part).sealed) (sym e) safe_next
         | inr f ↦ Safe-failed o (marks_from o.start.count m part).kept (marks_from o.start.count m part).sealed next.device n safe_next f.failed f.framed

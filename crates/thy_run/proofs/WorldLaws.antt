@@ -265,8 +265,7 @@ Safe-cut o kept sealed old new cut safe = λ h crash.
     subst (λ g. IsOneOf o kept sealed (decode o.geometry ceiling g)) (sym (Crash-cut_to old new.image h at_cut)) (safe new.image cut.crash)
 
 module _ (o : Origin) (x next : World) (h : Coheres o x) (late : x.fresh ≡ false) (going : is_halt (seen o x).phase ≡ false)
-  (safe : Safe o (seen o x).done (doubt_of (seen o x)) x.device) (cut : IsCutOff o x next) where
-
+    (safe : Safe o (seen o x).done (doubt_of (seen o x)) x.device) (cut : IsCutOff o x next) where
   cut_event : List Happening
   cut_event = Cut (x.passed + 1) x.cycles ∷ []
 
@@ -313,8 +312,11 @@ module _ (o : Origin) (x next : World) (h : Coheres o x) (late : x.fresh ≡ fal
     last = λ cycle e before. absurd (let same : x.cycles ≡ cycle = cc in omega (arith, same, before));
     just = λ cycle e. inl (refl, (let same : x.cycles ≡ cycle = cc in sym same));
     fresh_boot = λ e. ((image_phase o.start.count left_image).0, (image_phase o.start.count left_image).1, refl, omega arith);
-    boot = λ e. inr (omega arith, subst (IsFound o (view_of_image o.start.count left_image)) (sym last_left)
-        (cut_found o left_image x.device.left 0 (seen o x) one_of));
+    boot = λ e. inr (
+      omega arith,
+      subst (IsFound o (view_of_image o.start.count left_image)) (sym last_left)
+          (cut_found o left_image x.device.left 0 (seen o x) one_of),
+    );
   }
 
   cut_coheres : Coheres o (cut_off x next.machine next.device)
@@ -344,8 +346,8 @@ module _ (o : Origin) (x next : World) (h : Coheres o x) (late : x.fresh ≡ fal
       → (slice_index cuts x.passed == x.cycles) ≡ true → Listed cuts (last_cuttable next.events next.cycles) next
   Listed-cut cuts c cycles l rising some due =
       let last : last_cuttable next.events next.cycles ≡ x.cycles =
-          ap (λ b. if b then next.cycles - 1 else next.cycles) (Coheres-cut.ended ∙ ap is_halt (ap (λ v. v.phase) cut.found ∙ (image_phase o.start.count left_image).0))
-          ∙ ap (λ (y : World). y.cycles) cut.next_is in
+      ap (λ b. if b then next.cycles - 1 else next.cycles) (Coheres-cut.ended ∙ ap is_halt (ap (λ v. v.phase) cut.found ∙ (image_phase o.start.count left_image).0))
+      ∙ ap (λ (y : World). y.cycles) cut.next_is in
       let now : Listed cuts x.cycles (cut_off x next.machine next.device) = elim (next_cut c 0 cuts x.passed rising l.few l.up_to) as (λ _. Listed cuts x.cycles (cut_off x next.machine next.device)) [
         | inl comes ↦ record {
           few = omega (arith, comes.0);
@@ -389,7 +391,7 @@ Good-first o given w rising f =
     let since : since_from no_cuts w.events ≡ no_cuts = ap (since_from no_cuts) none in
     let boot : (loading_view o.start.count).phase ≡ BootPhase = refl in
     let fits : Fits o (loading_view o.start.count) (loading_marks o.start.count) =
-        record { retired = refl; over = refl; boots = inl (record { done = refl; sealed = refl; marks = refl }) } in
+    record { retired = refl; over = refl; boots = inl (record { done = refl; sealed = refl; marks = refl }) } in
     let images : ImagesFit o w.device.left w.cycles false (loading_view o.start.count) no_cuts = record {
       last = λ cycle e. absurd (cc);
       just = λ cycle e. absurd (cc);

@@ -8,8 +8,11 @@ use Rattle.thy_cli.proofs.top.run_file.Goals as goal
 
 pub returns-in-Err : goal.returns-in-Err
 returns-in-Err g c =
-    inl (c.in-Err.refusal, c.in-Err.ensures.refusal (g.N.Nvm.device c.args.nvm.now),
-    record { status = c.refuse.ensures.status; events = c.refuse.ensures.events; cycles = c.refuse.ensures.cycles; shown_none = refl; closes = c.refuse.ensures.closes })
+    inl (
+      c.in-Err.refusal,
+      c.in-Err.ensures.refusal (g.N.Nvm.device c.args.nvm.now),
+      record { status = c.refuse.ensures.status; events = c.refuse.ensures.events; cycles = c.refuse.ensures.cycles; shown_none = refl; closes = c.refuse.ensures.closes },
+    )
 
 pub returns-in-Ok-fit : goal.returns-in-Ok-fit
 returns-in-Ok-fit g c =
@@ -23,5 +26,8 @@ returns-in-Ok-fit g c =
 
 pub returns : goal.returns
 returns g c =
-    inl (DeviceRefusal c.in-Err-fit.error, c.in-Err-fit.ensures.err,
-    record { status = c.refuse-in-Err-fit.ensures.status; events = c.refuse-in-Err-fit.ensures.events; cycles = c.refuse-in-Err-fit.ensures.cycles; shown_none = refl; closes = c.refuse-in-Err-fit.ensures.closes })
+    inl (
+      DeviceRefusal c.in-Err-fit.error,
+      c.in-Err-fit.ensures.err,
+      record { status = c.refuse-in-Err-fit.ensures.status; events = c.refuse-in-Err-fit.ensures.events; cycles = c.refuse-in-Err-fit.ensures.cycles; shown_none = refl; closes = c.refuse-in-Err-fit.ensures.closes },
+    )

@@ -19,10 +19,16 @@ returns-in-Ok-Plain g c =
       digest = c.in-Ok-Plain.field-0-3;
     } in
     let shown : Command → Result Order WordsError = λ x. Ok (order_of x) in
-    inl (Words Usage, (inr (job, c.in-Ok-Plain.ensures.exact ∙ ap shown c.in-Ok-Plain.field-0-is), refl),
-    record { status = c.refuse.ensures.status; events = c.refuse.ensures.events; cycles = c.refuse.ensures.cycles; shown_none = refl; closes = c.refuse.ensures.closes })
+    inl (
+      Words Usage,
+      (inr (job, c.in-Ok-Plain.ensures.exact ∙ ap shown c.in-Ok-Plain.field-0-is), refl),
+      record { status = c.refuse.ensures.status; events = c.refuse.ensures.events; cycles = c.refuse.ensures.cycles; shown_none = refl; closes = c.refuse.ensures.closes },
+    )
 
 pub returns : goal.returns
 returns g c =
-    inl (Words c.in-Err.error, (WordsDue-shown (map string_bytes c.args.words.now) c.in-Err.error c.in-Err.ensures.exact, refl),
-    record { status = c.refuse-in-Err.ensures.status; events = c.refuse-in-Err.ensures.events; cycles = c.refuse-in-Err.ensures.cycles; shown_none = refl; closes = c.refuse-in-Err.ensures.closes })
+    inl (
+      Words c.in-Err.error,
+      (WordsDue-shown (map string_bytes c.args.words.now) c.in-Err.error c.in-Err.ensures.exact, refl),
+      record { status = c.refuse-in-Err.ensures.status; events = c.refuse-in-Err.ensures.events; cycles = c.refuse-in-Err.ensures.cycles; shown_none = refl; closes = c.refuse-in-Err.ensures.closes },
+    )
