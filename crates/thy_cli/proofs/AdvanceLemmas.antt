@@ -1,10 +1,10 @@
 -- One cycle of the program's loop is one of a run.
-use Rattle.std.proofs.Common.{◌≡◌, ◌⊎◌, ℕ, ◌+◌, ◌<◌, ◌≤◌, Bool, true, false, ◌&&◌, not, nat_lt, ◌==◌, if◌then◌else◌, Option, Some, None, List, [], ◌∷◌, ◌++◌, length, refl, sym, ◌∙◌, ap, subst, inl, inr, append-nil, append_assoc, length-append, ◌^◌, arith}
+use Rattle.std.proofs.Common.{◌≡◌, ◌⊎◌, ℕ, ◌+◌, ◌<◌, Bool, true, false, ◌&&◌, not, nat_lt, ◌==◌, if◌then◌else◌, Option, Some, None, List, [], ◌∷◌, ◌++◌, length, refl, sym, ◌∙◌, ap, subst, inl, inr, append-nil, append_assoc, length-append, ◌^◌, arith}
 use Rattle.std.specs.Prelude.{MatchBool, slice_index}
 use Rattle.std.proofs.lemmas.Bool.{ltb-true, or_from}
 use Rattle.std.proofs.lemmas.List.Folds.{list_any-append}
 use Rattle.thy_base.specs.declared.mix.Mix.{Mix}
-use Rattle.thy_base.specs.Device.{Device, IsCut, IsFramed, RoseFaults, cut_to}
+use Rattle.thy_base.specs.Device.{Device, IsFramed, RoseFaults, cut_to}
 use Rattle.thy_base.specs.Mix.{mix_next}
 use Rattle.thy_isa.specs.declared.state.Status.{Status}
 use Rattle.thy_record.specs.Decode.{Decoded, Nothing as NothingLeft, Refused as RefusedImage, At, decode}
@@ -26,8 +26,8 @@ use Rattle.thy_core.specs.Machine.{HasFailedToRead}
 use Rattle.thy_run.specs.Laws.{released_of}
 use Rattle.thy_run.specs.Cuts.{is_end, has_ended}
 use Rattle.thy_run.specs.Due.{due_of}
-use Rattle.thy_run.specs.Unfinished.{ReadFailed, TellingFailed}
-use Rattle.thy_run.specs.World.{World, seen, told, reload_told, end_told, events_of, stepped, Steps, is_due, cut_off, IsCutOff, Cycle}
+use Rattle.thy_run.specs.Unfinished.{ReadFailed}
+use Rattle.thy_run.specs.World.{World, seen, told, reload_told, end_told, events_of, stepped, Steps, is_due, IsCutOff}
 use Rattle.thy_run.proofs.ConsoleLaws.{released-cut, released-stepped, released-part, length-released}
 use Rattle.thy_run.proofs.WorldLaws.{Good, Good-ran, events_end, told_uncut, reload_uncut}
 use Rattle.thy_cli.specs.declared.answer.Stop.{Stop}

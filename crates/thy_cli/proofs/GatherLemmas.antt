@@ -1,5 +1,5 @@
 -- What a step lets be read.
-use Rattle.std.proofs.Common.{◌≡◌, ℕ, ◌+◌, Bool, true, false, ◌&&◌, not, if◌then◌else◌, Option, Some, None, List, [], length, drop, refl, sym, ◌∙◌, ap, subst}
+use Rattle.std.proofs.Common.{◌≡◌, ℕ, Bool, true, false, ◌&&◌, not, if◌then◌else◌, Option, Some, List, [], length, drop, refl, sym, ◌∙◌, ap, subst}
 use Rattle.thy_base.specs.declared.mark.Mark.{Mark}
 use Rattle.thy_isa.specs.declared.state.MachState.{MachState}
 use Rattle.thy_text.specs.Happening.{Happening}
@@ -10,7 +10,7 @@ use Rattle.thy_model.specs.declared.view.Phase.{Phase}
 use Rattle.thy_model.specs.declared.view.Phase.TheVariants.{Boot as BootPhase, Run, Halt}
 use Rattle.thy_model.specs.declared.view.View.{View}
 use Rattle.thy_model.specs.Calls.{is_boot, is_halt, halts}
-use Rattle.thy_model.specs.CoreStep.{mark, CoreStep, phase_at}
+use Rattle.thy_model.specs.CoreStep.{mark, CoreStep}
 use Rattle.thy_model.specs.Origin.{Origin, at, runs_at}
 use Rattle.thy_model.proofs.StateLemmas.{both_hold}
 use Rattle.thy_core.specs.Machine.{IsSnapshot}

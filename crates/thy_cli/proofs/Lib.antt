@@ -4,4 +4,5 @@ pub mod TellLemmas
 pub mod AdvanceLemmas
 pub mod TurnLemmas
 pub mod StartLemmas
+pub mod PlainLemmas
 pub mod TopLemmas

@@ -1,10 +1,9 @@
 -- A run before its first cycle, and one at its limit.
-use Rattle.std.proofs.Common.{◌≡◌, ℕ, ◌+◌, ◌<◌, ◌≤◌, Bool, true, false, if◌then◌else◌, Option, Some, None, List, [], ◌∷◌, ◌++◌, length, refl, sym, ◌∙◌, ap, subst, inl, inr, append-nil, arith}
+use Rattle.std.proofs.Common.{◌≡◌, ℕ, ◌+◌, false, Some, None, List, [], refl, sym, ◌∙◌, ap, subst, inl, append-nil, arith}
 use Rattle.std.specs.Prelude.{replicate}
 use Rattle.std.proofs.lemmas.List.{length-replicate}
-use Rattle.thy_base.specs.Device.{Device, zero_block, fitted}
+use Rattle.thy_base.specs.Device.{Device, zero_block}
 use Rattle.thy_base.specs.Geometry.{memory_blocks}
-use Rattle.thy_base.specs.Mix.{mix_start}
 use Rattle.thy_base.specs.Outside.{Stream, Took}
 use Rattle.thy_isa.specs.declared.state.Status.TheVariants.{Running as RunningStatus}
 use Rattle.thy_text.specs.Happening.{Happening}
@@ -20,11 +19,11 @@ use Rattle.thy_model.specs.Sound.{doubt_of, view_of}
 use Rattle.thy_model.proofs.CallLaws.{IsAt-fresh, Safe-at}
 use Rattle.thy_run.specs.Cuts.{has_ended}
 use Rattle.thy_run.specs.Laws.{released_of}
-use Rattle.thy_run.specs.World.{IsFirst, seen}
+use Rattle.thy_run.specs.World.{IsFirst}
 use Rattle.thy_cli.specs.declared.answer.Stop.TheVariants.{Memory, Limit}
 use Rattle.thy_cli.specs.declared.plan.Plan.{Plan}
 use Rattle.thy_cli.specs.declared.progress.Progress.{Progress}
-use Rattle.thy_cli.specs.Going.{origin_of, given_of, world_at, IsPlanned, GoesOn}
+use Rattle.thy_cli.specs.Going.{origin_of, given_of, world_at, IsPlanned}
 use Rattle.thy_cli.specs.Sending.{Sends}
 use Rattle.thy_cli.specs.Turning.{IsFitted, Running, RunEnds, first_progress}
 use Rattle.thy_cli.proofs.AdvanceLemmas.{good_of}

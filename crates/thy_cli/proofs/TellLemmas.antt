@@ -1,5 +1,5 @@
 -- The lines of events, one after another.
-use Rattle.std.proofs.Common.{◌≡◌, ℕ, ◌+◌, ◌<◌, ◌≤◌, Bool, true, false, List, [], ◌∷◌, ◌++◌, take, drop, length, refl, sym, ◌∙◌, ap, append_assoc, append-nil, subst, Some, arith}
+use Rattle.std.proofs.Common.{◌≡◌, ℕ, ◌+◌, ◌<◌, Bool, true, false, List, [], ◌∷◌, ◌++◌, take, drop, length, sym, ◌∙◌, ap, append_assoc, Some}
 use Rattle.std.specs.Prelude.{slice_get}
 use Rattle.std.specs.Prelude.{Result, Ok, Err, OnErr}
 use Rattle.std.proofs.lemmas.List.{take_more, take-append-drop}
@@ -9,7 +9,7 @@ use Rattle.thy_base.proofs.Streams.{Took-append, TookPart-append, TookPart-more}
 use Rattle.thy_text.specs.Happening.{Happening, Reload}
 use Rattle.thy_text.specs.Lines.{line_of, report_of}
 use Rattle.thy_text.proofs.Histories.{report_of-append, report_of-more}
-use Rattle.thy_cli.specs.Sending.{Sends, Sent}
+use Rattle.thy_cli.specs.Sending.{Sends}
 
 -- the first lines and one more
 one_more : (digest : Bool) (events : List Happening) (i : ℕ) (v : Happening) → i < length events → slice_get events i ≡ Some v

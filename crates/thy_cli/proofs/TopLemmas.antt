@@ -1,30 +1,27 @@
 -- What the top call makes of a job.
-use Rattle.std.proofs.Common.{◌≡◌, ◌⊎◌, ℕ, ◌+◌, ◌*◌, ◌^◌, ◌<◌, ◌≤◌, Bool, true, false, if◌then◌else◌, Option, Some, None, List, [], ◌∷◌, length, refl, sym, ◌∙◌, ap, subst, inl, inr, lit<, arith}
-use Rattle.std.specs.Prelude.{Result, Ok, Err, slice_index}
-use Rattle.std.specs.List.{All}
+use Rattle.std.proofs.Common.{◌≡◌, ℕ, Bool, true, false, Option, Some, None, List, [], length, refl, sym, ◌∙◌, ap, subst, inl, inr, lit<, arith}
+use Rattle.std.specs.Prelude.{Result, Ok, Err}
 use Rattle.std.specs.Option.{option_or}
 use Rattle.thy_base.specs.declared.config.Config.{Config}
 use Rattle.thy_base.specs.declared.config.ConfigError.{ConfigError}
 use Rattle.thy_base.specs.declared.config.Field.{Field}
 use Rattle.thy_base.specs.declared.config.Parameters.{Parameters}
 use Rattle.thy_base.specs.declared.nvm.Shape.{Shape}
-use Rattle.thy_base.specs.Bytes.{bytes_of}
-use Rattle.thy_base.specs.Config.{fault_of, or_fault, or_value, memory_fault, table_fault, queue_fault, threshold_fault, cut_fault, end_fault, first_not_rising}
+use Rattle.thy_base.specs.Config.{fault_of, or_fault, or_value, memory_fault, table_fault, queue_fault, threshold_fault, cut_fault, first_not_rising}
 use Rattle.thy_base.specs.Device.{Device, fitted}
-use Rattle.thy_base.specs.Geometry.{IsInRange, geometry_or, geometry_of, parameters_of, program_size, console_room, blocks_of}
+use Rattle.thy_base.specs.Geometry.{IsInRange, geometry_or, geometry_of, parameters_of, program_size, blocks_of}
 use Rattle.thy_base.specs.Outside.{Stock, Stream}
 use Rattle.thy_isa.specs.declared.state.Status.TheVariants.{Running}
 use Rattle.thy_isa.specs.Storable.{IsNumber, IsStorable}
-use Rattle.thy_isa.specs.Step.{State, cpu_of}
+use Rattle.thy_isa.specs.Step.{State}
 use Rattle.thy_isa.proofs.MemoryBounds.{anywhere}
 use Rattle.thy_record.specs.Cpu.{is_status, status_tag, status_value}
-use Rattle.thy_record.specs.Decode.{IsRecordable}
 use Rattle.thy_elf.specs.declared.error.ElfError.{ElfError}
 use Rattle.thy_elf.specs.Image.{Contents, read_of}
 use Rattle.thy_plain.specs.Start.{start_state}
 use Rattle.thy_words.specs.declared.words.WordsError.{WordsError}
 use Rattle.thy_words.specs.declared.words.WordsError.TheVariants.{Usage, Word, Value, Memory as WordsMemory}
-use Rattle.thy_words.specs.Settings.{Job, run, settings_of, order_of, ShowsOrMemory}
+use Rattle.thy_words.specs.Settings.{Job, Order, run, plain, settings_of, order_of, ShowsOrMemory}
 use Rattle.thy_model.specs.Origin.{Origin}
 use Rattle.thy_model.specs.Sound.{IsOrigin}
 use Rattle.thy_run.specs.Laws.{Promise}
@@ -33,10 +30,10 @@ use Rattle.thy_cli.specs.declared.answer.Answer.{Answer}
 use Rattle.thy_cli.specs.declared.cycles.Ending.{Ending}
 use Rattle.thy_cli.specs.declared.plan.Plan.{Plan}
 use Rattle.thy_cli.specs.declared.refusal.Refusal.{Refusal}
-use Rattle.thy_cli.specs.declared.refusal.Refusal.TheVariants.{Words, Fetch, File, Device as DeviceRefusal}
-use Rattle.thy_cli.specs.Answering.{Task, task_of, WordsDue, meaning_of, TaskDue, RefusalDue, IsRefused, IsPlanOf, IsRunOf, ClosesRun, TaskAnswered, Answered, stop_line, stop_status}
-use Rattle.thy_cli.specs.Going.{origin_of, given_of, IsPlanned}
-use Rattle.thy_cli.specs.Turning.{IsFitted, RunEnds}
+use Rattle.thy_cli.specs.declared.refusal.Refusal.TheVariants.{Words, Fetch, File, Device as DeviceRefusal, Memory as MemoryRefusal}
+use Rattle.thy_cli.specs.Answering.{Task, task_of, WordsDue, meaning_of, OrderDue, RefusalDue, IsPlanOf, IsRunOf, ClosesRun, PlainAnswered, TaskAnswered, Answered, stop_line, stop_status}
+use Rattle.thy_cli.specs.Going.{origin_of, given_of}
+use Rattle.thy_cli.specs.Turning.{RunEnds}
 
 -- ---- configurations
 
@@ -100,17 +97,17 @@ IsOrigin-start o contents range is storable =
 
 -- a run that was begun keeps its promise
 pub IsRunOf-ran : (task : Task) (stock : Stock) (plan : Plan) (n d m : Device) (shape : Shape) (e : Ending) (a : Answer) (t0 t r0 told r : Stream) → IsPlanOf task stock plan
-    → d ≡ fitted shape [] n → shape.blocks ≡ blocks_of plan.geometry → shape.cuts ≡ length plan.config.cuts → RunEnds plan d m e t0 t r0 told
+    → d ≡ fitted shape [] n → shape.blocks ≡ blocks_of plan.geometry → shape.queue ≡ plan.geometry.nvmq → shape.cuts ≡ length plan.config.cuts → RunEnds plan d m e t0 t r0 told
     → ClosesRun e.deaf (stop_line e.stop plan.geometry.limit) told r → a.events ≡ e.events → a.cycles ≡ e.cycles → a.status ≡ stop_status e.stop → IsRunOf task stock n m a t0 t r0 r
-IsRunOf-ran task stock plan n d m shape e a t0 t r0 told r p fit blocks cuts ends closes events cycles status =
+IsRunOf-ran task stock plan n d m shape e a t0 t r0 told r p fit blocks queue cuts ends closes events cycles status =
     let o : Origin = origin_of plan in
     let kept = Promise-finished o (given_of plan d) e.cycles e.events m p.planned.origin p.planned.rising ends.finished in
     record {
       plan = plan;
       is_plan = p;
       device = d;
-      is_fitted = record { shape = shape; before = n; blocks = blocks; cuts = cuts; is_fitted = fit };
-      from_entry = (shape, fit);
+      is_fitted = record { shape = shape; before = n; blocks = blocks; queue = queue; cuts = cuts; is_fitted = fit };
+      from_entry = fit;
       ending = e;
       told = told;
       ends = ends;
@@ -124,21 +121,40 @@ IsRunOf-ran task stock plan n d m shape e a t0 t r0 told r p fit blocks cuts end
           (subst (λ vs. Promise o plan.config.cuts e.cycles vs m) (sym events) kept));
     }
 
--- what is due to a task is due to the words that ask for it
-due_of_job : (words : List (List ℕ)) (job : Job) (old new : Stock) (n m : Device) (r : Refusal) → settings_of words ≡ Ok (run job) → TaskDue (task_of job) old new n m r → RefusalDue words old new n m r
-due_of_job words job old new n m (Words e) is due = absurd due
-due_of_job words job old new n m (Fetch name e) is due = (job, is, due)
-due_of_job words job old new n m (File e) is due = (job, is, due)
-due_of_job words job old new n m (DeviceRefusal e) is due = (job, is, due)
+-- what is due to an order is due to the words that ask for it; words are none of its reasons
+due_of_order : (words : List (List ℕ)) (order : Order) (old new : Stock) (n m : Device) (r : Refusal) → settings_of words ≡ Ok order → OrderDue order old new n m r → RefusalDue words old new n m r
+due_of_order words (run job) old new n m (Words e) is due = absurd due
+due_of_order words (plain job) old new n m (Words e) is due = absurd due.0
+due_of_order words order old new n m (Fetch name e) is due = (order, is, due)
+due_of_order words order old new n m (File e) is due = (order, is, due)
+due_of_order words order old new n m (DeviceRefusal e) is due = (order, is, due)
+due_of_order words order old new n m (MemoryRefusal e) is due = (order, is, due)
 
-pub Answered-job : (words : List (List ℕ)) (job : Job) (old new : Stock) (n m : Device) (t0 t r0 r : Stream) (a : Answer) → settings_of words ≡ Ok (run job)
+answered_run : (words : List (List ℕ)) (job : Job) (old new : Stock) (n m : Device) (t0 t r0 r : Stream) (a : Answer) → settings_of words ≡ Ok (run job)
     → TaskAnswered (task_of job) old new n m t0 t r0 r a → Answered words old new n m t0 t r0 r a
-Answered-job words job old new n m t0 t r0 r a is (inl (refusal, due, refused)) = inl (refusal, due_of_job words job old new n m refusal is due, refused)
-Answered-job words job old new n m t0 t r0 r a is (inr ran) = inr (job, is, ran)
+answered_run words job old new n m t0 t r0 r a is (inl (refusal, due, refused)) = inl (refusal, due_of_order words (run job) old new n m refusal is due, refused)
+answered_run words job old new n m t0 t r0 r a is (inr ran) = inr (inl (job, is, ran))
+
+-- a job for the machine
+pub Answered-run : (words : List (List ℕ)) (job : Job) (file : List ℕ) (old new : Stock) (n m : Device) (t0 t r0 r : Stream) (a : Answer) → settings_of words ≡ Ok (run job) → file ≡ job.file
+    → TaskAnswered (record { file = file; config = job.config; digest = job.digest }) old new n m t0 t r0 r a → Answered words old new n m t0 t r0 r a
+Answered-run words job file old new n m t0 t r0 r a is named h =
+    answered_run words job old new n m t0 t r0 r a is (subst (λ f. TaskAnswered (record { file = f; config = job.config; digest = job.digest }) old new n m t0 t r0 r a) named h)
+
+answered_plain : (words : List (List ℕ)) (job : Job) (old new : Stock) (n : Device) (t0 t r0 r : Stream) (a : Answer) → settings_of words ≡ Ok (plain job)
+    → PlainAnswered (task_of job) old new t0 t r0 r a → Answered words old new n n t0 t r0 r a
+answered_plain words job old new n t0 t r0 r a is (inl (refusal, due, refused)) = inl (refusal, due_of_order words (plain job) old new n n refusal is (due n, refl), refused)
+answered_plain words job old new n t0 t r0 r a is (inr ran) = inr (inr (job, is, refl, ran))
+
+-- a job for the plain machine
+pub Answered-plain : (words : List (List ℕ)) (job : Job) (file : List ℕ) (old new : Stock) (n : Device) (t0 t r0 r : Stream) (a : Answer) → settings_of words ≡ Ok (plain job) → file ≡ job.file
+    → PlainAnswered (record { file = file; config = job.config; digest = job.digest }) old new t0 t r0 r a → Answered words old new n n t0 t r0 r a
+Answered-plain words job file old new n t0 t r0 r a is named h =
+    answered_plain words job old new n t0 t r0 r a is (subst (λ f. PlainAnswered (record { file = f; config = job.config; digest = job.digest }) old new t0 t r0 r a) named h)
 
 -- why words are refused
 pub WordsDue-shown : (words : List (List ℕ)) (e : WordsError) → ShowsOrMemory order_of (settings_of words) (Err e) → WordsDue words e
-WordsDue-shown words Usage h = inl h
+WordsDue-shown words Usage h = h
 WordsDue-shown words (Word field) h = h
 WordsDue-shown words (Value field value) h = h
 WordsDue-shown words (WordsMemory e) h = tt

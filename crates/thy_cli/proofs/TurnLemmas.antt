@@ -1,22 +1,22 @@
 -- A cycle that was told is a turn of the loop.
-use Rattle.std.proofs.Common.{◌≡◌, ◌⊎◌, ℕ, suc, ◌+◌, ◌<◌, ◌≤◌, Bool, true, false, Option, Some, None, List, [], ◌∷◌, ◌++◌, length, take, refl, sym, ◌∙◌, ap, subst, inl, inr, append-nil, append_assoc, length-append, arith}
+use Rattle.std.proofs.Common.{◌≡◌, ℕ, suc, ◌+◌, ◌<◌, ◌≤◌, Bool, true, false, List, [], ◌∷◌, ◌++◌, length, take, refl, sym, ◌∙◌, ap, subst, inl, inr, append-nil, append_assoc, length-append, arith}
 use Rattle.thy_base.specs.Device.{Device, RoseFaults}
-use Rattle.thy_base.specs.Outside.{Stream, Took, TookPart}
+use Rattle.thy_base.specs.Outside.{Stream}
 use Rattle.thy_base.proofs.Streams.{Took-append, TookPart-append, TookPart-more}
 use Rattle.thy_text.specs.Happening.{Happening}
 use Rattle.thy_text.specs.Lines.{report_of}
 use Rattle.thy_run.specs.Laws.{released_of}
 use Rattle.thy_isa.specs.declared.state.Status.{Status}
 use Rattle.thy_model.specs.Calls.{is_halt}
-use Rattle.thy_run.specs.World.{Ran, World, seen}
+use Rattle.thy_run.specs.World.{Ran, seen}
 use Rattle.thy_cli.specs.declared.advance.Outcome.{Outcome}
 use Rattle.thy_cli.specs.declared.advance.Outcome.TheVariants.{Goes, Ends, Fails}
 use Rattle.thy_cli.specs.declared.answer.Stop.{Stop}
 use Rattle.thy_cli.specs.declared.answer.Stop.TheVariants.{Ended, Nvm, Memory, Terminal, Report, Limit}
 use Rattle.thy_cli.specs.declared.plan.Plan.{Plan}
 use Rattle.thy_cli.specs.declared.progress.Progress.{Progress}
-use Rattle.thy_cli.specs.Going.{origin_of, given_of, world_at, IsPlanned, GoesOn, IsDone, IsBroken, Breaks, ComesTo}
-use Rattle.thy_cli.specs.Sending.{Sent, Sends, SendsSome, Delivers}
+use Rattle.thy_cli.specs.Going.{origin_of, given_of, world_at, IsDone, IsBroken, Breaks, ComesTo}
+use Rattle.thy_cli.specs.Sending.{Sent, Sends, Delivers}
 use Rattle.thy_cli.specs.Turning.{turned_of, is_memory, StopFits, Running, RunEnds, IsTurned}
 
 -- ---- what sinks take

@@ -1,37 +1,39 @@
 -- What the top call answers.
-use Rattle.std.specs.Prelude.{◌≡◌, ◌⊎◌, ℕ, ◌<◌, Bool, true, false, List, [], ◌∷◌, ◌++◌, length, codes, Option, Some, None, Result, Ok, Err, MatchOption}
+use Rattle.std.specs.Prelude.{◌≡◌, ◌⊎◌, ℕ, ◌<◌, Bool, true, false, List, [], ◌∷◌, length, codes, Option, Some, None, Result, Ok, Err, MatchOption}
 use Rattle.std.specs.Fmt.{decimal}
 use Rattle.thy_base.specs.declared.outside.FetchError.{FetchError}
 use Rattle.thy_base.specs.declared.outside.FetchError.TheVariants.{Failed as FetchFailed, NotThere, TooLong, Memory as FetchMemory}
-use Rattle.thy_base.specs.declared.nvm.FitError.{FitError}
 use Rattle.thy_base.specs.declared.nvm.FitError.TheVariants.{Failed as FitFailed, Memory as FitMemory}
 use Rattle.thy_base.specs.declared.config.Config.{Config}
-use Rattle.thy_base.specs.declared.nvm.Shape.{Shape}
+use Rattle.thy_base.specs.Bytes.{bytes_of}
 use Rattle.thy_base.specs.Device.{Device, HasFailedToFit, fitted}
-use Rattle.thy_base.specs.Geometry.{parameters_of, program_size}
+use Rattle.thy_base.specs.Geometry.{IsInRange, parameters_of, program_size}
 use Rattle.thy_base.specs.Outside.{Stock, Files, Stream, Rose}
 use Rattle.thy_elf.specs.declared.error.ElfError.{ElfError}
 use Rattle.thy_elf.specs.declared.error.ElfError.TheVariants.{Memory as ElfMemory}
-use Rattle.thy_elf.specs.Image.{Contents, read_of}
+use Rattle.thy_elf.specs.Image.{Contents, contents_of, read_of}
 use Rattle.thy_elf.specs.Refusal.{number_of, name_of, index_of}
 use Rattle.thy_isa.specs.declared.state.Status.TheVariants.{Running, Exited, Trapped}
+use Rattle.thy_isa.specs.declared.state.Status.{Status}
+use Rattle.thy_isa.specs.Step.{State}
+use Rattle.thy_plain.specs.Machine.{Machine, loaded, after_steps, StopsAt}
 use Rattle.thy_plain.specs.Start.{start_state}
-use Rattle.thy_text.specs.declared.closing.Closing.{Closing}
 use Rattle.thy_text.specs.declared.closing.Closing.TheVariants as closing
 use Rattle.thy_text.specs.declared.closing.FetchFault.TheVariants as fault
 use Rattle.thy_text.specs.Closings.{closing_of}
-use Rattle.thy_text.specs.Lines.{joined, line_feed}
+use Rattle.thy_text.specs.Lines.{joined, line_feed, ended_lines}
 use Rattle.thy_words.specs.declared.words.WordsError.{WordsError}
 use Rattle.thy_words.specs.declared.words.WordsError.TheVariants.{Usage, Word, Value, Memory as WordsMemory}
-use Rattle.thy_words.specs.Settings.{Job, run, plain, settings_of}
+use Rattle.thy_words.specs.Settings.{Job, Order, run, plain, settings_of}
 use Rattle.thy_run.specs.Laws.{Promise}
 use Rattle.thy_cli.specs.declared.answer.Answer.{Answer}
 use Rattle.thy_cli.specs.declared.answer.Stop.{Stop}
 use Rattle.thy_cli.specs.declared.answer.Stop.TheVariants.{Ended, Nvm, Memory, Terminal, Report, Limit}
 use Rattle.thy_cli.specs.declared.cycles.Ending.{Ending}
 use Rattle.thy_cli.specs.declared.plan.Plan.{Plan}
+use Rattle.thy_cli.specs.declared.source.Program.{Program}
 use Rattle.thy_cli.specs.declared.refusal.Refusal.{Refusal}
-use Rattle.thy_cli.specs.declared.refusal.Refusal.TheVariants.{Words, Fetch, File, Device as DeviceRefusal}
+use Rattle.thy_cli.specs.declared.refusal.Refusal.TheVariants.{Words, Fetch, File, Device as DeviceRefusal, Memory as MemoryRefusal}
 use Rattle.thy_cli.specs.Going.{origin_of, IsPlanned}
 use Rattle.thy_cli.specs.Sending.{Sent}
 use Rattle.thy_cli.specs.Turning.{IsFitted, RunEnds}
@@ -58,6 +60,7 @@ refused_status (File (ElfMemory e)) = 9
 refused_status (File e) = 4
 refused_status (DeviceRefusal FitFailed) = 7
 refused_status (DeviceRefusal (FitMemory e)) = 9
+refused_status (MemoryRefusal e) = 9
 
 -- the closing line of a refusal
 abbrev pub refused_line : Refusal → List ℕ
@@ -73,6 +76,7 @@ refused_line (File (ElfMemory e)) = closing_of closing.Memory
 refused_line (File e) = file_line e
 refused_line (DeviceRefusal FitFailed) = closing_of closing.Nvm
 refused_line (DeviceRefusal (FitMemory e)) = closing_of closing.Memory
+refused_line (MemoryRefusal e) = closing_of closing.Memory
 
 -- a line was written, or the report failed in it
 abbrev pub Closes : List ℕ → Stream → Stream → Type 0
@@ -109,10 +113,9 @@ abbrev pub FileDue : Task → Stock → ElfError → Type 0
 FileDue task stock (ElfMemory e) = Unit {0}
 FileDue task stock e = (bytes : List ℕ) × IsHeld stock task.file bytes × (meaning_of task bytes ≡ Err e)
 
--- why the words are refused: what they mean; want of memory is free, and the plain machine is no command yet
+-- why the words are refused: what they mean; want of memory is free
 abbrev pub WordsDue : List (List ℕ) → WordsError → Type 0
 WordsDue words (WordsMemory e) = Unit {0}
-WordsDue words Usage = (settings_of words ≡ Err Usage) ⊎ ((job : Job) × (settings_of words ≡ Ok (plain job)))
 WordsDue words e = settings_of words ≡ Err e
 
 -- why a task is refused
@@ -121,11 +124,17 @@ TaskDue task old new n m (Words e) = ⊥
 TaskDue task old new n m (Fetch name e) = (name.now ≡ task.file) × FetchDue old new task.file e × (m ≡ n)
 TaskDue task old new n m (File e) = FileDue task old e × (m ≡ n)
 TaskDue task old new n m (DeviceRefusal e) = HasFailedToFit e n m
+TaskDue task old new n m (MemoryRefusal e) = m ≡ n
+
+-- why an order is refused: the plain machine leaves the device alone
+abbrev pub OrderDue : Order → Stock → Stock → Device → Device → Refusal → Type 0
+OrderDue (run job) old new n m r = TaskDue (task_of job) old new n m r
+OrderDue (plain job) old new n m r = TaskDue (task_of job) old new n m r × (m ≡ n)
 
 -- why a call is refused
 abbrev pub RefusalDue : List (List ℕ) → Stock → Stock → Device → Device → Refusal → Type 0
 RefusalDue words old new n m (Words e) = WordsDue words e × (m ≡ n)
-RefusalDue words old new n m refusal = (job : Job) × (settings_of words ≡ Ok (run job)) × TaskDue (task_of job) old new n m refusal
+RefusalDue words old new n m refusal = (order : Order) × (settings_of words ≡ Ok order) × OrderDue order old new n m refusal
 
 -- a call that began no run: a line says why
 pub record IsRefused (r : Refusal) (a : Answer) (terminal shown report read : Stream) : Type 0 where
@@ -136,6 +145,15 @@ pub record IsRefused (r : Refusal) (a : Answer) (terminal shown report read : St
   pub closes : Closes (refused_line r) report read
 
 -- ---- runs
+
+-- a program is what a task's file means
+pub record IsProgramOf (task : Task) (stock : Stock) (p : Program) : Type 0 where
+  pub geometry : p.geometry ≡ parameters_of task.config
+  pub in_range : IsInRange p.geometry
+  pub bytes : List ℕ
+  pub held : IsHeld stock task.file bytes
+  pub means : meaning_of task bytes ≡ Ok (contents_of p.image)
+  pub size : length (bytes_of p.image.memory) ≡ program_size p.geometry
 
 -- a plan is that of a task: its program is what the file means
 pub record IsPlanOf (task : Task) (stock : Stock) (p : Plan) : Type 0 where
@@ -182,7 +200,7 @@ pub record IsRunOf (task : Task) (stock : Stock) (n m : Device) (a : Answer) (te
   pub is_plan : IsPlanOf task stock plan
   pub device : Device
   pub is_fitted : IsFitted plan device
-  pub from_entry : (shape : Shape) × (device ≡ fitted shape [] n)
+  pub from_entry : device ≡ fitted is_fitted.shape [] n
   pub ending : Ending
   pub told : Stream
   pub ends : RunEnds plan device m ending terminal shown report told
@@ -192,14 +210,63 @@ pub record IsRunOf (task : Task) (stock : Stock) (n m : Device) (a : Answer) (te
   pub status : a.status ≡ stop_status ending.stop
   pub promise : Promise (origin_of plan) task.config.cuts a.cycles a.events m
 
+-- ---- the plain machine
+
+-- why the plain machine stopped: for a sink that failed, else by its status
+abbrev pub plain_stop : (mute deaf : Bool) → Status → Stop
+plain_stop mute true status = Report
+plain_stop true false status = Terminal
+plain_stop false false Running = Limit
+plain_stop false false status = Ended status
+
+-- the plain machine at the start of a program; no input is read yet
+abbrev pub plain_start : Task → Contents → Machine
+plain_start task contents = loaded (parameters_of task.config) contents []
+
+-- its state after so many steps
+abbrev pub plain_state : Task → Contents → ℕ → State
+plain_state task contents k = (after_steps k (plain_start task contents)).state
+
+-- the lines of a state that has ended
+abbrev pub end_lines : Task → State → List ℕ
+end_lines task s = ended_lines task.digest s.status s.count s.memory
+
+-- The plain machine took the program's steps from its start, up to the first state that runs no more or the limit;
+-- the sinks took what its last state says.
+pub record IsPlainOf (task : Task) (stock : Stock) (a : Answer) (terminal shown report read : Stream) : Type 0 where
+  pub bytes : List ℕ
+  pub held : IsHeld stock task.file bytes
+  pub contents : Contents
+  pub means : meaning_of task bytes ≡ Ok contents
+  pub stops : StopsAt (plain_start task contents) task.config.limit a.cycles
+  pub last : State
+  pub is_last : last ≡ plain_state task contents a.cycles
+  pub mute : Bool
+  pub deaf : Bool
+  pub shown_all : Sent mute terminal shown last.console
+  pub told : Stream
+  pub read_all : Sent deaf report told (end_lines task last)
+  pub closes : ClosesRun deaf (stop_line (plain_stop mute deaf last.status) task.config.limit) told read
+  pub status : a.status ≡ stop_status (plain_stop mute deaf last.status)
+  pub events : a.events ≡ []
+
+-- what the answer to a task on the plain machine is
+abbrev pub PlainAnswered : Task → Stock → Stock → Stream → Stream → Stream → Stream → Answer → Type 0
+PlainAnswered task old new terminal shown report read a =
+    ((r : Refusal) × ((n : Device) → TaskDue task old new n n r) × IsRefused r a terminal shown report read)
+    ⊎ IsPlainOf task old a terminal shown report read
+
+-- ---- answers
+
 -- what the answer to a task is
 abbrev pub TaskAnswered : Task → Stock → Stock → Device → Device → Stream → Stream → Stream → Stream → Answer → Type 0
 TaskAnswered task old new n m terminal shown report read a =
     ((r : Refusal) × TaskDue task old new n m r × IsRefused r a terminal shown report read)
     ⊎ IsRunOf task old n m a terminal shown report read
 
--- what the answer to a call is: a refusal that is due, or a run
+-- what the answer to a call is: a refusal that is due, or a run, or the plain machine's
 abbrev pub Answered : List (List ℕ) → Stock → Stock → Device → Device → Stream → Stream → Stream → Stream → Answer → Type 0
 Answered words old new n m terminal shown report read a =
     ((r : Refusal) × RefusalDue words old new n m r × IsRefused r a terminal shown report read)
-    ⊎ ((job : Job) × (settings_of words ≡ Ok (run job)) × IsRunOf (task_of job) old n m a terminal shown report read)
+    ⊎ (((job : Job) × (settings_of words ≡ Ok (run job)) × IsRunOf (task_of job) old n m a terminal shown report read)
+    ⊎ ((job : Job) × (settings_of words ≡ Ok (plain job)) × (m ≡ n) × IsPlainOf (task_of job) old a terminal shown report read))

@@ -1,6 +1,5 @@
 -- The program's loop as a run.
-use Rattle.std.specs.Prelude.{◌≡◌, ◌⊎◌, ℕ, ◌+◌, Bool, true, false, ◌&&◌, MatchOption, List, [], ◌∷◌, ◌++◌, length, Option, Some, None, Result, Ok, Err}
-use Rattle.thy_base.specs.declared.nvm.Shape.{Shape}
+use Rattle.std.specs.Prelude.{◌≡◌, ◌⊎◌, ℕ, ◌+◌, true, false, ◌&&◌, List, [], ◌∷◌, ◌++◌, length, Option, Some, None}
 use Rattle.thy_base.specs.Bytes.{bytes_of}
 use Rattle.thy_base.specs.Config.{first_not_rising}
 use Rattle.thy_base.specs.Device.{Device, IsFramed, IsCut, RoseFaults}
@@ -10,7 +9,7 @@ use Rattle.thy_isa.specs.declared.state.Status.{Status}
 use Rattle.thy_isa.specs.Step.{state_of}
 use Rattle.thy_text.specs.Happening.{Happening, EpochEnd, Commit, Cut, Restart, Reload, Ended as EndedEvent}
 use Rattle.thy_model.specs.declared.did.Did.{Did}
-use Rattle.thy_model.specs.declared.did.Did.TheVariants.{Boot, Loaded, Restarted, Refused, Moved, Retired, Flushed, Merged, Sealed, Promoted, Engine, Committed, NvmDrained, DramDrained, Nothing}
+use Rattle.thy_model.specs.declared.did.Did.TheVariants.{Restarted}
 use Rattle.thy_model.specs.declared.did.Stepped.{Stepped}
 use Rattle.thy_model.specs.declared.view.View.{View}
 use Rattle.thy_model.specs.Calls.{IsAt, IsStep, has_read, loads, halts, is_halt}
@@ -24,7 +23,7 @@ use Rattle.thy_run.specs.Cuts.{has_ended}
 use Rattle.thy_run.specs.Due.{due_of}
 use Rattle.thy_run.specs.Laws.{released_of}
 use Rattle.thy_run.specs.Unfinished.{StepFailed, TellingFailed}
-use Rattle.thy_run.specs.World.{World, Given, seen, events_of, Steps, Ran, Cycle}
+use Rattle.thy_run.specs.World.{World, Given, seen, Steps, Ran, Cycle}
 use Rattle.thy_cli.specs.declared.answer.Stop.{Stop}
 use Rattle.thy_cli.specs.declared.answer.Stop.TheVariants.{Ended, Nvm, Memory, Terminal, Report, Limit}
 use Rattle.thy_cli.specs.declared.advance.Outcome.{Outcome}

@@ -39,6 +39,7 @@ pub record IsFitted (plan : Plan) (n : Device) : Type 0 where
   pub shape : Shape
   pub before : Device
   pub blocks : shape.blocks ≡ blocks_of plan.geometry
+  pub queue : shape.queue ≡ plan.geometry.nvmq
   pub cuts : shape.cuts ≡ length plan.config.cuts
   pub is_fitted : n ≡ fitted shape [] before
 

@@ -1,5 +1,5 @@
 //! One cycle: a step of the machine, its events, and the cut that is due after it.
-ghost use Rattle.std.specs.Prelude.{◌≡◌, ◌<◌, ◌+◌, ◌^◌, ◌&&◌, ◌==◌, ℕ, nat_lt, length, slice_index, IfOk, OnOk, OnErr, [], List};
+ghost use Rattle.std.specs.Prelude.{◌≡◌, ◌<◌, ◌+◌, ◌^◌, ◌&&◌, ◌==◌, ℕ, nat_lt, length, slice_index, slice_index_or, IfOk, OnOk, OnErr, [], List};
 ghost use Rattle.thy_base.specs.Bytes.{bytes_of};
 ghost use Rattle.thy_base.specs.Device.{Device as DeviceValue};
 ghost use Rattle.thy_model.specs.declared.did.Stepped.{Stepped as SteppedValue};
@@ -58,7 +58,9 @@ fn is_due(config: &Config, passed: usize, cycle: u64) -> bool
 }
 
 /// The pick of a cut: that of its place in the list, 0 where the list is shorter.
-fn tear(config: &Config, index: usize) -> u64 {
+fn tear(config: &Config, index: usize) -> u64
+    ensures { result ≡ slice_index_or config.now.tears index 0 }
+{
     if index < config.tears.len() {
         config.tears.get(index)
     } else {

@@ -7,35 +7,45 @@ mod answer;
 mod cycles;
 mod gather;
 mod note;
+mod plain;
 mod plan;
 mod progress;
 mod refusal;
+mod source;
 mod tell;
 #[cfg(test)]
 mod tests;
 mod top;
 
+use crate::refusal::{Refusal, refuse};
 use crate::top::thynvm;
-use std::alloc::Global;
+use std::alloc::{AllocError, Global};
+use std::io::ErrorKind;
 use std::process::ExitCode;
 use std::rt::Env;
 use thy_nvm::MemNvm;
 use thy_out::{FileShelf, StdSink};
 
-/// The words of the command line; none where they can't be had.
-fn words(rt: &(impl Env + Alloc<A = Global>)) -> Vec<String> {
+/// The words of the command line; none where the system has none to give.
+fn words(rt: &(impl Env + Alloc<A = Global>)) -> Result<Vec<String>, AllocError> {
     let alloc = rt.alloc();
     match std::env::args(rt) {
-        Ok(args) => args.collect(alloc).unwrap_or(Vec::new(alloc)),
-        Err(_) => Vec::new(alloc),
+        Ok(args) => args.collect(alloc),
+        Err(error) if matches!(error.kind(), ErrorKind::OutOfMemory) => Err(AllocError),
+        Err(_) => Ok(Vec::new(alloc)),
     }
 }
 
 fn main(rt: HostRuntime) -> ExitCode {
     let alloc = rt.alloc();
-    let words = words(&rt);
     let mut terminal = StdSink::output(rt.stdout());
     let mut report = StdSink::error(rt.stderr());
+    let words = match words(&rt) {
+        Ok(words) => words,
+        Err(error) => {
+            return ExitCode::from(refuse(alloc, Refusal::Memory(error), &mut report).status);
+        }
+    };
     let mut shelf = FileShelf::new(rt);
     let mut nvm = MemNvm::new(alloc);
     let answer = thynvm(

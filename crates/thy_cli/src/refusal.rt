@@ -5,7 +5,7 @@ ghost use Rattle.thy_cli.specs.Answering.{refused_status, refused_line, file_lin
 ghost use Rattle.thy_cli.specs.Sending.{Sent};
 
 use crate::answer::Answer;
-use std::alloc::Global;
+use std::alloc::{AllocError, Global};
 use thy_base::{FetchError, FitError, Sink};
 use thy_elf::ElfError;
 use thy_text::{Closing, Events, FetchFault, write_closing};
@@ -22,6 +22,8 @@ pub enum Refusal<'a> {
     File(ElfError),
     /// The device could not be fitted.
     Device(FitError),
+    /// There was not enough memory.
+    Memory(AllocError),
 }
 
 /// The exit status.
@@ -32,7 +34,8 @@ fn status(refusal: &Refusal) -> u8
         Refusal::Words(WordsError::Memory(_))
         | Refusal::Fetch(_, FetchError::Memory(_))
         | Refusal::File(ElfError::Memory(_))
-        | Refusal::Device(FitError::Memory(_)) => 9,
+        | Refusal::Device(FitError::Memory(_))
+        | Refusal::Memory(_) => 9,
         Refusal::Words(_) => 2,
         Refusal::Fetch(..) => 3,
         Refusal::File(_) => 4,
@@ -111,6 +114,7 @@ pub fn refuse<R: Sink>(alloc: Global, refusal: Refusal, report: &mut R) -> Answe
         Refusal::Fetch(name, error) => fetch_closing(name, error),
         Refusal::File(error) => file_closing(error),
         Refusal::Device(error) => device_closing(error),
+        Refusal::Memory(_) => Closing::Memory,
     };
     close(closing, report);
     Answer {

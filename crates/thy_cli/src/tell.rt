@@ -21,7 +21,7 @@ fn write_lines<R: Sink>(events: &Events, first: usize, digest: bool, report: &mu
 }
 
 /// Writes what the terminal is due, if anything, and answers whether it failed.
-fn write_bytes<T: Sink>(bytes: &[u8], terminal: &mut T) -> bool
+pub fn write_bytes<T: Sink>(bytes: &[u8], terminal: &mut T) -> bool
     ensures { Sent result (T.stream terminal.old) (T.stream terminal.new) bytes.now }
 {
     if bytes.is_empty() {

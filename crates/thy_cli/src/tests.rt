@@ -42,7 +42,7 @@ fn small_file(alloc: Global, words: &[u32]) -> Result<Vec<u8>, AllocError> {
     Ok(file)
 }
 
-/// What a run gave.
+/// What a call gave.
 #[derive(Drop)]
 struct Given {
     status: u8,
@@ -51,14 +51,12 @@ struct Given {
     report: Vec<u8>,
 }
 
-/// Runs the words, parted by spaces, with the program that exits with 7 under the name F, the one that
-/// modifies itself under S, and 63 bytes of the first under G.
-fn ran(alloc: Global, line: &str) -> Result<Given, AllocError> {
-    let mut words = Vec::new(alloc);
-    for word in line.split(' ') {
-        words.push(String::from_str(alloc, word)?)?;
-    }
+/// The files of these tests: the program that exits with 7 under the name F, the one that modifies itself
+/// under S, one whose first word is no instruction under Z, and 63 bytes of the first under G.
+fn files(alloc: Global) -> Result<Vec<(String, Vec<u8>)>, AllocError> {
     let mut files = Vec::new(alloc);
+    let mut short = small_file(alloc, &EXIT_SEVEN)?;
+    short.truncate(63);
     files.push((
         String::from_str(alloc, "F")?,
         small_file(alloc, &EXIT_SEVEN)?,
@@ -67,12 +65,23 @@ fn ran(alloc: Global, line: &str) -> Result<Given, AllocError> {
         String::from_str(alloc, "S")?,
         small_file(alloc, &SELF_MODIFYING)?,
     ))?;
-    let mut short = small_file(alloc, &EXIT_SEVEN)?;
-    short.truncate(63);
+    files.push((String::from_str(alloc, "Z")?, small_file(alloc, &[0])?))?;
     files.push((String::from_str(alloc, "G")?, short))?;
-    let mut shelf = MemShelf::new(files, Vec::new(alloc));
+    Ok(files)
+}
+
+/// Calls with the words, parted by spaces, over this shelf and this report.
+fn answered(
+    alloc: Global,
+    line: &str,
+    mut shelf: MemShelf,
+    mut report: MemSink,
+) -> Result<Given, AllocError> {
+    let mut words = Vec::new(alloc);
+    for word in line.split(' ') {
+        words.push(String::from_str(alloc, word)?)?;
+    }
     let mut terminal = MemSink::new(alloc, 4096, Vec::new(alloc))?;
-    let mut report = MemSink::new(alloc, 4096, Vec::new(alloc))?;
     let mut nvm = MemNvm::new(alloc);
     let answer = thynvm(
         alloc,
@@ -88,6 +97,13 @@ fn ran(alloc: Global, line: &str) -> Result<Given, AllocError> {
         terminal: Vec::from_slice(alloc, terminal.taken())?,
         report: Vec::from_slice(alloc, report.taken())?,
     })
+}
+
+/// Calls with the words, parted by spaces, over the files of these tests.
+fn ran(alloc: Global, line: &str) -> Result<Given, AllocError> {
+    let shelf = MemShelf::new(files(alloc)?, Vec::new(alloc));
+    let report = MemSink::new(alloc, 4096, Vec::new(alloc))?;
+    answered(alloc, line, shelf, report)
 }
 
 /// Runs a line and compares its status and its report.
@@ -169,8 +185,138 @@ fn each_refusal_has_its_line(rt: HostRuntime) -> Result<(), Fail> {
         ("thynvm run F --high 10", 2, "value low 16\n"),
         ("thynvm run H", 3, "fetch H missing\n"),
         ("thynvm run G", 4, "file 1 TooShort\n"),
+        ("thynvm", 2, "usage\n"),
+        ("thynvm fly F", 2, "usage\n"),
+        ("thynvm run -F", 2, "usage\n"),
+        ("thynvm run F --pages", 2, "usage\n"),
+        ("thynvm run F --pages 8 --pages 8", 2, "usage\n"),
+        (
+            "thynvm run F --pages 00000000000000000008",
+            2,
+            "word pages\n",
+        ),
+        ("thynvm run F --pages +8", 2, "word pages\n"),
+        ("thynvm run F --pages ", 2, "word pages\n"),
+        ("thynvm run F --pages 7 --limit x", 2, "word limit\n"),
+        ("thynvm run F --limit 0 --pages 7", 2, "value pages 7\n"),
+        ("thynvm run F --limit 0", 2, "value limit 0\n"),
+        ("thynvm run F --tears 1,2", 2, "value tears 2\n"),
+        ("thynvm plain", 2, "usage\n"),
+        ("thynvm plain F --cuts 5", 2, "usage\n"),
+        ("thynvm plain F --pages 7", 2, "value pages 7\n"),
+        ("thynvm plain H", 3, "fetch H missing\n"),
+        ("thynvm plain G", 4, "file 1 TooShort\n"),
     ] {
         expect(&rt, alloc, line, status, report)?;
+    }
+    Ok(())
+}
+
+#[test]
+fn a_file_that_is_not_had_has_its_line(rt: HostRuntime) -> Result<(), Fail> {
+    let alloc = rt.alloc();
+    for command in ["run", "plain"] {
+        let line = format!(in alloc; "thynvm {command} F")?;
+        let shelf = MemShelf::new(files(alloc)?, Vec::from_slice(alloc, &[1])?);
+        let report = MemSink::new(alloc, 4096, Vec::new(alloc))?;
+        let given = answered(alloc, line.as_str(), shelf, report)?;
+        assert_eq!(rt; given.status, 3);
+        assert!(rt;
+            given.report.as_slice() == b"fetch F failed\n".as_slice(),
+            "{line}"
+        );
+        let mut held = Vec::new(alloc);
+        held.push((
+            String::from_str(alloc, "F")?,
+            Vec::from_elem(alloc, 0u8, 67_108_865)?,
+        ))?;
+        let shelf = MemShelf::new(held, Vec::new(alloc));
+        let report = MemSink::new(alloc, 4096, Vec::new(alloc))?;
+        let given = answered(alloc, line.as_str(), shelf, report)?;
+        assert_eq!(rt; given.status, 3);
+        assert!(rt;
+            given.report.as_slice() == b"fetch F too long\n".as_slice(),
+            "{line}"
+        );
+    }
+    Ok(())
+}
+
+/// The report of the program that exits with 7, in the pieces in which it is written.
+const PIECES: [&str; 22] = [
+    "commit ",
+    "0",
+    " overlapped ",
+    "0",
+    "\n",
+    "epoch ",
+    "1",
+    " ends at ",
+    "3",
+    " by ",
+    "end",
+    "\n",
+    "commit ",
+    "1",
+    " overlapped ",
+    "0",
+    "\n",
+    "exit ",
+    "7",
+    " at ",
+    "3",
+    "\n",
+];
+
+#[test]
+fn a_report_that_fails_has_taken_the_pieces_before(rt: HostRuntime) -> Result<(), Fail> {
+    let alloc = rt.alloc();
+    let mut before = Vec::new(alloc);
+    for (k, piece) in PIECES.iter().enumerate() {
+        let shelf = MemShelf::new(files(alloc)?, Vec::new(alloc));
+        let failing = Vec::from_slice(alloc, &[k as u64 + 1])?;
+        let report = MemSink::new(alloc, 4096, failing)?;
+        let given = answered(alloc, "thynvm run F --pages 8", shelf, report)?;
+        assert_eq!(rt; given.status, 6);
+        assert!(rt; given.report.as_slice() == before.as_slice(), "{k}");
+        before.extend_from_slice(piece.as_bytes())?;
+    }
+    Ok(())
+}
+
+#[test]
+fn digests_are_those_of_another_program(rt: HostRuntime) -> Result<(), Fail> {
+    let alloc = rt.alloc();
+    for (line, report) in [
+        (
+            "thynvm run F --pages 8 --btt 8 --ptt 8 --cuts 1391 --tears 1 --digest",
+            "commit 0 overlapped 0\nepoch 1 ends at 3 by end\ncut 1 at cycle 1391\nrestart 1 at 3\nmemory 6deb2f4354900ff2a9411931cbbb227b278920c0a05d7246af55f9487e46505f\nexit 7 at 3\nmemory 6deb2f4354900ff2a9411931cbbb227b278920c0a05d7246af55f9487e46505f\n",
+        ),
+        (
+            "thynvm plain F --pages 8 --digest",
+            "exit 7 at 3\nmemory 6deb2f4354900ff2a9411931cbbb227b278920c0a05d7246af55f9487e46505f\n",
+        ),
+    ] {
+        expect(&rt, alloc, line, 0, report)?;
+    }
+    Ok(())
+}
+
+#[test]
+fn the_plain_machine_takes_whole_steps(rt: HostRuntime) -> Result<(), Fail> {
+    let alloc = rt.alloc();
+    for (line, status, cycles, report) in [
+        ("thynvm plain F", 0, 3, "exit 7 at 3\n"),
+        ("thynvm plain F --limit 2", 8, 2, "limit 2\n"),
+        ("thynvm plain F --limit 3", 0, 3, "exit 7 at 3\n"),
+        ("thynvm plain S --pages 4096", 0, 8, "exit 9 at 8\n"),
+        ("thynvm plain Z", 1, 1, "trap 2 at 1\n"),
+    ] {
+        let given = ran(alloc, line)?;
+        assert!(rt; given.status == status, "{line}");
+        assert!(rt; given.cycles == cycles, "{line}");
+        assert!(rt; given.report.as_slice() == report.as_bytes(), "{line}");
+        assert!(rt; given.terminal.is_empty());
     }
     Ok(())
 }

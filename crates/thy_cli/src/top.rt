@@ -8,18 +8,16 @@ ghost use Rattle.thy_text.specs.Closings.{closing_of};
 
 use crate::answer::{Answer, Stop, status_of};
 use crate::cycles::{Ending, run};
+use crate::plain::plain_file;
 use crate::plan::Plan;
 use crate::refusal::{Refusal, close, refuse};
+use crate::source::fetch_program;
 use std::alloc::Global;
-use thy_base::{Bytes, Config, Geometry, Nvm, Shape, Shelf, Sink};
-use thy_elf::read;
+use thy_base::{Bytes, Config, Nvm, Shape, Shelf, Sink};
 use thy_model::Start;
 use thy_plain::start_of;
 use thy_text::Closing;
-use thy_words::{Command, WordsError, settings};
-
-/// The most bytes that a program file may have.
-const MOST_BYTES: u64 = 67_108_864;
+use thy_words::{Command, settings};
 
 /// What a run of a file is to do; or why there is none.
 fn prepare<'a, H: Shelf>(
@@ -33,27 +31,22 @@ fn prepare<'a, H: Shelf>(
     ensures refusal { IfErr result (λ r. (n : DeviceValue) → TaskDue (record { file = file.entry.now; config = config; digest = digest }) (H.stock shelf.old) (H.stock shelf.new) n n r) }
     ensures plan { IfOk result (λ p. IsPlanOf (record { file = file.entry.now; config = config; digest = digest }) (H.stock shelf.old) p) }
 {
-    let geometry = match Geometry::new(&config) {
-        Ok(geometry) => geometry,
-        Err(error) => return Err(Refusal::Words(WordsError::Value(error.field, error.value))),
-    };
-    let bytes = match shelf.fetch(alloc, file, MOST_BYTES) {
-        Ok(bytes) => bytes,
-        Err(error) => return Err(Refusal::Fetch(file, error)),
-    };
-    let base = geometry.numbers().base;
-    match read(alloc, &bytes, base, geometry.program_size()) {
-        Ok(image) => Ok(Plan {
-            config,
-            geometry,
-            start: Start {
-                state: start_of(alloc, image, &geometry),
+    match fetch_program(alloc, file, &config, shelf) {
+        Ok(program) => {
+            let geometry = program.geometry;
+            let start = Start {
+                state: start_of(alloc, program.image, &geometry),
                 epoch: 0,
                 input: Bytes::new(alloc),
-            },
-            digest,
-        }),
-        Err(error) => Err(Refusal::File(error)),
+            };
+            Ok(Plan {
+                config,
+                geometry,
+                start,
+                digest,
+            })
+        }
+        Err(refusal) => Err(refusal),
     }
 }
 
@@ -71,7 +64,7 @@ fn closing_of(stop: Stop, limit: u64) -> Closing<'static>
 }
 
 /// Closes a run: a report that has failed gets no more.
-fn answered<R: Sink>(ending: Ending, limit: u64, report: &mut R) -> Answer
+pub fn answered<R: Sink>(ending: Ending, limit: u64, report: &mut R) -> Answer
     ensures closes { ClosesRun ending.deaf (stop_line ending.stop limit) (R.stream report.old) (R.stream report.new) }
     ensures events { result.events ≡ ending.events }
     ensures cycles { result.cycles ≡ ending.cycles }
@@ -119,10 +112,12 @@ fn run_file<H: Shelf, T: Sink, R: Sink, N: Nvm>(
     }
 }
 
-/// Does what the words after the program's name ask for: `run FILE` and its options.
+/// Does what the words after the program's name ask for: `run FILE` or `plain FILE`, and options.
 ///
-/// The console's bytes go to `terminal` when their checkpoint is committed or restored, the events'
-/// lines and a closing line to `report`. The answer has the events, the number of done cycles and
+/// `run` runs the program on the machine. The console's bytes go to `terminal` when their checkpoint is
+/// committed or restored, the events' lines and a closing line to `report`. `plain` runs it on the plain
+/// machine: the console's bytes go to `terminal` when it stops, the line of its end and a closing line to
+/// `report`. The answer has the events (of `run`), the number of done cycles (of `plain`: steps) and
 /// the exit status: 0 the program exited, 1 it trapped, 2 the words are refused, 3 the file was not
 /// had, 4 the file is refused, 6 a sink failed, 7 the device failed, 8 the limit is reached, 9 there
 /// was not enough memory.
@@ -157,7 +152,22 @@ pub fn thynvm<H: Shelf, T: Sink, R: Sink, N: Nvm>(
             report,
             nvm,
         ),
-        Ok(Command::Plain { .. }) => refuse(alloc, Refusal::Words(WordsError::Usage), report),
+        Ok(
+            Command::Plain {
+                file,
+                input: _,
+                config,
+                digest,
+            },
+        ) => plain_file(
+            alloc,
+            file.as_str(),
+            config,
+            digest,
+            shelf,
+            terminal,
+            report,
+        ),
         Err(error) => refuse(alloc, Refusal::Words(error), report),
     }
 }

@@ -1,4 +1,4 @@
-use Rattle.std.proofs.Common.{◌∙◌, sym, ap, subst, refl, arith}
+use Rattle.std.proofs.Common.{◌∙◌, sym, ap, arith}
 use Rattle.thy_base.specs.Bytes.{bytes_of}
 use Rattle.thy_model.specs.Sound.{view_of}
 use Rattle.thy_run.specs.Due.{due_of}

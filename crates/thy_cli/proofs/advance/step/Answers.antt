@@ -1,4 +1,4 @@
-use Rattle.std.proofs.Common.{◌+◌, ap, subst, refl, sym}
+use Rattle.std.proofs.Common.{subst}
 use Rattle.thy_base.specs.declared.mix.Pick.{Pick}
 use Rattle.thy_model.specs.Calls.{IsStep}
 use Rattle.thy_cli.specs.Going.{origin_of}

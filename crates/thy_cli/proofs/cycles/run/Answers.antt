@@ -1,4 +1,4 @@
-use Rattle.std.proofs.Common.{◌∙◌, sym, ap, subst, arith}
+use Rattle.std.proofs.Common.{sym, ap, subst, arith}
 use Rattle.thy_cli.specs.declared.cycles.Ending.{Ending}
 use Rattle.thy_cli.specs.Turning.{RunEnds}
 use Rattle.thy_cli.proofs.StartLemmas.{Running-first, RunEnds-unpowered, RunEnds-limit}

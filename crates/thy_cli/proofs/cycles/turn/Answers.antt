@@ -1,4 +1,4 @@
-use Rattle.std.proofs.Common.{◌∙◌, sym, ap, subst, take, ℕ}
+use Rattle.std.proofs.Common.{sym, subst, take, ℕ}
 use Rattle.thy_base.specs.Bytes.{bytes_of}
 use Rattle.thy_text.specs.Lines.{report_of}
 use Rattle.thy_cli.specs.declared.cycles.Turned.{Turned}

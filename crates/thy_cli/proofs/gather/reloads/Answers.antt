@@ -1,4 +1,3 @@
-use Rattle.std.proofs.Common.{◌∙◌, sym}
 use Rattle.thy_model.specs.Calls.{has_read, loads}
 use Rattle.thy_model.specs.Sound.{view_of}
 use Rattle.thy_cli.proofs.GatherLemmas.{reload_is}

@@ -1,6 +1,5 @@
-use Rattle.std.proofs.Common.{◌∙◌, sym, ap, subst, refl, inl, inr, ℕ}
+use Rattle.std.proofs.Common.{ap, subst, refl, inl, inr, ℕ}
 use Rattle.thy_base.specs.declared.config.Parameters.{Parameters}
-use Rattle.thy_base.specs.Geometry.{blocks_of}
 use Rattle.thy_cli.specs.declared.refusal.Refusal.TheVariants.{Device as DeviceRefusal}
 use Rattle.thy_cli.specs.Answering.{ClosesRun, stop_line}
 use Rattle.thy_cli.proofs.TopLemmas.{IsRunOf-ran}
@@ -18,11 +17,23 @@ pub returns-in-Ok-fit : goal.returns-in-Ok-fit
 returns-in-Ok-fit g c =
     inr (IsRunOf-ran _ (g.H.Shelf.stock c.args.shelf.now) c.in-Ok.plan (g.N.Nvm.device c.args.nvm.now) (g.N.Nvm.device c.fit.new.self) (g.N.Nvm.device c.run-ending.new.nvm)
     _ c.run-ending.result c.answered.result (g.T.Sink.stream c.args.terminal.now) (g.T.Sink.stream c.run-ending.new.terminal) (g.R.Sink.stream c.args.report.now)
-    (g.R.Sink.stream c.run-ending.new.report) (g.R.Sink.stream c.answered.new.report) c.in-Ok.ensures.plan c.in-Ok-fit.ensures.ok c.blocks-2.ensures.blocks c.len.ensures
+    (g.R.Sink.stream c.run-ending.new.report) (g.R.Sink.stream c.answered.new.report) c.in-Ok.ensures.plan c.in-Ok-fit.ensures.ok c.blocks-2.ensures.blocks
+    (ap (λ (x : Parameters). x.nvmq) c.numbers.ensures.same) c.len.ensures
     c.run-ending.ensures
     (subst (λ (l : ℕ). ClosesRun c.run-ending.result.deaf (stop_line c.run-ending.result.stop l) (g.R.Sink.stream c.run-ending.new.report) (g.R.Sink.stream c.answered.new.report))
     (ap (λ (x : Parameters). x.limit) c.numbers-in-Ok-fit.ensures.same) c.answered.ensures.closes)
     c.answered.ensures.events c.answered.ensures.cycles c.answered.ensures.status)
+
+pub run-ending-requires-clause-fitted : goal.run-ending-requires-clause-fitted
+run-ending-requires-clause-fitted g c =
+    record {
+      shape = _;
+      before = g.N.Nvm.device c.args.nvm.now;
+      blocks = c.blocks-2.ensures.blocks;
+      queue = ap (λ (x : Parameters). x.nvmq) c.numbers.ensures.same;
+      cuts = c.len.ensures;
+      is_fitted = c.in-Ok-fit.ensures.ok;
+    }
 
 pub returns : goal.returns
 returns g c =

@@ -1,34 +1,39 @@
-use Rattle.std.proofs.Common.{◌∙◌, sym, ap, subst, refl, inl, inr, map, Ok}
-use Rattle.std.specs.Prelude.{option_map}
+use Rattle.std.proofs.Common.{◌∙◌, ap, refl, inl, map, Ok}
+use Rattle.std.specs.Prelude.{Result, option_map}
 use Rattle.std.specs.String.{string_bytes}
-use Rattle.std.specs.Prelude.{Result}
 use Rattle.thy_words.specs.declared.words.Command.{Command}
 use Rattle.thy_words.specs.declared.words.WordsError.{WordsError}
-use Rattle.thy_words.specs.declared.words.WordsError.TheVariants.{Usage}
 use Rattle.thy_words.specs.Settings.{Job, Order, order_of}
 use Rattle.thy_cli.specs.declared.refusal.Refusal.TheVariants.{Words}
-use Rattle.thy_cli.proofs.TopLemmas.{Answered-job, WordsDue-shown}
+use Rattle.thy_cli.proofs.TopLemmas.{Answered-run, Answered-plain, WordsDue-shown}
 use Rattle.thy_cli.proofs.top.thynvm.Goals as goal
+
+pub returns-in-Ok-Run : goal.returns-in-Ok-Run
+returns-in-Ok-Run g c =
+    let job : Job = record {
+      file = string_bytes c.in-Ok-Run.file;
+      input = option_map string_bytes c.in-Ok-Run.field-0-1;
+      config = c.in-Ok-Run.config;
+      digest = c.in-Ok-Run.digest;
+    } in
+    let shown : Command → Result Order WordsError = λ x. Ok (order_of x) in
+    Answered-run _ job _ _ _ _ _ _ _ _ _ _ (c.in-Ok-Run.ensures.exact ∙ ap shown c.in-Ok-Run.field-0-is) c.as_str.ensures.value c.run_file.ensures
 
 pub returns-in-Ok-Plain : goal.returns-in-Ok-Plain
 returns-in-Ok-Plain g c =
     let job : Job = record {
-      file = string_bytes c.in-Ok-Plain.field-0-0;
+      file = string_bytes c.in-Ok-Plain.file;
       input = option_map string_bytes c.in-Ok-Plain.field-0-1;
-      config = c.in-Ok-Plain.field-0-2;
-      digest = c.in-Ok-Plain.field-0-3;
+      config = c.in-Ok-Plain.config;
+      digest = c.in-Ok-Plain.digest;
     } in
     let shown : Command → Result Order WordsError = λ x. Ok (order_of x) in
-    inl (
-      Words Usage,
-      (inr (job, c.in-Ok-Plain.ensures.exact ∙ ap shown c.in-Ok-Plain.field-0-is), refl),
-      record { status = c.refuse.ensures.status; events = c.refuse.ensures.events; cycles = c.refuse.ensures.cycles; shown_none = refl; closes = c.refuse.ensures.closes },
-    )
+    Answered-plain _ job _ _ _ _ _ _ _ _ _ (c.in-Ok-Plain.ensures.exact ∙ ap shown c.in-Ok-Plain.field-0-is) c.as_str-in-Ok-Plain.ensures.value c.plain_file.ensures
 
 pub returns : goal.returns
 returns g c =
     inl (
       Words c.in-Err.error,
       (WordsDue-shown (map string_bytes c.args.words.now) c.in-Err.error c.in-Err.ensures.exact, refl),
-      record { status = c.refuse-in-Err.ensures.status; events = c.refuse-in-Err.ensures.events; cycles = c.refuse-in-Err.ensures.cycles; shown_none = refl; closes = c.refuse-in-Err.ensures.closes },
+      record { status = c.refuse.ensures.status; events = c.refuse.ensures.events; cycles = c.refuse.ensures.cycles; shown_none = refl; closes = c.refuse.ensures.closes },
     )

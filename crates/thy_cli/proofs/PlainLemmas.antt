@@ -1,0 +1,42 @@
+-- What the plain machine answers to a task.
+use Rattle.std.proofs.Common.{◌≡◌, ℕ, Bool, [], sym, ◌∙◌, ap, subst}
+use Rattle.thy_base.specs.declared.config.Parameters.{Parameters}
+use Rattle.thy_base.specs.Bytes.{bytes_of}
+use Rattle.thy_base.specs.Outside.{Stock, Stream}
+use Rattle.thy_elf.specs.Image.{Contents, contents_of}
+use Rattle.thy_isa.specs.declared.state.MachState.{MachState}
+use Rattle.thy_isa.specs.Step.{state_of}
+use Rattle.thy_plain.specs.Machine.{Machine, loaded, after_steps, StopsAt}
+use Rattle.thy_text.specs.Lines.{ended_lines}
+use Rattle.thy_cli.specs.declared.answer.Answer.{Answer}
+use Rattle.thy_cli.specs.declared.answer.Stop.{Stop}
+use Rattle.thy_cli.specs.declared.source.Program.{Program}
+use Rattle.thy_cli.specs.Answering.{Task, IsProgramOf, IsPlainOf, ClosesRun, plain_start, plain_stop, stop_line, stop_status}
+use Rattle.thy_cli.specs.Sending.{Sent}
+
+-- a program's run on the plain machine is that of its task
+pub IsPlainOf-ran : (task : Task) (stock : Stock) (p : Program) (first last : Machine) (s : MachState) (limit k : ℕ) (mute deaf : Bool) (stop : Stop) (a : Answer) (t0 t r0 told r : Stream) → IsProgramOf task stock p
+    → first ≡ loaded p.geometry (contents_of p.image) [] → limit ≡ p.geometry.limit → StopsAt first limit k → last ≡ after_steps k first → state_of s ≡ last.state
+    → Sent mute t0 t (bytes_of s.console) → Sent deaf r0 told (ended_lines task.digest s.status s.count (bytes_of s.memory)) → stop ≡ plain_stop mute deaf s.status
+    → ClosesRun deaf (stop_line stop limit) told r → a.events ≡ [] → a.cycles ≡ k → a.status ≡ stop_status stop → IsPlainOf task stock a t0 t r0 r
+IsPlainOf-ran task stock p first last s limit k mute deaf stop a t0 t r0 told r program is bound stops after state shown read why closes events cycles status =
+    let contents : Contents = contents_of p.image in
+    let start : first ≡ plain_start task contents = is ∙ ap (λ q. loaded q contents []) program.geometry in
+    let most : limit ≡ task.config.limit = bound ∙ ap (λ (q : Parameters). q.limit) program.geometry in
+    record {
+      bytes = program.bytes;
+      held = program.held;
+      contents = contents;
+      means = program.means;
+      stops = subst (StopsAt (plain_start task contents) task.config.limit) (sym cycles) (subst (λ l. StopsAt (plain_start task contents) l k) most (subst (λ m. StopsAt m limit k) start stops));
+      last = state_of s;
+      is_last = state ∙ ap (λ (m : Machine). m.state) (after ∙ ap (after_steps k) start ∙ ap (λ j. after_steps j (plain_start task contents)) (sym cycles));
+      mute = mute;
+      deaf = deaf;
+      shown_all = shown;
+      told = told;
+      read_all = read;
+      closes = subst (λ l. ClosesRun deaf (stop_line (plain_stop mute deaf s.status) l) told r) most (subst (λ x. ClosesRun deaf (stop_line x limit) told r) why closes);
+      status = status ∙ ap stop_status why;
+      events = events;
+    }

@@ -1,0 +1,17 @@
+use Rattle.std.proofs.Common.{Ok, ◌∙◌}
+use Rattle.thy_elf.specs.Image.{contents_of}
+use Rattle.thy_cli.proofs.TopLemmas.{geometry_is, meaning_is}
+use Rattle.thy_cli.proofs.source.fetch_program.Goals as goal
+
+pub returns-in-Ok-read-clause-program : goal.returns-in-Ok-read-clause-program
+returns-in-Ok-read-clause-program g c =
+    let geometry = geometry_is c.args.config.now c.in-Ok.geometry c.requires c.in-Ok.ensures in
+    λ digest. record {
+      geometry = geometry;
+      in_range = c.numbers-base.ensures.in_range;
+      bytes = c.in-Ok-fetch.bytes.items;
+      held = λ files e. (c.in-Ok-fetch.ensures.answer files e).0;
+      means = meaning_is (record { file = c.args.file.now; config = c.args.config.now; digest = digest }) c.in-Ok-fetch.bytes.items c.deref.result.now c.in-Ok.geometry c.numbers-base.result
+          c.program_size.result (Ok (contents_of c.in-Ok-read.image)) geometry c.numbers-base.ensures.same c.deref.ensures.value c.program_size.ensures.size c.in-Ok-read.ensures.image;
+      size = c.in-Ok-read.ensures.len ∙ c.program_size.ensures.size;
+    }

@@ -1,0 +1,83 @@
+//! A program on the plain machine.
+ghost use Rattle.std.specs.Prelude.{◌≡◌, None};
+ghost use Rattle.thy_base.specs.Bytes.{bytes_of};
+ghost use Rattle.thy_base.specs.Config.{fault_of as range_fault};
+ghost use Rattle.thy_text.specs.Lines.{ended_lines};
+ghost use Rattle.thy_cli.specs.Answering.{PlainAnswered, plain_stop};
+ghost use Rattle.thy_cli.specs.Sending.{Sent};
+
+use crate::answer::{Answer, Stop};
+use crate::cycles::Ending;
+use crate::refusal::{Refusal, refuse};
+use crate::source::fetch_program;
+use crate::tell::write_bytes;
+use crate::top::answered;
+use std::alloc::Global;
+use thy_base::{Config, Shelf, Sink};
+use thy_isa::{MachState, Status};
+use thy_plain::Plain;
+use thy_text::{Events, write_ended};
+
+/// Writes how the program has ended, if it has, and answers whether the report failed.
+fn write_end<R: Sink>(state: &MachState, digest: bool, report: &mut R) -> bool
+    ensures { Sent result (R.stream report.old) (R.stream report.new) (ended_lines digest state.now.status state.now.count (bytes_of state.now.memory)) }
+{
+    match write_ended(state, digest, report) {
+        Ok(()) => false,
+        Err(_) => true,
+    }
+}
+
+/// Why the plain machine stopped: for a sink that failed, else by its status.
+fn plain_stop(mute: bool, deaf: bool, status: Status) -> Stop
+    ensures { result ≡ plain_stop mute deaf status }
+{
+    if deaf {
+        return Stop::Report;
+    }
+    if mute {
+        return Stop::Terminal;
+    }
+    match status {
+        Status::Running => Stop::Limit,
+        Status::Exited(_) | Status::Trapped(_) => Stop::Ended(status),
+    }
+}
+
+/// Runs a program file on the plain machine. The console of its last state goes to the terminal, and
+/// how it has ended to the report; `cycles` is the number of its steps, and there are no events.
+pub fn plain_file<H: Shelf, T: Sink, R: Sink>(
+    alloc: Global,
+    file: &str,
+    config: Config,
+    digest: bool,
+    shelf: &mut H,
+    terminal: &mut T,
+    report: &mut R,
+) -> Answer
+    requires { range_fault config ≡ None }
+    ensures { PlainAnswered (record { file = file.now; config = config; digest = digest }) (H.stock shelf.old) (H.stock shelf.new) (T.stream terminal.old) (T.stream terminal.new) (R.stream report.old) (R.stream report.new) result }
+{
+    let program = match fetch_program(alloc, file, &config, shelf) {
+        Ok(program) => program,
+        Err(refusal) => return refuse(alloc, refusal, report),
+    };
+    let limit = program.geometry.numbers().limit;
+    match Plain::load(alloc, &program.image, &program.geometry, &[]) {
+        Ok(mut machine) => {
+            let cycles = machine.run(limit);
+            let state = machine.state();
+            let mute = write_bytes(state.console.as_slice(), terminal);
+            let deaf = write_end(state, digest, report);
+            let ending = Ending {
+                stop: plain_stop(mute, deaf, state.status),
+                events: Events::new(alloc),
+                cycles,
+                mute,
+                deaf,
+            };
+            answered(ending, limit, report)
+        }
+        Err(error) => refuse(alloc, Refusal::Memory(error), report),
+    }
+}
