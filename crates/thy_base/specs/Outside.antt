@@ -50,8 +50,8 @@ Fetched there limit (Err TooLong) = (bytes : List ℕ) × (there ≡ Some bytes)
 Fetched there limit (Err Failed) = Unit {0}
 Fetched there limit (Err (Memory e)) = Unit {0}
 
--- A fetch and the count: Failed raises it. A shelf that tells raises it by nothing else, and one that
--- does not tell raises it with every answer but bytes and want of memory.
+-- A fetch and the count: Failed raises it, and with bytes it stays. A shelf that tells leaves it also where nothing is
+-- there or too much, and one that does not tell raises it then. Want of memory may raise it.
 abbrev pub FetchCounts : Stock → Stock → Result (Vec ℕ Global) FetchError → Type 0
 FetchCounts old new (Ok bytes) = new.faults ≡ old.faults
 FetchCounts old new (Err Failed) = Rose old.faults new.faults

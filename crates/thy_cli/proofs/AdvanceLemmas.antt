@@ -1,7 +1,7 @@
 -- One cycle of the program's loop is one of a run.
 use Rattle.std.proofs.Common.{◌≡◌, ◌⊎◌, ℕ, ◌+◌, ◌<◌, Bool, true, false, ◌&&◌, not, nat_lt, ◌==◌, if◌then◌else◌, Option, Some, None, List, [], ◌∷◌, ◌++◌, length, refl, sym, ◌∙◌, ap, subst, inl, inr, append-nil, append_assoc, length-append, ◌^◌, arith}
 use Rattle.std.specs.Prelude.{MatchBool, slice_index}
-use Rattle.std.proofs.lemmas.Bool.{ltb-true, or_from}
+use Rattle.std.proofs.lemmas.Bool.{ltb-true, or_from, and_parts}
 use Rattle.std.proofs.lemmas.List.Folds.{list_any-append}
 use Rattle.thy_base.specs.declared.mix.Mix.{Mix}
 use Rattle.thy_base.specs.Device.{Device, IsFramed, RoseFaults, cut_to}
@@ -19,7 +19,6 @@ use Rattle.thy_model.specs.Origin.{Origin, at}
 use Rattle.thy_model.specs.Safe.{ceiling}
 use Rattle.thy_model.specs.Sound.{view_of}
 use Rattle.thy_model.proofs.CallLaws.{IsAt-cut, CanStep-at, geometry-at}
-use Rattle.thy_model.proofs.StateLemmas.{both_hold}
 use Rattle.thy_core.specs.declared.image.CoreError.{CoreError}
 use Rattle.thy_core.specs.declared.image.CoreError.TheVariants.{Nvm as NvmFailed, Memory as NoMemory}
 use Rattle.thy_core.specs.Machine.{HasFailedToRead}
@@ -169,7 +168,7 @@ module _ (plan : Plan) (p q : Progress) (n m : Device) (k : ℕ) (ended : Option
       ap (λ d. view_of (origin_of plan) q'.machine d) device ∙ law.1 in
       let off : IsCutOff (origin_of plan) (world_at q m (k + 1)) (world_at q' m' (k + 1)) = record {
         cut = cut.cut;
-        powered = subst (λ d. IsAt (origin_of plan) (k + 1) q'.machine d) (sym device) law.0;
+        at_moment = subst (λ d. IsAt (origin_of plan) (k + 1) q'.machine d) (sym device) law.0;
         found = found;
         next_is = ap (λ (y : Progress). world_at y m' (k + 1)) cut.same
             ∙ ap (λ c. world_at (record q { machine = q'.machine; passed = q.passed + 1; fresh = true; events = q.events ++ Cut (q.passed + 1) c ∷ [] }) m' (k + 1)) at_cycle;
@@ -222,7 +221,7 @@ module _ (plan : Plan) (p q : Progress) (n m : Device) (k : ℕ) (ended : Option
   pub cut_room : (fitted : Device) (cycle : ℕ) → IsPlanned plan → GoesOn plan fitted p n k
       → (nat_lt q.passed (length plan.config.cuts) && slice_index plan.config.cuts q.passed == cycle) ≡ true → length m.left < m.left_room
   cut_room fitted cycle planned g due =
-      let few : q.passed < length plan.config.cuts = ltb-true q.passed (length plan.config.cuts) (both_hold (nat_lt q.passed (length plan.config.cuts)) _ due).0 in
+      let few : q.passed < length plan.config.cuts = ltb-true q.passed (length plan.config.cuts) (and_parts (nat_lt q.passed (length plan.config.cuts)) _ due).0 in
       let left : length m.left ≡ q.passed = ap length noted.steps.framed.left ∙ (good_of plan fitted p n k planned g).stands.left ∙ sym passed_same in
       let room : m.left_room ≡ length plan.config.cuts + 1 = noted.steps.framed.left_room ∙ g.room in
       omega (arith, left, room, few)
@@ -262,6 +261,7 @@ IsNoted-made plan fitted p q t n m k r ended bytes planned g s made same release
       going = g.going;
       is_step = s.is_step;
       framed = s.framed;
+      calm = s.calm;
       next_is =
           ap (λ (y : Progress). world_at (record y { events = t.events; fresh = false }) m (k + 1)) s.same
           ∙ ap (λ (l : List Happening). world_at (record p { machine = q.machine; mix = mix_next p.mix; events = l; fresh = false }) m (k + 1))
@@ -296,7 +296,7 @@ IsBroken-made plan fitted p q t n m k r planned g s some same =
     let all : List Happening = events_of o p.fresh v r.did (view_of o q.machine m) (k + 1) in
     let split : all ≡ some.part ++ some.rest = ap (λ b. events_of o b v r.did (view_of o q.machine m) (k + 1)) (sym fresh_q) ∙ some.split in
     let next : World = stepped o (world_at p n k) q.machine m r.did in
-    let steps : Steps o (world_at p n k) next = record { r = r; going = g.going; is_step = s.is_step; framed = s.framed; next_is = refl } in
+    let steps : Steps o (world_at p n k) next = record { r = r; going = g.going; is_step = s.is_step; framed = s.framed; calm = s.calm; next_is = refl } in
     let told : t.events ≡ p.events ++ some.part = some.told ∙ ap (λ (l : List Happening). l ++ some.part) events_q in
     let more = released-part o (world_at p n k) next planned.origin.geometry.epoch_least good.stands steps some.part some.rest (sym split) in
     record {
@@ -325,7 +325,7 @@ IsBroken-read plan fitted p q n m m' k r e planned g s failed framed =
     let v : View = seen o (world_at p n k) in
     let events_q : q.events ≡ p.events = ap (λ (y : Progress). y.events) s.same in
     let next : World = stepped o (world_at p n k) q.machine m r.did in
-    let steps : Steps o (world_at p n k) next = record { r = r; going = g.going; is_step = s.is_step; framed = s.framed; next_is = refl } in
+    let steps : Steps o (world_at p n k) next = record { r = r; going = g.going; is_step = s.is_step; framed = s.framed; calm = s.calm; next_is = refl } in
     let broken : ((m' ≡ m) ⊎ ReadFailed m m') → IsBroken plan p q n m' k [] = λ device. record {
       unfinished = inr (record {
         next = next;
@@ -380,7 +380,7 @@ few_released plan fitted p q n m k r bytes planned g s due =
     let good = good_of plan fitted p n k planned g in
     let events_q : q.events ≡ p.events = ap (λ (y : Progress). y.events) s.same in
     let next : World = stepped o (world_at p n k) q.machine m r.did in
-    let steps : Steps o (world_at p n k) next = record { r = r; going = g.going; is_step = s.is_step; framed = s.framed; next_is = refl } in
+    let steps : Steps o (world_at p n k) next = record { r = r; going = g.going; is_step = s.is_step; framed = s.framed; calm = s.calm; next_is = refl } in
     let releases : released_of o next.events ≡ released_of o p.events ++ bytes =
     released-stepped o (world_at p n k) next planned.origin.geometry.epoch_least good.stands steps
     ∙ ap (λ (l : List ℕ). released_of o p.events ++ l) (ap (λ (e : List Happening). due_of o e r.did (view_of o q.machine m)) (sym events_q) ∙ sym due) in

@@ -1,5 +1,6 @@
 -- What a step lets be read.
 use Rattle.std.proofs.Common.{◌≡◌, ℕ, Bool, true, false, ◌&&◌, not, if◌then◌else◌, Option, Some, List, [], length, drop, refl, sym, ◌∙◌, ap, subst}
+use Rattle.std.proofs.lemmas.Bool.{and_parts}
 use Rattle.thy_base.specs.declared.mark.Mark.{Mark}
 use Rattle.thy_isa.specs.declared.state.MachState.{MachState}
 use Rattle.thy_text.specs.Happening.{Happening}
@@ -12,7 +13,6 @@ use Rattle.thy_model.specs.declared.view.View.{View}
 use Rattle.thy_model.specs.Calls.{is_boot, is_halt, halts}
 use Rattle.thy_model.specs.CoreStep.{mark, CoreStep}
 use Rattle.thy_model.specs.Origin.{Origin, at, runs_at}
-use Rattle.thy_model.proofs.StateLemmas.{both_hold}
 use Rattle.thy_core.specs.Machine.{IsSnapshot}
 use Rattle.thy_run.specs.Due.{shows_console, due_of}
 use Rattle.thy_run.specs.Laws.{console_at, released_of}
@@ -79,7 +79,7 @@ halt_booted Run e = never e
 
 -- a view that halts is behind the boot
 pub halts_booted : (v next : View) → halts v next ≡ true → is_boot next.phase ≡ false
-halts_booted v next e = halt_booted next.phase (both_hold (not (is_halt v.phase)) (is_halt next.phase) e).1
+halts_booted v next e = halt_booted next.phase (and_parts (not (is_halt v.phase)) (is_halt next.phase) e).1
 
 pub and_false : (b c : Bool) → b ≡ false → (b && c) ≡ false
 and_false b c e = ap (λ x. x && c) e

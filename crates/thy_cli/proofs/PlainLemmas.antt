@@ -11,23 +11,21 @@ use Rattle.thy_text.specs.Lines.{ended_lines}
 use Rattle.thy_cli.specs.declared.answer.Answer.{Answer}
 use Rattle.thy_cli.specs.declared.answer.Stop.{Stop}
 use Rattle.thy_cli.specs.declared.source.Program.{Program}
-use Rattle.thy_cli.specs.Answering.{Task, IsProgramOf, IsPlainOf, ClosesRun, plain_start, plain_stop, stop_line, stop_status}
+use Rattle.thy_cli.specs.Answering.{Task, IsProgramOf, IsPlainOf, ClosesRun, plain_start, plain_stop, stop_status}
 use Rattle.thy_cli.specs.Sending.{Sent}
 
 -- a program's run on the plain machine is that of its task
-pub IsPlainOf-ran : (task : Task) (stock : Stock) (p : Program) (first last : Machine) (s : MachState) (limit k : ℕ) (mute deaf : Bool) (stop : Stop) (a : Answer) (t0 t r0 told r : Stream) → IsProgramOf task stock p
+pub IsPlainOf-ran : (task : Task) (old new : Stock) (p : Program) (first last : Machine) (s : MachState) (limit k : ℕ) (mute deaf : Bool) (stop : Stop) (a : Answer) (t0 t r0 told r : Stream) → IsProgramOf task old p → new.faults ≡ old.faults
     → first ≡ loaded p.geometry (contents_of p.image) [] → limit ≡ p.geometry.limit → StopsAt first limit k → last ≡ after_steps k first → state_of s ≡ last.state
     → Sent mute t0 t (bytes_of s.console) → Sent deaf r0 told (ended_lines task.digest s.status s.count (bytes_of s.memory)) → stop ≡ plain_stop mute deaf s.status
-    → ClosesRun deaf (stop_line stop limit) told r → a.events ≡ [] → a.cycles ≡ k → a.status ≡ stop_status stop → IsPlainOf task stock a t0 t r0 r
-IsPlainOf-ran task stock p first last s limit k mute deaf stop a t0 t r0 told r program is bound stops after state shown read why closes events cycles status =
-    let contents : Contents = contents_of p.image in
-    let start : first ≡ plain_start task contents = is ∙ ap (λ q. loaded q contents []) program.geometry in
+    → ClosesRun deaf stop limit told r → a.events ≡ [] → a.cycles ≡ k → a.status ≡ stop_status stop → IsPlainOf task old new a t0 t r0 r
+IsPlainOf-ran task old new p first last s limit k mute deaf stop a t0 t r0 told r program calm is bound stops after state shown read why closes events cycles status =
+    let contents : Contents = program.file.contents in
+    let start : first ≡ plain_start task contents = is ∙ ap (λ x. loaded p.geometry x []) (sym program.contents) ∙ ap (λ q. loaded q contents []) program.geometry in
     let most : limit ≡ task.config.limit = bound ∙ ap (λ (q : Parameters). q.limit) program.geometry in
     record {
-      bytes = program.bytes;
-      held = program.held;
-      contents = contents;
-      means = program.means;
+      file = program.file;
+      calm = calm;
       stops = subst (StopsAt (plain_start task contents) task.config.limit) (sym cycles) (subst (λ l. StopsAt (plain_start task contents) l k) most (subst (λ m. StopsAt m limit k) start stops));
       last = state_of s;
       is_last = state ∙ ap (λ (m : Machine). m.state) (after ∙ ap (after_steps k) start ∙ ap (λ j. after_steps j (plain_start task contents)) (sym cycles));
@@ -36,7 +34,7 @@ IsPlainOf-ran task stock p first last s limit k mute deaf stop a t0 t r0 told r 
       shown_all = shown;
       told = told;
       read_all = read;
-      closes = subst (λ l. ClosesRun deaf (stop_line (plain_stop mute deaf s.status) l) told r) most (subst (λ x. ClosesRun deaf (stop_line x limit) told r) why closes);
+      closes = subst (λ l. ClosesRun deaf (plain_stop mute deaf s.status) l told r) most (subst (λ x. ClosesRun deaf x limit told r) why closes);
       status = status ∙ ap stop_status why;
       events = events;
     }

@@ -16,7 +16,7 @@ use Rattle.thy_model.specs.Moments.{IsPoweredOn}
 use Rattle.thy_model.specs.Origin.{Origin}
 use Rattle.thy_model.specs.Safe.{Safe}
 use Rattle.thy_model.specs.Sound.{doubt_of, view_of}
-use Rattle.thy_model.proofs.CallLaws.{IsAt-fresh, Safe-at}
+use Rattle.thy_model.proofs.CallLaws.{IsPoweredOn-some, IsAt-fresh, Safe-at}
 use Rattle.thy_run.specs.Cuts.{has_ended}
 use Rattle.thy_run.specs.Laws.{released_of}
 use Rattle.thy_run.specs.World.{IsFirst}
@@ -46,7 +46,7 @@ first_of plan m n planned powered f =
     let S : View → Type 0 = λ v. Safe o v.done (doubt_of v) n in
     record {
       device = refl;
-      powered = at_first;
+      at_moment = at_first;
       loading = view;
       safe = subst S view (Safe-at o 0 m n at_first);
       left = ap (λ (d : Device). d.left) f.is_fitted;
@@ -78,39 +78,13 @@ Running-first plan p m n t r planned powered f is =
     } in
     subst (λ (x : Progress). Running plan n x n 0 t t r r) (sym is) here
 
--- a machine whose power has come on
-some_machine : Plan → Core
-some_machine plan = record {
-  geometry = plan.geometry;
-  memory = replicate (memory_blocks plan.geometry) zero_block;
-  cpu = record { pc = 0; regs = replicate 32 0; console_len = 0; cursor = 0; brk = 0; floor = 0; count = 0; status = RunningStatus };
-  slot_record = replicate 5 zero_block;
-  view = boot_view None None;
-  stage = Unread;
-  failed = false;
-}
-
-powered_machine : (plan : Plan) → IsPoweredOn plan.geometry (some_machine plan)
-unfolding some_machine
-powered_machine plan = record {
-  geometry = refl;
-  memory = refl;
-  cpu = record { pc = refl; regs = refl; cursor = refl; brk = refl; floor = refl };
-  slot_record = length-replicate 5 zero_block;
-  view = refl;
-  stage = refl;
-  failed = refl;
-}
-
 -- no memory was found for a machine
 pub RunEnds-unpowered : (plan : Plan) (events : List Happening) (n : Device) (t r : Stream) → IsPlanned plan → IsFitted plan n → events ≡ []
     → RunEnds plan n n (record { stop = Memory; events = events; cycles = 0; mute = false; deaf = false }) t t r r
 RunEnds-unpowered plan events n t r planned f none = record {
-  finished = record {
-    last = world_at (first_progress plan (some_machine plan)) n 0;
-    ran = first_of plan (some_machine plan) n planned (powered_machine plan) f;
-    ends = inl (none, refl);
-  };
+  last = world_at (first_progress plan (IsPoweredOn-some plan.geometry).0) n 0;
+  ran = first_of plan (IsPoweredOn-some plan.geometry).0 n planned (IsPoweredOn-some plan.geometry).1 f;
+  ends = inl (none, refl);
   few = omega arith;
   shown_all = record { some = []; rest = []; grew = ap (released_of (origin_of plan)) none; took = Took-none t };
   read_all = sends_none (report_of plan.digest events) r (ap (report_of plan.digest) none);
@@ -124,10 +98,12 @@ RunEnds-limit plan fit p n k limit t0 t r0 r planned running same limit_is =
     let o : Origin = origin_of plan in
     let going : has_ended p.events ≡ false = (good_of plan fit p n k planned running.goes).stands.ended ∙ running.goes.going in
     let here : RunEnds plan fit n (record { stop = Limit; events = p.events; cycles = k; mute = p.mute; deaf = p.deaf }) t0 t r0 r = record {
-      finished = record { last = world_at p n k; ran = running.goes.ran; ends = inl (refl, refl) };
+      last = world_at p n k;
+      ran = running.goes.ran;
+      ends = (refl, refl);
       few = omega (arith, same, limit_is);
       shown_all = subst (λ b. Sends [] (released_of o p.events) b t0 t) (sym running.goes.spoken) running.shown_all;
       read_all = subst (λ b. Sends [] (report_of plan.digest p.events) b r0 r) (sym running.goes.heard) running.read_all;
-      stop_fits = (same ∙ limit_is, going, running.goes.spoken, running.goes.heard);
+      stop_fits = (same ∙ limit_is, going, running.goes.spoken, running.goes.heard, running.goes.calm);
     } in
     subst (λ c. RunEnds plan fit n (record { stop = Limit; events = p.events; cycles = c; mute = p.mute; deaf = p.deaf }) t0 t r0 r) same here

@@ -25,7 +25,12 @@ use Rattle.thy_words.specs.Settings.{Job, Order, run, plain, settings_of, order_
 use Rattle.thy_model.specs.Origin.{Origin}
 use Rattle.thy_model.specs.Sound.{IsOrigin}
 use Rattle.thy_run.specs.Laws.{Promise}
+use Rattle.thy_run.specs.Unfinished.{Finished}
+use Rattle.thy_run.specs.World.{Given, World, Ran}
 use Rattle.thy_run.proofs.PromiseLaws.{Promise-finished}
+use Rattle.thy_text.specs.Happening.{Happening}
+use Rattle.thy_cli.specs.declared.answer.Stop.{Stop}
+use Rattle.thy_cli.specs.declared.answer.Stop.TheVariants.{Ended, Nvm, Memory, Terminal, Report, Limit}
 use Rattle.thy_cli.specs.declared.answer.Answer.{Answer}
 use Rattle.thy_cli.specs.declared.cycles.Ending.{Ending}
 use Rattle.thy_cli.specs.declared.plan.Plan.{Plan}
@@ -33,7 +38,7 @@ use Rattle.thy_cli.specs.declared.refusal.Refusal.{Refusal}
 use Rattle.thy_cli.specs.declared.refusal.Refusal.TheVariants.{Words, Fetch, File, Device as DeviceRefusal, Memory as MemoryRefusal}
 use Rattle.thy_cli.specs.Answering.{Task, task_of, WordsDue, meaning_of, OrderDue, RefusalDue, IsPlanOf, IsRunOf, ClosesRun, PlainAnswered, TaskAnswered, Answered, stop_line, stop_status}
 use Rattle.thy_cli.specs.Going.{origin_of, given_of}
-use Rattle.thy_cli.specs.Turning.{RunEnds}
+use Rattle.thy_cli.specs.Turning.{EndsBy, RunEnds}
 
 -- ---- configurations
 
@@ -95,16 +100,26 @@ IsOrigin-start o contents range is storable =
 
 -- ---- answers
 
+-- whatever stopped it, a run is finished
+finished_by : (o : Origin) (given : Given) (k : ℕ) (last : World) (events : List Happening) (n : Device) (stop : Stop) → Ran o given k last → EndsBy o last events n stop → Finished o given k events n
+finished_by o given k last events n (Ended status) ran ends = record { last = last; ran = ran; ends = inl ends }
+finished_by o given k last events n Nvm ran ends = record { last = last; ran = ran; ends = inr ends }
+finished_by o given k last events n Memory ran ends = record { last = last; ran = ran; ends = ends }
+finished_by o given k last events n Terminal ran ends = record { last = last; ran = ran; ends = inl ends }
+finished_by o given k last events n Report ran ends = record { last = last; ran = ran; ends = inl ends }
+finished_by o given k last events n Limit ran ends = record { last = last; ran = ran; ends = inl ends }
+
 -- a run that was begun keeps its promise
-pub IsRunOf-ran : (task : Task) (stock : Stock) (plan : Plan) (n d m : Device) (shape : Shape) (e : Ending) (a : Answer) (t0 t r0 told r : Stream) → IsPlanOf task stock plan
+pub IsRunOf-ran : (task : Task) (old new : Stock) (plan : Plan) (n d m : Device) (shape : Shape) (e : Ending) (a : Answer) (t0 t r0 told r : Stream) → IsPlanOf task old plan → new.faults ≡ old.faults
     → d ≡ fitted shape [] n → shape.blocks ≡ blocks_of plan.geometry → shape.queue ≡ plan.geometry.nvmq → shape.cuts ≡ length plan.config.cuts → RunEnds plan d m e t0 t r0 told
-    → ClosesRun e.deaf (stop_line e.stop plan.geometry.limit) told r → a.events ≡ e.events → a.cycles ≡ e.cycles → a.status ≡ stop_status e.stop → IsRunOf task stock n m a t0 t r0 r
-IsRunOf-ran task stock plan n d m shape e a t0 t r0 told r p fit blocks queue cuts ends closes events cycles status =
+    → ClosesRun e.deaf e.stop plan.geometry.limit told r → a.events ≡ e.events → a.cycles ≡ e.cycles → a.status ≡ stop_status e.stop → IsRunOf task old new n m a t0 t r0 r
+IsRunOf-ran task old new plan n d m shape e a t0 t r0 told r p calm fit blocks queue cuts ends closes events cycles status =
     let o : Origin = origin_of plan in
-    let kept = Promise-finished o (given_of plan d) e.cycles e.events m p.planned.origin p.planned.rising ends.finished in
+    let kept = Promise-finished o (given_of plan d) e.cycles e.events m p.planned.origin p.planned.rising (finished_by o (given_of plan d) e.cycles ends.last e.events m e.stop ends.ran ends.ends) in
     record {
       plan = plan;
       is_plan = p;
+      calm = calm;
       device = d;
       is_fitted = record { shape = shape; before = n; blocks = blocks; queue = queue; cuts = cuts; is_fitted = fit };
       from_entry = fit;
@@ -124,33 +139,33 @@ IsRunOf-ran task stock plan n d m shape e a t0 t r0 told r p fit blocks queue cu
 -- what is due to an order is due to the words that ask for it; words are none of its reasons
 due_of_order : (words : List (List ℕ)) (order : Order) (old new : Stock) (n m : Device) (r : Refusal) → settings_of words ≡ Ok order → OrderDue order old new n m r → RefusalDue words old new n m r
 due_of_order words (run job) old new n m (Words e) is due = absurd due
-due_of_order words (plain job) old new n m (Words e) is due = absurd due.0
+due_of_order words (plain job) old new n m (Words e) is due = absurd (due.0 n)
 due_of_order words order old new n m (Fetch name e) is due = (order, is, due)
 due_of_order words order old new n m (File e) is due = (order, is, due)
 due_of_order words order old new n m (DeviceRefusal e) is due = (order, is, due)
 due_of_order words order old new n m (MemoryRefusal e) is due = (order, is, due)
 
-answered_run : (words : List (List ℕ)) (job : Job) (old new : Stock) (n m : Device) (t0 t r0 r : Stream) (a : Answer) → settings_of words ≡ Ok (run job)
+answered_run : (words : List (List ℕ)) (job : Job) (old new : Stock) (n m : Device) (t0 t r0 r : Stream) (a : Answer) → settings_of words ≡ Ok (run job) → new.held ≡ old.held
     → TaskAnswered (task_of job) old new n m t0 t r0 r a → Answered words old new n m t0 t r0 r a
-answered_run words job old new n m t0 t r0 r a is (inl (refusal, due, refused)) = inl (refusal, due_of_order words (run job) old new n m refusal is due, refused)
-answered_run words job old new n m t0 t r0 r a is (inr ran) = inr (inl (job, is, ran))
+answered_run words job old new n m t0 t r0 r a is held (inl (refusal, due, refused)) = (held, inl (refusal, due_of_order words (run job) old new n m refusal is due, refused))
+answered_run words job old new n m t0 t r0 r a is held (inr ran) = (held, inr (inl (job, is, ran)))
 
 -- a job for the machine
-pub Answered-run : (words : List (List ℕ)) (job : Job) (file : List ℕ) (old new : Stock) (n m : Device) (t0 t r0 r : Stream) (a : Answer) → settings_of words ≡ Ok (run job) → file ≡ job.file
+pub Answered-run : (words : List (List ℕ)) (job : Job) (file : List ℕ) (old new : Stock) (n m : Device) (t0 t r0 r : Stream) (a : Answer) → settings_of words ≡ Ok (run job) → file ≡ job.file → new.held ≡ old.held
     → TaskAnswered (record { file = file; config = job.config; digest = job.digest }) old new n m t0 t r0 r a → Answered words old new n m t0 t r0 r a
-Answered-run words job file old new n m t0 t r0 r a is named h =
-    answered_run words job old new n m t0 t r0 r a is (subst (λ f. TaskAnswered (record { file = f; config = job.config; digest = job.digest }) old new n m t0 t r0 r a) named h)
+Answered-run words job file old new n m t0 t r0 r a is named held h =
+    answered_run words job old new n m t0 t r0 r a is held (subst (λ f. TaskAnswered (record { file = f; config = job.config; digest = job.digest }) old new n m t0 t r0 r a) named h)
 
-answered_plain : (words : List (List ℕ)) (job : Job) (old new : Stock) (n : Device) (t0 t r0 r : Stream) (a : Answer) → settings_of words ≡ Ok (plain job)
+answered_plain : (words : List (List ℕ)) (job : Job) (old new : Stock) (n : Device) (t0 t r0 r : Stream) (a : Answer) → settings_of words ≡ Ok (plain job) → new.held ≡ old.held
     → PlainAnswered (task_of job) old new t0 t r0 r a → Answered words old new n n t0 t r0 r a
-answered_plain words job old new n t0 t r0 r a is (inl (refusal, due, refused)) = inl (refusal, due_of_order words (plain job) old new n n refusal is (due n, refl), refused)
-answered_plain words job old new n t0 t r0 r a is (inr ran) = inr (inr (job, is, refl, ran))
+answered_plain words job old new n t0 t r0 r a is held (inl (refusal, due, refused)) = (held, inl (refusal, due_of_order words (plain job) old new n n refusal is (due, refl), refused))
+answered_plain words job old new n t0 t r0 r a is held (inr ran) = (held, inr (inr (job, is, refl, ran)))
 
 -- a job for the plain machine
-pub Answered-plain : (words : List (List ℕ)) (job : Job) (file : List ℕ) (old new : Stock) (n : Device) (t0 t r0 r : Stream) (a : Answer) → settings_of words ≡ Ok (plain job) → file ≡ job.file
+pub Answered-plain : (words : List (List ℕ)) (job : Job) (file : List ℕ) (old new : Stock) (n : Device) (t0 t r0 r : Stream) (a : Answer) → settings_of words ≡ Ok (plain job) → file ≡ job.file → new.held ≡ old.held
     → PlainAnswered (record { file = file; config = job.config; digest = job.digest }) old new t0 t r0 r a → Answered words old new n n t0 t r0 r a
-Answered-plain words job file old new n t0 t r0 r a is named h =
-    answered_plain words job old new n t0 t r0 r a is (subst (λ f. PlainAnswered (record { file = f; config = job.config; digest = job.digest }) old new t0 t r0 r a) named h)
+Answered-plain words job file old new n t0 t r0 r a is named held h =
+    answered_plain words job old new n t0 t r0 r a is held (subst (λ f. PlainAnswered (record { file = f; config = job.config; digest = job.digest }) old new t0 t r0 r a) named h)
 
 -- why words are refused
 pub WordsDue-shown : (words : List (List ℕ)) (e : WordsError) → ShowsOrMemory order_of (settings_of words) (Err e) → WordsDue words e

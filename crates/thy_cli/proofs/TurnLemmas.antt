@@ -17,7 +17,7 @@ use Rattle.thy_cli.specs.declared.plan.Plan.{Plan}
 use Rattle.thy_cli.specs.declared.progress.Progress.{Progress}
 use Rattle.thy_cli.specs.Going.{origin_of, given_of, world_at, IsDone, IsBroken, Breaks, ComesTo}
 use Rattle.thy_cli.specs.Sending.{Sent, Sends, Delivers}
-use Rattle.thy_cli.specs.Turning.{turned_of, is_memory, StopFits, Running, RunEnds, IsTurned}
+use Rattle.thy_cli.specs.Turning.{turned_of, is_memory, EndsBy, StopFits, Running, RunEnds, IsTurned}
 
 -- ---- what sinks take
 
@@ -74,6 +74,15 @@ told_more plan p q n m k bytes outcome c =
 
 -- ---- turns
 
+-- a device failed
+abbrev is_fault : Stop → Bool
+is_fault Nvm = true
+is_fault (Ended status) = false
+is_fault Memory = false
+is_fault Terminal = false
+is_fault Report = false
+is_fault Limit = false
+
 module _ (plan : Plan) (fitted : Device) (p q : Progress) (n m : Device) (k : ℕ) (bytes : List ℕ) (mute deaf : Bool) (t0 t1 t2 r0 r1 r2 : Stream)
     (running : Running plan fitted p n k t0 t1 r0 r1) (few : k < plan.geometry.limit) (sent : Sent mute t1 t2 bytes)
     (lines : Sends (report_of plan.digest (take (length p.events) q.events)) (report_of plan.digest q.events) deaf r1 r2) where
@@ -93,28 +102,48 @@ module _ (plan : Plan) (fitted : Device) (p q : Progress) (n m : Device) (k : �
   read_all_on t = read_on plan.digest deaf p.events q.events t.0 r0 r1 r2 t.1 running.read_all lines
 
   -- the cycle is done, and a sink failed
-  done_stops : (stop : Stop) → IsDone plan p q n m k bytes → is_memory stop ≡ false
+  done_stops : (stop : Stop) → IsDone plan p q n m k bytes → is_memory stop ≡ false → is_fault stop ≡ false
       → StopFits plan fitted m (record { stop = stop; events = q.events; cycles = k + 1; mute = mute; deaf = deaf }) stop
       → RunEnds plan fitted m (record { stop = stop; events = q.events; cycles = k + 1; mute = mute; deaf = deaf }) t0 t2 r0 r2
-  done_stops stop d short fits = record {
-    finished = record { last = world_at q m (k + 1); ran = ran_on d; ends = inl (refl, refl) };
+  done_stops stop d short sound fits = record {
+    last = world_at q m (k + 1);
+    ran = ran_on d;
+    ends = last_done stop short sound;
     few = omega arith;
     shown_all = subst (λ b. Delivers b mute [] (released_of (origin_of plan) q.events) t0 t2) (sym short) (shown_on d);
     read_all = read_all_on d.told;
     stop_fits = fits;
   }
+    where
+      last_done : (stop : Stop) → is_memory stop ≡ false → is_fault stop ≡ false → EndsBy (origin_of plan) (world_at q m (k + 1)) q.events m stop
+      last_done (Ended status) short sound = (refl, refl)
+      last_done Nvm short sound = absurd (cc)
+      last_done Memory short sound = absurd (cc)
+      last_done Terminal short sound = (refl, refl)
+      last_done Report short sound = (refl, refl)
+      last_done Limit short sound = (refl, refl)
 
   -- the cycle is not done
   broken_stops : (stop : Stop) → IsBroken plan p q n m k bytes → Breaks p q n m bytes stop
       → RunEnds plan fitted m (record { stop = stop; events = q.events; cycles = k; mute = mute; deaf = deaf }) t0 t2 r0 r2
   broken_stops stop b why = record {
-    finished = record { last = world_at p n k; ran = running.goes.ran; ends = inr b.unfinished };
+    last = world_at p n k;
+    ran = running.goes.ran;
+    ends = begun stop why;
     few = omega arith;
     shown_all = delivered stop why;
     read_all = read_all_on b.told;
     stop_fits = because stop why;
   }
     where
+      begun : (stop : Stop) → Breaks p q n m bytes stop → EndsBy (origin_of plan) (world_at p n k) q.events m stop
+      begun Nvm f = b.unfinished
+      begun Memory f = inr b.unfinished
+      begun (Ended status) f = absurd f
+      begun Terminal f = absurd f
+      begun Report f = absurd f
+      begun Limit f = absurd f
+
       delivered : (stop : Stop) → Breaks p q n m bytes stop → Delivers (is_memory stop) mute [] (released_of (origin_of plan) q.events) t0 t2
       delivered Nvm f = Sends-append mute [] (released_of (origin_of plan) p.events) (released_of (origin_of plan) q.events) t0 t1 t2 running.shown_all
           (record { more = bytes; grew = ap (released_of (origin_of plan)) f.events ∙ sym (append-nil (released_of (origin_of plan) p.events)) ∙ ap (λ (l : List ℕ). released_of (origin_of plan) p.events ++ l) (sym f.none); sent = sent })
@@ -125,7 +154,7 @@ module _ (plan : Plan) (fitted : Device) (p q : Progress) (n m : Device) (k : �
       delivered Limit f = absurd f
 
       because : (stop : Stop) → Breaks p q n m bytes stop → StopFits plan fitted m (record { stop = stop; events = q.events; cycles = k; mute = mute; deaf = deaf }) stop
-      because Nvm f = subst (λ c. RoseFaults c m.faults) running.goes.calm f.rose
+      because Nvm f = (subst (λ c. RoseFaults c m.faults) running.goes.calm f.rose, few)
       because Memory f = tt
       because (Ended status) f = absurd f
       because Terminal f = absurd f
@@ -139,9 +168,9 @@ goes_turned : (plan : Plan) (fitted : Device) (p q : Progress) (n m : Device) (k
     → IsDone plan p q n m k bytes × (is_halt (seen (origin_of plan) (world_at q m (k + 1))).phase ≡ false)
     → IsTurned plan fitted (record q { mute = mute; deaf = deaf }) m k t0 t2 r0 r2 (turned_of Goes mute deaf)
 goes_turned plan fitted p q n m k bytes mute true t0 t1 t2 r0 r1 r2 running few sent lines c =
-    done_stops plan fitted p q n m k bytes mute true t0 t1 t2 r0 r1 r2 running few sent lines Report c.0 refl refl
+    done_stops plan fitted p q n m k bytes mute true t0 t1 t2 r0 r1 r2 running few sent lines Report c.0 refl refl (refl, c.0.calm ∙ running.goes.calm)
 goes_turned plan fitted p q n m k bytes true false t0 t1 t2 r0 r1 r2 running few sent lines c =
-    done_stops plan fitted p q n m k bytes true false t0 t1 t2 r0 r1 r2 running few sent lines Terminal c.0 refl (refl, refl)
+    done_stops plan fitted p q n m k bytes true false t0 t1 t2 r0 r1 r2 running few sent lines Terminal c.0 refl refl (refl, refl, c.0.calm ∙ running.goes.calm)
 goes_turned plan fitted p q n m k bytes false false t0 t1 t2 r0 r1 r2 running few sent lines c = record {
   goes = record {
     ran = ran_on plan fitted p q n m k bytes false false t0 t1 t2 r0 r1 r2 running few sent lines c.0;
@@ -162,11 +191,11 @@ ends_turned : (plan : Plan) (fitted : Device) (p q : Progress) (n m : Device) (k
     → ComesTo plan p q n m k bytes (Ends status)
     → IsTurned plan fitted (record q { mute = mute; deaf = deaf }) m k t0 t2 r0 r2 (turned_of (Ends status) mute deaf)
 ends_turned plan fitted p q n m k bytes status mute true t0 t1 t2 r0 r1 r2 running few sent lines c =
-    done_stops plan fitted p q n m k bytes mute true t0 t1 t2 r0 r1 r2 running few sent lines Report c.0 refl refl
+    done_stops plan fitted p q n m k bytes mute true t0 t1 t2 r0 r1 r2 running few sent lines Report c.0 refl refl (refl, c.0.calm ∙ running.goes.calm)
 ends_turned plan fitted p q n m k bytes status true false t0 t1 t2 r0 r1 r2 running few sent lines c =
-    done_stops plan fitted p q n m k bytes true false t0 t1 t2 r0 r1 r2 running few sent lines Terminal c.0 refl (refl, refl)
+    done_stops plan fitted p q n m k bytes true false t0 t1 t2 r0 r1 r2 running few sent lines Terminal c.0 refl refl (refl, refl, c.0.calm ∙ running.goes.calm)
 ends_turned plan fitted p q n m k bytes status false false t0 t1 t2 r0 r1 r2 running few sent lines c =
-    done_stops plan fitted p q n m k bytes false false t0 t1 t2 r0 r1 r2 running few sent lines (Ended status) c.0 refl (c.2, refl, refl)
+    done_stops plan fitted p q n m k bytes false false t0 t1 t2 r0 r1 r2 running few sent lines (Ended status) c.0 refl refl (c.2, refl, refl, c.0.calm ∙ running.goes.calm)
 
 -- a cycle that was told is a turn
 pub IsTurned-told : (plan : Plan) (fitted : Device) (p q : Progress) (n m : Device) (k : ℕ) (bytes : List ℕ) (outcome : Outcome) (mute deaf : Bool) (t0 t1 t2 r0 r1 r2 : Stream)

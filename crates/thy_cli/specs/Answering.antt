@@ -1,5 +1,5 @@
 -- What the top call answers.
-use Rattle.std.specs.Prelude.{◌≡◌, ◌⊎◌, ℕ, ◌<◌, Bool, true, false, List, [], ◌∷◌, length, codes, Option, Some, None, Result, Ok, Err, MatchOption}
+use Rattle.std.specs.Prelude.{◌≡◌, ◌⊎◌, ℕ, ◌<◌, ◌≤◌, Bool, true, false, List, [], ◌∷◌, length, codes, Option, Some, None, Result, Ok, Err, MatchOption}
 use Rattle.std.specs.Fmt.{decimal}
 use Rattle.thy_base.specs.declared.outside.FetchError.{FetchError}
 use Rattle.thy_base.specs.declared.outside.FetchError.TheVariants.{Failed as FetchFailed, NotThere, TooLong, Memory as FetchMemory}
@@ -92,21 +92,33 @@ pub record Task : Type 0 where
 abbrev pub task_of : Job → Task
 task_of job = record { file = job.file; config = job.config; digest = job.digest }
 
+-- the most bytes that a file may have
+abbrev pub most_bytes : ℕ
+most_bytes = 67108864
+
 -- what stands under a name, where the shelf tells
 abbrev pub IsHeld : Stock → List ℕ → List ℕ → Type 0
-IsHeld stock name bytes = (files : Files) → stock.held ≡ Some files → files name ≡ Some bytes
+IsHeld stock name bytes =
+    (files : Files) → stock.held ≡ Some files → (files name ≡ Some bytes) × (length bytes ≤ most_bytes)
 
 -- why a file was not had: the shelf's count rose, or a shelf that tells has nothing there, or too much
 abbrev pub FetchDue : Stock → Stock → List ℕ → FetchError → Type 0
 FetchDue old new name FetchFailed = Rose old.faults new.faults
 FetchDue old new name NotThere = MatchOption old.held (Rose old.faults new.faults) (λ files. files name ≡ None)
 FetchDue old new name TooLong =
-    MatchOption old.held (Rose old.faults new.faults) (λ files. (bytes : List ℕ) × (files name ≡ Some bytes) × (67108864 < length bytes))
+    MatchOption old.held (Rose old.faults new.faults) (λ files. (bytes : List ℕ) × (files name ≡ Some bytes) × (most_bytes < length bytes))
 FetchDue old new name (FetchMemory e) = Unit {0}
 
 -- what the bytes of a file mean to a task
 abbrev pub meaning_of : Task → List ℕ → Result Contents ElfError
 meaning_of task bytes = read_of bytes task.config.base (program_size (parameters_of task.config))
+
+-- the file was had, and is a program
+pub record IsProgramFile (task : Task) (stock : Stock) : Type 0 where
+  pub bytes : List ℕ
+  pub held : IsHeld stock task.file bytes
+  pub contents : Contents
+  pub means : meaning_of task bytes ≡ Ok contents
 
 -- why a file is refused; want of memory is free
 abbrev pub FileDue : Task → Stock → ElfError → Type 0
@@ -123,13 +135,13 @@ abbrev pub TaskDue : Task → Stock → Stock → Device → Device → Refusal 
 TaskDue task old new n m (Words e) = ⊥
 TaskDue task old new n m (Fetch name e) = (name.now ≡ task.file) × FetchDue old new task.file e × (m ≡ n)
 TaskDue task old new n m (File e) = FileDue task old e × (m ≡ n)
-TaskDue task old new n m (DeviceRefusal e) = HasFailedToFit e n m
+TaskDue task old new n m (DeviceRefusal e) = IsProgramFile task old × HasFailedToFit e n m
 TaskDue task old new n m (MemoryRefusal e) = m ≡ n
 
--- why an order is refused: the plain machine leaves the device alone
+-- why an order is refused: the plain machine leaves the device alone, whatever that is
 abbrev pub OrderDue : Order → Stock → Stock → Device → Device → Refusal → Type 0
 OrderDue (run job) old new n m r = TaskDue (task_of job) old new n m r
-OrderDue (plain job) old new n m r = TaskDue (task_of job) old new n m r × (m ≡ n)
+OrderDue (plain job) old new n m r = ((d : Device) → TaskDue (task_of job) old new d d r) × (m ≡ n)
 
 -- why a call is refused
 abbrev pub RefusalDue : List (List ℕ) → Stock → Stock → Device → Device → Refusal → Type 0
@@ -150,9 +162,8 @@ pub record IsRefused (r : Refusal) (a : Answer) (terminal shown report read : St
 pub record IsProgramOf (task : Task) (stock : Stock) (p : Program) : Type 0 where
   pub geometry : p.geometry ≡ parameters_of task.config
   pub in_range : IsInRange p.geometry
-  pub bytes : List ℕ
-  pub held : IsHeld stock task.file bytes
-  pub means : meaning_of task bytes ≡ Ok (contents_of p.image)
+  pub file : IsProgramFile task stock
+  pub contents : file.contents ≡ contents_of p.image
   pub size : length (bytes_of p.image.memory) ≡ program_size p.geometry
 
 -- a plan is that of a task: its program is what the file means
@@ -160,11 +171,8 @@ pub record IsPlanOf (task : Task) (stock : Stock) (p : Plan) : Type 0 where
   pub config : p.config ≡ task.config
   pub geometry : p.geometry ≡ parameters_of task.config
   pub digest : p.digest ≡ task.digest
-  pub bytes : List ℕ
-  pub held : IsHeld stock task.file bytes
-  pub contents : Contents
-  pub means : meaning_of task bytes ≡ Ok contents
-  pub start : (origin_of p).start ≡ start_state p.geometry contents
+  pub file : IsProgramFile task stock
+  pub start : (origin_of p).start ≡ start_state p.geometry file.contents
   pub input : (origin_of p).input ≡ []
   pub planned : IsPlanned p
 
@@ -188,23 +196,26 @@ stop_line Nvm limit = closing_of closing.Nvm
 stop_line Limit limit = closing_of (closing.Limit limit)
 stop_line Memory limit = closing_of closing.Memory
 
--- what the sinks took of a run and its closing line: a report that failed got no more
-abbrev pub ClosesRun : Bool → List ℕ → Stream → Stream → Type 0
-ClosesRun true line old new = new ≡ old
-ClosesRun false line old new = Closes line old new
+-- the report takes the closing line of a stop; at an end there is none, and a report that failed gets no more
+abbrev pub ClosesRun : (deaf : Bool) → Stop → ℕ → Stream → Stream → Type 0
+ClosesRun true stop limit old new = new ≡ old
+ClosesRun false (Ended status) limit old new = new ≡ old
+ClosesRun false Report limit old new = new ≡ old
+ClosesRun false stop limit old new = Closes (stop_line stop limit) old new
 
 -- A run was begun over a device that was fitted, and ended. Its cycles are those of a run, and keep what is promised
 -- of every run; the sinks took what its events say.
-pub record IsRunOf (task : Task) (stock : Stock) (n m : Device) (a : Answer) (terminal shown report read : Stream) : Type 0 where
+pub record IsRunOf (task : Task) (old new : Stock) (n m : Device) (a : Answer) (terminal shown report read : Stream) : Type 0 where
   pub plan : Plan
-  pub is_plan : IsPlanOf task stock plan
+  pub is_plan : IsPlanOf task old plan
+  pub calm : new.faults ≡ old.faults
   pub device : Device
   pub is_fitted : IsFitted plan device
   pub from_entry : device ≡ fitted is_fitted.shape [] n
   pub ending : Ending
   pub told : Stream
   pub ends : RunEnds plan device m ending terminal shown report told
-  pub closes : ClosesRun ending.deaf (stop_line ending.stop plan.geometry.limit) told read
+  pub closes : ClosesRun ending.deaf ending.stop plan.geometry.limit told read
   pub events : a.events ≡ ending.events
   pub cycles : a.cycles ≡ ending.cycles
   pub status : a.status ≡ stop_status ending.stop
@@ -233,20 +244,18 @@ end_lines task s = ended_lines task.digest s.status s.count s.memory
 
 -- The plain machine took the program's steps from its start, up to the first state that runs no more or the limit;
 -- the sinks took what its last state says.
-pub record IsPlainOf (task : Task) (stock : Stock) (a : Answer) (terminal shown report read : Stream) : Type 0 where
-  pub bytes : List ℕ
-  pub held : IsHeld stock task.file bytes
-  pub contents : Contents
-  pub means : meaning_of task bytes ≡ Ok contents
-  pub stops : StopsAt (plain_start task contents) task.config.limit a.cycles
+pub record IsPlainOf (task : Task) (old new : Stock) (a : Answer) (terminal shown report read : Stream) : Type 0 where
+  pub file : IsProgramFile task old
+  pub calm : new.faults ≡ old.faults
+  pub stops : StopsAt (plain_start task file.contents) task.config.limit a.cycles
   pub last : State
-  pub is_last : last ≡ plain_state task contents a.cycles
+  pub is_last : last ≡ plain_state task file.contents a.cycles
   pub mute : Bool
   pub deaf : Bool
   pub shown_all : Sent mute terminal shown last.console
   pub told : Stream
   pub read_all : Sent deaf report told (end_lines task last)
-  pub closes : ClosesRun deaf (stop_line (plain_stop mute deaf last.status) task.config.limit) told read
+  pub closes : ClosesRun deaf (plain_stop mute deaf last.status) task.config.limit told read
   pub status : a.status ≡ stop_status (plain_stop mute deaf last.status)
   pub events : a.events ≡ []
 
@@ -254,7 +263,7 @@ pub record IsPlainOf (task : Task) (stock : Stock) (a : Answer) (terminal shown 
 abbrev pub PlainAnswered : Task → Stock → Stock → Stream → Stream → Stream → Stream → Answer → Type 0
 PlainAnswered task old new terminal shown report read a =
     ((r : Refusal) × ((n : Device) → TaskDue task old new n n r) × IsRefused r a terminal shown report read)
-    ⊎ IsPlainOf task old a terminal shown report read
+    ⊎ IsPlainOf task old new a terminal shown report read
 
 -- ---- answers
 
@@ -262,11 +271,12 @@ PlainAnswered task old new terminal shown report read a =
 abbrev pub TaskAnswered : Task → Stock → Stock → Device → Device → Stream → Stream → Stream → Stream → Answer → Type 0
 TaskAnswered task old new n m terminal shown report read a =
     ((r : Refusal) × TaskDue task old new n m r × IsRefused r a terminal shown report read)
-    ⊎ IsRunOf task old n m a terminal shown report read
+    ⊎ IsRunOf task old new n m a terminal shown report read
 
--- what the answer to a call is: a refusal that is due, or a run, or the plain machine's
+-- What the answer to a call is: a refusal that is due, or a run, or the plain machine's. What stands on the shelf stays.
 abbrev pub Answered : List (List ℕ) → Stock → Stock → Device → Device → Stream → Stream → Stream → Stream → Answer → Type 0
 Answered words old new n m terminal shown report read a =
-    ((r : Refusal) × RefusalDue words old new n m r × IsRefused r a terminal shown report read)
-    ⊎ (((job : Job) × (settings_of words ≡ Ok (run job)) × IsRunOf (task_of job) old n m a terminal shown report read)
-    ⊎ ((job : Job) × (settings_of words ≡ Ok (plain job)) × (m ≡ n) × IsPlainOf (task_of job) old a terminal shown report read))
+    (new.held ≡ old.held)
+    × (((r : Refusal) × RefusalDue words old new n m r × IsRefused r a terminal shown report read)
+    ⊎ (((job : Job) × (settings_of words ≡ Ok (run job)) × IsRunOf (task_of job) old new n m a terminal shown report read)
+    ⊎ ((job : Job) × (settings_of words ≡ Ok (plain job)) × (m ≡ n) × IsPlainOf (task_of job) old new a terminal shown report read)))

@@ -1,5 +1,5 @@
 -- The program's loop over cycles, with what its sinks take.
-use Rattle.std.specs.Prelude.{◌≡◌, ℕ, ◌+◌, ◌≤◌, Bool, true, false, [], length, Some}
+use Rattle.std.specs.Prelude.{◌≡◌, ◌⊎◌, ℕ, ◌+◌, ◌<◌, ◌≤◌, Bool, true, false, List, [], length, Some}
 use Rattle.thy_base.specs.declared.nvm.Shape.{Shape}
 use Rattle.thy_base.specs.Device.{Device, fitted, RoseFaults}
 use Rattle.thy_base.specs.Geometry.{blocks_of}
@@ -7,9 +7,12 @@ use Rattle.thy_base.specs.Mix.{mix_start}
 use Rattle.thy_base.specs.Outside.{Stream}
 use Rattle.thy_text.specs.Lines.{report_of}
 use Rattle.thy_model.specs.Calls.{Core}
+use Rattle.thy_model.specs.Origin.{Origin}
+use Rattle.thy_text.specs.Happening.{Happening}
 use Rattle.thy_run.specs.Cuts.{has_ended}
 use Rattle.thy_run.specs.Laws.{released_of}
-use Rattle.thy_run.specs.Unfinished.{Finished}
+use Rattle.thy_run.specs.Unfinished.{StepFailed, TellingFailed, Ends as StandsAtEnd}
+use Rattle.thy_run.specs.World.{World, Ran}
 use Rattle.thy_cli.specs.declared.advance.Outcome.{Outcome}
 use Rattle.thy_cli.specs.declared.advance.Outcome.TheVariants.{Goes, Ends, Fails}
 use Rattle.thy_cli.specs.declared.answer.Stop.{Stop}
@@ -58,19 +61,36 @@ is_memory Terminal = false
 is_memory Report = false
 is_memory Limit = false
 
+-- the last cycle is done, and nothing was begun behind it
+abbrev pub IsLast : World → List Happening → Device → Type 0
+IsLast w events n = (events ≡ w.events) × (n ≡ w.device)
+
+-- what stands at the end, by the stop: only for a device's fault or want of memory one more cycle was begun
+abbrev pub EndsBy : Origin → World → List Happening → Device → Stop → Type 0
+EndsBy o w events n (Ended status) = IsLast w events n
+EndsBy o w events n Nvm = StepFailed o w events n ⊎ TellingFailed o w events n
+EndsBy o w events n Memory = StandsAtEnd o w events n
+EndsBy o w events n Terminal = IsLast w events n
+EndsBy o w events n Report = IsLast w events n
+EndsBy o w events n Limit = IsLast w events n
+
 -- what a stop says of the run
 abbrev pub StopFits : Plan → Device → Device → Ending → Stop → Type 0
-StopFits plan fitted new e (Ended status) = (end_of e.events ≡ Some status) × (e.mute ≡ false) × (e.deaf ≡ false)
-StopFits plan fitted new e Nvm = RoseFaults fitted.faults new.faults
+StopFits plan fitted new e (Ended status) =
+    (end_of e.events ≡ Some status) × (e.mute ≡ false) × (e.deaf ≡ false) × (new.faults ≡ fitted.faults)
+StopFits plan fitted new e Nvm = RoseFaults fitted.faults new.faults × (e.cycles < plan.geometry.limit)
 StopFits plan fitted new e Memory = Unit {0}
-StopFits plan fitted new e Terminal = (e.mute ≡ true) × (e.deaf ≡ false)
-StopFits plan fitted new e Report = e.deaf ≡ true
+StopFits plan fitted new e Terminal = (e.mute ≡ true) × (e.deaf ≡ false) × (new.faults ≡ fitted.faults)
+StopFits plan fitted new e Report = (e.deaf ≡ true) × (new.faults ≡ fitted.faults)
 StopFits plan fitted new e Limit =
     (e.cycles ≡ plan.geometry.limit) × (has_ended e.events ≡ false) × (e.mute ≡ false) × (e.deaf ≡ false)
+    × (new.faults ≡ fitted.faults)
 
 -- what a run leaves
 pub record RunEnds (plan : Plan) (fitted new : Device) (e : Ending) (terminal shown report read : Stream) : Type 0 where
-  pub finished : Finished (origin_of plan) (given_of plan fitted) e.cycles e.events new
+  pub last : World
+  pub ran : Ran (origin_of plan) (given_of plan fitted) e.cycles last
+  pub ends : EndsBy (origin_of plan) last e.events new e.stop
   pub few : e.cycles ≤ plan.geometry.limit
   pub shown_all : Delivers (is_memory e.stop) e.mute [] (released_of (origin_of plan) e.events) terminal shown
   pub read_all : Sends [] (report_of plan.digest e.events) e.deaf report read

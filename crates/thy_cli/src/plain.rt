@@ -56,7 +56,8 @@ pub fn plain_file<H: Shelf, T: Sink, R: Sink>(
     report: &mut R,
 ) -> Answer
     requires { range_fault config ≡ None }
-    ensures { PlainAnswered (record { file = file.now; config = config; digest = digest }) (H.stock shelf.old) (H.stock shelf.new) (T.stream terminal.old) (T.stream terminal.new) (R.stream report.old) (R.stream report.new) result }
+    ensures held { (H.stock shelf.new).held ≡ (H.stock shelf.old).held }
+    ensures answer { PlainAnswered (record { file = file.now; config = config; digest = digest }) (H.stock shelf.old) (H.stock shelf.new) (T.stream terminal.old) (T.stream terminal.new) (R.stream report.old) (R.stream report.new) result }
 {
     let program = match fetch_program(alloc, file, &config, shelf) {
         Ok(program) => program,

@@ -1,5 +1,5 @@
 //! From a name on the shelf to the program that stands there.
-ghost use Rattle.std.specs.Prelude.{◌≡◌, Bool, None, IfOk, IfErr};
+ghost use Rattle.std.specs.Prelude.{◌≡◌, Bool, None, IfOk, IfErr, OnOk};
 ghost use Rattle.thy_base.specs.Config.{fault_of as range_fault};
 ghost use Rattle.thy_base.specs.Device.{Device as DeviceValue};
 ghost use Rattle.thy_cli.specs.Answering.{TaskDue, IsProgramOf};
@@ -29,6 +29,8 @@ pub fn fetch_program<'a, H: Shelf>(
 ) -> Result<Program, Refusal<'a>>
     requires { range_fault config.now ≡ None }
     ensures refusal { IfErr result (λ r. (digest : Bool) (n : DeviceValue) → TaskDue (record { file = file.entry.now; config = config.now; digest = digest }) (H.stock shelf.old) (H.stock shelf.new) n n r) }
+    ensures held { (H.stock shelf.new).held ≡ (H.stock shelf.old).held }
+    ensures calm { OnOk result ((H.stock shelf.new).faults ≡ (H.stock shelf.old).faults) }
     ensures program { IfOk result (λ p. (digest : Bool) → IsProgramOf (record { file = file.entry.now; config = config.now; digest = digest }) (H.stock shelf.old) p) }
 {
     let geometry = match Geometry::new(config) {

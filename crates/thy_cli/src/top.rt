@@ -1,10 +1,9 @@
 //! The top call: from the words to the exit status.
-ghost use Rattle.std.specs.Prelude.{◌≡◌, map, None, IfOk, IfErr};
+ghost use Rattle.std.specs.Prelude.{◌≡◌, false, map, None, IfOk, IfErr, OnOk};
 ghost use Rattle.std.specs.String.{string_bytes};
 ghost use Rattle.thy_base.specs.Config.{fault_of as range_fault};
-ghost use Rattle.thy_cli.specs.Answering.{Answered, TaskAnswered, TaskDue, IsPlanOf, ClosesRun, stop_status, stop_line};
+ghost use Rattle.thy_cli.specs.Answering.{Answered, TaskAnswered, TaskDue, IsPlanOf, ClosesRun, stop_status};
 ghost use Rattle.thy_base.specs.Device.{Device as DeviceValue};
-ghost use Rattle.thy_text.specs.Closings.{closing_of};
 
 use crate::answer::{Answer, Stop, status_of};
 use crate::cycles::{Ending, run};
@@ -29,6 +28,8 @@ fn prepare<'a, H: Shelf>(
 ) -> Result<Plan, Refusal<'a>>
     requires { range_fault config ≡ None }
     ensures refusal { IfErr result (λ r. (n : DeviceValue) → TaskDue (record { file = file.entry.now; config = config; digest = digest }) (H.stock shelf.old) (H.stock shelf.new) n n r) }
+    ensures held { (H.stock shelf.new).held ≡ (H.stock shelf.old).held }
+    ensures calm { OnOk result ((H.stock shelf.new).faults ≡ (H.stock shelf.old).faults) }
     ensures plan { IfOk result (λ p. IsPlanOf (record { file = file.entry.now; config = config; digest = digest }) (H.stock shelf.old) p) }
 {
     match fetch_program(alloc, file, &config, shelf) {
@@ -50,28 +51,37 @@ fn prepare<'a, H: Shelf>(
     }
 }
 
-/// The closing line of a stop.
-fn closing_of(stop: Stop, limit: u64) -> Closing<'static>
-    ensures { closing_of result ≡ stop_line stop limit }
+/// Writes the closing line of a stop; at an end there is none. Where the report fails in it, the answer
+/// stays.
+fn close_run<R: Sink>(stop: Stop, limit: u64, report: &mut R)
+    ensures { ClosesRun false stop limit (R.stream report.old) (R.stream report.new) }
 {
     match stop {
-        Stop::Ended(_) | Stop::Report => Closing::Silent,
-        Stop::Nvm => Closing::Nvm,
-        Stop::Memory => Closing::Memory,
-        Stop::Terminal => Closing::Terminal,
-        Stop::Limit => Closing::Limit(limit),
+        Stop::Ended(_) | Stop::Report => {}
+        Stop::Nvm => {
+            close(Closing::Nvm, report);
+        }
+        Stop::Memory => {
+            close(Closing::Memory, report);
+        }
+        Stop::Terminal => {
+            close(Closing::Terminal, report);
+        }
+        Stop::Limit => {
+            close(Closing::Limit(limit), report);
+        }
     }
 }
 
 /// Closes a run: a report that has failed gets no more.
 pub fn answered<R: Sink>(ending: Ending, limit: u64, report: &mut R) -> Answer
-    ensures closes { ClosesRun ending.deaf (stop_line ending.stop limit) (R.stream report.old) (R.stream report.new) }
+    ensures closes { ClosesRun ending.deaf ending.stop limit (R.stream report.old) (R.stream report.new) }
     ensures events { result.events ≡ ending.events }
     ensures cycles { result.cycles ≡ ending.cycles }
     ensures status { result.status ≡ stop_status ending.stop }
 {
     if !ending.deaf {
-        close(closing_of(ending.stop, limit), report);
+        close_run(ending.stop, limit, report);
     }
     Answer {
         status: status_of(ending.stop),
@@ -92,7 +102,8 @@ fn run_file<H: Shelf, T: Sink, R: Sink, N: Nvm>(
     nvm: &mut N,
 ) -> Answer
     requires { range_fault config ≡ None }
-    ensures { TaskAnswered (record { file = file.now; config = config; digest = digest }) (H.stock shelf.old) (H.stock shelf.new) (N.device nvm.old) (N.device nvm.new) (T.stream terminal.old) (T.stream terminal.new) (R.stream report.old) (R.stream report.new) result }
+    ensures held { (H.stock shelf.new).held ≡ (H.stock shelf.old).held }
+    ensures answer { TaskAnswered (record { file = file.now; config = config; digest = digest }) (H.stock shelf.old) (H.stock shelf.new) (N.device nvm.old) (N.device nvm.new) (T.stream terminal.old) (T.stream terminal.new) (R.stream report.old) (R.stream report.new) result }
 {
     let plan = match prepare(alloc, file, config, digest, shelf) {
         Ok(plan) => plan,

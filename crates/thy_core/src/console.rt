@@ -21,7 +21,8 @@ use thy_base::{Bytes, Geometry, Nvm};
 use thy_record::word;
 
 impl Machine {
-    /// The console of the committed checkpoint from byte `from` on, none while nothing is committed.
+    /// Once the boot is over, the console of the committed checkpoint from byte `from` on, none while
+    /// nothing is committed.
     /// It is read from the checkpoint's slot, so it is this also when the hart has gone on.
     ///
     /// # Errors

@@ -68,7 +68,7 @@ pub fn part(bytes: &[u8], from: usize, count: usize) -> &[u8]
 }
 
 impl Machine {
-    /// The state that the machine executes.
+    /// The state that the machine executes, once the boot is over.
     ///
     /// # Errors
     /// `Memory` for want of memory. This machine has all of its memory at hand, so the device is not

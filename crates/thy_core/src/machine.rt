@@ -22,7 +22,7 @@ use std::alloc::{AllocError, Global};
 use std::marker::Model;
 use thy_base::{Block, Geometry, Nvm, NvmError, Pick};
 use thy_isa::{CpuState, Regs, Status};
-use thy_model::{Memory, Parts, Phase, Stage, Start, Stepped, View};
+use thy_model::{Memory, Parts, Phase, Stage, Start, Stepped};
 
 /// A hart with its memory and a checkpoint engine over an NVM. One step is one cycle.
 #[derive(Debug, Drop)]
@@ -64,8 +64,8 @@ impl Machine {
 
     /// One cycle: the pick's, or where its actor has nothing to do the hart's. Takes no memory.
     ///
-    /// After an error the device may hold what the failed call left; nothing but `failed` and `cut`
-    /// is to be asked of the machine then.
+    /// After an error the device may hold what the failed call left; nothing but `failed` is to be
+    /// asked of the machine then.
     pub fn step<N: Nvm>(
         &mut self,
         pick: Pick,
@@ -103,13 +103,6 @@ impl Machine {
                 Err(error)
             }
         }
-    }
-
-    /// What the machine tells of itself.
-    pub fn view(&self) -> View
-        ensures { result ≡ self.now.view }
-    {
-        self.parts.view
     }
 
     /// Its parts.

@@ -1,6 +1,6 @@
 -- A cycle of a sound machine, over blocks of 64 bytes, keeps the bounds of its parts.
 use Rattle.std.proofs.Common.{◌≡◌, ℕ, ◌+◌, ◌-◌, ◌^◌, ◌<◌, ◌==◌, ◌&&◌, Bool, true, false, if◌then◌else◌, List, length, slice_index, slice_set, Option, Some, None, refl, sym, ◌∙◌, ap, subst, inl, inr, arith}
-use Rattle.std.proofs.lemmas.Bool.{cases_lt, ltb-true}
+use Rattle.std.proofs.lemmas.Bool.{cases_lt, ltb-true, and_parts}
 use Rattle.std.proofs.lemmas.List.{length-set, get_or_past}
 use Rattle.thy_base.specs.declared.block.Block.{Block}
 use Rattle.thy_base.specs.declared.cause.EndCause.{EndCause}
@@ -37,13 +37,13 @@ use Rattle.thy_model.specs.Sound.{IsOrigin, IsRestoring, SameBelow, SoundBoot, S
 use Rattle.thy_model.specs.Steps.{filled, noted, committed_view, loading_on, checkpoint_on, boot_next, retired_on}
 use Rattle.thy_model.specs.Stored.{IsLong}
 use Rattle.thy_model.specs.Cycle.{hart_next, run_next, phase_next, is_drain, cycle_next}
-use Rattle.thy_model.proofs.CheckpointLaws.{if_less, if_equal}
+use Rattle.thy_model.proofs.Choices.{if_less, if_equal}
 use Rattle.thy_model.proofs.CycleLaws.{Executes, run_sound}
 use Rattle.thy_model.proofs.LongLemmas.{AllLong-set, length-newest, length-block_from}
 use Rattle.thy_model.proofs.RecoverLaws.{record_read}
 use Rattle.thy_model.proofs.BootLaws.{IsBooting-sound}
 use Rattle.thy_model.proofs.RunLaws.{some_memory, IsBounded-sealed, IsExecuted, IsCheckpointing-sound, IsQuiet-sound, executed-geometry, executed-stage, executed-slot}
-use Rattle.thy_model.proofs.StateLemmas.{SameBelow-more, SameBelow-all, record_tests, both_hold}
+use Rattle.thy_model.proofs.StateLemmas.{SameBelow-more, SameBelow-all, record_tests}
 
 -- ---- ranges
 
@@ -86,7 +86,7 @@ commit_tests false rest h = cc
 -- a commit block without a fault names an epoch below the ceiling
 commit_below : (b : Block) (top : ℕ) → commit_fault b top ≡ None → epoch_of b < top
 unfolding commit_fault
-commit_below b top h = ltb-true (epoch_of b) top (both_hold _ _ (commit_tests _ _ h)).1
+commit_below b top h = ltb-true (epoch_of b) top (and_parts _ _ (commit_tests _ _ h)).1
 
 counted_any : (phase : Phase) (cpu : CpuState) (v : View) → cpu.count ≡ v.count → IsCounted phase cpu v
 counted_any Boot cpu v e = tt

@@ -1,15 +1,21 @@
 -- What the machine's calls stand on at a moment of a run.
-use Rattle.std.proofs.Common.{◌≡◌, ℕ, ◌+◌, ◌-◌, ◌^◌, ◌<◌, ◌≤◌, length, sym, ◌∙◌, ap, subst, arith}
+use Rattle.std.proofs.Common.{◌≡◌, ℕ, ◌+◌, ◌-◌, ◌^◌, ◌<◌, ◌≤◌, false, None, length, refl, sym, ◌∙◌, ap, subst, arith}
+use Rattle.std.specs.Prelude.{replicate}
+use Rattle.std.proofs.lemmas.List.{length-replicate}
+use Rattle.thy_base.specs.declared.config.Parameters.{Parameters}
 use Rattle.thy_base.specs.Bytes.{bytes_of}
-use Rattle.thy_base.specs.Device.{Device, cut_to}
-use Rattle.thy_base.specs.Geometry.{program_size, console_room}
+use Rattle.thy_base.specs.Device.{Device, cut_to, zero_block}
+use Rattle.thy_base.specs.Geometry.{program_size, console_room, memory_blocks}
 use Rattle.thy_isa.specs.Step.{State}
 use Rattle.thy_model.specs.declared.parts.Parts.{Parts}
+use Rattle.thy_isa.specs.declared.state.Status.TheVariants.{Running}
+use Rattle.thy_model.specs.declared.stage.Stage.TheVariants.{Unread}
 use Rattle.thy_model.specs.declared.start.Start.{Start}
 use Rattle.thy_model.specs.declared.view.View.{View}
+use Rattle.thy_model.specs.Boot.{boot_view}
 use Rattle.thy_model.specs.Bounds.{IsStart, IsBelow}
 use Rattle.thy_model.specs.Calls.{IsAt, Begins}
-use Rattle.thy_model.specs.Laws.{MomentCanStep, FreshIsAt, CutIsAt, MomentIsSafeFor}
+use Rattle.thy_model.specs.Laws.{MomentCanStep, PowerComesOn, FreshIsAt, CutIsAt, MomentIsSafeFor}
 use Rattle.thy_model.specs.Moments.{IsPoweredOn, IsNew, IsSmall}
 use Rattle.thy_model.specs.Origin.{Origin}
 use Rattle.thy_model.specs.Sound.{Sound, view_of}
@@ -60,6 +66,34 @@ IsAt-fresh = λ o m shape n origin on same.
     let new : IsNew o m = IsNew-powered_on o m on in
     let seen = view-fresh o m shape n new same in
     (record { moment = Moment-fresh o m shape n origin new same; small = subst (IsSmall o 0) (sym seen) (IsSmall-loading o); below = IsBelow-powered_on o m (2 ^ 63 + 0) on }, seen)
+
+-- power can come on
+some_machine : Parameters → Parts
+some_machine p = record {
+  geometry = p;
+  memory = replicate (memory_blocks p) zero_block;
+  cpu = record { pc = 0; regs = replicate 32 0; console_len = 0; cursor = 0; brk = 0; floor = 0; count = 0; status = Running };
+  slot_record = replicate 5 zero_block;
+  view = boot_view None None;
+  stage = Unread;
+  failed = false;
+}
+
+is_powered_on : (p : Parameters) → IsPoweredOn p (some_machine p)
+unfolding some_machine
+is_powered_on p = record {
+  geometry = refl;
+  memory = refl;
+  cpu = record { pc = refl; regs = refl; cursor = refl; brk = refl; floor = refl };
+  slot_record = length-replicate 5 zero_block;
+  view = refl;
+  stage = refl;
+  failed = refl;
+}
+
+-- so there is a machine whose power has just come on
+pub IsPoweredOn-some : PowerComesOn
+IsPoweredOn-some = λ p. (some_machine p, is_powered_on p)
 
 -- a new machine over what a cut left
 pub IsAt-cut : CutIsAt

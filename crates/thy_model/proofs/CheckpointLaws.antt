@@ -1,11 +1,9 @@
 -- A checkpoint goes on with each issue, and a failed issue or a drain leaves what it had.
-use Rattle.std.proofs.Common.{◌≡◌, ◌≢◌, ◌⊎◌, ℕ, ◌+◌, ◌%◌, ◌<◌, ◌≤◌, nat_lt, ◌==◌, if◌then◌else◌, length, Option, Some, None, refl, sym, ◌∙◌, ap, subst, inl, inr, arith}
-use Rattle.std.proofs.lemmas.Bool.{cases_eq, cases_lt, lt-ltb, le-ltb, eq-eqb, ne_eqb}
+use Rattle.std.proofs.Common.{◌≡◌, ◌≢◌, ◌⊎◌, ℕ, ◌+◌, ◌%◌, ◌<◌, ◌==◌, if◌then◌else◌, length, Option, Some, None, refl, sym, ◌∙◌, ap, subst, inl, inr, arith}
 use Rattle.thy_base.specs.declared.block.Block.{Block}
 use Rattle.thy_base.specs.declared.config.Parameters.{Parameters}
-use Rattle.thy_base.specs.Device.{Device, HasFailed, IsFramed, HoldsNoMoreBut, block_at, newest, drained, settled, written_to}
+use Rattle.thy_base.specs.Device.{Device, IsFramed, HoldsNoMoreBut, block_at, newest, drained, settled, written_to}
 use Rattle.thy_base.specs.Geometry.{IsInRange, slot_of, slot_blocks, blocks_of, memory_blocks}
-use Rattle.thy_base.proofs.CrashLemmas.{Crash-failed}
 use Rattle.thy_base.proofs.DeviceLemmas.{newest-written_to, newest-drained, no_more-drained, no_more-settled, no_more_but-written_to}
 use Rattle.thy_record.specs.Header.{header_of, header_fault}
 use Rattle.thy_record.specs.Commit.{commit_of}
@@ -25,26 +23,10 @@ use Rattle.thy_model.specs.Safe.{ceiling, Safe}
 use Rattle.thy_model.specs.Stored.{Stands, IsKept, IsInDoubt}
 use Rattle.thy_model.specs.Sound.{Holds, IsIssued, IsBefore, HeaderRead, IsWritten, doubt_from}
 use Rattle.thy_model.proofs.FixedLemmas.{newest-fixed, IsFixed-settled, AreFixed-settled, SparesKept, Stands-no_more, Stands-elsewhere, Gives-no_more, Gives-elsewhere, IsKept-no_more, IsKept-elsewhere}
+use Rattle.thy_model.proofs.Choices.{if_less, if_equal}
+use Rattle.thy_model.proofs.SafeLemmas.{Safe-failed}
 use Rattle.thy_model.proofs.SafeLaws.{slot_within, Safe-kept, Safe-either, Safe-in_doubt}
 use Rattle.thy_model.proofs.IssueLemmas.{SparesKept-slot, Spares-commit, SparesKept-commit, SparesKept-header, not_commit, IsIssued-memory, IsIssued-record, IsIssued-header, IsIssued-drained}
-
--- ---- tests
-
-pub if_less : {A : Type 0} (P : A → Type 0) (a b : ℕ) (x y : A) → (a < b → P x) → (b ≤ a → P y) → P (if nat_lt a b then x else y)
-if_less P a b x y f g = elim (cases_lt a b) as (λ _. P (if nat_lt a b then x else y)) [
-  | inl l ↦ subst (λ t. P (if t then x else y)) (sym (lt-ltb a b l)) (f l)
-  | inr l ↦ subst (λ t. P (if t then x else y)) (sym (le-ltb a b l)) (g l)
-]
-
-pub if_equal : {A : Type 0} (P : A → Type 0) (a b : ℕ) (x y : A) → (a ≡ b → P x) → (a ≢ b → P y) → P (if a == b then x else y)
-if_equal P a b x y f g = elim (cases_eq a b) as (λ _. P (if a == b then x else y)) [
-  | inl e ↦ subst (λ t. P (if t then x else y)) (sym (eq-eqb a b e)) (f e)
-  | inr e ↦ subst (λ t. P (if t then x else y)) (sym (ne_eqb a b e)) (g e)
-]
-
--- a call that failed makes nothing more possible, unless it was a write
-pub Safe-failed : (o : Origin) (kept doubt : Option Mark) (old new : Device) → Safe o kept doubt old → HasFailed old new → IsFramed old new → Safe o kept doubt new
-Safe-failed o kept doubt old new safe failed framed = λ g c. safe g (Crash-failed failed framed c)
 
 -- ---- what a checkpoint relies on
 

@@ -1,9 +1,8 @@
 -- A cycle keeps a sound machine sound, is a step of the view, and fails safely.
-use Rattle.std.proofs.Common.{◌≡◌, ◌⊎◌, ℕ, ◌<◌, Bool, true, false, if◌then◌else◌, length, Option, Some, None, refl, ◌∙◌, ap, subst, inl, inr}
+use Rattle.std.proofs.Common.{◌≡◌, ℕ, ◌<◌, Bool, true, false, if◌then◌else◌, length, Option, Some, None, refl, ◌∙◌, ap, subst}
 use Rattle.thy_base.specs.declared.cause.EndCause.{EndCause}
 use Rattle.thy_base.specs.declared.mix.Pick.{Pick}
 use Rattle.thy_base.specs.Device.{Device, IsFramed}
-use Rattle.thy_record.specs.Decode.{Decoded, Nothing as NothingFound, Refused as RefusedImage, At, decode}
 use Rattle.thy_model.specs.Moments.{Goes, cycle_doubt}
 use Rattle.thy_model.specs.declared.did.Did.TheVariants.{NvmDrained}
 use Rattle.thy_model.specs.declared.parts.Parts.{Parts}
@@ -17,13 +16,13 @@ use Rattle.thy_model.specs.declared.view.Phase.TheVariants.{Boot, Run, Halt}
 use Rattle.thy_model.specs.declared.view.View.{View}
 use Rattle.thy_model.specs.Action.{Drain, after, FailsTo}
 use Rattle.thy_model.specs.Bounds.{IsBounded}
-use Rattle.thy_model.specs.CoreStep.{mark}
 use Rattle.thy_model.specs.Cycle.{hart_next, hart_did, run_action, run_next, run_did, phase_action, phase_next, phase_did, is_drain, cycle_action, cycle_next, cycle_did}
 use Rattle.thy_model.specs.Hart.{executed}
 use Rattle.thy_model.specs.Origin.{Origin}
-use Rattle.thy_model.specs.Safe.{ceiling, IsOneOf, Safe}
+use Rattle.thy_model.specs.Safe.{ceiling, Safe}
 use Rattle.thy_model.specs.Sound.{SoundRun, SoundHalt, SoundIn, Sound, view_of, doubt_of, doubt_from, doubt_at}
 use Rattle.thy_model.proofs.BootLaws.{Goes-boot}
+use Rattle.thy_model.proofs.SafeLemmas.{Safe-doubt}
 use Rattle.thy_model.proofs.DrainLaws.{Sound-drained, view-drained, Safe-failed_call}
 use Rattle.thy_model.proofs.FailLaws.{Safe-failed_boot, Safe-failed_checkpoint}
 use Rattle.thy_model.proofs.RunLaws.{view-writing, view-idle, Goes-checkpoint, Goes-seal, IsExecuted, Goes-retire}
@@ -133,15 +132,6 @@ module _ (o : Origin) (m : Parts) (n : Device) (s : Sound o m n) where
   pub Safe-failed_cycle : (pick : Pick) (queued : ℕ) (new : Device) → FailsTo (cycle_action o.start pick queued m) n new → IsFramed n new
       → Safe o (view_of o m n).done (cycle_doubt pick queued m (view_of o m n)) new
   Safe-failed_cycle pick queued new fails framed = turn_fails (is_drain pick queued) new fails framed
-
--- safe with no doubt is safe with any
-pub Safe-doubt : (o : Origin) (kept doubt : Option Mark) (n : Device) → Safe o kept None n → Safe o kept doubt n
-Safe-doubt o kept doubt n safe = λ g c. more (decode o.geometry ceiling g) (safe g c)
-  where
-    more : (d : Decoded) → IsOneOf o kept None d → IsOneOf o kept doubt d
-    more NothingFound h = h
-    more (RefusedImage bad) h = h
-    more (At epoch state) h = (elim h.0 as (λ _. (kept ≡ Some (mark epoch state.count)) ⊎ (doubt ≡ Some (mark epoch state.count))) [ inl e ↦ inl e | inr e ↦ absurd (cc) ], h.1)
 
 -- so the sealed mark, if there is one, is all that can be in doubt
 doubt_from-sealed : (o : Origin) (kept sealed : Option Mark) (n : Device) (issue : Issue) → Safe o kept (doubt_from issue sealed) n → Safe o kept sealed n

@@ -21,7 +21,8 @@ use Rattle.thy_model.specs.Stored.{IsKept}
 use Rattle.thy_model.specs.Sound.{IsOrigin, IsLoading, IsRestoring, SoundBoot, IsQuiet, IsCheckpointing, SoundRun, SoundHalt, SoundIn, Sound, view_in, view_of, doubt_of}
 use Rattle.thy_model.proofs.FixedLemmas.{IsFixed-no_more, Stands-no_more, IsKept-no_more}
 use Rattle.thy_model.proofs.SafeLaws.{decode-kept, blocks_of_sound, Safe-sound, IsKept-restoring}
-use Rattle.thy_model.proofs.CheckpointLaws.{IsWriting, IsWritten-drained, Safe-failed}
+use Rattle.thy_model.proofs.CheckpointLaws.{IsWriting, IsWritten-drained}
+use Rattle.thy_model.proofs.SafeLemmas.{Safe-failed}
 
 -- what is known of the parts and the device in every phase
 pub record IsPresent (o : Origin) (m : Parts) (n : Device) : Type 0 where

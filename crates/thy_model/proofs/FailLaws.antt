@@ -21,7 +21,8 @@ use Rattle.thy_model.specs.Origin.{Origin}
 use Rattle.thy_model.specs.Safe.{ceiling, Safe}
 use Rattle.thy_model.specs.Sound.{IsWritten, IsLoading, IsCheckpointing, SoundBoot, SoundIn, Sound, view_in, view_of, doubt_of, doubt_from, doubt_at}
 use Rattle.thy_model.specs.Steps.{filled, boot_action}
-use Rattle.thy_model.proofs.CheckpointLaws.{IsWriting, Safe-failed, Safe-failed_issue}
+use Rattle.thy_model.proofs.CheckpointLaws.{IsWriting, Safe-failed_issue}
+use Rattle.thy_model.proofs.SafeLemmas.{Safe-failed}
 use Rattle.thy_model.proofs.DrainLaws.{IsPresent, IsPresent-sound, IsWriting-loading, IsWriting-checkpointing}
 use Rattle.thy_model.proofs.IssueLemmas.{IsIssued-same}
 use Rattle.thy_model.proofs.RunLaws.{view-writing, IsCheckpointing-sound}

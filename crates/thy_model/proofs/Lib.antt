@@ -1,3 +1,5 @@
+pub mod Choices
+pub mod SafeLemmas
 pub mod FixedLemmas
 pub mod SafeLaws
 pub mod IssueLemmas

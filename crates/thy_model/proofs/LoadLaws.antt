@@ -31,7 +31,8 @@ use Rattle.thy_model.specs.Safe.{ceiling}
 use Rattle.thy_model.specs.Stored.{IsKept}
 use Rattle.thy_model.specs.Sound.{IsOrigin, Holds, IsWritten, is_finish, filled_blocks, IsLoading, IsQuiet, Sound, view_of}
 use Rattle.thy_model.specs.Steps.{filled, loaded_view, loading_on, loading_did}
-use Rattle.thy_model.proofs.CheckpointLaws.{if_less, IsWriting, IsIssuedTo, IsIssuedTo-after}
+use Rattle.thy_model.proofs.Choices.{if_less}
+use Rattle.thy_model.proofs.CheckpointLaws.{IsWriting, IsIssuedTo, IsIssuedTo-after}
 use Rattle.thy_model.proofs.IssueLemmas.{IsIssued-same}
 use Rattle.thy_model.proofs.RecoverLaws.{IsBooting, Sound-booting}
 use Rattle.thy_model.proofs.StateLemmas.{state_from-start, at-start}

@@ -34,7 +34,7 @@ use Rattle.thy_model.specs.Sound.{IsOrigin, Holds, IsRestoring, SameBelow, Sound
 use Rattle.thy_model.specs.Steps.{read_did}
 use Rattle.thy_model.proofs.FixedLemmas.{newest-fixed}
 use Rattle.thy_model.proofs.SafeLaws.{decode-kept, IsKept-restoring}
-use Rattle.thy_model.proofs.CheckpointLaws.{if_less}
+use Rattle.thy_model.proofs.Choices.{if_less}
 use Rattle.thy_model.proofs.StateLemmas.{SameBelow-more, SameBelow-all, IsRecordable-read, count-state_from, status-state_from}
 
 -- a machine that boots

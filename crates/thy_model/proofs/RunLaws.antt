@@ -31,7 +31,8 @@ use Rattle.thy_model.specs.Safe.{ceiling}
 use Rattle.thy_model.specs.Stored.{IsKept}
 use Rattle.thy_model.specs.Sound.{Holds, IsWritten, is_finish, IsQuiet, IsCheckpointing, SoundRun, SoundIn, Sound, view_in, view_of}
 use Rattle.thy_model.specs.Steps.{noted, committed_view, checkpoint_on, engine_step, checkpoint_did, over_after, retired_on, sealed_on}
-use Rattle.thy_model.proofs.CheckpointLaws.{if_less, if_equal, count-held, IsIssuedTo, IsIssuedTo-after}
+use Rattle.thy_model.proofs.Choices.{if_less, if_equal}
+use Rattle.thy_model.proofs.CheckpointLaws.{count-held, IsIssuedTo, IsIssuedTo-after}
 use Rattle.thy_model.proofs.DrainLaws.{IsPresent-sound, IsWriting-checkpointing}
 use Rattle.thy_model.proofs.LoadLaws.{IsWritten-with}
 use Rattle.thy_model.proofs.RecoverLaws.{idle_moment}

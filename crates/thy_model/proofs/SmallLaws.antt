@@ -65,7 +65,7 @@ module _ (o : Origin) (k : ℕ) (v next : View) (h : IsSmall o k v) where
   ]
 
   engine : (step : EngineStep) → EngineTo step v next → IsSmall o (k + 1) next
-  engine Idle e = busy e
+  engine Idle e = absurd e
   engine Copied e = busy e
   engine StateBlock e = busy e
   engine Barrier e = busy e

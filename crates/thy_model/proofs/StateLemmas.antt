@@ -1,7 +1,7 @@
 -- The state that loading puts into memory is the start, and one that was restored can be recorded again.
 use Rattle.std.proofs.Common.{◌≡◌, ℕ, zero, suc, ◌+◌, ◌-◌, ◌*◌, ◌<◌, ◌≤◌, ◌==◌, ◌&&◌, true, false, Bool, nat_le, if◌then◌else◌, List, [], ◌∷◌, ◌++◌, length, take, drop, replicate, slice_set, Some, None, refl, sym, ◌∙◌, ap, inl, inr, arith}
 use Rattle.std.proofs.Math.Seq.{take-append_seam, drop-append_seam}
-use Rattle.std.proofs.lemmas.Bool.{cases_eq, ne_eqb, ltb-true, leb-true}
+use Rattle.std.proofs.lemmas.Bool.{cases_eq, ne_eqb, ltb-true, leb-true, and_parts}
 use Rattle.std.proofs.lemmas.List.{drop-drop, take-append-drop, length-append, length-drop, length-replicate, ext_get_or, get_or-set_same, get_or-set_other}
 use Rattle.std.specs.List.{flat_map}
 use Rattle.thy_base.specs.declared.block.Block.{Block}
@@ -118,17 +118,13 @@ split_fault true true false h = cc
 split_fault true false room h = cc
 split_fault false inside room h = cc
 
-pub both_hold : (a b : Bool) → (a && b) ≡ true → (a ≡ true) × (b ≡ true)
-both_hold true b h = (refl, h)
-both_hold false b h = cc
-
 -- what the tests of a record say
 pub record_tests : (blocks : List Block) (epoch : ℕ) (p : Parameters) (top : ℕ) → record_fault blocks epoch p top ≡ None
     → (is_status (record_word blocks 36) (record_word blocks 37) ≡ true) × (record_word blocks 32 < top) × (record_word blocks 34 ≤ console_room p)
 unfolding record_fault
 record_tests blocks epoch p top h =
     let tests = split_fault _ _ _ h in
-    let first = both_hold _ _ tests.0 in
+    let first = and_parts _ _ tests.0 in
     (first.0, ltb-true _ _ first.1, leb-true _ _ tests.1)
 
 -- a record without a fault, whose numbers have 64 bits, gives a state that can be recorded

@@ -78,8 +78,8 @@ abbrev pub halts : View → View → Bool
 halts v next = not (is_halt v.phase) && is_halt next.phase
 
 -- A step that succeeded leads to the next moment of the run, by a step of the view, and was its pick's turn. Whatever
--- a power cut then leaves is the committed checkpoint, whole, or the one in doubt. The boot's first step finds an
--- empty queue, and reads the commit block.
+-- a power cut then leaves is the committed checkpoint, whole, or the one in doubt. A step that finds an empty queue, as
+-- the boot's first does, reads the commit block where that is still to be read. There is no DRAM, so its queue is empty.
 pub record IsStep (o : Origin) (k : ℕ) (pick : Pick) (m next : Core) (n new : Device) (r : Stepped) : Type 0 where
   pub at_next : IsAt o (k + 1) next new
   pub step : CoreStep o (view_of o m n) r.did (view_of o next new)

@@ -9,7 +9,7 @@ use Rattle.thy_model.specs.declared.view.View.{View}
 use Rattle.thy_model.specs.declared.did.Did.{Did}
 use Rattle.thy_model.specs.declared.did.Did.TheVariants.{Boot, Loaded, Restarted, Refused, Moved, Retired, Flushed, Merged, Sealed, Promoted, Engine, Committed, NvmDrained, DramDrained, Nothing}
 use Rattle.thy_model.specs.declared.did.EngineStep.{EngineStep}
-use Rattle.thy_model.specs.declared.did.EngineStep.TheVariants.{CommitWritten, Committed as EngineCommitted}
+use Rattle.thy_model.specs.declared.did.EngineStep.TheVariants.{Idle, CommitWritten, Committed as EngineCommitted}
 use Rattle.thy_model.specs.Origin.{Origin, runs_at}
 
 abbrev pub mark : ℕ → ℕ → Mark
@@ -44,8 +44,9 @@ MovesTo v next =
 abbrev pub BootsTo : View → View → Type 0
 BootsTo v next = (next ≡ v) ⊎ ((v.done ≡ None) × (next ≡ record v { written = true }))
 
--- the engine goes on
+-- the engine goes on; with a checkpoint under way it is never idle
 abbrev pub EngineTo : EngineStep → View → View → Type 0
+EngineTo Idle v next = ⊥
 EngineTo CommitWritten v next = next ≡ record (busier v) { written = true }
 EngineTo (EngineCommitted epoch) v next = ⊥
 EngineTo step v next = next ≡ busier v

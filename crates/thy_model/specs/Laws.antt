@@ -1,5 +1,6 @@
 -- What holds of every run: its moments follow each other, and a power cut at any of them leaves a checkpoint whole.
 use Rattle.std.specs.Prelude.{◌≡◌, ℕ, ◌+◌, ◌^◌, ◌<◌, List, []}
+use Rattle.thy_base.specs.declared.config.Parameters.{Parameters}
 use Rattle.thy_base.specs.declared.block.Block.{Block}
 use Rattle.thy_base.specs.declared.mix.Pick.{Pick}
 use Rattle.thy_base.specs.declared.nvm.Shape.{Shape}
@@ -70,7 +71,7 @@ FreshLeads =
     → IsOrigin o → IsNew o m → shape.blocks ≡ blocks_of o.geometry
     → Moment o m (fitted shape [] n) × (view_of o m (fitted shape [] n) ≡ loading_view o.start.count)
 
--- a step of the view makes its numbers larger by one at most
+-- after one cycle more of a run the view's numbers are within a bound that is larger by one
 abbrev pub StepIsSmall : Type 0
 StepIsSmall =
     (o : Origin) (v next : View) (did : Did) (k : ℕ)
@@ -93,6 +94,10 @@ MomentCanStep =
     (o : Origin) (start : Start) (k : ℕ) (m : Core) (n : Device)
     → Begins o o.geometry start → IsAt o k m n → k < 2 ^ 62 → CanStep start m n
 
+-- power can come on
+abbrev pub PowerComesOn : Type 0
+PowerComesOn = (p : Parameters) → (m : Core) × IsPoweredOn p m
+
 -- a run begins with a new machine over a device that was fitted and holds zeros
 abbrev pub FreshIsAt : Type 0
 FreshIsAt =
@@ -107,7 +112,7 @@ CutIsAt =
     → IsAt o k m n → IsPoweredOn o.geometry next → Crash n g
     → IsAt o k next (cut_to n g) × (view_of o next (cut_to n g) ≡ view_of_image o.start.count (decode o.geometry ceiling g))
 
--- whatever a power cut leaves at a moment is the committed checkpoint, whole, or the one that is sealed
+-- whatever a power cut leaves at a moment is the committed checkpoint, whole, or the one in doubt
 abbrev pub MomentIsSafeFor : Type 0
 MomentIsSafeFor =
     (o : Origin) (k : ℕ) (m : Core) (n : Device) → IsAt o k m n → Safe o (view_of o m n).done (doubt_of (view_of o m n)) n

@@ -37,7 +37,7 @@ pub fn a_fresh_start_leads_on()
     ensures { FreshLeads }
 {}
 
-/// A step of the view makes its epochs and counts larger by one at most.
+/// After one cycle more of a run its view's epochs and counts are within a bound that is larger by one.
 pub fn a_step_is_small()
     ensures { StepIsSmall }
 {}

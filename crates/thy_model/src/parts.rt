@@ -13,7 +13,8 @@ pub struct Parts {
     pub cpu: CpuState,
     /// The processor's record that the boot reads.
     pub slot_record: [Block; 5],
-    /// The view since the boot read the commit block.
+    /// The view while the program is loaded, and behind the boot. While a checkpoint is recovered it has
+    /// no marks.
     pub view: View,
     pub stage: Stage,
     /// A step has failed.

@@ -1,18 +1,15 @@
 -- What the terminal has grows by what each cycle's end releases.
-use Rattle.std.proofs.Common.{◌≡◌, ◌⊎◌, ℕ, zero, suc, ◌+◌, ◌-◌, ◌*◌, ◌^◌, ◌<◌, ◌≤◌, Bool, true, false, if◌then◌else◌, Option, Some, None, List, [], ◌∷◌, ◌++◌, length, drop, refl, sym, ◌∙◌, ap, subst, inl, inr, append-nil, arith}
+use Rattle.std.proofs.Common.{◌≡◌, ℕ, ◌+◌, ◌-◌, ◌^◌, ◌<◌, ◌≤◌, Bool, true, false, if◌then◌else◌, Option, Some, None, List, [], ◌∷◌, ◌++◌, length, drop, refl, sym, ◌∙◌, ap, subst, inl, inr, append-nil, arith}
 use Rattle.std.proofs.Math.Seq.{drop-append_seam}
 use Rattle.thy_base.specs.declared.mark.Mark.{Mark}
-use Rattle.thy_base.specs.declared.cause.EndCause.{EndCause}
-use Rattle.thy_isa.specs.Step.{steps}
 use Rattle.thy_isa.proofs.StorableLaws.{steps-console}
-use Rattle.thy_text.specs.Happening.{Happening, Reload, Ended, Cut}
-use Rattle.thy_text.specs.Marks.{Marks, loading_marks, marks_from, marks_after}
+use Rattle.thy_text.specs.Happening.{Happening, Cut}
+use Rattle.thy_text.specs.Marks.{Marks, loading_marks, marks_from}
 use Rattle.thy_text.specs.Released.{console_of}
 use Rattle.thy_text.proofs.Histories.{marks_from-append, released-kept}
 use Rattle.thy_model.specs.declared.did.Did.{Did}
 use Rattle.thy_model.specs.declared.did.Did.TheVariants.{Boot, Loaded, Restarted, Refused, Moved, Retired, Flushed, Merged, Sealed, Promoted, Engine, Committed, NvmDrained, DramDrained, Nothing}
-use Rattle.thy_model.specs.declared.view.Phase.{Phase}
-use Rattle.thy_model.specs.declared.view.Phase.TheVariants.{Boot as BootPhase, Run, Halt}
+use Rattle.thy_model.specs.declared.view.Phase.TheVariants.{Boot as BootPhase}
 use Rattle.thy_model.specs.declared.view.View.{View}
 use Rattle.thy_model.specs.CoreStep.{mark, CoreStep}
 use Rattle.thy_base.specs.Geometry.{console_room}
@@ -22,7 +19,7 @@ use Rattle.thy_run.specs.Due.{shows_console, due_of}
 use Rattle.thy_run.specs.Laws.{marks_of, console_at, released_of}
 use Rattle.thy_run.specs.World.{World, seen, told, events_of, Steps}
 use Rattle.thy_run.proofs.CoverLaws.{Covers-sealed, marks-part}
-use Rattle.thy_run.proofs.Fitting.{IsEither, Loading, Recovering, BootFits, Follows, RunFits, HaltFits, FitsIn, Fits}
+use Rattle.thy_run.proofs.Fitting.{BootFits, RunFits, FitsIn, Fits}
 use Rattle.thy_run.proofs.EventLaws.{marks-events}
 use Rattle.thy_run.proofs.WorldLaws.{Coheres, Rises-fits}
 

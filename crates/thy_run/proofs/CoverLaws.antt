@@ -1,12 +1,11 @@
 -- What a view has committed or in doubt is among the marks that the events tell of, also in the midst of a cycle's events.
-use Rattle.std.proofs.Common.{◌≡◌, ◌⊎◌, ℕ, ◌+◌, ◌≤◌, Bool, true, false, ◌&&◌, if◌then◌else◌, Option, Some, None, List, [], ◌∷◌, ◌++◌, refl, sym, ◌∙◌, ap, subst, inl, inr}
-use Rattle.thy_base.specs.declared.block.Block.{Block}
+use Rattle.std.proofs.Common.{◌≡◌, ◌⊎◌, ℕ, ◌≤◌, Bool, true, false, ◌&&◌, if◌then◌else◌, Option, Some, None, List, [], ◌∷◌, ◌++◌, refl, sym, ◌∙◌, ap, subst, inl, inr}
 use Rattle.thy_base.specs.declared.cause.EndCause.{EndCause}
 use Rattle.thy_base.specs.declared.mark.Mark.{Mark}
-use Rattle.thy_base.specs.Device.{Device, Crash}
+use Rattle.thy_base.specs.Device.{Device}
 use Rattle.thy_record.specs.Decode.{Decoded, Nothing as NothingLeft, Refused as RefusedImage, At, decode}
 use Rattle.thy_text.specs.Happening.{Happening, Reload, Ended}
-use Rattle.thy_text.specs.Marks.{Marks, loading_marks, marks_from}
+use Rattle.thy_text.specs.Marks.{Marks, marks_from}
 use Rattle.thy_text.proofs.Histories.{marks_from-append}
 use Rattle.thy_model.specs.declared.did.Did.{Did}
 use Rattle.thy_model.specs.declared.did.Did.TheVariants.{Boot, Loaded, Restarted, Refused, Moved, Retired, Flushed, Merged, Sealed, Promoted, Engine, Committed, NvmDrained, DramDrained, Nothing}
@@ -19,7 +18,7 @@ use Rattle.thy_model.specs.Origin.{Origin, at}
 use Rattle.thy_model.specs.Safe.{ceiling, Safe, IsOneOf}
 use Rattle.thy_model.specs.Sound.{doubt_of}
 use Rattle.thy_run.specs.World.{told, reload_told, end_told, events_of}
-use Rattle.thy_run.proofs.Fitting.{IsEither, Loading, Recovering, BootFits, Follows, RunFits, HaltFits, FitsIn, Fits, Covers}
+use Rattle.thy_run.proofs.Fitting.{IsEither, BootFits, Follows, RunFits, HaltFits, FitsIn, Fits, Covers}
 use Rattle.thy_run.proofs.FittingLaws.{Fits-told}
 use Rattle.thy_run.proofs.EventLaws.{Reloads-told}
 

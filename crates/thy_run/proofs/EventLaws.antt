@@ -1,9 +1,9 @@
 -- All the events of a cycle are lawful, and leave marks that fit the view.
-use Rattle.std.proofs.Common.{◌≡◌, ◌⊎◌, ℕ, ◌+◌, ◌≤◌, Bool, true, false, ◌&&◌, not, is_none, if◌then◌else◌, Option, Some, None, List, [], ◌∷◌, ◌++◌, refl, sym, ◌∙◌, ap, subst, inl, inr, append-nil}
-use Rattle.thy_base.specs.declared.cause.EndCause.{EndCause}
+use Rattle.std.proofs.Common.{◌≡◌, ℕ, ◌≤◌, Bool, true, false, ◌&&◌, not, is_none, if◌then◌else◌, Option, Some, None, List, [], ◌∷◌, ◌++◌, refl, sym, ◌∙◌, ap, subst, inl, inr}
+use Rattle.std.proofs.lemmas.Bool.{and_parts}
 use Rattle.thy_base.specs.declared.mark.Mark.{Mark}
 use Rattle.thy_text.specs.Happening.{Happening, Reload, Ended}
-use Rattle.thy_text.specs.Marks.{Marks, loading_marks, marks_from, marks_after, AllLawful, Lawful}
+use Rattle.thy_text.specs.Marks.{Marks, loading_marks, marks_from, AllLawful}
 use Rattle.thy_text.proofs.Histories.{marks_from-append, AllLawful-append}
 use Rattle.thy_model.specs.declared.did.Did.{Did}
 use Rattle.thy_model.specs.declared.did.Did.TheVariants.{Boot, Loaded, Restarted, Refused, Moved, Retired, Flushed, Merged, Sealed, Promoted, Engine, Committed, NvmDrained, DramDrained, Nothing}
@@ -11,12 +11,11 @@ use Rattle.thy_model.specs.declared.view.Phase.{Phase}
 use Rattle.thy_model.specs.declared.view.Phase.TheVariants.{Boot as BootPhase, Run, Halt}
 use Rattle.thy_model.specs.declared.view.View.{View}
 use Rattle.thy_model.specs.Calls.{is_boot, is_halt, loads, halts}
-use Rattle.thy_model.specs.CoreStep.{CoreStep, phase_at}
+use Rattle.thy_model.specs.CoreStep.{CoreStep}
 use Rattle.thy_model.specs.Origin.{Origin, runs_at, at}
-use Rattle.thy_model.proofs.StateLemmas.{both_hold}
 use Rattle.thy_run.specs.Laws.{course_of}
 use Rattle.thy_run.specs.World.{told, reload_told, end_told, events_of}
-use Rattle.thy_run.proofs.Fitting.{Loading, Recovering, BootFits, HaltFits, FitsIn, Fits}
+use Rattle.thy_run.proofs.Fitting.{BootFits, HaltFits, FitsIn, Fits}
 use Rattle.thy_run.proofs.FittingLaws.{Fits-told}
 
 -- a phase that is none of a boot's
@@ -59,12 +58,12 @@ none_is (Some m) e = absurd (cc)
 -- a view that loads is one of a boot that has no committed mark
 pub loads-view : (v : View) → loads v ≡ true → (v.phase ≡ BootPhase) × (v.done ≡ None)
 loads-view v e =
-    let both = both_hold (is_boot v.phase) (is_none v.done) e in
+    let both = and_parts (is_boot v.phase) (is_none v.done) e in
     (boot_is v.phase both.0, none_is v.done both.1)
 
 -- a view that halts has halted
 pub halts-view : (v next : View) → halts v next ≡ true → next.phase ≡ Halt
-halts-view v next e = halt_is next.phase (both_hold (not (is_halt v.phase)) (is_halt next.phase) e).1
+halts-view v next e = halt_is next.phase (and_parts (not (is_halt v.phase)) (is_halt next.phase) e).1
 
 -- the marks of a view that loads are those of a file that is loaded
 loading_marks_of : (o : Origin) (v : View) (m : Marks) → Fits o v m → v.phase ≡ BootPhase → v.done ≡ None → m ≡ loading_marks o.start.count
@@ -103,7 +102,7 @@ Reloads-told o v next m did fresh least h s = by_test (fresh && loads next) refl
     by_test : (b : Bool) → (fresh && loads next) ≡ b → Reloads o m (if b then Reload ∷ [] else [])
     by_test false is = record { lawful = tt; marks = refl }
     by_test true is =
-        let view = loads-view next (both_hold fresh (loads next) is).1 in
+        let view = loads-view next (and_parts fresh (loads next) is).1 in
         let after : Fits o next (marks_from o.start.count m (told o did 0)) = (Fits-told o v next m least h did 0 s).0 in
         let now : Fits o next m = subst (λ vs. Fits o next (marks_from o.start.count m vs)) (told-booting o v next did 0 s view.0) after in
         let marks : m ≡ loading_marks o.start.count = loading_marks_of o next m now view.0 view.1 in

@@ -1,5 +1,5 @@
 -- What holds of the machine's view and of the marks that the events tell of, between two cycles.
-use Rattle.std.proofs.Common.{◌≡◌, ◌⊎◌, ℕ, ◌+◌, ◌<◌, ◌≤◌, Bool, true, false, Option, Some, None}
+use Rattle.std.proofs.Common.{◌≡◌, ◌⊎◌, ℕ, ◌+◌, ◌<◌, ◌≤◌, true, false, Option, Some, None}
 use Rattle.thy_base.specs.declared.cause.EndCause.{EndCause}
 use Rattle.thy_base.specs.declared.cause.EndCause.TheVariants.{Length, Exhausted, Ended as EndedCause}
 use Rattle.thy_base.specs.declared.mark.Mark.{Mark}
@@ -9,7 +9,6 @@ use Rattle.thy_model.specs.declared.view.Phase.TheVariants.{Boot as BootPhase, R
 use Rattle.thy_model.specs.declared.view.View.{View}
 use Rattle.thy_model.specs.CoreStep.{mark, IsShort}
 use Rattle.thy_model.specs.Origin.{Origin, runs_at}
-use Rattle.thy_model.specs.Sound.{doubt_of}
 
 -- why the epoch is over fits the instructions that were retired in it
 abbrev pub OverFits : Origin → ℕ → ℕ → Option EndCause → Type 0

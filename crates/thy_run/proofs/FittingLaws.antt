@@ -1,10 +1,9 @@
 -- A step keeps view and marks fitting, and its events are lawful.
-use Rattle.std.proofs.Common.{◌≡◌, ◌⊎◌, ℕ, ◌+◌, ◌<◌, ◌≤◌, Bool, true, false, ◌==◌, if◌then◌else◌, Option, Some, None, List, [], ◌∷◌, ◌++◌, refl, sym, ◌∙◌, ap, subst, inl, inr, arith}
+use Rattle.std.proofs.Common.{◌≡◌, ◌⊎◌, ℕ, ◌+◌, ◌<◌, ◌≤◌, Bool, true, false, ◌==◌, if◌then◌else◌, Option, Some, None, [], refl, sym, ◌∙◌, ap, subst, inl, inr, arith}
 use Rattle.thy_base.specs.declared.cause.EndCause.{EndCause}
 use Rattle.thy_base.specs.declared.cause.EndCause.TheVariants.{Length, Exhausted, Ended as EndedCause}
 use Rattle.thy_base.specs.declared.mark.Mark.{Mark}
-use Rattle.thy_text.specs.Happening.{Happening}
-use Rattle.thy_text.specs.Marks.{Marks, loading_marks, marks_from, marks_after, FitsCause, EndsEpoch, AllLawful, Lawful}
+use Rattle.thy_text.specs.Marks.{Marks, loading_marks, marks_from, FitsCause, EndsEpoch, AllLawful}
 use Rattle.thy_model.specs.declared.did.Did.{Did}
 use Rattle.thy_model.specs.declared.did.Did.TheVariants.{Boot, Loaded, Restarted, Refused, Moved, Retired, Flushed, Merged, Sealed, Promoted, Engine, Committed, NvmDrained, DramDrained, Nothing}
 use Rattle.thy_model.specs.declared.did.EngineStep.{EngineStep}
@@ -12,12 +11,12 @@ use Rattle.thy_model.specs.declared.did.EngineStep.TheVariants.{Idle, Copied, St
 use Rattle.thy_model.specs.declared.view.Phase.{Phase}
 use Rattle.thy_model.specs.declared.view.Phase.TheVariants.{Boot as BootPhase, Run, Halt}
 use Rattle.thy_model.specs.declared.view.View.{View}
-use Rattle.thy_model.specs.CoreStep.{mark, IsShort, busier, BootsTo, MovesTo, EngineTo, CoreStep, over_at, phase_at}
-use Rattle.thy_model.specs.Origin.{Origin, runs_at, at}
-use Rattle.thy_model.proofs.CheckpointLaws.{if_equal}
+use Rattle.thy_model.specs.CoreStep.{mark, busier, BootsTo, MovesTo, EngineTo, CoreStep, over_at, phase_at}
+use Rattle.thy_model.specs.Origin.{Origin, runs_at}
+use Rattle.thy_model.proofs.Choices.{if_equal}
 use Rattle.thy_run.specs.Laws.{course_of}
 use Rattle.thy_run.specs.World.{told}
-use Rattle.thy_run.proofs.Fitting.{OverFits, IsEither, Rises, Loading, Recovering, BootFits, Follows, RunFits, HaltFits, FitsIn, Fits}
+use Rattle.thy_run.proofs.Fitting.{OverFits, IsEither, Rises, Loading, Recovering, BootFits, Follows, RunFits, FitsIn, Fits}
 
 some_is : (a b : Mark) → Some a ≡ Some b → a ≡ b
 some_is a b e = cc
@@ -73,7 +72,7 @@ module _ (o : Origin) (v next : View) (m : Marks) (least : 1 ≤ o.geometry.epoc
 
   -- the engine goes on
   engine : v.phase ≡ Run → ((s : Mark) × (v.sealed ≡ Some s)) → (step : EngineStep) → EngineTo step v next → Fits o next m
-  engine phase some Idle e = busy phase e
+  engine phase some Idle e = absurd e
   engine phase some Copied e = busy phase e
   engine phase some StateBlock e = busy phase e
   engine phase some Barrier e = busy phase e

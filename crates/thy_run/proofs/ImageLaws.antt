@@ -1,25 +1,22 @@
 -- A step's events fit the images that the cuts left.
-use Rattle.std.proofs.Common.{◌≡◌, ◌⊎◌, ℕ, ◌+◌, ◌-◌, ◌<◌, ◌≤◌, Bool, true, false, ◌&&◌, not, is_none, if◌then◌else◌, Option, Some, None, List, [], ◌∷◌, ◌++◌, length, refl, sym, ◌∙◌, ap, subst, inl, inr, arith}
+use Rattle.std.proofs.Common.{◌≡◌, ◌⊎◌, ℕ, ◌+◌, ◌<◌, Bool, true, false, ◌&&◌, not, is_none, if◌then◌else◌, Option, Some, None, List, [], ◌∷◌, ◌++◌, refl, sym, ◌∙◌, ap, subst, inl, inr, arith}
+use Rattle.std.proofs.lemmas.Bool.{and_parts}
 use Rattle.std.specs.Prelude.{◌≢◌}
 use Rattle.thy_base.specs.declared.block.Block.{Block}
 use Rattle.thy_base.specs.declared.mark.Mark.{Mark}
-use Rattle.thy_isa.specs.Step.{State}
 use Rattle.thy_record.specs.Decode.{Decoded, Nothing as NothingLeft, Refused as RefusedImage, At}
-use Rattle.thy_text.specs.Happening.{Happening, EpochEnd, Commit, Cut, Restart, Reload, Ended}
+use Rattle.thy_text.specs.Happening.{Happening, Reload, Ended}
 use Rattle.thy_model.specs.declared.did.Did.{Did}
 use Rattle.thy_model.specs.declared.did.Did.TheVariants.{Boot, Loaded, Restarted, Refused, Moved, Retired, Flushed, Merged, Sealed, Promoted, Engine, Committed, NvmDrained, DramDrained, Nothing}
 use Rattle.thy_model.specs.declared.did.EngineStep.{EngineStep}
 use Rattle.thy_model.specs.declared.did.EngineStep.TheVariants.{Idle, Copied, StateBlock, Barrier, CommitWritten, Committed as EngineCommitted}
-use Rattle.thy_model.specs.declared.view.Phase.{Phase}
-use Rattle.thy_model.specs.declared.view.Phase.TheVariants.{Boot as BootPhase, Run, Halt}
+use Rattle.thy_model.specs.declared.view.Phase.TheVariants.{Boot as BootPhase, Run}
 use Rattle.thy_model.specs.declared.view.View.{View}
 use Rattle.thy_model.specs.Calls.{is_boot, is_halt, loads, halts}
 use Rattle.thy_model.specs.CoreStep.{mark, busier, BootsTo, MovesTo, EngineTo, CoreStep}
 use Rattle.thy_model.specs.Origin.{Origin, at}
-use Rattle.thy_model.proofs.StateLemmas.{both_hold}
-use Rattle.thy_run.specs.Images.{left_by, Since, since_after, since_from, HasLeft, FitsImage, AllFitImages, EndsFitting}
+use Rattle.thy_run.specs.Images.{left_by, Since, since_from, HasLeft, FitsImage, AllFitImages, EndsFitting}
 use Rattle.thy_run.specs.World.{told, reload_told, end_told, events_of}
-use Rattle.thy_run.proofs.CoverLaws.{IsShort, told_short}
 use Rattle.thy_run.proofs.EventLaws.{told-booting, loads-view}
 use Rattle.thy_run.proofs.ImageLemmas.{since_from-append, AllFitImages-append}
 
@@ -45,7 +42,7 @@ stays_moved v next (inl e) = stays_busy v next e
 stays_moved v next (inr (free, dirty, need, short, e)) = record { phase = ap (λ w. w.phase) e; done = ap (λ w. w.done) e }
 
 stays_engine : (v next : View) (step : EngineStep) → EngineTo step v next → Stays v next
-stays_engine v next Idle e = stays_busy v next e
+stays_engine v next Idle e = absurd e
 stays_engine v next Copied e = stays_busy v next e
 stays_engine v next StateBlock e = stays_busy v next e
 stays_engine v next Barrier e = stays_busy v next e
@@ -218,7 +215,7 @@ shape_of o v next did fresh cycle s c = by_test (fresh && loads next) refl
 
     by_test : (b : Bool) → (fresh && loads next) ≡ b → Shape o v next did fresh cycle s
     by_test true is =
-        let none = told-booting o v next did cycle c (loads-view next (both_hold fresh (loads next) is).1).0 in
+        let none = told-booting o v next did cycle c (loads-view next (and_parts fresh (loads next) is).1).0 in
         reloads is (all (Reload ∷ []) [] [] (ap (λ b. if b then Reload ∷ [] else []) is) none (end_none none))
     by_test false is = elim (since_told o s did cycle) as (λ _. Shape o v next did fresh cycle s) [
       | inl none ↦ nothing is none (all [] [] [] (if_none (fresh && loads next) (Reload ∷ []) is) none (end_none none))
@@ -281,7 +278,7 @@ module _ (o : Origin) (left : List (List Block)) (cycles : ℕ) (fresh : Bool) (
 
   by_shape : Shape o v next did fresh cycle s → StepFits o left cycles next s (events_of o fresh v did next cycle)
   by_shape (reloads test is) =
-      let both = both_hold fresh (loads next) test in
+      let both = and_parts fresh (loads next) test in
       let start = f.fresh_boot both.0 in
       let loading = loads-view next both.1 in
       let stays = Stays-quiet o v next did cycle c (told-booting o v next did cycle c loading.0) in

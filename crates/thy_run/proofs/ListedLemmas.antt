@@ -1,12 +1,11 @@
 -- The listed cuts that have fallen, one cycle later.
-use Rattle.std.proofs.Common.{◌≡◌, ◌⊎◌, ℕ, zero, suc, ◌+◌, ◌-◌, ◌<◌, ◌≤◌, Bool, true, false, ◌&&◌, ◌==◌, nat_lt, nat_le, cond, if◌then◌else◌, Option, Some, None, List, [], ◌∷◌, ◌++◌, length, take, refl, sym, ◌∙◌, ap, subst, inl, inr, add-zero, arith}
-use Rattle.std.specs.Prelude.{slice_index, take_while, filter, ◌≢◌}
+use Rattle.std.proofs.Common.{◌≡◌, ◌⊎◌, ℕ, zero, suc, ◌+◌, ◌<◌, ◌≤◌, Bool, true, false, nat_lt, nat_le, cond, Option, Some, None, List, [], ◌∷◌, ◌++◌, length, take, refl, sym, ◌∙◌, ap, inl, inr, add-zero, arith}
+use Rattle.std.specs.Prelude.{slice_index, take_while, ◌≢◌}
 use Rattle.std.proofs.lemmas.List.Sums.{take_while-cons}
-use Rattle.std.proofs.lemmas.Bool.{le-leb, leb-true, ltb-true, lt-ltb, cases_lt, cases_eq}
+use Rattle.std.proofs.lemmas.Bool.{le-leb, ltb-true, cases_lt, cases_eq}
 use Rattle.std.proofs.lemmas.List.Elements.{filter-append}
 use Rattle.std.proofs.lemmas.Bool.Decides.{leb_tells}
 use Rattle.thy_base.specs.Config.{first_not_rising}
-use Rattle.thy_model.proofs.CheckpointLaws.{if_equal}
 use Rattle.thy_text.specs.Happening.{Happening, Cut}
 use Rattle.thy_run.specs.Cuts.{is_cut, cuts_among, numbered, cuts_up_to}
 

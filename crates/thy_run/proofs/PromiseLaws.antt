@@ -1,24 +1,20 @@
 -- What follows for every run.
-use Rattle.std.proofs.Common.{◌≡◌, ◌⊎◌, ℕ, zero, suc, ◌+◌, ◌-◌, ◌<◌, ◌≤◌, Bool, true, false, ◌||◌, if◌then◌else◌, Option, Some, None, List, [], ◌∷◌, ◌++◌, length, take, refl, sym, ◌∙◌, ap, subst, inl, inr, append-nil, append_assoc, length-append, arith}
-use Rattle.std.specs.Prelude.{◌≢◌}
+use Rattle.std.proofs.Common.{◌≡◌, ◌⊎◌, ℕ, zero, suc, ◌+◌, ◌-◌, ◌≤◌, false, if◌then◌else◌, List, [], ◌∷◌, ◌++◌, length, take, refl, sym, ◌∙◌, ap, subst, inl, inr, append-nil, append_assoc, arith}
 use Rattle.std.proofs.lemmas.Bool.{or_from}
 use Rattle.std.proofs.lemmas.List.Folds.{list_any-append}
 use Rattle.thy_base.specs.declared.block.Block.{Block}
-use Rattle.thy_base.specs.Config.{first_not_rising}
-use Rattle.thy_base.specs.Device.{Device, IsFramed}
-use Rattle.thy_record.specs.Decode.{Nothing as NothingLeft}
+use Rattle.thy_base.specs.Device.{Device}
 use Rattle.thy_text.specs.Happening.{Happening, EpochEnd, Commit, Cut, Restart, Reload, Ended}
 use Rattle.thy_text.specs.Marks.{Marks, Course, loading_marks, marks_from, marks_after, AllLawful}
 use Rattle.thy_text.proofs.Histories.{marks_from-append}
-use Rattle.thy_model.specs.declared.view.View.{View}
 use Rattle.thy_model.specs.Origin.{Origin}
 use Rattle.thy_model.specs.Safe.{Safe}
-use Rattle.thy_model.specs.Sound.{IsOrigin, doubt_of}
-use Rattle.thy_model.proofs.CheckpointLaws.{Safe-failed}
+use Rattle.thy_model.specs.Sound.{doubt_of}
+use Rattle.thy_model.proofs.SafeLemmas.{Safe-failed}
 use Rattle.thy_run.specs.Cuts.{is_end, has_ended, cuts_among, numbered, last_cuttable, cuts_up_to}
-use Rattle.thy_run.specs.Images.{left_by, Since, since_after, since_from, no_cuts, AllFitImages, EndsFitting, RestartsDecode}
+use Rattle.thy_run.specs.Images.{Since, since_after, since_from, no_cuts, AllFitImages, EndsFitting, RestartsDecode}
 use Rattle.thy_run.specs.Laws.{course_of, marks_of, Promise, RunKeepsPromise}
-use Rattle.thy_run.specs.Unfinished.{StepFailed, ReadFailed, TellingFailed, Ends, Finished}
+use Rattle.thy_run.specs.Unfinished.{StepFailed, ReadFailed, Ends}
 use Rattle.thy_run.specs.World.{World, seen, events_of, Steps}
 use Rattle.thy_run.proofs.CoverLaws.{Covers-sealed, Covers-part, Safe-covered}
 use Rattle.thy_run.proofs.ImageLaws.{settled_since}

@@ -1,17 +1,16 @@
 -- What holds of a run between two cycles, and that one more cycle keeps it.
-use Rattle.std.proofs.Common.{◌≡◌, ◌⊎◌, ℕ, zero, suc, ◌+◌, ◌-◌, ◌<◌, ◌≤◌, Bool, true, false, ◌&&◌, ◌||◌, ◌==◌, not, nat_lt, if◌then◌else◌, Option, Some, None, List, [], ◌∷◌, ◌++◌, length, take, refl, sym, ◌∙◌, ap, subst, inl, inr, append-nil, length-append, add-zero, arith}
+use Rattle.std.proofs.Common.{◌≡◌, ℕ, zero, suc, ◌+◌, ◌-◌, ◌≤◌, Bool, true, false, ◌&&◌, ◌||◌, ◌==◌, not, nat_lt, if◌then◌else◌, Option, Some, None, List, [], ◌∷◌, ◌++◌, length, take, refl, sym, ◌∙◌, ap, subst, inl, inr, append-nil, length-append, arith}
 use Rattle.std.specs.Prelude.{◌≢◌, slice_index, slice_index_or, MatchBool}
-use Rattle.std.specs.List.{list_any}
 use Rattle.std.proofs.lemmas.Bool.{or_from, eq-eqb, eqb-true, ltb-true, lt-ltb}
 use Rattle.std.proofs.lemmas.List.Folds.{list_any-append}
 use Rattle.std.proofs.Math.Seq.{get_or-append_seam}
 use Rattle.thy_base.specs.declared.block.Block.{Block}
 use Rattle.thy_base.specs.declared.mark.Mark.{Mark}
 use Rattle.thy_base.specs.Config.{first_not_rising}
-use Rattle.thy_base.specs.Device.{Device, Crash, IsCut, IsFramed, cut_to}
+use Rattle.thy_base.specs.Device.{Device, Crash, IsCut, cut_to}
 use Rattle.thy_base.proofs.CrashLemmas.{Crash-cut_to}
 use Rattle.thy_record.specs.Decode.{Decoded, Nothing as NothingLeft, Refused as RefusedImage, At, decode}
-use Rattle.thy_text.specs.Happening.{Happening, EpochEnd, Commit, Cut, Restart, Reload, Ended}
+use Rattle.thy_text.specs.Happening.{Happening, Cut, Reload, Ended}
 use Rattle.thy_text.specs.Marks.{Marks, loading_marks, marks_from, AllLawful}
 use Rattle.thy_text.proofs.Histories.{marks_from-append, AllLawful-append}
 use Rattle.thy_model.specs.declared.did.Did.{Did}
@@ -19,23 +18,23 @@ use Rattle.thy_model.specs.declared.did.Did.TheVariants.{Boot, Loaded, Restarted
 use Rattle.thy_model.specs.declared.view.Phase.{Phase}
 use Rattle.thy_model.specs.declared.view.Phase.TheVariants.{Boot as BootPhase, Run, Halt}
 use Rattle.thy_model.specs.declared.view.View.{View}
-use Rattle.thy_model.specs.Boot.{boot_view, loading_view, view_of_image}
-use Rattle.thy_model.specs.Calls.{IsAt, is_boot, is_halt, loads, halts}
+use Rattle.thy_model.specs.Boot.{loading_view, view_of_image}
+use Rattle.thy_model.specs.Calls.{IsAt, is_halt, loads, halts}
 use Rattle.thy_model.specs.CoreStep.{mark, CoreStep}
 use Rattle.thy_model.specs.Origin.{Origin, at}
 use Rattle.thy_model.specs.Safe.{ceiling, Safe, IsOneOf}
 use Rattle.thy_model.specs.Sound.{doubt_of}
-use Rattle.thy_model.proofs.CycleLaws.{Safe-doubt}
-use Rattle.thy_run.specs.Cuts.{is_cut, is_end, has_ended, cuts_among, numbered, last_cuttable, cuts_up_to}
-use Rattle.thy_run.specs.Images.{left_by, Since, since_after, since_from, no_cuts, HasLeft, FitsImage, AllFitImages, EndsFitting}
+use Rattle.thy_model.proofs.SafeLemmas.{Safe-doubt}
+use Rattle.thy_run.specs.Cuts.{is_end, has_ended, cuts_among, numbered, last_cuttable, cuts_up_to}
+use Rattle.thy_run.specs.Images.{left_by, since_after, since_from, no_cuts, HasLeft, AllFitImages}
 use Rattle.thy_run.specs.Laws.{course_of, marks_of}
 use Rattle.thy_run.specs.World.{World, seen, told, reload_told, end_told, events_of, stepped, Steps, is_due, cut_off, IsCutOff, Cycle, Given, IsFirst, Ran}
-use Rattle.thy_run.proofs.Fitting.{IsEither, Rises, Loading, Recovering, BootFits, Follows, RunFits, HaltFits, FitsIn, Fits, Covers}
+use Rattle.thy_run.proofs.Fitting.{IsEither, Rises, Follows, FitsIn, Fits}
 use Rattle.thy_run.proofs.CoverLaws.{Covers-fits, Safe-covered}
 use Rattle.thy_run.proofs.EventLaws.{Fits-events}
-use Rattle.thy_run.proofs.ImageLaws.{IsFound, BootFinds, ImagesFit, StepFits, StepFits-events}
-use Rattle.thy_run.proofs.ImageLemmas.{since_from-append, AllFitImages-append, AllFitImages-more, valid_events, left_by-more, HasLeft-more}
-use Rattle.thy_run.proofs.ListedLemmas.{NextCut, next_cut, cuts_among-append, numbered-take, up_none}
+use Rattle.thy_run.proofs.ImageLaws.{IsFound, ImagesFit, StepFits-events}
+use Rattle.thy_run.proofs.ImageLemmas.{since_from-append, AllFitImages-append, AllFitImages-more, valid_events, HasLeft-more}
+use Rattle.thy_run.proofs.ListedLemmas.{next_cut, cuts_among-append, numbered-take, up_none}
 
 -- ---- the events of a step are neither cuts nor, unless it halts, an end
 
@@ -321,7 +320,7 @@ module _ (o : Origin) (x next : World) (h : Coheres o x) (late : x.fresh ≡ fal
 
   cut_coheres : Coheres o (cut_off x next.machine next.device)
   cut_coheres = record {
-    at_moment = cut.powered;
+    at_moment = cut.at_moment;
     fits = subst (λ v. Fits o v (marks_of o (x.events ++ Cut (x.passed + 1) x.cycles ∷ []))) (sym cut.found)
         (subst (Fits o (view_of_image o.start.count left_image)) (sym cut_marks) (fits_cut o (seen o x) (marks_of o x.events) left_image h.fits one_of));
     lawful = AllLawful-append (course_of o) (loading_marks o.start.count) x.events (Cut (x.passed + 1) x.cycles ∷ []) h.lawful (tt, tt);
@@ -404,7 +403,7 @@ Good-first o given w rising f =
     let passed : w.passed ≡ 0 = f.passed in
     record {
       stands = record {
-        at_moment = subst (λ k. IsAt o k w.machine w.device) (sym cycles) f.powered;
+        at_moment = subst (λ k. IsAt o k w.machine w.device) (sym cycles) f.at_moment;
         fits = subst (λ v. Fits o v (marks_of o w.events)) (sym f.loading) (subst (Fits o (loading_view o.start.count)) (sym marks) fits);
         lawful = subst (AllLawful (course_of o) (loading_marks o.start.count)) (sym none) tt;
         safe = subst (λ (m : Marks). Safe o m.kept m.sealed w.device) (sym marks) (Safe-doubt o None (Some (mark 0 o.start.count)) w.device f.safe);

@@ -85,6 +85,7 @@ pub record Steps (o : Origin) (w next : World) : Type 0 where
   pub going : is_halt (seen o w).phase ≡ false
   pub is_step : IsStep o w.cycles (mix_pick w.mix) w.machine next.machine w.device next.device r
   pub framed : IsFramed w.device next.device
+  pub calm : next.device.faults ≡ w.device.faults
   pub next_is : next ≡ stepped o w next.machine next.device r.did
 
 -- a cut is due: the next one that is listed falls after this cycle, and the run has not ended
@@ -106,7 +107,7 @@ cut_off w m n = record {
 -- Power is cut, and comes on again: a new machine, which will find what the device's image decodes to.
 pub record IsCutOff (o : Origin) (w next : World) : Type 0 where
   pub cut : IsCut w.device next.device
-  pub powered : IsAt o w.cycles next.machine next.device
+  pub at_moment : IsAt o w.cycles next.machine next.device
   pub found : seen o next ≡ view_of_image o.start.count (decode o.geometry ceiling next.device.image)
   pub next_is : next ≡ cut_off w next.machine next.device
 
@@ -125,7 +126,7 @@ pub record Given : Type 0 where
 -- power comes on for the first time, over a device of zeros
 pub record IsFirst (o : Origin) (given : Given) (w : World) : Type 0 where
   pub device : w.device ≡ given.fitted
-  pub powered : IsAt o 0 w.machine w.device
+  pub at_moment : IsAt o 0 w.machine w.device
   pub loading : seen o w ≡ loading_view o.start.count
   pub safe : Safe o None None w.device
   pub left : w.device.left ≡ []

@@ -1,4 +1,4 @@
-use Rattle.std.proofs.Common.{Ok, ◌∙◌}
+use Rattle.std.proofs.Common.{Ok, ◌∙◌, refl}
 use Rattle.thy_elf.specs.Image.{contents_of}
 use Rattle.thy_cli.proofs.TopLemmas.{geometry_is, meaning_is}
 use Rattle.thy_cli.proofs.source.fetch_program.Goals as goal
@@ -9,9 +9,13 @@ returns-in-Ok-read-clause-program g c =
     λ digest. record {
       geometry = geometry;
       in_range = c.numbers-base.ensures.in_range;
-      bytes = c.in-Ok-fetch.bytes.items;
-      held = λ files e. (c.in-Ok-fetch.ensures.answer files e).0;
-      means = meaning_is (record { file = c.args.file.now; config = c.args.config.now; digest = digest }) c.in-Ok-fetch.bytes.items c.deref.result.now c.in-Ok.geometry c.numbers-base.result
+      file = record {
+        bytes = c.in-Ok-fetch.bytes.items;
+        held = λ files e. c.in-Ok-fetch.ensures.answer files e;
+        contents = contents_of c.in-Ok-read.image;
+        means = meaning_is (record { file = c.args.file.now; config = c.args.config.now; digest = digest }) c.in-Ok-fetch.bytes.items c.deref.result.now c.in-Ok.geometry c.numbers-base.result
           c.program_size.result (Ok (contents_of c.in-Ok-read.image)) geometry c.numbers-base.ensures.same c.deref.ensures.value c.program_size.ensures.size c.in-Ok-read.ensures.image;
+      };
+      contents = refl;
       size = c.in-Ok-read.ensures.len ∙ c.program_size.ensures.size;
     }

@@ -1,4 +1,5 @@
-use Rattle.std.proofs.Common.{refl}
+use Rattle.std.proofs.Common.{◌∙◌, sym, ap, refl}
+use Rattle.thy_plain.specs.Start.{start_state}
 use Rattle.thy_elf.specs.Image.{contents_of}
 use Rattle.thy_cli.proofs.TopLemmas.{rising_of, IsOrigin-start}
 use Rattle.thy_cli.proofs.top.prepare.Goals as goal
@@ -16,11 +17,8 @@ returns-in-Ok-clause-plan g c =
       config = refl;
       geometry = program.geometry;
       digest = refl;
-      bytes = program.bytes;
-      held = program.held;
-      contents = contents_of c.in-Ok.program.image;
-      means = program.means;
-      start = c.start_of.ensures.state;
+      file = program.file;
+      start = c.start_of.ensures.state ∙ ap (start_state c.in-Ok.program.geometry) (sym program.contents);
       input = c.new.ensures;
       planned = record {
         origin = IsOrigin-start _ (contents_of c.in-Ok.program.image) program.in_range c.start_of.ensures.state c.start_of.ensures.storable;

@@ -1,26 +1,26 @@
 use Rattle.std.proofs.Common.{ap, subst, refl, inl, inr, ℕ}
 use Rattle.thy_base.specs.declared.config.Parameters.{Parameters}
 use Rattle.thy_cli.specs.declared.refusal.Refusal.TheVariants.{Device as DeviceRefusal}
-use Rattle.thy_cli.specs.Answering.{ClosesRun, stop_line}
+use Rattle.thy_cli.specs.Answering.{ClosesRun}
 use Rattle.thy_cli.proofs.TopLemmas.{IsRunOf-ran}
 use Rattle.thy_cli.proofs.top.run_file.Goals as goal
 
-pub returns-in-Err : goal.returns-in-Err
-returns-in-Err g c =
+pub returns-in-Err-clause-answer : goal.returns-in-Err-clause-answer
+returns-in-Err-clause-answer g c =
     inl (
       c.in-Err.refusal,
       c.in-Err.ensures.refusal (g.N.Nvm.device c.args.nvm.now),
       record { status = c.refuse.ensures.status; events = c.refuse.ensures.events; cycles = c.refuse.ensures.cycles; shown_none = refl; closes = c.refuse.ensures.closes },
     )
 
-pub returns-in-Ok-fit : goal.returns-in-Ok-fit
-returns-in-Ok-fit g c =
-    inr (IsRunOf-ran _ (g.H.Shelf.stock c.args.shelf.now) c.in-Ok.plan (g.N.Nvm.device c.args.nvm.now) (g.N.Nvm.device c.fit.new.self) (g.N.Nvm.device c.run-ending.new.nvm)
+pub returns-in-Ok-fit-clause-answer : goal.returns-in-Ok-fit-clause-answer
+returns-in-Ok-fit-clause-answer g c =
+    inr (IsRunOf-ran _ (g.H.Shelf.stock c.args.shelf.now) (g.H.Shelf.stock c.prepare.new.shelf) c.in-Ok.plan (g.N.Nvm.device c.args.nvm.now) (g.N.Nvm.device c.fit.new.self) (g.N.Nvm.device c.run-ending.new.nvm)
     _ c.run-ending.result c.answered.result (g.T.Sink.stream c.args.terminal.now) (g.T.Sink.stream c.run-ending.new.terminal) (g.R.Sink.stream c.args.report.now)
-    (g.R.Sink.stream c.run-ending.new.report) (g.R.Sink.stream c.answered.new.report) c.in-Ok.ensures.plan c.in-Ok-fit.ensures.ok c.blocks-2.ensures.blocks
+    (g.R.Sink.stream c.run-ending.new.report) (g.R.Sink.stream c.answered.new.report) c.in-Ok.ensures.plan c.in-Ok.ensures.calm c.in-Ok-fit.ensures.ok c.blocks-2.ensures.blocks
     (ap (λ (x : Parameters). x.nvmq) c.numbers.ensures.same) c.len.ensures
     c.run-ending.ensures
-    (subst (λ (l : ℕ). ClosesRun c.run-ending.result.deaf (stop_line c.run-ending.result.stop l) (g.R.Sink.stream c.run-ending.new.report) (g.R.Sink.stream c.answered.new.report))
+    (subst (λ (l : ℕ). ClosesRun c.run-ending.result.deaf c.run-ending.result.stop l (g.R.Sink.stream c.run-ending.new.report) (g.R.Sink.stream c.answered.new.report))
     (ap (λ (x : Parameters). x.limit) c.numbers-in-Ok-fit.ensures.same) c.answered.ensures.closes)
     c.answered.ensures.events c.answered.ensures.cycles c.answered.ensures.status)
 
@@ -35,10 +35,10 @@ run-ending-requires-clause-fitted g c =
       is_fitted = c.in-Ok-fit.ensures.ok;
     }
 
-pub returns : goal.returns
-returns g c =
+pub returns-clause-answer : goal.returns-clause-answer
+returns-clause-answer g c =
     inl (
       DeviceRefusal c.in-Err-fit.error,
-      c.in-Err-fit.ensures.err,
+      (c.in-Ok.ensures.plan.file, c.in-Err-fit.ensures.err),
       record { status = c.refuse-in-Err-fit.ensures.status; events = c.refuse-in-Err-fit.ensures.events; cycles = c.refuse-in-Err-fit.ensures.cycles; shown_none = refl; closes = c.refuse-in-Err-fit.ensures.closes },
     )
