@@ -1,5 +1,5 @@
 //! Bytes that contracts see as a list.
-ghost use Rattle.std.specs.Prelude.{◌≡◌, ◌==◌, ◌+◌, ◌-◌, ◌<◌, ◌≤◌, ◌++◌, [], length, take, drop, slice_index, slice_set, IfOk, OnOk, OnErr};
+ghost use Rattle.std.specs.Prelude.{◌≡◌, ◌==◌, ◌+◌, ◌-◌, ◌<◌, ◌≤◌, ◌++◌, [], length, take, drop, slice_index, slice_set, vec_capacity, IfOk, OnOk, OnErr};
 ghost use Rattle.thy_base.specs.Bytes.{bytes_of, room_of, written};
 
 use std::alloc::{AllocError, Global};
@@ -30,16 +30,18 @@ impl Bytes {
         Ok(Bytes { items })
     }
 
-    /// The bytes of a vector. Takes no memory.
+    /// The bytes of a vector, with its room. Takes no memory.
     pub fn from_vec(items: Vec<u8>) -> Bytes
         ensures bytes { bytes_of result ≡ items.items }
+        ensures room { room_of result ≡ vec_capacity items }
     {
         Bytes { items }
     }
 
-    /// The vector of these bytes. Takes no memory.
+    /// The vector of these bytes, with their room. Takes no memory.
     pub fn into_vec(self) -> Vec<u8>
-        ensures { result.items ≡ bytes_of self }
+        ensures bytes { result.items ≡ bytes_of self }
+        ensures room { vec_capacity result ≡ room_of self }
     {
         self.items
     }
@@ -91,10 +93,11 @@ impl Bytes {
         put_in(&mut self.items, at, piece);
     }
 
-    /// Adds a piece at the end. Takes memory only where the room does not suffice.
+    /// Adds a piece at the end. Takes memory only where the room does not suffice, and gives none up.
     pub fn extend(&mut self, piece: &[u8]) -> Result<(), AllocError>
         ensures ok { OnOk result (bytes_of self.new ≡ bytes_of self.old ++ piece.now) }
         ensures err { OnErr result (bytes_of self.new ≡ bytes_of self.old) }
+        ensures room { room_of self.old ≤ room_of self.new }
         ensures full { OnErr result (room_of self.old < length (bytes_of self.old) + length piece.now) }
     {
         self.items.extend_from_slice(piece)
