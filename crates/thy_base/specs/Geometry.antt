@@ -5,7 +5,8 @@ use Rattle.thy_base.specs.declared.config.ConfigError.{ConfigError}
 use Rattle.thy_base.specs.declared.config.Parameters.{Parameters}
 use Rattle.thy_base.specs.Config.{fault_of}
 
--- each number is in its range
+-- The numbers that places, memory and queues depend on are in their ranges. Those of the cache and of page writeback (sets,
+-- ways, high, low) have no effect yet, and `fault_of` alone tests them.
 pub record IsInRange (p : Parameters) : Type 0 where
   pub base_aligned : p.base % 4096 ≡ 0
   pub base_below : p.base < 2 ^ 62

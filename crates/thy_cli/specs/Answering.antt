@@ -174,6 +174,7 @@ pub record IsPlanOf (task : Task) (stock : Stock) (p : Plan) : Type 0 where
   pub file : IsProgramFile task stock
   pub start : (origin_of p).start ≡ start_state p.geometry file.contents
   pub input : (origin_of p).input ≡ []
+  pub epoch : p.start.epoch ≡ 0
   pub planned : IsPlanned p
 
 -- the exit status of a stop

@@ -20,6 +20,7 @@ returns-in-Ok-clause-plan g c =
       file = program.file;
       start = c.start_of.ensures.state ∙ ap (start_state c.in-Ok.program.geometry) (sym program.contents);
       input = c.new.ensures;
+      epoch = refl;
       planned = record {
         origin = IsOrigin-start _ (contents_of c.in-Ok.program.image) program.in_range c.start_of.ensures.state c.start_of.ensures.storable;
         rising = rising_of c.args.config c.requires;
