@@ -1,3 +1,4 @@
 pub mod Counts
 pub mod Tape
 pub mod Rack
+pub mod Untold

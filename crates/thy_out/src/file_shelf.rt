@@ -1,6 +1,7 @@
 //! A shelf over the files of the system.
-ghost use Rattle.std.specs.Prelude.{◌≡◌, ◌≤◌, length, None, Some, IfOk, IfSome};
-ghost use Rattle.thy_base.specs.Outside.{Fetched};
+ghost use Rattle.std.specs.Prelude.{◌≡◌, ◌≤◌, length, Some, IfOk, IfSome};
+ghost use Rattle.thy_base.specs.Outside.{Fetched, FetchCounts};
+ghost use Rattle.thy_out.specs.Untold.{untold};
 
 use std::alloc::Global;
 use std::fs;
@@ -19,7 +20,7 @@ pub struct FileShelf<R> {
 impl<R: Files> FileShelf<R> {
     /// The files of this runtime.
     pub fn new(rt: R) -> FileShelf<R>
-        ensures { ⟦<FileShelf<R> as Shelf>⟧.stock result ≡ record { held = None; faults = 0 } }
+        ensures { ⟦<FileShelf<R> as Shelf>⟧.stock result ≡ untold 0 }
     {
         FileShelf { rt, faults: 0 }
     }
@@ -74,9 +75,13 @@ fn read_file<R: Files>(rt: &R, alloc: Global, path: &str, limit: u64) -> Result<
 }
 
 impl<R: Files> Shelf for FileShelf<R> {
-    ghost stock = { λ s. record { held = None; faults = s.faults } };
+    ghost stock = { λ s. untold s.faults };
 
-    fn fetch(&mut self, alloc: Global, name: &str, limit: u64) -> Result<Vec<u8>, FetchError> {
+    /// Whatever the system has, the bytes are at most `limit`.
+    fn fetch(&mut self, alloc: Global, name: &str, limit: u64) -> Result<Vec<u8>, FetchError>
+        ensures within { IfOk result (λ bytes. length bytes.items ≤ limit) }
+        ensures faults { FetchCounts (untold self.old.faults) (untold self.new.faults) result }
+    {
         match read_file(&self.rt, alloc, name, limit) {
             Ok(bytes) => Ok(bytes),
             Err(FetchError::Memory(error)) => Err(FetchError::Memory(error)),
