@@ -1,4 +1,5 @@
 use crate::{FileShelf, MemShelf, MemSink, StdSink};
+use std::fs;
 use std::test::Fail;
 use thy_base::{FetchError, PutError, Shelf, Sink};
 
@@ -39,6 +40,17 @@ fn a_shelf_of_files_gives_what_the_system_has(rt: HostRuntime) {
     assert!(rt; shelf.fetch(rt.alloc(), "/dev/null", 0).is_ok());
     assert!(rt; shelf.put(rt.alloc(), "/dev/null", b"four").is_ok());
     assert!(rt; shelf.put(rt.alloc(), "no such folder/file", b"four") == Err(PutError::Failed));
+}
+
+#[test]
+fn a_file_holds_what_was_put(rt: HostRuntime) {
+    let mut shelf = FileShelf::new(rt);
+    for bytes in [b"seven bytes".as_slice(), b"four".as_slice()] {
+        assert!(rt; shelf.put(rt.alloc(), "a_file_of_a_test", bytes).is_ok());
+        let there = shelf.fetch(rt.alloc(), "a_file_of_a_test", 11);
+        assert!(rt; there.is_ok_and(|there| there.as_slice() == bytes));
+    }
+    assert!(rt; fs::remove_file(&rt, "a_file_of_a_test").is_ok());
 }
 
 #[test]
