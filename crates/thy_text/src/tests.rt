@@ -3,7 +3,7 @@ use std::test::Fail;
 use thy_base::{Bytes, EndCause, Field, Sink, SinkError};
 use thy_isa::{MachState, Regs, Status};
 
-/// Keeps what it is given.
+/// Keeps what it is given, which is never an empty piece.
 #[derive(Drop)]
 struct Page {
     bytes: Vec<u8>,
@@ -16,13 +16,11 @@ impl Sink for Page {
     ghost stream = { λ p. record { taken = None; faults = p.faults } };
 
     fn write(&mut self, piece: &[u8]) -> Result<(), SinkError> {
-        match self.bytes.extend_from_slice(piece) {
-            Ok(()) => Ok(()),
-            Err(_) => {
-                self.faults = self.faults.saturating_add(1);
-                Err(SinkError::Failed)
-            }
+        if piece.is_empty() || self.bytes.extend_from_slice(piece).is_err() {
+            self.faults = self.faults.saturating_add(1);
+            return Err(SinkError::Failed);
         }
+        Ok(())
     }
 }
 
@@ -70,11 +68,12 @@ fn closings_have_their_lines(rt: HostRuntime) {
     assert!(rt; write_closing(Closing::Word(Field::Pages), &mut page).is_ok());
     assert!(rt; write_closing(Closing::Value(Field::Low, 16), &mut page).is_ok());
     assert!(rt; write_closing(Closing::Fetch("F", FetchFault::TooLong), &mut page).is_ok());
+    assert!(rt; write_closing(Closing::Fetch("", FetchFault::Missing), &mut page).is_ok());
     assert!(rt; write_closing(Closing::File(1, "TooShort"), &mut page).is_ok());
     assert!(rt; write_closing(Closing::FileAt(17, "SegmentOutsideMemory", 0), &mut page).is_ok());
     assert!(rt; write_closing(Closing::Limit(717), &mut page).is_ok());
     let text =
-        b"word pages\nvalue low 16\nfetch F too long\nfile 1 TooShort\nfile 17 SegmentOutsideMemory 0\nlimit 717\n";
+        b"word pages\nvalue low 16\nfetch F too long\nfetch  missing\nfile 1 TooShort\nfile 17 SegmentOutsideMemory 0\nlimit 717\n";
     assert_eq!(rt; page.bytes.as_slice(), text.as_slice());
 }
 
