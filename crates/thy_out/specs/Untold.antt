@@ -1,7 +1,25 @@
 -- A shelf over the files of the system.
-use Rattle.std.specs.Prelude.{ℕ, None}
+use Rattle.std.specs.Prelude.{ℕ, None, Result, Ok, Err, Vec}
+use Rattle.std.specs.declared.alloc.Global.{Global}
 use Rattle.thy_base.specs.Outside.{Stock}
+use Rattle.thy_base.specs.declared.outside.FetchError.{FetchError}
+use Rattle.thy_base.specs.declared.outside.FetchError.TheVariants.{Memory}
+use Rattle.thy_base.specs.declared.outside.PutError.{PutError}
+use Rattle.thy_base.specs.declared.outside.PutError.TheVariants.{Memory as PutMemory}
+use Rattle.thy_out.specs.Counts.{next}
 
 -- it does not tell what it holds, since others change it too
 abbrev pub untold : ℕ → Stock
 untold faults = record { held = None; faults = faults }
+
+-- the count after a fetch: one more with every answer but bytes and want of memory
+abbrev pub fetch_faults : ℕ → Result (Vec ℕ Global) FetchError → ℕ
+fetch_faults faults (Ok bytes) = faults
+fetch_faults faults (Err (Memory e)) = faults
+fetch_faults faults (Err _) = next faults
+
+-- the count after a put: one more where it failed
+abbrev pub put_faults : ℕ → Result Unit PutError → ℕ
+put_faults faults (Ok done) = faults
+put_faults faults (Err (PutMemory e)) = faults
+put_faults faults (Err _) = next faults

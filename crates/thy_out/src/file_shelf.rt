@@ -1,7 +1,7 @@
 //! A shelf over the files of the system.
 ghost use Rattle.std.specs.Prelude.{◌≡◌, ◌≤◌, length, Some, IfOk, IfSome};
-ghost use Rattle.thy_base.specs.Outside.{Fetched, FetchCounts};
-ghost use Rattle.thy_out.specs.Untold.{untold};
+ghost use Rattle.thy_base.specs.Outside.{Fetched, FetchCounts, PutCounts};
+ghost use Rattle.thy_out.specs.Untold.{untold, fetch_faults, put_faults};
 
 use std::alloc::Global;
 use std::fs;
@@ -81,6 +81,7 @@ impl<R: Files> Shelf for FileShelf<R> {
     fn fetch(&mut self, alloc: Global, name: &str, limit: u64) -> Result<Vec<u8>, FetchError>
         ensures within { IfOk result (λ bytes. length bytes.items ≤ limit) }
         ensures faults { FetchCounts (untold self.old.faults) (untold self.new.faults) result }
+        ensures after { self.new.faults ≡ fetch_faults self.old.faults result }
     {
         match read_file(&self.rt, alloc, name, limit) {
             Ok(bytes) => Ok(bytes),
@@ -92,7 +93,10 @@ impl<R: Files> Shelf for FileShelf<R> {
         }
     }
 
-    fn put(&mut self, _alloc: Global, name: &str, bytes: &[u8]) -> Result<(), PutError> {
+    fn put(&mut self, _alloc: Global, name: &str, bytes: &[u8]) -> Result<(), PutError>
+        ensures faults { PutCounts (untold self.old.faults) (untold self.new.faults) result }
+        ensures after { self.new.faults ≡ put_faults self.old.faults result }
+    {
         match fs::write(&self.rt, name, bytes) {
             Ok(()) => Ok(()),
             Err(_) => {
