@@ -2,3 +2,4 @@ pub mod Counts
 pub mod Tape
 pub mod Rack
 pub mod Untold
+pub mod Writers

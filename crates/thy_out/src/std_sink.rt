@@ -1,6 +1,8 @@
 //! A sink over a writer.
-ghost use Rattle.std.specs.Prelude.{◌≡◌, ◌≤◌, length, take, None, OnOk, OnErr};
+ghost use Rattle.std.specs.Prelude.{◌≡◌, ◌≤◌, if◌then◌else◌, is_ok, length, take, None, OnOk, OnErr};
 ghost use Rattle.thy_base.specs.Outside.{Grew, Took, TookPart};
+ghost use Rattle.thy_out.specs.Counts.{next};
+ghost use Rattle.thy_out.specs.Writers.{stream_with};
 
 use std::io::{ErrorKind, Stderr, Stdout, Write};
 use thy_base::{Sink, SinkError};
@@ -55,9 +57,13 @@ fn write_on<W: Write>(to: &mut W, piece: &[u8]) -> usize
 }
 
 impl<W: Write> Sink for StdSink<W> {
-    ghost stream = { λ s. record { taken = W.contents s.to; faults = s.faults } };
+    ghost stream = { λ s. stream_with (W.contents s.to) s.faults };
 
-    fn write(&mut self, piece: &[u8]) -> Result<(), SinkError> {
+    fn write(&mut self, piece: &[u8]) -> Result<(), SinkError>
+        ensures whole { OnOk result (Took (stream_with (W.contents self.old.to) self.old.faults) (stream_with (W.contents self.new.to) self.new.faults) piece.now) }
+        ensures failed { OnErr result (TookPart (stream_with (W.contents self.old.to) self.old.faults) (stream_with (W.contents self.new.to) self.new.faults) piece.now) }
+        ensures after { self.new.faults ≡ (if is_ok result then self.old.faults else next self.old.faults) }
+    {
         let taken = write_on(&mut self.to, piece);
         if taken < piece.len() {
             self.faults = self.faults.saturating_add(1);
