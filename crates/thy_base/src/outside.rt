@@ -36,7 +36,7 @@ pub enum SinkError {
 
 /// Named files. A shelf may tell what it holds; then its answers are tied to that.
 pub trait Shelf {
-    ghost use Rattle.std.specs.Prelude.{◌≡◌, OnOk, Some};
+    ghost use Rattle.std.specs.Prelude.{◌≡◌, ◌≤◌, length, IfOk, OnOk, Some};
     ghost use Rattle.thy_base.specs.Outside.{Stock, Files, Fetched, FetchCounts, KeepsOthers, Holds, PutCounts};
 
     /// What the shelf holds, where it tells, and its count of faults.
@@ -44,10 +44,11 @@ pub trait Shelf {
 
     /// The bytes under `name`, if they are at most `limit`. A shelf that tells answers `NotThere`
     /// exactly where nothing is held there and `TooLong` exactly where more than `limit` bytes are,
-    /// `Failed` and `Memory` aside. It changes nothing that is held.
+    /// `Failed` and `Memory` aside. No shelf gives more than `limit` bytes. It changes nothing that is held.
     fn fetch(&mut self, alloc: Global, name: &str, limit: u64) -> Result<Vec<u8>, FetchError>
         ensures keeps { (stock self.new).held ≡ (stock self.old).held }
         ensures answer { (files : Files) → (stock self.old).held ≡ Some files → Fetched (files name.now) limit result }
+        ensures within { IfOk result (λ bytes. length bytes.items ≤ limit) }
         ensures faults { FetchCounts (stock self.old) (stock self.new) result };
 
     /// Makes `name` hold these bytes. No other name changes, whatever the answer.

@@ -96,10 +96,10 @@ task_of job = record { file = job.file; config = job.config; digest = job.digest
 abbrev pub most_bytes : ℕ
 most_bytes = 67108864
 
--- what stands under a name, where the shelf tells
+-- bytes that may be those under a name: they are, where the shelf tells
 abbrev pub IsHeld : Stock → List ℕ → List ℕ → Type 0
 IsHeld stock name bytes =
-    (files : Files) → stock.held ≡ Some files → (files name ≡ Some bytes) × (length bytes ≤ most_bytes)
+    (length bytes ≤ most_bytes) × ((files : Files) → stock.held ≡ Some files → files name ≡ Some bytes)
 
 -- why a file was not had: the shelf's count rose, or a shelf that tells has nothing there, or too much
 abbrev pub FetchDue : Stock → Stock → List ℕ → FetchError → Type 0

@@ -77,7 +77,6 @@ fn read_file<R: Files>(rt: &R, alloc: Global, path: &str, limit: u64) -> Result<
 impl<R: Files> Shelf for FileShelf<R> {
     ghost stock = { λ s. untold s.faults };
 
-    /// Whatever the system has, the bytes are at most `limit`.
     fn fetch(&mut self, alloc: Global, name: &str, limit: u64) -> Result<Vec<u8>, FetchError>
         ensures within { IfOk result (λ bytes. length bytes.items ≤ limit) }
         ensures faults { FetchCounts (untold self.old.faults) (untold self.new.faults) result }
