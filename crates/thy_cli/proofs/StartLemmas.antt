@@ -1,16 +1,11 @@
 -- A run before its first cycle, and one at its limit.
-use Rattle.std.proofs.Common.{◌≡◌, ℕ, ◌+◌, false, Some, None, List, [], refl, sym, ◌∙◌, ap, subst, inl, append-nil, arith}
-use Rattle.std.specs.Prelude.{replicate}
-use Rattle.std.proofs.lemmas.List.{length-replicate}
-use Rattle.thy_base.specs.Device.{Device, zero_block}
-use Rattle.thy_base.specs.Geometry.{memory_blocks}
+use Rattle.std.proofs.Common.{◌≡◌, ℕ, ◌+◌, false, Some, List, [], refl, sym, ◌∙◌, ap, subst, inl, append-nil, arith}
+use Rattle.thy_base.specs.Device.{Device}
 use Rattle.thy_base.specs.Outside.{Stream, Took}
-use Rattle.thy_isa.specs.declared.state.Status.TheVariants.{Running as RunningStatus}
 use Rattle.thy_text.specs.Happening.{Happening}
 use Rattle.thy_text.specs.Lines.{report_of}
-use Rattle.thy_model.specs.declared.stage.Stage.TheVariants.{Unread}
 use Rattle.thy_model.specs.declared.view.View.{View}
-use Rattle.thy_model.specs.Boot.{boot_view, loading_view}
+use Rattle.thy_model.specs.Boot.{loading_view}
 use Rattle.thy_model.specs.Calls.{Core, IsAt, is_halt}
 use Rattle.thy_model.specs.Moments.{IsPoweredOn}
 use Rattle.thy_model.specs.Origin.{Origin}

@@ -36,7 +36,7 @@ use Rattle.thy_cli.specs.declared.cycles.Ending.{Ending}
 use Rattle.thy_cli.specs.declared.plan.Plan.{Plan}
 use Rattle.thy_cli.specs.declared.refusal.Refusal.{Refusal}
 use Rattle.thy_cli.specs.declared.refusal.Refusal.TheVariants.{Words, Fetch, File, Device as DeviceRefusal, Memory as MemoryRefusal}
-use Rattle.thy_cli.specs.Answering.{Task, task_of, WordsDue, meaning_of, OrderDue, RefusalDue, IsPlanOf, IsRunOf, ClosesRun, PlainAnswered, TaskAnswered, Answered, stop_line, stop_status}
+use Rattle.thy_cli.specs.Answering.{Task, task_of, WordsDue, meaning_of, OrderDue, RefusalDue, IsPlanOf, IsRunOf, ClosesRun, PlainAnswered, TaskAnswered, Answered, stop_status}
 use Rattle.thy_cli.specs.Going.{origin_of, given_of}
 use Rattle.thy_cli.specs.Turning.{EndsBy, RunEnds}
 

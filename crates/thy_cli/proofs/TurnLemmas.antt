@@ -1,5 +1,5 @@
 -- A cycle that was told is a turn of the loop.
-use Rattle.std.proofs.Common.{◌≡◌, ℕ, suc, ◌+◌, ◌<◌, ◌≤◌, Bool, true, false, List, [], ◌∷◌, ◌++◌, length, take, refl, sym, ◌∙◌, ap, subst, inl, inr, append-nil, append_assoc, length-append, arith}
+use Rattle.std.proofs.Common.{◌≡◌, ℕ, suc, ◌+◌, ◌<◌, ◌≤◌, Bool, true, false, List, [], ◌∷◌, ◌++◌, length, take, refl, sym, ◌∙◌, ap, subst, inr, append-nil, append_assoc, length-append, arith}
 use Rattle.thy_base.specs.Device.{Device, RoseFaults}
 use Rattle.thy_base.specs.Outside.{Stream}
 use Rattle.thy_base.proofs.Streams.{Took-append, TookPart-append, TookPart-more}

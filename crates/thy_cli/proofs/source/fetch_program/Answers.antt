@@ -14,7 +14,7 @@ returns-in-Ok-read-clause-program g c =
         held = (c.in-Ok-fetch.ensures.within, λ files e. (c.in-Ok-fetch.ensures.answer files e).0);
         contents = contents_of c.in-Ok-read.image;
         means = meaning_is (record { file = c.args.file.now; config = c.args.config.now; digest = digest }) c.in-Ok-fetch.bytes.items c.deref.result.now c.in-Ok.geometry c.numbers-base.result
-          c.program_size.result (Ok (contents_of c.in-Ok-read.image)) geometry c.numbers-base.ensures.same c.deref.ensures.value c.program_size.ensures.size c.in-Ok-read.ensures.image;
+            c.program_size.result (Ok (contents_of c.in-Ok-read.image)) geometry c.numbers-base.ensures.same c.deref.ensures.value c.program_size.ensures.size c.in-Ok-read.ensures.image;
       };
       contents = refl;
       size = c.in-Ok-read.ensures.len ∙ c.program_size.ensures.size;

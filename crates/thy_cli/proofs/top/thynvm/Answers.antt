@@ -32,10 +32,10 @@ returns-in-Ok-Plain g c =
 
 pub returns : goal.returns
 returns g c = (
-    refl,
-    inl (
-      Words c.in-Err.error,
-      (WordsDue-shown (map string_bytes c.args.words.now) c.in-Err.error c.in-Err.ensures.exact, refl),
-      record { status = c.refuse.ensures.status; events = c.refuse.ensures.events; cycles = c.refuse.ensures.cycles; shown_none = refl; closes = c.refuse.ensures.closes },
-    ),
+  refl,
+  inl (
+    Words c.in-Err.error,
+    (WordsDue-shown (map string_bytes c.args.words.now) c.in-Err.error c.in-Err.ensures.exact, refl),
+    record { status = c.refuse.ensures.status; events = c.refuse.ensures.events; cycles = c.refuse.ensures.cycles; shown_none = refl; closes = c.refuse.ensures.closes },
+  ),
 )
