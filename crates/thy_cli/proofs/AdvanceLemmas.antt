@@ -14,7 +14,7 @@ use Rattle.thy_model.specs.declared.did.Stepped.{Stepped}
 use Rattle.thy_model.specs.declared.view.View.{View}
 use Rattle.thy_model.specs.Boot.{view_of_image}
 use Rattle.thy_base.specs.Geometry.{blocks_of}
-use Rattle.thy_model.specs.Calls.{Core, IsAt, Begins, CanStep, is_halt, halts, loads}
+use Rattle.thy_model.specs.Calls.{Core, made_for, IsAt, Begins, CanStep, is_halt, halts, loads}
 use Rattle.thy_model.specs.Origin.{Origin, at}
 use Rattle.thy_model.specs.Safe.{ceiling}
 use Rattle.thy_model.specs.Sound.{view_of}
@@ -168,6 +168,7 @@ module _ (plan : Plan) (p q : Progress) (n m : Device) (k : ℕ) (ended : Option
       ap (λ d. view_of (origin_of plan) q'.machine d) device ∙ law.1 in
       let off : IsCutOff (origin_of plan) (world_at q m (k + 1)) (world_at q' m' (k + 1)) = record {
         cut = cut.cut;
+        powered = cut.powered;
         at_moment = subst (λ d. IsAt (origin_of plan) (k + 1) q'.machine d) (sym device) law.0;
         found = found;
         next_is = ap (λ (y : Progress). world_at y m' (k + 1)) cut.same
@@ -396,7 +397,7 @@ can_step plan fitted p n k planned g few =
     CanStep-at (origin_of plan) plan.start k p.machine n (record { geometry = refl; state = refl; input = refl }) good.stands.at_moment few
 
 -- the start is the machine's
-pub begins_of : (plan : Plan) (fitted : Device) (p : Progress) (n : Device) (k : ℕ) → IsPlanned plan → GoesOn plan fitted p n k → Begins (origin_of plan) p.machine.geometry plan.start
+pub begins_of : (plan : Plan) (fitted : Device) (p : Progress) (n : Device) (k : ℕ) → IsPlanned plan → GoesOn plan fitted p n k → Begins (origin_of plan) (made_for p.machine) plan.start
 begins_of plan fitted p n k planned g =
     let good = good_of plan fitted p n k planned g in
     record { geometry = sym (geometry-at (origin_of plan) k p.machine n good.stands.at_moment); state = refl; input = refl }
@@ -406,7 +407,7 @@ at_of plan fitted p n k planned g = (good_of plan fitted p n k planned g).stands
 
 -- after a step the device has the machine's blocks
 pub blocks_of_step : (plan : Plan) (fitted : Device) (p q : Progress) (n m : Device) (k : ℕ) (r : Stepped) → IsPlanned plan → GoesOn plan fitted p n k → k < 2 ^ 62 → IsStepped plan p q n m k r
-    → length m.image ≡ blocks_of q.machine.geometry
+    → length m.image ≡ blocks_of (made_for q.machine)
 blocks_of_step plan fitted p q n m k r planned g few s =
     let at_p = at_of plan fitted p n k planned g in
     let can = can_step plan fitted p n k planned g few in

@@ -41,6 +41,7 @@ first_of plan m n planned powered f =
     let S : View → Type 0 = λ v. Safe o v.done (doubt_of v) n in
     record {
       device = refl;
+      powered = powered;
       at_moment = at_first;
       loading = view;
       safe = subst S view (Safe-at o 0 m n at_first);

@@ -3,7 +3,7 @@ ghost use Rattle.std.specs.Prelude.{◌≡◌, ◌<◌, ◌+◌, ◌^◌, ◌&&�
 ghost use Rattle.thy_base.specs.Bytes.{bytes_of};
 ghost use Rattle.thy_base.specs.Device.{Device as DeviceValue};
 ghost use Rattle.thy_model.specs.declared.did.Stepped.{Stepped as SteppedValue};
-ghost use Rattle.thy_model.specs.Calls.{Begins, IsAt, CanStep};
+ghost use Rattle.thy_model.specs.Calls.{made_for, Begins, IsAt, CanStep};
 ghost use Rattle.thy_model.specs.Sound.{view_of};
 ghost use Rattle.thy_run.specs.World.{seen};
 ghost use Rattle.thy_cli.specs.Going.{origin_of, world_at, IsPlanned, GoesOn, IsStepped, IsStuck, IsGathered, IsNoted, IsDone, IsBroken, ComesTo, IsCutOffTo};
@@ -42,8 +42,8 @@ pub struct Advance {
 /// Steps the machine by the schedule's next pick.
 fn step<N: Nvm>(progress: &mut Progress, plan: &Plan, nvm: &mut N) -> Result<Stepped, NvmError>
     requires { CanStep plan.now.start progress.old.machine (N.device nvm.old) }
-    ensures stepped { (k : ℕ) → Begins (origin_of plan.now) progress.old.machine.geometry plan.now.start → IsAt (origin_of plan.now) k progress.old.machine (N.device nvm.old) → k < 2 ^ 62 → IfOk result (λ r. IsStepped plan.now progress.old progress.new (N.device nvm.old) (N.device nvm.new) k r) }
-    ensures stuck { (k : ℕ) → Begins (origin_of plan.now) progress.old.machine.geometry plan.now.start → IsAt (origin_of plan.now) k progress.old.machine (N.device nvm.old) → OnErr result (IsStuck plan.now progress.old progress.new (N.device nvm.old) (N.device nvm.new)) }
+    ensures stepped { (k : ℕ) → Begins (origin_of plan.now) (made_for progress.old.machine) plan.now.start → IsAt (origin_of plan.now) k progress.old.machine (N.device nvm.old) → k < 2 ^ 62 → IfOk result (λ r. IsStepped plan.now progress.old progress.new (N.device nvm.old) (N.device nvm.new) k r) }
+    ensures stuck { (k : ℕ) → Begins (origin_of plan.now) (made_for progress.old.machine) plan.now.start → IsAt (origin_of plan.now) k progress.old.machine (N.device nvm.old) → OnErr result (IsStuck plan.now progress.old progress.new (N.device nvm.old) (N.device nvm.new)) }
 {
     let pick = progress.mix.next();
     let stepped = progress.machine.step(pick, &plan.start, nvm)?;

@@ -4,7 +4,7 @@ ghost use Rattle.thy_base.specs.Bytes.{bytes_of};
 ghost use Rattle.thy_base.specs.Device.{IsFramed};
 ghost use Rattle.thy_base.specs.Geometry.{blocks_of};
 ghost use Rattle.thy_core.specs.Machine.{HasFailedToRead};
-ghost use Rattle.thy_model.specs.Calls.{loads};
+ghost use Rattle.thy_model.specs.Calls.{made_for, loads};
 ghost use Rattle.thy_model.specs.Origin.{Origin};
 ghost use Rattle.thy_model.specs.Sound.{view_of};
 ghost use Rattle.thy_model.specs.declared.view.View.{View};
@@ -71,7 +71,7 @@ fn due<N: Nvm>(
     did: Did,
     nvm: &mut N,
 ) -> Result<Bytes, CoreError>
-    requires { length (N.device nvm.old).image ≡ blocks_of progress.now.machine.geometry }
+    requires { length (N.device nvm.old).image ≡ blocks_of (made_for progress.now.machine) }
     ensures read { (o : Origin) (k : ℕ) (v : View) (r : SteppedValue) → r.did ≡ did → CanGather o k v progress.now (N.device nvm.old) r → IfOk result (λ b. bytes_of b ≡ due_of o progress.now.events did (view_of o progress.now.machine (N.device nvm.old))) }
     ensures same { OnOk result (N.device nvm.new ≡ N.device nvm.old) }
     ensures err { IfErr result (λ e. HasFailedToRead e (N.device nvm.old) (N.device nvm.new)) }
@@ -118,7 +118,7 @@ pub fn gather<N: Nvm>(
     stepped: &Stepped,
     nvm: &mut N,
 ) -> Result<Readings, CoreError>
-    requires { length (N.device nvm.old).image ≡ blocks_of progress.now.machine.geometry }
+    requires { length (N.device nvm.old).image ≡ blocks_of (made_for progress.now.machine) }
     ensures read { (o : Origin) (k : ℕ) (v : View) → CanGather o k v progress.now (N.device nvm.old) stepped.now → IfOk result (λ r. IsGathered o v (view_of o progress.now.machine (N.device nvm.old)) progress.now stepped.now.did r) }
     ensures same { OnOk result (N.device nvm.new ≡ N.device nvm.old) }
     ensures err { IfErr result (λ e. HasFailedToRead e (N.device nvm.old) (N.device nvm.new)) }

@@ -6,7 +6,7 @@ ghost use Rattle.thy_base.specs.Device.{IsFramed, newest};
 ghost use Rattle.thy_base.specs.Geometry.{blocks_of, console_room};
 ghost use Rattle.thy_record.specs.Decode.{AllLong, flat};
 ghost use Rattle.thy_base.specs.declared.mark.Mark.{Mark as MarkValue};
-ghost use Rattle.thy_model.specs.Calls.{IsAt, is_boot};
+ghost use Rattle.thy_model.specs.Calls.{made_for, IsAt, is_boot};
 ghost use Rattle.thy_model.specs.Checkpoint.{memory_place};
 ghost use Rattle.thy_model.specs.Origin.{Origin, at};
 ghost use Rattle.thy_model.specs.Sound.{view_of};
@@ -28,7 +28,7 @@ impl Machine {
     /// # Errors
     /// `Nvm` where the device fails, `Memory` for want of memory.
     pub fn console<N: Nvm>(&self, alloc: Global, from: u64, nvm: &mut N) -> Result<Bytes, CoreError>
-        requires { length (N.device nvm.old).image ≡ blocks_of self.now.geometry }
+        requires { length (N.device nvm.old).image ≡ blocks_of (made_for self.now) }
         ensures console { (o : Origin) (k : ℕ) (m : MarkValue) → IsAt o k self.now (N.device nvm.old) → is_boot (view_of o self.now (N.device nvm.old)).phase ≡ false → (view_of o self.now (N.device nvm.old)).done ≡ Some m → IfOk result (λ b. bytes_of b ≡ drop from (at o m.count).console) }
         ensures same { OnOk result (N.device nvm.new ≡ N.device nvm.old) }
         ensures err { IfErr result (λ e. HasFailedToRead e (N.device nvm.old) (N.device nvm.new)) }

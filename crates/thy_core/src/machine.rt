@@ -8,7 +8,7 @@ ghost use Rattle.thy_model.specs.declared.view.Phase.TheVariants.{Boot as BootPh
 ghost use Rattle.thy_model.specs.Action.{after, FailsTo};
 ghost use Rattle.thy_model.specs.Boot.{boot_view};
 ghost use Rattle.thy_model.specs.Bounds.{IsBelow};
-ghost use Rattle.thy_model.specs.Calls.{Begins, IsAt, CanStep, IsStep, is_halt, halts, has_read, loads};
+ghost use Rattle.thy_model.specs.Calls.{made_for, Begins, IsAt, CanStep, IsStep, is_halt, halts, has_read, loads};
 ghost use Rattle.thy_model.specs.Cycle.{cycle_action, cycle_next, cycle_did, cycle_stall};
 ghost use Rattle.thy_model.specs.Moments.{IsNoCpu, IsPoweredOn};
 ghost use Rattle.thy_core.specs.Machine.{is_loading, LeavesSafe};
@@ -74,9 +74,9 @@ impl Machine {
     ) -> Result<Stepped, NvmError>
         requires { CanStep start.now self.old (N.device nvm.old) }
         // A step from a moment of a run leads to the next one, and one that fails leaves the device safe.
-        ensures sound { (o : Origin) (k : ℕ) → Begins o self.old.geometry start.now → IsAt o k self.old (N.device nvm.old) → k < 2 ^ 62 → IfOk result (λ r. IsStep o k pick self.old self.new (N.device nvm.old) (N.device nvm.new) r) }
-        ensures safe { (o : Origin) (k : ℕ) → Begins o self.old.geometry start.now → IsAt o k self.old (N.device nvm.old) → OnErr result (LeavesSafe o pick self.old (N.device nvm.old) (N.device nvm.new)) }
-        ensures at_failure { (o : Origin) (k : ℕ) → Begins o self.old.geometry start.now → IsAt o k self.old (N.device nvm.old) → OnErr result (Safe o (view_of o self.old (N.device nvm.old)).done (view_of o self.old (N.device nvm.old)).sealed (N.device nvm.new)) }
+        ensures sound { (o : Origin) (k : ℕ) → Begins o (made_for self.old) start.now → IsAt o k self.old (N.device nvm.old) → k < 2 ^ 62 → IfOk result (λ r. IsStep o k pick self.old self.new (N.device nvm.old) (N.device nvm.new) r) }
+        ensures safe { (o : Origin) (k : ℕ) → Begins o (made_for self.old) start.now → IsAt o k self.old (N.device nvm.old) → OnErr result (LeavesSafe o pick self.old (N.device nvm.old) (N.device nvm.new)) }
+        ensures at_failure { (o : Origin) (k : ℕ) → Begins o (made_for self.old) start.now → IsAt o k self.old (N.device nvm.old) → OnErr result (Safe o (view_of o self.old (N.device nvm.old)).done (view_of o self.old (N.device nvm.old)).sealed (N.device nvm.new)) }
 
         // What it does exactly.
         ensures parts { OnOk result (self.new ≡ cycle_next (state_of start.now.state) (length (bytes_of start.now.input)) (N.device nvm.old) pick (length (N.device nvm.old).queue) self.old) }

@@ -14,7 +14,7 @@ use Rattle.thy_model.specs.declared.start.Start.{Start}
 use Rattle.thy_model.specs.declared.view.View.{View}
 use Rattle.thy_model.specs.Boot.{boot_view}
 use Rattle.thy_model.specs.Bounds.{IsStart, IsBelow}
-use Rattle.thy_model.specs.Calls.{IsAt, Begins}
+use Rattle.thy_model.specs.Calls.{Core, made_for, IsAt, Begins}
 use Rattle.thy_model.specs.Laws.{MomentCanStep, PowerComesOn, FreshIsAt, CutIsAt, MomentIsSafeFor}
 use Rattle.thy_model.specs.Moments.{IsPoweredOn, IsNew, IsSmall}
 use Rattle.thy_model.specs.Origin.{Origin}
@@ -112,5 +112,5 @@ pub Safe-at : MomentIsSafeFor
 Safe-at = λ o k m n at. Safe-sound o m n at.moment.sound
 
 -- the machine has the run's geometry
-pub geometry-at : (o : Origin) (k : ℕ) (m : Parts) (n : Device) → IsAt o k m n → m.geometry ≡ o.geometry
+pub geometry-at : (o : Origin) (k : ℕ) (m : Core) (n : Device) → IsAt o k m n → made_for m ≡ o.geometry
 geometry-at o k m n h = h.moment.sound.geometry

@@ -4,7 +4,7 @@ use Rattle.thy_base.specs.declared.mix.Pick.{Pick}
 use Rattle.thy_model.specs.declared.did.Did.{Did}
 use Rattle.thy_model.specs.declared.did.Did.TheVariants.{Boot, Loaded, Restarted, Refused, Moved, Retired, Flushed, Merged, Sealed, Promoted, Engine, Committed, NvmDrained, DramDrained, Nothing}
 use Rattle.thy_model.specs.declared.did.EngineStep.{EngineStep}
-use Rattle.thy_model.specs.declared.did.EngineStep.TheVariants.{Idle, Copied, StateBlock, Barrier, CommitWritten, Committed as EngineCommitted}
+use Rattle.thy_model.specs.declared.did.EngineStep.TheVariants.{Idle, Copied, PageBlock, StateBlock, TableBlock, Barrier, CommitWritten, Committed as EngineCommitted}
 use Rattle.thy_model.specs.declared.parts.Parts.{Parts}
 use Rattle.thy_model.specs.declared.stage.Issue.{Issue}
 use Rattle.thy_model.specs.declared.stage.Issue.TheVariants.{Memory, Record as RecordIssue, Header as HeaderIssue, Settle, Commit, Finish}
@@ -67,7 +67,9 @@ module _ (o : Origin) (k : ℕ) (v next : View) (h : IsSmall o k v) where
   engine : (step : EngineStep) → EngineTo step v next → IsSmall o (k + 1) next
   engine Idle e = absurd e
   engine Copied e = busy e
+  engine PageBlock e = busy e
   engine StateBlock e = busy e
+  engine TableBlock e = busy e
   engine Barrier e = busy e
   engine CommitWritten e =
       kept_small o k v next h (ap (λ w. w.epoch) e) (ap (λ w. w.count) e) (ap (λ w. w.done) e) (ap (λ w. w.sealed) e)

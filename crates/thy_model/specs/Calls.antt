@@ -27,6 +27,10 @@ use Rattle.thy_model.specs.Turn.{Turn}
 abbrev pub Core : Type 0
 Core = Parts
 
+-- the numbers that a machine was made for
+abbrev pub made_for : Core → Parameters
+made_for m = m.geometry
+
 -- a run has this start
 pub record Begins (o : Origin) (p : Parameters) (start : Start) : Type 0 where
   pub geometry : o.geometry ≡ p

@@ -10,8 +10,12 @@ pub enum EngineStep {
     Idle,
     /// A block of memory was written into the slot.
     Copied,
+    /// A block of a page was written back.
+    PageBlock,
     /// A block of the processor's record was written into the slot.
     StateBlock,
+    /// A block of the tables was written.
+    TableBlock,
     /// The barrier before the commit block.
     Barrier,
     /// The commit block was written.

@@ -7,7 +7,7 @@ use Rattle.thy_text.specs.Marks.{Marks, loading_marks, marks_from, FitsCause, En
 use Rattle.thy_model.specs.declared.did.Did.{Did}
 use Rattle.thy_model.specs.declared.did.Did.TheVariants.{Boot, Loaded, Restarted, Refused, Moved, Retired, Flushed, Merged, Sealed, Promoted, Engine, Committed, NvmDrained, DramDrained, Nothing}
 use Rattle.thy_model.specs.declared.did.EngineStep.{EngineStep}
-use Rattle.thy_model.specs.declared.did.EngineStep.TheVariants.{Idle, Copied, StateBlock, Barrier, CommitWritten, Committed as EngineCommitted}
+use Rattle.thy_model.specs.declared.did.EngineStep.TheVariants.{Idle, Copied, PageBlock, StateBlock, TableBlock, Barrier, CommitWritten, Committed as EngineCommitted}
 use Rattle.thy_model.specs.declared.view.Phase.{Phase}
 use Rattle.thy_model.specs.declared.view.Phase.TheVariants.{Boot as BootPhase, Run, Halt}
 use Rattle.thy_model.specs.declared.view.View.{View}
@@ -74,7 +74,9 @@ module _ (o : Origin) (v next : View) (m : Marks) (least : 1 ≤ o.geometry.epoc
   engine : v.phase ≡ Run → ((s : Mark) × (v.sealed ≡ Some s)) → (step : EngineStep) → EngineTo step v next → Fits o next m
   engine phase some Idle e = absurd e
   engine phase some Copied e = busy phase e
+  engine phase some PageBlock e = busy phase e
   engine phase some StateBlock e = busy phase e
+  engine phase some TableBlock e = busy phase e
   engine phase some Barrier e = busy phase e
   engine phase some (EngineCommitted epoch) e = absurd e
   engine phase (s, is) CommitWritten e =

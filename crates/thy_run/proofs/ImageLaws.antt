@@ -9,7 +9,7 @@ use Rattle.thy_text.specs.Happening.{Happening, Reload, Ended}
 use Rattle.thy_model.specs.declared.did.Did.{Did}
 use Rattle.thy_model.specs.declared.did.Did.TheVariants.{Boot, Loaded, Restarted, Refused, Moved, Retired, Flushed, Merged, Sealed, Promoted, Engine, Committed, NvmDrained, DramDrained, Nothing}
 use Rattle.thy_model.specs.declared.did.EngineStep.{EngineStep}
-use Rattle.thy_model.specs.declared.did.EngineStep.TheVariants.{Idle, Copied, StateBlock, Barrier, CommitWritten, Committed as EngineCommitted}
+use Rattle.thy_model.specs.declared.did.EngineStep.TheVariants.{Idle, Copied, PageBlock, StateBlock, TableBlock, Barrier, CommitWritten, Committed as EngineCommitted}
 use Rattle.thy_model.specs.declared.view.Phase.TheVariants.{Boot as BootPhase, Run}
 use Rattle.thy_model.specs.declared.view.View.{View}
 use Rattle.thy_model.specs.Calls.{is_boot, is_halt, loads, halts}
@@ -44,7 +44,9 @@ stays_moved v next (inr (free, dirty, need, short, e)) = record { phase = ap (λ
 stays_engine : (v next : View) (step : EngineStep) → EngineTo step v next → Stays v next
 stays_engine v next Idle e = absurd e
 stays_engine v next Copied e = stays_busy v next e
+stays_engine v next PageBlock e = stays_busy v next e
 stays_engine v next StateBlock e = stays_busy v next e
+stays_engine v next TableBlock e = stays_busy v next e
 stays_engine v next Barrier e = stays_busy v next e
 stays_engine v next (EngineCommitted epoch) e = absurd e
 stays_engine v next CommitWritten e = record { phase = ap (λ w. w.phase) e; done = ap (λ w. w.done) e }

@@ -11,6 +11,7 @@ use Rattle.thy_model.specs.declared.did.Stepped.{Stepped}
 use Rattle.thy_model.specs.declared.view.View.{View}
 use Rattle.thy_model.specs.Boot.{loading_view, view_of_image}
 use Rattle.thy_model.specs.Calls.{Core, IsAt, IsStep, loads, halts, is_halt}
+use Rattle.thy_model.specs.Moments.{IsPoweredOn}
 use Rattle.thy_model.specs.Origin.{Origin, at}
 use Rattle.thy_model.specs.Safe.{ceiling, Safe}
 use Rattle.thy_model.specs.Sound.{view_of}
@@ -104,9 +105,11 @@ cut_off w m n = record {
   events = w.events ++ Cut (w.passed + 1) w.cycles ∷ [];
 }
 
--- Power is cut, and comes on again: a new machine, which will find what the device's image decodes to.
+-- Power is cut, and comes on again: a new machine, which has read nothing, and will find what the device's image decodes
+-- to.
 pub record IsCutOff (o : Origin) (w next : World) : Type 0 where
   pub cut : IsCut w.device next.device
+  pub powered : IsPoweredOn o.geometry next.machine
   pub at_moment : IsAt o w.cycles next.machine next.device
   pub found : seen o next ≡ view_of_image o.start.count (decode o.geometry ceiling next.device.image)
   pub next_is : next ≡ cut_off w next.machine next.device
@@ -126,6 +129,7 @@ pub record Given : Type 0 where
 -- power comes on for the first time, over a device of zeros
 pub record IsFirst (o : Origin) (given : Given) (w : World) : Type 0 where
   pub device : w.device ≡ given.fitted
+  pub powered : IsPoweredOn o.geometry w.machine
   pub at_moment : IsAt o 0 w.machine w.device
   pub loading : seen o w ≡ loading_view o.start.count
   pub safe : Safe o None None w.device
