@@ -29,9 +29,10 @@ use Rattle.thy_run.specs.Laws.{Promise}
 use Rattle.thy_cli.specs.declared.answer.Answer.{Answer}
 use Rattle.thy_cli.specs.declared.answer.Stop.{Stop}
 use Rattle.thy_cli.specs.declared.answer.Stop.TheVariants.{Ended, Nvm, Memory, Terminal, Report, Limit}
-use Rattle.thy_cli.specs.declared.cycles.Ending.{Ending}
+use Rattle.thy_cli.specs.declared.answer.Ending.{Ending}
 use Rattle.thy_cli.specs.declared.plan.Plan.{Plan}
 use Rattle.thy_cli.specs.declared.source.Program.{Program}
+use Rattle.thy_cli.specs.declared.source.Task.{Task as TaskValue}
 use Rattle.thy_cli.specs.declared.refusal.Refusal.{Refusal}
 use Rattle.thy_cli.specs.declared.refusal.Refusal.TheVariants.{Words, Fetch, File, Device as DeviceRefusal, Memory as MemoryRefusal}
 use Rattle.thy_cli.specs.Going.{origin_of, IsPlanned}
@@ -87,6 +88,10 @@ pub record Task : Type 0 where
   pub file : List ℕ
   pub config : Config
   pub digest : Bool
+
+-- the task that the program has in hand
+abbrev pub named : TaskValue → Task
+named task = record { file = task.file.now; config = task.config; digest = task.digest }
 
 -- what a job asks for
 abbrev pub task_of : Job → Task
@@ -188,21 +193,15 @@ stop_status Nvm = 7
 stop_status Limit = 8
 stop_status Memory = 9
 
--- the closing line of a stop
-abbrev pub stop_line : Stop → ℕ → List ℕ
-stop_line (Ended status) limit = []
-stop_line Report limit = []
-stop_line Terminal limit = closing_of closing.Terminal
-stop_line Nvm limit = closing_of closing.Nvm
-stop_line Limit limit = closing_of (closing.Limit limit)
-stop_line Memory limit = closing_of closing.Memory
-
 -- the report takes the closing line of a stop; at an end there is none, and a report that failed gets no more
 abbrev pub ClosesRun : (deaf : Bool) → Stop → ℕ → Stream → Stream → Type 0
 ClosesRun true stop limit old new = new ≡ old
 ClosesRun false (Ended status) limit old new = new ≡ old
 ClosesRun false Report limit old new = new ≡ old
-ClosesRun false stop limit old new = Closes (stop_line stop limit) old new
+ClosesRun false Terminal limit old new = Closes (closing_of closing.Terminal) old new
+ClosesRun false Nvm limit old new = Closes (closing_of closing.Nvm) old new
+ClosesRun false Limit limit old new = Closes (closing_of (closing.Limit limit)) old new
+ClosesRun false Memory limit old new = Closes (closing_of closing.Memory) old new
 
 -- A run was begun over a device that was fitted, and ended. Its cycles are those of a run, and keep what is promised
 -- of every run; the sinks took what its events say.

@@ -17,7 +17,7 @@ use Rattle.thy_cli.specs.declared.advance.Outcome.{Outcome}
 use Rattle.thy_cli.specs.declared.advance.Outcome.TheVariants.{Goes, Ends, Fails}
 use Rattle.thy_cli.specs.declared.answer.Stop.{Stop}
 use Rattle.thy_cli.specs.declared.answer.Stop.TheVariants.{Ended, Nvm, Memory, Terminal, Report, Limit}
-use Rattle.thy_cli.specs.declared.cycles.Ending.{Ending}
+use Rattle.thy_cli.specs.declared.answer.Ending.{Ending}
 use Rattle.thy_cli.specs.declared.cycles.Turned.{Turned}
 use Rattle.thy_cli.specs.declared.cycles.Turned.TheVariants.{GoesOn as TurnedOn, Stops, Breaks as BreaksOff}
 use Rattle.thy_cli.specs.declared.plan.Plan.{Plan}

@@ -1,4 +1,4 @@
-//! What a run answers, and why it stopped.
+//! What a run answers, why it stopped, and how it ended.
 
 ghost use Rattle.std.specs.Prelude.{◌≡◌};
 ghost use Rattle.thy_cli.specs.Answering.{stop_status};
@@ -48,6 +48,19 @@ impl From<CoreError> for Stop {
             CoreError::Memory(_) => Stop::Memory,
         }
     }
+}
+
+/// How a run ended.
+#[derive(Debug, Drop)]
+pub struct Ending {
+    pub stop: Stop,
+    pub events: Events,
+    /// How many cycles are done.
+    pub cycles: u64,
+    /// The terminal has failed.
+    pub mute: bool,
+    /// The report has failed.
+    pub deaf: bool,
 }
 
 /// The status of a stop.

@@ -6,7 +6,7 @@ ghost use Rattle.thy_cli.specs.Going.{IsPlanned};
 ghost use Rattle.thy_cli.specs.Turning.{first_progress, stopped_for, turned_of, IsFitted, Running, RunEnds, IsTurned};
 
 use crate::advance::{Advance, Outcome, take_cycle};
-use crate::answer::Stop;
+use crate::answer::{Ending, Stop};
 use crate::plan::Plan;
 use crate::progress::Progress;
 use crate::tell::{Failures, tell};
@@ -14,19 +14,6 @@ use std::alloc::Global;
 use thy_base::{Mix, Nvm, Sink};
 use thy_core::Machine;
 use thy_text::Events;
-
-/// How a run ended.
-#[derive(Debug, Drop)]
-pub struct Ending {
-    pub stop: Stop,
-    pub events: Events,
-    /// How many cycles are done.
-    pub cycles: u64,
-    /// The terminal has failed.
-    pub mute: bool,
-    /// The report has failed.
-    pub deaf: bool,
-}
 
 /// What a turn of the loop comes to.
 #[derive(Clone, Copy, Debug, PartialEq, Eq)]

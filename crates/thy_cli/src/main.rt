@@ -4,6 +4,7 @@
 
 mod advance;
 mod answer;
+mod close;
 mod cycles;
 mod gather;
 mod note;

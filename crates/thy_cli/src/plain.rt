@@ -3,17 +3,16 @@ ghost use Rattle.std.specs.Prelude.{◌≡◌, None};
 ghost use Rattle.thy_base.specs.Bytes.{bytes_of};
 ghost use Rattle.thy_base.specs.Config.{fault_of as range_fault};
 ghost use Rattle.thy_text.specs.Lines.{ended_lines};
-ghost use Rattle.thy_cli.specs.Answering.{PlainAnswered, plain_stop};
+ghost use Rattle.thy_cli.specs.Answering.{PlainAnswered, named, plain_stop};
 ghost use Rattle.thy_cli.specs.Sending.{Sent};
 
-use crate::answer::{Answer, Stop};
-use crate::cycles::Ending;
+use crate::answer::{Answer, Ending, Stop};
+use crate::close::answer;
 use crate::refusal::{Refusal, refuse};
-use crate::source::fetch_program;
+use crate::source::{Task, fetch_program};
 use crate::tell::write_bytes;
-use crate::top::answered;
 use std::alloc::Global;
-use thy_base::{Config, Shelf, Sink};
+use thy_base::{Shelf, Sink};
 use thy_isa::{MachState, Status};
 use thy_plain::Plain;
 use thy_text::{Events, write_ended};
@@ -48,18 +47,16 @@ fn plain_stop(mute: bool, deaf: bool, status: Status) -> Stop
 /// how it has ended to the report; `cycles` is the number of its steps, and there are no events.
 pub fn plain_file<H: Shelf, T: Sink, R: Sink>(
     alloc: Global,
-    file: &str,
-    config: Config,
-    digest: bool,
+    task: &Task,
     shelf: &mut H,
     terminal: &mut T,
     report: &mut R,
 ) -> Answer
-    requires { range_fault config ≡ None }
+    requires { range_fault task.now.config ≡ None }
     ensures held { (H.stock shelf.new).held ≡ (H.stock shelf.old).held }
-    ensures answer { PlainAnswered (record { file = file.now; config = config; digest = digest }) (H.stock shelf.old) (H.stock shelf.new) (T.stream terminal.old) (T.stream terminal.new) (R.stream report.old) (R.stream report.new) result }
+    ensures answer { PlainAnswered (named task.now) (H.stock shelf.old) (H.stock shelf.new) (T.stream terminal.old) (T.stream terminal.new) (R.stream report.old) (R.stream report.new) result }
 {
-    let program = match fetch_program(alloc, file, &config, shelf) {
+    let program = match fetch_program(alloc, task, shelf) {
         Ok(program) => program,
         Err(refusal) => return refuse(alloc, refusal, report),
     };
@@ -69,7 +66,7 @@ pub fn plain_file<H: Shelf, T: Sink, R: Sink>(
             let cycles = machine.run(limit);
             let state = machine.state();
             let mute = write_bytes(state.console.as_slice(), terminal);
-            let deaf = write_end(state, digest, report);
+            let deaf = write_end(state, task.digest, report);
             let ending = Ending {
                 stop: plain_stop(mute, deaf, state.status),
                 events: Events::new(alloc),
@@ -77,7 +74,7 @@ pub fn plain_file<H: Shelf, T: Sink, R: Sink>(
                 mute,
                 deaf,
             };
-            answered(ending, limit, report)
+            answer(ending, limit, report)
         }
         Err(error) => refuse(alloc, Refusal::Memory(error), report),
     }

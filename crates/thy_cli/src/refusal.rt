@@ -2,13 +2,13 @@
 ghost use Rattle.std.specs.Prelude.{◌≡◌, [], OnOk, OnErr};
 ghost use Rattle.thy_text.specs.Closings.{closing_of};
 ghost use Rattle.thy_cli.specs.Answering.{refused_status, refused_line, file_line, Closes, IsRefused};
-ghost use Rattle.thy_cli.specs.Sending.{Sent};
 
 use crate::answer::Answer;
+use crate::close::close;
 use std::alloc::{AllocError, Global};
 use thy_base::{FetchError, FitError, Sink};
 use thy_elf::ElfError;
-use thy_text::{Closing, Events, FetchFault, write_closing};
+use thy_text::{Closing, Events, FetchFault};
 use thy_words::WordsError;
 
 /// Why a call begins no run.
@@ -88,16 +88,6 @@ fn device_closing(error: FitError) -> Closing<'static>
     match error {
         FitError::Failed => Closing::Nvm,
         FitError::Memory(_) => Closing::Memory,
-    }
-}
-
-/// Writes a closing line, and answers whether the report failed.
-pub fn close<R: Sink>(closing: Closing, report: &mut R) -> bool
-    ensures { Sent result (R.stream report.old) (R.stream report.new) (closing_of closing.entry) }
-{
-    match write_closing(closing, report) {
-        Ok(()) => false,
-        Err(_) => true,
     }
 }
 

@@ -1,8 +1,8 @@
 //! From a name on the shelf to the program that stands there.
-ghost use Rattle.std.specs.Prelude.{◌≡◌, Bool, None, IfOk, IfErr, OnOk};
+ghost use Rattle.std.specs.Prelude.{◌≡◌, None, IfOk, IfErr, OnOk};
 ghost use Rattle.thy_base.specs.Config.{fault_of as range_fault};
 ghost use Rattle.thy_base.specs.Device.{Device as DeviceValue};
-ghost use Rattle.thy_cli.specs.Answering.{TaskDue, IsProgramOf};
+ghost use Rattle.thy_cli.specs.Answering.{TaskDue, IsProgramOf, named};
 
 use crate::refusal::Refusal;
 use std::alloc::Global;
@@ -12,6 +12,16 @@ use thy_words::WordsError;
 
 /// The most bytes that a program file may have.
 const MOST_BYTES: u64 = 67_108_864;
+
+/// What is to be done with a program file.
+#[derive(Debug, Drop)]
+pub struct Task<'a> {
+    /// The file's name on the shelf.
+    pub file: &'a str,
+    pub config: Config,
+    /// Whether the line of the program's end is followed by a digest of its memory.
+    pub digest: bool,
+}
 
 /// A program as its file means it, in the numbers of its configuration.
 #[derive(Debug, Drop)]
@@ -23,23 +33,22 @@ pub struct Program {
 /// Fetches a program file and reads it; or says why there is no program.
 pub fn fetch_program<'a, H: Shelf>(
     alloc: Global,
-    file: &'a str,
-    config: &Config,
+    task: &Task<'a>,
     shelf: &mut H,
 ) -> Result<Program, Refusal<'a>>
-    requires { range_fault config.now ≡ None }
-    ensures refusal { IfErr result (λ r. (digest : Bool) (n : DeviceValue) → TaskDue (record { file = file.entry.now; config = config.now; digest = digest }) (H.stock shelf.old) (H.stock shelf.new) n n r) }
+    requires { range_fault task.now.config ≡ None }
+    ensures refusal { IfErr result (λ r. (n : DeviceValue) → TaskDue (named task.now) (H.stock shelf.old) (H.stock shelf.new) n n r) }
     ensures held { (H.stock shelf.new).held ≡ (H.stock shelf.old).held }
     ensures calm { OnOk result ((H.stock shelf.new).faults ≡ (H.stock shelf.old).faults) }
-    ensures program { IfOk result (λ p. (digest : Bool) → IsProgramOf (record { file = file.entry.now; config = config.now; digest = digest }) (H.stock shelf.old) p) }
+    ensures program { IfOk result (λ p. IsProgramOf (named task.now) (H.stock shelf.old) p) }
 {
-    let geometry = match Geometry::new(config) {
+    let geometry = match Geometry::new(&task.config) {
         Ok(geometry) => geometry,
         Err(error) => return Err(Refusal::Words(WordsError::Value(error.field, error.value))),
     };
-    let bytes = match shelf.fetch(alloc, file, MOST_BYTES) {
+    let bytes = match shelf.fetch(alloc, task.file, MOST_BYTES) {
         Ok(bytes) => bytes,
-        Err(error) => return Err(Refusal::Fetch(file, error)),
+        Err(error) => return Err(Refusal::Fetch(task.file, error)),
     };
     let base = geometry.numbers().base;
     match read(alloc, &bytes, base, geometry.program_size()) {

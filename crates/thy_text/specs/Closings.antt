@@ -6,7 +6,7 @@ use Rattle.thy_base.specs.declared.config.Field.TheVariants.{Base, Pages, Consol
 use Rattle.thy_text.specs.declared.closing.FetchFault.{FetchFault}
 use Rattle.thy_text.specs.declared.closing.FetchFault.TheVariants.{Failed, Missing, TooLong}
 use Rattle.thy_text.specs.declared.closing.Closing.{Closing}
-use Rattle.thy_text.specs.declared.closing.Closing.TheVariants.{Silent, Usage, Word, Value, Fetch, File, FileAt, Terminal, Nvm, Limit, Memory}
+use Rattle.thy_text.specs.declared.closing.Closing.TheVariants.{Usage, Word, Value, Fetch, File, FileAt, Terminal, Nvm, Limit, Memory}
 use Rattle.thy_text.specs.Lines.{joined, line_feed}
 
 -- a field's name, as the options have it
@@ -37,7 +37,6 @@ fault_text TooLong = codes " too long"
 
 -- the closing line, in parts
 abbrev pub closing_parts : Closing → List (List ℕ)
-closing_parts Silent = []
 closing_parts Usage = codes "usage" ∷ line_feed ∷ []
 closing_parts (Word field) = codes "word " ∷ field_name field ∷ line_feed ∷ []
 closing_parts (Value field value) = codes "value " ∷ field_name field ∷ codes " " ∷ decimal value ∷ line_feed ∷ []

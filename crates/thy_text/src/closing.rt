@@ -21,8 +21,6 @@ pub enum FetchFault {
 /// How a run's report closes.
 #[derive(Clone, Copy, Debug, PartialEq, Eq)]
 pub enum Closing<'a> {
-    /// No line: the last event says how the program ended, or the report failed.
-    Silent,
     /// The words are no command line.
     Usage,
     /// The value of an option can't be read.
@@ -78,7 +76,6 @@ pub fn write_closing<R: Sink>(closing: Closing, report: &mut R) -> Result<(), Si
 {
     let end = Piece::Text("\n");
     match closing {
-        Closing::Silent => Ok(()),
         Closing::Usage => write_pieces(&[Piece::Text("usage"), end], report),
         Closing::Word(field) => write_pieces(
             &[Piece::Text("word "), Piece::Text(field_text(field)), end],

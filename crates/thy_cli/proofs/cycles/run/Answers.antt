@@ -1,5 +1,5 @@
 use Rattle.std.proofs.Common.{sym, ap, subst, arith}
-use Rattle.thy_cli.specs.declared.cycles.Ending.{Ending}
+use Rattle.thy_cli.specs.declared.answer.Ending.{Ending}
 use Rattle.thy_cli.specs.Turning.{RunEnds}
 use Rattle.thy_cli.proofs.StartLemmas.{Running-first, RunEnds-unpowered, RunEnds-limit}
 use Rattle.thy_cli.proofs.cycles.run.Goals as goal
