@@ -9,10 +9,10 @@ use Rattle.thy_isa.specs.Step.{state_of}
 use Rattle.thy_plain.specs.Machine.{Machine, loaded, after_steps, StopsAt}
 use Rattle.thy_text.specs.Lines.{ended_lines}
 use Rattle.thy_cli.specs.declared.answer.Answer.{Answer}
-use Rattle.thy_cli.specs.declared.answer.Stop.{Stop}
+use Rattle.thy_run.specs.declared.ending.Stop.{Stop}
 use Rattle.thy_cli.specs.declared.source.Program.{Program}
 use Rattle.thy_cli.specs.Answering.{Task, IsProgramOf, IsPlainOf, ClosesRun, plain_start, plain_stop, stop_status}
-use Rattle.thy_cli.specs.Sending.{Sent}
+use Rattle.thy_run.specs.Sending.{Sent}
 
 -- a program's run on the plain machine is that of its task
 pub IsPlainOf-ran : (task : Task) (old new : Stock) (p : Program) (first last : Machine) (s : MachState) (limit k : ℕ) (mute deaf : Bool) (stop : Stop) (a : Answer) (t0 t r0 told r : Stream) → IsProgramOf task old p → new.faults ≡ old.faults

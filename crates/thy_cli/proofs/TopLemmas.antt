@@ -29,16 +29,16 @@ use Rattle.thy_run.specs.Unfinished.{Finished}
 use Rattle.thy_run.specs.World.{Given, World, Ran}
 use Rattle.thy_run.proofs.PromiseLaws.{Promise-finished}
 use Rattle.thy_text.specs.Happening.{Happening}
-use Rattle.thy_cli.specs.declared.answer.Stop.{Stop}
-use Rattle.thy_cli.specs.declared.answer.Stop.TheVariants.{Ended, Nvm, Memory, Terminal, Report, Limit}
+use Rattle.thy_run.specs.declared.ending.Stop.{Stop}
+use Rattle.thy_run.specs.declared.ending.Stop.TheVariants.{Ended, Nvm, Memory, Terminal, Report, Limit}
 use Rattle.thy_cli.specs.declared.answer.Answer.{Answer}
-use Rattle.thy_cli.specs.declared.answer.Ending.{Ending}
-use Rattle.thy_cli.specs.declared.plan.Plan.{Plan}
+use Rattle.thy_run.specs.declared.ending.Ending.{Ending}
+use Rattle.thy_run.specs.declared.plan.Plan.{Plan}
 use Rattle.thy_cli.specs.declared.refusal.Refusal.{Refusal}
 use Rattle.thy_cli.specs.declared.refusal.Refusal.TheVariants.{Words, Fetch, File, Device as DeviceRefusal, Memory as MemoryRefusal}
 use Rattle.thy_cli.specs.Answering.{Task, task_of, WordsDue, meaning_of, OrderDue, RefusalDue, IsPlanOf, IsRunOf, ClosesRun, PlainAnswered, TaskAnswered, Answered, stop_status}
-use Rattle.thy_cli.specs.Going.{origin_of, given_of}
-use Rattle.thy_cli.specs.Turning.{EndsBy, RunEnds}
+use Rattle.thy_run.specs.Going.{origin_of, given_of}
+use Rattle.thy_run.specs.Turning.{EndsBy, RunEnds}
 
 -- ---- configurations
 

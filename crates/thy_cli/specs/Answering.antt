@@ -27,17 +27,17 @@ use Rattle.thy_words.specs.declared.words.WordsError.TheVariants.{Usage, Word, V
 use Rattle.thy_words.specs.Settings.{Job, Order, run, plain, settings_of}
 use Rattle.thy_run.specs.Laws.{Promise}
 use Rattle.thy_cli.specs.declared.answer.Answer.{Answer}
-use Rattle.thy_cli.specs.declared.answer.Stop.{Stop}
-use Rattle.thy_cli.specs.declared.answer.Stop.TheVariants.{Ended, Nvm, Memory, Terminal, Report, Limit}
-use Rattle.thy_cli.specs.declared.answer.Ending.{Ending}
-use Rattle.thy_cli.specs.declared.plan.Plan.{Plan}
+use Rattle.thy_run.specs.declared.ending.Stop.{Stop}
+use Rattle.thy_run.specs.declared.ending.Stop.TheVariants.{Ended, Nvm, Memory, Terminal, Report, Limit}
+use Rattle.thy_run.specs.declared.ending.Ending.{Ending}
+use Rattle.thy_run.specs.declared.plan.Plan.{Plan}
 use Rattle.thy_cli.specs.declared.source.Program.{Program}
 use Rattle.thy_cli.specs.declared.source.Task.{Task as TaskValue}
 use Rattle.thy_cli.specs.declared.refusal.Refusal.{Refusal}
 use Rattle.thy_cli.specs.declared.refusal.Refusal.TheVariants.{Words, Fetch, File, Device as DeviceRefusal, Memory as MemoryRefusal}
-use Rattle.thy_cli.specs.Going.{origin_of, IsPlanned}
-use Rattle.thy_cli.specs.Sending.{Sent}
-use Rattle.thy_cli.specs.Turning.{IsFitted, RunEnds}
+use Rattle.thy_run.specs.Going.{origin_of, IsPlanned}
+use Rattle.thy_run.specs.Sending.{Sent}
+use Rattle.thy_run.specs.Turning.{IsFitted, RunEnds}
 
 -- ---- refusals, and what is reported of them
 

@@ -1,5 +1,1 @@
-pub mod Sending
-pub mod Going
-pub mod Stopping
-pub mod Turning
 pub mod Answering

@@ -1,10 +1,10 @@
-//! What a run answers, why it stopped, and how it ended.
+//! What the top call answers.
 
 ghost use Rattle.std.specs.Prelude.{◌≡◌};
 ghost use Rattle.thy_cli.specs.Answering.{stop_status};
 
-use thy_core::CoreError;
 use thy_isa::Status;
+use thy_run::Stop;
 use thy_text::Events;
 
 /// The answer of the top call.
@@ -17,50 +17,6 @@ pub struct Answer {
     pub events: Events,
     /// How many cycles are done.
     pub cycles: u64,
-}
-
-/// Why the cycles of a run stopped.
-#[derive(Clone, Copy, Debug, PartialEq, Eq)]
-pub enum Stop {
-    /// The program has ended, and its last checkpoint is committed.
-    Ended(Status),
-    /// The device failed.
-    Nvm,
-    /// There was not enough memory.
-    Memory,
-    /// The terminal failed.
-    Terminal,
-    /// The report failed.
-    Report,
-    /// As many cycles as the limit allows are done.
-    Limit,
-}
-
-impl From<CoreError> for Stop {
-    ghost use Rattle.thy_cli.specs.Stopping.{stop_of};
-    ghost use Rattle.std.specs.Prelude.{◌≡◌};
-
-    ghost from_gives = { λ e stop. stop ≡ stop_of e };
-
-    fn from(error: CoreError) -> Stop {
-        match error {
-            CoreError::Nvm => Stop::Nvm,
-            CoreError::Memory(_) => Stop::Memory,
-        }
-    }
-}
-
-/// How a run ended.
-#[derive(Debug, Drop)]
-pub struct Ending {
-    pub stop: Stop,
-    pub events: Events,
-    /// How many cycles are done.
-    pub cycles: u64,
-    /// The terminal has failed.
-    pub mute: bool,
-    /// The report has failed.
-    pub deaf: bool,
 }
 
 /// The status of a stop.

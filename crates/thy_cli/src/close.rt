@@ -2,10 +2,11 @@
 ghost use Rattle.std.specs.Prelude.{◌≡◌, false};
 ghost use Rattle.thy_text.specs.Closings.{closing_of};
 ghost use Rattle.thy_cli.specs.Answering.{ClosesRun, stop_status};
-ghost use Rattle.thy_cli.specs.Sending.{Sent};
+ghost use Rattle.thy_run.specs.Sending.{Sent};
 
-use crate::answer::{Answer, Ending, Stop, status_of};
+use crate::answer::{Answer, status_of};
 use thy_base::Sink;
+use thy_run::{Ending, Stop};
 use thy_text::{Closing, write_closing};
 
 /// Writes a closing line, and answers whether the report failed.

@@ -2,18 +2,11 @@
 //! reports what happens.
 #![tactic(auto)]
 
-mod advance;
 mod answer;
 mod close;
-mod cycles;
-mod gather;
-mod note;
 mod plain;
-mod plan;
-mod progress;
 mod refusal;
 mod source;
-mod tell;
 #[cfg(test)]
 mod tests;
 mod top;

@@ -4,17 +4,17 @@ ghost use Rattle.thy_base.specs.Bytes.{bytes_of};
 ghost use Rattle.thy_base.specs.Config.{fault_of as range_fault};
 ghost use Rattle.thy_text.specs.Lines.{ended_lines};
 ghost use Rattle.thy_cli.specs.Answering.{PlainAnswered, named, plain_stop};
-ghost use Rattle.thy_cli.specs.Sending.{Sent};
+ghost use Rattle.thy_run.specs.Sending.{Sent};
 
-use crate::answer::{Answer, Ending, Stop};
+use crate::answer::Answer;
 use crate::close::answer;
 use crate::refusal::{Refusal, refuse};
 use crate::source::{Task, fetch_program};
-use crate::tell::write_bytes;
 use std::alloc::Global;
 use thy_base::{Shelf, Sink};
 use thy_isa::{MachState, Status};
 use thy_plain::Plain;
+use thy_run::{Ending, Stop, write_bytes};
 use thy_text::{Events, write_ended};
 
 /// Writes how the program has ended, if it has, and answers whether the report failed.

@@ -7,15 +7,14 @@ ghost use Rattle.thy_base.specs.Device.{Device as DeviceValue};
 
 use crate::answer::Answer;
 use crate::close::answer;
-use crate::cycles::run;
 use crate::plain::plain_file;
-use crate::plan::Plan;
 use crate::refusal::{Refusal, refuse};
 use crate::source::{Task, fetch_program};
 use std::alloc::Global;
 use thy_base::{Bytes, Nvm, Shape, Shelf, Sink};
 use thy_model::Start;
 use thy_plain::start_of;
+use thy_run::{Plan, run};
 use thy_words::{Command, settings};
 
 /// What a run of a file is to do; or why there is none.

@@ -8,3 +8,9 @@ pub mod ImageLaws
 pub mod WorldLaws
 pub mod PromiseLaws
 pub mod ConsoleLaws
+pub mod GatherLemmas
+pub mod NoteLemmas
+pub mod TellLemmas
+pub mod AdvanceLemmas
+pub mod TurnLemmas
+pub mod StartLemmas

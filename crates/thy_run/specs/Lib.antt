@@ -4,3 +4,7 @@ pub mod Images
 pub mod Unfinished
 pub mod Due
 pub mod Laws
+pub mod Sending
+pub mod Going
+pub mod Stopping
+pub mod Turning

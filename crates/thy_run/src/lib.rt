@@ -1,7 +1,19 @@
-//! What a run is: cycles, power cuts between them, and events; and what follows from that for every
-//! run, whatever its cuts left of the queued writes.
+//! What a run is: cycles, power cuts between them, and events; what follows from that for every run,
+//! whatever its cuts left of the queued writes; and the loop that makes a run.
 #![tactic(auto)]
 
+mod advance;
+mod cycles;
+mod ending;
+mod gather;
 mod laws;
+mod note;
+mod plan;
+mod progress;
+mod tell;
 
+pub use cycles::run;
+pub use ending::{Ending, Stop};
 pub use laws::every_run_keeps_its_promise;
+pub use plan::Plan;
+pub use tell::write_bytes;

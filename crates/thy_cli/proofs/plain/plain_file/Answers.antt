@@ -1,7 +1,7 @@
 use Rattle.std.proofs.Common.{◌∙◌, ap, subst, refl, inl, inr}
 use Rattle.thy_base.specs.declared.config.Parameters.{Parameters}
 use Rattle.thy_cli.specs.declared.refusal.Refusal.TheVariants.{Memory}
-use Rattle.thy_cli.specs.Sending.{Sent}
+use Rattle.thy_run.specs.Sending.{Sent}
 use Rattle.thy_cli.proofs.PlainLemmas.{IsPlainOf-ran}
 use Rattle.thy_cli.proofs.plain.plain_file.Goals as goal
 

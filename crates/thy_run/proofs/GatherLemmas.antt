@@ -1,0 +1,89 @@
+-- What a step lets be read.
+use Rattle.std.proofs.Common.{◌≡◌, ℕ, Bool, true, false, ◌&&◌, not, if◌then◌else◌, Option, Some, List, [], length, drop, refl, sym, ◌∙◌, ap, subst}
+use Rattle.std.proofs.lemmas.Bool.{and_parts}
+use Rattle.thy_base.specs.declared.mark.Mark.{Mark}
+use Rattle.thy_isa.specs.declared.state.MachState.{MachState}
+use Rattle.thy_text.specs.Happening.{Happening}
+use Rattle.thy_text.specs.Released.{console_of}
+use Rattle.thy_model.specs.declared.did.Did.{Did}
+use Rattle.thy_model.specs.declared.did.Did.TheVariants.{Boot, Loaded, Restarted, Refused, Moved, Retired, Flushed, Merged, Sealed, Promoted, Engine, Committed, NvmDrained, DramDrained, Nothing}
+use Rattle.thy_model.specs.declared.view.Phase.{Phase}
+use Rattle.thy_model.specs.declared.view.Phase.TheVariants.{Boot as BootPhase, Run, Halt}
+use Rattle.thy_model.specs.declared.view.View.{View}
+use Rattle.thy_model.specs.Calls.{is_boot, is_halt, halts}
+use Rattle.thy_model.specs.CoreStep.{mark, CoreStep}
+use Rattle.thy_model.specs.Origin.{Origin, at, runs_at}
+use Rattle.thy_core.specs.Machine.{IsSnapshot}
+use Rattle.thy_run.specs.Due.{shows_console, due_of}
+use Rattle.thy_run.specs.Laws.{console_at, released_of}
+use Rattle.thy_run.specs.Going.{Restores}
+
+booted_if : (b : Bool) → is_boot (if b then Run else Halt) ≡ false
+booted_if true = refl
+booted_if false = refl
+
+-- a restored epoch is behind the boot, and its state that at its count
+pub restores_some : (o : Origin) (v next : View) (did : Did) (epoch count : ℕ) (state : MachState) → did ≡ Restarted epoch count → CoreStep o v did next
+    → (is_boot next.phase ≡ false → IsSnapshot o next state) → Restores o did (Some state)
+restores_some o v next did epoch count state is step shot =
+    let s = subst (λ d. CoreStep o v d next) is step in
+    let booted : is_boot next.phase ≡ false = ap (λ w. is_boot w.phase) s.4 ∙ booted_if (runs_at o count) in
+    subst (λ d. Restores o d (Some state)) (sym is) ((shot booted).state ∙ ap (λ w. at o w.count) s.4)
+
+-- what shows a console is behind the boot, with a committed mark
+pub record Shows (next : View) : Type 0 where
+  pub mark : Mark
+  pub done : next.done ≡ Some mark
+  pub booted : is_boot next.phase ≡ false
+
+never : {A : Type 0} → false ≡ true → A
+never e = absurd (cc)
+
+pub Shows-step : (o : Origin) (v next : View) (did : Did) → CoreStep o v did next → shows_console did ≡ true → Shows next
+Shows-step o v next Loaded s e = record { mark = mark 0 o.start.count; done = ap (λ w. w.done) s.4 ∙ s.3; booted = ap (λ w. is_boot w.phase) s.4 }
+Shows-step o v next (Restarted epoch count) s e =
+    record { mark = mark epoch count; done = ap (λ w. w.done) s.4 ∙ s.1; booted = ap (λ w. is_boot w.phase) s.4 ∙ booted_if (runs_at o count) }
+Shows-step o v next (Committed epoch overlapped) s e =
+    record { mark = mark epoch s.3.0; done = ap (λ w. w.done) s.3.2 ∙ s.3.1; booted = ap (λ w. is_boot w.phase) s.3.2 ∙ booted_if (runs_at o s.3.0) }
+Shows-step o v next Boot s e = never e
+Shows-step o v next (Refused bad) s e = never e
+Shows-step o v next Moved s e = never e
+Shows-step o v next Retired s e = never e
+Shows-step o v next Flushed s e = never e
+Shows-step o v next Merged s e = never e
+Shows-step o v next Promoted s e = never e
+Shows-step o v next (Sealed epoch count cause) s e = never e
+Shows-step o v next (Engine step) s e = never e
+Shows-step o v next NvmDrained s e = never e
+Shows-step o v next DramDrained s e = never e
+Shows-step o v next Nothing s e = never e
+
+-- the console of the committed mark, behind the bytes that were released, is what is due
+pub due_shown : (o : Origin) (v next : View) (did : Did) (events : List Happening) (from : ℕ) (bytes : List ℕ) → CoreStep o v did next → shows_console did ≡ true
+    → from ≡ length (released_of o events) → ((m : Mark) → is_boot next.phase ≡ false → next.done ≡ Some m → bytes ≡ drop from (at o m.count).console)
+    → bytes ≡ due_of o events did next
+due_shown o v next did events from bytes step shown released console =
+    let s = Shows-step o v next did step shown in
+    console s.mark s.booted s.done ∙ ap (λ n. drop n (console_at o s.mark.count)) released
+    ∙ sym (ap (λ (d : Option Mark). drop (length (released_of o events)) (console_of (console_at o) d)) s.done)
+    ∙ sym (ap (λ b. if b then drop (length (released_of o events)) (console_of (console_at o) next.done) else []) shown)
+
+pub due_hidden : (o : Origin) (next : View) (did : Did) (events : List Happening) (bytes : List ℕ) → shows_console did ≡ false → bytes ≡ [] → bytes ≡ due_of o events did next
+due_hidden o next did events bytes hidden none =
+    none ∙ sym (ap (λ b. if b then drop (length (released_of o events)) (console_of (console_at o) next.done) else []) hidden)
+
+halt_booted : (p : Phase) → is_halt p ≡ true → is_boot p ≡ false
+halt_booted Halt e = refl
+halt_booted BootPhase e = never e
+halt_booted Run e = never e
+
+-- a view that halts is behind the boot
+pub halts_booted : (v next : View) → halts v next ≡ true → is_boot next.phase ≡ false
+halts_booted v next e = halt_booted next.phase (and_parts (not (is_halt v.phase)) (is_halt next.phase) e).1
+
+pub and_false : (b c : Bool) → b ≡ false → (b && c) ≡ false
+and_false b c e = ap (λ x. x && c) e
+
+-- the first step after a cut has read
+pub reload_is : (fresh read loads result : Bool) → (fresh ≡ true → read ≡ true) → result ≡ (read && loads) → fresh ≡ true → result ≡ (fresh && loads)
+reload_is fresh read loads result h is yes_fresh = is ∙ ap (λ x. x && loads) (h yes_fresh ∙ sym yes_fresh)

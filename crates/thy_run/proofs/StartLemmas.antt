@@ -1,0 +1,105 @@
+-- A run before its first cycle, and one at its limit.
+use Rattle.std.proofs.Common.{◌≡◌, ℕ, ◌+◌, false, Some, List, [], refl, sym, ◌∙◌, ap, subst, inl, append-nil, arith}
+use Rattle.thy_base.specs.Device.{Device}
+use Rattle.thy_base.specs.Outside.{Stream, Took}
+use Rattle.thy_text.specs.Happening.{Happening}
+use Rattle.thy_text.specs.Lines.{report_of}
+use Rattle.thy_model.specs.declared.view.View.{View}
+use Rattle.thy_model.specs.Boot.{loading_view}
+use Rattle.thy_model.specs.Calls.{Core, IsAt, is_halt}
+use Rattle.thy_model.specs.Moments.{IsPoweredOn}
+use Rattle.thy_model.specs.Origin.{Origin}
+use Rattle.thy_model.specs.Safe.{Safe}
+use Rattle.thy_model.specs.Sound.{doubt_of, view_of}
+use Rattle.thy_model.proofs.CallLaws.{IsPoweredOn-some, IsAt-fresh, Safe-at}
+use Rattle.thy_run.specs.Cuts.{has_ended}
+use Rattle.thy_run.specs.Laws.{released_of}
+use Rattle.thy_run.specs.World.{IsFirst}
+use Rattle.thy_run.specs.declared.ending.Stop.TheVariants.{Memory, Limit}
+use Rattle.thy_run.specs.declared.plan.Plan.{Plan}
+use Rattle.thy_run.specs.declared.progress.Progress.{Progress}
+use Rattle.thy_run.specs.Going.{origin_of, given_of, world_at, IsPlanned}
+use Rattle.thy_run.specs.Sending.{Sends}
+use Rattle.thy_run.specs.Turning.{IsFitted, Running, RunEnds, first_progress}
+use Rattle.thy_run.proofs.AdvanceLemmas.{good_of}
+
+-- a sink that took nothing
+Took-none : (s : Stream) → Took s s []
+Took-none s = record { taken = λ had e. e ∙ ap Some (sym (append-nil had)); calm = refl }
+
+sends_none : (text : List ℕ) (s : Stream) → text ≡ [] → Sends [] text false s s
+sends_none text s none = record { more = []; grew = none; sent = Took-none s }
+
+-- power comes on for the first time
+first_of : (plan : Plan) (m : Core) (n : Device) → IsPlanned plan → IsPoweredOn plan.geometry m → IsFitted plan n
+    → IsFirst (origin_of plan) (given_of plan n) (world_at (first_progress plan m) n 0)
+first_of plan m n planned powered f =
+    let o : Origin = origin_of plan in
+    let law = IsAt-fresh o m f.shape f.before planned.origin powered f.blocks in
+    let at_first : IsAt o 0 m n = subst (IsAt o 0 m) (sym f.is_fitted) law.0 in
+    let view : view_of o m n ≡ loading_view o.start.count = ap (view_of o m) f.is_fitted ∙ law.1 in
+    let S : View → Type 0 = λ v. Safe o v.done (doubt_of v) n in
+    record {
+      device = refl;
+      powered = powered;
+      at_moment = at_first;
+      loading = view;
+      safe = subst S view (Safe-at o 0 m n at_first);
+      left = ap (λ (d : Device). d.left) f.is_fitted;
+      mix = refl;
+      passed = refl;
+      cycles = refl;
+      fresh = refl;
+      events = refl;
+    }
+
+-- the loop before its first turn
+pub Running-first : (plan : Plan) (p : Progress) (m : Core) (n : Device) (t r : Stream) → IsPlanned plan → IsPoweredOn plan.geometry m → IsFitted plan n
+    → p ≡ first_progress plan m → Running plan n p n 0 t t r r
+Running-first plan p m n t r planned powered f is =
+    let o : Origin = origin_of plan in
+    let first = first_of plan m n planned powered f in
+    let here : Running plan n (first_progress plan m) n 0 t t r r = record {
+      goes = record {
+        ran = first;
+        going = ap (λ v. is_halt v.phase) first.loading;
+        released = refl;
+        room = ap (λ (d : Device). d.left_room) f.is_fitted ∙ ap (λ c. c + 1) f.cuts;
+        calm = refl;
+        spoken = refl;
+        heard = refl;
+      };
+      shown_all = sends_none (released_of o []) t refl;
+      read_all = sends_none [] r refl;
+    } in
+    subst (λ (x : Progress). Running plan n x n 0 t t r r) (sym is) here
+
+-- no memory was found for a machine
+pub RunEnds-unpowered : (plan : Plan) (events : List Happening) (n : Device) (t r : Stream) → IsPlanned plan → IsFitted plan n → events ≡ []
+    → RunEnds plan n n (record { stop = Memory; events = events; cycles = 0; mute = false; deaf = false }) t t r r
+RunEnds-unpowered plan events n t r planned f none = record {
+  last = world_at (first_progress plan (IsPoweredOn-some plan.geometry).0) n 0;
+  ran = first_of plan (IsPoweredOn-some plan.geometry).0 n planned (IsPoweredOn-some plan.geometry).1 f;
+  ends = inl (none, refl);
+  few = omega arith;
+  shown_all = record { some = []; rest = []; grew = ap (released_of (origin_of plan)) none; took = Took-none t };
+  read_all = sends_none (report_of plan.digest events) r (ap (report_of plan.digest) none);
+  stop_fits = tt;
+}
+
+-- as many cycles as the limit allows are done
+pub RunEnds-limit : (plan : Plan) (fit : Device) (p : Progress) (n : Device) (k limit : ℕ) (t0 t r0 r : Stream) → IsPlanned plan → Running plan fit p n k t0 t r0 r → k ≡ limit
+    → limit ≡ plan.geometry.limit → RunEnds plan fit n (record { stop = Limit; events = p.events; cycles = limit; mute = p.mute; deaf = p.deaf }) t0 t r0 r
+RunEnds-limit plan fit p n k limit t0 t r0 r planned running same limit_is =
+    let o : Origin = origin_of plan in
+    let going : has_ended p.events ≡ false = (good_of plan fit p n k planned running.goes).stands.ended ∙ running.goes.going in
+    let here : RunEnds plan fit n (record { stop = Limit; events = p.events; cycles = k; mute = p.mute; deaf = p.deaf }) t0 t r0 r = record {
+      last = world_at p n k;
+      ran = running.goes.ran;
+      ends = (refl, refl);
+      few = omega (arith, same, limit_is);
+      shown_all = subst (λ b. Sends [] (released_of o p.events) b t0 t) (sym running.goes.spoken) running.shown_all;
+      read_all = subst (λ b. Sends [] (report_of plan.digest p.events) b r0 r) (sym running.goes.heard) running.read_all;
+      stop_fits = (same ∙ limit_is, going, running.goes.spoken, running.goes.heard, running.goes.calm);
+    } in
+    subst (λ c. RunEnds plan fit n (record { stop = Limit; events = p.events; cycles = c; mute = p.mute; deaf = p.deaf }) t0 t r0 r) same here

@@ -1,0 +1,47 @@
+-- The lines of events, one after another.
+use Rattle.std.proofs.Common.{◌≡◌, ℕ, ◌+◌, ◌<◌, Bool, true, false, List, [], ◌∷◌, ◌++◌, take, drop, length, sym, ◌∙◌, ap, append_assoc, Some}
+use Rattle.std.specs.Prelude.{slice_get}
+use Rattle.std.specs.Prelude.{Result, Ok, Err, OnErr}
+use Rattle.std.proofs.lemmas.List.{take_more, take-append-drop}
+use Rattle.std.proofs.lemmas.Option.{get_or_from_slice_get, slice_get_within}
+use Rattle.thy_base.specs.Outside.{Stream, Took, TookPart}
+use Rattle.thy_base.proofs.Streams.{Took-append, TookPart-append, TookPart-more}
+use Rattle.thy_text.specs.Happening.{Happening, Reload}
+use Rattle.thy_text.specs.Lines.{line_of, report_of}
+use Rattle.thy_text.proofs.Histories.{report_of-append, report_of-more}
+use Rattle.thy_run.specs.Sending.{Sends}
+
+-- the first lines and one more
+one_more : (digest : Bool) (events : List Happening) (i : ℕ) (v : Happening) → i < length events → slice_get events i ≡ Some v
+    → report_of digest (take (i + 1) events) ≡ report_of digest (take i events) ++ line_of digest v
+one_more digest events i v within is =
+    ap (report_of digest) (take_more events i Reload within ∙ ap (λ (x : Happening). take i events ++ x ∷ []) (get_or_from_slice_get events i v Reload is))
+    ∙ report_of-more digest (take i events) v
+
+pub lines_more : (digest : Bool) (events : List Happening) (i : ℕ) (v : Happening) (before : List ℕ) (a b c : Stream) → slice_get events i ≡ Some v
+    → Sends before (report_of digest (take i events)) false a b → Took b c (line_of digest v) → Sends before (report_of digest (take (i + 1) events)) false a c
+lines_more digest events i v before a b c is so_far took = let within = slice_get_within events i v is in record {
+  more = so_far.more ++ line_of digest v;
+  grew = one_more digest events i v within is ∙ ap (λ (l : List ℕ). l ++ line_of digest v) so_far.grew ∙ append_assoc before so_far.more (line_of digest v);
+  sent = Took-append a b c so_far.more (line_of digest v) so_far.sent took;
+}
+
+-- the report failed at a line: it was to take all the rest too
+pub lines_failed : (digest : Bool) (events : List Happening) (i : ℕ) (v : Happening) (before : List ℕ) (a b c : Stream) → slice_get events i ≡ Some v
+    → Sends before (report_of digest (take i events)) false a b → TookPart b c (line_of digest v) → Sends before (report_of digest events) true a c
+lines_failed digest events i v before a b c is so_far took =
+    let within = slice_get_within events i v is in
+    let rest : List ℕ = report_of digest (drop (i + 1) events) in
+    let whole : report_of digest events ≡ report_of digest (take (i + 1) events) ++ rest =
+    ap (report_of digest) (sym (take-append-drop (i + 1) events)) ∙ report_of-append digest (take (i + 1) events) (drop (i + 1) events) in
+    record {
+      more = so_far.more ++ line_of digest v ++ rest;
+      grew = whole ∙ ap (λ (l : List ℕ). l ++ rest) (one_more digest events i v within is ∙ ap (λ (l : List ℕ). l ++ line_of digest v) so_far.grew)
+          ∙ ap (λ (l : List ℕ). l ++ rest) (append_assoc before so_far.more (line_of digest v)) ∙ append_assoc before (so_far.more ++ line_of digest v) rest;
+      sent = TookPart-more a c (so_far.more ++ line_of digest v) rest (TookPart-append a b c so_far.more (line_of digest v) so_far.sent took);
+    }
+
+-- what holds anyway holds of an error
+pub OnErr-any : {T E : Type 0} (r : Result T E) (P : Type 0) → P → OnErr r P
+OnErr-any (Ok x) P h = tt
+OnErr-any (Err e) P h = h

@@ -1,0 +1,29 @@
+use Rattle.std.proofs.Common.{sym, subst, take, ℕ}
+use Rattle.thy_base.specs.Bytes.{bytes_of}
+use Rattle.thy_text.specs.Lines.{report_of}
+use Rattle.thy_run.specs.declared.cycles.Turned.{Turned}
+use Rattle.thy_run.specs.Sending.{Sent, Sends}
+use Rattle.thy_run.specs.Turning.{IsTurned}
+use Rattle.thy_run.proofs.TurnLemmas.{IsTurned-told}
+use Rattle.thy_run.proofs.cycles.turn.Goals as goal
+
+pub returns : goal.returns
+returns g c = λ fitted t r running.
+    let plan = c.args.plan.now in
+    let p = c.args.progress.now in
+    let q = c.take_cycle-bytes.new.progress in
+    let n = g.N.Nvm.device c.args.nvm.now in
+    let m = g.N.Nvm.device c.take_cycle-bytes.new.nvm in
+    let t1 = g.T.Sink.stream c.args.terminal.now in
+    let t2 = g.T.Sink.stream c.tell-failures.new.terminal in
+    let r1 = g.R.Sink.stream c.args.report.now in
+    let r2 = g.R.Sink.stream c.tell-failures.new.report in
+    let mute = c.tell-failures.result.terminal in
+    let deaf = c.tell-failures.result.report in
+    let P : Turned → Type 0 = λ x. IsTurned plan fitted (record q { mute = mute; deaf = deaf }) m c.args.done t t2 r r2 x in
+    let L : ℕ → Type 0 = λ k. Sends (report_of plan.digest (take k q.events)) (report_of plan.digest q.events) deaf r1 r2 in
+    subst P (sym c.come_to.ensures)
+    (IsTurned-told plan fitted p q n m c.args.done (bytes_of c.take_cycle-bytes.result.bytes) c.take_cycle-bytes.result.outcome mute deaf t t1 t2 r r1 r2 running c.requires.few
+    (subst (Sent mute t1 t2) c.as_slice.ensures c.tell-failures.ensures.terminal)
+    (subst L c.len-first.ensures c.tell-failures.ensures.report)
+    (c.take_cycle-bytes.ensures fitted running.goes))

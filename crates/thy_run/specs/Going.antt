@@ -1,0 +1,196 @@
+-- The program's loop as a run.
+use Rattle.std.specs.Prelude.{◌≡◌, ◌⊎◌, ℕ, ◌+◌, true, false, ◌&&◌, List, [], ◌∷◌, ◌++◌, length, Option, Some, None}
+use Rattle.thy_base.specs.Bytes.{bytes_of}
+use Rattle.thy_base.specs.Config.{first_not_rising}
+use Rattle.thy_base.specs.Device.{Device, IsFramed, IsCut, RoseFaults}
+use Rattle.thy_base.specs.Mix.{mix_pick, mix_next}
+use Rattle.thy_isa.specs.declared.state.MachState.{MachState}
+use Rattle.thy_isa.specs.declared.state.Status.{Status}
+use Rattle.thy_isa.specs.Step.{state_of}
+use Rattle.thy_text.specs.Happening.{Happening, EpochEnd, Commit, Cut, Restart, Reload, Ended as EndedEvent}
+use Rattle.thy_model.specs.declared.did.Did.{Did}
+use Rattle.thy_model.specs.declared.did.Did.TheVariants.{Restarted}
+use Rattle.thy_model.specs.declared.did.Stepped.{Stepped}
+use Rattle.thy_model.specs.declared.view.View.{View}
+use Rattle.thy_model.specs.Calls.{IsAt, IsStep, has_read, loads, halts, is_halt}
+use Rattle.thy_model.specs.CoreStep.{CoreStep}
+use Rattle.thy_model.specs.Origin.{Origin, at}
+use Rattle.thy_model.specs.Moments.{IsPoweredOn}
+use Rattle.thy_model.specs.Safe.{Safe}
+use Rattle.thy_model.specs.Sound.{IsOrigin, view_of}
+use Rattle.thy_core.specs.Machine.{IsSnapshot}
+use Rattle.thy_run.specs.Cuts.{has_ended}
+use Rattle.thy_run.specs.Due.{due_of}
+use Rattle.thy_run.specs.Laws.{released_of}
+use Rattle.thy_run.specs.Unfinished.{StepFailed, TellingFailed}
+use Rattle.thy_run.specs.World.{World, Given, seen, Steps, Ran, Cycle}
+use Rattle.thy_run.specs.declared.ending.Stop.{Stop}
+use Rattle.thy_run.specs.declared.ending.Stop.TheVariants.{Ended, Nvm, Memory, Terminal, Report, Limit}
+use Rattle.thy_run.specs.declared.advance.Outcome.{Outcome}
+use Rattle.thy_run.specs.declared.advance.Outcome.TheVariants.{Goes, Ends, Fails}
+use Rattle.thy_run.specs.declared.gather.Readings.{Readings}
+use Rattle.thy_run.specs.declared.plan.Plan.{Plan}
+use Rattle.thy_run.specs.declared.progress.Progress.{Progress}
+
+-- what the run is about
+abbrev pub origin_of : Plan → Origin
+origin_of plan = record { geometry = plan.geometry; start = state_of plan.start.state; input = bytes_of plan.start.input }
+
+-- what it is given besides, over a device that was fitted
+abbrev pub given_of : Plan → Device → Given
+given_of plan fitted = record { cuts = plan.config.cuts; seed = plan.config.mix; fitted = fitted }
+
+-- its start is one of a run, and the listed cuts rise
+pub record IsPlanned (plan : Plan) : Type 0 where
+  pub origin : IsOrigin (origin_of plan)
+  pub rising : first_not_rising 0 plan.config.cuts ≡ None
+
+-- the run between two cycles, of which so many are done, with its device
+abbrev pub world_at : Progress → Device → ℕ → World
+world_at p n cycles = record {
+  machine = p.machine;
+  device = n;
+  mix = p.mix;
+  passed = p.passed;
+  cycles = cycles;
+  fresh = p.fresh;
+  events = p.events;
+}
+
+-- the run goes on: so many cycles were done since the device was fitted
+pub record GoesOn (plan : Plan) (fitted : Device) (p : Progress) (n : Device) (cycles : ℕ) : Type 0 where
+  pub ran : Ran (origin_of plan) (given_of plan fitted) cycles (world_at p n cycles)
+  pub going : is_halt (seen (origin_of plan) (world_at p n cycles)).phase ≡ false
+  pub released : p.released ≡ length (released_of (origin_of plan) p.events)
+  pub room : n.left_room ≡ length plan.config.cuts + 1
+  pub calm : n.faults ≡ fitted.faults
+  pub spoken : p.mute ≡ false
+  pub heard : p.deaf ≡ false
+
+-- ---- a step, and what is read for its events
+
+-- the machine took the schedule's next step
+pub record IsStepped (plan : Plan) (p next : Progress) (n new : Device) (cycles : ℕ) (r : Stepped) : Type 0 where
+  pub is_step : IsStep (origin_of plan) cycles (mix_pick p.mix) p.machine next.machine n new r
+  pub framed : IsFramed n new
+  pub calm : new.faults ≡ n.faults
+  pub same : next ≡ record p { machine = next.machine; mix = mix_next p.mix }
+
+-- what reading for a step's events stands on
+pub record CanGather (o : Origin) (cycles : ℕ) (v : View) (p : Progress) (n : Device) (r : Stepped) : Type 0 where
+  pub at_next : IsAt o cycles p.machine n
+  pub step : CoreStep o v r.did (view_of o p.machine n)
+  pub ended : r.ended ≡ halts v (view_of o p.machine n)
+  pub read : p.fresh ≡ true → has_read p.machine ≡ true
+  pub released : p.released ≡ length (released_of o p.events)
+
+-- the state for a restart's event
+abbrev pub Restores : Origin → Did → Option MachState → Type 0
+Restores o (Restarted epoch count) (Some state) = state_of state ≡ at o count
+Restores o (Restarted epoch count) None = ⊥
+Restores o did state = Unit {0}
+
+-- the state for the event of the end
+abbrev pub IsEnding : Origin → View → View → Option MachState → Type 0
+IsEnding o v next None = halts v next ≡ false
+IsEnding o v next (Some state) = (halts v next ≡ true) × IsSnapshot o next state
+
+-- what was read for a step's events, and of the console
+pub record IsGathered (o : Origin) (v next : View) (p : Progress) (did : Did) (r : Readings) : Type 0 where
+  pub reload : r.reload ≡ (p.fresh && loads next)
+  pub restored : Restores o did r.restored
+  pub bytes : bytes_of r.bytes ≡ due_of o p.events did next
+  pub ended : IsEnding o v next r.ended
+
+-- the status with which the program ended in this step, if it did
+abbrev pub IsEnd : Origin → View → View → Option Status → Type 0
+IsEnd o v next None = halts v next ≡ false
+IsEnd o v next (Some status) = (halts v next ≡ true) × (status ≡ (at o next.count).status)
+
+-- some first events of a step were made, and memory was short for the rest
+pub record MadeSome (made : List Happening) (all : List Happening) (before : List Happening) : Type 0 where
+  pub part : List Happening
+  pub rest : List Happening
+  pub told : made ≡ before ++ part
+  pub split : all ≡ part ++ rest
+  pub unended : has_ended part ≡ false
+
+-- ---- a cycle
+
+-- the machine's step failed with a fault of the device
+pub record IsStuck (plan : Plan) (p next : Progress) (n new : Device) : Type 0 where
+  pub safe : Safe (origin_of plan) (view_of (origin_of plan) p.machine n).done (view_of (origin_of plan) p.machine n).sealed new
+  pub framed : IsFramed n new
+  pub rose : RoseFaults n.faults new.faults
+  pub same : next ≡ record p { machine = next.machine; mix = mix_next p.mix }
+
+-- the step and all its events were made, and these bytes are due to the terminal
+pub record IsNoted (plan : Plan) (p next : Progress) (n new : Device) (cycles : ℕ) (ended : Option Status) (bytes : List ℕ) : Type 0 where
+  pub steps : Steps (origin_of plan) (world_at p n cycles) (world_at next new (cycles + 1))
+  pub is_end : IsEnd (origin_of plan) (seen (origin_of plan) (world_at p n cycles)) (seen (origin_of plan) (world_at next new (cycles + 1))) ended
+  pub released : next.released ≡ length (released_of (origin_of plan) next.events)
+  pub releases : released_of (origin_of plan) next.events ≡ released_of (origin_of plan) p.events ++ bytes
+  pub calm : new.faults ≡ n.faults
+  pub spoken : next.mute ≡ p.mute
+  pub heard : next.deaf ≡ p.deaf
+
+-- a cycle is done
+pub record IsDone (plan : Plan) (p next : Progress) (n new : Device) (cycles : ℕ) (bytes : List ℕ) : Type 0 where
+  pub cycle : Cycle (origin_of plan) plan.config.cuts (world_at p n cycles) (world_at next new (cycles + 1))
+  pub released : next.released ≡ length (released_of (origin_of plan) next.events)
+  pub releases : released_of (origin_of plan) next.events ≡ released_of (origin_of plan) p.events ++ bytes
+  pub told : (more : List Happening) × (next.events ≡ p.events ++ more)
+  pub room : new.left_room ≡ n.left_room
+  pub calm : new.faults ≡ n.faults
+  pub spoken : next.mute ≡ p.mute
+  pub heard : next.deaf ≡ p.deaf
+
+-- a cycle was begun and is not done; where memory was not short, the bytes are all that is due
+pub record IsBroken (plan : Plan) (p next : Progress) (n new : Device) (cycles : ℕ) (bytes : List ℕ) : Type 0 where
+  pub unfinished : StepFailed (origin_of plan) (world_at p n cycles) next.events new ⊎ TellingFailed (origin_of plan) (world_at p n cycles) next.events new
+  pub rest : List ℕ
+  pub releases : released_of (origin_of plan) next.events ≡ released_of (origin_of plan) p.events ++ bytes ++ rest
+  pub told : (more : List Happening) × (next.events ≡ p.events ++ more)
+  pub spoken : next.mute ≡ p.mute
+  pub heard : next.deaf ≡ p.deaf
+
+-- a device's fault broke it: its count rose
+pub record IsFault (p next : Progress) (n new : Device) (bytes : List ℕ) : Type 0 where
+  pub events : next.events ≡ p.events
+  pub none : bytes ≡ []
+  pub rose : RoseFaults n.faults new.faults
+
+-- why a cycle is not done: a device's fault or want of memory
+abbrev pub Breaks : Progress → Progress → Device → Device → List ℕ → Stop → Type 0
+Breaks p next n new bytes Nvm = IsFault p next n new bytes
+Breaks p next n new bytes Memory = Unit {0}
+Breaks p next n new bytes (Ended status) = ⊥
+Breaks p next n new bytes Terminal = ⊥
+Breaks p next n new bytes Report = ⊥
+Breaks p next n new bytes Limit = ⊥
+
+-- the status of the end among events
+abbrev pub end_of : List Happening → Option Status
+end_of [] = None
+end_of (EndedEvent status count cycle state ∷ vs) = Some status
+end_of (EpochEnd epoch count cause ∷ vs) = end_of vs
+end_of (Commit epoch cycle overlapped ∷ vs) = end_of vs
+end_of (Cut index cycle ∷ vs) = end_of vs
+end_of (Restart epoch count state ∷ vs) = end_of vs
+end_of (Reload ∷ vs) = end_of vs
+
+-- what a cycle came to
+abbrev pub ComesTo : Plan → Progress → Progress → Device → Device → ℕ → List ℕ → Outcome → Type 0
+ComesTo plan p next n new cycles bytes Goes =
+    IsDone plan p next n new cycles bytes × (is_halt (seen (origin_of plan) (world_at next new (cycles + 1))).phase ≡ false)
+ComesTo plan p next n new cycles bytes (Ends status) =
+    IsDone plan p next n new cycles bytes
+    × (is_halt (seen (origin_of plan) (world_at next new (cycles + 1))).phase ≡ true)
+    × (end_of next.events ≡ Some status)
+ComesTo plan p next n new cycles bytes (Fails stop) = IsBroken plan p next n new cycles bytes × Breaks p next n new bytes stop
+
+-- power was cut, with a new machine
+pub record IsCutOffTo (plan : Plan) (p next : Progress) (n new : Device) (cycle : ℕ) : Type 0 where
+  pub cut : IsCut n new
+  pub powered : IsPoweredOn plan.geometry next.machine
+  pub same : next ≡ record p { machine = next.machine; passed = p.passed + 1; fresh = true; events = p.events ++ Cut (p.passed + 1) cycle ∷ [] }

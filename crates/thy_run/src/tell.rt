@@ -1,0 +1,60 @@
+//! Telling what happened: bytes to the terminal, lines to the report.
+ghost use Rattle.std.specs.Prelude.{◌≡◌, ◌≤◌, length, take, [], ◌++◌};
+ghost use Rattle.thy_text.specs.Lines.{report_of};
+ghost use Rattle.thy_run.specs.Sending.{Sends, Sent};
+
+use thy_base::Sink;
+use thy_text::{Events, write_event};
+
+/// Writes the lines of the events from `first` on, and answers whether the report failed.
+fn write_lines<R: Sink>(events: &Events, first: usize, digest: bool, report: &mut R) -> bool
+    requires { first ≤ length events.now }
+    ensures { Sends (report_of digest (take first events.now)) (report_of digest events.now) result (R.stream report.old) (R.stream report.new) }
+{
+    for i in first..events.len() {
+        match write_event(events.get(i), digest, report) {
+            Ok(()) => {}
+            Err(_) => return true,
+        }
+    }
+    false
+}
+
+/// Writes what the terminal is due, if anything, and answers whether it failed.
+pub fn write_bytes<T: Sink>(bytes: &[u8], terminal: &mut T) -> bool
+    ensures { Sent result (T.stream terminal.old) (T.stream terminal.new) bytes.now }
+{
+    if bytes.is_empty() {
+        return false;
+    }
+    match terminal.write(bytes) {
+        Ok(()) => false,
+        Err(_) => true,
+    }
+}
+
+/// Which of the two sinks failed.
+#[derive(Clone, Copy, Debug, PartialEq, Eq)]
+pub struct Failures {
+    pub terminal: bool,
+    pub report: bool,
+}
+
+/// Tells a cycle: the terminal's bytes first, and then the lines of the events from `first` on. Where
+/// one of the two fails, the other still gets all that it is due.
+pub fn tell<T: Sink, R: Sink>(
+    bytes: &[u8],
+    events: &Events,
+    first: usize,
+    digest: bool,
+    terminal: &mut T,
+    report: &mut R,
+) -> Failures
+    requires { first ≤ length events.now }
+    ensures terminal { Sent result.terminal (T.stream terminal.old) (T.stream terminal.new) bytes.now }
+    ensures report { Sends (report_of digest (take first events.now)) (report_of digest events.now) result.report (R.stream report.old) (R.stream report.new) }
+{
+    let terminal = write_bytes(bytes, terminal);
+    let report = write_lines(events, first, digest, report);
+    Failures { terminal, report }
+}
