@@ -1,24 +1,34 @@
 -- The program's command line, as data: what `clap` is told of it.
 use Rattle.std.specs.Prelude.{◌≡◌, ◌++◌, Some, true, false, List, [], ◌∷◌, codes, fold, map}
-use Rattle.clap.specs.Walk.{Text}
+use Rattle.clap.specs.Walk.{Rule, Text, rule_of}
 use Rattle.clap.specs.Simple.{App, app_of, new_app, new_rule, new_shape, with_rule}
 use Rattle.clap.specs.Simple.{with_subcommand}
 use Rattle.clap.specs.declared.builder.action.ArgAction.TheVariants.{SetTrue}
+use Rattle.clap.specs.declared.builder.arg.Arg.{Arg}
 use Rattle.clap.specs.declared.builder.command.Command.{Command}
 use Rattle.clap.specs.declared.builder.command.Command.TheViews.{out-Command}
 use Rattle.thy_words.specs.Fields.{fields, plain_fields, name_of}
 
 -- a name that has to stand in its place
-abbrev pub with_operand : App → Text → App
-with_operand a name = with_rule a (record (new_rule name) { required = true })
+abbrev pub operand_rule : Text → Rule
+operand_rule name = record (new_rule name) { required = true }
 
 -- an option `--name value` or `--name=value`, which stands at most once
-abbrev pub with_option : App → Text → App
-with_option a name = with_rule a (record (new_rule name) { long = Some name })
+abbrev pub option_rule : Text → Rule
+option_rule name = record (new_rule name) { long = Some name }
 
 -- a flag `--name`, which stands at most once and takes no value
+abbrev pub flag_rule : Text → Rule
+flag_rule name = record (new_rule name) { long = Some name; action = Some SetTrue }
+
+abbrev pub with_operand : App → Text → App
+with_operand a name = with_rule a (operand_rule name)
+
+abbrev pub with_option : App → Text → App
+with_option a name = with_rule a (option_rule name)
+
 abbrev pub with_flag : App → Text → App
-with_flag a name = with_rule a (record (new_rule name) { long = Some name; action = Some SetTrue })
+with_flag a name = with_rule a (flag_rule name)
 
 -- a command: its name, its operands in their order, its options and its flags
 pub record Form : Type 0 where
@@ -55,15 +65,24 @@ abbrev pub plain_command : App
 plain_command = app_of_form plain_form
 
 -- the program: one of its commands has to be named, and no word asks for help
-abbrev pub program : App
-program = with_subcommand (with_subcommand (record {
+abbrev pub bare : App
+bare = record {
   top = record (new_shape (codes "thynvm")) {
     subcommand_required = true;
     disable_help_flag = true;
     disable_help_subcommand = true;
   };
   subs = [];
-}) run_command.top) plain_command.top
+}
+
+-- with its commands
+abbrev pub program : App
+program = with_subcommand (with_subcommand bare run_command.top) plain_command.top
+
+-- the argument has this rule, and is its command's alone
+pub record IsArg (a : Arg) (r : Rule) : Type 0 where
+  pub rule : rule_of a ≡ r
+  pub local : a.global ≡ false
 
 -- the command is this one, with no argument that its subcommands share
 pub record IsBuilt (c : Command) (a : App) : Type 0 where

@@ -1,7 +1,7 @@
 //! The program's command line as `clap` is told of it.
 ghost use Rattle.std.specs.Prelude.{◌≡◌, IfOk, fold, map};
 ghost use Rattle.clap.specs.Simple.{app_of};
-ghost use Rattle.thy_words.specs.Program.{IsBuilt, program, run_command, plain_command, with_operand, with_option, with_flag};
+ghost use Rattle.thy_words.specs.Program.{IsArg, IsBuilt, bare, program, run_command, plain_command, operand_rule, option_rule, flag_rule, with_operand, with_option, with_flag};
 
 use clap::{Arg, ArgAction, Command};
 use std::alloc::{AllocError, Global};
@@ -21,6 +21,27 @@ static RUN_OPTIONS: [&str; 17] = [
 /// The options of `plain`, each of which takes a value.
 static PLAIN_OPTIONS: [&str; 5] = ["base", "pages", "console", "limit", "input"];
 
+/// A name that has to stand in its place.
+fn operand<'a>(alloc: Global, name: &'a str) -> Arg<'a>
+    ensures { IsArg result (operand_rule name.entry.now) }
+{
+    Arg::new(alloc, name).required(true)
+}
+
+/// An option `--name value` or `--name=value`.
+fn option<'a>(alloc: Global, name: &'a str) -> Arg<'a>
+    ensures { IsArg result (option_rule name.entry.now) }
+{
+    Arg::new(alloc, name).long(name)
+}
+
+/// A flag `--name`.
+fn flag<'a>(alloc: Global, name: &'a str) -> Arg<'a>
+    ensures { IsArg result (flag_rule name.entry.now) }
+{
+    Arg::new(alloc, name).long(name).action(ArgAction::SetTrue)
+}
+
 fn with_operands<'a>(
     alloc: Global,
     command: Command<'a>,
@@ -32,7 +53,7 @@ fn with_operands<'a>(
 {
     let mut wider = command;
     for name in names {
-        wider = wider.arg(Arg::new(alloc, *name).required(true))?;
+        wider = wider.arg(operand(alloc, name))?;
     }
     Ok(wider)
 }
@@ -48,7 +69,7 @@ fn with_options<'a>(
 {
     let mut wider = command;
     for name in names {
-        wider = wider.arg(Arg::new(alloc, *name).long(*name))?;
+        wider = wider.arg(option(alloc, name))?;
     }
     Ok(wider)
 }
@@ -64,11 +85,7 @@ fn with_flags<'a>(
 {
     let mut wider = command;
     for name in names {
-        wider = wider.arg(
-            Arg::new(alloc, *name)
-                .long(*name)
-                .action(ArgAction::SetTrue),
-        )?;
+        wider = wider.arg(flag(alloc, name))?;
     }
     Ok(wider)
 }
@@ -91,14 +108,21 @@ fn plain<'a>(alloc: Global) -> Result<Command<'a>, AllocError>
     with_flags(alloc, command, FLAGS.as_slice())
 }
 
-/// The program, with its commands. It answers no call for help or for a version.
-pub(crate) fn thynvm<'a>(alloc: Global) -> Result<Command<'a>, AllocError>
-    ensures { IfOk result (λ c. app_of c ≡ program) }
+/// The program without its commands. It answers no call for help or for a version.
+fn bare<'a>(alloc: Global) -> Command<'a>
+    ensures { app_of result ≡ bare }
 {
     Command::new(alloc, "thynvm")
         .subcommand_required(true)
         .disable_help_flag(true)
         .disable_help_subcommand(true)
+}
+
+/// The program, with its commands.
+pub(crate) fn thynvm<'a>(alloc: Global) -> Result<Command<'a>, AllocError>
+    ensures { IfOk result (λ c. app_of c ≡ program) }
+{
+    bare(alloc)
         .subcommand(run(alloc)?)?
         .subcommand(plain(alloc)?)
 }
