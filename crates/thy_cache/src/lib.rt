@@ -8,6 +8,3 @@ mod ways;
 
 pub use cache::Cache;
 pub use line::{Flushed, Line, Victim};
-
-#[cfg(test)]
-mod tests;

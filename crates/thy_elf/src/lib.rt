@@ -11,6 +11,3 @@ mod program_header;
 
 pub use error::ElfError;
 pub use image::{Image, read};
-
-#[cfg(test)]
-mod tests;

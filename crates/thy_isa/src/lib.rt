@@ -11,10 +11,6 @@ mod memory;
 mod perform;
 mod regs;
 mod state;
-#[cfg(test)]
-mod vector_rows;
-#[cfg(test)]
-mod vectors;
 
 pub use arith::alu;
 pub use decoding::{decode, is_legal};

@@ -7,33 +7,3 @@ mod pick;
 mod queue;
 
 pub use memory::MemNvm;
-
-#[cfg(test)]
-mod tests {
-    use super::*;
-    use std::test::Fail;
-    use thy_base::{Block, Nvm, Shape};
-
-    // The first draws of the seed 7 are 1059165278 and 2052263231: modulo the three blocks of place
-    // 0 the newest write, and modulo the two of place 2 the only one.
-    #[test]
-    fn a_pick_leaves_its_image(rt: HostRuntime) -> Result<(), Fail> {
-        let shape = Shape {
-            blocks: 3,
-            queue: 4,
-            cuts: 0,
-        };
-        let mut nvm = MemNvm::new(rt.alloc());
-        nvm.fit(rt.alloc(), &shape, &[Block([1; 64])])?;
-        nvm.write(2, &Block([5; 64]))?;
-        nvm.write(0, &Block([2; 64]))?;
-        nvm.write(0, &Block([3; 64]))?;
-        assert_eq!(rt; nvm.queued(), 3);
-        assert_eq!(rt; nvm.read(0)?, Block([3; 64]));
-        nvm.cut(7);
-        assert_eq!(rt; nvm.kept(0, 0), Block([3; 64]));
-        assert_eq!(rt; nvm.kept(0, 1), Block::ZERO);
-        assert_eq!(rt; nvm.kept(0, 2), Block([5; 64]));
-        Ok(())
-    }
-}

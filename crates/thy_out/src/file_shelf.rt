@@ -1,5 +1,6 @@
 //! A shelf over the files of the system.
-ghost use Rattle.std.specs.Prelude.{◌≡◌, ◌≤◌, length, Some, IfOk, IfSome};
+ghost use Rattle.std.specs.Prelude.{◌≡◌, ◌≢◌, ◌≤◌, length, Some, Err, IfOk, OnOk, IfSome};
+ghost use Rattle.std.specs.Io.KnownBytes.{IsAtEnd};
 ghost use Rattle.thy_base.specs.Outside.{Fetched, FetchCounts, PutCounts};
 ghost use Rattle.thy_out.specs.Untold.{untold, fetch_faults, put_faults};
 
@@ -29,10 +30,14 @@ impl<R: Files> FileShelf<R> {
 /// How many bytes one read asks for at most.
 const PIECE: u64 = 4096;
 
-/// Reads to the end, but no more than one byte past `limit`.
-fn read_within<F: Read>(file: &mut F, alloc: Global, limit: u64) -> Result<Vec<u8>, FetchError>
+/// The bytes that a reader has left, if they are at most `limit`, or `TooLong`. It reads to their end,
+/// but no more than one byte past `limit`, and again after a read that was interrupted. After another
+/// error it answers `Failed`. Where it gives no bytes, some may have been read.
+pub fn read_within<F: Read>(file: &mut F, alloc: Global, limit: u64) -> Result<Vec<u8>, FetchError>
     ensures within { IfOk result (λ bytes. length bytes.items ≤ limit) }
     ensures answer { IfSome (F.remaining file.old) (λ there. Fetched (Some there) limit result) }
+    ensures there { result ≢ Err FetchError.NotThere }
+    ensures end { OnOk result (IsAtEnd (F.remaining file.new)) }
 {
     let mut bytes = Vec::new(alloc);
     let mut piece = [0; PIECE as usize];
@@ -103,58 +108,5 @@ impl<R: Files> Shelf for FileShelf<R> {
                 Err(PutError::Failed)
             }
         }
-    }
-}
-
-#[cfg(test)]
-mod tests {
-    use super::*;
-    use std::io;
-    use std::io::Error;
-
-    /// Gives its bytes three a call, but for a call that a signal interrupts and one that fails.
-    #[derive(Drop)]
-    struct Slow {
-        bytes: &'static [u8],
-        calls: u64,
-        failing: u64,
-    }
-
-    impl Read for Slow {
-        fn read(&mut self, to: &mut [u8]) -> io::Result<usize> {
-            self.calls = self.calls.saturating_add(1);
-            if self.calls == 2 {
-                return Err(Error::from(ErrorKind::Interrupted));
-            }
-            if self.calls == self.failing {
-                return Err(Error::from(ErrorKind::StaleNetworkFileHandle));
-            }
-            let count = self.bytes.len().min(to.len()).min(3);
-            to[..count].copy_from_slice(&self.bytes[..count]);
-            self.bytes = &self.bytes[count..];
-            Ok(count)
-        }
-    }
-
-    fn reader(failing: u64) -> Slow {
-        Slow {
-            bytes: b"seven b",
-            calls: 0,
-            failing,
-        }
-    }
-
-    #[test]
-    fn a_slow_file_is_read_to_its_end(rt: HostRuntime) {
-        let bytes = read_within(&mut reader(0), rt.alloc(), 7);
-        assert!(rt; bytes.is_ok_and(|bytes| bytes.as_slice() == b"seven b".as_slice()));
-        let longer = read_within(&mut reader(0), rt.alloc(), 6);
-        assert!(rt; longer == Err(FetchError::TooLong));
-    }
-
-    #[test]
-    fn a_file_that_fails_gives_nothing(rt: HostRuntime) {
-        let bytes = read_within(&mut reader(4), rt.alloc(), 7);
-        assert!(rt; bytes == Err(FetchError::Failed));
     }
 }

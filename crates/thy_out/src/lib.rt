@@ -5,10 +5,8 @@ mod file_shelf;
 mod mem_shelf;
 mod mem_sink;
 mod std_sink;
-#[cfg(test)]
-mod tests;
 
-pub use file_shelf::FileShelf;
+pub use file_shelf::{FileShelf, read_within};
 pub use mem_shelf::MemShelf;
 pub use mem_sink::MemSink;
 pub use std_sink::StdSink;

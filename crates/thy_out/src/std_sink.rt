@@ -15,12 +15,21 @@ pub struct StdSink<W> {
     faults: u64,
 }
 
+impl<W: Write> StdSink<W> {
+    /// A sink over a stream, with no fault yet.
+    pub fn over(to: W) -> StdSink<W>
+        ensures { ⟦<StdSink<W> as Sink>⟧.stream result ≡ stream_with (W.contents to) 0 }
+    {
+        StdSink { to, faults: 0 }
+    }
+}
+
 impl StdSink<Stdout> {
     /// Standard output.
     pub fn output(to: Stdout) -> StdSink<Stdout>
         ensures { ⟦<StdSink<Stdout> as Sink>⟧.stream result ≡ record { taken = None; faults = 0 } }
     {
-        StdSink { to, faults: 0 }
+        StdSink::over(to)
     }
 }
 
@@ -29,7 +38,7 @@ impl StdSink<Stderr> {
     pub fn error(to: Stderr) -> StdSink<Stderr>
         ensures { ⟦<StdSink<Stderr> as Sink>⟧.stream result ≡ record { taken = None; faults = 0 } }
     {
-        StdSink { to, faults: 0 }
+        StdSink::over(to)
     }
 }
 
@@ -76,81 +85,5 @@ impl<W: Write> Sink for StdSink<W> {
                 Err(SinkError::Failed)
             }
         }
-    }
-}
-
-#[cfg(test)]
-mod tests {
-    use super::*;
-    use std::io;
-    use std::io::Error;
-
-    /// Takes two bytes a call, but for a call that a signal interrupts and one that fails.
-    #[derive(Drop)]
-    struct Slow {
-        taken: Vec<u8>,
-        calls: u64,
-        interrupted: u64,
-        failing: u64,
-        flushes: u64,
-        flush_fails: bool,
-    }
-
-    impl Write for Slow {
-        fn write(&mut self, bytes: &[u8]) -> io::Result<usize> {
-            self.calls = self.calls.saturating_add(1);
-            if self.calls == self.interrupted {
-                return Err(Error::from(ErrorKind::Interrupted));
-            }
-            if self.calls == self.failing {
-                return Err(Error::from(ErrorKind::StorageFull));
-            }
-            let count = bytes.len().min(2);
-            match self.taken.extend_from_slice(&bytes[..count]) {
-                Ok(()) => Ok(count),
-                Err(_) => Err(Error::from(ErrorKind::OutOfMemory)),
-            }
-        }
-
-        fn flush(&mut self) -> io::Result<()> {
-            self.flushes = self.flushes.saturating_add(1);
-            if self.flush_fails {
-                Err(Error::from(ErrorKind::BrokenPipe))
-            } else {
-                Ok(())
-            }
-        }
-    }
-
-    fn sink(rt: &HostRuntime, failing: u64, flush_fails: bool) -> StdSink<Slow> {
-        let to = Slow {
-            taken: Vec::new(rt.alloc()),
-            calls: 0,
-            interrupted: 2,
-            failing,
-            flushes: 0,
-            flush_fails,
-        };
-        StdSink { to, faults: 0 }
-    }
-
-    #[test]
-    fn a_slow_stream_takes_the_whole_piece(rt: HostRuntime) {
-        let mut slow = sink(&rt, 0, false);
-        assert!(rt; slow.write(b"seven b").is_ok());
-        assert_eq!(rt; slow.to.taken.as_slice(), b"seven b".as_slice());
-        assert_eq!(rt; slow.to.flushes, 1);
-        assert_eq!(rt; slow.faults, 0);
-    }
-
-    #[test]
-    fn a_stream_that_fails_is_told_of(rt: HostRuntime) {
-        let mut slow = sink(&rt, 4, false);
-        assert!(rt; slow.write(b"seven b").is_err());
-        assert_eq!(rt; slow.to.taken.as_slice(), b"seve".as_slice());
-        assert_eq!(rt; slow.faults, 1);
-        let mut unflushed = sink(&rt, 0, true);
-        assert!(rt; unflushed.write(b"seven b").is_err());
-        assert_eq!(rt; unflushed.faults, 1);
     }
 }

@@ -5,8 +5,6 @@
 mod advance;
 mod plain;
 mod start;
-#[cfg(test)]
-mod tests;
 mod world;
 
 pub use plain::Plain;

@@ -8,8 +8,6 @@ mod header;
 mod image;
 mod laws;
 mod memory;
-#[cfg(test)]
-mod tests;
 mod words;
 
 pub use commit::{COMMIT_MAGIC, commit_block, commit_fault, is_zero};

@@ -7,8 +7,6 @@ mod events;
 mod line;
 mod memory;
 mod piece;
-#[cfg(test)]
-mod tests;
 
 pub use closing::{Closing, FetchFault, field_text, write_closing};
 pub use event::Event;

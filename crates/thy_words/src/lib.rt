@@ -5,8 +5,6 @@
 mod fields;
 mod numbers;
 mod program;
-#[cfg(test)]
-mod tests;
 mod words;
 
 pub use fields::name_of;

@@ -1,12 +1,13 @@
+//! The cache's answers over two stores, worked out by hand.
 ghost use Rattle.std.specs.Prelude.{◌≡◌, ◌≤◌, ◌^◌, ◌<◌, true, length, OnOk, IfOk};
 ghost use Rattle.thy_cache.specs.Contents.{dirty_count};
 ghost use Rattle.thy_cache.specs.Flat.{Agrees, AgreesStill};
 
-use super::*;
 use std::alloc::{AllocError, Global};
 use std::process::Abort;
 use std::test::Fail;
 use thy_base::{Block, BlockStore, NvmError, Stored};
+use thy_cache::{Cache, Flushed, Victim};
 
 /// A list of blocks that makes some copies before it stores, or fails.
 #[derive(Drop)]

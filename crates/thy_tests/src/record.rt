@@ -1,12 +1,12 @@
 //! Blocks as the layout's bytes, and what each fault is refused for.
 ghost use Rattle.std.specs.Prelude.{◌≡◌, length};
 
-use super::{
+use thy_base::{Block, Geometry, Parameters};
+use thy_isa::{CpuState, Reg, Regs, Status};
+use thy_record::{
     BadImage, commit_block, commit_fault, cpu_block, cpu_state, header_block, header_fault,
     is_zero, load, record_fault, store, word,
 };
-use thy_base::{Block, Geometry, Parameters};
-use thy_isa::{CpuState, Reg, Regs, Status};
 
 /// Numbers of a machine with 256 pages, one of them the console's.
 fn geometry() -> Geometry {

@@ -1,7 +1,7 @@
 //! The command line, row by row.
-use crate::{Command, WordsError, name_of, settings};
 use std::alloc::{AllocError, Global};
 use thy_base::Config;
+use thy_words::{Command, WordsError, name_of, settings};
 
 /// Words with a bar between each two, the program's name first, and what they ask for.
 static ROWS: [(&str, &str); 74] = [

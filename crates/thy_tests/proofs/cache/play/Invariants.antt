@@ -1,6 +1,6 @@
 use Rattle.std.proofs.Common.{◌≡◌, length}
 use Rattle.thy_cache.specs.Flat.{Agrees}
-use Rattle.thy_cache.proofs.tests.play.Given as goal
+use Rattle.thy_tests.proofs.cache.play.Given as goal
 
 abbrev pub invariant-loop-asked : goal.invariant-loop-asked
 invariant-loop-asked g l = record {

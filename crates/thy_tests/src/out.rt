@@ -1,7 +1,8 @@
-use crate::{FileShelf, MemShelf, MemSink, StdSink};
+//! Shelves and sinks, in memory and over what the system has.
 use std::fs;
 use std::test::Fail;
 use thy_base::{FetchError, PutError, Shelf, Sink};
+use thy_out::{FileShelf, MemShelf, MemSink, StdSink};
 
 #[test]
 fn a_full_sink_takes_what_fits(rt: HostRuntime) -> Result<(), Fail> {

@@ -1,12 +1,13 @@
+//! The plain machine's steps on a few programs.
 ghost use Rattle.std.specs.Prelude.{◌≡◌, length, IfOk};
 ghost use Rattle.thy_base.specs.Bytes.{bytes_of};
 ghost use Rattle.thy_base.specs.Geometry.{program_size};
 
-use crate::{Plain, start_of};
 use std::test::Fail;
 use thy_base::{Bytes, Geometry, Parameters};
 use thy_elf::Image;
 use thy_isa::{Reg, Status};
+use thy_plain::{Plain, start_of};
 
 /// The smallest machine: seven pages of program memory from 65536 on, and one of console.
 fn smallest() -> Geometry

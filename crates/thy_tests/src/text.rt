@@ -1,7 +1,10 @@
-use crate::{Closing, Event, Events, FetchFault, digest, write_closing, write_ended, write_event};
+//! The lines of events and of closings, and the digest's.
 use std::test::Fail;
 use thy_base::{Bytes, EndCause, Field, Sink, SinkError};
 use thy_isa::{MachState, Regs, Status};
+use thy_text::{
+    Closing, Event, Events, FetchFault, digest, write_closing, write_ended, write_event,
+};
 
 /// Keeps what it is given, which is never an empty piece.
 #[derive(Drop)]

@@ -4,15 +4,11 @@
 //! riscv64-unknown-elf-as, and what is expected is what qemu-riscv64 did. Its head says what a row
 //! means. The reserved words are those beside the rows of the table that
 //! riscv64-unknown-elf-objdump knows no instruction of RV64IM with FENCE.I for.
-#![tactic(auto)]
 
-use crate::instr::Alu;
-use crate::memory::extended;
-use crate::perform::bytes_in;
-use crate::vector_rows::{ANSWERS, BREAKS, EXITS, VECTORS};
-use crate::{
-    Call, CallState, Cause, Effect, Reg, Regs, Width, alu, call, decode, number, put_number,
-    word_effect,
+use crate::isa_rows::{ANSWERS, BREAKS, EXITS, VECTORS};
+use thy_isa::{
+    Alu, Call, CallState, Cause, Effect, Reg, Regs, Width, alu, bytes_in, call, decode, extended,
+    number, put_number, word_effect,
 };
 
 const PC: u64 = 65536;

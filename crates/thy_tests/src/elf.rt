@@ -1,9 +1,9 @@
 //! Files made from a good one by a change each, and what each is refused for.
 ghost use Rattle.std.specs.Prelude.{◌<◌, ◌^◌};
 
-use super::{ElfError, read};
 use std::alloc::Global;
 use std::test::Fail;
+use thy_elf::{ElfError, read};
 
 /// Program memory of the default configuration.
 const BASE: u64 = 0x10000;

@@ -1,0 +1,29 @@
+//! Tests of the crates below the program, by their public calls.
+#![tactic(auto)]
+
+#[cfg(test)]
+mod cache;
+#[cfg(test)]
+mod dram;
+#[cfg(test)]
+mod elf;
+#[cfg(test)]
+mod isa;
+#[cfg(test)]
+mod isa_rows;
+#[cfg(test)]
+mod nvm;
+#[cfg(test)]
+mod out;
+#[cfg(test)]
+mod out_reader;
+#[cfg(test)]
+mod out_sink;
+#[cfg(test)]
+mod plain;
+#[cfg(test)]
+mod record;
+#[cfg(test)]
+mod text;
+#[cfg(test)]
+mod words;

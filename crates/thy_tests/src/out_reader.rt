@@ -1,0 +1,51 @@
+//! A reader that is slow, interrupted or failing, within a limit.
+use std::io;
+use std::io::{Error, ErrorKind, Read};
+use thy_base::FetchError;
+use thy_out::read_within;
+
+/// Gives its bytes three a call, but for a call that a signal interrupts and one that fails.
+#[derive(Drop)]
+struct Slow {
+    bytes: &'static [u8],
+    calls: u64,
+    failing: u64,
+}
+
+impl Read for Slow {
+    fn read(&mut self, to: &mut [u8]) -> io::Result<usize> {
+        self.calls = self.calls.saturating_add(1);
+        if self.calls == 2 {
+            return Err(Error::from(ErrorKind::Interrupted));
+        }
+        if self.calls == self.failing {
+            return Err(Error::from(ErrorKind::StaleNetworkFileHandle));
+        }
+        let count = self.bytes.len().min(to.len()).min(3);
+        to[..count].copy_from_slice(&self.bytes[..count]);
+        self.bytes = &self.bytes[count..];
+        Ok(count)
+    }
+}
+
+fn reader(failing: u64) -> Slow {
+    Slow {
+        bytes: b"seven b",
+        calls: 0,
+        failing,
+    }
+}
+
+#[test]
+fn a_slow_file_is_read_to_its_end(rt: HostRuntime) {
+    let bytes = read_within(&mut reader(0), rt.alloc(), 7);
+    assert!(rt; bytes.is_ok_and(|bytes| bytes.as_slice() == b"seven b".as_slice()));
+    let longer = read_within(&mut reader(0), rt.alloc(), 6);
+    assert!(rt; longer == Err(FetchError::TooLong));
+}
+
+#[test]
+fn a_file_that_fails_gives_nothing(rt: HostRuntime) {
+    let bytes = read_within(&mut reader(4), rt.alloc(), 7);
+    assert!(rt; bytes == Err(FetchError::Failed));
+}
