@@ -1,7 +1,7 @@
 #!/usr/bin/env python3
-"""Makes the tables of instruction vectors, crates/thy_isa/src/vector_rows.rt: prints that file.
+"""Makes the tables of instruction vectors, crates/thy_tests/src/isa_rows.rt: prints that file.
 
-    python3 docs/vectors/instructions.py > crates/thy_isa/src/vector_rows.rt   (then rt fmt in that crate)
+    python3 docs/vectors/instructions.py > crates/thy_tests/src/isa_rows.rt   (then rt fmt in that crate)
 
 Needs the Debian packages binutils-riscv64-unknown-elf and qemu-user. Each instruction is assembled by
 riscv64-unknown-elf-as; what is expected of it is what qemu-riscv64 does with it.
