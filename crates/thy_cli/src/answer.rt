@@ -8,7 +8,7 @@ use thy_run::Stop;
 use thy_text::Events;
 
 /// The answer of the top call.
-#[derive(Debug, Drop)]
+#[derive(Drop)]
 pub struct Answer {
     /// The exit status: 0 where the program exited, 1 where it trapped, 2 to 9 as `docs/FORMATS.md`
     /// lists them.

@@ -12,7 +12,7 @@ use thy_text::{Closing, Events, FetchFault};
 use thy_words::WordsError;
 
 /// Why a call begins no run.
-#[derive(Clone, Copy, Debug)]
+#[derive(Clone, Copy)]
 pub enum Refusal<'a> {
     /// Because of the words.
     Words(WordsError),

@@ -14,7 +14,7 @@ use thy_words::WordsError;
 const MOST_BYTES: u64 = 67_108_864;
 
 /// What is to be done with a program file.
-#[derive(Debug, Drop)]
+#[derive(Drop)]
 pub struct Task<'a> {
     /// The file's name on the shelf.
     pub file: &'a str,
@@ -24,7 +24,7 @@ pub struct Task<'a> {
 }
 
 /// A program as its file means it, in the numbers of its configuration.
-#[derive(Debug, Drop)]
+#[derive(Drop)]
 pub struct Program {
     pub geometry: Geometry,
     pub image: Image,

@@ -10,7 +10,7 @@ use thy_out::{MemShelf, MemSink};
 
 /// The ELF header and the one program header of a small program file: its words stand behind these, at
 /// the address 65536, where it starts. The numbers of bytes, in the file and in memory, are for three.
-const HEADERS: [u8; 120] = [
+static HEADERS: [u8; 120] = [
     0x7f, 0x45, 0x4c, 0x46, 0x02, 0x01, 0x01, 0x00, 0x00, 0x00, 0x00, 0x00, 0x00, 0x00, 0x00, 0x00,
     0x02, 0x00, 0xf3, 0x00, 0x01, 0x00, 0x00, 0x00, 0x00, 0x00, 0x01, 0x00, 0x00, 0x00, 0x00, 0x00,
     0x40, 0x00, 0x00, 0x00, 0x00, 0x00, 0x00, 0x00, 0x00, 0x00, 0x00, 0x00, 0x00, 0x00, 0x00, 0x00,
@@ -136,40 +136,43 @@ fn the_program_exits_after_1392_cycles(rt: HostRuntime) -> Result<(), Fail> {
     Ok(())
 }
 
+/// Words that begin no run, with the status and the report.
+static REFUSALS: [(&str, u8, &str); 24] = [
+    ("thynvm run", 2, "usage\n"),
+    ("thynvm run F --pages 7", 2, "value pages 7\n"),
+    ("thynvm run F --pages x", 2, "word pages\n"),
+    ("thynvm run F --cuts 5,5", 2, "value cuts 5\n"),
+    ("thynvm run F --high 10", 2, "value low 16\n"),
+    ("thynvm run H", 3, "fetch H missing\n"),
+    ("thynvm run G", 4, "file 1 TooShort\n"),
+    ("thynvm", 2, "usage\n"),
+    ("thynvm fly F", 2, "usage\n"),
+    ("thynvm run -F", 2, "usage\n"),
+    ("thynvm run F --pages", 2, "usage\n"),
+    ("thynvm run F --pages 8 --pages 8", 2, "usage\n"),
+    (
+        "thynvm run F --pages 00000000000000000008",
+        2,
+        "word pages\n",
+    ),
+    ("thynvm run F --pages +8", 2, "word pages\n"),
+    ("thynvm run F --pages ", 2, "word pages\n"),
+    ("thynvm run F --pages 7 --limit x", 2, "word limit\n"),
+    ("thynvm run F --limit 0 --pages 7", 2, "value pages 7\n"),
+    ("thynvm run F --limit 0", 2, "value limit 0\n"),
+    ("thynvm run F --tears 1,2", 2, "value tears 2\n"),
+    ("thynvm plain", 2, "usage\n"),
+    ("thynvm plain F --cuts 5", 2, "usage\n"),
+    ("thynvm plain F --pages 7", 2, "value pages 7\n"),
+    ("thynvm plain H", 3, "fetch H missing\n"),
+    ("thynvm plain G", 4, "file 1 TooShort\n"),
+];
+
 #[test]
 fn each_refusal_has_its_line(rt: HostRuntime) -> Result<(), Fail> {
     let alloc = rt.alloc();
-    for (line, status, report) in [
-        ("thynvm run", 2, "usage\n"),
-        ("thynvm run F --pages 7", 2, "value pages 7\n"),
-        ("thynvm run F --pages x", 2, "word pages\n"),
-        ("thynvm run F --cuts 5,5", 2, "value cuts 5\n"),
-        ("thynvm run F --high 10", 2, "value low 16\n"),
-        ("thynvm run H", 3, "fetch H missing\n"),
-        ("thynvm run G", 4, "file 1 TooShort\n"),
-        ("thynvm", 2, "usage\n"),
-        ("thynvm fly F", 2, "usage\n"),
-        ("thynvm run -F", 2, "usage\n"),
-        ("thynvm run F --pages", 2, "usage\n"),
-        ("thynvm run F --pages 8 --pages 8", 2, "usage\n"),
-        (
-            "thynvm run F --pages 00000000000000000008",
-            2,
-            "word pages\n",
-        ),
-        ("thynvm run F --pages +8", 2, "word pages\n"),
-        ("thynvm run F --pages ", 2, "word pages\n"),
-        ("thynvm run F --pages 7 --limit x", 2, "word limit\n"),
-        ("thynvm run F --limit 0 --pages 7", 2, "value pages 7\n"),
-        ("thynvm run F --limit 0", 2, "value limit 0\n"),
-        ("thynvm run F --tears 1,2", 2, "value tears 2\n"),
-        ("thynvm plain", 2, "usage\n"),
-        ("thynvm plain F --cuts 5", 2, "usage\n"),
-        ("thynvm plain F --pages 7", 2, "value pages 7\n"),
-        ("thynvm plain H", 3, "fetch H missing\n"),
-        ("thynvm plain G", 4, "file 1 TooShort\n"),
-    ] {
-        expect(&rt, alloc, line, status, report)?;
+    for (line, status, report) in &REFUSALS {
+        expect(&rt, alloc, line, *status, report)?;
     }
     Ok(())
 }
@@ -205,7 +208,7 @@ fn a_file_that_is_not_had_has_its_line(rt: HostRuntime) -> Result<(), Fail> {
 }
 
 /// The report of the program that exits with 7, in the pieces in which it is written.
-const PIECES: [&str; 22] = [
+static PIECES: [&str; 22] = [
     "commit ",
     "0",
     " overlapped ",
@@ -246,37 +249,43 @@ fn a_report_that_fails_has_taken_the_pieces_before(rt: HostRuntime) -> Result<()
     Ok(())
 }
 
+/// Runs that exit, with a report that has digests.
+static DIGESTS: [(&str, &str); 2] = [
+    (
+        "thynvm run F --pages 8 --btt 8 --ptt 8 --cuts 1391 --tears 1 --digest",
+        "commit 0 overlapped 0\nepoch 1 ends at 3 by end\ncut 1 at cycle 1391\nrestart 1 at 3\nmemory 6deb2f4354900ff2a9411931cbbb227b278920c0a05d7246af55f9487e46505f\nexit 7 at 3\nmemory 6deb2f4354900ff2a9411931cbbb227b278920c0a05d7246af55f9487e46505f\n",
+    ),
+    (
+        "thynvm plain F --pages 8 --digest",
+        "exit 7 at 3\nmemory 6deb2f4354900ff2a9411931cbbb227b278920c0a05d7246af55f9487e46505f\n",
+    ),
+];
+
 #[test]
 fn digests_are_those_of_another_program(rt: HostRuntime) -> Result<(), Fail> {
     let alloc = rt.alloc();
-    for (line, report) in [
-        (
-            "thynvm run F --pages 8 --btt 8 --ptt 8 --cuts 1391 --tears 1 --digest",
-            "commit 0 overlapped 0\nepoch 1 ends at 3 by end\ncut 1 at cycle 1391\nrestart 1 at 3\nmemory 6deb2f4354900ff2a9411931cbbb227b278920c0a05d7246af55f9487e46505f\nexit 7 at 3\nmemory 6deb2f4354900ff2a9411931cbbb227b278920c0a05d7246af55f9487e46505f\n",
-        ),
-        (
-            "thynvm plain F --pages 8 --digest",
-            "exit 7 at 3\nmemory 6deb2f4354900ff2a9411931cbbb227b278920c0a05d7246af55f9487e46505f\n",
-        ),
-    ] {
+    for (line, report) in &DIGESTS {
         expect(&rt, alloc, line, 0, report)?;
     }
     Ok(())
 }
 
+/// Runs on the plain machine, with status, steps and report.
+static PLAIN_RUNS: [(&str, u8, u64, &str); 5] = [
+    ("thynvm plain F", 0, 3, "exit 7 at 3\n"),
+    ("thynvm plain F --limit 2", 8, 2, "limit 2\n"),
+    ("thynvm plain F --limit 3", 0, 3, "exit 7 at 3\n"),
+    ("thynvm plain S --pages 4096", 0, 8, "exit 9 at 8\n"),
+    ("thynvm plain Z", 1, 1, "trap 2 at 1\n"),
+];
+
 #[test]
 fn the_plain_machine_takes_whole_steps(rt: HostRuntime) -> Result<(), Fail> {
     let alloc = rt.alloc();
-    for (line, status, cycles, report) in [
-        ("thynvm plain F", 0, 3, "exit 7 at 3\n"),
-        ("thynvm plain F --limit 2", 8, 2, "limit 2\n"),
-        ("thynvm plain F --limit 3", 0, 3, "exit 7 at 3\n"),
-        ("thynvm plain S --pages 4096", 0, 8, "exit 9 at 8\n"),
-        ("thynvm plain Z", 1, 1, "trap 2 at 1\n"),
-    ] {
+    for (line, status, cycles, report) in &PLAIN_RUNS {
         let given = ran(alloc, line)?;
-        assert!(rt; given.status == status, "{line}");
-        assert!(rt; given.cycles == cycles, "{line}");
+        assert!(rt; given.status == *status, "{line}");
+        assert!(rt; given.cycles == *cycles, "{line}");
         assert!(rt; given.report.as_slice() == report.as_bytes(), "{line}");
         assert!(rt; given.terminal.is_empty());
     }

@@ -22,7 +22,7 @@ use thy_model::{Did, Stepped};
 use thy_text::Event;
 
 /// What a cycle came to.
-#[derive(Clone, Copy, Debug, PartialEq, Eq)]
+#[derive(Clone, Copy)]
 pub enum Outcome {
     /// The cycle is done, and the run goes on.
     Goes,
@@ -33,7 +33,7 @@ pub enum Outcome {
 }
 
 /// A cycle, and what the terminal is due for it.
-#[derive(Debug, Drop)]
+#[derive(Drop)]
 pub struct Advance {
     pub bytes: Bytes,
     pub outcome: Outcome,

@@ -16,7 +16,7 @@ use thy_core::Machine;
 use thy_text::Events;
 
 /// What a turn of the loop comes to.
-#[derive(Clone, Copy, Debug, PartialEq, Eq)]
+#[derive(Clone, Copy)]
 pub enum Turned {
     /// The cycle is done, and the run goes on.
     GoesOn,

@@ -21,7 +21,7 @@ use thy_isa::MachState;
 use thy_model::{Did, Stepped};
 
 /// What was read.
-#[derive(Debug, Drop)]
+#[derive(Drop)]
 pub struct Readings {
     /// The file is loaded again, as the first cycle after a cut found no checkpoint.
     pub reload: bool,

@@ -5,7 +5,7 @@ use thy_core::Machine;
 use thy_text::Events;
 
 /// A run between two cycles.
-#[derive(Debug, Drop)]
+#[derive(Drop)]
 pub struct Progress {
     pub machine: Machine,
     /// The schedule from here on.

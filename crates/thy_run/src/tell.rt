@@ -34,7 +34,7 @@ pub fn write_bytes<T: Sink>(bytes: &[u8], terminal: &mut T) -> bool
 }
 
 /// Which of the two sinks failed.
-#[derive(Clone, Copy, Debug, PartialEq, Eq)]
+#[derive(Clone, Copy)]
 pub struct Failures {
     pub terminal: bool,
     pub report: bool,

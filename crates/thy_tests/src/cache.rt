@@ -234,7 +234,39 @@ fn play<S: BlockStore<()>>(
     Ok(())
 }
 
-// Two sets of two ways: even blocks and odd ones. Block i of the store is filled with bytes i.
+/// Two sets of two ways: even blocks and odd ones. Block i of the store is filled with bytes i.
+static TURNS: [(Call, Answer); 27] = [
+    (Call::Hit(0), Answer::No),
+    (Call::Victim(0), Answer::Room),
+    (Call::Fill(0), Answer::Done),
+    (Call::Fill(2), Answer::Done),
+    (Call::Hit(2), Answer::Yes),
+    (Call::Read(0, 5), Answer::Byte(0)),
+    (Call::Write(2, 63, 200), Answer::Done),
+    (Call::Dirty, Answer::Count(1)),
+    // Block 0 was used before block 2, and is clean.
+    (Call::Victim(4), Answer::Room),
+    (Call::Read(0, 0), Answer::Byte(0)),
+    (Call::Victim(4), Answer::Must(2)),
+    // A peek is no use.
+    (Call::Peek(2, 63), Answer::Byte(200)),
+    (Call::Peek(2, 62), Answer::Byte(2)),
+    (Call::Victim(4), Answer::Must(2)),
+    (Call::Peek(4, 0), Answer::Nothing),
+    (Call::Evict(4), Answer::CopyFirst),
+    (Call::Victim(4), Answer::Must(2)),
+    (Call::Dirty, Answer::Count(1)),
+    (Call::Stored(2, 63), Answer::Byte(2)),
+    (Call::Evict(4), Answer::Done),
+    (Call::Dirty, Answer::Count(0)),
+    (Call::Stored(2, 63), Answer::Byte(200)),
+    (Call::Victim(4), Answer::Room),
+    (Call::Hit(2), Answer::Yes),
+    (Call::Fill(4), Answer::Done),
+    (Call::Hit(2), Answer::No),
+    (Call::Read(4, 1), Answer::Byte(4)),
+];
+
 #[test]
 fn a_cache_answers_each_call(rt: HostRuntime) -> Result<(), Fail> {
     let mut cache = Cache::new(rt.alloc(), 2, 2)?;
@@ -244,46 +276,42 @@ fn a_cache_answers_each_call(rt: HostRuntime) -> Result<(), Fail> {
         failing: false,
         faults: 0,
     };
-    play(
-        &rt,
-        &mut cache,
-        &mut store,
-        &[
-            (Call::Hit(0), Answer::No),
-            (Call::Victim(0), Answer::Room),
-            (Call::Fill(0), Answer::Done),
-            (Call::Fill(2), Answer::Done),
-            (Call::Hit(2), Answer::Yes),
-            (Call::Read(0, 5), Answer::Byte(0)),
-            (Call::Write(2, 63, 200), Answer::Done),
-            (Call::Dirty, Answer::Count(1)),
-            // Block 0 was used before block 2, and is clean.
-            (Call::Victim(4), Answer::Room),
-            (Call::Read(0, 0), Answer::Byte(0)),
-            (Call::Victim(4), Answer::Must(2)),
-            // A peek is no use.
-            (Call::Peek(2, 63), Answer::Byte(200)),
-            (Call::Peek(2, 62), Answer::Byte(2)),
-            (Call::Victim(4), Answer::Must(2)),
-            (Call::Peek(4, 0), Answer::Nothing),
-            (Call::Evict(4), Answer::CopyFirst),
-            (Call::Victim(4), Answer::Must(2)),
-            (Call::Dirty, Answer::Count(1)),
-            (Call::Stored(2, 63), Answer::Byte(2)),
-            (Call::Evict(4), Answer::Done),
-            (Call::Dirty, Answer::Count(0)),
-            (Call::Stored(2, 63), Answer::Byte(200)),
-            (Call::Victim(4), Answer::Room),
-            (Call::Hit(2), Answer::Yes),
-            (Call::Fill(4), Answer::Done),
-            (Call::Hit(2), Answer::No),
-            (Call::Read(4, 1), Answer::Byte(4)),
-        ],
-    )?;
+    play(&rt, &mut cache, &mut store, &TURNS)?;
     Ok(())
 }
 
-// Three dirty lines are stored by set, then way: block 0 of set 0, then blocks 3 and 1 of set 1.
+/// Three dirty lines are stored by set, then way: block 0 of set 0, then blocks 3 and 1 of set 1.
+static FLUSHES: [(Call, Answer); 27] = [
+    (Call::Fill(3), Answer::Done),
+    (Call::Fill(1), Answer::Done),
+    (Call::Fill(0), Answer::Done),
+    (Call::Write(1, 0, 101), Answer::Done),
+    (Call::Write(3, 0, 103), Answer::Done),
+    (Call::Write(0, 0, 100), Answer::Done),
+    (Call::Write(0, 1, 99), Answer::Done),
+    (Call::Dirty, Answer::Count(3)),
+    (Call::Flush, Answer::CopyFirst),
+    (Call::Dirty, Answer::Count(3)),
+    (Call::Flush, Answer::Line),
+    (Call::Stored(0, 0), Answer::Byte(100)),
+    (Call::Stored(3, 0), Answer::Byte(3)),
+    (Call::Flush, Answer::Line),
+    (Call::Stored(3, 0), Answer::Byte(103)),
+    (Call::Stored(1, 0), Answer::Byte(1)),
+    (Call::Flush, Answer::Line),
+    (Call::Stored(1, 0), Answer::Byte(101)),
+    (Call::Dirty, Answer::Count(0)),
+    (Call::Flush, Answer::Clean),
+    (Call::Hit(3), Answer::Yes),
+    // Block 1 was used before block 3.
+    (Call::Fill(5), Answer::Done),
+    (Call::Hit(1), Answer::No),
+    (Call::Hit(3), Answer::Yes),
+    (Call::Fill(7), Answer::Done),
+    (Call::Hit(3), Answer::No),
+    (Call::Hit(5), Answer::Yes),
+];
+
 #[test]
 fn a_flush_stores_by_set_then_way(rt: HostRuntime) -> Result<(), Fail> {
     let mut cache = Cache::new(rt.alloc(), 2, 2)?;
@@ -293,66 +321,29 @@ fn a_flush_stores_by_set_then_way(rt: HostRuntime) -> Result<(), Fail> {
         failing: false,
         faults: 0,
     };
-    play(
-        &rt,
-        &mut cache,
-        &mut store,
-        &[
-            (Call::Fill(3), Answer::Done),
-            (Call::Fill(1), Answer::Done),
-            (Call::Fill(0), Answer::Done),
-            (Call::Write(1, 0, 101), Answer::Done),
-            (Call::Write(3, 0, 103), Answer::Done),
-            (Call::Write(0, 0, 100), Answer::Done),
-            (Call::Write(0, 1, 99), Answer::Done),
-            (Call::Dirty, Answer::Count(3)),
-            (Call::Flush, Answer::CopyFirst),
-            (Call::Dirty, Answer::Count(3)),
-            (Call::Flush, Answer::Line),
-            (Call::Stored(0, 0), Answer::Byte(100)),
-            (Call::Stored(3, 0), Answer::Byte(3)),
-            (Call::Flush, Answer::Line),
-            (Call::Stored(3, 0), Answer::Byte(103)),
-            (Call::Stored(1, 0), Answer::Byte(1)),
-            (Call::Flush, Answer::Line),
-            (Call::Stored(1, 0), Answer::Byte(101)),
-            (Call::Dirty, Answer::Count(0)),
-            (Call::Flush, Answer::Clean),
-            (Call::Hit(3), Answer::Yes),
-            // Block 1 was used before block 3.
-            (Call::Fill(5), Answer::Done),
-            (Call::Hit(1), Answer::No),
-            (Call::Hit(3), Answer::Yes),
-            (Call::Fill(7), Answer::Done),
-            (Call::Hit(3), Answer::No),
-            (Call::Hit(5), Answer::Yes),
-        ],
-    )?;
+    play(&rt, &mut cache, &mut store, &FLUSHES)?;
     Ok(())
 }
 
-// One line over a plain list of blocks.
+/// One line over a plain list of blocks.
+static ONE_LINE: [(Call, Answer); 10] = [
+    (Call::Fill(6), Answer::Done),
+    (Call::Write(6, 7, 60), Answer::Done),
+    (Call::Victim(1), Answer::Must(6)),
+    (Call::Evict(1), Answer::Done),
+    (Call::Fill(1), Answer::Done),
+    (Call::Write(1, 0, 10), Answer::Done),
+    (Call::Flush, Answer::Line),
+    (Call::Flush, Answer::Clean),
+    (Call::Stored(6, 7), Answer::Byte(60)),
+    (Call::Stored(1, 0), Answer::Byte(10)),
+];
+
 #[test]
 fn a_cache_of_one_line_over_a_list(rt: HostRuntime) -> Result<(), Fail> {
     let mut cache = Cache::new(rt.alloc(), 1, 1)?;
     let mut store = eight(rt.alloc())?;
-    play(
-        &rt,
-        &mut cache,
-        &mut store,
-        &[
-            (Call::Fill(6), Answer::Done),
-            (Call::Write(6, 7, 60), Answer::Done),
-            (Call::Victim(1), Answer::Must(6)),
-            (Call::Evict(1), Answer::Done),
-            (Call::Fill(1), Answer::Done),
-            (Call::Write(1, 0, 10), Answer::Done),
-            (Call::Flush, Answer::Line),
-            (Call::Flush, Answer::Clean),
-            (Call::Stored(6, 7), Answer::Byte(60)),
-            (Call::Stored(1, 0), Answer::Byte(10)),
-        ],
-    )?;
+    play(&rt, &mut cache, &mut store, &ONE_LINE)?;
     Ok(())
 }
 

@@ -11,7 +11,7 @@ const BASE: u64 = 0x10000;
 const SIZE: u64 = 255 * 4096;
 
 /// The bytes of examples/exit_seven: a header, one program header, three instructions.
-const GOOD: [u8; 132] = [
+static GOOD: [u8; 132] = [
     0x7F, 0x45, 0x4C, 0x46, 0x02, 0x01, 0x01, 0x00, 0x00, 0x00, 0x00, 0x00, 0x00, 0x00, 0x00, 0x00,
     0x02, 0x00, 0xF3, 0x00, 0x01, 0x00, 0x00, 0x00, 0x00, 0x00, 0x01, 0x00, 0x00, 0x00, 0x00, 0x00,
     0x40, 0x00, 0x00, 0x00, 0x00, 0x00, 0x00, 0x00, 0x00, 0x00, 0x00, 0x00, 0x00, 0x00, 0x00, 0x00,
@@ -29,6 +29,11 @@ fn refusal(alloc: Global, file: &[u8]) -> Option<ElfError> {
         Ok(_) => None,
         Err(error) => Some(error),
     }
+}
+
+/// Tests what a file is refused for. `at` says where the file was changed.
+fn expect(rt: &HostRuntime, file: &[u8], want: Option<ElfError>, at: usize) {
+    assert_eq!(*rt; refusal(rt.alloc(), file), want, "changed at {at}");
 }
 
 /// Writes bytes into a file, where they lie within it.
@@ -61,39 +66,37 @@ fn the_good_file_is_the_image_of_its_bytes(rt: HostRuntime) -> Result<(), Fail> 
     Ok(())
 }
 
+/// A byte of the good file changed, and what it is refused for then.
+static BYTES: [(usize, u8, ElfError); 21] = [
+    (0, 0x7E, ElfError::NotElf),
+    (3, 0x47, ElfError::NotElf),
+    (4, 1, ElfError::NotClass64),
+    (5, 2, ElfError::NotLittle),
+    (6, 0, ElfError::BadVersion),
+    (20, 2, ElfError::BadVersion),
+    (23, 1, ElfError::BadVersion),
+    (16, 3, ElfError::NotExec),
+    (18, 62, ElfError::NotRiscv),
+    (48, 0x1, ElfError::NeedsCompressed),
+    (48, 0x2, ElfError::NeedsFloat),
+    (48, 0x4, ElfError::NeedsFloat),
+    (48, 0x8, ElfError::IsRve),
+    (52, 65, ElfError::BadHeaderSize),
+    (54, 57, ElfError::BadHeaderSize),
+    (56, 3, ElfError::HeadersOutside),
+    (64, 2, ElfError::NeedsLoader),
+    (64, 3, ElfError::NeedsLoader),
+    (104, 11, ElfError::FileOverMemory(0)),
+    (72, 121, ElfError::SegmentOutsideFile(0)),
+    (82, 0, ElfError::SegmentOutsideMemory(0)),
+];
+
 #[test]
 fn one_byte_changed_is_refused_by_its_name(rt: HostRuntime) {
-    let changes = [
-        (0, 0x7E, ElfError::NotElf),
-        (3, 0x47, ElfError::NotElf),
-        (4, 1, ElfError::NotClass64),
-        (5, 2, ElfError::NotLittle),
-        (6, 0, ElfError::BadVersion),
-        (20, 2, ElfError::BadVersion),
-        (23, 1, ElfError::BadVersion),
-        (16, 3, ElfError::NotExec),
-        (18, 62, ElfError::NotRiscv),
-        (48, 0x1, ElfError::NeedsCompressed),
-        (48, 0x2, ElfError::NeedsFloat),
-        (48, 0x4, ElfError::NeedsFloat),
-        (48, 0x8, ElfError::IsRve),
-        (52, 65, ElfError::BadHeaderSize),
-        (54, 57, ElfError::BadHeaderSize),
-        (56, 3, ElfError::HeadersOutside),
-        (64, 2, ElfError::NeedsLoader),
-        (64, 3, ElfError::NeedsLoader),
-        (104, 11, ElfError::FileOverMemory(0)),
-        (72, 121, ElfError::SegmentOutsideFile(0)),
-        (82, 0, ElfError::SegmentOutsideMemory(0)),
-    ];
-    for (place, byte, want) in changes {
+    for (place, byte, want) in &BYTES {
         let mut file = GOOD;
-        put(&mut file, place, &[byte]);
-        assert_eq!(rt;
-            refusal(rt.alloc(), &file),
-            Some(want),
-            "byte {place} made {byte}"
-        );
+        put(&mut file, *place, &[*byte]);
+        expect(&rt, &file, Some(*want), *place);
     }
 }
 
@@ -104,11 +107,11 @@ fn what_is_ignored_changes_nothing(rt: HostRuntime) {
     for place in [7, 8, 24, 31, 40, 49, 58, 60, 62, 68, 88, 112] {
         let mut file = GOOD;
         put(&mut file, place, &[0xFF]);
-        assert_eq!(rt; refusal(rt.alloc(), &file), None, "byte {place}");
+        expect(&rt, &file, None, place);
     }
     let mut file = GOOD;
     put(&mut file, 48, &[0x10]);
-    assert_eq!(rt; refusal(rt.alloc(), &file), None);
+    expect(&rt, &file, None, 48);
 }
 
 #[test]
@@ -121,34 +124,29 @@ fn a_file_cut_short_is_refused_at_every_length(rt: HostRuntime) {
         } else {
             ElfError::SegmentOutsideFile(0)
         };
-        assert_eq!(rt;
-            refusal(rt.alloc(), &GOOD[..len]),
-            Some(want),
-            "{len} bytes"
-        );
+        expect(&rt, &GOOD[..len], Some(want), len);
     }
 }
 
+/// A number of the good file made the greatest, and what it is refused for then.
+static SUMS: [(usize, ElfError); 5] = [
+    (32, ElfError::HeadersOutside),
+    (72, ElfError::SegmentOutsideFile(0)),
+    (80, ElfError::SegmentOutsideMemory(0)),
+    (96, ElfError::FileOverMemory(0)),
+    (104, ElfError::SegmentOutsideMemory(0)),
+];
+
 #[test]
 fn sums_past_2_to_the_64_are_refused_by_their_own_name(rt: HostRuntime) {
-    let changes = [
-        (32, ElfError::HeadersOutside),
-        (72, ElfError::SegmentOutsideFile(0)),
-        (80, ElfError::SegmentOutsideMemory(0)),
-        (96, ElfError::FileOverMemory(0)),
-        (104, ElfError::SegmentOutsideMemory(0)),
-    ];
-    for (place, want) in changes {
+    for (place, want) in &SUMS {
         let mut file = GOOD;
-        put(&mut file, place, &[0xFF; 8]);
-        assert_eq!(rt; refusal(rt.alloc(), &file), Some(want), "place {place}");
+        put(&mut file, *place, &[0xFF; 8]);
+        expect(&rt, &file, Some(*want), *place);
     }
     let mut file = GOOD;
     put(&mut file, 96, &[0xFF; 16]);
-    assert_eq!(rt;
-        refusal(rt.alloc(), &file),
-        Some(ElfError::SegmentOutsideFile(0))
-    );
+    expect(&rt, &file, Some(ElfError::SegmentOutsideFile(0)), 96);
 }
 
 #[test]
@@ -169,17 +167,11 @@ fn zeroed_data_may_fill_memory_and_no_more(rt: HostRuntime) -> Result<(), Fail> 
     let image = read(rt.alloc(), &file, BASE, SIZE)?;
     assert_eq!(rt; image.floor, 0x10F000);
     put_segment(&mut file, 64, [u64::MAX, BASE, 0, SIZE + 1]);
-    assert_eq!(rt;
-        refusal(rt.alloc(), &file),
-        Some(ElfError::SegmentOutsideMemory(0))
-    );
+    expect(&rt, &file, Some(ElfError::SegmentOutsideMemory(0)), 64);
     put_segment(&mut file, 64, [u64::MAX, BASE - 1, 0, SIZE]);
-    assert_eq!(rt;
-        refusal(rt.alloc(), &file),
-        Some(ElfError::SegmentOutsideMemory(0))
-    );
+    expect(&rt, &file, Some(ElfError::SegmentOutsideMemory(0)), 64);
     put_segment(&mut file, 64, [u64::MAX, u64::MAX, 0, 0]);
-    assert_eq!(rt; refusal(rt.alloc(), &file), None);
+    expect(&rt, &file, None, 64);
     Ok(())
 }
 
@@ -197,7 +189,7 @@ fn a_later_segment_wins_and_the_greatest_end_is_the_floor(rt: HostRuntime) -> Re
     assert_eq!(rt; &image.memory.as_slice()[..10], &want[..]);
     put(&mut file, 64 + 40, &[7]);
     put(&mut file, 120, &[3]);
-    assert_eq!(rt; refusal(rt.alloc(), &file), Some(ElfError::NeedsLoader));
+    expect(&rt, &file, Some(ElfError::NeedsLoader), 120);
     Ok(())
 }
 
@@ -207,26 +199,22 @@ fn the_last_of_65534_program_headers_is_looked_at(rt: HostRuntime) -> Result<(),
     let last = 64 + 56 * 65533;
     put(&mut file, 0, &GOOD[..64]);
     put(&mut file, 56, &[0xFE, 0xFF]);
-    assert_eq!(rt; refusal(rt.alloc(), &file), None);
+    expect(&rt, &file, None, 56);
     put(&mut file, last, &[2]);
-    assert_eq!(rt; refusal(rt.alloc(), &file), Some(ElfError::NeedsLoader));
+    expect(&rt, &file, Some(ElfError::NeedsLoader), last);
     put_segment(&mut file, last, [0, BASE, 2, 1]);
-    assert_eq!(rt;
-        refusal(rt.alloc(), &file),
-        Some(ElfError::FileOverMemory(65533))
-    );
+    expect(&rt, &file, Some(ElfError::FileOverMemory(65533)), last);
     put_segment(&mut file, last, [64 + 56 * 65534, BASE, 1, 1]);
-    assert_eq!(rt;
-        refusal(rt.alloc(), &file),
-        Some(ElfError::SegmentOutsideFile(65533))
-    );
+    expect(&rt, &file, Some(ElfError::SegmentOutsideFile(65533)), last);
     put_segment(&mut file, last, [0, BASE + SIZE, 1, 1]);
-    assert_eq!(rt;
-        refusal(rt.alloc(), &file),
-        Some(ElfError::SegmentOutsideMemory(65533))
+    expect(
+        &rt,
+        &file,
+        Some(ElfError::SegmentOutsideMemory(65533)),
+        last,
     );
     put(&mut file, 56, &[0xFF, 0xFF]);
-    assert_eq!(rt; refusal(rt.alloc(), &file), Some(ElfError::TooManyHeaders));
+    expect(&rt, &file, Some(ElfError::TooManyHeaders), 56);
     Ok(())
 }
 

@@ -3,6 +3,10 @@ use std::test::Fail;
 use thy_base::{Block, Nvm, Shape};
 use thy_nvm::MemNvm;
 
+fn expect(rt: &HostRuntime, got: Block, want: Block) {
+    assert_eq!(*rt; got, want);
+}
+
 // The first draws of the seed 7 are 1059165278 and 2052263231: modulo the three blocks of place
 // 0 the newest write, and modulo the two of place 2 the only one.
 #[test]
@@ -18,10 +22,10 @@ fn a_pick_leaves_its_image(rt: HostRuntime) -> Result<(), Fail> {
     nvm.write(0, &Block([2; 64]))?;
     nvm.write(0, &Block([3; 64]))?;
     assert_eq!(rt; nvm.queued(), 3);
-    assert_eq!(rt; nvm.read(0)?, Block([3; 64]));
+    expect(&rt, nvm.read(0)?, Block([3; 64]));
     nvm.cut(7);
-    assert_eq!(rt; nvm.kept(0, 0), Block([3; 64]));
-    assert_eq!(rt; nvm.kept(0, 1), Block::ZERO);
-    assert_eq!(rt; nvm.kept(0, 2), Block([5; 64]));
+    expect(&rt, nvm.kept(0, 0), Block([3; 64]));
+    expect(&rt, nvm.kept(0, 1), Block::ZERO);
+    expect(&rt, nvm.kept(0, 2), Block([5; 64]));
     Ok(())
 }

@@ -144,6 +144,19 @@ fn name_shown(alloc: Global, name: Option<String>) -> Result<String, AllocError>
     }
 }
 
+fn job_shown(
+    alloc: Global,
+    machine: &str,
+    file: String,
+    input: Option<String>,
+    config: Config,
+    digest: bool,
+) -> Result<String, AllocError> {
+    let told = if digest { "digest " } else { "" };
+    let input = name_shown(alloc, input)?;
+    format!(in alloc; "{machine}{told}{file} {input} {}", shown(alloc, &config)?)
+}
+
 fn answer(alloc: Global, words: &[String]) -> Result<String, AllocError> {
     match settings(alloc, words) {
         Ok(
@@ -153,11 +166,7 @@ fn answer(alloc: Global, words: &[String]) -> Result<String, AllocError> {
                 config,
                 digest,
             },
-        ) => {
-            let told = if digest { "digest " } else { "" };
-            let input = name_shown(alloc, input)?;
-            format!(in alloc; "{told}{file} {input} {}", shown(alloc, &config)?)
-        }
+        ) => job_shown(alloc, "", file, input, config, digest),
         Ok(
             Command::Plain {
                 file,
@@ -165,11 +174,7 @@ fn answer(alloc: Global, words: &[String]) -> Result<String, AllocError> {
                 config,
                 digest,
             },
-        ) => {
-            let told = if digest { "digest " } else { "" };
-            let input = name_shown(alloc, input)?;
-            format!(in alloc; "plain {told}{file} {input} {}", shown(alloc, &config)?)
-        }
+        ) => job_shown(alloc, "plain ", file, input, config, digest),
         Err(WordsError::Usage) => String::from_str(alloc, "usage"),
         Err(WordsError::Word(field)) => format!(in alloc; "word {}", name_of(field)),
         Err(WordsError::Value(field, value)) => {

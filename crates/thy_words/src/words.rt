@@ -37,7 +37,7 @@ pub enum Command {
 }
 
 /// A program to be run.
-#[derive(Debug, Drop)]
+#[derive(Drop)]
 struct Job {
     file: String,
     input: Option<String>,

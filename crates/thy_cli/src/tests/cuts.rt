@@ -4,42 +4,45 @@ use std::alloc::{AllocError, Global};
 use std::process::Abort;
 use std::test::Fail;
 
+/// Runs of the program that exits with 7, with status and report.
+static CUT_RUNS: [(&str, u8, &str); 6] = [
+    (
+        "thynvm run F --pages 8 --btt 8 --ptt 8 --limit 1391",
+        8,
+        "commit 0 overlapped 0\nepoch 1 ends at 3 by end\nlimit 1391\n",
+    ),
+    (
+        "thynvm run F --pages 8 --btt 8 --ptt 8 --cuts 1391 --tears 0",
+        0,
+        "commit 0 overlapped 0\nepoch 1 ends at 3 by end\ncut 1 at cycle 1391\nrestart 0 at 0\nepoch 1 ends at 3 by end\ncommit 1 overlapped 0\nexit 7 at 3\n",
+    ),
+    (
+        "thynvm run F --pages 8 --btt 8 --ptt 8 --cuts 1391 --tears 1",
+        0,
+        "commit 0 overlapped 0\nepoch 1 ends at 3 by end\ncut 1 at cycle 1391\nrestart 1 at 3\nexit 7 at 3\n",
+    ),
+    (
+        "thynvm run F --pages 8 --btt 8 --ptt 8 --cuts 694 --tears 0",
+        0,
+        "cut 1 at cycle 694\nreload\ncommit 0 overlapped 0\nepoch 1 ends at 3 by end\ncommit 1 overlapped 0\nexit 7 at 3\n",
+    ),
+    (
+        "thynvm run F --pages 8 --btt 8 --ptt 8 --cuts 694 --tears 1",
+        0,
+        "cut 1 at cycle 694\nrestart 0 at 0\nepoch 1 ends at 3 by end\ncommit 1 overlapped 0\nexit 7 at 3\n",
+    ),
+    (
+        "thynvm run F --pages 8 --btt 8 --ptt 8 --cuts 1",
+        0,
+        "cut 1 at cycle 1\nreload\ncommit 0 overlapped 0\nepoch 1 ends at 3 by end\ncommit 1 overlapped 0\nexit 7 at 3\n",
+    ),
+];
+
 #[test]
 fn power_cuts_are_survived(rt: HostRuntime) -> Result<(), Fail> {
     let alloc = rt.alloc();
-    for (line, status, report) in [
-        (
-            "thynvm run F --pages 8 --btt 8 --ptt 8 --limit 1391",
-            8,
-            "commit 0 overlapped 0\nepoch 1 ends at 3 by end\nlimit 1391\n",
-        ),
-        (
-            "thynvm run F --pages 8 --btt 8 --ptt 8 --cuts 1391 --tears 0",
-            0,
-            "commit 0 overlapped 0\nepoch 1 ends at 3 by end\ncut 1 at cycle 1391\nrestart 0 at 0\nepoch 1 ends at 3 by end\ncommit 1 overlapped 0\nexit 7 at 3\n",
-        ),
-        (
-            "thynvm run F --pages 8 --btt 8 --ptt 8 --cuts 1391 --tears 1",
-            0,
-            "commit 0 overlapped 0\nepoch 1 ends at 3 by end\ncut 1 at cycle 1391\nrestart 1 at 3\nexit 7 at 3\n",
-        ),
-        (
-            "thynvm run F --pages 8 --btt 8 --ptt 8 --cuts 694 --tears 0",
-            0,
-            "cut 1 at cycle 694\nreload\ncommit 0 overlapped 0\nepoch 1 ends at 3 by end\ncommit 1 overlapped 0\nexit 7 at 3\n",
-        ),
-        (
-            "thynvm run F --pages 8 --btt 8 --ptt 8 --cuts 694 --tears 1",
-            0,
-            "cut 1 at cycle 694\nrestart 0 at 0\nepoch 1 ends at 3 by end\ncommit 1 overlapped 0\nexit 7 at 3\n",
-        ),
-        (
-            "thynvm run F --pages 8 --btt 8 --ptt 8 --cuts 1",
-            0,
-            "cut 1 at cycle 1\nreload\ncommit 0 overlapped 0\nepoch 1 ends at 3 by end\ncommit 1 overlapped 0\nexit 7 at 3\n",
-        ),
-    ] {
-        expect(&rt, alloc, line, status, report)?;
+    for (line, status, report) in &CUT_RUNS {
+        expect(&rt, alloc, line, *status, report)?;
     }
     Ok(())
 }
