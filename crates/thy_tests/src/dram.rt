@@ -1,10 +1,11 @@
 //! The memory that a cut fills with draws.
+use std::process::Abort;
 use std::test::Fail;
 use thy_base::Block;
 use thy_dram::Dram;
 
-fn expect(rt: &HostRuntime, got: u64, want: u64) {
-    assert_eq!(*rt; got, want);
+fn expect(rt: &impl Abort, got: u64, want: u64) {
+    assert_eq!(rt; got, want);
 }
 
 // The low bytes of the draws of the seed 1, counted from 1: the 1st is 214 and the 128th 88.

@@ -2,6 +2,7 @@
 ghost use Rattle.std.specs.Prelude.{◌<◌, ◌^◌};
 
 use std::alloc::Global;
+use std::process::Abort;
 use std::test::Fail;
 use thy_elf::{ElfError, read};
 
@@ -31,9 +32,9 @@ fn refusal(alloc: Global, file: &[u8]) -> Option<ElfError> {
     }
 }
 
-/// Tests what a file is refused for. `at` says where the file was changed.
-fn expect(rt: &HostRuntime, file: &[u8], want: Option<ElfError>, at: usize) {
-    assert_eq!(*rt; refusal(rt.alloc(), file), want, "changed at {at}");
+/// Compares what a file is refused for with what it should be. `at` says where the file was changed.
+fn expect(rt: &impl Abort, got: Option<ElfError>, want: Option<ElfError>, at: usize) {
+    assert_eq!(rt; got, want, "changed at {at}");
 }
 
 /// Writes bytes into a file, where they lie within it.
@@ -96,7 +97,7 @@ fn one_byte_changed_is_refused_by_its_name(rt: HostRuntime) {
     for (place, byte, want) in &BYTES {
         let mut file = GOOD;
         put(&mut file, *place, &[*byte]);
-        expect(&rt, &file, Some(*want), *place);
+        expect(&rt, refusal(rt.alloc(), &file), Some(*want), *place);
     }
 }
 
@@ -107,11 +108,11 @@ fn what_is_ignored_changes_nothing(rt: HostRuntime) {
     for place in [7, 8, 24, 31, 40, 49, 58, 60, 62, 68, 88, 112] {
         let mut file = GOOD;
         put(&mut file, place, &[0xFF]);
-        expect(&rt, &file, None, place);
+        expect(&rt, refusal(rt.alloc(), &file), None, place);
     }
     let mut file = GOOD;
     put(&mut file, 48, &[0x10]);
-    expect(&rt, &file, None, 48);
+    expect(&rt, refusal(rt.alloc(), &file), None, 48);
 }
 
 #[test]
@@ -124,7 +125,7 @@ fn a_file_cut_short_is_refused_at_every_length(rt: HostRuntime) {
         } else {
             ElfError::SegmentOutsideFile(0)
         };
-        expect(&rt, &GOOD[..len], Some(want), len);
+        expect(&rt, refusal(rt.alloc(), &GOOD[..len]), Some(want), len);
     }
 }
 
@@ -142,11 +143,16 @@ fn sums_past_2_to_the_64_are_refused_by_their_own_name(rt: HostRuntime) {
     for (place, want) in &SUMS {
         let mut file = GOOD;
         put(&mut file, *place, &[0xFF; 8]);
-        expect(&rt, &file, Some(*want), *place);
+        expect(&rt, refusal(rt.alloc(), &file), Some(*want), *place);
     }
     let mut file = GOOD;
     put(&mut file, 96, &[0xFF; 16]);
-    expect(&rt, &file, Some(ElfError::SegmentOutsideFile(0)), 96);
+    expect(
+        &rt,
+        refusal(rt.alloc(), &file),
+        Some(ElfError::SegmentOutsideFile(0)),
+        96,
+    );
 }
 
 #[test]
@@ -167,11 +173,21 @@ fn zeroed_data_may_fill_memory_and_no_more(rt: HostRuntime) -> Result<(), Fail> 
     let image = read(rt.alloc(), &file, BASE, SIZE)?;
     assert_eq!(rt; image.floor, 0x10F000);
     put_segment(&mut file, 64, [u64::MAX, BASE, 0, SIZE + 1]);
-    expect(&rt, &file, Some(ElfError::SegmentOutsideMemory(0)), 64);
+    expect(
+        &rt,
+        refusal(rt.alloc(), &file),
+        Some(ElfError::SegmentOutsideMemory(0)),
+        64,
+    );
     put_segment(&mut file, 64, [u64::MAX, BASE - 1, 0, SIZE]);
-    expect(&rt, &file, Some(ElfError::SegmentOutsideMemory(0)), 64);
+    expect(
+        &rt,
+        refusal(rt.alloc(), &file),
+        Some(ElfError::SegmentOutsideMemory(0)),
+        64,
+    );
     put_segment(&mut file, 64, [u64::MAX, u64::MAX, 0, 0]);
-    expect(&rt, &file, None, 64);
+    expect(&rt, refusal(rt.alloc(), &file), None, 64);
     Ok(())
 }
 
@@ -189,7 +205,12 @@ fn a_later_segment_wins_and_the_greatest_end_is_the_floor(rt: HostRuntime) -> Re
     assert_eq!(rt; &image.memory.as_slice()[..10], &want[..]);
     put(&mut file, 64 + 40, &[7]);
     put(&mut file, 120, &[3]);
-    expect(&rt, &file, Some(ElfError::NeedsLoader), 120);
+    expect(
+        &rt,
+        refusal(rt.alloc(), &file),
+        Some(ElfError::NeedsLoader),
+        120,
+    );
     Ok(())
 }
 
@@ -199,22 +220,42 @@ fn the_last_of_65534_program_headers_is_looked_at(rt: HostRuntime) -> Result<(),
     let last = 64 + 56 * 65533;
     put(&mut file, 0, &GOOD[..64]);
     put(&mut file, 56, &[0xFE, 0xFF]);
-    expect(&rt, &file, None, 56);
+    expect(&rt, refusal(rt.alloc(), &file), None, 56);
     put(&mut file, last, &[2]);
-    expect(&rt, &file, Some(ElfError::NeedsLoader), last);
+    expect(
+        &rt,
+        refusal(rt.alloc(), &file),
+        Some(ElfError::NeedsLoader),
+        last,
+    );
     put_segment(&mut file, last, [0, BASE, 2, 1]);
-    expect(&rt, &file, Some(ElfError::FileOverMemory(65533)), last);
+    expect(
+        &rt,
+        refusal(rt.alloc(), &file),
+        Some(ElfError::FileOverMemory(65533)),
+        last,
+    );
     put_segment(&mut file, last, [64 + 56 * 65534, BASE, 1, 1]);
-    expect(&rt, &file, Some(ElfError::SegmentOutsideFile(65533)), last);
+    expect(
+        &rt,
+        refusal(rt.alloc(), &file),
+        Some(ElfError::SegmentOutsideFile(65533)),
+        last,
+    );
     put_segment(&mut file, last, [0, BASE + SIZE, 1, 1]);
     expect(
         &rt,
-        &file,
+        refusal(rt.alloc(), &file),
         Some(ElfError::SegmentOutsideMemory(65533)),
         last,
     );
     put(&mut file, 56, &[0xFF, 0xFF]);
-    expect(&rt, &file, Some(ElfError::TooManyHeaders), 56);
+    expect(
+        &rt,
+        refusal(rt.alloc(), &file),
+        Some(ElfError::TooManyHeaders),
+        56,
+    );
     Ok(())
 }
 

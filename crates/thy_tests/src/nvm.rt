@@ -1,10 +1,11 @@
 //! The simulated NVM, and what a cut leaves of its queue.
+use std::process::Abort;
 use std::test::Fail;
 use thy_base::{Block, Nvm, Shape};
 use thy_nvm::MemNvm;
 
-fn expect(rt: &HostRuntime, got: Block, want: Block) {
-    assert_eq!(*rt; got, want);
+fn expect(rt: &impl Abort, got: Block, want: Block) {
+    assert_eq!(rt; got, want);
 }
 
 // The first draws of the seed 7 are 1059165278 and 2052263231: modulo the three blocks of place
