@@ -3,10 +3,11 @@ ghost use Rattle.std.specs.Prelude.{◌≡◌, length, IfOk};
 ghost use Rattle.thy_base.specs.Bytes.{bytes_of};
 ghost use Rattle.thy_base.specs.Geometry.{program_size};
 
+use std::process::Abort;
 use std::test::Fail;
 use thy_base::{Bytes, Geometry, Parameters};
 use thy_elf::Image;
-use thy_isa::{Reg, Status};
+use thy_isa::{MachState, Reg, Status};
 use thy_plain::{Plain, start_of};
 
 /// The smallest machine: seven pages of program memory from 65536 on, and one of console.
@@ -47,16 +48,20 @@ fn image_of(rt: &HostRuntime, words: &[u32]) -> Result<Image, Fail>
     })
 }
 
+/// Compares how a state stands.
+fn stands(rt: &impl Abort, state: &MachState, status: Status, count: u64, pc: u64) {
+    assert_eq!(rt; state.status, status);
+    assert_eq!(rt; state.count, count);
+    assert_eq!(rt; state.pc, pc);
+}
+
 /// `addi a7, zero, 93`, `addi a0, zero, 7`, `ecall`.
 #[test]
 fn a_program_exits_with_seven(rt: HostRuntime) -> Result<(), Fail> {
     let image = image_of(&rt, &[0x05d00893, 0x00700513, 0x00000073])?;
     let mut plain = Plain::load(rt.alloc(), &image, &smallest(), b"")?;
     assert_eq!(rt; plain.run(100), 3);
-    let state = plain.into_state();
-    assert_eq!(rt; state.status, Status::Exited(7));
-    assert_eq!(rt; state.count, 3);
-    assert_eq!(rt; state.pc, 65544);
+    stands(&rt, &plain.into_state(), Status::Exited(7), 3, 65544);
     Ok(())
 }
 
@@ -66,7 +71,7 @@ fn a_run_ends_at_its_limit(rt: HostRuntime) -> Result<(), Fail> {
     let image = image_of(&rt, &[0x05d00893, 0x00700513, 0x00000073])?;
     let mut plain = Plain::load(rt.alloc(), &image, &smallest(), b"")?;
     assert_eq!(rt; plain.run(2), 2);
-    assert_eq!(rt; plain.state().status, Status::Running);
+    stands(&rt, plain.state(), Status::Running, 2, 65544);
     assert_eq!(rt; plain.state().regs.get(Reg::new(10)), 7);
     Ok(())
 }
@@ -76,7 +81,7 @@ fn a_step_is_one_instruction(rt: HostRuntime) -> Result<(), Fail> {
     let image = image_of(&rt, &[0x05d00893, 0x00700513])?;
     let mut plain = Plain::load(rt.alloc(), &image, &smallest(), b"")?;
     plain.step();
-    assert_eq!(rt; plain.state().pc, 65540);
+    stands(&rt, plain.state(), Status::Running, 1, 65540);
     assert_eq!(rt; plain.state().regs.get(Reg::new(17)), 93);
     Ok(())
 }
@@ -87,9 +92,7 @@ fn a_jump_to_an_odd_place_traps(rt: HostRuntime) -> Result<(), Fail> {
     let image = image_of(&rt, &[0x00013023, 0x002000e7])?;
     let mut plain = Plain::load(rt.alloc(), &image, &smallest(), b"")?;
     assert_eq!(rt; plain.run(5), 2);
-    assert_eq!(rt; plain.state().status, Status::Trapped(0));
-    assert_eq!(rt; plain.state().count, 2);
-    assert_eq!(rt; plain.state().pc, 65540);
+    stands(&rt, plain.state(), Status::Trapped(0), 2, 65540);
     assert_eq!(rt; plain.state().regs.get(Reg::new(1)), 0);
     Ok(())
 }
