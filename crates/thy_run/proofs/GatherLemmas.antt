@@ -1,5 +1,5 @@
 -- What a step lets be read.
-use Rattle.std.proofs.Common.{◌≡◌, ℕ, Bool, true, false, ◌&&◌, not, if◌then◌else◌, Option, Some, List, [], length, drop, refl, sym, ◌∙◌, ap, subst}
+use Rattle.std.proofs.Common.{◌≡◌, ℕ, Bool, true, false, ◌&&◌, not, if◌then◌else◌, Option, Some, Box, Global, List, [], length, drop, refl, sym, ◌∙◌, ap, subst}
 use Rattle.std.proofs.lemmas.Bool.{and_parts}
 use Rattle.thy_base.specs.declared.mark.Mark.{Mark}
 use Rattle.thy_isa.specs.declared.state.MachState.{MachState}
@@ -23,8 +23,8 @@ booted_if true = refl
 booted_if false = refl
 
 -- a restored epoch is behind the boot, and its state that at its count
-pub restores_some : (o : Origin) (v next : View) (did : Did) (epoch count : ℕ) (state : MachState) → did ≡ Restarted epoch count → CoreStep o v did next
-    → (is_boot next.phase ≡ false → IsSnapshot o next state) → Restores o did (Some state)
+pub restores_some : (o : Origin) (v next : View) (did : Did) (epoch count : ℕ) (state : Box MachState Global) → did ≡ Restarted epoch count → CoreStep o v did next
+    → (is_boot next.phase ≡ false → IsSnapshot o next state.value) → Restores o did (Some state)
 restores_some o v next did epoch count state is step shot =
     let s = subst (λ d. CoreStep o v d next) is step in
     let booted : is_boot next.phase ≡ false = ap (λ w. is_boot w.phase) s.4 ∙ booted_if (runs_at o count) in

@@ -1,5 +1,6 @@
 -- The program's loop as a run.
-use Rattle.std.specs.Prelude.{◌≡◌, ◌⊎◌, ℕ, ◌+◌, true, false, ◌&&◌, List, [], ◌∷◌, ◌++◌, length, Option, Some, None}
+use Rattle.std.specs.Prelude.{◌≡◌, ◌⊎◌, ℕ, ◌+◌, true, false, ◌&&◌, List, [], ◌∷◌, ◌++◌, length, Option, Some, None, Box}
+use Rattle.std.specs.declared.alloc.Global.{Global}
 use Rattle.thy_base.specs.Bytes.{bytes_of}
 use Rattle.thy_base.specs.Config.{first_not_rising}
 use Rattle.thy_base.specs.Device.{Device, IsFramed, IsCut, RoseFaults}
@@ -85,15 +86,15 @@ pub record CanGather (o : Origin) (cycles : ℕ) (v : View) (p : Progress) (n : 
   pub released : p.released ≡ length (released_of o p.events)
 
 -- the state for a restart's event
-abbrev pub Restores : Origin → Did → Option MachState → Type 0
-Restores o (Restarted epoch count) (Some state) = state_of state ≡ at o count
+abbrev pub Restores : Origin → Did → Option (Box MachState Global) → Type 0
+Restores o (Restarted epoch count) (Some state) = state_of state.value ≡ at o count
 Restores o (Restarted epoch count) None = ⊥
 Restores o did state = Unit {0}
 
 -- the state for the event of the end
-abbrev pub IsEnding : Origin → View → View → Option MachState → Type 0
+abbrev pub IsEnding : Origin → View → View → Option (Box MachState Global) → Type 0
 IsEnding o v next None = halts v next ≡ false
-IsEnding o v next (Some state) = (halts v next ≡ true) × IsSnapshot o next state
+IsEnding o v next (Some state) = (halts v next ≡ true) × IsSnapshot o next state.value
 
 -- what was read for a step's events, and of the console
 pub record IsGathered (o : Origin) (v next : View) (p : Progress) (did : Did) (r : Readings) : Type 0 where

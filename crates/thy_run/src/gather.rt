@@ -1,10 +1,10 @@
 //! What the machine is read for after a step, before any event of it is made.
-ghost use Rattle.std.specs.Prelude.{◌≡◌, ◌&&◌, ℕ, length, IfOk, IfErr, OnOk};
+ghost use Rattle.std.specs.Prelude.{◌≡◌, ◌&&◌, ℕ, false, length, IfOk, IfErr, OnOk};
 ghost use Rattle.thy_base.specs.Bytes.{bytes_of};
 ghost use Rattle.thy_base.specs.Device.{IsFramed};
 ghost use Rattle.thy_base.specs.Geometry.{blocks_of};
-ghost use Rattle.thy_core.specs.Machine.{HasFailedToRead};
-ghost use Rattle.thy_model.specs.Calls.{made_for, loads};
+ghost use Rattle.thy_core.specs.Machine.{IsSnapshot, HasFailedToRead};
+ghost use Rattle.thy_model.specs.Calls.{made_for, loads, IsAt, is_boot};
 ghost use Rattle.thy_model.specs.Origin.{Origin};
 ghost use Rattle.thy_model.specs.Sound.{view_of};
 ghost use Rattle.thy_model.specs.declared.view.View.{View};
@@ -14,9 +14,9 @@ ghost use Rattle.thy_run.specs.Due.{shows_console, due_of};
 ghost use Rattle.thy_run.specs.Going.{CanGather, Restores, IsEnding, IsGathered};
 
 use crate::progress::Progress;
-use std::alloc::Global;
+use std::alloc::{AllocError, Global};
 use thy_base::{Bytes, Nvm};
-use thy_core::CoreError;
+use thy_core::{CoreError, Machine};
 use thy_isa::MachState;
 use thy_model::{Did, Stepped};
 
@@ -26,11 +26,11 @@ pub struct Readings {
     /// The file is loaded again, as the first cycle after a cut found no checkpoint.
     pub reload: bool,
     /// The state that was restored, where one was.
-    pub restored: Option<MachState>,
+    pub restored: Option<Box<MachState>>,
     /// The bytes of the console that the terminal is due.
     pub bytes: Bytes,
     /// The last state, where this step ended the run.
-    pub ended: Option<MachState>,
+    pub ended: Option<Box<MachState>>,
 }
 
 /// Whether a step makes the console of another checkpoint known.
@@ -43,13 +43,31 @@ fn shows_console(did: Did) -> bool
     )
 }
 
+/// The state that the machine executes, in a box: few cycles have one, and the others move a pointer.
+fn shot<N: Nvm>(
+    alloc: Global,
+    machine: &Machine,
+    nvm: &mut N,
+) -> Result<Box<MachState>, CoreError>
+    ensures state { (o : Origin) (k : ℕ) → IsAt o k machine.now (N.device nvm.old) → is_boot (view_of o machine.now (N.device nvm.old)).phase ≡ false → IfOk result (λ s. IsSnapshot o (view_of o machine.now (N.device nvm.old)) s.value) }
+    ensures same { OnOk result (N.device nvm.new ≡ N.device nvm.old) }
+    ensures err { IfErr result (λ e. HasFailedToRead e (N.device nvm.old) (N.device nvm.new)) }
+    ensures frame { IsFramed (N.device nvm.old) (N.device nvm.new) }
+{
+    let state = machine.snapshot(alloc, nvm)?;
+    match Box::new(alloc, state) {
+        Ok(shot) => Ok(shot),
+        Err(_) => Err(CoreError::Memory(AllocError)),
+    }
+}
+
 /// The state that was restored, where one was.
 fn restored<N: Nvm>(
     alloc: Global,
     progress: &Progress,
     did: Did,
     nvm: &mut N,
-) -> Result<Option<MachState>, CoreError>
+) -> Result<Option<Box<MachState>>, CoreError>
     ensures read { (o : Origin) (k : ℕ) (v : View) (r : SteppedValue) → r.did ≡ did → CanGather o k v progress.now (N.device nvm.old) r → IfOk result (λ s. Restores o did s) }
     ensures same { OnOk result (N.device nvm.new ≡ N.device nvm.old) }
     ensures err { IfErr result (λ e. HasFailedToRead e (N.device nvm.old) (N.device nvm.new)) }
@@ -57,7 +75,7 @@ fn restored<N: Nvm>(
 {
     match did {
         Did::Restarted(..) => {
-            let state = progress.machine.snapshot(alloc, nvm)?;
+            let state = shot(alloc, &progress.machine, nvm)?;
             Ok(Some(state))
         }
         _ => Ok(None),
@@ -90,7 +108,7 @@ fn ending<N: Nvm>(
     progress: &Progress,
     ended: bool,
     nvm: &mut N,
-) -> Result<Option<MachState>, CoreError>
+) -> Result<Option<Box<MachState>>, CoreError>
     ensures read { (o : Origin) (k : ℕ) (v : View) (r : SteppedValue) → r.ended ≡ ended → CanGather o k v progress.now (N.device nvm.old) r → IfOk result (λ s. IsEnding o v (view_of o progress.now.machine (N.device nvm.old)) s) }
     ensures same { OnOk result (N.device nvm.new ≡ N.device nvm.old) }
     ensures err { IfErr result (λ e. HasFailedToRead e (N.device nvm.old) (N.device nvm.new)) }
@@ -99,7 +117,7 @@ fn ending<N: Nvm>(
     if !ended {
         return Ok(None);
     }
-    let state = progress.machine.snapshot(alloc, nvm)?;
+    let state = shot(alloc, &progress.machine, nvm)?;
     Ok(Some(state))
 }
 

@@ -27,7 +27,7 @@ fn note_reload(events: &mut Events, reload: bool) -> Result<(), AllocError>
 fn note_did(
     events: &mut Events,
     did: Did,
-    restored: Option<MachState>,
+    restored: Option<Box<MachState>>,
     cycle: u64,
 ) -> Result<(), AllocError>
     ensures ok { (o : Origin) → Restores o did restored → OnOk result (events.new ≡ events.old ++ told o did cycle) }
@@ -59,7 +59,7 @@ fn note_restart(
     events: &mut Events,
     epoch: u64,
     count: u64,
-    restored: Option<MachState>,
+    restored: Option<Box<MachState>>,
 ) -> Result<(), AllocError>
     ensures ok { (o : Origin) → Restores o (Did.Restarted epoch count) restored → OnOk result (events.new ≡ events.old ++ told o (Did.Restarted epoch count) 0) }
     ensures err { OnErr result (events.new ≡ events.old) }
@@ -68,7 +68,7 @@ fn note_restart(
         Some(state) => events.push(Event::Restart {
             epoch,
             count,
-            state,
+            state: Box::into_inner(state),
         }),
         None => Ok(()),
     }
@@ -77,7 +77,7 @@ fn note_restart(
 /// Notes the end of the run, where it has ended, and answers the program's status.
 fn note_end(
     events: &mut Events,
-    ended: Option<MachState>,
+    ended: Option<Box<MachState>>,
     cycle: u64,
 ) -> Result<Option<Status>, AllocError>
     ensures ok { (o : Origin) (v next : View) → IsEnding o v next ended → OnOk result (events.new ≡ events.old ++ end_told o v next cycle) }
@@ -86,6 +86,7 @@ fn note_end(
 {
     match ended {
         Some(state) => {
+            let state = Box::into_inner(state);
             let status = state.status;
             let count = state.count;
             events.push(Event::Ended {
@@ -105,8 +106,8 @@ pub fn note(
     events: &mut Events,
     did: Did,
     reload: bool,
-    restored: Option<MachState>,
-    ended: Option<MachState>,
+    restored: Option<Box<MachState>>,
+    ended: Option<Box<MachState>>,
     cycle: u64,
 ) -> Result<Option<Status>, AllocError>
     ensures ok { (o : Origin) (fresh : Bool) (v next : View) → (reload ≡ (fresh && loads next)) → Restores o did restored → IsEnding o v next ended → OnOk result (events.new ≡ events.old ++ events_of o fresh v did next cycle) }

@@ -1,4 +1,4 @@
-//! Tests of the crates below the program, by their public calls.
+//! Tests of the crates and of whole runs, by public calls.
 #![tactic(auto)]
 
 #[cfg(test)]
@@ -23,6 +23,8 @@ mod out_sink;
 mod plain;
 #[cfg(test)]
 mod record;
+#[cfg(test)]
+mod runs;
 #[cfg(test)]
 mod text;
 #[cfg(test)]

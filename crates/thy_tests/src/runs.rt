@@ -1,10 +1,10 @@
 //! Whole runs over memory: what is reported, and with which status.
 mod cuts;
 
-use crate::top::thynvm;
 use std::alloc::{AllocError, Global};
 use std::process::Abort;
 use std::test::Fail;
+use thy_cli::thynvm;
 use thy_nvm::MemNvm;
 use thy_out::{MemShelf, MemSink};
 

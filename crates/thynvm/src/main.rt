@@ -2,21 +2,11 @@
 //! reports what happens.
 #![tactic(auto)]
 
-mod answer;
-mod close;
-mod plain;
-mod refusal;
-mod source;
-#[cfg(test)]
-mod tests;
-mod top;
-
-use crate::refusal::{Refusal, refuse};
-use crate::top::thynvm;
 use std::alloc::{AllocError, Global};
 use std::io::ErrorKind;
 use std::process::ExitCode;
 use std::rt::Env;
+use thy_cli::{Refusal, refuse, thynvm};
 use thy_nvm::MemNvm;
 use thy_out::{FileShelf, StdSink};
 

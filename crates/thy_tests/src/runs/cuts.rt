@@ -1,5 +1,5 @@
 //! Runs whose power is cut.
-use crate::tests::{expect, has, ran};
+use crate::runs::{expect, has, ran};
 use std::alloc::{AllocError, Global};
 use std::process::Abort;
 use std::test::Fail;
