@@ -44,11 +44,7 @@ fn shows_console(did: Did) -> bool
 }
 
 /// The state that the machine executes, in a box: few cycles have one, and the others move a pointer.
-fn shot<N: Nvm>(
-    alloc: Global,
-    machine: &Machine,
-    nvm: &mut N,
-) -> Result<Box<MachState>, CoreError>
+fn shot<N: Nvm>(alloc: Global, machine: &Machine, nvm: &mut N) -> Result<Box<MachState>, CoreError>
     ensures state { (o : Origin) (k : ℕ) → IsAt o k machine.now (N.device nvm.old) → is_boot (view_of o machine.now (N.device nvm.old)).phase ≡ false → IfOk result (λ s. IsSnapshot o (view_of o machine.now (N.device nvm.old)) s.value) }
     ensures same { OnOk result (N.device nvm.new ≡ N.device nvm.old) }
     ensures err { IfErr result (λ e. HasFailedToRead e (N.device nvm.old) (N.device nvm.new)) }

@@ -1,16 +1,26 @@
-//! The events of a step.
+//! The events of a step. Each is made in a function of its own, so that a cycle without one makes none.
 ghost use Rattle.std.specs.Prelude.{◌≡◌, ◌++◌, ◌∷◌, [], ◌&&◌, Bool, if◌then◌else◌, OnOk, OnErr, IfOk};
 ghost use Rattle.thy_model.specs.Calls.{loads};
 ghost use Rattle.thy_model.specs.Origin.{Origin};
 ghost use Rattle.thy_model.specs.declared.view.View.{View};
 ghost use Rattle.thy_run.specs.World.{told, end_told, events_of};
-ghost use Rattle.thy_text.specs.Happening.{Reload};
+ghost use Rattle.thy_isa.specs.Step.{state_of};
+ghost use Rattle.thy_text.specs.Happening.{Reload, Commit, EpochEnd, Ended};
 ghost use Rattle.thy_run.specs.Going.{Restores, IsEnding, IsEnd, MadeSome};
 
 use std::alloc::AllocError;
+use thy_base::EndCause;
 use thy_isa::{MachState, Status};
 use thy_model::Did;
 use thy_text::{Event, Events};
+
+/// Notes that the file is loaded again.
+fn note_load(events: &mut Events) -> Result<(), AllocError>
+    ensures ok { OnOk result (events.new ≡ events.old ++ Reload ∷ []) }
+    ensures err { OnErr result (events.new ≡ events.old) }
+{
+    events.push(Event::Reload)
+}
 
 /// Notes that the file is loaded again, where it is.
 fn note_reload(events: &mut Events, reload: bool) -> Result<(), AllocError>
@@ -18,40 +28,38 @@ fn note_reload(events: &mut Events, reload: bool) -> Result<(), AllocError>
     ensures err { OnErr result (events.new ≡ events.old) }
 {
     if reload {
-        events.push(Event::Reload)?;
+        return note_load(events);
     }
     Ok(())
 }
 
-/// Notes what a step did, where that is an event.
-fn note_did(
+/// Notes a commit.
+fn note_commit(
     events: &mut Events,
-    did: Did,
-    restored: Option<Box<MachState>>,
+    epoch: u64,
     cycle: u64,
+    overlapped: u64,
 ) -> Result<(), AllocError>
-    ensures ok { (o : Origin) → Restores o did restored → OnOk result (events.new ≡ events.old ++ told o did cycle) }
+    ensures ok { OnOk result (events.new ≡ events.old ++ Commit epoch cycle overlapped ∷ []) }
     ensures err { OnErr result (events.new ≡ events.old) }
 {
-    match did {
-        Did::Loaded => events.push(Event::Commit {
-            epoch: 0,
-            cycle,
-            overlapped: 0,
-        }),
-        Did::Sealed(epoch, count, cause) => events.push(Event::EpochEnd {
-            epoch,
-            count,
-            cause,
-        }),
-        Did::Committed { epoch, overlapped } => events.push(Event::Commit {
-            epoch,
-            cycle,
-            overlapped,
-        }),
-        Did::Restarted(epoch, count) => note_restart(events, epoch, count, restored),
-        _ => Ok(()),
-    }
+    events.push(Event::Commit {
+        epoch,
+        cycle,
+        overlapped,
+    })
+}
+
+/// Notes the end of an epoch.
+fn note_seal(events: &mut Events, epoch: u64, count: u64, cause: EndCause) -> Result<(), AllocError>
+    ensures ok { OnOk result (events.new ≡ events.old ++ EpochEnd epoch count cause ∷ []) }
+    ensures err { OnErr result (events.new ≡ events.old) }
+{
+    events.push(Event::EpochEnd {
+        epoch,
+        count,
+        cause,
+    })
 }
 
 /// Notes a restart, with the state that was restored.
@@ -74,6 +82,43 @@ fn note_restart(
     }
 }
 
+/// Notes what a step did, where that is an event.
+fn note_did(
+    events: &mut Events,
+    did: Did,
+    restored: Option<Box<MachState>>,
+    cycle: u64,
+) -> Result<(), AllocError>
+    ensures ok { (o : Origin) → Restores o did restored → OnOk result (events.new ≡ events.old ++ told o did cycle) }
+    ensures err { OnErr result (events.new ≡ events.old) }
+{
+    match did {
+        Did::Loaded => note_commit(events, 0, cycle, 0),
+        Did::Sealed(epoch, count, cause) => note_seal(events, epoch, count, cause),
+        Did::Committed { epoch, overlapped } => note_commit(events, epoch, cycle, overlapped),
+        Did::Restarted(epoch, count) => note_restart(events, epoch, count, restored),
+        _ => Ok(()),
+    }
+}
+
+/// Notes the end of the run, and answers the program's status.
+fn note_last(events: &mut Events, state: Box<MachState>, cycle: u64) -> Result<Status, AllocError>
+    ensures ok { OnOk result (events.new ≡ events.old ++ Ended state.value.status state.value.count cycle (state_of state.value) ∷ []) }
+    ensures status { IfOk result (λ s. s ≡ state.value.status) }
+    ensures err { OnErr result (events.new ≡ events.old) }
+{
+    let state = Box::into_inner(state);
+    let status = state.status;
+    let count = state.count;
+    events.push(Event::Ended {
+        status,
+        count,
+        cycle,
+        state,
+    })?;
+    Ok(status)
+}
+
 /// Notes the end of the run, where it has ended, and answers the program's status.
 fn note_end(
     events: &mut Events,
@@ -86,15 +131,7 @@ fn note_end(
 {
     match ended {
         Some(state) => {
-            let state = Box::into_inner(state);
-            let status = state.status;
-            let count = state.count;
-            events.push(Event::Ended {
-                status,
-                count,
-                cycle,
-                state,
-            })?;
+            let status = note_last(events, state, cycle)?;
             Ok(Some(status))
         }
         None => Ok(None),
