@@ -2,6 +2,7 @@
 ghost use Rattle.std.specs.Prelude.{◌≡◌, None, IfOk, IfErr, OnOk};
 ghost use Rattle.thy_base.specs.Config.{fault_of as range_fault};
 ghost use Rattle.thy_base.specs.Device.{Device as DeviceValue};
+ghost use Rattle.thy_base.specs.Geometry.{parameters_of};
 ghost use Rattle.thy_cli.specs.Answering.{TaskDue, IsProgramOf, named};
 
 use crate::refusal::Refusal;
@@ -30,6 +31,30 @@ pub struct Program {
     pub image: Image,
 }
 
+/// Fetches a program file and reads it, for a machine of these numbers.
+fn fetch_image<'a, H: Shelf>(
+    alloc: Global,
+    task: &Task<'a>,
+    geometry: &Geometry,
+    shelf: &mut H,
+) -> Result<Image, Refusal<'a>>
+    requires { geometry.now ≡ parameters_of task.now.config }
+    ensures refusal { IfErr result (λ r. (n : DeviceValue) → TaskDue (named task.now) (H.stock shelf.old) (H.stock shelf.new) n n r) }
+    ensures held { (H.stock shelf.new).held ≡ (H.stock shelf.old).held }
+    ensures calm { OnOk result ((H.stock shelf.new).faults ≡ (H.stock shelf.old).faults) }
+    ensures image { IfOk result (λ image. IsProgramOf (named task.now) (H.stock shelf.old) (record { geometry = geometry.now; image = image })) }
+{
+    let bytes = match shelf.fetch(alloc, task.file, MOST_BYTES) {
+        Ok(bytes) => bytes,
+        Err(error) => return Err(Refusal::Fetch(task.file, error)),
+    };
+    let base = geometry.numbers().base;
+    match read(alloc, &bytes, base, geometry.program_size()) {
+        Ok(image) => Ok(image),
+        Err(error) => Err(Refusal::File(error)),
+    }
+}
+
 /// Fetches a program file and reads it; or says why there is no program.
 pub fn fetch_program<'a, H: Shelf>(
     alloc: Global,
@@ -46,13 +71,8 @@ pub fn fetch_program<'a, H: Shelf>(
         Ok(geometry) => geometry,
         Err(error) => return Err(Refusal::Words(WordsError::Value(error.field, error.value))),
     };
-    let bytes = match shelf.fetch(alloc, task.file, MOST_BYTES) {
-        Ok(bytes) => bytes,
-        Err(error) => return Err(Refusal::Fetch(task.file, error)),
-    };
-    let base = geometry.numbers().base;
-    match read(alloc, &bytes, base, geometry.program_size()) {
+    match fetch_image(alloc, task, &geometry, shelf) {
         Ok(image) => Ok(Program { geometry, image }),
-        Err(error) => Err(Refusal::File(error)),
+        Err(refusal) => Err(refusal),
     }
 }

@@ -1,21 +1,43 @@
 //! The top call: from the words to the exit status.
-ghost use Rattle.std.specs.Prelude.{◌≡◌, false, map, None, IfOk, IfErr, OnOk};
+ghost use Rattle.std.specs.Prelude.{◌≡◌, false, map, length, None, IfOk, IfErr, OnOk};
 ghost use Rattle.std.specs.String.{string_bytes};
+ghost use Rattle.thy_base.specs.Bytes.{bytes_of};
 ghost use Rattle.thy_base.specs.Config.{fault_of as range_fault};
-ghost use Rattle.thy_cli.specs.Answering.{Answered, TaskAnswered, TaskDue, IsPlanOf, named};
+ghost use Rattle.thy_base.specs.Geometry.{program_size};
+ghost use Rattle.thy_base.specs.Outside.{Stock};
+ghost use Rattle.thy_cli.specs.Answering.{Answered, TaskAnswered, TaskDue, IsProgramOf, IsPlanOf, named};
 ghost use Rattle.thy_base.specs.Device.{Device as DeviceValue};
 
 use crate::answer::Answer;
 use crate::close::answer;
 use crate::plain::plain_file;
 use crate::refusal::{Refusal, refuse};
-use crate::source::{Task, fetch_program};
+use crate::source::{Program, Task, fetch_program};
 use std::alloc::Global;
 use thy_base::{Bytes, Nvm, Shape, Shelf, Sink};
 use thy_model::Start;
 use thy_plain::start_of;
 use thy_run::{Plan, run};
 use thy_words::{Command, settings};
+
+/// What a run of a program is to do.
+fn plan_of(alloc: Global, task: Task, program: Program) -> Plan
+    requires range { range_fault task.config ≡ None }
+    requires size { length (bytes_of program.image.memory) ≡ program_size program.geometry }
+    ensures { (stock : Stock) → IsProgramOf (named task.entry) stock program → IsPlanOf (named task.entry) stock result }
+{
+    let start = Start {
+        state: start_of(alloc, program.image, &program.geometry),
+        epoch: 0,
+        input: Bytes::new(alloc),
+    };
+    Plan {
+        config: task.config,
+        geometry: program.geometry,
+        start,
+        digest: task.digest,
+    }
+}
 
 /// What a run of a file is to do; or why there is none.
 fn prepare<'a, H: Shelf>(alloc: Global, task: Task<'a>, shelf: &mut H) -> Result<Plan, Refusal<'a>>
@@ -26,20 +48,7 @@ fn prepare<'a, H: Shelf>(alloc: Global, task: Task<'a>, shelf: &mut H) -> Result
     ensures plan { IfOk result (λ p. IsPlanOf (named task.entry) (H.stock shelf.old) p) }
 {
     match fetch_program(alloc, &task, shelf) {
-        Ok(program) => {
-            let geometry = program.geometry;
-            let start = Start {
-                state: start_of(alloc, program.image, &geometry),
-                epoch: 0,
-                input: Bytes::new(alloc),
-            };
-            Ok(Plan {
-                config: task.config,
-                geometry,
-                start,
-                digest: task.digest,
-            })
-        }
+        Ok(program) => Ok(plan_of(alloc, task, program)),
         Err(refusal) => Err(refusal),
     }
 }

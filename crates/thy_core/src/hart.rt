@@ -82,7 +82,7 @@ fn perform(m: &mut Parts, effect: Effect, input_len: u64)
     let calls = call_state(m, input_len);
     let number = read(m, effect);
     write(m, effect);
-    m.cpu = finish(&m.cpu, &effect, number, &calls);
+    finish(&mut m.cpu, &effect, number, &calls);
 }
 
 fn read(m: &Parts, effect: Effect) -> u64

@@ -8,7 +8,6 @@ ghost use Rattle.thy_model.specs.Action.{after, FailsTo};
 ghost use Rattle.thy_model.specs.Bounds.{IsSized, IsIssue, IsBounded, IsStage, IsStart, IsBelow, IsConsistent};
 ghost use Rattle.thy_model.specs.Checkpoint.{issue_action, issue_after};
 ghost use Rattle.thy_model.specs.Steps.{filled, noted, loaded_view, committed_view, loading_on, checkpoint_on, engine_step, loading_did, checkpoint_did, boot_action, boot_next, boot_did, read_did, over_after, retired_view, retired_on, sealed_on};
-ghost use Rattle.thy_model.specs.CoreStep.{busier};
 
 use crate::boot::{find_commit, find_header, find_memory, find_record, phase_of};
 use crate::engine::{issue, memory_place, next_issue, record_place};
@@ -17,15 +16,6 @@ use crate::loading::start_block;
 use thy_base::{Block, EndCause, Geometry, Mark, Nvm, NvmError};
 use thy_isa::{CpuState, Status};
 use thy_model::{Did, EngineStep, Issue, Parts, Phase, Stage, Start, View};
-
-fn busier(view: &View) -> View
-    requires { view.now.spent + 1 < 2 ^ 64 }
-    ensures { result ≡ busier view.now }
-{
-    let mut next = *view;
-    next.spent += 1;
-    next
-}
 
 fn note(view: &mut View, issue: Issue)
     ensures { view.new ≡ noted issue view.old }
@@ -127,7 +117,7 @@ fn checkpoint_on(m: &mut Parts, epoch: u64, issue: Issue, next: Option<Issue>)
     ensures parts { m.new ≡ checkpoint_on epoch issue next m.old }
     ensures consistent { IsConsistent m.new }
 {
-    m.view = busier(&m.view);
+    m.view.spent += 1;
     match next {
         Some(issue_next) => {
             note(&mut m.view, issue);
@@ -197,21 +187,20 @@ fn advance(m: &mut Parts, input_len: u64)
     requires view { IsBelow (2 ^ 64 - 2) m.old.view }
     ensures { m.new ≡ retired_on input_len m.old }
 {
-    let before = m.view;
     execute(m, input_len);
-    m.view = retired_view(&m.geometry, &m.cpu, &before);
+    count_retired(&m.geometry, &m.cpu, &mut m.view);
 }
 
-fn retired_view(geometry: &Geometry, cpu: &CpuState, view: &View) -> View
-    requires { IsBelow (2 ^ 64 - 2) view.now }
-    ensures { result ≡ retired_view geometry.now cpu.now view.now }
+/// Counts an instruction that was retired, and says whether the epoch is over by it.
+fn count_retired(geometry: &Geometry, cpu: &CpuState, view: &mut View)
+    requires { IsBelow (2 ^ 64 - 2) view.old }
+    ensures { view.new ≡ retired_view geometry.now cpu.now view.old }
 {
-    let mut next = busier(view);
-    next.count += 1;
-    next.retired += 1;
-    next.lap += 1;
-    next.over = over_after(geometry, cpu, view);
-    next
+    view.over = over_after(geometry, cpu, view);
+    view.spent += 1;
+    view.count += 1;
+    view.retired += 1;
+    view.lap += 1;
 }
 
 fn over_after(geometry: &Geometry, cpu: &CpuState, view: &View) -> Option<EndCause>

@@ -52,35 +52,32 @@ pub fn cause_number(cause: Cause) -> u64
     cause as u64
 }
 
-/// The state after an environment call: its answer in a0, or the end of the program.
-fn serve(cpu: &CpuState, call: Call) -> CpuState
-    requires { cpu.now.count + 1 < 2 ^ 64 }
-    ensures { result ≡ served cpu.now call }
+/// Ends an environment call: its answer in a0, or the end of the program.
+fn serve(cpu: &mut CpuState, call: Call)
+    requires { cpu.old.count + 1 < 2 ^ 64 }
+    ensures { cpu.new ≡ served cpu.old call }
 {
-    let mut next = *cpu;
-    next.count += 1;
+    cpu.count += 1;
     match call {
         Call::Answer(value) => {
-            next.pc = after(cpu.pc);
-            next.regs.set(Reg::new(10), value);
+            cpu.pc = after(cpu.pc);
+            cpu.regs.set(Reg::new(10), value);
         }
-        Call::Exit(value) => next.status = Status::Exited(value),
+        Call::Exit(value) => cpu.status = Status::Exited(value),
     }
-    next
 }
 
-/// The state after an effect, memory aside. `number` is what was read where the effect reads, and
-/// `calls` what an environment call is decided by.
-pub fn finish(cpu: &CpuState, effect: &Effect, number: u64, calls: &CallState) -> CpuState
-    requires { cpu.now.count + 1 < 2 ^ 64 }
-    ensures { result ≡ finished cpu.now effect.now number calls.now }
+/// Takes an effect, memory aside. `number` is what was read where the effect reads, and `calls` what an
+/// environment call is decided by.
+pub fn finish(cpu: &mut CpuState, effect: &Effect, number: u64, calls: &CallState)
+    requires { cpu.old.count + 1 < 2 ^ 64 }
+    ensures { cpu.new ≡ finished cpu.old effect.now number calls.now }
 {
-    let mut next = *cpu;
     match *effect {
-        Effect::Next { pc } | Effect::Write { pc, .. } => next.pc = pc,
+        Effect::Next { pc } | Effect::Write { pc, .. } => cpu.pc = pc,
         Effect::Set { pc, rd, value } => {
-            next.pc = pc;
-            next.regs.set(rd, value);
+            cpu.pc = pc;
+            cpu.regs.set(rd, value);
         }
         Effect::Read {
             pc,
@@ -89,12 +86,14 @@ pub fn finish(cpu: &CpuState, effect: &Effect, number: u64, calls: &CallState) -
             rd,
             ..
         } => {
-            next.pc = pc;
-            next.regs.set(rd, extended(width, extend, number));
+            cpu.pc = pc;
+            cpu.regs.set(rd, extended(width, extend, number));
         }
-        Effect::Environment => return serve(cpu, call(&cpu.regs, calls)),
-        Effect::Trap(cause) => next.status = Status::Trapped(cause_number(cause)),
+        Effect::Environment => {
+            let call = call(&cpu.regs, calls);
+            return serve(cpu, call);
+        }
+        Effect::Trap(cause) => cpu.status = Status::Trapped(cause_number(cause)),
     }
-    next.count += 1;
-    next
+    cpu.count += 1;
 }

@@ -1,0 +1,21 @@
+use Rattle.std.proofs.Common.{◌∙◌, sym, ap, refl}
+use Rattle.thy_plain.specs.Start.{start_state}
+use Rattle.thy_elf.specs.Image.{contents_of}
+use Rattle.thy_cli.proofs.TopLemmas.{rising_of, IsOrigin-start}
+use Rattle.thy_cli.proofs.top.plan_of.Goals as goal
+
+pub returns : goal.returns
+returns c = λ stock program.
+    record {
+      config = refl;
+      geometry = program.geometry;
+      digest = refl;
+      file = program.file;
+      start = c.start_of.ensures.state ∙ ap (start_state c.args.program.geometry) (sym program.contents);
+      input = c.new.ensures;
+      epoch = refl;
+      planned = record {
+        origin = IsOrigin-start _ (contents_of c.args.program.image) program.in_range c.start_of.ensures.state c.start_of.ensures.storable;
+        rising = rising_of c.args.task.config c.requires.range;
+      };
+    }
