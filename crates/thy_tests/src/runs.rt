@@ -8,9 +8,8 @@ use thy_cli::thynvm;
 use thy_nvm::MemNvm;
 use thy_out::{MemShelf, MemSink};
 
-/// The ELF header and the one program header of a small program file: its words stand behind these, at
-/// the address 65536, where it starts. The numbers of bytes, in the file and in memory, are for three.
-static HEADERS: [u8; 120] = [
+/// A program file of three instructions at the address 65536: `addi a7,zero,93; addi a0,zero,7; ecall`.
+static EXIT_SEVEN: [u8; 132] = [
     0x7f, 0x45, 0x4c, 0x46, 0x02, 0x01, 0x01, 0x00, 0x00, 0x00, 0x00, 0x00, 0x00, 0x00, 0x00, 0x00,
     0x02, 0x00, 0xf3, 0x00, 0x01, 0x00, 0x00, 0x00, 0x00, 0x00, 0x01, 0x00, 0x00, 0x00, 0x00, 0x00,
     0x40, 0x00, 0x00, 0x00, 0x00, 0x00, 0x00, 0x00, 0x00, 0x00, 0x00, 0x00, 0x00, 0x00, 0x00, 0x00,
@@ -18,72 +17,78 @@ static HEADERS: [u8; 120] = [
     0x01, 0x00, 0x00, 0x00, 0x07, 0x00, 0x00, 0x00, 0x78, 0x00, 0x00, 0x00, 0x00, 0x00, 0x00, 0x00,
     0x00, 0x00, 0x01, 0x00, 0x00, 0x00, 0x00, 0x00, 0x00, 0x00, 0x01, 0x00, 0x00, 0x00, 0x00, 0x00,
     0x0c, 0x00, 0x00, 0x00, 0x00, 0x00, 0x00, 0x00, 0x0c, 0x00, 0x00, 0x00, 0x00, 0x00, 0x00, 0x00,
-    0x04, 0x00, 0x00, 0x00, 0x00, 0x00, 0x00, 0x00,
+    0x04, 0x00, 0x00, 0x00, 0x00, 0x00, 0x00, 0x00, 0x93, 0x08, 0xd0, 0x05, 0x13, 0x05, 0x70, 0x00,
+    0x73, 0x00, 0x00, 0x00,
 ];
-
-/// `addi a7,zero,93; addi a0,zero,7; ecall`
-const EXIT_SEVEN: [u32; 3] = [0x05d00893, 0x00700513, 0x00000073];
 
 /// `auipc t0,0; lw t1,24(t0); sw t1,16(t0); fence.i; addi a0,zero,1; jal zero,+8; addi a0,zero,9;
 /// addi a7,zero,93; ecall`: it puts its seventh word in place of its fifth.
-const SELF_MODIFYING: [u32; 9] = [
-    0x00000297, 0x0182a303, 0x0062a823, 0x0000100f, 0x00100513, 0x0080006f, 0x00900513, 0x05d00893,
-    0x00000073,
+static SELF_MODIFYING: [u8; 156] = [
+    0x7f, 0x45, 0x4c, 0x46, 0x02, 0x01, 0x01, 0x00, 0x00, 0x00, 0x00, 0x00, 0x00, 0x00, 0x00, 0x00,
+    0x02, 0x00, 0xf3, 0x00, 0x01, 0x00, 0x00, 0x00, 0x00, 0x00, 0x01, 0x00, 0x00, 0x00, 0x00, 0x00,
+    0x40, 0x00, 0x00, 0x00, 0x00, 0x00, 0x00, 0x00, 0x00, 0x00, 0x00, 0x00, 0x00, 0x00, 0x00, 0x00,
+    0x00, 0x00, 0x00, 0x00, 0x40, 0x00, 0x38, 0x00, 0x01, 0x00, 0x00, 0x00, 0x00, 0x00, 0x00, 0x00,
+    0x01, 0x00, 0x00, 0x00, 0x07, 0x00, 0x00, 0x00, 0x78, 0x00, 0x00, 0x00, 0x00, 0x00, 0x00, 0x00,
+    0x00, 0x00, 0x01, 0x00, 0x00, 0x00, 0x00, 0x00, 0x00, 0x00, 0x01, 0x00, 0x00, 0x00, 0x00, 0x00,
+    0x24, 0x00, 0x00, 0x00, 0x00, 0x00, 0x00, 0x00, 0x24, 0x00, 0x00, 0x00, 0x00, 0x00, 0x00, 0x00,
+    0x04, 0x00, 0x00, 0x00, 0x00, 0x00, 0x00, 0x00, 0x97, 0x02, 0x00, 0x00, 0x03, 0xa3, 0x82, 0x01,
+    0x23, 0xa8, 0x62, 0x00, 0x0f, 0x10, 0x00, 0x00, 0x13, 0x05, 0x10, 0x00, 0x6f, 0x00, 0x80, 0x00,
+    0x13, 0x05, 0x90, 0x00, 0x93, 0x08, 0xd0, 0x05, 0x73, 0x00, 0x00, 0x00,
 ];
 
-/// A program file of these words, of which there are fewer than 64.
-fn small_file(alloc: Global, words: &[u32]) -> Result<Vec<u8>, AllocError> {
-    let size = (4 * words.len().min(63)) as u8;
-    let mut headers = HEADERS;
-    headers[96] = size;
-    headers[104] = size;
-    let mut file = Vec::from_slice(alloc, &headers)?;
-    for word in words {
-        file.extend_from_slice(&word.to_le_bytes())?;
-    }
-    Ok(file)
-}
+/// One word, which is no instruction.
+static NO_INSTRUCTION: [u8; 124] = [
+    0x7f, 0x45, 0x4c, 0x46, 0x02, 0x01, 0x01, 0x00, 0x00, 0x00, 0x00, 0x00, 0x00, 0x00, 0x00, 0x00,
+    0x02, 0x00, 0xf3, 0x00, 0x01, 0x00, 0x00, 0x00, 0x00, 0x00, 0x01, 0x00, 0x00, 0x00, 0x00, 0x00,
+    0x40, 0x00, 0x00, 0x00, 0x00, 0x00, 0x00, 0x00, 0x00, 0x00, 0x00, 0x00, 0x00, 0x00, 0x00, 0x00,
+    0x00, 0x00, 0x00, 0x00, 0x40, 0x00, 0x38, 0x00, 0x01, 0x00, 0x00, 0x00, 0x00, 0x00, 0x00, 0x00,
+    0x01, 0x00, 0x00, 0x00, 0x07, 0x00, 0x00, 0x00, 0x78, 0x00, 0x00, 0x00, 0x00, 0x00, 0x00, 0x00,
+    0x00, 0x00, 0x01, 0x00, 0x00, 0x00, 0x00, 0x00, 0x00, 0x00, 0x01, 0x00, 0x00, 0x00, 0x00, 0x00,
+    0x04, 0x00, 0x00, 0x00, 0x00, 0x00, 0x00, 0x00, 0x04, 0x00, 0x00, 0x00, 0x00, 0x00, 0x00, 0x00,
+    0x04, 0x00, 0x00, 0x00, 0x00, 0x00, 0x00, 0x00, 0x00, 0x00, 0x00, 0x00,
+];
 
 /// What a call gave.
 #[derive(Drop)]
 struct Given {
     status: u8,
     cycles: u64,
-    terminal: Vec<u8>,
+    /// The terminal was given nothing.
+    silent: bool,
     report: Vec<u8>,
 }
 
 /// The files of these tests: the program that exits with 7 under the name F, the one that modifies itself
-/// under S, one whose first word is no instruction under Z, and 63 bytes of the first under G.
+/// under S, the one that is no program under Z, and 63 bytes of the first under G.
 fn files(alloc: Global) -> Result<Vec<(String, Vec<u8>)>, AllocError> {
     let mut files = Vec::new(alloc);
-    let mut short = small_file(alloc, &EXIT_SEVEN)?;
-    short.truncate(63);
-    files.push((
-        String::from_str(alloc, "F")?,
-        small_file(alloc, &EXIT_SEVEN)?,
-    ))?;
-    files.push((
-        String::from_str(alloc, "S")?,
-        small_file(alloc, &SELF_MODIFYING)?,
-    ))?;
-    files.push((String::from_str(alloc, "Z")?, small_file(alloc, &[0])?))?;
-    files.push((String::from_str(alloc, "G")?, short))?;
+    for (name, bytes) in [
+        ("F", EXIT_SEVEN.as_slice()),
+        ("S", SELF_MODIFYING.as_slice()),
+        ("Z", NO_INSTRUCTION.as_slice()),
+        ("G", &EXIT_SEVEN[..63]),
+    ] {
+        files.push((
+            String::from_str(alloc, name)?,
+            Vec::from_slice(alloc, bytes)?,
+        ))?;
+    }
     Ok(files)
 }
 
-/// Calls with the words, parted by spaces, over this shelf and this report.
-fn answered(
+/// Calls with the words, parted by spaces, over this shelf and a report that fails at these calls.
+fn called(
     alloc: Global,
     line: &str,
     mut shelf: MemShelf,
-    mut report: MemSink,
+    failing: &[u64],
 ) -> Result<Given, AllocError> {
     let mut words = Vec::new(alloc);
     for word in line.split(' ') {
         words.push(String::from_str(alloc, word)?)?;
     }
     let mut terminal = MemSink::new(alloc, 4096, Vec::new(alloc))?;
+    let mut report = MemSink::new(alloc, 4096, Vec::from_slice(alloc, failing)?)?;
     let mut nvm = MemNvm::new(alloc);
     let answer = thynvm(
         alloc,
@@ -96,7 +101,7 @@ fn answered(
     Ok(Given {
         status: answer.status,
         cycles: answer.cycles,
-        terminal: Vec::from_slice(alloc, terminal.taken())?,
+        silent: terminal.taken().is_empty(),
         report: Vec::from_slice(alloc, report.taken())?,
     })
 }
@@ -104,8 +109,13 @@ fn answered(
 /// Calls with the words, parted by spaces, over the files of these tests.
 fn ran(alloc: Global, line: &str) -> Result<Given, AllocError> {
     let shelf = MemShelf::new(files(alloc)?, Vec::new(alloc));
-    let report = MemSink::new(alloc, 4096, Vec::new(alloc))?;
-    answered(alloc, line, shelf, report)
+    called(alloc, line, shelf, &[])
+}
+
+/// Compares what a call gave with a status and a report; the terminal is to have nothing.
+fn compare(rt: &impl Abort, line: &str, given: &Given, status: u8, report: &[u8]) {
+    let is_so = given.status == status && given.report.as_slice() == report && given.silent;
+    assert!(rt; is_so, "{line}");
 }
 
 /// Runs a line and compares its status and its report.
@@ -117,22 +127,33 @@ fn expect(
     report: &str,
 ) -> Result<(), AllocError> {
     let given = ran(alloc, line)?;
-    assert!(rt; given.status == status, "{line}");
-    assert!(rt; given.report.as_slice() == report.as_bytes(), "{line}");
-    assert!(rt; given.terminal.is_empty());
+    compare(rt, line, &given, status, report.as_bytes());
     Ok(())
 }
 
+/// Runs that end, with status, cycles (of `plain`: steps) and report.
+static RUNS: [(&str, u8, u64, &str); 6] = [
+    (
+        "thynvm run F --pages 8 --btt 8 --ptt 8",
+        0,
+        1392,
+        "commit 0 overlapped 0\nepoch 1 ends at 3 by end\ncommit 1 overlapped 0\nexit 7 at 3\n",
+    ),
+    ("thynvm plain F", 0, 3, "exit 7 at 3\n"),
+    ("thynvm plain F --limit 2", 8, 2, "limit 2\n"),
+    ("thynvm plain F --limit 3", 0, 3, "exit 7 at 3\n"),
+    ("thynvm plain S --pages 4096", 0, 8, "exit 9 at 8\n"),
+    ("thynvm plain Z", 1, 1, "trap 2 at 1\n"),
+];
+
 #[test]
-fn the_program_exits_after_1392_cycles(rt: HostRuntime) -> Result<(), Fail> {
+fn runs_take_their_cycles(rt: HostRuntime) -> Result<(), Fail> {
     let alloc = rt.alloc();
-    let given = ran(alloc, "thynvm run F --pages 8 --btt 8 --ptt 8")?;
-    assert_eq!(rt; given.status, 0);
-    assert_eq!(rt; given.cycles, 1392);
-    assert!(rt;
-        given.report.as_slice()
-            == b"commit 0 overlapped 0\nepoch 1 ends at 3 by end\ncommit 1 overlapped 0\nexit 7 at 3\n".as_slice()
-    );
+    for (line, status, cycles, report) in &RUNS {
+        let given = ran(alloc, line)?;
+        compare(&rt, line, &given, *status, report.as_bytes());
+        assert!(rt; given.cycles == *cycles, "{line}");
+    }
     Ok(())
 }
 
@@ -177,32 +198,23 @@ fn each_refusal_has_its_line(rt: HostRuntime) -> Result<(), Fail> {
     Ok(())
 }
 
+/// A shelf on which a file is too long by a byte.
+fn long_shelf(alloc: Global) -> Result<MemShelf, AllocError> {
+    let mut held = Vec::new(alloc);
+    let file = Vec::from_elem(alloc, 0u8, 67_108_865)?;
+    held.push((String::from_str(alloc, "F")?, file))?;
+    Ok(MemShelf::new(held, Vec::new(alloc)))
+}
+
 #[test]
 fn a_file_that_is_not_had_has_its_line(rt: HostRuntime) -> Result<(), Fail> {
     let alloc = rt.alloc();
-    for command in ["run", "plain"] {
-        let line = format!(in alloc; "thynvm {command} F")?;
-        let shelf = MemShelf::new(files(alloc)?, Vec::from_slice(alloc, &[1])?);
-        let report = MemSink::new(alloc, 4096, Vec::new(alloc))?;
-        let given = answered(alloc, line.as_str(), shelf, report)?;
-        assert_eq!(rt; given.status, 3);
-        assert!(rt;
-            given.report.as_slice() == b"fetch F failed\n".as_slice(),
-            "{line}"
-        );
-        let mut held = Vec::new(alloc);
-        held.push((
-            String::from_str(alloc, "F")?,
-            Vec::from_elem(alloc, 0u8, 67_108_865)?,
-        ))?;
-        let shelf = MemShelf::new(held, Vec::new(alloc));
-        let report = MemSink::new(alloc, 4096, Vec::new(alloc))?;
-        let given = answered(alloc, line.as_str(), shelf, report)?;
-        assert_eq!(rt; given.status, 3);
-        assert!(rt;
-            given.report.as_slice() == b"fetch F too long\n".as_slice(),
-            "{line}"
-        );
+    for line in ["thynvm run F", "thynvm plain F"] {
+        let failing = MemShelf::new(files(alloc)?, Vec::from_slice(alloc, &[1])?);
+        let given = called(alloc, line, failing, &[])?;
+        compare(&rt, line, &given, 3, b"fetch F failed\n");
+        let given = called(alloc, line, long_shelf(alloc)?, &[])?;
+        compare(&rt, line, &given, 3, b"fetch F too long\n");
     }
     Ok(())
 }
@@ -239,11 +251,9 @@ fn a_report_that_fails_has_taken_the_pieces_before(rt: HostRuntime) -> Result<()
     let mut before = Vec::new(alloc);
     for (k, piece) in PIECES.iter().enumerate() {
         let shelf = MemShelf::new(files(alloc)?, Vec::new(alloc));
-        let failing = Vec::from_slice(alloc, &[k as u64 + 1])?;
-        let report = MemSink::new(alloc, 4096, failing)?;
-        let given = answered(alloc, "thynvm run F --pages 8", shelf, report)?;
-        assert_eq!(rt; given.status, 6);
-        assert!(rt; given.report.as_slice() == before.as_slice(), "{k}");
+        let line = "thynvm run F --pages 8";
+        let given = called(alloc, line, shelf, &[k as u64 + 1])?;
+        compare(&rt, line, &given, 6, before.as_slice());
         before.extend_from_slice(piece.as_bytes())?;
     }
     Ok(())
@@ -270,36 +280,13 @@ fn digests_are_those_of_another_program(rt: HostRuntime) -> Result<(), Fail> {
     Ok(())
 }
 
-/// Runs on the plain machine, with status, steps and report.
-static PLAIN_RUNS: [(&str, u8, u64, &str); 5] = [
-    ("thynvm plain F", 0, 3, "exit 7 at 3\n"),
-    ("thynvm plain F --limit 2", 8, 2, "limit 2\n"),
-    ("thynvm plain F --limit 3", 0, 3, "exit 7 at 3\n"),
-    ("thynvm plain S --pages 4096", 0, 8, "exit 9 at 8\n"),
-    ("thynvm plain Z", 1, 1, "trap 2 at 1\n"),
-];
-
-#[test]
-fn the_plain_machine_takes_whole_steps(rt: HostRuntime) -> Result<(), Fail> {
-    let alloc = rt.alloc();
-    for (line, status, cycles, report) in &PLAIN_RUNS {
-        let given = ran(alloc, line)?;
-        assert!(rt; given.status == *status, "{line}");
-        assert!(rt; given.cycles == *cycles, "{line}");
-        assert!(rt; given.report.as_slice() == report.as_bytes(), "{line}");
-        assert!(rt; given.terminal.is_empty());
-    }
-    Ok(())
-}
-
 #[test]
 fn a_program_that_modifies_itself_over_an_epochs_end_exits_with_9(
     rt: HostRuntime,
 ) -> Result<(), Fail> {
     let alloc = rt.alloc();
     let given = ran(alloc, "thynvm run S --pages 8 --epoch 3")?;
-    assert_eq!(rt; given.status, 0);
-    assert!(rt; has(&given.report, "\nexit 9 at 8\n"));
+    assert!(rt; given.status == 0 && has(&given.report, "\nexit 9 at 8\n"));
     Ok(())
 }
 
@@ -314,20 +301,14 @@ fn has(text: &[u8], piece: &str) -> bool {
 #[test]
 fn every_schedule_and_queue_ends_alike(rt: HostRuntime) -> Result<(), Fail> {
     let alloc = rt.alloc();
+    let end = "\nepoch 3 ends at 3 by end\ncommit 3 overlapped 0\nexit 7 at 3\n";
     for seed in 0..6u64 {
         for queue in [1, 2, 64] {
             let line = format!(in alloc;
                 "thynvm run F --pages 8 --btt 8 --ptt 8 --epoch 1 --mix {seed} --nvmq {queue}"
             )?;
             let given = ran(alloc, line.as_str())?;
-            assert_eq!(rt; given.status, 0);
-            assert!(rt;
-                has(
-                    &given.report,
-                    "\nepoch 3 ends at 3 by end\ncommit 3 overlapped 0\nexit 7 at 3\n"
-                ),
-                "{seed}"
-            );
+            assert!(rt; given.status == 0 && has(&given.report, end), "{line}");
         }
     }
     Ok(())

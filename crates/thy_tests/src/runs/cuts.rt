@@ -67,12 +67,9 @@ fn cut_everywhere(rt: &impl Abort, alloc: Global, tear: u64) -> Result<(), Alloc
             "thynvm run F --pages 8 --btt 8 --ptt 8 --cuts {cycle} --tears {tear}"
         )?;
         let given = ran(alloc, line.as_str())?;
-        assert!(rt; given.status == 0, "{line}");
-        assert!(rt; has(&given.report, "\nexit 7 at 3\n"), "{line}");
-        assert!(rt;
-            tear == 7 || has(&given.report, comes_after(cycle, tear)),
-            "{line}"
-        );
+        let ends = given.status == 0 && has(&given.report, "\nexit 7 at 3\n");
+        let goes_on = tear == 7 || has(&given.report, comes_after(cycle, tear));
+        assert!(rt; ends && goes_on, "{line}");
     }
     Ok(())
 }
