@@ -7,6 +7,8 @@ use Rattle.clap.specs.declared.builder.action.ArgAction.TheVariants.{SetTrue}
 use Rattle.clap.specs.declared.builder.arg.Arg.{Arg}
 use Rattle.clap.specs.declared.builder.command.Command.{Command}
 use Rattle.clap.specs.declared.builder.command.Command.TheViews.{out-Command}
+use Rattle.thy_words.specs.declared.program.Argument.{Argument}
+use Rattle.thy_words.specs.declared.program.Argument.TheVariants.{Operand, Valued, Flag}
 use Rattle.thy_words.specs.Fields.{fields, plain_fields, name_of}
 
 -- a name that has to stand in its place
@@ -29,6 +31,15 @@ with_option a name = with_rule a (option_rule name)
 
 abbrev pub with_flag : App → Text → App
 with_flag a name = with_rule a (flag_rule name)
+
+-- the rule of an argument that `clap` is told of
+abbrev pub rule_for : Argument → Rule
+rule_for (Operand name) = operand_rule name.now
+rule_for (Valued name) = option_rule name.now
+rule_for (Flag name) = flag_rule name.now
+
+abbrev pub with_argument : App → Argument → App
+with_argument a x = with_rule a (rule_for x)
 
 -- a command: its name, its operands in their order, its options and its flags
 pub record Form : Type 0 where

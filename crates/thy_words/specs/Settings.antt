@@ -49,6 +49,10 @@ config_in rows = option_map_or (λ f. Err (Word f))
 abbrev pub file_in : List Row → Text
 file_in rows = unwrap_or (first_of (codes "FILE") rows) []
 
+-- these texts are FILE and the name of the input
+abbrev pub AreNames : List Row → Text → Option Text → Type 0
+AreNames rows file input = (file ≡ file_in rows) × (input ≡ first_of (codes "input") rows)
+
 -- a flag stands among the words
 abbrev pub has_flag : Text → List Row → Bool
 has_flag name rows = option_map_or (λ t. bytes_eq t (codes "true")) (first_of name rows) false

@@ -1,111 +1,95 @@
 //! The program's command line as `clap` is told of it.
-ghost use Rattle.std.specs.Prelude.{◌≡◌, IfOk, fold, map};
-ghost use Rattle.clap.specs.Simple.{app_of};
-ghost use Rattle.thy_words.specs.Program.{IsArg, IsBuilt, bare, program, run_command, plain_command, operand_rule, option_rule, flag_rule, with_operand, with_option, with_flag};
+ghost use Rattle.std.specs.Prelude.{◌≡◌, IfOk, fold};
+ghost use Rattle.clap.specs.Simple.{app_of, new_app, with_subcommand};
+ghost use Rattle.thy_words.specs.Program.{IsArg, IsBuilt, bare, program, rule_for, with_argument};
 
 use clap::{Arg, ArgAction, Command};
 use std::alloc::{AllocError, Global};
 
-/// The operand of `run` and of `plain`: the name of the program file.
-static OPERANDS: [&str; 1] = ["FILE"];
+/// An argument of a command, by its name.
+#[derive(Clone, Copy)]
+enum Argument {
+    /// A name that has to stand in its place.
+    Operand(&'static str),
+    /// An option `--name value` or `--name=value`.
+    Valued(&'static str),
+    /// A flag `--name`.
+    Flag(&'static str),
+}
 
-/// Their flag: whether digests of memory are told.
-static FLAGS: [&str; 1] = ["digest"];
-
-/// The options of `run`, each of which takes a value.
-static RUN_OPTIONS: [&str; 17] = [
-    "base", "pages", "console", "epoch", "btt", "ptt", "sets", "ways", "nvmq", "dramq", "high",
-    "low", "mix", "cuts", "tears", "limit", "input",
+/// The arguments of `run`: the name of the program file, the options, and whether digests of memory
+/// are told.
+static RUN_ARGUMENTS: [Argument; 19] = [
+    Argument::Operand("FILE"),
+    Argument::Valued("base"),
+    Argument::Valued("pages"),
+    Argument::Valued("console"),
+    Argument::Valued("epoch"),
+    Argument::Valued("btt"),
+    Argument::Valued("ptt"),
+    Argument::Valued("sets"),
+    Argument::Valued("ways"),
+    Argument::Valued("nvmq"),
+    Argument::Valued("dramq"),
+    Argument::Valued("high"),
+    Argument::Valued("low"),
+    Argument::Valued("mix"),
+    Argument::Valued("cuts"),
+    Argument::Valued("tears"),
+    Argument::Valued("limit"),
+    Argument::Valued("input"),
+    Argument::Flag("digest"),
 ];
 
-/// The options of `plain`, each of which takes a value.
-static PLAIN_OPTIONS: [&str; 5] = ["base", "pages", "console", "limit", "input"];
+/// The arguments of `plain`.
+static PLAIN_ARGUMENTS: [Argument; 7] = [
+    Argument::Operand("FILE"),
+    Argument::Valued("base"),
+    Argument::Valued("pages"),
+    Argument::Valued("console"),
+    Argument::Valued("limit"),
+    Argument::Valued("input"),
+    Argument::Flag("digest"),
+];
 
-/// A name that has to stand in its place.
-fn operand<'a>(alloc: Global, name: &'a str) -> Arg<'a>
-    ensures { IsArg result (operand_rule name.entry.now) }
+/// An argument as `clap` is told of it.
+fn arg<'a>(alloc: Global, argument: Argument) -> Arg<'a>
+    ensures { IsArg result (rule_for argument) }
 {
-    Arg::new(alloc, name).required(true)
+    match argument {
+        Argument::Operand(name) => Arg::new(alloc, name).required(true),
+        Argument::Valued(name) => Arg::new(alloc, name).long(name),
+        Argument::Flag(name) => Arg::new(alloc, name).long(name).action(ArgAction::SetTrue),
+    }
 }
 
-/// An option `--name value` or `--name=value`.
-fn option<'a>(alloc: Global, name: &'a str) -> Arg<'a>
-    ensures { IsArg result (option_rule name.entry.now) }
-{
-    Arg::new(alloc, name).long(name)
-}
-
-/// A flag `--name`.
-fn flag<'a>(alloc: Global, name: &'a str) -> Arg<'a>
-    ensures { IsArg result (flag_rule name.entry.now) }
-{
-    Arg::new(alloc, name).long(name).action(ArgAction::SetTrue)
-}
-
-fn with_operands<'a>(
+/// A command with its arguments.
+fn command<'a>(
     alloc: Global,
-    command: Command<'a>,
-    names: &'static [&'static str],
+    name: &'a str,
+    arguments: &'static [Argument],
 ) -> Result<Command<'a>, AllocError>
-    requires { IsBuilt command (app_of command) }
     ensures { IfOk result (λ c. IsBuilt c
-        (fold with_operand (app_of command.entry) (map (λ s. s.now) names.entry.now))) }
+        (fold with_argument (new_app name.entry.now) arguments.entry.now)) }
 {
-    let mut wider = command;
-    for name in names {
-        wider = wider.arg(operand(alloc, name))?;
+    let mut wider = Command::new(alloc, name);
+    for item in arguments {
+        wider = wider.arg(arg(alloc, *item))?;
     }
     Ok(wider)
 }
 
-fn with_options<'a>(
+/// The program with one more command.
+fn with_command<'a>(
     alloc: Global,
-    command: Command<'a>,
-    names: &'static [&'static str],
+    program: Command<'a>,
+    name: &'a str,
+    arguments: &'static [Argument],
 ) -> Result<Command<'a>, AllocError>
-    requires { IsBuilt command (app_of command) }
-    ensures { IfOk result (λ c. IsBuilt c
-        (fold with_option (app_of command.entry) (map (λ s. s.now) names.entry.now))) }
+    ensures { IfOk result (λ c. app_of c ≡ with_subcommand (app_of program.entry)
+        (fold with_argument (new_app name.entry.now) arguments.entry.now).top) }
 {
-    let mut wider = command;
-    for name in names {
-        wider = wider.arg(option(alloc, name))?;
-    }
-    Ok(wider)
-}
-
-fn with_flags<'a>(
-    alloc: Global,
-    command: Command<'a>,
-    names: &'static [&'static str],
-) -> Result<Command<'a>, AllocError>
-    requires { IsBuilt command (app_of command) }
-    ensures { IfOk result (λ c. IsBuilt c
-        (fold with_flag (app_of command.entry) (map (λ s. s.now) names.entry.now))) }
-{
-    let mut wider = command;
-    for name in names {
-        wider = wider.arg(flag(alloc, name))?;
-    }
-    Ok(wider)
-}
-
-/// `run FILE`, with its options.
-fn run<'a>(alloc: Global) -> Result<Command<'a>, AllocError>
-    ensures { IfOk result (λ c. IsBuilt c run_command) }
-{
-    let command = with_operands(alloc, Command::new(alloc, "run"), OPERANDS.as_slice())?;
-    let command = with_options(alloc, command, RUN_OPTIONS.as_slice())?;
-    with_flags(alloc, command, FLAGS.as_slice())
-}
-
-/// `plain FILE`, with its options.
-fn plain<'a>(alloc: Global) -> Result<Command<'a>, AllocError>
-    ensures { IfOk result (λ c. IsBuilt c plain_command) }
-{
-    let command = with_operands(alloc, Command::new(alloc, "plain"), OPERANDS.as_slice())?;
-    let command = with_options(alloc, command, PLAIN_OPTIONS.as_slice())?;
-    with_flags(alloc, command, FLAGS.as_slice())
+    program.subcommand(command(alloc, name, arguments)?)
 }
 
 /// The program without its commands. It answers no call for help or for a version.
@@ -118,11 +102,10 @@ fn bare<'a>(alloc: Global) -> Command<'a>
         .disable_help_subcommand(true)
 }
 
-/// The program, with its commands.
+/// The program, with its commands `run` and `plain`.
 pub(crate) fn thynvm<'a>(alloc: Global) -> Result<Command<'a>, AllocError>
     ensures { IfOk result (λ c. app_of c ≡ program) }
 {
-    bare(alloc)
-        .subcommand(run(alloc)?)?
-        .subcommand(plain(alloc)?)
+    let program = with_command(alloc, bare(alloc), "run", RUN_ARGUMENTS.as_slice())?;
+    with_command(alloc, program, "plain", PLAIN_ARGUMENTS.as_slice())
 }

@@ -6,7 +6,7 @@ ghost use Rattle.clap.specs.Simple.{subcommand_rows_of};
 ghost use Rattle.clap.specs.Values.{kind_of};
 ghost use Rattle.clap.specs.Walk.{rows_of};
 ghost use Rattle.thy_base.specs.Config.{fault_of as range_fault};
-ghost use Rattle.thy_words.specs.Settings.{Answers, IsInRange, ShowsOrMemory, job_in, job_of, order_of, order_with, config_in, order_named, ranged, run as RunOrder, plain as PlainOrder, settings_of};
+ghost use Rattle.thy_words.specs.Settings.{Answers, AreNames, IsInRange, ShowsOrMemory, job_in, job_of, order_of, order_with, config_in, order_named, ranged, run as RunOrder, plain as PlainOrder, settings_of};
 ghost use Rattle.thy_words.specs.Refused.{is_out_of_memory, refused};
 
 use crate::fields::{config_at, has_flag, text_of, unreadable};
@@ -64,7 +64,7 @@ fn ranged(config: Config) -> Result<Config, WordsError>
 {
     match Geometry::new(&config) {
         Ok(_) => Ok(config),
-        Err(refusal) => Err(WordsError::Value(refusal.field, refusal.value)),
+        Err(fault) => Err(WordsError::Value(fault.field, fault.value)),
     }
 }
 
@@ -91,18 +91,24 @@ fn owned(alloc: Global, text: Option<&str>) -> Result<Option<String>, AllocError
     }
 }
 
+/// FILE and the name of the input, as texts of the caller's own.
+fn names_in(alloc: Global, matches: &ArgMatches<'_>) -> Result<(String, Option<String>), AllocError>
+    ensures { IfOk result (λ names. AreNames (rows_of (found_of matches.now))
+        (string_bytes names.0) (option_map string_bytes names.1)) }
+{
+    let file = String::from_str(alloc, text_of(matches, "FILE").unwrap_or(""))?;
+    let input = owned(alloc, text_of(matches, "input"))?;
+    Ok((file, input))
+}
+
 /// A program to be run, of what `clap` found for a command's arguments.
 fn job_in(alloc: Global, matches: &ArgMatches<'_>) -> Result<Job, WordsError>
     ensures { ShowsOrMemory job_of (job_in (rows_of (found_of matches.now))) result }
 {
     let config = config_in(alloc, matches)?;
     let digest = has_flag(matches, "digest");
-    let file = match String::from_str(alloc, text_of(matches, "FILE").unwrap_or("")) {
-        Ok(file) => file,
-        Err(error) => return Err(WordsError::Memory(error)),
-    };
-    match owned(alloc, text_of(matches, "input")) {
-        Ok(input) => Ok(Job {
+    match names_in(alloc, matches) {
+        Ok((file, input)) => Ok(Job {
             file,
             input,
             config,

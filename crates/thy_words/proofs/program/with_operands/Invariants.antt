@@ -1,8 +1,0 @@
-use Rattle.std.proofs.Common.{fold, map, take}
-use Rattle.clap.specs.Simple.{app_of}
-use Rattle.thy_words.specs.Program.{IsBuilt, with_operand}
-use Rattle.thy_words.proofs.program.with_operands.Given as goal
-
-abbrev pub invariant-loop-name : goal.invariant-loop-name
-invariant-loop-name l =
-    IsBuilt l.wider (fold with_operand (app_of l.initial.wider) (map (λ s. s.now) (take l.name-index l.names)))
