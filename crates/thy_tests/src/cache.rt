@@ -3,9 +3,9 @@ ghost use Rattle.std.specs.Prelude.{◌≡◌, ◌≤◌, ◌^◌, ◌<◌, true
 ghost use Rattle.thy_cache.specs.Contents.{dirty_count};
 ghost use Rattle.thy_cache.specs.Flat.{Agrees, AgreesStill};
 
-use std::alloc::{AllocError, Global};
+use crate::expect::expect;
+use std::alloc::Global;
 use std::process::Abort;
-use std::test::Fail;
 use thy_base::{Block, BlockStore, NvmError, Stored};
 use thy_cache::{Cache, Flushed, Victim};
 
@@ -54,18 +54,25 @@ impl BlockStore<()> for Copying {
 }
 
 /// Eight blocks, each of bytes of its number.
-fn eight(alloc: Global) -> Result<Vec<Block>, AllocError>
-    ensures { IfOk result (λ blocks. length blocks.items ≡ 8) }
+static EIGHT: [Block; 8] = [
+    Block([0; 64]),
+    Block([1; 64]),
+    Block([2; 64]),
+    Block([3; 64]),
+    Block([4; 64]),
+    Block([5; 64]),
+    Block([6; 64]),
+    Block([7; 64]),
+];
+
+fn eight(rt: &impl Abort, alloc: Global) -> Vec<Block>
+    ensures { length result.items ≡ 8 }
 {
-    let mut blocks = Vec::with_capacity(alloc, 8)?;
-    for byte in 0..8 {
-        blocks.push(Block([byte; 64]))?;
-    }
-    Ok(blocks)
+    EIGHT.to_vec(alloc).expect(rt, "memory")
 }
 
 /// What is asked of a cache.
-#[derive(Clone, Copy, Debug, PartialEq, Eq)]
+#[derive(Clone, Copy)]
 enum Call {
     Hit(u64),
     Victim(u64),
@@ -80,10 +87,9 @@ enum Call {
 }
 
 /// What it answers.
-#[derive(Clone, Copy, Debug, PartialEq, Eq)]
+#[derive(Clone, Copy, PartialEq)]
 enum Answer {
-    Yes,
-    No,
+    Is(bool),
     Room,
     Must(u64),
     Done,
@@ -96,10 +102,6 @@ enum Answer {
     Refused,
 }
 
-fn truth(is_so: bool) -> Answer {
-    if is_so { Answer::Yes } else { Answer::No }
-}
-
 fn byte_of(block: &Block, at: usize) -> Answer {
     if at < 64 {
         Answer::Byte(block.0[at])
@@ -110,7 +112,7 @@ fn byte_of(block: &Block, at: usize) -> Answer {
 
 fn ask(cache: &Cache, call: Call) -> Answer {
     match call {
-        Call::Hit(b) => truth(cache.hit(b)),
+        Call::Hit(b) => Answer::Is(cache.hit(b)),
         Call::Victim(b) => match cache.victim(b) {
             Victim::Room => Answer::Room,
             Victim::Dirty(block) => Answer::Must(block),
@@ -221,26 +223,26 @@ fn play<S: BlockStore<()>>(
     cache: &mut Cache,
     store: &mut S,
     calls: &[(Call, Answer)],
-) -> Result<(), NvmError>
+)
     requires ready { (s : _) → (S.holding s tt).ready ≡ true }
     requires room { (s : _) → (S.holding s tt).free ≡ 2 ^ 64 }
     requires eight { length (S.holding store.old tt).blocks ≡ 8 }
     requires agree { Agrees cache.old (S.holding store.old tt).blocks }
 {
-    for asked in calls {
+    for (row, asked) in calls.iter().enumerate() {
         let (call, want) = *asked;
-        assert_eq!(rt; make_call(cache, store, call)?, want);
+        let answer = make_call(cache, store, call).expect(rt, "an answer");
+        assert!(rt; answer == want, "row {row}");
     }
-    Ok(())
 }
 
 /// Two sets of two ways: even blocks and odd ones. Block i of the store is filled with bytes i.
 static TURNS: [(Call, Answer); 27] = [
-    (Call::Hit(0), Answer::No),
+    (Call::Hit(0), Answer::Is(false)),
     (Call::Victim(0), Answer::Room),
     (Call::Fill(0), Answer::Done),
     (Call::Fill(2), Answer::Done),
-    (Call::Hit(2), Answer::Yes),
+    (Call::Hit(2), Answer::Is(true)),
     (Call::Read(0, 5), Answer::Byte(0)),
     (Call::Write(2, 63, 200), Answer::Done),
     (Call::Dirty, Answer::Count(1)),
@@ -261,23 +263,22 @@ static TURNS: [(Call, Answer); 27] = [
     (Call::Dirty, Answer::Count(0)),
     (Call::Stored(2, 63), Answer::Byte(200)),
     (Call::Victim(4), Answer::Room),
-    (Call::Hit(2), Answer::Yes),
+    (Call::Hit(2), Answer::Is(true)),
     (Call::Fill(4), Answer::Done),
-    (Call::Hit(2), Answer::No),
+    (Call::Hit(2), Answer::Is(false)),
     (Call::Read(4, 1), Answer::Byte(4)),
 ];
 
 #[test]
-fn a_cache_answers_each_call(rt: HostRuntime) -> Result<(), Fail> {
-    let mut cache = Cache::new(rt.alloc(), 2, 2)?;
+fn a_cache_answers_each_call(rt: HostRuntime) {
+    let mut cache = Cache::new(rt.alloc(), 2, 2).expect(&rt, "memory");
     let mut store = Copying {
-        blocks: eight(rt.alloc())?,
+        blocks: eight(&rt, rt.alloc()),
         copies: 1,
         failing: false,
         faults: 0,
     };
-    play(&rt, &mut cache, &mut store, &TURNS)?;
-    Ok(())
+    play(&rt, &mut cache, &mut store, &TURNS);
 }
 
 /// Three dirty lines are stored by set, then way: block 0 of set 0, then blocks 3 and 1 of set 1.
@@ -302,27 +303,26 @@ static FLUSHES: [(Call, Answer); 27] = [
     (Call::Stored(1, 0), Answer::Byte(101)),
     (Call::Dirty, Answer::Count(0)),
     (Call::Flush, Answer::Clean),
-    (Call::Hit(3), Answer::Yes),
+    (Call::Hit(3), Answer::Is(true)),
     // Block 1 was used before block 3.
     (Call::Fill(5), Answer::Done),
-    (Call::Hit(1), Answer::No),
-    (Call::Hit(3), Answer::Yes),
+    (Call::Hit(1), Answer::Is(false)),
+    (Call::Hit(3), Answer::Is(true)),
     (Call::Fill(7), Answer::Done),
-    (Call::Hit(3), Answer::No),
-    (Call::Hit(5), Answer::Yes),
+    (Call::Hit(3), Answer::Is(false)),
+    (Call::Hit(5), Answer::Is(true)),
 ];
 
 #[test]
-fn a_flush_stores_by_set_then_way(rt: HostRuntime) -> Result<(), Fail> {
-    let mut cache = Cache::new(rt.alloc(), 2, 2)?;
+fn a_flush_stores_by_set_then_way(rt: HostRuntime) {
+    let mut cache = Cache::new(rt.alloc(), 2, 2).expect(&rt, "memory");
     let mut store = Copying {
-        blocks: eight(rt.alloc())?,
+        blocks: eight(&rt, rt.alloc()),
         copies: 1,
         failing: false,
         faults: 0,
     };
-    play(&rt, &mut cache, &mut store, &FLUSHES)?;
-    Ok(())
+    play(&rt, &mut cache, &mut store, &FLUSHES);
 }
 
 /// One line over a plain list of blocks.
@@ -340,25 +340,24 @@ static ONE_LINE: [(Call, Answer); 10] = [
 ];
 
 #[test]
-fn a_cache_of_one_line_over_a_list(rt: HostRuntime) -> Result<(), Fail> {
-    let mut cache = Cache::new(rt.alloc(), 1, 1)?;
-    let mut store = eight(rt.alloc())?;
-    play(&rt, &mut cache, &mut store, &ONE_LINE)?;
-    Ok(())
+fn a_cache_of_one_line_over_a_list(rt: HostRuntime) {
+    let mut cache = Cache::new(rt.alloc(), 1, 1).expect(&rt, "memory");
+    let mut store = eight(&rt, rt.alloc());
+    play(&rt, &mut cache, &mut store, &ONE_LINE);
 }
 
 // A store that fails changes no line.
 #[test]
-fn a_store_that_fails_changes_no_line(rt: HostRuntime) -> Result<(), Fail> {
-    let mut cache = Cache::new(rt.alloc(), 1, 1)?;
+fn a_store_that_fails_changes_no_line(rt: HostRuntime) {
+    let mut cache = Cache::new(rt.alloc(), 1, 1).expect(&rt, "memory");
     let mut store = Copying {
-        blocks: eight(rt.alloc())?,
+        blocks: eight(&rt, rt.alloc()),
         copies: 0,
         failing: true,
         faults: 0,
     };
-    assert_eq!(rt; fill(&mut cache, &mut store, 3), Err(NvmError::Failed));
-    assert_eq!(rt; cache.hit(3), false);
-    assert_eq!(rt; store.faults, 1);
-    Ok(())
+    let filled = fill(&mut cache, &mut store, 3);
+    assert!(rt; filled == Err(NvmError::Failed));
+    expect(&rt, cache.hit(3), false);
+    expect(&rt, store.faults, 1);
 }

@@ -1,9 +1,9 @@
 //! Files made from a good one by a change each, and what each is refused for.
 ghost use Rattle.std.specs.Prelude.{◌<◌, ◌^◌};
 
+use crate::expect::{expect, expect_at};
 use std::alloc::Global;
 use std::process::Abort;
-use std::test::Fail;
 use thy_elf::{ElfError, read};
 
 /// Program memory of the default configuration.
@@ -24,17 +24,10 @@ static GOOD: [u8; 132] = [
     0x73, 0x00, 0x00, 0x00,
 ];
 
-/// What a file is refused for, or None where it is an image.
-fn refusal(alloc: Global, file: &[u8]) -> Option<ElfError> {
-    match read(alloc, file, BASE, SIZE) {
-        Ok(_) => None,
-        Err(error) => Some(error),
-    }
-}
-
-/// Compares what a file is refused for with what it should be. `at` says where the file was changed.
-fn expect(rt: &impl Abort, got: Option<ElfError>, want: Option<ElfError>, at: usize) {
-    assert_eq!(rt; got, want, "changed at {at}");
+/// Compares what a file is refused for, or None where it is an image, with what it should be. `at` says
+/// where the file was changed, or is the number of a row.
+fn refused(rt: &impl Abort, alloc: Global, file: &[u8], want: Option<ElfError>, at: usize) {
+    expect_at(rt, read(alloc, file, BASE, SIZE).err(), want, at);
 }
 
 /// Writes bytes into a file, where they lie within it.
@@ -44,27 +37,29 @@ fn put(file: &mut [u8], place: usize, bytes: &[u8]) {
     }
 }
 
-/// Writes a PT_LOAD program header into a file: p_offset, p_vaddr, p_filesz, p_memsz.
-fn put_segment(file: &mut [u8], place: usize, fields: [u64; 4])
+/// Writes a PT_LOAD program header into a file: p_offset, p_vaddr, p_paddr, p_filesz, p_memsz.
+fn put_segment(file: &mut [u8], place: usize, fields: [u64; 5])
     requires { place < 2 ^ 32 }
 {
     put(file, place, &[1, 0, 0, 0, 7, 0, 0, 0]);
-    put(file, place + 8, &fields[0].to_le_bytes());
-    put(file, place + 16, &fields[1].to_le_bytes());
-    put(file, place + 32, &fields[2].to_le_bytes());
-    put(file, place + 40, &fields[3].to_le_bytes());
+    for i in 0..5 {
+        put(file, place + 8 + 8 * i, &fields[i].to_le_bytes());
+    }
+}
+
+fn is_zeros(bytes: &[u8]) -> bool {
+    bytes.iter().all(|byte| *byte == 0)
 }
 
 #[test]
-fn the_good_file_is_the_image_of_its_bytes(rt: HostRuntime) -> Result<(), Fail> {
-    let image = read(rt.alloc(), &GOOD, BASE, SIZE)?;
-    assert_eq!(rt; image.entry, 0x10000);
-    assert_eq!(rt; image.floor, 0x10010);
+fn the_good_file_is_the_image_of_its_bytes(rt: HostRuntime) {
+    let image = read(rt.alloc(), &GOOD, BASE, SIZE).expect(&rt, "an image");
+    expect(&rt, image.entry, 0x10000);
+    expect(&rt, image.floor, 0x10010);
     let memory = image.memory.as_slice();
-    assert_eq!(rt; memory.len(), 1_044_480);
-    assert_eq!(rt; &memory[..12], &GOOD[120..]);
-    assert!(rt; memory[12..].iter().all(|byte| *byte == 0));
-    Ok(())
+    expect(&rt, memory.len(), 1_044_480);
+    expect(&rt, &memory[..12], &GOOD[120..]);
+    expect(&rt, is_zeros(&memory[12..]), true);
 }
 
 /// A byte of the good file changed, and what it is refused for then.
@@ -97,7 +92,7 @@ fn one_byte_changed_is_refused_by_its_name(rt: HostRuntime) {
     for (place, byte, want) in &BYTES {
         let mut file = GOOD;
         put(&mut file, *place, &[*byte]);
-        expect(&rt, refusal(rt.alloc(), &file), Some(*want), *place);
+        refused(&rt, rt.alloc(), &file, Some(*want), *place);
     }
 }
 
@@ -108,11 +103,11 @@ fn what_is_ignored_changes_nothing(rt: HostRuntime) {
     for place in [7, 8, 24, 31, 40, 49, 58, 60, 62, 68, 88, 112] {
         let mut file = GOOD;
         put(&mut file, place, &[0xFF]);
-        expect(&rt, refusal(rt.alloc(), &file), None, place);
+        refused(&rt, rt.alloc(), &file, None, place);
     }
     let mut file = GOOD;
     put(&mut file, 48, &[0x10]);
-    expect(&rt, refusal(rt.alloc(), &file), None, 48);
+    refused(&rt, rt.alloc(), &file, None, 48);
 }
 
 #[test]
@@ -125,7 +120,7 @@ fn a_file_cut_short_is_refused_at_every_length(rt: HostRuntime) {
         } else {
             ElfError::SegmentOutsideFile(0)
         };
-        expect(&rt, refusal(rt.alloc(), &GOOD[..len]), Some(want), len);
+        refused(&rt, rt.alloc(), &GOOD[..len], Some(want), len);
     }
 }
 
@@ -143,127 +138,111 @@ fn sums_past_2_to_the_64_are_refused_by_their_own_name(rt: HostRuntime) {
     for (place, want) in &SUMS {
         let mut file = GOOD;
         put(&mut file, *place, &[0xFF; 8]);
-        expect(&rt, refusal(rt.alloc(), &file), Some(*want), *place);
+        refused(&rt, rt.alloc(), &file, Some(*want), *place);
     }
     let mut file = GOOD;
     put(&mut file, 96, &[0xFF; 16]);
-    expect(
+    refused(
         &rt,
-        refusal(rt.alloc(), &file),
+        rt.alloc(),
+        &file,
         Some(ElfError::SegmentOutsideFile(0)),
         96,
     );
 }
 
 #[test]
-fn a_file_with_no_program_header_is_zeros(rt: HostRuntime) -> Result<(), Fail> {
+fn a_file_with_no_program_header_is_zeros(rt: HostRuntime) {
     let mut file = GOOD;
     put(&mut file, 32, &[0xFF; 8]);
     put(&mut file, 54, &[0; 4]);
-    let image = read(rt.alloc(), &file, BASE, SIZE)?;
-    assert_eq!(rt; image.floor, 0x10000);
-    assert!(rt; image.memory.as_slice().iter().all(|byte| *byte == 0));
-    Ok(())
+    let image = read(rt.alloc(), &file, BASE, SIZE).expect(&rt, "an image");
+    expect(&rt, image.floor, 0x10000);
+    expect(&rt, is_zeros(image.memory.as_slice()), true);
 }
 
+/// The fields of a segment of zeros, and what the good file with it is refused for.
+static ZEROS: [([u64; 5], Option<ElfError>); 4] = [
+    ([u64::MAX, BASE, 0, 0, SIZE], None),
+    (
+        [u64::MAX, BASE, 0, 0, SIZE + 1],
+        Some(ElfError::SegmentOutsideMemory(0)),
+    ),
+    (
+        [u64::MAX, BASE - 1, 0, 0, SIZE],
+        Some(ElfError::SegmentOutsideMemory(0)),
+    ),
+    ([u64::MAX, u64::MAX, 0, 0, 0], None),
+];
+
 #[test]
-fn zeroed_data_may_fill_memory_and_no_more(rt: HostRuntime) -> Result<(), Fail> {
+fn zeroed_data_may_fill_memory_and_no_more(rt: HostRuntime) {
     let mut file = GOOD;
-    put_segment(&mut file, 64, [u64::MAX, BASE, 0, SIZE]);
-    let image = read(rt.alloc(), &file, BASE, SIZE)?;
-    assert_eq!(rt; image.floor, 0x10F000);
-    put_segment(&mut file, 64, [u64::MAX, BASE, 0, SIZE + 1]);
-    expect(
-        &rt,
-        refusal(rt.alloc(), &file),
-        Some(ElfError::SegmentOutsideMemory(0)),
-        64,
-    );
-    put_segment(&mut file, 64, [u64::MAX, BASE - 1, 0, SIZE]);
-    expect(
-        &rt,
-        refusal(rt.alloc(), &file),
-        Some(ElfError::SegmentOutsideMemory(0)),
-        64,
-    );
-    put_segment(&mut file, 64, [u64::MAX, u64::MAX, 0, 0]);
-    expect(&rt, refusal(rt.alloc(), &file), None, 64);
-    Ok(())
+    for (row, (fields, want)) in ZEROS.iter().enumerate() {
+        put_segment(&mut file, 64, *fields);
+        refused(&rt, rt.alloc(), &file, *want, row);
+    }
+    put_segment(&mut file, 64, [u64::MAX, BASE, 0, 0, SIZE]);
+    let image = read(rt.alloc(), &file, BASE, SIZE).expect(&rt, "an image");
+    expect(&rt, image.floor, 0x10F000);
 }
 
 #[test]
-fn a_later_segment_wins_and_the_greatest_end_is_the_floor(rt: HostRuntime) -> Result<(), Fail> {
+fn a_later_segment_wins_and_the_greatest_end_is_the_floor(rt: HostRuntime) {
     let mut file = [0; 192];
     put(&mut file, 0, &GOOD[..64]);
     put(&mut file, 56, &[2]);
-    put_segment(&mut file, 64, [176, BASE, 8, 40]);
-    put_segment(&mut file, 120, [184, BASE + 2, 2, 4]);
+    put_segment(&mut file, 64, [176, BASE, 0, 8, 40]);
+    put_segment(&mut file, 120, [184, BASE + 2, 0, 2, 4]);
     put(&mut file, 176, &[1, 2, 3, 4, 5, 6, 7, 8, 11, 12, 13]);
-    let image = read(rt.alloc(), &file, BASE, SIZE)?;
-    assert_eq!(rt; image.floor, BASE + 48);
+    let image = read(rt.alloc(), &file, BASE, SIZE).expect(&rt, "an image");
+    expect(&rt, image.floor, BASE + 48);
     let want = [1, 2, 11, 12, 0, 0, 7, 8, 0, 0];
-    assert_eq!(rt; &image.memory.as_slice()[..10], &want[..]);
+    expect(&rt, &image.memory.as_slice()[..10], &want[..]);
     put(&mut file, 64 + 40, &[7]);
     put(&mut file, 120, &[3]);
-    expect(
-        &rt,
-        refusal(rt.alloc(), &file),
-        Some(ElfError::NeedsLoader),
-        120,
-    );
-    Ok(())
+    refused(&rt, rt.alloc(), &file, Some(ElfError::NeedsLoader), 120);
 }
 
+/// The fields of the last segment of 65534, and what the file is refused for then.
+static LAST: [([u64; 5], ElfError); 3] = [
+    ([0, BASE, 0, 2, 1], ElfError::FileOverMemory(65533)),
+    (
+        [64 + 56 * 65534, BASE, 0, 1, 1],
+        ElfError::SegmentOutsideFile(65533),
+    ),
+    (
+        [0, BASE + SIZE, 0, 1, 1],
+        ElfError::SegmentOutsideMemory(65533),
+    ),
+];
+
 #[test]
-fn the_last_of_65534_program_headers_is_looked_at(rt: HostRuntime) -> Result<(), Fail> {
-    let mut file = vec![in rt.alloc(); 0; 64 + 56 * 65534]?;
+fn the_last_of_65534_program_headers_is_looked_at(rt: HostRuntime) {
+    let mut file = vec![in rt.alloc(); 0; 64 + 56 * 65534].expect(&rt, "memory");
     let last = 64 + 56 * 65533;
     put(&mut file, 0, &GOOD[..64]);
     put(&mut file, 56, &[0xFE, 0xFF]);
-    expect(&rt, refusal(rt.alloc(), &file), None, 56);
+    refused(&rt, rt.alloc(), &file, None, 56);
     put(&mut file, last, &[2]);
-    expect(
-        &rt,
-        refusal(rt.alloc(), &file),
-        Some(ElfError::NeedsLoader),
-        last,
-    );
-    put_segment(&mut file, last, [0, BASE, 2, 1]);
-    expect(
-        &rt,
-        refusal(rt.alloc(), &file),
-        Some(ElfError::FileOverMemory(65533)),
-        last,
-    );
-    put_segment(&mut file, last, [64 + 56 * 65534, BASE, 1, 1]);
-    expect(
-        &rt,
-        refusal(rt.alloc(), &file),
-        Some(ElfError::SegmentOutsideFile(65533)),
-        last,
-    );
-    put_segment(&mut file, last, [0, BASE + SIZE, 1, 1]);
-    expect(
-        &rt,
-        refusal(rt.alloc(), &file),
-        Some(ElfError::SegmentOutsideMemory(65533)),
-        last,
-    );
+    refused(&rt, rt.alloc(), &file, Some(ElfError::NeedsLoader), last);
+    for (row, (fields, want)) in LAST.iter().enumerate() {
+        put_segment(&mut file, last, *fields);
+        refused(&rt, rt.alloc(), &file, Some(*want), row);
+    }
     put(&mut file, 56, &[0xFF, 0xFF]);
-    expect(
-        &rt,
-        refusal(rt.alloc(), &file),
-        Some(ElfError::TooManyHeaders),
-        56,
-    );
-    Ok(())
+    refused(&rt, rt.alloc(), &file, Some(ElfError::TooManyHeaders), 56);
+}
+
+/// What an error says.
+fn said(rt: &impl Abort, alloc: Global, error: ElfError) -> String {
+    format!(in alloc; "{error}").expect(rt, "memory")
 }
 
 #[test]
-fn an_error_says_how_to_mend_the_file(rt: HostRuntime) -> Result<(), Fail> {
-    let compressed = format!(in rt.alloc(); "{}", ElfError::NeedsCompressed)?;
+fn an_error_says_how_to_mend_the_file(rt: HostRuntime) {
+    let compressed = said(&rt, rt.alloc(), ElfError::NeedsCompressed);
     assert!(rt; compressed.as_str().contains("-march=rv64im"));
-    let outside = format!(in rt.alloc(); "{}", ElfError::SegmentOutsideMemory(3))?;
+    let outside = said(&rt, rt.alloc(), ElfError::SegmentOutsideMemory(3));
     assert!(rt; outside.as_str().starts_with("program header 3: "));
-    Ok(())
 }

@@ -5,6 +5,7 @@
 //! means. The reserved words are those beside the rows of the table that
 //! riscv64-unknown-elf-objdump knows no instruction of RV64IM with FENCE.I for.
 
+use crate::expect::expect;
 use crate::isa_rows::{ANSWERS, BREAKS, EXITS, VECTORS};
 use thy_isa::{
     Alu, Call, CallState, Cause, Effect, Reg, Regs, Width, alu, bytes_in, call, decode, extended,
@@ -54,7 +55,7 @@ fn first(bytes: &[u8; 8], width: Width) -> u64 {
 #[test]
 fn each_instruction_gives_what_an_emulator_gives(rt: HostRuntime) {
     for (word, a, b, expected) in &VECTORS {
-        assert_eq!(rt; outcome(*word, *a, *b), Some(*expected));
+        expect(&rt, outcome(*word, *a, *b), Some(*expected));
     }
 }
 
@@ -82,53 +83,61 @@ fn called(word: u32, a7: u64, a0: u64) -> Option<Call> {
 #[test]
 fn environment_calls_and_breakpoints_end_as_an_emulator_ends(rt: HostRuntime) {
     for (word, a7, a0, value) in &EXITS {
-        assert_eq!(rt; called(*word, *a7, *a0), Some(Call::Exit(*value)));
+        expect(&rt, called(*word, *a7, *a0), Some(Call::Exit(*value)));
     }
     for (word, a7, a0, answer) in &ANSWERS {
-        assert_eq!(rt; called(*word, *a7, *a0), Some(Call::Answer(*answer)));
+        expect(&rt, called(*word, *a7, *a0), Some(Call::Answer(*answer)));
     }
     for word in &BREAKS {
-        assert_eq!(rt;
-            word_effect(*word, PC, &Regs::new()),
-            Effect::Trap(Cause::Breakpoint)
-        );
+        let effect = word_effect(*word, PC, &Regs::new());
+        expect(&rt, effect, Effect::Trap(Cause::Breakpoint));
     }
 }
 
 #[test]
 fn a_reserved_word_means_nothing(rt: HostRuntime) {
     for word in &RESERVED {
-        assert_eq!(rt; decode(*word), None);
+        expect(&rt, decode(*word), None);
     }
 }
 
+/// The least number, as two's complement has it.
+const LEAST: u64 = 1 << 63;
+
+/// An operation, its two numbers and its result.
+static DIVISIONS: [(Alu, u64, u64, u64); 6] = [
+    (Alu::Div, LEAST, u64::MAX, LEAST),
+    (Alu::Rem, LEAST, u64::MAX, 0),
+    (Alu::Divuw, 5, 0, u64::MAX),
+    (Alu::Rem, 7, 0, 7),
+    (Alu::Mulhsu, u64::MAX, u64::MAX, u64::MAX),
+    (Alu::Mulh, u64::MAX, u64::MAX, 0),
+];
+
 #[test]
 fn division_by_zero_and_the_least_number(rt: HostRuntime) {
-    let least = 1 << 63;
-    assert_eq!(rt; alu(Alu::Div, least, u64::MAX), least);
-    assert_eq!(rt; alu(Alu::Rem, least, u64::MAX), 0);
-    assert_eq!(rt; alu(Alu::Divuw, 5, 0), u64::MAX);
-    assert_eq!(rt; alu(Alu::Rem, 7, 0), 7);
-    assert_eq!(rt; alu(Alu::Mulhsu, u64::MAX, u64::MAX), u64::MAX);
-    assert_eq!(rt; alu(Alu::Mulh, u64::MAX, u64::MAX), 0);
+    for (op, a, b, want) in &DIVISIONS {
+        expect(&rt, alu(*op, *a, *b), *want);
+    }
 }
+
+/// jalr x1, 2(x0); jalr x1, 3(x0); beq x0, x0, .+2
+static ODD_JUMPS: [u32; 3] = [0x002000e7, 0x003000e7, 0x00000163];
 
 #[test]
 fn a_jump_to_an_odd_target(rt: HostRuntime) {
     let regs = Regs::new();
-    let trap = Effect::Trap(Cause::FetchMisaligned);
-    // jalr x1, 2(x0); jalr x1, 3(x0)
-    assert_eq!(rt; word_effect(0x002000e7, PC, &regs), trap);
-    assert_eq!(rt; word_effect(0x003000e7, PC, &regs), trap);
+    for word in &ODD_JUMPS {
+        let effect = word_effect(*word, PC, &regs);
+        expect(&rt, effect, Effect::Trap(Cause::FetchMisaligned));
+    }
     // jalr x1, 1(x0): bit 0 of the target is cleared
     let link = Effect::Set {
         pc: 0,
         rd: Reg::new(1),
         value: 65540,
     };
-    assert_eq!(rt; word_effect(0x001000e7, PC, &regs), link);
-    // beq x0, x0, .+2
-    assert_eq!(rt; word_effect(0x00000163, PC, &regs), trap);
+    expect(&rt, word_effect(0x001000e7, PC, &regs), link);
 }
 
 #[test]
@@ -136,13 +145,11 @@ fn a_branch_that_is_not_taken_does_not_trap(rt: HostRuntime) {
     let mut regs = Regs::new();
     regs.set(Reg::new(1), 1);
     // beq x0, x1, .+2
-    assert_eq!(rt;
-        word_effect(0x00100163, PC, &regs),
-        Effect::Next { pc: 65540 }
-    );
+    let effect = word_effect(0x00100163, PC, &regs);
+    expect(&rt, effect, Effect::Next { pc: 65540 });
 }
 
-const RESERVED: [u32; 50] = [
+static RESERVED: [u32; 50] = [
     0x006293e7, 0x0062f3e7, 0x0062a3e3, 0x0062b3e3, 0x0062f383, 0x0062c3a3, 0x0062f3a3, 0x04629393,
     0x40629393, 0x80629393, 0x0462d393, 0x4462d393, 0xc062d393, 0x406293b3, 0x4062a3b3, 0x4062b3b3,
     0x4062c3b3, 0x4062e3b3, 0x4062f3b3, 0x046283b3, 0x806283b3, 0x426283b3, 0x0062a39b, 0x0062b39b,

@@ -8,6 +8,8 @@ mod dram;
 #[cfg(test)]
 mod elf;
 #[cfg(test)]
+mod expect;
+#[cfg(test)]
 mod isa;
 #[cfg(test)]
 mod isa_rows;

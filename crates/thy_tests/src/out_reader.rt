@@ -1,4 +1,6 @@
 //! A reader that is slow, interrupted or failing, within a limit.
+use crate::expect::expect;
+use std::alloc::Global;
 use std::io;
 use std::io::{Error, ErrorKind, Read};
 use thy_base::FetchError;
@@ -28,24 +30,32 @@ impl Read for Slow {
     }
 }
 
-fn reader(failing: u64) -> Slow {
-    Slow {
+/// What a read within a limit gives of seven bytes, of which the call `failing` fails.
+fn within(alloc: Global, failing: u64, limit: u64) -> Result<Vec<u8>, FetchError> {
+    let mut slow = Slow {
         bytes: b"seven b",
         calls: 0,
         failing,
-    }
+    };
+    read_within(&mut slow, alloc, limit)
 }
 
 #[test]
 fn a_slow_file_is_read_to_its_end(rt: HostRuntime) {
-    let bytes = read_within(&mut reader(0), rt.alloc(), 7);
-    assert!(rt; bytes.is_ok_and(|bytes| bytes.as_slice() == b"seven b".as_slice()));
-    let longer = read_within(&mut reader(0), rt.alloc(), 6);
-    assert!(rt; longer == Err(FetchError::TooLong));
+    let bytes = within(rt.alloc(), 0, 7).expect(&rt, "seven bytes");
+    expect(&rt, bytes.as_slice(), b"seven b".as_slice());
+    expect(
+        &rt,
+        within(rt.alloc(), 0, 6).err(),
+        Some(FetchError::TooLong),
+    );
 }
 
 #[test]
 fn a_file_that_fails_gives_nothing(rt: HostRuntime) {
-    let bytes = read_within(&mut reader(4), rt.alloc(), 7);
-    assert!(rt; bytes == Err(FetchError::Failed));
+    expect(
+        &rt,
+        within(rt.alloc(), 4, 7).err(),
+        Some(FetchError::Failed),
+    );
 }

@@ -1,6 +1,7 @@
 //! A sink over a stream that is slow, interrupted or failing.
 ghost use Rattle.std.specs.Prelude.{◌≡◌};
 
+use crate::expect::expect;
 use std::io;
 use std::io::{Error, ErrorKind, Write};
 use thy_base::Sink;
@@ -63,10 +64,10 @@ fn has_counted<S: Sink>(sink: &S, faults: u64)
 fn a_slow_stream_takes_the_whole_piece(rt: HostRuntime) {
     let mut slow = slow_stream(&rt, 0, false);
     let mut sink = StdSink::over(&mut slow);
-    assert!(rt; sink.write(b"seven b").is_ok());
+    sink.write(b"seven b").expect(&rt, "the whole piece");
     has_counted(&sink, 0);
-    assert_eq!(rt; slow.taken.as_slice(), b"seven b".as_slice());
-    assert_eq!(rt; slow.flushes, 1);
+    expect(&rt, slow.taken.as_slice(), b"seven b".as_slice());
+    expect(&rt, slow.flushes, 1);
 }
 
 #[test]
@@ -75,7 +76,7 @@ fn a_stream_that_fails_is_told_of(rt: HostRuntime) {
     let mut sink = StdSink::over(&mut failing);
     assert!(rt; sink.write(b"seven b").is_err());
     has_counted(&sink, 1);
-    assert_eq!(rt; failing.taken.as_slice(), b"seve".as_slice());
+    expect(&rt, failing.taken.as_slice(), b"seve".as_slice());
     let mut unflushed = slow_stream(&rt, 0, true);
     let mut sink = StdSink::over(&mut unflushed);
     assert!(rt; sink.write(b"seven b").is_err());

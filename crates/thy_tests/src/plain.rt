@@ -1,10 +1,11 @@
 //! The plain machine's steps on a few programs.
-ghost use Rattle.std.specs.Prelude.{◌≡◌, length, IfOk};
+ghost use Rattle.std.specs.Prelude.{◌≡◌, ◌<◌, length};
 ghost use Rattle.thy_base.specs.Bytes.{bytes_of};
 ghost use Rattle.thy_base.specs.Geometry.{program_size};
 
+use crate::expect::expect;
+use std::alloc::Global;
 use std::process::Abort;
-use std::test::Fail;
 use thy_base::{Bytes, Geometry, Parameters};
 use thy_elf::Image;
 use thy_isa::{MachState, Reg, Status};
@@ -33,76 +34,89 @@ fn smallest() -> Geometry
 }
 
 /// An image of words at the base, where it starts.
-fn image_of(rt: &HostRuntime, words: &[u32]) -> Result<Image, Fail>
-    ensures { IfOk result (λ image. length (bytes_of image.memory) ≡ 28672) }
+fn image_of(rt: &impl Abort, alloc: Global, words: &[u32]) -> Image
+    ensures { length (bytes_of result.memory) ≡ 28672 }
 {
-    let mut memory = Vec::new(rt.alloc());
+    let mut memory = Vec::new(alloc);
     for word in words {
-        memory.extend_from_slice(&word.to_le_bytes())?;
+        memory
+            .extend_from_slice(&word.to_le_bytes())
+            .expect(rt, "memory");
     }
-    memory.resize(7 * 4096, 0)?;
-    Ok(Image {
+    memory.resize(7 * 4096, 0).expect(rt, "memory");
+    Image {
         entry: 65536,
         floor: 65552,
         memory: Bytes::from_vec(memory),
-    })
+    }
+}
+
+/// The machine at the start of a program of these words.
+fn start(rt: &impl Abort, alloc: Global, words: &[u32]) -> Plain
+    ensures { result.state.count ≡ 0 }
+{
+    let image = image_of(rt, alloc, words);
+    Plain::load(alloc, &image, &smallest(), b"").expect(rt, "memory")
 }
 
 /// Compares how a state stands.
 fn stands(rt: &impl Abort, state: &MachState, status: Status, count: u64, pc: u64) {
-    assert_eq!(rt; state.status, status);
-    assert_eq!(rt; state.count, count);
-    assert_eq!(rt; state.pc, pc);
+    expect(
+        rt,
+        (state.status, state.count, state.pc),
+        (status, count, pc),
+    );
+}
+
+/// Compares what a register holds.
+fn holds(rt: &impl Abort, state: &MachState, register: u8, want: u64)
+    requires { register < 32 }
+{
+    expect(rt, state.regs.get(Reg::new(register)), want);
 }
 
 /// `addi a7, zero, 93`, `addi a0, zero, 7`, `ecall`.
+static EXIT_SEVEN: [u32; 3] = [0x05d00893, 0x00700513, 0x00000073];
+
 #[test]
-fn a_program_exits_with_seven(rt: HostRuntime) -> Result<(), Fail> {
-    let image = image_of(&rt, &[0x05d00893, 0x00700513, 0x00000073])?;
-    let mut plain = Plain::load(rt.alloc(), &image, &smallest(), b"")?;
-    assert_eq!(rt; plain.run(100), 3);
+fn a_program_exits_with_seven(rt: HostRuntime) {
+    let mut plain = start(&rt, rt.alloc(), &EXIT_SEVEN);
+    expect(&rt, plain.run(100), 3);
     stands(&rt, &plain.into_state(), Status::Exited(7), 3, 65544);
-    Ok(())
 }
 
-/// The same, for two steps of the three.
 #[test]
-fn a_run_ends_at_its_limit(rt: HostRuntime) -> Result<(), Fail> {
-    let image = image_of(&rt, &[0x05d00893, 0x00700513, 0x00000073])?;
-    let mut plain = Plain::load(rt.alloc(), &image, &smallest(), b"")?;
-    assert_eq!(rt; plain.run(2), 2);
+fn a_run_ends_at_its_limit(rt: HostRuntime) {
+    let mut plain = start(&rt, rt.alloc(), &EXIT_SEVEN);
+    expect(&rt, plain.run(2), 2);
     stands(&rt, plain.state(), Status::Running, 2, 65544);
-    assert_eq!(rt; plain.state().regs.get(Reg::new(10)), 7);
-    Ok(())
+    holds(&rt, plain.state(), 10, 7);
 }
 
 #[test]
-fn a_step_is_one_instruction(rt: HostRuntime) -> Result<(), Fail> {
-    let image = image_of(&rt, &[0x05d00893, 0x00700513])?;
-    let mut plain = Plain::load(rt.alloc(), &image, &smallest(), b"")?;
+fn a_step_is_one_instruction(rt: HostRuntime) {
+    let mut plain = start(&rt, rt.alloc(), &EXIT_SEVEN[..2]);
     plain.step();
     stands(&rt, plain.state(), Status::Running, 1, 65540);
-    assert_eq!(rt; plain.state().regs.get(Reg::new(17)), 93);
-    Ok(())
+    holds(&rt, plain.state(), 17, 93);
 }
 
 /// `sd zero, 0(sp)`, then `jalr x1, 2(x0)`, which traps for its target and leaves x1.
+static ODD_JUMP: [u32; 2] = [0x00013023, 0x002000e7];
+
 #[test]
-fn a_jump_to_an_odd_place_traps(rt: HostRuntime) -> Result<(), Fail> {
-    let image = image_of(&rt, &[0x00013023, 0x002000e7])?;
-    let mut plain = Plain::load(rt.alloc(), &image, &smallest(), b"")?;
-    assert_eq!(rt; plain.run(5), 2);
+fn a_jump_to_an_odd_place_traps(rt: HostRuntime) {
+    let mut plain = start(&rt, rt.alloc(), &ODD_JUMP);
+    expect(&rt, plain.run(5), 2);
     stands(&rt, plain.state(), Status::Trapped(0), 2, 65540);
-    assert_eq!(rt; plain.state().regs.get(Reg::new(1)), 0);
-    Ok(())
+    holds(&rt, plain.state(), 1, 0);
 }
 
 #[test]
-fn a_program_starts_at_its_entry(rt: HostRuntime) -> Result<(), Fail> {
-    let start = start_of(rt.alloc(), image_of(&rt, &[])?, &smallest());
-    assert_eq!(rt; start.pc, 65536);
-    assert_eq!(rt; start.regs.get(Reg::new(2)), 93952);
-    assert_eq!(rt; start.brk, 65552);
-    assert_eq!(rt; start.memory.len(), 28672);
-    Ok(())
+fn a_program_starts_at_its_entry(rt: HostRuntime) {
+    let start = start_of(rt.alloc(), image_of(&rt, rt.alloc(), &[]), &smallest());
+    expect(&rt, start.pc, 65536);
+    expect(&rt, start.regs.get(Reg::new(2)), 93952);
+    expect(&rt, start.brk, 65552);
+    expect(&rt, start.memory.len(), 28672);
 }

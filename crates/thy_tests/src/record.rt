@@ -1,6 +1,7 @@
 //! Blocks as the layout's bytes, and what each fault is refused for.
 ghost use Rattle.std.specs.Prelude.{◌≡◌, length};
 
+use crate::expect::{expect, expect_at};
 use thy_base::{Block, Geometry, Parameters};
 use thy_isa::{CpuState, Reg, Regs, Status};
 use thy_record::{
@@ -72,7 +73,7 @@ static HEADER: [u8; 64] = [
 
 #[test]
 fn a_header_is_its_bytes(rt: HostRuntime) {
-    assert_eq!(rt; header_block(&geometry()), Block(HEADER));
+    expect(&rt, header_block(&geometry()), Block(HEADER));
 }
 
 /// The commit block of epoch 0x0102030405060708.
@@ -85,10 +86,10 @@ static COMMIT: [u8; 64] = [
 
 #[test]
 fn a_commit_block_is_its_bytes(rt: HostRuntime) {
-    assert_eq!(rt; commit_block(0x0102_0304_0506_0708), Block(COMMIT));
-    assert_eq!(rt; word(&Block(COMMIT), 1), 0x0102_0304_0506_0708);
-    assert_eq!(rt; is_zero(&Block(COMMIT)), false);
-    assert_eq!(rt; is_zero(&Block::ZERO), true);
+    expect(&rt, commit_block(0x0102_0304_0506_0708), Block(COMMIT));
+    expect(&rt, word(&Block(COMMIT), 1), 0x0102_0304_0506_0708);
+    expect(&rt, is_zero(&Block(COMMIT)), false);
+    expect(&rt, is_zero(&Block::ZERO), true);
 }
 
 /// The first block of the sample: pc, and the registers from x1 on.
@@ -118,10 +119,10 @@ static LAST: [u8; 64] = [
 #[test]
 fn a_record_is_its_bytes(rt: HostRuntime) {
     let cpu = sample();
-    assert_eq!(rt; cpu_block(&cpu, 9, 0), Block(FIRST));
-    assert_eq!(rt; cpu_block(&cpu, 9, 1), Block::ZERO);
-    assert_eq!(rt; cpu_block(&cpu, 9, 3), Block(REGISTERS));
-    assert_eq!(rt; cpu_block(&cpu, 9, 4), Block(LAST));
+    expect(&rt, cpu_block(&cpu, 9, 0), Block(FIRST));
+    expect(&rt, cpu_block(&cpu, 9, 1), Block::ZERO);
+    expect(&rt, cpu_block(&cpu, 9, 3), Block(REGISTERS));
+    expect(&rt, cpu_block(&cpu, 9, 4), Block(LAST));
     let blocks = [
         Block(FIRST),
         Block::ZERO,
@@ -129,63 +130,63 @@ fn a_record_is_its_bytes(rt: HostRuntime) {
         Block(REGISTERS),
         Block(LAST),
     ];
-    assert_eq!(rt; cpu_state(&blocks), cpu);
+    expect(&rt, cpu_state(&blocks), cpu);
 }
+
+/// A word of the header, another value of it, and what it is refused for then.
+static HEADERS: [(usize, u64, BadImage); 8] = [
+    (0, 0, BadImage::Header),
+    (1, 1, BadImage::Version),
+    (2, 0, BadImage::Geometry),
+    (3, 255, BadImage::Geometry),
+    (4, 2, BadImage::Geometry),
+    (5, 8, BadImage::Geometry),
+    (6, 8, BadImage::Geometry),
+    (7, 1, BadImage::Geometry),
+];
 
 #[test]
 fn a_header_of_another_machine_is_refused(rt: HostRuntime) {
     let geometry = geometry();
     let header = header_block(&geometry);
-    assert_eq!(rt; header_fault(&header, &geometry), None);
-    for (i, value, bad) in [
-        (0, 0, BadImage::Header),
-        (1, 1, BadImage::Version),
-        (2, 0, BadImage::Geometry),
-        (3, 255, BadImage::Geometry),
-        (4, 2, BadImage::Geometry),
-        (5, 8, BadImage::Geometry),
-        (6, 8, BadImage::Geometry),
-        (7, 1, BadImage::Geometry),
-    ] {
-        assert_eq!(rt;
-            header_fault(&with_word(header, i, value), &geometry),
-            Some(bad),
-            "word {i}"
-        );
+    expect(&rt, header_fault(&header, &geometry), None);
+    for (i, value, bad) in &HEADERS {
+        let other = with_word(header, *i, *value);
+        expect_at(&rt, header_fault(&other, &geometry), Some(*bad), *i);
     }
 }
 
 #[test]
 fn a_commit_block_at_the_ceiling_is_refused(rt: HostRuntime) {
     let commit = commit_block(5);
-    assert_eq!(rt; commit_fault(&commit, 6), None);
-    assert_eq!(rt; commit_fault(&commit, 5), Some(BadImage::Commit));
-    assert_eq!(rt; commit_fault(&Block::ZERO, 6), Some(BadImage::Commit));
+    expect(&rt, commit_fault(&commit, 6), None);
+    expect(&rt, commit_fault(&commit, 5), Some(BadImage::Commit));
+    expect(&rt, commit_fault(&Block::ZERO, 6), Some(BadImage::Commit));
     for i in 2..8 {
-        assert_eq!(rt;
-            commit_fault(&with_word(commit, i, 1), 6),
-            Some(BadImage::Commit),
-            "word {i}"
-        );
+        let other = with_word(commit, i, 1);
+        expect_at(&rt, commit_fault(&other, 6), Some(BadImage::Commit), i);
     }
 }
 
+/// Two words of a record's last block, each with its value, and the fault of the record.
+static RECORDS: [(usize, u64, usize, u64, Option<BadImage>); 11] = [
+    (4, 0, 5, 0, None),
+    (4, 0, 5, 1, Some(BadImage::Status)),
+    (4, 1, 5, 255, None),
+    (4, 1, 5, 256, Some(BadImage::Status)),
+    (4, 2, 5, 7, None),
+    (4, 2, 5, 8, Some(BadImage::Status)),
+    (4, 3, 5, 0, Some(BadImage::Status)),
+    (0, 4, 2, 4096, None),
+    (0, 5, 2, 4097, Some(BadImage::Status)),
+    (0, 4, 2, 4097, Some(BadImage::ConsoleLength)),
+    (0, 5, 6, 1, Some(BadImage::Commit)),
+];
+
 #[test]
 fn a_record_is_refused_for_its_first_fault(rt: HostRuntime) {
-    for (i, value, j, other, want) in [
-        (4, 0, 5, 0, None),
-        (4, 0, 5, 1, Some(BadImage::Status)),
-        (4, 1, 5, 255, None),
-        (4, 1, 5, 256, Some(BadImage::Status)),
-        (4, 2, 5, 7, None),
-        (4, 2, 5, 8, Some(BadImage::Status)),
-        (4, 3, 5, 0, Some(BadImage::Status)),
-        (0, 4, 2, 4096, None),
-        (0, 5, 2, 4097, Some(BadImage::Status)),
-        (0, 4, 2, 4097, Some(BadImage::ConsoleLength)),
-        (0, 5, 6, 1, Some(BadImage::Commit)),
-    ] {
-        assert_eq!(rt; fault(i, value, j, other), want, "words {i} and {j}");
+    for (row, (i, value, j, other, want)) in RECORDS.iter().enumerate() {
+        expect_at(&rt, fault(*i, *value, *j, *other), *want, row);
     }
 }
 
@@ -193,7 +194,7 @@ fn a_record_is_refused_for_its_first_fault(rt: HostRuntime) {
 fn a_piece_is_stored_in_one_block(rt: HostRuntime) {
     let mut blocks = [Block::ZERO, Block::ZERO];
     store(&mut blocks, 124, &[1, 2, 3, 4]);
-    assert_eq!(rt; blocks[0], Block::ZERO);
-    assert_eq!(rt; word(&blocks[1], 7), 0x0403_0201_0000_0000);
-    assert_eq!(rt; load(&blocks, 126, 2), 0x0403);
+    expect(&rt, blocks[0], Block::ZERO);
+    expect(&rt, word(&blocks[1], 7), 0x0403_0201_0000_0000);
+    expect(&rt, load(&blocks, 126, 2), 0x0403);
 }

@@ -1,209 +1,298 @@
-//! The command line, row by row.
-use std::alloc::{AllocError, Global};
+//! The command line, row by row. The words of a row stand with a bar between each two, the program's name
+//! first.
+use crate::expect::{expect, expect_at};
+use std::alloc::Global;
+use std::process::Abort;
 use thy_base::Config;
 use thy_words::{Command, WordsError, name_of, settings};
 
-/// Words with a bar between each two, the program's name first, and what they ask for.
-static ROWS: [(&str, &str); 74] = [
-    // no command line
-    ("thynvm", "usage"),
-    ("thynvm|run", "usage"),
-    ("thynvm|help", "usage"),
-    ("thynvm|--help", "usage"),
-    ("thynvm|-h", "usage"),
-    ("thynvm|--version", "usage"),
-    ("thynvm|-V", "usage"),
-    ("thynvm|run|F|--help", "usage"),
-    ("thynvm|run|F|-h", "usage"),
-    ("thynvm|fly|F", "usage"),
-    ("thynvm|F", "usage"),
-    ("thynvm|Run|F", "usage"),
-    ("thynvm|run|F|G", "usage"),
-    ("thynvm|run|-f", "usage"),
-    ("thynvm|--pages|9|run|F", "usage"),
-    ("thynvm|run|F|--pages", "usage"),
-    ("thynvm|run|F|--pages|-5", "usage"),
-    ("thynvm|run|F|--page|9", "usage"),
-    ("thynvm|run|F|--pages|9|--pages|9", "usage"),
-    ("thynvm|run|F|--n|0", "usage"),
-    // a text that is no value
-    ("thynvm|run|F|--pages|x", "word pages"),
-    ("thynvm|run|F|--pages=-5", "word pages"),
-    ("thynvm|run|F|--pages=+9", "word pages"),
-    ("thynvm|run|F|--pages=", "word pages"),
-    ("thynvm|run|F|--pages| 9", "word pages"),
-    ("thynvm|run|F|--pages|9,9", "word pages"),
-    ("thynvm|run|F|--mix|10000000000000000000", "word mix"),
-    ("thynvm|run|F|--mix|00000000000000000001", "word mix"),
-    ("thynvm|run|F|--cuts|1,2,", "word cuts"),
-    ("thynvm|run|F|--cuts|,1", "word cuts"),
-    ("thynvm|run|F|--cuts|1,,2", "word cuts"),
-    ("thynvm|run|F|--cuts=", "word cuts"),
-    ("thynvm|run|F|--tears|1;2", "word tears"),
-    ("thynvm|run|F|--limit|x|--base|y", "word base"),
-    ("thynvm|run|F|--pages|7|--limit|x", "word limit"),
-    // a value out of range
-    ("thynvm|run|F|--base|4097", "value base 4097"),
-    ("thynvm|run|F|--pages|7", "value pages 7"),
-    ("thynvm|run|F|--pages|4097", "value pages 4097"),
-    ("thynvm|run|F|--pages|8|--console|8", "value console 8"),
-    ("thynvm|run|F|--epoch|0", "value epoch 0"),
-    ("thynvm|run|F|--btt|12", "value btt 12"),
-    ("thynvm|run|F|--ptt|520", "value ptt 520"),
-    ("thynvm|run|F|--sets|48", "value sets 48"),
-    ("thynvm|run|F|--ways|9", "value ways 9"),
-    ("thynvm|run|F|--dramq|65|--nvmq|0", "value nvmq 0"),
-    ("thynvm|run|F|--high|64", "value high 64"),
-    ("thynvm|run|F|--high|10", "value low 16"),
-    ("thynvm|run|F|--cuts|0", "value cuts 0"),
-    ("thynvm|run|F|--cuts|5,5", "value cuts 5"),
-    ("thynvm|run|F|--cuts|9,8", "value cuts 8"),
+/// Words that are no command line.
+static USAGE: [&str; 27] = [
+    "thynvm",
+    "thynvm|run",
+    "thynvm|help",
+    "thynvm|--help",
+    "thynvm|-h",
+    "thynvm|--version",
+    "thynvm|-V",
+    "thynvm|run|F|--help",
+    "thynvm|run|F|-h",
+    "thynvm|fly|F",
+    "thynvm|F",
+    "thynvm|Run|F",
+    "thynvm|run|F|G",
+    "thynvm|run|-f",
+    "thynvm|--pages|9|run|F",
+    "thynvm|run|F|--pages",
+    "thynvm|run|F|--pages|-5",
+    "thynvm|run|F|--page|9",
+    "thynvm|run|F|--pages|9|--pages|9",
+    "thynvm|run|F|--n|0",
+    "thynvm|run|F|--digest|--digest",
+    "thynvm|run|F|--digest=true",
+    "thynvm|run|--digest",
+    "thynvm|plain",
+    "thynvm|plain|F|--epoch|9",
+    "thynvm|plain|F|--cuts|9",
+    "thynvm|run|plain|F",
+];
+
+/// Words of which one is no value, and the field that it should be of.
+static WORDS: [(&str, &str); 16] = [
+    ("thynvm|run|F|--pages|x", "pages"),
+    ("thynvm|run|F|--pages=-5", "pages"),
+    ("thynvm|run|F|--pages=+9", "pages"),
+    ("thynvm|run|F|--pages=", "pages"),
+    ("thynvm|run|F|--pages| 9", "pages"),
+    ("thynvm|run|F|--pages|9,9", "pages"),
+    ("thynvm|run|F|--mix|10000000000000000000", "mix"),
+    ("thynvm|run|F|--mix|00000000000000000001", "mix"),
+    ("thynvm|run|F|--cuts|1,2,", "cuts"),
+    ("thynvm|run|F|--cuts|,1", "cuts"),
+    ("thynvm|run|F|--cuts|1,,2", "cuts"),
+    ("thynvm|run|F|--cuts=", "cuts"),
+    ("thynvm|run|F|--tears|1;2", "tears"),
+    ("thynvm|run|F|--limit|x|--base|y", "base"),
+    ("thynvm|run|F|--pages|7|--limit|x", "limit"),
+    ("thynvm|plain|F|--limit|x", "limit"),
+];
+
+/// Words that give a value out of range, its field, and the value.
+static VALUES: [(&str, &str, u64); 21] = [
+    ("thynvm|run|F|--base|4097", "base", 4097),
+    ("thynvm|run|F|--pages|7", "pages", 7),
+    ("thynvm|run|F|--pages|4097", "pages", 4097),
+    ("thynvm|run|F|--pages|8|--console|8", "console", 8),
+    ("thynvm|run|F|--epoch|0", "epoch", 0),
+    ("thynvm|run|F|--btt|12", "btt", 12),
+    ("thynvm|run|F|--ptt|520", "ptt", 520),
+    ("thynvm|run|F|--sets|48", "sets", 48),
+    ("thynvm|run|F|--ways|9", "ways", 9),
+    ("thynvm|run|F|--dramq|65|--nvmq|0", "nvmq", 0),
+    ("thynvm|run|F|--high|64", "high", 64),
+    ("thynvm|run|F|--high|10", "low", 16),
+    ("thynvm|run|F|--cuts|0", "cuts", 0),
+    ("thynvm|run|F|--cuts|5,5", "cuts", 5),
+    ("thynvm|run|F|--cuts|9,8", "cuts", 8),
     (
         "thynvm|run|F|--pages|4096|--cuts|1,2,3,4,5,6,7,8,9,10,11,12,13,14,15,16",
-        "value cuts 69632",
+        "cuts",
+        69632,
     ),
-    ("thynvm|run|F|--tears|1,2", "value tears 2"),
-    ("thynvm|run|F|--limit|0", "value limit 0"),
-    (
-        "thynvm|run|F|--limit|1000000000001",
-        "value limit 1000000000001",
-    ),
-    ("thynvm|run|F|--limit|0|--pages|7", "value pages 7"),
-    // settings
+    ("thynvm|run|F|--tears|1,2", "tears", 2),
+    ("thynvm|run|F|--limit|0", "limit", 0),
+    ("thynvm|run|F|--limit|1000000000001", "limit", 1000000000001),
+    ("thynvm|run|F|--limit|0|--pages|7", "pages", 7),
+    ("thynvm|plain|F|--pages|8|--console|8", "console", 8),
+];
+
+/// The numbers of a configuration that no option changes, in the order of its fields.
+const DEFAULTS: [u64; 14] = [
+    65536, 256, 1, 10000, 512, 64, 16, 4, 16, 16, 22, 16, 0, 1000000000,
+];
+
+/// A command's name, its file, the name of its input, and whether it tells digests.
+type Told<'a> = (&'a str, &'a str, Option<&'a str>, bool);
+
+/// What a row says of a command and its configuration: the numbers in the order of the fields, the cuts and
+/// the tears.
+type Row = (
+    &'static str,
+    Told<'static>,
+    [u64; 14],
+    &'static [u64],
+    &'static [u64],
+);
+
+/// Words that ask for a command, and the command.
+static COMMANDS: [Row; 10] = [
     (
         "thynvm|run|F",
-        "F - 65536 256 1 10000 512 64 16 4 16 16 22 16 0 [] [] 1000000000",
+        ("run", "F", None, false),
+        DEFAULTS,
+        &[],
+        &[],
     ),
     (
         "any|run|--pages=9|F|--ways|007",
-        "F - 65536 9 1 10000 512 64 16 7 16 16 22 16 0 [] [] 1000000000",
+        ("run", "F", None, false),
+        [
+            65536, 9, 1, 10000, 512, 64, 16, 7, 16, 16, 22, 16, 0, 1000000000,
+        ],
+        &[],
+        &[],
     ),
     (
         "thynvm|run|--|-f",
-        "-f - 65536 256 1 10000 512 64 16 4 16 16 22 16 0 [] [] 1000000000",
+        ("run", "-f", None, false),
+        DEFAULTS,
+        &[],
+        &[],
     ),
     (
         "thynvm|run|-|--input|",
-        "- in: 65536 256 1 10000 512 64 16 4 16 16 22 16 0 [] [] 1000000000",
+        ("run", "-", Some(""), false),
+        DEFAULTS,
+        &[],
+        &[],
     ),
-    (
-        "thynvm|run|",
-        " - 65536 256 1 10000 512 64 16 4 16 16 22 16 0 [] [] 1000000000",
-    ),
+    ("thynvm|run|", ("run", "", None, false), DEFAULTS, &[], &[]),
     (
         "thynvm|run|F|--cuts|1,02,70|--tears|9,0,9,5|--mix|9999999999999999999",
-        "F - 65536 256 1 10000 512 64 16 4 16 16 22 16 9999999999999999999 [1, 2, 70] [9, 0, 9, 5] 1000000000",
+        ("run", "F", None, false),
+        [
+            65536,
+            256,
+            1,
+            10000,
+            512,
+            64,
+            16,
+            4,
+            16,
+            16,
+            22,
+            16,
+            9999999999999999999,
+            1000000000,
+        ],
+        &[1, 2, 70],
+        &[9, 0, 9, 5],
     ),
     (
         "|run|F|--base|8192|--pages|8|--console|2|--epoch|3|--btt|16|--ptt|24|--sets|1|--ways|5|--nvmq|6|--dramq|7|--high|9|--low|8|--mix|10|--cuts|11|--tears|12|--limit|13|--input|I",
-        "F in:I 8192 8 2 3 16 24 1 5 6 7 9 8 10 [11] [12] 13",
+        ("run", "F", Some("I"), false),
+        [8192, 8, 2, 3, 16, 24, 1, 5, 6, 7, 9, 8, 10, 13],
+        &[11],
+        &[12],
     ),
-    // digests, and the plain machine
     (
         "thynvm|run|F|--digest",
-        "digest F - 65536 256 1 10000 512 64 16 4 16 16 22 16 0 [] [] 1000000000",
+        ("run", "F", None, true),
+        DEFAULTS,
+        &[],
+        &[],
     ),
-    ("thynvm|run|F|--digest|--digest", "usage"),
-    ("thynvm|run|F|--digest=true", "usage"),
-    ("thynvm|run|--digest", "usage"),
     (
         "thynvm|plain|F",
-        "plain F - 65536 256 1 10000 512 64 16 4 16 16 22 16 0 [] [] 1000000000",
+        ("plain", "F", None, false),
+        DEFAULTS,
+        &[],
+        &[],
     ),
     (
         "thynvm|plain|--digest|F|--limit|9|--base|8192|--console|2|--pages|8|--input|I",
-        "plain digest F in:I 8192 8 2 10000 512 64 16 4 16 16 22 16 0 [] [] 9",
+        ("plain", "F", Some("I"), true),
+        [8192, 8, 2, 10000, 512, 64, 16, 4, 16, 16, 22, 16, 0, 9],
+        &[],
+        &[],
     ),
-    ("thynvm|plain", "usage"),
-    ("thynvm|plain|F|--epoch|9", "usage"),
-    ("thynvm|plain|F|--cuts|9", "usage"),
-    ("thynvm|plain|F|--limit|x", "word limit"),
-    ("thynvm|plain|F|--pages|8|--console|8", "value console 8"),
-    ("thynvm|run|plain|F", "usage"),
 ];
 
-/// A configuration in the order of its fields.
-fn shown(alloc: Global, c: &Config) -> Result<String, AllocError> {
-    let cache = format!(in alloc; "{} {} {} {}", c.sets, c.ways, c.nvmq, c.dramq)?;
-    let memory = format!(in alloc;
-        "{} {} {} {} {} {}",
-        c.base, c.pages, c.console, c.epoch, c.btt, c.ptt
-    )?;
-    let lists = format!(in alloc; "{:?} {:?}", c.cuts.as_slice(), c.tears.as_slice())?;
-    format!(in alloc;
-        "{memory} {cache} {} {} {} {lists} {}",
-        c.high, c.low, c.mix, c.limit
-    )
-}
-
-/// The name of the input, or a dash for none.
-fn name_shown(alloc: Global, name: Option<String>) -> Result<String, AllocError> {
-    match name {
-        Some(name) => format!(in alloc; "in:{name}"),
-        None => String::from_str(alloc, "-"),
-    }
-}
-
-fn job_shown(
-    alloc: Global,
-    machine: &str,
-    file: String,
-    input: Option<String>,
-    config: Config,
-    digest: bool,
-) -> Result<String, AllocError> {
-    let told = if digest { "digest " } else { "" };
-    let input = name_shown(alloc, input)?;
-    format!(in alloc; "{machine}{told}{file} {input} {}", shown(alloc, &config)?)
-}
-
-fn answer(alloc: Global, words: &[String]) -> Result<String, AllocError> {
-    match settings(alloc, words) {
-        Ok(
-            Command::Run {
-                file,
-                input,
-                config,
-                digest,
-            },
-        ) => job_shown(alloc, "", file, input, config, digest),
-        Ok(
-            Command::Plain {
-                file,
-                input,
-                config,
-                digest,
-            },
-        ) => job_shown(alloc, "plain ", file, input, config, digest),
-        Err(WordsError::Usage) => String::from_str(alloc, "usage"),
-        Err(WordsError::Word(field)) => format!(in alloc; "word {}", name_of(field)),
-        Err(WordsError::Value(field, value)) => {
-            format!(in alloc; "value {} {value}", name_of(field))
-        }
-        Err(WordsError::Memory(error)) => Err(error),
-    }
-}
-
-fn words_of(alloc: Global, text: &str) -> Result<Vec<String>, AllocError> {
+/// The words of a row.
+fn words_of(rt: &impl Abort, alloc: Global, row: &str) -> Vec<String> {
     let mut words = Vec::new(alloc);
-    for word in text.split('|') {
-        words.push(String::from_str(alloc, word)?)?;
+    for word in row.split('|') {
+        let word = String::from_str(alloc, word).expect(rt, "memory");
+        words.push(word).expect(rt, "memory");
     }
-    Ok(words)
+    words
+}
+
+/// What words are refused for: the name of the error, that of its field, and its value.
+fn refusal(alloc: Global, words: &[String]) -> (&'static str, &'static str, u64) {
+    match settings(alloc, words).err() {
+        None => ("not refused", "", 0),
+        Some(WordsError::Usage) => ("usage", "", 0),
+        Some(WordsError::Word(field)) => ("word", name_of(field), 0),
+        Some(WordsError::Value(field, value)) => ("value", name_of(field), value),
+        Some(WordsError::Memory(_)) => ("memory", "", 0),
+    }
+}
+
+/// Compares what the words of a row are refused for with what they should be.
+fn refused(rt: &impl Abort, alloc: Global, row: &str, error: &str, field: &str, value: u64) {
+    let words = words_of(rt, alloc, row);
+    let found = refusal(alloc, words.as_slice());
+    expect_at(rt, found, (error, field, value), row);
+}
+
+#[test]
+fn words_that_are_no_command_line(rt: HostRuntime) {
+    for row in &USAGE {
+        refused(&rt, rt.alloc(), row, "usage", "", 0);
+    }
+    expect(&rt, refusal(rt.alloc(), &[]), ("usage", "", 0));
+}
+
+#[test]
+fn a_word_that_is_no_value_is_refused(rt: HostRuntime) {
+    for (row, field) in &WORDS {
+        refused(&rt, rt.alloc(), row, "word", field, 0);
+    }
+}
+
+#[test]
+fn a_value_out_of_range_is_refused(rt: HostRuntime) {
+    for (row, field, value) in &VALUES {
+        refused(&rt, rt.alloc(), row, "value", field, *value);
+    }
+}
+
+/// The numbers of a configuration in the order of its fields.
+fn numbers_of(c: &Config) -> [u64; 14] {
+    [
+        c.base, c.pages, c.console, c.epoch, c.btt, c.ptt, c.sets, c.ways, c.nvmq, c.dramq, c.high,
+        c.low, c.mix, c.limit,
+    ]
+}
+
+fn told<'a>(name: &'a str, file: &'a String, input: &'a Option<String>, digest: bool) -> Told<'a> {
+    let input = match input {
+        Some(name) => Some(name.as_str()),
+        None => None,
+    };
+    (name, file.as_str(), input, digest)
+}
+
+/// A command without its configuration, and that.
+fn parts(command: &Command) -> (Told<'_>, &Config) {
+    match command {
+        Command::Run {
+            file,
+            input,
+            config,
+            digest,
+        } => (told("run", file, input, *digest), config),
+        Command::Plain {
+            file,
+            input,
+            config,
+            digest,
+        } => (told("plain", file, input, *digest), config),
+    }
+}
+
+/// The command that words ask for.
+fn command_of(rt: &impl Abort, alloc: Global, row: &str) -> Command {
+    let words = words_of(rt, alloc, row);
+    settings(alloc, words.as_slice()).expect(rt, "a command")
+}
+
+/// Compares a command with what a row says of it.
+fn compare(rt: &impl Abort, command: &Command, row: &Row) {
+    let (words, want, numbers, cuts, tears) = row;
+    let (found, config) = parts(command);
+    expect_at(rt, found, *want, *words);
+    expect_at(rt, &numbers_of(config), numbers, *words);
+    expect_at(rt, config.cuts.as_slice(), *cuts, *words);
+    expect_at(rt, config.tears.as_slice(), *tears, *words);
 }
 
 #[test]
 fn words_ask_for_their_settings(rt: HostRuntime) {
-    for row in &ROWS {
-        let words = words_of(rt.alloc(), row.0).expect(&rt, "memory");
-        let found = answer(rt.alloc(), words.as_slice()).expect(&rt, "memory");
-        assert_eq!(rt; found.as_str(), row.1);
+    for row in &COMMANDS {
+        let command = command_of(&rt, rt.alloc(), row.0);
+        compare(&rt, &command, row);
     }
-}
-
-#[test]
-fn no_words_are_no_command_line(rt: HostRuntime) {
-    let words = Vec::new(rt.alloc());
-    let found = answer(rt.alloc(), words.as_slice()).expect(&rt, "memory");
-    assert_eq!(rt; found.as_str(), "usage");
 }
