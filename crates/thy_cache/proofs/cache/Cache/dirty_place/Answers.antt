@@ -1,4 +1,4 @@
-use Rattle.std.proofs.Common.{sym}
+use Rattle.std.proofs.Common.{sym, rules}
 use Rattle.thy_cache.proofs.FlushLaws.{none-dirty, first-dirty, first-there, some-dirty}
 use Rattle.thy_cache.specs.Contents.{set_at}
 use Rattle.thy_cache.proofs.cache.Cache.dirty_place.Goals as goal
@@ -15,3 +15,6 @@ returns-in-Some-dirty_way-clause-dirty c = first-dirty (set_at c.args.self.now c
 
 pub returns-in-None-dirty_way-clause-none : goal.returns-in-None-dirty_way-clause-none
 returns-in-None-dirty_way-clause-none c = absurd (first-there c.args.self.now c.in-Some.set (sym c.in-Some.ensures.set) (sym c.in-None-dirty_way.ensures))
+
+pub returns-in-Some-dirty_way-clause-way : goal.returns-in-Some-dirty_way-clause-way
+returns-in-Some-dirty_way-clause-way c = search rules
