@@ -1,3 +1,4 @@
+use Rattle.std.proofs.Common.{rules}
 use Rattle.thy_text.proofs.line.write_event.Goals as goal
 
 pub returns-in-Commit-clause-whole : goal.returns-in-Commit-clause-whole
@@ -11,3 +12,6 @@ returns-in-Cut-clause-whole g c = rw c.in-Cut.is c.write_numbers-in-Cut.ensures.
 
 pub returns-in-Cut-clause-failed : goal.returns-in-Cut-clause-failed
 returns-in-Cut-clause-failed g c = rw c.in-Cut.is c.write_numbers-in-Cut.ensures.failed
+
+pub returns-in-Reload-clause-whole : goal.returns-in-Reload-clause-whole
+returns-in-Reload-clause-whole g c = search rules
