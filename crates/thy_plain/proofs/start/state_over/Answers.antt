@@ -1,4 +1,4 @@
-use Rattle.std.proofs.Common.{List, ℕ, subst}
+use Rattle.std.proofs.Common.{List, ℕ, subst, rules}
 use Rattle.std.specs.List.{All}
 use Rattle.thy_base.specs.Bytes.{bytes_of}
 use Rattle.thy_isa.specs.Storable.{IsByte, IsStorable}
@@ -13,3 +13,6 @@ returns-clause-storable c =
     let start : IsStorable _ (start_state p (record { entry = c.args.entry; floor = c.args.floor; memory = bytes_of c.args.memory })) =
     start_state-storable p _ c.start_regs.ensures.top (record { entry = c.ranges.entry.fits; floor = c.ranges.floor.fits; bytes = bytes }) in
     rw (c.start_regs.ensures.regs, c.requires) start
+
+pub returns-clause-state : goal.returns-clause-state
+returns-clause-state c = search rules
