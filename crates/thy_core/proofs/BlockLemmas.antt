@@ -39,7 +39,7 @@ pub piece_over_zeros : (rest : List ℕ) (count : ℕ) → count ≡ min (length
     → take count rest ++ drop count (replicate 64 0) ≡ take 64 (rest ++ replicate 64 0)
 piece_over_zeros rest count is =
     let few : count ≤ 64 = omega arith in
-    let zeros : drop count (replicate 64 0) ≡ replicate (64 - count) 0 = drop-replicate count 64 0 in
+    let zeros : drop count (replicate {A = ℕ} 64 0) ≡ replicate {A = ℕ} (64 - count) 0 = drop-replicate count 64 0 in
     let long : length (take count rest ++ replicate (64 - count) 0) ≡ length (take 64 (rest ++ replicate 64 0))
     = omega (
       arith,

@@ -69,7 +69,7 @@ pub Covers-sealed : (o : Origin) (v : View) (m : Marks) → Fits o v m → Cover
 Covers-sealed o v m f = covers_in o v m v.phase f
 
 unsealed : (kept sealed done doubt : Option Mark) (written : Bool) → Covers kept sealed done doubt → Covers kept sealed done (if written then doubt else None)
-unsealed kept sealed done doubt written c = record { nothing = c.nothing; of_done = c.of_done; of_doubt = λ d some. c.of_doubt d (doubt_sealed written doubt d some) }
+unsealed kept sealed last doubt written c = record { nothing = c.nothing; of_done = c.of_done; of_doubt = λ d some. c.of_doubt d (doubt_sealed written doubt d some) }
 
 pub Covers-fits : (o : Origin) (v : View) (m : Marks) → Fits o v m → Covers m.kept m.sealed v.done (doubt_of v)
 Covers-fits o v m f = unsealed m.kept m.sealed v.done v.sealed v.written (Covers-sealed o v m f)
