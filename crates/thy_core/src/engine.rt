@@ -40,7 +40,7 @@ pub fn issue<N: Nvm>(m: &Parts, epoch: u64, issue: Issue, nvm: &mut N) -> Result
     match issue {
         Issue::Memory(i) => {
             let block = m.memory.get(i as usize);
-            nvm.write(memory_place(&m.geometry, epoch, i), &block)
+            nvm.write(memory_place(&m.geometry, epoch, i), block)
         }
         Issue::Record(k) => nvm.write(
             record_place(&m.geometry, epoch, k),

@@ -41,7 +41,7 @@ fn store(memory: &mut Memory, at: u64, width: Width, value: u64)
     requires inside { at % 64 + size_of width ≤ 64 }
     ensures { memory.new ≡ stored memory.old at (number_bytes (size_of width) value) }
 {
-    let mut block = memory.get((at / 64) as usize);
+    let mut block = *memory.get((at / 64) as usize);
     put_number(&mut block.0, (at % 64) as usize, width, value);
     memory.set((at / 64) as usize, &block);
 }

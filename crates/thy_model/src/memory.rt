@@ -37,11 +37,11 @@ impl Memory {
     }
 
     /// Block `at`.
-    pub fn get(&self, at: usize) -> Block
+    pub fn get(&self, at: usize) -> &Block
         requires { at < length self.now }
-        ensures { result ≡ block_at self.now at }
+        ensures { result.now ≡ block_at self.now at }
     {
-        self.blocks[at]
+        &self.blocks[at]
     }
 
     /// Puts a block at `at`.
