@@ -15,3 +15,9 @@ returns-in-Cut-clause-failed g c = rw c.in-Cut.is c.write_numbers-in-Cut.ensures
 
 pub returns-in-Reload-clause-whole : goal.returns-in-Reload-clause-whole
 returns-in-Reload-clause-whole g c = search rules
+
+pub returns-in-Restart-clause-whole : goal.returns-in-Restart-clause-whole
+returns-in-Restart-clause-whole g c = search rules
+
+pub returns-in-Restart-clause-failed : goal.returns-in-Restart-clause-failed
+returns-in-Restart-clause-failed g c = search rules
