@@ -22,8 +22,7 @@ use Rattle.thy_plain.specs.Start.{start_state}
 use Rattle.thy_words.specs.declared.words.WordsError.{WordsError}
 use Rattle.thy_words.specs.declared.words.WordsError.TheVariants.{Usage, Word, Value, Memory as WordsMemory}
 use Rattle.thy_words.specs.Settings.{Job, Order, run, plain, settings_of, order_of, ShowsOrMemory}
-use Rattle.thy_model.specs.Origin.{Origin}
-use Rattle.thy_model.specs.Sound.{IsOrigin}
+use Rattle.thy_view.specs.Origin.{Origin, IsOrigin}
 use Rattle.thy_run.specs.Laws.{Promise}
 use Rattle.thy_run.specs.Unfinished.{Finished}
 use Rattle.thy_run.specs.World.{Given, World, Ran}

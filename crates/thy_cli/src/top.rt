@@ -15,7 +15,7 @@ use crate::refusal::{Refusal, refuse};
 use crate::source::{Program, Task, fetch_program};
 use std::alloc::Global;
 use thy_base::{Bytes, Nvm, Shape, Shelf, Sink};
-use thy_model::Start;
+use thy_record::Start;
 use thy_plain::start_of;
 use thy_run::{Plan, run};
 use thy_words::{Command, settings};

@@ -3,8 +3,7 @@
 ghost use Rattle.std.specs.Prelude.{◌≡◌, ◌+◌, ◌<◌, ◌≤◌, ◌^◌, IfSome, length};
 ghost use Rattle.std.specs.List.{list_any};
 ghost use Rattle.thy_elf.specs.Header.{header_of};
-ghost use Rattle.thy_elf.specs.ProgramHeader.{program_header, indices_of, HasHeaders, segment_rows};
-ghost use Rattle.thy_elf.specs.ProgramHeader.{needs_loader, is_load, takes_memory, is_within};
+ghost use Rattle.thy_elf.specs.ProgramHeader.{program_header, indices_of, HasHeaders, segment_rows, needs_loader, is_load, takes_memory, is_within};
 ghost use Rattle.thy_elf.specs.Refusal.{first_due, IsRefusal};
 
 use crate::error::ElfError;

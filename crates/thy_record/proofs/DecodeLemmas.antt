@@ -12,7 +12,8 @@ use Rattle.thy_record.specs.declared.image.BadImage.{BadImage}
 use Rattle.thy_record.specs.Header.{header_of, header_fault}
 use Rattle.thy_record.specs.Commit.{commit_of, is_zero, epoch_of, commit_fault}
 use Rattle.thy_record.specs.Cpu.{record_of, IsRecordOf, cpu_of_record, record_fault}
-use Rattle.thy_record.specs.Decode.{Nothing, Refused, At, window, state_from, record_in, memory_in, image_fault, refused_or_at, decode, IsWhole, IsRecordable}
+use Rattle.thy_record.specs.Decoded.{Nothing, Refused, At}
+use Rattle.thy_record.specs.Decode.{window, state_from, record_in, memory_in, image_fault, refused_or_at, decode, IsWhole, IsRecordable}
 use Rattle.thy_record.proofs.ReadBackLemmas.{header_fault-header_of, epoch_of-commit_of, commit_fault-commit_of, is_zero-commit_of, cpu_of_record-back, record_fault-back, IsRecordOf-record_of}
 
 -- ---- from whole parts to the decoding

@@ -10,17 +10,10 @@ use Rattle.thy_base.specs.Geometry.{slot_of, program_size, console_room, memory_
 use Rattle.thy_isa.specs.declared.state.CpuState.{CpuState}
 use Rattle.thy_isa.specs.Step.{State, state_with}
 use Rattle.thy_record.specs.declared.image.BadImage.{BadImage}
+use Rattle.thy_record.specs.Decoded.{Decoded, Nothing, Refused, At}
 use Rattle.thy_record.specs.Header.{header_fault}
 use Rattle.thy_record.specs.Commit.{is_zero, epoch_of, commit_fault}
 use Rattle.thy_record.specs.Cpu.{cpu_of_record, record_fault, is_status, status_tag, status_value}
-
-pub data Decoded : Type 0 where
-  -- no checkpoint was committed
-  Nothing : Decoded
-  -- the image is refused
-  Refused : (bad : BadImage) → Decoded
-  -- the epoch of the committed checkpoint, and its state
-  At : (epoch : ℕ) (state : State) → Decoded
 
 -- the bytes of a list of blocks
 unfoldable pub flat : List Block → List ℕ

@@ -9,7 +9,8 @@ use Rattle.thy_isa.specs.Step.{State}
 use Rattle.thy_record.specs.Header.{header_of}
 use Rattle.thy_record.specs.Commit.{commit_of}
 use Rattle.thy_record.specs.Cpu.{IsRecordOf}
-use Rattle.thy_record.specs.Decode.{At, state_from, record_in, memory_in, decode, IsWhole, IsRecordable}
+use Rattle.thy_record.specs.Decoded.{At}
+use Rattle.thy_record.specs.Decode.{state_from, record_in, memory_in, decode, IsWhole, IsRecordable}
 
 -- an image with the header of its geometry, the commit block of an epoch, and a processor's record in that
 -- epoch's slot decodes to that epoch, that processor and the blocks of the slot

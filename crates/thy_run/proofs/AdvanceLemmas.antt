@@ -7,21 +7,23 @@ use Rattle.thy_base.specs.declared.mix.Mix.{Mix}
 use Rattle.thy_base.specs.Device.{Device, IsFramed, RoseFaults, cut_to}
 use Rattle.thy_base.specs.Mix.{mix_next}
 use Rattle.thy_isa.specs.declared.state.Status.{Status}
-use Rattle.thy_record.specs.Decode.{Decoded, Nothing as NothingLeft, Refused as RefusedImage, At, decode}
+use Rattle.thy_record.specs.Decoded.{Decoded, Nothing as NothingLeft, Refused as RefusedImage, At}
+use Rattle.thy_record.specs.Decode.{decode}
 use Rattle.thy_text.specs.Happening.{Happening, EpochEnd, Commit, Cut, Restart, Reload, Ended as EndedEvent}
-use Rattle.thy_model.specs.declared.did.Did.{Did}
-use Rattle.thy_model.specs.declared.did.Stepped.{Stepped}
-use Rattle.thy_model.specs.declared.view.View.{View}
-use Rattle.thy_model.specs.Boot.{view_of_image}
+use Rattle.thy_view.specs.declared.did.Did.{Did}
+use Rattle.thy_view.specs.declared.did.Stepped.{Stepped}
+use Rattle.thy_view.specs.declared.view.View.{View}
+use Rattle.thy_view.specs.Booting.{view_of_image}
 use Rattle.thy_base.specs.Geometry.{blocks_of}
-use Rattle.thy_model.specs.Calls.{Core, made_for, IsAt, Begins, CanStep, is_halt, halts, loads}
-use Rattle.thy_model.specs.Origin.{Origin, at}
-use Rattle.thy_model.specs.Safe.{ceiling}
-use Rattle.thy_model.specs.Sound.{view_of}
-use Rattle.thy_model.proofs.CallLaws.{IsAt-cut, CanStep-at, geometry-at}
-use Rattle.thy_core.specs.declared.image.CoreError.{CoreError}
-use Rattle.thy_core.specs.declared.image.CoreError.TheVariants.{Nvm as NvmFailed, Memory as NoMemory}
-use Rattle.thy_core.specs.Machine.{HasFailedToRead}
+use Rattle.thy_copy_model.specs.Calls.{Core, made_for, IsAt, CanStep}
+use Rattle.thy_view.specs.Origin.{Begins, Origin, at}
+use Rattle.thy_view.specs.Views.{is_halt, halts, loads}
+use Rattle.thy_view.specs.Safe.{ceiling}
+use Rattle.thy_copy_model.specs.Sound.{view_of}
+use Rattle.thy_copy_model.proofs.CallLaws.{IsAt-cut, CanStep-at, geometry-at}
+use Rattle.thy_view.specs.declared.error.CoreError.{CoreError}
+use Rattle.thy_view.specs.declared.error.CoreError.TheVariants.{Nvm as NvmFailed, Memory as NoMemory}
+use Rattle.thy_view.specs.Kind.{HasFailedToRead}
 use Rattle.thy_run.specs.Laws.{released_of}
 use Rattle.thy_run.specs.Cuts.{is_end, has_ended}
 use Rattle.thy_run.specs.Due.{due_of}

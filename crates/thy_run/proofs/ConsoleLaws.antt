@@ -7,14 +7,14 @@ use Rattle.thy_text.specs.Happening.{Happening, Cut}
 use Rattle.thy_text.specs.Marks.{Marks, loading_marks, marks_from}
 use Rattle.thy_text.specs.Released.{console_of}
 use Rattle.thy_text.proofs.Histories.{marks_from-append, released-kept}
-use Rattle.thy_model.specs.declared.did.Did.{Did}
-use Rattle.thy_model.specs.declared.did.Did.TheVariants.{Boot, Loaded, Restarted, Refused, Moved, Retired, Flushed, Merged, Sealed, Promoted, Engine, Committed, NvmDrained, DramDrained, Nothing}
-use Rattle.thy_model.specs.declared.view.Phase.TheVariants.{Boot as BootPhase}
-use Rattle.thy_model.specs.declared.view.View.{View}
-use Rattle.thy_model.specs.CoreStep.{mark, CoreStep}
+use Rattle.thy_view.specs.declared.did.Did.{Did}
+use Rattle.thy_view.specs.declared.did.Did.TheVariants.{Boot, Loaded, Restarted, Refused, Moved, Retired, Flushed, Merged, Sealed, Promoted, Engine, Committed, NvmDrained, DramDrained, Nothing}
+use Rattle.thy_view.specs.declared.view.Phase.TheVariants.{Boot as BootPhase}
+use Rattle.thy_view.specs.declared.view.View.{View}
+use Rattle.thy_view.specs.Views.{mark}
+use Rattle.thy_view.specs.CoreStep.{CoreStep}
 use Rattle.thy_base.specs.Geometry.{console_room}
-use Rattle.thy_model.specs.Origin.{Origin, at, setting_of}
-use Rattle.thy_model.specs.Sound.{IsOrigin}
+use Rattle.thy_view.specs.Origin.{Origin, at, setting_of, IsOrigin}
 use Rattle.thy_run.specs.Due.{shows_console, due_of}
 use Rattle.thy_run.specs.Laws.{marks_of, console_at, released_of}
 use Rattle.thy_run.specs.World.{World, seen, told, events_of, Steps}

@@ -3,20 +3,20 @@ use Rattle.std.proofs.Common.{◌≡◌, ◌⊎◌, ℕ, ◌≤◌, Bool, true, 
 use Rattle.thy_base.specs.declared.cause.EndCause.{EndCause}
 use Rattle.thy_base.specs.declared.mark.Mark.{Mark}
 use Rattle.thy_base.specs.Device.{Device}
-use Rattle.thy_record.specs.Decode.{Decoded, Nothing as NothingLeft, Refused as RefusedImage, At, decode}
+use Rattle.thy_record.specs.Decoded.{Decoded, Nothing as NothingLeft, Refused as RefusedImage, At}
+use Rattle.thy_record.specs.Decode.{decode}
 use Rattle.thy_text.specs.Happening.{Happening, Reload, Ended}
 use Rattle.thy_text.specs.Marks.{Marks, marks_from}
 use Rattle.thy_text.proofs.Histories.{marks_from-append}
-use Rattle.thy_model.specs.declared.did.Did.{Did}
-use Rattle.thy_model.specs.declared.did.Did.TheVariants.{Boot, Loaded, Restarted, Refused, Moved, Retired, Flushed, Merged, Sealed, Promoted, Engine, Committed, NvmDrained, DramDrained, Nothing}
-use Rattle.thy_model.specs.declared.view.Phase.{Phase}
-use Rattle.thy_model.specs.declared.view.Phase.TheVariants.{Boot as BootPhase, Run, Halt}
-use Rattle.thy_model.specs.declared.view.View.{View}
-use Rattle.thy_model.specs.Calls.{loads, halts}
-use Rattle.thy_model.specs.CoreStep.{mark, CoreStep}
-use Rattle.thy_model.specs.Origin.{Origin, at}
-use Rattle.thy_model.specs.Safe.{ceiling, Safe, IsOneOf}
-use Rattle.thy_model.specs.Sound.{doubt_of}
+use Rattle.thy_view.specs.declared.did.Did.{Did}
+use Rattle.thy_view.specs.declared.did.Did.TheVariants.{Boot, Loaded, Restarted, Refused, Moved, Retired, Flushed, Merged, Sealed, Promoted, Engine, Committed, NvmDrained, DramDrained, Nothing}
+use Rattle.thy_view.specs.declared.view.Phase.{Phase}
+use Rattle.thy_view.specs.declared.view.Phase.TheVariants.{Boot as BootPhase, Run, Halt}
+use Rattle.thy_view.specs.declared.view.View.{View}
+use Rattle.thy_view.specs.Views.{loads, halts, mark, doubt_of}
+use Rattle.thy_view.specs.CoreStep.{CoreStep}
+use Rattle.thy_view.specs.Origin.{Origin, at}
+use Rattle.thy_view.specs.Safe.{ceiling, Safe, IsOneOf}
 use Rattle.thy_run.specs.World.{told, reload_told, end_told, events_of}
 use Rattle.thy_run.proofs.Fitting.{IsEither, BootFits, Follows, RunFits, HaltFits, FitsIn, Fits, Covers}
 use Rattle.thy_run.proofs.FittingLaws.{Fits-told}

@@ -4,16 +4,17 @@ use Rattle.thy_base.specs.declared.cause.EndCause.{EndCause}
 use Rattle.thy_base.specs.declared.cause.EndCause.TheVariants.{Length, Exhausted, Ended as EndedCause}
 use Rattle.thy_base.specs.declared.mark.Mark.{Mark}
 use Rattle.thy_text.specs.Marks.{Marks, loading_marks, marks_from, FitsCause, EndsEpoch, AllLawful}
-use Rattle.thy_model.specs.declared.did.Did.{Did}
-use Rattle.thy_model.specs.declared.did.Did.TheVariants.{Boot, Loaded, Restarted, Refused, Moved, Retired, Flushed, Merged, Sealed, Promoted, Engine, Committed, NvmDrained, DramDrained, Nothing}
-use Rattle.thy_model.specs.declared.did.EngineStep.{EngineStep}
-use Rattle.thy_model.specs.declared.did.EngineStep.TheVariants.{Idle, Copied, PageBlock, StateBlock, TableBlock, Barrier, CommitWritten, Committed as EngineCommitted}
-use Rattle.thy_model.specs.declared.view.Phase.{Phase}
-use Rattle.thy_model.specs.declared.view.Phase.TheVariants.{Boot as BootPhase, Run, Halt}
-use Rattle.thy_model.specs.declared.view.View.{View}
-use Rattle.thy_model.specs.CoreStep.{mark, busier, BootsTo, MovesTo, EngineTo, CoreStep, over_at, phase_at}
-use Rattle.thy_model.specs.Origin.{Origin, runs_at}
-use Rattle.thy_model.proofs.Choices.{if_equal}
+use Rattle.thy_view.specs.declared.did.Did.{Did}
+use Rattle.thy_view.specs.declared.did.Did.TheVariants.{Boot, Loaded, Restarted, Refused, Moved, Retired, Flushed, Merged, Sealed, Promoted, Engine, Committed, NvmDrained, DramDrained, Nothing}
+use Rattle.thy_record.specs.declared.engine_step.EngineStep.{EngineStep}
+use Rattle.thy_record.specs.declared.engine_step.EngineStep.TheVariants.{Idle, Copied, PageBlock, StateBlock, TableBlock, Barrier, CommitWritten, Committed as EngineCommitted}
+use Rattle.thy_view.specs.declared.view.Phase.{Phase}
+use Rattle.thy_view.specs.declared.view.Phase.TheVariants.{Boot as BootPhase, Run, Halt}
+use Rattle.thy_view.specs.declared.view.View.{View}
+use Rattle.thy_view.specs.Views.{mark}
+use Rattle.thy_view.specs.CoreStep.{busier, BootsTo, MovesTo, EngineTo, CoreStep, over_at, phase_at}
+use Rattle.thy_view.specs.Origin.{Origin, runs_at}
+use Rattle.thy_view.proofs.Choices.{if_equal}
 use Rattle.thy_run.specs.Laws.{course_of}
 use Rattle.thy_run.specs.World.{told}
 use Rattle.thy_run.proofs.Fitting.{OverFits, IsEither, Rises, Loading, Recovering, BootFits, Follows, RunFits, FitsIn, Fits}

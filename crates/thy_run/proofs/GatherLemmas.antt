@@ -5,15 +5,15 @@ use Rattle.thy_base.specs.declared.mark.Mark.{Mark}
 use Rattle.thy_isa.specs.declared.state.MachState.{MachState}
 use Rattle.thy_text.specs.Happening.{Happening}
 use Rattle.thy_text.specs.Released.{console_of}
-use Rattle.thy_model.specs.declared.did.Did.{Did}
-use Rattle.thy_model.specs.declared.did.Did.TheVariants.{Boot, Loaded, Restarted, Refused, Moved, Retired, Flushed, Merged, Sealed, Promoted, Engine, Committed, NvmDrained, DramDrained, Nothing}
-use Rattle.thy_model.specs.declared.view.Phase.{Phase}
-use Rattle.thy_model.specs.declared.view.Phase.TheVariants.{Boot as BootPhase, Run, Halt}
-use Rattle.thy_model.specs.declared.view.View.{View}
-use Rattle.thy_model.specs.Calls.{is_boot, is_halt, halts}
-use Rattle.thy_model.specs.CoreStep.{mark, CoreStep}
-use Rattle.thy_model.specs.Origin.{Origin, at, runs_at}
-use Rattle.thy_core.specs.Machine.{IsSnapshot}
+use Rattle.thy_view.specs.declared.did.Did.{Did}
+use Rattle.thy_view.specs.declared.did.Did.TheVariants.{Boot, Loaded, Restarted, Refused, Moved, Retired, Flushed, Merged, Sealed, Promoted, Engine, Committed, NvmDrained, DramDrained, Nothing}
+use Rattle.thy_view.specs.declared.view.Phase.{Phase}
+use Rattle.thy_view.specs.declared.view.Phase.TheVariants.{Boot as BootPhase, Run, Halt}
+use Rattle.thy_view.specs.declared.view.View.{View}
+use Rattle.thy_view.specs.Views.{is_boot, is_halt, halts, mark}
+use Rattle.thy_view.specs.CoreStep.{CoreStep}
+use Rattle.thy_view.specs.Origin.{Origin, at, runs_at}
+use Rattle.thy_view.specs.Kind.{IsSnapshot}
 use Rattle.thy_run.specs.Due.{shows_console, due_of}
 use Rattle.thy_run.specs.Laws.{console_at, released_of}
 use Rattle.thy_run.specs.Going.{Restores}

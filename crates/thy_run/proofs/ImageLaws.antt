@@ -4,17 +4,17 @@ use Rattle.std.proofs.lemmas.Bool.{and_parts}
 use Rattle.std.specs.Prelude.{◌≢◌}
 use Rattle.thy_base.specs.declared.block.Block.{Block}
 use Rattle.thy_base.specs.declared.mark.Mark.{Mark}
-use Rattle.thy_record.specs.Decode.{Decoded, Nothing as NothingLeft, Refused as RefusedImage, At}
+use Rattle.thy_record.specs.Decoded.{Decoded, Nothing as NothingLeft, Refused as RefusedImage, At}
 use Rattle.thy_text.specs.Happening.{Happening, Reload, Ended}
-use Rattle.thy_model.specs.declared.did.Did.{Did}
-use Rattle.thy_model.specs.declared.did.Did.TheVariants.{Boot, Loaded, Restarted, Refused, Moved, Retired, Flushed, Merged, Sealed, Promoted, Engine, Committed, NvmDrained, DramDrained, Nothing}
-use Rattle.thy_model.specs.declared.did.EngineStep.{EngineStep}
-use Rattle.thy_model.specs.declared.did.EngineStep.TheVariants.{Idle, Copied, PageBlock, StateBlock, TableBlock, Barrier, CommitWritten, Committed as EngineCommitted}
-use Rattle.thy_model.specs.declared.view.Phase.TheVariants.{Boot as BootPhase, Run}
-use Rattle.thy_model.specs.declared.view.View.{View}
-use Rattle.thy_model.specs.Calls.{is_boot, is_halt, loads, halts}
-use Rattle.thy_model.specs.CoreStep.{mark, busier, BootsTo, MovesTo, EngineTo, CoreStep}
-use Rattle.thy_model.specs.Origin.{Origin, at}
+use Rattle.thy_view.specs.declared.did.Did.{Did}
+use Rattle.thy_view.specs.declared.did.Did.TheVariants.{Boot, Loaded, Restarted, Refused, Moved, Retired, Flushed, Merged, Sealed, Promoted, Engine, Committed, NvmDrained, DramDrained, Nothing}
+use Rattle.thy_record.specs.declared.engine_step.EngineStep.{EngineStep}
+use Rattle.thy_record.specs.declared.engine_step.EngineStep.TheVariants.{Idle, Copied, PageBlock, StateBlock, TableBlock, Barrier, CommitWritten, Committed as EngineCommitted}
+use Rattle.thy_view.specs.declared.view.Phase.TheVariants.{Boot as BootPhase, Run}
+use Rattle.thy_view.specs.declared.view.View.{View}
+use Rattle.thy_view.specs.Views.{is_boot, is_halt, loads, halts, mark}
+use Rattle.thy_view.specs.CoreStep.{busier, BootsTo, MovesTo, EngineTo, CoreStep}
+use Rattle.thy_view.specs.Origin.{Origin, at}
 use Rattle.thy_run.specs.Images.{left_by, Since, since_from, HasLeft, FitsImage, AllFitImages, EndsFitting}
 use Rattle.thy_run.specs.World.{told, reload_told, end_told, events_of}
 use Rattle.thy_run.proofs.EventLaws.{told-booting, loads-view}

@@ -4,8 +4,8 @@ use Rattle.std.proofs.lemmas.List.{get_or_append_left}
 use Rattle.thy_base.specs.declared.block.Block.{Block}
 use Rattle.thy_record.specs.Decode.{decode}
 use Rattle.thy_text.specs.Happening.{Happening, EpochEnd, Commit, Cut, Restart, Reload, Ended}
-use Rattle.thy_model.specs.Origin.{Origin}
-use Rattle.thy_model.specs.Safe.{ceiling}
+use Rattle.thy_view.specs.Origin.{Origin}
+use Rattle.thy_view.specs.Safe.{ceiling}
 use Rattle.thy_run.specs.Images.{left_by, Since, since_after, since_from, no_cuts, HasLeft, FitsImage, AllFitImages}
 
 -- ---- events one after another

@@ -3,10 +3,10 @@ use Rattle.std.proofs.Common.{◌≡◌, ℕ, Bool, ◌&&◌, if◌then◌else�
 use Rattle.std.proofs.lemmas.Bool.{or_from}
 use Rattle.std.proofs.lemmas.List.Folds.{list_any-append}
 use Rattle.thy_text.specs.Happening.{Happening, Reload}
-use Rattle.thy_model.specs.declared.did.Did.{Did}
-use Rattle.thy_model.specs.declared.view.View.{View}
-use Rattle.thy_model.specs.Calls.{loads}
-use Rattle.thy_model.specs.Origin.{Origin}
+use Rattle.thy_view.specs.declared.did.Did.{Did}
+use Rattle.thy_view.specs.declared.view.View.{View}
+use Rattle.thy_view.specs.Views.{loads}
+use Rattle.thy_view.specs.Origin.{Origin}
 use Rattle.thy_run.specs.Cuts.{is_end, has_ended}
 use Rattle.thy_run.specs.World.{told, reload_told, end_told, events_of}
 use Rattle.thy_run.proofs.WorldLaws.{told_uncut, reload_uncut}

@@ -7,10 +7,10 @@ use Rattle.thy_base.specs.Device.{Device}
 use Rattle.thy_text.specs.Happening.{Happening, EpochEnd, Commit, Cut, Restart, Reload, Ended}
 use Rattle.thy_text.specs.Marks.{Marks, Course, loading_marks, marks_from, marks_after, AllLawful}
 use Rattle.thy_text.proofs.Histories.{marks_from-append}
-use Rattle.thy_model.specs.Origin.{Origin}
-use Rattle.thy_model.specs.Safe.{Safe}
-use Rattle.thy_model.specs.Sound.{doubt_of}
-use Rattle.thy_model.proofs.SafeLemmas.{Safe-failed}
+use Rattle.thy_view.specs.Origin.{Origin}
+use Rattle.thy_view.specs.Safe.{Safe}
+use Rattle.thy_view.specs.Views.{doubt_of}
+use Rattle.thy_view.proofs.SafeLemmas.{Safe-failed}
 use Rattle.thy_run.specs.Cuts.{is_end, has_ended, cuts_among, numbered, last_cuttable, cuts_up_to}
 use Rattle.thy_run.specs.Images.{Since, since_after, since_from, no_cuts, AllFitImages, EndsFitting, RestartsDecode}
 use Rattle.thy_run.specs.Laws.{course_of, marks_of, Promise, RunKeepsPromise}

@@ -4,14 +4,15 @@ use Rattle.thy_base.specs.Device.{Device}
 use Rattle.thy_base.specs.Outside.{Stream, Took}
 use Rattle.thy_text.specs.Happening.{Happening}
 use Rattle.thy_text.specs.Lines.{report_of}
-use Rattle.thy_model.specs.declared.view.View.{View}
-use Rattle.thy_model.specs.Boot.{loading_view}
-use Rattle.thy_model.specs.Calls.{Core, IsAt, is_halt}
-use Rattle.thy_model.specs.Moments.{IsPoweredOn}
-use Rattle.thy_model.specs.Origin.{Origin}
-use Rattle.thy_model.specs.Safe.{Safe}
-use Rattle.thy_model.specs.Sound.{doubt_of, view_of}
-use Rattle.thy_model.proofs.CallLaws.{IsPoweredOn-some, IsAt-fresh, Safe-at}
+use Rattle.thy_view.specs.declared.view.View.{View}
+use Rattle.thy_view.specs.Booting.{loading_view}
+use Rattle.thy_copy_model.specs.Calls.{Core, IsAt}
+use Rattle.thy_view.specs.Views.{is_halt, doubt_of}
+use Rattle.thy_copy_model.specs.Moments.{IsPoweredOn}
+use Rattle.thy_view.specs.Origin.{Origin}
+use Rattle.thy_view.specs.Safe.{Safe}
+use Rattle.thy_copy_model.specs.Sound.{view_of}
+use Rattle.thy_copy_model.proofs.CallLaws.{IsPoweredOn-some, IsAt-fresh, Safe-at}
 use Rattle.thy_run.specs.Cuts.{has_ended}
 use Rattle.thy_run.specs.Laws.{released_of}
 use Rattle.thy_run.specs.World.{IsFirst}

@@ -7,7 +7,7 @@ use Rattle.thy_text.specs.Happening.{Happening}
 use Rattle.thy_text.specs.Lines.{report_of}
 use Rattle.thy_run.specs.Laws.{released_of}
 use Rattle.thy_isa.specs.declared.state.Status.{Status}
-use Rattle.thy_model.specs.Calls.{is_halt}
+use Rattle.thy_view.specs.Views.{is_halt}
 use Rattle.thy_run.specs.World.{Ran, seen}
 use Rattle.thy_run.specs.declared.advance.Outcome.{Outcome}
 use Rattle.thy_run.specs.declared.advance.Outcome.TheVariants.{Goes, Ends, Fails}

@@ -9,22 +9,23 @@ use Rattle.thy_base.specs.declared.mark.Mark.{Mark}
 use Rattle.thy_base.specs.Config.{first_not_rising}
 use Rattle.thy_base.specs.Device.{Device, Crash, IsCut, cut_to}
 use Rattle.thy_base.proofs.CrashLemmas.{Crash-cut_to}
-use Rattle.thy_record.specs.Decode.{Decoded, Nothing as NothingLeft, Refused as RefusedImage, At, decode}
+use Rattle.thy_record.specs.Decoded.{Decoded, Nothing as NothingLeft, Refused as RefusedImage, At}
+use Rattle.thy_record.specs.Decode.{decode}
 use Rattle.thy_text.specs.Happening.{Happening, Cut, Reload, Ended}
 use Rattle.thy_text.specs.Marks.{Marks, loading_marks, marks_from, AllLawful}
 use Rattle.thy_text.proofs.Histories.{marks_from-append, AllLawful-append}
-use Rattle.thy_model.specs.declared.did.Did.{Did}
-use Rattle.thy_model.specs.declared.did.Did.TheVariants.{Boot, Loaded, Restarted, Refused, Moved, Retired, Flushed, Merged, Sealed, Promoted, Engine, Committed, NvmDrained, DramDrained, Nothing}
-use Rattle.thy_model.specs.declared.view.Phase.{Phase}
-use Rattle.thy_model.specs.declared.view.Phase.TheVariants.{Boot as BootPhase, Run, Halt}
-use Rattle.thy_model.specs.declared.view.View.{View}
-use Rattle.thy_model.specs.Boot.{loading_view, view_of_image}
-use Rattle.thy_model.specs.Calls.{IsAt, is_halt, loads, halts}
-use Rattle.thy_model.specs.CoreStep.{mark, CoreStep}
-use Rattle.thy_model.specs.Origin.{Origin, at}
-use Rattle.thy_model.specs.Safe.{ceiling, Safe, IsOneOf}
-use Rattle.thy_model.specs.Sound.{doubt_of}
-use Rattle.thy_model.proofs.SafeLemmas.{Safe-doubt}
+use Rattle.thy_view.specs.declared.did.Did.{Did}
+use Rattle.thy_view.specs.declared.did.Did.TheVariants.{Boot, Loaded, Restarted, Refused, Moved, Retired, Flushed, Merged, Sealed, Promoted, Engine, Committed, NvmDrained, DramDrained, Nothing}
+use Rattle.thy_view.specs.declared.view.Phase.{Phase}
+use Rattle.thy_view.specs.declared.view.Phase.TheVariants.{Boot as BootPhase, Run, Halt}
+use Rattle.thy_view.specs.declared.view.View.{View}
+use Rattle.thy_view.specs.Booting.{loading_view, view_of_image}
+use Rattle.thy_copy_model.specs.Calls.{IsAt}
+use Rattle.thy_view.specs.Views.{is_halt, loads, halts, mark, doubt_of}
+use Rattle.thy_view.specs.CoreStep.{CoreStep}
+use Rattle.thy_view.specs.Origin.{Origin, at}
+use Rattle.thy_view.specs.Safe.{ceiling, Safe, IsOneOf}
+use Rattle.thy_view.proofs.SafeLemmas.{Safe-doubt}
 use Rattle.thy_run.specs.Cuts.{is_end, has_ended, cuts_among, numbered, last_cuttable, cuts_up_to}
 use Rattle.thy_run.specs.Images.{left_by, since_after, since_from, no_cuts, HasLeft, AllFitImages}
 use Rattle.thy_run.specs.Laws.{course_of, marks_of}

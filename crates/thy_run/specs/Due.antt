@@ -2,10 +2,10 @@
 use Rattle.std.specs.Prelude.{ℕ, Bool, true, false, if◌then◌else◌, List, [], length, drop}
 use Rattle.thy_text.specs.Happening.{Happening}
 use Rattle.thy_text.specs.Released.{console_of}
-use Rattle.thy_model.specs.declared.did.Did.{Did}
-use Rattle.thy_model.specs.declared.did.Did.TheVariants.{Boot, Loaded, Restarted, Refused, Moved, Retired, Flushed, Merged, Sealed, Promoted, Engine, Committed, NvmDrained, DramDrained, Nothing}
-use Rattle.thy_model.specs.declared.view.View.{View}
-use Rattle.thy_model.specs.Origin.{Origin}
+use Rattle.thy_view.specs.declared.did.Did.{Did}
+use Rattle.thy_view.specs.declared.did.Did.TheVariants.{Boot, Loaded, Restarted, Refused, Moved, Retired, Flushed, Merged, Sealed, Promoted, Engine, Committed, NvmDrained, DramDrained, Nothing}
+use Rattle.thy_view.specs.declared.view.View.{View}
+use Rattle.thy_view.specs.Origin.{Origin}
 use Rattle.thy_run.specs.Laws.{console_at, released_of}
 
 -- what was done makes the console of another checkpoint known

@@ -9,17 +9,18 @@ use Rattle.thy_isa.specs.declared.state.MachState.{MachState}
 use Rattle.thy_isa.specs.declared.state.Status.{Status}
 use Rattle.thy_isa.specs.Step.{state_of}
 use Rattle.thy_text.specs.Happening.{Happening, EpochEnd, Commit, Cut, Restart, Reload, Ended as EndedEvent}
-use Rattle.thy_model.specs.declared.did.Did.{Did}
-use Rattle.thy_model.specs.declared.did.Did.TheVariants.{Restarted}
-use Rattle.thy_model.specs.declared.did.Stepped.{Stepped}
-use Rattle.thy_model.specs.declared.view.View.{View}
-use Rattle.thy_model.specs.Calls.{IsAt, IsStep, has_read, loads, halts, is_halt}
-use Rattle.thy_model.specs.CoreStep.{CoreStep}
-use Rattle.thy_model.specs.Origin.{Origin, at}
-use Rattle.thy_model.specs.Moments.{IsPoweredOn}
-use Rattle.thy_model.specs.Safe.{Safe}
-use Rattle.thy_model.specs.Sound.{IsOrigin, view_of}
-use Rattle.thy_core.specs.Machine.{IsSnapshot}
+use Rattle.thy_view.specs.declared.did.Did.{Did}
+use Rattle.thy_view.specs.declared.did.Did.TheVariants.{Restarted}
+use Rattle.thy_view.specs.declared.did.Stepped.{Stepped}
+use Rattle.thy_view.specs.declared.view.View.{View}
+use Rattle.thy_copy_model.specs.Calls.{IsAt, IsStep, has_read}
+use Rattle.thy_view.specs.Views.{loads, halts, is_halt}
+use Rattle.thy_view.specs.CoreStep.{CoreStep}
+use Rattle.thy_view.specs.Origin.{Origin, at, IsOrigin}
+use Rattle.thy_copy_model.specs.Moments.{IsPoweredOn}
+use Rattle.thy_view.specs.Safe.{Safe}
+use Rattle.thy_copy_model.specs.Sound.{view_of}
+use Rattle.thy_view.specs.Kind.{IsSnapshot}
 use Rattle.thy_run.specs.Cuts.{has_ended}
 use Rattle.thy_run.specs.Due.{due_of}
 use Rattle.thy_run.specs.Laws.{released_of}

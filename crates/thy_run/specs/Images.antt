@@ -1,10 +1,11 @@
 -- What the images that the cuts left have to do with the restarts after them.
 use Rattle.std.specs.Prelude.{◌≡◌, ◌≢◌, ℕ, ◌+◌, ◌-◌, ◌<◌, List, [], ◌∷◌, slice_index_or, Option, Some, None}
 use Rattle.thy_base.specs.declared.block.Block.{Block}
-use Rattle.thy_record.specs.Decode.{Decoded, Nothing, At, decode}
+use Rattle.thy_record.specs.Decoded.{Decoded, Nothing, At}
+use Rattle.thy_record.specs.Decode.{decode}
 use Rattle.thy_text.specs.Happening.{Happening, EpochEnd, Commit, Cut, Restart, Reload, Ended}
-use Rattle.thy_model.specs.Origin.{Origin}
-use Rattle.thy_model.specs.Safe.{ceiling}
+use Rattle.thy_view.specs.Origin.{Origin}
+use Rattle.thy_view.specs.Safe.{ceiling}
 
 -- what the image decodes to that the last of so many cuts left
 abbrev pub left_by : Origin → List (List Block) → ℕ → Decoded

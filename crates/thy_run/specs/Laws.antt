@@ -5,9 +5,8 @@ use Rattle.thy_base.specs.Device.{Device}
 use Rattle.thy_text.specs.Happening.{Happening}
 use Rattle.thy_text.specs.Marks.{Marks, Course, loading_marks, marks_from, AllLawful}
 use Rattle.thy_text.specs.Released.{released}
-use Rattle.thy_model.specs.Origin.{Origin, at}
-use Rattle.thy_model.specs.Safe.{Safe}
-use Rattle.thy_model.specs.Sound.{IsOrigin}
+use Rattle.thy_view.specs.Origin.{Origin, at, IsOrigin}
+use Rattle.thy_view.specs.Safe.{Safe}
 use Rattle.thy_run.specs.Cuts.{cuts_among, numbered, cuts_up_to, last_cuttable}
 use Rattle.thy_run.specs.Images.{RestartsDecode}
 use Rattle.thy_run.specs.Unfinished.{Finished}

@@ -6,8 +6,8 @@ use Rattle.thy_base.specs.Geometry.{blocks_of}
 use Rattle.thy_base.specs.Mix.{mix_start}
 use Rattle.thy_base.specs.Outside.{Stream}
 use Rattle.thy_text.specs.Lines.{report_of}
-use Rattle.thy_model.specs.Calls.{Core}
-use Rattle.thy_model.specs.Origin.{Origin}
+use Rattle.thy_copy_model.specs.Calls.{Core}
+use Rattle.thy_view.specs.Origin.{Origin}
 use Rattle.thy_text.specs.Happening.{Happening}
 use Rattle.thy_run.specs.Cuts.{has_ended}
 use Rattle.thy_run.specs.Laws.{released_of}

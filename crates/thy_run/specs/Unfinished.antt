@@ -2,9 +2,9 @@
 use Rattle.std.specs.Prelude.{◌≡◌, ◌⊎◌, ℕ, false, List, ◌++◌}
 use Rattle.thy_base.specs.Device.{Device, HasFailed, IsFramed, RoseFaults}
 use Rattle.thy_text.specs.Happening.{Happening}
-use Rattle.thy_model.specs.Calls.{is_halt}
-use Rattle.thy_model.specs.Origin.{Origin}
-use Rattle.thy_model.specs.Safe.{Safe}
+use Rattle.thy_view.specs.Views.{is_halt}
+use Rattle.thy_view.specs.Origin.{Origin}
+use Rattle.thy_view.specs.Safe.{Safe}
 use Rattle.thy_run.specs.Cuts.{has_ended}
 use Rattle.thy_run.specs.World.{World, Given, seen, Steps, Ran}
 

@@ -5,16 +5,17 @@ use Rattle.thy_base.specs.Device.{Device, IsCut, IsFramed}
 use Rattle.thy_base.specs.Mix.{mix_start, mix_pick, mix_next}
 use Rattle.thy_record.specs.Decode.{decode}
 use Rattle.thy_text.specs.Happening.{Happening, EpochEnd, Commit, Cut, Restart, Reload, Ended}
-use Rattle.thy_model.specs.declared.did.Did.{Did}
-use Rattle.thy_model.specs.declared.did.Did.TheVariants.{Boot, Loaded, Restarted, Refused, Moved, Retired, Flushed, Merged, Sealed, Promoted, Engine, Committed, NvmDrained, DramDrained, Nothing}
-use Rattle.thy_model.specs.declared.did.Stepped.{Stepped}
-use Rattle.thy_model.specs.declared.view.View.{View}
-use Rattle.thy_model.specs.Boot.{loading_view, view_of_image}
-use Rattle.thy_model.specs.Calls.{Core, IsAt, IsStep, loads, halts, is_halt}
-use Rattle.thy_model.specs.Moments.{IsPoweredOn}
-use Rattle.thy_model.specs.Origin.{Origin, at}
-use Rattle.thy_model.specs.Safe.{ceiling, Safe}
-use Rattle.thy_model.specs.Sound.{view_of}
+use Rattle.thy_view.specs.declared.did.Did.{Did}
+use Rattle.thy_view.specs.declared.did.Did.TheVariants.{Boot, Loaded, Restarted, Refused, Moved, Retired, Flushed, Merged, Sealed, Promoted, Engine, Committed, NvmDrained, DramDrained, Nothing}
+use Rattle.thy_view.specs.declared.did.Stepped.{Stepped}
+use Rattle.thy_view.specs.declared.view.View.{View}
+use Rattle.thy_view.specs.Booting.{loading_view, view_of_image}
+use Rattle.thy_copy_model.specs.Calls.{Core, IsAt, IsStep}
+use Rattle.thy_view.specs.Views.{loads, halts, is_halt}
+use Rattle.thy_copy_model.specs.Moments.{IsPoweredOn}
+use Rattle.thy_view.specs.Origin.{Origin, at}
+use Rattle.thy_view.specs.Safe.{ceiling, Safe}
+use Rattle.thy_copy_model.specs.Sound.{view_of}
 
 -- a run between two cycles
 pub record World : Type 0 where

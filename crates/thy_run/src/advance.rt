@@ -2,9 +2,10 @@
 ghost use Rattle.std.specs.Prelude.{◌≡◌, ◌<◌, ◌+◌, ◌^◌, ◌&&◌, ◌==◌, ℕ, nat_lt, length, slice_index, slice_index_or, IfOk, OnOk, OnErr, [], List};
 ghost use Rattle.thy_base.specs.Bytes.{bytes_of};
 ghost use Rattle.thy_base.specs.Device.{Device as DeviceValue};
-ghost use Rattle.thy_model.specs.declared.did.Stepped.{Stepped as SteppedValue};
-ghost use Rattle.thy_model.specs.Calls.{made_for, Begins, IsAt, CanStep};
-ghost use Rattle.thy_model.specs.Sound.{view_of};
+ghost use Rattle.thy_view.specs.declared.did.Stepped.{Stepped as SteppedValue};
+ghost use Rattle.thy_copy_model.specs.Calls.{made_for, IsAt, CanStep};
+ghost use Rattle.thy_view.specs.Origin.{Begins};
+ghost use Rattle.thy_copy_model.specs.Sound.{view_of};
 ghost use Rattle.thy_run.specs.World.{seen};
 ghost use Rattle.thy_run.specs.Going.{origin_of, world_at, IsPlanned, GoesOn, IsStepped, IsStuck, IsGathered, IsNoted, IsDone, IsBroken, ComesTo, IsCutOffTo};
 ghost use Rattle.thy_run.specs.declared.progress.Progress.{Progress as ProgressValue};
@@ -16,9 +17,9 @@ use crate::plan::Plan;
 use crate::progress::Progress;
 use std::alloc::{AllocError, Global};
 use thy_base::{Bytes, Config, Nvm, NvmError};
-use thy_core::Machine;
+use thy_copy::Machine;
 use thy_isa::Status;
-use thy_model::{Did, Stepped};
+use thy_view::{Did, Stepped};
 use thy_text::Event;
 
 /// What a cycle came to.

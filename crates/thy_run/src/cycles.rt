@@ -12,7 +12,7 @@ use crate::progress::Progress;
 use crate::tell::{Failures, tell};
 use std::alloc::Global;
 use thy_base::{Mix, Nvm, Sink};
-use thy_core::Machine;
+use thy_copy::Machine;
 use thy_text::Events;
 
 /// What a turn of the loop comes to.

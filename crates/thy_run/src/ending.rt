@@ -1,6 +1,6 @@
 //! Why a run stopped, and how it ended.
 
-use thy_core::CoreError;
+use thy_view::CoreError;
 use thy_isa::Status;
 use thy_text::Events;
 

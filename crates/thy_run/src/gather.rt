@@ -1,24 +1,25 @@
 //! What the machine is read for after a step, before any event of it is made.
 ghost use Rattle.std.specs.Prelude.{◌≡◌, ◌&&◌, ℕ, false, length, IfOk, IfErr, OnOk};
 ghost use Rattle.thy_base.specs.Bytes.{bytes_of};
-ghost use Rattle.thy_base.specs.Device.{IsFramed};
+ghost use Rattle.thy_base.specs.Device.{IsFramed, Device as DeviceValue};
 ghost use Rattle.thy_base.specs.Geometry.{blocks_of};
-ghost use Rattle.thy_core.specs.Machine.{IsSnapshot, HasFailedToRead};
-ghost use Rattle.thy_model.specs.Calls.{made_for, loads, IsAt, is_boot};
-ghost use Rattle.thy_model.specs.Origin.{Origin};
-ghost use Rattle.thy_model.specs.Sound.{view_of};
-ghost use Rattle.thy_model.specs.declared.view.View.{View};
-ghost use Rattle.thy_model.specs.declared.did.Stepped.{Stepped as SteppedValue};
-ghost use Rattle.thy_base.specs.Device.{Device as DeviceValue};
+ghost use Rattle.thy_view.specs.Kind.{IsSnapshot, HasFailedToRead};
+ghost use Rattle.thy_copy_model.specs.Calls.{made_for, IsAt};
+ghost use Rattle.thy_view.specs.Views.{loads, is_boot};
+ghost use Rattle.thy_view.specs.Origin.{Origin};
+ghost use Rattle.thy_copy_model.specs.Sound.{view_of};
+ghost use Rattle.thy_view.specs.declared.view.View.{View};
+ghost use Rattle.thy_view.specs.declared.did.Stepped.{Stepped as SteppedValue};
 ghost use Rattle.thy_run.specs.Due.{shows_console, due_of};
 ghost use Rattle.thy_run.specs.Going.{CanGather, Restores, IsEnding, IsGathered};
 
 use crate::progress::Progress;
 use std::alloc::{AllocError, Global};
 use thy_base::{Bytes, Nvm};
-use thy_core::{CoreError, Machine};
+use thy_copy::Machine;
+use thy_view::CoreError;
 use thy_isa::MachState;
-use thy_model::{Did, Stepped};
+use thy_view::{Did, Stepped};
 
 /// What was read.
 #[derive(Drop)]

@@ -1,8 +1,8 @@
 //! The events of a step. Each is made in a function of its own, so that a cycle without one makes none.
 ghost use Rattle.std.specs.Prelude.{◌≡◌, ◌++◌, ◌∷◌, [], ◌&&◌, Bool, if◌then◌else◌, OnOk, OnErr, IfOk};
-ghost use Rattle.thy_model.specs.Calls.{loads};
-ghost use Rattle.thy_model.specs.Origin.{Origin};
-ghost use Rattle.thy_model.specs.declared.view.View.{View};
+ghost use Rattle.thy_view.specs.Views.{loads};
+ghost use Rattle.thy_view.specs.Origin.{Origin};
+ghost use Rattle.thy_view.specs.declared.view.View.{View};
 ghost use Rattle.thy_run.specs.World.{told, end_told, events_of};
 ghost use Rattle.thy_isa.specs.Step.{state_of};
 ghost use Rattle.thy_text.specs.Happening.{Reload, Commit, EpochEnd, Ended};
@@ -11,7 +11,7 @@ ghost use Rattle.thy_run.specs.Going.{Restores, IsEnding, IsEnd, MadeSome};
 use std::alloc::AllocError;
 use thy_base::EndCause;
 use thy_isa::{MachState, Status};
-use thy_model::Did;
+use thy_view::Did;
 use thy_text::{Event, Events};
 
 /// Notes that the file is loaded again.

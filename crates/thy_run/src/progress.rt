@@ -1,7 +1,7 @@
 //! How far a run is.
 
 use thy_base::Mix;
-use thy_core::Machine;
+use thy_copy::Machine;
 use thy_text::Events;
 
 /// A run between two cycles.

@@ -1,6 +1,6 @@
 use Rattle.std.proofs.Common.{◌∙◌, sym, ap, arith}
 use Rattle.thy_base.specs.Bytes.{bytes_of}
-use Rattle.thy_model.specs.Sound.{view_of}
+use Rattle.thy_copy_model.specs.Sound.{view_of}
 use Rattle.thy_run.specs.Due.{due_of}
 use Rattle.thy_run.specs.World.{seen}
 use Rattle.thy_run.specs.Going.{origin_of, world_at}

@@ -1,6 +1,6 @@
 use Rattle.std.proofs.Common.{subst}
 use Rattle.thy_base.specs.declared.mix.Pick.{Pick}
-use Rattle.thy_model.specs.Calls.{IsStep}
+use Rattle.thy_copy_model.specs.Calls.{IsStep}
 use Rattle.thy_run.specs.Going.{origin_of}
 use Rattle.thy_run.proofs.TellLemmas.{OnErr-any}
 use Rattle.thy_run.proofs.AdvanceLemmas.{progress_stepped}

@@ -1,7 +1,7 @@
 use Rattle.std.proofs.Common.{◌+◌, sym, subst, refl}
 use Rattle.thy_base.specs.Bytes.{bytes_of}
 use Rattle.thy_base.specs.Device.{Device}
-use Rattle.thy_model.specs.Sound.{view_of}
+use Rattle.thy_copy_model.specs.Sound.{view_of}
 use Rattle.thy_run.specs.World.{seen}
 use Rattle.thy_run.specs.declared.ending.Stop.TheVariants.{Nvm}
 use Rattle.thy_run.specs.Going.{origin_of, world_at, IsStepped, IsGathered}

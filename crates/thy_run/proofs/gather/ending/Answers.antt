@@ -1,5 +1,5 @@
 use Rattle.std.proofs.Common.{◌∙◌, sym}
-use Rattle.thy_model.specs.Sound.{view_of}
+use Rattle.thy_copy_model.specs.Sound.{view_of}
 use Rattle.thy_run.proofs.GatherLemmas.{halts_booted}
 use Rattle.thy_run.proofs.gather.ending.Goals as goal
 

@@ -1,5 +1,6 @@
-use Rattle.thy_model.specs.Calls.{has_read, loads}
-use Rattle.thy_model.specs.Sound.{view_of}
+use Rattle.thy_copy_model.specs.Calls.{has_read}
+use Rattle.thy_view.specs.Views.{loads}
+use Rattle.thy_copy_model.specs.Sound.{view_of}
 use Rattle.thy_run.proofs.GatherLemmas.{reload_is}
 use Rattle.thy_run.proofs.gather.reloads.Goals as goal
 

@@ -1,6 +1,6 @@
 use Rattle.std.proofs.Common.{subst}
-use Rattle.thy_model.specs.CoreStep.{CoreStep}
-use Rattle.thy_model.specs.Sound.{view_of}
+use Rattle.thy_view.specs.CoreStep.{CoreStep}
+use Rattle.thy_copy_model.specs.Sound.{view_of}
 use Rattle.thy_run.proofs.GatherLemmas.{restores_some}
 use Rattle.thy_run.proofs.gather.restored.Goals as goal
 

@@ -1,6 +1,6 @@
 use Rattle.std.proofs.Common.{sym, subst}
-use Rattle.thy_model.specs.Sound.{view_of}
-use Rattle.thy_core.specs.Machine.{IsSnapshot}
+use Rattle.thy_copy_model.specs.Sound.{view_of}
+use Rattle.thy_view.specs.Kind.{IsSnapshot}
 use Rattle.thy_run.proofs.gather.shot.Goals as goal
 
 pub returns-in-Ok-clause-state : goal.returns-in-Ok-clause-state

@@ -1,0 +1,146 @@
+-- What a cycle did was the turn of its pick.
+use Rattle.std.proofs.Common.{◌≡◌, ℕ, ◌==◌, Bool, true, false, not, is_some, if◌then◌else◌, Option, Some, None, refl, sym, ◌∙◌, ap, subst}
+use Rattle.thy_base.specs.declared.cause.EndCause.{EndCause}
+use Rattle.thy_base.specs.declared.mix.Pick.{Pick}
+use Rattle.thy_base.specs.declared.mix.Pick.TheVariants.{Hart, Engine as EnginePick, NvmDrain, DramDrain}
+use Rattle.thy_base.specs.Device.{Device}
+use Rattle.thy_record.specs.Decode.{decode}
+use Rattle.thy_view.specs.declared.did.Did.{Did}
+use Rattle.thy_view.specs.declared.did.Did.TheVariants.{Nothing, NvmDrained}
+use Rattle.thy_view.specs.declared.did.Stall.{Stall}
+use Rattle.thy_view.specs.declared.did.Stall.TheVariants.{Booting, Sealing, Waiting, Halted}
+use Rattle.thy_copy_model.specs.declared.parts.Parts.{Parts}
+use Rattle.thy_copy_model.specs.declared.stage.Issue.{Issue}
+use Rattle.thy_copy_model.specs.declared.stage.Stage.{Stage}
+use Rattle.thy_copy_model.specs.declared.stage.Stage.TheVariants.{Unread, Header, Record, Restoring, Refused, Writing, Idle}
+use Rattle.thy_base.specs.declared.mark.Mark.{Mark}
+use Rattle.thy_view.specs.declared.view.Phase.{Phase}
+use Rattle.thy_view.specs.declared.view.Phase.TheVariants.{Boot, Run, Halt}
+use Rattle.thy_view.specs.declared.view.View.{View}
+use Rattle.thy_copy_model.specs.Checkpoint.{issue_after}
+use Rattle.thy_view.specs.Views.{mark}
+use Rattle.thy_copy_model.specs.Cycle.{hart_did, run_did, run_stall, phase_did, phase_stall, told, cycle_did, cycle_stall}
+use Rattle.thy_view.specs.Origin.{Origin}
+use Rattle.thy_view.specs.Safe.{ceiling}
+use Rattle.thy_copy_model.specs.Sound.{Sound, view_in, view_of}
+use Rattle.thy_copy_model.specs.Steps.{boot_did, loading_did, read_did, checkpoint_did}
+use Rattle.thy_view.specs.Turn.{Nvm, Checkpoint, TheHart, stall_in, hart_turn, engine_turn, IsEngines, IsBoots, IsHarts, Acts, Turn}
+use Rattle.thy_copy_model.proofs.CycleLaws.{run_sound, run_view, halted_view}
+use Rattle.thy_copy_model.proofs.RecoverLaws.{image_phase}
+use Rattle.thy_copy_model.proofs.RunLaws.{IsCheckpointing-sound}
+
+-- what was done was the hart's turn, and for the engine's own pick the engine's
+abbrev IsTurn : View → Did → Option Stall → Type 0
+IsTurn v did stall = Acts (hart_turn v) did stall × Acts (engine_turn v.phase v) did (told EnginePick stall)
+
+boot_turn : (v : View) (did : Did) → v.phase ≡ Boot → IsBoots did → IsTurn v did (Some Booting)
+boot_turn v did phase h =
+    let hart : Acts (hart_turn v) did (Some Booting) = subst (λ p. Acts (TheHart (stall_in p v)) did (Some Booting)) (sym phase) (h, refl) in
+    (hart, subst (λ p. Acts (engine_turn p v) did (Some Booting)) (sym phase) hart)
+
+halt_turn : (v : View) (did : Did) → v.phase ≡ Halt → did ≡ Nothing → IsTurn v did (Some Halted)
+halt_turn v did phase h =
+    let hart : Acts (hart_turn v) did (Some Halted) = subst (λ p. Acts (TheHart (stall_in p v)) did (Some Halted)) (sym phase) (h, refl) in
+    (hart, subst (λ p. Acts (engine_turn p v) did (Some Halted)) (sym phase) hart)
+
+waiting_turn : (v : View) (did : Did) (m : Mark) → v.phase ≡ Run → v.sealed ≡ Some m → IsEngines did → IsTurn v did (Some Waiting)
+waiting_turn v did m phase sealed h = (
+  subst (λ p. Acts (TheHart (stall_in p v)) did (Some Waiting)) (sym phase)
+      (subst (λ (x : Option Mark). Acts (TheHart (if is_some x then Some Waiting else (if is_some v.over then Some Sealing else None))) did (Some Waiting)) (sym sealed) (h, refl)),
+  subst (λ p. Acts (engine_turn p v) did None) (sym phase)
+      (subst (λ (x : Option Mark). Acts (if is_some x then Checkpoint else hart_turn v) did None) (sym sealed) (h, refl)),
+)
+
+-- the stall where no checkpoint is under way
+abbrev idle_stall : Option EndCause → Option Stall
+idle_stall over = if is_some over then Some Sealing else None
+
+told_idle : (over : Option EndCause) → told EnginePick (idle_stall over) ≡ idle_stall over
+told_idle None = refl
+told_idle (Some cause) = refl
+
+idle_turn : (v : View) (did : Did) → v.phase ≡ Run → v.sealed ≡ None → IsHarts (idle_stall v.over) did → IsTurn v did (idle_stall v.over)
+idle_turn v did phase sealed h =
+    let hart : Acts (hart_turn v) did (idle_stall v.over) = subst (λ p. Acts (TheHart (stall_in p v)) did (idle_stall v.over)) (sym phase)
+    (subst (λ (x : Option Mark). Acts (TheHart (if is_some x then Some Waiting else idle_stall v.over)) did (idle_stall v.over)) (sym sealed) (h, refl)) in (
+      hart,
+      subst (λ p. Acts (engine_turn p v) did (told EnginePick (idle_stall v.over))) (sym phase)
+          (subst (λ (x : Option Mark). Acts (if is_some x then Checkpoint else hart_turn v) did (told EnginePick (idle_stall v.over))) (sym sealed)
+          (subst (λ (t : Option Stall). Acts (hart_turn v) did t) (sym (told_idle v.over)) hart)),
+    )
+
+module _ (o : Origin) (m : Parts) (n : Device) (s : Sound o m n) where
+  read_boots : (stage : Stage) (x : Parts) → IsBoots (read_did stage x)
+  read_boots Idle x = tt
+  read_boots (Refused bad) x = tt
+  read_boots Unread x = tt
+  read_boots (Header epoch fault) x = tt
+  read_boots (Record epoch k) x = tt
+  read_boots (Restoring epoch i) x = tt
+  read_boots (Writing epoch issue) x = tt
+
+  load_boots : (next : Option Issue) → IsBoots (loading_did next)
+  load_boots (Some next) = tt
+  load_boots None = tt
+
+  boot_boots : (stage : Stage) (x : Parts) → IsBoots (boot_did stage m x)
+  boot_boots (Writing epoch issue) x = load_boots (issue_after m.geometry epoch issue)
+  boot_boots Unread x = read_boots x.stage x
+  boot_boots (Header epoch fault) x = read_boots x.stage x
+  boot_boots (Record epoch k) x = read_boots x.stage x
+  boot_boots (Restoring epoch i) x = read_boots x.stage x
+  boot_boots (Refused bad) x = read_boots x.stage x
+  boot_boots Idle x = read_boots x.stage x
+
+  view_boots : (stage : Stage) → m.view.phase ≡ Boot → (view_in o m n stage).phase ≡ Boot
+  view_boots Unread is = image_phase o.start.count (decode o.geometry ceiling n.image)
+  view_boots (Header epoch fault) is = image_phase o.start.count (decode o.geometry ceiling n.image)
+  view_boots (Record epoch next) is = image_phase o.start.count (decode o.geometry ceiling n.image)
+  view_boots (Restoring epoch next) is = image_phase o.start.count (decode o.geometry ceiling n.image)
+  view_boots (Refused bad) is = image_phase o.start.count (decode o.geometry ceiling n.image)
+  view_boots (Writing epoch issue) is = is
+  view_boots Idle is = is
+
+  boot_phase : m.view.phase ≡ Boot → (view_of o m n).phase ≡ Boot
+  unfolding view_of
+  boot_phase is = view_boots m.stage is
+
+  engines : (epoch : ℕ) (issue : Issue) (next : Option Issue) → IsEngines (checkpoint_did epoch issue next m.view)
+  engines epoch issue (Some next) = tt
+  engines epoch issue None = tt
+
+  harts : (over : Option EndCause) → IsHarts (idle_stall over) (hart_did over m)
+  harts None = tt
+  harts (Some cause) = tt
+
+  run_turns : (stage : Stage) → m.stage ≡ stage → m.view.phase ≡ Run → IsTurn m.view (run_did stage m) (run_stall stage m)
+  run_turns (Writing epoch issue) is phase =
+      waiting_turn m.view (run_did (Writing epoch issue) m) (mark epoch m.view.count) phase (IsCheckpointing-sound o m n epoch issue s phase is).sealed
+      (engines epoch issue (issue_after m.geometry epoch issue))
+  run_turns Idle is phase = idle_turn m.view (hart_did m.view.over m) phase (run_sound o m n s Idle phase is).0.sealed (harts m.view.over)
+  run_turns Unread is phase = absurd (run_sound o m n s Unread phase is)
+  run_turns (Header epoch fault) is phase = absurd (run_sound o m n s (Header epoch fault) phase is)
+  run_turns (Record epoch next) is phase = absurd (run_sound o m n s (Record epoch next) phase is)
+  run_turns (Restoring epoch next) is phase = absurd (run_sound o m n s (Restoring epoch next) phase is)
+  run_turns (Refused bad) is phase = absurd (run_sound o m n s (Refused bad) phase is)
+
+  phase_turns : (phase : Phase) (x : Parts) → m.view.phase ≡ phase → IsTurn (view_of o m n) (phase_did phase m x) (phase_stall phase m)
+  phase_turns Boot x is = boot_turn (view_of o m n) (boot_did m.stage m x) (boot_phase is) (boot_boots m.stage x)
+  phase_turns Run x is = subst (λ v. IsTurn v (run_did m.stage m) (run_stall m.stage m)) (sym (run_view o m n s is)) (run_turns m.stage refl is)
+  phase_turns Halt x is = halt_turn (view_of o m n) Nothing (ap (λ v. v.phase) (halted_view o m n s is) ∙ is) refl
+
+  drain_turns : (empty : Bool) (x : Parts) → Acts (if empty then hart_turn (view_of o m n) else Nvm) (if not empty then NvmDrained else phase_did m.view.phase m x)
+      (if not empty then None else told NvmDrain (phase_stall m.view.phase m))
+  drain_turns true x = (phase_turns m.view.phase x refl).0
+  drain_turns false x = (refl, refl)
+
+  turns : (pick : Pick) (queued : ℕ) (x : Parts) → Turn pick queued 0 (view_of o m n) (cycle_did pick queued m x) (cycle_stall pick queued m)
+  turns Hart queued x = (phase_turns m.view.phase x refl).0
+  turns EnginePick queued x = (phase_turns m.view.phase x refl).1
+  turns NvmDrain queued x = drain_turns (queued == 0) x
+  turns DramDrain queued x = (phase_turns m.view.phase x refl).0
+
+-- a cycle of a machine without DRAM was the turn of its pick
+pub Turn-cycle : (o : Origin) (m : Parts) (n : Device) → Sound o m n → (pick : Pick) (queued : ℕ) (next : Parts)
+    → Turn pick queued 0 (view_of o m n) (cycle_did pick queued m next) (cycle_stall pick queued m)
+Turn-cycle o m n s pick queued next = turns o m n s pick queued next

@@ -1,6 +1,0 @@
-use Rattle.thy_model.proofs.MomentLaws.{Moment-fresh}
-use Rattle.thy_model.proofs.CutLaws.{view-fresh}
-use Rattle.thy_model.proofs.laws.a_fresh_start_leads_on.Goals as goal
-
-pub returns : goal.returns
-returns c = λ o m shape n origin on same. (Moment-fresh o m shape n origin on same, view-fresh o m shape n on same)

@@ -1,0 +1,22 @@
+//! The actions of a checkpoint engine.
+
+/// One action of the checkpoint engine.
+#[derive(Clone, Copy, Debug, PartialEq, Eq)]
+pub enum EngineStep {
+    /// No checkpoint is under way.
+    Idle,
+    /// A block of memory was copied to where the checkpoint has it.
+    Copied,
+    /// A block of a page was written back.
+    PageBlock,
+    /// A block of the processor's record was written into the slot.
+    StateBlock,
+    /// A block of the tables was written.
+    TableBlock,
+    /// The barrier before the commit block.
+    Barrier,
+    /// The commit block was written.
+    CommitWritten,
+    /// The barrier behind the commit block: the checkpoint of this epoch is committed.
+    Committed(u64),
+}

@@ -1,0 +1,22 @@
+-- What stays safe.
+use Rattle.std.proofs.Common.{◌≡◌, ◌⊎◌, Option, Some, None, inl, inr}
+use Rattle.thy_base.specs.declared.mark.Mark.{Mark}
+use Rattle.thy_base.specs.Device.{Device, HasFailed, IsFramed}
+use Rattle.thy_base.proofs.CrashLemmas.{Crash-failed}
+use Rattle.thy_record.specs.Decoded.{Decoded, Nothing as NothingFound, Refused as RefusedImage, At, Reading}
+use Rattle.thy_view.specs.Views.{mark}
+use Rattle.thy_view.specs.Origin.{Origin}
+use Rattle.thy_view.specs.Safe.{ceiling, Safe, IsOneOf}
+
+-- a call that failed makes nothing more possible, unless it was a write
+pub Safe-failed : (read : Reading) (o : Origin) (kept doubt : Option Mark) (old new : Device) → Safe read o kept doubt old → HasFailed old new → IsFramed old new → Safe read o kept doubt new
+Safe-failed read o kept doubt old new safe failed framed = λ g c. safe g (Crash-failed failed framed c)
+
+-- safe with no doubt is safe with any
+pub Safe-doubt : (read : Reading) (o : Origin) (kept doubt : Option Mark) (n : Device) → Safe read o kept None n → Safe read o kept doubt n
+Safe-doubt read o kept doubt n safe = λ g c. more (read o.geometry ceiling g) (safe g c)
+  where
+    more : (d : Decoded) → IsOneOf o kept None d → IsOneOf o kept doubt d
+    more NothingFound h = h
+    more (RefusedImage bad) h = h
+    more (At epoch state) h = (elim h.0 as (λ _. (kept ≡ Some (mark epoch state.count)) ⊎ (doubt ≡ Some (mark epoch state.count))) [ inl e ↦ inl e | inr e ↦ absurd (cc) ], h.1)

@@ -1,0 +1,79 @@
+-- How a cycle changes the view.
+use Rattle.std.specs.Prelude.{◌≡◌, ◌⊎◌, ℕ, ◌+◌, ◌<◌, ◌≤◌, ◌==◌, true, false, if◌then◌else◌, Option, Some, None}
+use Rattle.thy_base.specs.declared.cause.EndCause.{EndCause}
+use Rattle.thy_base.specs.declared.cause.EndCause.TheVariants.{Length, Exhausted, Ended}
+use Rattle.thy_base.specs.declared.mark.Mark.{Mark}
+use Rattle.thy_view.specs.declared.view.Phase.{Phase}
+use Rattle.thy_view.specs.declared.view.Phase.TheVariants.{Boot as BootPhase, Run, Halt}
+use Rattle.thy_view.specs.declared.view.View.{View}
+use Rattle.thy_view.specs.declared.did.Did.{Did}
+use Rattle.thy_view.specs.declared.did.Did.TheVariants.{Boot, Loaded, Restarted, Refused, Moved, Retired, Flushed, Merged, Sealed, Promoted, Engine, Committed, NvmDrained, DramDrained, Nothing}
+use Rattle.thy_record.specs.declared.engine_step.EngineStep.{EngineStep}
+use Rattle.thy_record.specs.declared.engine_step.EngineStep.TheVariants.{Idle, CommitWritten, Committed as EngineCommitted}
+use Rattle.thy_view.specs.Origin.{Origin, runs_at}
+use Rattle.thy_view.specs.Views.{mark}
+
+-- the phase after a checkpoint of this count: the program's end is the machine's
+abbrev pub phase_at : Origin → ℕ → Phase
+phase_at o count = if runs_at o count then Run else Halt
+
+-- one more cycle of hart or engine
+abbrev pub busier : View → View
+busier v = record v { spent = v.spent + 1 }
+
+-- why an epoch is over once so many instructions of it and of the program were retired
+abbrev pub over_at : Origin → ℕ → ℕ → Option EndCause
+over_at o retired now =
+    if runs_at o now then (if retired == o.geometry.epoch then Some Length else None) else Some Ended
+
+-- an instruction needs more table entries than are free
+pub record IsShort (free dirty need : ℕ) : Type 0 where
+  pub short : free < dirty + need
+  pub some : 1 ≤ need
+  pub most : need ≤ 2
+
+-- a hart that moves on leaves over as it is, or the epoch is exhausted
+abbrev pub MovesTo : View → View → Type 0
+MovesTo v next =
+    (next ≡ busier v)
+    ⊎ ((free : ℕ) × (dirty : ℕ) × (need : ℕ) × IsShort free dirty need × (next ≡ record (busier v) { over = Some (Exhausted free dirty need) }))
+
+-- a boot goes on: nothing changes, or loading's commit block was written
+abbrev pub BootsTo : View → View → Type 0
+BootsTo v next = (next ≡ v) ⊎ ((v.done ≡ None) × (next ≡ record v { written = true }))
+
+-- the engine goes on; with a checkpoint under way it is never idle
+abbrev pub EngineTo : EngineStep → View → View → Type 0
+EngineTo Idle v next = ⊥
+EngineTo CommitWritten v next = ((m : Mark) × (v.sealed ≡ Some m)) × (next ≡ record (busier v) { written = true })
+EngineTo (EngineCommitted epoch) v next = ⊥
+EngineTo step v next = next ≡ busier v
+
+-- what a cycle did makes this of the view
+abbrev pub CoreStep : Origin → View → Did → View → Type 0
+CoreStep o v Boot next = (v.phase ≡ BootPhase) × BootsTo v next
+CoreStep o v Loaded next =
+    (v.phase ≡ BootPhase) × (v.done ≡ None) × (v.written ≡ true) × (v.sealed ≡ Some (mark 0 o.start.count))
+    × (next ≡ record v { phase = Run; done = v.sealed; sealed = None; epoch = 1; count = o.start.count; retired = 0; spent = 0; lap = 0; written = false })
+CoreStep o v (Restarted epoch count) next =
+    (v.phase ≡ BootPhase) × (v.done ≡ Some (mark epoch count)) × (v.sealed ≡ None) × (v.written ≡ false)
+    × (next ≡ record v { phase = phase_at o count; epoch = epoch + 1; count = count; retired = 0; spent = 0; lap = 0 })
+CoreStep o v (Refused bad) next = (v.phase ≡ BootPhase) × (next ≡ v)
+CoreStep o v Moved next = (v.phase ≡ Run) × (v.over ≡ None) × (runs_at o v.count ≡ true) × MovesTo v next
+CoreStep o v Retired next =
+    (v.phase ≡ Run) × (v.over ≡ None) × (runs_at o v.count ≡ true)
+    × (next ≡ record (busier v) { count = v.count + 1; retired = v.retired + 1; lap = v.lap + 1; over = over_at o (v.retired + 1) (v.count + 1) })
+CoreStep o v Flushed next = (v.phase ≡ Run) × (next ≡ busier v)
+CoreStep o v Merged next = (v.phase ≡ Run) × (next ≡ busier v)
+CoreStep o v Promoted next = (v.phase ≡ Run) × (next ≡ busier v)
+CoreStep o v (Sealed epoch count cause) next =
+    (v.phase ≡ Run) × (v.sealed ≡ None) × (epoch ≡ v.epoch) × (count ≡ v.count) × (v.over ≡ Some cause)
+    × (next ≡ record v { sealed = Some (mark epoch count); epoch = v.epoch + 1; retired = 0; spent = 0; lap = 0; over = None })
+CoreStep o v (Engine step) next = (v.phase ≡ Run) × EngineTo step v next
+CoreStep o v (Committed epoch overlapped) next =
+    (v.phase ≡ Run) × (v.written ≡ true) × (overlapped ≡ v.lap)
+    × ((count : ℕ) × (v.sealed ≡ Some (mark epoch count))
+    × (next ≡ record (busier v) { phase = phase_at o count; done = v.sealed; sealed = None; written = false }))
+CoreStep o v NvmDrained next = next ≡ v
+CoreStep o v DramDrained next = next ≡ v
+CoreStep o v Nothing next = (v.phase ≡ Halt) × (next ≡ v)

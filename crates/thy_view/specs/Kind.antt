@@ -1,0 +1,117 @@
+-- What a machine is to the layers above: what is seen of it, what its calls promise, and the laws that hold of it.
+use Rattle.std.specs.Prelude.{◌≡◌, ℕ, ◌+◌, ◌^◌, ◌<◌, ◌≤◌, Bool, true, List, [], length}
+use Rattle.thy_base.specs.declared.block.Block.{Block}
+use Rattle.thy_base.specs.declared.config.Parameters.{Parameters}
+use Rattle.thy_base.specs.declared.mix.Pick.{Pick}
+use Rattle.thy_base.specs.declared.nvm.Shape.{Shape}
+use Rattle.thy_base.specs.Device.{Device, Crash, HasFailed, RoseFaults, cut_to, fitted}
+use Rattle.thy_dram.specs.Contents.{Contents}
+use Rattle.thy_isa.specs.declared.state.MachState.{MachState}
+use Rattle.thy_isa.specs.Step.{state_of}
+use Rattle.thy_record.specs.Decode.{AllLong}
+use Rattle.thy_record.specs.Decoded.{Reading}
+use Rattle.thy_record.specs.declared.start.Start.{Start}
+use Rattle.thy_view.specs.declared.did.Did.{Did}
+use Rattle.thy_view.specs.declared.did.Did.TheVariants.{Moved}
+use Rattle.thy_view.specs.declared.did.Stepped.{Stepped}
+use Rattle.thy_view.specs.declared.error.CoreError.{CoreError}
+use Rattle.thy_view.specs.declared.error.CoreError.TheVariants.{Nvm, Memory}
+use Rattle.thy_view.specs.declared.view.View.{View}
+use Rattle.thy_view.specs.Booting.{view_of_image, found_first, first_view}
+use Rattle.thy_view.specs.CoreStep.{CoreStep}
+use Rattle.thy_view.specs.Origin.{Origin, IsOrigin, Begins, at}
+use Rattle.thy_view.specs.Safe.{ceiling, Safe}
+use Rattle.thy_view.specs.Turn.{Turn, Pressure, over_by}
+use Rattle.thy_view.specs.Views.{halts, doubt_of}
+
+-- what is seen of machines of a type
+pub record KindOf (M : Type 0) : Type 1 where
+  -- what an image of their NVM means
+  pub decode : Reading
+  -- how many blocks their NVM has
+  pub blocks : Parameters → ℕ
+  -- power has just come on: nothing was read, and nothing is queued in the DRAM
+  pub powered : Parameters → M → Type 0
+  -- after so many cycles of a run, cuts of power among them, machine and device are at one of its moments
+  pub is_at : Origin → ℕ → M → Device → Type 0
+  pub view : Origin → M → Device → View
+  -- the boot has read the commit block
+  pub has_read : M → Bool
+  pub pressure : M → Pressure
+
+-- ---- the calls
+
+-- how many blocks the DRAM has: a buffer for each entry of the block table, 64 for each of the page table
+abbrev pub dram_blocks : Parameters → ℕ
+dram_blocks p = p.btt + 64 * p.ptt
+
+-- a DRAM of a geometry, whatever it holds, with nothing queued
+pub record IsDramOf (p : Parameters) (d : Contents) : Type 0 where
+  pub blocks : length d.blocks ≡ dram_blocks p
+  pub room : d.room ≡ p.dramq
+  pub empty : d.queued ≡ 0
+
+-- a step may be asked for: at a moment of a run with this start
+pub record CanStep {M : Type 0} (K : KindOf M) (start : Start) (m : M) (n : Device) : Type 0 where
+  pub o : Origin
+  pub cycles : ℕ
+  pub begins : Begins o start
+  pub at_moment : K.is_at o cycles m n
+  pub few : cycles < 2 ^ 62
+
+-- the machine may be read: at a moment of a run
+pub record CanRead {M : Type 0} (K : KindOf M) (m : M) (n : Device) : Type 0 where
+  pub o : Origin
+  pub cycles : ℕ
+  pub at_moment : K.is_at o cycles m n
+
+-- A step that succeeded leads to the next moment of the run, by a step of the view, and was its pick's turn. Whatever
+-- a power cut then leaves is the committed checkpoint, whole, or the one in doubt. A step that finds an empty queue, as
+-- the boot's first does, reads the commit block where that is still to be read.
+pub record IsStep {M : Type 0} (K : KindOf M) (o : Origin) (k : ℕ) (pick : Pick) (m next : M) (n new : Device) (r : Stepped) : Type 0 where
+  pub at_next : K.is_at o (k + 1) next new
+  pub step : CoreStep o (K.view o m n) r.did (K.view o next new)
+  pub turn : Turn o pick (length n.queue) (K.view o m n) (K.pressure m) r.did r.stall
+  pub exhausts : r.did ≡ Moved → (K.view o next new).over ≡ over_by (K.pressure m).short
+  pub ended : r.ended ≡ halts (K.view o m n) (K.view o next new)
+  pub safe : Safe K.decode o (K.view o next new).done (doubt_of (K.view o next new)) new
+  pub read : n.queue ≡ [] → K.has_read next ≡ true
+
+-- a step that failed leaves the committed checkpoint, whole, or the sealed one
+abbrev pub LeavesSafe : {M : Type 0} → KindOf M → Origin → M → Device → Device → Type 0
+LeavesSafe K o m n new = Safe K.decode o (K.view o m n).done (K.view o m n).sealed new
+
+-- a state is the plain machine's at a view's count
+pub record IsSnapshot (o : Origin) (v : View) (s : MachState) : Type 0 where
+  pub state : state_of s ≡ at o v.count
+  pub count : s.count ≡ v.count
+
+-- after a call that was to read the device: it failed, or memory ran out and the device is as it was
+abbrev pub HasFailedToRead : CoreError → Device → Device → Type 0
+HasFailedToRead Nvm old new = HasFailed old new × RoseFaults old.faults new.faults
+HasFailedToRead (Memory e) old new = new ≡ old
+
+-- ---- the laws
+
+-- a run begins with a device that was fitted: it has zeros, or the image that its start was taken from
+pub record IsFittedFor {M : Type 0} (K : KindOf M) (o : Origin) (shape : Shape) (start : List Block) (n : Device) : Type 0 where
+  pub blocks : shape.blocks ≡ K.blocks o.geometry
+  pub fits : length start ≤ shape.blocks
+  pub long : AllLong start
+  pub found : K.decode o.geometry ceiling (fitted shape start n).image ≡ found_first o o.kept
+
+-- what holds of every machine of a type
+pub record IsLawful {M : Type 0} (K : KindOf M) : Type 0 where
+  -- power can come on
+  pub powers : (p : Parameters) → (m : M) × K.powered p m
+  -- a run begins at a moment
+  pub begins : (o : Origin) (m : M) (shape : Shape) (start : List Block) (n : Device)
+      → IsOrigin o → K.powered o.geometry m → IsFittedFor K o shape start n
+      → K.is_at o 0 m (fitted shape start n) × (K.view o m (fitted shape start n) ≡ first_view o)
+  -- a power cut leads to a moment of the same run, whose view is what the image means that was left
+  pub recovers : (o : Origin) (k : ℕ) (m next : M) (n : Device) (g : List Block)
+      → K.is_at o k m n → K.powered o.geometry next → Crash n g
+      → K.is_at o k next (cut_to n g) × (K.view o next (cut_to n g) ≡ view_of_image o.start.count (K.decode o.geometry ceiling g))
+  -- whatever a power cut leaves at a moment is the committed checkpoint, whole, or the one in doubt
+  pub is_safe : (o : Origin) (k : ℕ) (m : M) (n : Device)
+      → K.is_at o k m n → Safe K.decode o (K.view o m n).done (doubt_of (K.view o m n)) n

@@ -1,0 +1,49 @@
+-- Where a run starts, and the plain machine from there on.
+use Rattle.std.specs.Prelude.{◌≡◌, ℕ, ◌-◌, ◌^◌, ◌<◌, List, length, Bool, Option, Some, None}
+use Rattle.thy_base.specs.declared.config.Parameters.{Parameters}
+use Rattle.thy_base.specs.declared.mark.Mark.{Mark}
+use Rattle.thy_base.specs.Bytes.{bytes_of}
+use Rattle.thy_base.specs.Geometry.{IsInRange, program_size, console_room}
+use Rattle.thy_isa.specs.declared.state.Status.TheVariants.{Running}
+use Rattle.thy_isa.specs.Step.{State, Setting, state_of, cpu_of, steps, is_running}
+use Rattle.thy_isa.specs.Storable.{IsStorable}
+use Rattle.thy_record.specs.Decode.{IsRecordable}
+use Rattle.thy_record.specs.declared.start.Start.{Start}
+
+-- what a run is about
+pub record Origin : Type 0 where
+  pub geometry : Parameters
+  pub start : State
+  pub input : List ℕ
+  -- the checkpoint that the start was taken from; none where it was made from a file
+  pub kept : Option Mark
+
+-- what the plain machine needs besides a state
+abbrev pub setting_of : Origin → Setting
+setting_of o = record { base = o.geometry.base; input = o.input; room = console_room o.geometry }
+
+-- the plain machine when it has retired k instructions, counted from the program's start
+unfoldable pub at : Origin → ℕ → State
+at o k = steps (setting_of o) (k - o.start.count) o.start
+
+-- it still runs then
+abbrev pub runs_at : Origin → ℕ → Bool
+runs_at o k = is_running (at o k).status
+
+-- a start that was made from a file runs; one of a checkpoint may have ended
+abbrev pub StartsFrom : Option Mark → State → Type 0
+StartsFrom None s = s.status ≡ Running
+StartsFrom (Some m) s = (m.count ≡ s.count) × (m.epoch < 2 ^ 62)
+
+-- the start of a run fits its geometry and can be stored
+pub record IsOrigin (o : Origin) : Type 0 where
+  pub geometry : IsInRange o.geometry
+  pub recordable : IsRecordable o.geometry (2 ^ 62) (cpu_of o.start)
+  pub memory : length o.start.memory ≡ program_size o.geometry
+  pub storable : IsStorable (program_size o.geometry) o.start
+  pub starts : StartsFrom o.kept o.start
+
+-- a run has this start
+pub record Begins (o : Origin) (start : Start) : Type 0 where
+  pub state : o.start ≡ state_of start.state
+  pub input : o.input ≡ bytes_of start.input

@@ -1,0 +1,35 @@
+-- What a view says at a glance.
+use Rattle.std.specs.Prelude.{◌≡◌, ℕ, Bool, true, false, ◌&&◌, ◌||◌, ◌==◌, not, is_none, if◌then◌else◌, Option, Some, None}
+use Rattle.thy_base.specs.declared.mark.Mark.{Mark}
+use Rattle.thy_view.specs.declared.view.Phase.{Phase}
+use Rattle.thy_view.specs.declared.view.Phase.TheVariants.{Boot, Run, Halt}
+use Rattle.thy_view.specs.declared.view.View.{View}
+
+abbrev pub mark : ℕ → ℕ → Mark
+mark epoch count = record { epoch = epoch; count = count }
+
+abbrev pub is_boot : Phase → Bool
+is_boot Boot = true
+is_boot Run = false
+is_boot Halt = false
+
+abbrev pub is_halt : Phase → Bool
+is_halt Boot = false
+is_halt Run = false
+is_halt Halt = true
+
+-- a view whose boot found no checkpoint
+abbrev pub loads : View → Bool
+loads v = is_boot v.phase && is_none v.done
+
+-- a cycle is the one that halts
+abbrev pub halts : View → View → Bool
+halts v next = not (is_halt v.phase) && is_halt next.phase
+
+-- no instruction is under way: the machine has halted, or its boot is over and nothing was spent since
+abbrev pub is_between : View → Bool
+is_between v = is_halt v.phase || (not (is_boot v.phase) && v.spent == 0)
+
+-- the mark that a cut may leave besides the one done: the sealed one, while its commit block is written
+abbrev pub doubt_of : View → Option Mark
+doubt_of v = if v.written then v.sealed else None

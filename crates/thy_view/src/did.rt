@@ -1,0 +1,62 @@
+//! What one cycle did.
+
+use thy_base::EndCause;
+use thy_record::{BadImage, EngineStep};
+
+/// What a cycle did.
+#[derive(Clone, Copy, Debug, PartialEq, Eq)]
+pub enum Did {
+    /// One action of the boot but its last.
+    Boot,
+    /// The last action of loading: the program is loaded, as the checkpoint of epoch 0.
+    Loaded,
+    /// The last action of recovery: this epoch was restored, whose end is at this count.
+    Restarted(u64, u64),
+    /// The image is refused. This comes again at each later action of the boot.
+    Refused(BadImage),
+    /// The hart moved on within an instruction.
+    Moved,
+    /// An instruction was retired.
+    Retired,
+    /// A dirty cache line was stored at the epoch's end.
+    Flushed,
+    /// A block was merged into its page at the epoch's end.
+    Merged,
+    /// The epoch was sealed, at this count and for this cause: its checkpoint is under way.
+    Sealed(u64, u64, EndCause),
+    /// A block of a page was promoted.
+    Promoted,
+    /// One action of the checkpoint engine but its last.
+    Engine(EngineStep),
+    /// The checkpoint of this epoch is committed. So many instructions were retired meanwhile.
+    Committed { epoch: u64, overlapped: u64 },
+    /// A queued write of the NVM has landed.
+    NvmDrained,
+    /// A queued write of the DRAM has landed.
+    DramDrained,
+    /// The machine is halted, and there was nothing to drain.
+    Nothing,
+}
+
+/// Why a hart's pick advanced no instruction.
+#[derive(Clone, Copy, Debug, PartialEq, Eq)]
+pub enum Stall {
+    /// The boot is not over.
+    Booting,
+    /// The epoch is over and is being sealed.
+    Sealing,
+    /// A checkpoint is under way for which the hart waits; its engine took the cycle.
+    Waiting,
+    /// The program has ended.
+    Halted,
+}
+
+/// One cycle.
+#[derive(Clone, Copy, Debug, PartialEq, Eq)]
+pub struct Stepped {
+    pub did: Did,
+    /// The hart's stall, where the cycle was a hart's pick that advanced no instruction.
+    pub stall: Option<Stall>,
+    /// The machine is halted from this cycle on.
+    pub ended: bool,
+}
