@@ -4,6 +4,7 @@ use Rattle.thy_base.specs.declared.mix.Pick.{Pick}
 use Rattle.thy_base.specs.Bytes.{bytes_of}
 use Rattle.thy_base.specs.Device.{Device, IsFramed}
 use Rattle.thy_isa.specs.Step.{State, state_of}
+use Rattle.thy_record.specs.Decode.{decode}
 use Rattle.thy_view.specs.declared.did.Did.{Did}
 use Rattle.thy_view.specs.declared.did.Stall.{Stall}
 use Rattle.thy_view.specs.declared.did.Stepped.{Stepped}
@@ -112,7 +113,7 @@ step_safe o k start pick m n new begins at failed framed =
 
 -- and so, whatever the step was, for the sealed mark
 pub step_sealed : (o : Origin) (k : ℕ) (start : Start) (pick : Pick) (m : Parts) (n new : Device) → Begins o m.geometry start → IsAt o k m n
-    → FailsTo (cycle_action (state_of start.state) pick (length n.queue) m) n new → IsFramed n new → Safe o (view_of o m n).done (view_of o m n).sealed new
+    → FailsTo (cycle_action (state_of start.state) pick (length n.queue) m) n new → IsFramed n new → Safe decode o (view_of o m n).done (view_of o m n).sealed new
 step_sealed o k start pick m n new begins at failed framed =
     let F : Action → Type 0 = λ a. FailsTo a n new in
     Safe-failed_sealed o m n at.moment.sound pick (length n.queue) new (subst F (same_action o (state_of start.state) pick (length n.queue) m begins.state) failed) framed

@@ -6,7 +6,7 @@ use Rattle.thy_base.specs.Device.{Device, newest, HasFailed, RoseFaults}
 use Rattle.thy_base.specs.Geometry.{console_room}
 use Rattle.thy_isa.specs.declared.state.MachState.{MachState}
 use Rattle.thy_isa.specs.Step.{State, state_of, state_with}
-use Rattle.thy_record.specs.Decode.{flat}
+use Rattle.thy_record.specs.Decode.{flat, decode}
 use Rattle.thy_record.specs.Words.{word_of}
 use Rattle.thy_copy_model.specs.Checkpoint.{record_place}
 use Rattle.thy_copy_model.specs.Moments.{cycle_doubt}
@@ -41,7 +41,7 @@ is_loading phase stage = false
 
 -- a step that failed leaves on the device the checkpoint that was done, whole, or the one in doubt
 abbrev pub LeavesSafe : Origin → Pick → Parts → Device → Device → Type 0
-LeavesSafe o pick m n new = Safe o (view_of o m n).done (cycle_doubt pick (length n.queue) m (view_of o m n)) new
+LeavesSafe o pick m n new = Safe decode o (view_of o m n).done (cycle_doubt pick (length n.queue) m (view_of o m n)) new
 
 -- how long the console in the slot of an epoch is, at most what its pages hold
 abbrev pub stored_len : Parameters → ℕ → Device → ℕ

@@ -4,6 +4,7 @@ ghost use Rattle.thy_base.specs.Bytes.{bytes_of};
 ghost use Rattle.thy_base.specs.Device.{Device, IsFramed, CountsFault, zero_block};
 ghost use Rattle.thy_base.specs.Geometry.{blocks_of, memory_blocks};
 ghost use Rattle.thy_isa.specs.Step.{state_of};
+ghost use Rattle.thy_record.specs.Decode.{decode};
 ghost use Rattle.thy_view.specs.declared.view.Phase.TheVariants.{Boot as BootPhase, Halt as HaltPhase};
 ghost use Rattle.thy_view.specs.Action.{after, FailsTo};
 ghost use Rattle.thy_view.specs.Booting.{boot_view};
@@ -79,7 +80,7 @@ impl Machine {
         // A step from a moment of a run leads to the next one, and one that fails leaves the device safe.
         ensures sound { (o : Origin) (k : ℕ) → Begins o (made_for self.old) start.now → IsAt o k self.old (N.device nvm.old) → k < 2 ^ 62 → IfOk result (λ r. IsStep o k pick self.old self.new (N.device nvm.old) (N.device nvm.new) r) }
         ensures safe { (o : Origin) (k : ℕ) → Begins o (made_for self.old) start.now → IsAt o k self.old (N.device nvm.old) → OnErr result (LeavesSafe o pick self.old (N.device nvm.old) (N.device nvm.new)) }
-        ensures at_failure { (o : Origin) (k : ℕ) → Begins o (made_for self.old) start.now → IsAt o k self.old (N.device nvm.old) → OnErr result (Safe o (view_of o self.old (N.device nvm.old)).done (view_of o self.old (N.device nvm.old)).sealed (N.device nvm.new)) }
+        ensures at_failure { (o : Origin) (k : ℕ) → Begins o (made_for self.old) start.now → IsAt o k self.old (N.device nvm.old) → OnErr result (Safe decode o (view_of o self.old (N.device nvm.old)).done (view_of o self.old (N.device nvm.old)).sealed (N.device nvm.new)) }
 
         // What it does exactly.
         ensures parts { OnOk result (self.new ≡ cycle_next (state_of start.now.state) (length (bytes_of start.now.input)) (N.device nvm.old) pick (length (N.device nvm.old).queue) self.old) }

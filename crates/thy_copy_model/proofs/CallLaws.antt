@@ -22,12 +22,12 @@ use Rattle.thy_copy_model.specs.Sound.{Sound, view_of}
 use Rattle.thy_copy_model.proofs.CutLaws.{view-unread, view-fresh}
 use Rattle.thy_copy_model.proofs.MomentLaws.{IsNew-powered_on, Moment-fresh, Moment-power_cut, Finds-power_cut}
 use Rattle.thy_copy_model.proofs.SafeLaws.{Safe-sound}
-use Rattle.thy_copy_model.proofs.SmallLaws.{IsSmall-loading, IsSmall-cut}
+use Rattle.thy_copy_model.proofs.SmallLaws.{IsSmall-first, IsSmall-cut}
 
 -- ---- a step may be asked for
 
 -- the start of a run fits its geometry
-IsStart-begins : (o : Origin) (m : Parts) (n : Device) (start : Start) → Sound o m n → Begins o o.geometry start → IsStart m.geometry start
+IsStart-begins : (o : Origin) (m : Parts) (n : Device) (start : Start) → Sound o m n → Begins o start → IsStart m.geometry start
 IsStart-begins o m n start s b =
     let memory : length (bytes_of start.state.memory) ≡ program_size o.geometry = ap (λ (t : State). length t.memory) (sym b.state) ∙ s.origin.memory in
     let console : length (bytes_of start.state.console) ≡ length o.start.console = ap (λ (t : State). length t.console) (sym b.state) in
@@ -60,12 +60,18 @@ CanStep-at = λ o start k m n begins at few. record {
 IsBelow-powered_on : (o : Origin) (m : Parts) (top : ℕ) → IsPoweredOn o.geometry m → IsBelow top m.view
 IsBelow-powered_on o m top on = subst (IsBelow top) (sym on.view) (record { count = omega arith; epoch = omega arith; retired = omega arith; spent = omega arith; lap = omega arith })
 
--- a new machine over a fitted device of zeros
+-- a new machine over a fitted device
 pub IsAt-fresh : FreshIsAt
-IsAt-fresh = λ o m shape n origin on same.
+IsAt-fresh = λ o m shape start n origin on fit.
     let new : IsNew o m = IsNew-powered_on o m on in
-    let seen = view-fresh o m shape n new same in
-    (record { moment = Moment-fresh o m shape n origin new same; small = subst (IsSmall o 0) (sym seen) (IsSmall-loading o); below = IsBelow-powered_on o m (2 ^ 63 + 0) on }, seen)
+    let seen = view-fresh o m shape start n new fit in (
+      record {
+        moment = Moment-fresh o m shape start n origin new fit;
+        small = subst (IsSmall o 0) (sym seen) (IsSmall-first o);
+        below = IsBelow-powered_on o m (2 ^ 63 + 0) on;
+      },
+      seen,
+    )
 
 -- power can come on
 some_machine : Parameters → Parts

@@ -8,7 +8,7 @@ use Rattle.thy_base.proofs.DeviceLemmas.{newest-written_to, newest-drained, no_m
 use Rattle.thy_record.specs.Header.{header_of, header_fault}
 use Rattle.thy_record.specs.Commit.{commit_of}
 use Rattle.thy_record.specs.Cpu.{cpu_block_of, record_of}
-use Rattle.thy_record.specs.Decode.{state_from}
+use Rattle.thy_record.specs.Decode.{state_from, decode}
 use Rattle.thy_record.proofs.ReadBackLemmas.{header_fault-header_of, IsRecordOf-record_of}
 use Rattle.thy_record.proofs.DecodeLemmas.{written_whole}
 use Rattle.thy_copy_model.specs.declared.parts.Parts.{Parts}
@@ -226,7 +226,7 @@ module _ (o : Origin) (m : Parts) (n : Device) (kept : Option Mark) (sealed : Ma
 
   pub Safe-failed_issue : (issue : Issue) (new : Device) → IsIssue m.geometry issue → IsWritten o m n kept sealed issue
       → FailsTo (issue_action m.geometry m.memory m.cpu sealed.epoch issue) n new → IsFramed n new
-      → Safe o kept (doubt_from issue (Some sealed)) new
+      → Safe decode o kept (doubt_from issue (Some sealed)) new
   Safe-failed_issue (Memory i) new l h fails framed =
       let block : Block = block_at m.memory i in
       let place : ℕ = memory_place m.geometry sealed.epoch i in
@@ -239,7 +239,7 @@ module _ (o : Origin) (m : Parts) (n : Device) (kept : Option Mark) (sealed : Ma
       Safe-kept o new kept
       (IsKept-elsewhere o 0 (header_of m.geometry) n new kept fails.no_more (λ e. omega arith) (SparesKept-header o.geometry kept sealed.epoch w.before h.2) h.0)
       (framed.blocks ∙ w.full)
-  Safe-failed_issue Settle new l h fails framed = Safe-failed o kept None n new (Safe-kept o n kept h.0 w.full) fails framed
+  Safe-failed_issue Settle new l h fails framed = Safe-failed decode o kept None n new (Safe-kept o n kept h.0 w.full) fails framed
   Safe-failed_issue Commit new l h fails framed =
       let block : Block = commit_of sealed.epoch in
       Safe-either o new h.0.commit block kept sealed
@@ -250,4 +250,4 @@ module _ (o : Origin) (m : Parts) (n : Device) (kept : Option Mark) (sealed : Ma
         | inr here ↦ inr here.1
       ])
       (framed.blocks ∙ w.full)
-  Safe-failed_issue Finish new l h fails framed = Safe-failed o kept (Some sealed) n new (Safe-in_doubt o n kept sealed h w.full) fails framed
+  Safe-failed_issue Finish new l h fails framed = Safe-failed decode o kept (Some sealed) n new (Safe-in_doubt o n kept sealed h w.full) fails framed

@@ -4,6 +4,7 @@ use Rattle.thy_base.specs.declared.cause.EndCause.{EndCause}
 use Rattle.thy_base.specs.declared.mix.Pick.{Pick}
 use Rattle.thy_base.specs.Device.{Device, IsFramed}
 use Rattle.thy_copy_model.specs.Moments.{Goes, cycle_doubt}
+use Rattle.thy_record.specs.Decode.{decode}
 use Rattle.thy_view.specs.declared.did.Did.TheVariants.{NvmDrained}
 use Rattle.thy_copy_model.specs.declared.parts.Parts.{Parts}
 use Rattle.thy_copy_model.specs.declared.stage.Issue.{Issue}
@@ -109,7 +110,7 @@ module _ (o : Origin) (m : Parts) (n : Device) (s : Sound o m n) where
   -- ---- a cycle that fails
 
   run_fails : (stage : Stage) (new : Device) → m.stage ≡ stage → m.view.phase ≡ Run → FailsTo (run_action stage m) n new → IsFramed n new
-      → Safe o (view_of o m n).done (doubt_at m.stage (view_of o m n)) new
+      → Safe decode o (view_of o m n).done (doubt_at m.stage (view_of o m n)) new
   run_fails (Writing epoch issue) new is phase fails framed = Safe-failed_checkpoint o m n new epoch issue s phase is fails framed
   run_fails Idle new is phase fails framed = absurd fails
   run_fails Unread new is phase fails framed = absurd fails
@@ -119,53 +120,53 @@ module _ (o : Origin) (m : Parts) (n : Device) (s : Sound o m n) where
   run_fails (Refused bad) new is phase fails framed = absurd fails
 
   phase_fails : (phase : Phase) (new : Device) → m.view.phase ≡ phase → FailsTo (phase_action o.start phase m) n new → IsFramed n new
-      → Safe o (view_of o m n).done (doubt_at m.stage (view_of o m n)) new
+      → Safe decode o (view_of o m n).done (doubt_at m.stage (view_of o m n)) new
   phase_fails Boot new is fails framed = Safe-failed_boot o m n new s is fails framed
   phase_fails Run new is fails framed = run_fails m.stage new refl is fails framed
   phase_fails Halt new is fails framed = absurd fails
 
   turn_fails : (drains : Bool) (new : Device) → FailsTo (if drains then Drain else phase_action o.start m.view.phase m) n new → IsFramed n new
-      → Safe o (view_of o m n).done (if drains then doubt_of (view_of o m n) else doubt_at m.stage (view_of o m n)) new
+      → Safe decode o (view_of o m n).done (if drains then doubt_of (view_of o m n) else doubt_at m.stage (view_of o m n)) new
   turn_fails true new fails framed = Safe-failed_call o m n new s fails framed
   turn_fails false new fails framed = phase_fails m.view.phase new refl fails framed
 
   -- a cycle that fails leaves the device safe: a drain with the view's doubt, any other call with its stage's
   pub Safe-failed_cycle : (pick : Pick) (queued : ℕ) (new : Device) → FailsTo (cycle_action o.start pick queued m) n new → IsFramed n new
-      → Safe o (view_of o m n).done (cycle_doubt pick queued m (view_of o m n)) new
+      → Safe decode o (view_of o m n).done (cycle_doubt pick queued m (view_of o m n)) new
   Safe-failed_cycle pick queued new fails framed = turn_fails (is_drain pick queued) new fails framed
 
 -- so the sealed mark, if there is one, is all that can be in doubt
-doubt_from-sealed : (o : Origin) (kept sealed : Option Mark) (n : Device) (issue : Issue) → Safe o kept (doubt_from issue sealed) n → Safe o kept sealed n
-doubt_from-sealed o kept sealed n (Memory i) safe = Safe-doubt o kept sealed n safe
-doubt_from-sealed o kept sealed n (RecordIssue k) safe = Safe-doubt o kept sealed n safe
-doubt_from-sealed o kept sealed n HeaderIssue safe = Safe-doubt o kept sealed n safe
-doubt_from-sealed o kept sealed n Settle safe = Safe-doubt o kept sealed n safe
+doubt_from-sealed : (o : Origin) (kept sealed : Option Mark) (n : Device) (issue : Issue) → Safe decode o kept (doubt_from issue sealed) n → Safe decode o kept sealed n
+doubt_from-sealed o kept sealed n (Memory i) safe = Safe-doubt decode o kept sealed n safe
+doubt_from-sealed o kept sealed n (RecordIssue k) safe = Safe-doubt decode o kept sealed n safe
+doubt_from-sealed o kept sealed n HeaderIssue safe = Safe-doubt decode o kept sealed n safe
+doubt_from-sealed o kept sealed n Settle safe = Safe-doubt decode o kept sealed n safe
 doubt_from-sealed o kept sealed n Commit safe = safe
 doubt_from-sealed o kept sealed n Finish safe = safe
 
-doubt_at-sealed : (o : Origin) (kept : Option Mark) (v : View) (n : Device) (stage : Stage) → Safe o kept (doubt_at stage v) n → Safe o kept v.sealed n
+doubt_at-sealed : (o : Origin) (kept : Option Mark) (v : View) (n : Device) (stage : Stage) → Safe decode o kept (doubt_at stage v) n → Safe decode o kept v.sealed n
 doubt_at-sealed o kept v n (Writing epoch issue) safe = doubt_from-sealed o kept v.sealed n issue safe
-doubt_at-sealed o kept v n Unread safe = Safe-doubt o kept v.sealed n safe
-doubt_at-sealed o kept v n (Header epoch fault) safe = Safe-doubt o kept v.sealed n safe
-doubt_at-sealed o kept v n (Record epoch next) safe = Safe-doubt o kept v.sealed n safe
-doubt_at-sealed o kept v n (Restoring epoch next) safe = Safe-doubt o kept v.sealed n safe
-doubt_at-sealed o kept v n (Refused bad) safe = Safe-doubt o kept v.sealed n safe
-doubt_at-sealed o kept v n Idle safe = Safe-doubt o kept v.sealed n safe
+doubt_at-sealed o kept v n Unread safe = Safe-doubt decode o kept v.sealed n safe
+doubt_at-sealed o kept v n (Header epoch fault) safe = Safe-doubt decode o kept v.sealed n safe
+doubt_at-sealed o kept v n (Record epoch next) safe = Safe-doubt decode o kept v.sealed n safe
+doubt_at-sealed o kept v n (Restoring epoch next) safe = Safe-doubt decode o kept v.sealed n safe
+doubt_at-sealed o kept v n (Refused bad) safe = Safe-doubt decode o kept v.sealed n safe
+doubt_at-sealed o kept v n Idle safe = Safe-doubt decode o kept v.sealed n safe
 
-flag_sealed : (o : Origin) (kept sealed : Option Mark) (n : Device) (written : Bool) → Safe o kept (if written then sealed else None) n → Safe o kept sealed n
+flag_sealed : (o : Origin) (kept sealed : Option Mark) (n : Device) (written : Bool) → Safe decode o kept (if written then sealed else None) n → Safe decode o kept sealed n
 flag_sealed o kept sealed n true safe = safe
-flag_sealed o kept sealed n false safe = Safe-doubt o kept sealed n safe
+flag_sealed o kept sealed n false safe = Safe-doubt decode o kept sealed n safe
 
 -- what a view's doubt leaves safe is safe for its sealed mark
-pub Safe-sealed : (o : Origin) (v : View) (n : Device) → Safe o v.done (doubt_of v) n → Safe o v.done v.sealed n
+pub Safe-sealed : (o : Origin) (v : View) (n : Device) → Safe decode o v.done (doubt_of v) n → Safe decode o v.done v.sealed n
 Safe-sealed o v n safe = flag_sealed o v.done v.sealed n v.written safe
 
-either_sealed : (o : Origin) (v : View) (n : Device) (stage : Stage) (drains : Bool) → Safe o v.done (if drains then doubt_of v else doubt_at stage v) n → Safe o v.done v.sealed n
+either_sealed : (o : Origin) (v : View) (n : Device) (stage : Stage) (drains : Bool) → Safe decode o v.done (if drains then doubt_of v else doubt_at stage v) n → Safe decode o v.done v.sealed n
 either_sealed o v n stage true safe = Safe-sealed o v n safe
 either_sealed o v n stage false safe = doubt_at-sealed o v.done v n stage safe
 
 -- a cycle that fails leaves done or sealed
 pub Safe-failed_sealed : (o : Origin) (m : Parts) (n : Device) → Sound o m n → (pick : Pick) (queued : ℕ) (new : Device)
-    → FailsTo (cycle_action o.start pick queued m) n new → IsFramed n new → Safe o (view_of o m n).done (view_of o m n).sealed new
+    → FailsTo (cycle_action o.start pick queued m) n new → IsFramed n new → Safe decode o (view_of o m n).done (view_of o m n).sealed new
 Safe-failed_sealed o m n s pick queued new fails framed =
     either_sealed o (view_of o m n) new m.stage (is_drain pick queued) (Safe-failed_cycle o m n s pick queued new fails framed)

@@ -195,6 +195,6 @@ view-drained o m n s = view_in-drained o m n m.view.phase s.moment (blocks_of_so
 
 -- a call other than a write that failed leaves what the view says
 pub Safe-failed_call : (o : Origin) (m : Parts) (n new : Device) → Sound o m n → HasFailed n new → IsFramed n new
-    → Safe o (view_of o m n).done (doubt_of (view_of o m n)) new
+    → Safe decode o (view_of o m n).done (doubt_of (view_of o m n)) new
 Safe-failed_call o m n new s failed framed =
-    Safe-failed o (view_of o m n).done (doubt_of (view_of o m n)) n new (Safe-sound o m n s) failed framed
+    Safe-failed decode o (view_of o m n).done (doubt_of (view_of o m n)) n new (Safe-sound o m n s) failed framed

@@ -36,17 +36,17 @@ image_doubt count Nothing = refl
 image_doubt count (RefusedImage bad) = refl
 image_doubt count (At epoch state) = refl
 
-failed_read : (o : Origin) (n new : Device) → Safe o (view_of_image o.start.count (decode o.geometry ceiling n.image)).done (doubt_of (view_of_image o.start.count (decode o.geometry ceiling n.image))) n
-    → HasFailed n new → IsFramed n new → Safe o (view_of_image o.start.count (decode o.geometry ceiling n.image)).done None new
+failed_read : (o : Origin) (n new : Device) → Safe decode o (view_of_image o.start.count (decode o.geometry ceiling n.image)).done (doubt_of (view_of_image o.start.count (decode o.geometry ceiling n.image))) n
+    → HasFailed n new → IsFramed n new → Safe decode o (view_of_image o.start.count (decode o.geometry ceiling n.image)).done None new
 failed_read o n new safe failed framed =
     let d : Decoded = decode o.geometry ceiling n.image in
-    Safe-failed o (view_of_image o.start.count d).done None n new
-    (subst (λ x. Safe o (view_of_image o.start.count d).done x n) (image_doubt o.start.count d) safe) failed framed
+    Safe-failed decode o (view_of_image o.start.count d).done None n new
+    (subst (λ x. Safe decode o (view_of_image o.start.count d).done x n) (image_doubt o.start.count d) safe) failed framed
 
 module _ (o : Origin) (m : Parts) (n new : Device) (h : IsPresent o m n) (framed : IsFramed n new) where
   -- loading puts a block into memory before it writes it
   filled_issue : (issue : Issue) → IsIssue m.geometry issue → IsWritten o m n None (mark 0 o.start.count) issue
-      → FailsTo (issue_action m.geometry (filled o.start issue m).memory m.cpu 0 issue) n new → Safe o None (doubt_from issue (Some (mark 0 o.start.count))) new
+      → FailsTo (issue_action m.geometry (filled o.start issue m).memory m.cpu 0 issue) n new → Safe decode o None (doubt_from issue (Some (mark 0 o.start.count))) new
   filled_issue (Memory i) l w fails =
       let b : Block = block_from (start_bytes m.geometry o.start) i in
       let x : Parts = record m { memory = slice_set m.memory i b } in
@@ -68,13 +68,13 @@ module _ (o : Origin) (m : Parts) (n new : Device) (h : IsPresent o m n) (framed
   filled_issue Finish l w fails = Safe-failed_issue o m n None (mark 0 o.start.count) (IsWriting-loading o m n h) Finish new l w fails framed
 
   failed_load : (epoch : ℕ) (issue : Issue) → IsIssue m.geometry issue → IsLoading o m n epoch issue
-      → FailsTo (issue_action m.geometry (filled o.start issue m).memory m.cpu epoch issue) n new → Safe o m.view.done (doubt_from issue m.view.sealed) new
+      → FailsTo (issue_action m.geometry (filled o.start issue m).memory m.cpu epoch issue) n new → Safe decode o m.view.done (doubt_from issue m.view.sealed) new
   failed_load epoch issue there l fails =
-      subst (λ (v : View). Safe o v.done (doubt_from issue v.sealed) new) (sym l.view)
+      subst (λ (v : View). Safe decode o v.done (doubt_from issue v.sealed) new) (sym l.view)
       (filled_issue issue there l.written (subst (λ e. FailsTo (issue_action m.geometry (filled o.start issue m).memory m.cpu e issue) n new) l.epoch_zero fails))
 
   failed_boot : (stage : Stage) → IsStage m.geometry m.cpu stage → SoundBoot o m n stage → FailsTo (boot_action o.start stage m) n new
-      → Safe o (view_in o m n stage).done (doubt_at stage (view_in o m n stage)) new
+      → Safe decode o (view_in o m n stage).done (doubt_at stage (view_in o m n stage)) new
   failed_boot Unread there s fails = failed_read o n new (Safe-boot o m n Unread s h.full) fails framed
   failed_boot (Header epoch fault) there s fails = failed_read o n new (Safe-boot o m n (Header epoch fault) s h.full) fails framed
   failed_boot (Record epoch next) there s fails = failed_read o n new (Safe-boot o m n (Record epoch next) s h.full) fails framed
@@ -85,20 +85,20 @@ module _ (o : Origin) (m : Parts) (n new : Device) (h : IsPresent o m n) (framed
 
 -- a boot's step that fails
 pub Safe-failed_boot : (o : Origin) (m : Parts) (n new : Device) → Sound o m n → m.view.phase ≡ Boot
-    → FailsTo (boot_action o.start m.stage m) n new → IsFramed n new → Safe o (view_of o m n).done (doubt_at m.stage (view_of o m n)) new
+    → FailsTo (boot_action o.start m.stage m) n new → IsFramed n new → Safe decode o (view_of o m n).done (doubt_at m.stage (view_of o m n)) new
 unfolding view_of
 Safe-failed_boot o m n new s phase fails framed =
     failed_boot o m n new (IsPresent-sound o m n s) framed m.stage s.bounded.stage (subst (SoundIn o m n) phase s.moment) fails
 
 -- a step of the engine that fails
 pub Safe-failed_checkpoint : (o : Origin) (m : Parts) (n new : Device) (epoch : ℕ) (issue : Issue) → Sound o m n → m.view.phase ≡ Run → m.stage ≡ Writing epoch issue
-    → FailsTo (issue_action m.geometry m.memory m.cpu epoch issue) n new → IsFramed n new → Safe o (view_of o m n).done (doubt_at m.stage (view_of o m n)) new
+    → FailsTo (issue_action m.geometry m.memory m.cpu epoch issue) n new → IsFramed n new → Safe decode o (view_of o m n).done (doubt_at m.stage (view_of o m n)) new
 Safe-failed_checkpoint o m n new epoch issue s phase stage fails framed =
     let k : IsCheckpointing o m n epoch issue = IsCheckpointing-sound o m n epoch issue s phase stage in
     let w = IsWriting-checkpointing o m n epoch issue (IsPresent-sound o m n s) k in
     let there : IsIssue m.geometry issue = subst (IsStage m.geometry m.cpu) stage s.bounded.stage in
     let safe = Safe-failed_issue o m n (Some k.kept) (mark epoch m.view.count) w issue new there k.is_written fails framed in
-    subst (λ v. Safe o v.done (doubt_at m.stage v) new) (sym (view-writing o m n epoch issue stage))
-    (subst (λ (t : Stage). Safe o m.view.done (doubt_at t m.view) new) (sym stage)
-    (subst (λ (d : Option Mark). Safe o d (doubt_from issue m.view.sealed) new) (sym k.done)
-    (subst (λ (d : Option Mark). Safe o (Some k.kept) (doubt_from issue d) new) (sym k.sealed) safe)))
+    subst (λ v. Safe decode o v.done (doubt_at m.stage v) new) (sym (view-writing o m n epoch issue stage))
+    (subst (λ (t : Stage). Safe decode o m.view.done (doubt_at t m.view) new) (sym stage)
+    (subst (λ (d : Option Mark). Safe decode o d (doubt_from issue m.view.sealed) new) (sym k.done)
+    (subst (λ (d : Option Mark). Safe decode o (Some k.kept) (doubt_from issue d) new) (sym k.sealed) safe)))

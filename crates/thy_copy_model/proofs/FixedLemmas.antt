@@ -1,9 +1,10 @@
 -- What stands on a device still stands after each call, and is what a cut leaves.
-use Rattle.std.proofs.Common.{◌≡◌, ◌≢◌, ℕ, ◌+◌, ◌%◌, ◌<◌, ◌≤◌, List, length, drop, Option, Some, None, sym, ◌∙◌, subst, inl, inr, arith}
+use Rattle.std.proofs.Common.{Contains, ◌∷◌, ◌≡◌, ◌≢◌, ℕ, ◌+◌, ◌%◌, ◌<◌, ◌≤◌, List, length, drop, Option, Some, None, sym, ◌∙◌, subst, inl, inr, arith, []}
 use Rattle.std.proofs.lemmas.List.{get_or-take, get_or-drop, length-take-le, length-drop, ext_get_or}
 use Rattle.thy_base.specs.declared.block.Block.{Block}
 use Rattle.thy_base.specs.declared.config.Parameters.{Parameters}
-use Rattle.thy_base.specs.Device.{Device, Crash, HoldsNoMore, HoldsNoMoreBut, zero_block, block_at, applied, newest, settled, cut_to}
+use Rattle.thy_base.specs.declared.nvm.Write.{Write}
+use Rattle.thy_base.specs.Device.{Device, Crash, HoldsNoMore, HoldsNoMoreBut, zero_block, block_at, queued_for, applied, newest, settled}
 use Rattle.thy_base.specs.Geometry.{slot_of, slot_blocks, memory_blocks}
 use Rattle.thy_base.proofs.DeviceLemmas.{same_as_only, block_at-applied, Contains-newest_over}
 use Rattle.thy_record.specs.Decode.{window}
@@ -36,9 +37,11 @@ IsFixed-settled n x b l e = record {
   only = λ c h. sym (same_as_only (block_at (applied n.image n.queue) x) c h) ∙ block_at-applied n.image n.queue x l ∙ e;
 }
 
--- after a cut its image is fixed
-pub IsFixed-cut_to : (n : Device) (g : List Block) (x : ℕ) → IsFixed (cut_to n g) x (block_at g x)
-IsFixed-cut_to n g x = record { only = λ c h. sym (same_as_only (block_at g x) c h) }
+-- where nothing is queued the image is fixed
+pub IsFixed-empty : (n : Device) (x : ℕ) → n.queue ≡ [] → IsFixed n x (block_at n.image x)
+IsFixed-empty n x empty = record {
+  only = λ c h. sym (same_as_only (block_at n.image x) c (subst (λ (q : List Write). Contains (block_at n.image x ∷ queued_for q x) c) empty h));
+}
 
 -- ---- the blocks from a place on
 
@@ -73,10 +76,10 @@ window-fixed n g x bs k f c e inside =
     (λ i l. let within : i < k = omega (arith, length-window g x k inside) in
     block_at-window g x k i within ∙ block_at-fixed n g (x + i) (block_at bs i) (f.each i (omega arith)) c)
 
-pub AreFixed-cut_to : (n : Device) (g : List Block) (x k : ℕ) → x + k ≤ length g → AreFixed (cut_to n g) x (window g x k)
-AreFixed-cut_to n g x k inside = record {
-  each = λ i l. let within : i < k = omega (arith, length-window g x k inside) in
-      subst (IsFixed (cut_to n g) (x + i)) (sym (block_at-window g x k i within)) (IsFixed-cut_to n g (x + i));
+pub AreFixed-empty : (n : Device) (x k : ℕ) → n.queue ≡ [] → x + k ≤ length n.image → AreFixed n x (window n.image x k)
+AreFixed-empty n x k empty inside = record {
+  each = λ i l. let within : i < k = omega (arith, length-window n.image x k inside) in
+      subst (IsFixed n (x + i)) (sym (block_at-window n.image x k i within)) (IsFixed-empty n (x + i) empty);
 }
 
 -- ---- checkpoints

@@ -1,5 +1,3 @@
-pub mod Choices
-pub mod SafeLemmas
 pub mod FixedLemmas
 pub mod SafeLaws
 pub mod IssueLemmas
@@ -17,10 +15,12 @@ pub mod TurnLaws
 pub mod LongLemmas
 pub mod BoundLaws
 pub mod ExecutedLemmas
+pub mod FileLaws
 pub mod MomentLaws
 pub mod HartLemmas
 pub mod HartLaws
 pub mod SmallLaws
 pub mod CallLaws
+pub mod KindLaws
 pub mod ViewLaws
 pub mod ReadLaws

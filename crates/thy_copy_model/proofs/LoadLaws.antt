@@ -6,6 +6,7 @@ use Rattle.thy_base.specs.declared.block.Block.{Block}
 use Rattle.thy_base.specs.Device.{Device, zero_block, block_at, settled, written_to}
 use Rattle.thy_base.specs.Geometry.{blocks_of, memory_blocks}
 use Rattle.thy_base.proofs.DeviceLemmas.{length-settled, length-written_to}
+use Rattle.thy_isa.specs.declared.state.Status.TheVariants.{Running}
 use Rattle.thy_isa.specs.Step.{cpu_of}
 use Rattle.thy_record.specs.Header.{header_of}
 use Rattle.thy_record.specs.Commit.{commit_of}
@@ -27,7 +28,7 @@ use Rattle.thy_view.specs.Booting.{loading_view}
 use Rattle.thy_copy_model.specs.Bounds.{IsBounded, IsIssue}
 use Rattle.thy_copy_model.specs.Checkpoint.{record_place, memory_place, issue_action, issue_after}
 use Rattle.thy_view.specs.Views.{mark}
-use Rattle.thy_view.specs.Origin.{Origin, at, IsOrigin}
+use Rattle.thy_view.specs.Origin.{Origin, at, IsOrigin, StartsFrom}
 use Rattle.thy_view.specs.Safe.{ceiling}
 use Rattle.thy_copy_model.specs.Stored.{IsKept}
 use Rattle.thy_copy_model.specs.Sound.{Holds, IsWritten, is_finish, filled_blocks, IsLoading, IsQuiet, Sound, view_of}
@@ -37,6 +38,20 @@ use Rattle.thy_copy_model.proofs.CheckpointLaws.{IsWriting, IsIssuedTo, IsIssued
 use Rattle.thy_copy_model.proofs.IssueLemmas.{IsIssued-same}
 use Rattle.thy_copy_model.proofs.RecoverLaws.{IsBooting, Sound-booting}
 use Rattle.thy_copy_model.proofs.StateLemmas.{state_from-start, at-start}
+
+-- while the program is loaded nothing is kept
+pub loading_file : (o : Origin) (m : Parts) (n : Device) (sealed : Mark) (issue : Issue) → IsWritten o m n None sealed issue → o.kept ≡ None
+loading_file o m n sealed (Memory i) w = w.0.gives.1
+loading_file o m n sealed (RecordIssue k) w = w.0.gives.1
+loading_file o m n sealed HeaderIssue w = w.0.gives.1
+loading_file o m n sealed Settle w = w.0.gives.1
+loading_file o m n sealed Commit w = w.0.gives.1
+loading_file o m n sealed Finish w = w.gives.1
+
+-- and its start runs
+starts_running : (o : Origin) (kept : Option Mark) → kept ≡ None → StartsFrom kept o.start → o.start.status ≡ Running
+starts_running o None none h = h
+starts_running o (Some m) none h = absurd (cc)
 
 -- what is written does not hang on view and stage
 pub IsWritten-with : (o : Origin) (m : Parts) (n : Device) (kept : Option Mark) (sealed : Mark) (v : View) (stage : Stage) (issue : Issue)
@@ -259,7 +274,7 @@ module _ (o : Origin) (m : Parts) (n : Device) (h : IsBooting o m n) (bounded : 
           bounded = within;
           sized = record { blocks = length-settled n ∙ h.full ∙ ap blocks_of (sym h.geometry); memory = bounded.memory };
           up = h.up;
-          moment = (quiet, λ over. ap (λ c. c.status) l.cpu ∙ h.origin.running);
+          moment = (quiet, λ over. ap (λ c. c.status) l.cpu ∙ starts_running o o.kept (loading_file o m n (mark 0 o.start.count) Finish l.written) h.origin.starts);
         };
         step = (
           h.phase,

@@ -7,7 +7,7 @@ use Rattle.thy_base.specs.declared.mix.Pick.{Pick}
 use Rattle.thy_base.specs.declared.nvm.Shape.{Shape}
 use Rattle.thy_base.specs.Device.{Device, Crash, IsFramed, zero_block, cut_to, fitted}
 use Rattle.thy_base.specs.Geometry.{blocks_of, memory_blocks}
-use Rattle.thy_record.specs.Decode.{AllLong}
+use Rattle.thy_record.specs.Decode.{AllLong, decode}
 use Rattle.thy_isa.specs.declared.state.CpuState.{CpuState}
 use Rattle.thy_copy_model.specs.Moments.{IsNoCpu, IsPoweredOn, IsNew, Moment, Leads, cycle_doubt, Finds}
 use Rattle.thy_copy_model.specs.declared.parts.Parts.{Parts}
@@ -16,6 +16,8 @@ use Rattle.thy_copy_model.specs.declared.stage.Issue.TheVariants.{Memory, Record
 use Rattle.thy_copy_model.specs.declared.stage.Stage.{Stage}
 use Rattle.thy_copy_model.specs.declared.stage.Stage.TheVariants.{Unread, Header, Record, Restoring, Refused, Writing, Idle}
 use Rattle.thy_base.specs.declared.mark.Mark.{Mark}
+use Rattle.thy_copy_model.specs.Kind.{kind}
+use Rattle.thy_view.specs.Kind.{IsFittedFor}
 use Rattle.thy_view.specs.declared.view.Phase.{Phase}
 use Rattle.thy_view.specs.declared.view.Phase.TheVariants.{Boot, Run, Halt}
 use Rattle.thy_view.specs.Action.{Drain, FailsTo}
@@ -30,7 +32,8 @@ use Rattle.thy_view.specs.Views.{doubt_of}
 use Rattle.thy_copy_model.specs.Steps.{filled, boot_action}
 use Rattle.thy_copy_model.specs.Stored.{IsLong}
 use Rattle.thy_copy_model.proofs.BoundLaws.{IsBounded-cycle}
-use Rattle.thy_copy_model.proofs.CutLaws.{Sound-cut, Finds-cut, Sound-fresh}
+use Rattle.thy_copy_model.proofs.CutLaws.{FromFile, Sound-cut, Finds-cut, Sound-fresh}
+use Rattle.thy_copy_model.proofs.FileLaws.{FromFile-sound}
 use Rattle.thy_copy_model.proofs.CycleLaws.{run_view, Executes, Goes-cycle, Safe-failed_cycle}
 use Rattle.thy_copy_model.proofs.SafeLaws.{blocks_of_sound, Safe-sound}
 use Rattle.thy_copy_model.proofs.ExecutedLemmas.{IsExecuted-sound}
@@ -143,15 +146,15 @@ IsNew-powered_on o m h = record {
 }
 
 -- a power cut leads to a moment, whose view has the mark that was kept or the one that was sealed
-pub Moment-cut : (o : Origin) (m : Parts) (n : Device) (kept sealed : Option Mark) (g : List Block) → IsOrigin o → IsNew o m
-    → length n.image ≡ blocks_of o.geometry → Safe o kept sealed n → IsLong n → Crash n g → Moment o m (cut_to n g)
-Moment-cut o m n kept sealed g origin on full safe long c = record { sound = Sound-cut o m n kept sealed g origin on full safe c; long = IsLong-cut n g c long }
+pub Moment-cut : (o : Origin) (m : Parts) (n : Device) (kept sealed : Option Mark) (g : List Block) → IsOrigin o → IsNew o m → FromFile o kept
+    → length n.image ≡ blocks_of o.geometry → Safe decode o kept sealed n → IsLong n → Crash n g → Moment o m (cut_to n g)
+Moment-cut o m n kept sealed g origin on file full safe long c = record { sound = Sound-cut o m n kept sealed g origin on file full safe c; long = IsLong-cut n g c long }
 
--- a fresh device with a new machine is one
-pub Moment-fresh : (o : Origin) (m : Parts) (shape : Shape) (n : Device) → IsOrigin o → IsNew o m → shape.blocks ≡ blocks_of o.geometry → Moment o m (fitted shape [] n)
-Moment-fresh o m shape n origin on same = record {
-  sound = Sound-fresh o m shape n origin on same;
-  long = IsLong-fitted shape [] n (record { each = λ k l. absurd (omega arith) });
+-- a fitted device with a new machine is one
+pub Moment-fresh : (o : Origin) (m : Parts) (shape : Shape) (start : List Block) (n : Device) → IsOrigin o → IsNew o m → IsFittedFor kind o shape start n → Moment o m (fitted shape start n)
+Moment-fresh o m shape start n origin on fit = record {
+  sound = Sound-fresh o m shape start n origin on fit;
+  long = IsLong-fitted shape start n fit.long;
 }
 
 -- ---- a power cut at any moment, or after a cycle that failed
@@ -159,7 +162,7 @@ Moment-fresh o m shape n origin on same = record {
 -- a cut at a moment leads to a moment
 pub Moment-power_cut : (o : Origin) (m next : Parts) (n : Device) (g : List Block) → Moment o m n → IsNew o next → Crash n g → Moment o next (cut_to n g)
 Moment-power_cut o m next n g h on c =
-    Moment-cut o next n (view_of o m n).done (doubt_of (view_of o m n)) g h.sound.origin on (blocks_of_sound o m n h.sound) (Safe-sound o m n h.sound) h.long c
+    Moment-cut o next n (view_of o m n).done (doubt_of (view_of o m n)) g h.sound.origin on (FromFile-sound o m n h.sound) (blocks_of_sound o m n h.sound) (Safe-sound o m n h.sound) h.long c
 
 -- whose view has what was done, or what was in doubt
 pub Finds-power_cut : (o : Origin) (m next : Parts) (n : Device) (g : List Block) → Moment o m n → IsNew o next → Crash n g
@@ -170,7 +173,7 @@ Finds-power_cut o m next n g h on c = Finds-cut o next n (view_of o m n).done (d
 pub Moment-failed_cut : (o : Origin) (m next : Parts) (n new : Device) (pick : Pick) (queued : ℕ) (g : List Block) → Moment o m n
     → FailsTo (cycle_action o.start pick queued m) n new → IsFramed n new → IsNew o next → Crash new g → Moment o next (cut_to new g)
 Moment-failed_cut o m next n new pick queued g h fails framed on c =
-    Moment-cut o next new (view_of o m n).done (cycle_doubt pick queued m (view_of o m n)) g h.sound.origin on (framed.blocks ∙ blocks_of_sound o m n h.sound)
+    Moment-cut o next new (view_of o m n).done (cycle_doubt pick queued m (view_of o m n)) g h.sound.origin on (FromFile-sound o m n h.sound) (framed.blocks ∙ blocks_of_sound o m n h.sound)
     (Safe-failed_cycle o m n h.sound pick queued new fails framed) (IsLong-failed_cycle o m n new pick queued h fails) c
 
 pub Finds-failed_cut : (o : Origin) (m next : Parts) (n new : Device) (pick : Pick) (queued : ℕ) (g : List Block) → Moment o m n

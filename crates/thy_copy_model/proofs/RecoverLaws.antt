@@ -120,7 +120,7 @@ module _ (o : Origin) (m : Parts) (n : Device) (h : IsBooting o m n) where
   Goes-unread None k =
       subst (λ t. GoesRead o n (if t then record m { cpu = cpu_of o.start; view = loading_view o.start.count; stage = Writing 0 (Memory 0) }
       else record m { stage = Header (epoch_of (newest n 1)) (commit_fault (newest n 1) ceiling) }))
-      (sym (ap is_zero (newest-fixed n 1 k.commit k.fixed) ∙ k.gives)) (zero_found k)
+      (sym (ap is_zero (newest-fixed n 1 k.commit k.fixed) ∙ k.gives.0)) (zero_found k)
   Goes-unread (Some kept) k =
       subst (λ t. GoesRead o n (if t then record m { cpu = cpu_of o.start; view = loading_view o.start.count; stage = Writing 0 (Memory 0) }
       else record m { stage = Header (epoch_of (newest n 1)) (commit_fault (newest n 1) ceiling) }))

@@ -13,6 +13,7 @@ use Rattle.thy_isa.specs.declared.state.Status.TheVariants.{Running, Exited, Tra
 use Rattle.thy_isa.specs.Step.{step, steps, is_running}
 use Rattle.thy_record.specs.Decode.{AllLong, state_from, IsRecordable}
 use Rattle.thy_copy_model.specs.Moments.{Goes}
+use Rattle.thy_base.specs.declared.mark.Mark.{Mark}
 use Rattle.thy_view.specs.declared.did.Did.TheVariants.{Retired, Sealed, Engine, Committed}
 use Rattle.thy_copy_model.specs.declared.parts.Parts.{Parts}
 use Rattle.thy_copy_model.specs.declared.stage.Issue.{Issue}
@@ -91,13 +92,13 @@ follows p epoch Settle = (refl, refl)
 follows p epoch Commit = (refl, refl)
 follows p epoch Finish = refl
 
-engine_to : (issue : Issue) (v : View) → EngineTo (engine_step issue) v (noted issue (busier v))
-engine_to (Memory i) v = refl
-engine_to (RecordIssue k) v = refl
-engine_to HeaderIssue v = refl
-engine_to Settle v = refl
-engine_to Commit v = refl
-engine_to Finish v = refl
+engine_to : (issue : Issue) (v : View) → ((m : Mark) × (v.sealed ≡ Some m)) → EngineTo (engine_step issue) v (noted issue (busier v))
+engine_to (Memory i) v some = refl
+engine_to (RecordIssue k) v some = refl
+engine_to HeaderIssue v some = refl
+engine_to Settle v some = refl
+engine_to Commit v some = (some, refl)
+engine_to Finish v some = refl
 
 -- noting an issue is setting the flag
 noted_flag : (issue : Issue) (v : View) (up : Bool) → v.written ≡ is_finish issue → is_finish issue ≡ false → up ≡ is_commit issue
@@ -142,7 +143,7 @@ module _ (o : Origin) (m : Parts) (n new : Device) (epoch : ℕ) (issue : Issue)
       }
 
   step_on : (next : Issue) → CoreStep o m.view (Engine (engine_step issue)) (noted issue (busier m.view))
-  step_on next = (phase, (mark epoch m.view.count, k.sealed), engine_to issue m.view)
+  step_on next = (phase, engine_to issue m.view (mark epoch m.view.count, k.sealed))
 
   goes_on : (next : Issue) → is_finish next ≡ is_commit issue → is_finish issue ≡ false → IsWritten o m new (Some k.kept) (mark epoch m.view.count) next
       → IsBounded (record m { view = noted issue (busier m.view); stage = Writing epoch next })

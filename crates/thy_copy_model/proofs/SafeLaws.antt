@@ -55,7 +55,7 @@ decode-stands o n commit m g s c e full =
 pub decode-gives : (o : Origin) (n : Device) (commit : Block) (kept : Option Mark) (g : List Block)
     → Gives o n commit kept → Crash n g → block_at g 1 ≡ commit → length n.image ≡ blocks_of o.geometry
     → decode o.geometry ceiling g ≡ decoded_of o kept
-decode-gives o n commit None g gives c e full = decode-nothing o.geometry ceiling g (subst (λ b. is_zero b ≡ true) (sym e) gives)
+decode-gives o n commit None g gives c e full = decode-nothing o.geometry ceiling g (subst (λ b. is_zero b ≡ true) (sym e) gives.0)
 decode-gives o n commit (Some m) g gives c e full = decode-stands o n commit m g gives c e full
 
 -- the image that stands decodes to what is kept
@@ -80,7 +80,7 @@ sealed_is_one : (o : Origin) (n : Device) (commit : Block) (kept : Option Mark) 
 sealed_is_one o n commit kept m s = (inr (ap Some (marked o m s.counted)), ap (at o) (sym s.counted))
 
 -- what is kept is safe
-pub Safe-kept : (o : Origin) (n : Device) (kept : Option Mark) → IsKept o n kept → length n.image ≡ blocks_of o.geometry → Safe o kept None n
+pub Safe-kept : (o : Origin) (n : Device) (kept : Option Mark) → IsKept o n kept → length n.image ≡ blocks_of o.geometry → Safe decode o kept None n
 Safe-kept o n kept k full = λ g c.
     subst (IsOneOf o kept None) (sym (decode-gives o n k.commit kept g k.gives c (block_at-fixed n g 1 k.commit k.fixed c) full))
     (kept_is_one o n k.commit kept None k.gives)
@@ -88,7 +88,7 @@ Safe-kept o n kept k full = λ g c.
 -- two marks are safe where a cut leaves either of their commit blocks
 pub Safe-either : (o : Origin) (n : Device) (before later : Block) (kept : Option Mark) (sealed : Mark)
     → Gives o n before kept → Stands o n later sealed → ((c : Block) → Contains (possible n 1) c → (c ≡ before) ⊎ (c ≡ later))
-    → length n.image ≡ blocks_of o.geometry → Safe o kept (Some sealed) n
+    → length n.image ≡ blocks_of o.geometry → Safe decode o kept (Some sealed) n
 Safe-either o n before later kept sealed gives stands either full = λ g c.
     elim (either (block_at g 1) (c.each 1)) as (λ _. IsOneOf o kept (Some sealed) (decode o.geometry ceiling g)) [
       | inl e ↦ subst (IsOneOf o kept (Some sealed)) (sym (decode-gives o n before kept g gives c e full)) (kept_is_one o n before kept (Some sealed) gives)
@@ -96,14 +96,14 @@ Safe-either o n before later kept sealed gives stands either full = λ g c.
     ]
 
 pub Safe-in_doubt : (o : Origin) (n : Device) (kept : Option Mark) (sealed : Mark) → IsInDoubt o n kept sealed → length n.image ≡ blocks_of o.geometry
-    → Safe o kept (Some sealed) n
+    → Safe decode o kept (Some sealed) n
 Safe-in_doubt o n kept sealed d full = Safe-either o n d.before d.after kept sealed d.gives d.stands d.either full
 
 -- ---- the machine's moments
 
 pub Safe-written : (o : Origin) (m : Parts) (n : Device) (kept : Option Mark) (sealed : Mark) (issue : Issue)
     → IsWritten o m n kept sealed issue → length n.image ≡ blocks_of o.geometry
-    → Safe o kept (if is_finish issue then Some sealed else None) n
+    → Safe decode o kept (if is_finish issue then Some sealed else None) n
 Safe-written o m n kept sealed (Memory i) w full = Safe-kept o n kept w.0 full
 Safe-written o m n kept sealed (RecordIssue k) w full = Safe-kept o n kept w.0 full
 Safe-written o m n kept sealed HeaderIssue w full = Safe-kept o n kept w.0 full
@@ -113,13 +113,13 @@ Safe-written o m n kept sealed Finish w full = Safe-in_doubt o n kept sealed w f
 
 -- a view says what is safe
 abbrev SafeView : Origin → Device → View → Type 0
-SafeView o n v = Safe o v.done (doubt_of v) n
+SafeView o n v = Safe decode o v.done (doubt_of v) n
 
 Safe-image_view : (o : Origin) (n : Device) (kept : Option Mark) → IsKept o n kept → length n.image ≡ blocks_of o.geometry
     → SafeView o n (view_of_image o.start.count (decoded_of o kept))
 Safe-image_view o n None k full = Safe-kept o n None k full
 Safe-image_view o n (Some m) k full =
-    subst (λ x. Safe o (Some (mark m.epoch x)) None n) (sym (counted-of o n k.commit m k.gives)) (Safe-kept o n (Some m) k full)
+    subst (λ x. Safe decode o (Some (mark m.epoch x)) None n) (sym (counted-of o n k.commit m k.gives)) (Safe-kept o n (Some m) k full)
 
 Safe-recovering : (o : Origin) (n : Device) (kept : Option Mark) → IsKept o n kept → length n.image ≡ blocks_of o.geometry
     → SafeView o n (view_of_image o.start.count (decode o.geometry ceiling n.image))
@@ -147,10 +147,10 @@ Safe-boot o m n Idle h full = absurd h
 
 -- marks and the written flag decide what is safe
 safe_marks : (o : Origin) (n : Device) (first sealed wanted doubt : Option Mark) (written up : Bool)
-    → first ≡ wanted → written ≡ up → (if up then sealed else None) ≡ doubt → Safe o wanted doubt n → Safe o first (if written then sealed else None) n
+    → first ≡ wanted → written ≡ up → (if up then sealed else None) ≡ doubt → Safe decode o wanted doubt n → Safe decode o first (if written then sealed else None) n
 safe_marks o n first sealed wanted doubt written up a b c safe =
-    subst (λ x. Safe o x (if written then sealed else None) n) (sym a)
-    (subst (λ x. Safe o wanted (if x then sealed else None) n) (sym b) (subst (λ x. Safe o wanted x n) (sym c) safe))
+    subst (λ x. Safe decode o x (if written then sealed else None) n) (sym a)
+    (subst (λ x. Safe decode o wanted (if x then sealed else None) n) (sym b) (subst (λ x. Safe decode o wanted x n) (sym c) safe))
 
 pub Safe-quiet : (o : Origin) (m : Parts) (n : Device) → IsQuiet o m n → length n.image ≡ blocks_of o.geometry → SafeView o n m.view
 Safe-quiet o m n q full =
@@ -194,6 +194,6 @@ pub blocks_of_sound : (o : Origin) (m : Parts) (n : Device) → Sound o m n → 
 blocks_of_sound o m n s = s.sized.blocks ∙ ap blocks_of s.geometry
 
 -- a sound machine is safe: whatever a cut leaves decodes to the marks of its view
-pub Safe-sound : (o : Origin) (m : Parts) (n : Device) → Sound o m n → Safe o (view_of o m n).done (doubt_of (view_of o m n)) n
+pub Safe-sound : (o : Origin) (m : Parts) (n : Device) → Sound o m n → Safe decode o (view_of o m n).done (doubt_of (view_of o m n)) n
 unfolding view_of
 Safe-sound o m n s = Safe-in o m n m.view.phase s.moment (blocks_of_sound o m n s)

@@ -12,10 +12,10 @@ use Rattle.thy_copy_model.specs.declared.stage.Stage.{Stage}
 use Rattle.thy_copy_model.specs.declared.stage.Stage.TheVariants.{Unread, Header, Record, Restoring, Refused as RefusedStage, Writing, Idle as IdleStage}
 use Rattle.thy_base.specs.declared.mark.Mark.{Mark}
 use Rattle.thy_view.specs.declared.view.View.{View}
-use Rattle.thy_view.specs.Booting.{loading_view}
+use Rattle.thy_view.specs.Booting.{view_of_image, found_first, first_view}
 use Rattle.thy_view.specs.Views.{mark, doubt_of}
 use Rattle.thy_view.specs.CoreStep.{busier, BootsTo, MovesTo, EngineTo, CoreStep}
-use Rattle.thy_copy_model.specs.Moments.{IsSmallMark, IsSmall, cycle_doubt, booting_view, Finds}
+use Rattle.thy_copy_model.specs.Moments.{IsSmallMark, IsSmall, cycle_doubt, booting_view, Finds, first_epoch}
 use Rattle.thy_copy_model.specs.Cycle.{is_drain}
 use Rattle.thy_view.specs.Origin.{Origin}
 use Rattle.thy_copy_model.specs.Sound.{doubt_from, doubt_at}
@@ -73,7 +73,7 @@ module _ (o : Origin) (k : ℕ) (v next : View) (h : IsSmall o k v) where
   engine TableBlock e = busy e
   engine Barrier e = busy e
   engine CommitWritten e =
-      kept_small o k v next h (ap (λ w. w.epoch) e) (ap (λ w. w.count) e) (ap (λ w. w.done) e) (ap (λ w. w.sealed) e)
+      kept_small o k v next h (ap (λ w. w.epoch) e.1) (ap (λ w. w.count) e.1) (ap (λ w. w.done) e.1) (ap (λ w. w.sealed) e.1)
   engine (EngineCommitted epoch) e = absurd e
 
   -- a step of the view
@@ -87,7 +87,7 @@ module _ (o : Origin) (k : ℕ) (v next : View) (h : IsSmall o k v) where
   }
   IsSmall-step (Restarted epoch count) s =
       let kept : IsSmallMark o k (mark epoch count) = h.done (mark epoch count) s.1 in
-      let below : epoch ≤ k = kept.epoch in
+      let below : epoch ≤ first_epoch o.kept + k = kept.epoch in
       let least : count ≤ o.start.count + k = kept.count in
       record {
         epoch = let e : next.epoch ≡ epoch + 1 = ap (λ w. w.epoch) s.4 in omega arith;
@@ -121,7 +121,7 @@ module _ (o : Origin) (k : ℕ) (v next : View) (h : IsSmall o k v) where
         done = λ m is. more_mark o k m (h.done m (sym (ap (λ w. w.done) s.5) ∙ is));
         sealed = λ m is. the_mark o (k + 1) (mark epoch count) m (sym (ap (λ w. w.sealed) s.5) ∙ is) sealed_mark;
       }
-  IsSmall-step (Engine step) s = engine step s.2
+  IsSmall-step (Engine step) s = engine step s.1
   IsSmall-step (Committed epoch overlapped) s =
       let eq = s.3.2 in
       let before = h.count in
@@ -151,9 +151,15 @@ booting_small o k (Some kept) small = record {
   sealed = λ m is. none_is o k m is;
 }
 
+first_small : (o : Origin) (kept : Option Mark) → o.kept ≡ kept → IsSmall o 0 (view_of_image o.start.count (found_first o kept))
+first_small o None is = booting_small o 0 None (λ m some. none_is o 0 m some)
+first_small o (Some a) is =
+    booting_small o 0 (Some (mark a.epoch o.start.count))
+    (λ m some. the_mark o 0 (mark a.epoch o.start.count) m some (let first : first_epoch o.kept ≡ a.epoch = ap first_epoch is in record { epoch = omega arith; count = omega arith }))
+
 -- the numbers of the start
-pub IsSmall-loading : (o : Origin) → IsSmall o 0 (loading_view o.start.count)
-IsSmall-loading o = booting_small o 0 None (λ m is. none_is o 0 m is)
+pub IsSmall-first : (o : Origin) → IsSmall o 0 (first_view o)
+IsSmall-first o = first_small o o.kept refl
 
 doubt_small : (o : Origin) (k : ℕ) (v : View) (doubt : Option Mark) → IsSmall o k v → (doubt ≡ None) ⊎ (doubt ≡ v.sealed)
     → (m : Mark) → doubt ≡ Some m → IsSmallMark o k m

@@ -1,5 +1,5 @@
 -- What a cycle did was the turn of its pick.
-use Rattle.std.proofs.Common.{◌≡◌, ℕ, ◌==◌, Bool, true, false, not, is_some, if◌then◌else◌, Option, Some, None, refl, sym, ◌∙◌, ap, subst}
+use Rattle.std.proofs.Common.{◌≡◌, ℕ, ◌==◌, Bool, true, false, ◌&&◌, ◌||◌, not, is_some, if◌then◌else◌, Option, Some, None, refl, sym, ◌∙◌, ap, subst}
 use Rattle.thy_base.specs.declared.cause.EndCause.{EndCause}
 use Rattle.thy_base.specs.declared.mix.Pick.{Pick}
 use Rattle.thy_base.specs.declared.mix.Pick.TheVariants.{Hart, Engine as EnginePick, NvmDrain, DramDrain}
@@ -24,49 +24,63 @@ use Rattle.thy_view.specs.Origin.{Origin}
 use Rattle.thy_view.specs.Safe.{ceiling}
 use Rattle.thy_copy_model.specs.Sound.{Sound, view_in, view_of}
 use Rattle.thy_copy_model.specs.Steps.{boot_did, loading_did, read_did, checkpoint_did}
-use Rattle.thy_view.specs.Turn.{Nvm, Checkpoint, TheHart, stall_in, hart_turn, engine_turn, IsEngines, IsBoots, IsHarts, Acts, Turn}
+use Rattle.thy_copy_model.specs.Kind.{short_at, pressure_of}
+use Rattle.thy_view.specs.Turn.{Nvm, Checkpoint, TheHart, Pressure, has_stopped, waits, stall_in, hart_turn, engine_turn, IsEngines, IsBoots, IsHarts, Acts, Turn}
 use Rattle.thy_copy_model.proofs.CycleLaws.{run_sound, run_view, halted_view}
 use Rattle.thy_copy_model.proofs.RecoverLaws.{image_phase}
 use Rattle.thy_copy_model.proofs.RunLaws.{IsCheckpointing-sound}
 
 -- what was done was the hart's turn, and for the engine's own pick the engine's
-abbrev IsTurn : View → Did → Option Stall → Type 0
-IsTurn v did stall = Acts (hart_turn v) did stall × Acts (engine_turn v.phase v) did (told EnginePick stall)
+abbrev IsTurn : Origin → Pressure → View → Did → Option Stall → Type 0
+IsTurn o p v did stall = Acts (hart_turn o v p) did stall × Acts (engine_turn o v.phase v p) did (told EnginePick stall)
 
-boot_turn : (v : View) (did : Did) → v.phase ≡ Boot → IsBoots did → IsTurn v did (Some Booting)
-boot_turn v did phase h =
-    let hart : Acts (hart_turn v) did (Some Booting) = subst (λ p. Acts (TheHart (stall_in p v)) did (Some Booting)) (sym phase) (h, refl) in
-    (hart, subst (λ p. Acts (engine_turn p v) did (Some Booting)) (sym phase) hart)
+boot_turn : (o : Origin) (p : Pressure) (v : View) (did : Did) → v.phase ≡ Boot → IsBoots did → IsTurn o p v did (Some Booting)
+boot_turn o p v did phase h =
+    let hart : Acts (hart_turn o v p) did (Some Booting) = subst (λ x. Acts (TheHart (stall_in o x v p)) did (Some Booting)) (sym phase) (h, refl) in
+    (hart, subst (λ x. Acts (engine_turn o x v p) did (Some Booting)) (sym phase) hart)
 
-halt_turn : (v : View) (did : Did) → v.phase ≡ Halt → did ≡ Nothing → IsTurn v did (Some Halted)
-halt_turn v did phase h =
-    let hart : Acts (hart_turn v) did (Some Halted) = subst (λ p. Acts (TheHart (stall_in p v)) did (Some Halted)) (sym phase) (h, refl) in
-    (hart, subst (λ p. Acts (engine_turn p v) did (Some Halted)) (sym phase) hart)
+halt_turn : (o : Origin) (p : Pressure) (v : View) (did : Did) → v.phase ≡ Halt → did ≡ Nothing → IsTurn o p v did (Some Halted)
+halt_turn o p v did phase h =
+    let hart : Acts (hart_turn o v p) did (Some Halted) = subst (λ x. Acts (TheHart (stall_in o x v p)) did (Some Halted)) (sym phase) (h, refl) in
+    (hart, subst (λ x. Acts (engine_turn o x v p) did (Some Halted)) (sym phase) hart)
 
-waiting_turn : (v : View) (did : Did) (m : Mark) → v.phase ≡ Run → v.sealed ≡ Some m → IsEngines did → IsTurn v did (Some Waiting)
-waiting_turn v did m phase sealed h = (
-  subst (λ p. Acts (TheHart (stall_in p v)) did (Some Waiting)) (sym phase)
-      (subst (λ (x : Option Mark). Acts (TheHart (if is_some x then Some Waiting else (if is_some v.over then Some Sealing else None))) did (Some Waiting)) (sym sealed) (h, refl)),
-  subst (λ p. Acts (engine_turn p v) did None) (sym phase)
-      (subst (λ (x : Option Mark). Acts (if is_some x then Checkpoint else hart_turn v) did None) (sym sealed) (h, refl)),
-)
+short_waits : (a b c d : Bool) → a ≡ true → c ≡ true → (a && (b || c || d)) ≡ true
+short_waits true true true d e f = refl
+short_waits true false true d e f = refl
+short_waits false b c d e f = absurd (cc)
+short_waits true b false d e f = absurd (cc)
 
--- the stall where no checkpoint is under way
+waiting_turn : (o : Origin) (p : Pressure) (v : View) (did : Did) (m : Mark) → v.phase ≡ Run → v.sealed ≡ Some m → is_some p.short ≡ true → IsEngines did → IsTurn o p v did (Some Waiting)
+waiting_turn o p v did m phase sealed short h =
+    let waiting : waits o v p ≡ true = short_waits (is_some v.sealed) (is_some v.over) (is_some p.short) (has_stopped o v.sealed && not p.promotes) (ap is_some sealed) short in (
+      subst (λ x. Acts (TheHart (stall_in o x v p)) did (Some Waiting)) (sym phase)
+          (subst (λ (w : Bool). Acts (TheHart (if w then Some Waiting else (if is_some v.over || p.promotes then Some Sealing else None))) did (Some Waiting)) (sym waiting) (h, refl)),
+      subst (λ x. Acts (engine_turn o x v p) did None) (sym phase)
+          (subst (λ (x : Option Mark). Acts (if is_some x then Checkpoint else hart_turn o v p) did None) (sym sealed) (h, refl)),
+    )
+
+-- the stall where no checkpoint is under way and nothing is to be promoted
 abbrev idle_stall : Option EndCause → Option Stall
-idle_stall over = if is_some over then Some Sealing else None
+idle_stall over = if is_some over || false then Some Sealing else None
 
 told_idle : (over : Option EndCause) → told EnginePick (idle_stall over) ≡ idle_stall over
 told_idle None = refl
 told_idle (Some cause) = refl
 
-idle_turn : (v : View) (did : Did) → v.phase ≡ Run → v.sealed ≡ None → IsHarts (idle_stall v.over) did → IsTurn v did (idle_stall v.over)
-idle_turn v did phase sealed h =
-    let hart : Acts (hart_turn v) did (idle_stall v.over) = subst (λ p. Acts (TheHart (stall_in p v)) did (idle_stall v.over)) (sym phase)
-    (subst (λ (x : Option Mark). Acts (TheHart (if is_some x then Some Waiting else idle_stall v.over)) did (idle_stall v.over)) (sym sealed) (h, refl)) in (
+stall_idle : (over : Option EndCause) → idle_stall over ≡ (if is_some over then Some Sealing else None)
+stall_idle None = refl
+stall_idle (Some cause) = refl
+
+idle_turn : (o : Origin) (p : Pressure) (v : View) (did : Did) → v.phase ≡ Run → v.sealed ≡ None → p.promotes ≡ false → IsHarts (idle_stall v.over) did → IsTurn o p v did (idle_stall v.over)
+idle_turn o p v did phase sealed calm h =
+    let awake : waits o v p ≡ false = ap (λ (x : Option Mark). is_some x && (is_some v.over || is_some p.short || (has_stopped o x && not p.promotes))) sealed in
+    let hart : Acts (hart_turn o v p) did (idle_stall v.over) = subst (λ x. Acts (TheHart (stall_in o x v p)) did (idle_stall v.over)) (sym phase)
+    (subst (λ (w : Bool). Acts (TheHart (if w then Some Waiting else (if is_some v.over || p.promotes then Some Sealing else None))) did (idle_stall v.over)) (sym awake)
+    (subst (λ (b : Bool). Acts (TheHart (if is_some v.over || b then Some Sealing else None)) did (idle_stall v.over)) (sym calm) (h, refl))) in (
       hart,
-      subst (λ p. Acts (engine_turn p v) did (told EnginePick (idle_stall v.over))) (sym phase)
-          (subst (λ (x : Option Mark). Acts (if is_some x then Checkpoint else hart_turn v) did (told EnginePick (idle_stall v.over))) (sym sealed)
-          (subst (λ (t : Option Stall). Acts (hart_turn v) did t) (sym (told_idle v.over)) hart)),
+      subst (λ x. Acts (engine_turn o x v p) did (told EnginePick (idle_stall v.over))) (sym phase)
+          (subst (λ (x : Option Mark). Acts (if is_some x then Checkpoint else hart_turn o v p) did (told EnginePick (idle_stall v.over))) (sym sealed)
+          (subst (λ (t : Option Stall). Acts (hart_turn o v p) did t) (sym (told_idle v.over)) hart)),
     )
 
 module _ (o : Origin) (m : Parts) (n : Device) (s : Sound o m n) where
@@ -113,28 +127,31 @@ module _ (o : Origin) (m : Parts) (n : Device) (s : Sound o m n) where
   harts None = tt
   harts (Some cause) = tt
 
-  run_turns : (stage : Stage) → m.stage ≡ stage → m.view.phase ≡ Run → IsTurn m.view (run_did stage m) (run_stall stage m)
+  run_turns : (stage : Stage) → m.stage ≡ stage → m.view.phase ≡ Run → IsTurn o (pressure_of m) m.view (run_did stage m) (run_stall stage m)
   run_turns (Writing epoch issue) is phase =
-      waiting_turn m.view (run_did (Writing epoch issue) m) (mark epoch m.view.count) phase (IsCheckpointing-sound o m n epoch issue s phase is).sealed
+      waiting_turn o (pressure_of m) m.view (run_did (Writing epoch issue) m) (mark epoch m.view.count) phase (IsCheckpointing-sound o m n epoch issue s phase is).sealed
+      (ap (λ (x : Stage). is_some (short_at x)) is)
       (engines epoch issue (issue_after m.geometry epoch issue))
-  run_turns Idle is phase = idle_turn m.view (hart_did m.view.over m) phase (run_sound o m n s Idle phase is).0.sealed (harts m.view.over)
+  run_turns Idle is phase =
+      subst (IsTurn o (pressure_of m) m.view (hart_did m.view.over m)) (stall_idle m.view.over)
+      (idle_turn o (pressure_of m) m.view (hart_did m.view.over m) phase (run_sound o m n s Idle phase is).0.sealed refl (harts m.view.over))
   run_turns Unread is phase = absurd (run_sound o m n s Unread phase is)
   run_turns (Header epoch fault) is phase = absurd (run_sound o m n s (Header epoch fault) phase is)
   run_turns (Record epoch next) is phase = absurd (run_sound o m n s (Record epoch next) phase is)
   run_turns (Restoring epoch next) is phase = absurd (run_sound o m n s (Restoring epoch next) phase is)
   run_turns (Refused bad) is phase = absurd (run_sound o m n s (Refused bad) phase is)
 
-  phase_turns : (phase : Phase) (x : Parts) → m.view.phase ≡ phase → IsTurn (view_of o m n) (phase_did phase m x) (phase_stall phase m)
-  phase_turns Boot x is = boot_turn (view_of o m n) (boot_did m.stage m x) (boot_phase is) (boot_boots m.stage x)
-  phase_turns Run x is = subst (λ v. IsTurn v (run_did m.stage m) (run_stall m.stage m)) (sym (run_view o m n s is)) (run_turns m.stage refl is)
-  phase_turns Halt x is = halt_turn (view_of o m n) Nothing (ap (λ v. v.phase) (halted_view o m n s is) ∙ is) refl
+  phase_turns : (phase : Phase) (x : Parts) → m.view.phase ≡ phase → IsTurn o (pressure_of m) (view_of o m n) (phase_did phase m x) (phase_stall phase m)
+  phase_turns Boot x is = boot_turn o (pressure_of m) (view_of o m n) (boot_did m.stage m x) (boot_phase is) (boot_boots m.stage x)
+  phase_turns Run x is = subst (λ v. IsTurn o (pressure_of m) v (run_did m.stage m) (run_stall m.stage m)) (sym (run_view o m n s is)) (run_turns m.stage refl is)
+  phase_turns Halt x is = halt_turn o (pressure_of m) (view_of o m n) Nothing (ap (λ v. v.phase) (halted_view o m n s is) ∙ is) refl
 
-  drain_turns : (empty : Bool) (x : Parts) → Acts (if empty then hart_turn (view_of o m n) else Nvm) (if not empty then NvmDrained else phase_did m.view.phase m x)
+  drain_turns : (empty : Bool) (x : Parts) → Acts (if empty then hart_turn o (view_of o m n) (pressure_of m) else Nvm) (if not empty then NvmDrained else phase_did m.view.phase m x)
       (if not empty then None else told NvmDrain (phase_stall m.view.phase m))
   drain_turns true x = (phase_turns m.view.phase x refl).0
   drain_turns false x = (refl, refl)
 
-  turns : (pick : Pick) (queued : ℕ) (x : Parts) → Turn pick queued 0 (view_of o m n) (cycle_did pick queued m x) (cycle_stall pick queued m)
+  turns : (pick : Pick) (queued : ℕ) (x : Parts) → Turn o pick queued (view_of o m n) (pressure_of m) (cycle_did pick queued m x) (cycle_stall pick queued m)
   turns Hart queued x = (phase_turns m.view.phase x refl).0
   turns EnginePick queued x = (phase_turns m.view.phase x refl).1
   turns NvmDrain queued x = drain_turns (queued == 0) x
@@ -142,5 +159,5 @@ module _ (o : Origin) (m : Parts) (n : Device) (s : Sound o m n) where
 
 -- a cycle of a machine without DRAM was the turn of its pick
 pub Turn-cycle : (o : Origin) (m : Parts) (n : Device) → Sound o m n → (pick : Pick) (queued : ℕ) (next : Parts)
-    → Turn pick queued 0 (view_of o m n) (cycle_did pick queued m next) (cycle_stall pick queued m)
+    → Turn o pick queued (view_of o m n) (pressure_of m) (cycle_did pick queued m next) (cycle_stall pick queued m)
 Turn-cycle o m n s pick queued next = turns o m n s pick queued next

@@ -12,6 +12,7 @@ use Rattle.thy_record.specs.Commit.{is_zero, epoch_of, commit_fault}
 use Rattle.thy_record.specs.Cpu.{cpu_of_record, record_fault}
 use Rattle.thy_record.specs.Decoded.{Decoded, Nothing, Refused as RefusedImage, At}
 use Rattle.thy_base.specs.declared.mark.Mark.{Mark}
+use Rattle.thy_view.specs.Booting.{loading_view}
 use Rattle.thy_view.specs.declared.view.Phase.{Phase}
 use Rattle.thy_view.specs.declared.view.Phase.TheVariants.{Boot, Run, Halt}
 use Rattle.thy_view.specs.declared.view.View.{View}
@@ -34,31 +35,6 @@ blocks_from (suc n) bytes = record { 0 = take 64 bytes } ∷ blocks_from n (drop
 -- block i of a list of bytes
 abbrev pub block_from : List ℕ → ℕ → Block
 block_from bytes i = record { 0 = take 64 (drop (64 * i) bytes) }
-
--- the view of a boot with these marks
-abbrev pub boot_view : Option Mark → Option Mark → View
-boot_view done sealed = record {
-  phase = Boot;
-  done = done;
-  sealed = sealed;
-  epoch = 0;
-  count = 0;
-  retired = 0;
-  spent = 0;
-  lap = 0;
-  over = None;
-  written = false;
-}
-
--- the view while the program is loaded, whose count is this
-abbrev pub loading_view : ℕ → View
-loading_view count = boot_view None (Some (mark 0 count))
-
--- the view of a boot that finds this on the device
-abbrev pub view_of_image : ℕ → Decoded → View
-view_of_image count Nothing = loading_view count
-view_of_image count (RefusedImage bad) = boot_view None None
-view_of_image count (At epoch state) = boot_view (Some (mark epoch state.count)) None
 
 -- the phase with which a state goes on
 abbrev pub phase_of : CpuState → Phase

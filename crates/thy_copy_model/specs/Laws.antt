@@ -12,7 +12,9 @@ use Rattle.thy_view.specs.declared.view.View.{View}
 use Rattle.thy_copy_model.specs.declared.parts.Parts.{Parts}
 use Rattle.thy_record.specs.declared.start.Start.{Start}
 use Rattle.thy_view.specs.Action.{FailsTo}
-use Rattle.thy_view.specs.Booting.{loading_view, view_of_image}
+use Rattle.thy_view.specs.Booting.{first_view, view_of_image}
+use Rattle.thy_view.specs.Kind.{IsFittedFor}
+use Rattle.thy_copy_model.specs.Kind.{kind, pressure_of}
 use Rattle.thy_copy_model.specs.Calls.{Core, IsAt, CanStep}
 use Rattle.thy_view.specs.Origin.{Begins, Origin, IsOrigin}
 use Rattle.thy_copy_model.specs.Cycle.{cycle_action, cycle_did, cycle_stall}
@@ -33,18 +35,18 @@ CycleLeads =
 abbrev pub CycleIsTurn : Type 0
 CycleIsTurn =
     (o : Origin) (m next : Parts) (n : Device) (pick : Pick) (queued : ℕ)
-    → Moment o m n → Turn pick queued 0 (view_of o m n) (cycle_did pick queued m next) (cycle_stall pick queued m)
+    → Moment o m n → Turn o pick queued (view_of o m n) (pressure_of m) (cycle_did pick queued m next) (cycle_stall pick queued m)
 
 -- whatever a power cut leaves at a moment is the view's committed checkpoint, whole, or the one in doubt
 abbrev pub MomentIsSafe : Type 0
-MomentIsSafe = (o : Origin) (m : Parts) (n : Device) → Moment o m n → Safe o (view_of o m n).done (doubt_of (view_of o m n)) n
+MomentIsSafe = (o : Origin) (m : Parts) (n : Device) → Moment o m n → Safe decode o (view_of o m n).done (doubt_of (view_of o m n)) n
 
 -- and so after a cycle that failed
 abbrev pub FailureIsSafe : Type 0
 FailureIsSafe =
     (o : Origin) (m : Parts) (n new : Device) (pick : Pick) (queued : ℕ)
     → Moment o m n → FailsTo (cycle_action o.start pick queued m) n new → IsFramed n new
-    → Safe o (view_of o m n).done (cycle_doubt pick queued m (view_of o m n)) new
+    → Safe decode o (view_of o m n).done (cycle_doubt pick queued m (view_of o m n)) new
 
 -- a power cut at a moment leads to a moment, whose view has the checkpoint that was committed or in doubt
 abbrev pub CutLeads : Type 0
@@ -65,12 +67,12 @@ FailureLeads =
 abbrev pub PowerIsNew : Type 0
 PowerIsNew = (o : Origin) (m : Parts) → IsPoweredOn o.geometry m → IsNew o m
 
--- a device of zeros with a new machine is a moment, at which the program will be loaded
+-- a fitted device that means what the run begins with is at a moment, with a new machine
 abbrev pub FreshLeads : Type 0
 FreshLeads =
-    (o : Origin) (m : Parts) (shape : Shape) (n : Device)
-    → IsOrigin o → IsNew o m → shape.blocks ≡ blocks_of o.geometry
-    → Moment o m (fitted shape [] n) × (view_of o m (fitted shape [] n) ≡ loading_view o.start.count)
+    (o : Origin) (m : Parts) (shape : Shape) (start : List Block) (n : Device)
+    → IsOrigin o → IsNew o m → IsFittedFor kind o shape start n
+    → Moment o m (fitted shape start n) × (view_of o m (fitted shape start n) ≡ first_view o)
 
 -- after one cycle more of a run the view's numbers are within a bound that is larger by one
 abbrev pub StepIsSmall : Type 0
@@ -93,18 +95,18 @@ FailureIsSmall =
 abbrev pub MomentCanStep : Type 0
 MomentCanStep =
     (o : Origin) (start : Start) (k : ℕ) (m : Core) (n : Device)
-    → Begins o o.geometry start → IsAt o k m n → k < 2 ^ 62 → CanStep start m n
+    → Begins o start → IsAt o k m n → k < 2 ^ 62 → CanStep start m n
 
 -- power can come on
 abbrev pub PowerComesOn : Type 0
 PowerComesOn = (p : Parameters) → (m : Core) × IsPoweredOn p m
 
--- a run begins with a new machine over a device that was fitted and holds zeros
+-- a run begins at a moment: with a machine whose power has just come on
 abbrev pub FreshIsAt : Type 0
 FreshIsAt =
-    (o : Origin) (m : Core) (shape : Shape) (n : Device)
-    → IsOrigin o → IsPoweredOn o.geometry m → shape.blocks ≡ blocks_of o.geometry
-    → IsAt o 0 m (fitted shape [] n) × (view_of o m (fitted shape [] n) ≡ loading_view o.start.count)
+    (o : Origin) (m : Core) (shape : Shape) (start : List Block) (n : Device)
+    → IsOrigin o → IsPoweredOn o.geometry m → IsFittedFor kind o shape start n
+    → IsAt o 0 m (fitted shape start n) × (view_of o m (fitted shape start n) ≡ first_view o)
 
 -- a power cut leads to a moment of the same run, whose view is what the image that was left decodes to
 abbrev pub CutIsAt : Type 0
@@ -116,4 +118,4 @@ CutIsAt =
 -- whatever a power cut leaves at a moment is the committed checkpoint, whole, or the one in doubt
 abbrev pub MomentIsSafeFor : Type 0
 MomentIsSafeFor =
-    (o : Origin) (k : ℕ) (m : Core) (n : Device) → IsAt o k m n → Safe o (view_of o m n).done (doubt_of (view_of o m n)) n
+    (o : Origin) (k : ℕ) (m : Core) (n : Device) → IsAt o k m n → Safe decode o (view_of o m n).done (doubt_of (view_of o m n)) n

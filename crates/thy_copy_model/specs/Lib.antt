@@ -1,16 +1,12 @@
 pub mod Calls
-pub mod Action
 pub mod Boot
 pub mod Bounds
 pub mod Checkpoint
-pub mod CoreStep
 pub mod Cycle
 pub mod Hart
-pub mod Origin
-pub mod Safe
 pub mod Sound
 pub mod Steps
 pub mod Stored
-pub mod Turn
 pub mod Moments
 pub mod Laws
+pub mod Kind

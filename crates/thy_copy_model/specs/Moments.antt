@@ -75,14 +75,19 @@ booting_view count (Some m) = boot_view (Some m) None
 abbrev pub Finds : ℕ → Option Mark → Option Mark → View → Type 0
 Finds count kept sealed v = (v ≡ booting_view count kept) ⊎ ((m : Mark) × (sealed ≡ Some m) × (v ≡ booting_view count (Some m)))
 
+-- the epoch of the checkpoint that a run's start was taken from, 0 where it was made from a file
+abbrev pub first_epoch : Option Mark → ℕ
+first_epoch None = 0
+first_epoch (Some m) = m.epoch
+
 -- a mark that k cycles of a run can have reached
 pub record IsSmallMark (o : Origin) (k : ℕ) (m : Mark) : Type 0 where
-  pub epoch : m.epoch ≤ k
+  pub epoch : m.epoch ≤ first_epoch o.kept + k
   pub count : m.count ≤ o.start.count + k
 
 -- a view that k cycles of a run can have reached
 pub record IsSmall (o : Origin) (k : ℕ) (v : View) : Type 0 where
-  pub epoch : v.epoch ≤ k + 1
+  pub epoch : v.epoch ≤ first_epoch o.kept + k + 1
   pub count : v.count ≤ o.start.count + k
   pub done : (m : Mark) → v.done ≡ Some m → IsSmallMark o k m
   pub sealed : (m : Mark) → v.sealed ≡ Some m → IsSmallMark o k m

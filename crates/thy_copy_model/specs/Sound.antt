@@ -24,17 +24,9 @@ use Rattle.thy_copy_model.specs.Boot.{start_bytes, block_from}
 use Rattle.thy_view.specs.Booting.{loading_view, view_of_image}
 use Rattle.thy_copy_model.specs.Bounds.{IsBounded, IsSized}
 use Rattle.thy_view.specs.Views.{mark}
-use Rattle.thy_view.specs.Origin.{Origin, at}
+use Rattle.thy_view.specs.Origin.{Origin, at, IsOrigin}
 use Rattle.thy_view.specs.Safe.{ceiling}
 use Rattle.thy_copy_model.specs.Stored.{IsFixed, AreRead, Stands, IsKept, IsInDoubt}
-
--- the start of a run fits its geometry, can be stored, and runs
-pub record IsOrigin (o : Origin) : Type 0 where
-  pub geometry : IsInRange o.geometry
-  pub recordable : IsRecordable o.geometry (2 ^ 62) (cpu_of o.start)
-  pub memory : length o.start.memory ≡ program_size o.geometry
-  pub storable : IsStorable (program_size o.geometry) o.start
-  pub running : o.start.status ≡ Running
 
 -- the parts hold the state of the plain machine at this count
 pub record Holds (o : Origin) (m : Parts) (count : ℕ) : Type 0 where
@@ -184,10 +176,6 @@ view_in o m n Idle = m.view
 
 unfoldable pub view_of : Origin → Parts → Device → View
 view_of o m n = view_in o m n m.stage
-
--- the mark that a cut may leave besides the one done: the sealed one, while its commit block is written
-abbrev pub doubt_of : View → Option Mark
-doubt_of v = if v.written then v.sealed else None
 
 -- and after a call of the checkpoint that failed: from the commit block's write on
 abbrev pub doubt_from : Issue → Option Mark → Option Mark

@@ -32,9 +32,9 @@ pub record Stands (o : Origin) (n : Device) (commit : Block) (m : Mark) : Type 0
   pub cpu_fixed : AreFixed n (slot_of o.geometry (m.epoch % 2)) cpu
   pub memory_fixed : AreFixed n (slot_of o.geometry (m.epoch % 2) + 5) memory
 
--- with this commit block an image has the checkpoint, or none
+-- with this commit block an image has the checkpoint, or none, where the start was made from a file
 abbrev pub Gives : Origin → Device → Block → Option Mark → Type 0
-Gives o n commit None = is_zero commit ≡ true
+Gives o n commit None = (is_zero commit ≡ true) × (o.kept ≡ None)
 Gives o n commit (Some m) = Stands o n commit m
 
 -- the checkpoint, or none, is all that a cut may leave

@@ -32,7 +32,7 @@ pub fn a_failure_leads_on()
     ensures { FailureLeads }
 {}
 
-/// A new machine over a device of zeros is at a moment of its run, and loads the program.
+/// A new machine over a fitted device is at a moment of the run that this begins.
 pub fn a_fresh_start_leads_on()
     ensures { FreshLeads }
 {}
@@ -62,7 +62,7 @@ pub fn a_step_may_be_asked_for()
     ensures { MomentCanStep }
 {}
 
-/// A run begins at a moment: a machine whose power has just come on, over a fitted device of zeros.
+/// A run begins at a moment: a machine whose power has just come on, over a fitted device.
 pub fn a_run_begins_at_a_moment()
     ensures { FreshIsAt }
 {}

@@ -1,16 +1,12 @@
-//! The machine as it is seen from above: what a cycle did, and the view that it changes. Its
-//! definitions say which changes are steps, and what a power cut may leave at each of them.
+//! The machine that copies all of memory at each checkpoint, as data and as definitions: its parts and stages, what
+//! each cycle makes of them, and the laws by which it is one of the machines that the layers above run.
 #![tactic(auto)]
 
-mod did;
 mod laws;
 mod memory;
 mod parts;
 mod stage;
-mod start;
-mod view;
 
-pub use did::{Did, EngineStep, Stall, Stepped};
 pub use laws::{
     a_cut_is_at_a_moment, a_cut_is_small, a_cut_leads_on, a_cycle_is_a_turn, a_cycle_leads_on,
     a_failure_is_safe, a_failure_is_small, a_failure_leads_on, a_fresh_start_leads_on,
@@ -20,5 +16,3 @@ pub use laws::{
 pub use memory::Memory;
 pub use parts::Parts;
 pub use stage::{Issue, Stage};
-pub use start::Start;
-pub use view::{Phase, View};

@@ -1,8 +1,9 @@
 //! What the machine is made of.
 
-use crate::{Memory, Stage, View};
+use crate::{Memory, Stage};
 use thy_base::{Block, Geometry};
 use thy_isa::CpuState;
+use thy_view::View;
 
 /// The machine's parts. The layers above see its view alone.
 #[derive(Debug, Drop)]

@@ -54,7 +54,7 @@ abbrev pub CoreStep : Origin → View → Did → View → Type 0
 CoreStep o v Boot next = (v.phase ≡ BootPhase) × BootsTo v next
 CoreStep o v Loaded next =
     (v.phase ≡ BootPhase) × (v.done ≡ None) × (v.written ≡ true) × (v.sealed ≡ Some (mark 0 o.start.count))
-    × (next ≡ record v { phase = Run; done = v.sealed; sealed = None; epoch = 1; count = o.start.count; retired = 0; spent = 0; lap = 0; written = false })
+    × (next ≡ record v { phase = Run; done = v.sealed; sealed = None; epoch = 1; count = o.start.count; written = false })
 CoreStep o v (Restarted epoch count) next =
     (v.phase ≡ BootPhase) × (v.done ≡ Some (mark epoch count)) × (v.sealed ≡ None) × (v.written ≡ false)
     × (next ≡ record v { phase = phase_at o count; epoch = epoch + 1; count = count; retired = 0; spent = 0; lap = 0 })

@@ -1,5 +1,5 @@
 //! What a machine is to the layers above it.
-ghost use Rattle.std.specs.Prelude.{◌≡◌, ◌<◌, ◌^◌, ◌&&◌, ℕ, true, drop, IfOk, IfErr, OnOk, OnErr, Some};
+ghost use Rattle.std.specs.Prelude.{◌≡◌, ◌<◌, ◌^◌, ◌&&◌, ℕ, true, false, drop, IfOk, IfErr, OnOk, OnErr, Some};
 ghost use Rattle.thy_base.specs.declared.mark.Mark.{Mark as MarkValue};
 ghost use Rattle.thy_base.specs.Bytes.{bytes_of};
 ghost use Rattle.thy_base.specs.Device.{Device, IsFramed, CountsFault};
