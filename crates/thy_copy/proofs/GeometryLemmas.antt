@@ -1,4 +1,4 @@
--- No cycle changes the geometry.
+-- No cycle changes the geometry or the DRAM.
 use Rattle.std.proofs.Common.{◌≡◌, ℕ, Bool, true, false, if◌then◌else◌, Option, Some, None, refl, ◌∙◌}
 use Rattle.thy_base.specs.declared.cause.EndCause.{EndCause}
 use Rattle.thy_base.specs.declared.mix.Pick.{Pick}
@@ -16,57 +16,65 @@ use Rattle.thy_copy_model.specs.Cycle.{hart_next, run_next, phase_next, is_drain
 use Rattle.thy_copy_model.specs.Hart.{executed, performed}
 use Rattle.thy_copy_model.specs.Steps.{filled, loading_on, checkpoint_on, boot_next}
 
-either_geometry : (t : Bool) (a b m : Parts) → a.geometry ≡ m.geometry → b.geometry ≡ m.geometry → (if t then a else b).geometry ≡ m.geometry
-either_geometry true a b m ha hb = ha
-either_geometry false a b m ha hb = hb
+-- parts with the same geometry and DRAM
+pub record Keeps (next m : Parts) : Type 0 where
+  pub geometry : next.geometry ≡ m.geometry
+  pub dram : next.dram ≡ m.dram
 
-filled_geometry : (s : State) (issue : Issue) (m : Parts) → (filled s issue m).geometry ≡ m.geometry
-filled_geometry s (Memory i) m = refl
-filled_geometry s (RecordIssue k) m = refl
-filled_geometry s HeaderIssue m = refl
-filled_geometry s Settle m = refl
-filled_geometry s Commit m = refl
-filled_geometry s Finish m = refl
+keeps_both : (a b c : Parts) → Keeps a b → Keeps b c → Keeps a c
+keeps_both a b c h g = record { geometry = h.geometry ∙ g.geometry; dram = h.dram ∙ g.dram }
 
-loading_geometry : (epoch : ℕ) (issue : Issue) (next : Option Issue) (m : Parts) → (loading_on epoch issue next m).geometry ≡ m.geometry
-loading_geometry epoch issue (Some next) m = refl
-loading_geometry epoch issue None m = refl
+either_keeps : (t : Bool) (a b m : Parts) → Keeps a m → Keeps b m → Keeps (if t then a else b) m
+either_keeps true a b m ha hb = ha
+either_keeps false a b m ha hb = hb
 
-checkpoint_geometry : (epoch : ℕ) (issue : Issue) (next : Option Issue) (m : Parts) → (checkpoint_on epoch issue next m).geometry ≡ m.geometry
-checkpoint_geometry epoch issue (Some next) m = refl
-checkpoint_geometry epoch issue None m = refl
+filled_keeps : (s : State) (issue : Issue) (m : Parts) → Keeps (filled s issue m) m
+filled_keeps s (Memory i) m = record { geometry = refl; dram = refl }
+filled_keeps s (RecordIssue k) m = record { geometry = refl; dram = refl }
+filled_keeps s HeaderIssue m = record { geometry = refl; dram = refl }
+filled_keeps s Settle m = record { geometry = refl; dram = refl }
+filled_keeps s Commit m = record { geometry = refl; dram = refl }
+filled_keeps s Finish m = record { geometry = refl; dram = refl }
 
-hart_geometry : (input_len : ℕ) (over : Option EndCause) (m : Parts) → (hart_next input_len over m).geometry ≡ m.geometry
+loading_keeps : (epoch : ℕ) (issue : Issue) (next : Option Issue) (m : Parts) → Keeps (loading_on epoch issue next m) m
+loading_keeps epoch issue (Some next) m = record { geometry = refl; dram = refl }
+loading_keeps epoch issue None m = record { geometry = refl; dram = refl }
+
+checkpoint_keeps : (epoch : ℕ) (issue : Issue) (next : Option Issue) (m : Parts) → Keeps (checkpoint_on epoch issue next m) m
+checkpoint_keeps epoch issue (Some next) m = record { geometry = refl; dram = refl }
+checkpoint_keeps epoch issue None m = record { geometry = refl; dram = refl }
+
+hart_keeps : (input_len : ℕ) (over : Option EndCause) (m : Parts) → Keeps (hart_next input_len over m) m
 unfolding executed performed
-hart_geometry input_len None m = refl
-hart_geometry input_len (Some cause) m = refl
+hart_keeps input_len None m = record { geometry = refl; dram = refl }
+hart_keeps input_len (Some cause) m = record { geometry = refl; dram = refl }
 
-run_geometry : (input_len : ℕ) (stage : Stage) (m : Parts) → (run_next input_len stage m).geometry ≡ m.geometry
-run_geometry input_len (Writing epoch issue) m = checkpoint_geometry epoch issue (issue_after m.geometry epoch issue) m
-run_geometry input_len Unread m = hart_geometry input_len m.view.over m
-run_geometry input_len (Header epoch fault) m = hart_geometry input_len m.view.over m
-run_geometry input_len (Record epoch next) m = hart_geometry input_len m.view.over m
-run_geometry input_len (Restoring epoch next) m = hart_geometry input_len m.view.over m
-run_geometry input_len (Refused bad) m = hart_geometry input_len m.view.over m
-run_geometry input_len Idle m = hart_geometry input_len m.view.over m
+run_keeps : (input_len : ℕ) (stage : Stage) (m : Parts) → Keeps (run_next input_len stage m) m
+run_keeps input_len (Writing epoch issue) m = checkpoint_keeps epoch issue (issue_after m.geometry epoch issue) m
+run_keeps input_len Unread m = hart_keeps input_len m.view.over m
+run_keeps input_len (Header epoch fault) m = hart_keeps input_len m.view.over m
+run_keeps input_len (Record epoch next) m = hart_keeps input_len m.view.over m
+run_keeps input_len (Restoring epoch next) m = hart_keeps input_len m.view.over m
+run_keeps input_len (Refused bad) m = hart_keeps input_len m.view.over m
+run_keeps input_len Idle m = hart_keeps input_len m.view.over m
 
-boot_geometry : (s : State) (d : Device) (stage : Stage) (m : Parts) → (boot_next s d stage m).geometry ≡ m.geometry
-boot_geometry s d Unread m = either_geometry _ _ _ m refl refl
-boot_geometry s d (Header epoch fault) m = refl
-boot_geometry s d (Record epoch k) m = either_geometry _ _ _ m refl refl
-boot_geometry s d (Restoring epoch i) m = either_geometry _ _ _ m refl refl
-boot_geometry s d (Refused bad) m = refl
-boot_geometry s d (Writing epoch issue) m =
-    loading_geometry epoch issue (issue_after m.geometry epoch issue) (filled s issue m) ∙ filled_geometry s issue m
-boot_geometry s d Idle m = refl
+boot_keeps : (s : State) (d : Device) (stage : Stage) (m : Parts) → Keeps (boot_next s d stage m) m
+boot_keeps s d Unread m = either_keeps _ _ _ m record { geometry = refl; dram = refl } record { geometry = refl; dram = refl }
+boot_keeps s d (Header epoch fault) m = record { geometry = refl; dram = refl }
+boot_keeps s d (Record epoch k) m = either_keeps _ _ _ m record { geometry = refl; dram = refl } record { geometry = refl; dram = refl }
+boot_keeps s d (Restoring epoch i) m = either_keeps _ _ _ m record { geometry = refl; dram = refl } record { geometry = refl; dram = refl }
+boot_keeps s d (Refused bad) m = record { geometry = refl; dram = refl }
+boot_keeps s d (Writing epoch issue) m =
+    keeps_both _ (filled s issue m) m (loading_keeps epoch issue (issue_after m.geometry epoch issue) (filled s issue m)) (filled_keeps s issue m)
+boot_keeps s d Idle m = record { geometry = refl; dram = refl }
 
-phase_geometry : (s : State) (input_len : ℕ) (d : Device) (phase : Phase) (m : Parts) → (phase_next s input_len d phase m).geometry ≡ m.geometry
-phase_geometry s input_len d Boot m = boot_geometry s d m.stage m
-phase_geometry s input_len d Run m = run_geometry input_len m.stage m
-phase_geometry s input_len d Halt m = refl
+phase_keeps : (s : State) (input_len : ℕ) (d : Device) (phase : Phase) (m : Parts) → Keeps (phase_next s input_len d phase m) m
+phase_keeps s input_len d Boot m = boot_keeps s d m.stage m
+phase_keeps s input_len d Run m = run_keeps input_len m.stage m
+phase_keeps s input_len d Halt m = record { geometry = refl; dram = refl }
 
 -- one cycle
-pub cycle_geometry : (s : State) (input_len : ℕ) (d : Device) (pick : Pick) (queued : ℕ) (m : Parts)
-    → (cycle_next s input_len d pick queued m).geometry ≡ m.geometry
-cycle_geometry s input_len d pick queued m =
-    either_geometry (is_drain pick queued) m (phase_next s input_len d m.view.phase m) m refl (phase_geometry s input_len d m.view.phase m)
+pub cycle_keeps : (s : State) (input_len : ℕ) (d : Device) (pick : Pick) (queued : ℕ) (m : Parts)
+    → Keeps (cycle_next s input_len d pick queued m) m
+cycle_keeps s input_len d pick queued m =
+    either_keeps (is_drain pick queued) m (phase_next s input_len d m.view.phase m) m record { geometry = refl; dram = refl } (phase_keeps s input_len d m.view.phase m)

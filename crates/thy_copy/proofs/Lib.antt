@@ -5,6 +5,8 @@ pub mod RetireLemmas
 pub mod BelowLemmas
 pub mod GeometryLemmas
 pub mod SnapshotLemmas
+pub mod DidLemmas
+pub mod PowerLemmas
 pub mod MomentSteps
 pub mod LoadingLemmas
 pub mod ConsoleLemmas

@@ -1,5 +1,5 @@
 -- The exact step of a machine at a moment of a run is a sound one.
-use Rattle.std.proofs.Common.{◌≡◌, ℕ, ◌+◌, ◌^◌, ◌<◌, ◌≤◌, Option, length, sym, ◌∙◌, ap, subst, arith}
+use Rattle.std.proofs.Common.{◌≡◌, ℕ, ◌+◌, ◌^◌, ◌<◌, ◌≤◌, Option, Some, None, length, sym, ◌∙◌, ap, subst, arith}
 use Rattle.thy_base.specs.declared.mix.Pick.{Pick}
 use Rattle.thy_base.specs.Bytes.{bytes_of}
 use Rattle.thy_base.specs.Device.{Device, IsFramed}
@@ -13,15 +13,20 @@ use Rattle.thy_record.specs.declared.start.Start.{Start}
 use Rattle.thy_view.specs.declared.view.View.{View}
 use Rattle.thy_view.specs.Action.{Action, after, FailsTo}
 use Rattle.thy_copy_model.specs.Bounds.{IsBelow}
-use Rattle.thy_view.specs.Origin.{Begins, Origin, IsOrigin}
-use Rattle.thy_copy_model.specs.Calls.{IsAt, IsStep, has_read}
+use Rattle.thy_base.specs.declared.mark.Mark.{Mark}
+use Rattle.thy_view.specs.Origin.{Begins, Origin, StartsFrom, IsOrigin}
+use Rattle.thy_copy_model.specs.Calls.{IsAt, has_read}
+use Rattle.thy_copy_model.specs.Kind.{pressure_of, kind}
+use Rattle.thy_view.specs.Kind.{IsDramOf, IsStep}
+use Rattle.thy_copy.proofs.DidLemmas.{never_moved}
+use Rattle.thy_copy.proofs.GeometryLemmas.{cycle_keeps}
 use Rattle.thy_view.specs.Views.{halts}
 use Rattle.thy_view.specs.CoreStep.{CoreStep}
 use Rattle.thy_copy_model.specs.Cycle.{cycle_action, cycle_next, cycle_did, cycle_stall}
-use Rattle.thy_copy_model.specs.Moments.{Moment, Leads, IsSmall}
+use Rattle.thy_copy_model.specs.Moments.{Moment, Leads, first_epoch, IsSmall}
 use Rattle.thy_view.specs.Safe.{ceiling, Safe}
 use Rattle.thy_copy_model.specs.Sound.{view_of}
-use Rattle.thy_view.specs.Turn.{Turn}
+use Rattle.thy_view.specs.Turn.{Turn, Pressure}
 use Rattle.thy_copy_model.proofs.CycleLaws.{Safe-failed_cycle, Safe-failed_sealed}
 use Rattle.thy_copy_model.proofs.MomentLaws.{Leads-cycle}
 use Rattle.thy_copy_model.proofs.SafeLaws.{Safe-sound}
@@ -52,15 +57,22 @@ led o m n pick q next new r l next_is new_is did_is =
     let R : Did → Type 0 = λ d. Moment o next new × CoreStep o (view_of o m n) d (view_of o next new) in
     subst R (sym did_is) at_new
 
-turned : (pick : Pick) (q : ℕ) (v : View) (did d : Did) (stall t : Option Stall) → did ≡ d → stall ≡ t → Turn pick q 0 v d t → Turn pick q 0 v did stall
-turned pick q v did d stall t did_is stall_is h =
-    let P : Did → Type 0 = λ x. Turn pick q 0 v x t in
-    let Q : Option Stall → Type 0 = λ x. Turn pick q 0 v did x in
+turned : (o : Origin) (pick : Pick) (q : ℕ) (v : View) (p : Pressure) (did d : Did) (stall t : Option Stall) → did ≡ d → stall ≡ t → Turn o pick q v p d t → Turn o pick q v p did stall
+turned o pick q v p did d stall t did_is stall_is h =
+    let P : Did → Type 0 = λ x. Turn o pick q v p x t in
+    let Q : Option Stall → Type 0 = λ x. Turn o pick q v p did x in
     subst Q (sym stall_is) (subst P (sym did_is) h)
 
 -- what so many cycles can have reached is below the ceiling
-epoch_below : (o : Origin) (k : ℕ) (v : View) → IsSmall o k v → k < 2 ^ 62 → v.epoch < ceiling
-epoch_below o k v small few = let least : v.epoch ≤ k + 1 = small.epoch in omega arith
+first_below : (o : Origin) (kept : Option Mark) → StartsFrom kept o.start → first_epoch kept < 2 ^ 62
+first_below o None h = omega arith
+first_below o (Some m) h = h.1
+
+epoch_below : (o : Origin) (k : ℕ) (v : View) → IsOrigin o → IsSmall o k v → k < 2 ^ 62 → v.epoch < ceiling
+epoch_below o k v origin small few =
+    let least : v.epoch ≤ first_epoch o.kept + k + 1 = small.epoch in
+    let first : first_epoch o.kept < 2 ^ 62 = first_below o o.kept origin.starts in
+    omega arith
 
 count_below : (o : Origin) (k : ℕ) (v : View) → IsOrigin o → IsSmall o k v → k < 2 ^ 62 → v.count + 1 < ceiling
 count_below o k v origin small few =
@@ -76,43 +88,45 @@ more_below k v next counts below =
 
 -- a step that succeeded
 pub step_sound : (o : Origin) (k : ℕ) (start : Start) (pick : Pick) (m next : Parts) (n new : Device) (r : Stepped)
-    → Begins o m.geometry start → IsAt o k m n → k < 2 ^ 62
+    → Begins o start → IsAt o k m n → k < 2 ^ 62
     → next ≡ cycle_next (state_of start.state) (length (bytes_of start.input)) n pick (length n.queue) m
     → new ≡ after (cycle_action (state_of start.state) pick (length n.queue) m) n
     → r.did ≡ cycle_did pick (length n.queue) m next → r.stall ≡ cycle_stall pick (length n.queue) m → r.ended ≡ halts m.view next.view
     → ((top : ℕ) → 2 ^ 63 ≤ top → IsBelow top m.view → IsBelow (top + 1) next.view)
-    → IsStep o k pick m next n new r
+    → IsStep kind o k pick m next n new r
 step_sound o k start pick m next n new r begins at few next_is new_is did_is stall_is ended_is counts =
     let q : ℕ = length n.queue in
     let s : State = state_of start.state in
     let moment : Moment o m n = at.moment in
     let device : new ≡ after (cycle_action o.start pick q m) n = new_is ∙ ap (λ (a : Action). after a n) (same_action o s pick q m begins.state) in
     let there : next ≡ cycle_next o.start (length o.input) n pick q m = same_next o s (length (bytes_of start.input)) n pick q m next begins.state (ap length begins.input) next_is in
-    let leads = Leads-cycle o m n pick q moment (epoch_below o k (view_of o m n) at.small few) (count_below o k (view_of o m n) moment.sound.origin at.small few) in
+    let leads = Leads-cycle o m n pick q moment (epoch_below o k (view_of o m n) moment.sound.origin at.small few) (count_below o k (view_of o m n) moment.sound.origin at.small few) in
     let l = led o m n pick q next new r leads there device did_is in
     record {
       at_next = record {
         moment = l.0;
         small = IsSmall-step o k (view_of o m n) (view_of o next new) at.small r.did l.1;
         below = more_below k m.view next.view counts at.below;
+        dram = subst (IsDramOf o.geometry) (sym (ap (λ (x : Parts). x.dram) there ∙ (cycle_keeps o.start (length o.input) n pick q m).dram)) at.dram;
       };
       step = l.1;
-      turn = turned pick q (view_of o m n) r.did (cycle_did pick q m next) r.stall (cycle_stall pick q m) did_is stall_is
+      turn = turned o pick q (view_of o m n) (pressure_of m) r.did (cycle_did pick q m next) r.stall (cycle_stall pick q m) did_is stall_is
           (Turn-cycle o m n moment.sound pick q next);
+      exhausts = λ moved. absurd (never_moved pick q m next (sym did_is ∙ moved));
       ended = ended_is ∙ halts-view o m next n new moment.sound l.0.sound;
       safe = Safe-sound o next new l.0.sound;
       read = λ empty. ap has_read there ∙ has_read-cycle o m n moment.sound pick empty;
     }
 
 -- a step that failed
-pub step_safe : (o : Origin) (k : ℕ) (start : Start) (pick : Pick) (m : Parts) (n new : Device) → Begins o m.geometry start → IsAt o k m n
+pub step_safe : (o : Origin) (k : ℕ) (start : Start) (pick : Pick) (m : Parts) (n new : Device) → Begins o start → IsAt o k m n
     → FailsTo (cycle_action (state_of start.state) pick (length n.queue) m) n new → IsFramed n new → LeavesSafe o pick m n new
 step_safe o k start pick m n new begins at failed framed =
     let F : Action → Type 0 = λ a. FailsTo a n new in
     Safe-failed_cycle o m n at.moment.sound pick (length n.queue) new (subst F (same_action o (state_of start.state) pick (length n.queue) m begins.state) failed) framed
 
 -- and so, whatever the step was, for the sealed mark
-pub step_sealed : (o : Origin) (k : ℕ) (start : Start) (pick : Pick) (m : Parts) (n new : Device) → Begins o m.geometry start → IsAt o k m n
+pub step_sealed : (o : Origin) (k : ℕ) (start : Start) (pick : Pick) (m : Parts) (n new : Device) → Begins o start → IsAt o k m n
     → FailsTo (cycle_action (state_of start.state) pick (length n.queue) m) n new → IsFramed n new → Safe decode o (view_of o m n).done (view_of o m n).sealed new
 step_sealed o k start pick m n new begins at failed framed =
     let F : Action → Type 0 = λ a. FailsTo a n new in

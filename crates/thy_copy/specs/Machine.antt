@@ -46,13 +46,3 @@ LeavesSafe o pick m n new = Safe decode o (view_of o m n).done (cycle_doubt pick
 -- how long the console in the slot of an epoch is, at most what its pages hold
 abbrev pub stored_len : Parameters → ℕ → Device → ℕ
 stored_len p epoch n = min (word_of (newest n (record_place p epoch 4)) 2) (console_room p)
-
--- a state is the plain machine's at a view's count
-pub record IsSnapshot (o : Origin) (v : View) (s : MachState) : Type 0 where
-  pub state : state_of s ≡ at o v.count
-  pub count : s.count ≡ v.count
-
--- after a call that was to read the device: it failed, or memory ran out and the device is as it was
-abbrev pub HasFailedToRead : CoreError → Device → Device → Type 0
-HasFailedToRead Nvm old new = HasFailed old new × RoseFaults old.faults new.faults
-HasFailedToRead (Memory e) old new = new ≡ old

@@ -17,10 +17,11 @@ ghost use Rattle.thy_view.specs.Kind.{HasFailedToRead};
 
 use crate::Machine;
 use crate::engine::{memory_place, record_place};
-use crate::image::{CoreError, part};
+use crate::image::part;
 use std::alloc::Global;
 use thy_base::{Bytes, Geometry, Nvm};
 use thy_record::word;
+use thy_view::CoreError;
 
 impl Machine {
     /// Once the boot is over, the console of the committed checkpoint from byte `from` on, none while

@@ -17,37 +17,7 @@ use std::alloc::{AllocError, Global};
 use thy_base::{Block, Bytes, Nvm, NvmError};
 use thy_isa::MachState;
 use thy_copy_model::Parts;
-
-/// Why the machine could not be read.
-#[derive(Clone, Copy, Debug, PartialEq, Eq)]
-pub enum CoreError {
-    /// The NVM failed.
-    Nvm,
-    /// Memory ran out.
-    Memory(AllocError),
-}
-
-impl From<AllocError> for CoreError {
-    ghost use Rattle.std.specs.Prelude.{◌≡◌};
-    ghost use Rattle.thy_view.specs.declared.error.CoreError.TheVariants.{Memory};
-
-    ghost from_gives = { λ a e. e ≡ Memory a };
-
-    fn from(error: AllocError) -> Self {
-        CoreError::Memory(error)
-    }
-}
-
-impl From<NvmError> for CoreError {
-    ghost use Rattle.std.specs.Prelude.{◌≡◌};
-    ghost use Rattle.thy_view.specs.declared.error.CoreError.TheVariants.{Nvm};
-
-    ghost from_gives = { λ _ e. e ≡ Nvm };
-
-    fn from(_: NvmError) -> Self {
-        CoreError::Nvm
-    }
-}
+use thy_view::CoreError;
 
 /// The bytes of blocks, one after the other.
 fn gathered(alloc: Global, blocks: &[Block]) -> Result<Bytes, AllocError>

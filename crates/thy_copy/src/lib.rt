@@ -1,8 +1,9 @@
-//! The machine: a hart that executes, and an engine that writes checkpoints, one action a cycle.
+//! The machine that copies all of memory at each checkpoint: a hart that executes, and an engine that writes checkpoints, one action a cycle.
 #![tactic(auto)]
 
 mod boot;
 mod boots;
+mod computer;
 mod console;
 mod cycle;
 mod engine;
@@ -12,5 +13,4 @@ mod loading;
 mod machine;
 mod turns;
 
-pub use image::CoreError;
 pub use machine::Machine;

@@ -3,13 +3,16 @@ ghost use Rattle.std.specs.Prelude.{◌≡◌, ◌<◌, ◌≤◌, ◌+◌, ◌-
 ghost use Rattle.thy_base.specs.Bytes.{bytes_of};
 ghost use Rattle.thy_base.specs.Device.{Device, IsFramed, CountsFault, zero_block};
 ghost use Rattle.thy_base.specs.Geometry.{blocks_of, memory_blocks};
+ghost use Rattle.thy_dram.specs.Contents.{lost};
 ghost use Rattle.thy_isa.specs.Step.{state_of};
 ghost use Rattle.thy_record.specs.Decode.{decode};
 ghost use Rattle.thy_view.specs.declared.view.Phase.TheVariants.{Boot as BootPhase, Halt as HaltPhase};
 ghost use Rattle.thy_view.specs.Action.{after, FailsTo};
 ghost use Rattle.thy_view.specs.Booting.{boot_view};
 ghost use Rattle.thy_copy_model.specs.Bounds.{IsBelow};
-ghost use Rattle.thy_copy_model.specs.Calls.{made_for, IsAt, CanStep, IsStep, has_read};
+ghost use Rattle.thy_copy_model.specs.Calls.{IsAt, CanStep, has_read};
+ghost use Rattle.thy_copy_model.specs.Kind.{kind};
+ghost use Rattle.thy_view.specs.Kind.{IsStep, IsDramOf};
 ghost use Rattle.thy_view.specs.Origin.{Begins, Origin};
 ghost use Rattle.thy_view.specs.Views.{is_halt, halts, loads};
 ghost use Rattle.thy_copy_model.specs.Cycle.{cycle_action, cycle_next, cycle_did, cycle_stall};
@@ -23,13 +26,14 @@ use crate::cycle::cycle;
 use std::alloc::{AllocError, Global};
 use std::marker::Model;
 use thy_base::{Block, Geometry, Nvm, NvmError, Pick};
+use thy_dram::Dram;
 use thy_isa::{CpuState, Regs, Status};
 use thy_copy_model::{Memory, Parts, Stage};
 use thy_record::Start;
 use thy_view::{Phase, Stepped};
 
 /// A hart with its memory and a checkpoint engine over an NVM. One step is one cycle.
-#[derive(Debug, Drop)]
+#[derive(Drop)]
 pub struct Machine {
     parts: Parts,
 }
@@ -48,7 +52,8 @@ impl Model for Machine {
 
 impl Machine {
     /// A machine whose power has just come on. Its memory holds zeros until the boot has filled it.
-    pub fn power_on(alloc: Global, geometry: &Geometry) -> Result<Machine, AllocError>
+    pub fn power_on(alloc: Global, geometry: &Geometry, dram: Dram) -> Result<Machine, AllocError>
+        requires { IsDramOf geometry.now dram }
         ensures { IfOk result (λ m. IsPoweredOn geometry.now m) }
     {
         let count = geometry.memory_blocks() as usize;
@@ -62,6 +67,7 @@ impl Machine {
                 view: boot_view(None, None),
                 stage: Stage::Unread,
                 failed: false,
+                dram,
             },
         })
     }
@@ -78,9 +84,9 @@ impl Machine {
     ) -> Result<Stepped, NvmError>
         requires { CanStep start.now self.old (N.device nvm.old) }
         // A step from a moment of a run leads to the next one, and one that fails leaves the device safe.
-        ensures sound { (o : Origin) (k : ℕ) → Begins o (made_for self.old) start.now → IsAt o k self.old (N.device nvm.old) → k < 2 ^ 62 → IfOk result (λ r. IsStep o k pick self.old self.new (N.device nvm.old) (N.device nvm.new) r) }
-        ensures safe { (o : Origin) (k : ℕ) → Begins o (made_for self.old) start.now → IsAt o k self.old (N.device nvm.old) → OnErr result (LeavesSafe o pick self.old (N.device nvm.old) (N.device nvm.new)) }
-        ensures at_failure { (o : Origin) (k : ℕ) → Begins o (made_for self.old) start.now → IsAt o k self.old (N.device nvm.old) → OnErr result (Safe decode o (view_of o self.old (N.device nvm.old)).done (view_of o self.old (N.device nvm.old)).sealed (N.device nvm.new)) }
+        ensures sound { (o : Origin) (k : ℕ) → Begins o start.now → IsAt o k self.old (N.device nvm.old) → k < 2 ^ 62 → IfOk result (λ r. IsStep kind o k pick self.old self.new (N.device nvm.old) (N.device nvm.new) r) }
+        ensures safe { (o : Origin) (k : ℕ) → Begins o start.now → IsAt o k self.old (N.device nvm.old) → OnErr result (LeavesSafe o pick self.old (N.device nvm.old) (N.device nvm.new)) }
+        ensures at_failure { (o : Origin) (k : ℕ) → Begins o start.now → IsAt o k self.old (N.device nvm.old) → OnErr result (Safe decode o (view_of o self.old (N.device nvm.old)).done (view_of o self.old (N.device nvm.old)).sealed (N.device nvm.new)) }
 
         // What it does exactly.
         ensures parts { OnOk result (self.new ≡ cycle_next (state_of start.now.state) (length (bytes_of start.now.input)) (N.device nvm.old) pick (length (N.device nvm.old).queue) self.old) }
@@ -123,6 +129,15 @@ impl Machine {
         ensures parts { result ≡ is_loading self.now.view.phase self.now.stage }
     {
         is_loading(self.parts.view.phase, self.parts.stage)
+    }
+
+    /// Loses power: all is gone but the DRAM, whose bytes are those that the pick draws.
+    pub fn cut(self, pick: u64) -> Dram
+        ensures { result ≡ lost self.dram pick }
+    {
+        let mut dram = self.parts.dram;
+        dram.cut(pick);
+        dram
     }
 
     /// Whether a step has failed.

@@ -11,7 +11,9 @@ use Rattle.thy_copy_model.specs.declared.parts.Parts.{Parts}
 use Rattle.thy_isa.specs.declared.state.Status.TheVariants.{Running}
 use Rattle.thy_copy_model.specs.declared.stage.Stage.TheVariants.{Unread}
 use Rattle.thy_record.specs.declared.start.Start.{Start}
+use Rattle.thy_dram.specs.Contents.{fresh}
 use Rattle.thy_view.specs.declared.view.View.{View}
+use Rattle.thy_view.specs.Kind.{dram_blocks}
 use Rattle.thy_view.specs.Booting.{boot_view}
 use Rattle.thy_copy_model.specs.Bounds.{IsStart, IsBelow}
 use Rattle.thy_copy_model.specs.Calls.{Core, made_for, IsAt}
@@ -69,6 +71,7 @@ IsAt-fresh = λ o m shape start n origin on fit.
         moment = Moment-fresh o m shape start n origin new fit;
         small = subst (IsSmall o 0) (sym seen) (IsSmall-first o);
         below = IsBelow-powered_on o m (2 ^ 63 + 0) on;
+        dram = on.dram;
       },
       seen,
     )
@@ -83,6 +86,7 @@ some_machine p = record {
   view = boot_view None None;
   stage = Unread;
   failed = false;
+  dram = fresh (dram_blocks p) p.dramq;
 }
 
 is_powered_on : (p : Parameters) → IsPoweredOn p (some_machine p)
@@ -95,6 +99,7 @@ is_powered_on p = record {
   view = refl;
   stage = refl;
   failed = refl;
+  dram = record { blocks = length-replicate (dram_blocks p) zero_block; room = refl; empty = refl };
 }
 
 -- so there is a machine whose power has just come on
@@ -109,6 +114,7 @@ IsAt-cut = λ o k m next n g at on crash.
         moment = Moment-power_cut o m next n g at.moment new crash;
         small = IsSmall-cut o (view_of o m n) (view_of o next (cut_to n g)) k at.small (Finds-power_cut o m next n g at.moment new crash);
         below = IsBelow-powered_on o next (2 ^ 63 + k) on;
+        dram = on.dram;
       },
       view-unread o next (cut_to n g) on.stage,
     )

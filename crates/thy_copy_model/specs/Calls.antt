@@ -19,6 +19,7 @@ use Rattle.thy_view.specs.declared.view.View.{View}
 use Rattle.thy_copy_model.specs.Bounds.{IsStart, IsBelow}
 use Rattle.thy_view.specs.CoreStep.{CoreStep}
 use Rattle.thy_copy_model.specs.Moments.{Moment, IsSmall}
+use Rattle.thy_view.specs.Kind.{IsDramOf}
 use Rattle.thy_view.specs.Origin.{Origin}
 use Rattle.thy_view.specs.Safe.{Safe}
 use Rattle.thy_copy_model.specs.Sound.{view_of}
@@ -38,6 +39,7 @@ pub record IsAt (o : Origin) (k : ℕ) (m : Core) (n : Device) : Type 0 where
   pub moment : Moment o m n
   pub small : IsSmall o k (view_of o m n)
   pub below : IsBelow (2 ^ 63 + k) m.view
+  pub dram : IsDramOf o.geometry m.dram
 
 -- what a step asks for
 pub record CanStep (start : Start) (m : Core) (n : Device) : Type 0 where

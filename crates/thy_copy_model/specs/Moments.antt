@@ -12,6 +12,7 @@ use Rattle.thy_base.specs.declared.mark.Mark.{Mark}
 use Rattle.thy_view.specs.declared.view.Phase.TheVariants.{Boot}
 use Rattle.thy_view.specs.declared.view.View.{View}
 use Rattle.thy_view.specs.Action.{after}
+use Rattle.thy_view.specs.Kind.{IsDramOf}
 use Rattle.thy_view.specs.Booting.{boot_view, loading_view}
 use Rattle.thy_copy_model.specs.Bounds.{IsBounded}
 use Rattle.thy_view.specs.CoreStep.{CoreStep}
@@ -38,6 +39,7 @@ pub record IsPoweredOn (p : Parameters) (m : Parts) : Type 0 where
   pub view : m.view ≡ boot_view None None
   pub stage : m.stage ≡ Unread
   pub failed : m.failed ≡ false
+  pub dram : IsDramOf p m.dram
 
 -- what a run needs of a machine whose power has just come on
 pub record IsNew (o : Origin) (m : Parts) : Type 0 where

@@ -2,11 +2,12 @@
 
 use crate::{Memory, Stage};
 use thy_base::{Block, Geometry};
+use thy_dram::Dram;
 use thy_isa::CpuState;
 use thy_view::View;
 
 /// The machine's parts. The layers above see its view alone.
-#[derive(Debug, Drop)]
+#[derive(Drop)]
 pub struct Parts {
     pub geometry: Geometry,
     /// All of memory, the console's pages included.
@@ -20,4 +21,6 @@ pub struct Parts {
     pub stage: Stage,
     /// A step has failed.
     pub failed: bool,
+    /// What the machine was handed when its power came on. It has no use for it.
+    pub dram: Dram,
 }

@@ -8,7 +8,7 @@ use Rattle.thy_copy_model.specs.Bounds.{IsBelow}
 use Rattle.thy_view.specs.Views.{halts}
 use Rattle.thy_copy_model.specs.Cycle.{cycle_action, cycle_next, cycle_did, cycle_stall}
 use Rattle.thy_copy.proofs.BelowLemmas.{cycle_below}
-use Rattle.thy_copy.proofs.GeometryLemmas.{cycle_geometry}
+use Rattle.thy_copy.proofs.GeometryLemmas.{cycle_keeps}
 use Rattle.thy_copy.proofs.MomentSteps.{step_sound, step_safe, step_sealed}
 use Rattle.thy_copy.proofs.machine.Machine.step.Goals as goal
 
@@ -21,8 +21,8 @@ returns-in-Ok-clause-counts g c = λ n big below.
 pub returns-in-Ok-clause-geometry : goal.returns-in-Ok-clause-geometry
 returns-in-Ok-clause-geometry g c =
     ap (λ (m : Parts). m.geometry) c.in-Ok.ensures.parts
-    ∙ cycle_geometry (state_of c.args.start.now.state) (length (bytes_of c.args.start.now.input)) (g.N.Nvm.device c.args.nvm.now) c.args.pick
-    (length (g.N.Nvm.device c.args.nvm.now).queue) c.self.inside.parts
+    ∙ (cycle_keeps (state_of c.args.start.now.state) (length (bytes_of c.args.start.now.input)) (g.N.Nvm.device c.args.nvm.now) c.args.pick
+    (length (g.N.Nvm.device c.args.nvm.now).queue) c.self.inside.parts).geometry
     ∙ ap (λ (m : Parts). m.geometry) c.self.view_is
 
 pub returns-in-Ok-clause-sound : goal.returns-in-Ok-clause-sound
