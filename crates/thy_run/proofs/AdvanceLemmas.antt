@@ -8,22 +8,17 @@ use Rattle.thy_base.specs.Device.{Device, IsFramed, RoseFaults, cut_to}
 use Rattle.thy_base.specs.Mix.{mix_next}
 use Rattle.thy_isa.specs.declared.state.Status.{Status}
 use Rattle.thy_record.specs.Decoded.{Decoded, Nothing as NothingLeft, Refused as RefusedImage, At}
-use Rattle.thy_record.specs.Decode.{decode}
 use Rattle.thy_text.specs.Happening.{Happening, EpochEnd, Commit, Cut, Restart, Reload, Ended as EndedEvent}
 use Rattle.thy_view.specs.declared.did.Did.{Did}
 use Rattle.thy_view.specs.declared.did.Stepped.{Stepped}
 use Rattle.thy_view.specs.declared.view.View.{View}
 use Rattle.thy_view.specs.Booting.{view_of_image}
-use Rattle.thy_base.specs.Geometry.{blocks_of}
-use Rattle.thy_copy_model.specs.Calls.{Core, made_for, IsAt, CanStep}
 use Rattle.thy_view.specs.Origin.{Begins, Origin, at}
 use Rattle.thy_view.specs.Views.{is_halt, halts, loads}
 use Rattle.thy_view.specs.Safe.{ceiling}
-use Rattle.thy_copy_model.specs.Sound.{view_of}
-use Rattle.thy_copy_model.proofs.CallLaws.{IsAt-cut, CanStep-at, geometry-at}
 use Rattle.thy_view.specs.declared.error.CoreError.{CoreError}
 use Rattle.thy_view.specs.declared.error.CoreError.TheVariants.{Nvm as NvmFailed, Memory as NoMemory}
-use Rattle.thy_view.specs.Kind.{HasFailedToRead}
+use Rattle.thy_view.specs.Kind.{HasFailedToRead, KindOf, IsLawful}
 use Rattle.thy_run.specs.Laws.{released_of}
 use Rattle.thy_run.specs.Cuts.{is_end, has_ended}
 use Rattle.thy_run.specs.Due.{due_of}
@@ -39,14 +34,14 @@ use Rattle.thy_run.specs.Going.{origin_of, given_of, world_at, IsPlanned, GoesOn
 use Rattle.thy_run.specs.Stopping.{stop_of}
 
 -- the progress after a step of the machine
-pub progress_stepped : (p : Progress) (m : Core) (mix : Mix) → mix ≡ mix_next p.mix
+pub progress_stepped : {M : Type 0} → (p : Progress M) (m : M) (mix : Mix) → mix ≡ mix_next p.mix
     → record { machine = m; mix = mix; events = p.events; passed = p.passed; released = p.released; fresh = p.fresh; mute = p.mute; deaf = p.deaf } ≡ record p { machine = m; mix = mix_next p.mix }
 progress_stepped p m mix is = ap (λ x. record p { machine = m; mix = x }) is
 
 -- what holds of a run that goes on
-pub good_of : (plan : Plan) (fitted : Device) (p : Progress) (n : Device) (k : ℕ) → IsPlanned plan → GoesOn plan fitted p n k → Good (origin_of plan) plan.config.cuts (world_at p n k)
-good_of plan fitted p n k planned g =
-    Good-ran (origin_of plan) (given_of plan fitted) k (world_at p n k) planned.origin.geometry.epoch_least planned.rising g.ran
+pub good_of : {M : Type 0} (K : KindOf M) → (plan : Plan) (fitted : Device) (p : Progress M) (n : Device) (k : ℕ) → IsPlanned plan → GoesOn K plan fitted p n k → Good K (origin_of plan) plan.config.cuts (world_at p n k)
+good_of {M = M} K plan fitted p n k planned g =
+    Good-ran K (origin_of plan) (given_of plan fitted) k (world_at p n k) planned.origin.geometry.epoch_least planned.rising g.ran
 
 -- a boot's phase does not halt
 image_going : (count : ℕ) (d : Decoded) → is_halt (view_of_image count d).phase ≡ false
@@ -90,32 +85,32 @@ end_of-events o fresh v did next cycle halt =
     ∙ or_from (has_ended (reload_told fresh next)) (has_ended (told o did cycle)) (reload_uncut (fresh && loads next)).1 (told_uncut o did cycle).1)
     ∙ ap (λ b. end_of (if b then EndedEvent (at o next.count).status next.count cycle (at o next.count) ∷ [] else [])) halt
 
-module _ (plan : Plan) (p q : Progress) (n m : Device) (k : ℕ) (ended : Option Status) (bytes : List ℕ) (noted : IsNoted plan p q n m k ended bytes) where
+module _ {M : Type 0} (K : KindOf M) (laws : IsLawful K) (plan : Plan) (p q : Progress M) (n m : Device) (k : ℕ) (ended : Option Status) (bytes : List ℕ) (noted : IsNoted K plan p q n m k ended bytes) where
   abbrev o : Origin
   o = origin_of plan
 
-  abbrev w : World
+  abbrev w : World M
   w = world_at p n k
 
-  abbrev x : World
+  abbrev x : World M
   x = world_at q m (k + 1)
 
   abbrev es : List Happening
-  es = events_of (origin_of plan) p.fresh (seen (origin_of plan) (world_at p n k)) noted.steps.r.did (seen (origin_of plan) (world_at q m (k + 1))) (k + 1)
+  es = events_of (origin_of plan) p.fresh (seen K (origin_of plan) (world_at p n k)) noted.steps.r.did (seen K (origin_of plan) (world_at q m (k + 1))) (k + 1)
 
-  told_all : q.events ≡ p.events ++ events_of (origin_of plan) p.fresh (seen (origin_of plan) (world_at p n k)) noted.steps.r.did (seen (origin_of plan) (world_at q m (k + 1))) (k + 1)
-  told_all = ap (λ (y : World). y.events) noted.steps.next_is
+  told_all : q.events ≡ p.events ++ events_of (origin_of plan) p.fresh (seen K (origin_of plan) (world_at p n k)) noted.steps.r.did (seen K (origin_of plan) (world_at q m (k + 1))) (k + 1)
+  told_all = ap (λ (y : World M). y.events) noted.steps.next_is
 
   passed_same : q.passed ≡ p.passed
-  passed_same = ap (λ (y : World). y.passed) noted.steps.next_is
+  passed_same = ap (λ (y : World M). y.passed) noted.steps.next_is
 
   -- a cycle with no cut
-  done_uncut : is_due (origin_of plan) plan.config.cuts (world_at q m (k + 1)) ≡ false → IsDone plan p q n m k bytes
+  done_uncut : is_due K (origin_of plan) plan.config.cuts (world_at q m (k + 1)) ≡ false → IsDone K plan p q n m k bytes
   done_uncut due = record {
     cycle = record {
       between = world_at q m (k + 1);
       steps = noted.steps;
-      cut = subst (λ b. MatchBool b (IsCutOff (origin_of plan) (world_at q m (k + 1)) (world_at q m (k + 1))) (world_at q m (k + 1) ≡ world_at q m (k + 1))) (sym due) refl;
+      cut = subst (λ b. MatchBool b (IsCutOff K (origin_of plan) (world_at q m (k + 1)) (world_at q m (k + 1))) (world_at q m (k + 1) ≡ world_at q m (k + 1))) (sym due) refl;
     };
     released = noted.released;
     releases = noted.releases;
@@ -127,81 +122,81 @@ module _ (plan : Plan) (p q : Progress) (n m : Device) (k : ℕ) (ended : Option
   }
 
   -- the step ended the run
-  pub done_ended : (fitted : Device) (status : Status) → IsPlanned plan → GoesOn plan fitted p n k → ended ≡ Some status
-      → IsDone plan p q n m k bytes × (is_halt (seen (origin_of plan) (world_at q m (k + 1))).phase ≡ true) × (end_of q.events ≡ Some status)
+  pub done_ended : (fitted : Device) (status : Status) → IsPlanned plan → GoesOn K plan fitted p n k → ended ≡ Some status
+      → IsDone K plan p q n m k bytes × (is_halt (seen K (origin_of plan) (world_at q m (k + 1))).phase ≡ true) × (end_of q.events ≡ Some status)
   done_ended fitted status planned g is =
-      let v : View = seen (origin_of plan) (world_at p n k) in
-      let next : View = seen (origin_of plan) (world_at q m (k + 1)) in
+      let v : View = seen K (origin_of plan) (world_at p n k) in
+      let next : View = seen K (origin_of plan) (world_at q m (k + 1)) in
       let end : IsEnd (origin_of plan) v next (Some status) = subst (IsEnd (origin_of plan) v next) is noted.is_end in
       let halt : is_halt next.phase ≡ true = halted_next (is_halt v.phase) (is_halt next.phase) end.0 in
-      let before : has_ended p.events ≡ false = (good_of plan fitted p n k planned g).stands.ended ∙ g.going in
+      let before : has_ended p.events ≡ false = (good_of K plan fitted p n k planned g).stands.ended ∙ g.going in
       let said : end_of q.events ≡ Some status =
       ap end_of told_all ∙ end_of-append p.events _ before ∙ end_of-events (origin_of plan) p.fresh v noted.steps.r.did next (k + 1) end.0 ∙ ap Some (sym end.1) in
       (done_uncut (halted_due (is_halt next.phase) _ halt), halt, said)
 
-  going_on : ended ≡ None → is_halt (seen (origin_of plan) (world_at q m (k + 1))).phase ≡ false
+  going_on : ended ≡ None → is_halt (seen K (origin_of plan) (world_at q m (k + 1))).phase ≡ false
   going_on is =
-      let v : View = seen (origin_of plan) (world_at p n k) in
-      let next : View = seen (origin_of plan) (world_at q m (k + 1)) in
+      let v : View = seen K (origin_of plan) (world_at p n k) in
+      let next : View = seen K (origin_of plan) (world_at q m (k + 1)) in
       let end : IsEnd (origin_of plan) v next None = subst (IsEnd (origin_of plan) v next) is noted.is_end in
       going_next (is_halt v.phase) (is_halt next.phase) noted.steps.going end
 
   -- the run goes on, and no cut is due
   pub done_going : ended ≡ None → (cycle : ℕ) → cycle ≡ k + 1 → (nat_lt q.passed (length plan.config.cuts) && slice_index plan.config.cuts q.passed == cycle) ≡ false
-      → IsDone plan p q n m k bytes × (is_halt (seen (origin_of plan) (world_at q m (k + 1))).phase ≡ false)
+      → IsDone K plan p q n m k bytes × (is_halt (seen K (origin_of plan) (world_at q m (k + 1))).phase ≡ false)
   done_going is cycle at_cycle due =
-      let next : View = seen (origin_of plan) (world_at q m (k + 1)) in
+      let next : View = seen K (origin_of plan) (world_at q m (k + 1)) in
       let due_now : (nat_lt q.passed (length plan.config.cuts) && slice_index plan.config.cuts q.passed == k + 1) ≡ false =
       subst (λ c. (nat_lt q.passed (length plan.config.cuts) && slice_index plan.config.cuts q.passed == c) ≡ false) at_cycle due in
       (done_uncut (going_due (is_halt next.phase) _ (going_on is) due_now), going_on is)
 
   -- a cut was due, and fell
-  pub done_cut : (q' : Progress) (m' : Device) → ended ≡ None → (cycle : ℕ) → cycle ≡ k + 1
-      → (nat_lt q.passed (length plan.config.cuts) && slice_index plan.config.cuts q.passed == cycle) ≡ true → IsCutOffTo plan q q' m m' cycle
-      → IsDone plan p q' n m' k bytes × (is_halt (seen (origin_of plan) (world_at q' m' (k + 1))).phase ≡ false)
+  pub done_cut : (q' : Progress M) (m' : Device) → ended ≡ None → (cycle : ℕ) → cycle ≡ k + 1
+      → (nat_lt q.passed (length plan.config.cuts) && slice_index plan.config.cuts q.passed == cycle) ≡ true → IsCutOffTo K plan q q' m m' cycle
+      → IsDone K plan p q' n m' k bytes × (is_halt (seen K (origin_of plan) (world_at q' m' (k + 1))).phase ≡ false)
   done_cut q' m' is cycle at_cycle due cut =
-      let next : View = seen (origin_of plan) (world_at q m (k + 1)) in
+      let next : View = seen K (origin_of plan) (world_at q m (k + 1)) in
       let due_now : (nat_lt q.passed (length plan.config.cuts) && slice_index plan.config.cuts q.passed == k + 1) ≡ true =
       subst (λ c. (nat_lt q.passed (length plan.config.cuts) && slice_index plan.config.cuts q.passed == c) ≡ true) at_cycle due in
-      let is_cut : is_due (origin_of plan) plan.config.cuts (world_at q m (k + 1)) ≡ true = due_both (is_halt next.phase) _ (going_on is) due_now in
-      let law = IsAt-cut (origin_of plan) (k + 1) q.machine q'.machine m m'.image noted.steps.is_step.at_next cut.powered cut.cut.crash in
+      let is_cut : is_due K (origin_of plan) plan.config.cuts (world_at q m (k + 1)) ≡ true = due_both (is_halt next.phase) _ (going_on is) due_now in
+      let law = laws.recovers (origin_of plan) (k + 1) q.machine q'.machine m m'.image noted.steps.is_step.at_next cut.powered cut.cut.crash in
       let device : m' ≡ cut_to m m'.image = cut.cut.device in
-      let found : seen (origin_of plan) (world_at q' m' (k + 1)) ≡ view_of_image (origin_of plan).start.count (decode (origin_of plan).geometry ceiling m'.image) =
-      ap (λ d. view_of (origin_of plan) q'.machine d) device ∙ law.1 in
-      let off : IsCutOff (origin_of plan) (world_at q m (k + 1)) (world_at q' m' (k + 1)) = record {
+      let found : seen K (origin_of plan) (world_at q' m' (k + 1)) ≡ view_of_image (origin_of plan).start.count (K.decode (origin_of plan).geometry ceiling m'.image) =
+      ap (λ d. K.view (origin_of plan) q'.machine d) device ∙ law.1 in
+      let off : IsCutOff K (origin_of plan) (world_at q m (k + 1)) (world_at q' m' (k + 1)) = record {
         cut = cut.cut;
         powered = cut.powered;
-        at_moment = subst (λ d. IsAt (origin_of plan) (k + 1) q'.machine d) (sym device) law.0;
+        at_moment = subst (λ d. K.is_at (origin_of plan) (k + 1) q'.machine d) (sym device) law.0;
         found = found;
-        next_is = ap (λ (y : Progress). world_at y m' (k + 1)) cut.same
+        next_is = ap (λ (y : Progress M). world_at y m' (k + 1)) cut.same
             ∙ ap (λ c. world_at (record q { machine = q'.machine; passed = q.passed + 1; fresh = true; events = q.events ++ Cut (q.passed + 1) c ∷ [] }) m' (k + 1)) at_cycle;
       } in
-      let events : q'.events ≡ q.events ++ Cut (q.passed + 1) cycle ∷ [] = ap (λ (y : Progress). y.events) cut.same in
+      let events : q'.events ≡ q.events ++ Cut (q.passed + 1) cycle ∷ [] = ap (λ (y : Progress M). y.events) cut.same in
       let releases : released_of (origin_of plan) q'.events ≡ released_of (origin_of plan) q.events = ap (released_of (origin_of plan)) events ∙ released-cut (origin_of plan) q.events (q.passed + 1) cycle in (
         record {
           cycle = record {
             between = world_at q m (k + 1);
             steps = noted.steps;
-            cut = subst (λ b. MatchBool b (IsCutOff (origin_of plan) (world_at q m (k + 1)) (world_at q' m' (k + 1))) (world_at q' m' (k + 1) ≡ world_at q m (k + 1))) (sym is_cut) off;
+            cut = subst (λ b. MatchBool b (IsCutOff K (origin_of plan) (world_at q m (k + 1)) (world_at q' m' (k + 1))) (world_at q' m' (k + 1) ≡ world_at q m (k + 1))) (sym is_cut) off;
           };
-          released = ap (λ (y : Progress). y.released) cut.same ∙ noted.released ∙ ap length (sym releases);
+          released = ap (λ (y : Progress M). y.released) cut.same ∙ noted.released ∙ ap length (sym releases);
           releases = releases ∙ noted.releases;
           told = (_, events ∙ ap (λ (l : List Happening). l ++ Cut (q.passed + 1) cycle ∷ []) told_all ∙ append_assoc p.events _ (Cut (q.passed + 1) cycle ∷ []));
           room = ap (λ (d : Device). d.left_room) device ∙ noted.steps.framed.left_room;
           calm = ap (λ (d : Device). d.faults) device ∙ noted.calm;
-          spoken = ap (λ (y : Progress). y.mute) cut.same ∙ noted.spoken;
-          heard = ap (λ (y : Progress). y.deaf) cut.same ∙ noted.heard;
+          spoken = ap (λ (y : Progress M). y.mute) cut.same ∙ noted.spoken;
+          heard = ap (λ (y : Progress M). y.deaf) cut.same ∙ noted.heard;
         },
-        ap (λ v. is_halt v.phase) found ∙ image_going (origin_of plan).start.count (decode (origin_of plan).geometry ceiling m'.image),
+        ap (λ v. is_halt v.phase) found ∙ image_going (origin_of plan).start.count (K.decode (origin_of plan).geometry ceiling m'.image),
       )
 
   -- a cut was due, and memory was short for it
-  pub broken_cut : (q' : Progress) (m' : Device) → ended ≡ None → q' ≡ q → m' ≡ m → IsBroken plan p q' n m' k bytes
+  pub broken_cut : (q' : Progress M) (m' : Device) → ended ≡ None → q' ≡ q → m' ≡ m → IsBroken K plan p q' n m' k bytes
   broken_cut q' m' is same device =
-      let v : View = seen (origin_of plan) (world_at p n k) in
-      let next : View = seen (origin_of plan) (world_at q m (k + 1)) in
+      let v : View = seen K (origin_of plan) (world_at p n k) in
+      let next : View = seen K (origin_of plan) (world_at q m (k + 1)) in
       let end : IsEnd (origin_of plan) v next None = subst (IsEnd (origin_of plan) v next) is noted.is_end in
-      let here : IsBroken plan p q n m k bytes = record {
+      let here : IsBroken K plan p q n m k bytes = record {
         unfinished = inr (record {
           next = world_at q m (k + 1);
           steps = noted.steps;
@@ -218,90 +213,90 @@ module _ (plan : Plan) (p q : Progress) (n m : Device) (k : ℕ) (ended : Option
         spoken = noted.spoken;
         heard = noted.heard;
       } in
-      subst (λ (y : Progress). IsBroken plan p y n m' k bytes) (sym same) (subst (λ (d : Device). IsBroken plan p q n d k bytes) (sym device) here)
+      subst (λ (y : Progress M). IsBroken K plan p y n m' k bytes) (sym same) (subst (λ (d : Device). IsBroken K plan p q n d k bytes) (sym device) here)
 
   -- there is room for the image of a cut
-  pub cut_room : (fitted : Device) (cycle : ℕ) → IsPlanned plan → GoesOn plan fitted p n k
+  pub cut_room : (fitted : Device) (cycle : ℕ) → IsPlanned plan → GoesOn K plan fitted p n k
       → (nat_lt q.passed (length plan.config.cuts) && slice_index plan.config.cuts q.passed == cycle) ≡ true → length m.left < m.left_room
   cut_room fitted cycle planned g due =
       let few : q.passed < length plan.config.cuts = ltb-true q.passed (length plan.config.cuts) (and_parts (nat_lt q.passed (length plan.config.cuts)) _ due).0 in
-      let left : length m.left ≡ q.passed = ap length noted.steps.framed.left ∙ (good_of plan fitted p n k planned g).stands.left ∙ sym passed_same in
+      let left : length m.left ≡ q.passed = ap length noted.steps.framed.left ∙ (good_of K plan fitted p n k planned g).stands.left ∙ sym passed_same in
       let room : m.left_room ≡ length plan.config.cuts + 1 = noted.steps.framed.left_room ∙ g.room in
       omega (arith, left, room, few)
 
 -- ---- a step and its events
 
 -- what a step lets be read
-pub CanGather-stepped : (plan : Plan) (fitted : Device) (p q : Progress) (n m : Device) (k : ℕ) (r : Stepped) → IsPlanned plan → GoesOn plan fitted p n k
-    → IsStepped plan p q n m k r → CanGather (origin_of plan) (k + 1) (seen (origin_of plan) (world_at p n k)) q m r
-CanGather-stepped plan fitted p q n m k r planned g s =
-    let good = good_of plan fitted p n k planned g in
+pub CanGather-stepped : {M : Type 0} (K : KindOf M) → (plan : Plan) (fitted : Device) (p q : Progress M) (n m : Device) (k : ℕ) (r : Stepped) → IsPlanned plan → GoesOn K plan fitted p n k
+    → IsStepped K plan p q n m k r → CanGather K (origin_of plan) (k + 1) (seen K (origin_of plan) (world_at p n k)) q m r
+CanGather-stepped {M = M} K plan fitted p q n m k r planned g s =
+    let good = good_of K plan fitted p n k planned g in
     record {
       at_next = s.is_step.at_next;
       step = s.is_step.step;
       ended = s.is_step.ended;
-      read = λ fresh. s.is_step.read (good.stands.queue (sym (ap (λ (y : Progress). y.fresh) s.same) ∙ fresh));
-      released = ap (λ (y : Progress). y.released) s.same ∙ g.released ∙ ap (λ (y : Progress). length (released_of (origin_of plan) y.events)) (sym s.same);
+      read = λ fresh. s.is_step.read (good.stands.queue (sym (ap (λ (y : Progress M). y.fresh) s.same) ∙ fresh));
+      released = ap (λ (y : Progress M). y.released) s.same ∙ g.released ∙ ap (λ (y : Progress M). length (released_of (origin_of plan) y.events)) (sym s.same);
     }
 
 -- all events were made
-pub IsNoted-made : (plan : Plan) (fitted : Device) (p q t : Progress) (n m : Device) (k : ℕ) (r : Stepped) (ended : Option Status) (bytes : List ℕ) → IsPlanned plan → GoesOn plan fitted p n k
-    → IsStepped plan p q n m k r
-    → t.events ≡ q.events ++ events_of (origin_of plan) q.fresh (seen (origin_of plan) (world_at p n k)) r.did (view_of (origin_of plan) q.machine m) (k + 1)
+pub IsNoted-made : {M : Type 0} (K : KindOf M) (laws : IsLawful K) → (plan : Plan) (fitted : Device) (p q t : Progress M) (n m : Device) (k : ℕ) (r : Stepped) (ended : Option Status) (bytes : List ℕ) → IsPlanned plan → GoesOn K plan fitted p n k
+    → IsStepped K plan p q n m k r
+    → t.events ≡ q.events ++ events_of (origin_of plan) q.fresh (seen K (origin_of plan) (world_at p n k)) r.did (K.view (origin_of plan) q.machine m) (k + 1)
     → t ≡ record q { events = t.events; released = t.released; fresh = false } → t.released ≡ q.released + length bytes
-    → bytes ≡ due_of (origin_of plan) q.events r.did (view_of (origin_of plan) q.machine m)
-    → IsEnd (origin_of plan) (seen (origin_of plan) (world_at p n k)) (view_of (origin_of plan) q.machine m) ended
-    → IsNoted plan p t n m k ended bytes
-IsNoted-made plan fitted p q t n m k r ended bytes planned g s made same released bytes_is is_end =
-    let o : Origin = origin_of plan in
-    let v : View = seen o (world_at p n k) in
-    let good = good_of plan fitted p n k planned g in
-    let events_q : q.events ≡ p.events = ap (λ (y : Progress). y.events) s.same in
-    let fresh_q : q.fresh ≡ p.fresh = ap (λ (y : Progress). y.fresh) s.same in
-    let machine_t : t.machine ≡ q.machine = ap (λ (y : Progress). y.machine) same in
-    let steps : Steps o (world_at p n k) (world_at (record q { events = t.events; released = t.released; fresh = false }) m (k + 1)) = record {
+    → bytes ≡ due_of (origin_of plan) q.events r.did (K.view (origin_of plan) q.machine m)
+    → IsEnd (origin_of plan) (seen K (origin_of plan) (world_at p n k)) (K.view (origin_of plan) q.machine m) ended
+    → IsNoted K plan p t n m k ended bytes
+IsNoted-made {M = M} K laws plan fitted p q t n m k r ended bytes planned g s made same released bytes_is is_end =
+    let o K laws : Origin = origin_of plan in
+    let v : View = seen K o K laws (world_at p n k) in
+    let good = good_of K plan fitted p n k planned g in
+    let events_q : q.events ≡ p.events = ap (λ (y : Progress M). y.events) s.same in
+    let fresh_q : q.fresh ≡ p.fresh = ap (λ (y : Progress M). y.fresh) s.same in
+    let machine_t : t.machine ≡ q.machine = ap (λ (y : Progress M). y.machine) same in
+    let steps : Steps K o K laws (world_at p n k) (world_at (record q { events = t.events; released = t.released; fresh = false }) m (k + 1)) = record {
       r = r;
       going = g.going;
       is_step = s.is_step;
       framed = s.framed;
       calm = s.calm;
       next_is =
-          ap (λ (y : Progress). world_at (record y { events = t.events; fresh = false }) m (k + 1)) s.same
+          ap (λ (y : Progress M). world_at (record y { events = t.events; fresh = false }) m (k + 1)) s.same
           ∙ ap (λ (l : List Happening). world_at (record p { machine = q.machine; mix = mix_next p.mix; events = l; fresh = false }) m (k + 1))
-          (made ∙ ap (λ (l : List Happening). l ++ events_of o q.fresh v r.did (view_of o q.machine m) (k + 1)) events_q
-          ∙ ap (λ b. p.events ++ events_of o b v r.did (view_of o q.machine m) (k + 1)) fresh_q);
+          (made ∙ ap (λ (l : List Happening). l ++ events_of o K laws q.fresh v r.did (K.view o K laws q.machine m) (k + 1)) events_q
+          ∙ ap (λ b. p.events ++ events_of o K laws b v r.did (K.view o K laws q.machine m) (k + 1)) fresh_q);
     } in
-    let releases : released_of o t.events ≡ released_of o p.events ++ bytes =
-    released-stepped o (world_at p n k) _ planned.origin.geometry.epoch_least good.stands steps
-    ∙ ap (λ (l : List ℕ). released_of o p.events ++ l) (ap (λ (e : List Happening). due_of o e r.did (view_of o q.machine m)) (sym events_q) ∙ sym bytes_is) in
-    let now : IsNoted plan p (record q { events = t.events; released = t.released; fresh = false }) n m k ended bytes = record {
+    let releases : released_of o K laws t.events ≡ released_of o K laws p.events ++ bytes =
+    released-stepped K o K laws (world_at p n k) _ planned.origin.geometry.epoch_least good.stands steps
+    ∙ ap (λ (l : List ℕ). released_of o K laws p.events ++ l) (ap (λ (e : List Happening). due_of o K laws e r.did (K.view o K laws q.machine m)) (sym events_q) ∙ sym bytes_is) in
+    let now : IsNoted K plan p (record q { events = t.events; released = t.released; fresh = false }) n m k ended bytes = record {
       steps = steps;
       is_end = is_end;
-      released = released ∙ ap (λ c. c + length bytes) (ap (λ (y : Progress). y.released) s.same ∙ g.released)
-          ∙ sym (length-append (released_of o p.events) bytes) ∙ ap length (sym releases);
+      released = released ∙ ap (λ c. c + length bytes) (ap (λ (y : Progress M). y.released) s.same ∙ g.released)
+          ∙ sym (length-append (released_of o K laws p.events) bytes) ∙ ap length (sym releases);
       releases = releases;
       calm = s.calm;
-      spoken = ap (λ (y : Progress). y.mute) s.same;
-      heard = ap (λ (y : Progress). y.deaf) s.same;
+      spoken = ap (λ (y : Progress M). y.mute) s.same;
+      heard = ap (λ (y : Progress M). y.deaf) s.same;
     } in
-    subst (λ (y : Progress). IsNoted plan p y n m k ended bytes) (sym same) now
+    subst (λ (y : Progress M). IsNoted K plan p y n m k ended bytes) (sym same) now
 
 -- only some events were made, for want of memory
-pub IsBroken-made : (plan : Plan) (fitted : Device) (p q t : Progress) (n m : Device) (k : ℕ) (r : Stepped) → IsPlanned plan → GoesOn plan fitted p n k → IsStepped plan p q n m k r
-    → MadeSome t.events (events_of (origin_of plan) q.fresh (seen (origin_of plan) (world_at p n k)) r.did (view_of (origin_of plan) q.machine m) (k + 1)) q.events
-    → t ≡ record q { events = t.events } → IsBroken plan p t n m k []
-IsBroken-made plan fitted p q t n m k r planned g s some same =
-    let o : Origin = origin_of plan in
-    let v : View = seen o (world_at p n k) in
-    let good = good_of plan fitted p n k planned g in
-    let events_q : q.events ≡ p.events = ap (λ (y : Progress). y.events) s.same in
-    let fresh_q : q.fresh ≡ p.fresh = ap (λ (y : Progress). y.fresh) s.same in
-    let all : List Happening = events_of o p.fresh v r.did (view_of o q.machine m) (k + 1) in
-    let split : all ≡ some.part ++ some.rest = ap (λ b. events_of o b v r.did (view_of o q.machine m) (k + 1)) (sym fresh_q) ∙ some.split in
-    let next : World = stepped o (world_at p n k) q.machine m r.did in
-    let steps : Steps o (world_at p n k) next = record { r = r; going = g.going; is_step = s.is_step; framed = s.framed; calm = s.calm; next_is = refl } in
+pub IsBroken-made : {M : Type 0} (K : KindOf M) (laws : IsLawful K) → (plan : Plan) (fitted : Device) (p q t : Progress M) (n m : Device) (k : ℕ) (r : Stepped) → IsPlanned plan → GoesOn K plan fitted p n k → IsStepped K plan p q n m k r
+    → MadeSome t.events (events_of (origin_of plan) q.fresh (seen K (origin_of plan) (world_at p n k)) r.did (K.view (origin_of plan) q.machine m) (k + 1)) q.events
+    → t ≡ record q { events = t.events } → IsBroken K plan p t n m k []
+IsBroken-made {M = M} K laws plan fitted p q t n m k r planned g s some same =
+    let o K laws : Origin = origin_of plan in
+    let v : View = seen K o K laws (world_at p n k) in
+    let good = good_of K plan fitted p n k planned g in
+    let events_q : q.events ≡ p.events = ap (λ (y : Progress M). y.events) s.same in
+    let fresh_q : q.fresh ≡ p.fresh = ap (λ (y : Progress M). y.fresh) s.same in
+    let all : List Happening = events_of o K laws p.fresh v r.did (K.view o K laws q.machine m) (k + 1) in
+    let split : all ≡ some.part ++ some.rest = ap (λ b. events_of o K laws b v r.did (K.view o K laws q.machine m) (k + 1)) (sym fresh_q) ∙ some.split in
+    let next : World M = stepped K o K laws (world_at p n k) q.machine m r.did in
+    let steps : Steps K o K laws (world_at p n k) next = record { r = r; going = g.going; is_step = s.is_step; framed = s.framed; calm = s.calm; next_is = refl } in
     let told : t.events ≡ p.events ++ some.part = some.told ∙ ap (λ (l : List Happening). l ++ some.part) events_q in
-    let more = released-part o (world_at p n k) next planned.origin.geometry.epoch_least good.stands steps some.part some.rest (sym split) in
+    let more = released-part K o K laws (world_at p n k) next planned.origin.geometry.epoch_least good.stands steps some.part some.rest (sym split) in
     record {
       unfinished = inr (record {
         next = next;
@@ -314,61 +309,61 @@ IsBroken-made plan fitted p q t n m k r planned g s some same =
         device = inl refl;
       });
       rest = more.0;
-      releases = ap (released_of o) told ∙ more.1 ∙ ap (λ (l : List ℕ). l ++ more.0) (sym (append-nil (released_of o p.events)));
+      releases = ap (released_of o K laws) told ∙ more.1 ∙ ap (λ (l : List ℕ). l ++ more.0) (sym (append-nil (released_of o K laws p.events)));
       told = (some.part, told);
-      spoken = ap (λ (y : Progress). y.mute) same ∙ ap (λ (y : Progress). y.mute) s.same;
-      heard = ap (λ (y : Progress). y.deaf) same ∙ ap (λ (y : Progress). y.deaf) s.same;
+      spoken = ap (λ (y : Progress M). y.mute) same ∙ ap (λ (y : Progress M). y.mute) s.same;
+      heard = ap (λ (y : Progress M). y.deaf) same ∙ ap (λ (y : Progress M). y.deaf) s.same;
     }
 
 -- a read failed before any event was made
-pub IsBroken-read : (plan : Plan) (fitted : Device) (p q : Progress) (n m m' : Device) (k : ℕ) (r : Stepped) (e : CoreError) → IsPlanned plan → GoesOn plan fitted p n k → IsStepped plan p q n m k r
-    → HasFailedToRead e m m' → IsFramed m m' → IsBroken plan p q n m' k [] × Breaks p q n m' [] (stop_of e)
-IsBroken-read plan fitted p q n m m' k r e planned g s failed framed =
-    let o : Origin = origin_of plan in
-    let v : View = seen o (world_at p n k) in
-    let events_q : q.events ≡ p.events = ap (λ (y : Progress). y.events) s.same in
-    let next : World = stepped o (world_at p n k) q.machine m r.did in
-    let steps : Steps o (world_at p n k) next = record { r = r; going = g.going; is_step = s.is_step; framed = s.framed; calm = s.calm; next_is = refl } in
-    let broken : ((m' ≡ m) ⊎ ReadFailed m m') → IsBroken plan p q n m' k [] = λ device. record {
+pub IsBroken-read : {M : Type 0} (K : KindOf M) (laws : IsLawful K) → (plan : Plan) (fitted : Device) (p q : Progress M) (n m m' : Device) (k : ℕ) (r : Stepped) (e : CoreError) → IsPlanned plan → GoesOn K plan fitted p n k → IsStepped K plan p q n m k r
+    → HasFailedToRead e m m' → IsFramed m m' → IsBroken K plan p q n m' k [] × Breaks p q n m' [] (stop_of e)
+IsBroken-read {M = M} K laws plan fitted p q n m m' k r e planned g s failed framed =
+    let o K laws : Origin = origin_of plan in
+    let v : View = seen K o K laws (world_at p n k) in
+    let events_q : q.events ≡ p.events = ap (λ (y : Progress M). y.events) s.same in
+    let next : World M = stepped K o K laws (world_at p n k) q.machine m r.did in
+    let steps : Steps K o K laws (world_at p n k) next = record { r = r; going = g.going; is_step = s.is_step; framed = s.framed; calm = s.calm; next_is = refl } in
+    let broken : ((m' ≡ m) ⊎ ReadFailed m m') → IsBroken K plan p q n m' k [] = λ device. record {
       unfinished = inr (record {
         next = next;
         steps = steps;
         part = [];
-        rest = events_of o p.fresh v r.did (view_of o q.machine m) (k + 1);
+        rest = events_of o K laws p.fresh v r.did (K.view o K laws q.machine m) (k + 1);
         told = events_q ∙ sym (append-nil p.events);
-        split = ap (λ (l : List Happening). l ++ events_of o p.fresh v r.did (view_of o q.machine m) (k + 1)) (sym events_q);
+        split = ap (λ (l : List Happening). l ++ events_of o K laws p.fresh v r.did (K.view o K laws q.machine m) (k + 1)) (sym events_q);
         unended = refl;
         device = device;
       });
       rest = [];
-      releases = ap (released_of o) events_q ∙ sym (append-nil (released_of o p.events)) ∙ sym (append-nil (released_of o p.events ++ []));
+      releases = ap (released_of o K laws) events_q ∙ sym (append-nil (released_of o K laws p.events)) ∙ sym (append-nil (released_of o K laws p.events ++ []));
       told = ([], events_q ∙ sym (append-nil p.events));
-      spoken = ap (λ (y : Progress). y.mute) s.same;
-      heard = ap (λ (y : Progress). y.deaf) s.same;
+      spoken = ap (λ (y : Progress M). y.mute) s.same;
+      heard = ap (λ (y : Progress M). y.deaf) s.same;
     } in
     by_error e failed broken events_q
   where
-    by_error : (e : CoreError) → HasFailedToRead e m m' → (((m' ≡ m) ⊎ ReadFailed m m') → IsBroken plan p q n m' k []) → q.events ≡ p.events
-        → IsBroken plan p q n m' k [] × Breaks p q n m' [] (stop_of e)
+    by_error : (e : CoreError) → HasFailedToRead e m m' → (((m' ≡ m) ⊎ ReadFailed m m') → IsBroken K plan p q n m' k []) → q.events ≡ p.events
+        → IsBroken K plan p q n m' k [] × Breaks p q n m' [] (stop_of e)
     by_error NvmFailed f broken events = (
       broken (inr (record { failed = f.0; framed = framed; rose = f.1 })),
       record { events = events; none = refl; rose = subst (λ c. RoseFaults c m'.faults) s.calm f.1 },
     )
-    by_error (NoMemory x) f broken events = (broken (inl f), tt)
+    by_error (NoMemory x K laws) f broken events = (broken (inl f), tt)
 
 -- the step itself failed
-pub IsBroken-stuck : (plan : Plan) (fitted : Device) (p q : Progress) (n m : Device) (k : ℕ) → GoesOn plan fitted p n k → IsStuck plan p q n m
-    → IsBroken plan p q n m k [] × Breaks p q n m [] Nvm
-IsBroken-stuck plan fitted p q n m k g s =
-    let o : Origin = origin_of plan in
-    let events_q : q.events ≡ p.events = ap (λ (y : Progress). y.events) s.same in (
+pub IsBroken-stuck : {M : Type 0} (K : KindOf M) (laws : IsLawful K) → (plan : Plan) (fitted : Device) (p q : Progress M) (n m : Device) (k : ℕ) → GoesOn K plan fitted p n k → IsStuck K plan p q n m
+    → IsBroken K plan p q n m k [] × Breaks p q n m [] Nvm
+IsBroken-stuck {M = M} K laws plan fitted p q n m k g s =
+    let o K laws : Origin = origin_of plan in
+    let events_q : q.events ≡ p.events = ap (λ (y : Progress M). y.events) s.same in (
       record {
         unfinished = inl (record { going = g.going; safe = s.safe; framed = s.framed; rose = s.rose; nothing_told = events_q });
         rest = [];
-        releases = ap (released_of o) events_q ∙ sym (append-nil (released_of o p.events)) ∙ sym (append-nil (released_of o p.events ++ []));
+        releases = ap (released_of o K laws) events_q ∙ sym (append-nil (released_of o K laws p.events)) ∙ sym (append-nil (released_of o K laws p.events ++ []));
         told = ([], events_q ∙ sym (append-nil p.events));
-        spoken = ap (λ (y : Progress). y.mute) s.same;
-        heard = ap (λ (y : Progress). y.deaf) s.same;
+        spoken = ap (λ (y : Progress M). y.mute) s.same;
+        heard = ap (λ (y : Progress M). y.deaf) s.same;
       },
       record { events = events_q; none = refl; rose = s.rose },
     )
@@ -376,80 +371,80 @@ IsBroken-stuck plan fitted p q n m k g s =
 -- ---- what the calls ask for
 
 -- the console's bytes are few
-pub few_released : (plan : Plan) (fitted : Device) (p q : Progress) (n m : Device) (k : ℕ) (r : Stepped) (bytes : List ℕ) → IsPlanned plan → GoesOn plan fitted p n k
-    → IsStepped plan p q n m k r → bytes ≡ due_of (origin_of plan) q.events r.did (view_of (origin_of plan) q.machine m) → q.released + length bytes < 2 ^ 64
-few_released plan fitted p q n m k r bytes planned g s due =
-    let o : Origin = origin_of plan in
-    let good = good_of plan fitted p n k planned g in
-    let events_q : q.events ≡ p.events = ap (λ (y : Progress). y.events) s.same in
-    let next : World = stepped o (world_at p n k) q.machine m r.did in
-    let steps : Steps o (world_at p n k) next = record { r = r; going = g.going; is_step = s.is_step; framed = s.framed; calm = s.calm; next_is = refl } in
-    let releases : released_of o next.events ≡ released_of o p.events ++ bytes =
-    released-stepped o (world_at p n k) next planned.origin.geometry.epoch_least good.stands steps
-    ∙ ap (λ (l : List ℕ). released_of o p.events ++ l) (ap (λ (e : List Happening). due_of o e r.did (view_of o q.machine m)) (sym events_q) ∙ sym due) in
-    let released : q.released ≡ length (released_of o p.events) = ap (λ (y : Progress). y.released) s.same ∙ g.released in
-    let sum : length (released_of o next.events) ≡ length (released_of o p.events) + length bytes = ap length releases ∙ length-append (released_of o p.events) bytes in
-    let few : length (released_of o next.events) < 2 ^ 64 = length-released o next.events planned.origin in
+pub few_released : {M : Type 0} (K : KindOf M) (laws : IsLawful K) → (plan : Plan) (fitted : Device) (p q : Progress M) (n m : Device) (k : ℕ) (r : Stepped) (bytes : List ℕ) → IsPlanned plan → GoesOn K plan fitted p n k
+    → IsStepped K plan p q n m k r → bytes ≡ due_of (origin_of plan) q.events r.did (K.view (origin_of plan) q.machine m) → q.released + length bytes < 2 ^ 64
+few_released {M = M} K laws plan fitted p q n m k r bytes planned g s due =
+    let o K laws : Origin = origin_of plan in
+    let good = good_of K plan fitted p n k planned g in
+    let events_q : q.events ≡ p.events = ap (λ (y : Progress M). y.events) s.same in
+    let next : World M = stepped K o K laws (world_at p n k) q.machine m r.did in
+    let steps : Steps K o K laws (world_at p n k) next = record { r = r; going = g.going; is_step = s.is_step; framed = s.framed; calm = s.calm; next_is = refl } in
+    let releases : released_of o K laws next.events ≡ released_of o K laws p.events ++ bytes =
+    released-stepped K o K laws (world_at p n k) next planned.origin.geometry.epoch_least good.stands steps
+    ∙ ap (λ (l : List ℕ). released_of o K laws p.events ++ l) (ap (λ (e : List Happening). due_of o K laws e r.did (K.view o K laws q.machine m)) (sym events_q) ∙ sym due) in
+    let released : q.released ≡ length (released_of o K laws p.events) = ap (λ (y : Progress M). y.released) s.same ∙ g.released in
+    let sum : length (released_of o K laws next.events) ≡ length (released_of o K laws p.events) + length bytes = ap length releases ∙ length-append (released_of o K laws p.events) bytes in
+    let few : length (released_of o K laws next.events) < 2 ^ 64 = length-released o K laws next.events planned.origin in
     omega (arith, released, sum, few)
 
 -- a step may be asked for
-pub can_step : (plan : Plan) (fitted : Device) (p : Progress) (n : Device) (k : ℕ) → IsPlanned plan → GoesOn plan fitted p n k → k < 2 ^ 62 → CanStep plan.start p.machine n
-can_step plan fitted p n k planned g few =
-    let good = good_of plan fitted p n k planned g in
+pub can_step : {M : Type 0} (K : KindOf M) → (plan : Plan) (fitted : Device) (p : Progress M) (n : Device) (k : ℕ) → IsPlanned plan → GoesOn K plan fitted p n k → k < 2 ^ 62 → CanStep plan.start p.machine n
+can_step {M = M} K plan fitted p n k planned g few =
+    let good = good_of K plan fitted p n k planned g in
     CanStep-at (origin_of plan) plan.start k p.machine n (record { geometry = refl; state = refl; input = refl }) good.stands.at_moment few
 
 -- the start is the machine's
-pub begins_of : (plan : Plan) (fitted : Device) (p : Progress) (n : Device) (k : ℕ) → IsPlanned plan → GoesOn plan fitted p n k → Begins (origin_of plan) (made_for p.machine) plan.start
-begins_of plan fitted p n k planned g =
-    let good = good_of plan fitted p n k planned g in
+pub begins_of : {M : Type 0} (K : KindOf M) → (plan : Plan) (fitted : Device) (p : Progress M) (n : Device) (k : ℕ) → IsPlanned plan → GoesOn K plan fitted p n k → Begins (origin_of plan) (made_for p.machine) plan.start
+begins_of {M = M} K plan fitted p n k planned g =
+    let good = good_of K plan fitted p n k planned g in
     record { geometry = sym (geometry-at (origin_of plan) k p.machine n good.stands.at_moment); state = refl; input = refl }
 
-pub at_of : (plan : Plan) (fitted : Device) (p : Progress) (n : Device) (k : ℕ) → IsPlanned plan → GoesOn plan fitted p n k → IsAt (origin_of plan) k p.machine n
-at_of plan fitted p n k planned g = (good_of plan fitted p n k planned g).stands.at_moment
+pub at_of : {M : Type 0} (K : KindOf M) → (plan : Plan) (fitted : Device) (p : Progress M) (n : Device) (k : ℕ) → IsPlanned plan → GoesOn K plan fitted p n k → K.is_at (origin_of plan) k p.machine n
+at_of {M = M} K plan fitted p n k planned g = (good_of K plan fitted p n k planned g).stands.at_moment
 
 -- after a step the device has the machine's blocks
-pub blocks_of_step : (plan : Plan) (fitted : Device) (p q : Progress) (n m : Device) (k : ℕ) (r : Stepped) → IsPlanned plan → GoesOn plan fitted p n k → k < 2 ^ 62 → IsStepped plan p q n m k r
-    → length m.image ≡ blocks_of (made_for q.machine)
-blocks_of_step plan fitted p q n m k r planned g few s =
-    let at_p = at_of plan fitted p n k planned g in
-    let can = can_step plan fitted p n k planned g few in
+pub blocks_of_step : {M : Type 0} (K : KindOf M) → (plan : Plan) (fitted : Device) (p q : Progress M) (n m : Device) (k : ℕ) (r : Stepped) → IsPlanned plan → GoesOn K plan fitted p n k → k < 2 ^ 62 → IsStepped K plan p q n m k r
+    → length m.image ≡ K.blocks (made_for q.machine)
+blocks_of_step {M = M} K plan fitted p q n m k r planned g few s =
+    let at_p = at_of K plan fitted p n k planned g in
+    let can = can_step K plan fitted p n k planned g few in
     s.framed.blocks ∙ can.blocks
-    ∙ ap blocks_of (geometry-at (origin_of plan) k p.machine n at_p ∙ sym (geometry-at (origin_of plan) (k + 1) q.machine m s.is_step.at_next))
+    ∙ ap K.blocks (geometry-at (origin_of plan) k p.machine n at_p ∙ sym (geometry-at (origin_of plan) (k + 1) q.machine m s.is_step.at_next))
 
 -- ---- the same, from what the calls promise
 
-pub noted_from : (plan : Plan) (fitted : Device) (p q : Progress) (n m : Device) (k : ℕ) (r : Stepped) (ended : Option Status) (bytes : List ℕ) (e : List Happening) (len cycle : ℕ) (did : Did)
-    → IsPlanned plan → GoesOn plan fitted p n k → IsStepped plan p q n m k r → r.did ≡ did → len ≡ length bytes → cycle ≡ k + 1
-    → e ≡ q.events ++ events_of (origin_of plan) q.fresh (seen (origin_of plan) (world_at p n k)) did (view_of (origin_of plan) q.machine m) cycle
-    → bytes ≡ due_of (origin_of plan) q.events did (view_of (origin_of plan) q.machine m)
-    → IsEnd (origin_of plan) (seen (origin_of plan) (world_at p n k)) (view_of (origin_of plan) q.machine m) ended
-    → IsNoted plan p (record q { events = e; released = q.released + len; fresh = false }) n m k ended bytes
-noted_from plan fitted p q n m k r ended bytes e len cycle did planned g s did_is len_is cycle_is made due is_end =
-    let o : Origin = origin_of plan in
-    let v : View = seen o (world_at p n k) in
-    let next : View = view_of o q.machine m in
-    IsNoted-made plan fitted p q (record q { events = e; released = q.released + len; fresh = false }) n m k r ended bytes planned g s
-    (made ∙ ap (λ (d : Did). q.events ++ events_of o q.fresh v d next cycle) (sym did_is) ∙ ap (λ c. q.events ++ events_of o q.fresh v r.did next c) cycle_is)
-    refl (ap (λ l. q.released + l) len_is) (due ∙ ap (λ (d : Did). due_of o q.events d next) (sym did_is)) is_end
+pub noted_from : {M : Type 0} (K : KindOf M) (laws : IsLawful K) → (plan : Plan) (fitted : Device) (p q : Progress M) (n m : Device) (k : ℕ) (r : Stepped) (ended : Option Status) (bytes : List ℕ) (e : List Happening) (len cycle : ℕ) (did : Did)
+    → IsPlanned plan → GoesOn K plan fitted p n k → IsStepped K plan p q n m k r → r.did ≡ did → len ≡ length bytes → cycle ≡ k + 1
+    → e ≡ q.events ++ events_of (origin_of plan) q.fresh (seen K (origin_of plan) (world_at p n k)) did (K.view (origin_of plan) q.machine m) cycle
+    → bytes ≡ due_of (origin_of plan) q.events did (K.view (origin_of plan) q.machine m)
+    → IsEnd (origin_of plan) (seen K (origin_of plan) (world_at p n k)) (K.view (origin_of plan) q.machine m) ended
+    → IsNoted K plan p (record q { events = e; released = q.released + len; fresh = false }) n m k ended bytes
+noted_from {M = M} K laws plan fitted p q n m k r ended bytes e len cycle did planned g s did_is len_is cycle_is made due is_end =
+    let o K laws : Origin = origin_of plan in
+    let v : View = seen K o K laws (world_at p n k) in
+    let next : View = K.view o K laws q.machine m in
+    IsNoted-made K laws plan fitted p q (record q { events = e; released = q.released + len; fresh = false }) n m k r ended bytes planned g s
+    (made ∙ ap (λ (d : Did). q.events ++ events_of o K laws q.fresh v d next cycle) (sym did_is) ∙ ap (λ c. q.events ++ events_of o K laws q.fresh v r.did next c) cycle_is)
+    refl (ap (λ l. q.released + l) len_is) (due ∙ ap (λ (d : Did). due_of o K laws q.events d next) (sym did_is)) is_end
 
-pub broken_from : (plan : Plan) (fitted : Device) (p q : Progress) (n m : Device) (k : ℕ) (r : Stepped) (e : List Happening) (bytes : List ℕ) (cycle : ℕ) (did : Did)
-    → IsPlanned plan → GoesOn plan fitted p n k → IsStepped plan p q n m k r → r.did ≡ did → cycle ≡ k + 1 → bytes ≡ []
-    → MadeSome e (events_of (origin_of plan) q.fresh (seen (origin_of plan) (world_at p n k)) did (view_of (origin_of plan) q.machine m) cycle) q.events
-    → IsBroken plan p (record q { events = e }) n m k bytes
-broken_from plan fitted p q n m k r e bytes cycle did planned g s did_is cycle_is none some =
-    let o : Origin = origin_of plan in
-    let v : View = seen o (world_at p n k) in
-    let next : View = view_of o q.machine m in
+pub broken_from : {M : Type 0} (K : KindOf M) (laws : IsLawful K) → (plan : Plan) (fitted : Device) (p q : Progress M) (n m : Device) (k : ℕ) (r : Stepped) (e : List Happening) (bytes : List ℕ) (cycle : ℕ) (did : Did)
+    → IsPlanned plan → GoesOn K plan fitted p n k → IsStepped K plan p q n m k r → r.did ≡ did → cycle ≡ k + 1 → bytes ≡ []
+    → MadeSome e (events_of (origin_of plan) q.fresh (seen K (origin_of plan) (world_at p n k)) did (K.view (origin_of plan) q.machine m) cycle) q.events
+    → IsBroken K plan p (record q { events = e }) n m k bytes
+broken_from {M = M} K laws plan fitted p q n m k r e bytes cycle did planned g s did_is cycle_is none some =
+    let o K laws : Origin = origin_of plan in
+    let v : View = seen K o K laws (world_at p n k) in
+    let next : View = K.view o K laws q.machine m in
     let P : List Happening → Type 0 = λ all. MadeSome e all q.events in
-    let some_of : MadeSome e (events_of o q.fresh v r.did next (k + 1)) q.events =
-    subst P (ap (λ (d : Did). events_of o q.fresh v d next cycle) (sym did_is) ∙ ap (λ c. events_of o q.fresh v r.did next c) cycle_is) some in
-    subst (λ (b : List ℕ). IsBroken plan p (record q { events = e }) n m k b) (sym none)
-    (IsBroken-made plan fitted p q (record q { events = e }) n m k r planned g s some_of refl)
+    let some_of : MadeSome e (events_of o K laws q.fresh v r.did next (k + 1)) q.events =
+    subst P (ap (λ (d : Did). events_of o K laws q.fresh v d next cycle) (sym did_is) ∙ ap (λ c. events_of o K laws q.fresh v r.did next c) cycle_is) some in
+    subst (λ (b : List ℕ). IsBroken K plan p (record q { events = e }) n m k b) (sym none)
+    (IsBroken-made K laws plan fitted p q (record q { events = e }) n m k r planned g s some_of refl)
 
 -- nothing is due
-pub broken_none : (plan : Plan) (p q : Progress) (n m : Device) (k : ℕ) (bytes : List ℕ) (stop is : Stop) → bytes ≡ [] → is ≡ stop
-    → IsBroken plan p q n m k [] × Breaks p q n m [] stop → IsBroken plan p q n m k bytes × Breaks p q n m bytes is
-broken_none plan p q n m k bytes stop is none same h =
-    let P : List ℕ → Type 0 = λ b. IsBroken plan p q n m k b × Breaks p q n m b stop in
-    let Q : Stop → Type 0 = λ s. IsBroken plan p q n m k bytes × Breaks p q n m bytes s in
+pub broken_none : {M : Type 0} (K : KindOf M) → (plan : Plan) (p q : Progress M) (n m : Device) (k : ℕ) (bytes : List ℕ) (stop is : Stop) → bytes ≡ [] → is ≡ stop
+    → IsBroken K plan p q n m k [] × Breaks p q n m [] stop → IsBroken K plan p q n m k bytes × Breaks p q n m bytes is
+broken_none {M = M} K plan p q n m k bytes stop is none same h =
+    let P : List ℕ → Type 0 = λ b. IsBroken K plan p q n m k b × Breaks p q n m b stop in
+    let Q : Stop → Type 0 = λ s. IsBroken K plan p q n m k bytes × Breaks p q n m bytes s in
     subst Q (sym same) (subst P (sym none) h)

@@ -3,6 +3,7 @@ use Rattle.std.proofs.Common.{◌≡◌, ℕ, ◌+◌, ◌-◌, ◌^◌, ◌<◌
 use Rattle.std.proofs.Math.Seq.{drop-append_seam}
 use Rattle.thy_base.specs.declared.mark.Mark.{Mark}
 use Rattle.thy_isa.proofs.StorableLaws.{steps-console}
+use Rattle.thy_view.specs.Kind.{KindOf}
 use Rattle.thy_text.specs.Happening.{Happening, Cut}
 use Rattle.thy_text.specs.Marks.{Marks, loading_marks, marks_from}
 use Rattle.thy_text.specs.Released.{console_of}
@@ -115,7 +116,7 @@ module _ (o : Origin) (v next : View) (m : Marks) (h : Fits o v m) where
 released_marks : (o : Origin) (events : List Happening) → released_of o events ≡ console_of (console_at o) (marks_of o events).kept
 released_marks o events = released-kept (console_at o) o.start.count (loading_marks o.start.count) events refl
 
-module _ (o : Origin) (w next : World) (least : 1 ≤ o.geometry.epoch) (h : Coheres o w) (step : Steps o w next) where
+module _ {M : Type 0} (K : KindOf M) (o : Origin) (w next : World M) (least : 1 ≤ o.geometry.epoch) (h : Coheres K o w) (step : Steps K o w next) where
   abbrev marks_now : Marks
   marks_now = marks_of o w.events
 
@@ -126,20 +127,20 @@ module _ (o : Origin) (w next : World) (least : 1 ≤ o.geometry.epoch) (h : Coh
   marks_more part = marks_from-append o.start.count (loading_marks o.start.count) w.events part
 
   told_grows : Grows (marks_of o w.events).kept (marks_from o.start.count (marks_of o w.events) (told o step.r.did (w.cycles + 1))).kept
-  told_grows = Grows-told o (seen o w) (seen o next) (marks_of o w.events) h.fits step.r.did (w.cycles + 1) step.is_step.step
+  told_grows = Grows-told o (seen K o w) (seen K o next) (marks_of o w.events) h.fits step.r.did (w.cycles + 1) step.is_step.step
 
-  part_grows : (part rest : List Happening) → part ++ rest ≡ events_of o w.fresh (seen o w) step.r.did (seen o next) (w.cycles + 1)
+  part_grows : (part rest : List Happening) → part ++ rest ≡ events_of o w.fresh (seen K o w) step.r.did (seen K o next) (w.cycles + 1)
       → Grows (marks_of o w.events).kept (marks_of o (w.events ++ part)).kept
   part_grows part rest e =
       subst (λ (x : Marks). Grows (marks_of o w.events).kept x.kept) (sym (marks_more part))
-      (elim (marks-part o (seen o w) (seen o next) (marks_of o w.events) step.r.did w.fresh (w.cycles + 1) least h.fits step.is_step.step part rest e)
+      (elim (marks-part o (seen K o w) (seen K o next) (marks_of o w.events) step.r.did w.fresh (w.cycles + 1) least h.fits step.is_step.step part rest e)
       as (λ _. Grows (marks_of o w.events).kept (marks_from o.start.count (marks_of o w.events) part).kept) [
         | inl stood ↦ grows_same (marks_of o w.events).kept (marks_from o.start.count (marks_of o w.events) part).kept (ap (λ (x : Marks). x.kept) stood)
         | inr done ↦ subst (λ (x : Marks). Grows (marks_of o w.events).kept x.kept) (sym done) told_grows
       ])
 
   -- the first of a cycle's events release more, or nothing
-  pub released-part : (part rest : List Happening) → part ++ rest ≡ events_of o w.fresh (seen o w) step.r.did (seen o next) (w.cycles + 1)
+  pub released-part : (part rest : List Happening) → part ++ rest ≡ events_of o w.fresh (seen K o w) step.r.did (seen K o next) (w.cycles + 1)
       → (more : List ℕ) × (released_of o (w.events ++ part) ≡ released_of o w.events ++ more)
   released-part part rest e =
       let more : List ℕ = drop (length (console_of (console_at o) (marks_of o w.events).kept)) (console_of (console_at o) (marks_of o (w.events ++ part)).kept) in (
@@ -148,30 +149,30 @@ module _ (o : Origin) (w next : World) (least : 1 ≤ o.geometry.epoch) (h : Coh
             ∙ ap (λ (l : List ℕ). l ++ more) (sym (released_marks o w.events)),
       )
 
-  all_kept : (marks_of o next.events).kept ≡ (if shows_console step.r.did then (seen o next).done else (marks_of o w.events).kept)
+  all_kept : (marks_of o next.events).kept ≡ (if shows_console step.r.did then (seen K o next).done else (marks_of o w.events).kept)
   all_kept =
-      let es : List Happening = events_of o w.fresh (seen o w) step.r.did (seen o next) (w.cycles + 1) in
-      ap (λ (x : World). (marks_of o x.events).kept) step.next_is
-      ∙ ap (λ (x : Marks). x.kept) (marks_more es ∙ marks-events o (seen o w) (seen o next) (marks_of o w.events) step.r.did w.fresh (w.cycles + 1) least h.fits step.is_step.step)
-      ∙ kept-told o (seen o w) (seen o next) (marks_of o w.events) h.fits step.r.did (w.cycles + 1) step.is_step.step
+      let es : List Happening = events_of o w.fresh (seen K o w) step.r.did (seen K o next) (w.cycles + 1) in
+      ap (λ (x : World M). (marks_of o x.events).kept) step.next_is
+      ∙ ap (λ (x : Marks). x.kept) (marks_more es ∙ marks-events o (seen K o w) (seen K o next) (marks_of o w.events) step.r.did w.fresh (w.cycles + 1) least h.fits step.is_step.step)
+      ∙ kept-told o (seen K o w) (seen K o next) (marks_of o w.events) h.fits step.r.did (w.cycles + 1) step.is_step.step
 
   by_show : (b : Bool) → shows_console step.r.did ≡ b
-      → released_of o next.events ≡ released_of o w.events ++ (if b then drop (length (released_of o w.events)) (console_of (console_at o) (seen o next).done) else [])
+      → released_of o next.events ≡ released_of o w.events ++ (if b then drop (length (released_of o w.events)) (console_of (console_at o) (seen K o next).done) else [])
   by_show true shows =
       let before : Option Mark = (marks_of o w.events).kept in
-      let kept : (marks_of o next.events).kept ≡ (seen o next).done = all_kept ∙ ap (λ b. if b then (seen o next).done else before) shows in
-      let later : (marks_from o.start.count (marks_of o w.events) (told o step.r.did (w.cycles + 1))).kept ≡ (seen o next).done =
-      kept-told o (seen o w) (seen o next) (marks_of o w.events) h.fits step.r.did (w.cycles + 1) step.is_step.step ∙ ap (λ b. if b then (seen o next).done else before) shows in
-      let grows : Grows before (seen o next).done = subst (Grows before) later told_grows in
-      released_marks o next.events ∙ ap (console_of (console_at o)) kept ∙ grown o before (seen o next).done grows
-      ∙ ap (λ (l : List ℕ). l ++ drop (length l) (console_of (console_at o) (seen o next).done)) (sym (released_marks o w.events))
+      let kept : (marks_of o next.events).kept ≡ (seen K o next).done = all_kept ∙ ap (λ b. if b then (seen K o next).done else before) shows in
+      let later : (marks_from o.start.count (marks_of o w.events) (told o step.r.did (w.cycles + 1))).kept ≡ (seen K o next).done =
+      kept-told o (seen K o w) (seen K o next) (marks_of o w.events) h.fits step.r.did (w.cycles + 1) step.is_step.step ∙ ap (λ b. if b then (seen K o next).done else before) shows in
+      let grows : Grows before (seen K o next).done = subst (Grows before) later told_grows in
+      released_marks o next.events ∙ ap (console_of (console_at o)) kept ∙ grown o before (seen K o next).done grows
+      ∙ ap (λ (l : List ℕ). l ++ drop (length l) (console_of (console_at o) (seen K o next).done)) (sym (released_marks o w.events))
   by_show false hides =
       let before : Option Mark = (marks_of o w.events).kept in
-      let kept : (marks_of o next.events).kept ≡ before = all_kept ∙ ap (λ b. if b then (seen o next).done else before) hides in
+      let kept : (marks_of o next.events).kept ≡ before = all_kept ∙ ap (λ b. if b then (seen K o next).done else before) hides in
       released_marks o next.events ∙ ap (console_of (console_at o)) kept ∙ sym (released_marks o w.events) ∙ sym (append-nil (released_of o w.events))
 
   -- a cycle's events release what is due
-  pub released-stepped : released_of o next.events ≡ released_of o w.events ++ due_of o w.events step.r.did (seen o next)
+  pub released-stepped : released_of o next.events ≡ released_of o w.events ++ due_of o w.events step.r.did (seen K o next)
   released-stepped = by_show (shows_console step.r.did) refl
 
 -- a cut releases nothing

@@ -4,7 +4,7 @@ use Rattle.thy_base.specs.declared.cause.EndCause.{EndCause}
 use Rattle.thy_base.specs.declared.mark.Mark.{Mark}
 use Rattle.thy_base.specs.Device.{Device}
 use Rattle.thy_record.specs.Decoded.{Decoded, Nothing as NothingLeft, Refused as RefusedImage, At}
-use Rattle.thy_record.specs.Decode.{decode}
+use Rattle.thy_view.specs.Kind.{KindOf}
 use Rattle.thy_text.specs.Happening.{Happening, Reload, Ended}
 use Rattle.thy_text.specs.Marks.{Marks, marks_from}
 use Rattle.thy_text.proofs.Histories.{marks_from-append}
@@ -256,8 +256,8 @@ module _ (o : Origin) (v next : View) (m : Marks) (did : Did) (fresh : Bool) (cy
 -- ---- safety
 
 -- what is safe for a view is safe for marks that cover it
-pub Safe-covered : (o : Origin) (kept sealed done doubt : Option Mark) (n : Device) → Covers kept sealed done doubt → Safe o done doubt n → Safe o kept sealed n
-Safe-covered o kept sealed done doubt n c safe = λ g crash. weaker (decode o.geometry ceiling g) (safe g crash)
+pub Safe-covered : {M : Type 0} (K : KindOf M) → (o : Origin) (kept sealed done doubt : Option Mark) (n : Device) → Covers kept sealed done doubt → Safe K.decode o done doubt n → Safe K.decode o kept sealed n
+Safe-covered K o kept sealed done doubt n c safe = λ g crash. weaker (K.decode o.geometry ceiling g) (safe g crash)
   where
     weaker : (d : Decoded) → IsOneOf o done doubt d → IsOneOf o kept sealed d
     weaker NothingLeft h = c.nothing h

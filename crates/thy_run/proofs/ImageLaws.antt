@@ -5,6 +5,7 @@ use Rattle.std.specs.Prelude.{◌≢◌}
 use Rattle.thy_base.specs.declared.block.Block.{Block}
 use Rattle.thy_base.specs.declared.mark.Mark.{Mark}
 use Rattle.thy_record.specs.Decoded.{Decoded, Nothing as NothingLeft, Refused as RefusedImage, At}
+use Rattle.thy_view.specs.Kind.{KindOf}
 use Rattle.thy_text.specs.Happening.{Happening, Reload, Ended}
 use Rattle.thy_view.specs.declared.did.Did.{Did}
 use Rattle.thy_view.specs.declared.did.Did.TheVariants.{Boot, Loaded, Restarted, Refused, Moved, Retired, Flushed, Merged, Sealed, Promoted, Engine, Committed, NvmDrained, DramDrained, Nothing}
@@ -89,15 +90,15 @@ IsFound o v (RefusedImage bad) = ⊥
 IsFound o v (At epoch state) = (v.done ≡ Some (mark epoch state.count)) × (state ≡ at o state.count)
 
 -- a boot behind no cut loads the file, and one behind a cut finds its image
-abbrev pub BootFinds : Origin → List (List Block) → ℕ → View → Type 0
-BootFinds o left cuts v = ((cuts ≡ 0) × (v.done ≡ None)) ⊎ ((0 < cuts) × IsFound o v (left_by o left cuts))
+abbrev pub BootFinds : {M : Type 0} (K : KindOf M) → Origin → List (List Block) → ℕ → View → Type 0
+BootFinds K o left cuts v = ((cuts ≡ 0) × (v.done ≡ None)) ⊎ ((0 < cuts) × IsFound o v (left_by K o left cuts))
 
 -- between two cycles: what the events have to do with the images
-pub record ImagesFit (o : Origin) (left : List (List Block)) (cycles : ℕ) (fresh : Bool) (v : View) (s : Since) : Type 0 where
-  pub last : EndsFitting o left cycles s
+pub record ImagesFit {M : Type 0} (K : KindOf M) (o : Origin) (left : List (List Block)) (cycles : ℕ) (fresh : Bool) (v : View) (s : Since) : Type 0 where
+  pub last : EndsFitting K o left cycles s
   pub just : (cycle : ℕ) → s.just ≡ Some cycle → ((fresh ≡ true) × (cycle ≡ cycles)) ⊎ (cycle < cycles)
   pub fresh_boot : fresh ≡ true → (v.phase ≡ BootPhase) × (v.written ≡ false) × (s.just ≡ Some cycles) × (0 < s.cuts)
-  pub boot : v.phase ≡ BootPhase → BootFinds o left s.cuts v
+  pub boot : v.phase ≡ BootPhase → BootFinds K o left s.cuts v
 
 some_mark : (a b : Mark) → Some a ≡ Some b → a ≡ b
 some_mark a b e = cc
@@ -109,41 +110,41 @@ is_at epoch count o (At e state) v done h =
     let same : mark e state.count ≡ mark epoch count = some_mark (mark e state.count) (mark epoch count) (sym h.0 ∙ done) in
     ap (λ s. At e s) h.1 ∙ ap (λ (m : Mark). At m.epoch (at o m.count)) same
 
-is_nothing : (o : Origin) (d : Decoded) (v : View) → v.done ≡ None → IsFound o v d → d ≡ NothingLeft
-is_nothing o NothingLeft v none h = refl
-is_nothing o (RefusedImage bad) v none h = absurd h
-is_nothing o (At e state) v none h = absurd (let some : v.done ≡ Some (mark e state.count) = h.0 in cc)
+is_nothing : {M : Type 0} (K : KindOf M) → (o : Origin) (d : Decoded) (v : View) → v.done ≡ None → IsFound o v d → d ≡ NothingLeft
+is_nothing K o NothingLeft v none h = refl
+is_nothing K o (RefusedImage bad) v none h = absurd h
+is_nothing K o (At e state) v none h = absurd (let some : v.done ≡ Some (mark e state.count) = h.0 in cc)
 
 -- a restored mark is the image's
-restored : (o : Origin) (left : List (List Block)) (cuts epoch count : ℕ) (v : View) → BootFinds o left cuts v → v.done ≡ Some (mark epoch count)
-    → (0 < cuts) × (left_by o left cuts ≡ At epoch (at o count))
-restored o left cuts epoch count v (inl none) done = absurd (let missing : v.done ≡ None = none.1 in cc)
-restored o left cuts epoch count v (inr found) done = (found.0, is_at epoch count o (left_by o left cuts) v done found.1)
+restored : {M : Type 0} (K : KindOf M) → (o : Origin) (left : List (List Block)) (cuts epoch count : ℕ) (v : View) → BootFinds K o left cuts v → v.done ≡ Some (mark epoch count)
+    → (0 < cuts) × (left_by K o left cuts ≡ At epoch (at o count))
+restored K o left cuts epoch count v (inl none) done = absurd (let missing : v.done ≡ None = none.1 in cc)
+restored K o left cuts epoch count v (inr found) done = (found.0, is_at epoch count o (left_by K o left cuts) v done found.1)
 
 -- nothing was left where a boot behind a cut loads
-nothing_left : (o : Origin) (left : List (List Block)) (cuts : ℕ) (v : View) → BootFinds o left cuts v → 0 < cuts → v.done ≡ None → left_by o left cuts ≡ NothingLeft
-nothing_left o left cuts v (inl none) some missing = absurd (omega (arith, none.0))
-nothing_left o left cuts v (inr found) some missing = is_nothing o (left_by o left cuts) v missing found.1
+nothing_left : {M : Type 0} (K : KindOf M) → (o : Origin) (left : List (List Block)) (cuts : ℕ) (v : View) → BootFinds K o left cuts v → 0 < cuts → v.done ≡ None → left_by K o left cuts ≡ NothingLeft
+nothing_left K o left cuts v (inl none) some missing = absurd (omega (arith, none.0))
+nothing_left K o left cuts v (inr found) some missing = is_nothing K o (left_by K o left cuts) v missing found.1
 
 true_false : (b : Bool) {A : Type 0} → b ≡ true → b ≡ false → A
 true_false b t f = absurd (cc)
 
-module _ (o : Origin) (left : List (List Block)) (cycles : ℕ) (fresh : Bool) (v next : View) (s : Since) (f : ImagesFit o left cycles fresh v s) where
+module _ {M : Type 0} (K : KindOf M) (o : Origin) (left : List (List Block)) (cycles : ℕ) (fresh : Bool) (v next : View) (s : Since) (f : ImagesFit K o left cycles fresh v s) where
   -- a step that is not the first behind a cut has an image with a checkpoint behind it, if any
-  left_late : (fresh ≡ true → ⊥) → HasLeft o left s
-  left_late late = λ cycle e. elim (f.just cycle e) as (λ _. left_by o left s.cuts ≢ NothingLeft) [
+  left_late : (fresh ≡ true → ⊥) → HasLeft K o left s
+  left_late late = λ cycle e. elim (f.just cycle e) as (λ _. left_by K o left s.cuts ≢ NothingLeft) [
     | inl now ↦ absurd (late now.0)
     | inr before ↦ f.last cycle e before
   ]
 
-  run_late : v.phase ≡ Run → HasLeft o left s
+  run_late : v.phase ≡ Run → HasLeft K o left s
   run_late run = left_late (λ is. let boot : v.phase ≡ BootPhase = (f.fresh_boot is).0 in cc)
 
   -- what a step did fits the image
-  pub told_fits : (did : Did) (cycle : ℕ) → CoreStep o v did next → AllFitImages o left s (told o did cycle)
+  pub told_fits : (did : Did) (cycle : ℕ) → CoreStep o v did next → AllFitImages K o left s (told o did cycle)
   told_fits Boot cycle c = tt
   told_fits Loaded cycle c = (left_late (λ is. let not_yet : v.written ≡ false = (f.fresh_boot is).1 in let written : v.written ≡ true = c.2 in cc), tt)
-  told_fits (Restarted epoch count) cycle c = (restored o left s.cuts epoch count v (f.boot c.0) c.1, tt)
+  told_fits (Restarted epoch count) cycle c = (restored K o left s.cuts epoch count v (f.boot c.0) c.1, tt)
   told_fits (Refused bad) cycle c = tt
   told_fits Moved cycle c = tt
   told_fits Retired cycle c = tt
@@ -181,10 +182,10 @@ since_told o s DramDrained cycle = inl refl
 since_told o s Nothing cycle = inl refl
 
 -- the end behind an event that is no cut
-end_fits : (o : Origin) (left : List (List Block)) (s : Since) (next : View) (cycle : ℕ) (b : Bool)
-    → AllFitImages o left (settled_since s) (if b then Ended (at o next.count).status next.count cycle (at o next.count) ∷ [] else [])
-end_fits o left s next cycle true = (λ c e. absurd (cc), tt)
-end_fits o left s next cycle false = tt
+end_fits : {M : Type 0} (K : KindOf M) → (o : Origin) (left : List (List Block)) (s : Since) (next : View) (cycle : ℕ) (b : Bool)
+    → AllFitImages K o left (settled_since s) (if b then Ended (at o next.count).status next.count cycle (at o next.count) ∷ [] else [])
+end_fits K o left s next cycle true = (λ c e. absurd (cc), tt)
+end_fits K o left s next cycle false = tt
 
 end_since : (o : Origin) (s : Since) (next : View) (cycle : ℕ) (b : Bool)
     → since_from (settled_since s) (if b then Ended (at o next.count).status next.count cycle (at o next.count) ∷ [] else []) ≡ settled_since s
@@ -229,27 +230,27 @@ not_found o v next NothingLeft same h = same ∙ h
 not_found o v next (RefusedImage bad) same h = h
 not_found o v next (At epoch state) same h = (same ∙ h.0, h.1)
 
-pub record StepFits (o : Origin) (left : List (List Block)) (cycles : ℕ) (next : View) (s : Since) (events : List Happening) : Type 0 where
-  pub each : AllFitImages o left s events
+pub record StepFits {M : Type 0} (K : KindOf M) (o : Origin) (left : List (List Block)) (cycles : ℕ) (next : View) (s : Since) (events : List Happening) : Type 0 where
+  pub each : AllFitImages K o left s events
   pub cuts : (since_from s events).cuts ≡ s.cuts
-  pub images : ImagesFit o left (cycles + 1) false next (since_from s events)
+  pub images : ImagesFit K o left (cycles + 1) false next (since_from s events)
 
 boot_none : (v : View) → v.phase ≡ BootPhase → loads v ≡ false → v.done ≡ None → {A : Type 0} → A
 boot_none v boot unloaded none = absurd (let loaded : loads v ≡ true = ap (λ p. is_boot p && is_none v.done) boot ∙ ap (λ (d : Option Mark). is_none d) none in cc)
 
-module _ (o : Origin) (left : List (List Block)) (cycles : ℕ) (fresh : Bool) (v next : View) (s : Since) (f : ImagesFit o left cycles fresh v s)
+module _ {M : Type 0} (K : KindOf M) (o : Origin) (left : List (List Block)) (cycles : ℕ) (fresh : Bool) (v next : View) (s : Since) (f : ImagesFit K o left cycles fresh v s)
     (did : Did) (cycle : ℕ) (c : CoreStep o v did next) where
-  next_boot : next.phase ≡ BootPhase → BootFinds o left s.cuts next
+  next_boot : next.phase ≡ BootPhase → BootFinds K o left s.cuts next
   next_boot boot =
       let stays = Stays-quiet o v next did cycle c (told-booting o v next did cycle c boot) in
-      elim (f.boot (sym stays.phase ∙ boot)) as (λ _. BootFinds o left s.cuts next) [
+      elim (f.boot (sym stays.phase ∙ boot)) as (λ _. BootFinds K o left s.cuts next) [
         | inl none ↦ inl (none.0, stays.done ∙ none.1)
-        | inr found ↦ inr (found.0, not_found o v next (left_by o left s.cuts) stays.done found.1)
+        | inr found ↦ inr (found.0, not_found o v next (left_by K o left s.cuts) stays.done found.1)
       ]
 
   -- behind events of which the last is no cut
-  settled_images : (t : Since) → t ≡ settled_since s → ImagesFit o left (cycles + 1) false next t
-  settled_images t is = subst (ImagesFit o left (cycles + 1) false next) (sym is) (record {
+  settled_images : (t : Since) → t ≡ settled_since s → ImagesFit K o left (cycles + 1) false next t
+  settled_images t is = subst (ImagesFit K o left (cycles + 1) false next) (sym is) (record {
     last = λ at_cycle e. absurd (cc);
     just = λ at_cycle e. absurd (cc);
     fresh_boot = λ e. absurd (cc);
@@ -257,9 +258,9 @@ module _ (o : Origin) (left : List (List Block)) (cycles : ℕ) (fresh : Bool) (
   })
 
   -- behind no event
-  quiet_images : (fresh && loads next) ≡ false → told o did cycle ≡ [] → ImagesFit o left (cycles + 1) false next s
+  quiet_images : (fresh && loads next) ≡ false → told o did cycle ≡ [] → ImagesFit K o left (cycles + 1) false next s
   quiet_images unless none = record {
-    last = λ at_cycle e before. elim (f.just at_cycle e) as (λ _. left_by o left s.cuts ≢ NothingLeft) [
+    last = λ at_cycle e before. elim (f.just at_cycle e) as (λ _. left_by K o left s.cuts ≢ NothingLeft) [
       | inl now ↦ λ nothing_there.
           let start = f.fresh_boot now.0 in
           let stays = Stays-quiet o v next did cycle c none in
@@ -278,26 +279,26 @@ module _ (o : Origin) (left : List (List Block)) (cycles : ℕ) (fresh : Bool) (
     boot = next_boot;
   }
 
-  by_shape : Shape o v next did fresh cycle s → StepFits o left cycles next s (events_of o fresh v did next cycle)
+  by_shape : Shape o v next did fresh cycle s → StepFits K o left cycles next s (events_of o fresh v did next cycle)
   by_shape (reloads test is) =
       let both = and_parts fresh (loads next) test in
       let start = f.fresh_boot both.0 in
       let loading = loads-view next both.1 in
       let stays = Stays-quiet o v next did cycle c (told-booting o v next did cycle c loading.0) in
-      let fits : FitsImage o left s Reload = (nothing_left o left s.cuts v (f.boot start.0) start.3 (sym stays.done ∙ loading.1), (cycles, start.2)) in
-      subst (StepFits o left cycles next s) (sym is) (record { each = (fits, tt); cuts = refl; images = settled_images (settled_since s) refl })
-  by_shape (nothing unless none is) = subst (StepFits o left cycles next s) (sym is) (record { each = tt; cuts = refl; images = quiet_images unless none })
+      let fits : FitsImage K o left s Reload = (nothing_left K o left s.cuts v (f.boot start.0) start.3 (sym stays.done ∙ loading.1), (cycles, start.2)) in
+      subst (StepFits K o left cycles next s) (sym is) (record { each = (fits, tt); cuts = refl; images = settled_images (settled_since s) refl })
+  by_shape (nothing unless none is) = subst (StepFits K o left cycles next s) (sym is) (record { each = tt; cuts = refl; images = quiet_images unless none })
   by_shape (something since is) =
       let end : List Happening = end_told o v next cycle in
       let state : since_from s (told o did cycle ++ end) ≡ settled_since s =
       since_from-append s (told o did cycle) end ∙ ap (λ t. since_from t end) since ∙ end_since o s next cycle (halts v next) in
-      subst (StepFits o left cycles next s) (sym is) (record {
-        each = AllFitImages-append o left s (told o did cycle) end (told_fits o left cycles fresh v next s f did cycle c)
-            (subst (λ t. AllFitImages o left t end) (sym since) (end_fits o left s next cycle (halts v next)));
+      subst (StepFits K o left cycles next s) (sym is) (record {
+        each = AllFitImages-append K o left s (told o did cycle) end (told_fits K o left cycles fresh v next s f did cycle c)
+            (subst (λ t. AllFitImages K o left t end) (sym since) (end_fits K o left s next cycle (halts v next)));
         cuts = ap (λ t. t.cuts) state;
         images = settled_images (since_from s (told o did cycle ++ end)) state;
       })
 
   -- a step's events fit the images, and so does what stands behind them
-  pub StepFits-events : StepFits o left cycles next s (events_of o fresh v did next cycle)
+  pub StepFits-events : StepFits K o left cycles next s (events_of o fresh v did next cycle)
   StepFits-events = by_shape (shape_of o v next did fresh cycle s c)

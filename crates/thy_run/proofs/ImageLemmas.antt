@@ -2,7 +2,7 @@
 use Rattle.std.proofs.Common.{◌≡◌, ℕ, ◌-◌, ◌<◌, ◌≤◌, Some, List, [], ◌∷◌, ◌++◌, length, refl, sym, ◌∙◌, ap, arith}
 use Rattle.std.proofs.lemmas.List.{get_or_append_left}
 use Rattle.thy_base.specs.declared.block.Block.{Block}
-use Rattle.thy_record.specs.Decode.{decode}
+use Rattle.thy_view.specs.Kind.{KindOf}
 use Rattle.thy_text.specs.Happening.{Happening, EpochEnd, Commit, Cut, Restart, Reload, Ended}
 use Rattle.thy_view.specs.Origin.{Origin}
 use Rattle.thy_view.specs.Safe.{ceiling}
@@ -14,15 +14,15 @@ pub since_from-append : (s : Since) (vs ws : List Happening) → since_from s (v
 since_from-append s [] ws = refl
 since_from-append s (v ∷ vs) ws = since_from-append (since_after s v) vs ws
 
-pub AllFitImages-append : (o : Origin) (left : List (List Block)) (s : Since) (vs ws : List Happening)
-    → AllFitImages o left s vs → AllFitImages o left (since_from s vs) ws → AllFitImages o left s (vs ++ ws)
-AllFitImages-append o left s [] ws before more = more
-AllFitImages-append o left s (v ∷ vs) ws before more = (before.0, AllFitImages-append o left (since_after s v) vs ws before.1 more)
+pub AllFitImages-append : {M : Type 0} (K : KindOf M) → (o : Origin) (left : List (List Block)) (s : Since) (vs ws : List Happening)
+    → AllFitImages K o left s vs → AllFitImages K o left (since_from s vs) ws → AllFitImages K o left s (vs ++ ws)
+AllFitImages-append K o left s [] ws before more = more
+AllFitImages-append K o left s (v ∷ vs) ws before more = (before.0, AllFitImages-append K o left (since_after s v) vs ws before.1 more)
 
 -- and the first of them
-pub AllFitImages-part : (o : Origin) (left : List (List Block)) (s : Since) (vs ws : List Happening) → AllFitImages o left s (vs ++ ws) → AllFitImages o left s vs
-AllFitImages-part o left s [] ws all = tt
-AllFitImages-part o left s (v ∷ vs) ws all = (all.0, AllFitImages-part o left (since_after s v) vs ws all.1)
+pub AllFitImages-part : {M : Type 0} (K : KindOf M) → (o : Origin) (left : List (List Block)) (s : Since) (vs ws : List Happening) → AllFitImages K o left s (vs ++ ws) → AllFitImages K o left s vs
+AllFitImages-part K o left s [] ws all = tt
+AllFitImages-part K o left s (v ∷ vs) ws all = (all.0, AllFitImages-part K o left (since_after s v) vs ws all.1)
 
 -- ---- one more image
 
@@ -58,26 +58,26 @@ cuts_grow s [] = omega arith
 cuts_grow s (v ∷ vs) = let one = more_cuts s v in let rest = cuts_grow (since_after s v) vs in omega (arith, one, rest)
 
 -- an earlier image is as it was
-pub left_by-more : (o : Origin) (left : List (List Block)) (g : List Block) (k : ℕ) → 0 < k → k ≤ length left → left_by o (left ++ g ∷ []) k ≡ left_by o left k
-left_by-more o left g k some few = ap (decode o.geometry ceiling) (get_or_append_left left (g ∷ []) [] (k - 1) (omega arith))
+pub left_by-more : {M : Type 0} (K : KindOf M) → (o : Origin) (left : List (List Block)) (g : List Block) (k : ℕ) → 0 < k → k ≤ length left → left_by K o (left ++ g ∷ []) k ≡ left_by K o left k
+left_by-more K o left g k some few = ap (K.decode o.geometry ceiling) (get_or_append_left left (g ∷ []) [] (k - 1) (omega arith))
 
-pub HasLeft-more : (o : Origin) (left : List (List Block)) (g : List Block) (s : Since) → IsValid s → s.cuts ≤ length left → HasLeft o left s → HasLeft o (left ++ g ∷ []) s
-HasLeft-more o left g s valid few h = λ cycle e f. h cycle e (sym (left_by-more o left g s.cuts (valid cycle e) few) ∙ f)
+pub HasLeft-more : {M : Type 0} (K : KindOf M) → (o : Origin) (left : List (List Block)) (g : List Block) (s : Since) → IsValid s → s.cuts ≤ length left → HasLeft K o left s → HasLeft K o (left ++ g ∷ []) s
+HasLeft-more K o left g s valid few h = λ cycle e f. h cycle e (sym (left_by-more K o left g s.cuts (valid cycle e) few) ∙ f)
 
-fits_more : (o : Origin) (left : List (List Block)) (g : List Block) (s : Since) (v : Happening) → IsValid s → s.cuts ≤ length left → FitsImage o left s v → FitsImage o (left ++ g ∷ []) s v
-fits_more o left g s (Restart epoch count state) valid few h = (h.0, left_by-more o left g s.cuts h.0 few ∙ h.1)
-fits_more o left g s Reload valid few h = (left_by-more o left g s.cuts (valid h.1.0 h.1.1) few ∙ h.0, h.1)
-fits_more o left g s (EpochEnd epoch count cause) valid few h = HasLeft-more o left g s valid few h
-fits_more o left g s (Commit epoch at overlapped) valid few h = HasLeft-more o left g s valid few h
-fits_more o left g s (Cut index at) valid few h = HasLeft-more o left g s valid few h
-fits_more o left g s (Ended status count at state) valid few h = HasLeft-more o left g s valid few h
+fits_more : {M : Type 0} (K : KindOf M) → (o : Origin) (left : List (List Block)) (g : List Block) (s : Since) (v : Happening) → IsValid s → s.cuts ≤ length left → FitsImage K o left s v → FitsImage K o (left ++ g ∷ []) s v
+fits_more K o left g s (Restart epoch count state) valid few h = (h.0, left_by-more K o left g s.cuts h.0 few ∙ h.1)
+fits_more K o left g s Reload valid few h = (left_by-more K o left g s.cuts (valid h.1.0 h.1.1) few ∙ h.0, h.1)
+fits_more K o left g s (EpochEnd epoch count cause) valid few h = HasLeft-more K o left g s valid few h
+fits_more K o left g s (Commit epoch at overlapped) valid few h = HasLeft-more K o left g s valid few h
+fits_more K o left g s (Cut index at) valid few h = HasLeft-more K o left g s valid few h
+fits_more K o left g s (Ended status count at state) valid few h = HasLeft-more K o left g s valid few h
 
-pub AllFitImages-more : (o : Origin) (left : List (List Block)) (g : List Block) (s : Since) (vs : List Happening) → IsValid s → (since_from s vs).cuts ≤ length left
-    → AllFitImages o left s vs → AllFitImages o (left ++ g ∷ []) s vs
-AllFitImages-more o left g s [] valid few all = tt
-AllFitImages-more o left g s (v ∷ vs) valid few all =
+pub AllFitImages-more : {M : Type 0} (K : KindOf M) → (o : Origin) (left : List (List Block)) (g : List Block) (s : Since) (vs : List Happening) → IsValid s → (since_from s vs).cuts ≤ length left
+    → AllFitImages K o left s vs → AllFitImages K o (left ++ g ∷ []) s vs
+AllFitImages-more K o left g s [] valid few all = tt
+AllFitImages-more K o left g s (v ∷ vs) valid few all =
     let one = more_cuts s v in
     let rest = cuts_grow (since_after s v) vs in (
-      fits_more o left g s v valid (omega (arith, one, rest, few)) all.0,
-      AllFitImages-more o left g (since_after s v) vs (valid_after s v) few all.1,
+      fits_more K o left g s v valid (omega (arith, one, rest, few)) all.0,
+      AllFitImages-more K o left g (since_after s v) vs (valid_after s v) few all.1,
     )

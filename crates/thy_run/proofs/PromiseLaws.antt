@@ -4,6 +4,7 @@ use Rattle.std.proofs.lemmas.Bool.{or_from}
 use Rattle.std.proofs.lemmas.List.Folds.{list_any-append}
 use Rattle.thy_base.specs.declared.block.Block.{Block}
 use Rattle.thy_base.specs.Device.{Device}
+use Rattle.thy_view.specs.Kind.{KindOf}
 use Rattle.thy_text.specs.Happening.{Happening, EpochEnd, Commit, Cut, Restart, Reload, Ended}
 use Rattle.thy_text.specs.Marks.{Marks, Course, loading_marks, marks_from, marks_after, AllLawful}
 use Rattle.thy_text.proofs.Histories.{marks_from-append}
@@ -70,14 +71,14 @@ uncut_since s (v ∷ vs) uncut = inr (first_uncut s v vs (λ none. settled_rest 
 -- ---- the promise, from its parts
 
 -- what the listed cuts come to
-cuts_fit : (cuts : List ℕ) (k : ℕ) (w : World) → Listed cuts k w → (cuts_among w.events ≡ numbered 1 (cuts_up_to k cuts)) × (length (cuts_among w.events) ≡ w.passed)
+cuts_fit : {M : Type 0} → (cuts : List ℕ) (k : ℕ) (w : World M) → Listed cuts k w → (cuts_among w.events ≡ numbered 1 (cuts_up_to k cuts)) × (length (cuts_among w.events) ≡ w.passed)
 cuts_fit cuts k w l = (
   l.among ∙ ap (numbered 1) (sym l.up_to),
   ap length l.among ∙ length-numbered 1 (take w.passed cuts) ∙ length-taken w.passed cuts l.few,
 )
 
-module _ (o : Origin) (cuts : List ℕ) (w : World) (least : 1 ≤ o.geometry.epoch) (g : Good o cuts w) where
-  done_promise : Promise o cuts w.cycles w.events w.device
+module _ {M : Type 0} (K : KindOf M) (o : Origin) (cuts : List ℕ) (w : World M) (least : 1 ≤ o.geometry.epoch) (g : Good K o cuts w) where
+  done_promise : Promise K o cuts w.cycles w.events w.device
   done_promise =
       let fit = cuts_fit cuts (last_cuttable w.events w.cycles) w g.listed in
       record {
@@ -89,77 +90,77 @@ module _ (o : Origin) (cuts : List ℕ) (w : World) (least : 1 ≤ o.geometry.ep
       }
 
   -- the step failed: events stay, and the device is safe for what was sealed
-  failed_promise : (n : Device) → StepFailed o w w.events n → Promise o cuts w.cycles w.events n
+  failed_promise : (n : Device) → StepFailed K o w w.events n → Promise K o cuts w.cycles w.events n
   failed_promise n f =
       let left : n.left ≡ w.device.left = f.framed.left in
       let m : Marks = marks_of o w.events in
       let p = done_promise in
       record {
         events_lawful = p.events_lawful;
-        restarts_decode = subst (λ (l : List (List Block)). RestartsDecode o l w.cycles w.events) (sym left) p.restarts_decode;
+        restarts_decode = subst (λ (l : List (List Block)). RestartsDecode K o l w.cycles w.events) (sym left) p.restarts_decode;
         cuts_listed = p.cuts_listed;
         images_left = ap length left ∙ p.images_left;
-        safe_at_return = Safe-covered o m.kept m.sealed (seen o w).done (seen o w).sealed n (Covers-sealed o (seen o w) m g.stands.fits) f.safe;
+        safe_at_return = Safe-covered K o m.kept m.sealed (seen K o w).done (seen K o w).sealed n (Covers-sealed o (seen K o w) m g.stands.fits) f.safe;
       }
 
   -- of the step's events only a part was made
-  telling_promise : (part rest : List Happening) (next : World) (n : Device) → Steps o w next → next.events ≡ w.events ++ part ++ rest → has_ended part ≡ false
-      → (n ≡ next.device) ⊎ ReadFailed next.device n → Promise o cuts w.cycles (w.events ++ part) n
+  telling_promise : (part rest : List Happening) (next : World M) (n : Device) → Steps K o w next → next.events ≡ w.events ++ part ++ rest → has_ended part ≡ false
+      → (n ≡ next.device) ⊎ ReadFailed next.device n → Promise K o cuts w.cycles (w.events ++ part) n
   telling_promise part rest next n step split unended device =
       let m : Marks = marks_of o w.events in
-      let es : List Happening = events_of o w.fresh (seen o w) step.r.did (seen o next) (w.cycles + 1) in
-      let after : Coheres o next = Coheres-stepped o w least g.stands next step in
-      let whole : es ≡ part ++ rest = behind_same w.events es (part ++ rest) (sym (ap (λ (x : World). x.events) step.next_is) ∙ split ∙ append_assoc w.events part rest) in
+      let es : List Happening = events_of o w.fresh (seen K o w) step.r.did (seen K o next) (w.cycles + 1) in
+      let after : Coheres K o next = Coheres-stepped K o w least g.stands next step in
+      let whole : es ≡ part ++ rest = behind_same w.events es (part ++ rest) (sym (ap (λ (x : World M). x.events) step.next_is) ∙ split ∙ append_assoc w.events part rest) in
       let uncut : cuts_among part ≡ [] =
-      first_none (cuts_among part) (cuts_among rest) (sym (cuts_among-append part rest) ∙ ap cuts_among (sym whole) ∙ events_uncut o w.fresh (seen o w) step.r.did (seen o next) (w.cycles + 1)) in
+      first_none (cuts_among part) (cuts_among rest) (sym (cuts_among-append part rest) ∙ ap cuts_among (sym whole) ∙ events_uncut o w.fresh (seen K o w) step.r.did (seen K o next) (w.cycles + 1)) in
       let left_next : next.device.left ≡ w.device.left = step.framed.left in
       let left : n.left ≡ next.device.left = elim device as (λ _. n.left ≡ next.device.left) [ inl e ↦ ap (λ (x : Device). x.left) e | inr f ↦ f.framed.left ] in
-      let fit = cuts_fit cuts w.cycles w (listed_going o cuts w g step.going) in
+      let fit = cuts_fit cuts w.cycles w (listed_going K o cuts w g step.going) in
       let same_cuts : cuts_among (w.events ++ part) ≡ cuts_among w.events =
       cuts_among-append w.events part ∙ ap (λ (l : List Happening). cuts_among w.events ++ l) uncut ∙ append-nil (cuts_among w.events) in
       let going : has_ended (w.events ++ part) ≡ false =
       list_any-append is_end w.events part ∙ or_from (has_ended w.events) (has_ended part) (g.stands.ended ∙ step.going) unended in
       let marks : marks_of o (w.events ++ part) ≡ marks_from o.start.count m part = marks_from-append o.start.count (loading_marks o.start.count) w.events part in
-      let covered = Covers-part o (seen o w) (seen o next) m step.r.did w.fresh (w.cycles + 1) least g.stands.fits step.is_step.step part rest (sym whole) in
-      let safe_next : Safe o (marks_from o.start.count m part).kept (marks_from o.start.count m part).sealed next.device =
-      Safe-covered o _ _ (seen o next).done (doubt_of (seen o next)) next.device covered step.is_step.safe in
-      let safe : Safe o (marks_from o.start.count m part).kept (marks_from o.start.count m part).sealed n = elim device as (λ _. Safe o (marks_from o.start.count m part).kept (marks_from o.start.count m part).sealed n) [
-        | inl e ↦ subst (Safe o (marks_from o.start.count m part).kept (marks_from o.start.count m part).sealed) (sym e) safe_next
-        | inr f ↦ Safe-failed o (marks_from o.start.count m part).kept (marks_from o.start.count m part).sealed next.device n safe_next f.failed f.framed
+      let covered = Covers-part o (seen K o w) (seen K o next) m step.r.did w.fresh (w.cycles + 1) least g.stands.fits step.is_step.step part rest (sym whole) in
+      let safe_next : Safe K.decode o (marks_from o.start.count m part).kept (marks_from o.start.count m part).sealed next.device =
+      Safe-covered K o _ _ (seen K o next).done (doubt_of (seen K o next)) next.device covered step.is_step.safe in
+      let safe : Safe K.decode o (marks_from o.start.count m part).kept (marks_from o.start.count m part).sealed n = elim device as (λ _. Safe K.decode o (marks_from o.start.count m part).kept (marks_from o.start.count m part).sealed n) [
+        | inl e ↦ subst (Safe K.decode o (marks_from o.start.count m part).kept (marks_from o.start.count m part).sealed) (sym e) safe_next
+        | inr f ↦ Safe-failed K.decode o (marks_from o.start.count m part).kept (marks_from o.start.count m part).sealed next.device n safe_next f.failed f.framed
       ] in
       record {
         events_lawful = AllLawful-part (course_of o) (loading_marks o.start.count) (w.events ++ part) rest (subst (AllLawful (course_of o) (loading_marks o.start.count)) split after.lawful);
         restarts_decode = record {
-          each = subst (λ (l : List (List Block)). AllFitImages o l no_cuts (w.events ++ part)) (sym left)
-              (AllFitImages-part o next.device.left no_cuts (w.events ++ part) rest (subst (AllFitImages o next.device.left no_cuts) split after.each));
-          last = subst (λ (l : List (List Block)). EndsFitting o l w.cycles (since_from no_cuts (w.events ++ part))) (sym (left ∙ left_next)) (ends_fitting part uncut);
+          each = subst (λ (l : List (List Block)). AllFitImages K o l no_cuts (w.events ++ part)) (sym left)
+              (AllFitImages-part K o next.device.left no_cuts (w.events ++ part) rest (subst (AllFitImages K o next.device.left no_cuts) split after.each));
+          last = subst (λ (l : List (List Block)). EndsFitting K o l w.cycles (since_from no_cuts (w.events ++ part))) (sym (left ∙ left_next)) (ends_fitting part uncut);
         };
         cuts_listed = same_cuts ∙ fit.0 ∙ ap (λ k. numbered 1 (cuts_up_to k cuts)) (sym (ap (λ b. if b then w.cycles - 1 else w.cycles) going));
         images_left = ap length (left ∙ left_next) ∙ g.stands.left ∙ sym (ap length same_cuts ∙ fit.1);
-        safe_at_return = subst (λ (x : Marks). Safe o x.kept x.sealed n) (sym marks) safe;
+        safe_at_return = subst (λ (x : Marks). Safe K.decode o x.kept x.sealed n) (sym marks) safe;
       }
     where
-      ends_fitting : (part : List Happening) → cuts_among part ≡ [] → EndsFitting o w.device.left w.cycles (since_from no_cuts (w.events ++ part))
-      ends_fitting part uncut = elim (uncut_since (since_from no_cuts w.events) part uncut) as (λ _. EndsFitting o w.device.left w.cycles (since_from no_cuts (w.events ++ part))) [
-        | inl none ↦ subst (λ (vs : List Happening). EndsFitting o w.device.left w.cycles (since_from no_cuts vs)) (sym (ap (λ (p : List Happening). w.events ++ p) none ∙ append-nil w.events)) g.stands.images.last
+      ends_fitting : (part : List Happening) → cuts_among part ≡ [] → EndsFitting K o w.device.left w.cycles (since_from no_cuts (w.events ++ part))
+      ends_fitting part uncut = elim (uncut_since (since_from no_cuts w.events) part uncut) as (λ _. EndsFitting K o w.device.left w.cycles (since_from no_cuts (w.events ++ part))) [
+        | inl none ↦ subst (λ (vs : List Happening). EndsFitting K o w.device.left w.cycles (since_from no_cuts vs)) (sym (ap (λ (p : List Happening). w.events ++ p) none ∙ append-nil w.events)) g.stands.images.last
         | inr settled ↦
             let e : since_from no_cuts (w.events ++ part) ≡ settled_since (since_from no_cuts w.events) = since_from-append no_cuts w.events part ∙ settled in
-            subst (EndsFitting o w.device.left w.cycles) (sym e) (λ cycle just. absurd (cc))
+            subst (EndsFitting K o w.device.left w.cycles) (sym e) (λ cycle just. absurd (cc))
       ]
 
-  pub ends_promise : (events : List Happening) (n : Device) → Ends o w events n → Promise o cuts w.cycles events n
+  pub ends_promise : (events : List Happening) (n : Device) → Ends K o w events n → Promise K o cuts w.cycles events n
   ends_promise events n (inl (same, device)) =
-      subst (λ (vs : List Happening). Promise o cuts w.cycles vs n) (sym same) (subst (Promise o cuts w.cycles w.events) (sym device) done_promise)
+      subst (λ (vs : List Happening). Promise K o cuts w.cycles vs n) (sym same) (subst (Promise K o cuts w.cycles w.events) (sym device) done_promise)
   ends_promise events n (inr (inl f)) =
-      subst (λ (vs : List Happening). Promise o cuts w.cycles vs n) (sym f.nothing_told)
-      (failed_promise n (subst (λ (vs : List Happening). StepFailed o w vs n) f.nothing_told f))
+      subst (λ (vs : List Happening). Promise K o cuts w.cycles vs n) (sym f.nothing_told)
+      (failed_promise n (subst (λ (vs : List Happening). StepFailed K o w vs n) f.nothing_told f))
   ends_promise events n (inr (inr t)) =
-      subst (λ (vs : List Happening). Promise o cuts w.cycles vs n) (sym t.told)
+      subst (λ (vs : List Happening). Promise K o cuts w.cycles vs n) (sym t.told)
       (telling_promise t.part t.rest t.next n t.steps (t.split ∙ ap (λ (vs : List Happening). vs ++ t.rest) t.told) t.unended t.device)
 
 -- every run keeps its promise
-pub Promise-finished : RunKeepsPromise
-Promise-finished o given cycles events n origin rising f =
+pub Promise-finished : {M : Type 0} (K : KindOf M) → RunKeepsPromise K
+Promise-finished K o given cycles events n origin rising f =
     let least : 1 ≤ o.geometry.epoch = origin.geometry.epoch_least in
-    let good = Good-ran o given cycles f.last least rising f.ran in
-    subst (λ k. Promise o given.cuts k events n) (cycles-ran o given cycles f.last f.ran) (ends_promise o given.cuts f.last least good events n f.ends)
+    let good = Good-ran K o given cycles f.last least rising f.ran in
+    subst (λ k. Promise K o given.cuts k events n) (cycles-ran K o given cycles f.last f.ran) (ends_promise K o given.cuts f.last least good events n f.ends)

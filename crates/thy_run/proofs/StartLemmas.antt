@@ -2,17 +2,14 @@
 use Rattle.std.proofs.Common.{◌≡◌, ℕ, ◌+◌, false, Some, List, [], refl, sym, ◌∙◌, ap, subst, inl, append-nil, arith}
 use Rattle.thy_base.specs.Device.{Device}
 use Rattle.thy_base.specs.Outside.{Stream, Took}
+use Rattle.thy_view.specs.Kind.{KindOf, IsLawful}
 use Rattle.thy_text.specs.Happening.{Happening}
 use Rattle.thy_text.specs.Lines.{report_of}
 use Rattle.thy_view.specs.declared.view.View.{View}
 use Rattle.thy_view.specs.Booting.{loading_view}
-use Rattle.thy_copy_model.specs.Calls.{Core, IsAt}
 use Rattle.thy_view.specs.Views.{is_halt, doubt_of}
-use Rattle.thy_copy_model.specs.Moments.{IsPoweredOn}
 use Rattle.thy_view.specs.Origin.{Origin}
 use Rattle.thy_view.specs.Safe.{Safe}
-use Rattle.thy_copy_model.specs.Sound.{view_of}
-use Rattle.thy_copy_model.proofs.CallLaws.{IsPoweredOn-some, IsAt-fresh, Safe-at}
 use Rattle.thy_run.specs.Cuts.{has_ended}
 use Rattle.thy_run.specs.Laws.{released_of}
 use Rattle.thy_run.specs.World.{IsFirst}
@@ -32,20 +29,20 @@ sends_none : (text : List ℕ) (s : Stream) → text ≡ [] → Sends [] text fa
 sends_none text s none = record { more = []; grew = none; sent = Took-none s }
 
 -- power comes on for the first time
-first_of : (plan : Plan) (m : Core) (n : Device) → IsPlanned plan → IsPoweredOn plan.geometry m → IsFitted plan n
-    → IsFirst (origin_of plan) (given_of plan n) (world_at (first_progress plan m) n 0)
-first_of plan m n planned powered f =
+first_of : {M : Type 0} (K : KindOf M) (laws : IsLawful K) → (plan : Plan) (m : M) (n : Device) → IsPlanned plan → K.powered plan.geometry m → IsFitted K plan n
+    → IsFirst K (origin_of plan) (given_of plan n) (world_at (first_progress plan m) n 0)
+first_of {M = M} K laws plan m n planned powered f =
     let o : Origin = origin_of plan in
-    let law = IsAt-fresh o m f.shape f.before planned.origin powered f.blocks in
-    let at_first : IsAt o 0 m n = subst (IsAt o 0 m) (sym f.is_fitted) law.0 in
-    let view : view_of o m n ≡ loading_view o.start.count = ap (view_of o m) f.is_fitted ∙ law.1 in
-    let S : View → Type 0 = λ v. Safe o v.done (doubt_of v) n in
+    let law = laws.begins o m f.shape f.before planned.origin powered f.blocks in
+    let at_first : K.is_at o 0 m n = subst (K.is_at o 0 m) (sym f.is_fitted) law.0 in
+    let view : K.view o m n ≡ loading_view o.start.count = ap (K.view o m) f.is_fitted ∙ law.1 in
+    let S : View → Type 0 = λ v. Safe K.decode o v.done (doubt_of v) n in
     record {
       device = refl;
       powered = powered;
       at_moment = at_first;
       loading = view;
-      safe = subst S view (Safe-at o 0 m n at_first);
+      safe = subst S view (laws.is_safe o 0 m n at_first);
       left = ap (λ (d : Device). d.left) f.is_fitted;
       mix = refl;
       passed = refl;
@@ -55,12 +52,12 @@ first_of plan m n planned powered f =
     }
 
 -- the loop before its first turn
-pub Running-first : (plan : Plan) (p : Progress) (m : Core) (n : Device) (t r : Stream) → IsPlanned plan → IsPoweredOn plan.geometry m → IsFitted plan n
-    → p ≡ first_progress plan m → Running plan n p n 0 t t r r
-Running-first plan p m n t r planned powered f is =
+pub Running-first : {M : Type 0} (K : KindOf M) (laws : IsLawful K) → (plan : Plan) (p : Progress M) (m : M) (n : Device) (t r : Stream) → IsPlanned plan → K.powered plan.geometry m → IsFitted K plan n
+    → p ≡ first_progress plan m → Running K plan n p n 0 t t r r
+Running-first {M = M} K laws plan p m n t r planned powered f is =
     let o : Origin = origin_of plan in
-    let first = first_of plan m n planned powered f in
-    let here : Running plan n (first_progress plan m) n 0 t t r r = record {
+    let first = first_of K laws plan m n planned powered f in
+    let here : Running K plan n (first_progress plan m) n 0 t t r r = record {
       goes = record {
         ran = first;
         going = ap (λ v. is_halt v.phase) first.loading;
@@ -73,14 +70,14 @@ Running-first plan p m n t r planned powered f is =
       shown_all = sends_none (released_of o []) t refl;
       read_all = sends_none [] r refl;
     } in
-    subst (λ (x : Progress). Running plan n x n 0 t t r r) (sym is) here
+    subst (λ (x : Progress M). Running K plan n x n 0 t t r r) (sym is) here
 
 -- no memory was found for a machine
-pub RunEnds-unpowered : (plan : Plan) (events : List Happening) (n : Device) (t r : Stream) → IsPlanned plan → IsFitted plan n → events ≡ []
-    → RunEnds plan n n (record { stop = Memory; events = events; cycles = 0; mute = false; deaf = false }) t t r r
-RunEnds-unpowered plan events n t r planned f none = record {
-  last = world_at (first_progress plan (IsPoweredOn-some plan.geometry).0) n 0;
-  ran = first_of plan (IsPoweredOn-some plan.geometry).0 n planned (IsPoweredOn-some plan.geometry).1 f;
+pub RunEnds-unpowered : {M : Type 0} (K : KindOf M) (laws : IsLawful K) → (plan : Plan) (events : List Happening) (n : Device) (t r : Stream) → IsPlanned plan → IsFitted K plan n → events ≡ []
+    → RunEnds K plan n n (record { stop = Memory; events = events; cycles = 0; mute = false; deaf = false }) t t r r
+RunEnds-unpowered K laws plan events n t r planned f none = record {
+  last = world_at (first_progress plan (laws.powers plan.geometry).0) n 0;
+  ran = first_of K laws plan (laws.powers plan.geometry).0 n planned (laws.powers plan.geometry).1 f;
   ends = inl (none, refl);
   few = omega arith;
   shown_all = record { some = []; rest = []; grew = ap (released_of (origin_of plan)) none; took = Took-none t };
@@ -89,12 +86,12 @@ RunEnds-unpowered plan events n t r planned f none = record {
 }
 
 -- as many cycles as the limit allows are done
-pub RunEnds-limit : (plan : Plan) (fit : Device) (p : Progress) (n : Device) (k limit : ℕ) (t0 t r0 r : Stream) → IsPlanned plan → Running plan fit p n k t0 t r0 r → k ≡ limit
-    → limit ≡ plan.geometry.limit → RunEnds plan fit n (record { stop = Limit; events = p.events; cycles = limit; mute = p.mute; deaf = p.deaf }) t0 t r0 r
-RunEnds-limit plan fit p n k limit t0 t r0 r planned running same limit_is =
+pub RunEnds-limit : {M : Type 0} (K : KindOf M) → (plan : Plan) (fit : Device) (p : Progress M) (n : Device) (k limit : ℕ) (t0 t r0 r : Stream) → IsPlanned plan → Running K plan fit p n k t0 t r0 r → k ≡ limit
+    → limit ≡ plan.geometry.limit → RunEnds K plan fit n (record { stop = Limit; events = p.events; cycles = limit; mute = p.mute; deaf = p.deaf }) t0 t r0 r
+RunEnds-limit {M = M} K plan fit p n k limit t0 t r0 r planned running same limit_is =
     let o : Origin = origin_of plan in
-    let going : has_ended p.events ≡ false = (good_of plan fit p n k planned running.goes).stands.ended ∙ running.goes.going in
-    let here : RunEnds plan fit n (record { stop = Limit; events = p.events; cycles = k; mute = p.mute; deaf = p.deaf }) t0 t r0 r = record {
+    let going : has_ended p.events ≡ false = (good_of K plan fit p n k planned running.goes).stands.ended ∙ running.goes.going in
+    let here : RunEnds K plan fit n (record { stop = Limit; events = p.events; cycles = k; mute = p.mute; deaf = p.deaf }) t0 t r0 r = record {
       last = world_at p n k;
       ran = running.goes.ran;
       ends = (refl, refl);
@@ -103,4 +100,4 @@ RunEnds-limit plan fit p n k limit t0 t r0 r planned running same limit_is =
       read_all = subst (λ b. Sends [] (report_of plan.digest p.events) b r0 r) (sym running.goes.heard) running.read_all;
       stop_fits = (same ∙ limit_is, going, running.goes.spoken, running.goes.heard, running.goes.calm);
     } in
-    subst (λ c. RunEnds plan fit n (record { stop = Limit; events = p.events; cycles = c; mute = p.mute; deaf = p.deaf }) t0 t r0 r) same here
+    subst (λ c. RunEnds K plan fit n (record { stop = Limit; events = p.events; cycles = c; mute = p.mute; deaf = p.deaf }) t0 t r0 r) same here

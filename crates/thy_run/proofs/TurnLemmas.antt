@@ -3,6 +3,7 @@ use Rattle.std.proofs.Common.{◌≡◌, ℕ, suc, ◌+◌, ◌<◌, ◌≤◌, 
 use Rattle.thy_base.specs.Device.{Device, RoseFaults}
 use Rattle.thy_base.specs.Outside.{Stream}
 use Rattle.thy_base.proofs.Streams.{Took-append, TookPart-append, TookPart-more}
+use Rattle.thy_view.specs.Kind.{KindOf}
 use Rattle.thy_text.specs.Happening.{Happening}
 use Rattle.thy_text.specs.Lines.{report_of}
 use Rattle.thy_run.specs.Laws.{released_of}
@@ -61,14 +62,14 @@ read_on digest failed before after more x y z grew one two =
     (subst (λ (l : List Happening). Sends (report_of digest l) (report_of digest after) failed y z) same two)
 
 -- what was told grew
-pub told_of : (plan : Plan) (p q : Progress) (n m : Device) (k : ℕ) (bytes : List ℕ) (outcome : Outcome) → ComesTo plan p q n m k bytes outcome → (more : List Happening) × (q.events ≡ p.events ++ more)
-told_of plan p q n m k bytes Goes c = c.0.told
-told_of plan p q n m k bytes (Ends status) c = c.0.told
-told_of plan p q n m k bytes (Fails stop) c = c.0.told
+pub told_of : {M : Type 0} (K : KindOf M) → (plan : Plan) (p q : Progress M) (n m : Device) (k : ℕ) (bytes : List ℕ) (outcome : Outcome) → ComesTo K plan p q n m k bytes outcome → (more : List Happening) × (q.events ≡ p.events ++ more)
+told_of {M = M} K plan p q n m k bytes Goes c = c.0.told
+told_of {M = M} K plan p q n m k bytes (Ends status) c = c.0.told
+told_of {M = M} K plan p q n m k bytes (Fails stop) c = c.0.told
 
-pub told_more : (plan : Plan) (p q : Progress) (n m : Device) (k : ℕ) (bytes : List ℕ) (outcome : Outcome) → ComesTo plan p q n m k bytes outcome → length p.events ≤ length q.events
-told_more plan p q n m k bytes outcome c =
-    let t = told_of plan p q n m k bytes outcome c in
+pub told_more : {M : Type 0} (K : KindOf M) → (plan : Plan) (p q : Progress M) (n m : Device) (k : ℕ) (bytes : List ℕ) (outcome : Outcome) → ComesTo K plan p q n m k bytes outcome → length p.events ≤ length q.events
+told_more {M = M} K plan p q n m k bytes outcome c =
+    let t = told_of K plan p q n m k bytes outcome c in
     let e : length q.events ≡ length p.events + length t.0 = ap length t.1 ∙ length-append p.events t.0 in
     omega (arith, e)
 
@@ -83,18 +84,18 @@ is_fault Terminal = false
 is_fault Report = false
 is_fault Limit = false
 
-module _ (plan : Plan) (fitted : Device) (p q : Progress) (n m : Device) (k : ℕ) (bytes : List ℕ) (mute deaf : Bool) (t0 t1 t2 r0 r1 r2 : Stream)
-    (running : Running plan fitted p n k t0 t1 r0 r1) (few : k < plan.geometry.limit) (sent : Sent mute t1 t2 bytes)
+module _ {M : Type 0} (K : KindOf M) (plan : Plan) (fitted : Device) (p q : Progress M) (n m : Device) (k : ℕ) (bytes : List ℕ) (mute deaf : Bool) (t0 t1 t2 r0 r1 r2 : Stream)
+    (running : Running K plan fitted p n k t0 t1 r0 r1) (few : k < plan.geometry.limit) (sent : Sent mute t1 t2 bytes)
     (lines : Sends (report_of plan.digest (take (length p.events) q.events)) (report_of plan.digest q.events) deaf r1 r2) where
-  abbrev told_progress : Progress
+  abbrev told_progress : Progress M
   told_progress = record q { mute = mute; deaf = deaf }
 
-  ran_on : IsDone plan p q n m k bytes → Ran (origin_of plan) (given_of plan fitted) (k + 1) (world_at q m (k + 1))
+  ran_on : IsDone K plan p q n m k bytes → Ran K (origin_of plan) (given_of plan fitted) (k + 1) (world_at q m (k + 1))
   ran_on d =
       let e : suc k ≡ k + 1 = omega arith in
-      subst (λ (j : ℕ). Ran (origin_of plan) (given_of plan fitted) j (world_at q m (k + 1))) e (world_at p n k, running.goes.ran, d.cycle)
+      subst (λ (j : ℕ). Ran K (origin_of plan) (given_of plan fitted) j (world_at q m (k + 1))) e (world_at p n k, running.goes.ran, d.cycle)
 
-  shown_on : IsDone plan p q n m k bytes → Sends [] (released_of (origin_of plan) q.events) mute t0 t2
+  shown_on : IsDone K plan p q n m k bytes → Sends [] (released_of (origin_of plan) q.events) mute t0 t2
   shown_on d = Sends-append mute [] (released_of (origin_of plan) p.events) (released_of (origin_of plan) q.events) t0 t1 t2 running.shown_all
       (record { more = bytes; grew = d.releases; sent = sent })
 
@@ -102,9 +103,9 @@ module _ (plan : Plan) (fitted : Device) (p q : Progress) (n m : Device) (k : �
   read_all_on t = read_on plan.digest deaf p.events q.events t.0 r0 r1 r2 t.1 running.read_all lines
 
   -- the cycle is done, and a sink failed
-  done_stops : (stop : Stop) → IsDone plan p q n m k bytes → is_memory stop ≡ false → is_fault stop ≡ false
+  done_stops : (stop : Stop) → IsDone K plan p q n m k bytes → is_memory stop ≡ false → is_fault stop ≡ false
       → StopFits plan fitted m (record { stop = stop; events = q.events; cycles = k + 1; mute = mute; deaf = deaf }) stop
-      → RunEnds plan fitted m (record { stop = stop; events = q.events; cycles = k + 1; mute = mute; deaf = deaf }) t0 t2 r0 r2
+      → RunEnds K plan fitted m (record { stop = stop; events = q.events; cycles = k + 1; mute = mute; deaf = deaf }) t0 t2 r0 r2
   done_stops stop d short sound fits = record {
     last = world_at q m (k + 1);
     ran = ran_on d;
@@ -115,7 +116,7 @@ module _ (plan : Plan) (fitted : Device) (p q : Progress) (n m : Device) (k : �
     stop_fits = fits;
   }
     where
-      last_done : (stop : Stop) → is_memory stop ≡ false → is_fault stop ≡ false → EndsBy (origin_of plan) (world_at q m (k + 1)) q.events m stop
+      last_done : (stop : Stop) → is_memory stop ≡ false → is_fault stop ≡ false → EndsBy K (origin_of plan) (world_at q m (k + 1)) q.events m stop
       last_done (Ended status) short sound = (refl, refl)
       last_done Nvm short sound = absurd (cc)
       last_done Memory short sound = absurd (cc)
@@ -124,8 +125,8 @@ module _ (plan : Plan) (fitted : Device) (p q : Progress) (n m : Device) (k : �
       last_done Limit short sound = (refl, refl)
 
   -- the cycle is not done
-  broken_stops : (stop : Stop) → IsBroken plan p q n m k bytes → Breaks p q n m bytes stop
-      → RunEnds plan fitted m (record { stop = stop; events = q.events; cycles = k; mute = mute; deaf = deaf }) t0 t2 r0 r2
+  broken_stops : (stop : Stop) → IsBroken K plan p q n m k bytes → Breaks p q n m bytes stop
+      → RunEnds K plan fitted m (record { stop = stop; events = q.events; cycles = k; mute = mute; deaf = deaf }) t0 t2 r0 r2
   broken_stops stop b why = record {
     last = world_at p n k;
     ran = running.goes.ran;
@@ -136,7 +137,7 @@ module _ (plan : Plan) (fitted : Device) (p q : Progress) (n m : Device) (k : �
     stop_fits = because stop why;
   }
     where
-      begun : (stop : Stop) → Breaks p q n m bytes stop → EndsBy (origin_of plan) (world_at p n k) q.events m stop
+      begun : (stop : Stop) → Breaks p q n m bytes stop → EndsBy K (origin_of plan) (world_at p n k) q.events m stop
       begun Nvm f = b.unfinished
       begun Memory f = inr b.unfinished
       begun (Ended status) f = absurd f
@@ -162,18 +163,18 @@ module _ (plan : Plan) (fitted : Device) (p q : Progress) (n m : Device) (k : �
       because Limit f = absurd f
 
 -- a sink that failed stops a run that has a done cycle
-goes_turned : (plan : Plan) (fitted : Device) (p q : Progress) (n m : Device) (k : ℕ) (bytes : List ℕ) (mute deaf : Bool) (t0 t1 t2 r0 r1 r2 : Stream)
-    → Running plan fitted p n k t0 t1 r0 r1 → k < plan.geometry.limit → Sent mute t1 t2 bytes
+goes_turned : {M : Type 0} (K : KindOf M) → (plan : Plan) (fitted : Device) (p q : Progress M) (n m : Device) (k : ℕ) (bytes : List ℕ) (mute deaf : Bool) (t0 t1 t2 r0 r1 r2 : Stream)
+    → Running K plan fitted p n k t0 t1 r0 r1 → k < plan.geometry.limit → Sent mute t1 t2 bytes
     → Sends (report_of plan.digest (take (length p.events) q.events)) (report_of plan.digest q.events) deaf r1 r2
-    → IsDone plan p q n m k bytes × (is_halt (seen (origin_of plan) (world_at q m (k + 1))).phase ≡ false)
-    → IsTurned plan fitted (record q { mute = mute; deaf = deaf }) m k t0 t2 r0 r2 (turned_of Goes mute deaf)
-goes_turned plan fitted p q n m k bytes mute true t0 t1 t2 r0 r1 r2 running few sent lines c =
-    done_stops plan fitted p q n m k bytes mute true t0 t1 t2 r0 r1 r2 running few sent lines Report c.0 refl refl (refl, c.0.calm ∙ running.goes.calm)
-goes_turned plan fitted p q n m k bytes true false t0 t1 t2 r0 r1 r2 running few sent lines c =
-    done_stops plan fitted p q n m k bytes true false t0 t1 t2 r0 r1 r2 running few sent lines Terminal c.0 refl refl (refl, refl, c.0.calm ∙ running.goes.calm)
-goes_turned plan fitted p q n m k bytes false false t0 t1 t2 r0 r1 r2 running few sent lines c = record {
+    → IsDone K plan p q n m k bytes × (is_halt (seen K (origin_of plan) (world_at q m (k + 1))).phase ≡ false)
+    → IsTurned K plan fitted (record q { mute = mute; deaf = deaf }) m k t0 t2 r0 r2 (turned_of Goes mute deaf)
+goes_turned {M = M} K plan fitted p q n m k bytes mute true t0 t1 t2 r0 r1 r2 running few sent lines c =
+    done_stops K plan fitted p q n m k bytes mute true t0 t1 t2 r0 r1 r2 running few sent lines Report c.0 refl refl (refl, c.0.calm ∙ running.goes.calm)
+goes_turned {M = M} K plan fitted p q n m k bytes true false t0 t1 t2 r0 r1 r2 running few sent lines c =
+    done_stops K plan fitted p q n m k bytes true false t0 t1 t2 r0 r1 r2 running few sent lines Terminal c.0 refl refl (refl, refl, c.0.calm ∙ running.goes.calm)
+goes_turned {M = M} K plan fitted p q n m k bytes false false t0 t1 t2 r0 r1 r2 running few sent lines c = record {
   goes = record {
-    ran = ran_on plan fitted p q n m k bytes false false t0 t1 t2 r0 r1 r2 running few sent lines c.0;
+    ran = ran_on K plan fitted p q n m k bytes false false t0 t1 t2 r0 r1 r2 running few sent lines c.0;
     going = c.1;
     released = c.0.released;
     room = c.0.room ∙ running.goes.room;
@@ -181,31 +182,31 @@ goes_turned plan fitted p q n m k bytes false false t0 t1 t2 r0 r1 r2 running fe
     spoken = refl;
     heard = refl;
   };
-  shown_all = shown_on plan fitted p q n m k bytes false false t0 t1 t2 r0 r1 r2 running few sent lines c.0;
-  read_all = read_all_on plan fitted p q n m k bytes false false t0 t1 t2 r0 r1 r2 running few sent lines c.0.told;
+  shown_all = shown_on K plan fitted p q n m k bytes false false t0 t1 t2 r0 r1 r2 running few sent lines c.0;
+  read_all = read_all_on K plan fitted p q n m k bytes false false t0 t1 t2 r0 r1 r2 running few sent lines c.0.told;
 }
 
-ends_turned : (plan : Plan) (fitted : Device) (p q : Progress) (n m : Device) (k : ℕ) (bytes : List ℕ) (status : Status) (mute deaf : Bool) (t0 t1 t2 r0 r1 r2 : Stream)
-    → Running plan fitted p n k t0 t1 r0 r1 → k < plan.geometry.limit → Sent mute t1 t2 bytes
+ends_turned : {M : Type 0} (K : KindOf M) → (plan : Plan) (fitted : Device) (p q : Progress M) (n m : Device) (k : ℕ) (bytes : List ℕ) (status : Status) (mute deaf : Bool) (t0 t1 t2 r0 r1 r2 : Stream)
+    → Running K plan fitted p n k t0 t1 r0 r1 → k < plan.geometry.limit → Sent mute t1 t2 bytes
     → Sends (report_of plan.digest (take (length p.events) q.events)) (report_of plan.digest q.events) deaf r1 r2
-    → ComesTo plan p q n m k bytes (Ends status)
-    → IsTurned plan fitted (record q { mute = mute; deaf = deaf }) m k t0 t2 r0 r2 (turned_of (Ends status) mute deaf)
-ends_turned plan fitted p q n m k bytes status mute true t0 t1 t2 r0 r1 r2 running few sent lines c =
-    done_stops plan fitted p q n m k bytes mute true t0 t1 t2 r0 r1 r2 running few sent lines Report c.0 refl refl (refl, c.0.calm ∙ running.goes.calm)
-ends_turned plan fitted p q n m k bytes status true false t0 t1 t2 r0 r1 r2 running few sent lines c =
-    done_stops plan fitted p q n m k bytes true false t0 t1 t2 r0 r1 r2 running few sent lines Terminal c.0 refl refl (refl, refl, c.0.calm ∙ running.goes.calm)
-ends_turned plan fitted p q n m k bytes status false false t0 t1 t2 r0 r1 r2 running few sent lines c =
-    done_stops plan fitted p q n m k bytes false false t0 t1 t2 r0 r1 r2 running few sent lines (Ended status) c.0 refl refl (c.2, refl, refl, c.0.calm ∙ running.goes.calm)
+    → ComesTo K plan p q n m k bytes (Ends status)
+    → IsTurned K plan fitted (record q { mute = mute; deaf = deaf }) m k t0 t2 r0 r2 (turned_of (Ends status) mute deaf)
+ends_turned {M = M} K plan fitted p q n m k bytes status mute true t0 t1 t2 r0 r1 r2 running few sent lines c =
+    done_stops K plan fitted p q n m k bytes mute true t0 t1 t2 r0 r1 r2 running few sent lines Report c.0 refl refl (refl, c.0.calm ∙ running.goes.calm)
+ends_turned {M = M} K plan fitted p q n m k bytes status true false t0 t1 t2 r0 r1 r2 running few sent lines c =
+    done_stops K plan fitted p q n m k bytes true false t0 t1 t2 r0 r1 r2 running few sent lines Terminal c.0 refl refl (refl, refl, c.0.calm ∙ running.goes.calm)
+ends_turned {M = M} K plan fitted p q n m k bytes status false false t0 t1 t2 r0 r1 r2 running few sent lines c =
+    done_stops K plan fitted p q n m k bytes false false t0 t1 t2 r0 r1 r2 running few sent lines (Ended status) c.0 refl refl (c.2, refl, refl, c.0.calm ∙ running.goes.calm)
 
 -- a cycle that was told is a turn
-pub IsTurned-told : (plan : Plan) (fitted : Device) (p q : Progress) (n m : Device) (k : ℕ) (bytes : List ℕ) (outcome : Outcome) (mute deaf : Bool) (t0 t1 t2 r0 r1 r2 : Stream)
-    → Running plan fitted p n k t0 t1 r0 r1 → k < plan.geometry.limit → Sent mute t1 t2 bytes
+pub IsTurned-told : {M : Type 0} (K : KindOf M) → (plan : Plan) (fitted : Device) (p q : Progress M) (n m : Device) (k : ℕ) (bytes : List ℕ) (outcome : Outcome) (mute deaf : Bool) (t0 t1 t2 r0 r1 r2 : Stream)
+    → Running K plan fitted p n k t0 t1 r0 r1 → k < plan.geometry.limit → Sent mute t1 t2 bytes
     → Sends (report_of plan.digest (take (length p.events) q.events)) (report_of plan.digest q.events) deaf r1 r2
-    → ComesTo plan p q n m k bytes outcome
-    → IsTurned plan fitted (record q { mute = mute; deaf = deaf }) m k t0 t2 r0 r2 (turned_of outcome mute deaf)
-IsTurned-told plan fitted p q n m k bytes Goes mute deaf t0 t1 t2 r0 r1 r2 running few sent lines c =
-    goes_turned plan fitted p q n m k bytes mute deaf t0 t1 t2 r0 r1 r2 running few sent lines c
-IsTurned-told plan fitted p q n m k bytes (Ends status) mute deaf t0 t1 t2 r0 r1 r2 running few sent lines c =
-    ends_turned plan fitted p q n m k bytes status mute deaf t0 t1 t2 r0 r1 r2 running few sent lines c
-IsTurned-told plan fitted p q n m k bytes (Fails stop) mute deaf t0 t1 t2 r0 r1 r2 running few sent lines c =
-    broken_stops plan fitted p q n m k bytes mute deaf t0 t1 t2 r0 r1 r2 running few sent lines stop c.0 c.1
+    → ComesTo K plan p q n m k bytes outcome
+    → IsTurned K plan fitted (record q { mute = mute; deaf = deaf }) m k t0 t2 r0 r2 (turned_of outcome mute deaf)
+IsTurned-told {M = M} K plan fitted p q n m k bytes Goes mute deaf t0 t1 t2 r0 r1 r2 running few sent lines c =
+    goes_turned K plan fitted p q n m k bytes mute deaf t0 t1 t2 r0 r1 r2 running few sent lines c
+IsTurned-told {M = M} K plan fitted p q n m k bytes (Ends status) mute deaf t0 t1 t2 r0 r1 r2 running few sent lines c =
+    ends_turned K plan fitted p q n m k bytes status mute deaf t0 t1 t2 r0 r1 r2 running few sent lines c
+IsTurned-told {M = M} K plan fitted p q n m k bytes (Fails stop) mute deaf t0 t1 t2 r0 r1 r2 running few sent lines c =
+    broken_stops K plan fitted p q n m k bytes mute deaf t0 t1 t2 r0 r1 r2 running few sent lines stop c.0 c.1

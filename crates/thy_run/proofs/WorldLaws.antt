@@ -10,7 +10,7 @@ use Rattle.thy_base.specs.Config.{first_not_rising}
 use Rattle.thy_base.specs.Device.{Device, Crash, IsCut, cut_to}
 use Rattle.thy_base.proofs.CrashLemmas.{Crash-cut_to}
 use Rattle.thy_record.specs.Decoded.{Decoded, Nothing as NothingLeft, Refused as RefusedImage, At}
-use Rattle.thy_record.specs.Decode.{decode}
+use Rattle.thy_view.specs.Kind.{KindOf}
 use Rattle.thy_text.specs.Happening.{Happening, Cut, Reload, Ended}
 use Rattle.thy_text.specs.Marks.{Marks, loading_marks, marks_from, AllLawful}
 use Rattle.thy_text.proofs.Histories.{marks_from-append, AllLawful-append}
@@ -20,7 +20,6 @@ use Rattle.thy_view.specs.declared.view.Phase.{Phase}
 use Rattle.thy_view.specs.declared.view.Phase.TheVariants.{Boot as BootPhase, Run, Halt}
 use Rattle.thy_view.specs.declared.view.View.{View}
 use Rattle.thy_view.specs.Booting.{loading_view, view_of_image}
-use Rattle.thy_copy_model.specs.Calls.{IsAt}
 use Rattle.thy_view.specs.Views.{is_halt, loads, halts, mark, doubt_of}
 use Rattle.thy_view.specs.CoreStep.{CoreStep}
 use Rattle.thy_view.specs.Origin.{Origin, at}
@@ -84,26 +83,26 @@ events_end o fresh v did next cycle =
 -- ---- between two cycles
 
 -- what holds whatever the cuts are
-pub record Coheres (o : Origin) (w : World) : Type 0 where
-  pub at_moment : IsAt o w.cycles w.machine w.device
-  pub fits : Fits o (seen o w) (marks_of o w.events)
+pub record Coheres {M : Type 0} (K : KindOf M) (o : Origin) (w : World M) : Type 0 where
+  pub at_moment : K.is_at o w.cycles w.machine w.device
+  pub fits : Fits o (seen K o w) (marks_of o w.events)
   pub lawful : AllLawful (course_of o) (loading_marks o.start.count) w.events
-  pub safe : Safe o (marks_of o w.events).kept (marks_of o w.events).sealed w.device
-  pub each : AllFitImages o w.device.left no_cuts w.events
-  pub images : ImagesFit o w.device.left w.cycles w.fresh (seen o w) (since_from no_cuts w.events)
+  pub safe : Safe K.decode o (marks_of o w.events).kept (marks_of o w.events).sealed w.device
+  pub each : AllFitImages K o w.device.left no_cuts w.events
+  pub images : ImagesFit K o w.device.left w.cycles w.fresh (seen K o w) (since_from no_cuts w.events)
   pub since : (since_from no_cuts w.events).cuts ≡ w.passed
   pub left : length w.device.left ≡ w.passed
-  pub ended : has_ended w.events ≡ is_halt (seen o w).phase
+  pub ended : has_ended w.events ≡ is_halt (seen K o w).phase
   pub queue : w.fresh ≡ true → w.device.queue ≡ []
 
 -- the cuts that have fallen are the listed ones up to a cycle
-pub record Listed (cuts : List ℕ) (cycle : ℕ) (w : World) : Type 0 where
+pub record Listed {M : Type 0} (cuts : List ℕ) (cycle : ℕ) (w : World M) : Type 0 where
   pub few : w.passed ≤ length cuts
   pub up_to : cuts_up_to cycle cuts ≡ take w.passed cuts
   pub among : cuts_among w.events ≡ numbered 1 (take w.passed cuts)
 
-pub record Good (o : Origin) (cuts : List ℕ) (w : World) : Type 0 where
-  pub stands : Coheres o w
+pub record Good {M : Type 0} (K : KindOf M) (o : Origin) (cuts : List ℕ) (w : World M) : Type 0 where
+  pub stands : Coheres K o w
   pub listed : Listed cuts (last_cuttable w.events w.cycles) w
 
 -- ---- a step
@@ -112,12 +111,12 @@ and_true : (b : Bool) → (true && b) ≡ b
 and_true true = refl
 and_true false = refl
 
-module _ (o : Origin) (w : World) (least : 1 ≤ o.geometry.epoch) (h : Coheres o w) where
+module _ {M : Type 0} (K : KindOf M) (o : Origin) (w : World M) (least : 1 ≤ o.geometry.epoch) (h : Coheres K o w) where
   -- the world after a step, given as the definition has it
-  stepped_coheres : (x : World) (step : Steps o w x) → Coheres o (stepped o w x.machine x.device step.r.did)
+  stepped_coheres : (x : World M) (step : Steps K o w x) → Coheres K o (stepped K o w x.machine x.device step.r.did)
   stepped_coheres x step =
-      let next : View = seen o x in
-      let v : View = seen o w in
+      let next : View = seen K o x in
+      let v : View = seen K o w in
       let did : Did = step.r.did in
       let m : Marks = marks_of o w.events in
       let e : List Happening = events_of o w.fresh v did next (w.cycles + 1) in
@@ -125,19 +124,19 @@ module _ (o : Origin) (w : World) (least : 1 ≤ o.geometry.epoch) (h : Coheres 
       let events = Fits-events o v next m did w.fresh (w.cycles + 1) least h.fits core in
       let marks : marks_of o (w.events ++ e) ≡ marks_from o.start.count m e = marks_from-append o.start.count (loading_marks o.start.count) w.events e in
       let fits : Fits o next (marks_of o (w.events ++ e)) = subst (Fits o next) (sym marks) events.0 in
-      let image = StepFits-events o w.device.left w.cycles w.fresh v next (since_from no_cuts w.events) h.images did (w.cycles + 1) core in
+      let image = StepFits-events K o w.device.left w.cycles w.fresh v next (since_from no_cuts w.events) h.images did (w.cycles + 1) core in
       let since : since_from no_cuts (w.events ++ e) ≡ since_from (since_from no_cuts w.events) e = since_from-append no_cuts w.events e in
       let left : x.device.left ≡ w.device.left = step.framed.left in
       record {
         at_moment = step.is_step.at_next;
         fits = fits;
         lawful = AllLawful-append (course_of o) (loading_marks o.start.count) w.events e h.lawful events.1;
-        safe = Safe-covered o (marks_of o (w.events ++ e)).kept (marks_of o (w.events ++ e)).sealed next.done (doubt_of next) x.device
+        safe = Safe-covered K o (marks_of o (w.events ++ e)).kept (marks_of o (w.events ++ e)).sealed next.done (doubt_of next) x.device
             (Covers-fits o next (marks_of o (w.events ++ e)) fits) step.is_step.safe;
-        each = subst (λ (l : List (List Block)). AllFitImages o l no_cuts (w.events ++ e)) (sym left)
-            (AllFitImages-append o w.device.left no_cuts w.events e h.each image.each);
-        images = subst (λ (l : List (List Block)). ImagesFit o l (w.cycles + 1) false next (since_from no_cuts (w.events ++ e))) (sym left)
-            (subst (ImagesFit o w.device.left (w.cycles + 1) false next) (sym since) image.images);
+        each = subst (λ (l : List (List Block)). AllFitImages K o l no_cuts (w.events ++ e)) (sym left)
+            (AllFitImages-append K o w.device.left no_cuts w.events e h.each image.each);
+        images = subst (λ (l : List (List Block)). ImagesFit K o l (w.cycles + 1) false next (since_from no_cuts (w.events ++ e))) (sym left)
+            (subst (ImagesFit K o w.device.left (w.cycles + 1) false next) (sym since) image.images);
         since = ap (λ s. s.cuts) since ∙ image.cuts ∙ h.since;
         left = ap length left ∙ h.left;
         ended = list_any-append is_end w.events e ∙ ap (λ b. b || has_ended e) (h.ended ∙ step.going) ∙ events_end o w.fresh v did next (w.cycles + 1)
@@ -146,28 +145,28 @@ module _ (o : Origin) (w : World) (least : 1 ≤ o.geometry.epoch) (h : Coheres 
       }
 
   -- a step
-  pub Coheres-stepped : (x : World) (step : Steps o w x) → Coheres o x
-  Coheres-stepped x step = subst (Coheres o) (sym step.next_is) (stepped_coheres x step)
+  pub Coheres-stepped : (x : World M) (step : Steps K o w x) → Coheres K o x
+  Coheres-stepped x step = subst (Coheres K o) (sym step.next_is) (stepped_coheres x step)
 
 -- ---- the cuts that are listed
 
-listed_stepped : (o : Origin) (cuts : List ℕ) (w x : World) (cycle : ℕ) → Steps o w x → Listed cuts cycle w → Listed cuts cycle x
-listed_stepped o cuts w x cycle step l =
-    let e : List Happening = events_of o w.fresh (seen o w) step.r.did (seen o x) (w.cycles + 1) in
-    let now : Listed cuts cycle (stepped o w x.machine x.device step.r.did) = record {
+listed_stepped : {M : Type 0} (K : KindOf M) → (o : Origin) (cuts : List ℕ) (w x : World M) (cycle : ℕ) → Steps K o w x → Listed cuts cycle w → Listed cuts cycle x
+listed_stepped {M = M} K o cuts w x cycle step l =
+    let e : List Happening = events_of o w.fresh (seen K o w) step.r.did (seen K o x) (w.cycles + 1) in
+    let now : Listed cuts cycle (stepped K o w x.machine x.device step.r.did) = record {
       few = l.few;
       up_to = l.up_to;
-      among = cuts_among-append w.events e ∙ ap (λ (c : List Happening). cuts_among w.events ++ c) (events_uncut o w.fresh (seen o w) step.r.did (seen o x) (w.cycles + 1))
+      among = cuts_among-append w.events e ∙ ap (λ (c : List Happening). cuts_among w.events ++ c) (events_uncut o w.fresh (seen K o w) step.r.did (seen K o x) (w.cycles + 1))
           ∙ append-nil (cuts_among w.events) ∙ l.among;
     } in
     subst (Listed cuts cycle) (sym step.next_is) now
 
-stepped_cycles : (o : Origin) (w x : World) → Steps o w x → x.cycles ≡ w.cycles + 1
-stepped_cycles o w x step = ap (λ (y : World). y.cycles) step.next_is
+stepped_cycles : {M : Type 0} (K : KindOf M) → (o : Origin) (w x : World M) → Steps K o w x → x.cycles ≡ w.cycles + 1
+stepped_cycles {M = M} K o w x step = ap (λ (y : World M). y.cycles) step.next_is
 
 -- a run that goes on: the cuts up to its cycle
-pub listed_going : (o : Origin) (cuts : List ℕ) (w : World) → Good o cuts w → is_halt (seen o w).phase ≡ false → Listed cuts w.cycles w
-listed_going o cuts w g going =
+pub listed_going : {M : Type 0} (K : KindOf M) → (o : Origin) (cuts : List ℕ) (w : World M) → Good K o cuts w → is_halt (seen K o w).phase ≡ false → Listed cuts w.cycles w
+listed_going {M = M} K o cuts w g going =
     let e : last_cuttable w.events w.cycles ≡ w.cycles = ap (λ b. if b then w.cycles - 1 else w.cycles) (g.stands.ended ∙ going) in
     subst (λ c. Listed cuts c w) e g.listed
 
@@ -180,32 +179,32 @@ due_parts false false c e = absurd (cc)
 due_not : (a b c : Bool) → (not a && (b && c)) ≡ false → a ≡ false → b ≡ true → c ≡ true → ⊥
 due_not a b c e f g h = let t : (not a && (b && c)) ≡ true = ap (λ x. not x && (b && c)) f ∙ ap (λ x. x && c) g ∙ h in cc
 
-not_due : (o : Origin) (cuts : List ℕ) (x : World) (c : ℕ) → x.cycles ≡ c + 1 → Listed cuts c x → first_not_rising 0 cuts ≡ None
-    → is_due o cuts x ≡ false → is_halt (seen o x).phase ≡ false → Listed cuts (c + 1) x
-not_due o cuts x c cycles l rising due going = elim (next_cut c 0 cuts x.passed rising l.few l.up_to) as (λ _. Listed cuts (c + 1) x) [
-  | inl comes ↦ absurd (due_not (is_halt (seen o x).phase) (nat_lt x.passed (length cuts)) (slice_index cuts x.passed == x.cycles) due going
+not_due : {M : Type 0} (K : KindOf M) → (o : Origin) (cuts : List ℕ) (x : World M) (c : ℕ) → x.cycles ≡ c + 1 → Listed cuts c x → first_not_rising 0 cuts ≡ None
+    → is_due K o cuts x ≡ false → is_halt (seen K o x).phase ≡ false → Listed cuts (c + 1) x
+not_due {M = M} K o cuts x c cycles l rising due going = elim (next_cut c 0 cuts x.passed rising l.few l.up_to) as (λ _. Listed cuts (c + 1) x) [
+  | inl comes ↦ absurd (due_not (is_halt (seen K o x).phase) (nat_lt x.passed (length cuts)) (slice_index cuts x.passed == x.cycles) due going
       (lt-ltb x.passed (length cuts) comes.0) (eq-eqb (slice_index cuts x.passed) x.cycles (comes.1 ∙ sym cycles)))
   | inr none ↦ record { few = l.few; up_to = none.1; among = l.among }
 ]
 
 -- no cut is due after the step
-good_stepped : (o : Origin) (cuts : List ℕ) (w x : World) → first_not_rising 0 cuts ≡ None → Steps o w x → Listed cuts w.cycles w → Coheres o x → is_due o cuts x ≡ false
+good_stepped : {M : Type 0} (K : KindOf M) → (o : Origin) (cuts : List ℕ) (w x : World M) → first_not_rising 0 cuts ≡ None → Steps K o w x → Listed cuts w.cycles w → Coheres K o x → is_due K o cuts x ≡ false
     → Listed cuts (last_cuttable x.events x.cycles) x
-good_stepped o cuts w x rising step l stands due = by_end (is_halt (seen o x).phase) refl
+good_stepped {M = M} K o cuts w x rising step l stands due = by_end (is_halt (seen K o x).phase) refl
   where
     cycles : x.cycles ≡ w.cycles + 1
-    cycles = stepped_cycles o w x step
+    cycles = stepped_cycles K o w x step
 
-    at_cycle : (b : Bool) → is_halt (seen o x).phase ≡ b → last_cuttable x.events x.cycles ≡ (if b then x.cycles - 1 else x.cycles)
+    at_cycle : (b : Bool) → is_halt (seen K o x).phase ≡ b → last_cuttable x.events x.cycles ≡ (if b then x.cycles - 1 else x.cycles)
     at_cycle b is = ap (λ c. if c then x.cycles - 1 else x.cycles) (stands.ended ∙ is)
 
-    by_end : (b : Bool) → is_halt (seen o x).phase ≡ b → Listed cuts (last_cuttable x.events x.cycles) x
+    by_end : (b : Bool) → is_halt (seen K o x).phase ≡ b → Listed cuts (last_cuttable x.events x.cycles) x
     by_end true is =
         let last : last_cuttable x.events x.cycles ≡ w.cycles = at_cycle true is ∙ (let e : x.cycles - 1 ≡ w.cycles = omega (arith, cycles) in e) in
-        subst (λ c. Listed cuts c x) (sym last) (listed_stepped o cuts w x w.cycles step l)
+        subst (λ c. Listed cuts c x) (sym last) (listed_stepped K o cuts w x w.cycles step l)
     by_end false is =
         subst (λ c. Listed cuts c x) (sym (at_cycle false is ∙ cycles))
-        (not_due o cuts x w.cycles cycles (listed_stepped o cuts w x w.cycles step l) rising due is)
+        (not_due K o cuts x w.cycles cycles (listed_stepped K o cuts w x w.cycles step l) rising due is)
 
 -- ---- a cut
 
@@ -259,21 +258,21 @@ image_phase count (RefusedImage bad) = (refl, refl)
 image_phase count (At epoch state) = (refl, refl)
 
 -- after a cut the device is safe for what it was safe for
-pub Safe-cut : (o : Origin) (kept sealed : Option Mark) (old new : Device) → IsCut old new → Safe o kept sealed old → Safe o kept sealed new
-Safe-cut o kept sealed old new cut safe = λ h crash.
+pub Safe-cut : {M : Type 0} (K : KindOf M) → (o : Origin) (kept sealed : Option Mark) (old new : Device) → IsCut old new → Safe K.decode o kept sealed old → Safe K.decode o kept sealed new
+Safe-cut K o kept sealed old new cut safe = λ h crash.
     let at_cut : Crash (cut_to old new.image) h = subst (λ n. Crash n h) cut.device crash in
-    subst (λ g. IsOneOf o kept sealed (decode o.geometry ceiling g)) (sym (Crash-cut_to old new.image h at_cut)) (safe new.image cut.crash)
+    subst (λ g. IsOneOf o kept sealed (K.decode o.geometry ceiling g)) (sym (Crash-cut_to old new.image h at_cut)) (safe new.image cut.crash)
 
-module _ (o : Origin) (x next : World) (h : Coheres o x) (late : x.fresh ≡ false) (going : is_halt (seen o x).phase ≡ false)
-    (safe : Safe o (seen o x).done (doubt_of (seen o x)) x.device) (cut : IsCutOff o x next) where
+module _ {M : Type 0} (K : KindOf M) (o : Origin) (x next : World M) (h : Coheres K o x) (late : x.fresh ≡ false) (going : is_halt (seen K o x).phase ≡ false)
+    (safe : Safe K.decode o (seen K o x).done (doubt_of (seen K o x)) x.device) (cut : IsCutOff K o x next) where
   cut_event : List Happening
   cut_event = Cut (x.passed + 1) x.cycles ∷ []
 
   -- what the image that was left decodes to
   abbrev left_image : Decoded
-  left_image = decode o.geometry ceiling next.device.image
+  left_image = K.decode o.geometry ceiling next.device.image
 
-  one_of : IsOneOf o (seen o x).done (doubt_of (seen o x)) left_image
+  one_of : IsOneOf o (seen K o x).done (doubt_of (seen K o x)) left_image
   one_of = safe next.device.image cut.cut.crash
 
   lefts : next.device.left ≡ x.device.left ++ next.device.image ∷ []
@@ -285,8 +284,8 @@ module _ (o : Origin) (x next : World) (h : Coheres o x) (late : x.fresh ≡ fal
   cut_since : since_from no_cuts (x.events ++ Cut (x.passed + 1) x.cycles ∷ []) ≡ since_after (since_from no_cuts x.events) (Cut (x.passed + 1) x.cycles)
   cut_since = since_from-append no_cuts x.events (Cut (x.passed + 1) x.cycles ∷ [])
 
-  has_left : HasLeft o x.device.left (since_from no_cuts x.events)
-  has_left = λ cycle e. elim (h.images.just cycle e) as (λ _. left_by o x.device.left (since_from no_cuts x.events).cuts ≢ NothingLeft) [
+  has_left : HasLeft K o x.device.left (since_from no_cuts x.events)
+  has_left = λ cycle e. elim (h.images.just cycle e) as (λ _. left_by K o x.device.left (since_from no_cuts x.events).cuts ≢ NothingLeft) [
     | inl now ↦ absurd (let f : x.fresh ≡ true = now.0 in cc)
     | inr before ↦ h.images.last cycle e before
   ]
@@ -294,19 +293,19 @@ module _ (o : Origin) (x next : World) (h : Coheres o x) (late : x.fresh ≡ fal
   few_left : (since_from no_cuts x.events).cuts ≤ length x.device.left
   few_left = omega (arith, h.since, h.left)
 
-  each_cut : AllFitImages o (x.device.left ++ next.device.image ∷ []) no_cuts (x.events ++ Cut (x.passed + 1) x.cycles ∷ [])
+  each_cut : AllFitImages K o (x.device.left ++ next.device.image ∷ []) no_cuts (x.events ++ Cut (x.passed + 1) x.cycles ∷ [])
   each_cut =
-      AllFitImages-append o (x.device.left ++ next.device.image ∷ []) no_cuts x.events (Cut (x.passed + 1) x.cycles ∷ [])
-      (AllFitImages-more o x.device.left next.device.image no_cuts x.events (λ cycle e. absurd (cc)) few_left h.each)
-      (HasLeft-more o x.device.left next.device.image (since_from no_cuts x.events) (valid_events x.events) few_left has_left, tt)
+      AllFitImages-append K o (x.device.left ++ next.device.image ∷ []) no_cuts x.events (Cut (x.passed + 1) x.cycles ∷ [])
+      (AllFitImages-more K o x.device.left next.device.image no_cuts x.events (λ cycle e. absurd (cc)) few_left h.each)
+      (HasLeft-more K o x.device.left next.device.image (since_from no_cuts x.events) (valid_events x.events) few_left has_left, tt)
 
-  last_left : left_by o (x.device.left ++ next.device.image ∷ []) ((since_from no_cuts x.events).cuts + 1) ≡ left_image
+  last_left : left_by K o (x.device.left ++ next.device.image ∷ []) ((since_from no_cuts x.events).cuts + 1) ≡ left_image
   last_left =
       let index : (since_from no_cuts x.events).cuts + 1 - 1 ≡ length x.device.left = omega (arith, h.since, h.left) in
-      ap (decode o.geometry ceiling) (ap (λ i. slice_index_or (x.device.left ++ next.device.image ∷ []) i []) index
+      ap (K.decode o.geometry ceiling) (ap (λ i. slice_index_or (x.device.left ++ next.device.image ∷ []) i []) index
       ∙ get_or-append_seam x.device.left next.device.image [] [])
 
-  cut_images : ImagesFit o (x.device.left ++ next.device.image ∷ []) x.cycles true (view_of_image o.start.count left_image)
+  cut_images : ImagesFit K o (x.device.left ++ next.device.image ∷ []) x.cycles true (view_of_image o.start.count left_image)
       (since_after (since_from no_cuts x.events) (Cut (x.passed + 1) x.cycles))
   cut_images = record {
     last = λ cycle e before. absurd (let same : x.cycles ≡ cycle = cc in omega (arith, same, before));
@@ -315,21 +314,21 @@ module _ (o : Origin) (x next : World) (h : Coheres o x) (late : x.fresh ≡ fal
     boot = λ e. inr (
       omega arith,
       subst (IsFound o (view_of_image o.start.count left_image)) (sym last_left)
-          (cut_found o left_image x.device.left 0 (seen o x) one_of),
+          (cut_found o left_image x.device.left 0 (seen K o x) one_of),
     );
   }
 
-  cut_coheres : Coheres o (cut_off x next.machine next.device)
+  cut_coheres : Coheres K o (cut_off x next.machine next.device)
   cut_coheres = record {
     at_moment = cut.at_moment;
     fits = subst (λ v. Fits o v (marks_of o (x.events ++ Cut (x.passed + 1) x.cycles ∷ []))) (sym cut.found)
-        (subst (Fits o (view_of_image o.start.count left_image)) (sym cut_marks) (fits_cut o (seen o x) (marks_of o x.events) left_image h.fits one_of));
+        (subst (Fits o (view_of_image o.start.count left_image)) (sym cut_marks) (fits_cut o (seen K o x) (marks_of o x.events) left_image h.fits one_of));
     lawful = AllLawful-append (course_of o) (loading_marks o.start.count) x.events (Cut (x.passed + 1) x.cycles ∷ []) h.lawful (tt, tt);
-    safe = subst (λ (m : Marks). Safe o m.kept m.sealed next.device) (sym cut_marks) (Safe-cut o (marks_of o x.events).kept (marks_of o x.events).sealed x.device next.device cut.cut h.safe);
-    each = subst (λ (l : List (List Block)). AllFitImages o l no_cuts (x.events ++ Cut (x.passed + 1) x.cycles ∷ [])) (sym lefts) each_cut;
-    images = subst (λ (l : List (List Block)). ImagesFit o l x.cycles true (seen o next) (since_from no_cuts (x.events ++ Cut (x.passed + 1) x.cycles ∷ []))) (sym lefts)
-        (subst (λ v. ImagesFit o (x.device.left ++ next.device.image ∷ []) x.cycles true v (since_from no_cuts (x.events ++ Cut (x.passed + 1) x.cycles ∷ []))) (sym cut.found)
-        (subst (ImagesFit o (x.device.left ++ next.device.image ∷ []) x.cycles true (view_of_image o.start.count left_image)) (sym cut_since) cut_images));
+    safe = subst (λ (m : Marks). Safe K.decode o m.kept m.sealed next.device) (sym cut_marks) (Safe-cut K o (marks_of o x.events).kept (marks_of o x.events).sealed x.device next.device cut.cut h.safe);
+    each = subst (λ (l : List (List Block)). AllFitImages K o l no_cuts (x.events ++ Cut (x.passed + 1) x.cycles ∷ [])) (sym lefts) each_cut;
+    images = subst (λ (l : List (List Block)). ImagesFit K o l x.cycles true (seen K o next) (since_from no_cuts (x.events ++ Cut (x.passed + 1) x.cycles ∷ []))) (sym lefts)
+        (subst (λ v. ImagesFit K o (x.device.left ++ next.device.image ∷ []) x.cycles true v (since_from no_cuts (x.events ++ Cut (x.passed + 1) x.cycles ∷ []))) (sym cut.found)
+        (subst (ImagesFit K o (x.device.left ++ next.device.image ∷ []) x.cycles true (view_of_image o.start.count left_image)) (sym cut_since) cut_images));
     since = ap (λ s. s.cuts) cut_since ∙ ap (λ c. c + 1) h.since;
     left = ap length lefts ∙ length-append x.device.left (next.device.image ∷ []) ∙ ap (λ c. c + 1) h.left;
     ended = list_any-append is_end x.events (Cut (x.passed + 1) x.cycles ∷ []) ∙ or_from (has_ended x.events) false (h.ended ∙ going) refl
@@ -338,8 +337,8 @@ module _ (o : Origin) (x next : World) (h : Coheres o x) (late : x.fresh ≡ fal
   }
 
   -- a cut
-  pub Coheres-cut : Coheres o next
-  Coheres-cut = subst (Coheres o) (sym cut.next_is) cut_coheres
+  pub Coheres-cut : Coheres K o next
+  Coheres-cut = subst (Coheres K o) (sym cut.next_is) cut_coheres
 
   -- and the listed cuts up to it
   pub Listed-cut : (cuts : List ℕ) (c : ℕ) → x.cycles ≡ c + 1 → Listed cuts c x → first_not_rising 0 cuts ≡ None → nat_lt x.passed (length cuts) ≡ true
@@ -347,7 +346,7 @@ module _ (o : Origin) (x next : World) (h : Coheres o x) (late : x.fresh ≡ fal
   Listed-cut cuts c cycles l rising some due =
       let last : last_cuttable next.events next.cycles ≡ x.cycles =
       ap (λ b. if b then next.cycles - 1 else next.cycles) (Coheres-cut.ended ∙ ap is_halt (ap (λ v. v.phase) cut.found ∙ (image_phase o.start.count left_image).0))
-      ∙ ap (λ (y : World). y.cycles) cut.next_is in
+      ∙ ap (λ (y : World M). y.cycles) cut.next_is in
       let now : Listed cuts x.cycles (cut_off x next.machine next.device) = elim (next_cut c 0 cuts x.passed rising l.few l.up_to) as (λ _. Listed cuts x.cycles (cut_off x next.machine next.device)) [
         | inl comes ↦ record {
           few = omega (arith, comes.0);
@@ -364,35 +363,35 @@ module _ (o : Origin) (x next : World) (h : Coheres o x) (late : x.fresh ≡ fal
 
 -- ---- cycles
 
-by_due : (o : Origin) (cuts : List ℕ) (w x next : World) → first_not_rising 0 cuts ≡ None → Steps o w x → Listed cuts w.cycles w → Coheres o x
-    → (b : Bool) → is_due o cuts x ≡ b → MatchBool b (IsCutOff o x next) (next ≡ x) → Good o cuts next
-by_due o cuts w x next rising step l stands false due is =
-    subst (Good o cuts) (sym is) (record { stands = stands; listed = good_stepped o cuts w x rising step l stands due })
-by_due o cuts w x next rising step l stands true due cut =
-    let parts = due_parts (is_halt (seen o x).phase) (nat_lt x.passed (length cuts)) (slice_index cuts x.passed == x.cycles) due in
-    let late : x.fresh ≡ false = ap (λ (y : World). y.fresh) step.next_is in
+by_due : {M : Type 0} (K : KindOf M) → (o : Origin) (cuts : List ℕ) (w x next : World M) → first_not_rising 0 cuts ≡ None → Steps K o w x → Listed cuts w.cycles w → Coheres K o x
+    → (b : Bool) → is_due K o cuts x ≡ b → MatchBool b (IsCutOff K o x next) (next ≡ x) → Good K o cuts next
+by_due {M = M} K o cuts w x next rising step l stands false due is =
+    subst (Good K o cuts) (sym is) (record { stands = stands; listed = good_stepped K o cuts w x rising step l stands due })
+by_due {M = M} K o cuts w x next rising step l stands true due cut =
+    let parts = due_parts (is_halt (seen K o x).phase) (nat_lt x.passed (length cuts)) (slice_index cuts x.passed == x.cycles) due in
+    let late : x.fresh ≡ false = ap (λ (y : World M). y.fresh) step.next_is in
     record {
-      stands = Coheres-cut o x next stands late parts.0 step.is_step.safe cut;
-      listed = Listed-cut o x next stands late parts.0 step.is_step.safe cut cuts w.cycles (stepped_cycles o w x step)
-          (listed_stepped o cuts w x w.cycles step l) rising parts.1 parts.2;
+      stands = Coheres-cut K o x next stands late parts.0 step.is_step.safe cut;
+      listed = Listed-cut K o x next stands late parts.0 step.is_step.safe cut cuts w.cycles (stepped_cycles K o w x step)
+          (listed_stepped K o cuts w x w.cycles step l) rising parts.1 parts.2;
     }
 
 -- one more cycle keeps what holds between two
-pub Good-cycle : (o : Origin) (cuts : List ℕ) (w next : World) → 1 ≤ o.geometry.epoch → first_not_rising 0 cuts ≡ None → Good o cuts w → Cycle o cuts w next → Good o cuts next
-Good-cycle o cuts w next least rising g c =
-    by_due o cuts w c.between next rising c.steps (listed_going o cuts w g c.steps.going) (Coheres-stepped o w least g.stands c.between c.steps)
-    (is_due o cuts c.between) refl c.cut
+pub Good-cycle : {M : Type 0} (K : KindOf M) → (o : Origin) (cuts : List ℕ) (w next : World M) → 1 ≤ o.geometry.epoch → first_not_rising 0 cuts ≡ None → Good K o cuts w → Cycle K o cuts w next → Good K o cuts next
+Good-cycle {M = M} K o cuts w next least rising g c =
+    by_due K o cuts w c.between next rising c.steps (listed_going K o cuts w g c.steps.going) (Coheres-stepped K o w least g.stands c.between c.steps)
+    (is_due K o cuts c.between) refl c.cut
 
 -- and it holds at first
-pub Good-first : (o : Origin) (given : Given) (w : World) → first_not_rising 0 given.cuts ≡ None → IsFirst o given w → Good o given.cuts w
-Good-first o given w rising f =
+pub Good-first : {M : Type 0} (K : KindOf M) → (o : Origin) (given : Given) (w : World M) → first_not_rising 0 given.cuts ≡ None → IsFirst K o given w → Good K o given.cuts w
+Good-first {M = M} K o given w rising f =
     let none : w.events ≡ [] = f.events in
     let marks : marks_of o w.events ≡ loading_marks o.start.count = ap (marks_of o) none in
     let since : since_from no_cuts w.events ≡ no_cuts = ap (since_from no_cuts) none in
     let boot : (loading_view o.start.count).phase ≡ BootPhase = refl in
     let fits : Fits o (loading_view o.start.count) (loading_marks o.start.count) =
     record { retired = refl; over = refl; boots = inl (record { done = refl; sealed = refl; marks = refl }) } in
-    let images : ImagesFit o w.device.left w.cycles false (loading_view o.start.count) no_cuts = record {
+    let images : ImagesFit K o w.device.left w.cycles false (loading_view o.start.count) no_cuts = record {
       last = λ cycle e. absurd (cc);
       just = λ cycle e. absurd (cc);
       fresh_boot = λ e. absurd (cc);
@@ -404,14 +403,14 @@ Good-first o given w rising f =
     let passed : w.passed ≡ 0 = f.passed in
     record {
       stands = record {
-        at_moment = subst (λ k. IsAt o k w.machine w.device) (sym cycles) f.at_moment;
+        at_moment = subst (λ k. K.is_at o k w.machine w.device) (sym cycles) f.at_moment;
         fits = subst (λ v. Fits o v (marks_of o w.events)) (sym f.loading) (subst (Fits o (loading_view o.start.count)) (sym marks) fits);
         lawful = subst (AllLawful (course_of o) (loading_marks o.start.count)) (sym none) tt;
-        safe = subst (λ (m : Marks). Safe o m.kept m.sealed w.device) (sym marks) (Safe-doubt o None (Some (mark 0 o.start.count)) w.device f.safe);
-        each = subst (AllFitImages o w.device.left no_cuts) (sym none) tt;
-        images = subst (λ b. ImagesFit o w.device.left w.cycles b (seen o w) (since_from no_cuts w.events)) (sym f.fresh)
-            (subst (λ v. ImagesFit o w.device.left w.cycles false v (since_from no_cuts w.events)) (sym f.loading)
-            (subst (ImagesFit o w.device.left w.cycles false (loading_view o.start.count)) (sym since) images));
+        safe = subst (λ (m : Marks). Safe K.decode o m.kept m.sealed w.device) (sym marks) (Safe-doubt K.decode o None (Some (mark 0 o.start.count)) w.device f.safe);
+        each = subst (AllFitImages K o w.device.left no_cuts) (sym none) tt;
+        images = subst (λ b. ImagesFit K o w.device.left w.cycles b (seen K o w) (since_from no_cuts w.events)) (sym f.fresh)
+            (subst (λ v. ImagesFit K o w.device.left w.cycles false v (since_from no_cuts w.events)) (sym f.loading)
+            (subst (ImagesFit K o w.device.left w.cycles false (loading_view o.start.count)) (sym since) images));
         since = ap (λ s. s.cuts) since ∙ sym passed;
         left = ap length f.left ∙ sym passed;
         ended = ended ∙ sym (ap is_halt (ap (λ v. v.phase) f.loading));
@@ -425,19 +424,19 @@ Good-first o given w rising f =
     }
 
 -- so it holds after any number of cycles
-pub Good-ran : (o : Origin) (given : Given) (k : ℕ) (w : World) → 1 ≤ o.geometry.epoch → first_not_rising 0 given.cuts ≡ None → Ran o given k w → Good o given.cuts w
-Good-ran o given zero w least rising first = Good-first o given w rising first
-Good-ran o given (suc k) w least rising (before, ran, cycle) =
-    Good-cycle o given.cuts before w least rising (Good-ran o given k before least rising ran) cycle
+pub Good-ran : {M : Type 0} (K : KindOf M) → (o : Origin) (given : Given) (k : ℕ) (w : World M) → 1 ≤ o.geometry.epoch → first_not_rising 0 given.cuts ≡ None → Ran K o given k w → Good K o given.cuts w
+Good-ran {M = M} K o given zero w least rising first = Good-first K o given w rising first
+Good-ran {M = M} K o given (suc k) w least rising (before, ran, cycle) =
+    Good-cycle K o given.cuts before w least rising (Good-ran K o given k before least rising ran) cycle
 
-cycle_counts : (o : Origin) (cuts : List ℕ) (w x next : World) → Steps o w x → (b : Bool) → MatchBool b (IsCutOff o x next) (next ≡ x) → next.cycles ≡ w.cycles + 1
-cycle_counts o cuts w x next step true cut = ap (λ (y : World). y.cycles) cut.next_is ∙ stepped_cycles o w x step
-cycle_counts o cuts w x next step false is = ap (λ (y : World). y.cycles) is ∙ stepped_cycles o w x step
+cycle_counts : {M : Type 0} (K : KindOf M) → (o : Origin) (cuts : List ℕ) (w x next : World M) → Steps K o w x → (b : Bool) → MatchBool b (IsCutOff K o x next) (next ≡ x) → next.cycles ≡ w.cycles + 1
+cycle_counts {M = M} K o cuts w x next step true cut = ap (λ (y : World M). y.cycles) cut.next_is ∙ stepped_cycles K o w x step
+cycle_counts {M = M} K o cuts w x next step false is = ap (λ (y : World M). y.cycles) is ∙ stepped_cycles K o w x step
 
 -- each counts one
-pub cycles-ran : (o : Origin) (given : Given) (k : ℕ) (w : World) → Ran o given k w → w.cycles ≡ k
-cycles-ran o given zero w first = first.cycles
-cycles-ran o given (suc k) w (before, ran, cycle) =
-    let e : before.cycles ≡ k = cycles-ran o given k before ran in
-    let f : w.cycles ≡ before.cycles + 1 = cycle_counts o given.cuts before cycle.between w cycle.steps (is_due o given.cuts cycle.between) cycle.cut in
+pub cycles-ran : {M : Type 0} (K : KindOf M) → (o : Origin) (given : Given) (k : ℕ) (w : World M) → Ran K o given k w → w.cycles ≡ k
+cycles-ran {M = M} K o given zero w first = first.cycles
+cycles-ran {M = M} K o given (suc k) w (before, ran, cycle) =
+    let e : before.cycles ≡ k = cycles-ran K o given k before ran in
+    let f : w.cycles ≡ before.cycles + 1 = cycle_counts K o given.cuts before cycle.between w cycle.steps (is_due K o given.cuts cycle.between) cycle.cut in
     omega (arith, e, f)

@@ -13,14 +13,11 @@ use Rattle.thy_view.specs.declared.did.Did.{Did}
 use Rattle.thy_view.specs.declared.did.Did.TheVariants.{Restarted}
 use Rattle.thy_view.specs.declared.did.Stepped.{Stepped}
 use Rattle.thy_view.specs.declared.view.View.{View}
-use Rattle.thy_copy_model.specs.Calls.{IsAt, IsStep, has_read}
 use Rattle.thy_view.specs.Views.{loads, halts, is_halt}
 use Rattle.thy_view.specs.CoreStep.{CoreStep}
 use Rattle.thy_view.specs.Origin.{Origin, at, IsOrigin}
-use Rattle.thy_copy_model.specs.Moments.{IsPoweredOn}
 use Rattle.thy_view.specs.Safe.{Safe}
-use Rattle.thy_copy_model.specs.Sound.{view_of}
-use Rattle.thy_view.specs.Kind.{IsSnapshot}
+use Rattle.thy_view.specs.Kind.{IsSnapshot, KindOf, IsStep}
 use Rattle.thy_run.specs.Cuts.{has_ended}
 use Rattle.thy_run.specs.Due.{due_of}
 use Rattle.thy_run.specs.Laws.{released_of}
@@ -36,7 +33,7 @@ use Rattle.thy_run.specs.declared.progress.Progress.{Progress}
 
 -- what the run is about
 abbrev pub origin_of : Plan → Origin
-origin_of plan = record { geometry = plan.geometry; start = state_of plan.start.state; input = bytes_of plan.start.input }
+origin_of plan = record { geometry = plan.geometry; start = state_of plan.start.state; input = bytes_of plan.start.input; kept = None }
 
 -- what it is given besides, over a device that was fitted
 abbrev pub given_of : Plan → Device → Given
@@ -48,7 +45,7 @@ pub record IsPlanned (plan : Plan) : Type 0 where
   pub rising : first_not_rising 0 plan.config.cuts ≡ None
 
 -- the run between two cycles, of which so many are done, with its device
-abbrev pub world_at : Progress → Device → ℕ → World
+abbrev pub world_at : {M : Type 0} → Progress M → Device → ℕ → World M
 world_at p n cycles = record {
   machine = p.machine;
   device = n;
@@ -60,9 +57,9 @@ world_at p n cycles = record {
 }
 
 -- the run goes on: so many cycles were done since the device was fitted
-pub record GoesOn (plan : Plan) (fitted : Device) (p : Progress) (n : Device) (cycles : ℕ) : Type 0 where
-  pub ran : Ran (origin_of plan) (given_of plan fitted) cycles (world_at p n cycles)
-  pub going : is_halt (seen (origin_of plan) (world_at p n cycles)).phase ≡ false
+pub record GoesOn {M : Type 0} (K : KindOf M) (plan : Plan) (fitted : Device) (p : Progress M) (n : Device) (cycles : ℕ) : Type 0 where
+  pub ran : Ran K (origin_of plan) (given_of plan fitted) cycles (world_at p n cycles)
+  pub going : is_halt (seen K (origin_of plan) (world_at p n cycles)).phase ≡ false
   pub released : p.released ≡ length (released_of (origin_of plan) p.events)
   pub room : n.left_room ≡ length plan.config.cuts + 1
   pub calm : n.faults ≡ fitted.faults
@@ -72,18 +69,18 @@ pub record GoesOn (plan : Plan) (fitted : Device) (p : Progress) (n : Device) (c
 -- ---- a step, and what is read for its events
 
 -- the machine took the schedule's next step
-pub record IsStepped (plan : Plan) (p next : Progress) (n new : Device) (cycles : ℕ) (r : Stepped) : Type 0 where
-  pub is_step : IsStep (origin_of plan) cycles (mix_pick p.mix) p.machine next.machine n new r
+pub record IsStepped {M : Type 0} (K : KindOf M) (plan : Plan) (p next : Progress M) (n new : Device) (cycles : ℕ) (r : Stepped) : Type 0 where
+  pub is_step : IsStep K (origin_of plan) cycles (mix_pick p.mix) p.machine next.machine n new r
   pub framed : IsFramed n new
   pub calm : new.faults ≡ n.faults
   pub same : next ≡ record p { machine = next.machine; mix = mix_next p.mix }
 
 -- what reading for a step's events stands on
-pub record CanGather (o : Origin) (cycles : ℕ) (v : View) (p : Progress) (n : Device) (r : Stepped) : Type 0 where
-  pub at_next : IsAt o cycles p.machine n
-  pub step : CoreStep o v r.did (view_of o p.machine n)
-  pub ended : r.ended ≡ halts v (view_of o p.machine n)
-  pub read : p.fresh ≡ true → has_read p.machine ≡ true
+pub record CanGather {M : Type 0} (K : KindOf M) (o : Origin) (cycles : ℕ) (v : View) (p : Progress M) (n : Device) (r : Stepped) : Type 0 where
+  pub at_next : K.is_at o cycles p.machine n
+  pub step : CoreStep o v r.did (K.view o p.machine n)
+  pub ended : r.ended ≡ halts v (K.view o p.machine n)
+  pub read : p.fresh ≡ true → K.has_read p.machine ≡ true
   pub released : p.released ≡ length (released_of o p.events)
 
 -- the state for a restart's event
@@ -98,7 +95,7 @@ IsEnding o v next None = halts v next ≡ false
 IsEnding o v next (Some state) = (halts v next ≡ true) × IsSnapshot o next state.value
 
 -- what was read for a step's events, and of the console
-pub record IsGathered (o : Origin) (v next : View) (p : Progress) (did : Did) (r : Readings) : Type 0 where
+pub record IsGathered {M : Type 0} (o : Origin) (v next : View) (p : Progress M) (did : Did) (r : Readings) : Type 0 where
   pub reload : r.reload ≡ (p.fresh && loads next)
   pub restored : Restores o did r.restored
   pub bytes : bytes_of r.bytes ≡ due_of o p.events did next
@@ -120,16 +117,16 @@ pub record MadeSome (made : List Happening) (all : List Happening) (before : Lis
 -- ---- a cycle
 
 -- the machine's step failed with a fault of the device
-pub record IsStuck (plan : Plan) (p next : Progress) (n new : Device) : Type 0 where
-  pub safe : Safe (origin_of plan) (view_of (origin_of plan) p.machine n).done (view_of (origin_of plan) p.machine n).sealed new
+pub record IsStuck {M : Type 0} (K : KindOf M) (plan : Plan) (p next : Progress M) (n new : Device) : Type 0 where
+  pub safe : Safe K.decode (origin_of plan) (K.view (origin_of plan) p.machine n).done (K.view (origin_of plan) p.machine n).sealed new
   pub framed : IsFramed n new
   pub rose : RoseFaults n.faults new.faults
   pub same : next ≡ record p { machine = next.machine; mix = mix_next p.mix }
 
 -- the step and all its events were made, and these bytes are due to the terminal
-pub record IsNoted (plan : Plan) (p next : Progress) (n new : Device) (cycles : ℕ) (ended : Option Status) (bytes : List ℕ) : Type 0 where
-  pub steps : Steps (origin_of plan) (world_at p n cycles) (world_at next new (cycles + 1))
-  pub is_end : IsEnd (origin_of plan) (seen (origin_of plan) (world_at p n cycles)) (seen (origin_of plan) (world_at next new (cycles + 1))) ended
+pub record IsNoted {M : Type 0} (K : KindOf M) (plan : Plan) (p next : Progress M) (n new : Device) (cycles : ℕ) (ended : Option Status) (bytes : List ℕ) : Type 0 where
+  pub steps : Steps K (origin_of plan) (world_at p n cycles) (world_at next new (cycles + 1))
+  pub is_end : IsEnd (origin_of plan) (seen K (origin_of plan) (world_at p n cycles)) (seen K (origin_of plan) (world_at next new (cycles + 1))) ended
   pub released : next.released ≡ length (released_of (origin_of plan) next.events)
   pub releases : released_of (origin_of plan) next.events ≡ released_of (origin_of plan) p.events ++ bytes
   pub calm : new.faults ≡ n.faults
@@ -137,8 +134,8 @@ pub record IsNoted (plan : Plan) (p next : Progress) (n new : Device) (cycles : 
   pub heard : next.deaf ≡ p.deaf
 
 -- a cycle is done
-pub record IsDone (plan : Plan) (p next : Progress) (n new : Device) (cycles : ℕ) (bytes : List ℕ) : Type 0 where
-  pub cycle : Cycle (origin_of plan) plan.config.cuts (world_at p n cycles) (world_at next new (cycles + 1))
+pub record IsDone {M : Type 0} (K : KindOf M) (plan : Plan) (p next : Progress M) (n new : Device) (cycles : ℕ) (bytes : List ℕ) : Type 0 where
+  pub cycle : Cycle K (origin_of plan) plan.config.cuts (world_at p n cycles) (world_at next new (cycles + 1))
   pub released : next.released ≡ length (released_of (origin_of plan) next.events)
   pub releases : released_of (origin_of plan) next.events ≡ released_of (origin_of plan) p.events ++ bytes
   pub told : (more : List Happening) × (next.events ≡ p.events ++ more)
@@ -148,8 +145,8 @@ pub record IsDone (plan : Plan) (p next : Progress) (n new : Device) (cycles : �
   pub heard : next.deaf ≡ p.deaf
 
 -- a cycle was begun and is not done; where memory was not short, the bytes are all that is due
-pub record IsBroken (plan : Plan) (p next : Progress) (n new : Device) (cycles : ℕ) (bytes : List ℕ) : Type 0 where
-  pub unfinished : StepFailed (origin_of plan) (world_at p n cycles) next.events new ⊎ TellingFailed (origin_of plan) (world_at p n cycles) next.events new
+pub record IsBroken {M : Type 0} (K : KindOf M) (plan : Plan) (p next : Progress M) (n new : Device) (cycles : ℕ) (bytes : List ℕ) : Type 0 where
+  pub unfinished : StepFailed K (origin_of plan) (world_at p n cycles) next.events new ⊎ TellingFailed K (origin_of plan) (world_at p n cycles) next.events new
   pub rest : List ℕ
   pub releases : released_of (origin_of plan) next.events ≡ released_of (origin_of plan) p.events ++ bytes ++ rest
   pub told : (more : List Happening) × (next.events ≡ p.events ++ more)
@@ -157,13 +154,13 @@ pub record IsBroken (plan : Plan) (p next : Progress) (n new : Device) (cycles :
   pub heard : next.deaf ≡ p.deaf
 
 -- a device's fault broke it: its count rose
-pub record IsFault (p next : Progress) (n new : Device) (bytes : List ℕ) : Type 0 where
+pub record IsFault {M : Type 0} (p next : Progress M) (n new : Device) (bytes : List ℕ) : Type 0 where
   pub events : next.events ≡ p.events
   pub none : bytes ≡ []
   pub rose : RoseFaults n.faults new.faults
 
 -- why a cycle is not done: a device's fault or want of memory
-abbrev pub Breaks : Progress → Progress → Device → Device → List ℕ → Stop → Type 0
+abbrev pub Breaks : {M : Type 0} → Progress M → Progress M → Device → Device → List ℕ → Stop → Type 0
 Breaks p next n new bytes Nvm = IsFault p next n new bytes
 Breaks p next n new bytes Memory = Unit {0}
 Breaks p next n new bytes (Ended status) = ⊥
@@ -182,17 +179,17 @@ end_of (Restart epoch count state ∷ vs) = end_of vs
 end_of (Reload ∷ vs) = end_of vs
 
 -- what a cycle came to
-abbrev pub ComesTo : Plan → Progress → Progress → Device → Device → ℕ → List ℕ → Outcome → Type 0
-ComesTo plan p next n new cycles bytes Goes =
-    IsDone plan p next n new cycles bytes × (is_halt (seen (origin_of plan) (world_at next new (cycles + 1))).phase ≡ false)
-ComesTo plan p next n new cycles bytes (Ends status) =
-    IsDone plan p next n new cycles bytes
-    × (is_halt (seen (origin_of plan) (world_at next new (cycles + 1))).phase ≡ true)
+abbrev pub ComesTo : {M : Type 0} → KindOf M → Plan → Progress M → Progress M → Device → Device → ℕ → List ℕ → Outcome → Type 0
+ComesTo K plan p next n new cycles bytes Goes =
+    IsDone K plan p next n new cycles bytes × (is_halt (seen K (origin_of plan) (world_at next new (cycles + 1))).phase ≡ false)
+ComesTo K plan p next n new cycles bytes (Ends status) =
+    IsDone K plan p next n new cycles bytes
+    × (is_halt (seen K (origin_of plan) (world_at next new (cycles + 1))).phase ≡ true)
     × (end_of next.events ≡ Some status)
-ComesTo plan p next n new cycles bytes (Fails stop) = IsBroken plan p next n new cycles bytes × Breaks p next n new bytes stop
+ComesTo K plan p next n new cycles bytes (Fails stop) = IsBroken K plan p next n new cycles bytes × Breaks p next n new bytes stop
 
 -- power was cut, with a new machine
-pub record IsCutOffTo (plan : Plan) (p next : Progress) (n new : Device) (cycle : ℕ) : Type 0 where
+pub record IsCutOffTo {M : Type 0} (K : KindOf M) (plan : Plan) (p next : Progress M) (n new : Device) (cycle : ℕ) : Type 0 where
   pub cut : IsCut n new
-  pub powered : IsPoweredOn plan.geometry next.machine
+  pub powered : K.powered plan.geometry next.machine
   pub same : next ≡ record p { machine = next.machine; passed = p.passed + 1; fresh = true; events = p.events ++ Cut (p.passed + 1) cycle ∷ [] }

@@ -2,14 +2,14 @@
 use Rattle.std.specs.Prelude.{◌≡◌, ◌≢◌, ℕ, ◌+◌, ◌-◌, ◌<◌, List, [], ◌∷◌, slice_index_or, Option, Some, None}
 use Rattle.thy_base.specs.declared.block.Block.{Block}
 use Rattle.thy_record.specs.Decoded.{Decoded, Nothing, At}
-use Rattle.thy_record.specs.Decode.{decode}
+use Rattle.thy_view.specs.Kind.{KindOf}
 use Rattle.thy_text.specs.Happening.{Happening, EpochEnd, Commit, Cut, Restart, Reload, Ended}
 use Rattle.thy_view.specs.Origin.{Origin}
 use Rattle.thy_view.specs.Safe.{ceiling}
 
 -- what the image decodes to that the last of so many cuts left
-abbrev pub left_by : Origin → List (List Block) → ℕ → Decoded
-left_by o left cuts = decode o.geometry ceiling (slice_index_or left (cuts - 1) [])
+abbrev pub left_by : {M : Type 0} → KindOf M → Origin → List (List Block) → ℕ → Decoded
+left_by K o left cuts = K.decode o.geometry ceiling (slice_index_or left (cuts - 1) [])
 
 -- how many cuts have come, and the last one's cycle where nothing has come since
 pub record Since : Type 0 where
@@ -33,28 +33,28 @@ abbrev pub no_cuts : Since
 no_cuts = record { cuts = 0; just = None }
 
 -- right behind a cut, the image that it left has a checkpoint
-abbrev pub HasLeft : Origin → List (List Block) → Since → Type 0
-HasLeft o left s = (cycle : ℕ) → s.just ≡ Some cycle → left_by o left s.cuts ≢ Nothing
+abbrev pub HasLeft : {M : Type 0} → KindOf M → Origin → List (List Block) → Since → Type 0
+HasLeft K o left s = (cycle : ℕ) → s.just ≡ Some cycle → left_by K o left s.cuts ≢ Nothing
 
 -- a restart is the epoch and the state of what the cut before it left; the file is loaded again only right behind a
 -- cut that left no checkpoint, and nothing else comes there
-abbrev pub FitsImage : Origin → List (List Block) → Since → Happening → Type 0
-FitsImage o left s (Restart epoch count state) = (0 < s.cuts) × (left_by o left s.cuts ≡ At epoch state)
-FitsImage o left s Reload = (left_by o left s.cuts ≡ Nothing) × ((cycle : ℕ) × (s.just ≡ Some cycle))
-FitsImage o left s (EpochEnd epoch count cause) = HasLeft o left s
-FitsImage o left s (Commit epoch cycle overlapped) = HasLeft o left s
-FitsImage o left s (Cut index cycle) = HasLeft o left s
-FitsImage o left s (Ended status count cycle state) = HasLeft o left s
+abbrev pub FitsImage : {M : Type 0} → KindOf M → Origin → List (List Block) → Since → Happening → Type 0
+FitsImage K o left s (Restart epoch count state) = (0 < s.cuts) × (left_by K o left s.cuts ≡ At epoch state)
+FitsImage K o left s Reload = (left_by K o left s.cuts ≡ Nothing) × ((cycle : ℕ) × (s.just ≡ Some cycle))
+FitsImage K o left s (EpochEnd epoch count cause) = HasLeft K o left s
+FitsImage K o left s (Commit epoch cycle overlapped) = HasLeft K o left s
+FitsImage K o left s (Cut index cycle) = HasLeft K o left s
+FitsImage K o left s (Ended status count cycle state) = HasLeft K o left s
 
-abbrev pub AllFitImages : Origin → List (List Block) → Since → List Happening → Type 0
-AllFitImages o left s [] = Unit {0}
-AllFitImages o left s (v ∷ vs) = FitsImage o left s v × AllFitImages o left (since_after s v) vs
+abbrev pub AllFitImages : {M : Type 0} → KindOf M → Origin → List (List Block) → Since → List Happening → Type 0
+AllFitImages K o left s [] = Unit {0}
+AllFitImages K o left s (v ∷ vs) = FitsImage K o left s v × AllFitImages K o left (since_after s v) vs
 
 -- and where events end behind a cut that left no checkpoint, no cycle was done since
-abbrev pub EndsFitting : Origin → List (List Block) → ℕ → Since → Type 0
-EndsFitting o left cycles s = (cycle : ℕ) → s.just ≡ Some cycle → cycle < cycles → left_by o left s.cuts ≢ Nothing
+abbrev pub EndsFitting : {M : Type 0} → KindOf M → Origin → List (List Block) → ℕ → Since → Type 0
+EndsFitting K o left cycles s = (cycle : ℕ) → s.just ≡ Some cycle → cycle < cycles → left_by K o left s.cuts ≢ Nothing
 
 -- the restarts and reloads among events are what the cuts before them left
-pub record RestartsDecode (o : Origin) (left : List (List Block)) (cycles : ℕ) (events : List Happening) : Type 0 where
-  pub each : AllFitImages o left no_cuts events
-  pub last : EndsFitting o left cycles (since_from no_cuts events)
+pub record RestartsDecode {M : Type 0} (K : KindOf M) (o : Origin) (left : List (List Block)) (cycles : ℕ) (events : List Happening) : Type 0 where
+  pub each : AllFitImages K o left no_cuts events
+  pub last : EndsFitting K o left cycles (since_from no_cuts events)

@@ -2,6 +2,7 @@
 use Rattle.std.specs.Prelude.{◌≡◌, ℕ, List, length, None}
 use Rattle.thy_base.specs.Config.{first_not_rising}
 use Rattle.thy_base.specs.Device.{Device}
+use Rattle.thy_view.specs.Kind.{KindOf}
 use Rattle.thy_text.specs.Happening.{Happening}
 use Rattle.thy_text.specs.Marks.{Marks, Course, loading_marks, marks_from, AllLawful}
 use Rattle.thy_text.specs.Released.{released}
@@ -30,15 +31,15 @@ released_of o events = released (console_at o) o.start.count (loading_marks o.st
 
 -- What is promised of a run: its events are lawful, its restarts are what the cuts left, its cuts are the listed ones,
 -- each left one image, and the device is safe for the marks that the events leave.
-pub record Promise (o : Origin) (cuts : List ℕ) (cycles : ℕ) (events : List Happening) (n : Device) : Type 0 where
+pub record Promise {M : Type 0} (K : KindOf M) (o : Origin) (cuts : List ℕ) (cycles : ℕ) (events : List Happening) (n : Device) : Type 0 where
   pub events_lawful : AllLawful (course_of o) (loading_marks o.start.count) events
-  pub restarts_decode : RestartsDecode o n.left cycles events
+  pub restarts_decode : RestartsDecode K o n.left cycles events
   pub cuts_listed : cuts_among events ≡ numbered 1 (cuts_up_to (last_cuttable events cycles) cuts)
   pub images_left : length n.left ≡ length (cuts_among events)
-  pub safe_at_return : Safe o (marks_of o events).kept (marks_of o events).sealed n
+  pub safe_at_return : Safe K.decode o (marks_of o events).kept (marks_of o events).sealed n
 
 -- every run keeps it
-abbrev pub RunKeepsPromise : Type 0
-RunKeepsPromise =
+abbrev pub RunKeepsPromise : {M : Type 0} → KindOf M → Type 0
+RunKeepsPromise K =
     (o : Origin) (given : Given) (cycles : ℕ) (events : List Happening) (n : Device)
-    → IsOrigin o → first_not_rising 0 given.cuts ≡ None → Finished o given cycles events n → Promise o given.cuts cycles events n
+    → IsOrigin o → first_not_rising 0 given.cuts ≡ None → Finished K o given cycles events n → Promise K o given.cuts cycles events n

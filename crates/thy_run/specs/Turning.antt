@@ -2,11 +2,10 @@
 use Rattle.std.specs.Prelude.{◌≡◌, ◌⊎◌, ℕ, ◌+◌, ◌<◌, ◌≤◌, Bool, true, false, List, [], length, Some}
 use Rattle.thy_base.specs.declared.nvm.Shape.{Shape}
 use Rattle.thy_base.specs.Device.{Device, fitted, RoseFaults}
-use Rattle.thy_base.specs.Geometry.{blocks_of}
 use Rattle.thy_base.specs.Mix.{mix_start}
 use Rattle.thy_base.specs.Outside.{Stream}
+use Rattle.thy_view.specs.Kind.{KindOf}
 use Rattle.thy_text.specs.Lines.{report_of}
-use Rattle.thy_copy_model.specs.Calls.{Core}
 use Rattle.thy_view.specs.Origin.{Origin}
 use Rattle.thy_text.specs.Happening.{Happening}
 use Rattle.thy_run.specs.Cuts.{has_ended}
@@ -38,17 +37,17 @@ turned_of Goes terminal report = stopped_for terminal report TurnedOn
 turned_of (Ends status) terminal report = stopped_for terminal report (Stops (Ended status))
 
 -- a device that was fitted for a plan
-pub record IsFitted (plan : Plan) (n : Device) : Type 0 where
+pub record IsFitted {M : Type 0} (K : KindOf M) (plan : Plan) (n : Device) : Type 0 where
   pub shape : Shape
   pub before : Device
-  pub blocks : shape.blocks ≡ blocks_of plan.geometry
+  pub blocks : shape.blocks ≡ K.blocks plan.geometry
   pub queue : shape.queue ≡ plan.geometry.nvmq
   pub cuts : shape.cuts ≡ length plan.config.cuts
   pub is_fitted : n ≡ fitted shape [] before
 
 -- the run goes on, and the sinks took all that was due so far
-pub record Running (plan : Plan) (fitted : Device) (p : Progress) (n : Device) (cycles : ℕ) (terminal shown report read : Stream) : Type 0 where
-  pub goes : GoesOn plan fitted p n cycles
+pub record Running {M : Type 0} (K : KindOf M) (plan : Plan) (fitted : Device) (p : Progress M) (n : Device) (cycles : ℕ) (terminal shown report read : Stream) : Type 0 where
+  pub goes : GoesOn K plan fitted p n cycles
   pub shown_all : Sends [] (released_of (origin_of plan) p.events) false terminal shown
   pub read_all : Sends [] (report_of plan.digest p.events) false report read
 
@@ -62,17 +61,17 @@ is_memory Report = false
 is_memory Limit = false
 
 -- the last cycle is done, and nothing was begun behind it
-abbrev pub IsLast : World → List Happening → Device → Type 0
+abbrev pub IsLast : {M : Type 0} → World M → List Happening → Device → Type 0
 IsLast w events n = (events ≡ w.events) × (n ≡ w.device)
 
 -- what stands at the end, by the stop: only for a device's fault or want of memory one more cycle was begun
-abbrev pub EndsBy : Origin → World → List Happening → Device → Stop → Type 0
-EndsBy o w events n (Ended status) = IsLast w events n
-EndsBy o w events n Nvm = StepFailed o w events n ⊎ TellingFailed o w events n
-EndsBy o w events n Memory = StandsAtEnd o w events n
-EndsBy o w events n Terminal = IsLast w events n
-EndsBy o w events n Report = IsLast w events n
-EndsBy o w events n Limit = IsLast w events n
+abbrev pub EndsBy : {M : Type 0} → KindOf M → Origin → World M → List Happening → Device → Stop → Type 0
+EndsBy K o w events n (Ended status) = IsLast w events n
+EndsBy K o w events n Nvm = StepFailed K o w events n ⊎ TellingFailed K o w events n
+EndsBy K o w events n Memory = StandsAtEnd K o w events n
+EndsBy K o w events n Terminal = IsLast w events n
+EndsBy K o w events n Report = IsLast w events n
+EndsBy K o w events n Limit = IsLast w events n
 
 -- what a stop says of the run
 abbrev pub StopFits : Plan → Device → Device → Ending → Stop → Type 0
@@ -87,25 +86,25 @@ StopFits plan fitted new e Limit =
     × (new.faults ≡ fitted.faults)
 
 -- what a run leaves
-pub record RunEnds (plan : Plan) (fitted new : Device) (e : Ending) (terminal shown report read : Stream) : Type 0 where
-  pub last : World
-  pub ran : Ran (origin_of plan) (given_of plan fitted) e.cycles last
-  pub ends : EndsBy (origin_of plan) last e.events new e.stop
+pub record RunEnds {M : Type 0} (K : KindOf M) (plan : Plan) (fitted new : Device) (e : Ending) (terminal shown report read : Stream) : Type 0 where
+  pub last : World M
+  pub ran : Ran K (origin_of plan) (given_of plan fitted) e.cycles last
+  pub ends : EndsBy K (origin_of plan) last e.events new e.stop
   pub few : e.cycles ≤ plan.geometry.limit
   pub shown_all : Delivers (is_memory e.stop) e.mute [] (released_of (origin_of plan) e.events) terminal shown
   pub read_all : Sends [] (report_of plan.digest e.events) e.deaf report read
   pub stop_fits : StopFits plan fitted new e e.stop
 
 -- what a turn of the loop comes to
-abbrev pub IsTurned : Plan → Device → Progress → Device → ℕ → Stream → Stream → Stream → Stream → Turned → Type 0
-IsTurned plan fitted p n cycles terminal shown report read TurnedOn = Running plan fitted p n (cycles + 1) terminal shown report read
-IsTurned plan fitted p n cycles terminal shown report read (Stops stop) =
-    RunEnds plan fitted n (record { stop = stop; events = p.events; cycles = cycles + 1; mute = p.mute; deaf = p.deaf }) terminal shown report read
-IsTurned plan fitted p n cycles terminal shown report read (BreaksOff stop) =
-    RunEnds plan fitted n (record { stop = stop; events = p.events; cycles = cycles; mute = p.mute; deaf = p.deaf }) terminal shown report read
+abbrev pub IsTurned : {M : Type 0} → KindOf M → Plan → Device → Progress M → Device → ℕ → Stream → Stream → Stream → Stream → Turned → Type 0
+IsTurned K plan fitted p n cycles terminal shown report read TurnedOn = Running K plan fitted p n (cycles + 1) terminal shown report read
+IsTurned K plan fitted p n cycles terminal shown report read (Stops stop) =
+    RunEnds K plan fitted n (record { stop = stop; events = p.events; cycles = cycles + 1; mute = p.mute; deaf = p.deaf }) terminal shown report read
+IsTurned K plan fitted p n cycles terminal shown report read (BreaksOff stop) =
+    RunEnds K plan fitted n (record { stop = stop; events = p.events; cycles = cycles; mute = p.mute; deaf = p.deaf }) terminal shown report read
 
 -- a run before its first cycle
-abbrev pub first_progress : Plan → Core → Progress
+abbrev pub first_progress : {M : Type 0} → Plan → M → Progress M
 first_progress plan machine = record {
   machine = machine;
   mix = mix_start plan.config.mix;

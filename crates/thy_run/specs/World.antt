@@ -3,23 +3,20 @@ use Rattle.std.specs.Prelude.{◌≡◌, ℕ, zero, suc, ◌+◌, ◌==◌, Bool
 use Rattle.thy_base.specs.declared.mix.Mix.{Mix}
 use Rattle.thy_base.specs.Device.{Device, IsCut, IsFramed}
 use Rattle.thy_base.specs.Mix.{mix_start, mix_pick, mix_next}
-use Rattle.thy_record.specs.Decode.{decode}
+use Rattle.thy_view.specs.Kind.{KindOf, IsStep}
 use Rattle.thy_text.specs.Happening.{Happening, EpochEnd, Commit, Cut, Restart, Reload, Ended}
 use Rattle.thy_view.specs.declared.did.Did.{Did}
 use Rattle.thy_view.specs.declared.did.Did.TheVariants.{Boot, Loaded, Restarted, Refused, Moved, Retired, Flushed, Merged, Sealed, Promoted, Engine, Committed, NvmDrained, DramDrained, Nothing}
 use Rattle.thy_view.specs.declared.did.Stepped.{Stepped}
 use Rattle.thy_view.specs.declared.view.View.{View}
 use Rattle.thy_view.specs.Booting.{loading_view, view_of_image}
-use Rattle.thy_copy_model.specs.Calls.{Core, IsAt, IsStep}
 use Rattle.thy_view.specs.Views.{loads, halts, is_halt}
-use Rattle.thy_copy_model.specs.Moments.{IsPoweredOn}
 use Rattle.thy_view.specs.Origin.{Origin, at}
 use Rattle.thy_view.specs.Safe.{ceiling, Safe}
-use Rattle.thy_copy_model.specs.Sound.{view_of}
 
 -- a run between two cycles
 pub record World : Type 0 where
-  pub machine : Core
+  pub machine : M
   pub device : Device
   -- the schedule from here on
   pub mix : Mix
@@ -32,8 +29,8 @@ pub record World : Type 0 where
   pub events : List Happening
 
 -- what is seen of the machine
-abbrev pub seen : Origin → World → View
-seen o w = view_of o w.machine w.device
+abbrev pub seen : {M : Type 0} → KindOf M → Origin → World M → View
+seen K o w = K.view o w.machine w.device
 
 -- ---- events
 
@@ -70,32 +67,32 @@ events_of o fresh v did next cycle = reload_told fresh next ++ told o did cycle 
 -- ---- cycles
 
 -- the world after a step
-abbrev pub stepped : Origin → World → Core → Device → Did → World
-stepped o w m n did = record {
+abbrev pub stepped : {M : Type 0} → KindOf M → Origin → World M → M → Device → Did → World M
+stepped K o w m n did = record {
   machine = m;
   device = n;
   mix = mix_next w.mix;
   passed = w.passed;
   cycles = w.cycles + 1;
   fresh = false;
-  events = w.events ++ events_of o w.fresh (seen o w) did (view_of o m n) (w.cycles + 1);
+  events = w.events ++ events_of o w.fresh (seen K o w) did (K.view o m n) (w.cycles + 1);
 }
 
 -- the machine takes the schedule's next step
-pub record Steps (o : Origin) (w next : World) : Type 0 where
+pub record Steps {M : Type 0} (K : KindOf M) (o : Origin) (w next : World M) : Type 0 where
   pub r : Stepped
-  pub going : is_halt (seen o w).phase ≡ false
-  pub is_step : IsStep o w.cycles (mix_pick w.mix) w.machine next.machine w.device next.device r
+  pub going : is_halt (seen K o w).phase ≡ false
+  pub is_step : IsStep K o w.cycles (mix_pick w.mix) w.machine next.machine w.device next.device r
   pub framed : IsFramed w.device next.device
   pub calm : next.device.faults ≡ w.device.faults
-  pub next_is : next ≡ stepped o w next.machine next.device r.did
+  pub next_is : next ≡ stepped K o w next.machine next.device r.did
 
 -- a cut is due: the next one that is listed falls after this cycle, and the run has not ended
-abbrev pub is_due : Origin → List ℕ → World → Bool
-is_due o cuts w = not (is_halt (seen o w).phase) && (nat_lt w.passed (length cuts) && slice_index cuts w.passed == w.cycles)
+abbrev pub is_due : {M : Type 0} → KindOf M → Origin → List ℕ → World M → Bool
+is_due K o cuts w = not (is_halt (seen K o w).phase) && (nat_lt w.passed (length cuts) && slice_index cuts w.passed == w.cycles)
 
 -- the world after a cut
-abbrev pub cut_off : World → Core → Device → World
+abbrev pub cut_off : {M : Type 0} → World M → M → Device → World M
 cut_off w m n = record {
   machine = m;
   device = n;
@@ -108,18 +105,18 @@ cut_off w m n = record {
 
 -- Power is cut, and comes on again: a new machine, which has read nothing, and will find what the device's image decodes
 -- to.
-pub record IsCutOff (o : Origin) (w next : World) : Type 0 where
+pub record IsCutOff {M : Type 0} (K : KindOf M) (o : Origin) (w next : World M) : Type 0 where
   pub cut : IsCut w.device next.device
-  pub powered : IsPoweredOn o.geometry next.machine
-  pub at_moment : IsAt o w.cycles next.machine next.device
-  pub found : seen o next ≡ view_of_image o.start.count (decode o.geometry ceiling next.device.image)
+  pub powered : K.powered o.geometry next.machine
+  pub at_moment : K.is_at o w.cycles next.machine next.device
+  pub found : seen K o next ≡ view_of_image o.start.count (K.decode o.geometry ceiling next.device.image)
   pub next_is : next ≡ cut_off w next.machine next.device
 
 -- one cycle: a step, and the cut that is due after it
-pub record Cycle (o : Origin) (cuts : List ℕ) (w next : World) : Type 0 where
-  pub between : World
-  pub steps : Steps o w between
-  pub cut : MatchBool (is_due o cuts between) (IsCutOff o between next) (next ≡ between)
+pub record Cycle {M : Type 0} (K : KindOf M) (o : Origin) (cuts : List ℕ) (w next : World M) : Type 0 where
+  pub between : World M
+  pub steps : Steps K o w between
+  pub cut : MatchBool (is_due K o cuts between) (IsCutOff K o between next) (next ≡ between)
 
 -- what a run is given besides its program: the listed cuts, the schedule's seed, and the device as it was fitted
 pub record Given : Type 0 where
@@ -128,12 +125,12 @@ pub record Given : Type 0 where
   pub fitted : Device
 
 -- power comes on for the first time, over a device of zeros
-pub record IsFirst (o : Origin) (given : Given) (w : World) : Type 0 where
+pub record IsFirst {M : Type 0} (K : KindOf M) (o : Origin) (given : Given) (w : World M) : Type 0 where
   pub device : w.device ≡ given.fitted
-  pub powered : IsPoweredOn o.geometry w.machine
-  pub at_moment : IsAt o 0 w.machine w.device
-  pub loading : seen o w ≡ loading_view o.start.count
-  pub safe : Safe o None None w.device
+  pub powered : K.powered o.geometry w.machine
+  pub at_moment : K.is_at o 0 w.machine w.device
+  pub loading : seen K o w ≡ loading_view o.start.count
+  pub safe : Safe K.decode o None None w.device
   pub left : w.device.left ≡ []
   pub mix : w.mix ≡ mix_start given.seed
   pub passed : w.passed ≡ 0
@@ -142,6 +139,6 @@ pub record IsFirst (o : Origin) (given : Given) (w : World) : Type 0 where
   pub events : w.events ≡ []
 
 -- a world after k cycles from the first
-abbrev pub Ran : Origin → Given → ℕ → World → Type 0
-Ran o given zero w = IsFirst o given w
-Ran o given (suc k) w = (before : World) × Ran o given k before × Cycle o given.cuts before w
+abbrev pub Ran : {M : Type 0} → KindOf M → Origin → Given → ℕ → World M → Type 0
+Ran K o given zero w = IsFirst K o given w
+Ran {M = M} K o given (suc k) w = (before : World M) × Ran K o given k before × Cycle K o given.cuts before w
