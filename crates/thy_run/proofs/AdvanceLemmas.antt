@@ -18,7 +18,7 @@ use Rattle.thy_view.specs.Views.{is_halt, halts, loads}
 use Rattle.thy_view.specs.Safe.{ceiling}
 use Rattle.thy_view.specs.declared.error.CoreError.{CoreError}
 use Rattle.thy_view.specs.declared.error.CoreError.TheVariants.{Nvm as NvmFailed, Memory as NoMemory}
-use Rattle.thy_view.specs.Kind.{HasFailedToRead, KindOf, IsLawful}
+use Rattle.thy_view.specs.Kind.{HasFailedToRead, KindOf, IsLawful, CanStep}
 use Rattle.thy_run.specs.Laws.{released_of}
 use Rattle.thy_run.specs.Cuts.{is_end, has_ended}
 use Rattle.thy_run.specs.Due.{due_of}
@@ -30,7 +30,7 @@ use Rattle.thy_run.specs.declared.ending.Stop.{Stop}
 use Rattle.thy_run.specs.declared.ending.Stop.TheVariants.{Nvm}
 use Rattle.thy_run.specs.declared.plan.Plan.{Plan}
 use Rattle.thy_run.specs.declared.progress.Progress.{Progress}
-use Rattle.thy_run.specs.Going.{origin_of, given_of, world_at, IsPlanned, GoesOn, IsStepped, IsStuck, CanGather, MadeSome, end_of, IsEnd, IsNoted, IsDone, IsBroken, Breaks, IsCutOffTo}
+use Rattle.thy_run.specs.Going.{origin_of, given_of, world_at, IsPlanned, GoesOn, IsStepped, IsStuck, CanGather, MadeSome, end_of, IsEnd, IsNoted, IsDone, IsBroken, Breaks, AwaitsCut, CanCut, IsCutOffTo}
 use Rattle.thy_run.specs.Stopping.{stop_of}
 
 -- the progress after a step of the machine
@@ -150,6 +150,14 @@ module _ {M : Type 0} (K : KindOf M) (laws : IsLawful K) (plan : Plan) (p q : Pr
       subst (λ c. (nat_lt q.passed (length plan.config.cuts) && slice_index plan.config.cuts q.passed == c) ≡ false) at_cycle due in
       (done_uncut (going_due (is_halt next.phase) _ (going_on is) due_now), going_on is)
 
+  -- the run goes on, and a cut is due
+  pub awaits_cut : ended ≡ None → (cycle : ℕ) → cycle ≡ k + 1 → (nat_lt q.passed (length plan.config.cuts) && slice_index plan.config.cuts q.passed == cycle) ≡ true
+      → AwaitsCut K plan p q n m k bytes
+  awaits_cut is cycle at_cycle due = record {
+    noted = subst (λ e. IsNoted K plan p q n m k e bytes) is noted;
+    due = subst (λ c. (nat_lt q.passed (length plan.config.cuts) && slice_index plan.config.cuts q.passed == c) ≡ true) at_cycle due;
+  }
+
   -- a cut was due, and fell
   pub done_cut : (q' : Progress M) (m' : Device) → ended ≡ None → (cycle : ℕ) → cycle ≡ k + 1
       → (nat_lt q.passed (length plan.config.cuts) && slice_index plan.config.cuts q.passed == cycle) ≡ true → IsCutOffTo K plan q q' m m' cycle
@@ -215,14 +223,14 @@ module _ {M : Type 0} (K : KindOf M) (laws : IsLawful K) (plan : Plan) (p q : Pr
       } in
       subst (λ (y : Progress M). IsBroken K plan p y n m' k bytes) (sym same) (subst (λ (d : Device). IsBroken K plan p q n d k bytes) (sym device) here)
 
-  -- there is room for the image of a cut
-  pub cut_room : (fitted : Device) (cycle : ℕ) → IsPlanned plan → GoesOn K plan fitted p n k
-      → (nat_lt q.passed (length plan.config.cuts) && slice_index plan.config.cuts q.passed == cycle) ≡ true → length m.left < m.left_room
-  cut_room fitted cycle planned g due =
+  -- a cut that is due may fall: there is room for its image
+  pub can_cut : (fitted : Device) (cycle : ℕ) → IsPlanned plan → GoesOn K plan fitted p n k
+      → (nat_lt q.passed (length plan.config.cuts) && slice_index plan.config.cuts q.passed == cycle) ≡ true → CanCut K plan q m
+  can_cut fitted cycle planned g due =
       let few : q.passed < length plan.config.cuts = ltb-true q.passed (length plan.config.cuts) (and_parts (nat_lt q.passed (length plan.config.cuts)) _ due).0 in
       let left : length m.left ≡ q.passed = ap length noted.steps.framed.left ∙ (good_of K plan fitted p n k planned g).stands.left ∙ sym passed_same in
       let room : m.left_room ≡ length plan.config.cuts + 1 = noted.steps.framed.left_room ∙ g.room in
-      omega (arith, left, room, few)
+      record { cycles = k + 1; at_moment = noted.steps.is_step.at_next; room = omega (arith, left, room, few); few = few }
 
 -- ---- a step and its events
 
@@ -248,13 +256,13 @@ pub IsNoted-made : {M : Type 0} (K : KindOf M) (laws : IsLawful K) → (plan : P
     → IsEnd (origin_of plan) (seen K (origin_of plan) (world_at p n k)) (K.view (origin_of plan) q.machine m) ended
     → IsNoted K plan p t n m k ended bytes
 IsNoted-made {M = M} K laws plan fitted p q t n m k r ended bytes planned g s made same released bytes_is is_end =
-    let o K laws : Origin = origin_of plan in
-    let v : View = seen K o K laws (world_at p n k) in
+    let o : Origin = origin_of plan in
+    let v : View = seen K o (world_at p n k) in
     let good = good_of K plan fitted p n k planned g in
     let events_q : q.events ≡ p.events = ap (λ (y : Progress M). y.events) s.same in
     let fresh_q : q.fresh ≡ p.fresh = ap (λ (y : Progress M). y.fresh) s.same in
     let machine_t : t.machine ≡ q.machine = ap (λ (y : Progress M). y.machine) same in
-    let steps : Steps K o K laws (world_at p n k) (world_at (record q { events = t.events; released = t.released; fresh = false }) m (k + 1)) = record {
+    let steps : Steps K o (world_at p n k) (world_at (record q { events = t.events; released = t.released; fresh = false }) m (k + 1)) = record {
       r = r;
       going = g.going;
       is_step = s.is_step;
@@ -263,17 +271,17 @@ IsNoted-made {M = M} K laws plan fitted p q t n m k r ended bytes planned g s ma
       next_is =
           ap (λ (y : Progress M). world_at (record y { events = t.events; fresh = false }) m (k + 1)) s.same
           ∙ ap (λ (l : List Happening). world_at (record p { machine = q.machine; mix = mix_next p.mix; events = l; fresh = false }) m (k + 1))
-          (made ∙ ap (λ (l : List Happening). l ++ events_of o K laws q.fresh v r.did (K.view o K laws q.machine m) (k + 1)) events_q
-          ∙ ap (λ b. p.events ++ events_of o K laws b v r.did (K.view o K laws q.machine m) (k + 1)) fresh_q);
+          (made ∙ ap (λ (l : List Happening). l ++ events_of o q.fresh v r.did (K.view o q.machine m) (k + 1)) events_q
+          ∙ ap (λ b. p.events ++ events_of o b v r.did (K.view o q.machine m) (k + 1)) fresh_q);
     } in
-    let releases : released_of o K laws t.events ≡ released_of o K laws p.events ++ bytes =
-    released-stepped K o K laws (world_at p n k) _ planned.origin.geometry.epoch_least good.stands steps
-    ∙ ap (λ (l : List ℕ). released_of o K laws p.events ++ l) (ap (λ (e : List Happening). due_of o K laws e r.did (K.view o K laws q.machine m)) (sym events_q) ∙ sym bytes_is) in
+    let releases : released_of o t.events ≡ released_of o p.events ++ bytes =
+    released-stepped K o (world_at p n k) _ planned.origin.geometry.epoch_least good.stands steps
+    ∙ ap (λ (l : List ℕ). released_of o p.events ++ l) (ap (λ (e : List Happening). due_of o e r.did (K.view o q.machine m)) (sym events_q) ∙ sym bytes_is) in
     let now : IsNoted K plan p (record q { events = t.events; released = t.released; fresh = false }) n m k ended bytes = record {
       steps = steps;
       is_end = is_end;
       released = released ∙ ap (λ c. c + length bytes) (ap (λ (y : Progress M). y.released) s.same ∙ g.released)
-          ∙ sym (length-append (released_of o K laws p.events) bytes) ∙ ap length (sym releases);
+          ∙ sym (length-append (released_of o p.events) bytes) ∙ ap length (sym releases);
       releases = releases;
       calm = s.calm;
       spoken = ap (λ (y : Progress M). y.mute) s.same;
@@ -286,17 +294,17 @@ pub IsBroken-made : {M : Type 0} (K : KindOf M) (laws : IsLawful K) → (plan : 
     → MadeSome t.events (events_of (origin_of plan) q.fresh (seen K (origin_of plan) (world_at p n k)) r.did (K.view (origin_of plan) q.machine m) (k + 1)) q.events
     → t ≡ record q { events = t.events } → IsBroken K plan p t n m k []
 IsBroken-made {M = M} K laws plan fitted p q t n m k r planned g s some same =
-    let o K laws : Origin = origin_of plan in
-    let v : View = seen K o K laws (world_at p n k) in
+    let o : Origin = origin_of plan in
+    let v : View = seen K o (world_at p n k) in
     let good = good_of K plan fitted p n k planned g in
     let events_q : q.events ≡ p.events = ap (λ (y : Progress M). y.events) s.same in
     let fresh_q : q.fresh ≡ p.fresh = ap (λ (y : Progress M). y.fresh) s.same in
-    let all : List Happening = events_of o K laws p.fresh v r.did (K.view o K laws q.machine m) (k + 1) in
-    let split : all ≡ some.part ++ some.rest = ap (λ b. events_of o K laws b v r.did (K.view o K laws q.machine m) (k + 1)) (sym fresh_q) ∙ some.split in
-    let next : World M = stepped K o K laws (world_at p n k) q.machine m r.did in
-    let steps : Steps K o K laws (world_at p n k) next = record { r = r; going = g.going; is_step = s.is_step; framed = s.framed; calm = s.calm; next_is = refl } in
+    let all : List Happening = events_of o p.fresh v r.did (K.view o q.machine m) (k + 1) in
+    let split : all ≡ some.part ++ some.rest = ap (λ b. events_of o b v r.did (K.view o q.machine m) (k + 1)) (sym fresh_q) ∙ some.split in
+    let next : World M = stepped K o (world_at p n k) q.machine m r.did in
+    let steps : Steps K o (world_at p n k) next = record { r = r; going = g.going; is_step = s.is_step; framed = s.framed; calm = s.calm; next_is = refl } in
     let told : t.events ≡ p.events ++ some.part = some.told ∙ ap (λ (l : List Happening). l ++ some.part) events_q in
-    let more = released-part K o K laws (world_at p n k) next planned.origin.geometry.epoch_least good.stands steps some.part some.rest (sym split) in
+    let more = released-part K o (world_at p n k) next planned.origin.geometry.epoch_least good.stands steps some.part some.rest (sym split) in
     record {
       unfinished = inr (record {
         next = next;
@@ -309,7 +317,7 @@ IsBroken-made {M = M} K laws plan fitted p q t n m k r planned g s some same =
         device = inl refl;
       });
       rest = more.0;
-      releases = ap (released_of o K laws) told ∙ more.1 ∙ ap (λ (l : List ℕ). l ++ more.0) (sym (append-nil (released_of o K laws p.events)));
+      releases = ap (released_of o) told ∙ more.1 ∙ ap (λ (l : List ℕ). l ++ more.0) (sym (append-nil (released_of o p.events)));
       told = (some.part, told);
       spoken = ap (λ (y : Progress M). y.mute) same ∙ ap (λ (y : Progress M). y.mute) s.same;
       heard = ap (λ (y : Progress M). y.deaf) same ∙ ap (λ (y : Progress M). y.deaf) s.same;
@@ -319,24 +327,24 @@ IsBroken-made {M = M} K laws plan fitted p q t n m k r planned g s some same =
 pub IsBroken-read : {M : Type 0} (K : KindOf M) (laws : IsLawful K) → (plan : Plan) (fitted : Device) (p q : Progress M) (n m m' : Device) (k : ℕ) (r : Stepped) (e : CoreError) → IsPlanned plan → GoesOn K plan fitted p n k → IsStepped K plan p q n m k r
     → HasFailedToRead e m m' → IsFramed m m' → IsBroken K plan p q n m' k [] × Breaks p q n m' [] (stop_of e)
 IsBroken-read {M = M} K laws plan fitted p q n m m' k r e planned g s failed framed =
-    let o K laws : Origin = origin_of plan in
-    let v : View = seen K o K laws (world_at p n k) in
+    let o : Origin = origin_of plan in
+    let v : View = seen K o (world_at p n k) in
     let events_q : q.events ≡ p.events = ap (λ (y : Progress M). y.events) s.same in
-    let next : World M = stepped K o K laws (world_at p n k) q.machine m r.did in
-    let steps : Steps K o K laws (world_at p n k) next = record { r = r; going = g.going; is_step = s.is_step; framed = s.framed; calm = s.calm; next_is = refl } in
+    let next : World M = stepped K o (world_at p n k) q.machine m r.did in
+    let steps : Steps K o (world_at p n k) next = record { r = r; going = g.going; is_step = s.is_step; framed = s.framed; calm = s.calm; next_is = refl } in
     let broken : ((m' ≡ m) ⊎ ReadFailed m m') → IsBroken K plan p q n m' k [] = λ device. record {
       unfinished = inr (record {
         next = next;
         steps = steps;
         part = [];
-        rest = events_of o K laws p.fresh v r.did (K.view o K laws q.machine m) (k + 1);
+        rest = events_of o p.fresh v r.did (K.view o q.machine m) (k + 1);
         told = events_q ∙ sym (append-nil p.events);
-        split = ap (λ (l : List Happening). l ++ events_of o K laws p.fresh v r.did (K.view o K laws q.machine m) (k + 1)) (sym events_q);
+        split = ap (λ (l : List Happening). l ++ events_of o p.fresh v r.did (K.view o q.machine m) (k + 1)) (sym events_q);
         unended = refl;
         device = device;
       });
       rest = [];
-      releases = ap (released_of o K laws) events_q ∙ sym (append-nil (released_of o K laws p.events)) ∙ sym (append-nil (released_of o K laws p.events ++ []));
+      releases = ap (released_of o) events_q ∙ sym (append-nil (released_of o p.events)) ∙ sym (append-nil (released_of o p.events ++ []));
       told = ([], events_q ∙ sym (append-nil p.events));
       spoken = ap (λ (y : Progress M). y.mute) s.same;
       heard = ap (λ (y : Progress M). y.deaf) s.same;
@@ -349,18 +357,18 @@ IsBroken-read {M = M} K laws plan fitted p q n m m' k r e planned g s failed fra
       broken (inr (record { failed = f.0; framed = framed; rose = f.1 })),
       record { events = events; none = refl; rose = subst (λ c. RoseFaults c m'.faults) s.calm f.1 },
     )
-    by_error (NoMemory x K laws) f broken events = (broken (inl f), tt)
+    by_error (NoMemory x) f broken events = (broken (inl f), tt)
 
 -- the step itself failed
 pub IsBroken-stuck : {M : Type 0} (K : KindOf M) (laws : IsLawful K) → (plan : Plan) (fitted : Device) (p q : Progress M) (n m : Device) (k : ℕ) → GoesOn K plan fitted p n k → IsStuck K plan p q n m
     → IsBroken K plan p q n m k [] × Breaks p q n m [] Nvm
 IsBroken-stuck {M = M} K laws plan fitted p q n m k g s =
-    let o K laws : Origin = origin_of plan in
+    let o : Origin = origin_of plan in
     let events_q : q.events ≡ p.events = ap (λ (y : Progress M). y.events) s.same in (
       record {
         unfinished = inl (record { going = g.going; safe = s.safe; framed = s.framed; rose = s.rose; nothing_told = events_q });
         rest = [];
-        releases = ap (released_of o K laws) events_q ∙ sym (append-nil (released_of o K laws p.events)) ∙ sym (append-nil (released_of o K laws p.events ++ []));
+        releases = ap (released_of o) events_q ∙ sym (append-nil (released_of o p.events)) ∙ sym (append-nil (released_of o p.events ++ []));
         told = ([], events_q ∙ sym (append-nil p.events));
         spoken = ap (λ (y : Progress M). y.mute) s.same;
         heard = ap (λ (y : Progress M). y.deaf) s.same;
@@ -374,42 +382,30 @@ IsBroken-stuck {M = M} K laws plan fitted p q n m k g s =
 pub few_released : {M : Type 0} (K : KindOf M) (laws : IsLawful K) → (plan : Plan) (fitted : Device) (p q : Progress M) (n m : Device) (k : ℕ) (r : Stepped) (bytes : List ℕ) → IsPlanned plan → GoesOn K plan fitted p n k
     → IsStepped K plan p q n m k r → bytes ≡ due_of (origin_of plan) q.events r.did (K.view (origin_of plan) q.machine m) → q.released + length bytes < 2 ^ 64
 few_released {M = M} K laws plan fitted p q n m k r bytes planned g s due =
-    let o K laws : Origin = origin_of plan in
+    let o : Origin = origin_of plan in
     let good = good_of K plan fitted p n k planned g in
     let events_q : q.events ≡ p.events = ap (λ (y : Progress M). y.events) s.same in
-    let next : World M = stepped K o K laws (world_at p n k) q.machine m r.did in
-    let steps : Steps K o K laws (world_at p n k) next = record { r = r; going = g.going; is_step = s.is_step; framed = s.framed; calm = s.calm; next_is = refl } in
-    let releases : released_of o K laws next.events ≡ released_of o K laws p.events ++ bytes =
-    released-stepped K o K laws (world_at p n k) next planned.origin.geometry.epoch_least good.stands steps
-    ∙ ap (λ (l : List ℕ). released_of o K laws p.events ++ l) (ap (λ (e : List Happening). due_of o K laws e r.did (K.view o K laws q.machine m)) (sym events_q) ∙ sym due) in
-    let released : q.released ≡ length (released_of o K laws p.events) = ap (λ (y : Progress M). y.released) s.same ∙ g.released in
-    let sum : length (released_of o K laws next.events) ≡ length (released_of o K laws p.events) + length bytes = ap length releases ∙ length-append (released_of o K laws p.events) bytes in
-    let few : length (released_of o K laws next.events) < 2 ^ 64 = length-released o K laws next.events planned.origin in
+    let next : World M = stepped K o (world_at p n k) q.machine m r.did in
+    let steps : Steps K o (world_at p n k) next = record { r = r; going = g.going; is_step = s.is_step; framed = s.framed; calm = s.calm; next_is = refl } in
+    let releases : released_of o next.events ≡ released_of o p.events ++ bytes =
+    released-stepped K o (world_at p n k) next planned.origin.geometry.epoch_least good.stands steps
+    ∙ ap (λ (l : List ℕ). released_of o p.events ++ l) (ap (λ (e : List Happening). due_of o e r.did (K.view o q.machine m)) (sym events_q) ∙ sym due) in
+    let released : q.released ≡ length (released_of o p.events) = ap (λ (y : Progress M). y.released) s.same ∙ g.released in
+    let sum : length (released_of o next.events) ≡ length (released_of o p.events) + length bytes = ap length releases ∙ length-append (released_of o p.events) bytes in
+    let few : length (released_of o next.events) < 2 ^ 64 = length-released o next.events planned.origin in
     omega (arith, released, sum, few)
 
 -- a step may be asked for
-pub can_step : {M : Type 0} (K : KindOf M) → (plan : Plan) (fitted : Device) (p : Progress M) (n : Device) (k : ℕ) → IsPlanned plan → GoesOn K plan fitted p n k → k < 2 ^ 62 → CanStep plan.start p.machine n
-can_step {M = M} K plan fitted p n k planned g few =
-    let good = good_of K plan fitted p n k planned g in
-    CanStep-at (origin_of plan) plan.start k p.machine n (record { geometry = refl; state = refl; input = refl }) good.stands.at_moment few
-
--- the start is the machine's
-pub begins_of : {M : Type 0} (K : KindOf M) → (plan : Plan) (fitted : Device) (p : Progress M) (n : Device) (k : ℕ) → IsPlanned plan → GoesOn K plan fitted p n k → Begins (origin_of plan) (made_for p.machine) plan.start
-begins_of {M = M} K plan fitted p n k planned g =
-    let good = good_of K plan fitted p n k planned g in
-    record { geometry = sym (geometry-at (origin_of plan) k p.machine n good.stands.at_moment); state = refl; input = refl }
-
 pub at_of : {M : Type 0} (K : KindOf M) → (plan : Plan) (fitted : Device) (p : Progress M) (n : Device) (k : ℕ) → IsPlanned plan → GoesOn K plan fitted p n k → K.is_at (origin_of plan) k p.machine n
-at_of {M = M} K plan fitted p n k planned g = (good_of K plan fitted p n k planned g).stands.at_moment
+at_of K plan fitted p n k planned g = (good_of K plan fitted p n k planned g).stands.at_moment
 
--- after a step the device has the machine's blocks
-pub blocks_of_step : {M : Type 0} (K : KindOf M) → (plan : Plan) (fitted : Device) (p q : Progress M) (n m : Device) (k : ℕ) (r : Stepped) → IsPlanned plan → GoesOn K plan fitted p n k → k < 2 ^ 62 → IsStepped K plan p q n m k r
-    → length m.image ≡ K.blocks (made_for q.machine)
-blocks_of_step {M = M} K plan fitted p q n m k r planned g few s =
-    let at_p = at_of K plan fitted p n k planned g in
-    let can = can_step K plan fitted p n k planned g few in
-    s.framed.blocks ∙ can.blocks
-    ∙ ap K.blocks (geometry-at (origin_of plan) k p.machine n at_p ∙ sym (geometry-at (origin_of plan) (k + 1) q.machine m s.is_step.at_next))
+-- the start is the run's
+pub begins_of : (plan : Plan) → Begins (origin_of plan) plan.start
+begins_of plan = record { state = refl; input = refl }
+
+pub can_step : {M : Type 0} (K : KindOf M) → (plan : Plan) (fitted : Device) (p : Progress M) (n : Device) (k : ℕ) → IsPlanned plan → GoesOn K plan fitted p n k → k < 2 ^ 62 → CanStep K plan.start p.machine n
+can_step K plan fitted p n k planned g few =
+    record { o = origin_of plan; cycles = k; begins = begins_of plan; at_moment = at_of K plan fitted p n k planned g; few = few }
 
 -- ---- the same, from what the calls promise
 
@@ -420,24 +416,24 @@ pub noted_from : {M : Type 0} (K : KindOf M) (laws : IsLawful K) → (plan : Pla
     → IsEnd (origin_of plan) (seen K (origin_of plan) (world_at p n k)) (K.view (origin_of plan) q.machine m) ended
     → IsNoted K plan p (record q { events = e; released = q.released + len; fresh = false }) n m k ended bytes
 noted_from {M = M} K laws plan fitted p q n m k r ended bytes e len cycle did planned g s did_is len_is cycle_is made due is_end =
-    let o K laws : Origin = origin_of plan in
-    let v : View = seen K o K laws (world_at p n k) in
-    let next : View = K.view o K laws q.machine m in
+    let o : Origin = origin_of plan in
+    let v : View = seen K o (world_at p n k) in
+    let next : View = K.view o q.machine m in
     IsNoted-made K laws plan fitted p q (record q { events = e; released = q.released + len; fresh = false }) n m k r ended bytes planned g s
-    (made ∙ ap (λ (d : Did). q.events ++ events_of o K laws q.fresh v d next cycle) (sym did_is) ∙ ap (λ c. q.events ++ events_of o K laws q.fresh v r.did next c) cycle_is)
-    refl (ap (λ l. q.released + l) len_is) (due ∙ ap (λ (d : Did). due_of o K laws q.events d next) (sym did_is)) is_end
+    (made ∙ ap (λ (d : Did). q.events ++ events_of o q.fresh v d next cycle) (sym did_is) ∙ ap (λ c. q.events ++ events_of o q.fresh v r.did next c) cycle_is)
+    refl (ap (λ l. q.released + l) len_is) (due ∙ ap (λ (d : Did). due_of o q.events d next) (sym did_is)) is_end
 
 pub broken_from : {M : Type 0} (K : KindOf M) (laws : IsLawful K) → (plan : Plan) (fitted : Device) (p q : Progress M) (n m : Device) (k : ℕ) (r : Stepped) (e : List Happening) (bytes : List ℕ) (cycle : ℕ) (did : Did)
     → IsPlanned plan → GoesOn K plan fitted p n k → IsStepped K plan p q n m k r → r.did ≡ did → cycle ≡ k + 1 → bytes ≡ []
     → MadeSome e (events_of (origin_of plan) q.fresh (seen K (origin_of plan) (world_at p n k)) did (K.view (origin_of plan) q.machine m) cycle) q.events
     → IsBroken K plan p (record q { events = e }) n m k bytes
 broken_from {M = M} K laws plan fitted p q n m k r e bytes cycle did planned g s did_is cycle_is none some =
-    let o K laws : Origin = origin_of plan in
-    let v : View = seen K o K laws (world_at p n k) in
-    let next : View = K.view o K laws q.machine m in
+    let o : Origin = origin_of plan in
+    let v : View = seen K o (world_at p n k) in
+    let next : View = K.view o q.machine m in
     let P : List Happening → Type 0 = λ all. MadeSome e all q.events in
-    let some_of : MadeSome e (events_of o K laws q.fresh v r.did next (k + 1)) q.events =
-    subst P (ap (λ (d : Did). events_of o K laws q.fresh v d next cycle) (sym did_is) ∙ ap (λ c. events_of o K laws q.fresh v r.did next c) cycle_is) some in
+    let some_of : MadeSome e (events_of o q.fresh v r.did next (k + 1)) q.events =
+    subst P (ap (λ (d : Did). events_of o q.fresh v d next cycle) (sym did_is) ∙ ap (λ c. events_of o q.fresh v r.did next c) cycle_is) some in
     subst (λ (b : List ℕ). IsBroken K plan p (record q { events = e }) n m k b) (sym none)
     (IsBroken-made K laws plan fitted p q (record q { events = e }) n m k r planned g s some_of refl)
 

@@ -72,15 +72,15 @@ module _ (o : Origin) (v next : View) (m : Marks) (least : 1 ≤ o.geometry.epoc
       subst (λ w. Fits o w m) (sym b.1) (in_phase o w m BootPhase phase now)
 
   -- the engine goes on
-  engine : v.phase ≡ Run → ((s : Mark) × (v.sealed ≡ Some s)) → (step : EngineStep) → EngineTo step v next → Fits o next m
-  engine phase some Idle e = absurd e
-  engine phase some Copied e = busy phase e
-  engine phase some PageBlock e = busy phase e
-  engine phase some StateBlock e = busy phase e
-  engine phase some TableBlock e = busy phase e
-  engine phase some Barrier e = busy phase e
-  engine phase some (EngineCommitted epoch) e = absurd e
-  engine phase (s, is) CommitWritten e =
+  engine : v.phase ≡ Run → (step : EngineStep) → EngineTo step v next → Fits o next m
+  engine phase Idle e = absurd e
+  engine phase Copied e = busy phase e
+  engine phase PageBlock e = busy phase e
+  engine phase StateBlock e = busy phase e
+  engine phase TableBlock e = busy phase e
+  engine phase Barrier e = busy phase e
+  engine phase (EngineCommitted epoch) e = absurd e
+  engine phase CommitWritten ((s, is), e) =
       let f : RunFits o v m = of_phase o v m Run phase h in
       let w : View = record (busier v) { written = true } in
       let follows : Follows o w f.mark w.sealed =
@@ -153,7 +153,7 @@ module _ (o : Origin) (v next : View) (m : Marks) (least : 1 ≤ o.geometry.epoc
 
   -- an epoch was restored
   restarts : (epoch count cycle : ℕ) → v.phase ≡ BootPhase → v.done ≡ Some (mark epoch count) → v.sealed ≡ None → v.written ≡ false
-      → next ≡ record v { phase = phase_at o count; epoch = epoch + 1; count = count }
+      → next ≡ record v { phase = phase_at o count; epoch = epoch + 1; count = count; retired = 0; spent = 0; lap = 0 }
       → Fits o next (marks_from o.start.count m (told o (Restarted epoch count) cycle)) × AllLawful (course_of o) m (told o (Restarted epoch count) cycle)
   restarts epoch count cycle phase done none written e =
       let f : BootFits o v m = of_phase o v m BootPhase phase h in
@@ -163,19 +163,19 @@ module _ (o : Origin) (v next : View) (m : Marks) (least : 1 ≤ o.geometry.epoc
       ] in
       let retired : v.retired ≡ 0 = f.retired in
       let now : Marks = marks_from o.start.count m (told o (Restarted epoch count) cycle) in
-      let by_run : (b : Bool) → runs_at o count ≡ b → Fits o (record v { phase = if b then Run else Halt; epoch = epoch + 1; count = count }) now = λ b runs. begun f b runs in
+      let by_run : (b : Bool) → runs_at o count ≡ b → Fits o (record v { phase = if b then Run else Halt; epoch = epoch + 1; count = count; retired = 0; spent = 0; lap = 0 }) now = λ b runs. begun f b runs in
       (subst (λ w. Fits o w now) (sym e) (by_run (runs_at o count) refl), ((record { marked = either; whole = refl }), tt))
     where
       begun : BootFits o v m → (b : Bool) → runs_at o count ≡ b
-          → Fits o (record v { phase = if b then Run else Halt; epoch = epoch + 1; count = count }) (marks_from o.start.count m (told o (Restarted epoch count) cycle))
-      begun f true runs = let retired : v.retired ≡ 0 = f.retired in record {
+          → Fits o (record v { phase = if b then Run else Halt; epoch = epoch + 1; count = count; retired = 0; spent = 0; lap = 0 }) (marks_from o.start.count m (told o (Restarted epoch count) cycle))
+      begun f true runs = record {
         mark = mark epoch count;
         done = done;
         kept = refl;
         sealed = sym none;
-        follows = subst (Follows o (record v { phase = Run; epoch = epoch + 1; count = count }) (mark epoch count)) (sym none) (written, refl, omega (arith, retired));
-        few = omega (arith, retired);
-        over = subst (OverFits o v.retired count) (sym f.over) (omega (arith, retired, least));
+        follows = subst (Follows o (record v { phase = Run; epoch = epoch + 1; count = count; retired = 0; spent = 0; lap = 0 }) (mark epoch count)) (sym none) (written, refl, omega arith);
+        few = omega arith;
+        over = subst (OverFits o 0 count) (sym f.over) (omega (arith, least));
       }
       begun f false runs = record { mark = mark epoch count; done = done; sealed = none; written = written; kept = refl; none = refl; count = refl; over = runs }
 
@@ -258,7 +258,7 @@ module _ (o : Origin) (v next : View) (m : Marks) (least : 1 ≤ o.geometry.epoc
   Fits-told Merged cycle s = quiet Merged cycle refl (busy s.0 s.1)
   Fits-told Promoted cycle s = quiet Promoted cycle refl (busy s.0 s.1)
   Fits-told (Sealed epoch count cause) cycle s = seals epoch count cycle cause s.0 s.1 s.2 s.3 s.4 s.5
-  Fits-told (Engine step) cycle s = quiet (Engine step) cycle refl (engine s.0 s.1 step s.2)
+  Fits-told (Engine step) cycle s = quiet (Engine step) cycle refl (engine s.0 step s.1)
   Fits-told (Committed epoch overlapped) cycle s = commits epoch overlapped cycle s.3.0 s.0 s.3.1 s.3.2
   Fits-told NvmDrained cycle s = quiet NvmDrained cycle refl (same s)
   Fits-told DramDrained cycle s = quiet DramDrained cycle refl (same s)

@@ -1,5 +1,5 @@
 -- What a step lets be read.
-use Rattle.std.proofs.Common.{◌≡◌, ℕ, Bool, true, false, ◌&&◌, not, if◌then◌else◌, Option, Some, Box, Global, List, [], length, drop, refl, sym, ◌∙◌, ap, subst}
+use Rattle.std.proofs.Common.{◌≡◌, ℕ, Bool, true, false, ◌&&◌, ◌||◌, not, if◌then◌else◌, Option, Some, Box, Global, List, [], length, drop, refl, sym, ◌∙◌, ap, subst}
 use Rattle.std.proofs.lemmas.Bool.{and_parts}
 use Rattle.thy_base.specs.declared.mark.Mark.{Mark}
 use Rattle.thy_isa.specs.declared.state.MachState.{MachState}
@@ -10,7 +10,7 @@ use Rattle.thy_view.specs.declared.did.Did.TheVariants.{Boot, Loaded, Restarted,
 use Rattle.thy_view.specs.declared.view.Phase.{Phase}
 use Rattle.thy_view.specs.declared.view.Phase.TheVariants.{Boot as BootPhase, Run, Halt}
 use Rattle.thy_view.specs.declared.view.View.{View}
-use Rattle.thy_view.specs.Views.{is_boot, is_halt, halts, mark}
+use Rattle.thy_view.specs.Views.{is_boot, is_halt, is_between, halts, mark}
 use Rattle.thy_view.specs.CoreStep.{CoreStep}
 use Rattle.thy_view.specs.Origin.{Origin, at, runs_at}
 use Rattle.thy_view.specs.Kind.{IsSnapshot}
@@ -22,13 +22,17 @@ booted_if : (b : Bool) → is_boot (if b then Run else Halt) ≡ false
 booted_if true = refl
 booted_if false = refl
 
+between_if : (b : Bool) → (is_halt (if b then Run else Halt) || (not (is_boot (if b then Run else Halt)) && true)) ≡ true
+between_if true = refl
+between_if false = refl
+
 -- a restored epoch is behind the boot, and its state that at its count
 pub restores_some : (o : Origin) (v next : View) (did : Did) (epoch count : ℕ) (state : Box MachState Global) → did ≡ Restarted epoch count → CoreStep o v did next
-    → (is_boot next.phase ≡ false → IsSnapshot o next state.value) → Restores o did (Some state)
+    → (is_between next ≡ true → IsSnapshot o next state.value) → Restores o did (Some state)
 restores_some o v next did epoch count state is step shot =
     let s = subst (λ d. CoreStep o v d next) is step in
-    let booted : is_boot next.phase ≡ false = ap (λ w. is_boot w.phase) s.4 ∙ booted_if (runs_at o count) in
-    subst (λ d. Restores o d (Some state)) (sym is) ((shot booted).state ∙ ap (λ w. at o w.count) s.4)
+    let calm : is_between next ≡ true = ap is_between s.4 ∙ between_if (runs_at o count) in
+    subst (λ d. Restores o d (Some state)) (sym is) ((shot calm).state ∙ ap (λ w. at o w.count) s.4)
 
 -- what shows a console is behind the boot, with a committed mark
 pub record Shows (next : View) : Type 0 where
@@ -72,14 +76,13 @@ pub due_hidden : (o : Origin) (next : View) (did : Did) (events : List Happening
 due_hidden o next did events bytes hidden none =
     none ∙ sym (ap (λ b. if b then drop (length (released_of o events)) (console_of (console_at o) next.done) else []) hidden)
 
-halt_booted : (p : Phase) → is_halt p ≡ true → is_boot p ≡ false
-halt_booted Halt e = refl
-halt_booted BootPhase e = never e
-halt_booted Run e = never e
+halt_between : (h b : Bool) → h ≡ true → (h || b) ≡ true
+halt_between true b e = refl
+halt_between false b e = never (e)
 
--- a view that halts is behind the boot
-pub halts_booted : (v next : View) → halts v next ≡ true → is_boot next.phase ≡ false
-halts_booted v next e = halt_booted next.phase (and_parts (not (is_halt v.phase)) (is_halt next.phase) e).1
+-- a view that halts is between instructions
+pub halts_between : (v next : View) → halts v next ≡ true → is_between next ≡ true
+halts_between v next e = halt_between (is_halt next.phase) _ (and_parts (not (is_halt v.phase)) (is_halt next.phase) e).1
 
 pub and_false : (b c : Bool) → b ≡ false → (b && c) ≡ false
 and_false b c e = ap (λ x. x && c) e

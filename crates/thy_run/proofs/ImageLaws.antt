@@ -50,7 +50,7 @@ stays_engine v next StateBlock e = stays_busy v next e
 stays_engine v next TableBlock e = stays_busy v next e
 stays_engine v next Barrier e = stays_busy v next e
 stays_engine v next (EngineCommitted epoch) e = absurd e
-stays_engine v next CommitWritten e = record { phase = ap (λ w. w.phase) e; done = ap (λ w. w.done) e }
+stays_engine v next CommitWritten e = record { phase = ap (λ w. w.phase) e.1; done = ap (λ w. w.done) e.1 }
 
 some_event : (v : Happening) {A : Type 0} → v ∷ [] ≡ [] → A
 some_event v e = absurd (cc)
@@ -66,7 +66,7 @@ Stays-quiet o v next Flushed cycle s none = stays_busy v next s.1
 Stays-quiet o v next Merged cycle s none = stays_busy v next s.1
 Stays-quiet o v next Promoted cycle s none = stays_busy v next s.1
 Stays-quiet o v next (Sealed epoch count cause) cycle s none = some_event _ none
-Stays-quiet o v next (Engine step) cycle s none = stays_engine v next step s.2
+Stays-quiet o v next (Engine step) cycle s none = stays_engine v next step s.1
 Stays-quiet o v next (Committed epoch overlapped) cycle s none = some_event _ none
 Stays-quiet o v next NvmDrained cycle s none = stays_same v next s
 Stays-quiet o v next DramDrained cycle s none = stays_same v next s

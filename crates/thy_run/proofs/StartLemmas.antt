@@ -2,7 +2,7 @@
 use Rattle.std.proofs.Common.{◌≡◌, ℕ, ◌+◌, false, Some, List, [], refl, sym, ◌∙◌, ap, subst, inl, append-nil, arith}
 use Rattle.thy_base.specs.Device.{Device}
 use Rattle.thy_base.specs.Outside.{Stream, Took}
-use Rattle.thy_view.specs.Kind.{KindOf, IsLawful}
+use Rattle.thy_view.specs.Kind.{KindOf, IsLawful, IsFittedFor}
 use Rattle.thy_text.specs.Happening.{Happening}
 use Rattle.thy_text.specs.Lines.{report_of}
 use Rattle.thy_view.specs.declared.view.View.{View}
@@ -33,7 +33,13 @@ first_of : {M : Type 0} (K : KindOf M) (laws : IsLawful K) → (plan : Plan) (m 
     → IsFirst K (origin_of plan) (given_of plan n) (world_at (first_progress plan m) n 0)
 first_of {M = M} K laws plan m n planned powered f =
     let o : Origin = origin_of plan in
-    let law = laws.begins o m f.shape f.before planned.origin powered f.blocks in
+    let fit : IsFittedFor K o f.shape [] f.before = record {
+      blocks = f.blocks;
+      fits = omega arith;
+      long = record { each = λ i l. absurd (omega arith) };
+      found = laws.finds_nothing o.geometry f.shape f.before f.blocks;
+    } in
+    let law = laws.begins o m f.shape [] f.before planned.origin powered fit in
     let at_first : K.is_at o 0 m n = subst (K.is_at o 0 m) (sym f.is_fitted) law.0 in
     let view : K.view o m n ≡ loading_view o.start.count = ap (K.view o m) f.is_fitted ∙ law.1 in
     let S : View → Type 0 = λ v. Safe K.decode o v.done (doubt_of v) n in

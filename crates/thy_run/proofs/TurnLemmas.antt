@@ -1,23 +1,24 @@
 -- A cycle that was told is a turn of the loop.
-use Rattle.std.proofs.Common.{◌≡◌, ℕ, suc, ◌+◌, ◌<◌, ◌≤◌, Bool, true, false, List, [], ◌∷◌, ◌++◌, length, take, refl, sym, ◌∙◌, ap, subst, inr, append-nil, append_assoc, length-append, arith}
+use Rattle.std.proofs.Common.{◌≡◌, ℕ, suc, ◌+◌, ◌<◌, ◌≤◌, Bool, true, false, None, List, [], ◌∷◌, ◌++◌, length, take, refl, sym, ◌∙◌, ap, subst, inr, append-nil, append_assoc, length-append, arith}
 use Rattle.thy_base.specs.Device.{Device, RoseFaults}
 use Rattle.thy_base.specs.Outside.{Stream}
 use Rattle.thy_base.proofs.Streams.{Took-append, TookPart-append, TookPart-more}
-use Rattle.thy_view.specs.Kind.{KindOf}
+use Rattle.thy_view.specs.Kind.{KindOf, IsLawful}
 use Rattle.thy_text.specs.Happening.{Happening}
 use Rattle.thy_text.specs.Lines.{report_of}
 use Rattle.thy_run.specs.Laws.{released_of}
 use Rattle.thy_isa.specs.declared.state.Status.{Status}
 use Rattle.thy_view.specs.Views.{is_halt}
-use Rattle.thy_run.specs.World.{Ran, seen}
+use Rattle.thy_run.specs.World.{World, Ran, seen}
 use Rattle.thy_run.specs.declared.advance.Outcome.{Outcome}
-use Rattle.thy_run.specs.declared.advance.Outcome.TheVariants.{Goes, Ends, Fails}
+use Rattle.thy_run.specs.declared.advance.Outcome.TheVariants.{Goes, Cuts, Ends, Fails}
 use Rattle.thy_run.specs.declared.ending.Stop.{Stop}
 use Rattle.thy_run.specs.declared.ending.Stop.TheVariants.{Ended, Nvm, Memory, Terminal, Report, Limit}
 use Rattle.thy_run.specs.declared.plan.Plan.{Plan}
 use Rattle.thy_run.specs.declared.progress.Progress.{Progress}
-use Rattle.thy_run.specs.Going.{origin_of, given_of, world_at, IsDone, IsBroken, Breaks, ComesTo}
+use Rattle.thy_run.specs.Going.{origin_of, given_of, world_at, IsDone, IsBroken, Breaks, AwaitsCut, IsCutOffTo, ComesTo}
 use Rattle.thy_run.specs.Sending.{Sent, Sends, Delivers}
+use Rattle.thy_run.proofs.AdvanceLemmas.{done_cut, broken_cut}
 use Rattle.thy_run.specs.Turning.{turned_of, is_memory, EndsBy, StopFits, Running, RunEnds, IsTurned}
 
 -- ---- what sinks take
@@ -64,6 +65,7 @@ read_on digest failed before after more x y z grew one two =
 -- what was told grew
 pub told_of : {M : Type 0} (K : KindOf M) → (plan : Plan) (p q : Progress M) (n m : Device) (k : ℕ) (bytes : List ℕ) (outcome : Outcome) → ComesTo K plan p q n m k bytes outcome → (more : List Happening) × (q.events ≡ p.events ++ more)
 told_of {M = M} K plan p q n m k bytes Goes c = c.0.told
+told_of {M = M} K plan p q n m k bytes Cuts c = (_, ap (λ (w : World M). w.events) c.noted.steps.next_is)
 told_of {M = M} K plan p q n m k bytes (Ends status) c = c.0.told
 told_of {M = M} K plan p q n m k bytes (Fails stop) c = c.0.told
 
@@ -167,7 +169,7 @@ goes_turned : {M : Type 0} (K : KindOf M) → (plan : Plan) (fitted : Device) (p
     → Running K plan fitted p n k t0 t1 r0 r1 → k < plan.geometry.limit → Sent mute t1 t2 bytes
     → Sends (report_of plan.digest (take (length p.events) q.events)) (report_of plan.digest q.events) deaf r1 r2
     → IsDone K plan p q n m k bytes × (is_halt (seen K (origin_of plan) (world_at q m (k + 1))).phase ≡ false)
-    → IsTurned K plan fitted (record q { mute = mute; deaf = deaf }) m k t0 t2 r0 r2 (turned_of Goes mute deaf)
+    → IsTurned K plan fitted p (record q { mute = mute; deaf = deaf }) n m k t0 t1 t2 r0 r1 r2 (turned_of Goes mute deaf)
 goes_turned {M = M} K plan fitted p q n m k bytes mute true t0 t1 t2 r0 r1 r2 running few sent lines c =
     done_stops K plan fitted p q n m k bytes mute true t0 t1 t2 r0 r1 r2 running few sent lines Report c.0 refl refl (refl, c.0.calm ∙ running.goes.calm)
 goes_turned {M = M} K plan fitted p q n m k bytes true false t0 t1 t2 r0 r1 r2 running few sent lines c =
@@ -190,7 +192,7 @@ ends_turned : {M : Type 0} (K : KindOf M) → (plan : Plan) (fitted : Device) (p
     → Running K plan fitted p n k t0 t1 r0 r1 → k < plan.geometry.limit → Sent mute t1 t2 bytes
     → Sends (report_of plan.digest (take (length p.events) q.events)) (report_of plan.digest q.events) deaf r1 r2
     → ComesTo K plan p q n m k bytes (Ends status)
-    → IsTurned K plan fitted (record q { mute = mute; deaf = deaf }) m k t0 t2 r0 r2 (turned_of (Ends status) mute deaf)
+    → IsTurned K plan fitted p (record q { mute = mute; deaf = deaf }) n m k t0 t1 t2 r0 r1 r2 (turned_of (Ends status) mute deaf)
 ends_turned {M = M} K plan fitted p q n m k bytes status mute true t0 t1 t2 r0 r1 r2 running few sent lines c =
     done_stops K plan fitted p q n m k bytes mute true t0 t1 t2 r0 r1 r2 running few sent lines Report c.0 refl refl (refl, c.0.calm ∙ running.goes.calm)
 ends_turned {M = M} K plan fitted p q n m k bytes status true false t0 t1 t2 r0 r1 r2 running few sent lines c =
@@ -198,15 +200,53 @@ ends_turned {M = M} K plan fitted p q n m k bytes status true false t0 t1 t2 r0 
 ends_turned {M = M} K plan fitted p q n m k bytes status false false t0 t1 t2 r0 r1 r2 running few sent lines c =
     done_stops K plan fitted p q n m k bytes false false t0 t1 t2 r0 r1 r2 running few sent lines (Ended status) c.0 refl refl (c.2, refl, refl, c.0.calm ∙ running.goes.calm)
 
+-- the outcome is not that a cut is due
+abbrev pub IsTold : Outcome → Type 0
+IsTold Goes = Unit {0}
+IsTold Cuts = ⊥
+IsTold (Ends status) = Unit {0}
+IsTold (Fails stop) = Unit {0}
+
 -- a cycle that was told is a turn
 pub IsTurned-told : {M : Type 0} (K : KindOf M) → (plan : Plan) (fitted : Device) (p q : Progress M) (n m : Device) (k : ℕ) (bytes : List ℕ) (outcome : Outcome) (mute deaf : Bool) (t0 t1 t2 r0 r1 r2 : Stream)
     → Running K plan fitted p n k t0 t1 r0 r1 → k < plan.geometry.limit → Sent mute t1 t2 bytes
     → Sends (report_of plan.digest (take (length p.events) q.events)) (report_of plan.digest q.events) deaf r1 r2
-    → ComesTo K plan p q n m k bytes outcome
-    → IsTurned K plan fitted (record q { mute = mute; deaf = deaf }) m k t0 t2 r0 r2 (turned_of outcome mute deaf)
-IsTurned-told {M = M} K plan fitted p q n m k bytes Goes mute deaf t0 t1 t2 r0 r1 r2 running few sent lines c =
+    → IsTold outcome → ComesTo K plan p q n m k bytes outcome
+    → IsTurned K plan fitted p (record q { mute = mute; deaf = deaf }) n m k t0 t1 t2 r0 r1 r2 (turned_of outcome mute deaf)
+IsTurned-told {M = M} K plan fitted p q n m k bytes Goes mute deaf t0 t1 t2 r0 r1 r2 running few sent lines told c =
     goes_turned K plan fitted p q n m k bytes mute deaf t0 t1 t2 r0 r1 r2 running few sent lines c
-IsTurned-told {M = M} K plan fitted p q n m k bytes (Ends status) mute deaf t0 t1 t2 r0 r1 r2 running few sent lines c =
+IsTurned-told {M = M} K plan fitted p q n m k bytes (Ends status) mute deaf t0 t1 t2 r0 r1 r2 running few sent lines told c =
     ends_turned K plan fitted p q n m k bytes status mute deaf t0 t1 t2 r0 r1 r2 running few sent lines c
-IsTurned-told {M = M} K plan fitted p q n m k bytes (Fails stop) mute deaf t0 t1 t2 r0 r1 r2 running few sent lines c =
+IsTurned-told {M = M} K plan fitted p q n m k bytes (Fails stop) mute deaf t0 t1 t2 r0 r1 r2 running few sent lines told c =
     broken_stops K plan fitted p q n m k bytes mute deaf t0 t1 t2 r0 r1 r2 running few sent lines stop c.0 c.1
+IsTurned-told {M = M} K plan fitted p q n m k bytes Cuts mute deaf t0 t1 t2 r0 r1 r2 running few sent lines told c = absurd told
+
+-- an outcome but that
+pub IsTold-not : (outcome : Outcome) → (outcome ≡ Cuts → ⊥) → IsTold outcome
+IsTold-not Goes h = tt
+IsTold-not Cuts h = h refl
+IsTold-not (Ends status) h = tt
+IsTold-not (Fails stop) h = tt
+
+-- ---- a cut behind a cycle
+
+module _ {M : Type 0} (K : KindOf M) (laws : IsLawful K) (plan : Plan) (fitted : Device) (p q : Progress M) (n m : Device) (k : ℕ) (bytes : List ℕ) (mute deaf : Bool) (t0 t1 t2 r0 r1 r2 : Stream)
+    (running : Running K plan fitted p n k t0 t1 r0 r1) (few : k < plan.geometry.limit) (sent : Sent mute t1 t2 bytes) (awaits : AwaitsCut K plan p q n m k bytes) where
+  -- power was cut, and the cycle was told
+  pub IsTurned-cut : (q' : Progress M) (m' : Device) → IsCutOffTo K plan q q' m m' (k + 1)
+      → Sends (report_of plan.digest (take (length p.events) q'.events)) (report_of plan.digest q'.events) deaf r1 r2
+      → IsTurned K plan fitted p (record q' { mute = mute; deaf = deaf }) n m' k t0 t1 t2 r0 r1 r2 (turned_of Goes mute deaf)
+  IsTurned-cut q' m' cut lines =
+      goes_turned K plan fitted p q' n m' k bytes mute deaf t0 t1 t2 r0 r1 r2 running few sent lines
+      (done_cut K laws plan p q n m k None bytes awaits.noted q' m' refl (k + 1) refl awaits.due cut)
+
+  -- memory was short, and what was made of the cycle was told
+  pub RunEnds-uncut : Sends (report_of plan.digest (take (length p.events) q.events)) (report_of plan.digest q.events) deaf r1 r2
+      → RunEnds K plan fitted m (record { stop = Memory; events = q.events; cycles = k; mute = mute; deaf = deaf }) t0 t2 r0 r2
+  RunEnds-uncut lines =
+      broken_stops K plan fitted p q n m k bytes mute deaf t0 t1 t2 r0 r1 r2 running few sent lines Memory
+      (broken_cut K laws plan p q n m k None bytes awaits.noted q m refl refl refl) tt
+
+  -- there are no fewer events than before
+  pub told_awaiting : length p.events ≤ length q.events
+  told_awaiting = told_more K plan p q n m k bytes Cuts awaits

@@ -1,5 +1,5 @@
 -- The program's loop as a run.
-use Rattle.std.specs.Prelude.{◌≡◌, ◌⊎◌, ℕ, ◌+◌, true, false, ◌&&◌, List, [], ◌∷◌, ◌++◌, length, Option, Some, None, Box}
+use Rattle.std.specs.Prelude.{◌≡◌, ◌⊎◌, ℕ, ◌+◌, ◌<◌, ◌==◌, true, false, ◌&&◌, nat_lt, slice_index, List, [], ◌∷◌, ◌++◌, length, Option, Some, None, Box}
 use Rattle.std.specs.declared.alloc.Global.{Global}
 use Rattle.thy_base.specs.Bytes.{bytes_of}
 use Rattle.thy_base.specs.Config.{first_not_rising}
@@ -26,7 +26,7 @@ use Rattle.thy_run.specs.World.{World, Given, seen, Steps, Ran, Cycle}
 use Rattle.thy_run.specs.declared.ending.Stop.{Stop}
 use Rattle.thy_run.specs.declared.ending.Stop.TheVariants.{Ended, Nvm, Memory, Terminal, Report, Limit}
 use Rattle.thy_run.specs.declared.advance.Outcome.{Outcome}
-use Rattle.thy_run.specs.declared.advance.Outcome.TheVariants.{Goes, Ends, Fails}
+use Rattle.thy_run.specs.declared.advance.Outcome.TheVariants.{Goes, Cuts, Ends, Fails}
 use Rattle.thy_run.specs.declared.gather.Readings.{Readings}
 use Rattle.thy_run.specs.declared.plan.Plan.{Plan}
 use Rattle.thy_run.specs.declared.progress.Progress.{Progress}
@@ -178,15 +178,28 @@ end_of (Cut index cycle ∷ vs) = end_of vs
 end_of (Restart epoch count state ∷ vs) = end_of vs
 end_of (Reload ∷ vs) = end_of vs
 
+-- a cut is due after a cycle whose events were made: the next one that is listed
+pub record AwaitsCut {M : Type 0} (K : KindOf M) (plan : Plan) (p next : Progress M) (n new : Device) (cycles : ℕ) (bytes : List ℕ) : Type 0 where
+  pub noted : IsNoted K plan p next n new cycles None bytes
+  pub due : (nat_lt next.passed (length plan.config.cuts) && slice_index plan.config.cuts next.passed == cycles + 1) ≡ true
+
 -- what a cycle came to
 abbrev pub ComesTo : {M : Type 0} → KindOf M → Plan → Progress M → Progress M → Device → Device → ℕ → List ℕ → Outcome → Type 0
 ComesTo K plan p next n new cycles bytes Goes =
     IsDone K plan p next n new cycles bytes × (is_halt (seen K (origin_of plan) (world_at next new (cycles + 1))).phase ≡ false)
+ComesTo K plan p next n new cycles bytes Cuts = AwaitsCut K plan p next n new cycles bytes
 ComesTo K plan p next n new cycles bytes (Ends status) =
     IsDone K plan p next n new cycles bytes
     × (is_halt (seen K (origin_of plan) (world_at next new (cycles + 1))).phase ≡ true)
     × (end_of next.events ≡ Some status)
 ComesTo K plan p next n new cycles bytes (Fails stop) = IsBroken K plan p next n new cycles bytes × Breaks p next n new bytes stop
+
+-- power may be cut: the machine is at a moment of the run, and another cut is listed
+pub record CanCut {M : Type 0} (K : KindOf M) (plan : Plan) (p : Progress M) (n : Device) : Type 0 where
+  pub cycles : ℕ
+  pub at_moment : K.is_at (origin_of plan) cycles p.machine n
+  pub room : length n.left < n.left_room
+  pub few : p.passed < length plan.config.cuts
 
 -- power was cut, with a new machine
 pub record IsCutOffTo {M : Type 0} (K : KindOf M) (plan : Plan) (p next : Progress M) (n new : Device) (cycle : ℕ) : Type 0 where

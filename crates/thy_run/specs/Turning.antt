@@ -13,15 +13,16 @@ use Rattle.thy_run.specs.Laws.{released_of}
 use Rattle.thy_run.specs.Unfinished.{StepFailed, TellingFailed, Ends as StandsAtEnd}
 use Rattle.thy_run.specs.World.{World, Ran}
 use Rattle.thy_run.specs.declared.advance.Outcome.{Outcome}
-use Rattle.thy_run.specs.declared.advance.Outcome.TheVariants.{Goes, Ends, Fails}
+use Rattle.thy_run.specs.declared.advance.Outcome.TheVariants.{Goes, Cuts, Ends, Fails}
 use Rattle.thy_run.specs.declared.ending.Stop.{Stop}
 use Rattle.thy_run.specs.declared.ending.Stop.TheVariants.{Ended, Nvm, Memory, Terminal, Report, Limit}
 use Rattle.thy_run.specs.declared.ending.Ending.{Ending}
 use Rattle.thy_run.specs.declared.cycles.Turned.{Turned}
-use Rattle.thy_run.specs.declared.cycles.Turned.TheVariants.{GoesOn as TurnedOn, Stops, Breaks as BreaksOff}
+use Rattle.thy_run.specs.declared.cycles.Turned.TheVariants.{GoesOn as TurnedOn, Cuts as CutsOff, Stops, Breaks as BreaksOff}
 use Rattle.thy_run.specs.declared.plan.Plan.{Plan}
 use Rattle.thy_run.specs.declared.progress.Progress.{Progress}
-use Rattle.thy_run.specs.Going.{origin_of, given_of, end_of, GoesOn}
+use Rattle.thy_base.specs.Bytes.{bytes_of}
+use Rattle.thy_run.specs.Going.{origin_of, given_of, end_of, GoesOn, AwaitsCut}
 use Rattle.thy_run.specs.Sending.{Sends, Delivers}
 
 -- a stop for a sink that failed comes before the others of a cycle that is done
@@ -34,6 +35,7 @@ stopped_for false false turned = turned
 abbrev pub turned_of : Outcome → (terminal report : Bool) → Turned
 turned_of (Fails stop) terminal report = BreaksOff stop
 turned_of Goes terminal report = stopped_for terminal report TurnedOn
+turned_of Cuts terminal report = stopped_for terminal report TurnedOn
 turned_of (Ends status) terminal report = stopped_for terminal report (Stops (Ended status))
 
 -- a device that was fitted for a plan
@@ -96,12 +98,15 @@ pub record RunEnds {M : Type 0} (K : KindOf M) (plan : Plan) (fitted new : Devic
   pub stop_fits : StopFits plan fitted new e e.stop
 
 -- what a turn of the loop comes to
-abbrev pub IsTurned : {M : Type 0} → KindOf M → Plan → Device → Progress M → Device → ℕ → Stream → Stream → Stream → Stream → Turned → Type 0
-IsTurned K plan fitted p n cycles terminal shown report read TurnedOn = Running K plan fitted p n (cycles + 1) terminal shown report read
-IsTurned K plan fitted p n cycles terminal shown report read (Stops stop) =
-    RunEnds K plan fitted n (record { stop = stop; events = p.events; cycles = cycles + 1; mute = p.mute; deaf = p.deaf }) terminal shown report read
-IsTurned K plan fitted p n cycles terminal shown report read (BreaksOff stop) =
-    RunEnds K plan fitted n (record { stop = stop; events = p.events; cycles = cycles; mute = p.mute; deaf = p.deaf }) terminal shown report read
+abbrev pub IsTurned : {M : Type 0} → KindOf M → Plan → Device → Progress M → Progress M → Device → Device → ℕ → Stream → Stream → Stream → Stream → Stream → Stream → Turned → Type 0
+IsTurned K plan fitted p next n new cycles terminal showing shown report reading read TurnedOn =
+    Running K plan fitted next new (cycles + 1) terminal shown report read
+IsTurned K plan fitted p next n new cycles terminal showing shown report reading read (CutsOff bytes) =
+    AwaitsCut K plan p next n new cycles (bytes_of bytes) × (shown ≡ showing) × (read ≡ reading)
+IsTurned K plan fitted p next n new cycles terminal showing shown report reading read (Stops stop) =
+    RunEnds K plan fitted new (record { stop = stop; events = next.events; cycles = cycles + 1; mute = next.mute; deaf = next.deaf }) terminal shown report read
+IsTurned K plan fitted p next n new cycles terminal showing shown report reading read (BreaksOff stop) =
+    RunEnds K plan fitted new (record { stop = stop; events = next.events; cycles = cycles; mute = next.mute; deaf = next.deaf }) terminal shown report read
 
 -- a run before its first cycle
 abbrev pub first_progress : {M : Type 0} → Plan → M → Progress M

@@ -15,7 +15,7 @@ use Rattle.thy_view.specs.Origin.{Origin, at}
 use Rattle.thy_view.specs.Safe.{ceiling, Safe}
 
 -- a run between two cycles
-pub record World : Type 0 where
+pub record World (M : Type 0) : Type 0 where
   pub machine : M
   pub device : Device
   -- the schedule from here on

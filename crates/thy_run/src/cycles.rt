@@ -1,25 +1,31 @@
 //! The cycles of a run, one after another.
-ghost use Rattle.std.specs.Prelude.{◌≡◌, ◌<◌, ◌≤◌, ◌+◌, ◌^◌, []};
+ghost use Rattle.std.specs.Prelude.{◌≡◌, ◌<◌, ◌+◌, ℕ, length, IfOk, IfErr};
+ghost use Rattle.thy_base.specs.Bytes.{bytes_of};
 ghost use Rattle.thy_base.specs.Device.{Device as DeviceValue};
 ghost use Rattle.thy_base.specs.Outside.{Stream};
-ghost use Rattle.thy_run.specs.Going.{IsPlanned};
+ghost use Rattle.thy_view.specs.Kind.{IsDramOf};
+ghost use Rattle.thy_run.specs.Going.{IsPlanned, AwaitsCut};
 ghost use Rattle.thy_run.specs.Turning.{first_progress, stopped_for, turned_of, IsFitted, Running, RunEnds, IsTurned};
+ghost use Rattle.thy_run.specs.declared.progress.Progress.{Progress as ProgressValue};
 
-use crate::advance::{Advance, Outcome, take_cycle};
+use crate::advance::{Advance, Outcome, cut, take_cycle};
 use crate::ending::{Ending, Stop};
 use crate::plan::Plan;
 use crate::progress::Progress;
 use crate::tell::{Failures, tell};
-use std::alloc::Global;
-use thy_base::{Mix, Nvm, Sink};
-use thy_copy::Machine;
+use std::alloc::{AllocError, Global};
+use thy_base::{Bytes, Geometry, Mix, Nvm, Sink};
+use thy_dram::Dram;
 use thy_text::Events;
+use thy_view::Computer;
 
 /// What a turn of the loop comes to.
-#[derive(Clone, Copy)]
+#[derive(Drop)]
 pub enum Turned {
     /// The cycle is done, and the run goes on.
     GoesOn,
+    /// A cut is due after the cycle, and the terminal is due these bytes.
+    Cuts(Bytes),
     /// The cycle is done, and the run stops.
     Stops(Stop),
     /// The cycle is not done, and the run stops.
@@ -32,7 +38,7 @@ fn come_to(outcome: Outcome, failures: Failures) -> Turned
 {
     match outcome {
         Outcome::Fails(stop) => Turned::Breaks(stop),
-        Outcome::Goes => stopped_for(failures, Turned::GoesOn),
+        Outcome::Goes | Outcome::Cuts => stopped_for(failures, Turned::GoesOn),
         Outcome::Ends(status) => stopped_for(failures, Turned::Stops(Stop::Ended(status))),
     }
 }
@@ -50,23 +56,28 @@ fn stopped_for(failures: Failures, turned: Turned) -> Turned
     turned
 }
 
-/// One cycle, and then what the sinks are due for it.
-fn turn<T: Sink, R: Sink, N: Nvm>(
+/// One cycle, and then what the sinks are due for it, if no cut is due first. `first` is the number of the events
+/// before it.
+fn turn<M: Computer, T: Sink, R: Sink, N: Nvm>(
     alloc: Global,
-    progress: &mut Progress,
+    progress: &mut Progress<M>,
     plan: &Plan,
     done: u64,
+    first: usize,
     terminal: &mut T,
     report: &mut R,
     nvm: &mut N,
 ) -> Turned
     requires planned { IsPlanned plan.now }
-    requires running { (fitted : DeviceValue) × (t : Stream) × (r : Stream) × Running plan.now fitted progress.old (N.device nvm.old) done t (T.stream terminal.old) r (R.stream report.old) }
+    requires running { (fitted : DeviceValue) × (t : Stream) × (r : Stream) × Running M.kind plan.now fitted progress.old (N.device nvm.old) done t (T.stream terminal.old) r (R.stream report.old) }
     requires few { done < plan.now.geometry.limit }
-    ensures { (fitted : DeviceValue) (t r : Stream) → Running plan.now fitted progress.old (N.device nvm.old) done t (T.stream terminal.old) r (R.stream report.old) → IsTurned plan.now fitted progress.new (N.device nvm.new) done t (T.stream terminal.new) r (R.stream report.new) result }
+    requires first { first ≡ length progress.old.events }
+    ensures { (fitted : DeviceValue) (t r : Stream) → Running M.kind plan.now fitted progress.old (N.device nvm.old) done t (T.stream terminal.old) r (R.stream report.old) → IsTurned M.kind plan.now fitted progress.old progress.new (N.device nvm.old) (N.device nvm.new) done t (T.stream terminal.old) (T.stream terminal.new) r (R.stream report.old) (R.stream report.new) result }
 {
-    let first = progress.events.len();
     let Advance { bytes, outcome } = take_cycle(alloc, progress, plan, done, nvm);
+    if let Outcome::Cuts = outcome {
+        return Turned::Cuts(bytes);
+    }
     let failures = tell(
         bytes.as_slice(),
         &progress.events,
@@ -80,8 +91,68 @@ fn turn<T: Sink, R: Sink, N: Nvm>(
     come_to(outcome, failures)
 }
 
+/// Cuts the power after a cycle, and then gives the sinks what they are due for it.
+///
+/// # Errors
+/// How the run ends: where a sink failed, or memory was short. Then nothing was cut, and the cycle is not done.
+fn turn_off<M: Computer, T: Sink, R: Sink, N: Nvm>(
+    alloc: Global,
+    progress: Progress<M>,
+    bytes: Bytes,
+    plan: &Plan,
+    done: u64,
+    first: usize,
+    terminal: &mut T,
+    report: &mut R,
+    nvm: &mut N,
+) -> Result<Progress<M>, Ending>
+    requires planned { IsPlanned plan.now }
+    requires awaits { (fitted : DeviceValue) × (p : ProgressValue M) × (n : DeviceValue) × (t : Stream) × (r : Stream) × Running M.kind plan.now fitted p n done t (T.stream terminal.old) r (R.stream report.old) × AwaitsCut M.kind plan.now p progress n (N.device nvm.old) done (bytes_of bytes) × (first ≡ length p.events) }
+    requires few { done < plan.now.geometry.limit }
+    ensures ok { (fitted : DeviceValue) (p : ProgressValue M) (n : DeviceValue) (t r : Stream) → Running M.kind plan.now fitted p n done t (T.stream terminal.old) r (R.stream report.old) → AwaitsCut M.kind plan.now p progress n (N.device nvm.old) done (bytes_of bytes) → first ≡ length p.events → IfOk result (λ next. Running M.kind plan.now fitted next (N.device nvm.new) (done + 1) t (T.stream terminal.new) r (R.stream report.new)) }
+    ensures err { (fitted : DeviceValue) (p : ProgressValue M) (n : DeviceValue) (t r : Stream) → Running M.kind plan.now fitted p n done t (T.stream terminal.old) r (R.stream report.old) → AwaitsCut M.kind plan.now p progress n (N.device nvm.old) done (bytes_of bytes) → first ≡ length p.events → IfErr result (λ e. RunEnds M.kind plan.now fitted (N.device nvm.new) e t (T.stream terminal.new) r (R.stream report.new)) }
+{
+    let mut next = match cut(alloc, progress, plan, done + 1, nvm) {
+        Ok(next) => next,
+        Err(events) => {
+            let failures = tell(
+                bytes.as_slice(),
+                &events,
+                first,
+                plan.digest,
+                terminal,
+                report,
+            );
+            return Err(Ending {
+                stop: Stop::Memory,
+                events,
+                cycles: done,
+                mute: failures.terminal,
+                deaf: failures.report,
+            });
+        }
+    };
+    let failures = tell(
+        bytes.as_slice(),
+        &next.events,
+        first,
+        plan.digest,
+        terminal,
+        report,
+    );
+    next.mute = failures.terminal;
+    next.deaf = failures.report;
+    if failures.report {
+        return Err(ended_by(Stop::Report, next, done + 1));
+    }
+    if failures.terminal {
+        return Err(ended_by(Stop::Terminal, next, done + 1));
+    }
+    Ok(next)
+}
+
 /// A run before its first cycle.
-fn started(alloc: Global, plan: &Plan, machine: Machine) -> Progress
+fn started<M: Computer>(alloc: Global, plan: &Plan, machine: M) -> Progress<M>
     ensures { result ≡ first_progress plan.now machine }
 {
     Progress {
@@ -96,8 +167,25 @@ fn started(alloc: Global, plan: &Plan, machine: Machine) -> Progress
     }
 }
 
+/// The DRAM of a machine whose power comes on for the first time.
+fn first_dram(alloc: Global, geometry: &Geometry) -> Result<Dram, AllocError>
+    ensures { IfOk result (λ d. IsDramOf geometry.now d) }
+{
+    let numbers = geometry.numbers();
+    Dram::new(alloc, numbers.btt + 64 * numbers.ptt, numbers.dramq)
+}
+
+/// A machine whose power comes on for the first time.
+fn first_machine<M: Computer>(alloc: Global, geometry: &Geometry) -> Result<M, AllocError>
+    ensures { IfOk result (λ m. M.kind.powered geometry.now m) }
+{
+    let dram = first_dram(alloc, geometry)?;
+    let machine = M::power_on(alloc, geometry, dram)?;
+    Ok(machine)
+}
+
 /// Runs the machine over a device that was fitted, until it ends or stops.
-pub fn run<T: Sink, R: Sink, N: Nvm>(
+pub fn run<M: Computer, T: Sink, R: Sink, N: Nvm>(
     alloc: Global,
     plan: &Plan,
     terminal: &mut T,
@@ -105,10 +193,10 @@ pub fn run<T: Sink, R: Sink, N: Nvm>(
     nvm: &mut N,
 ) -> Ending
     requires planned { IsPlanned plan.now }
-    requires fitted { IsFitted plan.now (N.device nvm.old) }
-    ensures { RunEnds plan.now (N.device nvm.old) (N.device nvm.new) result (T.stream terminal.old) (T.stream terminal.new) (R.stream report.old) (R.stream report.new) }
+    requires fitted { IsFitted M.kind plan.now (N.device nvm.old) }
+    ensures { RunEnds M.kind plan.now (N.device nvm.old) (N.device nvm.new) result (T.stream terminal.old) (T.stream terminal.new) (R.stream report.old) (R.stream report.new) }
 {
-    let Ok(machine) = Machine::power_on(alloc, &plan.geometry) else {
+    let Ok(machine) = first_machine::<M>(alloc, &plan.geometry) else {
         return Ending {
             stop: Stop::Memory,
             events: Events::new(alloc),
@@ -120,8 +208,26 @@ pub fn run<T: Sink, R: Sink, N: Nvm>(
     let mut progress = started(alloc, plan, machine);
     let limit = plan.geometry.numbers().limit;
     for done in 0..limit {
-        match turn(alloc, &mut progress, plan, done, terminal, report, nvm) {
+        let first = progress.events.len();
+        match turn(
+            alloc,
+            &mut progress,
+            plan,
+            done,
+            first,
+            terminal,
+            report,
+            nvm,
+        ) {
             Turned::GoesOn => {}
+            Turned::Cuts(bytes) => {
+                match turn_off(
+                    alloc, progress, bytes, plan, done, first, terminal, report, nvm,
+                ) {
+                    Ok(next) => progress = next,
+                    Err(ending) => return ending,
+                }
+            }
             Turned::Stops(stop) => return ended_by(stop, progress, done + 1),
             Turned::Breaks(stop) => return ended_by(stop, progress, done),
         }
@@ -129,7 +235,7 @@ pub fn run<T: Sink, R: Sink, N: Nvm>(
     ended_by(Stop::Limit, progress, limit)
 }
 
-fn ended_by(stop: Stop, progress: Progress, cycles: u64) -> Ending
+fn ended_by<M: Computer>(stop: Stop, progress: Progress<M>, cycles: u64) -> Ending
     ensures { result ≡ record { stop = stop; events = progress.events; cycles = cycles; mute = progress.mute; deaf = progress.deaf } }
 {
     Ending {

@@ -1,13 +1,10 @@
 //! What the machine is read for after a step, before any event of it is made.
-ghost use Rattle.std.specs.Prelude.{◌≡◌, ◌&&◌, ℕ, false, length, IfOk, IfErr, OnOk};
+ghost use Rattle.std.specs.Prelude.{◌≡◌, ◌&&◌, ℕ, true, false, IfOk, IfErr, OnOk};
 ghost use Rattle.thy_base.specs.Bytes.{bytes_of};
 ghost use Rattle.thy_base.specs.Device.{IsFramed, Device as DeviceValue};
-ghost use Rattle.thy_base.specs.Geometry.{blocks_of};
-ghost use Rattle.thy_view.specs.Kind.{IsSnapshot, HasFailedToRead};
-ghost use Rattle.thy_copy_model.specs.Calls.{made_for, IsAt};
-ghost use Rattle.thy_view.specs.Views.{loads, is_boot};
+ghost use Rattle.thy_view.specs.Kind.{CanRead, IsSnapshot, HasFailedToRead};
+ghost use Rattle.thy_view.specs.Views.{loads, is_between};
 ghost use Rattle.thy_view.specs.Origin.{Origin};
-ghost use Rattle.thy_copy_model.specs.Sound.{view_of};
 ghost use Rattle.thy_view.specs.declared.view.View.{View};
 ghost use Rattle.thy_view.specs.declared.did.Stepped.{Stepped as SteppedValue};
 ghost use Rattle.thy_run.specs.Due.{shows_console, due_of};
@@ -16,10 +13,8 @@ ghost use Rattle.thy_run.specs.Going.{CanGather, Restores, IsEnding, IsGathered}
 use crate::progress::Progress;
 use std::alloc::{AllocError, Global};
 use thy_base::{Bytes, Nvm};
-use thy_copy::Machine;
-use thy_view::CoreError;
 use thy_isa::MachState;
-use thy_view::{Did, Stepped};
+use thy_view::{Computer, CoreError, Did, Stepped};
 
 /// What was read.
 #[derive(Drop)]
@@ -44,35 +39,41 @@ fn shows_console(did: Did) -> bool
     )
 }
 
-/// The state that the machine executes, in a box: few cycles have one, and the others move a pointer.
-fn shot<N: Nvm>(alloc: Global, machine: &Machine, nvm: &mut N) -> Result<Box<MachState>, CoreError>
-    ensures state { (o : Origin) (k : ℕ) → IsAt o k machine.now (N.device nvm.old) → is_boot (view_of o machine.now (N.device nvm.old)).phase ≡ false → IfOk result (λ s. IsSnapshot o (view_of o machine.now (N.device nvm.old)) s.value) }
+/// The state between two instructions, in a box: few cycles have one, and the others move a pointer.
+fn boxed_snapshot<M: Computer, N: Nvm>(
+    alloc: Global,
+    machine: &M,
+    nvm: &mut N,
+) -> Result<Box<MachState>, CoreError>
+    requires { CanRead M.kind machine.now (N.device nvm.old) }
+    ensures state { (o : Origin) (k : ℕ) → M.kind.is_at o k machine.now (N.device nvm.old) → is_between (M.kind.view o machine.now (N.device nvm.old)) ≡ true → IfOk result (λ s. IsSnapshot o (M.kind.view o machine.now (N.device nvm.old)) s.value) }
     ensures same { OnOk result (N.device nvm.new ≡ N.device nvm.old) }
     ensures err { IfErr result (λ e. HasFailedToRead e (N.device nvm.old) (N.device nvm.new)) }
     ensures frame { IsFramed (N.device nvm.old) (N.device nvm.new) }
 {
     let state = machine.snapshot(alloc, nvm)?;
     match Box::new(alloc, state) {
-        Ok(shot) => Ok(shot),
+        Ok(state) => Ok(state),
         Err(_) => Err(CoreError::Memory(AllocError)),
     }
 }
 
 /// The state that was restored, where one was.
-fn restored<N: Nvm>(
+fn restored<M: Computer, N: Nvm>(
     alloc: Global,
-    progress: &Progress,
+    progress: &Progress<M>,
     did: Did,
     nvm: &mut N,
 ) -> Result<Option<Box<MachState>>, CoreError>
-    ensures read { (o : Origin) (k : ℕ) (v : View) (r : SteppedValue) → r.did ≡ did → CanGather o k v progress.now (N.device nvm.old) r → IfOk result (λ s. Restores o did s) }
+    requires { CanRead M.kind progress.now.machine (N.device nvm.old) }
+    ensures read { (o : Origin) (k : ℕ) (v : View) (r : SteppedValue) → r.did ≡ did → CanGather M.kind o k v progress.now (N.device nvm.old) r → IfOk result (λ s. Restores o did s) }
     ensures same { OnOk result (N.device nvm.new ≡ N.device nvm.old) }
     ensures err { IfErr result (λ e. HasFailedToRead e (N.device nvm.old) (N.device nvm.new)) }
     ensures frame { IsFramed (N.device nvm.old) (N.device nvm.new) }
 {
     match did {
         Did::Restarted(..) => {
-            let state = shot(alloc, &progress.machine, nvm)?;
+            let state = boxed_snapshot(alloc, &progress.machine, nvm)?;
             Ok(Some(state))
         }
         _ => Ok(None),
@@ -80,14 +81,14 @@ fn restored<N: Nvm>(
 }
 
 /// What of the console the terminal has not had yet, where a step makes another checkpoint known.
-fn due<N: Nvm>(
+fn due<M: Computer, N: Nvm>(
     alloc: Global,
-    progress: &Progress,
+    progress: &Progress<M>,
     did: Did,
     nvm: &mut N,
 ) -> Result<Bytes, CoreError>
-    requires { length (N.device nvm.old).image ≡ blocks_of (made_for progress.now.machine) }
-    ensures read { (o : Origin) (k : ℕ) (v : View) (r : SteppedValue) → r.did ≡ did → CanGather o k v progress.now (N.device nvm.old) r → IfOk result (λ b. bytes_of b ≡ due_of o progress.now.events did (view_of o progress.now.machine (N.device nvm.old))) }
+    requires { CanRead M.kind progress.now.machine (N.device nvm.old) }
+    ensures read { (o : Origin) (k : ℕ) (v : View) (r : SteppedValue) → r.did ≡ did → CanGather M.kind o k v progress.now (N.device nvm.old) r → IfOk result (λ b. bytes_of b ≡ due_of o progress.now.events did (M.kind.view o progress.now.machine (N.device nvm.old))) }
     ensures same { OnOk result (N.device nvm.new ≡ N.device nvm.old) }
     ensures err { IfErr result (λ e. HasFailedToRead e (N.device nvm.old) (N.device nvm.new)) }
     ensures frame { IsFramed (N.device nvm.old) (N.device nvm.new) }
@@ -100,13 +101,14 @@ fn due<N: Nvm>(
 }
 
 /// The last state, where a step ended the run.
-fn ending<N: Nvm>(
+fn ending<M: Computer, N: Nvm>(
     alloc: Global,
-    progress: &Progress,
+    progress: &Progress<M>,
     ended: bool,
     nvm: &mut N,
 ) -> Result<Option<Box<MachState>>, CoreError>
-    ensures read { (o : Origin) (k : ℕ) (v : View) (r : SteppedValue) → r.ended ≡ ended → CanGather o k v progress.now (N.device nvm.old) r → IfOk result (λ s. IsEnding o v (view_of o progress.now.machine (N.device nvm.old)) s) }
+    requires { CanRead M.kind progress.now.machine (N.device nvm.old) }
+    ensures read { (o : Origin) (k : ℕ) (v : View) (r : SteppedValue) → r.ended ≡ ended → CanGather M.kind o k v progress.now (N.device nvm.old) r → IfOk result (λ s. IsEnding o v (M.kind.view o progress.now.machine (N.device nvm.old)) s) }
     ensures same { OnOk result (N.device nvm.new ≡ N.device nvm.old) }
     ensures err { IfErr result (λ e. HasFailedToRead e (N.device nvm.old) (N.device nvm.new)) }
     ensures frame { IsFramed (N.device nvm.old) (N.device nvm.new) }
@@ -114,27 +116,27 @@ fn ending<N: Nvm>(
     if !ended {
         return Ok(None);
     }
-    let state = shot(alloc, &progress.machine, nvm)?;
+    let state = boxed_snapshot(alloc, &progress.machine, nvm)?;
     Ok(Some(state))
 }
 
 /// Whether the step is the first after a cut, and found no checkpoint.
-fn reloads(progress: &Progress) -> bool
-    ensures { (o : Origin) (k : ℕ) (v : View) (n : DeviceValue) (r : SteppedValue) → CanGather o k v progress.now n r → result ≡ (progress.now.fresh && loads (view_of o progress.now.machine n)) }
+fn reloads<M: Computer>(progress: &Progress<M>) -> bool
+    ensures { (o : Origin) (k : ℕ) (v : View) (n : DeviceValue) (r : SteppedValue) → CanGather M.kind o k v progress.now n r → result ≡ (progress.now.fresh && loads (M.kind.view o progress.now.machine n)) }
 {
     let loads = progress.machine.loading();
     progress.fresh && loads
 }
 
 /// Reads what a step's events and the terminal need. The state of a restart comes before the console.
-pub fn gather<N: Nvm>(
+pub fn gather<M: Computer, N: Nvm>(
     alloc: Global,
-    progress: &Progress,
+    progress: &Progress<M>,
     stepped: &Stepped,
     nvm: &mut N,
 ) -> Result<Readings, CoreError>
-    requires { length (N.device nvm.old).image ≡ blocks_of (made_for progress.now.machine) }
-    ensures read { (o : Origin) (k : ℕ) (v : View) → CanGather o k v progress.now (N.device nvm.old) stepped.now → IfOk result (λ r. IsGathered o v (view_of o progress.now.machine (N.device nvm.old)) progress.now stepped.now.did r) }
+    requires { CanRead M.kind progress.now.machine (N.device nvm.old) }
+    ensures read { (o : Origin) (k : ℕ) (v : View) → CanGather M.kind o k v progress.now (N.device nvm.old) stepped.now → IfOk result (λ r. IsGathered o v (M.kind.view o progress.now.machine (N.device nvm.old)) progress.now stepped.now.did r) }
     ensures same { OnOk result (N.device nvm.new ≡ N.device nvm.old) }
     ensures err { IfErr result (λ e. HasFailedToRead e (N.device nvm.old) (N.device nvm.new)) }
     ensures frame { IsFramed (N.device nvm.old) (N.device nvm.new) }

@@ -11,8 +11,8 @@ ghost use Rattle.thy_run.specs.Going.{Restores, IsEnding, IsEnd, MadeSome};
 use std::alloc::AllocError;
 use thy_base::EndCause;
 use thy_isa::{MachState, Status};
-use thy_view::Did;
 use thy_text::{Event, Events};
+use thy_view::Did;
 
 /// Notes that the file is loaded again.
 fn note_load(events: &mut Events) -> Result<(), AllocError>

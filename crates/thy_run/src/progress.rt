@@ -1,13 +1,12 @@
 //! How far a run is.
 
 use thy_base::Mix;
-use thy_copy::Machine;
 use thy_text::Events;
 
 /// A run between two cycles.
 #[derive(Drop)]
-pub struct Progress {
-    pub machine: Machine,
+pub struct Progress<M> {
+    pub machine: M,
     /// The schedule from here on.
     pub mix: Mix,
     pub events: Events,

@@ -9,7 +9,7 @@ use Rattle.thy_dram.specs.Contents.{Contents}
 use Rattle.thy_isa.specs.declared.state.MachState.{MachState}
 use Rattle.thy_isa.specs.Step.{state_of}
 use Rattle.thy_record.specs.Decode.{AllLong}
-use Rattle.thy_record.specs.Decoded.{Reading}
+use Rattle.thy_record.specs.Decoded.{Reading, Nothing}
 use Rattle.thy_record.specs.declared.start.Start.{Start}
 use Rattle.thy_view.specs.declared.did.Did.{Did}
 use Rattle.thy_view.specs.declared.did.Did.TheVariants.{Moved}
@@ -104,6 +104,9 @@ pub record IsFittedFor {M : Type 0} (K : KindOf M) (o : Origin) (shape : Shape) 
 pub record IsLawful {M : Type 0} (K : KindOf M) : Type 0 where
   -- power can come on
   pub powers : (p : Parameters) → (m : M) × K.powered p m
+  -- zeros are no checkpoint
+  pub finds_nothing : (p : Parameters) (shape : Shape) (n : Device)
+      → shape.blocks ≡ K.blocks p → K.decode p ceiling (fitted shape [] n).image ≡ Nothing
   -- a run begins at a moment
   pub begins : (o : Origin) (m : M) (shape : Shape) (start : List Block) (n : Device)
       → IsOrigin o → K.powered o.geometry m → IsFittedFor K o shape start n

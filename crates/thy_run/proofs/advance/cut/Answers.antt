@@ -1,6 +1,5 @@
-use Rattle.std.proofs.Common.{rules}
+use Rattle.thy_run.specs.Going.{origin_of}
 use Rattle.thy_run.proofs.advance.cut.Goals as goal
 
-pub returns-clause-ok : goal.returns-clause-ok
-returns-clause-ok g c =
-    record { cut = search rules; powered = search rules; same = search rules }
+pub power_on-requires : goal.power_on-requires
+power_on-requires g c = c.cut.ensures (origin_of c.args.plan.now) c.requires.cycles (g.N.Nvm.device c.args.nvm.now) c.requires.at_moment

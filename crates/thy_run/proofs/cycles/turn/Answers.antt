@@ -1,14 +1,23 @@
-use Rattle.std.proofs.Common.{sym, subst, take, ℕ}
+use Rattle.std.proofs.Common.{sym, subst, take, ℕ, refl}
 use Rattle.thy_base.specs.Bytes.{bytes_of}
 use Rattle.thy_text.specs.Lines.{report_of}
 use Rattle.thy_run.specs.declared.cycles.Turned.{Turned}
 use Rattle.thy_run.specs.Sending.{Sent, Sends}
+use Rattle.thy_run.specs.declared.advance.Outcome.{Outcome}
+use Rattle.thy_run.specs.Going.{ComesTo}
 use Rattle.thy_run.specs.Turning.{IsTurned}
-use Rattle.thy_run.proofs.TurnLemmas.{IsTurned-told}
+use Rattle.thy_run.proofs.TurnLemmas.{IsTold-not, IsTurned-told}
 use Rattle.thy_run.proofs.cycles.turn.Goals as goal
+
+pub returns-in-Cuts : goal.returns-in-Cuts
+returns-in-Cuts g c = λ fitted t r running.
+    let C : Outcome → Type 0 = λ x. ComesTo g.M.Computer.kind c.args.plan.now c.args.progress.now c.take_cycle-bytes.new.progress (g.N.Nvm.device c.args.nvm.now) (g.N.Nvm.device c.take_cycle-bytes.new.nvm) c.args.done
+        (bytes_of c.take_cycle-bytes.result.bytes) x in
+    (subst C c.in-Cuts.is (c.take_cycle-bytes.ensures fitted running.goes), refl, refl)
 
 pub returns : goal.returns
 returns g c = λ fitted t r running.
+    let K = g.M.Computer.kind in
     let plan = c.args.plan.now in
     let p = c.args.progress.now in
     let q = c.take_cycle-bytes.new.progress in
@@ -20,10 +29,11 @@ returns g c = λ fitted t r running.
     let r2 = g.R.Sink.stream c.tell-failures.new.report in
     let mute = c.tell-failures.result.terminal in
     let deaf = c.tell-failures.result.report in
-    let P : Turned → Type 0 = λ x. IsTurned plan fitted (record q { mute = mute; deaf = deaf }) m c.args.done t t2 r r2 x in
+    let P : Turned → Type 0 = λ x. IsTurned K plan fitted p (record q { mute = mute; deaf = deaf }) n m c.args.done t t1 t2 r r1 r2 x in
     let L : ℕ → Type 0 = λ k. Sends (report_of plan.digest (take k q.events)) (report_of plan.digest q.events) deaf r1 r2 in
     subst P (sym c.come_to.ensures)
-    (IsTurned-told plan fitted p q n m c.args.done (bytes_of c.take_cycle-bytes.result.bytes) c.take_cycle-bytes.result.outcome mute deaf t t1 t2 r r1 r2 running c.requires.few
+    (IsTurned-told K plan fitted p q n m c.args.done (bytes_of c.take_cycle-bytes.result.bytes) c.take_cycle-bytes.result.outcome mute deaf t t1 t2 r r1 r2 running c.requires.few
     (subst (Sent mute t1 t2) c.as_slice.ensures c.tell-failures.ensures.terminal)
-    (subst L c.len-first.ensures c.tell-failures.ensures.report)
+    (subst L c.requires.first c.tell-failures.ensures.report)
+    (IsTold-not c.take_cycle-bytes.result.outcome c.in_default.not-Cuts)
     (c.take_cycle-bytes.ensures fitted running.goes))
