@@ -9,7 +9,7 @@ use Rattle.thy_base.specs.declared.config.Parameters.{Parameters}
 use Rattle.thy_base.specs.declared.nvm.Shape.{Shape}
 use Rattle.thy_base.specs.Config.{fault_of, or_fault, or_value, memory_fault, table_fault, queue_fault, threshold_fault, cut_fault, first_not_rising}
 use Rattle.thy_base.specs.Device.{Device, fitted}
-use Rattle.thy_base.specs.Geometry.{IsInRange, geometry_or, geometry_of, parameters_of, program_size, blocks_of}
+use Rattle.thy_base.specs.Geometry.{IsInRange, geometry_or, geometry_of, parameters_of, program_size}
 use Rattle.thy_base.specs.Outside.{Stock, Stream}
 use Rattle.thy_isa.specs.declared.state.Status.TheVariants.{Running}
 use Rattle.thy_isa.specs.Storable.{IsNumber, IsStorable}
@@ -22,7 +22,9 @@ use Rattle.thy_plain.specs.Start.{start_state}
 use Rattle.thy_words.specs.declared.words.WordsError.{WordsError}
 use Rattle.thy_words.specs.declared.words.WordsError.TheVariants.{Usage, Word, Value, Memory as WordsMemory}
 use Rattle.thy_words.specs.Settings.{Job, Order, run, plain, settings_of, order_of, ShowsOrMemory}
-use Rattle.thy_view.specs.Origin.{Origin, IsOrigin}
+use Rattle.thy_view.specs.Kind.{KindOf}
+use Rattle.thy_base.specs.declared.mark.Mark.{Mark}
+use Rattle.thy_view.specs.Origin.{Origin, IsOrigin, StartsFrom}
 use Rattle.thy_run.specs.Laws.{Promise}
 use Rattle.thy_run.specs.Unfinished.{Finished}
 use Rattle.thy_run.specs.World.{Given, World, Ran}
@@ -72,9 +74,9 @@ geometry_is c p none e = ok_is p (parameters_of c) (e ∙ ap (λ f. geometry_or 
 
 -- ---- the start of a run
 
--- a start state begins a run
-pub IsOrigin-start : (o : Origin) (contents : Contents) → IsInRange o.geometry → o.start ≡ start_state o.geometry contents → IsStorable (program_size o.geometry) o.start → IsOrigin o
-IsOrigin-start o contents range is storable =
+-- a start state begins a run from a file
+pub IsOrigin-start : (o : Origin) (contents : Contents) → IsInRange o.geometry → o.start ≡ start_state o.geometry contents → IsStorable (program_size o.geometry) o.start → o.kept ≡ None → IsOrigin o
+IsOrigin-start o contents range is storable file =
     let console : length o.start.console ≡ 0 = ap (λ (s : State). length s.console) is in
     let count : o.start.count ≡ 0 = ap (λ (s : State). s.count) is in
     let status : o.start.status ≡ Running = ap (λ (s : State). s.status) is in
@@ -94,27 +96,27 @@ IsOrigin-start o contents range is storable =
       };
       memory = storable.memory_size;
       storable = storable;
-      running = status;
+      starts = subst (λ (kept : Option Mark). StartsFrom kept o.start) (sym file) status;
     }
 
 -- ---- answers
 
 -- whatever stopped it, a run is finished
-finished_by : (o : Origin) (given : Given) (k : ℕ) (last : World) (events : List Happening) (n : Device) (stop : Stop) → Ran o given k last → EndsBy o last events n stop → Finished o given k events n
-finished_by o given k last events n (Ended status) ran ends = record { last = last; ran = ran; ends = inl ends }
-finished_by o given k last events n Nvm ran ends = record { last = last; ran = ran; ends = inr ends }
-finished_by o given k last events n Memory ran ends = record { last = last; ran = ran; ends = ends }
-finished_by o given k last events n Terminal ran ends = record { last = last; ran = ran; ends = inl ends }
-finished_by o given k last events n Report ran ends = record { last = last; ran = ran; ends = inl ends }
-finished_by o given k last events n Limit ran ends = record { last = last; ran = ran; ends = inl ends }
+finished_by : {M : Type 0} (K : KindOf M) → (o : Origin) (given : Given) (k : ℕ) (last : World M) (events : List Happening) (n : Device) (stop : Stop) → Ran K o given k last → EndsBy K o last events n stop → Finished K o given k events n
+finished_by K o given k last events n (Ended status) ran ends = record { last = last; ran = ran; ends = inl ends }
+finished_by K o given k last events n Nvm ran ends = record { last = last; ran = ran; ends = inr ends }
+finished_by K o given k last events n Memory ran ends = record { last = last; ran = ran; ends = ends }
+finished_by K o given k last events n Terminal ran ends = record { last = last; ran = ran; ends = inl ends }
+finished_by K o given k last events n Report ran ends = record { last = last; ran = ran; ends = inl ends }
+finished_by K o given k last events n Limit ran ends = record { last = last; ran = ran; ends = inl ends }
 
 -- a run that was begun keeps its promise
-pub IsRunOf-ran : (task : Task) (old new : Stock) (plan : Plan) (n d m : Device) (shape : Shape) (e : Ending) (a : Answer) (t0 t r0 told r : Stream) → IsPlanOf task old plan → new.faults ≡ old.faults
-    → d ≡ fitted shape [] n → shape.blocks ≡ blocks_of plan.geometry → shape.queue ≡ plan.geometry.nvmq → shape.cuts ≡ length plan.config.cuts → RunEnds plan d m e t0 t r0 told
-    → ClosesRun e.deaf e.stop plan.geometry.limit told r → a.events ≡ e.events → a.cycles ≡ e.cycles → a.status ≡ stop_status e.stop → IsRunOf task old new n m a t0 t r0 r
-IsRunOf-ran task old new plan n d m shape e a t0 t r0 told r p calm fit blocks queue cuts ends closes events cycles status =
+pub IsRunOf-ran : {M : Type 0} (K : KindOf M) → (task : Task) (old new : Stock) (plan : Plan) (n d m : Device) (shape : Shape) (e : Ending) (a : Answer) (t0 t r0 told r : Stream) → IsPlanOf task old plan → new.faults ≡ old.faults
+    → d ≡ fitted shape [] n → shape.blocks ≡ K.blocks plan.geometry → shape.queue ≡ plan.geometry.nvmq → shape.cuts ≡ length plan.config.cuts → RunEnds K plan d m e t0 t r0 told
+    → ClosesRun e.deaf e.stop plan.geometry.limit told r → a.events ≡ e.events → a.cycles ≡ e.cycles → a.status ≡ stop_status e.stop → IsRunOf K task old new n m a t0 t r0 r
+IsRunOf-ran K task old new plan n d m shape e a t0 t r0 told r p calm fit blocks queue cuts ends closes events cycles status =
     let o : Origin = origin_of plan in
-    let kept = Promise-finished o (given_of plan d) e.cycles e.events m p.planned.origin p.planned.rising (finished_by o (given_of plan d) e.cycles ends.last e.events m e.stop ends.ran ends.ends) in
+    let kept = Promise-finished K o (given_of plan d) e.cycles e.events m p.planned.origin p.planned.rising (finished_by K o (given_of plan d) e.cycles ends.last e.events m e.stop ends.ran ends.ends) in
     record {
       plan = plan;
       is_plan = p;
@@ -130,9 +132,9 @@ IsRunOf-ran task old new plan n d m shape e a t0 t r0 told r p calm fit blocks q
       cycles = cycles;
       status = status;
       promise =
-          subst (λ (c : Config). Promise o c.cuts a.cycles a.events m) p.config
-          (subst (λ k. Promise o plan.config.cuts k a.events m) (sym cycles)
-          (subst (λ vs. Promise o plan.config.cuts e.cycles vs m) (sym events) kept));
+          subst (λ (c : Config). Promise K o c.cuts a.cycles a.events m) p.config
+          (subst (λ k. Promise K o plan.config.cuts k a.events m) (sym cycles)
+          (subst (λ vs. Promise K o plan.config.cuts e.cycles vs m) (sym events) kept));
     }
 
 -- what is due to an order is due to the words that ask for it; words are none of its reasons
@@ -144,27 +146,27 @@ due_of_order words order old new n m (File e) is due = (order, is, due)
 due_of_order words order old new n m (DeviceRefusal e) is due = (order, is, due)
 due_of_order words order old new n m (MemoryRefusal e) is due = (order, is, due)
 
-answered_run : (words : List (List ℕ)) (job : Job) (old new : Stock) (n m : Device) (t0 t r0 r : Stream) (a : Answer) → settings_of words ≡ Ok (run job) → new.held ≡ old.held
-    → TaskAnswered (task_of job) old new n m t0 t r0 r a → Answered words old new n m t0 t r0 r a
-answered_run words job old new n m t0 t r0 r a is held (inl (refusal, due, refused)) = (held, inl (refusal, due_of_order words (run job) old new n m refusal is due, refused))
-answered_run words job old new n m t0 t r0 r a is held (inr ran) = (held, inr (inl (job, is, ran)))
+answered_run : {M : Type 0} (K : KindOf M) → (words : List (List ℕ)) (job : Job) (old new : Stock) (n m : Device) (t0 t r0 r : Stream) (a : Answer) → settings_of words ≡ Ok (run job) → new.held ≡ old.held
+    → TaskAnswered K (task_of job) old new n m t0 t r0 r a → Answered K words old new n m t0 t r0 r a
+answered_run K words job old new n m t0 t r0 r a is held (inl (refusal, due, refused)) = (held, inl (refusal, due_of_order words (run job) old new n m refusal is due, refused))
+answered_run K words job old new n m t0 t r0 r a is held (inr ran) = (held, inr (inl (job, is, ran)))
 
 -- a job for the machine
-pub Answered-run : (words : List (List ℕ)) (job : Job) (file : List ℕ) (old new : Stock) (n m : Device) (t0 t r0 r : Stream) (a : Answer) → settings_of words ≡ Ok (run job) → file ≡ job.file → new.held ≡ old.held
-    → TaskAnswered (record { file = file; config = job.config; digest = job.digest }) old new n m t0 t r0 r a → Answered words old new n m t0 t r0 r a
-Answered-run words job file old new n m t0 t r0 r a is named held h =
-    answered_run words job old new n m t0 t r0 r a is held (subst (λ f. TaskAnswered (record { file = f; config = job.config; digest = job.digest }) old new n m t0 t r0 r a) named h)
+pub Answered-run : {M : Type 0} (K : KindOf M) → (words : List (List ℕ)) (job : Job) (file : List ℕ) (old new : Stock) (n m : Device) (t0 t r0 r : Stream) (a : Answer) → settings_of words ≡ Ok (run job) → file ≡ job.file → new.held ≡ old.held
+    → TaskAnswered K (record { file = file; config = job.config; digest = job.digest }) old new n m t0 t r0 r a → Answered K words old new n m t0 t r0 r a
+Answered-run K words job file old new n m t0 t r0 r a is named held h =
+    answered_run K words job old new n m t0 t r0 r a is held (subst (λ f. TaskAnswered K (record { file = f; config = job.config; digest = job.digest }) old new n m t0 t r0 r a) named h)
 
-answered_plain : (words : List (List ℕ)) (job : Job) (old new : Stock) (n : Device) (t0 t r0 r : Stream) (a : Answer) → settings_of words ≡ Ok (plain job) → new.held ≡ old.held
-    → PlainAnswered (task_of job) old new t0 t r0 r a → Answered words old new n n t0 t r0 r a
-answered_plain words job old new n t0 t r0 r a is held (inl (refusal, due, refused)) = (held, inl (refusal, due_of_order words (plain job) old new n n refusal is (due, refl), refused))
-answered_plain words job old new n t0 t r0 r a is held (inr ran) = (held, inr (inr (job, is, refl, ran)))
+answered_plain : {M : Type 0} (K : KindOf M) → (words : List (List ℕ)) (job : Job) (old new : Stock) (n : Device) (t0 t r0 r : Stream) (a : Answer) → settings_of words ≡ Ok (plain job) → new.held ≡ old.held
+    → PlainAnswered (task_of job) old new t0 t r0 r a → Answered K words old new n n t0 t r0 r a
+answered_plain K words job old new n t0 t r0 r a is held (inl (refusal, due, refused)) = (held, inl (refusal, due_of_order words (plain job) old new n n refusal is (due, refl), refused))
+answered_plain K words job old new n t0 t r0 r a is held (inr ran) = (held, inr (inr (job, is, refl, ran)))
 
 -- a job for the plain machine
-pub Answered-plain : (words : List (List ℕ)) (job : Job) (file : List ℕ) (old new : Stock) (n : Device) (t0 t r0 r : Stream) (a : Answer) → settings_of words ≡ Ok (plain job) → file ≡ job.file → new.held ≡ old.held
-    → PlainAnswered (record { file = file; config = job.config; digest = job.digest }) old new t0 t r0 r a → Answered words old new n n t0 t r0 r a
-Answered-plain words job file old new n t0 t r0 r a is named held h =
-    answered_plain words job old new n t0 t r0 r a is held (subst (λ f. PlainAnswered (record { file = f; config = job.config; digest = job.digest }) old new t0 t r0 r a) named h)
+pub Answered-plain : {M : Type 0} (K : KindOf M) → (words : List (List ℕ)) (job : Job) (file : List ℕ) (old new : Stock) (n : Device) (t0 t r0 r : Stream) (a : Answer) → settings_of words ≡ Ok (plain job) → file ≡ job.file → new.held ≡ old.held
+    → PlainAnswered (record { file = file; config = job.config; digest = job.digest }) old new t0 t r0 r a → Answered K words old new n n t0 t r0 r a
+Answered-plain K words job file old new n t0 t r0 r a is named held h =
+    answered_plain K words job old new n t0 t r0 r a is held (subst (λ f. PlainAnswered (record { file = f; config = job.config; digest = job.digest }) old new t0 t r0 r a) named h)
 
 -- why words are refused
 pub WordsDue-shown : (words : List (List ℕ)) (e : WordsError) → ShowsOrMemory order_of (settings_of words) (Err e) → WordsDue words e

@@ -25,6 +25,7 @@ use Rattle.thy_text.specs.Lines.{joined, line_feed, ended_lines}
 use Rattle.thy_words.specs.declared.words.WordsError.{WordsError}
 use Rattle.thy_words.specs.declared.words.WordsError.TheVariants.{Usage, Word, Value, Memory as WordsMemory}
 use Rattle.thy_words.specs.Settings.{Job, Order, run, plain, settings_of}
+use Rattle.thy_view.specs.Kind.{KindOf}
 use Rattle.thy_run.specs.Laws.{Promise}
 use Rattle.thy_cli.specs.declared.answer.Answer.{Answer}
 use Rattle.thy_run.specs.declared.ending.Stop.{Stop}
@@ -205,21 +206,21 @@ ClosesRun false Memory limit old new = Closes (closing_of closing.Memory) old ne
 
 -- A run was begun over a device that was fitted, and ended. Its cycles are those of a run, and keep what is promised
 -- of every run; the sinks took what its events say.
-pub record IsRunOf (task : Task) (old new : Stock) (n m : Device) (a : Answer) (terminal shown report read : Stream) : Type 0 where
+pub record IsRunOf {M : Type 0} (K : KindOf M) (task : Task) (old new : Stock) (n m : Device) (a : Answer) (terminal shown report read : Stream) : Type 0 where
   pub plan : Plan
   pub is_plan : IsPlanOf task old plan
   pub calm : new.faults ≡ old.faults
   pub device : Device
-  pub is_fitted : IsFitted plan device
+  pub is_fitted : IsFitted K plan device
   pub from_entry : device ≡ fitted is_fitted.shape [] n
   pub ending : Ending
   pub told : Stream
-  pub ends : RunEnds plan device m ending terminal shown report told
+  pub ends : RunEnds K plan device m ending terminal shown report told
   pub closes : ClosesRun ending.deaf ending.stop plan.geometry.limit told read
   pub events : a.events ≡ ending.events
   pub cycles : a.cycles ≡ ending.cycles
   pub status : a.status ≡ stop_status ending.stop
-  pub promise : Promise (origin_of plan) task.config.cuts a.cycles a.events m
+  pub promise : Promise K (origin_of plan) task.config.cuts a.cycles a.events m
 
 -- ---- the plain machine
 
@@ -268,15 +269,15 @@ PlainAnswered task old new terminal shown report read a =
 -- ---- answers
 
 -- what the answer to a task is
-abbrev pub TaskAnswered : Task → Stock → Stock → Device → Device → Stream → Stream → Stream → Stream → Answer → Type 0
-TaskAnswered task old new n m terminal shown report read a =
+abbrev pub TaskAnswered : {M : Type 0} → KindOf M → Task → Stock → Stock → Device → Device → Stream → Stream → Stream → Stream → Answer → Type 0
+TaskAnswered K task old new n m terminal shown report read a =
     ((r : Refusal) × TaskDue task old new n m r × IsRefused r a terminal shown report read)
-    ⊎ IsRunOf task old new n m a terminal shown report read
+    ⊎ IsRunOf K task old new n m a terminal shown report read
 
 -- What the answer to a call is: a refusal that is due, or a run, or the plain machine's. What stands on the shelf stays.
-abbrev pub Answered : List (List ℕ) → Stock → Stock → Device → Device → Stream → Stream → Stream → Stream → Answer → Type 0
-Answered words old new n m terminal shown report read a =
+abbrev pub Answered : {M : Type 0} → KindOf M → List (List ℕ) → Stock → Stock → Device → Device → Stream → Stream → Stream → Stream → Answer → Type 0
+Answered K words old new n m terminal shown report read a =
     (new.held ≡ old.held)
     × (((r : Refusal) × RefusalDue words old new n m r × IsRefused r a terminal shown report read)
-    ⊎ (((job : Job) × (settings_of words ≡ Ok (run job)) × IsRunOf (task_of job) old new n m a terminal shown report read)
+    ⊎ (((job : Job) × (settings_of words ≡ Ok (run job)) × IsRunOf K (task_of job) old new n m a terminal shown report read)
     ⊎ ((job : Job) × (settings_of words ≡ Ok (plain job)) × (m ≡ n) × IsPlainOf (task_of job) old new a terminal shown report read)))

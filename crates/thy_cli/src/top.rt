@@ -15,9 +15,11 @@ use crate::refusal::{Refusal, refuse};
 use crate::source::{Program, Task, fetch_program};
 use std::alloc::Global;
 use thy_base::{Bytes, Nvm, Shape, Shelf, Sink};
-use thy_record::Start;
+use thy_copy::Machine;
 use thy_plain::start_of;
+use thy_record::Start;
 use thy_run::{Plan, run};
+use thy_view::Computer;
 use thy_words::{Command, settings};
 
 /// What a run of a program is to do.
@@ -54,7 +56,7 @@ fn prepare<'a, H: Shelf>(alloc: Global, task: Task<'a>, shelf: &mut H) -> Result
 }
 
 /// Runs a program file.
-fn run_file<H: Shelf, T: Sink, R: Sink, N: Nvm>(
+fn run_file<M: Computer, H: Shelf, T: Sink, R: Sink, N: Nvm>(
     alloc: Global,
     task: Task,
     shelf: &mut H,
@@ -64,20 +66,20 @@ fn run_file<H: Shelf, T: Sink, R: Sink, N: Nvm>(
 ) -> Answer
     requires { range_fault task.config ≡ None }
     ensures held { (H.stock shelf.new).held ≡ (H.stock shelf.old).held }
-    ensures answer { TaskAnswered (named task.entry) (H.stock shelf.old) (H.stock shelf.new) (N.device nvm.old) (N.device nvm.new) (T.stream terminal.old) (T.stream terminal.new) (R.stream report.old) (R.stream report.new) result }
+    ensures answer { TaskAnswered M.kind (named task.entry) (H.stock shelf.old) (H.stock shelf.new) (N.device nvm.old) (N.device nvm.new) (T.stream terminal.old) (T.stream terminal.new) (R.stream report.old) (R.stream report.new) result }
 {
     let plan = match prepare(alloc, task, shelf) {
         Ok(plan) => plan,
         Err(refusal) => return refuse(alloc, refusal, report),
     };
     let shape = Shape {
-        blocks: plan.geometry.blocks(),
+        blocks: M::nvm_blocks(&plan.geometry),
         queue: plan.geometry.numbers().nvmq,
         cuts: plan.config.cuts.len() as u64,
     };
     match nvm.fit(alloc, &shape, &[]) {
         Ok(()) => {
-            let ending = run(alloc, &plan, terminal, report, nvm);
+            let ending = run::<M, T, R, N>(alloc, &plan, terminal, report, nvm);
             answer(ending, plan.geometry.numbers().limit, report)
         }
         Err(error) => refuse(alloc, Refusal::Device(error), report),
@@ -104,7 +106,7 @@ pub fn thynvm<H: Shelf, T: Sink, R: Sink, N: Nvm>(
     report: &mut R,
     nvm: &mut N,
 ) -> Answer
-    ensures { Answered (map string_bytes words.now) (H.stock shelf.old) (H.stock shelf.new) (N.device nvm.old) (N.device nvm.new) (T.stream terminal.old) (T.stream terminal.new) (R.stream report.old) (R.stream report.new) result }
+    ensures { Answered ⟦<Machine as Computer>⟧.kind (map string_bytes words.now) (H.stock shelf.old) (H.stock shelf.new) (N.device nvm.old) (N.device nvm.new) (T.stream terminal.old) (T.stream terminal.new) (R.stream report.old) (R.stream report.new) result }
 {
     match settings(alloc, words) {
         Ok(
@@ -120,7 +122,7 @@ pub fn thynvm<H: Shelf, T: Sink, R: Sink, N: Nvm>(
                 config,
                 digest,
             };
-            run_file(alloc, task, shelf, terminal, report, nvm)
+            run_file::<Machine, H, T, R, N>(alloc, task, shelf, terminal, report, nvm)
         }
         Ok(
             Command::Plain {

@@ -17,7 +17,7 @@ returns-in-Ok-Run g c =
       digest = c.in-Ok-Run.digest;
     } in
     let shown : Command → Result Order WordsError = λ x. Ok (order_of x) in
-    Answered-run _ job _ _ _ _ _ _ _ _ _ _ (c.in-Ok-Run.ensures.exact ∙ ap shown c.in-Ok-Run.field-0-is) c.as_str.ensures.value c.run_file.ensures.held c.run_file.ensures.answer
+    Answered-run _ _ job _ _ _ _ _ _ _ _ _ _ (c.in-Ok-Run.ensures.exact ∙ ap shown c.in-Ok-Run.field-0-is) c.as_str.ensures.value c.run_file.ensures.held c.run_file.ensures.answer
 
 pub returns-in-Ok-Plain : goal.returns-in-Ok-Plain
 returns-in-Ok-Plain g c =
@@ -28,7 +28,7 @@ returns-in-Ok-Plain g c =
       digest = c.in-Ok-Plain.digest;
     } in
     let shown : Command → Result Order WordsError = λ x. Ok (order_of x) in
-    Answered-plain _ job _ _ _ _ _ _ _ _ _ (c.in-Ok-Plain.ensures.exact ∙ ap shown c.in-Ok-Plain.field-0-is) c.as_str-in-Ok-Plain.ensures.value c.plain_file.ensures.held c.plain_file.ensures.answer
+    Answered-plain _ _ job _ _ _ _ _ _ _ _ _ (c.in-Ok-Plain.ensures.exact ∙ ap shown c.in-Ok-Plain.field-0-is) c.as_str-in-Ok-Plain.ensures.value c.plain_file.ensures.held c.plain_file.ensures.answer
 
 pub returns : goal.returns
 returns g c = (
