@@ -1,5 +1,5 @@
 -- What a machine is to the layers above: what is seen of it, what its calls promise, and the laws that hold of it.
-use Rattle.std.specs.Prelude.{◌≡◌, ℕ, ◌+◌, ◌*◌, ◌^◌, ◌<◌, ◌≤◌, Bool, true, List, [], length}
+use Rattle.std.specs.Prelude.{◌≡◌, ℕ, ◌+◌, ◌*◌, ◌^◌, ◌<◌, ◌≤◌, Bool, true, false, List, [], length, Some}
 use Rattle.thy_base.specs.declared.block.Block.{Block}
 use Rattle.thy_base.specs.declared.config.Parameters.{Parameters}
 use Rattle.thy_base.specs.declared.mix.Pick.{Pick}
@@ -21,8 +21,10 @@ use Rattle.thy_view.specs.Booting.{view_of_image, found_first, first_view}
 use Rattle.thy_view.specs.CoreStep.{CoreStep}
 use Rattle.thy_view.specs.Origin.{Origin, IsOrigin, Begins, at}
 use Rattle.thy_view.specs.Safe.{ceiling, Safe}
-use Rattle.thy_view.specs.Turn.{Turn, Pressure, over_by}
-use Rattle.thy_view.specs.Views.{halts, doubt_of}
+use Rattle.thy_view.specs.Action.{Acts, ActionFailed}
+use Rattle.thy_view.specs.Pace.{Gauge, retires, KeepsPace}
+use Rattle.thy_view.specs.Turn.{Turn, Shortage, Pressure, over_by}
+use Rattle.thy_view.specs.Views.{is_halt, halts, doubt_of}
 
 -- what is seen of machines of a type
 pub record KindOf (M : Type 0) : Type 1 where
@@ -38,6 +40,15 @@ pub record KindOf (M : Type 0) : Type 1 where
   -- the boot has read the commit block
   pub has_read : M → Bool
   pub pressure : M → Pressure
+  pub gauge : M → Device → Gauge
+  -- cycles that are left until the next instruction, or the end, at the most
+  pub ahead : Origin → M → Device → ℕ
+  -- an epoch spends less than this many cycles of hart and engine, and a boot has at most so many actions
+  pub most_spent : Parameters → ℕ
+  pub most_booting : Parameters → ℕ
+  -- what lies ahead when power comes on, and what an instruction adds, at the most
+  pub most_boot : Parameters → ℕ
+  pub most_each : Parameters → ℕ
 
 -- ---- the calls
 
@@ -67,19 +78,24 @@ pub record CanRead {M : Type 0} (K : KindOf M) (m : M) (n : Device) : Type 0 whe
 
 -- A step that succeeded leads to the next moment of the run, by a step of the view, and was its pick's turn. Whatever
 -- a power cut then leaves is the committed checkpoint, whole, or the one in doubt. A step that finds an empty queue, as
--- the boot's first does, reads the commit block where that is still to be read.
+-- the boot's first does, reads the commit block where that is still to be read. It acts on the device once, keeps within
+-- the bounds, and is a cycle nearer to the next instruction.
 pub record IsStep {M : Type 0} (K : KindOf M) (o : Origin) (k : ℕ) (pick : Pick) (m next : M) (n new : Device) (r : Stepped) : Type 0 where
   pub at_next : K.is_at o (k + 1) next new
   pub step : CoreStep o (K.view o m n) r.did (K.view o next new)
   pub turn : Turn o pick (length n.queue) (K.view o m n) (K.pressure m) r.did r.stall
+  pub acts : Acts r.did n new
+  pub pace : KeepsPace (K.most_spent o.geometry) (K.view o m n) (K.view o next new) r.did (K.gauge m n) (K.gauge next new)
+  pub nears : is_halt (K.view o m n).phase ≡ false → K.ahead o next new + 1 ≤ K.ahead o m n + K.most_each o.geometry * retires r.did
   pub exhausts : r.did ≡ Moved → (K.view o next new).over ≡ over_by (K.pressure m).short
   pub ended : r.ended ≡ halts (K.view o m n) (K.view o next new)
   pub safe : Safe K.decode o (K.view o next new).done (doubt_of (K.view o next new)) new
   pub read : n.queue ≡ [] → K.has_read next ≡ true
 
--- a step that failed leaves the committed checkpoint, whole, or the sealed one
-abbrev pub LeavesSafe : {M : Type 0} → KindOf M → Origin → M → Device → Device → Type 0
-LeavesSafe K o m n new = Safe K.decode o (K.view o m n).done (K.view o m n).sealed new
+-- a step that failed leaves what its action may leave: the committed checkpoint, whole, or the sealed one
+pub record LeavesSafe {M : Type 0} (K : KindOf M) (o : Origin) (m : M) (n new : Device) : Type 0 where
+  pub safe : Safe K.decode o (K.view o m n).done (K.view o m n).sealed new
+  pub acted : ActionFailed n new
 
 -- a state is the plain machine's at a view's count
 pub record IsSnapshot (o : Origin) (v : View) (s : MachState) : Type 0 where
@@ -100,6 +116,12 @@ pub record IsFittedFor {M : Type 0} (K : KindOf M) (o : Origin) (shape : Shape) 
   pub long : AllLong start
   pub found : K.decode o.geometry ceiling (fitted shape start n).image ≡ found_first o o.kept
 
+-- a machine whose power has just come on, over a device with an empty queue
+pub record IsPoweredOn {M : Type 0} (K : KindOf M) (o : Origin) (m : M) (n : Device) : Type 0 where
+  pub queued : (K.gauge m n).queued ≡ 0
+  pub boot_left : (K.gauge m n).boot_left ≤ K.most_booting o.geometry
+  pub ahead : K.ahead o m n ≤ K.most_boot o.geometry
+
 -- what holds of every machine of a type
 pub record IsLawful {M : Type 0} (K : KindOf M) : Type 0 where
   -- power can come on
@@ -115,6 +137,14 @@ pub record IsLawful {M : Type 0} (K : KindOf M) : Type 0 where
   pub recovers : (o : Origin) (k : ℕ) (m next : M) (n : Device) (g : List Block)
       → K.is_at o k m n → K.powered o.geometry next → Crash n g
       → K.is_at o k next (cut_to n g) × (K.view o next (cut_to n g) ≡ view_of_image o.start.count (K.decode o.geometry ceiling g))
+  -- when power comes on nothing is queued, and what lies ahead is bounded
+  pub powered_on : (o : Origin) (k : ℕ) (m : M) (n : Device)
+      → K.is_at o k m n → K.powered o.geometry m → n.queue ≡ [] → IsPoweredOn K o m n
+  -- something lies ahead at every moment
+  pub some_ahead : (o : Origin) (k : ℕ) (m : M) (n : Device) → K.is_at o k m n → 1 ≤ K.ahead o m n
+  -- an instruction that is short of entries is short of those that the gauge tells
+  pub short_of : (m : M) (n : Device) (s : Shortage)
+      → (K.pressure m).short ≡ Some s → (s.free ≡ (K.gauge m n).free) × (s.dirty ≡ (K.gauge m n).dirty)
   -- whatever a power cut leaves at a moment is the committed checkpoint, whole, or the one in doubt
   pub is_safe : (o : Origin) (k : ℕ) (m : M) (n : Device)
       → K.is_at o k m n → Safe K.decode o (K.view o m n).done (doubt_of (K.view o m n)) n

@@ -4,5 +4,6 @@ pub mod CoreStep
 pub mod Turn
 pub mod Safe
 pub mod Action
+pub mod Pace
 pub mod Booting
 pub mod Kind
