@@ -366,7 +366,7 @@ IsBroken-stuck {M = M} K laws plan fitted p q n m k g s =
     let o : Origin = origin_of plan in
     let events_q : q.events ≡ p.events = ap (λ (y : Progress M). y.events) s.same in (
       record {
-        unfinished = inl (record { going = g.going; safe = s.safe; framed = s.framed; rose = s.rose; nothing_told = events_q });
+        unfinished = inl (record { going = g.going; safe = s.leaves.safe; acted = s.leaves.acted; framed = s.framed; rose = s.rose; nothing_told = events_q });
         rest = [];
         releases = ap (released_of o) events_q ∙ sym (append-nil (released_of o p.events)) ∙ sym (append-nil (released_of o p.events ++ []));
         told = ([], events_q ∙ sym (append-nil p.events));

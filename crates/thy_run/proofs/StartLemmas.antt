@@ -1,7 +1,7 @@
 -- A run before its first cycle, and one at its limit.
 use Rattle.std.proofs.Common.{◌≡◌, ℕ, ◌+◌, false, Some, List, [], refl, sym, ◌∙◌, ap, subst, inl, append-nil, arith}
 use Rattle.thy_base.specs.Device.{Device}
-use Rattle.thy_base.specs.Outside.{Stream, Took}
+use Rattle.thy_base.specs.Outside.{Stream}
 use Rattle.thy_view.specs.Kind.{KindOf, IsLawful, IsFittedFor}
 use Rattle.thy_text.specs.Happening.{Happening}
 use Rattle.thy_text.specs.Lines.{report_of}
@@ -17,16 +17,10 @@ use Rattle.thy_run.specs.declared.ending.Stop.TheVariants.{Memory, Limit}
 use Rattle.thy_run.specs.declared.plan.Plan.{Plan}
 use Rattle.thy_run.specs.declared.progress.Progress.{Progress}
 use Rattle.thy_run.specs.Going.{origin_of, given_of, world_at, IsPlanned}
-use Rattle.thy_run.specs.Sending.{Sends}
+use Rattle.thy_run.specs.Sending.{Delivered}
 use Rattle.thy_run.specs.Turning.{IsFitted, Running, RunEnds, first_progress}
 use Rattle.thy_run.proofs.AdvanceLemmas.{good_of}
-
--- a sink that took nothing
-Took-none : (s : Stream) → Took s s []
-Took-none s = record { taken = λ had e. e ∙ ap Some (sym (append-nil had)); calm = refl }
-
-sends_none : (text : List ℕ) (s : Stream) → text ≡ [] → Sends [] text false s s
-sends_none text s none = record { more = []; grew = none; sent = Took-none s }
+use Rattle.thy_run.proofs.TurnLemmas.{Took-none, delivered_all}
 
 -- power comes on for the first time
 first_of : {M : Type 0} (K : KindOf M) (laws : IsLawful K) → (plan : Plan) (m : M) (n : Device) → IsPlanned plan → K.powered plan.geometry m → IsFitted K plan n
@@ -73,8 +67,8 @@ Running-first {M = M} K laws plan p m n t r planned powered f is =
         spoken = refl;
         heard = refl;
       };
-      shown_all = sends_none (released_of o []) t refl;
-      read_all = sends_none [] r refl;
+      shown_all = Took-none t;
+      read_all = Took-none r;
     } in
     subst (λ (x : Progress M). Running K plan n x n 0 t t r r) (sym is) here
 
@@ -86,8 +80,10 @@ RunEnds-unpowered K laws plan events n t r planned f none = record {
   ran = first_of K laws plan (laws.powers plan.geometry).0 n planned (laws.powers plan.geometry).1 f;
   ends = inl (none, refl);
   few = omega arith;
-  shown_all = record { some = []; rest = []; grew = ap (released_of (origin_of plan)) none; took = Took-none t };
-  read_all = sends_none (report_of plan.digest events) r (ap (report_of plan.digest) none);
+  settled = [];
+  is_settled = refl;
+  shown_all = record { more = []; unsent = []; is_text = ap (released_of (origin_of plan)) none; whole = λ _. refl; middle = t; took = Took-none t; sent = Took-none t };
+  read_all = subst (λ (vs : List Happening). Delivered false false [] (report_of plan.digest vs) r r) (sym none) (delivered_all false [] r r refl (Took-none r));
   stop_fits = tt;
 }
 
@@ -102,8 +98,10 @@ RunEnds-limit {M = M} K plan fit p n k limit t0 t r0 r planned running same limi
       ran = running.goes.ran;
       ends = (refl, refl);
       few = omega (arith, same, limit_is);
-      shown_all = subst (λ b. Sends [] (released_of o p.events) b t0 t) (sym running.goes.spoken) running.shown_all;
-      read_all = subst (λ b. Sends [] (report_of plan.digest p.events) b r0 r) (sym running.goes.heard) running.read_all;
+      settled = p.events;
+      is_settled = refl;
+      shown_all = delivered_all p.mute (released_of o p.events) t0 t running.goes.spoken running.shown_all;
+      read_all = delivered_all p.deaf (report_of plan.digest p.events) r0 r running.goes.heard running.read_all;
       stop_fits = (same ∙ limit_is, going, running.goes.spoken, running.goes.heard, running.goes.calm);
     } in
     subst (λ c. RunEnds K plan fit n (record { stop = Limit; events = p.events; cycles = c; mute = p.mute; deaf = p.deaf }) t0 t r0 r) same here

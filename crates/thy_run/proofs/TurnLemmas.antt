@@ -1,8 +1,8 @@
 -- A cycle that was told is a turn of the loop.
-use Rattle.std.proofs.Common.{◌≡◌, ℕ, suc, ◌+◌, ◌<◌, ◌≤◌, Bool, true, false, None, List, [], ◌∷◌, ◌++◌, length, take, refl, sym, ◌∙◌, ap, subst, inr, append-nil, append_assoc, length-append, arith}
+use Rattle.std.proofs.Common.{◌≡◌, ℕ, suc, ◌+◌, ◌<◌, ◌≤◌, Bool, true, false, None, Some, List, [], ◌∷◌, ◌++◌, length, take, refl, sym, ◌∙◌, ap, subst, inr, append-nil, append_assoc, length-append, arith}
 use Rattle.thy_base.specs.Device.{Device, RoseFaults}
-use Rattle.thy_base.specs.Outside.{Stream}
-use Rattle.thy_base.proofs.Streams.{Took-append, TookPart-append, TookPart-more}
+use Rattle.thy_base.specs.Outside.{Stream, Took}
+use Rattle.thy_base.proofs.Streams.{Took-append}
 use Rattle.thy_view.specs.Kind.{KindOf, IsLawful}
 use Rattle.thy_text.specs.Happening.{Happening}
 use Rattle.thy_text.specs.Lines.{report_of}
@@ -17,36 +17,9 @@ use Rattle.thy_run.specs.declared.ending.Stop.TheVariants.{Ended, Nvm, Memory, T
 use Rattle.thy_run.specs.declared.plan.Plan.{Plan}
 use Rattle.thy_run.specs.declared.progress.Progress.{Progress}
 use Rattle.thy_run.specs.Going.{origin_of, given_of, world_at, IsDone, IsBroken, Breaks, AwaitsCut, IsCutOffTo, ComesTo}
-use Rattle.thy_run.specs.Sending.{Sent, Sends, Delivers}
+use Rattle.thy_run.specs.Sending.{Sent, Sends, Delivered}
 use Rattle.thy_run.proofs.AdvanceLemmas.{done_cut, broken_cut}
-use Rattle.thy_run.specs.Turning.{turned_of, is_memory, EndsBy, StopFits, Running, RunEnds, IsTurned}
-
--- ---- what sinks take
-
--- all of a text, and then of what came behind
-pub Sends-append : (failed : Bool) (a b c : List ℕ) (x y z : Stream) → Sends a b false x y → Sends b c failed y z → Sends a c failed x z
-Sends-append false a b c x y z one two = record {
-  more = one.more ++ two.more;
-  grew = two.grew ∙ ap (λ (l : List ℕ). l ++ two.more) one.grew ∙ append_assoc a one.more two.more;
-  sent = Took-append x y z one.more two.more one.sent two.sent;
-}
-Sends-append true a b c x y z one two = record {
-  more = one.more ++ two.more;
-  grew = two.grew ∙ ap (λ (l : List ℕ). l ++ two.more) one.grew ∙ append_assoc a one.more two.more;
-  sent = TookPart-append x y z one.more two.more one.sent two.sent;
-}
-
--- where memory was short, only some of what came behind was due
-Delivers-some : (failed : Bool) (a b c bytes rest : List ℕ) (x y z : Stream) → Sends a b false x y → c ≡ b ++ bytes ++ rest → Sent failed y z bytes → Delivers true failed a c x z
-Delivers-some false a b c bytes rest x y z one grew took = record {
-  some = one.more ++ bytes;
-  rest = rest;
-  grew = grew ∙ ap (λ (l : List ℕ). l ++ bytes ++ rest) one.grew ∙ ap (λ (l : List ℕ). l ++ rest) (append_assoc a one.more bytes);
-  took = Took-append x y z one.more bytes one.sent took;
-}
-Delivers-some true a b c bytes rest x y z one grew part =
-    let behind : Sends b c true y z = record { more = bytes ++ rest; grew = grew ∙ append_assoc b bytes rest; sent = TookPart-more y z bytes rest part } in
-    Sends-append true a b c x y z one behind
+use Rattle.thy_run.specs.Turning.{turned_of, is_memory, EndsBy, IsSettled, StopFits, Running, RunEnds, IsTurned}
 
 -- ---- lines
 
@@ -54,13 +27,28 @@ first_same : {A : Type 0} (xs ys : List A) → take (length xs) (xs ++ ys) ≡ x
 first_same [] ys = refl
 first_same (x ∷ xs) ys = ap (λ l. x ∷ l) (first_same xs ys)
 
--- the report has the lines of all events
-read_on : (digest failed : Bool) (before after more : List Happening) (x y z : Stream) → after ≡ before ++ more → Sends [] (report_of digest before) false x y
-    → Sends (report_of digest (take (length before) after)) (report_of digest after) failed y z → Sends [] (report_of digest after) failed x z
-read_on digest failed before after more x y z grew one two =
+-- the report is due the lines of all events
+read_on : (digest failed : Bool) (before after more : List Happening) (y z : Stream) → after ≡ before ++ more
+    → Sends (report_of digest (take (length before) after)) (report_of digest after) failed y z → Sends (report_of digest before) (report_of digest after) failed y z
+read_on digest failed before after more y z grew two =
     let same : take (length before) after ≡ before = ap (take (length before)) grew ∙ first_same before more in
-    Sends-append failed [] (report_of digest before) (report_of digest after) x y z one
-    (subst (λ (l : List Happening). Sends (report_of digest l) (report_of digest after) failed y z) same two)
+    subst (λ (l : List Happening). Sends (report_of digest l) (report_of digest after) failed y z) same two
+
+-- a sink took what was settled, and then what came behind, or a first part
+delivered_on : (failed : Bool) (before after : List ℕ) (x y z : Stream) → Took x y before → Sends before after failed y z → Delivered false failed before after x z
+delivered_on failed before after x y z one two = record {
+  more = two.more;
+  unsent = [];
+  is_text = two.grew ∙ sym (append-nil (before ++ two.more));
+  whole = λ _. refl;
+  middle = y;
+  took = one;
+  sent = two.sent;
+}
+
+-- and with no fault all
+took_on : (before after : List ℕ) (x y z : Stream) → Took x y before → Sends before after false y z → Took x z after
+took_on before after x y z one two = subst (Took x z) (sym two.grew) (Took-append x y z before two.more one two.sent)
 
 -- what was told grew
 pub told_of : {M : Type 0} (K : KindOf M) → (plan : Plan) (p q : Progress M) (n m : Device) (k : ℕ) (bytes : List ℕ) (outcome : Outcome) → ComesTo K plan p q n m k bytes outcome → (more : List Happening) × (q.events ≡ p.events ++ more)
@@ -77,14 +65,30 @@ told_more {M = M} K plan p q n m k bytes outcome c =
 
 -- ---- turns
 
--- a device failed
-abbrev is_fault : Stop → Bool
-is_fault Nvm = true
-is_fault (Ended status) = false
-is_fault Memory = false
-is_fault Terminal = false
-is_fault Report = false
-is_fault Limit = false
+-- a sink failed
+abbrev IsSinks : Stop → Type 0
+IsSinks Terminal = Unit {0}
+IsSinks Report = Unit {0}
+IsSinks Nvm = ⊥
+IsSinks (Ended status) = ⊥
+IsSinks Memory = ⊥
+IsSinks Limit = ⊥
+
+-- a sink that took nothing
+pub Took-none : (s : Stream) → Took s s []
+Took-none s = record { taken = λ had e. e ∙ ap Some (sym (append-nil had)); calm = refl }
+
+-- all of a text was settled, and taken
+pub delivered_all : (failed : Bool) (text : List ℕ) (x z : Stream) → failed ≡ false → Took x z text → Delivered false failed text text x z
+delivered_all failed text x z calm took = record {
+  more = [];
+  unsent = [];
+  is_text = sym (append-nil (text ++ []) ∙ append-nil text);
+  whole = λ _. refl;
+  middle = z;
+  took = took;
+  sent = subst (λ b. Sent b z z []) (sym calm) (Took-none z);
+}
 
 module _ {M : Type 0} (K : KindOf M) (plan : Plan) (fitted : Device) (p q : Progress M) (n m : Device) (k : ℕ) (bytes : List ℕ) (mute deaf : Bool) (t0 t1 t2 r0 r1 r2 : Stream)
     (running : Running K plan fitted p n k t0 t1 r0 r1) (few : k < plan.geometry.limit) (sent : Sent mute t1 t2 bytes)
@@ -97,45 +101,86 @@ module _ {M : Type 0} (K : KindOf M) (plan : Plan) (fitted : Device) (p q : Prog
       let e : suc k ≡ k + 1 = omega arith in
       subst (λ (j : ℕ). Ran K (origin_of plan) (given_of plan fitted) j (world_at q m (k + 1))) e (world_at p n k, running.goes.ran, d.cycle)
 
-  shown_on : IsDone K plan p q n m k bytes → Sends [] (released_of (origin_of plan) q.events) mute t0 t2
-  shown_on d = Sends-append mute [] (released_of (origin_of plan) p.events) (released_of (origin_of plan) q.events) t0 t1 t2 running.shown_all
-      (record { more = bytes; grew = d.releases; sent = sent })
+  shown_on : IsDone K plan p q n m k bytes → Sends (released_of (origin_of plan) p.events) (released_of (origin_of plan) q.events) mute t1 t2
+  shown_on d = record { more = bytes; grew = d.releases; sent = sent }
 
-  read_all_on : ((more : List Happening) × (q.events ≡ p.events ++ more)) → Sends [] (report_of plan.digest q.events) deaf r0 r2
-  read_all_on t = read_on plan.digest deaf p.events q.events t.0 r0 r1 r2 t.1 running.read_all lines
+  lines_on : ((more : List Happening) × (q.events ≡ p.events ++ more)) → Sends (report_of plan.digest p.events) (report_of plan.digest q.events) deaf r1 r2
+  lines_on t = read_on plan.digest deaf p.events q.events t.0 r1 r2 t.1 lines
 
   -- the cycle is done, and a sink failed
-  done_stops : (stop : Stop) → IsDone K plan p q n m k bytes → is_memory stop ≡ false → is_fault stop ≡ false
+  done_stops : (stop : Stop) → IsDone K plan p q n m k bytes → IsSinks stop
       → StopFits plan fitted m (record { stop = stop; events = q.events; cycles = k + 1; mute = mute; deaf = deaf }) stop
       → RunEnds K plan fitted m (record { stop = stop; events = q.events; cycles = k + 1; mute = mute; deaf = deaf }) t0 t2 r0 r2
-  done_stops stop d short sound fits = record {
+  done_stops stop d sinks fits = record {
     last = world_at q m (k + 1);
     ran = ran_on d;
-    ends = last_done stop short sound;
+    ends = last_done stop sinks;
     few = omega arith;
-    shown_all = subst (λ b. Delivers b mute [] (released_of (origin_of plan) q.events) t0 t2) (sym short) (shown_on d);
-    read_all = read_all_on d.told;
+    settled = p.events;
+    is_settled = settled_at stop sinks d;
+    shown_all = subst (λ b. Delivered b mute (released_of (origin_of plan) p.events) (released_of (origin_of plan) q.events) t0 t2) (sym (long stop sinks))
+        (delivered_on mute (released_of (origin_of plan) p.events) (released_of (origin_of plan) q.events) t0 t1 t2 running.shown_all (shown_on d));
+    read_all = delivered_on deaf (report_of plan.digest p.events) (report_of plan.digest q.events) r0 r1 r2 running.read_all (lines_on d.told);
     stop_fits = fits;
   }
     where
-      last_done : (stop : Stop) → is_memory stop ≡ false → is_fault stop ≡ false → EndsBy K (origin_of plan) (world_at q m (k + 1)) q.events m stop
-      last_done (Ended status) short sound = (refl, refl)
-      last_done Nvm short sound = absurd (cc)
-      last_done Memory short sound = absurd (cc)
-      last_done Terminal short sound = (refl, refl)
-      last_done Report short sound = (refl, refl)
-      last_done Limit short sound = (refl, refl)
+      long : (stop : Stop) → IsSinks stop → is_memory stop ≡ false
+      long Terminal sinks = refl
+      long Report sinks = refl
+      long (Ended status) sinks = absurd sinks
+      long Nvm sinks = absurd sinks
+      long Memory sinks = absurd sinks
+      long Limit sinks = absurd sinks
+
+      last_done : (stop : Stop) → IsSinks stop → EndsBy K (origin_of plan) (world_at q m (k + 1)) q.events m stop
+      last_done Terminal sinks = (refl, refl)
+      last_done Report sinks = (refl, refl)
+      last_done (Ended status) sinks = absurd sinks
+      last_done Nvm sinks = absurd sinks
+      last_done Memory sinks = absurd sinks
+      last_done Limit sinks = absurd sinks
+
+      settled_at : (stop : Stop) → IsSinks stop → IsDone K plan p q n m k bytes → IsSettled K (origin_of plan) plan.config.cuts (world_at q m (k + 1)) p.events stop
+      settled_at Terminal sinks d = (world_at p n k, d.cycle, refl)
+      settled_at Report sinks d = (world_at p n k, d.cycle, refl)
+      settled_at (Ended status) sinks d = absurd sinks
+      settled_at Nvm sinks d = absurd sinks
+      settled_at Memory sinks d = absurd sinks
+      settled_at Limit sinks d = absurd sinks
+
+  -- the cycle is done, and the program has ended
+  done_ends : (status : Status) → IsDone K plan p q n m k bytes → mute ≡ false → deaf ≡ false
+      → StopFits plan fitted m (record { stop = Ended status; events = q.events; cycles = k + 1; mute = mute; deaf = deaf }) (Ended status)
+      → RunEnds K plan fitted m (record { stop = Ended status; events = q.events; cycles = k + 1; mute = mute; deaf = deaf }) t0 t2 r0 r2
+  done_ends status d spoken heard fits = record {
+    last = world_at q m (k + 1);
+    ran = ran_on d;
+    ends = (refl, refl);
+    few = omega arith;
+    settled = q.events;
+    is_settled = refl;
+    shown_all = delivered_all mute (released_of (origin_of plan) q.events) t0 t2 spoken
+        (took_on (released_of (origin_of plan) p.events) (released_of (origin_of plan) q.events) t0 t1 t2 running.shown_all
+        (subst (λ b. Sends (released_of (origin_of plan) p.events) (released_of (origin_of plan) q.events) b t1 t2) spoken (shown_on d)));
+    read_all = delivered_all deaf (report_of plan.digest q.events) r0 r2 heard
+        (took_on (report_of plan.digest p.events) (report_of plan.digest q.events) r0 r1 r2 running.read_all
+        (subst (λ b. Sends (report_of plan.digest p.events) (report_of plan.digest q.events) b r1 r2) heard (lines_on d.told)));
+    stop_fits = fits;
+  }
 
   -- the cycle is not done
   broken_stops : (stop : Stop) → IsBroken K plan p q n m k bytes → Breaks p q n m bytes stop
+      → (bytes ≡ [] → mute ≡ false) → (q.events ≡ p.events → deaf ≡ false)
       → RunEnds K plan fitted m (record { stop = stop; events = q.events; cycles = k; mute = mute; deaf = deaf }) t0 t2 r0 r2
-  broken_stops stop b why = record {
+  broken_stops stop b why spoken heard = record {
     last = world_at p n k;
     ran = running.goes.ran;
     ends = begun stop why;
     few = omega arith;
-    shown_all = delivered stop why;
-    read_all = read_all_on b.told;
+    settled = p.events;
+    is_settled = settled_at stop why;
+    shown_all = shown stop why;
+    read_all = delivered_on deaf (report_of plan.digest p.events) (report_of plan.digest q.events) r0 r1 r2 running.read_all (lines_on b.told);
     stop_fits = because stop why;
   }
     where
@@ -147,17 +192,26 @@ module _ {M : Type 0} (K : KindOf M) (plan : Plan) (fitted : Device) (p q : Prog
       begun Report f = absurd f
       begun Limit f = absurd f
 
-      delivered : (stop : Stop) → Breaks p q n m bytes stop → Delivers (is_memory stop) mute [] (released_of (origin_of plan) q.events) t0 t2
-      delivered Nvm f = Sends-append mute [] (released_of (origin_of plan) p.events) (released_of (origin_of plan) q.events) t0 t1 t2 running.shown_all
+      settled_at : (stop : Stop) → Breaks p q n m bytes stop → IsSettled K (origin_of plan) plan.config.cuts (world_at p n k) p.events stop
+      settled_at Nvm f = refl
+      settled_at Memory f = refl
+      settled_at (Ended status) f = absurd f
+      settled_at Terminal f = absurd f
+      settled_at Report f = absurd f
+      settled_at Limit f = absurd f
+
+      shown : (stop : Stop) → Breaks p q n m bytes stop
+          → Delivered (is_memory stop) mute (released_of (origin_of plan) p.events) (released_of (origin_of plan) q.events) t0 t2
+      shown Nvm f = delivered_on mute (released_of (origin_of plan) p.events) (released_of (origin_of plan) q.events) t0 t1 t2 running.shown_all
           (record { more = bytes; grew = ap (released_of (origin_of plan)) f.events ∙ sym (append-nil (released_of (origin_of plan) p.events)) ∙ ap (λ (l : List ℕ). released_of (origin_of plan) p.events ++ l) (sym f.none); sent = sent })
-      delivered Memory f = Delivers-some mute [] (released_of (origin_of plan) p.events) (released_of (origin_of plan) q.events) bytes b.rest t0 t1 t2 running.shown_all b.releases sent
-      delivered (Ended status) f = absurd f
-      delivered Terminal f = absurd f
-      delivered Report f = absurd f
-      delivered Limit f = absurd f
+      shown Memory f = record { more = bytes; unsent = b.rest; is_text = b.releases; whole = λ no. absurd (cc); middle = t1; took = running.shown_all; sent = sent }
+      shown (Ended status) f = absurd f
+      shown Terminal f = absurd f
+      shown Report f = absurd f
+      shown Limit f = absurd f
 
       because : (stop : Stop) → Breaks p q n m bytes stop → StopFits plan fitted m (record { stop = stop; events = q.events; cycles = k; mute = mute; deaf = deaf }) stop
-      because Nvm f = (subst (λ c. RoseFaults c m.faults) running.goes.calm f.rose, few)
+      because Nvm f = (subst (λ c. RoseFaults c m.faults) running.goes.calm f.rose, few, spoken f.none, heard f.events)
       because Memory f = tt
       because (Ended status) f = absurd f
       because Terminal f = absurd f
@@ -171,9 +225,9 @@ goes_turned : {M : Type 0} (K : KindOf M) → (plan : Plan) (fitted : Device) (p
     → IsDone K plan p q n m k bytes × (is_halt (seen K (origin_of plan) (world_at q m (k + 1))).phase ≡ false)
     → IsTurned K plan fitted p (record q { mute = mute; deaf = deaf }) n m k t0 t1 t2 r0 r1 r2 (turned_of Goes mute deaf)
 goes_turned {M = M} K plan fitted p q n m k bytes mute true t0 t1 t2 r0 r1 r2 running few sent lines c =
-    done_stops K plan fitted p q n m k bytes mute true t0 t1 t2 r0 r1 r2 running few sent lines Report c.0 refl refl (refl, c.0.calm ∙ running.goes.calm)
+    done_stops K plan fitted p q n m k bytes mute true t0 t1 t2 r0 r1 r2 running few sent lines Report c.0 tt (refl, c.0.calm ∙ running.goes.calm)
 goes_turned {M = M} K plan fitted p q n m k bytes true false t0 t1 t2 r0 r1 r2 running few sent lines c =
-    done_stops K plan fitted p q n m k bytes true false t0 t1 t2 r0 r1 r2 running few sent lines Terminal c.0 refl refl (refl, refl, c.0.calm ∙ running.goes.calm)
+    done_stops K plan fitted p q n m k bytes true false t0 t1 t2 r0 r1 r2 running few sent lines Terminal c.0 tt (refl, refl, c.0.calm ∙ running.goes.calm)
 goes_turned {M = M} K plan fitted p q n m k bytes false false t0 t1 t2 r0 r1 r2 running few sent lines c = record {
   goes = record {
     ran = ran_on K plan fitted p q n m k bytes false false t0 t1 t2 r0 r1 r2 running few sent lines c.0;
@@ -184,8 +238,10 @@ goes_turned {M = M} K plan fitted p q n m k bytes false false t0 t1 t2 r0 r1 r2 
     spoken = refl;
     heard = refl;
   };
-  shown_all = shown_on K plan fitted p q n m k bytes false false t0 t1 t2 r0 r1 r2 running few sent lines c.0;
-  read_all = read_all_on K plan fitted p q n m k bytes false false t0 t1 t2 r0 r1 r2 running few sent lines c.0.told;
+  shown_all = took_on (released_of (origin_of plan) p.events) (released_of (origin_of plan) q.events) t0 t1 t2 running.shown_all
+      (shown_on K plan fitted p q n m k bytes false false t0 t1 t2 r0 r1 r2 running few sent lines c.0);
+  read_all = took_on (report_of plan.digest p.events) (report_of plan.digest q.events) r0 r1 r2 running.read_all
+      (lines_on K plan fitted p q n m k bytes false false t0 t1 t2 r0 r1 r2 running few sent lines c.0.told);
 }
 
 ends_turned : {M : Type 0} (K : KindOf M) → (plan : Plan) (fitted : Device) (p q : Progress M) (n m : Device) (k : ℕ) (bytes : List ℕ) (status : Status) (mute deaf : Bool) (t0 t1 t2 r0 r1 r2 : Stream)
@@ -194,11 +250,11 @@ ends_turned : {M : Type 0} (K : KindOf M) → (plan : Plan) (fitted : Device) (p
     → ComesTo K plan p q n m k bytes (Ends status)
     → IsTurned K plan fitted p (record q { mute = mute; deaf = deaf }) n m k t0 t1 t2 r0 r1 r2 (turned_of (Ends status) mute deaf)
 ends_turned {M = M} K plan fitted p q n m k bytes status mute true t0 t1 t2 r0 r1 r2 running few sent lines c =
-    done_stops K plan fitted p q n m k bytes mute true t0 t1 t2 r0 r1 r2 running few sent lines Report c.0 refl refl (refl, c.0.calm ∙ running.goes.calm)
+    done_stops K plan fitted p q n m k bytes mute true t0 t1 t2 r0 r1 r2 running few sent lines Report c.0 tt (refl, c.0.calm ∙ running.goes.calm)
 ends_turned {M = M} K plan fitted p q n m k bytes status true false t0 t1 t2 r0 r1 r2 running few sent lines c =
-    done_stops K plan fitted p q n m k bytes true false t0 t1 t2 r0 r1 r2 running few sent lines Terminal c.0 refl refl (refl, refl, c.0.calm ∙ running.goes.calm)
+    done_stops K plan fitted p q n m k bytes true false t0 t1 t2 r0 r1 r2 running few sent lines Terminal c.0 tt (refl, refl, c.0.calm ∙ running.goes.calm)
 ends_turned {M = M} K plan fitted p q n m k bytes status false false t0 t1 t2 r0 r1 r2 running few sent lines c =
-    done_stops K plan fitted p q n m k bytes false false t0 t1 t2 r0 r1 r2 running few sent lines (Ended status) c.0 refl refl (c.2, refl, refl, c.0.calm ∙ running.goes.calm)
+    done_ends K plan fitted p q n m k bytes false false t0 t1 t2 r0 r1 r2 running few sent lines status c.0 refl refl (c.2, refl, refl, c.0.calm ∙ running.goes.calm)
 
 -- the outcome is not that a cut is due
 abbrev pub IsTold : Outcome → Type 0
@@ -211,15 +267,15 @@ IsTold (Fails stop) = Unit {0}
 pub IsTurned-told : {M : Type 0} (K : KindOf M) → (plan : Plan) (fitted : Device) (p q : Progress M) (n m : Device) (k : ℕ) (bytes : List ℕ) (outcome : Outcome) (mute deaf : Bool) (t0 t1 t2 r0 r1 r2 : Stream)
     → Running K plan fitted p n k t0 t1 r0 r1 → k < plan.geometry.limit → Sent mute t1 t2 bytes
     → Sends (report_of plan.digest (take (length p.events) q.events)) (report_of plan.digest q.events) deaf r1 r2
-    → IsTold outcome → ComesTo K plan p q n m k bytes outcome
+    → IsTold outcome → (bytes ≡ [] → mute ≡ false) → (q.events ≡ p.events → deaf ≡ false) → ComesTo K plan p q n m k bytes outcome
     → IsTurned K plan fitted p (record q { mute = mute; deaf = deaf }) n m k t0 t1 t2 r0 r1 r2 (turned_of outcome mute deaf)
-IsTurned-told {M = M} K plan fitted p q n m k bytes Goes mute deaf t0 t1 t2 r0 r1 r2 running few sent lines told c =
+IsTurned-told {M = M} K plan fitted p q n m k bytes Goes mute deaf t0 t1 t2 r0 r1 r2 running few sent lines told spoken heard c =
     goes_turned K plan fitted p q n m k bytes mute deaf t0 t1 t2 r0 r1 r2 running few sent lines c
-IsTurned-told {M = M} K plan fitted p q n m k bytes (Ends status) mute deaf t0 t1 t2 r0 r1 r2 running few sent lines told c =
+IsTurned-told {M = M} K plan fitted p q n m k bytes (Ends status) mute deaf t0 t1 t2 r0 r1 r2 running few sent lines told spoken heard c =
     ends_turned K plan fitted p q n m k bytes status mute deaf t0 t1 t2 r0 r1 r2 running few sent lines c
-IsTurned-told {M = M} K plan fitted p q n m k bytes (Fails stop) mute deaf t0 t1 t2 r0 r1 r2 running few sent lines told c =
-    broken_stops K plan fitted p q n m k bytes mute deaf t0 t1 t2 r0 r1 r2 running few sent lines stop c.0 c.1
-IsTurned-told {M = M} K plan fitted p q n m k bytes Cuts mute deaf t0 t1 t2 r0 r1 r2 running few sent lines told c = absurd told
+IsTurned-told {M = M} K plan fitted p q n m k bytes (Fails stop) mute deaf t0 t1 t2 r0 r1 r2 running few sent lines told spoken heard c =
+    broken_stops K plan fitted p q n m k bytes mute deaf t0 t1 t2 r0 r1 r2 running few sent lines stop c.0 c.1 spoken heard
+IsTurned-told {M = M} K plan fitted p q n m k bytes Cuts mute deaf t0 t1 t2 r0 r1 r2 running few sent lines told spoken heard c = absurd told
 
 -- an outcome but that
 pub IsTold-not : (outcome : Outcome) → (outcome ≡ Cuts → ⊥) → IsTold outcome
@@ -241,11 +297,12 @@ module _ {M : Type 0} (K : KindOf M) (laws : IsLawful K) (plan : Plan) (fitted :
       (done_cut K laws plan p q n m k None bytes awaits.noted q' m' refl (k + 1) refl awaits.due cut)
 
   -- memory was short, and what was made of the cycle was told
-  pub RunEnds-uncut : Sends (report_of plan.digest (take (length p.events) q.events)) (report_of plan.digest q.events) deaf r1 r2
+  pub RunEnds-uncut : (bytes ≡ [] → mute ≡ false) → (q.events ≡ p.events → deaf ≡ false)
+      → Sends (report_of plan.digest (take (length p.events) q.events)) (report_of plan.digest q.events) deaf r1 r2
       → RunEnds K plan fitted m (record { stop = Memory; events = q.events; cycles = k; mute = mute; deaf = deaf }) t0 t2 r0 r2
-  RunEnds-uncut lines =
+  RunEnds-uncut spoken heard lines =
       broken_stops K plan fitted p q n m k bytes mute deaf t0 t1 t2 r0 r1 r2 running few sent lines Memory
-      (broken_cut K laws plan p q n m k None bytes awaits.noted q m refl refl refl) tt
+      (broken_cut K laws plan p q n m k None bytes awaits.noted q m refl refl refl) tt spoken heard
 
   -- there are no fewer events than before
   pub told_awaiting : length p.events ≤ length q.events

@@ -17,7 +17,7 @@ use Rattle.thy_view.specs.Views.{loads, halts, is_halt}
 use Rattle.thy_view.specs.CoreStep.{CoreStep}
 use Rattle.thy_view.specs.Origin.{Origin, at, IsOrigin}
 use Rattle.thy_view.specs.Safe.{Safe}
-use Rattle.thy_view.specs.Kind.{IsSnapshot, KindOf, IsStep}
+use Rattle.thy_view.specs.Kind.{IsSnapshot, KindOf, IsStep, LeavesSafe}
 use Rattle.thy_run.specs.Cuts.{has_ended}
 use Rattle.thy_run.specs.Due.{due_of}
 use Rattle.thy_run.specs.Laws.{released_of}
@@ -118,7 +118,7 @@ pub record MadeSome (made : List Happening) (all : List Happening) (before : Lis
 
 -- the machine's step failed with a fault of the device
 pub record IsStuck {M : Type 0} (K : KindOf M) (plan : Plan) (p next : Progress M) (n new : Device) : Type 0 where
-  pub safe : Safe K.decode (origin_of plan) (K.view (origin_of plan) p.machine n).done (K.view (origin_of plan) p.machine n).sealed new
+  pub leaves : LeavesSafe K (origin_of plan) p.machine n new
   pub framed : IsFramed n new
   pub rose : RoseFaults n.faults new.faults
   pub same : next ≡ record p { machine = next.machine; mix = mix_next p.mix }

@@ -3,7 +3,7 @@ use Rattle.std.specs.Prelude.{◌≡◌, ◌⊎◌, ℕ, ◌+◌, ◌<◌, ◌�
 use Rattle.thy_base.specs.declared.nvm.Shape.{Shape}
 use Rattle.thy_base.specs.Device.{Device, fitted, RoseFaults}
 use Rattle.thy_base.specs.Mix.{mix_start}
-use Rattle.thy_base.specs.Outside.{Stream}
+use Rattle.thy_base.specs.Outside.{Stream, Took}
 use Rattle.thy_view.specs.Kind.{KindOf}
 use Rattle.thy_text.specs.Lines.{report_of}
 use Rattle.thy_view.specs.Origin.{Origin}
@@ -11,7 +11,7 @@ use Rattle.thy_text.specs.Happening.{Happening}
 use Rattle.thy_run.specs.Cuts.{has_ended}
 use Rattle.thy_run.specs.Laws.{released_of}
 use Rattle.thy_run.specs.Unfinished.{StepFailed, TellingFailed, Ends as StandsAtEnd}
-use Rattle.thy_run.specs.World.{World, Ran}
+use Rattle.thy_run.specs.World.{World, Cycle, Ran}
 use Rattle.thy_run.specs.declared.advance.Outcome.{Outcome}
 use Rattle.thy_run.specs.declared.advance.Outcome.TheVariants.{Goes, Cuts, Ends, Fails}
 use Rattle.thy_run.specs.declared.ending.Stop.{Stop}
@@ -23,7 +23,7 @@ use Rattle.thy_run.specs.declared.plan.Plan.{Plan}
 use Rattle.thy_run.specs.declared.progress.Progress.{Progress}
 use Rattle.thy_base.specs.Bytes.{bytes_of}
 use Rattle.thy_run.specs.Going.{origin_of, given_of, end_of, GoesOn, AwaitsCut}
-use Rattle.thy_run.specs.Sending.{Sends, Delivers}
+use Rattle.thy_run.specs.Sending.{Delivered}
 
 -- a stop for a sink that failed comes before the others of a cycle that is done
 abbrev pub stopped_for : (terminal report : Bool) → Turned → Turned
@@ -50,8 +50,8 @@ pub record IsFitted {M : Type 0} (K : KindOf M) (plan : Plan) (n : Device) : Typ
 -- the run goes on, and the sinks took all that was due so far
 pub record Running {M : Type 0} (K : KindOf M) (plan : Plan) (fitted : Device) (p : Progress M) (n : Device) (cycles : ℕ) (terminal shown report read : Stream) : Type 0 where
   pub goes : GoesOn K plan fitted p n cycles
-  pub shown_all : Sends [] (released_of (origin_of plan) p.events) false terminal shown
-  pub read_all : Sends [] (report_of plan.digest p.events) false report read
+  pub shown_all : Took terminal shown (released_of (origin_of plan) p.events)
+  pub read_all : Took report read (report_of plan.digest p.events)
 
 -- memory was short
 abbrev pub is_memory : Stop → Bool
@@ -75,11 +75,21 @@ EndsBy K o w events n Terminal = IsLast w events n
 EndsBy K o w events n Report = IsLast w events n
 EndsBy K o w events n Limit = IsLast w events n
 
+-- the events that were told before the last cycle that was begun; a sink that failed did so in that cycle
+abbrev pub IsSettled : {M : Type 0} → KindOf M → Origin → List ℕ → World M → List Happening → Stop → Type 0
+IsSettled {M = M} K o cuts last settled Terminal = (before : World M) × Cycle K o cuts before last × (settled ≡ before.events)
+IsSettled {M = M} K o cuts last settled Report = (before : World M) × Cycle K o cuts before last × (settled ≡ before.events)
+IsSettled K o cuts last settled (Ended status) = settled ≡ last.events
+IsSettled K o cuts last settled Nvm = settled ≡ last.events
+IsSettled K o cuts last settled Memory = settled ≡ last.events
+IsSettled K o cuts last settled Limit = settled ≡ last.events
+
 -- what a stop says of the run
 abbrev pub StopFits : Plan → Device → Device → Ending → Stop → Type 0
 StopFits plan fitted new e (Ended status) =
     (end_of e.events ≡ Some status) × (e.mute ≡ false) × (e.deaf ≡ false) × (new.faults ≡ fitted.faults)
-StopFits plan fitted new e Nvm = RoseFaults fitted.faults new.faults × (e.cycles < plan.geometry.limit)
+StopFits plan fitted new e Nvm =
+    RoseFaults fitted.faults new.faults × (e.cycles < plan.geometry.limit) × (e.mute ≡ false) × (e.deaf ≡ false)
 StopFits plan fitted new e Memory = Unit {0}
 StopFits plan fitted new e Terminal = (e.mute ≡ true) × (e.deaf ≡ false) × (new.faults ≡ fitted.faults)
 StopFits plan fitted new e Report = (e.deaf ≡ true) × (new.faults ≡ fitted.faults)
@@ -93,8 +103,10 @@ pub record RunEnds {M : Type 0} (K : KindOf M) (plan : Plan) (fitted new : Devic
   pub ran : Ran K (origin_of plan) (given_of plan fitted) e.cycles last
   pub ends : EndsBy K (origin_of plan) last e.events new e.stop
   pub few : e.cycles ≤ plan.geometry.limit
-  pub shown_all : Delivers (is_memory e.stop) e.mute [] (released_of (origin_of plan) e.events) terminal shown
-  pub read_all : Sends [] (report_of plan.digest e.events) e.deaf report read
+  pub settled : List Happening
+  pub is_settled : IsSettled K (origin_of plan) plan.config.cuts last settled e.stop
+  pub shown_all : Delivered (is_memory e.stop) e.mute (released_of (origin_of plan) settled) (released_of (origin_of plan) e.events) terminal shown
+  pub read_all : Delivered false e.deaf (report_of plan.digest settled) (report_of plan.digest e.events) report read
   pub stop_fits : StopFits plan fitted new e e.stop
 
 -- what a turn of the loop comes to

@@ -5,6 +5,7 @@ use Rattle.thy_view.specs.Kind.{KindOf}
 use Rattle.thy_text.specs.Happening.{Happening}
 use Rattle.thy_view.specs.Views.{is_halt}
 use Rattle.thy_view.specs.Origin.{Origin}
+use Rattle.thy_view.specs.Action.{ActionFailed}
 use Rattle.thy_view.specs.Safe.{Safe}
 use Rattle.thy_run.specs.Cuts.{has_ended}
 use Rattle.thy_run.specs.World.{World, Given, seen, Steps, Ran}
@@ -13,6 +14,7 @@ use Rattle.thy_run.specs.World.{World, Given, seen, Steps, Ran}
 pub record StepFailed {M : Type 0} (K : KindOf M) (o : Origin) (w : World M) (events : List Happening) (n : Device) : Type 0 where
   pub going : is_halt (seen K o w).phase ≡ false
   pub safe : Safe K.decode o (seen K o w).done (seen K o w).sealed n
+  pub acted : ActionFailed w.device n
   pub framed : IsFramed w.device n
   pub rose : RoseFaults w.device.faults n.faults
   pub nothing_told : events ≡ w.events

@@ -1,5 +1,5 @@
 //! Telling what happened: bytes to the terminal, lines to the report.
-ghost use Rattle.std.specs.Prelude.{◌≡◌, ◌≤◌, length, take, [], ◌++◌};
+ghost use Rattle.std.specs.Prelude.{◌≡◌, ◌≤◌, false, length, take, [], ◌++◌};
 ghost use Rattle.thy_text.specs.Lines.{report_of};
 ghost use Rattle.thy_run.specs.Sending.{Sends, Sent};
 
@@ -9,7 +9,8 @@ use thy_text::{Events, write_event};
 /// Writes the lines of the events from `first` on, and answers whether the report failed.
 fn write_lines<R: Sink>(events: &Events, first: usize, digest: bool, report: &mut R) -> bool
     requires { first ≤ length events.now }
-    ensures { Sends (report_of digest (take first events.now)) (report_of digest events.now) result (R.stream report.old) (R.stream report.new) }
+    ensures lines { Sends (report_of digest (take first events.now)) (report_of digest events.now) result (R.stream report.old) (R.stream report.new) }
+    ensures none { first ≡ length events.now → result ≡ false }
 {
     for i in first..events.len() {
         match write_event(events.get(i), digest, report) {
@@ -22,7 +23,8 @@ fn write_lines<R: Sink>(events: &Events, first: usize, digest: bool, report: &mu
 
 /// Writes what the terminal is due, if anything, and answers whether it failed.
 pub fn write_bytes<T: Sink>(bytes: &[u8], terminal: &mut T) -> bool
-    ensures { Sent result (T.stream terminal.old) (T.stream terminal.new) bytes.now }
+    ensures bytes { Sent result (T.stream terminal.old) (T.stream terminal.new) bytes.now }
+    ensures none { bytes.now ≡ [] → result ≡ false }
 {
     if bytes.is_empty() {
         return false;
@@ -41,7 +43,7 @@ pub struct Failures {
 }
 
 /// Tells a cycle: the terminal's bytes first, and then the lines of the events from `first` on. Where
-/// one of the two fails, the other still gets all that it is due.
+/// one of the two fails, the other still gets all that it is due. A sink that is due nothing does not fail.
 pub fn tell<T: Sink, R: Sink>(
     bytes: &[u8],
     events: &Events,
@@ -53,6 +55,8 @@ pub fn tell<T: Sink, R: Sink>(
     requires { first ≤ length events.now }
     ensures terminal { Sent result.terminal (T.stream terminal.old) (T.stream terminal.new) bytes.now }
     ensures report { Sends (report_of digest (take first events.now)) (report_of digest events.now) result.report (R.stream report.old) (R.stream report.new) }
+    ensures spoken { bytes.now ≡ [] → result.terminal ≡ false }
+    ensures heard { first ≡ length events.now → result.report ≡ false }
 {
     let terminal = write_bytes(bytes, terminal);
     let report = write_lines(events, first, digest, report);

@@ -10,7 +10,7 @@ pub returns-in_err-stepped-clause-stuck : goal.returns-in_err-stepped-clause-stu
 returns-in_err-stepped-clause-stuck g c = λ k at_moment.
     OnErr-any c.from_residual.result _
     (record {
-      safe = c.in_err-stepped.ensures.safe (origin_of c.args.plan.now) k (begins_of c.args.plan.now) at_moment;
+      leaves = c.in_err-stepped.ensures.safe (origin_of c.args.plan.now) k (begins_of c.args.plan.now) at_moment;
       framed = c.step.ensures.frame;
       rose = c.in_err-stepped.ensures.cause;
       same = progress_stepped c.args.progress.now c.step.new.self c.next-pick.new.self c.next-pick.ensures.after;

@@ -1,4 +1,4 @@
-use Rattle.std.proofs.Common.{sym, subst, take, ℕ, refl}
+use Rattle.std.proofs.Common.{◌∙◌, ap, length, sym, subst, take, ℕ, refl}
 use Rattle.thy_base.specs.Bytes.{bytes_of}
 use Rattle.thy_text.specs.Lines.{report_of}
 use Rattle.thy_run.specs.declared.cycles.Turned.{Turned}
@@ -36,4 +36,6 @@ returns g c = λ fitted t r running.
     (subst (Sent mute t1 t2) c.as_slice.ensures c.tell-failures.ensures.terminal)
     (subst L c.requires.first c.tell-failures.ensures.report)
     (IsTold-not c.take_cycle-bytes.result.outcome c.in_default.not-Cuts)
+    (λ none. c.tell-failures.ensures.spoken (c.as_slice.ensures ∙ none))
+    (λ same. c.tell-failures.ensures.heard (c.requires.first ∙ ap length (sym same)))
     (c.take_cycle-bytes.ensures fitted running.goes))

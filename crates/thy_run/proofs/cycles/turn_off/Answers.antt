@@ -1,4 +1,4 @@
-use Rattle.std.proofs.Common.{sym, ap, subst, ◌+◌, ◌≡◌, ℕ, Bool, true, false, take, length, List}
+use Rattle.std.proofs.Common.{◌∙◌, sym, ap, subst, ◌+◌, ◌≡◌, ℕ, Bool, true, false, take, length, List}
 use Rattle.thy_base.specs.Bytes.{bytes_of}
 use Rattle.thy_base.specs.Device.{Device}
 use Rattle.thy_text.specs.Happening.{Happening}
@@ -38,6 +38,8 @@ returns-in-Err-clause-err g c = λ fitted p n t r running awaits first.
     (subst E (sym c.in-Err.ensures.events)
     (RunEnds-uncut K g.met.M.Computer.lawful plan fitted p q n m c.args.done (bytes_of c.args.bytes) mute deaf t t1 t2 r r1 r2 running c.requires.few
     (subst (Sent mute t1 t2) c.as_slice.ensures c.tell-failures.ensures.terminal) awaits
+    (λ none. c.tell-failures.ensures.spoken (c.as_slice.ensures ∙ none))
+    (λ same. c.tell-failures.ensures.heard (first ∙ ap length (sym (c.in-Err.ensures.events ∙ same))))
     (subst Q c.in-Err.ensures.events (subst L first c.tell-failures.ensures.report))))
 
 pub returns-then-failures-clause-err : goal.returns-then-failures-clause-err
