@@ -6,7 +6,7 @@ use Rattle.thy_view.specs.Kind.{KindOf, IsLawful, IsFittedFor}
 use Rattle.thy_text.specs.Happening.{Happening}
 use Rattle.thy_text.specs.Lines.{report_of}
 use Rattle.thy_view.specs.declared.view.View.{View}
-use Rattle.thy_view.specs.Booting.{loading_view}
+use Rattle.thy_view.specs.Booting.{first_view}
 use Rattle.thy_view.specs.Views.{is_halt, doubt_of}
 use Rattle.thy_view.specs.Origin.{Origin}
 use Rattle.thy_view.specs.Safe.{Safe}
@@ -35,13 +35,13 @@ first_of {M = M} K laws plan m n planned powered f =
     } in
     let law = laws.begins o m f.shape [] f.before planned.origin powered fit in
     let at_first : K.is_at o 0 m n = subst (K.is_at o 0 m) (sym f.is_fitted) law.0 in
-    let view : K.view o m n ≡ loading_view o.start.count = ap (K.view o m) f.is_fitted ∙ law.1 in
+    let view : K.view o m n ≡ first_view o = ap (K.view o m) f.is_fitted ∙ law.1 in
     let S : View → Type 0 = λ v. Safe K.decode o v.done (doubt_of v) n in
     record {
       device = refl;
       powered = powered;
       at_moment = at_first;
-      loading = view;
+      found = view;
       safe = subst S view (laws.is_safe o 0 m n at_first);
       left = ap (λ (d : Device). d.left) f.is_fitted;
       mix = refl;
@@ -60,7 +60,7 @@ Running-first {M = M} K laws plan p m n t r planned powered f is =
     let here : Running K plan n (first_progress plan m) n 0 t t r r = record {
       goes = record {
         ran = first;
-        going = ap (λ v. is_halt v.phase) first.loading;
+        going = ap (λ v. is_halt v.phase) first.found;
         released = refl;
         room = ap (λ (d : Device). d.left_room) f.is_fitted ∙ ap (λ c. c + 1) f.cuts;
         calm = refl;

@@ -9,7 +9,7 @@ use Rattle.thy_view.specs.declared.did.Did.{Did}
 use Rattle.thy_view.specs.declared.did.Did.TheVariants.{Boot, Loaded, Restarted, Refused, Moved, Retired, Flushed, Merged, Sealed, Promoted, Engine, Committed, NvmDrained, DramDrained, Nothing}
 use Rattle.thy_view.specs.declared.did.Stepped.{Stepped}
 use Rattle.thy_view.specs.declared.view.View.{View}
-use Rattle.thy_view.specs.Booting.{loading_view, view_of_image}
+use Rattle.thy_view.specs.Booting.{first_view, view_of_image}
 use Rattle.thy_view.specs.Views.{loads, halts, is_halt}
 use Rattle.thy_view.specs.Origin.{Origin, at}
 use Rattle.thy_view.specs.Safe.{ceiling, Safe}
@@ -124,13 +124,13 @@ pub record Given : Type 0 where
   pub seed : ℕ
   pub fitted : Device
 
--- power comes on for the first time, over a device of zeros
+-- power comes on for the first time, over a device that was fitted
 pub record IsFirst {M : Type 0} (K : KindOf M) (o : Origin) (given : Given) (w : World M) : Type 0 where
   pub device : w.device ≡ given.fitted
   pub powered : K.powered o.geometry w.machine
   pub at_moment : K.is_at o 0 w.machine w.device
-  pub loading : seen K o w ≡ loading_view o.start.count
-  pub safe : Safe K.decode o None None w.device
+  pub found : seen K o w ≡ first_view o
+  pub safe : Safe K.decode o (first_view o).done None w.device
   pub left : w.device.left ≡ []
   pub mix : w.mix ≡ mix_start given.seed
   pub passed : w.passed ≡ 0
