@@ -180,7 +180,7 @@ pub record IsPlanOf (task : Task) (stock : Stock) (p : Plan) : Type 0 where
   pub file : IsProgramFile task stock
   pub start : (origin_of p).start ≡ start_state p.geometry file.contents
   pub input : (origin_of p).input ≡ []
-  pub epoch : p.start.epoch ≡ 0
+  pub from_file : p.start.kept ≡ None
   pub planned : IsPlanned p
 
 -- the exit status of a stop
@@ -212,6 +212,7 @@ pub record IsRunOf {M : Type 0} (K : KindOf M) (task : Task) (old new : Stock) (
   pub calm : new.faults ≡ old.faults
   pub device : Device
   pub is_fitted : IsFitted K plan device
+  pub fresh : is_fitted.start ≡ []
   pub from_entry : device ≡ fitted is_fitted.shape [] n
   pub ending : Ending
   pub told : Stream

@@ -401,7 +401,7 @@ at_of K plan fitted p n k planned g = (good_of K plan fitted p n k planned g).st
 
 -- the start is the run's
 pub begins_of : (plan : Plan) → Begins (origin_of plan) plan.start
-begins_of plan = record { state = refl; input = refl }
+begins_of plan = record { state = refl; input = refl; kept = refl }
 
 pub can_step : {M : Type 0} (K : KindOf M) → (plan : Plan) (fitted : Device) (p : Progress M) (n : Device) (k : ℕ) → IsPlanned plan → GoesOn K plan fitted p n k → k < 2 ^ 62 → CanStep K plan.start p.machine n
 can_step K plan fitted p n k planned g few =

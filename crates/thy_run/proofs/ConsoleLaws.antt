@@ -179,14 +179,14 @@ events_show o fresh v did next cycle =
     ∙ told_shows o did cycle
 
 -- the mark that is shown after a step
-mark_next : (w es did : Bool) (done before later : Option Mark) → es ≡ did → later ≡ (if did then done else before)
-    → mark_if (w || es) later ≡ (if did then done else mark_if w before)
-mark_next w es true done before later shown is = ap (λ b. mark_if (w || b) later) shown ∙ ap (λ b. mark_if b later) (or_true w) ∙ is
+mark_next : (w es showing : Bool) (found before later : Option Mark) → es ≡ showing → later ≡ (if showing then found else before)
+    → mark_if (w || es) later ≡ (if showing then found else mark_if w before)
+mark_next w es true found before later shown is = ap (λ b. mark_if (w || b) later) shown ∙ ap (λ b. mark_if b later) (or_true w) ∙ is
   where
     or_true : (b : Bool) → (b || true) ≡ true
     or_true true = refl
     or_true false = refl
-mark_next w es false done before later shown is = ap (λ b. mark_if (w || b) later) shown ∙ ap (λ b. mark_if b later) (or_false w) ∙ ap (mark_if w) is
+mark_next w es false found before later shown is = ap (λ b. mark_if (w || b) later) shown ∙ ap (λ b. mark_if b later) (or_false w) ∙ ap (mark_if w) is
 
 module _ {M : Type 0} (K : KindOf M) (o : Origin) (w next : World M) (least : 1 ≤ o.geometry.epoch) (h : Coheres K o w) (step : Steps K o w next) where
   abbrev marks_now : Marks

@@ -33,7 +33,7 @@ use Rattle.thy_run.specs.declared.progress.Progress.{Progress}
 
 -- what the run is about
 abbrev pub origin_of : Plan → Origin
-origin_of plan = record { geometry = plan.geometry; start = state_of plan.start.state; input = bytes_of plan.start.input; kept = None }
+origin_of plan = record { geometry = plan.geometry; start = state_of plan.start.state; input = bytes_of plan.start.input; kept = plan.start.kept }
 
 -- what it is given besides, over a device that was fitted
 abbrev pub given_of : Plan → Device → Given

@@ -4,7 +4,8 @@ use Rattle.thy_base.specs.declared.nvm.Shape.{Shape}
 use Rattle.thy_base.specs.Device.{Device, fitted, RoseFaults}
 use Rattle.thy_base.specs.Mix.{mix_start}
 use Rattle.thy_base.specs.Outside.{Stream, Took}
-use Rattle.thy_view.specs.Kind.{KindOf}
+use Rattle.thy_base.specs.declared.block.Block.{Block}
+use Rattle.thy_view.specs.Kind.{IsFittedFor, KindOf}
 use Rattle.thy_text.specs.Lines.{report_of}
 use Rattle.thy_view.specs.Origin.{Origin}
 use Rattle.thy_text.specs.Happening.{Happening}
@@ -41,11 +42,12 @@ turned_of (Ends status) terminal report = stopped_for terminal report (Stops (En
 -- a device that was fitted for a plan
 pub record IsFitted {M : Type 0} (K : KindOf M) (plan : Plan) (n : Device) : Type 0 where
   pub shape : Shape
+  pub start : List Block
   pub before : Device
-  pub blocks : shape.blocks ≡ K.blocks plan.geometry
+  pub fits : IsFittedFor K (origin_of plan) shape start before
   pub queue : shape.queue ≡ plan.geometry.nvmq
   pub cuts : shape.cuts ≡ length plan.config.cuts
-  pub is_fitted : n ≡ fitted shape [] before
+  pub is_fitted : n ≡ fitted shape start before
 
 -- the run goes on, and the sinks took all that was due so far
 pub record Running {M : Type 0} (K : KindOf M) (plan : Plan) (fitted : Device) (p : Progress M) (n : Device) (cycles : ℕ) (terminal shown report read : Stream) : Type 0 where

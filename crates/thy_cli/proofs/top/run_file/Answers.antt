@@ -1,8 +1,8 @@
-use Rattle.std.proofs.Common.{ap, subst, refl, inl, inr, ℕ}
+use Rattle.std.proofs.Common.{ap, subst, refl, inl, inr, ℕ, []}
 use Rattle.thy_base.specs.declared.config.Parameters.{Parameters}
 use Rattle.thy_cli.specs.declared.refusal.Refusal.TheVariants.{Device as DeviceRefusal}
 use Rattle.thy_cli.specs.Answering.{ClosesRun}
-use Rattle.thy_cli.proofs.TopLemmas.{IsRunOf-ran}
+use Rattle.thy_cli.proofs.TopLemmas.{IsRunOf-ran, fitted_from_file}
 use Rattle.thy_cli.proofs.top.run_file.Goals as goal
 
 pub returns-in-Err-clause-answer : goal.returns-in-Err-clause-answer
@@ -15,7 +15,7 @@ returns-in-Err-clause-answer g c =
 
 pub returns-in-Ok-fit-clause-answer : goal.returns-in-Ok-fit-clause-answer
 returns-in-Ok-fit-clause-answer g c =
-    inr (IsRunOf-ran g.M.Computer.kind _ (g.H.Shelf.stock c.args.shelf.now) (g.H.Shelf.stock c.prepare.new.shelf) c.in-Ok.plan (g.N.Nvm.device c.args.nvm.now) (g.N.Nvm.device c.fit.new.self) (g.N.Nvm.device c.run-ending.new.nvm)
+    inr (IsRunOf-ran g.M.Computer.kind g.met.M.Computer.lawful _ (g.H.Shelf.stock c.args.shelf.now) (g.H.Shelf.stock c.prepare.new.shelf) c.in-Ok.plan (g.N.Nvm.device c.args.nvm.now) (g.N.Nvm.device c.fit.new.self) (g.N.Nvm.device c.run-ending.new.nvm)
     _ c.run-ending.result c.answer.result (g.T.Sink.stream c.args.terminal.now) (g.T.Sink.stream c.run-ending.new.terminal) (g.R.Sink.stream c.args.report.now)
     (g.R.Sink.stream c.run-ending.new.report) (g.R.Sink.stream c.answer.new.report) c.in-Ok.ensures.plan c.in-Ok.ensures.calm c.in-Ok-fit.ensures.ok c.nvm_blocks.ensures
     (ap (λ (x : Parameters). x.nvmq) c.numbers.ensures.same) c.len.ensures
@@ -28,8 +28,9 @@ pub run-ending-requires-clause-fitted : goal.run-ending-requires-clause-fitted
 run-ending-requires-clause-fitted g c =
     record {
       shape = _;
+      start = [];
       before = g.N.Nvm.device c.args.nvm.now;
-      blocks = c.nvm_blocks.ensures;
+      fits = fitted_from_file g.M.Computer.kind g.met.M.Computer.lawful c.in-Ok.plan _ (g.N.Nvm.device c.args.nvm.now) c.in-Ok.ensures.plan.from_file c.nvm_blocks.ensures;
       queue = ap (λ (x : Parameters). x.nvmq) c.numbers.ensures.same;
       cuts = c.len.ensures;
       is_fitted = c.in-Ok-fit.ensures.ok;
