@@ -35,7 +35,7 @@ impl Geometry {
         ensures geometry { result ≡ geometry_of config.now }
 
         // So it is one exactly where each number and both lists are in range.
-        ensures in_range { (result ≡ Ok (parameters_of config.now)) ↔ (IsInRange (parameters_of config.now) × HasListsInRange config.now) }
+        ensures in_range { let p = parameters_of config.now in (result ≡ Ok p) ↔ (IsInRange p × HasListsInRange config.now) }
     {
         match first_fault(config) {
             Some(fault) => Err(fault),

@@ -168,3 +168,7 @@ CountsFlushed CopiedFirst old new = new ≡ old
 -- no page is being copied, or that of the first dirty line
 abbrev pub IsOpenForFlush : Contents → Option ℕ → Type 0
 IsOpenForFlush c page = (page ≡ None) ⊎ ((line : Line) × (dirty_line c ≡ Some line) × (page ≡ Some (page_of line.at)))
+
+-- and so it is after a step of a flush, where it was before
+abbrev pub KeepsOpen : Contents → Holding → Contents → Holding → Type 0
+KeepsOpen c old d new = IsOpenForFlush c old.open_page → IsOpenForFlush d new.open_page

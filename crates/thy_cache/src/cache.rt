@@ -3,7 +3,7 @@ ghost use Rattle.std.specs.Prelude.{◌≡◌, ◌≢◌, ◌<◌, ◌≤◌, �
 ghost use Rattle.thy_base.specs.Device.{block_at, CountsFault};
 ghost use Rattle.thy_base.specs.Store.{IsKeptByLoad};
 ghost use Rattle.thy_cache.specs.Ways.{is_dirty, line_at, victim_way, has_dirty};
-ghost use Rattle.thy_cache.specs.Contents.{Contents, empty_cache, set_at, set_of, index_of, victim_line_of, is_dirty_victim, cleaned_at, filled_with, evicted_for, stored_at, dirty_set, dirty_way, dirty_line, HasNoneDirty, IsSized, KeepsSize, IsOpenForFlush, flushed_from, HasFlushed, CountsFlushed, StoresLine, CountsStored, line_of, peeked, hits, victim_of, dirty_count, read_from, written_at};
+ghost use Rattle.thy_cache.specs.Contents.{Contents, empty_cache, set_at, set_of, index_of, victim_line_of, is_dirty_victim, cleaned_at, filled_with, evicted_for, stored_at, dirty_set, dirty_way, dirty_line, HasNoneDirty, IsSized, KeepsSize, KeepsOpen, flushed_from, HasFlushed, CountsFlushed, StoresLine, CountsStored, line_of, peeked, hits, victim_of, dirty_count, read_from, written_at};
 ghost use Rattle.thy_cache.specs.Flat.{flat, Agrees, PeeksSame, HitsSame, ReadsSame, ReadsAs, AgreesWithAll, ReadsAsStore, WritesOver, AgreesStill};
 
 use crate::line::{Flushed, Line, Victim};
@@ -357,8 +357,8 @@ impl Cache {
         ensures dirty { IfOk result (λ flushed. CountsFlushed flushed (dirty_count self.old) (dirty_count self.new)) }
         ensures sized { KeepsSize self.old self.new }
 
-        // The page of the first dirty line alone may be open behind it, where none but that was before.
-        ensures open { OnOk result (IsOpenForFlush self.old (S.holding store.old nvm.old).open_page → IsOpenForFlush self.new (S.holding store.new nvm.new).open_page) }
+        // Where no page was open but that of the first dirty line, it is so again.
+        ensures open { OnOk result (KeepsOpen self.old (S.holding store.old nvm.old) self.new (S.holding store.new nvm.new)) }
 
         // The store makes one store, or nothing where no line is dirty.
         ensures once { result ≢ Ok Flushed.Clean → S.once store.old nvm.old store.new nvm.new }
