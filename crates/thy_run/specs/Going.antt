@@ -8,7 +8,7 @@ use Rattle.thy_base.specs.Mix.{mix_pick, mix_next}
 use Rattle.thy_isa.specs.declared.state.MachState.{MachState}
 use Rattle.thy_isa.specs.declared.state.Status.{Status}
 use Rattle.thy_isa.specs.Step.{state_of}
-use Rattle.thy_text.specs.Happening.{Happening, EpochEnd, Commit, Cut, Restart, Reload, Ended as EndedEvent}
+use Rattle.thy_text.specs.Happening.{Happening, Cut, Ended as EndedEvent}
 use Rattle.thy_view.specs.declared.did.Did.{Did}
 use Rattle.thy_view.specs.declared.did.Did.TheVariants.{Restarted}
 use Rattle.thy_view.specs.declared.did.Stepped.{Stepped}
@@ -24,7 +24,7 @@ use Rattle.thy_run.specs.Laws.{released_of}
 use Rattle.thy_run.specs.Unfinished.{StepFailed, TellingFailed}
 use Rattle.thy_run.specs.World.{World, Given, seen, Steps, Ran, Cycle}
 use Rattle.thy_run.specs.declared.ending.Stop.{Stop}
-use Rattle.thy_run.specs.declared.ending.Stop.TheVariants.{Ended, Nvm, Memory, Terminal, Report, Limit}
+use Rattle.thy_run.specs.declared.ending.Stop.TheVariants.{Nvm, Memory}
 use Rattle.thy_run.specs.declared.advance.Outcome.{Outcome}
 use Rattle.thy_run.specs.declared.advance.Outcome.TheVariants.{Goes, Cuts, Ends, Fails}
 use Rattle.thy_run.specs.declared.gather.Readings.{Readings}
@@ -163,20 +163,13 @@ pub record IsFault {M : Type 0} (p next : Progress M) (n new : Device) (bytes : 
 abbrev pub Breaks : {M : Type 0} → Progress M → Progress M → Device → Device → List ℕ → Stop → Type 0
 Breaks p next n new bytes Nvm = IsFault p next n new bytes
 Breaks p next n new bytes Memory = Unit {0}
-Breaks p next n new bytes (Ended status) = ⊥
-Breaks p next n new bytes Terminal = ⊥
-Breaks p next n new bytes Report = ⊥
-Breaks p next n new bytes Limit = ⊥
+Breaks p next n new bytes stop = ⊥
 
 -- the status of the end among events
 abbrev pub end_of : List Happening → Option Status
 end_of [] = None
 end_of (EndedEvent status count cycle state ∷ vs) = Some status
-end_of (EpochEnd epoch count cause ∷ vs) = end_of vs
-end_of (Commit epoch cycle overlapped ∷ vs) = end_of vs
-end_of (Cut index cycle ∷ vs) = end_of vs
-end_of (Restart epoch count state ∷ vs) = end_of vs
-end_of (Reload ∷ vs) = end_of vs
+end_of (event ∷ vs) = end_of vs
 
 -- a cut is due after a cycle whose events were made: the next one that is listed
 pub record AwaitsCut {M : Type 0} (K : KindOf M) (plan : Plan) (p next : Progress M) (n new : Device) (cycles : ℕ) (bytes : List ℕ) : Type 0 where

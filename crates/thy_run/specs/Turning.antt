@@ -58,11 +58,7 @@ pub record Running {M : Type 0} (K : KindOf M) (plan : Plan) (fitted : Device) (
 -- memory was short
 abbrev pub is_memory : Stop → Bool
 is_memory Memory = true
-is_memory (Ended status) = false
-is_memory Nvm = false
-is_memory Terminal = false
-is_memory Report = false
-is_memory Limit = false
+is_memory stop = false
 
 -- the last cycle is done, and nothing was begun behind it
 abbrev pub IsLast : {M : Type 0} → World M → List Happening → Device → Type 0
@@ -70,21 +66,19 @@ IsLast w events n = (events ≡ w.events) × (n ≡ w.device)
 
 -- what stands at the end, by the stop: only for a device's fault or want of memory one more cycle was begun
 abbrev pub EndsBy : {M : Type 0} → KindOf M → Origin → World M → List Happening → Device → Stop → Type 0
-EndsBy K o w events n (Ended status) = IsLast w events n
 EndsBy K o w events n Nvm = StepFailed K o w events n ⊎ TellingFailed K o w events n
 EndsBy K o w events n Memory = StandsAtEnd K o w events n
-EndsBy K o w events n Terminal = IsLast w events n
-EndsBy K o w events n Report = IsLast w events n
-EndsBy K o w events n Limit = IsLast w events n
+EndsBy K o w events n stop = IsLast w events n
+
+-- these events were told before the last cycle
+abbrev pub ToldBefore : {M : Type 0} → KindOf M → Origin → List ℕ → World M → List Happening → Type 0
+ToldBefore {M = M} K o cuts last settled = (before : World M) × Cycle K o cuts before last × (settled ≡ before.events)
 
 -- the events that were told before the last cycle that was begun; a sink that failed did so in that cycle
 abbrev pub IsSettled : {M : Type 0} → KindOf M → Origin → List ℕ → World M → List Happening → Stop → Type 0
-IsSettled {M = M} K o cuts last settled Terminal = (before : World M) × Cycle K o cuts before last × (settled ≡ before.events)
-IsSettled {M = M} K o cuts last settled Report = (before : World M) × Cycle K o cuts before last × (settled ≡ before.events)
-IsSettled K o cuts last settled (Ended status) = settled ≡ last.events
-IsSettled K o cuts last settled Nvm = settled ≡ last.events
-IsSettled K o cuts last settled Memory = settled ≡ last.events
-IsSettled K o cuts last settled Limit = settled ≡ last.events
+IsSettled K o cuts last settled Terminal = ToldBefore K o cuts last settled
+IsSettled K o cuts last settled Report = ToldBefore K o cuts last settled
+IsSettled K o cuts last settled stop = settled ≡ last.events
 
 -- what a stop says of the run
 abbrev pub StopFits : Plan → Device → Device → Ending → Stop → Type 0

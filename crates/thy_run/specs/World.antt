@@ -6,7 +6,7 @@ use Rattle.thy_base.specs.Mix.{mix_start, mix_pick, mix_next}
 use Rattle.thy_view.specs.Kind.{KindOf, IsStep}
 use Rattle.thy_text.specs.Happening.{Happening, EpochEnd, Commit, Cut, Restart, Reload, Ended}
 use Rattle.thy_view.specs.declared.did.Did.{Did}
-use Rattle.thy_view.specs.declared.did.Did.TheVariants.{Boot, Loaded, Restarted, Refused, Moved, Retired, Flushed, Merged, Sealed, Promoted, Engine, Committed, NvmDrained, DramDrained, Nothing}
+use Rattle.thy_view.specs.declared.did.Did.TheVariants.{Loaded, Restarted, Sealed, Committed}
 use Rattle.thy_view.specs.declared.did.Stepped.{Stepped}
 use Rattle.thy_view.specs.declared.view.View.{View}
 use Rattle.thy_view.specs.Booting.{first_view, view_of_image}
@@ -40,17 +40,7 @@ told o Loaded cycle = Commit 0 cycle 0 ∷ []
 told o (Restarted epoch count) cycle = Restart epoch count (at o count) ∷ []
 told o (Sealed epoch count cause) cycle = EpochEnd epoch count cause ∷ []
 told o (Committed epoch overlapped) cycle = Commit epoch cycle overlapped ∷ []
-told o Boot cycle = []
-told o (Refused bad) cycle = []
-told o Moved cycle = []
-told o Retired cycle = []
-told o Flushed cycle = []
-told o Merged cycle = []
-told o Promoted cycle = []
-told o (Engine step) cycle = []
-told o NvmDrained cycle = []
-told o DramDrained cycle = []
-told o Nothing cycle = []
+told o did cycle = []
 
 -- the first cycle after a cut tells that the file is loaded again
 abbrev pub reload_told : Bool → View → List Happening
