@@ -1,6 +1,7 @@
 -- A cycle that was told is a turn of the loop.
 use Rattle.std.proofs.Common.{◌≡◌, ℕ, suc, ◌+◌, ◌<◌, ◌≤◌, Bool, true, false, List, [], ◌∷◌, ◌++◌, length, take, refl, sym, ◌∙◌, ap, subst, inr, append-nil, append_assoc, length-append, arith}
-use Rattle.thy_base.specs.Device.{Device, RoseFaults}
+use Rattle.thy_base.specs.Counts.{Rose}
+use Rattle.thy_base.specs.Device.{Device}
 use Rattle.thy_base.specs.Outside.{Stream}
 use Rattle.thy_base.proofs.Streams.{Took-append, TookPart-append, TookPart-more}
 use Rattle.thy_text.specs.Happening.{Happening}
@@ -154,7 +155,7 @@ module _ (plan : Plan) (fitted : Device) (p q : Progress) (n m : Device) (k : �
       delivered Limit f = absurd f
 
       because : (stop : Stop) → Breaks p q n m bytes stop → StopFits plan fitted m (record { stop = stop; events = q.events; cycles = k; mute = mute; deaf = deaf }) stop
-      because Nvm f = (subst (λ c. RoseFaults c m.faults) running.goes.calm f.rose, few)
+      because Nvm f = (subst (λ c. Rose c m.faults) running.goes.calm f.rose, few)
       because Memory f = tt
       because (Ended status) f = absurd f
       because Terminal f = absurd f
