@@ -8,7 +8,8 @@ use Rattle.thy_base.specs.declared.config.Config.{Config}
 use Rattle.thy_base.specs.Bytes.{bytes_of}
 use Rattle.thy_base.specs.Device.{Device, HasFailedToFit, fitted}
 use Rattle.thy_base.specs.Geometry.{IsInRange, parameters_of, program_size}
-use Rattle.thy_base.specs.Outside.{Stock, Files, Stream, Rose}
+use Rattle.thy_base.specs.Counts.{Rose}
+use Rattle.thy_base.specs.Outside.{Stock, Files, Stream}
 use Rattle.thy_elf.specs.declared.error.ElfError.{ElfError}
 use Rattle.thy_elf.specs.declared.error.ElfError.TheVariants.{Memory as ElfMemory}
 use Rattle.thy_elf.specs.Image.{Contents, contents_of, read_of}

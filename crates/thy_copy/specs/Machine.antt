@@ -2,7 +2,8 @@
 use Rattle.std.specs.Prelude.{◌≡◌, ℕ, min, ◌*◌, ◌-◌, List, length, take, drop, Bool, true, false}
 use Rattle.thy_base.specs.declared.config.Parameters.{Parameters}
 use Rattle.thy_base.specs.declared.mix.Pick.{Pick}
-use Rattle.thy_base.specs.Device.{Device, newest, HasFailed, RoseFaults}
+use Rattle.thy_base.specs.Counts.{Rose}
+use Rattle.thy_base.specs.Device.{Device, newest, HasFailed}
 use Rattle.thy_base.specs.Geometry.{console_room}
 use Rattle.thy_isa.specs.declared.state.MachState.{MachState}
 use Rattle.thy_isa.specs.Step.{State, state_of, state_with}

@@ -3,7 +3,8 @@ use Rattle.std.specs.Prelude.{◌≡◌, ◌⊎◌, ℕ, ◌+◌, ◌<◌, ◌==
 use Rattle.std.specs.declared.alloc.Global.{Global}
 use Rattle.thy_base.specs.Bytes.{bytes_of}
 use Rattle.thy_base.specs.Config.{first_not_rising}
-use Rattle.thy_base.specs.Device.{Device, IsFramed, IsCut, RoseFaults}
+use Rattle.thy_base.specs.Counts.{Rose}
+use Rattle.thy_base.specs.Device.{Device, IsFramed, IsCut}
 use Rattle.thy_base.specs.Mix.{mix_pick, mix_next}
 use Rattle.thy_isa.specs.declared.state.MachState.{MachState}
 use Rattle.thy_isa.specs.declared.state.Status.{Status}
@@ -120,7 +121,7 @@ pub record MadeSome (made : List Happening) (all : List Happening) (before : Lis
 pub record IsStuck {M : Type 0} (K : KindOf M) (plan : Plan) (p next : Progress M) (n new : Device) : Type 0 where
   pub leaves : LeavesSafe K (origin_of plan) p.machine n new
   pub framed : IsFramed n new
-  pub rose : RoseFaults n.faults new.faults
+  pub rose : Rose n.faults new.faults
   pub same : next ≡ record p { machine = next.machine; mix = mix_next p.mix }
 
 -- the step and all its events were made, and these bytes are due to the terminal
@@ -157,7 +158,7 @@ pub record IsBroken {M : Type 0} (K : KindOf M) (plan : Plan) (p next : Progress
 pub record IsFault {M : Type 0} (p next : Progress M) (n new : Device) (bytes : List ℕ) : Type 0 where
   pub events : next.events ≡ p.events
   pub none : bytes ≡ []
-  pub rose : RoseFaults n.faults new.faults
+  pub rose : Rose n.faults new.faults
 
 -- why a cycle is not done: a device's fault or want of memory
 abbrev pub Breaks : {M : Type 0} → Progress M → Progress M → Device → Device → List ℕ → Stop → Type 0

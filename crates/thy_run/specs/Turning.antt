@@ -1,7 +1,8 @@
 -- The program's loop over cycles, with what its sinks take.
 use Rattle.std.specs.Prelude.{◌≡◌, ◌⊎◌, ℕ, ◌+◌, ◌<◌, ◌≤◌, Bool, true, false, List, [], length, Some}
 use Rattle.thy_base.specs.declared.nvm.Shape.{Shape}
-use Rattle.thy_base.specs.Device.{Device, fitted, RoseFaults}
+use Rattle.thy_base.specs.Counts.{Rose}
+use Rattle.thy_base.specs.Device.{Device, fitted}
 use Rattle.thy_base.specs.Mix.{mix_start}
 use Rattle.thy_base.specs.Outside.{Stream, Took}
 use Rattle.thy_base.specs.declared.block.Block.{Block}
@@ -85,7 +86,7 @@ abbrev pub StopFits : Plan → Device → Device → Ending → Stop → Type 0
 StopFits plan fitted new e (Ended status) =
     (end_of e.events ≡ Some status) × (e.mute ≡ false) × (e.deaf ≡ false) × (new.faults ≡ fitted.faults)
 StopFits plan fitted new e Nvm =
-    RoseFaults fitted.faults new.faults × (e.cycles < plan.geometry.limit) × (e.mute ≡ false) × (e.deaf ≡ false)
+    Rose fitted.faults new.faults × (e.cycles < plan.geometry.limit) × (e.mute ≡ false) × (e.deaf ≡ false)
 StopFits plan fitted new e Memory = Unit {0}
 StopFits plan fitted new e Terminal = (e.mute ≡ true) × (e.deaf ≡ false) × (new.faults ≡ fitted.faults)
 StopFits plan fitted new e Report = (e.deaf ≡ true) × (new.faults ≡ fitted.faults)
