@@ -132,6 +132,7 @@ pub record IsFirst {M : Type 0} (K : KindOf M) (o : Origin) (given : Given) (w :
   pub loading : seen K o w ≡ loading_view o.start.count
   pub safe : Safe K.decode o None None w.device
   pub left : w.device.left ≡ []
+  pub empty : w.device.queue ≡ []
   pub mix : w.mix ≡ mix_start given.seed
   pub passed : w.passed ≡ 0
   pub cycles : w.cycles ≡ 0
