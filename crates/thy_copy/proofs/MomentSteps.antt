@@ -29,6 +29,7 @@ use Rattle.thy_copy_model.specs.Sound.{view_of}
 use Rattle.thy_view.specs.Turn.{Turn, Pressure}
 use Rattle.thy_copy_model.proofs.CycleLaws.{Safe-failed_cycle, Safe-failed_sealed}
 use Rattle.thy_copy_model.proofs.MomentLaws.{Leads-cycle}
+use Rattle.thy_copy_model.proofs.PaceLaws.{Progress, Progress-cycle}
 use Rattle.thy_copy_model.proofs.SafeLaws.{Safe-sound}
 use Rattle.thy_copy_model.proofs.SmallLaws.{IsSmall-step}
 use Rattle.thy_copy_model.proofs.TurnLaws.{Turn-cycle}
@@ -102,16 +103,21 @@ step_sound o k start pick m next n new r begins at few next_is new_is did_is sta
     let there : next ≡ cycle_next o.start (length o.input) n pick q m = same_next o s (length (bytes_of start.input)) n pick q m next begins.state (ap length begins.input) next_is in
     let leads = Leads-cycle o m n pick q moment (epoch_below o k (view_of o m n) moment.sound.origin at.small few) (count_below o k (view_of o m n) moment.sound.origin at.small few) in
     let l = led o m n pick q next new r leads there device did_is in
+    let p : Progress o m next n new r.did = Progress-cycle o m next n new r.did moment.sound l.0.sound at.spends pick there device did_is in
     record {
       at_next = record {
         moment = l.0;
         small = IsSmall-step o k (view_of o m n) (view_of o next new) at.small r.did l.1;
         below = more_below k m.view next.view counts at.below;
+        spends = p.spends;
         dram = subst (IsDramOf o.geometry) (sym (ap (λ (x : Parts). x.dram) there ∙ (cycle_keeps o.start (length o.input) n pick q m).dram)) at.dram;
       };
       step = l.1;
       turn = turned o pick q (view_of o m n) (pressure_of m) r.did (cycle_did pick q m next) r.stall (cycle_stall pick q m) did_is stall_is
           (Turn-cycle o m n moment.sound pick q next);
+      acts = p.acts;
+      pace = p.pace;
+      nears = p.nears;
       exhausts = λ moved. absurd (never_moved pick q m next (sym did_is ∙ moved));
       ended = ended_is ∙ halts-view o m next n new moment.sound l.0.sound;
       safe = Safe-sound o next new l.0.sound;

@@ -11,11 +11,12 @@ ghost use Rattle.thy_view.specs.Booting.{boot_view, loading_view};
 ghost use Rattle.thy_copy_model.specs.Boot.{restored_view, phase_of, stage_unless, found_commit, found_header, found_record, found_last_record, found_memory};
 
 use thy_base::{Block, Mark};
-use thy_isa::{CpuState, MachState, Status};
 use thy_copy_model::{Issue, Parts, Stage};
-use thy_record::Start;
+use thy_isa::{CpuState, MachState, Status};
+use thy_record::{
+    BadImage, Start, commit_fault, cpu_state, header_fault, is_zero, record_fault, word,
+};
 use thy_view::{Phase, View};
-use thy_record::{BadImage, commit_fault, cpu_state, header_fault, is_zero, record_fault, word};
 
 /// Epochs and counts of the images of a run are below this.
 pub const CEILING: u64 = 1 << 63;

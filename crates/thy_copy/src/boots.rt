@@ -15,9 +15,8 @@ use crate::engine::{memory_place, record_place};
 use crate::turns::load_on;
 use thy_base::{Nvm, NvmError};
 use thy_copy_model::{Parts, Stage};
-use thy_record::Start;
+use thy_record::{BadImage, Start};
 use thy_view::Did;
-use thy_record::BadImage;
 
 fn read_commit<N: Nvm>(m: &mut Parts, start: &Start, nvm: &mut N) -> Result<(), NvmError>
     requires regs { length start.now.state.regs ≡ 32 }

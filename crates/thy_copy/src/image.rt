@@ -15,8 +15,8 @@ ghost use Rattle.thy_view.specs.Kind.{IsSnapshot, HasFailedToRead};
 use crate::Machine;
 use std::alloc::{AllocError, Global};
 use thy_base::{Block, Bytes, Nvm, NvmError};
-use thy_isa::MachState;
 use thy_copy_model::Parts;
+use thy_isa::MachState;
 use thy_view::CoreError;
 
 /// The bytes of blocks, one after the other.

@@ -26,9 +26,9 @@ use crate::cycle::cycle;
 use std::alloc::{AllocError, Global};
 use std::marker::Model;
 use thy_base::{Block, Geometry, Nvm, NvmError, Pick};
+use thy_copy_model::{Memory, Parts, Stage};
 use thy_dram::Dram;
 use thy_isa::{CpuState, Regs, Status};
-use thy_copy_model::{Memory, Parts, Stage};
 use thy_record::Start;
 use thy_view::{Phase, Stepped};
 

@@ -14,8 +14,8 @@ use crate::engine::{issue, memory_place, next_issue, record_place};
 use crate::hart::execute;
 use crate::loading::start_block;
 use thy_base::{Block, EndCause, Geometry, Mark, Nvm, NvmError};
-use thy_isa::{CpuState, Status};
 use thy_copy_model::{Issue, Parts, Stage};
+use thy_isa::{CpuState, Status};
 use thy_record::{EngineStep, Start};
 use thy_view::{Did, Phase, View};
 

@@ -23,6 +23,7 @@ use Rattle.thy_copy_model.specs.Moments.{IsPoweredOn, IsNew, IsSmall}
 use Rattle.thy_copy_model.specs.Sound.{Sound, view_of}
 use Rattle.thy_copy_model.proofs.CutLaws.{view-unread, view-fresh}
 use Rattle.thy_copy_model.proofs.MomentLaws.{IsNew-powered_on, Moment-fresh, Moment-power_cut, Finds-power_cut}
+use Rattle.thy_copy_model.proofs.PaceLaws.{Spends-powered_on}
 use Rattle.thy_copy_model.proofs.SafeLaws.{Safe-sound}
 use Rattle.thy_copy_model.proofs.SmallLaws.{IsSmall-first, IsSmall-cut}
 
@@ -71,6 +72,7 @@ IsAt-fresh = λ o m shape start n origin on fit.
         moment = Moment-fresh o m shape start n origin new fit;
         small = subst (IsSmall o 0) (sym seen) (IsSmall-first o);
         below = IsBelow-powered_on o m (2 ^ 63 + 0) on;
+        spends = Spends-powered_on o m origin.geometry on;
         dram = on.dram;
       },
       seen,
@@ -114,6 +116,7 @@ IsAt-cut = λ o k m next n g at on crash.
         moment = Moment-power_cut o m next n g at.moment new crash;
         small = IsSmall-cut o (view_of o m n) (view_of o next (cut_to n g)) k at.small (Finds-power_cut o m next n g at.moment new crash);
         below = IsBelow-powered_on o next (2 ^ 63 + k) on;
+        spends = Spends-powered_on o next at.moment.sound.origin.geometry on;
         dram = on.dram;
       },
       view-unread o next (cut_to n g) on.stage,

@@ -24,3 +24,4 @@ pub mod CallLaws
 pub mod KindLaws
 pub mod ViewLaws
 pub mod ReadLaws
+pub mod PaceLaws

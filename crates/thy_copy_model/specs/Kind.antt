@@ -9,6 +9,7 @@ use Rattle.thy_copy_model.specs.declared.stage.Stage.{Stage}
 use Rattle.thy_copy_model.specs.declared.stage.Stage.TheVariants.{Unread, Header, Record, Restoring, Refused, Writing, Idle}
 use Rattle.thy_copy_model.specs.Calls.{IsAt, has_read}
 use Rattle.thy_copy_model.specs.Moments.{IsPoweredOn}
+use Rattle.thy_copy_model.specs.Pace.{gauge_of, ahead_of, most_booting_of, most_spent_of, most_ahead_of}
 use Rattle.thy_copy_model.specs.Sound.{view_of}
 
 -- an instruction is short of what it needs while a checkpoint is under way: the hart waits
@@ -34,4 +35,10 @@ kind = record {
   view = view_of;
   has_read = has_read;
   pressure = pressure_of;
+  gauge = gauge_of;
+  ahead = ahead_of;
+  most_spent = most_spent_of;
+  most_booting = most_booting_of;
+  most_boot = most_ahead_of;
+  most_each = most_ahead_of;
 }

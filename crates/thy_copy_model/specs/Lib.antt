@@ -1,3 +1,4 @@
+pub mod Pace
 pub mod Calls
 pub mod Boot
 pub mod Bounds
