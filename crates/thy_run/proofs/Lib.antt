@@ -6,6 +6,10 @@ pub mod ListedLemmas
 pub mod ImageLemmas
 pub mod ImageLaws
 pub mod WorldLaws
+pub mod StepKinds
+pub mod BusyLaws
+pub mod SoonLaws
+pub mod StrideLaws
 pub mod PromiseLaws
 pub mod ConsoleLaws
 pub mod GatherLemmas

@@ -4,7 +4,7 @@ use Rattle.std.proofs.lemmas.Bool.{or_from}
 use Rattle.std.proofs.lemmas.List.Folds.{list_any-append}
 use Rattle.thy_base.specs.declared.block.Block.{Block}
 use Rattle.thy_base.specs.Device.{Device}
-use Rattle.thy_view.specs.Kind.{KindOf}
+use Rattle.thy_view.specs.Kind.{KindOf, IsLawful}
 use Rattle.thy_text.specs.Happening.{Happening, EpochEnd, Commit, Cut, Restart, Reload, Ended}
 use Rattle.thy_text.specs.Marks.{Marks, Course, marks_from, marks_after, AllLawful}
 use Rattle.thy_text.proofs.Histories.{marks_from-append}
@@ -15,12 +15,14 @@ use Rattle.thy_view.proofs.SafeLemmas.{Safe-failed}
 use Rattle.thy_run.specs.Cuts.{is_end, has_ended, cuts_among, numbered, last_cuttable, cuts_up_to}
 use Rattle.thy_run.specs.Images.{Since, since_after, since_from, no_cuts, AllFitImages, EndsFitting, RestartsDecode}
 use Rattle.thy_run.specs.Laws.{course_of, first_marks, marks_of, Promise, RunKeepsPromise}
+use Rattle.thy_run.specs.Progress.{IsSoonOver}
 use Rattle.thy_run.specs.Unfinished.{StepFailed, ReadFailed, Ends}
 use Rattle.thy_run.specs.World.{World, seen, events_of, Steps}
 use Rattle.thy_run.proofs.CoverLaws.{Covers-sealed, Covers-part, Safe-covered}
 use Rattle.thy_run.proofs.ImageLaws.{settled_since}
 use Rattle.thy_run.proofs.ImageLemmas.{since_from-append, AllFitImages-part}
 use Rattle.thy_run.proofs.ListedLemmas.{cuts_among-append}
+use Rattle.thy_run.proofs.SoonLaws.{SoonOver-ran}
 use Rattle.thy_run.proofs.WorldLaws.{Coheres, Listed, Good, listed_going, events_uncut, Coheres-stepped, Good-ran, cycles-ran}
 
 -- ---- lists
@@ -77,7 +79,7 @@ cuts_fit cuts k w l = (
   ap length l.among ∙ length-numbered 1 (take w.passed cuts) ∙ length-taken w.passed cuts l.few,
 )
 
-module _ {M : Type 0} (K : KindOf M) (o : Origin) (cuts : List ℕ) (w : World M) (least : 1 ≤ o.geometry.epoch) (g : Good K o cuts w) where
+module _ {M : Type 0} (K : KindOf M) (o : Origin) (cuts : List ℕ) (w : World M) (least : 1 ≤ o.geometry.epoch) (g : Good K o cuts w) (soon : IsSoonOver K o cuts w.cycles) where
   done_promise : Promise K o cuts w.cycles w.events w.device
   done_promise =
       let fit = cuts_fit cuts (last_cuttable w.events w.cycles) w g.listed in
@@ -87,6 +89,7 @@ module _ {M : Type 0} (K : KindOf M) (o : Origin) (cuts : List ℕ) (w : World M
         cuts_listed = fit.0;
         images_left = g.stands.left ∙ sym fit.1;
         safe_at_return = g.stands.safe;
+        soon = soon;
       }
 
   -- the step failed: events stay, and the device is safe for what was sealed
@@ -101,6 +104,7 @@ module _ {M : Type 0} (K : KindOf M) (o : Origin) (cuts : List ℕ) (w : World M
         cuts_listed = p.cuts_listed;
         images_left = ap length left ∙ p.images_left;
         safe_at_return = Safe-covered K o m.kept m.sealed (seen K o w).done (seen K o w).sealed n (Covers-sealed o (seen K o w) m g.stands.fits) f.safe;
+        soon = soon;
       }
 
   -- of the step's events only a part was made
@@ -138,6 +142,7 @@ module _ {M : Type 0} (K : KindOf M) (o : Origin) (cuts : List ℕ) (w : World M
         cuts_listed = same_cuts ∙ fit.0 ∙ ap (λ k. numbered 1 (cuts_up_to k cuts)) (sym (ap (λ b. if b then w.cycles - 1 else w.cycles) going));
         images_left = ap length (left ∙ left_next) ∙ g.stands.left ∙ sym (ap length same_cuts ∙ fit.1);
         safe_at_return = subst (λ (x : Marks). Safe K.decode o x.kept x.sealed n) (sym marks) safe;
+        soon = soon;
       }
     where
       ends_fitting : (part : List Happening) → cuts_among part ≡ [] → EndsFitting K o w.device.left w.cycles (since_from no_cuts (w.events ++ part))
@@ -159,8 +164,10 @@ module _ {M : Type 0} (K : KindOf M) (o : Origin) (cuts : List ℕ) (w : World M
       (telling_promise t.part t.rest t.next n t.steps (t.split ∙ ap (λ (vs : List Happening). vs ++ t.rest) t.told) t.unended t.device)
 
 -- every run keeps its promise
-pub Promise-finished : {M : Type 0} (K : KindOf M) → RunKeepsPromise K
-Promise-finished K o given cycles events n origin rising f =
+pub Promise-finished : {M : Type 0} (K : KindOf M) → IsLawful K → RunKeepsPromise K
+Promise-finished K laws o given cycles events n origin rising f =
     let least : 1 ≤ o.geometry.epoch = origin.geometry.epoch_least in
     let good = Good-ran K o given cycles f.last least rising f.ran in
-    subst (λ k. Promise K o given.cuts k events n) (cycles-ran K o given cycles f.last f.ran) (ends_promise K o given.cuts f.last least good events n f.ends)
+    let same : f.last.cycles ≡ cycles = cycles-ran K o given cycles f.last f.ran in
+    let soon : IsSoonOver K o given.cuts f.last.cycles = subst (IsSoonOver K o given.cuts) (sym same) (SoonOver-ran K laws o given cycles f.last f.ran) in
+    subst (λ k. Promise K o given.cuts k events n) same (ends_promise K o given.cuts f.last least good soon events n f.ends)

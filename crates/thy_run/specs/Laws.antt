@@ -11,6 +11,7 @@ use Rattle.thy_view.specs.Origin.{Origin, at, IsOrigin}
 use Rattle.thy_view.specs.Safe.{Safe}
 use Rattle.thy_run.specs.Cuts.{cuts_among, numbered, cuts_up_to, last_cuttable}
 use Rattle.thy_run.specs.Images.{RestartsDecode}
+use Rattle.thy_run.specs.Progress.{IsSoonOver}
 use Rattle.thy_run.specs.Unfinished.{Finished}
 use Rattle.thy_run.specs.World.{Given}
 
@@ -39,13 +40,14 @@ abbrev pub released_of : Origin → List Happening → List ℕ
 released_of o events = released (console_at o) o.start.count (first_marks o) events
 
 -- What is promised of a run: its events are lawful, its restarts are what the cuts left, its cuts are the listed ones,
--- each left one image, and the device is safe for the marks that the events leave.
+-- each left one image, the device is safe for the marks that the events leave, and the run is soon over.
 pub record Promise {M : Type 0} (K : KindOf M) (o : Origin) (cuts : List ℕ) (cycles : ℕ) (events : List Happening) (n : Device) : Type 0 where
   pub events_lawful : AllLawful (course_of o) (first_marks o) events
   pub restarts_decode : RestartsDecode K o n.left cycles events
   pub cuts_listed : cuts_among events ≡ numbered 1 (cuts_up_to (last_cuttable events cycles) cuts)
   pub images_left : length n.left ≡ length (cuts_among events)
   pub safe_at_return : Safe K.decode o (marks_of o events).kept (marks_of o events).sealed n
+  pub soon : IsSoonOver K o cuts cycles
 
 -- every run keeps it
 abbrev pub RunKeepsPromise : {M : Type 0} → KindOf M → Type 0

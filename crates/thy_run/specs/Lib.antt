@@ -3,6 +3,8 @@ pub mod Cuts
 pub mod Images
 pub mod Unfinished
 pub mod Due
+pub mod Progress
+pub mod Strides
 pub mod Laws
 pub mod Sending
 pub mod Going

@@ -122,6 +122,7 @@ pub record IsFirst {M : Type 0} (K : KindOf M) (o : Origin) (given : Given) (w :
   pub found : seen K o w ≡ first_view o
   pub safe : Safe K.decode o (first_view o).done None w.device
   pub left : w.device.left ≡ []
+  pub empty : w.device.queue ≡ []
   pub mix : w.mix ≡ mix_start given.seed
   pub passed : w.passed ≡ 0
   pub cycles : w.cycles ≡ 0

@@ -1,5 +1,7 @@
-//! The law of runs, as the contract of a function that does nothing.
+//! The laws of runs, each as the contract of a function that does nothing.
 ghost use Rattle.thy_run.specs.Laws.{RunKeepsPromise};
+ghost use Rattle.thy_run.specs.Progress.{RunIsBusy, RunIsSoonOver, RunNeverRests};
+ghost use Rattle.thy_run.specs.Strides.{RunStrides};
 
 use thy_view::Computer;
 
@@ -7,4 +9,26 @@ use thy_view::Computer;
 /// the cuts are the listed ones, and the device is safe for the checkpoints that the events tell of.
 pub fn every_run_keeps_its_promise<M: Computer>()
     ensures { RunKeepsPromise M.kind }
+{}
+
+/// A run of a program that ends within k instructions has fewer cycles than the last cut, the longest boot and k times
+/// the most for an instruction come to.
+pub fn every_run_is_soon_over<M: Computer>()
+    ensures { RunIsSoonOver M.kind }
+{}
+
+/// A run has no more cycles than the instructions that it retired since power came on account for; its boot and its
+/// epoch take no more cycles than they may; and it drains queues at most as often as it does anything else.
+pub fn every_run_is_busy<M: Computer>()
+    ensures { RunIsBusy M.kind }
+{}
+
+/// No cycle of a run does nothing.
+pub fn no_cycle_of_a_run_rests<M: Computer>()
+    ensures { RunNeverRests M.kind }
+{}
+
+/// Of two epochs in a row that a run tells of, with no power cut between them, one retired an instruction.
+pub fn every_run_strides<M: Computer>()
+    ensures { RunStrides M.kind }
 {}

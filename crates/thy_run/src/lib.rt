@@ -14,6 +14,9 @@ mod tell;
 
 pub use cycles::run;
 pub use ending::{Ending, Stop};
-pub use laws::every_run_keeps_its_promise;
+pub use laws::{
+    every_run_is_busy, every_run_is_soon_over, every_run_keeps_its_promise, every_run_strides,
+    no_cycle_of_a_run_rests,
+};
 pub use plan::Plan;
 pub use tell::write_bytes;

@@ -1,0 +1,169 @@
+-- Every run is busy: what its cycles did since power came on, held against what lies ahead of the machine.
+use Rattle.std.proofs.Common.{◌≡◌, ℕ, zero, suc, ◌+◌, ◌<◌, ◌≤◌, Bool, true, false, ◌&&◌, not, nat_lt, ◌==◌, if◌then◌else◌, List, [], ◌∷◌, length, refl, sym, ◌∙◌, ap, subst, arith}
+use Rattle.std.specs.Prelude.{slice_index, MatchBool}
+use Rattle.std.proofs.lemmas.Bool.{and_parts, eqb-true, ltb-true}
+use Rattle.thy_base.specs.Device.{Device}
+use Rattle.thy_record.specs.Decoded.{Decoded, Nothing as NothingLeft, Refused as RefusedImage, At}
+use Rattle.thy_view.specs.declared.did.Did.TheVariants.{Nothing}
+use Rattle.thy_view.specs.declared.view.Phase.{Phase}
+use Rattle.thy_view.specs.declared.view.Phase.TheVariants.{Boot as BootPhase, Run, Halt}
+use Rattle.thy_view.specs.Booting.{view_of_image}
+use Rattle.thy_view.specs.CoreStep.{CoreStep}
+use Rattle.thy_view.specs.Kind.{KindOf, IsLawful, IsPoweredOn}
+use Rattle.thy_view.specs.Origin.{Origin}
+use Rattle.thy_view.specs.Pace.{is_drained}
+use Rattle.thy_view.specs.Views.{is_boot, is_halt}
+use Rattle.thy_run.specs.Progress.{last_of, cycles_for, Tally, nothing_done, one_if, counted, tally_of, RunIsBusy, RunNeverRests}
+use Rattle.thy_run.specs.World.{World, Given, seen, Steps, is_due, IsCutOff, Ran}
+use Rattle.thy_run.proofs.StepKinds.{kind_of, stays_up}
+use Rattle.thy_run.proofs.WorldLaws.{cycles-ran}
+
+-- ---- numbers
+
+-- a listed cycle is no later than the last
+listed-last_of : (cuts : List ℕ) (i : ℕ) → i < length cuts → slice_index cuts i ≤ last_of cuts
+listed-last_of [] i few = absurd (omega arith)
+listed-last_of (c ∷ cs) zero few = omega arith
+listed-last_of (c ∷ cs) (suc i) few =
+    let rest : slice_index cs i ≤ last_of cs = listed-last_of cs i (omega arith) in
+    omega (arith, rest)
+
+-- one more drain, or one more other cycle
+drains_kept : (b : Bool) (drains others old new : ℕ) → MatchBool b (new + 1 ≤ old) (new ≤ old + 1) → drains + old ≤ others
+    → drains + one_if b + new ≤ others + one_if (not b)
+drains_kept true drains others old new step kept = omega (arith, step, kept)
+drains_kept false drains others old new step kept = omega (arith, step, kept)
+
+-- one more cycle of the boot, of which fewer are left
+boots_kept : (b : Bool) (boots most old new : ℕ) → MatchBool b (new ≤ old) (new + 1 ≤ old) → boots + old ≤ most
+    → boots + one_if (true && not b) + new ≤ most
+boots_kept true boots most old new step kept = omega (arith, step, kept)
+boots_kept false boots most old new step kept = omega (arith, step, kept)
+
+-- ---- between two cycles
+
+-- what was done, and what lies ahead
+pub record Works {M : Type 0} (K : KindOf M) (o : Origin) (cuts : List ℕ) (w : World M) (t : Tally) : Type 0 where
+  pub at_moment : K.is_at o w.cycles w.machine w.device
+  pub near : w.cycles + K.ahead o w.machine w.device ≤ cycles_for K o.geometry cuts t.retired
+  pub boots : t.boots ≤ K.most_booting o.geometry
+  pub boot : (seen K o w).phase ≡ BootPhase → t.boots + (K.gauge w.machine w.device).boot_left ≤ K.most_booting o.geometry
+  pub queued : t.drains + (K.gauge w.machine w.device).queued ≤ t.others
+
+module _ {M : Type 0} (K : KindOf M) (laws : IsLawful K) (o : Origin) (cuts : List ℕ) where
+  -- so many cycles of the boot are done, and while it goes on those that are left fit in
+  abbrev IsBooting : World M → ℕ → Type 0
+  IsBooting w boots =
+      (boots ≤ K.most_booting o.geometry)
+      × ((seen K o w).phase ≡ BootPhase → boots + (K.gauge w.machine w.device).boot_left ≤ K.most_booting o.geometry)
+
+  -- power came on after a listed cycle
+  powered : (w : World M) → K.is_at o w.cycles w.machine w.device → K.powered o.geometry w.machine → w.device.queue ≡ [] → w.cycles ≤ last_of cuts
+      → Works K o cuts w nothing_done
+  powered w at_moment on empty listed =
+      let p : IsPoweredOn K o w.machine w.device = laws.powered_on o w.cycles w.machine w.device at_moment on empty in
+      record {
+        at_moment = at_moment;
+        near = omega (arith, listed, p.ahead);
+        boots = omega arith;
+        boot = λ e. omega (arith, p.boot_left);
+        queued = omega (arith, p.queued);
+      }
+
+  -- a step behind the boot is none of its cycles, and the boot does not come again
+  behind : (w next : World M) (step : Steps K o w next) (t : Tally) → Works K o cuts w t → is_boot (seen K o w).phase ≡ false → IsBooting next (t.boots + 0)
+  behind w next step t h up =
+      let kind = kind_of o (seen K o w) (seen K o next) step.r.did step.is_step.step in
+      let still : is_boot (seen K o next).phase ≡ false = stays_up o (seen K o w) (seen K o next) step.r.did kind up in
+      (omega (arith, h.boots), λ e. absurd (let boot : is_boot (seen K o next).phase ≡ true = ap is_boot e in cc))
+
+  phases : (w next : World M) (step : Steps K o w next) (t : Tally) → Works K o cuts w t → (p : Phase) → (seen K o w).phase ≡ p
+      → IsBooting next (t.boots + one_if (is_boot p && not (is_drained step.r.did)))
+  phases w next step t h BootPhase is =
+      let kept = boots_kept (is_drained step.r.did) t.boots (K.most_booting o.geometry) _ _ (step.is_step.pace.boots is) (h.boot is) in
+      (omega (arith, kept), λ e. kept)
+  phases w next step t h Run is = behind w next step t h (ap is_boot is)
+  phases w next step t h Halt is = behind w next step t h (ap is_boot is)
+
+  -- one more step
+  step_works : (w next : World M) (step : Steps K o w next) (t : Tally) → Works K o cuts w t
+      → Works K o cuts next (counted t (is_boot (seen K o w).phase) step.r.did)
+  step_works w next step t h =
+      let cycles : next.cycles ≡ w.cycles + 1 = ap (λ (y : World M). y.cycles) step.next_is in
+      let boots = phases w next step t h (seen K o w).phase refl in
+      record {
+        at_moment = subst (λ k. K.is_at o k next.machine next.device) (sym cycles) step.is_step.at_next;
+        near = omega (arith, cycles, h.near, step.is_step.nears step.going);
+        boots = boots.0;
+        boot = boots.1;
+        queued = drains_kept (is_drained step.r.did) t.drains t.others _ _ step.is_step.pace.queues h.queued;
+      }
+
+  -- a cut
+  cut_works : (x next : World M) → is_due K o cuts x ≡ true → IsCutOff K o x next → Works K o cuts next nothing_done
+  cut_works x next due cut =
+      let rest = and_parts (not (is_halt (seen K o x).phase)) _ due in
+      let listed = and_parts (nat_lt x.passed (length cuts)) (slice_index cuts x.passed == x.cycles) rest.1 in
+      let at : slice_index cuts x.passed ≡ x.cycles = eqb-true (slice_index cuts x.passed) x.cycles listed.1 in
+      let most : slice_index cuts x.passed ≤ last_of cuts = listed-last_of cuts x.passed (ltb-true x.passed (length cuts) listed.0) in
+      let cycles : next.cycles ≡ x.cycles = ap (λ (y : World M). y.cycles) cut.next_is in
+      powered next (subst (λ k. K.is_at o k next.machine next.device) (sym cycles) cut.at_moment) cut.powered
+      (ap (λ (n : Device). n.queue) cut.cut.device) (omega (arith, at, most, cycles))
+
+  by_due : (w x next : World M) (step : Steps K o w x) (t : Tally) → Works K o cuts w t → (b : Bool) → is_due K o cuts x ≡ b
+      → MatchBool b (IsCutOff K o x next) (next ≡ x) → Works K o cuts next (if b then nothing_done else counted t (is_boot (seen K o w).phase) step.r.did)
+  by_due w x next step t h true due cut = cut_works x next due cut
+  by_due w x next step t h false due is = subst (λ (y : World M). Works K o cuts y (counted t (is_boot (seen K o w).phase) step.r.did)) (sym is) (step_works w x step t h)
+
+-- so it is after any number of cycles
+pub Works-ran : {M : Type 0} (K : KindOf M) (laws : IsLawful K) (o : Origin) (given : Given) (k : ℕ) (w : World M) (ran : Ran K o given k w)
+    → Works K o given.cuts w (tally_of K o given k w ran)
+Works-ran {M = M} K laws o given zero w first =
+    powered K laws o given.cuts w (subst (λ k. K.is_at o k w.machine w.device) (sym first.cycles) first.at_moment) first.powered first.empty
+    (let none : w.cycles ≡ 0 = first.cycles in omega (arith, none))
+Works-ran {M = M} K laws o given (suc k) w (before, ran, cycle) =
+    by_due K laws o given.cuts before cycle.between w cycle.steps (tally_of K o given k before ran) (Works-ran K laws o given k before ran)
+    (is_due K o given.cuts cycle.between) refl cycle.cut
+
+-- ---- what was spent
+
+image_spent : (count : ℕ) (d : Decoded) → (view_of_image count d).spent ≡ 0
+image_spent count NothingLeft = refl
+image_spent count (RefusedImage bad) = refl
+image_spent count (At epoch state) = refl
+
+spent_by : {M : Type 0} (K : KindOf M) (o : Origin) (w x next : World M) → Steps K o w x → (b : Bool) → MatchBool b (IsCutOff K o x next) (next ≡ x)
+    → (seen K o next).spent < K.most_spent o.geometry
+spent_by {M = M} K o w x next step true cut =
+    let none : (seen K o next).spent ≡ 0 = ap (λ v. v.spent) cut.found ∙ image_spent o.start.count _ in
+    let some : (seen K o x).spent < K.most_spent o.geometry = step.is_step.pace.spent in
+    omega (arith, none, some)
+spent_by {M = M} K o w x next step false is = subst (λ (y : World M). (seen K o y).spent < K.most_spent o.geometry) (sym is) step.is_step.pace.spent
+
+spent-ran : {M : Type 0} (K : KindOf M) (o : Origin) (given : Given) (k : ℕ) (w : World M) → Ran K o given k w → 0 < k → (seen K o w).spent < K.most_spent o.geometry
+spent-ran {M = M} K o given zero w first some = absurd (omega arith)
+spent-ran {M = M} K o given (suc k) w (before, ran, cycle) some =
+    spent_by K o before cycle.between w cycle.steps (is_due K o given.cuts cycle.between) cycle.cut
+
+-- ---- the laws
+
+-- every run is busy
+pub Busy-ran : {M : Type 0} (K : KindOf M) → IsLawful K → RunIsBusy K
+Busy-ran K laws o given k w ran =
+    let h = Works-ran K laws o given k w ran in
+    let cycles : w.cycles ≡ k = cycles-ran K o given k w ran in
+    let ahead : 1 ≤ K.ahead o w.machine w.device = laws.some_ahead o w.cycles w.machine w.device h.at_moment in
+    record {
+      paced = omega (arith, h.near, cycles, ahead);
+      boots = h.boots;
+      spent = spent-ran K o given k w ran;
+      drains = omega (arith, h.queued);
+    }
+
+-- and none of its cycles rests
+pub NeverRests-ran : {M : Type 0} (K : KindOf M) → RunNeverRests K
+NeverRests-ran K o w next step is =
+    let core : CoreStep o (seen K o w) Nothing (seen K o next) = subst (λ d. CoreStep o (seen K o w) d (seen K o next)) is step.is_step.step in
+    let halted : is_halt (seen K o w).phase ≡ true = ap is_halt core.0 in
+    let going : is_halt (seen K o w).phase ≡ false = step.going in
+    cc

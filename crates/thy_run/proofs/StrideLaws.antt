@@ -1,0 +1,225 @@
+-- Every run strides: the epochs that its events tell of are those of the machine.
+use Rattle.std.proofs.Common.{◌≡◌, ℕ, zero, suc, ◌+◌, ◌<◌, ◌≤◌, ◌==◌, Bool, true, false, ◌&&◌, if◌then◌else◌, List, [], ◌∷◌, ◌++◌, refl, sym, ◌∙◌, ap, subst, inl, inr, arith}
+use Rattle.std.specs.Prelude.{MatchBool}
+use Rattle.std.proofs.lemmas.Bool.{eq-eqb, eqb-true}
+use Rattle.thy_record.specs.Decoded.{Decoded, Nothing as NothingLeft, Refused as RefusedImage, At}
+use Rattle.thy_base.specs.Device.{Device}
+use Rattle.thy_text.specs.Happening.{Happening, Cut, Reload, Ended}
+use Rattle.thy_view.specs.declared.did.Did.{Did}
+use Rattle.thy_view.specs.declared.view.View.{View}
+use Rattle.thy_view.specs.Booting.{view_of_image}
+use Rattle.thy_view.specs.Kind.{KindOf}
+use Rattle.thy_view.specs.Origin.{Origin, at}
+use Rattle.thy_view.specs.Pace.{Strides as KeepsIdle}
+use Rattle.thy_view.specs.Views.{is_boot, loads as is_loading, halts}
+use Rattle.thy_run.specs.Strides.{Epoch, first_epoch, epoch_after, AllStride, RunStrides}
+use Rattle.thy_run.specs.Unfinished.{Ends}
+use Rattle.thy_run.specs.World.{World, Given, seen, told, reload_told, end_told, events_of, Steps, is_due, IsCutOff, Ran}
+use Rattle.thy_run.proofs.StepKinds.{Kind, keeps, loads, restores, advances, seals, commits, kind_of}
+
+-- ---- epochs and events
+
+abbrev epoch_from : ℕ → Epoch → List Happening → Epoch
+epoch_from start e [] = e
+epoch_from start e (v ∷ vs) = epoch_from start (epoch_after start e v) vs
+
+epoch_from-append : (start : ℕ) (e : Epoch) (vs ws : List Happening) → epoch_from start e (vs ++ ws) ≡ epoch_from start (epoch_from start e vs) ws
+epoch_from-append start e [] ws = refl
+epoch_from-append start e (v ∷ vs) ws = epoch_from-append start (epoch_after start e v) vs ws
+
+AllStride-append : (start : ℕ) (e : Epoch) (vs ws : List Happening) → AllStride start e vs → AllStride start (epoch_from start e vs) ws → AllStride start e (vs ++ ws)
+AllStride-append start e [] ws all more = more
+AllStride-append start e (v ∷ vs) ws all more = (all.0, AllStride-append start (epoch_after start e v) vs ws all.1 more)
+
+AllStride-part : (start : ℕ) (e : Epoch) (vs ws : List Happening) → AllStride start e (vs ++ ws) → AllStride start e vs
+AllStride-part start e [] ws all = tt
+AllStride-part start e (v ∷ vs) ws all = (all.0, AllStride-part start (epoch_after start e v) vs ws all.1)
+
+-- events that stride, and the epoch that they leave
+abbrev Leaves : ℕ → Epoch → List Happening → Epoch → Type 0
+Leaves start e vs after = AllStride start e vs × (epoch_from start e vs ≡ after)
+
+leaves_append : (start : ℕ) (e f g : Epoch) (vs ws : List Happening) → Leaves start e vs f → Leaves start f ws g → Leaves start e (vs ++ ws) g
+leaves_append start e f g vs ws a b = (
+  AllStride-append start e vs ws a.0 (subst (λ x. AllStride start x ws) (sym a.1) b.0),
+  epoch_from-append start e vs ws ∙ ap (λ x. epoch_from start x ws) a.1 ∙ b.1,
+)
+
+leaves_reload : (start : ℕ) (e : Epoch) (b : Bool) → Leaves start e (if b then Reload ∷ [] else []) e
+leaves_reload start e true = ((tt, tt), refl)
+leaves_reload start e false = (tt, refl)
+
+leaves_end : (o : Origin) (start : ℕ) (e : Epoch) (next : View) (cycle : ℕ) (b : Bool)
+    → Leaves start e (if b then Ended (at o next.count).status next.count cycle (at o next.count) ∷ [] else []) e
+leaves_end o start e next cycle true = ((tt, tt), refl)
+leaves_end o start e next cycle false = (tt, refl)
+
+-- all the events of a cycle leave what that of its deed leaves
+leaves_all : (o : Origin) (start : ℕ) (e f : Epoch) (fresh : Bool) (v : View) (did : Did) (next : View) (cycle : ℕ) → Leaves start e (told o did cycle) f
+    → Leaves start e (events_of o fresh v did next cycle) f
+leaves_all o start e f fresh v did next cycle l =
+    leaves_append start e f f (reload_told fresh next ++ told o did cycle) (end_told o v next cycle)
+    (leaves_append start e e f (reload_told fresh next) (told o did cycle) (leaves_reload start e (fresh && is_loading next)) l)
+    (leaves_end o start f next cycle (halts v next))
+
+-- ---- between two cycles
+
+-- The epoch that events tell of is the one that a view has. Where they say that the one before it was idle, the machine
+-- knows it.
+pub record Tells (o : Origin) (e : Epoch) (v : View) (known : Bool) : Type 0 where
+  pub idle : e.idle ≡ true → known ≡ true
+  pub boot : is_boot v.phase ≡ true → (v.retired ≡ 0) × (e.began ≡ o.start.count)
+  pub up : is_boot v.phase ≡ false → e.began + v.retired ≡ v.count
+
+-- what a step leaves
+record TellsOn (o : Origin) (e : Epoch) (next : View) (did : Did) (cycle : ℕ) (known : Bool) : Type 0 where
+  after : Epoch
+  leaves : Leaves o.start.count e (told o did cycle) after
+  tells : Tells o after next known
+
+not_both : {A : Type 0} (b : Bool) → b ≡ true → b ≡ false → A
+not_both b e f = absurd (cc)
+
+-- events that say nothing of epochs
+tells_same : (o : Origin) (e : Epoch) (next : View) (did : Did) (cycle : ℕ) (known : Bool) → Leaves o.start.count e (told o did cycle) e → Tells o e next known
+    → TellsOn o e next did cycle known
+tells_same o e next did cycle known l t = record { after = e; leaves = l; tells = t }
+
+tells_step : (o : Origin) (e : Epoch) (v next : View) (did : Did) (cycle : ℕ) (old new : Bool) → Kind o v next did → KeepsIdle did v.retired old new → Tells o e v old
+    → TellsOn o e next did cycle new
+tells_step o e v next did cycle old new (keeps k) step h =
+    let same : new ≡ old = k.idle v.retired old new step in
+    tells_same o e next did cycle new (subst (λ (l : List Happening). Leaves o.start.count e l e) (sym (k.nothing_told cycle)) (tt, refl))
+    (record {
+      idle = λ i. same ∙ h.idle i;
+      boot = λ b. let here = h.boot (ap is_boot (sym k.phase) ∙ b) in (k.retired ∙ here.0, here.1);
+      up = λ b. let here = h.up (ap is_boot (sym k.phase) ∙ b) in omega (arith, here, k.retired, k.count);
+    })
+tells_step o e v next did cycle old new (loads k) step h =
+    let here = h.boot (ap is_boot k.boot) in
+    let same : new ≡ old = subst (λ d. KeepsIdle d v.retired old new) k.did_is step in
+    tells_same o e next did cycle new (subst (λ d. Leaves o.start.count e (told o d cycle) e) (sym k.did_is) ((tt, tt), refl))
+    (record {
+      idle = λ i. same ∙ h.idle i;
+      boot = λ b. not_both _ b k.up;
+      up = λ b. omega (arith, here.0, here.1, k.retired, k.count);
+    })
+tells_step o e v next did cycle old new (restores k) step h =
+    record {
+      after = first_epoch k.to;
+      leaves = subst (λ d. Leaves o.start.count e (told o d cycle) (first_epoch k.to)) (sym k.did_is) ((tt, tt), refl);
+      tells = record {
+        idle = λ i. absurd (cc);
+        boot = λ b. not_both _ b k.up;
+        up = λ b. omega (arith, k.retired, k.count);
+      };
+    }
+tells_step o e v next did cycle old new (advances k) step h =
+    let here = h.up (ap is_boot k.runs) in
+    let same : new ≡ old = subst (λ d. KeepsIdle d v.retired old new) k.did_is step in
+    tells_same o e next did cycle new (subst (λ d. Leaves o.start.count e (told o d cycle) e) (sym k.did_is) (tt, refl))
+    (record {
+      idle = λ i. same ∙ h.idle i;
+      boot = λ b. not_both _ b k.up;
+      up = λ b. omega (arith, here, k.retired, k.count);
+    })
+tells_step o e v next did cycle old new (seals k) step h =
+    let here = h.up (ap is_boot k.runs) in
+    let known : (old ≡ true → 1 ≤ v.retired) × (new ≡ (v.retired == 0)) = subst (λ d. KeepsIdle d v.retired old new) k.did_is step in
+    let after : Epoch = record { began = v.count; idle = v.count == e.began } in
+    let strides : e.idle ≡ true → e.began < v.count = λ i. (let some : 1 ≤ v.retired = known.0 (h.idle i) in omega (arith, some, here)) in
+    record {
+      after = after;
+      leaves = subst (λ d. Leaves o.start.count e (told o d cycle) after) (sym k.did_is) ((strides, tt), refl);
+      tells = record {
+        idle = λ i.
+            let same : v.count ≡ e.began = eqb-true v.count e.began i in
+            known.1 ∙ eq-eqb v.retired 0 (omega (arith, same, here));
+        boot = λ b. not_both _ b k.up;
+        up = λ b. omega (arith, k.retired, k.count);
+      };
+    }
+tells_step o e v next did cycle old new (commits k) step h =
+    let here = h.up (ap is_boot k.runs) in
+    let same : new ≡ old = subst (λ d. KeepsIdle d v.retired old new) k.did_is step in
+    tells_same o e next did cycle new (subst (λ d. Leaves o.start.count e (told o d cycle) e) (sym k.did_is) ((tt, tt), refl))
+    (record {
+      idle = λ i. same ∙ h.idle i;
+      boot = λ b. not_both _ b k.up;
+      up = λ b. omega (arith, here, k.retired, k.count);
+    })
+
+-- a boot
+tells_boot : (o : Origin) (v : View) (known : Bool) → is_boot v.phase ≡ true → v.retired ≡ 0 → Tells o (first_epoch o.start.count) v known
+tells_boot o v known boot none = record { idle = λ i. absurd (cc); boot = λ b. (none, refl); up = λ b. not_both _ boot b }
+
+image_boot : (count : ℕ) (d : Decoded) → (is_boot (view_of_image count d).phase ≡ true) × ((view_of_image count d).retired ≡ 0)
+image_boot count NothingLeft = (refl, refl)
+image_boot count (RefusedImage bad) = (refl, refl)
+image_boot count (At epoch state) = (refl, refl)
+
+-- ---- runs
+
+-- the events of a run so far stride, and the machine is in the epoch that they tell of
+pub record Strode {M : Type 0} (K : KindOf M) (o : Origin) (w : World M) : Type 0 where
+  pub all : AllStride o.start.count (first_epoch o.start.count) w.events
+  pub tells : Tells o (epoch_from o.start.count (first_epoch o.start.count) w.events) (seen K o w) (K.gauge w.machine w.device).idle
+
+module _ {M : Type 0} (K : KindOf M) (o : Origin) where
+  abbrev first : Epoch
+  first = first_epoch o.start.count
+
+  -- one more step
+  pub strode_step : (w x : World M) → Steps K o w x → Strode K o w → Strode K o x
+  strode_step w x step h =
+      let v : View = seen K o w in
+      let next : View = seen K o x in
+      let did : Did = step.r.did in
+      let e : Epoch = epoch_from o.start.count first w.events in
+      let es : List Happening = events_of o w.fresh v did next (w.cycles + 1) in
+      let on : TellsOn o e next did (w.cycles + 1) (K.gauge x.machine x.device).idle =
+      tells_step o e v next did (w.cycles + 1) _ _ (kind_of o v next did step.is_step.step) step.is_step.pace.strides h.tells in
+      let l : Leaves o.start.count e es on.after = leaves_all o o.start.count e on.after w.fresh v did next (w.cycles + 1) on.leaves in
+      let all : AllStride o.start.count first (w.events ++ es) = AllStride-append o.start.count first w.events es h.all l.0 in
+      let here : epoch_from o.start.count first (w.events ++ es) ≡ on.after = epoch_from-append o.start.count first w.events es ∙ l.1 in
+      let told : x.events ≡ w.events ++ es = ap (λ (y : World M). y.events) step.next_is in
+      record {
+        all = subst (AllStride o.start.count first) (sym told) all;
+        tells = subst (λ t. Tells o t next (K.gauge x.machine x.device).idle) (sym (ap (epoch_from o.start.count first) told ∙ here)) on.tells;
+      }
+
+  -- a cut
+  strode_cut : (x next : World M) → IsCutOff K o x next → Strode K o x → Strode K o next
+  strode_cut x next cut h =
+      let es : List Happening = Cut (x.passed + 1) x.cycles ∷ [] in
+      let told : next.events ≡ x.events ++ es = ap (λ (y : World M). y.events) cut.next_is in
+      let here : epoch_from o.start.count first (x.events ++ es) ≡ first = epoch_from-append o.start.count first x.events es in
+      let boot = image_boot o.start.count _ in
+      record {
+        all = subst (AllStride o.start.count first) (sym told) (AllStride-append o.start.count first x.events es h.all (tt, tt));
+        tells = subst (λ e. Tells o e (seen K o next) (K.gauge next.machine next.device).idle) (sym (ap (epoch_from o.start.count first) told ∙ here))
+            (tells_boot o (seen K o next) _ (ap (λ v. is_boot v.phase) cut.found ∙ boot.0) (ap (λ v. v.retired) cut.found ∙ boot.1));
+      }
+
+  by_due : (w x next : World M) → Steps K o w x → Strode K o w → (b : Bool) → MatchBool b (IsCutOff K o x next) (next ≡ x) → Strode K o next
+  by_due w x next step h true cut = strode_cut x next cut (strode_step w x step h)
+  by_due w x next step h false is = subst (Strode K o) (sym is) (strode_step w x step h)
+
+  strode_ran : (given : Given) (k : ℕ) (w : World M) → Ran K o given k w → Strode K o w
+  strode_ran given zero w start = record {
+    all = subst (AllStride o.start.count first) (sym start.events) tt;
+    tells = subst (λ e. Tells o e (seen K o w) (K.gauge w.machine w.device).idle) (sym (ap (epoch_from o.start.count first) start.events))
+        (tells_boot o (seen K o w) _ (ap (λ v. is_boot v.phase) start.loading) (ap (λ v. v.retired) start.loading));
+  }
+  strode_ran given (suc k) w (before, ran, cycle) =
+      by_due before cycle.between w cycle.steps (strode_ran given k before ran) (is_due K o given.cuts cycle.between) cycle.cut
+
+  strode_ends : (w : World M) (events : List Happening) (n : Device) → Strode K o w → Ends K o w events n → AllStride o.start.count first events
+  strode_ends w events n h (inl (same, device)) = subst (AllStride o.start.count first) (sym same) h.all
+  strode_ends w events n h (inr (inl f)) = subst (AllStride o.start.count first) (sym f.nothing_told) h.all
+  strode_ends w events n h (inr (inr t)) =
+      AllStride-part o.start.count first events t.rest (subst (AllStride o.start.count first) t.split (strode_step w t.next t.steps h).all)
+
+-- every run strides
+pub Strides-finished : {M : Type 0} (K : KindOf M) → RunStrides K
+Strides-finished K o given cycles events n f = strode_ends K o f.last events n (strode_ran K o given cycles f.last f.ran) f.ends
