@@ -4,7 +4,7 @@ use Rattle.thy_base.specs.declared.block.Block.{Block}
 use Rattle.thy_record.specs.declared.engine_step.EngineStep.{EngineStep}
 use Rattle.thy_record.specs.declared.engine_step.EngineStep.TheVariants.{Barrier as EngineBarrier, CommitWritten}
 use Rattle.thy_view.specs.declared.did.Did.{Did}
-use Rattle.thy_view.specs.declared.did.Did.TheVariants.{Boot, Loaded, Retired, Merged, Sealed, Engine, Committed, NvmDrained, DramDrained, Nothing}
+use Rattle.thy_view.specs.declared.did.Did.TheVariants.{Boot, Loaded, Restarted, Refused, Retired, Merged, Sealed, Engine, Committed, NvmDrained, DramDrained, Nothing}
 use Rattle.thy_base.specs.Device.{Device, written_to, settled, drained, HasFailed, HasFailedToWrite}
 
 pub data Action : Type 0 where
@@ -37,6 +37,12 @@ IsAccess Barrier = ⊥
 IsAccess Drain = ⊥
 IsAccess action = Unit {0}
 
+-- it leaves the device as it is, or reads it
+abbrev pub IsRead : Action → Type 0
+IsRead Rest = Unit {0}
+IsRead (ReadAt place) = Unit {0}
+IsRead action = ⊥
+
 -- it lets none land but by a barrier
 abbrev pub IsBootAction : Action → Type 0
 IsBootAction Drain = ⊥
@@ -64,6 +70,8 @@ Asks (Sealed epoch count cause) action = action ≡ Rest
 Asks DramDrained action = action ≡ Rest
 Asks Nothing action = action ≡ Rest
 Asks Boot action = IsBootAction action
+Asks (Restarted epoch count) action = IsRead action
+Asks (Refused bad) action = IsRead action
 Asks did action = IsAccess action
 
 -- a cycle that did this acted on the device once
