@@ -1,5 +1,5 @@
 -- What a cycle asks of the device, and what that leaves.
-use Rattle.std.specs.Prelude.{◌≡◌, ℕ, Bool, true, false}
+use Rattle.std.specs.Prelude.{◌≡◌, ◌≢◌, ℕ, Bool, true, false}
 use Rattle.thy_base.specs.declared.block.Block.{Block}
 use Rattle.thy_record.specs.declared.engine_step.EngineStep.{EngineStep}
 use Rattle.thy_record.specs.declared.engine_step.EngineStep.TheVariants.{Barrier as EngineBarrier, CommitWritten}
@@ -31,10 +31,11 @@ FailsTo (WriteAt place block) old new = HasFailedToWrite place block old new
 FailsTo Barrier old new = HasFailed old new
 FailsTo Drain old new = HasFailed old new
 
--- it neither lets writes land nor waits for them
+-- it neither lets writes land nor waits for them, and leaves the commit block alone
 abbrev pub IsAccess : Action → Type 0
 IsAccess Barrier = ⊥
 IsAccess Drain = ⊥
+IsAccess (WriteAt place block) = place ≢ 1
 IsAccess action = Unit {0}
 
 -- it leaves the device as it is, or reads it
