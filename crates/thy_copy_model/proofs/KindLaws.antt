@@ -60,6 +60,7 @@ lawful = record {
   recovers = IsAt-cut;
   powered_on = powered-ahead;
   some_ahead = λ o k m n at. omega arith;
+  counts_queues = λ m n. omega arith;
   short_of = λ m n. short-stage m.stage;
   is_safe = Safe-at;
 }

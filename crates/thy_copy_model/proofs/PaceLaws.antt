@@ -160,7 +160,7 @@ module _ (m : Parts) where
   unfolding writes
   issued memory cpu epoch (Memory i) l = record {
     loads = tt;
-    checkpoints = tt;
+    checkpoints = omega arith;
     once = if_less (λ (x : Issue). issues_left 1 m.geometry x + 1 ≤ issues_left 1 m.geometry (Memory i)) (i + 1) (memory_blocks m.geometry) (Memory (i + 1)) (RecordIssue 0)
         (λ less. omega arith) (λ all. omega (arith, l));
     twice = if_less (λ (x : Issue). issues_left 2 m.geometry x + 1 + 1 ≤ issues_left 2 m.geometry (Memory i)) (i + 1) (memory_blocks m.geometry) (Memory (i + 1)) (RecordIssue 0)
@@ -170,13 +170,13 @@ module _ (m : Parts) where
       let last : Issue = if epoch == 0 then HeaderIssue else Settle in
       record {
         loads = tt;
-        checkpoints = tt;
+        checkpoints = omega arith;
         once = if_less (λ (x : Issue). issues_left 1 m.geometry x + 1 ≤ issues_left 1 m.geometry (RecordIssue k)) k 4 (RecordIssue (k + 1)) last (λ less. omega arith)
             (λ all. if_equal (λ (x : Issue). issues_left 1 m.geometry x + 1 ≤ issues_left 1 m.geometry (RecordIssue k)) epoch 0 HeaderIssue Settle (λ e. omega arith) (λ e. omega (arith, l)));
         twice = if_less (λ (x : Issue). issues_left 2 m.geometry x + 1 + 1 ≤ issues_left 2 m.geometry (RecordIssue k)) k 4 (RecordIssue (k + 1)) last (λ less. omega arith)
             (λ all. if_equal (λ (x : Issue). issues_left 2 m.geometry x + 1 + 1 ≤ issues_left 2 m.geometry (RecordIssue k)) epoch 0 HeaderIssue Settle (λ e. omega (arith, l)) (λ e. omega (arith, l)));
       }
-  issued memory cpu epoch HeaderIssue l = record { loads = tt; checkpoints = tt; once = omega arith; twice = omega arith }
+  issued memory cpu epoch HeaderIssue l = record { loads = tt; checkpoints = omega arith; once = omega arith; twice = omega arith }
   issued memory cpu epoch Settle l = record { loads = tt; checkpoints = refl; once = omega arith; twice = omega arith }
   issued memory cpu epoch Commit l = record { loads = tt; checkpoints = (commit_of epoch, refl); once = omega arith; twice = omega arith }
   issued memory cpu epoch Finish l = record { loads = refl; checkpoints = refl; once = omega arith; twice = omega arith }

@@ -1,10 +1,10 @@
 -- What a cycle asks of the device, and what that leaves.
-use Rattle.std.specs.Prelude.{◌≡◌, ℕ, Bool, true, false}
+use Rattle.std.specs.Prelude.{◌≡◌, ◌≢◌, ℕ, Bool, true, false}
 use Rattle.thy_base.specs.declared.block.Block.{Block}
 use Rattle.thy_record.specs.declared.engine_step.EngineStep.{EngineStep}
 use Rattle.thy_record.specs.declared.engine_step.EngineStep.TheVariants.{Barrier as EngineBarrier, CommitWritten}
 use Rattle.thy_view.specs.declared.did.Did.{Did}
-use Rattle.thy_view.specs.declared.did.Did.TheVariants.{Boot, Loaded, Retired, Merged, Sealed, Engine, Committed, NvmDrained, DramDrained, Nothing}
+use Rattle.thy_view.specs.declared.did.Did.TheVariants.{Boot, Loaded, Restarted, Refused, Retired, Merged, Sealed, Engine, Committed, NvmDrained, DramDrained, Nothing}
 use Rattle.thy_base.specs.Device.{Device, written_to, settled, drained, HasFailed, HasFailedToWrite}
 
 pub data Action : Type 0 where
@@ -31,11 +31,18 @@ FailsTo (WriteAt place block) old new = HasFailedToWrite place block old new
 FailsTo Barrier old new = HasFailed old new
 FailsTo Drain old new = HasFailed old new
 
--- it neither lets writes land nor waits for them
+-- it neither lets writes land nor waits for them, and leaves the commit block alone
 abbrev pub IsAccess : Action → Type 0
 IsAccess Barrier = ⊥
 IsAccess Drain = ⊥
+IsAccess (WriteAt place block) = place ≢ 1
 IsAccess action = Unit {0}
+
+-- it leaves the device as it is, or reads it
+abbrev pub IsRead : Action → Type 0
+IsRead Rest = Unit {0}
+IsRead (ReadAt place) = Unit {0}
+IsRead action = ⊥
 
 -- it lets none land but by a barrier
 abbrev pub IsBootAction : Action → Type 0
@@ -64,6 +71,8 @@ Asks (Sealed epoch count cause) action = action ≡ Rest
 Asks DramDrained action = action ≡ Rest
 Asks Nothing action = action ≡ Rest
 Asks Boot action = IsBootAction action
+Asks (Restarted epoch count) action = IsRead action
+Asks (Refused bad) action = IsRead action
 Asks did action = IsAccess action
 
 -- a cycle that did this acted on the device once

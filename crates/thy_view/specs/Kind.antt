@@ -143,6 +143,8 @@ pub record IsLawful {M : Type 0} (K : KindOf M) : Type 0 where
       → K.is_at o k m n → K.powered o.geometry m → n.queue ≡ [] → IsPoweredOn K o m n
   -- something lies ahead at every moment
   pub some_ahead : (o : Origin) (k : ℕ) (m : M) (n : Device) → K.is_at o k m n → 1 ≤ K.ahead o m n
+  -- the gauge counts what is queued in the NVM and in the DRAM
+  pub counts_queues : (m : M) (n : Device) → (K.gauge m n).queued ≡ length n.queue + (K.pressure m).dram
   -- an instruction that is short of entries is short of those that the gauge tells
   pub short_of : (m : M) (n : Device) (s : Shortage)
       → (K.pressure m).short ≡ Some s → (s.free ≡ (K.gauge m n).free) × (s.dirty ≡ (K.gauge m n).dirty)
