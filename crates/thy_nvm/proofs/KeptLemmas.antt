@@ -1,10 +1,9 @@
 -- Images of one size, one after another.
-use Rattle.std.proofs.Common.{◌≡◌, ℕ, ◌+◌, ◌*◌, ◌<◌, ◌≤◌, zero, suc, List, [], ◌∷◌, ◌++◌, length, take, drop, slice_index_or, Option, refl, sym, ◌∙◌, ap, subst, arith}
+use Rattle.std.proofs.Common.{◌≡◌, ℕ, ◌+◌, ◌*◌, ◌<◌, ◌≤◌, zero, suc, List, [], ◌∷◌, ◌++◌, length, take, drop, slice_index_or, refl, sym, ◌∙◌, ap, subst, arith}
 use Rattle.std.proofs.lemmas.List.{length-drop, nil_from_length, take-append-le, drop-append-le, take_all, get_or-take, get_or-drop}
 use Rattle.thy_base.specs.declared.block.Block.{Block}
-use Rattle.circular_buffer.specs.Buffer.{Buffer}
-use Rattle.thy_base.specs.declared.nvm.Write.{Write}
 use Rattle.thy_base.specs.Device.{Device, zero_block, block_at}
+use Rattle.thy_ring.specs.Held.{Held}
 use Rattle.thy_nvm.specs.Memory.{images_of, device_in}
 
 pub length-images_of : (size count : ℕ) (blocks : List Block) → length (images_of size count blocks) ≡ count
@@ -43,12 +42,12 @@ pub within_images : (size count i at : ℕ) → i < count → at < size → i * 
 within_images size count i at il al = grind arith
 
 -- a block of a kept image of the device that lies in these parts
-pub block_at-kept : (image : List Block) (queue : Option (Buffer Write)) (kept : List Block) (count room : ℕ) (d : Device) (i at : ℕ)
-    → device_in image queue kept count room ≡ d → length kept ≡ count * length image → i < length d.left → at < length d.image
-    → (i * length image + at < length kept) × (block_at kept (i * length image + at) ≡ block_at (slice_index_or d.left i []) at)
-block_at-kept image queue kept count room d i at e whole il al =
-    let image_in : i < count = omega (arith, ap (λ n. length n.left) e, length-images_of (length image) count kept) in
-    let place_in : at < length image = omega (arith, ap (λ n. length n.image) e) in (
-      omega (arith, within_images (length image) count i at image_in place_in),
-      sym (block_at-images_of (length image) count kept i at image_in place_in) ∙ ap (λ n. block_at (slice_index_or n.left i []) at) e,
+pub block_at-kept : (held : Held) (kept : List Block) (count room : ℕ) (d : Device) (i at : ℕ)
+    → device_in held kept count room ≡ d → length kept ≡ count * length held.image → i < length d.left → at < length d.image
+    → (i * length held.image + at < length kept) × (block_at kept (i * length held.image + at) ≡ block_at (slice_index_or d.left i []) at)
+block_at-kept held kept count room d i at e whole il al =
+    let image_in : i < count = omega (arith, ap (λ n. length n.left) e, length-images_of (length held.image) count kept) in
+    let place_in : at < length held.image = omega (arith, ap (λ n. length n.image) e) in (
+      omega (arith, within_images (length held.image) count i at image_in place_in),
+      sym (block_at-images_of (length held.image) count kept i at image_in place_in) ∙ ap (λ n. block_at (slice_index_or n.left i []) at) e,
     )

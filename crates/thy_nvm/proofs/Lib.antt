@@ -1,3 +1,4 @@
+pub mod BarrierLemmas
 pub mod CutLemmas
 pub mod KeptLemmas
 pub mod PickLemmas

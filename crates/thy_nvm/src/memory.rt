@@ -4,17 +4,16 @@ ghost use Rattle.thy_base.specs.Device.{Device, zero_block, newest, block_at, wr
 ghost use Rattle.thy_nvm.specs.Memory.{fresh_device};
 ghost use Rattle.thy_nvm.specs.Pick.{picked};
 
-use crate::fitted::{apply_all_in, apply_oldest_in, leave_in, len_of, newest_in, push_in};
-use circular_buffer::HeapCircularBuffer;
+use crate::pick::leave;
 use std::alloc::{AllocError, Global};
 use std::marker::Model;
-use thy_base::{Block, FitError, Nvm, NvmError, Shape, Write};
+use thy_base::{Block, FitError, Nvm, NvmError, Shape};
+use thy_ring::Ring;
 
 /// A non-volatile memory that never fails. It is empty until it is fitted.
 #[derive(Drop)]
 pub struct MemNvm {
-    image: Vec<Block>,
-    queue: Option<HeapCircularBuffer<Write>>,
+    ring: Ring,
     // The kept images, one after another.
     kept: Vec<Block>,
     count: u64,
@@ -28,9 +27,9 @@ impl Model for MemNvm {
 
     ghost Value = { Device };
 
-    ghost view = { λ m. device_in m.image.items m.queue m.kept.items m.count m.room };
+    ghost view = { λ m. device_in m.ring m.kept.items m.count m.room };
 
-    ghost invariant = { λ m. IsSound m.image.items m.queue m.kept.items m.count m.room (vec_capacity m.kept) };
+    ghost invariant = { λ m. IsSound m.ring m.kept.items m.count m.room (vec_capacity m.kept) };
 }
 
 impl MemNvm {
@@ -39,25 +38,12 @@ impl MemNvm {
         ensures { result ≡ fresh_device }
     {
         MemNvm {
-            image: Vec::new(alloc),
-            queue: None,
+            ring: Ring::new(alloc),
             kept: Vec::new(alloc),
             count: 0,
             room: 0,
         }
     }
-}
-
-/// The blocks of a start and then zeros.
-#[tactic(auto, unfolding(thy_base::specs::Device::zero_block))]
-fn fresh_image(alloc: Global, blocks: usize, start: &[Block]) -> Result<Vec<Block>, AllocError>
-    requires { length start.now ≤ blocks }
-    ensures { IfOk result (λ v. v.items ≡ start.now ++ replicate (blocks - length start.now) zero_block) }
-{
-    let mut image = Vec::with_capacity(alloc, blocks)?;
-    image.extend_from_slice(start)?;
-    image.resize(blocks, Block::ZERO)?;
-    Ok(image)
 }
 
 /// Space for kept images.
@@ -80,12 +66,10 @@ fn fresh(alloc: Global, shape: &Shape, start: &[Block]) -> Result<MemNvm, AllocE
     let Some(room) = shape.cuts.checked_add(1) else {
         return Err(AllocError);
     };
-    let image = fresh_image(alloc, shape.blocks as usize, start)?;
+    let ring = Ring::with_blocks(alloc, shape.blocks, shape.queue, start)?;
     let kept = fresh_space(alloc, shape.blocks, room)?;
-    let queue = HeapCircularBuffer::with_capacity(alloc, shape.queue as usize)?;
     Ok(MemNvm {
-        image,
-        queue: Some(queue),
+        ring,
         kept,
         count: 0,
         room,
@@ -124,30 +108,25 @@ impl Nvm for MemNvm {
     }
 
     fn queued(&self) -> u64 {
-        len_of(&self.queue) as u64
+        self.ring.queued()
     }
 
     fn read(&mut self, at: u64) -> Result<Block, NvmError> {
-        let standing = self.image[at as usize];
-        Ok(newest_in(&self.queue, at, standing))
+        Ok(self.ring.read(at))
     }
 
     fn write(&mut self, at: u64, block: &Block) -> Result<(), NvmError> {
-        push_in(
-            &mut self.image,
-            &mut self.queue,
-            Write { at, block: *block },
-        );
+        self.ring.write(at, block);
         Ok(())
     }
 
     fn drain(&mut self) -> Result<(), NvmError> {
-        apply_oldest_in(&mut self.image, &mut self.queue);
+        self.ring.drain();
         Ok(())
     }
 
     fn barrier(&mut self) -> Result<(), NvmError> {
-        apply_all_in(&mut self.image, &mut self.queue);
+        self.ring.settle();
         Ok(())
     }
 
@@ -157,12 +136,12 @@ impl Nvm for MemNvm {
         ensures image { self.new ≡ cut_to self.old (picked pick self.old.image self.old.queue) }
     {
         let _room = self.room;
-        leave_in(&mut self.image, &mut self.queue, pick);
-        keep(&mut self.kept, &self.image);
+        leave(&mut self.ring, pick);
+        keep(&mut self.kept, self.ring.image());
         self.count += 1;
     }
 
     fn kept(&self, i: u64, at: u64) -> Block {
-        kept_block(&self.kept, self.image.len(), i as usize, at as usize)
+        kept_block(&self.kept, self.ring.image().len(), i as usize, at as usize)
     }
 }

@@ -4,13 +4,13 @@ use Rattle.thy_nvm.proofs.memory.MemNvmNvm.kept.Goals as goal
 
 pub kept_block-requires : goal.kept_block-requires
 kept_block-requires c =
-    rw (c.len.ensures ∙ c.self.inside.image.ok.0, c.deref.ensures.value)
-    (block_at-kept c.self.inside.image.items c.self.inside.queue c.self.inside.kept.items c.self.inside.count c.self.inside.room
+    rw (c.image.ensures, c.deref.ensures.value)
+    (block_at-kept c.self.inside.ring c.self.inside.kept.items c.self.inside.count c.self.inside.room
     c.args.self.now c.args.i c.args.at c.self.view_is c.self.invariant.kept_length c.requires.image c.requires.place).0
 
 pub returns : goal.returns
 returns c =
     c.kept_block.ensures
-    ∙ rw (c.len.ensures ∙ c.self.inside.image.ok.0, c.deref.ensures.value)
-    (block_at-kept c.self.inside.image.items c.self.inside.queue c.self.inside.kept.items c.self.inside.count c.self.inside.room
+    ∙ rw (c.image.ensures, c.deref.ensures.value)
+    (block_at-kept c.self.inside.ring c.self.inside.kept.items c.self.inside.count c.self.inside.room
     c.args.self.now c.args.i c.args.at c.self.view_is c.self.invariant.kept_length c.requires.image c.requires.place).1
