@@ -4,7 +4,7 @@ use Rattle.std.proofs.lemmas.List.{length-drop, nil_from_length, take-append-le,
 use Rattle.thy_base.specs.declared.block.Block.{Block}
 use Rattle.thy_base.specs.Device.{Device, zero_block, block_at}
 use Rattle.thy_ring.specs.Held.{Held}
-use Rattle.thy_nvm.specs.Memory.{images_of, device_in}
+use Rattle.thy_nvm.specs.Memory.{Kept, images_of, device_in}
 
 pub length-images_of : (size count : ℕ) (blocks : List Block) → length (images_of size count blocks) ≡ count
 length-images_of size zero blocks = refl
@@ -42,12 +42,14 @@ pub within_images : (size count i at : ℕ) → i < count → at < size → i * 
 within_images size count i at il al = grind arith
 
 -- a block of a kept image of the device that lies in these parts
-pub block_at-kept : (held : Held) (kept : List Block) (count room : ℕ) (d : Device) (i at : ℕ)
-    → device_in held kept count room ≡ d → length kept ≡ count * length held.image → i < length d.left → at < length d.image
-    → (i * length held.image + at < length kept) × (block_at kept (i * length held.image + at) ≡ block_at (slice_index_or d.left i []) at)
-block_at-kept held kept count room d i at e whole il al =
-    let image_in : i < count = omega (arith, ap (λ n. length n.left) e, length-images_of (length held.image) count kept) in
+pub block_at-kept : (held : Held) (kept : Kept) (fits : ℕ) (d : Device) (i at : ℕ)
+    → device_in held kept fits ≡ d → length kept.blocks ≡ length kept.picks * length held.image → i < length d.left → at < length d.image
+    → (i * length held.image + at < length kept.blocks) × (block_at kept.blocks (i * length held.image + at) ≡ block_at (slice_index_or d.left i []) at)
+block_at-kept held kept fits d i at e whole il al =
+    let image_in : i < length kept.picks
+    = omega (arith, ap (λ n. length n.left) e, length-images_of (length held.image) (length kept.picks) kept.blocks) in
     let place_in : at < length held.image = omega (arith, ap (λ n. length n.image) e) in (
-      omega (arith, within_images (length held.image) count i at image_in place_in),
-      sym (block_at-images_of (length held.image) count kept i at image_in place_in) ∙ ap (λ n. block_at (slice_index_or n.left i []) at) e,
+      omega (arith, within_images (length held.image) (length kept.picks) i at image_in place_in),
+      sym (block_at-images_of (length held.image) (length kept.picks) kept.blocks i at image_in place_in)
+          ∙ ap (λ n. block_at (slice_index_or n.left i []) at) e,
     )

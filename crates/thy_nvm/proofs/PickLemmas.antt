@@ -53,5 +53,5 @@ Crash-picked pick n =
     ]
 
 -- so a cut that leaves the pick's image is a cut
-pub IsCut-picked : (pick : ℕ) (old new : Device) → new ≡ cut_to old (picked pick old.image old.queue) → IsCut old new
-IsCut-picked pick old new e = subst (IsCut old) (sym e) (record { crash = Crash-picked pick old; device = refl })
+pub IsCut-picked : (pick : ℕ) (old new : Device) → new ≡ cut_to old pick (picked pick old.image old.queue) → IsCut pick old new
+IsCut-picked pick old new e = subst (IsCut pick old) (sym e) (record { crash = Crash-picked pick old; device = refl })

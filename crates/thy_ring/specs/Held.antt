@@ -17,9 +17,19 @@ pub record Held : Type 0 where
 abbrev pub nothing : Held
 nothing = record { image = []; queue = []; room = 0 }
 
--- a device that holds these, and has kept no image
+-- a device that holds these, has kept nothing, and was never fitted
 abbrev pub device_of : Held → Device
-device_of r = record { image = r.image; queue = r.queue; left = []; queue_room = r.room; left_room = 0; down = false; faults = 0 }
+device_of r = record {
+  image = r.image;
+  queue = r.queue;
+  left = [];
+  picks = [];
+  queue_room = r.room;
+  left_room = 0;
+  down = false;
+  faults = 0;
+  fits = 0;
+}
 
 -- what a device holds of them
 abbrev pub held_by : Device → Held
