@@ -1,4 +1,3 @@
 pub mod BarrierLemmas
-pub mod CutLemmas
 pub mod KeptLemmas
 pub mod PickLemmas
