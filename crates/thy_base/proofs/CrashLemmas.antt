@@ -112,5 +112,5 @@ pub Crash-failed_to_write : (at : ℕ) (block : Block) (old new : Device) (g : L
 Crash-failed_to_write at block old new g failed framed c = Crash-no_more_but at block old new g failed.no_more framed.blocks c
 
 -- after a cut nothing else can be left
-pub Crash-cut_to : (n : Device) (g h : List Block) → Crash (cut_to n g) h → h ≡ g
-Crash-cut_to n g h c = Crash-of_empty (cut_to n g) h refl c
+pub Crash-cut_to : (n : Device) (pick : ℕ) (g h : List Block) → Crash (cut_to n pick g) h → h ≡ g
+Crash-cut_to n pick g h c = Crash-of_empty (cut_to n pick g) h refl c

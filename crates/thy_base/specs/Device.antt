@@ -5,7 +5,7 @@ use Rattle.thy_base.specs.declared.nvm.Shape.{Shape}
 use Rattle.thy_base.specs.declared.nvm.Write.{Write}
 use Rattle.thy_base.specs.declared.nvm.FitError.{FitError}
 use Rattle.thy_base.specs.declared.nvm.FitError.TheVariants.{Failed, Memory}
-use Rattle.thy_base.specs.Counts.{Rose}
+use Rattle.thy_base.specs.Counts.{Rose, next}
 
 -- a block of zeros
 unfoldable pub zero_block : Block
@@ -19,6 +19,8 @@ pub record Device : Type 0 where
   pub queue : List Write
   -- the images that the cuts since the last fit left, in order
   pub left : List (List Block)
+  -- the picks that the cuts since the last fit were given, in order
+  pub picks : List ℕ
   -- how many writes the queue holds
   pub queue_room : ℕ
   -- how many images can be kept
@@ -27,6 +29,9 @@ pub record Device : Type 0 where
   pub down : Bool
   -- how many calls have failed
   pub faults : ℕ
+  -- how many times it was fitted, whatever came of it; it stands at its last value
+  pub fits : ℕ
+risen n = min (n + 1) (2 ^ 64 - 1)
 
 -- a queued write
 abbrev pub write_of : ℕ → Block → Write
@@ -87,33 +92,43 @@ written_to n at block = record n {
   queue = drop (surplus n) n.queue ++ write_of at block ∷ [];
 }
 
--- after a cut that left this image
-abbrev pub cut_to : Device → List Block → Device
-cut_to n g = record n { image = g; queue = []; left = n.left ++ g ∷ []; down = false }
+-- after a cut that was given this pick and left this image
+abbrev pub cut_to : Device → ℕ → List Block → Device
+cut_to n pick g = record n {
+  image = g;
+  queue = [];
+  left = n.left ++ g ∷ [];
+  picks = n.picks ++ pick ∷ [];
+  down = false;
+}
 
--- after a fit: the start and then zeros
+-- after a fit: the start and then zeros, and no cut yet
 abbrev pub fitted : Shape → List Block → Device → Device
 fitted shape start n = record {
   image = start ++ replicate (shape.blocks - length start) zero_block;
   queue = [];
   left = [];
+  picks = [];
   queue_room = shape.queue;
   left_room = shape.cuts + 1;
   down = false;
   faults = n.faults;
+  fits = next n.fits;
 }
 
--- a cut leaves an image that it may leave, and keeps it
-pub record IsCut (old new : Device) : Type 0 where
+-- a cut leaves an image that it may leave, and keeps it and the pick
+pub record IsCut (pick : ℕ) (old new : Device) : Type 0 where
   pub crash : Crash old new.image
-  pub device : new ≡ cut_to old new.image
+  pub device : new ≡ cut_to old pick new.image
 
 -- what only a fit and a cut change
 pub record IsFramed (old new : Device) : Type 0 where
   pub blocks : length new.image ≡ length old.image
   pub left : new.left ≡ old.left
+  pub picks : new.picks ≡ old.picks
   pub queue_room : new.queue_room ≡ old.queue_room
   pub left_room : new.left_room ≡ old.left_room
+  pub fits : new.fits ≡ old.fits
 
 -- nothing is queued for a place
 pub record IsSettled (n : Device) (x : ℕ) : Type 0 where
@@ -142,7 +157,8 @@ pub record HasFailedToWrite (at : ℕ) (block : Block) (old new : Device) : Type
 abbrev pub CountsFault : {T E : Type 0} → Result T E → ℕ → ℕ → Type 0
 CountsFault result old new = MatchResult result (λ _. new ≡ old) (λ _. Rose old new)
 
--- after a fit that failed: for want of memory nothing has changed
+-- after a fit that failed: it was counted, and for want of memory nothing else has changed
 abbrev pub HasFailedToFit : FitError → Device → Device → Type 0
-HasFailedToFit Failed old new = HasFailed old new × IsFramed old new × Rose old.faults new.faults
-HasFailedToFit (Memory e) old new = new ≡ old
+HasFailedToFit Failed old new =
+    HasFailed old new × IsFramed (record old { fits = next old.fits }) new × Rose old.faults new.faults
+HasFailedToFit (Memory e) old new = new ≡ record old { fits = next old.fits }

@@ -36,7 +36,7 @@ pub enum NvmError {
 pub enum FitError {
     /// The device failed.
     Failed,
-    /// There was not enough memory, and the device is as it was.
+    /// There was not enough memory. The device is as it was, but that the call was counted.
     Memory(AllocError),
 }
 
@@ -44,13 +44,15 @@ pub enum FitError {
 /// the queue was full. A cut of power leaves at each place the block that stood there or any one
 /// that was queued for it, each place by itself.
 ///
-/// Only `fit` takes memory. A call that fails counts a fault and leaves the device down until it is
-/// fitted again or its power is cut.
+/// Only `fit` takes memory, also for what the cuts to come keep. Every `fit` counts, whatever it
+/// answers. A call that fails counts a fault, unless it only wanted memory, and leaves the device down
+/// until it is fitted again or its power is cut. Both counts stand still at the last value of a `u64`.
 pub trait Nvm {
     /// What the device holds.
     ghost device: { Self → Device };
 
-    /// Makes the device anew: the blocks of `start` and then zeros, an empty queue, no kept images.
+    /// Makes the device anew: the blocks of `start` and then zeros, an empty queue, no kept images and
+    /// picks. The call is counted, also where it fails.
     fn fit(&mut self, alloc: Global, shape: &Shape, start: &[Block]) -> Result<(), FitError>
         requires queue { 0 < shape.now.queue }
         requires start { length start.now ≤ shape.now.blocks }
@@ -96,10 +98,11 @@ pub trait Nvm {
         ensures frame { IsFramed (device self.old) (device self.new) }
         ensures cause { CountsFault result (device self.old).faults (device self.new).faults };
 
-    /// Cuts the power. The pick chooses what is left, of which a copy is kept; the device is up again.
+    /// Cuts the power. The pick chooses what is left. A copy of that is kept, and so is the pick; the
+    /// device is up again.
     fn cut(&mut self, pick: u64)
         requires { length (device self.old).left < (device self.old).left_room }
-        ensures { IsCut (device self.old) (device self.new) };
+        ensures { IsCut pick (device self.old) (device self.new) };
 
     /// The block at a place of the kept image `i`.
     fn kept(&self, i: u64, at: u64) -> Block

@@ -1,9 +1,8 @@
 -- What a DRAM is to its callers: a list of blocks, and how many writes are on their way.
-use Rattle.std.specs.Prelude.{ℕ, ◌+◌, ◌-◌, ◌<◌, min, nat_lt, if◌then◌else◌, List, length, replicate, slice_set, All}
-use Rattle.circular_buffer.specs.Buffer.{Buffer}
+use Rattle.std.specs.Prelude.{ℕ, ◌+◌, ◌-◌, min, List, length, replicate, slice_set}
 use Rattle.thy_base.specs.declared.block.Block.{Block}
-use Rattle.thy_base.specs.declared.nvm.Write.{Write}
 use Rattle.thy_base.specs.Device.{zero_block, applied}
+use Rattle.thy_ring.specs.Held.{Held}
 use Rattle.thy_dram.specs.Draws.{blocks_over}
 
 pub record Contents : Type 0 where
@@ -14,20 +13,9 @@ pub record Contents : Type 0 where
   -- how many the queue holds
   pub room : ℕ
 
--- how many writes have to land before one more is queued
-abbrev pub surplus : Buffer Write → ℕ
-surplus queue = if nat_lt (length queue.items) queue.capacity then 0 else 1
-
--- the parts of a DRAM: the queued writes are read as if they had landed
-abbrev pub contents_in : List Block → Buffer Write → Contents
-contents_in image queue = record { blocks = applied image queue.items; queued = length queue.items; room = queue.capacity }
-
--- what holds of the parts
-pub record IsSound (image : List Block) (queue : Buffer Write) : Type 0 where
-  -- every queued write is for a place of the image
-  pub placed : All (λ (w : Write). w.at < length image) queue.items
-  -- the queue holds a write
-  pub some_room : 0 < queue.capacity
+-- what a ring is to them: the queued writes are read as if they had landed
+abbrev pub contents_in : Held → Contents
+contents_in held = record { blocks = applied held.image held.queue; queued = length held.queue; room = held.room }
 
 -- a new DRAM holds zeros
 abbrev pub fresh : ℕ → ℕ → Contents

@@ -4,41 +4,37 @@ ghost use Rattle.thy_base.specs.Device.{block_at};
 ghost use Rattle.thy_dram.specs.Contents.{fresh, written, drained, lost};
 
 use crate::draws::fill_blocks;
-use crate::queue::{apply_oldest, newest_queued, push_write};
-use circular_buffer::HeapCircularBuffer;
 use std::alloc::{AllocError, Global};
 use std::marker::Model;
-use thy_base::{Block, Write};
+use thy_base::Block;
+use thy_ring::Ring;
 
 /// A volatile memory whose writes are queued before they land. Only `new` takes memory, and no other
 /// call can fail.
 #[derive(Drop)]
 pub struct Dram {
-    image: Vec<Block>,
-    queue: HeapCircularBuffer<Write>,
+    ring: Ring,
 }
 
 impl Model for Dram {
-    ghost use Rattle.thy_dram.specs.Contents.{Contents, contents_in, IsSound};
+    ghost use Rattle.std.specs.Prelude.{◌<◌};
+    ghost use Rattle.thy_dram.specs.Contents.{Contents, contents_in};
 
     ghost Value = { Contents };
 
-    ghost view = { λ d. contents_in d.image.items d.queue };
+    ghost view = { λ d. contents_in d.ring };
 
-    ghost invariant = { λ d. IsSound d.image.items d.queue };
+    ghost invariant = { λ d. 0 < d.ring.room };
 }
 
 impl Dram {
     /// A memory of so many blocks of zeros, whose queue holds so many writes.
-    #[tactic(auto, unfolding(thy_base::specs::Device::zero_block))]
     pub fn new(alloc: Global, blocks: u64, queue: u64) -> Result<Dram, AllocError>
         requires { 0 < queue }
         ensures { IfOk result (λ d. d ≡ fresh blocks queue) }
     {
-        let mut image = Vec::with_capacity(alloc, blocks as usize)?;
-        image.resize(blocks as usize, Block::ZERO)?;
-        let queue = HeapCircularBuffer::with_capacity(alloc, queue as usize)?;
-        Ok(Dram { image, queue })
+        let ring = Ring::with_blocks(alloc, blocks, queue, &[])?;
+        Ok(Dram { ring })
     }
 
     /// The block at a place, as it was last written.
@@ -46,7 +42,7 @@ impl Dram {
         requires { at < length self.now.blocks }
         ensures { result ≡ block_at self.now.blocks at }
     {
-        newest_queued(&self.queue, at, self.image[at as usize])
+        self.ring.read(at)
     }
 
     /// Writes a block at a place. Where the queue is full, its oldest write lands first.
@@ -54,11 +50,7 @@ impl Dram {
         requires { at < length self.old.blocks }
         ensures { self.new ≡ written self.old at block.now }
     {
-        push_write(
-            &mut self.image,
-            &mut self.queue,
-            Write { at, block: *block },
-        );
+        self.ring.write(at, block);
     }
 
     /// How many writes are queued.
@@ -66,7 +58,7 @@ impl Dram {
         ensures queued { result ≡ self.now.queued }
         ensures within { result ≤ self.now.room }
     {
-        self.queue.len() as u64
+        self.ring.queued()
     }
 
     /// Lets the oldest queued write land. What the memory reads as stays.
@@ -74,14 +66,14 @@ impl Dram {
         requires { 0 < self.old.queued }
         ensures { self.new ≡ drained self.old }
     {
-        apply_oldest(&mut self.image, &mut self.queue);
+        self.ring.drain();
     }
 
     /// Cuts the power: the queue is lost, and every byte becomes one that the pick draws.
     pub fn cut(&mut self, pick: u64)
         ensures { self.new ≡ lost self.old pick }
     {
-        self.queue.clear();
-        fill_blocks(&mut self.image, pick);
+        self.ring.clear_queue();
+        fill_blocks(&mut self.ring, pick);
     }
 }

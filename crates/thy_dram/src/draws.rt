@@ -1,8 +1,9 @@
 //! Bytes drawn from a seed.
 ghost use Rattle.std.specs.Prelude.{◌≡◌, ℕ, List};
-ghost use Rattle.thy_dram.specs.Draws.{bytes_over, after_bytes, drawn_block, after_block, blocks_over};
+ghost use Rattle.thy_dram.specs.Draws.{bytes_over, after_bytes, drawn_block, after_block, filled};
 
 use thy_base::{Block, Lcg};
+use thy_ring::Ring;
 
 /// Writes over each byte the low 8 bits of one draw.
 #[tactic(auto, unfolding(crate::specs::Draws::bytes_over, crate::specs::Draws::after_bytes))]
@@ -26,12 +27,13 @@ fn next_block(draws: &mut Lcg) -> Block
     Block(bytes)
 }
 
-/// Writes over each block, in order, drawn bytes.
-pub(crate) fn fill_blocks(image: &mut [Block], seed: u64)
-    ensures { image.new ≡ blocks_over seed image.old }
+/// Writes over each block that stands, in order, drawn bytes. The queue stays.
+pub(crate) fn fill_blocks(ring: &mut Ring, seed: u64)
+    ensures { ring.new ≡ filled seed ring.old }
 {
     let mut draws = Lcg::new(seed);
-    for block in image.iter_mut() {
-        *block = next_block(&mut draws);
+    for x in 0..ring.image().len() {
+        let block = next_block(&mut draws);
+        ring.put(x as u64, &block);
     }
 }

@@ -4,6 +4,5 @@
 
 mod dram;
 mod draws;
-mod queue;
 
 pub use dram::Dram;

@@ -1,3 +1,3 @@
-pub mod CutLemmas
+pub mod BarrierLemmas
 pub mod KeptLemmas
 pub mod PickLemmas

@@ -53,18 +53,5 @@ Crash-picked pick n =
     ]
 
 -- so a cut that leaves the pick's image is a cut
-pub IsCut-picked : (pick : ℕ) (old new : Device) → new ≡ cut_to old (picked pick old.image old.queue) → IsCut old new
-IsCut-picked pick old new e = subst (IsCut old) (sym e) (record { crash = Crash-picked pick old; device = refl })
-
--- without queued writes draws leave every block
-pub drawn-no_queue : (seed x : ℕ) (blocks : List Block) → drawn seed x blocks [] ≡ blocks
-drawn-no_queue seed x [] = refl
-drawn-no_queue seed x (b ∷ bs) = ap (λ rest. b ∷ rest) (drawn-no_queue seed (x + 1) bs)
-
--- and so does every pick
-pub picked-no_queue : (pick : ℕ) (image : List Block) → picked pick image [] ≡ image
-picked-no_queue pick image =
-    elim (pick == 0) as (λ t. (if t then image else (if pick == 1 then image else drawn pick 0 image [])) ≡ image) [
-      | true ↦ refl
-      | false ↦ elim (pick == 1) as (λ t. (if t then image else drawn pick 0 image []) ≡ image) [ true ↦ refl | false ↦ drawn-no_queue pick 0 image ]
-    ]
+pub IsCut-picked : (pick : ℕ) (old new : Device) → new ≡ cut_to old pick (picked pick old.image old.queue) → IsCut pick old new
+IsCut-picked pick old new e = subst (IsCut pick old) (sym e) (record { crash = Crash-picked pick old; device = refl })

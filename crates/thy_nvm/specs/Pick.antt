@@ -2,8 +2,9 @@
 use Rattle.std.specs.Prelude.{ℕ, ◌+◌, ◌%◌, ◌==◌, if◌then◌else◌, List, [], ◌∷◌, length, slice_index_or}
 use Rattle.thy_base.specs.declared.block.Block.{Block}
 use Rattle.thy_base.specs.declared.nvm.Write.{Write}
-use Rattle.thy_base.specs.Device.{queued_for, applied}
+use Rattle.thy_base.specs.Device.{block_at, queued_for, applied}
 use Rattle.thy_base.specs.Lcg.{lcg_next, lcg_draw}
+use Rattle.thy_ring.specs.Held.{Held, put_at, unqueued}
 
 -- what a place's draw leaves of the block that stands there and those queued for it, oldest first
 abbrev pub drawn_block : ℕ → Block → List Block → Block
@@ -24,3 +25,11 @@ drawn seed x (b ∷ bs) queue =
 -- pick 0: no queued write lands; pick 1: all land in order; another is the seed of the draws
 abbrev pub picked : ℕ → List Block → List Write → List Block
 picked pick image queue = if pick == 0 then image else if pick == 1 then applied image queue else drawn pick 0 image queue
+
+-- a ring of which one place took its draw
+abbrev pub drawn_at : ℕ → ℕ → Held → Held
+drawn_at seed x held = put_at held x (drawn_block seed (block_at held.image x) (queued_for held.queue x))
+
+-- what a pick leaves of a ring
+abbrev pub left_by : ℕ → Held → Held
+left_by pick held = unqueued (record held { image = picked pick held.image held.queue })

@@ -1,36 +1,35 @@
 //! A device that lies in the memory of the host.
-ghost use Rattle.std.specs.Prelude.{◌≡◌, ◌<◌, ◌≤◌, ◌+◌, ◌*◌, ◌-◌, false, length, IfOk, OnOk, OnErr, IfErr, slice_index_or, [], ◌++◌, replicate, vec_len, vec_capacity};
-ghost use Rattle.thy_base.specs.Device.{Device, zero_block, newest, block_at, written_to, drained, settled, fitted, cut_to, IsCut, IsFramed, HasFailed, HasFailedToWrite, HasFailedToFit, CountsFault};
+ghost use Rattle.std.specs.Prelude.{◌≡◌, ◌<◌, ◌≤◌, false, length, IfOk, OnOk, OnErr, IfErr, slice_index_or, []};
+ghost use Rattle.thy_base.specs.Device.{Device, newest, block_at, written_to, drained, settled, fitted, cut_to, IsCut, IsFramed, HasFailed, HasFailedToWrite, HasFailedToFit, CountsFault};
 ghost use Rattle.thy_nvm.specs.Memory.{fresh_device};
 ghost use Rattle.thy_nvm.specs.Pick.{picked};
 
-use crate::fitted::{apply_all_in, apply_oldest_in, leave_in, len_of, newest_in, push_in};
-use circular_buffer::HeapCircularBuffer;
+use crate::kept::Kept;
+use crate::pick::leave;
 use std::alloc::{AllocError, Global};
 use std::marker::Model;
-use thy_base::{Block, FitError, Nvm, NvmError, Shape, Write};
+use thy_base::{Block, FitError, Nvm, NvmError, Shape};
+use thy_ring::Ring;
 
 /// A non-volatile memory that never fails. It is empty until it is fitted.
 #[derive(Drop)]
 pub struct MemNvm {
-    image: Vec<Block>,
-    queue: Option<HeapCircularBuffer<Write>>,
-    // The kept images, one after another.
-    kept: Vec<Block>,
-    count: u64,
-    room: u64,
+    ring: Ring,
+    kept: Kept,
+    // How many times it was fitted. Stands at the last value.
+    fits: u64,
 }
 
 impl Model for MemNvm {
-    ghost use Rattle.std.specs.Prelude.{vec_capacity};
+    ghost use Rattle.std.specs.Prelude.{◌≡◌, length};
     ghost use Rattle.thy_base.specs.Device.{Device};
-    ghost use Rattle.thy_nvm.specs.Memory.{device_in, IsSound};
+    ghost use Rattle.thy_nvm.specs.Memory.{device_in};
 
     ghost Value = { Device };
 
-    ghost view = { λ m. device_in m.image.items m.queue m.kept.items m.count m.room };
+    ghost view = { λ m. device_in m.ring m.kept m.fits };
 
-    ghost invariant = { λ m. IsSound m.image.items m.queue m.kept.items m.count m.room (vec_capacity m.kept) };
+    ghost invariant = { λ m. m.kept.size ≡ length m.ring.image };
 }
 
 impl MemNvm {
@@ -39,82 +38,33 @@ impl MemNvm {
         ensures { result ≡ fresh_device }
     {
         MemNvm {
-            image: Vec::new(alloc),
-            queue: None,
-            kept: Vec::new(alloc),
-            count: 0,
-            room: 0,
+            ring: Ring::new(alloc),
+            kept: Kept::new(alloc),
+            fits: 0,
         }
     }
 }
 
-/// The blocks of a start and then zeros.
-#[tactic(auto, unfolding(thy_base::specs::Device::zero_block))]
-fn fresh_image(alloc: Global, blocks: usize, start: &[Block]) -> Result<Vec<Block>, AllocError>
-    requires { length start.now ≤ blocks }
-    ensures { IfOk result (λ v. v.items ≡ start.now ++ replicate (blocks - length start.now) zero_block) }
-{
-    let mut image = Vec::with_capacity(alloc, blocks)?;
-    image.extend_from_slice(start)?;
-    image.resize(blocks, Block::ZERO)?;
-    Ok(image)
-}
-
-/// Space for kept images.
-fn fresh_space(alloc: Global, blocks: u64, room: u64) -> Result<Vec<Block>, AllocError>
-    ensures empty { IfOk result (λ v. v.items ≡ []) }
-    ensures space { IfOk result (λ v. room * blocks ≤ vec_capacity v) }
-{
-    match room.checked_mul(blocks) {
-        Some(space) => Vec::with_capacity(alloc, space as usize),
-        None => Err(AllocError),
-    }
-}
-
-/// A device of a shape, whose image begins with these blocks.
-fn fresh(alloc: Global, shape: &Shape, start: &[Block]) -> Result<MemNvm, AllocError>
+/// A device of a shape, whose image begins with these blocks, and which was fitted so many times.
+fn fresh(alloc: Global, shape: &Shape, start: &[Block], fits: u64) -> Result<MemNvm, AllocError>
     requires queue { 0 < shape.now.queue }
     requires start { length start.now ≤ shape.now.blocks }
-    ensures { IfOk result (λ m. m ≡ fitted shape.now start.now fresh_device) }
+    ensures { IfOk result (λ m. m ≡ record (fitted shape.now start.now fresh_device) { fits = fits }) }
 {
     let Some(room) = shape.cuts.checked_add(1) else {
         return Err(AllocError);
     };
-    let image = fresh_image(alloc, shape.blocks as usize, start)?;
-    let kept = fresh_space(alloc, shape.blocks, room)?;
-    let queue = HeapCircularBuffer::with_capacity(alloc, shape.queue as usize)?;
-    Ok(MemNvm {
-        image,
-        queue: Some(queue),
-        kept,
-        count: 0,
-        room,
-    })
-}
-
-/// Keeps a copy of an image, for which there is space.
-fn keep(kept: &mut Vec<Block>, image: &[Block])
-    requires { vec_len kept.old + length image.now ≤ vec_capacity kept.old }
-    ensures items { kept.new.items ≡ kept.old.items ++ image.now }
-    ensures space { vec_capacity kept.old ≤ vec_capacity kept.new }
-{
-    let _ = kept.extend_from_slice(image);
-}
-
-/// The block at a place of the image `i`, where images of one size lie one after another.
-fn kept_block(kept: &[Block], size: usize, i: usize, at: usize) -> Block
-    requires { i * size + at < length kept.now }
-    ensures { result ≡ block_at kept.now (i * size + at) }
-{
-    kept[i * size + at]
+    let ring = Ring::with_blocks(alloc, shape.blocks, shape.queue, start)?;
+    let kept = Kept::with_room(alloc, shape.blocks, room)?;
+    Ok(MemNvm { ring, kept, fits })
 }
 
 impl Nvm for MemNvm {
     ghost device = { λ n. n };
 
     fn fit(&mut self, alloc: Global, shape: &Shape, start: &[Block]) -> Result<(), FitError> {
-        let _room = self.room;
-        match fresh(alloc, shape, start) {
+        self.fits = self.fits.saturating_add(1);
+        match fresh(alloc, shape, start, self.fits) {
             Ok(device) => {
                 *self = device;
                 Ok(())
@@ -124,45 +74,38 @@ impl Nvm for MemNvm {
     }
 
     fn queued(&self) -> u64 {
-        len_of(&self.queue) as u64
+        self.ring.queued()
     }
 
     fn read(&mut self, at: u64) -> Result<Block, NvmError> {
-        let standing = self.image[at as usize];
-        Ok(newest_in(&self.queue, at, standing))
+        Ok(self.ring.read(at))
     }
 
     fn write(&mut self, at: u64, block: &Block) -> Result<(), NvmError> {
-        push_in(
-            &mut self.image,
-            &mut self.queue,
-            Write { at, block: *block },
-        );
+        self.ring.write(at, block);
         Ok(())
     }
 
     fn drain(&mut self) -> Result<(), NvmError> {
-        apply_oldest_in(&mut self.image, &mut self.queue);
+        self.ring.drain();
         Ok(())
     }
 
     fn barrier(&mut self) -> Result<(), NvmError> {
-        apply_all_in(&mut self.image, &mut self.queue);
+        self.ring.settle();
         Ok(())
     }
 
     fn cut(&mut self, pick: u64)
         requires { length self.old.left < self.old.left_room }
-        ensures cut { IsCut self.old self.new }
-        ensures image { self.new ≡ cut_to self.old (picked pick self.old.image self.old.queue) }
+        ensures cut { IsCut pick self.old self.new }
+        ensures image { self.new ≡ cut_to self.old pick (picked pick self.old.image self.old.queue) }
     {
-        let _room = self.room;
-        leave_in(&mut self.image, &mut self.queue, pick);
-        keep(&mut self.kept, &self.image);
-        self.count += 1;
+        leave(&mut self.ring, pick);
+        self.kept.keep(self.ring.image(), pick);
     }
 
     fn kept(&self, i: u64, at: u64) -> Block {
-        kept_block(&self.kept, self.image.len(), i as usize, at as usize)
+        self.kept.block(i, at)
     }
 }

@@ -1,73 +1,43 @@
 //! What the pick of a cut leaves.
-ghost use Rattle.std.specs.Prelude.{◌≡◌, ◌<◌, ◌≤◌, ◌^◌, ℕ, ◌+◌, ◌∷◌, length, All, slice_index_or};
+ghost use Rattle.std.specs.Prelude.{◌≡◌, ◌<◌, ℕ, length};
 ghost use Rattle.thy_base.specs.Device.{queued_for};
-ghost use Rattle.thy_nvm.specs.Pick.{drawn_block, drawn_seed, drawn, picked};
+ghost use Rattle.thy_nvm.specs.Pick.{drawn_seed, drawn, drawn_at, left_by};
 
-use crate::queue::apply_all;
-use circular_buffer::HeapCircularBuffer;
-use thy_base::{Block, Lcg, Write};
-
-/// How many writes are queued for a place.
-fn count_for(queue: &HeapCircularBuffer<Write>, at: u64) -> usize
-    ensures count { result ≡ length (queued_for queue.now.items at) }
-    ensures small { result < 2 ^ 63 }
-{
-    let _len = queue.len();
-    let mut count = 0;
-    for write in queue.iter() {
-        if write.at == at {
-            count += 1;
-        }
-    }
-    count
-}
-
-/// Of the block that stands at a place and those queued for it, the one at an index.
-fn choice(queue: &HeapCircularBuffer<Write>, at: u64, standing: Block, index: usize) -> Block
-    requires { index ≤ length (queued_for queue.now.items at) }
-    ensures { result ≡ slice_index_or (standing ∷ queued_for queue.now.items at) index standing }
-{
-    let mut chosen = standing;
-    let mut left = index;
-    for write in queue.iter() {
-        if left > 0 && write.at == at {
-            chosen = write.block;
-            left -= 1;
-        }
-    }
-    chosen
-}
+use thy_base::Lcg;
+use thy_ring::Ring;
 
 /// Lets one place take its draw, where a write is queued for it.
-fn draw_place(queue: &HeapCircularBuffer<Write>, at: u64, block: &mut Block, draws: &mut Lcg)
-    ensures block { block.new ≡ drawn_block draws.old block.old (queued_for queue.now.items at) }
-    ensures draws { draws.new ≡ drawn_seed draws.old (queued_for queue.now.items at) }
+fn draw_place(ring: &mut Ring, at: u64, draws: &mut Lcg)
+    requires { at < length ring.old.image }
+    ensures ring { ring.new ≡ drawn_at draws.old at ring.old }
+    ensures draws { draws.new ≡ drawn_seed draws.old (queued_for ring.old.queue at) }
 {
-    let count = count_for(queue, at);
+    let count = ring.queued_at(at);
     if count > 0 {
-        let index = draws.next() % (count as u64 + 1);
-        *block = choice(queue, at, *block, index as usize);
+        let index = draws.next() % (count + 1);
+        let chosen = ring.choice(at, index);
+        ring.put(at, &chosen);
     }
 }
 
-/// Lets each place with a queued write take its draw, by rising number.
-fn draw_places(image: &mut [Block], queue: &HeapCircularBuffer<Write>, seed: u64)
-    ensures { image.new ≡ drawn seed 0 image.old queue.now.items }
+/// Lets each place with a queued write take its draw, by rising number. The queue stays.
+fn draw_places(ring: &mut Ring, seed: u64)
+    ensures { ring.new ≡ record ring.old { image = drawn seed 0 ring.old.image ring.old.queue } }
 {
     let mut draws = Lcg::new(seed);
-    for (x, block) in image.iter_mut().enumerate() {
-        draw_place(queue, x as u64, block, &mut draws);
+    for x in 0..ring.image().len() {
+        draw_place(ring, x as u64, &mut draws);
     }
 }
 
-/// Leaves the image that the pick gives.
-pub(crate) fn leave(image: &mut [Block], queue: &HeapCircularBuffer<Write>, pick: u64)
-    requires { All (λ w. w.at < length image.old) queue.now.items }
-    ensures { image.new ≡ picked pick image.old queue.now.items }
+/// Leaves the image that the pick gives, with nothing queued.
+pub(crate) fn leave(ring: &mut Ring, pick: u64)
+    ensures { ring.new ≡ left_by pick ring.old }
 {
     match pick {
         0 => {}
-        1 => apply_all(image, queue),
-        seed => draw_places(image, queue, seed),
+        1 => ring.settle(),
+        seed => draw_places(ring, seed),
     }
+    ring.clear_queue();
 }

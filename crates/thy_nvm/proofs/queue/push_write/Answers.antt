@@ -1,6 +1,0 @@
-use Rattle.std.proofs.Common.{arith}
-use Rattle.std.proofs.lemmas.Grind.{common_steps}
-use Rattle.thy_nvm.proofs.queue.push_write.Goals as goal
-
-pub returns-clause-queue : goal.returns-clause-queue
-returns-clause-queue c = grind (arith, common_steps)

@@ -1,0 +1,44 @@
+-- What is kept of the cuts since a device was fitted.
+use Rattle.std.specs.Prelude.{◌≡◌, ℕ, ◌*◌, ◌≤◌, suc, zero, List, [], ◌∷◌, ◌++◌, length, take, drop, vec_capacity}
+use Rattle.std.specs.Global.{Vec}
+use Rattle.thy_base.specs.declared.block.Block.{Block}
+
+pub record Cuts : Type 0 where
+  -- how many blocks an image has
+  pub size : ℕ
+  -- the images that the cuts left, in order
+  pub left : List (List Block)
+  -- their picks
+  pub picks : List ℕ
+  -- how many cuts can be kept
+  pub room : ℕ
+
+-- room for so many cuts that leave images of a size
+abbrev pub no_cuts : ℕ → ℕ → Cuts
+no_cuts size room = record { size = size; left = []; picks = []; room = room }
+
+-- with one cut more
+abbrev pub with_cut : Cuts → ℕ → List Block → Cuts
+with_cut cuts pick image = record cuts { left = cuts.left ++ image ∷ []; picks = cuts.picks ++ pick ∷ [] }
+
+-- images of one size, one after another
+abbrev pub images_of : ℕ → ℕ → List Block → List (List Block)
+images_of size zero blocks = []
+images_of size (suc count) blocks = take size blocks ∷ images_of size count (drop size blocks)
+
+-- the cuts that lie in these parts
+abbrev pub cuts_in : ℕ → List Block → List ℕ → ℕ → Cuts
+cuts_in size blocks picks room = record {
+  size = size;
+  left = images_of size (length picks) blocks;
+  picks = picks;
+  room = room;
+}
+
+-- what holds of the parts
+pub record IsSound (size : ℕ) (blocks : Vec Block) (picks : Vec ℕ) (room : ℕ) : Type 0 where
+  -- there is an image for each pick
+  pub whole : length blocks.items ≡ length picks.items * size
+  -- and space for all that can be kept
+  pub blocks_fit : room * size ≤ vec_capacity blocks
+  pub picks_fit : room ≤ vec_capacity picks

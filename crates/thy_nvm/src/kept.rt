@@ -1,0 +1,106 @@
+//! What is kept of the cuts of a device.
+ghost use Rattle.std.specs.Prelude.{◌≡◌, ◌<◌, ◌≤◌, ◌+◌, ◌*◌, length, IfOk, slice_index_or, [], ◌∷◌, ◌++◌, vec_len, vec_capacity};
+ghost use Rattle.thy_base.specs.Device.{block_at};
+ghost use Rattle.thy_nvm.specs.Kept.{no_cuts, with_cut};
+
+use std::alloc::{AllocError, Global};
+use std::marker::Model;
+use thy_base::Block;
+
+/// The images that cuts left, all of one size in blocks, and the picks of the cuts. Only `with_room`
+/// takes memory.
+#[derive(Drop)]
+pub(crate) struct Kept {
+    size: u64,
+    // The images, one after another.
+    blocks: Vec<Block>,
+    picks: Vec<u64>,
+    // How many cuts there is space for.
+    room: u64,
+}
+
+impl Model for Kept {
+    ghost use Rattle.thy_nvm.specs.Kept.{Cuts, cuts_in, IsSound};
+
+    ghost Value = { Cuts };
+
+    ghost view = { λ k. cuts_in k.size k.blocks.items k.picks.items k.room };
+
+    ghost invariant = { λ k. IsSound k.size k.blocks k.picks k.room };
+}
+
+impl Kept {
+    /// Room for no cut. Takes no memory.
+    pub(crate) fn new(alloc: Global) -> Kept
+        ensures { result ≡ no_cuts 0 0 }
+    {
+        Kept {
+            size: 0,
+            blocks: Vec::new(alloc),
+            picks: Vec::new(alloc),
+            room: 0,
+        }
+    }
+
+    /// Room for so many cuts that leave images of so many blocks.
+    pub(crate) fn with_room(alloc: Global, size: u64, room: u64) -> Result<Kept, AllocError>
+        ensures { IfOk result (λ k. k ≡ no_cuts size room) }
+    {
+        let Some(blocks) = room.checked_mul(size) else {
+            return Err(AllocError);
+        };
+        let blocks = Vec::with_capacity(alloc, blocks as usize)?;
+        let picks = Vec::with_capacity(alloc, room as usize)?;
+        Ok(Kept {
+            size,
+            blocks,
+            picks,
+            room,
+        })
+    }
+
+    /// Keeps a copy of the image that a cut left, and the cut's pick.
+    pub(crate) fn keep(&mut self, image: &[Block], pick: u64)
+        requires size { length image.now ≡ self.old.size }
+        requires room { length self.old.left < self.old.room }
+        ensures { self.new ≡ with_cut self.old pick image.now }
+    {
+        add_blocks(&mut self.blocks, image);
+        add_pick(&mut self.picks, pick);
+    }
+
+    /// The block at a place of the image `i`.
+    pub(crate) fn block(&self, i: u64, at: u64) -> Block
+        requires image { i < length self.now.left }
+        requires place { at < self.now.size }
+        ensures { result ≡ block_at (slice_index_or self.now.left i []) at }
+    {
+        block_of(&self.blocks, self.size as usize, i as usize, at as usize)
+    }
+}
+
+/// Adds blocks, for which there is space.
+fn add_blocks(blocks: &mut Vec<Block>, more: &[Block])
+    requires { vec_len blocks.old + length more.now ≤ vec_capacity blocks.old }
+    ensures items { blocks.new.items ≡ blocks.old.items ++ more.now }
+    ensures space { vec_capacity blocks.old ≤ vec_capacity blocks.new }
+{
+    let _ = blocks.extend_from_slice(more);
+}
+
+/// Adds a pick, for which there is space.
+fn add_pick(picks: &mut Vec<u64>, pick: u64)
+    requires { vec_len picks.old < vec_capacity picks.old }
+    ensures items { picks.new.items ≡ picks.old.items ++ pick ∷ [] }
+    ensures space { vec_capacity picks.old ≤ vec_capacity picks.new }
+{
+    let _ = picks.push(pick);
+}
+
+/// The block at a place of the image `i`, where images of one size lie one after another.
+fn block_of(blocks: &[Block], size: usize, i: usize, at: usize) -> Block
+    requires { i * size + at < length blocks.now }
+    ensures { result ≡ block_at blocks.now (i * size + at) }
+{
+    blocks[i * size + at]
+}

@@ -1,0 +1,81 @@
+-- What a ring holds, and how it lies in memory.
+use Rattle.std.specs.Prelude.{ℕ, ◌<◌, false, List, [], length, slice_index_or, slice_set, All, Option, Some, None}
+use Rattle.circular_buffer.specs.Buffer.{Buffer}
+use Rattle.thy_base.specs.declared.block.Block.{Block}
+use Rattle.thy_base.specs.declared.nvm.Write.{Write}
+use Rattle.thy_base.specs.Device.{Device, block_at, possible, surplus, fitted}
+
+pub record Held : Type 0 where
+  -- the blocks that stand
+  pub image : List Block
+  -- the writes that have not landed yet, oldest first
+  pub queue : List Write
+  -- how many writes the queue holds
+  pub room : ℕ
+
+-- no blocks, and no room for writes
+abbrev pub nothing : Held
+nothing = record { image = []; queue = []; room = 0 }
+
+-- a device that holds these, has kept nothing, and was never fitted
+abbrev pub device_of : Held → Device
+device_of r = record {
+  image = r.image;
+  queue = r.queue;
+  left = [];
+  picks = [];
+  queue_room = r.room;
+  left_room = 0;
+  down = false;
+  faults = 0;
+  fits = 0;
+}
+
+-- what a device holds of them
+abbrev pub held_by : Device → Held
+held_by n = record { image = n.image; queue = n.queue; room = n.queue_room }
+
+-- what a device's call makes of them
+abbrev pub as_device : (Device → Device) → Held → Held
+as_device call r = held_by (call (device_of r))
+
+-- so many blocks, those of a start and then zeros, with room for so many writes
+abbrev pub made : ℕ → ℕ → List Block → Held
+made blocks room start = as_device (fitted (record { blocks = blocks; queue = room; cuts = 0 }) start) nothing
+
+-- of the block that stands at a place and those queued for it, oldest first, the one at an index
+abbrev pub choice_at : Held → ℕ → ℕ → Block
+choice_at r at index = slice_index_or (possible (device_of r) at) index (block_at r.image at)
+
+-- after a block was put at a place, whatever is queued
+abbrev pub put_at : Held → ℕ → Block → Held
+put_at r at block = record r { image = slice_set r.image at block }
+
+-- after the queue was lost
+abbrev pub unqueued : Held → Held
+unqueued r = record r { queue = [] }
+
+-- the writes of a queue, where there is one
+abbrev pub queued_in : Option (Buffer Write) → List Write
+queued_in None = []
+queued_in (Some queue) = queue.items
+
+-- how many it holds
+abbrev pub room_in : Option (Buffer Write) → ℕ
+room_in None = 0
+room_in (Some queue) = queue.capacity
+
+-- what the parts of a ring hold
+abbrev pub held_in : List Block → Option (Buffer Write) → Held
+held_in image queue = record { image = image; queue = queued_in queue; room = room_in queue }
+
+-- how many writes are due to land before one more is queued
+abbrev pub due_in : Option (Buffer Write) → ℕ
+due_in queue = surplus (device_of (held_in [] queue))
+
+-- what holds of the parts
+pub record IsSound (image : List Block) (queue : Option (Buffer Write)) : Type 0 where
+  -- every queued write is for a place of the image
+  pub placed : All (λ (w : Write). w.at < length image) (queued_in queue)
+  -- a ring with blocks has room for a write
+  pub some_room : 0 < length image → 0 < room_in queue
