@@ -31,7 +31,6 @@ pub record Device : Type 0 where
   pub faults : ℕ
   -- how many times it was fitted, whatever came of it; it stands at its last value
   pub fits : ℕ
-risen n = min (n + 1) (2 ^ 64 - 1)
 
 -- a queued write
 abbrev pub write_of : ℕ → Block → Write

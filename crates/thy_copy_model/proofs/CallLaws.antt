@@ -110,16 +110,16 @@ IsPoweredOn-some = λ p. (some_machine p, is_powered_on p)
 
 -- a new machine over what a cut left
 pub IsAt-cut : CutIsAt
-IsAt-cut = λ o k m next n g at on crash.
+IsAt-cut = λ o k m next n torn g at on crash.
     let new : IsNew o next = IsNew-powered_on o next on in (
       record {
-        moment = Moment-power_cut o m next n g at.moment new crash;
-        small = IsSmall-cut o (view_of o m n) (view_of o next (cut_to n g)) k at.small (Finds-power_cut o m next n g at.moment new crash);
+        moment = Moment-power_cut o m next n torn g at.moment new crash;
+        small = IsSmall-cut o (view_of o m n) (view_of o next (cut_to n torn g)) k at.small (Finds-power_cut o m next n torn g at.moment new crash);
         below = IsBelow-powered_on o next (2 ^ 63 + k) on;
         spends = Spends-powered_on o next at.moment.sound.origin.geometry on;
         dram = on.dram;
       },
-      view-unread o next (cut_to n g) on.stage,
+      view-unread o next (cut_to n torn g) on.stage,
     )
 
 -- whatever a cut leaves is committed or in doubt

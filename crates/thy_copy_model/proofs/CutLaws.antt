@@ -72,12 +72,12 @@ Sound-unread o m n kept origin on full up k = record {
 }
 
 -- after a cut of a safe device
-pub Sound-cut : (o : Origin) (m : Parts) (n : Device) (kept sealed : Option Mark) (g : List Block) → IsOrigin o → IsNew o m → FromFile o kept
-    → length n.image ≡ blocks_of o.geometry → Safe decode o kept sealed n → Crash n g → Sound o m (cut_to n g)
-Sound-cut o m n kept sealed g origin on file full safe c =
+pub Sound-cut : (o : Origin) (m : Parts) (n : Device) (kept sealed : Option Mark) (torn : ℕ) (g : List Block) → IsOrigin o → IsNew o m → FromFile o kept
+    → length n.image ≡ blocks_of o.geometry → Safe decode o kept sealed n → Crash n g → Sound o m (cut_to n torn g)
+Sound-cut o m n kept sealed torn g origin on file full safe c =
     let long : length g ≡ blocks_of o.geometry = c.same_length ∙ full in
-    let left = kept_here o (cut_to n g) kept sealed (decode o.geometry ceiling g) refl long file refl (safe g c) in
-    Sound-unread o m (cut_to n g) left.0 origin on long refl left.1
+    let left = kept_here o (cut_to n torn g) kept sealed (decode o.geometry ceiling g) refl long file refl (safe g c) in
+    Sound-unread o m (cut_to n torn g) left.0 origin on long refl left.1
 
 -- ---- the view after power-on
 
@@ -95,10 +95,10 @@ finds o kept sealed (At epoch state) h =
     ]
 
 -- the view after a cut of a safe device has the mark that was kept or the one that was sealed
-pub Finds-cut : (o : Origin) (m : Parts) (n : Device) (kept sealed : Option Mark) (g : List Block) → IsNew o m → Safe decode o kept sealed n → Crash n g
-    → Finds o.start.count kept sealed (view_of o m (cut_to n g))
-Finds-cut o m n kept sealed g on safe c =
-    subst (Finds o.start.count kept sealed) (sym (view-unread o m (cut_to n g) on.stage)) (finds o kept sealed (decode o.geometry ceiling g) (safe g c))
+pub Finds-cut : (o : Origin) (m : Parts) (n : Device) (kept sealed : Option Mark) (torn : ℕ) (g : List Block) → IsNew o m → Safe decode o kept sealed n → Crash n g
+    → Finds o.start.count kept sealed (view_of o m (cut_to n torn g))
+Finds-cut o m n kept sealed torn g on safe c =
+    subst (Finds o.start.count kept sealed) (sym (view-unread o m (cut_to n torn g) on.stage)) (finds o kept sealed (decode o.geometry ceiling g) (safe g c))
 
 -- ---- a device that was fitted
 

@@ -69,8 +69,8 @@ IsLong-no_more_but at block old new no_more e h = record {
 }
 
 -- what a cut leaves
-pub IsLong-cut : (n : Device) (g : List Block) → Crash n g → IsLong n → IsLong (cut_to n g)
-IsLong-cut n g c h = record {
+pub IsLong-cut : (n : Device) (torn : ℕ) (g : List Block) → Crash n g → IsLong n → IsLong (cut_to n torn g)
+IsLong-cut n torn g c h = record {
   each = λ x b possible. subst (λ (a : Block). length a.0 ≡ 64) (same_as_only (block_at g x) b possible) (h.each x (block_at g x) (c.each x));
 }
 

@@ -146,9 +146,9 @@ IsNew-powered_on o m h = record {
 }
 
 -- a power cut leads to a moment, whose view has the mark that was kept or the one that was sealed
-pub Moment-cut : (o : Origin) (m : Parts) (n : Device) (kept sealed : Option Mark) (g : List Block) → IsOrigin o → IsNew o m → FromFile o kept
-    → length n.image ≡ blocks_of o.geometry → Safe decode o kept sealed n → IsLong n → Crash n g → Moment o m (cut_to n g)
-Moment-cut o m n kept sealed g origin on file full safe long c = record { sound = Sound-cut o m n kept sealed g origin on file full safe c; long = IsLong-cut n g c long }
+pub Moment-cut : (o : Origin) (m : Parts) (n : Device) (kept sealed : Option Mark) (torn : ℕ) (g : List Block) → IsOrigin o → IsNew o m → FromFile o kept
+    → length n.image ≡ blocks_of o.geometry → Safe decode o kept sealed n → IsLong n → Crash n g → Moment o m (cut_to n torn g)
+Moment-cut o m n kept sealed torn g origin on file full safe long c = record { sound = Sound-cut o m n kept sealed torn g origin on file full safe c; long = IsLong-cut n torn g c long }
 
 -- a fitted device with a new machine is one
 pub Moment-fresh : (o : Origin) (m : Parts) (shape : Shape) (start : List Block) (n : Device) → IsOrigin o → IsNew o m → IsFittedFor kind o shape start n → Moment o m (fitted shape start n)
@@ -160,24 +160,24 @@ Moment-fresh o m shape start n origin on fit = record {
 -- ---- a power cut at any moment, or after a cycle that failed
 
 -- a cut at a moment leads to a moment
-pub Moment-power_cut : (o : Origin) (m next : Parts) (n : Device) (g : List Block) → Moment o m n → IsNew o next → Crash n g → Moment o next (cut_to n g)
-Moment-power_cut o m next n g h on c =
-    Moment-cut o next n (view_of o m n).done (doubt_of (view_of o m n)) g h.sound.origin on (FromFile-sound o m n h.sound) (blocks_of_sound o m n h.sound) (Safe-sound o m n h.sound) h.long c
+pub Moment-power_cut : (o : Origin) (m next : Parts) (n : Device) (torn : ℕ) (g : List Block) → Moment o m n → IsNew o next → Crash n g → Moment o next (cut_to n torn g)
+Moment-power_cut o m next n torn g h on c =
+    Moment-cut o next n (view_of o m n).done (doubt_of (view_of o m n)) torn g h.sound.origin on (FromFile-sound o m n h.sound) (blocks_of_sound o m n h.sound) (Safe-sound o m n h.sound) h.long c
 
 -- whose view has what was done, or what was in doubt
-pub Finds-power_cut : (o : Origin) (m next : Parts) (n : Device) (g : List Block) → Moment o m n → IsNew o next → Crash n g
-    → Finds o.start.count (view_of o m n).done (doubt_of (view_of o m n)) (view_of o next (cut_to n g))
-Finds-power_cut o m next n g h on c = Finds-cut o next n (view_of o m n).done (doubt_of (view_of o m n)) g on (Safe-sound o m n h.sound) c
+pub Finds-power_cut : (o : Origin) (m next : Parts) (n : Device) (torn : ℕ) (g : List Block) → Moment o m n → IsNew o next → Crash n g
+    → Finds o.start.count (view_of o m n).done (doubt_of (view_of o m n)) (view_of o next (cut_to n torn g))
+Finds-power_cut o m next n torn g h on c = Finds-cut o next n (view_of o m n).done (doubt_of (view_of o m n)) torn g on (Safe-sound o m n h.sound) c
 
 -- and so after a cycle that failed
-pub Moment-failed_cut : (o : Origin) (m next : Parts) (n new : Device) (pick : Pick) (queued : ℕ) (g : List Block) → Moment o m n
-    → FailsTo (cycle_action o.start pick queued m) n new → IsFramed n new → IsNew o next → Crash new g → Moment o next (cut_to new g)
-Moment-failed_cut o m next n new pick queued g h fails framed on c =
-    Moment-cut o next new (view_of o m n).done (cycle_doubt pick queued m (view_of o m n)) g h.sound.origin on (FromFile-sound o m n h.sound) (framed.blocks ∙ blocks_of_sound o m n h.sound)
+pub Moment-failed_cut : (o : Origin) (m next : Parts) (n new : Device) (pick : Pick) (queued torn : ℕ) (g : List Block) → Moment o m n
+    → FailsTo (cycle_action o.start pick queued m) n new → IsFramed n new → IsNew o next → Crash new g → Moment o next (cut_to new torn g)
+Moment-failed_cut o m next n new pick queued torn g h fails framed on c =
+    Moment-cut o next new (view_of o m n).done (cycle_doubt pick queued m (view_of o m n)) torn g h.sound.origin on (FromFile-sound o m n h.sound) (framed.blocks ∙ blocks_of_sound o m n h.sound)
     (Safe-failed_cycle o m n h.sound pick queued new fails framed) (IsLong-failed_cycle o m n new pick queued h fails) c
 
-pub Finds-failed_cut : (o : Origin) (m next : Parts) (n new : Device) (pick : Pick) (queued : ℕ) (g : List Block) → Moment o m n
+pub Finds-failed_cut : (o : Origin) (m next : Parts) (n new : Device) (pick : Pick) (queued torn : ℕ) (g : List Block) → Moment o m n
     → FailsTo (cycle_action o.start pick queued m) n new → IsFramed n new → IsNew o next → Crash new g
-    → Finds o.start.count (view_of o m n).done (cycle_doubt pick queued m (view_of o m n)) (view_of o next (cut_to new g))
-Finds-failed_cut o m next n new pick queued g h fails framed on c =
-    Finds-cut o next new (view_of o m n).done (cycle_doubt pick queued m (view_of o m n)) g on (Safe-failed_cycle o m n h.sound pick queued new fails framed) c
+    → Finds o.start.count (view_of o m n).done (cycle_doubt pick queued m (view_of o m n)) (view_of o next (cut_to new torn g))
+Finds-failed_cut o m next n new pick queued torn g h fails framed on c =
+    Finds-cut o next new (view_of o m n).done (cycle_doubt pick queued m (view_of o m n)) torn g on (Safe-failed_cycle o m n h.sound pick queued new fails framed) c

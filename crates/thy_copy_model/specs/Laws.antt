@@ -50,17 +50,17 @@ FailureIsSafe =
 -- a power cut at a moment leads to a moment, whose view has the checkpoint that was committed or in doubt
 abbrev pub CutLeads : Type 0
 CutLeads =
-    (o : Origin) (m next : Parts) (n : Device) (g : List Block)
+    (o : Origin) (m next : Parts) (n : Device) (torn : ℕ) (g : List Block)
     → Moment o m n → IsNew o next → Crash n g
-    → Moment o next (cut_to n g) × Finds o.start.count (view_of o m n).done (doubt_of (view_of o m n)) (view_of o next (cut_to n g))
+    → Moment o next (cut_to n torn g) × Finds o.start.count (view_of o m n).done (doubt_of (view_of o m n)) (view_of o next (cut_to n torn g))
 
 -- and so after a cycle that failed
 abbrev pub FailureLeads : Type 0
 FailureLeads =
-    (o : Origin) (m next : Parts) (n new : Device) (pick : Pick) (queued : ℕ) (g : List Block)
+    (o : Origin) (m next : Parts) (n new : Device) (pick : Pick) (queued torn : ℕ) (g : List Block)
     → Moment o m n → FailsTo (cycle_action o.start pick queued m) n new → IsFramed n new → IsNew o next → Crash new g
-    → Moment o next (cut_to new g)
-    × Finds o.start.count (view_of o m n).done (cycle_doubt pick queued m (view_of o m n)) (view_of o next (cut_to new g))
+    → Moment o next (cut_to new torn g)
+    × Finds o.start.count (view_of o m n).done (cycle_doubt pick queued m (view_of o m n)) (view_of o next (cut_to new torn g))
 
 -- a machine whose power has just come on is new
 abbrev pub PowerIsNew : Type 0
@@ -110,9 +110,9 @@ FreshIsAt =
 -- a power cut leads to a moment of the same run, whose view is what the image that was left decodes to
 abbrev pub CutIsAt : Type 0
 CutIsAt =
-    (o : Origin) (k : ℕ) (m next : Core) (n : Device) (g : List Block)
+    (o : Origin) (k : ℕ) (m next : Core) (n : Device) (torn : ℕ) (g : List Block)
     → IsAt o k m n → IsPoweredOn o.geometry next → Crash n g
-    → IsAt o k next (cut_to n g) × (view_of o next (cut_to n g) ≡ view_of_image o.start.count (decode o.geometry ceiling g))
+    → IsAt o k next (cut_to n torn g) × (view_of o next (cut_to n torn g) ≡ view_of_image o.start.count (decode o.geometry ceiling g))
 
 -- whatever a power cut leaves at a moment is the committed checkpoint, whole, or the one in doubt
 abbrev pub MomentIsSafeFor : Type 0

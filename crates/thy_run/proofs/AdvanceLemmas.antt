@@ -24,7 +24,7 @@ use Rattle.thy_run.specs.Laws.{released_of}
 use Rattle.thy_run.specs.Cuts.{is_end, has_ended}
 use Rattle.thy_run.specs.Due.{due_of}
 use Rattle.thy_run.specs.Unfinished.{ReadFailed}
-use Rattle.thy_run.specs.World.{World, seen, told, reload_told, end_told, events_of, stepped, Steps, is_due, IsCutOff}
+use Rattle.thy_run.specs.World.{World, seen, told, reload_told, end_told, events_of, stepped, Steps, is_due, IsCutOff, tear}
 use Rattle.thy_run.proofs.ConsoleLaws.{released-cut, released-stepped, released-part, length-released}
 use Rattle.thy_run.proofs.WorldLaws.{Good, Good-ran, events_end, told_uncut, reload_uncut}
 use Rattle.thy_run.specs.declared.ending.Stop.{Stop}
@@ -111,7 +111,7 @@ module _ {M : Type 0} (K : KindOf M) (laws : IsLawful K) (plan : Plan) (p q : Pr
     cycle = record {
       between = world_at q m (k + 1);
       steps = noted.steps;
-      cut = subst (λ b. MatchBool b (IsCutOff K (origin_of plan) (world_at q m (k + 1)) (world_at q m (k + 1))) (world_at q m (k + 1) ≡ world_at q m (k + 1))) (sym due) refl;
+      cut = subst (λ b. MatchBool b (IsCutOff K (origin_of plan) (tear plan.config.tears q.passed) (world_at q m (k + 1)) (world_at q m (k + 1))) (world_at q m (k + 1) ≡ world_at q m (k + 1))) (sym due) refl;
     };
     released = noted.released;
     releases = noted.releases;
@@ -168,11 +168,11 @@ module _ {M : Type 0} (K : KindOf M) (laws : IsLawful K) (plan : Plan) (p q : Pr
       let due_now : (nat_lt q.passed (length plan.config.cuts) && slice_index plan.config.cuts q.passed == k + 1) ≡ true =
       subst (λ c. (nat_lt q.passed (length plan.config.cuts) && slice_index plan.config.cuts q.passed == c) ≡ true) at_cycle due in
       let is_cut : is_due K (origin_of plan) plan.config.cuts (world_at q m (k + 1)) ≡ true = due_both (is_halt next.phase) _ (going_on is) due_now in
-      let law = laws.recovers (origin_of plan) (k + 1) q.machine q'.machine m m'.image noted.steps.is_step.at_next cut.powered cut.cut.crash in
-      let device : m' ≡ cut_to m m'.image = cut.cut.device in
+      let law = laws.recovers (origin_of plan) (k + 1) q.machine q'.machine m (tear plan.config.tears q.passed) m'.image noted.steps.is_step.at_next cut.powered cut.cut.crash in
+      let device : m' ≡ cut_to m (tear plan.config.tears q.passed) m'.image = cut.cut.device in
       let found : seen K (origin_of plan) (world_at q' m' (k + 1)) ≡ view_of_image (origin_of plan).start.count (K.decode (origin_of plan).geometry ceiling m'.image) =
       ap (λ d. K.view (origin_of plan) q'.machine d) device ∙ law.1 in
-      let off : IsCutOff K (origin_of plan) (world_at q m (k + 1)) (world_at q' m' (k + 1)) = record {
+      let off : IsCutOff K (origin_of plan) (tear plan.config.tears q.passed) (world_at q m (k + 1)) (world_at q' m' (k + 1)) = record {
         cut = cut.cut;
         powered = cut.powered;
         at_moment = subst (λ d. K.is_at (origin_of plan) (k + 1) q'.machine d) (sym device) law.0;
@@ -186,7 +186,7 @@ module _ {M : Type 0} (K : KindOf M) (laws : IsLawful K) (plan : Plan) (p q : Pr
           cycle = record {
             between = world_at q m (k + 1);
             steps = noted.steps;
-            cut = subst (λ b. MatchBool b (IsCutOff K (origin_of plan) (world_at q m (k + 1)) (world_at q' m' (k + 1))) (world_at q' m' (k + 1) ≡ world_at q m (k + 1))) (sym is_cut) off;
+            cut = subst (λ b. MatchBool b (IsCutOff K (origin_of plan) (tear plan.config.tears q.passed) (world_at q m (k + 1)) (world_at q' m' (k + 1))) (world_at q' m' (k + 1) ≡ world_at q m (k + 1))) (sym is_cut) off;
           };
           released = ap (λ (y : Progress M). y.released) cut.same ∙ noted.released ∙ ap length (sym releases);
           releases = releases ∙ noted.releases;

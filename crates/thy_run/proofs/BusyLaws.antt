@@ -14,7 +14,7 @@ use Rattle.thy_view.specs.Origin.{Origin}
 use Rattle.thy_view.specs.Pace.{is_drained}
 use Rattle.thy_view.specs.Views.{is_boot, is_halt}
 use Rattle.thy_run.specs.Progress.{last_of, cycles_for, Tally, nothing_done, one_if, counted, tally_of, RunIsBusy, RunNeverRests}
-use Rattle.thy_run.specs.World.{World, Given, seen, Steps, is_due, IsCutOff, Ran}
+use Rattle.thy_run.specs.World.{World, Given, seen, Steps, is_due, IsCutOff, tear, Ran}
 use Rattle.thy_run.proofs.StepKinds.{kind_of, stays_up}
 use Rattle.thy_run.proofs.WorldLaws.{cycles-ran}
 
@@ -100,8 +100,8 @@ module _ {M : Type 0} (K : KindOf M) (laws : IsLawful K) (o : Origin) (cuts : Li
       }
 
   -- a cut
-  cut_works : (x next : World M) → is_due K o cuts x ≡ true → IsCutOff K o x next → Works K o cuts next nothing_done
-  cut_works x next due cut =
+  cut_works : (pick : ℕ) (x next : World M) → is_due K o cuts x ≡ true → IsCutOff K o pick x next → Works K o cuts next nothing_done
+  cut_works pick x next due cut =
       let rest = and_parts (not (is_halt (seen K o x).phase)) _ due in
       let listed = and_parts (nat_lt x.passed (length cuts)) (slice_index cuts x.passed == x.cycles) rest.1 in
       let at : slice_index cuts x.passed ≡ x.cycles = eqb-true (slice_index cuts x.passed) x.cycles listed.1 in
@@ -110,10 +110,10 @@ module _ {M : Type 0} (K : KindOf M) (laws : IsLawful K) (o : Origin) (cuts : Li
       powered next (subst (λ k. K.is_at o k next.machine next.device) (sym cycles) cut.at_moment) cut.powered
       (ap (λ (n : Device). n.queue) cut.cut.device) (omega (arith, at, most, cycles))
 
-  by_due : (w x next : World M) (step : Steps K o w x) (t : Tally) → Works K o cuts w t → (b : Bool) → is_due K o cuts x ≡ b
-      → MatchBool b (IsCutOff K o x next) (next ≡ x) → Works K o cuts next (if b then nothing_done else counted t (is_boot (seen K o w).phase) step.r.did)
-  by_due w x next step t h true due cut = cut_works x next due cut
-  by_due w x next step t h false due is = subst (λ (y : World M). Works K o cuts y (counted t (is_boot (seen K o w).phase) step.r.did)) (sym is) (step_works w x step t h)
+  by_due : (w x next : World M) (step : Steps K o w x) (t : Tally) → Works K o cuts w t → (pick : ℕ) (b : Bool) → is_due K o cuts x ≡ b
+      → MatchBool b (IsCutOff K o pick x next) (next ≡ x) → Works K o cuts next (if b then nothing_done else counted t (is_boot (seen K o w).phase) step.r.did)
+  by_due w x next step t h pick true due cut = cut_works pick x next due cut
+  by_due w x next step t h pick false due is = subst (λ (y : World M). Works K o cuts y (counted t (is_boot (seen K o w).phase) step.r.did)) (sym is) (step_works w x step t h)
 
 -- so it is after any number of cycles
 pub Works-ran : {M : Type 0} (K : KindOf M) (laws : IsLawful K) (o : Origin) (given : Given) (k : ℕ) (w : World M) (ran : Ran K o given k w)
@@ -123,7 +123,7 @@ Works-ran {M = M} K laws o given zero w first =
     (let none : w.cycles ≡ 0 = first.cycles in omega (arith, none))
 Works-ran {M = M} K laws o given (suc k) w (before, ran, cycle) =
     by_due K laws o given.cuts before cycle.between w cycle.steps (tally_of K o given k before ran) (Works-ran K laws o given k before ran)
-    (is_due K o given.cuts cycle.between) refl cycle.cut
+    (tear given.tears cycle.between.passed) (is_due K o given.cuts cycle.between) refl cycle.cut
 
 -- ---- what was spent
 
@@ -132,18 +132,18 @@ image_spent count NothingLeft = refl
 image_spent count (RefusedImage bad) = refl
 image_spent count (At epoch state) = refl
 
-spent_by : {M : Type 0} (K : KindOf M) (o : Origin) (w x next : World M) → Steps K o w x → (b : Bool) → MatchBool b (IsCutOff K o x next) (next ≡ x)
+spent_by : {M : Type 0} (K : KindOf M) (o : Origin) (w x next : World M) → Steps K o w x → (pick : ℕ) (b : Bool) → MatchBool b (IsCutOff K o pick x next) (next ≡ x)
     → (seen K o next).spent < K.most_spent o.geometry
-spent_by {M = M} K o w x next step true cut =
+spent_by {M = M} K o w x next step pick true cut =
     let none : (seen K o next).spent ≡ 0 = ap (λ v. v.spent) cut.found ∙ image_spent o.start.count _ in
     let some : (seen K o x).spent < K.most_spent o.geometry = step.is_step.pace.spent in
     omega (arith, none, some)
-spent_by {M = M} K o w x next step false is = subst (λ (y : World M). (seen K o y).spent < K.most_spent o.geometry) (sym is) step.is_step.pace.spent
+spent_by {M = M} K o w x next step pick false is = subst (λ (y : World M). (seen K o y).spent < K.most_spent o.geometry) (sym is) step.is_step.pace.spent
 
 spent-ran : {M : Type 0} (K : KindOf M) (o : Origin) (given : Given) (k : ℕ) (w : World M) → Ran K o given k w → 0 < k → (seen K o w).spent < K.most_spent o.geometry
 spent-ran {M = M} K o given zero w first some = absurd (omega arith)
 spent-ran {M = M} K o given (suc k) w (before, ran, cycle) some =
-    spent_by K o before cycle.between w cycle.steps (is_due K o given.cuts cycle.between) cycle.cut
+    spent_by K o before cycle.between w cycle.steps (tear given.tears cycle.between.passed) (is_due K o given.cuts cycle.between) cycle.cut
 
 -- ---- the laws
 

@@ -10,6 +10,7 @@ pub mod StepKinds
 pub mod BusyLaws
 pub mod SoonLaws
 pub mod StrideLaws
+pub mod PickLaws
 pub mod PromiseLaws
 pub mod ConsoleLaws
 pub mod GatherLemmas

@@ -14,14 +14,15 @@ use Rattle.thy_view.specs.Views.{doubt_of}
 use Rattle.thy_view.proofs.SafeLemmas.{Safe-failed}
 use Rattle.thy_run.specs.Cuts.{is_end, has_ended, cuts_among, numbered, last_cuttable, cuts_up_to}
 use Rattle.thy_run.specs.Images.{Since, since_after, since_from, no_cuts, AllFitImages, EndsFitting, RestartsDecode}
-use Rattle.thy_run.specs.Laws.{course_of, first_marks, marks_of, Promise, RunKeepsPromise}
+use Rattle.thy_run.specs.Laws.{course_of, first_marks, marks_of, torn, Promise, RunKeepsPromise}
 use Rattle.thy_run.specs.Progress.{IsSoonOver}
 use Rattle.thy_run.specs.Unfinished.{StepFailed, ReadFailed, Ends}
-use Rattle.thy_run.specs.World.{World, seen, events_of, Steps}
+use Rattle.thy_run.specs.World.{World, Given, seen, events_of, Steps}
 use Rattle.thy_run.proofs.CoverLaws.{Covers-sealed, Covers-part, Safe-covered}
 use Rattle.thy_run.proofs.ImageLaws.{settled_since}
 use Rattle.thy_run.proofs.ImageLemmas.{since_from-append, AllFitImages-part}
 use Rattle.thy_run.proofs.ListedLemmas.{cuts_among-append}
+use Rattle.thy_run.proofs.PickLaws.{KeepsPicks, KeepsPicks-framed, KeepsPicks-ran}
 use Rattle.thy_run.proofs.SoonLaws.{SoonOver-ran}
 use Rattle.thy_run.proofs.WorldLaws.{Coheres, Listed, Good, listed_going, events_uncut, Coheres-stepped, Good-ran, cycles-ran}
 
@@ -79,21 +80,24 @@ cuts_fit cuts k w l = (
   ap length l.among ∙ length-numbered 1 (take w.passed cuts) ∙ length-taken w.passed cuts l.few,
 )
 
-module _ {M : Type 0} (K : KindOf M) (o : Origin) (cuts : List ℕ) (w : World M) (least : 1 ≤ o.geometry.epoch) (g : Good K o cuts w) (soon : IsSoonOver K o cuts w.cycles) where
-  done_promise : Promise K o cuts w.cycles w.events w.device
+module _ {M : Type 0} (K : KindOf M) (o : Origin) (given : Given) (w : World M) (least : 1 ≤ o.geometry.epoch) (g : Good K o given.cuts w) (keeps : KeepsPicks given w.passed w.device)
+    (soon : IsSoonOver K o given.cuts w.cycles) where
+  done_promise : Promise K o given w.cycles w.events w.device
   done_promise =
-      let fit = cuts_fit cuts (last_cuttable w.events w.cycles) w g.listed in
+      let fit = cuts_fit given.cuts (last_cuttable w.events w.cycles) w g.listed in
       record {
         events_lawful = g.stands.lawful;
         restarts_decode = record { each = g.stands.each; last = g.stands.images.last };
         cuts_listed = fit.0;
+        picks_listed = keeps.picks ∙ sym (ap (torn given.tears) fit.1);
         images_left = g.stands.left ∙ sym fit.1;
+        fits_stay = keeps.fits;
         safe_at_return = g.stands.safe;
         soon = soon;
       }
 
   -- the step failed: events stay, and the device is safe for what was sealed
-  failed_promise : (n : Device) → StepFailed K o w w.events n → Promise K o cuts w.cycles w.events n
+  failed_promise : (n : Device) → StepFailed K o w w.events n → Promise K o given w.cycles w.events n
   failed_promise n f =
       let left : n.left ≡ w.device.left = f.framed.left in
       let m : Marks = marks_of o w.events in
@@ -102,14 +106,16 @@ module _ {M : Type 0} (K : KindOf M) (o : Origin) (cuts : List ℕ) (w : World M
         events_lawful = p.events_lawful;
         restarts_decode = subst (λ (l : List (List Block)). RestartsDecode K o l w.cycles w.events) (sym left) p.restarts_decode;
         cuts_listed = p.cuts_listed;
+        picks_listed = f.framed.picks ∙ p.picks_listed;
         images_left = ap length left ∙ p.images_left;
+        fits_stay = f.framed.fits ∙ keeps.fits;
         safe_at_return = Safe-covered K o m.kept m.sealed (seen K o w).done (seen K o w).sealed n (Covers-sealed o (seen K o w) m g.stands.fits) f.safe;
         soon = soon;
       }
 
   -- of the step's events only a part was made
   telling_promise : (part rest : List Happening) (next : World M) (n : Device) → Steps K o w next → next.events ≡ w.events ++ part ++ rest → has_ended part ≡ false
-      → (n ≡ next.device) ⊎ ReadFailed next.device n → Promise K o cuts w.cycles (w.events ++ part) n
+      → (n ≡ next.device) ⊎ ReadFailed next.device n → Promise K o given w.cycles (w.events ++ part) n
   telling_promise part rest next n step split unended device =
       let m : Marks = marks_of o w.events in
       let es : List Happening = events_of o w.fresh (seen K o w) step.r.did (seen K o next) (w.cycles + 1) in
@@ -119,7 +125,12 @@ module _ {M : Type 0} (K : KindOf M) (o : Origin) (cuts : List ℕ) (w : World M
       first_none (cuts_among part) (cuts_among rest) (sym (cuts_among-append part rest) ∙ ap cuts_among (sym whole) ∙ events_uncut o w.fresh (seen K o w) step.r.did (seen K o next) (w.cycles + 1)) in
       let left_next : next.device.left ≡ w.device.left = step.framed.left in
       let left : n.left ≡ next.device.left = elim device as (λ _. n.left ≡ next.device.left) [ inl e ↦ ap (λ (x : Device). x.left) e | inr f ↦ f.framed.left ] in
-      let fit = cuts_fit cuts w.cycles w (listed_going K o cuts w g step.going) in
+      let at_next : KeepsPicks given w.passed next.device = KeepsPicks-framed given w.passed w.device next.device step.framed keeps in
+      let kept : KeepsPicks given w.passed n = elim device as (λ _. KeepsPicks given w.passed n) [
+        | inl e ↦ subst (KeepsPicks given w.passed) (sym e) at_next
+        | inr f ↦ KeepsPicks-framed given w.passed next.device n f.framed at_next
+      ] in
+      let fit = cuts_fit given.cuts w.cycles w (listed_going K o given.cuts w g step.going) in
       let same_cuts : cuts_among (w.events ++ part) ≡ cuts_among w.events =
       cuts_among-append w.events part ∙ ap (λ (l : List Happening). cuts_among w.events ++ l) uncut ∙ append-nil (cuts_among w.events) in
       let going : has_ended (w.events ++ part) ≡ false =
@@ -139,8 +150,10 @@ module _ {M : Type 0} (K : KindOf M) (o : Origin) (cuts : List ℕ) (w : World M
               (AllFitImages-part K o next.device.left no_cuts (w.events ++ part) rest (subst (AllFitImages K o next.device.left no_cuts) split after.each));
           last = subst (λ (l : List (List Block)). EndsFitting K o l w.cycles (since_from no_cuts (w.events ++ part))) (sym (left ∙ left_next)) (ends_fitting part uncut);
         };
-        cuts_listed = same_cuts ∙ fit.0 ∙ ap (λ k. numbered 1 (cuts_up_to k cuts)) (sym (ap (λ b. if b then w.cycles - 1 else w.cycles) going));
+        cuts_listed = same_cuts ∙ fit.0 ∙ ap (λ k. numbered 1 (cuts_up_to k given.cuts)) (sym (ap (λ b. if b then w.cycles - 1 else w.cycles) going));
+        picks_listed = kept.picks ∙ sym (ap (torn given.tears) (ap length same_cuts ∙ fit.1));
         images_left = ap length (left ∙ left_next) ∙ g.stands.left ∙ sym (ap length same_cuts ∙ fit.1);
+        fits_stay = kept.fits;
         safe_at_return = subst (λ (x : Marks). Safe K.decode o x.kept x.sealed n) (sym marks) safe;
         soon = soon;
       }
@@ -153,14 +166,14 @@ module _ {M : Type 0} (K : KindOf M) (o : Origin) (cuts : List ℕ) (w : World M
             subst (EndsFitting K o w.device.left w.cycles) (sym e) (λ cycle just. absurd (cc))
       ]
 
-  pub ends_promise : (events : List Happening) (n : Device) → Ends K o w events n → Promise K o cuts w.cycles events n
+  pub ends_promise : (events : List Happening) (n : Device) → Ends K o w events n → Promise K o given w.cycles events n
   ends_promise events n (inl (same, device)) =
-      subst (λ (vs : List Happening). Promise K o cuts w.cycles vs n) (sym same) (subst (Promise K o cuts w.cycles w.events) (sym device) done_promise)
+      subst (λ (vs : List Happening). Promise K o given w.cycles vs n) (sym same) (subst (Promise K o given w.cycles w.events) (sym device) done_promise)
   ends_promise events n (inr (inl f)) =
-      subst (λ (vs : List Happening). Promise K o cuts w.cycles vs n) (sym f.nothing_told)
+      subst (λ (vs : List Happening). Promise K o given w.cycles vs n) (sym f.nothing_told)
       (failed_promise n (subst (λ (vs : List Happening). StepFailed K o w vs n) f.nothing_told f))
   ends_promise events n (inr (inr t)) =
-      subst (λ (vs : List Happening). Promise K o cuts w.cycles vs n) (sym t.told)
+      subst (λ (vs : List Happening). Promise K o given w.cycles vs n) (sym t.told)
       (telling_promise t.part t.rest t.next n t.steps (t.split ∙ ap (λ (vs : List Happening). vs ++ t.rest) t.told) t.unended t.device)
 
 -- every run keeps its promise
@@ -170,4 +183,4 @@ Promise-finished K laws o given cycles events n origin rising f =
     let good = Good-ran K o given cycles f.last least rising f.ran in
     let same : f.last.cycles ≡ cycles = cycles-ran K o given cycles f.last f.ran in
     let soon : IsSoonOver K o given.cuts f.last.cycles = subst (IsSoonOver K o given.cuts) (sym same) (SoonOver-ran K laws o given cycles f.last f.ran) in
-    subst (λ k. Promise K o given.cuts k events n) same (ends_promise K o given.cuts f.last least good soon events n f.ends)
+    subst (λ k. Promise K o given k events n) same (ends_promise K o given f.last least good (KeepsPicks-ran K o given cycles f.last f.ran) soon events n f.ends)

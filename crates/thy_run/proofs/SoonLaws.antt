@@ -13,7 +13,7 @@ use Rattle.thy_view.specs.Pace.{retires}
 use Rattle.thy_view.specs.Safe.{IsOneOf}
 use Rattle.thy_view.specs.Views.{is_boot, mark, doubt_of}
 use Rattle.thy_run.specs.Progress.{RunIsSoonOver, Tally, nothing_done, counted, tally_of}
-use Rattle.thy_run.specs.World.{World, Given, seen, Steps, is_due, IsCutOff, Ran}
+use Rattle.thy_run.specs.World.{World, Given, seen, Steps, is_due, IsCutOff, tear, Ran}
 use Rattle.thy_run.proofs.StepKinds.{Kind, keeps, loads, restores, advances, seals, commits, kind_of}
 use Rattle.thy_run.proofs.BusyLaws.{Busy-ran}
 
@@ -141,20 +141,20 @@ counts_image o end done v (At epoch state) some h one =
 -- ---- runs
 
 module _ {M : Type 0} (K : KindOf M) (o : Origin) (given : Given) (end : ℕ) (some : o.start.count ≤ end) (over : runs_at o end ≡ false) where
-  by_due : (w x next : World M) (step : Steps K o w x) (t : Tally) → Counts o end t.retired (seen K o w) → (b : Bool)
-      → MatchBool b (IsCutOff K o x next) (next ≡ x)
+  by_due : (w x next : World M) (step : Steps K o w x) (t : Tally) → Counts o end t.retired (seen K o w) → (pick : ℕ) (b : Bool)
+      → MatchBool b (IsCutOff K o pick x next) (next ≡ x)
       → Counts o end (if b then nothing_done else counted t (is_boot (seen K o w).phase) step.r.did).retired (seen K o next)
-  by_due w x next step t h true cut =
+  by_due w x next step t h pick true cut =
       let stepped = counts_step o end t.retired (seen K o w) (seen K o x) step.r.did some over (kind_of o (seen K o w) (seen K o x) step.r.did step.is_step.step) h in
       subst (Counts o end 0) (sym cut.found) (counts_image o end _ (seen K o x) _ some stepped (step.is_step.safe next.device.image cut.cut.crash))
-  by_due w x next step t h false is =
+  by_due w x next step t h pick false is =
       let stepped = counts_step o end t.retired (seen K o w) (seen K o x) step.r.did some over (kind_of o (seen K o w) (seen K o x) step.r.did step.is_step.step) h in
       subst (λ (y : World M). Counts o end (t.retired + retires step.r.did) (seen K o y)) (sym is) stepped
 
   counts_ran : (k : ℕ) (w : World M) (ran : Ran K o given k w) → Counts o end (tally_of K o given k w ran).retired (seen K o w)
   counts_ran zero w first = subst (Counts o end 0) (sym first.found) (counts_first o end o.kept some)
   counts_ran (suc k) w (before, ran, cycle) =
-      by_due before cycle.between w cycle.steps (tally_of K o given k before ran) (counts_ran k before ran) (is_due K o given.cuts cycle.between) cycle.cut
+      by_due before cycle.between w cycle.steps (tally_of K o given k before ran) (counts_ran k before ran) (tear given.tears cycle.between.passed) (is_due K o given.cuts cycle.between) cycle.cut
 
   -- no more instructions are done than the program has
   few_done : (k : ℕ) (w : World M) (ran : Ran K o given k w) → o.start.count + (tally_of K o given k w ran).retired ≤ end

@@ -44,6 +44,7 @@ first_of {M = M} K laws plan m n planned powered f =
       found = view;
       safe = subst (λ (d : Option Mark). Safe K.decode o (first_view o).done d n) (first_doubt o o.kept) (subst S view (laws.is_safe o 0 m n at_first));
       left = ap (λ (d : Device). d.left) f.is_fitted;
+      picks = ap (λ (d : Device). d.picks) f.is_fitted;
       empty = ap (λ (d : Device). d.queue) f.is_fitted;
       mix = refl;
       passed = refl;

@@ -14,7 +14,7 @@ use Rattle.thy_view.specs.Pace.{Strides as KeepsIdle}
 use Rattle.thy_view.specs.Views.{is_boot, loads as is_loading, halts}
 use Rattle.thy_run.specs.Strides.{Epoch, first_epoch, epoch_after, AllStride, RunStrides}
 use Rattle.thy_run.specs.Unfinished.{Ends}
-use Rattle.thy_run.specs.World.{World, Given, seen, told, reload_told, end_told, events_of, Steps, is_due, IsCutOff, Ran}
+use Rattle.thy_run.specs.World.{World, Given, seen, told, reload_told, end_told, events_of, Steps, is_due, IsCutOff, tear, Ran}
 use Rattle.thy_run.proofs.StepKinds.{Kind, keeps, loads, restores, advances, seals, commits, kind_of}
 
 -- ---- epochs and events
@@ -189,8 +189,8 @@ module _ {M : Type 0} (K : KindOf M) (o : Origin) where
       }
 
   -- a cut
-  strode_cut : (x next : World M) → IsCutOff K o x next → Strode K o x → Strode K o next
-  strode_cut x next cut h =
+  strode_cut : (pick : ℕ) (x next : World M) → IsCutOff K o pick x next → Strode K o x → Strode K o next
+  strode_cut pick x next cut h =
       let es : List Happening = Cut (x.passed + 1) x.cycles ∷ [] in
       let told : next.events ≡ x.events ++ es = ap (λ (y : World M). y.events) cut.next_is in
       let here : epoch_from o.start.count first (x.events ++ es) ≡ first = epoch_from-append o.start.count first x.events es in
@@ -201,9 +201,9 @@ module _ {M : Type 0} (K : KindOf M) (o : Origin) where
             (tells_boot o (seen K o next) _ (ap (λ v. is_boot v.phase) cut.found ∙ boot.0) (ap (λ v. v.retired) cut.found ∙ boot.1));
       }
 
-  by_due : (w x next : World M) → Steps K o w x → Strode K o w → (b : Bool) → MatchBool b (IsCutOff K o x next) (next ≡ x) → Strode K o next
-  by_due w x next step h true cut = strode_cut x next cut (strode_step w x step h)
-  by_due w x next step h false is = subst (Strode K o) (sym is) (strode_step w x step h)
+  by_due : (w x next : World M) → Steps K o w x → Strode K o w → (pick : ℕ) (b : Bool) → MatchBool b (IsCutOff K o pick x next) (next ≡ x) → Strode K o next
+  by_due w x next step h pick true cut = strode_cut pick x next cut (strode_step w x step h)
+  by_due w x next step h pick false is = subst (Strode K o) (sym is) (strode_step w x step h)
 
   strode_ran : (given : Given) (k : ℕ) (w : World M) → Ran K o given k w → Strode K o w
   strode_ran given zero w start = let boot = image_boot o.start.count (found_first o o.kept) in record {
@@ -212,7 +212,7 @@ module _ {M : Type 0} (K : KindOf M) (o : Origin) where
         (tells_boot o (seen K o w) _ (ap (λ v. is_boot v.phase) start.found ∙ boot.0) (ap (λ v. v.retired) start.found ∙ boot.1));
   }
   strode_ran given (suc k) w (before, ran, cycle) =
-      by_due before cycle.between w cycle.steps (strode_ran given k before ran) (is_due K o given.cuts cycle.between) cycle.cut
+      by_due before cycle.between w cycle.steps (strode_ran given k before ran) (tear given.tears cycle.between.passed) (is_due K o given.cuts cycle.between) cycle.cut
 
   strode_ends : (w : World M) (events : List Happening) (n : Device) → Strode K o w → Ends K o w events n → AllStride o.start.count first events
   strode_ends w events n h (inl (same, device)) = subst (AllStride o.start.count first) (sym same) h.all

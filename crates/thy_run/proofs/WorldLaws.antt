@@ -29,7 +29,7 @@ use Rattle.thy_view.proofs.SafeLemmas.{Safe-doubt}
 use Rattle.thy_run.specs.Cuts.{is_end, has_ended, cuts_among, numbered, last_cuttable, cuts_up_to}
 use Rattle.thy_run.specs.Images.{left_by, since_after, since_from, no_cuts, HasLeft, AllFitImages}
 use Rattle.thy_run.specs.Laws.{course_of, marks_at, first_marks, marks_of}
-use Rattle.thy_run.specs.World.{World, seen, told, reload_told, end_told, events_of, stepped, Steps, is_due, cut_off, IsCutOff, Cycle, Given, IsFirst, Ran}
+use Rattle.thy_run.specs.World.{World, seen, told, reload_told, end_told, events_of, stepped, Steps, is_due, cut_off, IsCutOff, tear, Cycle, Given, IsFirst, Ran}
 use Rattle.thy_run.proofs.Fitting.{IsEither, Rises, Follows, FitsIn, Fits}
 use Rattle.thy_run.proofs.CoverLaws.{Covers-fits, Safe-covered}
 use Rattle.thy_run.proofs.EventLaws.{Fits-events}
@@ -259,13 +259,13 @@ image_phase count (RefusedImage bad) = (refl, refl)
 image_phase count (At epoch state) = (refl, refl)
 
 -- after a cut the device is safe for what it was safe for
-pub Safe-cut : {M : Type 0} (K : KindOf M) → (o : Origin) (kept sealed : Option Mark) (old new : Device) → IsCut old new → Safe K.decode o kept sealed old → Safe K.decode o kept sealed new
-Safe-cut K o kept sealed old new cut safe = λ h crash.
-    let at_cut : Crash (cut_to old new.image) h = subst (λ n. Crash n h) cut.device crash in
-    subst (λ g. IsOneOf o kept sealed (K.decode o.geometry ceiling g)) (sym (Crash-cut_to old new.image h at_cut)) (safe new.image cut.crash)
+pub Safe-cut : {M : Type 0} (K : KindOf M) → (o : Origin) (kept sealed : Option Mark) (pick : ℕ) (old new : Device) → IsCut pick old new → Safe K.decode o kept sealed old → Safe K.decode o kept sealed new
+Safe-cut K o kept sealed pick old new cut safe = λ h crash.
+    let at_cut : Crash (cut_to old pick new.image) h = subst (λ n. Crash n h) cut.device crash in
+    subst (λ g. IsOneOf o kept sealed (K.decode o.geometry ceiling g)) (sym (Crash-cut_to old pick new.image h at_cut)) (safe new.image cut.crash)
 
 module _ {M : Type 0} (K : KindOf M) (o : Origin) (x next : World M) (h : Coheres K o x) (late : x.fresh ≡ false) (going : is_halt (seen K o x).phase ≡ false)
-    (safe : Safe K.decode o (seen K o x).done (doubt_of (seen K o x)) x.device) (cut : IsCutOff K o x next) where
+    (safe : Safe K.decode o (seen K o x).done (doubt_of (seen K o x)) x.device) (pick : ℕ) (cut : IsCutOff K o pick x next) where
   cut_event : List Happening
   cut_event = Cut (x.passed + 1) x.cycles ∷ []
 
@@ -324,7 +324,7 @@ module _ {M : Type 0} (K : KindOf M) (o : Origin) (x next : World M) (h : Cohere
     fits = subst (λ v. Fits o v (marks_of o (x.events ++ Cut (x.passed + 1) x.cycles ∷ []))) (sym cut.found)
         (subst (Fits o (view_of_image o.start.count left_image)) (sym cut_marks) (fits_cut o (seen K o x) (marks_of o x.events) left_image h.fits one_of));
     lawful = AllLawful-append (course_of o) (first_marks o) x.events (Cut (x.passed + 1) x.cycles ∷ []) h.lawful (tt, tt);
-    safe = subst (λ (m : Marks). Safe K.decode o m.kept m.sealed next.device) (sym cut_marks) (Safe-cut K o (marks_of o x.events).kept (marks_of o x.events).sealed x.device next.device cut.cut h.safe);
+    safe = subst (λ (m : Marks). Safe K.decode o m.kept m.sealed next.device) (sym cut_marks) (Safe-cut K o (marks_of o x.events).kept (marks_of o x.events).sealed pick x.device next.device cut.cut h.safe);
     each = subst (λ (l : List (List Block)). AllFitImages K o l no_cuts (x.events ++ Cut (x.passed + 1) x.cycles ∷ [])) (sym lefts) each_cut;
     images = subst (λ (l : List (List Block)). ImagesFit K o l x.cycles true (seen K o next) (since_from no_cuts (x.events ++ Cut (x.passed + 1) x.cycles ∷ []))) (sym lefts)
         (subst (λ v. ImagesFit K o (x.device.left ++ next.device.image ∷ []) x.cycles true v (since_from no_cuts (x.events ++ Cut (x.passed + 1) x.cycles ∷ []))) (sym cut.found)
@@ -364,23 +364,23 @@ module _ {M : Type 0} (K : KindOf M) (o : Origin) (x next : World M) (h : Cohere
 -- ---- cycles
 
 by_due : {M : Type 0} (K : KindOf M) → (o : Origin) (cuts : List ℕ) (w x next : World M) → first_not_rising 0 cuts ≡ None → Steps K o w x → Listed cuts w.cycles w → Coheres K o x
-    → (b : Bool) → is_due K o cuts x ≡ b → MatchBool b (IsCutOff K o x next) (next ≡ x) → Good K o cuts next
-by_due {M = M} K o cuts w x next rising step l stands false due is =
+    → (pick : ℕ) (b : Bool) → is_due K o cuts x ≡ b → MatchBool b (IsCutOff K o pick x next) (next ≡ x) → Good K o cuts next
+by_due {M = M} K o cuts w x next rising step l stands pick false due is =
     subst (Good K o cuts) (sym is) (record { stands = stands; listed = good_stepped K o cuts w x rising step l stands due })
-by_due {M = M} K o cuts w x next rising step l stands true due cut =
+by_due {M = M} K o cuts w x next rising step l stands pick true due cut =
     let parts = due_parts (is_halt (seen K o x).phase) (nat_lt x.passed (length cuts)) (slice_index cuts x.passed == x.cycles) due in
     let late : x.fresh ≡ false = ap (λ (y : World M). y.fresh) step.next_is in
     record {
-      stands = Coheres-cut K o x next stands late parts.0 step.is_step.safe cut;
-      listed = Listed-cut K o x next stands late parts.0 step.is_step.safe cut cuts w.cycles (stepped_cycles K o w x step)
+      stands = Coheres-cut K o x next stands late parts.0 step.is_step.safe pick cut;
+      listed = Listed-cut K o x next stands late parts.0 step.is_step.safe pick cut cuts w.cycles (stepped_cycles K o w x step)
           (listed_stepped K o cuts w x w.cycles step l) rising parts.1 parts.2;
     }
 
 -- one more cycle keeps what holds between two
-pub Good-cycle : {M : Type 0} (K : KindOf M) → (o : Origin) (cuts : List ℕ) (w next : World M) → 1 ≤ o.geometry.epoch → first_not_rising 0 cuts ≡ None → Good K o cuts w → Cycle K o cuts w next → Good K o cuts next
-Good-cycle {M = M} K o cuts w next least rising g c =
+pub Good-cycle : {M : Type 0} (K : KindOf M) → (o : Origin) (cuts tears : List ℕ) (w next : World M) → 1 ≤ o.geometry.epoch → first_not_rising 0 cuts ≡ None → Good K o cuts w → Cycle K o cuts tears w next → Good K o cuts next
+Good-cycle {M = M} K o cuts tears w next least rising g c =
     by_due K o cuts w c.between next rising c.steps (listed_going K o cuts w g c.steps.going) (Coheres-stepped K o w least g.stands c.between c.steps)
-    (is_due K o cuts c.between) refl c.cut
+    (tear tears c.between.passed) (is_due K o cuts c.between) refl c.cut
 
 -- the start is the plain machine's state at its count
 at-start : (o : Origin) → o.start ≡ at o o.start.count
@@ -449,16 +449,16 @@ Good-first {M = M} K o given w rising f =
 pub Good-ran : {M : Type 0} (K : KindOf M) → (o : Origin) (given : Given) (k : ℕ) (w : World M) → 1 ≤ o.geometry.epoch → first_not_rising 0 given.cuts ≡ None → Ran K o given k w → Good K o given.cuts w
 Good-ran {M = M} K o given zero w least rising first = Good-first K o given w rising first
 Good-ran {M = M} K o given (suc k) w least rising (before, ran, cycle) =
-    Good-cycle K o given.cuts before w least rising (Good-ran K o given k before least rising ran) cycle
+    Good-cycle K o given.cuts given.tears before w least rising (Good-ran K o given k before least rising ran) cycle
 
-cycle_counts : {M : Type 0} (K : KindOf M) → (o : Origin) (cuts : List ℕ) (w x next : World M) → Steps K o w x → (b : Bool) → MatchBool b (IsCutOff K o x next) (next ≡ x) → next.cycles ≡ w.cycles + 1
-cycle_counts {M = M} K o cuts w x next step true cut = ap (λ (y : World M). y.cycles) cut.next_is ∙ stepped_cycles K o w x step
-cycle_counts {M = M} K o cuts w x next step false is = ap (λ (y : World M). y.cycles) is ∙ stepped_cycles K o w x step
+cycle_counts : {M : Type 0} (K : KindOf M) → (o : Origin) (cuts : List ℕ) (w x next : World M) → Steps K o w x → (pick : ℕ) (b : Bool) → MatchBool b (IsCutOff K o pick x next) (next ≡ x) → next.cycles ≡ w.cycles + 1
+cycle_counts {M = M} K o cuts w x next step pick true cut = ap (λ (y : World M). y.cycles) cut.next_is ∙ stepped_cycles K o w x step
+cycle_counts {M = M} K o cuts w x next step pick false is = ap (λ (y : World M). y.cycles) is ∙ stepped_cycles K o w x step
 
 -- each counts one
 pub cycles-ran : {M : Type 0} (K : KindOf M) → (o : Origin) (given : Given) (k : ℕ) (w : World M) → Ran K o given k w → w.cycles ≡ k
 cycles-ran {M = M} K o given zero w first = first.cycles
 cycles-ran {M = M} K o given (suc k) w (before, ran, cycle) =
     let e : before.cycles ≡ k = cycles-ran K o given k before ran in
-    let f : w.cycles ≡ before.cycles + 1 = cycle_counts K o given.cuts before cycle.between w cycle.steps (is_due K o given.cuts cycle.between) cycle.cut in
+    let f : w.cycles ≡ before.cycles + 1 = cycle_counts K o given.cuts before cycle.between w cycle.steps (tear given.tears cycle.between.passed) (is_due K o given.cuts cycle.between) cycle.cut in
     omega (arith, e, f)

@@ -23,7 +23,7 @@ use Rattle.thy_run.specs.Cuts.{has_ended}
 use Rattle.thy_run.specs.Due.{due_of}
 use Rattle.thy_run.specs.Laws.{released_of}
 use Rattle.thy_run.specs.Unfinished.{StepFailed, TellingFailed}
-use Rattle.thy_run.specs.World.{World, Given, seen, Steps, Ran, Cycle}
+use Rattle.thy_run.specs.World.{World, Given, seen, Steps, Ran, Cycle, tear}
 use Rattle.thy_run.specs.declared.ending.Stop.{Stop}
 use Rattle.thy_run.specs.declared.ending.Stop.TheVariants.{Nvm, Memory}
 use Rattle.thy_run.specs.declared.advance.Outcome.{Outcome}
@@ -38,7 +38,7 @@ origin_of plan = record { geometry = plan.geometry; start = state_of plan.start.
 
 -- what it is given besides, over a device that was fitted
 abbrev pub given_of : Plan → Device → Given
-given_of plan fitted = record { cuts = plan.config.cuts; seed = plan.config.mix; fitted = fitted }
+given_of plan fitted = record { cuts = plan.config.cuts; tears = plan.config.tears; seed = plan.config.mix; fitted = fitted }
 
 -- its start is one of a run, and the listed cuts rise
 pub record IsPlanned (plan : Plan) : Type 0 where
@@ -136,7 +136,7 @@ pub record IsNoted {M : Type 0} (K : KindOf M) (plan : Plan) (p next : Progress 
 
 -- a cycle is done
 pub record IsDone {M : Type 0} (K : KindOf M) (plan : Plan) (p next : Progress M) (n new : Device) (cycles : ℕ) (bytes : List ℕ) : Type 0 where
-  pub cycle : Cycle K (origin_of plan) plan.config.cuts (world_at p n cycles) (world_at next new (cycles + 1))
+  pub cycle : Cycle K (origin_of plan) plan.config.cuts plan.config.tears (world_at p n cycles) (world_at next new (cycles + 1))
   pub released : next.released ≡ length (released_of (origin_of plan) next.events)
   pub releases : released_of (origin_of plan) next.events ≡ released_of (origin_of plan) p.events ++ bytes
   pub told : (more : List Happening) × (next.events ≡ p.events ++ more)
@@ -197,6 +197,6 @@ pub record CanCut {M : Type 0} (K : KindOf M) (plan : Plan) (p : Progress M) (n 
 
 -- power was cut, with a new machine
 pub record IsCutOffTo {M : Type 0} (K : KindOf M) (plan : Plan) (p next : Progress M) (n new : Device) (cycle : ℕ) : Type 0 where
-  pub cut : IsCut n new
+  pub cut : IsCut (tear plan.config.tears p.passed) n new
   pub powered : K.powered plan.geometry next.machine
   pub same : next ≡ record p { machine = next.machine; passed = p.passed + 1; fresh = true; events = p.events ++ Cut (p.passed + 1) cycle ∷ [] }

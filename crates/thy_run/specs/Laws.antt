@@ -1,5 +1,5 @@
 -- What follows for every run, whatever the cuts left.
-use Rattle.std.specs.Prelude.{◌≡◌, ℕ, List, length, None, Option, Some}
+use Rattle.std.specs.Prelude.{◌≡◌, ℕ, zero, suc, List, [], ◌∷◌, ◌++◌, length, None, Option, Some}
 use Rattle.thy_base.specs.Config.{first_not_rising}
 use Rattle.thy_base.specs.declared.mark.Mark.{Mark}
 use Rattle.thy_base.specs.Device.{Device}
@@ -13,7 +13,7 @@ use Rattle.thy_run.specs.Cuts.{cuts_among, numbered, cuts_up_to, last_cuttable}
 use Rattle.thy_run.specs.Images.{RestartsDecode}
 use Rattle.thy_run.specs.Progress.{IsSoonOver}
 use Rattle.thy_run.specs.Unfinished.{Finished}
-use Rattle.thy_run.specs.World.{Given}
+use Rattle.thy_run.specs.World.{Given, tear}
 
 -- what the events of a run are held against
 abbrev pub course_of : Origin → Course
@@ -39,18 +39,26 @@ console_at o k = (at o k).console
 abbrev pub released_of : Origin → List Happening → List ℕ
 released_of o events = released (console_at o) o.start.count (first_marks o) events
 
--- What is promised of a run: its events are lawful, its restarts are what the cuts left, its cuts are the listed ones,
--- each left one image, the device is safe for the marks that the events leave, and the run is soon over.
-pub record Promise {M : Type 0} (K : KindOf M) (o : Origin) (cuts : List ℕ) (cycles : ℕ) (events : List Happening) (n : Device) : Type 0 where
+-- the picks of the first k cuts
+abbrev pub torn : List ℕ → ℕ → List ℕ
+torn tears zero = []
+torn tears (suc k) = torn tears k ++ tear tears k ∷ []
+
+-- What is promised of a run: its events are lawful, its restarts are what the cuts left, its cuts are the listed ones and
+-- have the listed picks, each left one image, the device was fitted no second time and is safe for the marks that the
+-- events leave, and the run is soon over.
+pub record Promise {M : Type 0} (K : KindOf M) (o : Origin) (given : Given) (cycles : ℕ) (events : List Happening) (n : Device) : Type 0 where
   pub events_lawful : AllLawful (course_of o) (first_marks o) events
   pub restarts_decode : RestartsDecode K o n.left cycles events
-  pub cuts_listed : cuts_among events ≡ numbered 1 (cuts_up_to (last_cuttable events cycles) cuts)
+  pub cuts_listed : cuts_among events ≡ numbered 1 (cuts_up_to (last_cuttable events cycles) given.cuts)
+  pub picks_listed : n.picks ≡ torn given.tears (length (cuts_among events))
   pub images_left : length n.left ≡ length (cuts_among events)
+  pub fits_stay : n.fits ≡ given.fitted.fits
   pub safe_at_return : Safe K.decode o (marks_of o events).kept (marks_of o events).sealed n
-  pub soon : IsSoonOver K o cuts cycles
+  pub soon : IsSoonOver K o given.cuts cycles
 
 -- every run keeps it
 abbrev pub RunKeepsPromise : {M : Type 0} → KindOf M → Type 0
 RunKeepsPromise K =
     (o : Origin) (given : Given) (cycles : ℕ) (events : List Happening) (n : Device)
-    → IsOrigin o → first_not_rising 0 given.cuts ≡ None → Finished K o given cycles events n → Promise K o given.cuts cycles events n
+    → IsOrigin o → first_not_rising 0 given.cuts ≡ None → Finished K o given cycles events n → Promise K o given cycles events n

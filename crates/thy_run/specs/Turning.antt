@@ -1,5 +1,6 @@
 -- The program's loop over cycles, with what its sinks take.
 use Rattle.std.specs.Prelude.{◌≡◌, ◌⊎◌, ℕ, ◌+◌, ◌<◌, ◌≤◌, Bool, true, false, List, [], length, Some}
+use Rattle.thy_base.specs.declared.config.Config.{Config}
 use Rattle.thy_base.specs.declared.nvm.Shape.{Shape}
 use Rattle.thy_base.specs.Counts.{Rose}
 use Rattle.thy_base.specs.Device.{Device, fitted}
@@ -72,14 +73,14 @@ EndsBy K o w events n Memory = StandsAtEnd K o w events n
 EndsBy K o w events n stop = IsLast w events n
 
 -- these events were told before the last cycle
-abbrev pub ToldBefore : {M : Type 0} → KindOf M → Origin → List ℕ → World M → List Happening → Type 0
-ToldBefore {M = M} K o cuts last settled = (before : World M) × Cycle K o cuts before last × (settled ≡ before.events)
+abbrev pub ToldBefore : {M : Type 0} → KindOf M → Origin → Config → World M → List Happening → Type 0
+ToldBefore {M = M} K o config last settled = (before : World M) × Cycle K o config.cuts config.tears before last × (settled ≡ before.events)
 
 -- the events that were told before the last cycle that was begun; a sink that failed did so in that cycle
-abbrev pub IsSettled : {M : Type 0} → KindOf M → Origin → List ℕ → World M → List Happening → Stop → Type 0
-IsSettled K o cuts last settled Terminal = ToldBefore K o cuts last settled
-IsSettled K o cuts last settled Report = ToldBefore K o cuts last settled
-IsSettled K o cuts last settled stop = settled ≡ last.events
+abbrev pub IsSettled : {M : Type 0} → KindOf M → Origin → Config → World M → List Happening → Stop → Type 0
+IsSettled K o config last settled Terminal = ToldBefore K o config last settled
+IsSettled K o config last settled Report = ToldBefore K o config last settled
+IsSettled K o config last settled stop = settled ≡ last.events
 
 -- what a stop says of the run
 abbrev pub StopFits : Plan → Device → Device → Ending → Stop → Type 0
@@ -101,7 +102,7 @@ pub record RunEnds {M : Type 0} (K : KindOf M) (plan : Plan) (fitted new : Devic
   pub ends : EndsBy K (origin_of plan) last e.events new e.stop
   pub few : e.cycles ≤ plan.geometry.limit
   pub settled : List Happening
-  pub is_settled : IsSettled K (origin_of plan) plan.config.cuts last settled e.stop
+  pub is_settled : IsSettled K (origin_of plan) plan.config last settled e.stop
   pub shown_all : Delivered (is_memory e.stop) e.mute (released_of (origin_of plan) settled) (released_of (origin_of plan) e.events) terminal shown
   pub read_all : Delivered false e.deaf (report_of plan.digest settled) (report_of plan.digest e.events) report read
   pub stop_fits : StopFits plan fitted new e e.stop

@@ -1,5 +1,5 @@
 -- A run: its cycles, the power cuts between them, and the events that they give.
-use Rattle.std.specs.Prelude.{◌≡◌, ℕ, zero, suc, ◌+◌, ◌==◌, Bool, true, false, ◌&&◌, not, nat_lt, if◌then◌else◌, MatchBool, List, [], ◌∷◌, ◌++◌, length, slice_index, None}
+use Rattle.std.specs.Prelude.{◌≡◌, ℕ, zero, suc, ◌+◌, ◌==◌, Bool, true, false, ◌&&◌, not, nat_lt, if◌then◌else◌, MatchBool, List, [], ◌∷◌, ◌++◌, length, slice_index, slice_index_or, None}
 use Rattle.thy_base.specs.declared.mix.Mix.{Mix}
 use Rattle.thy_base.specs.Device.{Device, IsCut, IsFramed}
 use Rattle.thy_base.specs.Mix.{mix_start, mix_pick, mix_next}
@@ -95,22 +95,28 @@ cut_off w m n = record {
 
 -- Power is cut, and comes on again: a new machine, which has read nothing, and will find what the device's image decodes
 -- to.
-pub record IsCutOff {M : Type 0} (K : KindOf M) (o : Origin) (w next : World M) : Type 0 where
-  pub cut : IsCut w.device next.device
+pub record IsCutOff {M : Type 0} (K : KindOf M) (o : Origin) (pick : ℕ) (w next : World M) : Type 0 where
+  pub cut : IsCut pick w.device next.device
   pub powered : K.powered o.geometry next.machine
   pub at_moment : K.is_at o w.cycles next.machine next.device
   pub found : seen K o next ≡ view_of_image o.start.count (K.decode o.geometry ceiling next.device.image)
   pub next_is : next ≡ cut_off w next.machine next.device
 
+-- the pick of a cut: the listed one, or 0 where none is listed
+abbrev pub tear : List ℕ → ℕ → ℕ
+tear tears i = slice_index_or tears i 0
+
 -- one cycle: a step, and the cut that is due after it
-pub record Cycle {M : Type 0} (K : KindOf M) (o : Origin) (cuts : List ℕ) (w next : World M) : Type 0 where
+pub record Cycle {M : Type 0} (K : KindOf M) (o : Origin) (cuts tears : List ℕ) (w next : World M) : Type 0 where
   pub between : World M
   pub steps : Steps K o w between
-  pub cut : MatchBool (is_due K o cuts between) (IsCutOff K o between next) (next ≡ between)
+  pub cut : MatchBool (is_due K o cuts between) (IsCutOff K o (tear tears between.passed) between next) (next ≡ between)
 
--- what a run is given besides its program: the listed cuts, the schedule's seed, and the device as it was fitted
+-- What a run is given besides its program: the listed cuts and their picks, the schedule's seed, and the device as it was
+-- fitted.
 pub record Given : Type 0 where
   pub cuts : List ℕ
+  pub tears : List ℕ
   pub seed : ℕ
   pub fitted : Device
 
@@ -122,6 +128,7 @@ pub record IsFirst {M : Type 0} (K : KindOf M) (o : Origin) (given : Given) (w :
   pub found : seen K o w ≡ first_view o
   pub safe : Safe K.decode o (first_view o).done None w.device
   pub left : w.device.left ≡ []
+  pub picks : w.device.picks ≡ []
   pub empty : w.device.queue ≡ []
   pub mix : w.mix ≡ mix_start given.seed
   pub passed : w.passed ≡ 0
@@ -132,4 +139,4 @@ pub record IsFirst {M : Type 0} (K : KindOf M) (o : Origin) (given : Given) (w :
 -- a world after k cycles from the first
 abbrev pub Ran : {M : Type 0} → KindOf M → Origin → Given → ℕ → World M → Type 0
 Ran K o given zero w = IsFirst K o given w
-Ran {M = M} K o given (suc k) w = (before : World M) × Ran K o given k before × Cycle K o given.cuts before w
+Ran {M = M} K o given (suc k) w = (before : World M) × Ran K o given k before × Cycle K o given.cuts given.tears before w

@@ -135,9 +135,9 @@ pub record IsLawful {M : Type 0} (K : KindOf M) : Type 0 where
       → IsOrigin o → K.powered o.geometry m → IsFittedFor K o shape start n
       → K.is_at o 0 m (fitted shape start n) × (K.view o m (fitted shape start n) ≡ first_view o)
   -- a power cut leads to a moment of the same run, whose view is what the image means that was left
-  pub recovers : (o : Origin) (k : ℕ) (m next : M) (n : Device) (g : List Block)
+  pub recovers : (o : Origin) (k : ℕ) (m next : M) (n : Device) (pick : ℕ) (g : List Block)
       → K.is_at o k m n → K.powered o.geometry next → Crash n g
-      → K.is_at o k next (cut_to n g) × (K.view o next (cut_to n g) ≡ view_of_image o.start.count (K.decode o.geometry ceiling g))
+      → K.is_at o k next (cut_to n pick g) × (K.view o next (cut_to n pick g) ≡ view_of_image o.start.count (K.decode o.geometry ceiling g))
   -- when power comes on nothing is queued, and what lies ahead is bounded
   pub powered_on : (o : Origin) (k : ℕ) (m : M) (n : Device)
       → K.is_at o k m n → K.powered o.geometry m → n.queue ≡ [] → IsPoweredOn K o m n
