@@ -22,7 +22,7 @@ use Rattle.thy_plain.specs.Start.{start_state}
 use Rattle.thy_words.specs.declared.words.WordsError.{WordsError}
 use Rattle.thy_words.specs.declared.words.WordsError.TheVariants.{Usage, Word, Value, Memory as WordsMemory}
 use Rattle.thy_words.specs.Settings.{Job, Order, run, plain, settings_of, order_of, ShowsOrMemory}
-use Rattle.thy_view.specs.Kind.{KindOf}
+use Rattle.thy_view.specs.Kind.{KindOf, IsLawful}
 use Rattle.thy_base.specs.declared.mark.Mark.{Mark}
 use Rattle.thy_view.specs.Origin.{Origin, IsOrigin, StartsFrom}
 use Rattle.thy_run.specs.Laws.{Promise}
@@ -111,12 +111,12 @@ finished_by K o given k last events n Report ran ends = record { last = last; ra
 finished_by K o given k last events n Limit ran ends = record { last = last; ran = ran; ends = inl ends }
 
 -- a run that was begun keeps its promise
-pub IsRunOf-ran : {M : Type 0} (K : KindOf M) → (task : Task) (old new : Stock) (plan : Plan) (n d m : Device) (shape : Shape) (e : Ending) (a : Answer) (t0 t r0 told r : Stream) → IsPlanOf task old plan → new.faults ≡ old.faults
+pub IsRunOf-ran : {M : Type 0} (K : KindOf M) → IsLawful K → (task : Task) (old new : Stock) (plan : Plan) (n d m : Device) (shape : Shape) (e : Ending) (a : Answer) (t0 t r0 told r : Stream) → IsPlanOf task old plan → new.faults ≡ old.faults
     → d ≡ fitted shape [] n → shape.blocks ≡ K.blocks plan.geometry → shape.queue ≡ plan.geometry.nvmq → shape.cuts ≡ length plan.config.cuts → RunEnds K plan d m e t0 t r0 told
     → ClosesRun e.deaf e.stop plan.geometry.limit told r → a.events ≡ e.events → a.cycles ≡ e.cycles → a.status ≡ stop_status e.stop → IsRunOf K task old new n m a t0 t r0 r
-IsRunOf-ran K task old new plan n d m shape e a t0 t r0 told r p calm fit blocks queue cuts ends closes events cycles status =
+IsRunOf-ran K laws task old new plan n d m shape e a t0 t r0 told r p calm fit blocks queue cuts ends closes events cycles status =
     let o : Origin = origin_of plan in
-    let kept = Promise-finished K o (given_of plan d) e.cycles e.events m p.planned.origin p.planned.rising (finished_by K o (given_of plan d) e.cycles ends.last e.events m e.stop ends.ran ends.ends) in
+    let kept = Promise-finished K laws o (given_of plan d) e.cycles e.events m p.planned.origin p.planned.rising (finished_by K o (given_of plan d) e.cycles ends.last e.events m e.stop ends.ran ends.ends) in
     record {
       plan = plan;
       is_plan = p;

@@ -15,7 +15,7 @@ returns-in-Err-clause-answer g c =
 
 pub returns-in-Ok-fit-clause-answer : goal.returns-in-Ok-fit-clause-answer
 returns-in-Ok-fit-clause-answer g c =
-    inr (IsRunOf-ran g.M.Computer.kind _ (g.H.Shelf.stock c.args.shelf.now) (g.H.Shelf.stock c.prepare.new.shelf) c.in-Ok.plan (g.N.Nvm.device c.args.nvm.now) (g.N.Nvm.device c.fit.new.self) (g.N.Nvm.device c.run-ending.new.nvm)
+    inr (IsRunOf-ran g.M.Computer.kind g.met.M.Computer.lawful _ (g.H.Shelf.stock c.args.shelf.now) (g.H.Shelf.stock c.prepare.new.shelf) c.in-Ok.plan (g.N.Nvm.device c.args.nvm.now) (g.N.Nvm.device c.fit.new.self) (g.N.Nvm.device c.run-ending.new.nvm)
     _ c.run-ending.result c.answer.result (g.T.Sink.stream c.args.terminal.now) (g.T.Sink.stream c.run-ending.new.terminal) (g.R.Sink.stream c.args.report.now)
     (g.R.Sink.stream c.run-ending.new.report) (g.R.Sink.stream c.answer.new.report) c.in-Ok.ensures.plan c.in-Ok.ensures.calm c.in-Ok-fit.ensures.ok c.nvm_blocks.ensures
     (ap (λ (x : Parameters). x.nvmq) c.numbers.ensures.same) c.len.ensures
