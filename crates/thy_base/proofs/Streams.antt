@@ -1,7 +1,8 @@
 -- What sinks take piece by piece.
 use Rattle.std.proofs.Common.{◌≡◌, ℕ, List, ◌++◌, take, drop, Some, sym, ap, ◌∙◌, append_assoc, arith}
 use Rattle.std.proofs.lemmas.List.{take-append-drop}
-use Rattle.thy_base.specs.Outside.{Rose, Stream, Grew, Took, TookPart}
+use Rattle.thy_base.specs.Counts.{Rose}
+use Rattle.thy_base.specs.Outside.{Stream, Grew, Took, TookPart}
 
 -- a list that is told grew by what stands behind it now
 pub Grew-some : (had now more : List ℕ) → now ≡ had ++ more → Grew (Some had) (Some now) more

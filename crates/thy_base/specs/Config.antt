@@ -1,5 +1,5 @@
 -- The ranges of a configuration's fields, in the order in which they are tested.
-use Rattle.std.specs.Prelude.{ℕ, ◌+◌, ◌*◌, ◌%◌, ◌^◌, Bool, ◌&&◌, ◌==◌, nat_lt, nat_le, if◌then◌else◌, Option, Some, None, List, [], ◌∷◌, length}
+use Rattle.std.specs.Prelude.{◌≡◌, ◌≤◌, ℕ, ◌+◌, ◌*◌, ◌%◌, ◌^◌, Bool, ◌&&◌, ◌==◌, nat_lt, nat_le, if◌then◌else◌, Option, Some, None, List, [], ◌∷◌, length}
 use Rattle.std.specs.Option.{option_or}
 use Rattle.thy_base.specs.declared.config.Config.{Config}
 use Rattle.thy_base.specs.declared.config.ConfigError.{ConfigError}
@@ -58,6 +58,11 @@ cut_fault c =
     or_fault (nat_le (length c.cuts) 64) Cuts (length c.cuts)
     (or_value (first_not_rising 0 c.cuts) Cuts
     (or_fault (nat_le (c.pages * (length c.cuts + 1)) 65536) Cuts (c.pages * (length c.cuts + 1)) None))
+
+-- the lists of a configuration are in their ranges: the cuts, and the picks of what they leave
+pub record HasListsInRange (c : Config) : Type 0 where
+  pub cuts : cut_fault c ≡ None
+  pub tears : length c.tears ≤ length c.cuts + 1
 
 -- at most one pick more than cuts, and a limit
 abbrev pub end_fault : Config → Option ConfigError

@@ -1,10 +1,11 @@
 -- What a block device holds, what each call makes of it, and what a power cut may leave.
-use Rattle.std.specs.Prelude.{◌≡◌, ◌⊎◌, ℕ, ◌+◌, ◌-◌, ◌^◌, ◌≤◌, ◌==◌, min, nat_lt, if◌then◌else◌, Bool, true, false, List, [], ◌∷◌, ◌++◌, length, take, drop, replicate, slice_index_or, slice_set, Contains, Result, MatchResult}
+use Rattle.std.specs.Prelude.{◌≡◌, ◌⊎◌, ℕ, ◌+◌, ◌-◌, ◌==◌, nat_lt, if◌then◌else◌, Bool, true, false, List, [], ◌∷◌, ◌++◌, length, take, drop, replicate, slice_index_or, slice_set, Contains, Result, MatchResult}
 use Rattle.thy_base.specs.declared.block.Block.{Block}
 use Rattle.thy_base.specs.declared.nvm.Shape.{Shape}
 use Rattle.thy_base.specs.declared.nvm.Write.{Write}
 use Rattle.thy_base.specs.declared.nvm.FitError.{FitError}
 use Rattle.thy_base.specs.declared.nvm.FitError.TheVariants.{Failed, Memory}
+use Rattle.thy_base.specs.Counts.{Rose}
 
 -- a block of zeros
 unfoldable pub zero_block : Block
@@ -137,15 +138,11 @@ pub record HasFailedToWrite (at : ℕ) (block : Block) (old new : Device) : Type
   pub down : new.down ≡ true
   pub no_more : HoldsNoMoreBut at block old new
 
--- the count of failed calls rose, or stands at the last value that 64 bits hold
-abbrev pub RoseFaults : ℕ → ℕ → Type 0
-RoseFaults old new = (old ≤ new) × (min (old + 1) (2 ^ 64 - 1) ≤ new)
-
 -- the count stays where a call succeeds, and rose where it fails
 abbrev pub CountsFault : {T E : Type 0} → Result T E → ℕ → ℕ → Type 0
-CountsFault result old new = MatchResult result (λ _. new ≡ old) (λ _. RoseFaults old new)
+CountsFault result old new = MatchResult result (λ _. new ≡ old) (λ _. Rose old new)
 
 -- after a fit that failed: for want of memory nothing has changed
 abbrev pub HasFailedToFit : FitError → Device → Device → Type 0
-HasFailedToFit Failed old new = HasFailed old new × IsFramed old new × RoseFaults old.faults new.faults
+HasFailedToFit Failed old new = HasFailed old new × IsFramed old new × Rose old.faults new.faults
 HasFailedToFit (Memory e) old new = new ≡ old

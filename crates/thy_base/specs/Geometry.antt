@@ -5,8 +5,7 @@ use Rattle.thy_base.specs.declared.config.ConfigError.{ConfigError}
 use Rattle.thy_base.specs.declared.config.Parameters.{Parameters}
 use Rattle.thy_base.specs.Config.{fault_of}
 
--- The numbers that places, memory and queues depend on are in their ranges. Those of the cache and of page writeback (sets,
--- ways, high, low) have no effect yet, and `fault_of` alone tests them.
+-- Each number is in its range, in the order in which they are tested. The seed of the schedule may be any.
 pub record IsInRange (p : Parameters) : Type 0 where
   pub base_aligned : p.base % 4096 ≡ 0
   pub base_below : p.base < 2 ^ 62
@@ -19,12 +18,22 @@ pub record IsInRange (p : Parameters) : Type 0 where
   pub epoch_most : p.epoch ≤ 1000000
   pub btt_least : 8 ≤ p.btt
   pub btt_most : p.btt ≤ 4096
+  pub btt_eights : p.btt % 8 ≡ 0
   pub ptt_least : 8 ≤ p.ptt
   pub ptt_most : p.ptt ≤ 512
+  pub ptt_eights : p.ptt % 8 ≡ 0
+  pub sets_least : 1 ≤ p.sets
+  pub sets_most : p.sets ≤ 64
+  -- the powers of two up to 64 are the divisors of 64
+  pub sets_power : 64 % p.sets ≡ 0
+  pub ways_least : 1 ≤ p.ways
+  pub ways_most : p.ways ≤ 8
   pub nvmq_least : 1 ≤ p.nvmq
   pub nvmq_most : p.nvmq ≤ 64
   pub dramq_least : 1 ≤ p.dramq
   pub dramq_most : p.dramq ≤ 64
+  pub high_most : p.high ≤ 63
+  pub low_most : p.low ≤ p.high
   pub limit_least : 1 ≤ p.limit
   pub limit_most : p.limit ≤ 10 ^ 12
 

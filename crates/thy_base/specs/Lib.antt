@@ -1,8 +1,14 @@
+pub mod Blocks
 pub mod Bytes
 pub mod Config
+pub mod Counts
+pub mod Demands
 pub mod Device
+pub mod Fields
 pub mod Geometry
+pub mod Inside
 pub mod Lcg
+pub mod LittleEndian
 pub mod Mix
 pub mod Outside
 pub mod Store

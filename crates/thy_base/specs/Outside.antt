@@ -1,15 +1,11 @@
 -- What shelves hold, what sinks take, and their counts of faults.
-use Rattle.std.specs.Prelude.{◌≡◌, ◌≢◌, ℕ, ◌+◌, ◌-◌, ◌^◌, ◌<◌, ◌≤◌, min, List, ◌++◌, length, Option, Some, None, Result, Ok, Err, Vec, MatchOption}
+use Rattle.std.specs.Prelude.{◌≡◌, ◌≢◌, ℕ, ◌<◌, ◌≤◌, List, ◌++◌, length, Option, Some, None, Result, Ok, Err, Vec, MatchOption}
 use Rattle.std.specs.declared.alloc.Global.{Global}
 use Rattle.thy_base.specs.declared.outside.FetchError.{FetchError}
 use Rattle.thy_base.specs.declared.outside.FetchError.TheVariants.{Failed, NotThere, TooLong, Memory}
 use Rattle.thy_base.specs.declared.outside.PutError.{PutError}
 use Rattle.thy_base.specs.declared.outside.PutError.TheVariants.{Failed as PutFailed, Memory as PutMemory}
-
--- A count of faults rose. One that stands at the last value of a 64-bit number stays there.
-pub record Rose (old new : ℕ) : Type 0 where
-  pub no_less : old ≤ new
-  pub more : min (old + 1) (2 ^ 64 - 1) ≤ new
+use Rattle.thy_base.specs.Counts.{Rose}
 
 -- A sink: the bytes that it took so far, where it tells them, and its count of faults.
 pub record Stream : Type 0 where

@@ -1,5 +1,5 @@
 -- What a store of blocks and the device behind it are together, and what a store of a block makes of them.
-use Rattle.std.specs.Prelude.{◌≡◌, ◌⊎◌, ℕ, ◌+◌, ◌/◌, ◌^◌, ◌≤◌, Bool, true, List, slice_set, Option, Some, None}
+use Rattle.std.specs.Prelude.{◌≡◌, ◌⊎◌, ℕ, ◌+◌, ◌-◌, ◌/◌, ◌^◌, ◌≤◌, Bool, true, List, slice_set, Option, Some, None}
 use Rattle.thy_base.specs.declared.block.Block.{Block}
 use Rattle.thy_base.specs.declared.store.Stored.{Stored}
 use Rattle.thy_base.specs.declared.store.Stored.TheVariants.{Done, CopyFirst}
@@ -58,4 +58,8 @@ HasStored CopyFirst b block old new = IsCopiedFirst b old new
 
 -- a plain list of blocks: always ready, with room for as many stores as a number can count
 abbrev pub flat_list : List Block → Holding
-flat_list blocks = record { blocks = blocks; faults = 0; free = 2 ^ 64; ready = true; open_page = None; owed = 0 }
+flat_list blocks = record { blocks = blocks; faults = 0; free = 2 ^ 64 - 1; ready = true; open_page = None; owed = 0 }
+
+-- one block at most is another
+abbrev pub ChangesOne : List Block → List Block → Type 0
+ChangesOne old new = (new ≡ old) ⊎ ((b : ℕ) × (block : Block) × (new ≡ slice_set old b block))

@@ -1,8 +1,10 @@
 //! A configuration in range, and the places that follow from it.
-ghost use Rattle.std.specs.Prelude.{◌≡◌, ◌+◌, ◌*◌, ◌-◌, ◌<◌, ◌≤◌};
-ghost use Rattle.thy_base.specs.Geometry.{IsInRange, geometry_of, blocks_of, slot_of, memory_blocks, program_size, console_room, stack_top};
+ghost use Rattle.std.specs.Prelude.{◌≡◌, ◌↔◌, ◌+◌, ◌*◌, ◌-◌, ◌<◌, ◌≤◌};
+ghost use Rattle.thy_base.specs.Config.{HasListsInRange};
+ghost use Rattle.thy_base.specs.Geometry.{IsInRange, geometry_of, parameters_of, blocks_of, slot_of, memory_blocks, program_size, console_room, stack_top};
 
-use crate::Parameters;
+use crate::ranges::{first_fault, parameters};
+use crate::{Config, ConfigError, Parameters};
 use std::marker::Model;
 
 /// The numbers of a configuration whose every field is in range, and the places of the NVM that
@@ -27,12 +29,20 @@ impl Model for Geometry {
 }
 
 impl Geometry {
-    /// The geometry of numbers that are all in range.
-    pub fn of(numbers: Parameters) -> Geometry
-        requires { IsInRange numbers }
-        ensures { result ≡ numbers }
+    /// The geometry of a configuration, or the first field out of its range in the order of
+    /// `Config`'s fields.
+    pub fn new(config: &Config) -> Result<Geometry, ConfigError>
+        ensures geometry { result ≡ geometry_of config.now }
+
+        // So it is one exactly where each number and both lists are in range.
+        ensures in_range { let p = parameters_of config.now in (result ≡ Ok p) ↔ (IsInRange p × HasListsInRange config.now) }
     {
-        Geometry { numbers }
+        match first_fault(config) {
+            Some(fault) => Err(fault),
+            None => Ok(Geometry {
+                numbers: parameters(config),
+            }),
+        }
     }
 
     /// The numbers, each in its range.

@@ -1,24 +1,12 @@
 //! The tests of a configuration's ranges, in their order.
 ghost use Rattle.std.specs.Prelude.{◌≡◌, ◌+◌, ◌*◌, ◌<◌, ◌≤◌, ◌∷◌, drop, Bool, Option, Some, None, List, length, is_none, IfNone, nat_le, ◌&&◌};
 ghost use Rattle.thy_base.specs.Config.{fault_of, memory_fault, table_fault, queue_fault, threshold_fault, cut_fault, end_fault, first_not_rising, or_fault, within};
-ghost use Rattle.thy_base.specs.Geometry.{geometry_of, parameters_of};
+ghost use Rattle.thy_base.specs.Geometry.{parameters_of};
 
-use crate::{Config, ConfigError, Field, Geometry, Parameters};
+use crate::{Config, ConfigError, Field, Parameters};
 
-impl Geometry {
-    /// The geometry of a configuration, or the first field out of its range in the order of
-    /// `Config`'s fields.
-    pub fn new(config: &Config) -> Result<Geometry, ConfigError>
-        ensures { result ≡ geometry_of config.now }
-    {
-        match first_fault(config) {
-            Some(fault) => Err(fault),
-            None => Ok(Geometry::of(parameters(config))),
-        }
-    }
-}
-
-fn parameters(c: &Config) -> Parameters
+/// The numbers of a configuration, without its lists.
+pub(crate) fn parameters(c: &Config) -> Parameters
     ensures { result ≡ parameters_of c.now }
 {
     Parameters {
@@ -39,7 +27,8 @@ fn parameters(c: &Config) -> Parameters
     }
 }
 
-fn first_fault(c: &Config) -> Option<ConfigError>
+/// The first field out of its range.
+pub(crate) fn first_fault(c: &Config) -> Option<ConfigError>
     ensures { result ≡ fault_of c.now }
 {
     if let Some(fault) = memory(c) {

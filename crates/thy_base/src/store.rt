@@ -16,14 +16,18 @@ pub enum Stored {
 
 /// A list of blocks that lies in a store and in the device `N` behind it.
 ///
-/// A call answers `NvmError` only where it raised the count of faults. Whatever it answers, the
-/// store and the device stay what `stays` says of them.
+/// A call answers `NvmError` only where it raised the count of faults. Whatever it answers, `once`
+/// holds from before it to after it, and so does `stays`.
 pub trait BlockStore<N> {
     /// What the store and the device hold together.
     ghost holding: { Self → N → Holding };
 
+    /// From a store and a device before one load or one store to those after it, one that fails too.
+    /// It need hold neither where no call is made nor over two: who promises it has made one call.
+    ghost once: { Self → N → Self → N → Type 0 };
+
     /// What every call keeps, one that fails too: a relation from an earlier store and device to
-    /// later ones.
+    /// later ones, over any number of calls.
     ghost stays: { Self → N → Self → N → Type 0 };
 
     /// Block `b`. Nothing changes.
@@ -32,7 +36,7 @@ pub trait BlockStore<N> {
         ensures ok { IfOk result (λ block. block ≡ block_at (holding self.old nvm.old).blocks b) }
         ensures same { OnOk result (holding self.new nvm.new ≡ holding self.old nvm.old) }
         ensures kept { IsKeptByLoad (holding self.old nvm.old) (holding self.new nvm.new) }
-        ensures stays { stays self.old nvm.old self.new nvm.new }
+        ensures once { once self.old nvm.old self.new nvm.new }
         ensures cause { CountsFault result (holding self.old nvm.old).faults (holding self.new nvm.new).faults };
 
     /// Stores block `b`, or makes the copy that has to go first.
@@ -41,8 +45,11 @@ pub trait BlockStore<N> {
         requires ready { (holding self.old nvm.old).ready ≡ true }
         requires room { 0 < (holding self.old nvm.old).free }
         ensures ok { IfOk result (λ stored. HasStored stored b block.now (holding self.old nvm.old) (holding self.new nvm.new)) }
-        ensures stays { stays self.old nvm.old self.new nvm.new }
+        ensures once { once self.old nvm.old self.new nvm.new }
         ensures cause { CountsFault result (holding self.old nvm.old).faults (holding self.new nvm.new).faults };
+
+    /// What stays does so over one call.
+    ghost once_stays: { (a : Self) (m : N) (b : Self) (n : N) → once a m b n → stays a m b n };
 
     /// What stays is as it was where nothing happens.
     ghost stays_same: { (store : Self) (nvm : N) → stays store nvm store nvm };
@@ -53,9 +60,11 @@ pub trait BlockStore<N> {
 
 /// A plain list of blocks, with nothing behind it. Every store is done, and no call fails.
 impl BlockStore<()> for Vec<Block> {
-    ghost use Rattle.thy_base.specs.Store.{flat_list};
+    ghost use Rattle.thy_base.specs.Store.{flat_list, ChangesOne};
 
     ghost holding = { λ list nothing. flat_list list.items };
+
+    ghost once = { λ a m b n. ChangesOne a.items b.items };
 
     ghost stays = { λ a m b n. Unit {0} };
 
@@ -67,6 +76,8 @@ impl BlockStore<()> for Vec<Block> {
         self[b as usize] = *block;
         Ok(Stored::Done)
     }
+
+    ghost once_stays = { λ a m b n once. tt };
 
     ghost stays_same = { λ list nothing. tt };
 

@@ -1,5 +1,5 @@
 -- Where no line is dirty, and what a cache reads as then.
-use Rattle.std.proofs.Common.{◌≡◌, ℕ, ◌*◌, ◌^◌, ◌<◌, ◌≤◌, Bool, true, false, cond, nat_lt, List, length, get_or, replicate, sum_by, All, Option, Some, None, unwrap_or, refl, sym, ◌∙◌, ap, inl, inr, arith}
+use Rattle.std.proofs.Common.{◌≡◌, ℕ, ◌*◌, ◌^◌, ◌<◌, ◌≤◌, Bool, true, false, cond, nat_lt, List, length, get_or, replicate, sum_by, All, Option, Some, None, option_and_then, unwrap_or, refl, sym, ◌∙◌, ap, inl, inr, arith}
 use Rattle.std.specs.List.{position, position_or_len}
 use Rattle.std.specs.Option.{option_map, is_some}
 use Rattle.std.proofs.lemmas.Bool.{cases_Bool, cases_lt, ltb-false}
@@ -12,7 +12,7 @@ use Rattle.thy_base.specs.declared.block.Block.{Block}
 use Rattle.thy_base.specs.Device.{block_at}
 use Rattle.thy_cache.specs.declared.line.Line.{Line}
 use Rattle.thy_cache.specs.Ways.{Ways, line_at, is_dirty, has_dirty, dirty_lines, empty_ways}
-use Rattle.thy_cache.specs.Contents.{Contents, IsSound, empty_cache, no_ways, set_at, set_of, index_of, line_of, dirty_count}
+use Rattle.thy_cache.specs.Contents.{Contents, IsSound, empty_cache, no_ways, set_at, set_of, index_of, line_of, dirty_line_in, HasNoneDirty, dirty_count}
 use Rattle.thy_cache.specs.Flat.{flat, Agrees}
 use Rattle.thy_cache.proofs.LineLemmas.{passed_over, line_in-found}
 use Rattle.thy_cache.proofs.AgreeLemmas.{none_is_none}
@@ -74,6 +74,13 @@ none-counted c s w e = elim (cases_Bool (is_dirty (line_at (set_at c s) w))) as 
   | inl is_so ↦ let some = some-dirty c s w is_so in absurd (omega (arith, some, e))
   | inr not_so ↦ not_so
 ]
+
+-- where no set has one, there is none
+pub HasNoneDirty-none : (c : Contents) → position has_dirty c.sets ≡ None → HasNoneDirty c
+HasNoneDirty-none c e = record {
+  first = ap (option_and_then (λ s. dirty_line_in (set_at c s))) e;
+  none = λ s w. none-counted c s w (none-dirty c e);
+}
 
 -- a line that is found is then the store's block
 pub flat_at-clean : (c : Contents) (blocks : List Block) (b : ℕ) (o : Option Line) → dirty_count c ≡ 0 → Agrees c blocks → line_of c b ≡ o

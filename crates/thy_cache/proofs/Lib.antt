@@ -7,3 +7,4 @@ pub mod CountLemmas
 pub mod WriteLaws
 pub mod StoreLaws
 pub mod FlushLaws
+pub mod SizeLaws

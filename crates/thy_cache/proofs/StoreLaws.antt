@@ -75,6 +75,14 @@ fill-agrees c blocks b block can =
     (SetAgrees-filled (length c.sets) blocks (index_of c b) (victim_way (set_of c b)) b block (used (victim_way (set_of c b)) (set_of c b)) (filling c blocks b block can))
     (λ t other. can.agrees.sets t)
 
+-- so does the cache that a fill leaves, over a store that holds the same
+pub filled-flat : (c d : Contents) (blocks held : List Block) (b : ℕ) (block : Block) → CanFill c blocks b block → d ≡ filled_with b block c → held ≡ blocks
+    → flat d held ≡ flat c blocks
+filled-flat c d blocks held b block can now same = rw (now, same) (fill-flat c blocks b block can)
+
+pub filled-agrees : (c d : Contents) (blocks held : List Block) (b : ℕ) (block : Block) → CanFill c blocks b block → d ≡ filled_with b block c → held ≡ blocks → Agrees d held
+filled-agrees c d blocks held b block can now same = rw (now, same) (fill-agrees c blocks b block can)
+
 -- a line that is put where a clean one or none was is clean
 pub fill-count : (c : Contents) (b : ℕ) (block : Block) → index_of c b < length c.sets → victim_way (set_of c b) < length (set_of c b).lines
     → is_dirty (victim_line_of c b) ≡ false → dirty_count (filled_with b block c) ≡ dirty_count c

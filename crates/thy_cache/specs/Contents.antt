@@ -1,10 +1,10 @@
 -- A cache: its sets, and what each call makes of them.
-use Rattle.std.specs.Prelude.{◌≡◌, ℕ, ◌+◌, ◌%◌, ◌^◌, ◌<◌, Bool, true, false, List, [], length, replicate, slice_index_or, slice_set, sum_by, position, Option, Some, is_some, unwrap_or}
+use Rattle.std.specs.Prelude.{◌≡◌, ◌⊎◌, ℕ, ◌+◌, ◌*◌, ◌≤◌, ◌%◌, ◌^◌, ◌<◌, Bool, true, false, List, [], length, replicate, slice_index_or, slice_set, sum_by, position, All, Option, Some, None, is_some, unwrap_or, option_and_then}
 use Rattle.std.specs.Option.{option_map}
 use Rattle.thy_base.specs.declared.block.Block.{Block}
 use Rattle.thy_base.specs.declared.store.Stored.{Stored}
 use Rattle.thy_base.specs.declared.store.Stored.TheVariants.{Done, CopyFirst}
-use Rattle.thy_base.specs.Store.{Holding, HasStored}
+use Rattle.thy_base.specs.Store.{Holding, HasStored, page_of}
 use Rattle.thy_cache.specs.declared.line.Line.{Line}
 use Rattle.thy_cache.specs.declared.line.Victim.{Victim}
 use Rattle.thy_cache.specs.declared.line.Victim.TheVariants.{Room, Dirty}
@@ -75,6 +75,17 @@ dirty_count c = sum_by dirty_lines c.sets
 abbrev pub way_count : Contents → ℕ
 way_count c = sum_by (λ set. length set.lines) c.sets
 
+-- a cache of so many sets of so many ways each
+pub record IsSized (sets ways : ℕ) (c : Contents) : Type 0 where
+  pub set_count : length c.sets ≡ sets
+  pub each : All (λ set. length set.lines ≡ ways) c.sets
+  -- so no more lines than these are dirty
+  pub few_dirty : dirty_count c ≤ sets * ways
+
+-- it has as many sets and ways as before
+abbrev pub KeepsSize : Contents → Contents → Type 0
+KeepsSize old new = (sets ways : ℕ) → IsSized sets ways old → IsSized sets ways new
+
 -- another set in the place of one
 abbrev pub with_set : ℕ → Ways → Contents → Contents
 with_set s set c = record c { sets = slice_set c.sets s set }
@@ -112,9 +123,18 @@ dirty_set c = unwrap_or (position has_dirty c.sets) 0
 abbrev pub dirty_way : Contents → ℕ
 dirty_way c = unwrap_or (position is_dirty (set_at c (dirty_set c)).lines) 0
 
--- the first dirty line
+-- the first dirty line of a set, where it has one
+abbrev pub dirty_line_in : Ways → Option Line
+dirty_line_in set = option_and_then (line_at set) (position is_dirty set.lines)
+
+-- the first dirty line, where there is one
 abbrev pub dirty_line : Contents → Option Line
-dirty_line c = line_at (set_at c (dirty_set c)) (dirty_way c)
+dirty_line c = option_and_then (λ s. dirty_line_in (set_at c s)) (position has_dirty c.sets)
+
+-- no line is dirty
+pub record HasNoneDirty (c : Contents) : Type 0 where
+  pub first : dirty_line c ≡ None
+  pub none : (s w : ℕ) → is_dirty (line_at (set_at c s) w) ≡ false
 
 -- after a step of a flush
 abbrev pub flushed_from : Flushed → Contents → Contents
@@ -144,3 +164,11 @@ abbrev pub CountsFlushed : Flushed → ℕ → ℕ → Type 0
 CountsFlushed Clean old new = new ≡ old
 CountsFlushed StoredLine old new = new + 1 ≡ old
 CountsFlushed CopiedFirst old new = new ≡ old
+
+-- no page is being copied, or that of the first dirty line
+abbrev pub IsOpenForFlush : Contents → Option ℕ → Type 0
+IsOpenForFlush c page = (page ≡ None) ⊎ ((line : Line) × (dirty_line c ≡ Some line) × (page ≡ Some (page_of line.at)))
+
+-- and so it is after a step of a flush, where it was before
+abbrev pub KeepsOpen : Contents → Holding → Contents → Holding → Type 0
+KeepsOpen c old d new = IsOpenForFlush c old.open_page → IsOpenForFlush d new.open_page

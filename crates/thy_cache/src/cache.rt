@@ -1,9 +1,9 @@
 //! The cache.
-ghost use Rattle.std.specs.Prelude.{◌≡◌, ◌<◌, ◌≤◌, ◌+◌, ◌↔◌, Ok, Some, true, false, if◌then◌else◌, length, position, is_some, IfOk, IfSome, IfNone, OnOk, OnErr};
+ghost use Rattle.std.specs.Prelude.{◌≡◌, ◌≢◌, ◌<◌, ◌≤◌, ◌+◌, ◌↔◌, Ok, Some, true, false, if◌then◌else◌, length, position, is_some, IfOk, IfSome, IfNone, OnOk, OnErr};
 ghost use Rattle.thy_base.specs.Device.{block_at, CountsFault};
 ghost use Rattle.thy_base.specs.Store.{IsKeptByLoad};
 ghost use Rattle.thy_cache.specs.Ways.{is_dirty, line_at, victim_way, has_dirty};
-ghost use Rattle.thy_cache.specs.Contents.{Contents, empty_cache, set_at, set_of, index_of, victim_line_of, is_dirty_victim, cleaned_at, filled_with, evicted_for, stored_at, dirty_set, dirty_way, flushed_from, HasFlushed, CountsFlushed, StoresLine, CountsStored, line_of, peeked, hits, victim_of, dirty_count, read_from, written_at};
+ghost use Rattle.thy_cache.specs.Contents.{Contents, empty_cache, set_at, set_of, index_of, victim_line_of, is_dirty_victim, cleaned_at, filled_with, evicted_for, stored_at, dirty_set, dirty_way, dirty_line, HasNoneDirty, IsSized, KeepsSize, KeepsOpen, flushed_from, HasFlushed, CountsFlushed, StoresLine, CountsStored, line_of, peeked, hits, victim_of, dirty_count, read_from, written_at};
 ghost use Rattle.thy_cache.specs.Flat.{flat, Agrees, PeeksSame, HitsSame, ReadsSame, ReadsAs, AgreesWithAll, ReadsAsStore, WritesOver, AgreesStill};
 
 use crate::line::{Flushed, Line, Victim};
@@ -37,6 +37,7 @@ impl Cache {
         requires ways { 0 < ways }
         ensures cache { IfOk result (λ cache. cache ≡ empty_cache sets ways) }
         ensures dirty { IfOk result (λ cache. dirty_count cache ≡ 0) }
+        ensures sized { IfOk result (λ cache. IsSized sets ways cache) }
 
         // It agrees with every store, and reads as that store.
         ensures agree { IfOk result (λ cache. AgreesWithAll cache) }
@@ -125,6 +126,7 @@ impl Cache {
         ensures flat { ReadsSame self.old self.new }
         ensures agree { AgreesStill self.old self.new }
         ensures dirty { dirty_count self.new ≡ dirty_count self.old }
+        ensures sized { KeepsSize self.old self.new }
     {
         let line = self.line_of(b);
         self.touch(b);
@@ -146,6 +148,7 @@ impl Cache {
         ensures hits { HitsSame self.old self.new }
         ensures agree { AgreesStill self.old self.new }
         ensures dirty { dirty_count self.new + (if is_dirty (line_of self.old b) then 1 else 0) ≡ dirty_count self.old + 1 }
+        ensures sized { KeepsSize self.old self.new }
     {
         self.write_line(b, at as usize, bytes);
     }
@@ -208,7 +211,10 @@ impl Cache {
         ensures flat { OnOk result (flat self.new (S.holding store.new nvm.new).blocks ≡ flat self.old (S.holding store.old nvm.old).blocks) }
         ensures agree { OnOk result (Agrees self.new (S.holding store.new nvm.new).blocks) }
         ensures dirty { dirty_count self.new ≡ dirty_count self.old }
+        ensures sized { KeepsSize self.old self.new }
 
+        // The store makes one load.
+        ensures once { S.once store.old nvm.old store.new nvm.new }
         ensures kept { IsKeptByLoad (S.holding store.old nvm.old) (S.holding store.new nvm.new) }
         ensures stays { S.stays store.old nvm.old store.new nvm.new }
         ensures cause { CountsFault result (S.holding store.old nvm.old).faults (S.holding store.new nvm.new).faults }
@@ -263,7 +269,10 @@ impl Cache {
         ensures flat { OnOk result (flat self.new (S.holding store.new nvm.new).blocks ≡ flat self.old (S.holding store.old nvm.old).blocks) }
         ensures agree { OnOk result (Agrees self.new (S.holding store.new nvm.new).blocks) }
         ensures dirty { IfOk result (λ stored. CountsStored stored (dirty_count self.old) (dirty_count self.new)) }
+        ensures sized { KeepsSize self.old self.new }
 
+        // The store makes one store.
+        ensures once { S.once store.old nvm.old store.new nvm.new }
         ensures stays { S.stays store.old nvm.old store.new nvm.new }
         ensures cause { CountsFault result (S.holding store.old nvm.old).faults (S.holding store.new nvm.new).faults }
     {
@@ -300,7 +309,10 @@ impl Cache {
         ensures flat { OnOk result (flat self.new (S.holding store.new nvm.new).blocks ≡ flat self.old (S.holding store.old nvm.old).blocks) }
         ensures agree { OnOk result (Agrees self.new (S.holding store.new nvm.new).blocks) }
         ensures dirty { IfOk result (λ stored. CountsStored stored (dirty_count self.old) (dirty_count self.new)) }
+        ensures sized { KeepsSize self.old self.new }
 
+        // The store makes one store.
+        ensures once { S.once store.old nvm.old store.new nvm.new }
         ensures stays { S.stays store.old nvm.old store.new nvm.new }
         ensures cause { CountsFault result (S.holding store.old nvm.old).faults (S.holding store.new nvm.new).faults }
     {
@@ -334,6 +346,7 @@ impl Cache {
 
         // Once no line is dirty the store's list is the flat list.
         ensures clean { (result ≡ Ok Flushed.Clean) ↔ (dirty_count self.old ≡ 0) }
+        ensures none { result ≡ Ok Flushed.Clean → HasNoneDirty self.new }
         ensures written { result ≡ Ok Flushed.Clean → flat self.new (S.holding store.new nvm.new).blocks ≡ (S.holding store.new nvm.new).blocks }
 
         // What the lines hold stays, and the flat list is as before.
@@ -342,7 +355,14 @@ impl Cache {
         ensures flat { OnOk result (flat self.new (S.holding store.new nvm.new).blocks ≡ flat self.old (S.holding store.old nvm.old).blocks) }
         ensures agree { OnOk result (Agrees self.new (S.holding store.new nvm.new).blocks) }
         ensures dirty { IfOk result (λ flushed. CountsFlushed flushed (dirty_count self.old) (dirty_count self.new)) }
+        ensures sized { KeepsSize self.old self.new }
 
+        // Where no page was open but that of the first dirty line, it is so again.
+        ensures open { OnOk result (KeepsOpen self.old (S.holding store.old nvm.old) self.new (S.holding store.new nvm.new)) }
+
+        // The store makes one store, or nothing where no line is dirty.
+        ensures once { result ≢ Ok Flushed.Clean → S.once store.old nvm.old store.new nvm.new }
+        ensures untouched { result ≡ Ok Flushed.Clean → (store.new ≡ store.old) × (nvm.new ≡ nvm.old) }
         ensures stays { S.stays store.old nvm.old store.new nvm.new }
         ensures cause { CountsFault result (S.holding store.old nvm.old).faults (S.holding store.new nvm.new).faults }
     {
@@ -358,11 +378,13 @@ impl Cache {
     /// The set and the way of the first dirty line.
     fn dirty_place(&self) -> Option<(usize, usize)>
         ensures none { IfNone result (dirty_count self.now ≡ 0) }
+        ensures clean { IfNone result (HasNoneDirty self.now) }
         ensures some { IfSome result (λ place. 0 < dirty_count self.now) }
         ensures set { IfSome result (λ place. place.0 ≡ dirty_set self.now) }
         ensures inside { IfSome result (λ place. place.0 < length self.now.sets) }
         ensures way { IfSome result (λ place. place.1 ≡ dirty_way self.now) }
         ensures dirty { IfSome result (λ place. is_dirty (line_at (set_at self.now place.0) place.1) ≡ true) }
+        ensures first { IfSome result (λ place. dirty_line self.now ≡ line_at (set_at self.now place.0) place.1) }
     {
         match self.dirty_set() {
             None => None,

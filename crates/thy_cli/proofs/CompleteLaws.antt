@@ -7,9 +7,10 @@ use Rattle.thy_base.specs.declared.nvm.FitError.{FitError}
 use Rattle.thy_base.specs.declared.nvm.FitError.TheVariants.{Failed as FitFailed, Memory as FitMemory}
 use Rattle.thy_base.specs.declared.outside.FetchError.{FetchError}
 use Rattle.thy_base.specs.declared.outside.FetchError.TheVariants.{Failed as FetchFailed, NotThere, TooLong, Memory as FetchMemory}
-use Rattle.thy_base.specs.Device.{Device, RoseFaults, HasFailedToFit}
+use Rattle.thy_base.specs.Counts.{Rose}
+use Rattle.thy_base.specs.Device.{Device, HasFailedToFit}
 use Rattle.thy_base.specs.Geometry.{parameters_of}
-use Rattle.thy_base.specs.Outside.{Stock, Files, Stream, Rose}
+use Rattle.thy_base.specs.Outside.{Stock, Files, Stream}
 use Rattle.thy_elf.specs.declared.error.ElfError.{ElfError}
 use Rattle.thy_elf.specs.declared.error.ElfError.TheVariants.{Memory as ElfMemory}
 use Rattle.thy_elf.specs.Image.{Contents}
@@ -43,9 +44,6 @@ use Rattle.thy_cli.specs.Completing.{IsAsked, Stayed, IsCalm, TellsEnd, RunCompl
 -- a count that stayed did not rise
 not_risen : {A : Type 0} (old new : ℕ) → Stayed old new → Rose old new → A
 not_risen old new s r = absurd (omega (arith, s.same, s.counts, r.more))
-
-not_faulted : {A : Type 0} (old new : ℕ) → Stayed old new → RoseFaults old new → A
-not_faulted old new s r = absurd (omega (arith, s.same, s.counts, r.1))
 
 -- a sink whose count stayed did not fail
 not_failed : {A : Type 0} (short failed : Bool) (settled text : List ℕ) (old new : Stream) → Stayed old.faults new.faults → Delivered short failed settled text old new
@@ -134,7 +132,7 @@ file_due task stock (ElfMemory e) s due = refl
 file_due task stock e s due = means_none task stock e s due
 
 device_due : (e : FitError) (n m : Device) → Stayed n.faults m.faults → HasFailedToFit e n m → refused_status (DeviceRefusal e) ≡ 9
-device_due FitFailed n m calm due = not_faulted n.faults m.faults calm due.2
+device_due FitFailed n m calm due = not_risen n.faults m.faults calm due.2
 device_due (FitMemory e) n m calm due = refl
 
 -- only for want of memory
@@ -242,7 +240,7 @@ module _ {M : Type 0} (K : KindOf M) (job : Job) (k : ℕ) (old new : Stock) (n 
       not_failed false h.ending.deaf _ _ r0 h.told (subst (λ (x : Stream). Stayed r0.faults x.faults) closed calm.paper) h.ends.read_all deaf
   by_stop Nvm is =
       let faults : h.device.faults ≡ n.faults = ap (λ (d : Device). d.faults) h.from_entry in
-      not_faulted n.faults m.faults calm.device (subst (λ f. RoseFaults f m.faults) faults (fits Nvm is).0)
+      not_risen n.faults m.faults calm.device (subst (λ f. Rose f m.faults) faults (fits Nvm is).0)
   by_stop Limit is =
       let most : h.plan.geometry.limit ≡ job.config.limit = ap (λ (p : Parameters). p.limit) h.is_plan.geometry in
       let reached : h.ending.cycles ≡ h.plan.geometry.limit = (fits Limit is).0 in

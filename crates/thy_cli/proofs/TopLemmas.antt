@@ -22,7 +22,8 @@ use Rattle.thy_plain.specs.Start.{start_state}
 use Rattle.thy_words.specs.declared.words.WordsError.{WordsError}
 use Rattle.thy_words.specs.declared.words.WordsError.TheVariants.{Usage, Word, Value, Memory as WordsMemory}
 use Rattle.thy_words.specs.Settings.{Job, Order, run, plain, settings_of, order_of, ShowsOrMemory}
-use Rattle.thy_view.specs.Kind.{KindOf, IsLawful}
+use Rattle.thy_view.specs.Booting.{found_first}
+use Rattle.thy_view.specs.Kind.{KindOf, IsLawful, IsFittedFor}
 use Rattle.thy_base.specs.declared.mark.Mark.{Mark}
 use Rattle.thy_view.specs.Origin.{Origin, IsOrigin, StartsFrom}
 use Rattle.thy_run.specs.Laws.{Promise}
@@ -110,8 +111,18 @@ finished_by K o given k last events n Terminal ran ends = record { last = last; 
 finished_by K o given k last events n Report ran ends = record { last = last; ran = ran; ends = inl ends }
 finished_by K o given k last events n Limit ran ends = record { last = last; ran = ran; ends = inl ends }
 
+-- a device of zeros is fitted for a start that was made from a file
+pub fitted_from_file : {M : Type 0} (K : KindOf M) (laws : IsLawful K) → (plan : Plan) (shape : Shape) (n : Device) → plan.start.kept ≡ None → shape.blocks ≡ K.blocks plan.geometry
+    → IsFittedFor K (origin_of plan) shape [] n
+fitted_from_file K laws plan shape n file blocks = record {
+  blocks = blocks;
+  fits = omega arith;
+  long = record { each = λ i l. absurd (omega arith) };
+  found = laws.finds_nothing plan.geometry shape n blocks ∙ ap (found_first (origin_of plan)) (sym file);
+}
+
 -- a run that was begun keeps its promise
-pub IsRunOf-ran : {M : Type 0} (K : KindOf M) → IsLawful K → (task : Task) (old new : Stock) (plan : Plan) (n d m : Device) (shape : Shape) (e : Ending) (a : Answer) (t0 t r0 told r : Stream) → IsPlanOf task old plan → new.faults ≡ old.faults
+pub IsRunOf-ran : {M : Type 0} (K : KindOf M) (laws : IsLawful K) → (task : Task) (old new : Stock) (plan : Plan) (n d m : Device) (shape : Shape) (e : Ending) (a : Answer) (t0 t r0 told r : Stream) → IsPlanOf task old plan → new.faults ≡ old.faults
     → d ≡ fitted shape [] n → shape.blocks ≡ K.blocks plan.geometry → shape.queue ≡ plan.geometry.nvmq → shape.cuts ≡ length plan.config.cuts → RunEnds K plan d m e t0 t r0 told
     → ClosesRun e.deaf e.stop plan.geometry.limit told r → a.events ≡ e.events → a.cycles ≡ e.cycles → a.status ≡ stop_status e.stop → IsRunOf K task old new n m a t0 t r0 r
 IsRunOf-ran K laws task old new plan n d m shape e a t0 t r0 told r p calm fit blocks queue cuts ends closes events cycles status =
@@ -122,7 +133,8 @@ IsRunOf-ran K laws task old new plan n d m shape e a t0 t r0 told r p calm fit b
       is_plan = p;
       calm = calm;
       device = d;
-      is_fitted = record { shape = shape; before = n; blocks = blocks; queue = queue; cuts = cuts; is_fitted = fit };
+      is_fitted = record { shape = shape; start = []; before = n; fits = fitted_from_file K laws plan shape n p.from_file blocks; queue = queue; cuts = cuts; is_fitted = fit };
+      fresh = refl;
       from_entry = fit;
       ending = e;
       told = told;

@@ -8,7 +8,8 @@ use Rattle.thy_base.specs.declared.config.Config.{Config}
 use Rattle.thy_base.specs.Bytes.{bytes_of}
 use Rattle.thy_base.specs.Device.{Device, HasFailedToFit, fitted}
 use Rattle.thy_base.specs.Geometry.{IsInRange, parameters_of, program_size}
-use Rattle.thy_base.specs.Outside.{Stock, Files, Stream, Rose}
+use Rattle.thy_base.specs.Counts.{Rose}
+use Rattle.thy_base.specs.Outside.{Stock, Files, Stream}
 use Rattle.thy_elf.specs.declared.error.ElfError.{ElfError}
 use Rattle.thy_elf.specs.declared.error.ElfError.TheVariants.{Memory as ElfMemory}
 use Rattle.thy_elf.specs.Image.{Contents, contents_of, read_of}
@@ -180,7 +181,7 @@ pub record IsPlanOf (task : Task) (stock : Stock) (p : Plan) : Type 0 where
   pub file : IsProgramFile task stock
   pub start : (origin_of p).start ≡ start_state p.geometry file.contents
   pub input : (origin_of p).input ≡ []
-  pub epoch : p.start.epoch ≡ 0
+  pub from_file : p.start.kept ≡ None
   pub planned : IsPlanned p
 
 -- the exit status of a stop
@@ -212,6 +213,7 @@ pub record IsRunOf {M : Type 0} (K : KindOf M) (task : Task) (old new : Stock) (
   pub calm : new.faults ≡ old.faults
   pub device : Device
   pub is_fitted : IsFitted K plan device
+  pub fresh : is_fitted.start ≡ []
   pub from_entry : device ≡ fitted is_fitted.shape [] n
   pub ending : Ending
   pub told : Stream

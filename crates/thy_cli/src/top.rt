@@ -31,7 +31,7 @@ fn plan_of(alloc: Global, task: Task, program: Program) -> Plan
 {
     let start = Start {
         state: start_of(alloc, program.image, &program.geometry),
-        epoch: 0,
+        kept: None,
         input: Bytes::new(alloc),
     };
     Plan {

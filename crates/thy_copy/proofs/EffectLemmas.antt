@@ -4,6 +4,7 @@ use Rattle.std.proofs.lemmas.Bool.{eqb-true}
 use Rattle.std.proofs.lemmas.Bool.Decides.{nat_tests}
 use Rattle.thy_base.specs.declared.config.Parameters.{Parameters}
 use Rattle.thy_base.specs.Geometry.{IsInRange, program_size}
+use Rattle.thy_base.specs.Inside.{is_inside}
 use Rattle.thy_isa.specs.declared.instr.Instr.{Instr}
 use Rattle.thy_isa.specs.declared.instr.Instr.TheVariants.{Lui, Auipc, Jal, Jalr, Branch, Load, Store, OpImm, Op, Fence, FenceI, Ecall, Ebreak}
 use Rattle.thy_isa.specs.declared.instr.Width.{Width}
@@ -17,7 +18,7 @@ use Rattle.thy_isa.specs.Effects.{size_of, effect_of, effect_or_illegal, word_ef
 use Rattle.thy_isa.specs.Arith.{low64}
 use Rattle.thy_isa.specs.Regs.{reg_at}
 use Rattle.thy_isa.specs.Table.{instr_of}
-use Rattle.thy_isa.specs.Step.{is_inside, fetch_fault, within}
+use Rattle.thy_isa.specs.Step.{fetch_fault, within}
 use Rattle.thy_copy_model.specs.Hart.{IsWithinBlock, IsInside}
 
 -- an effect reads and writes at multiples of its width

@@ -4,8 +4,8 @@
 ghost use Rattle.std.specs.Prelude.{◌≡◌, ◌<◌, ◌≤◌, ◌+◌, ◌-◌, ◌%◌, ◌/◌, ◌^◌, length, Some, None};
 ghost use Rattle.thy_base.specs.Device.{block_at};
 ghost use Rattle.thy_base.specs.Geometry.{memory_blocks, program_size, console_room};
+ghost use Rattle.thy_base.specs.LittleEndian.{number_bytes};
 ghost use Rattle.thy_isa.specs.Effects.{size_of};
-ghost use Rattle.thy_isa.specs.Memory.{number_bytes};
 ghost use Rattle.thy_copy_model.specs.Hart.{loaded, stored, effect_in, calls_in, read_in, written_in, performed, executed, IsWithinBlock, IsInside};
 
 use thy_base::{Block, EndCause, Geometry, Mark};

@@ -11,7 +11,7 @@ use Rattle.thy_isa.specs.declared.state.Effect.{Effect}
 use Rattle.thy_isa.specs.declared.state.Effect.TheVariants.{Next, Set, Read, Write, Environment, Trap}
 use Rattle.thy_isa.specs.declared.state.Status.TheVariants.{Running}
 use Rattle.thy_isa.specs.Calls.{call_of}
-use Rattle.thy_isa.specs.Step.{State, Setting, cpu_of, state_with, call_state_of, read_by, written_by, served, finished, advanced, is_running, step}
+use Rattle.thy_isa.specs.Step.{State, Setting, cpu_of, state_with, call_state_of, read_by, written_by, served, finished, performed as plain_performed, advanced, is_running, step}
 use Rattle.thy_isa.proofs.StepLaws.{step-running}
 use Rattle.thy_record.specs.Decode.{AllLong, memory_bytes, console_bytes, state_from}
 use Rattle.thy_record.proofs.FlatLemmas.{length-memory_bytes, length-console_bytes}
@@ -102,7 +102,7 @@ module _ (p : Parameters) (input : List ℕ) (cpu : CpuState) (memory : List Blo
 
   stepped : cpu.status ≡ Running
       → state_from p (next_cpu (effect_in p cpu memory)) (written_in p memory (effect_in p cpu memory)) ≡ step g (state_from p cpu memory)
-  unfolding plain_cpu g advanced state_from
+  unfolding plain_cpu g advanced plain_performed state_from
   stepped running =
       let s : State = state_from p cpu memory in
       whole_state (effect_in p cpu memory) (effect_in-placed p cpu memory r long h)

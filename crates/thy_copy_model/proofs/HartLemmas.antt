@@ -5,6 +5,8 @@ use Rattle.std.proofs.lemmas.Bool.Decides.{nat_tests}
 use Rattle.thy_base.specs.declared.block.Block.{Block}
 use Rattle.thy_base.specs.declared.config.Parameters.{Parameters}
 use Rattle.thy_base.specs.Geometry.{IsInRange, memory_blocks, program_size}
+use Rattle.thy_base.specs.Inside.{is_inside}
+use Rattle.thy_base.specs.LittleEndian.{number_at, number_bytes}
 use Rattle.thy_isa.specs.declared.instr.Width.{Width}
 use Rattle.thy_isa.specs.declared.instr.Width.TheVariants.{Byte, Half, Word, Double}
 use Rattle.thy_isa.specs.declared.state.Cause.{Cause}
@@ -14,8 +16,7 @@ use Rattle.thy_isa.specs.declared.state.Effect.{Effect}
 use Rattle.thy_isa.specs.declared.state.Effect.TheVariants.{Next, Set, Read, Write, Environment, Trap}
 use Rattle.thy_isa.specs.Access.{IsWithin, IsAligned}
 use Rattle.thy_isa.specs.Effects.{size_of, word_effect}
-use Rattle.thy_isa.specs.Memory.{number_at, number_bytes}
-use Rattle.thy_isa.specs.Step.{State, is_inside, fetch_fault, within, fetched, effect_at, read_by, written_by}
+use Rattle.thy_isa.specs.Step.{State, fetch_fault, within, fetched, effect_at, read_by, written_by}
 use Rattle.thy_isa.proofs.AccessLaws.{effect_at-within, effect_at-aligned}
 use Rattle.thy_isa.proofs.MemoryBounds.{length-number_bytes}
 use Rattle.thy_record.specs.Decode.{AllLong, memory_bytes, console_bytes, state_from}

@@ -5,12 +5,12 @@ use Rattle.thy_base.specs.declared.config.Parameters.{Parameters}
 use Rattle.thy_base.specs.Bytes.{written}
 use Rattle.thy_base.specs.Device.{block_at}
 use Rattle.thy_base.specs.Geometry.{memory_blocks, program_size, console_room}
+use Rattle.thy_base.specs.LittleEndian.{number_at, number_bytes}
 use Rattle.thy_isa.specs.declared.state.CallState.{CallState}
 use Rattle.thy_isa.specs.declared.state.CpuState.{CpuState}
 use Rattle.thy_isa.specs.declared.state.Effect.{Effect}
 use Rattle.thy_isa.specs.declared.state.Effect.TheVariants.{Next, Set, Read, Write, Environment, Trap}
 use Rattle.thy_isa.specs.Effects.{size_of, word_effect}
-use Rattle.thy_isa.specs.Memory.{number_at, number_bytes}
 use Rattle.thy_isa.specs.Step.{fetch_fault, fetched, within, finished}
 use Rattle.thy_copy_model.specs.declared.parts.Parts.{Parts}
 

@@ -1,5 +1,4 @@
 pub mod IndexLemmas
 pub mod MemoryLemmas
-pub mod NumberLemmas
 pub mod RefusalLemmas
 pub mod SegmentLemmas

@@ -1,43 +1,36 @@
--- The first refusal of rows after rows.
-use Rattle.std.proofs.Common.{◌≡◌, ℕ, ◌+◌, ◌-◌, ◌<◌, ◌≤◌, true, false, cond, List, [], ◌∷◌, ◌++◌, Option, Some, None, refl, ap, subst, ◌∙◌}
+-- The first refusal of demands after demands.
+use Rattle.std.proofs.Common.{◌≡◌, ℕ, ◌+◌, ◌-◌, ◌<◌, ◌≤◌, List, ◌++◌, Option, Some, None, refl, ap, subst, ◌∙◌}
 use Rattle.std.specs.Option.{option_or}
 use Rattle.std.specs.List.{flat_map, range_with_len}
+use Rattle.thy_base.specs.Demands.{Demand, first_fault}
+use Rattle.thy_base.proofs.DemandLemmas.{first_fault-append}
 use Rattle.thy_elf.specs.declared.error.ElfError.{ElfError}
 use Rattle.thy_elf.specs.declared.error.ElfError.TheVariants.{Memory}
-use Rattle.thy_elf.specs.Refusal.{Row, first_due, IsRefusal}
+use Rattle.thy_elf.specs.Refusal.{IsRefusal}
 use Rattle.thy_elf.specs.Image.{Contents, refused_or, IsCause}
 use Rattle.thy_elf.proofs.IndexLemmas.{indices_step, indices_end, indices_start}
 
--- the first refusal of two lists of rows is the first list's, or else the second's
-pub first_due-append : (xs ys : List Row) → first_due (xs ++ ys) ≡ option_or (first_due xs) (first_due ys)
-first_due-append [] ys = refl
-first_due-append (x ∷ xs) ys =
-    elim (x.is_due) as (λ b. cond b (Some x.refusal) (first_due (xs ++ ys)) ≡ option_or (cond b (Some x.refusal) (first_due xs)) (first_due ys)) [
-      | true ↦ refl
-      | false ↦ first_due-append xs ys
-    ]
+-- the first refusal of the demands from index k on is k's, or else that of the demands after it
+pub demands_step : (demands : ℕ → List (Demand ElfError)) (k n : ℕ) → k < n
+    → first_fault (flat_map demands (range_with_len k (n - k))) ≡ option_or (first_fault (demands k)) (first_fault (flat_map demands (range_with_len (k + 1) (n - (k + 1)))))
+demands_step demands k n h =
+    ap (λ ks. first_fault (flat_map demands ks)) (indices_step k n h)
+    ∙ first_fault-append (demands k) (flat_map demands (range_with_len (k + 1) (n - (k + 1))))
 
--- the first refusal of the rows from index k on is k's, or else that of the rows after it
-pub rows_step : (rows : ℕ → List Row) (k n : ℕ) → k < n
-    → first_due (flat_map rows (range_with_len k (n - k))) ≡ option_or (first_due (rows k)) (first_due (flat_map rows (range_with_len (k + 1) (n - (k + 1)))))
-rows_step rows k n h =
-    ap (λ ks. first_due (flat_map rows ks)) (indices_step k n h)
-    ∙ first_due-append (rows k) (flat_map rows (range_with_len (k + 1) (n - (k + 1))))
+pub demands_end : (demands : ℕ → List (Demand ElfError)) (k n : ℕ) → n ≤ k → first_fault (flat_map demands (range_with_len k (n - k))) ≡ None
+demands_end demands k n h = ap (λ ks. first_fault (flat_map demands ks)) (indices_end k n h)
 
-pub rows_end : (rows : ℕ → List Row) (k n : ℕ) → n ≤ k → first_due (flat_map rows (range_with_len k (n - k))) ≡ None
-rows_end rows k n h = ap (λ ks. first_due (flat_map rows ks)) (indices_end k n h)
-
-pub rows_start : (rows : ℕ → List Row) (n : ℕ)
-    → first_due (flat_map rows (range_with_len 0 (n - 0))) ≡ first_due (flat_map rows (range_with_len 0 n))
-rows_start rows n = ap (λ ks. first_due (flat_map rows ks)) (indices_start n)
+pub demands_start : (demands : ℕ → List (Demand ElfError)) (n : ℕ)
+    → first_fault (flat_map demands (range_with_len 0 (n - 0))) ≡ first_fault (flat_map demands (range_with_len 0 n))
+demands_start demands n = ap (λ ks. first_fault (flat_map demands ks)) (indices_start n)
 
 -- where the header gives no reason, the rest decides
-pub first_due_after : (xs ys : List Row) → first_due xs ≡ None → first_due (xs ++ ys) ≡ first_due ys
-first_due_after xs ys h = first_due-append xs ys ∙ ap (λ o. option_or o (first_due ys)) h
+pub first_fault_after : (xs ys : List (Demand ElfError)) → first_fault xs ≡ None → first_fault (xs ++ ys) ≡ first_fault ys
+first_fault_after xs ys h = first_fault-append xs ys ∙ ap (λ o. option_or o (first_fault ys)) h
 
 -- where the header gives a reason, it is the first
-pub first_due_before : (xs ys : List Row) (e : ElfError) → first_due xs ≡ Some e → first_due (xs ++ ys) ≡ Some e
-first_due_before xs ys e h = first_due-append xs ys ∙ ap (λ o. option_or o (first_due ys)) h
+pub first_fault_before : (xs ys : List (Demand ElfError)) (e : ElfError) → first_fault xs ≡ Some e → first_fault (xs ++ ys) ≡ Some e
+first_fault_before xs ys e h = first_fault-append xs ys ∙ ap (λ o. option_or o (first_fault ys)) h
 
 -- the same at the refusal itself
 due_cause : (contents : Contents) (e : ElfError) → IsRefusal e → IsCause (refused_or (Some e) contents) e

@@ -1,21 +1,21 @@
 -- What a file means: an image, or the first refusal that is due.
-use Rattle.std.specs.Prelude.{◌≡◌, ℕ, ◌+◌, ◌-◌, ◌*◌, ◌/◌, max, List, ◌∷◌, ◌++◌, take, drop, replicate, Option, Some, None, Result, Ok, Err, IsOk, if◌then◌else◌}
+use Rattle.std.specs.Prelude.{◌≡◌, ℕ, ◌+◌, ◌-◌, ◌*◌, ◌/◌, max, not, List, ◌∷◌, ◌++◌, take, drop, replicate, Option, Some, None, Result, Ok, Err, IsOk, if◌then◌else◌}
 use Rattle.std.specs.List.{flat_map, fold, list_any}
 use Rattle.thy_base.specs.Bytes.{bytes_of, written}
+use Rattle.thy_base.specs.Demands.{Demand, asked, first_fault}
 use Rattle.thy_elf.specs.declared.error.ElfError.{ElfError}
 use Rattle.thy_elf.specs.declared.error.ElfError.TheVariants.{NeedsLoader, Memory}
 use Rattle.thy_elf.specs.declared.image.Image.{Image}
 use Rattle.thy_elf.specs.declared.program_header.ProgramHeader.{ProgramHeader}
-use Rattle.thy_elf.specs.Header.{header_of, header_rows}
-use Rattle.thy_elf.specs.ProgramHeader.{program_header, indices_of, needs_loader, takes_memory, segment_rows, HasHeaders}
-use Rattle.thy_elf.specs.Refusal.{Row, due, first_due}
+use Rattle.thy_elf.specs.Header.{header_of, header_demands}
+use Rattle.thy_elf.specs.ProgramHeader.{program_header, indices_of, needs_loader, takes_memory, segment_demands, HasHeaders}
 
--- the table of refusals: the header's, then the one of all program headers, then each one's by rising index
-abbrev pub rows_of : List ℕ → ℕ → ℕ → List Row
-rows_of file base size =
-    header_rows file
-    ++ (due NeedsLoader (list_any (λ k. needs_loader (program_header file k)) (indices_of file))
-    ∷ flat_map (segment_rows file base size) (indices_of file))
+-- what is asked of a file: of its header, then of all program headers together, then of each by rising index
+abbrev pub demands_of : List ℕ → ℕ → ℕ → List (Demand ElfError)
+demands_of file base size =
+    header_demands file
+    ++ (asked (not (list_any (λ k. needs_loader (program_header file k)) (indices_of file))) NeedsLoader
+    ∷ flat_map (segment_demands file base size) (indices_of file))
 
 -- the bytes of a segment: those of the file, then zeros
 abbrev pub segment_bytes : List ℕ → ProgramHeader → List ℕ
@@ -59,7 +59,7 @@ refused_or (Some e) contents = Err e
 -- what a file means where program memory is `size` bytes from `base` on
 abbrev pub read_of : List ℕ → ℕ → ℕ → Result Contents ElfError
 read_of file base size =
-    refused_or (first_due (rows_of file base size))
+    refused_or (first_fault (demands_of file base size))
     (record { entry = (header_of file).entry; floor = floor_of file base; memory = memory_of file base size })
 
 -- an error is the file's refusal; want of memory comes only where the file is an image
@@ -70,4 +70,4 @@ IsCause meaning e = meaning ≡ Err e
 -- no refusal is due
 pub record IsAccepted (file : List ℕ) (base size : ℕ) : Type 0 where
   pub headers : HasHeaders file
-  pub segments : first_due (flat_map (segment_rows file base size) (indices_of file)) ≡ None
+  pub segments : first_fault (flat_map (segment_demands file base size) (indices_of file)) ≡ None

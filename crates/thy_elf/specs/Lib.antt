@@ -1,5 +1,4 @@
 pub mod Refusal
-pub mod Number
 pub mod Header
 pub mod ProgramHeader
 pub mod Image

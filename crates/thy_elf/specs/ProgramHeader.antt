@@ -1,11 +1,13 @@
 -- The program headers of a file, and what is asked of each.
-use Rattle.std.specs.Prelude.{ℕ, ◌+◌, ◌*◌, ◌<◌, ◌≤◌, Bool, not, ◌&&◌, ◌||◌, List, [], ◌∷◌, length, nat_lt, nat_le, ◌==◌}
+use Rattle.std.specs.Prelude.{ℕ, ◌+◌, ◌*◌, ◌<◌, ◌≤◌, Bool, not, ◌&&◌, ◌||◌, List, [], ◌∷◌, length, nat_le, ◌==◌}
 use Rattle.std.specs.List.{range_with_len}
+use Rattle.thy_base.specs.Demands.{Demand, asked}
+use Rattle.thy_base.specs.Inside.{is_inside}
+use Rattle.thy_base.specs.LittleEndian.{number_at}
+use Rattle.thy_elf.specs.declared.error.ElfError.{ElfError}
 use Rattle.thy_elf.specs.declared.error.ElfError.TheVariants.{FileOverMemory, SegmentOutsideFile, SegmentOutsideMemory}
 use Rattle.thy_elf.specs.declared.program_header.ProgramHeader.{ProgramHeader}
 use Rattle.thy_elf.specs.Header.{header_of}
-use Rattle.thy_elf.specs.Number.{number_at}
-use Rattle.thy_elf.specs.Refusal.{Row, due}
 
 -- where program header k stands in the file: each has 56 bytes
 abbrev pub place_of : List ℕ → ℕ → ℕ
@@ -15,11 +17,11 @@ place_of file k = (header_of file).table + 56 * k
 -- p_filesz, p_memsz (System V ABI, "Program Header")
 unfoldable pub program_header : List ℕ → ℕ → ProgramHeader
 program_header file k = record {
-  kind = number_at 4 (place_of file k) file;
-  offset = number_at 8 (place_of file k + 8) file;
-  address = number_at 8 (place_of file k + 16) file;
-  file_size = number_at 8 (place_of file k + 32) file;
-  memory_size = number_at 8 (place_of file k + 40) file;
+  kind = number_at 4 file (place_of file k);
+  offset = number_at 8 file (place_of file k + 8);
+  address = number_at 8 file (place_of file k + 16);
+  file_size = number_at 8 file (place_of file k + 32);
+  memory_size = number_at 8 file (place_of file k + 40);
 }
 
 -- the indices of the program headers, in the table's order
@@ -38,17 +40,13 @@ is_load p = p.kind == 1
 abbrev pub takes_memory : ProgramHeader → Bool
 takes_memory p = is_load p && not (p.memory_size == 0)
 
--- the segment's bytes are between base and base + size
-abbrev pub is_within : ℕ → ℕ → ProgramHeader → Bool
-is_within base size p = nat_le base p.address && nat_le (p.address + p.memory_size) (base + size)
-
--- what is asked of program header k, in order
-abbrev pub segment_rows : List ℕ → ℕ → ℕ → ℕ → List Row
-segment_rows file base size k =
+-- what is asked of program header k, in order: of one to be loaded, and of one that takes up memory
+abbrev pub segment_demands : List ℕ → ℕ → ℕ → ℕ → List (Demand ElfError)
+segment_demands file base size k =
     let p = program_header file k in
-    due (FileOverMemory k) (is_load p && nat_lt p.memory_size p.file_size)
-    ∷ due (SegmentOutsideFile k) (is_load p && (not (p.file_size == 0) && nat_lt (length file) (p.offset + p.file_size)))
-    ∷ due (SegmentOutsideMemory k) (takes_memory p && not (is_within base size p))
+    asked (not (is_load p) || nat_le p.file_size p.memory_size) (FileOverMemory k)
+    ∷ asked (not (is_load p) || (p.file_size == 0 || nat_le (p.offset + p.file_size) (length file))) (SegmentOutsideFile k)
+    ∷ asked (not (takes_memory p) || is_inside base size p.address p.memory_size) (SegmentOutsideMemory k)
     ∷ []
 
 -- the file is long enough for its header and all its program headers

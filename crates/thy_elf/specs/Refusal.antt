@@ -1,22 +1,8 @@
--- The refusals of a file, and the first that is due.
-use Rattle.std.specs.Prelude.{ℕ, Bool, List, [], ◌∷◌, Option, Some, None, if◌then◌else◌}
+-- The refusals of a file, and what reports call them.
+use Rattle.std.specs.Prelude.{ℕ, List, Option, Some, None}
 use lib.Chars.{codes}
 use Rattle.thy_elf.specs.declared.error.ElfError.{ElfError}
 use Rattle.thy_elf.specs.declared.error.ElfError.TheVariants.{TooShort, NotElf, NotClass64, NotLittle, BadVersion, NotExec, NotRiscv, NeedsCompressed, NeedsFloat, IsRve, BadHeaderSize, TooManyHeaders, HeadersOutside, NeedsLoader, FileOverMemory, SegmentOutsideFile, SegmentOutsideMemory, Memory}
-
--- a row of the table: a refusal, and whether it is due
-pub record Row : Type 0 where
-  pub refusal : ElfError
-  pub is_due : Bool
-
--- a row
-abbrev pub due : ElfError → Bool → Row
-due e b = record { refusal = e; is_due = b }
-
--- the refusal of the first row that is due
-abbrev pub first_due : List Row → Option ElfError
-first_due [] = None
-first_due (r ∷ rs) = if r.is_due then Some r.refusal else first_due rs
 
 -- the error says something of the file
 abbrev pub IsRefusal : ElfError → Type 0

@@ -1,9 +1,10 @@
 //! The header of an ELF-64 file (System V ABI, "ELF Header"; the flags are those of the RISC-V ELF
 //! psABI), and what is asked of it before anything else is looked at.
 ghost use Rattle.std.specs.Prelude.{◌≡◌, ◌≤◌, IfNone, IfSome, length};
-ghost use Rattle.thy_elf.specs.Header.{header_of, header_rows};
+ghost use Rattle.thy_base.specs.Demands.{first_fault};
+ghost use Rattle.thy_elf.specs.Header.{header_of, header_demands};
 ghost use Rattle.thy_elf.specs.ProgramHeader.{HasHeaders};
-ghost use Rattle.thy_elf.specs.Refusal.{first_due, IsRefusal};
+ghost use Rattle.thy_elf.specs.Refusal.{IsRefusal};
 
 use crate::error::ElfError;
 use crate::number::{passes, u16_at, u32_at, u64_at};
@@ -50,9 +51,9 @@ pub fn read_header(file: &[u8]) -> Header
 }
 
 /// The first refusal that the file's header gives reason for.
-#[tactic(auto, unfolding(crate::specs::Header::header_rows))]
+#[tactic(auto, unfolding(crate::specs::Header::header_demands))]
 pub fn header_refusal(file: &[u8]) -> Option<ElfError>
-    ensures first { result ≡ first_due (header_rows file.now) }
+    ensures first { result ≡ first_fault (header_demands file.now) }
     ensures refusal { IfSome result IsRefusal }
     ensures none { IfNone result (HasHeaders file.now) }
 {
@@ -78,13 +79,13 @@ pub fn header_refusal(file: &[u8]) -> Option<ElfError>
     if header.machine != 243 {
         return Some(ElfError::NotRiscv);
     }
-    if header.flags & 1 > 0 {
+    if header.flags & 1 != 0 {
         return Some(ElfError::NeedsCompressed);
     }
-    if header.flags & 6 > 0 {
+    if header.flags & 6 != 0 {
         return Some(ElfError::NeedsFloat);
     }
-    if header.flags & 8 > 0 {
+    if header.flags & 8 != 0 {
         return Some(ElfError::IsRve);
     }
     if header.size != 64 || (header.count != 0 && header.entry_size != 56) {

@@ -2,9 +2,10 @@
 ghost use Rattle.std.specs.Prelude.{◌≡◌, ◌+◌, ◌<◌, ◌^◌, None, Ok, length, replicate, IfOk, IfErr, IfNone, IfSome};
 ghost use Rattle.std.specs.List.{flat_map};
 ghost use Rattle.thy_base.specs.Bytes.{bytes_of};
-ghost use Rattle.thy_elf.specs.Image.{rows_of, contents_of, read_of, IsAccepted, IsCause};
-ghost use Rattle.thy_elf.specs.ProgramHeader.{indices_of, segment_rows, HasHeaders};
-ghost use Rattle.thy_elf.specs.Refusal.{first_due, IsRefusal};
+ghost use Rattle.thy_base.specs.Demands.{first_fault};
+ghost use Rattle.thy_elf.specs.Image.{demands_of, contents_of, read_of, IsAccepted, IsCause};
+ghost use Rattle.thy_elf.specs.ProgramHeader.{indices_of, segment_demands, HasHeaders};
+ghost use Rattle.thy_elf.specs.Refusal.{IsRefusal};
 
 use crate::error::ElfError;
 use crate::header::{header_refusal, read_header};
@@ -25,11 +26,11 @@ pub struct Image {
 }
 
 /// The first refusal that a segment gives reason for, by rising index.
-#[tactic(auto, using(crate::proofs::RefusalLemmas::rows_start, crate::proofs::RefusalLemmas::rows_step, crate::proofs::RefusalLemmas::rows_end))]
+#[tactic(auto, using(crate::proofs::RefusalLemmas::demands_start, crate::proofs::RefusalLemmas::demands_step, crate::proofs::RefusalLemmas::demands_end))]
 fn segments_refusal(file: &[u8], base: u64, size: u64) -> Option<ElfError>
     requires headers { HasHeaders file.now }
     requires memory { base + size < 2 ^ 64 }
-    ensures first { result ≡ first_due (flat_map (segment_rows file.now base size) (indices_of file.now)) }
+    ensures first { result ≡ first_fault (flat_map (segment_demands file.now base size) (indices_of file.now)) }
     ensures refusal { IfSome result IsRefusal }
 {
     for k in 0..header_count(file) {
@@ -41,10 +42,10 @@ fn segments_refusal(file: &[u8], base: u64, size: u64) -> Option<ElfError>
 }
 
 /// The first refusal that the file gives reason for.
-#[tactic(auto, using(crate::proofs::RefusalLemmas::first_due_after, crate::proofs::RefusalLemmas::first_due_before))]
+#[tactic(auto, using(crate::proofs::RefusalLemmas::first_fault_after, crate::proofs::RefusalLemmas::first_fault_before))]
 fn first_refusal(file: &[u8], base: u64, size: u64) -> Option<ElfError>
     requires { base + size < 2 ^ 64 }
-    ensures first { result ≡ first_due (rows_of file.now base size) }
+    ensures first { result ≡ first_fault (demands_of file.now base size) }
     ensures refusal { IfSome result IsRefusal }
     ensures none { IfNone result (IsAccepted file.now base size) }
 {

@@ -4,8 +4,8 @@ ghost use Rattle.std.specs.List.{fold};
 ghost use Rattle.thy_base.specs.Bytes.{written};
 ghost use Rattle.thy_elf.specs.Header.{header_of};
 ghost use Rattle.thy_elf.specs.Image.{with_segment, reached, floor_of, IsAccepted};
-ghost use Rattle.thy_elf.specs.ProgramHeader.{indices_of, segment_rows, HasHeaders};
-ghost use Rattle.thy_elf.specs.Refusal.{first_due};
+ghost use Rattle.thy_elf.specs.ProgramHeader.{indices_of, segment_demands, HasHeaders};
+ghost use Rattle.thy_base.specs.Demands.{first_fault};
 
 use crate::program_header::{header_count, read_program_header};
 
@@ -44,7 +44,7 @@ fn write_padded(memory: &mut [u8], at: usize, piece: &[u8], zeros: usize)
 fn write_segment(memory: &mut [u8], file: &[u8], base: u64, size: u64, k: u16)
     requires headers { HasHeaders file.now }
     requires index { k < (header_of file.now).count }
-    requires fits { first_due (segment_rows file.now base size k) ≡ None }
+    requires fits { first_fault (segment_demands file.now base size k) ≡ None }
     requires len { length memory.old ≡ size }
     ensures { memory.new ≡ with_segment file.now base memory.old k }
 {
@@ -74,7 +74,7 @@ pub fn write_segments(memory: &mut [u8], file: &[u8], base: u64, size: u64)
 fn reached_with(file: &[u8], base: u64, size: u64, end: u64, k: u16) -> u64
     requires headers { HasHeaders file.now }
     requires index { k < (header_of file.now).count }
-    requires fits { first_due (segment_rows file.now base size k) ≡ None }
+    requires fits { first_fault (segment_demands file.now base size k) ≡ None }
     requires end { end ≤ base + size }
     requires memory { base + size < 2 ^ 64 }
     ensures end { result ≡ reached file.now end k }

@@ -1,13 +1,13 @@
 //! Numbers of a file, little-endian.
 ghost use Rattle.std.specs.Prelude.{◌≡◌, ◌+◌, ◌≤◌, length, nat_lt};
-ghost use Rattle.thy_elf.specs.Number.{number_at};
+ghost use Rattle.thy_base.specs.LittleEndian.{number_at};
 
 use byteorder::{ByteOrder, LittleEndian};
 
 /// The number in the two bytes from `place` on.
 pub fn u16_at(file: &[u8], place: usize) -> u16
     requires { place + 2 ≤ length file.now }
-    ensures { result ≡ number_at 2 place file.now }
+    ensures { result ≡ number_at 2 file.now place }
 {
     LittleEndian::read_u16(&file[place..place + 2])
 }
@@ -15,7 +15,7 @@ pub fn u16_at(file: &[u8], place: usize) -> u16
 /// The number in the four bytes from `place` on.
 pub fn u32_at(file: &[u8], place: usize) -> u32
     requires { place + 4 ≤ length file.now }
-    ensures { result ≡ number_at 4 place file.now }
+    ensures { result ≡ number_at 4 file.now place }
 {
     LittleEndian::read_u32(&file[place..place + 4])
 }
@@ -23,7 +23,7 @@ pub fn u32_at(file: &[u8], place: usize) -> u32
 /// The number in the eight bytes from `place` on.
 pub fn u64_at(file: &[u8], place: usize) -> u64
     requires { place + 8 ≤ length file.now }
-    ensures { result ≡ number_at 8 place file.now }
+    ensures { result ≡ number_at 8 file.now place }
 {
     LittleEndian::read_u64(&file[place..place + 8])
 }

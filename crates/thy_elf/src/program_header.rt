@@ -2,12 +2,15 @@
 //! each.
 ghost use Rattle.std.specs.Prelude.{◌≡◌, ◌+◌, ◌<◌, ◌≤◌, ◌^◌, IfSome, length};
 ghost use Rattle.std.specs.List.{list_any};
+ghost use Rattle.thy_base.specs.Demands.{first_fault};
 ghost use Rattle.thy_elf.specs.Header.{header_of};
-ghost use Rattle.thy_elf.specs.ProgramHeader.{program_header, indices_of, HasHeaders, segment_rows, needs_loader, is_load, takes_memory, is_within};
-ghost use Rattle.thy_elf.specs.Refusal.{first_due, IsRefusal};
+ghost use Rattle.thy_elf.specs.ProgramHeader.{program_header, indices_of, HasHeaders, segment_demands};
+ghost use Rattle.thy_elf.specs.ProgramHeader.{needs_loader, is_load, takes_memory};
+ghost use Rattle.thy_elf.specs.Refusal.{IsRefusal};
 
 use crate::error::ElfError;
 use crate::number::{passes, u16_at, u32_at, u64_at};
+use thy_base::is_inside;
 
 /// The fields of a program header that matter here, under plain names.
 #[derive(Clone, Copy)]
@@ -44,14 +47,6 @@ impl ProgramHeader {
         ensures { result ≡ takes_memory self.now }
     {
         self.kind == 1 && self.memory_size != 0
-    }
-
-    /// Whether its segment is between `base` and `base + size`.
-    pub fn is_within(&self, base: u64, size: u64) -> bool
-        requires { base + size < 2 ^ 64 }
-        ensures { result ≡ is_within base size self.now }
-    {
-        base <= self.address && !passes(self.address, self.memory_size, base + size)
     }
 }
 
@@ -99,7 +94,7 @@ pub fn segment_refusal(file: &[u8], base: u64, size: u64, k: u16) -> Option<ElfE
     requires headers { HasHeaders file.now }
     requires index { k < (header_of file.now).count }
     requires memory { base + size < 2 ^ 64 }
-    ensures first { result ≡ first_due (segment_rows file.now base size k) }
+    ensures first { result ≡ first_fault (segment_demands file.now base size k) }
     ensures refusal { IfSome result IsRefusal }
 {
     let header = read_program_header(file, k);
@@ -112,7 +107,7 @@ pub fn segment_refusal(file: &[u8], base: u64, size: u64, k: u16) -> Option<ElfE
     if header.is_load() && cut {
         return Some(ElfError::SegmentOutsideFile(index));
     }
-    if header.takes_memory() && !header.is_within(base, size) {
+    if header.takes_memory() && !is_inside(base, size, header.address, header.memory_size) {
         return Some(ElfError::SegmentOutsideMemory(index));
     }
     None

@@ -1,6 +1,8 @@
 -- What the instruction at pc reads or writes lies within memory, and its address is a multiple of its width.
-use Rattle.std.proofs.Common.{◌≡◌, ℕ, ◌+◌, ◌%◌, ◌≤◌, ◌==◌, Bool, true, false, if◌then◌else◌, List, length, Option, Some, None, refl, arith}
+use Rattle.std.proofs.Common.{◌≡◌, ℕ, ◌+◌, ◌%◌, ◌==◌, Bool, true, false, if◌then◌else◌, List, length, Option, Some, None, refl, arith}
 use Rattle.std.proofs.lemmas.Bool.Decides.{nat_tests}
+use Rattle.thy_base.specs.Inside.{is_inside}
+use Rattle.thy_base.proofs.InsideLemmas.{is_inside-true}
 use Rattle.thy_isa.specs.declared.instr.Instr.{Instr}
 use Rattle.thy_isa.specs.declared.instr.Instr.TheVariants.{Lui, Auipc, Jal, Jalr, Branch, Load, Store, OpImm, Op, Fence, FenceI, Ecall, Ebreak}
 use Rattle.thy_isa.specs.declared.state.Cause.{Cause}
@@ -11,11 +13,8 @@ use Rattle.thy_isa.specs.Arith.{low64}
 use Rattle.thy_isa.specs.Regs.{reg_at}
 use Rattle.thy_isa.specs.Table.{instr_of}
 use Rattle.thy_isa.specs.Effects.{size_of, after, even, holds, linked, branched, effect_of, effect_or_illegal, word_effect}
-use Rattle.thy_isa.specs.Step.{State, is_inside, fetch_fault, within, fetched, word_at, effect_at}
+use Rattle.thy_isa.specs.Step.{State, fetch_fault, within, fetched, word_at, effect_at}
 use Rattle.thy_isa.specs.Access.{IsWithin, IsAligned}
-
-inside_facts : (base size at n : ℕ) → is_inside base size at n ≡ true → (base ≤ at) × (at + n ≤ base + size)
-inside_facts base size at n h = (grind (arith, nat_tests), grind (arith, nat_tests))
 
 if_within : (base size : ℕ) (b : Bool) (e : Effect) (c : Cause) → (b ≡ true → IsWithin base size e) → IsWithin base size (if b then e else Trap c)
 if_within base size true e c h = h refl
@@ -26,9 +25,9 @@ unfolding within
 within-is base size (Next pc) = tt
 within-is base size (Set pc rd v) = tt
 within-is base size (Read pc at width extend rd) =
-    if_within base size (is_inside base size at (size_of width)) (Read pc at width extend rd) LoadAccess (inside_facts base size at (size_of width))
+    if_within base size (is_inside base size at (size_of width)) (Read pc at width extend rd) LoadAccess (is_inside-true base size at (size_of width))
 within-is base size (Write pc at width v) =
-    if_within base size (is_inside base size at (size_of width)) (Write pc at width v) StoreAccess (inside_facts base size at (size_of width))
+    if_within base size (is_inside base size at (size_of width)) (Write pc at width v) StoreAccess (is_inside-true base size at (size_of width))
 within-is base size Environment = tt
 within-is base size (Trap c) = tt
 

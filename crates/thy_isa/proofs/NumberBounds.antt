@@ -64,7 +64,7 @@ pub low64_number : (v : ℕ) → IsNumber (low64 v)
 low64_number v = omega arith
 
 sx32_number : (v : ℕ) → IsNumber (sx32 v)
-sx32_number v = of_z_number (to_z w32 (low32 v)) (omega (arith, to_z_mag32 (low32 v) (omega arith)))
+sx32_number v = if_number (nat_lt (low32 v) (2 ^ 31)) _ _ (omega arith) (omega arith)
 
 sra_number : (z : ℤ) (k : ℕ) → mag z < 2 ^ 63 → IsNumber (of_z w64 (int_shr z k))
 sra_number z k h = of_z_number (int_shr z k) (omega (arith, mag_shr z (2 ^ k)))

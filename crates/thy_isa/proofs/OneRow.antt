@@ -1,6 +1,7 @@
 -- No word has two rows of the table: any two rows differ in the opcode or in a field that both ask for.
-use Rattle.std.proofs.Common.{◌≡◌, ℕ, suc, ◌==◌, ◌&&◌, ◌||◌, not, Bool, true, false, if◌then◌else◌, List, [], ◌∷◌, Option, Some, refl, arith}
+use Rattle.std.proofs.Common.{◌≡◌, ℕ, suc, ◌==◌, ◌&&◌, ◌||◌, not, Bool, true, false, if◌then◌else◌, List, [], ◌∷◌, Option, Some, ◌≤◌, nat_le, refl, sym, arith}
 use Rattle.std.specs.Prelude.{is_some}
+use Rattle.std.proofs.lemmas.Bool.{le-leb}
 use Rattle.std.proofs.lemmas.Bool.Decides.{nat_tests}
 use Rattle.thy_isa.specs.declared.instr.Instr.{Instr}
 use Rattle.thy_isa.specs.Words.{opcode_of, funct3_of, funct7_of, funct6_of}
@@ -71,16 +72,29 @@ none_from_apart r [] w h p = refl
 none_from_apart r (q ∷ rows) w h p =
     no_more (has_row q w) (count_rows rows w) (apart_is r q w (both _ _ h).0 p) (none_from_apart r rows w (both _ _ h).1 p)
 
-counted : (b : Bool) (i : Instr) (o : Option Instr) (n : ℕ) → (b ≡ true → n ≡ 0) → is_some o ≡ (n == 1) → is_some (if b then Some i else o) ≡ ((if b then suc n else n) == 1)
-counted true i o n h e = rw (h refl)
-counted false i o n h e = e
+one_more : (b : Bool) (n : ℕ) → (b ≡ true → n ≡ 0) → n ≤ 1 → (if b then suc n else n) ≤ 1
+one_more true n h l = let none : n ≡ 0 = h refl in omega arith
+one_more false n h l = l
 
-some_from_count : (rows : List Row) (w : ℕ) → all_apart rows ≡ true → is_some (first_row rows w) ≡ (count_rows rows w == 1)
-some_from_count [] w h = refl
-some_from_count (r ∷ rows) w h =
-    counted (has_row r w) (r.instr w) (first_row rows w) (count_rows rows w) (none_from_apart r rows w (both _ _ h).0) (some_from_count rows w (both _ _ h).1)
+at_most_one : (rows : List Row) (w : ℕ) → all_apart rows ≡ true → count_rows rows w ≤ 1
+at_most_one [] w h = omega arith
+at_most_one (r ∷ rows) w h =
+    one_more (has_row r w) (count_rows rows w) (none_from_apart r rows w (both _ _ h).0) (at_most_one rows w (both _ _ h).1)
 
--- a word means an instruction exactly where it has one row
-pub is_some-instr_of : (w : ℕ) → is_some (instr_of w) ≡ (rows_of w == 1)
+pub rows_of-at_most_one : (w : ℕ) → rows_of w ≤ 1
+unfolding rows_of
+rows_of-at_most_one w = at_most_one table w refl
+
+-- ---- and some row where it means an instruction
+
+counted : (b : Bool) (i : Instr) (o : Option Instr) (n : ℕ) → is_some o ≡ nat_le 1 n → is_some (if b then Some i else o) ≡ nat_le 1 (if b then suc n else n)
+counted true i o n e = sym (le-leb 1 (suc n) (omega arith))
+counted false i o n e = e
+
+some_from_count : (rows : List Row) (w : ℕ) → is_some (first_row rows w) ≡ nat_le 1 (count_rows rows w)
+some_from_count [] w = refl
+some_from_count (r ∷ rows) w = counted (has_row r w) (r.instr w) (first_row rows w) (count_rows rows w) (some_from_count rows w)
+
+pub is_some-instr_of : (w : ℕ) → is_some (instr_of w) ≡ nat_le 1 (rows_of w)
 unfolding instr_of rows_of
-is_some-instr_of w = some_from_count table w refl
+is_some-instr_of w = some_from_count table w

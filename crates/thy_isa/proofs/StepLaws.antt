@@ -8,7 +8,7 @@ use Rattle.thy_isa.specs.declared.state.Call.TheVariants.{Answer, Exit}
 use Rattle.thy_isa.specs.declared.state.CallState.{CallState}
 use Rattle.thy_isa.specs.declared.state.CpuState.{CpuState}
 use Rattle.thy_isa.specs.Calls.{call_of}
-use Rattle.thy_isa.specs.Step.{State, Setting, served, finished, advanced, is_running, step, steps}
+use Rattle.thy_isa.specs.Step.{State, Setting, served, finished, performed, advanced, is_running, step, steps}
 
 -- a step of an ended state changes nothing
 pub step-ended : (g : Setting) (s : State) → is_running s.status ≡ false → step g s ≡ s
@@ -62,7 +62,7 @@ finished-count c (Trap cause) n k = refl
 
 -- a step of a state that runs adds one to the count
 pub step-count : (g : Setting) (s : State) → is_running s.status ≡ true → (step g s).count ≡ s.count + 1
-unfolding step advanced
+unfolding step advanced performed
 step-count g s h = rw h (finished-count _ _ _ _)
 
 by_cases : (b : Bool) (P : Type 0) → (b ≡ true → P) → (b ≡ false → P) → P

@@ -3,6 +3,9 @@ use Rattle.std.proofs.Common.{◌≡◌, ℕ, zero, suc, ◌+◌, ◌-◌, ◌%�
 use Rattle.std.specs.List.{All}
 use Rattle.std.proofs.lemmas.Bool.Decides.{nat_tests}
 use Rattle.std.proofs.lemmas.List.Elements.{All-set}
+use Rattle.thy_base.specs.Inside.{is_inside}
+use Rattle.thy_base.specs.LittleEndian.{number_bytes}
+use Rattle.thy_base.proofs.WrittenLemmas.{length-written}
 use Rattle.thy_isa.specs.declared.state.Status.{Status}
 use Rattle.thy_isa.specs.declared.state.Status.TheVariants.{Exited, Trapped}
 use Rattle.thy_isa.specs.declared.state.Cause.{Cause}
@@ -16,13 +19,12 @@ use Rattle.thy_isa.specs.declared.state.CpuState.{CpuState}
 use Rattle.thy_isa.specs.Regs.{regs_with}
 use Rattle.thy_isa.specs.Calls.{a0, a7, refusal, call_of}
 use Rattle.thy_isa.specs.Effects.{size_of}
-use Rattle.thy_isa.specs.Memory.{number_bytes}
-use Rattle.thy_isa.specs.Step.{State, Setting, cpu_of, call_state_of, is_inside, cause_number, fetch_fault, within, fetched, word_at, effect_at, read_by, written_by, served, finished, advanced, is_running, step, steps}
+use Rattle.thy_isa.specs.Step.{State, Setting, cpu_of, call_state_of, cause_number, fetch_fault, within, fetched, word_at, effect_at, read_by, written_by, served, finished, performed, advanced, is_running, step, steps}
 use Rattle.thy_isa.specs.Storable.{IsNumber, IsByte, IsStatus, IsStorable}
 use Rattle.thy_isa.specs.Access.{IsWithin}
 use Rattle.thy_isa.proofs.AccessLaws.{effect_at-within}
 use Rattle.thy_isa.proofs.NumberBounds.{low64_number}
-use Rattle.thy_isa.proofs.MemoryBounds.{number_at-number, extended-number, length-number_bytes, number_bytes-bytes, length-written, written-bytes}
+use Rattle.thy_isa.proofs.MemoryBounds.{number_at-number, extended-number, length-number_bytes, number_bytes-bytes, written-bytes}
 use Rattle.thy_isa.proofs.InstrBounds.{EffectNumbers, if_effect, word_effect-numbers}
 
 -- ---- registers
@@ -191,7 +193,7 @@ cpu_from_storable size s h = record {
 }
 
 advanced-storable : (g : Setting) (size : ℕ) (s : State) → IsStorable size s → IsStorable size (advanced g s)
-unfolding advanced
+unfolding advanced performed
 advanced-storable g size s h =
     let e = effect_at g.base s in
     let n = read_by g.base s.memory e in
@@ -228,7 +230,7 @@ steps-storable g size (suc k) s h = step-storable g size (steps g k s) (steps-st
 -- ---- what no step changes
 
 advanced-console : (g : Setting) (s : State) → (advanced g s).console ≡ s.console
-unfolding advanced
+unfolding advanced performed
 advanced-console g s = refl
 
 pub step-console : (g : Setting) (s : State) → (step g s).console ≡ s.console
@@ -241,7 +243,7 @@ steps-console g zero s = refl
 steps-console g (suc k) s = step-console g (steps g k s) ∙ steps-console g k s
 
 advanced-memory_size : (g : Setting) (s : State) → length (advanced g s).memory ≡ length s.memory
-unfolding advanced
+unfolding advanced performed
 advanced-memory_size g s = length-written_by g.base s.memory (effect_at g.base s) (effect_at-within g.base s)
 
 pub step-memory_size : (g : Setting) (s : State) → length (step g s).memory ≡ length s.memory

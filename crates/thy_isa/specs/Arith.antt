@@ -4,6 +4,7 @@ use Rattle.std.specs.Prelude.{ℕ, ◌+◌, ◌-◌, ◌*◌, ◌/◌, ◌%◌, 
 use Rattle.std.specs.Int.{w32, w64, w128, cast_signed, cast_unsigned, int_shr}
 use Rattle.thy_isa.specs.declared.instr.Alu.{Alu}
 use Rattle.thy_isa.specs.declared.instr.Alu.TheVariants.{Add, Sub, Sll, Slt, Sltu, Xor, Srl, Sra, Or, And, Mul, Mulh, Mulhsu, Mulhu, Div, Divu, Rem, Remu, Addw, Subw, Sllw, Srlw, Sraw, Mulw, Divw, Divuw, Remw, Remuw}
+use Rattle.thy_isa.specs.Words.{sign_extended}
 
 -- the low 64 bits
 abbrev pub low64 : ℕ → ℕ
@@ -15,7 +16,7 @@ low32 v = v % 2 ^ 32
 
 -- the low 32 bits, extended to 64 by their sign
 abbrev pub sx32 : ℕ → ℕ
-sx32 v = cast_unsigned w64 (cast_signed w32 (low32 v))
+sx32 v = sign_extended 32 (low32 v)
 
 -- all bits set, the quotient of a division by zero
 abbrev pub all_ones : ℕ

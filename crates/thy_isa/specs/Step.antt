@@ -1,6 +1,8 @@
 -- One step of the plain machine, whose memory is one flat list of bytes, and k of them.
-use Rattle.std.specs.Prelude.{ℕ, zero, suc, ◌+◌, ◌-◌, ◌%◌, ◌==◌, Bool, true, false, ◌&&◌, nat_le, if◌then◌else◌, List, length, Option, Some, None}
+use Rattle.std.specs.Prelude.{ℕ, zero, suc, ◌+◌, ◌-◌, ◌%◌, ◌==◌, Bool, true, false, if◌then◌else◌, List, length, Option, Some, None}
 use Rattle.thy_base.specs.Bytes.{bytes_of, written}
+use Rattle.thy_base.specs.Inside.{is_inside}
+use Rattle.thy_base.specs.LittleEndian.{number_at, number_bytes}
 use Rattle.thy_isa.specs.declared.state.Status.{Status}
 use Rattle.thy_isa.specs.declared.state.Status.TheVariants.{Running, Exited, Trapped}
 use Rattle.thy_isa.specs.declared.state.Cause.{Cause}
@@ -14,7 +16,7 @@ use Rattle.thy_isa.specs.declared.state.CpuState.{CpuState}
 use Rattle.thy_isa.specs.declared.state.MachState.{MachState}
 use Rattle.thy_isa.specs.Regs.{regs_with}
 use Rattle.thy_isa.specs.Calls.{call_of}
-use Rattle.thy_isa.specs.Memory.{number_at, number_bytes, extended}
+use Rattle.thy_isa.specs.Memory.{extended}
 use Rattle.thy_isa.specs.Effects.{size_of, after, word_effect}
 
 -- all that a program sees
@@ -103,10 +105,6 @@ cause_number LoadAccess = 5
 cause_number StoreMisaligned = 6
 cause_number StoreAccess = 7
 
--- n bytes at an address lie within a memory of that base and size
-abbrev pub is_inside : ℕ → ℕ → ℕ → ℕ → Bool
-is_inside base size at n = nat_le base at && nat_le (at + n) (base + size)
-
 -- why no word can be fetched at pc, if so
 unfoldable pub fetch_fault : ℕ → ℕ → ℕ → Option Cause
 fetch_fault base size pc =
@@ -172,11 +170,14 @@ finished c (Write pc at width v) number calls = record c { pc = pc; count = c.co
 finished c Environment number calls = served c (call_of c.regs calls)
 finished c (Trap cause) number calls = record c { count = c.count + 1; status = Trapped (cause_number cause) }
 
--- a step of a state that runs
-unfoldable pub advanced : Setting → State → State
-advanced g s =
-    let e = effect_at g.base s in
+-- a state after an effect
+unfoldable pub performed : Setting → State → Effect → State
+performed g s e =
     state_with (finished (cpu_of s) e (read_by g.base s.memory e) (call_state_of g s)) (written_by g.base s.memory e) s.console
+
+-- a step of a state that runs: what the instruction at its program counter does
+unfoldable pub advanced : Setting → State → State
+advanced g s = performed g s (effect_at g.base s)
 
 abbrev pub is_running : Status → Bool
 is_running Running = true

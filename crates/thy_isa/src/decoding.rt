@@ -2,7 +2,7 @@
 //! unprivileged ISA manual.
 #![tactic(auto, unfolding(crate::specs::Table::instr_of))]
 
-ghost use Rattle.std.specs.Prelude.{◌≡◌, ◌+◌, ◌-◌, ◌*◌, ◌^◌, ◌<◌, ◌≤◌, nat_lt, if◌then◌else◌, Some, ◌⊎◌, ◌==◌};
+ghost use Rattle.std.specs.Prelude.{◌≡◌, ◌+◌, ◌-◌, ◌*◌, ◌^◌, ◌<◌, ◌≤◌, nat_lt, nat_le, if◌then◌else◌, Some, is_some, ◌⊎◌};
 ghost use Rattle.thy_isa.specs.Words.{bits_of, opcode_of, rd_of, rs1_of, rs2_of, funct3_of, funct7_of, funct6_of, imm_i, imm_s, imm_b, imm_u, imm_j, shamt_of, shamt_w_of};
 ghost use Rattle.thy_isa.specs.Table.{instr_of, rows_of};
 
@@ -39,10 +39,12 @@ pub fn decode(word: u32) -> Option<Instr>
     }
 }
 
-/// Whether a word means an instruction: no word has two rows of the table, so this says that it has
-/// exactly one.
+/// Whether a word means an instruction. No word has two rows of the table, and some row has it exactly
+/// where `decode` has an instruction for it.
 pub fn is_legal(word: u32) -> bool
-    ensures { result ≡ (rows_of word == 1) }
+    ensures decoded { result ≡ is_some (instr_of word) }
+    ensures at_most_one { rows_of word ≤ 1 }
+    ensures some_row { result ≡ nat_le 1 (rows_of word) }
 {
     decode(word).is_some()
 }

@@ -2,20 +2,14 @@
 #![tactic(auto, unfolding(crate::specs::Step::fetch_fault, crate::specs::Step::within, crate::specs::Step::served, crate::specs::Step::finished))]
 
 ghost use Rattle.std.specs.Prelude.{◌≡◌, ◌+◌, ◌<◌, ◌^◌};
-ghost use Rattle.thy_isa.specs.Step.{is_inside, fetch_fault, within, cause_number, served, finished};
+ghost use Rattle.thy_isa.specs.Step.{fetch_fault, within, cause_number, served, finished};
 
 use crate::environment::call;
 use crate::instr::Reg;
 use crate::memory::extended;
 use crate::perform::{after, bytes_in};
 use crate::state::{Call, CallState, Cause, CpuState, Effect, Status};
-
-/// Whether `n` bytes at an address lie within a memory of that base and size, over whole numbers.
-pub fn is_inside(base: u64, size: u64, at: u64, n: u64) -> bool
-    ensures { result ≡ is_inside base size at n }
-{
-    base <= at && n <= size && at - base <= size - n
-}
+use thy_base::is_inside;
 
 /// Why no word can be fetched at `pc`; None exactly where one can.
 pub fn fetch_fault(base: u64, size: u64, pc: u64) -> Option<Cause>

@@ -15,7 +15,7 @@ mod state;
 pub use arith::alu;
 pub use decoding::{decode, is_legal};
 pub use environment::call;
-pub use finishing::{cause_number, fetch_fault, finish, is_inside, within};
+pub use finishing::{cause_number, fetch_fault, finish, within};
 pub use instr::{Alu, Cond, Extend, Instr, Reg, Width};
 pub use memory::{extended, number, put_number, word};
 pub use perform::{after, bytes_in, effect, word_effect};

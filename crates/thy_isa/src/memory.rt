@@ -1,10 +1,11 @@
 //! Numbers in memory, the lowest byte first.
-#![tactic(auto, unfolding(crate::specs::Memory::number_at, crate::specs::Memory::number_bytes, crate::specs::Memory::extended))]
+#![tactic(auto, unfolding(thy_base::specs::LittleEndian::number_at, thy_base::specs::LittleEndian::number_bytes, crate::specs::Memory::extended))]
 
 ghost use Rattle.std.specs.Prelude.{◌≡◌, ◌+◌, ◌≤◌, length};
 ghost use Rattle.thy_base.specs.Bytes.{written};
+ghost use Rattle.thy_base.specs.LittleEndian.{number_at, number_bytes};
 ghost use Rattle.thy_isa.specs.Effects.{size_of};
-ghost use Rattle.thy_isa.specs.Memory.{number_at, number_bytes, extended};
+ghost use Rattle.thy_isa.specs.Memory.{extended};
 
 use crate::instr::{Extend, Width};
 use crate::perform::bytes_in;

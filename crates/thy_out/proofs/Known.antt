@@ -1,10 +1,11 @@
 -- What a writer of std holds, as what a sink has taken.
-use Rattle.std.proofs.Common.{◌≡◌, ℕ, ◌+◌, ◌<◌, Err, IfSome, length-append, refl, List, ◌++◌, take, drop, length, ◌-◌, length-drop, arith, Option, Some, None, ap, subst, sym, ◌∙◌, append_assoc}
+use Rattle.std.proofs.Common.{◌≡◌, ℕ, ◌+◌, ◌<◌, ◌≤◌, Err, IfSome, length-append, refl, List, ◌++◌, take, drop, length, ◌-◌, arith, Option, Some, None, ap, subst, sym, ◌∙◌, append_assoc}
 use Rattle.std.proofs.Math.Seq.{take-add}
-use Rattle.std.proofs.lemmas.List.{take_all}
+use Rattle.std.proofs.lemmas.List.{take_rest}
 use Rattle.std.specs.Io.KnownBytes.{Keeps, Appends, Consumes}
 use Rattle.thy_base.specs.Outside.{Grew, Fetched}
 use Rattle.thy_base.specs.declared.outside.FetchError.TheVariants.{TooLong}
+use Rattle.thy_out.specs.Spring.{LosesAtMost}
 
 -- known bytes with more behind them
 pub Appends-told : (b c : Option (List ℕ)) (known more : List ℕ) → b ≡ Some known → Appends b c more → c ≡ Some (known ++ more)
@@ -27,15 +28,11 @@ Grew-appends a b c some more grew h = λ had e.
 pub Grew-keeps : (a b c : Option (List ℕ)) (some : List ℕ) → Grew a b some → Keeps b c → Grew a c some
 Grew-keeps a b c some grew h = λ had e. Keeps-told b c (had ++ some) (grew had e) h
 
--- the rest of a piece, as code slices it
-pub take-rest : (piece : List ℕ) (done : ℕ) → take (length piece - done) (drop done piece) ≡ drop done piece
-take-rest piece done = take_all (length piece - done) (drop done piece) (omega (arith, length-drop done piece))
-
 -- the first bytes of a piece came, then the first of the rest
 pub Grew-take : (a b c : Option (List ℕ)) (piece : List ℕ) (done more sum : ℕ) → sum ≡ done + more → Grew a b (take done piece) → Appends b c (take more (take (length piece - done) (drop done piece))) → Grew a c (take sum piece)
 Grew-take a b c piece done more sum e grew h =
     let all : take sum piece ≡ take done piece ++ take more (drop done piece) = ap (λ n. take n piece) e ∙ take-add done more piece in
-    let come : Appends b c (take more (drop done piece)) = subst (λ (bytes : List ℕ). Appends b c (take more bytes)) (take-rest piece done) h in
+    let come : Appends b c (take more (drop done piece)) = subst (λ (bytes : List ℕ). Appends b c (take more bytes)) (take_rest piece done) h in
     subst (λ (bytes : List ℕ). Grew a c bytes) (sym all) (Grew-appends a b c (take done piece) (take more (drop done piece)) grew come)
 
 -- more bytes were read than the limit
@@ -52,3 +49,19 @@ Consumes-append (Some x) None c some more one two = absurd one
 Consumes-append (Some x) (Some y) None some more one two = absurd two
 Consumes-append (Some x) (Some y) (Some z) some more one two =
     one ∙ ap (λ l. some ++ l) two ∙ sym (append_assoc some more z)
+
+-- some bytes were read, then none
+Consumes-keeps : (a b c : Option (List ℕ)) (some : List ℕ) → Consumes a b some → Keeps b c → Consumes a c some
+Consumes-keeps None b c some one two = tt
+Consumes-keeps (Some x) None c some one two = absurd one
+Consumes-keeps (Some x) (Some y) None some one two = absurd two
+Consumes-keeps (Some x) (Some y) (Some z) some one two = one ∙ ap (λ l. some ++ l) (sym two)
+
+-- and how many they are at most
+pub LosesAtMost-append : (n : ℕ) (a b c : Option (List ℕ)) (some more : List ℕ) → Consumes a b some → Consumes b c more
+    → length some + length more ≤ n → LosesAtMost n a c
+LosesAtMost-append n a b c some more one two few =
+    record { bytes = some ++ more; read = Consumes-append a b c some more one two; few = omega (arith, length-append some more) }
+
+pub LosesAtMost-keeps : (n : ℕ) (a b c : Option (List ℕ)) (some : List ℕ) → Consumes a b some → Keeps b c → length some ≤ n → LosesAtMost n a c
+LosesAtMost-keeps n a b c some one two few = record { bytes = some; read = Consumes-keeps a b c some one two; few = few }

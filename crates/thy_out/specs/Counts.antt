@@ -1,10 +1,7 @@
--- Counts that stop at the last value of a 64-bit number, and the calls that are to fail.
-use Rattle.std.specs.Prelude.{ℕ, ◌+◌, ◌-◌, ◌^◌, min, Bool, ◌==◌, List}
+-- The calls that are to fail.
+use Rattle.std.specs.Prelude.{ℕ, Bool, ◌==◌, List}
 use Rattle.std.specs.List.{list_any}
-
--- one more, but never past the last value
-abbrev pub next : ℕ → ℕ
-next n = min (n + 1) (2 ^ 64 - 1)
+use Rattle.thy_base.specs.Counts.{next}
 
 -- the call after so many is listed
 abbrev pub is_listed : List ℕ → ℕ → Bool

@@ -1,7 +1,8 @@
 -- A sink in memory.
 use Rattle.std.specs.Prelude.{ℕ, ◌-◌, Bool, not, ◌&&◌, if◌then◌else◌, nat_le, Some, List, [], ◌++◌, length, take}
+use Rattle.thy_base.specs.Counts.{next}
 use Rattle.thy_base.specs.Outside.{Stream}
-use Rattle.thy_out.specs.Counts.{next, is_listed}
+use Rattle.thy_out.specs.Counts.{is_listed}
 
 -- what it took, how many bytes it can take in all, the calls so far, those that fail, the faults
 pub record Tape : Type 0 where

@@ -1,9 +1,11 @@
 //! A shelf over the files of the system.
-ghost use Rattle.std.specs.Prelude.{◌≡◌, ◌≢◌, ◌≤◌, length, Some, Err, IfOk, OnOk, IfSome};
+ghost use Rattle.std.specs.Prelude.{◌≡◌, ◌≢◌, ◌+◌, ◌≤◌, length, Some, Err, IfOk, OnOk, IfSome};
 ghost use Rattle.std.specs.Io.KnownBytes.{IsAtEnd};
 ghost use Rattle.thy_base.specs.Outside.{Fetched, FetchCounts, PutCounts};
+ghost use Rattle.thy_out.specs.Spring.{LosesAtMost, HasCause};
 ghost use Rattle.thy_out.specs.Untold.{untold, fetch_faults, put_faults};
 
+use crate::source::Source;
 use std::alloc::Global;
 use std::fs;
 use std::fs::Files;
@@ -31,17 +33,23 @@ impl<R: Files> FileShelf<R> {
 const PIECE: u64 = 4096;
 
 /// The bytes that a reader has left, if they are at most `limit`, or `TooLong`. It reads to their end,
-/// but no more than one byte past `limit`, and again after a read that was interrupted. After another
-/// error it answers `Failed`. Where it gives no bytes, some may have been read.
-pub fn read_within<F: Read>(file: &mut F, alloc: Global, limit: u64) -> Result<Vec<u8>, FetchError>
+/// but no more than one byte past `limit`. It answers `Failed` exactly where a read failed. Where it
+/// gives no bytes, some may have been read.
+pub fn read_within<F: Read>(
+    file: &mut Source<F>,
+    alloc: Global,
+    limit: u64,
+) -> Result<Vec<u8>, FetchError>
     ensures within { IfOk result (λ bytes. length bytes.items ≤ limit) }
-    ensures answer { IfSome (F.remaining file.old) (λ there. Fetched (Some there) limit result) }
+    ensures answer { IfSome file.old.left (λ there. Fetched (Some there) limit result) }
     ensures there { result ≢ Err FetchError.NotThere }
-    ensures end { OnOk result (IsAtEnd (F.remaining file.new)) }
+    ensures end { OnOk result (IsAtEnd file.new.left) }
+    ensures most { LosesAtMost (limit + 1) file.old.left file.new.left }
+    ensures cause { HasCause result file.old.failures file.new.failures }
 {
     let mut bytes = Vec::new(alloc);
     let mut piece = [0; PIECE as usize];
-    for _ in 0..u64::MAX {
+    loop {
         let most = (limit - bytes.len() as u64).min(PIECE - 1) + 1;
         match file.read(&mut piece[..most as usize]) {
             Ok(0) => return Ok(bytes),
@@ -53,14 +61,9 @@ pub fn read_within<F: Read>(file: &mut F, alloc: Global, limit: u64) -> Result<V
                     return Err(FetchError::TooLong);
                 }
             }
-            Err(error) => {
-                if error.kind() != ErrorKind::Interrupted {
-                    return Err(FetchError::Failed);
-                }
-            }
+            Err(_) => return Err(FetchError::Failed),
         }
     }
-    Err(FetchError::Failed)
 }
 
 /// What stands at a path, if it is at most `limit` bytes.
@@ -68,7 +71,7 @@ fn read_file<R: Files>(rt: &R, alloc: Global, path: &str, limit: u64) -> Result<
     ensures { IfOk result (λ bytes. length bytes.items ≤ limit) }
 {
     match fs::open(rt, path) {
-        Ok(mut file) => read_within(&mut file, alloc, limit),
+        Ok(file) => read_within(&mut Source::over(file), alloc, limit),
         Err(error) => {
             if error.kind() == ErrorKind::NotFound {
                 Err(FetchError::NotThere)

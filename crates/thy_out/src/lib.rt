@@ -4,9 +4,11 @@
 mod file_shelf;
 mod mem_shelf;
 mod mem_sink;
+mod source;
 mod std_sink;
 
 pub use file_shelf::{FileShelf, read_within};
 pub use mem_shelf::MemShelf;
 pub use mem_sink::MemSink;
+pub use source::Source;
 pub use std_sink::StdSink;

@@ -1,7 +1,8 @@
 //! A shelf in memory.
 ghost use Rattle.std.specs.Prelude.{◌≡◌, ◌≢◌, ◌∷◌, ◌↔◌, OnOk, OnErr, IsTrue, Some, None, Err, MatchOption, if◌then◌else◌, is_ok};
 ghost use Rattle.std.specs.Bool.{OnTrue};
-ghost use Rattle.thy_base.specs.Outside.{Rose, Files, Fetched, FetchCounts, KeepsOthers, Holds, PutCounts};
+ghost use Rattle.thy_base.specs.Counts.{Rose};
+ghost use Rattle.thy_base.specs.Outside.{Files, Fetched, FetchCounts, KeepsOthers, Holds, PutCounts};
 ghost use Rattle.thy_out.specs.Counts.{is_listed};
 ghost use Rattle.thy_out.specs.Rack.{stock_of, called, entries, found};
 

@@ -1,7 +1,7 @@
 //! A sink over a writer.
 ghost use Rattle.std.specs.Prelude.{◌≡◌, ◌≤◌, if◌then◌else◌, is_ok, length, take, None, OnOk, OnErr};
+ghost use Rattle.thy_base.specs.Counts.{next};
 ghost use Rattle.thy_base.specs.Outside.{Grew, Took, TookPart};
-ghost use Rattle.thy_out.specs.Counts.{next};
 ghost use Rattle.thy_out.specs.Writers.{stream_with};
 
 use std::io::{ErrorKind, Stderr, Stdout, Write};

@@ -1,11 +1,12 @@
 -- A word that can be fetched lies within memory, and so does what an effect reads or writes once it is tested.
-use Rattle.std.proofs.Common.{◌≡◌, ℕ, ◌+◌, ◌%◌, ◌≤◌, ◌==◌, Bool, true, false, if◌then◌else◌, Option, Some, None, refl, sym, ap, subst, ◌∙◌, arith}
-use Rattle.std.proofs.lemmas.Bool.Decides.{nat_tests}
+use Rattle.std.proofs.Common.{◌≡◌, ℕ, ◌+◌, ◌%◌, ◌≤◌, ◌==◌, Bool, true, false, if◌then◌else◌, Option, Some, None, refl, sym, ap, subst, ◌∙◌}
+use Rattle.thy_base.specs.Inside.{is_inside}
+use Rattle.thy_base.proofs.InsideLemmas.{is_inside-true}
 use Rattle.thy_isa.specs.declared.state.Cause.{Cause}
 use Rattle.thy_isa.specs.declared.state.Cause.TheVariants.{FetchMisaligned, FetchAccess}
 use Rattle.thy_isa.specs.declared.state.Effect.{Effect}
 use Rattle.thy_isa.specs.Access.{IsWithin}
-use Rattle.thy_isa.specs.Step.{is_inside, fetch_fault, within}
+use Rattle.thy_isa.specs.Step.{fetch_fault, within}
 use Rattle.thy_isa.proofs.AccessLaws.{within-is}
 
 -- the four bytes from pc on lie within a memory of that base and size
@@ -18,14 +19,11 @@ fetched_none true true h = refl
 fetched_none true false h = cc
 fetched_none false b h = cc
 
-inside_true : (base size at n : ℕ) → is_inside base size at n ≡ true → (base ≤ at) × (at + n ≤ base + size)
-inside_true base size at n h = (grind (arith, nat_tests), grind (arith, nat_tests))
-
 -- where a fetch has no fault
 pub no_fault : (base size pc : ℕ) (fault : Option Cause) → fault ≡ fetch_fault base size pc → fault ≡ None → IsFetched base size pc
 unfolding fetch_fault
 no_fault base size pc fault is none =
-    let bounds = inside_true base size pc 4 (fetched_none (pc % 4 == 0) (is_inside base size pc 4) (sym is ∙ none)) in
+    let bounds = is_inside-true base size pc 4 (fetched_none (pc % 4 == 0) (is_inside base size pc 4) (sym is ∙ none)) in
     record { low = bounds.0; high = bounds.1 }
 
 -- an effect that was tested

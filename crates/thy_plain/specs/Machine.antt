@@ -4,8 +4,7 @@ use Rattle.thy_base.specs.declared.config.Parameters.{Parameters}
 use Rattle.thy_base.specs.Bytes.{bytes_of}
 use Rattle.thy_base.specs.Geometry.{console_room}
 use Rattle.thy_elf.specs.Image.{Contents}
-use Rattle.thy_isa.specs.declared.state.Effect.{Effect}
-use Rattle.thy_isa.specs.Step.{State, Setting, is_running, step, steps, finished, read_by, written_by, cpu_of, state_with, call_state_of}
+use Rattle.thy_isa.specs.Step.{State, Setting, is_running, step, steps}
 use Rattle.thy_plain.specs.declared.world.World.{World}
 use Rattle.thy_plain.specs.Start.{start_state}
 
@@ -39,8 +38,3 @@ pub record StopsAt (m : Machine) (limit k : ℕ) : Type 0 where
 -- what the code keeps beside a state
 abbrev pub setting_of : World → Setting
 setting_of w = record { base = w.base; input = bytes_of w.input; room = w.room }
-
--- a state that runs, after what the instruction at its program counter does
-unfoldable pub performed : Setting → State → Effect → State
-performed g s e =
-    state_with (finished (cpu_of s) e (read_by g.base s.memory e) (call_state_of g s)) (written_by g.base s.memory e) s.console

@@ -1,14 +1,14 @@
 //! One instruction, in place.
-#![tactic(auto, unfolding(crate::specs::Machine::performed, thy_isa::specs::Step::effect_at, thy_isa::specs::Step::read_by, thy_isa::specs::Step::written_by, thy_isa::specs::Step::served, thy_isa::specs::Step::finished, thy_isa::specs::Step::step, thy_isa::specs::Step::advanced, thy_isa::specs::Memory::number_bytes))]
+#![tactic(auto, unfolding(thy_isa::specs::Step::performed, thy_isa::specs::Step::effect_at, thy_isa::specs::Step::read_by, thy_isa::specs::Step::written_by, thy_isa::specs::Step::served, thy_isa::specs::Step::finished, thy_isa::specs::Step::step, thy_isa::specs::Step::advanced, thy_base::specs::LittleEndian::number_bytes))]
 
 ghost use Rattle.std.specs.Prelude.{◌≡◌, ◌+◌, ◌<◌, ◌≤◌, ◌^◌, length};
 ghost use Rattle.thy_base.specs.Bytes.{bytes_of, room_of, written};
+ghost use Rattle.thy_base.specs.LittleEndian.{number_bytes};
 ghost use Rattle.thy_isa.specs.declared.state.Effect.TheVariants.{Environment};
 ghost use Rattle.thy_isa.specs.Access.{IsWithin};
 ghost use Rattle.thy_isa.specs.Effects.{size_of};
-ghost use Rattle.thy_isa.specs.Memory.{number_bytes};
-ghost use Rattle.thy_isa.specs.Step.{state_of, call_state_of, effect_at, is_running, step};
-ghost use Rattle.thy_plain.specs.Machine.{setting_of, performed};
+ghost use Rattle.thy_isa.specs.Step.{state_of, call_state_of, effect_at, performed, is_running, step};
+ghost use Rattle.thy_plain.specs.Machine.{setting_of};
 
 use crate::world::World;
 use thy_base::Bytes;

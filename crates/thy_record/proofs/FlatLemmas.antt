@@ -5,14 +5,17 @@ use Rattle.std.proofs.lemmas.List.{get_or-replicate, length-replicate, get_or_de
 use Rattle.std.proofs.Math.Seq.{take-add}
 use Rattle.thy_base.specs.declared.block.Block.{Block}
 use Rattle.thy_base.specs.declared.config.Parameters.{Parameters}
+use Rattle.thy_base.specs.Blocks.{block_written}
 use Rattle.thy_base.specs.Bytes.{written}
 use Rattle.thy_base.specs.Device.{zero_block, block_at}
+use Rattle.thy_base.specs.LittleEndian.{number_at}
+use Rattle.thy_base.proofs.LittleEndianLemmas.{number_at-zero, number_at-suc, number_at-take, little_from-drop}
+use Rattle.thy_base.proofs.WrittenLemmas.{length-written}
 use Rattle.thy_base.specs.Geometry.{IsInRange, program_size, console_room, memory_blocks}
 use Rattle.thy_isa.specs.declared.state.CpuState.{CpuState}
-use Rattle.thy_isa.specs.Memory.{number_at}
 use Rattle.thy_isa.specs.Step.{state_with}
-use Rattle.byteorder.specs.Endian.{little_from, little_number}
-use Rattle.thy_record.specs.Decode.{flat, window, AllLong, block_written, memory_bytes, console_bytes, state_from}
+use Rattle.byteorder.specs.Endian.{little_number}
+use Rattle.thy_record.specs.Decode.{flat, window, AllLong, memory_bytes, console_bytes, state_from}
 
 pub head_long : (b : Block) (bs : List Block) → AllLong (b ∷ bs) → length b.0 ≡ 64
 head_long b bs long = long.each 0 (omega arith)
@@ -50,14 +53,15 @@ flat_at (b ∷ bs) (suc k) j long l small =
 -- a number of n bytes within a block
 pub number_at-flat_block : (n : ℕ) (blocks : List Block) (k j : ℕ) → AllLong blocks → k < length blocks → j + n ≤ 64
     → number_at n (flat blocks) (64 * k + j) ≡ number_at n (block_at blocks k).0 j
-unfolding number_at
-number_at-flat_block zero blocks k j long l small = refl
+number_at-flat_block zero blocks k j long l small = number_at-zero (flat blocks) (64 * k + j) ∙ sym (number_at-zero (block_at blocks k).0 j)
 number_at-flat_block (suc n) blocks k j long l small =
     let e : 64 * k + j + 1 ≡ 64 * k + (j + 1) = omega arith in
     let first = flat_at blocks k j long l (omega arith) in
     let rest = number_at-flat_block n blocks k (j + 1) long l (omega arith) in
-    ap (λ x. x + 256 * number_at n (flat blocks) (64 * k + j + 1)) first
+    number_at-suc n (flat blocks) (64 * k + j)
+    ∙ ap (λ x. x + 256 * number_at n (flat blocks) (64 * k + j + 1)) first
     ∙ ap (λ x. slice_index (block_at blocks k).0 j + 256 * x) (ap (number_at n (flat blocks)) e ∙ rest)
+    ∙ sym (number_at-suc n (block_at blocks k).0 j)
 
 whole_place : (i : ℕ) → 64 * (i / 64) + i % 64 ≡ i
 whole_place i = omega arith
@@ -67,23 +71,6 @@ pub number_at-flat : (n : ℕ) (blocks : List Block) (i : ℕ) → AllLong block
     → number_at n (flat blocks) i ≡ number_at n (block_at blocks (i / 64)).0 (i % 64)
 number_at-flat n blocks i long l small =
     ap (number_at n (flat blocks)) (sym (whole_place i)) ∙ number_at-flat_block n blocks (i / 64) (i % 64) long l small
-
--- the first m bytes hold the same number
-pub number_at-take : (n m : ℕ) (bytes : List ℕ) (i : ℕ) → i + n ≤ m → number_at n (take m bytes) i ≡ number_at n bytes i
-unfolding number_at
-number_at-take zero m bytes i l = refl
-number_at-take (suc n) m bytes i l =
-    ap (λ x. x + 256 * number_at n (take m bytes) (i + 1)) (get_or-take m bytes i 0 (omega arith))
-    ∙ ap (λ x. slice_index bytes i + 256 * x) (number_at-take n m bytes (i + 1) (omega arith))
-
--- the number of the first n bytes of what is left
-pub number_at-little : (n : ℕ) (bytes : List ℕ) (i j : ℕ) → little_from i n (drop j bytes) ≡ number_at n bytes (j + i)
-unfolding number_at
-number_at-little zero bytes i j = refl
-number_at-little (suc n) bytes i j =
-    let e : j + suc i ≡ j + i + 1 = omega arith in
-    ap (λ x. x + 256 * little_from (suc i) n (drop j bytes)) (get_or-drop j bytes i 0)
-    ∙ ap (λ x. slice_index bytes (j + i) + 256 * x) (number_at-little n bytes (suc i) j ∙ ap (number_at n bytes) e)
 
 -- ---- writing
 
@@ -128,11 +115,6 @@ pub written-flat : (blocks : List Block) (i : ℕ) (piece : List ℕ) → AllLon
     → written (flat blocks) i piece ≡ flat (block_written blocks (i / 64) (i % 64) piece)
 written-flat blocks i piece long l small =
     ap (λ x. written (flat blocks) x piece) (sym (whole_place i)) ∙ written-flat_block blocks (i / 64) (i % 64) piece long l small
-
--- a write keeps the length
-pub length-written : (bytes : List ℕ) (i : ℕ) (piece : List ℕ) → i + length piece ≤ length bytes → length (written bytes i piece) ≡ length bytes
-length-written bytes i piece l =
-    omega (arith, length-append (take i bytes) (piece ++ drop (i + length piece) bytes), length-append piece (drop (i + length piece) bytes), length-take-le i bytes (omega arith), length-drop (i + length piece) bytes)
 
 -- every block stays whole
 pub AllLong-block_written : (blocks : List Block) (k j : ℕ) (piece : List ℕ) → AllLong blocks → k < length blocks → j + length piece ≤ 64
@@ -207,11 +189,9 @@ drop-written bytes i s piece l most =
 pub load_number : (blocks : List Block) (i n r : ℕ) (d : Block) → AllLong blocks → i / 64 < length blocks → i % 64 + n ≤ 64
     → r ≡ little_number n (drop (i % 64) (get_or blocks (i / 64) d).0) → r ≡ number_at n (flat blocks) i
 load_number blocks i n r d long l small is =
-    let e : i % 64 + 0 ≡ i % 64 = omega arith in
     is
     ∙ ap (λ (b : Block). little_number n (drop (i % 64) b.0)) (get_or_default blocks (i / 64) d zero_block l)
-    ∙ number_at-little n (block_at blocks (i / 64)).0 0 (i % 64)
-    ∙ ap (number_at n (block_at blocks (i / 64)).0) e
+    ∙ little_from-drop n (i % 64) (block_at blocks (i / 64)).0
     ∙ sym (number_at-flat n blocks i long l small)
 
 pub store_bytes : (blocks : List Block) (i : ℕ) (piece new : List ℕ) (d : Block) → AllLong blocks → i / 64 < length blocks

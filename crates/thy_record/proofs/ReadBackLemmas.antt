@@ -5,6 +5,7 @@ use Rattle.std.proofs.lemmas.List.{ext_get_or}
 use Rattle.thy_base.specs.declared.block.Block.{Block}
 use Rattle.thy_base.specs.declared.config.Parameters.{Parameters}
 use Rattle.thy_base.specs.Device.{zero_block, block_at}
+use Rattle.thy_base.specs.LittleEndian.{number_bytes}
 use Rattle.thy_base.specs.Geometry.{IsInRange, console_room}
 use Rattle.thy_isa.specs.declared.state.CpuState.{CpuState}
 use Rattle.thy_isa.specs.declared.state.Status.{Status}
@@ -87,7 +88,7 @@ commit_fault-commit_of epoch ceiling l most =
 
 -- a commit block isn't zero
 pub is_zero-commit_of : (epoch : ℕ) → is_zero (commit_of epoch) ≡ false
-unfolding is_zero block_of
+unfolding is_zero block_of number_bytes
 is_zero-commit_of epoch = refl
 
 pub is_zero-zero_block : is_zero zero_block ≡ true

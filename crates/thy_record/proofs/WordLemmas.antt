@@ -4,6 +4,8 @@ use Rattle.std.proofs.lemmas.List.{drop-drop}
 use Rattle.std.specs.List.{flat_map}
 use Rattle.byteorder.specs.Endian.{little_bytes, little_number}
 use Rattle.byteorder.specs.Numbers.{little_number-reads_back}
+use Rattle.thy_base.specs.LittleEndian.{number_bytes}
+use Rattle.thy_base.proofs.LittleEndianLemmas.{little_from-drop}
 use Rattle.thy_record.specs.Words.{word_of, block_of}
 
 -- the bytes of words from word i on
@@ -19,9 +21,10 @@ drop-words (w ∷ ws) (suc i) l =
 
 -- a word that was written reads back
 pub word_of-block_of : (ws : List ℕ) (i : ℕ) → i < length ws → slice_index ws i < 2 ^ 64 → word_of (block_of ws) i ≡ slice_index ws i
-unfolding word_of block_of
+unfolding word_of block_of number_bytes
 word_of-block_of ws i l fits =
-    ap (little_number 8) (drop-words ws i l)
+    sym (little_from-drop 8 (8 * i) (flat_map (little_bytes 8) ws))
+    ∙ ap (little_number 8) (drop-words ws i l)
     ∙ little_number-reads_back 8 (slice_index ws i) (flat_map (little_bytes 8) (drop (suc i) ws)) fits
 
 -- how many bytes words have
@@ -31,5 +34,5 @@ length-words (w ∷ ws) = let e = length-words ws in omega (arith, e)
 
 -- a block of eight words has 64 bytes
 pub length-block_of : (ws : List ℕ) → length ws ≡ 8 → length (block_of ws).0 ≡ 64
-unfolding block_of
+unfolding block_of number_bytes
 length-block_of ws l = length-words ws ∙ ap (λ n. 8 * n) l

@@ -1,8 +1,9 @@
 -- The commit block, block 1 of an image: the epoch of the committed checkpoint.
-use Rattle.std.specs.Prelude.{ℕ, Bool, ◌&&◌, ◌==◌, nat_lt, if◌then◌else◌, List, [], ◌∷◌, Option, Some, None, codes}
+use Rattle.std.specs.Prelude.{ℕ, Bool, ◌&&◌, ◌==◌, nat_lt, List, [], ◌∷◌, Option, codes}
 use Rattle.std.specs.List.{list_all}
 use Rattle.byteorder.specs.Endian.{little_number}
 use Rattle.thy_base.specs.declared.block.Block.{Block}
+use Rattle.thy_base.specs.Demands.{asked, first_fault}
 use Rattle.thy_record.specs.declared.image.BadImage.{BadImage}
 use Rattle.thy_record.specs.declared.image.BadImage.TheVariants.{Commit}
 use Rattle.thy_record.specs.Words.{word_of, block_of}
@@ -33,4 +34,4 @@ has_zero_rest b =
 -- the fault of a commit block; epochs are below the ceiling
 unfoldable pub commit_fault : Block → ℕ → Option BadImage
 commit_fault b ceiling =
-    if (word_of b 0 == commit_magic && nat_lt (epoch_of b) ceiling) && has_zero_rest b then None else Some Commit
+    first_fault (asked ((word_of b 0 == commit_magic && nat_lt (epoch_of b) ceiling) && has_zero_rest b) Commit ∷ [])

@@ -1,7 +1,8 @@
 -- The record of the processor, the first five blocks of a slot.
-use Rattle.std.specs.Prelude.{◌≡◌, ℕ, zero, suc, ◌+◌, ◌*◌, ◌/◌, ◌%◌, ◌<◌, Bool, ◌&&◌, ◌==◌, nat_lt, nat_le, if◌then◌else◌, List, [], ◌∷◌, ◌++◌, take, drop, length, Option, Some, None}
+use Rattle.std.specs.Prelude.{◌≡◌, ℕ, zero, suc, ◌+◌, ◌*◌, ◌/◌, ◌%◌, ◌<◌, Bool, ◌&&◌, ◌==◌, nat_lt, nat_le, if◌then◌else◌, List, [], ◌∷◌, ◌++◌, take, drop, length, Option}
 use Rattle.thy_base.specs.declared.block.Block.{Block}
 use Rattle.thy_base.specs.declared.config.Parameters.{Parameters}
+use Rattle.thy_base.specs.Demands.{asked, first_fault}
 use Rattle.thy_base.specs.Device.{block_at}
 use Rattle.thy_base.specs.Geometry.{console_room}
 use Rattle.thy_isa.specs.declared.state.CpuState.{CpuState}
@@ -75,8 +76,7 @@ cpu_of_record blocks = record {
 -- the first fault of a record under a commit block of this epoch
 unfoldable pub record_fault : List Block → ℕ → Parameters → ℕ → Option BadImage
 record_fault blocks epoch p ceiling =
-    if record_word blocks 38 == epoch
-    then (if is_status (record_word blocks 36) (record_word blocks 37) && nat_lt (record_word blocks 32) ceiling
-    then (if nat_le (record_word blocks 34) (console_room p) then None else Some ConsoleLength)
-    else Some BadStatus)
-    else Some Commit
+    first_fault (asked (record_word blocks 38 == epoch) Commit
+    ∷ asked (is_status (record_word blocks 36) (record_word blocks 37) && nat_lt (record_word blocks 32) ceiling) BadStatus
+    ∷ asked (nat_le (record_word blocks 34) (console_room p)) ConsoleLength
+    ∷ [])

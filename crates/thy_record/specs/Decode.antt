@@ -1,10 +1,9 @@
 -- What an image decodes to: nothing, a refusal, or the epoch of its checkpoint and a state.
-use Rattle.std.specs.Prelude.{◌≡◌, ℕ, ◌+◌, ◌%◌, ◌^◌, ◌<◌, ◌≤◌, true, false, if◌then◌else◌, List, take, drop, length, slice_index, slice_set, Option, Some, None}
+use Rattle.std.specs.Prelude.{◌≡◌, ℕ, ◌+◌, ◌%◌, ◌^◌, ◌<◌, ◌≤◌, true, false, if◌then◌else◌, List, take, drop, length, slice_index, Option, Some, None}
 use Rattle.std.specs.List.{flat_map}
 use Rattle.std.specs.Option.{option_or}
 use Rattle.thy_base.specs.declared.block.Block.{Block}
 use Rattle.thy_base.specs.declared.config.Parameters.{Parameters}
-use Rattle.thy_base.specs.Bytes.{written}
 use Rattle.thy_base.specs.Device.{block_at}
 use Rattle.thy_base.specs.Geometry.{slot_of, program_size, console_room, memory_blocks}
 use Rattle.thy_isa.specs.declared.state.CpuState.{CpuState}
@@ -26,10 +25,6 @@ pub record AllLong (blocks : List Block) : Type 0 where
 -- n blocks of an image from block x on
 abbrev pub window : List Block → ℕ → ℕ → List Block
 window g x n = take n (drop x g)
-
--- the blocks with a piece written over the bytes of block k from byte j on
-abbrev pub block_written : List Block → ℕ → ℕ → List ℕ → List Block
-block_written blocks k j piece = slice_set blocks k (record { 0 = written (block_at blocks k).0 j piece })
 
 -- program memory
 abbrev pub memory_bytes : Parameters → List Block → List ℕ

@@ -1,8 +1,9 @@
 -- The header, block 0 of an image: what the image is, and the geometry that it was made for.
-use Rattle.std.specs.Prelude.{ℕ, Bool, ◌&&◌, ◌==◌, if◌then◌else◌, List, [], ◌∷◌, Option, Some, None, codes}
+use Rattle.std.specs.Prelude.{ℕ, Bool, ◌&&◌, ◌==◌, List, [], ◌∷◌, Option, codes}
 use Rattle.byteorder.specs.Endian.{little_number}
 use Rattle.thy_base.specs.declared.block.Block.{Block}
 use Rattle.thy_base.specs.declared.config.Parameters.{Parameters}
+use Rattle.thy_base.specs.Demands.{asked, first_fault}
 use Rattle.thy_record.specs.declared.image.BadImage.{BadImage}
 use Rattle.thy_record.specs.declared.image.BadImage.TheVariants.{Header, Version, Geometry}
 use Rattle.thy_record.specs.Words.{word_of, block_of}
@@ -27,6 +28,7 @@ is_of_geometry b p =
 -- the first fault of a header
 unfoldable pub header_fault : Block → Parameters → Option BadImage
 header_fault b p =
-    if word_of b 0 == header_magic
-    then (if word_of b 1 == 0 then (if is_of_geometry b p then None else Some Geometry) else Some Version)
-    else Some Header
+    first_fault (asked (word_of b 0 == header_magic) Header
+    ∷ asked (word_of b 1 == 0) Version
+    ∷ asked (is_of_geometry b p) Geometry
+    ∷ [])

@@ -1,13 +1,13 @@
 -- Blocks as eight numbers of 64 bits, the lowest byte of each first.
-use Rattle.std.specs.Prelude.{ℕ, ◌*◌, List, drop}
+use Rattle.std.specs.Prelude.{ℕ, ◌*◌, List}
 use Rattle.std.specs.List.{flat_map}
-use Rattle.byteorder.specs.Endian.{little_bytes, little_number}
 use Rattle.thy_base.specs.declared.block.Block.{Block}
+use Rattle.thy_base.specs.LittleEndian.{number_at, number_bytes}
 
 -- word i of a block
 unfoldable pub word_of : Block → ℕ → ℕ
-word_of b i = little_number 8 (drop (8 * i) b.0)
+word_of b i = number_at 8 b.0 (8 * i)
 
 -- the block of eight words
 unfoldable pub block_of : List ℕ → Block
-block_of words = record { 0 = flat_map (little_bytes 8) words }
+block_of words = record { 0 = flat_map (number_bytes 8) words }

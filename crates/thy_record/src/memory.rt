@@ -1,8 +1,9 @@
 //! Numbers and pieces in the bytes of a list of blocks.
 ghost use Rattle.std.specs.Prelude.{◌≡◌, ◌+◌, ◌/◌, ◌%◌, ◌<◌, ◌≤◌, length};
+ghost use Rattle.thy_base.specs.Blocks.{block_written};
 ghost use Rattle.thy_base.specs.Bytes.{written};
-ghost use Rattle.thy_isa.specs.Memory.{number_at};
-ghost use Rattle.thy_record.specs.Decode.{flat, AllLong, block_written};
+ghost use Rattle.thy_base.specs.LittleEndian.{number_at};
+ghost use Rattle.thy_record.specs.Decode.{flat, AllLong};
 
 use byteorder::{ByteOrder, LittleEndian};
 use thy_base::{BLOCK_SIZE, Block};

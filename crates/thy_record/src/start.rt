@@ -1,13 +1,13 @@
 //! Where a run starts.
 
-use thy_base::Bytes;
+use thy_base::{Bytes, Mark};
 use thy_isa::MachState;
 
 /// What a machine that finds no checkpoint loads, and the input of the program.
 #[derive(Debug, Drop)]
 pub struct Start {
     pub state: MachState,
-    /// The epoch of the checkpoint that the state was taken from, 0 where it was made from a file.
-    pub epoch: u64,
+    /// The checkpoint that the state was taken from; none where it was made from a file.
+    pub kept: Option<Mark>,
     pub input: Bytes,
 }

@@ -4,7 +4,8 @@ use Rattle.std.specs.Prelude.{MatchBool, slice_index}
 use Rattle.std.proofs.lemmas.Bool.{ltb-true, or_from, and_parts}
 use Rattle.std.proofs.lemmas.List.Folds.{list_any-append}
 use Rattle.thy_base.specs.declared.mix.Mix.{Mix}
-use Rattle.thy_base.specs.Device.{Device, IsFramed, RoseFaults, cut_to}
+use Rattle.thy_base.specs.Counts.{Rose}
+use Rattle.thy_base.specs.Device.{Device, IsFramed, cut_to}
 use Rattle.thy_base.specs.Mix.{mix_next}
 use Rattle.thy_isa.specs.declared.state.Status.{Status}
 use Rattle.thy_record.specs.Decoded.{Decoded, Nothing as NothingLeft, Refused as RefusedImage, At}
@@ -355,7 +356,7 @@ IsBroken-read {M = M} K laws plan fitted p q n m m' k r e planned g s failed fra
         → IsBroken K plan p q n m' k [] × Breaks p q n m' [] (stop_of e)
     by_error NvmFailed f broken events = (
       broken (inr (record { failed = f.0; framed = framed; rose = f.1 })),
-      record { events = events; none = refl; rose = subst (λ c. RoseFaults c m'.faults) s.calm f.1 },
+      record { events = events; none = refl; rose = subst (λ c. Rose c m'.faults) s.calm f.1 },
     )
     by_error (NoMemory x) f broken events = (broken (inl f), tt)
 
@@ -401,7 +402,7 @@ at_of K plan fitted p n k planned g = (good_of K plan fitted p n k planned g).st
 
 -- the start is the run's
 pub begins_of : (plan : Plan) → Begins (origin_of plan) plan.start
-begins_of plan = record { state = refl; input = refl }
+begins_of plan = record { state = refl; input = refl; kept = refl }
 
 pub can_step : {M : Type 0} (K : KindOf M) → (plan : Plan) (fitted : Device) (p : Progress M) (n : Device) (k : ℕ) → IsPlanned plan → GoesOn K plan fitted p n k → k < 2 ^ 62 → CanStep K plan.start p.machine n
 can_step K plan fitted p n k planned g few =

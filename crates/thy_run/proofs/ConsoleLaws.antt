@@ -1,24 +1,26 @@
 -- What the terminal has grows by what each cycle's end releases.
-use Rattle.std.proofs.Common.{◌≡◌, ℕ, ◌+◌, ◌-◌, ◌^◌, ◌<◌, ◌≤◌, Bool, true, false, if◌then◌else◌, Option, Some, None, List, [], ◌∷◌, ◌++◌, length, drop, refl, sym, ◌∙◌, ap, subst, inl, inr, append-nil, arith}
+use Rattle.std.proofs.Common.{◌≡◌, ℕ, ◌+◌, ◌-◌, ◌^◌, ◌<◌, ◌≤◌, Bool, true, false, if◌then◌else◌, Option, Some, None, List, [], ◌∷◌, ◌++◌, length, drop, refl, sym, ◌∙◌, ap, subst, inl, inr, append-nil, arith, ◌||◌, ◌&&◌}
+use Rattle.std.specs.List.{list_any}
+use Rattle.std.proofs.lemmas.List.Folds.{list_any-append}
 use Rattle.std.proofs.Math.Seq.{drop-append_seam}
 use Rattle.thy_base.specs.declared.mark.Mark.{Mark}
 use Rattle.thy_isa.proofs.StorableLaws.{steps-console}
 use Rattle.thy_view.specs.Kind.{KindOf}
-use Rattle.thy_text.specs.Happening.{Happening, Cut}
-use Rattle.thy_text.specs.Marks.{Marks, loading_marks, marks_from}
-use Rattle.thy_text.specs.Released.{console_of}
-use Rattle.thy_text.proofs.Histories.{marks_from-append, released-kept}
+use Rattle.thy_text.specs.Happening.{Happening, Cut, Reload, Ended}
+use Rattle.thy_text.specs.Marks.{Marks, marks_from}
+use Rattle.thy_text.specs.Released.{shows, console_of}
+use Rattle.thy_text.proofs.Histories.{marks_from-append}
 use Rattle.thy_view.specs.declared.did.Did.{Did}
 use Rattle.thy_view.specs.declared.did.Did.TheVariants.{Boot, Loaded, Restarted, Refused, Moved, Retired, Flushed, Merged, Sealed, Promoted, Engine, Committed, NvmDrained, DramDrained, Nothing}
 use Rattle.thy_view.specs.declared.view.Phase.TheVariants.{Boot as BootPhase}
 use Rattle.thy_view.specs.declared.view.View.{View}
-use Rattle.thy_view.specs.Views.{mark}
+use Rattle.thy_view.specs.Views.{mark, loads, halts}
 use Rattle.thy_view.specs.CoreStep.{CoreStep}
 use Rattle.thy_base.specs.Geometry.{console_room}
 use Rattle.thy_view.specs.Origin.{Origin, at, setting_of, IsOrigin}
 use Rattle.thy_run.specs.Due.{shows_console, due_of}
-use Rattle.thy_run.specs.Laws.{marks_of, console_at, released_of}
-use Rattle.thy_run.specs.World.{World, seen, told, events_of, Steps}
+use Rattle.thy_run.specs.Laws.{first_marks, marks_of, console_at, released_of}
+use Rattle.thy_run.specs.World.{World, seen, told, reload_told, end_told, events_of, Steps}
 use Rattle.thy_run.proofs.CoverLaws.{Covers-sealed, marks-part}
 use Rattle.thy_run.proofs.Fitting.{BootFits, RunFits, FitsIn, Fits}
 use Rattle.thy_run.proofs.EventLaws.{marks-events}
@@ -113,8 +115,78 @@ module _ (o : Origin) (v next : View) (m : Marks) (h : Fits o v m) where
 
 -- ---- what is released
 
-released_marks : (o : Origin) (events : List Happening) → released_of o events ≡ console_of (console_at o) (marks_of o events).kept
-released_marks o events = released-kept (console_at o) o.start.count (loading_marks o.start.count) events refl
+-- the mark whose console is released: the committed one, once an event has told of one
+abbrev pub mark_if : Bool → Option Mark → Option Mark
+mark_if shown kept = if shown then kept else None
+
+abbrev pub shown_of : Origin → List Happening → Option Mark
+shown_of o events = mark_if (list_any shows events) (marks_of o events).kept
+
+released_if : (console_at : ℕ → List ℕ) (b : Bool) (kept : Option Mark) → (if b then console_of console_at kept else []) ≡ console_of console_at (mark_if b kept)
+released_if console_at true kept = refl
+released_if console_at false kept = refl
+
+released_marks : (o : Origin) (events : List Happening) → released_of o events ≡ console_of (console_at o) (shown_of o events)
+released_marks o events = released_if (console_at o) (list_any shows events) (marks_of o events).kept
+
+-- what was shown stays shown
+grows_if : (a b : Bool) (kept later : Option Mark) → (a ≡ true → b ≡ true) → Grows kept later → Grows (mark_if a kept) (mark_if b later)
+grows_if true true kept later h g = g
+grows_if true false kept later h g = absurd (let no : false ≡ true = h refl in cc)
+grows_if false b kept later h g = grows_none None (mark_if b later) refl
+
+shown_on : (o : Origin) (vs ws : List Happening) → list_any shows vs ≡ true → list_any shows (vs ++ ws) ≡ true
+shown_on o vs ws is = list_any-append shows vs ws ∙ ap (λ b. b || list_any shows ws) is
+
+-- which events of a step show a console
+told_shows : (o : Origin) (did : Did) (cycle : ℕ) → list_any shows (told o did cycle) ≡ shows_console did
+told_shows o Boot cycle = refl
+told_shows o Loaded cycle = refl
+told_shows o (Restarted epoch count) cycle = refl
+told_shows o (Refused bad) cycle = refl
+told_shows o Moved cycle = refl
+told_shows o Retired cycle = refl
+told_shows o Flushed cycle = refl
+told_shows o Merged cycle = refl
+told_shows o Promoted cycle = refl
+told_shows o (Sealed epoch count cause) cycle = refl
+told_shows o (Engine step) cycle = refl
+told_shows o (Committed epoch overlapped) cycle = refl
+told_shows o NvmDrained cycle = refl
+told_shows o DramDrained cycle = refl
+told_shows o Nothing cycle = refl
+
+reload_shows : (b : Bool) → list_any shows (if b then Reload ∷ [] else []) ≡ false
+reload_shows true = refl
+reload_shows false = refl
+
+end_shows : (o : Origin) (next : View) (cycle : ℕ) (b : Bool)
+    → list_any shows (if b then Ended (at o next.count).status next.count cycle (at o next.count) ∷ [] else []) ≡ false
+end_shows o next cycle true = refl
+end_shows o next cycle false = refl
+
+or_false : (b : Bool) → (b || false) ≡ b
+or_false true = refl
+or_false false = refl
+
+events_show : (o : Origin) (fresh : Bool) (v : View) (did : Did) (next : View) (cycle : ℕ) → list_any shows (events_of o fresh v did next cycle) ≡ shows_console did
+events_show o fresh v did next cycle =
+    list_any-append shows (reload_told fresh next ++ told o did cycle) (end_told o v next cycle)
+    ∙ ap (λ b. list_any shows (reload_told fresh next ++ told o did cycle) || b) (end_shows o next cycle (halts v next))
+    ∙ or_false (list_any shows (reload_told fresh next ++ told o did cycle))
+    ∙ list_any-append shows (reload_told fresh next) (told o did cycle)
+    ∙ ap (λ b. b || list_any shows (told o did cycle)) (reload_shows (fresh && loads next))
+    ∙ told_shows o did cycle
+
+-- the mark that is shown after a step
+mark_next : (w es showing : Bool) (found before later : Option Mark) → es ≡ showing → later ≡ (if showing then found else before)
+    → mark_if (w || es) later ≡ (if showing then found else mark_if w before)
+mark_next w es true found before later shown is = ap (λ b. mark_if (w || b) later) shown ∙ ap (λ b. mark_if b later) (or_true w) ∙ is
+  where
+    or_true : (b : Bool) → (b || true) ≡ true
+    or_true true = refl
+    or_true false = refl
+mark_next w es false found before later shown is = ap (λ b. mark_if (w || b) later) shown ∙ ap (λ b. mark_if b later) (or_false w) ∙ ap (mark_if w) is
 
 module _ {M : Type 0} (K : KindOf M) (o : Origin) (w next : World M) (least : 1 ≤ o.geometry.epoch) (h : Coheres K o w) (step : Steps K o w next) where
   abbrev marks_now : Marks
@@ -124,7 +196,7 @@ module _ {M : Type 0} (K : KindOf M) (o : Origin) (w next : World M) (least : 1 
   marks_told = marks_from o.start.count (marks_of o w.events) (told o step.r.did (w.cycles + 1))
 
   marks_more : (part : List Happening) → marks_of o (w.events ++ part) ≡ marks_from o.start.count (marks_of o w.events) part
-  marks_more part = marks_from-append o.start.count (loading_marks o.start.count) w.events part
+  marks_more part = marks_from-append o.start.count (first_marks o) w.events part
 
   told_grows : Grows (marks_of o w.events).kept (marks_from o.start.count (marks_of o w.events) (told o step.r.did (w.cycles + 1))).kept
   told_grows = Grows-told o (seen K o w) (seen K o next) (marks_of o w.events) h.fits step.r.did (w.cycles + 1) step.is_step.step
@@ -139,13 +211,19 @@ module _ {M : Type 0} (K : KindOf M) (o : Origin) (w next : World M) (least : 1 
         | inr done ↦ subst (λ (x : Marks). Grows (marks_of o w.events).kept x.kept) (sym done) told_grows
       ])
 
+  shown_grows : (part rest : List Happening) → part ++ rest ≡ events_of o w.fresh (seen K o w) step.r.did (seen K o next) (w.cycles + 1)
+      → Grows (shown_of o w.events) (shown_of o (w.events ++ part))
+  shown_grows part rest e =
+      grows_if (list_any shows w.events) (list_any shows (w.events ++ part)) (marks_of o w.events).kept (marks_of o (w.events ++ part)).kept
+      (shown_on o w.events part) (part_grows part rest e)
+
   -- the first of a cycle's events release more, or nothing
   pub released-part : (part rest : List Happening) → part ++ rest ≡ events_of o w.fresh (seen K o w) step.r.did (seen K o next) (w.cycles + 1)
       → (more : List ℕ) × (released_of o (w.events ++ part) ≡ released_of o w.events ++ more)
   released-part part rest e =
-      let more : List ℕ = drop (length (console_of (console_at o) (marks_of o w.events).kept)) (console_of (console_at o) (marks_of o (w.events ++ part)).kept) in (
+      let more : List ℕ = drop (length (console_of (console_at o) (shown_of o w.events))) (console_of (console_at o) (shown_of o (w.events ++ part))) in (
         more,
-        released_marks o (w.events ++ part) ∙ grown o (marks_of o w.events).kept (marks_of o (w.events ++ part)).kept (part_grows part rest e)
+        released_marks o (w.events ++ part) ∙ grown o (shown_of o w.events) (shown_of o (w.events ++ part)) (shown_grows part rest e)
             ∙ ap (λ (l : List ℕ). l ++ more) (sym (released_marks o w.events)),
       )
 
@@ -156,20 +234,28 @@ module _ {M : Type 0} (K : KindOf M) (o : Origin) (w next : World M) (least : 1 
       ∙ ap (λ (x : Marks). x.kept) (marks_more es ∙ marks-events o (seen K o w) (seen K o next) (marks_of o w.events) step.r.did w.fresh (w.cycles + 1) least h.fits step.is_step.step)
       ∙ kept-told o (seen K o w) (seen K o next) (marks_of o w.events) h.fits step.r.did (w.cycles + 1) step.is_step.step
 
+  all_shown : shown_of o next.events ≡ (if shows_console step.r.did then (seen K o next).done else shown_of o w.events)
+  all_shown =
+      let es : List Happening = events_of o w.fresh (seen K o w) step.r.did (seen K o next) (w.cycles + 1) in
+      let events : next.events ≡ w.events ++ es = ap (λ (x : World M). x.events) step.next_is in
+      ap (λ b. mark_if b (marks_of o next.events).kept) (ap (list_any shows) events ∙ list_any-append shows w.events es)
+      ∙ mark_next (list_any shows w.events) (list_any shows es) (shows_console step.r.did) (seen K o next).done (marks_of o w.events).kept (marks_of o next.events).kept
+      (events_show o w.fresh (seen K o w) step.r.did (seen K o next) (w.cycles + 1)) all_kept
+
   by_show : (b : Bool) → shows_console step.r.did ≡ b
       → released_of o next.events ≡ released_of o w.events ++ (if b then drop (length (released_of o w.events)) (console_of (console_at o) (seen K o next).done) else [])
-  by_show true shows =
-      let before : Option Mark = (marks_of o w.events).kept in
-      let kept : (marks_of o next.events).kept ≡ (seen K o next).done = all_kept ∙ ap (λ b. if b then (seen K o next).done else before) shows in
-      let later : (marks_from o.start.count (marks_of o w.events) (told o step.r.did (w.cycles + 1))).kept ≡ (seen K o next).done =
-      kept-told o (seen K o w) (seen K o next) (marks_of o w.events) h.fits step.r.did (w.cycles + 1) step.is_step.step ∙ ap (λ b. if b then (seen K o next).done else before) shows in
-      let grows : Grows before (seen K o next).done = subst (Grows before) later told_grows in
-      released_marks o next.events ∙ ap (console_of (console_at o)) kept ∙ grown o before (seen K o next).done grows
+  by_show true shows_it =
+      let before : Option Mark = shown_of o w.events in
+      let es : List Happening = events_of o w.fresh (seen K o w) step.r.did (seen K o next) (w.cycles + 1) in
+      let events : next.events ≡ w.events ++ es = ap (λ (x : World M). x.events) step.next_is in
+      let shown : shown_of o next.events ≡ (seen K o next).done = all_shown ∙ ap (λ b. if b then (seen K o next).done else before) shows_it in
+      let grows : Grows before (seen K o next).done = subst (Grows before) (sym (ap (shown_of o) events) ∙ shown) (shown_grows es [] (append-nil es)) in
+      released_marks o next.events ∙ ap (console_of (console_at o)) shown ∙ grown o before (seen K o next).done grows
       ∙ ap (λ (l : List ℕ). l ++ drop (length l) (console_of (console_at o) (seen K o next).done)) (sym (released_marks o w.events))
   by_show false hides =
-      let before : Option Mark = (marks_of o w.events).kept in
-      let kept : (marks_of o next.events).kept ≡ before = all_kept ∙ ap (λ b. if b then (seen K o next).done else before) hides in
-      released_marks o next.events ∙ ap (console_of (console_at o)) kept ∙ sym (released_marks o w.events) ∙ sym (append-nil (released_of o w.events))
+      let before : Option Mark = shown_of o w.events in
+      let shown : shown_of o next.events ≡ before = all_shown ∙ ap (λ b. if b then (seen K o next).done else before) hides in
+      released_marks o next.events ∙ ap (console_of (console_at o)) shown ∙ sym (released_marks o w.events) ∙ sym (append-nil (released_of o w.events))
 
   -- a cycle's events release what is due
   pub released-stepped : released_of o next.events ≡ released_of o w.events ++ due_of o w.events step.r.did (seen K o next)
@@ -179,7 +265,9 @@ module _ {M : Type 0} (K : KindOf M) (o : Origin) (w next : World M) (least : 1 
 pub released-cut : (o : Origin) (events : List Happening) (index cycle : ℕ) → released_of o (events ++ Cut index cycle ∷ []) ≡ released_of o events
 released-cut o events index cycle =
     released_marks o (events ++ Cut index cycle ∷ [])
-    ∙ ap (λ (x : Marks). console_of (console_at o) x.kept) (marks_from-append o.start.count (loading_marks o.start.count) events (Cut index cycle ∷ []))
+    ∙ ap (console_of (console_at o))
+    (ap (λ b. mark_if b (marks_of o (events ++ Cut index cycle ∷ [])).kept) (list_any-append shows events (Cut index cycle ∷ []) ∙ or_false (list_any shows events))
+    ∙ ap (λ (x : Marks). mark_if (list_any shows events) x.kept) (marks_from-append o.start.count (first_marks o) events (Cut index cycle ∷ [])))
     ∙ sym (released_marks o events)
 
 -- ---- how much the console can be
@@ -199,4 +287,4 @@ kept_few o (Some m) origin = console-few o m.count origin
 -- what is released has a length of 64 bits
 pub length-released : (o : Origin) (events : List Happening) → IsOrigin o → length (released_of o events) < 2 ^ 64
 length-released o events origin =
-    subst (λ (l : List ℕ). length l < 2 ^ 64) (sym (released_marks o events)) (kept_few o (marks_of o events).kept origin)
+    subst (λ (l : List ℕ). length l < 2 ^ 64) (sym (released_marks o events)) (kept_few o (shown_of o events) origin)

@@ -89,9 +89,9 @@ IsFound o v NothingLeft = v.done ≡ None
 IsFound o v (RefusedImage bad) = ⊥
 IsFound o v (At epoch state) = (v.done ≡ Some (mark epoch state.count)) × (state ≡ at o state.count)
 
--- a boot behind no cut loads the file, and one behind a cut finds its image
+-- a boot finds the image that the cut before it left, or with none that which the run began with
 abbrev pub BootFinds : {M : Type 0} (K : KindOf M) → Origin → List (List Block) → ℕ → View → Type 0
-BootFinds K o left cuts v = ((cuts ≡ 0) × (v.done ≡ None)) ⊎ ((0 < cuts) × IsFound o v (left_by K o left cuts))
+BootFinds K o left cuts v = IsFound o v (left_by K o left cuts)
 
 -- between two cycles: what the events have to do with the images
 pub record ImagesFit {M : Type 0} (K : KindOf M) (o : Origin) (left : List (List Block)) (cycles : ℕ) (fresh : Bool) (v : View) (s : Since) : Type 0 where
@@ -117,14 +117,12 @@ is_nothing K o (At e state) v none h = absurd (let some : v.done ≡ Some (mark 
 
 -- a restored mark is the image's
 restored : {M : Type 0} (K : KindOf M) → (o : Origin) (left : List (List Block)) (cuts epoch count : ℕ) (v : View) → BootFinds K o left cuts v → v.done ≡ Some (mark epoch count)
-    → (0 < cuts) × (left_by K o left cuts ≡ At epoch (at o count))
-restored K o left cuts epoch count v (inl none) done = absurd (let missing : v.done ≡ None = none.1 in cc)
-restored K o left cuts epoch count v (inr found) done = (found.0, is_at epoch count o (left_by K o left cuts) v done found.1)
+    → left_by K o left cuts ≡ At epoch (at o count)
+restored K o left cuts epoch count v found done = is_at epoch count o (left_by K o left cuts) v done found
 
 -- nothing was left where a boot behind a cut loads
-nothing_left : {M : Type 0} (K : KindOf M) → (o : Origin) (left : List (List Block)) (cuts : ℕ) (v : View) → BootFinds K o left cuts v → 0 < cuts → v.done ≡ None → left_by K o left cuts ≡ NothingLeft
-nothing_left K o left cuts v (inl none) some missing = absurd (omega (arith, none.0))
-nothing_left K o left cuts v (inr found) some missing = is_nothing K o (left_by K o left cuts) v missing found.1
+nothing_left : {M : Type 0} (K : KindOf M) → (o : Origin) (left : List (List Block)) (cuts : ℕ) (v : View) → BootFinds K o left cuts v → v.done ≡ None → left_by K o left cuts ≡ NothingLeft
+nothing_left K o left cuts v found missing = is_nothing K o (left_by K o left cuts) v missing found
 
 true_false : (b : Bool) {A : Type 0} → b ≡ true → b ≡ false → A
 true_false b t f = absurd (cc)
@@ -243,10 +241,7 @@ module _ {M : Type 0} (K : KindOf M) (o : Origin) (left : List (List Block)) (cy
   next_boot : next.phase ≡ BootPhase → BootFinds K o left s.cuts next
   next_boot boot =
       let stays = Stays-quiet o v next did cycle c (told-booting o v next did cycle c boot) in
-      elim (f.boot (sym stays.phase ∙ boot)) as (λ _. BootFinds K o left s.cuts next) [
-        | inl none ↦ inl (none.0, stays.done ∙ none.1)
-        | inr found ↦ inr (found.0, not_found o v next (left_by K o left s.cuts) stays.done found.1)
-      ]
+      not_found o v next (left_by K o left s.cuts) stays.done (f.boot (sym stays.phase ∙ boot))
 
   -- behind events of which the last is no cut
   settled_images : (t : Since) → t ≡ settled_since s → ImagesFit K o left (cycles + 1) false next t
@@ -265,10 +260,7 @@ module _ {M : Type 0} (K : KindOf M) (o : Origin) (left : List (List Block)) (cy
           let start = f.fresh_boot now.0 in
           let stays = Stays-quiet o v next did cycle c none in
           let unloaded : loads next ≡ false = ap (λ b. b && loads next) (sym now.0) ∙ unless in
-          elim (f.boot start.0) as (λ _. ⊥) [
-            | inl never ↦ omega (arith, never.0, start.3)
-            | inr found ↦ boot_none next (stays.phase ∙ start.0) unloaded (stays.done ∙ subst (IsFound o v) nothing_there found.1)
-          ]
+          boot_none next (stays.phase ∙ start.0) unloaded (stays.done ∙ subst (IsFound o v) nothing_there (f.boot start.0))
       | inr late ↦ f.last at_cycle e late
     ];
     just = λ at_cycle e. elim (f.just at_cycle e) as (λ _. (false ≡ true × (at_cycle ≡ cycles + 1)) ⊎ (at_cycle < cycles + 1)) [
@@ -285,7 +277,7 @@ module _ {M : Type 0} (K : KindOf M) (o : Origin) (left : List (List Block)) (cy
       let start = f.fresh_boot both.0 in
       let loading = loads-view next both.1 in
       let stays = Stays-quiet o v next did cycle c (told-booting o v next did cycle c loading.0) in
-      let fits : FitsImage K o left s Reload = (nothing_left K o left s.cuts v (f.boot start.0) start.3 (sym stays.done ∙ loading.1), (cycles, start.2)) in
+      let fits : FitsImage K o left s Reload = (nothing_left K o left s.cuts v (f.boot start.0) (sym stays.done ∙ loading.1), (cycles, start.2)) in
       subst (StepFits K o left cycles next s) (sym is) (record { each = (fits, tt); cuts = refl; images = settled_images (settled_since s) refl })
   by_shape (nothing unless none is) = subst (StepFits K o left cycles next s) (sym is) (record { each = tt; cuts = refl; images = quiet_images unless none })
   by_shape (something since is) =

@@ -1,7 +1,10 @@
 -- What the images that cuts left have to do with events, as cycles and cuts add to both.
-use Rattle.std.proofs.Common.{◌≡◌, ℕ, ◌-◌, ◌<◌, ◌≤◌, Some, List, [], ◌∷◌, ◌++◌, length, refl, sym, ◌∙◌, ap, arith}
+use Rattle.std.proofs.Common.{◌≡◌, ℕ, ◌-◌, ◌<◌, ◌≤◌, Some, List, [], ◌∷◌, ◌++◌, length, refl, sym, ◌∙◌, ap, arith, ◌==◌, if◌then◌else◌, true, inl, inr, Bool}
+use Rattle.std.specs.Prelude.{slice_index_or}
+use Rattle.std.proofs.lemmas.Bool.{cases_eq, eq-eqb}
 use Rattle.std.proofs.lemmas.List.{get_or_append_left}
 use Rattle.thy_base.specs.declared.block.Block.{Block}
+use Rattle.thy_view.specs.Booting.{found_first}
 use Rattle.thy_view.specs.Kind.{KindOf}
 use Rattle.thy_text.specs.Happening.{Happening, EpochEnd, Commit, Cut, Restart, Reload, Ended}
 use Rattle.thy_view.specs.Origin.{Origin}
@@ -58,15 +61,21 @@ cuts_grow s [] = omega arith
 cuts_grow s (v ∷ vs) = let one = more_cuts s v in let rest = cuts_grow (since_after s v) vs in omega (arith, one, rest)
 
 -- an earlier image is as it was
-pub left_by-more : {M : Type 0} (K : KindOf M) → (o : Origin) (left : List (List Block)) (g : List Block) (k : ℕ) → 0 < k → k ≤ length left → left_by K o (left ++ g ∷ []) k ≡ left_by K o left k
-left_by-more K o left g k some few = ap (K.decode o.geometry ceiling) (get_or_append_left left (g ∷ []) [] (k - 1) (omega arith))
+pub left_by-more : {M : Type 0} (K : KindOf M) → (o : Origin) (left : List (List Block)) (g : List Block) (k : ℕ) → k ≤ length left → left_by K o (left ++ g ∷ []) k ≡ left_by K o left k
+left_by-more K o left g k few = elim (cases_eq k 0) as (λ _. left_by K o (left ++ g ∷ []) k ≡ left_by K o left k) [
+  | inl none ↦
+      let first : (k == 0) ≡ true = eq-eqb k 0 none in
+      ap (λ b. if b then found_first o o.kept else K.decode o.geometry ceiling (slice_index_or (left ++ g ∷ []) (k - 1) [])) first
+      ∙ sym (ap (λ b. if b then found_first o o.kept else K.decode o.geometry ceiling (slice_index_or left (k - 1) [])) first)
+  | inr some ↦ ap (λ g. if k == 0 then found_first o o.kept else K.decode o.geometry ceiling g) (get_or_append_left left (g ∷ []) [] (k - 1) (omega (arith, some)))
+]
 
 pub HasLeft-more : {M : Type 0} (K : KindOf M) → (o : Origin) (left : List (List Block)) (g : List Block) (s : Since) → IsValid s → s.cuts ≤ length left → HasLeft K o left s → HasLeft K o (left ++ g ∷ []) s
-HasLeft-more K o left g s valid few h = λ cycle e f. h cycle e (sym (left_by-more K o left g s.cuts (valid cycle e) few) ∙ f)
+HasLeft-more K o left g s valid few h = λ cycle e f. h cycle e (sym (left_by-more K o left g s.cuts few) ∙ f)
 
 fits_more : {M : Type 0} (K : KindOf M) → (o : Origin) (left : List (List Block)) (g : List Block) (s : Since) (v : Happening) → IsValid s → s.cuts ≤ length left → FitsImage K o left s v → FitsImage K o (left ++ g ∷ []) s v
-fits_more K o left g s (Restart epoch count state) valid few h = (h.0, left_by-more K o left g s.cuts h.0 few ∙ h.1)
-fits_more K o left g s Reload valid few h = (left_by-more K o left g s.cuts (valid h.1.0 h.1.1) few ∙ h.0, h.1)
+fits_more K o left g s (Restart epoch count state) valid few h = left_by-more K o left g s.cuts few ∙ h
+fits_more K o left g s Reload valid few h = (left_by-more K o left g s.cuts few ∙ h.0, h.1)
 fits_more K o left g s (EpochEnd epoch count cause) valid few h = HasLeft-more K o left g s valid few h
 fits_more K o left g s (Commit epoch at overlapped) valid few h = HasLeft-more K o left g s valid few h
 fits_more K o left g s (Cut index at) valid few h = HasLeft-more K o left g s valid few h

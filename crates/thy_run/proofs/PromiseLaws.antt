@@ -6,7 +6,7 @@ use Rattle.thy_base.specs.declared.block.Block.{Block}
 use Rattle.thy_base.specs.Device.{Device}
 use Rattle.thy_view.specs.Kind.{KindOf, IsLawful}
 use Rattle.thy_text.specs.Happening.{Happening, EpochEnd, Commit, Cut, Restart, Reload, Ended}
-use Rattle.thy_text.specs.Marks.{Marks, Course, loading_marks, marks_from, marks_after, AllLawful}
+use Rattle.thy_text.specs.Marks.{Marks, Course, marks_from, marks_after, AllLawful}
 use Rattle.thy_text.proofs.Histories.{marks_from-append}
 use Rattle.thy_view.specs.Origin.{Origin}
 use Rattle.thy_view.specs.Safe.{Safe}
@@ -14,7 +14,7 @@ use Rattle.thy_view.specs.Views.{doubt_of}
 use Rattle.thy_view.proofs.SafeLemmas.{Safe-failed}
 use Rattle.thy_run.specs.Cuts.{is_end, has_ended, cuts_among, numbered, last_cuttable, cuts_up_to}
 use Rattle.thy_run.specs.Images.{Since, since_after, since_from, no_cuts, AllFitImages, EndsFitting, RestartsDecode}
-use Rattle.thy_run.specs.Laws.{course_of, marks_of, Promise, RunKeepsPromise}
+use Rattle.thy_run.specs.Laws.{course_of, first_marks, marks_of, Promise, RunKeepsPromise}
 use Rattle.thy_run.specs.Progress.{IsSoonOver}
 use Rattle.thy_run.specs.Unfinished.{StepFailed, ReadFailed, Ends}
 use Rattle.thy_run.specs.World.{World, seen, events_of, Steps}
@@ -124,7 +124,7 @@ module _ {M : Type 0} (K : KindOf M) (o : Origin) (cuts : List ℕ) (w : World M
       cuts_among-append w.events part ∙ ap (λ (l : List Happening). cuts_among w.events ++ l) uncut ∙ append-nil (cuts_among w.events) in
       let going : has_ended (w.events ++ part) ≡ false =
       list_any-append is_end w.events part ∙ or_from (has_ended w.events) (has_ended part) (g.stands.ended ∙ step.going) unended in
-      let marks : marks_of o (w.events ++ part) ≡ marks_from o.start.count m part = marks_from-append o.start.count (loading_marks o.start.count) w.events part in
+      let marks : marks_of o (w.events ++ part) ≡ marks_from o.start.count m part = marks_from-append o.start.count (first_marks o) w.events part in
       let covered = Covers-part o (seen K o w) (seen K o next) m step.r.did w.fresh (w.cycles + 1) least g.stands.fits step.is_step.step part rest (sym whole) in
       let safe_next : Safe K.decode o (marks_from o.start.count m part).kept (marks_from o.start.count m part).sealed next.device =
       Safe-covered K o _ _ (seen K o next).done (doubt_of (seen K o next)) next.device covered step.is_step.safe in
@@ -133,7 +133,7 @@ module _ {M : Type 0} (K : KindOf M) (o : Origin) (cuts : List ℕ) (w : World M
         | inr f ↦ Safe-failed K.decode o (marks_from o.start.count m part).kept (marks_from o.start.count m part).sealed next.device n safe_next f.failed f.framed
       ] in
       record {
-        events_lawful = AllLawful-part (course_of o) (loading_marks o.start.count) (w.events ++ part) rest (subst (AllLawful (course_of o) (loading_marks o.start.count)) split after.lawful);
+        events_lawful = AllLawful-part (course_of o) (first_marks o) (w.events ++ part) rest (subst (AllLawful (course_of o) (first_marks o)) split after.lawful);
         restarts_decode = record {
           each = subst (λ (l : List (List Block)). AllFitImages K o l no_cuts (w.events ++ part)) (sym left)
               (AllFitImages-part K o next.device.left no_cuts (w.events ++ part) rest (subst (AllFitImages K o next.device.left no_cuts) split after.each));

@@ -6,7 +6,7 @@ use Rattle.thy_base.specs.declared.mark.Mark.{Mark}
 use Rattle.thy_record.specs.Decoded.{Decoded, Nothing as NothingLeft, Refused as RefusedImage, At}
 use Rattle.thy_view.specs.declared.did.Did.{Did}
 use Rattle.thy_view.specs.declared.view.View.{View}
-use Rattle.thy_view.specs.Booting.{loading_view, view_of_image}
+use Rattle.thy_view.specs.Booting.{found_first, loading_view, view_of_image}
 use Rattle.thy_view.specs.Kind.{KindOf, IsLawful}
 use Rattle.thy_view.specs.Origin.{Origin, runs_at}
 use Rattle.thy_view.specs.Pace.{retires}
@@ -111,6 +111,16 @@ counts_loading o end some = record {
   up = λ e. absurd (cc);
 }
 
+-- a run begins with nothing, or with the checkpoint of its start
+counts_first : (o : Origin) (end : ℕ) (kept : Option Mark) → o.start.count ≤ end → Counts o end 0 (view_of_image o.start.count (found_first o kept))
+counts_first o end None some = counts_loading o end some
+counts_first o end (Some m) some = record {
+  kept = one_mark o end m.epoch o.start.count (Some (mark m.epoch o.start.count)) refl (omega arith, some);
+  sealed = no_mark o end None refl;
+  boot = λ e. refl;
+  up = λ e. absurd (cc);
+}
+
 -- what the image means is one of the two marks
 counts_image : (o : Origin) (end done : ℕ) (v : View) (d : Decoded) → o.start.count ≤ end → Counts o end done v → IsOneOf o v.done (doubt_of v) d
     → Counts o end 0 (view_of_image o.start.count d)
@@ -142,7 +152,7 @@ module _ {M : Type 0} (K : KindOf M) (o : Origin) (given : Given) (end : ℕ) (s
       subst (λ (y : World M). Counts o end (t.retired + retires step.r.did) (seen K o y)) (sym is) stepped
 
   counts_ran : (k : ℕ) (w : World M) (ran : Ran K o given k w) → Counts o end (tally_of K o given k w ran).retired (seen K o w)
-  counts_ran zero w first = subst (Counts o end 0) (sym first.loading) (counts_loading o end some)
+  counts_ran zero w first = subst (Counts o end 0) (sym first.found) (counts_first o end o.kept some)
   counts_ran (suc k) w (before, ran, cycle) =
       by_due before cycle.between w cycle.steps (tally_of K o given k before ran) (counts_ran k before ran) (is_due K o given.cuts cycle.between) cycle.cut
 

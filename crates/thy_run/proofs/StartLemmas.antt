@@ -1,12 +1,13 @@
 -- A run before its first cycle, and one at its limit.
-use Rattle.std.proofs.Common.{◌≡◌, ℕ, ◌+◌, false, Some, List, [], refl, sym, ◌∙◌, ap, subst, inl, append-nil, arith}
+use Rattle.std.proofs.Common.{◌≡◌, ℕ, ◌+◌, false, Option, Some, None, List, [], refl, sym, ◌∙◌, ap, subst, inl, append-nil, arith}
+use Rattle.thy_base.specs.declared.mark.Mark.{Mark}
 use Rattle.thy_base.specs.Device.{Device}
 use Rattle.thy_base.specs.Outside.{Stream}
-use Rattle.thy_view.specs.Kind.{KindOf, IsLawful, IsFittedFor}
+use Rattle.thy_view.specs.Kind.{KindOf, IsLawful}
 use Rattle.thy_text.specs.Happening.{Happening}
 use Rattle.thy_text.specs.Lines.{report_of}
 use Rattle.thy_view.specs.declared.view.View.{View}
-use Rattle.thy_view.specs.Booting.{loading_view}
+use Rattle.thy_view.specs.Booting.{found_first, first_view, view_of_image}
 use Rattle.thy_view.specs.Views.{is_halt, doubt_of}
 use Rattle.thy_view.specs.Origin.{Origin}
 use Rattle.thy_view.specs.Safe.{Safe}
@@ -22,27 +23,26 @@ use Rattle.thy_run.specs.Turning.{IsFitted, Running, RunEnds, first_progress}
 use Rattle.thy_run.proofs.AdvanceLemmas.{good_of}
 use Rattle.thy_run.proofs.TurnLemmas.{Took-none, delivered_all}
 
+-- the view with which a run begins has nothing in doubt
+first_doubt : (o : Origin) (kept : Option Mark) → doubt_of (view_of_image o.start.count (found_first o kept)) ≡ None
+first_doubt o None = refl
+first_doubt o (Some m) = refl
+
 -- power comes on for the first time
 first_of : {M : Type 0} (K : KindOf M) (laws : IsLawful K) → (plan : Plan) (m : M) (n : Device) → IsPlanned plan → K.powered plan.geometry m → IsFitted K plan n
     → IsFirst K (origin_of plan) (given_of plan n) (world_at (first_progress plan m) n 0)
 first_of {M = M} K laws plan m n planned powered f =
     let o : Origin = origin_of plan in
-    let fit : IsFittedFor K o f.shape [] f.before = record {
-      blocks = f.blocks;
-      fits = omega arith;
-      long = record { each = λ i l. absurd (omega arith) };
-      found = laws.finds_nothing o.geometry f.shape f.before f.blocks;
-    } in
-    let law = laws.begins o m f.shape [] f.before planned.origin powered fit in
+    let law = laws.begins o m f.shape f.start f.before planned.origin powered f.fits in
     let at_first : K.is_at o 0 m n = subst (K.is_at o 0 m) (sym f.is_fitted) law.0 in
-    let view : K.view o m n ≡ loading_view o.start.count = ap (K.view o m) f.is_fitted ∙ law.1 in
+    let view : K.view o m n ≡ first_view o = ap (K.view o m) f.is_fitted ∙ law.1 in
     let S : View → Type 0 = λ v. Safe K.decode o v.done (doubt_of v) n in
     record {
       device = refl;
       powered = powered;
       at_moment = at_first;
-      loading = view;
-      safe = subst S view (laws.is_safe o 0 m n at_first);
+      found = view;
+      safe = subst (λ (d : Option Mark). Safe K.decode o (first_view o).done d n) (first_doubt o o.kept) (subst S view (laws.is_safe o 0 m n at_first));
       left = ap (λ (d : Device). d.left) f.is_fitted;
       empty = ap (λ (d : Device). d.queue) f.is_fitted;
       mix = refl;
@@ -51,6 +51,10 @@ first_of {M = M} K laws plan m n planned powered f =
       fresh = refl;
       events = refl;
     }
+
+first_going : (o : Origin) (kept : Option Mark) → is_halt (view_of_image o.start.count (found_first o kept)).phase ≡ false
+first_going o None = refl
+first_going o (Some m) = refl
 
 -- the loop before its first turn
 pub Running-first : {M : Type 0} (K : KindOf M) (laws : IsLawful K) → (plan : Plan) (p : Progress M) (m : M) (n : Device) (t r : Stream) → IsPlanned plan → K.powered plan.geometry m → IsFitted K plan n
@@ -61,7 +65,7 @@ Running-first {M = M} K laws plan p m n t r planned powered f is =
     let here : Running K plan n (first_progress plan m) n 0 t t r r = record {
       goes = record {
         ran = first;
-        going = ap (λ v. is_halt v.phase) first.loading;
+        going = ap (λ v. is_halt v.phase) first.found ∙ first_going o o.kept;
         released = refl;
         room = ap (λ (d : Device). d.left_room) f.is_fitted ∙ ap (λ c. c + 1) f.cuts;
         calm = refl;

@@ -7,7 +7,7 @@ use Rattle.thy_base.specs.Device.{Device}
 use Rattle.thy_text.specs.Happening.{Happening, Cut, Reload, Ended}
 use Rattle.thy_view.specs.declared.did.Did.{Did}
 use Rattle.thy_view.specs.declared.view.View.{View}
-use Rattle.thy_view.specs.Booting.{view_of_image}
+use Rattle.thy_view.specs.Booting.{found_first, view_of_image}
 use Rattle.thy_view.specs.Kind.{KindOf}
 use Rattle.thy_view.specs.Origin.{Origin, at}
 use Rattle.thy_view.specs.Pace.{Strides as KeepsIdle}
@@ -206,10 +206,10 @@ module _ {M : Type 0} (K : KindOf M) (o : Origin) where
   by_due w x next step h false is = subst (Strode K o) (sym is) (strode_step w x step h)
 
   strode_ran : (given : Given) (k : ℕ) (w : World M) → Ran K o given k w → Strode K o w
-  strode_ran given zero w start = record {
+  strode_ran given zero w start = let boot = image_boot o.start.count (found_first o o.kept) in record {
     all = subst (AllStride o.start.count first) (sym start.events) tt;
     tells = subst (λ e. Tells o e (seen K o w) (K.gauge w.machine w.device).idle) (sym (ap (epoch_from o.start.count first) start.events))
-        (tells_boot o (seen K o w) _ (ap (λ v. is_boot v.phase) start.loading) (ap (λ v. v.retired) start.loading));
+        (tells_boot o (seen K o w) _ (ap (λ v. is_boot v.phase) start.found ∙ boot.0) (ap (λ v. v.retired) start.found ∙ boot.1));
   }
   strode_ran given (suc k) w (before, ran, cycle) =
       by_due before cycle.between w cycle.steps (strode_ran given k before ran) (is_due K o given.cuts cycle.between) cycle.cut

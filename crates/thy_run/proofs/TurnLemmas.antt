@@ -1,6 +1,7 @@
 -- A cycle that was told is a turn of the loop.
 use Rattle.std.proofs.Common.{◌≡◌, ℕ, suc, ◌+◌, ◌<◌, ◌≤◌, Bool, true, false, None, Some, List, [], ◌∷◌, ◌++◌, length, take, refl, sym, ◌∙◌, ap, subst, inr, append-nil, append_assoc, length-append, arith}
-use Rattle.thy_base.specs.Device.{Device, RoseFaults}
+use Rattle.thy_base.specs.Counts.{Rose}
+use Rattle.thy_base.specs.Device.{Device}
 use Rattle.thy_base.specs.Outside.{Stream, Took}
 use Rattle.thy_base.proofs.Streams.{Took-append}
 use Rattle.thy_view.specs.Kind.{KindOf, IsLawful}
@@ -211,7 +212,7 @@ module _ {M : Type 0} (K : KindOf M) (plan : Plan) (fitted : Device) (p q : Prog
       shown Limit f = absurd f
 
       because : (stop : Stop) → Breaks p q n m bytes stop → StopFits plan fitted m (record { stop = stop; events = q.events; cycles = k; mute = mute; deaf = deaf }) stop
-      because Nvm f = (subst (λ c. RoseFaults c m.faults) running.goes.calm f.rose, few, spoken f.none, heard f.events)
+      because Nvm f = (subst (λ c. Rose c m.faults) running.goes.calm f.rose, few, spoken f.none, heard f.events)
       because Memory f = tt
       because (Ended status) f = absurd f
       because Terminal f = absurd f

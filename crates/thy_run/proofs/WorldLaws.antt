@@ -1,7 +1,7 @@
 -- What holds of a run between two cycles, and that one more cycle keeps it.
 use Rattle.std.proofs.Common.{◌≡◌, ℕ, zero, suc, ◌+◌, ◌-◌, ◌≤◌, Bool, true, false, ◌&&◌, ◌||◌, ◌==◌, not, nat_lt, if◌then◌else◌, Option, Some, None, List, [], ◌∷◌, ◌++◌, length, take, refl, sym, ◌∙◌, ap, subst, inl, inr, append-nil, length-append, arith}
 use Rattle.std.specs.Prelude.{◌≢◌, slice_index, slice_index_or, MatchBool}
-use Rattle.std.proofs.lemmas.Bool.{or_from, eq-eqb, eqb-true, ltb-true, lt-ltb}
+use Rattle.std.proofs.lemmas.Bool.{or_from, eq-eqb, ne_eqb, eqb-true, ltb-true, lt-ltb}
 use Rattle.std.proofs.lemmas.List.Folds.{list_any-append}
 use Rattle.std.proofs.Math.Seq.{get_or-append_seam}
 use Rattle.thy_base.specs.declared.block.Block.{Block}
@@ -19,15 +19,16 @@ use Rattle.thy_view.specs.declared.did.Did.TheVariants.{Boot, Loaded, Restarted,
 use Rattle.thy_view.specs.declared.view.Phase.{Phase}
 use Rattle.thy_view.specs.declared.view.Phase.TheVariants.{Boot as BootPhase, Run, Halt}
 use Rattle.thy_view.specs.declared.view.View.{View}
-use Rattle.thy_view.specs.Booting.{loading_view, view_of_image}
+use Rattle.thy_view.specs.Booting.{found_first, first_view, view_of_image}
 use Rattle.thy_view.specs.Views.{is_halt, loads, halts, mark, doubt_of}
 use Rattle.thy_view.specs.CoreStep.{CoreStep}
-use Rattle.thy_view.specs.Origin.{Origin, at}
+use Rattle.thy_isa.specs.Step.{steps}
+use Rattle.thy_view.specs.Origin.{Origin, at, setting_of}
 use Rattle.thy_view.specs.Safe.{ceiling, Safe, IsOneOf}
 use Rattle.thy_view.proofs.SafeLemmas.{Safe-doubt}
 use Rattle.thy_run.specs.Cuts.{is_end, has_ended, cuts_among, numbered, last_cuttable, cuts_up_to}
 use Rattle.thy_run.specs.Images.{left_by, since_after, since_from, no_cuts, HasLeft, AllFitImages}
-use Rattle.thy_run.specs.Laws.{course_of, marks_of}
+use Rattle.thy_run.specs.Laws.{course_of, marks_at, first_marks, marks_of}
 use Rattle.thy_run.specs.World.{World, seen, told, reload_told, end_told, events_of, stepped, Steps, is_due, cut_off, IsCutOff, Cycle, Given, IsFirst, Ran}
 use Rattle.thy_run.proofs.Fitting.{IsEither, Rises, Follows, FitsIn, Fits}
 use Rattle.thy_run.proofs.CoverLaws.{Covers-fits, Safe-covered}
@@ -86,7 +87,7 @@ events_end o fresh v did next cycle =
 pub record Coheres {M : Type 0} (K : KindOf M) (o : Origin) (w : World M) : Type 0 where
   pub at_moment : K.is_at o w.cycles w.machine w.device
   pub fits : Fits o (seen K o w) (marks_of o w.events)
-  pub lawful : AllLawful (course_of o) (loading_marks o.start.count) w.events
+  pub lawful : AllLawful (course_of o) (first_marks o) w.events
   pub safe : Safe K.decode o (marks_of o w.events).kept (marks_of o w.events).sealed w.device
   pub each : AllFitImages K o w.device.left no_cuts w.events
   pub images : ImagesFit K o w.device.left w.cycles w.fresh (seen K o w) (since_from no_cuts w.events)
@@ -122,7 +123,7 @@ module _ {M : Type 0} (K : KindOf M) (o : Origin) (w : World M) (least : 1 ≤ o
       let e : List Happening = events_of o w.fresh v did next (w.cycles + 1) in
       let core : CoreStep o v did next = step.is_step.step in
       let events = Fits-events o v next m did w.fresh (w.cycles + 1) least h.fits core in
-      let marks : marks_of o (w.events ++ e) ≡ marks_from o.start.count m e = marks_from-append o.start.count (loading_marks o.start.count) w.events e in
+      let marks : marks_of o (w.events ++ e) ≡ marks_from o.start.count m e = marks_from-append o.start.count (first_marks o) w.events e in
       let fits : Fits o next (marks_of o (w.events ++ e)) = subst (Fits o next) (sym marks) events.0 in
       let image = StepFits-events K o w.device.left w.cycles w.fresh v next (since_from no_cuts w.events) h.images did (w.cycles + 1) core in
       let since : since_from no_cuts (w.events ++ e) ≡ since_from (since_from no_cuts w.events) e = since_from-append no_cuts w.events e in
@@ -130,7 +131,7 @@ module _ {M : Type 0} (K : KindOf M) (o : Origin) (w : World M) (least : 1 ≤ o
       record {
         at_moment = step.is_step.at_next;
         fits = fits;
-        lawful = AllLawful-append (course_of o) (loading_marks o.start.count) w.events e h.lawful events.1;
+        lawful = AllLawful-append (course_of o) (first_marks o) w.events e h.lawful events.1;
         safe = Safe-covered K o (marks_of o (w.events ++ e)).kept (marks_of o (w.events ++ e)).sealed next.done (doubt_of next) x.device
             (Covers-fits o next (marks_of o (w.events ++ e)) fits) step.is_step.safe;
         each = subst (λ (l : List (List Block)). AllFitImages K o l no_cuts (w.events ++ e)) (sym left)
@@ -279,7 +280,7 @@ module _ {M : Type 0} (K : KindOf M) (o : Origin) (x next : World M) (h : Cohere
   lefts = ap (λ (n : Device). n.left) cut.cut.device
 
   cut_marks : marks_of o (x.events ++ Cut (x.passed + 1) x.cycles ∷ []) ≡ marks_of o x.events
-  cut_marks = marks_from-append o.start.count (loading_marks o.start.count) x.events (Cut (x.passed + 1) x.cycles ∷ [])
+  cut_marks = marks_from-append o.start.count (first_marks o) x.events (Cut (x.passed + 1) x.cycles ∷ [])
 
   cut_since : since_from no_cuts (x.events ++ Cut (x.passed + 1) x.cycles ∷ []) ≡ since_after (since_from no_cuts x.events) (Cut (x.passed + 1) x.cycles)
   cut_since = since_from-append no_cuts x.events (Cut (x.passed + 1) x.cycles ∷ [])
@@ -302,7 +303,9 @@ module _ {M : Type 0} (K : KindOf M) (o : Origin) (x next : World M) (h : Cohere
   last_left : left_by K o (x.device.left ++ next.device.image ∷ []) ((since_from no_cuts x.events).cuts + 1) ≡ left_image
   last_left =
       let index : (since_from no_cuts x.events).cuts + 1 - 1 ≡ length x.device.left = omega (arith, h.since, h.left) in
-      ap (K.decode o.geometry ceiling) (ap (λ i. slice_index_or (x.device.left ++ next.device.image ∷ []) i []) index
+      ap (λ b. if b then found_first o o.kept else K.decode o.geometry ceiling (slice_index_or (x.device.left ++ next.device.image ∷ []) ((since_from no_cuts x.events).cuts + 1 - 1) []))
+      (ne_eqb ((since_from no_cuts x.events).cuts + 1) 0 (λ e. omega (arith, e)))
+      ∙ ap (K.decode o.geometry ceiling) (ap (λ i. slice_index_or (x.device.left ++ next.device.image ∷ []) i []) index
       ∙ get_or-append_seam x.device.left next.device.image [] [])
 
   cut_images : ImagesFit K o (x.device.left ++ next.device.image ∷ []) x.cycles true (view_of_image o.start.count left_image)
@@ -311,11 +314,8 @@ module _ {M : Type 0} (K : KindOf M) (o : Origin) (x next : World M) (h : Cohere
     last = λ cycle e before. absurd (let same : x.cycles ≡ cycle = cc in omega (arith, same, before));
     just = λ cycle e. inl (refl, (let same : x.cycles ≡ cycle = cc in sym same));
     fresh_boot = λ e. ((image_phase o.start.count left_image).0, (image_phase o.start.count left_image).1, refl, omega arith);
-    boot = λ e. inr (
-      omega arith,
-      subst (IsFound o (view_of_image o.start.count left_image)) (sym last_left)
-          (cut_found o left_image x.device.left 0 (seen K o x) one_of),
-    );
+    boot = λ e. subst (IsFound o (view_of_image o.start.count left_image)) (sym last_left)
+        (cut_found o left_image x.device.left 0 (seen K o x) one_of);
   }
 
   cut_coheres : Coheres K o (cut_off x next.machine next.device)
@@ -323,7 +323,7 @@ module _ {M : Type 0} (K : KindOf M) (o : Origin) (x next : World M) (h : Cohere
     at_moment = cut.at_moment;
     fits = subst (λ v. Fits o v (marks_of o (x.events ++ Cut (x.passed + 1) x.cycles ∷ []))) (sym cut.found)
         (subst (Fits o (view_of_image o.start.count left_image)) (sym cut_marks) (fits_cut o (seen K o x) (marks_of o x.events) left_image h.fits one_of));
-    lawful = AllLawful-append (course_of o) (loading_marks o.start.count) x.events (Cut (x.passed + 1) x.cycles ∷ []) h.lawful (tt, tt);
+    lawful = AllLawful-append (course_of o) (first_marks o) x.events (Cut (x.passed + 1) x.cycles ∷ []) h.lawful (tt, tt);
     safe = subst (λ (m : Marks). Safe K.decode o m.kept m.sealed next.device) (sym cut_marks) (Safe-cut K o (marks_of o x.events).kept (marks_of o x.events).sealed x.device next.device cut.cut h.safe);
     each = subst (λ (l : List (List Block)). AllFitImages K o l no_cuts (x.events ++ Cut (x.passed + 1) x.cycles ∷ [])) (sym lefts) each_cut;
     images = subst (λ (l : List (List Block)). ImagesFit K o l x.cycles true (seen K o next) (since_from no_cuts (x.events ++ Cut (x.passed + 1) x.cycles ∷ []))) (sym lefts)
@@ -382,21 +382,43 @@ Good-cycle {M = M} K o cuts w next least rising g c =
     by_due K o cuts w c.between next rising c.steps (listed_going K o cuts w g c.steps.going) (Coheres-stepped K o w least g.stands c.between c.steps)
     (is_due K o cuts c.between) refl c.cut
 
+-- the start is the plain machine's state at its count
+at-start : (o : Origin) → o.start ≡ at o o.start.count
+unfolding at steps
+at-start o = ap (λ (k : ℕ). steps (setting_of o) k o.start) (let none : 0 ≡ o.start.count - o.start.count = omega arith in none)
+
+-- the view and the marks with which a run begins
+first_fits : (o : Origin) (kept : Option Mark) → Fits o (view_of_image o.start.count (found_first o kept)) (marks_at o.start.count kept)
+first_fits o None = record { retired = refl; over = refl; boots = inl (record { done = refl; sealed = refl; marks = refl }) }
+first_fits o (Some m) = record {
+  retired = refl;
+  over = refl;
+  boots = inr (record { mark = mark m.epoch o.start.count; done = refl; sealed = refl; written = refl; either = inl refl; rises = λ k s kept sealed. absurd (cc) });
+}
+
+first_found : (o : Origin) (kept : Option Mark) → IsFound o (view_of_image o.start.count (found_first o kept)) (found_first o kept)
+first_found o None = refl
+first_found o (Some m) = (refl, at-start o)
+
+first_boot : (o : Origin) (kept : Option Mark)
+    → ((view_of_image o.start.count (found_first o kept)).phase ≡ BootPhase) × ((view_of_image o.start.count (found_first o kept)).done ≡ (marks_at o.start.count kept).kept)
+first_boot o None = (refl, refl)
+first_boot o (Some m) = (refl, refl)
+
 -- and it holds at first
 pub Good-first : {M : Type 0} (K : KindOf M) → (o : Origin) (given : Given) (w : World M) → first_not_rising 0 given.cuts ≡ None → IsFirst K o given w → Good K o given.cuts w
 Good-first {M = M} K o given w rising f =
     let none : w.events ≡ [] = f.events in
-    let marks : marks_of o w.events ≡ loading_marks o.start.count = ap (marks_of o) none in
+    let marks : marks_of o w.events ≡ first_marks o = ap (marks_of o) none in
     let since : since_from no_cuts w.events ≡ no_cuts = ap (since_from no_cuts) none in
-    let boot : (loading_view o.start.count).phase ≡ BootPhase = refl in
-    let fits : Fits o (loading_view o.start.count) (loading_marks o.start.count) =
-    record { retired = refl; over = refl; boots = inl (record { done = refl; sealed = refl; marks = refl }) } in
-    let images : ImagesFit K o w.device.left w.cycles false (loading_view o.start.count) no_cuts = record {
+    let boots = first_boot o o.kept in
+    let images : ImagesFit K o w.device.left w.cycles false (first_view o) no_cuts = record {
       last = λ cycle e. absurd (cc);
       just = λ cycle e. absurd (cc);
       fresh_boot = λ e. absurd (cc);
-      boot = λ e. inl (refl, refl);
+      boot = λ e. first_found o o.kept;
     } in
+    let kept : Safe K.decode o (first_marks o).kept None w.device = subst (λ (d : Option Mark). Safe K.decode o d None w.device) boots.1 f.safe in
     let ended : has_ended w.events ≡ false = ap has_ended none in
     let cycles : w.cycles ≡ 0 = f.cycles in
     let last : last_cuttable w.events w.cycles ≡ 0 = ap (λ b. if b then w.cycles - 1 else w.cycles) ended ∙ cycles in
@@ -404,16 +426,16 @@ Good-first {M = M} K o given w rising f =
     record {
       stands = record {
         at_moment = subst (λ k. K.is_at o k w.machine w.device) (sym cycles) f.at_moment;
-        fits = subst (λ v. Fits o v (marks_of o w.events)) (sym f.loading) (subst (Fits o (loading_view o.start.count)) (sym marks) fits);
-        lawful = subst (AllLawful (course_of o) (loading_marks o.start.count)) (sym none) tt;
-        safe = subst (λ (m : Marks). Safe K.decode o m.kept m.sealed w.device) (sym marks) (Safe-doubt K.decode o None (Some (mark 0 o.start.count)) w.device f.safe);
+        fits = subst (λ v. Fits o v (marks_of o w.events)) (sym f.found) (subst (Fits o (first_view o)) (sym marks) (first_fits o o.kept));
+        lawful = subst (AllLawful (course_of o) (first_marks o)) (sym none) tt;
+        safe = subst (λ (m : Marks). Safe K.decode o m.kept m.sealed w.device) (sym marks) (Safe-doubt K.decode o (first_marks o).kept (first_marks o).sealed w.device kept);
         each = subst (AllFitImages K o w.device.left no_cuts) (sym none) tt;
         images = subst (λ b. ImagesFit K o w.device.left w.cycles b (seen K o w) (since_from no_cuts w.events)) (sym f.fresh)
-            (subst (λ v. ImagesFit K o w.device.left w.cycles false v (since_from no_cuts w.events)) (sym f.loading)
-            (subst (ImagesFit K o w.device.left w.cycles false (loading_view o.start.count)) (sym since) images));
+            (subst (λ v. ImagesFit K o w.device.left w.cycles false v (since_from no_cuts w.events)) (sym f.found)
+            (subst (ImagesFit K o w.device.left w.cycles false (first_view o)) (sym since) images));
         since = ap (λ s. s.cuts) since ∙ sym passed;
         left = ap length f.left ∙ sym passed;
-        ended = ended ∙ sym (ap is_halt (ap (λ v. v.phase) f.loading));
+        ended = ended ∙ sym (ap is_halt (ap (λ v. v.phase) f.found ∙ boots.0));
         queue = λ e. absurd (let no_cut : w.fresh ≡ false = f.fresh in cc);
       };
       listed = record {

@@ -1,23 +1,15 @@
 -- The listed cuts as events.
 use Rattle.std.specs.Prelude.{ℕ, ◌+◌, ◌-◌, Bool, true, false, nat_le, if◌then◌else◌, List, [], ◌∷◌, filter, take_while}
 use Rattle.std.specs.List.{list_any}
-use Rattle.thy_text.specs.Happening.{Happening, EpochEnd, Commit, Cut, Restart, Reload, Ended}
+use Rattle.thy_text.specs.Happening.{Happening, Cut, Ended}
 
 abbrev pub is_cut : Happening → Bool
 is_cut (Cut index cycle) = true
-is_cut (EpochEnd epoch count cause) = false
-is_cut (Commit epoch cycle overlapped) = false
-is_cut (Restart epoch count state) = false
-is_cut Reload = false
-is_cut (Ended status count cycle state) = false
+is_cut event = false
 
 abbrev pub is_end : Happening → Bool
 is_end (Ended status count cycle state) = true
-is_end (EpochEnd epoch count cause) = false
-is_end (Commit epoch cycle overlapped) = false
-is_end (Cut index cycle) = false
-is_end (Restart epoch count state) = false
-is_end Reload = false
+is_end event = false
 
 -- the run has ended
 abbrev pub has_ended : List Happening → Bool

@@ -3,7 +3,7 @@ use Rattle.std.specs.Prelude.{ℕ, Bool, true, false, if◌then◌else◌, List,
 use Rattle.thy_text.specs.Happening.{Happening}
 use Rattle.thy_text.specs.Released.{console_of}
 use Rattle.thy_view.specs.declared.did.Did.{Did}
-use Rattle.thy_view.specs.declared.did.Did.TheVariants.{Boot, Loaded, Restarted, Refused, Moved, Retired, Flushed, Merged, Sealed, Promoted, Engine, Committed, NvmDrained, DramDrained, Nothing}
+use Rattle.thy_view.specs.declared.did.Did.TheVariants.{Loaded, Restarted, Committed}
 use Rattle.thy_view.specs.declared.view.View.{View}
 use Rattle.thy_view.specs.Origin.{Origin}
 use Rattle.thy_run.specs.Laws.{console_at, released_of}
@@ -13,18 +13,7 @@ abbrev pub shows_console : Did → Bool
 shows_console Loaded = true
 shows_console (Restarted epoch count) = true
 shows_console (Committed epoch overlapped) = true
-shows_console Boot = false
-shows_console (Refused bad) = false
-shows_console Moved = false
-shows_console Retired = false
-shows_console Flushed = false
-shows_console Merged = false
-shows_console Promoted = false
-shows_console (Sealed epoch count cause) = false
-shows_console (Engine step) = false
-shows_console NvmDrained = false
-shows_console DramDrained = false
-shows_console Nothing = false
+shows_console did = false
 
 -- the bytes of the console that the terminal has not had yet
 abbrev pub due_of : Origin → List Happening → Did → View → List ℕ

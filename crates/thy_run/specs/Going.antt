@@ -3,12 +3,13 @@ use Rattle.std.specs.Prelude.{◌≡◌, ◌⊎◌, ℕ, ◌+◌, ◌<◌, ◌==
 use Rattle.std.specs.declared.alloc.Global.{Global}
 use Rattle.thy_base.specs.Bytes.{bytes_of}
 use Rattle.thy_base.specs.Config.{first_not_rising}
-use Rattle.thy_base.specs.Device.{Device, IsFramed, IsCut, RoseFaults}
+use Rattle.thy_base.specs.Counts.{Rose}
+use Rattle.thy_base.specs.Device.{Device, IsFramed, IsCut}
 use Rattle.thy_base.specs.Mix.{mix_pick, mix_next}
 use Rattle.thy_isa.specs.declared.state.MachState.{MachState}
 use Rattle.thy_isa.specs.declared.state.Status.{Status}
 use Rattle.thy_isa.specs.Step.{state_of}
-use Rattle.thy_text.specs.Happening.{Happening, EpochEnd, Commit, Cut, Restart, Reload, Ended as EndedEvent}
+use Rattle.thy_text.specs.Happening.{Happening, Cut, Ended as EndedEvent}
 use Rattle.thy_view.specs.declared.did.Did.{Did}
 use Rattle.thy_view.specs.declared.did.Did.TheVariants.{Restarted}
 use Rattle.thy_view.specs.declared.did.Stepped.{Stepped}
@@ -24,7 +25,7 @@ use Rattle.thy_run.specs.Laws.{released_of}
 use Rattle.thy_run.specs.Unfinished.{StepFailed, TellingFailed}
 use Rattle.thy_run.specs.World.{World, Given, seen, Steps, Ran, Cycle}
 use Rattle.thy_run.specs.declared.ending.Stop.{Stop}
-use Rattle.thy_run.specs.declared.ending.Stop.TheVariants.{Ended, Nvm, Memory, Terminal, Report, Limit}
+use Rattle.thy_run.specs.declared.ending.Stop.TheVariants.{Nvm, Memory}
 use Rattle.thy_run.specs.declared.advance.Outcome.{Outcome}
 use Rattle.thy_run.specs.declared.advance.Outcome.TheVariants.{Goes, Cuts, Ends, Fails}
 use Rattle.thy_run.specs.declared.gather.Readings.{Readings}
@@ -33,7 +34,7 @@ use Rattle.thy_run.specs.declared.progress.Progress.{Progress}
 
 -- what the run is about
 abbrev pub origin_of : Plan → Origin
-origin_of plan = record { geometry = plan.geometry; start = state_of plan.start.state; input = bytes_of plan.start.input; kept = None }
+origin_of plan = record { geometry = plan.geometry; start = state_of plan.start.state; input = bytes_of plan.start.input; kept = plan.start.kept }
 
 -- what it is given besides, over a device that was fitted
 abbrev pub given_of : Plan → Device → Given
@@ -120,7 +121,7 @@ pub record MadeSome (made : List Happening) (all : List Happening) (before : Lis
 pub record IsStuck {M : Type 0} (K : KindOf M) (plan : Plan) (p next : Progress M) (n new : Device) : Type 0 where
   pub leaves : LeavesSafe K (origin_of plan) p.machine n new
   pub framed : IsFramed n new
-  pub rose : RoseFaults n.faults new.faults
+  pub rose : Rose n.faults new.faults
   pub same : next ≡ record p { machine = next.machine; mix = mix_next p.mix }
 
 -- the step and all its events were made, and these bytes are due to the terminal
@@ -157,26 +158,19 @@ pub record IsBroken {M : Type 0} (K : KindOf M) (plan : Plan) (p next : Progress
 pub record IsFault {M : Type 0} (p next : Progress M) (n new : Device) (bytes : List ℕ) : Type 0 where
   pub events : next.events ≡ p.events
   pub none : bytes ≡ []
-  pub rose : RoseFaults n.faults new.faults
+  pub rose : Rose n.faults new.faults
 
 -- why a cycle is not done: a device's fault or want of memory
 abbrev pub Breaks : {M : Type 0} → Progress M → Progress M → Device → Device → List ℕ → Stop → Type 0
 Breaks p next n new bytes Nvm = IsFault p next n new bytes
 Breaks p next n new bytes Memory = Unit {0}
-Breaks p next n new bytes (Ended status) = ⊥
-Breaks p next n new bytes Terminal = ⊥
-Breaks p next n new bytes Report = ⊥
-Breaks p next n new bytes Limit = ⊥
+Breaks p next n new bytes stop = ⊥
 
 -- the status of the end among events
 abbrev pub end_of : List Happening → Option Status
 end_of [] = None
 end_of (EndedEvent status count cycle state ∷ vs) = Some status
-end_of (EpochEnd epoch count cause ∷ vs) = end_of vs
-end_of (Commit epoch cycle overlapped ∷ vs) = end_of vs
-end_of (Cut index cycle ∷ vs) = end_of vs
-end_of (Restart epoch count state ∷ vs) = end_of vs
-end_of (Reload ∷ vs) = end_of vs
+end_of (event ∷ vs) = end_of vs
 
 -- a cut is due after a cycle whose events were made: the next one that is listed
 pub record AwaitsCut {M : Type 0} (K : KindOf M) (plan : Plan) (p next : Progress M) (n new : Device) (cycles : ℕ) (bytes : List ℕ) : Type 0 where

@@ -1,15 +1,16 @@
 -- What the images that the cuts left have to do with the restarts after them.
-use Rattle.std.specs.Prelude.{◌≡◌, ◌≢◌, ℕ, ◌+◌, ◌-◌, ◌<◌, List, [], ◌∷◌, slice_index_or, Option, Some, None}
+use Rattle.std.specs.Prelude.{◌≡◌, ◌≢◌, ℕ, ◌+◌, ◌-◌, ◌<◌, ◌==◌, if◌then◌else◌, List, [], ◌∷◌, slice_index_or, Option, Some, None}
 use Rattle.thy_base.specs.declared.block.Block.{Block}
 use Rattle.thy_record.specs.Decoded.{Decoded, Nothing, At}
 use Rattle.thy_view.specs.Kind.{KindOf}
-use Rattle.thy_text.specs.Happening.{Happening, EpochEnd, Commit, Cut, Restart, Reload, Ended}
+use Rattle.thy_text.specs.Happening.{Happening, Cut, Restart, Reload}
+use Rattle.thy_view.specs.Booting.{found_first}
 use Rattle.thy_view.specs.Origin.{Origin}
 use Rattle.thy_view.specs.Safe.{ceiling}
 
--- what the image decodes to that the last of so many cuts left
+-- what the image means that the last of so many cuts left; with none, that which the run began with
 abbrev pub left_by : {M : Type 0} → KindOf M → Origin → List (List Block) → ℕ → Decoded
-left_by K o left cuts = K.decode o.geometry ceiling (slice_index_or left (cuts - 1) [])
+left_by K o left cuts = if cuts == 0 then found_first o o.kept else K.decode o.geometry ceiling (slice_index_or left (cuts - 1) [])
 
 -- how many cuts have come, and the last one's cycle where nothing has come since
 pub record Since : Type 0 where
@@ -18,11 +19,7 @@ pub record Since : Type 0 where
 
 abbrev pub since_after : Since → Happening → Since
 since_after s (Cut index cycle) = record { cuts = s.cuts + 1; just = Some cycle }
-since_after s (EpochEnd epoch count cause) = record { cuts = s.cuts; just = None }
-since_after s (Commit epoch cycle overlapped) = record { cuts = s.cuts; just = None }
-since_after s (Restart epoch count state) = record { cuts = s.cuts; just = None }
-since_after s Reload = record { cuts = s.cuts; just = None }
-since_after s (Ended status count cycle state) = record { cuts = s.cuts; just = None }
+since_after s event = record { cuts = s.cuts; just = None }
 
 abbrev pub since_from : Since → List Happening → Since
 since_from s [] = s
@@ -39,12 +36,9 @@ HasLeft K o left s = (cycle : ℕ) → s.just ≡ Some cycle → left_by K o lef
 -- a restart is the epoch and the state of what the cut before it left; the file is loaded again only right behind a
 -- cut that left no checkpoint, and nothing else comes there
 abbrev pub FitsImage : {M : Type 0} → KindOf M → Origin → List (List Block) → Since → Happening → Type 0
-FitsImage K o left s (Restart epoch count state) = (0 < s.cuts) × (left_by K o left s.cuts ≡ At epoch state)
+FitsImage K o left s (Restart epoch count state) = left_by K o left s.cuts ≡ At epoch state
 FitsImage K o left s Reload = (left_by K o left s.cuts ≡ Nothing) × ((cycle : ℕ) × (s.just ≡ Some cycle))
-FitsImage K o left s (EpochEnd epoch count cause) = HasLeft K o left s
-FitsImage K o left s (Commit epoch cycle overlapped) = HasLeft K o left s
-FitsImage K o left s (Cut index cycle) = HasLeft K o left s
-FitsImage K o left s (Ended status count cycle state) = HasLeft K o left s
+FitsImage K o left s event = HasLeft K o left s
 
 abbrev pub AllFitImages : {M : Type 0} → KindOf M → Origin → List (List Block) → Since → List Happening → Type 0
 AllFitImages K o left s [] = Unit {0}

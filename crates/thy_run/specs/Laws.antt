@@ -1,10 +1,11 @@
 -- What follows for every run, whatever the cuts left.
-use Rattle.std.specs.Prelude.{◌≡◌, ℕ, List, length, None}
+use Rattle.std.specs.Prelude.{◌≡◌, ℕ, List, length, None, Option, Some}
 use Rattle.thy_base.specs.Config.{first_not_rising}
+use Rattle.thy_base.specs.declared.mark.Mark.{Mark}
 use Rattle.thy_base.specs.Device.{Device}
 use Rattle.thy_view.specs.Kind.{KindOf}
 use Rattle.thy_text.specs.Happening.{Happening}
-use Rattle.thy_text.specs.Marks.{Marks, Course, loading_marks, marks_from, AllLawful}
+use Rattle.thy_text.specs.Marks.{Marks, Course, mark, loading_marks, marks_from, AllLawful}
 use Rattle.thy_text.specs.Released.{released}
 use Rattle.thy_view.specs.Origin.{Origin, at, IsOrigin}
 use Rattle.thy_view.specs.Safe.{Safe}
@@ -18,9 +19,17 @@ use Rattle.thy_run.specs.World.{Given}
 abbrev pub course_of : Origin → Course
 course_of o = record { at = at o; start = o.start.count; epoch = o.geometry.epoch }
 
+-- the marks before any event, at this count: the checkpoint that the start was taken from is kept, or the start is sealed
+abbrev pub marks_at : ℕ → Option Mark → Marks
+marks_at start None = loading_marks start
+marks_at start (Some m) = record { kept = Some (mark m.epoch start); sealed = None }
+
+abbrev pub first_marks : Origin → Marks
+first_marks o = marks_at o.start.count o.kept
+
 -- the marks that events leave
 abbrev pub marks_of : Origin → List Happening → Marks
-marks_of o events = marks_from o.start.count (loading_marks o.start.count) events
+marks_of o events = marks_from o.start.count (first_marks o) events
 
 -- the console of the uninterrupted program at each count
 abbrev pub console_at : Origin → ℕ → List ℕ
@@ -28,12 +37,12 @@ console_at o k = (at o k).console
 
 -- what the terminal has of the console once events were told: that of the committed checkpoint
 abbrev pub released_of : Origin → List Happening → List ℕ
-released_of o events = released (console_at o) o.start.count (loading_marks o.start.count) events
+released_of o events = released (console_at o) o.start.count (first_marks o) events
 
 -- What is promised of a run: its events are lawful, its restarts are what the cuts left, its cuts are the listed ones,
 -- each left one image, the device is safe for the marks that the events leave, and the run is soon over.
 pub record Promise {M : Type 0} (K : KindOf M) (o : Origin) (cuts : List ℕ) (cycles : ℕ) (events : List Happening) (n : Device) : Type 0 where
-  pub events_lawful : AllLawful (course_of o) (loading_marks o.start.count) events
+  pub events_lawful : AllLawful (course_of o) (first_marks o) events
   pub restarts_decode : RestartsDecode K o n.left cycles events
   pub cuts_listed : cuts_among events ≡ numbered 1 (cuts_up_to (last_cuttable events cycles) cuts)
   pub images_left : length n.left ≡ length (cuts_among events)

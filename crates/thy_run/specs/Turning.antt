@@ -1,10 +1,12 @@
 -- The program's loop over cycles, with what its sinks take.
 use Rattle.std.specs.Prelude.{◌≡◌, ◌⊎◌, ℕ, ◌+◌, ◌<◌, ◌≤◌, Bool, true, false, List, [], length, Some}
 use Rattle.thy_base.specs.declared.nvm.Shape.{Shape}
-use Rattle.thy_base.specs.Device.{Device, fitted, RoseFaults}
+use Rattle.thy_base.specs.Counts.{Rose}
+use Rattle.thy_base.specs.Device.{Device, fitted}
 use Rattle.thy_base.specs.Mix.{mix_start}
 use Rattle.thy_base.specs.Outside.{Stream, Took}
-use Rattle.thy_view.specs.Kind.{KindOf}
+use Rattle.thy_base.specs.declared.block.Block.{Block}
+use Rattle.thy_view.specs.Kind.{IsFittedFor, KindOf}
 use Rattle.thy_text.specs.Lines.{report_of}
 use Rattle.thy_view.specs.Origin.{Origin}
 use Rattle.thy_text.specs.Happening.{Happening}
@@ -41,11 +43,12 @@ turned_of (Ends status) terminal report = stopped_for terminal report (Stops (En
 -- a device that was fitted for a plan
 pub record IsFitted {M : Type 0} (K : KindOf M) (plan : Plan) (n : Device) : Type 0 where
   pub shape : Shape
+  pub start : List Block
   pub before : Device
-  pub blocks : shape.blocks ≡ K.blocks plan.geometry
+  pub fits : IsFittedFor K (origin_of plan) shape start before
   pub queue : shape.queue ≡ plan.geometry.nvmq
   pub cuts : shape.cuts ≡ length plan.config.cuts
-  pub is_fitted : n ≡ fitted shape [] before
+  pub is_fitted : n ≡ fitted shape start before
 
 -- the run goes on, and the sinks took all that was due so far
 pub record Running {M : Type 0} (K : KindOf M) (plan : Plan) (fitted : Device) (p : Progress M) (n : Device) (cycles : ℕ) (terminal shown report read : Stream) : Type 0 where
@@ -56,11 +59,7 @@ pub record Running {M : Type 0} (K : KindOf M) (plan : Plan) (fitted : Device) (
 -- memory was short
 abbrev pub is_memory : Stop → Bool
 is_memory Memory = true
-is_memory (Ended status) = false
-is_memory Nvm = false
-is_memory Terminal = false
-is_memory Report = false
-is_memory Limit = false
+is_memory stop = false
 
 -- the last cycle is done, and nothing was begun behind it
 abbrev pub IsLast : {M : Type 0} → World M → List Happening → Device → Type 0
@@ -68,28 +67,26 @@ IsLast w events n = (events ≡ w.events) × (n ≡ w.device)
 
 -- what stands at the end, by the stop: only for a device's fault or want of memory one more cycle was begun
 abbrev pub EndsBy : {M : Type 0} → KindOf M → Origin → World M → List Happening → Device → Stop → Type 0
-EndsBy K o w events n (Ended status) = IsLast w events n
 EndsBy K o w events n Nvm = StepFailed K o w events n ⊎ TellingFailed K o w events n
 EndsBy K o w events n Memory = StandsAtEnd K o w events n
-EndsBy K o w events n Terminal = IsLast w events n
-EndsBy K o w events n Report = IsLast w events n
-EndsBy K o w events n Limit = IsLast w events n
+EndsBy K o w events n stop = IsLast w events n
+
+-- these events were told before the last cycle
+abbrev pub ToldBefore : {M : Type 0} → KindOf M → Origin → List ℕ → World M → List Happening → Type 0
+ToldBefore {M = M} K o cuts last settled = (before : World M) × Cycle K o cuts before last × (settled ≡ before.events)
 
 -- the events that were told before the last cycle that was begun; a sink that failed did so in that cycle
 abbrev pub IsSettled : {M : Type 0} → KindOf M → Origin → List ℕ → World M → List Happening → Stop → Type 0
-IsSettled {M = M} K o cuts last settled Terminal = (before : World M) × Cycle K o cuts before last × (settled ≡ before.events)
-IsSettled {M = M} K o cuts last settled Report = (before : World M) × Cycle K o cuts before last × (settled ≡ before.events)
-IsSettled K o cuts last settled (Ended status) = settled ≡ last.events
-IsSettled K o cuts last settled Nvm = settled ≡ last.events
-IsSettled K o cuts last settled Memory = settled ≡ last.events
-IsSettled K o cuts last settled Limit = settled ≡ last.events
+IsSettled K o cuts last settled Terminal = ToldBefore K o cuts last settled
+IsSettled K o cuts last settled Report = ToldBefore K o cuts last settled
+IsSettled K o cuts last settled stop = settled ≡ last.events
 
 -- what a stop says of the run
 abbrev pub StopFits : Plan → Device → Device → Ending → Stop → Type 0
 StopFits plan fitted new e (Ended status) =
     (end_of e.events ≡ Some status) × (e.mute ≡ false) × (e.deaf ≡ false) × (new.faults ≡ fitted.faults)
 StopFits plan fitted new e Nvm =
-    RoseFaults fitted.faults new.faults × (e.cycles < plan.geometry.limit) × (e.mute ≡ false) × (e.deaf ≡ false)
+    Rose fitted.faults new.faults × (e.cycles < plan.geometry.limit) × (e.mute ≡ false) × (e.deaf ≡ false)
 StopFits plan fitted new e Memory = Unit {0}
 StopFits plan fitted new e Terminal = (e.mute ≡ true) × (e.deaf ≡ false) × (new.faults ≡ fitted.faults)
 StopFits plan fitted new e Report = (e.deaf ≡ true) × (new.faults ≡ fitted.faults)

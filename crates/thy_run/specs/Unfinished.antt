@@ -1,6 +1,7 @@
 -- A cycle that was begun and is not done, and what a run leaves at its end.
 use Rattle.std.specs.Prelude.{◌≡◌, ◌⊎◌, ℕ, false, List, ◌++◌}
-use Rattle.thy_base.specs.Device.{Device, HasFailed, IsFramed, RoseFaults}
+use Rattle.thy_base.specs.Counts.{Rose}
+use Rattle.thy_base.specs.Device.{Device, HasFailed, IsFramed}
 use Rattle.thy_view.specs.Kind.{KindOf}
 use Rattle.thy_text.specs.Happening.{Happening}
 use Rattle.thy_view.specs.Views.{is_halt}
@@ -16,14 +17,14 @@ pub record StepFailed {M : Type 0} (K : KindOf M) (o : Origin) (w : World M) (ev
   pub safe : Safe K.decode o (seen K o w).done (seen K o w).sealed n
   pub acted : ActionFailed w.device n
   pub framed : IsFramed w.device n
-  pub rose : RoseFaults w.device.faults n.faults
+  pub rose : Rose w.device.faults n.faults
   pub nothing_told : events ≡ w.events
 
 -- a read for an event failed with a fault of the device
 pub record ReadFailed (old new : Device) : Type 0 where
   pub failed : HasFailed old new
   pub framed : IsFramed old new
-  pub rose : RoseFaults old.faults new.faults
+  pub rose : Rose old.faults new.faults
 
 -- the step was done, but of its events only the first were made: a read for them failed, or memory was short
 pub record TellingFailed {M : Type 0} (K : KindOf M) (o : Origin) (w : World M) (events : List Happening) (n : Device) : Type 0 where

@@ -6,10 +6,10 @@ use Rattle.thy_base.specs.Mix.{mix_start, mix_pick, mix_next}
 use Rattle.thy_view.specs.Kind.{KindOf, IsStep}
 use Rattle.thy_text.specs.Happening.{Happening, EpochEnd, Commit, Cut, Restart, Reload, Ended}
 use Rattle.thy_view.specs.declared.did.Did.{Did}
-use Rattle.thy_view.specs.declared.did.Did.TheVariants.{Boot, Loaded, Restarted, Refused, Moved, Retired, Flushed, Merged, Sealed, Promoted, Engine, Committed, NvmDrained, DramDrained, Nothing}
+use Rattle.thy_view.specs.declared.did.Did.TheVariants.{Loaded, Restarted, Sealed, Committed}
 use Rattle.thy_view.specs.declared.did.Stepped.{Stepped}
 use Rattle.thy_view.specs.declared.view.View.{View}
-use Rattle.thy_view.specs.Booting.{loading_view, view_of_image}
+use Rattle.thy_view.specs.Booting.{first_view, view_of_image}
 use Rattle.thy_view.specs.Views.{loads, halts, is_halt}
 use Rattle.thy_view.specs.Origin.{Origin, at}
 use Rattle.thy_view.specs.Safe.{ceiling, Safe}
@@ -40,17 +40,7 @@ told o Loaded cycle = Commit 0 cycle 0 ∷ []
 told o (Restarted epoch count) cycle = Restart epoch count (at o count) ∷ []
 told o (Sealed epoch count cause) cycle = EpochEnd epoch count cause ∷ []
 told o (Committed epoch overlapped) cycle = Commit epoch cycle overlapped ∷ []
-told o Boot cycle = []
-told o (Refused bad) cycle = []
-told o Moved cycle = []
-told o Retired cycle = []
-told o Flushed cycle = []
-told o Merged cycle = []
-told o Promoted cycle = []
-told o (Engine step) cycle = []
-told o NvmDrained cycle = []
-told o DramDrained cycle = []
-told o Nothing cycle = []
+told o did cycle = []
 
 -- the first cycle after a cut tells that the file is loaded again
 abbrev pub reload_told : Bool → View → List Happening
@@ -124,13 +114,13 @@ pub record Given : Type 0 where
   pub seed : ℕ
   pub fitted : Device
 
--- power comes on for the first time, over a device of zeros
+-- power comes on for the first time, over a device that was fitted
 pub record IsFirst {M : Type 0} (K : KindOf M) (o : Origin) (given : Given) (w : World M) : Type 0 where
   pub device : w.device ≡ given.fitted
   pub powered : K.powered o.geometry w.machine
   pub at_moment : K.is_at o 0 w.machine w.device
-  pub loading : seen K o w ≡ loading_view o.start.count
-  pub safe : Safe K.decode o None None w.device
+  pub found : seen K o w ≡ first_view o
+  pub safe : Safe K.decode o (first_view o).done None w.device
   pub left : w.device.left ≡ []
   pub empty : w.device.queue ≡ []
   pub mix : w.mix ≡ mix_start given.seed

@@ -1,5 +1,5 @@
 //! The cache's answers over two stores, worked out by hand.
-ghost use Rattle.std.specs.Prelude.{◌≡◌, ◌≤◌, ◌^◌, ◌<◌, true, length, OnOk, IfOk};
+ghost use Rattle.std.specs.Prelude.{◌≡◌, ◌≤◌, ◌-◌, ◌^◌, ◌<◌, true, length, OnOk, IfOk};
 ghost use Rattle.thy_cache.specs.Contents.{dirty_count};
 ghost use Rattle.thy_cache.specs.Flat.{Agrees, AgreesStill};
 
@@ -16,18 +16,23 @@ struct Copying {
     copies: u64,
     failing: bool,
     faults: u64,
+    /// Changes with each call.
+    turn: bool,
 }
 
 impl BlockStore<()> for Copying {
-    ghost use Rattle.std.specs.Prelude.{◌≡◌, ◌≤◌, ◌^◌, true, None, List, ℕ};
+    ghost use Rattle.std.specs.Prelude.{◌≡◌, ◌≤◌, ◌-◌, ◌^◌, not, true, None, List, ℕ};
     ghost use Rattle.std.proofs.Common.{arith};
     ghost use Rattle.thy_base.specs.Store.{Holding};
 
-    ghost holding = { λ s n. record { blocks = s.blocks.items; faults = s.faults; free = 2 ^ 64; ready = true; open_page = None; owed = s.copies } };
+    ghost holding = { λ s n. record { blocks = s.blocks.items; faults = s.faults; free = 2 ^ 64 - 1; ready = true; open_page = None; owed = s.copies } };
+
+    ghost once = { λ a m b n. (b.turn ≡ not a.turn) × (a.faults ≤ b.faults) };
 
     ghost stays = { λ a m b n. a.faults ≤ b.faults };
 
     fn load(&mut self, b: u64, _nvm: &mut ()) -> Result<Block, NvmError> {
+        self.turn = !self.turn;
         if self.failing {
             self.faults = self.faults.saturating_add(1);
             return Err(NvmError::Failed);
@@ -36,6 +41,7 @@ impl BlockStore<()> for Copying {
     }
 
     fn store(&mut self, b: u64, block: &Block, _nvm: &mut ()) -> Result<Stored, NvmError> {
+        self.turn = !self.turn;
         if self.failing {
             self.faults = self.faults.saturating_add(1);
             return Err(NvmError::Failed);
@@ -47,6 +53,8 @@ impl BlockStore<()> for Copying {
         self.blocks[b as usize] = *block;
         Ok(Stored::Done)
     }
+
+    ghost once_stays = { λ a m b n once. once.1 };
 
     ghost stays_same = { λ s n. Prim.omega arith };
 
@@ -201,7 +209,7 @@ fn make_call<S: BlockStore<()>>(
     call: Call,
 ) -> Result<Answer, NvmError>
     requires ready { (S.holding store.old tt).ready ≡ true }
-    requires room { (S.holding store.old tt).free ≡ 2 ^ 64 }
+    requires room { (S.holding store.old tt).free ≡ 2 ^ 64 - 1 }
     requires eight { length (S.holding store.old tt).blocks ≡ 8 }
     requires agree { Agrees cache.old (S.holding store.old tt).blocks }
     ensures eight { OnOk result (length (S.holding store.new tt).blocks ≡ 8) }
@@ -225,7 +233,7 @@ fn play<S: BlockStore<()>>(
     calls: &[(Call, Answer)],
 )
     requires ready { (s : _) → (S.holding s tt).ready ≡ true }
-    requires room { (s : _) → (S.holding s tt).free ≡ 2 ^ 64 }
+    requires room { (s : _) → (S.holding s tt).free ≡ 2 ^ 64 - 1 }
     requires eight { length (S.holding store.old tt).blocks ≡ 8 }
     requires agree { Agrees cache.old (S.holding store.old tt).blocks }
 {
@@ -277,6 +285,7 @@ fn a_cache_answers_each_call(rt: HostRuntime) {
         copies: 1,
         failing: false,
         faults: 0,
+        turn: false,
     };
     play(&rt, &mut cache, &mut store, &TURNS);
 }
@@ -321,6 +330,7 @@ fn a_flush_stores_by_set_then_way(rt: HostRuntime) {
         copies: 1,
         failing: false,
         faults: 0,
+        turn: false,
     };
     play(&rt, &mut cache, &mut store, &FLUSHES);
 }
@@ -355,6 +365,7 @@ fn a_store_that_fails_changes_no_line(rt: HostRuntime) {
         copies: 0,
         failing: true,
         faults: 0,
+        turn: false,
     };
     let filled = fill(&mut cache, &mut store, 3);
     assert!(rt; filled == Err(NvmError::Failed));

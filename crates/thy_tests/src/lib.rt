@@ -10,6 +10,8 @@ mod elf;
 #[cfg(test)]
 mod expect;
 #[cfg(test)]
+mod geometry;
+#[cfg(test)]
 mod isa;
 #[cfg(test)]
 mod isa_rows;

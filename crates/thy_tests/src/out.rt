@@ -40,10 +40,14 @@ fn a_shelf_in_memory_gives_and_keeps(rt: HostRuntime) {
     }
 }
 
-/// Paths, how much of each is asked for, and why it is not given.
-static PATHS: [(&str, u64, Option<FetchError>); 4] = [
+/// Paths, how much of each is asked for, and why it is not given. A folder opens and cannot be read; a
+/// path through a file and one with a zero byte cannot be opened, also where the user may do all.
+static PATHS: [(&str, u64, Option<FetchError>); 7] = [
     ("no such file", 9, Some(FetchError::NotThere)),
+    ("no such folder/file", 9, Some(FetchError::NotThere)),
     (".", 9, Some(FetchError::Failed)),
+    ("/dev/null/file", 9, Some(FetchError::Failed)),
+    ("a zero byte \0", 9, Some(FetchError::Failed)),
     ("/dev/zero", 5000, Some(FetchError::TooLong)),
     ("/dev/null", 0, None),
 ];

@@ -4,7 +4,7 @@ use std::alloc::Global;
 use std::io;
 use std::io::{Error, ErrorKind, Read};
 use thy_base::FetchError;
-use thy_out::read_within;
+use thy_out::{Source, read_within};
 
 /// Gives its bytes three a call, but for a call that a signal interrupts and one that fails.
 #[derive(Drop)]
@@ -32,12 +32,12 @@ impl Read for Slow {
 
 /// What a read within a limit gives of seven bytes, of which the call `failing` fails.
 fn within(alloc: Global, failing: u64, limit: u64) -> Result<Vec<u8>, FetchError> {
-    let mut slow = Slow {
+    let slow = Slow {
         bytes: b"seven b",
         calls: 0,
         failing,
     };
-    read_within(&mut slow, alloc, limit)
+    read_within(&mut Source::over(slow), alloc, limit)
 }
 
 #[test]

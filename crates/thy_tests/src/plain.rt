@@ -4,6 +4,7 @@ ghost use Rattle.thy_base.specs.Bytes.{bytes_of};
 ghost use Rattle.thy_base.specs.Geometry.{program_size};
 
 use crate::expect::expect;
+use crate::geometry::geometry_of;
 use std::alloc::Global;
 use std::process::Abort;
 use thy_base::{Bytes, Geometry, Parameters};
@@ -12,25 +13,27 @@ use thy_isa::{MachState, Reg, Status};
 use thy_plain::{Plain, start_of};
 
 /// The smallest machine: seven pages of program memory from 65536 on, and one of console.
-fn smallest() -> Geometry
+static SMALLEST: Parameters = Parameters {
+    base: 65536,
+    pages: 8,
+    console: 1,
+    epoch: 10000,
+    btt: 8,
+    ptt: 8,
+    sets: 16,
+    ways: 4,
+    nvmq: 16,
+    dramq: 16,
+    high: 22,
+    low: 16,
+    mix: 0,
+    limit: 1000,
+};
+
+fn smallest(rt: &impl Abort, alloc: Global) -> Geometry
     ensures { program_size result ≡ 28672 }
 {
-    Geometry::of(Parameters {
-        base: 65536,
-        pages: 8,
-        console: 1,
-        epoch: 10000,
-        btt: 8,
-        ptt: 8,
-        sets: 16,
-        ways: 4,
-        nvmq: 16,
-        dramq: 16,
-        high: 22,
-        low: 16,
-        mix: 0,
-        limit: 1000,
-    })
+    geometry_of(rt, alloc, &SMALLEST)
 }
 
 /// An image of words at the base, where it starts.
@@ -56,7 +59,7 @@ fn start(rt: &impl Abort, alloc: Global, words: &[u32]) -> Plain
     ensures { result.state.count ≡ 0 }
 {
     let image = image_of(rt, alloc, words);
-    Plain::load(alloc, &image, &smallest(), b"").expect(rt, "memory")
+    Plain::load(alloc, &image, &smallest(rt, alloc), b"").expect(rt, "memory")
 }
 
 /// Compares how a state stands.
@@ -114,7 +117,11 @@ fn a_jump_to_an_odd_place_traps(rt: HostRuntime) {
 
 #[test]
 fn a_program_starts_at_its_entry(rt: HostRuntime) {
-    let start = start_of(rt.alloc(), image_of(&rt, rt.alloc(), &[]), &smallest());
+    let start = start_of(
+        rt.alloc(),
+        image_of(&rt, rt.alloc(), &[]),
+        &smallest(&rt, rt.alloc()),
+    );
     expect(&rt, start.pc, 65536);
     expect(&rt, start.regs.get(Reg::new(2)), 93952);
     expect(&rt, start.brk, 65552);

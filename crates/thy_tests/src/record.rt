@@ -2,6 +2,9 @@
 ghost use Rattle.std.specs.Prelude.{◌≡◌, length};
 
 use crate::expect::{expect, expect_at};
+use crate::geometry::geometry_of;
+use std::alloc::Global;
+use std::process::Abort;
 use thy_base::{Block, Geometry, Parameters};
 use thy_isa::{CpuState, Reg, Regs, Status};
 use thy_record::{
@@ -10,23 +13,25 @@ use thy_record::{
 };
 
 /// Numbers of a machine with 256 pages, one of them the console's.
-fn geometry() -> Geometry {
-    Geometry::of(Parameters {
-        base: 65536,
-        pages: 256,
-        console: 1,
-        epoch: 1000,
-        btt: 2048,
-        ptt: 64,
-        sets: 8,
-        ways: 2,
-        nvmq: 8,
-        dramq: 8,
-        high: 8,
-        low: 2,
-        mix: 0,
-        limit: 1000,
-    })
+static NUMBERS: Parameters = Parameters {
+    base: 65536,
+    pages: 256,
+    console: 1,
+    epoch: 1000,
+    btt: 2048,
+    ptt: 64,
+    sets: 8,
+    ways: 2,
+    nvmq: 8,
+    dramq: 8,
+    high: 8,
+    low: 2,
+    mix: 0,
+    limit: 1000,
+};
+
+fn geometry(rt: &impl Abort, alloc: Global) -> Geometry {
+    geometry_of(rt, alloc, &NUMBERS)
 }
 
 /// A block with another word `i`.
@@ -57,10 +62,10 @@ fn sample() -> CpuState
 }
 
 /// The fault of a record of zeros but for two words.
-fn fault(i: usize, value: u64, j: usize, other: u64) -> Option<BadImage> {
+fn fault(geometry: &Geometry, i: usize, value: u64, j: usize, other: u64) -> Option<BadImage> {
     let last = with_word(with_word(Block::ZERO, i, value), j, other);
     let blocks = [Block::ZERO, Block::ZERO, Block::ZERO, Block::ZERO, last];
-    record_fault(&blocks, 0, &geometry(), 5)
+    record_fault(&blocks, 0, geometry, 5)
 }
 
 /// The header of that machine.
@@ -73,7 +78,7 @@ static HEADER: [u8; 64] = [
 
 #[test]
 fn a_header_is_its_bytes(rt: HostRuntime) {
-    expect(&rt, header_block(&geometry()), Block(HEADER));
+    expect(&rt, header_block(&geometry(&rt, rt.alloc())), Block(HEADER));
 }
 
 /// The commit block of epoch 0x0102030405060708.
@@ -147,7 +152,7 @@ static HEADERS: [(usize, u64, BadImage); 8] = [
 
 #[test]
 fn a_header_of_another_machine_is_refused(rt: HostRuntime) {
-    let geometry = geometry();
+    let geometry = geometry(&rt, rt.alloc());
     let header = header_block(&geometry);
     expect(&rt, header_fault(&header, &geometry), None);
     for (i, value, bad) in &HEADERS {
@@ -185,8 +190,10 @@ static RECORDS: [(usize, u64, usize, u64, Option<BadImage>); 11] = [
 
 #[test]
 fn a_record_is_refused_for_its_first_fault(rt: HostRuntime) {
+    let geometry = geometry(&rt, rt.alloc());
     for (row, (i, value, j, other, want)) in RECORDS.iter().enumerate() {
-        expect_at(&rt, fault(*i, *value, *j, *other), *want, row);
+        let got = fault(&geometry, *i, *value, *j, *other);
+        expect_at(&rt, got, *want, row);
     }
 }
 

@@ -4,7 +4,7 @@ use crate::expect::{expect, expect_at};
 use std::alloc::Global;
 use std::process::Abort;
 use thy_base::Config;
-use thy_words::{Command, WordsError, name_of, settings};
+use thy_words::{Command, WordsError, settings};
 
 /// Words that are no command line.
 static USAGE: [&str; 27] = [
@@ -204,8 +204,8 @@ fn refusal(alloc: Global, words: &[String]) -> (&'static str, &'static str, u64)
     match settings(alloc, words).err() {
         None => ("not refused", "", 0),
         Some(WordsError::Usage) => ("usage", "", 0),
-        Some(WordsError::Word(field)) => ("word", name_of(field), 0),
-        Some(WordsError::Value(field, value)) => ("value", name_of(field), value),
+        Some(WordsError::Word(field)) => ("word", field.name(), 0),
+        Some(WordsError::Value(field, value)) => ("value", field.name(), value),
         Some(WordsError::Memory(_)) => ("memory", "", 0),
     }
 }

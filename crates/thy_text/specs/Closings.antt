@@ -1,33 +1,12 @@
 -- The closing lines of a report, as bytes.
 use Rattle.std.specs.Prelude.{ℕ, List, [], ◌∷◌, codes}
 use Rattle.std.specs.Fmt.{decimal}
-use Rattle.thy_base.specs.declared.config.Field.{Field}
-use Rattle.thy_base.specs.declared.config.Field.TheVariants.{Base, Pages, Console, Epoch, Btt, Ptt, Sets, Ways, Nvmq, Dramq, High, Low, Mix, Cuts, Tears, Limit as LimitField, N}
+use Rattle.thy_base.specs.Fields.{field_name}
 use Rattle.thy_text.specs.declared.closing.FetchFault.{FetchFault}
 use Rattle.thy_text.specs.declared.closing.FetchFault.TheVariants.{Failed, Missing, TooLong}
 use Rattle.thy_text.specs.declared.closing.Closing.{Closing}
 use Rattle.thy_text.specs.declared.closing.Closing.TheVariants.{Usage, Word, Value, Fetch, File, FileAt, Terminal, Nvm, Limit, Memory}
 use Rattle.thy_text.specs.Lines.{joined, line_feed}
-
--- a field's name, as the options have it
-abbrev pub field_name : Field → List ℕ
-field_name Base = codes "base"
-field_name Pages = codes "pages"
-field_name Console = codes "console"
-field_name Epoch = codes "epoch"
-field_name Btt = codes "btt"
-field_name Ptt = codes "ptt"
-field_name Sets = codes "sets"
-field_name Ways = codes "ways"
-field_name Nvmq = codes "nvmq"
-field_name Dramq = codes "dramq"
-field_name High = codes "high"
-field_name Low = codes "low"
-field_name Mix = codes "mix"
-field_name Cuts = codes "cuts"
-field_name Tears = codes "tears"
-field_name LimitField = codes "limit"
-field_name N = codes "n"
 
 -- why bytes were not had
 abbrev pub fault_text : FetchFault → List ℕ

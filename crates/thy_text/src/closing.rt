@@ -1,8 +1,9 @@
 //! The last line of a report.
 ghost use Rattle.std.specs.Prelude.{◌≡◌, ◌∷◌, [], OnOk, OnErr, codes};
 ghost use Rattle.std.specs.Fmt.{decimal};
+ghost use Rattle.thy_base.specs.Fields.{field_name};
 ghost use Rattle.thy_base.specs.Outside.{Took, TookPart};
-ghost use Rattle.thy_text.specs.Closings.{closing_of, fault_text, field_name};
+ghost use Rattle.thy_text.specs.Closings.{closing_of, fault_text};
 ghost use Rattle.thy_text.specs.Lines.{joined, line_feed};
 
 use crate::piece::{Piece, write_pieces};
@@ -43,31 +44,6 @@ pub enum Closing<'a> {
     Memory,
 }
 
-/// A field's name, as the options have it.
-pub fn field_text(field: Field) -> &'static str
-    ensures { result.now ≡ field_name field }
-{
-    match field {
-        Field::Base => "base",
-        Field::Pages => "pages",
-        Field::Console => "console",
-        Field::Epoch => "epoch",
-        Field::Btt => "btt",
-        Field::Ptt => "ptt",
-        Field::Sets => "sets",
-        Field::Ways => "ways",
-        Field::Nvmq => "nvmq",
-        Field::Dramq => "dramq",
-        Field::High => "high",
-        Field::Low => "low",
-        Field::Mix => "mix",
-        Field::Cuts => "cuts",
-        Field::Tears => "tears",
-        Field::Limit => "limit",
-        Field::N => "n",
-    }
-}
-
 /// Writes the closing line in pieces, none of them empty. On an error the sink has taken only the
 /// first part of the line. Takes no memory.
 pub fn write_closing<R: Sink>(closing: Closing, report: &mut R) -> Result<(), SinkError>
@@ -78,7 +54,7 @@ pub fn write_closing<R: Sink>(closing: Closing, report: &mut R) -> Result<(), Si
     match closing {
         Closing::Usage => write_pieces(&[Piece::Text("usage"), end], report),
         Closing::Word(field) => write_pieces(
-            &[Piece::Text("word "), Piece::Text(field_text(field)), end],
+            &[Piece::Text("word "), Piece::Text(field.name()), end],
             report,
         ),
         Closing::Value(field, value) => write_value(field, value, report),
@@ -102,7 +78,7 @@ fn write_value<R: Sink>(field: Field, value: u64, report: &mut R) -> Result<(), 
 {
     let pieces = [
         Piece::Text("value "),
-        Piece::Text(field_text(field)),
+        Piece::Text(field.name()),
         Piece::Text(" "),
         Piece::Number(value),
         Piece::Text("\n"),

@@ -8,7 +8,7 @@ mod line;
 mod memory;
 mod piece;
 
-pub use closing::{Closing, FetchFault, field_text, write_closing};
+pub use closing::{Closing, FetchFault, write_closing};
 pub use event::Event;
 pub use events::Events;
 pub use line::{write_ended, write_event};

@@ -4,7 +4,7 @@ use Rattle.thy_base.specs.declared.block.Block.{Block}
 use Rattle.thy_record.specs.declared.engine_step.EngineStep.{EngineStep}
 use Rattle.thy_record.specs.declared.engine_step.EngineStep.TheVariants.{Barrier as EngineBarrier, CommitWritten}
 use Rattle.thy_view.specs.declared.did.Did.{Did}
-use Rattle.thy_view.specs.declared.did.Did.TheVariants.{Boot, Loaded, Restarted, Refused, Moved, Retired, Flushed, Merged, Sealed, Promoted, Engine, Committed, NvmDrained, DramDrained, Nothing}
+use Rattle.thy_view.specs.declared.did.Did.TheVariants.{Boot, Loaded, Retired, Merged, Sealed, Engine, Committed, NvmDrained, DramDrained, Nothing}
 use Rattle.thy_base.specs.Device.{Device, written_to, settled, drained, HasFailed, HasFailedToWrite}
 
 pub data Action : Type 0 where
@@ -33,11 +33,9 @@ FailsTo Drain old new = HasFailed old new
 
 -- it neither lets writes land nor waits for them
 abbrev pub IsAccess : Action → Type 0
-IsAccess Rest = Unit {0}
-IsAccess (ReadAt place) = Unit {0}
-IsAccess (WriteAt place block) = Unit {0}
 IsAccess Barrier = ⊥
 IsAccess Drain = ⊥
+IsAccess action = Unit {0}
 
 -- it lets none land but by a barrier
 abbrev pub IsBootAction : Action → Type 0
@@ -66,11 +64,7 @@ Asks (Sealed epoch count cause) action = action ≡ Rest
 Asks DramDrained action = action ≡ Rest
 Asks Nothing action = action ≡ Rest
 Asks Boot action = IsBootAction action
-Asks (Restarted epoch count) action = IsAccess action
-Asks (Refused bad) action = IsAccess action
-Asks Moved action = IsAccess action
-Asks Flushed action = IsAccess action
-Asks Promoted action = IsAccess action
+Asks did action = IsAccess action
 
 -- a cycle that did this acted on the device once
 pub record Acts (did : Did) (n new : Device) : Type 0 where

@@ -4,7 +4,8 @@ use Rattle.thy_base.specs.declared.block.Block.{Block}
 use Rattle.thy_base.specs.declared.config.Parameters.{Parameters}
 use Rattle.thy_base.specs.declared.mix.Pick.{Pick}
 use Rattle.thy_base.specs.declared.nvm.Shape.{Shape}
-use Rattle.thy_base.specs.Device.{Device, Crash, HasFailed, RoseFaults, cut_to, fitted}
+use Rattle.thy_base.specs.Counts.{Rose}
+use Rattle.thy_base.specs.Device.{Device, Crash, HasFailed, cut_to, fitted}
 use Rattle.thy_dram.specs.Contents.{Contents}
 use Rattle.thy_isa.specs.declared.state.MachState.{MachState}
 use Rattle.thy_isa.specs.Step.{state_of}
@@ -104,7 +105,7 @@ pub record IsSnapshot (o : Origin) (v : View) (s : MachState) : Type 0 where
 
 -- after a call that was to read the device: it failed, or memory ran out and the device is as it was
 abbrev pub HasFailedToRead : CoreError → Device → Device → Type 0
-HasFailedToRead Nvm old new = HasFailed old new × RoseFaults old.faults new.faults
+HasFailedToRead Nvm old new = HasFailed old new × Rose old.faults new.faults
 HasFailedToRead (Memory e) old new = new ≡ old
 
 -- ---- the laws

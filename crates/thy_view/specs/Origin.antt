@@ -47,3 +47,4 @@ pub record IsOrigin (o : Origin) : Type 0 where
 pub record Begins (o : Origin) (start : Start) : Type 0 where
   pub state : o.start ≡ state_of start.state
   pub input : o.input ≡ bytes_of start.input
+  pub kept : o.kept ≡ start.kept

@@ -1,7 +1,7 @@
 -- How far a machine is from what it is about, in numbers that it keeps to itself, and how each cycle changes them.
 use Rattle.std.specs.Prelude.{◌≡◌, ℕ, ◌+◌, ◌<◌, ◌≤◌, ◌==◌, Bool, true, false, MatchBool}
 use Rattle.thy_view.specs.declared.did.Did.{Did}
-use Rattle.thy_view.specs.declared.did.Did.TheVariants.{Boot, Loaded, Restarted, Refused, Moved, Retired, Flushed, Merged, Sealed, Promoted, Engine, Committed, NvmDrained, DramDrained, Nothing}
+use Rattle.thy_view.specs.declared.did.Did.TheVariants.{Retired, Sealed, NvmDrained, DramDrained}
 use Rattle.thy_view.specs.declared.view.Phase.TheVariants.{Boot as BootPhase}
 use Rattle.thy_view.specs.declared.view.View.{View}
 
@@ -21,37 +21,12 @@ pub record Gauge : Type 0 where
 abbrev pub is_drained : Did → Bool
 is_drained NvmDrained = true
 is_drained DramDrained = true
-is_drained Boot = false
-is_drained Loaded = false
-is_drained (Restarted epoch count) = false
-is_drained (Refused bad) = false
-is_drained Moved = false
-is_drained Retired = false
-is_drained Flushed = false
-is_drained Merged = false
-is_drained (Sealed epoch count cause) = false
-is_drained Promoted = false
-is_drained (Engine step) = false
-is_drained (Committed epoch overlapped) = false
-is_drained Nothing = false
+is_drained did = false
 
 -- instructions that a cycle retired
 abbrev pub retires : Did → ℕ
 retires Retired = 1
-retires Boot = 0
-retires Loaded = 0
-retires (Restarted epoch count) = 0
-retires (Refused bad) = 0
-retires Moved = 0
-retires Flushed = 0
-retires Merged = 0
-retires (Sealed epoch count cause) = 0
-retires Promoted = 0
-retires (Engine step) = 0
-retires (Committed epoch overlapped) = 0
-retires NvmDrained = 0
-retires DramDrained = 0
-retires Nothing = 0
+retires did = 0
 
 -- a drain lets a write land, and every other cycle queues at most one, over the two devices together
 abbrev pub Queues : Did → ℕ → ℕ → Type 0

@@ -1,11 +1,12 @@
 -- The fields of a configuration as the words give them.
-use Rattle.std.specs.Prelude.{ℕ, Bool, true, false, if◌then◌else◌, List, [], ◌∷◌, Option, codes, find}
+use Rattle.std.specs.Prelude.{ℕ, Bool, true, false, if◌then◌else◌, List, [], ◌∷◌, Option, find}
 use Rattle.std.specs.Prelude.{not, option_and_then, unwrap_or}
 use Rattle.std.specs.Option.{option_map_or}
 use Rattle.clap.specs.Walk.{Row, Text, first_of}
 use Rattle.thy_base.specs.declared.config.Config.{Config}
 use Rattle.thy_base.specs.declared.config.Field.{Field}
-use Rattle.thy_base.specs.declared.config.Field.TheVariants.{Base, Pages, Console, Epoch, Btt, Ptt, Sets, Ways, Nvmq, Dramq, High, Low, Mix, Cuts, Tears, Limit, N}
+use Rattle.thy_base.specs.declared.config.Field.TheVariants.{Base, Pages, Console, Epoch, Btt, Ptt, Sets, Ways, Nvmq, Dramq, High, Low, Mix, Cuts, Tears, Limit}
+use Rattle.thy_base.specs.Fields.{field_name}
 use Rattle.thy_words.specs.Numbers.{is_list, is_number, number_in, numbers_in}
 
 -- in the order in which they are read, and then tested
@@ -17,29 +18,9 @@ fields = Base ∷ Pages ∷ Console ∷ Epoch ∷ Btt ∷ Ptt ∷ Sets ∷ Ways 
 abbrev pub plain_fields : List Field
 plain_fields = Base ∷ Pages ∷ Console ∷ Limit ∷ []
 
--- the name of a field's option, and of the field in a refusal
-abbrev pub name_of : Field → Text
-name_of Base = codes "base"
-name_of Pages = codes "pages"
-name_of Console = codes "console"
-name_of Epoch = codes "epoch"
-name_of Btt = codes "btt"
-name_of Ptt = codes "ptt"
-name_of Sets = codes "sets"
-name_of Ways = codes "ways"
-name_of Nvmq = codes "nvmq"
-name_of Dramq = codes "dramq"
-name_of High = codes "high"
-name_of Low = codes "low"
-name_of Mix = codes "mix"
-name_of Cuts = codes "cuts"
-name_of Tears = codes "tears"
-name_of Limit = codes "limit"
-name_of N = codes "n"
-
 -- the text of a field, where the words have its option
 abbrev pub text_of : List Row → Field → Option Text
-text_of rows f = first_of (name_of f) rows
+text_of rows f = first_of (field_name f) rows
 
 -- the field's value is a list
 abbrev pub takes_list : Field → Bool

@@ -9,7 +9,8 @@ use Rattle.clap.specs.declared.builder.command.Command.{Command}
 use Rattle.clap.specs.declared.builder.command.Command.TheViews.{out-Command}
 use Rattle.thy_words.specs.declared.program.Argument.{Argument}
 use Rattle.thy_words.specs.declared.program.Argument.TheVariants.{Operand, Valued, Flag}
-use Rattle.thy_words.specs.Fields.{fields, plain_fields, name_of}
+use Rattle.thy_base.specs.Fields.{field_name}
+use Rattle.thy_words.specs.Fields.{fields, plain_fields}
 
 -- a name that has to stand in its place
 abbrev pub operand_rule : Text → Rule
@@ -56,7 +57,7 @@ abbrev pub run_form : Form
 run_form = record {
   name = codes "run";
   operands = codes "FILE" ∷ [];
-  options = map name_of fields ++ codes "input" ∷ [];
+  options = map field_name fields ++ codes "input" ∷ [];
   flags = codes "digest" ∷ [];
 }
 
@@ -65,7 +66,7 @@ abbrev pub plain_form : Form
 plain_form = record {
   name = codes "plain";
   operands = codes "FILE" ∷ [];
-  options = map name_of plain_fields ++ codes "input" ∷ [];
+  options = map field_name plain_fields ++ codes "input" ∷ [];
   flags = codes "digest" ∷ [];
 }
 

@@ -3,7 +3,7 @@ ghost use Rattle.std.specs.Prelude.{◌≡◌, IfOk, option_map};
 ghost use Rattle.clap.specs.Matches.{found_of};
 ghost use Rattle.clap.specs.Walk.{first_of, rows_of};
 ghost use Rattle.thy_words.specs.Settings.{has_flag};
-ghost use Rattle.thy_words.specs.Fields.{config_at, is_readable, list_at, name_of, number_at, takes_list, unreadable};
+ghost use Rattle.thy_words.specs.Fields.{config_at, is_readable, list_at, number_at, takes_list, unreadable};
 
 use crate::numbers::{is_list, is_number, number, numbers};
 use clap::ArgMatches;
@@ -29,31 +29,6 @@ static FIELDS: [Field; 16] = [
     Field::Tears,
     Field::Limit,
 ];
-
-/// The name of a field's option, and of the field in a refusal.
-pub fn name_of(field: Field) -> &'static str
-    ensures { result.now ≡ name_of field }
-{
-    match field {
-        Field::Base => "base",
-        Field::Pages => "pages",
-        Field::Console => "console",
-        Field::Epoch => "epoch",
-        Field::Btt => "btt",
-        Field::Ptt => "ptt",
-        Field::Sets => "sets",
-        Field::Ways => "ways",
-        Field::Nvmq => "nvmq",
-        Field::Dramq => "dramq",
-        Field::High => "high",
-        Field::Low => "low",
-        Field::Mix => "mix",
-        Field::Cuts => "cuts",
-        Field::Tears => "tears",
-        Field::Limit => "limit",
-        Field::N => "n",
-    }
-}
 
 /// The text of an argument, where the words have it.
 pub(crate) fn text_of<'a>(matches: &ArgMatches<'a>, name: &str) -> Option<&'a str>
@@ -83,7 +58,7 @@ fn takes_list(field: Field) -> bool
 fn is_readable(matches: &ArgMatches<'_>, field: Field) -> bool
     ensures { result ≡ is_readable (rows_of (found_of matches.now)) field }
 {
-    match text_of(matches, name_of(field)) {
+    match text_of(matches, field.name()) {
         None => true,
         Some(text) => {
             if takes_list(field) {
@@ -109,7 +84,7 @@ pub(crate) fn unreadable(matches: &ArgMatches<'_>) -> Option<Field>
 fn number_at(matches: &ArgMatches<'_>, field: Field, otherwise: u64) -> u64
     ensures { result ≡ number_at (rows_of (found_of matches.now)) field otherwise }
 {
-    match text_of(matches, name_of(field)) {
+    match text_of(matches, field.name()) {
         Some(text) => number(text).unwrap_or(otherwise),
         None => otherwise,
     }
@@ -119,7 +94,7 @@ fn number_at(matches: &ArgMatches<'_>, field: Field, otherwise: u64) -> u64
 fn list_at(alloc: Global, matches: &ArgMatches<'_>, field: Field) -> Result<Numbers, AllocError>
     ensures { IfOk result (λ v. v ≡ list_at (rows_of (found_of matches.now)) field) }
 {
-    let items = match text_of(matches, name_of(field)) {
+    let items = match text_of(matches, field.name()) {
         Some(text) => numbers(alloc, text)?,
         None => Vec::new(alloc),
     };

@@ -7,5 +7,4 @@ mod numbers;
 mod program;
 mod words;
 
-pub use fields::name_of;
 pub use words::{Command, WordsError, settings};

@@ -1,8 +1,8 @@
-use Rattle.std.proofs.Common.{ap, subst, refl, inl, inr, ℕ}
+use Rattle.std.proofs.Common.{ap, subst, refl, inl, inr, ℕ, []}
 use Rattle.thy_base.specs.declared.config.Parameters.{Parameters}
 use Rattle.thy_cli.specs.declared.refusal.Refusal.TheVariants.{Device as DeviceRefusal}
 use Rattle.thy_cli.specs.Answering.{ClosesRun}
-use Rattle.thy_cli.proofs.TopLemmas.{IsRunOf-ran}
+use Rattle.thy_cli.proofs.TopLemmas.{IsRunOf-ran, fitted_from_file}
 use Rattle.thy_cli.proofs.top.run_file.Goals as goal
 
 pub returns-in-Err-clause-answer : goal.returns-in-Err-clause-answer
@@ -28,8 +28,9 @@ pub run-ending-requires-clause-fitted : goal.run-ending-requires-clause-fitted
 run-ending-requires-clause-fitted g c =
     record {
       shape = _;
+      start = [];
       before = g.N.Nvm.device c.args.nvm.now;
-      blocks = c.nvm_blocks.ensures;
+      fits = fitted_from_file g.M.Computer.kind g.met.M.Computer.lawful c.in-Ok.plan _ (g.N.Nvm.device c.args.nvm.now) c.in-Ok.ensures.plan.from_file c.nvm_blocks.ensures;
       queue = ap (λ (x : Parameters). x.nvmq) c.numbers.ensures.same;
       cuts = c.len.ensures;
       is_fitted = c.in-Ok-fit.ensures.ok;

@@ -1,6 +1,6 @@
-use Rattle.std.proofs.Common.{◌∙◌}
-use Rattle.thy_elf.proofs.NumberLemmas.{number_of_part}
+use Rattle.std.proofs.Common.{◌∙◌, arith}
+use Rattle.thy_base.proofs.LittleEndianLemmas.{little_from-part}
 use Rattle.thy_elf.proofs.number.u64_at.Goals as goal
 
 pub returns : goal.returns
-returns c = c.read_u64.ensures ∙ number_of_part 8 c.args.place c.args.file.now
+returns c = c.read_u64.ensures ∙ little_from-part 8 _ c.args.place c.args.file.now (omega arith)

@@ -1,6 +1,5 @@
 use Rattle.std.proofs.Common.{rules}
-use Rattle.thy_isa.specs.Step.{read_by, written_by, finished}
-use Rattle.thy_plain.specs.Machine.{performed}
+use Rattle.thy_isa.specs.Step.{read_by, written_by, finished, performed}
 use Rattle.thy_plain.proofs.advance.perform.Goals as goal
 
 pub returns-in-Read-clause-state : goal.returns-in-Read-clause-state

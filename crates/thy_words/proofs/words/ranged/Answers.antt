@@ -19,7 +19,7 @@ ranged_err None p f c e = cc
 ranged_err (Some g) p f c e = cc
 
 pub returns-in-Ok : goal.returns-in-Ok
-returns-in-Ok c = ranged_ok (fault_of c.args.config) (parameters_of c.args.config) c.in-Ok.field-0 c.args.config c.in-Ok.ensures
+returns-in-Ok c = ranged_ok (fault_of c.args.config) (parameters_of c.args.config) c.in-Ok.field-0 c.args.config c.in-Ok.ensures.geometry
 
 pub returns-in-Err : goal.returns-in-Err
-returns-in-Err c = ranged_err (fault_of c.args.config) (parameters_of c.args.config) c.in-Err.fault c.args.config c.in-Err.ensures
+returns-in-Err c = ranged_err (fault_of c.args.config) (parameters_of c.args.config) c.in-Err.fault c.args.config c.in-Err.ensures.geometry

@@ -13,3 +13,9 @@ returns-in-CopyFirst-clause-store g c = search rules
 
 pub returns-in-CopyFirst-clause-dirty : goal.returns-in-CopyFirst-clause-dirty
 returns-in-CopyFirst-clause-dirty g c = search rules
+
+pub returns-in-CopyFirst-clause-open : goal.returns-in-CopyFirst-clause-open
+returns-in-CopyFirst-clause-open g c = search rules
+
+pub returns-in-CopyFirst-clause-clean : goal.returns-in-CopyFirst-clause-clean
+returns-in-CopyFirst-clause-clean g c = search rules

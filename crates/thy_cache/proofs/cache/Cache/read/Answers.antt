@@ -1,6 +1,7 @@
 use Rattle.std.proofs.Common.{sym, ap}
 use Rattle.std.specs.Option.{option_map}
 use Rattle.thy_cache.specs.declared.line.Line.{Line}
+use Rattle.thy_cache.proofs.SizeLaws.{KeepsSize-read}
 use Rattle.thy_cache.proofs.WriteLaws.{ReadsSame-peeks, ReadsAs-peeked, read-peeks, read-agrees}
 use Rattle.thy_cache.proofs.cache.Cache.read.Goals as goal
 
@@ -15,3 +16,6 @@ returns-clause-flat c = rw c.touch.ensures.cache (ReadsSame-peeks _ _ (read-peek
 
 pub returns-clause-agree : goal.returns-clause-agree
 returns-clause-agree c = rw c.touch.ensures.cache (read-agrees c.args.self.now c.args.b c.touch.ensures.inside)
+
+pub returns-clause-sized : goal.returns-clause-sized
+returns-clause-sized c = rw c.touch.ensures.cache (KeepsSize-read c.args.self.now c.args.b c.touch.ensures.inside)

@@ -4,6 +4,7 @@ use Rattle.thy_base.specs.Store.{HasStored}
 use Rattle.thy_cache.specs.Ways.{is_dirty}
 use Rattle.thy_cache.specs.Flat.{flat}
 use Rattle.thy_cache.proofs.StoreLaws.{CanStore, after-flat, after-agrees}
+use Rattle.thy_cache.proofs.SizeLaws.{KeepsSize-stored}
 use Rattle.thy_cache.proofs.cache.Cache.store_line.Goals as goal
 
 pub store-requires-clause-inside : goal.store-requires-clause-inside
@@ -36,3 +37,9 @@ returns-in-Done-clause-agree g c =
     } in
     let has : HasStored Done line.at line.block old new = rw c.in-Done.is at c.in_ok-store.ensures.ok in
     rw c.clean.ensures (after-agrees Done c.args.self.now c.args.set c.args.way line old new can has)
+
+pub returns-in-Done-clause-sized : goal.returns-in-Done-clause-sized
+returns-in-Done-clause-sized g c = rw c.clean.ensures (KeepsSize-stored Done c.args.self.now c.args.set c.args.way c.requires.set)
+
+pub returns-in-CopyFirst-clause-once : goal.returns-in-CopyFirst-clause-once
+returns-in-CopyFirst-clause-once g c = c.in_ok-store.ensures.once

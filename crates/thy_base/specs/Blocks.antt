@@ -1,0 +1,13 @@
+-- Bytes written into blocks.
+use Rattle.std.specs.Prelude.{ℕ, List, slice_set}
+use Rattle.thy_base.specs.declared.block.Block.{Block}
+use Rattle.thy_base.specs.Bytes.{written}
+use Rattle.thy_base.specs.Device.{block_at}
+
+-- a block with a piece written over its bytes from byte j on
+abbrev pub overwritten : ℕ → List ℕ → Block → Block
+overwritten j piece block = record { 0 = written block.0 j piece }
+
+-- the blocks with a piece written over the bytes of block k from byte j on
+abbrev pub block_written : List Block → ℕ → ℕ → List ℕ → List Block
+block_written blocks k j piece = slice_set blocks k (overwritten j piece (block_at blocks k))

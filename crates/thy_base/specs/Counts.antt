@@ -1,0 +1,11 @@
+-- Counts of faults, which stop at the last value of a 64-bit number.
+use Rattle.std.specs.Prelude.{ℕ, ◌+◌, ◌-◌, ◌^◌, ◌≤◌, min}
+
+-- one more, but never past the last value
+abbrev pub next : ℕ → ℕ
+next n = min (n + 1) (2 ^ 64 - 1)
+
+-- A count rose. One that stands at the last value stays there.
+pub record Rose (old new : ℕ) : Type 0 where
+  pub no_less : old ≤ new
+  pub more : next old ≤ new
