@@ -127,7 +127,7 @@ pub IsRunOf-ran : {M : Type 0} (K : KindOf M) (laws : IsLawful K) → (task : Ta
     → ClosesRun e.deaf e.stop plan.geometry.limit told r → a.events ≡ e.events → a.cycles ≡ e.cycles → a.status ≡ stop_status e.stop → IsRunOf K task old new n m a t0 t r0 r
 IsRunOf-ran K laws task old new plan n d m shape e a t0 t r0 told r p calm fit blocks queue cuts ends closes events cycles status =
     let o : Origin = origin_of plan in
-    let kept = Promise-finished K o (given_of plan d) e.cycles e.events m p.planned.origin p.planned.rising (finished_by K o (given_of plan d) e.cycles ends.last e.events m e.stop ends.ran ends.ends) in
+    let kept = Promise-finished K laws o (given_of plan d) e.cycles e.events m p.planned.origin p.planned.rising (finished_by K o (given_of plan d) e.cycles ends.last e.events m e.stop ends.ran ends.ends) in
     record {
       plan = plan;
       is_plan = p;

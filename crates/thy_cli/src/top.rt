@@ -5,6 +5,7 @@ ghost use Rattle.thy_base.specs.Bytes.{bytes_of};
 ghost use Rattle.thy_base.specs.Config.{fault_of as range_fault};
 ghost use Rattle.thy_base.specs.Geometry.{program_size};
 ghost use Rattle.thy_base.specs.Outside.{Stock};
+ghost use Rattle.thy_cli.specs.Completing.{RunCompletes, PlainCompletes};
 ghost use Rattle.thy_cli.specs.Answering.{Answered, TaskAnswered, TaskDue, IsProgramOf, IsPlanOf, named};
 ghost use Rattle.thy_base.specs.Device.{Device as DeviceValue};
 
@@ -97,7 +98,9 @@ fn run_file<M: Computer, H: Shelf, T: Sink, R: Sink, N: Nvm>(
 /// was not enough memory.
 ///
 /// The contract is the claim of this project, `docs/THEOREM.md`: whatever the device leaves at each cut,
-/// the events are lawful, each restart is what the cut before it left, and the device is safe at the end.
+/// the events are lawful, each restart is what the cut before it left, and the device is safe at the end. It is complete,
+/// too: where the file is a program that ends, the limit is high enough and nothing fails, the status is that of this
+/// end, or 9.
 pub fn thynvm<H: Shelf, T: Sink, R: Sink, N: Nvm>(
     alloc: Global,
     words: &[String],
@@ -106,7 +109,9 @@ pub fn thynvm<H: Shelf, T: Sink, R: Sink, N: Nvm>(
     report: &mut R,
     nvm: &mut N,
 ) -> Answer
-    ensures { Answered ⟦<Machine as Computer>⟧.kind (map string_bytes words.now) (H.stock shelf.old) (H.stock shelf.new) (N.device nvm.old) (N.device nvm.new) (T.stream terminal.old) (T.stream terminal.new) (R.stream report.old) (R.stream report.new) result }
+    ensures answered { Answered ⟦<Machine as Computer>⟧.kind (map string_bytes words.now) (H.stock shelf.old) (H.stock shelf.new) (N.device nvm.old) (N.device nvm.new) (T.stream terminal.old) (T.stream terminal.new) (R.stream report.old) (R.stream report.new) result }
+    ensures complete_run { RunCompletes ⟦<Machine as Computer>⟧.kind (map string_bytes words.now) (H.stock shelf.old) (H.stock shelf.new) (N.device nvm.old) (N.device nvm.new) (T.stream terminal.old) (T.stream terminal.new) (R.stream report.old) (R.stream report.new) result }
+    ensures complete_plain { PlainCompletes (map string_bytes words.now) (H.stock shelf.old) (H.stock shelf.new) (N.device nvm.old) (N.device nvm.new) (T.stream terminal.old) (T.stream terminal.new) (R.stream report.old) (R.stream report.new) result }
 {
     match settings(alloc, words) {
         Ok(

@@ -21,7 +21,7 @@ returns-in-Ok-load-clause-answer g c =
     inr (IsPlainOf-ran _ (g.H.Shelf.stock c.args.shelf.now) (g.H.Shelf.stock c.fetch_program.new.shelf) c.in-Ok.program c.in-Ok-load.machine _ c.state-state.result.now _ _ c.write_bytes-mute.result c.write_end-deaf.result c.plain_stop.result c.answer.result
     (g.T.Sink.stream c.args.terminal.now) (g.T.Sink.stream c.write_bytes-mute.new.terminal) (g.R.Sink.stream c.args.report.now) (g.R.Sink.stream c.write_end-deaf.new.report) (g.R.Sink.stream c.answer.new.report)
     c.in-Ok.ensures.program c.in-Ok.ensures.calm c.in-Ok-load.ensures.machine (ap (λ (x : Parameters). x.limit) c.numbers-limit.ensures.same) c.run-cycles.ensures.stops c.run-cycles.ensures.state c.state-state.ensures
-    (subst (Sent c.write_bytes-mute.result (g.T.Sink.stream c.args.terminal.now) (g.T.Sink.stream c.write_bytes-mute.new.terminal)) c.as_slice.ensures c.write_bytes-mute.ensures) c.write_end-deaf.ensures c.plain_stop.ensures
+    (subst (Sent c.write_bytes-mute.result (g.T.Sink.stream c.args.terminal.now) (g.T.Sink.stream c.write_bytes-mute.new.terminal)) c.as_slice.ensures c.write_bytes-mute.ensures.bytes) c.write_end-deaf.ensures c.plain_stop.ensures
     c.answer.ensures.closes (c.answer.ensures.events ∙ c.new.ensures) c.answer.ensures.cycles c.answer.ensures.status)
 
 pub returns-clause-answer : goal.returns-clause-answer

@@ -5,11 +5,12 @@ use Rattle.thy_words.specs.declared.words.Command.{Command}
 use Rattle.thy_words.specs.declared.words.WordsError.{WordsError}
 use Rattle.thy_words.specs.Settings.{Job, Order, order_of}
 use Rattle.thy_cli.specs.declared.refusal.Refusal.TheVariants.{Words}
+use Rattle.thy_cli.proofs.CompleteLaws.{Completes-run, Completes-plain}
 use Rattle.thy_cli.proofs.TopLemmas.{Answered-run, Answered-plain, WordsDue-shown}
 use Rattle.thy_cli.proofs.top.thynvm.Goals as goal
 
-pub returns-in-Ok-Run : goal.returns-in-Ok-Run
-returns-in-Ok-Run g c =
+pub returns-in-Ok-Run-clause-answered : goal.returns-in-Ok-Run-clause-answered
+returns-in-Ok-Run-clause-answered g c =
     let job : Job = record {
       file = string_bytes c.in-Ok-Run.file;
       input = option_map string_bytes c.in-Ok-Run.field-0-1;
@@ -19,8 +20,8 @@ returns-in-Ok-Run g c =
     let shown : Command → Result Order WordsError = λ x. Ok (order_of x) in
     Answered-run _ _ job _ _ _ _ _ _ _ _ _ _ (c.in-Ok-Run.ensures.exact ∙ ap shown c.in-Ok-Run.field-0-is) c.as_str.ensures.value c.run_file.ensures.held c.run_file.ensures.answer
 
-pub returns-in-Ok-Plain : goal.returns-in-Ok-Plain
-returns-in-Ok-Plain g c =
+pub returns-in-Ok-Plain-clause-answered : goal.returns-in-Ok-Plain-clause-answered
+returns-in-Ok-Plain-clause-answered g c =
     let job : Job = record {
       file = string_bytes c.in-Ok-Plain.file;
       input = option_map string_bytes c.in-Ok-Plain.field-0-1;
@@ -30,8 +31,8 @@ returns-in-Ok-Plain g c =
     let shown : Command → Result Order WordsError = λ x. Ok (order_of x) in
     Answered-plain _ _ job _ _ _ _ _ _ _ _ _ (c.in-Ok-Plain.ensures.exact ∙ ap shown c.in-Ok-Plain.field-0-is) c.as_str-in-Ok-Plain.ensures.value c.plain_file.ensures.held c.plain_file.ensures.answer
 
-pub returns : goal.returns
-returns g c = (
+pub returns-clause-answered : goal.returns-clause-answered
+returns-clause-answered g c = (
   refl,
   inl (
     Words c.in-Err.error,
@@ -39,3 +40,21 @@ returns g c = (
     record { status = c.refuse.ensures.status; events = c.refuse.ensures.events; cycles = c.refuse.ensures.cycles; shown_none = refl; closes = c.refuse.ensures.closes },
   ),
 )
+
+pub returns-in-Ok-Run-clause-complete_run : goal.returns-in-Ok-Run-clause-complete_run
+returns-in-Ok-Run-clause-complete_run g c = Completes-run _ _ _ _ _ _ _ _ _ _ _ (returns-in-Ok-Run-clause-answered g c)
+
+pub returns-in-Ok-Run-clause-complete_plain : goal.returns-in-Ok-Run-clause-complete_plain
+returns-in-Ok-Run-clause-complete_plain g c = Completes-plain _ _ _ _ _ _ _ _ _ _ _ (returns-in-Ok-Run-clause-answered g c)
+
+pub returns-in-Ok-Plain-clause-complete_run : goal.returns-in-Ok-Plain-clause-complete_run
+returns-in-Ok-Plain-clause-complete_run g c = Completes-run _ _ _ _ _ _ _ _ _ _ _ (returns-in-Ok-Plain-clause-answered g c)
+
+pub returns-in-Ok-Plain-clause-complete_plain : goal.returns-in-Ok-Plain-clause-complete_plain
+returns-in-Ok-Plain-clause-complete_plain g c = Completes-plain _ _ _ _ _ _ _ _ _ _ _ (returns-in-Ok-Plain-clause-answered g c)
+
+pub returns-clause-complete_run : goal.returns-clause-complete_run
+returns-clause-complete_run g c = Completes-run _ _ _ _ _ _ _ _ _ _ _ (returns-clause-answered g c)
+
+pub returns-clause-complete_plain : goal.returns-clause-complete_plain
+returns-clause-complete_plain g c = Completes-plain _ _ _ _ _ _ _ _ _ _ _ (returns-clause-answered g c)

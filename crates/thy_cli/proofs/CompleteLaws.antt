@@ -1,0 +1,336 @@
+-- An answer is complete: where nothing is amiss it is that of the program's own end.
+use Rattle.std.proofs.Common.{◌≡◌, ℕ, ◌+◌, ◌-◌, ◌<◌, ◌≤◌, Bool, true, false, Some, None, List, [], ◌∷◌, length, refl, sym, ◌∙◌, ap, subst, inl, inr, arith}
+use Rattle.std.specs.Prelude.{Ok, Err, MatchOption}
+use Rattle.std.proofs.lemmas.Bool.{cases_order}
+use Rattle.thy_base.specs.declared.config.Parameters.{Parameters}
+use Rattle.thy_base.specs.declared.nvm.FitError.{FitError}
+use Rattle.thy_base.specs.declared.nvm.FitError.TheVariants.{Failed as FitFailed, Memory as FitMemory}
+use Rattle.thy_base.specs.declared.outside.FetchError.{FetchError}
+use Rattle.thy_base.specs.declared.outside.FetchError.TheVariants.{Failed as FetchFailed, NotThere, TooLong, Memory as FetchMemory}
+use Rattle.thy_base.specs.Counts.{Rose}
+use Rattle.thy_base.specs.Device.{Device, HasFailedToFit}
+use Rattle.thy_base.specs.Geometry.{parameters_of}
+use Rattle.thy_base.specs.Outside.{Stock, Files, Stream}
+use Rattle.thy_elf.specs.declared.error.ElfError.{ElfError}
+use Rattle.thy_elf.specs.declared.error.ElfError.TheVariants.{Memory as ElfMemory}
+use Rattle.thy_elf.specs.Image.{Contents}
+use Rattle.thy_isa.specs.declared.state.Status.{Status}
+use Rattle.thy_isa.specs.declared.state.Status.TheVariants.{Running, Exited, Trapped}
+use Rattle.thy_isa.specs.Step.{State, Setting, is_running, steps}
+use Rattle.thy_isa.proofs.StepLaws.{steps-add, steps-ended}
+use Rattle.thy_plain.specs.Machine.{setting_for}
+use Rattle.thy_plain.specs.Start.{start_state}
+use Rattle.thy_text.specs.Happening.{Happening, EpochEnd, Commit, Cut, Restart, Reload, Ended as EndedEvent}
+use Rattle.thy_text.specs.Marks.{Course, Marks, marks_after, AllLawful}
+use Rattle.thy_words.specs.declared.words.WordsError.{WordsError}
+use Rattle.thy_words.specs.declared.words.WordsError.TheVariants.{Usage, Word, Value, Memory as WordsMemory}
+use Rattle.thy_words.specs.Settings.{Job, Order, run, plain, settings_of}
+use Rattle.thy_view.specs.Kind.{KindOf}
+use Rattle.thy_view.specs.Origin.{Origin, setting_of, at}
+use Rattle.thy_run.specs.Progress.{cycles_for}
+use Rattle.thy_run.specs.Going.{origin_of, end_of}
+use Rattle.thy_run.specs.Sending.{Sent, Delivered}
+use Rattle.thy_run.specs.Turning.{is_memory, StopFits}
+use Rattle.thy_run.specs.declared.ending.Stop.{Stop}
+use Rattle.thy_run.specs.declared.ending.Stop.TheVariants.{Ended, Nvm, Memory, Terminal, Report, Limit}
+use Rattle.thy_cli.specs.declared.answer.Answer.{Answer}
+use Rattle.thy_cli.specs.declared.refusal.Refusal.{Refusal}
+use Rattle.thy_cli.specs.declared.refusal.Refusal.TheVariants.{Words, Fetch, File, Device as DeviceRefusal, Memory as MemoryRefusal}
+use Rattle.thy_cli.specs.Answering.{Task, task_of, most_bytes, meaning_of, IsHeld, FetchDue, FileDue, WordsDue, TaskDue, OrderDue, RefusalDue, refused_status, ClosesRun, IsRunOf, IsPlainOf, plain_stop, plain_state, end_lines, stop_status, Answered}
+use Rattle.thy_cli.specs.Completing.{IsAsked, Stayed, IsCalm, TellsEnd, RunCompletes, PlainCompletes}
+
+-- ---- counts of faults
+
+-- a count that stayed did not rise
+not_risen : {A : Type 0} (old new : ℕ) → Stayed old new → Rose old new → A
+not_risen old new s r = absurd (omega (arith, s.same, s.counts, r.more))
+
+-- a sink whose count stayed did not fail
+not_failed : {A : Type 0} (short failed : Bool) (settled text : List ℕ) (old new : Stream) → Stayed old.faults new.faults → Delivered short failed settled text old new
+    → failed ≡ true → A
+not_failed {A} short true settled text old new s d e =
+    let first : d.middle.faults ≡ old.faults = d.took.calm in
+    not_risen old.faults new.faults s (subst (λ f. Rose f new.faults) first d.sent.rose)
+not_failed short false settled text old new s d e = absurd (cc)
+
+-- ---- ended states
+
+-- two ended states of a run of the plain machine are one
+later_end : (g : Setting) (s : State) (j k : ℕ) → j ≤ k → is_running (steps g j s).status ≡ false → steps g k s ≡ steps g j s
+later_end g s j k less over =
+    let more : k ≡ j + (k - j) = omega (arith, less) in
+    ap (λ i. steps g i s) more ∙ steps-add g j (k - j) s ∙ steps-ended g (k - j) (steps g j s) over
+
+same_end : (g : Setting) (s : State) (j k : ℕ) → is_running (steps g j s).status ≡ false → is_running (steps g k s).status ≡ false → steps g j s ≡ steps g k s
+same_end g s j k a b = elim (cases_order j k) as (λ _. steps g j s ≡ steps g k s) [
+  | inl same ↦ ap (λ i. steps g i s) same
+  | inr other ↦ elim other as (λ _. steps g j s ≡ steps g k s) [ inl less ↦ sym (later_end g s j k (omega arith) a) | inr more ↦ later_end g s k j (omega arith) b ]
+]
+
+-- the status of the end among lawful events is that of a state of the plain machine, which has ended
+record IsEndOf (c : Course) (status : Status) : Type 0 where
+  count : ℕ
+  is_status : status ≡ (c.at count).status
+  over : is_running (c.at count).status ≡ false
+
+end_lawful : (c : Course) (m : Marks) (vs : List Happening) (status : Status) → AllLawful c m vs → end_of vs ≡ Some status → IsEndOf c status
+end_lawful c m [] status all e = absurd (cc)
+end_lawful c m (EndedEvent told count cycle state ∷ vs) status all e =
+    let same : told ≡ status = cc in
+    let whole : state ≡ c.at count = all.0.0.whole in
+    record {
+      count = count;
+      is_status = sym same ∙ all.0.1 ∙ ap (λ (s : State). s.status) whole;
+      over = ap (λ (s : State). is_running s.status) (sym whole) ∙ all.0.0.over;
+    }
+end_lawful c m (EpochEnd epoch count cause ∷ vs) status all e = end_lawful c (marks_after c.start m (EpochEnd epoch count cause)) vs status all.1 e
+end_lawful c m (Commit epoch cycle overlapped ∷ vs) status all e = end_lawful c (marks_after c.start m (Commit epoch cycle overlapped)) vs status all.1 e
+end_lawful c m (Cut index cycle ∷ vs) status all e = end_lawful c (marks_after c.start m (Cut index cycle)) vs status all.1 e
+end_lawful c m (Restart epoch count state ∷ vs) status all e = end_lawful c (marks_after c.start m (Restart epoch count state)) vs status all.1 e
+end_lawful c m (Reload ∷ vs) status all e = end_lawful c (marks_after c.start m Reload) vs status all.1 e
+
+-- ---- refusals
+
+-- what is known of a file, and what it means
+record Stands (task : Task) (stock : Stock) : Type 0 where
+  files : Files
+  tells : stock.held ≡ Some files
+  bytes : List ℕ
+  there : files task.file ≡ Some bytes
+  fits : length bytes ≤ most_bytes
+  contents : Contents
+  means : meaning_of task bytes ≡ Ok contents
+
+-- it is what the shelf holds under its name
+held_same : (task : Task) (stock : Stock) (s : Stands task stock) (bytes : List ℕ) → IsHeld stock task.file bytes → bytes ≡ s.bytes
+held_same task stock s bytes h = let there : s.files task.file ≡ Some bytes = h.1 s.files s.tells in let known : s.files task.file ≡ Some s.bytes = s.there in cc
+
+fetch_due : (task : Task) (old new : Stock) (name : _) (e : FetchError) → Stands task old → Stayed old.faults new.faults → FetchDue old new task.file e
+    → refused_status (Fetch name e) ≡ 9
+fetch_due task old new name FetchFailed s calm due = not_risen old.faults new.faults calm due
+fetch_due task old new name NotThere s calm due =
+    let none : s.files task.file ≡ None = subst (λ h. MatchOption h (Rose old.faults new.faults) (λ files. files task.file ≡ None)) s.tells due in
+    absurd (let there : s.files task.file ≡ Some s.bytes = s.there in cc)
+fetch_due task old new name TooLong s calm due =
+    let long : (bytes : List ℕ) × (s.files task.file ≡ Some bytes) × (most_bytes < length bytes) =
+    subst (λ h. MatchOption h (Rose old.faults new.faults) (λ files. (bytes : List ℕ) × (files task.file ≡ Some bytes) × (most_bytes < length bytes))) s.tells due in
+    let there : s.files task.file ≡ Some s.bytes = s.there in
+    let same : long.0 ≡ s.bytes = (let found : s.files task.file ≡ Some long.0 = long.1 in cc) in
+    absurd (omega (arith, s.fits, long.2, ap length same))
+fetch_due task old new name (FetchMemory e) s calm due = refl
+
+-- a file that is a program is not refused
+means_none : {A : Type 0} (task : Task) (stock : Stock) (e : ElfError) → Stands task stock → (bytes : List ℕ) × IsHeld stock task.file bytes × (meaning_of task bytes ≡ Err e) → A
+means_none task stock e s (bytes, held, means) =
+    let same : bytes ≡ s.bytes = held_same task stock s bytes held in
+    let refused : meaning_of task s.bytes ≡ Err e = ap (meaning_of task) (sym same) ∙ means in
+    let known : meaning_of task s.bytes ≡ Ok s.contents = s.means in
+    absurd (cc)
+
+file_due : (task : Task) (stock : Stock) (e : ElfError) → Stands task stock → FileDue task stock e → refused_status (File e) ≡ 9
+file_due task stock (ElfMemory e) s due = refl
+file_due task stock e s due = means_none task stock e s due
+
+device_due : (e : FitError) (n m : Device) → Stayed n.faults m.faults → HasFailedToFit e n m → refused_status (DeviceRefusal e) ≡ 9
+device_due FitFailed n m calm due = not_risen n.faults m.faults calm due.2
+device_due (FitMemory e) n m calm due = refl
+
+-- only for want of memory
+task_due : (task : Task) (old new : Stock) (n m : Device) (r : Refusal) → Stands task old → Stayed old.faults new.faults → Stayed n.faults m.faults
+    → TaskDue task old new n m r → refused_status r ≡ 9
+task_due task old new n m (Words e) s shelf device due = absurd due
+task_due task old new n m (Fetch name e) s shelf device due = fetch_due task old new name e s shelf due.1
+task_due task old new n m (File e) s shelf device due = file_due task old e s due.0
+task_due task old new n m (DeviceRefusal e) s shelf device due = device_due e n m device due.1
+task_due task old new n m (MemoryRefusal e) s shelf device due = refl
+
+words_due : (words : List (List ℕ)) (order : Order) (e : WordsError) → settings_of words ≡ Ok order → WordsDue words e → refused_status (Words e) ≡ 9
+words_due words order Usage is due = absurd (cc)
+words_due words order (Word field) is due = absurd (cc)
+words_due words order (Value field value) is due = absurd (cc)
+words_due words order (WordsMemory e) is due = refl
+
+order_same : (words : List (List ℕ)) (a b : Order) → settings_of words ≡ Ok a → settings_of words ≡ Ok b → b ≡ a
+order_same words a b e f = cc
+
+-- of a run
+run_due : (words : List (List ℕ)) (job : Job) (old new : Stock) (n m : Device) (r : Refusal) → settings_of words ≡ Ok (run job) → Stands (task_of job) old
+    → Stayed old.faults new.faults → Stayed n.faults m.faults → RefusalDue words old new n m r → refused_status r ≡ 9
+run_due words job old new n m (Words e) is s shelf device due = words_due words (run job) e is due.0
+run_due words job old new n m (Fetch name e) is s shelf device (order, asked, due) =
+    task_due (task_of job) old new n m (Fetch name e) s shelf device (subst (λ o. OrderDue o old new n m (Fetch name e)) (order_same words (run job) order is asked) due)
+run_due words job old new n m (File e) is s shelf device (order, asked, due) =
+    task_due (task_of job) old new n m (File e) s shelf device (subst (λ o. OrderDue o old new n m (File e)) (order_same words (run job) order is asked) due)
+run_due words job old new n m (DeviceRefusal e) is s shelf device (order, asked, due) =
+    task_due (task_of job) old new n m (DeviceRefusal e) s shelf device (subst (λ o. OrderDue o old new n m (DeviceRefusal e)) (order_same words (run job) order is asked) due)
+run_due words job old new n m (MemoryRefusal e) is s shelf device (order, asked, due) = refl
+
+-- of the plain machine, which leaves the device alone
+plain_due : (words : List (List ℕ)) (job : Job) (old new : Stock) (n m : Device) (r : Refusal) → settings_of words ≡ Ok (plain job) → Stands (task_of job) old
+    → Stayed old.faults new.faults → Stayed n.faults n.faults → RefusalDue words old new n m r → refused_status r ≡ 9
+plain_due words job old new n m (Words e) is s shelf device due = words_due words (plain job) e is due.0
+plain_due words job old new n m (Fetch name e) is s shelf device (order, asked, due) =
+    task_due (task_of job) old new n n (Fetch name e) s shelf device ((subst (λ o. OrderDue o old new n m (Fetch name e)) (order_same words (plain job) order is asked) due).0 n)
+plain_due words job old new n m (File e) is s shelf device (order, asked, due) =
+    task_due (task_of job) old new n n (File e) s shelf device ((subst (λ o. OrderDue o old new n m (File e)) (order_same words (plain job) order is asked) due).0 n)
+plain_due words job old new n m (DeviceRefusal e) is s shelf device (order, asked, due) =
+    task_due (task_of job) old new n n (DeviceRefusal e) s shelf device ((subst (λ o. OrderDue o old new n m (DeviceRefusal e)) (order_same words (plain job) order is asked) due).0 n)
+plain_due words job old new n m (MemoryRefusal e) is s shelf device (order, asked, due) = refl
+
+-- ---- runs
+
+at_is : (o : Origin) (k : ℕ) → at o k ≡ steps (setting_of o) (k - o.start.count) o.start
+unfolding at
+at_is o k = refl
+
+module _ {M : Type 0} (K : KindOf M) (job : Job) (k : ℕ) (old new : Stock) (n m : Device) (a : Answer) (t0 t r0 r : Stream) (s : Stands (task_of job) old)
+    (calm : IsCalm old new n m t0 t r0 r) (over : is_running (plain_state (task_of job) s.contents k).status ≡ false)
+    (limit : cycles_for K (parameters_of job.config) job.config.cuts k ≤ job.config.limit) (h : IsRunOf K (task_of job) old new n m a t0 t r0 r) where
+  abbrev o : Origin
+  o = origin_of h.plan
+
+  abbrev numbers : Parameters
+  numbers = parameters_of job.config
+
+  abbrev g : Setting
+  g = setting_for numbers []
+
+  abbrev first : State
+  first = start_state numbers s.contents
+
+  -- the machine's program is the file's
+  same_program : h.is_plan.file.contents ≡ s.contents
+  same_program =
+      let bytes : h.is_plan.file.bytes ≡ s.bytes = held_same (task_of job) old s h.is_plan.file.bytes h.is_plan.file.held in
+      let read : meaning_of (task_of job) s.bytes ≡ Ok h.is_plan.file.contents = ap (meaning_of (task_of job)) (sym bytes) ∙ h.is_plan.file.means in
+      let known : meaning_of (task_of job) s.bytes ≡ Ok s.contents = s.means in
+      cc
+
+  at_count : (count : ℕ) → at o count ≡ steps g (count - o.start.count) first
+  at_count count =
+      let setting : setting_of o ≡ g = ap (λ (p : Parameters). setting_for p o.input) h.is_plan.geometry ∙ ap (setting_for numbers) h.is_plan.input in
+      let start : o.start ≡ first = h.is_plan.start ∙ ap (λ p. start_state p h.is_plan.file.contents) h.is_plan.geometry ∙ ap (start_state numbers) same_program in
+      at_is o count ∙ ap (λ x. steps x (count - o.start.count) o.start) setting ∙ ap (steps g (count - o.start.count)) start
+
+  few : a.cycles < job.config.limit
+  few =
+      let here : at o (o.start.count + k) ≡ steps g k first = at_count (o.start.count + k) ∙ ap (λ j. steps g j first) (let e : o.start.count + k - o.start.count ≡ k = omega arith in e) in
+      let soon : a.cycles < cycles_for K o.geometry job.config.cuts k = h.promise.soon k (ap (λ (x : State). is_running x.status) here ∙ over) in
+      let most : cycles_for K o.geometry job.config.cuts k ≡ cycles_for K numbers job.config.cuts k = ap (λ p. cycles_for K p job.config.cuts k) h.is_plan.geometry in
+      omega (arith, soon, most, limit)
+
+  fits : (stop : Stop) → h.ending.stop ≡ stop → StopFits h.plan h.device m h.ending stop
+  fits stop is = subst (StopFits h.plan h.device m h.ending) is h.ends.stop_fits
+
+  -- at an end the status is the program's
+  told_end : (status : Status) → end_of h.ending.events ≡ Some status → status ≡ (steps g k first).status
+  told_end status e =
+      let end : IsEndOf _ status = end_lawful _ _ a.events status h.promise.events_lawful (ap end_of h.events ∙ e) in
+      let here : at o end.count ≡ steps g (end.count - o.start.count) first = at_count end.count in
+      let ended : is_running (steps g (end.count - o.start.count) first).status ≡ false = ap (λ (x : State). is_running x.status) (sym here) ∙ end.over in
+      end.is_status ∙ ap (λ (x : State). x.status) here ∙ ap (λ (x : State). x.status) (same_end g first (end.count - o.start.count) k ended over)
+
+  by_stop : (stop : Stop) → h.ending.stop ≡ stop → TellsEnd (plain_state (task_of job) s.contents k) a
+  by_stop (Ended status) is = inl (h.status ∙ ap stop_status is ∙ ap (λ x. stop_status (Ended x)) (told_end status (fits (Ended status) is).0))
+  by_stop Memory is = inr (h.status ∙ ap stop_status is)
+  by_stop Terminal is = not_failed (is_memory h.ending.stop) h.ending.mute _ _ t0 t calm.screen h.ends.shown_all (fits Terminal is).0
+  by_stop Report is =
+      let deaf : h.ending.deaf ≡ true = (fits Report is).0 in
+      let closed : r ≡ h.told = subst (λ b. ClosesRun b h.ending.stop h.plan.geometry.limit h.told r) deaf h.closes in
+      not_failed false h.ending.deaf _ _ r0 h.told (subst (λ (x : Stream). Stayed r0.faults x.faults) closed calm.paper) h.ends.read_all deaf
+  by_stop Nvm is =
+      let faults : h.device.faults ≡ n.faults = ap (λ (d : Device). d.faults) h.from_entry in
+      not_risen n.faults m.faults calm.device (subst (λ f. Rose f m.faults) faults (fits Nvm is).0)
+  by_stop Limit is =
+      let most : h.plan.geometry.limit ≡ job.config.limit = ap (λ (p : Parameters). p.limit) h.is_plan.geometry in
+      let reached : h.ending.cycles ≡ h.plan.geometry.limit = (fits Limit is).0 in
+      absurd (omega (arith, few, most, reached, h.cycles))
+
+-- ---- the plain machine
+
+module _ (job : Job) (k : ℕ) (old new : Stock) (n m : Device) (a : Answer) (t0 t r0 r : Stream) (s : Stands (task_of job) old)
+    (calm : IsCalm old new n m t0 t r0 r) (over : is_running (plain_state (task_of job) s.contents k).status ≡ false) (limit : k ≤ job.config.limit)
+    (h : IsPlainOf (task_of job) old new a t0 t r0 r) where
+  abbrev plain_setting : Setting
+  plain_setting = setting_for (parameters_of job.config) []
+
+  abbrev plain_first : State
+  plain_first = start_state (parameters_of job.config) h.file.contents
+
+  plain_program : h.file.contents ≡ s.contents
+  plain_program =
+      let bytes : h.file.bytes ≡ s.bytes = held_same (task_of job) old s h.file.bytes h.file.held in
+      let read : meaning_of (task_of job) s.bytes ≡ Ok h.file.contents = ap (meaning_of (task_of job)) (sym bytes) ∙ h.file.means in
+      let known : meaning_of (task_of job) s.bytes ≡ Ok s.contents = s.means in
+      cc
+
+  -- the program ends where the machine stopped
+  over_there : is_running (steps plain_setting k plain_first).status ≡ false
+  over_there = ap (λ c. is_running (steps plain_setting k (start_state (parameters_of job.config) c)).status) plain_program ∙ over
+
+  not_both : {A : Type 0} (b : Bool) → b ≡ true → b ≡ false → A
+  not_both b e f = absurd (cc)
+
+  stopped : is_running (steps plain_setting a.cycles plain_first).status ≡ false
+  stopped = elim (cases_order a.cycles k) as (λ _. is_running (steps plain_setting a.cycles plain_first).status ≡ false) [
+    | inl same ↦ ap (λ j. is_running (steps plain_setting j plain_first).status) same ∙ over_there
+    | inr other ↦ elim other as (λ _. is_running (steps plain_setting a.cycles plain_first).status ≡ false) [
+      | inl less ↦ h.stops.over (omega (arith, less, limit))
+      | inr more ↦ not_both _ (h.stops.ran k more) over_there
+    ]
+  ]
+
+  last_status : h.last.status ≡ (plain_state (task_of job) s.contents k).status
+  last_status =
+      ap (λ (x : State). x.status) h.is_last
+      ∙ ap (λ (x : State). x.status) (same_end plain_setting plain_first a.cycles k stopped over_there)
+      ∙ ap (λ c. (steps plain_setting k (start_state (parameters_of job.config) c)).status) plain_program
+
+  ended_stop : (status : Status) → is_running status ≡ false → plain_stop false false status ≡ Ended status
+  ended_stop Running e = absurd (cc)
+  ended_stop (Exited v) e = refl
+  ended_stop (Trapped v) e = refl
+
+  by_faults : (mute deaf : Bool) → h.mute ≡ mute → h.deaf ≡ deaf → TellsEnd (plain_state (task_of job) s.contents k) a
+  by_faults mute true is_mute is_deaf =
+      let closed : r ≡ h.told = subst (λ b. ClosesRun b (plain_stop h.mute h.deaf h.last.status) job.config.limit h.told r) is_deaf h.closes in
+      let sent : Sent true r0 h.told (end_lines (task_of job) h.last) = subst (λ b. Sent b r0 h.told (end_lines (task_of job) h.last)) is_deaf h.read_all in
+      not_risen r0.faults h.told.faults (subst (λ (x : Stream). Stayed r0.faults x.faults) closed calm.paper) sent.rose
+  by_faults true false is_mute is_deaf =
+      let sent : Sent true t0 t h.last.console = subst (λ b. Sent b t0 t h.last.console) is_mute h.shown_all in
+      not_risen t0.faults t.faults calm.screen sent.rose
+  by_faults false false is_mute is_deaf =
+      let stop : plain_stop h.mute h.deaf h.last.status ≡ Ended h.last.status =
+      ap (λ b. plain_stop b h.deaf h.last.status) is_mute ∙ ap (λ b. plain_stop false b h.last.status) is_deaf
+      ∙ ended_stop h.last.status (ap is_running last_status ∙ over) in
+      inl (h.status ∙ ap stop_status stop ∙ ap (λ x. stop_status (Ended x)) last_status)
+
+-- ---- answers
+
+abbrev stands_of : (order : Job → Order) (words : List (List ℕ)) (stock : Stock) (i : IsAsked order words stock) → Stands (task_of i.job) stock
+stands_of order words stock i = record { files = i.files; tells = i.tells; bytes = i.bytes; there = i.there; fits = i.fits; contents = i.contents; means = i.means }
+
+-- an answer completes the run that is asked for
+pub Completes-run : {M : Type 0} (K : KindOf M) (words : List (List ℕ)) (old new : Stock) (n m : Device) (t0 t r0 r : Stream) (a : Answer)
+    → Answered K words old new n m t0 t r0 r a → RunCompletes K words old new n m t0 t r0 r a
+Completes-run K words old new n m t0 t r0 r a (held, inl (refusal, due, refused)) i k calm over limit =
+    inr (refused.status ∙ run_due words i.job old new n m refusal i.asked (stands_of run words old i) calm.shelf calm.device due)
+Completes-run K words old new n m t0 t r0 r a (held, inr (inl (job, asked, ran))) i k calm over limit =
+    let same : job ≡ i.job = (let e : run job ≡ run i.job = order_same words (run i.job) (run job) i.asked asked in cc) in
+    let h : IsRunOf K (task_of i.job) old new n m a t0 t r0 r = subst (λ j. IsRunOf K (task_of j) old new n m a t0 t r0 r) same ran in
+    by_stop K i.job k old new n m a t0 t r0 r (stands_of run words old i) calm over limit h h.ending.stop refl
+Completes-run K words old new n m t0 t r0 r a (held, inr (inr (job, asked, device, ran))) i k calm over limit =
+    absurd (let e : plain job ≡ run i.job = order_same words (run i.job) (plain job) i.asked asked in cc)
+
+-- and the one on the plain machine
+pub Completes-plain : {M : Type 0} (K : KindOf M) (words : List (List ℕ)) (old new : Stock) (n m : Device) (t0 t r0 r : Stream) (a : Answer)
+    → Answered K words old new n m t0 t r0 r a → PlainCompletes words old new n m t0 t r0 r a
+Completes-plain K words old new n m t0 t r0 r a (held, inl (refusal, due, refused)) i k calm over limit =
+    let still : Stayed n.faults n.faults = record { same = refl; counts = calm.device.counts } in
+    inr (refused.status ∙ plain_due words i.job old new n m refusal i.asked (stands_of plain words old i) calm.shelf still due)
+Completes-plain K words old new n m t0 t r0 r a (held, inr (inl (job, asked, ran))) i k calm over limit =
+    absurd (let e : run job ≡ plain i.job = order_same words (plain i.job) (run job) i.asked asked in cc)
+Completes-plain K words old new n m t0 t r0 r a (held, inr (inr (job, asked, same_device, ran))) i k calm over limit =
+    let same : job ≡ i.job = (let e : plain job ≡ plain i.job = order_same words (plain i.job) (plain job) i.asked asked in cc) in
+    let h : IsPlainOf (task_of i.job) old new a t0 t r0 r = subst (λ j. IsPlainOf (task_of j) old new a t0 t r0 r) same ran in
+    by_faults i.job k old new n m a t0 t r0 r (stands_of plain words old i) calm over limit h h.mute h.deaf refl refl

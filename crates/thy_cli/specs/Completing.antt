@@ -1,0 +1,62 @@
+-- What the answer is where nothing is amiss: that of the program's own end.
+use Rattle.std.specs.Prelude.{◌≡◌, ◌⊎◌, ℕ, ◌-◌, ◌^◌, ◌<◌, ◌≤◌, false, List, length, Some, Ok}
+use Rattle.thy_base.specs.Device.{Device}
+use Rattle.thy_base.specs.Geometry.{parameters_of}
+use Rattle.thy_base.specs.Outside.{Stock, Files, Stream}
+use Rattle.thy_elf.specs.Image.{Contents}
+use Rattle.thy_isa.specs.Step.{State, is_running}
+use Rattle.thy_run.specs.Progress.{cycles_for}
+use Rattle.thy_run.specs.declared.ending.Stop.TheVariants.{Ended}
+use Rattle.thy_view.specs.Kind.{KindOf}
+use Rattle.thy_words.specs.Settings.{Job, Order, run, plain, settings_of}
+use Rattle.thy_cli.specs.Answering.{task_of, most_bytes, meaning_of, plain_state, stop_status}
+use Rattle.thy_cli.specs.declared.answer.Answer.{Answer}
+
+-- the words order something of a file that stands on the shelf, as the shelf tells, and is a program
+pub record IsAsked (order : Job → Order) (words : List (List ℕ)) (stock : Stock) : Type 0 where
+  pub job : Job
+  pub asked : settings_of words ≡ Ok (order job)
+  pub files : Files
+  pub tells : stock.held ≡ Some files
+  pub bytes : List ℕ
+  pub there : files job.file ≡ Some bytes
+  pub fits : length bytes ≤ most_bytes
+  pub contents : Contents
+  pub means : meaning_of (task_of job) bytes ≡ Ok contents
+
+-- a count of faults stayed, below the last value, at which it would also stand after a fault
+pub record Stayed (old new : ℕ) : Type 0 where
+  pub same : new ≡ old
+  pub counts : old < 2 ^ 64 - 1
+
+-- shelf, device, terminal and report did not fail
+pub record IsCalm (old new : Stock) (n m : Device) (terminal shown report read : Stream) : Type 0 where
+  pub shelf : Stayed old.faults new.faults
+  pub device : Stayed n.faults m.faults
+  pub screen : Stayed terminal.faults shown.faults
+  pub paper : Stayed report.faults read.faults
+
+-- the program's state after k instructions, left alone
+abbrev pub left_alone : {order : Job → Order} {words : List (List ℕ)} {stock : Stock} → IsAsked order words stock → ℕ → State
+left_alone i k = plain_state (task_of i.job) i.contents k
+
+-- the answer is that of this state's end, or memory was short
+abbrev pub TellsEnd : State → Answer → Type 0
+TellsEnd s a = (a.status ≡ stop_status (Ended s.status)) ⊎ (a.status ≡ 9)
+
+-- A program that ends within k instructions ends so on the machine, in spite of all power cuts, where the limit is not
+-- below the cycles that the machine promises for as many.
+abbrev pub RunCompletes : {M : Type 0} → KindOf M → List (List ℕ) → Stock → Stock → Device → Device → Stream → Stream → Stream → Stream → Answer → Type 0
+RunCompletes K words old new n m terminal shown report read a =
+    (i : IsAsked run words old) (k : ℕ) → IsCalm old new n m terminal shown report read
+    → is_running (left_alone i k).status ≡ false
+    → cycles_for K (parameters_of i.job.config) i.job.config.cuts k ≤ i.job.config.limit
+    → TellsEnd (left_alone i k) a
+
+-- and on the plain machine, where the limit is not below k
+abbrev pub PlainCompletes : List (List ℕ) → Stock → Stock → Device → Device → Stream → Stream → Stream → Stream → Answer → Type 0
+PlainCompletes words old new n m terminal shown report read a =
+    (i : IsAsked plain words old) (k : ℕ) → IsCalm old new n m terminal shown report read
+    → is_running (left_alone i k).status ≡ false
+    → k ≤ i.job.config.limit
+    → TellsEnd (left_alone i k) a
