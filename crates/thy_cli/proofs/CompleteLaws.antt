@@ -7,6 +7,7 @@ use Rattle.thy_base.specs.declared.nvm.FitError.{FitError}
 use Rattle.thy_base.specs.declared.nvm.FitError.TheVariants.{Failed as FitFailed, Memory as FitMemory}
 use Rattle.thy_base.specs.declared.outside.FetchError.{FetchError}
 use Rattle.thy_base.specs.declared.outside.FetchError.TheVariants.{Failed as FetchFailed, NotThere, TooLong, Memory as FetchMemory}
+use Rattle.thy_base.specs.declared.config.Config.{Config}
 use Rattle.thy_base.specs.Counts.{Rose}
 use Rattle.thy_base.specs.Device.{Device, HasFailedToFit}
 use Rattle.thy_base.specs.Geometry.{parameters_of}
@@ -215,7 +216,8 @@ module _ {M : Type 0} (K : KindOf M) (job : Job) (k : ℕ) (old new : Stock) (n 
   few : a.cycles < job.config.limit
   few =
       let here : at o (o.start.count + k) ≡ steps g k first = at_count (o.start.count + k) ∙ ap (λ j. steps g j first) (let e : o.start.count + k - o.start.count ≡ k = omega arith in e) in
-      let soon : a.cycles < cycles_for K o.geometry job.config.cuts k = h.promise.soon k (ap (λ (x : State). is_running x.status) here ∙ over) in
+      let soon : a.cycles < cycles_for K o.geometry job.config.cuts k =
+      subst (λ (c : Config). a.cycles < cycles_for K o.geometry c.cuts k) h.is_plan.config (h.promise.soon k (ap (λ (x : State). is_running x.status) here ∙ over)) in
       let most : cycles_for K o.geometry job.config.cuts k ≡ cycles_for K numbers job.config.cuts k = ap (λ p. cycles_for K p job.config.cuts k) h.is_plan.geometry in
       omega (arith, soon, most, limit)
 

@@ -144,9 +144,9 @@ IsRunOf-ran K laws task old new plan n d m shape e a t0 t r0 told r p calm fit b
       cycles = cycles;
       status = status;
       promise =
-          subst (λ (c : Config). Promise K o c.cuts a.cycles a.events m) p.config
-          (subst (λ k. Promise K o plan.config.cuts k a.events m) (sym cycles)
-          (subst (λ vs. Promise K o plan.config.cuts e.cycles vs m) (sym events) kept));
+          subst (λ k. Promise K o (given_of plan d) k a.events m) (sym cycles)
+          (subst (λ vs. Promise K o (given_of plan d) e.cycles vs m) (sym events) kept);
+      once = kept.fits_stay ∙ ap (λ (x : Device). x.fits) fit;
     }
 
 -- what is due to an order is due to the words that ask for it; words are none of its reasons

@@ -8,7 +8,7 @@ use Rattle.thy_base.specs.declared.config.Config.{Config}
 use Rattle.thy_base.specs.Bytes.{bytes_of}
 use Rattle.thy_base.specs.Device.{Device, HasFailedToFit, fitted}
 use Rattle.thy_base.specs.Geometry.{IsInRange, parameters_of, program_size}
-use Rattle.thy_base.specs.Counts.{Rose}
+use Rattle.thy_base.specs.Counts.{Rose, next}
 use Rattle.thy_base.specs.Outside.{Stock, Files, Stream}
 use Rattle.thy_elf.specs.declared.error.ElfError.{ElfError}
 use Rattle.thy_elf.specs.declared.error.ElfError.TheVariants.{Memory as ElfMemory}
@@ -37,7 +37,7 @@ use Rattle.thy_cli.specs.declared.source.Program.{Program}
 use Rattle.thy_cli.specs.declared.source.Task.{Task as TaskValue}
 use Rattle.thy_cli.specs.declared.refusal.Refusal.{Refusal}
 use Rattle.thy_cli.specs.declared.refusal.Refusal.TheVariants.{Words, Fetch, File, Device as DeviceRefusal, Memory as MemoryRefusal}
-use Rattle.thy_run.specs.Going.{origin_of, IsPlanned}
+use Rattle.thy_run.specs.Going.{origin_of, given_of, IsPlanned}
 use Rattle.thy_run.specs.Sending.{Sent}
 use Rattle.thy_run.specs.Turning.{IsFitted, RunEnds}
 
@@ -222,7 +222,8 @@ pub record IsRunOf {M : Type 0} (K : KindOf M) (task : Task) (old new : Stock) (
   pub events : a.events ≡ ending.events
   pub cycles : a.cycles ≡ ending.cycles
   pub status : a.status ≡ stop_status ending.stop
-  pub promise : Promise K (origin_of plan) task.config.cuts a.cycles a.events m
+  pub promise : Promise K (origin_of plan) (given_of plan device) a.cycles a.events m
+  pub once : m.fits ≡ next n.fits
 
 -- ---- the plain machine
 
