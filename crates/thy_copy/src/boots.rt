@@ -1,7 +1,8 @@
 //! The boot's steps: one read, or one action of loading, at a time.
 ghost use Rattle.std.specs.Prelude.{◌≡◌, ◌<◌, ◌+◌, ◌^◌, false, length, Option, OnOk, OnErr, IfOk, Some, None};
 ghost use Rattle.thy_base.specs.Device.{IsFramed, CountsFault, newest};
-ghost use Rattle.thy_base.specs.Geometry.{memory_blocks, blocks_of};
+ghost use Rattle.thy_base.specs.Geometry.{memory_blocks};
+ghost use Rattle.thy_copy_model.specs.Layout.{blocks_of};
 ghost use Rattle.thy_isa.specs.Step.{state_of};
 ghost use Rattle.thy_view.specs.declared.view.Phase.TheVariants.{Boot as BootPhase};
 ghost use Rattle.thy_view.specs.Action.{after, FailsTo, ReadAt};
@@ -15,9 +16,8 @@ use crate::engine::{memory_place, record_place};
 use crate::turns::load_on;
 use thy_base::{Nvm, NvmError};
 use thy_copy_model::{Parts, Stage};
-use thy_record::Start;
+use thy_record::{BadImage, Start};
 use thy_view::Did;
-use thy_record::BadImage;
 
 fn read_commit<N: Nvm>(m: &mut Parts, start: &Start, nvm: &mut N) -> Result<(), NvmError>
     requires regs { length start.now.state.regs ≡ 32 }

@@ -9,11 +9,11 @@ ghost use Rattle.thy_isa.specs.Memory.{number_bytes};
 ghost use Rattle.thy_copy_model.specs.Hart.{loaded, stored, effect_in, calls_in, read_in, written_in, performed, executed, IsWithinBlock, IsInside};
 
 use thy_base::{Block, EndCause, Geometry, Mark};
+use thy_copy_model::{Issue, Memory, Parts, Stage};
 use thy_isa::{
     CallState, CpuState, Effect, Status, Width, bytes_in, fetch_fault, finish, number, put_number,
     within, word, word_effect,
 };
-use thy_copy_model::{Issue, Memory, Parts, Stage};
 
 /// The number of a width at an offset of memory, within one block.
 fn load(memory: &Memory, at: u64, width: Width) -> u64

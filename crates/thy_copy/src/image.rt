@@ -4,7 +4,7 @@ ghost use Rattle.thy_base.specs.Bytes.{bytes_of};
 ghost use Rattle.thy_base.specs.Device.{IsFramed};
 ghost use Rattle.thy_base.specs.Geometry.{memory_blocks};
 ghost use Rattle.thy_isa.specs.Step.{state_of};
-ghost use Rattle.thy_record.specs.Decode.{flat};
+ghost use Rattle.thy_record.specs.Flat.{flat};
 ghost use Rattle.thy_copy_model.specs.Calls.{IsAt};
 ghost use Rattle.thy_view.specs.Views.{is_boot};
 ghost use Rattle.thy_view.specs.Origin.{Origin};
@@ -15,8 +15,8 @@ ghost use Rattle.thy_view.specs.Kind.{IsSnapshot, HasFailedToRead};
 use crate::Machine;
 use std::alloc::{AllocError, Global};
 use thy_base::{Block, Bytes, Nvm, NvmError};
-use thy_isa::MachState;
 use thy_copy_model::Parts;
+use thy_isa::MachState;
 use thy_view::CoreError;
 
 /// The bytes of blocks, one after the other.

@@ -2,7 +2,8 @@
 ghost use Rattle.std.specs.Prelude.{◌≡◌, ◌<◌, ◌≤◌, ◌+◌, ◌-◌, ◌^◌, false, length, Option, OnOk, OnErr, IfOk, IfSome, Some, None};
 ghost use Rattle.thy_base.specs.Bytes.{bytes_of};
 ghost use Rattle.thy_base.specs.Device.{IsFramed, CountsFault, newest};
-ghost use Rattle.thy_base.specs.Geometry.{memory_blocks, program_size, console_room, blocks_of};
+ghost use Rattle.thy_base.specs.Geometry.{memory_blocks, program_size, console_room};
+ghost use Rattle.thy_copy_model.specs.Layout.{blocks_of};
 ghost use Rattle.thy_isa.specs.Step.{state_of};
 ghost use Rattle.thy_view.specs.Action.{after, FailsTo};
 ghost use Rattle.thy_copy_model.specs.Bounds.{IsSized, IsIssue, IsBounded, IsStage, IsStart, IsBelow, IsConsistent};
@@ -14,8 +15,8 @@ use crate::engine::{issue, memory_place, next_issue, record_place};
 use crate::hart::execute;
 use crate::loading::start_block;
 use thy_base::{Block, EndCause, Geometry, Mark, Nvm, NvmError};
-use thy_isa::{CpuState, Status};
 use thy_copy_model::{Issue, Parts, Stage};
+use thy_isa::{CpuState, Status};
 use thy_record::{EngineStep, Start};
 use thy_view::{Did, Phase, View};
 

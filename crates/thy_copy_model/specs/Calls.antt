@@ -5,9 +5,9 @@ use Rattle.thy_base.specs.declared.config.Parameters.{Parameters}
 use Rattle.thy_base.specs.declared.mix.Pick.{Pick}
 use Rattle.thy_base.specs.Bytes.{bytes_of}
 use Rattle.thy_base.specs.Device.{Device}
-use Rattle.thy_base.specs.Geometry.{blocks_of}
+use Rattle.thy_copy_model.specs.Layout.{blocks_of}
 use Rattle.thy_isa.specs.Step.{state_of}
-use Rattle.thy_record.specs.Decode.{decode}
+use Rattle.thy_copy_model.specs.Decode.{decode}
 use Rattle.thy_view.specs.declared.did.Stepped.{Stepped}
 use Rattle.thy_copy_model.specs.declared.parts.Parts.{Parts}
 use Rattle.thy_copy_model.specs.declared.stage.Stage.{Stage}

@@ -12,7 +12,7 @@ use Rattle.thy_isa.specs.declared.state.CpuState.{CpuState}
 use Rattle.thy_isa.specs.Memory.{number_at}
 use Rattle.thy_isa.specs.Step.{state_with}
 use Rattle.byteorder.specs.Endian.{little_from, little_number}
-use Rattle.thy_record.specs.Decode.{flat, window, AllLong, block_written, memory_bytes, console_bytes, state_from}
+use Rattle.thy_record.specs.Flat.{flat, AllLong, block_written, memory_bytes, console_bytes, state_from}
 
 pub head_long : (b : Block) (bs : List Block) → AllLong (b ∷ bs) → length b.0 ≡ 64
 head_long b bs long = long.each 0 (omega arith)
@@ -152,15 +152,6 @@ AllLong-block_written blocks k j piece long l small = record {
         ap (λ (b : Block). length b.0) (get_or-set_other blocks k m new zero_block other)
         ∙ long.each m (omega (arith, length-set blocks k new))
   ];
-}
-
--- the blocks of a window are whole
-pub AllLong-window : (g : List Block) (x n : ℕ) → AllLong g → AllLong (window g x n)
-AllLong-window g x n long = record {
-  each = λ k below.
-      let within : k < n = omega (arith, length-take n (drop x g)) in
-      let inside : x + k < length g = omega (arith, length-take n (drop x g), length-drop x g) in
-      ap (λ (b : Block). length b.0) (get_or-take n (drop x g) k zero_block within ∙ get_or-drop x g k zero_block) ∙ long.each (x + k) inside;
 }
 
 -- blocks of zeros are whole

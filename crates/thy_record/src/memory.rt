@@ -2,7 +2,7 @@
 ghost use Rattle.std.specs.Prelude.{◌≡◌, ◌+◌, ◌/◌, ◌%◌, ◌<◌, ◌≤◌, length};
 ghost use Rattle.thy_base.specs.Bytes.{written};
 ghost use Rattle.thy_isa.specs.Memory.{number_at};
-ghost use Rattle.thy_record.specs.Decode.{flat, AllLong, block_written};
+ghost use Rattle.thy_record.specs.Flat.{flat, AllLong, block_written};
 
 use byteorder::{ByteOrder, LittleEndian};
 use thy_base::{BLOCK_SIZE, Block};
