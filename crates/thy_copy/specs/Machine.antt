@@ -1,17 +1,16 @@
 -- The machine as its calls leave it.
-use Rattle.std.specs.Prelude.{◌≡◌, ℕ, min, ◌*◌, ◌-◌, List, length, take, drop, Bool, true, false}
+use Rattle.std.specs.Prelude.{ℕ, min, ◌*◌, ◌-◌, List, length, take, drop, Bool, true, false}
 use Rattle.thy_base.specs.declared.config.Parameters.{Parameters}
 use Rattle.thy_base.specs.declared.mix.Pick.{Pick}
-use Rattle.thy_base.specs.Device.{Device, newest, HasFailed, RoseFaults}
+use Rattle.thy_base.specs.Device.{Device, newest}
 use Rattle.thy_base.specs.Geometry.{console_room}
-use Rattle.thy_isa.specs.declared.state.MachState.{MachState}
-use Rattle.thy_isa.specs.Step.{State, state_of, state_with}
+use Rattle.thy_isa.specs.Step.{State, state_with}
 use Rattle.thy_record.specs.Flat.{flat}
 use Rattle.thy_copy_model.specs.Decode.{decode}
 use Rattle.thy_record.specs.Words.{word_of}
 use Rattle.thy_copy_model.specs.Checkpoint.{record_place}
 use Rattle.thy_copy_model.specs.Moments.{cycle_doubt}
-use Rattle.thy_view.specs.Origin.{Origin, at}
+use Rattle.thy_view.specs.Origin.{Origin}
 use Rattle.thy_view.specs.Safe.{Safe}
 use Rattle.thy_copy_model.specs.Sound.{view_of}
 use Rattle.thy_copy_model.specs.declared.parts.Parts.{Parts}
@@ -19,9 +18,6 @@ use Rattle.thy_copy_model.specs.declared.stage.Stage.{Stage}
 use Rattle.thy_copy_model.specs.declared.stage.Stage.TheVariants.{Writing}
 use Rattle.thy_view.specs.declared.view.Phase.{Phase}
 use Rattle.thy_view.specs.declared.view.Phase.TheVariants.{Boot}
-use Rattle.thy_view.specs.declared.view.View.{View}
-use Rattle.thy_view.specs.declared.error.CoreError.{CoreError}
-use Rattle.thy_view.specs.declared.error.CoreError.TheVariants.{Nvm, Memory}
 
 -- how many blocks program memory has
 abbrev pub program_blocks_of : Parameters → ℕ

@@ -1,5 +1,5 @@
 -- After a power cut, and on a fresh device, a machine that powers on is sound.
-use Rattle.std.proofs.Common.{◌≡◌, ℕ, ◌+◌, ◌-◌, ◌%◌, ◌<◌, ◌≤◌, false, List, [], length, Option, Some, None, refl, sym, ◌∙◌, ap, subst, inl, inr, arith}
+use Rattle.std.proofs.Common.{◌≡◌, ℕ, ◌+◌, ◌-◌, ◌%◌, ◌≤◌, false, List, [], length, Option, Some, None, refl, sym, ◌∙◌, ap, subst, inl, inr, arith}
 use Rattle.std.specs.Prelude.{replicate}
 use Rattle.std.proofs.lemmas.List.{length-replicate}
 use Rattle.std.proofs.Common.{length-append}
@@ -8,7 +8,7 @@ use Rattle.thy_base.specs.declared.nvm.Shape.{Shape}
 use Rattle.thy_base.specs.Device.{Device, Crash, zero_block, block_at, cut_to, fitted}
 use Rattle.thy_copy_model.specs.Layout.{slot_of, blocks_of}
 use Rattle.thy_base.specs.Geometry.{memory_blocks}
-use Rattle.thy_isa.specs.Step.{State, steps}
+use Rattle.thy_isa.specs.Step.{State}
 use Rattle.thy_record.specs.Decoded.{Decoded, Nothing, Refused as RefusedImage, At}
 use Rattle.thy_copy_model.specs.Decode.{IsWhole, record_in, memory_in, decode}
 use Rattle.thy_copy_model.proofs.DecodeLemmas.{decode-nothing_back, decode-at_back}
@@ -21,7 +21,7 @@ use Rattle.thy_view.specs.Booting.{boot_view, view_of_image, found_first, first_
 use Rattle.thy_view.specs.Kind.{IsFittedFor}
 use Rattle.thy_copy_model.specs.Kind.{kind}
 use Rattle.thy_view.specs.Views.{mark}
-use Rattle.thy_view.specs.Origin.{Origin, at, setting_of, StartsFrom, IsOrigin}
+use Rattle.thy_view.specs.Origin.{Origin, at, StartsFrom, IsOrigin}
 use Rattle.thy_view.specs.Safe.{ceiling, IsOneOf, Safe}
 use Rattle.thy_copy_model.specs.Stored.{Stands, IsKept}
 use Rattle.thy_copy_model.specs.Sound.{SoundBoot, SoundIn, Sound, view_in, view_of}

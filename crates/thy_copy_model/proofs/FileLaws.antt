@@ -1,26 +1,22 @@
 -- A machine that has no checkpoint has a start that was made from a file.
-use Rattle.std.proofs.Common.{◌≡◌, ℕ, Option, Some, None, length, refl, sym, ◌∙◌, ap, subst}
+use Rattle.std.proofs.Common.{◌≡◌, Option, Some, None, length, sym, subst}
 use Rattle.thy_base.specs.declared.mark.Mark.{Mark}
 use Rattle.thy_base.specs.Device.{Device}
 use Rattle.thy_copy_model.specs.Layout.{blocks_of}
 use Rattle.thy_copy_model.specs.Decode.{decode}
 use Rattle.thy_view.specs.declared.view.Phase.{Phase}
 use Rattle.thy_view.specs.declared.view.Phase.TheVariants.{Boot, Run, Halt}
-use Rattle.thy_view.specs.declared.view.View.{View}
 use Rattle.thy_view.specs.Booting.{view_of_image}
 use Rattle.thy_view.specs.Origin.{Origin}
 use Rattle.thy_view.specs.Safe.{ceiling}
 use Rattle.thy_copy_model.specs.declared.parts.Parts.{Parts}
-use Rattle.thy_copy_model.specs.declared.stage.Issue.{Issue}
-use Rattle.thy_copy_model.specs.declared.stage.Issue.TheVariants.{Memory, Record as RecordIssue, Header as HeaderIssue, Settle, Commit, Finish}
 use Rattle.thy_copy_model.specs.declared.stage.Stage.{Stage}
 use Rattle.thy_copy_model.specs.declared.stage.Stage.TheVariants.{Unread, Header, Record, Restoring, Refused, Writing, Idle}
 use Rattle.thy_copy_model.specs.Stored.{IsKept}
-use Rattle.thy_copy_model.specs.Sound.{IsWritten, SoundBoot, SoundRun, SoundIn, Sound, view_in, view_of}
+use Rattle.thy_copy_model.specs.Sound.{SoundBoot, SoundRun, SoundIn, Sound, view_in, view_of}
 use Rattle.thy_copy_model.proofs.CutLaws.{FromFile}
 use Rattle.thy_copy_model.proofs.LoadLaws.{loading_file}
 use Rattle.thy_copy_model.proofs.SafeLaws.{decoded_of, decode-kept, IsKept-restoring, blocks_of_sound}
-use Rattle.thy_copy_model.proofs.CycleLaws.{run_sound}
 
 -- what is kept is what the image means
 kept_file : (o : Origin) (n : Device) (kept : Option Mark) → IsKept o n kept → length n.image ≡ blocks_of o.geometry

@@ -1,5 +1,5 @@
 -- The moments of a run: each cycle, each power cut and each fresh start leads from one to another.
-use Rattle.std.proofs.Common.{◌≡◌, ℕ, ◌+◌, ◌<◌, Bool, true, false, if◌then◌else◌, List, [], length, replicate, slice_set, Option, sym, ◌∙◌, ap, subst, arith, slice_index, inl, inr}
+use Rattle.std.proofs.Common.{◌≡◌, ℕ, ◌+◌, ◌<◌, Bool, true, false, if◌then◌else◌, List, length, replicate, slice_set, Option, sym, ◌∙◌, ap, subst, arith, slice_index, inl, inr}
 use Rattle.std.proofs.lemmas.Bool.{cases_lt}
 use Rattle.std.proofs.lemmas.List.{length-set, length-replicate, get_or-replicate, get_or_past}
 use Rattle.thy_base.specs.declared.block.Block.{Block}

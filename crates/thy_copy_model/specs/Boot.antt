@@ -10,11 +10,9 @@ use Rattle.thy_record.specs.declared.image.BadImage.{BadImage}
 use Rattle.thy_copy_model.specs.Header.{header_fault}
 use Rattle.thy_record.specs.Commit.{is_zero, epoch_of, commit_fault}
 use Rattle.thy_record.specs.Cpu.{cpu_of_record, record_fault}
-use Rattle.thy_record.specs.Decoded.{Decoded, Nothing, Refused as RefusedImage, At}
-use Rattle.thy_base.specs.declared.mark.Mark.{Mark}
 use Rattle.thy_view.specs.Booting.{loading_view}
 use Rattle.thy_view.specs.declared.view.Phase.{Phase}
-use Rattle.thy_view.specs.declared.view.Phase.TheVariants.{Boot, Run, Halt}
+use Rattle.thy_view.specs.declared.view.Phase.TheVariants.{Run, Halt}
 use Rattle.thy_view.specs.declared.view.View.{View}
 use Rattle.thy_copy_model.specs.declared.stage.Issue.TheVariants.{Memory}
 use Rattle.thy_copy_model.specs.declared.stage.Stage.{Stage}

@@ -1,30 +1,18 @@
 -- What the machine's calls come to at a moment of a run, in words that name none of its parts: views, marks, the
 -- plain machine, and what a power cut may leave. The layers above stand on these alone.
-use Rattle.std.specs.Prelude.{◌≡◌, ℕ, ◌+◌, ◌-◌, ◌^◌, Bool, true, false, ◌&&◌, not, is_none, [], length}
+use Rattle.std.specs.Prelude.{◌≡◌, ℕ, ◌+◌, ◌-◌, ◌^◌, Bool, true, false, length}
 use Rattle.thy_base.specs.declared.config.Parameters.{Parameters}
-use Rattle.thy_base.specs.declared.mix.Pick.{Pick}
-use Rattle.thy_base.specs.Bytes.{bytes_of}
 use Rattle.thy_base.specs.Device.{Device}
 use Rattle.thy_copy_model.specs.Layout.{blocks_of}
-use Rattle.thy_isa.specs.Step.{state_of}
-use Rattle.thy_copy_model.specs.Decode.{decode}
-use Rattle.thy_view.specs.declared.did.Stepped.{Stepped}
 use Rattle.thy_copy_model.specs.declared.parts.Parts.{Parts}
 use Rattle.thy_copy_model.specs.declared.stage.Stage.{Stage}
 use Rattle.thy_copy_model.specs.declared.stage.Stage.TheVariants.{Unread, Header, Record, Restoring, Refused, Writing, Idle}
 use Rattle.thy_record.specs.declared.start.Start.{Start}
-use Rattle.thy_view.specs.declared.view.Phase.{Phase}
-use Rattle.thy_view.specs.declared.view.Phase.TheVariants.{Boot, Run, Halt}
-use Rattle.thy_view.specs.declared.view.View.{View}
 use Rattle.thy_copy_model.specs.Bounds.{IsStart, IsBelow}
-use Rattle.thy_view.specs.CoreStep.{CoreStep}
 use Rattle.thy_copy_model.specs.Moments.{Moment, IsSmall}
 use Rattle.thy_view.specs.Kind.{IsDramOf}
 use Rattle.thy_view.specs.Origin.{Origin}
-use Rattle.thy_view.specs.Safe.{Safe}
 use Rattle.thy_copy_model.specs.Sound.{view_of}
-use Rattle.thy_view.specs.Views.{doubt_of}
-use Rattle.thy_view.specs.Turn.{Turn}
 
 -- the machine's inside, of which the layers above name nothing
 abbrev pub Core : Type 0

@@ -1,7 +1,7 @@
 -- The bytes of a list of blocks: a number within one block is read there, and written there.
 use Rattle.std.proofs.Common.{◌≡◌, ℕ, zero, suc, ◌+◌, ◌*◌, ◌/◌, ◌%◌, ◌<◌, ◌≤◌, List, [], ◌∷◌, ◌++◌, length, take, drop, replicate, slice_index, slice_set, get_or, refl, sym, ◌∙◌, ap, inl, inr, arith, append_assoc}
 use Rattle.std.proofs.lemmas.Bool.{cases_eq}
-use Rattle.std.proofs.lemmas.List.{get_or-replicate, length-replicate, get_or_default, take-append-drop, length-append, length-take, length-take-le, length-drop, length-set, get_or_append_left, get_or-append-add, get_or-take, get_or-drop, take-append-le, drop-append-le, take_at, drop_at, drop-drop, get_or-set_same, get_or-set_other}
+use Rattle.std.proofs.lemmas.List.{get_or-replicate, length-replicate, get_or_default, take-append-drop, length-append, length-take-le, length-drop, length-set, get_or_append_left, get_or-append-add, get_or-take, get_or-drop, take-append-le, drop-append-le, take_at, drop_at, drop-drop, get_or-set_same, get_or-set_other}
 use Rattle.std.proofs.Math.Seq.{take-add}
 use Rattle.thy_base.specs.declared.block.Block.{Block}
 use Rattle.thy_base.specs.declared.config.Parameters.{Parameters}
