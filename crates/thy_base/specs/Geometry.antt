@@ -1,4 +1,4 @@
--- The numbers of a configuration in range, and the places of the NVM that follow from them.
+-- The numbers of a configuration in range, and the sizes that follow from them.
 use Rattle.std.specs.Prelude.{◌≡◌, ℕ, ◌+◌, ◌-◌, ◌*◌, ◌%◌, ◌^◌, ◌<◌, ◌≤◌, Option, Some, None, Result, Ok, Err}
 use Rattle.thy_base.specs.declared.config.Config.{Config}
 use Rattle.thy_base.specs.declared.config.ConfigError.{ConfigError}
@@ -53,18 +53,6 @@ geometry_of c = geometry_or (fault_of c) (parameters_of c)
 -- how many blocks memory has
 abbrev pub memory_blocks : Parameters → ℕ
 memory_blocks p = 64 * p.pages
-
--- how many blocks a slot has: the processor's record of 5, then all of memory
-abbrev pub slot_blocks : Parameters → ℕ
-slot_blocks p = 5 + 64 * p.pages
-
--- the first block of a slot, behind the header (block 0) and the commit block (block 1)
-abbrev pub slot_of : Parameters → ℕ → ℕ
-slot_of p s = 2 + s * slot_blocks p
-
--- how many blocks the NVM has
-abbrev pub blocks_of : Parameters → ℕ
-blocks_of p = 2 + 2 * slot_blocks p
 
 -- how many bytes the program can address
 abbrev pub program_size : Parameters → ℕ

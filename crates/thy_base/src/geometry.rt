@@ -1,14 +1,14 @@
-//! A configuration in range, and the places that follow from it.
+//! A configuration in range, and the sizes that follow from it.
 ghost use Rattle.std.specs.Prelude.{◌≡◌, ◌↔◌, ◌+◌, ◌*◌, ◌-◌, ◌<◌, ◌≤◌};
 ghost use Rattle.thy_base.specs.Config.{HasListsInRange};
-ghost use Rattle.thy_base.specs.Geometry.{IsInRange, geometry_of, parameters_of, blocks_of, slot_of, memory_blocks, program_size, console_room, stack_top};
+ghost use Rattle.thy_base.specs.Geometry.{IsInRange, geometry_of, parameters_of, memory_blocks, program_size, console_room, stack_top};
 
 use crate::ranges::{first_fault, parameters};
 use crate::{Config, ConfigError, Parameters};
 use std::marker::Model;
 
-/// The numbers of a configuration whose every field is in range, and the places of the NVM that
-/// follow from them. Places count blocks of 64 bytes.
+/// The numbers of a configuration whose every field is in range, and the sizes that follow from
+/// them.
 #[derive(Clone, Copy, Debug)]
 pub struct Geometry {
     numbers: Parameters,
@@ -51,23 +51,6 @@ impl Geometry {
         ensures in_range { IsInRange self.now }
     {
         self.numbers
-    }
-
-    /// How many blocks the NVM has.
-    pub fn blocks(&self) -> u64
-        ensures blocks { result ≡ blocks_of self.now }
-        ensures in_range { IsInRange self.now }
-    {
-        2 + 2 * (5 + 64 * self.numbers.pages)
-    }
-
-    /// The first block of slot `s`, 0 or 1.
-    pub fn slot(&self, s: u64) -> u64
-        requires { s < 2 }
-        ensures place { result ≡ slot_of self.now s }
-        ensures in_range { IsInRange self.now }
-    {
-        2 + s * (5 + 64 * self.numbers.pages)
     }
 
     /// How many blocks memory has, the console's included.

@@ -1,4 +1,4 @@
-//! What every other crate stands on: blocks, bytes, the configuration and its places, the numbers
+//! What every other crate stands on: blocks, bytes, the configuration and its sizes, the numbers
 //! drawn for schedules, and the traits of the outside world.
 #![tactic(auto)]
 

@@ -9,10 +9,11 @@ use Rattle.thy_base.specs.declared.config.Parameters.{Parameters}
 use Rattle.thy_base.specs.declared.bytes.Bytes.{Bytes}
 use Rattle.thy_base.specs.Bytes.{bytes_of}
 use Rattle.thy_base.specs.Device.{Device, zero_block, block_at, newest}
-use Rattle.thy_base.specs.Geometry.{IsInRange, memory_blocks, program_size, console_room, slot_of}
+use Rattle.thy_base.specs.Geometry.{IsInRange, memory_blocks, program_size, console_room}
+use Rattle.thy_copy_model.specs.Layout.{slot_of}
 use Rattle.thy_isa.specs.Step.{State}
 use Rattle.thy_record.specs.Cpu.{record_word, cpu_of_record}
-use Rattle.thy_record.specs.Decode.{AllLong, flat, state_from}
+use Rattle.thy_record.specs.Flat.{AllLong, flat, state_from}
 use Rattle.thy_record.specs.Words.{word_of}
 use Rattle.thy_copy_model.specs.declared.parts.Parts.{Parts}
 use Rattle.thy_base.specs.declared.mark.Mark.{Mark}

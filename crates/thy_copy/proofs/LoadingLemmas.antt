@@ -1,7 +1,7 @@
 -- The machine loads where its view is that of a boot without a checkpoint, once it has read the commit block.
 use Rattle.std.proofs.Common.{◌≡◌, Bool, true, false, ◌&&◌, is_none, Some, refl, sym, ◌∙◌, ap, subst}
 use Rattle.thy_base.specs.Device.{Device}
-use Rattle.thy_record.specs.Decode.{decode}
+use Rattle.thy_copy_model.specs.Decode.{decode}
 use Rattle.thy_copy_model.specs.declared.parts.Parts.{Parts}
 use Rattle.thy_copy_model.specs.declared.stage.Stage.{Stage}
 use Rattle.thy_copy_model.specs.declared.stage.Stage.TheVariants.{Unread, Header, Record, Restoring, Refused, Writing, Idle}

@@ -4,18 +4,16 @@ ghost use Rattle.std.specs.Option.{option_or};
 ghost use Rattle.thy_base.specs.declared.block.Block.{Block as BlockValue};
 ghost use Rattle.thy_base.specs.Geometry.{memory_blocks};
 ghost use Rattle.thy_isa.specs.Step.{state_of, cpu_of};
-ghost use Rattle.thy_record.specs.Header.{header_fault};
+ghost use Rattle.thy_copy_model.specs.Header.{header_fault};
 ghost use Rattle.thy_view.specs.declared.view.Phase.TheVariants.{Boot as BootPhase};
 ghost use Rattle.thy_copy_model.specs.Bounds.{IsConsistent};
 ghost use Rattle.thy_view.specs.Booting.{boot_view, loading_view};
 ghost use Rattle.thy_copy_model.specs.Boot.{restored_view, phase_of, stage_unless, found_commit, found_header, found_record, found_last_record, found_memory};
 
 use thy_base::{Block, Mark};
-use thy_copy_model::{Issue, Parts, Stage};
+use thy_copy_model::{Issue, Parts, Stage, header_fault};
 use thy_isa::{CpuState, MachState, Status};
-use thy_record::{
-    BadImage, Start, commit_fault, cpu_state, header_fault, is_zero, record_fault, word,
-};
+use thy_record::{BadImage, Start, commit_fault, cpu_state, is_zero, record_fault, word};
 use thy_view::{Phase, View};
 
 /// Epochs and counts of the images of a run are below this.

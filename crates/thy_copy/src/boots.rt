@@ -1,7 +1,8 @@
 //! The boot's steps: one read, or one action of loading, at a time.
 ghost use Rattle.std.specs.Prelude.{◌≡◌, ◌<◌, ◌+◌, ◌^◌, false, length, Option, OnOk, OnErr, IfOk, Some, None};
 ghost use Rattle.thy_base.specs.Device.{IsFramed, CountsFault, newest};
-ghost use Rattle.thy_base.specs.Geometry.{memory_blocks, blocks_of};
+ghost use Rattle.thy_base.specs.Geometry.{memory_blocks};
+ghost use Rattle.thy_copy_model.specs.Layout.{blocks_of};
 ghost use Rattle.thy_isa.specs.Step.{state_of};
 ghost use Rattle.thy_view.specs.declared.view.Phase.TheVariants.{Boot as BootPhase};
 ghost use Rattle.thy_view.specs.Action.{after, FailsTo, ReadAt};

@@ -17,7 +17,7 @@ impl Computer for Machine {
     ghost lawful = { laws_of_parts };
 
     fn nvm_blocks(geometry: &Geometry) -> u64 {
-        geometry.blocks()
+        thy_copy_model::nvm_blocks(geometry)
     }
 
     fn power_on(alloc: Global, geometry: &Geometry, dram: Dram) -> Result<Machine, AllocError> {

@@ -7,15 +7,15 @@ ghost use Rattle.thy_copy_model.specs.Checkpoint.{record_place, memory_place, is
 ghost use Rattle.thy_copy_model.specs.Bounds.{IsSized, IsIssue};
 
 use thy_base::{Geometry, Nvm, NvmError};
-use thy_copy_model::{Issue, Parts};
-use thy_record::{commit_block, cpu_block, header_block};
+use thy_copy_model::{Issue, Parts, header_block, slot};
+use thy_record::{commit_block, cpu_block};
 
 /// Where block `k` of the record of an epoch stands.
 pub fn record_place(geometry: &Geometry, epoch: u64, k: u64) -> u64
     requires { k < 5 }
     ensures { result ≡ record_place geometry.now epoch k }
 {
-    geometry.slot(epoch % 2) + k
+    slot(geometry, epoch % 2) + k
 }
 
 /// Where block `i` of memory stands in the slot of an epoch.
@@ -23,7 +23,7 @@ pub fn memory_place(geometry: &Geometry, epoch: u64, i: u64) -> u64
     requires { i < memory_blocks geometry.now }
     ensures { result ≡ memory_place geometry.now epoch i }
 {
-    geometry.slot(epoch % 2) + 5 + i
+    slot(geometry, epoch % 2) + 5 + i
 }
 
 /// Issues the next thing of the checkpoint of an epoch.

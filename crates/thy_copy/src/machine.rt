@@ -2,10 +2,11 @@
 ghost use Rattle.std.specs.Prelude.{◌≡◌, ◌<◌, ◌≤◌, ◌+◌, ◌-◌, ◌^◌, ℕ, true, false, is_ok, not, ◌&&◌, length, replicate, OnOk, OnErr, IfOk, None, IsTrue, ◌↔◌};
 ghost use Rattle.thy_base.specs.Bytes.{bytes_of};
 ghost use Rattle.thy_base.specs.Device.{Device, IsFramed, CountsFault, zero_block};
-ghost use Rattle.thy_base.specs.Geometry.{blocks_of, memory_blocks};
+ghost use Rattle.thy_copy_model.specs.Layout.{blocks_of};
+ghost use Rattle.thy_base.specs.Geometry.{memory_blocks};
 ghost use Rattle.thy_dram.specs.Contents.{lost};
 ghost use Rattle.thy_isa.specs.Step.{state_of};
-ghost use Rattle.thy_record.specs.Decode.{decode};
+ghost use Rattle.thy_copy_model.specs.Decode.{decode};
 ghost use Rattle.thy_view.specs.declared.view.Phase.TheVariants.{Boot as BootPhase, Halt as HaltPhase};
 ghost use Rattle.thy_view.specs.Action.{after, FailsTo};
 ghost use Rattle.thy_view.specs.Booting.{boot_view};

@@ -2,7 +2,8 @@
 ghost use Rattle.std.specs.Prelude.{◌≡◌, ◌<◌, ◌≤◌, ◌+◌, ◌-◌, ◌^◌, false, length, Option, OnOk, OnErr, IfOk, IfSome, Some, None};
 ghost use Rattle.thy_base.specs.Bytes.{bytes_of};
 ghost use Rattle.thy_base.specs.Device.{IsFramed, CountsFault, newest};
-ghost use Rattle.thy_base.specs.Geometry.{memory_blocks, program_size, console_room, blocks_of};
+ghost use Rattle.thy_base.specs.Geometry.{memory_blocks, program_size, console_room};
+ghost use Rattle.thy_copy_model.specs.Layout.{blocks_of};
 ghost use Rattle.thy_isa.specs.Step.{state_of};
 ghost use Rattle.thy_view.specs.Action.{after, FailsTo};
 ghost use Rattle.thy_copy_model.specs.Bounds.{IsSized, IsIssue, IsBounded, IsStage, IsStart, IsBelow, IsConsistent};

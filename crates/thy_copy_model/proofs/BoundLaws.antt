@@ -16,7 +16,7 @@ use Rattle.thy_record.specs.declared.image.BadImage.{BadImage}
 use Rattle.thy_record.specs.declared.image.BadImage.TheVariants.{Commit as BadCommit}
 use Rattle.thy_record.specs.Commit.{is_zero, epoch_of, commit_fault}
 use Rattle.thy_record.specs.Cpu.{cpu_of_record, record_fault}
-use Rattle.thy_record.specs.Decode.{AllLong, state_from}
+use Rattle.thy_record.specs.Flat.{AllLong, state_from}
 use Rattle.thy_copy_model.specs.declared.parts.Parts.{Parts}
 use Rattle.thy_copy_model.specs.declared.stage.Issue.{Issue}
 use Rattle.thy_copy_model.specs.declared.stage.Issue.TheVariants.{Memory, Record as RecordIssue, Header as HeaderIssue, Settle, Commit, Finish}

@@ -3,14 +3,17 @@ use Rattle.std.proofs.Common.{◌≡◌, ◌≢◌, ◌⊎◌, ℕ, ◌+◌, ◌
 use Rattle.thy_base.specs.declared.block.Block.{Block}
 use Rattle.thy_base.specs.declared.config.Parameters.{Parameters}
 use Rattle.thy_base.specs.Device.{Device, IsFramed, HoldsNoMoreBut, block_at, newest, drained, settled, written_to}
-use Rattle.thy_base.specs.Geometry.{IsInRange, slot_of, slot_blocks, blocks_of, memory_blocks}
+use Rattle.thy_base.specs.Geometry.{IsInRange, memory_blocks}
+use Rattle.thy_copy_model.specs.Layout.{slot_of, slot_blocks, blocks_of}
 use Rattle.thy_base.proofs.DeviceLemmas.{newest-written_to, newest-drained, no_more-drained, no_more-settled, no_more_but-written_to}
-use Rattle.thy_record.specs.Header.{header_of, header_fault}
+use Rattle.thy_copy_model.specs.Header.{header_of, header_fault}
 use Rattle.thy_record.specs.Commit.{commit_of}
 use Rattle.thy_record.specs.Cpu.{cpu_block_of, record_of}
-use Rattle.thy_record.specs.Decode.{state_from, decode}
-use Rattle.thy_record.proofs.ReadBackLemmas.{header_fault-header_of, IsRecordOf-record_of}
-use Rattle.thy_record.proofs.DecodeLemmas.{written_whole}
+use Rattle.thy_record.specs.Flat.{state_from}
+use Rattle.thy_copy_model.specs.Decode.{decode}
+use Rattle.thy_copy_model.proofs.HeaderLemmas.{header_fault-header_of}
+use Rattle.thy_record.proofs.ReadBackLemmas.{IsRecordOf-record_of}
+use Rattle.thy_copy_model.proofs.DecodeLemmas.{written_whole}
 use Rattle.thy_copy_model.specs.declared.parts.Parts.{Parts}
 use Rattle.thy_copy_model.specs.declared.stage.Issue.{Issue}
 use Rattle.thy_copy_model.specs.declared.stage.Issue.TheVariants.{Memory, Record as RecordIssue, Header as HeaderIssue, Settle, Commit, Finish}

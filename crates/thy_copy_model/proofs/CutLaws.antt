@@ -6,11 +6,12 @@ use Rattle.std.proofs.Common.{length-append}
 use Rattle.thy_base.specs.declared.block.Block.{Block}
 use Rattle.thy_base.specs.declared.nvm.Shape.{Shape}
 use Rattle.thy_base.specs.Device.{Device, Crash, zero_block, block_at, cut_to, fitted}
-use Rattle.thy_base.specs.Geometry.{slot_of, blocks_of, memory_blocks}
+use Rattle.thy_copy_model.specs.Layout.{slot_of, blocks_of}
+use Rattle.thy_base.specs.Geometry.{memory_blocks}
 use Rattle.thy_isa.specs.Step.{State}
 use Rattle.thy_record.specs.Decoded.{Decoded, Nothing, Refused as RefusedImage, At}
-use Rattle.thy_record.specs.Decode.{IsWhole, record_in, memory_in, decode}
-use Rattle.thy_record.proofs.DecodeLemmas.{decode-nothing_back, decode-at_back}
+use Rattle.thy_copy_model.specs.Decode.{IsWhole, record_in, memory_in, decode}
+use Rattle.thy_copy_model.proofs.DecodeLemmas.{decode-nothing_back, decode-at_back}
 use Rattle.thy_copy_model.specs.Moments.{IsNew, booting_view, Finds}
 use Rattle.thy_copy_model.specs.declared.parts.Parts.{Parts}
 use Rattle.thy_copy_model.specs.declared.stage.Stage.TheVariants.{Unread}

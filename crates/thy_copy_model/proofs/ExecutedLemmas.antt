@@ -18,8 +18,8 @@ use Rattle.thy_isa.specs.Calls.{call_of}
 use Rattle.thy_isa.specs.Step.{State, step, served, finished}
 use Rattle.thy_isa.specs.Storable.{IsStatus, IsStorable}
 use Rattle.thy_isa.proofs.StepLaws.{finished-count}
-use Rattle.thy_record.specs.Cpu.{status_tag, status_value, is_status}
-use Rattle.thy_record.specs.Decode.{AllLong, state_from, IsRecordable}
+use Rattle.thy_record.specs.Cpu.{status_tag, status_value, is_status, IsRecordable}
+use Rattle.thy_record.specs.Flat.{AllLong, state_from}
 use Rattle.thy_copy_model.specs.declared.parts.Parts.{Parts}
 use Rattle.thy_copy_model.specs.declared.stage.Stage.TheVariants.{Idle}
 use Rattle.thy_view.specs.declared.view.Phase.TheVariants.{Run}

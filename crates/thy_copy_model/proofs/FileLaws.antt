@@ -2,8 +2,8 @@
 use Rattle.std.proofs.Common.{◌≡◌, Option, Some, None, length, sym, subst}
 use Rattle.thy_base.specs.declared.mark.Mark.{Mark}
 use Rattle.thy_base.specs.Device.{Device}
-use Rattle.thy_base.specs.Geometry.{blocks_of}
-use Rattle.thy_record.specs.Decode.{decode}
+use Rattle.thy_copy_model.specs.Layout.{blocks_of}
+use Rattle.thy_copy_model.specs.Decode.{decode}
 use Rattle.thy_view.specs.declared.view.Phase.{Phase}
 use Rattle.thy_view.specs.declared.view.Phase.TheVariants.{Boot, Run, Halt}
 use Rattle.thy_view.specs.Booting.{view_of_image}

@@ -5,9 +5,10 @@ use Rattle.thy_base.specs.declared.block.Block.{Block}
 use Rattle.thy_base.specs.declared.config.Parameters.{Parameters}
 use Rattle.thy_base.specs.declared.nvm.Write.{Write}
 use Rattle.thy_base.specs.Device.{Device, Crash, HoldsNoMore, HoldsNoMoreBut, zero_block, block_at, queued_for, applied, newest, settled}
-use Rattle.thy_base.specs.Geometry.{slot_of, slot_blocks, memory_blocks}
+use Rattle.thy_copy_model.specs.Layout.{slot_of, slot_blocks}
+use Rattle.thy_base.specs.Geometry.{memory_blocks}
 use Rattle.thy_base.proofs.DeviceLemmas.{same_as_only, block_at-applied, Contains-newest_over}
-use Rattle.thy_record.specs.Decode.{window}
+use Rattle.thy_copy_model.specs.Decode.{window}
 use Rattle.thy_base.specs.declared.mark.Mark.{Mark}
 use Rattle.thy_view.specs.Origin.{Origin}
 use Rattle.thy_copy_model.specs.Stored.{IsFixed, AreFixed, AreRead, Stands, Gives, IsKept}

@@ -13,7 +13,7 @@ use Rattle.thy_isa.specs.declared.state.Status.TheVariants.{Running}
 use Rattle.thy_isa.specs.Calls.{call_of}
 use Rattle.thy_isa.specs.Step.{State, Setting, cpu_of, state_with, call_state_of, read_by, written_by, served, finished, performed as plain_performed, advanced, is_running, step}
 use Rattle.thy_isa.proofs.StepLaws.{step-running}
-use Rattle.thy_record.specs.Decode.{AllLong, memory_bytes, console_bytes, state_from}
+use Rattle.thy_record.specs.Flat.{AllLong, memory_bytes, console_bytes, state_from}
 use Rattle.thy_record.proofs.FlatLemmas.{length-memory_bytes, length-console_bytes}
 use Rattle.thy_copy_model.specs.declared.parts.Parts.{Parts}
 use Rattle.thy_copy_model.specs.Bounds.{IsBounded}

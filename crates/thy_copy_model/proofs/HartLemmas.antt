@@ -19,7 +19,7 @@ use Rattle.thy_isa.specs.Effects.{size_of, word_effect}
 use Rattle.thy_isa.specs.Step.{State, fetch_fault, within, fetched, effect_at, read_by, written_by}
 use Rattle.thy_isa.proofs.AccessLaws.{effect_at-within, effect_at-aligned}
 use Rattle.thy_isa.proofs.MemoryBounds.{length-number_bytes}
-use Rattle.thy_record.specs.Decode.{AllLong, memory_bytes, console_bytes, state_from}
+use Rattle.thy_record.specs.Flat.{AllLong, memory_bytes, console_bytes, state_from}
 use Rattle.thy_record.proofs.FlatLemmas.{number_at-memory, written-memory, console-written, length-memory_bytes, AllLong-block_written}
 use Rattle.thy_copy_model.specs.Hart.{loaded, stored, effect_in, read_in, written_in}
 

@@ -4,7 +4,8 @@ use Rattle.std.proofs.lemmas.Bool.{cases_eq}
 use Rattle.thy_base.specs.declared.block.Block.{Block}
 use Rattle.thy_base.specs.declared.config.Parameters.{Parameters}
 use Rattle.thy_base.specs.Device.{Device, block_at, newest, drained, written_to}
-use Rattle.thy_base.specs.Geometry.{slot_of, slot_blocks, blocks_of, memory_blocks}
+use Rattle.thy_copy_model.specs.Layout.{slot_of, slot_blocks, blocks_of}
+use Rattle.thy_base.specs.Geometry.{memory_blocks}
 use Rattle.thy_base.proofs.DeviceLemmas.{newest-written_to, newest-written_to_other, newest-drained}
 use Rattle.thy_record.specs.Cpu.{cpu_block_of}
 use Rattle.thy_copy_model.specs.declared.parts.Parts.{Parts}

@@ -4,11 +4,11 @@ use Rattle.std.proofs.lemmas.List.{get_or-replicate}
 use Rattle.thy_base.specs.declared.config.Parameters.{Parameters}
 use Rattle.thy_base.specs.declared.nvm.Shape.{Shape}
 use Rattle.thy_base.specs.Device.{Device, zero_block, fitted}
-use Rattle.thy_base.specs.Geometry.{blocks_of}
+use Rattle.thy_copy_model.specs.Layout.{blocks_of}
 use Rattle.thy_record.specs.Commit.{is_zero}
 use Rattle.thy_record.specs.Decoded.{Nothing}
-use Rattle.thy_record.specs.Decode.{decode}
-use Rattle.thy_record.proofs.DecodeLemmas.{decode-nothing}
+use Rattle.thy_copy_model.specs.Decode.{decode}
+use Rattle.thy_copy_model.proofs.DecodeLemmas.{decode-nothing}
 use Rattle.thy_record.proofs.ReadBackLemmas.{is_zero-zero_block}
 use Rattle.thy_view.specs.declared.view.View.{View}
 use Rattle.thy_view.specs.Booting.{boot_view}

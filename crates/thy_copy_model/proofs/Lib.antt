@@ -1,3 +1,5 @@
+pub mod HeaderLemmas
+pub mod DecodeLemmas
 pub mod FixedLemmas
 pub mod SafeLaws
 pub mod IssueLemmas

@@ -4,14 +4,15 @@ use Rattle.std.proofs.lemmas.Bool.{cases_eq}
 use Rattle.std.proofs.lemmas.List.{length-set, get_or-set_same, get_or-set_other}
 use Rattle.thy_base.specs.declared.block.Block.{Block}
 use Rattle.thy_base.specs.Device.{Device, zero_block, block_at, settled, written_to}
-use Rattle.thy_base.specs.Geometry.{blocks_of, memory_blocks}
+use Rattle.thy_copy_model.specs.Layout.{blocks_of}
+use Rattle.thy_base.specs.Geometry.{memory_blocks}
 use Rattle.thy_base.proofs.DeviceLemmas.{length-settled, length-written_to}
 use Rattle.thy_isa.specs.declared.state.Status.TheVariants.{Running}
 use Rattle.thy_isa.specs.Step.{cpu_of}
-use Rattle.thy_record.specs.Header.{header_of}
+use Rattle.thy_copy_model.specs.Header.{header_of}
 use Rattle.thy_record.specs.Commit.{commit_of}
-use Rattle.thy_record.specs.Cpu.{cpu_block_of}
-use Rattle.thy_record.specs.Decode.{state_from, IsRecordable}
+use Rattle.thy_record.specs.Cpu.{cpu_block_of, IsRecordable}
+use Rattle.thy_record.specs.Flat.{state_from}
 use Rattle.thy_copy_model.specs.Moments.{Goes}
 use Rattle.thy_view.specs.declared.did.Did.TheVariants.{Boot as DidBoot, Loaded}
 use Rattle.thy_copy_model.specs.declared.parts.Parts.{Parts}

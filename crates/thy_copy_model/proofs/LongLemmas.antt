@@ -9,9 +9,9 @@ use Rattle.thy_base.specs.Device.{Device, Crash, HoldsNoMore, HoldsNoMoreBut, ze
 use Rattle.thy_base.specs.Geometry.{memory_blocks}
 use Rattle.thy_base.proofs.DeviceLemmas.{same_as_only, Contains-newest_over, no_more-drained, no_more-settled, no_more_but-written_to}
 use Rattle.thy_isa.specs.declared.state.CpuState.{CpuState}
-use Rattle.thy_record.specs.Header.{header_words}
+use Rattle.thy_copy_model.specs.Header.{header_words}
 use Rattle.thy_record.specs.Commit.{commit_words}
-use Rattle.thy_record.specs.Decode.{AllLong}
+use Rattle.thy_record.specs.Flat.{AllLong}
 use Rattle.thy_record.proofs.CpuLemmas.{length-cpu_block_of}
 use Rattle.thy_record.proofs.WordLemmas.{length-block_of}
 use Rattle.thy_copy_model.specs.declared.stage.Issue.{Issue}

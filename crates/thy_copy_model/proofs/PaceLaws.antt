@@ -16,7 +16,7 @@ use Rattle.thy_record.specs.declared.image.BadImage.{BadImage}
 use Rattle.thy_record.specs.Commit.{is_zero, epoch_of, commit_fault, commit_of}
 use Rattle.thy_record.specs.Cpu.{cpu_of_record, record_fault}
 use Rattle.thy_record.specs.Decoded.{Decoded, Nothing as NothingFound, Refused as RefusedImage, At}
-use Rattle.thy_record.specs.Decode.{decode}
+use Rattle.thy_copy_model.specs.Decode.{decode}
 use Rattle.thy_view.specs.declared.did.Did.{Did}
 use Rattle.thy_view.specs.declared.did.Did.TheVariants.{Boot as DidBoot, Refused as DidRefused, Retired, NvmDrained}
 use Rattle.thy_view.specs.declared.view.Phase.{Phase}

@@ -4,17 +4,19 @@ use Rattle.std.proofs.lemmas.List.{length-set}
 use Rattle.std.specs.Option.{option_or}
 use Rattle.thy_base.specs.declared.block.Block.{Block}
 use Rattle.thy_base.specs.Device.{Device, block_at, newest}
-use Rattle.thy_base.specs.Geometry.{slot_of, blocks_of, memory_blocks}
+use Rattle.thy_copy_model.specs.Layout.{slot_of, blocks_of}
+use Rattle.thy_base.specs.Geometry.{memory_blocks}
 use Rattle.thy_isa.specs.declared.state.CpuState.{CpuState}
 use Rattle.thy_isa.specs.declared.state.Status.{Status}
 use Rattle.thy_isa.specs.declared.state.Status.TheVariants.{Running, Exited, Trapped}
 use Rattle.thy_isa.specs.Step.{cpu_of, is_running}
 use Rattle.thy_record.specs.declared.image.BadImage.{BadImage}
-use Rattle.thy_record.specs.Header.{header_fault}
+use Rattle.thy_copy_model.specs.Header.{header_fault}
 use Rattle.thy_record.specs.Commit.{is_zero, epoch_of, commit_fault}
-use Rattle.thy_record.specs.Cpu.{cpu_of_record, record_fault}
+use Rattle.thy_record.specs.Cpu.{cpu_of_record, record_fault, IsRecordable}
 use Rattle.thy_record.specs.Decoded.{Decoded, Nothing, Refused as RefusedImage, At}
-use Rattle.thy_record.specs.Decode.{state_from, IsRecordable, decode}
+use Rattle.thy_record.specs.Flat.{state_from}
+use Rattle.thy_copy_model.specs.Decode.{decode}
 use Rattle.thy_copy_model.specs.Moments.{Goes}
 use Rattle.thy_view.specs.declared.did.Did.TheVariants.{Boot as DidBoot, Restarted}
 use Rattle.thy_copy_model.specs.declared.parts.Parts.{Parts}

@@ -5,13 +5,15 @@ use Rattle.thy_base.specs.declared.config.Parameters.{Parameters}
 use Rattle.thy_base.specs.declared.cause.EndCause.{EndCause}
 use Rattle.thy_base.specs.declared.cause.EndCause.TheVariants.{Length, Ended}
 use Rattle.thy_base.specs.Device.{Device}
-use Rattle.thy_base.specs.Geometry.{IsInRange, blocks_of, memory_blocks}
+use Rattle.thy_base.specs.Geometry.{IsInRange, memory_blocks}
+use Rattle.thy_copy_model.specs.Layout.{blocks_of}
 use Rattle.thy_base.proofs.DeviceLemmas.{length-settled, length-written_to, length-drained}
 use Rattle.thy_isa.specs.declared.state.CpuState.{CpuState}
 use Rattle.thy_isa.specs.declared.state.Status.{Status}
 use Rattle.thy_isa.specs.declared.state.Status.TheVariants.{Running, Exited, Trapped}
 use Rattle.thy_isa.specs.Step.{step, steps, is_running}
-use Rattle.thy_record.specs.Decode.{AllLong, state_from, IsRecordable}
+use Rattle.thy_record.specs.Flat.{AllLong, state_from}
+use Rattle.thy_record.specs.Cpu.{IsRecordable}
 use Rattle.thy_copy_model.specs.Moments.{Goes}
 use Rattle.thy_base.specs.declared.mark.Mark.{Mark}
 use Rattle.thy_view.specs.declared.did.Did.TheVariants.{Retired, Sealed, Engine, Committed}

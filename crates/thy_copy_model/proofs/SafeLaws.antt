@@ -3,12 +3,13 @@ use Rattle.std.proofs.Common.{◌≡◌, ◌⊎◌, ℕ, ◌+◌, ◌%◌, ◌<�
 use Rattle.thy_base.specs.declared.block.Block.{Block}
 use Rattle.thy_base.specs.declared.config.Parameters.{Parameters}
 use Rattle.thy_base.specs.Device.{Device, Crash, block_at, possible}
-use Rattle.thy_base.specs.Geometry.{slot_of, blocks_of, memory_blocks}
+use Rattle.thy_copy_model.specs.Layout.{slot_of, blocks_of}
+use Rattle.thy_base.specs.Geometry.{memory_blocks}
 use Rattle.thy_base.proofs.CrashLemmas.{Crash-image}
 use Rattle.thy_record.specs.Commit.{is_zero}
 use Rattle.thy_record.specs.Decoded.{Decoded, Nothing, At}
-use Rattle.thy_record.specs.Decode.{decode}
-use Rattle.thy_record.proofs.DecodeLemmas.{decode-whole, decode-nothing}
+use Rattle.thy_copy_model.specs.Decode.{decode}
+use Rattle.thy_copy_model.proofs.DecodeLemmas.{decode-whole, decode-nothing}
 use Rattle.thy_copy_model.specs.declared.parts.Parts.{Parts}
 use Rattle.thy_copy_model.specs.declared.stage.Issue.{Issue}
 use Rattle.thy_copy_model.specs.declared.stage.Issue.TheVariants.{Memory, Record as RecordIssue, Header as HeaderIssue, Settle, Commit, Finish}

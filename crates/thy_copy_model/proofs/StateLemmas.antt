@@ -11,8 +11,8 @@ use Rattle.thy_base.specs.Geometry.{memory_blocks, program_size, console_room}
 use Rattle.thy_isa.specs.declared.state.CpuState.{CpuState}
 use Rattle.thy_isa.specs.Step.{State, cpu_of, state_with, steps}
 use Rattle.thy_record.specs.declared.image.BadImage.TheVariants.{Commit, Status as BadStatus, ConsoleLength}
-use Rattle.thy_record.specs.Cpu.{status_tag, status_value, status_of, is_status, record_word, cpu_of_record, record_fault}
-use Rattle.thy_record.specs.Decode.{flat, state_from, IsRecordable}
+use Rattle.thy_record.specs.Cpu.{status_tag, status_value, status_of, is_status, record_word, cpu_of_record, record_fault, IsRecordable}
+use Rattle.thy_record.specs.Flat.{flat, state_from}
 use Rattle.thy_copy_model.specs.Boot.{start_bytes, block_from}
 use Rattle.thy_copy_model.specs.Bounds.{IsRanged}
 use Rattle.thy_view.specs.Origin.{Origin, setting_of, at, IsOrigin}

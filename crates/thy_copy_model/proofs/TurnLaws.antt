@@ -4,7 +4,7 @@ use Rattle.thy_base.specs.declared.cause.EndCause.{EndCause}
 use Rattle.thy_base.specs.declared.mix.Pick.{Pick}
 use Rattle.thy_base.specs.declared.mix.Pick.TheVariants.{Hart, Engine as EnginePick, NvmDrain, DramDrain}
 use Rattle.thy_base.specs.Device.{Device}
-use Rattle.thy_record.specs.Decode.{decode}
+use Rattle.thy_copy_model.specs.Decode.{decode}
 use Rattle.thy_view.specs.declared.did.Did.{Did}
 use Rattle.thy_view.specs.declared.did.Did.TheVariants.{Nothing, NvmDrained}
 use Rattle.thy_view.specs.declared.did.Stall.{Stall}

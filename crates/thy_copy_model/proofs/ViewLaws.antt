@@ -10,7 +10,7 @@ use Rattle.thy_isa.specs.Step.{cpu_of}
 use Rattle.thy_record.specs.declared.image.BadImage.{BadImage}
 use Rattle.thy_record.specs.Commit.{is_zero, epoch_of, commit_fault}
 use Rattle.thy_record.specs.Decoded.{Decoded, Nothing, Refused as RefusedImage, At}
-use Rattle.thy_record.specs.Decode.{decode}
+use Rattle.thy_copy_model.specs.Decode.{decode}
 use Rattle.thy_copy_model.specs.declared.parts.Parts.{Parts}
 use Rattle.thy_copy_model.specs.declared.stage.Issue.{Issue}
 use Rattle.thy_copy_model.specs.declared.stage.Issue.TheVariants.{Memory}

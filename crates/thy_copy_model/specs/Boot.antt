@@ -7,7 +7,7 @@ use Rattle.thy_base.specs.Geometry.{memory_blocks, console_room}
 use Rattle.thy_isa.specs.declared.state.CpuState.{CpuState}
 use Rattle.thy_isa.specs.Step.{State, cpu_of, is_running}
 use Rattle.thy_record.specs.declared.image.BadImage.{BadImage}
-use Rattle.thy_record.specs.Header.{header_fault}
+use Rattle.thy_copy_model.specs.Header.{header_fault}
 use Rattle.thy_record.specs.Commit.{is_zero, epoch_of, commit_fault}
 use Rattle.thy_record.specs.Cpu.{cpu_of_record, record_fault}
 use Rattle.thy_view.specs.Booting.{loading_view}

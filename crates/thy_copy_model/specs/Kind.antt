@@ -1,7 +1,7 @@
 -- The machine as the layers above see it.
 use Rattle.std.specs.Prelude.{false, Option, Some, None}
-use Rattle.thy_base.specs.Geometry.{blocks_of}
-use Rattle.thy_record.specs.Decode.{decode}
+use Rattle.thy_copy_model.specs.Layout.{blocks_of}
+use Rattle.thy_copy_model.specs.Decode.{decode}
 use Rattle.thy_view.specs.Kind.{KindOf}
 use Rattle.thy_view.specs.Turn.{Shortage, Pressure}
 use Rattle.thy_copy_model.specs.declared.parts.Parts.{Parts}

@@ -5,7 +5,7 @@ use Rattle.thy_base.specs.declared.block.Block.{Block}
 use Rattle.thy_base.specs.declared.mix.Pick.{Pick}
 use Rattle.thy_base.specs.declared.nvm.Shape.{Shape}
 use Rattle.thy_base.specs.Device.{Device, Crash, IsFramed, cut_to, fitted}
-use Rattle.thy_record.specs.Decode.{decode}
+use Rattle.thy_copy_model.specs.Decode.{decode}
 use Rattle.thy_view.specs.declared.did.Did.{Did}
 use Rattle.thy_view.specs.declared.view.View.{View}
 use Rattle.thy_copy_model.specs.declared.parts.Parts.{Parts}

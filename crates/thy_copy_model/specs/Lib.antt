@@ -1,3 +1,7 @@
+pub mod Layout
+pub mod Header
+pub mod Decode
+pub mod DecodeLaws
 pub mod Pace
 pub mod Calls
 pub mod Boot

@@ -3,13 +3,15 @@ use Rattle.std.specs.Prelude.{◌≡◌, ℕ, ◌+◌, ◌-◌, ◌%◌, ◌<◌
 use Rattle.thy_base.specs.declared.block.Block.{Block}
 use Rattle.thy_base.specs.declared.config.Parameters.{Parameters}
 use Rattle.thy_base.specs.Device.{Device, block_at, newest}
-use Rattle.thy_base.specs.Geometry.{slot_of, memory_blocks}
+use Rattle.thy_base.specs.Geometry.{memory_blocks}
+use Rattle.thy_copy_model.specs.Layout.{slot_of}
 use Rattle.thy_isa.specs.declared.state.Status.TheVariants.{Running}
 use Rattle.thy_isa.specs.Step.{cpu_of}
-use Rattle.thy_record.specs.Header.{header_fault}
+use Rattle.thy_copy_model.specs.Header.{header_fault}
 use Rattle.thy_record.specs.Commit.{commit_of, commit_fault}
-use Rattle.thy_record.specs.Cpu.{cpu_block_of, cpu_of_record}
-use Rattle.thy_record.specs.Decode.{state_from, IsRecordable, decode}
+use Rattle.thy_record.specs.Cpu.{cpu_block_of, cpu_of_record, IsRecordable}
+use Rattle.thy_record.specs.Flat.{state_from}
+use Rattle.thy_copy_model.specs.Decode.{decode}
 use Rattle.thy_copy_model.specs.declared.parts.Parts.{Parts}
 use Rattle.thy_copy_model.specs.declared.stage.Issue.{Issue}
 use Rattle.thy_copy_model.specs.declared.stage.Issue.TheVariants.{Memory, Record as RecordIssue, Header as HeaderIssue, Settle, Commit, Finish}

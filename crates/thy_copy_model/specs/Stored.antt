@@ -2,9 +2,9 @@
 use Rattle.std.specs.Prelude.{◌≡◌, ◌⊎◌, ℕ, ◌+◌, ◌%◌, ◌<◌, true, List, length, Contains, Option, Some, None}
 use Rattle.thy_base.specs.declared.block.Block.{Block}
 use Rattle.thy_base.specs.Device.{Device, block_at, possible, newest}
-use Rattle.thy_base.specs.Geometry.{slot_of}
+use Rattle.thy_copy_model.specs.Layout.{slot_of}
 use Rattle.thy_record.specs.Commit.{is_zero}
-use Rattle.thy_record.specs.Decode.{IsWhole}
+use Rattle.thy_copy_model.specs.Decode.{IsWhole}
 use Rattle.thy_base.specs.declared.mark.Mark.{Mark}
 use Rattle.thy_view.specs.Origin.{Origin, at}
 use Rattle.thy_view.specs.Safe.{ceiling}

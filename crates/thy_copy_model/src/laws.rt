@@ -1,5 +1,17 @@
-//! Laws of the machine, each the contract of a function that does nothing.
+//! Laws of the layout and of the machine, each the contract of a function that does nothing.
+ghost use Rattle.thy_copy_model.specs.DecodeLaws.{WrittenDecodes, DecodedIsWhole};
 ghost use Rattle.thy_copy_model.specs.Laws.{CycleLeads, CycleIsTurn, MomentIsSafe, FailureIsSafe, CutLeads, FailureLeads, FreshLeads, PowerIsNew, StepIsSmall, CutIsSmall, FailureIsSmall, MomentCanStep, FreshIsAt, CutIsAt, MomentIsSafeFor};
+
+/// What is written decodes to the epoch and the state that were written.
+pub fn written_decodes()
+    ensures { WrittenDecodes }
+{}
+
+/// An image that decodes to a state is whole: header, commit block and record have no fault, and its
+/// parts make that state.
+pub fn decoded_is_whole()
+    ensures { DecodedIsWhole }
+{}
 
 /// A cycle leads from a moment of a run to the next one, by a step of the view.
 pub fn a_cycle_leads_on()

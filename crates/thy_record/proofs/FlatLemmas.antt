@@ -1,7 +1,7 @@
 -- The bytes of a list of blocks: a number within one block is read there, and written there.
 use Rattle.std.proofs.Common.{◌≡◌, ℕ, zero, suc, ◌+◌, ◌*◌, ◌/◌, ◌%◌, ◌<◌, ◌≤◌, List, [], ◌∷◌, ◌++◌, length, take, drop, replicate, slice_index, slice_set, get_or, refl, sym, ◌∙◌, ap, inl, inr, arith, append_assoc}
 use Rattle.std.proofs.lemmas.Bool.{cases_eq}
-use Rattle.std.proofs.lemmas.List.{get_or-replicate, length-replicate, get_or_default, take-append-drop, length-append, length-take, length-take-le, length-drop, length-set, get_or_append_left, get_or-append-add, get_or-take, get_or-drop, take-append-le, drop-append-le, take_at, drop_at, drop-drop, get_or-set_same, get_or-set_other}
+use Rattle.std.proofs.lemmas.List.{get_or-replicate, length-replicate, get_or_default, take-append-drop, length-append, length-take-le, length-drop, length-set, get_or_append_left, get_or-append-add, take-append-le, drop-append-le, take_at, drop_at, drop-drop, get_or-set_same, get_or-set_other}
 use Rattle.std.proofs.Math.Seq.{take-add}
 use Rattle.thy_base.specs.declared.block.Block.{Block}
 use Rattle.thy_base.specs.declared.config.Parameters.{Parameters}
@@ -15,7 +15,7 @@ use Rattle.thy_base.specs.Geometry.{IsInRange, program_size, console_room, memor
 use Rattle.thy_isa.specs.declared.state.CpuState.{CpuState}
 use Rattle.thy_isa.specs.Step.{state_with}
 use Rattle.byteorder.specs.Endian.{little_number}
-use Rattle.thy_record.specs.Decode.{flat, window, AllLong, memory_bytes, console_bytes, state_from}
+use Rattle.thy_record.specs.Flat.{flat, AllLong, memory_bytes, console_bytes, state_from}
 
 pub head_long : (b : Block) (bs : List Block) → AllLong (b ∷ bs) → length b.0 ≡ 64
 head_long b bs long = long.each 0 (omega arith)
@@ -134,15 +134,6 @@ AllLong-block_written blocks k j piece long l small = record {
         ap (λ (b : Block). length b.0) (get_or-set_other blocks k m new zero_block other)
         ∙ long.each m (omega (arith, length-set blocks k new))
   ];
-}
-
--- the blocks of a window are whole
-pub AllLong-window : (g : List Block) (x n : ℕ) → AllLong g → AllLong (window g x n)
-AllLong-window g x n long = record {
-  each = λ k below.
-      let within : k < n = omega (arith, length-take n (drop x g)) in
-      let inside : x + k < length g = omega (arith, length-take n (drop x g), length-drop x g) in
-      ap (λ (b : Block). length b.0) (get_or-take n (drop x g) k zero_block within ∙ get_or-drop x g k zero_block) ∙ long.each (x + k) inside;
 }
 
 -- blocks of zeros are whole

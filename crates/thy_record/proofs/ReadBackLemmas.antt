@@ -6,53 +6,26 @@ use Rattle.thy_base.specs.declared.block.Block.{Block}
 use Rattle.thy_base.specs.declared.config.Parameters.{Parameters}
 use Rattle.thy_base.specs.Device.{zero_block, block_at}
 use Rattle.thy_base.specs.LittleEndian.{number_bytes}
-use Rattle.thy_base.specs.Geometry.{IsInRange, console_room}
+use Rattle.thy_base.specs.Geometry.{console_room}
 use Rattle.thy_isa.specs.declared.state.CpuState.{CpuState}
 use Rattle.thy_isa.specs.declared.state.Status.{Status}
 use Rattle.thy_isa.specs.declared.state.Status.TheVariants.{Running, Exited, Trapped}
 use Rattle.thy_record.specs.declared.image.BadImage.TheVariants.{Commit, Status as BadStatus, ConsoleLength}
 use Rattle.thy_record.specs.Words.{word_of, block_of}
-use Rattle.thy_record.specs.Header.{header_magic, header_words, header_of, is_of_geometry, header_fault}
 use Rattle.thy_record.specs.Commit.{commit_magic, commit_words, commit_of, is_zero, epoch_of, has_zero_rest, commit_fault}
-use Rattle.thy_record.specs.Cpu.{status_tag, status_value, status_of, is_status, cpu_words, cpu_block_of, record_word, record_words, record_of, IsRecordOf, cpu_of_record, record_fault}
-use Rattle.thy_record.specs.Decode.{IsRecordable}
+use Rattle.thy_record.specs.Cpu.{status_tag, status_value, status_of, is_status, cpu_words, cpu_block_of, record_word, record_words, record_of, IsRecordOf, cpu_of_record, record_fault, IsRecordable}
 use Rattle.thy_record.proofs.WordLemmas.{word_of-block_of}
 use Rattle.thy_record.proofs.CpuLemmas.{rest_words, cpu_words-reg, cpu_words-rest, block_words, length-block_words, record_words-at, length-record_words}
 
 -- a choice whose test holds
-taken : {X : Type 0} (t : Bool) (x y : X) → t ≡ true → (if t then x else y) ≡ x
+pub taken : {X : Type 0} (t : Bool) (x y : X) → t ≡ true → (if t then x else y) ≡ x
 taken t x y h = ap (λ b. if b then x else y) h
 
-both : (a b : Bool) → a ≡ true → b ≡ true → (a && b) ≡ true
+pub both : (a b : Bool) → a ≡ true → b ≡ true → (a && b) ≡ true
 both a b h k = ap (λ t. t && b) h ∙ k
 
-three : (a b c : Bool) → a ≡ true → b ≡ true → c ≡ true → (a && b && c) ≡ true
+pub three : (a b c : Bool) → a ≡ true → b ≡ true → c ≡ true → (a && b && c) ≡ true
 three a b c h k l = both (a && b) c (both a b h k) l
-
--- ---- the header
-
-header_word : (p : Parameters) (i w : ℕ) → i < 8 → slice_index (header_words p) i ≡ w → w < 2 ^ 64 → word_of (header_of p) i ≡ w
-header_word p i w l is fits = word_of-block_of (header_words p) i l (subst (λ x. x < 2 ^ 64) (sym is) fits) ∙ is
-
-is_of_geometry-header_of : (p : Parameters) → IsInRange p → is_of_geometry (header_of p) p ≡ true
-is_of_geometry-header_of p r =
-    both _ _
-    (three _ _ _
-    (eq-eqb _ _ (header_word p 2 p.base (omega arith) refl (omega arith)))
-    (eq-eqb _ _ (header_word p 3 p.pages (omega arith) refl (omega arith)))
-    (eq-eqb _ _ (header_word p 4 p.console (omega arith) refl (omega arith))))
-    (three _ _ _
-    (eq-eqb _ _ (header_word p 5 p.btt (omega arith) refl (omega arith)))
-    (eq-eqb _ _ (header_word p 6 p.ptt (omega arith) refl (omega arith)))
-    (eq-eqb _ _ (header_word p 7 0 (omega arith) refl (omega arith))))
-
--- a header that was written for a geometry has no fault under it
-pub header_fault-header_of : (p : Parameters) → IsInRange p → header_fault (header_of p) p ≡ None
-unfolding header_fault
-header_fault-header_of p r =
-    taken _ _ _ (eq-eqb _ _ (header_word p 0 header_magic (omega arith) refl (omega arith)))
-    ∙ taken _ _ _ (eq-eqb _ _ (header_word p 1 0 (omega arith) refl (omega arith)))
-    ∙ taken _ _ _ (is_of_geometry-header_of p r)
 
 -- ---- the commit block
 

@@ -1,5 +1,5 @@
 -- The record of the processor, the first five blocks of a slot.
-use Rattle.std.specs.Prelude.{◌≡◌, ℕ, zero, suc, ◌+◌, ◌*◌, ◌/◌, ◌%◌, ◌<◌, Bool, ◌&&◌, ◌==◌, nat_lt, nat_le, if◌then◌else◌, List, [], ◌∷◌, ◌++◌, take, drop, length, Option}
+use Rattle.std.specs.Prelude.{◌≡◌, ℕ, zero, suc, ◌+◌, ◌*◌, ◌/◌, ◌%◌, ◌^◌, ◌<◌, ◌≤◌, true, Bool, ◌&&◌, ◌==◌, nat_lt, nat_le, if◌then◌else◌, List, [], ◌∷◌, ◌++◌, take, drop, length, slice_index, Option}
 use Rattle.thy_base.specs.declared.block.Block.{Block}
 use Rattle.thy_base.specs.declared.config.Parameters.{Parameters}
 use Rattle.thy_base.specs.Demands.{asked, first_fault}
@@ -80,3 +80,16 @@ record_fault blocks epoch p ceiling =
     ∷ asked (is_status (record_word blocks 36) (record_word blocks 37) && nat_lt (record_word blocks 32) ceiling) BadStatus
     ∷ asked (nat_le (record_word blocks 34) (console_room p)) ConsoleLength
     ∷ [])
+
+-- a processor's state that a record can hold, with counts below the ceiling
+pub record IsRecordable (p : Parameters) (ceiling : ℕ) (cpu : CpuState) : Type 0 where
+  pub pc : cpu.pc < 2 ^ 64
+  pub regs_length : length cpu.regs ≡ 32
+  pub regs_zero : slice_index cpu.regs 0 ≡ 0
+  pub regs : (i : ℕ) → slice_index cpu.regs i < 2 ^ 64
+  pub console : cpu.console_len ≤ console_room p
+  pub cursor : cpu.cursor < 2 ^ 64
+  pub brk : cpu.brk < 2 ^ 64
+  pub floor : cpu.floor < 2 ^ 64
+  pub count : cpu.count < ceiling
+  pub status : is_status (status_tag cpu.status) (status_value cpu.status) ≡ true

@@ -3,7 +3,7 @@ ghost use Rattle.std.specs.Prelude.{◌≡◌, ◌+◌, ◌/◌, ◌%◌, ◌<�
 ghost use Rattle.thy_base.specs.Blocks.{block_written};
 ghost use Rattle.thy_base.specs.Bytes.{written};
 ghost use Rattle.thy_base.specs.LittleEndian.{number_at};
-ghost use Rattle.thy_record.specs.Decode.{flat, AllLong};
+ghost use Rattle.thy_record.specs.Flat.{flat, AllLong};
 
 use byteorder::{ByteOrder, LittleEndian};
 use thy_base::{BLOCK_SIZE, Block};

@@ -16,7 +16,7 @@ pub fn word(block: &Block, i: u64) -> u64
 
 /// The block of eight words.
 #[tactic(auto, unfolding(crate::specs::Words::block_of, thy_base::specs::LittleEndian::number_bytes))]
-pub(crate) fn block_with(words: &[u64; 8]) -> Block
+pub fn block_with(words: &[u64; 8]) -> Block
     ensures { result ≡ block_of words.now }
 {
     let mut bytes = [0; 64];

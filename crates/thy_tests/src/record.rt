@@ -6,10 +6,11 @@ use crate::geometry::geometry_of;
 use std::alloc::Global;
 use std::process::Abort;
 use thy_base::{Block, Geometry, Parameters};
+use thy_copy_model::{header_block, header_fault};
 use thy_isa::{CpuState, Reg, Regs, Status};
 use thy_record::{
-    BadImage, commit_block, commit_fault, cpu_block, cpu_state, header_block, header_fault,
-    is_zero, load, record_fault, store, word,
+    BadImage, commit_block, commit_fault, cpu_block, cpu_state, is_zero, load, record_fault, store,
+    word,
 };
 
 /// Numbers of a machine with 256 pages, one of them the console's.

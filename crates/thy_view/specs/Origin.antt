@@ -7,7 +7,7 @@ use Rattle.thy_base.specs.Geometry.{IsInRange, program_size, console_room}
 use Rattle.thy_isa.specs.declared.state.Status.TheVariants.{Running}
 use Rattle.thy_isa.specs.Step.{State, Setting, state_of, cpu_of, steps, is_running}
 use Rattle.thy_isa.specs.Storable.{IsStorable}
-use Rattle.thy_record.specs.Decode.{IsRecordable}
+use Rattle.thy_record.specs.Cpu.{IsRecordable}
 use Rattle.thy_record.specs.declared.start.Start.{Start}
 
 -- what a run is about

@@ -5,16 +5,19 @@ use Rattle.std.specs.Option.{option_or}
 use Rattle.thy_base.specs.declared.block.Block.{Block}
 use Rattle.thy_base.specs.declared.config.Parameters.{Parameters}
 use Rattle.thy_base.specs.Device.{zero_block, block_at}
-use Rattle.thy_base.specs.Geometry.{IsInRange, slot_of, blocks_of, console_room, memory_blocks}
+use Rattle.thy_base.specs.Geometry.{IsInRange, console_room, memory_blocks}
+use Rattle.thy_copy_model.specs.Layout.{slot_of, blocks_of}
 use Rattle.thy_isa.specs.declared.state.CpuState.{CpuState}
 use Rattle.thy_isa.specs.Step.{State}
 use Rattle.thy_record.specs.declared.image.BadImage.{BadImage}
-use Rattle.thy_record.specs.Header.{header_of, header_fault}
+use Rattle.thy_copy_model.specs.Header.{header_of, header_fault}
 use Rattle.thy_record.specs.Commit.{commit_of, is_zero, epoch_of, commit_fault}
-use Rattle.thy_record.specs.Cpu.{record_of, IsRecordOf, cpu_of_record, record_fault}
+use Rattle.thy_record.specs.Cpu.{record_of, IsRecordOf, cpu_of_record, record_fault, IsRecordable}
 use Rattle.thy_record.specs.Decoded.{Nothing, Refused, At}
-use Rattle.thy_record.specs.Decode.{window, state_from, record_in, memory_in, image_fault, refused_or_at, decode, IsWhole, IsRecordable}
-use Rattle.thy_record.proofs.ReadBackLemmas.{header_fault-header_of, epoch_of-commit_of, commit_fault-commit_of, is_zero-commit_of, cpu_of_record-back, record_fault-back, IsRecordOf-record_of}
+use Rattle.thy_copy_model.specs.Decode.{window, record_in, memory_in, image_fault, refused_or_at, decode, IsWhole}
+use Rattle.thy_record.specs.Flat.{state_from}
+use Rattle.thy_copy_model.proofs.HeaderLemmas.{header_fault-header_of}
+use Rattle.thy_record.proofs.ReadBackLemmas.{epoch_of-commit_of, commit_fault-commit_of, is_zero-commit_of, cpu_of_record-back, record_fault-back, IsRecordOf-record_of}
 
 -- ---- from whole parts to the decoding
 

@@ -3,14 +3,16 @@ use Rattle.std.specs.Prelude.{◌≡◌, ℕ, ◌^◌, ◌<◌, ◌≤◌, List,
 use Rattle.thy_base.specs.declared.block.Block.{Block}
 use Rattle.thy_base.specs.declared.config.Parameters.{Parameters}
 use Rattle.thy_base.specs.Device.{block_at}
-use Rattle.thy_base.specs.Geometry.{IsInRange, blocks_of}
+use Rattle.thy_base.specs.Geometry.{IsInRange}
+use Rattle.thy_copy_model.specs.Layout.{blocks_of}
 use Rattle.thy_isa.specs.declared.state.CpuState.{CpuState}
 use Rattle.thy_isa.specs.Step.{State}
-use Rattle.thy_record.specs.Header.{header_of}
+use Rattle.thy_copy_model.specs.Header.{header_of}
 use Rattle.thy_record.specs.Commit.{commit_of}
-use Rattle.thy_record.specs.Cpu.{IsRecordOf}
+use Rattle.thy_record.specs.Cpu.{IsRecordOf, IsRecordable}
 use Rattle.thy_record.specs.Decoded.{At}
-use Rattle.thy_record.specs.Decode.{state_from, record_in, memory_in, decode, IsWhole, IsRecordable}
+use Rattle.thy_record.specs.Flat.{state_from}
+use Rattle.thy_copy_model.specs.Decode.{record_in, memory_in, decode, IsWhole}
 
 -- an image with the header of its geometry, the commit block of an epoch, and a processor's record in that
 -- epoch's slot decodes to that epoch, that processor and the blocks of the slot

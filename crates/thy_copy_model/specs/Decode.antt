@@ -1,42 +1,22 @@
 -- What an image decodes to: nothing, a refusal, or the epoch of its checkpoint and a state.
-use Rattle.std.specs.Prelude.{◌≡◌, ℕ, ◌+◌, ◌%◌, ◌^◌, ◌<◌, ◌≤◌, true, false, if◌then◌else◌, List, take, drop, length, slice_index, Option, Some, None}
-use Rattle.std.specs.List.{flat_map}
+use Rattle.std.specs.Prelude.{◌≡◌, ℕ, ◌+◌, ◌%◌, false, if◌then◌else◌, List, take, drop, length, Option, Some, None}
 use Rattle.std.specs.Option.{option_or}
 use Rattle.thy_base.specs.declared.block.Block.{Block}
 use Rattle.thy_base.specs.declared.config.Parameters.{Parameters}
 use Rattle.thy_base.specs.Device.{block_at}
-use Rattle.thy_base.specs.Geometry.{slot_of, program_size, console_room, memory_blocks}
-use Rattle.thy_isa.specs.declared.state.CpuState.{CpuState}
-use Rattle.thy_isa.specs.Step.{State, state_with}
+use Rattle.thy_base.specs.Geometry.{memory_blocks}
+use Rattle.thy_isa.specs.Step.{State}
 use Rattle.thy_record.specs.declared.image.BadImage.{BadImage}
-use Rattle.thy_record.specs.Decoded.{Decoded, Nothing, Refused, At}
-use Rattle.thy_record.specs.Header.{header_fault}
 use Rattle.thy_record.specs.Commit.{is_zero, epoch_of, commit_fault}
-use Rattle.thy_record.specs.Cpu.{cpu_of_record, record_fault, is_status, status_tag, status_value}
-
--- the bytes of a list of blocks
-unfoldable pub flat : List Block → List ℕ
-flat blocks = flat_map (λ b. b.0) blocks
-
--- every block has 64 bytes
-pub record AllLong (blocks : List Block) : Type 0 where
-  pub each : (k : ℕ) → k < length blocks → length (block_at blocks k).0 ≡ 64
+use Rattle.thy_record.specs.Cpu.{cpu_of_record, record_fault}
+use Rattle.thy_record.specs.Decoded.{Decoded, Nothing, Refused, At}
+use Rattle.thy_record.specs.Flat.{state_from}
+use Rattle.thy_copy_model.specs.Header.{header_fault}
+use Rattle.thy_copy_model.specs.Layout.{slot_of}
 
 -- n blocks of an image from block x on
 abbrev pub window : List Block → ℕ → ℕ → List Block
 window g x n = take n (drop x g)
-
--- program memory
-abbrev pub memory_bytes : Parameters → List Block → List ℕ
-memory_bytes p blocks = take (program_size p) (flat blocks)
-
--- the first n bytes of the console's pages
-abbrev pub console_bytes : Parameters → List Block → ℕ → List ℕ
-console_bytes p blocks n = take n (drop (program_size p) (flat blocks))
-
--- the state that a processor and the blocks of memory make
-unfoldable pub state_from : Parameters → CpuState → List Block → State
-state_from p cpu blocks = state_with cpu (memory_bytes p blocks) (console_bytes p blocks cpu.console_len)
 
 -- the record and the memory in the slot of an epoch
 abbrev pub record_in : Parameters → List Block → ℕ → List Block
@@ -72,16 +52,3 @@ pub record IsWhole (p : Parameters) (ceiling : ℕ) (header commit : Block) (cpu
   pub cpu_length : length cpu ≡ 5
   pub memory_length : length memory ≡ memory_blocks p
   pub state_is : state_from p (cpu_of_record cpu) memory ≡ state
-
--- a processor's state that a record can hold, with counts below the ceiling
-pub record IsRecordable (p : Parameters) (ceiling : ℕ) (cpu : CpuState) : Type 0 where
-  pub pc : cpu.pc < 2 ^ 64
-  pub regs_length : length cpu.regs ≡ 32
-  pub regs_zero : slice_index cpu.regs 0 ≡ 0
-  pub regs : (i : ℕ) → slice_index cpu.regs i < 2 ^ 64
-  pub console : cpu.console_len ≤ console_room p
-  pub cursor : cpu.cursor < 2 ^ 64
-  pub brk : cpu.brk < 2 ^ 64
-  pub floor : cpu.floor < 2 ^ 64
-  pub count : cpu.count < ceiling
-  pub status : is_status (status_tag cpu.status) (status_value cpu.status) ≡ true
