@@ -17,7 +17,7 @@ use Rattle.thy_base.specs.declared.mark.Mark.{Mark}
 use Rattle.thy_view.specs.Origin.{Begins, Origin, StartsFrom, IsOrigin}
 use Rattle.thy_copy_model.specs.Calls.{IsAt, has_read}
 use Rattle.thy_copy_model.specs.Kind.{pressure_of, kind}
-use Rattle.thy_view.specs.Kind.{IsDramOf, IsStep}
+use Rattle.thy_view.specs.Kind.{CycleFailed, IsDramOf, IsStep}
 use Rattle.thy_copy.proofs.DidLemmas.{never_moved}
 use Rattle.thy_copy.proofs.GeometryLemmas.{cycle_keeps}
 use Rattle.thy_view.specs.Views.{halts}
@@ -28,6 +28,7 @@ use Rattle.thy_view.specs.Safe.{ceiling, Safe}
 use Rattle.thy_copy_model.specs.Sound.{view_of}
 use Rattle.thy_view.specs.Turn.{Turn, Pressure}
 use Rattle.thy_copy_model.proofs.CycleLaws.{Safe-failed_cycle, Safe-failed_sealed}
+use Rattle.thy_copy_model.proofs.FailureLaws.{CycleFailed-cycle}
 use Rattle.thy_copy_model.proofs.MomentLaws.{Leads-cycle}
 use Rattle.thy_copy_model.proofs.PaceLaws.{Progress, Progress-cycle}
 use Rattle.thy_copy_model.proofs.SafeLaws.{Safe-sound}
@@ -137,3 +138,10 @@ pub step_sealed : (o : Origin) (k : ℕ) (start : Start) (pick : Pick) (m : Part
 step_sealed o k start pick m n new begins at failed framed =
     let F : Action → Type 0 = λ a. FailsTo a n new in
     Safe-failed_sealed o m n at.moment.sound pick (length n.queue) new (subst F (same_action o (state_of start.state) pick (length n.queue) m begins.state) failed) framed
+
+-- and in the action of its turn
+pub step_failed : (o : Origin) (k : ℕ) (start : Start) (pick : Pick) (m : Parts) (n new : Device) → Begins o start → IsAt o k m n
+    → FailsTo (cycle_action (state_of start.state) pick (length n.queue) m) n new → CycleFailed kind o pick m n new
+step_failed o k start pick m n new begins at failed =
+    let F : Action → Type 0 = λ a. FailsTo a n new in
+    CycleFailed-cycle o m n new at.moment.sound at.spends pick (subst F (same_action o (state_of start.state) pick (length n.queue) m begins.state) failed)

@@ -27,3 +27,4 @@ pub mod KindLaws
 pub mod ViewLaws
 pub mod ReadLaws
 pub mod PaceLaws
+pub mod FailureLaws

@@ -494,6 +494,19 @@ module _ (o : Origin) (m next : Parts) (n new : Device) (did : Did) (s : Sound o
       → new ≡ after (cycle_action o.start pick (length n.queue) m) n → did ≡ cycle_did pick (length n.queue) m next → Progress o m next n new did
   Progress-cycle pick next_is new_is did_is = either_progress (is_drain pick (length n.queue)) (drains_some pick (length n.queue)) next_is new_is did_is
 
+-- ---- a cycle that fails
+
+-- what a cycle asks fits what it would have done
+pub Asks-cycle : (o : Origin) (m : Parts) (n : Device) → Sound o m n → Spends m.geometry m.view m.stage → (pick : Pick)
+    → Asks (cycle_did pick (length n.queue) m (cycle_next o.start (length o.input) n pick (length n.queue) m)) (cycle_action o.start pick (length n.queue) m)
+Asks-cycle o m n s h pick = by_drain (is_drain pick (length n.queue))
+  where
+    by_drain : (drains : Bool)
+        → Asks (if drains then NvmDrained else phase_did m.view.phase m (if drains then m else phase_next o.start (length o.input) n m.view.phase m))
+        (if drains then Drain else phase_action o.start m.view.phase m)
+    by_drain true = refl
+    by_drain false = (phase_paced o m n s m.view.phase refl h).asked
+
 -- ---- when power comes on
 
 -- nothing is spent

@@ -2,11 +2,11 @@
 use Rattle.std.specs.Prelude.{◌≡◌, ◌⊎◌, ℕ, false, List, ◌++◌}
 use Rattle.thy_base.specs.Counts.{Rose}
 use Rattle.thy_base.specs.Device.{Device, HasFailed, IsFramed}
-use Rattle.thy_view.specs.Kind.{KindOf}
+use Rattle.thy_base.specs.Mix.{mix_pick}
+use Rattle.thy_view.specs.Kind.{CycleFailed, KindOf}
 use Rattle.thy_text.specs.Happening.{Happening}
 use Rattle.thy_view.specs.Views.{is_halt}
 use Rattle.thy_view.specs.Origin.{Origin}
-use Rattle.thy_view.specs.Action.{ActionFailed}
 use Rattle.thy_view.specs.Safe.{Safe}
 use Rattle.thy_run.specs.Cuts.{has_ended}
 use Rattle.thy_run.specs.World.{World, Given, seen, Steps, Ran}
@@ -15,7 +15,7 @@ use Rattle.thy_run.specs.World.{World, Given, seen, Steps, Ran}
 pub record StepFailed {M : Type 0} (K : KindOf M) (o : Origin) (w : World M) (events : List Happening) (n : Device) : Type 0 where
   pub going : is_halt (seen K o w).phase ≡ false
   pub safe : Safe K.decode o (seen K o w).done (seen K o w).sealed n
-  pub acted : ActionFailed w.device n
+  pub acted : CycleFailed K o (mix_pick w.mix) w.machine w.device n
   pub framed : IsFramed w.device n
   pub rose : Rose w.device.faults n.faults
   pub nothing_told : events ≡ w.events

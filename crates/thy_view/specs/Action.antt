@@ -1,5 +1,5 @@
 -- What a cycle asks of the device, and what that leaves.
-use Rattle.std.specs.Prelude.{◌≡◌, ◌≢◌, ℕ, Bool, true, false}
+use Rattle.std.specs.Prelude.{◌≡◌, ◌≢◌, ℕ}
 use Rattle.thy_base.specs.declared.block.Block.{Block}
 use Rattle.thy_record.specs.declared.engine_step.EngineStep.{EngineStep}
 use Rattle.thy_record.specs.declared.engine_step.EngineStep.TheVariants.{Barrier as EngineBarrier, CommitWritten}
@@ -81,7 +81,8 @@ pub record Acts (did : Did) (n new : Device) : Type 0 where
   pub asked : Asks did action
   pub left : new ≡ after action n
 
--- a cycle failed in its action
-pub record ActionFailed (n new : Device) : Type 0 where
+-- a cycle that was to do this failed in its action
+pub record ActionFailed (did : Did) (n new : Device) : Type 0 where
   pub action : Action
+  pub asked : Asks did action
   pub failed : FailsTo action n new

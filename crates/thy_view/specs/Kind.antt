@@ -1,5 +1,5 @@
 -- What a machine is to the layers above: what is seen of it, what its calls promise, and the laws that hold of it.
-use Rattle.std.specs.Prelude.{◌≡◌, ℕ, ◌+◌, ◌*◌, ◌^◌, ◌<◌, ◌≤◌, Bool, true, false, List, [], length, Some}
+use Rattle.std.specs.Prelude.{◌≡◌, ℕ, ◌+◌, ◌*◌, ◌^◌, ◌<◌, ◌≤◌, Bool, true, false, List, [], length, Option, Some}
 use Rattle.thy_base.specs.declared.block.Block.{Block}
 use Rattle.thy_base.specs.declared.config.Parameters.{Parameters}
 use Rattle.thy_base.specs.declared.mix.Pick.{Pick}
@@ -14,6 +14,7 @@ use Rattle.thy_record.specs.Decoded.{Reading, Nothing}
 use Rattle.thy_record.specs.declared.start.Start.{Start}
 use Rattle.thy_view.specs.declared.did.Did.{Did}
 use Rattle.thy_view.specs.declared.did.Did.TheVariants.{Moved}
+use Rattle.thy_view.specs.declared.did.Stall.{Stall}
 use Rattle.thy_view.specs.declared.did.Stepped.{Stepped}
 use Rattle.thy_view.specs.declared.error.CoreError.{CoreError}
 use Rattle.thy_view.specs.declared.error.CoreError.TheVariants.{Nvm, Memory}
@@ -93,10 +94,18 @@ pub record IsStep {M : Type 0} (K : KindOf M) (o : Origin) (k : ℕ) (pick : Pic
   pub safe : Safe K.decode o (K.view o next new).done (doubt_of (K.view o next new)) new
   pub read : n.queue ≡ [] → K.has_read next ≡ true
 
--- a step that failed leaves what its action may leave: the committed checkpoint, whole, or the sealed one
-pub record LeavesSafe {M : Type 0} (K : KindOf M) (o : Origin) (m : M) (n new : Device) : Type 0 where
+-- a cycle failed in its action, which fits what the actor whose turn it was may do
+pub record CycleFailed {M : Type 0} (K : KindOf M) (o : Origin) (pick : Pick) (m : M) (n new : Device) : Type 0 where
+  -- what the cycle would have done, and the stall that it would have told
+  pub did : Did
+  pub stall : Option Stall
+  pub turn : Turn o pick (length n.queue) (K.view o m n) (K.pressure m) did stall
+  pub failed : ActionFailed did n new
+
+-- a step that failed leaves what the action of its turn may leave: the committed checkpoint, whole, or the sealed one
+pub record LeavesSafe {M : Type 0} (K : KindOf M) (o : Origin) (pick : Pick) (m : M) (n new : Device) : Type 0 where
   pub safe : Safe K.decode o (K.view o m n).done (K.view o m n).sealed new
-  pub acted : ActionFailed n new
+  pub acted : CycleFailed K o pick m n new
 
 -- a state is the plain machine's at a view's count
 pub record IsSnapshot (o : Origin) (v : View) (s : MachState) : Type 0 where

@@ -36,15 +36,10 @@ pub trait Computer: Drop {
     ///
     /// After an error the device may hold what the failed call left, and the machine is asked for nothing more but
     /// its DRAM.
-    fn step<N: Nvm>(
-        &mut self,
-        pick: Pick,
-        start: &Start,
-        nvm: &mut N,
-    ) -> Result<Stepped, NvmError>
+    fn step<N: Nvm>(&mut self, pick: Pick, start: &Start, nvm: &mut N) -> Result<Stepped, NvmError>
         requires { CanStep kind start.now self.old (N.device nvm.old) }
         ensures steps { (o : Origin) (k : ℕ) → Begins o start.now → kind.is_at o k self.old (N.device nvm.old) → k < 2 ^ 62 → IfOk result (λ r. IsStep kind o k pick self.old self.new (N.device nvm.old) (N.device nvm.new) r) }
-        ensures safe { (o : Origin) (k : ℕ) → Begins o start.now → kind.is_at o k self.old (N.device nvm.old) → OnErr result (LeavesSafe kind o self.old (N.device nvm.old) (N.device nvm.new)) }
+        ensures safe { (o : Origin) (k : ℕ) → Begins o start.now → kind.is_at o k self.old (N.device nvm.old) → OnErr result (LeavesSafe kind o pick self.old (N.device nvm.old) (N.device nvm.new)) }
         ensures frame { IsFramed (N.device nvm.old) (N.device nvm.new) }
         ensures cause { CountsFault result (N.device nvm.old).faults (N.device nvm.new).faults };
 

@@ -1,6 +1,6 @@
 use Rattle.std.proofs.Common.{subst, refl}
 use Rattle.thy_base.specs.declared.mix.Pick.{Pick}
-use Rattle.thy_view.specs.Kind.{IsStep}
+use Rattle.thy_view.specs.Kind.{IsStep, LeavesSafe}
 use Rattle.thy_run.specs.Going.{origin_of}
 use Rattle.thy_run.proofs.TellLemmas.{OnErr-any}
 use Rattle.thy_run.proofs.AdvanceLemmas.{progress_stepped, begins_of}
@@ -10,7 +10,9 @@ pub returns-in_err-stepped-clause-stuck : goal.returns-in_err-stepped-clause-stu
 returns-in_err-stepped-clause-stuck g c = λ k at_moment.
     OnErr-any c.from_residual.result _
     (record {
-      leaves = c.in_err-stepped.ensures.safe (origin_of c.args.plan.now) k (begins_of c.args.plan.now) at_moment;
+      leaves =
+          let P : Pick → Type 0 = λ pick. LeavesSafe g.M.Computer.kind (origin_of c.args.plan.now) pick c.args.progress.now.machine (g.N.Nvm.device c.args.nvm.now) (g.N.Nvm.device c.step.new.nvm) in
+          subst P c.next-pick.ensures.pick (c.in_err-stepped.ensures.safe (origin_of c.args.plan.now) k (begins_of c.args.plan.now) at_moment);
       framed = c.step.ensures.frame;
       rose = c.in_err-stepped.ensures.cause;
       same = progress_stepped c.args.progress.now c.step.new.self c.next-pick.new.self c.next-pick.ensures.after;
