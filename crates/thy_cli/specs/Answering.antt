@@ -3,7 +3,7 @@ use Rattle.std.specs.Prelude.{◌≡◌, ◌⊎◌, ℕ, ◌<◌, ◌≤◌, Boo
 use Rattle.std.specs.Fmt.{decimal}
 use Rattle.thy_base.specs.declared.outside.FetchError.{FetchError}
 use Rattle.thy_base.specs.declared.outside.FetchError.TheVariants.{Failed as FetchFailed, NotThere, TooLong, Memory as FetchMemory}
-use Rattle.thy_base.specs.declared.nvm.FitError.TheVariants.{Failed as FitFailed, Memory as FitMemory}
+use Rattle.thy_base.specs.declared.nvm.FitError.TheVariants.{Failed as FitFailed}
 use Rattle.thy_base.specs.declared.config.Config.{Config}
 use Rattle.thy_base.specs.Bytes.{bytes_of}
 use Rattle.thy_base.specs.Device.{Device, HasFailedToFit, fitted}
@@ -49,51 +49,10 @@ pub record Outside : Type 0 where
   pub report : Stream
 
 abbrev pub outside : Stock → Device → Stream → Stream → Outside
-outside shelf device terminal report = record { shelf = shelf; device = device; terminal = terminal; report = report }
+outside shelf device terminal report =
+    record { shelf = shelf; device = device; terminal = terminal; report = report }
 
--- ---- refusals, and what is reported of them
-
--- the number of a program header, where it is told, and the line's end
-abbrev pub index_parts : Option ℕ → List (List ℕ)
-index_parts None = line_feed ∷ []
-index_parts (Some k) = codes " " ∷ decimal k ∷ line_feed ∷ []
-
--- the line of a file that is refused
-abbrev pub file_line : ElfError → List ℕ
-file_line e =
-    joined (codes "file " ∷ decimal (number_of e) ∷ codes " " ∷ name_of e ∷ index_parts (index_of e))
-
--- the exit status of a refusal
-abbrev pub refused_status : Refusal → ℕ
-refused_status (Words (WordsMemory e)) = 9
-refused_status (Words e) = 2
-refused_status (Fetch name (FetchMemory e)) = 9
-refused_status (Fetch name e) = 3
-refused_status (File (ElfMemory e)) = 9
-refused_status (File e) = 4
-refused_status (DeviceRefusal FitFailed) = 7
-refused_status (DeviceRefusal (FitMemory e)) = 9
-refused_status (MemoryRefusal e) = 9
-
--- the closing line of a refusal
-abbrev pub refused_line : Refusal → List ℕ
-refused_line (Words Usage) = closing_of closing.Usage
-refused_line (Words (Word field)) = closing_of (closing.Word field)
-refused_line (Words (Value field value)) = closing_of (closing.Value field value)
-refused_line (Words (WordsMemory e)) = closing_of closing.Memory
-refused_line (Fetch name FetchFailed) = closing_of (closing.Fetch name fault.Failed)
-refused_line (Fetch name NotThere) = closing_of (closing.Fetch name fault.Missing)
-refused_line (Fetch name TooLong) = closing_of (closing.Fetch name fault.TooLong)
-refused_line (Fetch name (FetchMemory e)) = closing_of closing.Memory
-refused_line (File (ElfMemory e)) = closing_of closing.Memory
-refused_line (File e) = file_line e
-refused_line (DeviceRefusal FitFailed) = closing_of closing.Nvm
-refused_line (DeviceRefusal (FitMemory e)) = closing_of closing.Memory
-refused_line (MemoryRefusal e) = closing_of closing.Memory
-
--- a line was written, or the report failed in it
-abbrev pub Closes : List ℕ → Stream → Stream → Type 0
-Closes line old new = (failed : Bool) × Sent failed old new line
+-- ---- refusals: what is due when
 
 -- what is to be done with a file; no input is read yet
 pub record Task : Type 0 where
@@ -150,11 +109,46 @@ ProgramDue task old new (File e) = (bytes : List ℕ) × IsHeld old task.file by
 ProgramDue task old new (MemoryRefusal e) = Unit {0}
 ProgramDue task old new other = ⊥
 
--- why a task is not run: a program's device was not fitted; or there is no program, and the device was left alone
+-- why a task is not run: a program's device was not fitted, or there is no program, and the device is left alone
 abbrev pub TaskDue : Task → Outside → Outside → Refusal → Type 0
 TaskDue task before after (DeviceRefusal e) =
     IsProgramFile task before.shelf × HasFailedToFit e before.device after.device
 TaskDue task before after r = ProgramDue task before.shelf after.shelf r × (after.device ≡ before.device)
+
+-- ---- what is told of a refusal
+
+-- the number of a program header, where it is told, and the line's end
+abbrev pub index_parts : Option ℕ → List (List ℕ)
+index_parts None = line_feed ∷ []
+index_parts (Some k) = codes " " ∷ decimal k ∷ line_feed ∷ []
+
+-- the line of a file that is refused
+abbrev pub file_line : ElfError → List ℕ
+file_line e =
+    joined (codes "file " ∷ decimal (number_of e) ∷ codes " " ∷ name_of e ∷ index_parts (index_of e))
+
+-- What is told of a refusal: the exit status and the closing line. The others are want of memory.
+abbrev pub told_of : Refusal → ℕ × List ℕ
+told_of (Words Usage) = (2, closing_of closing.Usage)
+told_of (Words (Word field)) = (2, closing_of (closing.Word field))
+told_of (Words (Value field value)) = (2, closing_of (closing.Value field value))
+told_of (Fetch name FetchFailed) = (3, closing_of (closing.Fetch name fault.Failed))
+told_of (Fetch name NotThere) = (3, closing_of (closing.Fetch name fault.Missing))
+told_of (Fetch name TooLong) = (3, closing_of (closing.Fetch name fault.TooLong))
+told_of (File (ElfMemory e)) = (9, closing_of closing.Memory)
+told_of (File e) = (4, file_line e)
+told_of (DeviceRefusal FitFailed) = (7, closing_of closing.Nvm)
+told_of other = (9, closing_of closing.Memory)
+
+abbrev pub refused_status : Refusal → ℕ
+refused_status r = (told_of r).0
+
+abbrev pub refused_line : Refusal → List ℕ
+refused_line r = (told_of r).1
+
+-- a line was written, or the report failed in it
+abbrev pub Closes : List ℕ → Stream → Stream → Type 0
+Closes line old new = (failed : Bool) × Sent failed old new line
 
 -- a call that began no run: a line says why
 pub record IsRefused (r : Refusal) (before after : Outside) (a : Answer) : Type 0 where
@@ -284,10 +278,15 @@ abbrev pub OrderAnswered : {M : Type 0} → KindOf M → Order → Outside → O
 OrderAnswered K (run job) before after a = TaskAnswered K (task_of job) before after a
 OrderAnswered K (plain job) before after a = PlainAnswered (task_of job) before after a
 
--- What the answer to a call is: the words are refused, and the device is left alone; or they order something, and this
--- is answered. What stands on the shelf stays.
+-- the words are refused, and the device is left alone
+abbrev pub WordsRefused : List (List ℕ) → Outside → Outside → Answer → Type 0
+WordsRefused words before after a =
+    (e : WordsError) × WordsDue words e × (after.device ≡ before.device) × IsRefused (Words e) before after a
+
+-- What the answer to a call is: the words are refused, or they order something, and this is answered. What stands on the
+-- shelf stays.
 abbrev pub Answered : {M : Type 0} → KindOf M → List (List ℕ) → Outside → Outside → Answer → Type 0
 Answered K words before after a =
     (after.shelf.held ≡ before.shelf.held)
-    × (((e : WordsError) × WordsDue words e × (after.device ≡ before.device) × IsRefused (Words e) before after a)
+    × (WordsRefused words before after a
     ⊎ ((order : Order) × (settings_of words ≡ Ok order) × OrderAnswered K order before after a))

@@ -61,7 +61,8 @@ PlainCompletes words before after a =
     → TellsEnd (left_alone i k) a
 
 -- What is claimed of a call: what its answer is, and that this is complete.
-pub record Claim {M : Type 0} (K : KindOf M) (words : List (List ℕ)) (before after : Outside) (a : Answer) : Type 0 where
+pub record Claim {M : Type 0} (K : KindOf M) (words : List (List ℕ)) (before after : Outside) (a : Answer)
+    : Type 0 where
   pub answered : Answered K words before after a
   pub complete_run : RunCompletes K words before after a
   pub complete_plain : PlainCompletes words before after a

@@ -12,7 +12,7 @@ returns-in-Err-clause-answer g c =
     inl (
       c.in-Err.refusal,
       TaskDue-program _ before after c.in-Err.refusal c.in-Err.ensures.refusal refl,
-      record { status = c.refuse.ensures.status; events = c.refuse.ensures.events; cycles = c.refuse.ensures.cycles; shown_none = refl; closes = c.refuse.ensures.closes },
+      record { status = c.refuse.ensures.status; events = c.refuse.ensures.events; cycles = c.refuse.ensures.cycles; shown_none = refl {a = g.T.Sink.stream c.args.terminal.now}; closes = c.refuse.ensures.closes },
     )
 
 pub returns-in-Ok-fit-clause-answer : goal.returns-in-Ok-fit-clause-answer
@@ -44,5 +44,5 @@ returns-clause-answer g c =
     inl (
       DeviceRefusal c.in-Err-fit.error,
       (c.in-Ok.ensures.plan.file, c.in-Err-fit.ensures.err),
-      record { status = c.refuse-in-Err-fit.ensures.status; events = c.refuse-in-Err-fit.ensures.events; cycles = c.refuse-in-Err-fit.ensures.cycles; shown_none = refl; closes = c.refuse-in-Err-fit.ensures.closes },
+      record { status = c.refuse-in-Err-fit.ensures.status; events = c.refuse-in-Err-fit.ensures.events; cycles = c.refuse-in-Err-fit.ensures.cycles; shown_none = refl {a = g.T.Sink.stream c.args.terminal.now}; closes = c.refuse-in-Err-fit.ensures.closes },
     )
