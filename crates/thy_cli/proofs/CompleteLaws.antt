@@ -37,8 +37,8 @@ use Rattle.thy_run.specs.declared.ending.Stop.TheVariants.{Ended, Nvm, Memory, T
 use Rattle.thy_cli.specs.declared.answer.Answer.{Answer}
 use Rattle.thy_cli.specs.declared.refusal.Refusal.{Refusal}
 use Rattle.thy_cli.specs.declared.refusal.Refusal.TheVariants.{Words, Fetch, File, Device as DeviceRefusal, Memory as MemoryRefusal}
-use Rattle.thy_cli.specs.Answering.{Task, task_of, most_bytes, meaning_of, IsHeld, FetchDue, FileDue, WordsDue, TaskDue, OrderDue, RefusalDue, refused_status, ClosesRun, IsRunOf, IsPlainOf, plain_stop, plain_state, end_lines, stop_status, Answered}
-use Rattle.thy_cli.specs.Completing.{IsAsked, Stayed, IsCalm, TellsEnd, RunCompletes, PlainCompletes}
+use Rattle.thy_cli.specs.Answering.{Outside, Task, task_of, most_bytes, meaning_of, IsHeld, FetchDue, WordsDue, ProgramDue, TaskDue, refused_status, ClosesRun, IsRunOf, IsPlainOf, plain_stop, plain_state, end_lines, stop_status, TaskAnswered, PlainAnswered, OrderAnswered, Answered}
+use Rattle.thy_cli.specs.Completing.{IsAsked, Stayed, IsCalm, left_alone, TellsEnd, RunCompletes, PlainCompletes, Claim}
 
 -- ---- counts of faults
 
@@ -128,22 +128,22 @@ means_none task stock e s (bytes, held, means) =
     let known : meaning_of task s.bytes ≡ Ok s.contents = s.means in
     absurd (cc)
 
-file_due : (task : Task) (stock : Stock) (e : ElfError) → Stands task stock → FileDue task stock e → refused_status (File e) ≡ 9
-file_due task stock (ElfMemory e) s due = refl
-file_due task stock e s due = means_none task stock e s due
-
 device_due : (e : FitError) (n m : Device) → Stayed n.faults m.faults → HasFailedToFit e n m → refused_status (DeviceRefusal e) ≡ 9
 device_due FitFailed n m calm due = not_risen n.faults m.faults calm due.2
 device_due (FitMemory e) n m calm due = refl
 
 -- only for want of memory
-task_due : (task : Task) (old new : Stock) (n m : Device) (r : Refusal) → Stands task old → Stayed old.faults new.faults → Stayed n.faults m.faults
-    → TaskDue task old new n m r → refused_status r ≡ 9
-task_due task old new n m (Words e) s shelf device due = absurd due
-task_due task old new n m (Fetch name e) s shelf device due = fetch_due task old new name e s shelf due.1
-task_due task old new n m (File e) s shelf device due = file_due task old e s due.0
-task_due task old new n m (DeviceRefusal e) s shelf device due = device_due e n m device due.1
-task_due task old new n m (MemoryRefusal e) s shelf device due = refl
+program_due : (task : Task) (old new : Stock) (r : Refusal) → Stands task old → Stayed old.faults new.faults → ProgramDue task old new r → refused_status r ≡ 9
+program_due task old new (Words e) s shelf due = absurd due
+program_due task old new (Fetch name e) s shelf due = fetch_due task old new name e s shelf due.1
+program_due task old new (File (ElfMemory e)) s shelf due = refl
+program_due task old new (File e) s shelf due = means_none task old e s due
+program_due task old new (DeviceRefusal e) s shelf due = absurd due
+program_due task old new (MemoryRefusal e) s shelf due = refl
+
+task_due : (task : Task) (before after : Outside) (r : Refusal) → Stands task before.shelf → IsCalm before after → TaskDue task before after r → refused_status r ≡ 9
+task_due task before after (DeviceRefusal e) s calm due = device_due e before.device after.device calm.device due.1
+task_due task before after r s calm due = program_due task before.shelf after.shelf r s calm.shelf due.0
 
 words_due : (words : List (List ℕ)) (order : Order) (e : WordsError) → settings_of words ≡ Ok order → WordsDue words e → refused_status (Words e) ≡ 9
 words_due words order Usage is due = absurd (cc)
@@ -154,39 +154,15 @@ words_due words order (WordsMemory e) is due = refl
 order_same : (words : List (List ℕ)) (a b : Order) → settings_of words ≡ Ok a → settings_of words ≡ Ok b → b ≡ a
 order_same words a b e f = cc
 
--- of a run
-run_due : (words : List (List ℕ)) (job : Job) (old new : Stock) (n m : Device) (r : Refusal) → settings_of words ≡ Ok (run job) → Stands (task_of job) old
-    → Stayed old.faults new.faults → Stayed n.faults m.faults → RefusalDue words old new n m r → refused_status r ≡ 9
-run_due words job old new n m (Words e) is s shelf device due = words_due words (run job) e is due.0
-run_due words job old new n m (Fetch name e) is s shelf device (order, asked, due) =
-    task_due (task_of job) old new n m (Fetch name e) s shelf device (subst (λ o. OrderDue o old new n m (Fetch name e)) (order_same words (run job) order is asked) due)
-run_due words job old new n m (File e) is s shelf device (order, asked, due) =
-    task_due (task_of job) old new n m (File e) s shelf device (subst (λ o. OrderDue o old new n m (File e)) (order_same words (run job) order is asked) due)
-run_due words job old new n m (DeviceRefusal e) is s shelf device (order, asked, due) =
-    task_due (task_of job) old new n m (DeviceRefusal e) s shelf device (subst (λ o. OrderDue o old new n m (DeviceRefusal e)) (order_same words (run job) order is asked) due)
-run_due words job old new n m (MemoryRefusal e) is s shelf device (order, asked, due) = refl
-
--- of the plain machine, which leaves the device alone
-plain_due : (words : List (List ℕ)) (job : Job) (old new : Stock) (n m : Device) (r : Refusal) → settings_of words ≡ Ok (plain job) → Stands (task_of job) old
-    → Stayed old.faults new.faults → Stayed n.faults n.faults → RefusalDue words old new n m r → refused_status r ≡ 9
-plain_due words job old new n m (Words e) is s shelf device due = words_due words (plain job) e is due.0
-plain_due words job old new n m (Fetch name e) is s shelf device (order, asked, due) =
-    task_due (task_of job) old new n n (Fetch name e) s shelf device ((subst (λ o. OrderDue o old new n m (Fetch name e)) (order_same words (plain job) order is asked) due).0 n)
-plain_due words job old new n m (File e) is s shelf device (order, asked, due) =
-    task_due (task_of job) old new n n (File e) s shelf device ((subst (λ o. OrderDue o old new n m (File e)) (order_same words (plain job) order is asked) due).0 n)
-plain_due words job old new n m (DeviceRefusal e) is s shelf device (order, asked, due) =
-    task_due (task_of job) old new n n (DeviceRefusal e) s shelf device ((subst (λ o. OrderDue o old new n m (DeviceRefusal e)) (order_same words (plain job) order is asked) due).0 n)
-plain_due words job old new n m (MemoryRefusal e) is s shelf device (order, asked, due) = refl
-
 -- ---- runs
 
 at_is : (o : Origin) (k : ℕ) → at o k ≡ steps (setting_of o) (k - o.start.count) o.start
 unfolding at
 at_is o k = refl
 
-module _ {M : Type 0} (K : KindOf M) (job : Job) (k : ℕ) (old new : Stock) (n m : Device) (a : Answer) (t0 t r0 r : Stream) (s : Stands (task_of job) old)
-    (calm : IsCalm old new n m t0 t r0 r) (over : is_running (plain_state (task_of job) s.contents k).status ≡ false)
-    (limit : cycles_for K (parameters_of job.config) job.config.cuts k ≤ job.config.limit) (h : IsRunOf K (task_of job) old new n m a t0 t r0 r) where
+module _ {M : Type 0} (K : KindOf M) (job : Job) (k : ℕ) (before after : Outside) (a : Answer) (s : Stands (task_of job) before.shelf)
+    (calm : IsCalm before after) (over : is_running (plain_state (task_of job) s.contents k).status ≡ false)
+    (limit : cycles_for K (parameters_of job.config) job.config.cuts k ≤ job.config.limit) (h : IsRunOf K (task_of job) before after a) where
   abbrev o : Origin
   o = origin_of h.plan
 
@@ -202,7 +178,7 @@ module _ {M : Type 0} (K : KindOf M) (job : Job) (k : ℕ) (old new : Stock) (n 
   -- the machine's program is the file's
   same_program : h.is_plan.file.contents ≡ s.contents
   same_program =
-      let bytes : h.is_plan.file.bytes ≡ s.bytes = held_same (task_of job) old s h.is_plan.file.bytes h.is_plan.file.held in
+      let bytes : h.is_plan.file.bytes ≡ s.bytes = held_same (task_of job) before.shelf s h.is_plan.file.bytes h.is_plan.file.held in
       let read : meaning_of (task_of job) s.bytes ≡ Ok h.is_plan.file.contents = ap (meaning_of (task_of job)) (sym bytes) ∙ h.is_plan.file.means in
       let known : meaning_of (task_of job) s.bytes ≡ Ok s.contents = s.means in
       cc
@@ -221,8 +197,8 @@ module _ {M : Type 0} (K : KindOf M) (job : Job) (k : ℕ) (old new : Stock) (n 
       let most : cycles_for K o.geometry job.config.cuts k ≡ cycles_for K numbers job.config.cuts k = ap (λ p. cycles_for K p job.config.cuts k) h.is_plan.geometry in
       omega (arith, soon, most, limit)
 
-  fits : (stop : Stop) → h.ending.stop ≡ stop → StopFits h.plan h.device m h.ending stop
-  fits stop is = subst (StopFits h.plan h.device m h.ending) is h.ends.stop_fits
+  fits : (stop : Stop) → h.ending.stop ≡ stop → StopFits h.plan h.device after.device h.ending stop
+  fits stop is = subst (StopFits h.plan h.device after.device h.ending) is h.ends.stop_fits
 
   -- at an end the status is the program's
   told_end : (status : Status) → end_of h.ending.events ≡ Some status → status ≡ (steps g k first).status
@@ -235,14 +211,14 @@ module _ {M : Type 0} (K : KindOf M) (job : Job) (k : ℕ) (old new : Stock) (n 
   by_stop : (stop : Stop) → h.ending.stop ≡ stop → TellsEnd (plain_state (task_of job) s.contents k) a
   by_stop (Ended status) is = inl (h.status ∙ ap stop_status is ∙ ap (λ x. stop_status (Ended x)) (told_end status (fits (Ended status) is).0))
   by_stop Memory is = inr (h.status ∙ ap stop_status is)
-  by_stop Terminal is = not_failed (is_memory h.ending.stop) h.ending.mute _ _ t0 t calm.screen h.ends.shown_all (fits Terminal is).0
+  by_stop Terminal is = not_failed (is_memory h.ending.stop) h.ending.mute _ _ before.terminal after.terminal calm.terminal h.ends.shown_all (fits Terminal is).0
   by_stop Report is =
       let deaf : h.ending.deaf ≡ true = (fits Report is).0 in
-      let closed : r ≡ h.told = subst (λ b. ClosesRun b h.ending.stop h.plan.geometry.limit h.told r) deaf h.closes in
-      not_failed false h.ending.deaf _ _ r0 h.told (subst (λ (x : Stream). Stayed r0.faults x.faults) closed calm.paper) h.ends.read_all deaf
+      let closed : after.report ≡ h.told = subst (λ b. ClosesRun b h.ending.stop h.plan.geometry.limit h.told after.report) deaf h.closes in
+      not_failed false h.ending.deaf _ _ before.report h.told (subst (λ (x : Stream). Stayed before.report.faults x.faults) closed calm.report) h.ends.read_all deaf
   by_stop Nvm is =
-      let faults : h.device.faults ≡ n.faults = ap (λ (d : Device). d.faults) h.from_entry in
-      not_risen n.faults m.faults calm.device (subst (λ f. Rose f m.faults) faults (fits Nvm is).0)
+      let faults : h.device.faults ≡ before.device.faults = ap (λ (d : Device). d.faults) h.from_entry in
+      not_risen before.device.faults after.device.faults calm.device (subst (λ f. Rose f after.device.faults) faults (fits Nvm is).0)
   by_stop Limit is =
       let most : h.plan.geometry.limit ≡ job.config.limit = ap (λ (p : Parameters). p.limit) h.is_plan.geometry in
       let reached : h.ending.cycles ≡ h.plan.geometry.limit = (fits Limit is).0 in
@@ -250,9 +226,9 @@ module _ {M : Type 0} (K : KindOf M) (job : Job) (k : ℕ) (old new : Stock) (n 
 
 -- ---- the plain machine
 
-module _ (job : Job) (k : ℕ) (old new : Stock) (n m : Device) (a : Answer) (t0 t r0 r : Stream) (s : Stands (task_of job) old)
-    (calm : IsCalm old new n m t0 t r0 r) (over : is_running (plain_state (task_of job) s.contents k).status ≡ false) (limit : k ≤ job.config.limit)
-    (h : IsPlainOf (task_of job) old new a t0 t r0 r) where
+module _ (job : Job) (k : ℕ) (before after : Outside) (a : Answer) (s : Stands (task_of job) before.shelf)
+    (calm : IsCalm before after) (over : is_running (plain_state (task_of job) s.contents k).status ≡ false) (limit : k ≤ job.config.limit)
+    (h : IsPlainOf (task_of job) before after a) where
   abbrev plain_setting : Setting
   plain_setting = setting_for (parameters_of job.config) []
 
@@ -261,7 +237,7 @@ module _ (job : Job) (k : ℕ) (old new : Stock) (n m : Device) (a : Answer) (t0
 
   plain_program : h.file.contents ≡ s.contents
   plain_program =
-      let bytes : h.file.bytes ≡ s.bytes = held_same (task_of job) old s h.file.bytes h.file.held in
+      let bytes : h.file.bytes ≡ s.bytes = held_same (task_of job) before.shelf s h.file.bytes h.file.held in
       let read : meaning_of (task_of job) s.bytes ≡ Ok h.file.contents = ap (meaning_of (task_of job)) (sym bytes) ∙ h.file.means in
       let known : meaning_of (task_of job) s.bytes ≡ Ok s.contents = s.means in
       cc
@@ -295,12 +271,12 @@ module _ (job : Job) (k : ℕ) (old new : Stock) (n m : Device) (a : Answer) (t0
 
   by_faults : (mute deaf : Bool) → h.mute ≡ mute → h.deaf ≡ deaf → TellsEnd (plain_state (task_of job) s.contents k) a
   by_faults mute true is_mute is_deaf =
-      let closed : r ≡ h.told = subst (λ b. ClosesRun b (plain_stop h.mute h.deaf h.last.status) job.config.limit h.told r) is_deaf h.closes in
-      let sent : Sent true r0 h.told (end_lines (task_of job) h.last) = subst (λ b. Sent b r0 h.told (end_lines (task_of job) h.last)) is_deaf h.read_all in
-      not_risen r0.faults h.told.faults (subst (λ (x : Stream). Stayed r0.faults x.faults) closed calm.paper) sent.rose
+      let closed : after.report ≡ h.told = subst (λ b. ClosesRun b (plain_stop h.mute h.deaf h.last.status) job.config.limit h.told after.report) is_deaf h.closes in
+      let sent : Sent true before.report h.told (end_lines (task_of job) h.last) = subst (λ b. Sent b before.report h.told (end_lines (task_of job) h.last)) is_deaf h.read_all in
+      not_risen before.report.faults h.told.faults (subst (λ (x : Stream). Stayed before.report.faults x.faults) closed calm.report) sent.rose
   by_faults true false is_mute is_deaf =
-      let sent : Sent true t0 t h.last.console = subst (λ b. Sent b t0 t h.last.console) is_mute h.shown_all in
-      not_risen t0.faults t.faults calm.screen sent.rose
+      let sent : Sent true before.terminal after.terminal h.last.console = subst (λ b. Sent b before.terminal after.terminal h.last.console) is_mute h.shown_all in
+      not_risen before.terminal.faults after.terminal.faults calm.terminal sent.rose
   by_faults false false is_mute is_deaf =
       let stop : plain_stop h.mute h.deaf h.last.status ≡ Ended h.last.status =
       ap (λ b. plain_stop b h.deaf h.last.status) is_mute ∙ ap (λ b. plain_stop false b h.last.status) is_deaf
@@ -312,27 +288,29 @@ module _ (job : Job) (k : ℕ) (old new : Stock) (n m : Device) (a : Answer) (t0
 abbrev stands_of : (order : Job → Order) (words : List (List ℕ)) (stock : Stock) (i : IsAsked order words stock) → Stands (task_of i.job) stock
 stands_of order words stock i = record { files = i.files; tells = i.tells; bytes = i.bytes; there = i.there; fits = i.fits; contents = i.contents; means = i.means }
 
+run_completes : {M : Type 0} (K : KindOf M) (words : List (List ℕ)) (before after : Outside) (a : Answer) (i : IsAsked run words before.shelf) (k : ℕ) → IsCalm before after
+    → is_running (left_alone i k).status ≡ false → cycles_for K (parameters_of i.job.config) i.job.config.cuts k ≤ i.job.config.limit → TaskAnswered K (task_of i.job) before after a → TellsEnd (left_alone i k) a
+run_completes K words before after a i k calm over limit (inl (r, due, refused)) = inr (refused.status ∙ task_due (task_of i.job) before after r (stands_of run words before.shelf i) calm due)
+run_completes K words before after a i k calm over limit (inr ran) = by_stop K i.job k before after a (stands_of run words before.shelf i) calm over limit ran ran.ending.stop refl
+
 -- an answer completes the run that is asked for
-pub Completes-run : {M : Type 0} (K : KindOf M) (words : List (List ℕ)) (old new : Stock) (n m : Device) (t0 t r0 r : Stream) (a : Answer)
-    → Answered K words old new n m t0 t r0 r a → RunCompletes K words old new n m t0 t r0 r a
-Completes-run K words old new n m t0 t r0 r a (held, inl (refusal, due, refused)) i k calm over limit =
-    inr (refused.status ∙ run_due words i.job old new n m refusal i.asked (stands_of run words old i) calm.shelf calm.device due)
-Completes-run K words old new n m t0 t r0 r a (held, inr (inl (job, asked, ran))) i k calm over limit =
-    let same : job ≡ i.job = (let e : run job ≡ run i.job = order_same words (run i.job) (run job) i.asked asked in cc) in
-    let h : IsRunOf K (task_of i.job) old new n m a t0 t r0 r = subst (λ j. IsRunOf K (task_of j) old new n m a t0 t r0 r) same ran in
-    by_stop K i.job k old new n m a t0 t r0 r (stands_of run words old i) calm over limit h h.ending.stop refl
-Completes-run K words old new n m t0 t r0 r a (held, inr (inr (job, asked, device, ran))) i k calm over limit =
-    absurd (let e : plain job ≡ run i.job = order_same words (run i.job) (plain job) i.asked asked in cc)
+pub Completes-run : {M : Type 0} (K : KindOf M) (words : List (List ℕ)) (before after : Outside) (a : Answer) → Answered K words before after a → RunCompletes K words before after a
+Completes-run K words before after a (held, inl (e, due, device, refused)) i k calm over limit = inr (refused.status ∙ words_due words (run i.job) e i.asked due)
+Completes-run K words before after a (held, inr (order, asked, h)) i k calm over limit =
+    run_completes K words before after a i k calm over limit (subst (λ o. OrderAnswered K o before after a) (order_same words (run i.job) order i.asked asked) h)
+
+plain_completes : (words : List (List ℕ)) (before after : Outside) (a : Answer) (i : IsAsked plain words before.shelf) (k : ℕ) → IsCalm before after
+    → is_running (left_alone i k).status ≡ false → k ≤ i.job.config.limit → PlainAnswered (task_of i.job) before after a → TellsEnd (left_alone i k) a
+plain_completes words before after a i k calm over limit (device, inl (r, due, refused)) =
+    inr (refused.status ∙ program_due (task_of i.job) before.shelf after.shelf r (stands_of plain words before.shelf i) calm.shelf due)
+plain_completes words before after a i k calm over limit (device, inr ran) = by_faults i.job k before after a (stands_of plain words before.shelf i) calm over limit ran ran.mute ran.deaf refl refl
 
 -- and the one on the plain machine
-pub Completes-plain : {M : Type 0} (K : KindOf M) (words : List (List ℕ)) (old new : Stock) (n m : Device) (t0 t r0 r : Stream) (a : Answer)
-    → Answered K words old new n m t0 t r0 r a → PlainCompletes words old new n m t0 t r0 r a
-Completes-plain K words old new n m t0 t r0 r a (held, inl (refusal, due, refused)) i k calm over limit =
-    let still : Stayed n.faults n.faults = record { same = refl; counts = calm.device.counts } in
-    inr (refused.status ∙ plain_due words i.job old new n m refusal i.asked (stands_of plain words old i) calm.shelf still due)
-Completes-plain K words old new n m t0 t r0 r a (held, inr (inl (job, asked, ran))) i k calm over limit =
-    absurd (let e : run job ≡ plain i.job = order_same words (plain i.job) (run job) i.asked asked in cc)
-Completes-plain K words old new n m t0 t r0 r a (held, inr (inr (job, asked, same_device, ran))) i k calm over limit =
-    let same : job ≡ i.job = (let e : plain job ≡ plain i.job = order_same words (plain i.job) (plain job) i.asked asked in cc) in
-    let h : IsPlainOf (task_of i.job) old new a t0 t r0 r = subst (λ j. IsPlainOf (task_of j) old new a t0 t r0 r) same ran in
-    by_faults i.job k old new n m a t0 t r0 r (stands_of plain words old i) calm over limit h h.mute h.deaf refl refl
+pub Completes-plain : {M : Type 0} (K : KindOf M) (words : List (List ℕ)) (before after : Outside) (a : Answer) → Answered K words before after a → PlainCompletes words before after a
+Completes-plain K words before after a (held, inl (e, due, device, refused)) i k calm over limit = inr (refused.status ∙ words_due words (plain i.job) e i.asked due)
+Completes-plain K words before after a (held, inr (order, asked, h)) i k calm over limit =
+    plain_completes words before after a i k calm over limit (subst (λ o. OrderAnswered K o before after a) (order_same words (plain i.job) order i.asked asked) h)
+
+-- so what is claimed of a call follows from what its answer is
+pub Claim-answered : {M : Type 0} (K : KindOf M) (words : List (List ℕ)) (before after : Outside) (a : Answer) → Answered K words before after a → Claim K words before after a
+Claim-answered K words before after a h = record { answered = h; complete_run = Completes-run K words before after a h; complete_plain = Completes-plain K words before after a h }

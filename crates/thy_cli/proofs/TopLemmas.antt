@@ -10,7 +10,7 @@ use Rattle.thy_base.specs.declared.nvm.Shape.{Shape}
 use Rattle.thy_base.specs.Config.{fault_of, or_fault, or_value, memory_fault, table_fault, queue_fault, threshold_fault, cut_fault, first_not_rising}
 use Rattle.thy_base.specs.Device.{Device, fitted}
 use Rattle.thy_base.specs.Geometry.{IsInRange, geometry_or, geometry_of, parameters_of, program_size}
-use Rattle.thy_base.specs.Outside.{Stock, Stream}
+use Rattle.thy_base.specs.Outside.{Stream}
 use Rattle.thy_isa.specs.declared.state.Status.TheVariants.{Running}
 use Rattle.thy_isa.specs.Storable.{IsNumber, IsStorable}
 use Rattle.thy_isa.specs.Step.{State}
@@ -21,7 +21,7 @@ use Rattle.thy_elf.specs.Image.{Contents, read_of}
 use Rattle.thy_plain.specs.Start.{start_state}
 use Rattle.thy_words.specs.declared.words.WordsError.{WordsError}
 use Rattle.thy_words.specs.declared.words.WordsError.TheVariants.{Usage, Word, Value, Memory as WordsMemory}
-use Rattle.thy_words.specs.Settings.{Job, Order, run, plain, settings_of, order_of, ShowsOrMemory}
+use Rattle.thy_words.specs.Settings.{Job, run, plain, settings_of, order_of, ShowsOrMemory}
 use Rattle.thy_view.specs.Booting.{found_first}
 use Rattle.thy_view.specs.Kind.{KindOf, IsLawful, IsFittedFor}
 use Rattle.thy_base.specs.declared.mark.Mark.{Mark}
@@ -37,8 +37,8 @@ use Rattle.thy_cli.specs.declared.answer.Answer.{Answer}
 use Rattle.thy_run.specs.declared.ending.Ending.{Ending}
 use Rattle.thy_run.specs.declared.plan.Plan.{Plan}
 use Rattle.thy_cli.specs.declared.refusal.Refusal.{Refusal}
-use Rattle.thy_cli.specs.declared.refusal.Refusal.TheVariants.{Words, Fetch, File, Device as DeviceRefusal, Memory as MemoryRefusal}
-use Rattle.thy_cli.specs.Answering.{Task, task_of, WordsDue, meaning_of, OrderDue, RefusalDue, IsPlanOf, IsRunOf, ClosesRun, PlainAnswered, TaskAnswered, Answered, stop_status}
+use Rattle.thy_cli.specs.declared.refusal.Refusal.TheVariants.{Device as DeviceRefusal}
+use Rattle.thy_cli.specs.Answering.{Outside, Task, WordsDue, ProgramDue, TaskDue, meaning_of, IsPlanOf, IsRunOf, ClosesRun, PlainAnswered, TaskAnswered, Answered, stop_status}
 use Rattle.thy_run.specs.Going.{origin_of, given_of}
 use Rattle.thy_run.specs.Turning.{EndsBy, RunEnds}
 
@@ -122,18 +122,20 @@ fitted_from_file K laws plan shape n file blocks = record {
 }
 
 -- a run that was begun keeps its promise
-pub IsRunOf-ran : {M : Type 0} (K : KindOf M) (laws : IsLawful K) → (task : Task) (old new : Stock) (plan : Plan) (n d m : Device) (shape : Shape) (e : Ending) (a : Answer) (t0 t r0 told r : Stream) → IsPlanOf task old plan → new.faults ≡ old.faults
-    → d ≡ fitted shape [] n → shape.blocks ≡ K.blocks plan.geometry → shape.queue ≡ plan.geometry.nvmq → shape.cuts ≡ length plan.config.cuts → RunEnds K plan d m e t0 t r0 told
-    → ClosesRun e.deaf e.stop plan.geometry.limit told r → a.events ≡ e.events → a.cycles ≡ e.cycles → a.status ≡ stop_status e.stop → IsRunOf K task old new n m a t0 t r0 r
-IsRunOf-ran K laws task old new plan n d m shape e a t0 t r0 told r p calm fit blocks queue cuts ends closes events cycles status =
+pub IsRunOf-ran : {M : Type 0} (K : KindOf M) (laws : IsLawful K) → (task : Task) (before after : Outside) (plan : Plan) (d : Device) (shape : Shape) (e : Ending) (a : Answer) (told : Stream) → IsPlanOf task before.shelf plan
+    → after.shelf.faults ≡ before.shelf.faults → d ≡ fitted shape [] before.device → shape.blocks ≡ K.blocks plan.geometry → shape.queue ≡ plan.geometry.nvmq → shape.cuts ≡ length plan.config.cuts
+    → RunEnds K plan d after.device e before.terminal after.terminal before.report told
+    → ClosesRun e.deaf e.stop plan.geometry.limit told after.report → a.events ≡ e.events → a.cycles ≡ e.cycles → a.status ≡ stop_status e.stop → IsRunOf K task before after a
+IsRunOf-ran K laws task before after plan d shape e a told p calm fit blocks queue cuts ends closes events cycles status =
     let o : Origin = origin_of plan in
+    let m : Device = after.device in
     let kept = Promise-finished K laws o (given_of plan d) e.cycles e.events m p.planned.origin p.planned.rising (finished_by K o (given_of plan d) e.cycles ends.last e.events m e.stop ends.ran ends.ends) in
     record {
       plan = plan;
       is_plan = p;
       calm = calm;
       device = d;
-      is_fitted = record { shape = shape; start = []; before = n; fits = fitted_from_file K laws plan shape n p.from_file blocks; queue = queue; cuts = cuts; is_fitted = fit };
+      is_fitted = record { shape = shape; start = []; before = before.device; fits = fitted_from_file K laws plan shape before.device p.from_file blocks; queue = queue; cuts = cuts; is_fitted = fit };
       fresh = refl;
       from_entry = fit;
       ending = e;
@@ -149,36 +151,22 @@ IsRunOf-ran K laws task old new plan n d m shape e a t0 t r0 told r p calm fit b
       once = kept.fits_stay ∙ ap (λ (x : Device). x.fits) fit;
     }
 
--- what is due to an order is due to the words that ask for it; words are none of its reasons
-due_of_order : (words : List (List ℕ)) (order : Order) (old new : Stock) (n m : Device) (r : Refusal) → settings_of words ≡ Ok order → OrderDue order old new n m r → RefusalDue words old new n m r
-due_of_order words (run job) old new n m (Words e) is due = absurd due
-due_of_order words (plain job) old new n m (Words e) is due = absurd (due.0 n)
-due_of_order words order old new n m (Fetch name e) is due = (order, is, due)
-due_of_order words order old new n m (File e) is due = (order, is, due)
-due_of_order words order old new n m (DeviceRefusal e) is due = (order, is, due)
-due_of_order words order old new n m (MemoryRefusal e) is due = (order, is, due)
-
-answered_run : {M : Type 0} (K : KindOf M) → (words : List (List ℕ)) (job : Job) (old new : Stock) (n m : Device) (t0 t r0 r : Stream) (a : Answer) → settings_of words ≡ Ok (run job) → new.held ≡ old.held
-    → TaskAnswered K (task_of job) old new n m t0 t r0 r a → Answered K words old new n m t0 t r0 r a
-answered_run K words job old new n m t0 t r0 r a is held (inl (refusal, due, refused)) = (held, inl (refusal, due_of_order words (run job) old new n m refusal is due, refused))
-answered_run K words job old new n m t0 t r0 r a is held (inr ran) = (held, inr (inl (job, is, ran)))
+-- where there is no program, a task is not run
+pub TaskDue-program : (task : Task) (before after : Outside) (r : Refusal) → ProgramDue task before.shelf after.shelf r → after.device ≡ before.device → TaskDue task before after r
+TaskDue-program task before after (DeviceRefusal e) due device = absurd due
+TaskDue-program task before after r due device = (due, device)
 
 -- a job for the machine
-pub Answered-run : {M : Type 0} (K : KindOf M) → (words : List (List ℕ)) (job : Job) (file : List ℕ) (old new : Stock) (n m : Device) (t0 t r0 r : Stream) (a : Answer) → settings_of words ≡ Ok (run job) → file ≡ job.file → new.held ≡ old.held
-    → TaskAnswered K (record { file = file; config = job.config; digest = job.digest }) old new n m t0 t r0 r a → Answered K words old new n m t0 t r0 r a
-Answered-run K words job file old new n m t0 t r0 r a is named held h =
-    answered_run K words job old new n m t0 t r0 r a is held (subst (λ f. TaskAnswered K (record { file = f; config = job.config; digest = job.digest }) old new n m t0 t r0 r a) named h)
-
-answered_plain : {M : Type 0} (K : KindOf M) → (words : List (List ℕ)) (job : Job) (old new : Stock) (n : Device) (t0 t r0 r : Stream) (a : Answer) → settings_of words ≡ Ok (plain job) → new.held ≡ old.held
-    → PlainAnswered (task_of job) old new t0 t r0 r a → Answered K words old new n n t0 t r0 r a
-answered_plain K words job old new n t0 t r0 r a is held (inl (refusal, due, refused)) = (held, inl (refusal, due_of_order words (plain job) old new n n refusal is (due, refl), refused))
-answered_plain K words job old new n t0 t r0 r a is held (inr ran) = (held, inr (inr (job, is, refl, ran)))
+pub Answered-run : {M : Type 0} (K : KindOf M) → (words : List (List ℕ)) (job : Job) (file : List ℕ) (before after : Outside) (a : Answer) → settings_of words ≡ Ok (run job) → file ≡ job.file
+    → after.shelf.held ≡ before.shelf.held → TaskAnswered K (record { file = file; config = job.config; digest = job.digest }) before after a → Answered K words before after a
+Answered-run K words job file before after a is named held h =
+    (held, inr (run job, is, subst (λ f. TaskAnswered K (record { file = f; config = job.config; digest = job.digest }) before after a) named h))
 
 -- a job for the plain machine
-pub Answered-plain : {M : Type 0} (K : KindOf M) → (words : List (List ℕ)) (job : Job) (file : List ℕ) (old new : Stock) (n : Device) (t0 t r0 r : Stream) (a : Answer) → settings_of words ≡ Ok (plain job) → file ≡ job.file → new.held ≡ old.held
-    → PlainAnswered (record { file = file; config = job.config; digest = job.digest }) old new t0 t r0 r a → Answered K words old new n n t0 t r0 r a
-Answered-plain K words job file old new n t0 t r0 r a is named held h =
-    answered_plain K words job old new n t0 t r0 r a is held (subst (λ f. PlainAnswered (record { file = f; config = job.config; digest = job.digest }) old new t0 t r0 r a) named h)
+pub Answered-plain : {M : Type 0} (K : KindOf M) → (words : List (List ℕ)) (job : Job) (file : List ℕ) (before after : Outside) (a : Answer) → settings_of words ≡ Ok (plain job) → file ≡ job.file
+    → after.shelf.held ≡ before.shelf.held → PlainAnswered (record { file = file; config = job.config; digest = job.digest }) before after a → Answered K words before after a
+Answered-plain K words job file before after a is named held h =
+    (held, inr (plain job, is, subst (λ f. PlainAnswered (record { file = f; config = job.config; digest = job.digest }) before after a) named h))
 
 -- why words are refused
 pub WordsDue-shown : (words : List (List ℕ)) (e : WordsError) → ShowsOrMemory order_of (settings_of words) (Err e) → WordsDue words e

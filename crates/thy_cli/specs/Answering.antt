@@ -3,7 +3,7 @@ use Rattle.std.specs.Prelude.{◌≡◌, ◌⊎◌, ℕ, ◌<◌, ◌≤◌, Boo
 use Rattle.std.specs.Fmt.{decimal}
 use Rattle.thy_base.specs.declared.outside.FetchError.{FetchError}
 use Rattle.thy_base.specs.declared.outside.FetchError.TheVariants.{Failed as FetchFailed, NotThere, TooLong, Memory as FetchMemory}
-use Rattle.thy_base.specs.declared.nvm.FitError.TheVariants.{Failed as FitFailed, Memory as FitMemory}
+use Rattle.thy_base.specs.declared.nvm.FitError.TheVariants.{Failed as FitFailed}
 use Rattle.thy_base.specs.declared.config.Config.{Config}
 use Rattle.thy_base.specs.Bytes.{bytes_of}
 use Rattle.thy_base.specs.Device.{Device, HasFailedToFit, fitted}
@@ -41,49 +41,18 @@ use Rattle.thy_run.specs.Going.{origin_of, given_of, IsPlanned}
 use Rattle.thy_run.specs.Sending.{Sent}
 use Rattle.thy_run.specs.Turning.{IsFitted, RunEnds}
 
--- ---- refusals, and what is reported of them
+-- what a call finds outside, or leaves there
+pub record Outside : Type 0 where
+  pub shelf : Stock
+  pub device : Device
+  pub terminal : Stream
+  pub report : Stream
 
--- the number of a program header, where it is told, and the line's end
-abbrev pub index_parts : Option ℕ → List (List ℕ)
-index_parts None = line_feed ∷ []
-index_parts (Some k) = codes " " ∷ decimal k ∷ line_feed ∷ []
+abbrev pub outside : Stock → Device → Stream → Stream → Outside
+outside shelf device terminal report =
+    record { shelf = shelf; device = device; terminal = terminal; report = report }
 
--- the line of a file that is refused
-abbrev pub file_line : ElfError → List ℕ
-file_line e =
-    joined (codes "file " ∷ decimal (number_of e) ∷ codes " " ∷ name_of e ∷ index_parts (index_of e))
-
--- the exit status of a refusal
-abbrev pub refused_status : Refusal → ℕ
-refused_status (Words (WordsMemory e)) = 9
-refused_status (Words e) = 2
-refused_status (Fetch name (FetchMemory e)) = 9
-refused_status (Fetch name e) = 3
-refused_status (File (ElfMemory e)) = 9
-refused_status (File e) = 4
-refused_status (DeviceRefusal FitFailed) = 7
-refused_status (DeviceRefusal (FitMemory e)) = 9
-refused_status (MemoryRefusal e) = 9
-
--- the closing line of a refusal
-abbrev pub refused_line : Refusal → List ℕ
-refused_line (Words Usage) = closing_of closing.Usage
-refused_line (Words (Word field)) = closing_of (closing.Word field)
-refused_line (Words (Value field value)) = closing_of (closing.Value field value)
-refused_line (Words (WordsMemory e)) = closing_of closing.Memory
-refused_line (Fetch name FetchFailed) = closing_of (closing.Fetch name fault.Failed)
-refused_line (Fetch name NotThere) = closing_of (closing.Fetch name fault.Missing)
-refused_line (Fetch name TooLong) = closing_of (closing.Fetch name fault.TooLong)
-refused_line (Fetch name (FetchMemory e)) = closing_of closing.Memory
-refused_line (File (ElfMemory e)) = closing_of closing.Memory
-refused_line (File e) = file_line e
-refused_line (DeviceRefusal FitFailed) = closing_of closing.Nvm
-refused_line (DeviceRefusal (FitMemory e)) = closing_of closing.Memory
-refused_line (MemoryRefusal e) = closing_of closing.Memory
-
--- a line was written, or the report failed in it
-abbrev pub Closes : List ℕ → Stream → Stream → Type 0
-Closes line old new = (failed : Bool) × Sent failed old new line
+-- ---- refusals: what is due when
 
 -- what is to be done with a file; no input is read yet
 pub record Task : Type 0 where
@@ -127,41 +96,67 @@ pub record IsProgramFile (task : Task) (stock : Stock) : Type 0 where
   pub contents : Contents
   pub means : meaning_of task bytes ≡ Ok contents
 
--- why a file is refused; want of memory is free
-abbrev pub FileDue : Task → Stock → ElfError → Type 0
-FileDue task stock (ElfMemory e) = Unit {0}
-FileDue task stock e = (bytes : List ℕ) × IsHeld stock task.file bytes × (meaning_of task bytes ≡ Err e)
-
 -- why the words are refused: what they mean; want of memory is free
 abbrev pub WordsDue : List (List ℕ) → WordsError → Type 0
 WordsDue words (WordsMemory e) = Unit {0}
 WordsDue words e = settings_of words ≡ Err e
 
--- why a task is refused
-abbrev pub TaskDue : Task → Stock → Stock → Device → Device → Refusal → Type 0
-TaskDue task old new n m (Words e) = ⊥
-TaskDue task old new n m (Fetch name e) = (name.now ≡ task.file) × FetchDue old new task.file e × (m ≡ n)
-TaskDue task old new n m (File e) = FileDue task old e × (m ≡ n)
-TaskDue task old new n m (DeviceRefusal e) = IsProgramFile task old × HasFailedToFit e n m
-TaskDue task old new n m (MemoryRefusal e) = m ≡ n
+-- why a task has no program: its file was not had, or is none; want of memory is free
+abbrev pub ProgramDue : Task → Stock → Stock → Refusal → Type 0
+ProgramDue task old new (Fetch name e) = (name.now ≡ task.file) × FetchDue old new task.file e
+ProgramDue task old new (File (ElfMemory e)) = Unit {0}
+ProgramDue task old new (File e) = (bytes : List ℕ) × IsHeld old task.file bytes × (meaning_of task bytes ≡ Err e)
+ProgramDue task old new (MemoryRefusal e) = Unit {0}
+ProgramDue task old new other = ⊥
 
--- why an order is refused: the plain machine leaves the device alone, whatever that is
-abbrev pub OrderDue : Order → Stock → Stock → Device → Device → Refusal → Type 0
-OrderDue (run job) old new n m r = TaskDue (task_of job) old new n m r
-OrderDue (plain job) old new n m r = ((d : Device) → TaskDue (task_of job) old new d d r) × (m ≡ n)
+-- why a task is not run: a program's device was not fitted, or there is no program, and the device is left alone
+abbrev pub TaskDue : Task → Outside → Outside → Refusal → Type 0
+TaskDue task before after (DeviceRefusal e) =
+    IsProgramFile task before.shelf × HasFailedToFit e before.device after.device
+TaskDue task before after r = ProgramDue task before.shelf after.shelf r × (after.device ≡ before.device)
 
--- why a call is refused
-abbrev pub RefusalDue : List (List ℕ) → Stock → Stock → Device → Device → Refusal → Type 0
-RefusalDue words old new n m (Words e) = WordsDue words e × (m ≡ n)
-RefusalDue words old new n m refusal = (order : Order) × (settings_of words ≡ Ok order) × OrderDue order old new n m refusal
+-- ---- what is told of a refusal
+
+-- the number of a program header, where it is told, and the line's end
+abbrev pub index_parts : Option ℕ → List (List ℕ)
+index_parts None = line_feed ∷ []
+index_parts (Some k) = codes " " ∷ decimal k ∷ line_feed ∷ []
+
+-- the line of a file that is refused
+abbrev pub file_line : ElfError → List ℕ
+file_line e =
+    joined (codes "file " ∷ decimal (number_of e) ∷ codes " " ∷ name_of e ∷ index_parts (index_of e))
+
+-- What is told of a refusal: the exit status and the closing line. The others are want of memory.
+abbrev pub told_of : Refusal → ℕ × List ℕ
+told_of (Words Usage) = (2, closing_of closing.Usage)
+told_of (Words (Word field)) = (2, closing_of (closing.Word field))
+told_of (Words (Value field value)) = (2, closing_of (closing.Value field value))
+told_of (Fetch name FetchFailed) = (3, closing_of (closing.Fetch name fault.Failed))
+told_of (Fetch name NotThere) = (3, closing_of (closing.Fetch name fault.Missing))
+told_of (Fetch name TooLong) = (3, closing_of (closing.Fetch name fault.TooLong))
+told_of (File (ElfMemory e)) = (9, closing_of closing.Memory)
+told_of (File e) = (4, file_line e)
+told_of (DeviceRefusal FitFailed) = (7, closing_of closing.Nvm)
+told_of other = (9, closing_of closing.Memory)
+
+abbrev pub refused_status : Refusal → ℕ
+refused_status r = (told_of r).0
+
+abbrev pub refused_line : Refusal → List ℕ
+refused_line r = (told_of r).1
+
+-- a line was written, or the report failed in it
+abbrev pub Closes : List ℕ → Stream → Stream → Type 0
+Closes line old new = (failed : Bool) × Sent failed old new line
 
 -- a call that began no run: a line says why
-pub record IsRefused (r : Refusal) (a : Answer) (terminal shown report read : Stream) : Type 0 where
+pub record IsRefused (r : Refusal) (before after : Outside) (a : Answer) : Type 0 where
   pub status : a.status ≡ refused_status r
   pub events : a.events ≡ []
   pub cycles : a.cycles ≡ 0
-  pub shown_none : shown ≡ terminal
-  pub closes : Closes (refused_line r) report read
+  pub shown_none : after.terminal ≡ before.terminal
+  pub closes : Closes (refused_line r) before.report after.report
 
 -- ---- runs
 
@@ -207,23 +202,23 @@ ClosesRun false Memory limit old new = Closes (closing_of closing.Memory) old ne
 
 -- A run was begun over a device that was fitted, and ended. Its cycles are those of a run, and keep what is promised
 -- of every run; the sinks took what its events say.
-pub record IsRunOf {M : Type 0} (K : KindOf M) (task : Task) (old new : Stock) (n m : Device) (a : Answer) (terminal shown report read : Stream) : Type 0 where
+pub record IsRunOf {M : Type 0} (K : KindOf M) (task : Task) (before after : Outside) (a : Answer) : Type 0 where
   pub plan : Plan
-  pub is_plan : IsPlanOf task old plan
-  pub calm : new.faults ≡ old.faults
+  pub is_plan : IsPlanOf task before.shelf plan
+  pub calm : after.shelf.faults ≡ before.shelf.faults
   pub device : Device
   pub is_fitted : IsFitted K plan device
   pub fresh : is_fitted.start ≡ []
-  pub from_entry : device ≡ fitted is_fitted.shape [] n
+  pub from_entry : device ≡ fitted is_fitted.shape [] before.device
   pub ending : Ending
   pub told : Stream
-  pub ends : RunEnds K plan device m ending terminal shown report told
-  pub closes : ClosesRun ending.deaf ending.stop plan.geometry.limit told read
+  pub ends : RunEnds K plan device after.device ending before.terminal after.terminal before.report told
+  pub closes : ClosesRun ending.deaf ending.stop plan.geometry.limit told after.report
   pub events : a.events ≡ ending.events
   pub cycles : a.cycles ≡ ending.cycles
   pub status : a.status ≡ stop_status ending.stop
-  pub promise : Promise K (origin_of plan) (given_of plan device) a.cycles a.events m
-  pub once : m.fits ≡ next n.fits
+  pub promise : Promise K (origin_of plan) (given_of plan device) a.cycles a.events after.device
+  pub once : after.device.fits ≡ next before.device.fits
 
 -- ---- the plain machine
 
@@ -248,39 +243,50 @@ end_lines task s = ended_lines task.digest s.status s.count s.memory
 
 -- The plain machine took the program's steps from its start, up to the first state that runs no more or the limit;
 -- the sinks took what its last state says.
-pub record IsPlainOf (task : Task) (old new : Stock) (a : Answer) (terminal shown report read : Stream) : Type 0 where
-  pub file : IsProgramFile task old
-  pub calm : new.faults ≡ old.faults
+pub record IsPlainOf (task : Task) (before after : Outside) (a : Answer) : Type 0 where
+  pub file : IsProgramFile task before.shelf
+  pub calm : after.shelf.faults ≡ before.shelf.faults
   pub stops : StopsAt (plain_start task file.contents) task.config.limit a.cycles
   pub last : State
   pub is_last : last ≡ plain_state task file.contents a.cycles
   pub mute : Bool
   pub deaf : Bool
-  pub shown_all : Sent mute terminal shown last.console
+  pub shown_all : Sent mute before.terminal after.terminal last.console
   pub told : Stream
-  pub read_all : Sent deaf report told (end_lines task last)
-  pub closes : ClosesRun deaf (plain_stop mute deaf last.status) task.config.limit told read
+  pub read_all : Sent deaf before.report told (end_lines task last)
+  pub closes : ClosesRun deaf (plain_stop mute deaf last.status) task.config.limit told after.report
   pub status : a.status ≡ stop_status (plain_stop mute deaf last.status)
   pub events : a.events ≡ []
-
--- what the answer to a task on the plain machine is
-abbrev pub PlainAnswered : Task → Stock → Stock → Stream → Stream → Stream → Stream → Answer → Type 0
-PlainAnswered task old new terminal shown report read a =
-    ((r : Refusal) × ((n : Device) → TaskDue task old new n n r) × IsRefused r a terminal shown report read)
-    ⊎ IsPlainOf task old new a terminal shown report read
 
 -- ---- answers
 
 -- what the answer to a task is
-abbrev pub TaskAnswered : {M : Type 0} → KindOf M → Task → Stock → Stock → Device → Device → Stream → Stream → Stream → Stream → Answer → Type 0
-TaskAnswered K task old new n m terminal shown report read a =
-    ((r : Refusal) × TaskDue task old new n m r × IsRefused r a terminal shown report read)
-    ⊎ IsRunOf K task old new n m a terminal shown report read
+abbrev pub TaskAnswered : {M : Type 0} → KindOf M → Task → Outside → Outside → Answer → Type 0
+TaskAnswered K task before after a =
+    ((r : Refusal) × TaskDue task before after r × IsRefused r before after a)
+    ⊎ IsRunOf K task before after a
 
--- What the answer to a call is: a refusal that is due, or a run, or the plain machine's. What stands on the shelf stays.
-abbrev pub Answered : {M : Type 0} → KindOf M → List (List ℕ) → Stock → Stock → Device → Device → Stream → Stream → Stream → Stream → Answer → Type 0
-Answered K words old new n m terminal shown report read a =
-    (new.held ≡ old.held)
-    × (((r : Refusal) × RefusalDue words old new n m r × IsRefused r a terminal shown report read)
-    ⊎ (((job : Job) × (settings_of words ≡ Ok (run job)) × IsRunOf K (task_of job) old new n m a terminal shown report read)
-    ⊎ ((job : Job) × (settings_of words ≡ Ok (plain job)) × (m ≡ n) × IsPlainOf (task_of job) old new a terminal shown report read)))
+-- what it is on the plain machine, which leaves the device alone
+abbrev pub PlainAnswered : Task → Outside → Outside → Answer → Type 0
+PlainAnswered task before after a =
+    (after.device ≡ before.device)
+    × (((r : Refusal) × ProgramDue task before.shelf after.shelf r × IsRefused r before after a)
+    ⊎ IsPlainOf task before after a)
+
+-- what the answer to an order is
+abbrev pub OrderAnswered : {M : Type 0} → KindOf M → Order → Outside → Outside → Answer → Type 0
+OrderAnswered K (run job) before after a = TaskAnswered K (task_of job) before after a
+OrderAnswered K (plain job) before after a = PlainAnswered (task_of job) before after a
+
+-- the words are refused, and the device is left alone
+abbrev pub WordsRefused : List (List ℕ) → Outside → Outside → Answer → Type 0
+WordsRefused words before after a =
+    (e : WordsError) × WordsDue words e × (after.device ≡ before.device) × IsRefused (Words e) before after a
+
+-- What the answer to a call is: the words are refused, or they order something, and this is answered. What stands on the
+-- shelf stays.
+abbrev pub Answered : {M : Type 0} → KindOf M → List (List ℕ) → Outside → Outside → Answer → Type 0
+Answered K words before after a =
+    (after.shelf.held ≡ before.shelf.held)
+    × (WordsRefused words before after a
+    ⊎ ((order : Order) × (settings_of words ≡ Ok order) × OrderAnswered K order before after a))

@@ -1,15 +1,14 @@
 -- What the answer is where nothing is amiss: that of the program's own end.
 use Rattle.std.specs.Prelude.{◌≡◌, ◌⊎◌, ℕ, ◌-◌, ◌^◌, ◌<◌, ◌≤◌, false, List, length, Some, Ok}
-use Rattle.thy_base.specs.Device.{Device}
 use Rattle.thy_base.specs.Geometry.{parameters_of}
-use Rattle.thy_base.specs.Outside.{Stock, Files, Stream}
+use Rattle.thy_base.specs.Outside.{Stock, Files}
 use Rattle.thy_elf.specs.Image.{Contents}
 use Rattle.thy_isa.specs.Step.{State, is_running}
 use Rattle.thy_run.specs.Progress.{cycles_for}
 use Rattle.thy_run.specs.declared.ending.Stop.TheVariants.{Ended}
 use Rattle.thy_view.specs.Kind.{KindOf}
 use Rattle.thy_words.specs.Settings.{Job, Order, run, plain, settings_of}
-use Rattle.thy_cli.specs.Answering.{task_of, most_bytes, meaning_of, plain_state, stop_status}
+use Rattle.thy_cli.specs.Answering.{Outside, task_of, most_bytes, meaning_of, plain_state, stop_status, Answered}
 use Rattle.thy_cli.specs.declared.answer.Answer.{Answer}
 
 -- the words order something of a file that stands on the shelf, as the shelf tells, and is a program
@@ -30,11 +29,11 @@ pub record Stayed (old new : ℕ) : Type 0 where
   pub counts : old < 2 ^ 64 - 1
 
 -- shelf, device, terminal and report did not fail
-pub record IsCalm (old new : Stock) (n m : Device) (terminal shown report read : Stream) : Type 0 where
-  pub shelf : Stayed old.faults new.faults
-  pub device : Stayed n.faults m.faults
-  pub screen : Stayed terminal.faults shown.faults
-  pub paper : Stayed report.faults read.faults
+pub record IsCalm (before after : Outside) : Type 0 where
+  pub shelf : Stayed before.shelf.faults after.shelf.faults
+  pub device : Stayed before.device.faults after.device.faults
+  pub terminal : Stayed before.terminal.faults after.terminal.faults
+  pub report : Stayed before.report.faults after.report.faults
 
 -- the program's state after k instructions, left alone
 abbrev pub left_alone : {order : Job → Order} {words : List (List ℕ)} {stock : Stock} → IsAsked order words stock → ℕ → State
@@ -46,17 +45,24 @@ TellsEnd s a = (a.status ≡ stop_status (Ended s.status)) ⊎ (a.status ≡ 9)
 
 -- A program that ends within k instructions ends so on the machine, in spite of all power cuts, where the limit is not
 -- below the cycles that the machine promises for as many.
-abbrev pub RunCompletes : {M : Type 0} → KindOf M → List (List ℕ) → Stock → Stock → Device → Device → Stream → Stream → Stream → Stream → Answer → Type 0
-RunCompletes K words old new n m terminal shown report read a =
-    (i : IsAsked run words old) (k : ℕ) → IsCalm old new n m terminal shown report read
+abbrev pub RunCompletes : {M : Type 0} → KindOf M → List (List ℕ) → Outside → Outside → Answer → Type 0
+RunCompletes K words before after a =
+    (i : IsAsked run words before.shelf) (k : ℕ) → IsCalm before after
     → is_running (left_alone i k).status ≡ false
     → cycles_for K (parameters_of i.job.config) i.job.config.cuts k ≤ i.job.config.limit
     → TellsEnd (left_alone i k) a
 
 -- and on the plain machine, where the limit is not below k
-abbrev pub PlainCompletes : List (List ℕ) → Stock → Stock → Device → Device → Stream → Stream → Stream → Stream → Answer → Type 0
-PlainCompletes words old new n m terminal shown report read a =
-    (i : IsAsked plain words old) (k : ℕ) → IsCalm old new n m terminal shown report read
+abbrev pub PlainCompletes : List (List ℕ) → Outside → Outside → Answer → Type 0
+PlainCompletes words before after a =
+    (i : IsAsked plain words before.shelf) (k : ℕ) → IsCalm before after
     → is_running (left_alone i k).status ≡ false
     → k ≤ i.job.config.limit
     → TellsEnd (left_alone i k) a
+
+-- What is claimed of a call: what its answer is, and that this is complete.
+pub record Claim {M : Type 0} (K : KindOf M) (words : List (List ℕ)) (before after : Outside) (a : Answer)
+    : Type 0 where
+  pub answered : Answered K words before after a
+  pub complete_run : RunCompletes K words before after a
+  pub complete_plain : PlainCompletes words before after a

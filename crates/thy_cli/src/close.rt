@@ -43,7 +43,8 @@ fn close_run<R: Sink>(stop: Stop, limit: u64, report: &mut R)
 
 /// The answer of a run that has ended. A report that has not failed gets the closing line.
 pub fn answer<R: Sink>(ending: Ending, limit: u64, report: &mut R) -> Answer
-    ensures closes { ClosesRun ending.deaf ending.stop limit (R.stream report.old) (R.stream report.new) }
+    ensures closes { ClosesRun ending.deaf ending.stop limit
+        (R.stream report.old) (R.stream report.new) }
     ensures events { result.events ≡ ending.events }
     ensures cycles { result.cycles ≡ ending.cycles }
     ensures status { result.status ≡ stop_status ending.stop }

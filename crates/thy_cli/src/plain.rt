@@ -2,8 +2,9 @@
 ghost use Rattle.std.specs.Prelude.{◌≡◌, None};
 ghost use Rattle.thy_base.specs.Bytes.{bytes_of};
 ghost use Rattle.thy_base.specs.Config.{fault_of as range_fault};
+ghost use Rattle.thy_base.specs.Device.{Device as DeviceValue};
 ghost use Rattle.thy_text.specs.Lines.{ended_lines};
-ghost use Rattle.thy_cli.specs.Answering.{PlainAnswered, named, plain_stop};
+ghost use Rattle.thy_cli.specs.Answering.{outside, PlainAnswered, named, plain_stop};
 ghost use Rattle.thy_run.specs.Sending.{Sent};
 
 use crate::answer::Answer;
@@ -19,7 +20,9 @@ use thy_text::{Events, write_ended};
 
 /// Writes how the program has ended, if it has, and answers whether the report failed.
 fn write_end<R: Sink>(state: &MachState, digest: bool, report: &mut R) -> bool
-    ensures { Sent result (R.stream report.old) (R.stream report.new) (ended_lines digest state.now.status state.now.count (bytes_of state.now.memory)) }
+    ensures { let s = state.now in
+        let lines = ended_lines digest s.status s.count (bytes_of s.memory) in
+        Sent result (R.stream report.old) (R.stream report.new) lines }
 {
     match write_ended(state, digest, report) {
         Ok(()) => false,
@@ -54,7 +57,10 @@ pub fn plain_file<H: Shelf, T: Sink, R: Sink>(
 ) -> Answer
     requires { range_fault task.now.config ≡ None }
     ensures held { (H.stock shelf.new).held ≡ (H.stock shelf.old).held }
-    ensures answer { PlainAnswered (named task.now) (H.stock shelf.old) (H.stock shelf.new) (T.stream terminal.old) (T.stream terminal.new) (R.stream report.old) (R.stream report.new) result }
+    ensures answer { (n : DeviceValue) →
+        let before = outside (H.stock shelf.old) n (T.stream terminal.old) (R.stream report.old) in
+        let after = outside (H.stock shelf.new) n (T.stream terminal.new) (R.stream report.new) in
+        PlainAnswered (named task.now) before after result }
 {
     let program = match fetch_program(alloc, task, shelf) {
         Ok(program) => program,

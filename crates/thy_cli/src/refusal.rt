@@ -96,7 +96,8 @@ pub fn refuse<R: Sink>(alloc: Global, refusal: Refusal, report: &mut R) -> Answe
     ensures status { result.status ≡ refused_status refusal.entry }
     ensures events { result.events ≡ [] }
     ensures cycles { result.cycles ≡ 0 }
-    ensures closes { Closes (refused_line refusal.entry) (R.stream report.old) (R.stream report.new) }
+    ensures closes { Closes (refused_line refusal.entry)
+        (R.stream report.old) (R.stream report.new) }
 {
     let status = status(&refusal);
     let closing = match refusal {

@@ -1,9 +1,8 @@
 //! From a name on the shelf to the program that stands there.
 ghost use Rattle.std.specs.Prelude.{◌≡◌, None, IfOk, IfErr, OnOk};
 ghost use Rattle.thy_base.specs.Config.{fault_of as range_fault};
-ghost use Rattle.thy_base.specs.Device.{Device as DeviceValue};
 ghost use Rattle.thy_base.specs.Geometry.{parameters_of};
-ghost use Rattle.thy_cli.specs.Answering.{TaskDue, IsProgramOf, named};
+ghost use Rattle.thy_cli.specs.Answering.{ProgramDue, IsProgramOf, named};
 
 use crate::refusal::Refusal;
 use std::alloc::Global;
@@ -39,10 +38,13 @@ fn fetch_image<'a, H: Shelf>(
     shelf: &mut H,
 ) -> Result<Image, Refusal<'a>>
     requires { geometry.now ≡ parameters_of task.now.config }
-    ensures refusal { IfErr result (λ r. (n : DeviceValue) → TaskDue (named task.now) (H.stock shelf.old) (H.stock shelf.new) n n r) }
+    ensures refusal { IfErr result
+        (ProgramDue (named task.now) (H.stock shelf.old) (H.stock shelf.new)) }
     ensures held { (H.stock shelf.new).held ≡ (H.stock shelf.old).held }
     ensures calm { OnOk result ((H.stock shelf.new).faults ≡ (H.stock shelf.old).faults) }
-    ensures image { IfOk result (λ image. IsProgramOf (named task.now) (H.stock shelf.old) (record { geometry = geometry.now; image = image })) }
+    ensures image { IfOk result (λ image.
+        IsProgramOf (named task.now) (H.stock shelf.old)
+        (record { geometry = geometry.now; image = image })) }
 {
     let bytes = match shelf.fetch(alloc, task.file, MOST_BYTES) {
         Ok(bytes) => bytes,
@@ -62,7 +64,8 @@ pub fn fetch_program<'a, H: Shelf>(
     shelf: &mut H,
 ) -> Result<Program, Refusal<'a>>
     requires { range_fault task.now.config ≡ None }
-    ensures refusal { IfErr result (λ r. (n : DeviceValue) → TaskDue (named task.now) (H.stock shelf.old) (H.stock shelf.new) n n r) }
+    ensures refusal { IfErr result
+        (ProgramDue (named task.now) (H.stock shelf.old) (H.stock shelf.new)) }
     ensures held { (H.stock shelf.new).held ≡ (H.stock shelf.old).held }
     ensures calm { OnOk result ((H.stock shelf.new).faults ≡ (H.stock shelf.old).faults) }
     ensures program { IfOk result (λ p. IsProgramOf (named task.now) (H.stock shelf.old) p) }

@@ -1,13 +1,12 @@
 //! The top call: from the words to the exit status.
-ghost use Rattle.std.specs.Prelude.{◌≡◌, false, map, length, None, IfOk, IfErr, OnOk};
+ghost use Rattle.std.specs.Prelude.{◌≡◌, map, length, None, IfOk, IfErr, OnOk};
 ghost use Rattle.std.specs.String.{string_bytes};
 ghost use Rattle.thy_base.specs.Bytes.{bytes_of};
 ghost use Rattle.thy_base.specs.Config.{fault_of as range_fault};
 ghost use Rattle.thy_base.specs.Geometry.{program_size};
 ghost use Rattle.thy_base.specs.Outside.{Stock};
-ghost use Rattle.thy_cli.specs.Completing.{RunCompletes, PlainCompletes};
-ghost use Rattle.thy_cli.specs.Answering.{Answered, TaskAnswered, TaskDue, IsProgramOf, IsPlanOf, named};
-ghost use Rattle.thy_base.specs.Device.{Device as DeviceValue};
+ghost use Rattle.thy_cli.specs.Completing.{Claim};
+ghost use Rattle.thy_cli.specs.Answering.{outside, TaskAnswered, ProgramDue, IsProgramOf, IsPlanOf, named};
 
 use crate::answer::Answer;
 use crate::close::answer;
@@ -27,7 +26,8 @@ use thy_words::{Command, settings};
 fn plan_of(alloc: Global, task: Task, program: Program) -> Plan
     requires range { range_fault task.config ≡ None }
     requires size { length (bytes_of program.image.memory) ≡ program_size program.geometry }
-    ensures { (stock : Stock) → IsProgramOf (named task.entry) stock program → IsPlanOf (named task.entry) stock result }
+    ensures { (stock : Stock) → IsProgramOf (named task.entry) stock program
+        → IsPlanOf (named task.entry) stock result }
 {
     let start = Start {
         state: start_of(alloc, program.image, &program.geometry),
@@ -45,7 +45,8 @@ fn plan_of(alloc: Global, task: Task, program: Program) -> Plan
 /// What a run of a file is to do; or why there is none.
 fn prepare<'a, H: Shelf>(alloc: Global, task: Task<'a>, shelf: &mut H) -> Result<Plan, Refusal<'a>>
     requires { range_fault task.config ≡ None }
-    ensures refusal { IfErr result (λ r. (n : DeviceValue) → TaskDue (named task.entry) (H.stock shelf.old) (H.stock shelf.new) n n r) }
+    ensures refusal { IfErr result
+        (ProgramDue (named task.entry) (H.stock shelf.old) (H.stock shelf.new)) }
     ensures held { (H.stock shelf.new).held ≡ (H.stock shelf.old).held }
     ensures calm { OnOk result ((H.stock shelf.new).faults ≡ (H.stock shelf.old).faults) }
     ensures plan { IfOk result (λ p. IsPlanOf (named task.entry) (H.stock shelf.old) p) }
@@ -67,7 +68,11 @@ fn run_file<M: Computer, H: Shelf, T: Sink, R: Sink, N: Nvm>(
 ) -> Answer
     requires { range_fault task.config ≡ None }
     ensures held { (H.stock shelf.new).held ≡ (H.stock shelf.old).held }
-    ensures answer { TaskAnswered M.kind (named task.entry) (H.stock shelf.old) (H.stock shelf.new) (N.device nvm.old) (N.device nvm.new) (T.stream terminal.old) (T.stream terminal.new) (R.stream report.old) (R.stream report.new) result }
+    ensures answer { let before = outside (H.stock shelf.old) (N.device nvm.old)
+        (T.stream terminal.old) (R.stream report.old) in
+        let after = outside (H.stock shelf.new) (N.device nvm.new)
+        (T.stream terminal.new) (R.stream report.new) in
+        TaskAnswered M.kind (named task.entry) before after result }
 {
     let plan = match prepare(alloc, task, shelf) {
         Ok(plan) => plan,
@@ -109,9 +114,11 @@ pub fn thynvm<H: Shelf, T: Sink, R: Sink, N: Nvm>(
     report: &mut R,
     nvm: &mut N,
 ) -> Answer
-    ensures answered { Answered ⟦<Machine as Computer>⟧.kind (map string_bytes words.now) (H.stock shelf.old) (H.stock shelf.new) (N.device nvm.old) (N.device nvm.new) (T.stream terminal.old) (T.stream terminal.new) (R.stream report.old) (R.stream report.new) result }
-    ensures complete_run { RunCompletes ⟦<Machine as Computer>⟧.kind (map string_bytes words.now) (H.stock shelf.old) (H.stock shelf.new) (N.device nvm.old) (N.device nvm.new) (T.stream terminal.old) (T.stream terminal.new) (R.stream report.old) (R.stream report.new) result }
-    ensures complete_plain { PlainCompletes (map string_bytes words.now) (H.stock shelf.old) (H.stock shelf.new) (N.device nvm.old) (N.device nvm.new) (T.stream terminal.old) (T.stream terminal.new) (R.stream report.old) (R.stream report.new) result }
+    ensures { let before = outside (H.stock shelf.old) (N.device nvm.old)
+        (T.stream terminal.old) (R.stream report.old) in
+        let after = outside (H.stock shelf.new) (N.device nvm.new)
+        (T.stream terminal.new) (R.stream report.new) in
+        Claim ⟦<Machine as Computer>⟧.kind (map string_bytes words.now) before after result }
 {
     match settings(alloc, words) {
         Ok(

@@ -1,23 +1,26 @@
 use Rattle.std.proofs.Common.{ap, subst, refl, inl, inr, ℕ, []}
 use Rattle.thy_base.specs.declared.config.Parameters.{Parameters}
 use Rattle.thy_cli.specs.declared.refusal.Refusal.TheVariants.{Device as DeviceRefusal}
-use Rattle.thy_cli.specs.Answering.{ClosesRun}
-use Rattle.thy_cli.proofs.TopLemmas.{IsRunOf-ran, fitted_from_file}
+use Rattle.thy_cli.specs.Answering.{Outside, outside, ClosesRun}
+use Rattle.thy_cli.proofs.TopLemmas.{IsRunOf-ran, TaskDue-program, fitted_from_file}
 use Rattle.thy_cli.proofs.top.run_file.Goals as goal
 
 pub returns-in-Err-clause-answer : goal.returns-in-Err-clause-answer
 returns-in-Err-clause-answer g c =
+    let before : Outside = outside (g.H.Shelf.stock c.args.shelf.now) (g.N.Nvm.device c.args.nvm.now) (g.T.Sink.stream c.args.terminal.now) (g.R.Sink.stream c.args.report.now) in
+    let after : Outside = outside (g.H.Shelf.stock c.prepare.new.shelf) (g.N.Nvm.device c.args.nvm.now) (g.T.Sink.stream c.args.terminal.now) (g.R.Sink.stream c.refuse.new.report) in
     inl (
       c.in-Err.refusal,
-      c.in-Err.ensures.refusal (g.N.Nvm.device c.args.nvm.now),
-      record { status = c.refuse.ensures.status; events = c.refuse.ensures.events; cycles = c.refuse.ensures.cycles; shown_none = refl; closes = c.refuse.ensures.closes },
+      TaskDue-program _ before after c.in-Err.refusal c.in-Err.ensures.refusal refl,
+      record { status = c.refuse.ensures.status; events = c.refuse.ensures.events; cycles = c.refuse.ensures.cycles; shown_none = refl {a = g.T.Sink.stream c.args.terminal.now}; closes = c.refuse.ensures.closes },
     )
 
 pub returns-in-Ok-fit-clause-answer : goal.returns-in-Ok-fit-clause-answer
 returns-in-Ok-fit-clause-answer g c =
-    inr (IsRunOf-ran g.M.Computer.kind g.met.M.Computer.lawful _ (g.H.Shelf.stock c.args.shelf.now) (g.H.Shelf.stock c.prepare.new.shelf) c.in-Ok.plan (g.N.Nvm.device c.args.nvm.now) (g.N.Nvm.device c.fit.new.self) (g.N.Nvm.device c.run-ending.new.nvm)
-    _ c.run-ending.result c.answer.result (g.T.Sink.stream c.args.terminal.now) (g.T.Sink.stream c.run-ending.new.terminal) (g.R.Sink.stream c.args.report.now)
-    (g.R.Sink.stream c.run-ending.new.report) (g.R.Sink.stream c.answer.new.report) c.in-Ok.ensures.plan c.in-Ok.ensures.calm c.in-Ok-fit.ensures.ok c.nvm_blocks.ensures
+    let before : Outside = outside (g.H.Shelf.stock c.args.shelf.now) (g.N.Nvm.device c.args.nvm.now) (g.T.Sink.stream c.args.terminal.now) (g.R.Sink.stream c.args.report.now) in
+    let after : Outside = outside (g.H.Shelf.stock c.prepare.new.shelf) (g.N.Nvm.device c.run-ending.new.nvm) (g.T.Sink.stream c.run-ending.new.terminal) (g.R.Sink.stream c.answer.new.report) in
+    inr (IsRunOf-ran g.M.Computer.kind g.met.M.Computer.lawful _ before after
+    c.in-Ok.plan (g.N.Nvm.device c.fit.new.self) _ c.run-ending.result c.answer.result (g.R.Sink.stream c.run-ending.new.report) c.in-Ok.ensures.plan c.in-Ok.ensures.calm c.in-Ok-fit.ensures.ok c.nvm_blocks.ensures
     (ap (λ (x : Parameters). x.nvmq) c.numbers.ensures.same) c.len.ensures
     c.run-ending.ensures
     (subst (λ (l : ℕ). ClosesRun c.run-ending.result.deaf c.run-ending.result.stop l (g.R.Sink.stream c.run-ending.new.report) (g.R.Sink.stream c.answer.new.report))
@@ -41,5 +44,5 @@ returns-clause-answer g c =
     inl (
       DeviceRefusal c.in-Err-fit.error,
       (c.in-Ok.ensures.plan.file, c.in-Err-fit.ensures.err),
-      record { status = c.refuse-in-Err-fit.ensures.status; events = c.refuse-in-Err-fit.ensures.events; cycles = c.refuse-in-Err-fit.ensures.cycles; shown_none = refl; closes = c.refuse-in-Err-fit.ensures.closes },
+      record { status = c.refuse-in-Err-fit.ensures.status; events = c.refuse-in-Err-fit.ensures.events; cycles = c.refuse-in-Err-fit.ensures.cycles; shown_none = refl {a = g.T.Sink.stream c.args.terminal.now}; closes = c.refuse-in-Err-fit.ensures.closes },
     )
