@@ -1,5 +1,5 @@
 -- A device keeps the picks of the cuts that fell, and is fitted no second time.
-use Rattle.std.proofs.Common.{◌≡◌, ℕ, zero, suc, ◌+◌, Bool, true, false, MatchBool, List, [], ◌∷◌, ◌++◌, sym, ◌∙◌, ap, refl, subst, arith}
+use Rattle.std.proofs.Common.{◌≡◌, ℕ, zero, suc, ◌+◌, Bool, true, false, MatchBool, List, [], ◌∷◌, ◌++◌, sym, ◌∙◌, ap, subst, arith}
 use Rattle.thy_base.specs.Device.{Device, IsFramed, cut_to}
 use Rattle.thy_view.specs.Kind.{KindOf}
 use Rattle.thy_view.specs.Origin.{Origin}

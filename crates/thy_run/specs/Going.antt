@@ -17,7 +17,6 @@ use Rattle.thy_view.specs.declared.view.View.{View}
 use Rattle.thy_view.specs.Views.{loads, halts, is_halt}
 use Rattle.thy_view.specs.CoreStep.{CoreStep}
 use Rattle.thy_view.specs.Origin.{Origin, at, IsOrigin}
-use Rattle.thy_view.specs.Safe.{Safe}
 use Rattle.thy_view.specs.Kind.{IsSnapshot, KindOf, IsStep, LeavesSafe}
 use Rattle.thy_run.specs.Cuts.{has_ended}
 use Rattle.thy_run.specs.Due.{due_of}

@@ -1,4 +1,4 @@
-use Rattle.std.proofs.Common.{subst, refl}
+use Rattle.std.proofs.Common.{subst}
 use Rattle.thy_base.specs.declared.mix.Pick.{Pick}
 use Rattle.thy_view.specs.Kind.{IsStep, LeavesSafe}
 use Rattle.thy_run.specs.Going.{origin_of}

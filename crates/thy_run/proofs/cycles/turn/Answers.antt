@@ -12,7 +12,7 @@ use Rattle.thy_run.proofs.cycles.turn.Goals as goal
 pub returns-in-Cuts : goal.returns-in-Cuts
 returns-in-Cuts g c = λ fitted t r running.
     let C : Outcome → Type 0 = λ x. ComesTo g.M.Computer.kind c.args.plan.now c.args.progress.now c.take_cycle-bytes.new.progress (g.N.Nvm.device c.args.nvm.now) (g.N.Nvm.device c.take_cycle-bytes.new.nvm) c.args.done
-        (bytes_of c.take_cycle-bytes.result.bytes) x in
+    (bytes_of c.take_cycle-bytes.result.bytes) x in
     (subst C c.in-Cuts.is (c.take_cycle-bytes.ensures fitted running.goes), refl, refl)
 
 pub returns : goal.returns

@@ -1,4 +1,4 @@
-use Rattle.std.proofs.Common.{◌∙◌, sym, ap, subst, ◌+◌, ◌≡◌, ℕ, Bool, true, false, take, length, List}
+use Rattle.std.proofs.Common.{◌∙◌, sym, ap, subst, ◌+◌, ℕ, Bool, false, take, length, List}
 use Rattle.thy_base.specs.Bytes.{bytes_of}
 use Rattle.thy_base.specs.Device.{Device}
 use Rattle.thy_text.specs.Happening.{Happening}
@@ -57,7 +57,7 @@ returns-then-failures-clause-err g c = λ fitted p n t r running awaits first.
     let deaf = c.tell-failures-2.result.report in
     let L : ℕ → Type 0 = λ k. Sends (report_of plan.digest (take k q.events)) (report_of plan.digest q.events) deaf r1 r2 in
     let turned = IsTurned-cut K g.met.M.Computer.lawful plan fitted p c.args.progress n m c.args.done (bytes_of c.args.bytes) mute deaf t t1 t2 r r1 r2 running c.requires.few
-        (subst (Sent mute t1 t2) c.as_slice-2.ensures c.tell-failures-2.ensures.terminal) awaits q m2 c.in-Ok.ensures.ok (subst L first c.tell-failures-2.ensures.report) in
+    (subst (Sent mute t1 t2) c.as_slice-2.ensures c.tell-failures-2.ensures.terminal) awaits q m2 c.in-Ok.ensures.ok (subst L first c.tell-failures-2.ensures.report) in
     let P : Bool → Type 0 = λ b. IsTurned K plan fitted p (record q { mute = mute; deaf = deaf }) n m2 c.args.done t t1 t2 r r1 r2 (turned_of Goes mute b) in
     let E : Ending → Type 0 = λ e. RunEnds K plan fitted m2 e t t2 r r2 in
     subst E (sym c.ended_by.ensures) (subst P c.if-failures.true turned)
@@ -77,7 +77,7 @@ returns-then-failures-2-clause-err g c = λ fitted p n t r running awaits first.
     let deaf = c.tell-failures-2.result.report in
     let L : ℕ → Type 0 = λ k. Sends (report_of plan.digest (take k q.events)) (report_of plan.digest q.events) deaf r1 r2 in
     let turned = IsTurned-cut K g.met.M.Computer.lawful plan fitted p c.args.progress n m c.args.done (bytes_of c.args.bytes) mute deaf t t1 t2 r r1 r2 running c.requires.few
-        (subst (Sent mute t1 t2) c.as_slice-2.ensures c.tell-failures-2.ensures.terminal) awaits q m2 c.in-Ok.ensures.ok (subst L first c.tell-failures-2.ensures.report) in
+    (subst (Sent mute t1 t2) c.as_slice-2.ensures c.tell-failures-2.ensures.terminal) awaits q m2 c.in-Ok.ensures.ok (subst L first c.tell-failures-2.ensures.report) in
     let P : Bool → Bool → Type 0 = λ a b. IsTurned K plan fitted p (record q { mute = mute; deaf = deaf }) n m2 c.args.done t t1 t2 r r1 r2 (turned_of Goes a b) in
     let E : Ending → Type 0 = λ e. RunEnds K plan fitted m2 e t t2 r r2 in
     subst E (sym c.ended_by-then-failures-2.ensures) (subst (λ a. P a false) c.if-failures-2.true (subst (P mute) c.if-failures.false turned))
@@ -97,6 +97,6 @@ returns-clause-ok g c = λ fitted p n t r running awaits first.
     let deaf = c.tell-failures-2.result.report in
     let L : ℕ → Type 0 = λ k. Sends (report_of plan.digest (take k q.events)) (report_of plan.digest q.events) deaf r1 r2 in
     let turned = IsTurned-cut K g.met.M.Computer.lawful plan fitted p c.args.progress n m c.args.done (bytes_of c.args.bytes) mute deaf t t1 t2 r r1 r2 running c.requires.few
-        (subst (Sent mute t1 t2) c.as_slice-2.ensures c.tell-failures-2.ensures.terminal) awaits q m2 c.in-Ok.ensures.ok (subst L first c.tell-failures-2.ensures.report) in
+    (subst (Sent mute t1 t2) c.as_slice-2.ensures c.tell-failures-2.ensures.terminal) awaits q m2 c.in-Ok.ensures.ok (subst L first c.tell-failures-2.ensures.report) in
     let P : Bool → Bool → Type 0 = λ a b. IsTurned K plan fitted p (record q { mute = mute; deaf = deaf }) n m2 c.args.done t t1 t2 r r1 r2 (turned_of Goes a b) in
     subst (λ a. P a false) c.if-failures-2.false (subst (P mute) c.if-failures.false turned)
