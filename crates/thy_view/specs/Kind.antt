@@ -1,9 +1,13 @@
 -- What a machine is to the layers above: what is seen of it, what its calls promise, and the laws that hold of it.
-use Rattle.std.specs.Prelude.{◌≡◌, ℕ, ◌+◌, ◌*◌, ◌^◌, ◌<◌, ◌≤◌, Bool, true, false, List, [], length, Option, Some}
+use Rattle.std.specs.Prelude.{◌≡◌, ℕ, ◌+◌, ◌*◌, ◌^◌, ◌<◌, ◌≤◌, ◌&&◌, Bool, true, false, List, [], length, drop, Option, Some, Result, IfOk, OnErr}
 use Rattle.thy_base.specs.declared.block.Block.{Block}
 use Rattle.thy_base.specs.declared.config.Parameters.{Parameters}
 use Rattle.thy_base.specs.declared.mix.Pick.{Pick}
 use Rattle.thy_base.specs.declared.nvm.Shape.{Shape}
+use Rattle.thy_base.specs.declared.bytes.Bytes.{Bytes}
+use Rattle.thy_base.specs.declared.mark.Mark.{Mark}
+use Rattle.thy_base.specs.declared.nvm.NvmError.{NvmError}
+use Rattle.thy_base.specs.Bytes.{bytes_of}
 use Rattle.thy_base.specs.Counts.{Rose}
 use Rattle.thy_base.specs.Device.{Device, Crash, HasFailed, cut_to, fitted}
 use Rattle.thy_dram.specs.Contents.{Contents}
@@ -26,7 +30,7 @@ use Rattle.thy_view.specs.Safe.{ceiling, Safe}
 use Rattle.thy_view.specs.Action.{Acts, ActionFailed}
 use Rattle.thy_view.specs.Pace.{Gauge, retires, KeepsPace}
 use Rattle.thy_view.specs.Turn.{Turn, Shortage, Pressure, over_by}
-use Rattle.thy_view.specs.Views.{is_halt, halts, doubt_of}
+use Rattle.thy_view.specs.Views.{is_boot, is_between, is_halt, halts, loads, doubt_of}
 
 -- what is seen of machines of a type
 pub record KindOf (M : Type 0) : Type 1 where
@@ -107,10 +111,38 @@ pub record LeavesSafe {M : Type 0} (K : KindOf M) (o : Origin) (pick : Pick) (m 
   pub safe : Safe K.decode o (K.view o m n).done (K.view o m n).sealed new
   pub acted : CycleFailed K o pick m n new
 
+-- from any moment of any run with this start, a step that succeeded is one
+abbrev pub LeadsOn : {M : Type 0} → KindOf M → Start → Pick → M → M → Device → Device → Result Stepped NvmError → Type 0
+LeadsOn K start pick m next n new result =
+    (o : Origin) (k : ℕ) → Begins o start → K.is_at o k m n → k < 2 ^ 62
+    → IfOk result (λ r. IsStep K o k pick m next n new r)
+
+-- and one that failed leaves what its action may leave
+abbrev pub FailsSafe : {M : Type 0} → KindOf M → Start → Pick → M → Device → Device → Result Stepped NvmError → Type 0
+FailsSafe K start pick m n new result =
+    (o : Origin) (k : ℕ) → Begins o start → K.is_at o k m n → OnErr result (LeavesSafe K o pick m n new)
+
 -- a state is the plain machine's at a view's count
 pub record IsSnapshot (o : Origin) (v : View) (s : MachState) : Type 0 where
   pub state : state_of s ≡ at o v.count
   pub count : s.count ≡ v.count
+
+-- at a moment between two instructions, what was read is one
+abbrev pub Snapshots : {M : Type 0} → KindOf M → M → Device → Result MachState CoreError → Type 0
+Snapshots K m n result =
+    (o : Origin) (k : ℕ) → K.is_at o k m n → is_between (K.view o m n) ≡ true
+    → IfOk result (λ s. IsSnapshot o (K.view o m n) s)
+
+-- at a moment behind the boot, what was read is the console of the committed checkpoint from a byte on
+abbrev pub ShowsConsole : {M : Type 0} → KindOf M → ℕ → M → Device → Result Bytes CoreError → Type 0
+ShowsConsole K from m n result =
+    (o : Origin) (k : ℕ) (done : Mark) → K.is_at o k m n → is_boot (K.view o m n).phase ≡ false
+    → (K.view o m n).done ≡ Some done → IfOk result (λ b. bytes_of b ≡ drop from (at o done.count).console)
+
+-- at a moment, whether the boot goes on and has found no checkpoint
+abbrev pub TellsLoading : {M : Type 0} → KindOf M → M → Bool → Type 0
+TellsLoading K m loading =
+    (o : Origin) (k : ℕ) (n : Device) → K.is_at o k m n → loading ≡ (K.has_read m && loads (K.view o m n))
 
 -- after a call that was to read the device: it failed, or memory ran out and the device is as it was
 abbrev pub HasFailedToRead : CoreError → Device → Device → Type 0

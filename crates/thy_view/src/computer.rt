@@ -1,11 +1,8 @@
 //! What a machine is to the layers above it.
-ghost use Rattle.std.specs.Prelude.{◌≡◌, ◌<◌, ◌^◌, ◌&&◌, ℕ, true, false, drop, IfOk, IfErr, OnOk, OnErr, Some};
-ghost use Rattle.thy_base.specs.declared.mark.Mark.{Mark as MarkValue};
-ghost use Rattle.thy_base.specs.Bytes.{bytes_of};
+ghost use Rattle.std.specs.Prelude.{◌≡◌, ◌<◌, ℕ, IfOk, IfErr, OnOk};
 ghost use Rattle.thy_base.specs.Device.{Device, IsFramed, CountsFault};
-ghost use Rattle.thy_view.specs.Kind.{KindOf, IsLawful, CanStep, CanRead, IsStep, IsDramOf, IsSnapshot, HasFailedToRead, LeavesSafe};
-ghost use Rattle.thy_view.specs.Origin.{Origin, Begins, at};
-ghost use Rattle.thy_view.specs.Views.{is_boot, is_between, loads};
+ghost use Rattle.thy_view.specs.Kind.{KindOf, IsLawful, CanStep, CanRead, IsDramOf, LeadsOn, FailsSafe, Snapshots, ShowsConsole, TellsLoading, HasFailedToRead};
+ghost use Rattle.thy_view.specs.Origin.{Origin};
 
 use crate::{CoreError, Stepped};
 use std::alloc::{AllocError, Global};
@@ -38,8 +35,8 @@ pub trait Computer: Drop {
     /// its DRAM.
     fn step<N: Nvm>(&mut self, pick: Pick, start: &Start, nvm: &mut N) -> Result<Stepped, NvmError>
         requires { CanStep kind start.now self.old (N.device nvm.old) }
-        ensures steps { (o : Origin) (k : ℕ) → Begins o start.now → kind.is_at o k self.old (N.device nvm.old) → k < 2 ^ 62 → IfOk result (λ r. IsStep kind o k pick self.old self.new (N.device nvm.old) (N.device nvm.new) r) }
-        ensures safe { (o : Origin) (k : ℕ) → Begins o start.now → kind.is_at o k self.old (N.device nvm.old) → OnErr result (LeavesSafe kind o pick self.old (N.device nvm.old) (N.device nvm.new)) }
+        ensures steps { LeadsOn kind start.now pick self.old self.new (N.device nvm.old) (N.device nvm.new) result }
+        ensures safe { FailsSafe kind start.now pick self.old (N.device nvm.old) (N.device nvm.new) result }
         ensures frame { IsFramed (N.device nvm.old) (N.device nvm.new) }
         ensures cause { CountsFault result (N.device nvm.old).faults (N.device nvm.new).faults };
 
@@ -49,7 +46,7 @@ pub trait Computer: Drop {
     /// `Nvm` where the device fails, `Memory` for want of memory.
     fn snapshot<N: Nvm>(&self, alloc: Global, nvm: &mut N) -> Result<MachState, CoreError>
         requires { CanRead kind self.now (N.device nvm.old) }
-        ensures state { (o : Origin) (k : ℕ) → kind.is_at o k self.now (N.device nvm.old) → is_between (kind.view o self.now (N.device nvm.old)) ≡ true → IfOk result (λ s. IsSnapshot o (kind.view o self.now (N.device nvm.old)) s) }
+        ensures state { Snapshots kind self.now (N.device nvm.old) result }
         ensures same { OnOk result (N.device nvm.new ≡ N.device nvm.old) }
         ensures err { IfErr result (λ e. HasFailedToRead e (N.device nvm.old) (N.device nvm.new)) }
         ensures frame { IsFramed (N.device nvm.old) (N.device nvm.new) };
@@ -61,14 +58,14 @@ pub trait Computer: Drop {
     /// `Nvm` where the device fails, `Memory` for want of memory.
     fn console<N: Nvm>(&self, alloc: Global, from: u64, nvm: &mut N) -> Result<Bytes, CoreError>
         requires { CanRead kind self.now (N.device nvm.old) }
-        ensures console { (o : Origin) (k : ℕ) (m : MarkValue) → kind.is_at o k self.now (N.device nvm.old) → is_boot (kind.view o self.now (N.device nvm.old)).phase ≡ false → (kind.view o self.now (N.device nvm.old)).done ≡ Some m → IfOk result (λ b. bytes_of b ≡ drop from (at o m.count).console) }
+        ensures console { ShowsConsole kind from self.now (N.device nvm.old) result }
         ensures same { OnOk result (N.device nvm.new ≡ N.device nvm.old) }
         ensures err { IfErr result (λ e. HasFailedToRead e (N.device nvm.old) (N.device nvm.new)) }
         ensures frame { IsFramed (N.device nvm.old) (N.device nvm.new) };
 
     /// Whether the boot goes on and has found no checkpoint.
     fn loading(&self) -> bool
-        ensures { (o : Origin) (k : ℕ) (n : Device) → kind.is_at o k self.now n → result ≡ (kind.has_read self.now && loads (kind.view o self.now n)) };
+        ensures { TellsLoading kind self.now result };
 
     /// Loses power: all is gone but the DRAM, whose bytes are those that the pick draws.
     fn cut(self, pick: u64) -> Dram
