@@ -10,3 +10,4 @@ pub mod Sending
 pub mod Going
 pub mod Stopping
 pub mod Turning
+pub mod Promises

@@ -1,12 +1,10 @@
 //! One cycle: a step of the machine, its events, and the cut that is due after it.
-ghost use Rattle.std.specs.Prelude.{◌≡◌, ◌<◌, ◌+◌, ◌^◌, ◌&&◌, ◌==◌, ℕ, nat_lt, length, slice_index, slice_index_or, IfOk, IfErr, OnErr, List};
+ghost use Rattle.std.specs.Prelude.{◌≡◌, ◌<◌, ◌+◌, ◌^◌, ◌&&◌, ◌==◌, nat_lt, length, slice_index, slice_index_or, IfOk, IfErr};
 ghost use Rattle.thy_base.specs.Bytes.{bytes_of};
 ghost use Rattle.thy_base.specs.Device.{Device as DeviceValue};
-ghost use Rattle.thy_view.specs.declared.did.Stepped.{Stepped as SteppedValue};
 ghost use Rattle.thy_view.specs.Kind.{CanStep};
-ghost use Rattle.thy_run.specs.World.{seen};
-ghost use Rattle.thy_run.specs.Going.{origin_of, world_at, IsPlanned, GoesOn, IsStepped, IsStuck, IsGathered, IsNoted, ComesTo, CanCut, IsCutOffTo};
-ghost use Rattle.thy_run.specs.declared.progress.Progress.{Progress as ProgressValue};
+ghost use Rattle.thy_run.specs.Going.{IsPlanned, GoesOn, CanCut, IsCutOffTo};
+ghost use Rattle.thy_run.specs.Promises.{StepsOn, GetsStuck, ConcludesNoted, CanConclude, Concludes, TakesCycle};
 
 use crate::ending::Stop;
 use crate::gather::{Readings, gather};
@@ -46,8 +44,8 @@ fn step<M: Computer, N: Nvm>(
     nvm: &mut N,
 ) -> Result<Stepped, NvmError>
     requires { CanStep M.kind plan.now.start progress.old.machine (N.device nvm.old) }
-    ensures stepped { (k : ℕ) → M.kind.is_at (origin_of plan.now) k progress.old.machine (N.device nvm.old) → k < 2 ^ 62 → IfOk result (λ r. IsStepped M.kind plan.now progress.old progress.new (N.device nvm.old) (N.device nvm.new) k r) }
-    ensures stuck { (k : ℕ) → M.kind.is_at (origin_of plan.now) k progress.old.machine (N.device nvm.old) → OnErr result (IsStuck M.kind plan.now progress.old progress.new (N.device nvm.old) (N.device nvm.new)) }
+    ensures stepped { StepsOn M.kind plan.now progress.old progress.new (N.device nvm.old) (N.device nvm.new) result }
+    ensures stuck { GetsStuck M.kind plan.now progress.old progress.new (N.device nvm.old) (N.device nvm.new) result }
 {
     let pick = progress.mix.next();
     let stepped = progress.machine.step(pick, &plan.start, nvm)?;
@@ -129,7 +127,7 @@ fn come_to_after<M: Computer>(
     cycle: u64,
 ) -> Outcome
     requires { IsPlanned plan.now }
-    ensures { (fitted : DeviceValue) (p : ProgressValue M) (n m : DeviceValue) (k : ℕ) (bytes : List ℕ) → GoesOn M.kind plan.now fitted p n k → IsNoted M.kind plan.now p progress.now n m k ended bytes → cycle ≡ k + 1 → ComesTo M.kind plan.now p progress.now n m k bytes result }
+    ensures { ConcludesNoted M.kind plan.now progress.now ended cycle result }
 {
     if let Some(status) = ended {
         return Outcome::Ends(status);
@@ -150,8 +148,8 @@ fn conclude<M: Computer>(
     cycle: u64,
 ) -> Advance
     requires planned { IsPlanned plan.now }
-    requires gathered { (fitted : DeviceValue) × (p : ProgressValue M) × (n : DeviceValue) × (m : DeviceValue) × (k : ℕ) × (r : SteppedValue) × GoesOn M.kind plan.now fitted p n k × IsStepped M.kind plan.now p progress.old n m k r × IsGathered (origin_of plan.now) (seen M.kind (origin_of plan.now) (world_at p n k)) (M.kind.view (origin_of plan.now) progress.old.machine m) progress.old did readings × (r.did ≡ did) × (cycle ≡ k + 1) }
-    ensures { (fitted : DeviceValue) (p : ProgressValue M) (n m : DeviceValue) (k : ℕ) (r : SteppedValue) → GoesOn M.kind plan.now fitted p n k → IsStepped M.kind plan.now p progress.old n m k r → IsGathered (origin_of plan.now) (seen M.kind (origin_of plan.now) (world_at p n k)) (M.kind.view (origin_of plan.now) progress.old.machine m) progress.old did readings → r.did ≡ did → cycle ≡ k + 1 → ComesTo M.kind plan.now p progress.new n m k (bytes_of result.bytes) result.outcome }
+    requires gathered { CanConclude M.kind plan.now progress.old did readings cycle }
+    ensures { Concludes M.kind plan.now progress.old progress.new did readings cycle (bytes_of result.bytes) result.outcome }
 {
     let Readings {
         reload,
@@ -185,7 +183,7 @@ pub fn take_cycle<M: Computer, N: Nvm>(
     requires planned { IsPlanned plan.now }
     requires goes { (fitted : DeviceValue) × GoesOn M.kind plan.now fitted progress.old (N.device nvm.old) done }
     requires few { done < 2 ^ 62 }
-    ensures { (fitted : DeviceValue) → GoesOn M.kind plan.now fitted progress.old (N.device nvm.old) done → ComesTo M.kind plan.now progress.old progress.new (N.device nvm.old) (N.device nvm.new) done (bytes_of result.bytes) result.outcome }
+    ensures { TakesCycle M.kind plan.now progress.old progress.new (N.device nvm.old) (N.device nvm.new) done (bytes_of result.bytes) result.outcome }
 {
     let stepped = match step(progress, plan, nvm) {
         Ok(stepped) => stepped,

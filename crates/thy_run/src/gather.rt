@@ -1,14 +1,10 @@
 //! What the machine is read for after a step, before any event of it is made.
-ghost use Rattle.std.specs.Prelude.{◌≡◌, ◌&&◌, ℕ, true, false, IfOk, IfErr, OnOk};
-ghost use Rattle.thy_base.specs.Bytes.{bytes_of};
-ghost use Rattle.thy_base.specs.Device.{IsFramed, Device as DeviceValue};
-ghost use Rattle.thy_view.specs.Kind.{CanRead, IsSnapshot, HasFailedToRead};
-ghost use Rattle.thy_view.specs.Views.{loads, is_between};
-ghost use Rattle.thy_view.specs.Origin.{Origin};
-ghost use Rattle.thy_view.specs.declared.view.View.{View};
-ghost use Rattle.thy_view.specs.declared.did.Stepped.{Stepped as SteppedValue};
-ghost use Rattle.thy_run.specs.Due.{shows_console, due_of};
-ghost use Rattle.thy_run.specs.Going.{CanGather, Restores, IsEnding, IsGathered};
+ghost use Rattle.std.specs.Prelude.{◌≡◌, ◌&&◌, IfErr, OnOk};
+ghost use Rattle.thy_base.specs.Device.{IsFramed};
+ghost use Rattle.thy_view.specs.Kind.{CanRead, HasFailedToRead};
+ghost use Rattle.thy_view.specs.Views.{loads};
+ghost use Rattle.thy_run.specs.Due.{shows_console};
+ghost use Rattle.thy_run.specs.Promises.{BoxesSnapshot, ReadsRestart, ReadsDue, ReadsEnd, TellsReload, GathersAll};
 
 use crate::progress::Progress;
 use std::alloc::{AllocError, Global};
@@ -46,7 +42,7 @@ fn boxed_snapshot<M: Computer, N: Nvm>(
     nvm: &mut N,
 ) -> Result<Box<MachState>, CoreError>
     requires { CanRead M.kind machine.now (N.device nvm.old) }
-    ensures state { (o : Origin) (k : ℕ) → M.kind.is_at o k machine.now (N.device nvm.old) → is_between (M.kind.view o machine.now (N.device nvm.old)) ≡ true → IfOk result (λ s. IsSnapshot o (M.kind.view o machine.now (N.device nvm.old)) s.value) }
+    ensures state { BoxesSnapshot M.kind machine.now (N.device nvm.old) result }
     ensures same { OnOk result (N.device nvm.new ≡ N.device nvm.old) }
     ensures err { IfErr result (λ e. HasFailedToRead e (N.device nvm.old) (N.device nvm.new)) }
     ensures frame { IsFramed (N.device nvm.old) (N.device nvm.new) }
@@ -66,7 +62,7 @@ fn restored<M: Computer, N: Nvm>(
     nvm: &mut N,
 ) -> Result<Option<Box<MachState>>, CoreError>
     requires { CanRead M.kind progress.now.machine (N.device nvm.old) }
-    ensures read { (o : Origin) (k : ℕ) (v : View) (r : SteppedValue) → r.did ≡ did → CanGather M.kind o k v progress.now (N.device nvm.old) r → IfOk result (λ s. Restores o did s) }
+    ensures read { ReadsRestart M.kind progress.now (N.device nvm.old) did result }
     ensures same { OnOk result (N.device nvm.new ≡ N.device nvm.old) }
     ensures err { IfErr result (λ e. HasFailedToRead e (N.device nvm.old) (N.device nvm.new)) }
     ensures frame { IsFramed (N.device nvm.old) (N.device nvm.new) }
@@ -88,7 +84,7 @@ fn due<M: Computer, N: Nvm>(
     nvm: &mut N,
 ) -> Result<Bytes, CoreError>
     requires { CanRead M.kind progress.now.machine (N.device nvm.old) }
-    ensures read { (o : Origin) (k : ℕ) (v : View) (r : SteppedValue) → r.did ≡ did → CanGather M.kind o k v progress.now (N.device nvm.old) r → IfOk result (λ b. bytes_of b ≡ due_of o progress.now.events did (M.kind.view o progress.now.machine (N.device nvm.old))) }
+    ensures read { ReadsDue M.kind progress.now (N.device nvm.old) did result }
     ensures same { OnOk result (N.device nvm.new ≡ N.device nvm.old) }
     ensures err { IfErr result (λ e. HasFailedToRead e (N.device nvm.old) (N.device nvm.new)) }
     ensures frame { IsFramed (N.device nvm.old) (N.device nvm.new) }
@@ -108,7 +104,7 @@ fn ending<M: Computer, N: Nvm>(
     nvm: &mut N,
 ) -> Result<Option<Box<MachState>>, CoreError>
     requires { CanRead M.kind progress.now.machine (N.device nvm.old) }
-    ensures read { (o : Origin) (k : ℕ) (v : View) (r : SteppedValue) → r.ended ≡ ended → CanGather M.kind o k v progress.now (N.device nvm.old) r → IfOk result (λ s. IsEnding o v (M.kind.view o progress.now.machine (N.device nvm.old)) s) }
+    ensures read { ReadsEnd M.kind progress.now (N.device nvm.old) ended result }
     ensures same { OnOk result (N.device nvm.new ≡ N.device nvm.old) }
     ensures err { IfErr result (λ e. HasFailedToRead e (N.device nvm.old) (N.device nvm.new)) }
     ensures frame { IsFramed (N.device nvm.old) (N.device nvm.new) }
@@ -122,7 +118,7 @@ fn ending<M: Computer, N: Nvm>(
 
 /// Whether the step is the first after a cut, and found no checkpoint.
 fn reloads<M: Computer>(progress: &Progress<M>) -> bool
-    ensures { (o : Origin) (k : ℕ) (v : View) (n : DeviceValue) (r : SteppedValue) → CanGather M.kind o k v progress.now n r → result ≡ (progress.now.fresh && loads (M.kind.view o progress.now.machine n)) }
+    ensures { TellsReload M.kind progress.now result }
 {
     let loads = progress.machine.loading();
     progress.fresh && loads
@@ -136,7 +132,7 @@ pub fn gather<M: Computer, N: Nvm>(
     nvm: &mut N,
 ) -> Result<Readings, CoreError>
     requires { CanRead M.kind progress.now.machine (N.device nvm.old) }
-    ensures read { (o : Origin) (k : ℕ) (v : View) → CanGather M.kind o k v progress.now (N.device nvm.old) stepped.now → IfOk result (λ r. IsGathered o v (M.kind.view o progress.now.machine (N.device nvm.old)) progress.now stepped.now.did r) }
+    ensures read { GathersAll M.kind progress.now (N.device nvm.old) stepped.now result }
     ensures same { OnOk result (N.device nvm.new ≡ N.device nvm.old) }
     ensures err { IfErr result (λ e. HasFailedToRead e (N.device nvm.old) (N.device nvm.new)) }
     ensures frame { IsFramed (N.device nvm.old) (N.device nvm.new) }

@@ -1,0 +1,102 @@
+-- What the functions of the loop promise each other: each from any moment of any run.
+use Rattle.std.specs.Prelude.{◌≡◌, ℕ, ◌+◌, ◌<◌, ◌^◌, ◌&&◌, true, Bool, List, Option, Result, IfOk, OnErr, Box}
+use Rattle.std.specs.declared.alloc.Global.{Global}
+use Rattle.thy_base.specs.declared.bytes.Bytes.{Bytes}
+use Rattle.thy_base.specs.declared.nvm.NvmError.{NvmError}
+use Rattle.thy_base.specs.Bytes.{bytes_of}
+use Rattle.thy_base.specs.Device.{Device}
+use Rattle.thy_isa.specs.declared.state.MachState.{MachState}
+use Rattle.thy_isa.specs.declared.state.Status.{Status}
+use Rattle.thy_view.specs.declared.did.Did.{Did}
+use Rattle.thy_view.specs.declared.did.Stepped.{Stepped}
+use Rattle.thy_view.specs.declared.error.CoreError.{CoreError}
+use Rattle.thy_view.specs.declared.view.View.{View}
+use Rattle.thy_view.specs.Kind.{IsSnapshot, KindOf}
+use Rattle.thy_view.specs.Origin.{Origin}
+use Rattle.thy_view.specs.Views.{is_between, loads}
+use Rattle.thy_run.specs.Due.{due_of}
+use Rattle.thy_run.specs.declared.advance.Outcome.{Outcome}
+use Rattle.thy_run.specs.declared.gather.Readings.{Readings}
+use Rattle.thy_run.specs.declared.plan.Plan.{Plan}
+use Rattle.thy_run.specs.declared.progress.Progress.{Progress}
+use Rattle.thy_run.specs.Going.{origin_of, world_at, GoesOn, IsStepped, IsStuck, CanGather, Restores, IsEnding, IsGathered, IsNoted, ComesTo}
+use Rattle.thy_run.specs.World.{seen}
+
+-- ---- a step
+
+-- a step that succeeded is the schedule's next
+abbrev pub StepsOn : {M : Type 0} → KindOf M → Plan → Progress M → Progress M → Device → Device → Result Stepped NvmError → Type 0
+StepsOn K plan p next n new result =
+    (k : ℕ) → K.is_at (origin_of plan) k p.machine n → k < 2 ^ 62
+    → IfOk result (λ r. IsStepped K plan p next n new k r)
+
+-- and one that failed leaves what its action may leave
+abbrev pub GetsStuck : {M : Type 0} → KindOf M → Plan → Progress M → Progress M → Device → Device → Result Stepped NvmError → Type 0
+GetsStuck K plan p next n new result =
+    (k : ℕ) → K.is_at (origin_of plan) k p.machine n → OnErr result (IsStuck K plan p next n new)
+
+-- ---- what is read for a step's events
+
+-- a snapshot is the plain machine's state
+abbrev pub BoxesSnapshot : {M : Type 0} → KindOf M → M → Device → Result (Box MachState Global) CoreError → Type 0
+BoxesSnapshot K m n result =
+    (o : Origin) (k : ℕ) → K.is_at o k m n → is_between (K.view o m n) ≡ true
+    → IfOk result (λ s. IsSnapshot o (K.view o m n) s.value)
+
+abbrev pub ReadsRestart : {M : Type 0} → KindOf M → Progress M → Device → Did → Result (Option (Box MachState Global)) CoreError → Type 0
+ReadsRestart K p n did result =
+    (o : Origin) (k : ℕ) (v : View) (r : Stepped) → r.did ≡ did → CanGather K o k v p n r
+    → IfOk result (λ s. Restores o did s)
+
+abbrev pub ReadsDue : {M : Type 0} → KindOf M → Progress M → Device → Did → Result Bytes CoreError → Type 0
+ReadsDue K p n did result =
+    (o : Origin) (k : ℕ) (v : View) (r : Stepped) → r.did ≡ did → CanGather K o k v p n r
+    → IfOk result (λ b. bytes_of b ≡ due_of o p.events did (K.view o p.machine n))
+
+abbrev pub ReadsEnd : {M : Type 0} → KindOf M → Progress M → Device → Bool → Result (Option (Box MachState Global)) CoreError → Type 0
+ReadsEnd K p n ended result =
+    (o : Origin) (k : ℕ) (v : View) (r : Stepped) → r.ended ≡ ended → CanGather K o k v p n r
+    → IfOk result (λ s. IsEnding o v (K.view o p.machine n) s)
+
+abbrev pub TellsReload : {M : Type 0} → KindOf M → Progress M → Bool → Type 0
+TellsReload K p reload =
+    (o : Origin) (k : ℕ) (v : View) (n : Device) (r : Stepped) → CanGather K o k v p n r
+    → reload ≡ (p.fresh && loads (K.view o p.machine n))
+
+abbrev pub GathersAll : {M : Type 0} → KindOf M → Progress M → Device → Stepped → Result Readings CoreError → Type 0
+GathersAll K p n stepped result =
+    (o : Origin) (k : ℕ) (v : View) → CanGather K o k v p n stepped
+    → IfOk result (λ r. IsGathered o v (K.view o p.machine n) p stepped.did r)
+
+-- ---- a cycle
+
+-- what a cycle comes to whose events were made
+abbrev pub ConcludesNoted : {M : Type 0} → KindOf M → Plan → Progress M → Option Status → ℕ → Outcome → Type 0
+ConcludesNoted {M = M} K plan next ended cycle outcome =
+    (fitted : Device) (p : Progress M) (n m : Device) (k : ℕ) (bytes : List ℕ)
+    → GoesOn K plan fitted p n k → IsNoted K plan p next n m k ended bytes → cycle ≡ k + 1
+    → ComesTo K plan p next n m k bytes outcome
+
+-- what was read for the events of a step from p to q
+abbrev pub IsGatheredFor : {M : Type 0} → KindOf M → Plan → Progress M → Progress M → Device → Device → ℕ → Did → Readings → Type 0
+IsGatheredFor K plan p q n m k did readings =
+    IsGathered (origin_of plan) (seen K (origin_of plan) (world_at p n k)) (K.view (origin_of plan) q.machine m) q did readings
+
+-- a step was taken, and all was read for its events
+abbrev pub CanConclude : {M : Type 0} → KindOf M → Plan → Progress M → Did → Readings → ℕ → Type 0
+CanConclude {M = M} K plan q did readings cycle =
+    (fitted : Device) × (p : Progress M) × (n : Device) × (m : Device) × (k : ℕ) × (r : Stepped)
+    × GoesOn K plan fitted p n k × IsStepped K plan p q n m k r × IsGatheredFor K plan p q n m k did readings
+    × (r.did ≡ did) × (cycle ≡ k + 1)
+
+-- and then its cycle comes to this
+abbrev pub Concludes : {M : Type 0} → KindOf M → Plan → Progress M → Progress M → Did → Readings → ℕ → List ℕ → Outcome → Type 0
+Concludes {M = M} K plan q next did readings cycle bytes outcome =
+    (fitted : Device) (p : Progress M) (n m : Device) (k : ℕ) (r : Stepped)
+    → GoesOn K plan fitted p n k → IsStepped K plan p q n m k r → IsGatheredFor K plan p q n m k did readings
+    → r.did ≡ did → cycle ≡ k + 1 → ComesTo K plan p next n m k bytes outcome
+
+-- from where a run goes on, a cycle comes to this
+abbrev pub TakesCycle : {M : Type 0} → KindOf M → Plan → Progress M → Progress M → Device → Device → ℕ → List ℕ → Outcome → Type 0
+TakesCycle K plan p next n new done bytes outcome =
+    (fitted : Device) → GoesOn K plan fitted p n done → ComesTo K plan p next n new done bytes outcome
