@@ -4,11 +4,12 @@ use Rattle.std.specs.Option.{option_map, option_map_or, is_some}
 use Rattle.std.proofs.lemmas.Bool.{cases_eq}
 use Rattle.std.proofs.lemmas.List.{length-set}
 use Rattle.thy_base.specs.declared.block.Block.{Block}
+use Rattle.thy_base.specs.Blocks.{overwritten}
 use Rattle.thy_base.specs.Device.{block_at}
 use Rattle.thy_cache.specs.declared.line.Line.{Line}
 use Rattle.thy_cache.specs.Ways.{Ways, line_at, line_in, way_of, is_dirty, used, used_for, over_line, changed, written_to, dirty_lines}
 use Rattle.thy_cache.specs.Contents.{Contents, IsSound, set_of, index_of, line_of, peeked, hits, read_from, written_at, dirty_count}
-use Rattle.thy_cache.specs.Flat.{flat, overwritten, SetAgrees, PeeksSame, HitsSame, ReadsSame, ReadsAs, WritesOver, AgreesStill}
+use Rattle.thy_cache.specs.Flat.{flat, SetAgrees, PeeksSame, HitsSame, ReadsSame, ReadsAs, WritesOver, AgreesStill}
 use Rattle.thy_cache.proofs.LineLemmas.{KeepsBlock, place-way_of, held, line_in-changed, line_in-other}
 use Rattle.thy_cache.proofs.AgreeLemmas.{SetAgrees-same, SetAgrees-over_line}
 use Rattle.thy_cache.proofs.FlatLemmas.{block_at-flat, flat-same, flat-put, set_of-same, line_of-kept, Agrees-with_set}

@@ -1,8 +1,8 @@
 -- A cache over a store, read as one flat list of blocks.
-use Rattle.std.specs.Prelude.{◌≡◌, ℕ, ◌<◌, ◌%◌, List, length, map, slice_set, false, Some, unwrap_or}
+use Rattle.std.specs.Prelude.{◌≡◌, ℕ, ◌<◌, ◌%◌, List, length, map, false, Some, unwrap_or}
 use Rattle.std.specs.List.{range_with_len}
 use Rattle.thy_base.specs.declared.block.Block.{Block}
-use Rattle.thy_base.specs.Bytes.{written}
+use Rattle.thy_base.specs.Blocks.{block_written}
 use Rattle.thy_base.specs.Device.{block_at}
 use Rattle.thy_cache.specs.declared.line.Line.{Line}
 use Rattle.thy_cache.specs.Ways.{Ways, line_at}
@@ -15,10 +15,6 @@ flat_at c blocks b = unwrap_or (peeked c b) (block_at blocks b)
 -- every block of the store so read
 unfoldable pub flat : Contents → List Block → List Block
 flat c blocks = map (flat_at c blocks) (range_with_len 0 (length blocks))
-
--- a block with bytes written over it from a byte on
-abbrev pub overwritten : ℕ → List ℕ → Block → Block
-overwritten at bytes block = record { 0 = written block.0 at bytes }
 
 -- a line of set s among so many is of one of the store's blocks, lies in its set, and is the store's block if it is clean
 pub record IsLineOf (sets : ℕ) (blocks : List Block) (s : ℕ) (line : Line) : Type 0 where
@@ -55,7 +51,7 @@ ReadsAs c b block = (blocks : List Block) → b < length blocks → block_at (fl
 -- the flat list has these bytes of a block and is else the same, over every store
 abbrev pub WritesOver : ℕ → ℕ → List ℕ → Contents → Contents → Type 0
 WritesOver b at bytes old new = (blocks : List Block) → b < length blocks
-    → flat new blocks ≡ slice_set (flat old blocks) b (overwritten at bytes (block_at (flat old blocks) b))
+    → flat new blocks ≡ block_written (flat old blocks) b at bytes
 
 -- every store that agreed does so still
 abbrev pub AgreesStill : Contents → Contents → Type 0

@@ -2,7 +2,7 @@
 ghost use Rattle.std.specs.Prelude.{◌≡◌, ◌<◌, ◌≤◌, ◌+◌, ◌==◌, ◌++◌, [], ◌∷◌, length, replicate, remove, position, is_none, IfOk, IfSome};
 ghost use Rattle.std.specs.List.{range_with_len};
 ghost use Rattle.std.specs.Option.{option_map};
-ghost use Rattle.thy_base.specs.Bytes.{written};
+ghost use Rattle.thy_base.specs.Blocks.{overwritten};
 ghost use Rattle.thy_cache.specs.Ways.{is_dirty, has_dirty, empty_ways, line_at, line_in, way_of, used, used_for, with_line, over_line, clean, changed, written_to, filled, victim_way};
 
 use crate::line::Line;
@@ -248,7 +248,7 @@ fn changed(line: Option<Line>, at: usize, bytes: &[u8]) -> Option<Line>
 /// A block with bytes written over it from byte `at` on.
 fn overwritten(block: Block, at: usize, bytes: &[u8]) -> Block
     requires { at + length bytes.now ≤ 64 }
-    ensures { result ≡ record { 0 = written block.0 at bytes.now } }
+    ensures { result ≡ overwritten at bytes.now block }
 {
     let mut block = block;
     block.0[at..at + bytes.len()].copy_from_slice(bytes);

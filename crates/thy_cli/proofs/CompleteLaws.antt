@@ -1,5 +1,5 @@
 -- An answer is complete: where nothing is amiss it is that of the program's own end.
-use Rattle.std.proofs.Common.{◌≡◌, ℕ, ◌+◌, ◌-◌, ◌<◌, ◌≤◌, Bool, true, false, Some, None, List, [], ◌∷◌, length, refl, sym, ◌∙◌, ap, subst, inl, inr, arith}
+use Rattle.std.proofs.Common.{◌≡◌, ℕ, ◌+◌, ◌-◌, ◌<◌, ◌≤◌, Bool, true, false, Some, None, List, [], ◌∷◌, ◌++◌, length, refl, sym, ◌∙◌, ap, subst, inl, inr, arith}
 use Rattle.std.specs.Prelude.{Ok, Err, MatchOption}
 use Rattle.std.proofs.lemmas.Bool.{cases_order}
 use Rattle.thy_base.specs.declared.config.Parameters.{Parameters}
@@ -21,7 +21,7 @@ use Rattle.thy_isa.specs.Step.{State, Setting, is_running, steps}
 use Rattle.thy_isa.proofs.StepLaws.{steps-add, steps-ended}
 use Rattle.thy_plain.specs.Machine.{setting_for}
 use Rattle.thy_plain.specs.Start.{start_state}
-use Rattle.thy_text.specs.Happening.{Happening, EpochEnd, Commit, Cut, Restart, Reload, Ended as EndedEvent}
+use Rattle.thy_text.specs.Happening.{Happening, Ended as EndedEvent}
 use Rattle.thy_text.specs.Marks.{Course, Marks, marks_after, AllLawful}
 use Rattle.thy_words.specs.declared.words.WordsError.{WordsError}
 use Rattle.thy_words.specs.declared.words.WordsError.TheVariants.{Usage, Word, Value, Memory as WordsMemory}
@@ -29,7 +29,8 @@ use Rattle.thy_words.specs.Settings.{Job, Order, run, plain, settings_of}
 use Rattle.thy_view.specs.Kind.{KindOf}
 use Rattle.thy_view.specs.Origin.{Origin, setting_of, at}
 use Rattle.thy_run.specs.Progress.{cycles_for}
-use Rattle.thy_run.specs.Going.{origin_of, end_of}
+use Rattle.thy_run.specs.Going.{origin_of, EndsWith}
+use Rattle.thy_run.specs.Laws.{course_of, first_marks}
 use Rattle.thy_run.specs.Sending.{Sent, Delivered}
 use Rattle.thy_run.specs.Turning.{is_memory, StopFits}
 use Rattle.thy_run.specs.declared.ending.Stop.{Stop}
@@ -74,21 +75,16 @@ record IsEndOf (c : Course) (status : Status) : Type 0 where
   is_status : status ≡ (c.at count).status
   over : is_running (c.at count).status ≡ false
 
-end_lawful : (c : Course) (m : Marks) (vs : List Happening) (status : Status) → AllLawful c m vs → end_of vs ≡ Some status → IsEndOf c status
-end_lawful c m [] status all e = absurd (cc)
-end_lawful c m (EndedEvent told count cycle state ∷ vs) status all e =
-    let same : told ≡ status = cc in
+end_lawful : (c : Course) (m : Marks) (vs : List Happening) (status : Status) (count cycle : ℕ) (state : State)
+    → AllLawful c m (vs ++ EndedEvent status count cycle state ∷ []) → IsEndOf c status
+end_lawful c m [] status count cycle state all =
     let whole : state ≡ c.at count = all.0.0.whole in
     record {
       count = count;
-      is_status = sym same ∙ all.0.1 ∙ ap (λ (s : State). s.status) whole;
+      is_status = all.0.1 ∙ ap (λ (s : State). s.status) whole;
       over = ap (λ (s : State). is_running s.status) (sym whole) ∙ all.0.0.over;
     }
-end_lawful c m (EpochEnd epoch count cause ∷ vs) status all e = end_lawful c (marks_after c.start m (EpochEnd epoch count cause)) vs status all.1 e
-end_lawful c m (Commit epoch cycle overlapped ∷ vs) status all e = end_lawful c (marks_after c.start m (Commit epoch cycle overlapped)) vs status all.1 e
-end_lawful c m (Cut index cycle ∷ vs) status all e = end_lawful c (marks_after c.start m (Cut index cycle)) vs status all.1 e
-end_lawful c m (Restart epoch count state ∷ vs) status all e = end_lawful c (marks_after c.start m (Restart epoch count state)) vs status all.1 e
-end_lawful c m (Reload ∷ vs) status all e = end_lawful c (marks_after c.start m Reload) vs status all.1 e
+end_lawful c m (v ∷ vs) status count cycle state all = end_lawful c (marks_after c.start m v) vs status count cycle state all.1
 
 -- ---- refusals
 
@@ -201,9 +197,11 @@ module _ {M : Type 0} (K : KindOf M) (job : Job) (k : ℕ) (before after : Outsi
   fits stop is = subst (StopFits h.plan h.device after.device h.ending) is h.ends.stop_fits
 
   -- at an end the status is the program's
-  told_end : (status : Status) → end_of h.ending.events ≡ Some status → status ≡ (steps g k first).status
+  told_end : (status : Status) → EndsWith h.ending.events status → status ≡ (steps g k first).status
   told_end status e =
-      let end : IsEndOf _ status = end_lawful _ _ a.events status h.promise.events_lawful (ap end_of h.events ∙ e) in
+      let lawful : AllLawful (course_of o) (first_marks o) (e.before ++ EndedEvent status e.count e.cycle e.state ∷ []) =
+      subst (AllLawful (course_of o) (first_marks o)) (h.events ∙ e.last) h.promise.events_lawful in
+      let end : IsEndOf (course_of o) status = end_lawful (course_of o) (first_marks o) e.before status e.count e.cycle e.state lawful in
       let here : at o end.count ≡ steps g (end.count - o.start.count) first = at_count end.count in
       let ended : is_running (steps g (end.count - o.start.count) first).status ≡ false = ap (λ (x : State). is_running x.status) (sym here) ∙ end.over in
       end.is_status ∙ ap (λ (x : State). x.status) here ∙ ap (λ (x : State). x.status) (same_end g first (end.count - o.start.count) k ended over)

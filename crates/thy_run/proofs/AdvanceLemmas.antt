@@ -31,7 +31,7 @@ use Rattle.thy_run.specs.declared.ending.Stop.{Stop}
 use Rattle.thy_run.specs.declared.ending.Stop.TheVariants.{Nvm}
 use Rattle.thy_run.specs.declared.plan.Plan.{Plan}
 use Rattle.thy_run.specs.declared.progress.Progress.{Progress}
-use Rattle.thy_run.specs.Going.{origin_of, given_of, world_at, IsPlanned, GoesOn, IsStepped, IsStuck, CanGather, MadeSome, end_of, IsEnd, IsNoted, IsDone, IsBroken, Breaks, AwaitsCut, CanCut, IsCutOffTo}
+use Rattle.thy_run.specs.Going.{origin_of, given_of, world_at, IsPlanned, GoesOn, IsStepped, IsStuck, CanGather, MadeSome, EndsWith, IsEnd, IsNoted, IsDone, IsBroken, Breaks, AwaitsCut, CanCut, IsCutOffTo}
 use Rattle.thy_run.specs.Stopping.{stop_of}
 
 -- the progress after a step of the machine
@@ -67,24 +67,11 @@ halted_due h d e = ap (λ x. not x && d) e
 due_both : (h d : Bool) → h ≡ false → d ≡ true → (not h && d) ≡ true
 due_both h d e f = ap (λ x. not x && d) e ∙ f
 
--- the end among more events
-end_of-append : (vs ws : List Happening) → has_ended vs ≡ false → end_of (vs ++ ws) ≡ end_of ws
-end_of-append [] ws none = refl
-end_of-append (EndedEvent status count cycle state ∷ vs) ws none = absurd (cc)
-end_of-append (EpochEnd epoch count cause ∷ vs) ws none = end_of-append vs ws none
-end_of-append (Commit epoch cycle overlapped ∷ vs) ws none = end_of-append vs ws none
-end_of-append (Cut index cycle ∷ vs) ws none = end_of-append vs ws none
-end_of-append (Restart epoch count state ∷ vs) ws none = end_of-append vs ws none
-end_of-append (Reload ∷ vs) ws none = end_of-append vs ws none
-
--- the end among a step's events
-end_of-events : (o : Origin) (fresh : Bool) (v : View) (did : Did) (next : View) (cycle : ℕ) → halts v next ≡ true
-    → end_of (events_of o fresh v did next cycle) ≡ Some (at o next.count).status
-end_of-events o fresh v did next cycle halt =
-    end_of-append (reload_told fresh next ++ told o did cycle) (end_told o v next cycle)
-    (list_any-append is_end (reload_told fresh next) (told o did cycle)
-    ∙ or_from (has_ended (reload_told fresh next)) (has_ended (told o did cycle)) (reload_uncut (fresh && loads next)).1 (told_uncut o did cycle).1)
-    ∙ ap (λ b. end_of (if b then EndedEvent (at o next.count).status next.count cycle (at o next.count) ∷ [] else [])) halt
+-- what a cycle that halts tells of the end
+end_told-halted : (o : Origin) (v next : View) (cycle : ℕ) → halts v next ≡ true
+    → end_told o v next cycle ≡ EndedEvent (at o next.count).status next.count cycle (at o next.count) ∷ []
+end_told-halted o v next cycle halt =
+    ap (λ b. if b then EndedEvent (at o next.count).status next.count cycle (at o next.count) ∷ [] else []) halt
 
 module _ {M : Type 0} (K : KindOf M) (laws : IsLawful K) (plan : Plan) (p q : Progress M) (n m : Device) (k : ℕ) (ended : Option Status) (bytes : List ℕ) (noted : IsNoted K plan p q n m k ended bytes) where
   abbrev o : Origin
@@ -123,17 +110,25 @@ module _ {M : Type 0} (K : KindOf M) (laws : IsLawful K) (plan : Plan) (p q : Pr
   }
 
   -- the step ended the run
-  pub done_ended : (fitted : Device) (status : Status) → IsPlanned plan → GoesOn K plan fitted p n k → ended ≡ Some status
-      → IsDone K plan p q n m k bytes × (is_halt (seen K (origin_of plan) (world_at q m (k + 1))).phase ≡ true) × (end_of q.events ≡ Some status)
-  done_ended fitted status planned g is =
+  pub done_ended : (status : Status) → ended ≡ Some status
+      → IsDone K plan p q n m k bytes × (is_halt (seen K (origin_of plan) (world_at q m (k + 1))).phase ≡ true) × EndsWith q.events status
+  done_ended status is =
       let v : View = seen K (origin_of plan) (world_at p n k) in
       let next : View = seen K (origin_of plan) (world_at q m (k + 1)) in
       let end : IsEnd (origin_of plan) v next (Some status) = subst (IsEnd (origin_of plan) v next) is noted.is_end in
       let halt : is_halt next.phase ≡ true = halted_next (is_halt v.phase) (is_halt next.phase) end.0 in
-      let before : has_ended p.events ≡ false = (good_of K plan fitted p n k planned g).stands.ended ∙ g.going in
-      let said : end_of q.events ≡ Some status =
-      ap end_of told_all ∙ end_of-append p.events _ before ∙ end_of-events (origin_of plan) p.fresh v noted.steps.r.did next (k + 1) end.0 ∙ ap Some (sym end.1) in
-      (done_uncut (halted_due (is_halt next.phase) _ halt), halt, said)
+      let first : List Happening = reload_told p.fresh next ++ told (origin_of plan) noted.steps.r.did (k + 1) in
+      let told_last : end_told (origin_of plan) v next (k + 1) ≡ EndedEvent status next.count (k + 1) (at (origin_of plan) next.count) ∷ [] =
+      end_told-halted (origin_of plan) v next (k + 1) end.0 ∙ ap (λ x. EndedEvent x next.count (k + 1) (at (origin_of plan) next.count) ∷ []) (sym end.1) in
+      let ends : EndsWith q.events status = record {
+        before = p.events ++ first;
+        count = next.count;
+        cycle = k + 1;
+        state = at (origin_of plan) next.count;
+        last = told_all ∙ ap (λ (l : List Happening). p.events ++ (first ++ l)) told_last
+            ∙ sym (append_assoc p.events first (EndedEvent status next.count (k + 1) (at (origin_of plan) next.count) ∷ []));
+      } in
+      (done_uncut (halted_due (is_halt next.phase) _ halt), halt, ends)
 
   going_on : ended ≡ None → is_halt (seen K (origin_of plan) (world_at q m (k + 1))).phase ≡ false
   going_on is =

@@ -8,7 +8,7 @@ use Rattle.thy_base.specs.Device.{Device, IsFramed, IsCut}
 use Rattle.thy_base.specs.Mix.{mix_pick, mix_next}
 use Rattle.thy_isa.specs.declared.state.MachState.{MachState}
 use Rattle.thy_isa.specs.declared.state.Status.{Status}
-use Rattle.thy_isa.specs.Step.{state_of}
+use Rattle.thy_isa.specs.Step.{State, state_of}
 use Rattle.thy_text.specs.Happening.{Happening, Cut, Ended as EndedEvent}
 use Rattle.thy_view.specs.declared.did.Did.{Did}
 use Rattle.thy_view.specs.declared.did.Did.TheVariants.{Restarted}
@@ -165,11 +165,13 @@ Breaks p next n new bytes Nvm = IsFault p next n new bytes
 Breaks p next n new bytes Memory = Unit {0}
 Breaks p next n new bytes stop = ⊥
 
--- the status of the end among events
-abbrev pub end_of : List Happening → Option Status
-end_of [] = None
-end_of (EndedEvent status count cycle state ∷ vs) = Some status
-end_of (event ∷ vs) = end_of vs
+-- the last event is the end, with this status
+pub record EndsWith (events : List Happening) (status : Status) : Type 0 where
+  pub before : List Happening
+  pub count : ℕ
+  pub cycle : ℕ
+  pub state : State
+  pub last : events ≡ before ++ EndedEvent status count cycle state ∷ []
 
 -- a cut is due after a cycle whose events were made: the next one that is listed
 pub record AwaitsCut {M : Type 0} (K : KindOf M) (plan : Plan) (p next : Progress M) (n new : Device) (cycles : ℕ) (bytes : List ℕ) : Type 0 where
@@ -184,7 +186,7 @@ ComesTo K plan p next n new cycles bytes Cuts = AwaitsCut K plan p next n new cy
 ComesTo K plan p next n new cycles bytes (Ends status) =
     IsDone K plan p next n new cycles bytes
     × (is_halt (seen K (origin_of plan) (world_at next new (cycles + 1))).phase ≡ true)
-    × (end_of next.events ≡ Some status)
+    × EndsWith next.events status
 ComesTo K plan p next n new cycles bytes (Fails stop) = IsBroken K plan p next n new cycles bytes × Breaks p next n new bytes stop
 
 -- power may be cut: the machine is at a moment of the run, and another cut is listed

@@ -25,7 +25,7 @@ use Rattle.thy_run.specs.declared.cycles.Turned.TheVariants.{GoesOn as TurnedOn,
 use Rattle.thy_run.specs.declared.plan.Plan.{Plan}
 use Rattle.thy_run.specs.declared.progress.Progress.{Progress}
 use Rattle.thy_base.specs.Bytes.{bytes_of}
-use Rattle.thy_run.specs.Going.{origin_of, given_of, end_of, GoesOn, AwaitsCut}
+use Rattle.thy_run.specs.Going.{origin_of, given_of, EndsWith, GoesOn, AwaitsCut}
 use Rattle.thy_run.specs.Sending.{Delivered}
 
 -- a stop for a sink that failed comes before the others of a cycle that is done
@@ -85,7 +85,7 @@ IsSettled K o config last settled stop = settled ≡ last.events
 -- what a stop says of the run
 abbrev pub StopFits : Plan → Device → Device → Ending → Stop → Type 0
 StopFits plan fitted new e (Ended status) =
-    (end_of e.events ≡ Some status) × (e.mute ≡ false) × (e.deaf ≡ false) × (new.faults ≡ fitted.faults)
+    EndsWith e.events status × (e.mute ≡ false) × (e.deaf ≡ false) × (new.faults ≡ fitted.faults)
 StopFits plan fitted new e Nvm =
     Rose fitted.faults new.faults × (e.cycles < plan.geometry.limit) × (e.mute ≡ false) × (e.deaf ≡ false)
 StopFits plan fitted new e Memory = Unit {0}

@@ -4,7 +4,7 @@ use Rattle.thy_run.proofs.advance.come_to_after.Goals as goal
 
 pub returns-in-Some : goal.returns-in-Some
 returns-in-Some g c = λ fitted p n m k bytes goes noted cycle.
-    done_ended g.M.Computer.kind g.met.M.Computer.lawful c.args.plan.now p c.args.progress.now n m k c.args.ended bytes noted fitted c.in-Some.status c.requires goes c.in-Some.is
+    done_ended g.M.Computer.kind g.met.M.Computer.lawful c.args.plan.now p c.args.progress.now n m k c.args.ended bytes noted c.in-Some.status c.in-Some.is
 
 pub returns-then-is_due : goal.returns-then-is_due
 returns-then-is_due g c = λ fitted p n m k bytes goes noted cycle.
