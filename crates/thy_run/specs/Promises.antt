@@ -1,10 +1,11 @@
 -- What the functions of the loop promise each other: each from any moment of any run.
-use Rattle.std.specs.Prelude.{◌≡◌, ℕ, ◌+◌, ◌<◌, ◌^◌, ◌&&◌, true, Bool, List, Option, Result, IfOk, OnErr, Box}
+use Rattle.std.specs.Prelude.{◌≡◌, ℕ, ◌+◌, ◌<◌, ◌^◌, ◌&&◌, true, Bool, List, length, Option, Result, IfOk, IfErr, OnErr, Box}
 use Rattle.std.specs.declared.alloc.Global.{Global}
 use Rattle.thy_base.specs.declared.bytes.Bytes.{Bytes}
 use Rattle.thy_base.specs.declared.nvm.NvmError.{NvmError}
 use Rattle.thy_base.specs.Bytes.{bytes_of}
 use Rattle.thy_base.specs.Device.{Device}
+use Rattle.thy_base.specs.Outside.{Stream}
 use Rattle.thy_isa.specs.declared.state.MachState.{MachState}
 use Rattle.thy_isa.specs.declared.state.Status.{Status}
 use Rattle.thy_view.specs.declared.did.Did.{Did}
@@ -16,10 +17,14 @@ use Rattle.thy_view.specs.Origin.{Origin}
 use Rattle.thy_view.specs.Views.{is_between, loads}
 use Rattle.thy_run.specs.Due.{due_of}
 use Rattle.thy_run.specs.declared.advance.Outcome.{Outcome}
+use Rattle.thy_run.specs.declared.cycles.Turned.{Turned}
+use Rattle.thy_run.specs.declared.ending.Ending.{Ending}
 use Rattle.thy_run.specs.declared.gather.Readings.{Readings}
 use Rattle.thy_run.specs.declared.plan.Plan.{Plan}
 use Rattle.thy_run.specs.declared.progress.Progress.{Progress}
-use Rattle.thy_run.specs.Going.{origin_of, world_at, GoesOn, IsStepped, IsStuck, CanGather, Restores, IsEnding, IsGathered, IsNoted, ComesTo}
+use Rattle.thy_run.specs.Going.{origin_of, world_at, GoesOn, IsStepped, IsStuck, CanGather, Restores, IsEnding, IsGathered, IsNoted, AwaitsCut, ComesTo}
+use Rattle.thy_run.specs.Sending.{Sinks}
+use Rattle.thy_run.specs.Turning.{Running, IsTurned, RunEnds}
 use Rattle.thy_run.specs.World.{seen}
 
 -- ---- a step
@@ -100,3 +105,39 @@ Concludes {M = M} K plan q next did readings cycle bytes outcome =
 abbrev pub TakesCycle : {M : Type 0} → KindOf M → Plan → Progress M → Progress M → Device → Device → ℕ → List ℕ → Outcome → Type 0
 TakesCycle K plan p next n new done bytes outcome =
     (fitted : Device) → GoesOn K plan fitted p n done → ComesTo K plan p next n new done bytes outcome
+
+-- ---- a turn of the loop
+
+-- the run goes on, from where its sinks were at its start
+abbrev pub IsRunning : {M : Type 0} → KindOf M → Plan → Progress M → Device → ℕ → Sinks → Type 0
+IsRunning K plan p n done now =
+    (fitted : Device) × (t : Stream) × (r : Stream) × Running K plan fitted p n done t now.terminal r now.report
+
+-- and a turn comes to this
+abbrev pub TurnsTo : {M : Type 0} → KindOf M → Plan → Progress M → Progress M → Device → Device → ℕ → Sinks → Sinks → Turned → Type 0
+TurnsTo K plan p next n new done before after turned =
+    (fitted : Device) (t r : Stream) → Running K plan fitted p n done t before.terminal r before.report
+    → IsTurned K plan fitted p next n new done t before.terminal after.terminal r before.report after.report turned
+
+-- a run that went on awaits a cut, with these bytes due to the terminal
+abbrev pub IsAwaiting : {M : Type 0} → KindOf M → Plan → Progress M → Device → ℕ → List ℕ → ℕ → Sinks → Type 0
+IsAwaiting {M = M} K plan next m done bytes first now =
+    (fitted : Device) × (p : Progress M) × (n : Device) × (t : Stream) × (r : Stream)
+    × Running K plan fitted p n done t now.terminal r now.report
+    × AwaitsCut K plan p next n m done bytes × (first ≡ length p.events)
+
+-- after the cut it goes on
+abbrev pub CutsOn : {M : Type 0} → KindOf M → Plan → Progress M → Device → Device → ℕ → List ℕ → ℕ → Sinks → Sinks → Result (Progress M) Ending → Type 0
+CutsOn {M = M} K plan next m new done bytes first before after result =
+    (fitted : Device) (p : Progress M) (n : Device) (t r : Stream)
+    → Running K plan fitted p n done t before.terminal r before.report
+    → AwaitsCut K plan p next n m done bytes → first ≡ length p.events
+    → IfOk result (λ q. Running K plan fitted q new (done + 1) t after.terminal r after.report)
+
+-- or it ends there
+abbrev pub CutsShort : {M : Type 0} → KindOf M → Plan → Progress M → Device → Device → ℕ → List ℕ → ℕ → Sinks → Sinks → Result (Progress M) Ending → Type 0
+CutsShort {M = M} K plan next m new done bytes first before after result =
+    (fitted : Device) (p : Progress M) (n : Device) (t r : Stream)
+    → Running K plan fitted p n done t before.terminal r before.report
+    → AwaitsCut K plan p next n m done bytes → first ≡ length p.events
+    → IfErr result (λ e. RunEnds K plan fitted new e t after.terminal r after.report)

@@ -1,6 +1,16 @@
 -- What a sink took of a text that grows.
-use Rattle.std.specs.Prelude.{◌≡◌, Bool, true, false, ℕ, List, [], ◌++◌}
+use Rattle.std.specs.Prelude.{◌≡◌, Bool, true, false, ℕ, List, [], ◌++◌, take}
 use Rattle.thy_base.specs.Outside.{Stream, Took, TookPart}
+use Rattle.thy_text.specs.Happening.{Happening}
+use Rattle.thy_text.specs.Lines.{report_of}
+
+-- what the two sinks have taken
+pub record Sinks : Type 0 where
+  pub terminal : Stream
+  pub report : Stream
+
+abbrev pub sinks : Stream → Stream → Sinks
+sinks terminal report = record { terminal = terminal; report = report }
 
 -- what a sink took of bytes that were due: all, or where it failed a first part
 abbrev pub Sent : Bool → Stream → Stream → List ℕ → Type 0
@@ -12,6 +22,11 @@ pub record Sends (before after : List ℕ) (failed : Bool) (old new : Stream) : 
   pub more : List ℕ
   pub grew : after ≡ before ++ more
   pub sent : Sent failed old new more
+
+-- the report took the lines of the events from the first on, or where it failed a first part of them
+abbrev pub TellsLines : Bool → ℕ → List Happening → Bool → Stream → Stream → Type 0
+TellsLines digest first events failed old new =
+    Sends (report_of digest (take first events)) (report_of digest events) failed old new
 
 -- What a sink took of a whole text: first all that was settled before the last cycle, and then what came behind, or
 -- where it failed a first part of that. Where memory was short, less than the whole may have come.

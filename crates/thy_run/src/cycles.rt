@@ -1,12 +1,11 @@
 //! The cycles of a run, one after another.
-ghost use Rattle.std.specs.Prelude.{◌≡◌, ◌<◌, ◌+◌, ℕ, length, IfOk, IfErr};
+ghost use Rattle.std.specs.Prelude.{◌≡◌, ◌<◌, ◌+◌, length, IfOk};
 ghost use Rattle.thy_base.specs.Bytes.{bytes_of};
-ghost use Rattle.thy_base.specs.Device.{Device as DeviceValue};
-ghost use Rattle.thy_base.specs.Outside.{Stream};
 ghost use Rattle.thy_view.specs.Kind.{IsDramOf};
-ghost use Rattle.thy_run.specs.Going.{IsPlanned, AwaitsCut};
-ghost use Rattle.thy_run.specs.Turning.{first_progress, stopped_for, turned_of, IsFitted, Running, RunEnds, IsTurned};
-ghost use Rattle.thy_run.specs.declared.progress.Progress.{Progress as ProgressValue};
+ghost use Rattle.thy_run.specs.Going.{IsPlanned};
+ghost use Rattle.thy_run.specs.Promises.{IsRunning, TurnsTo, IsAwaiting, CutsOn, CutsShort};
+ghost use Rattle.thy_run.specs.Sending.{sinks};
+ghost use Rattle.thy_run.specs.Turning.{first_progress, stopped_for, turned_of, IsFitted, RunEnds};
 
 use crate::advance::{Advance, Outcome, cut, take_cycle};
 use crate::ending::{Ending, Stop};
@@ -69,10 +68,13 @@ fn turn<M: Computer, T: Sink, R: Sink, N: Nvm>(
     nvm: &mut N,
 ) -> Turned
     requires planned { IsPlanned plan.now }
-    requires running { (fitted : DeviceValue) × (t : Stream) × (r : Stream) × Running M.kind plan.now fitted progress.old (N.device nvm.old) done t (T.stream terminal.old) r (R.stream report.old) }
+    requires running { let before = sinks (T.stream terminal.old) (R.stream report.old) in
+        IsRunning M.kind plan.now progress.old (N.device nvm.old) done before }
     requires few { done < plan.now.geometry.limit }
     requires first { first ≡ length progress.old.events }
-    ensures { (fitted : DeviceValue) (t r : Stream) → Running M.kind plan.now fitted progress.old (N.device nvm.old) done t (T.stream terminal.old) r (R.stream report.old) → IsTurned M.kind plan.now fitted progress.old progress.new (N.device nvm.old) (N.device nvm.new) done t (T.stream terminal.old) (T.stream terminal.new) r (R.stream report.old) (R.stream report.new) result }
+    ensures { let before = sinks (T.stream terminal.old) (R.stream report.old) in
+        let after = sinks (T.stream terminal.new) (R.stream report.new) in
+        TurnsTo M.kind plan.now progress.old progress.new (N.device nvm.old) (N.device nvm.new) done before after result }
 {
     let Advance { bytes, outcome } = take_cycle(alloc, progress, plan, done, nvm);
     if let Outcome::Cuts = outcome {
@@ -107,10 +109,15 @@ fn turn_off<M: Computer, T: Sink, R: Sink, N: Nvm>(
     nvm: &mut N,
 ) -> Result<Progress<M>, Ending>
     requires planned { IsPlanned plan.now }
-    requires awaits { (fitted : DeviceValue) × (p : ProgressValue M) × (n : DeviceValue) × (t : Stream) × (r : Stream) × Running M.kind plan.now fitted p n done t (T.stream terminal.old) r (R.stream report.old) × AwaitsCut M.kind plan.now p progress n (N.device nvm.old) done (bytes_of bytes) × (first ≡ length p.events) }
+    requires awaits { let before = sinks (T.stream terminal.old) (R.stream report.old) in
+        IsAwaiting M.kind plan.now progress (N.device nvm.old) done (bytes_of bytes) first before }
     requires few { done < plan.now.geometry.limit }
-    ensures ok { (fitted : DeviceValue) (p : ProgressValue M) (n : DeviceValue) (t r : Stream) → Running M.kind plan.now fitted p n done t (T.stream terminal.old) r (R.stream report.old) → AwaitsCut M.kind plan.now p progress n (N.device nvm.old) done (bytes_of bytes) → first ≡ length p.events → IfOk result (λ next. Running M.kind plan.now fitted next (N.device nvm.new) (done + 1) t (T.stream terminal.new) r (R.stream report.new)) }
-    ensures err { (fitted : DeviceValue) (p : ProgressValue M) (n : DeviceValue) (t r : Stream) → Running M.kind plan.now fitted p n done t (T.stream terminal.old) r (R.stream report.old) → AwaitsCut M.kind plan.now p progress n (N.device nvm.old) done (bytes_of bytes) → first ≡ length p.events → IfErr result (λ e. RunEnds M.kind plan.now fitted (N.device nvm.new) e t (T.stream terminal.new) r (R.stream report.new)) }
+    ensures ok { let before = sinks (T.stream terminal.old) (R.stream report.old) in
+        let after = sinks (T.stream terminal.new) (R.stream report.new) in
+        CutsOn M.kind plan.now progress (N.device nvm.old) (N.device nvm.new) done (bytes_of bytes) first before after result }
+    ensures err { let before = sinks (T.stream terminal.old) (R.stream report.old) in
+        let after = sinks (T.stream terminal.new) (R.stream report.new) in
+        CutsShort M.kind plan.now progress (N.device nvm.old) (N.device nvm.new) done (bytes_of bytes) first before after result }
 {
     let mut next = match cut(alloc, progress, plan, done + 1, nvm) {
         Ok(next) => next,

@@ -1,7 +1,6 @@
 //! Telling what happened: bytes to the terminal, lines to the report.
-ghost use Rattle.std.specs.Prelude.{◌≡◌, ◌≤◌, false, length, take, [], ◌++◌};
-ghost use Rattle.thy_text.specs.Lines.{report_of};
-ghost use Rattle.thy_run.specs.Sending.{Sends, Sent};
+ghost use Rattle.std.specs.Prelude.{◌≡◌, ◌≤◌, false, length, [], ◌++◌};
+ghost use Rattle.thy_run.specs.Sending.{Sent, TellsLines};
 
 use thy_base::Sink;
 use thy_text::{Events, write_event};
@@ -9,7 +8,7 @@ use thy_text::{Events, write_event};
 /// Writes the lines of the events from `first` on, and answers whether the report failed.
 fn write_lines<R: Sink>(events: &Events, first: usize, digest: bool, report: &mut R) -> bool
     requires { first ≤ length events.now }
-    ensures lines { Sends (report_of digest (take first events.now)) (report_of digest events.now) result (R.stream report.old) (R.stream report.new) }
+    ensures lines { TellsLines digest first events.now result (R.stream report.old) (R.stream report.new) }
     ensures none { first ≡ length events.now → result ≡ false }
 {
     for i in first..events.len() {
@@ -54,7 +53,7 @@ pub fn tell<T: Sink, R: Sink>(
 ) -> Failures
     requires { first ≤ length events.now }
     ensures terminal { Sent result.terminal (T.stream terminal.old) (T.stream terminal.new) bytes.now }
-    ensures report { Sends (report_of digest (take first events.now)) (report_of digest events.now) result.report (R.stream report.old) (R.stream report.new) }
+    ensures report { TellsLines digest first events.now result.report (R.stream report.old) (R.stream report.new) }
     ensures spoken { bytes.now ≡ [] → result.terminal ≡ false }
     ensures heard { first ≡ length events.now → result.report ≡ false }
 {
