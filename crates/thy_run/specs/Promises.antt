@@ -1,5 +1,5 @@
 -- What the functions of the loop promise each other: each from any moment of any run.
-use Rattle.std.specs.Prelude.{◌≡◌, ℕ, ◌+◌, ◌<◌, ◌^◌, ◌&&◌, true, Bool, List, length, Option, Result, IfOk, IfErr, OnErr, Box}
+use Rattle.std.specs.Prelude.{◌≡◌, ℕ, ◌+◌, ◌<◌, ◌^◌, ◌&&◌, true, Bool, List, length, Option, Result, IfOk, IfErr, OnOk, OnErr, ◌++◌, Box}
 use Rattle.std.specs.declared.alloc.Global.{Global}
 use Rattle.thy_base.specs.declared.bytes.Bytes.{Bytes}
 use Rattle.thy_base.specs.declared.nvm.NvmError.{NvmError}
@@ -8,7 +8,9 @@ use Rattle.thy_base.specs.Device.{Device}
 use Rattle.thy_base.specs.Outside.{Stream}
 use Rattle.thy_isa.specs.declared.state.MachState.{MachState}
 use Rattle.thy_isa.specs.declared.state.Status.{Status}
+use Rattle.thy_text.specs.Happening.{Happening}
 use Rattle.thy_view.specs.declared.did.Did.{Did}
+use Rattle.thy_view.specs.declared.did.Did.TheVariants.{Restarted}
 use Rattle.thy_view.specs.declared.did.Stepped.{Stepped}
 use Rattle.thy_view.specs.declared.error.CoreError.{CoreError}
 use Rattle.thy_view.specs.declared.view.View.{View}
@@ -22,10 +24,10 @@ use Rattle.thy_run.specs.declared.ending.Ending.{Ending}
 use Rattle.thy_run.specs.declared.gather.Readings.{Readings}
 use Rattle.thy_run.specs.declared.plan.Plan.{Plan}
 use Rattle.thy_run.specs.declared.progress.Progress.{Progress}
-use Rattle.thy_run.specs.Going.{origin_of, world_at, GoesOn, IsStepped, IsStuck, CanGather, Restores, IsEnding, IsGathered, IsNoted, AwaitsCut, ComesTo}
+use Rattle.thy_run.specs.Going.{origin_of, world_at, GoesOn, IsStepped, IsStuck, CanGather, MadeSome, Restores, IsEnding, IsGathered, IsNoted, AwaitsCut, ComesTo}
 use Rattle.thy_run.specs.Sending.{Sinks}
 use Rattle.thy_run.specs.Turning.{Running, IsTurned, RunEnds}
-use Rattle.thy_run.specs.World.{seen}
+use Rattle.thy_run.specs.World.{seen, told, events_of}
 
 -- ---- a step
 
@@ -72,6 +74,25 @@ abbrev pub GathersAll : {M : Type 0} → KindOf M → Progress M → Device → 
 GathersAll K p n stepped result =
     (o : Origin) (k : ℕ) (v : View) → CanGather K o k v p n stepped
     → IfOk result (λ r. IsGathered o v (K.view o p.machine n) p stepped.did r)
+
+-- ---- a step's events
+
+-- the event of a restart is made
+abbrev pub NotesRestart : {T E : Type 0} → ℕ → ℕ → Option (Box MachState Global) → List Happening → List Happening → Result T E → Type 0
+NotesRestart epoch count restored old new result =
+    (o : Origin) → Restores o (Restarted epoch count) restored → OnOk result (new ≡ old ++ told o (Restarted epoch count) 0)
+
+-- all events of a step are made
+abbrev pub NotesAll : {T E : Type 0} → Did → Bool → Option (Box MachState Global) → Option (Box MachState Global) → ℕ → List Happening → List Happening → Result T E → Type 0
+NotesAll did reload restored ended cycle old new result =
+    (o : Origin) (fresh : Bool) (v next : View) → reload ≡ (fresh && loads next) → Restores o did restored → IsEnding o v next ended
+    → OnOk result (new ≡ old ++ events_of o fresh v did next cycle)
+
+-- or the first ones, where memory was short
+abbrev pub NotesSome : {T E : Type 0} → Did → Bool → Option (Box MachState Global) → Option (Box MachState Global) → ℕ → List Happening → List Happening → Result T E → Type 0
+NotesSome did reload restored ended cycle old new result =
+    (o : Origin) (fresh : Bool) (v next : View) → reload ≡ (fresh && loads next) → Restores o did restored → IsEnding o v next ended
+    → OnErr result (MadeSome new (events_of o fresh v did next cycle) old)
 
 -- ---- a cycle
 

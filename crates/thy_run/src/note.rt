@@ -1,12 +1,12 @@
 //! The events of a step. Each is made in a function of its own, so that a cycle without one makes none.
-ghost use Rattle.std.specs.Prelude.{◌≡◌, ◌++◌, ◌∷◌, [], ◌&&◌, Bool, if◌then◌else◌, OnOk, OnErr, IfOk};
-ghost use Rattle.thy_view.specs.Views.{loads};
+ghost use Rattle.std.specs.Prelude.{◌≡◌, ◌++◌, ◌∷◌, [], ◌&&◌, if◌then◌else◌, OnOk, OnErr, IfOk};
 ghost use Rattle.thy_view.specs.Origin.{Origin};
 ghost use Rattle.thy_view.specs.declared.view.View.{View};
-ghost use Rattle.thy_run.specs.World.{told, end_told, events_of};
+ghost use Rattle.thy_run.specs.World.{told, end_told};
 ghost use Rattle.thy_isa.specs.Step.{state_of};
 ghost use Rattle.thy_text.specs.Happening.{Reload, Commit, EpochEnd, Ended};
-ghost use Rattle.thy_run.specs.Going.{Restores, IsEnding, IsEnd, MadeSome};
+ghost use Rattle.thy_run.specs.Promises.{NotesRestart, NotesAll, NotesSome};
+ghost use Rattle.thy_run.specs.Going.{Restores, IsEnding, IsEnd};
 
 use std::alloc::AllocError;
 use thy_base::EndCause;
@@ -69,7 +69,7 @@ fn note_restart(
     count: u64,
     restored: Option<Box<MachState>>,
 ) -> Result<(), AllocError>
-    ensures ok { (o : Origin) → Restores o (Did.Restarted epoch count) restored → OnOk result (events.new ≡ events.old ++ told o (Did.Restarted epoch count) 0) }
+    ensures ok { NotesRestart epoch count restored events.old events.new result }
     ensures err { OnErr result (events.new ≡ events.old) }
 {
     match restored {
@@ -147,9 +147,9 @@ pub fn note(
     ended: Option<Box<MachState>>,
     cycle: u64,
 ) -> Result<Option<Status>, AllocError>
-    ensures ok { (o : Origin) (fresh : Bool) (v next : View) → (reload ≡ (fresh && loads next)) → Restores o did restored → IsEnding o v next ended → OnOk result (events.new ≡ events.old ++ events_of o fresh v did next cycle) }
+    ensures ok { NotesAll did reload restored ended cycle events.old events.new result }
     ensures status { (o : Origin) (v next : View) → IsEnding o v next ended → IfOk result (λ s. IsEnd o v next s) }
-    ensures err { (o : Origin) (fresh : Bool) (v next : View) → (reload ≡ (fresh && loads next)) → Restores o did restored → IsEnding o v next ended → OnErr result (MadeSome events.new (events_of o fresh v did next cycle) events.old) }
+    ensures err { NotesSome did reload restored ended cycle events.old events.new result }
 {
     note_reload(events, reload)?;
     note_did(events, did, restored, cycle)?;
