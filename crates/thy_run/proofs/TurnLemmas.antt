@@ -141,9 +141,9 @@ module _ {M : Type 0} (K : KindOf M) (plan : Plan) (fitted : Device) (p q : Prog
       last_done Memory sinks = absurd sinks
       last_done Limit sinks = absurd sinks
 
-      settled_at : (stop : Stop) → IsSinks stop → IsDone K plan p q n m k bytes → IsSettled K (origin_of plan) plan.config (world_at q m (k + 1)) p.events stop
-      settled_at Terminal sinks d = (world_at p n k, d.cycle, refl)
-      settled_at Report sinks d = (world_at p n k, d.cycle, refl)
+      settled_at : (stop : Stop) → IsSinks stop → IsDone K plan p q n m k bytes → IsSettled K (origin_of plan) (given_of plan fitted) (world_at q m (k + 1)) p.events stop
+      settled_at Terminal sinks d = (k, world_at p n k, running.goes.ran, d.cycle, refl)
+      settled_at Report sinks d = (k, world_at p n k, running.goes.ran, d.cycle, refl)
       settled_at (Ended status) sinks d = absurd sinks
       settled_at Nvm sinks d = absurd sinks
       settled_at Memory sinks d = absurd sinks
@@ -193,7 +193,7 @@ module _ {M : Type 0} (K : KindOf M) (plan : Plan) (fitted : Device) (p q : Prog
       begun Report f = absurd f
       begun Limit f = absurd f
 
-      settled_at : (stop : Stop) → Breaks p q n m bytes stop → IsSettled K (origin_of plan) plan.config (world_at p n k) p.events stop
+      settled_at : (stop : Stop) → Breaks p q n m bytes stop → IsSettled K (origin_of plan) (given_of plan fitted) (world_at p n k) p.events stop
       settled_at Nvm f = refl
       settled_at Memory f = refl
       settled_at (Ended status) f = absurd f
@@ -213,7 +213,7 @@ module _ {M : Type 0} (K : KindOf M) (plan : Plan) (fitted : Device) (p q : Prog
 
       because : (stop : Stop) → Breaks p q n m bytes stop → StopFits plan fitted m (record { stop = stop; events = q.events; cycles = k; mute = mute; deaf = deaf }) stop
       because Nvm f = (subst (λ c. Rose c m.faults) running.goes.calm f.rose, few, spoken f.none, heard f.events)
-      because Memory f = tt
+      because Memory f = few
       because (Ended status) f = absurd f
       because Terminal f = absurd f
       because Report f = absurd f

@@ -1,6 +1,5 @@
 -- The program's loop over cycles, with what its sinks take.
 use Rattle.std.specs.Prelude.{◌≡◌, ◌⊎◌, ℕ, ◌+◌, ◌<◌, ◌≤◌, Bool, true, false, List, [], length}
-use Rattle.thy_base.specs.declared.config.Config.{Config}
 use Rattle.thy_base.specs.declared.nvm.Shape.{Shape}
 use Rattle.thy_base.specs.Counts.{Rose}
 use Rattle.thy_base.specs.Device.{Device, fitted}
@@ -14,7 +13,7 @@ use Rattle.thy_text.specs.Happening.{Happening}
 use Rattle.thy_run.specs.Cuts.{has_ended}
 use Rattle.thy_run.specs.Laws.{released_of}
 use Rattle.thy_run.specs.Unfinished.{StepFailed, TellingFailed, Ends as StandsAtEnd}
-use Rattle.thy_run.specs.World.{World, Cycle, Ran}
+use Rattle.thy_run.specs.World.{World, Given, Cycle, Ran}
 use Rattle.thy_run.specs.declared.advance.Outcome.{Outcome}
 use Rattle.thy_run.specs.declared.advance.Outcome.TheVariants.{Goes, Cuts, Ends, Fails}
 use Rattle.thy_run.specs.declared.ending.Stop.{Stop}
@@ -73,14 +72,15 @@ EndsBy K o w events n Memory = StandsAtEnd K o w events n
 EndsBy K o w events n stop = IsLast w events n
 
 -- these events were told before the last cycle
-abbrev pub ToldBefore : {M : Type 0} → KindOf M → Origin → Config → World M → List Happening → Type 0
-ToldBefore {M = M} K o config last settled = (before : World M) × Cycle K o config.cuts config.tears before last × (settled ≡ before.events)
+abbrev pub ToldBefore : {M : Type 0} → KindOf M → Origin → Given → World M → List Happening → Type 0
+ToldBefore {M = M} K o given last settled =
+    (k : ℕ) × (before : World M) × Ran K o given k before × Cycle K o given.cuts given.tears before last × (settled ≡ before.events)
 
 -- the events that were told before the last cycle that was begun; a sink that failed did so in that cycle
-abbrev pub IsSettled : {M : Type 0} → KindOf M → Origin → Config → World M → List Happening → Stop → Type 0
-IsSettled K o config last settled Terminal = ToldBefore K o config last settled
-IsSettled K o config last settled Report = ToldBefore K o config last settled
-IsSettled K o config last settled stop = settled ≡ last.events
+abbrev pub IsSettled : {M : Type 0} → KindOf M → Origin → Given → World M → List Happening → Stop → Type 0
+IsSettled K o given last settled Terminal = ToldBefore K o given last settled
+IsSettled K o given last settled Report = ToldBefore K o given last settled
+IsSettled K o given last settled stop = settled ≡ last.events
 
 -- what a stop says of the run
 abbrev pub StopFits : Plan → Device → Device → Ending → Stop → Type 0
@@ -88,7 +88,7 @@ StopFits plan fitted new e (Ended status) =
     EndsWith e.events status × (e.mute ≡ false) × (e.deaf ≡ false) × (new.faults ≡ fitted.faults)
 StopFits plan fitted new e Nvm =
     Rose fitted.faults new.faults × (e.cycles < plan.geometry.limit) × (e.mute ≡ false) × (e.deaf ≡ false)
-StopFits plan fitted new e Memory = Unit {0}
+StopFits plan fitted new e Memory = e.cycles < plan.geometry.limit
 StopFits plan fitted new e Terminal = (e.mute ≡ true) × (e.deaf ≡ false) × (new.faults ≡ fitted.faults)
 StopFits plan fitted new e Report = (e.deaf ≡ true) × (new.faults ≡ fitted.faults)
 StopFits plan fitted new e Limit =
@@ -102,7 +102,7 @@ pub record RunEnds {M : Type 0} (K : KindOf M) (plan : Plan) (fitted new : Devic
   pub ends : EndsBy K (origin_of plan) last e.events new e.stop
   pub few : e.cycles ≤ plan.geometry.limit
   pub settled : List Happening
-  pub is_settled : IsSettled K (origin_of plan) plan.config last settled e.stop
+  pub is_settled : IsSettled K (origin_of plan) (given_of plan fitted) last settled e.stop
   pub shown_all : Delivered (is_memory e.stop) e.mute (released_of (origin_of plan) settled) (released_of (origin_of plan) e.events) terminal shown
   pub read_all : Delivered false e.deaf (report_of plan.digest settled) (report_of plan.digest e.events) report read
   pub stop_fits : StopFits plan fitted new e e.stop
