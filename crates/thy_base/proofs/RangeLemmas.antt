@@ -1,176 +1,133 @@
--- A configuration has no fault exactly where its numbers and its lists are in their ranges.
-use Rattle.std.proofs.Common.{◌≡◌, ℕ, ◌+◌, ◌%◌, ◌^◌, ◌<◌, ◌≤◌, arith, Bool, true, false, ◌&&◌, ◌==◌, nat_lt, nat_le, Option, Some, None, length, refl}
+-- A number is in its range exactly where the test says so; so are numbers where the first fault is none.
+use Rattle.std.proofs.Common.{◌≡◌, ℕ, ◌%◌, ◌<◌, ◌≤◌, arith, Bool, true, false, ◌&&◌, cond, List, [], ◌∷◌, ◌++◌, Option, Some, None, refl, ap, ◌∙◌, length, ◌+◌, ◌*◌}
 use Rattle.std.proofs.lemmas.Bool.Decides.{nat_tests}
 use Rattle.std.specs.Option.{option_or}
 use Rattle.thy_base.specs.declared.config.Config.{Config}
 use Rattle.thy_base.specs.declared.config.ConfigError.{ConfigError}
-use Rattle.thy_base.specs.declared.config.Field.{Field}
-use Rattle.thy_base.specs.Config.{within, or_fault, memory_fault, table_fault, queue_fault, threshold_fault, end_fault, fault_of, HasListsInRange}
-use Rattle.thy_base.specs.Geometry.{IsInRange, parameters_of}
-
-none_of_fault : (fits : Bool) (field : Field) (value : ℕ) (rest : Option ConfigError) → or_fault fits field value rest ≡ None → (fits ≡ true) × (rest ≡ None)
-none_of_fault true field value rest h = (refl, h)
-none_of_fault false field value rest h = cc
-
-none_of_or : (a b : Option ConfigError) → option_or a b ≡ None → (a ≡ None) × (b ≡ None)
-none_of_or None b h = (refl, h)
-none_of_or (Some fault) b h = cc
-
-within_true : (least greatest n : ℕ) → within least greatest n ≡ true → (least ≤ n) × (n ≤ greatest)
-within_true least greatest n h = grind (arith, nat_tests)
+use Rattle.thy_base.specs.declared.config.Field.TheVariants.{Cuts}
+use Rattle.thy_base.specs.declared.config.Parameters.{Parameters}
+use Rattle.thy_base.specs.Config.{fault_in, fault_of, rising_rows, cut_rows, end_rows, rows_of, IsRising}
+use Rattle.thy_base.specs.Geometry.{IsInRange, parameters_of, memory_rows, table_rows, queue_rows, threshold_rows, number_rows, limit_row}
+use Rattle.thy_base.specs.Ranges.{Range, row, above, below, at_most, between, multiple_of, divisor_of, both, IsIn, is_in, Row, AreIn}
 
 both_true : (a b : Bool) → (a && b) ≡ true → (a ≡ true) × (b ≡ true)
 both_true true b h = (refl, h)
 both_true false b h = cc
 
-eq_true : (a b : ℕ) → (a == b) ≡ true → a ≡ b
-eq_true a b h = grind (arith, nat_tests)
-
-lt_true : (a b : ℕ) → nat_lt a b ≡ true → a < b
-lt_true a b h = grind (arith, nat_tests)
-
-le_true : (a b : ℕ) → nat_le a b ≡ true → a ≤ b
-le_true a b h = grind (arith, nat_tests)
-
--- what the tests of memory say
-pub memory_none : (c : Config) → memory_fault c ≡ None → (c.base % 4096 ≡ 0) × (c.base < 2 ^ 62) × (8 ≤ c.pages) × (c.pages ≤ 4096) × (1 ≤ c.console) × (c.console ≤ 16) × (c.console < c.pages)
-memory_none c h =
-    let base = none_of_fault _ _ _ _ h in
-    let pages = none_of_fault _ _ _ _ base.1 in
-    let console = none_of_fault _ _ _ _ pages.1 in
-    let of_base = both_true _ _ base.0 in
-    let of_console = both_true _ _ console.0 in
-    let some = within_true _ _ _ of_console.0 in
-    let between = within_true _ _ _ pages.0 in
-    (eq_true _ _ of_base.0, lt_true _ _ of_base.1, between.0, between.1, some.0, some.1, lt_true _ _ of_console.1)
-
-table_none : (c : Config) → table_fault c ≡ None
-    → (1 ≤ c.epoch) × (c.epoch ≤ 1000000) × (8 ≤ c.btt) × (c.btt ≤ 4096) × (c.btt % 8 ≡ 0) × (8 ≤ c.ptt) × (c.ptt ≤ 512) × (c.ptt % 8 ≡ 0)
-table_none c h =
-    let epoch = none_of_fault _ _ _ _ h in
-    let btt = none_of_fault _ _ _ _ epoch.1 in
-    let ptt = none_of_fault _ _ _ _ btt.1 in
-    let of_btt = both_true _ _ btt.0 in
-    let of_ptt = both_true _ _ ptt.0 in
-    let a = within_true _ _ _ epoch.0 in
-    let b = within_true _ _ _ of_btt.0 in
-    let d = within_true _ _ _ of_ptt.0 in
-    (a.0, a.1, b.0, b.1, eq_true _ _ of_btt.1, d.0, d.1, eq_true _ _ of_ptt.1)
-
-queue_none : (c : Config) → queue_fault c ≡ None
-    → (1 ≤ c.sets) × (c.sets ≤ 64) × (64 % c.sets ≡ 0) × (1 ≤ c.ways) × (c.ways ≤ 8) × (1 ≤ c.nvmq) × (c.nvmq ≤ 64) × (1 ≤ c.dramq) × (c.dramq ≤ 64)
-queue_none c h =
-    let sets = none_of_fault _ _ _ _ h in
-    let ways = none_of_fault _ _ _ _ sets.1 in
-    let nvmq = none_of_fault _ _ _ _ ways.1 in
-    let dramq = none_of_fault _ _ _ _ nvmq.1 in
-    let of_sets = both_true _ _ sets.0 in
-    let s = within_true _ _ _ of_sets.0 in
-    let w = within_true _ _ _ ways.0 in
-    let a = within_true _ _ _ nvmq.0 in
-    let b = within_true _ _ _ dramq.0 in
-    (s.0, s.1, eq_true _ _ of_sets.1, w.0, w.1, a.0, a.1, b.0, b.1)
-
-threshold_none : (c : Config) → threshold_fault c ≡ None → (c.high ≤ 63) × (c.low ≤ c.high)
-threshold_none c h =
-    let high = none_of_fault _ _ _ _ h in
-    let low = none_of_fault _ _ _ _ high.1 in
-    (le_true _ _ high.0, le_true _ _ low.0)
-
-end_none : (c : Config) → end_fault c ≡ None → (length c.tears ≤ length c.cuts + 1) × (1 ≤ c.limit) × (c.limit ≤ 10 ^ 12)
-end_none c h =
-    let tears = none_of_fault _ _ _ _ h in
-    let limit = none_of_fault _ _ _ _ tears.1 in
-    let l = within_true _ _ _ limit.0 in
-    (le_true _ _ tears.0, l.0, l.1)
-
--- where no field has a fault, the numbers and the lists are in range
-pub in_range : (c : Config) → fault_of c ≡ None → IsInRange (parameters_of c) × HasListsInRange c
-in_range c h =
-    let after_memory = none_of_or _ _ h in
-    let after_tables = none_of_or _ _ after_memory.1 in
-    let after_queues = none_of_or _ _ after_tables.1 in
-    let after_thresholds = none_of_or _ _ after_queues.1 in
-    let after_cuts = none_of_or _ _ after_thresholds.1 in
-    let m = memory_none c after_memory.0 in
-    let t = table_none c after_tables.0 in
-    let q = queue_none c after_queues.0 in
-    let s = threshold_none c after_thresholds.0 in
-    let e = end_none c after_cuts.1 in (
-      record {
-        base_aligned = m.0;
-        base_below = m.1;
-        pages_least = m.2;
-        pages_most = m.3;
-        console_least = m.4;
-        console_most = m.5;
-        console_below = m.6;
-        epoch_least = t.0;
-        epoch_most = t.1;
-        btt_least = t.2;
-        btt_most = t.3;
-        btt_eights = t.4;
-        ptt_least = t.5;
-        ptt_most = t.6;
-        ptt_eights = t.7;
-        sets_least = q.0;
-        sets_most = q.1;
-        sets_power = q.2;
-        ways_least = q.3;
-        ways_most = q.4;
-        nvmq_least = q.5;
-        nvmq_most = q.6;
-        dramq_least = q.7;
-        dramq_most = q.8;
-        high_most = s.0;
-        low_most = s.1;
-        limit_least = e.1;
-        limit_most = e.2;
-      },
-      record { cuts = after_cuts.0; tears = e.0 },
-    )
-
-fits_on : (fits : Bool) (field : Field) (value : ℕ) (rest : Option ConfigError) → fits ≡ true → rest ≡ None → or_fault fits field value rest ≡ None
-fits_on true field value rest e h = h
-fits_on false field value rest e h = cc
-
-none_or : (a b : Option ConfigError) → a ≡ None → b ≡ None → option_or a b ≡ None
-none_or None b e h = h
-none_or (Some fault) b e h = cc
-
 both_hold : (a b : Bool) → a ≡ true → b ≡ true → (a && b) ≡ true
 both_hold true b e h = h
 both_hold false b e h = cc
 
-within_holds : (least greatest n : ℕ) → least ≤ n → n ≤ greatest → within least greatest n ≡ true
-within_holds least greatest n low high = grind (arith, nat_tests)
+-- what the test says
+in_test : (r : Range) (n : ℕ) → is_in r n ≡ true → IsIn r n
+in_test (above bound) n h = grind (arith, nat_tests)
+in_test (below bound) n h = grind (arith, nat_tests)
+in_test (at_most greatest) n h = grind (arith, nat_tests)
+in_test (between least greatest) n h = grind (arith, nat_tests)
+in_test (multiple_of unit) n h = grind (arith, nat_tests)
+in_test (divisor_of whole) n h = grind (arith, nat_tests)
+in_test (both a b) n h = let each = both_true _ _ h in (in_test a n each.0, in_test b n each.1)
 
-eq_holds : (a b : ℕ) → a ≡ b → (a == b) ≡ true
-eq_holds a b h = grind (arith, nat_tests)
+-- and that it says so
+test_in : (r : Range) (n : ℕ) → IsIn r n → is_in r n ≡ true
+test_in (above bound) n h = grind (arith, nat_tests)
+test_in (below bound) n h = grind (arith, nat_tests)
+test_in (at_most greatest) n h = grind (arith, nat_tests)
+test_in (between least greatest) n h = grind (arith, nat_tests)
+test_in (multiple_of unit) n h = grind (arith, nat_tests)
+test_in (divisor_of whole) n h = grind (arith, nat_tests)
+test_in (both a b) n h = both_hold _ _ (test_in a n h.0) (test_in b n h.1)
 
-lt_holds : (a b : ℕ) → a < b → nat_lt a b ≡ true
-lt_holds a b h = grind (arith, nat_tests)
+none_of : (fits : Bool) (rest : Option ConfigError) (fault : ConfigError) → cond fits rest (Some fault) ≡ None → (fits ≡ true) × (rest ≡ None)
+none_of true rest fault h = (refl, h)
+none_of false rest fault h = cc
 
-le_holds : (a b : ℕ) → a ≤ b → nat_le a b ≡ true
-le_holds a b h = grind (arith, nat_tests)
+of_none : (fits : Bool) (rest : Option ConfigError) (fault : ConfigError) → fits ≡ true → rest ≡ None → cond fits rest (Some fault) ≡ None
+of_none true rest fault e h = h
+of_none false rest fault e h = cc
 
--- and where those are in range, no field has a fault
-pub no_fault : (c : Config) → IsInRange (parameters_of c) → HasListsInRange c → fault_of c ≡ None
-no_fault c r l =
-    none_or _ _
-    (fits_on _ _ _ _ (both_hold _ _ (eq_holds _ _ r.base_aligned) (lt_holds _ _ r.base_below))
-    (fits_on _ _ _ _ (within_holds _ _ _ r.pages_least r.pages_most)
-    (fits_on _ _ _ _ (both_hold _ _ (within_holds _ _ _ r.console_least r.console_most) (lt_holds _ _ r.console_below)) refl)))
-    (none_or _ _
-    (fits_on _ _ _ _ (within_holds _ _ _ r.epoch_least r.epoch_most)
-    (fits_on _ _ _ _ (both_hold _ _ (within_holds _ _ _ r.btt_least r.btt_most) (eq_holds _ _ r.btt_eights))
-    (fits_on _ _ _ _ (both_hold _ _ (within_holds _ _ _ r.ptt_least r.ptt_most) (eq_holds _ _ r.ptt_eights)) refl)))
-    (none_or _ _
-    (fits_on _ _ _ _ (both_hold _ _ (within_holds _ _ _ r.sets_least r.sets_most) (eq_holds _ _ r.sets_power))
-    (fits_on _ _ _ _ (within_holds _ _ _ r.ways_least r.ways_most)
-    (fits_on _ _ _ _ (within_holds _ _ _ r.nvmq_least r.nvmq_most)
-    (fits_on _ _ _ _ (within_holds _ _ _ r.dramq_least r.dramq_most) refl))))
-    (none_or _ _
-    (fits_on _ _ _ _ (le_holds _ _ r.high_most) (fits_on _ _ _ _ (le_holds _ _ r.low_most) refl))
-    (none_or _ _ l.cuts
-    (fits_on _ _ _ _ (le_holds _ _ l.tears) (fits_on _ _ _ _ (within_holds _ _ _ r.limit_least r.limit_most) refl))))))
+test_first : (fits : Bool) (a b whole : Option ConfigError) (fault : ConfigError) → whole ≡ option_or a b → cond fits whole (Some fault) ≡ option_or (cond fits a (Some fault)) b
+test_first true a b whole fault h = h
+test_first false a b whole fault h = refl
+
+-- where no row has a fault, each is in its range
+pub AreIn-none : (rows : List Row) → fault_in rows ≡ None → AreIn rows
+AreIn-none [] h = tt
+AreIn-none (r ∷ rs) h = let both = none_of _ _ _ h in (in_test r.range r.value both.0, AreIn-none rs both.1)
+
+-- and where each is in its range, none has a fault
+pub none-AreIn : (rows : List Row) → AreIn rows → fault_in rows ≡ None
+none-AreIn [] h = refl
+none-AreIn (r ∷ rs) h = of_none _ _ _ (test_in r.range r.value h.0) (none-AreIn rs h.1)
+
+-- the first fault of rows after rows is the first rows', or else that of the others
+pub fault_in-append : (xs ys : List Row) → fault_in (xs ++ ys) ≡ option_or (fault_in xs) (fault_in ys)
+fault_in-append [] ys = refl
+fault_in-append (x ∷ xs) ys = test_first (is_in x.range x.value) _ _ _ _ (fault_in-append xs ys)
+
+-- where they are not too many, the first fault of the cuts is where they rise no more, or else that of their images
+pub fault_in-cuts : (c : Config) → length c.cuts ≤ 64
+    → fault_in (cut_rows c) ≡ option_or (fault_in (rising_rows 0 c.cuts)) (fault_in (row Cuts (c.pages * (length c.cuts + 1)) (at_most 65536) ∷ []))
+fault_in-cuts c few =
+    ap (λ fits. cond fits (fault_in (rising_rows 0 c.cuts ++ row Cuts (c.pages * (length c.cuts + 1)) (at_most 65536) ∷ []))
+    (Some (record { field = Cuts; value = length c.cuts }))) (test_in (at_most 64) (length c.cuts) few)
+    ∙ fault_in-append (rising_rows 0 c.cuts) (row Cuts (c.pages * (length c.cuts + 1)) (at_most 65536) ∷ [])
+
+-- where memory has no fault, the first one is that of the fields behind it
+pub fault_of-behind_memory : (c : Config) → fault_in (memory_rows (parameters_of c)) ≡ None
+    → fault_of c ≡ option_or (fault_in (table_rows (parameters_of c)))
+    (option_or (fault_in (queue_rows (parameters_of c)))
+    (option_or (fault_in (threshold_rows (parameters_of c))) (option_or (fault_in (cut_rows c)) (fault_in (end_rows c)))))
+fault_of-behind_memory c none =
+    let p : Parameters = parameters_of c in
+    let behind : List Row = cut_rows c ++ end_rows c in
+    fault_in-append (memory_rows p) (table_rows p ++ queue_rows p ++ threshold_rows p ++ behind)
+    ∙ ap (λ m. option_or m (fault_in (table_rows p ++ queue_rows p ++ threshold_rows p ++ behind))) none
+    ∙ fault_in-append (table_rows p) (queue_rows p ++ threshold_rows p ++ behind)
+    ∙ ap (option_or (fault_in (table_rows p)))
+    (fault_in-append (queue_rows p) (threshold_rows p ++ behind)
+    ∙ ap (option_or (fault_in (queue_rows p)))
+    (fault_in-append (threshold_rows p) behind
+    ∙ ap (option_or (fault_in (threshold_rows p))) (fault_in-append (cut_rows c) (end_rows c))))
+
+AreIn-parts : (xs ys : List Row) → AreIn (xs ++ ys) → AreIn xs × AreIn ys
+AreIn-parts [] ys h = (tt, h)
+AreIn-parts (x ∷ xs) ys h = let rest = AreIn-parts xs ys h.1 in ((h.0, rest.0), rest.1)
+
+AreIn-whole : (xs ys : List Row) → AreIn xs → AreIn ys → AreIn (xs ++ ys)
+AreIn-whole [] ys h rest = rest
+AreIn-whole (x ∷ xs) ys h rest = (h.0, AreIn-whole xs ys h.1 rest)
+
+-- the numbers of a configuration in range are in range
+pub IsInRange-rows : (c : Config) → AreIn (rows_of c) → IsInRange (parameters_of c)
+IsInRange-rows c h =
+    let numbers = AreIn-parts (number_rows (parameters_of c)) (cut_rows c ++ end_rows c) h in
+    let lists = AreIn-parts (cut_rows c) (end_rows c) numbers.1 in
+    AreIn-whole (number_rows (parameters_of c)) (limit_row (parameters_of c) ∷ []) numbers.0 lists.1.1
+
+-- and its cuts rise
+pub IsRising-rows : (c : Config) → AreIn (rows_of c) → IsRising 0 c.cuts
+IsRising-rows c h =
+    let numbers = AreIn-parts (number_rows (parameters_of c)) (cut_rows c ++ end_rows c) h in
+    let lists = AreIn-parts (cut_rows c) (end_rows c) numbers.1 in
+    (AreIn-parts (rising_rows 0 c.cuts) (row Cuts (c.pages * (length c.cuts + 1)) (at_most 65536) ∷ []) lists.0.1).0
+
+-- ---- what it says of single numbers
+
+pub base_aligned : (p : Parameters) → IsInRange p → p.base % 4096 ≡ 0
+base_aligned p r = r.0.0
+
+pub pages_least : (p : Parameters) → IsInRange p → 8 ≤ p.pages
+pages_least p r = r.1.0.0
+
+pub console_most : (p : Parameters) → IsInRange p → p.console ≤ 16
+console_most p r = r.1.1.0.0.1
+
+pub console_below : (p : Parameters) → IsInRange p → p.console < p.pages
+console_below p r = r.1.1.0.1
+
+pub epoch_least : (p : Parameters) → IsInRange p → 1 ≤ p.epoch
+epoch_least p r = r.1.1.1.0.0
+
+pub limit_least : (p : Parameters) → IsInRange p → 1 ≤ p.limit
+limit_least p r = omega arith

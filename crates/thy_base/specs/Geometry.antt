@@ -1,54 +1,53 @@
--- The numbers of a configuration in range, and the sizes that follow from them.
-use Rattle.std.specs.Prelude.{◌≡◌, ℕ, ◌+◌, ◌-◌, ◌*◌, ◌%◌, ◌^◌, ◌<◌, ◌≤◌, Option, Some, None, Result, Ok, Err}
+-- The numbers of a configuration, their ranges, and the sizes that follow from them.
+use Rattle.std.specs.Prelude.{ℕ, ◌+◌, ◌-◌, ◌*◌, ◌^◌, List, [], ◌∷◌, ◌++◌}
 use Rattle.thy_base.specs.declared.config.Config.{Config}
-use Rattle.thy_base.specs.declared.config.ConfigError.{ConfigError}
 use Rattle.thy_base.specs.declared.config.Parameters.{Parameters}
-use Rattle.thy_base.specs.Config.{fault_of}
-
--- Each number is in its range, in the order in which they are tested. The seed of the schedule may be any.
-pub record IsInRange (p : Parameters) : Type 0 where
-  pub base_aligned : p.base % 4096 ≡ 0
-  pub base_below : p.base < 2 ^ 62
-  pub pages_least : 8 ≤ p.pages
-  pub pages_most : p.pages ≤ 4096
-  pub console_least : 1 ≤ p.console
-  pub console_most : p.console ≤ 16
-  pub console_below : p.console < p.pages
-  pub epoch_least : 1 ≤ p.epoch
-  pub epoch_most : p.epoch ≤ 1000000
-  pub btt_least : 8 ≤ p.btt
-  pub btt_most : p.btt ≤ 4096
-  pub btt_eights : p.btt % 8 ≡ 0
-  pub ptt_least : 8 ≤ p.ptt
-  pub ptt_most : p.ptt ≤ 512
-  pub ptt_eights : p.ptt % 8 ≡ 0
-  pub sets_least : 1 ≤ p.sets
-  pub sets_most : p.sets ≤ 64
-  -- the powers of two up to 64 are the divisors of 64
-  pub sets_power : 64 % p.sets ≡ 0
-  pub ways_least : 1 ≤ p.ways
-  pub ways_most : p.ways ≤ 8
-  pub nvmq_least : 1 ≤ p.nvmq
-  pub nvmq_most : p.nvmq ≤ 64
-  pub dramq_least : 1 ≤ p.dramq
-  pub dramq_most : p.dramq ≤ 64
-  pub high_most : p.high ≤ 63
-  pub low_most : p.low ≤ p.high
-  pub limit_least : 1 ≤ p.limit
-  pub limit_most : p.limit ≤ 10 ^ 12
+use Rattle.thy_base.specs.declared.config.Field.TheVariants.{Base, Pages, Console, Epoch, Btt, Ptt, Sets, Ways, Nvmq, Dramq, High, Low, Limit}
+use Rattle.thy_base.specs.Ranges.{Row, row, AreIn, below, at_most, between, multiple_of, divisor_of, both}
 
 -- a configuration without its lists
 abbrev pub parameters_of : Config → Parameters
 parameters_of c = record { base = c.base; pages = c.pages; console = c.console; epoch = c.epoch; btt = c.btt; ptt = c.ptt; sets = c.sets; ways = c.ways; nvmq = c.nvmq; dramq = c.dramq; high = c.high; low = c.low; mix = c.mix; limit = c.limit }
 
--- the numbers, or the fault
-abbrev pub geometry_or : Option ConfigError → Parameters → Result Parameters ConfigError
-geometry_or None p = Ok p
-geometry_or (Some fault) p = Err fault
+-- memory: where it is, and how many pages
+abbrev pub memory_rows : Parameters → List Row
+memory_rows p =
+    row Base p.base (both (multiple_of 4096) (below (2 ^ 62)))
+    ∷ row Pages p.pages (between 8 4096)
+    ∷ row Console p.console (both (between 1 16) (below p.pages))
+    ∷ []
 
--- the geometry of a configuration, or the first field out of its range
-abbrev pub geometry_of : Config → Result Parameters ConfigError
-geometry_of c = geometry_or (fault_of c) (parameters_of c)
+-- the controller: epochs and its two tables
+abbrev pub table_rows : Parameters → List Row
+table_rows p =
+    row Epoch p.epoch (between 1 1000000)
+    ∷ row Btt p.btt (both (between 8 4096) (multiple_of 8))
+    ∷ row Ptt p.ptt (both (between 8 512) (multiple_of 8))
+    ∷ []
+
+-- cache and queues; the powers of two up to 64 are the divisors of 64
+abbrev pub queue_rows : Parameters → List Row
+queue_rows p =
+    row Sets p.sets (both (between 1 64) (divisor_of 64))
+    ∷ row Ways p.ways (between 1 8)
+    ∷ row Nvmq p.nvmq (between 1 64)
+    ∷ row Dramq p.dramq (between 1 64)
+    ∷ []
+
+-- the two thresholds of store counts
+abbrev pub threshold_rows : Parameters → List Row
+threshold_rows p = row High p.high (at_most 63) ∷ row Low p.low (at_most p.high) ∷ []
+
+abbrev pub limit_row : Parameters → Row
+limit_row p = row Limit p.limit (between 1 (10 ^ 12))
+
+-- The numbers that stand before the lists, each with its range. The seed of the schedule may be any.
+abbrev pub number_rows : Parameters → List Row
+number_rows p = memory_rows p ++ table_rows p ++ queue_rows p ++ threshold_rows p
+
+-- each number is in its range
+abbrev pub IsInRange : Parameters → Type 0
+IsInRange p = AreIn (number_rows p ++ limit_row p ∷ [])
 
 -- how many blocks memory has
 abbrev pub memory_blocks : Parameters → ℕ

@@ -11,4 +11,5 @@ pub mod Lcg
 pub mod LittleEndian
 pub mod Mix
 pub mod Outside
+pub mod Ranges
 pub mod Store

@@ -1,7 +1,8 @@
 //! A configuration in range, and the sizes that follow from it.
 ghost use Rattle.std.specs.Prelude.{◌≡◌, ◌↔◌, ◌+◌, ◌*◌, ◌-◌, ◌<◌, ◌≤◌};
-ghost use Rattle.thy_base.specs.Config.{HasListsInRange};
-ghost use Rattle.thy_base.specs.Geometry.{IsInRange, geometry_of, parameters_of, memory_blocks, program_size, console_room, stack_top};
+ghost use Rattle.thy_base.specs.Config.{geometry_of, rows_of};
+ghost use Rattle.thy_base.specs.Geometry.{IsInRange, parameters_of, memory_blocks, program_size, console_room, stack_top};
+ghost use Rattle.thy_base.specs.Ranges.{AreIn};
 
 use crate::ranges::{first_fault, parameters};
 use crate::{Config, ConfigError, Parameters};
@@ -34,8 +35,8 @@ impl Geometry {
     pub fn new(config: &Config) -> Result<Geometry, ConfigError>
         ensures geometry { result ≡ geometry_of config.now }
 
-        // So it is one exactly where each number and both lists are in range.
-        ensures in_range { let p = parameters_of config.now in (result ≡ Ok p) ↔ (IsInRange p × HasListsInRange config.now) }
+        // So it is one exactly where each field is in its range.
+        ensures in_range { (result ≡ Ok (parameters_of config.now)) ↔ AreIn (rows_of config.now) }
     {
         match first_fault(config) {
             Some(fault) => Err(fault),

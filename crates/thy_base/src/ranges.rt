@@ -1,7 +1,8 @@
 //! The tests of a configuration's ranges, in their order.
-ghost use Rattle.std.specs.Prelude.{◌≡◌, ◌+◌, ◌*◌, ◌<◌, ◌≤◌, ◌∷◌, drop, Bool, Option, Some, None, List, length, is_none, IfNone, nat_le, ◌&&◌};
-ghost use Rattle.thy_base.specs.Config.{fault_of, memory_fault, table_fault, queue_fault, threshold_fault, cut_fault, end_fault, first_not_rising, or_fault, within};
-ghost use Rattle.thy_base.specs.Geometry.{parameters_of};
+ghost use Rattle.std.specs.Prelude.{◌≡◌, ◌+◌, ◌*◌, ◌<◌, ◌≤◌, ◌∷◌, [], drop, Bool, Option, Some, None, List, length, if◌then◌else◌, IfNone, nat_le, ◌&&◌};
+ghost use Rattle.thy_base.specs.Config.{fault_of, fault_in, rising_rows, cut_rows, end_rows};
+ghost use Rattle.thy_base.specs.Geometry.{parameters_of, memory_rows, table_rows, queue_rows, threshold_rows};
+ghost use Rattle.thy_base.specs.Ranges.{row, is_in, between, at_most};
 
 use crate::{Config, ConfigError, Field, Parameters};
 
@@ -38,13 +39,13 @@ pub(crate) fn first_fault(c: &Config) -> Option<ConfigError>
 }
 
 fn is_within(least: u64, greatest: u64, n: u64) -> bool
-    ensures { result ≡ within least greatest n }
+    ensures { result ≡ is_in (between least greatest) n }
 {
     least <= n && n <= greatest
 }
 
 fn or_else(fits: bool, field: Field, value: u64, rest: Option<ConfigError>) -> Option<ConfigError>
-    ensures { result ≡ or_fault fits field value rest }
+    ensures { result ≡ (if fits then rest else Some (record { field = field; value = value })) }
 {
     if fits {
         rest
@@ -54,7 +55,7 @@ fn or_else(fits: bool, field: Field, value: u64, rest: Option<ConfigError>) -> O
 }
 
 fn memory(c: &Config) -> Option<ConfigError>
-    ensures fault { result ≡ memory_fault c.now }
+    ensures fault { result ≡ fault_in (memory_rows (parameters_of c.now)) }
     ensures pages { IfNone result (c.now.pages ≤ 4096) }
 {
     let base = c.base.is_multiple_of(4096) && c.base < 1 << 62;
@@ -70,7 +71,7 @@ fn memory(c: &Config) -> Option<ConfigError>
 }
 
 fn tables(c: &Config) -> Option<ConfigError>
-    ensures { result ≡ table_fault c.now }
+    ensures { result ≡ fault_in (table_rows (parameters_of c.now)) }
 {
     let epoch = is_within(1, 1_000_000, c.epoch);
     let btt = is_within(8, 4096, c.btt) && c.btt % 8 == 0;
@@ -85,7 +86,7 @@ fn tables(c: &Config) -> Option<ConfigError>
 }
 
 fn queues(c: &Config) -> Option<ConfigError>
-    ensures { result ≡ queue_fault c.now }
+    ensures { result ≡ fault_in (queue_rows (parameters_of c.now)) }
 {
     let sets = is_within(1, 64, c.sets) && 64 % c.sets == 0;
     let ways = is_within(1, 8, c.ways);
@@ -106,7 +107,7 @@ fn queues(c: &Config) -> Option<ConfigError>
 }
 
 fn thresholds(c: &Config) -> Option<ConfigError>
-    ensures { result ≡ threshold_fault c.now }
+    ensures { result ≡ fault_in (threshold_rows (parameters_of c.now)) }
 {
     let low = or_else(c.low <= c.high, Field::Low, c.low, None);
     or_else(c.high <= 63, Field::High, c.high, low)
@@ -114,7 +115,7 @@ fn thresholds(c: &Config) -> Option<ConfigError>
 
 fn cuts(c: &Config) -> Option<ConfigError>
     requires { c.now.pages ≤ 4096 }
-    ensures { result ≡ cut_fault c.now }
+    ensures { result ≡ fault_in (cut_rows c.now) }
 {
     let count = c.cuts.len();
     if count > 64 {
@@ -123,31 +124,28 @@ fn cuts(c: &Config) -> Option<ConfigError>
             value: count as u64,
         });
     }
-    if let Some(value) = not_rising(c.cuts.as_slice()) {
-        return Some(ConfigError {
-            field: Field::Cuts,
-            value,
-        });
-    }
-    product(c.pages, count as u64)
+    not_rising(c.cuts.as_slice()).or(product(c.pages, count as u64))
 }
 
 fn product(pages: u64, count: u64) -> Option<ConfigError>
     requires few_pages { pages ≤ 4096 }
     requires few_cuts { count ≤ 64 }
-    ensures { result ≡ or_fault (nat_le (pages * (count + 1)) 65536) Field.Cuts (pages * (count + 1)) None }
+    ensures { result ≡ fault_in (row Field.Cuts (pages * (count + 1)) (at_most 65536) ∷ []) }
 {
     let product = pages * (count + 1);
     or_else(product <= 65536, Field::Cuts, product, None)
 }
 
-fn not_rising(cuts: &[u64]) -> Option<u64>
-    ensures { result ≡ first_not_rising 0 cuts.now }
+fn not_rising(cuts: &[u64]) -> Option<ConfigError>
+    ensures { result ≡ fault_in (rising_rows 0 cuts.now) }
 {
     let mut before = 0;
     for cut in cuts {
         if *cut <= before {
-            return Some(*cut);
+            return Some(ConfigError {
+                field: Field::Cuts,
+                value: *cut,
+            });
         }
         before = *cut;
     }
@@ -155,7 +153,7 @@ fn not_rising(cuts: &[u64]) -> Option<u64>
 }
 
 fn end(c: &Config) -> Option<ConfigError>
-    ensures { result ≡ end_fault c.now }
+    ensures { result ≡ fault_in (end_rows c.now) }
 {
     let count = c.tears.len();
     let limit = is_within(1, 1_000_000_000_000, c.limit);

@@ -1,12 +1,13 @@
 use Rattle.std.proofs.Common.{sym}
-use Rattle.thy_base.proofs.RangeLemmas.{in_range, no_fault}
+use Rattle.thy_base.specs.Config.{rows_of}
+use Rattle.thy_base.proofs.RangeLemmas.{AreIn-none, none-AreIn, IsInRange-rows}
 use Rattle.thy_base.proofs.geometry.Geometry.new.Goals as goal
 
 pub invariant_of-result : goal.invariant_of-result
-invariant_of-result c = rw c.parameters.ensures (in_range c.args.config.now (sym c.in-None.ensures)).0
+invariant_of-result c = rw c.parameters.ensures (IsInRange-rows c.args.config.now (AreIn-none (rows_of c.args.config.now) (sym c.in-None.ensures)))
 
 pub returns-in-None-clause-in_range : goal.returns-in-None-clause-in_range
-returns-in-None-clause-in_range c = (λ same. in_range c.args.config.now (sym c.in-None.ensures), λ both. cc)
+returns-in-None-clause-in_range c = (λ same. AreIn-none (rows_of c.args.config.now) (sym c.in-None.ensures), λ all. cc)
 
 pub returns-in-Some-clause-in_range : goal.returns-in-Some-clause-in_range
-returns-in-Some-clause-in_range c = (λ same. cc, λ both. let none = no_fault c.args.config.now both.0 both.1 in cc)
+returns-in-Some-clause-in_range c = (λ same. cc, λ all. let none = none-AreIn (rows_of c.args.config.now) all in cc)
