@@ -9,6 +9,7 @@ pub mod Geometry
 pub mod Inside
 pub mod Lcg
 pub mod LittleEndian
+pub mod Marks
 pub mod Mix
 pub mod Outside
 pub mod Ranges

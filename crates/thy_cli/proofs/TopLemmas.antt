@@ -7,9 +7,9 @@ use Rattle.thy_base.specs.declared.config.ConfigError.{ConfigError}
 use Rattle.thy_base.specs.declared.config.Field.{Field}
 use Rattle.thy_base.specs.declared.config.Parameters.{Parameters}
 use Rattle.thy_base.specs.declared.nvm.Shape.{Shape}
-use Rattle.thy_base.specs.Config.{fault_of, or_fault, or_value, memory_fault, table_fault, queue_fault, threshold_fault, cut_fault, first_not_rising}
+use Rattle.thy_base.specs.Config.{fault_of, geometry_or, geometry_of, rows_of, IsRising}
 use Rattle.thy_base.specs.Device.{Device, fitted}
-use Rattle.thy_base.specs.Geometry.{IsInRange, geometry_or, geometry_of, parameters_of, program_size}
+use Rattle.thy_base.specs.Geometry.{IsInRange, parameters_of, program_size}
 use Rattle.thy_base.specs.Outside.{Stream}
 use Rattle.thy_isa.specs.declared.state.Status.TheVariants.{Running}
 use Rattle.thy_isa.specs.Storable.{IsNumber, IsStorable}
@@ -25,6 +25,7 @@ use Rattle.thy_words.specs.Settings.{Job, run, plain, settings_of, order_of, Sho
 use Rattle.thy_view.specs.Booting.{found_first}
 use Rattle.thy_view.specs.Kind.{KindOf, IsLawful, IsFittedFor}
 use Rattle.thy_base.specs.declared.mark.Mark.{Mark}
+use Rattle.thy_base.proofs.RangeLemmas.{AreIn-none, IsRising-rows}
 use Rattle.thy_view.specs.Origin.{Origin, IsOrigin, StartsFrom}
 use Rattle.thy_run.specs.Laws.{Promise}
 use Rattle.thy_run.specs.Unfinished.{Finished}
@@ -44,27 +45,9 @@ use Rattle.thy_run.specs.Turning.{EndsBy, RunEnds}
 
 -- ---- configurations
 
-none_both : {A : Type 0} (a b : Option A) → option_or a b ≡ None → (a ≡ None) × (b ≡ None)
-none_both None b e = (refl, e)
-none_both (Some x) b e = absurd (cc)
-
-none_rest : (t : Bool) (field : Field) (value : ℕ) (rest : Option ConfigError) → or_fault t field value rest ≡ None → rest ≡ None
-none_rest true field value rest e = e
-none_rest false field value rest e = absurd (cc)
-
-none_value : (o : Option ℕ) (field : Field) (rest : Option ConfigError) → or_value o field rest ≡ None → o ≡ None
-none_value None field rest e = refl
-none_value (Some x) field rest e = absurd (cc)
-
 -- the cuts of a configuration in range rise
-pub rising_of : (c : Config) → fault_of c ≡ None → first_not_rising 0 c.cuts ≡ None
-rising_of c e =
-    let one = (none_both (memory_fault c) _ e).1 in
-    let two = (none_both (table_fault c) _ one).1 in
-    let three = (none_both (queue_fault c) _ two).1 in
-    let four = (none_both (threshold_fault c) _ three).1 in
-    let cuts = (none_both (cut_fault c) _ four).0 in
-    none_value (first_not_rising 0 c.cuts) _ _ (none_rest _ _ _ _ cuts)
+pub rising_of : (c : Config) → fault_of c ≡ None → IsRising 0 c.cuts
+rising_of c none = IsRising-rows c (AreIn-none (rows_of c) none)
 
 ok_is : (p q : Parameters) → Ok p ≡ geometry_or None q → p ≡ q
 ok_is p q e = cc

@@ -20,7 +20,7 @@ use Rattle.thy_copy_model.proofs.StateLemmas.{at-start}
 use Rattle.thy_view.specs.Booting.{boot_view, view_of_image, found_first, first_view}
 use Rattle.thy_view.specs.Kind.{IsFittedFor}
 use Rattle.thy_copy_model.specs.Kind.{kind}
-use Rattle.thy_view.specs.Views.{mark}
+use Rattle.thy_base.specs.Marks.{mark}
 use Rattle.thy_view.specs.Origin.{Origin, at, StartsFrom, IsOrigin}
 use Rattle.thy_view.specs.Safe.{ceiling, IsOneOf, Safe}
 use Rattle.thy_copy_model.specs.Stored.{Stands, IsKept}

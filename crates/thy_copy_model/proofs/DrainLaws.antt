@@ -15,7 +15,8 @@ use Rattle.thy_view.specs.declared.view.Phase.{Phase}
 use Rattle.thy_view.specs.declared.view.Phase.TheVariants.{Boot, Run, Halt}
 use Rattle.thy_view.specs.Booting.{view_of_image}
 use Rattle.thy_copy_model.specs.Bounds.{IsBounded, IsStage}
-use Rattle.thy_view.specs.Views.{mark, doubt_of}
+use Rattle.thy_base.specs.Marks.{mark}
+use Rattle.thy_view.specs.Views.{doubt_of}
 use Rattle.thy_view.specs.Origin.{Origin, IsOrigin}
 use Rattle.thy_view.specs.Safe.{ceiling, Safe}
 use Rattle.thy_copy_model.specs.Stored.{IsKept}

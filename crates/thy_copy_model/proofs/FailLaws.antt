@@ -18,7 +18,8 @@ use Rattle.thy_copy_model.specs.Boot.{start_bytes, block_from}
 use Rattle.thy_view.specs.Booting.{view_of_image}
 use Rattle.thy_copy_model.specs.Bounds.{IsIssue, IsStage}
 use Rattle.thy_copy_model.specs.Checkpoint.{issue_action}
-use Rattle.thy_view.specs.Views.{mark, doubt_of}
+use Rattle.thy_base.specs.Marks.{mark}
+use Rattle.thy_view.specs.Views.{doubt_of}
 use Rattle.thy_view.specs.Origin.{Origin}
 use Rattle.thy_view.specs.Safe.{ceiling, Safe}
 use Rattle.thy_copy_model.specs.Sound.{IsWritten, IsLoading, IsCheckpointing, SoundBoot, SoundIn, Sound, view_in, view_of, doubt_from, doubt_at}

@@ -28,7 +28,7 @@ use Rattle.thy_copy_model.specs.Boot.{start_bytes, block_from}
 use Rattle.thy_view.specs.Booting.{loading_view}
 use Rattle.thy_copy_model.specs.Bounds.{IsBounded, IsIssue}
 use Rattle.thy_copy_model.specs.Checkpoint.{record_place, memory_place, issue_action, issue_after}
-use Rattle.thy_view.specs.Views.{mark}
+use Rattle.thy_base.specs.Marks.{mark}
 use Rattle.thy_view.specs.Origin.{Origin, at, IsOrigin, StartsFrom}
 use Rattle.thy_view.specs.Safe.{ceiling}
 use Rattle.thy_copy_model.specs.Stored.{IsKept}

@@ -30,7 +30,7 @@ use Rattle.thy_view.specs.Booting.{boot_view, loading_view, view_of_image}
 use Rattle.thy_copy_model.specs.Boot.{phase_of, restored_view, found_commit, stage_unless, found_header, found_last_record, found_record, found_memory}
 use Rattle.thy_copy_model.specs.Bounds.{IsBounded, IsRanged}
 use Rattle.thy_copy_model.specs.Checkpoint.{record_place, memory_place}
-use Rattle.thy_view.specs.Views.{mark}
+use Rattle.thy_base.specs.Marks.{mark}
 use Rattle.thy_view.specs.CoreStep.{phase_at, CoreStep}
 use Rattle.thy_view.specs.Origin.{Origin, at, IsOrigin}
 use Rattle.thy_view.specs.Safe.{ceiling}

@@ -27,7 +27,7 @@ use Rattle.thy_view.specs.declared.view.View.{View}
 use Rattle.thy_view.specs.Action.{Action, Rest, ReadAt, WriteAt, Barrier, Drain, after}
 use Rattle.thy_copy_model.specs.Bounds.{IsIssue, IsStage, IsCounted, IsBounded}
 use Rattle.thy_copy_model.specs.Checkpoint.{issue_action, issue_after}
-use Rattle.thy_view.specs.Views.{mark}
+use Rattle.thy_base.specs.Marks.{mark}
 use Rattle.thy_view.specs.CoreStep.{busier, over_at, EngineTo, CoreStep}
 use Rattle.thy_copy_model.specs.Hart.{executed, performed}
 use Rattle.thy_view.specs.Origin.{Origin, setting_of, at, runs_at}
@@ -41,6 +41,7 @@ use Rattle.thy_copy_model.proofs.DrainLaws.{IsPresent-sound, IsWriting-checkpoin
 use Rattle.thy_copy_model.proofs.LoadLaws.{IsWritten-with}
 use Rattle.thy_copy_model.proofs.RecoverLaws.{idle_moment}
 use Rattle.thy_copy_model.proofs.StateLemmas.{status-state_from}
+use Rattle.thy_base.proofs.RangeLemmas.{pages_least}
 
 -- ---- actions
 
@@ -236,7 +237,7 @@ counted_on Run cpu v next e h = h ∙ sym e
 counted_on Halt cpu v next e h = h ∙ sym e
 
 pub some_memory : (p : Parameters) → IsInRange p → 0 < memory_blocks p
-some_memory p r = let pages = r.pages_least in omega arith
+some_memory p r = let pages = (pages_least _ r) in omega arith
 
 pub IsBounded-sealed : (o : Origin) (m : Parts) (n : Device) → Sound o m n → IsBounded (sealed_on m)
 IsBounded-sealed o m n s = record {

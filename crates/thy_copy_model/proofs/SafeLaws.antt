@@ -20,7 +20,8 @@ use Rattle.thy_view.specs.declared.view.Phase.{Phase}
 use Rattle.thy_view.specs.declared.view.Phase.TheVariants.{Boot, Run, Halt}
 use Rattle.thy_view.specs.declared.view.View.{View}
 use Rattle.thy_view.specs.Booting.{view_of_image}
-use Rattle.thy_view.specs.Views.{mark, doubt_of}
+use Rattle.thy_base.specs.Marks.{mark}
+use Rattle.thy_view.specs.Views.{doubt_of}
 use Rattle.thy_view.specs.Origin.{Origin, at}
 use Rattle.thy_view.specs.Safe.{ceiling, IsOneOf, Safe}
 use Rattle.thy_copy_model.specs.Stored.{Stands, Gives, IsKept, IsInDoubt}

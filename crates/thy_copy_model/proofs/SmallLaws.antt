@@ -13,7 +13,8 @@ use Rattle.thy_copy_model.specs.declared.stage.Stage.TheVariants.{Unread, Header
 use Rattle.thy_base.specs.declared.mark.Mark.{Mark}
 use Rattle.thy_view.specs.declared.view.View.{View}
 use Rattle.thy_view.specs.Booting.{view_of_image, found_first, first_view}
-use Rattle.thy_view.specs.Views.{mark, doubt_of}
+use Rattle.thy_base.specs.Marks.{mark}
+use Rattle.thy_view.specs.Views.{doubt_of}
 use Rattle.thy_view.specs.CoreStep.{busier, BootsTo, MovesTo, EngineTo, CoreStep}
 use Rattle.thy_copy_model.specs.Moments.{IsSmallMark, IsSmall, cycle_doubt, booting_view, Finds, first_epoch}
 use Rattle.thy_copy_model.specs.Cycle.{is_drain}

@@ -17,6 +17,7 @@ use Rattle.thy_copy_model.specs.Boot.{start_bytes, block_from}
 use Rattle.thy_copy_model.specs.Bounds.{IsRanged}
 use Rattle.thy_view.specs.Origin.{Origin, setting_of, at, IsOrigin}
 use Rattle.thy_copy_model.specs.Sound.{SameBelow}
+use Rattle.thy_base.proofs.RangeLemmas.{console_below}
 
 -- ---- blocks of a list
 
@@ -57,7 +58,7 @@ flat-blocks (b ∷ blocks) bytes l each =
 pub length-start_bytes : (o : Origin) → IsOrigin o → length (start_bytes o.geometry o.start) ≡ 64 * memory_blocks o.geometry
 length-start_bytes o h =
     let room = h.recordable.console in
-    let least = h.geometry.console_below in
+    let least = (console_below _ h.geometry) in
     let size = h.memory in
     let zeros : List ℕ = replicate (console_room o.geometry - length o.start.console) 0 in
     omega (

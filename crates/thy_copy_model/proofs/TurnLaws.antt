@@ -18,7 +18,7 @@ use Rattle.thy_view.specs.declared.view.Phase.{Phase}
 use Rattle.thy_view.specs.declared.view.Phase.TheVariants.{Boot, Run, Halt}
 use Rattle.thy_view.specs.declared.view.View.{View}
 use Rattle.thy_copy_model.specs.Checkpoint.{issue_after}
-use Rattle.thy_view.specs.Views.{mark}
+use Rattle.thy_base.specs.Marks.{mark}
 use Rattle.thy_copy_model.specs.Cycle.{hart_did, run_did, run_stall, phase_did, phase_stall, told, cycle_did, cycle_stall}
 use Rattle.thy_view.specs.Origin.{Origin}
 use Rattle.thy_view.specs.Safe.{ceiling}

@@ -18,7 +18,7 @@ use Rattle.thy_copy_model.specs.declared.stage.Issue.TheVariants.{Memory}
 use Rattle.thy_copy_model.specs.declared.stage.Stage.{Stage}
 use Rattle.thy_copy_model.specs.declared.stage.Stage.TheVariants.{Header, Record, Restoring, Refused, Writing, Idle}
 use Rattle.thy_copy_model.specs.declared.parts.Parts.{Parts}
-use Rattle.thy_view.specs.Views.{mark}
+use Rattle.thy_base.specs.Marks.{mark}
 use Rattle.thy_view.specs.Safe.{ceiling}
 
 -- the bytes of a start, the console's pages filled up with zeros

@@ -24,7 +24,7 @@ use Rattle.thy_view.specs.declared.view.View.{View}
 use Rattle.thy_copy_model.specs.Boot.{start_bytes, block_from}
 use Rattle.thy_view.specs.Booting.{loading_view, view_of_image}
 use Rattle.thy_copy_model.specs.Bounds.{IsBounded, IsSized}
-use Rattle.thy_view.specs.Views.{mark}
+use Rattle.thy_base.specs.Marks.{mark}
 use Rattle.thy_view.specs.Origin.{Origin, at, IsOrigin}
 use Rattle.thy_view.specs.Safe.{ceiling}
 use Rattle.thy_copy_model.specs.Stored.{IsFixed, AreRead, Stands, IsKept, IsInDoubt}

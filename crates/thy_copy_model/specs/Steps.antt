@@ -20,7 +20,7 @@ use Rattle.thy_view.specs.declared.view.Phase.TheVariants.{Run}
 use Rattle.thy_view.specs.Action.{Action, Rest, ReadAt}
 use Rattle.thy_copy_model.specs.Boot.{start_bytes, block_from, phase_of, found_commit, found_header, found_record, found_memory}
 use Rattle.thy_copy_model.specs.Checkpoint.{record_place, memory_place, issue_action, issue_after}
-use Rattle.thy_view.specs.Views.{mark}
+use Rattle.thy_base.specs.Marks.{mark}
 use Rattle.thy_view.specs.CoreStep.{busier}
 use Rattle.thy_copy_model.specs.Hart.{executed}
 

@@ -14,7 +14,8 @@ use Rattle.thy_view.specs.declared.did.Did.{Did}
 use Rattle.thy_view.specs.declared.did.Did.TheVariants.{Boot, Loaded, Restarted, Refused, Moved, Retired, Flushed, Merged, Sealed, Promoted, Engine, Committed, NvmDrained, DramDrained, Nothing}
 use Rattle.thy_view.specs.declared.view.Phase.TheVariants.{Boot as BootPhase}
 use Rattle.thy_view.specs.declared.view.View.{View}
-use Rattle.thy_view.specs.Views.{mark, loads, halts}
+use Rattle.thy_base.specs.Marks.{mark}
+use Rattle.thy_view.specs.Views.{loads, halts}
 use Rattle.thy_view.specs.CoreStep.{CoreStep}
 use Rattle.thy_base.specs.Geometry.{console_room}
 use Rattle.thy_view.specs.Origin.{Origin, at, setting_of, IsOrigin}
@@ -25,6 +26,7 @@ use Rattle.thy_run.proofs.CoverLaws.{Covers-sealed, marks-part}
 use Rattle.thy_run.proofs.Fitting.{BootFits, RunFits, FitsIn, Fits}
 use Rattle.thy_run.proofs.EventLaws.{marks-events}
 use Rattle.thy_run.proofs.WorldLaws.{Coheres, Rises-fits}
+use Rattle.thy_base.proofs.RangeLemmas.{console_most}
 
 -- ---- the console of the plain machine
 
@@ -277,7 +279,7 @@ unfolding at
 console-few o k origin =
     let same : length (console_at o k) ≡ length o.start.console = ap length (steps-console (setting_of o) (k - o.start.count) o.start) in
     let room : length o.start.console ≤ console_room o.geometry = origin.recordable.console in
-    let few : o.geometry.console ≤ 16 = origin.geometry.console_most in
+    let few : o.geometry.console ≤ 16 = (console_most _ origin.geometry) in
     omega (arith, same, room, few)
 
 kept_few : (o : Origin) (kept : Option Mark) → IsOrigin o → length (console_of (console_at o) kept) < 2 ^ 64

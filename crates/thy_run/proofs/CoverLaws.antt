@@ -13,7 +13,8 @@ use Rattle.thy_view.specs.declared.did.Did.TheVariants.{Boot, Loaded, Restarted,
 use Rattle.thy_view.specs.declared.view.Phase.{Phase}
 use Rattle.thy_view.specs.declared.view.Phase.TheVariants.{Boot as BootPhase, Run, Halt}
 use Rattle.thy_view.specs.declared.view.View.{View}
-use Rattle.thy_view.specs.Views.{loads, halts, mark, doubt_of}
+use Rattle.thy_base.specs.Marks.{mark}
+use Rattle.thy_view.specs.Views.{loads, halts, doubt_of}
 use Rattle.thy_view.specs.CoreStep.{CoreStep}
 use Rattle.thy_view.specs.Origin.{Origin, at}
 use Rattle.thy_view.specs.Safe.{ceiling, Safe, IsOneOf}

@@ -7,7 +7,7 @@ use Rattle.thy_text.specs.Marks.{Marks, loading_marks}
 use Rattle.thy_view.specs.declared.view.Phase.{Phase}
 use Rattle.thy_view.specs.declared.view.Phase.TheVariants.{Boot as BootPhase, Run, Halt}
 use Rattle.thy_view.specs.declared.view.View.{View}
-use Rattle.thy_view.specs.Views.{mark}
+use Rattle.thy_base.specs.Marks.{mark}
 use Rattle.thy_view.specs.CoreStep.{IsShort}
 use Rattle.thy_view.specs.Origin.{Origin, runs_at}
 

@@ -11,7 +11,7 @@ use Rattle.thy_record.specs.declared.engine_step.EngineStep.TheVariants.{Idle, C
 use Rattle.thy_view.specs.declared.view.Phase.{Phase}
 use Rattle.thy_view.specs.declared.view.Phase.TheVariants.{Boot as BootPhase, Run, Halt}
 use Rattle.thy_view.specs.declared.view.View.{View}
-use Rattle.thy_view.specs.Views.{mark}
+use Rattle.thy_base.specs.Marks.{mark}
 use Rattle.thy_view.specs.CoreStep.{busier, BootsTo, MovesTo, EngineTo, CoreStep, over_at, phase_at}
 use Rattle.thy_view.specs.Origin.{Origin, runs_at}
 use Rattle.thy_view.proofs.Choices.{if_equal}

@@ -13,7 +13,8 @@ use Rattle.thy_record.specs.declared.engine_step.EngineStep.{EngineStep}
 use Rattle.thy_record.specs.declared.engine_step.EngineStep.TheVariants.{Idle, Copied, PageBlock, StateBlock, TableBlock, Barrier, CommitWritten, Committed as EngineCommitted}
 use Rattle.thy_view.specs.declared.view.Phase.TheVariants.{Boot as BootPhase, Run}
 use Rattle.thy_view.specs.declared.view.View.{View}
-use Rattle.thy_view.specs.Views.{is_boot, is_halt, loads, halts, mark}
+use Rattle.thy_base.specs.Marks.{mark}
+use Rattle.thy_view.specs.Views.{is_boot, is_halt, loads, halts}
 use Rattle.thy_view.specs.CoreStep.{busier, BootsTo, MovesTo, EngineTo, CoreStep}
 use Rattle.thy_view.specs.Origin.{Origin, at}
 use Rattle.thy_run.specs.Images.{left_by, Since, since_from, HasLeft, FitsImage, AllFitImages, EndsFitting}

@@ -5,19 +5,9 @@ use Rattle.std.proofs.lemmas.List.Sums.{take_while-cons}
 use Rattle.std.proofs.lemmas.Bool.{le-leb, ltb-true, cases_lt, cases_eq}
 use Rattle.std.proofs.lemmas.List.Elements.{filter-append}
 use Rattle.std.proofs.lemmas.Bool.Decides.{leb_tells}
-use Rattle.thy_base.specs.Config.{first_not_rising}
+use Rattle.thy_base.specs.Config.{IsRising}
 use Rattle.thy_text.specs.Happening.{Happening, Cut}
 use Rattle.thy_run.specs.Cuts.{is_cut, cuts_among, numbered, cuts_up_to}
-
-cond_none : (b : Bool) (n : ℕ) (rest : Option ℕ) → cond b rest (Some n) ≡ None → (b ≡ true) × (rest ≡ None)
-cond_none true n rest e = (refl, e)
-cond_none false n rest e = absurd (cc)
-
--- a list that rises: its first number is above the one before, and the rest rises from there
-rises_on : (before n : ℕ) (ns : List ℕ) → first_not_rising before (n ∷ ns) ≡ None → (before < n) × (first_not_rising n ns ≡ None)
-rises_on before n ns e =
-    let both = cond_none (nat_lt before n) n (first_not_rising n ns) e in
-    (ltb-true before n both.0, both.1)
 
 up_true : (c n : ℕ) (ns : List ℕ) → n ≤ c → cuts_up_to c (n ∷ ns) ≡ n ∷ cuts_up_to c ns
 up_true c n ns le = take_while-cons (λ x. nat_le x c) n ns ∙ ap (λ b. cond b (n ∷ take_while (λ x. nat_le x c) ns) []) (le-leb n c le)
@@ -32,9 +22,9 @@ up_false : (c n : ℕ) (ns : List ℕ) → c < n → cuts_up_to c (n ∷ ns) ≡
 up_false c n ns lt = take_while-cons (λ x. nat_le x c) n ns ∙ ap (λ b. cond b (n ∷ take_while (λ x. nat_le x c) ns) []) (not_le n c lt)
 
 -- none of a list that rises from there on
-pub up_none : (c before : ℕ) (ns : List ℕ) → first_not_rising before ns ≡ None → c ≤ before → cuts_up_to c ns ≡ []
+pub up_none : (c before : ℕ) (ns : List ℕ) → IsRising before ns → c ≤ before → cuts_up_to c ns ≡ []
 up_none c before [] rising le = refl
-up_none c before (n ∷ ns) rising le = let above = (rises_on before n ns rising).0 in up_false c n ns (omega arith)
+up_none c before (n ∷ ns) rising le = let above = rising.0 in up_false c n ns (omega arith)
 
 -- the next listed cut falls after the next cycle, and then one more has fallen; else as many have
 abbrev pub NextCut : ℕ → List ℕ → ℕ → Type 0
@@ -45,14 +35,14 @@ NextCut c cuts p =
 tails : (n k : ℕ) (xs ys : List ℕ) → n ∷ xs ≡ k ∷ ys → xs ≡ ys
 tails n k xs ys e = cc
 
-at_first : (c before n : ℕ) (ns : List ℕ) → first_not_rising before (n ∷ ns) ≡ None → cuts_up_to c (n ∷ ns) ≡ [] → NextCut c (n ∷ ns) 0
+at_first : (c before n : ℕ) (ns : List ℕ) → IsRising before (n ∷ ns) → cuts_up_to c (n ∷ ns) ≡ [] → NextCut c (n ∷ ns) 0
 at_first c before n ns rising now =
     let above : c < n = elim (cases_lt c n) as (λ _. c < n) [
       | inl lt ↦ lt
       | inr le ↦ absurd (let e : n ∷ cuts_up_to c ns ≡ [] = sym (up_true c n ns le) ∙ now in cc)
     ] in
     elim (cases_eq n (c + 1)) as (λ _. NextCut c (n ∷ ns) 0) [
-      | inl e ↦ inl (omega arith, e, up_true (c + 1) n ns (omega arith) ∙ ap (λ l. n ∷ l) (up_none (c + 1) n ns (rises_on before n ns rising).1 (omega arith)))
+      | inl e ↦ inl (omega arith, e, up_true (c + 1) n ns (omega arith) ∙ ap (λ l. n ∷ l) (up_none (c + 1) n ns rising.1 (omega arith)))
       | inr d ↦ inr (λ lt e. d e, up_false (c + 1) n ns (omega (arith, d)))
     ]
 
@@ -60,7 +50,7 @@ further : (c n : ℕ) (ns : List ℕ) (p : ℕ) → n ≤ c → NextCut c ns p �
 further c n ns p le (inl (lt, e, f)) = inl (omega arith, e, up_true (c + 1) n ns (omega arith) ∙ ap (λ l. n ∷ l) f)
 further c n ns p le (inr (d, f)) = inr (λ lt e. d (omega arith) e, up_true (c + 1) n ns (omega arith) ∙ ap (λ l. n ∷ l) f)
 
-pub next_cut : (c before : ℕ) (cuts : List ℕ) (p : ℕ) → first_not_rising before cuts ≡ None → p ≤ length cuts → cuts_up_to c cuts ≡ take p cuts → NextCut c cuts p
+pub next_cut : (c before : ℕ) (cuts : List ℕ) (p : ℕ) → IsRising before cuts → p ≤ length cuts → cuts_up_to c cuts ≡ take p cuts → NextCut c cuts p
 next_cut c before [] zero rising few now = inr (λ lt e. omega arith, refl)
 next_cut c before [] (suc p) rising few now = absurd (omega arith)
 next_cut c before (n ∷ ns) zero rising few now = at_first c before n ns rising now
@@ -69,7 +59,7 @@ next_cut c before (n ∷ ns) (suc p) rising few now =
       | inl lt ↦ absurd (let e : [] ≡ n ∷ take p ns = sym (up_false c n ns lt) ∙ now in cc)
       | inr le ↦ le
     ] in
-    further c n ns p le (next_cut c n ns p (rises_on before n ns rising).1 (omega arith) (tails n n (cuts_up_to c ns) (take p ns) (sym (up_true c n ns le) ∙ now)))
+    further c n ns p le (next_cut c n ns p rising.1 (omega arith) (tails n n (cuts_up_to c ns) (take p ns) (sym (up_true c n ns le) ∙ now)))
 
 -- ---- the cuts among events
 

@@ -11,7 +11,8 @@ use Rattle.thy_view.specs.Kind.{KindOf, IsLawful}
 use Rattle.thy_view.specs.Origin.{Origin, runs_at}
 use Rattle.thy_view.specs.Pace.{retires}
 use Rattle.thy_view.specs.Safe.{IsOneOf}
-use Rattle.thy_view.specs.Views.{is_boot, mark, doubt_of}
+use Rattle.thy_base.specs.Marks.{mark}
+use Rattle.thy_view.specs.Views.{is_boot, doubt_of}
 use Rattle.thy_run.specs.Progress.{RunIsSoonOver, Tally, nothing_done, counted, tally_of}
 use Rattle.thy_run.specs.World.{World, Given, seen, Steps, is_due, IsCutOff, tear, Ran}
 use Rattle.thy_run.proofs.StepKinds.{Kind, keeps, loads, restores, advances, seals, commits, kind_of}

@@ -22,6 +22,7 @@ use Rattle.thy_run.specs.Sending.{Delivered}
 use Rattle.thy_run.specs.Turning.{IsFitted, Running, RunEnds, first_progress}
 use Rattle.thy_run.proofs.AdvanceLemmas.{good_of}
 use Rattle.thy_run.proofs.TurnLemmas.{Took-none, delivered_all}
+use Rattle.thy_base.proofs.RangeLemmas.{limit_least}
 
 -- the view with which a run begins has nothing in doubt
 first_doubt : (o : Origin) (kept : Option Mark) → doubt_of (view_of_image o.start.count (found_first o kept)) ≡ None
@@ -90,7 +91,7 @@ RunEnds-unpowered K laws plan events n t r planned f none = record {
   is_settled = refl;
   shown_all = record { more = []; unsent = []; is_text = ap (released_of (origin_of plan)) none; whole = λ _. refl; middle = t; took = Took-none t; sent = Took-none t };
   read_all = subst (λ (vs : List Happening). Delivered false false [] (report_of plan.digest vs) r r) (sym none) (delivered_all false [] r r refl (Took-none r));
-  stop_fits = omega (arith, planned.origin.geometry.limit_least);
+  stop_fits = omega (arith, (limit_least _ planned.origin.geometry));
 }
 
 -- as many cycles as the limit allows are done

@@ -10,7 +10,8 @@ use Rattle.thy_view.specs.declared.view.View.{View}
 use Rattle.thy_view.specs.CoreStep.{CoreStep, EngineTo, phase_at}
 use Rattle.thy_view.specs.Origin.{Origin, runs_at}
 use Rattle.thy_view.specs.Pace.{retires, Strides}
-use Rattle.thy_view.specs.Views.{is_boot, mark}
+use Rattle.thy_base.specs.Marks.{mark}
+use Rattle.thy_view.specs.Views.{is_boot}
 use Rattle.thy_run.specs.World.{told}
 
 -- the step leaves phase, marks and counts, tells nothing, and no epoch ends with it

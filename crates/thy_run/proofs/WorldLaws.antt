@@ -6,7 +6,7 @@ use Rattle.std.proofs.lemmas.List.Folds.{list_any-append}
 use Rattle.std.proofs.Math.Seq.{get_or-append_seam}
 use Rattle.thy_base.specs.declared.block.Block.{Block}
 use Rattle.thy_base.specs.declared.mark.Mark.{Mark}
-use Rattle.thy_base.specs.Config.{first_not_rising}
+use Rattle.thy_base.specs.Config.{IsRising}
 use Rattle.thy_base.specs.Device.{Device, Crash, IsCut, cut_to}
 use Rattle.thy_base.proofs.CrashLemmas.{Crash-cut_to}
 use Rattle.thy_record.specs.Decoded.{Decoded, Nothing as NothingLeft, Refused as RefusedImage, At}
@@ -20,7 +20,8 @@ use Rattle.thy_view.specs.declared.view.Phase.{Phase}
 use Rattle.thy_view.specs.declared.view.Phase.TheVariants.{Boot as BootPhase, Run, Halt}
 use Rattle.thy_view.specs.declared.view.View.{View}
 use Rattle.thy_view.specs.Booting.{found_first, first_view, view_of_image}
-use Rattle.thy_view.specs.Views.{is_halt, loads, halts, mark, doubt_of}
+use Rattle.thy_base.specs.Marks.{mark}
+use Rattle.thy_view.specs.Views.{is_halt, loads, halts, doubt_of}
 use Rattle.thy_view.specs.CoreStep.{CoreStep}
 use Rattle.thy_isa.specs.Step.{steps}
 use Rattle.thy_view.specs.Origin.{Origin, at, setting_of}
@@ -180,7 +181,7 @@ due_parts false false c e = absurd (cc)
 due_not : (a b c : Bool) → (not a && (b && c)) ≡ false → a ≡ false → b ≡ true → c ≡ true → ⊥
 due_not a b c e f g h = let t : (not a && (b && c)) ≡ true = ap (λ x. not x && (b && c)) f ∙ ap (λ x. x && c) g ∙ h in cc
 
-not_due : {M : Type 0} (K : KindOf M) → (o : Origin) (cuts : List ℕ) (x : World M) (c : ℕ) → x.cycles ≡ c + 1 → Listed cuts c x → first_not_rising 0 cuts ≡ None
+not_due : {M : Type 0} (K : KindOf M) → (o : Origin) (cuts : List ℕ) (x : World M) (c : ℕ) → x.cycles ≡ c + 1 → Listed cuts c x → IsRising 0 cuts
     → is_due K o cuts x ≡ false → is_halt (seen K o x).phase ≡ false → Listed cuts (c + 1) x
 not_due {M = M} K o cuts x c cycles l rising due going = elim (next_cut c 0 cuts x.passed rising l.few l.up_to) as (λ _. Listed cuts (c + 1) x) [
   | inl comes ↦ absurd (due_not (is_halt (seen K o x).phase) (nat_lt x.passed (length cuts)) (slice_index cuts x.passed == x.cycles) due going
@@ -189,7 +190,7 @@ not_due {M = M} K o cuts x c cycles l rising due going = elim (next_cut c 0 cuts
 ]
 
 -- no cut is due after the step
-good_stepped : {M : Type 0} (K : KindOf M) → (o : Origin) (cuts : List ℕ) (w x : World M) → first_not_rising 0 cuts ≡ None → Steps K o w x → Listed cuts w.cycles w → Coheres K o x → is_due K o cuts x ≡ false
+good_stepped : {M : Type 0} (K : KindOf M) → (o : Origin) (cuts : List ℕ) (w x : World M) → IsRising 0 cuts → Steps K o w x → Listed cuts w.cycles w → Coheres K o x → is_due K o cuts x ≡ false
     → Listed cuts (last_cuttable x.events x.cycles) x
 good_stepped {M = M} K o cuts w x rising step l stands due = by_end (is_halt (seen K o x).phase) refl
   where
@@ -341,7 +342,7 @@ module _ {M : Type 0} (K : KindOf M) (o : Origin) (x next : World M) (h : Cohere
   Coheres-cut = subst (Coheres K o) (sym cut.next_is) cut_coheres
 
   -- and the listed cuts up to it
-  pub Listed-cut : (cuts : List ℕ) (c : ℕ) → x.cycles ≡ c + 1 → Listed cuts c x → first_not_rising 0 cuts ≡ None → nat_lt x.passed (length cuts) ≡ true
+  pub Listed-cut : (cuts : List ℕ) (c : ℕ) → x.cycles ≡ c + 1 → Listed cuts c x → IsRising 0 cuts → nat_lt x.passed (length cuts) ≡ true
       → (slice_index cuts x.passed == x.cycles) ≡ true → Listed cuts (last_cuttable next.events next.cycles) next
   Listed-cut cuts c cycles l rising some due =
       let last : last_cuttable next.events next.cycles ≡ x.cycles =
@@ -363,7 +364,7 @@ module _ {M : Type 0} (K : KindOf M) (o : Origin) (x next : World M) (h : Cohere
 
 -- ---- cycles
 
-by_due : {M : Type 0} (K : KindOf M) → (o : Origin) (cuts : List ℕ) (w x next : World M) → first_not_rising 0 cuts ≡ None → Steps K o w x → Listed cuts w.cycles w → Coheres K o x
+by_due : {M : Type 0} (K : KindOf M) → (o : Origin) (cuts : List ℕ) (w x next : World M) → IsRising 0 cuts → Steps K o w x → Listed cuts w.cycles w → Coheres K o x
     → (pick : ℕ) (b : Bool) → is_due K o cuts x ≡ b → MatchBool b (IsCutOff K o pick x next) (next ≡ x) → Good K o cuts next
 by_due {M = M} K o cuts w x next rising step l stands pick false due is =
     subst (Good K o cuts) (sym is) (record { stands = stands; listed = good_stepped K o cuts w x rising step l stands due })
@@ -377,7 +378,7 @@ by_due {M = M} K o cuts w x next rising step l stands pick true due cut =
     }
 
 -- one more cycle keeps what holds between two
-pub Good-cycle : {M : Type 0} (K : KindOf M) → (o : Origin) (cuts tears : List ℕ) (w next : World M) → 1 ≤ o.geometry.epoch → first_not_rising 0 cuts ≡ None → Good K o cuts w → Cycle K o cuts tears w next → Good K o cuts next
+pub Good-cycle : {M : Type 0} (K : KindOf M) → (o : Origin) (cuts tears : List ℕ) (w next : World M) → 1 ≤ o.geometry.epoch → IsRising 0 cuts → Good K o cuts w → Cycle K o cuts tears w next → Good K o cuts next
 Good-cycle {M = M} K o cuts tears w next least rising g c =
     by_due K o cuts w c.between next rising c.steps (listed_going K o cuts w g c.steps.going) (Coheres-stepped K o w least g.stands c.between c.steps)
     (tear tears c.between.passed) (is_due K o cuts c.between) refl c.cut
@@ -406,7 +407,7 @@ first_boot o None = (refl, refl)
 first_boot o (Some m) = (refl, refl)
 
 -- and it holds at first
-pub Good-first : {M : Type 0} (K : KindOf M) → (o : Origin) (given : Given) (w : World M) → first_not_rising 0 given.cuts ≡ None → IsFirst K o given w → Good K o given.cuts w
+pub Good-first : {M : Type 0} (K : KindOf M) → (o : Origin) (given : Given) (w : World M) → IsRising 0 given.cuts → IsFirst K o given w → Good K o given.cuts w
 Good-first {M = M} K o given w rising f =
     let none : w.events ≡ [] = f.events in
     let marks : marks_of o w.events ≡ first_marks o = ap (marks_of o) none in
@@ -446,7 +447,7 @@ Good-first {M = M} K o given w rising f =
     }
 
 -- so it holds after any number of cycles
-pub Good-ran : {M : Type 0} (K : KindOf M) → (o : Origin) (given : Given) (k : ℕ) (w : World M) → 1 ≤ o.geometry.epoch → first_not_rising 0 given.cuts ≡ None → Ran K o given k w → Good K o given.cuts w
+pub Good-ran : {M : Type 0} (K : KindOf M) → (o : Origin) (given : Given) (k : ℕ) (w : World M) → 1 ≤ o.geometry.epoch → IsRising 0 given.cuts → Ran K o given k w → Good K o given.cuts w
 Good-ran {M = M} K o given zero w least rising first = Good-first K o given w rising first
 Good-ran {M = M} K o given (suc k) w least rising (before, ran, cycle) =
     Good-cycle K o given.cuts given.tears before w least rising (Good-ran K o given k before least rising ran) cycle

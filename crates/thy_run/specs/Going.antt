@@ -2,7 +2,7 @@
 use Rattle.std.specs.Prelude.{◌≡◌, ◌⊎◌, ℕ, ◌+◌, ◌<◌, ◌==◌, true, false, ◌&&◌, nat_lt, slice_index, List, [], ◌∷◌, ◌++◌, length, Option, Some, None, Box}
 use Rattle.std.specs.declared.alloc.Global.{Global}
 use Rattle.thy_base.specs.Bytes.{bytes_of}
-use Rattle.thy_base.specs.Config.{first_not_rising}
+use Rattle.thy_base.specs.Config.{IsRising}
 use Rattle.thy_base.specs.Counts.{Rose}
 use Rattle.thy_base.specs.Device.{Device, IsFramed, IsCut}
 use Rattle.thy_base.specs.Mix.{mix_pick, mix_next}
@@ -42,7 +42,7 @@ given_of plan fitted = record { cuts = plan.config.cuts; tears = plan.config.tea
 -- its start is one of a run, and the listed cuts rise
 pub record IsPlanned (plan : Plan) : Type 0 where
   pub origin : IsOrigin (origin_of plan)
-  pub rising : first_not_rising 0 plan.config.cuts ≡ None
+  pub rising : IsRising 0 plan.config.cuts
 
 -- the run between two cycles, of which so many are done, with its device
 abbrev pub world_at : {M : Type 0} → Progress M → Device → ℕ → World M

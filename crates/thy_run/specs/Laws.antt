@@ -1,11 +1,12 @@
 -- What follows for every run, whatever the cuts left.
 use Rattle.std.specs.Prelude.{◌≡◌, ℕ, zero, suc, List, [], ◌∷◌, ◌++◌, length, None, Option, Some}
-use Rattle.thy_base.specs.Config.{first_not_rising}
+use Rattle.thy_base.specs.Config.{IsRising}
 use Rattle.thy_base.specs.declared.mark.Mark.{Mark}
 use Rattle.thy_base.specs.Device.{Device}
 use Rattle.thy_view.specs.Kind.{KindOf}
 use Rattle.thy_text.specs.Happening.{Happening}
-use Rattle.thy_text.specs.Marks.{Marks, Course, mark, loading_marks, marks_from, AllLawful}
+use Rattle.thy_base.specs.Marks.{mark}
+use Rattle.thy_text.specs.Marks.{Marks, Course, loading_marks, marks_from, AllLawful}
 use Rattle.thy_text.specs.Released.{released}
 use Rattle.thy_view.specs.Origin.{Origin, at, IsOrigin}
 use Rattle.thy_view.specs.Safe.{Safe}
@@ -61,4 +62,4 @@ pub record Promise {M : Type 0} (K : KindOf M) (o : Origin) (given : Given) (cyc
 abbrev pub RunKeepsPromise : {M : Type 0} → KindOf M → Type 0
 RunKeepsPromise K =
     (o : Origin) (given : Given) (cycles : ℕ) (events : List Happening) (n : Device)
-    → IsOrigin o → first_not_rising 0 given.cuts ≡ None → Finished K o given cycles events n → Promise K o given cycles events n
+    → IsOrigin o → IsRising 0 given.cuts → Finished K o given cycles events n → Promise K o given cycles events n

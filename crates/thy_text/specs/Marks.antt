@@ -2,12 +2,10 @@
 use Rattle.std.specs.Prelude.{◌≡◌, ◌≢◌, ◌⊎◌, ℕ, ◌+◌, ◌<◌, ◌≤◌, true, false, List, [], ◌∷◌, Option, Some, None}
 use Rattle.thy_base.specs.declared.cause.EndCause.{EndCause}
 use Rattle.thy_base.specs.declared.cause.EndCause.TheVariants.{Length, Exhausted, Ended as EndedCause}
+use Rattle.thy_base.specs.Marks.{mark}
 use Rattle.thy_base.specs.declared.mark.Mark.{Mark}
 use Rattle.thy_isa.specs.Step.{State, is_running}
 use Rattle.thy_text.specs.Happening.{Happening, EpochEnd, Commit, Cut, Restart, Reload, Ended}
-
-abbrev pub mark : ℕ → ℕ → Mark
-mark epoch count = record { epoch = epoch; count = count }
 
 -- the checkpoint that is committed, and the one that is sealed and may be
 pub record Marks : Type 0 where

@@ -5,7 +5,7 @@ use Rattle.thy_record.specs.Decoded.{Decoded, Nothing, Refused, At}
 use Rattle.thy_view.specs.declared.view.Phase.TheVariants.{Boot}
 use Rattle.thy_view.specs.declared.view.View.{View}
 use Rattle.thy_view.specs.Origin.{Origin}
-use Rattle.thy_view.specs.Views.{mark}
+use Rattle.thy_base.specs.Marks.{mark}
 
 -- the view of a boot with these marks
 abbrev pub boot_view : Option Mark → Option Mark → View

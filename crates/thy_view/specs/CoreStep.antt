@@ -11,7 +11,7 @@ use Rattle.thy_view.specs.declared.did.Did.TheVariants.{Boot, Loaded, Restarted,
 use Rattle.thy_record.specs.declared.engine_step.EngineStep.{EngineStep}
 use Rattle.thy_record.specs.declared.engine_step.EngineStep.TheVariants.{Idle, CommitWritten, Committed as EngineCommitted}
 use Rattle.thy_view.specs.Origin.{Origin, runs_at}
-use Rattle.thy_view.specs.Views.{mark}
+use Rattle.thy_base.specs.Marks.{mark}
 
 -- the phase after a checkpoint of this count: the program's end is the machine's
 abbrev pub phase_at : Origin → ℕ → Phase

@@ -5,7 +5,7 @@ use Rattle.thy_base.specs.Device.{Device, Crash}
 use Rattle.thy_isa.specs.Step.{State}
 use Rattle.thy_record.specs.Decoded.{Decoded, Nothing, Refused, At, Reading}
 use Rattle.thy_base.specs.declared.mark.Mark.{Mark}
-use Rattle.thy_view.specs.Views.{mark}
+use Rattle.thy_base.specs.Marks.{mark}
 use Rattle.thy_view.specs.Origin.{Origin, at}
 
 -- epochs and counts of a run's own images are below this

@@ -6,6 +6,7 @@ use Rattle.thy_view.specs.declared.view.Phase.{Phase}
 use Rattle.thy_copy_model.specs.Bounds.{IsCounted, IsStage, IsOfPhase, HasCount}
 use Rattle.thy_copy.proofs.StageLemmas.{count_below, unless_stage, unless_phase, unless_counted, record_regs}
 use Rattle.thy_copy.proofs.boot.find_processor.Goals as goal
+use Rattle.thy_base.proofs.RangeLemmas.{pages_least}
 
 pub returns-clause-consistent : goal.returns-clause-consistent
 returns-clause-consistent c = record {
@@ -14,7 +15,7 @@ returns-clause-consistent c = record {
   regs = ap (λ (cpu : CpuState). length cpu.regs) c.cpu_state-m.ensures ∙ record_regs c.args.m.now.slot_record;
   stage = subst (IsStage c.args.m.now.geometry c.cpu_state-m.result) (sym c.stage_unless-m.ensures)
       (unless_stage c.args.m.now.geometry c.cpu_state-m.result c.record_fault-fault.result (Restoring c.args.epoch 0) (λ none. (
-        omega (arith, c.requires.consistent.geometry.pages_least),
+        omega (arith, (pages_least _ c.requires.consistent.geometry)),
         c.requires.epoch,
         omega (
           arith,

@@ -4,6 +4,7 @@ use Rattle.thy_base.specs.Bytes.{bytes_of}
 use Rattle.thy_base.specs.Geometry.{console_room}
 use Rattle.thy_copy.proofs.BlockLemmas.{block_of_memory, block_behind_memory}
 use Rattle.thy_copy.proofs.loading.start_block.Goals as goal
+use Rattle.thy_base.proofs.RangeLemmas.{console_below}
 
 -- a block is its bytes
 same_block : (b : Block) (bytes : List ℕ) → b.0 ≡ bytes → b ≡ record { 0 = bytes }
@@ -39,4 +40,4 @@ returns-else-from-size c =
     (omega (arith, c.requires.memory, c.program_size-size.ensures.size))
     c.part_block.ensures
     (omega (arith, c.requires.memory, c.program_size-size.ensures.size))
-    (omega (arith, c.requires.memory, c.requires.place, c.requires.console, c.program_size-size.ensures.size, c.program_size-size.ensures.in_range.console_below))
+    (omega (arith, c.requires.memory, c.requires.place, c.requires.console, c.program_size-size.ensures.size, (console_below _ c.program_size-size.ensures.in_range)))

@@ -1,8 +1,8 @@
 use Rattle.std.proofs.Common.{◌≡◌, Option, Some, None, Ok, sym, ◌∙◌}
 use Rattle.thy_base.specs.declared.config.ConfigError.{ConfigError}
 use Rattle.thy_base.specs.declared.config.Parameters.{Parameters}
-use Rattle.thy_base.specs.Config.{fault_of}
-use Rattle.thy_base.specs.Geometry.{geometry_or, parameters_of}
+use Rattle.thy_base.specs.Config.{fault_of, geometry_or}
+use Rattle.thy_base.specs.Geometry.{parameters_of}
 use Rattle.thy_tests.proofs.geometry.geometry_of.Goals as goal
 
 -- numbers that are a geometry are its own

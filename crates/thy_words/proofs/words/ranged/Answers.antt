@@ -1,6 +1,6 @@
 use Rattle.std.proofs.Common.{◌≡◌, refl, Option, Some, None, Ok, Err}
-use Rattle.thy_base.specs.Config.{fault_of}
-use Rattle.thy_base.specs.Geometry.{geometry_or, parameters_of}
+use Rattle.thy_base.specs.Config.{fault_of, geometry_or}
+use Rattle.thy_base.specs.Geometry.{parameters_of}
 use Rattle.thy_base.specs.declared.config.Config.{Config}
 use Rattle.thy_base.specs.declared.config.ConfigError.{ConfigError}
 use Rattle.thy_base.specs.declared.config.Parameters.{Parameters}
