@@ -83,16 +83,16 @@ inside_true base size at n h = grind (arith, nat_tests)
 
 -- an aligned range of program memory lies within a block
 within_eight : (p : Parameters) (at : ℕ) → IsInRange p → at % 8 ≡ 0 → p.base ≤ at → at + 8 ≤ p.base + program_size p → IsWithinBlock p at 8
-within_eight p at r a l u = record { base = l; block = omega (arith, (base_aligned _ r), (console_below _ r)); bytes = omega (arith, (base_aligned _ r)) }
+within_eight p at r a l u = record { base = l; block = omega (arith, base_aligned p r, console_below p r); bytes = omega (arith, base_aligned p r) }
 
 pub within_four : (p : Parameters) (at : ℕ) → IsInRange p → at % 4 ≡ 0 → p.base ≤ at → at + 4 ≤ p.base + program_size p → IsWithinBlock p at 4
-within_four p at r a l u = record { base = l; block = omega (arith, (base_aligned _ r), (console_below _ r)); bytes = omega (arith, (base_aligned _ r)) }
+within_four p at r a l u = record { base = l; block = omega (arith, base_aligned p r, console_below p r); bytes = omega (arith, base_aligned p r) }
 
 within_two : (p : Parameters) (at : ℕ) → IsInRange p → at % 2 ≡ 0 → p.base ≤ at → at + 2 ≤ p.base + program_size p → IsWithinBlock p at 2
-within_two p at r a l u = record { base = l; block = omega (arith, (base_aligned _ r), (console_below _ r)); bytes = omega (arith, (base_aligned _ r)) }
+within_two p at r a l u = record { base = l; block = omega (arith, base_aligned p r, console_below p r); bytes = omega (arith, base_aligned p r) }
 
 within_one : (p : Parameters) (at : ℕ) → IsInRange p → p.base ≤ at → at + 1 ≤ p.base + program_size p → IsWithinBlock p at 1
-within_one p at r l u = record { base = l; block = omega (arith, (base_aligned _ r), (console_below _ r)); bytes = omega (arith, (base_aligned _ r)) }
+within_one p at r l u = record { base = l; block = omega (arith, base_aligned p r, console_below p r); bytes = omega (arith, base_aligned p r) }
 
 within_width : (p : Parameters) (width : Width) (at : ℕ) → IsInRange p → at % size_of width ≡ 0
     → (p.base ≤ at) × (at + size_of width ≤ p.base + program_size p) → IsWithinBlock p at (size_of width)

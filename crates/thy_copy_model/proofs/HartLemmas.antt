@@ -33,16 +33,16 @@ pub record IsPlaced (p : Parameters) (at n : ℕ) : Type 0 where
   pub bytes : (at - p.base) % 64 + n ≤ 64
 
 placed_eight : (p : Parameters) (at : ℕ) → IsInRange p → at % 8 ≡ 0 → p.base ≤ at → at + 8 ≤ p.base + program_size p → IsPlaced p at 8
-placed_eight p at r a l u = record { first = omega arith; last = omega arith; bytes = omega (arith, (base_aligned _ r)) }
+placed_eight p at r a l u = record { first = omega arith; last = omega arith; bytes = omega (arith, base_aligned p r) }
 
 placed_four : (p : Parameters) (at : ℕ) → IsInRange p → at % 4 ≡ 0 → p.base ≤ at → at + 4 ≤ p.base + program_size p → IsPlaced p at 4
-placed_four p at r a l u = record { first = omega arith; last = omega arith; bytes = omega (arith, (base_aligned _ r)) }
+placed_four p at r a l u = record { first = omega arith; last = omega arith; bytes = omega (arith, base_aligned p r) }
 
 placed_two : (p : Parameters) (at : ℕ) → IsInRange p → at % 2 ≡ 0 → p.base ≤ at → at + 2 ≤ p.base + program_size p → IsPlaced p at 2
-placed_two p at r a l u = record { first = omega arith; last = omega arith; bytes = omega (arith, (base_aligned _ r)) }
+placed_two p at r a l u = record { first = omega arith; last = omega arith; bytes = omega (arith, base_aligned p r) }
 
 placed_one : (p : Parameters) (at : ℕ) → IsInRange p → p.base ≤ at → at + 1 ≤ p.base + program_size p → IsPlaced p at 1
-placed_one p at r l u = record { first = omega arith; last = omega arith; bytes = omega (arith, (base_aligned _ r)) }
+placed_one p at r l u = record { first = omega arith; last = omega arith; bytes = omega (arith, base_aligned p r) }
 
 placed_width : (p : Parameters) (width : Width) (at : ℕ) → IsInRange p → at % size_of width ≡ 0
     → (p.base ≤ at) × (at + size_of width ≤ p.base + program_size p) → IsPlaced p at (size_of width)

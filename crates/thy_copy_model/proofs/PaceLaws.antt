@@ -337,7 +337,7 @@ module _ (m : Parts) where
 
 module _ (o : Origin) (m : Parts) (n : Device) (s : Sound o m n) where
   some_epoch : 1 ≤ m.geometry.epoch
-  some_epoch = subst (λ (p : Parameters). 1 ≤ p.epoch) (sym s.geometry) (epoch_least _ s.origin.geometry)
+  some_epoch = subst (λ (p : Parameters). 1 ≤ p.epoch) (sym s.geometry) (epoch_least o.geometry s.origin.geometry)
 
   run_paced : (stage : Stage) → m.stage ≡ stage → m.view.phase ≡ Run → Spends m.geometry m.view stage
       → PacedTo m stage (run_next (length o.input) stage m) (run_action stage m) (run_did stage m)
@@ -513,7 +513,7 @@ Asks-cycle o m n s h pick = by_drain (is_drain pick (length n.queue))
 -- nothing is spent
 pub Spends-powered_on : (o : Origin) (m : Parts) → IsInRange o.geometry → IsPoweredOn o.geometry m → Spends m.geometry m.view m.stage
 Spends-powered_on o m range on =
-    let some : 1 ≤ o.geometry.epoch = (epoch_least _ range) in
+    let some : 1 ≤ o.geometry.epoch = epoch_least o.geometry range in
     subst (λ (v : View). Spends m.geometry v m.stage) (sym on.view)
     (subst (λ (x : Stage). Spends m.geometry (boot_view None None) x) (sym on.stage)
     (subst (λ (p : Parameters). Spends p (boot_view None None) Unread) (sym on.geometry) (record { spent = omega arith; retired = omega (arith, some) })))

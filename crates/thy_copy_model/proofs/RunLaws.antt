@@ -237,7 +237,7 @@ counted_on Run cpu v next e h = h ∙ sym e
 counted_on Halt cpu v next e h = h ∙ sym e
 
 pub some_memory : (p : Parameters) → IsInRange p → 0 < memory_blocks p
-some_memory p r = let pages = (pages_least _ r) in omega arith
+some_memory p r = let pages = pages_least p r in omega arith
 
 pub IsBounded-sealed : (o : Origin) (m : Parts) (n : Device) → Sound o m n → IsBounded (sealed_on m)
 IsBounded-sealed o m n s = record {

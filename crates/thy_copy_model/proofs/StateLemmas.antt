@@ -58,7 +58,7 @@ flat-blocks (b ∷ blocks) bytes l each =
 pub length-start_bytes : (o : Origin) → IsOrigin o → length (start_bytes o.geometry o.start) ≡ 64 * memory_blocks o.geometry
 length-start_bytes o h =
     let room = h.recordable.console in
-    let least = (console_below _ h.geometry) in
+    let least = console_below o.geometry h.geometry in
     let size = h.memory in
     let zeros : List ℕ = replicate (console_room o.geometry - length o.start.console) 0 in
     omega (

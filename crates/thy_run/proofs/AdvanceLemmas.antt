@@ -42,7 +42,7 @@ progress_stepped p m mix is = ap (λ x. record p { machine = m; mix = x }) is
 -- what holds of a run that goes on
 pub good_of : {M : Type 0} (K : KindOf M) → (plan : Plan) (fitted : Device) (p : Progress M) (n : Device) (k : ℕ) → IsPlanned plan → GoesOn K plan fitted p n k → Good K (origin_of plan) plan.config.cuts (world_at p n k)
 good_of {M = M} K plan fitted p n k planned g =
-    Good-ran K (origin_of plan) (given_of plan fitted) k (world_at p n k) (epoch_least _ planned.origin.geometry) planned.rising g.ran
+    Good-ran K (origin_of plan) (given_of plan fitted) k (world_at p n k) (epoch_least (origin_of plan).geometry planned.origin.geometry) planned.rising g.ran
 
 -- a boot's phase does not halt
 image_going : (count : ℕ) (d : Decoded) → is_halt (view_of_image count d).phase ≡ false
@@ -271,7 +271,7 @@ IsNoted-made {M = M} K laws plan fitted p q t n m k r ended bytes planned g s ma
           ∙ ap (λ b. p.events ++ events_of o b v r.did (K.view o q.machine m) (k + 1)) fresh_q);
     } in
     let releases : released_of o t.events ≡ released_of o p.events ++ bytes =
-    released-stepped K o (world_at p n k) _ (epoch_least _ planned.origin.geometry) good.stands steps
+    released-stepped K o (world_at p n k) _ (epoch_least (origin_of plan).geometry planned.origin.geometry) good.stands steps
     ∙ ap (λ (l : List ℕ). released_of o p.events ++ l) (ap (λ (e : List Happening). due_of o e r.did (K.view o q.machine m)) (sym events_q) ∙ sym bytes_is) in
     let now : IsNoted K plan p (record q { events = t.events; released = t.released; fresh = false }) n m k ended bytes = record {
       steps = steps;
@@ -300,7 +300,7 @@ IsBroken-made {M = M} K laws plan fitted p q t n m k r planned g s some same =
     let next : World M = stepped K o (world_at p n k) q.machine m r.did in
     let steps : Steps K o (world_at p n k) next = record { r = r; going = g.going; is_step = s.is_step; framed = s.framed; calm = s.calm; next_is = refl } in
     let told : t.events ≡ p.events ++ some.part = some.told ∙ ap (λ (l : List Happening). l ++ some.part) events_q in
-    let more = released-part K o (world_at p n k) next (epoch_least _ planned.origin.geometry) good.stands steps some.part some.rest (sym split) in
+    let more = released-part K o (world_at p n k) next (epoch_least (origin_of plan).geometry planned.origin.geometry) good.stands steps some.part some.rest (sym split) in
     record {
       unfinished = inr (record {
         next = next;
@@ -384,7 +384,7 @@ few_released {M = M} K laws plan fitted p q n m k r bytes planned g s due =
     let next : World M = stepped K o (world_at p n k) q.machine m r.did in
     let steps : Steps K o (world_at p n k) next = record { r = r; going = g.going; is_step = s.is_step; framed = s.framed; calm = s.calm; next_is = refl } in
     let releases : released_of o next.events ≡ released_of o p.events ++ bytes =
-    released-stepped K o (world_at p n k) next (epoch_least _ planned.origin.geometry) good.stands steps
+    released-stepped K o (world_at p n k) next (epoch_least (origin_of plan).geometry planned.origin.geometry) good.stands steps
     ∙ ap (λ (l : List ℕ). released_of o p.events ++ l) (ap (λ (e : List Happening). due_of o e r.did (K.view o q.machine m)) (sym events_q) ∙ sym due) in
     let released : q.released ≡ length (released_of o p.events) = ap (λ (y : Progress M). y.released) s.same ∙ g.released in
     let sum : length (released_of o next.events) ≡ length (released_of o p.events) + length bytes = ap length releases ∙ length-append (released_of o p.events) bytes in

@@ -279,7 +279,7 @@ unfolding at
 console-few o k origin =
     let same : length (console_at o k) ≡ length o.start.console = ap length (steps-console (setting_of o) (k - o.start.count) o.start) in
     let room : length o.start.console ≤ console_room o.geometry = origin.recordable.console in
-    let few : o.geometry.console ≤ 16 = (console_most _ origin.geometry) in
+    let few : o.geometry.console ≤ 16 = console_most o.geometry origin.geometry in
     omega (arith, same, room, few)
 
 kept_few : (o : Origin) (kept : Option Mark) → IsOrigin o → length (console_of (console_at o) kept) < 2 ^ 64

@@ -180,7 +180,7 @@ module _ {M : Type 0} (K : KindOf M) (o : Origin) (given : Given) (w : World M) 
 -- every run keeps its promise
 pub Promise-finished : {M : Type 0} (K : KindOf M) → IsLawful K → RunKeepsPromise K
 Promise-finished K laws o given cycles events n origin rising f =
-    let least : 1 ≤ o.geometry.epoch = (epoch_least _ origin.geometry) in
+    let least : 1 ≤ o.geometry.epoch = epoch_least o.geometry origin.geometry in
     let good = Good-ran K o given cycles f.last least rising f.ran in
     let same : f.last.cycles ≡ cycles = cycles-ran K o given cycles f.last f.ran in
     let soon : IsSoonOver K o given.cuts f.last.cycles = subst (IsSoonOver K o given.cuts) (sym same) (SoonOver-ran K laws o given cycles f.last f.ran) in

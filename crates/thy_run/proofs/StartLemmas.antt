@@ -91,7 +91,7 @@ RunEnds-unpowered K laws plan events n t r planned f none = record {
   is_settled = refl;
   shown_all = record { more = []; unsent = []; is_text = ap (released_of (origin_of plan)) none; whole = λ _. refl; middle = t; took = Took-none t; sent = Took-none t };
   read_all = subst (λ (vs : List Happening). Delivered false false [] (report_of plan.digest vs) r r) (sym none) (delivered_all false [] r r refl (Took-none r));
-  stop_fits = omega (arith, (limit_least _ planned.origin.geometry));
+  stop_fits = omega (arith, limit_least plan.geometry planned.origin.geometry);
 }
 
 -- as many cycles as the limit allows are done

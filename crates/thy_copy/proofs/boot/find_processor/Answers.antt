@@ -15,7 +15,7 @@ returns-clause-consistent c = record {
   regs = ap (λ (cpu : CpuState). length cpu.regs) c.cpu_state-m.ensures ∙ record_regs c.args.m.now.slot_record;
   stage = subst (IsStage c.args.m.now.geometry c.cpu_state-m.result) (sym c.stage_unless-m.ensures)
       (unless_stage c.args.m.now.geometry c.cpu_state-m.result c.record_fault-fault.result (Restoring c.args.epoch 0) (λ none. (
-        omega (arith, (pages_least _ c.requires.consistent.geometry)),
+        omega (arith, c.requires.consistent.geometry),
         c.requires.epoch,
         omega (
           arith,

@@ -40,4 +40,4 @@ returns-else-from-size c =
     (omega (arith, c.requires.memory, c.program_size-size.ensures.size))
     c.part_block.ensures
     (omega (arith, c.requires.memory, c.program_size-size.ensures.size))
-    (omega (arith, c.requires.memory, c.requires.place, c.requires.console, c.program_size-size.ensures.size, (console_below _ c.program_size-size.ensures.in_range)))
+    (omega (arith, c.requires.memory, c.requires.place, c.requires.console, c.program_size-size.ensures.size, c.program_size-size.ensures.in_range))
