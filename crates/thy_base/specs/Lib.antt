@@ -13,4 +13,5 @@ pub mod Marks
 pub mod Mix
 pub mod Outside
 pub mod Ranges
+pub mod Places
 pub mod Store

@@ -15,6 +15,8 @@ mod mix;
 mod numbers;
 mod nvm;
 mod outside;
+mod place;
+mod places;
 mod ranges;
 mod store;
 
@@ -30,4 +32,8 @@ pub use mix::{Mix, Pick};
 pub use numbers::Numbers;
 pub use nvm::{FitError, Nvm, NvmError, Shape, Write};
 pub use outside::{FetchError, PutError, Shelf, Sink, SinkError};
+pub use place::Place;
+pub use places::{
+    numbers_tell_places, places_are_behind_slots, places_are_in_dram, slots_are_apart,
+};
 pub use store::{BlockStore, Stored};

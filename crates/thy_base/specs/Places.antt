@@ -1,0 +1,82 @@
+-- The places of both devices, and the numbers of the blocks that they have. The NVM has the header (block 0), the
+-- commit block (block 1), two slots, and behind them the places of memory's blocks.
+use Rattle.std.specs.Prelude.{◌≡◌, ℕ, ◌+◌, ◌*◌, ◌/◌, ◌<◌, ◌≤◌, Bool, true, false}
+use Rattle.thy_base.specs.declared.config.Parameters.{Parameters}
+use Rattle.thy_base.specs.declared.place.Place.{Place}
+use Rattle.thy_base.specs.declared.place.Place.TheVariants.{Home, AlternateBlock, AlternatePage, Buffer, Frame}
+use Rattle.thy_base.specs.Geometry.{memory_blocks}
+
+-- how many blocks a slot has: the processor's record of 5, the block table and the page table, eight entries a block
+abbrev pub slot_blocks : Parameters → ℕ
+slot_blocks p = 5 + p.btt / 8 + p.ptt / 8
+
+-- the first block of a slot
+abbrev pub slot_place : Parameters → ℕ → ℕ
+slot_place p s = 2 + s * slot_blocks p
+
+-- where the homes of memory's blocks begin, and behind them the alternate blocks, and the alternate pages
+abbrev pub first_home : Parameters → ℕ
+first_home p = 2 + 2 * slot_blocks p
+
+abbrev pub first_alternate_block : Parameters → ℕ
+first_alternate_block p = first_home p + memory_blocks p
+
+abbrev pub first_alternate_page : Parameters → ℕ
+first_alternate_page p = first_alternate_block p + p.btt
+
+-- how many blocks an image of the NVM has
+abbrev pub image_blocks : Parameters → ℕ
+image_blocks p = first_alternate_page p + 64 * p.ptt
+
+-- how many blocks the DRAM has: the buffers, and behind them the frames
+abbrev pub dram_blocks : Parameters → ℕ
+dram_blocks p = p.btt + 64 * p.ptt
+
+-- the place is one of the DRAM, not of the NVM
+abbrev pub in_dram : Place → Bool
+in_dram (Home block) = false
+in_dram (AlternateBlock entry) = false
+in_dram (AlternatePage entry block) = false
+in_dram (Buffer entry) = true
+in_dram (Frame entry block) = true
+
+-- the number of a place's block in its device
+abbrev pub number_of : Parameters → Place → ℕ
+number_of p (Home block) = first_home p + block
+number_of p (AlternateBlock entry) = first_alternate_block p + entry
+number_of p (AlternatePage entry block) = first_alternate_page p + (64 * entry + block)
+number_of p (Buffer entry) = entry
+number_of p (Frame entry block) = p.btt + (64 * entry + block)
+
+-- the place is there: memory has the block, the table the entry, a page the block
+abbrev pub IsPlace : Parameters → Place → Type 0
+IsPlace p (Home block) = block < memory_blocks p
+IsPlace p (AlternateBlock entry) = entry < p.btt
+IsPlace p (AlternatePage entry block) = (entry < p.ptt) × (block < 64)
+IsPlace p (Buffer entry) = entry < p.btt
+IsPlace p (Frame entry block) = (entry < p.ptt) × (block < 64)
+
+-- places of one device that have the same number are the same place
+abbrev pub NumbersTellPlaces : Type 0
+NumbersTellPlaces =
+    (p : Parameters) (x y : Place) → IsPlace p x → IsPlace p y
+    → in_dram x ≡ in_dram y → number_of p x ≡ number_of p y → x ≡ y
+
+-- a place of the NVM lies behind header, commit block and both slots, and within the image
+abbrev pub PlacesAreBehindSlots : Type 0
+PlacesAreBehindSlots =
+    (p : Parameters) (x : Place) → IsPlace p x → in_dram x ≡ false
+    → (first_home p ≤ number_of p x) × (number_of p x < image_blocks p)
+
+-- a place of the DRAM lies within it
+abbrev pub PlacesAreInDram : Type 0
+PlacesAreInDram = (p : Parameters) (x : Place) → IsPlace p x → in_dram x ≡ true → number_of p x < dram_blocks p
+
+-- slot 0 lies behind the commit block, slot 1 behind slot 0, and the homes behind slot 1
+pub record SlotsFollow (p : Parameters) : Type 0 where
+  pub first : slot_place p 0 ≡ 2
+  pub second : slot_place p 1 ≡ slot_place p 0 + slot_blocks p
+  pub homes : first_home p ≡ slot_place p 1 + slot_blocks p
+
+abbrev pub SlotsAreApart : Type 0
+SlotsAreApart = (p : Parameters) → SlotsFollow p

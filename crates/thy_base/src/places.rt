@@ -1,0 +1,131 @@
+//! The numbers of the places' blocks, and the laws of the layout.
+ghost use Rattle.std.specs.Prelude.{◌≡◌, ◌+◌, ◌*◌, ◌<◌};
+ghost use Rattle.thy_base.specs.Places.{NumbersTellPlaces, PlacesAreBehindSlots, PlacesAreInDram, SlotsAreApart};
+
+use crate::{Geometry, Place};
+
+impl Geometry {
+    ghost use Rattle.thy_base.specs.declared.place.Place.TheVariants.{Home as AtHome, AlternateBlock as AtAlternateBlock, AlternatePage as AtAlternatePage, Buffer as AtBuffer, Frame as AtFrame};
+    ghost use Rattle.thy_base.specs.Geometry.{IsInRange, memory_blocks};
+    ghost use Rattle.thy_base.specs.Places.{slot_blocks, slot_place, image_blocks, dram_blocks, number_of, IsPlace};
+
+    /// How many blocks an image of the NVM has.
+    pub fn blocks(&self) -> u64
+        ensures blocks { result ≡ image_blocks self.now }
+        ensures in_range { IsInRange self.now }
+    {
+        let p = self.numbers();
+        2 + 2 * self.slot_blocks() + 64 * p.pages + p.btt + 64 * p.ptt
+    }
+
+    /// How many blocks the DRAM has.
+    pub fn dram_blocks(&self) -> u64
+        ensures blocks { result ≡ dram_blocks self.now }
+        ensures in_range { IsInRange self.now }
+    {
+        let p = self.numbers();
+        p.btt + 64 * p.ptt
+    }
+
+    /// How many blocks each of the two slots has: the processor's record and both tables.
+    pub fn slot_blocks(&self) -> u64
+        ensures blocks { result ≡ slot_blocks self.now }
+        ensures in_range { IsInRange self.now }
+    {
+        let p = self.numbers();
+        5 + p.btt / 8 + p.ptt / 8
+    }
+
+    /// The first block of slot `s`, 0 or 1.
+    pub fn slot(&self, s: u64) -> u64
+        requires { s < 2 }
+        ensures place { result ≡ slot_place self.now s }
+        ensures in_range { IsInRange self.now }
+    {
+        2 + s * self.slot_blocks()
+    }
+
+    /// Where block `b` of memory stands in the NVM unless a table lists it.
+    pub fn home(&self, b: u64) -> u64
+        requires { b < memory_blocks self.now }
+        ensures place { result ≡ number_of self.now (AtHome b) }
+        ensures in_range { IsInRange self.now }
+    {
+        2 + 2 * self.slot_blocks() + b
+    }
+
+    /// The block of the NVM that entry `i` of the block table owns.
+    pub fn ablk(&self, i: usize) -> u64
+        requires { i < self.now.btt }
+        ensures place { result ≡ number_of self.now (AtAlternateBlock i) }
+        ensures in_range { IsInRange self.now }
+    {
+        2 + 2 * self.slot_blocks() + self.memory_blocks() + i as u64
+    }
+
+    /// Block `k` of the page of the NVM that entry `j` of the page table owns.
+    pub fn apage(&self, j: usize, k: u64) -> u64
+        requires entry { j < self.now.ptt }
+        requires block { k < 64 }
+        ensures place { result ≡ number_of self.now (AtAlternatePage j k) }
+        ensures in_range { IsInRange self.now }
+    {
+        let p = self.numbers();
+        2 + 2 * self.slot_blocks() + 64 * p.pages + p.btt + 64 * j as u64 + k
+    }
+
+    /// The block of the DRAM that entry `i` of the block table owns.
+    pub fn buf(&self, i: usize) -> u64
+        requires { i < self.now.btt }
+        ensures place { result ≡ number_of self.now (AtBuffer i) }
+        ensures in_range { IsInRange self.now }
+    {
+        let _numbers = self.numbers();
+        i as u64
+    }
+
+    /// Block `k` of the page of the DRAM that entry `j` of the page table owns.
+    pub fn frame(&self, j: usize, k: u64) -> u64
+        requires entry { j < self.now.ptt }
+        requires block { k < 64 }
+        ensures place { result ≡ number_of self.now (AtFrame j k) }
+        ensures in_range { IsInRange self.now }
+    {
+        self.numbers().btt + 64 * j as u64 + k
+    }
+
+    /// The number of a place's block in its device.
+    pub fn number(&self, place: Place) -> u64
+        requires { IsPlace self.now place }
+        ensures place { result ≡ number_of self.now place }
+        ensures in_range { IsInRange self.now }
+    {
+        match place {
+            Place::Home { block } => self.home(block),
+            Place::AlternateBlock { entry } => self.ablk(entry),
+            Place::AlternatePage { entry, block } => self.apage(entry, block),
+            Place::Buffer { entry } => self.buf(entry),
+            Place::Frame { entry, block } => self.frame(entry, block),
+        }
+    }
+}
+
+/// Places of one device that have the same number are the same place.
+pub fn numbers_tell_places()
+    ensures { NumbersTellPlaces }
+{}
+
+/// A place of the NVM lies behind the header, the commit block and both slots, and within the image.
+pub fn places_are_behind_slots()
+    ensures { PlacesAreBehindSlots }
+{}
+
+/// A place of the DRAM lies within it.
+pub fn places_are_in_dram()
+    ensures { PlacesAreInDram }
+{}
+
+/// The slots, and the homes behind them, follow one upon the other behind the commit block.
+pub fn slots_are_apart()
+    ensures { SlotsAreApart }
+{}
