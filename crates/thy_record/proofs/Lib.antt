@@ -2,3 +2,4 @@ pub mod WordLemmas
 pub mod CpuLemmas
 pub mod ReadBackLemmas
 pub mod FlatLemmas
+pub mod TableLemmas

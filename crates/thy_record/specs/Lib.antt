@@ -3,3 +3,5 @@ pub mod Commit
 pub mod Cpu
 pub mod Decoded
 pub mod Flat
+pub mod Tables
+pub mod TableBlocks

@@ -8,6 +8,7 @@ mod engine_step;
 mod image;
 mod memory;
 mod start;
+mod tables;
 mod words;
 
 pub use commit::{COMMIT_MAGIC, commit_block, commit_fault, is_zero};
@@ -16,4 +17,5 @@ pub use engine_step::EngineStep;
 pub use image::BadImage;
 pub use memory::{load, store};
 pub use start::Start;
+pub use tables::{table_block, table_entry};
 pub use words::{block_with, word};

@@ -1,0 +1,25 @@
+-- Entries of tables as words.
+use Rattle.std.proofs.Common.{◌≡◌, ℕ, ◌-◌, ◌^◌, ◌<◌, List, length, map, slice_index, Option, Some, None, refl, sym, ◌∙◌, arith}
+use Rattle.std.proofs.lemmas.List.{length-map, get_or-map, ext_get_or}
+use Rattle.thy_record.specs.Tables.{entry_at}
+use Rattle.thy_record.specs.TableBlocks.{entry_word, entry_from, HaveWords}
+
+-- a word that was made of an entry
+word_fits : (e : Option ℕ) → ((n : ℕ) → e ≡ Some n → n < 2 ^ 64 - 1) → entry_word e < 2 ^ 64
+word_fits None h = omega arith
+word_fits (Some n) h = let l : n < 2 ^ 64 - 1 = h n refl in omega arith
+
+pub entry_word-fits : (entries : List (Option ℕ)) (i : ℕ) → HaveWords entries → entry_word (entry_at entries i) < 2 ^ 64
+entry_word-fits entries i h = word_fits (entry_at entries i) (λ n e. h.each i n (record { is = e }))
+
+-- an entry reads back from its word
+pub entry_from-entry_word : (e : Option ℕ) → entry_from (entry_word e) ≡ e
+entry_from-entry_word None = refl
+entry_from-entry_word (Some n) = grind arith
+
+-- words that are those of the entries, one by one
+pub same_words : (ws : List ℕ) (entries : List (Option ℕ)) → length ws ≡ length entries
+    → ((j : ℕ) → j < length ws → slice_index ws j ≡ entry_word (entry_at entries j)) → ws ≡ map entry_word entries
+same_words ws entries same each =
+    ext_get_or 0 ws (map entry_word entries) (same ∙ sym (length-map entries entry_word))
+    (λ j l. each j l ∙ sym (get_or-map entry_word entries j None 0 (omega (arith, same))))

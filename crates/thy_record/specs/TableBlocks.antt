@@ -1,0 +1,25 @@
+-- The tables as words, eight entries a block: the block table, and behind it the page table.
+use Rattle.std.specs.Prelude.{ℕ, ◌+◌, ◌-◌, ◌*◌, ◌^◌, ◌<◌, ◌==◌, if◌then◌else◌, List, ◌++◌, map, take, drop, Option, Some, None}
+use Rattle.thy_base.specs.declared.block.Block.{Block}
+use Rattle.thy_record.specs.Tables.{Tables, Lists}
+use Rattle.thy_record.specs.Words.{block_of}
+
+-- an entry as a word: 0 where it is empty, else one more than the number that it lists
+abbrev pub entry_word : Option ℕ → ℕ
+entry_word None = 0
+entry_word (Some n) = n + 1
+
+-- the entry of a word
+abbrev pub entry_from : ℕ → Option ℕ
+entry_from w = if w == 0 then None else Some (w - 1)
+
+-- each number that is listed has a word
+pub record HaveWords (entries : List (Option ℕ)) : Type 0 where
+  pub each : (i n : ℕ) → Lists entries i n → n < 2 ^ 64 - 1
+
+abbrev pub table_words : Tables → List ℕ
+table_words t = map entry_word (t.btt ++ t.ptt)
+
+-- block k of the tables
+unfoldable pub table_block_of : Tables → ℕ → Block
+table_block_of t k = block_of (take 8 (drop (8 * k) (table_words t)))

@@ -1,0 +1,56 @@
+-- The two tables of a checkpoint, and where it has each block of memory.
+use Rattle.std.specs.Prelude.{◌≡◌, ℕ, ◌%◌, ◌==◌, ◌<◌, Bool, false, List, length, slice_index_or, Option, Some, None}
+use Rattle.std.specs.List.{position}
+use Rattle.thy_base.specs.declared.config.Parameters.{Parameters}
+use Rattle.thy_base.specs.declared.place.Place.{Place}
+use Rattle.thy_base.specs.declared.place.Place.TheVariants.{Home, AlternateBlock, AlternatePage}
+use Rattle.thy_base.specs.Geometry.{memory_blocks}
+use Rattle.thy_base.specs.Store.{page_of}
+
+-- an entry of a table lists a number or is empty
+pub record Tables : Type 0 where
+  -- the block table: the block of memory that stands in each alternate block
+  pub btt : List (Option ℕ)
+  -- the page table: the page of memory that stands in each alternate page
+  pub ptt : List (Option ℕ)
+
+-- entry i of a table, which is empty past its end
+abbrev pub entry_at : List (Option ℕ) → ℕ → Option ℕ
+entry_at table i = slice_index_or table i None
+
+-- entry i of a table lists this number
+pub record Lists (table : List (Option ℕ)) (i n : ℕ) : Type 0 where
+  pub is : entry_at table i ≡ Some n
+
+-- an entry lists this number
+abbrev pub is_entry_of : ℕ → Option ℕ → Bool
+is_entry_of n None = false
+is_entry_of n (Some m) = m == n
+
+-- the first entry that lists this number
+abbrev pub entry_of : List (Option ℕ) → ℕ → Option ℕ
+entry_of table n = position (is_entry_of n) table
+
+-- where a block stands, by the entry of the page table that lists its page
+abbrev pub place_in_page : Option ℕ → ℕ → Place
+place_in_page None b = Home b
+place_in_page (Some j) b = AlternatePage j (b % 64)
+
+-- and by the entry of the block table that lists the block itself
+abbrev pub place_by_entries : Option ℕ → Option ℕ → ℕ → Place
+place_by_entries None page b = place_in_page page b
+place_by_entries (Some i) page b = AlternateBlock i
+
+-- where block b of memory stands
+abbrev pub place_of : Tables → ℕ → Place
+place_of t b = place_by_entries (entry_of t.btt b) (entry_of t.ptt (page_of b)) b
+
+-- tables that a checkpoint may have: they list blocks and pages of memory, none twice, and no block of a listed page
+pub record IsTables (p : Parameters) (t : Tables) : Type 0 where
+  pub btt_length : length t.btt ≡ p.btt
+  pub ptt_length : length t.ptt ≡ p.ptt
+  pub blocks : (i b : ℕ) → Lists t.btt i b → b < memory_blocks p
+  pub pages : (j page : ℕ) → Lists t.ptt j page → page < p.pages
+  pub blocks_once : (i k b : ℕ) → Lists t.btt i b → Lists t.btt k b → i ≡ k
+  pub pages_once : (j k page : ℕ) → Lists t.ptt j page → Lists t.ptt k page → j ≡ k
+  pub apart : (i j b : ℕ) → Lists t.btt i b → Lists t.ptt j (page_of b) → ⊥

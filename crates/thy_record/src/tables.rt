@@ -1,0 +1,42 @@
+//! The blocks of the tables, eight entries each.
+ghost use Rattle.std.specs.Prelude.{◌≡◌, ◌^◌, ◌<◌, map};
+ghost use Rattle.thy_record.specs.TableBlocks.{entry_word as word_of_entry, entry_from, HaveWords};
+ghost use Rattle.thy_record.specs.Words.{word_of, block_of};
+
+use crate::words::{block_with, word};
+use thy_base::Block;
+
+// An entry as a word: 0 where it is empty, else one more than its number.
+fn entry_word(entry: Option<u64>) -> u64
+    requires { word_of_entry entry < 2 ^ 64 }
+    ensures { result ≡ word_of_entry entry }
+{
+    match entry {
+        None => 0,
+        Some(number) => number + 1,
+    }
+}
+
+/// The block of a table with these eight entries: of each the number of the block (in the block table)
+/// or page (in the page table) that it lists, below `2^64 - 1`, or none.
+pub fn table_block(entries: &[Option<u64>; 8]) -> Block
+    requires { HaveWords entries.now }
+    ensures { result ≡ block_of (map word_of_entry entries.now) }
+{
+    let mut words = [0; 8];
+    for i in 0..8 {
+        words[i] = entry_word(entries[i]);
+    }
+    block_with(&words)
+}
+
+/// Entry `i` of a block of a table, 0 to 7.
+pub fn table_entry(block: &Block, i: u64) -> Option<u64>
+    requires { i < 8 }
+    ensures { result ≡ entry_from (word_of block.now i) }
+{
+    match word(block, i) {
+        0 => None,
+        listed => Some(listed - 1),
+    }
+}
