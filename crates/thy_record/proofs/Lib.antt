@@ -3,3 +3,5 @@ pub mod CpuLemmas
 pub mod ReadBackLemmas
 pub mod FlatLemmas
 pub mod TableLemmas
+pub mod EntryLemmas
+pub mod TableFaultLemmas

@@ -5,3 +5,8 @@ pub mod Decoded
 pub mod Flat
 pub mod Tables
 pub mod TableBlocks
+pub mod Header
+pub mod TableFaults
+pub mod Slots
+pub mod Images
+pub mod ImageLaws

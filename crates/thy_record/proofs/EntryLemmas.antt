@@ -1,0 +1,132 @@
+-- Which entry of a table lists a number, and where that puts a block.
+use Rattle.std.proofs.Common.{◌≡◌, ℕ, zero, suc, ◌+◌, ◌%◌, ◌/◌, ◌==◌, ◌<◌, ◌≤◌, Bool, true, false, cond, ltb, List, [], ◌∷◌, length, take, get_or, Option, Some, None, refl, sym, ◌∙◌, ap, subst, inl, inr, arith}
+use Rattle.std.proofs.lemmas.Bool.{cases_lt, eq-eqb, eqb-true}
+use Rattle.std.proofs.lemmas.List.{get_or-take, get_or_past, length-take}
+use Rattle.std.proofs.lemmas.List.Quantifiers.{position-Some}
+use Rattle.std.proofs.lemmas.Iterator.Adapters.{position_from-zero}
+use Rattle.std.specs.List.{position, position_from}
+use Rattle.thy_base.specs.declared.config.Parameters.{Parameters}
+use Rattle.thy_base.specs.declared.place.Place.{Place}
+use Rattle.thy_base.specs.declared.place.Place.TheVariants.{Home, AlternateBlock, AlternatePage}
+use Rattle.thy_base.specs.Geometry.{memory_blocks}
+use Rattle.thy_base.specs.Places.{in_dram, IsPlace, number_of, first_home, image_blocks}
+use Rattle.thy_base.specs.Store.{page_of}
+use Rattle.thy_record.specs.Tables.{Tables, entry_at, Lists, is_entry_of, entry_of, place_in_page, place_by_entries, place_of, IsTables}
+
+-- ---- entries
+
+-- an entry that passes the test lists the number
+listed_of_test : (n : ℕ) (e : Option ℕ) → is_entry_of n e ≡ true → e ≡ Some n
+listed_of_test n None h = cc
+listed_of_test n (Some m) h = ap Some (eqb-true m n h)
+
+test_of_listed : (n : ℕ) (e : Option ℕ) → e ≡ Some n → is_entry_of n e ≡ true
+test_of_listed n e h = ap (is_entry_of n) h ∙ eq-eqb n n refl
+
+-- the entry that is found lists the number, and is within the table
+pub entry_of-Some : (table : List (Option ℕ)) (n i : ℕ) → entry_of table n ≡ Some i → Lists table i n
+entry_of-Some table n i h = record { is = listed_of_test n (entry_at table i) (position-Some (is_entry_of n) table i None h).1 }
+
+-- an entry that lists a number is within the table
+pub Lists-inside : (table : List (Option ℕ)) (i n : ℕ) → Lists table i n → i < length table
+Lists-inside table i n l = elim (cases_lt i (length table)) as (λ _. i < length table) [
+  | inl inside ↦ inside
+  | inr past ↦ let none : entry_at table i ≡ None = get_or_past table i None past in let is = l.is in cc
+]
+
+none_at : (t : Option ℕ → Bool) (k : ℕ) (xs : List (Option ℕ)) (i : ℕ) → position_from t k xs ≡ None → i < length xs → t (get_or xs i None) ≡ false
+none_at t k [] i h l = absurd (omega arith)
+none_at t k (x ∷ xs) zero h l =
+    let cases : (b : Bool) → cond b (Some k) (position_from t (k + 1) xs) ≡ None → b ≡ false = λ b. elim b as (λ b. cond b (Some k) (position_from t (k + 1) xs) ≡ None → b ≡ false) [ true ↦ λ e. cc | false ↦ λ e. refl ] in
+    cases (t x) h
+none_at t k (x ∷ xs) (suc i) h l =
+    let cases : (b : Bool) → cond b (Some k) (position_from t (k + 1) xs) ≡ None → position_from t (k + 1) xs ≡ None = λ b. elim b as (λ b. cond b (Some k) (position_from t (k + 1) xs) ≡ None → position_from t (k + 1) xs ≡ None) [ true ↦ λ e. cc | false ↦ λ e. e ] in
+    none_at t (k + 1) xs i (cases (t x) h) (omega arith)
+
+-- where none is found, no entry lists the number
+pub entry_of-None : (table : List (Option ℕ)) (n i : ℕ) → entry_of table n ≡ None → Lists table i n → ⊥
+entry_of-None table n i h l =
+    let none : is_entry_of n (entry_at table i) ≡ false
+    = none_at (is_entry_of n) 0 table i (sym (position_from-zero (is_entry_of n) table) ∙ h) (Lists-inside table i n l) in
+    let some : is_entry_of n (entry_at table i) ≡ true = test_of_listed n (entry_at table i) l.is in
+    cc
+
+absent_is : (table : List (Option ℕ)) (n : ℕ) (found : Option ℕ) → entry_of table n ≡ found → ((i : ℕ) → Lists table i n → ⊥) → found ≡ None
+absent_is table n None h none = refl
+absent_is table n (Some i) h none = absurd (none i (entry_of-Some table n i h))
+
+-- and where no entry lists it, none is found
+pub entry_of-absent : (table : List (Option ℕ)) (n : ℕ) → ((i : ℕ) → Lists table i n → ⊥) → entry_of table n ≡ None
+entry_of-absent table n none = absent_is table n (entry_of table n) refl none
+
+listed_is : (table : List (Option ℕ)) (n i : ℕ) (found : Option ℕ) → entry_of table n ≡ found → Lists table i n
+    → ((k : ℕ) → Lists table k n → k ≡ i) → found ≡ Some i
+listed_is table n i None h l only = absurd (entry_of-None table n i h l)
+listed_is table n i (Some k) h l only = ap Some (only k (entry_of-Some table n k h))
+
+-- the only entry that lists a number is found
+pub entry_of-listed : (table : List (Option ℕ)) (n i : ℕ) → Lists table i n → ((k : ℕ) → Lists table k n → k ≡ i) → entry_of table n ≡ Some i
+entry_of-listed table n i l only = listed_is table n i (entry_of table n) refl l only
+
+-- the first k entries list what the table's do
+pub Lists-take : (table : List (Option ℕ)) (k i n : ℕ) → i < k → Lists table i n → Lists (take k table) i n
+Lists-take table k i n l h = record { is = get_or-take k table i None l ∙ h.is }
+
+pub Lists-of_take : (table : List (Option ℕ)) (k i n : ℕ) → Lists (take k table) i n → (i < k) × Lists table i n
+Lists-of_take table k i n h =
+    let inside = Lists-inside (take k table) i n h in
+    let l : i < k = omega (arith, inside, length-take k table) in
+    (l, record { is = sym (get_or-take k table i None l) ∙ h.is })
+
+-- ---- places
+
+place_inside : (p : Parameters) (t : Tables) (b : ℕ) (entry page : Option ℕ) → IsTables p t → b < memory_blocks p
+    → entry_of t.btt b ≡ entry → entry_of t.ptt (page_of b) ≡ page → IsPlace p (place_by_entries entry page b)
+place_inside p t b None None s l e f = l
+place_inside p t b None (Some j) s l e f =
+    (omega (arith, Lists-inside t.ptt j (page_of b) (entry_of-Some t.ptt (page_of b) j f), s.ptt_length), omega arith)
+place_inside p t b (Some i) page s l e f = omega (arith, Lists-inside t.btt i b (entry_of-Some t.btt b i e), s.btt_length)
+
+-- each block of memory has a place
+pub IsPlace-place_of : (p : Parameters) (t : Tables) (b : ℕ) → IsTables p t → b < memory_blocks p → IsPlace p (place_of t b)
+IsPlace-place_of p t b s l = place_inside p t b (entry_of t.btt b) (entry_of t.ptt (page_of b)) s l refl refl
+
+in_nvm : (entry page : Option ℕ) (b : ℕ) → in_dram (place_by_entries entry page b) ≡ false
+in_nvm None None b = refl
+in_nvm None (Some j) b = refl
+in_nvm (Some i) page b = refl
+
+-- which is in the NVM
+pub in_dram-place_of : (t : Tables) (b : ℕ) → in_dram (place_of t b) ≡ false
+in_dram-place_of t b = in_nvm (entry_of t.btt b) (entry_of t.ptt (page_of b)) b
+
+same_block : (x y : ℕ) → x / 64 ≡ y / 64 → x % 64 ≡ y % 64 → x ≡ y
+same_block x y a b = omega arith
+
+own_place : (t : Tables) (b c : ℕ) (be bp ce cp : Option ℕ)
+    → entry_of t.btt b ≡ be → entry_of t.ptt (page_of b) ≡ bp → entry_of t.btt c ≡ ce → entry_of t.ptt (page_of c) ≡ cp
+    → place_by_entries be bp b ≡ place_by_entries ce cp c → b ≡ c
+own_place t b c None None None None e f g h same = cc
+own_place t b c None None None (Some j) e f g h same = cc
+own_place t b c None (Some i) None None e f g h same = cc
+own_place t b c None (Some i) None (Some j) e f g h same =
+    let ij : i ≡ j = cc in
+    let inner : b % 64 ≡ c % 64 = cc in
+    let lb = (entry_of-Some t.ptt (page_of b) i f).is in
+    let lc = (entry_of-Some t.ptt (page_of c) j h).is in
+    let pages : page_of b ≡ page_of c = cc in
+    same_block b c pages inner
+own_place t b c None None (Some k) cp e f g h same = cc
+own_place t b c None (Some i) (Some k) cp e f g h same = cc
+own_place t b c (Some i) bp None None e f g h same = cc
+own_place t b c (Some i) bp None (Some j) e f g h same = cc
+own_place t b c (Some i) bp (Some k) cp e f g h same =
+    let ik : i ≡ k = cc in
+    let lb = (entry_of-Some t.btt b i e).is in
+    let lc = (entry_of-Some t.btt c k g).is in
+    cc
+
+-- and no two have the same
+pub place_of-own : (t : Tables) (b c : ℕ) → place_of t b ≡ place_of t c → b ≡ c
+place_of-own t b c same =
+    own_place t b c (entry_of t.btt b) (entry_of t.ptt (page_of b)) (entry_of t.btt c) (entry_of t.ptt (page_of c)) refl refl refl refl same

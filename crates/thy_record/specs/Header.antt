@@ -1,0 +1,34 @@
+-- The header, block 0 of an image: what the image is, and the geometry that it was made for.
+use Rattle.std.specs.Prelude.{ℕ, Bool, ◌&&◌, ◌==◌, List, [], ◌∷◌, Option, codes}
+use Rattle.byteorder.specs.Endian.{little_number}
+use Rattle.thy_base.specs.declared.block.Block.{Block}
+use Rattle.thy_base.specs.declared.config.Parameters.{Parameters}
+use Rattle.thy_base.specs.Demands.{asked, first_fault}
+use Rattle.thy_record.specs.declared.image.BadImage.{BadImage}
+use Rattle.thy_record.specs.declared.image.BadImage.TheVariants.{Header, Version, Geometry}
+use Rattle.thy_record.specs.Words.{word_of, block_of}
+
+-- the bytes THYNHDR1 as a number
+abbrev pub header_magic : ℕ
+header_magic = little_number 8 (codes "THYNHDR1")
+
+-- the words of the header: its name, version 1, the geometry and a zero
+abbrev pub header_words : Parameters → List ℕ
+header_words p = header_magic ∷ 1 ∷ p.base ∷ p.pages ∷ p.console ∷ p.btt ∷ p.ptt ∷ 0 ∷ []
+
+abbrev pub header_of : Parameters → Block
+header_of p = block_of (header_words p)
+
+-- the header is of this geometry
+abbrev pub is_of_geometry : Block → Parameters → Bool
+is_of_geometry b p =
+    (word_of b 2 == p.base && word_of b 3 == p.pages && word_of b 4 == p.console)
+    && (word_of b 5 == p.btt && word_of b 6 == p.ptt && word_of b 7 == 0)
+
+-- the first fault of a header; `long` says that the image has the length of this geometry
+unfoldable pub header_fault : Block → Parameters → Bool → Option BadImage
+header_fault b p long =
+    first_fault (asked (word_of b 0 == header_magic) Header
+    ∷ asked (word_of b 1 == 1) Version
+    ∷ asked (is_of_geometry b p && long) Geometry
+    ∷ [])

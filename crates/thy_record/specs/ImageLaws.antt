@@ -1,0 +1,70 @@
+-- What is written reads back, said of whole images.
+use Rattle.std.specs.Prelude.{◌≡◌, ℕ, ◌+◌, ◌%◌, ◌^◌, ◌<◌, ◌≤◌, List, length, Contains, None}
+use Rattle.thy_base.specs.declared.block.Block.{Block}
+use Rattle.thy_base.specs.declared.config.Parameters.{Parameters}
+use Rattle.thy_base.specs.Device.{block_at}
+use Rattle.thy_base.specs.Geometry.{IsInRange}
+use Rattle.thy_base.specs.Places.{slot_blocks, slot_place, image_blocks}
+use Rattle.thy_isa.specs.declared.state.CpuState.{CpuState}
+use Rattle.thy_isa.specs.Step.{State}
+use Rattle.thy_record.specs.Commit.{commit_of}
+use Rattle.thy_record.specs.Cpu.{IsRecordable}
+use Rattle.thy_record.specs.Decoded.{At}
+use Rattle.thy_record.specs.Flat.{state_from}
+use Rattle.thy_record.specs.Header.{header_of}
+use Rattle.thy_record.specs.Images.{slot_in, memory_in, decode_image, looked, IsWholeImage}
+use Rattle.thy_record.specs.Slots.{slot_block_of, tables_in}
+use Rattle.thy_record.specs.Tables.{Tables, IsTables}
+use Rattle.thy_record.specs.TableFaults.{tables_fault}
+
+-- tables are those that a checkpoint may have exactly where no fault is found in them
+pub record IsFaultless (p : Parameters) (t : Tables) : Type 0 where
+  pub btt_length : length t.btt ≡ p.btt
+  pub ptt_length : length t.ptt ≡ p.ptt
+  pub none : tables_fault p t ≡ None
+
+pub record FaultlessAgrees (p : Parameters) (t : Tables) : Type 0 where
+  pub found : IsFaultless p t → IsTables p t
+  pub stands : IsTables p t → IsFaultless p t
+
+abbrev pub FaultlessTables : Type 0
+FaultlessTables = (p : Parameters) (t : Tables) → FaultlessAgrees p t
+
+-- an image has a checkpoint's header, commit block and slot
+pub record HasCheckpoint (p : Parameters) (image : List Block) (cpu : CpuState) (t : Tables) (epoch : ℕ) : Type 0 where
+  pub long : length image ≡ image_blocks p
+  pub header : block_at image 0 ≡ header_of p
+  pub commit : block_at image 1 ≡ commit_of epoch
+  pub slot : (k : ℕ) → k < slot_blocks p → block_at image (slot_place p (epoch % 2) + k) ≡ slot_block_of cpu t epoch k
+
+-- it decodes to that epoch, that processor and the blocks at the places of those tables
+abbrev pub WrittenDecodes : Type 0
+WrittenDecodes =
+    (p : Parameters) (ceiling : ℕ) (cpu : CpuState) (t : Tables) (epoch : ℕ) (image : List Block)
+    → IsInRange p → IsRecordable p ceiling cpu → IsTables p t → ceiling ≤ 2 ^ 64 → epoch < ceiling
+    → HasCheckpoint p image cpu t epoch
+    → decode_image p ceiling image ≡ At epoch (state_from p cpu (memory_in p t image))
+
+-- an image that decodes to a checkpoint is whole, and its tables are
+pub record IsDecoded (p : Parameters) (ceiling : ℕ) (image : List Block) (epoch : ℕ) (state : State) : Type 0 where
+  pub whole : IsWholeImage p ceiling image epoch state
+  pub tables : IsTables p (tables_in p (slot_in p image))
+
+abbrev pub DecodedIsWhole : Type 0
+DecodedIsWhole =
+    (p : Parameters) (ceiling : ℕ) (image : List Block) (epoch : ℕ) (state : State)
+    → decode_image p ceiling image ≡ At epoch state → IsDecoded p ceiling image epoch state
+
+-- images that are alike at the blocks that tell what one of them means decode alike
+pub record IsAlike (p : Parameters) (g h : List Block) : Type 0 where
+  pub as_long : length g ≡ length h
+  pub each : (x : ℕ) → Contains (looked p h) x → block_at g x ≡ block_at h x
+
+abbrev pub LookedDecides : Type 0
+LookedDecides = (p : Parameters) (ceiling : ℕ) (g h : List Block) → IsAlike p g h → decode_image p ceiling g ≡ decode_image p ceiling h
+
+-- what decodes below a ceiling decodes to the same below a higher one
+abbrev pub CeilingGrows : Type 0
+CeilingGrows =
+    (p : Parameters) (low high : ℕ) (image : List Block) (epoch : ℕ) (state : State) → low ≤ high
+    → decode_image p low image ≡ At epoch state → decode_image p high image ≡ At epoch state

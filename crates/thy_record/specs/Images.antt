@@ -1,0 +1,77 @@
+-- What an image means: nothing, a refusal, or the epoch of its checkpoint and a state.
+use Rattle.std.specs.Prelude.{◌≡◌, ℕ, ◌%◌, ◌==◌, Bool, false, true, if◌then◌else◌, List, [], ◌∷◌, ◌++◌, length, map, Option, Some, None}
+use Rattle.std.specs.List.{range_with_len}
+use Rattle.std.specs.Option.{option_or}
+use Rattle.thy_base.specs.declared.block.Block.{Block}
+use Rattle.thy_base.specs.declared.config.Parameters.{Parameters}
+use Rattle.thy_base.specs.Device.{block_at}
+use Rattle.thy_base.specs.Geometry.{memory_blocks}
+use Rattle.thy_base.specs.Places.{slot_blocks, slot_place, image_blocks, number_of}
+use Rattle.thy_isa.specs.Step.{State}
+use Rattle.thy_record.specs.declared.image.BadImage.{BadImage}
+use Rattle.thy_record.specs.Commit.{is_zero, epoch_of, commit_fault}
+use Rattle.thy_record.specs.Cpu.{cpu_of_record}
+use Rattle.thy_record.specs.Decoded.{Decoded, Nothing, Refused, At}
+use Rattle.thy_record.specs.Flat.{state_from}
+use Rattle.thy_record.specs.Header.{header_fault}
+use Rattle.thy_record.specs.Slots.{tables_in, slot_fault}
+use Rattle.thy_record.specs.Tables.{Tables, place_of}
+
+-- the numbers of the blocks of the slot that a commit block names
+abbrev pub slot_numbers : Parameters → Block → List ℕ
+slot_numbers p commit = range_with_len (slot_place p (epoch_of commit % 2)) (slot_blocks p)
+
+-- the slot of an image's checkpoint
+abbrev pub slot_in : Parameters → List Block → List Block
+slot_in p image = map (block_at image) (slot_numbers p (block_at image 1))
+
+-- the numbers of the blocks in which tables have memory's blocks, in the order of these
+abbrev pub memory_numbers : Parameters → Tables → List ℕ
+memory_numbers p t = map (λ b. number_of p (place_of t b)) (range_with_len 0 (memory_blocks p))
+
+-- memory's blocks, where tables have them
+abbrev pub memory_in : Parameters → Tables → List Block → List Block
+memory_in p t image = map (block_at image) (memory_numbers p t)
+
+-- the state of an image's checkpoint
+abbrev pub state_in : Parameters → List Block → State
+state_in p image =
+    let slot = slot_in p image in state_from p (cpu_of_record slot) (memory_in p (tables_in p slot) image)
+
+-- the first fault of an image that has a commit block; `long` says that it has the length of this geometry
+abbrev pub image_fault : Parameters → ℕ → Bool → List Block → Option BadImage
+image_fault p ceiling long image =
+    let commit = block_at image 1 in
+    option_or (header_fault (block_at image 0) p long)
+    (option_or (commit_fault commit ceiling) (slot_fault p ceiling (epoch_of commit) (slot_in p image)))
+
+-- a refusal where there is a fault, else the checkpoint
+abbrev pub refused_or_at : Option BadImage → ℕ → State → Decoded
+refused_or_at None epoch state = At epoch state
+refused_or_at (Some bad) epoch state = Refused bad
+
+-- an image of that length or another
+unfoldable pub decode_with : Parameters → ℕ → Bool → List Block → Decoded
+decode_with p ceiling long image =
+    if is_zero (block_at image 1) then Nothing
+    else refused_or_at (image_fault p ceiling long image) (epoch_of (block_at image 1)) (state_in p image)
+
+-- what an image decodes to, with epochs and counts below a ceiling
+abbrev pub decode_image : Parameters → ℕ → List Block → Decoded
+decode_image p ceiling image = decode_with p ceiling (length image == image_blocks p) image
+
+-- the blocks that tell what an image means: of one without a commit block none but that
+abbrev pub looked : Parameters → List Block → List ℕ
+looked p image =
+    if is_zero (block_at image 1) then 1 ∷ []
+    else 0 ∷ 1 ∷ (slot_numbers p (block_at image 1) ++ memory_numbers p (tables_in p (slot_in p image)))
+
+-- the parts of an image that decodes to a checkpoint
+pub record IsWholeImage (p : Parameters) (ceiling : ℕ) (image : List Block) (epoch : ℕ) (state : State) : Type 0 where
+  pub committed : is_zero (block_at image 1) ≡ false
+  pub of_epoch : epoch_of (block_at image 1) ≡ epoch
+  pub long : length image ≡ image_blocks p
+  pub header_fits : header_fault (block_at image 0) p true ≡ None
+  pub commit_fits : commit_fault (block_at image 1) ceiling ≡ None
+  pub slot_fits : slot_fault p ceiling epoch (slot_in p image) ≡ None
+  pub state_is : state_in p image ≡ state

@@ -1,0 +1,43 @@
+-- A slot: the processor's record, and behind it the two tables.
+use Rattle.std.specs.Prelude.{ℕ, ◌+◌, ◌-◌, ◌&&◌, ◌==◌, nat_lt, nat_le, if◌then◌else◌, List, [], ◌∷◌, map, Option}
+use Rattle.std.specs.List.{range_with_len}
+use Rattle.std.specs.Option.{option_or}
+use Rattle.thy_base.specs.declared.block.Block.{Block}
+use Rattle.thy_base.specs.declared.config.Parameters.{Parameters}
+use Rattle.thy_base.specs.Demands.{asked, first_fault}
+use Rattle.thy_base.specs.Geometry.{console_room}
+use Rattle.thy_isa.specs.declared.state.CpuState.{CpuState}
+use Rattle.thy_record.specs.declared.image.BadImage.{BadImage}
+use Rattle.thy_record.specs.declared.image.BadImage.TheVariants.{Commit, Status, ConsoleLength}
+use Rattle.thy_record.specs.Cpu.{cpu_block_of, record_word, is_status}
+use Rattle.thy_record.specs.Tables.{Tables}
+use Rattle.thy_record.specs.TableBlocks.{entry_from, table_block_of}
+use Rattle.thy_record.specs.TableFaults.{tables_fault}
+
+-- block k of the slot of a checkpoint
+abbrev pub slot_block_of : CpuState → Tables → ℕ → ℕ → Block
+slot_block_of cpu t epoch k = if nat_lt k 5 then cpu_block_of cpu epoch k else table_block_of t (k - 5)
+
+-- n entries of a slot, of which the first stands in word `first`
+abbrev pub entries_in : List Block → ℕ → ℕ → List (Option ℕ)
+entries_in slot first n = map (λ i. entry_from (record_word slot (first + i))) (range_with_len 0 n)
+
+-- the tables of a slot: eight words a block, the block table behind the record's 40, the page table behind that
+abbrev pub tables_in : Parameters → List Block → Tables
+tables_in p slot = record { btt = entries_in slot 40 p.btt; ptt = entries_in slot (40 + p.btt) p.ptt }
+
+-- the record is of another epoch than the commit block
+abbrev pub epoch_fault : ℕ → List Block → Option BadImage
+epoch_fault epoch slot = first_fault (asked (record_word slot 38 == epoch) Commit ∷ [])
+
+-- status or count have no meaning, or the console is longer than its pages
+abbrev pub status_fault : Parameters → ℕ → List Block → Option BadImage
+status_fault p ceiling slot =
+    first_fault (asked (is_status (record_word slot 36) (record_word slot 37) && nat_lt (record_word slot 32) ceiling) Status
+    ∷ asked (nat_le (record_word slot 34) (console_room p)) ConsoleLength
+    ∷ [])
+
+-- the first fault of a slot under a commit block of this epoch
+unfoldable pub slot_fault : Parameters → ℕ → ℕ → List Block → Option BadImage
+slot_fault p ceiling epoch slot =
+    option_or (epoch_fault epoch slot) (option_or (tables_fault p (tables_in p slot)) (status_fault p ceiling slot))
