@@ -5,3 +5,5 @@ pub mod FlatLemmas
 pub mod TableLemmas
 pub mod EntryLemmas
 pub mod TableFaultLemmas
+pub mod HeaderLemmas
+pub mod SlotLemmas

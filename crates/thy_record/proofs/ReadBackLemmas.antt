@@ -13,7 +13,7 @@ use Rattle.thy_isa.specs.declared.state.Status.TheVariants.{Running, Exited, Tra
 use Rattle.thy_record.specs.declared.image.BadImage.TheVariants.{Commit, Status as BadStatus, ConsoleLength}
 use Rattle.thy_record.specs.Words.{word_of, block_of}
 use Rattle.thy_record.specs.Commit.{commit_magic, commit_words, commit_of, is_zero, epoch_of, has_zero_rest, commit_fault}
-use Rattle.thy_record.specs.Cpu.{status_tag, status_value, status_of, is_status, cpu_words, cpu_block_of, record_word, record_words, record_of, IsRecordOf, cpu_of_record, record_fault, IsRecordable}
+use Rattle.thy_record.specs.Cpu.{status_tag, status_value, status_of, is_status, cpu_words, cpu_block_of, record_word, record_words, record_of, IsRecordOf, BeginsWithRecord, cpu_of_record, record_fault, IsRecordable}
 use Rattle.thy_record.proofs.WordLemmas.{word_of-block_of}
 use Rattle.thy_record.proofs.CpuLemmas.{rest_words, cpu_words-reg, cpu_words-rest, block_words, length-block_words, record_words-at, length-record_words}
 
@@ -111,7 +111,7 @@ words_fit p ceiling c epoch (suc i) r room most l = elim (cases_lt i 31) as (λ 
 
 -- word i of a record reads back
 word_back : (p : Parameters) (ceiling : ℕ) (c : CpuState) (epoch : ℕ) (blocks : List Block) (i : ℕ)
-    → IsRecordable p ceiling c → console_room p < 2 ^ 64 → ceiling ≤ 2 ^ 64 → epoch < 2 ^ 64 → IsRecordOf c epoch blocks → i < 40
+    → IsRecordable p ceiling c → console_room p < 2 ^ 64 → ceiling ≤ 2 ^ 64 → epoch < 2 ^ 64 → BeginsWithRecord c epoch blocks → i < 40
     → record_word blocks i ≡ slice_index (cpu_words c epoch) i
 unfolding record_word cpu_block_of
 word_back p ceiling c epoch blocks i r room most l of small =
@@ -123,15 +123,15 @@ word_back p ceiling c epoch blocks i r room most l of small =
     (subst (λ x. x < 2 ^ 64) (sym same) (words_fit p ceiling c epoch i r room most l))
     ∙ same
 
-rest_back : (p : Parameters) (ceiling : ℕ) (c : CpuState) (epoch : ℕ) (blocks : List Block) (j : ℕ)
-    → IsRecordable p ceiling c → console_room p < 2 ^ 64 → ceiling ≤ 2 ^ 64 → epoch < 2 ^ 64 → IsRecordOf c epoch blocks → j < 8
+pub rest_back : (p : Parameters) (ceiling : ℕ) (c : CpuState) (epoch : ℕ) (blocks : List Block) (j : ℕ)
+    → IsRecordable p ceiling c → console_room p < 2 ^ 64 → ceiling ≤ 2 ^ 64 → epoch < 2 ^ 64 → BeginsWithRecord c epoch blocks → j < 8
     → record_word blocks (32 + j) ≡ slice_index (rest_words c epoch) j
 rest_back p ceiling c epoch blocks j r room most l of small =
     word_back p ceiling c epoch blocks (32 + j) r room most l of (omega arith) ∙ cpu_words-rest c epoch j r.regs_length
 
 -- a register reads back
 reg_back : (p : Parameters) (ceiling : ℕ) (c : CpuState) (epoch : ℕ) (blocks : List Block) (i : ℕ)
-    → IsRecordable p ceiling c → console_room p < 2 ^ 64 → ceiling ≤ 2 ^ 64 → epoch < 2 ^ 64 → IsRecordOf c epoch blocks → i < 32
+    → IsRecordable p ceiling c → console_room p < 2 ^ 64 → ceiling ≤ 2 ^ 64 → epoch < 2 ^ 64 → BeginsWithRecord c epoch blocks → i < 32
     → slice_index (0 ∷ record_words blocks 1 31) i ≡ slice_index c.regs i
 reg_back p ceiling c epoch blocks zero r room most l of small = sym r.regs_zero
 reg_back p ceiling c epoch blocks (suc i) r room most l of small =
@@ -143,7 +143,7 @@ reg_back p ceiling c epoch blocks (suc i) r room most l of small =
 
 -- the registers read back, register 0 as the 0 that it is
 regs_back : (p : Parameters) (ceiling : ℕ) (c : CpuState) (epoch : ℕ) (blocks : List Block)
-    → IsRecordable p ceiling c → console_room p < 2 ^ 64 → ceiling ≤ 2 ^ 64 → epoch < 2 ^ 64 → IsRecordOf c epoch blocks
+    → IsRecordable p ceiling c → console_room p < 2 ^ 64 → ceiling ≤ 2 ^ 64 → epoch < 2 ^ 64 → BeginsWithRecord c epoch blocks
     → 0 ∷ record_words blocks 1 31 ≡ c.regs
 regs_back p ceiling c epoch blocks r room most l of =
     let long = length-record_words blocks 1 31 in
@@ -169,11 +169,11 @@ same_cpu pc pc' regs regs' console console' cursor cursor' brk brk' floor floor'
     ∙ ap (λ x. cpu_with pc' regs' console' cursor' brk' floor' count' x) h
 
 -- a state reads back from its record
-pub cpu_of_record-back : (p : Parameters) (ceiling : ℕ) (c : CpuState) (epoch : ℕ) (blocks : List Block)
-    → IsRecordable p ceiling c → console_room p < 2 ^ 64 → ceiling ≤ 2 ^ 64 → epoch < 2 ^ 64 → IsRecordOf c epoch blocks
+pub cpu_of_record-begins : (p : Parameters) (ceiling : ℕ) (c : CpuState) (epoch : ℕ) (blocks : List Block)
+    → IsRecordable p ceiling c → console_room p < 2 ^ 64 → ceiling ≤ 2 ^ 64 → epoch < 2 ^ 64 → BeginsWithRecord c epoch blocks
     → cpu_of_record blocks ≡ c
 unfolding cpu_of_record
-cpu_of_record-back p ceiling c epoch blocks r room most l of =
+cpu_of_record-begins p ceiling c epoch blocks r room most l of =
     let rest = λ (j : ℕ) (small : j < 8). rest_back p ceiling c epoch blocks j r room most l of small in
     same_cpu _ _ _ _ _ _ _ _ _ _ _ _ _ _ _ _
     (word_back p ceiling c epoch blocks 0 r room most l of (omega arith))
@@ -182,6 +182,12 @@ cpu_of_record-back p ceiling c epoch blocks r room most l of =
     (ap (λ t. status_of t (record_word blocks 37)) (rest 4 (omega arith))
     ∙ ap (status_of (status_tag c.status)) (rest 5 (omega arith))
     ∙ status_back c.status)
+
+pub cpu_of_record-back : (p : Parameters) (ceiling : ℕ) (c : CpuState) (epoch : ℕ) (blocks : List Block)
+    → IsRecordable p ceiling c → console_room p < 2 ^ 64 → ceiling ≤ 2 ^ 64 → epoch < 2 ^ 64 → IsRecordOf c epoch blocks
+    → cpu_of_record blocks ≡ c
+cpu_of_record-back p ceiling c epoch blocks r room most l of =
+    cpu_of_record-begins p ceiling c epoch blocks r room most l (record { each = of.each })
 
 -- a record has no fault where each of its tests holds
 no_fault : (tag value count console of epoch room ceiling : ℕ) → of ≡ epoch → is_status tag value ≡ true → count < ceiling → console ≤ room
@@ -197,7 +203,7 @@ pub record_fault-back : (p : Parameters) (ceiling : ℕ) (c : CpuState) (epoch :
     → record_fault blocks epoch p ceiling ≡ None
 unfolding record_fault
 record_fault-back p ceiling c epoch blocks r room most l of =
-    let rest = λ (j : ℕ) (small : j < 8). rest_back p ceiling c epoch blocks j r room most l of small in
+    let rest = λ (j : ℕ) (small : j < 8). rest_back p ceiling c epoch blocks j r room most l (record { each = of.each }) small in
     no_fault (record_word blocks 36) (record_word blocks 37) (record_word blocks 32) (record_word blocks 34) (record_word blocks 38) epoch
     (console_room p) ceiling
     (rest 6 (omega arith))

@@ -60,6 +60,10 @@ pub record IsRecordOf (c : CpuState) (epoch : ℕ) (blocks : List Block) : Type 
   pub five : length blocks ≡ 5
   pub each : (k : ℕ) → k < 5 → block_at blocks k ≡ cpu_block_of c epoch k
 
+-- these blocks begin with a processor's record
+pub record BeginsWithRecord (c : CpuState) (epoch : ℕ) (blocks : List Block) : Type 0 where
+  pub each : (k : ℕ) → k < 5 → block_at blocks k ≡ cpu_block_of c epoch k
+
 -- the processor's state in a record
 unfoldable pub cpu_of_record : List Block → CpuState
 cpu_of_record blocks = record {

@@ -1,0 +1,158 @@
+-- A slot that was written reads back, and has no fault.
+use Rattle.std.proofs.Common.{◌≡◌, ℕ, zero, suc, ◌+◌, ◌-◌, ◌*◌, ◌/◌, ◌%◌, ◌^◌, ◌<◌, ◌≤◌, true, false, nat_lt, nat_le, ◌==◌, if◌then◌else◌, List, ◌++◌, length, map, take, drop, slice_index, Option, Some, None, refl, sym, ◌∙◌, ap, subst, inl, inr, arith}
+use Rattle.std.proofs.lemmas.Bool.{cases_lt, eq-eqb, lt-ltb, le-leb}
+use Rattle.std.proofs.lemmas.List.{length-map, length-append, length-take-le, length-drop, get_or-map, get_or-take, get_or-drop, get_or_append_left, get_or-append-add, ext_get_or}
+use Rattle.std.proofs.lemmas.List.FromFn.{length-map-range_with_len, get_or-map-range_with_len}
+use Rattle.thy_base.specs.declared.block.Block.{Block}
+use Rattle.thy_base.specs.declared.config.Parameters.{Parameters}
+use Rattle.thy_base.specs.Device.{block_at}
+use Rattle.thy_base.specs.Geometry.{IsInRange, console_room, memory_blocks}
+use Rattle.thy_base.specs.Places.{slot_blocks}
+use Rattle.thy_isa.specs.declared.state.CpuState.{CpuState}
+use Rattle.thy_record.specs.Words.{word_of, block_of}
+use Rattle.thy_record.specs.Cpu.{status_tag, status_value, cpu_block_of, is_status, record_word, BeginsWithRecord, IsRecordable}
+use Rattle.thy_record.specs.Tables.{Tables, entry_at, Lists, IsTables}
+use Rattle.thy_record.specs.TableBlocks.{entry_word, entry_from, table_words, table_block_of}
+use Rattle.thy_record.specs.TableFaults.{tables_fault}
+use Rattle.thy_record.specs.Slots.{slot_block_of, entries_in, tables_in, epoch_fault, status_fault, slot_fault}
+use Rattle.thy_record.proofs.WordLemmas.{word_of-block_of}
+use Rattle.thy_record.proofs.CpuLemmas.{rest_words}
+use Rattle.thy_record.proofs.ReadBackLemmas.{taken, both, rest_back}
+use Rattle.thy_record.proofs.TableLemmas.{entry_from-entry_word}
+use Rattle.thy_record.proofs.TableFaultLemmas.{both_none, IsFaultless-tables}
+use Rattle.thy_record.proofs.EntryLemmas.{Lists-inside}
+
+-- these blocks are the slot of a checkpoint
+pub record IsSlotOf (p : Parameters) (cpu : CpuState) (t : Tables) (epoch : ℕ) (slot : List Block) : Type 0 where
+  pub each : (k : ℕ) → k < slot_blocks p → block_at slot k ≡ slot_block_of cpu t epoch k
+
+-- ---- which block is which
+
+pub slot_block_of-record : (cpu : CpuState) (t : Tables) (epoch k : ℕ) → k < 5 → slot_block_of cpu t epoch k ≡ cpu_block_of cpu epoch k
+slot_block_of-record cpu t epoch k l = ap (λ b. if b then cpu_block_of cpu epoch k else table_block_of t (k - 5)) (lt-ltb k 5 l)
+
+pub slot_block_of-table : (cpu : CpuState) (t : Tables) (epoch k : ℕ) → slot_block_of cpu t epoch (5 + k) ≡ table_block_of t k
+slot_block_of-table cpu t epoch k = grind arith
+
+pub BeginsWithRecord-slot : (p : Parameters) (cpu : CpuState) (t : Tables) (epoch : ℕ) (slot : List Block)
+    → IsSlotOf p cpu t epoch slot → BeginsWithRecord cpu epoch slot
+BeginsWithRecord-slot p cpu t epoch slot s = record {
+  each = λ k l. s.each k (omega arith) ∙ slot_block_of-record cpu t epoch k l;
+}
+
+-- ---- the tables
+
+-- each entry of both tables has a word
+listed_fits : (p : Parameters) (t : Tables) (m : ℕ) (e : Option ℕ) → IsInRange p → IsTables p t → entry_at (t.btt ++ t.ptt) m ≡ e → entry_word e < 2 ^ 64
+listed_fits p t m None r s h = omega arith
+listed_fits p t m (Some n) r s h = elim (cases_lt m (length t.btt)) as (λ _. entry_word (Some n) < 2 ^ 64) [
+  | inl low ↦
+      let l : Lists t.btt m n = record { is = sym (get_or_append_left t.btt t.ptt None m low) ∙ h } in
+      let small = s.blocks m n l in
+      omega arith
+  | inr high ↦
+      let e : length t.btt + (m - length t.btt) ≡ m = omega arith in
+      let l : Lists t.ptt (m - length t.btt) n =
+      record { is = sym (get_or-append-add t.btt t.ptt (m - length t.btt) None) ∙ ap (entry_at (t.btt ++ t.ptt)) e ∙ h } in
+      let small = s.pages (m - length t.btt) n l in
+      omega arith
+]
+
+-- word m of the tables, in their block m / 8
+table_word : (p : Parameters) (t : Tables) (m : ℕ) → IsInRange p → IsTables p t → m < p.btt + p.ptt
+    → word_of (table_block_of t (m / 8)) (m % 8) ≡ entry_word (entry_at (t.btt ++ t.ptt) m)
+unfolding table_block_of
+table_word p t m r s l =
+    let words = table_words t in
+    let all : length (table_words t) ≡ p.btt + p.ptt = omega (arith, length-map (t.btt ++ t.ptt) entry_word, length-append t.btt t.ptt, s.btt_length, s.ptt_length) in
+    let whole : 8 * (m / 8) + m % 8 ≡ m = omega arith in
+    let here : slice_index (take 8 (drop (8 * (m / 8)) (table_words t))) (m % 8) ≡ entry_word (entry_at (t.btt ++ t.ptt) m) =
+    get_or-take 8 (drop (8 * (m / 8)) (table_words t)) (m % 8) 0 (omega arith)
+    ∙ get_or-drop (8 * (m / 8)) (table_words t) (m % 8) 0
+    ∙ ap (slice_index (table_words t)) whole
+    ∙ get_or-map entry_word (t.btt ++ t.ptt) m None 0 (omega (arith, length-append t.btt t.ptt, s.btt_length, s.ptt_length)) in
+    let btt8 : p.btt % 8 ≡ 0 = r.btt_eights in
+    let ptt8 : p.ptt % 8 ≡ 0 = r.ptt_eights in
+    let eight : length (take 8 (drop (8 * (m / 8)) (table_words t))) ≡ 8
+    = length-take-le 8 (drop (8 * (m / 8)) (table_words t)) (omega (arith, length-drop (8 * (m / 8)) (table_words t), all)) in
+    word_of-block_of (take 8 (drop (8 * (m / 8)) (table_words t))) (m % 8) (omega (arith, eight))
+    (subst (λ x. x < 2 ^ 64) (sym here) (listed_fits p t m (entry_at (t.btt ++ t.ptt) m) r s refl))
+    ∙ here
+
+-- an entry reads back from the slot
+entry_back : (p : Parameters) (cpu : CpuState) (t : Tables) (epoch : ℕ) (slot : List Block) (m : ℕ)
+    → IsInRange p → IsTables p t → IsSlotOf p cpu t epoch slot → m < p.btt + p.ptt
+    → entry_from (record_word slot (40 + m)) ≡ entry_at (t.btt ++ t.ptt) m
+unfolding record_word
+entry_back p cpu t epoch slot m r s of l =
+    let btt8 : p.btt % 8 ≡ 0 = r.btt_eights in
+    let ptt8 : p.ptt % 8 ≡ 0 = r.ptt_eights in
+    let block : (40 + m) / 8 ≡ 5 + m / 8 = omega arith in
+    let word : (40 + m) % 8 ≡ m % 8 = omega arith in
+    ap entry_from (ap (λ k. word_of (block_at slot k) ((40 + m) % 8)) block
+    ∙ ap (word_of (block_at slot (5 + m / 8))) word
+    ∙ ap (λ b. word_of b (m % 8)) (of.each (5 + m / 8) (omega arith) ∙ slot_block_of-table cpu t epoch (m / 8))
+    ∙ table_word p t m r s l)
+    ∙ entry_from-entry_word (entry_at (t.btt ++ t.ptt) m)
+
+pub length-entries_in : (slot : List Block) (first n : ℕ) → length (entries_in slot first n) ≡ n
+length-entries_in slot first n = length-map-range_with_len (λ i. entry_from (record_word slot (first + i))) 0 n
+
+pub entry_at-entries_in : (slot : List Block) (first n i : ℕ) → i < n → entry_at (entries_in slot first n) i ≡ entry_from (record_word slot (first + i))
+entry_at-entries_in slot first n i l = get_or-map-range_with_len (λ i. entry_from (record_word slot (first + i))) 0 n i i None l (omega arith)
+
+entries_back : (slot : List Block) (first n : ℕ) (table : List (Option ℕ)) → length table ≡ n
+    → ((i : ℕ) → i < n → entry_from (record_word slot (first + i)) ≡ entry_at table i) → entries_in slot first n ≡ table
+entries_back slot first n table long each =
+    let same = length-entries_in slot first n in
+    ext_get_or None (entries_in slot first n) table (same ∙ sym long)
+    (λ i below. let l : i < n = omega (arith, same) in entry_at-entries_in slot first n i l ∙ each i l)
+
+tables_same : (a b c d : List (Option ℕ)) → a ≡ c → b ≡ d → (let t : Tables = record { btt = a; ptt = b } in t) ≡ (let u : Tables = record { btt = c; ptt = d } in u)
+tables_same a b c d h k = cc
+
+-- tables read back as they were written
+pub tables_in-back : (p : Parameters) (cpu : CpuState) (t : Tables) (epoch : ℕ) (slot : List Block)
+    → IsInRange p → IsTables p t → IsSlotOf p cpu t epoch slot → tables_in p slot ≡ t
+tables_in-back p cpu t epoch slot r s of =
+    tables_same (entries_in slot 40 p.btt) (entries_in slot (40 + p.btt) p.ptt) t.btt t.ptt
+    (entries_back slot 40 p.btt t.btt s.btt_length (λ i l.
+        entry_back p cpu t epoch slot i r s of (omega arith)
+        ∙ get_or_append_left t.btt t.ptt None i (omega (arith, s.btt_length))))
+    (entries_back slot (40 + p.btt) p.ptt t.ptt s.ptt_length (λ j l.
+        let at : 40 + p.btt + j ≡ 40 + (p.btt + j) = omega arith in
+        let from : p.btt + j ≡ length t.btt + j = omega (arith, s.btt_length) in
+        ap (λ x. entry_from (record_word slot x)) at
+        ∙ entry_back p cpu t epoch slot (p.btt + j) r s of (omega arith)
+        ∙ ap (entry_at (t.btt ++ t.ptt)) from
+        ∙ get_or-append-add t.btt t.ptt j None))
+
+-- ---- its faults
+
+epoch_fault-back : (p : Parameters) (ceiling : ℕ) (cpu : CpuState) (epoch : ℕ) (slot : List Block)
+    → IsRecordable p ceiling cpu → console_room p < 2 ^ 64 → ceiling ≤ 2 ^ 64 → epoch < 2 ^ 64 → BeginsWithRecord cpu epoch slot
+    → epoch_fault epoch slot ≡ None
+epoch_fault-back p ceiling cpu epoch slot r room most l of =
+    taken _ _ _ (eq-eqb _ _ (rest_back p ceiling cpu epoch slot 6 r room most l of (omega arith)))
+
+status_fault-back : (p : Parameters) (ceiling : ℕ) (cpu : CpuState) (epoch : ℕ) (slot : List Block)
+    → IsRecordable p ceiling cpu → console_room p < 2 ^ 64 → ceiling ≤ 2 ^ 64 → epoch < 2 ^ 64 → BeginsWithRecord cpu epoch slot
+    → status_fault p ceiling slot ≡ None
+status_fault-back p ceiling cpu epoch slot r room most l of =
+    let rest = λ (j : ℕ) (small : j < 8). rest_back p ceiling cpu epoch slot j r room most l of small in
+    taken _ _ _ (both _ _
+    (ap (λ t. is_status t (record_word slot 37)) (rest 4 (omega arith)) ∙ ap (is_status (status_tag cpu.status)) (rest 5 (omega arith)) ∙ r.status)
+    (lt-ltb _ _ (subst (λ x. x < ceiling) (sym (rest 0 (omega arith))) r.count)))
+    ∙ taken _ _ _ (le-leb _ _ (subst (λ x. x ≤ console_room p) (sym (rest 2 (omega arith))) r.console))
+
+-- a slot that was written has no fault
+pub slot_fault-back : (p : Parameters) (ceiling : ℕ) (cpu : CpuState) (t : Tables) (epoch : ℕ) (slot : List Block)
+    → IsInRange p → IsRecordable p ceiling cpu → IsTables p t → ceiling ≤ 2 ^ 64 → epoch < 2 ^ 64 → IsSlotOf p cpu t epoch slot
+    → slot_fault p ceiling epoch slot ≡ None
+unfolding slot_fault
+slot_fault-back p ceiling cpu t epoch slot r recordable s most l of =
+    let room : console_room p < 2 ^ 64 = omega arith in
+    let begins = BeginsWithRecord-slot p cpu t epoch slot of in
+    both_none _ _ (epoch_fault-back p ceiling cpu epoch slot recordable room most l begins)
+    (both_none _ _ (ap (tables_fault p) (tables_in-back p cpu t epoch slot r s of) ∙ (IsFaultless-tables p t s).none)
+    (status_fault-back p ceiling cpu epoch slot recordable room most l begins))
