@@ -7,3 +7,4 @@ pub mod EntryLemmas
 pub mod TableFaultLemmas
 pub mod HeaderLemmas
 pub mod SlotLemmas
+pub mod ImageLemmas

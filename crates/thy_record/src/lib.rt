@@ -16,7 +16,9 @@ pub use commit::{COMMIT_MAGIC, commit_block, commit_fault, is_zero};
 pub use cpu::{cpu_block, cpu_state, record_fault};
 pub use engine_step::EngineStep;
 pub use image::BadImage;
-pub use laws::faultless_tables;
+pub use laws::{
+    ceiling_grows, decoded_is_whole, faultless_tables, looked_decides, written_decodes,
+};
 pub use memory::{load, store};
 pub use start::Start;
 pub use tables::{table_block, table_entry};

@@ -1,0 +1,255 @@
+-- What an image decodes to, by its parts.
+use Rattle.std.proofs.Common.{◌≡◌, ℕ, zero, suc, ◌+◌, ◌%◌, ◌^◌, ◌<◌, ◌≤◌, ◌==◌, ◌&&◌, Bool, true, false, nat_lt, nat_le, if◌then◌else◌, List, [], ◌∷◌, ◌++◌, length, map, Contains, Option, Some, None, refl, sym, ◌∙◌, ap, subst, inl, inr, arith}
+use Rattle.std.proofs.lemmas.Bool.{cases_lt, eq-eqb, eqb-true, lt-ltb, ltb-true}
+use Rattle.std.proofs.lemmas.List.{length-map, get_or-map, ext_get_or}
+use Rattle.std.proofs.lemmas.List.Elements.{Contains-get_or, Contains-append_left, Contains-append_right, Contains-push}
+use Rattle.std.proofs.lemmas.List.FromFn.{length-range_with_len, get_or-range_with_len}
+use Rattle.std.specs.List.{range_with_len}
+use Rattle.std.specs.Option.{option_or}
+use Rattle.thy_base.specs.declared.block.Block.{Block}
+use Rattle.thy_base.specs.declared.config.Parameters.{Parameters}
+use Rattle.thy_base.specs.Device.{zero_block, block_at}
+use Rattle.thy_base.specs.Geometry.{IsInRange, console_room, memory_blocks}
+use Rattle.thy_base.specs.Places.{slot_blocks, slot_place, image_blocks}
+use Rattle.thy_isa.specs.declared.state.CpuState.{CpuState}
+use Rattle.thy_isa.specs.Step.{State}
+use Rattle.thy_record.specs.declared.image.BadImage.{BadImage}
+use Rattle.thy_record.specs.declared.image.BadImage.TheVariants.{Commit, Status, ConsoleLength}
+use Rattle.thy_record.specs.Words.{word_of}
+use Rattle.thy_record.specs.Commit.{commit_magic, commit_of, is_zero, epoch_of, has_zero_rest, commit_fault}
+use Rattle.thy_record.specs.Cpu.{cpu_of_record, record_word, is_status, IsRecordable}
+use Rattle.thy_record.specs.Decoded.{Decoded, Nothing, Refused, At}
+use Rattle.thy_record.specs.Flat.{state_from}
+use Rattle.thy_record.specs.Header.{header_of, header_fault}
+use Rattle.thy_record.specs.Images.{slot_numbers, slot_in, memory_numbers, memory_in, state_in, image_fault, refused_or_at, decode_with, decode_image, looked, IsWholeImage}
+use Rattle.thy_record.specs.ImageLaws.{HasCheckpoint, IsDecoded, IsAlike, IsFaultless}
+use Rattle.thy_record.specs.Slots.{tables_in, epoch_fault, status_fault, slot_fault}
+use Rattle.thy_record.specs.Tables.{Tables, IsTables}
+use Rattle.thy_record.specs.TableFaults.{tables_fault}
+use Rattle.thy_record.proofs.HeaderLemmas.{header_fault-header_of, header_fault-long}
+use Rattle.thy_record.proofs.ReadBackLemmas.{epoch_of-commit_of, commit_fault-commit_of, is_zero-commit_of, cpu_of_record-begins}
+use Rattle.thy_record.proofs.SlotLemmas.{IsSlotOf, BeginsWithRecord-slot, length-entries_in, tables_in-back, slot_fault-back}
+use Rattle.thy_record.proofs.TableFaultLemmas.{neither, both_none, IsTables-faultless}
+
+-- ---- blocks by a list of numbers
+
+-- block k of the blocks with consecutive numbers
+pub block_at-numbers : (look : ℕ → Block) (first n k : ℕ) → k < n → block_at (map look (range_with_len first n)) k ≡ look (first + k)
+block_at-numbers look first n k l =
+    get_or-map look (range_with_len first n) k 0 zero_block (omega (arith, length-range_with_len first n))
+    ∙ ap look (get_or-range_with_len first n k 0 l)
+
+-- what is alike at each number of a list
+pub map-alike : (f g : ℕ → Block) (xs : List ℕ) → ((x : ℕ) → Contains xs x → f x ≡ g x) → map f xs ≡ map g xs
+map-alike f g xs each =
+    ext_get_or zero_block (map f xs) (map g xs) (length-map xs f ∙ sym (length-map xs g))
+    (λ k below.
+        let l : k < length xs = omega (arith, length-map xs f) in
+        get_or-map f xs k 0 zero_block l
+        ∙ each _ (Contains-get_or xs k 0 l)
+        ∙ sym (get_or-map g xs k 0 zero_block l))
+
+pub block_at-slot_in : (p : Parameters) (image : List Block) (k : ℕ) → k < slot_blocks p
+    → block_at (slot_in p image) k ≡ block_at image (slot_place p (epoch_of (block_at image 1) % 2) + k)
+block_at-slot_in p image k l = block_at-numbers (block_at image) (slot_place p (epoch_of (block_at image 1) % 2)) (slot_blocks p) k l
+
+-- ---- what is written decodes
+
+decode-parts : (zeros : Bool) (fault : Option BadImage) (epoch found : ℕ) (state other : State)
+    → zeros ≡ false → fault ≡ None → epoch ≡ found → state ≡ other
+    → (if zeros then Nothing else refused_or_at fault epoch state) ≡ At found other
+decode-parts zeros fault epoch found state other a b c d =
+    ap (λ z. if z then Nothing else refused_or_at fault epoch state) a
+    ∙ ap (λ f. refused_or_at f epoch state) b
+    ∙ ap (λ e. At e state) c
+    ∙ ap (At found) d
+
+all_none : (a b c : Option BadImage) → a ≡ None → b ≡ None → c ≡ None → option_or a (option_or b c) ≡ None
+all_none a b c h k l = both_none a (option_or b c) h (both_none b c k l)
+
+pub decode-written : (p : Parameters) (ceiling : ℕ) (cpu : CpuState) (t : Tables) (epoch : ℕ) (image : List Block)
+    → IsInRange p → IsRecordable p ceiling cpu → IsTables p t → ceiling ≤ 2 ^ 64 → epoch < ceiling
+    → HasCheckpoint p image cpu t epoch
+    → decode_image p ceiling image ≡ At epoch (state_from p cpu (memory_in p t image))
+unfolding decode_with
+decode-written p ceiling cpu t epoch image r recordable s most below has =
+    let fits : epoch < 2 ^ 64 = omega arith in
+    let room : console_room p < 2 ^ 64 = omega arith in
+    let of_epoch : epoch_of (block_at image 1) ≡ epoch = ap epoch_of has.commit ∙ epoch_of-commit_of epoch fits in
+    let slot : IsSlotOf p cpu t epoch (slot_in p image) = record {
+      each = λ k l. block_at-slot_in p image k l ∙ ap (λ e. block_at image (slot_place p (e % 2) + k)) of_epoch ∙ has.slot k l;
+    } in
+    let long : (length image == image_blocks p) ≡ true = eq-eqb _ _ has.long in
+    decode-parts (is_zero (block_at image 1)) (image_fault p ceiling (length image == image_blocks p) image) (epoch_of (block_at image 1)) epoch
+    (state_in p image) (state_from p cpu (memory_in p t image))
+    (ap is_zero has.commit ∙ is_zero-commit_of epoch)
+    (all_none _ _ _
+    (ap (header_fault (block_at image 0) p) long ∙ ap (λ b. header_fault b p true) has.header ∙ header_fault-header_of p r)
+    (ap (λ b. commit_fault b ceiling) has.commit ∙ commit_fault-commit_of epoch ceiling below most)
+    (ap (λ e. slot_fault p ceiling e (slot_in p image)) of_epoch ∙ slot_fault-back p ceiling cpu t epoch (slot_in p image) r recordable s most fits slot))
+    of_epoch
+    (ap (λ c. state_from p c (memory_in p (tables_in p (slot_in p image)) image))
+    (cpu_of_record-begins p ceiling cpu epoch (slot_in p image) recordable room most fits (BeginsWithRecord-slot p cpu t epoch (slot_in p image) slot))
+    ∙ ap (λ u. state_from p cpu (memory_in p u image)) (tables_in-back p cpu t epoch (slot_in p image) r s slot))
+
+-- ---- what decodes is whole
+
+at_back : (zeros : Bool) (fault : Option BadImage) (epoch found : ℕ) (state other : State)
+    → (if zeros then Nothing else refused_or_at fault epoch state) ≡ At found other
+    → (zeros ≡ false) × (fault ≡ None) × (epoch ≡ found) × (state ≡ other)
+at_back true fault epoch found state other h = cc
+at_back false None epoch found state other h = (refl, refl, cc, cc)
+at_back false (Some bad) epoch found state other h = cc
+
+pub IsDecoded-at : (p : Parameters) (ceiling : ℕ) (image : List Block) (epoch : ℕ) (state : State)
+    → decode_image p ceiling image ≡ At epoch state → IsDecoded p ceiling image epoch state
+unfolding decode_with slot_fault
+IsDecoded-at p ceiling image epoch state h =
+    let long = length image == image_blocks p in
+    let slot = slot_in p image in
+    let found = at_back (is_zero (block_at image 1)) (image_fault p ceiling (length image == image_blocks p) image) (epoch_of (block_at image 1)) epoch
+    (state_in p image) state h in
+    let header = neither (header_fault (block_at image 0) p (length image == image_blocks p))
+    (option_or (commit_fault (block_at image 1) ceiling) (slot_fault p ceiling (epoch_of (block_at image 1)) (slot_in p image))) found.1 in
+    let rest = neither (commit_fault (block_at image 1) ceiling) (slot_fault p ceiling (epoch_of (block_at image 1)) (slot_in p image)) header.1 in
+    let parts = neither (epoch_fault (epoch_of (block_at image 1)) (slot_in p image))
+    (option_or (tables_fault p (tables_in p (slot_in p image))) (status_fault p ceiling (slot_in p image))) rest.1 in
+    let tables = neither (tables_fault p (tables_in p (slot_in p image))) (status_fault p ceiling (slot_in p image)) parts.1 in
+    let is_long : (length image == image_blocks p) ≡ true = header_fault-long (block_at image 0) p (length image == image_blocks p) header.0 in
+    record {
+      whole = record {
+        committed = found.0;
+        of_epoch = found.2;
+        long = eqb-true _ _ is_long;
+        header_fits = sym (ap (header_fault (block_at image 0) p) is_long) ∙ header.0;
+        commit_fits = rest.0;
+        slot_fits = sym (ap (λ e. slot_fault p ceiling e (slot_in p image)) found.2) ∙ rest.1;
+        state_is = found.3;
+      };
+      tables = IsTables-faultless p (tables_in p (slot_in p image)) (record {
+        btt_length = length-entries_in (slot_in p image) 40 p.btt;
+        ptt_length = length-entries_in (slot_in p image) (40 + p.btt) p.ptt;
+        none = tables.0;
+      });
+    }
+
+-- ---- images that are alike
+
+-- alike where a commit block stands
+alike-zero : (p : Parameters) (ceiling : ℕ) (long : Bool) (g h : List Block) → block_at g 1 ≡ block_at h 1 → is_zero (block_at h 1) ≡ true
+    → decode_with p ceiling long g ≡ decode_with p ceiling long h
+unfolding decode_with
+alike-zero p ceiling long g h one z =
+    let zg : is_zero (block_at g 1) ≡ true = ap is_zero one ∙ z in
+    ap (λ t. if t then Nothing else refused_or_at (image_fault p ceiling long g) (epoch_of (block_at g 1)) (state_in p g)) zg
+    ∙ sym (ap (λ t. if t then Nothing else refused_or_at (image_fault p ceiling long h) (epoch_of (block_at h 1)) (state_in p h)) z)
+
+slot_alike : (p : Parameters) (g h : List Block) → block_at g 1 ≡ block_at h 1
+    → ((x : ℕ) → Contains (slot_numbers p (block_at h 1)) x → block_at g x ≡ block_at h x) → slot_in p g ≡ slot_in p h
+slot_alike p g h one each =
+    ap (λ b. map (block_at g) (slot_numbers p b)) one ∙ map-alike (block_at g) (block_at h) (slot_numbers p (block_at h 1)) each
+
+alike-parts : (p : Parameters) (ceiling : ℕ) (long : Bool) (g h : List Block)
+    → block_at g 0 ≡ block_at h 0 → block_at g 1 ≡ block_at h 1 → slot_in p g ≡ slot_in p h
+    → memory_in p (tables_in p (slot_in p h)) g ≡ memory_in p (tables_in p (slot_in p h)) h
+    → decode_with p ceiling long g ≡ decode_with p ceiling long h
+unfolding decode_with
+alike-parts p ceiling long g h zero_same one slot memory =
+    ap (λ b. if is_zero b then Nothing else refused_or_at (option_or (header_fault (block_at g 0) p long)
+    (option_or (commit_fault b ceiling) (slot_fault p ceiling (epoch_of b) (slot_in p g)))) (epoch_of b) (state_in p g)) one
+    ∙ ap (λ b. if is_zero (block_at h 1) then Nothing else refused_or_at (option_or (header_fault b p long)
+    (option_or (commit_fault (block_at h 1) ceiling) (slot_fault p ceiling (epoch_of (block_at h 1)) (slot_in p g)))) (epoch_of (block_at h 1)) (state_in p g)) zero_same
+    ∙ ap (λ s. if is_zero (block_at h 1) then Nothing else refused_or_at (option_or (header_fault (block_at h 0) p long)
+    (option_or (commit_fault (block_at h 1) ceiling) (slot_fault p ceiling (epoch_of (block_at h 1)) s))) (epoch_of (block_at h 1))
+    (state_from p (cpu_of_record s) (memory_in p (tables_in p s) g))) slot
+    ∙ ap (λ m. if is_zero (block_at h 1) then Nothing else refused_or_at (image_fault p ceiling long h) (epoch_of (block_at h 1))
+    (state_from p (cpu_of_record (slot_in p h)) m)) memory
+
+first_of_all : (rest : List ℕ) → Contains (0 ∷ 1 ∷ rest) 0
+first_of_all rest = Contains-append_left (0 ∷ []) (1 ∷ rest) 0 (Contains-push [] 0)
+
+second_of_all : (rest : List ℕ) → Contains (0 ∷ 1 ∷ rest) 1
+second_of_all rest = Contains-append_left (0 ∷ 1 ∷ []) rest 1 (Contains-push (0 ∷ []) 1)
+
+among_rest : (rest : List ℕ) (x : ℕ) → Contains rest x → Contains (0 ∷ 1 ∷ rest) x
+among_rest rest x h = Contains-append_right (0 ∷ 1 ∷ []) rest x h
+
+alike-cases : (p : Parameters) (ceiling : ℕ) (long : Bool) (g h : List Block) (zeros : Bool) → is_zero (block_at h 1) ≡ zeros
+    → ((x : ℕ) → Contains (if zeros then 1 ∷ [] else 0 ∷ 1 ∷ (slot_numbers p (block_at h 1) ++ memory_numbers p (tables_in p (slot_in p h)))) x → block_at g x ≡ block_at h x)
+    → decode_with p ceiling long g ≡ decode_with p ceiling long h
+alike-cases p ceiling long g h true z each = alike-zero p ceiling long g h (each 1 (Contains-push [] 1)) z
+alike-cases p ceiling long g h false z each =
+    let slots = slot_numbers p (block_at h 1) in
+    let memory = memory_numbers p (tables_in p (slot_in p h)) in
+    let rest = slot_numbers p (block_at h 1) ++ memory_numbers p (tables_in p (slot_in p h)) in
+    let one = each 1 (second_of_all rest) in
+    alike-parts p ceiling long g h (each 0 (first_of_all rest)) one
+    (slot_alike p g h one (λ x inside. each x (among_rest rest x (Contains-append_left slots memory x inside))))
+    (map-alike (block_at g) (block_at h) memory (λ x inside. each x (among_rest rest x (Contains-append_right slots memory x inside))))
+
+pub decode-alike : (p : Parameters) (ceiling : ℕ) (g h : List Block) → IsAlike p g h → decode_image p ceiling g ≡ decode_image p ceiling h
+decode-alike p ceiling g h alike =
+    ap (λ n. decode_with p ceiling (n == image_blocks p) g) alike.as_long
+    ∙ alike-cases p ceiling (length h == image_blocks p) g h (is_zero (block_at h 1)) refl alike.each
+
+-- ---- a higher ceiling
+
+below_higher : (n low high : ℕ) → low ≤ high → nat_lt n low ≡ true → nat_lt n high ≡ true
+below_higher n low high most h = let l : n < low = ltb-true n low h in lt-ltb n high (omega arith)
+
+commit_asks : (named below rest : Bool) → (if (named && below) && rest then None else Some Commit) ≡ None
+    → (named ≡ true) × (below ≡ true) × (rest ≡ true)
+commit_asks true true true h = (refl, refl, refl)
+commit_asks true true false h = cc
+commit_asks true false rest h = cc
+commit_asks false below rest h = cc
+
+commit_gives : (named below rest : Bool) → named ≡ true → below ≡ true → rest ≡ true → (if (named && below) && rest then None else Some Commit) ≡ None
+commit_gives named below rest a b c = ap (λ x. if (x && below) && rest then None else Some Commit) a ∙ ap (λ x. if x && rest then None else Some Commit) b ∙ ap (λ x. if x then None else Some Commit) c
+
+commit_fault-higher : (b : Block) (low high : ℕ) → low ≤ high → commit_fault b low ≡ None → commit_fault b high ≡ None
+unfolding commit_fault
+commit_fault-higher b low high most h =
+    let asks = commit_asks (word_of b 0 == commit_magic) (nat_lt (epoch_of b) low) (has_zero_rest b) h in
+    commit_gives (word_of b 0 == commit_magic) (nat_lt (epoch_of b) high) (has_zero_rest b) asks.0 (below_higher (epoch_of b) low high most asks.1) asks.2
+
+status_asks : (status below room : Bool) → (if status && below then (if room then None else Some ConsoleLength) else Some Status) ≡ None
+    → (status ≡ true) × (below ≡ true) × (room ≡ true)
+status_asks true true true h = (refl, refl, refl)
+status_asks true true false h = cc
+status_asks true false room h = cc
+status_asks false below room h = cc
+
+status_gives : (status below room : Bool) → status ≡ true → below ≡ true → room ≡ true
+    → (if status && below then (if room then None else Some ConsoleLength) else Some Status) ≡ None
+status_gives status below room a b c =
+    ap (λ x. if x && below then (if room then None else Some ConsoleLength) else Some Status) a
+    ∙ ap (λ x. if x then (if room then None else Some ConsoleLength) else Some Status) b
+    ∙ ap (λ x. if x then None else Some ConsoleLength) c
+
+status_fault-higher : (p : Parameters) (slot : List Block) (low high : ℕ) → low ≤ high → status_fault p low slot ≡ None → status_fault p high slot ≡ None
+status_fault-higher p slot low high most h =
+    let asks = status_asks (is_status (record_word slot 36) (record_word slot 37)) (nat_lt (record_word slot 32) low) (nat_le (record_word slot 34) (console_room p)) h in
+    status_gives (is_status (record_word slot 36) (record_word slot 37)) (nat_lt (record_word slot 32) high) (nat_le (record_word slot 34) (console_room p))
+    asks.0 (below_higher (record_word slot 32) low high most asks.1) asks.2
+
+slot_fault-higher : (p : Parameters) (slot : List Block) (epoch low high : ℕ) → low ≤ high → slot_fault p low epoch slot ≡ None → slot_fault p high epoch slot ≡ None
+unfolding slot_fault
+slot_fault-higher p slot epoch low high most h =
+    let parts = neither (epoch_fault epoch slot) (option_or (tables_fault p (tables_in p slot)) (status_fault p low slot)) h in
+    let tables = neither (tables_fault p (tables_in p slot)) (status_fault p low slot) parts.1 in
+    all_none _ _ _ parts.0 tables.0 (status_fault-higher p slot low high most tables.1)
+
+pub decode-higher : (p : Parameters) (low high : ℕ) (image : List Block) (epoch : ℕ) (state : State) → low ≤ high
+    → decode_image p low image ≡ At epoch state → decode_image p high image ≡ At epoch state
+unfolding decode_with
+decode-higher p low high image epoch state most h =
+    let w = (IsDecoded-at p low image epoch state h).whole in
+    let long : (length image == image_blocks p) ≡ true = eq-eqb _ _ w.long in
+    decode-parts (is_zero (block_at image 1)) (image_fault p high (length image == image_blocks p) image) (epoch_of (block_at image 1)) epoch
+    (state_in p image) state w.committed
+    (all_none _ _ _
+    (ap (header_fault (block_at image 0) p) long ∙ w.header_fits)
+    (commit_fault-higher (block_at image 1) low high most w.commit_fits)
+    (ap (λ e. slot_fault p high e (slot_in p image)) w.of_epoch ∙ slot_fault-higher p (slot_in p image) epoch low high most w.slot_fits))
+    w.of_epoch w.state_is
