@@ -1,0 +1,157 @@
+-- What is saved after each call, and what a cut leaves of it.
+use Rattle.std.proofs.Common.{◌≡◌, ◌⊎◌, ℕ, List, [], ◌∷◌, ◌++◌, length, Contains, refl, sym, ◌∙◌, ap, subst, inl, inr}
+use Rattle.std.proofs.lemmas.Bool.{cases_eq}
+use Rattle.std.proofs.lemmas.List.Elements.{Contains-push, Contains-append_left, Contains-append_right}
+use Rattle.thy_base.specs.declared.block.Block.{Block}
+use Rattle.thy_base.specs.Device.{Device, Crash, HoldsNoMoreBut, HasFailedToWrite, IsCut, IsFramed, block_at, settled, written_to}
+use Rattle.thy_base.proofs.DeviceLemmas.{no_more_but-written_to, length-settled, length-written_to}
+use Rattle.thy_crash.specs.Fixed.{IsFixed, IsEither, Reads}
+use Rattle.thy_crash.specs.Saved.{Looking, Stands, IsIssued, Saved, Kept, Ready, InDoubt, IsKept, IsReady, IsInDoubt, IsSaved, guarded, IsCopy, IsLeft}
+use Rattle.thy_crash.specs.Spares.{Spares}
+use Rattle.thy_crash.proofs.FixedLemmas.{block_at-fixed, IsFixed-empty, IsFixed-settled}
+use Rattle.thy_crash.proofs.SparesLemmas.{Spares-settled}
+
+-- ---- what a cut leaves
+
+-- what stands, and has its commit block, is copied
+IsCopy-stands : (looked : Looking) (n : Device) (h g : List Block) → Stands looked n h → Crash n g → block_at g 1 ≡ block_at h 1 → IsCopy looked h g
+IsCopy-stands looked n h g s c commit = record {
+  as_long = c.same_length ∙ s.as_long;
+  commit = commit;
+  each = λ x inside. elim (cases_eq x 1) as (λ _. block_at g x ≡ block_at h x) [
+    | inl e ↦ ap (block_at g) e ∙ commit ∙ sym (ap (block_at h) e)
+    | inr other ↦ block_at-fixed n g x (block_at h x) (s.each x inside other) c
+  ];
+}
+
+IsCopy-kept : (looked : Looking) (n : Device) (h g : List Block) → IsKept looked n h → Crash n g → IsCopy looked h g
+IsCopy-kept looked n h g k c = IsCopy-stands looked n h g k.stands c (block_at-fixed n g 1 (block_at h 1) k.commit c)
+
+pub left_of_saved : (looked : Looking) (n : Device) (s : Saved) (g : List Block) → IsSaved looked n s → Crash n g → IsLeft looked s g
+left_of_saved looked n (Kept before) g h c = IsCopy-kept looked n before g h c
+left_of_saved looked n (Ready before next) g h c = IsCopy-kept looked n before g h.kept c
+left_of_saved looked n (InDoubt before next) g h c = elim (h.commit.either (block_at g 1) (c.each 1)) as (λ _. IsCopy looked before g ⊎ IsCopy looked next g) [
+  | inl old ↦ inl (IsCopy-stands looked n before g h.stands c old)
+  | inr new ↦ inr (IsCopy-stands looked n next g h.next_stands c new)
+]
+
+pub IsKept-empty : (looked : Looking) (n : Device) → n.queue ≡ [] → IsKept looked n n.image
+IsKept-empty looked n empty = record {
+  stands = record { as_long = refl; each = λ x inside other. IsFixed-empty n x empty };
+  commit = IsFixed-empty n 1 empty;
+}
+
+pub IsKept-cut : (looked : Looking) (pick : ℕ) (old new : Device) → IsCut pick old new → IsKept looked new new.image
+IsKept-cut looked pick old new c = IsKept-empty looked new (ap (λ n. n.queue) c.device)
+
+-- ---- what keeps it
+
+IsFixed-spared : (places : List ℕ) (old new : Device) (x : ℕ) (b : Block) → Spares places old new → Contains places x → IsFixed old x b → IsFixed new x b
+IsFixed-spared places old new x b s inside f = record { only = λ c h. f.only c (s.no_more x inside c h) }
+
+IsEither-spared : (places : List ℕ) (old new : Device) (x : ℕ) (a b : Block) → Spares places old new → Contains places x → IsEither old x a b → IsEither new x a b
+IsEither-spared places old new x a b s inside f = record { either = λ c h. f.either c (s.no_more x inside c h) }
+
+Stands-spared : (looked : Looking) (places : List ℕ) (old new : Device) (h : List Block)
+    → Spares places old new → ((x : ℕ) → Contains (looked h) x → Contains places x) → Stands looked old h → Stands looked new h
+Stands-spared looked places old new h s among stands = record {
+  as_long = s.as_long ∙ stands.as_long;
+  each = λ x inside other. IsFixed-spared places old new x (block_at h x) s (among x inside) (stands.each x inside other);
+}
+
+-- the commit block is guarded, and so are the places of both images
+commit_first : (places : List ℕ) → Contains (1 ∷ places) 1
+commit_first places = Contains-append_left (1 ∷ []) places 1 (Contains-push [] 1)
+
+among_rest : (places : List ℕ) (x : ℕ) → Contains places x → Contains (1 ∷ places) x
+among_rest places x inside = Contains-append_right (1 ∷ []) places x inside
+
+among_first : (places more : List ℕ) (x : ℕ) → Contains places x → Contains (1 ∷ (places ++ more)) x
+among_first places more x inside = among_rest (places ++ more) x (Contains-append_left places more x inside)
+
+among_second : (places more : List ℕ) (x : ℕ) → Contains more x → Contains (1 ∷ (places ++ more)) x
+among_second places more x inside = among_rest (places ++ more) x (Contains-append_right places more x inside)
+
+IsKept-spared : (looked : Looking) (places : List ℕ) (old new : Device) (h : List Block)
+    → Spares places old new → Contains places 1 → ((x : ℕ) → Contains (looked h) x → Contains places x) → IsKept looked old h → IsKept looked new h
+IsKept-spared looked places old new h s here among k = record {
+  stands = Stands-spared looked places old new h s among k.stands;
+  commit = IsFixed-spared places old new 1 (block_at h 1) s here k.commit;
+}
+
+pub IsSaved-spared : (looked : Looking) (s : Saved) (old new : Device) → IsSaved looked old s → Spares (guarded looked s) old new → IsSaved looked new s
+IsSaved-spared looked (Kept before) old new h spares =
+    IsKept-spared looked (1 ∷ looked before) old new before spares (commit_first (looked before)) (among_rest (looked before)) h
+IsSaved-spared looked (Ready before next) old new h spares =
+    let places : List ℕ = 1 ∷ (looked before ++ looked next) in
+    record {
+      kept = IsKept-spared looked places old new before spares (commit_first (looked before ++ looked next)) (among_first (looked before) (looked next)) h.kept;
+      next_stands = Stands-spared looked places old new next spares (among_second (looked before) (looked next)) h.next_stands;
+    }
+IsSaved-spared looked (InDoubt before next) old new h spares =
+    let places : List ℕ = 1 ∷ (looked before ++ looked next) in
+    record {
+      stands = Stands-spared looked places old new before spares (among_first (looked before) (looked next)) h.stands;
+      next_stands = Stands-spared looked places old new next spares (among_second (looked before) (looked next)) h.next_stands;
+      commit = IsEither-spared places old new 1 (block_at before 1) (block_at next 1) spares (commit_first (looked before ++ looked next)) h.commit;
+    }
+
+-- ---- how a checkpoint is made
+
+pub IsReady-settled : (looked : Looking) (before next : List Block) (old new : Device)
+    → IsKept looked old before → IsIssued looked old next → new ≡ settled old → IsReady looked new before next
+IsReady-settled looked before next old new k issued e = record {
+  kept = IsSaved-spared looked (Kept before) old new k (Spares-settled (guarded looked (Kept before)) old new e);
+  next_stands = subst (λ (n : Device). Stands looked n next) (sym e) (record {
+    as_long = length-settled old ∙ issued.as_long;
+    each = λ x inside other. IsFixed-settled old x (block_at next x) (issued.each x inside other);
+  });
+}
+
+-- what stands still stands where the commit block's place may hold one block more
+Stands-commit : (looked : Looking) (h : List Block) (block : Block) (old new : Device)
+    → HoldsNoMoreBut 1 block old new → length new.image ≡ length old.image → Stands looked old h → Stands looked new h
+Stands-commit looked h block old new no_more same s = record {
+  as_long = same ∙ s.as_long;
+  each = λ x inside other. record {
+    only = λ c held. elim (no_more x c held) as (λ _. c ≡ block_at h x) [
+      | inl before ↦ (s.each x inside other).only c before
+      | inr here ↦ absurd (other here.0)
+    ];
+  };
+}
+
+IsInDoubt-no_more_but : (looked : Looking) (before next : List Block) (old new : Device)
+    → IsReady looked old before next → HoldsNoMoreBut 1 (block_at next 1) old new → length new.image ≡ length old.image
+    → IsInDoubt looked new before next
+IsInDoubt-no_more_but looked before next old new r no_more same = record {
+  stands = Stands-commit looked before (block_at next 1) old new no_more same r.kept.stands;
+  next_stands = Stands-commit looked next (block_at next 1) old new no_more same r.next_stands;
+  commit = record {
+    either = λ c held. elim (no_more 1 c held) as (λ _. (c ≡ block_at before 1) ⊎ (c ≡ block_at next 1)) [
+      | inl was ↦ inl (r.kept.commit.only c was)
+      | inr here ↦ inr here.1
+    ];
+  };
+}
+
+pub IsInDoubt-written : (looked : Looking) (before next : List Block) (old new : Device)
+    → IsReady looked old before next → new ≡ written_to old 1 (block_at next 1) → IsInDoubt looked new before next
+IsInDoubt-written looked before next old new r e =
+    subst (λ (n : Device). IsInDoubt looked n before next) (sym e)
+    (IsInDoubt-no_more_but looked before next old (written_to old 1 (block_at next 1)) r
+    (no_more_but-written_to old 1 (block_at next 1)) (length-written_to old 1 (block_at next 1)))
+
+pub IsInDoubt-failed : (looked : Looking) (before next : List Block) (old new : Device)
+    → IsReady looked old before next → HasFailedToWrite 1 (block_at next 1) old new → IsFramed old new → IsInDoubt looked new before next
+IsInDoubt-failed looked before next old new r failed framed =
+    IsInDoubt-no_more_but looked before next old new r failed.no_more framed.blocks
+
+pub IsKept-settled : (looked : Looking) (before next : List Block) (old new : Device)
+    → IsInDoubt looked old before next → Reads old 1 (block_at next 1) → new ≡ settled old → IsKept looked new next
+IsKept-settled looked before next old new d r e =
+    let after : IsInDoubt looked new before next = IsSaved-spared looked (InDoubt before next) old new d (Spares-settled (guarded looked (InDoubt before next)) old new e) in
+    record {
+      stands = after.next_stands;
+      commit = subst (λ (n : Device). IsFixed n 1 (block_at next 1)) (sym e) (IsFixed-settled old 1 (block_at next 1) r);
+    }

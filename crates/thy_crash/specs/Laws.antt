@@ -1,0 +1,121 @@
+-- What power cuts leave, for every layout of checkpoints.
+use Rattle.std.specs.Prelude.{◌≡◌, ◌≢◌, ℕ, ◌<◌, List, [], Contains, length}
+use Rattle.thy_base.specs.declared.block.Block.{Block}
+use Rattle.thy_base.specs.Device.{Device, Crash, block_at, drained, settled, written_to, IsCut, IsFramed, HasFailed, HasFailedToWrite}
+use Rattle.thy_crash.specs.Fixed.{IsFixed, Reads}
+use Rattle.thy_crash.specs.Saved.{Looking, IsIssued, Saved, Kept, Ready, InDoubt, IsSaved, guarded, IsLeft}
+use Rattle.thy_crash.specs.Spares.{Spares}
+
+-- ---- what a cut leaves
+
+-- a cut leaves a copy of the image that is kept; in doubt, of one of the two
+abbrev pub CutLeavesCopy : Type 0
+CutLeavesCopy =
+    (looked : Looking) (n : Device) (s : Saved) (g : List Block) → IsSaved looked n s → Crash n g → IsLeft looked s g
+
+-- and the device then has that image kept
+abbrev pub CutIsKept : Type 0
+CutIsKept = (looked : Looking) (pick : ℕ) (old new : Device) → IsCut pick old new → IsSaved looked new (Kept new.image)
+
+-- so has every device with an empty queue, as one that was fitted
+abbrev pub EmptyIsKept : Type 0
+EmptyIsKept = (looked : Looking) (n : Device) → n.queue ≡ [] → IsSaved looked n (Kept n.image)
+
+-- ---- what keeps it
+
+-- what spares the guarded places keeps what is saved
+abbrev pub SparedStays : Type 0
+SparedStays =
+    (looked : Looking) (s : Saved) (old new : Device)
+    → IsSaved looked old s → Spares (guarded looked s) old new → IsSaved looked new s
+
+-- nothing done, as by a read, spares every place
+abbrev pub SameSpares : Type 0
+SameSpares = (places : List ℕ) (old new : Device) → new ≡ old → Spares places old new
+
+-- what spares places twice spares them
+abbrev pub BothSpare : Type 0
+BothSpare = (places : List ℕ) (old mid new : Device) → Spares places old mid → Spares places mid new → Spares places old new
+
+-- and spares each part of them
+abbrev pub PartIsSpared : Type 0
+PartIsSpared =
+    (places part : List ℕ) (old new : Device)
+    → ((x : ℕ) → Contains part x → Contains places x) → Spares places old new → Spares part old new
+
+abbrev pub DrainSpares : Type 0
+DrainSpares = (places : List ℕ) (old new : Device) → new ≡ drained old → Spares places old new
+
+abbrev pub BarrierSpares : Type 0
+BarrierSpares = (places : List ℕ) (old new : Device) → new ≡ settled old → Spares places old new
+
+-- a write of another place
+abbrev pub WriteSpares : Type 0
+WriteSpares =
+    (places : List ℕ) (at : ℕ) (block : Block) (old new : Device)
+    → ¬ Contains places at → new ≡ written_to old at block → Spares places old new
+
+-- a call that failed, unless it was a write
+abbrev pub FailureSpares : Type 0
+FailureSpares =
+    (places : List ℕ) (old new : Device) → HasFailed old new → IsFramed old new → Spares places old new
+
+-- a write of another place that failed
+abbrev pub FailedWriteSpares : Type 0
+FailedWriteSpares =
+    (places : List ℕ) (at : ℕ) (block : Block) (old new : Device)
+    → ¬ Contains places at → HasFailedToWrite at block old new → IsFramed old new → Spares places old new
+
+-- ---- how a checkpoint is made
+
+-- a barrier behind all writes of the next image makes it ready
+abbrev pub BarrierMakesReady : Type 0
+BarrierMakesReady =
+    (looked : Looking) (before next : List Block) (old new : Device)
+    → IsSaved looked old (Kept before) → IsIssued looked old next → new ≡ settled old
+    → IsSaved looked new (Ready before next)
+
+-- the write of its commit block leaves the two in doubt
+abbrev pub CommitLeavesDoubt : Type 0
+CommitLeavesDoubt =
+    (looked : Looking) (before next : List Block) (old new : Device)
+    → IsSaved looked old (Ready before next) → new ≡ written_to old 1 (block_at next 1)
+    → IsSaved looked new (InDoubt before next)
+
+-- and so where it fails
+abbrev pub FailedCommitLeavesDoubt : Type 0
+FailedCommitLeavesDoubt =
+    (looked : Looking) (before next : List Block) (old new : Device)
+    → IsSaved looked old (Ready before next) → HasFailedToWrite 1 (block_at next 1) old new → IsFramed old new
+    → IsSaved looked new (InDoubt before next)
+
+-- the barrier behind it ends the doubt: the next image is kept
+abbrev pub BarrierEndsDoubt : Type 0
+BarrierEndsDoubt =
+    (looked : Looking) (before next : List Block) (old new : Device)
+    → IsSaved looked old (InDoubt before next) → Reads old 1 (block_at next 1) → new ≡ settled old
+    → IsSaved looked new (Kept next)
+
+-- ---- what is read meanwhile
+
+-- a write is read at its place
+abbrev pub WriteIsRead : Type 0
+WriteIsRead =
+    (at : ℕ) (block : Block) (old new : Device)
+    → at < length old.image → new ≡ written_to old at block → Reads new at block
+
+-- and stays so where another place is written
+abbrev pub WriteKeepsRead : Type 0
+WriteKeepsRead =
+    (x : ℕ) (b : Block) (at : ℕ) (block : Block) (old new : Device)
+    → Reads old x b → x ≢ at → new ≡ written_to old at block → Reads new x b
+
+abbrev pub DrainKeepsRead : Type 0
+DrainKeepsRead = (x : ℕ) (b : Block) (old new : Device) → Reads old x b → new ≡ drained old → Reads new x b
+
+abbrev pub BarrierKeepsRead : Type 0
+BarrierKeepsRead = (x : ℕ) (b : Block) (old new : Device) → Reads old x b → new ≡ settled old → Reads new x b
+
+-- what a cut leaves for sure is read
+abbrev pub FixedIsRead : Type 0
+FixedIsRead = (x : ℕ) (b : Block) (n : Device) → IsFixed n x b → x < length n.image → Reads n x b

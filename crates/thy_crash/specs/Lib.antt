@@ -1,0 +1,4 @@
+pub mod Fixed
+pub mod Laws
+pub mod Saved
+pub mod Spares

@@ -1,0 +1,69 @@
+-- A checkpoint is a whole image, the one to be found after a power cut. A part of its places, those looked at, tell
+-- what it means; the commit block, place 1, tells which image it is.
+use Rattle.std.specs.Prelude.{◌≡◌, ◌≢◌, ◌⊎◌, ℕ, List, ◌∷◌, ◌++◌, Contains, length}
+use Rattle.thy_base.specs.declared.block.Block.{Block}
+use Rattle.thy_base.specs.Device.{Device, block_at}
+use Rattle.thy_crash.specs.Fixed.{IsFixed, IsEither, Reads}
+
+-- which places of an image tell what it means
+abbrev pub Looking : Type 0
+Looking = List Block → List ℕ
+
+-- Each place that tells what an image means has its block, whatever a cut leaves. The commit block is apart.
+pub record Stands (looked : Looking) (n : Device) (h : List Block) : Type 0 where
+  pub as_long : length n.image ≡ length h
+  pub each : (x : ℕ) → Contains (looked h) x → x ≢ 1 → IsFixed n x (block_at h x)
+
+-- each of these places, but for the commit block, was written: a read gives its block
+pub record IsIssued (looked : Looking) (n : Device) (h : List Block) : Type 0 where
+  pub as_long : length n.image ≡ length h
+  pub each : (x : ℕ) → Contains (looked h) x → x ≢ 1 → Reads n x (block_at h x)
+
+-- which images a device may have after a cut
+pub data Saved : Type 0 where
+  -- one
+  Kept : (before : List Block) → Saved
+  -- one, and the next lacks its commit block alone
+  Ready : (before : List Block) (next : List Block) → Saved
+  -- one or the next: its commit block was written, and no barrier has come since
+  InDoubt : (before : List Block) (next : List Block) → Saved
+
+-- an image stands, with its commit block
+pub record IsKept (looked : Looking) (n : Device) (before : List Block) : Type 0 where
+  pub stands : Stands looked n before
+  pub commit : IsFixed n 1 (block_at before 1)
+
+-- and the next one stands, but for the commit block
+pub record IsReady (looked : Looking) (n : Device) (before next : List Block) : Type 0 where
+  pub kept : IsKept looked n before
+  pub next_stands : Stands looked n next
+
+-- two images stand, with the commit block of one or of the other
+pub record IsInDoubt (looked : Looking) (n : Device) (before next : List Block) : Type 0 where
+  pub stands : Stands looked n before
+  pub next_stands : Stands looked n next
+  pub commit : IsEither n 1 (block_at before 1) (block_at next 1)
+
+-- what a device may have after a cut is saved
+abbrev pub IsSaved : Looking → Device → Saved → Type 0
+IsSaved looked n (Kept before) = IsKept looked n before
+IsSaved looked n (Ready before next) = IsReady looked n before next
+IsSaved looked n (InDoubt before next) = IsInDoubt looked n before next
+
+-- the places that no write may touch meanwhile
+abbrev pub guarded : Looking → Saved → List ℕ
+guarded looked (Kept before) = 1 ∷ looked before
+guarded looked (Ready before next) = 1 ∷ (looked before ++ looked next)
+guarded looked (InDoubt before next) = 1 ∷ (looked before ++ looked next)
+
+-- an image is as long as another, and has its commit block and its blocks at all places that tell what that means
+pub record IsCopy (looked : Looking) (h g : List Block) : Type 0 where
+  pub as_long : length g ≡ length h
+  pub commit : block_at g 1 ≡ block_at h 1
+  pub each : (x : ℕ) → Contains (looked h) x → block_at g x ≡ block_at h x
+
+-- what a cut leaves of what is saved
+abbrev pub IsLeft : Looking → Saved → List Block → Type 0
+IsLeft looked (Kept before) g = IsCopy looked before g
+IsLeft looked (Ready before next) g = IsCopy looked before g
+IsLeft looked (InDoubt before next) g = IsCopy looked before g ⊎ IsCopy looked next g

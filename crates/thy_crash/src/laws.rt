@@ -1,0 +1,59 @@
+//! The laws, each the contract of a function that does nothing.
+ghost use Rattle.thy_crash.specs.Laws.{CutLeavesCopy, CutIsKept, EmptyIsKept, SparedStays, SameSpares, BothSpare, PartIsSpared, DrainSpares, BarrierSpares, WriteSpares, FailureSpares, FailedWriteSpares, BarrierMakesReady, CommitLeavesDoubt, FailedCommitLeavesDoubt, BarrierEndsDoubt, WriteIsRead, WriteKeepsRead, DrainKeepsRead, BarrierKeepsRead, FixedIsRead};
+
+/// A cut leaves a copy of the image that is kept, at all places that tell what it means; in doubt, of one of the two.
+pub fn a_cut_leaves_a_copy()
+    ensures { CutLeavesCopy }
+{}
+
+/// After a cut the image that was left is kept. So it is of every device with an empty queue.
+pub fn what_is_left_is_kept()
+    ensures cut { CutIsKept }
+    ensures empty { EmptyIsKept }
+{}
+
+/// What spares the guarded places keeps what is saved.
+pub fn spared_stays()
+    ensures { SparedStays }
+{}
+
+/// Places are spared by any number of calls that spare them.
+pub fn sparing_adds_up()
+    ensures none { SameSpares }
+    ensures both { BothSpare }
+    ensures part { PartIsSpared }
+{}
+
+/// A drain and a barrier spare every place, a write every other place; and so where they fail.
+pub fn calls_spare()
+    ensures drain { DrainSpares }
+    ensures barrier { BarrierSpares }
+    ensures write { WriteSpares }
+    ensures failed { FailureSpares }
+    ensures failed_write { FailedWriteSpares }
+{}
+
+/// A barrier behind all writes of the next image makes it ready: it lacks its commit block alone.
+pub fn a_barrier_makes_ready()
+    ensures { BarrierMakesReady }
+{}
+
+/// The write of its commit block leaves the two in doubt, whether or not it fails.
+pub fn a_commit_leaves_doubt()
+    ensures written { CommitLeavesDoubt }
+    ensures failed { FailedCommitLeavesDoubt }
+{}
+
+/// The barrier behind it ends the doubt: the next image is kept.
+pub fn a_barrier_ends_the_doubt()
+    ensures { BarrierEndsDoubt }
+{}
+
+/// What was written is read until its place is written again; and what a cut leaves for sure is read.
+pub fn reads_stay()
+    ensures written { WriteIsRead }
+    ensures elsewhere { WriteKeepsRead }
+    ensures drain { DrainKeepsRead }
+    ensures barrier { BarrierKeepsRead }
+    ensures fixed { FixedIsRead }
+{}

@@ -1,0 +1,13 @@
+//! What power cuts leave of a checkpoint, for every layout of the NVM and every way to write it.
+//!
+//! A checkpoint is a whole image, the one to be found. Which of its places tell what it means is a function of the
+//! image, a list. The laws say what each call of a device keeps of it and how the next one takes its place; a
+//! controller owes that its other writes spare the guarded places.
+#![tactic(auto)]
+
+mod laws;
+
+pub use laws::{
+    a_barrier_ends_the_doubt, a_barrier_makes_ready, a_commit_leaves_doubt, a_cut_leaves_a_copy,
+    calls_spare, reads_stay, spared_stays, sparing_adds_up, what_is_left_is_kept,
+};
