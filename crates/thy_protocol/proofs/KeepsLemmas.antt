@@ -1,0 +1,168 @@
+-- Which checkpoints a device keeps, after each move and after a cut; and that they are all that a cut may leave.
+use Rattle.std.proofs.Common.{◌≡◌, ◌⊎◌, ℕ, List, [], length, Option, Some, None, refl, sym, ◌∙◌, ap, subst, inl, inr}
+use Rattle.thy_base.specs.declared.block.Block.{Block}
+use Rattle.thy_base.specs.declared.mark.Mark.{Mark}
+use Rattle.thy_base.specs.Device.{Device, Crash, IsCut, IsFramed, block_at, settled, written_to, drained}
+use Rattle.thy_base.proofs.DeviceLemmas.{length-settled, length-written_to}
+use Rattle.thy_record.specs.Decoded.{Decoded, At}
+use Rattle.thy_crash.specs.Saved.{Saved, Kept, Ready, InDoubt, IsCopy, IsLeft, IsIssued, guarded}
+use Rattle.thy_crash.specs.Fixed.{Reads}
+use Rattle.thy_crash.specs.Spares.{Spares}
+use Rattle.thy_crash.proofs.SavedLemmas.{left_of_saved, IsKept-cut, IsKept-empty, IsSaved-spared, IsReady-settled, IsInDoubt-written, IsInDoubt-failed, IsKept-settled}
+use Rattle.thy_crash.proofs.SparesLemmas.{Spares-same, Spares-drained, Spares-settled, Spares-written, Spares-failed, Spares-failed_to_write}
+use Rattle.thy_view.specs.Action.{Action, Rest, ReadAt, WriteAt, Barrier, Drain, after, FailsTo}
+use Rattle.thy_view.specs.Origin.{Origin, at}
+use Rattle.thy_view.specs.Safe.{ceiling, Safe, IsOneOf}
+use Rattle.thy_view.specs.Views.{mark}
+use Rattle.thy_protocol.specs.Layout.{Layout, Scheme, decode_by, reading, looked_by}
+use Rattle.thy_protocol.specs.Keeps.{IsOf, Tells, TellsNext, TellsAll, Keeps, doubt_in}
+use Rattle.thy_protocol.specs.Moves.{Standing, IsKeeping, CommitsTo, Move, Goes, Seals, Readies, Commits, Confirms, Moves, Rests, Then, LeavesAlone}
+use Rattle.thy_protocol.proofs.LayoutLemmas.{decode_by-copy}
+
+-- ---- what a cut leaves
+
+-- a copy of a mark's checkpoint is that mark's
+IsOf-copy : (o : Origin) (l : Layout) (h g : List Block) (m : Mark) → IsCopy (looked_by l) h g → IsOf o l h m → IsOf o l g m
+IsOf-copy o l h g m c is = record { decodes = decode_by-copy l h g c ∙ is.decodes; counted = is.counted }
+
+Tells-copy : (o : Origin) (l : Layout) (h g : List Block) (kept : Option Mark) → IsCopy (looked_by l) h g → Tells o l h kept → Tells o l g kept
+Tells-copy o l h g None c t = (decode_by-copy l h g c ∙ t.0, t.1)
+Tells-copy o l h g (Some m) c is = IsOf-copy o l h g m c is
+
+TellsNext-copy : (o : Origin) (l : Layout) (h g : List Block) (sealed : Option Mark)
+    → IsCopy (looked_by l) h g → TellsNext o l h sealed → (m : Mark) × (sealed ≡ Some m) × IsOf o l g m
+TellsNext-copy o l h g None c t = absurd t
+TellsNext-copy o l h g (Some m) c is = (m, refl, IsOf-copy o l h g m c is)
+
+-- an image that a cut may leave is that of the mark kept, or of the one in doubt
+abbrev IsFound : Origin → Layout → Option Mark → Option Mark → List Block → Type 0
+IsFound o l kept doubt g = Tells o l g kept ⊎ ((m : Mark) × (doubt ≡ Some m) × IsOf o l g m)
+
+found_after : (o : Origin) (l : Layout) (s : Saved) (kept sealed : Option Mark) (g : List Block)
+    → IsLeft (looked_by l) s g → TellsAll o l s kept sealed → IsFound o l kept (doubt_in s sealed) g
+found_after o l (Kept before) kept sealed g c t = inl (Tells-copy o l before g kept c t)
+found_after o l (Ready before next) kept sealed g c t = inl (Tells-copy o l before g kept c t.0)
+found_after o l (InDoubt before next) kept sealed g c t = elim c as (λ _. IsFound o l kept sealed g) [
+  | inl old ↦ inl (Tells-copy o l before g kept old t.0)
+  | inr new ↦ inr (TellsNext-copy o l next g sealed new t.1)
+]
+
+found : (o : Origin) (l : Layout) (n : Device) (s : Saved) (kept sealed : Option Mark) (g : List Block)
+    → Keeps o l n s kept sealed → Crash n g → IsFound o l kept (doubt_in s sealed) g
+found o l n s kept sealed g k c = found_after o l s kept sealed g (left_of_saved (looked_by l) n s g k.saved c) k.told
+
+-- a mark's checkpoint is one of two
+one_of_mark : (o : Origin) (kept doubt : Option Mark) (m : Mark) (d : Decoded)
+    → d ≡ At m.epoch (at o m.count) → (at o m.count).count ≡ m.count → (kept ≡ Some m) ⊎ (doubt ≡ Some m) → IsOneOf o kept doubt d
+one_of_mark o kept doubt m d decodes counted which =
+    subst (IsOneOf o kept doubt) (sym decodes)
+    (subst (λ (k : ℕ). (kept ≡ Some (mark m.epoch k)) ⊎ (doubt ≡ Some (mark m.epoch k))) (sym counted) which, ap (at o) (sym counted))
+
+one_of_kept : (o : Origin) (l : Layout) (g : List Block) (kept doubt : Option Mark) → Tells o l g kept → IsOneOf o kept doubt (decode_by l g)
+one_of_kept o l g None doubt t = subst (IsOneOf o None doubt) (sym t.0) refl
+one_of_kept o l g (Some m) doubt is = one_of_mark o (Some m) doubt m (decode_by l g) is.decodes is.counted (inl refl)
+
+pub Safe-kept : (scheme : Scheme) (o : Origin) (n : Device) (s : Saved) (kept sealed : Option Mark)
+    → Keeps o (scheme o.geometry ceiling) n s kept sealed → Safe (reading scheme) o kept (doubt_in s sealed) n
+Safe-kept scheme o n s kept sealed k = λ g c.
+    let l : Layout = scheme o.geometry ceiling in
+    elim (found o l n s kept sealed g k c) as (λ _. IsOneOf o kept (doubt_in s sealed) (decode_by l g)) [
+      | inl old ↦ one_of_kept o l g kept (doubt_in s sealed) old
+      | inr new ↦ one_of_mark o kept (doubt_in s sealed) new.0 (decode_by l g) new.2.decodes new.2.counted (inr new.1)
+    ]
+
+pub Keeps-empty : (o : Origin) (l : Layout) (n : Device) (kept sealed : Option Mark)
+    → length n.image ≡ l.image_blocks → n.queue ≡ [] → Tells o l n.image kept → Keeps o l n (Kept n.image) kept sealed
+Keeps-empty o l n kept sealed sized empty t = record { sized = sized; saved = IsKept-empty (looked_by l) n empty; told = t }
+
+pub Keeps-cut : (o : Origin) (l : Layout) (s : Saved) (kept sealed : Option Mark) (pick : ℕ) (old new : Device)
+    → Keeps o l old s kept sealed → IsCut pick old new
+    → Keeps o l new (Kept new.image) kept None
+    ⊎ ((m : Mark) × (doubt_in s sealed ≡ Some m) × Keeps o l new (Kept new.image) (Some m) None)
+Keeps-cut o l s kept sealed pick old new k c =
+    let sized : length new.image ≡ l.image_blocks = c.crash.same_length ∙ k.sized in
+    let saved = IsKept-cut (looked_by l) pick old new c in
+    elim (found o l old s kept sealed new.image k c.crash) as (λ _. Keeps o l new (Kept new.image) kept None
+    ⊎ ((m : Mark) × (doubt_in s sealed ≡ Some m) × Keeps o l new (Kept new.image) (Some m) None)) [
+      | inl before ↦ inl (record { sized = sized; saved = saved; told = before })
+      | inr next ↦ inr (next.0, next.1, record { sized = sized; saved = saved; told = next.2 })
+    ]
+
+-- ---- the moves
+
+Keeps-goes : (o : Origin) (l : Layout) (s : Saved) (kept sealed : Option Mark) (old new : Device)
+    → Spares (guarded (looked_by l) s) old new → Keeps o l old s kept sealed → Keeps o l new s kept sealed
+Keeps-goes o l s kept sealed old new spares k = record {
+  sized = spares.as_long ∙ k.sized;
+  saved = IsSaved-spared (looked_by l) s old new k.saved spares;
+  told = k.told;
+}
+
+Keeps-readies : (o : Origin) (l : Layout) (before next : List Block) (kept : Option Mark) (m : Mark) (old new : Device)
+    → IsIssued (looked_by l) old next → IsOf o l next m → new ≡ settled old
+    → Keeps o l old (Kept before) kept (Some m) → Keeps o l new (Ready before next) kept (Some m)
+Keeps-readies o l before next kept m old new issued is e k = record {
+  sized = ap (λ n. length n.image) e ∙ length-settled old ∙ k.sized;
+  saved = IsReady-settled (looked_by l) before next old new k.saved issued e;
+  told = (k.told, is);
+}
+
+Keeps-commits : (o : Origin) (l : Layout) (before next : List Block) (kept : Option Mark) (m : Mark) (old new : Device)
+    → CommitsTo next old new → Keeps o l old (Ready before next) kept (Some m) → Keeps o l new (InDoubt before next) kept (Some m)
+Keeps-commits o l before next kept m old new how k = elim how as (λ _. Keeps o l new (InDoubt before next) kept (Some m)) [
+  | inl written ↦ record {
+    sized = ap (λ n. length n.image) written ∙ length-written_to old 1 (block_at next 1) ∙ k.sized;
+    saved = IsInDoubt-written (looked_by l) before next old new k.saved written;
+    told = k.told;
+  }
+  | inr failed ↦ record {
+    sized = failed.1.blocks ∙ k.sized;
+    saved = IsInDoubt-failed (looked_by l) before next old new k.saved failed.0 failed.1;
+    told = k.told;
+  }
+]
+
+Keeps-confirms : (o : Origin) (l : Layout) (before next : List Block) (kept : Option Mark) (m : Mark) (old new : Device)
+    → Reads old 1 (block_at next 1) → new ≡ settled old
+    → Keeps o l old (InDoubt before next) kept (Some m) → Keeps o l new (Kept next) (Some m) None
+Keeps-confirms o l before next kept m old new read e k = record {
+  sized = ap (λ n. length n.image) e ∙ length-settled old ∙ k.sized;
+  saved = IsKept-settled (looked_by l) before next old new k.saved read e;
+  told = k.told.1;
+}
+
+pub IsKeeping-move : (o : Origin) (l : Layout) (a b : Standing) → Move o l a b → IsKeeping o l a → IsKeeping o l b
+IsKeeping-move o l a b (Goes s kept sealed old new spares) k = Keeps-goes o l s kept sealed old new spares k
+IsKeeping-move o l a b (Seals n before kept m) k = record { sized = k.sized; saved = k.saved; told = k.told }
+IsKeeping-move o l a b (Readies before next kept m old new issued is e) k = Keeps-readies o l before next kept m old new issued is e k
+IsKeeping-move o l a b (Commits before next kept m old new how) k = Keeps-commits o l before next kept m old new how k
+IsKeeping-move o l a b (Confirms before next kept m old new read e) k = Keeps-confirms o l before next kept m old new read e k
+
+pub IsKeeping-moves : (o : Origin) (l : Layout) (a b : Standing) → Moves o l a b → IsKeeping o l a → IsKeeping o l b
+IsKeeping-moves o l a b (Rests s) k = k
+IsKeeping-moves o l a b (Then first mid last moves move) k =
+    IsKeeping-move o l mid last move (IsKeeping-moves o l first mid moves k)
+
+pub Safe-moves : (scheme : Scheme) (o : Origin) (a b : Standing)
+    → IsKeeping o (scheme o.geometry ceiling) a → Moves o (scheme o.geometry ceiling) a b
+    → IsKeeping o (scheme o.geometry ceiling) b × Safe (reading scheme) o b.kept (doubt_in b.saved b.sealed) b.device
+Safe-moves scheme o a b k moves =
+    let after : IsKeeping o (scheme o.geometry ceiling) b = IsKeeping-moves o (scheme o.geometry ceiling) a b moves k in
+    (after, Safe-kept scheme o b.device b.saved b.kept b.sealed after)
+
+-- ---- what a cycle's action spares
+
+pub Spares-action : (places : List ℕ) (action : Action) (n : Device) → LeavesAlone places action → Spares places n (after action n)
+Spares-action places Rest n alone = Spares-same places n n refl
+Spares-action places (ReadAt place) n alone = Spares-same places n n refl
+Spares-action places (WriteAt place block) n alone = Spares-written places place block n (written_to n place block) alone refl
+Spares-action places Barrier n alone = Spares-settled places n (settled n) refl
+Spares-action places Drain n alone = Spares-drained places n (drained n) refl
+
+pub Spares-failed_action : (places : List ℕ) (action : Action) (n new : Device)
+    → LeavesAlone places action → FailsTo action n new → IsFramed n new → Spares places n new
+Spares-failed_action places Rest n new alone failed framed = absurd failed
+Spares-failed_action places (ReadAt place) n new alone failed framed = Spares-failed places n new failed framed
+Spares-failed_action places (WriteAt place block) n new alone failed framed = Spares-failed_to_write places place block n new alone failed framed
+Spares-failed_action places Barrier n new alone failed framed = Spares-failed places n new failed framed
+Spares-failed_action places Drain n new alone failed framed = Spares-failed places n new failed framed

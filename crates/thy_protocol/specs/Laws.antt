@@ -1,0 +1,79 @@
+-- What holds of every layout, and of a run's checkpoints in it.
+use Rattle.std.specs.Prelude.{◌≡◌, ◌⊎◌, ℕ, true, List, [], length, Option, Some, None}
+use Rattle.thy_base.specs.declared.block.Block.{Block}
+use Rattle.thy_base.specs.declared.mark.Mark.{Mark}
+use Rattle.thy_base.specs.Device.{Device, block_at, IsCut, IsFramed}
+use Rattle.thy_isa.specs.Step.{State}
+use Rattle.thy_record.specs.Commit.{is_zero}
+use Rattle.thy_record.specs.Decoded.{Nothing, At}
+use Rattle.thy_crash.specs.Saved.{Saved, Kept, IsCopy}
+use Rattle.thy_crash.specs.Spares.{Spares}
+use Rattle.thy_view.specs.Action.{Action, after, FailsTo}
+use Rattle.thy_view.specs.Origin.{Origin}
+use Rattle.thy_view.specs.Safe.{ceiling, Safe}
+use Rattle.thy_protocol.specs.Layout.{Layout, Scheme, decode_by, reading, looked_by, IsWhole}
+use Rattle.thy_protocol.specs.Keeps.{Keeps, Tells, doubt_in}
+use Rattle.thy_protocol.specs.Moves.{Standing, IsKeeping, Moves, LeavesAlone}
+
+-- ---- layouts
+
+-- a copy of an image, at all places that tell what it means, means the same
+abbrev pub LookedDecides : Type 0
+LookedDecides = (l : Layout) (h g : List Block) → IsCopy (looked_by l) h g → decode_by l g ≡ decode_by l h
+
+-- and the same places tell it
+abbrev pub CopiesLookAlike : Type 0
+CopiesLookAlike = (l : Layout) (h g : List Block) → IsCopy (looked_by l) h g → looked_by l g ≡ looked_by l h
+
+-- an image means nothing exactly where its commit block is zero
+abbrev pub ZeroIsNothing : Type 0
+ZeroIsNothing = (l : Layout) (g : List Block) → is_zero (block_at g 1) ≡ true → decode_by l g ≡ Nothing
+
+abbrev pub NothingIsZero : Type 0
+NothingIsZero = (l : Layout) (g : List Block) → decode_by l g ≡ Nothing → is_zero (block_at g 1) ≡ true
+
+-- it means an epoch and a state exactly where it is whole
+abbrev pub WholeDecodes : Type 0
+WholeDecodes = (l : Layout) (g : List Block) (epoch : ℕ) (state : State) → IsWhole l g epoch state → decode_by l g ≡ At epoch state
+
+abbrev pub DecodedIsWhole : Type 0
+DecodedIsWhole = (l : Layout) (g : List Block) (epoch : ℕ) (state : State) → decode_by l g ≡ At epoch state → IsWhole l g epoch state
+
+-- ---- checkpoints
+
+-- whatever a cut leaves is the checkpoint that is kept, whole, or the one in doubt
+abbrev pub KeptIsSafe : Type 0
+KeptIsSafe =
+    (scheme : Scheme) (o : Origin) (n : Device) (s : Saved) (kept sealed : Option Mark)
+    → Keeps o (scheme o.geometry ceiling) n s kept sealed → Safe (reading scheme) o kept (doubt_in s sealed) n
+
+-- after any number of moves too
+abbrev pub MovesAreSafe : Type 0
+MovesAreSafe =
+    (scheme : Scheme) (o : Origin) (a b : Standing)
+    → IsKeeping o (scheme o.geometry ceiling) a → Moves o (scheme o.geometry ceiling) a b
+    → IsKeeping o (scheme o.geometry ceiling) b × Safe (reading scheme) o b.kept (doubt_in b.saved b.sealed) b.device
+
+-- a cut leaves a device that keeps the checkpoint that was kept, or the one in doubt
+abbrev pub CutKeeps : Type 0
+CutKeeps =
+    (o : Origin) (l : Layout) (s : Saved) (kept sealed : Option Mark) (pick : ℕ) (old new : Device)
+    → Keeps o l old s kept sealed → IsCut pick old new
+    → Keeps o l new (Kept new.image) kept None
+    ⊎ ((m : Mark) × (doubt_in s sealed ≡ Some m) × Keeps o l new (Kept new.image) (Some m) None)
+
+-- a device with an empty queue keeps the checkpoint of its image, as one that was fitted
+abbrev pub EmptyKeeps : Type 0
+EmptyKeeps =
+    (o : Origin) (l : Layout) (n : Device) (kept sealed : Option Mark)
+    → length n.image ≡ l.image_blocks → n.queue ≡ [] → Tells o l n.image kept → Keeps o l n (Kept n.image) kept sealed
+
+-- ---- what a cycle's action spares
+
+abbrev pub ActionSpares : Type 0
+ActionSpares = (places : List ℕ) (action : Action) (n : Device) → LeavesAlone places action → Spares places n (after action n)
+
+abbrev pub FailedActionSpares : Type 0
+FailedActionSpares =
+    (places : List ℕ) (action : Action) (n new : Device)
+    → LeavesAlone places action → FailsTo action n new → IsFramed n new → Spares places n new

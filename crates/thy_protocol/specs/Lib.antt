@@ -1,0 +1,5 @@
+pub mod Layout
+pub mod Keeps
+pub mod Moves
+pub mod Alternating
+pub mod Laws

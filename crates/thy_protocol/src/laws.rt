@@ -1,0 +1,40 @@
+//! The laws, each the contract of a function that does nothing.
+ghost use Rattle.thy_protocol.specs.Laws.{LookedDecides, CopiesLookAlike, ZeroIsNothing, NothingIsZero, WholeDecodes, DecodedIsWhole, KeptIsSafe, MovesAreSafe, CutKeeps, EmptyKeeps, ActionSpares, FailedActionSpares};
+
+/// A copy of an image, at all places that tell what it means, means the same, and the same places tell it.
+pub fn copies_mean_the_same()
+    ensures means { LookedDecides }
+    ensures looked { CopiesLookAlike }
+{}
+
+/// An image means nothing exactly where its commit block is zero, and an epoch and a state exactly where it is whole.
+pub fn whole_images_decode()
+    ensures zero { ZeroIsNothing }
+    ensures nothing { NothingIsZero }
+    ensures whole { WholeDecodes }
+    ensures decoded { DecodedIsWhole }
+{}
+
+/// Whatever a cut leaves is the checkpoint that is kept, whole, or the one in doubt.
+pub fn what_is_kept_is_safe()
+    ensures { KeptIsSafe }
+{}
+
+/// So it is after any number of moves: calls that spare the guarded places, a seal, the barrier behind the writes of a
+/// checkpoint, its commit block, and the barrier behind that.
+pub fn moves_are_safe()
+    ensures { MovesAreSafe }
+{}
+
+/// A cut leaves a device that keeps the checkpoint that was kept, or the one in doubt. One with an empty queue keeps
+/// that of its image.
+pub fn a_cut_keeps()
+    ensures cut { CutKeeps }
+    ensures empty { EmptyKeeps }
+{}
+
+/// An action of a cycle that writes none of some places spares them, whether or not it fails.
+pub fn actions_spare()
+    ensures done { ActionSpares }
+    ensures failed { FailedActionSpares }
+{}

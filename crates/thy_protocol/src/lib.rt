@@ -1,0 +1,13 @@
+//! Checkpoints on a device, for every layout of the NVM: what an image means, which checkpoints a power cut may leave,
+//! and how the next one takes the place of the last.
+//!
+//! A layout says where an image has its checkpoint and what that means; it is a record of functions. The laws of thy_crash
+//! then say what is left of a run's checkpoints by each call, in the marks that the machine shows.
+#![tactic(auto)]
+
+mod laws;
+
+pub use laws::{
+    a_cut_keeps, actions_spare, copies_mean_the_same, moves_are_safe, what_is_kept_is_safe,
+    whole_images_decode,
+};
