@@ -1,12 +1,13 @@
 -- What is saved after each call, and what a cut leaves of it.
-use Rattle.std.proofs.Common.{◌≡◌, ◌⊎◌, ℕ, List, [], ◌∷◌, ◌++◌, length, Contains, refl, sym, ◌∙◌, ap, subst, inl, inr}
+use Rattle.std.proofs.Common.{◌≡◌, ◌≢◌, ◌⊎◌, ℕ, ◌<◌, arith, List, [], ◌∷◌, ◌++◌, length, Contains, refl, sym, ◌∙◌, ap, subst, inl, inr}
 use Rattle.std.proofs.lemmas.Bool.{cases_eq}
+use Rattle.std.proofs.lemmas.List.{length-set, get_or-set_same, get_or-set_other}
 use Rattle.std.proofs.lemmas.List.Elements.{Contains-push, Contains-append_left, Contains-append_right}
 use Rattle.thy_base.specs.declared.block.Block.{Block}
-use Rattle.thy_base.specs.Device.{Device, Crash, HoldsNoMoreBut, HasFailedToWrite, IsCut, IsFramed, block_at, settled, written_to}
-use Rattle.thy_base.proofs.DeviceLemmas.{no_more_but-written_to, length-settled, length-written_to}
+use Rattle.thy_base.specs.Device.{Device, Crash, HoldsNoMoreBut, HasFailedToWrite, IsCut, IsFramed, zero_block, block_at, applied, newest, settled, written_to}
+use Rattle.thy_base.proofs.DeviceLemmas.{block_at-applied, length-applied, no_more_but-written_to, length-settled, length-written_to}
 use Rattle.thy_crash.specs.Fixed.{IsFixed, IsEither, Reads}
-use Rattle.thy_crash.specs.Saved.{Looking, Stands, IsIssued, Saved, Kept, Ready, InDoubt, IsKept, IsReady, IsInDoubt, IsSaved, guarded, IsCopy, IsLeft}
+use Rattle.thy_crash.specs.Saved.{Looking, Stands, IsIssued, next_image, Saved, Kept, Ready, InDoubt, IsKept, IsReady, IsInDoubt, IsSaved, guarded, IsCopy, IsLeft}
 use Rattle.thy_crash.specs.Spares.{Spares}
 use Rattle.thy_crash.proofs.FixedLemmas.{block_at-fixed, IsFixed-empty, IsFixed-settled}
 use Rattle.thy_crash.proofs.SparesLemmas.{Spares-settled}
@@ -97,6 +98,24 @@ IsSaved-spared looked (InDoubt before next) old new h spares =
     }
 
 -- ---- how a checkpoint is made
+
+pub next_image-reads : (commit : Block) (n : Device) (x : ℕ) → x < length n.image → x ≢ 1 → block_at (next_image n commit) x ≡ newest n x
+next_image-reads commit n x inside other =
+    get_or-set_other (applied n.image n.queue) 1 x commit zero_block other ∙ block_at-applied n.image n.queue x inside
+
+pub next_image-commit : (commit : Block) (n : Device) → 1 < length n.image → block_at (next_image n commit) 1 ≡ commit
+next_image-commit commit n inside =
+    get_or-set_same (applied n.image n.queue) 1 commit zero_block (omega (arith, length-applied n.image n.queue))
+
+pub IsIssued-next_image : (looked : Looking) (commit : Block) (n : Device)
+    → ((x : ℕ) → Contains (looked (next_image n commit)) x → x < length n.image) → IsIssued looked n (next_image n commit)
+IsIssued-next_image looked commit n all_inside = record {
+  as_long = sym (length-set (applied n.image n.queue) 1 commit ∙ length-applied n.image n.queue);
+  each = λ x here other. record {
+    inside = all_inside x here;
+    newest_is = sym (next_image-reads commit n x (all_inside x here) other);
+  };
+}
 
 pub IsReady-settled : (looked : Looking) (before next : List Block) (old new : Device)
     → IsKept looked old before → IsIssued looked old next → new ≡ settled old → IsReady looked new before next

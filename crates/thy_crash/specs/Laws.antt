@@ -1,9 +1,9 @@
 -- What power cuts leave, for every layout of checkpoints.
 use Rattle.std.specs.Prelude.{◌≡◌, ◌≢◌, ℕ, ◌<◌, List, [], Contains, length}
 use Rattle.thy_base.specs.declared.block.Block.{Block}
-use Rattle.thy_base.specs.Device.{Device, Crash, block_at, drained, settled, written_to, IsCut, IsFramed, HasFailed, HasFailedToWrite}
+use Rattle.thy_base.specs.Device.{Device, Crash, block_at, newest, drained, settled, written_to, IsCut, IsFramed, HasFailed, HasFailedToWrite}
 use Rattle.thy_crash.specs.Fixed.{IsFixed, Reads}
-use Rattle.thy_crash.specs.Saved.{Looking, IsIssued, Saved, Kept, Ready, InDoubt, IsSaved, guarded, IsLeft}
+use Rattle.thy_crash.specs.Saved.{Looking, IsIssued, next_image, Saved, Kept, Ready, InDoubt, IsSaved, guarded, IsLeft}
 use Rattle.thy_crash.specs.Spares.{Spares}
 
 -- ---- what a cut leaves
@@ -96,7 +96,23 @@ BarrierEndsDoubt =
     → IsSaved looked old (InDoubt before next) → Reads old 1 (block_at next 1) → new ≡ settled old
     → IsSaved looked new (Kept next)
 
--- ---- what is read meanwhile
+-- ---- what is written meanwhile
+
+-- the image that all writes make is issued, where its places are on the device
+abbrev pub NextIsIssued : Type 0
+NextIsIssued =
+    (looked : Looking) (commit : Block) (n : Device)
+    → ((x : ℕ) → Contains (looked (next_image n commit)) x → x < length n.image)
+    → IsIssued looked n (next_image n commit)
+
+-- its blocks are those that are read
+abbrev pub NextHasReads : Type 0
+NextHasReads =
+    (commit : Block) (n : Device) (x : ℕ) → x < length n.image → x ≢ 1 → block_at (next_image n commit) x ≡ newest n x
+
+-- but for its commit block
+abbrev pub NextHasCommit : Type 0
+NextHasCommit = (commit : Block) (n : Device) → 1 < length n.image → block_at (next_image n commit) 1 ≡ commit
 
 -- a write is read at its place
 abbrev pub WriteIsRead : Type 0

@@ -1,8 +1,8 @@
 -- A checkpoint is a whole image, the one to be found after a power cut. A part of its places, those looked at, tell
 -- what it means; the commit block, place 1, tells which image it is.
-use Rattle.std.specs.Prelude.{◌≡◌, ◌≢◌, ◌⊎◌, ℕ, List, ◌∷◌, ◌++◌, Contains, length}
+use Rattle.std.specs.Prelude.{◌≡◌, ◌≢◌, ◌⊎◌, ℕ, List, ◌∷◌, ◌++◌, Contains, length, slice_set}
 use Rattle.thy_base.specs.declared.block.Block.{Block}
-use Rattle.thy_base.specs.Device.{Device, block_at}
+use Rattle.thy_base.specs.Device.{Device, block_at, applied}
 use Rattle.thy_crash.specs.Fixed.{IsFixed, IsEither, Reads}
 
 -- which places of an image tell what it means
@@ -18,6 +18,10 @@ pub record Stands (looked : Looking) (n : Device) (h : List Block) : Type 0 wher
 pub record IsIssued (looked : Looking) (n : Device) (h : List Block) : Type 0 where
   pub as_long : length n.image ≡ length h
   pub each : (x : ℕ) → Contains (looked h) x → x ≢ 1 → Reads n x (block_at h x)
+
+-- the image that all writes of a device make, with this commit block
+abbrev pub next_image : Device → Block → List Block
+next_image n commit = slice_set (applied n.image n.queue) 1 commit
 
 -- which images a device may have after a cut
 pub data Saved : Type 0 where

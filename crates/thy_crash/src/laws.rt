@@ -1,5 +1,5 @@
 //! The laws, each the contract of a function that does nothing.
-ghost use Rattle.thy_crash.specs.Laws.{CutLeavesCopy, CutIsKept, EmptyIsKept, SparedStays, SameSpares, BothSpare, PartIsSpared, DrainSpares, BarrierSpares, WriteSpares, FailureSpares, FailedWriteSpares, BarrierMakesReady, CommitLeavesDoubt, FailedCommitLeavesDoubt, BarrierEndsDoubt, WriteIsRead, WriteKeepsRead, DrainKeepsRead, BarrierKeepsRead, FixedIsRead};
+ghost use Rattle.thy_crash.specs.Laws.{CutLeavesCopy, CutIsKept, EmptyIsKept, SparedStays, SameSpares, BothSpare, PartIsSpared, DrainSpares, BarrierSpares, WriteSpares, FailureSpares, FailedWriteSpares, BarrierMakesReady, CommitLeavesDoubt, FailedCommitLeavesDoubt, BarrierEndsDoubt, NextIsIssued, NextHasReads, NextHasCommit, WriteIsRead, WriteKeepsRead, DrainKeepsRead, BarrierKeepsRead, FixedIsRead};
 
 /// A cut leaves a copy of the image that is kept, at all places that tell what it means; in doubt, of one of the two.
 pub fn a_cut_leaves_a_copy()
@@ -47,6 +47,14 @@ pub fn a_commit_leaves_doubt()
 /// The barrier behind it ends the doubt: the next image is kept.
 pub fn a_barrier_ends_the_doubt()
     ensures { BarrierEndsDoubt }
+{}
+
+/// The image that all writes make, with a commit block, is issued: a barrier makes it ready. Its blocks are those that
+/// are read.
+pub fn what_is_written_is_issued()
+    ensures issued { NextIsIssued }
+    ensures reads { NextHasReads }
+    ensures commit { NextHasCommit }
 {}
 
 /// What was written is read until its place is written again; and what a cut leaves for sure is read.
