@@ -67,11 +67,11 @@ meaning_nothing l header commit slot memory z =
     ap (λ t. if t then Nothing else refused_or_at (fault_of l header commit slot) (epoch_of commit) (l.state_from slot memory)) z
 
 -- which places are looked at
-looked_nothing : (l : Layout) (h : List Block) → is_zero (block_at h 1) ≡ true → looked_by l h ≡ 1 ∷ []
+pub looked_nothing : (l : Layout) (h : List Block) → is_zero (block_at h 1) ≡ true → looked_by l h ≡ 1 ∷ []
 unfolding looked_by
 looked_nothing l h z = ap (λ t. if t then 1 ∷ [] else parts_of l h) z
 
-looked_parts : (l : Layout) (h : List Block) → is_zero (block_at h 1) ≡ false → looked_by l h ≡ parts_of l h
+pub looked_parts : (l : Layout) (h : List Block) → is_zero (block_at h 1) ≡ false → looked_by l h ≡ parts_of l h
 unfolding looked_by
 looked_parts l h z = ap (λ t. if t then 1 ∷ [] else parts_of l h) z
 

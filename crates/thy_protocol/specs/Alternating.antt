@@ -1,18 +1,22 @@
 -- A layout of two copies: each has the processor's record and behind it all of memory, and checkpoints go into them
 -- in turn. It shows that what is asked of layouts can be met.
-use Rattle.std.specs.Prelude.{◌≡◌, ℕ, ◌+◌, ◌*◌, ◌%◌, ◌^◌, ◌<◌, ◌≤◌, true, if◌then◌else◌, List, Some, None}
+use Rattle.std.specs.Prelude.{◌≡◌, ℕ, ◌+◌, ◌*◌, ◌%◌, ◌^◌, ◌<◌, ◌≤◌, true, if◌then◌else◌, List, [], length, replicate, Some, None}
 use Rattle.thy_base.specs.declared.block.Block.{Block}
 use Rattle.thy_base.specs.declared.config.Parameters.{Parameters}
-use Rattle.thy_base.specs.Device.{block_at}
-use Rattle.thy_base.specs.Geometry.{memory_blocks}
+use Rattle.thy_base.specs.Device.{Device, block_at, zero_block}
+use Rattle.thy_base.specs.Geometry.{IsInRange, memory_blocks}
 use Rattle.thy_isa.specs.declared.state.CpuState.{CpuState}
 use Rattle.thy_record.specs.declared.image.BadImage.TheVariants.{Header}
 use Rattle.thy_record.specs.Commit.{is_zero, epoch_of, commit_of, commit_fault}
 use Rattle.thy_record.specs.Cpu.{IsRecordOf, IsRecordable, cpu_of_record, record_fault}
 use Rattle.thy_record.specs.Decoded.{At}
 use Rattle.thy_record.specs.Flat.{state_from}
+use Rattle.thy_crash.specs.Saved.{Kept}
+use Rattle.thy_view.specs.Origin.{Origin}
 use Rattle.thy_view.specs.Safe.{ceiling}
+use Rattle.thy_view.specs.Views.{mark}
 use Rattle.thy_protocol.specs.Layout.{Scheme, slot_in, memory_in, decode_by}
+use Rattle.thy_protocol.specs.Moves.{standing, IsKeeping, Moves}
 
 -- how many blocks a copy has
 abbrev pub copy_blocks : Parameters → ℕ
@@ -40,6 +44,22 @@ alternating p ceiling = record {
 abbrev pub WrittenDecodes : Type 0
 WrittenDecodes =
     (p : Parameters) (ceiling : ℕ) (cpu : CpuState) (epoch : ℕ) (g : List Block)
-    → IsRecordable p ceiling cpu → ceiling ≤ 2 ^ 64 → epoch < ceiling
+    → IsInRange p → IsRecordable p ceiling cpu → ceiling ≤ 2 ^ 64 → epoch < ceiling
     → is_zero (block_at g 0) ≡ true → block_at g 1 ≡ commit_of epoch → IsRecordOf cpu epoch (slot_in (alternating p ceiling) g)
     → decode_by (alternating p ceiling) g ≡ At epoch (state_from p cpu (memory_in (alternating p ceiling) g))
+
+-- from a device some moves lead to the checkpoint of the start, as that of epoch 0
+pub record CommitsStart (o : Origin) (n : Device) : Type 0 where
+  pub next : List Block
+  pub new : Device
+  pub begins : IsKeeping o (alternating o.geometry ceiling) (standing n (Kept n.image) None None)
+  pub moves : Moves o (alternating o.geometry ceiling) (standing n (Kept n.image) None None)
+      (standing new (Kept next) (Some (mark 0 o.start.count)) None)
+
+-- a device of zeros, with nothing queued, is such a one
+abbrev pub StartIsCommitted : Type 0
+StartIsCommitted =
+    (o : Origin) (cpu : CpuState) (memory : List Block) (n : Device)
+    → IsInRange o.geometry → o.kept ≡ None → o.start ≡ state_from o.geometry cpu memory
+    → IsRecordable o.geometry ceiling cpu → length memory ≡ memory_blocks o.geometry
+    → n.image ≡ replicate (2 + 2 * copy_blocks o.geometry) zero_block → n.queue ≡ [] → CommitsStart o n

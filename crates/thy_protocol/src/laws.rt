@@ -1,4 +1,5 @@
 //! The laws, each the contract of a function that does nothing.
+ghost use Rattle.thy_protocol.specs.Alternating.{WrittenDecodes, StartIsCommitted};
 ghost use Rattle.thy_protocol.specs.Laws.{LookedDecides, CopiesLookAlike, ZeroIsNothing, NothingIsZero, WholeDecodes, DecodedIsWhole, KeptIsSafe, MovesAreSafe, CutKeeps, EmptyKeeps, ActionSpares, FailedActionSpares};
 
 /// A copy of an image, at all places that tell what it means, means the same, and the same places tell it.
@@ -37,4 +38,11 @@ pub fn a_cut_keeps()
 pub fn actions_spare()
     ensures done { ActionSpares }
     ensures failed { FailedActionSpares }
+{}
+
+/// There is such a layout, of two copies in turn: what is written into one decodes to what was written, and from a
+/// device of zeros moves lead to the checkpoint of the start.
+pub fn a_layout_of_two_copies_serves()
+    ensures decodes { WrittenDecodes }
+    ensures commits { StartIsCommitted }
 {}
