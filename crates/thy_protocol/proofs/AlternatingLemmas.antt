@@ -2,6 +2,7 @@
 use Rattle.std.proofs.Common.{◌≡◌, ℕ, zero, suc, ◌+◌, ◌-◌, ◌*◌, ◌^◌, ◌<◌, ◌≤◌, true, if◌then◌else◌, List, [], ◌∷◌, ◌++◌, length, map, replicate, Contains, Option, Some, None, refl, sym, ◌∙◌, ap, subst, inl, arith}
 use Rattle.std.specs.List.{range_with_len, All}
 use Rattle.std.specs.Option.{option_or}
+use Rattle.std.proofs.lemmas.Bool.{eq-eqb}
 use Rattle.std.proofs.lemmas.List.{get_or-drop, get_or-map, get_or_append_left, length-append, length-replicate, length-map, ext_get_or, get_or-replicate}
 use Rattle.std.proofs.lemmas.List.FromFn.{length-map-range_with_len, get_or-map-range_with_len}
 use Rattle.std.proofs.lemmas.List.Elements.{All-nil, All-cons, All-append, All-map, All-contains}
@@ -19,7 +20,7 @@ use Rattle.thy_record.specs.Commit.{is_zero, epoch_of, commit_of, commit_fault}
 use Rattle.thy_record.specs.Cpu.{IsRecordOf, IsRecordable, record_of, record_fault}
 use Rattle.thy_record.specs.Decoded.{At}
 use Rattle.thy_record.specs.Flat.{state_from}
-use Rattle.thy_record.proofs.ReadBackLemmas.{epoch_of-commit_of, commit_fault-commit_of, is_zero-commit_of, is_zero-zero_block, cpu_of_record-back, record_fault-back, IsRecordOf-record_of}
+use Rattle.thy_record.proofs.ReadBackLemmas.{both, epoch_of-commit_of, commit_fault-commit_of, is_zero-commit_of, is_zero-zero_block, cpu_of_record-back, record_fault-back, IsRecordOf-record_of}
 use Rattle.thy_crash.specs.Saved.{Kept, Ready, InDoubt, IsIssued}
 use Rattle.thy_crash.specs.Spares.{Spares}
 use Rattle.thy_crash.proofs.FixedLemmas.{Reads-written}
@@ -27,7 +28,7 @@ use Rattle.thy_crash.proofs.SavedLemmas.{IsIssued-next_image}
 use Rattle.thy_view.specs.Origin.{Origin, at, setting_of}
 use Rattle.thy_view.specs.Safe.{ceiling}
 use Rattle.thy_view.specs.Views.{mark}
-use Rattle.thy_protocol.specs.Layout.{Layout, slot_in, memory_in, slot_places, memory_places, decode_by, looked_by, parts_of}
+use Rattle.thy_protocol.specs.Layout.{Layout, slot_in, memory_in, is_sized, slot_places, memory_places, decode_by, looked_by, parts_of}
 use Rattle.thy_protocol.specs.Keeps.{IsOf}
 use Rattle.thy_protocol.specs.Moves.{standing, Move, Goes, Seals, Readies, Commits, Confirms, Rests, Then}
 use Rattle.thy_protocol.specs.Alternating.{alternating, copy_blocks, copy_place, CommitsStart}
@@ -41,9 +42,9 @@ all_none a b c h k l = ap (λ x. option_or x (option_or b c)) h ∙ ap (λ x. op
 
 pub decode_by-written : (p : Parameters) (ceiling : ℕ) (cpu : CpuState) (epoch : ℕ) (g : List Block)
     → IsInRange p → IsRecordable p ceiling cpu → ceiling ≤ 2 ^ 64 → epoch < ceiling
-    → is_zero (block_at g 0) ≡ true → block_at g 1 ≡ commit_of epoch → IsRecordOf cpu epoch (slot_in (alternating p ceiling) g)
+    → length g ≡ 2 + 2 * copy_blocks p → is_zero (block_at g 0) ≡ true → block_at g 1 ≡ commit_of epoch → IsRecordOf cpu epoch (slot_in (alternating p ceiling) g)
     → decode_by (alternating p ceiling) g ≡ At epoch (state_from p cpu (memory_in (alternating p ceiling) g))
-decode_by-written p ceiling cpu epoch g range r most below header commit slot =
+decode_by-written p ceiling cpu epoch g range r most below sized header commit slot =
     let l : Layout = alternating p ceiling in
     let room : console_room p < 2 ^ 64 = omega (arith, range.console_most) in
     let small : epoch < 2 ^ 64 = omega arith in
@@ -51,7 +52,7 @@ decode_by-written p ceiling cpu epoch g range r most below header commit slot =
     decode_by-whole l g epoch (state_from p cpu (memory_in l g)) (record {
       committed = ap is_zero commit ∙ is_zero-commit_of epoch;
       faultless = all_none _ _ _
-          (ap (λ t. if t then None else Some Header) header)
+          (ap (λ t. if t then None else Some Header) (both (is_zero (block_at g 0)) (is_sized l g) header (eq-eqb (length g) (2 + 2 * copy_blocks p) sized)))
           (ap (λ b. commit_fault b ceiling) commit ∙ commit_fault-commit_of epoch ceiling below most)
           (ap (λ x. record_fault (slot_in l g) x p ceiling) e ∙ record_fault-back p ceiling cpu epoch (slot_in l g) r room most small slot);
       of_epoch = e;
@@ -140,7 +141,7 @@ module _ (p : Parameters) (cpu : CpuState) (memory : List Block) (long : length 
 
   decodes_first : IsInRange p → IsRecordable p ceiling cpu → decode_by l first ≡ At 0 (state_from p cpu memory)
   decodes_first range r =
-      decode_by-written p ceiling cpu 0 first range r (omega arith) (omega arith) is_zero-zero_block refl
+      decode_by-written p ceiling cpu 0 first range r (omega arith) (omega arith) length-body is_zero-zero_block refl
       (subst (IsRecordOf cpu 0) (sym slot_first) (IsRecordOf-record_of cpu 0))
       ∙ ap (λ bs. At 0 (state_from p cpu bs)) memory_first
 

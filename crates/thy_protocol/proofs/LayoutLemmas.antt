@@ -1,5 +1,5 @@
 -- What an image means, by its parts; and that copies mean the same.
-use Rattle.std.proofs.Common.{◌≡◌, ℕ, Bool, true, false, if◌then◌else◌, List, [], ◌∷◌, ◌++◌, Contains, Option, Some, None, refl, sym, ◌∙◌, ap, subst}
+use Rattle.std.proofs.Common.{◌≡◌, ◌==◌, ℕ, Bool, true, false, if◌then◌else◌, List, [], ◌∷◌, ◌++◌, Contains, Option, Some, None, refl, sym, ◌∙◌, ap, subst}
 use Rattle.std.proofs.lemmas.List.Elements.{Contains-push, Contains-append_left, Contains-append_right}
 use Rattle.thy_base.specs.declared.block.Block.{Block}
 use Rattle.thy_base.specs.Device.{block_at}
@@ -8,7 +8,7 @@ use Rattle.thy_record.specs.declared.image.BadImage.{BadImage}
 use Rattle.thy_record.specs.Commit.{is_zero, epoch_of}
 use Rattle.thy_record.specs.Decoded.{Nothing, At}
 use Rattle.thy_crash.specs.Saved.{IsCopy}
-use Rattle.thy_protocol.specs.Layout.{Layout, blocks_at, slot_places, memory_places, slot_in, memory_in, fault_of, refused_or_at, meaning_of, decode_by, parts_of, looked_by, IsWhole}
+use Rattle.thy_protocol.specs.Layout.{Layout, blocks_at, slot_places, memory_places, slot_in, memory_in, is_sized, fault_of, fault_in, refused_or_at, meaning_of, decode_by, parts_of, looked_by, IsWhole}
 
 -- ---- copies
 
@@ -55,16 +55,16 @@ module _ (l : Layout) (h g : List Block) where
       ∙ ap (λ places. 0 ∷ 1 ∷ (slot_places l (block_at h 1) ++ places)) (places_same commit slot)
 
 -- what the parts mean, part by part
-meaning_same : (l : Layout) (a header b commit : Block) (s slot m memory : List Block)
-    → a ≡ header → b ≡ commit → s ≡ slot → m ≡ memory → meaning_of l a b s m ≡ meaning_of l header commit slot memory
-meaning_same l a header b commit s slot m memory e f g h =
-    ap (λ x. meaning_of l x b s m) e ∙ ap (λ x. meaning_of l header x s m) f
-    ∙ ap (λ x. meaning_of l header commit x m) g ∙ ap (λ x. meaning_of l header commit slot x) h
+meaning_same : (l : Layout) (z sized : Bool) (a header b commit : Block) (s slot m memory : List Block)
+    → z ≡ sized → a ≡ header → b ≡ commit → s ≡ slot → m ≡ memory → meaning_of l z a b s m ≡ meaning_of l sized header commit slot memory
+meaning_same l z sized a header b commit s slot m memory d e f g h =
+    ap (λ x. meaning_of l x a b s m) d ∙ ap (λ x. meaning_of l sized x b s m) e ∙ ap (λ x. meaning_of l sized header x s m) f
+    ∙ ap (λ x. meaning_of l sized header commit x m) g ∙ ap (λ x. meaning_of l sized header commit slot x) h
 
 -- without a checkpoint the other parts do not matter
-meaning_nothing : (l : Layout) (header commit : Block) (slot memory : List Block) → is_zero commit ≡ true → meaning_of l header commit slot memory ≡ Nothing
-meaning_nothing l header commit slot memory z =
-    ap (λ t. if t then Nothing else refused_or_at (fault_of l header commit slot) (epoch_of commit) (l.state_from slot memory)) z
+meaning_nothing : (l : Layout) (sized : Bool) (header commit : Block) (slot memory : List Block) → is_zero commit ≡ true → meaning_of l sized header commit slot memory ≡ Nothing
+meaning_nothing l sized header commit slot memory z =
+    ap (λ t. if t then Nothing else refused_or_at (fault_of l sized header commit slot) (epoch_of commit) (l.state_from slot memory)) z
 
 -- which places are looked at
 pub looked_nothing : (l : Layout) (h : List Block) → is_zero (block_at h 1) ≡ true → looked_by l h ≡ 1 ∷ []
@@ -81,12 +81,12 @@ agree_parts l h g z c = subst (Agree l h g) (looked_parts l h z) c.each
 copies_mean : (l : Layout) (h g : List Block) (zero : Bool) → is_zero (block_at h 1) ≡ zero → IsCopy (looked_by l) h g → decode_by l g ≡ decode_by l h
 unfolding decode_by
 copies_mean l h g true z c =
-    meaning_nothing l (block_at g 0) (block_at g 1) (slot_in l g) (memory_in l g) (ap is_zero c.commit ∙ z)
-    ∙ sym (meaning_nothing l (block_at h 0) (block_at h 1) (slot_in l h) (memory_in l h) z)
+    meaning_nothing l (is_sized l g) (block_at g 0) (block_at g 1) (slot_in l g) (memory_in l g) (ap is_zero c.commit ∙ z)
+    ∙ sym (meaning_nothing l (is_sized l h) (block_at h 0) (block_at h 1) (slot_in l h) (memory_in l h) z)
 copies_mean l h g false z c =
     let same = agree_parts l h g z c in
-    meaning_same l (block_at g 0) (block_at h 0) (block_at g 1) (block_at h 1) (slot_in l g) (slot_in l h) (memory_in l g) (memory_in l h)
-    (header_same l h g same) c.commit (slot_same l h g c.commit same) (memory_same l h g c.commit same)
+    meaning_same l (is_sized l g) (is_sized l h) (block_at g 0) (block_at h 0) (block_at g 1) (block_at h 1) (slot_in l g) (slot_in l h) (memory_in l g) (memory_in l h)
+    (ap (λ k. k == l.image_blocks) c.as_long) (header_same l h g same) c.commit (slot_same l h g c.commit same) (memory_same l h g c.commit same)
 
 pub decode_by-copy : (l : Layout) (h g : List Block) → IsCopy (looked_by l) h g → decode_by l g ≡ decode_by l h
 decode_by-copy l h g c = copies_mean l h g (is_zero (block_at h 1)) refl c
@@ -105,7 +105,7 @@ looked_by-copy l h g c = copies_look l h g (is_zero (block_at h 1)) refl c
 
 pub decode_by-zero : (l : Layout) (g : List Block) → is_zero (block_at g 1) ≡ true → decode_by l g ≡ Nothing
 unfolding decode_by
-decode_by-zero l g z = meaning_nothing l (block_at g 0) (block_at g 1) (slot_in l g) (memory_in l g) z
+decode_by-zero l g z = meaning_nothing l (is_sized l g) (block_at g 0) (block_at g 1) (slot_in l g) (memory_in l g) z
 
 whole_means : (zero : Bool) (fault : Option BadImage) (e epoch : ℕ) (s state : State)
     → zero ≡ false → fault ≡ None → e ≡ epoch → s ≡ state → (if zero then Nothing else refused_or_at fault e s) ≡ At epoch state
@@ -115,7 +115,7 @@ whole_means zero fault e epoch s state a b c d =
 pub decode_by-whole : (l : Layout) (g : List Block) (epoch : ℕ) (state : State) → IsWhole l g epoch state → decode_by l g ≡ At epoch state
 unfolding decode_by
 decode_by-whole l g epoch state w =
-    whole_means (is_zero (block_at g 1)) (fault_of l (block_at g 0) (block_at g 1) (slot_in l g)) (epoch_of (block_at g 1)) epoch
+    whole_means (is_zero (block_at g 1)) (fault_in l g) (epoch_of (block_at g 1)) epoch
     (l.state_from (slot_in l g) (memory_in l g)) state w.committed w.faultless w.of_epoch w.state_is
 
 nothing_back : (zero : Bool) (fault : Option BadImage) (epoch : ℕ) (state : State)
@@ -134,12 +134,12 @@ at_back false (Some bad) epoch found state other h = cc
 pub decode_by-nothing_back : (l : Layout) (g : List Block) → decode_by l g ≡ Nothing → is_zero (block_at g 1) ≡ true
 unfolding decode_by
 decode_by-nothing_back l g h =
-    nothing_back (is_zero (block_at g 1)) (fault_of l (block_at g 0) (block_at g 1) (slot_in l g)) (epoch_of (block_at g 1))
+    nothing_back (is_zero (block_at g 1)) (fault_in l g) (epoch_of (block_at g 1))
     (l.state_from (slot_in l g) (memory_in l g)) h
 
 pub decode_by-whole_back : (l : Layout) (g : List Block) (epoch : ℕ) (state : State) → decode_by l g ≡ At epoch state → IsWhole l g epoch state
 unfolding decode_by
 decode_by-whole_back l g epoch state h =
-    let found = at_back (is_zero (block_at g 1)) (fault_of l (block_at g 0) (block_at g 1) (slot_in l g)) (epoch_of (block_at g 1)) epoch
+    let found = at_back (is_zero (block_at g 1)) (fault_in l g) (epoch_of (block_at g 1)) epoch
     (l.state_from (slot_in l g) (memory_in l g)) state h in
     record { committed = found.0; faultless = found.1; of_epoch = found.2; state_is = found.3 }

@@ -1,6 +1,6 @@
 -- A layout of two copies: each has the processor's record and behind it all of memory, and checkpoints go into them
 -- in turn. It shows that what is asked of layouts can be met.
-use Rattle.std.specs.Prelude.{◌≡◌, ℕ, ◌+◌, ◌*◌, ◌%◌, ◌^◌, ◌<◌, ◌≤◌, true, if◌then◌else◌, List, [], length, replicate, Some, None}
+use Rattle.std.specs.Prelude.{◌≡◌, ℕ, ◌+◌, ◌*◌, ◌%◌, ◌^◌, ◌<◌, ◌≤◌, ◌&&◌, true, if◌then◌else◌, List, [], length, replicate, Some, None}
 use Rattle.thy_base.specs.declared.block.Block.{Block}
 use Rattle.thy_base.specs.declared.config.Parameters.{Parameters}
 use Rattle.thy_base.specs.Device.{Device, block_at, zero_block}
@@ -34,7 +34,7 @@ alternating p ceiling = record {
   slot_place = λ commit. copy_place p (epoch_of commit);
   slot_blocks = λ commit. 5;
   place = λ commit slot i. copy_place p (epoch_of commit) + 5 + i;
-  header_bad = λ header. if is_zero header then None else Some Header;
+  header_bad = λ header sized. if is_zero header && sized then None else Some Header;
   commit_bad = λ header commit. commit_fault commit ceiling;
   slot_bad = λ commit slot. record_fault slot (epoch_of commit) p ceiling;
   state_from = λ slot memory. state_from p (cpu_of_record slot) memory;
@@ -45,7 +45,7 @@ abbrev pub WrittenDecodes : Type 0
 WrittenDecodes =
     (p : Parameters) (ceiling : ℕ) (cpu : CpuState) (epoch : ℕ) (g : List Block)
     → IsInRange p → IsRecordable p ceiling cpu → ceiling ≤ 2 ^ 64 → epoch < ceiling
-    → is_zero (block_at g 0) ≡ true → block_at g 1 ≡ commit_of epoch → IsRecordOf cpu epoch (slot_in (alternating p ceiling) g)
+    → length g ≡ 2 + 2 * copy_blocks p → is_zero (block_at g 0) ≡ true → block_at g 1 ≡ commit_of epoch → IsRecordOf cpu epoch (slot_in (alternating p ceiling) g)
     → decode_by (alternating p ceiling) g ≡ At epoch (state_from p cpu (memory_in (alternating p ceiling) g))
 
 -- from a device some moves lead to the checkpoint of the start, as that of epoch 0

@@ -1,5 +1,5 @@
 -- Layouts of the NVM: where an image has its checkpoint, and what that means.
-use Rattle.std.specs.Prelude.{◌≡◌, ℕ, false, if◌then◌else◌, List, [], ◌∷◌, ◌++◌, map, Option, Some, None}
+use Rattle.std.specs.Prelude.{◌≡◌, ◌==◌, ℕ, Bool, false, if◌then◌else◌, List, [], ◌∷◌, ◌++◌, length, map, Option, Some, None}
 use Rattle.std.specs.List.{range_with_len}
 use Rattle.std.specs.Option.{option_or}
 use Rattle.thy_base.specs.declared.block.Block.{Block}
@@ -21,8 +21,9 @@ pub record Layout : Type 0 where
   pub slot_blocks : Block → ℕ
   -- where block i of memory stands, by the commit block and the blocks of its slot
   pub place : Block → List Block → ℕ → ℕ
-  -- the first fault of a header, of a commit block behind a header, and of the slot of a commit block
-  pub header_bad : Block → Option BadImage
+  -- the first fault of a header, where the image has that many blocks or not; of a commit block behind a header; and of
+  -- the slot of a commit block
+  pub header_bad : Block → Bool → Option BadImage
   pub commit_bad : Block → Block → Option BadImage
   pub slot_bad : Block → List Block → Option BadImage
   -- the state that the blocks of slot and memory make
@@ -54,10 +55,18 @@ memory_in l g = blocks_at g (memory_places l (block_at g 1) (slot_in l g))
 
 -- ---- what an image means
 
+-- an image has as many blocks as the layout says
+abbrev pub is_sized : Layout → List Block → Bool
+is_sized l g = length g == l.image_blocks
+
 -- the first fault of header, commit block and slot
-abbrev pub fault_of : Layout → Block → Block → List Block → Option BadImage
-fault_of l header commit slot =
-    option_or (l.header_bad header) (option_or (l.commit_bad header commit) (l.slot_bad commit slot))
+abbrev pub fault_of : Layout → Bool → Block → Block → List Block → Option BadImage
+fault_of l sized header commit slot =
+    option_or (l.header_bad header sized) (option_or (l.commit_bad header commit) (l.slot_bad commit slot))
+
+-- of an image
+abbrev pub fault_in : Layout → List Block → Option BadImage
+fault_in l g = fault_of l (is_sized l g) (block_at g 0) (block_at g 1) (slot_in l g)
 
 -- a refusal where there is a fault, else the state
 abbrev pub refused_or_at : Option BadImage → ℕ → State → Decoded
@@ -65,13 +74,13 @@ refused_or_at None epoch state = At epoch state
 refused_or_at (Some bad) epoch state = Refused bad
 
 -- what the parts of an image mean; with a commit block of zeros there is no checkpoint
-abbrev pub meaning_of : Layout → Block → Block → List Block → List Block → Decoded
-meaning_of l header commit slot memory =
+abbrev pub meaning_of : Layout → Bool → Block → Block → List Block → List Block → Decoded
+meaning_of l sized header commit slot memory =
     if is_zero commit then Nothing
-    else refused_or_at (fault_of l header commit slot) (epoch_of commit) (l.state_from slot memory)
+    else refused_or_at (fault_of l sized header commit slot) (epoch_of commit) (l.state_from slot memory)
 
 unfoldable pub decode_by : Layout → List Block → Decoded
-decode_by l g = meaning_of l (block_at g 0) (block_at g 1) (slot_in l g) (memory_in l g)
+decode_by l g = meaning_of l (is_sized l g) (block_at g 0) (block_at g 1) (slot_in l g) (memory_in l g)
 
 -- how images of a scheme are read
 abbrev pub reading : Scheme → Reading
@@ -88,6 +97,6 @@ looked_by l h = if is_zero (block_at h 1) then 1 ∷ [] else parts_of l h
 -- an image is the checkpoint of an epoch, with this state
 pub record IsWhole (l : Layout) (h : List Block) (epoch : ℕ) (state : State) : Type 0 where
   pub committed : is_zero (block_at h 1) ≡ false
-  pub faultless : fault_of l (block_at h 0) (block_at h 1) (slot_in l h) ≡ None
+  pub faultless : fault_in l h ≡ None
   pub of_epoch : epoch_of (block_at h 1) ≡ epoch
   pub state_is : l.state_from (slot_in l h) (memory_in l h) ≡ state
