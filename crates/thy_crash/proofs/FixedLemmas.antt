@@ -1,10 +1,11 @@
 -- What is fixed at a place, and what is read there, after each call.
-use Rattle.std.proofs.Common.{◌≡◌, ◌≢◌, ℕ, ◌<◌, List, [], ◌∷◌, length, Contains, sym, ◌∙◌, subst, arith}
+use Rattle.std.proofs.Common.{◌≡◌, ◌≢◌, ℕ, ◌+◌, ◌<◌, List, [], ◌∷◌, length, Contains, sym, ◌∙◌, subst, inl, inr, arith}
+use Rattle.std.proofs.lemmas.Bool.{cases_eq}
 use Rattle.thy_base.specs.declared.block.Block.{Block}
 use Rattle.thy_base.specs.declared.nvm.Write.{Write}
 use Rattle.thy_base.specs.Device.{Device, Crash, block_at, queued_for, applied, newest, drained, settled, written_to}
 use Rattle.thy_base.proofs.DeviceLemmas.{same_as_only, block_at-applied, Contains-newest_over, newest-drained, newest-settled, newest-written_to, newest-written_to_other, length-drained, length-settled, length-written_to}
-use Rattle.thy_crash.specs.Fixed.{IsFixed, Reads}
+use Rattle.thy_crash.specs.Fixed.{IsFixed, Reads, ReadsFirst}
 
 -- what is fixed is what a cut leaves
 pub block_at-fixed : (n : Device) (g : List Block) (x : ℕ) (b : Block) → IsFixed n x b → Crash n g → block_at g x ≡ b
@@ -53,3 +54,28 @@ Reads-settled x b old new r e = subst (λ (n : Device). Reads n x b) (sym e) (re
   inside = omega (arith, length-settled old, r.inside);
   newest_is = newest-settled old x r.inside ∙ r.newest_is;
 })
+
+-- ---- blocks in a row
+
+pub ReadsFirst-elsewhere : (x : ℕ) (blocks : ℕ → Block) (k at : ℕ) (block : Block) (old new : Device)
+    → ReadsFirst old x blocks k → ((i : ℕ) → i < k → x + i ≢ at) → new ≡ written_to old at block → ReadsFirst new x blocks k
+ReadsFirst-elsewhere x blocks k at block old new r other e = record {
+  each = λ i l. Reads-elsewhere (x + i) (blocks i) at block old new (r.each i l) (other i l) e;
+}
+
+pub ReadsFirst-drained : (x : ℕ) (blocks : ℕ → Block) (k : ℕ) (old new : Device)
+    → ReadsFirst old x blocks k → new ≡ drained old → ReadsFirst new x blocks k
+ReadsFirst-drained x blocks k old new r e = record {
+  each = λ i l. Reads-drained (x + i) (blocks i) old new (r.each i l) e;
+}
+
+pub ReadsFirst-more : (x : ℕ) (blocks : ℕ → Block) (k : ℕ) (old new : Device)
+    → ReadsFirst old x blocks k → x + k < length old.image → new ≡ written_to old (x + k) (blocks k) → ReadsFirst new x blocks (k + 1)
+ReadsFirst-more x blocks k old new r inside e =
+    let before = ReadsFirst-elsewhere x blocks k (x + k) (blocks k) old new r (λ i l same. omega arith) e in
+    record {
+      each = λ i l. elim (cases_eq i k) as (λ _. Reads new (x + i) (blocks i)) [
+        | inl is ↦ subst (λ (j : ℕ). Reads new (x + j) (blocks j)) (sym is) (Reads-written (x + k) (blocks k) old new inside e)
+        | inr other ↦ before.each i (omega arith)
+      ];
+    }

@@ -1,5 +1,5 @@
 -- What a power cut leaves at one place, and what a read gives there.
-use Rattle.std.specs.Prelude.{◌≡◌, ◌⊎◌, ℕ, ◌<◌, Contains, length}
+use Rattle.std.specs.Prelude.{◌≡◌, ◌⊎◌, ℕ, ◌+◌, ◌<◌, Contains, length}
 use Rattle.thy_base.specs.declared.block.Block.{Block}
 use Rattle.thy_base.specs.Device.{Device, possible, newest}
 
@@ -15,3 +15,7 @@ pub record IsEither (n : Device) (x : ℕ) (a b : Block) : Type 0 where
 pub record Reads (n : Device) (x : ℕ) (b : Block) : Type 0 where
   pub inside : x < length n.image
   pub newest_is : newest n x ≡ b
+
+-- reads of k places, from x on, give the first k of these blocks
+pub record ReadsFirst (n : Device) (x : ℕ) (blocks : ℕ → Block) (k : ℕ) : Type 0 where
+  pub each : (i : ℕ) → i < k → Reads n (x + i) (blocks i)

@@ -1,8 +1,8 @@
 -- What power cuts leave, for every layout of checkpoints.
-use Rattle.std.specs.Prelude.{◌≡◌, ◌≢◌, ℕ, ◌<◌, List, [], Contains, length}
+use Rattle.std.specs.Prelude.{◌≡◌, ◌≢◌, ℕ, ◌+◌, ◌<◌, List, [], Contains, length}
 use Rattle.thy_base.specs.declared.block.Block.{Block}
 use Rattle.thy_base.specs.Device.{Device, Crash, block_at, newest, drained, settled, written_to, IsCut, IsFramed, HasFailed, HasFailedToWrite}
-use Rattle.thy_crash.specs.Fixed.{IsFixed, Reads}
+use Rattle.thy_crash.specs.Fixed.{IsFixed, Reads, ReadsFirst}
 use Rattle.thy_crash.specs.Saved.{Looking, IsIssued, next_image, Saved, Kept, Ready, InDoubt, IsSaved, guarded, IsLeft}
 use Rattle.thy_crash.specs.Spares.{Spares}
 
@@ -135,3 +135,22 @@ BarrierKeepsRead = (x : ℕ) (b : Block) (old new : Device) → Reads old x b �
 -- what a cut leaves for sure is read
 abbrev pub FixedIsRead : Type 0
 FixedIsRead = (x : ℕ) (b : Block) (n : Device) → IsFixed n x b → x < length n.image → Reads n x b
+
+-- blocks that are written in turn are read, from the first on
+abbrev pub NextWriteIsRead : Type 0
+NextWriteIsRead =
+    (x : ℕ) (blocks : ℕ → Block) (k : ℕ) (old new : Device)
+    → ReadsFirst old x blocks k → x + k < length old.image → new ≡ written_to old (x + k) (blocks k)
+    → ReadsFirst new x blocks (k + 1)
+
+-- and stay so where none of their places is written
+abbrev pub WriteKeepsFirst : Type 0
+WriteKeepsFirst =
+    (x : ℕ) (blocks : ℕ → Block) (k at : ℕ) (block : Block) (old new : Device)
+    → ReadsFirst old x blocks k → ((i : ℕ) → i < k → x + i ≢ at) → new ≡ written_to old at block
+    → ReadsFirst new x blocks k
+
+abbrev pub DrainKeepsFirst : Type 0
+DrainKeepsFirst =
+    (x : ℕ) (blocks : ℕ → Block) (k : ℕ) (old new : Device)
+    → ReadsFirst old x blocks k → new ≡ drained old → ReadsFirst new x blocks k

@@ -1,5 +1,5 @@
 //! The laws, each the contract of a function that does nothing.
-ghost use Rattle.thy_crash.specs.Laws.{CutLeavesCopy, CutIsKept, EmptyIsKept, SparedStays, SameSpares, BothSpare, PartIsSpared, DrainSpares, BarrierSpares, WriteSpares, FailureSpares, FailedWriteSpares, BarrierMakesReady, CommitLeavesDoubt, FailedCommitLeavesDoubt, BarrierEndsDoubt, NextIsIssued, NextHasReads, NextHasCommit, WriteIsRead, WriteKeepsRead, DrainKeepsRead, BarrierKeepsRead, FixedIsRead};
+ghost use Rattle.thy_crash.specs.Laws.{CutLeavesCopy, CutIsKept, EmptyIsKept, SparedStays, SameSpares, BothSpare, PartIsSpared, DrainSpares, BarrierSpares, WriteSpares, FailureSpares, FailedWriteSpares, BarrierMakesReady, CommitLeavesDoubt, FailedCommitLeavesDoubt, BarrierEndsDoubt, NextIsIssued, NextHasReads, NextHasCommit, WriteIsRead, WriteKeepsRead, DrainKeepsRead, BarrierKeepsRead, FixedIsRead, NextWriteIsRead, WriteKeepsFirst, DrainKeepsFirst};
 
 /// A cut leaves a copy of the image that is kept, at all places that tell what it means; in doubt, of one of the two.
 pub fn a_cut_leaves_a_copy()
@@ -64,4 +64,11 @@ pub fn reads_stay()
     ensures drain { DrainKeepsRead }
     ensures barrier { BarrierKeepsRead }
     ensures fixed { FixedIsRead }
+{}
+
+/// Blocks that are written in turn, at places in a row, are read as far as they were written.
+pub fn blocks_are_written_in_turn()
+    ensures next { NextWriteIsRead }
+    ensures elsewhere { WriteKeepsFirst }
+    ensures drain { DrainKeepsFirst }
 {}

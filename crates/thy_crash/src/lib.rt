@@ -9,6 +9,6 @@ mod laws;
 
 pub use laws::{
     a_barrier_ends_the_doubt, a_barrier_makes_ready, a_commit_leaves_doubt, a_cut_leaves_a_copy,
-    calls_spare, reads_stay, spared_stays, sparing_adds_up, what_is_left_is_kept,
-    what_is_written_is_issued,
+    blocks_are_written_in_turn, calls_spare, reads_stay, spared_stays, sparing_adds_up,
+    what_is_left_is_kept, what_is_written_is_issued,
 };

@@ -1,5 +1,5 @@
 -- A layout of two copies: what is written decodes, and a first checkpoint can be made.
-use Rattle.std.proofs.Common.{◌≡◌, ℕ, zero, suc, ◌+◌, ◌-◌, ◌*◌, ◌^◌, ◌<◌, ◌≤◌, true, if◌then◌else◌, List, [], ◌∷◌, ◌++◌, length, map, replicate, Contains, Option, Some, None, refl, sym, ◌∙◌, ap, subst, inl, arith}
+use Rattle.std.proofs.Common.{◌≡◌, ℕ, zero, suc, ◌+◌, ◌*◌, ◌^◌, ◌<◌, ◌≤◌, true, if◌then◌else◌, List, [], ◌∷◌, ◌++◌, length, map, replicate, Contains, Option, Some, None, refl, sym, ◌∙◌, ap, subst, inl, arith}
 use Rattle.std.specs.List.{range_with_len, All}
 use Rattle.std.specs.Option.{option_or}
 use Rattle.std.proofs.lemmas.Bool.{eq-eqb}
@@ -13,7 +13,6 @@ use Rattle.thy_base.specs.Geometry.{IsInRange, memory_blocks, console_room}
 use Rattle.thy_base.proofs.DeviceLemmas.{same_as_only, length-settled}
 use Rattle.thy_base.proofs.CrashLemmas.{Contains-stands}
 use Rattle.thy_isa.specs.declared.state.CpuState.{CpuState}
-use Rattle.thy_isa.specs.Step.{steps}
 use Rattle.thy_record.specs.declared.image.BadImage.{BadImage}
 use Rattle.thy_record.specs.declared.image.BadImage.TheVariants.{Header}
 use Rattle.thy_record.specs.Commit.{is_zero, epoch_of, commit_of, commit_fault}
@@ -25,7 +24,7 @@ use Rattle.thy_crash.specs.Saved.{Kept, Ready, InDoubt, IsIssued}
 use Rattle.thy_crash.specs.Spares.{Spares}
 use Rattle.thy_crash.proofs.FixedLemmas.{Reads-written}
 use Rattle.thy_crash.proofs.SavedLemmas.{IsIssued-next_image}
-use Rattle.thy_view.specs.Origin.{Origin, at, setting_of}
+use Rattle.thy_view.specs.Origin.{Origin}
 use Rattle.thy_view.specs.Safe.{ceiling}
 use Rattle.thy_view.specs.Views.{mark}
 use Rattle.thy_protocol.specs.Layout.{Layout, slot_in, memory_in, is_sized, slot_places, memory_places, decode_by, looked_by, parts_of}
@@ -33,7 +32,7 @@ use Rattle.thy_protocol.specs.Keeps.{IsOf}
 use Rattle.thy_protocol.specs.Moves.{standing, Move, Goes, Seals, Readies, Commits, Confirms, Rests, Then}
 use Rattle.thy_protocol.specs.Alternating.{alternating, copy_blocks, copy_place, CommitsStart}
 use Rattle.thy_protocol.proofs.LayoutLemmas.{decode_by-whole, decode_by-zero, looked_nothing, looked_parts}
-use Rattle.thy_protocol.proofs.KeepsLemmas.{Keeps-empty}
+use Rattle.thy_protocol.proofs.KeepsLemmas.{at-start, Keeps-empty}
 
 -- ---- what is written decodes
 
@@ -146,12 +145,6 @@ module _ (p : Parameters) (cpu : CpuState) (memory : List Block) (long : length 
       ∙ ap (λ bs. At 0 (state_from p cpu bs)) memory_first
 
 -- ---- the moves that make it
-
-at-start : (o : Origin) → at o o.start.count ≡ o.start
-unfolding at steps
-at-start o =
-    let e : o.start.count - o.start.count ≡ 0 = omega arith in
-    ap (λ k. steps (setting_of o) k o.start) e
 
 -- a device with this image in place of one without a checkpoint, whose commit block's place is as it was
 filled : Device → List Block → Device

@@ -1,5 +1,5 @@
 -- Which checkpoints a device keeps, after each move and after a cut; and that they are all that a cut may leave.
-use Rattle.std.proofs.Common.{◌≡◌, ◌⊎◌, ℕ, List, [], length, Option, Some, None, refl, sym, ◌∙◌, ap, subst, inl, inr}
+use Rattle.std.proofs.Common.{◌≡◌, ◌⊎◌, ℕ, ◌-◌, List, [], length, Option, Some, None, refl, sym, ◌∙◌, ap, subst, inl, inr, arith}
 use Rattle.thy_base.specs.declared.block.Block.{Block}
 use Rattle.thy_base.specs.declared.mark.Mark.{Mark}
 use Rattle.thy_base.specs.Device.{Device, Crash, IsCut, IsFramed, block_at, settled, written_to, drained}
@@ -11,11 +11,14 @@ use Rattle.thy_crash.specs.Spares.{Spares}
 use Rattle.thy_crash.proofs.SavedLemmas.{left_of_saved, IsKept-cut, IsKept-empty, IsSaved-spared, IsReady-settled, IsInDoubt-written, IsInDoubt-failed, IsKept-settled}
 use Rattle.thy_crash.proofs.SparesLemmas.{Spares-same, Spares-drained, Spares-settled, Spares-written, Spares-failed, Spares-failed_to_write}
 use Rattle.thy_view.specs.Action.{Action, Rest, ReadAt, WriteAt, Barrier, Drain, after, FailsTo}
-use Rattle.thy_view.specs.Origin.{Origin, at}
+use Rattle.thy_isa.specs.Step.{steps}
+use Rattle.thy_view.proofs.SafeLemmas.{Safe-doubt}
+use Rattle.thy_view.specs.Booting.{boot_view, found_first, view_of_image}
+use Rattle.thy_view.specs.Origin.{Origin, IsOrigin, StartsFrom, setting_of, at}
 use Rattle.thy_view.specs.Safe.{ceiling, Safe, IsOneOf}
 use Rattle.thy_view.specs.Views.{mark}
 use Rattle.thy_protocol.specs.Layout.{Layout, Scheme, decode_by, reading, looked_by}
-use Rattle.thy_protocol.specs.Keeps.{IsOf, Tells, TellsNext, TellsAll, Keeps, doubt_in}
+use Rattle.thy_protocol.specs.Keeps.{IsOf, Tells, TellsNext, TellsAll, Keeps, doubt_in, finding_view}
 use Rattle.thy_protocol.specs.Moves.{Standing, IsKeeping, CommitsTo, Move, Goes, Seals, Readies, Commits, Confirms, Moves, Rests, Then, LeavesAlone}
 use Rattle.thy_protocol.proofs.LayoutLemmas.{decode_by-copy}
 
@@ -70,6 +73,44 @@ Safe-kept scheme o n s kept sealed k = λ g c.
       | inl old ↦ one_of_kept o l g kept (doubt_in s sealed) old
       | inr new ↦ one_of_mark o kept (doubt_in s sealed) new.0 (decode_by l g) new.2.decodes new.2.counted (inr new.1)
     ]
+
+-- what is safe for the mark in doubt is safe for the sealed one
+safe_for_both : (scheme : Scheme) (o : Origin) (n : Device) (s : Saved) (kept sealed : Option Mark)
+    → Safe (reading scheme) o kept (doubt_in s sealed) n → Safe (reading scheme) o kept sealed n
+safe_for_both scheme o n (Kept before) kept sealed safe = Safe-doubt (reading scheme) o kept sealed n safe
+safe_for_both scheme o n (Ready before next) kept sealed safe = Safe-doubt (reading scheme) o kept sealed n safe
+safe_for_both scheme o n (InDoubt before next) kept sealed safe = safe
+
+pub Safe-sealed : (scheme : Scheme) (o : Origin) (n : Device) (s : Saved) (kept sealed : Option Mark)
+    → Keeps o (scheme o.geometry ceiling) n s kept sealed → Safe (reading scheme) o kept sealed n
+Safe-sealed scheme o n s kept sealed k = safe_for_both scheme o n s kept sealed (Safe-kept scheme o n s kept sealed k)
+
+-- ---- what a boot finds
+
+pub at-start : (o : Origin) → at o o.start.count ≡ o.start
+unfolding at steps
+at-start o =
+    let e : o.start.count - o.start.count ≡ 0 = omega arith in
+    ap (λ k. steps (setting_of o) k o.start) e
+
+IsOf-first : (o : Origin) (l : Layout) (g : List Block) (m : Mark) → m.count ≡ o.start.count → decode_by l g ≡ At m.epoch o.start → IsOf o l g m
+IsOf-first o l g m same decodes =
+    let start : at o m.count ≡ o.start = ap (at o) same ∙ at-start o in
+    record { decodes = decodes ∙ ap (At m.epoch) (sym start); counted = ap (λ s. s.count) start ∙ sym same }
+
+first_told : (o : Origin) (l : Layout) (g : List Block) (kept : Option Mark)
+    → o.kept ≡ kept → StartsFrom kept o.start → decode_by l g ≡ found_first o kept → Tells o l g kept
+first_told o l g None is starts found = (found, is)
+first_told o l g (Some m) is starts found = IsOf-first o l g m starts.0 found
+
+pub Tells-first : (o : Origin) (l : Layout) (g : List Block) → IsOrigin o → decode_by l g ≡ found_first o o.kept → Tells o l g o.kept
+Tells-first o l g origin found = first_told o l g o.kept refl origin.starts found
+
+pub finding_view-told : (o : Origin) (l : Layout) (g : List Block) (kept : Option Mark) (count : ℕ)
+    → Tells o l g kept → view_of_image count (decode_by l g) ≡ finding_view count kept
+finding_view-told o l g None count t = ap (view_of_image count) t.0
+finding_view-told o l g (Some m) count is =
+    ap (view_of_image count) is.decodes ∙ ap (λ k. boot_view (Some (mark m.epoch k)) None) is.counted
 
 pub Keeps-empty : (o : Origin) (l : Layout) (n : Device) (kept sealed : Option Mark)
     → length n.image ≡ l.image_blocks → n.queue ≡ [] → Tells o l n.image kept → Keeps o l n (Kept n.image) kept sealed

@@ -1,10 +1,12 @@
 -- A run's checkpoints on a device: which images a power cut may leave, and which marks they are.
-use Rattle.std.specs.Prelude.{◌≡◌, List, length, Option, Some, None}
+use Rattle.std.specs.Prelude.{◌≡◌, ℕ, List, length, Option, Some, None}
 use Rattle.thy_base.specs.declared.block.Block.{Block}
 use Rattle.thy_base.specs.declared.mark.Mark.{Mark}
 use Rattle.thy_base.specs.Device.{Device}
 use Rattle.thy_record.specs.Decoded.{Nothing, At}
 use Rattle.thy_crash.specs.Saved.{Saved, Kept, Ready, InDoubt, IsSaved}
+use Rattle.thy_view.specs.declared.view.View.{View}
+use Rattle.thy_view.specs.Booting.{boot_view, loading_view}
 use Rattle.thy_view.specs.Origin.{Origin, at}
 use Rattle.thy_protocol.specs.Layout.{Layout, decode_by, looked_by}
 
@@ -39,3 +41,8 @@ abbrev pub doubt_in : Saved → Option Mark → Option Mark
 doubt_in (Kept before) sealed = None
 doubt_in (Ready before next) sealed = None
 doubt_in (InDoubt before next) sealed = sealed
+
+-- the view of a boot over the checkpoint of a mark, or none, where the program is loaded from this count on
+abbrev pub finding_view : ℕ → Option Mark → View
+finding_view count None = loading_view count
+finding_view count (Some m) = boot_view (Some m) None

@@ -9,10 +9,11 @@ use Rattle.thy_record.specs.Decoded.{Nothing, At}
 use Rattle.thy_crash.specs.Saved.{Saved, Kept, IsCopy}
 use Rattle.thy_crash.specs.Spares.{Spares}
 use Rattle.thy_view.specs.Action.{Action, after, FailsTo}
-use Rattle.thy_view.specs.Origin.{Origin}
+use Rattle.thy_view.specs.Booting.{found_first, view_of_image}
+use Rattle.thy_view.specs.Origin.{Origin, IsOrigin}
 use Rattle.thy_view.specs.Safe.{ceiling, Safe}
 use Rattle.thy_protocol.specs.Layout.{Layout, Scheme, decode_by, reading, looked_by, IsWhole}
-use Rattle.thy_protocol.specs.Keeps.{Keeps, Tells, doubt_in}
+use Rattle.thy_protocol.specs.Keeps.{Keeps, Tells, doubt_in, finding_view}
 use Rattle.thy_protocol.specs.Moves.{Standing, IsKeeping, Moves, LeavesAlone}
 
 -- ---- layouts
@@ -47,6 +48,12 @@ KeptIsSafe =
     (scheme : Scheme) (o : Origin) (n : Device) (s : Saved) (kept sealed : Option Mark)
     → Keeps o (scheme o.geometry ceiling) n s kept sealed → Safe (reading scheme) o kept (doubt_in s sealed) n
 
+-- so it is the one kept or the one sealed, which a failed call may leave too
+abbrev pub KeptIsSafeForBoth : Type 0
+KeptIsSafeForBoth =
+    (scheme : Scheme) (o : Origin) (n : Device) (s : Saved) (kept sealed : Option Mark)
+    → Keeps o (scheme o.geometry ceiling) n s kept sealed → Safe (reading scheme) o kept sealed n
+
 -- after any number of moves too
 abbrev pub MovesAreSafe : Type 0
 MovesAreSafe =
@@ -67,6 +74,18 @@ abbrev pub EmptyKeeps : Type 0
 EmptyKeeps =
     (o : Origin) (l : Layout) (n : Device) (kept sealed : Option Mark)
     → length n.image ≡ l.image_blocks → n.queue ≡ [] → Tells o l n.image kept → Keeps o l n (Kept n.image) kept sealed
+
+-- what a run begins with, an image means: nothing, or the checkpoint of its start
+abbrev pub FirstIsTold : Type 0
+FirstIsTold =
+    (o : Origin) (l : Layout) (g : List Block)
+    → IsOrigin o → decode_by l g ≡ found_first o o.kept → Tells o l g o.kept
+
+-- the view of a boot is that of the mark whose checkpoint it finds
+abbrev pub BootShows : Type 0
+BootShows =
+    (o : Origin) (l : Layout) (g : List Block) (kept : Option Mark) (count : ℕ)
+    → Tells o l g kept → view_of_image count (decode_by l g) ≡ finding_view count kept
 
 -- ---- what a cycle's action spares
 

@@ -1,6 +1,6 @@
 //! The laws, each the contract of a function that does nothing.
 ghost use Rattle.thy_protocol.specs.Alternating.{WrittenDecodes, StartIsCommitted};
-ghost use Rattle.thy_protocol.specs.Laws.{LookedDecides, CopiesLookAlike, ZeroIsNothing, NothingIsZero, WholeDecodes, DecodedIsWhole, KeptIsSafe, MovesAreSafe, CutKeeps, EmptyKeeps, ActionSpares, FailedActionSpares};
+ghost use Rattle.thy_protocol.specs.Laws.{LookedDecides, CopiesLookAlike, ZeroIsNothing, NothingIsZero, WholeDecodes, DecodedIsWhole, KeptIsSafe, KeptIsSafeForBoth, FirstIsTold, BootShows, MovesAreSafe, CutKeeps, EmptyKeeps, ActionSpares, FailedActionSpares};
 
 /// A copy of an image, at all places that tell what it means, means the same, and the same places tell it.
 pub fn copies_mean_the_same()
@@ -16,9 +16,17 @@ pub fn whole_images_decode()
     ensures decoded { DecodedIsWhole }
 {}
 
-/// Whatever a cut leaves is the checkpoint that is kept, whole, or the one in doubt.
+/// Whatever a cut leaves is the checkpoint that is kept, whole, or the one in doubt; so it is the one kept or the one
+/// sealed, also where a call failed.
 pub fn what_is_kept_is_safe()
-    ensures { KeptIsSafe }
+    ensures doubt { KeptIsSafe }
+    ensures both { KeptIsSafeForBoth }
+{}
+
+/// A boot shows the mark whose checkpoint it finds; at the beginning of a run, that of its start, if it has one.
+pub fn a_boot_finds_its_mark()
+    ensures first { FirstIsTold }
+    ensures shows { BootShows }
 {}
 
 /// So it is after any number of moves: calls that spare the guarded places, a seal, the barrier behind the writes of a

@@ -8,6 +8,6 @@
 mod laws;
 
 pub use laws::{
-    a_cut_keeps, a_layout_of_two_copies_serves, actions_spare, copies_mean_the_same,
-    moves_are_safe, what_is_kept_is_safe, whole_images_decode,
+    a_boot_finds_its_mark, a_cut_keeps, a_layout_of_two_copies_serves, actions_spare,
+    copies_mean_the_same, moves_are_safe, what_is_kept_is_safe, whole_images_decode,
 };
