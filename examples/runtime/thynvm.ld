@@ -1,0 +1,24 @@
+/* Where a program stands in the memory of thynvm: from the default base, 65536, on. The machine's loader takes
+   the two segments; the heap begins behind them, at the break, and the stack comes down from the end of memory. */
+ENTRY(_start)
+
+PHDRS
+{
+    code PT_LOAD FLAGS(5);
+    data PT_LOAD FLAGS(6);
+}
+
+SECTIONS
+{
+    . = 65536;
+    .text : { *(.text.start) *(.text .text.*) } :code
+    .rodata : { *(.rodata .rodata.* .srodata .srodata.*) } :code
+    . = ALIGN(4096);
+    .data : { *(.data .data.*) } :data
+    .tdata : { __thread_pointer = .; *(.tdata .tdata.*) } :data
+    .tbss (NOLOAD) : { *(.tbss .tbss.*) } :data
+    . = . + SIZEOF(.tbss);
+    .sdata : { __global_pointer$ = . + 0x800; *(.sdata .sdata.*) } :data
+    .bss (NOLOAD) : { *(.sbss .sbss.*) *(.bss .bss.*) *(COMMON) } :data
+    /DISCARD/ : { *(.comment) *(.riscv.attributes) *(.eh_frame .eh_frame.*) *(.note .note.*) *(.init .fini .init_array .fini_array) }
+}
