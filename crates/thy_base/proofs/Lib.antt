@@ -1,3 +1,4 @@
+pub mod BlockLemmas
 pub mod CrashLemmas
 pub mod DemandLemmas
 pub mod DeviceLemmas

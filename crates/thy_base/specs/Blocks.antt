@@ -1,12 +1,16 @@
--- Bytes written into blocks.
-use Rattle.std.specs.Prelude.{ℕ, List, slice_set}
+-- The bytes of blocks, and bytes written into blocks.
+use Rattle.std.specs.Prelude.{ℕ, List, ◌++◌, take, replicate, slice_set}
 use Rattle.thy_base.specs.declared.block.Block.{Block}
 use Rattle.thy_base.specs.Bytes.{written}
 use Rattle.thy_base.specs.Device.{block_at}
 
+-- the 64 bytes of a block: each block that code holds has as many, and any other is seen as if it had
+unfoldable pub block_bytes : Block → List ℕ
+block_bytes block = take 64 (block.0 ++ replicate 64 0)
+
 -- a block with a piece written over its bytes from byte j on
 abbrev pub overwritten : ℕ → List ℕ → Block → Block
-overwritten j piece block = record { 0 = written block.0 j piece }
+overwritten j piece block = record { 0 = written (block_bytes block) j piece }
 
 -- the blocks with a piece written over the bytes of block k from byte j on
 abbrev pub block_written : List Block → ℕ → ℕ → List ℕ → List Block

@@ -1,4 +1,8 @@
 //! A block: the 64 bytes that a device reads and writes whole.
+ghost use Rattle.std.specs.Prelude.{◌≡◌, ◌+◌, ◌≤◌, length};
+ghost use Rattle.thy_base.specs.Blocks.{block_bytes, overwritten};
+
+use crate::bytes::put_in;
 
 /// How many bytes a block has.
 pub const BLOCK_SIZE: usize = 64;
@@ -11,4 +15,20 @@ pub struct Block(pub [u8; 64]);
 impl Block {
     /// A block of zeros.
     pub const ZERO: Block = Block([0; 64]);
+
+    /// Its bytes.
+    pub fn bytes(&self) -> &[u8]
+        ensures bytes { result.now ≡ block_bytes self.now }
+        ensures len { length result.now ≡ 64 }
+    {
+        &self.0
+    }
+
+    /// Writes a piece over its bytes from `at` on.
+    pub fn put(&mut self, at: usize, piece: &[u8])
+        requires { at + length piece.now ≤ 64 }
+        ensures { self.new ≡ overwritten at piece.now self.old }
+    {
+        put_in(&mut self.0, at, piece);
+    }
 }

@@ -112,7 +112,8 @@ impl Bytes {
     }
 }
 
-fn put_in(items: &mut [u8], at: usize, piece: &[u8])
+/// Writes a piece over the bytes from `at` on.
+pub(crate) fn put_in(items: &mut [u8], at: usize, piece: &[u8])
     requires { at + length piece.now ≤ length items.old }
     ensures { items.new ≡ written items.old at piece.now }
 {

@@ -251,6 +251,6 @@ fn overwritten(block: Block, at: usize, bytes: &[u8]) -> Block
     ensures { result ≡ overwritten at bytes.now block }
 {
     let mut block = block;
-    block.0[at..at + bytes.len()].copy_from_slice(bytes);
+    block.put(at, bytes);
     block
 }

@@ -1,0 +1,19 @@
+-- A list of blocks as a list of bytes.
+use Rattle.std.specs.Prelude.{ℕ, List, take, drop}
+use Rattle.std.specs.List.{flat_map}
+use Rattle.thy_base.specs.declared.block.Block.{Block}
+use Rattle.thy_base.specs.declared.config.Parameters.{Parameters}
+use Rattle.thy_base.specs.Blocks.{block_bytes}
+use Rattle.thy_base.specs.Geometry.{program_size}
+
+-- the bytes of a list of blocks, 64 of each
+unfoldable pub flat : List Block → List ℕ
+flat blocks = flat_map block_bytes blocks
+
+-- program memory
+abbrev pub memory_bytes : Parameters → List Block → List ℕ
+memory_bytes p blocks = take (program_size p) (flat blocks)
+
+-- the first n bytes of the console's pages, which follow program memory
+abbrev pub console_bytes : Parameters → List Block → ℕ → List ℕ
+console_bytes p blocks n = take n (drop (program_size p) (flat blocks))

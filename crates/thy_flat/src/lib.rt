@@ -1,0 +1,8 @@
+//! A list of blocks as a list of bytes, and the spans of it that one instruction or call moves.
+#![tactic(auto)]
+
+mod piece;
+mod span;
+
+pub use piece::{Piece, gather, put_head, scatter, take_head};
+pub use span::Span;
