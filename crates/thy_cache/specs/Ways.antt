@@ -3,7 +3,7 @@ use Rattle.std.specs.Prelude.{ℕ, ◌<◌, ◌==◌, ◌≡◌, ◌++◌, if◌
 use Rattle.std.specs.List.{range_with_len}
 use Rattle.std.specs.Option.{option_map, option_map_or}
 use Rattle.thy_base.specs.declared.block.Block.{Block}
-use Rattle.thy_base.specs.Bytes.{written}
+use Rattle.thy_base.specs.Blocks.{overwritten}
 use Rattle.thy_cache.specs.declared.line.Line.{Line}
 use Rattle.thy_cache.specs.declared.line.Victim.{Victim}
 use Rattle.thy_cache.specs.declared.line.Victim.TheVariants.{Room, Dirty}
@@ -77,7 +77,7 @@ clean line = record line { dirty = false }
 
 -- a line that was written to from a byte on
 abbrev pub changed : ℕ → List ℕ → Line → Line
-changed at bytes line = record line { block = record { 0 = written line.block.0 at bytes }; dirty = true }
+changed at bytes line = record line { block = overwritten at bytes line.block; dirty = true }
 
 -- a line of a block as its store has it
 abbrev pub fresh_line : ℕ → Block → Line
