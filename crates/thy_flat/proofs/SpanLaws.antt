@@ -2,7 +2,7 @@
 use Rattle.std.proofs.Common.{◌≡◌, ℕ, ◌+◌, ◌-◌, ◌*◌, ◌/◌, ◌%◌, ◌<◌, ◌≤◌, ◌==◌, Bool, true, false, if◌then◌else◌, List, [], ◌++◌, length, take, drop, slice_set, refl, sym, ◌∙◌, ap, inl, inr, arith}
 use Rattle.std.proofs.lemmas.Bool.{cases_lt}
 use Rattle.std.proofs.lemmas.Bool.Decides.{nat_tests}
-use Rattle.std.proofs.lemmas.List.{append-nil, length-append, length-drop, length-set, length-take-le, take_all, take-append-drop, drop-drop, get_or-set_other}
+use Rattle.std.proofs.lemmas.List.{append-nil, nil_from_length, length-append, length-drop, length-set, length-take-le, take_all, take-append-drop, drop-drop, get_or-set_other}
 use Rattle.std.proofs.Math.Seq.{take-add}
 use Rattle.thy_base.specs.declared.block.Block.{Block}
 use Rattle.thy_base.specs.Blocks.{block_bytes, block_written, overwritten}
@@ -78,6 +78,10 @@ gathered-flat blocks s h =
     ∙ sym (take-add n (s.len - n) from)
     ∙ ap (λ k. take k from) rest
 
+-- a span without bytes
+pub gathered-none : (blocks : List Block) (s : Span) → s.len ≡ 0 → gathered blocks s ≡ []
+gathered-none blocks s h = nil_from_length (gathered blocks s) (length-gathered blocks s (omega arith) ∙ h)
+
 -- a span's first block and then the rest
 pub gathered-rest : (blocks : List Block) (s : Span) → s.len ≤ 64 → head_read blocks s ++ gathered blocks (rest_of s) ≡ gathered blocks s
 unfolding gathered
@@ -123,6 +127,18 @@ pub length-scattered : (blocks : List Block) (s : Span) (bytes : List ℕ) → l
 unfolding scattered
 length-scattered blocks s bytes =
     length-head_put (head_put blocks s bytes) (rest_of s) (drop (head_len s) bytes) ∙ length-head_put blocks s bytes
+
+head_put-none : (blocks : List Block) (s : Span) (bytes : List ℕ) → s.len ≡ 0 → head_put blocks s bytes ≡ blocks
+head_put-none blocks s bytes h =
+    if_put (λ new. new ≡ blocks) (s.len == 0) blocks (block_written blocks (first_block s) (first_byte s) (take (head_len s) bytes))
+    (λ _. refl)
+    (λ e. absurd (omega (arith, test_some s.len e)))
+
+-- over a span without bytes nothing is put
+pub scattered-none : (blocks : List Block) (s : Span) (bytes : List ℕ) → s.len ≡ 0 → scattered blocks s bytes ≡ blocks
+unfolding scattered
+scattered-none blocks s bytes h =
+    head_put-none (head_put blocks s bytes) (rest_of s) (drop (head_len s) bytes) (omega arith) ∙ head_put-none blocks s bytes h
 
 -- bytes over a span
 pub flat-scattered : (blocks : List Block) (s : Span) (bytes : List ℕ) → IsSpanOf (length blocks) s → length bytes ≡ s.len

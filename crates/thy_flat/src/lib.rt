@@ -4,5 +4,5 @@
 mod piece;
 mod span;
 
-pub use piece::{Piece, gather, put_head, scatter, take_head};
+pub use piece::{Piece, extend, gather, put_head, scatter, take_head};
 pub use span::Span;

@@ -80,7 +80,7 @@ fn scatter_head(blocks: &mut [Block], span: Span, bytes: &[u8])
 }
 
 /// Adds bytes that fit.
-fn extend(piece: &mut Piece, bytes: &[u8])
+pub fn extend(piece: &mut Piece, bytes: &[u8])
     requires { array_vec_len piece.old + length bytes.now ≤ 64 }
     ensures { piece.new.items ≡ piece.old.items ++ bytes.now }
 {

@@ -1,7 +1,7 @@
+pub mod CallLaws
 pub mod StepLaws
 pub mod NumberBounds
 pub mod MemoryBounds
 pub mod InstrBounds
-pub mod StorableLaws
 pub mod OneRow
 pub mod AccessLaws

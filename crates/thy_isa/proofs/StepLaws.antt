@@ -1,10 +1,9 @@
--- Laws of steps: an ended state stays, the count grows by one at each step of a state that runs, and the console and
--- what only the start sets stay.
+-- Laws of steps: an ended state stays, and the count grows by one at each step of a state that runs.
 use Rattle.std.proofs.Common.{◌≡◌, ℕ, zero, suc, ◌+◌, Bool, true, false, refl, ap, sym, ◌∙◌, arith, add-one, add-suc, add-zero}
 use Rattle.thy_isa.specs.declared.state.Effect.{Effect}
 use Rattle.thy_isa.specs.declared.state.Effect.TheVariants.{Next, Set, Read, Write, Environment, Trap}
 use Rattle.thy_isa.specs.declared.state.Call.{Call}
-use Rattle.thy_isa.specs.declared.state.Call.TheVariants.{Answer, Exit}
+use Rattle.thy_isa.specs.declared.state.Call.TheVariants.{Answer, Exit, Break, Take, Give}
 use Rattle.thy_isa.specs.declared.state.CallState.{CallState}
 use Rattle.thy_isa.specs.declared.state.CpuState.{CpuState}
 use Rattle.thy_isa.specs.Calls.{call_of}
@@ -50,6 +49,9 @@ served-count : (c : CpuState) (k : Call) → (served c k).count ≡ c.count + 1
 unfolding served
 served-count c (Answer v) = refl
 served-count c (Exit v) = refl
+served-count c (Break at) = refl
+served-count c (Take at len) = refl
+served-count c (Give at len) = refl
 
 pub finished-count : (c : CpuState) (e : Effect) (n : ℕ) (k : CallState) → (finished c e n k).count ≡ c.count + 1
 unfolding finished

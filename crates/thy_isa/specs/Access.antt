@@ -1,5 +1,5 @@
 -- Where the effects of instructions read and write.
-use Rattle.std.specs.Prelude.{ℕ, ◌≡◌, ◌+◌, ◌%◌, ◌≤◌}
+use Rattle.std.specs.Prelude.{ℕ, ◌≡◌, ◌+◌, ◌%◌, ◌≤◌, List, length}
 use Rattle.thy_isa.specs.declared.state.Effect.{Effect}
 use Rattle.thy_isa.specs.declared.state.Effect.TheVariants.{Next, Set, Read, Write, Environment, Trap}
 use Rattle.thy_isa.specs.Effects.{size_of}
@@ -21,3 +21,12 @@ IsAligned (Read pc at width extend rd) = at % size_of width ≡ 0
 IsAligned (Write pc at width v) = at % size_of width ≡ 0
 IsAligned Environment = Unit {0}
 IsAligned (Trap c) = Unit {0}
+
+-- an effect that reads a number has read as many bytes as it has
+abbrev pub HasRead : Effect → List ℕ → Type 0
+HasRead (Next pc) bytes = Unit {0}
+HasRead (Set pc rd v) bytes = Unit {0}
+HasRead (Read pc at width extend rd) bytes = size_of width ≤ length bytes
+HasRead (Write pc at width v) bytes = Unit {0}
+HasRead Environment bytes = Unit {0}
+HasRead (Trap c) bytes = Unit {0}

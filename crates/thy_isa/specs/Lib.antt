@@ -6,5 +6,7 @@ pub mod Effects
 pub mod Calls
 pub mod Memory
 pub mod Step
+pub mod Moves
+pub mod OnBlocks
 pub mod Storable
 pub mod Access

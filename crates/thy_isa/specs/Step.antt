@@ -1,5 +1,5 @@
 -- One step of the plain machine, whose memory is one flat list of bytes, and k of them.
-use Rattle.std.specs.Prelude.{ℕ, zero, suc, ◌+◌, ◌-◌, ◌%◌, ◌==◌, Bool, true, false, if◌then◌else◌, List, length, Option, Some, None}
+use Rattle.std.specs.Prelude.{◌≡◌, ℕ, zero, suc, ◌+◌, ◌-◌, ◌%◌, ◌^◌, ◌<◌, ◌==◌, Bool, true, false, if◌then◌else◌, List, ◌++◌, take, drop, length, Option, Some, None}
 use Rattle.thy_base.specs.Bytes.{bytes_of, written}
 use Rattle.thy_base.specs.Inside.{is_inside}
 use Rattle.thy_base.specs.LittleEndian.{number_at, number_bytes}
@@ -10,7 +10,7 @@ use Rattle.thy_isa.specs.declared.state.Cause.TheVariants.{FetchMisaligned, Fetc
 use Rattle.thy_isa.specs.declared.state.Effect.{Effect}
 use Rattle.thy_isa.specs.declared.state.Effect.TheVariants.{Next, Set, Read, Write, Environment, Trap}
 use Rattle.thy_isa.specs.declared.state.Call.{Call}
-use Rattle.thy_isa.specs.declared.state.Call.TheVariants.{Answer, Exit}
+use Rattle.thy_isa.specs.declared.state.Call.TheVariants.{Answer, Exit, Break, Take, Give}
 use Rattle.thy_isa.specs.declared.state.CallState.{CallState}
 use Rattle.thy_isa.specs.declared.state.CpuState.{CpuState}
 use Rattle.thy_isa.specs.declared.state.MachState.{MachState}
@@ -146,19 +146,55 @@ read_by base memory (Write pc at width v) = 0
 read_by base memory Environment = 0
 read_by base memory (Trap c) = 0
 
--- memory after an effect
-unfoldable pub written_by : ℕ → List ℕ → Effect → List ℕ
-written_by base memory (Next pc) = memory
-written_by base memory (Set pc rd v) = memory
-written_by base memory (Read pc at width extend rd) = memory
-written_by base memory (Write pc at width v) = written memory (at - base) (number_bytes (size_of width) v)
-written_by base memory Environment = memory
-written_by base memory (Trap c) = memory
+-- the environment call that the registers name
+abbrev pub call_at : Setting → State → Call
+call_at g s = call_of s.regs (call_state_of g s)
 
--- the rest of the state after an environment call, a0 being x10
+-- memory after a call: what is taken of the input is written there
+unfoldable pub memory_served : Setting → State → Call → List ℕ
+memory_served g s (Answer v) = s.memory
+memory_served g s (Exit v) = s.memory
+memory_served g s (Break at) = s.memory
+memory_served g s (Take at len) = written s.memory (at - g.base) (take len (drop s.cursor g.input))
+memory_served g s (Give at len) = s.memory
+
+-- and the console: what is given is added at its end
+unfoldable pub console_served : Setting → State → Call → List ℕ
+console_served g s (Answer v) = s.console
+console_served g s (Exit v) = s.console
+console_served g s (Break at) = s.console
+console_served g s (Take at len) = s.console
+console_served g s (Give at len) = s.console ++ take len (drop (at - g.base) s.memory)
+
+-- memory after an effect
+unfoldable pub memory_by : Setting → State → Effect → List ℕ
+memory_by g s (Next pc) = s.memory
+memory_by g s (Set pc rd v) = s.memory
+memory_by g s (Read pc at width extend rd) = s.memory
+memory_by g s (Write pc at width v) = written s.memory (at - g.base) (number_bytes (size_of width) v)
+memory_by g s Environment = memory_served g s (call_at g s)
+memory_by g s (Trap c) = s.memory
+
+-- the console after an effect
+unfoldable pub console_by : Setting → State → Effect → List ℕ
+console_by g s (Next pc) = s.console
+console_by g s (Set pc rd v) = s.console
+console_by g s (Read pc at width extend rd) = s.console
+console_by g s (Write pc at width v) = s.console
+console_by g s Environment = console_served g s (call_at g s)
+console_by g s (Trap c) = s.console
+
+-- the rest of the state at the instruction after a call, with the call's answer in a0, which is x10
+abbrev pub answered : CpuState → ℕ → CpuState
+answered c v = record c { pc = after c.pc; regs = regs_with c.regs 10 v; count = c.count + 1 }
+
+-- the rest of the state after a call
 unfoldable pub served : CpuState → Call → CpuState
-served c (Answer v) = record c { pc = after c.pc; regs = regs_with c.regs 10 v; count = c.count + 1 }
+served c (Answer v) = answered c v
 served c (Exit v) = record c { count = c.count + 1; status = Exited v }
+served c (Break at) = record (answered c at) { brk = at }
+served c (Take at len) = record (answered c len) { cursor = c.cursor + len }
+served c (Give at len) = record (answered c len) { console_len = c.console_len + len }
 
 -- the rest of the state after an effect, which has read this number
 unfoldable pub finished : CpuState → Effect → ℕ → CallState → CpuState
@@ -170,10 +206,16 @@ finished c (Write pc at width v) number calls = record c { pc = pc; count = c.co
 finished c Environment number calls = served c (call_of c.regs calls)
 finished c (Trap cause) number calls = record c { count = c.count + 1; status = Trapped (cause_number cause) }
 
+-- what an environment call is decided by fits this rest of a state: its cursor is the same, and its room that of a
+-- console whose length stays a number of 64 bits
+pub record AreCallsOf (c : CpuState) (calls : CallState) : Type 0 where
+  pub cursor : calls.cursor ≡ c.cursor
+  pub room : c.console_len + calls.room < 2 ^ 64
+
 -- a state after an effect
 unfoldable pub performed : Setting → State → Effect → State
 performed g s e =
-    state_with (finished (cpu_of s) e (read_by g.base s.memory e) (call_state_of g s)) (written_by g.base s.memory e) s.console
+    state_with (finished (cpu_of s) e (read_by g.base s.memory e) (call_state_of g s)) (memory_by g s e) (console_by g s e)
 
 -- a step of a state that runs: what the instruction at its program counter does
 unfoldable pub advanced : Setting → State → State

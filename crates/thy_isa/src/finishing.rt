@@ -2,7 +2,8 @@
 #![tactic(auto, unfolding(crate::specs::Step::fetch_fault, crate::specs::Step::within, crate::specs::Step::served, crate::specs::Step::finished))]
 
 ghost use Rattle.std.specs.Prelude.{◌≡◌, ◌+◌, ◌<◌, ◌^◌};
-ghost use Rattle.thy_isa.specs.Step.{fetch_fault, within, cause_number, served, finished};
+ghost use Rattle.thy_isa.specs.Calls.{call_of};
+ghost use Rattle.thy_isa.specs.Step.{fetch_fault, within, cause_number, AreCallsOf, answered, served, finished};
 
 use crate::environment::call;
 use crate::instr::Reg;
@@ -46,25 +47,48 @@ pub fn cause_number(cause: Cause) -> u64
     cause as u64
 }
 
-/// Ends an environment call: its answer in a0, or the end of the program.
-fn serve(cpu: &mut CpuState, call: Call)
+/// The instruction after a call, with the call's answer in a0.
+fn answer(cpu: &mut CpuState, value: u64)
     requires { cpu.old.count + 1 < 2 ^ 64 }
-    ensures { cpu.new ≡ served cpu.old call }
+    ensures { cpu.new ≡ answered cpu.old value }
 {
     cpu.count += 1;
-    match call {
-        Call::Answer(value) => {
-            cpu.pc = after(cpu.pc);
-            cpu.regs.set(Reg::new(10), value);
+    cpu.pc = after(cpu.pc);
+    cpu.regs.set(Reg::new(10), value);
+}
+
+/// Ends an environment call.
+fn serve(cpu: &mut CpuState, calls: &CallState)
+    requires count { cpu.old.count + 1 < 2 ^ 64 }
+    requires calls { AreCallsOf cpu.old calls.now }
+    ensures { cpu.new ≡ served cpu.old (call_of cpu.old.regs calls.now) }
+{
+    match call(&cpu.regs, calls) {
+        Call::Answer(value) => answer(cpu, value),
+        Call::Exit(value) => {
+            cpu.count += 1;
+            cpu.status = Status::Exited(value);
         }
-        Call::Exit(value) => cpu.status = Status::Exited(value),
+        Call::Break(at) => {
+            answer(cpu, at);
+            cpu.brk = at;
+        }
+        Call::Take { len, .. } => {
+            answer(cpu, len);
+            cpu.cursor += len;
+        }
+        Call::Give { len, .. } => {
+            answer(cpu, len);
+            cpu.console_len += len;
+        }
     }
 }
 
 /// Takes an effect, memory aside. `number` is what was read where the effect reads, and `calls` what an
 /// environment call is decided by.
 pub fn finish(cpu: &mut CpuState, effect: &Effect, number: u64, calls: &CallState)
-    requires { cpu.old.count + 1 < 2 ^ 64 }
+    requires count { cpu.old.count + 1 < 2 ^ 64 }
+    requires calls { AreCallsOf cpu.old calls.now }
     ensures { cpu.new ≡ finished cpu.old effect.now number calls.now }
 {
     match *effect {
@@ -84,8 +108,7 @@ pub fn finish(cpu: &mut CpuState, effect: &Effect, number: u64, calls: &CallStat
             cpu.regs.set(rd, extended(width, extend, number));
         }
         Effect::Environment => {
-            let call = call(&cpu.regs, calls);
-            return serve(cpu, call);
+            return serve(cpu, calls);
         }
         Effect::Trap(cause) => cpu.status = Status::Trapped(cause_number(cause)),
     }

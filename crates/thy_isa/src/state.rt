@@ -3,6 +3,7 @@
 use crate::instr::{Extend, Reg, Width};
 use crate::regs::Regs;
 use thy_base::Bytes;
+use thy_flat::Span;
 
 /// Whether the program runs, and else how it ended.
 #[derive(Clone, Copy, Debug, PartialEq, Eq)]
@@ -119,11 +120,32 @@ pub enum Effect {
     Trap(Cause),
 }
 
-/// What an environment call does.
+/// What an environment call does. Every call but an exit goes on after it, with its answer in a0.
 #[derive(Clone, Copy, Debug, PartialEq, Eq)]
 pub enum Call {
-    /// The answer goes into a0, and the program goes on after the call.
+    /// Nothing but this answer.
     Answer(u64),
     /// The program ends with this value of 0 to 255; the program counter and the registers stay.
     Exit(u64),
+    /// The break becomes this address, which is the answer.
+    Break(u64),
+    /// The next `len` bytes of the input go to the address `at`. The answer is `len`, 1 to 64.
+    Take {
+        at: u64,
+        len: u64,
+    },
+    /// The `len` bytes at the address `at` go to the end of the console. The answer is `len`, 1 to 64.
+    Give {
+        at: u64,
+        len: u64,
+    },
+}
+
+/// What an instruction or an environment call moves: the bytes that it reads and those that it writes,
+/// as spans of the blocks of memory, in which the console follows program memory. A span without bytes
+/// stands for none. Every span has at most 64.
+#[derive(Clone, Copy, Debug, PartialEq, Eq)]
+pub struct Moves {
+    pub from: Span,
+    pub to: Span,
 }

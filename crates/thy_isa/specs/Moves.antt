@@ -1,0 +1,68 @@
+-- What an instruction or an environment call moves, as spans of the blocks of memory: the bytes that it reads, and those
+-- that it writes. The blocks of the console follow those of program memory.
+use Rattle.std.specs.Prelude.{ℕ, ◌+◌, ◌-◌, List, [], ◌++◌, take, drop}
+use Rattle.thy_base.specs.LittleEndian.{number_at, number_bytes}
+use Rattle.thy_flat.specs.Spans.{span}
+use Rattle.thy_isa.specs.declared.state.Call.{Call}
+use Rattle.thy_isa.specs.declared.state.Call.TheVariants.{Answer, Exit, Break, Take, Give}
+use Rattle.thy_isa.specs.declared.state.CallState.{CallState}
+use Rattle.thy_isa.specs.declared.state.Effect.{Effect}
+use Rattle.thy_isa.specs.declared.state.Effect.TheVariants.{Next, Set, Read, Write, Environment, Trap}
+use Rattle.thy_isa.specs.declared.state.Moves.{Moves}
+use Rattle.thy_isa.specs.Calls.{call_of}
+use Rattle.thy_isa.specs.Effects.{size_of}
+
+-- nothing is read, and nothing is written
+abbrev pub no_moves : Moves
+no_moves = record { from = span 0 0; to = span 0 0 }
+
+-- these bytes are read
+abbrev pub reads : ℕ → ℕ → Moves
+reads at len = record no_moves { from = span at len }
+
+-- these are written
+abbrev pub writes : ℕ → ℕ → Moves
+writes at len = record no_moves { to = span at len }
+
+-- what a call moves: what is taken is written to memory, what is given is read there and written behind the console's end
+unfoldable pub call_moves : CallState → Call → Moves
+call_moves c (Answer v) = no_moves
+call_moves c (Exit v) = no_moves
+call_moves c (Break at) = no_moves
+call_moves c (Take at len) = writes (at - c.base) len
+call_moves c (Give at len) = record { from = span (at - c.base) len; to = span (c.size + c.console_len) len }
+
+-- what an effect moves, with these registers
+unfoldable pub moves_of : List ℕ → CallState → Effect → Moves
+moves_of x c (Next pc) = no_moves
+moves_of x c (Set pc rd v) = no_moves
+moves_of x c (Read pc at width extend rd) = reads (at - c.base) (size_of width)
+moves_of x c (Write pc at width v) = writes (at - c.base) (size_of width)
+moves_of x c Environment = call_moves c (call_of x c)
+moves_of x c (Trap cause) = no_moves
+
+-- the bytes that a call brings along: those that are taken of the input
+unfoldable pub call_brings : List ℕ → CallState → Call → List ℕ
+call_brings input c (Answer v) = []
+call_brings input c (Exit v) = []
+call_brings input c (Break at) = []
+call_brings input c (Take at len) = take len (drop c.cursor input)
+call_brings input c (Give at len) = []
+
+-- the bytes that an effect brings along: the low bytes of a number that is stored, or a call's
+unfoldable pub brings : List ℕ → List ℕ → CallState → Effect → List ℕ
+brings input x c (Next pc) = []
+brings input x c (Set pc rd v) = []
+brings input x c (Read pc at width extend rd) = []
+brings input x c (Write pc at width v) = number_bytes (size_of width) v
+brings input x c Environment = call_brings input c (call_of x c)
+brings input x c (Trap cause) = []
+
+-- the number that an effect reads, from the bytes that it has read
+unfoldable pub number_in : Effect → List ℕ → ℕ
+number_in (Next pc) bytes = 0
+number_in (Set pc rd v) bytes = 0
+number_in (Read pc at width extend rd) bytes = number_at (size_of width) bytes 0
+number_in (Write pc at width v) bytes = 0
+number_in Environment bytes = 0
+number_in (Trap cause) bytes = 0
