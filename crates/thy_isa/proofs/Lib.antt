@@ -5,3 +5,4 @@ pub mod MemoryBounds
 pub mod InstrBounds
 pub mod OneRow
 pub mod AccessLaws
+pub mod StorableLaws

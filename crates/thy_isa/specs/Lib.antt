@@ -10,3 +10,4 @@ pub mod Moves
 pub mod OnBlocks
 pub mod Storable
 pub mod Access
+pub mod Console

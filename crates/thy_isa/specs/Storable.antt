@@ -3,7 +3,7 @@ use Rattle.std.specs.Prelude.{ℕ, ◌≡◌, ◌<◌, ◌^◌, length, slice_in
 use Rattle.std.specs.List.{All}
 use Rattle.thy_isa.specs.declared.state.Status.{Status}
 use Rattle.thy_isa.specs.declared.state.Status.TheVariants.{Running, Exited, Trapped}
-use Rattle.thy_isa.specs.Step.{State}
+use Rattle.thy_isa.specs.Step.{State, Setting}
 
 -- a number of 64 bits, and a byte
 abbrev pub IsNumber : ℕ → Type 0
@@ -31,3 +31,8 @@ pub record IsStorable (size : ℕ) (s : State) : Type 0 where
   pub brk : IsNumber s.brk
   pub floor : IsNumber s.floor
   pub status : IsStatus s.status
+
+-- an input is of bytes, as many as a number of 64 bits counts
+pub record IsReadable (g : Setting) : Type 0 where
+  pub bytes : All IsByte g.input
+  pub size : IsNumber (length g.input)

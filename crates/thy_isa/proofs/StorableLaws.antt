@@ -1,0 +1,498 @@
+-- A step of a storable state is storable; the console only grows and stays within its room, the cursor stays within the
+-- input, and the size of memory stays.
+use Rattle.std.proofs.Common.{◌≡◌, ℕ, zero, suc, ◌+◌, ◌-◌, ◌%◌, ◌<◌, ◌≤◌, ◌==◌, ◌&&◌, ◌||◌, Bool, true, false, not, nat_le, if◌then◌else◌, List, [], ◌++◌, length, take, drop, get_or, set, Option, Some, None, refl, sym, ap, ◌∙◌, arith, lit<, length-append, length-drop, length-set, get_or-set_other, append-nil, append_assoc}
+use Rattle.std.proofs.lemmas.List.{length-take-le}
+use Rattle.std.specs.List.{All}
+use Rattle.std.proofs.lemmas.Bool.Decides.{nat_tests}
+use Rattle.std.proofs.lemmas.List.Elements.{All-set, All-take, All-drop, All-append}
+use Rattle.thy_base.specs.Inside.{is_inside}
+use Rattle.thy_base.specs.LittleEndian.{number_bytes}
+use Rattle.thy_base.proofs.WrittenLemmas.{length-written}
+use Rattle.thy_isa.specs.declared.state.Status.{Status}
+use Rattle.thy_isa.specs.declared.state.Status.TheVariants.{Exited, Trapped}
+use Rattle.thy_isa.specs.declared.state.Cause.{Cause}
+use Rattle.thy_isa.specs.declared.state.Cause.TheVariants.{FetchMisaligned, FetchAccess, Illegal, Breakpoint, LoadMisaligned, LoadAccess, StoreMisaligned, StoreAccess}
+use Rattle.thy_isa.specs.declared.state.Effect.{Effect}
+use Rattle.thy_isa.specs.declared.state.Effect.TheVariants.{Next, Set, Read, Write, Environment, Trap}
+use Rattle.thy_isa.specs.declared.state.Call.{Call}
+use Rattle.thy_isa.specs.declared.state.Call.TheVariants.{Answer, Exit, Break, Take, Give}
+use Rattle.thy_isa.specs.declared.state.CallState.{CallState}
+use Rattle.thy_isa.specs.declared.state.CpuState.{CpuState}
+use Rattle.thy_isa.specs.Regs.{regs_with}
+use Rattle.thy_isa.specs.Calls.{a0, a1, a2, a7, refusal, few, read_of, write_of, first_sp, break_of, call_of, IsFit}
+use Rattle.thy_isa.specs.Console.{IsGrown}
+use Rattle.thy_isa.specs.Effects.{size_of}
+use Rattle.thy_isa.specs.Step.{State, Setting, cpu_of, call_state_of, cause_number, fetch_fault, within, fetched, word_at, effect_at, read_by, call_at, memory_served, console_served, memory_by, console_by, answered, served, finished, performed, advanced, is_running, step, steps}
+use Rattle.thy_isa.specs.Storable.{IsNumber, IsByte, IsStatus, IsStorable, IsReadable}
+use Rattle.thy_isa.specs.Access.{IsWithin}
+use Rattle.thy_isa.proofs.AccessLaws.{effect_at-within}
+use Rattle.thy_isa.proofs.CallLaws.{if_call, call_of-fit}
+use Rattle.thy_isa.proofs.NumberBounds.{low64_number}
+use Rattle.thy_isa.proofs.MemoryBounds.{anywhere, number_at-number, extended-number, length-number_bytes, number_bytes-bytes, written-bytes}
+use Rattle.thy_isa.proofs.InstrBounds.{EffectNumbers, if_effect, word_effect-numbers}
+
+-- ---- registers
+
+length-regs_with : (x : List ℕ) (r v : ℕ) → length (regs_with x r v) ≡ length x
+length-regs_with x r v = elim (r == 0) as (λ b. length (if b then x else set x r v) ≡ length x) [ true ↦ refl | false ↦ length-set x r v ]
+
+regs_with-numbers : (x : List ℕ) (r v : ℕ) → All IsNumber x → IsNumber v → All IsNumber (regs_with x r v)
+regs_with-numbers x r v h p = elim (r == 0) as (λ b. All IsNumber (if b then x else set x r v)) [ true ↦ h | false ↦ All-set IsNumber x r v p h ]
+
+regs_with-zero : (x : List ℕ) (r v : ℕ) → get_or x 0 0 ≡ 0 → get_or (regs_with x r v) 0 0 ≡ 0
+regs_with-zero x r v h = grind (arith, nat_tests, get_or-set_other)
+
+-- ---- what the rest of a state keeps
+
+-- the part of `IsStorable` that speaks of neither memory nor console
+pub record IsCpu (c : CpuState) : Type 0 where
+  pub pc : IsNumber c.pc
+  pub registers : length c.regs ≡ 32
+  pub numbers : All IsNumber c.regs
+  pub zero_register : get_or c.regs 0 0 ≡ 0
+  pub cursor : IsNumber c.cursor
+  pub brk : IsNumber c.brk
+  pub floor : IsNumber c.floor
+  pub status : IsStatus c.status
+
+with_pc : (c : CpuState) (pc : ℕ) → IsCpu c → IsNumber pc → IsCpu (record c { pc = pc; count = c.count + 1 })
+with_pc c pc h p = record {
+  pc = p;
+  registers = h.registers;
+  numbers = h.numbers;
+  zero_register = h.zero_register;
+  cursor = h.cursor;
+  brk = h.brk;
+  floor = h.floor;
+  status = h.status;
+}
+
+with_register : (c : CpuState) (pc rd v : ℕ) → IsCpu c → IsNumber pc → IsNumber v → IsCpu (record c { pc = pc; regs = regs_with c.regs rd v; count = c.count + 1 })
+with_register c pc rd v h p q = record {
+  pc = p;
+  registers = length-regs_with c.regs rd v ∙ h.registers;
+  numbers = regs_with-numbers c.regs rd v h.numbers q;
+  zero_register = regs_with-zero c.regs rd v h.zero_register;
+  cursor = h.cursor;
+  brk = h.brk;
+  floor = h.floor;
+  status = h.status;
+}
+
+with_status : (c : CpuState) (s : Status) → IsCpu c → IsStatus s → IsCpu (record c { count = c.count + 1; status = s })
+with_status c s h p = record {
+  pc = h.pc;
+  registers = h.registers;
+  numbers = h.numbers;
+  zero_register = h.zero_register;
+  cursor = h.cursor;
+  brk = h.brk;
+  floor = h.floor;
+  status = p;
+}
+
+-- an answer is a number of 64 bits, an exit's value a byte, and so few bytes are moved
+abbrev CallNumbers : Call → Type 0
+CallNumbers (Answer v) = IsNumber v
+CallNumbers (Exit v) = v < 256
+CallNumbers (Break at) = IsNumber at
+CallNumbers (Take at len) = IsNumber len
+CallNumbers (Give at len) = IsNumber len
+
+few_number : (asked left : ℕ) → IsNumber (few asked left)
+few_number asked left = omega arith
+
+read_of-numbers : (descriptor at count : ℕ) (c : CallState) → CallNumbers (read_of descriptor at count c)
+unfolding read_of
+read_of-numbers descriptor at count c =
+    let len = few count (c.input_len - c.cursor) in
+    if_call CallNumbers (not (descriptor == 0)) _ _ (λ _. lit< tt) (λ _.
+    if_call CallNumbers (count == 0) _ _ (λ _. lit< tt) (λ _.
+    if_call CallNumbers (nat_le c.input_len c.cursor) _ _ (λ _. lit< tt) (λ _.
+    if_call CallNumbers (is_inside c.base c.size at len) (Take at len) (Answer (refusal 14)) (λ _. few_number count (c.input_len - c.cursor)) (λ _. lit< tt))))
+
+write_of-numbers : (descriptor at count : ℕ) (c : CallState) → CallNumbers (write_of descriptor at count c)
+unfolding write_of
+write_of-numbers descriptor at count c =
+    let len = few count c.room in
+    if_call CallNumbers (not (descriptor == 1 || descriptor == 2)) _ _ (λ _. lit< tt) (λ _.
+    if_call CallNumbers (count == 0) _ _ (λ _. lit< tt) (λ _.
+    if_call CallNumbers (c.room == 0) _ _ (λ _. lit< tt) (λ _.
+    if_call CallNumbers (is_inside c.base c.size at len) (Give at len) (Answer (refusal 14)) (λ _. few_number count c.room) (λ _. lit< tt))))
+
+break_of-numbers : (at : ℕ) (c : CallState) → IsNumber at → IsNumber c.brk → CallNumbers (break_of at c)
+unfolding break_of
+break_of-numbers at c h p =
+    if_call CallNumbers (nat_le c.floor at && nat_le (at + 65536) (first_sp c)) (Break at) (Answer c.brk) (λ _. h) (λ _. p)
+
+a0_number : (x : List ℕ) → All IsNumber x → IsNumber (a0 x)
+a0_number x h = anywhere IsNumber (lit< tt) x h 10
+
+call_of-numbers : (x : List ℕ) (c : CallState) → All IsNumber x → IsNumber c.brk → CallNumbers (call_of x c)
+unfolding call_of
+call_of-numbers x c h p =
+    if_call CallNumbers (a7 x == 63) (read_of (a0 x) (a1 x) (a2 x) c) _ (λ _. read_of-numbers (a0 x) (a1 x) (a2 x) c) (λ _.
+    if_call CallNumbers (a7 x == 64) (write_of (a0 x) (a1 x) (a2 x) c) _ (λ _. write_of-numbers (a0 x) (a1 x) (a2 x) c) (λ _.
+    if_call CallNumbers (a7 x == 93 || a7 x == 94) (Exit (a0 x % 256)) _ (λ _. omega arith) (λ _.
+    if_call CallNumbers (a7 x == 214) (break_of (a0 x) c) (Answer (refusal 38)) (λ _. break_of-numbers (a0 x) c (a0_number x h) p) (λ _. lit< tt))))
+
+-- what a call is decided by: the cursor and the break of the state, and a length of the input of 64 bits
+pub record AreCallNumbers (c : CpuState) (calls : CallState) : Type 0 where
+  pub cursor : calls.cursor ≡ c.cursor
+  pub input : IsNumber calls.input_len
+  pub brk : IsNumber calls.brk
+
+answered-keeps : (c : CpuState) (v : ℕ) → IsCpu c → IsNumber v → IsCpu (answered c v)
+answered-keeps c v h p = with_register c _ 10 v h (low64_number (c.pc + 4)) p
+
+served-keeps : (c : CpuState) (calls : CallState) (k : Call) → AreCallNumbers c calls → IsFit calls k → CallNumbers k → IsCpu c → IsCpu (served c k)
+unfolding served
+served-keeps c calls (Answer v) a f p h = answered-keeps c v h p
+served-keeps c calls (Exit v) a f p h = with_status c (Exited v) h p
+served-keeps c calls (Break at) a f p h =
+    let n = answered-keeps c at h p in
+    record {
+      pc = n.pc;
+      registers = n.registers;
+      numbers = n.numbers;
+      zero_register = n.zero_register;
+      cursor = n.cursor;
+      brk = p;
+      floor = n.floor;
+      status = n.status;
+    }
+served-keeps c calls (Take at len) a f p h =
+    let n = answered-keeps c len h p in
+    record {
+      pc = n.pc;
+      registers = n.registers;
+      numbers = n.numbers;
+      zero_register = n.zero_register;
+      cursor = omega (arith, a.cursor, a.input, f.1);
+      brk = n.brk;
+      floor = n.floor;
+      status = n.status;
+    }
+served-keeps c calls (Give at len) a f p h =
+    let n = answered-keeps c len h p in
+    record {
+      pc = n.pc;
+      registers = n.registers;
+      numbers = n.numbers;
+      zero_register = n.zero_register;
+      cursor = n.cursor;
+      brk = n.brk;
+      floor = n.floor;
+      status = n.status;
+    }
+
+cause_below : (c : Cause) → cause_number c < 8
+cause_below FetchMisaligned = lit< tt
+cause_below FetchAccess = lit< tt
+cause_below Illegal = lit< tt
+cause_below Breakpoint = lit< tt
+cause_below LoadMisaligned = lit< tt
+cause_below LoadAccess = lit< tt
+cause_below StoreMisaligned = lit< tt
+cause_below StoreAccess = lit< tt
+
+pub finished-keeps : (c : CpuState) (e : Effect) (n : ℕ) (k : CallState) → IsCpu c → AreCallNumbers c k → EffectNumbers e → IsNumber n → IsCpu (finished c e n k)
+unfolding finished
+finished-keeps c (Next pc) n k h a p q = with_pc c pc h p
+finished-keeps c (Set pc rd v) n k h a p q = with_register c pc rd v h p.0 p.1
+finished-keeps c (Read pc at width extend rd) n k h a p q = with_register c pc rd _ h p (extended-number width extend n q)
+finished-keeps c (Write pc at width v) n k h a p q = with_pc c pc h p
+finished-keeps c Environment n k h a p q = served-keeps c k (call_of c.regs k) a (call_of-fit c.regs k) (call_of-numbers c.regs k h.numbers a.brk) h
+finished-keeps c (Trap cause) n k h a p q = with_status c (Trapped (cause_number cause)) h (cause_below cause)
+
+-- ---- what the instruction at pc does
+
+within-numbers : (base size : ℕ) (e : Effect) → EffectNumbers e → EffectNumbers (within base size e)
+unfolding within
+within-numbers base size (Next pc) h = h
+within-numbers base size (Set pc rd v) h = h
+within-numbers base size (Read pc at width extend rd) h =
+    if_effect (is_inside base size at (size_of width)) (Read pc at width extend rd) (Trap LoadAccess) h tt
+within-numbers base size (Write pc at width v) h =
+    if_effect (is_inside base size at (size_of width)) (Write pc at width v) (Trap StoreAccess) h tt
+within-numbers base size Environment h = tt
+within-numbers base size (Trap c) h = tt
+
+fetched-numbers : (o : Option Cause) (e : Effect) → EffectNumbers e → EffectNumbers (fetched o e)
+fetched-numbers None e h = h
+fetched-numbers (Some c) e h = tt
+
+pub effect_at-numbers : (base : ℕ) (s : State) → All IsNumber s.regs → EffectNumbers (effect_at base s)
+unfolding effect_at
+effect_at-numbers base s h =
+    fetched-numbers (fetch_fault base (length s.memory) s.pc) _
+    (within-numbers base (length s.memory) _ (word_effect-numbers (word_at base s) s.pc s.regs h))
+
+-- ---- memory
+
+read_by-number : (base : ℕ) (memory : List ℕ) (e : Effect) → All IsByte memory → IsNumber (read_by base memory e)
+unfolding read_by
+read_by-number base memory (Next pc) h = lit< tt
+read_by-number base memory (Set pc rd v) h = lit< tt
+read_by-number base memory (Read pc at width extend rd) h = number_at-number width memory (at - base) h
+read_by-number base memory (Write pc at width v) h = lit< tt
+read_by-number base memory Environment h = lit< tt
+read_by-number base memory (Trap c) h = lit< tt
+
+memory_served-bytes : (g : Setting) (s : State) (k : Call) → All IsByte g.input → All IsByte s.memory → All IsByte (memory_served g s k)
+unfolding memory_served
+memory_served-bytes g s (Answer v) i h = h
+memory_served-bytes g s (Exit v) i h = h
+memory_served-bytes g s (Break at) i h = h
+memory_served-bytes g s (Take at len) i h =
+    written-bytes s.memory (at - g.base) (take len (drop s.cursor g.input)) h (All-take IsByte len (drop s.cursor g.input) (All-drop IsByte s.cursor g.input i))
+memory_served-bytes g s (Give at len) i h = h
+
+memory_by-bytes : (g : Setting) (s : State) (e : Effect) → All IsByte g.input → All IsByte s.memory → All IsByte (memory_by g s e)
+unfolding memory_by
+memory_by-bytes g s (Next pc) i h = h
+memory_by-bytes g s (Set pc rd v) i h = h
+memory_by-bytes g s (Read pc at width extend rd) i h = h
+memory_by-bytes g s (Write pc at width v) i h =
+    written-bytes s.memory (at - g.base) (number_bytes (size_of width) v) h (number_bytes-bytes (size_of width) v)
+memory_by-bytes g s Environment i h = memory_served-bytes g s (call_at g s) i h
+memory_by-bytes g s (Trap c) i h = h
+
+-- what is taken is as long as the call says
+pub length-taken : (g : Setting) (s : State) (len : ℕ) → s.cursor + len ≤ length g.input → length (take len (drop s.cursor g.input)) ≡ len
+length-taken g s len h = length-take-le len (drop s.cursor g.input) (omega (arith, length-drop s.cursor g.input))
+
+length-memory_served : (g : Setting) (s : State) (k : Call) → IsFit (call_state_of g s) k → length (memory_served g s k) ≡ length s.memory
+unfolding memory_served
+length-memory_served g s (Answer v) f = refl
+length-memory_served g s (Exit v) f = refl
+length-memory_served g s (Break at) f = refl
+length-memory_served g s (Take at len) f =
+    length-written s.memory (at - g.base) (take len (drop s.cursor g.input)) (omega (arith, length-taken g s len f.1, f.0.low, f.0.high))
+length-memory_served g s (Give at len) f = refl
+
+pub length-memory_by : (g : Setting) (s : State) (e : Effect) → IsWithin g.base (length s.memory) e → length (memory_by g s e) ≡ length s.memory
+unfolding memory_by
+length-memory_by g s (Next pc) h = refl
+length-memory_by g s (Set pc rd v) h = refl
+length-memory_by g s (Read pc at width extend rd) h = refl
+length-memory_by g s (Write pc at width v) h =
+    length-written s.memory (at - g.base) (number_bytes (size_of width) v) (omega (arith, length-number_bytes width v, h.0, h.1))
+length-memory_by g s Environment h = length-memory_served g s (call_at g s) (call_of-fit s.regs (call_state_of g s))
+length-memory_by g s (Trap c) h = refl
+
+-- ---- the console
+
+console_served-bytes : (g : Setting) (s : State) (k : Call) → All IsByte s.memory → All IsByte s.console → All IsByte (console_served g s k)
+unfolding console_served
+console_served-bytes g s (Answer v) m h = h
+console_served-bytes g s (Exit v) m h = h
+console_served-bytes g s (Break at) m h = h
+console_served-bytes g s (Take at len) m h = h
+console_served-bytes g s (Give at len) m h =
+    All-append IsByte s.console (take len (drop (at - g.base) s.memory)) h (All-take IsByte len (drop (at - g.base) s.memory) (All-drop IsByte (at - g.base) s.memory m))
+
+console_by-bytes : (g : Setting) (s : State) (e : Effect) → All IsByte s.memory → All IsByte s.console → All IsByte (console_by g s e)
+unfolding console_by
+console_by-bytes g s (Next pc) m h = h
+console_by-bytes g s (Set pc rd v) m h = h
+console_by-bytes g s (Read pc at width extend rd) m h = h
+console_by-bytes g s (Write pc at width v) m h = h
+console_by-bytes g s Environment m h = console_served-bytes g s (call_at g s) m h
+console_by-bytes g s (Trap c) m h = h
+
+IsGrown-same : (l : List ℕ) → IsGrown l l
+IsGrown-same l = record { more = []; grown = sym (append-nil l) }
+
+IsGrown-on : (a b c : List ℕ) → IsGrown a b → IsGrown b c → IsGrown a c
+IsGrown-on a b c one two = record {
+  more = one.more ++ two.more;
+  grown = two.grown ∙ ap (λ (l : List ℕ). l ++ two.more) one.grown ∙ append_assoc a one.more two.more;
+}
+
+console_served-grows : (g : Setting) (s : State) (k : Call) → IsGrown s.console (console_served g s k)
+unfolding console_served
+console_served-grows g s (Answer v) = IsGrown-same s.console
+console_served-grows g s (Exit v) = IsGrown-same s.console
+console_served-grows g s (Break at) = IsGrown-same s.console
+console_served-grows g s (Take at len) = IsGrown-same s.console
+console_served-grows g s (Give at len) = record { more = take len (drop (at - g.base) s.memory); grown = refl }
+
+console_by-grows : (g : Setting) (s : State) (e : Effect) → IsGrown s.console (console_by g s e)
+unfolding console_by
+console_by-grows g s (Next pc) = IsGrown-same s.console
+console_by-grows g s (Set pc rd v) = IsGrown-same s.console
+console_by-grows g s (Read pc at width extend rd) = IsGrown-same s.console
+console_by-grows g s (Write pc at width v) = IsGrown-same s.console
+console_by-grows g s Environment = console_served-grows g s (call_at g s)
+console_by-grows g s (Trap c) = IsGrown-same s.console
+
+-- what is given is as long as the call says
+pub length-given : (base at len : ℕ) (memory : List ℕ) → base ≤ at → at + len ≤ base + length memory → length (take len (drop (at - base) memory)) ≡ len
+length-given base at len memory low high = length-take-le len (drop (at - base) memory) (omega (arith, length-drop (at - base) memory))
+
+-- so much of the console is there after a call as the rest of the state says
+length-console_served : (g : Setting) (s : State) (k : Call) → IsFit (call_state_of g s) k → length (console_served g s k) ≡ (served (cpu_of s) k).console_len
+unfolding console_served served
+length-console_served g s (Answer v) f = refl
+length-console_served g s (Exit v) f = refl
+length-console_served g s (Break at) f = refl
+length-console_served g s (Take at len) f = refl
+length-console_served g s (Give at len) f =
+    length-append s.console (take len (drop (at - g.base) s.memory)) ∙ ap (λ n. length s.console + n) (length-given g.base at len s.memory f.0.low f.0.high)
+
+-- and after an effect
+pub length-console_by : (g : Setting) (s : State) (e : Effect) (n : ℕ) → length (console_by g s e) ≡ (finished (cpu_of s) e n (call_state_of g s)).console_len
+unfolding console_by finished
+length-console_by g s (Next pc) n = refl
+length-console_by g s (Set pc rd v) n = refl
+length-console_by g s (Read pc at width extend rd) n = refl
+length-console_by g s (Write pc at width v) n = refl
+length-console_by g s Environment n = length-console_served g s (call_at g s) (call_of-fit s.regs (call_state_of g s))
+length-console_by g s (Trap c) n = refl
+
+console_served-room : (g : Setting) (s : State) (k : Call) → IsFit (call_state_of g s) k → length s.console ≤ g.room → length (console_served g s k) ≤ g.room
+unfolding console_served
+console_served-room g s (Answer v) f h = h
+console_served-room g s (Exit v) f h = h
+console_served-room g s (Break at) f h = h
+console_served-room g s (Take at len) f h = h
+console_served-room g s (Give at len) f h =
+    omega (arith, length-append s.console (take len (drop (at - g.base) s.memory)), length-given g.base at len s.memory f.0.low f.0.high, f.1)
+
+console_by-room : (g : Setting) (s : State) (e : Effect) → length s.console ≤ g.room → length (console_by g s e) ≤ g.room
+unfolding console_by
+console_by-room g s (Next pc) h = h
+console_by-room g s (Set pc rd v) h = h
+console_by-room g s (Read pc at width extend rd) h = h
+console_by-room g s (Write pc at width v) h = h
+console_by-room g s Environment h = console_served-room g s (call_at g s) (call_of-fit s.regs (call_state_of g s)) h
+console_by-room g s (Trap c) h = h
+
+-- ---- the cursor
+
+served-cursor : (c : CpuState) (calls : CallState) (k : Call) → calls.cursor ≡ c.cursor → IsFit calls k → c.cursor ≤ calls.input_len → (served c k).cursor ≤ calls.input_len
+unfolding served
+served-cursor c calls (Answer v) e f h = h
+served-cursor c calls (Exit v) e f h = h
+served-cursor c calls (Break at) e f h = h
+served-cursor c calls (Take at len) e f h = omega (arith, e, f.1)
+served-cursor c calls (Give at len) e f h = h
+
+pub finished-cursor : (c : CpuState) (e : Effect) (n : ℕ) (k : CallState) → k.cursor ≡ c.cursor → c.cursor ≤ k.input_len → (finished c e n k).cursor ≤ k.input_len
+unfolding finished
+finished-cursor c (Next pc) n k e h = h
+finished-cursor c (Set pc rd v) n k e h = h
+finished-cursor c (Read pc at width extend rd) n k e h = h
+finished-cursor c (Write pc at width v) n k e h = h
+finished-cursor c Environment n k e h = served-cursor c k (call_of c.regs k) e (call_of-fit c.regs k) h
+finished-cursor c (Trap cause) n k e h = h
+
+-- ---- steps
+
+pub cpu_from_storable : (size : ℕ) (s : State) → IsStorable size s → IsCpu (cpu_of s)
+cpu_from_storable size s h = record {
+  pc = h.pc;
+  registers = h.registers;
+  numbers = h.numbers;
+  zero_register = h.zero_register;
+  cursor = h.cursor;
+  brk = h.brk;
+  floor = h.floor;
+  status = h.status;
+}
+
+advanced-storable : (g : Setting) (size : ℕ) (s : State) → IsReadable g → IsStorable size s → IsStorable size (advanced g s)
+unfolding advanced performed
+advanced-storable g size s r h =
+    let e = effect_at g.base s in
+    let n = read_by g.base s.memory e in
+    let calls : AreCallNumbers (cpu_of s) (call_state_of g s) = record { cursor = refl; input = r.size; brk = h.brk } in
+    let c : IsCpu (finished (cpu_of s) e n (call_state_of g s)) =
+    finished-keeps (cpu_of s) e n (call_state_of g s) (cpu_from_storable size s h) calls (effect_at-numbers g.base s h.numbers) (read_by-number g.base s.memory e h.memory) in
+    record {
+      pc = c.pc;
+      registers = c.registers;
+      numbers = c.numbers;
+      zero_register = c.zero_register;
+      memory_size = length-memory_by g s e (effect_at-within g.base s) ∙ h.memory_size;
+      memory = memory_by-bytes g s e r.bytes h.memory;
+      console = console_by-bytes g s e h.memory h.console;
+      cursor = c.cursor;
+      brk = c.brk;
+      floor = c.floor;
+      status = c.status;
+    }
+
+-- a fact of a state that took a step or stays
+if_state : (P : State → Type 0) (b : Bool) (s t : State) → P s → P t → P (if b then s else t)
+if_state P true s t p q = p
+if_state P false s t p q = q
+
+-- a step of a storable state is storable
+pub step-storable : (g : Setting) (size : ℕ) (s : State) → IsReadable g → IsStorable size s → IsStorable size (step g s)
+unfolding step
+step-storable g size s r h = if_state (IsStorable size) (is_running s.status) (advanced g s) s (advanced-storable g size s r h) h
+
+pub steps-storable : (g : Setting) (size k : ℕ) (s : State) → IsReadable g → IsStorable size s → IsStorable size (steps g k s)
+unfolding steps
+steps-storable g size zero s r h = h
+steps-storable g size (suc k) s r h = step-storable g size (steps g k s) r (steps-storable g size k s r h)
+
+-- ---- what every step keeps
+
+advanced-console : (g : Setting) (s : State) → IsGrown s.console (advanced g s).console
+unfolding advanced performed
+advanced-console g s = console_by-grows g s (effect_at g.base s)
+
+-- the console only grows
+pub step-console : (g : Setting) (s : State) → IsGrown s.console (step g s).console
+unfolding step
+step-console g s = if_state (λ t. IsGrown s.console t.console) (is_running s.status) (advanced g s) s (advanced-console g s) (IsGrown-same s.console)
+
+pub steps-console : (g : Setting) (k : ℕ) (s : State) → IsGrown s.console (steps g k s).console
+unfolding steps
+steps-console g zero s = IsGrown-same s.console
+steps-console g (suc k) s = IsGrown-on s.console (steps g k s).console (step g (steps g k s)).console (steps-console g k s) (step-console g (steps g k s))
+
+advanced-room : (g : Setting) (s : State) → length s.console ≤ g.room → length (advanced g s).console ≤ g.room
+unfolding advanced performed
+advanced-room g s h = console_by-room g s (effect_at g.base s) h
+
+-- and stays within its room
+pub step-room : (g : Setting) (s : State) → length s.console ≤ g.room → length (step g s).console ≤ g.room
+unfolding step
+step-room g s h = if_state (λ t. length t.console ≤ g.room) (is_running s.status) (advanced g s) s (advanced-room g s h) h
+
+pub steps-room : (g : Setting) (k : ℕ) (s : State) → length s.console ≤ g.room → length (steps g k s).console ≤ g.room
+unfolding steps
+steps-room g zero s h = h
+steps-room g (suc k) s h = step-room g (steps g k s) (steps-room g k s h)
+
+advanced-cursor : (g : Setting) (s : State) → s.cursor ≤ length g.input → (advanced g s).cursor ≤ length g.input
+unfolding advanced performed
+advanced-cursor g s h =
+    finished-cursor (cpu_of s) (effect_at g.base s) (read_by g.base s.memory (effect_at g.base s)) (call_state_of g s) refl h
+
+-- the cursor stays within the input
+pub step-cursor : (g : Setting) (s : State) → s.cursor ≤ length g.input → (step g s).cursor ≤ length g.input
+unfolding step
+step-cursor g s h = if_state (λ t. t.cursor ≤ length g.input) (is_running s.status) (advanced g s) s (advanced-cursor g s h) h
+
+pub steps-cursor : (g : Setting) (k : ℕ) (s : State) → s.cursor ≤ length g.input → (steps g k s).cursor ≤ length g.input
+unfolding steps
+steps-cursor g zero s h = h
+steps-cursor g (suc k) s h = step-cursor g (steps g k s) (steps-cursor g k s h)
+
+advanced-memory_size : (g : Setting) (s : State) → length (advanced g s).memory ≡ length s.memory
+unfolding advanced performed
+advanced-memory_size g s = length-memory_by g s (effect_at g.base s) (effect_at-within g.base s)
+
+pub step-memory_size : (g : Setting) (s : State) → length (step g s).memory ≡ length s.memory
+unfolding step
+step-memory_size g s = elim (is_running s.status) as (λ b. length (if b then advanced g s else s).memory ≡ length s.memory) [ true ↦ advanced-memory_size g s | false ↦ refl ]
+
+pub steps-memory_size : (g : Setting) (k : ℕ) (s : State) → length (steps g k s).memory ≡ length s.memory
+unfolding steps
+steps-memory_size g zero s = refl
+steps-memory_size g (suc k) s = step-memory_size g (steps g k s) ∙ steps-memory_size g k s
