@@ -1,6 +1,6 @@
 -- Lists with a piece written over them.
-use Rattle.std.proofs.Common.{◌≡◌, ℕ, ◌+◌, ◌≤◌, List, [], ◌++◌, length, take, drop, refl, sym, ◌∙◌, ap, arith, append_assoc}
-use Rattle.std.proofs.lemmas.List.{length-append, length-drop, length-take-le, take-append-drop, take-append-le, drop-append-le, take_at, drop_at, drop-drop}
+use Rattle.std.proofs.Common.{◌≡◌, ℕ, ◌+◌, ◌-◌, ◌≤◌, List, [], ◌++◌, length, take, drop, refl, sym, ◌∙◌, ap, arith, append_assoc}
+use Rattle.std.proofs.lemmas.List.{length-append, length-drop, length-take-le, take-append-drop, take-append-le, drop-append-le, take_at, drop_at, drop-drop, drop-take, take-take}
 use Rattle.std.proofs.Math.Seq.{take-add}
 use Rattle.thy_base.specs.Bytes.{written}
 
@@ -90,3 +90,20 @@ written-written bytes at one two l =
     ∙ ap (λ t. front ++ (one ++ t)) (written-start rest two)
     ∙ ap (λ t. front ++ (one ++ (two ++ t))) behind
     ∙ ap (λ t. front ++ t) (sym (append_assoc one two (drop (at + length (one ++ two)) bytes)))
+
+-- the first bytes, up to the end of a piece written among them
+pub take-written_end : (bytes : List ℕ) (at : ℕ) (piece : List ℕ) → at ≤ length bytes
+    → take (at + length piece) (written bytes at piece) ≡ take at bytes ++ piece
+take-written_end bytes at piece l =
+    let front = take at bytes in
+    let n : length (front ++ piece) ≡ at + length piece = omega (arith, length-append front piece, length-take-le at bytes l) in
+    ap (take (at + length piece)) (sym (append_assoc front piece (drop (at + length piece) bytes)))
+    ∙ take_at (front ++ piece) (drop (at + length piece) bytes) (at + length piece) n
+
+-- bytes of the first ones
+pub take-drop_take : (bytes : List ℕ) (at len size : ℕ) → at + len ≤ size → take len (drop at (take size bytes)) ≡ take len (drop at bytes)
+take-drop_take bytes at len size l =
+    let e : at + (size - at) ≡ size = omega arith in
+    ap (λ n. take len (drop at (take n bytes))) (sym e)
+    ∙ ap (take len) (drop-take at (size - at) bytes)
+    ∙ take-take len (size - at) (drop at bytes) (omega arith)

@@ -1,2 +1,3 @@
 pub mod FlatLemmas
 pub mod SpanLaws
+pub mod MemoryLaws

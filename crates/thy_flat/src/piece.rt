@@ -31,17 +31,16 @@ pub fn put_head(block: &Block, span: Span, bytes: &[u8]) -> Block
     over
 }
 
-/// The bytes of a span, of its one or two blocks.
+/// Adds the bytes of a span, of its one or two blocks.
 #[tactic(auto, unfolding(crate::specs::Spans::gathered))]
-pub fn gather(blocks: &[Block], span: Span) -> Piece
+pub fn gather(piece: &mut Piece, blocks: &[Block], span: Span)
     requires inside { IsSpanOf (length blocks.now) span }
     requires few { length blocks.now < 2 ^ 32 }
-    ensures { result.items ≡ gathered blocks.now span }
+    requires room { array_vec_len piece.old + span.len ≤ 64 }
+    ensures { piece.new.items ≡ piece.old.items ++ gathered blocks.now span }
 {
-    let mut piece = Piece::new();
-    gather_head(&mut piece, blocks, span);
-    gather_head(&mut piece, blocks, span.rest());
-    piece
+    gather_head(piece, blocks, span);
+    gather_head(piece, blocks, span.rest());
 }
 
 /// Puts bytes over a span, in its one or two blocks.

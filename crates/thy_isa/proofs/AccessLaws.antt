@@ -31,7 +31,7 @@ within-is base size (Write pc at width v) =
 within-is base size Environment = tt
 within-is base size (Trap c) = tt
 
-fetched-within : (base size : ℕ) (o : Option Cause) (e : Effect) → IsWithin base size e → IsWithin base size (fetched o e)
+pub fetched-within : (base size : ℕ) (o : Option Cause) (e : Effect) → IsWithin base size e → IsWithin base size (fetched o e)
 fetched-within base size None e h = h
 fetched-within base size (Some c) e h = tt
 

@@ -6,3 +6,4 @@ pub mod InstrBounds
 pub mod OneRow
 pub mod AccessLaws
 pub mod StorableLaws
+pub mod BlockLaws
