@@ -1,5 +1,5 @@
 -- An answer is complete: where nothing is amiss it is that of the program's own end.
-use Rattle.std.proofs.Common.{◌≡◌, ℕ, ◌+◌, ◌-◌, ◌<◌, ◌≤◌, Bool, true, false, Some, None, List, [], ◌∷◌, ◌++◌, length, refl, sym, ◌∙◌, ap, subst, inl, inr, arith}
+use Rattle.std.proofs.Common.{◌≡◌, ℕ, ◌+◌, ◌-◌, ◌<◌, ◌≤◌, Bool, true, false, Option, Some, None, List, [], ◌∷◌, ◌++◌, length, refl, sym, ◌∙◌, ap, subst, inl, inr, arith}
 use Rattle.std.specs.Prelude.{Ok, Err, MatchOption}
 use Rattle.std.proofs.lemmas.Bool.{cases_order}
 use Rattle.thy_base.specs.declared.config.Parameters.{Parameters}
@@ -14,7 +14,6 @@ use Rattle.thy_base.specs.Geometry.{parameters_of}
 use Rattle.thy_base.specs.Outside.{Stock, Files, Stream}
 use Rattle.thy_elf.specs.declared.error.ElfError.{ElfError}
 use Rattle.thy_elf.specs.declared.error.ElfError.TheVariants.{Memory as ElfMemory}
-use Rattle.thy_elf.specs.Image.{Contents}
 use Rattle.thy_isa.specs.declared.state.Status.{Status}
 use Rattle.thy_isa.specs.declared.state.Status.TheVariants.{Running, Exited, Trapped}
 use Rattle.thy_isa.specs.Step.{State, Setting, is_running, steps}
@@ -38,7 +37,7 @@ use Rattle.thy_run.specs.declared.ending.Stop.TheVariants.{Ended, Nvm, Memory, T
 use Rattle.thy_cli.specs.declared.answer.Answer.{Answer}
 use Rattle.thy_cli.specs.declared.refusal.Refusal.{Refusal}
 use Rattle.thy_cli.specs.declared.refusal.Refusal.TheVariants.{Words, Fetch, File, Device as DeviceRefusal, Memory as MemoryRefusal}
-use Rattle.thy_cli.specs.Answering.{Outside, Task, task_of, most_bytes, meaning_of, IsHeld, FetchDue, WordsDue, ProgramDue, TaskDue, refused_status, ClosesRun, IsRunOf, IsPlainOf, plain_stop, plain_state, end_lines, stop_status, TaskAnswered, PlainAnswered, OrderAnswered, Answered}
+use Rattle.thy_cli.specs.Answering.{Outside, Task, task_of, most_bytes, meaning_of, IsHeld, IsInput, IsWanted, IsProgramFile, FetchDue, WordsDue, ProgramDue, TaskDue, refused_status, ClosesRun, IsRunOf, IsPlainOf, plain_stop, plain_state, end_lines, stop_status, TaskAnswered, PlainAnswered, OrderAnswered, Answered}
 use Rattle.thy_cli.specs.Completing.{IsAsked, Stayed, IsCalm, left_alone, TellsEnd, RunCompletes, PlainCompletes, Claim}
 
 -- ---- counts of faults
@@ -88,40 +87,59 @@ end_lawful c m (v ∷ vs) status count cycle state all = end_lawful c (marks_aft
 
 -- ---- refusals
 
--- what is known of a file, and what it means
+-- what is known of a task's program: file and input stand on a shelf that tells
 record Stands (task : Task) (stock : Stock) : Type 0 where
   files : Files
   tells : stock.held ≡ Some files
-  bytes : List ℕ
-  there : files task.file ≡ Some bytes
-  fits : length bytes ≤ most_bytes
-  contents : Contents
-  means : meaning_of task bytes ≡ Ok contents
+  program : IsProgramFile task stock
 
--- it is what the shelf holds under its name
-held_same : (task : Task) (stock : Stock) (s : Stands task stock) (bytes : List ℕ) → IsHeld stock task.file bytes → bytes ≡ s.bytes
-held_same task stock s bytes h = let there : s.files task.file ≡ Some bytes = h.1 s.files s.tells in let known : s.files task.file ≡ Some s.bytes = s.there in cc
+-- a shelf that tells holds the same under a name each time
+held_same : (stock : Stock) (files : Files) (name a b : List ℕ) → stock.held ≡ Some files → IsHeld stock name a → IsHeld stock name b → a ≡ b
+held_same stock files name a b tells g h = let one : files name ≡ Some a = g.1 files tells in let other : files name ≡ Some b = h.1 files tells in cc
 
-fetch_due : (task : Task) (old new : Stock) (name : _) (e : FetchError) → Stands task old → Stayed old.faults new.faults → FetchDue old new task.file e
-    → refused_status (Fetch name e) ≡ 9
-fetch_due task old new name FetchFailed s calm due = not_risen old.faults new.faults calm due
-fetch_due task old new name NotThere s calm due =
-    let none : s.files task.file ≡ None = subst (λ h. MatchOption h (Rose old.faults new.faults) (λ files. files task.file ≡ None)) s.tells due in
-    absurd (let there : s.files task.file ≡ Some s.bytes = s.there in cc)
-fetch_due task old new name TooLong s calm due =
-    let long : (bytes : List ℕ) × (s.files task.file ≡ Some bytes) × (most_bytes < length bytes) =
-    subst (λ h. MatchOption h (Rose old.faults new.faults) (λ files. (bytes : List ℕ) × (files task.file ≡ Some bytes) × (most_bytes < length bytes))) s.tells due in
-    let there : s.files task.file ≡ Some s.bytes = s.there in
-    let same : long.0 ≡ s.bytes = (let found : s.files task.file ≡ Some long.0 = long.1 in cc) in
-    absurd (omega (arith, s.fits, long.2, ap length same))
-fetch_due task old new name (FetchMemory e) s calm due = refl
+input_same : (stock : Stock) (files : Files) (name : Option (List ℕ)) (a b : List ℕ) → stock.held ≡ Some files → IsInput stock name a → IsInput stock name b → a ≡ b
+input_same stock files None a b tells g h = g ∙ sym h
+input_same stock files (Some name) a b tells g h = held_same stock files name a b tells g h
+
+-- so a task has one program
+contents_same : (task : Task) (stock : Stock) (s : Stands task stock) (f : IsProgramFile task stock) → f.contents ≡ s.program.contents
+contents_same task stock s f =
+    let bytes : f.bytes ≡ s.program.bytes = held_same stock s.files task.file f.bytes s.program.bytes s.tells f.held s.program.held in
+    let read : meaning_of task s.program.bytes ≡ Ok f.contents = ap (meaning_of task) (sym bytes) ∙ f.means in
+    let known : meaning_of task s.program.bytes ≡ Ok s.program.contents = s.program.means in
+    cc
+
+inputs_same : (task : Task) (stock : Stock) (s : Stands task stock) (f : IsProgramFile task stock) → f.input ≡ s.program.input
+inputs_same task stock s f = input_same stock s.files task.input f.input s.program.input s.tells f.is_input s.program.is_input
+
+-- what is held is had, unless memory is short
+fetch_due : (old new : Stock) (files : Files) (name bytes : List ℕ) (text : _) (e : FetchError) → old.held ≡ Some files → IsHeld old name bytes → Stayed old.faults new.faults → FetchDue old new name e
+    → refused_status (Fetch text e) ≡ 9
+fetch_due old new files name bytes text FetchFailed tells held calm due = not_risen old.faults new.faults calm due
+fetch_due old new files name bytes text NotThere tells held calm due =
+    let none : files name ≡ None = subst (λ h. MatchOption h (Rose old.faults new.faults) (λ known. known name ≡ None)) tells due in
+    absurd (let there : files name ≡ Some bytes = held.1 files tells in cc)
+fetch_due old new files name bytes text TooLong tells held calm due =
+    let long : (found : List ℕ) × (files name ≡ Some found) × (most_bytes < length found) =
+    subst (λ h. MatchOption h (Rose old.faults new.faults) (λ known. (found : List ℕ) × (known name ≡ Some found) × (most_bytes < length found))) tells due in
+    let there : files name ≡ Some bytes = held.1 files tells in
+    let same : long.0 ≡ bytes = (let found : files name ≡ Some long.0 = long.1 in cc) in
+    absurd (omega (arith, held.0, long.2, ap length same))
+fetch_due old new files name bytes text (FetchMemory e) tells held calm due = refl
+
+wanted_due : (task : Task) (old new : Stock) (text : _) (name : List ℕ) (e : FetchError) → Stands task old → Stayed old.faults new.faults → IsWanted task old name → FetchDue old new name e
+    → refused_status (Fetch text e) ≡ 9
+wanted_due task old new text name e s calm (inl is) due =
+    fetch_due old new s.files task.file s.program.bytes text e s.tells s.program.held calm (subst (λ n. FetchDue old new n e) is due)
+wanted_due task old new text name e s calm (inr had) due =
+    fetch_due old new s.files name s.program.input text e s.tells (subst (λ n. IsInput old n s.program.input) had.0 s.program.is_input) calm due
 
 -- a file that is a program is not refused
-means_none : {A : Type 0} (task : Task) (stock : Stock) (e : ElfError) → Stands task stock → (bytes : List ℕ) × IsHeld stock task.file bytes × (meaning_of task bytes ≡ Err e) → A
-means_none task stock e s (bytes, held, means) =
-    let same : bytes ≡ s.bytes = held_same task stock s bytes held in
-    let refused : meaning_of task s.bytes ≡ Err e = ap (meaning_of task) (sym same) ∙ means in
-    let known : meaning_of task s.bytes ≡ Ok s.contents = s.means in
+means_none : {A : Type 0} (task : Task) (stock : Stock) (e : ElfError) (bytes : List ℕ) → Stands task stock → IsHeld stock task.file bytes → meaning_of task bytes ≡ Err e → A
+means_none task stock e bytes s held means =
+    let same : bytes ≡ s.program.bytes = held_same stock s.files task.file bytes s.program.bytes s.tells held s.program.held in
+    let refused : meaning_of task s.program.bytes ≡ Err e = ap (meaning_of task) (sym same) ∙ means in
+    let known : meaning_of task s.program.bytes ≡ Ok s.program.contents = s.program.means in
     absurd (cc)
 
 device_due : (e : FitError) (n m : Device) → Stayed n.faults m.faults → HasFailedToFit e n m → refused_status (DeviceRefusal e) ≡ 9
@@ -131,9 +149,9 @@ device_due (FitMemory e) n m calm due = refl
 -- only for want of memory
 program_due : (task : Task) (old new : Stock) (r : Refusal) → Stands task old → Stayed old.faults new.faults → ProgramDue task old new r → refused_status r ≡ 9
 program_due task old new (Words e) s shelf due = absurd due
-program_due task old new (Fetch name e) s shelf due = fetch_due task old new name e s shelf due.1
+program_due task old new (Fetch name e) s shelf due = wanted_due task old new name name.now e s shelf due.0 due.1
 program_due task old new (File (ElfMemory e)) s shelf due = refl
-program_due task old new (File e) s shelf due = means_none task old e s due
+program_due task old new (File e) s shelf due = means_none task old e due.0 s due.1 due.2
 program_due task old new (DeviceRefusal e) s shelf due = absurd due
 program_due task old new (MemoryRefusal e) s shelf due = refl
 
@@ -157,7 +175,7 @@ unfolding at
 at_is o k = refl
 
 module _ {M : Type 0} (K : KindOf M) (job : Job) (k : ℕ) (before after : Outside) (a : Answer) (s : Stands (task_of job) before.shelf)
-    (calm : IsCalm before after) (over : is_running (plain_state (task_of job) s.contents k).status ≡ false)
+    (calm : IsCalm before after) (over : is_running (plain_state (task_of job) s.program.contents s.program.input k).status ≡ false)
     (limit : cycles_for K (parameters_of job.config) job.config.cuts k ≤ job.config.limit) (h : IsRunOf K (task_of job) before after a) where
   abbrev o : Origin
   o = origin_of h.plan
@@ -166,22 +184,21 @@ module _ {M : Type 0} (K : KindOf M) (job : Job) (k : ℕ) (before after : Outsi
   numbers = parameters_of job.config
 
   abbrev g : Setting
-  g = setting_for numbers []
+  g = setting_for numbers s.program.input
 
   abbrev first : State
-  first = start_state numbers s.contents
+  first = start_state numbers s.program.contents
 
   -- the machine's program is the file's
-  same_program : h.is_plan.file.contents ≡ s.contents
-  same_program =
-      let bytes : h.is_plan.file.bytes ≡ s.bytes = held_same (task_of job) before.shelf s h.is_plan.file.bytes h.is_plan.file.held in
-      let read : meaning_of (task_of job) s.bytes ≡ Ok h.is_plan.file.contents = ap (meaning_of (task_of job)) (sym bytes) ∙ h.is_plan.file.means in
-      let known : meaning_of (task_of job) s.bytes ≡ Ok s.contents = s.means in
-      cc
+  same_program : h.is_plan.file.contents ≡ s.program.contents
+  same_program = contents_same (task_of job) before.shelf s h.is_plan.file
+
+  same_input : o.input ≡ s.program.input
+  same_input = h.is_plan.input ∙ inputs_same (task_of job) before.shelf s h.is_plan.file
 
   at_count : (count : ℕ) → at o count ≡ steps g (count - o.start.count) first
   at_count count =
-      let setting : setting_of o ≡ g = ap (λ (p : Parameters). setting_for p o.input) h.is_plan.geometry ∙ ap (setting_for numbers) h.is_plan.input in
+      let setting : setting_of o ≡ g = ap (λ (p : Parameters). setting_for p o.input) h.is_plan.geometry ∙ ap (setting_for numbers) same_input in
       let start : o.start ≡ first = h.is_plan.start ∙ ap (λ p. start_state p h.is_plan.file.contents) h.is_plan.geometry ∙ ap (start_state numbers) same_program in
       at_is o count ∙ ap (λ x. steps x (count - o.start.count) o.start) setting ∙ ap (steps g (count - o.start.count)) start
 
@@ -206,7 +223,7 @@ module _ {M : Type 0} (K : KindOf M) (job : Job) (k : ℕ) (before after : Outsi
       let ended : is_running (steps g (end.count - o.start.count) first).status ≡ false = ap (λ (x : State). is_running x.status) (sym here) ∙ end.over in
       end.is_status ∙ ap (λ (x : State). x.status) here ∙ ap (λ (x : State). x.status) (same_end g first (end.count - o.start.count) k ended over)
 
-  by_stop : (stop : Stop) → h.ending.stop ≡ stop → TellsEnd (plain_state (task_of job) s.contents k) a
+  by_stop : (stop : Stop) → h.ending.stop ≡ stop → TellsEnd (plain_state (task_of job) s.program.contents s.program.input k) a
   by_stop (Ended status) is = inl (h.status ∙ ap stop_status is ∙ ap (λ x. stop_status (Ended x)) (told_end status (fits (Ended status) is).0))
   by_stop Memory is = inr (h.status ∙ ap stop_status is)
   by_stop Terminal is = not_failed (is_memory h.ending.stop) h.ending.mute _ _ before.terminal after.terminal calm.terminal h.ends.shown_all (fits Terminal is).0
@@ -225,24 +242,23 @@ module _ {M : Type 0} (K : KindOf M) (job : Job) (k : ℕ) (before after : Outsi
 -- ---- the plain machine
 
 module _ (job : Job) (k : ℕ) (before after : Outside) (a : Answer) (s : Stands (task_of job) before.shelf)
-    (calm : IsCalm before after) (over : is_running (plain_state (task_of job) s.contents k).status ≡ false) (limit : k ≤ job.config.limit)
+    (calm : IsCalm before after) (over : is_running (plain_state (task_of job) s.program.contents s.program.input k).status ≡ false) (limit : k ≤ job.config.limit)
     (h : IsPlainOf (task_of job) before after a) where
   abbrev plain_setting : Setting
-  plain_setting = setting_for (parameters_of job.config) []
+  plain_setting = setting_for (parameters_of job.config) h.file.input
 
   abbrev plain_first : State
   plain_first = start_state (parameters_of job.config) h.file.contents
 
-  plain_program : h.file.contents ≡ s.contents
-  plain_program =
-      let bytes : h.file.bytes ≡ s.bytes = held_same (task_of job) before.shelf s h.file.bytes h.file.held in
-      let read : meaning_of (task_of job) s.bytes ≡ Ok h.file.contents = ap (meaning_of (task_of job)) (sym bytes) ∙ h.file.means in
-      let known : meaning_of (task_of job) s.bytes ≡ Ok s.contents = s.means in
-      cc
+  -- the machine's program is the file's, and its input the one that was had
+  same_state : steps plain_setting k plain_first ≡ plain_state (task_of job) s.program.contents s.program.input k
+  same_state =
+      ap (λ c. plain_state (task_of job) c h.file.input k) (contents_same (task_of job) before.shelf s h.file)
+      ∙ ap (λ i. plain_state (task_of job) s.program.contents i k) (inputs_same (task_of job) before.shelf s h.file)
 
   -- the program ends where the machine stopped
   over_there : is_running (steps plain_setting k plain_first).status ≡ false
-  over_there = ap (λ c. is_running (steps plain_setting k (start_state (parameters_of job.config) c)).status) plain_program ∙ over
+  over_there = ap (λ (x : State). is_running x.status) same_state ∙ over
 
   not_both : {A : Type 0} (b : Bool) → b ≡ true → b ≡ false → A
   not_both b e f = absurd (cc)
@@ -256,18 +272,18 @@ module _ (job : Job) (k : ℕ) (before after : Outside) (a : Answer) (s : Stands
     ]
   ]
 
-  last_status : h.last.status ≡ (plain_state (task_of job) s.contents k).status
+  last_status : h.last.status ≡ (plain_state (task_of job) s.program.contents s.program.input k).status
   last_status =
       ap (λ (x : State). x.status) h.is_last
       ∙ ap (λ (x : State). x.status) (same_end plain_setting plain_first a.cycles k stopped over_there)
-      ∙ ap (λ c. (steps plain_setting k (start_state (parameters_of job.config) c)).status) plain_program
+      ∙ ap (λ (x : State). x.status) same_state
 
   ended_stop : (status : Status) → is_running status ≡ false → plain_stop false false status ≡ Ended status
   ended_stop Running e = absurd (cc)
   ended_stop (Exited v) e = refl
   ended_stop (Trapped v) e = refl
 
-  by_faults : (mute deaf : Bool) → h.mute ≡ mute → h.deaf ≡ deaf → TellsEnd (plain_state (task_of job) s.contents k) a
+  by_faults : (mute deaf : Bool) → h.mute ≡ mute → h.deaf ≡ deaf → TellsEnd (plain_state (task_of job) s.program.contents s.program.input k) a
   by_faults mute true is_mute is_deaf =
       let closed : after.report ≡ h.told = subst (λ b. ClosesRun b (plain_stop h.mute h.deaf h.last.status) job.config.limit h.told after.report) is_deaf h.closes in
       let sent : Sent true before.report h.told (end_lines (task_of job) h.last) = subst (λ b. Sent b before.report h.told (end_lines (task_of job) h.last)) is_deaf h.read_all in
@@ -284,7 +300,7 @@ module _ (job : Job) (k : ℕ) (before after : Outside) (a : Answer) (s : Stands
 -- ---- answers
 
 abbrev stands_of : (order : Job → Order) (words : List (List ℕ)) (stock : Stock) (i : IsAsked order words stock) → Stands (task_of i.job) stock
-stands_of order words stock i = record { files = i.files; tells = i.tells; bytes = i.bytes; there = i.there; fits = i.fits; contents = i.contents; means = i.means }
+stands_of order words stock i = record { files = i.files; tells = i.tells; program = i.program }
 
 run_completes : {M : Type 0} (K : KindOf M) (words : List (List ℕ)) (before after : Outside) (a : Answer) (i : IsAsked run words before.shelf) (k : ℕ) → IsCalm before after
     → is_running (left_alone i k).status ≡ false → cycles_for K (parameters_of i.job.config) i.job.config.cuts k ≤ i.job.config.limit → TaskAnswered K (task_of i.job) before after a → TellsEnd (left_alone i k) a

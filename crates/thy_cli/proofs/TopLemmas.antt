@@ -10,7 +10,7 @@ use Rattle.thy_base.specs.declared.nvm.Shape.{Shape}
 use Rattle.thy_base.specs.Config.{fault_of, geometry_or, geometry_of, rows_of, IsRising}
 use Rattle.thy_base.specs.Device.{Device, fitted}
 use Rattle.thy_base.specs.Geometry.{IsInRange, parameters_of, program_size}
-use Rattle.thy_base.specs.Outside.{Stream}
+use Rattle.thy_base.specs.Outside.{Stock, Stream}
 use Rattle.thy_isa.specs.declared.state.Status.TheVariants.{Running}
 use Rattle.thy_isa.specs.Storable.{IsNumber, IsStorable}
 use Rattle.thy_isa.specs.Step.{State}
@@ -39,7 +39,7 @@ use Rattle.thy_run.specs.declared.ending.Ending.{Ending}
 use Rattle.thy_run.specs.declared.plan.Plan.{Plan}
 use Rattle.thy_cli.specs.declared.refusal.Refusal.{Refusal}
 use Rattle.thy_cli.specs.declared.refusal.Refusal.TheVariants.{Device as DeviceRefusal}
-use Rattle.thy_cli.specs.Answering.{Outside, Task, WordsDue, ProgramDue, TaskDue, meaning_of, IsPlanOf, IsRunOf, ClosesRun, PlainAnswered, TaskAnswered, Answered, stop_status}
+use Rattle.thy_cli.specs.Answering.{Outside, Task, task_of, IsHeld, WordsDue, ProgramDue, TaskDue, meaning_of, IsPlanOf, IsRunOf, ClosesRun, PlainAnswered, TaskAnswered, Answered, stop_status}
 use Rattle.thy_run.specs.Going.{origin_of, given_of}
 use Rattle.thy_run.specs.Turning.{EndsBy, RunEnds}
 
@@ -139,17 +139,28 @@ pub TaskDue-program : (task : Task) (before after : Outside) (r : Refusal) → P
 TaskDue-program task before after (DeviceRefusal e) due device = absurd due
 TaskDue-program task before after r due device = (due, device)
 
+-- a job as a task, with names that are the job's
+abbrev pub task_named : List ℕ → Option (List ℕ) → Job → Task
+task_named file input job = record { file = file; input = input; config = job.config; digest = job.digest }
+
+task_is : (file : List ℕ) (input : Option (List ℕ)) (job : Job) → file ≡ job.file → input ≡ job.input → task_named file input job ≡ task_of job
+task_is file input job e f = ap (λ x. task_named x input job) e ∙ ap (λ x. task_named job.file x job) f
+
 -- a job for the machine
-pub Answered-run : {M : Type 0} (K : KindOf M) → (words : List (List ℕ)) (job : Job) (file : List ℕ) (before after : Outside) (a : Answer) → settings_of words ≡ Ok (run job) → file ≡ job.file
-    → after.shelf.held ≡ before.shelf.held → TaskAnswered K (record { file = file; config = job.config; digest = job.digest }) before after a → Answered K words before after a
-Answered-run K words job file before after a is named held h =
-    (held, inr (run job, is, subst (λ f. TaskAnswered K (record { file = f; config = job.config; digest = job.digest }) before after a) named h))
+pub Answered-run : {M : Type 0} (K : KindOf M) → (words : List (List ℕ)) (job : Job) (file : List ℕ) (input : Option (List ℕ)) (before after : Outside) (a : Answer) → settings_of words ≡ Ok (run job)
+    → file ≡ job.file → input ≡ job.input → after.shelf.held ≡ before.shelf.held → TaskAnswered K (task_named file input job) before after a → Answered K words before after a
+Answered-run K words job file input before after a is names reads held h =
+    (held, inr (run job, is, subst (λ t. TaskAnswered K t before after a) (task_is file input job names reads) h))
 
 -- a job for the plain machine
-pub Answered-plain : {M : Type 0} (K : KindOf M) → (words : List (List ℕ)) (job : Job) (file : List ℕ) (before after : Outside) (a : Answer) → settings_of words ≡ Ok (plain job) → file ≡ job.file
-    → after.shelf.held ≡ before.shelf.held → PlainAnswered (record { file = file; config = job.config; digest = job.digest }) before after a → Answered K words before after a
-Answered-plain K words job file before after a is named held h =
-    (held, inr (plain job, is, subst (λ f. PlainAnswered (record { file = f; config = job.config; digest = job.digest }) before after a) named h))
+pub Answered-plain : {M : Type 0} (K : KindOf M) → (words : List (List ℕ)) (job : Job) (file : List ℕ) (input : Option (List ℕ)) (before after : Outside) (a : Answer) → settings_of words ≡ Ok (plain job)
+    → file ≡ job.file → input ≡ job.input → after.shelf.held ≡ before.shelf.held → PlainAnswered (task_named file input job) before after a → Answered K words before after a
+Answered-plain K words job file input before after a is names reads held h =
+    (held, inr (plain job, is, subst (λ t. PlainAnswered t before after a) (task_is file input job names reads) h))
+
+-- a shelf whose count and whose files stayed is the one before
+pub stock_same : (old new : Stock) → new.held ≡ old.held → new.faults ≡ old.faults → new ≡ old
+stock_same old new held faults = ap (λ h. record { held = h; faults = new.faults }) held ∙ ap (λ f. record { held = old.held; faults = f }) faults
 
 -- why words are refused
 pub WordsDue-shown : (words : List (List ℕ)) (e : WordsError) → ShowsOrMemory order_of (settings_of words) (Err e) → WordsDue words e

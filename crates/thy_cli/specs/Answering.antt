@@ -1,5 +1,6 @@
 -- What the top call answers.
 use Rattle.std.specs.Prelude.{◌≡◌, ◌⊎◌, ℕ, ◌<◌, ◌≤◌, Bool, true, false, List, [], ◌∷◌, length, codes, Option, Some, None, Result, Ok, Err, MatchOption}
+use Rattle.std.specs.Prelude.{option_map}
 use Rattle.std.specs.Fmt.{decimal}
 use Rattle.thy_base.specs.declared.outside.FetchError.{FetchError}
 use Rattle.thy_base.specs.declared.outside.FetchError.TheVariants.{Failed as FetchFailed, NotThere, TooLong, Memory as FetchMemory}
@@ -54,19 +55,25 @@ outside shelf device terminal report =
 
 -- ---- refusals: what is due when
 
--- what is to be done with a file; no input is read yet
+-- what is to be done with a file: its name, that of its input, if it has one
 pub record Task : Type 0 where
   pub file : List ℕ
+  pub input : Option (List ℕ)
   pub config : Config
   pub digest : Bool
 
 -- the task that the program has in hand
 abbrev pub named : TaskValue → Task
-named task = record { file = task.file.now; config = task.config; digest = task.digest }
+named task = record {
+  file = task.file.now;
+  input = option_map (λ name. name.now) task.input;
+  config = task.config;
+  digest = task.digest;
+}
 
 -- what a job asks for
 abbrev pub task_of : Job → Task
-task_of job = record { file = job.file; config = job.config; digest = job.digest }
+task_of job = record { file = job.file; input = job.input; config = job.config; digest = job.digest }
 
 -- the most bytes that a file may have
 abbrev pub most_bytes : ℕ
@@ -89,10 +96,17 @@ FetchDue old new name (FetchMemory e) = Unit {0}
 abbrev pub meaning_of : Task → List ℕ → Result Contents ElfError
 meaning_of task bytes = read_of bytes task.config.base (program_size (parameters_of task.config))
 
--- the file was had, and is a program
+-- the bytes of an input: those under its name, or none where there is no name
+abbrev pub IsInput : Stock → Option (List ℕ) → List ℕ → Type 0
+IsInput stock None bytes = bytes ≡ []
+IsInput stock (Some name) bytes = IsHeld stock name bytes
+
+-- file and input were had, and the file is a program
 pub record IsProgramFile (task : Task) (stock : Stock) : Type 0 where
   pub bytes : List ℕ
   pub held : IsHeld stock task.file bytes
+  pub input : List ℕ
+  pub is_input : IsInput stock task.input input
   pub contents : Contents
   pub means : meaning_of task bytes ≡ Ok contents
 
@@ -101,11 +115,18 @@ abbrev pub WordsDue : List (List ℕ) → WordsError → Type 0
 WordsDue words (WordsMemory e) = Unit {0}
 WordsDue words e = settings_of words ≡ Err e
 
--- why a task has no program: its file was not had, or is none; want of memory is free
+-- a task asks for this name: that of its file; or that of its input, once it has the file
+abbrev pub IsWanted : Task → Stock → List ℕ → Type 0
+IsWanted task stock name =
+    (name ≡ task.file) ⊎ ((task.input ≡ Some name) × (bytes : List ℕ) × IsHeld stock task.file bytes)
+
+-- why a task has no program: its file or its input was not had, or both were and the file is none; want of memory is free
 abbrev pub ProgramDue : Task → Stock → Stock → Refusal → Type 0
-ProgramDue task old new (Fetch name e) = (name.now ≡ task.file) × FetchDue old new task.file e
+ProgramDue task old new (Fetch name e) = IsWanted task old name.now × FetchDue old new name.now e
 ProgramDue task old new (File (ElfMemory e)) = Unit {0}
-ProgramDue task old new (File e) = (bytes : List ℕ) × IsHeld old task.file bytes × (meaning_of task bytes ≡ Err e)
+ProgramDue task old new (File e) =
+    (bytes : List ℕ) × IsHeld old task.file bytes × (meaning_of task bytes ≡ Err e)
+    × (input : List ℕ) × IsInput old task.input input
 ProgramDue task old new (MemoryRefusal e) = Unit {0}
 ProgramDue task old new other = ⊥
 
@@ -160,22 +181,23 @@ pub record IsRefused (r : Refusal) (before after : Outside) (a : Answer) : Type 
 
 -- ---- runs
 
--- a program is what a task's file means
+-- a program is what a task's file means, with the task's input
 pub record IsProgramOf (task : Task) (stock : Stock) (p : Program) : Type 0 where
   pub geometry : p.geometry ≡ parameters_of task.config
   pub in_range : IsInRange p.geometry
   pub file : IsProgramFile task stock
   pub contents : file.contents ≡ contents_of p.image
+  pub input : bytes_of p.input ≡ file.input
   pub size : length (bytes_of p.image.memory) ≡ program_size p.geometry
 
--- a plan is that of a task: its program is what the file means
+-- a plan is that of a task: its program is what the file means, and reads the input
 pub record IsPlanOf (task : Task) (stock : Stock) (p : Plan) : Type 0 where
   pub config : p.config ≡ task.config
   pub geometry : p.geometry ≡ parameters_of task.config
   pub digest : p.digest ≡ task.digest
   pub file : IsProgramFile task stock
   pub start : (origin_of p).start ≡ start_state p.geometry file.contents
-  pub input : (origin_of p).input ≡ []
+  pub input : (origin_of p).input ≡ file.input
   pub from_file : p.start.kept ≡ None
   pub planned : IsPlanned p
 
@@ -229,13 +251,13 @@ plain_stop true false status = Terminal
 plain_stop false false Running = Limit
 plain_stop false false status = Ended status
 
--- the plain machine at the start of a program; no input is read yet
-abbrev pub plain_start : Task → Contents → Machine
-plain_start task contents = loaded (parameters_of task.config) contents []
+-- the plain machine at the start of a program that reads this input
+abbrev pub plain_start : Task → Contents → List ℕ → Machine
+plain_start task contents input = loaded (parameters_of task.config) contents input
 
 -- its state after so many steps
-abbrev pub plain_state : Task → Contents → ℕ → State
-plain_state task contents k = (after_steps k (plain_start task contents)).state
+abbrev pub plain_state : Task → Contents → List ℕ → ℕ → State
+plain_state task contents input k = (after_steps k (plain_start task contents input)).state
 
 -- the lines of a state that has ended
 abbrev pub end_lines : Task → State → List ℕ
@@ -246,9 +268,9 @@ end_lines task s = ended_lines task.digest s.status s.count s.memory
 pub record IsPlainOf (task : Task) (before after : Outside) (a : Answer) : Type 0 where
   pub file : IsProgramFile task before.shelf
   pub calm : after.shelf.faults ≡ before.shelf.faults
-  pub stops : StopsAt (plain_start task file.contents) task.config.limit a.cycles
+  pub stops : StopsAt (plain_start task file.contents file.input) task.config.limit a.cycles
   pub last : State
-  pub is_last : last ≡ plain_state task file.contents a.cycles
+  pub is_last : last ≡ plain_state task file.contents file.input a.cycles
   pub mute : Bool
   pub deaf : Bool
   pub shown_all : Sent mute before.terminal after.terminal last.console

@@ -1,27 +1,22 @@
 -- What the answer is where nothing is amiss: that of the program's own end.
-use Rattle.std.specs.Prelude.{◌≡◌, ◌⊎◌, ℕ, ◌-◌, ◌^◌, ◌<◌, ◌≤◌, false, List, length, Some, Ok}
+use Rattle.std.specs.Prelude.{◌≡◌, ◌⊎◌, ℕ, ◌-◌, ◌^◌, ◌<◌, ◌≤◌, false, List, Some, Ok}
 use Rattle.thy_base.specs.Geometry.{parameters_of}
 use Rattle.thy_base.specs.Outside.{Stock, Files}
-use Rattle.thy_elf.specs.Image.{Contents}
 use Rattle.thy_isa.specs.Step.{State, is_running}
 use Rattle.thy_run.specs.Progress.{cycles_for}
 use Rattle.thy_run.specs.declared.ending.Stop.TheVariants.{Ended}
 use Rattle.thy_view.specs.Kind.{KindOf}
 use Rattle.thy_words.specs.Settings.{Job, Order, run, plain, settings_of}
-use Rattle.thy_cli.specs.Answering.{Outside, task_of, most_bytes, meaning_of, plain_state, stop_status, Answered}
+use Rattle.thy_cli.specs.Answering.{Outside, task_of, IsProgramFile, plain_state, stop_status, Answered}
 use Rattle.thy_cli.specs.declared.answer.Answer.{Answer}
 
--- the words order something of a file that stands on the shelf, as the shelf tells, and is a program
+-- the words order something of a shelf that tells: file and input stand there, each within the limit, and the file is a program
 pub record IsAsked (order : Job → Order) (words : List (List ℕ)) (stock : Stock) : Type 0 where
   pub job : Job
   pub asked : settings_of words ≡ Ok (order job)
   pub files : Files
   pub tells : stock.held ≡ Some files
-  pub bytes : List ℕ
-  pub there : files job.file ≡ Some bytes
-  pub fits : length bytes ≤ most_bytes
-  pub contents : Contents
-  pub means : meaning_of (task_of job) bytes ≡ Ok contents
+  pub program : IsProgramFile (task_of job) stock
 
 -- a count of faults stayed, below the last value, at which it would also stand after a fault
 pub record Stayed (old new : ℕ) : Type 0 where
@@ -37,7 +32,7 @@ pub record IsCalm (before after : Outside) : Type 0 where
 
 -- the program's state after k instructions, left alone
 abbrev pub left_alone : {order : Job → Order} {words : List (List ℕ)} {stock : Stock} → IsAsked order words stock → ℕ → State
-left_alone i k = plain_state (task_of i.job) i.contents k
+left_alone i k = plain_state (task_of i.job) i.program.contents i.program.input k
 
 -- the answer is that of this state's end, or memory was short
 abbrev pub TellsEnd : State → Answer → Type 0

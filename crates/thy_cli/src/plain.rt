@@ -10,7 +10,7 @@ ghost use Rattle.thy_run.specs.Sending.{Sent};
 use crate::answer::Answer;
 use crate::close::answer;
 use crate::refusal::{Refusal, refuse};
-use crate::source::{Task, fetch_program};
+use crate::source::{Program, Task, fetch_program};
 use std::alloc::Global;
 use thy_base::{Shelf, Sink};
 use thy_isa::{MachState, Status};
@@ -62,12 +62,16 @@ pub fn plain_file<H: Shelf, T: Sink, R: Sink>(
         let after = outside (H.stock shelf.new) n (T.stream terminal.new) (R.stream report.new) in
         PlainAnswered (named task.now) before after result }
 {
-    let program = match fetch_program(alloc, task, shelf) {
+    let Program {
+        geometry,
+        image,
+        input,
+    } = match fetch_program(alloc, task, shelf) {
         Ok(program) => program,
         Err(refusal) => return refuse(alloc, refusal, report),
     };
-    let limit = program.geometry.numbers().limit;
-    match Plain::load(alloc, &program.image, &program.geometry, &[]) {
+    let limit = geometry.numbers().limit;
+    match Plain::load(alloc, &image, &geometry, input) {
         Ok(mut machine) => {
             let cycles = machine.run(limit);
             let state = machine.state();

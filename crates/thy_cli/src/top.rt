@@ -14,7 +14,7 @@ use crate::plain::plain_file;
 use crate::refusal::{Refusal, refuse};
 use crate::source::{Program, Task, fetch_program};
 use std::alloc::Global;
-use thy_base::{Bytes, Nvm, Shape, Shelf, Sink};
+use thy_base::{Nvm, Shape, Shelf, Sink};
 use thy_copy::Machine;
 use thy_plain::start_of;
 use thy_record::Start;
@@ -32,7 +32,7 @@ fn plan_of(alloc: Global, task: Task, program: Program) -> Plan
     let start = Start {
         state: start_of(alloc, program.image, &program.geometry),
         kept: None,
-        input: Bytes::new(alloc),
+        input: program.input,
     };
     Plan {
         config: task.config,
@@ -98,8 +98,8 @@ fn run_file<M: Computer, H: Shelf, T: Sink, R: Sink, N: Nvm>(
 /// committed or restored, the events' lines and a closing line to `report`. `plain` runs it on the plain
 /// machine: the console's bytes go to `terminal` when it stops, the line of its end and a closing line to
 /// `report`. The answer has the events (of `run`), the number of done cycles (of `plain`: steps) and
-/// the exit status: 0 the program exited, 1 it trapped, 2 the words are refused, 3 the file was not
-/// had, 4 the file is refused, 6 a sink failed, 7 the device failed, 8 the limit is reached, 9 there
+/// the exit status: 0 the program exited, 1 it trapped, 2 the words are refused, 3 the file or its input
+/// was not had, 4 the file is refused, 6 a sink failed, 7 the device failed, 8 the limit is reached, 9 there
 /// was not enough memory.
 ///
 /// The contract is the claim of this project, `docs/THEOREM.md`: whatever the device leaves at each cut,
@@ -124,13 +124,14 @@ pub fn thynvm<H: Shelf, T: Sink, R: Sink, N: Nvm>(
         Ok(
             Command::Run {
                 file,
-                input: _,
+                input,
                 config,
                 digest,
             },
         ) => {
             let task = Task {
                 file: file.as_str(),
+                input: input.as_deref(),
                 config,
                 digest,
             };
@@ -139,13 +140,14 @@ pub fn thynvm<H: Shelf, T: Sink, R: Sink, N: Nvm>(
         Ok(
             Command::Plain {
                 file,
-                input: _,
+                input,
                 config,
                 digest,
             },
         ) => {
             let task = Task {
                 file: file.as_str(),
+                input: input.as_deref(),
                 config,
                 digest,
             };

@@ -38,22 +38,21 @@ impl Model for Plain {
 }
 
 impl Plain {
-    /// A machine at the start of an image's program, which can read this input. Takes memory for copies of
-    /// the image's memory and of the input, and for the whole console.
+    /// A machine at the start of an image's program, which can read this input. Takes memory for a copy of
+    /// the image's memory, and for the whole console.
     pub fn load(
         alloc: Global,
         image: &Image,
         geometry: &Geometry,
-        input: &[u8],
+        input: Bytes,
     ) -> Result<Plain, AllocError>
         requires { length (bytes_of image.now.memory) ≡ program_size geometry.now }
-        ensures machine { IfOk result (λ m. m ≡ loaded geometry.now (contents_of image.now) input.now) }
+        ensures machine { IfOk result (λ m. m ≡ loaded geometry.now (contents_of image.now) (bytes_of input)) }
         ensures storable { IfOk result (λ m. IsStorable (program_size geometry.now) m.state) }
     {
         let room = geometry.console_room();
         let memory = image.memory.duplicate(alloc)?;
         let console = Bytes::with_room(alloc, room as usize)?;
-        let input = Bytes::from_vec(Vec::from_slice(alloc, input)?);
         Ok(Plain {
             state: state_over(image.entry, image.floor, memory, console, geometry),
             world: World {

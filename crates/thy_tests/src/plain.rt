@@ -59,7 +59,8 @@ fn start(rt: &impl Abort, alloc: Global, words: &[u32]) -> Plain
     ensures { result.state.count ≡ 0 }
 {
     let image = image_of(rt, alloc, words);
-    Plain::load(alloc, &image, &smallest(rt, alloc), b"").expect(rt, "memory")
+    let input = Bytes::new(alloc);
+    Plain::load(alloc, &image, &smallest(rt, alloc), input).expect(rt, "memory")
 }
 
 /// Compares how a state stands.
