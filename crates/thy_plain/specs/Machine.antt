@@ -2,8 +2,8 @@
 use Rattle.std.specs.Prelude.{◌≡◌, ℕ, ◌<◌, ◌≤◌, true, false, List}
 use Rattle.thy_base.specs.declared.config.Parameters.{Parameters}
 use Rattle.thy_base.specs.Bytes.{bytes_of}
-use Rattle.thy_base.specs.Geometry.{console_room}
 use Rattle.thy_elf.specs.Image.{Contents}
+use Rattle.thy_isa.specs.OnBlocks.{setting_for}
 use Rattle.thy_isa.specs.Step.{State, Setting, is_running, step, steps}
 use Rattle.thy_plain.specs.declared.world.World.{World}
 use Rattle.thy_plain.specs.Start.{start_state}
@@ -12,10 +12,6 @@ use Rattle.thy_plain.specs.Start.{start_state}
 pub record Machine : Type 0 where
   pub setting : Setting
   pub state : State
-
--- what stays the same over a run in these numbers, with this input
-abbrev pub setting_for : Parameters → List ℕ → Setting
-setting_for p input = record { base = p.base; input = input; room = console_room p }
 
 -- a machine at the start of a program
 abbrev pub loaded : Parameters → Contents → List ℕ → Machine

@@ -1,12 +1,13 @@
 //! One instruction, in place.
-#![tactic(auto, unfolding(thy_isa::specs::Step::performed, thy_isa::specs::Step::effect_at, thy_isa::specs::Step::read_by, thy_isa::specs::Step::written_by, thy_isa::specs::Step::served, thy_isa::specs::Step::finished, thy_isa::specs::Step::step, thy_isa::specs::Step::advanced, thy_base::specs::LittleEndian::number_bytes))]
+#![tactic(auto, unfolding(thy_isa::specs::Step::performed, thy_isa::specs::Step::effect_at, thy_isa::specs::Step::read_by, thy_isa::specs::Step::memory_by, thy_isa::specs::Step::console_by, thy_isa::specs::Step::memory_served, thy_isa::specs::Step::console_served, thy_isa::specs::Step::served, thy_isa::specs::Step::finished, thy_isa::specs::Step::step, thy_isa::specs::Step::advanced, thy_base::specs::LittleEndian::number_bytes))]
 
-ghost use Rattle.std.specs.Prelude.{◌≡◌, ◌+◌, ◌<◌, ◌≤◌, ◌^◌, length};
+ghost use Rattle.std.specs.Prelude.{◌≡◌, ◌+◌, ◌<◌, ◌≤◌, ◌^◌, ◌++◌, length, take, drop};
 ghost use Rattle.thy_base.specs.Bytes.{bytes_of, room_of, written};
 ghost use Rattle.thy_base.specs.LittleEndian.{number_bytes};
 ghost use Rattle.thy_isa.specs.declared.state.Effect.TheVariants.{Environment};
 ghost use Rattle.thy_isa.specs.Access.{IsWithin};
-ghost use Rattle.thy_isa.specs.Effects.{size_of};
+ghost use Rattle.thy_isa.specs.Effects.{size_of, after};
+ghost use Rattle.thy_isa.specs.Regs.{regs_with};
 ghost use Rattle.thy_isa.specs.Step.{state_of, call_state_of, effect_at, performed, is_running, step};
 ghost use Rattle.thy_plain.specs.Machine.{setting_of};
 
@@ -62,21 +63,66 @@ fn call_state(state: &MachState, world: &World) -> CallState
     }
 }
 
+/// Writes over memory from byte `at` on what is taken of the input.
+fn take(memory: &mut Bytes, at: usize, input: &Bytes, from: usize, len: usize)
+    requires inside { at + len ≤ length (bytes_of memory.old) }
+    requires left { from + len ≤ length (bytes_of input.now) }
+    ensures memory { bytes_of memory.new ≡ written (bytes_of memory.old) at (take len (drop from (bytes_of input.now))) }
+{
+    memory.put(at, &input.as_slice()[from..from + len]);
+}
+
+/// Adds to the console what is given from memory. There is room for it.
+fn give(console: &mut Bytes, memory: &Bytes, at: usize, len: usize)
+    requires inside { at + len ≤ length (bytes_of memory.now) }
+    requires room { length (bytes_of console.old) + len ≤ room_of console.old }
+    ensures console { bytes_of console.new ≡ bytes_of console.old ++ take len (drop at (bytes_of memory.now)) }
+    ensures room { room_of console.old ≤ room_of console.new }
+{
+    match console.extend(&memory.as_slice()[at..at + len]) {
+        Ok(()) => {}
+        Err(_) => unreachable!(),
+    }
+}
+
+/// The instruction after an environment call, with the call's answer in a0.
+fn answer(state: &mut MachState, value: u64)
+    requires { state.old.count < 2 ^ 63 }
+    ensures { state.new ≡ record state.old { pc = after state.old.pc; regs = regs_with state.old.regs 10 value; count = state.old.count + 1 } }
+{
+    state.regs.set(Reg::new(A0), value);
+    state.pc = after(state.pc);
+    state.count += 1;
+}
+
 /// Does an environment call.
 fn serve(state: &mut MachState, world: &World)
-    requires { state.old.count < 2 ^ 63 }
+    requires count { state.old.count < 2 ^ 63 }
+    requires room { world.now.room ≤ room_of state.old.console }
     ensures state { state_of state.new ≡ performed (setting_of world.now) (state_of state.old) Environment }
-    ensures room { room_of state.new.console ≡ room_of state.old.console }
+    ensures room { room_of state.old.console ≤ room_of state.new.console }
 {
     match call(&state.regs, &call_state(state, world)) {
-        Call::Answer(value) => {
-            state.regs.set(Reg::new(A0), value);
-            state.pc = after(state.pc);
-            state.count += 1;
-        }
+        Call::Answer(value) => answer(state, value),
         Call::Exit(value) => {
             state.status = Status::Exited(value);
             state.count += 1;
+        }
+        Call::Break(at) => {
+            answer(state, at);
+            state.brk = at;
+        }
+        Call::Take { at, len } => {
+            let to = (at - world.base) as usize;
+            let from = state.cursor as usize;
+            take(&mut state.memory, to, &world.input, from, len as usize);
+            answer(state, len);
+            state.cursor += len;
+        }
+        Call::Give { at, len } => {
+            let from = (at - world.base) as usize;
+            give(&mut state.console, &state.memory, from, len as usize);
+            answer(state, len);
         }
     }
 }
@@ -84,9 +130,10 @@ fn serve(state: &mut MachState, world: &World)
 /// Does what an instruction does, to a state that runs.
 fn perform(state: &mut MachState, world: &World, effect: Effect)
     requires count { state.old.count < 2 ^ 63 }
+    requires room { world.now.room ≤ room_of state.old.console }
     requires inside { IsWithin world.now.base (length (bytes_of state.old.memory)) effect }
     ensures state { state_of state.new ≡ performed (setting_of world.now) (state_of state.old) effect }
-    ensures room { room_of state.new.console ≡ room_of state.old.console }
+    ensures room { room_of state.old.console ≤ room_of state.new.console }
 {
     match effect {
         Effect::Next { pc } => {
@@ -140,9 +187,10 @@ pub(crate) fn runs(status: Status) -> bool
 
 /// Takes a step. An ended state stays as it is.
 pub(crate) fn take_step(state: &mut MachState, world: &World)
-    requires { state.old.count < 2 ^ 63 }
+    requires count { state.old.count < 2 ^ 63 }
+    requires room { world.now.room ≤ room_of state.old.console }
     ensures state { state_of state.new ≡ step (setting_of world.now) (state_of state.old) }
-    ensures room { room_of state.new.console ≡ room_of state.old.console }
+    ensures room { room_of state.old.console ≤ room_of state.new.console }
 {
     if runs(state.status) {
         let effect = next_effect(state, world.base);
