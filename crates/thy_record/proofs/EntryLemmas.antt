@@ -1,17 +1,15 @@
 -- Which entry of a table lists a number, and where that puts a block.
-use Rattle.std.proofs.Common.{◌≡◌, ℕ, zero, suc, ◌+◌, ◌%◌, ◌/◌, ◌==◌, ◌<◌, ◌≤◌, Bool, true, false, cond, ltb, List, [], ◌∷◌, length, take, get_or, Option, Some, None, refl, sym, ◌∙◌, ap, subst, inl, inr, arith}
+use Rattle.std.proofs.Common.{◌≡◌, ℕ, zero, suc, ◌+◌, ◌%◌, ◌/◌, ◌<◌, ◌≤◌, Bool, true, false, cond, List, [], ◌∷◌, length, take, get_or, Option, Some, None, refl, sym, ◌∙◌, ap, inl, inr, arith}
 use Rattle.std.proofs.lemmas.Bool.{cases_lt, eq-eqb, eqb-true}
 use Rattle.std.proofs.lemmas.List.{get_or-take, get_or_past, length-take}
 use Rattle.std.proofs.lemmas.List.Quantifiers.{position-Some}
 use Rattle.std.proofs.lemmas.Iterator.Adapters.{position_from-zero}
-use Rattle.std.specs.List.{position, position_from}
+use Rattle.std.specs.List.{position_from}
 use Rattle.thy_base.specs.declared.config.Parameters.{Parameters}
-use Rattle.thy_base.specs.declared.place.Place.{Place}
-use Rattle.thy_base.specs.declared.place.Place.TheVariants.{Home, AlternateBlock, AlternatePage}
 use Rattle.thy_base.specs.Geometry.{memory_blocks}
-use Rattle.thy_base.specs.Places.{in_dram, IsPlace, number_of, first_home, image_blocks}
+use Rattle.thy_base.specs.Places.{in_dram, IsPlace}
 use Rattle.thy_base.specs.Store.{page_of}
-use Rattle.thy_record.specs.Tables.{Tables, entry_at, Lists, is_entry_of, entry_of, place_in_page, place_by_entries, place_of, IsTables}
+use Rattle.thy_record.specs.Tables.{Tables, entry_at, Lists, is_entry_of, entry_of, place_by_entries, place_of, IsTables}
 
 -- ---- entries
 
@@ -67,6 +65,24 @@ listed_is table n i (Some k) h l only = ap Some (only k (entry_of-Some table n k
 -- the only entry that lists a number is found
 pub entry_of-listed : (table : List (Option ℕ)) (n i : ℕ) → Lists table i n → ((k : ℕ) → Lists table k n → k ≡ i) → entry_of table n ≡ Some i
 entry_of-listed table n i l only = listed_is table n i (entry_of table n) refl l only
+
+-- no entry before the one that is found lists the number
+pub entry_of-before : (table : List (Option ℕ)) (n i k : ℕ) → entry_of table n ≡ Some i → k < i → Lists table k n → ⊥
+entry_of-before table n i k h l here =
+    let other : is_entry_of n (entry_at table k) ≡ false = (position-Some (is_entry_of n) table i None h).2 k l in
+    let this : is_entry_of n (entry_at table k) ≡ true = test_of_listed n (entry_at table k) here.is in
+    cc
+
+first_is : (table : List (Option ℕ)) (n i : ℕ) (found : Option ℕ) → entry_of table n ≡ found
+    → ((k : ℕ) → k < i → Lists table k n → ⊥) → Lists table i n → found ≡ Some i
+first_is table n i None h none l = absurd (entry_of-None table n i h l)
+first_is table n i (Some k) h none l = elim (cases_lt k i) as (λ _. (let o : Option ℕ = Some k in o) ≡ Some i) [
+  | inl below ↦ absurd (none k below (entry_of-Some table n k h))
+  | inr above ↦ elim (cases_lt i k) as (λ _. (let o : Option ℕ = Some k in o) ≡ Some i) [
+    | inl over ↦ absurd (entry_of-before table n k i h over l)
+    | inr level ↦ let same : k ≡ i = omega arith in ap Some same
+  ]
+]
 
 -- the first k entries list what the table's do
 pub Lists-take : (table : List (Option ℕ)) (k i n : ℕ) → i < k → Lists table i n → Lists (take k table) i n
@@ -130,3 +146,16 @@ own_place t b c (Some i) bp (Some k) cp e f g h same =
 pub place_of-own : (t : Tables) (b c : ℕ) → place_of t b ≡ place_of t c → b ≡ c
 place_of-own t b c same =
     own_place t b c (entry_of t.btt b) (entry_of t.ptt (page_of b)) (entry_of t.btt c) (entry_of t.ptt (page_of c)) refl refl refl refl same
+
+-- ---- a search through the entries, of which the first i do not list the number
+
+pub entry_of-found : (table : List (Option ℕ)) (n i : ℕ) → ((k : ℕ) → k < i → Lists table k n → ⊥) → Lists table i n → Some i ≡ entry_of table n
+entry_of-found table n i none l = sym (first_is table n i (entry_of table n) refl none l)
+
+pub entry_of-none : (table : List (Option ℕ)) (n i : ℕ) → length table ≤ i → ((k : ℕ) → k < i → Lists table k n → ⊥) → None ≡ entry_of table n
+entry_of-none table n i past none =
+    sym (entry_of-absent table n (λ k l. let inside = Lists-inside table k n l in none k (omega arith) l))
+
+-- what is found among the first k entries is before entry k
+pub entry_of-in_take : (table : List (Option ℕ)) (k n i : ℕ) → entry_of (take k table) n ≡ Some i → i < k
+entry_of-in_take table k n i h = (Lists-of_take table k i n (entry_of-Some (take k table) n i h)).0

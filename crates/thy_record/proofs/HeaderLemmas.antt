@@ -1,10 +1,9 @@
 -- A header that was written reads back, and has no fault.
-use Rattle.std.proofs.Common.{◌≡◌, ℕ, ◌^◌, ◌<◌, Bool, true, false, ◌&&◌, ◌==◌, slice_index, if◌then◌else◌, Option, Some, None, refl, sym, ◌∙◌, subst, arith}
+use Rattle.std.proofs.Common.{◌≡◌, ℕ, ◌^◌, ◌<◌, Bool, true, false, ◌&&◌, ◌==◌, slice_index, if◌then◌else◌, Some, None, refl, sym, ◌∙◌, subst, arith}
 use Rattle.std.proofs.lemmas.Bool.{eq-eqb}
 use Rattle.thy_base.specs.declared.block.Block.{Block}
 use Rattle.thy_base.specs.declared.config.Parameters.{Parameters}
 use Rattle.thy_base.specs.Geometry.{IsInRange}
-use Rattle.thy_record.specs.declared.image.BadImage.{BadImage}
 use Rattle.thy_record.specs.declared.image.BadImage.TheVariants.{Header, Version, Geometry}
 use Rattle.thy_record.specs.Words.{word_of}
 use Rattle.thy_record.specs.Header.{header_magic, header_words, header_of, is_of_geometry, header_fault}

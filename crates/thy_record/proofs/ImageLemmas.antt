@@ -1,6 +1,6 @@
 -- What an image decodes to, by its parts.
-use Rattle.std.proofs.Common.{◌≡◌, ℕ, zero, suc, ◌+◌, ◌%◌, ◌^◌, ◌<◌, ◌≤◌, ◌==◌, ◌&&◌, Bool, true, false, nat_lt, nat_le, if◌then◌else◌, List, [], ◌∷◌, ◌++◌, length, map, Contains, Option, Some, None, refl, sym, ◌∙◌, ap, subst, inl, inr, arith}
-use Rattle.std.proofs.lemmas.Bool.{cases_lt, eq-eqb, eqb-true, lt-ltb, ltb-true}
+use Rattle.std.proofs.Common.{◌≡◌, ℕ, ◌+◌, ◌%◌, ◌^◌, ◌<◌, ◌≤◌, ◌==◌, ◌&&◌, Bool, true, false, nat_lt, nat_le, if◌then◌else◌, List, [], ◌∷◌, ◌++◌, length, map, Contains, Option, Some, None, refl, sym, ◌∙◌, ap, arith}
+use Rattle.std.proofs.lemmas.Bool.{eq-eqb, eqb-true, lt-ltb, ltb-true}
 use Rattle.std.proofs.lemmas.List.{length-map, get_or-map, ext_get_or}
 use Rattle.std.proofs.lemmas.List.Elements.{Contains-get_or, Contains-append_left, Contains-append_right, Contains-push}
 use Rattle.std.proofs.lemmas.List.FromFn.{length-range_with_len, get_or-range_with_len}
@@ -9,20 +9,20 @@ use Rattle.std.specs.Option.{option_or}
 use Rattle.thy_base.specs.declared.block.Block.{Block}
 use Rattle.thy_base.specs.declared.config.Parameters.{Parameters}
 use Rattle.thy_base.specs.Device.{zero_block, block_at}
-use Rattle.thy_base.specs.Geometry.{IsInRange, console_room, memory_blocks}
+use Rattle.thy_base.specs.Geometry.{IsInRange, console_room}
 use Rattle.thy_base.specs.Places.{slot_blocks, slot_place, image_blocks}
 use Rattle.thy_isa.specs.declared.state.CpuState.{CpuState}
 use Rattle.thy_isa.specs.Step.{State}
 use Rattle.thy_record.specs.declared.image.BadImage.{BadImage}
 use Rattle.thy_record.specs.declared.image.BadImage.TheVariants.{Commit, Status, ConsoleLength}
 use Rattle.thy_record.specs.Words.{word_of}
-use Rattle.thy_record.specs.Commit.{commit_magic, commit_of, is_zero, epoch_of, has_zero_rest, commit_fault}
+use Rattle.thy_record.specs.Commit.{commit_magic, is_zero, epoch_of, has_zero_rest, commit_fault}
 use Rattle.thy_record.specs.Cpu.{cpu_of_record, record_word, is_status, IsRecordable}
-use Rattle.thy_record.specs.Decoded.{Decoded, Nothing, Refused, At}
+use Rattle.thy_record.specs.Decoded.{Nothing, At}
 use Rattle.thy_record.specs.Flat.{state_from}
-use Rattle.thy_record.specs.Header.{header_of, header_fault}
-use Rattle.thy_record.specs.Images.{slot_numbers, slot_in, memory_numbers, memory_in, state_in, image_fault, refused_or_at, decode_with, decode_image, looked, IsWholeImage}
-use Rattle.thy_record.specs.ImageLaws.{HasCheckpoint, IsDecoded, IsAlike, IsFaultless}
+use Rattle.thy_record.specs.Header.{header_fault}
+use Rattle.thy_record.specs.Images.{slot_numbers, slot_in, memory_numbers, memory_in, state_in, image_fault, refused_or_at, decode_with, decode_image}
+use Rattle.thy_record.specs.ImageLaws.{HasCheckpoint, IsDecoded, IsAlike}
 use Rattle.thy_record.specs.Slots.{tables_in, epoch_fault, status_fault, slot_fault}
 use Rattle.thy_record.specs.Tables.{Tables, IsTables}
 use Rattle.thy_record.specs.TableFaults.{tables_fault}
@@ -44,10 +44,10 @@ pub map-alike : (f g : ℕ → Block) (xs : List ℕ) → ((x : ℕ) → Contain
 map-alike f g xs each =
     ext_get_or zero_block (map f xs) (map g xs) (length-map xs f ∙ sym (length-map xs g))
     (λ k below.
-        let l : k < length xs = omega (arith, length-map xs f) in
-        get_or-map f xs k 0 zero_block l
-        ∙ each _ (Contains-get_or xs k 0 l)
-        ∙ sym (get_or-map g xs k 0 zero_block l))
+    let l : k < length xs = omega (arith, length-map xs f) in
+    get_or-map f xs k 0 zero_block l
+    ∙ each _ (Contains-get_or xs k 0 l)
+    ∙ sym (get_or-map g xs k 0 zero_block l))
 
 pub block_at-slot_in : (p : Parameters) (image : List Block) (k : ℕ) → k < slot_blocks p
     → block_at (slot_in p image) k ≡ block_at image (slot_place p (epoch_of (block_at image 1) % 2) + k)

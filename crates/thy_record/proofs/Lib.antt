@@ -8,3 +8,6 @@ pub mod TableFaultLemmas
 pub mod HeaderLemmas
 pub mod SlotLemmas
 pub mod ImageLemmas
+pub mod ClashLemmas
+pub mod FileLemmas
+pub mod CheckLemmas

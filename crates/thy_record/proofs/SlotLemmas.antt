@@ -1,26 +1,24 @@
 -- A slot that was written reads back, and has no fault.
-use Rattle.std.proofs.Common.{◌≡◌, ℕ, zero, suc, ◌+◌, ◌-◌, ◌*◌, ◌/◌, ◌%◌, ◌^◌, ◌<◌, ◌≤◌, true, false, nat_lt, nat_le, ◌==◌, if◌then◌else◌, List, ◌++◌, length, map, take, drop, slice_index, Option, Some, None, refl, sym, ◌∙◌, ap, subst, inl, inr, arith}
+use Rattle.std.proofs.Common.{◌≡◌, ℕ, ◌+◌, ◌-◌, ◌*◌, ◌/◌, ◌%◌, ◌^◌, ◌<◌, ◌≤◌, if◌then◌else◌, List, ◌++◌, length, take, drop, slice_index, Option, Some, None, refl, sym, ◌∙◌, ap, subst, inl, inr, arith}
 use Rattle.std.proofs.lemmas.Bool.{cases_lt, eq-eqb, lt-ltb, le-leb}
 use Rattle.std.proofs.lemmas.List.{length-map, length-append, length-take-le, length-drop, get_or-map, get_or-take, get_or-drop, get_or_append_left, get_or-append-add, ext_get_or}
 use Rattle.std.proofs.lemmas.List.FromFn.{length-map-range_with_len, get_or-map-range_with_len}
 use Rattle.thy_base.specs.declared.block.Block.{Block}
 use Rattle.thy_base.specs.declared.config.Parameters.{Parameters}
 use Rattle.thy_base.specs.Device.{block_at}
-use Rattle.thy_base.specs.Geometry.{IsInRange, console_room, memory_blocks}
+use Rattle.thy_base.specs.Geometry.{IsInRange, console_room}
 use Rattle.thy_base.specs.Places.{slot_blocks}
 use Rattle.thy_isa.specs.declared.state.CpuState.{CpuState}
-use Rattle.thy_record.specs.Words.{word_of, block_of}
-use Rattle.thy_record.specs.Cpu.{status_tag, status_value, cpu_block_of, is_status, record_word, BeginsWithRecord, IsRecordable}
+use Rattle.thy_record.specs.Words.{word_of}
+use Rattle.thy_record.specs.Cpu.{status_tag, cpu_block_of, is_status, record_word, BeginsWithRecord, IsRecordable}
 use Rattle.thy_record.specs.Tables.{Tables, entry_at, Lists, IsTables}
 use Rattle.thy_record.specs.TableBlocks.{entry_word, entry_from, table_words, table_block_of}
 use Rattle.thy_record.specs.TableFaults.{tables_fault}
 use Rattle.thy_record.specs.Slots.{slot_block_of, entries_in, tables_in, epoch_fault, status_fault, slot_fault}
 use Rattle.thy_record.proofs.WordLemmas.{word_of-block_of}
-use Rattle.thy_record.proofs.CpuLemmas.{rest_words}
 use Rattle.thy_record.proofs.ReadBackLemmas.{taken, both, rest_back}
 use Rattle.thy_record.proofs.TableLemmas.{entry_from-entry_word}
 use Rattle.thy_record.proofs.TableFaultLemmas.{both_none, IsFaultless-tables}
-use Rattle.thy_record.proofs.EntryLemmas.{Lists-inside}
 
 -- these blocks are the slot of a checkpoint
 pub record IsSlotOf (p : Parameters) (cpu : CpuState) (t : Tables) (epoch : ℕ) (slot : List Block) : Type 0 where
@@ -117,15 +115,15 @@ pub tables_in-back : (p : Parameters) (cpu : CpuState) (t : Tables) (epoch : ℕ
 tables_in-back p cpu t epoch slot r s of =
     tables_same (entries_in slot 40 p.btt) (entries_in slot (40 + p.btt) p.ptt) t.btt t.ptt
     (entries_back slot 40 p.btt t.btt s.btt_length (λ i l.
-        entry_back p cpu t epoch slot i r s of (omega arith)
-        ∙ get_or_append_left t.btt t.ptt None i (omega (arith, s.btt_length))))
+    entry_back p cpu t epoch slot i r s of (omega arith)
+    ∙ get_or_append_left t.btt t.ptt None i (omega (arith, s.btt_length))))
     (entries_back slot (40 + p.btt) p.ptt t.ptt s.ptt_length (λ j l.
-        let at : 40 + p.btt + j ≡ 40 + (p.btt + j) = omega arith in
-        let from : p.btt + j ≡ length t.btt + j = omega (arith, s.btt_length) in
-        ap (λ x. entry_from (record_word slot x)) at
-        ∙ entry_back p cpu t epoch slot (p.btt + j) r s of (omega arith)
-        ∙ ap (entry_at (t.btt ++ t.ptt)) from
-        ∙ get_or-append-add t.btt t.ptt j None))
+    let at : 40 + p.btt + j ≡ 40 + (p.btt + j) = omega arith in
+    let from : p.btt + j ≡ length t.btt + j = omega (arith, s.btt_length) in
+    ap (λ x. entry_from (record_word slot x)) at
+    ∙ entry_back p cpu t epoch slot (p.btt + j) r s of (omega arith)
+    ∙ ap (entry_at (t.btt ++ t.ptt)) from
+    ∙ get_or-append-add t.btt t.ptt j None))
 
 -- ---- its faults
 

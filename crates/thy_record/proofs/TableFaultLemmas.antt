@@ -1,5 +1,5 @@
 -- Tables have no fault exactly where they list blocks and pages of memory, none twice, and no block of a listed page.
-use Rattle.std.proofs.Common.{◌≡◌, ℕ, zero, suc, ◌+◌, ◌<◌, ◌≤◌, Bool, true, false, nat_lt, if◌then◌else◌, List, [], ◌∷◌, length, take, Option, Some, None, refl, sym, ◌∙◌, ap, subst, inl, inr, arith, zero-add}
+use Rattle.std.proofs.Common.{◌≡◌, ℕ, zero, suc, ◌+◌, ◌<◌, Bool, true, false, nat_lt, if◌then◌else◌, List, [], ◌∷◌, take, Option, Some, None, refl, sym, ◌∙◌, ap, inl, inr, arith, zero-add}
 use Rattle.std.proofs.lemmas.Bool.{cases_lt, lt-ltb, ltb-true}
 use Rattle.std.proofs.Math.Nat.{add-zero}
 use Rattle.std.specs.Option.{option_or, option_map}
@@ -8,10 +8,10 @@ use Rattle.thy_base.specs.Geometry.{memory_blocks}
 use Rattle.thy_base.specs.Store.{page_of}
 use Rattle.thy_record.specs.declared.image.BadImage.{BadImage}
 use Rattle.thy_record.specs.declared.image.BadImage.TheVariants.{TableIndex}
-use Rattle.thy_record.specs.Tables.{Tables, entry_at, Lists, entry_of, IsTables}
+use Rattle.thy_record.specs.Tables.{Tables, Lists, entry_of, IsTables}
 use Rattle.thy_record.specs.TableFaults.{entry_fault, first_clash, index_rule, twice_rule, under_rule, index_fault, twice_fault, under_fault, tables_fault}
 use Rattle.thy_record.specs.ImageLaws.{IsFaultless}
-use Rattle.thy_record.proofs.EntryLemmas.{entry_of-None, entry_of-absent, entry_of-Some, Lists-take, Lists-of_take}
+use Rattle.thy_record.proofs.EntryLemmas.{entry_of-None, entry_of-absent, Lists-take, Lists-of_take}
 
 -- ---- the first of two faults, and of a list
 
@@ -50,8 +50,8 @@ first_clash-of_rule rule k (e ∷ es) h =
     both_none (entry_fault rule k e) (first_clash rule (k + 1) es)
     (entry_fault-None rule k e (λ n is. ap (λ x. rule x n) (sym (add-zero k)) ∙ h 0 n (record { is = is })))
     (first_clash-of_rule rule (k + 1) es (λ i n l.
-        let next : k + 1 + i ≡ k + suc i = omega arith in
-        ap (λ x. rule x n) next ∙ h (suc i) n (record { is = l.is })))
+    let next : k + 1 + i ≡ k + suc i = omega arith in
+    ap (λ x. rule x n) next ∙ h (suc i) n (record { is = l.is })))
 
 -- the same of a whole table
 pub unbroken : (rule : ℕ → ℕ → Option BadImage) (es : List (Option ℕ)) → first_clash rule 0 es ≡ None

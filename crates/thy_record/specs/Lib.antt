@@ -10,3 +10,4 @@ pub mod TableFaults
 pub mod Slots
 pub mod Images
 pub mod ImageLaws
+pub mod Files

@@ -22,9 +22,14 @@ first_clash rule k (e ∷ es) = option_or (entry_fault rule k e) (first_clash ru
 abbrev pub index_rule : ℕ → ℕ → ℕ → ℕ → Option BadImage
 index_rule before limit i n = if nat_lt n limit then None else Some (TableIndex (before + i))
 
+-- the entry before entry k that lists what that does
+abbrev pub twin_of : List (Option ℕ) → ℕ → Option ℕ → Option ℕ
+twin_of table k None = None
+twin_of table k (Some n) = entry_of (take k table) n
+
 -- an entry lists what an earlier one of its table does
 abbrev pub twice_rule : ℕ → List (Option ℕ) → ℕ → ℕ → Option BadImage
-twice_rule before table k n = option_map (λ i. TableTwice (before + i) (before + k)) (entry_of (take k table) n)
+twice_rule before table k n = option_map (λ i. TableTwice (before + i) (before + k)) (twin_of table k (Some n))
 
 -- an entry of the block table lists a block of a page that the page table lists
 abbrev pub under_rule : List (Option ℕ) → ℕ → ℕ → Option BadImage

@@ -5,21 +5,28 @@
 mod commit;
 mod cpu;
 mod engine_step;
+mod file;
+mod header;
 mod image;
 mod laws;
 mod memory;
+mod slot;
 mod start;
+mod table_faults;
 mod tables;
 mod words;
 
 pub use commit::{COMMIT_MAGIC, commit_block, commit_fault, is_zero};
 pub use cpu::{cpu_block, cpu_state, record_fault};
 pub use engine_step::EngineStep;
+pub use file::{Found, check};
+pub use header::{HEADER_MAGIC, VERSION, header_block, header_fault};
 pub use image::BadImage;
 pub use laws::{
     ceiling_grows, decoded_is_whole, faultless_tables, looked_decides, written_decodes,
 };
 pub use memory::{load, store};
+pub use slot::slot_fault;
 pub use start::Start;
 pub use tables::{table_block, table_entry};
 pub use words::{block_with, word};

@@ -30,13 +30,20 @@ pub fn table_block(entries: &[Option<u64>; 8]) -> Block
     block_with(&words)
 }
 
+// The entry of a word.
+pub(crate) fn entry_from_word(word: u64) -> Option<u64>
+    ensures { result ≡ entry_from word }
+{
+    match word {
+        0 => None,
+        listed => Some(listed - 1),
+    }
+}
+
 /// Entry `i` of a block of a table, 0 to 7.
 pub fn table_entry(block: &Block, i: u64) -> Option<u64>
     requires { i < 8 }
     ensures { result ≡ entry_from (word_of block.now i) }
 {
-    match word(block, i) {
-        0 => None,
-        listed => Some(listed - 1),
-    }
+    entry_from_word(word(block, i))
 }

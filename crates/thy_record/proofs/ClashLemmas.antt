@@ -1,0 +1,109 @@
+-- The first fault of a table's entries, entry by entry; and entries in the bytes of a table.
+use Rattle.std.proofs.Common.{◌≡◌, ℕ, ◌+◌, ◌*◌, ◌/◌, ◌<◌, ◌≤◌, List, length, take, drop, Option, Some, None, sym, ◌∙◌, ap, arith}
+use Rattle.std.proofs.lemmas.List.{at_drop_more, at_drop_all, ext_get_or, get_or-take, length-take-le}
+use Rattle.std.proofs.lemmas.List.FromFn.{length-map-range_with_len, get_or-map-range_with_len}
+use Rattle.std.specs.Option.{option_or}
+use Rattle.thy_base.specs.declared.config.Parameters.{Parameters}
+use Rattle.thy_base.specs.Geometry.{memory_blocks}
+use Rattle.thy_base.specs.LittleEndian.{number_at}
+use Rattle.thy_base.proofs.LittleEndianLemmas.{number_at-take}
+use Rattle.thy_record.specs.declared.image.BadImage.{BadImage}
+use Rattle.thy_record.specs.Files.{table_in}
+use Rattle.thy_record.specs.Tables.{Tables, entry_at}
+use Rattle.thy_record.specs.TableBlocks.{entry_from}
+use Rattle.thy_record.specs.TableFaults.{entry_fault, first_clash, index_rule, twice_rule, index_fault, twice_fault, under_fault, tables_fault}
+
+-- ---- a search through the entries, of which the first i have no fault
+
+-- the first fault is that of entry i, or else that of the entries behind it
+clash_step : (rule : ℕ → ℕ → Option BadImage) (table : List (Option ℕ)) (i : ℕ) → i < length table
+    → first_clash rule i (drop i table) ≡ option_or (entry_fault rule i (entry_at table i)) (first_clash rule (i + 1) (drop (i + 1) table))
+clash_step rule table i l = at_drop_more (first_clash rule i) table i None l
+
+pub clash_found : (rule : ℕ → ℕ → Option BadImage) (table : List (Option ℕ)) (i : ℕ) (bad : BadImage) → i < length table
+    → first_clash rule 0 table ≡ first_clash rule i (drop i table) → entry_fault rule i (entry_at table i) ≡ Some bad
+    → Some bad ≡ first_clash rule 0 table
+clash_found rule table i bad l before here =
+    sym (before ∙ clash_step rule table i l ∙ ap (λ x. option_or x (first_clash rule (i + 1) (drop (i + 1) table))) here)
+
+pub clash_passed : (rule : ℕ → ℕ → Option BadImage) (table : List (Option ℕ)) (i : ℕ) → i < length table
+    → first_clash rule 0 table ≡ first_clash rule i (drop i table) → entry_fault rule i (entry_at table i) ≡ None
+    → first_clash rule 0 table ≡ first_clash rule (i + 1) (drop (i + 1) table)
+clash_passed rule table i l before here =
+    before ∙ clash_step rule table i l ∙ ap (λ x. option_or x (first_clash rule (i + 1) (drop (i + 1) table))) here
+
+pub clash_none : (rule : ℕ → ℕ → Option BadImage) (table : List (Option ℕ)) (i : ℕ) → length table ≤ i
+    → first_clash rule 0 table ≡ first_clash rule i (drop i table) → None ≡ first_clash rule 0 table
+clash_none rule table i past before = sym (before ∙ at_drop_all (first_clash rule i) table i past)
+
+-- ---- the bytes of a table
+
+pub length-table_in : (bytes : List ℕ) → length (table_in bytes) ≡ length bytes / 8
+length-table_in bytes = length-map-range_with_len (λ i. entry_from (number_at 8 bytes (8 * i))) 0 (length bytes / 8)
+
+pub entry_at-table_in : (bytes : List ℕ) (i : ℕ) → i < length bytes / 8 → entry_at (table_in bytes) i ≡ entry_from (number_at 8 bytes (8 * i))
+entry_at-table_in bytes i l = get_or-map-range_with_len (λ i. entry_from (number_at 8 bytes (8 * i))) 0 (length bytes / 8) i i None l (omega arith)
+
+-- the first k entries are those of the first bytes
+pub table_in-take : (bytes : List ℕ) (k : ℕ) → k ≤ length bytes / 8 → table_in (take (8 * k) bytes) ≡ take k (table_in bytes)
+table_in-take bytes k most =
+    let front : length (take (8 * k) bytes) ≡ 8 * k = length-take-le (8 * k) bytes (omega arith) in
+    let left : length (table_in (take (8 * k) bytes)) ≡ k = omega (arith, length-table_in (take (8 * k) bytes), front) in
+    let right : length (take k (table_in bytes)) ≡ k = length-take-le k (table_in bytes) (omega (arith, length-table_in bytes)) in
+    ext_get_or None (table_in (take (8 * k) bytes)) (take k (table_in bytes)) (left ∙ sym right)
+    (λ i below.
+    let l : i < k = omega (arith, left) in
+    entry_at-table_in (take (8 * k) bytes) i (omega (arith, front))
+    ∙ ap entry_from (number_at-take 8 (8 * k) bytes (8 * i) (omega arith))
+    ∙ sym (get_or-take k (table_in bytes) i None l ∙ entry_at-table_in bytes i (omega arith)))
+
+-- ---- the first of the five searches that finds a fault
+
+abbrev pub blocks_index : Parameters → Tables → Option BadImage
+blocks_index p t = first_clash (index_rule 0 (memory_blocks p)) 0 t.btt
+
+abbrev pub pages_index : Parameters → Tables → Option BadImage
+pages_index p t = first_clash (index_rule p.btt p.pages) 0 t.ptt
+
+abbrev pub blocks_twice : Tables → Option BadImage
+blocks_twice t = first_clash (twice_rule 0 t.btt) 0 t.btt
+
+abbrev pub pages_twice : Parameters → Tables → Option BadImage
+pages_twice p t = first_clash (twice_rule p.btt t.ptt) 0 t.ptt
+
+pub first_search : (p : Parameters) (t : Tables) (bad : BadImage) → Some bad ≡ blocks_index p t → Some bad ≡ tables_fault p t
+unfolding tables_fault
+first_search p t bad h = ap (λ x. option_or (option_or x (pages_index p t)) (option_or (twice_fault p t) (under_fault t))) h
+
+pub second_search : (p : Parameters) (t : Tables) (bad : BadImage) → None ≡ blocks_index p t → Some bad ≡ pages_index p t → Some bad ≡ tables_fault p t
+unfolding tables_fault
+second_search p t bad h k =
+    ap (λ x. option_or x (option_or (twice_fault p t) (under_fault t))) k
+    ∙ ap (λ x. option_or (option_or x (pages_index p t)) (option_or (twice_fault p t) (under_fault t))) h
+
+no_index : (p : Parameters) (t : Tables) → None ≡ blocks_index p t → None ≡ pages_index p t → None ≡ index_fault p t
+no_index p t h k = k ∙ ap (λ x. option_or x (pages_index p t)) h
+
+pub third_search : (p : Parameters) (t : Tables) (bad : BadImage) → None ≡ blocks_index p t → None ≡ pages_index p t
+    → Some bad ≡ blocks_twice t → Some bad ≡ tables_fault p t
+unfolding tables_fault
+third_search p t bad h k l =
+    ap (λ x. option_or (option_or x (pages_twice p t)) (under_fault t)) l
+    ∙ ap (λ x. option_or x (option_or (twice_fault p t) (under_fault t))) (no_index p t h k)
+
+pub fourth_search : (p : Parameters) (t : Tables) (bad : BadImage) → None ≡ blocks_index p t → None ≡ pages_index p t
+    → None ≡ blocks_twice t → Some bad ≡ pages_twice p t → Some bad ≡ tables_fault p t
+unfolding tables_fault
+fourth_search p t bad h k l m =
+    ap (λ x. option_or x (under_fault t)) m
+    ∙ ap (λ x. option_or (option_or x (pages_twice p t)) (under_fault t)) l
+    ∙ ap (λ x. option_or x (option_or (twice_fault p t) (under_fault t))) (no_index p t h k)
+
+pub last_search : (p : Parameters) (t : Tables) (found : Option BadImage) → None ≡ blocks_index p t → None ≡ pages_index p t
+    → None ≡ blocks_twice t → None ≡ pages_twice p t → found ≡ under_fault t → found ≡ tables_fault p t
+unfolding tables_fault
+last_search p t found h k l m n =
+    n
+    ∙ ap (λ x. option_or x (under_fault t)) m
+    ∙ ap (λ x. option_or (option_or x (pages_twice p t)) (under_fault t)) l
+    ∙ ap (λ x. option_or x (option_or (twice_fault p t) (under_fault t))) (no_index p t h k)

@@ -1,0 +1,111 @@
+-- The blocks of bytes: their words, tables in them, and slots of an image.
+use Rattle.std.proofs.Common.{◌≡◌, ℕ, ◌+◌, ◌-◌, ◌*◌, ◌/◌, ◌%◌, ◌<◌, ◌≤◌, List, length, take, drop, None, sym, ◌∙◌, ap, arith}
+use Rattle.std.proofs.lemmas.List.{ext_get_or, length-drop, length-take-le, drop-drop, drop-take, take-take, length-map}
+use Rattle.std.proofs.lemmas.List.FromFn.{length-map-range_with_len, get_or-map-range_with_len, length-range_with_len}
+use Rattle.std.specs.List.{range_with_len}
+use Rattle.thy_base.specs.declared.block.Block.{Block}
+use Rattle.thy_base.specs.declared.config.Parameters.{Parameters}
+use Rattle.thy_base.specs.Device.{zero_block, block_at}
+use Rattle.thy_base.specs.LittleEndian.{number_at}
+use Rattle.thy_base.specs.Places.{slot_blocks, slot_place, image_blocks}
+use Rattle.thy_base.proofs.LittleEndianLemmas.{number_at-take, number_at-drop}
+use Rattle.thy_record.specs.Words.{word_of}
+use Rattle.thy_record.specs.Commit.{epoch_of}
+use Rattle.thy_record.specs.Cpu.{record_word}
+use Rattle.thy_record.specs.TableBlocks.{entry_from}
+use Rattle.thy_record.specs.Files.{block_in, blocks_of, table_in}
+use Rattle.thy_record.specs.Images.{slot_in}
+use Rattle.thy_record.specs.Slots.{entries_in}
+use Rattle.thy_record.proofs.ClashLemmas.{length-table_in, entry_at-table_in}
+use Rattle.thy_record.proofs.ImageLemmas.{block_at-slot_in}
+use Rattle.thy_record.proofs.SlotLemmas.{length-entries_in, entry_at-entries_in}
+
+pub length-blocks_of : (bytes : List ℕ) → length (blocks_of bytes) ≡ length bytes / 64
+length-blocks_of bytes = length-map-range_with_len (block_in bytes) 0 (length bytes / 64)
+
+pub block_at-blocks_of : (bytes : List ℕ) (k : ℕ) → k < length bytes / 64 → block_at (blocks_of bytes) k ≡ block_in bytes k
+block_at-blocks_of bytes k l = get_or-map-range_with_len (block_in bytes) 0 (length bytes / 64) k k zero_block l (omega arith)
+
+-- word i of their blocks
+pub record_word-blocks_of : (bytes : List ℕ) (i : ℕ) → i / 8 < length bytes / 64 → record_word (blocks_of bytes) i ≡ number_at 8 bytes (8 * i)
+unfolding record_word word_of
+record_word-blocks_of bytes i l =
+    let at : 64 * (i / 8) + 8 * (i % 8) ≡ 8 * i = omega arith in
+    ap (λ (b : Block). number_at 8 b.0 (8 * (i % 8))) (block_at-blocks_of bytes (i / 8) l)
+    ∙ number_at-take 8 64 (drop (64 * (i / 8)) bytes) (8 * (i % 8)) (omega arith)
+    ∙ number_at-drop 8 (64 * (i / 8)) bytes (8 * (i % 8))
+    ∙ ap (number_at 8 bytes) at
+
+-- n entries in these bytes, from word `first` on
+pub table_in-part : (bytes : List ℕ) (first n : ℕ) → 8 * first + 8 * n ≤ 64 * (length bytes / 64)
+    → table_in (take (8 * n) (drop (8 * first) bytes)) ≡ entries_in (blocks_of bytes) first n
+table_in-part bytes first n inside =
+    let part = take (8 * n) (drop (8 * first) bytes) in
+    let long : length (take (8 * n) (drop (8 * first) bytes)) ≡ 8 * n
+    = length-take-le (8 * n) (drop (8 * first) bytes) (omega (arith, length-drop (8 * first) bytes)) in
+    let left : length (table_in (take (8 * n) (drop (8 * first) bytes))) ≡ n = omega (arith, length-table_in (take (8 * n) (drop (8 * first) bytes)), long) in
+    let right = length-entries_in (blocks_of bytes) first n in
+    ext_get_or None (table_in (take (8 * n) (drop (8 * first) bytes))) (entries_in (blocks_of bytes) first n) (left ∙ sym right)
+    (λ i below.
+    let l : i < n = omega (arith, left) in
+    let at : 8 * first + 8 * i ≡ 8 * (first + i) = omega arith in
+    entry_at-table_in (take (8 * n) (drop (8 * first) bytes)) i (omega (arith, long))
+    ∙ ap entry_from (number_at-take 8 (8 * n) (drop (8 * first) bytes) (8 * i) (omega arith)
+    ∙ number_at-drop 8 (8 * first) bytes (8 * i)
+    ∙ ap (number_at 8 bytes) at
+    ∙ sym (record_word-blocks_of bytes (first + i) (omega arith)))
+    ∙ sym (entry_at-entries_in (blocks_of bytes) first n i l))
+
+-- block k of n blocks of bytes, from block s on
+pub block_in-part : (bytes : List ℕ) (s n k : ℕ) → k < n → block_in (take (64 * n) (drop (64 * s) bytes)) k ≡ block_in bytes (s + k)
+block_in-part bytes s n k l =
+    let whole : 64 * k + (64 * n - 64 * k) ≡ 64 * n = omega arith in
+    let at : 64 * s + 64 * k ≡ 64 * (s + k) = omega arith in
+    let same : take 64 (drop (64 * k) (take (64 * n) (drop (64 * s) bytes))) ≡ take 64 (drop (64 * (s + k)) bytes) =
+    ap (λ m. take 64 (drop (64 * k) (take m (drop (64 * s) bytes)))) (sym whole)
+    ∙ ap (take 64) (drop-take (64 * k) (64 * n - 64 * k) (drop (64 * s) bytes))
+    ∙ take-take 64 (64 * n - 64 * k) (drop (64 * k) (drop (64 * s) bytes)) (omega arith)
+    ∙ ap (take 64) (drop-drop (64 * k) (64 * s) bytes ∙ ap (λ m. drop m bytes) at) in
+    ap (λ bytes. record { 0 = bytes }) same
+
+half_inside : (p : Parameters) (s : ℕ) → s < 2 → slot_place p s + slot_blocks p ≤ image_blocks p
+half_inside p s l = grind arith
+
+-- the slot of an image's checkpoint in its bytes
+pub blocks_of-slot : (p : Parameters) (bytes : List ℕ) → length bytes ≡ 64 * image_blocks p
+    → blocks_of (take (64 * slot_blocks p) (drop (64 * slot_place p (epoch_of (block_at (blocks_of bytes) 1) % 2)) bytes)) ≡ slot_in p (blocks_of bytes)
+blocks_of-slot p bytes long =
+    let s : ℕ = slot_place p (epoch_of (block_at (blocks_of bytes) 1) % 2) in
+    let inside = half_inside p (epoch_of (block_at (blocks_of bytes) 1) % 2) (omega arith) in
+    let n : ℕ = slot_blocks p in
+    let part : length (take (64 * slot_blocks p) (drop (64 * slot_place p (epoch_of (block_at (blocks_of bytes) 1) % 2)) bytes)) ≡ 64 * slot_blocks p
+    = length-take-le (64 * slot_blocks p) (drop (64 * slot_place p (epoch_of (block_at (blocks_of bytes) 1) % 2)) bytes)
+    (omega (arith, length-drop (64 * slot_place p (epoch_of (block_at (blocks_of bytes) 1) % 2)) bytes)) in
+    let left : length (blocks_of (take (64 * slot_blocks p) (drop (64 * slot_place p (epoch_of (block_at (blocks_of bytes) 1) % 2)) bytes))) ≡ slot_blocks p
+    = omega (arith, length-blocks_of (take (64 * slot_blocks p) (drop (64 * slot_place p (epoch_of (block_at (blocks_of bytes) 1) % 2)) bytes)), part) in
+    let right : length (slot_in p (blocks_of bytes)) ≡ slot_blocks p
+    = length-map (range_with_len (slot_place p (epoch_of (block_at (blocks_of bytes) 1) % 2)) (slot_blocks p)) (block_at (blocks_of bytes))
+    ∙ length-range_with_len (slot_place p (epoch_of (block_at (blocks_of bytes) 1) % 2)) (slot_blocks p) in
+    ext_get_or zero_block (blocks_of (take (64 * slot_blocks p) (drop (64 * slot_place p (epoch_of (block_at (blocks_of bytes) 1) % 2)) bytes)))
+    (slot_in p (blocks_of bytes)) (left ∙ sym right)
+    (λ k below.
+    let l : k < slot_blocks p = omega (arith, left) in
+    block_at-blocks_of (take (64 * slot_blocks p) (drop (64 * slot_place p (epoch_of (block_at (blocks_of bytes) 1) % 2)) bytes)) k (omega (arith, part))
+    ∙ block_in-part bytes (slot_place p (epoch_of (block_at (blocks_of bytes) 1) % 2)) (slot_blocks p) k l
+    ∙ sym (block_at-blocks_of bytes (slot_place p (epoch_of (block_at (blocks_of bytes) 1) % 2) + k) (omega arith))
+    ∙ sym (block_at-slot_in p (blocks_of bytes) k l))
+
+-- ---- as the code cuts the bytes
+
+pub table_in-slice : (bytes : List ℕ) (m x first n : ℕ) → m ≡ 8 * n → x ≡ 8 * first → 8 * first + 8 * n ≤ 64 * (length bytes / 64)
+    → table_in (take m (drop x bytes)) ≡ entries_in (blocks_of bytes) first n
+table_in-slice bytes m x first n e f inside =
+    ap (λ k. table_in (take k (drop x bytes))) e ∙ ap (λ k. table_in (take (8 * n) (drop k bytes))) f ∙ table_in-part bytes first n inside
+
+pub slot-slice : (p : Parameters) (bytes : List ℕ) (m x s : ℕ) (commit : Block) → length bytes ≡ 64 * image_blocks p
+    → commit ≡ block_at (blocks_of bytes) 1 → s ≡ epoch_of commit → m ≡ 64 * slot_blocks p → x ≡ 64 * slot_place p (s % 2)
+    → blocks_of (take m (drop x bytes)) ≡ slot_in p (blocks_of bytes)
+slot-slice p bytes m x s commit long is named e f =
+    ap (λ k. blocks_of (take k (drop x bytes))) e
+    ∙ ap (λ k. blocks_of (take (64 * slot_blocks p) (drop k bytes))) (f ∙ ap (λ k. 64 * slot_place p (k % 2)) (named ∙ ap epoch_of is))
+    ∙ blocks_of-slot p bytes long

@@ -1,0 +1,38 @@
+-- Files that hold an image, block after block.
+use Rattle.std.specs.Prelude.{ℕ, ◌*◌, ◌/◌, ◌==◌, nat_lt, if◌then◌else◌, List, length, map, take, drop, Option, Result, Ok, Err}
+use Rattle.std.specs.List.{range_with_len}
+use Rattle.thy_base.specs.declared.block.Block.{Block}
+use Rattle.thy_base.specs.declared.config.Parameters.{Parameters}
+use Rattle.thy_base.specs.LittleEndian.{number_at}
+use Rattle.thy_base.specs.Places.{image_blocks}
+use Rattle.thy_record.specs.declared.file.Found.{Found}
+use Rattle.thy_record.specs.declared.file.Found.TheVariants.{Nothing as FoundNothing, At as FoundAt}
+use Rattle.thy_record.specs.declared.image.BadImage.{BadImage}
+use Rattle.thy_record.specs.declared.image.BadImage.TheVariants.{Empty}
+use Rattle.thy_record.specs.Decoded.{Decoded, Nothing, Refused, At}
+use Rattle.thy_record.specs.Images.{decode_with}
+use Rattle.thy_record.specs.TableBlocks.{entry_from}
+
+-- block k of bytes
+abbrev pub block_in : List ℕ → ℕ → Block
+block_in bytes k = record { 0 = take 64 (drop (64 * k) bytes) }
+
+-- the whole blocks of bytes
+abbrev pub blocks_of : List ℕ → List Block
+blocks_of bytes = map (block_in bytes) (range_with_len 0 (length bytes / 64))
+
+-- the entries of a table's bytes
+abbrev pub table_in : List ℕ → List (Option ℕ)
+table_in bytes = map (λ i. entry_from (number_at 8 bytes (8 * i))) (range_with_len 0 (length bytes / 8))
+
+-- what the bytes of a file decode to, with epochs and counts below a ceiling
+abbrev pub decode_file : Parameters → ℕ → List ℕ → Decoded
+decode_file p ceiling bytes =
+    if nat_lt (length bytes) 128 then Refused Empty
+    else decode_with p ceiling (length bytes == 64 * image_blocks p) (blocks_of bytes)
+
+-- what a check says of it
+abbrev pub found_in : Decoded → Result Found BadImage
+found_in Nothing = Ok FoundNothing
+found_in (Refused bad) = Err bad
+found_in (At epoch state) = Ok (FoundAt epoch)

@@ -1,0 +1,69 @@
+//! The check of an image that stands in a file.
+ghost use Rattle.std.specs.Prelude.{◌≡◌, ◌*◌, ◌==◌, ◌≤◌, length};
+ghost use Rattle.thy_base.specs.Device.{block_at};
+ghost use Rattle.thy_base.specs.Places.{slot_blocks, image_blocks};
+ghost use Rattle.thy_record.specs.Files.{blocks_of, decode_file, found_in};
+ghost use Rattle.thy_record.specs.Images.{slot_in as slot_of_image, image_fault as fault_of_image};
+
+use crate::commit::{commit_fault, is_zero};
+use crate::header::header_fault;
+use crate::image::BadImage;
+use crate::slot::{block_in, slot_fault};
+use crate::words::word;
+use thy_base::{BLOCK_SIZE, Block, Geometry};
+
+/// What an image without a fault has.
+#[derive(Clone, Copy, Debug, PartialEq, Eq)]
+pub enum Found {
+    /// No checkpoint: the commit block is all zero.
+    Nothing,
+    /// The checkpoint of this epoch.
+    At(u64),
+}
+
+// The bytes of the slot that the commit block names.
+pub(crate) fn slot_in<'a>(image: &'a [u8], commit: &Block, geometry: &Geometry) -> &'a [u8]
+    requires long { length image.now ≡ 64 * image_blocks geometry.now }
+    requires commit { commit.now ≡ block_at (blocks_of image.now) 1 }
+    ensures length { length result.now ≡ 64 * slot_blocks geometry.now }
+    ensures slot { blocks_of result.now ≡ slot_of_image geometry.now (blocks_of image.now) }
+{
+    let first = BLOCK_SIZE * geometry.slot(word(commit, 1) % 2) as usize;
+    &image[first..first + BLOCK_SIZE * geometry.slot_blocks() as usize]
+}
+
+// The first fault of an image that has this commit block.
+fn image_fault(image: &[u8], commit: &Block, geometry: &Geometry, ceiling: u64) -> Option<BadImage>
+    requires some { 128 ≤ length image.now }
+    requires commit { commit.now ≡ block_at (blocks_of image.now) 1 }
+    ensures { result ≡ fault_of_image geometry.now ceiling (length image.now == 64 * image_blocks geometry.now) (blocks_of image.now) }
+{
+    let long = image.len() as u64 == 64 * geometry.blocks();
+    if let Some(bad) = header_fault(&block_in(image, 0), geometry, long) {
+        return Some(bad);
+    }
+    if let Some(bad) = commit_fault(commit, ceiling) {
+        return Some(bad);
+    }
+    let slot = slot_in(image, commit, geometry);
+    slot_fault(slot, word(commit, 1), geometry, ceiling)
+}
+
+/// What the bytes of a file have for a geometry: nothing, where there are 128 of them and the commit block is
+/// all zero; else the first of the refusals; else the checkpoint of an epoch. Epochs and counts have to be
+/// below the ceiling.
+pub fn check(image: &[u8], geometry: &Geometry, ceiling: u64) -> Result<Found, BadImage>
+    ensures { result ≡ found_in (decode_file geometry.now ceiling image.now) }
+{
+    if image.len() < 2 * BLOCK_SIZE {
+        return Err(BadImage::Empty);
+    }
+    let commit = block_in(image, 1);
+    if is_zero(&commit) {
+        return Ok(Found::Nothing);
+    }
+    match image_fault(image, &commit, geometry, ceiling) {
+        Some(bad) => Err(bad),
+        None => Ok(Found::At(word(&commit, 1))),
+    }
+}

@@ -1,0 +1,60 @@
+//! The header, block 0 of an image.
+ghost use Rattle.std.specs.Prelude.{◌≡◌};
+ghost use Rattle.thy_record.specs.Header.{header_of, header_fault as fault_of_header, is_of_geometry as of_geometry};
+
+use crate::image::BadImage;
+use crate::words::{block_with, word};
+use thy_base::{Block, Geometry};
+
+/// The bytes `THYNHDR1`, with which a header begins, as a number.
+pub const HEADER_MAGIC: u64 = 0x3152_4448_4e59_4854;
+
+/// The version of the layout.
+pub const VERSION: u64 = 1;
+
+/// The header of an image of this geometry: eight words, its name, the version, base, pages, console,
+/// the sizes of both tables, and a zero.
+pub fn header_block(geometry: &Geometry) -> Block
+    ensures { result ≡ header_of geometry.now }
+{
+    let p = geometry.numbers();
+    block_with(&[
+        HEADER_MAGIC,
+        VERSION,
+        p.base,
+        p.pages,
+        p.console,
+        p.btt,
+        p.ptt,
+        0,
+    ])
+}
+
+/// The first fault of a header, if it has one: another name, another version, another geometry. `long` says
+/// that the image has as many blocks as the geometry asks for; where it has not, that is another geometry.
+#[tactic(auto, unfolding(crate::specs::Header::header_fault))]
+pub fn header_fault(block: &Block, geometry: &Geometry, long: bool) -> Option<BadImage>
+    ensures { result ≡ fault_of_header block.now geometry.now long }
+{
+    if word(block, 0) != HEADER_MAGIC {
+        Some(BadImage::Header)
+    } else if word(block, 1) != VERSION {
+        Some(BadImage::Version)
+    } else if is_of_geometry(block, geometry) && long {
+        None
+    } else {
+        Some(BadImage::Geometry)
+    }
+}
+
+// Whether the numbers of a header are those of the geometry.
+fn is_of_geometry(block: &Block, geometry: &Geometry) -> bool
+    ensures { result ≡ of_geometry block.now geometry.now }
+{
+    let p = geometry.numbers();
+    let memory = word(block, 2) == p.base
+        && word(block, 3) == p.pages
+        && word(block, 4) == p.console;
+    let tables = word(block, 5) == p.btt && word(block, 6) == p.ptt && word(block, 7) == 0;
+    memory && tables
+}

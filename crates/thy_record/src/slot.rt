@@ -1,0 +1,83 @@
+//! The bytes of a slot: the processor's record of 320, and behind it the block table and the page table.
+ghost use Rattle.std.specs.Prelude.{◌≡◌, ◌*◌, ◌/◌, ◌<◌, length};
+ghost use Rattle.thy_base.specs.Places.{slot_blocks};
+ghost use Rattle.thy_record.specs.Cpu.{record_word};
+ghost use Rattle.thy_record.specs.Files.{block_in as block_of_bytes, blocks_of, table_in};
+ghost use Rattle.thy_record.specs.Slots.{tables_in, status_fault as fault_of_status, slot_fault as fault_of_slot};
+
+use crate::cpu::is_status;
+use crate::image::BadImage;
+use crate::table_faults::tables_fault;
+use byteorder::{ByteOrder, LittleEndian};
+use thy_base::{BLOCK_SIZE, Block, Geometry};
+
+/// How many bytes the processor's record has.
+const RECORD_SIZE: usize = 5 * BLOCK_SIZE;
+
+// Block k of bytes.
+pub(crate) fn block_in(bytes: &[u8], k: usize) -> Block
+    requires { k < length bytes.now / 64 }
+    ensures { result ≡ block_of_bytes bytes.now k }
+{
+    let mut block = [0; BLOCK_SIZE];
+    block.copy_from_slice(&bytes[BLOCK_SIZE * k..BLOCK_SIZE * k + BLOCK_SIZE]);
+    Block(block)
+}
+
+// Word i of a slot.
+fn word_in(slot: &[u8], i: usize) -> u64
+    requires { i / 8 < length slot.now / 64 }
+    ensures { result ≡ record_word (blocks_of slot.now) i }
+{
+    LittleEndian::read_u64(&slot[8 * i..])
+}
+
+// The block table of a slot.
+pub(crate) fn btt_in<'a>(slot: &'a [u8], geometry: &Geometry) -> &'a [u8]
+    requires { length slot.now ≡ 64 * slot_blocks geometry.now }
+    ensures { table_in result.now ≡ (tables_in geometry.now (blocks_of slot.now)).btt }
+{
+    let entries = geometry.numbers().btt as usize;
+    &slot[RECORD_SIZE..RECORD_SIZE + 8 * entries]
+}
+
+// The page table of a slot.
+pub(crate) fn ptt_in<'a>(slot: &'a [u8], geometry: &Geometry) -> &'a [u8]
+    requires { length slot.now ≡ 64 * slot_blocks geometry.now }
+    ensures { table_in result.now ≡ (tables_in geometry.now (blocks_of slot.now)).ptt }
+{
+    let p = geometry.numbers();
+    let first = RECORD_SIZE + 8 * p.btt as usize;
+    &slot[first..first + 8 * p.ptt as usize]
+}
+
+// A status or a count without meaning, or a console longer than its pages.
+fn status_fault(slot: &[u8], geometry: &Geometry, ceiling: u64) -> Option<BadImage>
+    requires { length slot.now ≡ 64 * slot_blocks geometry.now }
+    ensures { result ≡ fault_of_status geometry.now ceiling (blocks_of slot.now) }
+{
+    let stands = is_status(word_in(slot, 36), word_in(slot, 37)) && word_in(slot, 32) < ceiling;
+    if !stands {
+        Some(BadImage::Status)
+    } else if word_in(slot, 34) <= geometry.console_room() {
+        None
+    } else {
+        Some(BadImage::ConsoleLength)
+    }
+}
+
+/// The first fault of the slot with these bytes under a commit block of this epoch, if it has one: a record of
+/// another epoch, tables that no checkpoint has, a status without meaning or a count that is not below the
+/// ceiling, a console longer than its pages.
+pub fn slot_fault(slot: &[u8], epoch: u64, geometry: &Geometry, ceiling: u64) -> Option<BadImage>
+    requires { length slot.now ≡ 64 * slot_blocks geometry.now }
+    ensures { result ≡ fault_of_slot geometry.now ceiling epoch (blocks_of slot.now) }
+{
+    if word_in(slot, 38) != epoch {
+        return Some(BadImage::Commit);
+    }
+    if let Some(bad) = tables_fault(btt_in(slot, geometry), ptt_in(slot, geometry), geometry) {
+        return Some(bad);
+    }
+    status_fault(slot, geometry, ceiling)
+}

@@ -1,0 +1,107 @@
+//! The faults of tables, over the bytes of each, eight an entry.
+ghost use Rattle.std.specs.Prelude.{◌≡◌, ◌+◌, ◌*◌, ◌/◌, ◌<◌, ◌≤◌, length, IfSome};
+ghost use Rattle.thy_base.specs.Geometry.{memory_blocks};
+ghost use Rattle.thy_record.specs.Files.{table_in};
+ghost use Rattle.thy_record.specs.Tables.{entry_at, entry_of as entry_that_lists};
+ghost use Rattle.thy_record.specs.TableFaults.{first_clash, index_rule, twin_of, twice_rule, under_rule, tables_fault as fault_of_tables};
+
+use crate::image::BadImage;
+use crate::tables::entry_from_word;
+use byteorder::{ByteOrder, LittleEndian};
+use thy_base::Geometry;
+
+// Entry i of a table.
+pub(crate) fn entry(table: &[u8], i: usize) -> Option<u64>
+    requires { i < length table.now / 8 }
+    ensures { result ≡ entry_at (table_in table.now) i }
+{
+    entry_from_word(LittleEndian::read_u64(&table[8 * i..]))
+}
+
+// The first entry of a table that lists a number.
+pub(crate) fn entry_of(table: &[u8], number: u64) -> Option<usize>
+    ensures { result ≡ entry_that_lists (table_in table.now) number }
+{
+    for i in 0..table.len() / 8 {
+        if let Some(listed) = entry(table, i)
+            && listed == number
+        {
+            return Some(i);
+        }
+    }
+    None
+}
+
+// The first entry that lists a number which is not below the limit.
+fn index_fault(table: &[u8], before: u64, limit: u64) -> Option<BadImage>
+    requires { before ≤ 4096 }
+    ensures { result ≡ first_clash (index_rule before limit) 0 (table_in table.now) }
+{
+    for i in 0..table.len() / 8 {
+        if let Some(number) = entry(table, i)
+            && number >= limit
+        {
+            return Some(BadImage::TableIndex(before + i as u64));
+        }
+    }
+    None
+}
+
+// The entry before entry k that lists what that does.
+fn twin(table: &[u8], k: usize) -> Option<usize>
+    requires { k < length table.now / 8 }
+    ensures twin { result ≡ twin_of (table_in table.now) k (entry_at (table_in table.now) k) }
+    ensures before { IfSome result (λ i. i < k) }
+{
+    match entry(table, k) {
+        None => None,
+        Some(number) => entry_of(&table[..8 * k], number),
+    }
+}
+
+// The first entry that lists what an earlier one does.
+fn twice_fault(table: &[u8], before: u64) -> Option<BadImage>
+    requires { before ≤ 4096 }
+    ensures { result ≡ first_clash (twice_rule before (table_in table.now)) 0 (table_in table.now) }
+{
+    for k in 0..table.len() / 8 {
+        if let Some(i) = twin(table, k) {
+            return Some(BadImage::TableTwice(before + i as u64, before + k as u64));
+        }
+    }
+    None
+}
+
+// The first entry of the block table that lists a block of a page that the page table lists.
+fn under_fault(btt: &[u8], ptt: &[u8]) -> Option<BadImage>
+    ensures { result ≡ first_clash (under_rule (table_in ptt.now)) 0 (table_in btt.now) }
+{
+    for i in 0..btt.len() / 8 {
+        if let Some(block) = entry(btt, i)
+            && let Some(j) = entry_of(ptt, block / 64)
+        {
+            return Some(BadImage::BlockUnderPage(i as u64, j as u64));
+        }
+    }
+    None
+}
+
+/// The first fault of the tables with these bytes, if they have one.
+pub(crate) fn tables_fault(btt: &[u8], ptt: &[u8], geometry: &Geometry) -> Option<BadImage>
+    ensures { result ≡ fault_of_tables geometry.now (record { btt = table_in btt.now; ptt = table_in ptt.now }) }
+{
+    let p = geometry.numbers();
+    if let Some(bad) = index_fault(btt, 0, geometry.memory_blocks()) {
+        return Some(bad);
+    }
+    if let Some(bad) = index_fault(ptt, p.btt, p.pages) {
+        return Some(bad);
+    }
+    if let Some(bad) = twice_fault(btt, 0) {
+        return Some(bad);
+    }
+    if let Some(bad) = twice_fault(ptt, p.btt) {
+        return Some(bad);
+    }
+    under_fault(btt, ptt)
+}
