@@ -1,6 +1,6 @@
 -- The bytes of a list of blocks: how many there are, and where those of a block stand.
-use Rattle.std.proofs.Common.{◌≡◌, ℕ, zero, suc, ◌+◌, ◌*◌, ◌<◌, ◌≤◌, List, [], ◌∷◌, ◌++◌, length, take, drop, slice_index, slice_set, refl, sym, ◌∙◌, ap, arith, append_assoc}
-use Rattle.std.proofs.lemmas.List.{length-append, length-drop, get_or_append_left, get_or-append-add, take-append-le, drop-append-le, drop-drop, drop_at}
+use Rattle.std.proofs.Common.{◌≡◌, ℕ, zero, suc, ◌+◌, ◌*◌, ◌<◌, ◌≤◌, List, [], ◌∷◌, ◌++◌, length, take, drop, get_or, slice_index, slice_set, refl, sym, ◌∙◌, ap, arith, append_assoc}
+use Rattle.std.proofs.lemmas.List.{append-nil, length-append, length-drop, length-take-le, take-append-drop, take_at, take_more, get_or_append_left, get_or-append-add, take-append-le, drop-append-le, drop-drop, drop_at}
 use Rattle.thy_base.specs.declared.block.Block.{Block}
 use Rattle.thy_base.specs.Blocks.{block_bytes, block_written}
 use Rattle.thy_base.specs.Bytes.{written}
@@ -94,3 +94,31 @@ flat-set (a ∷ bs) (suc k) b l =
     ap (λ t. block_bytes a ++ t) (flat-set bs k b (omega arith))
     ∙ sym (written-right (block_bytes a) (flat bs) (block_bytes b) 64 (64 * k) (length-block_bytes a))
     ∙ ap (λ x. written (block_bytes a ++ flat bs) x (block_bytes b)) e
+
+-- ---- the first blocks, and the rest
+
+flat_parts : (k : ℕ) (blocks : List Block) → flat (take k blocks) ++ flat (drop k blocks) ≡ flat blocks
+flat_parts k blocks = sym (flat-append (take k blocks) (drop k blocks)) ∙ ap flat (take-append-drop k blocks)
+
+length-flat_take : (k : ℕ) (blocks : List Block) → k ≤ length blocks → length (flat (take k blocks)) ≡ 64 * k
+length-flat_take k blocks l = length-flat (take k blocks) ∙ ap (λ n. 64 * n) (length-take-le k blocks l)
+
+pub flat-take : (k : ℕ) (blocks : List Block) → k ≤ length blocks → flat (take k blocks) ≡ take (64 * k) (flat blocks)
+flat-take k blocks l =
+    sym (ap (take (64 * k)) (sym (flat_parts k blocks)) ∙ take_at (flat (take k blocks)) (flat (drop k blocks)) (64 * k) (length-flat_take k blocks l))
+
+pub flat-drop : (k : ℕ) (blocks : List Block) → k ≤ length blocks → flat (drop k blocks) ≡ drop (64 * k) (flat blocks)
+flat-drop k blocks l =
+    sym (ap (drop (64 * k)) (sym (flat_parts k blocks)) ∙ drop_at (flat (take k blocks)) (flat (drop k blocks)) (64 * k) (length-flat_take k blocks l))
+
+-- one block alone
+pub flat-one : (b : Block) → flat (b ∷ []) ≡ block_bytes b
+unfolding flat
+flat-one b = append-nil (block_bytes b)
+
+-- one block more
+pub flat_more : (blocks : List Block) (i : ℕ) (d : Block) → i < length blocks → flat (take (i + 1) blocks) ≡ flat (take i blocks) ++ block_bytes (get_or blocks i d)
+flat_more blocks i d l =
+    ap flat (take_more blocks i d l)
+    ∙ flat-append (take i blocks) (get_or blocks i d ∷ [])
+    ∙ ap (λ xs. flat (take i blocks) ++ xs) (flat-one (get_or blocks i d))

@@ -1,3 +1,4 @@
 pub mod FlatLemmas
 pub mod SpanLaws
 pub mod MemoryLaws
+pub mod LongLemmas

@@ -43,12 +43,12 @@ pub fn gather(piece: &mut Piece, blocks: &[Block], span: Span)
     gather_head(piece, blocks, span.rest());
 }
 
-/// Puts bytes over a span, in its one or two blocks.
+/// Puts as many of the bytes as it has over a span, in its one or two blocks.
 #[tactic(auto, unfolding(crate::specs::Spans::scattered))]
 pub fn scatter(blocks: &mut [Block], span: Span, bytes: &[u8])
     requires inside { IsSpanOf (length blocks.old) span }
     requires few { length blocks.old < 2 ^ 32 }
-    requires bytes { length bytes.now ≡ span.len }
+    requires bytes { span.len ≤ length bytes.now }
     ensures { blocks.new ≡ scattered blocks.old span bytes.now }
 {
     scatter_head(blocks, span, bytes);

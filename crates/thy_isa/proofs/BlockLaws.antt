@@ -35,13 +35,8 @@ use Rattle.thy_isa.specs.Step.{State, Setting, cpu_of, state_with, call_state_of
 use Rattle.thy_isa.proofs.AccessLaws.{within-is, fetched-within}
 use Rattle.thy_isa.proofs.CallLaws.{call_of-fit}
 use Rattle.thy_isa.proofs.MemoryBounds.{length-number_bytes}
+use Rattle.thy_isa.proofs.MoveLaws.{size_of-most}
 use Rattle.thy_isa.proofs.StepLaws.{step-running}
-
-size_of-most : (w : Width) → size_of w ≤ 8
-size_of-most Byte = omega arith
-size_of-most Half = omega arith
-size_of-most Word = omega arith
-size_of-most Double = omega arith
 
 fetched_none : (a b : Bool) → (if a then (if b then None else Some FetchAccess) else Some FetchMisaligned) ≡ None → b ≡ true
 fetched_none true true h = refl

@@ -7,3 +7,4 @@ pub mod OneRow
 pub mod AccessLaws
 pub mod StorableLaws
 pub mod BlockLaws
+pub mod MoveLaws

@@ -1,7 +1,7 @@
 //! What an instruction or an environment call moves.
 #![tactic(auto, unfolding(crate::specs::Moves::moves_of, crate::specs::Moves::call_moves, crate::specs::Moves::brings, crate::specs::Moves::call_brings, crate::specs::Moves::number_in, thy_base::specs::LittleEndian::number_bytes))]
 
-ghost use Rattle.std.specs.Prelude.{◌≡◌, ◌+◌, ◌^◌, ◌<◌, [], ◌++◌, length};
+ghost use Rattle.std.specs.Prelude.{◌≡◌, ◌+◌, ◌^◌, ◌<◌, ◌≤◌, [], ◌++◌, length};
 ghost use Rattle.thy_base.specs.LittleEndian.{number_bytes};
 ghost use Rattle.thy_isa.specs.Access.{IsWithin, HasRead};
 ghost use Rattle.thy_isa.specs.Calls.{call_of};
@@ -22,7 +22,7 @@ const NONE: Span = Span { at: 0, len: 0 };
 /// What an effect moves, with these registers.
 pub fn moves(regs: &Regs, calls: &CallState, effect: &Effect) -> Moves
     requires inside { IsWithin calls.now.base calls.now.size effect.now }
-    requires console { calls.now.size + calls.now.console_len < 2 ^ 64 }
+    requires console { 1 ≤ calls.now.room → calls.now.size + calls.now.console_len < 2 ^ 64 }
     ensures { result ≡ moves_of regs.now calls.now effect.now }
 {
     match *effect {
@@ -50,7 +50,7 @@ pub fn moves(regs: &Regs, calls: &CallState, effect: &Effect) -> Moves
 
 /// What the call that the registers name moves.
 fn call_moves(regs: &Regs, calls: &CallState) -> Moves
-    requires { calls.now.size + calls.now.console_len < 2 ^ 64 }
+    requires { 1 ≤ calls.now.room → calls.now.size + calls.now.console_len < 2 ^ 64 }
     ensures { result ≡ call_moves calls.now (call_of regs.now calls.now) }
 {
     match call(regs, calls) {
