@@ -13,7 +13,8 @@ use Rattle.thy_base.specs.Geometry.{IsInRange, memory_blocks, program_size, cons
 use Rattle.thy_copy_model.specs.Layout.{slot_of}
 use Rattle.thy_isa.specs.Step.{State}
 use Rattle.thy_record.specs.Cpu.{record_word, cpu_of_record}
-use Rattle.thy_record.specs.Flat.{AllLong, flat, state_from}
+use Rattle.thy_flat.specs.Flat.{AllLong, flat}
+use Rattle.thy_isa.specs.OnBlocks.{state_from}
 use Rattle.thy_record.specs.Words.{word_of}
 use Rattle.thy_copy_model.specs.declared.parts.Parts.{Parts}
 use Rattle.thy_base.specs.declared.mark.Mark.{Mark}

@@ -38,17 +38,17 @@ use Rattle.thy_copy_model.proofs.ViewLaws.{halts-view, has_read-cycle}
 use Rattle.thy_copy.specs.Machine.{LeavesSafe}
 
 -- the next parts and the next device are those that the law speaks of
-same_next : (o : Origin) (s : State) (len : ℕ) (n : Device) (pick : Pick) (q : ℕ) (m next : Parts) → o.start ≡ s → length o.input ≡ len
-    → next ≡ cycle_next s len n pick q m → next ≡ cycle_next o.start (length o.input) n pick q m
-same_next o s len n pick q m next starts input is =
-    is ∙ ap (λ (t : State). cycle_next t len n pick q m) (sym starts) ∙ ap (λ (l : ℕ). cycle_next o.start l n pick q m) (sym input)
+same_next : (o : Origin) (s : State) (input : List ℕ) (n : Device) (pick : Pick) (q : ℕ) (m next : Parts) → o.start ≡ s → o.input ≡ input
+    → next ≡ cycle_next s input n pick q m → next ≡ cycle_next o.start o.input n pick q m
+same_next o s input n pick q m next starts same is =
+    is ∙ ap (λ (t : State). cycle_next t input n pick q m) (sym starts) ∙ ap (λ (l : List ℕ). cycle_next o.start l n pick q m) (sym same)
 
 same_action : (o : Origin) (s : State) (pick : Pick) (q : ℕ) (m : Parts) → o.start ≡ s → cycle_action s pick q m ≡ cycle_action o.start pick q m
 same_action o s pick q m starts = ap (λ (t : State). cycle_action t pick q m) (sym starts)
 
 -- a lead, at the parts and the device that were reached
 led : (o : Origin) (m : Parts) (n : Device) (pick : Pick) (q : ℕ) (next : Parts) (new : Device) (r : Stepped) → Leads o m n pick q
-    → next ≡ cycle_next o.start (length o.input) n pick q m → new ≡ after (cycle_action o.start pick q m) n
+    → next ≡ cycle_next o.start o.input n pick q m → new ≡ after (cycle_action o.start pick q m) n
     → r.did ≡ cycle_did pick q m next → Moment o next new × CoreStep o (view_of o m n) r.did (view_of o next new)
 led o m n pick q next new r l next_is new_is did_is =
     let D : Device = after (cycle_action o.start pick q m) n in
@@ -91,7 +91,7 @@ more_below k v next counts below =
 -- a step that succeeded
 pub step_sound : (o : Origin) (k : ℕ) (start : Start) (pick : Pick) (m next : Parts) (n new : Device) (r : Stepped)
     → Begins o start → IsAt o k m n → k < 2 ^ 62
-    → next ≡ cycle_next (state_of start.state) (length (bytes_of start.input)) n pick (length n.queue) m
+    → next ≡ cycle_next (state_of start.state) (bytes_of start.input) n pick (length n.queue) m
     → new ≡ after (cycle_action (state_of start.state) pick (length n.queue) m) n
     → r.did ≡ cycle_did pick (length n.queue) m next → r.stall ≡ cycle_stall pick (length n.queue) m → r.ended ≡ halts m.view next.view
     → ((top : ℕ) → 2 ^ 63 ≤ top → IsBelow top m.view → IsBelow (top + 1) next.view)
@@ -101,7 +101,7 @@ step_sound o k start pick m next n new r begins at few next_is new_is did_is sta
     let s : State = state_of start.state in
     let moment : Moment o m n = at.moment in
     let device : new ≡ after (cycle_action o.start pick q m) n = new_is ∙ ap (λ (a : Action). after a n) (same_action o s pick q m begins.state) in
-    let there : next ≡ cycle_next o.start (length o.input) n pick q m = same_next o s (length (bytes_of start.input)) n pick q m next begins.state (ap length begins.input) next_is in
+    let there : next ≡ cycle_next o.start o.input n pick q m = same_next o s (bytes_of start.input) n pick q m next begins.state begins.input next_is in
     let leads = Leads-cycle o m n pick q moment (epoch_below o k (view_of o m n) moment.sound.origin at.small few) (count_below o k (view_of o m n) moment.sound.origin at.small few) in
     let l = led o m n pick q next new r leads there device did_is in
     let p : Progress o m next n new r.did = Progress-cycle o m next n new r.did moment.sound l.0.sound at.spends pick there device did_is in
@@ -111,7 +111,7 @@ step_sound o k start pick m next n new r begins at few next_is new_is did_is sta
         small = IsSmall-step o k (view_of o m n) (view_of o next new) at.small r.did l.1;
         below = more_below k m.view next.view counts at.below;
         spends = p.spends;
-        dram = subst (IsDramOf o.geometry) (sym (ap (λ (x : Parts). x.dram) there ∙ (cycle_keeps o.start (length o.input) n pick q m).dram)) at.dram;
+        dram = subst (IsDramOf o.geometry) (sym (ap (λ (x : Parts). x.dram) there ∙ (cycle_keeps o.start o.input n pick q m).dram)) at.dram;
       };
       step = l.1;
       turn = turned o pick q (view_of o m n) (pressure_of m) r.did (cycle_did pick q m next) r.stall (cycle_stall pick q m) did_is stall_is

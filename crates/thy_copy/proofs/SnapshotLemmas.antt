@@ -9,7 +9,8 @@ use Rattle.thy_base.specs.Device.{Device, zero_block}
 use Rattle.thy_base.specs.Geometry.{IsInRange, memory_blocks, program_size}
 use Rattle.thy_isa.specs.declared.state.MachState.{MachState}
 use Rattle.thy_isa.specs.Step.{State, state_of, state_with}
-use Rattle.thy_record.specs.Flat.{AllLong, flat, memory_bytes, state_from}
+use Rattle.thy_flat.specs.Flat.{AllLong, flat, memory_bytes}
+use Rattle.thy_isa.specs.OnBlocks.{state_from}
 use Rattle.thy_record.proofs.FlatLemmas.{length-flat}
 use Rattle.thy_copy_model.specs.declared.parts.Parts.{Parts}
 use Rattle.thy_copy_model.specs.Calls.{IsAt}

@@ -5,7 +5,7 @@ use Rattle.thy_base.specs.declared.mix.Pick.{Pick}
 use Rattle.thy_base.specs.Device.{Device, newest}
 use Rattle.thy_base.specs.Geometry.{console_room}
 use Rattle.thy_isa.specs.Step.{State, state_with}
-use Rattle.thy_record.specs.Flat.{flat}
+use Rattle.thy_flat.specs.Flat.{flat}
 use Rattle.thy_copy_model.specs.Decode.{decode}
 use Rattle.thy_record.specs.Words.{word_of}
 use Rattle.thy_copy_model.specs.Checkpoint.{record_place}

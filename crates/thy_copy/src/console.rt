@@ -5,7 +5,7 @@ ghost use Rattle.thy_base.specs.Bytes.{bytes_of};
 ghost use Rattle.thy_base.specs.Device.{IsFramed, newest};
 ghost use Rattle.thy_copy_model.specs.Layout.{blocks_of};
 ghost use Rattle.thy_base.specs.Geometry.{console_room};
-ghost use Rattle.thy_record.specs.Flat.{AllLong, flat};
+ghost use Rattle.thy_flat.specs.Flat.{AllLong, flat};
 ghost use Rattle.thy_base.specs.declared.mark.Mark.{Mark as MarkValue};
 ghost use Rattle.thy_copy_model.specs.Calls.{made_for, IsAt};
 ghost use Rattle.thy_view.specs.Views.{is_boot};

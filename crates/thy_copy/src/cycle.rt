@@ -108,7 +108,7 @@ fn act<N: Nvm>(m: &mut Parts, start: &Start, nvm: &mut N) -> Result<Did, NvmErro
     requires below { IsBelow (2 ^ 64 - 2) m.old.view }
     requires sized { IsSized m.old (N.device nvm.old) }
     requires up { (N.device nvm.old).down ≡ false }
-    ensures parts { OnOk result (m.new ≡ phase_next (state_of start.now.state) (length (bytes_of start.now.input)) (N.device nvm.old) m.old.view.phase m.old) }
+    ensures parts { OnOk result (m.new ≡ phase_next (state_of start.now.state) (bytes_of start.now.input) (N.device nvm.old) m.old.view.phase m.old) }
     ensures did { IfOk result (λ did. did ≡ phase_did m.old.view.phase m.old m.new) }
     ensures consistent { IsConsistent m.new }
     ensures ok { OnOk result (N.device nvm.new ≡ after (phase_action (state_of start.now.state) m.old.view.phase m.old) (N.device nvm.old)) }
@@ -142,7 +142,7 @@ pub fn cycle<N: Nvm>(
     requires below { IsBelow (2 ^ 64 - 2) m.old.view }
     requires sized { IsSized m.old (N.device nvm.old) }
     requires up { (N.device nvm.old).down ≡ false }
-    ensures parts { OnOk result (m.new ≡ cycle_next (state_of start.now.state) (length (bytes_of start.now.input)) (N.device nvm.old) pick (length (N.device nvm.old).queue) m.old) }
+    ensures parts { OnOk result (m.new ≡ cycle_next (state_of start.now.state) (bytes_of start.now.input) (N.device nvm.old) pick (length (N.device nvm.old).queue) m.old) }
     ensures did { IfOk result (λ r. r.0 ≡ cycle_did pick (length (N.device nvm.old).queue) m.old m.new) }
     ensures stall { IfOk result (λ r. r.1 ≡ cycle_stall pick (length (N.device nvm.old).queue) m.old) }
     ensures consistent { IsConsistent m.new }

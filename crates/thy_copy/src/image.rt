@@ -4,7 +4,7 @@ ghost use Rattle.thy_base.specs.Bytes.{bytes_of};
 ghost use Rattle.thy_base.specs.Device.{IsFramed};
 ghost use Rattle.thy_base.specs.Geometry.{memory_blocks};
 ghost use Rattle.thy_isa.specs.Step.{state_of};
-ghost use Rattle.thy_record.specs.Flat.{flat};
+ghost use Rattle.thy_flat.specs.Flat.{flat};
 ghost use Rattle.thy_copy_model.specs.Calls.{IsAt};
 ghost use Rattle.thy_view.specs.Views.{is_boot};
 ghost use Rattle.thy_view.specs.Origin.{Origin};

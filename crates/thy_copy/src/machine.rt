@@ -90,7 +90,7 @@ impl Machine {
         ensures at_failure { (o : Origin) (k : ℕ) → Begins o start.now → IsAt o k self.old (N.device nvm.old) → OnErr result (Safe decode o (view_of o self.old (N.device nvm.old)).done (view_of o self.old (N.device nvm.old)).sealed (N.device nvm.new)) }
 
         // What it does exactly.
-        ensures parts { OnOk result (self.new ≡ cycle_next (state_of start.now.state) (length (bytes_of start.now.input)) (N.device nvm.old) pick (length (N.device nvm.old).queue) self.old) }
+        ensures parts { OnOk result (self.new ≡ cycle_next (state_of start.now.state) (bytes_of start.now.input) (N.device nvm.old) pick (length (N.device nvm.old).queue) self.old) }
         ensures did { IfOk result (λ r. r.did ≡ cycle_did pick (length (N.device nvm.old).queue) self.old self.new) }
         ensures stall { IfOk result (λ r. r.stall ≡ cycle_stall pick (length (N.device nvm.old).queue) self.old) }
         ensures ended { IfOk result (λ r. r.ended ≡ halts self.old.view self.new.view) }

@@ -16,7 +16,8 @@ use Rattle.thy_record.specs.declared.image.BadImage.{BadImage}
 use Rattle.thy_record.specs.declared.image.BadImage.TheVariants.{Commit as BadCommit}
 use Rattle.thy_record.specs.Commit.{is_zero, epoch_of, commit_fault}
 use Rattle.thy_record.specs.Cpu.{cpu_of_record, record_fault}
-use Rattle.thy_record.specs.Flat.{AllLong, state_from}
+use Rattle.thy_flat.specs.Flat.{AllLong}
+use Rattle.thy_isa.specs.OnBlocks.{state_from}
 use Rattle.thy_copy_model.specs.declared.parts.Parts.{Parts}
 use Rattle.thy_copy_model.specs.declared.stage.Issue.{Issue}
 use Rattle.thy_copy_model.specs.declared.stage.Issue.TheVariants.{Memory, Record as RecordIssue, Header as HeaderIssue, Settle, Commit, Finish}
@@ -61,7 +62,7 @@ IsRanged-start o h = record {
 -- every state of the run can be stored
 pub IsStorable-at : (o : Origin) (k : ℕ) → IsOrigin o → IsStorable (program_size o.geometry) (at o k)
 unfolding at
-IsStorable-at o k h = steps-storable (setting_of o) (program_size o.geometry) (k - o.start.count) o.start h.storable
+IsStorable-at o k h = steps-storable (setting_of o) (program_size o.geometry) (k - o.start.count) o.start h.readable h.storable
 
 -- a processor's numbers are those of its state
 pub IsRanged-state : (p : Parameters) (cpu : CpuState) (memory : List Block) (size : ℕ) (s : State) → state_from p cpu memory ≡ s → IsStorable size s → IsRanged cpu
@@ -311,17 +312,17 @@ module _ (o : Origin) (m : Parts) (n : Device) (s : Sound o m n) (long : IsLong 
     counted = counted_any (phase_of m.cpu) m.cpu (committed_view m.cpu m.view) count;
   }
 
-  hart_bounded : (over : Option EndCause) → m.view.over ≡ over → m.view.phase ≡ Run → m.stage ≡ Idle → Executes o m → IsBounded (hart_next (length o.input) over m)
+  hart_bounded : (over : Option EndCause) → m.view.over ≡ over → m.view.phase ≡ Run → m.stage ≡ Idle → Executes o m → IsBounded (hart_next o.input over m)
   hart_bounded (Some cause) over phase stage executes = IsBounded-sealed o m n s
   hart_bounded None over phase stage executes =
-      let e : IsExecuted o m (executed (length o.input) m) = executes phase stage over in
-      let x : Parts = executed (length o.input) m in
+      let e : IsExecuted o m (executed o.input m) = executes phase stage over in
+      let x : Parts = executed o.input m in
       let count : m.cpu.count ≡ m.view.count = (IsQuiet-sound o m n s phase stage).0.holds.count_is in
-      let next : Parts = retired_on (length o.input) m in
+      let next : Parts = retired_on o.input m in
       record {
-        memory = e.memory ∙ s.bounded.memory ∙ ap memory_blocks (sym (executed-geometry (length o.input) m));
+        memory = e.memory ∙ s.bounded.memory ∙ ap memory_blocks (sym (executed-geometry o.input m));
         long = e.long;
-        slot_record = ap length (executed-slot (length o.input) m) ∙ s.bounded.slot_record;
+        slot_record = ap length (executed-slot o.input m) ∙ s.bounded.slot_record;
         cpu = record {
           pc = e.recordable.pc;
           regs_length = e.recordable.regs_length;
@@ -330,11 +331,11 @@ module _ (o : Origin) (m : Parts) (n : Device) (s : Sound o m n) (long : IsLong 
           brk = e.recordable.brk;
           floor = e.recordable.floor;
         };
-        stage = subst (IsStage x.geometry x.cpu) (sym (executed-stage (length o.input) m ∙ stage)) tt;
+        stage = subst (IsStage x.geometry x.cpu) (sym (executed-stage o.input m ∙ stage)) tt;
         counted = counted_any next.view.phase next.cpu next.view (e.count ∙ ap (λ c. c + 1) count);
       }
 
-  run_bounded : (stage : Stage) → m.stage ≡ stage → m.view.phase ≡ Run → Executes o m → IsBounded (run_next (length o.input) stage m)
+  run_bounded : (stage : Stage) → m.stage ≡ stage → m.view.phase ≡ Run → Executes o m → IsBounded (run_next o.input stage m)
   run_bounded (Writing epoch issue) is phase executes =
       checkpoint_bounded epoch issue (issue_after m.geometry epoch issue) (IsCheckpointing-sound o m n epoch issue s phase is).holds.count_is
       (next_issue m.geometry epoch issue (subst (IsStage m.geometry m.cpu) is s.bounded.stage))
@@ -345,15 +346,15 @@ module _ (o : Origin) (m : Parts) (n : Device) (s : Sound o m n) (long : IsLong 
   run_bounded (Restoring epoch next) is phase executes = absurd (run_sound o m n s (Restoring epoch next) phase is)
   run_bounded (Refused bad) is phase executes = absurd (run_sound o m n s (Refused bad) phase is)
 
-  phase_bounded : (phase : Phase) → m.view.phase ≡ phase → Executes o m → IsBounded (phase_next o.start (length o.input) n phase m)
+  phase_bounded : (phase : Phase) → m.view.phase ≡ phase → Executes o m → IsBounded (phase_next o.start o.input n phase m)
   phase_bounded Boot is executes = boot_bounded m.stage is s.bounded.stage (subst (SoundIn o m n) is s.moment)
   phase_bounded Run is executes = run_bounded m.stage refl is executes
   phase_bounded Halt is executes = s.bounded
 
-  turn_bounded : (drains : Bool) → Executes o m → IsBounded (if drains then m else phase_next o.start (length o.input) n m.view.phase m)
+  turn_bounded : (drains : Bool) → Executes o m → IsBounded (if drains then m else phase_next o.start o.input n m.view.phase m)
   turn_bounded true executes = s.bounded
   turn_bounded false executes = phase_bounded m.view.phase refl executes
 
   -- the parts after a cycle
-  pub IsBounded-cycle : (pick : Pick) (queued : ℕ) → Executes o m → IsBounded (cycle_next o.start (length o.input) n pick queued m)
+  pub IsBounded-cycle : (pick : Pick) (queued : ℕ) → Executes o m → IsBounded (cycle_next o.start o.input n pick queued m)
   IsBounded-cycle pick queued executes = turn_bounded (is_drain pick queued) executes

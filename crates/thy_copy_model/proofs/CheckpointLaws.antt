@@ -9,7 +9,7 @@ use Rattle.thy_base.proofs.DeviceLemmas.{newest-written_to, newest-drained, no_m
 use Rattle.thy_copy_model.specs.Header.{header_of, header_fault}
 use Rattle.thy_record.specs.Commit.{commit_of}
 use Rattle.thy_record.specs.Cpu.{cpu_block_of, record_of}
-use Rattle.thy_record.specs.Flat.{state_from}
+use Rattle.thy_isa.specs.OnBlocks.{state_from}
 use Rattle.thy_copy_model.specs.Decode.{decode}
 use Rattle.thy_copy_model.proofs.HeaderLemmas.{header_fault-header_of}
 use Rattle.thy_record.proofs.ReadBackLemmas.{IsRecordOf-record_of}

@@ -33,7 +33,7 @@ use Rattle.thy_copy_model.proofs.RunLaws.{view-writing, view-idle, Goes-checkpoi
 
 -- what a cycle that retires an instruction has to leave
 abbrev pub Executes : Origin → Parts → Type 0
-Executes o m = m.view.phase ≡ Run → m.stage ≡ Idle → m.view.over ≡ None → IsExecuted o m (executed (length o.input) m)
+Executes o m = m.view.phase ≡ Run → m.stage ≡ Idle → m.view.over ≡ None → IsExecuted o m (executed o.input m)
 
 -- an epoch that may be sealed is below the ceiling
 abbrev pub SealsBelow : Parts → Type 0
@@ -41,7 +41,7 @@ SealsBelow m = m.view.phase ≡ Run → m.view.epoch < ceiling
 
 module _ (o : Origin) (m : Parts) (n : Device) (s : Sound o m n) where
   hart_goes : (over : Option EndCause) → m.view.over ≡ over → m.view.phase ≡ Run → m.stage ≡ Idle → Executes o m → SealsBelow m
-      → IsBounded (hart_next (length o.input) over m) → Goes o (view_of o m n) (hart_did over m) (hart_next (length o.input) over m) n
+      → IsBounded (hart_next o.input over m) → Goes o (view_of o m n) (hart_did over m) (hart_next o.input over m) n
   hart_goes None over phase stage executes below within = Goes-retire o m n s phase stage over (executes phase stage over) within
   hart_goes (Some cause) over phase stage executes below within = Goes-seal o m n cause s phase stage over (below phase)
 
@@ -49,7 +49,7 @@ module _ (o : Origin) (m : Parts) (n : Device) (s : Sound o m n) where
   run_sound stage phase is = subst (SoundRun o m n) is (subst (SoundIn o m n) phase s.moment)
 
   run_goes : (stage : Stage) → m.stage ≡ stage → m.view.phase ≡ Run → Executes o m → SealsBelow m
-      → IsBounded (run_next (length o.input) stage m) → Goes o (view_of o m n) (run_did stage m) (run_next (length o.input) stage m) (after (run_action stage m) n)
+      → IsBounded (run_next o.input stage m) → Goes o (view_of o m n) (run_did stage m) (run_next o.input stage m) (after (run_action stage m) n)
   run_goes (Writing epoch issue) is phase executes below within = Goes-checkpoint o m n epoch issue s phase is within
   run_goes Idle is phase executes below within = hart_goes m.view.over refl phase is executes below within
   run_goes Unread is phase executes below within = absurd (run_sound Unread phase is)
@@ -86,24 +86,24 @@ module _ (o : Origin) (m : Parts) (n : Device) (s : Sound o m n) where
   pub halted_view : m.view.phase ≡ Halt → view_of o m n ≡ m.view
   halted_view phase = view-idle o m n (halted_stage phase)
 
-  phase_goes : (phase : Phase) → m.view.phase ≡ phase → Executes o m → SealsBelow m → IsBounded (phase_next o.start (length o.input) n phase m)
-      → Goes o (view_of o m n) (phase_did phase m (phase_next o.start (length o.input) n phase m)) (phase_next o.start (length o.input) n phase m)
+  phase_goes : (phase : Phase) → m.view.phase ≡ phase → Executes o m → SealsBelow m → IsBounded (phase_next o.start o.input n phase m)
+      → Goes o (view_of o m n) (phase_did phase m (phase_next o.start o.input n phase m)) (phase_next o.start o.input n phase m)
       (after (phase_action o.start phase m) n)
   phase_goes Boot is executes below within = Goes-boot o m n s is within
   phase_goes Run is executes below within = run_goes m.stage refl is executes below within
   phase_goes Halt is executes below within = record { sound = s; step = (ap (λ v. v.phase) (halted_view is) ∙ is, refl) }
 
   turn_goes : (drains : Bool) → Executes o m → SealsBelow m
-      → IsBounded (if drains then m else phase_next o.start (length o.input) n m.view.phase m)
-      → Goes o (view_of o m n) (if drains then NvmDrained else phase_did m.view.phase m (if drains then m else phase_next o.start (length o.input) n m.view.phase m))
-      (if drains then m else phase_next o.start (length o.input) n m.view.phase m) (after (if drains then Drain else phase_action o.start m.view.phase m) n)
+      → IsBounded (if drains then m else phase_next o.start o.input n m.view.phase m)
+      → Goes o (view_of o m n) (if drains then NvmDrained else phase_did m.view.phase m (if drains then m else phase_next o.start o.input n m.view.phase m))
+      (if drains then m else phase_next o.start o.input n m.view.phase m) (after (if drains then Drain else phase_action o.start m.view.phase m) n)
   turn_goes true executes below within = record { sound = Sound-drained o m n s; step = view-drained o m n s }
   turn_goes false executes below within = phase_goes m.view.phase refl executes below within
 
   -- a cycle: sound after it, and a step of the view
   pub Goes-cycle : (pick : Pick) (queued : ℕ) → Executes o m → SealsBelow m
-      → IsBounded (cycle_next o.start (length o.input) n pick queued m)
-      → Goes o (view_of o m n) (cycle_did pick queued m (cycle_next o.start (length o.input) n pick queued m)) (cycle_next o.start (length o.input) n pick queued m)
+      → IsBounded (cycle_next o.start o.input n pick queued m)
+      → Goes o (view_of o m n) (cycle_did pick queued m (cycle_next o.start o.input n pick queued m)) (cycle_next o.start o.input n pick queued m)
       (after (cycle_action o.start pick queued m) n)
   Goes-cycle pick queued executes below within = turn_goes (is_drain pick queued) executes below within
 

@@ -15,7 +15,7 @@ use Rattle.thy_record.specs.Commit.{commit_of, is_zero, epoch_of, commit_fault}
 use Rattle.thy_record.specs.Cpu.{record_of, IsRecordOf, cpu_of_record, record_fault, IsRecordable}
 use Rattle.thy_record.specs.Decoded.{Nothing, Refused, At}
 use Rattle.thy_copy_model.specs.Decode.{window, record_in, memory_in, image_fault, refused_or_at, decode, IsWhole}
-use Rattle.thy_record.specs.Flat.{state_from}
+use Rattle.thy_isa.specs.OnBlocks.{state_from}
 use Rattle.thy_copy_model.proofs.HeaderLemmas.{header_fault-header_of}
 use Rattle.thy_record.proofs.ReadBackLemmas.{epoch_of-commit_of, commit_fault-commit_of, is_zero-commit_of, cpu_of_record-back, record_fault-back, IsRecordOf-record_of}
 

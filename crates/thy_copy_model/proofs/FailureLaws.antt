@@ -17,7 +17,7 @@ use Rattle.thy_copy_model.proofs.TurnLaws.{Turn-cycle}
 pub CycleFailed-cycle : (o : Origin) (m : Parts) (n new : Device) → Sound o m n → Spends m.geometry m.view m.stage → (pick : Pick)
     → FailsTo (cycle_action o.start pick (length n.queue) m) n new → CycleFailed kind o pick m n new
 CycleFailed-cycle o m n new s h pick failed =
-    let next : Parts = cycle_next o.start (length o.input) n pick (length n.queue) m in
+    let next : Parts = cycle_next o.start o.input n pick (length n.queue) m in
     record {
       did = cycle_did pick (length n.queue) m next;
       stall = cycle_stall pick (length n.queue) m;

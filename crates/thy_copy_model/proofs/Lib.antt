@@ -19,7 +19,6 @@ pub mod BoundLaws
 pub mod ExecutedLemmas
 pub mod FileLaws
 pub mod MomentLaws
-pub mod HartLemmas
 pub mod HartLaws
 pub mod SmallLaws
 pub mod CallLaws

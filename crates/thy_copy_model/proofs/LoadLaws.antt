@@ -12,7 +12,7 @@ use Rattle.thy_isa.specs.Step.{cpu_of}
 use Rattle.thy_copy_model.specs.Header.{header_of}
 use Rattle.thy_record.specs.Commit.{commit_of}
 use Rattle.thy_record.specs.Cpu.{cpu_block_of, IsRecordable}
-use Rattle.thy_record.specs.Flat.{state_from}
+use Rattle.thy_isa.specs.OnBlocks.{state_from}
 use Rattle.thy_copy_model.specs.Moments.{Goes}
 use Rattle.thy_view.specs.declared.did.Did.TheVariants.{Boot as DidBoot, Loaded}
 use Rattle.thy_copy_model.specs.declared.parts.Parts.{Parts}

@@ -11,7 +11,7 @@ use Rattle.thy_base.proofs.DeviceLemmas.{same_as_only, Contains-newest_over, no_
 use Rattle.thy_isa.specs.declared.state.CpuState.{CpuState}
 use Rattle.thy_copy_model.specs.Header.{header_words}
 use Rattle.thy_record.specs.Commit.{commit_words}
-use Rattle.thy_record.specs.Flat.{AllLong}
+use Rattle.thy_flat.specs.Flat.{AllLong}
 use Rattle.thy_record.proofs.CpuLemmas.{length-cpu_block_of}
 use Rattle.thy_record.proofs.WordLemmas.{length-block_of}
 use Rattle.thy_copy_model.specs.declared.stage.Issue.{Issue}

@@ -8,7 +8,7 @@ use Rattle.thy_base.specs.declared.nvm.Shape.{Shape}
 use Rattle.thy_base.specs.Device.{Device, Crash, IsFramed, zero_block, cut_to, fitted}
 use Rattle.thy_copy_model.specs.Layout.{blocks_of}
 use Rattle.thy_base.specs.Geometry.{memory_blocks}
-use Rattle.thy_record.specs.Flat.{AllLong}
+use Rattle.thy_flat.specs.Flat.{AllLong}
 use Rattle.thy_copy_model.specs.Decode.{decode}
 use Rattle.thy_isa.specs.declared.state.CpuState.{CpuState}
 use Rattle.thy_copy_model.specs.Moments.{IsNoCpu, IsPoweredOn, IsNew, Moment, Leads, cycle_doubt, Finds}

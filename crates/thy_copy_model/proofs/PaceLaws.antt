@@ -315,15 +315,15 @@ module _ (m : Parts) where
     seals : (retired : ℕ) → 1 ≤ retired → false ≡ (retired == 0)
     seals retired l = let some : retired ≢ 0 = omega (arith, l) in sym (ne_eqb retired 0 some)
 
-    hart_paced : (over : Option EndCause) (input_len : ℕ) → m.view.over ≡ over → m.stage ≡ Idle → 1 ≤ m.geometry.epoch → Spends m.geometry m.view Idle
-        → PacedTo Idle (hart_next input_len over m) Rest (hart_did over m)
+    hart_paced : (over : Option EndCause) (input : List ℕ) → m.view.over ≡ over → m.stage ≡ Idle → 1 ≤ m.geometry.epoch → Spends m.geometry m.view Idle
+        → PacedTo Idle (hart_next input over m) Rest (hart_did over m)
     unfolding writes
-    hart_paced None input_len over idle some h =
-        let v : View = retired_view m.geometry (executed input_len m).cpu m.view in
+    hart_paced None input over idle some h =
+        let v : View = retired_view m.geometry (executed input m).cpu m.view in
         let l : m.view.retired < m.geometry.epoch = subst (λ (x : Option EndCause). HasRetired m.geometry x m.view.retired) over h.retired in
-        subst (λ (x : Stage). Paced m.geometry m.view Idle v x Rest Retired) (sym (executed-stage input_len m ∙ idle))
-        (retire_paced v.over h (retire_fits (is_running (executed input_len m).cpu.status) l))
-    hart_paced (Some cause) input_len over idle some h =
+        subst (λ (x : Stage). Paced m.geometry m.view Idle v x Rest Retired) (sym (executed-stage input m ∙ idle))
+        (retire_paced v.over h (retire_fits (is_running (executed input m).cpu.status) l))
+    hart_paced (Some cause) input over idle some h =
         let l : HasRetired m.geometry (Some cause) m.view.retired = subst (λ (x : Option EndCause). HasRetired m.geometry x m.view.retired) over h.retired in
         let due : seal_left m.geometry m.view.over ≡ 1 + issues_left 2 m.geometry (Memory 0) = ap (seal_left m.geometry) over in
         record {
@@ -340,11 +340,11 @@ module _ (o : Origin) (m : Parts) (n : Device) (s : Sound o m n) where
   some_epoch = subst (λ (p : Parameters). 1 ≤ p.epoch) (sym s.geometry) (epoch_least o.geometry s.origin.geometry)
 
   run_paced : (stage : Stage) → m.stage ≡ stage → m.view.phase ≡ Run → Spends m.geometry m.view stage
-      → PacedTo m stage (run_next (length o.input) stage m) (run_action stage m) (run_did stage m)
+      → PacedTo m stage (run_next o.input stage m) (run_action stage m) (run_did stage m)
   run_paced (Writing epoch issue) is phase h =
       checkpoint_paced m epoch issue (issue_after m.geometry epoch issue) (issue_action m.geometry m.memory m.cpu epoch issue)
       (issued m m.memory m.cpu epoch issue (subst (IsStage m.geometry m.cpu) is s.bounded.stage)) h
-  run_paced Idle is phase h = hart_paced m phase m.view.over (length o.input) refl is some_epoch h
+  run_paced Idle is phase h = hart_paced m phase m.view.over o.input refl is some_epoch h
   run_paced Unread is phase h = absurd (run_sound o m n s Unread phase is)
   run_paced (Header epoch fault) is phase h = absurd (run_sound o m n s (Header epoch fault) phase is)
   run_paced (Record epoch next) is phase h = absurd (run_sound o m n s (Record epoch next) phase is)
@@ -353,7 +353,7 @@ module _ (o : Origin) (m : Parts) (n : Device) (s : Sound o m n) where
 
   -- a cycle that is no drain
   phase_paced : (phase : Phase) → m.view.phase ≡ phase → Spends m.geometry m.view m.stage
-      → (let x : Parts = phase_next o.start (length o.input) n phase m in PacedTo m m.stage x (phase_action o.start phase m) (phase_did phase m x))
+      → (let x : Parts = phase_next o.start o.input n phase m in PacedTo m m.stage x (phase_action o.start phase m) (phase_did phase m x))
   phase_paced Boot is h = boot_paced m o n m.stage some_epoch s.bounded.stage (subst (SoundIn o m n) is s.moment) h
   phase_paced Run is h = run_paced m.stage refl is h
   phase_paced Halt is h = record {
@@ -472,7 +472,7 @@ drains_some DramDrain q e = cc
 
 module _ (o : Origin) (m next : Parts) (n new : Device) (did : Did) (s : Sound o m n) (t : Sound o next new) (h : Spends m.geometry m.view m.stage) where
   either_progress : (drains : Bool) → (drains ≡ true → length n.queue ≢ 0)
-      → next ≡ (if drains then m else phase_next o.start (length o.input) n m.view.phase m)
+      → next ≡ (if drains then m else phase_next o.start o.input n m.view.phase m)
       → new ≡ after (if drains then Drain else phase_action o.start m.view.phase m) n
       → did ≡ (if drains then NvmDrained else phase_did m.view.phase m next)
       → Progress o m next n new did
@@ -484,14 +484,14 @@ module _ (o : Origin) (m next : Parts) (n new : Device) (did : Did) (s : Sound o
   either_progress false some next_is new_is did_is =
       let a : Action = phase_action o.start m.view.phase m in
       let d : Device = after a n in
-      let y : Parts = phase_next o.start (length o.input) n m.view.phase m in
+      let y : Parts = phase_next o.start o.input n m.view.phase m in
       subst (λ (x : Device). Sound o next x → Progress o m next n x did) (sym new_is)
       (subst (λ (w : Did). Sound o next d → Progress o m next n d w) (sym did_is)
       (subst (λ (x : Parts). Sound o x d → Progress o m x n d (phase_did m.view.phase m x)) (sym next_is)
       (λ there. progress_paced o m y n a (phase_did m.view.phase m y) s there (phase_paced o m n s m.view.phase refl h)))) t
 
   -- a cycle
-  pub Progress-cycle : (pick : Pick) → next ≡ cycle_next o.start (length o.input) n pick (length n.queue) m
+  pub Progress-cycle : (pick : Pick) → next ≡ cycle_next o.start o.input n pick (length n.queue) m
       → new ≡ after (cycle_action o.start pick (length n.queue) m) n → did ≡ cycle_did pick (length n.queue) m next → Progress o m next n new did
   Progress-cycle pick next_is new_is did_is = either_progress (is_drain pick (length n.queue)) (drains_some pick (length n.queue)) next_is new_is did_is
 
@@ -499,11 +499,11 @@ module _ (o : Origin) (m next : Parts) (n new : Device) (did : Did) (s : Sound o
 
 -- what a cycle asks fits what it would have done
 pub Asks-cycle : (o : Origin) (m : Parts) (n : Device) → Sound o m n → Spends m.geometry m.view m.stage → (pick : Pick)
-    → Asks (cycle_did pick (length n.queue) m (cycle_next o.start (length o.input) n pick (length n.queue) m)) (cycle_action o.start pick (length n.queue) m)
+    → Asks (cycle_did pick (length n.queue) m (cycle_next o.start o.input n pick (length n.queue) m)) (cycle_action o.start pick (length n.queue) m)
 Asks-cycle o m n s h pick = by_drain (is_drain pick (length n.queue))
   where
     by_drain : (drains : Bool)
-        → Asks (if drains then NvmDrained else phase_did m.view.phase m (if drains then m else phase_next o.start (length o.input) n m.view.phase m))
+        → Asks (if drains then NvmDrained else phase_did m.view.phase m (if drains then m else phase_next o.start o.input n m.view.phase m))
         (if drains then Drain else phase_action o.start m.view.phase m)
     by_drain true = refl
     by_drain false = (phase_paced o m n s m.view.phase refl h).asked

@@ -15,7 +15,7 @@ use Rattle.thy_copy_model.specs.Header.{header_fault}
 use Rattle.thy_record.specs.Commit.{is_zero, epoch_of, commit_fault}
 use Rattle.thy_record.specs.Cpu.{cpu_of_record, record_fault, IsRecordable}
 use Rattle.thy_record.specs.Decoded.{Decoded, Nothing, Refused as RefusedImage, At}
-use Rattle.thy_record.specs.Flat.{state_from}
+use Rattle.thy_isa.specs.OnBlocks.{state_from}
 use Rattle.thy_copy_model.specs.Decode.{decode}
 use Rattle.thy_copy_model.specs.Moments.{Goes}
 use Rattle.thy_view.specs.declared.did.Did.TheVariants.{Boot as DidBoot, Restarted}

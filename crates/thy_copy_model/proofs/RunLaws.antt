@@ -1,5 +1,5 @@
 -- A running machine stays sound: by each issue of a checkpoint, by a seal, and by an instruction.
-use Rattle.std.proofs.Common.{◌≡◌, ℕ, suc, ◌+◌, ◌-◌, ◌<◌, ◌≤◌, ◌==◌, Bool, true, false, if◌then◌else◌, length, Option, Some, None, refl, sym, ◌∙◌, ap, subst, inl, inr, arith}
+use Rattle.std.proofs.Common.{◌≡◌, List, ℕ, suc, ◌+◌, ◌-◌, ◌<◌, ◌≤◌, ◌==◌, Bool, true, false, if◌then◌else◌, length, Option, Some, None, refl, sym, ◌∙◌, ap, subst, inl, inr, arith}
 use Rattle.std.proofs.lemmas.Bool.{cases_lt}
 use Rattle.thy_base.specs.declared.config.Parameters.{Parameters}
 use Rattle.thy_base.specs.declared.cause.EndCause.{EndCause}
@@ -12,7 +12,8 @@ use Rattle.thy_isa.specs.declared.state.CpuState.{CpuState}
 use Rattle.thy_isa.specs.declared.state.Status.{Status}
 use Rattle.thy_isa.specs.declared.state.Status.TheVariants.{Running, Exited, Trapped}
 use Rattle.thy_isa.specs.Step.{step, steps, is_running}
-use Rattle.thy_record.specs.Flat.{AllLong, state_from}
+use Rattle.thy_flat.specs.Flat.{AllLong}
+use Rattle.thy_isa.specs.OnBlocks.{state_from}
 use Rattle.thy_record.specs.Cpu.{IsRecordable}
 use Rattle.thy_copy_model.specs.Moments.{Goes}
 use Rattle.thy_base.specs.declared.mark.Mark.{Mark}
@@ -306,17 +307,17 @@ held_late o m count h = elim (cases_lt count o.start.count) as (λ _. o.start.co
 ]
 
 -- what an instruction keeps of the parts
-pub executed-geometry : (input_len : ℕ) (m : Parts) → (executed input_len m).geometry ≡ m.geometry
+pub executed-geometry : (input : List ℕ) (m : Parts) → (executed input m).geometry ≡ m.geometry
 unfolding executed performed
-executed-geometry input_len m = refl
+executed-geometry input m = refl
 
-pub executed-stage : (input_len : ℕ) (m : Parts) → (executed input_len m).stage ≡ m.stage
+pub executed-stage : (input : List ℕ) (m : Parts) → (executed input m).stage ≡ m.stage
 unfolding executed performed
-executed-stage input_len m = refl
+executed-stage input m = refl
 
-pub executed-slot : (input_len : ℕ) (m : Parts) → (executed input_len m).slot_record ≡ m.slot_record
+pub executed-slot : (input : List ℕ) (m : Parts) → (executed input m).slot_record ≡ m.slot_record
 unfolding executed performed
-executed-slot input_len m = refl
+executed-slot input m = refl
 
 -- what the instruction has to leave: the plain machine's next state, which can be recorded, in blocks of 64 bytes
 pub record IsExecuted (o : Origin) (m next : Parts) : Type 0 where
@@ -341,17 +342,17 @@ running_yet (Trapped value) rest h = cc
 
 -- an instruction: sound after it, and a step of the view
 pub Goes-retire : (o : Origin) (m : Parts) (n : Device) → Sound o m n → m.view.phase ≡ Run → m.stage ≡ Idle → m.view.over ≡ None
-    → IsExecuted o m (executed (length o.input) m) → IsBounded (retired_on (length o.input) m)
-    → Goes o (view_of o m n) Retired (retired_on (length o.input) m) n
+    → IsExecuted o m (executed o.input m) → IsBounded (retired_on o.input m)
+    → Goes o (view_of o m n) Retired (retired_on o.input m) n
 Goes-retire o m n s phase stage over e within =
     let q = (IsQuiet-sound o m n s phase stage).0 in
     let running : runs_at o m.view.count ≡ true
     = ap (λ t. is_running t.status) (sym q.holds.state) ∙ ap is_running (status-state_from o.geometry m.cpu m.memory)
     ∙ ap is_running ((IsQuiet-sound o m n s phase stage).1 over) in
-    let ex : Parts = executed (length o.input) m in
-    let x : Parts = retired_on (length o.input) m in
-    let geometry : ex.geometry ≡ m.geometry = executed-geometry (length o.input) m in
-    let idle : ex.stage ≡ Idle = executed-stage (length o.input) m ∙ stage in
+    let ex : Parts = executed o.input m in
+    let x : Parts = retired_on o.input m in
+    let geometry : ex.geometry ≡ m.geometry = executed-geometry o.input m in
+    let idle : ex.stage ≡ Idle = executed-stage o.input m ∙ stage in
     let held : Holds o ex (m.view.count + 1) = Holds-executed o m ex m.view.count q.holds e in
     let quiet : IsQuiet o x n = record {
       kept = q.kept;

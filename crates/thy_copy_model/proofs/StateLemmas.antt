@@ -2,17 +2,19 @@
 use Rattle.std.proofs.Common.{◌≡◌, ℕ, zero, suc, ◌+◌, ◌-◌, ◌*◌, ◌<◌, ◌≤◌, ◌==◌, ◌&&◌, true, false, Bool, nat_le, if◌then◌else◌, List, [], ◌∷◌, ◌++◌, length, take, drop, replicate, slice_set, Some, None, refl, sym, ◌∙◌, ap, inl, inr, arith}
 use Rattle.std.proofs.Math.Seq.{take-append_seam, drop-append_seam}
 use Rattle.std.proofs.lemmas.Bool.{cases_eq, ne_eqb, ltb-true, leb-true, and_parts}
-use Rattle.std.proofs.lemmas.List.{drop-drop, take-append-drop, length-append, length-drop, length-replicate, ext_get_or, get_or-set_same, get_or-set_other}
-use Rattle.std.specs.List.{flat_map}
+use Rattle.std.proofs.lemmas.List.{drop-drop, take-append-drop, length-take-le, length-append, length-drop, length-replicate, ext_get_or, get_or-set_same, get_or-set_other}
 use Rattle.thy_base.specs.declared.block.Block.{Block}
 use Rattle.thy_base.specs.declared.config.Parameters.{Parameters}
+use Rattle.thy_base.specs.Blocks.{block_bytes}
 use Rattle.thy_base.specs.Device.{zero_block, block_at}
 use Rattle.thy_base.specs.Geometry.{memory_blocks, program_size, console_room}
+use Rattle.thy_base.proofs.BlockLemmas.{block_bytes-long}
 use Rattle.thy_isa.specs.declared.state.CpuState.{CpuState}
 use Rattle.thy_isa.specs.Step.{State, cpu_of, state_with, steps}
 use Rattle.thy_record.specs.declared.image.BadImage.TheVariants.{Commit, Status as BadStatus, ConsoleLength}
 use Rattle.thy_record.specs.Cpu.{status_tag, status_value, status_of, is_status, record_word, cpu_of_record, record_fault, IsRecordable}
-use Rattle.thy_record.specs.Flat.{flat, state_from}
+use Rattle.thy_flat.specs.Flat.{flat}
+use Rattle.thy_isa.specs.OnBlocks.{state_from}
 use Rattle.thy_copy_model.specs.Boot.{start_bytes, block_from}
 use Rattle.thy_copy_model.specs.Bounds.{IsRanged}
 use Rattle.thy_view.specs.Origin.{Origin, setting_of, at, IsOrigin}
@@ -35,8 +37,10 @@ SameBelow-all n blocks others a b same = ext_get_or zero_block blocks others (a 
 
 -- ---- memory from the start's bytes
 
-same_block : (a : Block) (bytes : List ℕ) → a ≡ block_from bytes 0 → a.0 ≡ take 64 bytes
-same_block a bytes e = ap (λ b. b.0) e
+same_block : (a : Block) (bytes : List ℕ) → 64 ≤ length bytes → a ≡ block_from bytes 0 → block_bytes a ≡ take 64 bytes
+same_block a bytes l e =
+    let own : a.0 ≡ take 64 bytes = ap (λ b. b.0) e in
+    block_bytes-long a (ap length own ∙ length-take-le 64 bytes l) ∙ own
 
 next_block : (bytes : List ℕ) (i : ℕ) → block_from bytes (suc i) ≡ block_from (drop 64 bytes) i
 next_block bytes i =
@@ -49,9 +53,9 @@ unfolding flat
 flat-blocks [] [] l each = refl
 flat-blocks [] (byte ∷ bytes) l each = absurd (omega arith)
 flat-blocks (b ∷ blocks) bytes l each =
-    let rest : flat_map (λ (c : Block). c.0) blocks ≡ drop 64 bytes
+    let rest : flat blocks ≡ drop 64 bytes
     = flat-blocks blocks (drop 64 bytes) (omega (arith, length-drop 64 bytes)) (λ i less. each (suc i) (omega arith) ∙ next_block bytes i) in
-    ap (λ xs. xs ++ flat_map (λ (c : Block). c.0) blocks) (same_block b bytes (each 0 (omega arith)))
+    ap (λ xs. xs ++ flat blocks) (same_block b bytes (omega arith) (each 0 (omega arith)))
     ∙ ap (λ xs. take 64 bytes ++ xs) rest
     ∙ take-append-drop 64 bytes
 

@@ -106,11 +106,11 @@ module _ (o : Origin) (m : Parts) (n : Device) (s : Sound o m n) where
   boot_read (Writing epoch issue) is = read_loading epoch issue (issue_after m.geometry epoch issue) (filled o.start issue m)
   boot_read Idle is = kept_read Idle is refl
 
-  hart_read : (over : Option EndCause) → m.stage ≡ Idle → has_read_at (hart_next (length o.input) over m).stage ≡ true
-  hart_read None is = ap has_read_at (executed-stage (length o.input) m ∙ is)
+  hart_read : (over : Option EndCause) → m.stage ≡ Idle → has_read_at (hart_next o.input over m).stage ≡ true
+  hart_read None is = ap has_read_at (executed-stage o.input m ∙ is)
   hart_read (Some cause) is = refl
 
-  run_read : (stage : Stage) → m.stage ≡ stage → m.view.phase ≡ Run → has_read_at (run_next (length o.input) stage m).stage ≡ true
+  run_read : (stage : Stage) → m.stage ≡ stage → m.view.phase ≡ Run → has_read_at (run_next o.input stage m).stage ≡ true
   run_read (Writing epoch issue) is phase = read_checkpoint epoch issue (issue_after m.geometry epoch issue) m
   run_read Idle is phase = hart_read m.view.over is
   run_read Unread is phase = absurd (run_sound o m n s Unread phase is)
@@ -119,7 +119,7 @@ module _ (o : Origin) (m : Parts) (n : Device) (s : Sound o m n) where
   run_read (Restoring epoch i) is phase = absurd (run_sound o m n s (Restoring epoch i) phase is)
   run_read (Refused bad) is phase = absurd (run_sound o m n s (Refused bad) phase is)
 
-  phase_read : (phase : Phase) → m.view.phase ≡ phase → has_read_at (phase_next o.start (length o.input) n phase m).stage ≡ true
+  phase_read : (phase : Phase) → m.view.phase ≡ phase → has_read_at (phase_next o.start o.input n phase m).stage ≡ true
   phase_read Boot is = boot_read m.stage refl
   phase_read Run is = run_read m.stage refl is
   phase_read Halt is = kept_read Idle (halted_stage o m n s is) refl
@@ -131,8 +131,8 @@ module _ (o : Origin) (m : Parts) (n : Device) (s : Sound o m n) where
   undrained DramDrain q e = refl
 
   -- a cycle with an empty queue gets past the read of the commit block
-  pub has_read-cycle : (pick : Pick) → n.queue ≡ [] → has_read (cycle_next o.start (length o.input) n pick (length n.queue) m) ≡ true
+  pub has_read-cycle : (pick : Pick) → n.queue ≡ [] → has_read (cycle_next o.start o.input n pick (length n.queue) m) ≡ true
   unfolding has_read
   has_read-cycle pick e =
       let acts : is_drain pick (length n.queue) ≡ false = undrained pick (length n.queue) (ap length e) in
-      ap (λ t. has_read_at (if t then m else phase_next o.start (length o.input) n m.view.phase m).stage) acts ∙ phase_read m.view.phase refl
+      ap (λ t. has_read_at (if t then m else phase_next o.start o.input n m.view.phase m).stage) acts ∙ phase_read m.view.phase refl

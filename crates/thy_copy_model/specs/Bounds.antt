@@ -6,7 +6,7 @@ use Rattle.thy_base.specs.Bytes.{bytes_of}
 use Rattle.thy_base.specs.Geometry.{IsInRange, memory_blocks, program_size, console_room}
 use Rattle.thy_copy_model.specs.Layout.{blocks_of}
 use Rattle.thy_isa.specs.declared.state.CpuState.{CpuState}
-use Rattle.thy_record.specs.Flat.{AllLong}
+use Rattle.thy_flat.specs.Flat.{AllLong}
 use Rattle.thy_view.specs.declared.view.Phase.{Phase}
 use Rattle.thy_view.specs.declared.view.Phase.TheVariants.{Boot, Run, Halt}
 use Rattle.thy_view.specs.declared.view.View.{View}

@@ -1,5 +1,5 @@
 -- One cycle: what it asks of the device, what it makes of the machine's parts, and what is told of it.
-use Rattle.std.specs.Prelude.{ℕ, ◌==◌, Bool, false, if◌then◌else◌, is_some, Option, Some, None, not}
+use Rattle.std.specs.Prelude.{ℕ, List, ◌==◌, Bool, false, if◌then◌else◌, is_some, Option, Some, None, not}
 use Rattle.thy_base.specs.declared.cause.EndCause.{EndCause}
 use Rattle.thy_base.specs.declared.mix.Pick.{Pick}
 use Rattle.thy_base.specs.declared.mix.Pick.TheVariants.{Hart, Engine as EnginePick, NvmDrain, DramDrain}
@@ -21,9 +21,9 @@ use Rattle.thy_copy_model.specs.Steps.{boot_action, boot_next, boot_did, checkpo
 -- ---- while the machine executes
 
 -- a hart whose epoch is over seals it, else it retires an instruction
-abbrev pub hart_next : ℕ → Option EndCause → Parts → Parts
-hart_next input_len None m = retired_on input_len m
-hart_next input_len (Some cause) m = sealed_on m
+abbrev pub hart_next : List ℕ → Option EndCause → Parts → Parts
+hart_next input None m = retired_on input m
+hart_next input (Some cause) m = sealed_on m
 
 abbrev pub hart_did : Option EndCause → Parts → Did
 hart_did None m = Retired
@@ -34,9 +34,9 @@ abbrev pub run_action : Stage → Parts → Action
 run_action (Writing epoch issue) m = issue_action m.geometry m.memory m.cpu epoch issue
 run_action stage m = Rest
 
-abbrev pub run_next : ℕ → Stage → Parts → Parts
-run_next input_len (Writing epoch issue) m = checkpoint_on epoch issue (issue_after m.geometry epoch issue) m
-run_next input_len stage m = hart_next input_len m.view.over m
+abbrev pub run_next : List ℕ → Stage → Parts → Parts
+run_next input (Writing epoch issue) m = checkpoint_on epoch issue (issue_after m.geometry epoch issue) m
+run_next input stage m = hart_next input m.view.over m
 
 abbrev pub run_did : Stage → Parts → Did
 run_did (Writing epoch issue) m = checkpoint_did epoch issue (issue_after m.geometry epoch issue) m.view
@@ -54,10 +54,10 @@ phase_action s Boot m = boot_action s m.stage m
 phase_action s Run m = run_action m.stage m
 phase_action s Halt m = Rest
 
-abbrev pub phase_next : State → ℕ → Device → Phase → Parts → Parts
-phase_next s input_len n Boot m = boot_next s n m.stage m
-phase_next s input_len n Run m = run_next input_len m.stage m
-phase_next s input_len n Halt m = m
+abbrev pub phase_next : State → List ℕ → Device → Phase → Parts → Parts
+phase_next s input n Boot m = boot_next s n m.stage m
+phase_next s input n Run m = run_next input m.stage m
+phase_next s input n Halt m = m
 
 abbrev pub phase_did : Phase → Parts → Parts → Did
 phase_did Boot m after = boot_did m.stage m after
@@ -86,8 +86,8 @@ told pick stall = stall
 abbrev pub cycle_action : State → Pick → ℕ → Parts → Action
 cycle_action s pick queued m = if is_drain pick queued then Drain else phase_action s m.view.phase m
 
-abbrev pub cycle_next : State → ℕ → Device → Pick → ℕ → Parts → Parts
-cycle_next s input_len n pick queued m = if is_drain pick queued then m else phase_next s input_len n m.view.phase m
+abbrev pub cycle_next : State → List ℕ → Device → Pick → ℕ → Parts → Parts
+cycle_next s input n pick queued m = if is_drain pick queued then m else phase_next s input n m.view.phase m
 
 abbrev pub cycle_did : Pick → ℕ → Parts → Parts → Did
 cycle_did pick queued m after = if is_drain pick queued then NvmDrained else phase_did m.view.phase m after

@@ -11,7 +11,7 @@ use Rattle.thy_copy_model.specs.Header.{header_of}
 use Rattle.thy_record.specs.Commit.{commit_of}
 use Rattle.thy_record.specs.Cpu.{IsRecordOf, IsRecordable}
 use Rattle.thy_record.specs.Decoded.{At}
-use Rattle.thy_record.specs.Flat.{state_from}
+use Rattle.thy_isa.specs.OnBlocks.{state_from}
 use Rattle.thy_copy_model.specs.Decode.{record_in, memory_in, decode, IsWhole}
 
 -- an image with the header of its geometry, the commit block of an epoch, and a processor's record in that

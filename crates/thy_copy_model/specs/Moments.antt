@@ -60,9 +60,9 @@ pub record Goes (o : Origin) (v : View) (did : Did) (next : Parts) (n : Device) 
 
 -- a cycle leads to the next moment, by a step of the view
 pub record Leads (o : Origin) (m : Parts) (n : Device) (pick : Pick) (queued : ℕ) : Type 0 where
-  pub moment : Moment o (cycle_next o.start (length o.input) n pick queued m) (after (cycle_action o.start pick queued m) n)
-  pub step : CoreStep o (view_of o m n) (cycle_did pick queued m (cycle_next o.start (length o.input) n pick queued m))
-      (view_of o (cycle_next o.start (length o.input) n pick queued m) (after (cycle_action o.start pick queued m) n))
+  pub moment : Moment o (cycle_next o.start o.input n pick queued m) (after (cycle_action o.start pick queued m) n)
+  pub step : CoreStep o (view_of o m n) (cycle_did pick queued m (cycle_next o.start o.input n pick queued m))
+      (view_of o (cycle_next o.start o.input n pick queued m) (after (cycle_action o.start pick queued m) n))
 
 -- what is in doubt after a cycle that failed
 abbrev pub cycle_doubt : Pick → ℕ → Parts → View → Option Mark

@@ -10,7 +10,7 @@ use Rattle.thy_isa.specs.Step.{cpu_of}
 use Rattle.thy_copy_model.specs.Header.{header_fault}
 use Rattle.thy_record.specs.Commit.{commit_of, commit_fault}
 use Rattle.thy_record.specs.Cpu.{cpu_block_of, cpu_of_record, IsRecordable}
-use Rattle.thy_record.specs.Flat.{state_from}
+use Rattle.thy_isa.specs.OnBlocks.{state_from}
 use Rattle.thy_copy_model.specs.Decode.{decode}
 use Rattle.thy_copy_model.specs.declared.parts.Parts.{Parts}
 use Rattle.thy_copy_model.specs.declared.stage.Issue.{Issue}

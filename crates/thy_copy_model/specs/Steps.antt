@@ -1,5 +1,5 @@
 -- The steps of the machine: what each asks of the device, and what it makes of the machine's parts.
-use Rattle.std.specs.Prelude.{ℕ, ◌+◌, ◌-◌, ◌==◌, true, false, if◌then◌else◌, slice_set, Option, Some, None}
+use Rattle.std.specs.Prelude.{ℕ, List, ◌+◌, ◌-◌, ◌==◌, true, false, if◌then◌else◌, slice_set, Option, Some, None}
 use Rattle.thy_base.specs.declared.cause.EndCause.{EndCause}
 use Rattle.thy_base.specs.declared.cause.EndCause.TheVariants.{Length, Ended}
 use Rattle.thy_base.specs.declared.config.Parameters.{Parameters}
@@ -136,9 +136,9 @@ retired_view p cpu v =
     record (busier v) { count = v.count + 1; retired = v.retired + 1; lap = v.lap + 1; over = over_after p cpu v }
 
 -- the parts after one instruction was retired
-abbrev pub retired_on : ℕ → Parts → Parts
-retired_on input_len m =
-    let e = executed input_len m in record e { view = retired_view m.geometry e.cpu m.view }
+abbrev pub retired_on : List ℕ → Parts → Parts
+retired_on input m =
+    let e = executed input m in record e { view = retired_view m.geometry e.cpu m.view }
 
 -- the parts after the seal: the checkpoint of the epoch that ended is under way
 abbrev pub sealed_on : Parts → Parts

@@ -1,11 +1,13 @@
 //! The memory of the machine.
-ghost use Rattle.std.specs.Prelude.{◌≡◌, ◌<◌, ℕ, List, length, replicate, slice_index_or, slice_set, IfOk};
+ghost use Rattle.std.specs.Prelude.{◌≡◌, ◌<◌, ◌≤◌, ◌^◌, ℕ, List, length, replicate, slice_index_or, slice_set, IfOk};
 ghost use Rattle.thy_base.specs.declared.block.Block.{Block as BlockValue};
 ghost use Rattle.thy_base.specs.Device.{block_at, zero_block};
+ghost use Rattle.thy_flat.specs.Spans.{IsSpanOf, scattered};
 
 use std::alloc::{AllocError, Global};
 use std::marker::Model;
 use thy_base::Block;
+use thy_flat::{Span, scatter};
 
 /// A list of blocks that keeps its length.
 #[derive(Debug, Drop)]
@@ -50,6 +52,16 @@ impl Memory {
         ensures { self.new ≡ slice_set self.old at block.now }
     {
         self.blocks[at] = *block;
+    }
+
+    /// Puts as many of the bytes as it has over a span.
+    pub fn put(&mut self, span: Span, bytes: &[u8])
+        requires inside { IsSpanOf (length self.old) span }
+        requires few { length self.old < 2 ^ 32 }
+        requires bytes { span.len ≤ length bytes.now }
+        ensures { self.new ≡ scattered self.old span bytes.now }
+    {
+        scatter(&mut self.blocks, span, bytes);
     }
 
     /// The blocks.

@@ -369,6 +369,24 @@ console_by-room g s (Write pc at width v) h = h
 console_by-room g s Environment h = console_served-room g s (call_at g s) (call_of-fit s.regs (call_state_of g s)) h
 console_by-room g s (Trap c) h = h
 
+served-room : (c : CpuState) (calls : CallState) (k : Call) (most : ℕ) → calls.room ≡ most - c.console_len → IsFit calls k → c.console_len ≤ most → (served c k).console_len ≤ most
+unfolding served
+served-room c calls (Answer v) most e f h = h
+served-room c calls (Exit v) most e f h = h
+served-room c calls (Break at) most e f h = h
+served-room c calls (Take at len) most e f h = h
+served-room c calls (Give at len) most e f h = omega (arith, e, f.1)
+
+-- the length of a console stays within a room, where a call is decided by what is left of it
+pub finished-room : (c : CpuState) (e : Effect) (n : ℕ) (k : CallState) (most : ℕ) → k.room ≡ most - c.console_len → c.console_len ≤ most → (finished c e n k).console_len ≤ most
+unfolding finished
+finished-room c (Next pc) n k most e h = h
+finished-room c (Set pc rd v) n k most e h = h
+finished-room c (Read pc at width extend rd) n k most e h = h
+finished-room c (Write pc at width v) n k most e h = h
+finished-room c Environment n k most e h = served-room c k (call_of c.regs k) most e (call_of-fit c.regs k) h
+finished-room c (Trap cause) n k most e h = h
+
 -- ---- the cursor
 
 served-cursor : (c : CpuState) (calls : CallState) (k : Call) → calls.cursor ≡ c.cursor → IsFit calls k → c.cursor ≤ calls.input_len → (served c k).cursor ≤ calls.input_len

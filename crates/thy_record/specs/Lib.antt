@@ -2,7 +2,6 @@ pub mod Words
 pub mod Commit
 pub mod Cpu
 pub mod Decoded
-pub mod Flat
 pub mod Tables
 pub mod TableBlocks
 pub mod Header

@@ -9,7 +9,6 @@ mod file;
 mod header;
 mod image;
 mod laws;
-mod memory;
 mod slot;
 mod start;
 mod table_faults;
@@ -25,7 +24,6 @@ pub use image::BadImage;
 pub use laws::{
     ceiling_grows, decoded_is_whole, faultless_tables, looked_decides, written_decodes,
 };
-pub use memory::{load, store};
 pub use slot::slot_fault;
 pub use start::Start;
 pub use tables::{table_block, table_entry};

@@ -13,7 +13,7 @@ use Rattle.thy_base.specs.Device.{Device, Crash, HasFailed, cut_to, fitted}
 use Rattle.thy_dram.specs.Contents.{Contents}
 use Rattle.thy_isa.specs.declared.state.MachState.{MachState}
 use Rattle.thy_isa.specs.Step.{state_of}
-use Rattle.thy_record.specs.Flat.{AllLong}
+use Rattle.thy_flat.specs.Flat.{AllLong}
 use Rattle.thy_record.specs.Decoded.{Reading, Nothing}
 use Rattle.thy_record.specs.declared.start.Start.{Start}
 use Rattle.thy_view.specs.declared.did.Did.{Did}

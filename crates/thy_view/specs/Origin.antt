@@ -3,10 +3,11 @@ use Rattle.std.specs.Prelude.{◌≡◌, ℕ, ◌-◌, ◌^◌, ◌<◌, List, l
 use Rattle.thy_base.specs.declared.config.Parameters.{Parameters}
 use Rattle.thy_base.specs.declared.mark.Mark.{Mark}
 use Rattle.thy_base.specs.Bytes.{bytes_of}
-use Rattle.thy_base.specs.Geometry.{IsInRange, program_size, console_room}
+use Rattle.thy_base.specs.Geometry.{IsInRange, program_size}
 use Rattle.thy_isa.specs.declared.state.Status.TheVariants.{Running}
+use Rattle.thy_isa.specs.OnBlocks.{setting_for}
 use Rattle.thy_isa.specs.Step.{State, Setting, state_of, cpu_of, steps, is_running}
-use Rattle.thy_isa.specs.Storable.{IsStorable}
+use Rattle.thy_isa.specs.Storable.{IsStorable, IsReadable}
 use Rattle.thy_record.specs.Cpu.{IsRecordable}
 use Rattle.thy_record.specs.declared.start.Start.{Start}
 
@@ -20,7 +21,7 @@ pub record Origin : Type 0 where
 
 -- what the plain machine needs besides a state
 abbrev pub setting_of : Origin → Setting
-setting_of o = record { base = o.geometry.base; input = o.input; room = console_room o.geometry }
+setting_of o = setting_for o.geometry o.input
 
 -- the plain machine when it has retired k instructions, counted from the program's start
 unfoldable pub at : Origin → ℕ → State
@@ -35,12 +36,13 @@ abbrev pub StartsFrom : Option Mark → State → Type 0
 StartsFrom None s = s.status ≡ Running
 StartsFrom (Some m) s = (m.count ≡ s.count) × (m.epoch < 2 ^ 62)
 
--- the start of a run fits its geometry and can be stored
+-- the start of a run fits its geometry and can be stored, and its input is one of bytes
 pub record IsOrigin (o : Origin) : Type 0 where
   pub geometry : IsInRange o.geometry
   pub recordable : IsRecordable o.geometry (2 ^ 62) (cpu_of o.start)
   pub memory : length o.start.memory ≡ program_size o.geometry
   pub storable : IsStorable (program_size o.geometry) o.start
+  pub readable : IsReadable (setting_of o)
   pub starts : StartsFrom o.kept o.start
 
 -- a run has this start

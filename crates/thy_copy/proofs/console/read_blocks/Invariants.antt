@@ -1,7 +1,7 @@
 use Rattle.std.proofs.Common.{◌≡◌, ◌≤◌, List, length, take, drop}
 use Rattle.thy_base.specs.declared.block.Block.{Block}
 use Rattle.thy_base.specs.Bytes.{bytes_of}
-use Rattle.thy_record.specs.Flat.{flat}
+use Rattle.thy_flat.specs.Flat.{flat}
 use Rattle.thy_copy_model.specs.Stored.{AreRead}
 use Rattle.thy_copy.proofs.console.read_blocks.Given as goal
 

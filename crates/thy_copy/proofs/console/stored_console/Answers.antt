@@ -1,6 +1,6 @@
 use Rattle.std.proofs.Common.{ℕ, ◌*◌, ◌-◌, ◌%◌, ◌≤◌, List, length, take, drop, sym, ◌∙◌, ap, subst, arith}
 use Rattle.thy_base.specs.Device.{Device}
-use Rattle.thy_record.specs.Flat.{flat}
+use Rattle.thy_flat.specs.Flat.{flat}
 use Rattle.thy_copy_model.specs.Stored.{AreRead}
 use Rattle.thy_copy.proofs.ConsoleLemmas.{piece_of}
 use Rattle.thy_copy.proofs.console.stored_console.Goals as goal
