@@ -10,3 +10,4 @@ pub mod ImageLemmas
 pub mod ClashLemmas
 pub mod FileLemmas
 pub mod CheckLemmas
+pub mod IssuingLemmas

@@ -10,3 +10,4 @@ pub mod Slots
 pub mod Images
 pub mod ImageLaws
 pub mod Files
+pub mod Issuing

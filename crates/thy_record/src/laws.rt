@@ -1,5 +1,6 @@
-//! Laws of the tables and of images, each the contract of a function that does nothing.
+//! Laws of the tables, of images and of how they are written, each the contract of a function that does nothing.
 ghost use Rattle.thy_record.specs.ImageLaws.{FaultlessTables, WrittenDecodes, DecodedIsWhole, LookedDecides, CeilingGrows};
+ghost use Rattle.thy_record.specs.Issuing.{ListedHomeIsUnused, PagedHomeIsUnused, EmptyEntryIsUnused, EmptyPageIsUnused, FreeIsNotLooked, NothingIsLooked, IssuingBegins, SlotGoesOn, FreeKeepsIssuing, HeaderKeepsIssuing, DrainKeepsIssuing, IssuedDecodes};
 
 /// Tables are those that a checkpoint may have exactly where no fault is found in them.
 pub fn faultless_tables()
@@ -24,4 +25,35 @@ pub fn looked_decides()
 /// What decodes with epochs and counts below a ceiling decodes to the same below a higher one.
 pub fn ceiling_grows()
     ensures { CeilingGrows }
+{}
+
+/// A place that no block of memory stands in: the home of a block that is listed or whose page is, and what an
+/// empty entry owns.
+pub fn unused_places()
+    ensures listed_home { ListedHomeIsUnused }
+    ensures paged_home { PagedHomeIsUnused }
+    ensures empty_entry { EmptyEntryIsUnused }
+    ensures empty_page { EmptyPageIsUnused }
+{}
+
+/// What is free for an image's checkpoint is none of the blocks that tell what the image means; and where it has no
+/// checkpoint, every block but the commit block is free.
+pub fn free_is_not_looked_at()
+    ensures free { FreeIsNotLooked }
+    ensures nothing { NothingIsLooked }
+{}
+
+/// The blocks of a slot that were written in turn are read, and memory is read where the tables have it; that stays so
+/// over writes to what is free, the header's write and drains.
+pub fn issuing_goes_on()
+    ensures begins { IssuingBegins }
+    ensures slot { SlotGoesOn }
+    ensures free { FreeKeepsIssuing }
+    ensures header { HeaderKeepsIssuing }
+    ensures drain { DrainKeepsIssuing }
+{}
+
+/// With the whole slot written the next image decodes to the checkpoint, and all that tells it was written.
+pub fn issued_decodes()
+    ensures { IssuedDecodes }
 {}
