@@ -129,5 +129,11 @@ console_below p r = r.1.1.0.1
 pub epoch_least : (p : Parameters) → IsInRange p → 1 ≤ p.epoch
 epoch_least p r = r.1.1.1.0.0
 
+pub btt_eights : (p : Parameters) → IsInRange p → p.btt % 8 ≡ 0
+btt_eights p r = r.1.1.1.1.0.1
+
+pub ptt_eights : (p : Parameters) → IsInRange p → p.ptt % 8 ≡ 0
+ptt_eights p r = r.1.1.1.1.1.0.1
+
 pub limit_least : (p : Parameters) → IsInRange p → 1 ≤ p.limit
 limit_least p r = omega arith

@@ -1,3 +1,4 @@
+pub mod CommitLemmas
 pub mod FixedLemmas
 pub mod SavedLemmas
 pub mod SparesLemmas

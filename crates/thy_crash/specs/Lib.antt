@@ -1,3 +1,4 @@
+pub mod Commit
 pub mod Fixed
 pub mod Laws
 pub mod Saved

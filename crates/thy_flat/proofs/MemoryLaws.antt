@@ -6,13 +6,14 @@ use Rattle.thy_base.specs.declared.config.Parameters.{Parameters}
 use Rattle.thy_base.specs.Geometry.{IsInRange, program_size, console_room, memory_blocks}
 use Rattle.thy_flat.specs.Flat.{flat, memory_bytes, console_bytes}
 use Rattle.thy_flat.proofs.FlatLemmas.{length-flat}
+use Rattle.thy_base.proofs.RangeLemmas.{console_below}
 
 pub size_inside : (p : Parameters) (blocks : List Block) → length blocks ≡ memory_blocks p → program_size p ≤ length (flat blocks)
 size_inside p blocks h = omega (arith, length-flat blocks, h)
 
 pub room_inside : (p : Parameters) (blocks : List Block) → IsInRange p → length blocks ≡ memory_blocks p
     → program_size p + console_room p ≡ length (flat blocks)
-room_inside p blocks r h = omega (arith, length-flat blocks, h, r.console_below)
+room_inside p blocks r h = omega (arith, length-flat blocks, h, console_below p r)
 
 pub length-memory_bytes : (p : Parameters) (blocks : List Block) → length blocks ≡ memory_blocks p
     → length (memory_bytes p blocks) ≡ program_size p

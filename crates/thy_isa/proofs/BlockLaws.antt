@@ -37,6 +37,7 @@ use Rattle.thy_isa.proofs.CallLaws.{call_of-fit}
 use Rattle.thy_isa.proofs.MemoryBounds.{length-number_bytes}
 use Rattle.thy_isa.proofs.MoveLaws.{size_of-most}
 use Rattle.thy_isa.proofs.StepLaws.{step-running}
+use Rattle.thy_base.proofs.RangeLemmas.{console_below}
 
 fetched_none : (a b : Bool) → (if a then (if b then None else Some FetchAccess) else Some FetchMisaligned) ≡ None → b ≡ true
 fetched_none true true h = refl
@@ -101,7 +102,7 @@ console-scattered p blocks at piece n whole short l =
 
 console_span : (p : Parameters) (blocks : List Block) (n len : ℕ) → IsInRange p → length blocks ≡ memory_blocks p → len ≤ 64 → n + len ≤ console_room p
     → IsSpanOf (length blocks) (span (program_size p + n) len)
-console_span p blocks n len r whole short l = record { short = short; inside = omega (arith, whole, r.console_below) }
+console_span p blocks n len r whole short l = record { short = short; inside = omega (arith, whole, console_below p r) }
 
 -- a piece behind the first n bytes of the console leaves program memory
 memory-behind : (p : Parameters) (blocks : List Block) (n : ℕ) (piece : List ℕ) → IsInRange p → length blocks ≡ memory_blocks p → length piece ≤ 64

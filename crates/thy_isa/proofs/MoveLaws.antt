@@ -24,6 +24,7 @@ use Rattle.thy_isa.specs.OnBlocks.{calls_in, bytes_in}
 use Rattle.thy_isa.specs.Step.{AreCallsOf}
 use Rattle.thy_isa.proofs.CallLaws.{call_of-fit}
 use Rattle.thy_isa.proofs.MemoryBounds.{length-number_bytes}
+use Rattle.thy_base.proofs.RangeLemmas.{console_below, console_most}
 
 pub size_of-most : (w : Width) → size_of w ≤ 8
 size_of-most Byte = omega arith
@@ -49,7 +50,7 @@ module _ (p : Parameters) (cpu : CpuState) (n : ℕ) (r : IsInRange p) where
   call_moves-spans (Take at len) f = record { from = no_span (memory_blocks p); to = program at len f.0.most f.0.low f.0.high }
   call_moves-spans (Give at len) f = record {
     from = program at len f.0.most f.0.low f.0.high;
-    to = record { short = f.0.most; inside = omega (arith, f.1, f.0.some, r.console_below) };
+    to = record { short = f.0.most; inside = omega (arith, f.1, f.0.some, console_below p r) };
   }
 
   -- the spans of an effect within memory lie within the blocks of memory
@@ -66,7 +67,7 @@ module _ (p : Parameters) (cpu : CpuState) (n : ℕ) (r : IsInRange p) where
 
 -- what a call is decided by is its processor's
 pub calls_in-of : (p : Parameters) (cpu : CpuState) (n : ℕ) → IsInRange p → cpu.console_len < 2 ^ 64 → AreCallsOf cpu (calls_in p cpu n)
-calls_in-of p cpu n r l = record { cursor = refl; room = omega (arith, r.console_most) }
+calls_in-of p cpu n r l = record { cursor = refl; room = omega (arith, console_most p r) }
 
 -- ---- how many bytes
 

@@ -19,7 +19,7 @@ use Rattle.thy_record.specs.Words.{word_of}
 use Rattle.thy_record.specs.Commit.{commit_magic, is_zero, epoch_of, has_zero_rest, commit_fault}
 use Rattle.thy_record.specs.Cpu.{cpu_of_record, record_word, is_status, IsRecordable}
 use Rattle.thy_record.specs.Decoded.{Nothing, At}
-use Rattle.thy_record.specs.Flat.{state_from}
+use Rattle.thy_isa.specs.OnBlocks.{state_from}
 use Rattle.thy_record.specs.Header.{header_fault}
 use Rattle.thy_record.specs.Images.{slot_numbers, slot_in, memory_numbers, memory_in, state_in, image_fault, refused_or_at, decode_with, decode_image}
 use Rattle.thy_record.specs.ImageLaws.{HasCheckpoint, IsDecoded, IsAlike}

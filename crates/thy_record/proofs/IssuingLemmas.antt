@@ -23,7 +23,7 @@ use Rattle.thy_isa.specs.declared.state.CpuState.{CpuState}
 use Rattle.thy_record.specs.Commit.{commit_of, is_zero, epoch_of}
 use Rattle.thy_record.specs.Cpu.{IsRecordable}
 use Rattle.thy_record.specs.Decoded.{At}
-use Rattle.thy_record.specs.Flat.{state_from}
+use Rattle.thy_isa.specs.OnBlocks.{state_from}
 use Rattle.thy_record.specs.Header.{header_of}
 use Rattle.thy_record.specs.Images.{slot_numbers, slot_in, memory_numbers, memory_in, looked}
 use Rattle.thy_record.specs.ImageLaws.{HasCheckpoint}

@@ -19,6 +19,7 @@ use Rattle.thy_record.proofs.WordLemmas.{word_of-block_of}
 use Rattle.thy_record.proofs.ReadBackLemmas.{taken, both, rest_back}
 use Rattle.thy_record.proofs.TableLemmas.{entry_from-entry_word}
 use Rattle.thy_record.proofs.TableFaultLemmas.{both_none, IsFaultless-tables}
+use Rattle.thy_base.proofs.RangeLemmas.{btt_eights, ptt_eights}
 
 -- these blocks are the slot of a checkpoint
 pub record IsSlotOf (p : Parameters) (cpu : CpuState) (t : Tables) (epoch : ℕ) (slot : List Block) : Type 0 where
@@ -69,8 +70,8 @@ table_word p t m r s l =
     ∙ get_or-drop (8 * (m / 8)) (table_words t) (m % 8) 0
     ∙ ap (slice_index (table_words t)) whole
     ∙ get_or-map entry_word (t.btt ++ t.ptt) m None 0 (omega (arith, length-append t.btt t.ptt, s.btt_length, s.ptt_length)) in
-    let btt8 : p.btt % 8 ≡ 0 = r.btt_eights in
-    let ptt8 : p.ptt % 8 ≡ 0 = r.ptt_eights in
+    let btt8 : p.btt % 8 ≡ 0 = btt_eights p r in
+    let ptt8 : p.ptt % 8 ≡ 0 = ptt_eights p r in
     let eight : length (take 8 (drop (8 * (m / 8)) (table_words t))) ≡ 8
     = length-take-le 8 (drop (8 * (m / 8)) (table_words t)) (omega (arith, length-drop (8 * (m / 8)) (table_words t), all)) in
     word_of-block_of (take 8 (drop (8 * (m / 8)) (table_words t))) (m % 8) (omega (arith, eight))
@@ -83,8 +84,8 @@ entry_back : (p : Parameters) (cpu : CpuState) (t : Tables) (epoch : ℕ) (slot 
     → entry_from (record_word slot (40 + m)) ≡ entry_at (t.btt ++ t.ptt) m
 unfolding record_word
 entry_back p cpu t epoch slot m r s of l =
-    let btt8 : p.btt % 8 ≡ 0 = r.btt_eights in
-    let ptt8 : p.ptt % 8 ≡ 0 = r.ptt_eights in
+    let btt8 : p.btt % 8 ≡ 0 = btt_eights p r in
+    let ptt8 : p.ptt % 8 ≡ 0 = ptt_eights p r in
     let block : (40 + m) / 8 ≡ 5 + m / 8 = omega arith in
     let word : (40 + m) % 8 ≡ m % 8 = omega arith in
     ap entry_from (ap (λ k. word_of (block_at slot k) ((40 + m) % 8)) block

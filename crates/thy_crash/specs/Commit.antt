@@ -1,0 +1,18 @@
+-- What the commit of a checkpoint leaves.
+use Rattle.std.specs.Prelude.{◌≡◌, List}
+use Rattle.thy_base.specs.declared.block.Block.{Block}
+use Rattle.thy_base.specs.Device.{Device, Crash, block_at}
+use Rattle.thy_crash.specs.Saved.{Looking, IsIssued, Kept, InDoubt, IsSaved, IsLeft}
+
+-- where an image is kept and the next one issued, with this commit block, the next one is kept
+abbrev pub Commits : Block → Device → Device → Type 0
+Commits block old new =
+    (looked : Looking) (before next : List Block)
+    → IsSaved looked old (Kept before) → IsIssued looked old next → block_at next 1 ≡ block → IsSaved looked new (Kept next)
+
+-- a cut leaves the one or the other
+abbrev pub LeavesEither : Block → Device → Device → Type 0
+LeavesEither block old new =
+    (looked : Looking) (before next : List Block)
+    → IsSaved looked old (Kept before) → IsIssued looked old next → block_at next 1 ≡ block
+    → (g : List Block) → Crash new g → IsLeft looked (InDoubt before next) g

@@ -1,0 +1,23 @@
+//! The commit of a checkpoint that was written, in one call.
+ghost use Rattle.std.specs.Prelude.{◌≡◌, ◌<◌, false, length, OnOk, OnErr};
+ghost use Rattle.thy_base.specs.Device.{Device, IsFramed, CountsFault};
+ghost use Rattle.thy_crash.specs.Commit.{Commits, LeavesEither};
+
+use thy_base::{Block, Nvm, NvmError};
+
+/// Commits a checkpoint whose blocks were all written: a barrier, its commit block, a barrier. Then a cut leaves it.
+///
+/// # Errors
+/// `Failed` where the device fails. Then a cut leaves it or the one before.
+pub fn commit<N: Nvm>(block: &Block, nvm: &mut N) -> Result<(), NvmError>
+    requires place { 1 < length (N.device nvm.old).image }
+    requires up { (N.device nvm.old).down ≡ false }
+    ensures done { OnOk result (Commits block.now (N.device nvm.old) (N.device nvm.new)) }
+    ensures failed { OnErr result (LeavesEither block.now (N.device nvm.old) (N.device nvm.new)) }
+    ensures frame { IsFramed (N.device nvm.old) (N.device nvm.new) }
+    ensures cause { CountsFault result (N.device nvm.old).faults (N.device nvm.new).faults }
+{
+    nvm.barrier()?;
+    nvm.write(1, block)?;
+    nvm.barrier()
+}
