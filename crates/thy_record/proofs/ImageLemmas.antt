@@ -94,7 +94,7 @@ decode-written p ceiling cpu t epoch image r recordable s most below has =
 
 -- ---- what decodes is whole
 
-at_back : (zeros : Bool) (fault : Option BadImage) (epoch found : ℕ) (state other : State)
+pub at_back : (zeros : Bool) (fault : Option BadImage) (epoch found : ℕ) (state other : State)
     → (if zeros then Nothing else refused_or_at fault epoch state) ≡ At found other
     → (zeros ≡ false) × (fault ≡ None) × (epoch ≡ found) × (state ≡ other)
 at_back true fault epoch found state other h = cc

@@ -11,3 +11,4 @@ pub mod ClashLemmas
 pub mod FileLemmas
 pub mod CheckLemmas
 pub mod IssuingLemmas
+pub mod RestoredLemmas

@@ -151,11 +151,11 @@ regs_back p ceiling c epoch blocks r room most l of =
     ext_get_or 0 (0 ∷ record_words blocks 1 31) c.regs (omega (arith, long, h))
     (λ i below. reg_back p ceiling c epoch blocks i r room most l of (omega (arith, long)))
 
-abbrev cpu_with : ℕ → List ℕ → ℕ → ℕ → ℕ → ℕ → ℕ → Status → CpuState
+abbrev pub cpu_with : ℕ → List ℕ → ℕ → ℕ → ℕ → ℕ → ℕ → Status → CpuState
 cpu_with pc regs console cursor brk floor count status =
     record { pc = pc; regs = regs; console_len = console; cursor = cursor; brk = brk; floor = floor; count = count; status = status }
 
-same_cpu : (pc pc' : ℕ) (regs regs' : List ℕ) (console console' cursor cursor' brk brk' floor floor' count count' : ℕ) (status status' : Status)
+pub same_cpu : (pc pc' : ℕ) (regs regs' : List ℕ) (console console' cursor cursor' brk brk' floor floor' count count' : ℕ) (status status' : Status)
     → pc ≡ pc' → regs ≡ regs' → console ≡ console' → cursor ≡ cursor' → brk ≡ brk' → floor ≡ floor' → count ≡ count' → status ≡ status'
     → cpu_with pc regs console cursor brk floor count status ≡ cpu_with pc' regs' console' cursor' brk' floor' count' status'
 same_cpu pc pc' regs regs' console console' cursor cursor' brk brk' floor floor' count count' status status' a b c d e f g h =

@@ -1,5 +1,5 @@
 -- Files that hold an image, block after block.
-use Rattle.std.specs.Prelude.{ℕ, ◌*◌, ◌/◌, ◌==◌, nat_lt, if◌then◌else◌, List, length, map, take, drop, Option, Result, Ok, Err}
+use Rattle.std.specs.Prelude.{◌≡◌, ℕ, ◌*◌, ◌/◌, ◌==◌, nat_lt, if◌then◌else◌, List, length, map, take, drop, Option, Result, Ok, Err}
 use Rattle.std.specs.List.{range_with_len}
 use Rattle.thy_base.specs.declared.block.Block.{Block}
 use Rattle.thy_base.specs.declared.config.Parameters.{Parameters}
@@ -36,3 +36,9 @@ abbrev pub found_in : Decoded → Result Found BadImage
 found_in Nothing = Ok FoundNothing
 found_in (Refused bad) = Err bad
 found_in (At epoch state) = Ok (FoundAt epoch)
+
+-- a check of these bytes finds a checkpoint, below some ceiling
+pub record HasCheckpointOf (p : Parameters) (bytes : List ℕ) : Type 0 where
+  pub ceiling : ℕ
+  pub epoch : ℕ
+  pub found : found_in (decode_file p ceiling bytes) ≡ Ok (FoundAt epoch)

@@ -9,6 +9,7 @@ mod file;
 mod header;
 mod image;
 mod laws;
+mod restored;
 mod slot;
 mod start;
 mod table_faults;
@@ -25,6 +26,7 @@ pub use laws::{
     ceiling_grows, decoded_is_whole, faultless_tables, free_is_not_looked_at, issued_decodes,
     issuing_goes_on, looked_decides, unused_places, written_decodes,
 };
+pub use restored::state;
 pub use slot::slot_fault;
 pub use start::Start;
 pub use tables::{table_block, table_entry};

@@ -1,15 +1,16 @@
 //! The bytes of a slot: the processor's record of 320, and behind it the block table and the page table.
-ghost use Rattle.std.specs.Prelude.{◌≡◌, ◌*◌, ◌/◌, ◌<◌, length};
+ghost use Rattle.std.specs.Prelude.{◌≡◌, ◌*◌, ◌/◌, ◌<◌, ◌≤◌, length};
 ghost use Rattle.thy_base.specs.Places.{slot_blocks};
-ghost use Rattle.thy_record.specs.Cpu.{record_word};
+ghost use Rattle.thy_record.specs.Cpu.{record_word, cpu_of_record};
 ghost use Rattle.thy_record.specs.Files.{block_in as block_of_bytes, blocks_of, table_in};
 ghost use Rattle.thy_record.specs.Slots.{tables_in, status_fault as fault_of_status, slot_fault as fault_of_slot};
 
-use crate::cpu::is_status;
+use crate::cpu::{cpu_state, is_status};
 use crate::image::BadImage;
 use crate::table_faults::tables_fault;
 use byteorder::{ByteOrder, LittleEndian};
 use thy_base::{BLOCK_SIZE, Block, Geometry};
+use thy_isa::CpuState;
 
 /// How many bytes the processor's record has.
 const RECORD_SIZE: usize = 5 * BLOCK_SIZE;
@@ -30,6 +31,20 @@ fn word_in(slot: &[u8], i: usize) -> u64
     ensures { result ≡ record_word (blocks_of slot.now) i }
 {
     LittleEndian::read_u64(&slot[8 * i..])
+}
+
+// The processor's state in a slot.
+pub(crate) fn cpu_in(slot: &[u8]) -> CpuState
+    requires { 5 ≤ length slot.now / 64 }
+    ensures { result ≡ cpu_of_record (blocks_of slot.now) }
+{
+    cpu_state(&[
+        block_in(slot, 0),
+        block_in(slot, 1),
+        block_in(slot, 2),
+        block_in(slot, 3),
+        block_in(slot, 4),
+    ])
 }
 
 // The block table of a slot.

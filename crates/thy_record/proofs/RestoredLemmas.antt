@@ -1,0 +1,182 @@
+-- The state in a file: its processor, and its memory block by block.
+use Rattle.std.proofs.Common.{◌≡◌, ℕ, zero, suc, ◌+◌, ◌-◌, ◌*◌, ◌/◌, ◌%◌, ◌<◌, ◌≤◌, ◌==◌, Bool, true, false, nat_lt, if◌then◌else◌, List, [], ◌∷◌, ◌++◌, length, map, take, drop, get_or, Option, Some, None, Result, Ok, Err, refl, sym, ◌∙◌, ap, subst, inl, inr, arith}
+use Rattle.std.proofs.lemmas.Bool.{cases_lt, eqb-true, eq-eqb, lt-ltb}
+use Rattle.std.proofs.lemmas.List.{length-map, length-drop, length-take-le, get_or-map, get_or-drop, ext_get_or, take_all}
+use Rattle.std.proofs.lemmas.List.FromFn.{length-range_with_len, get_or-range_with_len}
+use Rattle.std.specs.List.{range_with_len}
+use Rattle.thy_base.specs.declared.block.Block.{Block}
+use Rattle.thy_base.specs.declared.config.Parameters.{Parameters}
+use Rattle.thy_base.specs.Blocks.{block_bytes}
+use Rattle.thy_base.specs.Device.{zero_block, block_at}
+use Rattle.thy_base.specs.Geometry.{IsInRange, memory_blocks, program_size, console_room}
+use Rattle.thy_base.specs.Places.{number_of, first_home, image_blocks}
+use Rattle.thy_base.proofs.BlockLemmas.{block_bytes-long}
+use Rattle.thy_base.proofs.PlaceLemmas.{behind_slots}
+use Rattle.thy_flat.specs.Flat.{flat, memory_bytes, console_bytes}
+use Rattle.thy_flat.proofs.FlatLemmas.{flat_more, flat-take, flat-drop}
+use Rattle.thy_isa.specs.declared.state.CpuState.{CpuState}
+use Rattle.thy_isa.specs.OnBlocks.{state_from}
+use Rattle.thy_isa.specs.Step.{State, state_with}
+use Rattle.thy_record.specs.declared.file.Found.{Found}
+use Rattle.thy_record.specs.declared.file.Found.TheVariants.{Nothing as FoundNothing, At as FoundAt}
+use Rattle.thy_record.specs.declared.image.BadImage.{BadImage}
+use Rattle.thy_record.specs.declared.image.BadImage.TheVariants.{Empty}
+use Rattle.thy_record.specs.Words.{word_of}
+use Rattle.thy_record.specs.Commit.{is_zero, epoch_of, commit_fault}
+use Rattle.thy_record.specs.Cpu.{status_of, cpu_of_record, record_word, record_words}
+use Rattle.thy_record.specs.Decoded.{Decoded, Nothing, Refused, At}
+use Rattle.thy_record.specs.Files.{block_in, blocks_of, decode_file, found_in, HasCheckpointOf}
+use Rattle.thy_record.specs.Header.{header_fault}
+use Rattle.thy_record.specs.Images.{slot_in, memory_numbers, memory_in, state_in, image_fault, refused_or_at, decode_with, decode_image}
+use Rattle.thy_record.specs.ImageLaws.{IsDecoded}
+use Rattle.thy_record.specs.Slots.{tables_in, slot_fault}
+use Rattle.thy_record.specs.Tables.{Tables, place_of, IsTables}
+use Rattle.thy_record.proofs.CpuLemmas.{record_words-at, length-record_words}
+use Rattle.thy_record.proofs.EntryLemmas.{IsPlace-place_of, in_dram-place_of}
+use Rattle.thy_record.proofs.FileLemmas.{length-blocks_of, block_at-blocks_of}
+use Rattle.thy_record.proofs.HeaderLemmas.{header_fault-long}
+use Rattle.thy_record.proofs.ImageLemmas.{IsDecoded-at, at_back}
+use Rattle.thy_record.proofs.ReadBackLemmas.{cpu_with, same_cpu}
+use Rattle.thy_record.proofs.TableFaultLemmas.{neither}
+
+-- ---- the processor
+
+record_word-alike : (a b : List Block) (i : ℕ) → ((k : ℕ) → k < 5 → block_at a k ≡ block_at b k) → i < 40 → record_word a i ≡ record_word b i
+unfolding record_word
+record_word-alike a b i same l = ap (λ c. word_of c (i % 8)) (same (i / 8) (omega arith))
+
+record_words-alike : (a b : List Block) → ((k : ℕ) → k < 5 → block_at a k ≡ block_at b k) → record_words a 1 31 ≡ record_words b 1 31
+record_words-alike a b same =
+    let left = length-record_words a 1 31 in
+    let right = length-record_words b 1 31 in
+    ext_get_or 0 (record_words a 1 31) (record_words b 1 31) (left ∙ sym right)
+    (λ i below.
+        let l : i < 31 = omega (arith, left) in
+        record_words-at a 1 31 i l ∙ record_word-alike a b (1 + i) same (omega arith) ∙ sym (record_words-at b 1 31 i l))
+
+-- blocks that begin alike have the same processor
+pub cpu_of_record-alike : (a b : List Block) → ((k : ℕ) → k < 5 → block_at a k ≡ block_at b k) → cpu_of_record a ≡ cpu_of_record b
+unfolding cpu_of_record
+cpu_of_record-alike a b same =
+    let word = λ (i : ℕ) (l : i < 40). record_word-alike a b i same l in
+    same_cpu _ _ _ _ _ _ _ _ _ _ _ _ _ _ _ _
+    (word 0 (omega arith)) (ap (λ ws. 0 ∷ ws) (record_words-alike a b same)) (word 34 (omega arith)) (word 33 (omega arith)) (word 35 (omega arith))
+    (word 39 (omega arith)) (word 32 (omega arith))
+    (ap (λ t. status_of t (record_word a 37)) (word 36 (omega arith)) ∙ ap (status_of (record_word b 36)) (word 37 (omega arith)))
+
+-- ---- what a check has found
+
+found_at : (d : Decoded) (epoch : ℕ) → found_in d ≡ Ok (FoundAt epoch) → (s : State) × (d ≡ At epoch s)
+found_at Nothing epoch h = cc
+found_at (Refused bad) epoch h = cc
+found_at (At e s) epoch h = (s, let same : e ≡ epoch = cc in ap (λ x. At x s) same)
+
+whole_file : (p : Parameters) (ceiling : ℕ) (bytes : List ℕ) (short : Bool) (epoch : ℕ) (state : State)
+    → (if short then Refused Empty else decode_with p ceiling (length bytes == 64 * image_blocks p) (blocks_of bytes)) ≡ At epoch state
+    → decode_with p ceiling (length bytes == 64 * image_blocks p) (blocks_of bytes) ≡ At epoch state
+whole_file p ceiling bytes true epoch state h = cc
+whole_file p ceiling bytes false epoch state h = h
+
+long_file : (p : Parameters) (ceiling : ℕ) (long : Bool) (image : List Block) (epoch : ℕ) (state : State)
+    → decode_with p ceiling long image ≡ At epoch state → long ≡ true
+unfolding decode_with
+long_file p ceiling long image epoch state h =
+    let found = at_back (is_zero (block_at image 1)) (image_fault p ceiling long image) (epoch_of (block_at image 1)) epoch (state_in p image) state h in
+    header_fault-long (block_at image 0) p long (neither _ _ found.1).0
+
+-- the file has the length of the geometry, and tables that a checkpoint may have
+pub record IsWholeFile (p : Parameters) (bytes : List ℕ) : Type 0 where
+  pub long : length bytes ≡ 64 * image_blocks p
+  pub tables : IsTables p (tables_in p (slot_in p (blocks_of bytes)))
+
+pub IsWholeFile-found : (p : Parameters) (bytes : List ℕ) → HasCheckpointOf p bytes → IsWholeFile p bytes
+IsWholeFile-found p bytes h =
+    let at = found_at (decode_file p h.ceiling bytes) h.epoch h.found in
+    let image = blocks_of bytes in
+    let decodes = whole_file p h.ceiling bytes (nat_lt (length bytes) 128) h.epoch at.0 at.1 in
+    let is_long : (length bytes == 64 * image_blocks p) ≡ true = long_file p h.ceiling (length bytes == 64 * image_blocks p) (blocks_of bytes) h.epoch at.0 decodes in
+    let long : length bytes ≡ 64 * image_blocks p = eqb-true _ _ is_long in
+    let all : length (blocks_of bytes) ≡ image_blocks p = omega (arith, length-blocks_of bytes, long) in
+    let as_image : decode_image p h.ceiling (blocks_of bytes) ≡ At h.epoch at.0 =
+    ap (λ b. decode_with p h.ceiling b (blocks_of bytes)) (eq-eqb _ _ all ∙ sym is_long) ∙ decodes in
+    record { long = long; tables = (IsDecoded-at p h.ceiling (blocks_of bytes) h.epoch at.0 as_image).tables }
+
+-- ---- memory, block by block
+
+pub length-memory_in : (p : Parameters) (t : Tables) (image : List Block) → length (memory_in p t image) ≡ memory_blocks p
+length-memory_in p t image =
+    length-map (memory_numbers p t) (block_at image)
+    ∙ length-map (range_with_len 0 (memory_blocks p)) (λ b. number_of p (place_of t b))
+    ∙ length-range_with_len 0 (memory_blocks p)
+
+pub block_at-memory_in : (p : Parameters) (t : Tables) (image : List Block) (b : ℕ) → b < memory_blocks p
+    → block_at (memory_in p t image) b ≡ block_at image (number_of p (place_of t b))
+block_at-memory_in p t image b l =
+    let plain : 0 + b ≡ b = omega arith in
+    let numbers : length (memory_numbers p t) ≡ memory_blocks p
+    = length-map (range_with_len 0 (memory_blocks p)) (λ b. number_of p (place_of t b)) ∙ length-range_with_len 0 (memory_blocks p) in
+    get_or-map (block_at image) (memory_numbers p t) b 0 zero_block (omega (arith, numbers))
+    ∙ ap (block_at image) (get_or-map (λ b. number_of p (place_of t b)) (range_with_len 0 (memory_blocks p)) b 0 0 (omega (arith, length-range_with_len 0 (memory_blocks p)))
+    ∙ ap (λ b. number_of p (place_of t b)) (get_or-range_with_len 0 (memory_blocks p) b 0 l ∙ plain))
+
+-- the number of a block's place is one of the image's
+pub place_inside_image : (p : Parameters) (t : Tables) (b : ℕ) → IsTables p t → b < memory_blocks p → number_of p (place_of t b) < image_blocks p
+place_inside_image p t b s l = (behind_slots p (place_of t b) (IsPlace-place_of p t b s l) (in_dram-place_of t b)).1
+
+-- the bytes of a whole block
+block_bytes-block_in : (bytes : List ℕ) (k : ℕ) → k < length bytes / 64 → block_bytes (block_in bytes k) ≡ take 64 (drop (64 * k) bytes)
+block_bytes-block_in bytes k l =
+    block_bytes-long (block_in bytes k) (length-take-le 64 (drop (64 * k) bytes) (omega (arith, length-drop (64 * k) bytes)))
+
+-- one block more was gathered
+pub gathered_more : (p : Parameters) (t : Tables) (bytes : List ℕ) (first k count : ℕ) (old new : List ℕ) (number : ℕ) → length bytes ≡ 64 * image_blocks p → IsTables p t
+    → first + count ≤ memory_blocks p → k < count → number ≡ number_of p (place_of t (first + k))
+    → old ≡ flat (take k (drop first (memory_in p t (blocks_of bytes))))
+    → new ≡ old ++ take 64 (drop (64 * number) bytes)
+    → new ≡ flat (take (k + 1) (drop first (memory_in p t (blocks_of bytes))))
+gathered_more p t bytes first k count old new number long s inside l is before after =
+    let memory = memory_in p t (blocks_of bytes) in
+    let all = length-memory_in p t (blocks_of bytes) in
+    let small = place_inside_image p t (first + k) s (omega arith) in
+    after
+    ∙ ap (λ xs. xs ++ take 64 (drop (64 * number) bytes)) before
+    ∙ ap (λ x. flat (take k (drop first (memory_in p t (blocks_of bytes)))) ++ x)
+    (ap (λ x. take 64 (drop (64 * x) bytes)) is
+    ∙ sym (block_bytes-block_in bytes (number_of p (place_of t (first + k))) (omega (arith, small, long)))
+    ∙ ap block_bytes (sym (get_or-drop first (memory_in p t (blocks_of bytes)) k zero_block
+    ∙ block_at-memory_in p t (blocks_of bytes) (first + k) (omega arith)
+    ∙ block_at-blocks_of bytes (number_of p (place_of t (first + k))) (omega (arith, small, long)))))
+    ∙ sym (flat_more (drop first (memory_in p t (blocks_of bytes))) k zero_block (omega (arith, length-drop first (memory_in p t (blocks_of bytes)), all)))
+
+-- program memory, and the console, as they were gathered
+pub memory_gathered : (p : Parameters) (blocks : List Block) (n : ℕ) → length blocks ≡ memory_blocks p → IsInRange p → n ≡ 64 * (p.pages - p.console)
+    → flat (take n (drop 0 blocks)) ≡ memory_bytes p blocks
+memory_gathered p blocks n all r is =
+    let size : 64 * n ≡ program_size p = omega arith in
+    flat-take n blocks (omega (arith, all)) ∙ ap (λ m. take m (flat blocks)) size
+
+pub console_gathered : (p : Parameters) (blocks : List Block) (first n len : ℕ) → length blocks ≡ memory_blocks p → IsInRange p
+    → first ≡ 64 * (p.pages - p.console) → n ≡ 64 * p.console
+    → take len (flat (take n (drop first blocks))) ≡ console_bytes p blocks len
+console_gathered p blocks first n len all r is size =
+    let below : p.console < p.pages = r.console_below in
+    let at : 64 * first ≡ program_size p = omega arith in
+    ap (λ xs. take len (flat xs)) (take_all n (drop first blocks) (omega (arith, length-drop first blocks, all)))
+    ∙ ap (take len) (flat-drop first blocks (omega (arith, all)) ∙ ap (λ m. drop m (flat blocks)) at)
+
+-- with the processor of a slot they are the state
+pub state_restored : (p : Parameters) (image slot : List Block) (cpu : CpuState) (memory console : List ℕ) (program size : ℕ) → IsInRange p
+    → slot ≡ slot_in p image → cpu ≡ cpu_of_record slot → program ≡ 64 * (p.pages - p.console) → size ≡ 64 * p.console
+    → memory ≡ flat (take program (drop 0 (memory_in p (tables_in p slot) image)))
+    → console ≡ take cpu.console_len (flat (take size (drop program (memory_in p (tables_in p slot) image))))
+    → state_with cpu memory console ≡ state_in p image
+unfolding state_from
+state_restored p image slot cpu memory console program size r slot_is cpu_is program_is size_is memory_is console_is =
+    let blocks = memory_in p (tables_in p slot) image in
+    let all = length-memory_in p (tables_in p slot) image in
+    let from_slot : state_with cpu memory console ≡ state_from p (cpu_of_record slot) (memory_in p (tables_in p slot) image) =
+    ap (λ m. state_with cpu m console) (memory_is ∙ memory_gathered p (memory_in p (tables_in p slot) image) program all r program_is)
+    ∙ ap (state_with cpu (memory_bytes p (memory_in p (tables_in p slot) image)))
+    (console_is ∙ console_gathered p (memory_in p (tables_in p slot) image) program size cpu.console_len all r program_is size_is)
+    ∙ ap (λ c. state_from p c (memory_in p (tables_in p slot) image)) cpu_is in
+    from_slot ∙ ap (λ s. state_from p (cpu_of_record s) (memory_in p (tables_in p s) image)) slot_is
