@@ -1,5 +1,6 @@
 //! Whole runs over memory: what is reported, and with which status.
 mod cuts;
+mod inputs;
 
 use std::alloc::{AllocError, Global};
 use std::process::Abort;
