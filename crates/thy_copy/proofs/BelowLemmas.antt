@@ -1,5 +1,5 @@
 -- No number of the view grows by more than one in a cycle, once it is past what an image or a start may bring.
-use Rattle.std.proofs.Common.{ℕ, ◌+◌, ◌^◌, ◌<◌, ◌≤◌, Bool, true, false, if◌then◌else◌, nat_lt, slice_set, Option, Some, None, refl, arith}
+use Rattle.std.proofs.Common.{List, ℕ, ◌+◌, ◌^◌, ◌<◌, ◌≤◌, Bool, true, false, if◌then◌else◌, nat_lt, slice_set, Option, Some, None, refl, arith}
 use Rattle.thy_base.specs.declared.block.Block.{Block}
 use Rattle.thy_base.specs.declared.cause.EndCause.{EndCause}
 use Rattle.thy_base.specs.declared.mix.Pick.{Pick}
@@ -66,18 +66,18 @@ checkpoint_below n epoch issue (Some next) m b =
     noted_below (n + 1) issue _ (more n m.view _ b (omega arith) (omega arith) (omega arith) (omega arith) (omega arith))
 checkpoint_below n epoch issue None m b = more n m.view _ b (omega arith) (omega arith) (omega arith) (omega arith) (omega arith)
 
-hart_below : (n : ℕ) (input_len : ℕ) (over : Option EndCause) (m : Parts) → IsBelow n m.view → IsBelow (n + 1) (hart_next input_len over m).view
-hart_below n input_len None m b = more n m.view _ b (omega arith) (omega arith) (omega arith) (omega arith) (omega arith)
-hart_below n input_len (Some cause) m b = more n m.view _ b (omega arith) (omega arith) (omega arith) (omega arith) (omega arith)
+hart_below : (n : ℕ) (input : List ℕ) (over : Option EndCause) (m : Parts) → IsBelow n m.view → IsBelow (n + 1) (hart_next input over m).view
+hart_below n input None m b = more n m.view _ b (omega arith) (omega arith) (omega arith) (omega arith) (omega arith)
+hart_below n input (Some cause) m b = more n m.view _ b (omega arith) (omega arith) (omega arith) (omega arith) (omega arith)
 
-run_below : (n : ℕ) (input_len : ℕ) (stage : Stage) (m : Parts) → IsBelow n m.view → IsBelow (n + 1) (run_next input_len stage m).view
-run_below n input_len (Writing epoch issue) m b = checkpoint_below n epoch issue (issue_after m.geometry epoch issue) m b
-run_below n input_len Unread m b = hart_below n input_len m.view.over m b
-run_below n input_len (Header epoch fault) m b = hart_below n input_len m.view.over m b
-run_below n input_len (Record epoch next) m b = hart_below n input_len m.view.over m b
-run_below n input_len (Restoring epoch next) m b = hart_below n input_len m.view.over m b
-run_below n input_len (Refused bad) m b = hart_below n input_len m.view.over m b
-run_below n input_len Idle m b = hart_below n input_len m.view.over m b
+run_below : (n : ℕ) (input : List ℕ) (stage : Stage) (m : Parts) → IsBelow n m.view → IsBelow (n + 1) (run_next input stage m).view
+run_below n input (Writing epoch issue) m b = checkpoint_below n epoch issue (issue_after m.geometry epoch issue) m b
+run_below n input Unread m b = hart_below n input m.view.over m b
+run_below n input (Header epoch fault) m b = hart_below n input m.view.over m b
+run_below n input (Record epoch next) m b = hart_below n input m.view.over m b
+run_below n input (Restoring epoch next) m b = hart_below n input m.view.over m b
+run_below n input (Refused bad) m b = hart_below n input m.view.over m b
+run_below n input Idle m b = hart_below n input m.view.over m b
 
 restored_below : (n epoch : ℕ) (cpu : CpuState) → 2 ^ 63 ≤ n → epoch < 2 ^ 63 → cpu.count < 2 ^ 63 → IsBelow (n + 1) (restored_view epoch cpu)
 restored_below n epoch cpu big e c = record { count = omega arith; epoch = omega arith; retired = omega arith; spent = omega arith; lap = omega arith }
@@ -103,15 +103,15 @@ boot_below n s d (Refused bad) m big st few b = later n m.view b
 boot_below n s d (Writing epoch issue) m big st few b = filled_below n s epoch issue (issue_after m.geometry epoch issue) m big (few refl) b
 boot_below n s d Idle m big st few b = later n m.view b
 
-phase_below : (n : ℕ) (s : State) (input_len : ℕ) (d : Device) (phase : Phase) (m : Parts) → 2 ^ 63 ≤ n → IsStage m.geometry m.cpu m.stage
-    → HasCount m.stage phase m.cpu → IsBelow n m.view → IsBelow (n + 1) (phase_next s input_len d phase m).view
-phase_below n s input_len d Boot m big st few b = boot_below n s d m.stage m big st few b
-phase_below n s input_len d Run m big st few b = run_below n input_len m.stage m b
-phase_below n s input_len d Halt m big st few b = later n m.view b
+phase_below : (n : ℕ) (s : State) (input : List ℕ) (d : Device) (phase : Phase) (m : Parts) → 2 ^ 63 ≤ n → IsStage m.geometry m.cpu m.stage
+    → HasCount m.stage phase m.cpu → IsBelow n m.view → IsBelow (n + 1) (phase_next s input d phase m).view
+phase_below n s input d Boot m big st few b = boot_below n s d m.stage m big st few b
+phase_below n s input d Run m big st few b = run_below n input m.stage m b
+phase_below n s input d Halt m big st few b = later n m.view b
 
 -- one cycle
-pub cycle_below : (n : ℕ) (s : State) (input_len : ℕ) (d : Device) (pick : Pick) (queued : ℕ) (m : Parts) → IsConsistent m → 2 ^ 63 ≤ n
-    → IsBelow n m.view → IsBelow (n + 1) (cycle_next s input_len d pick queued m).view
-cycle_below n s input_len d pick queued m k big b =
-    either (n + 1) (is_drain pick queued) m (phase_next s input_len d m.view.phase m) (later n m.view b)
-    (phase_below n s input_len d m.view.phase m big k.stage k.has_count b)
+pub cycle_below : (n : ℕ) (s : State) (input : List ℕ) (d : Device) (pick : Pick) (queued : ℕ) (m : Parts) → IsConsistent m → 2 ^ 63 ≤ n
+    → IsBelow n m.view → IsBelow (n + 1) (cycle_next s input d pick queued m).view
+cycle_below n s input d pick queued m k big b =
+    either (n + 1) (is_drain pick queued) m (phase_next s input d m.view.phase m) (later n m.view b)
+    (phase_below n s input d m.view.phase m big k.stage k.has_count b)

@@ -2,18 +2,18 @@
 use Rattle.std.proofs.Common.{◌≡◌, ℕ, zero, suc, ◌+◌, ◌-◌, ◌*◌, ◌/◌, ◌%◌, ◌<◌, ◌≤◌, min, false, Some, List, [], ◌∷◌, ◌++◌, length, take, drop, Result, Ok, Err, IfOk, refl, ap, sym, ◌∙◌, subst, arith}
 use Rattle.std.proofs.lemmas.List.{append-nil, take_more, length-take, length-take-le, length-drop, drop-append-le, drop-drop, drop-take, drop_all, get_or-drop}
 use Rattle.std.proofs.Math.Nat.{min-eq_left}
-use Rattle.std.proofs.lemmas.Grind.{flat_map-append}
-use Rattle.std.specs.List.{flat_map}
 use Rattle.thy_base.specs.declared.block.Block.{Block}
 use Rattle.thy_base.specs.declared.config.Parameters.{Parameters}
 use Rattle.thy_base.specs.declared.bytes.Bytes.{Bytes}
 use Rattle.thy_base.specs.Bytes.{bytes_of}
+use Rattle.thy_base.specs.Blocks.{block_bytes}
 use Rattle.thy_base.specs.Device.{Device, zero_block, block_at, newest}
 use Rattle.thy_base.specs.Geometry.{IsInRange, memory_blocks, program_size, console_room}
 use Rattle.thy_copy_model.specs.Layout.{slot_of}
 use Rattle.thy_isa.specs.Step.{State}
 use Rattle.thy_record.specs.Cpu.{record_word, cpu_of_record}
 use Rattle.thy_flat.specs.Flat.{AllLong, flat}
+use Rattle.thy_flat.proofs.FlatLemmas.{flat-nil, flat-one, flat-append, flat-take, flat-drop}
 use Rattle.thy_isa.specs.OnBlocks.{state_from}
 use Rattle.thy_record.specs.Words.{word_of}
 use Rattle.thy_copy_model.specs.declared.parts.Parts.{Parts}
@@ -32,32 +32,30 @@ use Rattle.thy_copy_model.proofs.ReadLaws.{booted_view, Stands-done}
 use Rattle.thy_copy_model.proofs.StateLemmas.{record_tests}
 use Rattle.thy_view.specs.declared.error.CoreError.{CoreError}
 use Rattle.thy_copy.specs.Machine.{program_blocks_of, stored_len}
-use Rattle.thy_copy.proofs.SnapshotLemmas.{AllLong-take, AllLong-drop, flat_take, flat_drop, console_pages}
+use Rattle.thy_copy.proofs.SnapshotLemmas.{AllLong-drop, console_pages}
 
 -- ---- blocks that are read one after the other
 
 pub read_none : (first : ℕ) (bs : List Block) → [] ≡ flat (drop first (take first bs))
-unfolding flat
 read_none first bs =
     let same : first + 0 ≡ first = omega arith in
-    sym (ap (flat_map (λ (b : Block). b.0)) (ap (λ n. drop first (take n bs)) (sym same) ∙ drop-take first 0 bs))
+    sym (ap flat (ap (λ n. drop first (take n bs)) (sym same) ∙ drop-take first 0 bs) ∙ flat-nil)
 
-one_more : (first i : ℕ) (bs : List Block) → first ≤ i → i < length bs → flat (drop first (take (i + 1) bs)) ≡ flat (drop first (take i bs)) ++ (block_at bs i).0
-unfolding flat
+one_more : (first i : ℕ) (bs : List Block) → first ≤ i → i < length bs → flat (drop first (take (i + 1) bs)) ≡ flat (drop first (take i bs)) ++ block_bytes (block_at bs i)
 one_more first i bs l within =
     let whole : length (take i bs) ≡ i = length-take-le i bs (omega arith) in
-    ap (λ (xs : List Block). flat_map (λ (b : Block). b.0) (drop first xs)) (take_more bs i zero_block within)
-    ∙ ap (flat_map (λ (b : Block). b.0)) (drop-append-le first (take i bs) (block_at bs i ∷ []) (omega arith))
-    ∙ flat_map-append (λ (b : Block). b.0) (drop first (take i bs)) (block_at bs i ∷ [])
-    ∙ ap (λ (xs : List ℕ). flat_map (λ (b : Block). b.0) (drop first (take i bs)) ++ xs) (append-nil (block_at bs i).0)
+    ap (λ (xs : List Block). flat (drop first xs)) (take_more bs i zero_block within)
+    ∙ ap flat (drop-append-le first (take i bs) (block_at bs i ∷ []) (omega arith))
+    ∙ flat-append (drop first (take i bs)) (block_at bs i ∷ [])
+    ∙ ap (λ (xs : List ℕ). flat (drop first (take i bs)) ++ xs) (flat-one (block_at bs i))
 
 -- one more block was read
 pub read_more : (n now : Device) (x first i : ℕ) (bs : List Block) (bytes new : List ℕ) → AreRead n x bs (length bs) → now ≡ n → first ≤ i → i < length bs
-    → bytes ≡ flat (drop first (take i bs)) → new ≡ bytes ++ (newest now (x + i)).0 → new ≡ flat (drop first (take (i + 1) bs))
+    → bytes ≡ flat (drop first (take i bs)) → new ≡ bytes ++ block_bytes (newest now (x + i)) → new ≡ flat (drop first (take (i + 1) bs))
 read_more n now x first i bs bytes new read same l within so_far is =
     let block : newest now (x + i) ≡ block_at bs i = ap (λ d. newest d (x + i)) same ∙ read.each i within in
-    is ∙ ap (λ (xs : List ℕ). xs ++ (newest now (x + i)).0) so_far
-    ∙ ap (λ (b : Block). flat (drop first (take i bs)) ++ b.0) block
+    is ∙ ap (λ (xs : List ℕ). xs ++ block_bytes (newest now (x + i))) so_far
+    ∙ ap (λ (b : Block). flat (drop first (take i bs)) ++ block_bytes b) block
     ∙ sym (one_more first i bs l within)
 
 -- ---- the bytes from one on, out of the blocks that have them
@@ -87,7 +85,7 @@ piece_of from len end bs long l most within =
     let blocks : length (take end bs) ≡ end = length-take-le end bs within in
     let at : 64 * first + from % 64 ≡ from = omega arith in
     ap (λ (xs : List ℕ). take (len - from) (drop (from % 64) xs))
-    (flat_drop first (take end bs) (AllLong-take end bs long within) (omega arith) ∙ ap (drop (64 * first)) (flat_take end bs long within))
+    (flat-drop first (take end bs) (omega arith) ∙ ap (drop (64 * first)) (flat-take end bs within))
     ∙ ap (take (len - from)) (drop-drop (from % 64) (64 * first) (take (64 * end) (flat bs)) ∙ ap (λ k. drop k (take (64 * end) (flat bs))) at)
     ∙ cut_from from len (64 * end) (flat bs) (omega arith) most
 

@@ -1,5 +1,5 @@
 -- No cycle changes the geometry or the DRAM.
-use Rattle.std.proofs.Common.{◌≡◌, ℕ, Bool, true, false, if◌then◌else◌, Option, Some, None, refl, ◌∙◌}
+use Rattle.std.proofs.Common.{List, ◌≡◌, ℕ, Bool, true, false, if◌then◌else◌, Option, Some, None, refl, ◌∙◌}
 use Rattle.thy_base.specs.declared.cause.EndCause.{EndCause}
 use Rattle.thy_base.specs.declared.mix.Pick.{Pick}
 use Rattle.thy_base.specs.Device.{Device}
@@ -44,19 +44,19 @@ checkpoint_keeps : (epoch : ℕ) (issue : Issue) (next : Option Issue) (m : Part
 checkpoint_keeps epoch issue (Some next) m = record { geometry = refl; dram = refl }
 checkpoint_keeps epoch issue None m = record { geometry = refl; dram = refl }
 
-hart_keeps : (input_len : ℕ) (over : Option EndCause) (m : Parts) → Keeps (hart_next input_len over m) m
+hart_keeps : (input : List ℕ) (over : Option EndCause) (m : Parts) → Keeps (hart_next input over m) m
 unfolding executed performed
-hart_keeps input_len None m = record { geometry = refl; dram = refl }
-hart_keeps input_len (Some cause) m = record { geometry = refl; dram = refl }
+hart_keeps input None m = record { geometry = refl; dram = refl }
+hart_keeps input (Some cause) m = record { geometry = refl; dram = refl }
 
-run_keeps : (input_len : ℕ) (stage : Stage) (m : Parts) → Keeps (run_next input_len stage m) m
-run_keeps input_len (Writing epoch issue) m = checkpoint_keeps epoch issue (issue_after m.geometry epoch issue) m
-run_keeps input_len Unread m = hart_keeps input_len m.view.over m
-run_keeps input_len (Header epoch fault) m = hart_keeps input_len m.view.over m
-run_keeps input_len (Record epoch next) m = hart_keeps input_len m.view.over m
-run_keeps input_len (Restoring epoch next) m = hart_keeps input_len m.view.over m
-run_keeps input_len (Refused bad) m = hart_keeps input_len m.view.over m
-run_keeps input_len Idle m = hart_keeps input_len m.view.over m
+run_keeps : (input : List ℕ) (stage : Stage) (m : Parts) → Keeps (run_next input stage m) m
+run_keeps input (Writing epoch issue) m = checkpoint_keeps epoch issue (issue_after m.geometry epoch issue) m
+run_keeps input Unread m = hart_keeps input m.view.over m
+run_keeps input (Header epoch fault) m = hart_keeps input m.view.over m
+run_keeps input (Record epoch next) m = hart_keeps input m.view.over m
+run_keeps input (Restoring epoch next) m = hart_keeps input m.view.over m
+run_keeps input (Refused bad) m = hart_keeps input m.view.over m
+run_keeps input Idle m = hart_keeps input m.view.over m
 
 boot_keeps : (s : State) (d : Device) (stage : Stage) (m : Parts) → Keeps (boot_next s d stage m) m
 boot_keeps s d Unread m = either_keeps _ _ _ m record { geometry = refl; dram = refl } record { geometry = refl; dram = refl }
@@ -68,13 +68,13 @@ boot_keeps s d (Writing epoch issue) m =
     keeps_both _ (filled s issue m) m (loading_keeps epoch issue (issue_after m.geometry epoch issue) (filled s issue m)) (filled_keeps s issue m)
 boot_keeps s d Idle m = record { geometry = refl; dram = refl }
 
-phase_keeps : (s : State) (input_len : ℕ) (d : Device) (phase : Phase) (m : Parts) → Keeps (phase_next s input_len d phase m) m
-phase_keeps s input_len d Boot m = boot_keeps s d m.stage m
-phase_keeps s input_len d Run m = run_keeps input_len m.stage m
-phase_keeps s input_len d Halt m = record { geometry = refl; dram = refl }
+phase_keeps : (s : State) (input : List ℕ) (d : Device) (phase : Phase) (m : Parts) → Keeps (phase_next s input d phase m) m
+phase_keeps s input d Boot m = boot_keeps s d m.stage m
+phase_keeps s input d Run m = run_keeps input m.stage m
+phase_keeps s input d Halt m = record { geometry = refl; dram = refl }
 
 -- one cycle
-pub cycle_keeps : (s : State) (input_len : ℕ) (d : Device) (pick : Pick) (queued : ℕ) (m : Parts)
-    → Keeps (cycle_next s input_len d pick queued m) m
-cycle_keeps s input_len d pick queued m =
-    either_keeps (is_drain pick queued) m (phase_next s input_len d m.view.phase m) m record { geometry = refl; dram = refl } (phase_keeps s input_len d m.view.phase m)
+pub cycle_keeps : (s : State) (input : List ℕ) (d : Device) (pick : Pick) (queued : ℕ) (m : Parts)
+    → Keeps (cycle_next s input d pick queued m) m
+cycle_keeps s input d pick queued m =
+    either_keeps (is_drain pick queued) m (phase_next s input d m.view.phase m) m record { geometry = refl; dram = refl } (phase_keeps s input d m.view.phase m)

@@ -1,4 +1,4 @@
-pub mod EffectLemmas
+pub mod HartLemmas
 pub mod BlockLemmas
 pub mod StageLemmas
 pub mod RetireLemmas

@@ -1,17 +1,16 @@
 -- The bytes of the first blocks of a list, and the state that the machine's parts hold.
 use Rattle.std.proofs.Common.{◌≡◌, ℕ, ◌+◌, ◌*◌, ◌<◌, ◌≤◌, false, List, [], ◌∷◌, ◌++◌, length, take, drop, get_or, refl, ap, sym, ◌∙◌, subst, arith}
 use Rattle.std.proofs.lemmas.List.{append-nil, take_more, take-append-drop, take_at, drop_at, length-take-le, length-drop, get_or-take, get_or-drop}
-use Rattle.std.proofs.lemmas.Grind.{flat_map-append}
-use Rattle.std.specs.List.{flat_map}
 use Rattle.thy_base.specs.declared.block.Block.{Block}
 use Rattle.thy_base.specs.declared.config.Parameters.{Parameters}
+use Rattle.thy_base.specs.Blocks.{block_bytes}
 use Rattle.thy_base.specs.Device.{Device, zero_block}
 use Rattle.thy_base.specs.Geometry.{IsInRange, memory_blocks, program_size}
 use Rattle.thy_isa.specs.declared.state.MachState.{MachState}
 use Rattle.thy_isa.specs.Step.{State, state_of, state_with}
 use Rattle.thy_flat.specs.Flat.{AllLong, flat, memory_bytes}
 use Rattle.thy_isa.specs.OnBlocks.{state_from}
-use Rattle.thy_record.proofs.FlatLemmas.{length-flat}
+use Rattle.thy_flat.proofs.FlatLemmas.{flat-nil, flat_more, flat-take, flat-drop}
 use Rattle.thy_copy_model.specs.declared.parts.Parts.{Parts}
 use Rattle.thy_copy_model.specs.Calls.{IsAt}
 use Rattle.thy_view.specs.Views.{is_boot}
@@ -22,21 +21,13 @@ use Rattle.thy_copy.specs.Machine.{program_blocks_of, held_console, held_state}
 use Rattle.thy_view.specs.Kind.{IsSnapshot}
 
 pub flat_none : (blocks : List Block) → flat (take 0 blocks) ≡ []
-unfolding flat
-flat_none blocks = refl
-
-pub flat_more : (blocks : List Block) (i : ℕ) (d : Block) → i < length blocks → flat (take (i + 1) blocks) ≡ flat (take i blocks) ++ (get_or blocks i d).0
-unfolding flat
-flat_more blocks i d l =
-    ap (flat_map (λ (b : Block). b.0)) (take_more blocks i d l)
-    ∙ flat_map-append (λ (b : Block). b.0) (take i blocks) (get_or blocks i d ∷ [])
-    ∙ ap (λ (xs : List ℕ). flat_map (λ (b : Block). b.0) (take i blocks) ++ xs) (append-nil (get_or blocks i d).0)
+flat_none blocks = flat-nil
 
 -- one more block gathered
 pub gathered_more : (blocks : List Block) (i : ℕ) (d : Block) (bytes new : List ℕ) → i < length blocks → bytes ≡ flat (take i blocks)
-    → new ≡ bytes ++ (get_or blocks i d).0 → new ≡ flat (take (i + 1) blocks)
+    → new ≡ bytes ++ block_bytes (get_or blocks i d) → new ≡ flat (take (i + 1) blocks)
 gathered_more blocks i d bytes new l so_far is =
-    is ∙ ap (λ (xs : List ℕ). xs ++ (get_or blocks i d).0) so_far ∙ sym (flat_more blocks i d l)
+    is ∙ ap (λ (xs : List ℕ). xs ++ block_bytes (get_or blocks i d)) so_far ∙ sym (flat_more blocks i d l)
 
 -- ---- the bytes of the first blocks are the first bytes
 
@@ -52,21 +43,6 @@ AllLong-drop k blocks long = record {
   each = λ j below. ap (λ (b : Block). length b.0) (get_or-drop k blocks j zero_block) ∙ long.each (k + j) (omega (arith, length-drop k blocks));
 }
 
-flat_parts : (k : ℕ) (blocks : List Block) → flat (take k blocks) ++ flat (drop k blocks) ≡ flat blocks
-unfolding flat
-flat_parts k blocks = sym (flat_map-append (λ (b : Block). b.0) (take k blocks) (drop k blocks)) ∙ ap (flat_map (λ (b : Block). b.0)) (take-append-drop k blocks)
-
-length-flat_take : (k : ℕ) (blocks : List Block) → AllLong blocks → k ≤ length blocks → length (flat (take k blocks)) ≡ 64 * k
-length-flat_take k blocks long l = length-flat (take k blocks) (AllLong-take k blocks long l) ∙ ap (λ n. 64 * n) (length-take-le k blocks l)
-
-pub flat_take : (k : ℕ) (blocks : List Block) → AllLong blocks → k ≤ length blocks → flat (take k blocks) ≡ take (64 * k) (flat blocks)
-flat_take k blocks long l =
-    sym (ap (take (64 * k)) (sym (flat_parts k blocks)) ∙ take_at (flat (take k blocks)) (flat (drop k blocks)) (64 * k) (length-flat_take k blocks long l))
-
-pub flat_drop : (k : ℕ) (blocks : List Block) → AllLong blocks → k ≤ length blocks → flat (drop k blocks) ≡ drop (64 * k) (flat blocks)
-flat_drop k blocks long l =
-    sym (ap (drop (64 * k)) (sym (flat_parts k blocks)) ∙ drop_at (flat (take k blocks)) (flat (drop k blocks)) (64 * k) (length-flat_take k blocks long l))
-
 -- ---- what the parts hold
 
 module _ (p : Parameters) (memory : List Block) (long : AllLong memory) (range : IsInRange p) (whole : length memory ≡ memory_blocks p) where
@@ -77,10 +53,10 @@ module _ (p : Parameters) (memory : List Block) (long : AllLong memory) (range :
   bytes = omega arith
 
   pub program_bytes : flat (take (program_blocks_of p) memory) ≡ take (program_size p) (flat memory)
-  program_bytes = flat_take (program_blocks_of p) memory long few ∙ ap (λ n. take n (flat memory)) bytes
+  program_bytes = flat-take (program_blocks_of p) memory few ∙ ap (λ n. take n (flat memory)) bytes
 
   pub console_pages : flat (drop (program_blocks_of p) memory) ≡ drop (program_size p) (flat memory)
-  console_pages = flat_drop (program_blocks_of p) memory long few ∙ ap (λ n. drop n (flat memory)) bytes
+  console_pages = flat-drop (program_blocks_of p) memory few ∙ ap (λ n. drop n (flat memory)) bytes
 
 -- the state that the parts hold is that of their processor and their blocks
 pub held-state : (m : Parts) → AllLong m.memory → IsInRange m.geometry → length m.memory ≡ memory_blocks m.geometry

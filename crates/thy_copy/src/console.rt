@@ -1,6 +1,7 @@
 //! The console of the committed checkpoint, as the NVM holds it.
 ghost use Rattle.std.specs.Prelude.{◌≡◌, ℕ, ◌<◌, ◌≤◌, ◌+◌, ◌*◌, ◌++◌, ◌^◌, false, length, take, drop, min, List, IfOk, IfErr, OnOk, Some};
 ghost use Rattle.thy_base.specs.declared.block.Block.{Block as BlockValue};
+ghost use Rattle.thy_base.specs.Blocks.{block_bytes};
 ghost use Rattle.thy_base.specs.Bytes.{bytes_of};
 ghost use Rattle.thy_base.specs.Device.{IsFramed, newest};
 ghost use Rattle.thy_copy_model.specs.Layout.{blocks_of};
@@ -121,12 +122,12 @@ fn read_blocks<N: Nvm>(
 /// Appends the block at a place.
 fn read_block<N: Nvm>(bytes: &mut Bytes, at: u64, nvm: &mut N) -> Result<(), CoreError>
     requires { at < length (N.device nvm.old).image }
-    ensures bytes { OnOk result (bytes_of bytes.new ≡ bytes_of bytes.old ++ (newest (N.device nvm.old) at).0) }
+    ensures bytes { OnOk result (bytes_of bytes.new ≡ bytes_of bytes.old ++ block_bytes (newest (N.device nvm.old) at)) }
     ensures same { OnOk result (N.device nvm.new ≡ N.device nvm.old) }
     ensures err { IfErr result (λ e. HasFailedToRead e (N.device nvm.old) (N.device nvm.new)) }
     ensures frame { IsFramed (N.device nvm.old) (N.device nvm.new) }
 {
     let block = nvm.read(at)?;
-    bytes.extend(&block.0)?;
+    bytes.extend(block.bytes())?;
     Ok(())
 }

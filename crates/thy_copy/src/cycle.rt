@@ -16,12 +16,12 @@ use thy_record::Start;
 use thy_view::{Did, Phase, Stall};
 
 /// The hart's cycle with no checkpoint under way: the seal of an epoch that is over, or an instruction.
-fn hart(m: &mut Parts, input_len: u64) -> Did
+fn hart(m: &mut Parts, input: &[u8]) -> Did
     requires consistent { IsConsistent m.old }
     requires below { IsBelow (2 ^ 64 - 2) m.old.view }
     requires run { m.old.view.phase ≡ RunPhase }
     requires idle { m.old.stage ≡ Stage.Idle }
-    ensures parts { m.new ≡ hart_next input_len m.old.view.over m.old }
+    ensures parts { m.new ≡ hart_next input.now m.old.view.over m.old }
     ensures did { result ≡ hart_did m.old.view.over m.old }
     ensures consistent { IsConsistent m.new }
 {
@@ -32,7 +32,7 @@ fn hart(m: &mut Parts, input_len: u64) -> Did
             did
         }
         None => {
-            retire(m, input_len);
+            retire(m, input);
             Did::Retired
         }
     }
@@ -76,13 +76,13 @@ fn told(pick: Pick, stall: Option<Stall>) -> Option<Stall>
 }
 
 /// One cycle of hart or engine while the machine executes.
-fn run<N: Nvm>(m: &mut Parts, input_len: u64, nvm: &mut N) -> Result<Did, NvmError>
+fn run<N: Nvm>(m: &mut Parts, input: &[u8], nvm: &mut N) -> Result<Did, NvmError>
     requires consistent { IsConsistent m.old }
     requires below { IsBelow (2 ^ 64 - 2) m.old.view }
     requires run { m.old.view.phase ≡ RunPhase }
     requires sized { IsSized m.old (N.device nvm.old) }
     requires up { (N.device nvm.old).down ≡ false }
-    ensures parts { OnOk result (m.new ≡ run_next input_len m.old.stage m.old) }
+    ensures parts { OnOk result (m.new ≡ run_next input.now m.old.stage m.old) }
     ensures did { IfOk result (λ did. did ≡ run_did m.old.stage m.old) }
     ensures consistent { IsConsistent m.new }
     ensures ok { OnOk result (N.device nvm.new ≡ after (run_action m.old.stage m.old) (N.device nvm.old)) }
@@ -92,7 +92,7 @@ fn run<N: Nvm>(m: &mut Parts, input_len: u64, nvm: &mut N) -> Result<Did, NvmErr
 {
     match m.stage {
         Stage::Writing { epoch, issue } => checkpoint(m, epoch, issue, nvm),
-        Stage::Idle => Ok(hart(m, input_len)),
+        Stage::Idle => Ok(hart(m, input)),
         Stage::Unread
         | Stage::Header { .. }
         | Stage::Record { .. }
@@ -118,7 +118,7 @@ fn act<N: Nvm>(m: &mut Parts, start: &Start, nvm: &mut N) -> Result<Did, NvmErro
 {
     match m.view.phase {
         Phase::Boot => boot(m, start, nvm),
-        Phase::Run => run(m, start.input.len() as u64, nvm),
+        Phase::Run => run(m, start.input.as_slice(), nvm),
         Phase::Halt => Ok(Did::Nothing),
     }
 }

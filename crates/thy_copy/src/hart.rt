@@ -1,119 +1,95 @@
 //! The hart: one whole instruction in one cycle.
-#![tactic(auto, unfolding(thy_copy_model::specs::Hart::loaded, thy_copy_model::specs::Hart::stored, thy_copy_model::specs::Hart::effect_in, thy_copy_model::specs::Hart::read_in, thy_copy_model::specs::Hart::written_in, thy_copy_model::specs::Hart::performed, thy_copy_model::specs::Hart::executed))]
+#![tactic(auto, unfolding(thy_isa::specs::OnBlocks::effect_in, thy_isa::specs::OnBlocks::bytes_in, thy_isa::specs::OnBlocks::cpu_after, thy_isa::specs::OnBlocks::blocks_after, thy_copy_model::specs::Hart::performed, thy_copy_model::specs::Hart::executed))]
 
-ghost use Rattle.std.specs.Prelude.{◌≡◌, ◌<◌, ◌≤◌, ◌+◌, ◌-◌, ◌%◌, ◌/◌, ◌^◌, length, Some, None};
-ghost use Rattle.thy_base.specs.Device.{block_at};
-ghost use Rattle.thy_base.specs.Geometry.{memory_blocks, program_size, console_room};
-ghost use Rattle.thy_base.specs.LittleEndian.{number_bytes};
-ghost use Rattle.thy_isa.specs.Effects.{size_of};
-ghost use Rattle.thy_copy_model.specs.Hart.{loaded, stored, effect_in, calls_in, read_in, written_in, performed, executed, IsWithinBlock, IsInside};
+ghost use Rattle.std.specs.Prelude.{◌≡◌, ◌<◌, ◌≤◌, ◌+◌, ◌*◌, ◌^◌, length};
+ghost use Rattle.thy_base.specs.Geometry.{IsInRange, memory_blocks, program_size};
+ghost use Rattle.thy_base.specs.LittleEndian.{number_at};
+ghost use Rattle.thy_flat.specs.Spans.{span, gathered};
+ghost use Rattle.thy_isa.specs.Access.{IsWithin};
+ghost use Rattle.thy_isa.specs.Moves.{moves_of};
+ghost use Rattle.thy_isa.specs.OnBlocks.{calls_in, effect_in, bytes_in};
+ghost use Rattle.thy_isa.specs.Step.{AreCallsOf};
+ghost use Rattle.thy_copy_model.specs.Hart.{performed, executed};
 
-use thy_base::{Block, EndCause, Geometry, Mark};
-use thy_copy_model::{Issue, Memory, Parts, Stage};
+use thy_copy_model::Parts;
+use thy_flat::{Piece, Span, gather};
 use thy_isa::{
-    CallState, CpuState, Effect, Status, Width, bytes_in, fetch_fault, finish, number, put_number,
-    within, word, word_effect,
+    CallState, Effect, brought, fetch_fault, finish, moves, number_in, within, word, word_effect,
 };
 
-/// The number of a width at an offset of memory, within one block.
-fn load(memory: &Memory, at: u64, width: Width) -> u64
-    requires place { at / 64 < length memory.now }
-    requires inside { at % 64 + size_of width ≤ 64 }
-    ensures { result ≡ loaded memory.now (size_of width) at }
+/// The word at an offset of memory.
+fn fetch(m: &Parts, at: u64) -> u32
+    requires range { IsInRange m.now.geometry }
+    requires memory { length m.now.memory ≡ memory_blocks m.now.geometry }
+    requires inside { at + 4 ≤ program_size m.now.geometry }
+    ensures { result ≡ number_at 4 (gathered m.now.memory (span at 4)) 0 }
 {
-    let block = memory.get((at / 64) as usize);
-    number(&block.0, (at % 64) as usize, width)
-}
-
-/// The word at an offset of memory, within one block.
-fn fetch(memory: &Memory, at: u64) -> u32
-    requires place { at / 64 < length memory.now }
-    requires inside { at % 64 + 4 ≤ 64 }
-    ensures { result ≡ loaded memory.now 4 at }
-{
-    let block = memory.get((at / 64) as usize);
-    word(&block.0, (at % 64) as usize)
-}
-
-/// Writes the low bytes of a number at an offset of memory, within one block.
-fn store(memory: &mut Memory, at: u64, width: Width, value: u64)
-    requires place { at / 64 < length memory.old }
-    requires inside { at % 64 + size_of width ≤ 64 }
-    ensures { memory.new ≡ stored memory.old at (number_bytes (size_of width) value) }
-{
-    let mut block = *memory.get((at / 64) as usize);
-    put_number(&mut block.0, (at % 64) as usize, width, value);
-    memory.set((at / 64) as usize, &block);
+    let mut bytes = Piece::new();
+    gather(&mut bytes, m.memory.as_slice(), Span { at, len: 4 });
+    word(bytes.as_slice(), 0)
 }
 
 /// What the instruction at the program counter does.
 fn next_effect(m: &Parts) -> Effect
     requires { length m.now.memory ≡ memory_blocks m.now.geometry }
     ensures effect { result ≡ effect_in m.now.geometry m.now.cpu m.now.memory }
-    ensures inside { IsInside m.now.geometry result }
+    ensures inside { IsWithin m.now.geometry.base (program_size m.now.geometry) result }
 {
     let base = m.geometry.numbers().base;
     let size = m.geometry.program_size();
     match fetch_fault(base, size, m.cpu.pc) {
         Some(cause) => Effect::Trap(cause),
         None => {
-            let word = fetch(&m.memory, m.cpu.pc - base);
+            let word = fetch(m, m.cpu.pc - base);
             within(base, size, word_effect(word, m.cpu.pc, &m.cpu.regs))
         }
     }
 }
 
 /// Executes one instruction, a trap included.
-pub fn execute(m: &mut Parts, input_len: u64)
+pub fn execute(m: &mut Parts, input: &[u8])
     requires memory { length m.old.memory ≡ memory_blocks m.old.geometry }
     requires count { m.old.cpu.count + 1 < 2 ^ 64 }
-    ensures { m.new ≡ executed input_len m.old }
+    ensures { m.new ≡ executed input.now m.old }
 {
     let effect = next_effect(m);
-    perform(m, effect, input_len);
+    perform(m, effect, input);
 }
 
-fn perform(m: &mut Parts, effect: Effect, input_len: u64)
+/// Does an effect: reads its bytes, writes them, and finishes.
+fn perform(m: &mut Parts, effect: Effect, input: &[u8])
     requires memory { length m.old.memory ≡ memory_blocks m.old.geometry }
     requires count { m.old.cpu.count + 1 < 2 ^ 64 }
-    requires inside { IsInside m.old.geometry effect }
-    ensures { m.new ≡ performed input_len effect m.old }
+    requires inside { IsWithin m.old.geometry.base (program_size m.old.geometry) effect }
+    ensures { m.new ≡ performed input.now effect (bytes_in m.old.geometry input.now m.old.cpu m.old.memory effect) m.old }
 {
-    let calls = call_state(m, input_len);
-    let number = read(m, effect);
-    write(m, effect);
+    let calls = call_state(m, input.len() as u64);
+    let bytes = moved(m, &effect, input, &calls);
+    let to = moves(&m.cpu.regs, &calls, &effect).to;
+    m.memory.put(to, bytes.as_slice());
+    let number = number_in(&effect, bytes.as_slice());
     finish(&mut m.cpu, &effect, number, &calls);
 }
 
-fn read(m: &Parts, effect: Effect) -> u64
+/// The bytes that an effect moves.
+fn moved(m: &Parts, effect: &Effect, input: &[u8], calls: &CallState) -> Piece
+    requires range { IsInRange m.now.geometry }
     requires memory { length m.now.memory ≡ memory_blocks m.now.geometry }
-    requires inside { IsInside m.now.geometry effect }
-    ensures { result ≡ read_in m.now.geometry m.now.memory effect }
+    requires inside { IsWithin m.now.geometry.base (program_size m.now.geometry) effect.now }
+    requires calls { calls.now ≡ calls_in m.now.geometry m.now.cpu (length input.now) }
+    ensures { result.items ≡ bytes_in m.now.geometry input.now m.now.cpu m.now.memory effect.now }
 {
-    match effect {
-        Effect::Read { at, width, .. } => load(&m.memory, at - m.geometry.numbers().base, width),
-        _ => 0,
-    }
+    let mut bytes = brought(input, &m.cpu.regs, calls, effect);
+    let from = moves(&m.cpu.regs, calls, effect).from;
+    gather(&mut bytes, m.memory.as_slice(), from);
+    bytes
 }
 
-fn write(m: &mut Parts, effect: Effect)
-    requires memory { length m.old.memory ≡ memory_blocks m.old.geometry }
-    requires inside { IsInside m.old.geometry effect }
-    ensures { m.new ≡ record m.old { memory = written_in m.old.geometry m.old.memory effect } }
-{
-    if let Effect::Write {
-        at,
-        width,
-        value,
-        ..
-    } = effect
-    {
-        store(&mut m.memory, at - m.geometry.numbers().base, width, value);
-    }
-}
-
+/// What an environment call is decided by, with an input of so many bytes.
 fn call_state(m: &Parts, input_len: u64) -> CallState
-    ensures { result ≡ calls_in m.now.geometry m.now.cpu input_len }
+    ensures calls { result ≡ calls_in m.now.geometry m.now.cpu input_len }
+    ensures fits { AreCallsOf m.now.cpu result }
+    ensures range { IsInRange m.now.geometry }
 {
     CallState {
         cursor: m.cpu.cursor,

@@ -26,7 +26,7 @@ fn gathered(alloc: Global, blocks: &[Block]) -> Result<Bytes, AllocError>
 {
     let mut bytes = Bytes::with_room(alloc, 64 * blocks.len())?;
     for block in blocks {
-        bytes.extend(&block.0)?;
+        bytes.extend(block.bytes())?;
     }
     Ok(bytes)
 }

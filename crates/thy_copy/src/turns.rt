@@ -172,25 +172,25 @@ pub fn checkpoint<N: Nvm>(
 }
 
 /// Retires one instruction.
-pub fn retire(m: &mut Parts, input_len: u64)
+pub fn retire(m: &mut Parts, input: &[u8])
     requires view { IsBelow (2 ^ 64 - 2) m.old.view }
     requires consistent { IsConsistent m.old }
     requires run { m.old.view.phase ≡ Phase.Run }
     requires idle { m.old.stage ≡ Stage.Idle }
-    ensures parts { m.new ≡ retired_on input_len m.old }
+    ensures parts { m.new ≡ retired_on input.now m.old }
     ensures consistent { IsConsistent m.new }
 {
-    advance(m, input_len);
+    advance(m, input);
 }
 
 #[tactic(auto, unfolding(thy_copy_model::specs::Hart::executed, thy_copy_model::specs::Hart::performed))]
-fn advance(m: &mut Parts, input_len: u64)
+fn advance(m: &mut Parts, input: &[u8])
     requires memory { length m.old.memory ≡ memory_blocks m.old.geometry }
     requires count { m.old.cpu.count + 1 < 2 ^ 64 }
     requires view { IsBelow (2 ^ 64 - 2) m.old.view }
-    ensures { m.new ≡ retired_on input_len m.old }
+    ensures { m.new ≡ retired_on input.now m.old }
 {
-    execute(m, input_len);
+    execute(m, input);
     count_retired(&m.geometry, &m.cpu, &mut m.view);
 }
 

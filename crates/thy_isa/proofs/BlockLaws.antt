@@ -45,7 +45,7 @@ fetched_none true false h = cc
 fetched_none false b h = cc
 
 -- a word that can be fetched lies in memory
-fetch_inside : (base size pc : ℕ) → fetch_fault base size pc ≡ None → (base ≤ pc) × (pc + 4 ≤ base + size)
+pub fetch_inside : (base size pc : ℕ) → fetch_fault base size pc ≡ None → (base ≤ pc) × (pc + 4 ≤ base + size)
 unfolding fetch_fault
 fetch_inside base size pc h = is_inside-true base size pc 4 (fetched_none (pc % 4 == 0) (is_inside base size pc 4) h)
 

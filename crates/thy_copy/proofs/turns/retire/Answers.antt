@@ -5,4 +5,4 @@ use Rattle.thy_copy.proofs.turns.retire.Goals as goal
 
 pub returns-clause-consistent : goal.returns-clause-consistent
 returns-clause-consistent c =
-    subst IsConsistent (sym c.advance.ensures) (retired_consistent c.args.input_len c.args.m.now c.requires.consistent c.requires.run c.requires.idle)
+    subst IsConsistent (sym c.advance.ensures) (retired_consistent c.args.input.now c.args.m.now c.requires.consistent c.requires.run c.requires.idle)

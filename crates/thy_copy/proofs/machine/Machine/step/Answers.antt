@@ -15,13 +15,13 @@ use Rattle.thy_copy.proofs.machine.Machine.step.Goals as goal
 pub returns-in-Ok-clause-counts : goal.returns-in-Ok-clause-counts
 returns-in-Ok-clause-counts g c = λ n big below.
     subst (λ (m : Parts). IsBelow (n + 1) m.view) (sym c.in-Ok.ensures.parts)
-    (cycle_below n (state_of c.args.start.now.state) (length (bytes_of c.args.start.now.input)) (g.N.Nvm.device c.args.nvm.now) c.args.pick
+    (cycle_below n (state_of c.args.start.now.state) (bytes_of c.args.start.now.input) (g.N.Nvm.device c.args.nvm.now) c.args.pick
     (length (g.N.Nvm.device c.args.nvm.now).queue) c.self.inside.parts c.self.invariant big (subst (λ (m : Parts). IsBelow n m.view) (sym c.self.view_is) below))
 
 pub returns-in-Ok-clause-geometry : goal.returns-in-Ok-clause-geometry
 returns-in-Ok-clause-geometry g c =
     ap (λ (m : Parts). m.geometry) c.in-Ok.ensures.parts
-    ∙ (cycle_keeps (state_of c.args.start.now.state) (length (bytes_of c.args.start.now.input)) (g.N.Nvm.device c.args.nvm.now) c.args.pick
+    ∙ (cycle_keeps (state_of c.args.start.now.state) (bytes_of c.args.start.now.input) (g.N.Nvm.device c.args.nvm.now) c.args.pick
     (length (g.N.Nvm.device c.args.nvm.now).queue) c.self.inside.parts).geometry
     ∙ ap (λ (m : Parts). m.geometry) c.self.view_is
 
@@ -30,7 +30,7 @@ returns-in-Ok-clause-sound g c = λ o k begins at few.
     let n : Device = g.N.Nvm.device c.args.nvm.now in
     step_sound o k c.args.start.now c.args.pick c.args.self.now c.cycle.new.m n (g.N.Nvm.device c.cycle.new.nvm) _ begins at few
     (c.in-Ok.ensures.parts
-    ∙ ap (λ (m : Parts). cycle_next (state_of c.args.start.now.state) (length (bytes_of c.args.start.now.input)) n c.args.pick (length n.queue) m) c.self.view_is)
+    ∙ ap (λ (m : Parts). cycle_next (state_of c.args.start.now.state) (bytes_of c.args.start.now.input) n c.args.pick (length n.queue) m) c.self.view_is)
     (c.in-Ok.ensures.ok
     ∙ ap (λ (m : Parts). after (cycle_action (state_of c.args.start.now.state) c.args.pick (length n.queue) m) n) c.self.view_is)
     (c.in-Ok.ensures.did ∙ ap (λ (m : Parts). cycle_did c.args.pick (length n.queue) m c.cycle.new.m) c.self.view_is)
