@@ -18,7 +18,7 @@ use Rattle.thy_isa.specs.declared.state.Status.{Status}
 use Rattle.thy_isa.specs.declared.state.Status.TheVariants.{Running, Exited, Trapped}
 use Rattle.thy_isa.specs.Step.{State, Setting, is_running, steps}
 use Rattle.thy_isa.proofs.StepLaws.{steps-add, steps-ended}
-use Rattle.thy_plain.specs.Machine.{setting_for}
+use Rattle.thy_isa.specs.OnBlocks.{setting_for}
 use Rattle.thy_plain.specs.Start.{start_state}
 use Rattle.thy_text.specs.Happening.{Happening, Ended as EndedEvent}
 use Rattle.thy_text.specs.Marks.{Course, Marks, marks_after, AllLawful}

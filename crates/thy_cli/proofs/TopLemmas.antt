@@ -2,6 +2,7 @@
 use Rattle.std.proofs.Common.{◌≡◌, ℕ, Bool, true, false, Option, Some, None, List, [], length, refl, sym, ◌∙◌, ap, subst, inl, inr, lit<, arith}
 use Rattle.std.specs.Prelude.{Result, Ok, Err}
 use Rattle.std.specs.Option.{option_or}
+use Rattle.std.proofs.lemmas.List.Elements.{All-nil}
 use Rattle.thy_base.specs.declared.config.Config.{Config}
 use Rattle.thy_base.specs.declared.config.ConfigError.{ConfigError}
 use Rattle.thy_base.specs.declared.config.Field.{Field}
@@ -12,7 +13,8 @@ use Rattle.thy_base.specs.Device.{Device, fitted}
 use Rattle.thy_base.specs.Geometry.{IsInRange, parameters_of, program_size}
 use Rattle.thy_base.specs.Outside.{Stock, Stream}
 use Rattle.thy_isa.specs.declared.state.Status.TheVariants.{Running}
-use Rattle.thy_isa.specs.Storable.{IsNumber, IsStorable}
+use Rattle.thy_isa.specs.OnBlocks.{setting_for}
+use Rattle.thy_isa.specs.Storable.{IsNumber, IsByte, IsStorable, IsReadable}
 use Rattle.thy_isa.specs.Step.{State}
 use Rattle.thy_isa.proofs.MemoryBounds.{anywhere}
 use Rattle.thy_record.specs.Cpu.{is_status, status_tag, status_value}
@@ -58,9 +60,14 @@ geometry_is c p none e = ok_is p (parameters_of c) (e ∙ ap (λ f. geometry_or 
 
 -- ---- the start of a run
 
+-- no input is one of bytes
+IsReadable-none : (p : Parameters) (input : List ℕ) → input ≡ [] → IsReadable (setting_for p input)
+IsReadable-none p input none =
+    subst (λ (l : List ℕ). IsReadable (setting_for p l)) (sym none) record { bytes = All-nil IsByte; size = lit< tt }
+
 -- a start state begins a run from a file
-pub IsOrigin-start : (o : Origin) (contents : Contents) → IsInRange o.geometry → o.start ≡ start_state o.geometry contents → IsStorable (program_size o.geometry) o.start → o.kept ≡ None → IsOrigin o
-IsOrigin-start o contents range is storable file =
+pub IsOrigin-start : (o : Origin) (contents : Contents) → IsInRange o.geometry → o.start ≡ start_state o.geometry contents → IsStorable (program_size o.geometry) o.start → o.input ≡ [] → o.kept ≡ None → IsOrigin o
+IsOrigin-start o contents range is storable none file =
     let console : length o.start.console ≡ 0 = ap (λ (s : State). length s.console) is in
     let count : o.start.count ≡ 0 = ap (λ (s : State). s.count) is in
     let status : o.start.status ≡ Running = ap (λ (s : State). s.status) is in
@@ -80,6 +87,7 @@ IsOrigin-start o contents range is storable file =
       };
       memory = storable.memory_size;
       storable = storable;
+      readable = IsReadable-none o.geometry o.input none;
       starts = subst (λ (kept : Option Mark). StartsFrom kept o.start) (sym file) status;
     }
 

@@ -19,6 +19,7 @@ use Rattle.thy_isa.specs.Step.{fetch_fault, within}
 use Rattle.thy_isa.proofs.AccessLaws.{within-is}
 use Rattle.thy_isa.proofs.BlockLaws.{fetch_inside}
 use Rattle.thy_isa.proofs.MoveLaws.{moves_of-spans, moves_of-enough, HasRead-moved}
+use Rattle.thy_base.proofs.RangeLemmas.{console_most, pages_most}
 
 -- four bytes at an address lie within program memory
 pub record IsFetched (p : Parameters) (pc : ℕ) : Type 0 where
@@ -48,7 +49,7 @@ pub room_fits : (p : Parameters) (cpu : CpuState) (n : ℕ) (calls : CallState) 
     → 1 ≤ calls.room → calls.size + calls.console_len < 2 ^ 64
 room_fits p cpu n calls r is =
     let P : CallState → Type 0 = λ k. 1 ≤ k.room → k.size + k.console_len < 2 ^ 64 in
-    subst P (sym is) (λ some. omega (arith, r.pages_most, r.console_most))
+    subst P (sym is) (λ some. omega (arith, pages_most p r, console_most p r))
 
 -- spans of memory, bytes that fit one piece, and as many as are written
 pub record IsMoving (memory : List Block) (brought : List ℕ) (m : Moves) : Type 0 where

@@ -38,6 +38,7 @@ use Rattle.thy_record.proofs.HeaderLemmas.{header_fault-long}
 use Rattle.thy_record.proofs.ImageLemmas.{IsDecoded-at, at_back}
 use Rattle.thy_record.proofs.ReadBackLemmas.{cpu_with, same_cpu}
 use Rattle.thy_record.proofs.TableFaultLemmas.{neither}
+use Rattle.thy_base.proofs.RangeLemmas.{console_below}
 
 -- ---- the processor
 
@@ -159,7 +160,7 @@ pub console_gathered : (p : Parameters) (blocks : List Block) (first n len : ℕ
     → first ≡ 64 * (p.pages - p.console) → n ≡ 64 * p.console
     → take len (flat (take n (drop first blocks))) ≡ console_bytes p blocks len
 console_gathered p blocks first n len all r is size =
-    let below : p.console < p.pages = r.console_below in
+    let below : p.console < p.pages = console_below p r in
     let at : 64 * first ≡ program_size p = omega arith in
     ap (λ xs. take len (flat xs)) (take_all n (drop first blocks) (omega (arith, length-drop first blocks, all)))
     ∙ ap (take len) (flat-drop first blocks (omega (arith, all)) ∙ ap (λ m. drop m (flat blocks)) at)

@@ -4,7 +4,9 @@ use Rattle.std.specs.List.{list_any}
 use Rattle.std.proofs.lemmas.List.Folds.{list_any-append}
 use Rattle.std.proofs.Math.Seq.{drop-append_seam}
 use Rattle.thy_base.specs.declared.mark.Mark.{Mark}
-use Rattle.thy_isa.proofs.StorableLaws.{steps-console}
+use Rattle.thy_isa.specs.Step.{State, steps}
+use Rattle.thy_isa.proofs.StepLaws.{steps-add}
+use Rattle.thy_isa.proofs.StorableLaws.{steps-console, steps-room}
 use Rattle.thy_view.specs.Kind.{KindOf}
 use Rattle.thy_text.specs.Happening.{Happening, Cut, Reload, Ended}
 use Rattle.thy_text.specs.Marks.{Marks, marks_from}
@@ -34,7 +36,11 @@ use Rattle.thy_base.proofs.RangeLemmas.{console_most}
 pub console-grows : (o : Origin) (j k : ℕ) → j ≤ k → (more : List ℕ) × (console_at o k ≡ console_at o j ++ more)
 unfolding at
 console-grows o j k le =
-    ([], steps-console (setting_of o) (k - o.start.count) o.start ∙ sym (steps-console (setting_of o) (j - o.start.count) o.start) ∙ sym (append-nil (console_at o j)))
+    let first : ℕ = j - o.start.count in
+    let then : ℕ = (k - o.start.count) - first in
+    let all : k - o.start.count ≡ first + then = omega arith in
+    let grown = steps-console (setting_of o) then (steps (setting_of o) first o.start) in
+    (grown.more, ap (λ (n : ℕ). (steps (setting_of o) n o.start).console) all ∙ ap (λ (s : State). s.console) (steps-add (setting_of o) first then o.start) ∙ grown.grown)
 
 -- a committed mark does not go back
 abbrev pub Grows : Option Mark → Option Mark → Type 0
@@ -277,10 +283,8 @@ released-cut o events index cycle =
 console-few : (o : Origin) (k : ℕ) → IsOrigin o → length (console_at o k) < 2 ^ 64
 unfolding at
 console-few o k origin =
-    let same : length (console_at o k) ≡ length o.start.console = ap length (steps-console (setting_of o) (k - o.start.count) o.start) in
-    let room : length o.start.console ≤ console_room o.geometry = origin.recordable.console in
-    let few : o.geometry.console ≤ 16 = console_most o.geometry origin.geometry in
-    omega (arith, same, room, few)
+    let room = steps-room (setting_of o) (k - o.start.count) o.start origin.recordable.console in
+    omega (arith, room, console_most o.geometry origin.geometry)
 
 kept_few : (o : Origin) (kept : Option Mark) → IsOrigin o → length (console_of (console_at o) kept) < 2 ^ 64
 kept_few o None origin = omega arith

@@ -15,7 +15,7 @@ returns c = λ stock program.
       input = program.input;
       from_file = refl;
       planned = record {
-        origin = IsOrigin-start _ (contents_of c.args.program.image) program.in_range c.start_of.ensures.state c.start_of.ensures.storable refl;
+        origin = IsOrigin-start _ (contents_of c.args.program.image) program.in_range c.start_of.ensures.state c.start_of.ensures.storable c.new.ensures refl;
         rising = rising_of c.args.task.config c.requires.range;
       };
     }

@@ -3,10 +3,11 @@ use Rattle.thy_base.specs.declared.block.Block.{Block}
 use Rattle.thy_flat.specs.Spans.{span, gathered}
 use Rattle.thy_flat.proofs.SpanLaws.{length-gathered}
 use Rattle.thy_copy.proofs.hart.fetch.Goals as goal
+use Rattle.thy_base.proofs.RangeLemmas.{pages_most}
 
 pub gather-requires-clause-few : goal.gather-requires-clause-few
 gather-requires-clause-few c =
-    omega (arith, ap (λ (l : List Block). length l) c.as_slice.ensures, c.requires.memory, c.requires.range.pages_most)
+    omega (arith, ap (λ (l : List Block). length l) c.as_slice.ensures, c.requires.memory, pages_most _ c.requires.range)
 
 pub word-requires : goal.word-requires
 word-requires c =

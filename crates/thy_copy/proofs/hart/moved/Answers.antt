@@ -3,6 +3,7 @@ use Rattle.thy_base.specs.declared.block.Block.{Block}
 use Rattle.thy_flat.specs.Spans.{IsSpanOf}
 use Rattle.thy_copy.proofs.HartLemmas.{room_fits, moving}
 use Rattle.thy_copy.proofs.hart.moved.Goals as goal
+use Rattle.thy_base.proofs.RangeLemmas.{pages_most}
 
 pub moves-requires-clause-console : goal.moves-requires-clause-console
 moves-requires-clause-console c = room_fits c.args.m.now.geometry c.args.m.now.cpu _ c.args.calls.now c.requires.range c.requires.calls
@@ -16,7 +17,7 @@ gather-requires-clause-inside c =
 
 pub gather-requires-clause-few : goal.gather-requires-clause-few
 gather-requires-clause-few c =
-    omega (arith, ap (λ (l : List Block). length l) c.as_slice.ensures, c.requires.memory, c.requires.range.pages_most)
+    omega (arith, ap (λ (l : List Block). length l) c.as_slice.ensures, c.requires.memory, pages_most _ c.requires.range)
 
 pub gather-requires-clause-room : goal.gather-requires-clause-room
 gather-requires-clause-room c =

@@ -2,6 +2,7 @@ use Rattle.std.proofs.Common.{ℕ, List, length, sym, ap, subst, arith}
 use Rattle.thy_isa.specs.Access.{HasRead}
 use Rattle.thy_copy.proofs.HartLemmas.{room_fits, moved}
 use Rattle.thy_copy.proofs.hart.perform.Goals as goal
+use Rattle.thy_base.proofs.RangeLemmas.{pages_most}
 
 pub moves-requires-clause-console : goal.moves-requires-clause-console
 moves-requires-clause-console c =
@@ -15,7 +16,7 @@ put-requires-clause-inside c =
     w.to
 
 pub put-requires-clause-few : goal.put-requires-clause-few
-put-requires-clause-few c = omega (arith, c.requires.memory, c.call_state-calls.ensures.range.pages_most)
+put-requires-clause-few c = omega (arith, c.requires.memory, pages_most c.args.m.now.geometry c.call_state-calls.ensures.range)
 
 pub put-requires-clause-bytes : goal.put-requires-clause-bytes
 put-requires-clause-bytes c =
