@@ -4,11 +4,15 @@
 #[cfg(test)]
 mod cache;
 #[cfg(test)]
+mod calls;
+#[cfg(test)]
 mod dram;
 #[cfg(test)]
 mod elf;
 #[cfg(test)]
 mod expect;
+#[cfg(test)]
+mod flat;
 #[cfg(test)]
 mod geometry;
 #[cfg(test)]

@@ -54,12 +54,19 @@ fn image_of(rt: &impl Abort, alloc: Global, words: &[u32]) -> Image
     }
 }
 
-/// The machine at the start of a program of these words.
+/// The machine at the start of a program of these words, with nothing to read.
 fn start(rt: &impl Abort, alloc: Global, words: &[u32]) -> Plain
     ensures { result.state.count ≡ 0 }
 {
+    start_with(rt, alloc, words, b"")
+}
+
+/// The same, with an input.
+fn start_with(rt: &impl Abort, alloc: Global, words: &[u32], input: &[u8]) -> Plain
+    ensures { result.state.count ≡ 0 }
+{
     let image = image_of(rt, alloc, words);
-    let input = Bytes::new(alloc);
+    let input = Bytes::from_vec(Vec::from_slice(alloc, input).expect(rt, "memory"));
     Plain::load(alloc, &image, &smallest(rt, alloc), input).expect(rt, "memory")
 }
 
@@ -127,4 +134,56 @@ fn a_program_starts_at_its_entry(rt: HostRuntime) {
     expect(&rt, start.regs.get(Reg::new(2)), 93952);
     expect(&rt, start.brk, 65552);
     expect(&rt, start.memory.len(), 28672);
+}
+
+/// `addi a7, zero, 64`, `addi a0, zero, 1`, `lui a1, 16`, `addi a2, zero, 100`, `ecall`: 100 bytes from the base
+/// on; then `addi a0, zero, 1`, `addi a1, a1, 64`, `addi a2, zero, 36`, `ecall`: the 36 that are left.
+static WRITES: [u32; 9] = [
+    0x04000893, 0x00100513, 0x000105b7, 0x06400613, 0x00000073, 0x00100513, 0x04058593, 0x02400613,
+    0x00000073,
+];
+
+#[test]
+fn a_write_of_a_hundred_bytes_takes_two_calls(rt: HostRuntime) {
+    let mut plain = start(&rt, rt.alloc(), &WRITES);
+    expect(&rt, plain.run(5), 5);
+    holds(&rt, plain.state(), 10, 64);
+    expect(&rt, plain.run(4), 4);
+    holds(&rt, plain.state(), 10, 36);
+    let state = plain.into_state();
+    let first = state.memory.as_slice();
+    expect(&rt, first.len(), 28672);
+    expect(&rt, state.console.as_slice(), &first[..first.len().min(100)]);
+}
+
+/// `addi a7, zero, 63`, `addi a0, zero, 0`, `lui a1, 23`, `addi a1, a1, -2`, `addi a2, zero, 4`, `ecall`: to two
+/// bytes before the end of memory; then `addi a0, zero, 0`, `addi a1, a1, -2`, `ecall`: two bytes lower.
+static READS: [u32; 9] = [
+    0x03f00893, 0x00000513, 0x000175b7, 0xffe58593, 0x00400613, 0x00000073, 0x00000513, 0xffe58593,
+    0x00000073,
+];
+
+#[test]
+fn a_read_past_the_end_of_memory_keeps_the_cursor(rt: HostRuntime) {
+    let mut plain = start_with(&rt, rt.alloc(), &READS, b"abcd");
+    expect(&rt, plain.run(6), 6);
+    holds(&rt, plain.state(), 10, 0xffff_ffff_ffff_fff2);
+    expect(&rt, plain.state().cursor, 0);
+    expect(&rt, plain.run(3), 3);
+    holds(&rt, plain.state(), 10, 4);
+    let state = plain.into_state();
+    expect(&rt, state.cursor, 4);
+    let end = state.memory.as_slice();
+    expect(&rt, &end[end.len().saturating_sub(4)..], b"abcd".as_slice());
+}
+
+/// `addi a7, zero, 214`, `addi a0, zero, 0`, `ecall`: a machine whose stack is too low for any break.
+static BREAKS: [u32; 3] = [0x0d600893, 0x00000513, 0x00000073];
+
+#[test]
+fn a_break_that_is_refused_answers_the_old_one(rt: HostRuntime) {
+    let mut plain = start(&rt, rt.alloc(), &BREAKS);
+    expect(&rt, plain.run(3), 3);
+    holds(&rt, plain.state(), 10, 65552);
+    stands(&rt, &plain.into_state(), Status::Running, 3, 65548);
 }

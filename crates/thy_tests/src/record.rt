@@ -9,8 +9,7 @@ use thy_base::{Block, Geometry, Parameters};
 use thy_copy_model::{header_block, header_fault};
 use thy_isa::{CpuState, Reg, Regs, Status};
 use thy_record::{
-    BadImage, commit_block, commit_fault, cpu_block, cpu_state, is_zero, load, record_fault, store,
-    word,
+    BadImage, commit_block, commit_fault, cpu_block, cpu_state, is_zero, record_fault, word,
 };
 
 /// Numbers of a machine with 256 pages, one of them the console's.
@@ -196,13 +195,4 @@ fn a_record_is_refused_for_its_first_fault(rt: HostRuntime) {
         let got = fault(&geometry, *i, *value, *j, *other);
         expect_at(&rt, got, *want, row);
     }
-}
-
-#[test]
-fn a_piece_is_stored_in_one_block(rt: HostRuntime) {
-    let mut blocks = [Block::ZERO, Block::ZERO];
-    store(&mut blocks, 124, &[1, 2, 3, 4]);
-    expect(&rt, blocks[0], Block::ZERO);
-    expect(&rt, word(&blocks[1], 7), 0x0403_0201_0000_0000);
-    expect(&rt, load(&blocks, 126, 2), 0x0403);
 }

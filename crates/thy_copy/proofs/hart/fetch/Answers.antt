@@ -7,7 +7,7 @@ use Rattle.thy_base.proofs.RangeLemmas.{pages_most}
 
 pub gather-requires-clause-few : goal.gather-requires-clause-few
 gather-requires-clause-few c =
-    omega (arith, ap (λ (l : List Block). length l) c.as_slice.ensures, c.requires.memory, pages_most _ c.requires.range)
+    omega (arith, ap (λ (l : List Block). length l) c.as_slice.ensures, c.requires.memory, pages_most c.args.m.now.geometry c.requires.range)
 
 pub word-requires : goal.word-requires
 word-requires c =

@@ -17,7 +17,7 @@ gather-requires-clause-inside c =
 
 pub gather-requires-clause-few : goal.gather-requires-clause-few
 gather-requires-clause-few c =
-    omega (arith, ap (λ (l : List Block). length l) c.as_slice.ensures, c.requires.memory, pages_most _ c.requires.range)
+    omega (arith, ap (λ (l : List Block). length l) c.as_slice.ensures, c.requires.memory, pages_most c.args.m.now.geometry c.requires.range)
 
 pub gather-requires-clause-room : goal.gather-requires-clause-room
 gather-requires-clause-room c =
