@@ -1,8 +1,12 @@
 -- What the commit of a checkpoint leaves.
 use Rattle.std.specs.Prelude.{◌≡◌, List}
 use Rattle.thy_base.specs.declared.block.Block.{Block}
-use Rattle.thy_base.specs.Device.{Device, Crash, block_at}
+use Rattle.thy_base.specs.Device.{Device, Crash, block_at, settled, written_to}
 use Rattle.thy_crash.specs.Saved.{Looking, IsIssued, Kept, InDoubt, IsSaved, IsLeft}
+
+-- a device on which all writes have landed, and behind them a commit block
+abbrev pub committed : Block → Device → Device
+committed block n = settled (written_to (settled n) 1 block)
 
 -- where an image is kept and the next one issued, with this commit block, the next one is kept
 abbrev pub Commits : Block → Device → Device → Type 0

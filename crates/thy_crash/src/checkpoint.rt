@@ -1,7 +1,7 @@
 //! The commit of a checkpoint that was written, in one call.
-ghost use Rattle.std.specs.Prelude.{◌≡◌, ◌<◌, false, length, OnOk, OnErr};
+ghost use Rattle.std.specs.Prelude.{◌≡◌, ◌<◌, true, false, length, OnOk, OnErr};
 ghost use Rattle.thy_base.specs.Device.{Device, IsFramed, CountsFault};
-ghost use Rattle.thy_crash.specs.Commit.{Commits, LeavesEither};
+ghost use Rattle.thy_crash.specs.Commit.{committed, Commits, LeavesEither};
 
 use thy_base::{Block, Nvm, NvmError};
 
@@ -12,8 +12,10 @@ use thy_base::{Block, Nvm, NvmError};
 pub fn commit<N: Nvm>(block: &Block, nvm: &mut N) -> Result<(), NvmError>
     requires place { 1 < length (N.device nvm.old).image }
     requires up { (N.device nvm.old).down ≡ false }
+    ensures ok { OnOk result (N.device nvm.new ≡ committed block.now (N.device nvm.old)) }
     ensures done { OnOk result (Commits block.now (N.device nvm.old) (N.device nvm.new)) }
     ensures failed { OnErr result (LeavesEither block.now (N.device nvm.old) (N.device nvm.new)) }
+    ensures down { OnErr result ((N.device nvm.new).down ≡ true) }
     ensures frame { IsFramed (N.device nvm.old) (N.device nvm.new) }
     ensures cause { CountsFault result (N.device nvm.old).faults (N.device nvm.new).faults }
 {

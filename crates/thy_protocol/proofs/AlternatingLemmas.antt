@@ -26,14 +26,13 @@ use Rattle.thy_crash.proofs.FixedLemmas.{Reads-written}
 use Rattle.thy_crash.proofs.SavedLemmas.{IsIssued-next_image}
 use Rattle.thy_view.specs.Origin.{Origin}
 use Rattle.thy_view.specs.Safe.{ceiling}
-use Rattle.thy_view.specs.Views.{mark}
+use Rattle.thy_base.specs.Marks.{mark}
 use Rattle.thy_protocol.specs.Layout.{Layout, slot_in, memory_in, is_sized, slot_places, memory_places, decode_by, looked_by, parts_of}
 use Rattle.thy_protocol.specs.Keeps.{IsOf}
 use Rattle.thy_protocol.specs.Moves.{standing, Move, Goes, Seals, Readies, Commits, Confirms, Rests, Then}
 use Rattle.thy_protocol.specs.Alternating.{alternating, copy_blocks, copy_place, CommitsStart}
 use Rattle.thy_protocol.proofs.LayoutLemmas.{decode_by-whole, decode_by-zero, looked_nothing, looked_parts}
 use Rattle.thy_protocol.proofs.KeepsLemmas.{at-start, Keeps-empty}
-use Rattle.thy_base.proofs.RangeLemmas.{console_most}
 
 -- ---- what is written decodes
 
@@ -46,7 +45,7 @@ pub decode_by-written : (p : Parameters) (ceiling : ℕ) (cpu : CpuState) (epoch
     → decode_by (alternating p ceiling) g ≡ At epoch (state_from p cpu (memory_in (alternating p ceiling) g))
 decode_by-written p ceiling cpu epoch g range r most below sized header commit slot =
     let l : Layout = alternating p ceiling in
-    let room : console_room p < 2 ^ 64 = omega (arith, console_most p range) in
+    let room : console_room p < 2 ^ 64 = omega (arith, range.console_most) in
     let small : epoch < 2 ^ 64 = omega arith in
     let e : epoch_of (block_at g 1) ≡ epoch = ap epoch_of commit ∙ epoch_of-commit_of epoch small in
     decode_by-whole l g epoch (state_from p cpu (memory_in l g)) (record {

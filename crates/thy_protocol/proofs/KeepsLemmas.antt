@@ -16,7 +16,7 @@ use Rattle.thy_view.proofs.SafeLemmas.{Safe-doubt}
 use Rattle.thy_view.specs.Booting.{boot_view, found_first, view_of_image}
 use Rattle.thy_view.specs.Origin.{Origin, IsOrigin, StartsFrom, setting_of, at}
 use Rattle.thy_view.specs.Safe.{ceiling, Safe, IsOneOf}
-use Rattle.thy_view.specs.Views.{mark}
+use Rattle.thy_base.specs.Marks.{mark}
 use Rattle.thy_protocol.specs.Layout.{Layout, Scheme, decode_by, reading, looked_by}
 use Rattle.thy_protocol.specs.Keeps.{IsOf, Tells, TellsNext, TellsAll, Keeps, doubt_in, finding_view}
 use Rattle.thy_protocol.specs.Moves.{Standing, IsKeeping, CommitsTo, Move, Goes, Seals, Readies, Commits, Confirms, Moves, Rests, Then, LeavesAlone}

@@ -14,7 +14,7 @@ use Rattle.thy_record.specs.Flat.{state_from}
 use Rattle.thy_crash.specs.Saved.{Kept}
 use Rattle.thy_view.specs.Origin.{Origin}
 use Rattle.thy_view.specs.Safe.{ceiling}
-use Rattle.thy_view.specs.Views.{mark}
+use Rattle.thy_base.specs.Marks.{mark}
 use Rattle.thy_protocol.specs.Layout.{Scheme, slot_in, memory_in, decode_by}
 use Rattle.thy_protocol.specs.Moves.{standing, IsKeeping, Moves}
 

@@ -6,6 +6,8 @@ mod cache;
 #[cfg(test)]
 mod calls;
 #[cfg(test)]
+mod crash;
+#[cfg(test)]
 mod dram;
 #[cfg(test)]
 mod elf;
