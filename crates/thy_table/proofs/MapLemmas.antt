@@ -1,0 +1,57 @@
+-- A table whose first entries were made anew by a rule.
+use Rattle.std.proofs.Common.{◌≡◌, ℕ, ◌+◌, ◌<◌, ◌≤◌, List, [], ◌∷◌, ◌++◌, length, map, take, drop, get_or, slice_set, Option, None, sym, ◌∙◌, ap, arith}
+use Rattle.std.specs.Option.{option_and_then}
+use Rattle.std.proofs.lemmas.List.{length-map, length-take-le, length-append, length-drop, map_more, drop_more, get_or_at, set_at, append_assoc, take_all, drop_all, append-nil}
+use Rattle.thy_table.specs.Listing.{Listing, listing, entry_at, with_entry, mapped}
+
+-- the first elements as a function has them, the rest as they were
+abbrev pub mapped_below : {X : Type 0} → (X → X) → ℕ → List X → List X
+mapped_below f i xs = map f (take i xs) ++ drop i xs
+
+-- a table whose entries below a place a rule has made anew
+abbrev pub mapped_to : {E : Type 0} → (E → Option E) → ℕ → Listing E → Listing E
+mapped_to rule i t = listing (mapped_below (option_and_then rule) i t.entries) t.numbers
+
+module _ {X : Type 0} (f : X → X) (d : X) where
+  front : (xs : List X) (i : ℕ) → i < length xs → length (map f (take i xs)) ≡ i
+  front xs i l = length-map (take i xs) f ∙ length-take-le i xs (omega arith)
+
+  here : (xs : List X) (i : ℕ) → i < length xs → mapped_below f i xs ≡ map f (take i xs) ++ get_or xs i d ∷ drop (i + 1) xs
+  here xs i l = ap (λ ys. map f (take i xs) ++ ys) (drop_more xs i d l)
+
+  next : (xs : List X) (i : ℕ) → i < length xs → mapped_below f (i + 1) xs ≡ map f (take i xs) ++ f (get_or xs i d) ∷ drop (i + 1) xs
+  next xs i l = ap (λ ys. ys ++ drop (i + 1) xs) (map_more f xs i d l) ∙ append_assoc (map f (take i xs)) (f (get_or xs i d) ∷ []) (drop (i + 1) xs)
+
+  pub get_or-mapped_below : (xs : List X) (i : ℕ) → i < length xs → get_or (mapped_below f i xs) i d ≡ get_or xs i d
+  get_or-mapped_below xs i l =
+      ap (λ ys. get_or ys i d) (here xs i l) ∙ get_or_at (map f (take i xs)) (get_or xs i d) (drop (i + 1) xs) d i (front xs i l)
+
+  -- one element more
+  pub mapped_below-more : (xs : List X) (i : ℕ) → i < length xs → slice_set (mapped_below f i xs) i (f (get_or xs i d)) ≡ mapped_below f (i + 1) xs
+  mapped_below-more xs i l =
+      ap (λ ys. slice_set ys i (f (get_or xs i d))) (here xs i l)
+      ∙ set_at (map f (take i xs)) (get_or xs i d) (drop (i + 1) xs) (f (get_or xs i d)) i (front xs i l) ∙ sym (next xs i l)
+
+  pub mapped_below-all : (xs : List X) (i : ℕ) → length xs ≤ i → mapped_below f i xs ≡ map f xs
+  mapped_below-all xs i l =
+      ap (λ ys. map f (take i xs) ++ ys) (drop_all i xs l) ∙ append-nil (map f (take i xs)) ∙ ap (map f) (take_all i xs l)
+
+  pub length-mapped_below : (xs : List X) (i : ℕ) → i ≤ length xs → length (mapped_below f i xs) ≡ length xs
+  length-mapped_below xs i l = grind (arith, length-append {A = X}, length-map (take i xs) f, length-take-le i xs l, length-drop i xs)
+
+-- a table whose entries below a place a rule has made anew, one place on
+pub mapped_to-more : {E : Type 0} (rule : E → Option E) (t now : Listing E) (i : ℕ) → i < length t.entries → now ≡ mapped_to rule i t
+    → with_entry i (option_and_then rule (entry_at now i)) now ≡ mapped_to rule (i + 1) t
+mapped_to-more rule t now i l e =
+    let f = option_and_then rule in
+    ap (λ u. with_entry i (f (entry_at u i)) u) e
+    ∙ ap (λ o. listing (slice_set (mapped_below f i t.entries) i (f o)) t.numbers) (get_or-mapped_below f None t.entries i l)
+    ∙ ap (λ es. listing es t.numbers) (mapped_below-more f None t.entries i l)
+
+-- and with all of them
+pub mapped_to-all : {E : Type 0} (rule : E → Option E) (t : Listing E) (i : ℕ) → length t.entries ≤ i → mapped_to rule i t ≡ mapped rule t
+mapped_to-all rule t i l = ap (λ es. listing es t.numbers) (mapped_below-all (option_and_then rule) None t.entries i l)
+
+-- it has as many entries
+pub length-mapped_to : {E : Type 0} (rule : E → Option E) (t : Listing E) (i : ℕ) → i ≤ length t.entries → length (mapped_to rule i t).entries ≡ length t.entries
+length-mapped_to rule t i l = length-mapped_below (option_and_then rule) None t.entries i l

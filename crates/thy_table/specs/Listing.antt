@@ -1,0 +1,91 @@
+-- A table: what its entries list, and what each call makes of it.
+use Rattle.std.specs.Prelude.{◌≡◌, ℕ, ◌+◌, ◌≤◌, ◌<◌, ◌^◌, ◌==◌, Bool, true, false, List, length, replicate, map, drop, slice_index_or, slice_set, position, count_by, Option, Some, None, is_none, is_some, option_and_then, refl}
+use Rattle.std.specs.Option.{option_map}
+use Rattle.std.specs.Coded.{Coded, code_by, coded×, coded_list, coded_option, coded_ℕ}
+
+pub record Listing (E : Type 0) : Type 0 where
+  -- the entries by their places, none where one is free
+  pub entries : List (Option E)
+  -- the numbers below this one can be listed
+  pub numbers : ℕ
+
+-- the first place from one on whose element passes a test
+abbrev pub first_from : {X : Type 0} → (X → Bool) → ℕ → List X → Option ℕ
+first_from test from xs = option_map (λ k. from + k) (position test (drop from xs))
+
+-- what the index of a table has for a number
+abbrev pub indexed_at : List (Option ℕ) → ℕ → Option ℕ
+indexed_at places n = slice_index_or places n None
+
+module _ {E : Type 0} where
+  abbrev pub listing : List (Option E) → ℕ → Listing E
+  listing entries numbers = record { entries = entries; numbers = numbers }
+
+  abbrev pub listing_code : Coded E → Coded (Listing E)
+  listing_code code = code_by (List (Option E) × ℕ) (coded× (coded_list (coded_option code)) coded_ℕ) (λ t. (t.entries, t.numbers)) (λ p. listing p.0 p.1) (λ _. refl)
+
+  -- a table of so many free entries
+  abbrev pub empty_table : ℕ → ℕ → Listing E
+  empty_table size numbers = listing (replicate size None) numbers
+
+  -- the entry at a place, none where it is free or past the last
+  abbrev pub entry_at : Listing E → ℕ → Option E
+  entry_at t i = slice_index_or t.entries i None
+
+  -- an entry is live and passes a test
+  abbrev pub passes : (E → Bool) → Option E → Bool
+  passes test None = false
+  passes test (Some e) = test e
+
+  -- an entry lists a number
+  abbrev pub lists : (E → ℕ) → ℕ → Option E → Bool
+  lists key n = passes (λ e. key e == n)
+
+  -- the place of the entry that lists a number
+  abbrev pub place_of : (E → ℕ) → ℕ → Listing E → Option ℕ
+  place_of key n t = position (lists key n) t.entries
+
+  -- the lowest free entry
+  abbrev pub free_place : Listing E → Option ℕ
+  free_place t = position is_none t.entries
+
+  -- how many entries are free
+  abbrev pub free_count : Listing E → ℕ
+  free_count t = count_by is_none t.entries
+
+  -- another entry at a place, or none
+  abbrev pub with_entry : ℕ → Option E → Listing E → Listing E
+  with_entry i entry t = record t { entries = slice_set t.entries i entry }
+
+  -- one more entry, at a place that was free
+  abbrev pub added_at : Option ℕ → E → Listing E → Listing E
+  added_at None e t = t
+  added_at (Some i) e t = with_entry i (Some e) t
+
+  -- one more entry, in the lowest free place
+  abbrev pub added : E → Listing E → Listing E
+  added e t = added_at (free_place t) e t
+
+  -- every live entry as a rule has it, which clears those that it gives nothing for
+  abbrev pub mapped : (E → Option E) → Listing E → Listing E
+  mapped rule t = record t { entries = map (option_and_then rule) t.entries }
+
+  -- the first live entry from a place on that passes a test
+  abbrev pub next_from : (E → Bool) → ℕ → Listing E → Option ℕ
+  next_from test from t = first_from (passes test) from t.entries
+
+  -- no number is listed twice
+  pub record IsListing (key : E → ℕ) (t : Listing E) : Type 0 where
+    -- a number that an entry lists is found there, and so at no other
+    pub found : (i n : ℕ) → lists key n (entry_at t i) ≡ true → place_of key n t ≡ Some i
+    pub inside : (i n : ℕ) → lists key n (entry_at t i) ≡ true → n < t.numbers
+
+  -- what holds of the parts of a table: its entries, the places by number, a place that no free entry
+  -- lies below, and a count
+  pub record IsSound (key : E → ℕ) (entries : List (Option E)) (places : List (Option ℕ)) (lowest free : ℕ) : Type 0 where
+    -- the index has a number at a place exactly where the entry there lists it
+    pub listed : (i n : ℕ) → lists key n (slice_index_or entries i None) ≡ true → indexed_at places n ≡ Some i
+    pub indexed : (i n : ℕ) → indexed_at places n ≡ Some i → lists key n (slice_index_or entries i None) ≡ true
+    pub full_below : (i : ℕ) → i < lowest → is_some (slice_index_or entries i None) ≡ true
+    pub counted : free ≡ count_by is_none entries
+    pub few : length entries ≤ 2 ^ 32

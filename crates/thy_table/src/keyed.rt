@@ -1,0 +1,12 @@
+//! What an entry lists.
+ghost use Rattle.std.specs.Prelude.{◌≡◌, ℕ};
+
+/// An entry of a table. It lists one number, as that of a block or of a page.
+pub trait Keyed: Copy {
+    /// The number that an entry lists.
+    ghost key: { Self → ℕ };
+
+    /// The number that it lists.
+    fn key(&self) -> u64
+        ensures { result ≡ key self.now };
+}

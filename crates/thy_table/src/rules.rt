@@ -1,0 +1,27 @@
+//! What is done to every entry of a table, and what is looked for in one.
+ghost use Rattle.std.specs.Prelude.{◌≡◌, Bool, Option, Some};
+
+use crate::keyed::Keyed;
+
+/// What becomes of each live entry of a table.
+pub trait Rule<E: Keyed> {
+    /// What it makes of an entry: none where the entry is cleared.
+    ghost gives: { Self → E → Option E };
+
+    /// What it makes of an entry: none where the entry is cleared.
+    fn apply(&self, entry: &E) -> Option<E>
+        ensures { result ≡ gives self.now entry.now };
+
+    /// The entry lists the number that it listed.
+    ghost keeps_key: { (rule : Self) (e f : E) → gives rule e ≡ Some f → E.key f ≡ E.key e };
+}
+
+/// What is looked for in a table.
+pub trait Test<E> {
+    /// An entry passes.
+    ghost holds: { Self → E → Bool };
+
+    /// Whether an entry passes.
+    fn test(&self, entry: &E) -> bool
+        ensures { result ≡ holds self.now entry.now };
+}

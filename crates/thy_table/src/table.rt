@@ -1,0 +1,222 @@
+//! The table.
+ghost use Rattle.std.specs.Prelude.{◌≡◌, ◌<◌, ◌≤◌, ◌^◌, ◌++◌, [], ◌∷◌, Some, None, true, length, replicate, slice_index_or, is_none, is_some, position, option_and_then, IfOk, IsSome, IfSome, ◌↔◌};
+ghost use Rattle.thy_table.specs.Listing.{empty_table, entry_at, passes, lists, place_of, free_place, free_count, with_entry, added, mapped, first_from, next_from, indexed_at, IsListing};
+
+use crate::keyed::Keyed;
+use crate::rules::{Rule, Test};
+use std::alloc::{AllocError, Global};
+use std::marker::Model;
+
+/// Entries by their places, some of them free. Each live one lists a number, and no two list the same.
+/// Only `new` takes memory.
+#[derive(Drop)]
+pub struct Table<E: Keyed> {
+    entries: Vec<Option<E>>,
+    /// By number, the place of the entry that lists it.
+    places: Vec<Option<u32>>,
+    /// No entry below this place is free.
+    lowest: usize,
+    free: u64,
+}
+
+impl<E: Keyed> Model for Table<E> {
+    ghost use Rattle.thy_table.specs.Listing.{Listing, listing, listing_code, IsSound};
+    ghost use Rattle.std.specs.Prelude.{length};
+
+    ghost Value = { Listing E };
+
+    ghost coded = { listing_code E.code };
+
+    ghost view = { λ t. listing t.entries.items (length t.places.items) };
+
+    ghost invariant = { λ t. IsSound E.key t.entries.items t.places.items t.lowest t.free };
+}
+
+/// So many times nothing.
+fn nothing<X: Copy>(alloc: Global, len: usize) -> Result<Vec<Option<X>>, AllocError>
+    ensures { IfOk result (λ v. v.items ≡ replicate len None) }
+{
+    let mut all = Vec::with_capacity(alloc, len)?;
+    for _i in 0..len {
+        all.push(None)?;
+    }
+    Ok(all)
+}
+
+/// What an index has for a number.
+fn indexed(places: &[Option<u32>], number: u64) -> Option<usize>
+    ensures { result ≡ indexed_at places.now number }
+{
+    match places.get(number as usize) {
+        Some(Some(place)) => Some(*place as usize),
+        _ => None,
+    }
+}
+
+/// The first free entry from a place on.
+fn free_from<E: Keyed>(entries: &[Option<E>], from: usize) -> Option<usize>
+    ensures { result ≡ first_from is_none from entries.now }
+{
+    for i in from..entries.len() {
+        if entries[i].is_none() {
+            return Some(i);
+        }
+    }
+    None
+}
+
+impl<E: Keyed> Table<E> {
+    /// A table of `size` free entries, at most `2^32`, that can list the numbers below `numbers`.
+    pub fn new(alloc: Global, size: u64, numbers: u64) -> Result<Table<E>, AllocError>
+        requires { size ≤ 2 ^ 32 }
+        ensures { IfOk result (λ table. table ≡ empty_table size numbers) }
+    {
+        let entries = nothing(alloc, size as usize)?;
+        let places = nothing(alloc, numbers as usize)?;
+        Ok(Table {
+            entries,
+            places,
+            lowest: 0,
+            free: size,
+        })
+    }
+
+    /// How many entries there are, free ones included.
+    pub fn size(&self) -> usize
+        ensures size { result ≡ length self.now.entries }
+        ensures small { result ≤ 2 ^ 32 }
+    {
+        self.entries.len()
+    }
+
+    /// How many entries are free.
+    pub fn free(&self) -> u64
+        ensures { result ≡ free_count self.now }
+    {
+        self.free
+    }
+
+    /// The place of the entry that lists a number.
+    pub fn find(&self, number: u64) -> Option<usize>
+        ensures place { result ≡ place_of E.key number self.now }
+        ensures inside { IfSome result (λ i. i < length self.now.entries) }
+        ensures lists { IfSome result (λ i. lists E.key number (entry_at self.now i) ≡ true) }
+    {
+        indexed(&self.places, number)
+    }
+
+    /// The entry at a place, none where it is free.
+    pub fn entry(&self, i: usize) -> Option<E>
+        requires { i < length self.now.entries }
+        ensures { result ≡ entry_at self.now i }
+    {
+        self.entries[i]
+    }
+
+    /// Puts an entry into the lowest free place, and gives that place; none, and nothing is changed,
+    /// exactly where none is free. Its number must not be listed.
+    pub fn add(&mut self, entry: E) -> Option<usize>
+        requires unlisted { place_of E.key (E.key entry) self.old ≡ None }
+        requires number { E.key entry < self.old.numbers }
+        ensures place { result ≡ free_place self.old }
+        ensures room { IsSome result ↔ (0 < free_count self.old) }
+        ensures table { self.new ≡ added entry self.old }
+    {
+        match self.lowest_free() {
+            Some(place) => {
+                self.put(place, entry);
+                Some(place)
+            }
+            None => None,
+        }
+    }
+
+    /// The lowest free place.
+    fn lowest_free(&self) -> Option<usize>
+        ensures place { result ≡ free_place self.now }
+        ensures room { IsSome result ↔ (0 < free_count self.now) }
+    {
+        if self.free == 0 {
+            return None;
+        }
+        free_from(&self.entries, self.lowest)
+    }
+
+    /// Puts an entry into the lowest free place.
+    fn put(&mut self, place: usize, entry: E)
+        requires place { free_place self.old ≡ Some place }
+        requires unlisted { place_of E.key (E.key entry) self.old ≡ None }
+        requires number { E.key entry < self.old.numbers }
+        ensures { self.new ≡ with_entry place (Some entry) self.old }
+    {
+        self.entries[place] = Some(entry);
+        self.places[entry.key() as usize] = Some(place as u32);
+        self.lowest = place + 1;
+        self.free -= 1;
+    }
+
+    /// Puts an entry in the place of one that lists the same number.
+    pub fn set(&mut self, i: usize, entry: E)
+        requires { lists E.key (E.key entry) (entry_at self.old i) ≡ true }
+        ensures { self.new ≡ with_entry i (Some entry) self.old }
+    {
+        self.entries[i] = Some(entry);
+    }
+
+    /// Makes an entry free.
+    pub fn clear(&mut self, i: usize)
+        requires { i < length self.old.entries }
+        ensures { self.new ≡ with_entry i None self.old }
+    {
+        if let Some(entry) = self.entries[i] {
+            self.entries[i] = None;
+            self.places[entry.key() as usize] = None;
+            self.lowest = self.lowest.min(i);
+            self.free += 1;
+        }
+    }
+
+    /// Makes of every live entry what a rule gives, which clears those that it gives nothing for.
+    pub fn map_entries<R: Rule<E>>(&mut self, rule: &R)
+        ensures { self.new ≡ mapped (R.gives rule.now) self.old }
+    {
+        for i in 0..self.size() {
+            self.map_entry(i, rule);
+        }
+    }
+
+    /// Makes of an entry, where it is live, what a rule gives.
+    fn map_entry<R: Rule<E>>(&mut self, i: usize, rule: &R)
+        requires { i < length self.old.entries }
+        ensures { self.new ≡ with_entry i (option_and_then (R.gives rule.now) (entry_at self.old i)) self.old }
+    {
+        if let Some(entry) = self.entry(i) {
+            match rule.apply(&entry) {
+                Some(next) => self.set(i, next),
+                None => self.clear(i),
+            }
+        }
+    }
+
+    /// The first live entry from a place on that passes a test.
+    pub fn next<T: Test<E>>(&self, from: usize, test: &T) -> Option<usize>
+        ensures place { result ≡ next_from (T.holds test.now) from self.now }
+        ensures inside { IfSome result (λ i. i < length self.now.entries) }
+    {
+        for i in from..self.entries.len() {
+            if let Some(entry) = self.entries[i]
+                && test.test(&entry)
+            {
+                return Some(i);
+            }
+        }
+        None
+    }
+
+    /// No number is listed twice, and none that cannot be.
+    pub fn lists_once(&self)
+        ensures { IsListing E.key self.now }
+    {
+        let _entries = &self.entries;
+    }
+}
