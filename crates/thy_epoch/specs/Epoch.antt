@@ -1,0 +1,38 @@
+-- An epoch: how far it is, and why it is over.
+use Rattle.std.specs.Prelude.{◌≡◌, ◌==◌, ◌<◌, ◌≤◌, ℕ, ◌+◌, Bool, Option, Some, None, if◌then◌else◌}
+use Rattle.thy_base.specs.declared.cause.EndCause.{EndCause}
+use Rattle.thy_base.specs.declared.cause.EndCause.TheVariants.{Length, Exhausted, Ended}
+
+pub record Epoch : Type 0 where
+  -- how many instructions an epoch has at most
+  pub span : ℕ
+  pub number : ℕ
+  -- how many it has retired
+  pub retired : ℕ
+  pub over : Option EndCause
+
+-- an epoch of that number begins
+abbrev pub begun : ℕ → ℕ → Epoch
+begun span number = record { span = span; number = number; retired = 0; over = None }
+
+-- why an epoch is over when it has retired so many instructions, where the program runs on or not
+abbrev pub over_after : Bool → ℕ → ℕ → Option EndCause
+over_after running span retired = if running then (if retired == span then Some Length else None) else Some Ended
+
+-- after an instruction retired, behind which the program runs on or not
+abbrev pub retired_once : Bool → Epoch → Epoch
+retired_once running e = record e { retired = e.retired + 1; over = over_after running e.span (e.retired + 1) }
+
+-- before an instruction that needs more table entries than are free
+abbrev pub exhausted : ℕ → ℕ → ℕ → Epoch → Epoch
+exhausted free dirty need e = record e { over = Some (Exhausted free dirty need) }
+
+-- the next epoch begins
+abbrev pub next_epoch : Epoch → Epoch
+next_epoch e = begun e.span (e.number + 1)
+
+-- an epoch that is not over has retired fewer instructions than it may, and no epoch more
+pub record IsSound (e : Epoch) : Type 0 where
+  pub some : 0 < e.span
+  pub going : e.over ≡ None → e.retired < e.span
+  pub within : e.retired ≤ e.span

@@ -1,0 +1,99 @@
+//! The epoch.
+ghost use Rattle.std.specs.Prelude.{◌≡◌, ◌≢◌, ◌<◌, ◌≤◌, ◌+◌, ◌^◌};
+ghost use Rattle.thy_epoch.specs.Epoch.{Epoch, begun, retired_once, exhausted, next_epoch, IsSound};
+
+use std::marker::Model;
+use thy_base::EndCause;
+
+/// The epoch under execution.
+#[derive(Drop)]
+pub struct EpochState {
+    span: u64,
+    number: u64,
+    retired: u64,
+    over: Option<EndCause>,
+}
+
+impl Model for EpochState {
+    ghost use Rattle.thy_epoch.specs.Epoch.{Epoch, IsSound};
+
+    ghost Value = { Epoch };
+
+    ghost view = { λ e. record { span = e.span; number = e.number; retired = e.retired; over = e.over } };
+
+    ghost invariant = { λ e. IsSound (record { span = e.span; number = e.number; retired = e.retired; over = e.over }) };
+}
+
+impl EpochState {
+    /// The start of an epoch that has at most `span` instructions.
+    pub fn new(span: u64, epoch: u64) -> EpochState
+        requires { 0 < span }
+        ensures { result ≡ begun span epoch }
+    {
+        EpochState {
+            span,
+            number: epoch,
+            retired: 0,
+            over: None,
+        }
+    }
+
+    /// Its number.
+    pub fn epoch(&self) -> u64
+        ensures { result ≡ self.now.number }
+    {
+        self.number
+    }
+
+    /// How many instructions it has retired.
+    pub fn retired(&self) -> u64
+        ensures retired { result ≡ self.now.retired }
+        ensures within { result ≤ self.now.span }
+        ensures going { self.now.over ≡ None → result < self.now.span }
+    {
+        self.retired
+    }
+
+    /// Why it is over, where it is.
+    pub fn over(&self) -> Option<EndCause>
+        ensures { result ≡ self.now.over }
+    {
+        self.over
+    }
+
+    /// Counts an instruction that retired. The epoch is over where the program does not run on, and else
+    /// where this was its last instruction.
+    pub fn retired_once(&mut self, running: bool)
+        requires { self.old.over ≡ None }
+        ensures { self.new ≡ retired_once running self.old }
+    {
+        self.retired += 1;
+        self.over = if !running {
+            Some(EndCause::Ended)
+        } else if self.retired == self.span {
+            Some(EndCause::Length)
+        } else {
+            None
+        };
+    }
+
+    /// Ends the epoch before an instruction that stores into `need` blocks, where `free` table entries
+    /// are fewer than the `dirty` lines of the cache and these together.
+    pub fn exhausted(&mut self, free: u64, dirty: u64, need: u64)
+        requires { self.old.over ≡ None }
+        ensures { self.new ≡ exhausted free dirty need self.old }
+    {
+        self.over = Some(EndCause::Exhausted { free, dirty, need });
+    }
+
+    /// Begins the next epoch, where this one is over.
+    pub fn sealed(&mut self)
+        requires over { self.old.over ≢ None }
+        requires number { self.old.number + 1 < 2 ^ 64 }
+        ensures { self.new ≡ next_epoch self.old }
+    {
+        self.number += 1;
+        self.retired = 0;
+        self.over = None;
+    }
+}

@@ -1,0 +1,47 @@
+-- How often each page was stored to, and which pages are counted above or below a threshold.
+use Rattle.std.specs.Prelude.{ℕ, ◌+◌, ◌≤◌, nat_lt, min, Bool, List, length, replicate, drop, slice_index, slice_set, position, All, Option}
+use Rattle.std.specs.Option.{option_map}
+
+pub record Tally : Type 0 where
+  -- the stores of each page, up to 63
+  pub counts : List ℕ
+  -- a page counted above this is stored to densely
+  pub high : ℕ
+  -- and one below this no longer
+  pub low : ℕ
+
+-- no page is counted further
+abbrev pub most : ℕ
+most = 63
+
+-- no stores to so many pages
+abbrev pub uncounted : ℕ → ℕ → ℕ → Tally
+uncounted pages high low = record { counts = replicate pages 0; high = high; low = low }
+
+-- the stores to a page
+abbrev pub count_at : Tally → ℕ → ℕ
+count_at c page = slice_index c.counts page
+
+-- one store more to a page
+abbrev pub counted : ℕ → Tally → Tally
+counted page c = record c { counts = slice_set c.counts page (min (count_at c page + 1) most) }
+
+-- as at the start
+abbrev pub reset : Tally → Tally
+reset c = uncounted (length c.counts) c.high c.low
+
+-- the first number of a list from one place on that passes a test
+abbrev pub first_from : (ℕ → Bool) → ℕ → List ℕ → Option ℕ
+first_from test from xs = option_map (λ k. from + k) (position test (drop from xs))
+
+-- the least page from one on that is counted above the high threshold
+abbrev pub promotion_from : ℕ → Tally → Option ℕ
+promotion_from from c = first_from (λ n. nat_lt c.high n) from c.counts
+
+-- and the least that is counted below the low one
+abbrev pub low_page_from : ℕ → Tally → Option ℕ
+low_page_from from c = first_from (λ n. nat_lt n c.low) from c.counts
+
+-- no count is past the last
+abbrev pub AreWithin : List ℕ → Type 0
+AreWithin counts = All (λ n. n ≤ most) counts
