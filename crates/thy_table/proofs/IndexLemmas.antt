@@ -135,13 +135,25 @@ module _ {E : Type 0} (key : E → ℕ) where
           few = omega (arith, sound.few, length-set es i (Some e));
         }
 
-    -- after an entry was put in the lowest free place
-    pub IsSound-put : (i : ℕ) (e : E) → position is_none es ≡ Some i → indexed_at places (key e) ≡ None → key e < length places
-        → IsSound key (slice_set es i (Some e)) (slice_set places (key e) (Some i)) (i + 1) (free - 1)
-    IsSound-put i e lowest_free unlisted room =
-        let first = position-Some is_none es i None lowest_free in
-        let was : get_or es i None ≡ None = None-is_none (get_or es i None) first.1 in
-        let now : get_or (slice_set es i (Some e)) i None ≡ Some e = get_or-set_same es i (Some e) None first.0 in
+    -- the lowest free place serves as the one below which none is free
+    pub IsSound-lowest : (i : ℕ) → position is_none es ≡ Some i → IsSound key es places i free
+    IsSound-lowest i lowest_free = record {
+      listed = sound.listed;
+      indexed = sound.indexed;
+      full_below = λ j l. is_some-not_none (get_or es j None) ((position-Some is_none es i None lowest_free).2 j l);
+      counted = sound.counted;
+      few = sound.few;
+    }
+
+    -- where a place is free, some is
+    pub some-free : (i : ℕ) → i < length es → get_or es i None ≡ None → 0 < free
+    some-free i inside was = omega (arith, sound.counted, get_or-le-sum_by free_one es i None inside, ap free_one was)
+
+    -- after an entry was put in a free place
+    pub IsSound-put : (i : ℕ) (e : E) (raised : ℕ) → i < length es → get_or es i None ≡ None → indexed_at places (key e) ≡ None → key e < length places
+        → ((j : ℕ) → j < raised → j ≢ i → j < lowest) → IsSound key (slice_set es i (Some e)) (slice_set places (key e) (Some i)) raised (free - 1)
+    IsSound-put i e raised inside was unlisted room below =
+        let now : get_or (slice_set es i (Some e)) i None ≡ Some e = get_or-set_same es i (Some e) None inside in
         record {
           listed = λ j n h. elim (cases_eq j i) as (λ _. indexed_at (slice_set places (key e) (Some i)) n ≡ Some j) [
             | inl s ↦
@@ -164,18 +176,11 @@ module _ {E : Type 0} (key : E → ℕ) where
           ];
           full_below = λ j l. elim (cases_eq j i) as (λ _. is_some (get_or (slice_set es i (Some e)) j None) ≡ true) [
             | inl s ↦ ap is_some (ap (λ k. get_or (slice_set es i (Some e)) k None) s ∙ now)
-            | inr o ↦ let below : j < i = omega arith in
-                ap is_some (get_or-set_other es i j (Some e) None o) ∙ is_some-not_none (get_or es j None) (first.2 j below)
+            | inr o ↦ ap is_some (get_or-set_other es i j (Some e) None o) ∙ sound.full_below j (below j l o)
           ];
-          counted = omega (arith, sound.counted, sum_by-set free_one es i (Some e) None first.0, ap free_one was);
+          counted = omega (arith, sound.counted, sum_by-set free_one es i (Some e) None inside, ap free_one was);
           few = omega (arith, sound.few, length-set es i (Some e));
         }
-
-    -- some entry is free, then
-    pub some-free : (i : ℕ) → position is_none es ≡ Some i → 0 < free
-    some-free i lowest_free =
-        let first = position-Some is_none es i None lowest_free in
-        omega (arith, sound.counted, get_or-le-sum_by free_one es i None first.0, ap one_if first.1)
 
     -- after an entry was cleared
     pub IsSound-clear : (i : ℕ) (e : E) → get_or es i None ≡ Some e → IsSound key (slice_set es i None) (slice_set places (key e) None) (min lowest i) (free + 1)

@@ -1,5 +1,5 @@
 //! The table.
-ghost use Rattle.std.specs.Prelude.{◌≡◌, ◌<◌, ◌≤◌, ◌^◌, ◌++◌, [], ◌∷◌, Some, None, true, length, replicate, slice_index_or, is_none, is_some, position, option_and_then, IfOk, IsSome, IfSome, ◌↔◌};
+ghost use Rattle.std.specs.Prelude.{ℕ, ◌≡◌, ◌≢◌, ◌<◌, ◌≤◌, ◌^◌, ◌++◌, [], ◌∷◌, Some, None, true, length, replicate, slice_index_or, is_none, is_some, position, option_and_then, IfOk, IsSome, IfSome, ◌↔◌};
 ghost use Rattle.thy_table.specs.Listing.{empty_table, entry_at, passes, lists, place_of, free_place, free_count, with_entry, added, mapped, first_from, next_from, indexed_at, IsListing};
 
 use crate::keyed::Keyed;
@@ -65,6 +65,14 @@ fn free_from<E: Keyed>(entries: &[Option<E>], from: usize) -> Option<usize>
     None
 }
 
+/// A place that no free entry lies below, where one entry more is taken.
+fn raised(lowest: usize, taken: usize) -> usize
+    requires { taken < 2 ^ 32 }
+    ensures { (k : ℕ) → k < result → k ≢ taken → k < lowest }
+{
+    if lowest == taken { taken + 1 } else { lowest }
+}
+
 impl<E: Keyed> Table<E> {
     /// A table of `size` free entries, at most `2^32`, that can list the numbers below `numbers`.
     pub fn new(alloc: Global, size: u64, numbers: u64) -> Result<Table<E>, AllocError>
@@ -124,6 +132,8 @@ impl<E: Keyed> Table<E> {
     {
         match self.lowest_free() {
             Some(place) => {
+                // No place below it is free, and none up to it will be.
+                self.lowest = place;
                 self.put(place, entry);
                 Some(place)
             }
@@ -142,16 +152,17 @@ impl<E: Keyed> Table<E> {
         free_from(&self.entries, self.lowest)
     }
 
-    /// Puts an entry into the lowest free place.
-    fn put(&mut self, place: usize, entry: E)
-        requires place { free_place self.old ≡ Some place }
+    /// Puts an entry into a free place. Its number must not be listed.
+    pub fn put(&mut self, place: usize, entry: E)
+        requires inside { place < length self.old.entries }
+        requires free { entry_at self.old place ≡ None }
         requires unlisted { place_of E.key (E.key entry) self.old ≡ None }
         requires number { E.key entry < self.old.numbers }
         ensures { self.new ≡ with_entry place (Some entry) self.old }
     {
         self.entries[place] = Some(entry);
         self.places[entry.key() as usize] = Some(place as u32);
-        self.lowest = place + 1;
+        self.lowest = raised(self.lowest, place);
         self.free -= 1;
     }
 
