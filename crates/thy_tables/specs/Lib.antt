@@ -1,0 +1,2 @@
+pub mod BlockEntry
+pub mod PageEntry

@@ -1,0 +1,107 @@
+//! Entries of the page translation table.
+ghost use Rattle.std.specs.Prelude.{◌≡◌};
+ghost use Rattle.thy_tables.specs.PageEntry.{other_site, no_page, promoted_page, listed_page, is_framed};
+
+use thy_table::Keyed;
+
+/// How many blocks a page has.
+pub const PAGE_BLOCKS: u8 = 64;
+
+/// Where a checkpoint has the page of an entry.
+#[derive(Clone, Copy, Debug, PartialEq, Eq)]
+pub enum Site {
+    /// At its home place in the NVM.
+    AtHome,
+    /// In the entry's alternate page of the NVM.
+    AtAlternate,
+}
+
+/// A live entry of the page translation table.
+#[derive(Clone, Copy, Debug, PartialEq, Eq)]
+pub struct PttEntry {
+    /// The page's number.
+    pub page: u64,
+    /// Where the committed checkpoint has it.
+    pub place: Site,
+    /// Where the checkpoint under way has it: where none is, as the committed one.
+    pub target: Site,
+    /// Its frame was stored to since the last seal.
+    pub dirty: bool,
+    /// It was promoted, and its frame was not yet written to the NVM.
+    pub fresh: bool,
+    /// Its frame belongs to the checkpoint under way, which writes it to the target.
+    pub busy: bool,
+    /// It leaves the table at the next commit.
+    pub leaving: bool,
+    /// How many blocks of its frame are filled, from the first on: at most 64, and then it is framed.
+    pub filled: u8,
+    /// Of a busy page, how many blocks the checkpoint has issued, from the first on: at most 64.
+    pub issued: u8,
+}
+
+impl Site {
+    /// The other place.
+    pub fn other(self) -> Site
+        ensures { result ≡ other_site self }
+    {
+        match self {
+            Site::AtHome => Site::AtAlternate,
+            Site::AtAlternate => Site::AtHome,
+        }
+    }
+}
+
+impl PttEntry {
+    /// What holds of a page that no entry lists.
+    pub fn new(page: u64) -> PttEntry
+        ensures { result ≡ no_page page }
+    {
+        PttEntry {
+            page,
+            place: Site::AtHome,
+            target: Site::AtHome,
+            dirty: false,
+            fresh: false,
+            busy: false,
+            leaving: false,
+            filled: 0,
+            issued: 0,
+        }
+    }
+
+    /// An entry of a page that is to be copied into its frame.
+    pub fn promoted(page: u64) -> PttEntry
+        ensures { result ≡ promoted_page page }
+    {
+        PttEntry {
+            fresh: true,
+            ..PttEntry::new(page)
+        }
+    }
+
+    /// An entry of a page that the committed checkpoint has in it, and that is to be loaded into its frame.
+    pub fn listed(page: u64) -> PttEntry
+        ensures { result ≡ listed_page page }
+    {
+        PttEntry {
+            place: Site::AtAlternate,
+            target: Site::AtAlternate,
+            ..PttEntry::new(page)
+        }
+    }
+
+    /// Whether the frame holds the whole page.
+    pub fn is_framed(&self) -> bool
+        ensures { result ≡ is_framed self.now }
+    {
+        self.filled == PAGE_BLOCKS
+    }
+}
+
+impl Keyed for PttEntry {
+    ghost key = { λ e. e.page };
+
+    fn key(&self) -> u64 {
+        self.page
+    }
+}
