@@ -57,14 +57,14 @@ module _ {E : Type 0} where
   abbrev pub with_entry : ℕ → Option E → Listing E → Listing E
   with_entry i entry t = record t { entries = slice_set t.entries i entry }
 
-  -- one more entry, at a place that was free
-  abbrev pub added_at : Option ℕ → E → Listing E → Listing E
-  added_at None e t = t
-  added_at (Some i) e t = with_entry i (Some e) t
+  -- one more entry, where a place is free
+  abbrev pub added_at : Option ℕ → E → List (Option E) → List (Option E)
+  added_at None e es = es
+  added_at (Some i) e es = slice_set es i (Some e)
 
   -- one more entry, in the lowest free place
   abbrev pub added : E → Listing E → Listing E
-  added e t = added_at (free_place t) e t
+  added e t = record t { entries = added_at (free_place t) e t.entries }
 
   -- every live entry as a rule has it, which clears those that it gives nothing for
   abbrev pub mapped : (E → Option E) → Listing E → Listing E

@@ -6,11 +6,15 @@ mod cache;
 #[cfg(test)]
 mod calls;
 #[cfg(test)]
+mod counts;
+#[cfg(test)]
 mod crash;
 #[cfg(test)]
 mod dram;
 #[cfg(test)]
 mod elf;
+#[cfg(test)]
+mod epochs;
 #[cfg(test)]
 mod expect;
 #[cfg(test)]
@@ -35,6 +39,8 @@ mod plain;
 mod record;
 #[cfg(test)]
 mod runs;
+#[cfg(test)]
+mod tables;
 #[cfg(test)]
 mod text;
 #[cfg(test)]
