@@ -1,0 +1,142 @@
+-- What a seal, a commit, a merge, a promotion and the write of a page make of a block's entries, and their laws.
+use Rattle.std.specs.Prelude.{◌≡◌, ◌≢◌, ℕ, ◌+◌, ◌%◌, ◌<◌, Bool, true, false, ◌||◌, Option, Some, None}
+use Rattle.std.specs.Option.{unwrap_or}
+use Rattle.thy_base.specs.declared.block.Block.{Block}
+use Rattle.thy_base.specs.declared.config.Parameters.{Parameters}
+use Rattle.thy_base.specs.declared.place.Place.{Place}
+use Rattle.thy_cell.specs.declared.entries.BttEntry.{BttEntry}
+use Rattle.thy_cell.specs.declared.entries.PttEntry.{PttEntry}
+use Rattle.thy_cell.specs.declared.entries.Version.{Version}
+use Rattle.thy_cell.specs.declared.entries.Version.TheVariants.{Out, Alternate}
+use Rattle.thy_cell.specs.declared.entries.Pending.TheVariants.{Nothing, FromBuffer, FromAlternate}
+use Rattle.thy_cell.specs.declared.entries.Work.{Work}
+use Rattle.thy_cell.specs.declared.entries.Work.TheVariants.{NoWork, InNvm, InBuffer}
+use Rattle.thy_cell.specs.declared.entries.PagePlace.{PagePlace}
+use Rattle.thy_cell.specs.declared.entries.PagePlace.TheVariants.{AtHome, AtAlternate}
+use Rattle.thy_cell.specs.declared.cell.Cell.{Cell}
+use Rattle.thy_cell.specs.Cells.{new_entry, no_page, is_framed, other, site_of, frame_at, penult, target, last, work}
+use Rattle.thy_cell.specs.Sound.{IsWithin, IsSoundPage, IsSoundCell, IsWhole, Holds, Puts}
+use Rattle.thy_cell.specs.Store.{KeepsPlaces, Reads}
+
+-- A seal, of an entry of the block table: by whether its page is framed, its work, whether few entries are free, and
+-- where the checkpoint before has the block
+abbrev pub sealed_by : Bool → Work → Bool → Version → BttEntry → BttEntry
+sealed_by true work few v1 e = record e { v1 = Out }
+sealed_by false InNvm few v1 e = record e { v1 = other v1; pend = Nothing; work = NoWork }
+sealed_by false InBuffer few v1 e = record e { v1 = other v1; pend = FromBuffer; work = NoWork }
+sealed_by false NoWork true Alternate e = record e { v1 = Out; pend = FromAlternate }
+sealed_by false NoWork true Out e = e
+sealed_by false NoWork false v1 e = e
+
+abbrev pub sealed_entry : Bool → Bool → BttEntry → BttEntry
+sealed_entry framed few e = sealed_by framed e.work few e.v1 e
+
+abbrev pub elsewhere : PagePlace → PagePlace
+elsewhere AtHome = AtAlternate
+elsewhere AtAlternate = AtHome
+
+-- of a framed page: with few stores, whether it was written since it was last, and where it stands
+abbrev pub page_sealed_by : Bool → Bool → PagePlace → PttEntry → Option PttEntry
+page_sealed_by true false AtHome page = None
+page_sealed_by true written AtAlternate page = Some (record page { target = AtHome; busy = true; leaving = true; dirty = false; fresh = false })
+page_sealed_by low true place page = Some (record page { target = elsewhere place; busy = true; dirty = false; fresh = false })
+page_sealed_by low false place page = Some (record page { target = place; dirty = false; fresh = false })
+
+abbrev pub sealed_page : Bool → PttEntry → Option PttEntry
+sealed_page low page = page_sealed_by low (page.dirty || page.fresh) page.place page
+
+-- a page's entry, or what stands for it where it was cleared
+abbrev pub page_or_none : ℕ → Option PttEntry → PttEntry
+page_or_none page None = no_page page
+page_or_none page (Some e) = e
+
+abbrev pub sealed_page_of : Bool → Bool → PttEntry → PttEntry
+sealed_page_of true low page = page_or_none page.page (sealed_page low page)
+sealed_page_of false low page = page
+
+-- a block after a seal
+abbrev pub sealed : Bool → Bool → Cell → Cell
+sealed few low c = record c {
+  entry = sealed_entry (is_framed c.page) few c.entry;
+  page = sealed_page_of (is_framed c.page) low c.page;
+}
+
+-- a page that is to be promoted
+abbrev pub listed : ℕ → PttEntry
+listed page = record (no_page page) { fresh = true }
+
+-- A commit. An entry that lists nothing any more and has no work is cleared
+abbrev pub committed_by : Version → Work → BttEntry → Option BttEntry
+committed_by Out NoWork e = None
+committed_by v1 work e = Some (record e { v0 = v1 })
+
+abbrev pub committed_entry : BttEntry → Option BttEntry
+committed_entry e = committed_by e.v1 e.work e
+
+abbrev pub page_committed_by : Bool → PttEntry → Option PttEntry
+page_committed_by true page = None
+page_committed_by false page = Some (record page { place = page.target; busy = false; issued = 0 })
+
+abbrev pub committed_page : PttEntry → Option PttEntry
+committed_page page = page_committed_by page.leaving page
+
+-- a block's entry, or what stands for it where it was cleared
+abbrev pub entry_or_new : ℕ → Option BttEntry → BttEntry
+entry_or_new b None = new_entry b
+entry_or_new b (Some e) = e
+
+-- a block after a commit
+abbrev pub committed : Cell → Cell
+committed c = record c {
+  entry = entry_or_new c.entry.block (committed_entry c.entry);
+  page = page_or_none c.page.page (committed_page c.page);
+}
+
+-- a block after its buffer was merged into its page's frame
+abbrev pub merged : Cell → Cell
+merged c = record c { entry = new_entry c.entry.block; page = record c.page { dirty = true } }
+
+-- a block after its page was stored to, one block more of it was copied into the frame, and one more was written out
+abbrev pub with_dirty : Cell → Cell
+with_dirty c = record c { page = record c.page { dirty = true } }
+
+abbrev pub with_filled : Cell → Cell
+with_filled c = record c { page = record c.page { filled = c.page.filled + 1 } }
+
+abbrev pub with_issued : Cell → Cell
+with_issued c = record c { page = record c.page { issued = c.page.issued + 1 } }
+
+-- a block after a seal or a commit, which write no place: what each version reads as then
+pub record Moves (reads : Place → Block) (c d : Cell) (penult_now last_now : Block) : Type 0 where
+  pub penult_is : reads (penult d) ≡ penult_now
+  pub last_is : reads (last d) ≡ last_now
+  pub work_same : reads (work d) ≡ reads (work c)
+  pub holds : Holds reads d
+
+-- nothing of the block lies over its page's frame
+pub record IsBare (c : Cell) : Type 0 where
+  pub no_overlay : is_framed c.page ≡ true → c.entry.work ≢ InBuffer
+
+-- nothing of the block is left to copy or to write
+pub record IsCopied (c : Cell) : Type 0 where
+  pub copied : c.entry.pend ≡ Nothing
+  pub written : c.page.busy ≡ true → c.page.issued ≡ 64
+
+-- A seal: what was the work is the last version now, and the committed one stays
+abbrev pub SealKeepsSound : Type 0
+SealKeepsSound =
+    (few low : Bool) (c : Cell) → IsSoundCell false c → IsWhole c.page → IsBare c → IsSoundCell true (sealed few low c)
+
+abbrev pub SealMoves : Type 0
+SealMoves =
+    (few low : Bool) (c : Cell) (reads : Place → Block) → IsSoundCell false c → IsWhole c.page → IsBare c → Holds reads c
+    → Moves reads c (sealed few low c) (reads (penult c)) (reads (work c))
+
+-- A commit: what was the last version is the committed one now
+abbrev pub CommitKeepsSound : Type 0
+CommitKeepsSound = (c : Cell) → IsSoundCell true c → IsCopied c → IsSoundCell false (committed c)
+
+abbrev pub CommitMoves : Type 0
+CommitMoves =
+    (c : Cell) (reads : Place → Block) → IsSoundCell true c → IsCopied c → Holds reads c
+    → Moves reads c (committed c) (reads (last c)) (reads (last c))

@@ -1,0 +1,77 @@
+-- What holds of a block in both tables at every moment, and what its places hold.
+use Rattle.std.specs.Prelude.{◌≡◌, ◌≢◌, ℕ, ◌%◌, ◌<◌, ◌≤◌, Bool, true, false}
+use Rattle.thy_base.specs.declared.block.Block.{Block}
+use Rattle.thy_base.specs.declared.config.Parameters.{Parameters}
+use Rattle.thy_base.specs.declared.place.Place.{Place}
+use Rattle.thy_base.specs.Geometry.{memory_blocks}
+use Rattle.thy_base.specs.Places.{IsPlace}
+use Rattle.thy_cell.specs.declared.entries.PttEntry.{PttEntry}
+use Rattle.thy_cell.specs.declared.entries.Version.TheVariants.{Out, Alternate}
+use Rattle.thy_cell.specs.declared.entries.Pending.TheVariants.{Nothing, FromBuffer}
+use Rattle.thy_cell.specs.declared.entries.Work.TheVariants.{NoWork, InNvm, InBuffer}
+use Rattle.thy_cell.specs.declared.entries.PagePlace.TheVariants.{AtHome, AtAlternate}
+use Rattle.thy_cell.specs.declared.cell.Cell.{Cell}
+use Rattle.thy_cell.specs.Cells.{Site, site_of, frame_at, is_framed, target, last, work}
+
+-- the entries and the block are there
+pub record IsWithin (p : Parameters) (x : Site) : Type 0 where
+  pub entry : x.i < p.btt
+  pub page : x.j < p.ptt
+  pub block : x.block < memory_blocks p
+
+-- what holds of a page's entry
+pub record IsSoundPage (under_way : Bool) (page : PttEntry) : Type 0 where
+  pub filled : page.filled ≤ 64
+  pub issued : page.issued ≤ 64
+  -- a page that is not framed stands at home in both checkpoints; it is empty, or being promoted
+  pub bare_place : is_framed page ≡ false → page.place ≡ AtHome
+  pub bare_idle : is_framed page ≡ false → page.busy ≡ false
+  pub bare_empty : is_framed page ≡ false → page.fresh ≡ false → page.filled ≡ 0
+  pub fresh_home : page.fresh ≡ true → page.place ≡ AtHome
+  -- a page moves between two checkpoints exactly where it is busy
+  pub busy_moves : page.busy ≡ true → page.place ≢ page.target
+  pub idle_stays : page.busy ≡ false → page.place ≡ page.target
+  pub idle_unissued : page.busy ≡ false → page.issued ≡ 0
+  pub busy_under_way : page.busy ≡ true → under_way ≡ true
+  pub busy_written : page.busy ≡ true → page.fresh ≡ false
+  pub leaving_busy : page.leaving ≡ true → page.busy ≡ true
+  pub leaving_home : page.leaving ≡ true → page.target ≡ AtHome
+
+-- what holds of a block in both tables
+pub record IsSoundCell (under_way : Bool) (c : Cell) : Type 0 where
+  pub of_page : IsSoundPage under_way c.page
+  -- in neither checkpoint a page listed in the page table has a block listed in the block table
+  pub apart0 : c.entry.v0 ≡ Alternate → c.page.place ≡ AtHome
+  pub apart1 : c.entry.v1 ≡ Alternate → c.page.target ≡ AtHome
+  -- both checkpoints are one where none is under way
+  pub one : under_way ≡ false → c.entry.v0 ≡ c.entry.v1
+  -- work in the NVM stands where no checkpoint has the block, and only without a frame
+  pub in_nvm_free : c.entry.work ≡ InNvm → c.entry.v0 ≡ c.entry.v1
+  pub in_nvm_bare : c.entry.work ≡ InNvm → is_framed c.page ≡ false
+  -- what has to be copied moves between the checkpoints, within a page that does not
+  pub pending_moves : c.entry.pend ≢ Nothing → c.entry.v0 ≢ c.entry.v1
+  pub pending_home : c.entry.pend ≢ Nothing → c.page.target ≡ AtHome
+  pub pending_idle : c.entry.pend ≢ Nothing → c.page.busy ≡ false
+  pub one_buffer : c.entry.pend ≡ FromBuffer → c.entry.work ≢ InBuffer
+  -- a page that was promoted since the seal takes every store, and one from before has no listed block
+  pub fresh_idle : c.page.fresh ≡ true → c.entry.work ≡ NoWork
+  pub framed_out : is_framed c.page ≡ true → c.page.fresh ≡ false → c.entry.v1 ≡ Out
+
+-- no promotion of the page is unfinished
+pub record IsWhole (page : PttEntry) : Type 0 where
+  pub framed : is_framed page ≡ false → page.fresh ≡ false
+
+-- what the places of a cell hold, by what a read of each gives
+pub record Holds (reads : Place → Block) (c : Cell) : Type 0 where
+  -- a frame that was not stored to holds the last version
+  pub clean : is_framed c.page ≡ true → c.page.dirty ≡ false → c.page.fresh ≡ false
+    → reads (frame_at (site_of c)) ≡ reads (last c)
+  -- in a promotion what was copied is the working version
+  pub copied : c.entry.block % 64 < c.page.filled → c.page.fresh ≡ true → reads (frame_at (site_of c)) ≡ reads (work c)
+  -- what was written of a busy page stands at its target
+  pub issued : c.entry.block % 64 < c.page.issued → reads (target c) ≡ reads (frame_at (site_of c))
+
+-- a place holds this block now, and every other place reads as before
+pub record Puts (p : Parameters) (place : Place) (block : Block) (old new : Place → Block) : Type 0 where
+  pub here : new place ≡ block
+  pub others : (x : Place) → IsPlace p x → x ≢ place → new x ≡ old x

@@ -1,0 +1,88 @@
+-- Laws of the steps between two checkpoints, for one block and for the other blocks of its page.
+use Rattle.std.specs.Prelude.{◌≡◌, ◌≢◌, ℕ, ◌+◌, ◌%◌, ◌<◌, Bool, true, false}
+use Rattle.thy_base.specs.declared.block.Block.{Block}
+use Rattle.thy_base.specs.declared.config.Parameters.{Parameters}
+use Rattle.thy_base.specs.declared.place.Place.{Place}
+use Rattle.thy_cell.specs.declared.entries.Work.TheVariants.{NoWork, InBuffer}
+use Rattle.thy_cell.specs.declared.cell.Cell.{Cell}
+use Rattle.thy_cell.specs.Cells.{new_entry, no_page, is_framed, site_of, frame_at, penult, target, last, work}
+use Rattle.thy_cell.specs.Sound.{IsWithin, IsSoundCell, IsWhole, Holds, Puts}
+use Rattle.thy_cell.specs.Store.{Reads}
+use Rattle.thy_cell.specs.Checkpoint.{listed, merged, with_dirty, with_filled, with_issued}
+
+-- a block after a step that put one block at a place: its entries are sound, its versions read as before, and its places
+-- hold what they have to
+pub record Keeps (under_way : Bool) (old new : Place → Block) (c d : Cell) : Type 0 where
+  pub sound : IsSoundCell under_way d
+  pub reads : Reads old new c d (old (work c))
+  pub holds : Holds old c → Holds new d
+
+-- a block that no table lists is sound, and so is one whose page was just listed
+pub record NewIsSound (i j block page : ℕ) (under_way : Bool) : Type 0 where
+  pub bare : IsSoundCell under_way (record { i = i; entry = new_entry block; j = j; page = no_page page })
+  pub listed : IsSoundCell under_way (record { i = i; entry = new_entry block; j = j; page = listed page })
+
+abbrev pub NewCellsAreSound : Type 0
+NewCellsAreSound = (i j block page : ℕ) (under_way : Bool) → NewIsSound i j block page under_way
+
+-- the merge of a buffer into the frame
+abbrev pub MergeKeeps : Type 0
+MergeKeeps =
+    (p : Parameters) (c : Cell) (old new : Place → Block)
+    → IsWithin p (site_of c) → IsSoundCell false c → is_framed c.page ≡ true → c.entry.work ≡ InBuffer
+    → Puts p (frame_at (site_of c)) (old (work c)) old new
+    → Keeps false old new c (merged c)
+
+-- a store or a merge into the frame of another block of the page
+abbrev pub DirtyKeeps : Type 0
+DirtyKeeps =
+    (under_way : Bool) (c : Cell) → IsSoundCell under_way c → IsSoundCell under_way (with_dirty c)
+
+-- the copy of a promoted page's next block into its frame, for that block
+abbrev pub PromotionKeeps : Type 0
+PromotionKeeps =
+    (p : Parameters) (under_way : Bool) (c : Cell) (old new : Place → Block)
+    → IsWithin p (site_of c) → IsSoundCell under_way c → c.page.fresh ≡ true
+    → c.page.filled ≡ c.entry.block % 64 → c.page.filled < 64
+    → Puts p (frame_at (site_of c)) (old (work c)) old new
+    → Keeps under_way old new c (with_filled c)
+
+-- and for the others of its page, whose places the write leaves
+pub record ReadsSame (old new : Place → Block) (c : Cell) : Type 0 where
+  pub penult_same : new (penult c) ≡ old (penult c)
+  pub target_same : new (target c) ≡ old (target c)
+  pub last_same : new (last c) ≡ old (last c)
+  pub work_same : new (work c) ≡ old (work c)
+  pub frame_same : new (frame_at (site_of c)) ≡ old (frame_at (site_of c))
+
+abbrev pub PromotionKeepsOthers : Type 0
+PromotionKeepsOthers =
+    (under_way : Bool) (c : Cell) (old new : Place → Block)
+    → IsSoundCell under_way c → c.page.fresh ≡ true
+    → c.page.filled ≢ c.entry.block % 64 → c.page.filled < 64 → c.entry.block % 64 < 64
+    → ReadsSame old new c → Holds old c
+    → Keeps under_way old new c (with_filled c)
+
+-- the write of a busy page's next block to its target, for that block
+abbrev pub PageWriteKeeps : Type 0
+PageWriteKeeps =
+    (p : Parameters) (c : Cell) (old new : Place → Block)
+    → IsWithin p (site_of c) → IsSoundCell true c → c.page.busy ≡ true
+    → c.page.issued ≡ c.entry.block % 64 → c.page.issued < 64
+    → Puts p (target c) (old (frame_at (site_of c))) old new
+    → Keeps true old new c (with_issued c)
+
+-- and for the others
+abbrev pub PageWriteKeepsOthers : Type 0
+PageWriteKeepsOthers =
+    (c : Cell) (old new : Place → Block)
+    → IsSoundCell true c → c.page.busy ≡ true
+    → c.page.issued ≢ c.entry.block % 64 → c.page.issued < 64
+    → ReadsSame old new c
+    → Keeps true old new c (with_issued c)
+
+-- a step that moves neither the entries of a block nor its places keeps it
+abbrev pub OthersKeep : Type 0
+OthersKeep =
+    (under_way : Bool) (c : Cell) (old new : Place → Block)
+    → IsSoundCell under_way c → ReadsSame old new c → Keeps under_way old new c c

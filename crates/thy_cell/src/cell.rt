@@ -1,0 +1,165 @@
+//! A block as both tables have it.
+ghost use Rattle.std.specs.Prelude.{◌≡◌};
+ghost use Rattle.thy_cell.specs.Cells.{is_framed as framed, agree as same_version, placed, frame_at, buffer_at, alternate_at, other as another, penult, target, last, work};
+ghost use Rattle.thy_cell.specs.Rules.{store_rule, store_place};
+
+use crate::{BttEntry, PagePlace, Pending, PttEntry, Version, Work};
+use thy_base::Place;
+
+/// A block of memory as both tables have it. A block or a page without an entry has one that is as a new
+/// one would be.
+#[derive(Clone, Copy, Debug, PartialEq, Eq)]
+pub struct Cell {
+    /// The number of the block's entry, or of the one that it would get.
+    pub i: usize,
+    pub entry: BttEntry,
+    /// The number of the entry of the block's page.
+    pub j: usize,
+    pub page: PttEntry,
+}
+
+/// Where a block is stored.
+#[derive(Clone, Copy, Debug, PartialEq, Eq)]
+pub enum StoreRule {
+    ToFrame,
+    ToBuffer,
+    /// To that of the block's two places in the NVM that no checkpoint has.
+    ToNvm,
+    /// The buffer has still to be copied, and that goes first.
+    PendingFirst,
+}
+
+fn is_framed(page: &PttEntry) -> bool
+    ensures { result ≡ framed page.now }
+{
+    page.filled == 64
+}
+
+fn agree(v: Version, w: Version) -> bool
+    ensures { result ≡ same_version v w }
+{
+    match (v, w) {
+        (Version::Out, Version::Out) | (Version::Alternate, Version::Alternate) => true,
+        _ => false,
+    }
+}
+
+impl Cell {
+    ghost use Rattle.thy_cell.specs.Cells.{site_of};
+
+    fn frame(&self) -> Place
+        ensures { result ≡ frame_at (site_of self.now) }
+    {
+        Place::Frame {
+            entry: self.j,
+            block: self.entry.block % 64,
+        }
+    }
+
+    fn buffer(&self) -> Place
+        ensures { result ≡ buffer_at (site_of self.now) }
+    {
+        Place::Buffer { entry: self.i }
+    }
+
+    fn alternate(&self) -> Place
+        ensures { result ≡ alternate_at (site_of self.now) }
+    {
+        Place::AlternateBlock { entry: self.i }
+    }
+
+    /// Where the block stands by what a checkpoint says of it and of its page.
+    fn placed(&self, version: Version, page: PagePlace) -> Place
+        ensures { result ≡ placed version page (site_of self.now) }
+    {
+        match (version, page) {
+            (Version::Alternate, _) => self.alternate(),
+            (Version::Out, PagePlace::AtAlternate) => Place::AlternatePage {
+                entry: self.j,
+                block: self.entry.block % 64,
+            },
+            (Version::Out, PagePlace::AtHome) => Place::Home {
+                block: self.entry.block,
+            },
+        }
+    }
+
+    /// Where the committed checkpoint has the block.
+    pub fn penult(&self) -> Place
+        ensures { result ≡ penult self.now }
+    {
+        self.placed(self.entry.v0, self.page.place)
+    }
+
+    /// Where the checkpoint under way is to have it; the committed one's place where none is.
+    pub fn target(&self) -> Place
+        ensures { result ≡ target self.now }
+    {
+        self.placed(self.entry.v1, self.page.target)
+    }
+
+    /// Where the version of the checkpoint under way stands.
+    pub fn last(&self) -> Place
+        ensures { result ≡ last self.now }
+    {
+        if self.page.busy {
+            return self.frame();
+        }
+        match self.entry.pend {
+            Pending::Nothing => self.target(),
+            Pending::FromBuffer => self.buffer(),
+            Pending::FromAlternate => self.alternate(),
+        }
+    }
+
+    /// Where the block stands in the NVM when it is in neither checkpoint's place.
+    fn spare(&self) -> Place
+        ensures { result ≡ placed (another self.now.entry.v0) PagePlace.AtHome (site_of self.now) }
+    {
+        match self.entry.v0 {
+            Version::Out => self.placed(Version::Alternate, PagePlace::AtHome),
+            Version::Alternate => self.placed(Version::Out, PagePlace::AtHome),
+        }
+    }
+
+    /// Where the working version stands: what a load gives.
+    pub fn work(&self) -> Place
+        ensures { result ≡ work self.now }
+    {
+        match self.entry.work {
+            Work::InNvm => self.spare(),
+            Work::InBuffer => self.buffer(),
+            Work::NoWork if is_framed(&self.page) => self.frame(),
+            Work::NoWork => self.last(),
+        }
+    }
+
+    /// Where the block is to be stored.
+    pub fn store_rule(&self) -> StoreRule
+        ensures { result ≡ store_rule self.now }
+    {
+        let framed = is_framed(&self.page);
+        if framed && !self.page.busy && matches!(self.entry.work, Work::NoWork) {
+            return StoreRule::ToFrame;
+        }
+        if !framed && !matches!(self.entry.work, Work::InBuffer) && agree(self.entry.v0, self.entry.v1) {
+            return StoreRule::ToNvm;
+        }
+        match self.entry.pend {
+            Pending::FromBuffer => StoreRule::PendingFirst,
+            _ => StoreRule::ToBuffer,
+        }
+    }
+
+    /// The place that a rule's write goes to.
+    pub fn store_place(&self, rule: StoreRule) -> Place
+        ensures { result ≡ store_place rule self.now }
+    {
+        match rule {
+            StoreRule::ToFrame => self.frame(),
+            StoreRule::ToBuffer => self.buffer(),
+            StoreRule::ToNvm => self.spare(),
+            StoreRule::PendingFirst => self.target(),
+        }
+    }
+}

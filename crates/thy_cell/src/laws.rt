@@ -1,0 +1,89 @@
+//! Laws of the rules, each the contract of a function that does nothing.
+ghost use Rattle.thy_cell.specs.Store.{StoreKeepsSound, StoreGoesElsewhere, StoreKeepsPlaces, StoreReads, StoreHolds};
+ghost use Rattle.thy_cell.specs.Checkpoint.{SealKeepsSound, SealMoves, CommitKeepsSound, CommitMoves};
+ghost use Rattle.thy_cell.specs.Steps.{NewCellsAreSound, MergeKeeps, DirtyKeeps, PromotionKeeps, PromotionKeepsOthers, PageWriteKeeps, PageWriteKeepsOthers, OthersKeep};
+
+/// A store leaves the entries of its block sound.
+pub fn a_store_keeps_entries_sound()
+    ensures { StoreKeepsSound }
+{}
+
+/// A store, and the copy that may go first, write no place of either checkpoint.
+pub fn a_store_goes_elsewhere()
+    ensures { StoreGoesElsewhere }
+{}
+
+/// A store moves no place of a checkpoint.
+pub fn a_store_keeps_places()
+    ensures { StoreKeepsPlaces }
+{}
+
+/// After a store both checkpoints read as before, and a load gives what was stored.
+pub fn a_store_is_read()
+    ensures { StoreReads }
+{}
+
+/// After a store the places hold what they have to.
+pub fn a_store_leaves_what_has_to_stand()
+    ensures { StoreHolds }
+{}
+
+/// A block that no table lists is sound, and so is one whose page was just listed.
+pub fn new_cells_are_sound()
+    ensures { NewCellsAreSound }
+{}
+
+/// A seal leaves the entries of a block sound.
+pub fn a_seal_keeps_entries_sound()
+    ensures { SealKeepsSound }
+{}
+
+/// A seal makes the working version that of the checkpoint under way, and keeps the committed one.
+pub fn a_seal_takes_the_work()
+    ensures { SealMoves }
+{}
+
+/// A commit leaves the entries of a block sound.
+pub fn a_commit_keeps_entries_sound()
+    ensures { CommitKeepsSound }
+{}
+
+/// A commit makes the checkpoint under way the committed one, and keeps the working version.
+pub fn a_commit_takes_the_last()
+    ensures { CommitMoves }
+{}
+
+/// A merge keeps every version of its block.
+pub fn a_merge_keeps_versions()
+    ensures { MergeKeeps }
+{}
+
+/// A write into a page's frame leaves the entries of its other blocks sound.
+pub fn a_dirty_page_is_sound()
+    ensures { DirtyKeeps }
+{}
+
+/// A promotion keeps every version of the block that it copies.
+pub fn a_promotion_keeps_versions()
+    ensures { PromotionKeeps }
+{}
+
+/// And those of the other blocks of the page.
+pub fn a_promotion_keeps_others()
+    ensures { PromotionKeepsOthers }
+{}
+
+/// The write of a page's block keeps every version of it.
+pub fn a_page_write_keeps_versions()
+    ensures { PageWriteKeeps }
+{}
+
+/// And those of the other blocks of the page.
+pub fn a_page_write_keeps_others()
+    ensures { PageWriteKeepsOthers }
+{}
+
+/// A block whose entries and places a step leaves keeps every version.
+pub fn others_keep_versions()
+    ensures { OthersKeep }
+{}
