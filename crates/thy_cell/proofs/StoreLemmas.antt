@@ -1,40 +1,41 @@
 -- What is known where a rule of a store applies, and that it leaves the entries sound.
-use Rattle.std.proofs.Common.{◌≡◌, ◌≢◌, Bool, true, false, refl, sym, ◌∙◌, ap, subst}
-use Rattle.thy_cell.specs.declared.entries.PttEntry.{PttEntry}
-use Rattle.thy_cell.specs.declared.entries.Version.{Version}
-use Rattle.thy_cell.specs.declared.entries.Version.TheVariants.{Out, Alternate}
-use Rattle.thy_cell.specs.declared.entries.Pending.{Pending}
-use Rattle.thy_cell.specs.declared.entries.Pending.TheVariants.{Nothing, FromBuffer, FromAlternate}
-use Rattle.thy_cell.specs.declared.entries.Work.{Work}
-use Rattle.thy_cell.specs.declared.entries.Work.TheVariants.{NoWork, InNvm, InBuffer}
+use Rattle.std.proofs.Common.{◌≡◌, ◌≢◌, Bool, true, false, refl}
+use Rattle.thy_tables.specs.declared.page_entry.PttEntry.{PttEntry}
+use Rattle.thy_tables.specs.declared.block_entry.Version.{Version}
+use Rattle.thy_tables.specs.declared.block_entry.Version.TheVariants.{Out, Alt}
+use Rattle.thy_tables.specs.declared.block_entry.Pending.{Pending}
+use Rattle.thy_tables.specs.declared.block_entry.Pending.TheVariants.{Settled, FromBuffer, FromAlternate}
+use Rattle.thy_tables.specs.declared.block_entry.Working.{Working}
+use Rattle.thy_tables.specs.declared.block_entry.Working.TheVariants.{NoWork, InNvm, InBuffer}
 use Rattle.thy_cell.specs.declared.cell.Cell.{Cell}
 use Rattle.thy_cell.specs.declared.cell.StoreRule.{StoreRule}
 use Rattle.thy_cell.specs.declared.cell.StoreRule.TheVariants.{ToFrame, ToBuffer, ToNvm, PendingFirst}
-use Rattle.thy_cell.specs.Cells.{is_framed, agree}
+use Rattle.thy_tables.specs.PageEntry.{is_framed}
+use Rattle.thy_cell.specs.Cells.{agree}
 use Rattle.thy_cell.specs.Sound.{IsSoundPage, IsSoundCell, IsWhole}
 use Rattle.thy_cell.specs.Rules.{into_buffer, rule_of, store_rule, after_store}
 
 -- two versions agree exactly where they are one
 agree_same : (v w : Version) → agree v w ≡ true → v ≡ w
 agree_same Out Out e = refl
-agree_same Alternate Alternate e = refl
-agree_same Out Alternate e = cc
-agree_same Alternate Out e = cc
+agree_same Alt Alt e = refl
+agree_same Out Alt e = cc
+agree_same Alt Out e = cc
 
 -- what is known where a rule applies
-abbrev Facts : StoreRule → Bool → Bool → Work → Bool → Pending → Type 0
+abbrev Facts : StoreRule → Bool → Bool → Working → Bool → Pending → Type 0
 Facts ToFrame framed busy w agrees pend = (framed ≡ true) × (busy ≡ false) × (w ≡ NoWork)
 Facts ToBuffer framed busy w agrees pend = (pend ≢ FromBuffer) × (framed ≡ true → busy ≡ false → w ≢ NoWork)
 Facts ToNvm framed busy w agrees pend = (framed ≡ false) × (agrees ≡ true) × (w ≢ InBuffer)
 Facts PendingFirst framed busy w agrees pend = pend ≡ FromBuffer
 
-facts_of_buffer : (framed busy : Bool) (w : Work) (agrees : Bool) (pend : Pending) → (framed ≡ true → busy ≡ false → w ≢ NoWork)
+facts_of_buffer : (framed busy : Bool) (w : Working) (agrees : Bool) (pend : Pending) → (framed ≡ true → busy ≡ false → w ≢ NoWork)
     → Facts (into_buffer pend) framed busy w agrees pend
-facts_of_buffer framed busy w agrees Nothing n = (λ e. cc, n)
+facts_of_buffer framed busy w agrees Settled n = (λ e. cc, n)
 facts_of_buffer framed busy w agrees FromAlternate n = (λ e. cc, n)
 facts_of_buffer framed busy w agrees FromBuffer n = refl
 
-facts_of : (framed busy : Bool) (w : Work) (agrees : Bool) (pend : Pending) → Facts (rule_of framed busy w agrees pend) framed busy w agrees pend
+facts_of : (framed busy : Bool) (w : Working) (agrees : Bool) (pend : Pending) → Facts (rule_of framed busy w agrees pend) framed busy w agrees pend
 facts_of true false NoWork agrees pend = (refl, refl, refl)
 facts_of true false InNvm agrees pend = facts_of_buffer true false InNvm agrees pend (λ a b e. cc)
 facts_of true false InBuffer agrees pend = facts_of_buffer true false InBuffer agrees pend (λ a b e. cc)
@@ -79,7 +80,7 @@ IsSoundCell-dirty u d c s = record {
   framed_out = s.framed_out;
 }
 
-sound-work : (u : Bool) (c : Cell) (w : Work) → IsSoundCell u c
+sound-work : (u : Bool) (c : Cell) (w : Working) → IsSoundCell u c
     → (w ≡ InNvm → c.entry.v0 ≡ c.entry.v1) → (w ≡ InNvm → is_framed c.page ≡ false)
     → (c.entry.pend ≡ FromBuffer → w ≢ InBuffer) → (c.page.fresh ≡ true → w ≡ NoWork)
     → IsSoundCell u (record c { entry = record c.entry { work = w } })

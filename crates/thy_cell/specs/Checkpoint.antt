@@ -1,45 +1,40 @@
 -- What a seal, a commit, a merge, a promotion and the write of a page make of a block's entries, and their laws.
-use Rattle.std.specs.Prelude.{◌≡◌, ◌≢◌, ℕ, ◌+◌, ◌%◌, ◌<◌, Bool, true, false, ◌||◌, Option, Some, None}
-use Rattle.std.specs.Option.{unwrap_or}
+use Rattle.std.specs.Prelude.{◌≡◌, ◌≢◌, ℕ, ◌+◌, Bool, true, false, ◌||◌, Option, Some, None}
 use Rattle.thy_base.specs.declared.block.Block.{Block}
-use Rattle.thy_base.specs.declared.config.Parameters.{Parameters}
 use Rattle.thy_base.specs.declared.place.Place.{Place}
-use Rattle.thy_cell.specs.declared.entries.BttEntry.{BttEntry}
-use Rattle.thy_cell.specs.declared.entries.PttEntry.{PttEntry}
-use Rattle.thy_cell.specs.declared.entries.Version.{Version}
-use Rattle.thy_cell.specs.declared.entries.Version.TheVariants.{Out, Alternate}
-use Rattle.thy_cell.specs.declared.entries.Pending.TheVariants.{Nothing, FromBuffer, FromAlternate}
-use Rattle.thy_cell.specs.declared.entries.Work.{Work}
-use Rattle.thy_cell.specs.declared.entries.Work.TheVariants.{NoWork, InNvm, InBuffer}
-use Rattle.thy_cell.specs.declared.entries.PagePlace.{PagePlace}
-use Rattle.thy_cell.specs.declared.entries.PagePlace.TheVariants.{AtHome, AtAlternate}
+use Rattle.thy_tables.specs.declared.block_entry.BttEntry.{BttEntry}
+use Rattle.thy_tables.specs.declared.page_entry.PttEntry.{PttEntry}
+use Rattle.thy_tables.specs.declared.block_entry.Version.{Version}
+use Rattle.thy_tables.specs.declared.block_entry.Version.TheVariants.{Out, Alt}
+use Rattle.thy_tables.specs.declared.block_entry.Pending.TheVariants.{Settled, FromBuffer, FromAlternate}
+use Rattle.thy_tables.specs.declared.block_entry.Working.{Working}
+use Rattle.thy_tables.specs.declared.block_entry.Working.TheVariants.{NoWork, InNvm, InBuffer}
+use Rattle.thy_tables.specs.declared.page_entry.Site.{Site}
+use Rattle.thy_tables.specs.declared.page_entry.Site.TheVariants.{AtHome, AtAlternate}
 use Rattle.thy_cell.specs.declared.cell.Cell.{Cell}
-use Rattle.thy_cell.specs.Cells.{new_entry, no_page, is_framed, other, site_of, frame_at, penult, target, last, work}
-use Rattle.thy_cell.specs.Sound.{IsWithin, IsSoundPage, IsSoundCell, IsWhole, Holds, Puts}
-use Rattle.thy_cell.specs.Store.{KeepsPlaces, Reads}
+use Rattle.thy_tables.specs.BlockEntry.{new_entry, other_version}
+use Rattle.thy_tables.specs.PageEntry.{other_site, no_page, is_framed}
+use Rattle.thy_cell.specs.Cells.{penult, last, work}
+use Rattle.thy_cell.specs.Sound.{IsSoundCell, IsWhole, Holds}
 
 -- A seal, of an entry of the block table: by whether its page is framed, its work, whether few entries are free, and
 -- where the checkpoint before has the block
-abbrev pub sealed_by : Bool → Work → Bool → Version → BttEntry → BttEntry
+abbrev pub sealed_by : Bool → Working → Bool → Version → BttEntry → BttEntry
 sealed_by true work few v1 e = record e { v1 = Out }
-sealed_by false InNvm few v1 e = record e { v1 = other v1; pend = Nothing; work = NoWork }
-sealed_by false InBuffer few v1 e = record e { v1 = other v1; pend = FromBuffer; work = NoWork }
-sealed_by false NoWork true Alternate e = record e { v1 = Out; pend = FromAlternate }
+sealed_by false InNvm few v1 e = record e { v1 = other_version v1; pend = Settled; work = NoWork }
+sealed_by false InBuffer few v1 e = record e { v1 = other_version v1; pend = FromBuffer; work = NoWork }
+sealed_by false NoWork true Alt e = record e { v1 = Out; pend = FromAlternate }
 sealed_by false NoWork true Out e = e
 sealed_by false NoWork false v1 e = e
 
 abbrev pub sealed_entry : Bool → Bool → BttEntry → BttEntry
 sealed_entry framed few e = sealed_by framed e.work few e.v1 e
 
-abbrev pub elsewhere : PagePlace → PagePlace
-elsewhere AtHome = AtAlternate
-elsewhere AtAlternate = AtHome
-
 -- of a framed page: with few stores, whether it was written since it was last, and where it stands
-abbrev pub page_sealed_by : Bool → Bool → PagePlace → PttEntry → Option PttEntry
+abbrev pub page_sealed_by : Bool → Bool → Site → PttEntry → Option PttEntry
 page_sealed_by true false AtHome page = None
 page_sealed_by true written AtAlternate page = Some (record page { target = AtHome; busy = true; leaving = true; dirty = false; fresh = false })
-page_sealed_by low true place page = Some (record page { target = elsewhere place; busy = true; dirty = false; fresh = false })
+page_sealed_by low true place page = Some (record page { target = other_site place; busy = true; dirty = false; fresh = false })
 page_sealed_by low false place page = Some (record page { target = place; dirty = false; fresh = false })
 
 abbrev pub sealed_page : Bool → PttEntry → Option PttEntry
@@ -61,12 +56,8 @@ sealed few low c = record c {
   page = sealed_page_of (is_framed c.page) low c.page;
 }
 
--- a page that is to be promoted
-abbrev pub listed : ℕ → PttEntry
-listed page = record (no_page page) { fresh = true }
-
 -- A commit. An entry that lists nothing any more and has no work is cleared
-abbrev pub committed_by : Version → Work → BttEntry → Option BttEntry
+abbrev pub committed_by : Version → Working → BttEntry → Option BttEntry
 committed_by Out NoWork e = None
 committed_by v1 work e = Some (record e { v0 = v1 })
 
@@ -119,7 +110,7 @@ pub record IsBare (c : Cell) : Type 0 where
 
 -- nothing of the block is left to copy or to write
 pub record IsCopied (c : Cell) : Type 0 where
-  pub copied : c.entry.pend ≡ Nothing
+  pub copied : c.entry.pend ≡ Settled
   pub written : c.page.busy ≡ true → c.page.issued ≡ 64
 
 -- A seal: what was the work is the last version now, and the committed one stays

@@ -1,20 +1,21 @@
 -- What holds of a block in both tables at every moment, and what its places hold.
-use Rattle.std.specs.Prelude.{◌≡◌, ◌≢◌, ℕ, ◌%◌, ◌<◌, ◌≤◌, Bool, true, false}
+use Rattle.std.specs.Prelude.{◌≡◌, ◌≢◌, ◌%◌, ◌<◌, ◌≤◌, Bool, true, false}
 use Rattle.thy_base.specs.declared.block.Block.{Block}
 use Rattle.thy_base.specs.declared.config.Parameters.{Parameters}
 use Rattle.thy_base.specs.declared.place.Place.{Place}
 use Rattle.thy_base.specs.Geometry.{memory_blocks}
 use Rattle.thy_base.specs.Places.{IsPlace}
-use Rattle.thy_cell.specs.declared.entries.PttEntry.{PttEntry}
-use Rattle.thy_cell.specs.declared.entries.Version.TheVariants.{Out, Alternate}
-use Rattle.thy_cell.specs.declared.entries.Pending.TheVariants.{Nothing, FromBuffer}
-use Rattle.thy_cell.specs.declared.entries.Work.TheVariants.{NoWork, InNvm, InBuffer}
-use Rattle.thy_cell.specs.declared.entries.PagePlace.TheVariants.{AtHome, AtAlternate}
+use Rattle.thy_tables.specs.declared.page_entry.PttEntry.{PttEntry}
+use Rattle.thy_tables.specs.declared.block_entry.Version.TheVariants.{Out, Alt}
+use Rattle.thy_tables.specs.declared.block_entry.Pending.TheVariants.{Settled, FromBuffer}
+use Rattle.thy_tables.specs.declared.block_entry.Working.TheVariants.{NoWork, InNvm, InBuffer}
+use Rattle.thy_tables.specs.declared.page_entry.Site.TheVariants.{AtHome}
 use Rattle.thy_cell.specs.declared.cell.Cell.{Cell}
-use Rattle.thy_cell.specs.Cells.{Site, site_of, frame_at, is_framed, target, last, work}
+use Rattle.thy_tables.specs.PageEntry.{is_framed}
+use Rattle.thy_cell.specs.Cells.{Seat, seat_of, frame_at, target, last, work}
 
 -- the entries and the block are there
-pub record IsWithin (p : Parameters) (x : Site) : Type 0 where
+pub record IsWithin (p : Parameters) (x : Seat) : Type 0 where
   pub entry : x.i < p.btt
   pub page : x.j < p.ptt
   pub block : x.block < memory_blocks p
@@ -41,17 +42,17 @@ pub record IsSoundPage (under_way : Bool) (page : PttEntry) : Type 0 where
 pub record IsSoundCell (under_way : Bool) (c : Cell) : Type 0 where
   pub of_page : IsSoundPage under_way c.page
   -- in neither checkpoint a page listed in the page table has a block listed in the block table
-  pub apart0 : c.entry.v0 ≡ Alternate → c.page.place ≡ AtHome
-  pub apart1 : c.entry.v1 ≡ Alternate → c.page.target ≡ AtHome
+  pub apart0 : c.entry.v0 ≡ Alt → c.page.place ≡ AtHome
+  pub apart1 : c.entry.v1 ≡ Alt → c.page.target ≡ AtHome
   -- both checkpoints are one where none is under way
   pub one : under_way ≡ false → c.entry.v0 ≡ c.entry.v1
   -- work in the NVM stands where no checkpoint has the block, and only without a frame
   pub in_nvm_free : c.entry.work ≡ InNvm → c.entry.v0 ≡ c.entry.v1
   pub in_nvm_bare : c.entry.work ≡ InNvm → is_framed c.page ≡ false
   -- what has to be copied moves between the checkpoints, within a page that does not
-  pub pending_moves : c.entry.pend ≢ Nothing → c.entry.v0 ≢ c.entry.v1
-  pub pending_home : c.entry.pend ≢ Nothing → c.page.target ≡ AtHome
-  pub pending_idle : c.entry.pend ≢ Nothing → c.page.busy ≡ false
+  pub pending_moves : c.entry.pend ≢ Settled → c.entry.v0 ≢ c.entry.v1
+  pub pending_home : c.entry.pend ≢ Settled → c.page.target ≡ AtHome
+  pub pending_idle : c.entry.pend ≢ Settled → c.page.busy ≡ false
   pub one_buffer : c.entry.pend ≡ FromBuffer → c.entry.work ≢ InBuffer
   -- a page that was promoted since the seal takes every store, and one from before has no listed block
   pub fresh_idle : c.page.fresh ≡ true → c.entry.work ≡ NoWork
@@ -65,11 +66,11 @@ pub record IsWhole (page : PttEntry) : Type 0 where
 pub record Holds (reads : Place → Block) (c : Cell) : Type 0 where
   -- a frame that was not stored to holds the last version
   pub clean : is_framed c.page ≡ true → c.page.dirty ≡ false → c.page.fresh ≡ false
-    → reads (frame_at (site_of c)) ≡ reads (last c)
+      → reads (frame_at (seat_of c)) ≡ reads (last c)
   -- in a promotion what was copied is the working version
-  pub copied : c.entry.block % 64 < c.page.filled → c.page.fresh ≡ true → reads (frame_at (site_of c)) ≡ reads (work c)
+  pub copied : c.entry.block % 64 < c.page.filled → c.page.fresh ≡ true → reads (frame_at (seat_of c)) ≡ reads (work c)
   -- what was written of a busy page stands at its target
-  pub issued : c.entry.block % 64 < c.page.issued → reads (target c) ≡ reads (frame_at (site_of c))
+  pub issued : c.entry.block % 64 < c.page.issued → reads (target c) ≡ reads (frame_at (seat_of c))
 
 -- a place holds this block now, and every other place reads as before
 pub record Puts (p : Parameters) (place : Place) (block : Block) (old new : Place → Block) : Type 0 where

@@ -1,14 +1,16 @@
 -- Laws of the steps between two checkpoints, for one block and for the other blocks of its page.
-use Rattle.std.specs.Prelude.{◌≡◌, ◌≢◌, ℕ, ◌+◌, ◌%◌, ◌<◌, Bool, true, false}
+use Rattle.std.specs.Prelude.{◌≡◌, ◌≢◌, ℕ, ◌%◌, ◌<◌, Bool, true, false}
 use Rattle.thy_base.specs.declared.block.Block.{Block}
 use Rattle.thy_base.specs.declared.config.Parameters.{Parameters}
 use Rattle.thy_base.specs.declared.place.Place.{Place}
-use Rattle.thy_cell.specs.declared.entries.Work.TheVariants.{NoWork, InBuffer}
+use Rattle.thy_tables.specs.declared.block_entry.Working.TheVariants.{InBuffer}
 use Rattle.thy_cell.specs.declared.cell.Cell.{Cell}
-use Rattle.thy_cell.specs.Cells.{new_entry, no_page, is_framed, site_of, frame_at, penult, target, last, work}
-use Rattle.thy_cell.specs.Sound.{IsWithin, IsSoundCell, IsWhole, Holds, Puts}
+use Rattle.thy_tables.specs.BlockEntry.{new_entry}
+use Rattle.thy_tables.specs.PageEntry.{promoted_page, no_page, is_framed}
+use Rattle.thy_cell.specs.Cells.{seat_of, frame_at, penult, target, last, work}
+use Rattle.thy_cell.specs.Sound.{IsWithin, IsSoundCell, Holds, Puts}
 use Rattle.thy_cell.specs.Store.{Reads}
-use Rattle.thy_cell.specs.Checkpoint.{listed, merged, with_dirty, with_filled, with_issued}
+use Rattle.thy_cell.specs.Checkpoint.{merged, with_dirty, with_filled, with_issued}
 
 -- a block after a step that put one block at a place: its entries are sound, its versions read as before, and its places
 -- hold what they have to
@@ -20,7 +22,7 @@ pub record Keeps (under_way : Bool) (old new : Place → Block) (c d : Cell) : T
 -- a block that no table lists is sound, and so is one whose page was just listed
 pub record NewIsSound (i j block page : ℕ) (under_way : Bool) : Type 0 where
   pub bare : IsSoundCell under_way (record { i = i; entry = new_entry block; j = j; page = no_page page })
-  pub listed : IsSoundCell under_way (record { i = i; entry = new_entry block; j = j; page = listed page })
+  pub promoted : IsSoundCell under_way (record { i = i; entry = new_entry block; j = j; page = promoted_page page })
 
 abbrev pub NewCellsAreSound : Type 0
 NewCellsAreSound = (i j block page : ℕ) (under_way : Bool) → NewIsSound i j block page under_way
@@ -29,8 +31,8 @@ NewCellsAreSound = (i j block page : ℕ) (under_way : Bool) → NewIsSound i j 
 abbrev pub MergeKeeps : Type 0
 MergeKeeps =
     (p : Parameters) (c : Cell) (old new : Place → Block)
-    → IsWithin p (site_of c) → IsSoundCell false c → is_framed c.page ≡ true → c.entry.work ≡ InBuffer
-    → Puts p (frame_at (site_of c)) (old (work c)) old new
+    → IsWithin p (seat_of c) → IsSoundCell false c → is_framed c.page ≡ true → c.entry.work ≡ InBuffer
+    → Puts p (frame_at (seat_of c)) (old (work c)) old new
     → Keeps false old new c (merged c)
 
 -- a store or a merge into the frame of another block of the page
@@ -42,9 +44,9 @@ DirtyKeeps =
 abbrev pub PromotionKeeps : Type 0
 PromotionKeeps =
     (p : Parameters) (under_way : Bool) (c : Cell) (old new : Place → Block)
-    → IsWithin p (site_of c) → IsSoundCell under_way c → c.page.fresh ≡ true
+    → IsWithin p (seat_of c) → IsSoundCell under_way c → c.page.fresh ≡ true
     → c.page.filled ≡ c.entry.block % 64 → c.page.filled < 64
-    → Puts p (frame_at (site_of c)) (old (work c)) old new
+    → Puts p (frame_at (seat_of c)) (old (work c)) old new
     → Keeps under_way old new c (with_filled c)
 
 -- and for the others of its page, whose places the write leaves
@@ -53,7 +55,7 @@ pub record ReadsSame (old new : Place → Block) (c : Cell) : Type 0 where
   pub target_same : new (target c) ≡ old (target c)
   pub last_same : new (last c) ≡ old (last c)
   pub work_same : new (work c) ≡ old (work c)
-  pub frame_same : new (frame_at (site_of c)) ≡ old (frame_at (site_of c))
+  pub frame_same : new (frame_at (seat_of c)) ≡ old (frame_at (seat_of c))
 
 abbrev pub PromotionKeepsOthers : Type 0
 PromotionKeepsOthers =
@@ -67,9 +69,9 @@ PromotionKeepsOthers =
 abbrev pub PageWriteKeeps : Type 0
 PageWriteKeeps =
     (p : Parameters) (c : Cell) (old new : Place → Block)
-    → IsWithin p (site_of c) → IsSoundCell true c → c.page.busy ≡ true
+    → IsWithin p (seat_of c) → IsSoundCell true c → c.page.busy ≡ true
     → c.page.issued ≡ c.entry.block % 64 → c.page.issued < 64
-    → Puts p (target c) (old (frame_at (site_of c))) old new
+    → Puts p (target c) (old (frame_at (seat_of c))) old new
     → Keeps true old new c (with_issued c)
 
 -- and for the others

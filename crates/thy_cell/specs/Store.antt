@@ -3,13 +3,13 @@ use Rattle.std.specs.Prelude.{◌≡◌, ◌≢◌, Bool}
 use Rattle.thy_base.specs.declared.block.Block.{Block}
 use Rattle.thy_base.specs.declared.config.Parameters.{Parameters}
 use Rattle.thy_base.specs.declared.place.Place.{Place}
-use Rattle.thy_cell.specs.declared.entries.Pending.TheVariants.{Nothing}
+use Rattle.thy_tables.specs.declared.block_entry.Pending.TheVariants.{FromBuffer}
 use Rattle.thy_cell.specs.declared.cell.Cell.{Cell}
 use Rattle.thy_cell.specs.declared.cell.StoreRule.{StoreRule}
 use Rattle.thy_cell.specs.declared.cell.StoreRule.TheVariants.{ToFrame, ToBuffer, ToNvm, PendingFirst}
-use Rattle.thy_cell.specs.Cells.{site_of, penult, target, last, work}
+use Rattle.thy_cell.specs.Cells.{seat_of, penult, target, last, work}
 use Rattle.thy_cell.specs.Sound.{IsWithin, IsSoundCell, IsWhole, Holds, Puts}
-use Rattle.thy_cell.specs.Rules.{store_rule, store_place, after_store, after_copy}
+use Rattle.thy_cell.specs.Rules.{store_rule, store_place, after_store}
 
 -- both checkpoints have the block where they had it
 pub record KeepsPlaces (c d : Cell) : Type 0 where
@@ -50,6 +50,12 @@ abbrev pub StoreGoesElsewhere : Type 0
 StoreGoesElsewhere =
     (under_way : Bool) (c : Cell) → IsSoundCell under_way c → IsWhole c.page → IsFree (store_place (store_rule c) c) c
 
+-- nor that to which the block is to go, unless the copy goes first
+abbrev pub StoreLeavesTarget : Type 0
+StoreLeavesTarget =
+    (under_way : Bool) (c : Cell) → IsSoundCell under_way c → IsWhole c.page → c.entry.pend ≢ FromBuffer
+    → target c ≢ store_place (store_rule c) c
+
 -- and it moves no place of a checkpoint
 abbrev pub StoreKeepsPlaces : Type 0
 StoreKeepsPlaces = (c : Cell) → KeepsPlaces c (after_store (store_rule c) c)
@@ -58,7 +64,7 @@ StoreKeepsPlaces = (c : Cell) → KeepsPlaces c (after_store (store_rule c) c)
 abbrev pub StoreReads : Type 0
 StoreReads =
     (p : Parameters) (under_way : Bool) (c : Cell) (block : Block) (old new : Place → Block)
-    → IsWithin p (site_of c) → IsSoundCell under_way c → IsWhole c.page
+    → IsWithin p (seat_of c) → IsSoundCell under_way c → IsWhole c.page
     → Puts p (store_place (store_rule c) c) (put_by (store_rule c) block old c) old new
     → Reads old new c (after_store (store_rule c) c) (given_by (store_rule c) block old c)
 
@@ -66,6 +72,6 @@ StoreReads =
 abbrev pub StoreHolds : Type 0
 StoreHolds =
     (p : Parameters) (under_way : Bool) (c : Cell) (block : Block) (old new : Place → Block)
-    → IsWithin p (site_of c) → IsSoundCell under_way c → IsWhole c.page
+    → IsWithin p (seat_of c) → IsSoundCell under_way c → IsWhole c.page
     → Puts p (store_place (store_rule c) c) (put_by (store_rule c) block old c) old new
     → Holds old c → Holds new (after_store (store_rule c) c)

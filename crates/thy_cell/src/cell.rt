@@ -1,10 +1,11 @@
 //! A block as both tables have it.
 ghost use Rattle.std.specs.Prelude.{◌≡◌};
-ghost use Rattle.thy_cell.specs.Cells.{is_framed as framed, agree as same_version, placed, frame_at, buffer_at, alternate_at, other as another, penult, target, last, work};
+ghost use Rattle.thy_cell.specs.Cells.{agree as same_version, placed, frame_at, buffer_at, alternate_at, penult, target, last, work};
+ghost use Rattle.thy_tables.specs.BlockEntry.{other_version};
 ghost use Rattle.thy_cell.specs.Rules.{store_rule, store_place};
 
-use crate::{BttEntry, PagePlace, Pending, PttEntry, Version, Work};
 use thy_base::Place;
+use thy_tables::{BttEntry, Pending, PttEntry, Site, Version, Working};
 
 /// A block of memory as both tables have it. A block or a page without an entry has one that is as a new
 /// one would be.
@@ -29,26 +30,20 @@ pub enum StoreRule {
     PendingFirst,
 }
 
-fn is_framed(page: &PttEntry) -> bool
-    ensures { result ≡ framed page.now }
-{
-    page.filled == 64
-}
-
 fn agree(v: Version, w: Version) -> bool
     ensures { result ≡ same_version v w }
 {
     match (v, w) {
-        (Version::Out, Version::Out) | (Version::Alternate, Version::Alternate) => true,
+        (Version::Out, Version::Out) | (Version::Alt, Version::Alt) => true,
         _ => false,
     }
 }
 
 impl Cell {
-    ghost use Rattle.thy_cell.specs.Cells.{site_of};
+    ghost use Rattle.thy_cell.specs.Cells.{seat_of};
 
     fn frame(&self) -> Place
-        ensures { result ≡ frame_at (site_of self.now) }
+        ensures { result ≡ frame_at (seat_of self.now) }
     {
         Place::Frame {
             entry: self.j,
@@ -57,28 +52,28 @@ impl Cell {
     }
 
     fn buffer(&self) -> Place
-        ensures { result ≡ buffer_at (site_of self.now) }
+        ensures { result ≡ buffer_at (seat_of self.now) }
     {
         Place::Buffer { entry: self.i }
     }
 
     fn alternate(&self) -> Place
-        ensures { result ≡ alternate_at (site_of self.now) }
+        ensures { result ≡ alternate_at (seat_of self.now) }
     {
         Place::AlternateBlock { entry: self.i }
     }
 
     /// Where the block stands by what a checkpoint says of it and of its page.
-    fn placed(&self, version: Version, page: PagePlace) -> Place
-        ensures { result ≡ placed version page (site_of self.now) }
+    fn placed(&self, version: Version, page: Site) -> Place
+        ensures { result ≡ placed version page (seat_of self.now) }
     {
         match (version, page) {
-            (Version::Alternate, _) => self.alternate(),
-            (Version::Out, PagePlace::AtAlternate) => Place::AlternatePage {
+            (Version::Alt, _) => self.alternate(),
+            (Version::Out, Site::AtAlternate) => Place::AlternatePage {
                 entry: self.j,
                 block: self.entry.block % 64,
             },
-            (Version::Out, PagePlace::AtHome) => Place::Home {
+            (Version::Out, Site::AtHome) => Place::Home {
                 block: self.entry.block,
             },
         }
@@ -106,7 +101,7 @@ impl Cell {
             return self.frame();
         }
         match self.entry.pend {
-            Pending::Nothing => self.target(),
+            Pending::Settled => self.target(),
             Pending::FromBuffer => self.buffer(),
             Pending::FromAlternate => self.alternate(),
         }
@@ -114,12 +109,9 @@ impl Cell {
 
     /// Where the block stands in the NVM when it is in neither checkpoint's place.
     fn spare(&self) -> Place
-        ensures { result ≡ placed (another self.now.entry.v0) PagePlace.AtHome (site_of self.now) }
+        ensures { result ≡ placed (other_version self.now.entry.v0) Site.AtHome (seat_of self.now) }
     {
-        match self.entry.v0 {
-            Version::Out => self.placed(Version::Alternate, PagePlace::AtHome),
-            Version::Alternate => self.placed(Version::Out, PagePlace::AtHome),
-        }
+        self.placed(self.entry.v0.other(), Site::AtHome)
     }
 
     /// Where the working version stands: what a load gives.
@@ -127,10 +119,10 @@ impl Cell {
         ensures { result ≡ work self.now }
     {
         match self.entry.work {
-            Work::InNvm => self.spare(),
-            Work::InBuffer => self.buffer(),
-            Work::NoWork if is_framed(&self.page) => self.frame(),
-            Work::NoWork => self.last(),
+            Working::InNvm => self.spare(),
+            Working::InBuffer => self.buffer(),
+            Working::NoWork if self.page.is_framed() => self.frame(),
+            Working::NoWork => self.last(),
         }
     }
 
@@ -138,11 +130,14 @@ impl Cell {
     pub fn store_rule(&self) -> StoreRule
         ensures { result ≡ store_rule self.now }
     {
-        let framed = is_framed(&self.page);
-        if framed && !self.page.busy && matches!(self.entry.work, Work::NoWork) {
+        let framed = self.page.is_framed();
+        if framed && !self.page.busy && matches!(self.entry.work, Working::NoWork) {
             return StoreRule::ToFrame;
         }
-        if !framed && !matches!(self.entry.work, Work::InBuffer) && agree(self.entry.v0, self.entry.v1) {
+        if !framed
+            && !matches!(self.entry.work, Working::InBuffer)
+            && agree(self.entry.v0, self.entry.v1)
+        {
             return StoreRule::ToNvm;
         }
         match self.entry.pend {

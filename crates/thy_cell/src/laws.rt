@@ -1,5 +1,5 @@
 //! Laws of the rules, each the contract of a function that does nothing.
-ghost use Rattle.thy_cell.specs.Store.{StoreKeepsSound, StoreGoesElsewhere, StoreKeepsPlaces, StoreReads, StoreHolds};
+ghost use Rattle.thy_cell.specs.Store.{StoreKeepsSound, StoreGoesElsewhere, StoreLeavesTarget, StoreKeepsPlaces, StoreReads, StoreHolds};
 ghost use Rattle.thy_cell.specs.Checkpoint.{SealKeepsSound, SealMoves, CommitKeepsSound, CommitMoves};
 ghost use Rattle.thy_cell.specs.Steps.{NewCellsAreSound, MergeKeeps, DirtyKeeps, PromotionKeeps, PromotionKeepsOthers, PageWriteKeeps, PageWriteKeepsOthers, OthersKeep};
 
@@ -11,6 +11,11 @@ pub fn a_store_keeps_entries_sound()
 /// A store, and the copy that may go first, write no place of either checkpoint.
 pub fn a_store_goes_elsewhere()
     ensures { StoreGoesElsewhere }
+{}
+
+/// Nor the place to which its block is to go, unless the copy goes first.
+pub fn a_store_leaves_the_target()
+    ensures { StoreLeavesTarget }
 {}
 
 /// A store moves no place of a checkpoint.
