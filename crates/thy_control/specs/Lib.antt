@@ -1,0 +1,4 @@
+pub mod Find
+pub mod Keys
+pub mod State
+pub mod Rules
