@@ -22,6 +22,8 @@ mod flat;
 #[cfg(test)]
 mod geometry;
 #[cfg(test)]
+mod image;
+#[cfg(test)]
 mod isa;
 #[cfg(test)]
 mod isa_rows;

@@ -1,0 +1,232 @@
+//! Images in files, made by hand: what a check and the state of each are.
+ghost use Rattle.std.specs.Prelude.{◌≡◌};
+
+use crate::expect::{expect, expect_at};
+use crate::geometry::geometry_of;
+use std::alloc::{AllocError, Global};
+use std::process::Abort;
+use std::test::Fail;
+use thy_base::{BLOCK_SIZE, Block, Geometry, Parameters};
+use thy_isa::{MachState, Status};
+use thy_record::{BadImage, Found, check, header_block, state, table_block, table_entry};
+
+/// The smallest machine: 8 pages, one of them the console's, and 8 entries in each table. Its image has the header,
+/// the commit block, slots of 7 blocks from block 2 and block 9 on, 512 homes from block 16 on, 8 alternate blocks
+/// from block 528 on, and 8 alternate pages of 64 blocks from block 536 on: 1048 blocks.
+static NUMBERS: Parameters = Parameters {
+    base: 65536,
+    pages: 8,
+    console: 1,
+    epoch: 1000,
+    btt: 8,
+    ptt: 8,
+    sets: 1,
+    ways: 1,
+    nvmq: 1,
+    dramq: 1,
+    high: 8,
+    low: 2,
+    mix: 0,
+    limit: 1000,
+};
+
+const BLOCKS: usize = 1048;
+
+const CEILING: u64 = 1 << 62;
+
+/// The first word of slot 1, block 9.
+const SLOT: usize = 72;
+
+fn geometry(rt: &impl Abort, alloc: Global) -> Geometry {
+    geometry_of(rt, alloc, &NUMBERS)
+}
+
+/// Writes a word over an image.
+fn put(image: &mut [u8], word: usize, value: u64) {
+    if word < image.len() / 8 {
+        image[8 * word..8 * word + 8].copy_from_slice(&value.to_le_bytes());
+    }
+}
+
+/// Writes bytes over the start of a block of an image.
+fn put_bytes(image: &mut [u8], block: usize, bytes: &[u8]) {
+    if block < image.len() / BLOCK_SIZE && bytes.len() <= BLOCK_SIZE {
+        image[BLOCK_SIZE * block..BLOCK_SIZE * block + bytes.len()].copy_from_slice(bytes);
+    }
+}
+
+/// The words that are not zero, but for the two names: the header's, the commit block's, of epoch 3, and in slot 1
+/// pc, x1, count, cursor, length of the console, break, epoch, floor, and the entries: entry 0 of the block table
+/// lists block 5, entry 1 of the page table page 2.
+static WORDS: [(usize, u64); 17] = [
+    (1, 1),
+    (2, 65536),
+    (3, 8),
+    (4, 1),
+    (5, 8),
+    (6, 8),
+    (9, 3),
+    (SLOT, 0x10008),
+    (SLOT + 1, 0x101),
+    (SLOT + 32, 11),
+    (SLOT + 33, 12),
+    (SLOT + 34, 2),
+    (SLOT + 35, 14),
+    (SLOT + 38, 3),
+    (SLOT + 39, 15),
+    (SLOT + 40, 6),
+    (SLOT + 49, 3),
+];
+
+/// An image with a checkpoint: block 0 at its home, block 5 in alternate block 0 and block 131 in alternate page 1,
+/// with something else at the homes of these two; the console's first block, 448, at its home.
+fn image(alloc: Global) -> Result<Vec<u8>, AllocError> {
+    let mut image = vec![in alloc; 0u8; BLOCK_SIZE * BLOCKS]?;
+    let bytes = image.as_mut_slice();
+    put_bytes(bytes, 0, b"THYNHDR1");
+    put_bytes(bytes, 1, b"THYNCMT1");
+    for (word, value) in &WORDS {
+        put(bytes, *word, *value);
+    }
+    put_bytes(bytes, 16, b"first");
+    put_bytes(bytes, 16 + 5, b"stale");
+    put_bytes(bytes, 528, b"fifth");
+    put_bytes(bytes, 16 + 131, b"stale too");
+    put_bytes(bytes, 536 + 64 + 3, b"of page two");
+    put_bytes(bytes, 16 + 448, b"Hi, stale");
+    Ok(image)
+}
+
+/// The state of an image in which a checkpoint is found.
+fn restored(
+    alloc: Global,
+    image: &[u8],
+    geometry: &Geometry,
+) -> Result<Option<MachState>, AllocError> {
+    match check(image, geometry, CEILING) {
+        Ok(Found::At(_)) => Ok(Some(state(alloc, image, geometry)?)),
+        _ => Ok(None),
+    }
+}
+
+/// Whether bytes begin with others.
+fn starts(bytes: &[u8], first: &[u8]) -> bool {
+    first.len() <= bytes.len() && &bytes[..first.len()] == first
+}
+
+/// Whether a memory has these bytes from block `b` on.
+fn has(memory: &[u8], b: usize, bytes: &[u8]) -> bool {
+    b < memory.len() / BLOCK_SIZE && starts(&memory[BLOCK_SIZE * b..], bytes)
+}
+
+#[test]
+fn a_checkpoint_is_read_from_where_its_tables_have_it(rt: HostRuntime) -> Result<(), Fail> {
+    let geometry = geometry(&rt, rt.alloc());
+    let image = image(rt.alloc())?;
+    expect(&rt, check(&image, &geometry, CEILING), Ok(Found::At(3)));
+    let state = restored(rt.alloc(), &image, &geometry)?.expect(&rt, "a checkpoint");
+    expect(&rt, state.pc, 0x10008);
+    expect(&rt, (state.count, state.cursor), (11, 12));
+    expect(&rt, (state.brk, state.floor), (14, 15));
+    expect(&rt, state.status, Status::Running);
+    let memory = state.memory.as_slice();
+    expect(&rt, memory.len(), 7 * 4096);
+    expect(&rt, has(memory, 0, b"first"), true);
+    expect(&rt, has(memory, 5, b"fifth"), true);
+    expect(&rt, has(memory, 131, b"of page two"), true);
+    expect(&rt, state.console.as_slice() == b"Hi".as_slice(), true);
+    Ok(())
+}
+
+#[test]
+fn a_header_and_a_table_are_their_bytes(rt: HostRuntime) -> Result<(), Fail> {
+    let geometry = geometry(&rt, rt.alloc());
+    let image = image(rt.alloc())?;
+    expect(&rt, starts(&image, &header_block(&geometry).0), true);
+    let entries = [Some(5), None, None, None, None, None, None, Some(0)];
+    let block = table_block(&entries);
+    expect(&rt, starts(&block.0, &[6, 0, 0, 0, 0, 0, 0, 0]), true);
+    expect(&rt, starts(&block.0[56..], &[1, 0, 0, 0, 0, 0, 0, 0]), true);
+    expect(&rt, table_entry(&block, 0), Some(5));
+    expect(&rt, table_entry(&block, 1), None);
+    expect(&rt, table_entry(&Block([0xff; 64]), 7), Some(u64::MAX - 1));
+    Ok(())
+}
+
+/// Two words of the image with other values, and what it is refused for then; the second may be the first.
+static REFUSALS: [(usize, u64, usize, u64, BadImage); 32] = [
+    (0, 0, 0, 0, BadImage::Header),
+    (1, 0, 1, 0, BadImage::Version),
+    (1, 2, 2, 0, BadImage::Version),
+    (2, 0, 2, 0, BadImage::Geometry),
+    (3, 9, 3, 9, BadImage::Geometry),
+    (4, 2, 4, 2, BadImage::Geometry),
+    (5, 16, 5, 16, BadImage::Geometry),
+    (6, 16, 6, 16, BadImage::Geometry),
+    (7, 1, 8, 1, BadImage::Geometry),
+    (8, 1, 8, 1, BadImage::Commit),
+    (9, CEILING, 9, CEILING, BadImage::Commit),
+    (9, 5, 9, 5, BadImage::Commit),
+    (10, 1, 10, 1, BadImage::Commit),
+    (15, 1, SLOT + 40, 999, BadImage::Commit),
+    (SLOT + 38, 2, SLOT + 40, 999, BadImage::Commit),
+    (SLOT + 41, 513, SLOT + 43, 6, BadImage::TableIndex(1)),
+    (SLOT + 50, 9, SLOT + 43, 6, BadImage::TableIndex(10)),
+    (SLOT + 50, 9, SLOT + 41, 513, BadImage::TableIndex(1)),
+    (SLOT + 43, 6, SLOT + 44, 6, BadImage::TableTwice(0, 3)),
+    (SLOT + 53, 3, SLOT + 53, 3, BadImage::TableTwice(9, 13)),
+    (SLOT + 53, 3, SLOT + 43, 6, BadImage::TableTwice(0, 3)),
+    (SLOT + 53, 3, SLOT + 41, 132, BadImage::TableTwice(9, 13)),
+    (SLOT + 44, 132, SLOT + 46, 129, BadImage::BlockUnderPage(4, 1)),
+    (SLOT + 48, 1, SLOT + 36, 3, BadImage::BlockUnderPage(0, 0)),
+    (SLOT + 36, 3, SLOT + 36, 3, BadImage::Status),
+    (SLOT + 37, 1, SLOT + 37, 1, BadImage::Status),
+    (SLOT + 36, 1, SLOT + 37, 256, BadImage::Status),
+    (SLOT + 36, 2, SLOT + 37, 8, BadImage::Status),
+    (SLOT + 32, CEILING, SLOT + 34, 4097, BadImage::Status),
+    (SLOT + 34, 4097, SLOT + 34, 4097, BadImage::ConsoleLength),
+    (SLOT + 34, u64::MAX, SLOT + 33, 0, BadImage::ConsoleLength),
+    (0, 0, SLOT + 34, 4097, BadImage::Header),
+];
+
+#[test]
+fn an_image_is_refused_for_its_first_fault(rt: HostRuntime) -> Result<(), Fail> {
+    let geometry = geometry(&rt, rt.alloc());
+    for (row, (i, value, j, other, bad)) in REFUSALS.iter().enumerate() {
+        let mut image = image(rt.alloc())?;
+        put(image.as_mut_slice(), *i, *value);
+        put(image.as_mut_slice(), *j, *other);
+        expect_at(&rt, check(&image, &geometry, CEILING), Err(*bad), row);
+    }
+    Ok(())
+}
+
+/// The first bytes of others, or all where there are no more.
+fn front(bytes: &[u8], len: usize) -> &[u8] {
+    if len < bytes.len() { &bytes[..len] } else { bytes }
+}
+
+/// So many bytes of the image, and what they are refused for.
+static LENGTHS: [(usize, BadImage); 4] = [
+    (0, BadImage::Empty),
+    (127, BadImage::Empty),
+    (128, BadImage::Geometry),
+    (BLOCK_SIZE * BLOCKS - 1, BadImage::Geometry),
+];
+
+#[test]
+fn an_image_of_another_length_or_of_nothing_has_no_checkpoint(
+    rt: HostRuntime,
+) -> Result<(), Fail> {
+    let geometry = geometry(&rt, rt.alloc());
+    let mut image = image(rt.alloc())?;
+    for (len, bad) in &LENGTHS {
+        expect_at(&rt, check(front(&image, *len), &geometry, CEILING), Err(*bad), *len);
+    }
+    image.push(0)?;
+    expect(&rt, check(&image, &geometry, CEILING), Err(BadImage::Geometry));
+    put(image.as_mut_slice(), 8, 0);
+    put(image.as_mut_slice(), 9, 0);
+    expect(&rt, check(&image, &geometry, CEILING), Ok(Found::Nothing));
+    Ok(())
+}
