@@ -1,3 +1,4 @@
 pub mod FirstLemmas
 pub mod IndexLemmas
 pub mod MapLemmas
+pub mod ListingLaws
