@@ -7,7 +7,7 @@ use Rattle.thy_tables.specs.declared.block_entry.Pending.TheVariants.{FromBuffer
 use Rattle.thy_cell.specs.declared.cell.Cell.{Cell}
 use Rattle.thy_cell.specs.declared.cell.StoreRule.{StoreRule}
 use Rattle.thy_cell.specs.declared.cell.StoreRule.TheVariants.{ToFrame, ToBuffer, ToNvm, PendingFirst}
-use Rattle.thy_cell.specs.Cells.{seat_of, penult, target, last, work}
+use Rattle.thy_cell.specs.Cells.{seat_of, buffer_at, penult, target, last, work}
 use Rattle.thy_cell.specs.Sound.{IsWithin, IsSoundCell, IsWhole, Holds, Puts}
 use Rattle.thy_cell.specs.Rules.{store_rule, store_place, after_store}
 
@@ -27,7 +27,7 @@ abbrev pub put_by : StoreRule → Block → (Place → Block) → Cell → Block
 put_by ToFrame block reads c = block
 put_by ToBuffer block reads c = block
 put_by ToNvm block reads c = block
-put_by PendingFirst block reads c = reads (last c)
+put_by PendingFirst block reads c = reads (buffer_at (seat_of c))
 
 -- what a load gives after a rule's write
 abbrev pub given_by : StoreRule → Block → (Place → Block) → Cell → Block

@@ -2,7 +2,7 @@
 ghost use Rattle.std.specs.Prelude.{◌≡◌};
 ghost use Rattle.thy_cell.specs.Cells.{agree as same_version, placed, frame_at, buffer_at, alternate_at, penult, target, last, work};
 ghost use Rattle.thy_tables.specs.BlockEntry.{other_version};
-ghost use Rattle.thy_cell.specs.Rules.{store_rule, store_place};
+ghost use Rattle.thy_cell.specs.Rules.{store_rule, store_place, after_store};
 
 use thy_base::Place;
 use thy_tables::{BttEntry, Pending, PttEntry, Site, Version, Working};
@@ -156,5 +156,19 @@ impl Cell {
             StoreRule::ToNvm => self.spare(),
             StoreRule::PendingFirst => self.target(),
         }
+    }
+
+    /// The block after a rule's write.
+    pub fn after(&self, rule: StoreRule) -> Cell
+        ensures { result ≡ after_store rule self.now }
+    {
+        let mut cell = *self;
+        match rule {
+            StoreRule::ToFrame => cell.page.dirty = true,
+            StoreRule::ToBuffer => cell.entry.work = Working::InBuffer,
+            StoreRule::ToNvm => cell.entry.work = Working::InNvm,
+            StoreRule::PendingFirst => cell.entry.pend = Pending::Settled,
+        }
+        cell
     }
 }
