@@ -127,3 +127,55 @@ module _ {E : Type 0} (key : E → ℕ) (new : ℕ → E) where
           let apart : k ≢ i = λ s. (let both : Some f.0 ≡ None = sym f.1 ∙ ap (entry_at t) s ∙ free_there.0 in cc) in
           entry_for-some (with_entry i (Some (new b)) t) n k f.0 (place_of-new_other n o ∙ h) (get_or-set_other t.entries i k (Some (new b)) None apart ∙ f.1)
           ∙ sym (entry_for-some t n k f.0 h f.1)
+
+  -- a table with an entry for a number: every number has the entry that it had
+  pub entry_for-with : ((n : ℕ) → key (new n) ≡ n) → (t : Listing E) (b n : ℕ)
+      → entry_for key new n (with_entry_for key new b t) ≡ entry_for key new n t
+  entry_for-with new_key t b n = by_place (place_of key b t) refl where
+    by_free : place_of key b t ≡ None → (o : Option ℕ) → free_place t ≡ o → entry_for key new n (added_at o (new b) t) ≡ entry_for key new n t
+    by_free h None f = refl
+    by_free h (Some i) f = entry_for-new new_key t b i h f n
+    by_place : (o : Option ℕ) → place_of key b t ≡ o → entry_for key new n (with_found key new o b t) ≡ entry_for key new n t
+    by_place (Some i) h = refl
+    by_place None h = by_free h (free_place t) refl
+
+  -- and every other number the place that it had
+  pub place_of-with_other : ((n : ℕ) → key (new n) ≡ n) → (t : Listing E) (b n : ℕ) → n ≢ b
+      → place_of key n (with_entry_for key new b t) ≡ place_of key n t
+  place_of-with_other new_key t b n other = by_place (place_of key b t) refl where
+    by_free : place_of key b t ≡ None → (o : Option ℕ) → free_place t ≡ o → place_of key n (added_at o (new b) t) ≡ place_of key n t
+    by_free h None f = refl
+    by_free h (Some i) f = place_of-new_other new_key t b i h f n other
+    by_place : (o : Option ℕ) → place_of key b t ≡ o → place_of key n (with_found key new o b t) ≡ place_of key n t
+    by_place (Some i) h = refl
+    by_place None h = by_free h (free_place t) refl
+
+  -- where an entry is free, the number is listed then
+  pub place_of-with_same : ((n : ℕ) → key (new n) ≡ n) → (t : Listing E) (b : ℕ) → (free_place t ≡ None → ⊥)
+      → (i : ℕ) × (place_of key b (with_entry_for key new b t) ≡ Some i)
+  place_of-with_same new_key t b some = by_place (place_of key b t) refl where
+    by_free : place_of key b t ≡ None → (o : Option ℕ) → free_place t ≡ o → (i : ℕ) × (place_of key b (added_at o (new b) t) ≡ Some i)
+    by_free h None f = absurd (some f)
+    by_free h (Some i) f = (i, place_of-new_same new_key t b i h f)
+    by_place : (o : Option ℕ) → place_of key b t ≡ o → (i : ℕ) × (place_of key b (with_found key new o b t) ≡ Some i)
+    by_place (Some i) h = (i, h)
+    by_place None h = by_free h (free_place t) refl
+
+  -- it has as many entries
+  pub length-with : (t : Listing E) (b : ℕ) → length (with_entry_for key new b t).entries ≡ length t.entries
+  length-with t b = by_place (place_of key b t) where
+    by_free : (o : Option ℕ) → length (added_at o (new b) t).entries ≡ length t.entries
+    by_free None = refl
+    by_free (Some i) = length-set t.entries i (Some (new b))
+    by_place : (o : Option ℕ) → length (with_found key new o b t).entries ≡ length t.entries
+    by_place (Some i) = refl
+    by_place None = by_free (free_place t)
+
+  pub numbers-with : (t : Listing E) (b : ℕ) → (with_entry_for key new b t).numbers ≡ t.numbers
+  numbers-with t b = by_place (place_of key b t) where
+    by_free : (o : Option ℕ) → (added_at o (new b) t).numbers ≡ t.numbers
+    by_free None = refl
+    by_free (Some i) = refl
+    by_place : (o : Option ℕ) → (with_found key new o b t).numbers ≡ t.numbers
+    by_place (Some i) = refl
+    by_place None = by_free (free_place t)

@@ -1,3 +1,4 @@
 pub mod FindLemmas
 pub mod CellLemmas
 pub mod NewLemmas
+pub mod StateLemmas
