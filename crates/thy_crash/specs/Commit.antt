@@ -12,7 +12,8 @@ committed block n = settled (written_to (settled n) 1 block)
 abbrev pub Commits : Block → Device → Device → Type 0
 Commits block old new =
     (looked : Looking) (before next : List Block)
-    → IsSaved looked old (Kept before) → IsIssued looked old next → block_at next 1 ≡ block → IsSaved looked new (Kept next)
+    → IsSaved looked old (Kept before) → IsIssued looked old next → block_at next 1 ≡ block
+    → IsSaved looked new (Kept next)
 
 -- a cut leaves the one or the other
 abbrev pub LeavesEither : Block → Device → Device → Type 0

@@ -35,7 +35,9 @@ SameSpares = (places : List ℕ) (old new : Device) → new ≡ old → Spares p
 
 -- what spares places twice spares them
 abbrev pub BothSpare : Type 0
-BothSpare = (places : List ℕ) (old mid new : Device) → Spares places old mid → Spares places mid new → Spares places old new
+BothSpare =
+    (places : List ℕ) (old mid new : Device)
+    → Spares places old mid → Spares places mid new → Spares places old new
 
 -- and spares each part of them
 abbrev pub PartIsSpared : Type 0

@@ -18,7 +18,7 @@ use Rattle.thy_record.specs.declared.image.BadImage.TheVariants.{Header}
 use Rattle.thy_record.specs.Commit.{is_zero, epoch_of, commit_of, commit_fault}
 use Rattle.thy_record.specs.Cpu.{IsRecordOf, IsRecordable, record_of, record_fault}
 use Rattle.thy_record.specs.Decoded.{At}
-use Rattle.thy_record.specs.Flat.{state_from}
+use Rattle.thy_isa.specs.OnBlocks.{state_from}
 use Rattle.thy_record.proofs.ReadBackLemmas.{both, epoch_of-commit_of, commit_fault-commit_of, is_zero-commit_of, is_zero-zero_block, cpu_of_record-back, record_fault-back, IsRecordOf-record_of}
 use Rattle.thy_crash.specs.Saved.{Kept, Ready, InDoubt, IsIssued}
 use Rattle.thy_crash.specs.Spares.{Spares}

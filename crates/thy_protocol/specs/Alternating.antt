@@ -10,7 +10,7 @@ use Rattle.thy_record.specs.declared.image.BadImage.TheVariants.{Header}
 use Rattle.thy_record.specs.Commit.{is_zero, epoch_of, commit_of, commit_fault}
 use Rattle.thy_record.specs.Cpu.{IsRecordOf, IsRecordable, cpu_of_record, record_fault}
 use Rattle.thy_record.specs.Decoded.{At}
-use Rattle.thy_record.specs.Flat.{state_from}
+use Rattle.thy_isa.specs.OnBlocks.{state_from}
 use Rattle.thy_crash.specs.Saved.{Kept}
 use Rattle.thy_view.specs.Origin.{Origin}
 use Rattle.thy_view.specs.Safe.{ceiling}
@@ -45,7 +45,8 @@ abbrev pub WrittenDecodes : Type 0
 WrittenDecodes =
     (p : Parameters) (ceiling : ℕ) (cpu : CpuState) (epoch : ℕ) (g : List Block)
     → IsInRange p → IsRecordable p ceiling cpu → ceiling ≤ 2 ^ 64 → epoch < ceiling
-    → length g ≡ 2 + 2 * copy_blocks p → is_zero (block_at g 0) ≡ true → block_at g 1 ≡ commit_of epoch → IsRecordOf cpu epoch (slot_in (alternating p ceiling) g)
+    → length g ≡ 2 + 2 * copy_blocks p → is_zero (block_at g 0) ≡ true → block_at g 1 ≡ commit_of epoch
+    → IsRecordOf cpu epoch (slot_in (alternating p ceiling) g)
     → decode_by (alternating p ceiling) g ≡ At epoch (state_from p cpu (memory_in (alternating p ceiling) g))
 
 -- from a device some moves lead to the checkpoint of the start, as that of epoch 0

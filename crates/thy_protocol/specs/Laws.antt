@@ -35,10 +35,14 @@ NothingIsZero = (l : Layout) (g : List Block) → decode_by l g ≡ Nothing → 
 
 -- it means an epoch and a state exactly where it is whole
 abbrev pub WholeDecodes : Type 0
-WholeDecodes = (l : Layout) (g : List Block) (epoch : ℕ) (state : State) → IsWhole l g epoch state → decode_by l g ≡ At epoch state
+WholeDecodes =
+    (l : Layout) (g : List Block) (epoch : ℕ) (state : State)
+    → IsWhole l g epoch state → decode_by l g ≡ At epoch state
 
 abbrev pub DecodedIsWhole : Type 0
-DecodedIsWhole = (l : Layout) (g : List Block) (epoch : ℕ) (state : State) → decode_by l g ≡ At epoch state → IsWhole l g epoch state
+DecodedIsWhole =
+    (l : Layout) (g : List Block) (epoch : ℕ) (state : State)
+    → decode_by l g ≡ At epoch state → IsWhole l g epoch state
 
 -- ---- checkpoints
 
@@ -73,7 +77,8 @@ CutKeeps =
 abbrev pub EmptyKeeps : Type 0
 EmptyKeeps =
     (o : Origin) (l : Layout) (n : Device) (kept sealed : Option Mark)
-    → length n.image ≡ l.image_blocks → n.queue ≡ [] → Tells o l n.image kept → Keeps o l n (Kept n.image) kept sealed
+    → length n.image ≡ l.image_blocks → n.queue ≡ [] → Tells o l n.image kept
+    → Keeps o l n (Kept n.image) kept sealed
 
 -- what a run begins with, an image means: nothing, or the checkpoint of its start
 abbrev pub FirstIsTold : Type 0
@@ -90,7 +95,9 @@ BootShows =
 -- ---- what a cycle's action spares
 
 abbrev pub ActionSpares : Type 0
-ActionSpares = (places : List ℕ) (action : Action) (n : Device) → LeavesAlone places action → Spares places n (after action n)
+ActionSpares =
+    (places : List ℕ) (action : Action) (n : Device)
+    → LeavesAlone places action → Spares places n (after action n)
 
 abbrev pub FailedActionSpares : Type 0
 FailedActionSpares =
