@@ -41,7 +41,7 @@ use Rattle.thy_run.specs.declared.ending.Ending.{Ending}
 use Rattle.thy_run.specs.declared.plan.Plan.{Plan}
 use Rattle.thy_cli.specs.declared.refusal.Refusal.{Refusal}
 use Rattle.thy_cli.specs.declared.refusal.Refusal.TheVariants.{Device as DeviceRefusal}
-use Rattle.thy_cli.specs.Answering.{Outside, Task, task_of, IsHeld, WordsDue, ProgramDue, TaskDue, meaning_of, IsPlanOf, IsRunOf, ClosesRun, PlainAnswered, TaskAnswered, Answered, stop_status}
+use Rattle.thy_cli.specs.Answering.{Outside, Task, task_of, WordsDue, ProgramDue, TaskDue, meaning_of, IsPlanOf, IsRunOf, ClosesRun, PlainAnswered, TaskAnswered, Answered, stop_status}
 use Rattle.thy_run.specs.Going.{origin_of, given_of}
 use Rattle.thy_run.specs.Turning.{EndsBy, RunEnds}
 
