@@ -7,7 +7,6 @@ use Rattle.thy_base.specs.declared.nvm.FitError.{FitError}
 use Rattle.thy_base.specs.declared.nvm.FitError.TheVariants.{Failed as FitFailed, Memory as FitMemory}
 use Rattle.thy_base.specs.declared.outside.FetchError.{FetchError}
 use Rattle.thy_base.specs.declared.outside.FetchError.TheVariants.{Failed as FetchFailed, NotThere, TooLong, Memory as FetchMemory}
-use Rattle.thy_base.specs.declared.config.Config.{Config}
 use Rattle.thy_base.specs.Counts.{Rose}
 use Rattle.thy_base.specs.Device.{Device, HasFailedToFit}
 use Rattle.thy_base.specs.Geometry.{parameters_of}
@@ -25,20 +24,22 @@ use Rattle.thy_text.specs.Marks.{Course, Marks, marks_after, AllLawful}
 use Rattle.thy_words.specs.declared.words.WordsError.{WordsError}
 use Rattle.thy_words.specs.declared.words.WordsError.TheVariants.{Usage, Word, Value, Memory as WordsMemory}
 use Rattle.thy_words.specs.Settings.{Job, Order, run, plain, settings_of}
+use Rattle.thy_plain.specs.Machine.{setting_for}
 use Rattle.thy_view.specs.Kind.{KindOf}
-use Rattle.thy_view.specs.Origin.{Origin, setting_of, at}
+use Rattle.thy_view.specs.Origin.{Origin, at, runs_at}
 use Rattle.thy_run.specs.Progress.{cycles_for}
-use Rattle.thy_run.specs.Going.{origin_of, EndsWith}
+use Rattle.thy_run.specs.Endings.{EndsWith, is_memory, StopFits}
 use Rattle.thy_run.specs.Laws.{course_of, first_marks}
 use Rattle.thy_run.specs.Sending.{Sent, Delivered}
-use Rattle.thy_run.specs.Turning.{is_memory, StopFits}
 use Rattle.thy_run.specs.declared.ending.Stop.{Stop}
 use Rattle.thy_run.specs.declared.ending.Stop.TheVariants.{Ended, Nvm, Memory, Terminal, Report, Limit}
 use Rattle.thy_cli.specs.declared.answer.Answer.{Answer}
 use Rattle.thy_cli.specs.declared.refusal.Refusal.{Refusal}
 use Rattle.thy_cli.specs.declared.refusal.Refusal.TheVariants.{Words, Fetch, File, Device as DeviceRefusal, Memory as MemoryRefusal}
-use Rattle.thy_cli.specs.Answering.{Outside, Task, task_of, most_bytes, meaning_of, IsHeld, IsInput, IsWanted, IsProgramFile, FetchDue, WordsDue, ProgramDue, TaskDue, refused_status, ClosesRun, IsRunOf, IsPlainOf, plain_stop, plain_state, end_lines, stop_status, TaskAnswered, PlainAnswered, OrderAnswered, Answered}
-use Rattle.thy_cli.specs.Completing.{IsAsked, Stayed, IsCalm, left_alone, TellsEnd, RunCompletes, PlainCompletes, Claim}
+use Rattle.thy_cli.specs.Answering.{Outside, Task, task_of, most_bytes, meaning_of, IsHeld, IsTooLong, IsInput, IsWanted, IsProgramFile, FetchDue, WordsDue, ProgramDue, TaskDue, origin_for, given_for, ClosesRun, IsRunOf, IsPlainOf, plain_stop, end_lines, stop_status, TaskAnswered, PlainAnswered, Answered}
+use Rattle.thy_cli.specs.Planning.{refused_status}
+use Rattle.thy_cli.proofs.PlainLemmas.{at_is, plain_steps}
+use Rattle.thy_cli.specs.Completing.{plain_state, IsAsked, Stayed, IsCalm, left_alone, TellsEnd, RunCompletes, PlainCompletes, Claim}
 
 -- ---- counts of faults
 
@@ -51,7 +52,7 @@ not_failed : {A : Type 0} (short failed : Bool) (settled text : List ℕ) (old n
     → failed ≡ true → A
 not_failed {A} short true settled text old new s d e =
     let first : d.middle.faults ≡ old.faults = d.took.calm in
-    not_risen old.faults new.faults s (subst (λ f. Rose f new.faults) first d.sent.rose)
+    not_risen old.faults new.faults s (subst (λ f. Rose f new.faults) first d.sent.0.rose)
 not_failed short false settled text old new s d e = absurd (cc)
 
 -- ---- ended states
@@ -117,11 +118,12 @@ fetch_due : (old new : Stock) (files : Files) (name bytes : List ℕ) (text : _)
     → refused_status (Fetch text e) ≡ 9
 fetch_due old new files name bytes text FetchFailed tells held calm due = not_risen old.faults new.faults calm due
 fetch_due old new files name bytes text NotThere tells held calm due =
-    let none : files name ≡ None = subst (λ h. MatchOption h (Rose old.faults new.faults) (λ known. known name ≡ None)) tells due in
+    let none : (files name ≡ None) × (new.faults ≡ old.faults) = subst (λ h. MatchOption h (Rose old.faults new.faults) (λ known. (known name ≡ None) × (new.faults ≡ old.faults))) tells due in
+    let missing : files name ≡ None = none.0 in
     absurd (let there : files name ≡ Some bytes = held.1 files tells in cc)
 fetch_due old new files name bytes text TooLong tells held calm due =
-    let long : (found : List ℕ) × (files name ≡ Some found) × (most_bytes < length found) =
-    subst (λ h. MatchOption h (Rose old.faults new.faults) (λ known. (found : List ℕ) × (known name ≡ Some found) × (most_bytes < length found))) tells due in
+    let long : IsTooLong (files name) =
+    (subst (λ h. MatchOption h (Rose old.faults new.faults) (λ known. IsTooLong (known name) × (new.faults ≡ old.faults))) tells due).0 in
     let there : files name ≡ Some bytes = held.1 files tells in
     let same : long.0 ≡ bytes = (let found : files name ≡ Some long.0 = long.1 in cc) in
     absurd (omega (arith, held.0, long.2, ap length same))
@@ -151,12 +153,12 @@ program_due : (task : Task) (old new : Stock) (r : Refusal) → Stands task old 
 program_due task old new (Words e) s shelf due = absurd due
 program_due task old new (Fetch name e) s shelf due = wanted_due task old new name name.now e s shelf due.0 due.1
 program_due task old new (File (ElfMemory e)) s shelf due = refl
-program_due task old new (File e) s shelf due = means_none task old e due.0 s due.1 due.2
+program_due task old new (File e) s shelf due = let d = due.1 in means_none task old e d.0 s d.1 d.2
 program_due task old new (DeviceRefusal e) s shelf due = absurd due
 program_due task old new (MemoryRefusal e) s shelf due = refl
 
 task_due : (task : Task) (before after : Outside) (r : Refusal) → Stands task before.shelf → IsCalm before after → TaskDue task before after r → refused_status r ≡ 9
-task_due task before after (DeviceRefusal e) s calm due = device_due e before.device after.device calm.device due.1
+task_due task before after (DeviceRefusal e) s calm due = device_due e before.device after.device calm.device due.2
 task_due task before after r s calm due = program_due task before.shelf after.shelf r s calm.shelf due.0
 
 words_due : (words : List (List ℕ)) (order : Order) (e : WordsError) → settings_of words ≡ Ok order → WordsDue words e → refused_status (Words e) ≡ 9
@@ -168,17 +170,19 @@ words_due words order (WordsMemory e) is due = refl
 order_same : (words : List (List ℕ)) (a b : Order) → settings_of words ≡ Ok a → settings_of words ≡ Ok b → b ≡ a
 order_same words a b e f = cc
 
--- ---- runs
+job_of_run : (a b : Job) → run a ≡ run b → a ≡ b
+job_of_run a b e = cc
 
-at_is : (o : Origin) (k : ℕ) → at o k ≡ steps (setting_of o) (k - o.start.count) o.start
-unfolding at
-at_is o k = refl
+job_of_plain : (a b : Job) → plain a ≡ plain b → a ≡ b
+job_of_plain a b e = cc
+
+-- ---- runs
 
 module _ {M : Type 0} (K : KindOf M) (job : Job) (k : ℕ) (before after : Outside) (a : Answer) (s : Stands (task_of job) before.shelf)
     (calm : IsCalm before after) (over : is_running (plain_state (task_of job) s.program.contents s.program.input k).status ≡ false)
     (limit : cycles_for K (parameters_of job.config) job.config.cuts k ≤ job.config.limit) (h : IsRunOf K (task_of job) before after a) where
   abbrev o : Origin
-  o = origin_of h.plan
+  o = origin_for (task_of job) h.file.contents h.file.input
 
   abbrev numbers : Parameters
   numbers = parameters_of job.config
@@ -190,28 +194,29 @@ module _ {M : Type 0} (K : KindOf M) (job : Job) (k : ℕ) (before after : Outsi
   first = start_state numbers s.program.contents
 
   -- the machine's program is the file's
-  same_program : h.is_plan.file.contents ≡ s.program.contents
-  same_program = contents_same (task_of job) before.shelf s h.is_plan.file
+  same_program : h.file.contents ≡ s.program.contents
+  same_program = contents_same (task_of job) before.shelf s h.file
 
-  same_input : o.input ≡ s.program.input
-  same_input = h.is_plan.input ∙ inputs_same (task_of job) before.shelf s h.is_plan.file
+  same_input : h.file.input ≡ s.program.input
+  same_input = inputs_same (task_of job) before.shelf s h.file
 
   at_count : (count : ℕ) → at o count ≡ steps g (count - o.start.count) first
   at_count count =
-      let setting : setting_of o ≡ g = ap (λ (p : Parameters). setting_for p o.input) h.is_plan.geometry ∙ ap (setting_for numbers) same_input in
-      let start : o.start ≡ first = h.is_plan.start ∙ ap (λ p. start_state p h.is_plan.file.contents) h.is_plan.geometry ∙ ap (start_state numbers) same_program in
-      at_is o count ∙ ap (λ x. steps x (count - o.start.count) o.start) setting ∙ ap (steps g (count - o.start.count)) start
+      at_is o count
+      ∙ ap (λ c. steps (setting_for numbers h.file.input) (count - o.start.count) (start_state numbers c)) same_program
+      ∙ ap (λ i. steps (setting_for numbers i) (count - o.start.count) first) same_input
+
+  over_first : is_running (steps g k first).status ≡ false
+  over_first = ap (λ (x : State). is_running x.status) (sym (plain_steps (task_of job) s.program.contents s.program.input k)) ∙ over
 
   few : a.cycles < job.config.limit
   few =
       let here : at o (o.start.count + k) ≡ steps g k first = at_count (o.start.count + k) ∙ ap (λ j. steps g j first) (let e : o.start.count + k - o.start.count ≡ k = omega arith in e) in
-      let soon : a.cycles < cycles_for K o.geometry job.config.cuts k =
-      subst (λ (c : Config). a.cycles < cycles_for K o.geometry c.cuts k) h.is_plan.config (h.promise.soon k (ap (λ (x : State). is_running x.status) here ∙ over)) in
-      let most : cycles_for K o.geometry job.config.cuts k ≡ cycles_for K numbers job.config.cuts k = ap (λ p. cycles_for K p job.config.cuts k) h.is_plan.geometry in
-      omega (arith, soon, most, limit)
+      let soon : a.cycles < cycles_for K numbers job.config.cuts k = h.promise.soon k (ap (λ (x : State). is_running x.status) here ∙ over_first) in
+      omega (arith, soon, limit)
 
-  fits : (stop : Stop) → h.ending.stop ≡ stop → StopFits h.plan h.device after.device h.ending stop
-  fits stop is = subst (StopFits h.plan h.device after.device h.ending) is h.ends.stop_fits
+  fits : (stop : Stop) → h.ending.stop ≡ stop → StopFits numbers.limit (given_for K (task_of job) before.device).fitted after.device h.ending stop
+  fits stop is = subst (StopFits numbers.limit (given_for K (task_of job) before.device).fitted after.device h.ending) is h.ran.stop_fits
 
   -- at an end the status is the program's
   told_end : (status : Status) → EndsWith h.ending.events status → status ≡ (steps g k first).status
@@ -221,23 +226,20 @@ module _ {M : Type 0} (K : KindOf M) (job : Job) (k : ℕ) (before after : Outsi
       let end : IsEndOf (course_of o) status = end_lawful (course_of o) (first_marks o) e.before status e.count e.cycle e.state lawful in
       let here : at o end.count ≡ steps g (end.count - o.start.count) first = at_count end.count in
       let ended : is_running (steps g (end.count - o.start.count) first).status ≡ false = ap (λ (x : State). is_running x.status) (sym here) ∙ end.over in
-      end.is_status ∙ ap (λ (x : State). x.status) here ∙ ap (λ (x : State). x.status) (same_end g first (end.count - o.start.count) k ended over)
+      end.is_status ∙ ap (λ (x : State). x.status) here ∙ ap (λ (x : State). x.status) (same_end g first (end.count - o.start.count) k ended over_first)
 
   by_stop : (stop : Stop) → h.ending.stop ≡ stop → TellsEnd (plain_state (task_of job) s.program.contents s.program.input k) a
-  by_stop (Ended status) is = inl (h.status ∙ ap stop_status is ∙ ap (λ x. stop_status (Ended x)) (told_end status (fits (Ended status) is).0))
+  by_stop (Ended status) is = inl (h.status ∙ ap stop_status is ∙ ap (λ x. stop_status (Ended x)) (told_end status (fits (Ended status) is).0 ∙ ap (λ (x : State). x.status) (sym (plain_steps (task_of job) s.program.contents s.program.input k))))
   by_stop Memory is = inr (h.status ∙ ap stop_status is)
-  by_stop Terminal is = not_failed (is_memory h.ending.stop) h.ending.mute _ _ before.terminal after.terminal calm.terminal h.ends.shown_all (fits Terminal is).0
+  by_stop Terminal is = not_failed (is_memory h.ending.stop) h.ending.mute _ _ before.terminal after.terminal calm.terminal h.ran.shown_all (fits Terminal is).0
   by_stop Report is =
       let deaf : h.ending.deaf ≡ true = (fits Report is).0 in
-      let closed : after.report ≡ h.told = subst (λ b. ClosesRun b h.ending.stop h.plan.geometry.limit h.told after.report) deaf h.closes in
-      not_failed false h.ending.deaf _ _ before.report h.told (subst (λ (x : Stream). Stayed before.report.faults x.faults) closed calm.report) h.ends.read_all deaf
-  by_stop Nvm is =
-      let faults : h.device.faults ≡ before.device.faults = ap (λ (d : Device). d.faults) h.from_entry in
-      not_risen before.device.faults after.device.faults calm.device (subst (λ f. Rose f after.device.faults) faults (fits Nvm is).0)
+      let closed : after.report ≡ h.told = subst (λ b. ClosesRun b h.ending.stop job.config.limit h.told after.report) deaf h.closes in
+      not_failed false h.ending.deaf _ _ before.report h.told (subst (λ (x : Stream). Stayed before.report.faults x.faults) closed calm.report) h.ran.read_all deaf
+  by_stop Nvm is = not_risen before.device.faults after.device.faults calm.device (fits Nvm is).0
   by_stop Limit is =
-      let most : h.plan.geometry.limit ≡ job.config.limit = ap (λ (p : Parameters). p.limit) h.is_plan.geometry in
-      let reached : h.ending.cycles ≡ h.plan.geometry.limit = (fits Limit is).0 in
-      absurd (omega (arith, few, most, reached, h.cycles))
+      let reached : h.ending.cycles ≡ job.config.limit = (fits Limit is).0 in
+      absurd (omega (arith, few, reached, h.cycles))
 
 -- ---- the plain machine
 
@@ -253,12 +255,17 @@ module _ (job : Job) (k : ℕ) (before after : Outside) (a : Answer) (s : Stands
   -- the machine's program is the file's, and its input the one that was had
   same_state : steps plain_setting k plain_first ≡ plain_state (task_of job) s.program.contents s.program.input k
   same_state =
-      ap (λ c. plain_state (task_of job) c h.file.input k) (contents_same (task_of job) before.shelf s h.file)
+      sym (plain_steps (task_of job) h.file.contents h.file.input k)
+      ∙ ap (λ c. plain_state (task_of job) c h.file.input k) (contents_same (task_of job) before.shelf s h.file)
       ∙ ap (λ i. plain_state (task_of job) s.program.contents i k) (inputs_same (task_of job) before.shelf s h.file)
 
   -- the program ends where the machine stopped
   over_there : is_running (steps plain_setting k plain_first).status ≡ false
   over_there = ap (λ (x : State). is_running x.status) same_state ∙ over
+
+  -- whether it runs after so many steps
+  runs_is : (j : ℕ) → runs_at (origin_for (task_of job) h.file.contents h.file.input) j ≡ is_running (steps plain_setting j plain_first).status
+  runs_is j = ap (λ (x : State). is_running x.status) (plain_steps (task_of job) h.file.contents h.file.input j)
 
   not_both : {A : Type 0} (b : Bool) → b ≡ true → b ≡ false → A
   not_both b e f = absurd (cc)
@@ -267,14 +274,14 @@ module _ (job : Job) (k : ℕ) (before after : Outside) (a : Answer) (s : Stands
   stopped = elim (cases_order a.cycles k) as (λ _. is_running (steps plain_setting a.cycles plain_first).status ≡ false) [
     | inl same ↦ ap (λ j. is_running (steps plain_setting j plain_first).status) same ∙ over_there
     | inr other ↦ elim other as (λ _. is_running (steps plain_setting a.cycles plain_first).status ≡ false) [
-      | inl less ↦ h.stops.over (omega (arith, less, limit))
-      | inr more ↦ not_both _ (h.stops.ran k more) over_there
+      | inl less ↦ sym (runs_is a.cycles) ∙ h.stops.over (omega (arith, less, limit))
+      | inr more ↦ not_both _ (sym (runs_is k) ∙ h.stops.ran k more) over_there
     ]
   ]
 
   last_status : h.last.status ≡ (plain_state (task_of job) s.program.contents s.program.input k).status
   last_status =
-      ap (λ (x : State). x.status) h.is_last
+      ap (λ (x : State). x.status) (h.is_last ∙ plain_steps (task_of job) h.file.contents h.file.input a.cycles)
       ∙ ap (λ (x : State). x.status) (same_end plain_setting plain_first a.cycles k stopped over_there)
       ∙ ap (λ (x : State). x.status) same_state
 
@@ -287,10 +294,10 @@ module _ (job : Job) (k : ℕ) (before after : Outside) (a : Answer) (s : Stands
   by_faults mute true is_mute is_deaf =
       let closed : after.report ≡ h.told = subst (λ b. ClosesRun b (plain_stop h.mute h.deaf h.last.status) job.config.limit h.told after.report) is_deaf h.closes in
       let sent : Sent true before.report h.told (end_lines (task_of job) h.last) = subst (λ b. Sent b before.report h.told (end_lines (task_of job) h.last)) is_deaf h.read_all in
-      not_risen before.report.faults h.told.faults (subst (λ (x : Stream). Stayed before.report.faults x.faults) closed calm.report) sent.rose
+      not_risen before.report.faults h.told.faults (subst (λ (x : Stream). Stayed before.report.faults x.faults) closed calm.report) sent.0.rose
   by_faults true false is_mute is_deaf =
       let sent : Sent true before.terminal after.terminal h.last.console = subst (λ b. Sent b before.terminal after.terminal h.last.console) is_mute h.shown_all in
-      not_risen before.terminal.faults after.terminal.faults calm.terminal sent.rose
+      not_risen before.terminal.faults after.terminal.faults calm.terminal sent.0.rose
   by_faults false false is_mute is_deaf =
       let stop : plain_stop h.mute h.deaf h.last.status ≡ Ended h.last.status =
       ap (λ b. plain_stop b h.deaf h.last.status) is_mute ∙ ap (λ b. plain_stop false b h.last.status) is_deaf
@@ -309,9 +316,12 @@ run_completes K words before after a i k calm over limit (inr ran) = by_stop K i
 
 -- an answer completes the run that is asked for
 pub Completes-run : {M : Type 0} (K : KindOf M) (words : List (List ℕ)) (before after : Outside) (a : Answer) → Answered K words before after a → RunCompletes K words before after a
-Completes-run K words before after a (held, inl (e, due, device, refused)) i k calm over limit = inr (refused.status ∙ words_due words (run i.job) e i.asked due)
-Completes-run K words before after a (held, inr (order, asked, h)) i k calm over limit =
-    run_completes K words before after a i k calm over limit (subst (λ o. OrderAnswered K o before after a) (order_same words (run i.job) order i.asked asked) h)
+Completes-run K words before after a (held, inl (e, due, shelf, device, refused)) i k calm over limit = inr (refused.status ∙ words_due words (run i.job) e i.asked due)
+Completes-run K words before after a (held, inr (inl (job, asked, h))) i k calm over limit =
+    run_completes K words before after a i k calm over limit
+    (subst (λ j. TaskAnswered K (task_of j) before after a) (job_of_run job i.job (order_same words (run i.job) (run job) i.asked asked)) h)
+Completes-run K words before after a (held, inr (inr (job, asked, h))) i k calm over limit =
+    absurd (let same : plain job ≡ run i.job = order_same words (run i.job) (plain job) i.asked asked in cc)
 
 plain_completes : (words : List (List ℕ)) (before after : Outside) (a : Answer) (i : IsAsked plain words before.shelf) (k : ℕ) → IsCalm before after
     → is_running (left_alone i k).status ≡ false → k ≤ i.job.config.limit → PlainAnswered (task_of i.job) before after a → TellsEnd (left_alone i k) a
@@ -321,9 +331,12 @@ plain_completes words before after a i k calm over limit (device, inr ran) = by_
 
 -- and the one on the plain machine
 pub Completes-plain : {M : Type 0} (K : KindOf M) (words : List (List ℕ)) (before after : Outside) (a : Answer) → Answered K words before after a → PlainCompletes words before after a
-Completes-plain K words before after a (held, inl (e, due, device, refused)) i k calm over limit = inr (refused.status ∙ words_due words (plain i.job) e i.asked due)
-Completes-plain K words before after a (held, inr (order, asked, h)) i k calm over limit =
-    plain_completes words before after a i k calm over limit (subst (λ o. OrderAnswered K o before after a) (order_same words (plain i.job) order i.asked asked) h)
+Completes-plain K words before after a (held, inl (e, due, shelf, device, refused)) i k calm over limit = inr (refused.status ∙ words_due words (plain i.job) e i.asked due)
+Completes-plain K words before after a (held, inr (inl (job, asked, h))) i k calm over limit =
+    absurd (let same : run job ≡ plain i.job = order_same words (plain i.job) (run job) i.asked asked in cc)
+Completes-plain K words before after a (held, inr (inr (job, asked, h))) i k calm over limit =
+    plain_completes words before after a i k calm over limit
+    (subst (λ j. PlainAnswered (task_of j) before after a) (job_of_plain job i.job (order_same words (plain i.job) (plain job) i.asked asked)) h)
 
 -- so what is claimed of a call follows from what its answer is
 pub Claim-answered : {M : Type 0} (K : KindOf M) (words : List (List ℕ)) (before after : Outside) (a : Answer) → Answered K words before after a → Claim K words before after a

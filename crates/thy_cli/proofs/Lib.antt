@@ -1,3 +1,4 @@
 pub mod PlainLemmas
+pub mod ClosingLaws
 pub mod CompleteLaws
 pub mod TopLemmas

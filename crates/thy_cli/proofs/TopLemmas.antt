@@ -41,9 +41,11 @@ use Rattle.thy_run.specs.declared.ending.Ending.{Ending}
 use Rattle.thy_run.specs.declared.plan.Plan.{Plan}
 use Rattle.thy_cli.specs.declared.refusal.Refusal.{Refusal}
 use Rattle.thy_cli.specs.declared.refusal.Refusal.TheVariants.{Device as DeviceRefusal}
-use Rattle.thy_cli.specs.Answering.{Outside, Task, task_of, WordsDue, ProgramDue, TaskDue, meaning_of, IsPlanOf, IsRunOf, ClosesRun, PlainAnswered, TaskAnswered, Answered, stop_status}
+use Rattle.thy_cli.specs.Answering.{Outside, Task, task_of, IsInput, most_bytes, WordsDue, ProgramDue, TaskDue, meaning_of, origin_for, given_for, shape_for, IsRunOf, ClosesRun, PlainAnswered, TaskAnswered, Answered, stop_status}
+use Rattle.thy_cli.specs.Planning.{IsPlanOf}
 use Rattle.thy_run.specs.Going.{origin_of, given_of}
-use Rattle.thy_run.specs.Turning.{EndsBy, RunEnds}
+use Rattle.thy_run.specs.Endings.{EndsBy, HasRun}
+use Rattle.thy_run.specs.Turning.{RunEnds}
 
 -- ---- configurations
 
@@ -60,14 +62,14 @@ geometry_is c p none e = ok_is p (parameters_of c) (e ∙ ap (λ f. geometry_or 
 
 -- ---- the start of a run
 
--- no input is one of bytes
-IsReadable-none : (p : Parameters) (input : List ℕ) → input ≡ [] → IsReadable (setting_for p input)
-IsReadable-none p input none =
-    subst (λ (l : List ℕ). IsReadable (setting_for p l)) (sym none) record { bytes = All-nil IsByte; size = lit< tt }
+-- an input that was had is not too long for the machine
+pub input_size : (stock : Stock) (name : Option (List ℕ)) (input : List ℕ) → IsInput stock name input → length input < 2 ^ 64
+input_size stock None input none = omega (arith, ap length none)
+input_size stock (Some name) input held = omega (arith, held.0)
 
 -- a start state begins a run from a file
-pub IsOrigin-start : (o : Origin) (contents : Contents) → IsInRange o.geometry → o.start ≡ start_state o.geometry contents → IsStorable (program_size o.geometry) o.start → o.input ≡ [] → o.kept ≡ None → IsOrigin o
-IsOrigin-start o contents range is storable none file =
+pub IsOrigin-start : (o : Origin) (contents : Contents) → IsInRange o.geometry → o.start ≡ start_state o.geometry contents → IsStorable (program_size o.geometry) o.start → IsReadable (setting_of o) → o.kept ≡ None → IsOrigin o
+IsOrigin-start o contents range is storable readable file =
     let console : length o.start.console ≡ 0 = ap (λ (s : State). length s.console) is in
     let count : o.start.count ≡ 0 = ap (λ (s : State). s.count) is in
     let status : o.start.status ≡ Running = ap (λ (s : State). s.status) is in
@@ -87,7 +89,7 @@ IsOrigin-start o contents range is storable none file =
       };
       memory = storable.memory_size;
       storable = storable;
-      readable = IsReadable-none o.geometry o.input none;
+      readable = readable;
       starts = subst (λ (kept : Option Mark). StartsFrom kept o.start) (sym file) status;
     }
 
@@ -96,8 +98,18 @@ IsOrigin-start o contents range is storable none file =
 -- whatever stopped it, a run is finished
 finished_by : {M : Type 0} (K : KindOf M) → (o : Origin) (given : Given) (k : ℕ) (last : World M) (events : List Happening) (n : Device) (stop : Stop) → Ran K o given k last → EndsBy K o last events n stop → Finished K o given k events n
 finished_by K o given k last events n (Ended status) ran ends = record { last = last; ran = ran; ends = inl ends }
-finished_by K o given k last events n Nvm ran ends = record { last = last; ran = ran; ends = inr ends }
-finished_by K o given k last events n Memory ran ends = record { last = last; ran = ran; ends = ends }
+finished_by K o given k last events n Nvm ran (inl failed) = record { last = last; ran = ran; ends = inr (inl failed) }
+finished_by K o given k last events n Nvm ran (inr f) = record {
+  last = last;
+  ran = ran;
+  ends = inr (inr (record { next = f.next; steps = f.steps; part = f.part; rest = f.rest; told = f.told; split = f.split; unended = f.unended; device = inr f.device }));
+}
+finished_by K o given k last events n Memory ran (inl none) = record { last = last; ran = ran; ends = inl none.1 }
+finished_by K o given k last events n Memory ran (inr f) = record {
+  last = last;
+  ran = ran;
+  ends = inr (inr (record { next = f.next; steps = f.steps; part = f.part; rest = f.rest; told = f.told; split = f.split; unended = f.unended; device = inl f.device }));
+}
 finished_by K o given k last events n Terminal ran ends = record { last = last; ran = ran; ends = inl ends }
 finished_by K o given k last events n Report ran ends = record { last = last; ran = ran; ends = inl ends }
 finished_by K o given k last events n Limit ran ends = record { last = last; ran = ran; ends = inl ends }
@@ -112,34 +124,68 @@ fitted_from_file K laws plan shape n file blocks = record {
   found = laws.finds_nothing plan.geometry shape n blocks ∙ ap (found_first (origin_of plan)) (sym file);
 }
 
+abbrev origin_at : Parameters → State → List ℕ → Option Mark → Origin
+origin_at geometry start input kept = record { geometry = geometry; start = start; input = input; kept = kept }
+
+abbrev shape_at : ℕ → ℕ → ℕ → Shape
+shape_at blocks queue cuts = record { blocks = blocks; queue = queue; cuts = cuts }
+
+abbrev given_at : Config → Bool → Device → Given
+given_at c digest d = record { cuts = c.cuts; tears = c.tears; seed = c.mix; digest = digest; fitted = d }
+
+-- a run of the plan is about what the task's run is
+planned_origin : (task : Task) (stock : Stock) (plan : Plan) (p : IsPlanOf task stock plan) → origin_of plan ≡ origin_for task p.file.contents
+planned_origin task stock plan p =
+    ap (λ g. origin_at g (origin_of plan).start (origin_of plan).input plan.start.kept) p.geometry
+    ∙ ap (λ s. origin_at (parameters_of task.config) s (origin_of plan).input plan.start.kept) (p.start ∙ ap (λ g. start_state g p.file.contents) p.geometry)
+    ∙ ap (λ i. origin_at (parameters_of task.config) (start_state (parameters_of task.config) p.file.contents) i plan.start.kept) p.input
+    ∙ ap (origin_at (parameters_of task.config) (start_state (parameters_of task.config) p.file.contents) []) p.from_file
+
+-- and is given the same
+planned_given : {M : Type 0} (K : KindOf M) (task : Task) (stock : Stock) (plan : Plan) (shape : Shape) (d n : Device) → IsPlanOf task stock plan → d ≡ fitted shape [] n
+    → shape.blocks ≡ K.blocks plan.geometry → shape.queue ≡ plan.geometry.nvmq → shape.cuts ≡ length plan.config.cuts → given_of plan d ≡ given_for K task n
+planned_given K task stock plan shape d n p fit blocks queue cuts =
+    let config : plan.config ≡ task.config = p.config in
+    let digest : plan.digest ≡ task.digest = p.digest in
+    let many : shape.blocks ≡ K.blocks (parameters_of task.config) = blocks ∙ ap K.blocks p.geometry in
+    let long : shape.queue ≡ task.config.nvmq = queue ∙ ap (λ (x : Parameters). x.nvmq) p.geometry in
+    let room : shape.cuts ≡ length task.config.cuts = cuts ∙ ap (λ (c : Config). length c.cuts) config in
+    let same : shape ≡ shape_for K task.config =
+    ap (λ b. shape_at b shape.queue shape.cuts) many ∙ ap (λ q. shape_at (K.blocks (parameters_of task.config)) q shape.cuts) long
+    ∙ ap (shape_at (K.blocks (parameters_of task.config)) task.config.nvmq) room in
+    let device : d ≡ fitted (shape_for K task.config) [] n = fit ∙ ap (λ s. fitted s [] n) same in
+    ap (λ (c : Config). given_at c plan.digest d) config ∙ ap (λ b. given_at task.config b d) digest ∙ ap (given_at task.config task.digest) device
+
 -- a run that was begun keeps its promise
 pub IsRunOf-ran : {M : Type 0} (K : KindOf M) (laws : IsLawful K) → (task : Task) (before after : Outside) (plan : Plan) (d : Device) (shape : Shape) (e : Ending) (a : Answer) (told : Stream) → IsPlanOf task before.shelf plan
     → after.shelf.faults ≡ before.shelf.faults → d ≡ fitted shape [] before.device → shape.blocks ≡ K.blocks plan.geometry → shape.queue ≡ plan.geometry.nvmq → shape.cuts ≡ length plan.config.cuts
     → RunEnds K plan d after.device e before.terminal after.terminal before.report told
     → ClosesRun e.deaf e.stop plan.geometry.limit told after.report → a.events ≡ e.events → a.cycles ≡ e.cycles → a.status ≡ stop_status e.stop → IsRunOf K task before after a
 IsRunOf-ran K laws task before after plan d shape e a told p calm fit blocks queue cuts ends closes events cycles status =
-    let o : Origin = origin_of plan in
     let m : Device = after.device in
-    let kept = Promise-finished K laws o (given_of plan d) e.cycles e.events m p.planned.origin p.planned.rising (finished_by K o (given_of plan d) e.cycles ends.last e.events m e.stop ends.ran ends.ends) in
+    let o : Origin = origin_for task p.file.contents in
+    let given : Given = given_for K task before.device in
+    let about = planned_origin task before.shelf plan p in
+    let besides = planned_given K task before.shelf plan shape d before.device p fit blocks queue cuts in
+    let kept = Promise-finished K laws (origin_of plan) (given_of plan d) e.cycles e.events m p.planned.origin p.planned.rising
+    (finished_by K (origin_of plan) (given_of plan d) e.cycles ends.last e.events m e.stop ends.ran ends.ends) in
+    let promise : Promise K o given e.cycles e.events m =
+    subst (λ x. Promise K o x e.cycles e.events m) besides (subst (λ x. Promise K x (given_of plan d) e.cycles e.events m) about kept) in
     record {
-      plan = plan;
-      is_plan = p;
+      file = p.file;
       calm = calm;
-      device = d;
-      is_fitted = record { shape = shape; start = []; before = before.device; fits = fitted_from_file K laws plan shape before.device p.from_file blocks; queue = queue; cuts = cuts; is_fitted = fit };
-      fresh = refl;
-      from_entry = fit;
       ending = e;
       told = told;
-      ends = ends;
-      closes = closes;
+      ran =
+          subst (λ x. HasRun K o x m e before.terminal after.terminal before.report told) besides
+          (subst (λ x. HasRun K x (given_of plan d) m e before.terminal after.terminal before.report told) about ends);
+      closes = subst (λ l. ClosesRun e.deaf e.stop l told after.report) (ap (λ (x : Parameters). x.limit) p.geometry) closes;
       events = events;
       cycles = cycles;
       status = status;
       promise =
-          subst (λ k. Promise K o (given_of plan d) k a.events m) (sym cycles)
-          (subst (λ vs. Promise K o (given_of plan d) e.cycles vs m) (sym events) kept);
-      once = kept.fits_stay ∙ ap (λ (x : Device). x.fits) fit;
+          subst (λ k. Promise K o given k a.events m) (sym cycles)
+          (subst (λ vs. Promise K o given e.cycles vs m) (sym events) promise);
     }
 
 -- where there is no program, a task is not run
@@ -158,13 +204,13 @@ task_is file input job e f = ap (λ x. task_named x input job) e ∙ ap (λ x. t
 pub Answered-run : {M : Type 0} (K : KindOf M) → (words : List (List ℕ)) (job : Job) (file : List ℕ) (input : Option (List ℕ)) (before after : Outside) (a : Answer) → settings_of words ≡ Ok (run job)
     → file ≡ job.file → input ≡ job.input → after.shelf.held ≡ before.shelf.held → TaskAnswered K (task_named file input job) before after a → Answered K words before after a
 Answered-run K words job file input before after a is names reads held h =
-    (held, inr (run job, is, subst (λ t. TaskAnswered K t before after a) (task_is file input job names reads) h))
+    (held, inr (inl (job, is, subst (λ t. TaskAnswered K t before after a) (task_is file input job names reads) h)))
 
 -- a job for the plain machine
 pub Answered-plain : {M : Type 0} (K : KindOf M) → (words : List (List ℕ)) (job : Job) (file : List ℕ) (input : Option (List ℕ)) (before after : Outside) (a : Answer) → settings_of words ≡ Ok (plain job)
     → file ≡ job.file → input ≡ job.input → after.shelf.held ≡ before.shelf.held → PlainAnswered (task_named file input job) before after a → Answered K words before after a
 Answered-plain K words job file input before after a is names reads held h =
-    (held, inr (plain job, is, subst (λ t. PlainAnswered t before after a) (task_is file input job names reads) h))
+    (held, inr (inr (job, is, subst (λ t. PlainAnswered t before after a) (task_is file input job names reads) h)))
 
 -- a shelf whose count and whose files stayed is the one before
 pub stock_same : (old new : Stock) → new.held ≡ old.held → new.faults ≡ old.faults → new ≡ old

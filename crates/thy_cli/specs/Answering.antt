@@ -1,24 +1,24 @@
 -- What the top call answers.
 use Rattle.std.specs.Prelude.{◌≡◌, ◌⊎◌, ℕ, ◌<◌, ◌≤◌, Bool, true, false, List, [], ◌∷◌, length, codes, Option, Some, None, Result, Ok, Err, MatchOption}
-use Rattle.std.specs.Prelude.{option_map}
 use Rattle.std.specs.Fmt.{decimal}
+use Rattle.std.specs.List.{All}
 use Rattle.thy_base.specs.declared.outside.FetchError.{FetchError}
 use Rattle.thy_base.specs.declared.outside.FetchError.TheVariants.{Failed as FetchFailed, NotThere, TooLong, Memory as FetchMemory}
 use Rattle.thy_base.specs.declared.nvm.FitError.TheVariants.{Failed as FitFailed}
 use Rattle.thy_base.specs.declared.config.Config.{Config}
-use Rattle.thy_base.specs.Bytes.{bytes_of}
+use Rattle.thy_base.specs.declared.nvm.Shape.{Shape}
 use Rattle.thy_base.specs.Device.{Device, HasFailedToFit, fitted}
-use Rattle.thy_base.specs.Geometry.{IsInRange, parameters_of, program_size}
-use Rattle.thy_base.specs.Counts.{Rose, next}
+use Rattle.thy_base.specs.Geometry.{parameters_of, program_size}
+use Rattle.thy_base.specs.Counts.{Rose}
 use Rattle.thy_base.specs.Outside.{Stock, Files, Stream}
 use Rattle.thy_elf.specs.declared.error.ElfError.{ElfError}
 use Rattle.thy_elf.specs.declared.error.ElfError.TheVariants.{Memory as ElfMemory}
-use Rattle.thy_elf.specs.Image.{Contents, contents_of, read_of}
-use Rattle.thy_elf.specs.Refusal.{number_of, name_of, index_of}
-use Rattle.thy_isa.specs.declared.state.Status.TheVariants.{Running, Exited, Trapped}
+use Rattle.thy_elf.specs.Image.{Contents, read_of}
+use Rattle.thy_elf.specs.Refusal.{called, index_of}
+use Rattle.thy_isa.specs.declared.state.Status.TheVariants.{Running, Trapped}
 use Rattle.thy_isa.specs.declared.state.Status.{Status}
 use Rattle.thy_isa.specs.Step.{State}
-use Rattle.thy_plain.specs.Machine.{Machine, loaded, after_steps, StopsAt}
+use Rattle.thy_isa.specs.Storable.{IsByte}
 use Rattle.thy_plain.specs.Start.{start_state}
 use Rattle.thy_text.specs.declared.closing.Closing.TheVariants as closing
 use Rattle.thy_text.specs.declared.closing.FetchFault.TheVariants as fault
@@ -26,21 +26,19 @@ use Rattle.thy_text.specs.Closings.{closing_of}
 use Rattle.thy_text.specs.Lines.{joined, line_feed, ended_lines}
 use Rattle.thy_words.specs.declared.words.WordsError.{WordsError}
 use Rattle.thy_words.specs.declared.words.WordsError.TheVariants.{Usage, Word, Value, Memory as WordsMemory}
-use Rattle.thy_words.specs.Settings.{Job, Order, run, plain, settings_of}
+use Rattle.thy_words.specs.Settings.{Job, run, plain, settings_of}
 use Rattle.thy_view.specs.Kind.{KindOf}
+use Rattle.thy_view.specs.Origin.{Origin, at, runs_at}
 use Rattle.thy_run.specs.Laws.{Promise}
 use Rattle.thy_cli.specs.declared.answer.Answer.{Answer}
 use Rattle.thy_run.specs.declared.ending.Stop.{Stop}
 use Rattle.thy_run.specs.declared.ending.Stop.TheVariants.{Ended, Nvm, Memory, Terminal, Report, Limit}
 use Rattle.thy_run.specs.declared.ending.Ending.{Ending}
-use Rattle.thy_run.specs.declared.plan.Plan.{Plan}
-use Rattle.thy_cli.specs.declared.source.Program.{Program}
-use Rattle.thy_cli.specs.declared.source.Task.{Task as TaskValue}
 use Rattle.thy_cli.specs.declared.refusal.Refusal.{Refusal}
 use Rattle.thy_cli.specs.declared.refusal.Refusal.TheVariants.{Words, Fetch, File, Device as DeviceRefusal, Memory as MemoryRefusal}
-use Rattle.thy_run.specs.Going.{origin_of, given_of, IsPlanned}
+use Rattle.thy_run.specs.Endings.{HasRun}
 use Rattle.thy_run.specs.Sending.{Sent}
-use Rattle.thy_run.specs.Turning.{IsFitted, RunEnds}
+use Rattle.thy_run.specs.World.{Given}
 
 -- what a call finds outside, or leaves there
 pub record Outside : Type 0 where
@@ -62,15 +60,6 @@ pub record Task : Type 0 where
   pub config : Config
   pub digest : Bool
 
--- the task that the program has in hand
-abbrev pub named : TaskValue → Task
-named task = record {
-  file = task.file.now;
-  input = option_map (λ name. name.now) task.input;
-  config = task.config;
-  digest = task.digest;
-}
-
 -- what a job asks for
 abbrev pub task_of : Job → Task
 task_of job = record { file = job.file; input = job.input; config = job.config; digest = job.digest }
@@ -84,12 +73,17 @@ abbrev pub IsHeld : Stock → List ℕ → List ℕ → Type 0
 IsHeld stock name bytes =
     (length bytes ≤ most_bytes) × ((files : Files) → stock.held ≡ Some files → files name ≡ Some bytes)
 
+-- more bytes than a file may have
+abbrev pub IsTooLong : Option (List ℕ) → Type 0
+IsTooLong there = (bytes : List ℕ) × (there ≡ Some bytes) × (most_bytes < length bytes)
+
 -- why a file was not had: the shelf's count rose, or a shelf that tells has nothing there, or too much
 abbrev pub FetchDue : Stock → Stock → List ℕ → FetchError → Type 0
 FetchDue old new name FetchFailed = Rose old.faults new.faults
-FetchDue old new name NotThere = MatchOption old.held (Rose old.faults new.faults) (λ files. files name ≡ None)
+FetchDue old new name NotThere =
+    MatchOption old.held (Rose old.faults new.faults) (λ files. (files name ≡ None) × (new.faults ≡ old.faults))
 FetchDue old new name TooLong =
-    MatchOption old.held (Rose old.faults new.faults) (λ files. (bytes : List ℕ) × (files name ≡ Some bytes) × (most_bytes < length bytes))
+    MatchOption old.held (Rose old.faults new.faults) (λ files. IsTooLong (files name) × (new.faults ≡ old.faults))
 FetchDue old new name (FetchMemory e) = Unit {0}
 
 -- what the bytes of a file mean to a task
@@ -104,6 +98,7 @@ IsInput stock (Some name) bytes = IsHeld stock name bytes
 -- file and input were had, and the file is a program
 pub record IsProgramFile (task : Task) (stock : Stock) : Type 0 where
   pub bytes : List ℕ
+  pub are_bytes : All IsByte bytes
   pub held : IsHeld stock task.file bytes
   pub input : List ℕ
   pub is_input : IsInput stock task.input input
@@ -120,20 +115,21 @@ abbrev pub IsWanted : Task → Stock → List ℕ → Type 0
 IsWanted task stock name =
     (name ≡ task.file) ⊎ ((task.input ≡ Some name) × (bytes : List ℕ) × IsHeld stock task.file bytes)
 
--- why a task has no program: its file or its input was not had, or both were and the file is none; want of memory is free
+-- why a task has no program: its file or its input was not had, or both were and the file is none; want of memory is free,
+-- and once both were had the shelf's count stays
 abbrev pub ProgramDue : Task → Stock → Stock → Refusal → Type 0
 ProgramDue task old new (Fetch name e) = IsWanted task old name.now × FetchDue old new name.now e
-ProgramDue task old new (File (ElfMemory e)) = Unit {0}
+ProgramDue task old new (File (ElfMemory e)) = new.faults ≡ old.faults
 ProgramDue task old new (File e) =
-    (bytes : List ℕ) × IsHeld old task.file bytes × (meaning_of task bytes ≡ Err e)
-    × (input : List ℕ) × IsInput old task.input input
-ProgramDue task old new (MemoryRefusal e) = Unit {0}
+    (new.faults ≡ old.faults) × ((bytes : List ℕ) × IsHeld old task.file bytes × (meaning_of task bytes ≡ Err e)
+    × (input : List ℕ) × IsInput old task.input input)
+ProgramDue task old new (MemoryRefusal e) = new.faults ≡ old.faults
 ProgramDue task old new other = ⊥
 
 -- why a task is not run: a program's device was not fitted, or there is no program, and the device is left alone
 abbrev pub TaskDue : Task → Outside → Outside → Refusal → Type 0
 TaskDue task before after (DeviceRefusal e) =
-    IsProgramFile task before.shelf × HasFailedToFit e before.device after.device
+    IsProgramFile task before.shelf × (after.shelf.faults ≡ before.shelf.faults) × HasFailedToFit e before.device after.device
 TaskDue task before after r = ProgramDue task before.shelf after.shelf r × (after.device ≡ before.device)
 
 -- ---- what is told of a refusal
@@ -146,7 +142,7 @@ index_parts (Some k) = codes " " ∷ decimal k ∷ line_feed ∷ []
 -- the line of a file that is refused
 abbrev pub file_line : ElfError → List ℕ
 file_line e =
-    joined (codes "file " ∷ decimal (number_of e) ∷ codes " " ∷ name_of e ∷ index_parts (index_of e))
+    joined (codes "file " ∷ decimal (called e).0 ∷ codes " " ∷ (called e).1 ∷ index_parts (index_of e))
 
 -- What is told of a refusal: the exit status and the closing line. The others are want of memory.
 abbrev pub told_of : Refusal → ℕ × List ℕ
@@ -161,51 +157,47 @@ told_of (File e) = (4, file_line e)
 told_of (DeviceRefusal FitFailed) = (7, closing_of closing.Nvm)
 told_of other = (9, closing_of closing.Memory)
 
-abbrev pub refused_status : Refusal → ℕ
-refused_status r = (told_of r).0
-
-abbrev pub refused_line : Refusal → List ℕ
-refused_line r = (told_of r).1
-
 -- a line was written, or the report failed in it
 abbrev pub Closes : List ℕ → Stream → Stream → Type 0
 Closes line old new = (failed : Bool) × Sent failed old new line
 
 -- a call that began no run: a line says why
 pub record IsRefused (r : Refusal) (before after : Outside) (a : Answer) : Type 0 where
-  pub status : a.status ≡ refused_status r
+  pub status : a.status ≡ (told_of r).0
   pub events : a.events ≡ []
   pub cycles : a.cycles ≡ 0
   pub shown_none : after.terminal ≡ before.terminal
-  pub closes : Closes (refused_line r) before.report after.report
+  pub closes : Closes (told_of r).1 before.report after.report
 
 -- ---- runs
 
--- a program is what a task's file means, with the task's input
-pub record IsProgramOf (task : Task) (stock : Stock) (p : Program) : Type 0 where
-  pub geometry : p.geometry ≡ parameters_of task.config
-  pub in_range : IsInRange p.geometry
-  pub file : IsProgramFile task stock
-  pub contents : file.contents ≡ contents_of p.image
-  pub input : bytes_of p.input ≡ file.input
-  pub size : length (bytes_of p.image.memory) ≡ program_size p.geometry
+-- what the run of a program file is about: the program from its entry, with what it reads
+abbrev pub origin_for : Task → Contents → List ℕ → Origin
+origin_for task contents input = record {
+  geometry = parameters_of task.config;
+  start = start_state (parameters_of task.config) contents;
+  input = input;
+  kept = None;
+}
 
--- a plan is that of a task: its program is what the file means, and reads the input
-pub record IsPlanOf (task : Task) (stock : Stock) (p : Plan) : Type 0 where
-  pub config : p.config ≡ task.config
-  pub geometry : p.geometry ≡ parameters_of task.config
-  pub digest : p.digest ≡ task.digest
-  pub file : IsProgramFile task stock
-  pub start : (origin_of p).start ≡ start_state p.geometry file.contents
-  pub input : (origin_of p).input ≡ file.input
-  pub from_file : p.start.kept ≡ None
-  pub planned : IsPlanned p
+-- the device that a task's machine is fitted with
+abbrev pub shape_for : {M : Type 0} → KindOf M → Config → Shape
+shape_for K c = record { blocks = K.blocks (parameters_of c); queue = c.nvmq; cuts = length c.cuts }
+
+-- what a run is given besides its program, over a device that was fitted with zeros
+abbrev pub given_for : {M : Type 0} → KindOf M → Task → Device → Given
+given_for K task device = record {
+  cuts = task.config.cuts;
+  tears = task.config.tears;
+  seed = task.config.mix;
+  digest = task.digest;
+  fitted = fitted (shape_for K task.config) [] device;
+}
 
 -- the exit status of a stop
 abbrev pub stop_status : Stop → ℕ
 stop_status (Ended (Trapped cause)) = 1
-stop_status (Ended (Exited value)) = 0
-stop_status (Ended Running) = 0
+stop_status (Ended status) = 0
 stop_status Terminal = 6
 stop_status Report = 6
 stop_status Nvm = 7
@@ -214,33 +206,26 @@ stop_status Memory = 9
 
 -- the report takes the closing line of a stop; at an end there is none, and a report that failed gets no more
 abbrev pub ClosesRun : (deaf : Bool) → Stop → ℕ → Stream → Stream → Type 0
-ClosesRun true stop limit old new = new ≡ old
-ClosesRun false (Ended status) limit old new = new ≡ old
-ClosesRun false Report limit old new = new ≡ old
 ClosesRun false Terminal limit old new = Closes (closing_of closing.Terminal) old new
 ClosesRun false Nvm limit old new = Closes (closing_of closing.Nvm) old new
 ClosesRun false Limit limit old new = Closes (closing_of (closing.Limit limit)) old new
 ClosesRun false Memory limit old new = Closes (closing_of closing.Memory) old new
+ClosesRun deaf stop limit old new = new ≡ old
 
 -- A run was begun over a device that was fitted, and ended. Its cycles are those of a run, and keep what is promised
 -- of every run; the sinks took what its events say.
 pub record IsRunOf {M : Type 0} (K : KindOf M) (task : Task) (before after : Outside) (a : Answer) : Type 0 where
-  pub plan : Plan
-  pub is_plan : IsPlanOf task before.shelf plan
+  pub file : IsProgramFile task before.shelf
   pub calm : after.shelf.faults ≡ before.shelf.faults
-  pub device : Device
-  pub is_fitted : IsFitted K plan device
-  pub fresh : is_fitted.start ≡ []
-  pub from_entry : device ≡ fitted is_fitted.shape [] before.device
   pub ending : Ending
   pub told : Stream
-  pub ends : RunEnds K plan device after.device ending before.terminal after.terminal before.report told
-  pub closes : ClosesRun ending.deaf ending.stop plan.geometry.limit told after.report
+  pub ran : HasRun K (origin_for task file.contents) (given_for K task before.device) after.device ending
+      before.terminal after.terminal before.report told
+  pub closes : ClosesRun ending.deaf ending.stop task.config.limit told after.report
   pub events : a.events ≡ ending.events
   pub cycles : a.cycles ≡ ending.cycles
   pub status : a.status ≡ stop_status ending.stop
-  pub promise : Promise K (origin_of plan) (given_of plan device) a.cycles a.events after.device
-  pub once : after.device.fits ≡ next before.device.fits
+  pub promise : Promise K (origin_for task file.contents) (given_for K task before.device) a.cycles a.events after.device
 
 -- ---- the plain machine
 
@@ -251,13 +236,11 @@ plain_stop true false status = Terminal
 plain_stop false false Running = Limit
 plain_stop false false status = Ended status
 
--- the plain machine at the start of a program that reads this input
-abbrev pub plain_start : Task → Contents → List ℕ → Machine
-plain_start task contents input = loaded (parameters_of task.config) contents input
-
--- its state after so many steps
-abbrev pub plain_state : Task → Contents → List ℕ → ℕ → State
-plain_state task contents input k = (after_steps k (plain_start task contents input)).state
+-- k is the least number of steps after which the program runs no more, or the limit where that comes first
+pub record StopsAt (o : Origin) (limit k : ℕ) : Type 0 where
+  pub within : k ≤ limit
+  pub ran : (j : ℕ) → j < k → runs_at o j ≡ true
+  pub over : k < limit → runs_at o k ≡ false
 
 -- the lines of a state that has ended
 abbrev pub end_lines : Task → State → List ℕ
@@ -268,9 +251,9 @@ end_lines task s = ended_lines task.digest s.status s.count s.memory
 pub record IsPlainOf (task : Task) (before after : Outside) (a : Answer) : Type 0 where
   pub file : IsProgramFile task before.shelf
   pub calm : after.shelf.faults ≡ before.shelf.faults
-  pub stops : StopsAt (plain_start task file.contents file.input) task.config.limit a.cycles
+  pub stops : StopsAt (origin_for task file.contents file.input) task.config.limit a.cycles
   pub last : State
-  pub is_last : last ≡ plain_state task file.contents file.input a.cycles
+  pub is_last : last ≡ at (origin_for task file.contents file.input) a.cycles
   pub mute : Bool
   pub deaf : Bool
   pub shown_all : Sent mute before.terminal after.terminal last.console
@@ -295,20 +278,17 @@ PlainAnswered task before after a =
     × (((r : Refusal) × ProgramDue task before.shelf after.shelf r × IsRefused r before after a)
     ⊎ IsPlainOf task before after a)
 
--- what the answer to an order is
-abbrev pub OrderAnswered : {M : Type 0} → KindOf M → Order → Outside → Outside → Answer → Type 0
-OrderAnswered K (run job) before after a = TaskAnswered K (task_of job) before after a
-OrderAnswered K (plain job) before after a = PlainAnswered (task_of job) before after a
-
--- the words are refused, and the device is left alone
+-- the words are refused, and shelf and device are left alone
 abbrev pub WordsRefused : List (List ℕ) → Outside → Outside → Answer → Type 0
 WordsRefused words before after a =
-    (e : WordsError) × WordsDue words e × (after.device ≡ before.device) × IsRefused (Words e) before after a
+    (e : WordsError) × WordsDue words e × (after.shelf ≡ before.shelf) × (after.device ≡ before.device)
+    × IsRefused (Words e) before after a
 
--- What the answer to a call is: the words are refused, or they order something, and this is answered. What stands on the
--- shelf stays.
+-- What the answer to a call is: the words are refused, or they order a run, on the machine or on the plain machine, and this
+-- is answered. What stands on the shelf stays.
 abbrev pub Answered : {M : Type 0} → KindOf M → List (List ℕ) → Outside → Outside → Answer → Type 0
 Answered K words before after a =
     (after.shelf.held ≡ before.shelf.held)
     × (WordsRefused words before after a
-    ⊎ ((order : Order) × (settings_of words ≡ Ok order) × OrderAnswered K order before after a))
+    ⊎ (((job : Job) × (settings_of words ≡ Ok (run job)) × TaskAnswered K (task_of job) before after a)
+    ⊎ ((job : Job) × (settings_of words ≡ Ok (plain job)) × PlainAnswered (task_of job) before after a)))

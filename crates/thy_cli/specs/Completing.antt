@@ -7,7 +7,8 @@ use Rattle.thy_run.specs.Progress.{cycles_for}
 use Rattle.thy_run.specs.declared.ending.Stop.TheVariants.{Ended}
 use Rattle.thy_view.specs.Kind.{KindOf}
 use Rattle.thy_words.specs.Settings.{Job, Order, run, plain, settings_of}
-use Rattle.thy_cli.specs.Answering.{Outside, task_of, IsProgramFile, plain_state, stop_status, Answered}
+use Rattle.thy_view.specs.Origin.{at}
+use Rattle.thy_cli.specs.Answering.{Outside, Task, task_of, IsProgramFile, origin_for, stop_status, Answered}
 use Rattle.thy_cli.specs.declared.answer.Answer.{Answer}
 
 -- the words order something of a shelf that tells: file and input stand there, each within the limit, and the file is a program
@@ -29,6 +30,10 @@ pub record IsCalm (before after : Outside) : Type 0 where
   pub device : Stayed before.device.faults after.device.faults
   pub terminal : Stayed before.terminal.faults after.terminal.faults
   pub report : Stayed before.report.faults after.report.faults
+
+-- the uninterrupted program's state after so many steps
+abbrev pub plain_state : Task → Contents → List ℕ → ℕ → State
+plain_state task contents input k = at (origin_for task contents input) k
 
 -- the program's state after k instructions, left alone
 abbrev pub left_alone : {order : Job → Order} {words : List (List ℕ)} {stock : Stock} → IsAsked order words stock → ℕ → State

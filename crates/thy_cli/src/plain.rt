@@ -4,7 +4,8 @@ ghost use Rattle.thy_base.specs.Bytes.{bytes_of};
 ghost use Rattle.thy_base.specs.Config.{fault_of as range_fault};
 ghost use Rattle.thy_base.specs.Device.{Device as DeviceValue};
 ghost use Rattle.thy_text.specs.Lines.{ended_lines};
-ghost use Rattle.thy_cli.specs.Answering.{outside, PlainAnswered, named, plain_stop};
+ghost use Rattle.thy_cli.specs.Answering.{outside, PlainAnswered, plain_stop};
+ghost use Rattle.thy_cli.specs.Planning.{named};
 ghost use Rattle.thy_run.specs.Sending.{Sent};
 
 use crate::answer::Answer;

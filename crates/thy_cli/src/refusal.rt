@@ -1,7 +1,8 @@
 //! Why a call begins no run.
 ghost use Rattle.std.specs.Prelude.{◌≡◌, [], OnOk, OnErr};
 ghost use Rattle.thy_text.specs.Closings.{closing_of};
-ghost use Rattle.thy_cli.specs.Answering.{refused_status, refused_line, file_line, Closes, IsRefused};
+ghost use Rattle.thy_cli.specs.Answering.{file_line, Closes, IsRefused};
+ghost use Rattle.thy_cli.specs.Planning.{refused_status, refused_line};
 
 use crate::answer::Answer;
 use crate::close::close;

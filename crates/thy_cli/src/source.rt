@@ -3,12 +3,14 @@ ghost use Rattle.std.specs.Prelude.{◌≡◌, List, ℕ, None, IfOk, IfErr, OnO
 ghost use Rattle.thy_base.specs.Bytes.{bytes_of};
 ghost use Rattle.thy_base.specs.Config.{fault_of as range_fault};
 ghost use Rattle.thy_base.specs.Geometry.{parameters_of};
-ghost use Rattle.thy_cli.specs.Answering.{ProgramDue, IsProgramOf, IsHeld, IsInput, named};
+ghost use Rattle.thy_cli.specs.Answering.{ProgramDue, IsHeld, IsInput};
+ghost use Rattle.thy_cli.specs.Planning.{IsProgramOf, named};
 
 use crate::refusal::Refusal;
 use std::alloc::Global;
 use thy_base::{Bytes, Config, Geometry, Shelf};
 use thy_elf::{Image, read};
+use thy_plain::are_bytes;
 use thy_words::WordsError;
 
 /// The most bytes that a program file may have, and an input.
@@ -97,6 +99,7 @@ fn program_for<'a, H: Shelf>(
         Ok(input) => input,
         Err(refusal) => return Err(refusal),
     };
+    are_bytes(file.as_slice());
     let base = geometry.numbers().base;
     match read(alloc, file.as_slice(), base, geometry.program_size()) {
         Ok(image) => Ok(Program {

@@ -6,7 +6,8 @@ ghost use Rattle.thy_base.specs.Config.{fault_of as range_fault};
 ghost use Rattle.thy_base.specs.Geometry.{program_size};
 ghost use Rattle.thy_base.specs.Outside.{Stock};
 ghost use Rattle.thy_cli.specs.Completing.{Claim};
-ghost use Rattle.thy_cli.specs.Answering.{outside, TaskAnswered, ProgramDue, IsProgramOf, IsPlanOf, named};
+ghost use Rattle.thy_cli.specs.Answering.{outside, TaskAnswered, ProgramDue};
+ghost use Rattle.thy_cli.specs.Planning.{IsProgramOf, IsPlanOf, named};
 
 use crate::answer::Answer;
 use crate::close::answer;
@@ -16,7 +17,7 @@ use crate::source::{Program, Task, fetch_program};
 use std::alloc::Global;
 use thy_base::{Nvm, Shape, Shelf, Sink};
 use thy_copy::Machine;
-use thy_plain::start_of;
+use thy_plain::{are_bytes, start_of};
 use thy_record::Start;
 use thy_run::{Plan, run};
 use thy_view::Computer;
@@ -29,6 +30,7 @@ fn plan_of(alloc: Global, task: Task, program: Program) -> Plan
     ensures { (stock : Stock) → IsProgramOf (named task.entry) stock program
         → IsPlanOf (named task.entry) stock result }
 {
+    are_bytes(program.input.as_slice());
     let start = Start {
         state: start_of(alloc, program.image, &program.geometry),
         kept: None,

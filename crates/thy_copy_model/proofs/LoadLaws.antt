@@ -277,13 +277,13 @@ module _ (o : Origin) (m : Parts) (n : Device) (h : IsBooting o m n) (bounded : 
           up = h.up;
           moment = (quiet, λ over. ap (λ c. c.status) l.cpu ∙ starts_running o o.kept (loading_file o m n (mark 0 o.start.count) Finish l.written) h.origin.starts);
         };
-        step = (
-          h.phase,
-          ap (λ v. v.done) l.view,
-          ap (λ v. v.written) l.view,
-          sealed,
-          ap (λ (c : ℕ). record m.view { phase = Run; done = m.view.sealed; sealed = None; epoch = 1; count = c; written = false }) count,
-        );
+        step = record {
+          phase = h.phase;
+          none = ap (λ v. v.done) l.view;
+          written = ap (λ v. v.written) l.view;
+          sealed = sealed;
+          becomes = ap (λ (c : ℕ). record m.view { phase = Run; done = m.view.sealed; sealed = None; epoch = 1; count = c; written = false }) count;
+        };
       }
 
   -- each issue, for epoch 0

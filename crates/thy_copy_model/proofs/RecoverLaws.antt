@@ -257,7 +257,7 @@ module _ (o : Origin) (m : Parts) (n : Device) (h : IsBooting o m n) where
     restart_step v again cpu e same phase =
         subst (λ x. CoreStep o v (Restarted x cpu.count) (restored_view epoch cpu)) (sym same)
         (subst (λ w. CoreStep o w (Restarted epoch cpu.count) (restored_view epoch cpu)) (sym e)
-        (refl, refl, refl, refl, ap (λ (p : Phase). record (restored_view epoch cpu) { phase = p }) phase))
+        (record { phase = refl; done = refl; unsealed = refl; unwritten = refl; becomes = ap (λ (p : Phase). record (restored_view epoch cpu) { phase = p }) phase }))
 
     restored_image : m.cpu ≡ cpu_of_record r.stands.cpu → image_view o n ≡ boot_view (Some (mark epoch m.cpu.count)) None
     restored_image cpu =

@@ -186,17 +186,15 @@ module _ (o : Origin) (m : Parts) (n new : Device) (epoch : ℕ) (issue : Issue)
           up = up ∙ s.up;
           moment = idle_moment o x new m.cpu.status refl refl quiet (k.sealed ∙ ap (λ e. Some (mark e m.view.count)) before);
         };
-        step = (
-          phase,
-          k.written ∙ ap is_finish finish,
-          refl,
-          (
-            m.view.count,
-            k.sealed,
-            ap (λ (p : Phase). record (busier m.view) { phase = p; done = m.view.sealed; sealed = None; written = false })
-                (ap (λ s. if is_running s then Run else Halt) status_held),
-          ),
-        );
+        step = record {
+          phase = phase;
+          written = k.written ∙ ap is_finish finish;
+          laps = refl;
+          count = m.view.count;
+          sealed = k.sealed;
+          becomes = ap (λ (p : Phase). record (busier m.view) { phase = p; done = m.view.sealed; sealed = None; written = false })
+              (ap (λ s. if is_running s then Run else Halt) status_held);
+        };
       }
 
   goes_to : (to : Option Issue) → Follows issue to → IsIssuedTo o m new (Some k.kept) (mark epoch m.view.count) to → IsBounded (checkpoint_on epoch issue to m)
@@ -279,7 +277,7 @@ Goes-seal o m n cause s phase stage over below =
         moment = subst (SoundIn o x n) (sym phase) checkpointing;
       };
       step = subst (λ v. CoreStep o v (Sealed m.view.epoch m.view.count cause) x.view) (sym (view-idle o m n stage))
-          (phase, q.sealed, refl, refl, over, refl);
+          (record { phase = phase; unsealed = q.sealed; of_epoch = refl; at_count = refl; over = over; becomes = refl });
     }
 
 -- ---- an instruction
@@ -380,5 +378,10 @@ Goes-retire o m n s phase stage over e within =
       step =
           subst (λ v. CoreStep o v Retired (view_of o x n)) (sym (view-idle o m n stage))
           (subst (λ v. CoreStep o m.view Retired v) (sym (view-idle o x n idle))
-          (phase, over, running, ap (λ (c : Option EndCause). record (busier m.view) { count = m.view.count + 1; retired = m.view.retired + 1; lap = m.view.lap + 1; over = c }) cause));
+          (record {
+            phase = phase;
+            over = over;
+            runs = running;
+            becomes = ap (λ (c : Option EndCause). record (busier m.view) { count = m.view.count + 1; retired = m.view.retired + 1; lap = m.view.lap + 1; over = c }) cause;
+          }));
     }

@@ -81,31 +81,31 @@ module _ (o : Origin) (k : ℕ) (v next : View) (h : IsSmall o k v) where
   pub IsSmall-step : (did : Did) → CoreStep o v did next → IsSmall o (k + 1) next
   IsSmall-step Boot s = boots s.1
   IsSmall-step Loaded s = record {
-    epoch = let e : next.epoch ≡ 1 = ap (λ w. w.epoch) s.4 in omega arith;
-    count = let e : next.count ≡ o.start.count = ap (λ w. w.count) s.4 in omega arith;
-    done = λ m is. more_mark o k m (h.sealed m (sym (ap (λ w. w.done) s.4) ∙ is));
-    sealed = λ m is. none_is o (k + 1) m (sym (ap (λ w. w.sealed) s.4) ∙ is);
+    epoch = let e : next.epoch ≡ 1 = ap (λ w. w.epoch) s.becomes in omega arith;
+    count = let e : next.count ≡ o.start.count = ap (λ w. w.count) s.becomes in omega arith;
+    done = λ m is. more_mark o k m (h.sealed m (sym (ap (λ w. w.done) s.becomes) ∙ is));
+    sealed = λ m is. none_is o (k + 1) m (sym (ap (λ w. w.sealed) s.becomes) ∙ is);
   }
   IsSmall-step (Restarted epoch count) s =
-      let kept : IsSmallMark o k (mark epoch count) = h.done (mark epoch count) s.1 in
+      let kept : IsSmallMark o k (mark epoch count) = h.done (mark epoch count) s.done in
       let below : epoch ≤ first_epoch o.kept + k = kept.epoch in
       let least : count ≤ o.start.count + k = kept.count in
       record {
-        epoch = let e : next.epoch ≡ epoch + 1 = ap (λ w. w.epoch) s.4 in omega arith;
-        count = let e : next.count ≡ count = ap (λ w. w.count) s.4 in omega arith;
-        done = λ m is. more_mark o k m (h.done m (sym (ap (λ w. w.done) s.4) ∙ is));
-        sealed = λ m is. more_mark o k m (h.sealed m (sym (ap (λ w. w.sealed) s.4) ∙ is));
+        epoch = let e : next.epoch ≡ epoch + 1 = ap (λ w. w.epoch) s.becomes in omega arith;
+        count = let e : next.count ≡ count = ap (λ w. w.count) s.becomes in omega arith;
+        done = λ m is. more_mark o k m (h.done m (sym (ap (λ w. w.done) s.becomes) ∙ is));
+        sealed = λ m is. more_mark o k m (h.sealed m (sym (ap (λ w. w.sealed) s.becomes) ∙ is));
       }
-  IsSmall-step (Refused bad) s = same s.1
+  IsSmall-step (Refused bad) s = same s.3
   IsSmall-step Moved s = moves s.3
   IsSmall-step Retired s =
       let before = h.count in
       let epoch = h.epoch in
       record {
-        epoch = let e : next.epoch ≡ v.epoch = ap (λ w. w.epoch) s.3 in omega arith;
-        count = let e : next.count ≡ v.count + 1 = ap (λ w. w.count) s.3 in omega arith;
-        done = λ m is. more_mark o k m (h.done m (sym (ap (λ w. w.done) s.3) ∙ is));
-        sealed = λ m is. more_mark o k m (h.sealed m (sym (ap (λ w. w.sealed) s.3) ∙ is));
+        epoch = let e : next.epoch ≡ v.epoch = ap (λ w. w.epoch) s.becomes in omega arith;
+        count = let e : next.count ≡ v.count + 1 = ap (λ w. w.count) s.becomes in omega arith;
+        done = λ m is. more_mark o k m (h.done m (sym (ap (λ w. w.done) s.becomes) ∙ is));
+        sealed = λ m is. more_mark o k m (h.sealed m (sym (ap (λ w. w.sealed) s.becomes) ∙ is));
       }
   IsSmall-step Flushed s = busy s.1
   IsSmall-step Merged s = busy s.1
@@ -113,18 +113,18 @@ module _ (o : Origin) (k : ℕ) (v next : View) (h : IsSmall o k v) where
   IsSmall-step (Sealed epoch count cause) s =
       let before = h.count in
       let least = h.epoch in
-      let of : epoch ≡ v.epoch = s.2 in
-      let at : count ≡ v.count = s.3 in
+      let of : epoch ≡ v.epoch = s.of_epoch in
+      let at : count ≡ v.count = s.at_count in
       let sealed_mark : IsSmallMark o (k + 1) (mark epoch count) = record { epoch = omega arith; count = omega arith } in
       record {
-        epoch = let e : next.epoch ≡ v.epoch + 1 = ap (λ w. w.epoch) s.5 in omega arith;
-        count = let e : next.count ≡ v.count = ap (λ w. w.count) s.5 in omega arith;
-        done = λ m is. more_mark o k m (h.done m (sym (ap (λ w. w.done) s.5) ∙ is));
-        sealed = λ m is. the_mark o (k + 1) (mark epoch count) m (sym (ap (λ w. w.sealed) s.5) ∙ is) sealed_mark;
+        epoch = let e : next.epoch ≡ v.epoch + 1 = ap (λ w. w.epoch) s.becomes in omega arith;
+        count = let e : next.count ≡ v.count = ap (λ w. w.count) s.becomes in omega arith;
+        done = λ m is. more_mark o k m (h.done m (sym (ap (λ w. w.done) s.becomes) ∙ is));
+        sealed = λ m is. the_mark o (k + 1) (mark epoch count) m (sym (ap (λ w. w.sealed) s.becomes) ∙ is) sealed_mark;
       }
   IsSmall-step (Engine step) s = engine step s.1
   IsSmall-step (Committed epoch overlapped) s =
-      let eq = s.3.2 in
+      let eq = s.becomes in
       let before = h.count in
       let least = h.epoch in
       record {

@@ -1,5 +1,5 @@
 -- What a cycle did was the turn of its pick.
-use Rattle.std.proofs.Common.{◌≡◌, ℕ, ◌==◌, Bool, true, false, ◌&&◌, ◌||◌, not, is_some, if◌then◌else◌, Option, Some, None, refl, sym, ◌∙◌, ap, subst}
+use Rattle.std.proofs.Common.{◌≡◌, ℕ, ◌==◌, Bool, true, false, ◌&&◌, ◌||◌, not, is_some, if◌then◌else◌, Option, Some, None, refl, sym, ◌∙◌, ap, subst, inl, inr}
 use Rattle.thy_base.specs.declared.cause.EndCause.{EndCause}
 use Rattle.thy_base.specs.declared.mix.Pick.{Pick}
 use Rattle.thy_base.specs.declared.mix.Pick.TheVariants.{Hart, Engine as EnginePick, NvmDrain, DramDrain}
@@ -25,23 +25,28 @@ use Rattle.thy_view.specs.Safe.{ceiling}
 use Rattle.thy_copy_model.specs.Sound.{Sound, view_in, view_of}
 use Rattle.thy_copy_model.specs.Steps.{boot_did, loading_did, read_did, checkpoint_did}
 use Rattle.thy_copy_model.specs.Kind.{short_at, pressure_of}
-use Rattle.thy_view.specs.Turn.{Nvm, Checkpoint, TheHart, Pressure, has_stopped, waits, stall_in, hart_turn, engine_turn, IsEngines, IsBoots, IsHarts, Acts, Turn}
+use Rattle.thy_view.specs.Turn.{Actor, Nvm, Checkpoint, TheHart, Pressure, has_stopped, waits, stall_in, hart_turn, engine_turn, Does, told_at, Turn}
 use Rattle.thy_copy_model.proofs.CycleLaws.{run_sound, run_view, halted_view}
 use Rattle.thy_copy_model.proofs.RecoverLaws.{image_phase}
 use Rattle.thy_copy_model.proofs.RunLaws.{IsCheckpointing-sound}
+
+-- an actor did this, and this stall is told
+abbrev Acts : Actor → Did → Option Stall → Type 0
+Acts actor did stall = Does did actor × (stall ≡ told_at actor)
 
 -- what was done was the hart's turn, and for the engine's own pick the engine's
 abbrev IsTurn : Origin → Pressure → View → Did → Option Stall → Type 0
 IsTurn o p v did stall = Acts (hart_turn o v p) did stall × Acts (engine_turn o v.phase v p) did (told EnginePick stall)
 
-boot_turn : (o : Origin) (p : Pressure) (v : View) (did : Did) → v.phase ≡ Boot → IsBoots did → IsTurn o p v did (Some Booting)
+boot_turn : (o : Origin) (p : Pressure) (v : View) (did : Did) → v.phase ≡ Boot → Does did (TheHart (Some Booting)) → IsTurn o p v did (Some Booting)
 boot_turn o p v did phase h =
     let hart : Acts (hart_turn o v p) did (Some Booting) = subst (λ x. Acts (TheHart (stall_in o x v p)) did (Some Booting)) (sym phase) (h, refl) in
     (hart, subst (λ x. Acts (engine_turn o x v p) did (Some Booting)) (sym phase) hart)
 
 halt_turn : (o : Origin) (p : Pressure) (v : View) (did : Did) → v.phase ≡ Halt → did ≡ Nothing → IsTurn o p v did (Some Halted)
 halt_turn o p v did phase h =
-    let hart : Acts (hart_turn o v p) did (Some Halted) = subst (λ x. Acts (TheHart (stall_in o x v p)) did (Some Halted)) (sym phase) (h, refl) in
+    let rests : Does did (TheHart (Some Halted)) = subst (λ d. Does d (TheHart (Some Halted))) (sym h) refl in
+    let hart : Acts (hart_turn o v p) did (Some Halted) = subst (λ x. Acts (TheHart (stall_in o x v p)) did (Some Halted)) (sym phase) (rests, refl) in
     (hart, subst (λ x. Acts (engine_turn o x v p) did (Some Halted)) (sym phase) hart)
 
 short_waits : (a b c d : Bool) → a ≡ true → c ≡ true → (a && (b || c || d)) ≡ true
@@ -50,13 +55,13 @@ short_waits true false true d e f = refl
 short_waits false b c d e f = absurd (cc)
 short_waits true b false d e f = absurd (cc)
 
-waiting_turn : (o : Origin) (p : Pressure) (v : View) (did : Did) (m : Mark) → v.phase ≡ Run → v.sealed ≡ Some m → is_some p.short ≡ true → IsEngines did → IsTurn o p v did (Some Waiting)
+waiting_turn : (o : Origin) (p : Pressure) (v : View) (did : Did) (m : Mark) → v.phase ≡ Run → v.sealed ≡ Some m → is_some p.short ≡ true → Does did (TheHart (Some Waiting)) × Does did Checkpoint → IsTurn o p v did (Some Waiting)
 waiting_turn o p v did m phase sealed short h =
     let waiting : waits o v p ≡ true = short_waits (is_some v.sealed) (is_some v.over) (is_some p.short) (has_stopped o v.sealed && not p.promotes) (ap is_some sealed) short in (
       subst (λ x. Acts (TheHart (stall_in o x v p)) did (Some Waiting)) (sym phase)
-          (subst (λ (w : Bool). Acts (TheHart (if w then Some Waiting else (if is_some v.over || p.promotes then Some Sealing else None))) did (Some Waiting)) (sym waiting) (h, refl)),
+          (subst (λ (w : Bool). Acts (TheHart (if w then Some Waiting else (if is_some v.over || p.promotes then Some Sealing else None))) did (Some Waiting)) (sym waiting) (h.0, refl)),
       subst (λ x. Acts (engine_turn o x v p) did None) (sym phase)
-          (subst (λ (x : Option Mark). Acts (if is_some x then Checkpoint else hart_turn o v p) did None) (sym sealed) (h, refl)),
+          (subst (λ (x : Option Mark). Acts (if is_some x then Checkpoint else hart_turn o v p) did None) (sym sealed) (h.1, refl)),
     )
 
 -- the stall where no checkpoint is under way and nothing is to be promoted
@@ -71,7 +76,7 @@ stall_idle : (over : Option EndCause) → idle_stall over ≡ (if is_some over t
 stall_idle None = refl
 stall_idle (Some cause) = refl
 
-idle_turn : (o : Origin) (p : Pressure) (v : View) (did : Did) → v.phase ≡ Run → v.sealed ≡ None → p.promotes ≡ false → IsHarts (idle_stall v.over) did → IsTurn o p v did (idle_stall v.over)
+idle_turn : (o : Origin) (p : Pressure) (v : View) (did : Did) → v.phase ≡ Run → v.sealed ≡ None → p.promotes ≡ false → Does did (TheHart (idle_stall v.over)) → IsTurn o p v did (idle_stall v.over)
 idle_turn o p v did phase sealed calm h =
     let awake : waits o v p ≡ false = ap (λ (x : Option Mark). is_some x && (is_some v.over || is_some p.short || (has_stopped o x && not p.promotes))) sealed in
     let hart : Acts (hart_turn o v p) did (idle_stall v.over) = subst (λ x. Acts (TheHart (stall_in o x v p)) did (idle_stall v.over)) (sym phase)
@@ -84,20 +89,20 @@ idle_turn o p v did phase sealed calm h =
     )
 
 module _ (o : Origin) (m : Parts) (n : Device) (s : Sound o m n) where
-  read_boots : (stage : Stage) (x : Parts) → IsBoots (read_did stage x)
-  read_boots Idle x = tt
-  read_boots (Refused bad) x = tt
-  read_boots Unread x = tt
-  read_boots (Header epoch fault) x = tt
-  read_boots (Record epoch k) x = tt
-  read_boots (Restoring epoch i) x = tt
-  read_boots (Writing epoch issue) x = tt
+  read_boots : (stage : Stage) (x : Parts) → Does (read_did stage x) (TheHart (Some Booting))
+  read_boots Idle x = refl
+  read_boots (Refused bad) x = refl
+  read_boots Unread x = refl
+  read_boots (Header epoch fault) x = refl
+  read_boots (Record epoch k) x = refl
+  read_boots (Restoring epoch i) x = refl
+  read_boots (Writing epoch issue) x = refl
 
-  load_boots : (next : Option Issue) → IsBoots (loading_did next)
-  load_boots (Some next) = tt
-  load_boots None = tt
+  load_boots : (next : Option Issue) → Does (loading_did next) (TheHart (Some Booting))
+  load_boots (Some next) = refl
+  load_boots None = refl
 
-  boot_boots : (stage : Stage) (x : Parts) → IsBoots (boot_did stage m x)
+  boot_boots : (stage : Stage) (x : Parts) → Does (boot_did stage m x) (TheHart (Some Booting))
   boot_boots (Writing epoch issue) x = load_boots (issue_after m.geometry epoch issue)
   boot_boots Unread x = read_boots x.stage x
   boot_boots (Header epoch fault) x = read_boots x.stage x
@@ -119,13 +124,13 @@ module _ (o : Origin) (m : Parts) (n : Device) (s : Sound o m n) where
   unfolding view_of
   boot_phase is = view_boots m.stage is
 
-  engines : (epoch : ℕ) (issue : Issue) (next : Option Issue) → IsEngines (checkpoint_did epoch issue next m.view)
-  engines epoch issue (Some next) = tt
-  engines epoch issue None = tt
+  engines : (epoch : ℕ) (issue : Issue) (next : Option Issue) → Does (checkpoint_did epoch issue next m.view) (TheHart (Some Waiting)) × Does (checkpoint_did epoch issue next m.view) Checkpoint
+  engines epoch issue (Some next) = (inr refl, inl refl)
+  engines epoch issue None = (inr refl, inl refl)
 
-  harts : (over : Option EndCause) → IsHarts (idle_stall over) (hart_did over m)
-  harts None = tt
-  harts (Some cause) = tt
+  harts : (over : Option EndCause) → Does (hart_did over m) (TheHart (idle_stall over))
+  harts None = refl
+  harts (Some cause) = refl
 
   run_turns : (stage : Stage) → m.stage ≡ stage → m.view.phase ≡ Run → IsTurn o (pressure_of m) m.view (run_did stage m) (run_stall stage m)
   run_turns (Writing epoch issue) is phase =

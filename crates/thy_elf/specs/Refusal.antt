@@ -9,47 +9,32 @@ abbrev pub IsRefusal : ElfError → Type 0
 IsRefusal (Memory e) = ⊥
 IsRefusal _ = Unit {0}
 
--- the numbers by which reports name the refusals
-abbrev pub number_of : ElfError → ℕ
-number_of TooShort = 1
-number_of NotElf = 2
-number_of NotClass64 = 3
-number_of NotLittle = 4
-number_of BadVersion = 5
-number_of NotExec = 6
-number_of NotRiscv = 7
-number_of NeedsCompressed = 8
-number_of NeedsFloat = 9
-number_of IsRve = 10
-number_of BadHeaderSize = 11
-number_of TooManyHeaders = 12
-number_of HeadersOutside = 13
-number_of NeedsLoader = 14
-number_of (FileOverMemory k) = 15
-number_of (SegmentOutsideFile k) = 16
-number_of (SegmentOutsideMemory k) = 17
-number_of (Memory e) = 0
+-- the numbers and the names by which reports call the refusals
+abbrev pub called : ElfError → ℕ × List ℕ
+called TooShort = (1, codes "TooShort")
+called NotElf = (2, codes "NotElf")
+called NotClass64 = (3, codes "NotClass64")
+called NotLittle = (4, codes "NotLittle")
+called BadVersion = (5, codes "BadVersion")
+called NotExec = (6, codes "NotExec")
+called NotRiscv = (7, codes "NotRiscv")
+called NeedsCompressed = (8, codes "NeedsCompressed")
+called NeedsFloat = (9, codes "NeedsFloat")
+called IsRve = (10, codes "IsRve")
+called BadHeaderSize = (11, codes "BadHeaderSize")
+called TooManyHeaders = (12, codes "TooManyHeaders")
+called HeadersOutside = (13, codes "HeadersOutside")
+called NeedsLoader = (14, codes "NeedsLoader")
+called (FileOverMemory k) = (15, codes "FileOverMemory")
+called (SegmentOutsideFile k) = (16, codes "SegmentOutsideFile")
+called (SegmentOutsideMemory k) = (17, codes "SegmentOutsideMemory")
+called (Memory e) = (0, codes "Memory")
 
--- the names by which reports name the refusals
+abbrev pub number_of : ElfError → ℕ
+number_of e = (called e).0
+
 abbrev pub name_of : ElfError → List ℕ
-name_of TooShort = codes "TooShort"
-name_of NotElf = codes "NotElf"
-name_of NotClass64 = codes "NotClass64"
-name_of NotLittle = codes "NotLittle"
-name_of BadVersion = codes "BadVersion"
-name_of NotExec = codes "NotExec"
-name_of NotRiscv = codes "NotRiscv"
-name_of NeedsCompressed = codes "NeedsCompressed"
-name_of NeedsFloat = codes "NeedsFloat"
-name_of IsRve = codes "IsRve"
-name_of BadHeaderSize = codes "BadHeaderSize"
-name_of TooManyHeaders = codes "TooManyHeaders"
-name_of HeadersOutside = codes "HeadersOutside"
-name_of NeedsLoader = codes "NeedsLoader"
-name_of (FileOverMemory k) = codes "FileOverMemory"
-name_of (SegmentOutsideFile k) = codes "SegmentOutsideFile"
-name_of (SegmentOutsideMemory k) = codes "SegmentOutsideMemory"
-name_of (Memory e) = codes "Memory"
+name_of e = (called e).1
 
 -- the program header that a refusal names
 abbrev pub index_of : ElfError → Option ℕ

@@ -8,4 +8,4 @@ mod start;
 mod world;
 
 pub use plain::Plain;
-pub use start::start_of;
+pub use start::{are_bytes, start_of};

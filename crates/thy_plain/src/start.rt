@@ -29,7 +29,7 @@ fn start_regs(geometry: &Geometry) -> Regs
 }
 
 /// Does nothing: a proof learns here what the type says of each byte.
-fn are_bytes(bytes: &[u8])
+pub fn are_bytes(bytes: &[u8])
     ensures { All IsByte bytes.now }
 {
     let _ = bytes;

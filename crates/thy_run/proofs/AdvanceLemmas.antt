@@ -1,5 +1,5 @@
 -- One cycle of the program's loop is one of a run.
-use Rattle.std.proofs.Common.{◌≡◌, ◌⊎◌, ℕ, ◌+◌, ◌<◌, Bool, true, false, ◌&&◌, not, nat_lt, ◌==◌, if◌then◌else◌, Option, Some, None, List, [], ◌∷◌, ◌++◌, length, refl, sym, ◌∙◌, ap, subst, inl, inr, append-nil, append_assoc, length-append, ◌^◌, arith}
+use Rattle.std.proofs.Common.{◌≡◌, ℕ, ◌+◌, ◌<◌, Bool, true, false, ◌&&◌, not, nat_lt, ◌==◌, if◌then◌else◌, Option, Some, None, List, [], ◌∷◌, ◌++◌, length, refl, sym, ◌∙◌, ap, subst, inl, inr, append-nil, append_assoc, length-append, ◌^◌, arith}
 use Rattle.std.specs.Prelude.{MatchBool, slice_index}
 use Rattle.std.proofs.lemmas.Bool.{ltb-true, and_parts}
 use Rattle.thy_base.specs.declared.mix.Mix.{Mix}
@@ -22,17 +22,19 @@ use Rattle.thy_view.specs.Kind.{HasFailedToRead, KindOf, IsLawful, CanStep}
 use Rattle.thy_run.specs.Laws.{released_of}
 use Rattle.thy_run.specs.Cuts.{is_end}
 use Rattle.thy_run.specs.Due.{due_of}
-use Rattle.thy_run.specs.Unfinished.{ReadFailed}
+use Rattle.thy_run.specs.Unfinished.{TellingFailed, ReadFailed, LeftAlone}
 use Rattle.thy_run.specs.World.{World, seen, told, reload_told, end_told, events_of, stepped, Steps, is_due, IsCutOff, tear}
 use Rattle.thy_run.proofs.ConsoleLaws.{released-cut, released-stepped, released-part, length-released}
 use Rattle.thy_run.proofs.WorldLaws.{Good, Good-ran, events_end}
 use Rattle.thy_run.specs.declared.ending.Stop.{Stop}
-use Rattle.thy_run.specs.declared.ending.Stop.TheVariants.{Nvm}
+use Rattle.thy_run.specs.declared.ending.Stop.TheVariants.{Nvm, Memory}
 use Rattle.thy_run.specs.declared.plan.Plan.{Plan}
 use Rattle.thy_run.specs.declared.progress.Progress.{Progress}
-use Rattle.thy_run.specs.Going.{origin_of, given_of, world_at, IsPlanned, GoesOn, IsStepped, IsStuck, CanGather, MadeSome, EndsWith, IsEnd, IsNoted, IsDone, IsBroken, Breaks, AwaitsCut, CanCut, IsCutOffTo}
+use Rattle.thy_run.specs.Going.{origin_of, given_of, world_at, IsPlanned, GoesOn, IsStepped, IsStuck, CanGather, MadeSome, IsEnd, IsNoted, IsDone, IsBroken, Breaks, AwaitsCut, CanCut, IsCutOffTo}
+use Rattle.thy_run.specs.Endings.{EndsWith}
 use Rattle.thy_run.specs.Stopping.{stop_of}
 use Rattle.thy_base.proofs.RangeLemmas.{epoch_least}
+use Rattle.thy_run.proofs.StepFrames.{Steps-framed}
 
 -- the progress after a step of the machine
 pub progress_stepped : {M : Type 0} → (p : Progress M) (m : M) (mix : Mix) → mix ≡ mix_next p.mix
@@ -103,7 +105,7 @@ module _ {M : Type 0} (K : KindOf M) (laws : IsLawful K) (plan : Plan) (p q : Pr
     released = noted.released;
     releases = noted.releases;
     told = (_, told_all);
-    room = noted.steps.framed.left_room;
+    room = (Steps-framed K (origin_of plan) _ _ noted.steps).left_room;
     calm = noted.calm;
     spoken = noted.spoken;
     heard = noted.heard;
@@ -186,7 +188,7 @@ module _ {M : Type 0} (K : KindOf M) (laws : IsLawful K) (plan : Plan) (p q : Pr
           released = ap (λ (y : Progress M). y.released) cut.same ∙ noted.released ∙ ap length (sym releases);
           releases = releases ∙ noted.releases;
           told = (_, events ∙ ap (λ (l : List Happening). l ++ Cut (q.passed + 1) cycle ∷ []) told_all ∙ append_assoc p.events _ (Cut (q.passed + 1) cycle ∷ []));
-          room = ap (λ (d : Device). d.left_room) device ∙ noted.steps.framed.left_room;
+          room = ap (λ (d : Device). d.left_room) device ∙ (Steps-framed K (origin_of plan) _ _ noted.steps).left_room;
           calm = ap (λ (d : Device). d.faults) device ∙ noted.calm;
           spoken = ap (λ (y : Progress M). y.mute) cut.same ∙ noted.spoken;
           heard = ap (λ (y : Progress M). y.deaf) cut.same ∙ noted.heard;
@@ -195,37 +197,39 @@ module _ {M : Type 0} (K : KindOf M) (laws : IsLawful K) (plan : Plan) (p q : Pr
       )
 
   -- a cut was due, and memory was short for it
-  pub broken_cut : (q' : Progress M) (m' : Device) → ended ≡ None → q' ≡ q → m' ≡ m → IsBroken K plan p q' n m' k bytes
+  pub broken_cut : (q' : Progress M) (m' : Device) → ended ≡ None → q' ≡ q → m' ≡ m → IsBroken K plan p q' n m' k bytes × Breaks K plan p q' n m' k bytes Memory
   broken_cut q' m' is same device =
       let v : View = seen K (origin_of plan) (world_at p n k) in
       let next : View = seen K (origin_of plan) (world_at q m (k + 1)) in
       let end : IsEnd (origin_of plan) v next None = subst (IsEnd (origin_of plan) v next) is noted.is_end in
-      let here : IsBroken K plan p q n m k bytes = record {
-        unfinished = inr (record {
-          next = world_at q m (k + 1);
-          steps = noted.steps;
-          part = _;
-          rest = [];
-          told = told_all;
-          split = sym (append-nil q.events);
-          unended = events_end (origin_of plan) p.fresh v noted.steps.r.did next (k + 1) ∙ end;
-          device = inl refl;
-        });
+      let telling : TellingFailed K (origin_of plan) (world_at p n k) q.events m LeftAlone = record {
+        next = world_at q m (k + 1);
+        steps = noted.steps;
+        part = _;
+        rest = [];
+        told = told_all;
+        split = sym (append-nil q.events);
+        unended = events_end (origin_of plan) p.fresh v noted.steps.r.did next (k + 1) ∙ end;
+        device = refl;
+      } in
+      let broken : IsBroken K plan p q n m k bytes = record {
         rest = [];
         releases = noted.releases ∙ sym (append-nil (released_of (origin_of plan) p.events ++ bytes));
         told = (_, told_all);
         spoken = noted.spoken;
         heard = noted.heard;
       } in
-      subst (λ (y : Progress M). IsBroken K plan p y n m' k bytes) (sym same) (subst (λ (d : Device). IsBroken K plan p q n d k bytes) (sym device) here)
+      let here : IsBroken K plan p q n m k bytes × Breaks K plan p q n m k bytes Memory = (broken, (telling, noted.calm)) in
+      subst (λ (y : Progress M). IsBroken K plan p y n m' k bytes × Breaks K plan p y n m' k bytes Memory) (sym same)
+      (subst (λ (d : Device). IsBroken K plan p q n d k bytes × Breaks K plan p q n d k bytes Memory) (sym device) here)
 
   -- a cut that is due may fall: there is room for its image
   pub can_cut : (fitted : Device) (cycle : ℕ) → IsPlanned plan → GoesOn K plan fitted p n k
       → (nat_lt q.passed (length plan.config.cuts) && slice_index plan.config.cuts q.passed == cycle) ≡ true → CanCut K plan q m
   can_cut fitted cycle planned g due =
       let few : q.passed < length plan.config.cuts = ltb-true q.passed (length plan.config.cuts) (and_parts (nat_lt q.passed (length plan.config.cuts)) _ due).0 in
-      let left : length m.left ≡ q.passed = ap length noted.steps.framed.left ∙ (good_of K plan fitted p n k planned g).stands.left ∙ sym passed_same in
-      let room : m.left_room ≡ length plan.config.cuts + 1 = noted.steps.framed.left_room ∙ g.room in
+      let left : length m.left ≡ q.passed = ap length (Steps-framed K (origin_of plan) _ _ noted.steps).left ∙ (good_of K plan fitted p n k planned g).stands.left ∙ sym passed_same in
+      let room : m.left_room ≡ length plan.config.cuts + 1 = (Steps-framed K (origin_of plan) _ _ noted.steps).left_room ∙ g.room in
       record { cycles = k + 1; at_moment = noted.steps.is_step.at_next; room = omega (arith, left, room, few); few = few }
 
 -- ---- a step and its events
@@ -262,8 +266,6 @@ IsNoted-made {M = M} K laws plan fitted p q t n m k r ended bytes planned g s ma
       r = r;
       going = g.going;
       is_step = s.is_step;
-      framed = s.framed;
-      calm = s.calm;
       next_is =
           ap (λ (y : Progress M). world_at (record y { events = t.events; fresh = false }) m (k + 1)) s.same
           ∙ ap (λ (l : List Happening). world_at (record p { machine = q.machine; mix = mix_next p.mix; events = l; fresh = false }) m (k + 1))
@@ -288,7 +290,7 @@ IsNoted-made {M = M} K laws plan fitted p q t n m k r ended bytes planned g s ma
 -- only some events were made, for want of memory
 pub IsBroken-made : {M : Type 0} (K : KindOf M) (laws : IsLawful K) → (plan : Plan) (fitted : Device) (p q t : Progress M) (n m : Device) (k : ℕ) (r : Stepped) → IsPlanned plan → GoesOn K plan fitted p n k → IsStepped K plan p q n m k r
     → MadeSome t.events (events_of (origin_of plan) q.fresh (seen K (origin_of plan) (world_at p n k)) r.did (K.view (origin_of plan) q.machine m) (k + 1)) q.events
-    → t ≡ record q { events = t.events } → IsBroken K plan p t n m k []
+    → t ≡ record q { events = t.events } → IsBroken K plan p t n m k [] × Breaks K plan p t n m k [] Memory
 IsBroken-made {M = M} K laws plan fitted p q t n m k r planned g s some same =
     let o : Origin = origin_of plan in
     let v : View = seen K o (world_at p n k) in
@@ -298,78 +300,79 @@ IsBroken-made {M = M} K laws plan fitted p q t n m k r planned g s some same =
     let all : List Happening = events_of o p.fresh v r.did (K.view o q.machine m) (k + 1) in
     let split : all ≡ some.part ++ some.rest = ap (λ b. events_of o b v r.did (K.view o q.machine m) (k + 1)) (sym fresh_q) ∙ some.split in
     let next : World M = stepped K o (world_at p n k) q.machine m r.did in
-    let steps : Steps K o (world_at p n k) next = record { r = r; going = g.going; is_step = s.is_step; framed = s.framed; calm = s.calm; next_is = refl } in
+    let steps : Steps K o (world_at p n k) next = record { r = r; going = g.going; is_step = s.is_step; next_is = refl } in
     let told : t.events ≡ p.events ++ some.part = some.told ∙ ap (λ (l : List Happening). l ++ some.part) events_q in
     let more = released-part K o (world_at p n k) next (epoch_least (origin_of plan).geometry planned.origin.geometry) good.stands steps some.part some.rest (sym split) in
-    record {
-      unfinished = inr (record {
-        next = next;
-        steps = steps;
-        part = some.part;
-        rest = some.rest;
-        told = told;
-        split = ap (λ (l : List Happening). p.events ++ l) split ∙ sym (append_assoc p.events some.part some.rest) ∙ ap (λ (l : List Happening). l ++ some.rest) (sym told);
-        unended = some.unended;
-        device = inl refl;
-      });
+    let telling : TellingFailed K o (world_at p n k) t.events m LeftAlone = record {
+      next = next;
+      steps = steps;
+      part = some.part;
+      rest = some.rest;
+      told = told;
+      split = ap (λ (l : List Happening). p.events ++ l) split ∙ sym (append_assoc p.events some.part some.rest) ∙ ap (λ (l : List Happening). l ++ some.rest) (sym told);
+      unended = some.unended;
+      device = refl;
+    } in
+    let broken : IsBroken K plan p t n m k [] = record {
       rest = more.0;
       releases = ap (released_of o) told ∙ more.1 ∙ ap (λ (l : List ℕ). l ++ more.0) (sym (append-nil (released_of o p.events)));
       told = (some.part, told);
       spoken = ap (λ (y : Progress M). y.mute) same ∙ ap (λ (y : Progress M). y.mute) s.same;
       heard = ap (λ (y : Progress M). y.deaf) same ∙ ap (λ (y : Progress M). y.deaf) s.same;
-    }
+    } in
+    (broken, (telling, s.calm))
 
 -- a read failed before any event was made
 pub IsBroken-read : {M : Type 0} (K : KindOf M) (laws : IsLawful K) → (plan : Plan) (fitted : Device) (p q : Progress M) (n m m' : Device) (k : ℕ) (r : Stepped) (e : CoreError) → IsPlanned plan → GoesOn K plan fitted p n k → IsStepped K plan p q n m k r
-    → HasFailedToRead e m m' → IsFramed m m' → IsBroken K plan p q n m' k [] × Breaks p q n m' [] (stop_of e)
+    → HasFailedToRead e m m' → IsFramed m m' → IsBroken K plan p q n m' k [] × Breaks K plan p q n m' k [] (stop_of e)
 IsBroken-read {M = M} K laws plan fitted p q n m m' k r e planned g s failed framed =
     let o : Origin = origin_of plan in
     let v : View = seen K o (world_at p n k) in
     let events_q : q.events ≡ p.events = ap (λ (y : Progress M). y.events) s.same in
     let next : World M = stepped K o (world_at p n k) q.machine m r.did in
-    let steps : Steps K o (world_at p n k) next = record { r = r; going = g.going; is_step = s.is_step; framed = s.framed; calm = s.calm; next_is = refl } in
-    let broken : ((m' ≡ m) ⊎ ReadFailed m m') → IsBroken K plan p q n m' k [] = λ device. record {
-      unfinished = inr (record {
-        next = next;
-        steps = steps;
-        part = [];
-        rest = events_of o p.fresh v r.did (K.view o q.machine m) (k + 1);
-        told = events_q ∙ sym (append-nil p.events);
-        split = ap (λ (l : List Happening). l ++ events_of o p.fresh v r.did (K.view o q.machine m) (k + 1)) (sym events_q);
-        unended = refl;
-        device = device;
-      });
+    let steps : Steps K o (world_at p n k) next = record { r = r; going = g.going; is_step = s.is_step; next_is = refl } in
+    let telling : (Became : Device → Device → Type 0) → Became m m' → TellingFailed K o (world_at p n k) q.events m' Became = λ Became device. record {
+      next = next;
+      steps = steps;
+      part = [];
+      rest = events_of o p.fresh v r.did (K.view o q.machine m) (k + 1);
+      told = events_q ∙ sym (append-nil p.events);
+      split = ap (λ (l : List Happening). l ++ events_of o p.fresh v r.did (K.view o q.machine m) (k + 1)) (sym events_q);
+      unended = refl;
+      device = device;
+    } in
+    let broken : IsBroken K plan p q n m' k [] = record {
       rest = [];
       releases = ap (released_of o) events_q ∙ sym (append-nil (released_of o p.events)) ∙ sym (append-nil (released_of o p.events ++ []));
       told = ([], events_q ∙ sym (append-nil p.events));
       spoken = ap (λ (y : Progress M). y.mute) s.same;
       heard = ap (λ (y : Progress M). y.deaf) s.same;
     } in
-    by_error e failed broken events_q
+    by_error e failed broken telling events_q
   where
-    by_error : (e : CoreError) → HasFailedToRead e m m' → (((m' ≡ m) ⊎ ReadFailed m m') → IsBroken K plan p q n m' k []) → q.events ≡ p.events
-        → IsBroken K plan p q n m' k [] × Breaks p q n m' [] (stop_of e)
-    by_error NvmFailed f broken events = (
-      broken (inr (record { failed = f.0; framed = framed; rose = f.1 })),
-      record { events = events; none = refl; rose = subst (λ c. Rose c m'.faults) s.calm f.1 },
+    by_error : (e : CoreError) → HasFailedToRead e m m' → IsBroken K plan p q n m' k []
+        → ((Became : Device → Device → Type 0) → Became m m' → TellingFailed K (origin_of plan) (world_at p n k) q.events m' Became) → q.events ≡ p.events
+        → IsBroken K plan p q n m' k [] × Breaks K plan p q n m' k [] (stop_of e)
+    by_error NvmFailed f broken telling events = (
+      broken,
+      (inr (telling ReadFailed (record { failed = f.0; framed = framed; rose = f.1 })), record { events = events; none = refl; rose = subst (λ c. Rose c m'.faults) s.calm f.1 }),
     )
-    by_error (NoMemory x) f broken events = (broken (inl f), tt)
+    by_error (NoMemory x) f broken telling events = (broken, (telling LeftAlone f, ap (λ (d : Device). d.faults) f ∙ s.calm))
 
 -- the step itself failed
 pub IsBroken-stuck : {M : Type 0} (K : KindOf M) (laws : IsLawful K) → (plan : Plan) (fitted : Device) (p q : Progress M) (n m : Device) (k : ℕ) → GoesOn K plan fitted p n k → IsStuck K plan p q n m
-    → IsBroken K plan p q n m k [] × Breaks p q n m [] Nvm
+    → IsBroken K plan p q n m k [] × Breaks K plan p q n m k [] Nvm
 IsBroken-stuck {M = M} K laws plan fitted p q n m k g s =
     let o : Origin = origin_of plan in
     let events_q : q.events ≡ p.events = ap (λ (y : Progress M). y.events) s.same in (
       record {
-        unfinished = inl (record { going = g.going; safe = s.leaves.safe; acted = s.leaves.acted; framed = s.framed; rose = s.rose; nothing_told = events_q });
         rest = [];
         releases = ap (released_of o) events_q ∙ sym (append-nil (released_of o p.events)) ∙ sym (append-nil (released_of o p.events ++ []));
         told = ([], events_q ∙ sym (append-nil p.events));
         spoken = ap (λ (y : Progress M). y.mute) s.same;
         heard = ap (λ (y : Progress M). y.deaf) s.same;
       },
-      record { events = events_q; none = refl; rose = s.rose },
+      (inl (record { going = g.going; safe = s.leaves.safe; acted = s.leaves.acted; framed = s.framed; rose = s.rose; nothing_told = events_q }), record { events = events_q; none = refl; rose = s.rose }),
     )
 
 -- ---- what the calls ask for
@@ -382,7 +385,7 @@ few_released {M = M} K laws plan fitted p q n m k r bytes planned g s due =
     let good = good_of K plan fitted p n k planned g in
     let events_q : q.events ≡ p.events = ap (λ (y : Progress M). y.events) s.same in
     let next : World M = stepped K o (world_at p n k) q.machine m r.did in
-    let steps : Steps K o (world_at p n k) next = record { r = r; going = g.going; is_step = s.is_step; framed = s.framed; calm = s.calm; next_is = refl } in
+    let steps : Steps K o (world_at p n k) next = record { r = r; going = g.going; is_step = s.is_step; next_is = refl } in
     let releases : released_of o next.events ≡ released_of o p.events ++ bytes =
     released-stepped K o (world_at p n k) next (epoch_least (origin_of plan).geometry planned.origin.geometry) good.stands steps
     ∙ ap (λ (l : List ℕ). released_of o p.events ++ l) (ap (λ (e : List Happening). due_of o e r.did (K.view o q.machine m)) (sym events_q) ∙ sym due) in
@@ -422,7 +425,7 @@ noted_from {M = M} K laws plan fitted p q n m k r ended bytes e len cycle did pl
 pub broken_from : {M : Type 0} (K : KindOf M) (laws : IsLawful K) → (plan : Plan) (fitted : Device) (p q : Progress M) (n m : Device) (k : ℕ) (r : Stepped) (e : List Happening) (bytes : List ℕ) (cycle : ℕ) (did : Did)
     → IsPlanned plan → GoesOn K plan fitted p n k → IsStepped K plan p q n m k r → r.did ≡ did → cycle ≡ k + 1 → bytes ≡ []
     → MadeSome e (events_of (origin_of plan) q.fresh (seen K (origin_of plan) (world_at p n k)) did (K.view (origin_of plan) q.machine m) cycle) q.events
-    → IsBroken K plan p (record q { events = e }) n m k bytes
+    → IsBroken K plan p (record q { events = e }) n m k bytes × Breaks K plan p (record q { events = e }) n m k bytes Memory
 broken_from {M = M} K laws plan fitted p q n m k r e bytes cycle did planned g s did_is cycle_is none some =
     let o : Origin = origin_of plan in
     let v : View = seen K o (world_at p n k) in
@@ -430,13 +433,13 @@ broken_from {M = M} K laws plan fitted p q n m k r e bytes cycle did planned g s
     let P : List Happening → Type 0 = λ all. MadeSome e all q.events in
     let some_of : MadeSome e (events_of o q.fresh v r.did next (k + 1)) q.events =
     subst P (ap (λ (d : Did). events_of o q.fresh v d next cycle) (sym did_is) ∙ ap (λ c. events_of o q.fresh v r.did next c) cycle_is) some in
-    subst (λ (b : List ℕ). IsBroken K plan p (record q { events = e }) n m k b) (sym none)
+    subst (λ (b : List ℕ). IsBroken K plan p (record q { events = e }) n m k b × Breaks K plan p (record q { events = e }) n m k b Memory) (sym none)
     (IsBroken-made K laws plan fitted p q (record q { events = e }) n m k r planned g s some_of refl)
 
 -- nothing is due
 pub broken_none : {M : Type 0} (K : KindOf M) → (plan : Plan) (p q : Progress M) (n m : Device) (k : ℕ) (bytes : List ℕ) (stop is : Stop) → bytes ≡ [] → is ≡ stop
-    → IsBroken K plan p q n m k [] × Breaks p q n m [] stop → IsBroken K plan p q n m k bytes × Breaks p q n m bytes is
+    → IsBroken K plan p q n m k [] × Breaks K plan p q n m k [] stop → IsBroken K plan p q n m k bytes × Breaks K plan p q n m k bytes is
 broken_none {M = M} K plan p q n m k bytes stop is none same h =
-    let P : List ℕ → Type 0 = λ b. IsBroken K plan p q n m k b × Breaks p q n m b stop in
-    let Q : Stop → Type 0 = λ s. IsBroken K plan p q n m k bytes × Breaks p q n m bytes s in
+    let P : List ℕ → Type 0 = λ b. IsBroken K plan p q n m k b × Breaks K plan p q n m k b stop in
+    let Q : Stop → Type 0 = λ s. IsBroken K plan p q n m k bytes × Breaks K plan p q n m k bytes s in
     subst Q (sym same) (subst P (sym none) h)

@@ -21,8 +21,8 @@ use Rattle.thy_view.specs.Views.{loads, halts}
 use Rattle.thy_view.specs.CoreStep.{CoreStep}
 use Rattle.thy_base.specs.Geometry.{console_room}
 use Rattle.thy_view.specs.Origin.{Origin, at, setting_of, IsOrigin}
-use Rattle.thy_run.specs.Due.{shows_console, due_of}
-use Rattle.thy_run.specs.Laws.{first_marks, marks_of, console_at, released_of}
+use Rattle.thy_run.specs.Due.{console_at, shows_console, due_of}
+use Rattle.thy_run.specs.Laws.{first_marks, marks_of, released_of}
 use Rattle.thy_run.specs.World.{World, seen, told, reload_told, end_told, events_of, Steps}
 use Rattle.thy_run.proofs.CoverLaws.{Covers-sealed, marks-part}
 use Rattle.thy_run.proofs.Fitting.{BootFits, RunFits, FitsIn, Fits}
@@ -71,9 +71,9 @@ module _ (o : Origin) (v next : View) (m : Marks) (h : Fits o v m) where
   -- the marks that a step's event leaves keep the committed one, or a later one
   pub Grows-told : (did : Did) (cycle : ℕ) → CoreStep o v did next → Grows m.kept (marks_from o.start.count m (told o did cycle)).kept
   Grows-told Boot cycle s = grows_same m.kept m.kept refl
-  Grows-told Loaded cycle s = grows_none m.kept m.sealed ((Covers-sealed o v m h).nothing s.1)
+  Grows-told Loaded cycle s = grows_none m.kept m.sealed ((Covers-sealed o v m h).nothing s.none)
   Grows-told (Restarted epoch count) cycle s = λ k kept.
-      elim ((Covers-sealed o v m h).of_done (mark epoch count) s.1) as (λ _. (later : Mark) × (Some (mark epoch count) ≡ Some later) × (k.count ≤ later.count)) [
+      elim ((Covers-sealed o v m h).of_done (mark epoch count) s.done) as (λ _. (later : Mark) × (Some (mark epoch count) ≡ Some later) × (k.count ≤ later.count)) [
         | inl same ↦ (mark epoch count, refl, (let e : k ≡ mark epoch count = some_same k (mark epoch count) (sym kept ∙ same) in let c : k.count ≡ count = ap (λ (x : Mark). x.count) e in omega arith))
         | inr sealed ↦ (mark epoch count, refl, Rises-fits o v m h k (mark epoch count) kept sealed)
       ]
@@ -86,9 +86,9 @@ module _ (o : Origin) (v next : View) (m : Marks) (h : Fits o v m) where
   Grows-told (Sealed epoch count cause) cycle s = grows_same m.kept m.kept refl
   Grows-told (Engine step) cycle s = grows_same m.kept m.kept refl
   Grows-told (Committed epoch overlapped) cycle s = λ k kept.
-      let f : RunFits o v m = subst (FitsIn o v m) s.0 h in
-      let sealed : m.sealed ≡ Some (mark epoch s.3.0) = f.sealed ∙ s.3.1 in
-      (mark epoch s.3.0, sealed, Rises-fits o v m h k (mark epoch s.3.0) kept sealed)
+      let f : RunFits o v m = subst (FitsIn o v m) s.phase h in
+      let sealed : m.sealed ≡ Some (mark epoch s.count) = f.sealed ∙ s.sealed in
+      (mark epoch s.count, sealed, Rises-fits o v m h k (mark epoch s.count) kept sealed)
   Grows-told NvmDrained cycle s = grows_same m.kept m.kept refl
   Grows-told DramDrained cycle s = grows_same m.kept m.kept refl
   Grows-told Nothing cycle s = grows_same m.kept m.kept refl
@@ -104,8 +104,8 @@ module _ (o : Origin) (v next : View) (m : Marks) (h : Fits o v m) where
   -- after what shows a console the committed mark is the view's, after anything else it is the one before
   pub kept-told : (did : Did) (cycle : ℕ) → CoreStep o v did next → (marks_from o.start.count m (told o did cycle)).kept ≡ (if shows_console did then next.done else m.kept)
   kept-told Boot cycle s = refl
-  kept-told Loaded cycle s = loading_sealed s.1 s.0 ∙ sym (ap (λ w. w.done) s.4)
-  kept-told (Restarted epoch count) cycle s = sym s.1 ∙ sym (ap (λ w. w.done) s.4)
+  kept-told Loaded cycle s = loading_sealed s.none s.phase ∙ sym (ap (λ w. w.done) s.becomes)
+  kept-told (Restarted epoch count) cycle s = sym s.done ∙ sym (ap (λ w. w.done) s.becomes)
   kept-told (Refused bad) cycle s = refl
   kept-told Moved cycle s = refl
   kept-told Retired cycle s = refl
@@ -115,8 +115,8 @@ module _ (o : Origin) (v next : View) (m : Marks) (h : Fits o v m) where
   kept-told (Sealed epoch count cause) cycle s = refl
   kept-told (Engine step) cycle s = refl
   kept-told (Committed epoch overlapped) cycle s =
-      let f : RunFits o v m = subst (FitsIn o v m) s.0 h in
-      f.sealed ∙ sym (ap (λ w. w.done) s.3.2)
+      let f : RunFits o v m = subst (FitsIn o v m) s.phase h in
+      f.sealed ∙ sym (ap (λ w. w.done) s.becomes)
   kept-told NvmDrained cycle s = refl
   kept-told DramDrained cycle s = refl
   kept-told Nothing cycle s = refl

@@ -88,20 +88,20 @@ module _ (o : Origin) (v next : View) (m : Marks) (least : 1 ≤ o.geometry.epoc
   before_loaded : (s : CoreStep o v Loaded next) → Covers m.kept m.sealed next.done next.sealed
   before_loaded s =
       let c = Covers-sealed o v m h in
-      let done : next.done ≡ v.sealed = ap (λ w. w.done) s.4 in
+      let done : next.done ≡ v.sealed = ap (λ w. w.done) s.becomes in
       record {
-        nothing = λ none. c.nothing s.1;
+        nothing = λ none. c.nothing s.none;
         of_done = λ d some. c.of_doubt d (sym done ∙ some);
-        of_doubt = λ d some. none_some next.sealed d (ap (λ w. w.sealed) s.4) some;
+        of_doubt = λ d some. none_some next.sealed d (ap (λ w. w.sealed) s.becomes) some;
       }
 
   before_sealed : (epoch count : ℕ) (cause : EndCause) (s : CoreStep o v (Sealed epoch count cause) next) → Covers m.kept m.sealed next.done (doubt_of next)
   before_sealed epoch count cause s =
       let c = Covers-sealed o v m h in
-      let f : RunFits o v m = subst (FitsIn o v m) s.0 h in
-      let g : Follows o v f.mark None = subst (Follows o v f.mark) s.1 f.follows in
-      let done : next.done ≡ v.done = ap (λ w. w.done) s.5 in
-      let unwritten : next.written ≡ false = ap (λ w. w.written) s.5 ∙ g.0 in
+      let f : RunFits o v m = subst (FitsIn o v m) s.phase h in
+      let g : Follows o v f.mark None = subst (Follows o v f.mark) s.unsealed f.follows in
+      let done : next.done ≡ v.done = ap (λ w. w.done) s.becomes in
+      let unwritten : next.written ≡ false = ap (λ w. w.written) s.becomes ∙ g.0 in
       record {
         nothing = λ none. c.nothing (sym done ∙ none);
         of_done = λ d some. c.of_done d (sym done ∙ some);
@@ -114,8 +114,8 @@ module _ (o : Origin) (v next : View) (m : Marks) (least : 1 ≤ o.geometry.epoc
   Covers-before Loaded s = unsealed m.kept m.sealed next.done next.sealed next.written (before_loaded s)
   Covers-before (Restarted epoch count) s =
       let c = Covers-sealed o v m h in
-      let done : next.done ≡ v.done = ap (λ w. w.done) s.4 in
-      let sealed : next.sealed ≡ v.sealed = ap (λ w. w.sealed) s.4 in
+      let done : next.done ≡ v.done = ap (λ w. w.done) s.becomes in
+      let sealed : next.sealed ≡ v.sealed = ap (λ w. w.sealed) s.becomes in
       unsealed m.kept m.sealed next.done next.sealed next.written
       (record { nothing = λ none. c.nothing (sym done ∙ none); of_done = λ d some. c.of_done d (sym done ∙ some); of_doubt = λ d some. c.of_doubt d (sym sealed ∙ some) })
   Covers-before (Refused bad) s = Covers-fits o next m (Fits-told o v next m least h (Refused bad) 0 s).0
@@ -127,9 +127,9 @@ module _ (o : Origin) (v next : View) (m : Marks) (least : 1 ≤ o.geometry.epoc
   Covers-before (Sealed epoch count cause) s = before_sealed epoch count cause s
   Covers-before (Engine step) s = Covers-fits o next m (Fits-told o v next m least h (Engine step) 0 s).0
   Covers-before (Committed epoch overlapped) s =
-      let f : RunFits o v m = subst (FitsIn o v m) s.0 h in
+      let f : RunFits o v m = subst (FitsIn o v m) s.phase h in
       unsealed m.kept m.sealed next.done next.sealed next.written
-      (before_commit o v next m (mark epoch s.3.0) f s.3.1 (ap (λ w. w.done) s.3.2) (ap (λ w. w.sealed) s.3.2))
+      (before_commit o v next m (mark epoch s.count) f s.sealed (ap (λ w. w.done) s.becomes) (ap (λ w. w.sealed) s.becomes))
   Covers-before NvmDrained s = Covers-fits o next m (Fits-told o v next m least h NvmDrained 0 s).0
   Covers-before DramDrained s = Covers-fits o next m (Fits-told o v next m least h DramDrained 0 s).0
   Covers-before Nothing s = Covers-fits o next m (Fits-told o v next m least h Nothing 0 s).0

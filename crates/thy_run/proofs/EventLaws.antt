@@ -26,17 +26,17 @@ not_boot false e = absurd (cc)
 -- a boot that goes on tells nothing but a reload
 pub told-booting : (o : Origin) (v next : View) (did : Did) (cycle : ℕ) → CoreStep o v did next → next.phase ≡ BootPhase → told o did cycle ≡ []
 told-booting o v next Boot cycle s boot = refl
-told-booting o v next Loaded cycle s boot = absurd (let e : next.phase ≡ Run = ap (λ w. w.phase) s.4 in cc)
-told-booting o v next (Restarted epoch count) cycle s boot = not_boot (runs_at o count) (sym (ap (λ w. w.phase) s.4) ∙ boot)
+told-booting o v next Loaded cycle s boot = absurd (let e : next.phase ≡ Run = ap (λ w. w.phase) s.becomes in cc)
+told-booting o v next (Restarted epoch count) cycle s boot = not_boot (runs_at o count) (sym (ap (λ w. w.phase) s.becomes) ∙ boot)
 told-booting o v next (Refused bad) cycle s boot = refl
 told-booting o v next Moved cycle s boot = refl
 told-booting o v next Retired cycle s boot = refl
 told-booting o v next Flushed cycle s boot = refl
 told-booting o v next Merged cycle s boot = refl
 told-booting o v next Promoted cycle s boot = refl
-told-booting o v next (Sealed epoch count cause) cycle s boot = absurd (let e : next.phase ≡ v.phase = ap (λ w. w.phase) s.5 in let r : v.phase ≡ Run = s.0 in cc)
+told-booting o v next (Sealed epoch count cause) cycle s boot = absurd (let e : next.phase ≡ v.phase = ap (λ w. w.phase) s.becomes in let r : v.phase ≡ Run = s.phase in cc)
 told-booting o v next (Engine step) cycle s boot = refl
-told-booting o v next (Committed epoch overlapped) cycle s boot = not_boot (runs_at o s.3.0) (sym (ap (λ w. w.phase) s.3.2) ∙ boot)
+told-booting o v next (Committed epoch overlapped) cycle s boot = not_boot (runs_at o s.count) (sym (ap (λ w. w.phase) s.becomes) ∙ boot)
 told-booting o v next NvmDrained cycle s boot = refl
 told-booting o v next DramDrained cycle s boot = refl
 told-booting o v next Nothing cycle s boot = refl

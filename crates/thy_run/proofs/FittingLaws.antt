@@ -249,17 +249,17 @@ module _ (o : Origin) (v next : View) (m : Marks) (least : 1 ≤ o.geometry.epoc
   pub Fits-told : (did : Did) (cycle : ℕ) → CoreStep o v did next
       → Fits o next (marks_from o.start.count m (told o did cycle)) × AllLawful (course_of o) m (told o did cycle)
   Fits-told Boot cycle s = quiet Boot cycle refl (boots s.0 s.1)
-  Fits-told Loaded cycle s = loads cycle s.0 s.1 s.3 s.4
-  Fits-told (Restarted epoch count) cycle s = restarts epoch count cycle s.0 s.1 s.2 s.3 s.4
-  Fits-told (Refused bad) cycle s = quiet (Refused bad) cycle refl (same s.1)
+  Fits-told Loaded cycle s = loads cycle s.phase s.none s.sealed s.becomes
+  Fits-told (Restarted epoch count) cycle s = restarts epoch count cycle s.phase s.done s.unsealed s.unwritten s.becomes
+  Fits-told (Refused bad) cycle s = quiet (Refused bad) cycle refl (same s.3)
   Fits-told Moved cycle s = quiet Moved cycle refl (moves s.0 s.1 s.2 s.3)
-  Fits-told Retired cycle s = quiet Retired cycle refl (retires s.0 s.1 s.2 s.3)
+  Fits-told Retired cycle s = quiet Retired cycle refl (retires s.phase s.over s.runs s.becomes)
   Fits-told Flushed cycle s = quiet Flushed cycle refl (busy s.0 s.1)
   Fits-told Merged cycle s = quiet Merged cycle refl (busy s.0 s.1)
   Fits-told Promoted cycle s = quiet Promoted cycle refl (busy s.0 s.1)
-  Fits-told (Sealed epoch count cause) cycle s = seals epoch count cycle cause s.0 s.1 s.2 s.3 s.4 s.5
+  Fits-told (Sealed epoch count cause) cycle s = seals epoch count cycle cause s.phase s.unsealed s.of_epoch s.at_count s.over s.becomes
   Fits-told (Engine step) cycle s = quiet (Engine step) cycle refl (engine s.0 step s.1)
-  Fits-told (Committed epoch overlapped) cycle s = commits epoch overlapped cycle s.3.0 s.0 s.3.1 s.3.2
+  Fits-told (Committed epoch overlapped) cycle s = commits epoch overlapped cycle s.count s.phase s.sealed s.becomes
   Fits-told NvmDrained cycle s = quiet NvmDrained cycle refl (same s)
   Fits-told DramDrained cycle s = quiet DramDrained cycle refl (same s)
   Fits-told Nothing cycle s = quiet Nothing cycle refl (same s.1)

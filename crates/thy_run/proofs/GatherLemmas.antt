@@ -14,8 +14,8 @@ use Rattle.thy_view.specs.Views.{is_boot, is_halt, is_between, halts}
 use Rattle.thy_view.specs.CoreStep.{CoreStep}
 use Rattle.thy_view.specs.Origin.{Origin, at, runs_at}
 use Rattle.thy_view.specs.Kind.{IsSnapshot}
-use Rattle.thy_run.specs.Due.{shows_console, due_of}
-use Rattle.thy_run.specs.Laws.{console_at, released_of}
+use Rattle.thy_run.specs.Due.{console_at, shows_console, due_of}
+use Rattle.thy_run.specs.Laws.{released_of}
 use Rattle.thy_run.specs.Going.{Restores}
 
 booted_if : (b : Bool) → is_boot (if b then Run else Halt) ≡ false
@@ -31,8 +31,8 @@ pub restores_some : (o : Origin) (v next : View) (did : Did) (epoch count : ℕ)
     → (is_between next ≡ true → IsSnapshot o next state.value) → Restores o did (Some state)
 restores_some o v next did epoch count state is step shot =
     let s = subst (λ d. CoreStep o v d next) is step in
-    let calm : is_between next ≡ true = ap is_between s.4 ∙ between_if (runs_at o count) in
-    subst (λ d. Restores o d (Some state)) (sym is) ((shot calm).state ∙ ap (λ w. at o w.count) s.4)
+    let calm : is_between next ≡ true = ap is_between s.becomes ∙ between_if (runs_at o count) in
+    subst (λ d. Restores o d (Some state)) (sym is) ((shot calm).state ∙ ap (λ w. at o w.count) s.becomes)
 
 -- what shows a console is behind the boot, with a committed mark
 pub record Shows (next : View) : Type 0 where
@@ -44,11 +44,11 @@ never : {A : Type 0} → false ≡ true → A
 never e = absurd (cc)
 
 pub Shows-step : (o : Origin) (v next : View) (did : Did) → CoreStep o v did next → shows_console did ≡ true → Shows next
-Shows-step o v next Loaded s e = record { mark = mark 0 o.start.count; done = ap (λ w. w.done) s.4 ∙ s.3; booted = ap (λ w. is_boot w.phase) s.4 }
+Shows-step o v next Loaded s e = record { mark = mark 0 o.start.count; done = ap (λ w. w.done) s.becomes ∙ s.sealed; booted = ap (λ w. is_boot w.phase) s.becomes }
 Shows-step o v next (Restarted epoch count) s e =
-    record { mark = mark epoch count; done = ap (λ w. w.done) s.4 ∙ s.1; booted = ap (λ w. is_boot w.phase) s.4 ∙ booted_if (runs_at o count) }
+    record { mark = mark epoch count; done = ap (λ w. w.done) s.becomes ∙ s.done; booted = ap (λ w. is_boot w.phase) s.becomes ∙ booted_if (runs_at o count) }
 Shows-step o v next (Committed epoch overlapped) s e =
-    record { mark = mark epoch s.3.0; done = ap (λ w. w.done) s.3.2 ∙ s.3.1; booted = ap (λ w. is_boot w.phase) s.3.2 ∙ booted_if (runs_at o s.3.0) }
+    record { mark = mark epoch s.count; done = ap (λ w. w.done) s.becomes ∙ s.sealed; booted = ap (λ w. is_boot w.phase) s.becomes ∙ booted_if (runs_at o s.count) }
 Shows-step o v next Boot s e = never e
 Shows-step o v next (Refused bad) s e = never e
 Shows-step o v next Moved s e = never e

@@ -1,92 +1,59 @@
--- What the images that cuts left have to do with events, as cycles and cuts add to both.
-use Rattle.std.proofs.Common.{◌≡◌, ℕ, ◌-◌, ◌<◌, ◌≤◌, Some, List, [], ◌∷◌, ◌++◌, length, refl, sym, ◌∙◌, ap, arith, ◌==◌, if◌then◌else◌, true, inl, inr}
-use Rattle.std.specs.Prelude.{slice_index_or}
-use Rattle.std.proofs.lemmas.Bool.{cases_eq, eq-eqb}
-use Rattle.std.proofs.lemmas.List.{get_or_append_left}
+-- What there is to be found, as cycles and cuts add to events and images.
+use Rattle.std.proofs.Common.{◌≡◌, ℕ, suc, Some, None, List, [], ◌∷◌, ◌++◌, length, refl, ap}
 use Rattle.thy_base.specs.declared.block.Block.{Block}
-use Rattle.thy_view.specs.Booting.{found_first}
-use Rattle.thy_view.specs.Kind.{KindOf}
+use Rattle.thy_record.specs.Decoded.{Decoded}
 use Rattle.thy_text.specs.Happening.{Happening, EpochEnd, Commit, Cut, Restart, Reload, Ended}
-use Rattle.thy_view.specs.Origin.{Origin}
-use Rattle.thy_view.specs.Safe.{ceiling}
-use Rattle.thy_run.specs.Images.{left_by, Since, since_after, since_from, no_cuts, HasLeft, FitsImage, AllFitImages}
+use Rattle.thy_run.specs.Cuts.{cuts_among}
+use Rattle.thy_run.specs.Images.{Found, found, HasLeft, AllFit}
 
--- ---- events one after another
+-- more events behind some, and the images of the cuts among them
+pub AllFit-append : (read : List Block → Decoded) (P Q : Found → Type 0) (s : Found) (vs ws : List Happening) (left more : List (List Block))
+    → ((t : Found) → P t → AllFit read Q t ws more) → AllFit read P s vs left → AllFit read Q s (vs ++ ws) (left ++ more)
+AllFit-append read P Q s [] ws [] more next (none, p) = next s p
+AllFit-append read P Q s [] ws (g ∷ left) more next (none, p) = absurd (cc)
+AllFit-append read P Q s (Cut index cycle ∷ vs) ws [] more next h = absurd h
+AllFit-append read P Q s (Cut index cycle ∷ vs) ws (g ∷ left) more next h =
+    (h.0, AllFit-append read P Q (found (read g) (Some cycle)) vs ws left more next h.1)
+AllFit-append read P Q s (EpochEnd epoch count cause ∷ vs) ws left more next h = (h.0, AllFit-append read P Q (found s.means None) vs ws left more next h.1)
+AllFit-append read P Q s (Commit epoch cycle overlapped ∷ vs) ws left more next h = (h.0, AllFit-append read P Q (found s.means None) vs ws left more next h.1)
+AllFit-append read P Q s (Restart epoch count state ∷ vs) ws left more next h = (h.0, AllFit-append read P Q (found s.means None) vs ws left more next h.1)
+AllFit-append read P Q s (Reload ∷ vs) ws left more next h = (h.0, AllFit-append read P Q (found s.means None) vs ws left more next h.1)
+AllFit-append read P Q s (Ended status count cycle state ∷ vs) ws left more next h = (h.0, AllFit-append read P Q (found s.means None) vs ws left more next h.1)
 
-pub since_from-append : (s : Since) (vs ws : List Happening) → since_from s (vs ++ ws) ≡ since_from (since_from s vs) ws
-since_from-append s [] ws = refl
-since_from-append s (v ∷ vs) ws = since_from-append (since_after s v) vs ws
+-- behind an event that is no cut
+has_left : (cycles : ℕ) (d : Decoded) → HasLeft cycles (found d None)
+has_left cycles d = λ at e. absurd (cc)
 
-pub AllFitImages-append : {M : Type 0} (K : KindOf M) → (o : Origin) (left : List (List Block)) (s : Since) (vs ws : List Happening)
-    → AllFitImages K o left s vs → AllFitImages K o left (since_from s vs) ws → AllFitImages K o left s (vs ++ ws)
-AllFitImages-append K o left s [] ws before more = more
-AllFitImages-append K o left s (v ∷ vs) ws before more = (before.0, AllFitImages-append K o left (since_after s v) vs ws before.1 more)
+-- another thing that stands at the end
+pub AllFit-ends : (read : List Block → Decoded) (P Q : Found → Type 0) (s : Found) (vs : List Happening) (left : List (List Block))
+    → ((t : Found) → P t → Q t) → AllFit read P s vs left → AllFit read Q s vs left
+AllFit-ends read P Q s [] left next (none, p) = (none, next s p)
+AllFit-ends read P Q s (Cut index cycle ∷ vs) [] next h = absurd h
+AllFit-ends read P Q s (Cut index cycle ∷ vs) (g ∷ left) next h = (h.0, AllFit-ends read P Q (found (read g) (Some cycle)) vs left next h.1)
+AllFit-ends read P Q s (EpochEnd epoch count cause ∷ vs) left next h = (h.0, AllFit-ends read P Q (found s.means None) vs left next h.1)
+AllFit-ends read P Q s (Commit epoch cycle overlapped ∷ vs) left next h = (h.0, AllFit-ends read P Q (found s.means None) vs left next h.1)
+AllFit-ends read P Q s (Restart epoch count state ∷ vs) left next h = (h.0, AllFit-ends read P Q (found s.means None) vs left next h.1)
+AllFit-ends read P Q s (Reload ∷ vs) left next h = (h.0, AllFit-ends read P Q (found s.means None) vs left next h.1)
+AllFit-ends read P Q s (Ended status count cycle state ∷ vs) left next h = (h.0, AllFit-ends read P Q (found s.means None) vs left next h.1)
 
--- and the first of them
-pub AllFitImages-part : {M : Type 0} (K : KindOf M) → (o : Origin) (left : List (List Block)) (s : Since) (vs ws : List Happening) → AllFitImages K o left s (vs ++ ws) → AllFitImages K o left s vs
-AllFitImages-part K o left s [] ws all = tt
-AllFitImages-part K o left s (v ∷ vs) ws all = (all.0, AllFitImages-part K o left (since_after s v) vs ws all.1)
+-- the first of some events, no cut among them
+pub AllFit-part : (read : List Block → Decoded) (P : Found → Type 0) (cycles : ℕ) (s : Found) (vs ws : List Happening) (left : List (List Block)) → AllFit read P s (vs ++ ws) left → cuts_among vs ≡ []
+    → HasLeft cycles s → AllFit read (HasLeft cycles) s vs []
+AllFit-part read P cycles s [] ws left h uncut last = (refl, last)
+AllFit-part read P cycles s (Cut index cycle ∷ vs) ws left h uncut last = absurd (cc)
+AllFit-part read P cycles s (EpochEnd epoch count cause ∷ vs) ws left h uncut last = (h.0, AllFit-part read P cycles (found s.means None) vs ws left h.1 uncut (has_left cycles s.means))
+AllFit-part read P cycles s (Commit epoch cycle overlapped ∷ vs) ws left h uncut last = (h.0, AllFit-part read P cycles (found s.means None) vs ws left h.1 uncut (has_left cycles s.means))
+AllFit-part read P cycles s (Restart epoch count state ∷ vs) ws left h uncut last = (h.0, AllFit-part read P cycles (found s.means None) vs ws left h.1 uncut (has_left cycles s.means))
+AllFit-part read P cycles s (Reload ∷ vs) ws left h uncut last = (h.0, AllFit-part read P cycles (found s.means None) vs ws left h.1 uncut (has_left cycles s.means))
+AllFit-part read P cycles s (Ended status count cycle state ∷ vs) ws left h uncut last = (h.0, AllFit-part read P cycles (found s.means None) vs ws left h.1 uncut (has_left cycles s.means))
 
--- ---- one more image
-
--- right behind a cut, there has been one
-abbrev pub IsValid : Since → Type 0
-IsValid s = (cycle : ℕ) → s.just ≡ Some cycle → 0 < s.cuts
-
-valid_after : (s : Since) (v : Happening) → IsValid (since_after s v)
-valid_after s (Cut index at) = λ cycle e. omega arith
-valid_after s (EpochEnd epoch count cause) = λ cycle e. absurd (cc)
-valid_after s (Commit epoch at overlapped) = λ cycle e. absurd (cc)
-valid_after s (Restart epoch count state) = λ cycle e. absurd (cc)
-valid_after s Reload = λ cycle e. absurd (cc)
-valid_after s (Ended status count at state) = λ cycle e. absurd (cc)
-
-valid_from : (s : Since) (vs : List Happening) → IsValid s → IsValid (since_from s vs)
-valid_from s [] h = h
-valid_from s (v ∷ vs) h = valid_from (since_after s v) vs (valid_after s v)
-
-pub valid_events : (vs : List Happening) → IsValid (since_from no_cuts vs)
-valid_events vs = valid_from no_cuts vs (λ cycle e. absurd (cc))
-
-more_cuts : (s : Since) (v : Happening) → s.cuts ≤ (since_after s v).cuts
-more_cuts s (Cut index at) = omega arith
-more_cuts s (EpochEnd epoch count cause) = omega arith
-more_cuts s (Commit epoch at overlapped) = omega arith
-more_cuts s (Restart epoch count state) = omega arith
-more_cuts s Reload = omega arith
-more_cuts s (Ended status count at state) = omega arith
-
-cuts_grow : (s : Since) (vs : List Happening) → s.cuts ≤ (since_from s vs).cuts
-cuts_grow s [] = omega arith
-cuts_grow s (v ∷ vs) = let one = more_cuts s v in let rest = cuts_grow (since_after s v) vs in omega (arith, one, rest)
-
--- an earlier image is as it was
-pub left_by-more : {M : Type 0} (K : KindOf M) → (o : Origin) (left : List (List Block)) (g : List Block) (k : ℕ) → k ≤ length left → left_by K o (left ++ g ∷ []) k ≡ left_by K o left k
-left_by-more K o left g k few = elim (cases_eq k 0) as (λ _. left_by K o (left ++ g ∷ []) k ≡ left_by K o left k) [
-  | inl none ↦
-      let first : (k == 0) ≡ true = eq-eqb k 0 none in
-      ap (λ b. if b then found_first o o.kept else K.decode o.geometry ceiling (slice_index_or (left ++ g ∷ []) (k - 1) [])) first
-      ∙ sym (ap (λ b. if b then found_first o o.kept else K.decode o.geometry ceiling (slice_index_or left (k - 1) [])) first)
-  | inr some ↦ ap (λ g. if k == 0 then found_first o o.kept else K.decode o.geometry ceiling g) (get_or_append_left left (g ∷ []) [] (k - 1) (omega (arith, some)))
-]
-
-pub HasLeft-more : {M : Type 0} (K : KindOf M) → (o : Origin) (left : List (List Block)) (g : List Block) (s : Since) → IsValid s → s.cuts ≤ length left → HasLeft K o left s → HasLeft K o (left ++ g ∷ []) s
-HasLeft-more K o left g s valid few h = λ cycle e f. h cycle e (sym (left_by-more K o left g s.cuts few) ∙ f)
-
-fits_more : {M : Type 0} (K : KindOf M) → (o : Origin) (left : List (List Block)) (g : List Block) (s : Since) (v : Happening) → IsValid s → s.cuts ≤ length left → FitsImage K o left s v → FitsImage K o (left ++ g ∷ []) s v
-fits_more K o left g s (Restart epoch count state) valid few h = left_by-more K o left g s.cuts few ∙ h
-fits_more K o left g s Reload valid few h = (left_by-more K o left g s.cuts few ∙ h.0, h.1)
-fits_more K o left g s (EpochEnd epoch count cause) valid few h = HasLeft-more K o left g s valid few h
-fits_more K o left g s (Commit epoch at overlapped) valid few h = HasLeft-more K o left g s valid few h
-fits_more K o left g s (Cut index at) valid few h = HasLeft-more K o left g s valid few h
-fits_more K o left g s (Ended status count at state) valid few h = HasLeft-more K o left g s valid few h
-
-pub AllFitImages-more : {M : Type 0} (K : KindOf M) → (o : Origin) (left : List (List Block)) (g : List Block) (s : Since) (vs : List Happening) → IsValid s → (since_from s vs).cuts ≤ length left
-    → AllFitImages K o left s vs → AllFitImages K o (left ++ g ∷ []) s vs
-AllFitImages-more K o left g s [] valid few all = tt
-AllFitImages-more K o left g s (v ∷ vs) valid few all =
-    let one = more_cuts s v in
-    let rest = cuts_grow (since_after s v) vs in (
-      fits_more K o left g s v valid (omega (arith, one, rest, few)) all.0,
-      AllFitImages-more K o left g (since_after s v) vs (valid_after s v) few all.1,
-    )
+-- there is one image for each cut
+pub AllFit-many : (read : List Block → Decoded) (P : Found → Type 0) (s : Found) (vs : List Happening) (left : List (List Block)) → AllFit read P s vs left → length left ≡ length (cuts_among vs)
+AllFit-many read P s [] left h = ap length h.0
+AllFit-many read P s (Cut index cycle ∷ vs) [] h = absurd h
+AllFit-many read P s (Cut index cycle ∷ vs) (g ∷ left) h = ap (λ n. suc n) (AllFit-many read P (found (read g) (Some cycle)) vs left h.1)
+AllFit-many read P s (EpochEnd epoch count cause ∷ vs) left h = AllFit-many read P (found s.means None) vs left h.1
+AllFit-many read P s (Commit epoch cycle overlapped ∷ vs) left h = AllFit-many read P (found s.means None) vs left h.1
+AllFit-many read P s (Restart epoch count state ∷ vs) left h = AllFit-many read P (found s.means None) vs left h.1
+AllFit-many read P s (Reload ∷ vs) left h = AllFit-many read P (found s.means None) vs left h.1
+AllFit-many read P s (Ended status count cycle state ∷ vs) left h = AllFit-many read P (found s.means None) vs left h.1

@@ -5,6 +5,7 @@ use Rattle.thy_view.specs.Kind.{KindOf}
 use Rattle.thy_view.specs.Origin.{Origin}
 use Rattle.thy_run.specs.Laws.{torn}
 use Rattle.thy_run.specs.World.{World, Given, Steps, is_due, IsCutOff, tear, Ran}
+use Rattle.thy_run.proofs.StepFrames.{Steps-framed}
 
 -- the device keeps the picks of the first cuts
 pub record KeepsPicks (given : Given) (passed : ℕ) (n : Device) : Type 0 where
@@ -17,7 +18,7 @@ KeepsPicks-framed given passed old new f h = record { picks = f.picks ∙ h.pick
 pub KeepsPicks-step : {M : Type 0} (K : KindOf M) (o : Origin) (given : Given) (w x : World M) → Steps K o w x → KeepsPicks given w.passed w.device → KeepsPicks given x.passed x.device
 KeepsPicks-step {M = M} K o given w x step h =
     subst (λ k. KeepsPicks given k x.device) (sym (ap (λ (y : World M). y.passed) step.next_is))
-    (KeepsPicks-framed given w.passed w.device x.device step.framed h)
+    (KeepsPicks-framed given w.passed w.device x.device (Steps-framed K o w x step) h)
 
 keeps_by : {M : Type 0} (K : KindOf M) (o : Origin) (given : Given) (w x next : World M) → Steps K o w x → KeepsPicks given w.passed w.device
     → (b : Bool) → MatchBool b (IsCutOff K o (tear given.tears x.passed) x next) (next ≡ x) → KeepsPicks given next.passed next.device

@@ -5,27 +5,29 @@ use Rattle.std.proofs.lemmas.List.Folds.{list_any-append}
 use Rattle.thy_base.specs.declared.block.Block.{Block}
 use Rattle.thy_base.specs.Device.{Device}
 use Rattle.thy_view.specs.Kind.{KindOf, IsLawful}
-use Rattle.thy_text.specs.Happening.{Happening, EpochEnd, Commit, Cut, Restart, Reload, Ended}
+use Rattle.thy_text.specs.Happening.{Happening}
 use Rattle.thy_text.specs.Marks.{Marks, Course, marks_from, marks_after, AllLawful}
 use Rattle.thy_text.proofs.Histories.{marks_from-append}
 use Rattle.thy_view.specs.Origin.{Origin}
-use Rattle.thy_view.specs.Safe.{Safe}
+use Rattle.thy_record.specs.Decoded.{Decoded}
+use Rattle.thy_view.specs.Safe.{ceiling, Safe}
 use Rattle.thy_view.specs.Views.{doubt_of}
 use Rattle.thy_view.proofs.SafeLemmas.{Safe-failed}
 use Rattle.thy_run.specs.Cuts.{is_end, has_ended, cuts_among, numbered, last_cuttable, cuts_up_to}
-use Rattle.thy_run.specs.Images.{Since, since_after, since_from, no_cuts, AllFitImages, EndsFitting, RestartsDecode}
-use Rattle.thy_run.specs.Laws.{course_of, first_marks, marks_of, torn, Promise, RunKeepsPromise}
+use Rattle.thy_run.specs.Images.{Found, HasLeft, AllFit}
+use Rattle.thy_run.specs.Laws.{course_of, first_marks, marks_of, first_found, torn, Promise, RunKeepsPromise}
 use Rattle.thy_run.specs.Progress.{IsSoonOver}
 use Rattle.thy_run.specs.Unfinished.{StepFailed, ReadFailed, Ends}
 use Rattle.thy_run.specs.World.{World, Given, seen, events_of, Steps}
 use Rattle.thy_run.proofs.CoverLaws.{Covers-sealed, Covers-part, Safe-covered}
-use Rattle.thy_run.proofs.ImageLaws.{settled_since}
-use Rattle.thy_run.proofs.ImageLemmas.{since_from-append, AllFitImages-part}
+use Rattle.thy_run.proofs.ImageLaws.{ImagesFit, AllFit-events}
+use Rattle.thy_run.proofs.ImageLemmas.{AllFit-append, AllFit-ends, AllFit-part}
 use Rattle.thy_run.proofs.ListedLemmas.{cuts_among-append}
 use Rattle.thy_run.proofs.PickLaws.{KeepsPicks, KeepsPicks-framed, KeepsPicks-ran}
 use Rattle.thy_run.proofs.SoonLaws.{SoonOver-ran}
 use Rattle.thy_run.proofs.WorldLaws.{Coheres, Listed, Good, listed_going, events_uncut, Coheres-stepped, Good-ran, cycles-ran}
 use Rattle.thy_base.proofs.RangeLemmas.{epoch_least}
+use Rattle.thy_run.proofs.StepFrames.{Steps-framed}
 
 -- ---- lists
 
@@ -51,27 +53,6 @@ pub AllLawful-part : (c : Course) (m : Marks) (vs ws : List Happening) → AllLa
 AllLawful-part c m [] ws all = tt
 AllLawful-part c m (v ∷ vs) ws all = (all.0, AllLawful-part c (marks_after c.start m v) vs ws all.1)
 
-abbrev EndsUncut : Since → List Happening → Type 0
-EndsUncut s vs = (vs ≡ []) ⊎ (since_from s vs ≡ settled_since s)
-
-settled_rest : (s : Since) (vs : List Happening) → EndsUncut (settled_since s) vs → since_from (settled_since s) vs ≡ settled_since s
-settled_rest s vs (inl none) = ap (since_from (settled_since s)) none
-settled_rest s vs (inr settled) = settled
-
-first_uncut : (s : Since) (x : Happening) (vs : List Happening) → (cuts_among vs ≡ [] → since_from (settled_since s) vs ≡ settled_since s)
-    → cuts_among (x ∷ vs) ≡ [] → since_from (since_after s x) vs ≡ settled_since s
-first_uncut s (Cut index cycle) vs rest none = absurd (cc)
-first_uncut s (EpochEnd epoch count cause) vs rest none = rest none
-first_uncut s (Commit epoch cycle overlapped) vs rest none = rest none
-first_uncut s (Restart epoch count state) vs rest none = rest none
-first_uncut s Reload vs rest none = rest none
-first_uncut s (Ended status count cycle state) vs rest none = rest none
-
--- events without a cut: none, or the last is no cut
-uncut_since : (s : Since) (vs : List Happening) → cuts_among vs ≡ [] → EndsUncut s vs
-uncut_since s [] uncut = inl refl
-uncut_since s (v ∷ vs) uncut = inr (first_uncut s v vs (λ none. settled_rest s vs (uncut_since (settled_since s) vs none)) uncut)
-
 -- ---- the promise, from its parts
 
 -- what the listed cuts come to
@@ -83,15 +64,21 @@ cuts_fit cuts k w l = (
 
 module _ {M : Type 0} (K : KindOf M) (o : Origin) (given : Given) (w : World M) (least : 1 ≤ o.geometry.epoch) (g : Good K o given.cuts w) (keeps : KeepsPicks given w.passed w.device)
     (soon : IsSoonOver K o given.cuts w.cycles) where
+  abbrev read : List Block → Decoded
+  read = K.decode o.geometry ceiling
+
+  -- what there is to be found stands so between two cycles
+  abbrev stood : Found → Type 0
+  stood = ImagesFit o w.cycles w.fresh (seen K o w)
+
   done_promise : Promise K o given w.cycles w.events w.device
   done_promise =
       let fit = cuts_fit given.cuts (last_cuttable w.events w.cycles) w g.listed in
       record {
         events_lawful = g.stands.lawful;
-        restarts_decode = record { each = g.stands.each; last = g.stands.images.last };
+        restarts_decode = AllFit-ends read stood (HasLeft w.cycles) (first_found o) w.events w.device.left (λ t p. p.last) g.stands.each;
         cuts_listed = fit.0;
         picks_listed = keeps.picks ∙ sym (ap (torn given.tears) fit.1);
-        images_left = g.stands.left ∙ sym fit.1;
         fits_stay = keeps.fits;
         safe_at_return = g.stands.safe;
         soon = soon;
@@ -105,10 +92,9 @@ module _ {M : Type 0} (K : KindOf M) (o : Origin) (given : Given) (w : World M) 
       let p = done_promise in
       record {
         events_lawful = p.events_lawful;
-        restarts_decode = subst (λ (l : List (List Block)). RestartsDecode K o l w.cycles w.events) (sym left) p.restarts_decode;
+        restarts_decode = subst (AllFit read (HasLeft w.cycles) (first_found o) w.events) (sym left) p.restarts_decode;
         cuts_listed = p.cuts_listed;
         picks_listed = f.framed.picks ∙ p.picks_listed;
-        images_left = ap length left ∙ p.images_left;
         fits_stay = f.framed.fits ∙ keeps.fits;
         safe_at_return = Safe-covered K o m.kept m.sealed (seen K o w).done (seen K o w).sealed n (Covers-sealed o (seen K o w) m g.stands.fits) f.safe;
         soon = soon;
@@ -124,9 +110,9 @@ module _ {M : Type 0} (K : KindOf M) (o : Origin) (given : Given) (w : World M) 
       let whole : es ≡ part ++ rest = behind_same w.events es (part ++ rest) (sym (ap (λ (x : World M). x.events) step.next_is) ∙ split ∙ append_assoc w.events part rest) in
       let uncut : cuts_among part ≡ [] =
       first_none (cuts_among part) (cuts_among rest) (sym (cuts_among-append part rest) ∙ ap cuts_among (sym whole) ∙ events_uncut o w.fresh (seen K o w) step.r.did (seen K o next) (w.cycles + 1)) in
-      let left_next : next.device.left ≡ w.device.left = step.framed.left in
+      let left_next : next.device.left ≡ w.device.left = (Steps-framed K o w next step).left in
       let left : n.left ≡ next.device.left = elim device as (λ _. n.left ≡ next.device.left) [ inl e ↦ ap (λ (x : Device). x.left) e | inr f ↦ f.framed.left ] in
-      let at_next : KeepsPicks given w.passed next.device = KeepsPicks-framed given w.passed w.device next.device step.framed keeps in
+      let at_next : KeepsPicks given w.passed next.device = KeepsPicks-framed given w.passed w.device next.device (Steps-framed K o w next step) keeps in
       let kept : KeepsPicks given w.passed n = elim device as (λ _. KeepsPicks given w.passed n) [
         | inl e ↦ subst (KeepsPicks given w.passed) (sym e) at_next
         | inr f ↦ KeepsPicks-framed given w.passed next.device n f.framed at_next
@@ -146,26 +132,18 @@ module _ {M : Type 0} (K : KindOf M) (o : Origin) (given : Given) (w : World M) 
       ] in
       record {
         events_lawful = AllLawful-part (course_of o) (first_marks o) (w.events ++ part) rest (subst (AllLawful (course_of o) (first_marks o)) split after.lawful);
-        restarts_decode = record {
-          each = subst (λ (l : List (List Block)). AllFitImages K o l no_cuts (w.events ++ part)) (sym left)
-              (AllFitImages-part K o next.device.left no_cuts (w.events ++ part) rest (subst (AllFitImages K o next.device.left no_cuts) split after.each));
-          last = subst (λ (l : List (List Block)). EndsFitting K o l w.cycles (since_from no_cuts (w.events ++ part))) (sym (left ∙ left_next)) (ends_fitting part uncut);
-        };
+        restarts_decode = subst (AllFit read (HasLeft w.cycles) (first_found o) (w.events ++ part)) (append-nil w.device.left ∙ sym (left ∙ left_next))
+            (AllFit-append read stood (HasLeft w.cycles) (first_found o) w.events part w.device.left []
+            (λ t p. AllFit-part read (ImagesFit o (w.cycles + 1) false (seen K o next)) w.cycles t part rest []
+            (subst (λ vs. AllFit read (ImagesFit o (w.cycles + 1) false (seen K o next)) t vs []) whole
+            (AllFit-events read o w.cycles w.fresh (seen K o w) (seen K o next) t p step.r.did (w.cycles + 1) step.is_step.step)) uncut p.last)
+            g.stands.each);
         cuts_listed = same_cuts ∙ fit.0 ∙ ap (λ k. numbered 1 (cuts_up_to k given.cuts)) (sym (ap (λ b. if b then w.cycles - 1 else w.cycles) going));
         picks_listed = kept.picks ∙ sym (ap (torn given.tears) (ap length same_cuts ∙ fit.1));
-        images_left = ap length (left ∙ left_next) ∙ g.stands.left ∙ sym (ap length same_cuts ∙ fit.1);
         fits_stay = kept.fits;
         safe_at_return = subst (λ (x : Marks). Safe K.decode o x.kept x.sealed n) (sym marks) safe;
         soon = soon;
       }
-    where
-      ends_fitting : (part : List Happening) → cuts_among part ≡ [] → EndsFitting K o w.device.left w.cycles (since_from no_cuts (w.events ++ part))
-      ends_fitting part uncut = elim (uncut_since (since_from no_cuts w.events) part uncut) as (λ _. EndsFitting K o w.device.left w.cycles (since_from no_cuts (w.events ++ part))) [
-        | inl none ↦ subst (λ (vs : List Happening). EndsFitting K o w.device.left w.cycles (since_from no_cuts vs)) (sym (ap (λ (p : List Happening). w.events ++ p) none ∙ append-nil w.events)) g.stands.images.last
-        | inr settled ↦
-            let e : since_from no_cuts (w.events ++ part) ≡ settled_since (since_from no_cuts w.events) = since_from-append no_cuts w.events part ∙ settled in
-            subst (EndsFitting K o w.device.left w.cycles) (sym e) (λ cycle just. absurd (cc))
-      ]
 
   pub ends_promise : (events : List Happening) (n : Device) → Ends K o w events n → Promise K o given w.cycles events n
   ends_promise events n (inl (same, device)) =

@@ -85,13 +85,13 @@ pub RunEnds-unpowered : {M : Type 0} (K : KindOf M) (laws : IsLawful K) → (pla
 RunEnds-unpowered K laws plan events n t r planned f none = record {
   last = world_at (first_progress plan (laws.powers plan.geometry).0) n 0;
   ran = first_of K laws plan (laws.powers plan.geometry).0 n planned (laws.powers plan.geometry).1 f;
-  ends = inl (none, refl);
+  ends = inl (refl, (none, refl));
   few = omega arith;
   settled = [];
   is_settled = refl;
   shown_all = record { more = []; unsent = []; is_text = ap (released_of (origin_of plan)) none; whole = λ _. refl; middle = t; took = Took-none t; sent = Took-none t };
   read_all = subst (λ (vs : List Happening). Delivered false false [] (report_of plan.digest vs) r r) (sym none) (delivered_all false [] r r refl (Took-none r));
-  stop_fits = omega (arith, limit_least plan.geometry planned.origin.geometry);
+  stop_fits = (omega (arith, limit_least plan.geometry planned.origin.geometry), refl);
 }
 
 -- as many cycles as the limit allows are done
@@ -109,6 +109,6 @@ RunEnds-limit {M = M} K plan fit p n k limit t0 t r0 r planned running same limi
       is_settled = refl;
       shown_all = delivered_all p.mute (released_of o p.events) t0 t running.goes.spoken running.shown_all;
       read_all = delivered_all p.deaf (report_of plan.digest p.events) r0 r running.goes.heard running.read_all;
-      stop_fits = (same ∙ limit_is, going, running.goes.spoken, running.goes.heard, running.goes.calm);
+      stop_fits = (same ∙ limit_is, going, (running.goes.spoken, running.goes.heard), running.goes.calm);
     } in
     subst (λ c. RunEnds K plan fit n (record { stop = Limit; events = p.events; cycles = c; mute = p.mute; deaf = p.deaf }) t0 t r0 r) same here

@@ -112,27 +112,27 @@ pub kind_of : (o : Origin) (v next : View) (did : Did) → CoreStep o v did next
 kind_of o v next Boot (boot, inl e) = keeps_to o v next v Boot e (record { phase = refl; done = refl; sealed = refl; count = refl; retired = refl; none = refl; nothing_told = λ cycle. refl; idle = λ retired old new e. e })
 kind_of o v next Boot (boot, inr (none, e)) = keeps_to o v next _ Boot e (record { phase = refl; done = refl; sealed = refl; count = refl; retired = refl; none = refl; nothing_told = λ cycle. refl; idle = λ retired old new e. e })
 kind_of o v next Loaded s =
-    loads (subst (λ x. Loads o v x Loaded) (sym s.4)
-    (record { did_is = refl; boot = s.0; up = refl; done = refl; sealed = refl; count = refl; retired = refl }))
+    loads (subst (λ x. Loads o v x Loaded) (sym s.becomes)
+    (record { did_is = refl; boot = s.phase; up = refl; done = refl; sealed = refl; count = refl; retired = refl }))
 kind_of o v next (Restarted epoch count) s =
-    restores (subst (λ x. Restores o v x (Restarted epoch count)) (sym s.4)
-    (record { epoch = epoch; to = count; did_is = refl; boot = s.0; kept = s.1; up = up_at o count; done = refl; sealed = refl; count = refl; retired = refl }))
-kind_of o v next (Refused bad) s = keeps_to o v next v (Refused bad) s.1 (record { phase = refl; done = refl; sealed = refl; count = refl; retired = refl; none = refl; nothing_told = λ cycle. refl; idle = λ retired old new e. e })
+    restores (subst (λ x. Restores o v x (Restarted epoch count)) (sym s.becomes)
+    (record { epoch = epoch; to = count; did_is = refl; boot = s.phase; kept = s.done; up = up_at o count; done = refl; sealed = refl; count = refl; retired = refl }))
+kind_of o v next (Refused bad) s = keeps_to o v next v (Refused bad) s.3 (record { phase = refl; done = refl; sealed = refl; count = refl; retired = refl; none = refl; nothing_told = λ cycle. refl; idle = λ retired old new e. e })
 kind_of o v next Moved (run, over, runs, inl e) = keeps_to o v next _ Moved e (record { phase = refl; done = refl; sealed = refl; count = refl; retired = refl; none = refl; nothing_told = λ cycle. refl; idle = λ retired old new e. e })
 kind_of o v next Moved (run, over, runs, inr s) = keeps_to o v next _ Moved s.4 (record { phase = refl; done = refl; sealed = refl; count = refl; retired = refl; none = refl; nothing_told = λ cycle. refl; idle = λ retired old new e. e })
 kind_of o v next Retired s =
-    advances (subst (λ x. Advances o v x Retired) (sym s.3)
-    (record { did_is = refl; runs = s.0; going = s.2; up = ap is_boot s.0; done = refl; sealed = refl; count = refl; retired = refl }))
+    advances (subst (λ x. Advances o v x Retired) (sym s.becomes)
+    (record { did_is = refl; runs = s.phase; going = s.runs; up = ap is_boot s.phase; done = refl; sealed = refl; count = refl; retired = refl }))
 kind_of o v next Flushed s = keeps_to o v next _ Flushed s.1 (record { phase = refl; done = refl; sealed = refl; count = refl; retired = refl; none = refl; nothing_told = λ cycle. refl; idle = λ retired old new e. e })
 kind_of o v next Merged s = keeps_to o v next _ Merged s.1 (record { phase = refl; done = refl; sealed = refl; count = refl; retired = refl; none = refl; nothing_told = λ cycle. refl; idle = λ retired old new e. e })
 kind_of o v next Promoted s = keeps_to o v next _ Promoted s.1 (record { phase = refl; done = refl; sealed = refl; count = refl; retired = refl; none = refl; nothing_told = λ cycle. refl; idle = λ retired old new e. e })
 kind_of o v next (Sealed epoch count cause) s =
-    seals (subst (λ x. Seals o v x (Sealed epoch count cause)) (sym s.5)
-    (record { epoch = epoch; cause = cause; did_is = ap (λ c. Sealed epoch c cause) s.3; runs = s.0; up = ap is_boot s.0; done = refl; sealed = ap (λ c. Some (mark epoch c)) s.3; count = refl; retired = refl }))
+    seals (subst (λ x. Seals o v x (Sealed epoch count cause)) (sym s.becomes)
+    (record { epoch = epoch; cause = cause; did_is = ap (λ c. Sealed epoch c cause) s.at_count; runs = s.phase; up = ap is_boot s.phase; done = refl; sealed = ap (λ c. Some (mark epoch c)) s.at_count; count = refl; retired = refl }))
 kind_of o v next (Engine step) s = of_engine o v next step s.1
 kind_of o v next (Committed epoch overlapped) s =
-    commits (subst (λ x. Commits o v x (Committed epoch overlapped)) (sym s.3.2)
-    (record { epoch = epoch; overlapped = overlapped; did_is = refl; runs = s.0; up = up_at o s.3.0; done = refl; sealed = refl; count = refl; retired = refl }))
+    commits (subst (λ x. Commits o v x (Committed epoch overlapped)) (sym s.becomes)
+    (record { epoch = epoch; overlapped = overlapped; did_is = refl; runs = s.phase; up = up_at o s.count; done = refl; sealed = refl; count = refl; retired = refl }))
 kind_of o v next NvmDrained s = keeps_to o v next v NvmDrained s (record { phase = refl; done = refl; sealed = refl; count = refl; retired = refl; none = refl; nothing_told = λ cycle. refl; idle = λ retired old new e. e })
 kind_of o v next DramDrained s = keeps_to o v next v DramDrained s (record { phase = refl; done = refl; sealed = refl; count = refl; retired = refl; none = refl; nothing_told = λ cycle. refl; idle = λ retired old new e. e })
 kind_of o v next Nothing s = keeps_to o v next v Nothing s.1 (record { phase = refl; done = refl; sealed = refl; count = refl; retired = refl; none = refl; nothing_told = λ cycle. refl; idle = λ retired old new e. e })

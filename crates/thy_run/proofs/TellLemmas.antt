@@ -1,6 +1,6 @@
 -- The lines of events, one after another.
-use Rattle.std.proofs.Common.{◌≡◌, ℕ, ◌+◌, ◌<◌, Bool, true, false, List, [], ◌∷◌, ◌++◌, take, drop, length, sym, ◌∙◌, ap, append_assoc, Some}
-use Rattle.std.specs.Prelude.{slice_get}
+use Rattle.std.proofs.Common.{◌≡◌, ℕ, ◌+◌, ◌<◌, Bool, true, false, List, [], ◌∷◌, ◌++◌, take, drop, length, refl, sym, ◌∙◌, ap, append_assoc, Some}
+use Rattle.std.specs.Prelude.{◌≢◌, slice_get}
 use Rattle.std.specs.Prelude.{Result, Ok, Err, OnErr}
 use Rattle.std.proofs.lemmas.List.{take_more, take-append-drop}
 use Rattle.std.proofs.lemmas.Option.{get_or_from_slice_get, slice_get_within}
@@ -10,6 +10,14 @@ use Rattle.thy_text.specs.Happening.{Happening, Reload}
 use Rattle.thy_text.specs.Lines.{line_of, report_of}
 use Rattle.thy_text.proofs.Histories.{report_of-append, report_of-more}
 use Rattle.thy_run.specs.Sending.{Sends}
+
+first_none : {A : Type 0} (xs ys : List A) → xs ++ ys ≡ [] → xs ≡ []
+first_none [] ys e = refl
+first_none (x ∷ xs) ys e = absurd (cc)
+
+last_none : {A : Type 0} (xs ys : List A) → xs ++ ys ≡ [] → ys ≡ []
+last_none [] ys e = e
+last_none (x ∷ xs) ys e = absurd (cc)
 
 -- the first lines and one more
 one_more : (digest : Bool) (events : List Happening) (i : ℕ) (v : Happening) → i < length events → slice_get events i ≡ Some v
@@ -28,8 +36,8 @@ lines_more digest events i v before a b c is so_far took = let within = slice_ge
 
 -- the report failed at a line: it was to take all the rest too
 pub lines_failed : (digest : Bool) (events : List Happening) (i : ℕ) (v : Happening) (before : List ℕ) (a b c : Stream) → slice_get events i ≡ Some v
-    → Sends before (report_of digest (take i events)) false a b → TookPart b c (line_of digest v) → Sends before (report_of digest events) true a c
-lines_failed digest events i v before a b c is so_far took =
+    → Sends before (report_of digest (take i events)) false a b → TookPart b c (line_of digest v) → line_of digest v ≢ [] → Sends before (report_of digest events) true a c
+lines_failed digest events i v before a b c is so_far took due =
     let within = slice_get_within events i v is in
     let rest : List ℕ = report_of digest (drop (i + 1) events) in
     let whole : report_of digest events ≡ report_of digest (take (i + 1) events) ++ rest =
@@ -38,7 +46,10 @@ lines_failed digest events i v before a b c is so_far took =
       more = so_far.more ++ line_of digest v ++ rest;
       grew = whole ∙ ap (λ (l : List ℕ). l ++ rest) (one_more digest events i v within is ∙ ap (λ (l : List ℕ). l ++ line_of digest v) so_far.grew)
           ∙ ap (λ (l : List ℕ). l ++ rest) (append_assoc before so_far.more (line_of digest v)) ∙ append_assoc before (so_far.more ++ line_of digest v) rest;
-      sent = TookPart-more a c (so_far.more ++ line_of digest v) rest (TookPart-append a b c so_far.more (line_of digest v) so_far.sent took);
+      sent = (
+        TookPart-more a c (so_far.more ++ line_of digest v) rest (TookPart-append a b c so_far.more (line_of digest v) so_far.sent took),
+        λ none. due (first_none (line_of digest v) rest (last_none so_far.more (line_of digest v ++ rest) (sym (append_assoc so_far.more (line_of digest v) rest) ∙ none))),
+      );
     }
 
 -- what holds anyway holds of an error

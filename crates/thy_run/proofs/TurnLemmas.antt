@@ -20,7 +20,8 @@ use Rattle.thy_run.specs.declared.progress.Progress.{Progress}
 use Rattle.thy_run.specs.Going.{origin_of, given_of, world_at, IsDone, IsBroken, Breaks, AwaitsCut, IsCutOffTo, ComesTo}
 use Rattle.thy_run.specs.Sending.{Sent, Sends, Delivered}
 use Rattle.thy_run.proofs.AdvanceLemmas.{done_cut, broken_cut}
-use Rattle.thy_run.specs.Turning.{turned_of, is_memory, EndsBy, IsSettled, StopFits, Running, RunEnds, IsTurned}
+use Rattle.thy_run.specs.Endings.{is_memory, EndsBy, IsSettled, StopFits}
+use Rattle.thy_run.specs.Turning.{turned_of, Running, RunEnds, IsTurned}
 
 -- ---- lines
 
@@ -110,7 +111,7 @@ module _ {M : Type 0} (K : KindOf M) (plan : Plan) (fitted : Device) (p q : Prog
 
   -- the cycle is done, and a sink failed
   done_stops : (stop : Stop) → IsDone K plan p q n m k bytes → IsSinks stop
-      → StopFits plan fitted m (record { stop = stop; events = q.events; cycles = k + 1; mute = mute; deaf = deaf }) stop
+      → StopFits plan.geometry.limit fitted m (record { stop = stop; events = q.events; cycles = k + 1; mute = mute; deaf = deaf }) stop
       → RunEnds K plan fitted m (record { stop = stop; events = q.events; cycles = k + 1; mute = mute; deaf = deaf }) t0 t2 r0 r2
   done_stops stop d sinks fits = record {
     last = world_at q m (k + 1);
@@ -151,7 +152,7 @@ module _ {M : Type 0} (K : KindOf M) (plan : Plan) (fitted : Device) (p q : Prog
 
   -- the cycle is done, and the program has ended
   done_ends : (status : Status) → IsDone K plan p q n m k bytes → mute ≡ false → deaf ≡ false
-      → StopFits plan fitted m (record { stop = Ended status; events = q.events; cycles = k + 1; mute = mute; deaf = deaf }) (Ended status)
+      → StopFits plan.geometry.limit fitted m (record { stop = Ended status; events = q.events; cycles = k + 1; mute = mute; deaf = deaf }) (Ended status)
       → RunEnds K plan fitted m (record { stop = Ended status; events = q.events; cycles = k + 1; mute = mute; deaf = deaf }) t0 t2 r0 r2
   done_ends status d spoken heard fits = record {
     last = world_at q m (k + 1);
@@ -170,7 +171,7 @@ module _ {M : Type 0} (K : KindOf M) (plan : Plan) (fitted : Device) (p q : Prog
   }
 
   -- the cycle is not done
-  broken_stops : (stop : Stop) → IsBroken K plan p q n m k bytes → Breaks p q n m bytes stop
+  broken_stops : (stop : Stop) → IsBroken K plan p q n m k bytes → Breaks K plan p q n m k bytes stop
       → (bytes ≡ [] → mute ≡ false) → (q.events ≡ p.events → deaf ≡ false)
       → RunEnds K plan fitted m (record { stop = stop; events = q.events; cycles = k; mute = mute; deaf = deaf }) t0 t2 r0 r2
   broken_stops stop b why spoken heard = record {
@@ -185,15 +186,15 @@ module _ {M : Type 0} (K : KindOf M) (plan : Plan) (fitted : Device) (p q : Prog
     stop_fits = because stop why;
   }
     where
-      begun : (stop : Stop) → Breaks p q n m bytes stop → EndsBy K (origin_of plan) (world_at p n k) q.events m stop
-      begun Nvm f = b.unfinished
-      begun Memory f = inr b.unfinished
+      begun : (stop : Stop) → Breaks K plan p q n m k bytes stop → EndsBy K (origin_of plan) (world_at p n k) q.events m stop
+      begun Nvm f = f.0
+      begun Memory f = inr f.0
       begun (Ended status) f = absurd f
       begun Terminal f = absurd f
       begun Report f = absurd f
       begun Limit f = absurd f
 
-      settled_at : (stop : Stop) → Breaks p q n m bytes stop → IsSettled K (origin_of plan) (given_of plan fitted) (world_at p n k) p.events stop
+      settled_at : (stop : Stop) → Breaks K plan p q n m k bytes stop → IsSettled K (origin_of plan) (given_of plan fitted) (world_at p n k) p.events stop
       settled_at Nvm f = refl
       settled_at Memory f = refl
       settled_at (Ended status) f = absurd f
@@ -201,19 +202,19 @@ module _ {M : Type 0} (K : KindOf M) (plan : Plan) (fitted : Device) (p q : Prog
       settled_at Report f = absurd f
       settled_at Limit f = absurd f
 
-      shown : (stop : Stop) → Breaks p q n m bytes stop
+      shown : (stop : Stop) → Breaks K plan p q n m k bytes stop
           → Delivered (is_memory stop) mute (released_of (origin_of plan) p.events) (released_of (origin_of plan) q.events) t0 t2
       shown Nvm f = delivered_on mute (released_of (origin_of plan) p.events) (released_of (origin_of plan) q.events) t0 t1 t2 running.shown_all
-          (record { more = bytes; grew = ap (released_of (origin_of plan)) f.events ∙ sym (append-nil (released_of (origin_of plan) p.events)) ∙ ap (λ (l : List ℕ). released_of (origin_of plan) p.events ++ l) (sym f.none); sent = sent })
+          (record { more = bytes; grew = ap (released_of (origin_of plan)) f.1.events ∙ sym (append-nil (released_of (origin_of plan) p.events)) ∙ ap (λ (l : List ℕ). released_of (origin_of plan) p.events ++ l) (sym f.1.none); sent = sent })
       shown Memory f = record { more = bytes; unsent = b.rest; is_text = b.releases; whole = λ no. absurd (cc); middle = t1; took = running.shown_all; sent = sent }
       shown (Ended status) f = absurd f
       shown Terminal f = absurd f
       shown Report f = absurd f
       shown Limit f = absurd f
 
-      because : (stop : Stop) → Breaks p q n m bytes stop → StopFits plan fitted m (record { stop = stop; events = q.events; cycles = k; mute = mute; deaf = deaf }) stop
-      because Nvm f = (subst (λ c. Rose c m.faults) running.goes.calm f.rose, few, spoken f.none, heard f.events)
-      because Memory f = few
+      because : (stop : Stop) → Breaks K plan p q n m k bytes stop → StopFits plan.geometry.limit fitted m (record { stop = stop; events = q.events; cycles = k; mute = mute; deaf = deaf }) stop
+      because Nvm f = (subst (λ c. Rose c m.faults) running.goes.calm f.1.rose, few, (spoken f.1.none, heard f.1.events))
+      because Memory f = (few, f.1 ∙ running.goes.calm)
       because (Ended status) f = absurd f
       because Terminal f = absurd f
       because Report f = absurd f
@@ -255,7 +256,7 @@ ends_turned {M = M} K plan fitted p q n m k bytes status mute true t0 t1 t2 r0 r
 ends_turned {M = M} K plan fitted p q n m k bytes status true false t0 t1 t2 r0 r1 r2 running few sent lines c =
     done_stops K plan fitted p q n m k bytes true false t0 t1 t2 r0 r1 r2 running few sent lines Terminal c.0 tt (refl, refl, c.0.calm ∙ running.goes.calm)
 ends_turned {M = M} K plan fitted p q n m k bytes status false false t0 t1 t2 r0 r1 r2 running few sent lines c =
-    done_ends K plan fitted p q n m k bytes false false t0 t1 t2 r0 r1 r2 running few sent lines status c.0 refl refl (c.2, refl, refl, c.0.calm ∙ running.goes.calm)
+    done_ends K plan fitted p q n m k bytes false false t0 t1 t2 r0 r1 r2 running few sent lines status c.0 refl refl (c.2, (refl, refl), c.0.calm ∙ running.goes.calm)
 
 -- the outcome is not that a cut is due
 abbrev pub IsTold : Outcome → Type 0
@@ -302,8 +303,8 @@ module _ {M : Type 0} (K : KindOf M) (laws : IsLawful K) (plan : Plan) (fitted :
       → Sends (report_of plan.digest (take (length p.events) q.events)) (report_of plan.digest q.events) deaf r1 r2
       → RunEnds K plan fitted m (record { stop = Memory; events = q.events; cycles = k; mute = mute; deaf = deaf }) t0 t2 r0 r2
   RunEnds-uncut spoken heard lines =
-      broken_stops K plan fitted p q n m k bytes mute deaf t0 t1 t2 r0 r1 r2 running few sent lines Memory
-      (broken_cut K laws plan p q n m k None bytes awaits.noted q m refl refl refl) tt spoken heard
+      let broken = broken_cut K laws plan p q n m k None bytes awaits.noted q m refl refl refl in
+      broken_stops K plan fitted p q n m k bytes mute deaf t0 t1 t2 r0 r1 r2 running few sent lines Memory broken.0 broken.1 spoken heard
 
   -- there are no fewer events than before
   pub told_awaiting : length p.events ≤ length q.events

@@ -1,9 +1,8 @@
 -- What holds of a run between two cycles, and that one more cycle keeps it.
 use Rattle.std.proofs.Common.{◌≡◌, ℕ, zero, suc, ◌+◌, ◌-◌, ◌≤◌, Bool, true, false, ◌&&◌, ◌||◌, ◌==◌, not, nat_lt, if◌then◌else◌, Option, Some, None, List, [], ◌∷◌, ◌++◌, length, take, refl, sym, ◌∙◌, ap, subst, inl, inr, append-nil, length-append, arith}
-use Rattle.std.specs.Prelude.{◌≢◌, slice_index, slice_index_or, MatchBool}
-use Rattle.std.proofs.lemmas.Bool.{or_from, eq-eqb, ne_eqb, eqb-true, ltb-true, lt-ltb}
+use Rattle.std.specs.Prelude.{slice_index, MatchBool}
+use Rattle.std.proofs.lemmas.Bool.{or_from, eq-eqb, eqb-true, ltb-true, lt-ltb}
 use Rattle.std.proofs.lemmas.List.Folds.{list_any-append}
-use Rattle.std.proofs.Math.Seq.{get_or-append_seam}
 use Rattle.thy_base.specs.declared.block.Block.{Block}
 use Rattle.thy_base.specs.declared.mark.Mark.{Mark}
 use Rattle.thy_base.specs.Config.{IsRising}
@@ -21,22 +20,23 @@ use Rattle.thy_view.specs.declared.view.Phase.TheVariants.{Boot as BootPhase, Ru
 use Rattle.thy_view.specs.declared.view.View.{View}
 use Rattle.thy_view.specs.Booting.{found_first, first_view, view_of_image}
 use Rattle.thy_base.specs.Marks.{mark}
-use Rattle.thy_view.specs.Views.{is_halt, loads, halts, doubt_of}
+use Rattle.thy_view.specs.Views.{is_boot, is_halt, loads, halts, doubt_of}
 use Rattle.thy_view.specs.CoreStep.{CoreStep}
 use Rattle.thy_isa.specs.Step.{steps}
 use Rattle.thy_view.specs.Origin.{Origin, at, setting_of}
 use Rattle.thy_view.specs.Safe.{ceiling, Safe, IsOneOf}
 use Rattle.thy_view.proofs.SafeLemmas.{Safe-doubt}
 use Rattle.thy_run.specs.Cuts.{is_end, has_ended, cuts_among, numbered, last_cuttable, cuts_up_to}
-use Rattle.thy_run.specs.Images.{left_by, since_after, since_from, no_cuts, HasLeft, AllFitImages}
-use Rattle.thy_run.specs.Laws.{course_of, marks_at, first_marks, marks_of}
+use Rattle.thy_run.specs.Images.{Found, found, AllFit}
+use Rattle.thy_run.specs.Laws.{course_of, marks_at, first_marks, marks_of, first_found}
 use Rattle.thy_run.specs.World.{World, seen, told, reload_told, end_told, events_of, stepped, Steps, is_due, cut_off, IsCutOff, tear, Cycle, Given, IsFirst, Ran}
 use Rattle.thy_run.proofs.Fitting.{IsEither, Rises, Follows, FitsIn, Fits}
 use Rattle.thy_run.proofs.CoverLaws.{Covers-fits, Safe-covered}
 use Rattle.thy_run.proofs.EventLaws.{Fits-events}
-use Rattle.thy_run.proofs.ImageLaws.{IsFound, ImagesFit, StepFits-events}
-use Rattle.thy_run.proofs.ImageLemmas.{since_from-append, AllFitImages-append, AllFitImages-more, valid_events, HasLeft-more}
+use Rattle.thy_run.proofs.ImageLaws.{IsFound, ImagesFit, AllFit-events}
+use Rattle.thy_run.proofs.ImageLemmas.{AllFit-append}
 use Rattle.thy_run.proofs.ListedLemmas.{next_cut, cuts_among-append, numbered-take, up_none}
+use Rattle.thy_run.proofs.StepFrames.{Steps-framed}
 
 -- ---- the events of a step are neither cuts nor, unless it halts, an end
 
@@ -90,9 +90,7 @@ pub record Coheres {M : Type 0} (K : KindOf M) (o : Origin) (w : World M) : Type
   pub fits : Fits o (seen K o w) (marks_of o w.events)
   pub lawful : AllLawful (course_of o) (first_marks o) w.events
   pub safe : Safe K.decode o (marks_of o w.events).kept (marks_of o w.events).sealed w.device
-  pub each : AllFitImages K o w.device.left no_cuts w.events
-  pub images : ImagesFit K o w.device.left w.cycles w.fresh (seen K o w) (since_from no_cuts w.events)
-  pub since : (since_from no_cuts w.events).cuts ≡ w.passed
+  pub each : AllFit (K.decode o.geometry ceiling) (ImagesFit o w.cycles w.fresh (seen K o w)) (first_found o) w.events w.device.left
   pub left : length w.device.left ≡ w.passed
   pub ended : has_ended w.events ≡ is_halt (seen K o w).phase
   pub queue : w.fresh ≡ true → w.device.queue ≡ []
@@ -126,20 +124,18 @@ module _ {M : Type 0} (K : KindOf M) (o : Origin) (w : World M) (least : 1 ≤ o
       let events = Fits-events o v next m did w.fresh (w.cycles + 1) least h.fits core in
       let marks : marks_of o (w.events ++ e) ≡ marks_from o.start.count m e = marks_from-append o.start.count (first_marks o) w.events e in
       let fits : Fits o next (marks_of o (w.events ++ e)) = subst (Fits o next) (sym marks) events.0 in
-      let image = StepFits-events K o w.device.left w.cycles w.fresh v next (since_from no_cuts w.events) h.images did (w.cycles + 1) core in
-      let since : since_from no_cuts (w.events ++ e) ≡ since_from (since_from no_cuts w.events) e = since_from-append no_cuts w.events e in
-      let left : x.device.left ≡ w.device.left = step.framed.left in
+      let read : List Block → Decoded = K.decode o.geometry ceiling in
+      let now : Found → Type 0 = ImagesFit o (w.cycles + 1) false next in
+      let left : x.device.left ≡ w.device.left = (Steps-framed K o w x step).left in
       record {
         at_moment = step.is_step.at_next;
         fits = fits;
         lawful = AllLawful-append (course_of o) (first_marks o) w.events e h.lawful events.1;
         safe = Safe-covered K o (marks_of o (w.events ++ e)).kept (marks_of o (w.events ++ e)).sealed next.done (doubt_of next) x.device
             (Covers-fits o next (marks_of o (w.events ++ e)) fits) step.is_step.safe;
-        each = subst (λ (l : List (List Block)). AllFitImages K o l no_cuts (w.events ++ e)) (sym left)
-            (AllFitImages-append K o w.device.left no_cuts w.events e h.each image.each);
-        images = subst (λ (l : List (List Block)). ImagesFit K o l (w.cycles + 1) false next (since_from no_cuts (w.events ++ e))) (sym left)
-            (subst (ImagesFit K o w.device.left (w.cycles + 1) false next) (sym since) image.images);
-        since = ap (λ s. s.cuts) since ∙ image.cuts ∙ h.since;
+        each = subst (AllFit read now (first_found o) (w.events ++ e)) (append-nil w.device.left ∙ sym left)
+            (AllFit-append read (ImagesFit o w.cycles w.fresh v) now (first_found o) w.events e w.device.left []
+            (λ t p. AllFit-events read o w.cycles w.fresh v next t p did (w.cycles + 1) core) h.each);
         left = ap length left ∙ h.left;
         ended = list_any-append is_end w.events e ∙ ap (λ b. b || has_ended e) (h.ended ∙ step.going) ∙ events_end o w.fresh v did next (w.cycles + 1)
             ∙ ap (λ b. not b && is_halt next.phase) step.going ∙ and_true (is_halt next.phase);
@@ -283,41 +279,20 @@ module _ {M : Type 0} (K : KindOf M) (o : Origin) (x next : World M) (h : Cohere
   cut_marks : marks_of o (x.events ++ Cut (x.passed + 1) x.cycles ∷ []) ≡ marks_of o x.events
   cut_marks = marks_from-append o.start.count (first_marks o) x.events (Cut (x.passed + 1) x.cycles ∷ [])
 
-  cut_since : since_from no_cuts (x.events ++ Cut (x.passed + 1) x.cycles ∷ []) ≡ since_after (since_from no_cuts x.events) (Cut (x.passed + 1) x.cycles)
-  cut_since = since_from-append no_cuts x.events (Cut (x.passed + 1) x.cycles ∷ [])
-
-  has_left : HasLeft K o x.device.left (since_from no_cuts x.events)
-  has_left = λ cycle e. elim (h.images.just cycle e) as (λ _. left_by K o x.device.left (since_from no_cuts x.events).cuts ≢ NothingLeft) [
-    | inl now ↦ absurd (let f : x.fresh ≡ true = now.0 in cc)
-    | inr before ↦ h.images.last cycle e before
-  ]
-
-  few_left : (since_from no_cuts x.events).cuts ≤ length x.device.left
-  few_left = omega (arith, h.since, h.left)
-
-  each_cut : AllFitImages K o (x.device.left ++ next.device.image ∷ []) no_cuts (x.events ++ Cut (x.passed + 1) x.cycles ∷ [])
-  each_cut =
-      AllFitImages-append K o (x.device.left ++ next.device.image ∷ []) no_cuts x.events (Cut (x.passed + 1) x.cycles ∷ [])
-      (AllFitImages-more K o x.device.left next.device.image no_cuts x.events (λ cycle e. absurd (cc)) few_left h.each)
-      (HasLeft-more K o x.device.left next.device.image (since_from no_cuts x.events) (valid_events x.events) few_left has_left, tt)
-
-  last_left : left_by K o (x.device.left ++ next.device.image ∷ []) ((since_from no_cuts x.events).cuts + 1) ≡ left_image
-  last_left =
-      let index : (since_from no_cuts x.events).cuts + 1 - 1 ≡ length x.device.left = omega (arith, h.since, h.left) in
-      ap (λ b. if b then found_first o o.kept else K.decode o.geometry ceiling (slice_index_or (x.device.left ++ next.device.image ∷ []) ((since_from no_cuts x.events).cuts + 1 - 1) []))
-      (ne_eqb ((since_from no_cuts x.events).cuts + 1) 0 (λ e. omega (arith, e)))
-      ∙ ap (K.decode o.geometry ceiling) (ap (λ i. slice_index_or (x.device.left ++ next.device.image ∷ []) i []) index
-      ∙ get_or-append_seam x.device.left next.device.image [] [])
-
-  cut_images : ImagesFit K o (x.device.left ++ next.device.image ∷ []) x.cycles true (view_of_image o.start.count left_image)
-      (since_after (since_from no_cuts x.events) (Cut (x.passed + 1) x.cycles))
+  cut_images : ImagesFit o x.cycles true (view_of_image o.start.count left_image) (found left_image (Some x.cycles))
   cut_images = record {
     last = λ cycle e before. absurd (let same : x.cycles ≡ cycle = cc in omega (arith, same, before));
     just = λ cycle e. inl (refl, (let same : x.cycles ≡ cycle = cc in sym same));
-    fresh_boot = λ e. ((image_phase o.start.count left_image).0, (image_phase o.start.count left_image).1, refl, omega arith);
-    boot = λ e. subst (IsFound o (view_of_image o.start.count left_image)) (sym last_left)
-        (cut_found o left_image x.device.left 0 (seen K o x) one_of);
+    fresh_boot = λ e. ((image_phase o.start.count left_image).0, (image_phase o.start.count left_image).1, refl);
+    boot = λ e. cut_found o left_image x.device.left 0 (seen K o x) one_of;
+    up = λ e. absurd (let boots : is_boot (view_of_image o.start.count left_image).phase ≡ true = ap is_boot (image_phase o.start.count left_image).0 in cc);
   }
+
+  cut_each : AllFit (K.decode o.geometry ceiling) (ImagesFit o x.cycles true (seen K o next)) (first_found o) (x.events ++ Cut (x.passed + 1) x.cycles ∷ []) (x.device.left ++ next.device.image ∷ [])
+  cut_each =
+      AllFit-append (K.decode o.geometry ceiling) (ImagesFit o x.cycles x.fresh (seen K o x)) (ImagesFit o x.cycles true (seen K o next)) (first_found o) x.events (Cut (x.passed + 1) x.cycles ∷ [])
+      x.device.left (next.device.image ∷ [])
+      (λ t p. (p.last, (refl, subst (λ v. ImagesFit o x.cycles true v (found left_image (Some x.cycles))) (sym cut.found) cut_images))) h.each
 
   cut_coheres : Coheres K o (cut_off x next.machine next.device)
   cut_coheres = record {
@@ -326,11 +301,7 @@ module _ {M : Type 0} (K : KindOf M) (o : Origin) (x next : World M) (h : Cohere
         (subst (Fits o (view_of_image o.start.count left_image)) (sym cut_marks) (fits_cut o (seen K o x) (marks_of o x.events) left_image h.fits one_of));
     lawful = AllLawful-append (course_of o) (first_marks o) x.events (Cut (x.passed + 1) x.cycles ∷ []) h.lawful (tt, tt);
     safe = subst (λ (m : Marks). Safe K.decode o m.kept m.sealed next.device) (sym cut_marks) (Safe-cut K o (marks_of o x.events).kept (marks_of o x.events).sealed pick x.device next.device cut.cut h.safe);
-    each = subst (λ (l : List (List Block)). AllFitImages K o l no_cuts (x.events ++ Cut (x.passed + 1) x.cycles ∷ [])) (sym lefts) each_cut;
-    images = subst (λ (l : List (List Block)). ImagesFit K o l x.cycles true (seen K o next) (since_from no_cuts (x.events ++ Cut (x.passed + 1) x.cycles ∷ []))) (sym lefts)
-        (subst (λ v. ImagesFit K o (x.device.left ++ next.device.image ∷ []) x.cycles true v (since_from no_cuts (x.events ++ Cut (x.passed + 1) x.cycles ∷ []))) (sym cut.found)
-        (subst (ImagesFit K o (x.device.left ++ next.device.image ∷ []) x.cycles true (view_of_image o.start.count left_image)) (sym cut_since) cut_images));
-    since = ap (λ s. s.cuts) cut_since ∙ ap (λ c. c + 1) h.since;
+    each = subst (AllFit (K.decode o.geometry ceiling) (ImagesFit o x.cycles true (seen K o next)) (first_found o) (x.events ++ Cut (x.passed + 1) x.cycles ∷ [])) (sym lefts) cut_each;
     left = ap length lefts ∙ length-append x.device.left (next.device.image ∷ []) ∙ ap (λ c. c + 1) h.left;
     ended = list_any-append is_end x.events (Cut (x.passed + 1) x.cycles ∷ []) ∙ or_from (has_ended x.events) false (h.ended ∙ going) refl
         ∙ sym (ap is_halt (ap (λ v. v.phase) cut.found ∙ (image_phase o.start.count left_image).0));
@@ -397,9 +368,9 @@ first_fits o (Some m) = record {
   boots = inr (record { mark = mark m.epoch o.start.count; done = refl; sealed = refl; written = refl; either = inl refl; rises = λ k s kept sealed. absurd (cc) });
 }
 
-first_found : (o : Origin) (kept : Option Mark) → IsFound o (view_of_image o.start.count (found_first o kept)) (found_first o kept)
-first_found o None = refl
-first_found o (Some m) = (refl, at-start o)
+finds_first : (o : Origin) (kept : Option Mark) → IsFound o (view_of_image o.start.count (found_first o kept)) (found_first o kept)
+finds_first o None = refl
+finds_first o (Some m) = (refl, at-start o)
 
 first_boot : (o : Origin) (kept : Option Mark)
     → ((view_of_image o.start.count (found_first o kept)).phase ≡ BootPhase) × ((view_of_image o.start.count (found_first o kept)).done ≡ (marks_at o.start.count kept).kept)
@@ -411,13 +382,13 @@ pub Good-first : {M : Type 0} (K : KindOf M) → (o : Origin) (given : Given) (w
 Good-first {M = M} K o given w rising f =
     let none : w.events ≡ [] = f.events in
     let marks : marks_of o w.events ≡ first_marks o = ap (marks_of o) none in
-    let since : since_from no_cuts w.events ≡ no_cuts = ap (since_from no_cuts) none in
     let boots = first_boot o o.kept in
-    let images : ImagesFit K o w.device.left w.cycles false (first_view o) no_cuts = record {
+    let images : ImagesFit o w.cycles false (first_view o) (first_found o) = record {
       last = λ cycle e. absurd (cc);
       just = λ cycle e. absurd (cc);
       fresh_boot = λ e. absurd (cc);
-      boot = λ e. first_found o o.kept;
+      boot = λ e. finds_first o o.kept;
+      up = λ e. refl;
     } in
     let kept : Safe K.decode o (first_marks o).kept None w.device = subst (λ (d : Option Mark). Safe K.decode o d None w.device) boots.1 f.safe in
     let ended : has_ended w.events ≡ false = ap has_ended none in
@@ -430,11 +401,11 @@ Good-first {M = M} K o given w rising f =
         fits = subst (λ v. Fits o v (marks_of o w.events)) (sym f.found) (subst (Fits o (first_view o)) (sym marks) (first_fits o o.kept));
         lawful = subst (AllLawful (course_of o) (first_marks o)) (sym none) tt;
         safe = subst (λ (m : Marks). Safe K.decode o m.kept m.sealed w.device) (sym marks) (Safe-doubt K.decode o (first_marks o).kept (first_marks o).sealed w.device kept);
-        each = subst (AllFitImages K o w.device.left no_cuts) (sym none) tt;
-        images = subst (λ b. ImagesFit K o w.device.left w.cycles b (seen K o w) (since_from no_cuts w.events)) (sym f.fresh)
-            (subst (λ v. ImagesFit K o w.device.left w.cycles false v (since_from no_cuts w.events)) (sym f.found)
-            (subst (ImagesFit K o w.device.left w.cycles false (first_view o)) (sym since) images));
-        since = ap (λ s. s.cuts) since ∙ sym passed;
+        each = subst (λ vs. AllFit (K.decode o.geometry ceiling) (ImagesFit o w.cycles w.fresh (seen K o w)) (first_found o) vs w.device.left) (sym none) (
+          f.left,
+          subst (λ b. ImagesFit o w.cycles b (seen K o w) (first_found o)) (sym f.fresh)
+              (subst (λ v. ImagesFit o w.cycles false v (first_found o)) (sym f.found) images),
+        );
         left = ap length f.left ∙ sym passed;
         ended = ended ∙ sym (ap is_halt (ap (λ v. v.phase) f.found ∙ boots.0));
         queue = λ e. absurd (let no_cut : w.fresh ≡ false = f.fresh in cc);

@@ -5,8 +5,8 @@ use Rattle.thy_text.specs.Released.{console_of}
 use Rattle.thy_view.specs.declared.did.Did.{Did}
 use Rattle.thy_view.specs.declared.did.Did.TheVariants.{Loaded, Restarted, Committed}
 use Rattle.thy_view.specs.declared.view.View.{View}
-use Rattle.thy_view.specs.Origin.{Origin}
-use Rattle.thy_run.specs.Laws.{console_at, released_of}
+use Rattle.thy_view.specs.Origin.{Origin, at}
+use Rattle.thy_run.specs.Laws.{released_of}
 
 -- what was done makes the console of another checkpoint known
 abbrev pub shows_console : Did → Bool
@@ -14,6 +14,10 @@ shows_console Loaded = true
 shows_console (Restarted epoch count) = true
 shows_console (Committed epoch overlapped) = true
 shows_console did = false
+
+-- the console of the uninterrupted program at each count
+abbrev pub console_at : Origin → ℕ → List ℕ
+console_at o k = (at o k).console
 
 -- the bytes of the console that the terminal has not had yet
 abbrev pub due_of : Origin → List Happening → Did → View → List ℕ

@@ -8,8 +8,8 @@ use Rattle.thy_base.specs.Device.{Device, IsFramed, IsCut}
 use Rattle.thy_base.specs.Mix.{mix_pick, mix_next}
 use Rattle.thy_isa.specs.declared.state.MachState.{MachState}
 use Rattle.thy_isa.specs.declared.state.Status.{Status}
-use Rattle.thy_isa.specs.Step.{State, state_of}
-use Rattle.thy_text.specs.Happening.{Happening, Cut, Ended as EndedEvent}
+use Rattle.thy_isa.specs.Step.{state_of}
+use Rattle.thy_text.specs.Happening.{Happening, Cut}
 use Rattle.thy_view.specs.declared.did.Did.{Did}
 use Rattle.thy_view.specs.declared.did.Did.TheVariants.{Restarted}
 use Rattle.thy_view.specs.declared.did.Stepped.{Stepped}
@@ -20,8 +20,9 @@ use Rattle.thy_view.specs.Origin.{Origin, at, IsOrigin}
 use Rattle.thy_view.specs.Kind.{IsSnapshot, KindOf, IsStep, LeavesSafe}
 use Rattle.thy_run.specs.Cuts.{has_ended}
 use Rattle.thy_run.specs.Due.{due_of}
+use Rattle.thy_run.specs.Endings.{EndsWith}
 use Rattle.thy_run.specs.Laws.{released_of}
-use Rattle.thy_run.specs.Unfinished.{StepFailed, TellingFailed}
+use Rattle.thy_run.specs.Unfinished.{StepFailed, TellingFailed, ReadFailed, LeftAlone}
 use Rattle.thy_run.specs.World.{World, Given, seen, Steps, Ran, Cycle, tear}
 use Rattle.thy_run.specs.declared.ending.Stop.{Stop}
 use Rattle.thy_run.specs.declared.ending.Stop.TheVariants.{Nvm, Memory}
@@ -37,7 +38,13 @@ origin_of plan = record { geometry = plan.geometry; start = state_of plan.start.
 
 -- what it is given besides, over a device that was fitted
 abbrev pub given_of : Plan → Device → Given
-given_of plan fitted = record { cuts = plan.config.cuts; tears = plan.config.tears; seed = plan.config.mix; fitted = fitted }
+given_of plan fitted = record {
+  cuts = plan.config.cuts;
+  tears = plan.config.tears;
+  seed = plan.config.mix;
+  digest = plan.digest;
+  fitted = fitted;
+}
 
 -- its start is one of a run, and the listed cuts rise
 pub record IsPlanned (plan : Plan) : Type 0 where
@@ -146,7 +153,6 @@ pub record IsDone {M : Type 0} (K : KindOf M) (plan : Plan) (p next : Progress M
 
 -- a cycle was begun and is not done; where memory was not short, the bytes are all that is due
 pub record IsBroken {M : Type 0} (K : KindOf M) (plan : Plan) (p next : Progress M) (n new : Device) (cycles : ℕ) (bytes : List ℕ) : Type 0 where
-  pub unfinished : StepFailed K (origin_of plan) (world_at p n cycles) next.events new ⊎ TellingFailed K (origin_of plan) (world_at p n cycles) next.events new
   pub rest : List ℕ
   pub releases : released_of (origin_of plan) next.events ≡ released_of (origin_of plan) p.events ++ bytes ++ rest
   pub told : (more : List Happening) × (next.events ≡ p.events ++ more)
@@ -160,18 +166,13 @@ pub record IsFault {M : Type 0} (p next : Progress M) (n new : Device) (bytes : 
   pub rose : Rose n.faults new.faults
 
 -- why a cycle is not done: a device's fault or want of memory
-abbrev pub Breaks : {M : Type 0} → Progress M → Progress M → Device → Device → List ℕ → Stop → Type 0
-Breaks p next n new bytes Nvm = IsFault p next n new bytes
-Breaks p next n new bytes Memory = Unit {0}
-Breaks p next n new bytes stop = ⊥
-
--- the last event is the end, with this status
-pub record EndsWith (events : List Happening) (status : Status) : Type 0 where
-  pub before : List Happening
-  pub count : ℕ
-  pub cycle : ℕ
-  pub state : State
-  pub last : events ≡ before ++ EndedEvent status count cycle state ∷ []
+abbrev pub Breaks : {M : Type 0} → KindOf M → Plan → Progress M → Progress M → Device → Device → ℕ → List ℕ → Stop → Type 0
+Breaks K plan p next n new cycles bytes Nvm =
+    (StepFailed K (origin_of plan) (world_at p n cycles) next.events new ⊎ TellingFailed K (origin_of plan) (world_at p n cycles) next.events new ReadFailed)
+    × IsFault p next n new bytes
+Breaks K plan p next n new cycles bytes Memory =
+    TellingFailed K (origin_of plan) (world_at p n cycles) next.events new LeftAlone × (new.faults ≡ n.faults)
+Breaks K plan p next n new cycles bytes stop = ⊥
 
 -- a cut is due after a cycle whose events were made: the next one that is listed
 pub record AwaitsCut {M : Type 0} (K : KindOf M) (plan : Plan) (p next : Progress M) (n new : Device) (cycles : ℕ) (bytes : List ℕ) : Type 0 where
@@ -187,7 +188,7 @@ ComesTo K plan p next n new cycles bytes (Ends status) =
     IsDone K plan p next n new cycles bytes
     × (is_halt (seen K (origin_of plan) (world_at next new (cycles + 1))).phase ≡ true)
     × EndsWith next.events status
-ComesTo K plan p next n new cycles bytes (Fails stop) = IsBroken K plan p next n new cycles bytes × Breaks p next n new bytes stop
+ComesTo K plan p next n new cycles bytes (Fails stop) = IsBroken K plan p next n new cycles bytes × Breaks K plan p next n new cycles bytes stop
 
 -- power may be cut: the machine is at a moment of the run, and another cut is listed
 pub record CanCut {M : Type 0} (K : KindOf M) (plan : Plan) (p : Progress M) (n : Device) : Type 0 where

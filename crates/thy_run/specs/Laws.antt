@@ -9,9 +9,10 @@ use Rattle.thy_base.specs.Marks.{mark}
 use Rattle.thy_text.specs.Marks.{Marks, Course, loading_marks, marks_from, AllLawful}
 use Rattle.thy_text.specs.Released.{released}
 use Rattle.thy_view.specs.Origin.{Origin, at, IsOrigin}
-use Rattle.thy_view.specs.Safe.{Safe}
+use Rattle.thy_view.specs.Booting.{found_first}
+use Rattle.thy_view.specs.Safe.{ceiling, Safe}
 use Rattle.thy_run.specs.Cuts.{cuts_among, numbered, cuts_up_to, last_cuttable}
-use Rattle.thy_run.specs.Images.{RestartsDecode}
+use Rattle.thy_run.specs.Images.{Found, found, HasLeft, AllFit}
 use Rattle.thy_run.specs.Progress.{IsSoonOver}
 use Rattle.thy_run.specs.Unfinished.{Finished}
 use Rattle.thy_run.specs.World.{Given, tear}
@@ -32,28 +33,27 @@ first_marks o = marks_at o.start.count o.kept
 abbrev pub marks_of : Origin → List Happening → Marks
 marks_of o events = marks_from o.start.count (first_marks o) events
 
--- the console of the uninterrupted program at each count
-abbrev pub console_at : Origin → ℕ → List ℕ
-console_at o k = (at o k).console
+-- what there is to be found before any event
+abbrev pub first_found : Origin → Found
+first_found o = found (found_first o o.kept) None
 
 -- what the terminal has of the console once events were told: that of the committed checkpoint
 abbrev pub released_of : Origin → List Happening → List ℕ
-released_of o events = released (console_at o) o.start.count (first_marks o) events
+released_of o events = released (λ k. (at o k).console) o.start.count (first_marks o) events
 
 -- the picks of the first k cuts
 abbrev pub torn : List ℕ → ℕ → List ℕ
 torn tears zero = []
 torn tears (suc k) = torn tears k ++ tear tears k ∷ []
 
--- What is promised of a run: its events are lawful, its restarts are what the cuts left, its cuts are the listed ones and
--- have the listed picks, each left one image, the device was fitted no second time and is safe for the marks that the
--- events leave, and the run is soon over.
+-- What is promised of a run: its events are lawful, its restarts are what the cuts left, of which each left one image, its
+-- cuts are the listed ones and have the listed picks, the device was fitted no second time and is safe for the marks that
+-- the events leave, and the run is soon over.
 pub record Promise {M : Type 0} (K : KindOf M) (o : Origin) (given : Given) (cycles : ℕ) (events : List Happening) (n : Device) : Type 0 where
   pub events_lawful : AllLawful (course_of o) (first_marks o) events
-  pub restarts_decode : RestartsDecode K o n.left cycles events
+  pub restarts_decode : AllFit (K.decode o.geometry ceiling) (HasLeft cycles) (first_found o) events n.left
   pub cuts_listed : cuts_among events ≡ numbered 1 (cuts_up_to (last_cuttable events cycles) given.cuts)
   pub picks_listed : n.picks ≡ torn given.tears (length (cuts_among events))
-  pub images_left : length n.left ≡ length (cuts_among events)
   pub fits_stay : n.fits ≡ given.fitted.fits
   pub safe_at_return : Safe K.decode o (marks_of o events).kept (marks_of o events).sealed n
   pub soon : IsSoonOver K o given.cuts cycles

@@ -7,6 +7,7 @@ pub mod Progress
 pub mod Strides
 pub mod Laws
 pub mod Sending
+pub mod Endings
 pub mod Going
 pub mod Stopping
 pub mod Turning

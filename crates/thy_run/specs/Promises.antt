@@ -147,6 +147,11 @@ IsAwaiting {M = M} K plan next m done bytes first now =
     × Running K plan fitted p n done t now.terminal r now.report
     × AwaitsCut K plan p next n m done bytes × (first ≡ length p.events)
 
+-- a run of a plan leaves this
+abbrev pub RunsTo : {M : Type 0} → KindOf M → Plan → Device → Device → Ending → Sinks → Sinks → Type 0
+RunsTo K plan fitted new e before after =
+    RunEnds K plan fitted new e before.terminal after.terminal before.report after.report
+
 -- after the cut it goes on
 abbrev pub CutsOn : {M : Type 0} → KindOf M → Plan → Progress M → Device → Device → ℕ → List ℕ → ℕ → Sinks → Sinks → Result (Progress M) Ending → Type 0
 CutsOn {M = M} K plan next m new done bytes first before after result =

@@ -1,5 +1,5 @@
 -- What a sink took of a text that grows.
-use Rattle.std.specs.Prelude.{◌≡◌, Bool, true, false, ℕ, List, [], ◌++◌, take}
+use Rattle.std.specs.Prelude.{◌≡◌, ◌≢◌, Bool, true, false, ℕ, List, [], ◌++◌, take}
 use Rattle.thy_base.specs.Outside.{Stream, Took, TookPart}
 use Rattle.thy_text.specs.Happening.{Happening}
 use Rattle.thy_text.specs.Lines.{report_of}
@@ -12,10 +12,10 @@ pub record Sinks : Type 0 where
 abbrev pub sinks : Stream → Stream → Sinks
 sinks terminal report = record { terminal = terminal; report = report }
 
--- what a sink took of bytes that were due: all, or where it failed a first part
+-- what a sink took of bytes that were due: all, or where it failed a first part; with none due it can't have failed
 abbrev pub Sent : Bool → Stream → Stream → List ℕ → Type 0
 Sent false old new bytes = Took old new bytes
-Sent true old new bytes = TookPart old new bytes
+Sent true old new bytes = TookPart old new bytes × (bytes ≢ [])
 
 -- a text grew, and the sink took what came behind, or where it failed a first part of that
 pub record Sends (before after : List ℕ) (failed : Bool) (old new : Stream) : Type 0 where

@@ -1,31 +1,24 @@
 -- The program's loop over cycles, with what its sinks take.
-use Rattle.std.specs.Prelude.{◌≡◌, ◌⊎◌, ℕ, ◌+◌, ◌<◌, ◌≤◌, Bool, true, false, List, [], length}
+use Rattle.std.specs.Prelude.{◌≡◌, ℕ, ◌+◌, Bool, true, false, List, [], length}
 use Rattle.thy_base.specs.declared.nvm.Shape.{Shape}
-use Rattle.thy_base.specs.Counts.{Rose}
 use Rattle.thy_base.specs.Device.{Device, fitted}
 use Rattle.thy_base.specs.Mix.{mix_start}
 use Rattle.thy_base.specs.Outside.{Stream, Took}
 use Rattle.thy_base.specs.declared.block.Block.{Block}
 use Rattle.thy_view.specs.Kind.{IsFittedFor, KindOf}
 use Rattle.thy_text.specs.Lines.{report_of}
-use Rattle.thy_view.specs.Origin.{Origin}
-use Rattle.thy_text.specs.Happening.{Happening}
-use Rattle.thy_run.specs.Cuts.{has_ended}
 use Rattle.thy_run.specs.Laws.{released_of}
-use Rattle.thy_run.specs.Unfinished.{StepFailed, TellingFailed, Ends as StandsAtEnd}
-use Rattle.thy_run.specs.World.{World, Given, Cycle, Ran}
 use Rattle.thy_run.specs.declared.advance.Outcome.{Outcome}
 use Rattle.thy_run.specs.declared.advance.Outcome.TheVariants.{Goes, Cuts, Ends, Fails}
-use Rattle.thy_run.specs.declared.ending.Stop.{Stop}
-use Rattle.thy_run.specs.declared.ending.Stop.TheVariants.{Ended, Nvm, Memory, Terminal, Report, Limit}
+use Rattle.thy_run.specs.declared.ending.Stop.TheVariants.{Ended, Terminal, Report}
 use Rattle.thy_run.specs.declared.ending.Ending.{Ending}
 use Rattle.thy_run.specs.declared.cycles.Turned.{Turned}
 use Rattle.thy_run.specs.declared.cycles.Turned.TheVariants.{GoesOn as TurnedOn, Cuts as CutsOff, Stops, Breaks as BreaksOff}
 use Rattle.thy_run.specs.declared.plan.Plan.{Plan}
 use Rattle.thy_run.specs.declared.progress.Progress.{Progress}
 use Rattle.thy_base.specs.Bytes.{bytes_of}
-use Rattle.thy_run.specs.Going.{origin_of, given_of, EndsWith, GoesOn, AwaitsCut}
-use Rattle.thy_run.specs.Sending.{Delivered}
+use Rattle.thy_run.specs.Going.{origin_of, given_of, GoesOn, AwaitsCut}
+use Rattle.thy_run.specs.Endings.{HasRun}
 
 -- a stop for a sink that failed comes before the others of a cycle that is done
 abbrev pub stopped_for : (terminal report : Bool) → Turned → Turned
@@ -56,56 +49,10 @@ pub record Running {M : Type 0} (K : KindOf M) (plan : Plan) (fitted : Device) (
   pub shown_all : Took terminal shown (released_of (origin_of plan) p.events)
   pub read_all : Took report read (report_of plan.digest p.events)
 
--- memory was short
-abbrev pub is_memory : Stop → Bool
-is_memory Memory = true
-is_memory stop = false
-
--- the last cycle is done, and nothing was begun behind it
-abbrev pub IsLast : {M : Type 0} → World M → List Happening → Device → Type 0
-IsLast w events n = (events ≡ w.events) × (n ≡ w.device)
-
--- what stands at the end, by the stop: only for a device's fault or want of memory one more cycle was begun
-abbrev pub EndsBy : {M : Type 0} → KindOf M → Origin → World M → List Happening → Device → Stop → Type 0
-EndsBy K o w events n Nvm = StepFailed K o w events n ⊎ TellingFailed K o w events n
-EndsBy K o w events n Memory = StandsAtEnd K o w events n
-EndsBy K o w events n stop = IsLast w events n
-
--- these events were told before the last cycle
-abbrev pub ToldBefore : {M : Type 0} → KindOf M → Origin → Given → World M → List Happening → Type 0
-ToldBefore {M = M} K o given last settled =
-    (k : ℕ) × (before : World M) × Ran K o given k before × Cycle K o given.cuts given.tears before last × (settled ≡ before.events)
-
--- the events that were told before the last cycle that was begun; a sink that failed did so in that cycle
-abbrev pub IsSettled : {M : Type 0} → KindOf M → Origin → Given → World M → List Happening → Stop → Type 0
-IsSettled K o given last settled Terminal = ToldBefore K o given last settled
-IsSettled K o given last settled Report = ToldBefore K o given last settled
-IsSettled K o given last settled stop = settled ≡ last.events
-
--- what a stop says of the run
-abbrev pub StopFits : Plan → Device → Device → Ending → Stop → Type 0
-StopFits plan fitted new e (Ended status) =
-    EndsWith e.events status × (e.mute ≡ false) × (e.deaf ≡ false) × (new.faults ≡ fitted.faults)
-StopFits plan fitted new e Nvm =
-    Rose fitted.faults new.faults × (e.cycles < plan.geometry.limit) × (e.mute ≡ false) × (e.deaf ≡ false)
-StopFits plan fitted new e Memory = e.cycles < plan.geometry.limit
-StopFits plan fitted new e Terminal = (e.mute ≡ true) × (e.deaf ≡ false) × (new.faults ≡ fitted.faults)
-StopFits plan fitted new e Report = (e.deaf ≡ true) × (new.faults ≡ fitted.faults)
-StopFits plan fitted new e Limit =
-    (e.cycles ≡ plan.geometry.limit) × (has_ended e.events ≡ false) × (e.mute ≡ false) × (e.deaf ≡ false)
-    × (new.faults ≡ fitted.faults)
-
--- what a run leaves
-pub record RunEnds {M : Type 0} (K : KindOf M) (plan : Plan) (fitted new : Device) (e : Ending) (terminal shown report read : Stream) : Type 0 where
-  pub last : World M
-  pub ran : Ran K (origin_of plan) (given_of plan fitted) e.cycles last
-  pub ends : EndsBy K (origin_of plan) last e.events new e.stop
-  pub few : e.cycles ≤ plan.geometry.limit
-  pub settled : List Happening
-  pub is_settled : IsSettled K (origin_of plan) (given_of plan fitted) last settled e.stop
-  pub shown_all : Delivered (is_memory e.stop) e.mute (released_of (origin_of plan) settled) (released_of (origin_of plan) e.events) terminal shown
-  pub read_all : Delivered false e.deaf (report_of plan.digest settled) (report_of plan.digest e.events) report read
-  pub stop_fits : StopFits plan fitted new e e.stop
+-- what a run of a plan leaves
+abbrev pub RunEnds : {M : Type 0} → KindOf M → Plan → Device → Device → Ending → Stream → Stream → Stream → Stream → Type 0
+RunEnds K plan fitted new e terminal shown report read =
+    HasRun K (origin_of plan) (given_of plan fitted) new e terminal shown report read
 
 -- what a turn of the loop comes to
 abbrev pub IsTurned : {M : Type 0} → KindOf M → Plan → Device → Progress M → Progress M → Device → Device → ℕ → Stream → Stream → Stream → Stream → Stream → Stream → Turned → Type 0

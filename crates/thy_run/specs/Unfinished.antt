@@ -26,8 +26,13 @@ pub record ReadFailed (old new : Device) : Type 0 where
   pub framed : IsFramed old new
   pub rose : Rose old.faults new.faults
 
--- the step was done, but of its events only the first were made: a read for them failed, or memory was short
-pub record TellingFailed {M : Type 0} (K : KindOf M) (o : Origin) (w : World M) (events : List Happening) (n : Device) : Type 0 where
+-- memory was short for an event, and the device was left alone
+abbrev pub LeftAlone : Device → Device → Type 0
+LeftAlone old new = new ≡ old
+
+-- The step was done, but of its events only the first were made: a read for the others failed, or memory was short; which of
+-- these says what the step's device has become.
+pub record TellingFailed {M : Type 0} (K : KindOf M) (o : Origin) (w : World M) (events : List Happening) (n : Device) (Became : Device → Device → Type 0) : Type 0 where
   pub next : World M
   pub steps : Steps K o w next
   pub part : List Happening
@@ -35,11 +40,16 @@ pub record TellingFailed {M : Type 0} (K : KindOf M) (o : Origin) (w : World M) 
   pub told : events ≡ w.events ++ part
   pub split : next.events ≡ events ++ rest
   pub unended : has_ended part ≡ false
-  pub device : (n ≡ next.device) ⊎ ReadFailed next.device n
+  pub device : Became next.device n
+
+-- the last cycle is done, and nothing was begun behind it
+abbrev pub IsLast : {M : Type 0} → World M → List Happening → Device → Type 0
+IsLast w events n = (events ≡ w.events) × (n ≡ w.device)
 
 -- what stands at the end: the last cycle is done, or one more was begun
 abbrev pub Ends : {M : Type 0} → KindOf M → Origin → World M → List Happening → Device → Type 0
-Ends K o w events n = ((events ≡ w.events) × (n ≡ w.device)) ⊎ (StepFailed K o w events n ⊎ TellingFailed K o w events n)
+Ends K o w events n =
+    IsLast w events n ⊎ (StepFailed K o w events n ⊎ TellingFailed K o w events n (λ old new. LeftAlone old new ⊎ ReadFailed old new))
 
 -- a run of so many cycles has given these events and left this device
 pub record Finished {M : Type 0} (K : KindOf M) (o : Origin) (given : Given) (cycles : ℕ) (events : List Happening) (n : Device) : Type 0 where

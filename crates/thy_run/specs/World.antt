@@ -1,7 +1,7 @@
 -- A run: its cycles, the power cuts between them, and the events that they give.
 use Rattle.std.specs.Prelude.{◌≡◌, ℕ, zero, suc, ◌+◌, ◌==◌, Bool, true, false, ◌&&◌, not, nat_lt, if◌then◌else◌, MatchBool, List, [], ◌∷◌, ◌++◌, length, slice_index, slice_index_or, None}
 use Rattle.thy_base.specs.declared.mix.Mix.{Mix}
-use Rattle.thy_base.specs.Device.{Device, IsCut, IsFramed}
+use Rattle.thy_base.specs.Device.{Device, IsCut}
 use Rattle.thy_base.specs.Mix.{mix_start, mix_pick, mix_next}
 use Rattle.thy_view.specs.Kind.{KindOf, IsStep}
 use Rattle.thy_text.specs.Happening.{Happening, EpochEnd, Commit, Cut, Restart, Reload, Ended}
@@ -58,11 +58,10 @@ events_of o fresh v did next cycle = reload_told fresh next ++ told o did cycle 
 
 -- the world after a step
 abbrev pub stepped : {M : Type 0} → KindOf M → Origin → World M → M → Device → Did → World M
-stepped K o w m n did = record {
+stepped K o w m n did = record w {
   machine = m;
   device = n;
   mix = mix_next w.mix;
-  passed = w.passed;
   cycles = w.cycles + 1;
   fresh = false;
   events = w.events ++ events_of o w.fresh (seen K o w) did (K.view o m n) (w.cycles + 1);
@@ -73,8 +72,6 @@ pub record Steps {M : Type 0} (K : KindOf M) (o : Origin) (w next : World M) : T
   pub r : Stepped
   pub going : is_halt (seen K o w).phase ≡ false
   pub is_step : IsStep K o w.cycles (mix_pick w.mix) w.machine next.machine w.device next.device r
-  pub framed : IsFramed w.device next.device
-  pub calm : next.device.faults ≡ w.device.faults
   pub next_is : next ≡ stepped K o w next.machine next.device r.did
 
 -- a cut is due: the next one that is listed falls after this cycle, and the run has not ended
@@ -83,12 +80,10 @@ is_due K o cuts w = not (is_halt (seen K o w).phase) && (nat_lt w.passed (length
 
 -- the world after a cut
 abbrev pub cut_off : {M : Type 0} → World M → M → Device → World M
-cut_off w m n = record {
+cut_off w m n = record w {
   machine = m;
   device = n;
-  mix = w.mix;
   passed = w.passed + 1;
-  cycles = w.cycles;
   fresh = true;
   events = w.events ++ Cut (w.passed + 1) w.cycles ∷ [];
 }
@@ -112,12 +107,13 @@ pub record Cycle {M : Type 0} (K : KindOf M) (o : Origin) (cuts tears : List ℕ
   pub steps : Steps K o w between
   pub cut : MatchBool (is_due K o cuts between) (IsCutOff K o (tear tears between.passed) between next) (next ≡ between)
 
--- What a run is given besides its program: the listed cuts and their picks, the schedule's seed, and the device as it was
--- fitted.
+-- What a run is given besides its program: the listed cuts and their picks, the schedule's seed, whether its report tells
+-- digests of memory, and the device as it was fitted.
 pub record Given : Type 0 where
   pub cuts : List ℕ
   pub tears : List ℕ
   pub seed : ℕ
+  pub digest : Bool
   pub fitted : Device
 
 -- power comes on for the first time, over a device that was fitted

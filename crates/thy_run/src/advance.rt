@@ -44,8 +44,10 @@ fn step<M: Computer, N: Nvm>(
     nvm: &mut N,
 ) -> Result<Stepped, NvmError>
     requires { CanStep M.kind plan.now.start progress.old.machine (N.device nvm.old) }
-    ensures stepped { StepsOn M.kind plan.now progress.old progress.new (N.device nvm.old) (N.device nvm.new) result }
-    ensures stuck { GetsStuck M.kind plan.now progress.old progress.new (N.device nvm.old) (N.device nvm.new) result }
+    ensures stepped { let n = N.device nvm.old in
+        StepsOn M.kind plan.now progress.old progress.new n (N.device nvm.new) result }
+    ensures stuck { let n = N.device nvm.old in
+        GetsStuck M.kind plan.now progress.old progress.new n (N.device nvm.new) result }
 {
     let pick = progress.mix.next();
     let stepped = progress.machine.step(pick, &plan.start, nvm)?;
@@ -54,7 +56,8 @@ fn step<M: Computer, N: Nvm>(
 
 /// Whether a cut falls after this cycle: the next one that is listed.
 fn is_due(config: &Config, passed: usize, cycle: u64) -> bool
-    ensures { result ≡ (nat_lt passed (length config.now.cuts) && slice_index config.now.cuts passed == cycle) }
+    ensures { let cuts = config.now.cuts in
+        result ≡ (nat_lt passed (length cuts) && slice_index cuts passed == cycle) }
 {
     passed < config.cuts.len() && config.cuts.get(passed) == cycle
 }
@@ -82,7 +85,9 @@ pub fn cut<M: Computer, N: Nvm>(
     nvm: &mut N,
 ) -> Result<Progress<M>, Events>
     requires { CanCut M.kind plan.now progress (N.device nvm.old) }
-    ensures ok { IfOk result (λ next. IsCutOffTo M.kind plan.now progress next (N.device nvm.old) (N.device nvm.new) cycle) }
+    ensures ok { let n = N.device nvm.old in
+        let new = N.device nvm.new in
+        IfOk result (λ next. IsCutOffTo M.kind plan.now progress next n new cycle) }
     ensures events { IfErr result (λ events. events ≡ progress.events) }
     ensures same { IfErr result (λ events. N.device nvm.new ≡ N.device nvm.old) }
 {
@@ -149,7 +154,8 @@ fn conclude<M: Computer>(
 ) -> Advance
     requires planned { IsPlanned plan.now }
     requires gathered { CanConclude M.kind plan.now progress.old did readings cycle }
-    ensures { Concludes M.kind plan.now progress.old progress.new did readings cycle (bytes_of result.bytes) result.outcome }
+    ensures { let bytes = bytes_of result.bytes in
+        Concludes M.kind plan.now progress.old progress.new did readings cycle bytes result.outcome }
 {
     let Readings {
         reload,
@@ -181,9 +187,13 @@ pub fn take_cycle<M: Computer, N: Nvm>(
     nvm: &mut N,
 ) -> Advance
     requires planned { IsPlanned plan.now }
-    requires goes { (fitted : DeviceValue) × GoesOn M.kind plan.now fitted progress.old (N.device nvm.old) done }
+    requires goes { let n = N.device nvm.old in
+        (fitted : DeviceValue) × GoesOn M.kind plan.now fitted progress.old n done }
     requires few { done < 2 ^ 62 }
-    ensures { TakesCycle M.kind plan.now progress.old progress.new (N.device nvm.old) (N.device nvm.new) done (bytes_of result.bytes) result.outcome }
+    ensures { let n = N.device nvm.old in
+        let next = N.device nvm.new in
+        let bytes = bytes_of result.bytes in
+        TakesCycle M.kind plan.now progress.old progress.new n next done bytes result.outcome }
 {
     let stepped = match step(progress, plan, nvm) {
         Ok(stepped) => stepped,

@@ -3,9 +3,9 @@ ghost use Rattle.std.specs.Prelude.{◌≡◌, ◌<◌, ◌+◌, length, IfOk};
 ghost use Rattle.thy_base.specs.Bytes.{bytes_of};
 ghost use Rattle.thy_view.specs.Kind.{IsDramOf};
 ghost use Rattle.thy_run.specs.Going.{IsPlanned};
-ghost use Rattle.thy_run.specs.Promises.{IsRunning, TurnsTo, IsAwaiting, CutsOn, CutsShort};
+ghost use Rattle.thy_run.specs.Promises.{IsRunning, TurnsTo, IsAwaiting, RunsTo, CutsOn, CutsShort};
 ghost use Rattle.thy_run.specs.Sending.{sinks};
-ghost use Rattle.thy_run.specs.Turning.{first_progress, stopped_for, turned_of, IsFitted, RunEnds};
+ghost use Rattle.thy_run.specs.Turning.{first_progress, stopped_for, turned_of, IsFitted};
 
 use crate::advance::{Advance, Outcome, cut, take_cycle};
 use crate::ending::{Ending, Stop};
@@ -74,7 +74,9 @@ fn turn<M: Computer, T: Sink, R: Sink, N: Nvm>(
     requires first { first ≡ length progress.old.events }
     ensures { let before = sinks (T.stream terminal.old) (R.stream report.old) in
         let after = sinks (T.stream terminal.new) (R.stream report.new) in
-        TurnsTo M.kind plan.now progress.old progress.new (N.device nvm.old) (N.device nvm.new) done before after result }
+        let n = N.device nvm.old in
+        let new = N.device nvm.new in
+        TurnsTo M.kind plan.now progress.old progress.new n new done before after result }
 {
     let Advance { bytes, outcome } = take_cycle(alloc, progress, plan, done, nvm);
     if let Outcome::Cuts = outcome {
@@ -114,10 +116,14 @@ fn turn_off<M: Computer, T: Sink, R: Sink, N: Nvm>(
     requires few { done < plan.now.geometry.limit }
     ensures ok { let before = sinks (T.stream terminal.old) (R.stream report.old) in
         let after = sinks (T.stream terminal.new) (R.stream report.new) in
-        CutsOn M.kind plan.now progress (N.device nvm.old) (N.device nvm.new) done (bytes_of bytes) first before after result }
+        let n = N.device nvm.old in
+        let new = N.device nvm.new in
+        CutsOn M.kind plan.now progress n new done (bytes_of bytes) first before after result }
     ensures err { let before = sinks (T.stream terminal.old) (R.stream report.old) in
         let after = sinks (T.stream terminal.new) (R.stream report.new) in
-        CutsShort M.kind plan.now progress (N.device nvm.old) (N.device nvm.new) done (bytes_of bytes) first before after result }
+        let n = N.device nvm.old in
+        let new = N.device nvm.new in
+        CutsShort M.kind plan.now progress n new done (bytes_of bytes) first before after result }
 {
     let mut next = match cut(alloc, progress, plan, done + 1, nvm) {
         Ok(next) => next,
@@ -201,7 +207,9 @@ pub fn run<M: Computer, T: Sink, R: Sink, N: Nvm>(
 ) -> Ending
     requires planned { IsPlanned plan.now }
     requires fitted { IsFitted M.kind plan.now (N.device nvm.old) }
-    ensures { RunEnds M.kind plan.now (N.device nvm.old) (N.device nvm.new) result (T.stream terminal.old) (T.stream terminal.new) (R.stream report.old) (R.stream report.new) }
+    ensures { let before = sinks (T.stream terminal.old) (R.stream report.old) in
+        let after = sinks (T.stream terminal.new) (R.stream report.new) in
+        RunsTo M.kind plan.now (N.device nvm.old) (N.device nvm.new) result before after }
 {
     let Ok(machine) = first_machine::<M>(alloc, &plan.geometry) else {
         return Ending {

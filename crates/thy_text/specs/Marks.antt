@@ -20,10 +20,9 @@ loading_marks start = record { kept = None; sealed = Some (mark 0 start) }
 abbrev pub marks_after : ℕ → Marks → Happening → Marks
 marks_after start m (EpochEnd epoch count cause) = record m { sealed = Some (mark epoch count) }
 marks_after start m (Commit epoch cycle overlapped) = record { kept = m.sealed; sealed = None }
-marks_after start m (Cut index cycle) = m
 marks_after start m (Restart epoch count state) = record { kept = Some (mark epoch count); sealed = None }
 marks_after start m Reload = loading_marks start
-marks_after start m (Ended status count cycle state) = m
+marks_after start m event = m
 
 -- what events make of the marks
 abbrev pub marks_from : ℕ → Marks → List Happening → Marks

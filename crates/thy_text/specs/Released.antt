@@ -1,18 +1,15 @@
 -- What the terminal has of the console.
 use Rattle.std.specs.Prelude.{ℕ, Bool, true, false, if◌then◌else◌, List, [], Option, Some, None}
 use Rattle.std.specs.List.{list_any}
-use Rattle.thy_text.specs.Happening.{Happening, EpochEnd, Commit, Cut, Restart, Reload, Ended}
+use Rattle.thy_text.specs.Happening.{Happening, Commit, Restart}
 use Rattle.thy_base.specs.declared.mark.Mark.{Mark}
 use Rattle.thy_text.specs.Marks.{Marks, marks_from}
 
 -- an event after which a committed state is known
 abbrev pub shows : Happening → Bool
-shows (EpochEnd epoch count cause) = false
 shows (Commit epoch cycle overlapped) = true
-shows (Cut index cycle) = false
 shows (Restart epoch count state) = true
-shows Reload = false
-shows (Ended status count cycle state) = false
+shows event = false
 
 -- the console at a mark
 abbrev pub console_of : (ℕ → List ℕ) → Option Mark → List ℕ

@@ -1,5 +1,5 @@
 //! The lines of events.
-ghost use Rattle.std.specs.Prelude.{◌∷◌, [], OnOk, OnErr};
+ghost use Rattle.std.specs.Prelude.{◌∷◌, [], ◌≢◌, OnOk, OnErr};
 ghost use Rattle.std.specs.Fmt.{decimal};
 ghost use Rattle.thy_base.specs.Bytes.{bytes_of};
 ghost use Rattle.thy_base.specs.Outside.{Took, TookPart};
@@ -18,6 +18,7 @@ use thy_isa::{MachState, Status};
 pub fn write_event<R: Sink>(event: &Event, digest: bool, report: &mut R) -> Result<(), SinkError>
     ensures whole { OnOk result (Took (R.stream report.old) (R.stream report.new) (line_of digest (happening_of event.now))) }
     ensures failed { OnErr result (TookPart (R.stream report.old) (R.stream report.new) (line_of digest (happening_of event.now))) }
+    ensures due { OnErr result (line_of digest (happening_of event.now) ≢ []) }
 {
     match event {
         Event::EpochEnd {
@@ -122,6 +123,7 @@ pub fn write_ended<R: Sink>(
 ) -> Result<(), SinkError>
     ensures whole { OnOk result (Took (R.stream report.old) (R.stream report.new) (ended_lines digest state.now.status state.now.count (bytes_of state.now.memory))) }
     ensures failed { OnErr result (TookPart (R.stream report.old) (R.stream report.new) (ended_lines digest state.now.status state.now.count (bytes_of state.now.memory))) }
+    ensures due { OnErr result (ended_lines digest state.now.status state.now.count (bytes_of state.now.memory) ≢ []) }
 {
     write_end(state.status, state.count, state, digest, report)
 }
@@ -136,6 +138,7 @@ fn write_end<R: Sink>(
 ) -> Result<(), SinkError>
     ensures whole { OnOk result (Took (R.stream report.old) (R.stream report.new) (ended_lines digest status count (bytes_of state.now.memory))) }
     ensures failed { OnErr result (TookPart (R.stream report.old) (R.stream report.new) (ended_lines digest status count (bytes_of state.now.memory))) }
+    ensures due { OnErr result (ended_lines digest status count (bytes_of state.now.memory) ≢ []) }
 {
     match status {
         Status::Running => Ok(()),

@@ -49,31 +49,63 @@ EngineTo CommitWritten v next = ((m : Mark) × (v.sealed ≡ Some m)) × (next �
 EngineTo (EngineCommitted epoch) v next = ⊥
 EngineTo step v next = next ≡ busier v
 
+-- the program is loaded: its start is committed, as epoch 0
+pub record Loads (o : Origin) (v next : View) : Type 0 where
+  pub phase : v.phase ≡ BootPhase
+  pub none : v.done ≡ None
+  pub written : v.written ≡ true
+  pub sealed : v.sealed ≡ Some (mark 0 o.start.count)
+  pub becomes : next ≡ record v { phase = Run; done = v.sealed; sealed = None; epoch = 1; count = o.start.count; written = false }
+
+-- the committed checkpoint is restored
+pub record Restores (o : Origin) (epoch count : ℕ) (v next : View) : Type 0 where
+  pub phase : v.phase ≡ BootPhase
+  pub done : v.done ≡ Some (mark epoch count)
+  pub unsealed : v.sealed ≡ None
+  pub unwritten : v.written ≡ false
+  pub becomes : next ≡ record v { phase = phase_at o count; epoch = epoch + 1; count = count; retired = 0; spent = 0; lap = 0 }
+
+-- an instruction is retired
+pub record Retires (o : Origin) (v next : View) : Type 0 where
+  pub phase : v.phase ≡ Run
+  pub over : v.over ≡ None
+  pub runs : runs_at o v.count ≡ true
+  pub becomes : next ≡ record (busier v) {
+    count = v.count + 1; retired = v.retired + 1; lap = v.lap + 1; over = over_at o (v.retired + 1) (v.count + 1)
+  }
+
+-- an epoch that is over is sealed
+pub record Seals (epoch count : ℕ) (cause : EndCause) (v next : View) : Type 0 where
+  pub phase : v.phase ≡ Run
+  pub unsealed : v.sealed ≡ None
+  pub of_epoch : epoch ≡ v.epoch
+  pub at_count : count ≡ v.count
+  pub over : v.over ≡ Some cause
+  pub becomes : next ≡ record v { sealed = Some (mark epoch count); epoch = v.epoch + 1; retired = 0; spent = 0; lap = 0; over = None }
+
+-- the sealed epoch is committed, as its commit block was written
+pub record Commits (o : Origin) (epoch overlapped : ℕ) (v next : View) : Type 0 where
+  pub phase : v.phase ≡ Run
+  pub written : v.written ≡ true
+  pub laps : overlapped ≡ v.lap
+  pub count : ℕ
+  pub sealed : v.sealed ≡ Some (mark epoch count)
+  pub becomes : next ≡ record (busier v) { phase = phase_at o count; done = v.sealed; sealed = None; written = false }
+
 -- what a cycle did makes this of the view
 abbrev pub CoreStep : Origin → View → Did → View → Type 0
 CoreStep o v Boot next = (v.phase ≡ BootPhase) × BootsTo v next
-CoreStep o v Loaded next =
-    (v.phase ≡ BootPhase) × (v.done ≡ None) × (v.written ≡ true) × (v.sealed ≡ Some (mark 0 o.start.count))
-    × (next ≡ record v { phase = Run; done = v.sealed; sealed = None; epoch = 1; count = o.start.count; written = false })
-CoreStep o v (Restarted epoch count) next =
-    (v.phase ≡ BootPhase) × (v.done ≡ Some (mark epoch count)) × (v.sealed ≡ None) × (v.written ≡ false)
-    × (next ≡ record v { phase = phase_at o count; epoch = epoch + 1; count = count; retired = 0; spent = 0; lap = 0 })
-CoreStep o v (Refused bad) next = (v.phase ≡ BootPhase) × (next ≡ v)
+CoreStep o v Loaded next = Loads o v next
+CoreStep o v (Restarted epoch count) next = Restores o epoch count v next
+CoreStep o v (Refused bad) next = (v.phase ≡ BootPhase) × (v.done ≡ None) × (v.sealed ≡ None) × (next ≡ v)
 CoreStep o v Moved next = (v.phase ≡ Run) × (v.over ≡ None) × (runs_at o v.count ≡ true) × MovesTo v next
-CoreStep o v Retired next =
-    (v.phase ≡ Run) × (v.over ≡ None) × (runs_at o v.count ≡ true)
-    × (next ≡ record (busier v) { count = v.count + 1; retired = v.retired + 1; lap = v.lap + 1; over = over_at o (v.retired + 1) (v.count + 1) })
+CoreStep o v Retired next = Retires o v next
 CoreStep o v Flushed next = (v.phase ≡ Run) × (next ≡ busier v)
 CoreStep o v Merged next = (v.phase ≡ Run) × (next ≡ busier v)
 CoreStep o v Promoted next = (v.phase ≡ Run) × (next ≡ busier v)
-CoreStep o v (Sealed epoch count cause) next =
-    (v.phase ≡ Run) × (v.sealed ≡ None) × (epoch ≡ v.epoch) × (count ≡ v.count) × (v.over ≡ Some cause)
-    × (next ≡ record v { sealed = Some (mark epoch count); epoch = v.epoch + 1; retired = 0; spent = 0; lap = 0; over = None })
+CoreStep o v (Sealed epoch count cause) next = Seals epoch count cause v next
 CoreStep o v (Engine step) next = (v.phase ≡ Run) × EngineTo step v next
-CoreStep o v (Committed epoch overlapped) next =
-    (v.phase ≡ Run) × (v.written ≡ true) × (overlapped ≡ v.lap)
-    × ((count : ℕ) × (v.sealed ≡ Some (mark epoch count))
-    × (next ≡ record (busier v) { phase = phase_at o count; done = v.sealed; sealed = None; written = false }))
+CoreStep o v (Committed epoch overlapped) next = Commits o epoch overlapped v next
 CoreStep o v NvmDrained next = next ≡ v
 CoreStep o v DramDrained next = next ≡ v
 CoreStep o v Nothing next = (v.phase ≡ Halt) × (next ≡ v)

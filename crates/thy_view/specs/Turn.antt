@@ -1,5 +1,5 @@
 -- Who takes a cycle.
-use Rattle.std.specs.Prelude.{◌≡◌, ℕ, ◌==◌, Bool, false, ◌&&◌, ◌||◌, not, is_some, if◌then◌else◌, Option, Some, None}
+use Rattle.std.specs.Prelude.{◌≡◌, ◌⊎◌, ℕ, ◌==◌, Bool, false, ◌&&◌, ◌||◌, not, is_some, if◌then◌else◌, Option, Some, None}
 use Rattle.thy_base.specs.declared.cause.EndCause.{EndCause}
 use Rattle.thy_base.specs.declared.cause.EndCause.TheVariants.{Exhausted}
 use Rattle.thy_base.specs.declared.mark.Mark.{Mark}
@@ -10,7 +10,7 @@ use Rattle.thy_view.specs.declared.view.Phase.TheVariants.{Boot as BootPhase, Ru
 use Rattle.thy_view.specs.declared.view.View.{View}
 use Rattle.thy_view.specs.Origin.{Origin, runs_at}
 use Rattle.thy_view.specs.declared.did.Did.{Did}
-use Rattle.thy_view.specs.declared.did.Did.TheVariants.{Boot, Loaded, Restarted, Refused, Moved, Retired, Flushed, Merged, Sealed, Promoted, Engine, Committed, NvmDrained, DramDrained, Nothing}
+use Rattle.thy_view.specs.declared.did.Did.TheVariants.{Moved, Retired, Flushed, Merged, Sealed, Promoted, Engine, Committed, NvmDrained, DramDrained, Nothing}
 use Rattle.thy_view.specs.declared.did.Stall.{Stall}
 use Rattle.thy_view.specs.declared.did.Stall.TheVariants.{Booting, Sealing, Waiting, Halted}
 
@@ -67,8 +67,7 @@ hart_turn o v p = TheHart (stall_in o v.phase v p)
 -- the engine acts where a checkpoint is under way
 abbrev pub engine_turn : Origin → Phase → View → Pressure → Actor
 engine_turn o Run v p = if is_under_way v then Checkpoint else hart_turn o v p
-engine_turn o BootPhase v p = hart_turn o v p
-engine_turn o Halt v p = hart_turn o v p
+engine_turn o phase v p = hart_turn o v p
 
 -- whose turn a pick is, where so many writes are queued in the NVM
 abbrev pub turn_of : Origin → Pick → ℕ → View → Pressure → Actor
@@ -77,52 +76,33 @@ turn_of o EnginePick nvm v p = engine_turn o v.phase v p
 turn_of o NvmDrain nvm v p = if nvm == 0 then hart_turn o v p else Nvm
 turn_of o DramDrain nvm v p = if p.dram == 0 then hart_turn o v p else Dram
 
--- what the engine may do
-abbrev pub IsEngines : Did → Type 0
-IsEngines (Engine step) = Unit {0}
-IsEngines (Committed epoch overlapped) = Unit {0}
-IsEngines did = ⊥
+-- the engine's work is done at its turn, or at that of a hart that waits for it
+abbrev pub IsEngines : Actor → Type 0
+IsEngines actor = (actor ≡ Checkpoint) ⊎ (actor ≡ TheHart (Some Waiting))
 
--- what the boot may do
-abbrev pub IsBoots : Did → Type 0
-IsBoots Boot = Unit {0}
-IsBoots Loaded = Unit {0}
-IsBoots (Restarted epoch count) = Unit {0}
-IsBoots (Refused bad) = Unit {0}
-IsBoots did = ⊥
+-- whose turn a cycle was that did this; what is not listed is the boot's
+abbrev pub Does : Did → Actor → Type 0
+Does NvmDrained actor = actor ≡ Nvm
+Does DramDrained actor = actor ≡ Dram
+Does (Engine step) actor = IsEngines actor
+Does (Committed epoch overlapped) actor = IsEngines actor
+Does Moved actor = actor ≡ TheHart None
+Does Retired actor = actor ≡ TheHart None
+Does Flushed actor = actor ≡ TheHart (Some Sealing)
+Does Merged actor = actor ≡ TheHart (Some Sealing)
+Does (Sealed epoch count cause) actor = actor ≡ TheHart (Some Sealing)
+Does Promoted actor = actor ≡ TheHart (Some Sealing)
+Does Nothing actor = actor ≡ TheHart (Some Halted)
+Does did actor = actor ≡ TheHart (Some Booting)
 
--- what the end of an epoch may do
-abbrev pub IsSeals : Did → Type 0
-IsSeals Flushed = Unit {0}
-IsSeals Merged = Unit {0}
-IsSeals (Sealed epoch count cause) = Unit {0}
-IsSeals Promoted = Unit {0}
-IsSeals did = ⊥
+-- the stall that is told at an actor's turn
+abbrev pub told_at : Actor → Option Stall
+told_at (TheHart stall) = stall
+told_at actor = None
 
--- what a hart that advances may do
-abbrev pub IsAdvance : Did → Type 0
-IsAdvance Moved = Unit {0}
-IsAdvance Retired = Unit {0}
-IsAdvance did = ⊥
-
--- what the hart may do under a stall, or without one
-abbrev pub IsHarts : Option Stall → Did → Type 0
-IsHarts (Some Booting) did = IsBoots did
-IsHarts (Some Halted) did = did ≡ Nothing
-IsHarts (Some Waiting) did = IsEngines did
-IsHarts (Some Sealing) did = IsSeals did
-IsHarts None did = IsAdvance did
-
--- an actor did this, and this stall is told
-abbrev pub Acts : Actor → Did → Option Stall → Type 0
-Acts Nvm did stall = (did ≡ NvmDrained) × (stall ≡ None)
-Acts Dram did stall = (did ≡ DramDrained) × (stall ≡ None)
-Acts Checkpoint did stall = IsEngines did × (stall ≡ None)
-Acts (TheHart why) did stall = IsHarts why did × (stall ≡ why)
-
--- a pick was the turn of the actor that did this
+-- a pick was the turn of the actor that did this, and this stall is told
 abbrev pub Turn : Origin → Pick → ℕ → View → Pressure → Did → Option Stall → Type 0
-Turn o pick nvm v p did stall = Acts (turn_of o pick nvm v p) did stall
+Turn o pick nvm v p did stall = Does did (turn_of o pick nvm v p) × (stall ≡ told_at (turn_of o pick nvm v p))
 
 -- why the epoch is over once the hart moved on: an instruction that is short of entries ends it
 abbrev pub over_by : Option Shortage → Option EndCause

@@ -2,18 +2,16 @@
 use Rattle.std.specs.Prelude.{Bool, true, false, ◌&&◌, ◌||◌, ◌==◌, not, is_none, if◌then◌else◌, Option, None}
 use Rattle.thy_base.specs.declared.mark.Mark.{Mark}
 use Rattle.thy_view.specs.declared.view.Phase.{Phase}
-use Rattle.thy_view.specs.declared.view.Phase.TheVariants.{Boot, Run, Halt}
+use Rattle.thy_view.specs.declared.view.Phase.TheVariants.{Boot, Halt}
 use Rattle.thy_view.specs.declared.view.View.{View}
 
 abbrev pub is_boot : Phase → Bool
 is_boot Boot = true
-is_boot Run = false
-is_boot Halt = false
+is_boot phase = false
 
 abbrev pub is_halt : Phase → Bool
-is_halt Boot = false
-is_halt Run = false
 is_halt Halt = true
+is_halt phase = false
 
 -- a view whose boot found no checkpoint
 abbrev pub loads : View → Bool

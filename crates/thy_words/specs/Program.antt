@@ -24,14 +24,9 @@ option_rule name = record (new_rule name) { long = Some name }
 abbrev pub flag_rule : Text → Rule
 flag_rule name = record (new_rule name) { long = Some name; action = Some SetTrue }
 
-abbrev pub with_operand : App → Text → App
-with_operand a name = with_rule a (operand_rule name)
-
-abbrev pub with_option : App → Text → App
-with_option a name = with_rule a (option_rule name)
-
-abbrev pub with_flag : App → Text → App
-with_flag a name = with_rule a (flag_rule name)
+-- a command with more arguments, each by such a rule
+abbrev pub with_each : (Text → Rule) → App → List Text → App
+with_each rule a names = fold (λ b name. with_rule b (rule name)) a names
 
 -- the rule of an argument that `clap` is told of
 abbrev pub rule_for : Argument → Rule
@@ -50,7 +45,9 @@ pub record Form : Type 0 where
   pub flags : List Text
 
 abbrev pub app_of_form : Form → App
-app_of_form f = fold with_flag (fold with_option (fold with_operand (new_app f.name) f.operands) f.options) f.flags
+app_of_form f =
+    let operands = with_each operand_rule (new_app f.name) f.operands in
+    with_each flag_rule (with_each option_rule operands f.options) f.flags
 
 -- `run FILE` takes an option for each field of the configuration, the input's name, and whether digests are told
 abbrev pub run_form : Form
@@ -70,12 +67,6 @@ plain_form = record {
   flags = codes "digest" ∷ [];
 }
 
-abbrev pub run_command : App
-run_command = app_of_form run_form
-
-abbrev pub plain_command : App
-plain_command = app_of_form plain_form
-
 -- the program: one of its commands has to be named, and no word asks for help
 abbrev pub bare : App
 bare = record {
@@ -89,7 +80,7 @@ bare = record {
 
 -- with its commands
 abbrev pub program : App
-program = with_subcommand (with_subcommand bare run_command.top) plain_command.top
+program = with_subcommand (with_subcommand bare (app_of_form run_form).top) (app_of_form plain_form).top
 
 -- the argument has this rule, and is its command's alone
 pub record IsArg (a : Arg) (r : Rule) : Type 0 where

@@ -35,7 +35,7 @@ returns-clause-answer g c = λ n. (
   refl,
   inl (
     Memory c.in-Err-load.error,
-    tt,
+    c.in-Ok.ensures.calm,
     record { status = c.refuse-in-Err-load.ensures.status; events = c.refuse-in-Err-load.ensures.events; cycles = c.refuse-in-Err-load.ensures.cycles; shown_none = refl; closes = c.refuse-in-Err-load.ensures.closes },
   ),
 )

@@ -2,7 +2,10 @@ use Rattle.std.proofs.Common.{◌≡◌, Ok, ◌∙◌, sym, subst, refl}
 use Rattle.thy_base.specs.Bytes.{bytes_of}
 use Rattle.thy_base.specs.Outside.{Stock}
 use Rattle.thy_elf.specs.Image.{contents_of}
-use Rattle.thy_cli.specs.Answering.{Task, named, IsHeld, IsInput, ProgramDue}
+use Rattle.thy_cli.specs.Answering.{Task, IsHeld, IsInput, ProgramDue}
+use Rattle.thy_cli.specs.Planning.{named}
+use Rattle.std.specs.List.{All}
+use Rattle.thy_isa.specs.Storable.{IsByte}
 use Rattle.thy_cli.proofs.TopLemmas.{meaning_is, stock_same}
 use Rattle.thy_cli.proofs.source.program_for.Goals as goal
 
@@ -26,6 +29,7 @@ returns-in-Ok-read-clause-program g c =
       in_range = c.numbers-base.ensures.in_range;
       file = record {
         bytes = bytes_of c.in-Ok.file;
+        are_bytes = subst (All IsByte) c.as_slice.ensures c.are_bytes.ensures;
         held = c.in-Ok.ensures.file;
         input = bytes_of c.in-Ok-fetch_input.input;
         is_input = subst (λ s. IsInput s task.input (bytes_of c.in-Ok-fetch_input.input)) same c.in-Ok-fetch_input.ensures.input;

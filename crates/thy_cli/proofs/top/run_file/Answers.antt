@@ -43,6 +43,6 @@ pub returns-clause-answer : goal.returns-clause-answer
 returns-clause-answer g c =
     inl (
       DeviceRefusal c.in-Err-fit.error,
-      (c.in-Ok.ensures.plan.file, c.in-Err-fit.ensures.err),
+      (c.in-Ok.ensures.plan.file, c.in-Ok.ensures.calm, c.in-Err-fit.ensures.err),
       record { status = c.refuse-in-Err-fit.ensures.status; events = c.refuse-in-Err-fit.ensures.events; cycles = c.refuse-in-Err-fit.ensures.cycles; shown_none = refl {a = g.T.Sink.stream c.args.terminal.now}; closes = c.refuse-in-Err-fit.ensures.closes },
     )

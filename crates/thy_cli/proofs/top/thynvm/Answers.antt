@@ -42,6 +42,7 @@ returns-in-Err g c = Claim-answered _ _ _ _ _ (
     c.in-Err.error,
     WordsDue-shown (map string_bytes c.args.words.now) c.in-Err.error c.in-Err.ensures.exact,
     refl,
+    refl,
     record { status = c.refuse.ensures.status; events = c.refuse.ensures.events; cycles = c.refuse.ensures.cycles; shown_none = refl; closes = c.refuse.ensures.closes },
   ),
 )

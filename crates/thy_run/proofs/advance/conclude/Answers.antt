@@ -32,9 +32,7 @@ returns-in-Err g c = λ fitted p n m k r goes stepped gathered did cycle.
     let K = g.M.Computer.kind in
     let o = origin_of c.args.plan.now in
     let v = seen K o (world_at p n k) in
-    let next = K.view o c.args.progress.now.machine m in (
-      broken_from K g.met.M.Computer.lawful c.args.plan.now fitted p c.args.progress.now n m k r c.note.new.events (bytes_of c.new.result) c.args.cycle c.args.did
-          c.requires.planned goes stepped did cycle c.new.ensures
-          (c.in-Err.ensures.err o c.args.progress.now.fresh v next gathered.reload gathered.restored gathered.ended),
-      tt,
-    )
+    let next = K.view o c.args.progress.now.machine m in
+    broken_from K g.met.M.Computer.lawful c.args.plan.now fitted p c.args.progress.now n m k r c.note.new.events (bytes_of c.new.result) c.args.cycle c.args.did
+    c.requires.planned goes stepped did cycle c.new.ensures
+    (c.in-Err.ensures.err o c.args.progress.now.fresh v next gathered.reload gathered.restored gathered.ended)

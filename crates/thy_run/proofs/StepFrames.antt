@@ -1,0 +1,23 @@
+-- What a step leaves of the device, by the one action that it took.
+use Rattle.std.proofs.Common.{refl, sym, subst}
+use Rattle.thy_base.specs.Device.{Device, IsFramed}
+use Rattle.thy_base.proofs.DeviceLemmas.{length-written_to, length-settled, length-drained}
+use Rattle.thy_view.specs.Action.{Action, Rest, ReadAt, WriteAt, Barrier, Drain, after, Acts}
+use Rattle.thy_view.specs.declared.did.Did.{Did}
+use Rattle.thy_view.specs.Kind.{KindOf}
+use Rattle.thy_view.specs.Origin.{Origin}
+use Rattle.thy_run.specs.World.{World, Steps}
+
+framed_after : (a : Action) (n : Device) → IsFramed n (after a n)
+framed_after Rest n = record { blocks = refl; left = refl; picks = refl; queue_room = refl; left_room = refl; fits = refl }
+framed_after (ReadAt place) n = record { blocks = refl; left = refl; picks = refl; queue_room = refl; left_room = refl; fits = refl }
+framed_after (WriteAt place block) n = record { blocks = length-written_to n place block; left = refl; picks = refl; queue_room = refl; left_room = refl; fits = refl }
+framed_after Barrier n = record { blocks = length-settled n; left = refl; picks = refl; queue_room = refl; left_room = refl; fits = refl }
+framed_after Drain n = record { blocks = length-drained n; left = refl; picks = refl; queue_room = refl; left_room = refl; fits = refl }
+
+IsFramed-acts : (did : Did) (n new : Device) → Acts did n new → IsFramed n new
+IsFramed-acts did n new a = subst (IsFramed n) (sym a.left) (framed_after a.action n)
+
+-- it changes nothing that only a fit and a cut change
+pub Steps-framed : {M : Type 0} (K : KindOf M) (o : Origin) (w next : World M) → Steps K o w next → IsFramed w.device next.device
+Steps-framed K o w next step = IsFramed-acts step.r.did w.device next.device step.is_step.acts

@@ -1,0 +1,77 @@
+-- What a run leaves at its end: where it stood, what its sinks took, and why it stopped.
+use Rattle.std.specs.Prelude.{◌≡◌, ◌⊎◌, ℕ, ◌<◌, ◌≤◌, Bool, true, false, List, [], ◌∷◌, ◌++◌}
+use Rattle.thy_base.specs.Counts.{Rose}
+use Rattle.thy_base.specs.Device.{Device}
+use Rattle.thy_base.specs.Outside.{Stream}
+use Rattle.thy_isa.specs.declared.state.Status.{Status}
+use Rattle.thy_isa.specs.Step.{State}
+use Rattle.thy_text.specs.Happening.{Happening, Ended as EndedEvent}
+use Rattle.thy_text.specs.Lines.{report_of}
+use Rattle.thy_view.specs.Kind.{KindOf}
+use Rattle.thy_view.specs.Origin.{Origin}
+use Rattle.thy_run.specs.Cuts.{has_ended}
+use Rattle.thy_run.specs.Laws.{released_of}
+use Rattle.thy_run.specs.Sending.{Delivered}
+use Rattle.thy_run.specs.Unfinished.{IsLast, StepFailed, TellingFailed, ReadFailed, LeftAlone}
+use Rattle.thy_run.specs.World.{World, Given, Cycle, Ran}
+use Rattle.thy_run.specs.declared.ending.Stop.{Stop}
+use Rattle.thy_run.specs.declared.ending.Stop.TheVariants.{Ended, Nvm, Memory, Terminal, Report, Limit}
+use Rattle.thy_run.specs.declared.ending.Ending.{Ending}
+
+-- memory was short
+abbrev pub is_memory : Stop → Bool
+is_memory Memory = true
+is_memory stop = false
+
+-- What stands at the end, by the stop: only for a device's fault or want of memory one more cycle was begun. Where memory was
+-- short before the first one, none was.
+abbrev pub EndsBy : {M : Type 0} → KindOf M → Origin → World M → List Happening → Device → Stop → Type 0
+EndsBy K o w events n Nvm = StepFailed K o w events n ⊎ TellingFailed K o w events n ReadFailed
+EndsBy K o w events n Memory = ((w.cycles ≡ 0) × IsLast w events n) ⊎ TellingFailed K o w events n LeftAlone
+EndsBy K o w events n stop = IsLast w events n
+
+-- these events were told before the last cycle
+abbrev pub ToldBefore : {M : Type 0} → KindOf M → Origin → Given → World M → List Happening → Type 0
+ToldBefore {M = M} K o given last settled =
+    (k : ℕ) × (before : World M) × Ran K o given k before × Cycle K o given.cuts given.tears before last × (settled ≡ before.events)
+
+-- the events that were told before the last cycle that was begun; a sink that failed did so in that cycle
+abbrev pub IsSettled : {M : Type 0} → KindOf M → Origin → Given → World M → List Happening → Stop → Type 0
+IsSettled K o given last settled Terminal = ToldBefore K o given last settled
+IsSettled K o given last settled Report = ToldBefore K o given last settled
+IsSettled K o given last settled stop = settled ≡ last.events
+
+-- the last event is the end, with this status
+pub record EndsWith (events : List Happening) (status : Status) : Type 0 where
+  pub before : List Happening
+  pub count : ℕ
+  pub cycle : ℕ
+  pub state : State
+  pub last : events ≡ before ++ EndedEvent status count cycle state ∷ []
+
+-- neither sink failed
+abbrev pub IsHeard : Ending → Type 0
+IsHeard e = (e.mute ≡ false) × (e.deaf ≡ false)
+
+-- what a stop says of a run that may have so many cycles, between the device as it was fitted and the one that is left
+abbrev pub StopFits : ℕ → Device → Device → Ending → Stop → Type 0
+StopFits limit old new e (Ended status) = EndsWith e.events status × IsHeard e × (new.faults ≡ old.faults)
+StopFits limit old new e Nvm = Rose old.faults new.faults × (e.cycles < limit) × IsHeard e
+StopFits limit old new e Memory = (e.cycles < limit) × (new.faults ≡ old.faults)
+StopFits limit old new e Terminal = (e.mute ≡ true) × (e.deaf ≡ false) × (new.faults ≡ old.faults)
+StopFits limit old new e Report = (e.deaf ≡ true) × (new.faults ≡ old.faults)
+StopFits limit old new e Limit =
+    (e.cycles ≡ limit) × (has_ended e.events ≡ false) × IsHeard e × (new.faults ≡ old.faults)
+
+-- A run had the cycles of an ending, and left this device; and its terminal and report, which were these, took what its
+-- events say.
+pub record HasRun {M : Type 0} (K : KindOf M) (o : Origin) (given : Given) (new : Device) (e : Ending) (terminal shown report read : Stream) : Type 0 where
+  pub last : World M
+  pub ran : Ran K o given e.cycles last
+  pub ends : EndsBy K o last e.events new e.stop
+  pub few : e.cycles ≤ o.geometry.limit
+  pub settled : List Happening
+  pub is_settled : IsSettled K o given last settled e.stop
+  pub shown_all : Delivered (is_memory e.stop) e.mute (released_of o settled) (released_of o e.events) terminal shown
+  pub read_all : Delivered false e.deaf (report_of given.digest settled) (report_of given.digest e.events) report read
+  pub stop_fits : StopFits o.geometry.limit given.fitted new e e.stop
