@@ -3,15 +3,13 @@ use Rattle.std.proofs.Common.{◌≡◌, ℕ, ◌+◌, ◌*◌, ◌/◌, ◌<◌
 use Rattle.std.proofs.lemmas.List.{at_drop_more, at_drop_all, ext_get_or, get_or-take, length-take-le}
 use Rattle.std.proofs.lemmas.List.FromFn.{length-map-range_with_len, get_or-map-range_with_len}
 use Rattle.std.specs.Option.{option_or}
-use Rattle.thy_base.specs.declared.config.Parameters.{Parameters}
-use Rattle.thy_base.specs.Geometry.{memory_blocks}
 use Rattle.thy_base.specs.LittleEndian.{number_at}
 use Rattle.thy_base.proofs.LittleEndianLemmas.{number_at-take}
 use Rattle.thy_record.specs.declared.image.BadImage.{BadImage}
 use Rattle.thy_record.specs.Files.{table_in}
-use Rattle.thy_record.specs.Tables.{Tables, entry_at}
+use Rattle.thy_record.specs.Tables.{entry_at}
 use Rattle.thy_record.specs.TableBlocks.{entry_from}
-use Rattle.thy_record.specs.TableFaults.{entry_fault, first_clash, index_rule, twice_rule, index_fault, twice_fault, under_fault, tables_fault}
+use Rattle.thy_record.specs.TableFaults.{entry_fault, first_clash}
 
 -- ---- a search through the entries, of which the first i have no fault
 

@@ -1,20 +1,27 @@
 -- The blocks of bytes: their words, tables in them, and slots of an image.
-use Rattle.std.proofs.Common.{◌≡◌, ℕ, ◌+◌, ◌-◌, ◌*◌, ◌/◌, ◌%◌, ◌<◌, ◌≤◌, List, length, take, drop, None, sym, ◌∙◌, ap, arith}
-use Rattle.std.proofs.lemmas.List.{ext_get_or, length-drop, length-take-le, drop-drop, drop-take, take-take, length-map}
+use Rattle.std.proofs.Common.{◌≡◌, ℕ, ◌+◌, ◌-◌, ◌*◌, ◌/◌, ◌%◌, ◌<◌, ◌≤◌, List, length, take, drop, None, sym, ◌∙◌, ap, arith, ◌==◌, if◌then◌else◌, inl, inr}
+use Rattle.std.proofs.lemmas.Bool.{cases_eq, eq-eqb, ne_eqb, le-ltb}
+use Rattle.std.proofs.lemmas.List.{take_all, ext_get_or, length-drop, length-take-le, drop-drop, drop-take, take-take, length-map}
 use Rattle.std.proofs.lemmas.List.FromFn.{length-map-range_with_len, get_or-map-range_with_len, length-range_with_len}
 use Rattle.std.specs.List.{range_with_len}
 use Rattle.thy_base.specs.declared.block.Block.{Block}
 use Rattle.thy_base.specs.declared.config.Parameters.{Parameters}
+use Rattle.thy_base.specs.Blocks.{block_bytes}
 use Rattle.thy_base.specs.Device.{zero_block, block_at}
 use Rattle.thy_base.specs.LittleEndian.{number_at}
 use Rattle.thy_base.specs.Places.{slot_blocks, slot_place, image_blocks}
+use Rattle.thy_base.proofs.BlockLemmas.{length-block_bytes, block_bytes-long}
 use Rattle.thy_base.proofs.LittleEndianLemmas.{number_at-take, number_at-drop}
+use Rattle.thy_flat.specs.Flat.{flat, AllLong}
+use Rattle.thy_flat.proofs.FlatLemmas.{length-flat, flat_part}
+use Rattle.thy_record.specs.declared.image.BadImage.TheVariants.{Empty}
+use Rattle.thy_record.specs.Decoded.{Refused}
 use Rattle.thy_record.specs.Words.{word_of}
 use Rattle.thy_record.specs.Commit.{epoch_of}
 use Rattle.thy_record.specs.Cpu.{record_word}
 use Rattle.thy_record.specs.TableBlocks.{entry_from}
-use Rattle.thy_record.specs.Files.{block_in, blocks_of, table_in}
-use Rattle.thy_record.specs.Images.{slot_in}
+use Rattle.thy_record.specs.Files.{block_in, blocks_of, table_in, decode_file}
+use Rattle.thy_record.specs.Images.{slot_in, decode_with, decode_image}
 use Rattle.thy_record.specs.Slots.{entries_in}
 use Rattle.thy_record.proofs.ClashLemmas.{length-table_in, entry_at-table_in}
 use Rattle.thy_record.proofs.ImageLemmas.{block_at-slot_in}
@@ -109,3 +116,38 @@ slot-slice p bytes m x s commit long is named e f =
     ap (λ k. blocks_of (take k (drop x bytes))) e
     ∙ ap (λ k. blocks_of (take (64 * slot_blocks p) (drop k bytes))) (f ∙ ap (λ k. 64 * slot_place p (k % 2)) (named ∙ ap epoch_of is))
     ∙ blocks_of-slot p bytes long
+
+-- ---- a file of an image's bytes
+
+-- its blocks are the image's
+pub blocks_of-flat : (image : List Block) → AllLong image → blocks_of (flat image) ≡ image
+blocks_of-flat image long =
+    let all : length (flat image) / 64 ≡ length image = omega (arith, length-flat image) in
+    let same = length-blocks_of (flat image) in
+    ext_get_or zero_block (blocks_of (flat image)) image (same ∙ all)
+    (λ k below.
+    let l : k < length image = omega (arith, same, all) in
+    let plain : 64 * k ≡ 64 * k + 0 = omega arith in
+    let one = long.each k l in
+    let bytes : take 64 (drop (64 * k) (flat image)) ≡ (block_at image k).0 =
+    ap (λ x. take 64 (drop x (flat image))) plain
+    ∙ flat_part image k 0 64 l (omega arith)
+    ∙ take_all 64 (block_bytes (block_at image k)) (omega (arith, length-block_bytes (block_at image k)))
+    ∙ block_bytes-long (block_at image k) one in
+    block_at-blocks_of (flat image) k (omega (arith, all)) ∙ ap (λ bytes. record { 0 = bytes }) bytes)
+
+same_test : (n m : ℕ) → (64 * n == 64 * m) ≡ (n == m)
+same_test n m = elim (cases_eq n m) as (λ _. (64 * n == 64 * m) ≡ (n == m)) [
+  | inl e ↦ eq-eqb _ _ (ap (λ x. 64 * x) e) ∙ sym (eq-eqb n m e)
+  | inr other ↦ ne_eqb _ _ (λ e. other (omega arith)) ∙ sym (ne_eqb n m other)
+]
+
+pub decode_file-flat : (p : Parameters) (ceiling : ℕ) (image : List Block) → AllLong image → 2 ≤ length image
+    → decode_file p ceiling (flat image) ≡ decode_image p ceiling image
+decode_file-flat p ceiling image long some =
+    let all = length-flat image in
+    ap (λ b. if b then Refused Empty else decode_with p ceiling (length (flat image) == 64 * image_blocks p) (blocks_of (flat image)))
+    (le-ltb (length (flat image)) 128 (omega (arith, all)))
+    ∙ ap (λ n. decode_with p ceiling (n == 64 * image_blocks p) (blocks_of (flat image))) all
+    ∙ ap (λ b. decode_with p ceiling b (blocks_of (flat image))) (same_test (length image) (image_blocks p))
+    ∙ ap (decode_with p ceiling (length image == image_blocks p)) (blocks_of-flat image long)

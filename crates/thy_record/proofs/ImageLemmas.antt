@@ -23,12 +23,12 @@ use Rattle.thy_isa.specs.OnBlocks.{state_from}
 use Rattle.thy_record.specs.Header.{header_fault}
 use Rattle.thy_record.specs.Images.{slot_numbers, slot_in, memory_numbers, memory_in, state_in, image_fault, refused_or_at, decode_with, decode_image}
 use Rattle.thy_record.specs.ImageLaws.{HasCheckpoint, IsDecoded, IsAlike}
-use Rattle.thy_record.specs.Slots.{tables_in, epoch_fault, status_fault, slot_fault}
+use Rattle.thy_record.specs.Slots.{IsSlotOf, tables_in, epoch_fault, status_fault, slot_fault}
 use Rattle.thy_record.specs.Tables.{Tables, IsTables}
 use Rattle.thy_record.specs.TableFaults.{tables_fault}
 use Rattle.thy_record.proofs.HeaderLemmas.{header_fault-header_of, header_fault-long}
 use Rattle.thy_record.proofs.ReadBackLemmas.{epoch_of-commit_of, commit_fault-commit_of, is_zero-commit_of, cpu_of_record-begins}
-use Rattle.thy_record.proofs.SlotLemmas.{IsSlotOf, BeginsWithRecord-slot, length-entries_in, tables_in-back, slot_fault-back}
+use Rattle.thy_record.proofs.SlotLemmas.{BeginsWithRecord-slot, length-entries_in, tables_in-back, slot_fault-back}
 use Rattle.thy_record.proofs.TableFaultLemmas.{neither, both_none, IsTables-faultless}
 
 -- ---- blocks by a list of numbers

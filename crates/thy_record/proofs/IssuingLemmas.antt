@@ -1,8 +1,8 @@
 -- Which writes leave a checkpoint alone, and what reads give while one is written.
-use Rattle.std.proofs.Common.{◌≡◌, ◌≢◌, ◌⊎◌, ℕ, zero, suc, ◌+◌, ◌%◌, ◌^◌, ◌<◌, ◌≤◌, Bool, true, false, if◌then◌else◌, List, [], ◌∷◌, ◌++◌, length, map, Contains, Option, Some, None, refl, sym, ◌∙◌, ap, subst, inl, inr, arith}
+use Rattle.std.proofs.Common.{◌≡◌, ◌≢◌, ℕ, zero, suc, ◌+◌, ◌%◌, ◌^◌, ◌<◌, ◌≤◌, Bool, true, false, if◌then◌else◌, List, [], ◌∷◌, ◌++◌, length, Contains, Option, Some, None, refl, sym, ◌∙◌, ap, subst, inl, inr, arith}
 use Rattle.std.proofs.lemmas.Bool.{cases_lt}
 use Rattle.std.proofs.lemmas.List.{length-map, length-set, get_or-map}
-use Rattle.std.proofs.lemmas.List.Elements.{Contains-append_cases, Contains-push_cases}
+use Rattle.std.proofs.lemmas.List.Elements.{Contains-append_cases}
 use Rattle.std.proofs.lemmas.List.FromFn.{length-range_with_len, get_or-range_with_len}
 use Rattle.std.specs.List.{range_with_len}
 use Rattle.thy_base.specs.declared.block.Block.{Block}
@@ -15,8 +15,8 @@ use Rattle.thy_base.specs.Places.{in_dram, number_of, IsPlace, slot_blocks, slot
 use Rattle.thy_base.specs.Store.{page_of}
 use Rattle.thy_base.proofs.DeviceLemmas.{length-applied, length-drained, length-written_to, newest-drained, newest-written_to_other}
 use Rattle.thy_base.proofs.PlaceLemmas.{numbers_tell, behind_slots}
-use Rattle.thy_crash.specs.Fixed.{Reads, ReadsFirst}
-use Rattle.thy_crash.specs.Saved.{IsIssued, next_image}
+use Rattle.thy_crash.specs.Fixed.{Reads}
+use Rattle.thy_crash.specs.Saved.{next_image}
 use Rattle.thy_crash.proofs.FixedLemmas.{ReadsFirst-elsewhere, ReadsFirst-drained, ReadsFirst-more}
 use Rattle.thy_crash.proofs.SavedLemmas.{next_image-reads, next_image-commit, IsIssued-next_image}
 use Rattle.thy_isa.specs.declared.state.CpuState.{CpuState}
@@ -29,7 +29,7 @@ use Rattle.thy_record.specs.Images.{slot_numbers, slot_in, memory_numbers, memor
 use Rattle.thy_record.specs.ImageLaws.{HasCheckpoint}
 use Rattle.thy_record.specs.Issuing.{Target, SlotBlock, PlaceBlock, target_number, IsTarget, IsUnused, IsFree, IsToldBy, memory_read, IsIssuing, IsIssuedCheckpoint}
 use Rattle.thy_record.specs.Slots.{slot_block_of, tables_in}
-use Rattle.thy_record.specs.Tables.{Tables, entry_at, Lists, entry_of, place_in_page, place_by_entries, place_of, IsTables}
+use Rattle.thy_record.specs.Tables.{Tables, entry_at, Lists, entry_of, place_by_entries, place_of, IsTables}
 use Rattle.thy_record.proofs.EntryLemmas.{entry_of-Some, entry_of-None, IsPlace-place_of, in_dram-place_of}
 use Rattle.thy_record.proofs.ImageLemmas.{map-alike, decode-written, IsDecoded-at}
 
@@ -39,9 +39,12 @@ memory_number_at : (p : Parameters) (t : Tables) (k : ℕ) → k < memory_blocks
 memory_number_at p t k l =
     let long : length (memory_numbers p t) ≡ memory_blocks p
     = length-map (range_with_len 0 (memory_blocks p)) (λ b. number_of p (place_of t b)) ∙ length-range_with_len 0 (memory_blocks p) in
-    let plain : 0 + k ≡ k = omega arith in
-    (k, omega (arith, long), get_or-map (λ b. number_of p (place_of t b)) (range_with_len 0 (memory_blocks p)) k 0 _ (omega (arith, length-range_with_len 0 (memory_blocks p)))
-    ∙ ap (λ b. number_of p (place_of t b)) (get_or-range_with_len 0 (memory_blocks p) k 0 l ∙ plain))
+    let plain : 0 + k ≡ k = omega arith in (
+      k,
+      omega (arith, long),
+      get_or-map (λ b. number_of p (place_of t b)) (range_with_len 0 (memory_blocks p)) k 0 _ (omega (arith, length-range_with_len 0 (memory_blocks p)))
+          ∙ ap (λ b. number_of p (place_of t b)) (get_or-range_with_len 0 (memory_blocks p) k 0 l ∙ plain),
+    )
 
 -- each is the number of a block's place
 memory_number_of : (p : Parameters) (t : Tables) (x : ℕ) → Contains (memory_numbers p t) x
@@ -50,10 +53,12 @@ memory_number_of p t x (k, l, is) =
     let long : length (memory_numbers p t) ≡ memory_blocks p
     = length-map (range_with_len 0 (memory_blocks p)) (λ b. number_of p (place_of t b)) ∙ length-range_with_len 0 (memory_blocks p) in
     let inside : k < memory_blocks p = omega (arith, long) in
-    let plain : 0 + k ≡ k = omega arith in
-    (k, inside,
-    sym (get_or-map (λ b. number_of p (place_of t b)) (range_with_len 0 (memory_blocks p)) k 0 x (omega (arith, length-range_with_len 0 (memory_blocks p)))
-    ∙ ap (λ b. number_of p (place_of t b)) (get_or-range_with_len 0 (memory_blocks p) k 0 inside ∙ plain)) ∙ is)
+    let plain : 0 + k ≡ k = omega arith in (
+      k,
+      inside,
+      sym (get_or-map (λ b. number_of p (place_of t b)) (range_with_len 0 (memory_blocks p)) k 0 x (omega (arith, length-range_with_len 0 (memory_blocks p)))
+          ∙ ap (λ b. number_of p (place_of t b)) (get_or-range_with_len 0 (memory_blocks p) k 0 inside ∙ plain)) ∙ is,
+    )
 
 -- which lies behind the slots, within the image
 memory_behind : (p : Parameters) (t : Tables) (x : ℕ) → IsTables p t → Contains (memory_numbers p t) x → (first_home p ≤ x) × (x < image_blocks p)
@@ -192,8 +197,8 @@ pub free_not_looked : (p : Parameters) (image : List Block) (epoch : ℕ) (t : T
 free_not_looked p image epoch t x told there free =
     free_looked p image (target_number p x) (is_zero (block_at image 1)) (target_behind p x there)
     (λ inside.
-        let of = slot_number_of (slot_place p (epoch_of (block_at image 1) % 2)) (slot_blocks p) (target_number p x) inside in
-        free_of_slot p epoch t x there free of.0 of.1 (sym (ap (λ e. slot_place p (e % 2) + of.0) told.of_epoch) ∙ of.2))
+    let of = slot_number_of (slot_place p (epoch_of (block_at image 1) % 2)) (slot_blocks p) (target_number p x) inside in
+    free_of_slot p epoch t x there free of.0 of.1 (sym (ap (λ e. slot_place p (e % 2) + of.0) told.of_epoch) ∙ of.2))
     (λ inside. free_of_memory p epoch t x told.whole there free (subst (λ u. Contains (memory_numbers p u) (target_number p x)) told.tables inside))
 
 pub nothing_looked : (p : Parameters) (image : List Block) (x : ℕ) → is_zero (block_at image 1) ≡ true → x ≢ 1 → Contains (1 ∷ looked p image) x → ⊥
@@ -212,8 +217,8 @@ memory_elsewhere p t old new at block sized tables other is =
     ap (memory_read p t) is
     ∙ map-alike (newest (written_to old at block)) (newest old) (memory_numbers p t)
     (λ x inside.
-        let l = (memory_behind p t x tables inside).1 in
-        newest-written_to_other old at block x (λ e. other (subst (Contains (memory_numbers p t)) e inside)) (omega (arith, l, sized)))
+    let l = (memory_behind p t x tables inside).1 in
+    newest-written_to_other old at block x (λ e. other (subst (Contains (memory_numbers p t)) e inside)) (omega (arith, l, sized)))
 
 -- a write that is neither among memory's blocks nor among the slot's
 issuing_elsewhere : (p : Parameters) (old new : Device) (cpu : CpuState) (t : Tables) (epoch : ℕ) (memory : List Block) (k at : ℕ) (block : Block)
@@ -330,10 +335,10 @@ next_memory : (p : Parameters) (n : Device) (cpu : CpuState) (t : Tables) (epoch
 next_memory p n cpu t epoch k memory h =
     map-alike (block_at (next_image n (commit_of epoch))) (newest n) (memory_numbers p t)
     (λ x inside.
-        let behind = memory_behind p t x h.tables inside in
-        let low = behind.0 in
-        let high = behind.1 in
-        next_image-reads (commit_of epoch) n x (omega (arith, high, h.sized)) (λ e. omega (arith, low, e)))
+    let behind = memory_behind p t x h.tables inside in
+    let low = behind.0 in
+    let high = behind.1 in
+    next_image-reads (commit_of epoch) n x (omega (arith, high, h.sized)) (λ e. omega (arith, low, e)))
     ∙ h.memory_is
 
 pub issued_decodes : (p : Parameters) (ceiling : ℕ) (n : Device) (cpu : CpuState) (t : Tables) (epoch : ℕ) (memory : List Block)
@@ -347,6 +352,6 @@ issued_decodes p ceiling n cpu t epoch memory r recordable most below h header =
       decodes = decodes ∙ ap (λ m. At epoch (state_from p cpu m)) (next_memory p n cpu t epoch (slot_blocks p) memory h);
       issued = IsIssued-next_image (looked p) (commit_of epoch) n
           (λ x inside.
-              let l = looked_cases p (next_image n (commit_of epoch)) x (is_zero (block_at (next_image n (commit_of epoch)) 1)) tables inside in
-              omega (arith, l, h.sized));
+          let l = looked_cases p (next_image n (commit_of epoch)) x (is_zero (block_at (next_image n (commit_of epoch)) 1)) tables inside in
+          omega (arith, l, h.sized));
     }

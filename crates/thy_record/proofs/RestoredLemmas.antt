@@ -1,6 +1,6 @@
 -- The state in a file: its processor, and its memory block by block.
-use Rattle.std.proofs.Common.{◌≡◌, ℕ, zero, suc, ◌+◌, ◌-◌, ◌*◌, ◌/◌, ◌%◌, ◌<◌, ◌≤◌, ◌==◌, Bool, true, false, nat_lt, if◌then◌else◌, List, [], ◌∷◌, ◌++◌, length, map, take, drop, get_or, Option, Some, None, Result, Ok, Err, refl, sym, ◌∙◌, ap, subst, inl, inr, arith}
-use Rattle.std.proofs.lemmas.Bool.{cases_lt, eqb-true, eq-eqb, lt-ltb}
+use Rattle.std.proofs.Common.{◌≡◌, ℕ, ◌+◌, ◌-◌, ◌*◌, ◌/◌, ◌%◌, ◌<◌, ◌≤◌, ◌==◌, Bool, true, false, nat_lt, if◌then◌else◌, List, ◌∷◌, ◌++◌, length, take, drop, Ok, sym, ◌∙◌, ap, arith}
+use Rattle.std.proofs.lemmas.Bool.{eqb-true, eq-eqb}
 use Rattle.std.proofs.lemmas.List.{length-map, length-drop, length-take-le, get_or-map, get_or-drop, ext_get_or, take_all}
 use Rattle.std.proofs.lemmas.List.FromFn.{length-range_with_len, get_or-range_with_len}
 use Rattle.std.specs.List.{range_with_len}
@@ -8,8 +8,8 @@ use Rattle.thy_base.specs.declared.block.Block.{Block}
 use Rattle.thy_base.specs.declared.config.Parameters.{Parameters}
 use Rattle.thy_base.specs.Blocks.{block_bytes}
 use Rattle.thy_base.specs.Device.{zero_block, block_at}
-use Rattle.thy_base.specs.Geometry.{IsInRange, memory_blocks, program_size, console_room}
-use Rattle.thy_base.specs.Places.{number_of, first_home, image_blocks}
+use Rattle.thy_base.specs.Geometry.{IsInRange, memory_blocks, program_size}
+use Rattle.thy_base.specs.Places.{number_of, image_blocks}
 use Rattle.thy_base.proofs.BlockLemmas.{block_bytes-long}
 use Rattle.thy_base.proofs.PlaceLemmas.{behind_slots}
 use Rattle.thy_flat.specs.Flat.{flat, memory_bytes, console_bytes}
@@ -17,26 +17,22 @@ use Rattle.thy_flat.proofs.FlatLemmas.{flat_more, flat-take, flat-drop}
 use Rattle.thy_isa.specs.declared.state.CpuState.{CpuState}
 use Rattle.thy_isa.specs.OnBlocks.{state_from}
 use Rattle.thy_isa.specs.Step.{State, state_with}
-use Rattle.thy_record.specs.declared.file.Found.{Found}
-use Rattle.thy_record.specs.declared.file.Found.TheVariants.{Nothing as FoundNothing, At as FoundAt}
-use Rattle.thy_record.specs.declared.image.BadImage.{BadImage}
+use Rattle.thy_record.specs.declared.file.Found.TheVariants.{At as FoundAt}
 use Rattle.thy_record.specs.declared.image.BadImage.TheVariants.{Empty}
 use Rattle.thy_record.specs.Words.{word_of}
-use Rattle.thy_record.specs.Commit.{is_zero, epoch_of, commit_fault}
+use Rattle.thy_record.specs.Commit.{is_zero, epoch_of}
 use Rattle.thy_record.specs.Cpu.{status_of, cpu_of_record, record_word, record_words}
 use Rattle.thy_record.specs.Decoded.{Decoded, Nothing, Refused, At}
 use Rattle.thy_record.specs.Files.{block_in, blocks_of, decode_file, found_in, HasCheckpointOf}
-use Rattle.thy_record.specs.Header.{header_fault}
-use Rattle.thy_record.specs.Images.{slot_in, memory_numbers, memory_in, state_in, image_fault, refused_or_at, decode_with, decode_image}
-use Rattle.thy_record.specs.ImageLaws.{IsDecoded}
-use Rattle.thy_record.specs.Slots.{tables_in, slot_fault}
+use Rattle.thy_record.specs.Images.{slot_in, memory_numbers, memory_in, state_in, image_fault, decode_with, decode_image}
+use Rattle.thy_record.specs.Slots.{tables_in}
 use Rattle.thy_record.specs.Tables.{Tables, place_of, IsTables}
 use Rattle.thy_record.proofs.CpuLemmas.{record_words-at, length-record_words}
 use Rattle.thy_record.proofs.EntryLemmas.{IsPlace-place_of, in_dram-place_of}
 use Rattle.thy_record.proofs.FileLemmas.{length-blocks_of, block_at-blocks_of}
 use Rattle.thy_record.proofs.HeaderLemmas.{header_fault-long}
 use Rattle.thy_record.proofs.ImageLemmas.{IsDecoded-at, at_back}
-use Rattle.thy_record.proofs.ReadBackLemmas.{cpu_with, same_cpu}
+use Rattle.thy_record.proofs.ReadBackLemmas.{same_cpu}
 use Rattle.thy_record.proofs.TableFaultLemmas.{neither}
 use Rattle.thy_base.proofs.RangeLemmas.{console_below}
 
@@ -52,8 +48,8 @@ record_words-alike a b same =
     let right = length-record_words b 1 31 in
     ext_get_or 0 (record_words a 1 31) (record_words b 1 31) (left ∙ sym right)
     (λ i below.
-        let l : i < 31 = omega (arith, left) in
-        record_words-at a 1 31 i l ∙ record_word-alike a b (1 + i) same (omega arith) ∙ sym (record_words-at b 1 31 i l))
+    let l : i < 31 = omega (arith, left) in
+    record_words-at a 1 31 i l ∙ record_word-alike a b (1 + i) same (omega arith) ∙ sym (record_words-at b 1 31 i l))
 
 -- blocks that begin alike have the same processor
 pub cpu_of_record-alike : (a b : List Block) → ((k : ℕ) → k < 5 → block_at a k ≡ block_at b k) → cpu_of_record a ≡ cpu_of_record b

@@ -7,23 +7,19 @@ use Rattle.thy_base.specs.declared.block.Block.{Block}
 use Rattle.thy_base.specs.declared.config.Parameters.{Parameters}
 use Rattle.thy_base.specs.Device.{block_at}
 use Rattle.thy_base.specs.Geometry.{IsInRange, console_room}
-use Rattle.thy_base.specs.Places.{slot_blocks}
 use Rattle.thy_isa.specs.declared.state.CpuState.{CpuState}
+use Rattle.thy_record.specs.ImageLaws.{ReadsBack}
 use Rattle.thy_record.specs.Words.{word_of}
 use Rattle.thy_record.specs.Cpu.{status_tag, cpu_block_of, is_status, record_word, BeginsWithRecord, IsRecordable}
 use Rattle.thy_record.specs.Tables.{Tables, entry_at, Lists, IsTables}
 use Rattle.thy_record.specs.TableBlocks.{entry_word, entry_from, table_words, table_block_of}
 use Rattle.thy_record.specs.TableFaults.{tables_fault}
-use Rattle.thy_record.specs.Slots.{slot_block_of, entries_in, tables_in, epoch_fault, status_fault, slot_fault}
+use Rattle.thy_record.specs.Slots.{slot_block_of, IsSlotOf, entries_in, tables_in, epoch_fault, status_fault, slot_fault}
 use Rattle.thy_record.proofs.WordLemmas.{word_of-block_of}
-use Rattle.thy_record.proofs.ReadBackLemmas.{taken, both, rest_back}
+use Rattle.thy_record.proofs.ReadBackLemmas.{taken, both, rest_back, cpu_of_record-begins}
 use Rattle.thy_record.proofs.TableLemmas.{entry_from-entry_word}
 use Rattle.thy_record.proofs.TableFaultLemmas.{both_none, IsFaultless-tables}
 use Rattle.thy_base.proofs.RangeLemmas.{btt_eights, ptt_eights}
-
--- these blocks are the slot of a checkpoint
-pub record IsSlotOf (p : Parameters) (cpu : CpuState) (t : Tables) (epoch : ℕ) (slot : List Block) : Type 0 where
-  pub each : (k : ℕ) → k < slot_blocks p → block_at slot k ≡ slot_block_of cpu t epoch k
 
 -- ---- which block is which
 
@@ -155,3 +151,15 @@ slot_fault-back p ceiling cpu t epoch slot r recordable s most l of =
     both_none _ _ (epoch_fault-back p ceiling cpu epoch slot recordable room most l begins)
     (both_none _ _ (ap (tables_fault p) (tables_in-back p cpu t epoch slot r s of) ∙ (IsFaultless-tables p t s).none)
     (status_fault-back p ceiling cpu epoch slot recordable room most l begins))
+
+-- all of it reads back
+pub slot_back : (p : Parameters) (ceiling : ℕ) (cpu : CpuState) (t : Tables) (epoch : ℕ) (slot : List Block)
+    → IsInRange p → IsRecordable p ceiling cpu → IsTables p t → ceiling ≤ 2 ^ 64 → epoch < 2 ^ 64
+    → IsSlotOf p cpu t epoch slot → ReadsBack p ceiling cpu t epoch slot
+slot_back p ceiling cpu t epoch slot r recordable s most l of =
+    let room : console_room p < 2 ^ 64 = omega arith in
+    record {
+      cpu_back = cpu_of_record-begins p ceiling cpu epoch slot recordable room most l (BeginsWithRecord-slot p cpu t epoch slot of);
+      tables_back = tables_in-back p cpu t epoch slot r s of;
+      faultless = slot_fault-back p ceiling cpu t epoch slot r recordable s most l of;
+    }

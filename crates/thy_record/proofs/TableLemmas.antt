@@ -1,8 +1,9 @@
 -- Entries of tables as words.
-use Rattle.std.proofs.Common.{◌≡◌, ℕ, ◌-◌, ◌^◌, ◌<◌, List, length, map, slice_index, Option, Some, None, refl, sym, ◌∙◌, arith}
-use Rattle.std.proofs.lemmas.List.{length-map, get_or-map, ext_get_or}
-use Rattle.thy_record.specs.Tables.{entry_at}
-use Rattle.thy_record.specs.TableBlocks.{entry_word, entry_from, HaveWords}
+use Rattle.std.proofs.Common.{◌≡◌, ℕ, ◌-◌, ◌^◌, ◌<◌, List, length, map, slice_index, Option, Some, None, refl, sym, ◌∙◌, arith, ◌*◌, ◌++◌, take, drop, ap}
+use Rattle.std.proofs.lemmas.List.{take-map, drop-map, length-map, get_or-map, ext_get_or}
+use Rattle.thy_record.specs.Tables.{Tables, entry_at}
+use Rattle.thy_record.specs.TableBlocks.{entry_word, entry_from, HaveWords, table_block_of}
+use Rattle.thy_record.specs.Words.{block_of}
 
 -- a word that was made of an entry
 word_fits : (e : Option ℕ) → ((n : ℕ) → e ≡ Some n → n < 2 ^ 64 - 1) → entry_word e < 2 ^ 64
@@ -23,3 +24,11 @@ pub same_words : (ws : List ℕ) (entries : List (Option ℕ)) → length ws ≡
 same_words ws entries same each =
     ext_get_or 0 ws (map entry_word entries) (same ∙ sym (length-map entries entry_word))
     (λ j l. each j l ∙ sym (get_or-map entry_word entries j None 0 (omega (arith, same))))
+
+-- eight entries of the tables are a block of them
+pub table_block_of-entries : (t : Tables) (k : ℕ) (entries : List (Option ℕ)) → entries ≡ take 8 (drop (8 * k) (t.btt ++ t.ptt))
+    → block_of (map entry_word entries) ≡ table_block_of t k
+unfolding table_block_of
+table_block_of-entries t k entries is =
+    ap (λ es. block_of (map entry_word es)) is
+    ∙ ap block_of (sym (take-map entry_word 8 (drop (8 * k) (t.btt ++ t.ptt))) ∙ ap (take 8) (sym (drop-map entry_word (8 * k) (t.btt ++ t.ptt))))

@@ -1,20 +1,24 @@
 -- What is written reads back, said of whole images.
-use Rattle.std.specs.Prelude.{◌≡◌, ℕ, ◌+◌, ◌%◌, ◌^◌, ◌<◌, ◌≤◌, List, length, Contains, None}
+use Rattle.std.specs.Prelude.{◌≡◌, ℕ, ◌+◌, ◌*◌, ◌%◌, ◌^◌, ◌<◌, ◌≤◌, false, List, ◌++◌, length, map, take, drop, Contains, Option, None}
 use Rattle.thy_base.specs.declared.block.Block.{Block}
 use Rattle.thy_base.specs.declared.config.Parameters.{Parameters}
 use Rattle.thy_base.specs.Device.{block_at}
-use Rattle.thy_base.specs.Geometry.{IsInRange}
-use Rattle.thy_base.specs.Places.{slot_blocks, slot_place, image_blocks}
+use Rattle.thy_base.specs.Geometry.{IsInRange, memory_blocks}
+use Rattle.thy_base.specs.Places.{in_dram, IsPlace, slot_blocks, slot_place, image_blocks}
+use Rattle.thy_flat.specs.Flat.{flat, AllLong}
 use Rattle.thy_isa.specs.declared.state.CpuState.{CpuState}
 use Rattle.thy_isa.specs.Step.{State}
 use Rattle.thy_record.specs.Commit.{commit_of}
-use Rattle.thy_record.specs.Cpu.{IsRecordable}
+use Rattle.thy_record.specs.Cpu.{cpu_of_record, IsRecordable}
 use Rattle.thy_record.specs.Decoded.{At}
 use Rattle.thy_isa.specs.OnBlocks.{state_from}
+use Rattle.thy_record.specs.Files.{decode_file}
 use Rattle.thy_record.specs.Header.{header_of}
 use Rattle.thy_record.specs.Images.{slot_in, memory_in, decode_image, looked, IsWholeImage}
-use Rattle.thy_record.specs.Slots.{slot_block_of, tables_in}
-use Rattle.thy_record.specs.Tables.{Tables, IsTables}
+use Rattle.thy_record.specs.Slots.{slot_block_of, IsSlotOf, tables_in, slot_fault}
+use Rattle.thy_record.specs.TableBlocks.{entry_word, table_block_of}
+use Rattle.thy_record.specs.Tables.{Tables, place_of, IsTables}
+use Rattle.thy_record.specs.Words.{block_of}
 use Rattle.thy_record.specs.TableFaults.{tables_fault}
 
 -- tables are those that a checkpoint may have exactly where no fault is found in them
@@ -29,6 +33,36 @@ pub record FaultlessAgrees (p : Parameters) (t : Tables) : Type 0 where
 
 abbrev pub FaultlessTables : Type 0
 FaultlessTables = (p : Parameters) (t : Tables) → FaultlessAgrees p t
+
+-- each block of memory has a place in the NVM
+pub record HasPlace (p : Parameters) (t : Tables) (b : ℕ) : Type 0 where
+  pub there : IsPlace p (place_of t b)
+  pub in_nvm : in_dram (place_of t b) ≡ false
+
+abbrev pub BlocksHavePlaces : Type 0
+BlocksHavePlaces = (p : Parameters) (t : Tables) (b : ℕ) → IsTables p t → b < memory_blocks p → HasPlace p t b
+
+-- and no two have the same
+abbrev pub PlacesAreOwn : Type 0
+PlacesAreOwn = (t : Tables) (b c : ℕ) → place_of t b ≡ place_of t c → b ≡ c
+
+-- eight entries of the tables are a block of them
+abbrev pub EntriesAreBlock : Type 0
+EntriesAreBlock =
+    (t : Tables) (k : ℕ) (entries : List (Option ℕ))
+    → entries ≡ take 8 (drop (8 * k) (t.btt ++ t.ptt)) → block_of (map entry_word entries) ≡ table_block_of t k
+
+-- processor and tables read back from a slot as they were written, and it has no fault
+pub record ReadsBack (p : Parameters) (ceiling : ℕ) (cpu : CpuState) (t : Tables) (epoch : ℕ) (slot : List Block) : Type 0 where
+  pub cpu_back : cpu_of_record slot ≡ cpu
+  pub tables_back : tables_in p slot ≡ t
+  pub faultless : slot_fault p ceiling epoch slot ≡ None
+
+abbrev pub SlotReadsBack : Type 0
+SlotReadsBack =
+    (p : Parameters) (ceiling : ℕ) (cpu : CpuState) (t : Tables) (epoch : ℕ) (slot : List Block)
+    → IsInRange p → IsRecordable p ceiling cpu → IsTables p t → ceiling ≤ 2 ^ 64 → epoch < 2 ^ 64
+    → IsSlotOf p cpu t epoch slot → ReadsBack p ceiling cpu t epoch slot
 
 -- an image has a checkpoint's header, commit block and slot
 pub record HasCheckpoint (p : Parameters) (image : List Block) (cpu : CpuState) (t : Tables) (epoch : ℕ) : Type 0 where
@@ -68,3 +102,9 @@ abbrev pub CeilingGrows : Type 0
 CeilingGrows =
     (p : Parameters) (low high : ℕ) (image : List Block) (epoch : ℕ) (state : State) → low ≤ high
     → decode_image p low image ≡ At epoch state → decode_image p high image ≡ At epoch state
+
+-- a file of an image's bytes means what the image does
+abbrev pub FileDecodes : Type 0
+FileDecodes =
+    (p : Parameters) (ceiling : ℕ) (image : List Block) → AllLong image → 2 ≤ length image
+    → decode_file p ceiling (flat image) ≡ decode_image p ceiling image

@@ -1,11 +1,13 @@
 -- A slot: the processor's record, and behind it the two tables.
-use Rattle.std.specs.Prelude.{ℕ, ◌+◌, ◌-◌, ◌&&◌, ◌==◌, nat_lt, nat_le, if◌then◌else◌, List, [], ◌∷◌, map, Option}
+use Rattle.std.specs.Prelude.{◌≡◌, ℕ, ◌+◌, ◌-◌, ◌<◌, ◌&&◌, ◌==◌, nat_lt, nat_le, if◌then◌else◌, List, [], ◌∷◌, map, Option}
 use Rattle.std.specs.List.{range_with_len}
 use Rattle.std.specs.Option.{option_or}
 use Rattle.thy_base.specs.declared.block.Block.{Block}
 use Rattle.thy_base.specs.declared.config.Parameters.{Parameters}
 use Rattle.thy_base.specs.Demands.{asked, first_fault}
+use Rattle.thy_base.specs.Device.{block_at}
 use Rattle.thy_base.specs.Geometry.{console_room}
+use Rattle.thy_base.specs.Places.{slot_blocks}
 use Rattle.thy_isa.specs.declared.state.CpuState.{CpuState}
 use Rattle.thy_record.specs.declared.image.BadImage.{BadImage}
 use Rattle.thy_record.specs.declared.image.BadImage.TheVariants.{Commit, Status, ConsoleLength}
@@ -17,6 +19,10 @@ use Rattle.thy_record.specs.TableFaults.{tables_fault}
 -- block k of the slot of a checkpoint
 abbrev pub slot_block_of : CpuState → Tables → ℕ → ℕ → Block
 slot_block_of cpu t epoch k = if nat_lt k 5 then cpu_block_of cpu epoch k else table_block_of t (k - 5)
+
+-- these blocks are the slot of a checkpoint
+pub record IsSlotOf (p : Parameters) (cpu : CpuState) (t : Tables) (epoch : ℕ) (slot : List Block) : Type 0 where
+  pub each : (k : ℕ) → k < slot_blocks p → block_at slot k ≡ slot_block_of cpu t epoch k
 
 -- n entries of a slot, of which the first stands in word `first`
 abbrev pub entries_in : List Block → ℕ → ℕ → List (Option ℕ)

@@ -1,10 +1,27 @@
 //! Laws of the tables, of images and of how they are written, each the contract of a function that does nothing.
-ghost use Rattle.thy_record.specs.ImageLaws.{FaultlessTables, WrittenDecodes, DecodedIsWhole, LookedDecides, CeilingGrows};
+ghost use Rattle.thy_record.specs.ImageLaws.{FaultlessTables, BlocksHavePlaces, PlacesAreOwn, EntriesAreBlock, SlotReadsBack, FileDecodes, WrittenDecodes, DecodedIsWhole, LookedDecides, CeilingGrows};
 ghost use Rattle.thy_record.specs.Issuing.{ListedHomeIsUnused, PagedHomeIsUnused, EmptyEntryIsUnused, EmptyPageIsUnused, FreeIsNotLooked, NothingIsLooked, IssuingBegins, SlotGoesOn, FreeKeepsIssuing, HeaderKeepsIssuing, DrainKeepsIssuing, IssuedDecodes};
 
 /// Tables are those that a checkpoint may have exactly where no fault is found in them.
 pub fn faultless_tables()
     ensures { FaultlessTables }
+{}
+
+/// Each block of memory has a place in the NVM, and no two have the same.
+pub fn each_block_has_its_place()
+    ensures there { BlocksHavePlaces }
+    ensures own { PlacesAreOwn }
+{}
+
+/// Eight entries are a block of the tables; and processor and tables read back from a slot as they were written.
+pub fn slot_reads_back()
+    ensures entries { EntriesAreBlock }
+    ensures slot { SlotReadsBack }
+{}
+
+/// A file of an image's bytes means what the image does.
+pub fn file_decodes()
+    ensures { FileDecodes }
 {}
 
 /// An image that has a checkpoint's header, commit block and slot decodes to that checkpoint.

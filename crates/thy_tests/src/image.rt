@@ -177,7 +177,13 @@ static REFUSALS: [(usize, u64, usize, u64, BadImage); 32] = [
     (SLOT + 53, 3, SLOT + 53, 3, BadImage::TableTwice(9, 13)),
     (SLOT + 53, 3, SLOT + 43, 6, BadImage::TableTwice(0, 3)),
     (SLOT + 53, 3, SLOT + 41, 132, BadImage::TableTwice(9, 13)),
-    (SLOT + 44, 132, SLOT + 46, 129, BadImage::BlockUnderPage(4, 1)),
+    (
+        SLOT + 44,
+        132,
+        SLOT + 46,
+        129,
+        BadImage::BlockUnderPage(4, 1),
+    ),
     (SLOT + 48, 1, SLOT + 36, 3, BadImage::BlockUnderPage(0, 0)),
     (SLOT + 36, 3, SLOT + 36, 3, BadImage::Status),
     (SLOT + 37, 1, SLOT + 37, 1, BadImage::Status),
@@ -203,7 +209,11 @@ fn an_image_is_refused_for_its_first_fault(rt: HostRuntime) -> Result<(), Fail> 
 
 /// The first bytes of others, or all where there are no more.
 fn front(bytes: &[u8], len: usize) -> &[u8] {
-    if len < bytes.len() { &bytes[..len] } else { bytes }
+    if len < bytes.len() {
+        &bytes[..len]
+    } else {
+        bytes
+    }
 }
 
 /// So many bytes of the image, and what they are refused for.
@@ -215,16 +225,23 @@ static LENGTHS: [(usize, BadImage); 4] = [
 ];
 
 #[test]
-fn an_image_of_another_length_or_of_nothing_has_no_checkpoint(
-    rt: HostRuntime,
-) -> Result<(), Fail> {
+fn an_image_of_another_length_or_of_nothing_has_no_checkpoint(rt: HostRuntime) -> Result<(), Fail> {
     let geometry = geometry(&rt, rt.alloc());
     let mut image = image(rt.alloc())?;
     for (len, bad) in &LENGTHS {
-        expect_at(&rt, check(front(&image, *len), &geometry, CEILING), Err(*bad), *len);
+        expect_at(
+            &rt,
+            check(front(&image, *len), &geometry, CEILING),
+            Err(*bad),
+            *len,
+        );
     }
     image.push(0)?;
-    expect(&rt, check(&image, &geometry, CEILING), Err(BadImage::Geometry));
+    expect(
+        &rt,
+        check(&image, &geometry, CEILING),
+        Err(BadImage::Geometry),
+    );
     put(image.as_mut_slice(), 8, 0);
     put(image.as_mut_slice(), 9, 0);
     expect(&rt, check(&image, &geometry, CEILING), Ok(Found::Nothing));

@@ -153,7 +153,11 @@ fn a_write_of_a_hundred_bytes_takes_two_calls(rt: HostRuntime) {
     let state = plain.into_state();
     let first = state.memory.as_slice();
     expect(&rt, first.len(), 28672);
-    expect(&rt, state.console.as_slice(), &first[..first.len().min(100)]);
+    expect(
+        &rt,
+        state.console.as_slice(),
+        &first[..first.len().min(100)],
+    );
 }
 
 /// `addi a7, zero, 63`, `addi a0, zero, 0`, `lui a1, 23`, `addi a1, a1, -2`, `addi a2, zero, 4`, `ecall`: to two

@@ -1,4 +1,4 @@
-use Rattle.std.proofs.Common.{◌≡◌, ◌+◌, ◌-◌, ◌*◌, ◌++◌, ◌∙◌, List, ℕ, take, drop, sym, ap, arith}
+use Rattle.std.proofs.Common.{◌≡◌, ◌+◌, ◌-◌, ◌*◌, ◌++◌, ◌∙◌, take, drop, sym, ap, arith}
 use Rattle.thy_base.specs.Places.{number_of}
 use Rattle.thy_flat.proofs.FlatLemmas.{flat-nil}
 use Rattle.thy_record.specs.Files.{blocks_of}
