@@ -1,3 +1,4 @@
 pub mod LayoutLemmas
 pub mod KeepsLemmas
 pub mod AlternatingLemmas
+pub mod VersionOneLemmas

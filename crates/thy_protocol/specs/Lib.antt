@@ -3,3 +3,4 @@ pub mod Keeps
 pub mod Moves
 pub mod Alternating
 pub mod Laws
+pub mod VersionOne

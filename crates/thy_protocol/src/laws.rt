@@ -1,6 +1,7 @@
 //! The laws, each the contract of a function that does nothing.
 ghost use Rattle.thy_protocol.specs.Alternating.{WrittenDecodes, StartIsCommitted};
 ghost use Rattle.thy_protocol.specs.Laws.{LookedDecides, CopiesLookAlike, ZeroIsNothing, NothingIsZero, WholeDecodes, DecodedIsWhole, KeptIsSafe, KeptIsSafeForBoth, FirstIsTold, BootShows, MovesAreSafe, CutKeeps, EmptyKeeps, ActionSpares, FailedActionSpares};
+ghost use Rattle.thy_protocol.specs.VersionOne.{DecodesSame, LooksSame};
 
 /// A copy of an image, at all places that tell what it means, means the same, and the same places tell it.
 pub fn copies_mean_the_same()
@@ -53,4 +54,10 @@ pub fn actions_spare()
 pub fn a_layout_of_two_copies_serves()
     ensures decodes { WrittenDecodes }
     ensures commits { StartIsCommitted }
+{}
+
+/// Version 1 of images is such a layout: its images decode to the same, and the same places tell it.
+pub fn version_one_is_a_layout()
+    ensures decodes { DecodesSame }
+    ensures looks { LooksSame }
 {}

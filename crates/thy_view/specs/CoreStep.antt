@@ -71,7 +71,10 @@ pub record Retires (o : Origin) (v next : View) : Type 0 where
   pub over : v.over ≡ None
   pub runs : runs_at o v.count ≡ true
   pub becomes : next ≡ record (busier v) {
-    count = v.count + 1; retired = v.retired + 1; lap = v.lap + 1; over = over_at o (v.retired + 1) (v.count + 1)
+    count = v.count + 1;
+    retired = v.retired + 1;
+    lap = v.lap + 1;
+    over = over_at o (v.retired + 1) (v.count + 1);
   }
 
 -- an epoch that is over is sealed

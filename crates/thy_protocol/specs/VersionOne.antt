@@ -1,0 +1,35 @@
+-- Version 1 of images as a layout.
+use Rattle.std.specs.Prelude.{◌≡◌, ℕ, ◌%◌, List}
+use Rattle.thy_base.specs.declared.block.Block.{Block}
+use Rattle.thy_base.specs.declared.config.Parameters.{Parameters}
+use Rattle.thy_base.specs.Geometry.{memory_blocks}
+use Rattle.thy_base.specs.Places.{slot_blocks, slot_place, image_blocks, number_of}
+use Rattle.thy_record.specs.Commit.{epoch_of, commit_fault}
+use Rattle.thy_record.specs.Cpu.{cpu_of_record}
+use Rattle.thy_record.specs.Header.{header_fault}
+use Rattle.thy_record.specs.Slots.{tables_in, slot_fault}
+use Rattle.thy_record.specs.Tables.{place_of}
+use Rattle.thy_isa.specs.OnBlocks.{state_from}
+use Rattle.thy_record.specs.Images.{decode_image, looked}
+use Rattle.thy_protocol.specs.Layout.{Scheme, decode_by, looked_by}
+
+abbrev pub version_one : Scheme
+version_one p ceiling = record {
+  image_blocks = image_blocks p;
+  memory_blocks = memory_blocks p;
+  slot_place = λ commit. slot_place p (epoch_of commit % 2);
+  slot_blocks = λ commit. slot_blocks p;
+  place = λ commit slot b. number_of p (place_of (tables_in p slot) b);
+  header_bad = λ header sized. header_fault header p sized;
+  commit_bad = λ header commit. commit_fault commit ceiling;
+  slot_bad = λ commit slot. slot_fault p ceiling (epoch_of commit) slot;
+  state_from = λ slot memory. state_from p (cpu_of_record slot) memory;
+}
+
+-- what its images decode to
+abbrev pub DecodesSame : Type 0
+DecodesSame = (p : Parameters) (ceiling : ℕ) (g : List Block) → decode_by (version_one p ceiling) g ≡ decode_image p ceiling g
+
+-- and the places that tell it
+abbrev pub LooksSame : Type 0
+LooksSame = (p : Parameters) (ceiling : ℕ) (g : List Block) → looked_by (version_one p ceiling) g ≡ looked p g
