@@ -24,7 +24,6 @@ use Rattle.thy_text.specs.Marks.{Course, Marks, marks_after, AllLawful}
 use Rattle.thy_words.specs.declared.words.WordsError.{WordsError}
 use Rattle.thy_words.specs.declared.words.WordsError.TheVariants.{Usage, Word, Value, Memory as WordsMemory}
 use Rattle.thy_words.specs.Settings.{Job, Order, run, plain, settings_of}
-use Rattle.thy_plain.specs.Machine.{setting_for}
 use Rattle.thy_view.specs.Kind.{KindOf}
 use Rattle.thy_view.specs.Origin.{Origin, at, runs_at}
 use Rattle.thy_run.specs.Progress.{cycles_for}

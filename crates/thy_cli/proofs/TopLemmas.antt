@@ -1,5 +1,5 @@
 -- What the top call makes of a job.
-use Rattle.std.proofs.Common.{◌≡◌, ℕ, Bool, true, false, Option, Some, None, List, [], length, refl, sym, ◌∙◌, ap, subst, inl, inr, lit<, arith}
+use Rattle.std.proofs.Common.{◌≡◌, ℕ, Bool, true, false, Option, Some, None, List, [], length, refl, sym, ◌∙◌, ap, subst, inl, inr, lit<, arith, ◌<◌, ◌^◌}
 use Rattle.std.specs.Prelude.{Result, Ok, Err}
 use Rattle.std.specs.Option.{option_or}
 use Rattle.std.proofs.lemmas.List.Elements.{All-nil}
@@ -28,7 +28,7 @@ use Rattle.thy_view.specs.Booting.{found_first}
 use Rattle.thy_view.specs.Kind.{KindOf, IsLawful, IsFittedFor}
 use Rattle.thy_base.specs.declared.mark.Mark.{Mark}
 use Rattle.thy_base.proofs.RangeLemmas.{AreIn-none, IsRising-rows}
-use Rattle.thy_view.specs.Origin.{Origin, IsOrigin, StartsFrom}
+use Rattle.thy_view.specs.Origin.{Origin, IsOrigin, StartsFrom, setting_of}
 use Rattle.thy_run.specs.Laws.{Promise}
 use Rattle.thy_run.specs.Unfinished.{Finished}
 use Rattle.thy_run.specs.World.{Given, World, Ran}
@@ -134,12 +134,12 @@ abbrev given_at : Config → Bool → Device → Given
 given_at c digest d = record { cuts = c.cuts; tears = c.tears; seed = c.mix; digest = digest; fitted = d }
 
 -- a run of the plan is about what the task's run is
-planned_origin : (task : Task) (stock : Stock) (plan : Plan) (p : IsPlanOf task stock plan) → origin_of plan ≡ origin_for task p.file.contents
+planned_origin : (task : Task) (stock : Stock) (plan : Plan) (p : IsPlanOf task stock plan) → origin_of plan ≡ origin_for task p.file.contents p.file.input
 planned_origin task stock plan p =
     ap (λ g. origin_at g (origin_of plan).start (origin_of plan).input plan.start.kept) p.geometry
     ∙ ap (λ s. origin_at (parameters_of task.config) s (origin_of plan).input plan.start.kept) (p.start ∙ ap (λ g. start_state g p.file.contents) p.geometry)
     ∙ ap (λ i. origin_at (parameters_of task.config) (start_state (parameters_of task.config) p.file.contents) i plan.start.kept) p.input
-    ∙ ap (origin_at (parameters_of task.config) (start_state (parameters_of task.config) p.file.contents) []) p.from_file
+    ∙ ap (origin_at (parameters_of task.config) (start_state (parameters_of task.config) p.file.contents) p.file.input) p.from_file
 
 -- and is given the same
 planned_given : {M : Type 0} (K : KindOf M) (task : Task) (stock : Stock) (plan : Plan) (shape : Shape) (d n : Device) → IsPlanOf task stock plan → d ≡ fitted shape [] n

@@ -219,13 +219,13 @@ pub record IsRunOf {M : Type 0} (K : KindOf M) (task : Task) (before after : Out
   pub calm : after.shelf.faults ≡ before.shelf.faults
   pub ending : Ending
   pub told : Stream
-  pub ran : HasRun K (origin_for task file.contents) (given_for K task before.device) after.device ending
+  pub ran : HasRun K (origin_for task file.contents file.input) (given_for K task before.device) after.device ending
       before.terminal after.terminal before.report told
   pub closes : ClosesRun ending.deaf ending.stop task.config.limit told after.report
   pub events : a.events ≡ ending.events
   pub cycles : a.cycles ≡ ending.cycles
   pub status : a.status ≡ stop_status ending.stop
-  pub promise : Promise K (origin_for task file.contents) (given_for K task before.device) a.cycles a.events after.device
+  pub promise : Promise K (origin_for task file.contents file.input) (given_for K task before.device) a.cycles a.events after.device
 
 -- ---- the plain machine
 

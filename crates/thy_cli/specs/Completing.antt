@@ -2,6 +2,7 @@
 use Rattle.std.specs.Prelude.{◌≡◌, ◌⊎◌, ℕ, ◌-◌, ◌^◌, ◌<◌, ◌≤◌, false, List, Some, Ok}
 use Rattle.thy_base.specs.Geometry.{parameters_of}
 use Rattle.thy_base.specs.Outside.{Stock, Files}
+use Rattle.thy_elf.specs.Image.{Contents}
 use Rattle.thy_isa.specs.Step.{State, is_running}
 use Rattle.thy_run.specs.Progress.{cycles_for}
 use Rattle.thy_run.specs.declared.ending.Stop.TheVariants.{Ended}

@@ -321,8 +321,8 @@ module _ (p : Parameters) (input : List ℕ) (cpu : CpuState) (blocks : List Blo
       let flatly : ℕ = number_at 4 (memory_bytes p blocks) (cpu.pc - p.base) in
       fetched_same (fetch_fault p.base (program_size p) cpu.pc) (word blockwise) (word flatly)
       (λ none.
-          let inside = fetch_inside p.base (program_size p) cpu.pc none in
-          ap word (number-memory p blocks (cpu.pc - p.base) 4 whole (omega arith) (omega (arith, inside.0, inside.1))))
+      let inside = fetch_inside p.base (program_size p) cpu.pc none in
+      ap word (number-memory p blocks (cpu.pc - p.base) 4 whole (omega arith) (omega (arith, inside.0, inside.1))))
       ∙ ap (λ n. fetched (fetch_fault p.base n cpu.pc) (within p.base n (word_effect flatly cpu.pc cpu.regs))) (sym (length-memory_bytes p blocks whole))
 
   advanced_is : performed g (state_from p cpu blocks) (effect_at p.base (state_from p cpu blocks)) ≡ advanced g (state_from p cpu blocks)

@@ -59,8 +59,8 @@ unfolding break_of
 break_of-fit at c =
     if_call (IsFit c) (nat_le c.floor at && nat_le (at + 65536) (first_sp c)) (Break at) (Answer c.brk)
     (λ h.
-        let bounds = both (nat_le c.floor at) (nat_le (at + 65536) (first_sp c)) h in
-        (le_true c.floor at bounds.0, le_true (at + 65536) (first_sp c) bounds.1))
+    let bounds = both (nat_le c.floor at) (nat_le (at + 65536) (first_sp c)) h in
+    (le_true c.floor at bounds.0, le_true (at + 65536) (first_sp c) bounds.1))
     (λ _. tt)
 
 -- every call is fit

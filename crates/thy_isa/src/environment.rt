@@ -11,15 +11,22 @@ use thy_base::is_inside;
 
 // The numbers of the calls.
 const READ: u64 = 63;
+
 const WRITE: u64 = 64;
+
 const EXIT: u64 = 93;
+
 const EXIT_GROUP: u64 = 94;
+
 const BRK: u64 = 214;
 
 // The answers of a call that is refused: the negative of an error's number, in two's complement.
 const BAD_DESCRIPTOR: u64 = u64::MAX - 8;
+
 const BAD_ADDRESS: u64 = u64::MAX - 13;
+
 const NO_SPACE: u64 = u64::MAX - 27;
+
 const NO_SUCH_CALL: u64 = u64::MAX - 37;
 
 /// How many bytes one call moves at most.

@@ -130,15 +130,9 @@ pub enum Call {
     /// The break becomes this address, which is the answer.
     Break(u64),
     /// The next `len` bytes of the input go to the address `at`. The answer is `len`, 1 to 64.
-    Take {
-        at: u64,
-        len: u64,
-    },
+    Take { at: u64, len: u64 },
     /// The `len` bytes at the address `at` go to the end of the console. The answer is `len`, 1 to 64.
-    Give {
-        at: u64,
-        len: u64,
-    },
+    Give { at: u64, len: u64 },
 }
 
 /// What an instruction or an environment call moves: the bytes that it reads and those that it writes,

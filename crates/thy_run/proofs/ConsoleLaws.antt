@@ -37,10 +37,10 @@ pub console-grows : (o : Origin) (j k : ℕ) → j ≤ k → (more : List ℕ) �
 unfolding at
 console-grows o j k le =
     let first : ℕ = j - o.start.count in
-    let rest : ℕ = (k - o.start.count) - first in
-    let all : k - o.start.count ≡ first + rest = omega arith in
-    let grown = steps-console (setting_of o) rest (steps (setting_of o) first o.start) in
-    (grown.more, ap (λ (n : ℕ). (steps (setting_of o) n o.start).console) all ∙ ap (λ (s : State). s.console) (steps-add (setting_of o) first rest o.start) ∙ grown.grown)
+    let later : ℕ = (k - o.start.count) - first in
+    let all : k - o.start.count ≡ first + later = omega arith in
+    let grown = steps-console (setting_of o) later (steps (setting_of o) first o.start) in
+    (grown.more, ap (λ (n : ℕ). (steps (setting_of o) n o.start).console) all ∙ ap (λ (s : State). s.console) (steps-add (setting_of o) first later o.start) ∙ grown.grown)
 
 -- a committed mark does not go back
 abbrev pub Grows : Option Mark → Option Mark → Type 0

@@ -34,8 +34,8 @@ returns-in-Ok-read-clause-program g c =
         input = bytes_of c.in-Ok-fetch_input.input;
         is_input = subst (λ s. IsInput s task.input (bytes_of c.in-Ok-fetch_input.input)) same c.in-Ok-fetch_input.ensures.input;
         contents = contents_of c.in-Ok-read.image;
-        means = meaning_is task (bytes_of c.in-Ok.file) c.as_slice.result.now c.args.geometry c.numbers-base.result
-            c.program_size.result (Ok (contents_of c.in-Ok-read.image)) c.requires c.numbers-base.ensures.same c.as_slice.ensures c.program_size.ensures.size c.in-Ok-read.ensures.image;
+        means = meaning_is task (bytes_of c.in-Ok.file) c.as_slice-2.result.now c.args.geometry c.numbers-base.result
+            c.program_size.result (Ok (contents_of c.in-Ok-read.image)) c.requires c.numbers-base.ensures.same c.as_slice-2.ensures c.program_size.ensures.size c.in-Ok-read.ensures.image;
       };
       contents = refl;
       input = refl;
