@@ -148,7 +148,8 @@ fn a_write_of_a_hundred_bytes_takes_two_calls(rt: HostRuntime) {
     let mut plain = start(&rt, rt.alloc(), &WRITES);
     expect(&rt, plain.run(5), 5);
     holds(&rt, plain.state(), 10, 64);
-    expect(&rt, plain.run(4), 4);
+    let mut plain = start(&rt, rt.alloc(), &WRITES);
+    expect(&rt, plain.run(9), 9);
     holds(&rt, plain.state(), 10, 36);
     let state = plain.into_state();
     let first = state.memory.as_slice();
@@ -173,7 +174,8 @@ fn a_read_past_the_end_of_memory_keeps_the_cursor(rt: HostRuntime) {
     expect(&rt, plain.run(6), 6);
     holds(&rt, plain.state(), 10, 0xffff_ffff_ffff_fff2);
     expect(&rt, plain.state().cursor, 0);
-    expect(&rt, plain.run(3), 3);
+    let mut plain = start_with(&rt, rt.alloc(), &READS, b"abcd");
+    expect(&rt, plain.run(9), 9);
     holds(&rt, plain.state(), 10, 4);
     let state = plain.into_state();
     expect(&rt, state.cursor, 4);
