@@ -5,12 +5,15 @@ use Rattle.thy_base.specs.declared.block.Block.{Block}
 use Rattle.thy_base.specs.declared.config.Parameters.{Parameters}
 use Rattle.thy_base.specs.LittleEndian.{number_at}
 use Rattle.thy_base.specs.Places.{image_blocks}
+use Rattle.thy_flat.specs.Flat.{flat}
 use Rattle.thy_record.specs.declared.file.Found.{Found}
 use Rattle.thy_record.specs.declared.file.Found.TheVariants.{Nothing as FoundNothing, At as FoundAt}
 use Rattle.thy_record.specs.declared.image.BadImage.{BadImage}
 use Rattle.thy_record.specs.declared.image.BadImage.TheVariants.{Empty}
 use Rattle.thy_record.specs.Decoded.{Decoded, Nothing, Refused, At}
-use Rattle.thy_record.specs.Images.{decode_with}
+use Rattle.thy_record.specs.Images.{memory_in, image_fault, decode_with}
+use Rattle.thy_record.specs.Slots.{tables_in}
+use Rattle.thy_record.specs.Tables.{Tables}
 use Rattle.thy_record.specs.TableBlocks.{entry_from}
 
 -- block k of bytes
@@ -24,6 +27,19 @@ blocks_of bytes = map (block_in bytes) (range_with_len 0 (length bytes / 64))
 -- the entries of a table's bytes
 abbrev pub table_in : List ℕ → List (Option ℕ)
 table_in bytes = map (λ i. entry_from (number_at 8 bytes (8 * i))) (range_with_len 0 (length bytes / 8))
+
+-- tables by the bytes of each
+abbrev pub tables_from : List ℕ → List ℕ → Tables
+tables_from btt ptt = record { btt = table_in btt; ptt = table_in ptt }
+
+-- the first fault of a file that has a commit block
+abbrev pub file_fault : Parameters → ℕ → List ℕ → Option BadImage
+file_fault p ceiling bytes = image_fault p ceiling (length bytes == 64 * image_blocks p) (blocks_of bytes)
+
+-- the bytes of n blocks of memory from block `first` on, where the tables of a slot's bytes have them in an image's
+abbrev pub bytes_from : Parameters → List ℕ → List ℕ → ℕ → ℕ → List ℕ
+bytes_from p image slot first n =
+    flat (take n (drop first (memory_in p (tables_in p (blocks_of slot)) (blocks_of image))))
 
 -- what the bytes of a file decode to, with epochs and counts below a ceiling
 abbrev pub decode_file : Parameters → ℕ → List ℕ → Decoded

@@ -1,9 +1,9 @@
 //! The check of an image that stands in a file.
-ghost use Rattle.std.specs.Prelude.{◌≡◌, ◌*◌, ◌==◌, ◌≤◌, length};
+ghost use Rattle.std.specs.Prelude.{◌≡◌, ◌*◌, ◌≤◌, length};
 ghost use Rattle.thy_base.specs.Device.{block_at};
 ghost use Rattle.thy_base.specs.Places.{slot_blocks, image_blocks};
-ghost use Rattle.thy_record.specs.Files.{blocks_of, decode_file, found_in};
-ghost use Rattle.thy_record.specs.Images.{slot_in as slot_of_image, image_fault as fault_of_image};
+ghost use Rattle.thy_record.specs.Files.{blocks_of, file_fault, decode_file, found_in};
+ghost use Rattle.thy_record.specs.Images.{slot_in as slot_of_image};
 
 use crate::commit::{commit_fault, is_zero};
 use crate::header::header_fault;
@@ -36,7 +36,7 @@ pub(crate) fn slot_in<'a>(image: &'a [u8], commit: &Block, geometry: &Geometry) 
 fn image_fault(image: &[u8], commit: &Block, geometry: &Geometry, ceiling: u64) -> Option<BadImage>
     requires some { 128 ≤ length image.now }
     requires commit { commit.now ≡ block_at (blocks_of image.now) 1 }
-    ensures { result ≡ fault_of_image geometry.now ceiling (length image.now == 64 * image_blocks geometry.now) (blocks_of image.now) }
+    ensures { result ≡ file_fault geometry.now ceiling image.now }
 {
     let long = image.len() as u64 == 64 * geometry.blocks();
     if let Some(bad) = header_fault(&block_in(image, 0), geometry, long) {

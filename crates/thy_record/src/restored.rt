@@ -1,12 +1,10 @@
 //! The state of the checkpoint in a file.
-ghost use Rattle.std.specs.Prelude.{◌≡◌, ◌+◌, ◌*◌, ◌≤◌, take, drop, IfOk};
-ghost use Rattle.std.specs.Prelude.{length};
+ghost use Rattle.std.specs.Prelude.{◌≡◌, ◌+◌, ◌*◌, ◌≤◌, length, IfOk};
 ghost use Rattle.thy_base.specs.Geometry.{memory_blocks};
 ghost use Rattle.thy_base.specs.Places.{slot_blocks, image_blocks};
-ghost use Rattle.thy_flat.specs.Flat.{flat};
 ghost use Rattle.thy_isa.specs.Step.{state_of};
-ghost use Rattle.thy_record.specs.Files.{blocks_of, HasCheckpointOf};
-ghost use Rattle.thy_record.specs.Images.{memory_in, state_in};
+ghost use Rattle.thy_record.specs.Files.{blocks_of, bytes_from, HasCheckpointOf};
+ghost use Rattle.thy_record.specs.Images.{state_in};
 ghost use Rattle.thy_record.specs.Slots.{tables_in};
 ghost use Rattle.thy_record.specs.Tables.{place_of as place_by_tables, IsTables};
 
@@ -47,7 +45,7 @@ fn gathered(
     requires slot { length slot.now ≡ 64 * slot_blocks geometry.now }
     requires tables { IsTables geometry.now (tables_in geometry.now (blocks_of slot.now)) }
     requires inside { first + count ≤ memory_blocks geometry.now }
-    ensures { let tables = tables_in geometry.now (blocks_of slot.now) in IfOk result (λ v. v.items ≡ flat (take count (drop first (memory_in geometry.now tables (blocks_of image.now))))) }
+    ensures { IfOk result (λ v. v.items ≡ bytes_from geometry.now image.now slot.now first count) }
 {
     let mut bytes = Vec::with_capacity(alloc, BLOCK_SIZE * count as usize)?;
     for k in 0..count {

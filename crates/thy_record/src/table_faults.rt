@@ -1,6 +1,6 @@
 //! The faults of tables, over the bytes of each, eight an entry.
 ghost use Rattle.std.specs.Prelude.{◌≡◌, ◌+◌, ◌*◌, ◌/◌, ◌<◌, ◌≤◌, length, IfSome};
-ghost use Rattle.thy_record.specs.Files.{table_in};
+ghost use Rattle.thy_record.specs.Files.{table_in, tables_from};
 ghost use Rattle.thy_record.specs.Tables.{entry_at, entry_of as entry_that_lists};
 ghost use Rattle.thy_record.specs.TableFaults.{first_clash, index_rule, twin_of, twice_rule, under_rule, tables_fault as fault_of_tables};
 
@@ -88,7 +88,7 @@ fn under_fault(btt: &[u8], ptt: &[u8]) -> Option<BadImage>
 /// The first fault of the tables with these bytes, if they have one.
 #[tactic(auto, unfolding(crate::specs::TableFaults::tables_fault))]
 pub(crate) fn tables_fault(btt: &[u8], ptt: &[u8], geometry: &Geometry) -> Option<BadImage>
-    ensures { result ≡ fault_of_tables geometry.now (record { btt = table_in btt.now; ptt = table_in ptt.now }) }
+    ensures { result ≡ fault_of_tables geometry.now (tables_from btt.now ptt.now) }
 {
     let p = geometry.numbers();
     let index = index_fault(btt, 0, 64 * p.pages).or(index_fault(ptt, p.btt, p.pages));
