@@ -1,5 +1,6 @@
-//! What every layout of the NVM has: words, the commit block, the processor's record and the bytes of
-//! blocks, exactly, and the refusals of an image.
+//! Checkpoints in the NVM. What every layout has: words, the commit block, the processor's record, and the refusals
+//! of an image. And layout version 1, of the machine to come: header, tables, slots, images in files, and laws of
+//! how a checkpoint is written.
 #![tactic(auto)]
 
 mod commit;

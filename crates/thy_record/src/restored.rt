@@ -55,8 +55,8 @@ fn gathered(
     Ok(bytes)
 }
 
-/// The state of the checkpoint in the bytes of a file, with room for the whole console. A `check` of these
-/// bytes has found one.
+/// The state of the checkpoint in the bytes of a file. A `check` of these bytes has found one. Each block of
+/// memory is looked for in both tables.
 pub fn state(alloc: Global, image: &[u8], geometry: &Geometry) -> Result<MachState, AllocError>
     requires { HasCheckpointOf geometry.now image.now }
     ensures { IfOk result (λ m. state_of m ≡ state_in geometry.now (blocks_of image.now)) }
