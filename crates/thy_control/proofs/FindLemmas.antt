@@ -179,3 +179,11 @@ module _ {E : Type 0} (key : E → ℕ) (new : ℕ → E) where
     by_place : (o : Option ℕ) → (with_found key new o b t).numbers ≡ t.numbers
     by_place (Some i) = refl
     by_place None = by_free (free_place t)
+
+  -- the place of a new entry is the lowest free one
+  pub index_for-with_new : ((n : ℕ) → key (new n) ≡ n) → (t : Listing E) (b i : ℕ) → place_of key b t ≡ None → free_place t ≡ Some i
+      → index_for key new b (with_entry_for key new b t) ≡ i
+  index_for-with_new new_key t b i unlisted lowest =
+      ap (λ o. index_for key new b (with_found key new o b t)) unlisted
+      ∙ ap (λ o. index_for key new b (added_at o (new b) t)) lowest
+      ∙ ap (λ o. unwrap_or o 0) (place_of-new_same new_key t b i unlisted lowest)

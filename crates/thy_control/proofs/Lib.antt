@@ -2,3 +2,4 @@ pub mod FindLemmas
 pub mod CellLemmas
 pub mod NewLemmas
 pub mod StateLemmas
+pub mod PutLemmas

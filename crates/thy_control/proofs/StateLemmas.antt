@@ -20,7 +20,8 @@ use Rattle.thy_cell.proofs.StoreLemmas.{IsSoundCell-dirty, IsSoundCell-after_sto
 use Rattle.thy_control.specs.Find.{entry_for, index_for, with_entry_for}
 use Rattle.thy_control.specs.Keys.{block_key, page_key}
 use Rattle.thy_control.specs.State.{State, IsTables, cell_of}
-use Rattle.thy_control.specs.Rules.{btt_with, with_block, with_cell, rule_for, cell_before, IsWholeState}
+use Rattle.thy_control.specs.Tables.{btt_with}
+use Rattle.thy_control.specs.Rules.{with_block, with_cell, rule_for, cell_before, IsWholeState}
 use Rattle.thy_control.proofs.FindLemmas.{found_entry, entry_for-some, entry_for-none, entry_for-with, place_of-with_other, place_of-with_same, length-with, numbers-with, place_of-set, index_for-set, entry_for-set_same, entry_for-set_other}
 use Rattle.thy_control.proofs.CellLemmas.{block-cell_of, page-cell_of}
 
@@ -81,6 +82,7 @@ sound-with_block rule b s m sound = elim (cases_eq m b) as (λ _. IsSoundCell s.
 
 -- the rule of a block's store is the same with its entry
 pub rule-with_block : (rule : StoreRule) (b : ℕ) (s : State) → store_rule (cell_of (with_block rule b s) b) ≡ rule_for b s
+unfolding rule_for
 rule-with_block rule b s = ap store_rule (cell-with_block_same rule b s)
 
 -- the entry that a rule changes is listed
@@ -104,6 +106,7 @@ first_is_pending : (c : Cell) → store_rule c ≡ PendingFirst → c.entry.pend
 first_is_pending c e = grind arith
 
 pub IsListed-with_block : (rule : StoreRule) (b : ℕ) (s : State) → rule_for b s ≡ rule → (free_place s.btt ≡ None → ⊥) → IsListed rule b (with_block rule b s)
+unfolding rule_for
 IsListed-with_block ToFrame b s is some = record {
   block = λ n. absurd (n refl);
   page = λ _. place_of-index page_key no_page s.ptt (page_of b)

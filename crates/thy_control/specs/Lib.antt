@@ -1,4 +1,5 @@
 pub mod Find
 pub mod Keys
+pub mod Tables
 pub mod State
 pub mod Rules

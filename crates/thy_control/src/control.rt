@@ -1,20 +1,22 @@
 //! The controller.
-ghost use Rattle.std.specs.Prelude.{◌≡◌, ◌<◌, ◌≤◌, ◌*◌, false, length, IfOk, OnOk, OnErr};
-ghost use Rattle.thy_base.specs.Device.{HasFailed, IsFramed, CountsFault};
+ghost use Rattle.std.specs.Prelude.{◌≡◌, ◌≢◌, true, None, ◌<◌, ◌≤◌, ◌*◌, false, length, IfOk, OnOk, OnErr};
+ghost use Rattle.thy_base.specs.Device.{HasFailed, IsFramed, CountsFault, block_at};
 ghost use Rattle.thy_base.specs.Geometry.{memory_blocks};
-ghost use Rattle.thy_base.specs.Places.{dram_blocks, IsPlace};
-ghost use Rattle.thy_table.specs.Listing.{free_count};
+ghost use Rattle.thy_base.specs.Places.{dram_blocks, number_of, IsPlace};
+ghost use Rattle.thy_table.specs.Listing.{free_count, lists, entry_at, place_of};
 ghost use Rattle.thy_tables.specs.BlockEntry.{new_entry};
 ghost use Rattle.thy_tables.specs.PageEntry.{no_page};
-ghost use Rattle.thy_control.specs.Find.{index_for, entry_for};
+ghost use Rattle.thy_control.specs.Find.{index_for, entry_for, with_entry_for};
 ghost use Rattle.thy_control.specs.Keys.{block_key, page_key};
+ghost use Rattle.thy_cell.specs.Store.{put_by};
+ghost use Rattle.thy_control.specs.Tables.{btt_with, btt_after, ptt_after, counts_after, answer_of};
 
 use std::alloc::{AllocError, Global};
 use std::marker::Model;
-use thy_base::{Block, Geometry, Nvm, NvmError, Place};
-use thy_cell::{Cell, new_cells_are_sound};
+use thy_base::{Block, Geometry, Nvm, NvmError, Place, Stored};
+use thy_cell::{Cell, StoreRule, new_cells_are_sound};
 use thy_dram::Dram;
-use thy_place::read_place;
+use thy_place::{read_place, write_place};
 use thy_switch::Counts;
 use thy_table::Table;
 use thy_tables::{Btt, BttEntry, Ptt, PttEntry};
@@ -68,7 +70,86 @@ fn page_entry(ptt: &Ptt, page: u64) -> (usize, PttEntry)
     }
 }
 
+/// Gives a block an entry where the rule of its store names one, and tells the entry's place.
+fn entry_for_rule(btt: &mut Btt, b: u64, rule: StoreRule) -> usize
+    requires room { 0 < free_count btt.old }
+    requires number { b < btt.old.numbers }
+    ensures table { btt.new ≡ btt_with rule b btt.old }
+    ensures place { result ≡ index_for block_key new_entry b btt.new }
+{
+    match btt.find(b) {
+        Some(i) => i,
+        None => match rule {
+            StoreRule::ToBuffer | StoreRule::ToNvm => add_entry(btt, b),
+            StoreRule::ToFrame | StoreRule::PendingFirst => 0,
+        },
+    }
+}
+
+/// Gives a block without an entry one, and tells its place.
+fn add_entry(btt: &mut Btt, b: u64) -> usize
+    requires room { 0 < free_count btt.old }
+    requires number { b < btt.old.numbers }
+    requires unlisted { place_of block_key b btt.old ≡ None }
+    ensures table { btt.new ≡ with_entry_for block_key new_entry b btt.old }
+    ensures place { result ≡ index_for block_key new_entry b btt.new }
+{
+    match btt.add(BttEntry::new(b)) {
+        Some(i) => i,
+        None => unreachable!(),
+    }
+}
+
+/// What a rule puts at its place: the block that is stored, or what the buffer holds.
+fn block_to_put(rule: StoreRule, cell: &Cell, block: &Block, geometry: &Geometry, dram: &Dram) -> Block
+    requires entry { cell.now.i < geometry.now.btt }
+    requires dram { length dram.now.blocks ≡ dram_blocks geometry.now }
+    ensures { result ≡ put_by rule block.now (λ place. block_at dram.now.blocks (number_of geometry.now place)) cell.now }
+{
+    match rule {
+        StoreRule::PendingFirst => dram.read(geometry.buf(cell.i)),
+        StoreRule::ToFrame | StoreRule::ToBuffer | StoreRule::ToNvm => *block,
+    }
+}
+
+/// Puts the entries of a block into the tables, as far as a rule changes them.
+fn set_cell(rule: StoreRule, cell: &Cell, btt: &mut Btt, ptt: &mut Ptt)
+    requires block { rule ≢ StoreRule.ToFrame → lists block_key cell.now.entry.block (entry_at btt.old cell.now.i) ≡ true }
+    requires page { rule ≡ StoreRule.ToFrame → lists page_key cell.now.page.page (entry_at ptt.old cell.now.j) ≡ true }
+    ensures btt { btt.new ≡ btt_after rule cell.now btt.old }
+    ensures ptt { ptt.new ≡ ptt_after rule cell.now ptt.old }
+{
+    match rule {
+        StoreRule::ToFrame => ptt.set(cell.j, cell.page),
+        StoreRule::ToBuffer | StoreRule::ToNvm | StoreRule::PendingFirst => {
+            btt.set(cell.i, cell.entry)
+        }
+    }
+}
+
+/// Counts a store that was done for its page.
+fn count_store(rule: StoreRule, page: u64, counts: &mut Counts)
+    requires { page < length counts.old.counts }
+    ensures { counts.new ≡ counts_after rule page counts.old }
+{
+    match rule {
+        StoreRule::ToFrame | StoreRule::ToBuffer | StoreRule::ToNvm => counts.count(page),
+        StoreRule::PendingFirst => {}
+    }
+}
+
+/// How a store by a rule ends.
+fn answer(rule: StoreRule) -> Stored
+    ensures { result ≡ answer_of rule }
+{
+    match rule {
+        StoreRule::ToFrame | StoreRule::ToBuffer | StoreRule::ToNvm => Stored::Done,
+        StoreRule::PendingFirst => Stored::CopyFirst,
+    }
+}
+
 impl Control {
+    ghost use Rattle.thy_control.specs.Rules.{with_block, rule_for, devices_after, state_after, IsWholeState, FailsStore};
     ghost use Rattle.thy_control.specs.State.{IsTables, IsSized, cell_of, penult_of, reads, new_state};
 
     /// The controller of a machine whose power came on, over a DRAM of the geometry's size.
@@ -140,5 +221,35 @@ impl Control {
         let cell = self.cell(b);
         self.tables();
         self.read(cell.penult(), nvm)
+    }
+
+    /// Stores block `b` by its rule, or makes the copy that has to go first: one write at one place.
+    fn put<N: Nvm>(&mut self, b: u64, block: &Block, nvm: &mut N) -> Result<Stored, NvmError>
+        requires block { b < memory_blocks self.old.p }
+        requires sized { IsSized self.old (N.device nvm.old) }
+        requires up { (N.device nvm.old).down ≡ false }
+        requires room { 0 < free_count self.old.btt }
+        requires whole { IsWholeState self.old }
+        ensures state { OnOk result (self.new ≡ state_after b block.now self.old (N.device nvm.old)) }
+        ensures nvm { OnOk result (N.device nvm.new ≡ (devices_after b block.now self.old (N.device nvm.old)).nvm) }
+        ensures answer { IfOk result (λ stored. stored ≡ answer_of (rule_for b self.old)) }
+        ensures kept { OnErr result (self.new ≡ with_block (rule_for b self.old) b self.old) }
+        ensures err { OnErr result (FailsStore b block.now self.old (N.device nvm.old) (N.device nvm.new)) }
+        ensures frame { IsFramed (N.device nvm.old) (N.device nvm.new) }
+        ensures cause { CountsFault result (N.device nvm.old).faults (N.device nvm.new).faults }
+    {
+        self.tables();
+        let found = self.cell(b);
+        let rule = found.store_rule();
+        let i = entry_for_rule(&mut self.btt, b, rule);
+        self.btt.lists_once();
+        let cell = Cell { i, ..found };
+        let put = block_to_put(rule, &cell, block, &self.geometry, &self.dram);
+        write_place(cell.store_place(rule), &put, &self.geometry, nvm, &mut self.dram)?;
+        set_cell(rule, &cell.after(rule), &mut self.btt, &mut self.ptt);
+        self.btt.lists_once();
+        self.ptt.lists_once();
+        count_store(rule, b / 64, &mut self.counts);
+        Ok(answer(rule))
     }
 }
