@@ -163,7 +163,7 @@ pub IsRunOf-ran : {M : Type 0} (K : KindOf M) (laws : IsLawful K) → (task : Ta
     → ClosesRun e.deaf e.stop plan.geometry.limit told after.report → a.events ≡ e.events → a.cycles ≡ e.cycles → a.status ≡ stop_status e.stop → IsRunOf K task before after a
 IsRunOf-ran K laws task before after plan d shape e a told p calm fit blocks queue cuts ends closes events cycles status =
     let m : Device = after.device in
-    let o : Origin = origin_for task p.file.contents in
+    let o : Origin = origin_for task p.file.contents p.file.input in
     let given : Given = given_for K task before.device in
     let about = planned_origin task before.shelf plan p in
     let besides = planned_given K task before.shelf plan shape d before.device p fit blocks queue cuts in

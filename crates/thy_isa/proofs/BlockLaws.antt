@@ -1,5 +1,5 @@
 -- A step over the blocks of memory is a step over its bytes.
-use Rattle.std.proofs.Common.{◌≡◌, ℕ, ◌+◌, ◌-◌, ◌%◌, ◌*◌, ◌<◌, ◌≤◌, ◌==◌, Bool, true, false, if◌then◌else◌, List, [], ◌++◌, length, take, drop, Option, Some, None, refl, sym, ◌∙◌, ap, subst, append-nil, arith, lit<}
+use Rattle.std.proofs.Common.{◌≡◌, ℕ, ◌+◌, ◌-◌, ◌%◌, ◌≤◌, ◌==◌, Bool, true, false, if◌then◌else◌, List, ◌++◌, length, take, drop, Option, Some, None, refl, sym, ◌∙◌, ap, append-nil, arith}
 use Rattle.std.proofs.lemmas.List.{length-take-le, length-drop}
 use Rattle.thy_base.specs.declared.block.Block.{Block}
 use Rattle.thy_base.specs.declared.config.Parameters.{Parameters}
@@ -10,13 +10,11 @@ use Rattle.thy_base.specs.LittleEndian.{number_at, number_bytes}
 use Rattle.thy_base.proofs.InsideLemmas.{is_inside-true}
 use Rattle.thy_base.proofs.LittleEndianLemmas.{number_at-take, number_at-drop}
 use Rattle.thy_base.proofs.WrittenLemmas.{take-written, drop-written, take-written_behind, drop-written_behind, take-written_end, take-drop_take}
-use Rattle.thy_flat.specs.declared.span.Span.{Span}
 use Rattle.thy_flat.specs.Flat.{flat, memory_bytes, console_bytes}
 use Rattle.thy_flat.specs.Spans.{span, IsSpanOf, gathered, scattered}
 use Rattle.thy_flat.proofs.MemoryLaws.{size_inside, room_inside, length-memory_bytes, length-console_bytes}
-use Rattle.thy_flat.proofs.SpanLaws.{length-gathered, gathered-none, gathered-flat, scattered-none, flat-scattered, length-scattered}
+use Rattle.thy_flat.proofs.SpanLaws.{gathered-none, gathered-flat, scattered-none, flat-scattered}
 use Rattle.thy_isa.specs.declared.instr.Width.{Width}
-use Rattle.thy_isa.specs.declared.instr.Width.TheVariants.{Byte, Half, Word, Double}
 use Rattle.thy_isa.specs.declared.state.Cause.{Cause}
 use Rattle.thy_isa.specs.declared.state.Cause.TheVariants.{FetchMisaligned, FetchAccess}
 use Rattle.thy_isa.specs.declared.state.Call.{Call}
@@ -25,11 +23,10 @@ use Rattle.thy_isa.specs.declared.state.CallState.{CallState}
 use Rattle.thy_isa.specs.declared.state.CpuState.{CpuState}
 use Rattle.thy_isa.specs.declared.state.Effect.{Effect}
 use Rattle.thy_isa.specs.declared.state.Effect.TheVariants.{Next, Set, Read, Write, Environment, Trap}
-use Rattle.thy_isa.specs.declared.state.Moves.{Moves}
-use Rattle.thy_isa.specs.Access.{IsWithin, HasRead}
+use Rattle.thy_isa.specs.Access.{IsWithin}
 use Rattle.thy_isa.specs.Calls.{IsFit, call_of}
 use Rattle.thy_isa.specs.Effects.{size_of, word_effect}
-use Rattle.thy_isa.specs.Moves.{no_moves, reads, writes, call_moves, moves_of, call_brings, brings, number_in}
+use Rattle.thy_isa.specs.Moves.{call_moves, moves_of, call_brings, brings, number_in}
 use Rattle.thy_isa.specs.OnBlocks.{setting_for, state_from, calls_in, effect_in, bytes_in, cpu_after, blocks_after}
 use Rattle.thy_isa.specs.Step.{State, Setting, cpu_of, state_with, call_state_of, fetch_fault, fetched, within, effect_at, read_by, call_at, memory_served, console_served, memory_by, console_by, served, finished, performed, advanced, is_running, step}
 use Rattle.thy_isa.proofs.AccessLaws.{within-is, fetched-within}

@@ -1,10 +1,9 @@
 -- What an effect moves are spans of the blocks of memory, and it has as many bytes as it writes.
-use Rattle.std.proofs.Common.{◌≡◌, ℕ, ◌+◌, ◌-◌, ◌*◌, ◌<◌, ◌≤◌, ◌^◌, refl, List, [], ◌++◌, length, take, drop, arith}
-use Rattle.std.proofs.lemmas.List.{length-append, length-take-le, length-drop}
+use Rattle.std.proofs.Common.{◌≡◌, ℕ, ◌+◌, ◌-◌, ◌<◌, ◌≤◌, ◌^◌, refl, List, [], ◌++◌, length, take, drop, arith}
+use Rattle.std.proofs.lemmas.List.{length-take-le, length-drop}
 use Rattle.thy_base.specs.declared.block.Block.{Block}
 use Rattle.thy_base.specs.declared.config.Parameters.{Parameters}
-use Rattle.thy_base.specs.Geometry.{IsInRange, memory_blocks, program_size, console_room}
-use Rattle.thy_base.specs.LittleEndian.{number_bytes}
+use Rattle.thy_base.specs.Geometry.{IsInRange, memory_blocks, program_size}
 use Rattle.thy_flat.specs.Spans.{span, IsSpanOf, gathered}
 use Rattle.thy_flat.proofs.SpanLaws.{length-gathered}
 use Rattle.thy_isa.specs.declared.instr.Width.{Width}
@@ -19,8 +18,8 @@ use Rattle.thy_isa.specs.declared.state.Moves.{Moves}
 use Rattle.thy_isa.specs.Access.{IsWithin, HasRead}
 use Rattle.thy_isa.specs.Calls.{IsFit, call_of}
 use Rattle.thy_isa.specs.Effects.{size_of}
-use Rattle.thy_isa.specs.Moves.{AreSpans, no_moves, reads, writes, call_moves, moves_of, call_brings, brings}
-use Rattle.thy_isa.specs.OnBlocks.{calls_in, bytes_in}
+use Rattle.thy_isa.specs.Moves.{AreSpans, no_moves, call_moves, moves_of, call_brings, brings}
+use Rattle.thy_isa.specs.OnBlocks.{calls_in}
 use Rattle.thy_isa.specs.Step.{AreCallsOf}
 use Rattle.thy_isa.proofs.CallLaws.{call_of-fit}
 use Rattle.thy_isa.proofs.MemoryBounds.{length-number_bytes}

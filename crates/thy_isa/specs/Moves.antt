@@ -1,6 +1,6 @@
 -- What an instruction or an environment call moves, as spans of the blocks of memory: the bytes that it reads, and those
 -- that it writes. The blocks of the console follow those of program memory.
-use Rattle.std.specs.Prelude.{ℕ, ◌+◌, ◌-◌, List, [], ◌++◌, take, drop}
+use Rattle.std.specs.Prelude.{ℕ, ◌+◌, ◌-◌, List, [], take, drop}
 use Rattle.thy_base.specs.LittleEndian.{number_at, number_bytes}
 use Rattle.thy_flat.specs.Spans.{span, IsSpanOf}
 use Rattle.thy_isa.specs.declared.state.Call.{Call}
