@@ -1,6 +1,8 @@
 //! Whole runs over memory: what is reported, and with which status.
+mod console;
 mod cuts;
 mod inputs;
+mod programs;
 
 use std::alloc::{AllocError, Global};
 use std::process::Abort;
@@ -54,8 +56,8 @@ static NO_INSTRUCTION: [u8; 124] = [
 struct Given {
     status: u8,
     cycles: u64,
-    /// The terminal was given nothing.
-    silent: bool,
+    /// What the terminal took.
+    printed: Vec<u8>,
     report: Vec<u8>,
 }
 
@@ -77,19 +79,20 @@ fn files(alloc: Global) -> Result<Vec<(String, Vec<u8>)>, AllocError> {
     Ok(files)
 }
 
-/// Calls with the words, parted by spaces, over this shelf and a report that fails at these calls.
+/// Calls with the words, parted by spaces, over this shelf, and a terminal and a report that fail at these calls.
 fn called(
     alloc: Global,
     line: &str,
     mut shelf: MemShelf,
-    failing: &[u64],
+    unseen: &[u64],
+    untold: &[u64],
 ) -> Result<Given, AllocError> {
     let mut words = Vec::new(alloc);
     for word in line.split(' ') {
         words.push(String::from_str(alloc, word)?)?;
     }
-    let mut terminal = MemSink::new(alloc, 4096, Vec::new(alloc))?;
-    let mut report = MemSink::new(alloc, 4096, Vec::from_slice(alloc, failing)?)?;
+    let mut terminal = MemSink::new(alloc, 4096, Vec::from_slice(alloc, unseen)?)?;
+    let mut report = MemSink::new(alloc, 4096, Vec::from_slice(alloc, untold)?)?;
     let mut nvm = MemNvm::new(alloc);
     let answer = thynvm(
         alloc,
@@ -102,7 +105,7 @@ fn called(
     Ok(Given {
         status: answer.status,
         cycles: answer.cycles,
-        silent: terminal.taken().is_empty(),
+        printed: Vec::from_slice(alloc, terminal.taken())?,
         report: Vec::from_slice(alloc, report.taken())?,
     })
 }
@@ -110,13 +113,14 @@ fn called(
 /// Calls with the words, parted by spaces, over the files of these tests.
 fn ran(alloc: Global, line: &str) -> Result<Given, AllocError> {
     let shelf = MemShelf::new(files(alloc)?, Vec::new(alloc));
-    called(alloc, line, shelf, &[])
+    called(alloc, line, shelf, &[], &[])
 }
 
-/// Compares what a call gave with a status and a report; the terminal is to have nothing.
-fn compare(rt: &impl Abort, line: &str, given: &Given, status: u8, report: &[u8]) {
-    let is_so = given.status == status && given.report.as_slice() == report && given.silent;
-    assert!(rt; is_so, "{line}");
+/// Compares what a call gave with a status, what the terminal takes, and a report.
+fn compare(rt: &impl Abort, line: &str, given: &Given, status: u8, printed: &str, report: &[u8]) {
+    let is_shown = given.printed.as_slice() == printed.as_bytes();
+    let is_told = given.report.as_slice() == report;
+    assert!(rt; given.status == status && is_shown && is_told, "{line}");
 }
 
 /// Runs a line and compares its status and its report.
@@ -128,7 +132,7 @@ fn expect(
     report: &str,
 ) -> Result<(), AllocError> {
     let given = ran(alloc, line)?;
-    compare(rt, line, &given, status, report.as_bytes());
+    compare(rt, line, &given, status, "", report.as_bytes());
     Ok(())
 }
 
@@ -152,7 +156,7 @@ fn runs_take_their_cycles(rt: HostRuntime) -> Result<(), Fail> {
     let alloc = rt.alloc();
     for (line, status, cycles, report) in &RUNS {
         let given = ran(alloc, line)?;
-        compare(&rt, line, &given, *status, report.as_bytes());
+        compare(&rt, line, &given, *status, "", report.as_bytes());
         assert!(rt; given.cycles == *cycles, "{line}");
     }
     Ok(())
@@ -212,10 +216,10 @@ fn a_file_that_is_not_had_has_its_line(rt: HostRuntime) -> Result<(), Fail> {
     let alloc = rt.alloc();
     for line in ["thynvm run F", "thynvm plain F"] {
         let failing = MemShelf::new(files(alloc)?, Vec::from_slice(alloc, &[1])?);
-        let given = called(alloc, line, failing, &[])?;
-        compare(&rt, line, &given, 3, b"fetch F failed\n");
-        let given = called(alloc, line, long_shelf(alloc)?, &[])?;
-        compare(&rt, line, &given, 3, b"fetch F too long\n");
+        let given = called(alloc, line, failing, &[], &[])?;
+        compare(&rt, line, &given, 3, "", b"fetch F failed\n");
+        let given = called(alloc, line, long_shelf(alloc)?, &[], &[])?;
+        compare(&rt, line, &given, 3, "", b"fetch F too long\n");
     }
     Ok(())
 }
@@ -253,8 +257,8 @@ fn a_report_that_fails_has_taken_the_pieces_before(rt: HostRuntime) -> Result<()
     for (k, piece) in PIECES.iter().enumerate() {
         let shelf = MemShelf::new(files(alloc)?, Vec::new(alloc));
         let line = "thynvm run F --pages 8";
-        let given = called(alloc, line, shelf, &[k as u64 + 1])?;
-        compare(&rt, line, &given, 6, before.as_slice());
+        let given = called(alloc, line, shelf, &[], &[k as u64 + 1])?;
+        compare(&rt, line, &given, 6, "", before.as_slice());
         before.extend_from_slice(piece.as_bytes())?;
     }
     Ok(())

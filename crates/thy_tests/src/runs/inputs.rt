@@ -1,4 +1,4 @@
-//! Runs of programs that have an input, which no instruction reads yet.
+//! Runs of programs that have an input which they do not read.
 use crate::runs::{EXIT_SEVEN, called, compare, expect, files};
 use std::alloc::{AllocError, Global};
 use std::test::Fail;
@@ -51,8 +51,8 @@ fn a_shelf_that_fails_is_told_with_the_name(rt: HostRuntime) -> Result<(), Fail>
     let alloc = rt.alloc();
     for (line, failing, status, report) in &FAILURES {
         let shelf = MemShelf::new(files(alloc)?, Vec::from_slice(alloc, &[*failing])?);
-        let given = called(alloc, line, shelf, &[])?;
-        compare(&rt, line, &given, *status, report.as_bytes());
+        let given = called(alloc, line, shelf, &[], &[])?;
+        compare(&rt, line, &given, *status, "", report.as_bytes());
     }
     Ok(())
 }
@@ -71,11 +71,11 @@ fn zeros(alloc: Global, size: usize) -> Result<MemShelf, AllocError> {
 fn an_input_has_at_most_67108864_bytes(rt: HostRuntime) -> Result<(), Fail> {
     let alloc = rt.alloc();
     for line in ["thynvm run F --input I", "thynvm plain F --input I"] {
-        let given = called(alloc, line, zeros(alloc, 67_108_865)?, &[])?;
-        compare(&rt, line, &given, 3, b"fetch I too long\n");
+        let given = called(alloc, line, zeros(alloc, 67_108_865)?, &[], &[])?;
+        compare(&rt, line, &given, 3, "", b"fetch I too long\n");
     }
     let line = "thynvm plain F --input I";
-    let given = called(alloc, line, zeros(alloc, 67_108_864)?, &[])?;
-    compare(&rt, line, &given, 0, b"exit 7 at 3\n");
+    let given = called(alloc, line, zeros(alloc, 67_108_864)?, &[], &[])?;
+    compare(&rt, line, &given, 0, "", b"exit 7 at 3\n");
     Ok(())
 }
