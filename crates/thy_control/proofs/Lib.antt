@@ -3,3 +3,5 @@ pub mod CellLemmas
 pub mod NewLemmas
 pub mod StateLemmas
 pub mod PutLemmas
+pub mod OwnLemmas
+pub mod KeepLemmas

@@ -3,3 +3,4 @@ pub mod Keys
 pub mod Tables
 pub mod State
 pub mod Rules
+pub mod Versions

@@ -14,7 +14,7 @@ ghost use Rattle.thy_control.specs.Tables.{btt_with, btt_after, ptt_after, count
 use std::alloc::{AllocError, Global};
 use std::marker::Model;
 use thy_base::{Block, Geometry, Nvm, NvmError, Place, Stored};
-use thy_cell::{Cell, StoreRule, new_cells_are_sound};
+use thy_cell::{Cell, StoreRule, a_store_is_read, new_cells_are_sound};
 use thy_dram::Dram;
 use thy_place::{read_place, write_place};
 use thy_switch::Counts;
@@ -150,7 +150,8 @@ fn answer(rule: StoreRule) -> Stored
 
 impl Control {
     ghost use Rattle.thy_control.specs.Rules.{with_block, rule_for, devices_after, state_after, IsWholeState, FailsStore};
-    ghost use Rattle.thy_control.specs.State.{IsTables, IsSized, cell_of, penult_of, reads, new_state};
+    ghost use Rattle.thy_control.specs.State.{IsTables, IsSized, cell_of, penult_of, work_of, reads, new_state};
+    ghost use Rattle.thy_control.specs.Versions.{KeepsCheckpoints, PutsWork};
 
     /// The controller of a machine whose power came on, over a DRAM of the geometry's size.
     pub fn new(alloc: Global, geometry: &Geometry, dram: Dram) -> Result<Control, AllocError>
@@ -221,6 +222,55 @@ impl Control {
         let cell = self.cell(b);
         self.tables();
         self.read(cell.penult(), nvm)
+    }
+
+    /// Block `b` as it was stored last.
+    pub fn load<N: Nvm>(&self, b: u64, nvm: &mut N) -> Result<Block, NvmError>
+        requires block { b < memory_blocks self.now.p }
+        requires sized { IsSized self.now (N.device nvm.old) }
+        ensures ok { IfOk result (λ block. block ≡ work_of self.now (N.device nvm.old) b) }
+        ensures same { OnOk result (N.device nvm.new ≡ N.device nvm.old) }
+        ensures err { OnErr result (HasFailed (N.device nvm.old) (N.device nvm.new)) }
+        ensures frame { IsFramed (N.device nvm.old) (N.device nvm.new) }
+        ensures cause { CountsFault result (N.device nvm.old).faults (N.device nvm.new).faults }
+    {
+        let cell = self.cell(b);
+        self.tables();
+        self.read(cell.work(), nvm)
+    }
+
+    /// Stores block `b`, or makes the copy that has to go first: one write at one place. Both checkpoints of every
+    /// block stay. Where the NVM failed, the place, which no checkpoint has, may hold the block or not; an
+    /// entry without work may have come.
+    pub fn store<N: Nvm>(
+        &mut self,
+        b: u64,
+        block: &Block,
+        nvm: &mut N,
+    ) -> Result<Stored, NvmError>
+        requires block { b < memory_blocks self.old.p }
+        requires sized { IsSized self.old (N.device nvm.old) }
+        requires up { (N.device nvm.old).down ≡ false }
+        requires room { 0 < free_count self.old.btt }
+        requires whole { IsWholeState self.old }
+        ensures answer { IfOk result (λ stored. stored ≡ answer_of (rule_for b self.old)) }
+
+        // A load of the block gives what was stored, and of every other what it gave.
+        ensures work { IfOk result (λ stored. PutsWork stored b block.now self.old (N.device nvm.old) self.new (N.device nvm.new)) }
+        ensures keeps { OnOk result (KeepsCheckpoints self.old (N.device nvm.old) self.new (N.device nvm.new)) }
+
+        // So it is by these tables and this one write.
+        ensures state { OnOk result (self.new ≡ state_after b block.now self.old (N.device nvm.old)) }
+        ensures nvm { OnOk result (N.device nvm.new ≡ (devices_after b block.now self.old (N.device nvm.old)).nvm) }
+
+        ensures kept { OnErr result (self.new ≡ with_block (rule_for b self.old) b self.old) }
+        ensures err { OnErr result (FailsStore b block.now self.old (N.device nvm.old) (N.device nvm.new)) }
+        ensures frame { IsFramed (N.device nvm.old) (N.device nvm.new) }
+        ensures cause { CountsFault result (N.device nvm.old).faults (N.device nvm.new).faults }
+    {
+        a_store_is_read();
+        self.tables();
+        self.put(b, block, nvm)
     }
 
     /// Stores block `b` by its rule, or makes the copy that has to go first: one write at one place.
