@@ -4,3 +4,5 @@ pub mod Tables
 pub mod State
 pub mod Rules
 pub mod Versions
+pub mod Holding
+pub mod Stays

@@ -3,5 +3,7 @@
 #![tactic(auto)]
 
 mod control;
+mod laws;
 
 pub use control::Control;
+pub use laws::what_stays_does_so_over_calls;
