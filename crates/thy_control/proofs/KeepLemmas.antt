@@ -45,8 +45,11 @@ placed-out AtAlternate j block i k = refl
 
 -- a cell with a new entry has its versions whatever place that entry gets
 module _ (c : Cell) (k b : ℕ) (is_new : c.entry ≡ new_entry b) where
-  penult-new : penult (record c { i = k }) ≡ penult c
+  pub penult-new : penult (record c { i = k }) ≡ penult c
   penult-new = subst (λ (e : BttEntry). penult (record c { entry = e; i = k }) ≡ penult (record c { entry = e })) (sym is_new) (placed-out c.page.place c.j b k c.i)
+
+  pub target-new : target (record c { i = k }) ≡ target c
+  target-new = subst (λ (e : BttEntry). target (record c { entry = e; i = k }) ≡ target (record c { entry = e })) (sym is_new) (placed-out c.page.target c.j b k c.i)
 
   last-new : last (record c { i = k }) ≡ last c
   last-new = subst (λ (e : BttEntry). last (record c { entry = e; i = k }) ≡ last (record c { entry = e })) (sym is_new)
@@ -63,7 +66,7 @@ btt_with-listed ToNvm b i t h = ap (λ o. with_found block_key new_entry o b t) 
 btt_with-listed PendingFirst b i t h = refl
 
 -- an entry for a block moves no version of it
-same_start : (f : Cell → Place) (r : StoreRule) (b : ℕ) (s : State)
+pub same_start : (f : Cell → Place) (r : StoreRule) (b : ℕ) (s : State)
     → ((k : ℕ) → (cell_of s b).entry ≡ new_entry b → f (record (cell_of s b) { i = k }) ≡ f (cell_of s b))
     → f (cell_of (with_block r b s) b) ≡ f (cell_of s b)
 same_start f r b s free = ap f (cell-with_block_same r b s) ∙ by_place (place_of block_key b s.btt) refl where

@@ -5,3 +5,4 @@ pub mod StateLemmas
 pub mod PutLemmas
 pub mod OwnLemmas
 pub mod KeepLemmas
+pub mod GuardLemmas

@@ -6,3 +6,4 @@ pub mod Rules
 pub mod Versions
 pub mod Holding
 pub mod Stays
+pub mod Guarded

@@ -14,7 +14,10 @@ ghost use Rattle.thy_control.specs.Tables.{btt_with, btt_after, ptt_after, count
 use std::alloc::{AllocError, Global};
 use std::marker::Model;
 use thy_base::{Block, Geometry, Nvm, NvmError, Place, Stored};
-use thy_cell::{Cell, StoreRule, a_store_is_read, new_cells_are_sound};
+use thy_cell::{
+    Cell, StoreRule, a_store_goes_elsewhere, a_store_is_read, a_store_leaves_the_target,
+    new_cells_are_sound,
+};
 use thy_dram::Dram;
 use thy_place::{read_place, write_place};
 use thy_switch::Counts;
@@ -151,6 +154,7 @@ fn answer(rule: StoreRule) -> Stored
 impl Control {
     ghost use Rattle.thy_control.specs.Rules.{with_block, rule_for, devices_after, state_after, IsWholeState, FailsStore};
     ghost use Rattle.thy_control.specs.State.{IsTables, IsSized, cell_of, penult_of, work_of, reads, new_state};
+    ghost use Rattle.thy_control.specs.Guarded.{LeavesGuarded};
     ghost use Rattle.thy_control.specs.Versions.{KeepsCheckpoints, PutsWork};
 
     /// The controller of a machine whose power came on, over a DRAM of the geometry's size.
@@ -263,12 +267,17 @@ impl Control {
         ensures state { OnOk result (self.new ≡ state_after b block.now self.old (N.device nvm.old)) }
         ensures nvm { OnOk result (N.device nvm.new ≡ (devices_after b block.now self.old (N.device nvm.old)).nvm) }
 
+        // Whether or not it failed, nothing new is possible at the checkpoints' places.
+        ensures guarded { LeavesGuarded self.old (N.device nvm.old) (N.device nvm.new) }
+
         ensures kept { OnErr result (self.new ≡ with_block (rule_for b self.old) b self.old) }
         ensures err { OnErr result (FailsStore b block.now self.old (N.device nvm.old) (N.device nvm.new)) }
         ensures frame { IsFramed (N.device nvm.old) (N.device nvm.new) }
         ensures cause { CountsFault result (N.device nvm.old).faults (N.device nvm.new).faults }
     {
         a_store_is_read();
+        a_store_goes_elsewhere();
+        a_store_leaves_the_target();
         self.tables();
         self.put(b, block, nvm)
     }

@@ -3,6 +3,7 @@ use Rattle.thy_control.specs.State.{State}
 use Rattle.thy_control.specs.Rules.{rule_for, devices_after, state_after}
 use Rattle.thy_control.specs.Tables.{answer_of}
 use Rattle.thy_control.proofs.KeepLemmas.{Kept-after, kept_by, checkpoints_by, work_by}
+use Rattle.thy_control.proofs.GuardLemmas.{LeavesGuarded-after, guarded_by}
 use Rattle.thy_control.proofs.control.Control.store.Goals as goal
 
 pub returns-clause-work : goal.returns-clause-work
@@ -26,3 +27,11 @@ returns-clause-keeps g c =
     let kept = Kept-after c.a_store_is_read.ensures b block s m c.tables.ensures c.requires.sized c.requires.whole c.requires.block c.requires.room in
     checkpoints_by b block s m c.put.new.self n c.put.result
     (kept_by b block s m c.put.new.self (state_after b block s m) n (devices_after b block s m).nvm (answer_of (rule_for b s)) c.put.result c.put.ensures.state c.put.ensures.nvm c.put.ensures.answer kept)
+
+pub returns-clause-guarded : goal.returns-clause-guarded
+returns-clause-guarded g c =
+    let s : State = c.args.self.now in
+    let m : Device = g.N.Nvm.device c.args.nvm.now in
+    let n : Device = g.N.Nvm.device c.put.new.nvm in
+    guarded_by c.args.b c.args.block.now s m n c.put.result c.put.ensures.nvm c.put.ensures.err
+    (LeavesGuarded-after c.a_store_goes_elsewhere.ensures c.a_store_leaves_the_target.ensures c.args.b c.args.block.now s m n c.tables.ensures c.requires.whole c.requires.block c.requires.room)
