@@ -51,11 +51,11 @@ module _ (c : Cell) (k b : ℕ) (is_new : c.entry ≡ new_entry b) where
   pub target-new : target (record c { i = k }) ≡ target c
   target-new = subst (λ (e : BttEntry). target (record c { entry = e; i = k }) ≡ target (record c { entry = e })) (sym is_new) (placed-out c.page.target c.j b k c.i)
 
-  last-new : last (record c { i = k }) ≡ last c
+  pub last-new : last (record c { i = k }) ≡ last c
   last-new = subst (λ (e : BttEntry). last (record c { entry = e; i = k }) ≡ last (record c { entry = e })) (sym is_new)
       (ap (λ (x : Place). if c.page.busy then Frame c.j (b % 64) else x) (placed-out c.page.target c.j b k c.i))
 
-  work-new : work (record c { i = k }) ≡ work c
+  pub work-new : work (record c { i = k }) ≡ work c
   work-new = subst (λ (e : BttEntry). work (record c { entry = e; i = k }) ≡ work (record c { entry = e })) (sym is_new)
       (ap (λ (x : Place). if is_framed c.page then Frame c.j (b % 64) else (if c.page.busy then Frame c.j (b % 64) else x)) (placed-out c.page.target c.j b k c.i))
 

@@ -6,3 +6,4 @@ pub mod PutLemmas
 pub mod OwnLemmas
 pub mod KeepLemmas
 pub mod GuardLemmas
+pub mod HoldLemmas

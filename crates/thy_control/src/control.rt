@@ -16,7 +16,7 @@ use std::marker::Model;
 use thy_base::{Block, Geometry, Nvm, NvmError, Place, Stored};
 use thy_cell::{
     Cell, StoreRule, a_store_goes_elsewhere, a_store_is_read, a_store_leaves_the_target,
-    new_cells_are_sound,
+    a_store_leaves_what_has_to_stand, new_cells_are_sound,
 };
 use thy_dram::Dram;
 use thy_place::{read_place, write_place};
@@ -155,6 +155,7 @@ impl Control {
     ghost use Rattle.thy_control.specs.Rules.{with_block, rule_for, devices_after, state_after, IsWholeState, FailsStore};
     ghost use Rattle.thy_control.specs.State.{IsTables, IsSized, cell_of, penult_of, work_of, reads, new_state};
     ghost use Rattle.thy_control.specs.Guarded.{LeavesGuarded};
+    ghost use Rattle.thy_control.specs.Stays.{HoldAll};
     ghost use Rattle.thy_control.specs.Versions.{KeepsCheckpoints, PutsWork};
 
     /// The controller of a machine whose power came on, over a DRAM of the geometry's size.
@@ -267,6 +268,9 @@ impl Control {
         ensures state { OnOk result (self.new ≡ state_after b block.now self.old (N.device nvm.old)) }
         ensures nvm { OnOk result (N.device nvm.new ≡ (devices_after b block.now self.old (N.device nvm.old)).nvm) }
 
+        // The frames and targets hold what they have to, if they did.
+        ensures holds { OnOk result (HoldAll self.old (N.device nvm.old) → HoldAll self.new (N.device nvm.new)) }
+
         // Whether or not it failed, nothing new is possible at the checkpoints' places.
         ensures guarded { LeavesGuarded self.old (N.device nvm.old) (N.device nvm.new) }
 
@@ -278,6 +282,7 @@ impl Control {
         a_store_is_read();
         a_store_goes_elsewhere();
         a_store_leaves_the_target();
+        a_store_leaves_what_has_to_stand();
         self.tables();
         self.put(b, block, nvm)
     }

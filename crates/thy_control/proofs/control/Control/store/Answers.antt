@@ -4,6 +4,7 @@ use Rattle.thy_control.specs.Rules.{rule_for, devices_after, state_after}
 use Rattle.thy_control.specs.Tables.{answer_of}
 use Rattle.thy_control.proofs.KeepLemmas.{Kept-after, kept_by, checkpoints_by, work_by}
 use Rattle.thy_control.proofs.GuardLemmas.{LeavesGuarded-after, guarded_by}
+use Rattle.thy_control.proofs.HoldLemmas.{HoldAll-after, hold_by}
 use Rattle.thy_control.proofs.control.Control.store.Goals as goal
 
 pub returns-clause-work : goal.returns-clause-work
@@ -35,3 +36,13 @@ returns-clause-guarded g c =
     let n : Device = g.N.Nvm.device c.put.new.nvm in
     guarded_by c.args.b c.args.block.now s m n c.put.result c.put.ensures.nvm c.put.ensures.err
     (LeavesGuarded-after c.a_store_goes_elsewhere.ensures c.a_store_leaves_the_target.ensures c.args.b c.args.block.now s m n c.tables.ensures c.requires.whole c.requires.block c.requires.room)
+
+pub returns-clause-holds : goal.returns-clause-holds
+returns-clause-holds g c =
+    let s : State = c.args.self.now in
+    let m : Device = g.N.Nvm.device c.args.nvm.now in
+    let n : Device = g.N.Nvm.device c.put.new.nvm in
+    let b = c.args.b in
+    let block = c.args.block.now in
+    hold_by b block s m c.put.new.self (state_after b block s m) n (devices_after b block s m).nvm c.put.result c.put.ensures.state c.put.ensures.nvm
+    (HoldAll-after c.a_store_leaves_what_has_to_stand.ensures b block s m c.tables.ensures c.requires.sized c.requires.whole c.requires.block c.requires.room)
