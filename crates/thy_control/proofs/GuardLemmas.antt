@@ -46,7 +46,7 @@ placed-in_nvm Out AtAlternate x = refl
 placed-in_nvm Out AtHome x = refl
 
 -- and every place of the NVM lies behind the slots
-behind_slots : (p : Parameters) (x : Place) → in_dram x ≡ false → first_home p ≤ number_of p x
+pub behind_slots : (p : Parameters) (x : Place) → in_dram x ≡ false → first_home p ≤ number_of p x
 behind_slots p (Home b) e = omega arith
 behind_slots p (AlternateBlock i) e = omega arith
 behind_slots p (AlternatePage j k) e = omega arith

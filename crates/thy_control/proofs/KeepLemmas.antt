@@ -81,7 +81,7 @@ given-answer ToBuffer block old c = refl
 given-answer ToNvm block old c = refl
 given-answer PendingFirst block old c = refl
 
-or_dirty : (f : Cell → Place) → ((x : Cell) → f (with_dirty x) ≡ f x) → (r : StoreRule) (c d : Cell) → OrDirty r c d → f d ≡ f c
+pub or_dirty : (f : Cell → Place) → ((x : Cell) → f (with_dirty x) ≡ f x) → (r : StoreRule) (c d : Cell) → OrDirty r c d → f d ≡ f c
 or_dirty f dirty r c d (inl e) = ap f e
 or_dirty f dirty r c d (inr e) = ap f e.1 ∙ dirty c
 

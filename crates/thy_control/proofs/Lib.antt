@@ -7,3 +7,4 @@ pub mod OwnLemmas
 pub mod KeepLemmas
 pub mod GuardLemmas
 pub mod HoldLemmas
+pub mod StayLemmas

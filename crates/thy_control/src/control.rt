@@ -155,7 +155,7 @@ impl Control {
     ghost use Rattle.thy_control.specs.Rules.{with_block, rule_for, devices_after, state_after, IsWholeState, FailsStore};
     ghost use Rattle.thy_control.specs.State.{IsTables, IsSized, cell_of, penult_of, work_of, reads, new_state};
     ghost use Rattle.thy_control.specs.Guarded.{LeavesGuarded};
-    ghost use Rattle.thy_control.specs.Stays.{HoldAll};
+    ghost use Rattle.thy_control.specs.Stays.{HoldAll, Stays};
     ghost use Rattle.thy_control.specs.Versions.{KeepsCheckpoints, PutsWork};
 
     /// The controller of a machine whose power came on, over a DRAM of the geometry's size.
@@ -271,7 +271,8 @@ impl Control {
         // The frames and targets hold what they have to, if they did.
         ensures holds { OnOk result (HoldAll self.old (N.device nvm.old) → HoldAll self.new (N.device nvm.new)) }
 
-        // Whether or not it failed, nothing new is possible at the checkpoints' places.
+        // Whether or not it failed, nothing new is possible at the checkpoints' places, and both tables are as they were.
+        ensures stays { Stays self.old (N.device nvm.old) self.new (N.device nvm.new) }
         ensures guarded { LeavesGuarded self.old (N.device nvm.old) (N.device nvm.new) }
 
         ensures kept { OnErr result (self.new ≡ with_block (rule_for b self.old) b self.old) }
