@@ -8,3 +8,4 @@ pub mod KeepLemmas
 pub mod GuardLemmas
 pub mod HoldLemmas
 pub mod StayLemmas
+pub mod HoldingLemmas

@@ -1,8 +1,8 @@
 -- What the controller and the NVM hold together, seen as a store of blocks.
-use Rattle.std.specs.Prelude.{◌≡◌, ℕ, ◌==◌, Bool, true, false, ◌&&◌, not, if◌then◌else◌, List, [], length, map, count_by, Option, Some, None}
+use Rattle.std.specs.Prelude.{◌≡◌, ℕ, ◌<◌, ◌==◌, Bool, true, false, ◌&&◌, not, if◌then◌else◌, List, [], length, map, count_by, Option, Some, None}
 use Rattle.std.specs.List.{range_with_len, list_all}
 use Rattle.thy_base.specs.declared.block.Block.{Block}
-use Rattle.thy_base.specs.Device.{Device}
+use Rattle.thy_base.specs.Device.{Device, block_at}
 use Rattle.thy_base.specs.Geometry.{memory_blocks}
 use Rattle.thy_base.specs.Places.{image_blocks}
 use Rattle.thy_base.specs.Store.{Holding}
@@ -12,7 +12,7 @@ use Rattle.thy_tables.specs.declared.page_entry.PttEntry.{PttEntry}
 use Rattle.thy_tables.specs.declared.block_entry.Pending.{Pending}
 use Rattle.thy_tables.specs.declared.block_entry.Pending.TheVariants.{Settled, FromBuffer, FromAlternate}
 use Rattle.thy_tables.specs.PageEntry.{is_framed}
-use Rattle.thy_control.specs.State.{State, work_of}
+use Rattle.thy_control.specs.State.{State, IsSized, work_of}
 
 -- what a load of each block gives; nothing where the NVM has another size
 abbrev pub works : State → Device → List Block
@@ -40,3 +40,12 @@ holding_of s n = record {
   open_page = None;
   owed = count_by (passes (λ (e : BttEntry). waits e.pend)) s.btt.entries;
 }
+
+-- what it holds has a block exactly where memory has, and that block is the work
+pub record AreWorks (s : State) (n : Device) (b : ℕ) : Type 0 where
+  pub sized : IsSized s n
+  pub inside : b < memory_blocks s.p
+  pub block : block_at (holding_of s n).blocks b ≡ work_of s n b
+
+abbrev pub BlocksAreWorks : Type 0
+BlocksAreWorks = (s : State) (n : Device) (b : ℕ) → b < length (holding_of s n).blocks → AreWorks s n b

@@ -6,4 +6,4 @@ mod control;
 mod laws;
 
 pub use control::Control;
-pub use laws::what_stays_does_so_over_calls;
+pub use laws::{blocks_are_works, what_stays_does_so_over_calls};
