@@ -1,11 +1,10 @@
 -- The cell of a block: what it is of, and that its places are there.
-use Rattle.std.proofs.Common.{◌≡◌, ◌≢◌, ◌⊎◌, ℕ, ◌<◌, ◌≤◌, ◌+◌, ◌*◌, ◌/◌, ◌%◌, Bool, true, false, if◌then◌else◌, length, replicate, refl, sym, ◌∙◌, ap, subst, arith, Option, Some, None, position, List, [], ◌∷◌}
+use Rattle.std.proofs.Common.{◌≡◌, ℕ, ◌<◌, Bool, true, false, if◌then◌else◌, length, refl, arith}
 use Rattle.thy_base.specs.declared.config.Parameters.{Parameters}
 use Rattle.thy_base.specs.declared.place.Place.{Place}
 use Rattle.thy_base.specs.Geometry.{memory_blocks}
 use Rattle.thy_base.specs.Places.{IsPlace}
 use Rattle.thy_base.specs.Store.{page_of}
-use Rattle.thy_table.specs.Listing.{Listing, IsListing, entry_at, lists, place_of, empty_table}
 use Rattle.thy_tables.specs.declared.block_entry.Version.{Version}
 use Rattle.thy_tables.specs.declared.block_entry.Version.TheVariants.{Out, Alt}
 use Rattle.thy_tables.specs.declared.block_entry.Pending.{Pending}
@@ -19,10 +18,9 @@ use Rattle.thy_tables.specs.PageEntry.{no_page, is_framed}
 use Rattle.thy_cell.specs.declared.cell.Cell.{Cell}
 use Rattle.thy_cell.specs.declared.cell.StoreRule.{StoreRule}
 use Rattle.thy_cell.specs.declared.cell.StoreRule.TheVariants.{ToFrame, ToBuffer, ToNvm, PendingFirst}
-use Rattle.thy_cell.specs.Cells.{Seat, seat_of, frame_at, buffer_at, alternate_at, placed, pending_at, worked_at, penult, target, last, work}
+use Rattle.thy_cell.specs.Cells.{Seat, seat_of, frame_at, placed, pending_at, worked_at, penult, target, last, work}
 use Rattle.thy_cell.specs.Sound.{IsWithin}
 use Rattle.thy_cell.specs.Rules.{store_place}
-use Rattle.thy_control.specs.Find.{entry_for, index_for}
 use Rattle.thy_control.specs.Keys.{block_key, page_key}
 use Rattle.thy_control.specs.State.{State, IsTables, cell_of}
 use Rattle.thy_control.proofs.FindLemmas.{key-entry_for, index_for-inside}

@@ -1,9 +1,9 @@
 -- What a table has for a number, after one entry was changed or added.
-use Rattle.std.proofs.Common.{◌≡◌, ◌≢◌, ◌⊎◌, ℕ, ◌<◌, ◌≤◌, ◌+◌, Bool, true, false, ◌==◌, List, length, get_or, slice_set, Option, Some, None, is_none, position, unwrap_or, refl, sym, ◌∙◌, ap, inl, inr, arith}
-use Rattle.std.proofs.lemmas.Bool.{cases_eq, eqb-true, eq-eqb, ne_eqb}
+use Rattle.std.proofs.Common.{◌≡◌, ◌≢◌, ℕ, ◌<◌, Bool, ◌==◌, List, length, get_or, slice_set, Option, Some, None, is_none, position, unwrap_or, refl, sym, ◌∙◌, ap, inl, inr, arith}
+use Rattle.std.proofs.lemmas.Bool.{cases_eq, ne_eqb}
 use Rattle.std.proofs.lemmas.List.{length-set, get_or-set_same, get_or-set_other}
 use Rattle.std.proofs.lemmas.List.Quantifiers.{position-Some}
-use Rattle.thy_table.specs.Listing.{Listing, IsListing, entry_at, lists, place_of, free_place, with_entry, added, added_at}
+use Rattle.thy_table.specs.Listing.{Listing, entry_at, lists, place_of, free_place, with_entry, added_at}
 use Rattle.thy_table.proofs.IndexLemmas.{lists-some, lists-key, None-is_none}
 use Rattle.thy_table.proofs.FirstLemmas.{position-first, position-none, none-position}
 use Rattle.thy_control.specs.Find.{entry_found, entry_for, index_for, with_found, with_entry_for}
@@ -78,9 +78,9 @@ module _ {E : Type 0} (key : E → ℕ) (new : ℕ → E) where
       by_place (Some k) h =
           let f = found_entry t n k h in
           let apart : k ≢ i = λ s. (
-            let both : Some f.0 ≡ Some old = sym f.1 ∙ ap (entry_at t) s ∙ was in
-            let one : f.0 ≡ old = cc in
-            other (sym f.2 ∙ ap key one)) in
+          let both : Some f.0 ≡ Some old = sym f.1 ∙ ap (entry_at t) s ∙ was in
+          let one : f.0 ≡ old = cc in
+          other (sym f.2 ∙ ap key one)) in
           entry_for-some (with_entry i (Some e) t) n k f.0 (place_of-set n ∙ h) (get_or-set_other t.entries i k (Some e) None apart ∙ f.1)
           ∙ sym (entry_for-some t n k f.0 h f.1)
 
@@ -135,6 +135,7 @@ module _ {E : Type 0} (key : E → ℕ) (new : ℕ → E) where
     by_free : place_of key b t ≡ None → (o : Option ℕ) → free_place t ≡ o → entry_for key new n (added_at o (new b) t) ≡ entry_for key new n t
     by_free h None f = refl
     by_free h (Some i) f = entry_for-new new_key t b i h f n
+
     by_place : (o : Option ℕ) → place_of key b t ≡ o → entry_for key new n (with_found key new o b t) ≡ entry_for key new n t
     by_place (Some i) h = refl
     by_place None h = by_free h (free_place t) refl
@@ -146,6 +147,7 @@ module _ {E : Type 0} (key : E → ℕ) (new : ℕ → E) where
     by_free : place_of key b t ≡ None → (o : Option ℕ) → free_place t ≡ o → place_of key n (added_at o (new b) t) ≡ place_of key n t
     by_free h None f = refl
     by_free h (Some i) f = place_of-new_other new_key t b i h f n other
+
     by_place : (o : Option ℕ) → place_of key b t ≡ o → place_of key n (with_found key new o b t) ≡ place_of key n t
     by_place (Some i) h = refl
     by_place None h = by_free h (free_place t) refl
@@ -157,6 +159,7 @@ module _ {E : Type 0} (key : E → ℕ) (new : ℕ → E) where
     by_free : place_of key b t ≡ None → (o : Option ℕ) → free_place t ≡ o → (i : ℕ) × (place_of key b (added_at o (new b) t) ≡ Some i)
     by_free h None f = absurd (some f)
     by_free h (Some i) f = (i, place_of-new_same new_key t b i h f)
+
     by_place : (o : Option ℕ) → place_of key b t ≡ o → (i : ℕ) × (place_of key b (with_found key new o b t) ≡ Some i)
     by_place (Some i) h = (i, h)
     by_place None h = by_free h (free_place t) refl
@@ -167,6 +170,7 @@ module _ {E : Type 0} (key : E → ℕ) (new : ℕ → E) where
     by_free : (o : Option ℕ) → length (added_at o (new b) t).entries ≡ length t.entries
     by_free None = refl
     by_free (Some i) = length-set t.entries i (Some (new b))
+
     by_place : (o : Option ℕ) → length (with_found key new o b t).entries ≡ length t.entries
     by_place (Some i) = refl
     by_place None = by_free (free_place t)
@@ -176,6 +180,7 @@ module _ {E : Type 0} (key : E → ℕ) (new : ℕ → E) where
     by_free : (o : Option ℕ) → (added_at o (new b) t).numbers ≡ t.numbers
     by_free None = refl
     by_free (Some i) = refl
+
     by_place : (o : Option ℕ) → (with_found key new o b t).numbers ≡ t.numbers
     by_place (Some i) = refl
     by_place None = by_free (free_place t)

@@ -1,5 +1,5 @@
 -- A store, done or failed, makes nothing possible at the places of the checkpoints.
-use Rattle.std.proofs.Common.{◌≡◌, ◌≢◌, ◌⊎◌, ℕ, ◌<◌, ◌≤◌, Bool, true, false, if◌then◌else◌, length, refl, sym, ◌∙◌, ap, subst, inl, inr, arith, Contains, Some, Result, Ok, Err, OnOk, OnErr}
+use Rattle.std.proofs.Common.{◌≡◌, ◌≢◌, ◌⊎◌, ℕ, ◌<◌, ◌≤◌, Bool, true, false, if◌then◌else◌, refl, sym, ◌∙◌, ap, subst, inl, inr, arith, Contains, Some, Result, Ok, Err, OnOk, OnErr}
 use Rattle.std.proofs.lemmas.Bool.{cases_eq}
 use Rattle.thy_base.specs.declared.block.Block.{Block}
 use Rattle.thy_base.specs.declared.config.Parameters.{Parameters}
@@ -12,26 +12,22 @@ use Rattle.thy_base.specs.Geometry.{memory_blocks}
 use Rattle.thy_base.specs.Places.{in_dram, number_of, first_home, IsPlace}
 use Rattle.thy_base.proofs.DeviceLemmas.{no_more-written_to_other}
 use Rattle.thy_dram.specs.Contents.{written}
-use Rattle.thy_place.specs.Devices.{Devices, NoMoreAt, devices_of, written_at}
+use Rattle.thy_place.specs.Devices.{Devices, NoMoreAt, devices_of}
 use Rattle.thy_place.proofs.PlaceLemmas.{no_more-written_other, no_more-failed_other}
 use Rattle.thy_table.specs.Listing.{free_count}
 use Rattle.thy_tables.specs.declared.block_entry.BttEntry.{BttEntry}
 use Rattle.thy_tables.specs.declared.block_entry.Version.{Version}
 use Rattle.thy_tables.specs.declared.block_entry.Version.TheVariants.{Out, Alt}
-use Rattle.thy_tables.specs.declared.block_entry.Pending.TheVariants.{Settled, FromBuffer}
+use Rattle.thy_tables.specs.declared.block_entry.Pending.TheVariants.{Settled}
 use Rattle.thy_tables.specs.declared.page_entry.Site.{Site}
 use Rattle.thy_tables.specs.declared.page_entry.Site.TheVariants.{AtHome, AtAlternate}
-use Rattle.thy_tables.specs.BlockEntry.{new_entry}
 use Rattle.thy_cell.specs.declared.cell.Cell.{Cell}
 use Rattle.thy_cell.specs.declared.cell.StoreRule.{StoreRule}
 use Rattle.thy_cell.specs.Cells.{Seat, seat_of, placed, penult, target}
-use Rattle.thy_cell.specs.Sound.{IsWithin}
 use Rattle.thy_cell.specs.Rules.{store_rule, store_place}
 use Rattle.thy_cell.specs.Store.{StoreGoesElsewhere, StoreLeavesTarget, put_by}
-use Rattle.thy_cell.specs.Checkpoint.{IsCopied}
 use Rattle.thy_control.specs.State.{State, IsTables, cell_of, reads}
-use Rattle.thy_control.specs.Rules.{with_block, rule_for, cell_before, devices_after, state_after, IsWholeState, FailsStore}
-use Rattle.thy_control.specs.Stays.{AreCopied}
+use Rattle.thy_control.specs.Rules.{with_block, rule_for, cell_before, devices_after, IsWholeState, FailsStore}
 use Rattle.thy_control.specs.Guarded.{LeavesGuarded}
 use Rattle.thy_control.proofs.CellLemmas.{IsPlace-penult, IsPlace-target, IsPlace-store, IsWithin-cell_of}
 use Rattle.thy_control.proofs.StateLemmas.{IsListed, IsListed-with_block, cell-with_block_other, entry-with_block, sound-with_block, rule-with_block}

@@ -1,5 +1,5 @@
 -- After a store the places of every block hold what they have to.
-use Rattle.std.proofs.Common.{◌≡◌, ◌≢◌, ◌⊎◌, ℕ, ◌<◌, ◌%◌, Bool, true, false, length, refl, sym, ◌∙◌, ap, subst, inl, inr, arith, Option, Some, None, Result, Ok, Err, OnOk}
+use Rattle.std.proofs.Common.{◌≡◌, ◌≢◌, ℕ, ◌<◌, ◌%◌, true, false, refl, sym, ◌∙◌, ap, subst, inl, inr, arith, Some, Result, Ok, Err, OnOk}
 use Rattle.std.proofs.lemmas.Bool.{cases_eq}
 use Rattle.thy_base.specs.declared.block.Block.{Block}
 use Rattle.thy_base.specs.declared.place.Place.{Place}
@@ -9,24 +9,23 @@ use Rattle.thy_base.specs.Device.{Device}
 use Rattle.thy_base.specs.Geometry.{memory_blocks}
 use Rattle.thy_base.specs.Places.{IsPlace}
 use Rattle.thy_base.specs.Store.{page_of}
-use Rattle.thy_place.specs.Devices.{Devices, AreSized, devices_of, read_at, written_at}
+use Rattle.thy_place.specs.Devices.{AreSized, devices_of, read_at, written_at}
 use Rattle.thy_place.proofs.PlaceLemmas.{read_at-written_same, read_at-written_other}
-use Rattle.thy_table.specs.Listing.{Listing, free_count}
+use Rattle.thy_table.specs.Listing.{free_count}
 use Rattle.thy_tables.specs.declared.block_entry.BttEntry.{BttEntry}
 use Rattle.thy_tables.specs.declared.page_entry.PttEntry.{PttEntry}
-use Rattle.thy_tables.specs.BlockEntry.{new_entry}
 use Rattle.thy_tables.specs.PageEntry.{no_page, is_framed}
 use Rattle.thy_cell.specs.declared.cell.Cell.{Cell}
 use Rattle.thy_cell.specs.declared.cell.StoreRule.{StoreRule}
-use Rattle.thy_cell.specs.Cells.{Seat, seat_of, frame_at, penult, target, last, work}
-use Rattle.thy_cell.specs.Sound.{IsWithin, IsSoundCell, IsWhole, Puts, Holds}
+use Rattle.thy_cell.specs.Cells.{seat_of, frame_at, target, last, work}
+use Rattle.thy_cell.specs.Sound.{IsWithin, Puts, Holds}
 use Rattle.thy_cell.specs.Rules.{store_rule, store_place, after_store}
 use Rattle.thy_cell.specs.Store.{StoreHolds, put_by}
 use Rattle.thy_cell.specs.Checkpoint.{with_dirty}
 use Rattle.thy_control.specs.State.{State, IsTables, IsSized, cell_of, reads}
 use Rattle.thy_control.specs.Rules.{with_block, with_cell, rule_for, cell_before, devices_after, state_after, IsWholeState}
 use Rattle.thy_control.specs.Stays.{HoldAll}
-use Rattle.thy_control.proofs.CellLemmas.{IsPlace-penult, IsPlace-target, IsPlace-last, IsPlace-work, IsPlace-store, IsWithin-cell_of, block-cell_of}
+use Rattle.thy_control.proofs.CellLemmas.{IsPlace-target, IsPlace-last, IsPlace-work, IsPlace-store, IsWithin-cell_of}
 use Rattle.thy_control.proofs.StateLemmas.{IsListed, IsListed-with_block, OrDirty, cell-with_block_other, entry-with_block, cell-with_cell_same, cell-with_cell_other, sound-with_block, rule-with_block}
 use Rattle.thy_control.proofs.PutLemmas.{has_free, IsWithin-before}
 use Rattle.thy_control.proofs.OwnLemmas.{owner, Owns, Owns-cell_of, owned-target, owned-last, owned-work, owned-store, owned-apart}

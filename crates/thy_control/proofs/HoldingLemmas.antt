@@ -1,5 +1,5 @@
 -- What the controller holds, seen as a store of blocks.
-use Rattle.std.proofs.Common.{◌≡◌, ℕ, ◌+◌, ◌<◌, ◌==◌, Bool, true, false, if◌then◌else◌, List, [], length, map, refl, sym, ◌∙◌, ap, arith}
+use Rattle.std.proofs.Common.{◌≡◌, ℕ, ◌+◌, ◌<◌, ◌==◌, Bool, true, false, if◌then◌else◌, [], length, map, refl, arith}
 use Rattle.std.specs.List.{range_with_len}
 use Rattle.std.proofs.lemmas.Bool.{eqb-true}
 use Rattle.std.proofs.lemmas.List.FromFn.{length-map-range_with_len, get_or-map-range_with_len}
@@ -7,8 +7,8 @@ use Rattle.thy_base.specs.declared.block.Block.{Block}
 use Rattle.thy_base.specs.Device.{Device, zero_block, block_at}
 use Rattle.thy_base.specs.Geometry.{memory_blocks}
 use Rattle.thy_base.specs.Places.{image_blocks}
-use Rattle.thy_control.specs.State.{State, IsSized, work_of}
-use Rattle.thy_control.specs.Holding.{AreWorks, holding_of, works}
+use Rattle.thy_control.specs.State.{State, work_of}
+use Rattle.thy_control.specs.Holding.{AreWorks, holding_of}
 
 -- blocks by a function, where a test holds
 block_if : (t : Bool) (f : ℕ → Block) (size b : ℕ) → b < length (if t then map f (range_with_len 0 size) else [])

@@ -1,5 +1,5 @@
 -- A store keeps both checkpoints of every block, and the work of every other.
-use Rattle.std.proofs.Common.{◌≡◌, ◌≢◌, ◌⊎◌, ℕ, ◌<◌, ◌%◌, Bool, true, false, if◌then◌else◌, length, refl, sym, ◌∙◌, ap, subst, inl, inr, arith, Option, Some, None, unwrap_or, Result, Ok, Err, OnOk, IfOk}
+use Rattle.std.proofs.Common.{◌≡◌, ◌≢◌, ℕ, ◌<◌, ◌%◌, if◌then◌else◌, refl, sym, ◌∙◌, ap, subst, inl, inr, Option, Some, None, Result, Ok, Err, OnOk, IfOk}
 use Rattle.std.proofs.lemmas.Bool.{cases_eq}
 use Rattle.thy_base.specs.declared.block.Block.{Block}
 use Rattle.thy_base.specs.declared.place.Place.{Place}
@@ -9,7 +9,7 @@ use Rattle.thy_base.specs.declared.nvm.NvmError.{NvmError}
 use Rattle.thy_base.specs.Device.{Device}
 use Rattle.thy_base.specs.Geometry.{memory_blocks}
 use Rattle.thy_base.specs.Places.{IsPlace}
-use Rattle.thy_place.specs.Devices.{Devices, AreSized, devices_of, read_at, written_at}
+use Rattle.thy_place.specs.Devices.{AreSized, devices_of, read_at, written_at}
 use Rattle.thy_place.proofs.PlaceLemmas.{read_at-written_same, read_at-written_other}
 use Rattle.thy_table.specs.Listing.{Listing, place_of, free_count}
 use Rattle.thy_tables.specs.declared.block_entry.BttEntry.{BttEntry}
@@ -21,22 +21,22 @@ use Rattle.thy_tables.specs.PageEntry.{is_framed}
 use Rattle.thy_cell.specs.declared.cell.Cell.{Cell}
 use Rattle.thy_cell.specs.declared.cell.StoreRule.{StoreRule}
 use Rattle.thy_cell.specs.declared.cell.StoreRule.TheVariants.{ToFrame, ToBuffer, ToNvm, PendingFirst}
-use Rattle.thy_cell.specs.Cells.{Seat, seat_of, placed, penult, target, last, work}
-use Rattle.thy_cell.specs.Sound.{IsWithin, IsSoundCell, IsWhole, Puts}
+use Rattle.thy_cell.specs.Cells.{seat_of, placed, penult, target, last, work}
+use Rattle.thy_cell.specs.Sound.{IsWithin, Puts}
 use Rattle.thy_cell.specs.Rules.{store_rule, store_place, after_store}
 use Rattle.thy_cell.specs.Store.{StoreReads, Reads, put_by, given_by}
 use Rattle.thy_cell.specs.Checkpoint.{with_dirty}
-use Rattle.thy_control.specs.Find.{entry_for, index_for, with_found}
-use Rattle.thy_control.specs.Keys.{block_key, page_key}
+use Rattle.thy_control.specs.Find.{index_for, with_found}
+use Rattle.thy_control.specs.Keys.{block_key}
 use Rattle.thy_control.specs.Tables.{btt_with, answer_of}
-use Rattle.thy_control.specs.State.{State, IsTables, IsSized, cell_of, reads, penult_of, last_of, work_of}
+use Rattle.thy_control.specs.State.{State, IsTables, IsSized, cell_of, reads}
 use Rattle.thy_control.specs.Rules.{with_block, with_cell, rule_for, cell_before, devices_after, state_after, IsWholeState}
 use Rattle.thy_control.specs.Versions.{KeepsCheckpoints, PutsWork, work_given}
 use Rattle.thy_control.proofs.FindLemmas.{entry_for-none}
 use Rattle.thy_control.proofs.CellLemmas.{IsPlace-penult, IsPlace-last, IsPlace-work, IsPlace-store, IsWithin-cell_of}
 use Rattle.thy_control.proofs.StateLemmas.{IsListed, IsListed-with_block, OrDirty, cell-with_block_other, cell-with_block_same, cell-with_cell_same, cell-with_cell_other, sound-with_block, rule-with_block}
 use Rattle.thy_control.proofs.PutLemmas.{has_free, IsWithin-before}
-use Rattle.thy_control.proofs.OwnLemmas.{owner, Owns, Owns-cell_of, owned-penult, owned-last, owned-work, owned-store, owned-apart}
+use Rattle.thy_control.proofs.OwnLemmas.{owner, Owns-cell_of, owned-penult, owned-last, owned-work, owned-store, owned-apart}
 
 -- a block that is out of its entry stands where its page does
 placed-out : (s : Site) (j block i k : ℕ) → placed Out s (record { i = i; j = j; block = block }) ≡ placed Out s (record { i = k; j = j; block = block })

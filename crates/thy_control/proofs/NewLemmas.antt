@@ -1,13 +1,12 @@
 -- A new controller's tables.
-use Rattle.std.proofs.Common.{◌≡◌, ℕ, ◌<◌, ◌≤◌, Bool, true, false, length, replicate, refl, sym, ◌∙◌, ap, subst, arith, Option, Some, None, position, List, get_or}
-use Rattle.std.proofs.lemmas.Bool.{cases_lt}
+use Rattle.std.proofs.Common.{◌≡◌, ℕ, true, false, length, replicate, refl, sym, ◌∙◌, ap, subst, arith, None}
 use Rattle.std.proofs.lemmas.Grind.{common_steps}
 use Rattle.thy_base.specs.declared.config.Parameters.{Parameters}
 use Rattle.thy_base.specs.Geometry.{IsInRange, memory_blocks}
 use Rattle.thy_base.specs.Places.{dram_blocks}
 use Rattle.thy_base.specs.Store.{page_of}
 use Rattle.thy_dram.specs.Contents.{Contents}
-use Rattle.thy_table.specs.Listing.{Listing, IsListing, entry_at, lists, place_of, empty_table}
+use Rattle.thy_table.specs.Listing.{IsListing, entry_at, lists, place_of, empty_table}
 use Rattle.thy_table.proofs.FirstLemmas.{position-none}
 use Rattle.thy_tables.specs.declared.block_entry.BttEntry.{BttEntry}
 use Rattle.thy_tables.specs.declared.page_entry.PttEntry.{PttEntry}
@@ -18,7 +17,7 @@ use Rattle.thy_cell.specs.Sound.{IsSoundCell}
 use Rattle.thy_cell.specs.Steps.{NewCellsAreSound}
 use Rattle.thy_control.specs.Find.{entry_for, index_for}
 use Rattle.thy_control.specs.Keys.{block_key, page_key}
-use Rattle.thy_control.specs.State.{State, IsTables, cell_of, new_state}
+use Rattle.thy_control.specs.State.{IsTables, cell_of, new_state}
 use Rattle.thy_control.proofs.FindLemmas.{entry_for-none}
 
 module _ {E : Type 0} (key : E → ℕ) (size numbers : ℕ) where

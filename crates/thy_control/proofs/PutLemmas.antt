@@ -1,17 +1,16 @@
 -- A store of a block in its parts: what each call of it needs, and what it leaves.
-use Rattle.std.proofs.Common.{◌≡◌, ◌≢◌, ◌⊎◌, ℕ, ◌<◌, ◌≤◌, ◌+◌, ◌*◌, ◌/◌, Bool, true, false, List, length, refl, sym, ◌∙◌, ap, subst, arith, Option, Some, None, Result, Ok, Err, OnErr, count_by, is_none, position}
+use Rattle.std.proofs.Common.{◌≡◌, ◌≢◌, ℕ, ◌<◌, true, length, refl, sym, ◌∙◌, ap, subst, arith, Some, None, Result, Ok, Err, OnErr}
 use Rattle.std.proofs.lemmas.List.{length-set}
 use Rattle.thy_base.specs.declared.block.Block.{Block}
-use Rattle.thy_base.specs.declared.config.Parameters.{Parameters}
 use Rattle.thy_base.specs.declared.place.Place.{Place}
 use Rattle.thy_base.specs.Device.{Device, block_at}
 use Rattle.thy_base.specs.Geometry.{memory_blocks}
-use Rattle.thy_base.specs.Places.{number_of, dram_blocks}
+use Rattle.thy_base.specs.Places.{number_of}
 use Rattle.thy_base.specs.Store.{page_of}
 use Rattle.thy_dram.specs.Contents.{Contents}
-use Rattle.thy_place.specs.Devices.{Devices, AreSized, devices_of, read_at, written_at}
+use Rattle.thy_place.specs.Devices.{Devices, devices_of, written_at}
 use Rattle.thy_place.proofs.PlaceLemmas.{AreSized-written_at}
-use Rattle.thy_table.specs.Listing.{Listing, IsListing, entry_at, lists, place_of, free_place, free_count, with_entry}
+use Rattle.thy_table.specs.Listing.{Listing, IsListing, entry_at, lists, free_place, free_count}
 use Rattle.thy_table.proofs.IndexLemmas.{count-none, lists-key}
 use Rattle.thy_tables.specs.declared.block_entry.BttEntry.{BttEntry}
 use Rattle.thy_tables.specs.declared.page_entry.PttEntry.{PttEntry}
@@ -25,7 +24,7 @@ use Rattle.thy_cell.specs.Cells.{seat_of}
 use Rattle.thy_cell.specs.Sound.{IsWithin, IsSoundCell, IsWhole}
 use Rattle.thy_cell.specs.Rules.{store_rule, store_place, after_store}
 use Rattle.thy_cell.specs.Store.{put_by}
-use Rattle.thy_control.specs.Find.{entry_for, index_for}
+use Rattle.thy_control.specs.Find.{index_for}
 use Rattle.thy_control.specs.Keys.{block_key, page_key}
 use Rattle.thy_control.specs.Tables.{btt_with, btt_after, ptt_after, counts_after}
 use Rattle.thy_control.specs.State.{State, IsTables, IsSized, cell_of, reads}

@@ -1,8 +1,6 @@
 -- The cells of all blocks after a store of one.
-use Rattle.std.proofs.Common.{◌≡◌, ◌≢◌, ◌⊎◌, ℕ, ◌<◌, ◌≤◌, ◌+◌, ◌/◌, Bool, true, false, ◌==◌, length, refl, sym, ◌∙◌, ap, subst, inl, inr, arith, Option, Some, None, unwrap_or}
+use Rattle.std.proofs.Common.{◌≡◌, ◌≢◌, ◌⊎◌, ℕ, ◌<◌, Bool, true, false, length, refl, sym, ◌∙◌, ap, subst, inl, inr, arith, Option, Some, None, unwrap_or}
 use Rattle.std.proofs.lemmas.Bool.{cases_eq}
-use Rattle.std.proofs.lemmas.List.{length-set}
-use Rattle.thy_base.specs.Geometry.{memory_blocks}
 use Rattle.thy_base.specs.Store.{page_of}
 use Rattle.thy_table.specs.Listing.{Listing, entry_at, place_of, free_place, with_entry}
 use Rattle.thy_tables.specs.declared.block_entry.BttEntry.{BttEntry}
@@ -17,12 +15,12 @@ use Rattle.thy_cell.specs.Sound.{IsSoundCell, IsWhole}
 use Rattle.thy_cell.specs.Rules.{store_rule, after_store}
 use Rattle.thy_cell.specs.Checkpoint.{with_dirty}
 use Rattle.thy_cell.proofs.StoreLemmas.{IsSoundCell-dirty, IsSoundCell-after_store}
-use Rattle.thy_control.specs.Find.{entry_for, index_for, with_entry_for}
+use Rattle.thy_control.specs.Find.{entry_for, index_for}
 use Rattle.thy_control.specs.Keys.{block_key, page_key}
-use Rattle.thy_control.specs.State.{State, IsTables, cell_of}
+use Rattle.thy_control.specs.State.{State, cell_of}
 use Rattle.thy_control.specs.Tables.{btt_with}
-use Rattle.thy_control.specs.Rules.{with_block, with_cell, rule_for, cell_before, IsWholeState}
-use Rattle.thy_control.proofs.FindLemmas.{found_entry, entry_for-some, entry_for-none, entry_for-with, place_of-with_other, place_of-with_same, length-with, numbers-with, place_of-set, index_for-set, entry_for-set_same, entry_for-set_other}
+use Rattle.thy_control.specs.Rules.{with_block, with_cell, rule_for}
+use Rattle.thy_control.proofs.FindLemmas.{found_entry, entry_for-none, entry_for-with, place_of-with_other, place_of-with_same, place_of-set, entry_for-set_same, entry_for-set_other}
 use Rattle.thy_control.proofs.CellLemmas.{block-cell_of, page-cell_of}
 
 -- soundness does not look at places in the tables
@@ -190,8 +188,11 @@ pub cell-with_cell_other : (rule : StoreRule) (b : ℕ) (t : State) (m : ℕ) �
 cell-with_cell_other ToFrame b t m l other =
     let e : PttEntry = record (cell_of t b).page { dirty = true } in
     elim (cases_eq (page_of m) (page_of b)) as (λ _. OrDirty ToFrame (cell_of t m) (cell_of (with_cell ToFrame (after_store ToFrame (cell_of t b)) t) m)) [
-      | inl q ↦ inr (refl, cell-set_page_same t b e (page-cell_of t b) (l.page refl) m q
-          ∙ ap (λ (n : ℕ). record (cell_of t m) { page = record (entry_for page_key no_page n t.ptt) { dirty = true } }) (sym q))
+      | inl q ↦ inr (
+        refl,
+        cell-set_page_same t b e (page-cell_of t b) (l.page refl) m q
+            ∙ ap (λ (n : ℕ). record (cell_of t m) { page = record (entry_for page_key no_page n t.ptt) { dirty = true } }) (sym q),
+      )
       | inr o ↦ inl (cell-set_page_other t b e (page-cell_of t b) (l.page refl) m o)
     ]
 cell-with_cell_other ToBuffer b t m l other = inl (cell-set_block_other t b (after_store ToBuffer (cell_of t b)).entry (block-cell_of t b) (l.block (λ e. cc)) m other)

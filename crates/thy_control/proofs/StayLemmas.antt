@@ -1,5 +1,5 @@
 -- A store, done or failed, leaves what every call between two checkpoints has to leave.
-use Rattle.std.proofs.Common.{◌≡◌, ◌≢◌, ◌⊎◌, ℕ, ◌<◌, Bool, true, false, List, length, get_or, slice_set, map, option_and_then, is_none, if◌then◌else◌, refl, sym, ◌∙◌, ap, subst, inl, inr, arith, Option, Some, None, Result, Ok, Err, OnOk, OnErr}
+use Rattle.std.proofs.Common.{◌≡◌, ◌≢◌, ℕ, ◌<◌, Bool, true, false, List, length, get_or, slice_set, map, option_and_then, is_none, if◌then◌else◌, refl, sym, ◌∙◌, ap, subst, inl, inr, arith, Option, Some, None, Result, Ok, Err, OnOk, OnErr}
 use Rattle.std.proofs.lemmas.Bool.{cases_eq}
 use Rattle.std.proofs.lemmas.List.{length-set, length-map, get_or-map, get_or-set_same, get_or-set_other, ext_get_or}
 use Rattle.std.proofs.lemmas.List.Quantifiers.{position-Some}
@@ -10,34 +10,32 @@ use Rattle.thy_base.specs.declared.place.Place.{Place}
 use Rattle.thy_base.specs.declared.store.Stored.{Stored}
 use Rattle.thy_base.specs.declared.nvm.NvmError.{NvmError}
 use Rattle.thy_base.specs.Device.{Device, IsFramed, newest, written_to}
-use Rattle.thy_base.specs.Geometry.{memory_blocks}
-use Rattle.thy_base.specs.Places.{in_dram, number_of, first_home, image_blocks}
+use Rattle.thy_base.specs.Places.{in_dram, number_of}
 use Rattle.thy_base.proofs.DeviceLemmas.{newest-written_to_other}
 use Rattle.thy_dram.specs.Contents.{written}
-use Rattle.thy_place.specs.Devices.{Devices, devices_of, written_at}
+use Rattle.thy_place.specs.Devices.{Devices, devices_of}
 use Rattle.thy_table.specs.Listing.{Listing, entry_at, place_of, free_place, free_count, with_entry, added_at}
 use Rattle.thy_tables.specs.declared.block_entry.BttEntry.{BttEntry}
 use Rattle.thy_tables.specs.declared.page_entry.PttEntry.{PttEntry}
-use Rattle.thy_tables.specs.declared.block_entry.Pending.TheVariants.{Settled}
 use Rattle.thy_tables.specs.BlockEntry.{new_entry}
 use Rattle.thy_tables.specs.PageEntry.{no_page}
 use Rattle.thy_cell.specs.declared.cell.Cell.{Cell}
 use Rattle.thy_cell.specs.declared.cell.StoreRule.{StoreRule}
 use Rattle.thy_cell.specs.declared.cell.StoreRule.TheVariants.{ToFrame, ToBuffer, ToNvm, PendingFirst}
-use Rattle.thy_cell.specs.Cells.{seat_of, penult, target}
+use Rattle.thy_cell.specs.Cells.{penult, target}
 use Rattle.thy_cell.specs.Rules.{store_place, after_store}
 use Rattle.thy_cell.specs.Store.{put_by}
 use Rattle.thy_cell.specs.Checkpoint.{IsCopied, with_dirty}
-use Rattle.thy_control.specs.Find.{with_found, entry_for}
+use Rattle.thy_control.specs.Find.{with_found}
 use Rattle.thy_control.specs.Keys.{block_key, page_key}
-use Rattle.thy_control.specs.Tables.{btt_with, btt_after, ptt_after}
+use Rattle.thy_control.specs.Tables.{btt_with}
 use Rattle.thy_control.specs.State.{State, IsTables, IsSized, cell_of, reads}
-use Rattle.thy_control.specs.Rules.{with_block, with_cell, rule_for, cell_before, devices_after, state_after, IsWholeState, FailsStore}
+use Rattle.thy_control.specs.Rules.{with_block, with_cell, rule_for, cell_before, devices_after, state_after, FailsStore}
 use Rattle.thy_control.specs.Versions.{KeepsCheckpoints}
-use Rattle.thy_control.specs.Stays.{Stays, StaysUp, AreCopied, HoldAll, Lists, lists0, lists1, listed_block, listed_page}
+use Rattle.thy_control.specs.Stays.{Stays, HoldAll, lists0, lists1, listed_block, listed_page}
 use Rattle.thy_control.specs.Guarded.{LeavesGuarded}
 use Rattle.thy_control.proofs.FindLemmas.{found_entry, entry_for-some}
-use Rattle.thy_control.proofs.StateLemmas.{IsListed, IsListed-with_block, OrDirty, cell-with_block_other, cell-with_block_same, cell-with_cell_same, cell-with_cell_other, entry-with_block}
+use Rattle.thy_control.proofs.StateLemmas.{IsListed, IsListed-with_block, OrDirty, cell-with_block_other, cell-with_block_same, cell-with_cell_same, cell-with_cell_other}
 use Rattle.thy_control.proofs.PutLemmas.{has_free}
 use Rattle.thy_control.proofs.KeepLemmas.{same_start, or_dirty, penult-new, target-new}
 use Rattle.thy_control.proofs.GuardLemmas.{behind_slots}

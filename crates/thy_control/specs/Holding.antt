@@ -6,7 +6,7 @@ use Rattle.thy_base.specs.Device.{Device, block_at}
 use Rattle.thy_base.specs.Geometry.{memory_blocks}
 use Rattle.thy_base.specs.Places.{image_blocks}
 use Rattle.thy_base.specs.Store.{Holding}
-use Rattle.thy_table.specs.Listing.{Listing, free_count, passes}
+use Rattle.thy_table.specs.Listing.{free_count, passes}
 use Rattle.thy_tables.specs.declared.block_entry.BttEntry.{BttEntry}
 use Rattle.thy_tables.specs.declared.page_entry.PttEntry.{PttEntry}
 use Rattle.thy_tables.specs.declared.block_entry.Pending.{Pending}

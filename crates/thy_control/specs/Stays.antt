@@ -1,9 +1,8 @@
 -- What every call between two checkpoints keeps, one that fails too: what a cut may leave of both checkpoints, and both
 -- tables.
-use Rattle.std.specs.Prelude.{◌≡◌, ◌≢◌, ℕ, ◌<◌, Bool, true, false, List, length, map, option_and_then, Option, Some, None, refl}
+use Rattle.std.specs.Prelude.{◌≡◌, ℕ, ◌<◌, Bool, true, false, List, length, map, option_and_then, Option, Some, None, refl}
 use Rattle.std.proofs.Common.{sym, ◌∙◌, ap, subst}
 use Rattle.thy_base.specs.declared.config.Parameters.{Parameters}
-use Rattle.thy_base.specs.declared.place.Place.{Place}
 use Rattle.thy_base.specs.Device.{Device, newest}
 use Rattle.thy_base.specs.Geometry.{memory_blocks}
 use Rattle.thy_base.specs.Places.{number_of, first_home}
@@ -14,11 +13,10 @@ use Rattle.thy_tables.specs.declared.block_entry.Version.TheVariants.{Out, Alt}
 use Rattle.thy_tables.specs.declared.page_entry.PttEntry.{PttEntry}
 use Rattle.thy_tables.specs.declared.page_entry.Site.{Site}
 use Rattle.thy_tables.specs.declared.page_entry.Site.TheVariants.{AtHome, AtAlternate}
-use Rattle.thy_cell.specs.declared.cell.Cell.{Cell}
 use Rattle.thy_cell.specs.Cells.{penult, target}
 use Rattle.thy_cell.specs.Sound.{Holds}
 use Rattle.thy_cell.specs.Checkpoint.{IsCopied}
-use Rattle.thy_control.specs.State.{State, IsSized, cell_of, reads}
+use Rattle.thy_control.specs.State.{State, cell_of, reads}
 use Rattle.thy_control.specs.Versions.{KeepsCheckpoints}
 
 -- what a checkpoint lists by what it says of an entry's block or page

@@ -104,7 +104,13 @@ fn add_entry(btt: &mut Btt, b: u64) -> usize
 }
 
 /// What a rule puts at its place: the block that is stored, or what the buffer holds.
-fn block_to_put(rule: StoreRule, cell: &Cell, block: &Block, geometry: &Geometry, dram: &Dram) -> Block
+fn block_to_put(
+    rule: StoreRule,
+    cell: &Cell,
+    block: &Block,
+    geometry: &Geometry,
+    dram: &Dram,
+) -> Block
     requires entry { cell.now.i < geometry.now.btt }
     requires dram { length dram.now.blocks ≡ dram_blocks geometry.now }
     ensures { result ≡ put_by rule block.now (λ place. block_at dram.now.blocks (number_of geometry.now place)) cell.now }
@@ -247,12 +253,7 @@ impl Control {
     /// Stores block `b`, or makes the copy that has to go first: one write at one place. Both checkpoints of every
     /// block stay. Where the NVM failed, the place, which no checkpoint has, may hold the block or not; an
     /// entry without work may have come.
-    pub fn store<N: Nvm>(
-        &mut self,
-        b: u64,
-        block: &Block,
-        nvm: &mut N,
-    ) -> Result<Stored, NvmError>
+    pub fn store<N: Nvm>(&mut self, b: u64, block: &Block, nvm: &mut N) -> Result<Stored, NvmError>
         requires block { b < memory_blocks self.old.p }
         requires sized { IsSized self.old (N.device nvm.old) }
         requires up { (N.device nvm.old).down ≡ false }
@@ -310,7 +311,13 @@ impl Control {
         self.btt.lists_once();
         let cell = Cell { i, ..found };
         let put = block_to_put(rule, &cell, block, &self.geometry, &self.dram);
-        write_place(cell.store_place(rule), &put, &self.geometry, nvm, &mut self.dram)?;
+        write_place(
+            cell.store_place(rule),
+            &put,
+            &self.geometry,
+            nvm,
+            &mut self.dram,
+        )?;
         set_cell(rule, &cell.after(rule), &mut self.btt, &mut self.ptt);
         self.btt.lists_once();
         self.ptt.lists_once();

@@ -1,5 +1,5 @@
-use Rattle.std.proofs.Common.{◌≡◌, ℕ, sym, ◌∙◌, ap, refl, Option, Some, None, unwrap_or}
-use Rattle.thy_table.specs.Listing.{Listing, place_of, free_place, added}
+use Rattle.std.proofs.Common.{◌≡◌, ℕ, sym, ◌∙◌, ap, refl, Option}
+use Rattle.thy_table.specs.Listing.{Listing, added}
 use Rattle.thy_tables.specs.declared.block_entry.BttEntry.{BttEntry}
 use Rattle.thy_tables.specs.BlockEntry.{new_entry}
 use Rattle.thy_control.specs.Find.{index_for, with_found, with_entry_for}

@@ -1,11 +1,11 @@
-use Rattle.std.proofs.Common.{◌≡◌, ℕ, Bool, false, sym, ◌∙◌, ap, subst}
+use Rattle.std.proofs.Common.{◌≡◌, ℕ, false, sym, ◌∙◌, ap, subst}
 use Rattle.thy_base.specs.declared.config.Parameters.{Parameters}
 use Rattle.thy_base.specs.Geometry.{memory_blocks}
 use Rattle.thy_table.specs.Listing.{Listing, empty_table}
 use Rattle.thy_tables.specs.declared.block_entry.BttEntry.{BttEntry}
 use Rattle.thy_tables.specs.declared.page_entry.PttEntry.{PttEntry}
 use Rattle.thy_switch.specs.Counts.{Tally, uncounted}
-use Rattle.thy_control.specs.State.{State, IsTables, new_state}
+use Rattle.thy_control.specs.State.{IsTables}
 use Rattle.thy_control.proofs.NewLemmas.{IsTables-new}
 use Rattle.thy_control.proofs.control.Control.new.Goals as goal
 

@@ -1,6 +1,5 @@
-use Rattle.std.proofs.Common.{◌≡◌, ◌≢◌, ℕ, ◌<◌, ◌*◌, ◌/◌, Bool, true, false, length, sym, ◌∙◌, ap, subst, refl, arith}
+use Rattle.std.proofs.Common.{◌≡◌, ℕ, ◌<◌, length, sym, ◌∙◌, ap, subst, arith}
 use Rattle.thy_base.specs.declared.block.Block.{Block}
-use Rattle.thy_base.specs.declared.config.Parameters.{Parameters}
 use Rattle.thy_base.specs.declared.place.Place.{Place}
 use Rattle.thy_base.specs.Device.{Device, HasFailedToWrite}
 use Rattle.thy_base.specs.Geometry.{memory_blocks}
@@ -10,14 +9,13 @@ use Rattle.thy_table.specs.Listing.{Listing, IsListing, free_count}
 use Rattle.thy_tables.specs.declared.block_entry.BttEntry.{BttEntry}
 use Rattle.thy_cell.specs.declared.cell.Cell.{Cell}
 use Rattle.thy_cell.specs.declared.cell.StoreRule.{StoreRule}
-use Rattle.thy_cell.specs.Cells.{seat_of}
 use Rattle.thy_cell.specs.Rules.{store_place}
 use Rattle.thy_place.specs.Devices.{Devices, devices_of}
 use Rattle.thy_control.specs.Keys.{block_key, page_key}
 use Rattle.thy_control.specs.Tables.{answer_of}
 use Rattle.thy_cell.specs.Store.{put_by}
 use Rattle.thy_control.specs.State.{State, IsTables, reads}
-use Rattle.thy_control.specs.Rules.{with_block, rule_for, cell_before, devices_after, state_after, FailsStore}
+use Rattle.thy_control.specs.Rules.{rule_for, cell_before, devices_after}
 use Rattle.thy_control.proofs.CellLemmas.{IsPlace-store}
 use Rattle.thy_control.proofs.PutLemmas.{Way, AreAfter, IsTables-with_block, IsTables-after, IsWithin-before, way_rule, way_table, way_cell, way_place, way_put, way_after, way_devices, way_all, way_state, way_failed, may_set_block, may_set_page, OnErr-of}
 use Rattle.thy_control.proofs.control.Control.put.Goals as goal
