@@ -9,7 +9,7 @@ use Rattle.thy_base.specs.declared.block.Block.{Block}
 use Rattle.thy_base.specs.declared.place.Place.{Place}
 use Rattle.thy_base.specs.declared.store.Stored.{Stored}
 use Rattle.thy_base.specs.declared.nvm.NvmError.{NvmError}
-use Rattle.thy_base.specs.Device.{Device, IsFramed, newest, written_to}
+use Rattle.thy_base.specs.Device.{Device, HasFailed, IsFramed, newest, written_to}
 use Rattle.thy_base.specs.Places.{in_dram, number_of}
 use Rattle.thy_base.proofs.DeviceLemmas.{newest-written_to_other}
 use Rattle.thy_dram.specs.Contents.{written}
@@ -32,7 +32,7 @@ use Rattle.thy_control.specs.Tables.{btt_with}
 use Rattle.thy_control.specs.State.{State, IsTables, IsSized, cell_of, reads}
 use Rattle.thy_control.specs.Rules.{with_block, with_cell, rule_for, cell_before, devices_after, state_after, FailsStore}
 use Rattle.thy_control.specs.Versions.{KeepsCheckpoints}
-use Rattle.thy_control.specs.Stays.{Stays, HoldAll, lists0, lists1, listed_block, listed_page}
+use Rattle.thy_control.specs.Stays.{Stays, stays_same, HoldAll, lists0, lists1, listed_block, listed_page}
 use Rattle.thy_control.specs.Guarded.{LeavesGuarded}
 use Rattle.thy_control.proofs.FindLemmas.{found_entry, entry_for-some}
 use Rattle.thy_control.proofs.StateLemmas.{IsListed, IsListed-with_block, OrDirty, cell-with_block_other, cell-with_block_same, cell-with_cell_same, cell-with_cell_other}
@@ -241,3 +241,25 @@ stays_by b block s m t n (Ok x) e f k g keeps holds tables sized room up framed 
     (subst (λ (y : Device). HoldAll s m → HoldAll (state_after b block s m) y) f (subst (λ (y : State). HoldAll s m → HoldAll y n) e holds))))
 stays_by b block s m t n (Err x) e f k g keeps holds tables sized room up framed guarded =
     subst (λ (y : State). Stays s m y n) (sym k) (Stays-failed b block s m n tables room g framed guarded)
+
+-- a read leaves the controller as it is, and the NVM too unless it failed
+pub stays_read : (s : State) (m n : Device) (r : Result Block NvmError) → OnOk r (n ≡ m) → OnErr r (HasFailed m n) → IsFramed m n → Stays s m s n
+stays_read s m n (Ok x) same failed framed = subst (λ (k : Device). Stays s m s k) (sym same) (stays_same s m)
+stays_read s m n (Err x) same failed framed = record {
+  as_long = framed.blocks;
+  same_p = refl;
+  same_way = refl;
+  down = λ d. failed.down;
+  same0 = refl;
+  same1 = refl;
+  penult_same = λ b l. refl;
+  target_same = λ b l. refl;
+  low = λ y l. record { no_more = λ b h. failed.no_more y b h };
+  old = λ b l. record { no_more = λ y h. failed.no_more (number_of s.p (penult (cell_of s b))) y h };
+  next = λ all b l. record { no_more = λ y h. failed.no_more (number_of s.p (target (cell_of s b))) y h };
+  copied = λ all. all;
+  up = λ d. absurd (not_up failed.down d);
+}
+  where
+    not_up : {a : Bool} → a ≡ true → a ≡ false → ⊥
+    not_up e f = cc

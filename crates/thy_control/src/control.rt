@@ -241,6 +241,7 @@ impl Control {
         requires sized { IsSized self.now (N.device nvm.old) }
         ensures ok { IfOk result (λ block. block ≡ work_of self.now (N.device nvm.old) b) }
         ensures same { OnOk result (N.device nvm.new ≡ N.device nvm.old) }
+        ensures stays { Stays self.now (N.device nvm.old) self.now (N.device nvm.new) }
         ensures err { OnErr result (HasFailed (N.device nvm.old) (N.device nvm.new)) }
         ensures frame { IsFramed (N.device nvm.old) (N.device nvm.new) }
         ensures cause { CountsFault result (N.device nvm.old).faults (N.device nvm.new).faults }
