@@ -33,6 +33,7 @@ use Rattle.thy_protocol.specs.Moves.{standing, Move, Goes, Seals, Readies, Commi
 use Rattle.thy_protocol.specs.Alternating.{alternating, copy_blocks, copy_place, CommitsStart}
 use Rattle.thy_protocol.proofs.LayoutLemmas.{decode_by-whole, decode_by-zero, looked_nothing, looked_parts}
 use Rattle.thy_protocol.proofs.KeepsLemmas.{at-start, Keeps-empty}
+use Rattle.thy_base.proofs.RangeLemmas.{console_most}
 
 -- ---- what is written decodes
 
@@ -45,7 +46,7 @@ pub decode_by-written : (p : Parameters) (ceiling : ℕ) (cpu : CpuState) (epoch
     → decode_by (alternating p ceiling) g ≡ At epoch (state_from p cpu (memory_in (alternating p ceiling) g))
 decode_by-written p ceiling cpu epoch g range r most below sized header commit slot =
     let l : Layout = alternating p ceiling in
-    let room : console_room p < 2 ^ 64 = omega (arith, range.console_most) in
+    let room : console_room p < 2 ^ 64 = omega (arith, console_most p range) in
     let small : epoch < 2 ^ 64 = omega arith in
     let e : epoch_of (block_at g 1) ≡ epoch = ap epoch_of commit ∙ epoch_of-commit_of epoch small in
     decode_by-whole l g epoch (state_from p cpu (memory_in l g)) (record {
