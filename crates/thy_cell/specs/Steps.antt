@@ -3,12 +3,14 @@ use Rattle.std.specs.Prelude.{◌≡◌, ◌≢◌, ℕ, ◌%◌, ◌<◌, Bool,
 use Rattle.thy_base.specs.declared.block.Block.{Block}
 use Rattle.thy_base.specs.declared.config.Parameters.{Parameters}
 use Rattle.thy_base.specs.declared.place.Place.{Place}
+use Rattle.thy_tables.specs.declared.block_entry.Pending.TheVariants.{Settled}
 use Rattle.thy_tables.specs.declared.block_entry.Working.TheVariants.{InBuffer}
 use Rattle.thy_cell.specs.declared.cell.Cell.{Cell}
 use Rattle.thy_tables.specs.BlockEntry.{new_entry}
 use Rattle.thy_tables.specs.PageEntry.{promoted_page, no_page, is_framed}
 use Rattle.thy_cell.specs.Cells.{seat_of, frame_at, penult, target, last, work}
 use Rattle.thy_cell.specs.Sound.{IsWithin, IsSoundCell, Holds, Puts}
+use Rattle.thy_cell.specs.Rules.{after_copy}
 use Rattle.thy_cell.specs.Store.{Reads}
 use Rattle.thy_cell.specs.Checkpoint.{merged, with_dirty, with_filled, with_issued}
 
@@ -64,6 +66,14 @@ PromotionKeepsOthers =
     → c.page.filled ≢ c.entry.block % 64 → c.page.filled < 64 → c.entry.block % 64 < 64
     → ReadsSame old new c → Holds old c
     → Keeps under_way old new c (with_filled c)
+
+-- the copy of a pending version to the place that is to have it
+abbrev pub CopyKeeps : Type 0
+CopyKeeps =
+    (p : Parameters) (c : Cell) (old new : Place → Block)
+    → IsWithin p (seat_of c) → IsSoundCell true c → c.entry.pend ≢ Settled
+    → Puts p (target c) (old (last c)) old new
+    → Keeps true old new c (after_copy c)
 
 -- the write of a busy page's next block to its target, for that block
 abbrev pub PageWriteKeeps : Type 0

@@ -1,14 +1,15 @@
 //! Laws of the rules, each the contract of a function that does nothing.
 ghost use Rattle.thy_cell.specs.Store.{StoreKeepsSound, StoreGoesElsewhere, StoreLeavesTarget, StoreKeepsPlaces, StoreReads, StoreHolds};
 ghost use Rattle.thy_cell.specs.Checkpoint.{SealKeepsSound, SealMoves, CommitKeepsSound, CommitMoves};
-ghost use Rattle.thy_cell.specs.Steps.{NewCellsAreSound, MergeKeeps, DirtyKeeps, PromotionKeeps, PromotionKeepsOthers, PageWriteKeeps, PageWriteKeepsOthers, OthersKeep};
+ghost use Rattle.thy_cell.specs.Steps.{NewCellsAreSound, MergeKeeps, DirtyKeeps, PromotionKeeps, PromotionKeepsOthers, CopyKeeps, PageWriteKeeps, PageWriteKeepsOthers, OthersKeep};
 
 /// A store leaves the entries of its block sound.
 pub fn a_store_keeps_entries_sound()
     ensures { StoreKeepsSound }
 {}
 
-/// A store, and the copy that may go first, write no place of either checkpoint.
+/// A store, and the copy that may go first, write neither the place of the committed version nor that of the version of the
+/// checkpoint under way.
 pub fn a_store_goes_elsewhere()
     ensures { StoreGoesElsewhere }
 {}
@@ -76,6 +77,11 @@ pub fn a_promotion_keeps_versions()
 /// And those of the other blocks of the page.
 pub fn a_promotion_keeps_others()
     ensures { PromotionKeepsOthers }
+{}
+
+/// The copy of a pending version to its place keeps every version of its block.
+pub fn a_copy_keeps_versions()
+    ensures { CopyKeeps }
 {}
 
 /// The write of a page's block keeps every version of it.
