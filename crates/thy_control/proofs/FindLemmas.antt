@@ -1,0 +1,194 @@
+-- What a table has for a number, after one entry was changed or added.
+use Rattle.std.proofs.Common.{◌≡◌, ◌≢◌, ℕ, ◌<◌, Bool, ◌==◌, List, length, get_or, slice_set, Option, Some, None, is_none, position, unwrap_or, refl, sym, ◌∙◌, ap, inl, inr, arith}
+use Rattle.std.proofs.lemmas.Bool.{cases_eq, ne_eqb}
+use Rattle.std.proofs.lemmas.List.{length-set, get_or-set_same, get_or-set_other}
+use Rattle.std.proofs.lemmas.List.Quantifiers.{position-Some}
+use Rattle.thy_table.specs.Listing.{Listing, entry_at, lists, place_of, free_place, with_entry, added_at}
+use Rattle.thy_table.proofs.IndexLemmas.{lists-some, lists-key, None-is_none}
+use Rattle.thy_table.proofs.FirstLemmas.{position-first, position-none, none-position}
+use Rattle.thy_control.specs.Find.{entry_found, entry_for, index_for, with_found, with_entry_for}
+
+-- lists that a test cannot tell apart
+pub position-pointwise : {X : Type 0} (p : X → Bool) (d : X) (xs ys : List X) → length ys ≡ length xs
+    → ((k : ℕ) → p (get_or ys k d) ≡ p (get_or xs k d)) → position p ys ≡ position p xs
+position-pointwise p d xs ys same each = by_place (position p xs) refl where
+  by_place : (o : Option ℕ) → position p xs ≡ o → position p ys ≡ position p xs
+  by_place None e = position-none p d ys (λ k l. each k ∙ none-position p d xs e k (omega arith)) ∙ sym e
+  by_place (Some i) e =
+      let first = position-Some p xs i d e in
+      let inside : i < length ys = omega (arith, first.0) in
+      position-first p d ys i inside (each i ∙ first.1) (λ k l. each k ∙ first.2 k l) ∙ sym e
+
+module _ {E : Type 0} (key : E → ℕ) (new : ℕ → E) where
+  -- the entry that lists a number
+  pub found_entry : (t : Listing E) (n i : ℕ) → place_of key n t ≡ Some i
+      → (e : E) × (entry_at t i ≡ Some e) × (key e ≡ n) × (i < length t.entries)
+  found_entry t n i h =
+      let first = position-Some (lists key n) t.entries i None h in
+      let some = lists-some key n (entry_at t i) first.1 in
+      (some.0, some.1, some.2, first.0)
+
+  pub entry_for-some : (t : Listing E) (n i : ℕ) (e : E) → place_of key n t ≡ Some i → entry_at t i ≡ Some e → entry_for key new n t ≡ e
+  entry_for-some t n i e h s = ap (λ o. entry_found key new o n t) h ∙ ap (λ o. unwrap_or o (new n)) s
+
+  pub entry_for-none : (t : Listing E) (n : ℕ) → place_of key n t ≡ None → entry_for key new n t ≡ new n
+  entry_for-none t n h = ap (λ o. entry_found key new o n t) h
+
+  -- it is of that number
+  pub key-entry_for : ((n : ℕ) → key (new n) ≡ n) → (t : Listing E) (n : ℕ) → key (entry_for key new n t) ≡ n
+  key-entry_for new_key t n = by_place (place_of key n t) refl where
+    by_place : (o : Option ℕ) → place_of key n t ≡ o → key (entry_for key new n t) ≡ n
+    by_place None h = ap key (entry_for-none t n h) ∙ new_key n
+    by_place (Some i) h = let f = found_entry t n i h in ap key (entry_for-some t n i f.0 h f.1) ∙ f.2
+
+  -- and its place is one of the table
+  pub index_for-inside : (t : Listing E) (n : ℕ) → 0 < length t.entries → index_for key new n t < length t.entries
+  index_for-inside t n some = by_place (place_of key n t) refl where
+    by_place : (o : Option ℕ) → place_of key n t ≡ o → index_for key new n t < length t.entries
+    by_place None h = let e : index_for key new n t ≡ 0 = ap (λ o. unwrap_or o 0) h in omega arith
+    by_place (Some i) h =
+        let f = found_entry t n i h in
+        let e : index_for key new n t ≡ i = ap (λ o. unwrap_or o 0) h in
+        omega (arith, e, f.3)
+
+  -- after another entry of the same number was put in the place of one
+  module _ (t : Listing E) (i : ℕ) (old e : E) (was : entry_at t i ≡ Some old) (same : key e ≡ key old) (inside : i < length t.entries) where
+    lists-set : (n k : ℕ) → lists key n (entry_at (with_entry i (Some e) t) k) ≡ lists key n (entry_at t k)
+    lists-set n k = elim (cases_eq k i) as (λ _. lists key n (entry_at (with_entry i (Some e) t) k) ≡ lists key n (entry_at t k)) [
+      | inl s ↦
+          ap (λ j. lists key n (entry_at (with_entry i (Some e) t) j)) s ∙ ap (lists key n) (get_or-set_same t.entries i (Some e) None inside)
+          ∙ ap (λ m. m == n) same ∙ sym (ap (lists key n) was) ∙ sym (ap (λ j. lists key n (entry_at t j)) s)
+      | inr o ↦ ap (lists key n) (get_or-set_other t.entries i k (Some e) None o)
+    ]
+
+    pub place_of-set : (n : ℕ) → place_of key n (with_entry i (Some e) t) ≡ place_of key n t
+    place_of-set n = position-pointwise (lists key n) None t.entries (slice_set t.entries i (Some e)) (length-set t.entries i (Some e)) (lists-set n)
+
+    pub index_for-set : (n : ℕ) → index_for key new n (with_entry i (Some e) t) ≡ index_for key new n t
+    index_for-set n = ap (λ o. unwrap_or o 0) (place_of-set n)
+
+    pub entry_for-set_same : (n : ℕ) → place_of key n t ≡ Some i → entry_for key new n (with_entry i (Some e) t) ≡ e
+    entry_for-set_same n h =
+        entry_for-some (with_entry i (Some e) t) n i e (place_of-set n ∙ h) (get_or-set_same t.entries i (Some e) None inside)
+
+    pub entry_for-set_other : (n : ℕ) → n ≢ key old → entry_for key new n (with_entry i (Some e) t) ≡ entry_for key new n t
+    entry_for-set_other n other = by_place (place_of key n t) refl where
+      by_place : (o : Option ℕ) → place_of key n t ≡ o → entry_for key new n (with_entry i (Some e) t) ≡ entry_for key new n t
+      by_place None h = entry_for-none (with_entry i (Some e) t) n (place_of-set n ∙ h) ∙ sym (entry_for-none t n h)
+      by_place (Some k) h =
+          let f = found_entry t n k h in
+          let apart : k ≢ i = λ s. (
+          let both : Some f.0 ≡ Some old = sym f.1 ∙ ap (entry_at t) s ∙ was in
+          let one : f.0 ≡ old = cc in
+          other (sym f.2 ∙ ap key one)) in
+          entry_for-some (with_entry i (Some e) t) n k f.0 (place_of-set n ∙ h) (get_or-set_other t.entries i k (Some e) None apart ∙ f.1)
+          ∙ sym (entry_for-some t n k f.0 h f.1)
+
+  -- after a new entry was put in a free place
+  module _ (new_key : (n : ℕ) → key (new n) ≡ n) (t : Listing E) (b i : ℕ) (unlisted : place_of key b t ≡ None) (lowest : free_place t ≡ Some i) where
+    free_there : (entry_at t i ≡ None) × (i < length t.entries)
+    free_there = let first = position-Some is_none t.entries i None lowest in (None-is_none (entry_at t i) first.1, first.0)
+
+    now_there : entry_at (with_entry i (Some (new b)) t) i ≡ Some (new b)
+    now_there = get_or-set_same t.entries i (Some (new b)) None free_there.1
+
+    pub place_of-new_same : place_of key b (with_entry i (Some (new b)) t) ≡ Some i
+    place_of-new_same =
+        let inside : i < length (slice_set t.entries i (Some (new b))) = omega (arith, length-set t.entries i (Some (new b)), free_there.1) in
+        position-first (lists key b) None (slice_set t.entries i (Some (new b))) i inside
+        (lists-key key b (entry_at (with_entry i (Some (new b)) t) i) (new b) now_there (new_key b))
+        (λ k l.
+        let apart : k ≢ i = λ s. absurd (omega arith) in
+        let here : k < length t.entries = omega (arith, free_there.1) in
+        ap (lists key b) (get_or-set_other t.entries i k (Some (new b)) None apart) ∙ none-position (lists key b) None t.entries unlisted k here)
+
+    pub place_of-new_other : (n : ℕ) → n ≢ b → place_of key n (with_entry i (Some (new b)) t) ≡ place_of key n t
+    place_of-new_other n other =
+        position-pointwise (lists key n) None t.entries (slice_set t.entries i (Some (new b))) (length-set t.entries i (Some (new b)))
+        (λ k. elim (cases_eq k i) as (λ _. lists key n (entry_at (with_entry i (Some (new b)) t) k) ≡ lists key n (entry_at t k)) [
+          | inl s ↦
+              ap (λ j. lists key n (entry_at (with_entry i (Some (new b)) t) j)) s ∙ ap (lists key n) now_there
+              ∙ ap (λ m. m == n) (new_key b) ∙ ne_eqb b n (λ e. other (sym e)) ∙ sym (ap (lists key n) free_there.0) ∙ sym (ap (λ j. lists key n (entry_at t j)) s)
+          | inr o ↦ ap (lists key n) (get_or-set_other t.entries i k (Some (new b)) None o)
+        ])
+
+    pub entry_for-new : (n : ℕ) → entry_for key new n (with_entry i (Some (new b)) t) ≡ entry_for key new n t
+    entry_for-new n = elim (cases_eq n b) as (λ _. entry_for key new n (with_entry i (Some (new b)) t) ≡ entry_for key new n t) [
+      | inl s ↦
+          ap (λ m. entry_for key new m (with_entry i (Some (new b)) t)) s
+          ∙ entry_for-some (with_entry i (Some (new b)) t) b i (new b) place_of-new_same now_there
+          ∙ sym (entry_for-none t b unlisted) ∙ sym (ap (λ m. entry_for key new m t) s)
+      | inr o ↦ by_place n o (place_of key n t) refl
+    ] where
+      by_place : (n : ℕ) → n ≢ b → (o : Option ℕ) → place_of key n t ≡ o → entry_for key new n (with_entry i (Some (new b)) t) ≡ entry_for key new n t
+      by_place n o None h = entry_for-none (with_entry i (Some (new b)) t) n (place_of-new_other n o ∙ h) ∙ sym (entry_for-none t n h)
+      by_place n o (Some k) h =
+          let f = found_entry t n k h in
+          let apart : k ≢ i = λ s. (let both : Some f.0 ≡ None = sym f.1 ∙ ap (entry_at t) s ∙ free_there.0 in cc) in
+          entry_for-some (with_entry i (Some (new b)) t) n k f.0 (place_of-new_other n o ∙ h) (get_or-set_other t.entries i k (Some (new b)) None apart ∙ f.1)
+          ∙ sym (entry_for-some t n k f.0 h f.1)
+
+  -- a table with an entry for a number: every number has the entry that it had
+  pub entry_for-with : ((n : ℕ) → key (new n) ≡ n) → (t : Listing E) (b n : ℕ)
+      → entry_for key new n (with_entry_for key new b t) ≡ entry_for key new n t
+  entry_for-with new_key t b n = by_place (place_of key b t) refl where
+    by_free : place_of key b t ≡ None → (o : Option ℕ) → free_place t ≡ o → entry_for key new n (record t { entries = added_at o (new b) t.entries }) ≡ entry_for key new n t
+    by_free h None f = refl
+    by_free h (Some i) f = entry_for-new new_key t b i h f n
+
+    by_place : (o : Option ℕ) → place_of key b t ≡ o → entry_for key new n (with_found key new o b t) ≡ entry_for key new n t
+    by_place (Some i) h = refl
+    by_place None h = by_free h (free_place t) refl
+
+  -- and every other number the place that it had
+  pub place_of-with_other : ((n : ℕ) → key (new n) ≡ n) → (t : Listing E) (b n : ℕ) → n ≢ b
+      → place_of key n (with_entry_for key new b t) ≡ place_of key n t
+  place_of-with_other new_key t b n other = by_place (place_of key b t) refl where
+    by_free : place_of key b t ≡ None → (o : Option ℕ) → free_place t ≡ o → place_of key n (record t { entries = added_at o (new b) t.entries }) ≡ place_of key n t
+    by_free h None f = refl
+    by_free h (Some i) f = place_of-new_other new_key t b i h f n other
+
+    by_place : (o : Option ℕ) → place_of key b t ≡ o → place_of key n (with_found key new o b t) ≡ place_of key n t
+    by_place (Some i) h = refl
+    by_place None h = by_free h (free_place t) refl
+
+  -- where an entry is free, the number is listed then
+  pub place_of-with_same : ((n : ℕ) → key (new n) ≡ n) → (t : Listing E) (b : ℕ) → (free_place t ≡ None → ⊥)
+      → (i : ℕ) × (place_of key b (with_entry_for key new b t) ≡ Some i)
+  place_of-with_same new_key t b some = by_place (place_of key b t) refl where
+    by_free : place_of key b t ≡ None → (o : Option ℕ) → free_place t ≡ o → (i : ℕ) × (place_of key b (record t { entries = added_at o (new b) t.entries }) ≡ Some i)
+    by_free h None f = absurd (some f)
+    by_free h (Some i) f = (i, place_of-new_same new_key t b i h f)
+
+    by_place : (o : Option ℕ) → place_of key b t ≡ o → (i : ℕ) × (place_of key b (with_found key new o b t) ≡ Some i)
+    by_place (Some i) h = (i, h)
+    by_place None h = by_free h (free_place t) refl
+
+  -- it has as many entries
+  pub length-with : (t : Listing E) (b : ℕ) → length (with_entry_for key new b t).entries ≡ length t.entries
+  length-with t b = by_place (place_of key b t) where
+    by_free : (o : Option ℕ) → length (added_at o (new b) t.entries) ≡ length t.entries
+    by_free None = refl
+    by_free (Some i) = length-set t.entries i (Some (new b))
+
+    by_place : (o : Option ℕ) → length (with_found key new o b t).entries ≡ length t.entries
+    by_place (Some i) = refl
+    by_place None = by_free (free_place t)
+
+  pub numbers-with : (t : Listing E) (b : ℕ) → (with_entry_for key new b t).numbers ≡ t.numbers
+  numbers-with t b = by_place (place_of key b t) where
+    by_free : (o : Option ℕ) → (record t { entries = added_at o (new b) t.entries }).numbers ≡ t.numbers
+    by_free None = refl
+    by_free (Some i) = refl
+
+    by_place : (o : Option ℕ) → (with_found key new o b t).numbers ≡ t.numbers
+    by_place (Some i) = refl
+    by_place None = by_free (free_place t)
+
+  -- the place of a new entry is the lowest free one
+  pub index_for-with_new : ((n : ℕ) → key (new n) ≡ n) → (t : Listing E) (b i : ℕ) → place_of key b t ≡ None → free_place t ≡ Some i
+      → index_for key new b (with_entry_for key new b t) ≡ i
+  index_for-with_new new_key t b i unlisted lowest =
+      ap (λ o. index_for key new b (with_found key new o b t)) unlisted
+      ∙ ap (λ o. index_for key new b (record t { entries = added_at o (new b) t.entries })) lowest
+      ∙ ap (λ o. unwrap_or o 0) (place_of-new_same new_key t b i unlisted lowest)

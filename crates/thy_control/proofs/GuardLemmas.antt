@@ -1,0 +1,131 @@
+-- A store, done or failed, makes nothing possible at the places of the checkpoints.
+use Rattle.std.proofs.Common.{◌≡◌, ◌≢◌, ◌⊎◌, ℕ, ◌<◌, ◌≤◌, Bool, true, false, if◌then◌else◌, refl, sym, ◌∙◌, ap, subst, inl, inr, arith, Contains, Some, Result, Ok, Err, OnOk, OnErr}
+use Rattle.std.proofs.lemmas.Bool.{cases_eq}
+use Rattle.thy_base.specs.declared.block.Block.{Block}
+use Rattle.thy_base.specs.declared.config.Parameters.{Parameters}
+use Rattle.thy_base.specs.declared.place.Place.{Place}
+use Rattle.thy_base.specs.declared.place.Place.TheVariants.{Home, AlternateBlock, AlternatePage, Buffer, Frame}
+use Rattle.thy_base.specs.declared.store.Stored.{Stored}
+use Rattle.thy_base.specs.declared.nvm.NvmError.{NvmError}
+use Rattle.thy_base.specs.Device.{Device, HasFailedToWrite, possible, written_to}
+use Rattle.thy_base.specs.Geometry.{memory_blocks}
+use Rattle.thy_base.specs.Places.{in_dram, number_of, first_home, IsPlace}
+use Rattle.thy_base.proofs.DeviceLemmas.{no_more-written_to_other}
+use Rattle.thy_dram.specs.Contents.{written}
+use Rattle.thy_place.specs.Devices.{Devices, NoMoreAt, devices_of}
+use Rattle.thy_place.proofs.PlaceLemmas.{no_more-written_other, no_more-failed_other}
+use Rattle.thy_table.specs.Listing.{free_count}
+use Rattle.thy_tables.specs.declared.block_entry.BttEntry.{BttEntry}
+use Rattle.thy_tables.specs.declared.block_entry.Version.{Version}
+use Rattle.thy_tables.specs.declared.block_entry.Version.TheVariants.{Out, Alt}
+use Rattle.thy_tables.specs.declared.block_entry.Pending.TheVariants.{Settled}
+use Rattle.thy_tables.specs.declared.page_entry.Site.{Site}
+use Rattle.thy_tables.specs.declared.page_entry.Site.TheVariants.{AtHome, AtAlternate}
+use Rattle.thy_cell.specs.declared.cell.Cell.{Cell}
+use Rattle.thy_cell.specs.declared.cell.StoreRule.{StoreRule}
+use Rattle.thy_cell.specs.Cells.{Seat, seat_of, placed, penult, target}
+use Rattle.thy_cell.specs.Rules.{store_rule, store_place}
+use Rattle.thy_cell.specs.Store.{StoreGoesElsewhere, StoreLeavesTarget, put_by}
+use Rattle.thy_control.specs.State.{State, IsTables, cell_of, reads}
+use Rattle.thy_control.specs.Rules.{with_block, rule_for, cell_before, devices_after, IsWholeState, FailsStore}
+use Rattle.thy_control.specs.Guarded.{LeavesGuarded}
+use Rattle.thy_control.proofs.CellLemmas.{IsPlace-penult, IsPlace-target, IsPlace-store, IsWithin-cell_of}
+use Rattle.thy_control.proofs.StateLemmas.{IsListed, IsListed-with_block, cell-with_block_other, entry-with_block, sound-with_block, rule-with_block}
+use Rattle.thy_control.proofs.PutLemmas.{has_free, IsWithin-before}
+use Rattle.thy_control.proofs.OwnLemmas.{owner, Owns-cell_of, owned-penult, owned-target, owned-store, owned-apart}
+use Rattle.thy_control.proofs.KeepLemmas.{same_start, penult-new, target-new}
+
+-- places of checkpoints are in the NVM
+placed-in_nvm : (v : Version) (s : Site) (x : Seat) → in_dram (placed v s x) ≡ false
+placed-in_nvm Alt s x = refl
+placed-in_nvm Out AtAlternate x = refl
+placed-in_nvm Out AtHome x = refl
+
+-- and every place of the NVM lies behind the slots
+pub behind_slots : (p : Parameters) (x : Place) → in_dram x ≡ false → first_home p ≤ number_of p x
+behind_slots p (Home b) e = omega arith
+behind_slots p (AlternateBlock i) e = omega arith
+behind_slots p (AlternatePage j k) e = omega arith
+behind_slots p (Buffer i) e = cc
+behind_slots p (Frame j k) e = cc
+
+low-written : (side : Bool) (at x : ℕ) (block : Block) (d : Devices) → (side ≡ false → x ≢ at)
+    → NoMoreAt x d.nvm (if side then record d { dram = written d.dram at block } else record d { nvm = written_to d.nvm at block }).nvm
+low-written true at x block d other = record { no_more = λ b h. h }
+low-written false at x block d other = record { no_more = λ b h. no_more-written_to_other d.nvm at block x b (other refl) h }
+
+low-failed : (at x : ℕ) (block : Block) (m n : Device) → x ≢ at → HasFailedToWrite at block m n → NoMoreAt x m n
+low-failed at x block m n other failed = record {
+  no_more = λ b h. elim (failed.no_more x b h) as (λ _. Contains (possible m x) b) [ inl before ↦ before | inr here ↦ absurd (other here.0) ];
+}
+
+-- a store was done, or it failed
+abbrev pub Outcome : ℕ → Block → State → Device → Device → Type 0
+Outcome b block s m n = (n ≡ (devices_after b block s m).nvm) ⊎ FailsStore b block s m n
+
+module _ (b : ℕ) (block : Block) (s : State) (m n : Device) where
+  low_of : Outcome b block s m n → (x : ℕ) → x < first_home s.p → NoMoreAt x m n
+  unfolding devices_after
+  low_of (inl e) x l =
+      let place : Place = store_place (rule_for b s) (cell_before b s) in
+      subst (λ (k : Device). NoMoreAt x m k) (sym e)
+      (low-written (in_dram place) (number_of s.p place) x (put_by (rule_for b s) block (reads s m) (cell_before b s)) (devices_of m s.dram)
+      (λ side same. let behind = behind_slots s.p place side in absurd (omega (arith, behind, same, l))))
+  low_of (inr f) x l =
+      let place : Place = store_place (rule_for b s) (cell_before b s) in
+      low-failed (number_of s.p place) x (put_by (rule_for b s) block (reads s m) (cell_before b s)) m n
+      (λ same. let behind = behind_slots s.p place f.in_nvm in absurd (omega (arith, behind, same, l))) f.failed
+
+  -- at every other place of the NVM
+  at_other : Outcome b block s m n → (q : Place) → IsPlace s.p (store_place (rule_for b s) (cell_before b s)) → IsPlace s.p q → in_dram q ≡ false
+      → q ≢ store_place (rule_for b s) (cell_before b s) → NoMoreAt (number_of s.p q) m n
+  unfolding devices_after
+  at_other (inl e) q there is side ne =
+      subst (λ (k : Device). NoMoreAt (number_of s.p q) m k) (sym e)
+      (no_more-written_other s.p (devices_of m s.dram) (store_place (rule_for b s) (cell_before b s)) q (put_by (rule_for b s) block (reads s m) (cell_before b s)) there is side ne)
+  at_other (inr f) q there is side ne =
+      no_more-failed_other s.p m n (store_place (rule_for b s) (cell_before b s)) q (put_by (rule_for b s) block (reads s m) (cell_before b s)) there is f.in_nvm side ne f.failed
+
+pub LeavesGuarded-after : StoreGoesElsewhere → StoreLeavesTarget → (b : ℕ) (block : Block) (s : State) (m n : Device) → IsTables s → IsWholeState s → b < memory_blocks s.p → 0 < free_count s.btt
+    → Outcome b block s m n → LeavesGuarded s m n
+unfolding cell_before
+LeavesGuarded-after elsewhere leaves b block s m n t whole inside room outcome =
+    let r : StoreRule = rule_for b s in
+    let u : State = with_block r b s in
+    let c : Cell = cell_of u b in
+    let place : Place = store_place r c in
+    let listed : IsListed r b u = IsListed-with_block r b s refl (has_free s.btt room) in
+    let there : IsPlace s.p place = IsPlace-store s.p r c (IsWithin-before s b t inside) in
+    let same_rule : store_rule c ≡ r = rule-with_block r b s in
+    let sound = sound-with_block r b s b (t.cells b inside) in
+    let owns : owner u place ≡ Some b = owned-store r u b listed in
+    let free = elsewhere s.under_way c sound (whole.whole b inside) in
+    let not_penult : penult c ≢ place = subst (λ (q : StoreRule). penult c ≢ store_place q c) same_rule free.not_penult in
+    let start0 : penult c ≡ penult (cell_of s b) = same_start penult r b s (λ k h. penult-new (cell_of s b) k b h) in
+    let start1 : target c ≡ target (cell_of s b) = same_start target r b s (λ k h. target-new (cell_of s b) k b h) in
+    let entry : c.entry ≡ (cell_of s b).entry = entry-with_block r b s b in
+    record {
+      low = low_of b block s m n outcome;
+      old = λ k l. at_other b block s m n outcome (penult (cell_of s k)) there (IsPlace-penult s.p (cell_of s k) (IsWithin-cell_of s k t l))
+          (placed-in_nvm (cell_of s k).entry.v0 (cell_of s k).page.place (seat_of (cell_of s k)))
+          (elim (cases_eq k b) as (λ _. penult (cell_of s k) ≢ place) [
+            | inl e ↦ λ same. not_penult (start0 ∙ ap (λ (j : ℕ). penult (cell_of s j)) (sym e) ∙ same)
+            | inr ne ↦ λ same. owned-apart u k b (penult (cell_of u k)) place ne (owned-penult u k (cell_of u k) (Owns-cell_of u k)) owns (ap penult (cell-with_block_other r b s k ne) ∙ same)
+          ]);
+      next = λ all k l. at_other b block s m n outcome (target (cell_of s k)) there (IsPlace-target s.p (cell_of s k) (IsWithin-cell_of s k t l))
+          (placed-in_nvm (cell_of s k).entry.v1 (cell_of s k).page.target (seat_of (cell_of s k)))
+          (elim (cases_eq k b) as (λ _. target (cell_of s k) ≢ place) [
+            | inl e ↦ λ same.
+                let settled : c.entry.pend ≡ Settled = ap (λ (x : BttEntry). x.pend) entry ∙ (all b inside).copied in
+                let not_target : target c ≢ place
+                = subst (λ (q : StoreRule). target c ≢ store_place q c) same_rule (leaves s.under_way c sound (whole.whole b inside) (λ f. cc)) in
+                not_target (start1 ∙ ap (λ (j : ℕ). target (cell_of s j)) (sym e) ∙ same)
+            | inr ne ↦ λ same. owned-apart u k b (target (cell_of u k)) place ne (owned-target u k (cell_of u k) (Owns-cell_of u k)) owns (ap target (cell-with_block_other r b s k ne) ∙ same)
+          ]);
+    }
+
+-- whichever way a call ended
+pub guarded_by : (b : ℕ) (block : Block) (s : State) (m n : Device) (r : Result Stored NvmError)
+    → OnOk r (n ≡ (devices_after b block s m).nvm) → OnErr r (FailsStore b block s m n) → (Outcome b block s m n → LeavesGuarded s m n) → LeavesGuarded s m n
+guarded_by b block s m n (Ok x) e f h = h (inl e)
+guarded_by b block s m n (Err x) e f h = h (inr f)

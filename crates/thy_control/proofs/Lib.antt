@@ -1,0 +1,14 @@
+pub mod FindLemmas
+pub mod CellLemmas
+pub mod NewLemmas
+pub mod StateLemmas
+pub mod PutLemmas
+pub mod OwnLemmas
+pub mod KeepLemmas
+pub mod GuardLemmas
+pub mod HoldLemmas
+pub mod StayLemmas
+pub mod HoldingLemmas
+pub mod CountLemmas
+pub mod StoreLemmas
+pub mod OnceLemmas

@@ -1,0 +1,235 @@
+-- What a load and a store leave, seen as those of a store of blocks.
+use Rattle.std.proofs.Common.{◌≡◌, ◌≢◌, ℕ, ◌+◌, ◌<◌, ◌≤◌, ◌==◌, ◌&&◌, Bool, true, false, not, if◌then◌else◌, length, get_or, slice_set, map, refl, sym, ◌∙◌, ap, subst, inl, inr, arith, Option, Some, None, Result, Ok, Err, IfOk, OnOk, OnErr}
+use Rattle.std.specs.List.{range_with_len}
+use Rattle.std.proofs.lemmas.Bool.{cases_eq, and_parts, eqb-true}
+use Rattle.std.proofs.lemmas.List.{length-set, get_or-set_same, get_or-set_other}
+use Rattle.std.proofs.lemmas.List.FromFn.{length-map-range_with_len, get_or-map-range_with_len, fill_by_all}
+use Rattle.thy_base.specs.declared.block.Block.{Block}
+use Rattle.thy_base.specs.declared.config.Parameters.{Parameters}
+use Rattle.thy_base.specs.declared.store.Stored.{Stored}
+use Rattle.thy_base.specs.declared.store.Stored.TheVariants.{Done, CopyFirst}
+use Rattle.thy_base.specs.declared.nvm.NvmError.{NvmError}
+use Rattle.thy_base.specs.Device.{Device, HasFailed, IsFramed, zero_block, written_to}
+use Rattle.thy_base.specs.Geometry.{memory_blocks}
+use Rattle.thy_base.specs.Places.{image_blocks}
+use Rattle.thy_base.specs.Store.{page_of, IsStored, HasStored}
+use Rattle.thy_dram.specs.Contents.{written}
+use Rattle.thy_place.specs.Devices.{Devices, devices_of}
+use Rattle.thy_table.specs.Listing.{free_count, passes, place_of}
+use Rattle.thy_tables.specs.declared.page_entry.PttEntry.{PttEntry}
+use Rattle.thy_tables.specs.declared.block_entry.Pending.TheVariants.{FromBuffer}
+use Rattle.thy_tables.specs.PageEntry.{no_page, is_framed}
+use Rattle.thy_cell.specs.declared.cell.StoreRule.{StoreRule}
+use Rattle.thy_cell.specs.declared.cell.StoreRule.TheVariants.{ToFrame, ToBuffer, ToNvm, PendingFirst}
+use Rattle.thy_cell.specs.Sound.{IsWhole}
+use Rattle.thy_cell.specs.Cells.{agree}
+use Rattle.thy_cell.specs.Rules.{store_place, after_store}
+use Rattle.thy_cell.specs.Store.{put_by}
+use Rattle.thy_control.specs.Keys.{page_key}
+use Rattle.thy_control.specs.Tables.{btt_with, btt_after, answer_of}
+use Rattle.thy_control.specs.State.{State, IsTables, IsSized, cell_of, work_of, reads}
+use Rattle.thy_control.specs.Rules.{with_block, rule_for, cell_before, devices_after, state_after, IsWholeState, FailsStore}
+use Rattle.thy_control.specs.Versions.{PutsWork}
+use Rattle.thy_control.specs.Stays.{Stays}
+use Rattle.thy_control.specs.Holding.{works, is_promoted, waiting, promoted, holding_of}
+use Rattle.thy_control.specs.Once.{Once, Writes}
+use Rattle.thy_control.proofs.HoldingLemmas.{not-of, works-sized}
+use Rattle.thy_control.proofs.FindLemmas.{found_entry, entry_for-none, entry_for-some}
+use Rattle.thy_control.proofs.CellLemmas.{IsPlace-store}
+use Rattle.thy_control.proofs.StateLemmas.{IsListed, IsListed-with_block}
+use Rattle.thy_control.proofs.PutLemmas.{has_free, IsWithin-before}
+use Rattle.thy_control.proofs.CountLemmas.{free-with, free-cell, waiting-with, waiting-cell, waiting-copied, promoted-cell, rule_of-first, none-counted}
+
+-- what is ready has no promotion unfinished, and the NVM is up
+unpromoted : (framed fresh : Bool) → (not framed && fresh) ≡ false → framed ≡ false → fresh ≡ false
+unpromoted true fresh h e = cc
+unpromoted false fresh h e = h
+
+whole_page : (s : State) (b : ℕ) → promoted s.ptt ≡ 0 → (o : Option ℕ) → place_of page_key (page_of b) s.ptt ≡ o → IsWhole (cell_of s b).page
+whole_page s b none None h =
+    let is : (cell_of s b).page ≡ no_page (page_of b) = entry_for-none page_key no_page s.ptt (page_of b) h in
+    record { framed = λ f. ap (λ (x : PttEntry). x.fresh) is }
+whole_page s b none (Some i) h =
+    let there = found_entry page_key no_page s.ptt (page_of b) i h in
+    let is : (cell_of s b).page ≡ there.0 = entry_for-some page_key no_page s.ptt (page_of b) i there.0 h there.1 in
+    let no_more : is_promoted there.0 ≡ false = sym (ap (passes is_promoted) there.1) ∙ none-counted (passes is_promoted) s.ptt.entries i None none there.3 in
+    record { framed = λ f. ap (λ (x : PttEntry). x.fresh) is ∙ unpromoted (is_framed there.0) there.0.fresh no_more (sym (ap is_framed is) ∙ f) }
+
+pub ready-whole : (s : State) (m : Device) → (holding_of s m).ready ≡ true → IsWholeState s × (m.down ≡ false)
+ready-whole s m h =
+    let both = and_parts (promoted s.ptt == 0) (not m.down) h in
+    (record { whole = λ b l. whole_page s b (eqb-true (promoted s.ptt) 0 both.0) (place_of page_key (page_of b) s.ptt) refl }, not-of m.down both.1)
+
+-- blocks by a function that gives the same but for one number
+blocks_set : (f g : ℕ → Block) (size b : ℕ) (block : Block) → g b ≡ block → ((k : ℕ) → k < size → k ≢ b → g k ≡ f k)
+    → map g (range_with_len 0 size) ≡ slice_set (map f (range_with_len 0 size)) b block
+blocks_set f g size b block here others =
+    let old = map f (range_with_len 0 size) in
+    sym (fill_by_all g (slice_set old b block) size zero_block (length-set old b block ∙ length-map-range_with_len f 0 size)
+    (λ k l. elim (cases_eq k b) as (λ _. get_or (slice_set old b block) k zero_block ≡ g k) [
+      | inl e ↦
+          ap (λ j. get_or (slice_set old b block) j zero_block) e ∙ get_or-set_same old b block zero_block (omega (arith, l, e, length-map-range_with_len f 0 size))
+          ∙ sym here ∙ ap g (sym e)
+      | inr o ↦ get_or-set_other old b k block zero_block o ∙ get_or-map-range_with_len f 0 size k k zero_block l (omega arith) ∙ sym (others k l o)
+    ]))
+
+blocks_same : (f g : ℕ → Block) (size : ℕ) → ((k : ℕ) → k < size → g k ≡ f k) → map g (range_with_len 0 size) ≡ map f (range_with_len 0 size)
+blocks_same f g size each =
+    sym (fill_by_all g (map f (range_with_len 0 size)) size zero_block (length-map-range_with_len f 0 size)
+    (λ k l. get_or-map-range_with_len f 0 size k k zero_block l (omega arith) ∙ sym (each k l)))
+
+sized_still : (s t : State) (m n : Device) → IsSized s m → t.p ≡ s.p → length n.image ≡ length m.image → IsSized t n
+sized_still s t m n sized same long = record { nvm = long ∙ sized.nvm ∙ ap image_blocks (sym same) }
+
+module _ (s : State) (m : Device) (t : State) (n : Device) (sized : IsSized s m) (up : m.down ≡ false) (up_still : n.down ≡ m.down) (stays : Stays s m t n) where
+  works_now : works t n ≡ map (work_of t n) (range_with_len 0 (memory_blocks s.p))
+  works_now =
+      works-sized t n (sized_still s t m n sized stays.same_p stays.as_long) (up_still ∙ up)
+      ∙ ap (λ (p : Parameters). map (work_of t n) (range_with_len 0 (memory_blocks p))) stays.same_p
+
+  works-done : (b : ℕ) (block : Block) → PutsWork Done b block s m t n → works t n ≡ slice_set (works s m) b block
+  works-done b block w =
+      works_now ∙ blocks_set (work_of s m) (work_of t n) (memory_blocks s.p) b block w.work_here w.work_others
+      ∙ ap (λ l. slice_set l b block) (sym (works-sized s m sized up))
+
+  works-copied : (b : ℕ) (block : Block) → PutsWork CopyFirst b block s m t n → works t n ≡ works s m
+  works-copied b block w =
+      works_now
+      ∙ blocks_same (work_of s m) (work_of t n) (memory_blocks s.p) (λ k l. elim (cases_eq k b) as (λ _. work_of t n k ≡ work_of s m k) [
+        | inl e ↦ ap (work_of t n) e ∙ w.work_here ∙ ap (work_of s m) (sym e)
+        | inr o ↦ w.work_others k l o
+      ])
+      ∙ sym (works-sized s m sized up)
+
+-- what the counts are after a store by a rule
+pub record AreCounted (r : StoreRule) (s : State) (m : Device) (t : State) (n : Device) : Type 0 where
+  pub free : free_count s.btt ≤ free_count t.btt + 1
+  pub free_copied : r ≡ PendingFirst → free_count s.btt ≡ free_count t.btt
+  pub whole : promoted t.ptt ≡ promoted s.ptt
+  pub down : n.down ≡ m.down
+  pub owed : r ≢ PendingFirst → waiting t.btt ≡ waiting s.btt
+  pub owed_copied : r ≡ PendingFirst → waiting t.btt + 1 ≡ waiting s.btt
+
+copied_less : (q : StoreRule) (b : ℕ) (s : State) → q ≡ PendingFirst → IsListed q b (with_block q b s) → (cell_of s b).entry.pend ≡ FromBuffer
+    → waiting (btt_after q (after_store q (cell_of (with_block q b s) b)) (btt_with q b s.btt)) + 1 ≡ waiting s.btt
+copied_less PendingFirst b s e l was = waiting-copied b s l was
+copied_less ToFrame b s e l was = cc
+copied_less ToBuffer b s e l was = cc
+copied_less ToNvm b s e l was = cc
+
+first_waits : (b : ℕ) (s : State) → rule_for b s ≡ PendingFirst → (cell_of s b).entry.pend ≡ FromBuffer
+unfolding rule_for
+first_waits b s e =
+    let c = cell_of s b in
+    rule_of-first (is_framed c.page) c.page.busy c.entry.work (agree c.entry.v0 c.entry.v1) c.entry.pend e
+
+down-on : (side : Bool) (at : ℕ) (block : Block) (d : Devices)
+    → (if side then record d { dram = written d.dram at block } else record d { nvm = written_to d.nvm at block }).nvm.down ≡ d.nvm.down
+down-on true at block d = refl
+down-on false at block d = refl
+
+AreCounted-after : (b : ℕ) (block : Block) (s : State) (m : Device) → 0 < free_count s.btt
+    → AreCounted (rule_for b s) s m (state_after b block s m) (devices_after b block s m).nvm
+unfolding state_after devices_after cell_before
+AreCounted-after b block s m room =
+    let r : StoreRule = rule_for b s in
+    let u : State = with_block r b s in
+    let listed : IsListed r b u = IsListed-with_block r b s refl (has_free s.btt room) in
+    record {
+      free = omega (arith, free-with r b s.btt, free-cell r b u listed);
+      free_copied = λ e. sym (free-cell r b u listed ∙ ap (λ (q : StoreRule). free_count (btt_with q b s.btt)) e);
+      whole = promoted-cell r b u listed;
+      down = down-on _ _ _ (devices_of m s.dram);
+      owed = λ other. waiting-cell r b u listed other ∙ waiting-with r b s.btt;
+      owed_copied = λ e. copied_less r b s e listed (first_waits b s e);
+    }
+
+-- so it stored, or made a copy first
+module _ (b : ℕ) (block : Block) (s : State) (m : Device) (t : State) (n : Device) (sized : IsSized s m) (up : m.down ≡ false) (stays : Stays s m t n) where
+  ready-same : (r : StoreRule) → AreCounted r s m t n → (holding_of t n).ready ≡ (holding_of s m).ready
+  ready-same r c =
+      ap (λ (k : ℕ). k == 0 && not n.down) c.whole
+      ∙ ap (λ (d : Bool). promoted s.ptt == 0 && not d) c.down
+
+  is_stored : (r : StoreRule) → r ≢ PendingFirst → AreCounted r s m t n → PutsWork Done b block s m t n
+      → IsStored b block (holding_of s m) (holding_of t n)
+  is_stored r other c w = record {
+    blocks = works-done s m t n sized up c.down stays b block w;
+    free = c.free;
+    ready = ready-same r c;
+    closed = λ o. refl;
+    owed = λ o. omega (arith, c.owed other);
+  }
+
+  HasStored-by : (r : StoreRule) → AreCounted r s m t n → PutsWork (answer_of r) b block s m t n
+      → HasStored (answer_of r) b block (holding_of s m) (holding_of t n)
+  HasStored-by ToFrame c w = is_stored ToFrame (λ e. cc) c w
+  HasStored-by ToBuffer c w = is_stored ToBuffer (λ e. cc) c w
+  HasStored-by ToNvm c w = is_stored ToNvm (λ e. cc) c w
+  HasStored-by PendingFirst c w = record {
+    blocks = works-copied s m t n sized up c.down stays b block w;
+    free = omega (arith, c.free_copied refl);
+    ready = ready-same PendingFirst c;
+    open_page = λ o. inl refl;
+    owed = λ o. omega (arith, c.owed_copied refl);
+  }
+
+pub stored_by : (b : ℕ) (block : Block) (s : State) (m : Device) (t : State) (n : Device) (r : Result Stored NvmError)
+    → OnOk r (t ≡ state_after b block s m) → OnOk r (n ≡ (devices_after b block s m).nvm)
+    → IfOk r (λ stored. stored ≡ answer_of (rule_for b s)) → IfOk r (λ stored. PutsWork stored b block s m t n)
+    → IsSized s m → m.down ≡ false → 0 < free_count s.btt → Stays s m t n
+    → IfOk r (λ stored. HasStored stored b block (holding_of s m) (holding_of t n))
+stored_by b block s m t n (Ok x) e f a w sized up room stays =
+    let counted : AreCounted (rule_for b s) s m t n
+    = subst (λ (y : State). AreCounted (rule_for b s) s m y n) (sym e)
+    (subst (λ (y : Device). AreCounted (rule_for b s) s m (state_after b block s m) y) (sym f) (AreCounted-after b block s m room)) in
+    subst (λ (y : Stored). HasStored y b block (holding_of s m) (holding_of t n)) (sym a)
+    (HasStored-by b block s m t n sized up stays (rule_for b s) counted (subst (λ (y : Stored). PutsWork y b block s m t n) a w))
+stored_by b block s m t n (Err x) e f a w sized up room stays = tt
+
+-- one action of both devices
+dram-after : (b : ℕ) (block : Block) (s : State) (m : Device) → (state_after b block s m).dram ≡ (devices_after b block s m).dram
+unfolding state_after
+dram-after b block s m = refl
+
+Writes-after : (b : ℕ) (block : Block) (s : State) (m : Device) → IsTables s → b < memory_blocks s.p
+    → Writes s.p (devices_of m s.dram) (devices_after b block s m)
+unfolding devices_after
+Writes-after b block s m t l = record {
+  place = store_place (rule_for b s) (cell_before b s);
+  block = put_by (rule_for b s) block (reads s m) (cell_before b s);
+  there = IsPlace-store s.p (rule_for b s) (cell_before b s) (IsWithin-before s b t l);
+  written = refl;
+}
+
+pub once_stored : (b : ℕ) (block : Block) (s : State) (m : Device) (t : State) (n : Device) (r : Result Stored NvmError)
+    → OnOk r (t ≡ state_after b block s m) → OnOk r (n ≡ (devices_after b block s m).nvm)
+    → OnErr r (t ≡ with_block (rule_for b s) b s) → OnErr r (FailsStore b block s m n)
+    → IsTables s → b < memory_blocks s.p → IsFramed m n → Stays s m t n → Once s m t n
+once_stored b block s m t n (Ok x) e f k g tables l framed stays =
+    let both : devices_of n t.dram ≡ devices_after b block s m
+    = ap (λ (d : Device). devices_of d t.dram) f
+    ∙ ap (λ (y : State). devices_of (devices_after b block s m).nvm y.dram) e
+    ∙ ap (devices_of (devices_after b block s m).nvm) (dram-after b block s m) in
+    record {
+      action = inr (inl (subst (λ (d : Devices). Writes s.p (devices_of m s.dram) d) (sym both) (Writes-after b block s m tables l)));
+      frame = framed;
+      stays = stays;
+    }
+once_stored b block s m t n (Err x) e f k g tables l framed stays = record {
+  action = inr (inr (inr (record {
+    place = store_place (rule_for b s) (cell_before b s);
+    block = put_by (rule_for b s) block (reads s m) (cell_before b s);
+    there = IsPlace-store s.p (rule_for b s) (cell_before b s) (IsWithin-before s b tables l);
+    in_nvm = g.in_nvm;
+    dram = ap (λ (y : State). y.dram) k;
+    failed = g.failed;
+  })));
+  frame = framed;
+  stays = stays;
+}
+
+pub once_loaded : (s : State) (m n : Device) (r : Result Block NvmError)
+    → OnOk r (n ≡ m) → OnErr r (HasFailed m n) → IsFramed m n → Stays s m s n → Once s m s n
+once_loaded s m n (Ok x) same failed framed stays = record { action = inl (ap (λ (d : Device). devices_of d s.dram) same); frame = framed; stays = stays }
+once_loaded s m n (Err x) same failed framed stays = record { action = inr (inr (inl (record { dram = refl; failed = failed }))); frame = framed; stays = stays }

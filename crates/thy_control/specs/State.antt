@@ -1,0 +1,83 @@
+-- The state of the controller, the versions of each block, and what the tables have to be.
+use Rattle.std.specs.Prelude.{◌≡◌, ℕ, ◌<◌, Bool, false, length}
+use Rattle.thy_base.specs.declared.block.Block.{Block}
+use Rattle.thy_base.specs.declared.config.Parameters.{Parameters}
+use Rattle.thy_base.specs.declared.place.Place.{Place}
+use Rattle.thy_base.specs.Device.{Device}
+use Rattle.thy_base.specs.Geometry.{IsInRange, memory_blocks}
+use Rattle.thy_base.specs.Places.{image_blocks, dram_blocks}
+use Rattle.thy_base.specs.Store.{page_of}
+use Rattle.thy_dram.specs.Contents.{Contents}
+use Rattle.thy_place.specs.Devices.{devices_of, read_at}
+use Rattle.thy_table.specs.Listing.{Listing, IsListing, empty_table}
+use Rattle.thy_tables.specs.declared.block_entry.BttEntry.{BttEntry}
+use Rattle.thy_tables.specs.declared.page_entry.PttEntry.{PttEntry}
+use Rattle.thy_tables.specs.BlockEntry.{new_entry}
+use Rattle.thy_tables.specs.PageEntry.{no_page}
+use Rattle.thy_switch.specs.Counts.{Tally, uncounted}
+use Rattle.thy_cell.specs.declared.cell.Cell.{Cell}
+use Rattle.thy_cell.specs.Cells.{penult, last, work}
+use Rattle.thy_cell.specs.Sound.{IsSoundCell}
+use Rattle.thy_control.specs.Find.{entry_for, index_for}
+use Rattle.thy_control.specs.Keys.{block_key, page_key}
+
+pub record State : Type 0 where
+  pub p : Parameters
+  pub btt : Listing BttEntry
+  pub ptt : Listing PttEntry
+  -- the stores of each page
+  pub counts : Tally
+  -- a checkpoint is under way
+  pub under_way : Bool
+  pub dram : Contents
+
+-- a block as both tables have it
+abbrev pub cell_of : State → ℕ → Cell
+cell_of s b = record {
+  i = index_for block_key new_entry b s.btt;
+  entry = entry_for block_key new_entry b s.btt;
+  j = index_for page_key no_page (page_of b) s.ptt;
+  page = entry_for page_key no_page (page_of b) s.ptt;
+}
+
+-- what a read of a place gives, with this NVM behind the controller
+abbrev pub reads : State → Device → Place → Block
+reads s n place = read_at s.p (devices_of n s.dram) place
+
+-- the three versions of a block
+abbrev pub penult_of : State → Device → ℕ → Block
+penult_of s n b = reads s n (penult (cell_of s b))
+
+abbrev pub last_of : State → Device → ℕ → Block
+last_of s n b = reads s n (last (cell_of s b))
+
+abbrev pub work_of : State → Device → ℕ → Block
+work_of s n b = reads s n (work (cell_of s b))
+
+-- the tables list blocks and pages of memory, none twice; every block is sound under them; and the sizes fit
+pub record IsTables (s : State) : Type 0 where
+  pub range : IsInRange s.p
+  pub btt_size : length s.btt.entries ≡ s.p.btt
+  pub btt_numbers : s.btt.numbers ≡ memory_blocks s.p
+  pub btt_once : IsListing block_key s.btt
+  pub ptt_size : length s.ptt.entries ≡ s.p.ptt
+  pub ptt_numbers : s.ptt.numbers ≡ s.p.pages
+  pub ptt_once : IsListing page_key s.ptt
+  pub counts_size : length s.counts.counts ≡ s.p.pages
+  pub dram_size : length s.dram.blocks ≡ dram_blocks s.p
+  pub cells : (b : ℕ) → b < memory_blocks s.p → IsSoundCell s.under_way (cell_of s b)
+
+-- the NVM has the blocks that the places ask for
+pub record IsSized (s : State) (n : Device) : Type 0 where
+  pub nvm : length n.image ≡ image_blocks s.p
+
+-- the controller of a machine whose power came on
+abbrev pub new_state : Parameters → Contents → State
+new_state p dram = record {
+  p = p;
+  btt = empty_table p.btt (memory_blocks p);
+  ptt = empty_table p.ptt p.pages;
+  counts = uncounted p.pages p.high p.low;
+  under_way = false;
+  dram = dram;
+}

@@ -1,0 +1,329 @@
+//! The controller.
+ghost use Rattle.std.specs.Prelude.{◌≡◌, ◌≢◌, true, None, ◌<◌, ◌≤◌, ◌*◌, false, length, IfOk, OnOk, OnErr};
+ghost use Rattle.thy_base.specs.Device.{HasFailed, IsFramed, CountsFault, block_at};
+ghost use Rattle.thy_base.specs.Geometry.{memory_blocks};
+ghost use Rattle.thy_base.specs.Places.{dram_blocks, number_of, IsPlace};
+ghost use Rattle.thy_table.specs.Listing.{free_count, lists, entry_at, place_of};
+ghost use Rattle.thy_tables.specs.BlockEntry.{new_entry};
+ghost use Rattle.thy_tables.specs.PageEntry.{no_page};
+ghost use Rattle.thy_control.specs.Find.{index_for, entry_for, with_entry_for};
+ghost use Rattle.thy_control.specs.Keys.{block_key, page_key};
+ghost use Rattle.thy_cell.specs.Store.{put_by};
+ghost use Rattle.thy_control.specs.Tables.{btt_with, btt_after, ptt_after, counts_after, answer_of};
+
+use std::alloc::{AllocError, Global};
+use std::marker::Model;
+use thy_base::{Block, Geometry, Nvm, NvmError, Place, Stored};
+use thy_cell::{
+    Cell, StoreRule, a_store_goes_elsewhere, a_store_is_read, a_store_leaves_the_target,
+    a_store_leaves_what_has_to_stand, new_cells_are_sound,
+};
+use thy_dram::Dram;
+use thy_place::{read_place, write_place};
+use thy_switch::Counts;
+use thy_table::Table;
+use thy_tables::{Btt, BttEntry, Ptt, PttEntry};
+
+/// The controller of a hybrid memory. Blocks are numbered from the start of memory; only `new` takes memory.
+#[derive(Drop)]
+pub struct Control {
+    geometry: Geometry,
+    btt: Btt,
+    ptt: Ptt,
+    counts: Counts,
+    under_way: bool,
+    dram: Dram,
+}
+
+impl Model for Control {
+    ghost use Rattle.thy_control.specs.State.{State, IsTables};
+
+    ghost Value = { State };
+
+    ghost view = { λ c. record { p = c.geometry; btt = c.btt; ptt = c.ptt; counts = c.counts; under_way = c.under_way; dram = c.dram } };
+
+    ghost invariant = { λ c. IsTables (record { p = c.geometry; btt = c.btt; ptt = c.ptt; counts = c.counts; under_way = c.under_way; dram = c.dram }) };
+}
+
+/// The place of a block's entry, 0 where it has none, and the entry, or one as a new one would be.
+fn block_entry(btt: &Btt, b: u64) -> (usize, BttEntry)
+    ensures place { result.0 ≡ index_for block_key new_entry b btt.now }
+    ensures entry { result.1 ≡ entry_for block_key new_entry b btt.now }
+{
+    match btt.find(b) {
+        Some(i) => match btt.entry(i) {
+            Some(entry) => (i, entry),
+            None => (i, BttEntry::new(b)),
+        },
+        None => (0, BttEntry::new(b)),
+    }
+}
+
+/// The same of a page.
+fn page_entry(ptt: &Ptt, page: u64) -> (usize, PttEntry)
+    ensures place { result.0 ≡ index_for page_key no_page page ptt.now }
+    ensures entry { result.1 ≡ entry_for page_key no_page page ptt.now }
+{
+    match ptt.find(page) {
+        Some(j) => match ptt.entry(j) {
+            Some(entry) => (j, entry),
+            None => (j, PttEntry::new(page)),
+        },
+        None => (0, PttEntry::new(page)),
+    }
+}
+
+/// Gives a block an entry where the rule of its store names one, and tells the entry's place.
+fn entry_for_rule(btt: &mut Btt, b: u64, rule: StoreRule) -> usize
+    requires room { 0 < free_count btt.old }
+    requires number { b < btt.old.numbers }
+    ensures table { btt.new ≡ btt_with rule b btt.old }
+    ensures place { result ≡ index_for block_key new_entry b btt.new }
+{
+    match btt.find(b) {
+        Some(i) => i,
+        None => match rule {
+            StoreRule::ToBuffer | StoreRule::ToNvm => add_entry(btt, b),
+            StoreRule::ToFrame | StoreRule::PendingFirst => 0,
+        },
+    }
+}
+
+/// Gives a block without an entry one, and tells its place.
+fn add_entry(btt: &mut Btt, b: u64) -> usize
+    requires room { 0 < free_count btt.old }
+    requires number { b < btt.old.numbers }
+    requires unlisted { place_of block_key b btt.old ≡ None }
+    ensures table { btt.new ≡ with_entry_for block_key new_entry b btt.old }
+    ensures place { result ≡ index_for block_key new_entry b btt.new }
+{
+    match btt.add(BttEntry::new(b)) {
+        Some(i) => i,
+        None => unreachable!(),
+    }
+}
+
+/// What a rule puts at its place: the block that is stored, or what the buffer holds.
+fn block_to_put(
+    rule: StoreRule,
+    cell: &Cell,
+    block: &Block,
+    geometry: &Geometry,
+    dram: &Dram,
+) -> Block
+    requires entry { cell.now.i < geometry.now.btt }
+    requires dram { length dram.now.blocks ≡ dram_blocks geometry.now }
+    ensures { result ≡ put_by rule block.now (λ place. block_at dram.now.blocks (number_of geometry.now place)) cell.now }
+{
+    match rule {
+        StoreRule::PendingFirst => dram.read(geometry.buf(cell.i)),
+        StoreRule::ToFrame | StoreRule::ToBuffer | StoreRule::ToNvm => *block,
+    }
+}
+
+/// Puts the entries of a block into the tables, as far as a rule changes them.
+fn set_cell(rule: StoreRule, cell: &Cell, btt: &mut Btt, ptt: &mut Ptt)
+    requires block { rule ≢ StoreRule.ToFrame → lists block_key cell.now.entry.block (entry_at btt.old cell.now.i) ≡ true }
+    requires page { rule ≡ StoreRule.ToFrame → lists page_key cell.now.page.page (entry_at ptt.old cell.now.j) ≡ true }
+    ensures btt { btt.new ≡ btt_after rule cell.now btt.old }
+    ensures ptt { ptt.new ≡ ptt_after rule cell.now ptt.old }
+{
+    match rule {
+        StoreRule::ToFrame => ptt.set(cell.j, cell.page),
+        StoreRule::ToBuffer | StoreRule::ToNvm | StoreRule::PendingFirst => {
+            btt.set(cell.i, cell.entry)
+        }
+    }
+}
+
+/// Counts a store that was done for its page.
+fn count_store(rule: StoreRule, page: u64, counts: &mut Counts)
+    requires { page < length counts.old.counts }
+    ensures { counts.new ≡ counts_after rule page counts.old }
+{
+    match rule {
+        StoreRule::ToFrame | StoreRule::ToBuffer | StoreRule::ToNvm => counts.count(page),
+        StoreRule::PendingFirst => {}
+    }
+}
+
+/// How a store by a rule ends.
+fn answer(rule: StoreRule) -> Stored
+    ensures { result ≡ answer_of rule }
+{
+    match rule {
+        StoreRule::ToFrame | StoreRule::ToBuffer | StoreRule::ToNvm => Stored::Done,
+        StoreRule::PendingFirst => Stored::CopyFirst,
+    }
+}
+
+impl Control {
+    ghost use Rattle.thy_control.specs.Rules.{with_block, rule_for, devices_after, state_after, IsWholeState, FailsStore};
+    ghost use Rattle.thy_control.specs.State.{IsTables, IsSized, cell_of, penult_of, work_of, reads, new_state};
+    ghost use Rattle.thy_control.specs.Guarded.{LeavesGuarded};
+    ghost use Rattle.thy_control.specs.Stays.{HoldAll, Stays};
+    ghost use Rattle.thy_control.specs.Versions.{KeepsCheckpoints, PutsWork};
+
+    /// The controller of a machine whose power came on, over a DRAM of the geometry's size.
+    pub fn new(alloc: Global, geometry: &Geometry, dram: Dram) -> Result<Control, AllocError>
+        requires { length dram.blocks ≡ dram_blocks geometry.now }
+        ensures { IfOk result (λ control. control ≡ new_state geometry.now dram) }
+    {
+        let numbers = geometry.numbers();
+        let btt = Table::new(alloc, numbers.btt, geometry.memory_blocks())?;
+        let ptt = Table::new(alloc, numbers.ptt, numbers.pages)?;
+        let counts = Counts::new(alloc, numbers.pages, numbers.high, numbers.low)?;
+        new_cells_are_sound();
+        Ok(Control {
+            geometry: *geometry,
+            btt,
+            ptt,
+            counts,
+            under_way: false,
+            dram,
+        })
+    }
+
+    /// The tables are sound, and the sizes fit.
+    pub fn tables(&self)
+        ensures { IsTables self.now }
+    {
+        let _under_way = &self.under_way;
+    }
+
+    /// How many entries of the block table are free.
+    pub fn free(&self) -> u64
+        ensures { result ≡ free_count self.now.btt }
+    {
+        self.btt.free()
+    }
+
+    /// A block as both tables have it.
+    fn cell(&self, b: u64) -> Cell
+        ensures { result ≡ cell_of self.now b }
+    {
+        let (i, entry) = block_entry(&self.btt, b);
+        let (j, page) = page_entry(&self.ptt, b / 64);
+        Cell { i, entry, j, page }
+    }
+
+    /// What stands at a place of either device.
+    fn read<N: Nvm>(&self, place: Place, nvm: &mut N) -> Result<Block, NvmError>
+        requires place { IsPlace self.now.p place }
+        requires sized { IsSized self.now (N.device nvm.old) }
+        ensures ok { IfOk result (λ block. block ≡ reads self.now (N.device nvm.old) place) }
+        ensures same { OnOk result (N.device nvm.new ≡ N.device nvm.old) }
+        ensures err { OnErr result (HasFailed (N.device nvm.old) (N.device nvm.new)) }
+        ensures frame { IsFramed (N.device nvm.old) (N.device nvm.new) }
+        ensures cause { CountsFault result (N.device nvm.old).faults (N.device nvm.new).faults }
+    {
+        read_place(place, &self.geometry, nvm, &self.dram)
+    }
+
+    /// Block `b` as the committed checkpoint has it.
+    pub fn committed<N: Nvm>(&self, b: u64, nvm: &mut N) -> Result<Block, NvmError>
+        requires block { b < memory_blocks self.now.p }
+        requires sized { IsSized self.now (N.device nvm.old) }
+        ensures ok { IfOk result (λ block. block ≡ penult_of self.now (N.device nvm.old) b) }
+        ensures same { OnOk result (N.device nvm.new ≡ N.device nvm.old) }
+        ensures stays { Stays self.now (N.device nvm.old) self.now (N.device nvm.new) }
+        ensures err { OnErr result (HasFailed (N.device nvm.old) (N.device nvm.new)) }
+        ensures frame { IsFramed (N.device nvm.old) (N.device nvm.new) }
+        ensures cause { CountsFault result (N.device nvm.old).faults (N.device nvm.new).faults }
+    {
+        let cell = self.cell(b);
+        self.tables();
+        self.read(cell.penult(), nvm)
+    }
+
+    /// Block `b` as it was stored last.
+    pub fn load<N: Nvm>(&self, b: u64, nvm: &mut N) -> Result<Block, NvmError>
+        requires block { b < memory_blocks self.now.p }
+        requires sized { IsSized self.now (N.device nvm.old) }
+        ensures ok { IfOk result (λ block. block ≡ work_of self.now (N.device nvm.old) b) }
+        ensures same { OnOk result (N.device nvm.new ≡ N.device nvm.old) }
+        ensures stays { Stays self.now (N.device nvm.old) self.now (N.device nvm.new) }
+        ensures err { OnErr result (HasFailed (N.device nvm.old) (N.device nvm.new)) }
+        ensures frame { IsFramed (N.device nvm.old) (N.device nvm.new) }
+        ensures cause { CountsFault result (N.device nvm.old).faults (N.device nvm.new).faults }
+    {
+        let cell = self.cell(b);
+        self.tables();
+        self.read(cell.work(), nvm)
+    }
+
+    /// Stores block `b`, or makes the copy that has to go first: one write at one place. Both checkpoints of every
+    /// block stay. Where the NVM failed, the place, which no checkpoint has, may hold the block or not; an
+    /// entry without work may have come.
+    pub fn store<N: Nvm>(&mut self, b: u64, block: &Block, nvm: &mut N) -> Result<Stored, NvmError>
+        requires block { b < memory_blocks self.old.p }
+        requires sized { IsSized self.old (N.device nvm.old) }
+        requires up { (N.device nvm.old).down ≡ false }
+        requires room { 0 < free_count self.old.btt }
+        requires whole { IsWholeState self.old }
+        ensures answer { IfOk result (λ stored. stored ≡ answer_of (rule_for b self.old)) }
+
+        // A load of the block gives what was stored, and of every other what it gave.
+        ensures work { IfOk result (λ stored. PutsWork stored b block.now self.old (N.device nvm.old) self.new (N.device nvm.new)) }
+        ensures keeps { OnOk result (KeepsCheckpoints self.old (N.device nvm.old) self.new (N.device nvm.new)) }
+
+        // So it is by these tables and this one write.
+        ensures state { OnOk result (self.new ≡ state_after b block.now self.old (N.device nvm.old)) }
+        ensures nvm { OnOk result (N.device nvm.new ≡ (devices_after b block.now self.old (N.device nvm.old)).nvm) }
+
+        // The frames and targets hold what they have to, if they did.
+        ensures holds { OnOk result (HoldAll self.old (N.device nvm.old) → HoldAll self.new (N.device nvm.new)) }
+
+        // Whether or not it failed, nothing new is possible at the checkpoints' places, and both tables are as they were.
+        ensures stays { Stays self.old (N.device nvm.old) self.new (N.device nvm.new) }
+        ensures guarded { LeavesGuarded self.old (N.device nvm.old) (N.device nvm.new) }
+
+        ensures kept { OnErr result (self.new ≡ with_block (rule_for b self.old) b self.old) }
+        ensures err { OnErr result (FailsStore b block.now self.old (N.device nvm.old) (N.device nvm.new)) }
+        ensures frame { IsFramed (N.device nvm.old) (N.device nvm.new) }
+        ensures cause { CountsFault result (N.device nvm.old).faults (N.device nvm.new).faults }
+    {
+        a_store_is_read();
+        a_store_goes_elsewhere();
+        a_store_leaves_the_target();
+        a_store_leaves_what_has_to_stand();
+        self.tables();
+        self.put(b, block, nvm)
+    }
+
+    /// Stores block `b` by its rule, or makes the copy that has to go first: one write at one place.
+    fn put<N: Nvm>(&mut self, b: u64, block: &Block, nvm: &mut N) -> Result<Stored, NvmError>
+        requires block { b < memory_blocks self.old.p }
+        requires sized { IsSized self.old (N.device nvm.old) }
+        requires up { (N.device nvm.old).down ≡ false }
+        requires room { 0 < free_count self.old.btt }
+        requires whole { IsWholeState self.old }
+        ensures state { OnOk result (self.new ≡ state_after b block.now self.old (N.device nvm.old)) }
+        ensures nvm { OnOk result (N.device nvm.new ≡ (devices_after b block.now self.old (N.device nvm.old)).nvm) }
+        ensures answer { IfOk result (λ stored. stored ≡ answer_of (rule_for b self.old)) }
+        ensures kept { OnErr result (self.new ≡ with_block (rule_for b self.old) b self.old) }
+        ensures err { OnErr result (FailsStore b block.now self.old (N.device nvm.old) (N.device nvm.new)) }
+        ensures frame { IsFramed (N.device nvm.old) (N.device nvm.new) }
+        ensures cause { CountsFault result (N.device nvm.old).faults (N.device nvm.new).faults }
+    {
+        self.tables();
+        let found = self.cell(b);
+        let rule = found.store_rule();
+        let i = entry_for_rule(&mut self.btt, b, rule);
+        self.btt.lists_once();
+        let cell = Cell { i, ..found };
+        let put = block_to_put(rule, &cell, block, &self.geometry, &self.dram);
+        write_place(
+            cell.store_place(rule),
+            &put,
+            &self.geometry,
+            nvm,
+            &mut self.dram,
+        )?;
+        set_cell(rule, &cell.after(rule), &mut self.btt, &mut self.ptt);
+        self.btt.lists_once();
+        self.ptt.lists_once();
+        count_store(rule, b / 64, &mut self.counts);
+        Ok(answer(rule))
+    }
+}

@@ -1,0 +1,29 @@
+//! Laws of the controller, each the contract of a function that does nothing.
+ghost use Rattle.thy_control.specs.Holding.{BlocksAreWorks, MemoryIsHeld, NewIsReady};
+ghost use Rattle.thy_control.specs.Once.{OneActionIsOneOfNvm};
+ghost use Rattle.thy_control.specs.Stays.{StaysOverCalls};
+
+/// What stays does so where nothing happens, and over two calls one after the other.
+pub fn what_stays_does_so_over_calls()
+    ensures { StaysOverCalls }
+{}
+
+/// Seen as a store of blocks, the controller and the NVM hold the work of every block of memory, and no block where
+/// the NVM has another size or is down.
+pub fn blocks_are_works()
+    ensures works { BlocksAreWorks }
+    ensures all { MemoryIsHeld }
+{}
+
+/// Seen so, a new controller has room for as many stores as the block table has entries, owes no copy, and is ready
+/// where the NVM is up.
+pub fn a_new_controller_is_ready()
+    ensures { NewIsReady }
+{}
+
+/// What a call does once at both devices is one action of the NVM at most: nothing, one write behind both slots, or a
+/// read or such a write that failed. Where the NVM is up afterwards it did not fail, and both devices together
+/// have one write more queued at most.
+pub fn one_action_is_one_of_the_nvm()
+    ensures { OneActionIsOneOfNvm }
+{}

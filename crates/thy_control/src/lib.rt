@@ -1,0 +1,13 @@
+//! The controller of a hybrid memory: it stores a block where the checkpoints leave room, and keeps two
+//! checkpoints of all blocks beside.
+#![tactic(auto)]
+
+mod control;
+mod laws;
+mod store;
+
+pub use control::Control;
+pub use laws::{
+    a_new_controller_is_ready, blocks_are_works, one_action_is_one_of_the_nvm,
+    what_stays_does_so_over_calls,
+};
