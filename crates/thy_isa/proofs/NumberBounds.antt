@@ -8,7 +8,7 @@ use Rattle.std.proofs.lemmas.Nat.{and_le_l, or_lt, xor_lt, shr_le, mul-lt, div_b
 use lib.Signed.{mag, mag_shr, mag_rem, nat_abs-le}
 use Rattle.thy_isa.specs.declared.instr.Alu.{Alu}
 use Rattle.thy_isa.specs.declared.instr.Alu.TheVariants.{Add, Sub, Sll, Slt, Sltu, Xor, Srl, Sra, Or, And, Mul, Mulh, Mulhsu, Mulhu, Div, Divu, Rem, Remu, Addw, Subw, Sllw, Srlw, Sraw, Mulw, Divw, Divuw, Remw, Remuw}
-use Rattle.thy_isa.specs.Arith.{alu_of, low64, low32, sx32, quotient, remainder}
+use Rattle.thy_isa.specs.Arith.{alu_of, low64, low32, sx32}
 use Rattle.thy_isa.specs.Storable.{IsNumber}
 
 -- a choice between two numbers of 64 bits is one
@@ -69,11 +69,13 @@ sx32_number v = if_number (nat_lt (low32 v) (2 ^ 31)) _ _ (omega arith) (omega a
 sra_number : (z : ℤ) (k : ℕ) → mag z < 2 ^ 63 → IsNumber (of_z w64 (int_shr z k))
 sra_number z k h = of_z_number (int_shr z k) (omega (arith, mag_shr z (2 ^ k)))
 
-pub quotient_number : (a b : ℕ) → IsNumber a → IsNumber (quotient a b)
+quotient_number : (a b : ℕ) → IsNumber a → IsNumber (alu_of Div a b)
+unfolding alu_of
 quotient_number a b h =
     if_number (b == 0) _ _ (lit< tt) (of_z_number (int_div (to_z w64 a) (to_z w64 b)) (omega (arith, quot_mag (to_z w64 a) (to_z w64 b), to_z_mag64 a h)))
 
-pub remainder_number : (a b : ℕ) → IsNumber a → IsNumber (remainder a b)
+remainder_number : (a b : ℕ) → IsNumber a → IsNumber (alu_of Rem a b)
+unfolding alu_of
 remainder_number a b h =
     if_number (b == 0) _ _ h (of_z_number (int_rem (to_z w64 a) (to_z w64 b)) (omega (arith, mag_rem (to_z w64 a) (to_z w64 b), to_z_mag64 a h)))
 

@@ -1,6 +1,6 @@
 -- What the operations compute. A number of 64 bits in two's complement is a number below 2 ^ 64; it is
 -- converted to the signed number that it stands for only where an operation is one of signed numbers.
-use Rattle.std.specs.Prelude.{ℕ, ◌+◌, ◌-◌, ◌*◌, ◌/◌, ◌%◌, ◌^◌, ◌==◌, nat_lt, if◌then◌else◌, pos, ◌*ℤ◌, bit_and, bit_or, bit_xor, int_lt, int_div, int_rem}
+use Rattle.std.specs.Prelude.{ℕ, ℤ, ◌+◌, ◌-◌, ◌*◌, ◌/◌, ◌%◌, ◌^◌, ◌==◌, nat_lt, if◌then◌else◌, pos, ◌*ℤ◌, bit_and, bit_or, bit_xor, int_lt, int_div, int_rem}
 use Rattle.std.specs.Int.{w32, w64, w128, cast_signed, cast_unsigned, int_shr}
 use Rattle.thy_isa.specs.declared.instr.Alu.{Alu}
 use Rattle.thy_isa.specs.declared.instr.Alu.TheVariants.{Add, Sub, Sll, Slt, Sltu, Xor, Srl, Sra, Or, And, Mul, Mulh, Mulhsu, Mulhu, Div, Divu, Rem, Remu, Addw, Subw, Sllw, Srlw, Sraw, Mulw, Divw, Divuw, Remw, Remuw}
@@ -22,38 +22,11 @@ sx32 v = sign_extended 32 (low32 v)
 abbrev pub all_ones : ℕ
 all_ones = 2 ^ 64 - 1
 
--- a - b modulo 2 ^ 64
-abbrev pub difference : ℕ → ℕ → ℕ
-difference a b = low64 (a + (2 ^ 64 - b))
+-- the signed number that a number of 64 bits stands for
+abbrev pub signed : ℕ → ℤ
+signed a = cast_signed w64 a
 
--- 1 where a is below b as signed numbers, else 0
-abbrev pub less_signed : ℕ → ℕ → ℕ
-less_signed a b = if int_lt (cast_signed w64 a) (cast_signed w64 b) then 1 else 0
-
--- bits 127 to 64 of the exact product, each operand signed or not
-abbrev pub high_signed : ℕ → ℕ → ℕ
-high_signed a b = cast_unsigned w128 (cast_signed w64 a *ℤ cast_signed w64 b) / 2 ^ 64
-
-abbrev pub high_mixed : ℕ → ℕ → ℕ
-high_mixed a b = cast_unsigned w128 (cast_signed w64 a *ℤ pos b) / 2 ^ 64
-
-abbrev pub high_unsigned : ℕ → ℕ → ℕ
-high_unsigned a b = a * b / 2 ^ 64
-
--- quotients round toward zero, and a remainder has the dividend's sign
-abbrev pub quotient : ℕ → ℕ → ℕ
-quotient a b = if b == 0 then all_ones else cast_unsigned w64 (int_div (cast_signed w64 a) (cast_signed w64 b))
-
-abbrev pub quotient_unsigned : ℕ → ℕ → ℕ
-quotient_unsigned a b = if b == 0 then all_ones else a / b
-
-abbrev pub remainder : ℕ → ℕ → ℕ
-remainder a b = if b == 0 then a else cast_unsigned w64 (int_rem (cast_signed w64 a) (cast_signed w64 b))
-
-abbrev pub remainder_unsigned : ℕ → ℕ → ℕ
-remainder_unsigned a b = if b == 0 then a else a % b
-
--- the same of the low 32 bits a and b
+-- quotients and remainders of the low 32 bits a and b
 abbrev pub quotient_w : ℕ → ℕ → ℕ
 quotient_w a b = if b == 0 then all_ones else sx32 (cast_unsigned w32 (int_div (cast_signed w32 a) (cast_signed w32 b)))
 
@@ -66,26 +39,27 @@ remainder_w a b = if b == 0 then sx32 a else sx32 (cast_unsigned w32 (int_rem (c
 abbrev pub remainder_unsigned_w : ℕ → ℕ → ℕ
 remainder_unsigned_w a b = if b == 0 then sx32 a else sx32 (a % b)
 
--- what an operation gives for a and b
+-- What an operation gives for a and b. Mulh, Mulhsu and Mulhu give bits 127 to 64 of the exact product, each operand signed
+-- or not. Quotients round toward zero, and a remainder has the dividend's sign.
 unfoldable pub alu_of : Alu → ℕ → ℕ → ℕ
 alu_of Add a b = low64 (a + b)
-alu_of Sub a b = difference a b
+alu_of Sub a b = low64 (a + (2 ^ 64 - b))
 alu_of Sll a b = low64 (a * 2 ^ (b % 64))
-alu_of Slt a b = less_signed a b
+alu_of Slt a b = if int_lt (signed a) (signed b) then 1 else 0
 alu_of Sltu a b = if nat_lt a b then 1 else 0
 alu_of Xor a b = bit_xor a b
 alu_of Srl a b = a / 2 ^ (b % 64)
-alu_of Sra a b = cast_unsigned w64 (int_shr (cast_signed w64 a) (b % 64))
+alu_of Sra a b = cast_unsigned w64 (int_shr (signed a) (b % 64))
 alu_of Or a b = bit_or a b
 alu_of And a b = bit_and a b
 alu_of Mul a b = low64 (a * b)
-alu_of Mulh a b = high_signed a b
-alu_of Mulhsu a b = high_mixed a b
-alu_of Mulhu a b = high_unsigned a b
-alu_of Div a b = quotient a b
-alu_of Divu a b = quotient_unsigned a b
-alu_of Rem a b = remainder a b
-alu_of Remu a b = remainder_unsigned a b
+alu_of Mulh a b = cast_unsigned w128 (signed a *ℤ signed b) / 2 ^ 64
+alu_of Mulhsu a b = cast_unsigned w128 (signed a *ℤ pos b) / 2 ^ 64
+alu_of Mulhu a b = a * b / 2 ^ 64
+alu_of Div a b = if b == 0 then all_ones else cast_unsigned w64 (int_div (signed a) (signed b))
+alu_of Divu a b = if b == 0 then all_ones else a / b
+alu_of Rem a b = if b == 0 then a else cast_unsigned w64 (int_rem (signed a) (signed b))
+alu_of Remu a b = if b == 0 then a else a % b
 alu_of Addw a b = sx32 (a + b)
 alu_of Subw a b = sx32 (a + (2 ^ 64 - b))
 alu_of Sllw a b = sx32 (a * 2 ^ (b % 32))

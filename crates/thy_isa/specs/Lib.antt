@@ -11,3 +11,4 @@ pub mod OnBlocks
 pub mod Storable
 pub mod Access
 pub mod Console
+pub mod Laws

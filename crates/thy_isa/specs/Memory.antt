@@ -11,8 +11,7 @@ unfoldable pub extended : Width → Extend → ℕ → ℕ
 extended Byte Sign v = sign_extended 8 (v % 2 ^ 8)
 extended Half Sign v = sign_extended 16 (v % 2 ^ 16)
 extended Word Sign v = sign_extended 32 (v % 2 ^ 32)
-extended Double Sign v = v
 extended Byte Zero v = v % 2 ^ 8
 extended Half Zero v = v % 2 ^ 16
 extended Word Zero v = v % 2 ^ 32
-extended Double Zero v = v
+extended Double extend v = v

@@ -112,14 +112,11 @@ fetch_fault base size pc =
 
 -- an effect, or the trap where it would read or write outside memory
 unfoldable pub within : ℕ → ℕ → Effect → Effect
-within base size (Next pc) = Next pc
-within base size (Set pc rd v) = Set pc rd v
 within base size (Read pc at width extend rd) =
     if is_inside base size at (size_of width) then Read pc at width extend rd else Trap LoadAccess
 within base size (Write pc at width v) =
     if is_inside base size at (size_of width) then Write pc at width v else Trap StoreAccess
-within base size Environment = Environment
-within base size (Trap c) = Trap c
+within base size e = e
 
 abbrev pub fetched : Option Cause → Effect → Effect
 fetched (Some c) e = Trap c
@@ -139,12 +136,8 @@ effect_at base s =
 
 -- the number that an effect reads
 unfoldable pub read_by : ℕ → List ℕ → Effect → ℕ
-read_by base memory (Next pc) = 0
-read_by base memory (Set pc rd v) = 0
 read_by base memory (Read pc at width extend rd) = number_at (size_of width) memory (at - base)
-read_by base memory (Write pc at width v) = 0
-read_by base memory Environment = 0
-read_by base memory (Trap c) = 0
+read_by base memory e = 0
 
 -- the environment call that the registers name
 abbrev pub call_at : Setting → State → Call
@@ -152,37 +145,24 @@ call_at g s = call_of s.regs (call_state_of g s)
 
 -- memory after a call: what is taken of the input is written there
 unfoldable pub memory_served : Setting → State → Call → List ℕ
-memory_served g s (Answer v) = s.memory
-memory_served g s (Exit v) = s.memory
-memory_served g s (Break at) = s.memory
 memory_served g s (Take at len) = written s.memory (at - g.base) (take len (drop s.cursor g.input))
-memory_served g s (Give at len) = s.memory
+memory_served g s call = s.memory
 
 -- and the console: what is given is added at its end
 unfoldable pub console_served : Setting → State → Call → List ℕ
-console_served g s (Answer v) = s.console
-console_served g s (Exit v) = s.console
-console_served g s (Break at) = s.console
-console_served g s (Take at len) = s.console
 console_served g s (Give at len) = s.console ++ take len (drop (at - g.base) s.memory)
+console_served g s call = s.console
 
 -- memory after an effect
 unfoldable pub memory_by : Setting → State → Effect → List ℕ
-memory_by g s (Next pc) = s.memory
-memory_by g s (Set pc rd v) = s.memory
-memory_by g s (Read pc at width extend rd) = s.memory
 memory_by g s (Write pc at width v) = written s.memory (at - g.base) (number_bytes (size_of width) v)
 memory_by g s Environment = memory_served g s (call_at g s)
-memory_by g s (Trap c) = s.memory
+memory_by g s e = s.memory
 
 -- the console after an effect
 unfoldable pub console_by : Setting → State → Effect → List ℕ
-console_by g s (Next pc) = s.console
-console_by g s (Set pc rd v) = s.console
-console_by g s (Read pc at width extend rd) = s.console
-console_by g s (Write pc at width v) = s.console
 console_by g s Environment = console_served g s (call_at g s)
-console_by g s (Trap c) = s.console
+console_by g s e = s.console
 
 -- the rest of the state at the instruction after a call, with the call's answer in a0, which is x10
 abbrev pub answered : CpuState → ℕ → CpuState
@@ -223,8 +203,7 @@ advanced g s = performed g s (effect_at g.base s)
 
 abbrev pub is_running : Status → Bool
 is_running Running = true
-is_running (Exited v) = false
-is_running (Trapped v) = false
+is_running ended = false
 
 -- a step: an ended state stays
 unfoldable pub step : Setting → State → State

@@ -86,8 +86,7 @@ memory_rows =
     ∷ row 0b0100011 (F3 0b000) (store Byte)
     ∷ row 0b0100011 (F3 0b001) (store Half)
     ∷ row 0b0100011 (F3 0b010) (store Word)
-    ∷ row 0b0100011 (F3 0b011) (store Double)
-    ∷ []
+    ∷ row 0b0100011 (F3 0b011) (store Double) ∷ []
 
 -- RV64I 2.1: operations on the whole registers
 abbrev pub integer_rows : List Row
@@ -110,8 +109,7 @@ integer_rows =
     ∷ row 0b0110011 (F37 0b101 0b0000000) (register Srl)
     ∷ row 0b0110011 (F37 0b101 0b0100000) (register Sra)
     ∷ row 0b0110011 (F37 0b110 0b0000000) (register Or)
-    ∷ row 0b0110011 (F37 0b111 0b0000000) (register And)
-    ∷ []
+    ∷ row 0b0110011 (F37 0b111 0b0000000) (register And) ∷ []
 
 -- RV64I 2.1: operations on the low 32 bits
 abbrev pub word_rows : List Row
@@ -124,8 +122,7 @@ word_rows =
     ∷ row 0b0111011 (F37 0b000 0b0100000) (register Subw)
     ∷ row 0b0111011 (F37 0b001 0b0000000) (register Sllw)
     ∷ row 0b0111011 (F37 0b101 0b0000000) (register Srlw)
-    ∷ row 0b0111011 (F37 0b101 0b0100000) (register Sraw)
-    ∷ []
+    ∷ row 0b0111011 (F37 0b101 0b0100000) (register Sraw) ∷ []
 
 -- RV64I 2.1 and Zifencei 2.0: fences, whose other fields are ignored, and calls of the environment
 abbrev pub system_rows : List Row
@@ -133,8 +130,7 @@ system_rows =
     row 0b0001111 (F3 0b000) (λ w. Fence)
     ∷ row 0b0001111 (F3 0b001) (λ w. FenceI)
     ∷ row 0b1110011 (Whole 0x00000073) (λ w. Ecall)
-    ∷ row 0b1110011 (Whole 0x00100073) (λ w. Ebreak)
-    ∷ []
+    ∷ row 0b1110011 (Whole 0x00100073) (λ w. Ebreak) ∷ []
 
 -- M 2.0
 abbrev pub multiply_rows : List Row
@@ -151,8 +147,7 @@ multiply_rows =
     ∷ row 0b0111011 (F37 0b100 0b0000001) (register Divw)
     ∷ row 0b0111011 (F37 0b101 0b0000001) (register Divuw)
     ∷ row 0b0111011 (F37 0b110 0b0000001) (register Remw)
-    ∷ row 0b0111011 (F37 0b111 0b0000001) (register Remuw)
-    ∷ []
+    ∷ row 0b0111011 (F37 0b111 0b0000001) (register Remuw) ∷ []
 
 -- every row
 abbrev pub table : List Row

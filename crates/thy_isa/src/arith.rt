@@ -3,7 +3,8 @@
 
 ghost use Rattle.std.specs.Prelude.{◌≡◌, ◌+◌, ◌-◌, ◌*◌, ◌/◌, ◌%◌, ◌^◌, ◌<◌, nat_lt, if◌then◌else◌, int_div, int_rem};
 ghost use Rattle.std.specs.Int.{w32, w64, cast_signed, cast_unsigned, int_shr};
-ghost use Rattle.thy_isa.specs.Arith.{alu_of, sx32, low32, difference, less_signed, high_signed, high_mixed, high_unsigned, quotient, quotient_unsigned, remainder, remainder_unsigned, quotient_w, quotient_unsigned_w, remainder_w, remainder_unsigned_w};
+ghost use Rattle.thy_isa.specs.declared.instr.Alu.TheVariants.{Mulh, Mulhsu, Mulhu, Div, Divu, Rem, Remu};
+ghost use Rattle.thy_isa.specs.Arith.{alu_of, sx32, low32, quotient_w, quotient_unsigned_w, remainder_w, remainder_unsigned_w};
 
 use crate::instr::Alu;
 
@@ -59,7 +60,7 @@ fn sign_extended(a: u32) -> u64
 
 /// Bits 127 to 64 of the product of two signed numbers.
 fn high_signed(a: u64, b: u64) -> u64
-    ensures { result ≡ high_signed a b }
+    ensures { result ≡ alu_of Mulh a b }
 {
     let product = i128::from(a.cast_signed()) * i128::from(b.cast_signed());
     (product.cast_unsigned() >> 64) as u64
@@ -67,7 +68,7 @@ fn high_signed(a: u64, b: u64) -> u64
 
 /// Bits 127 to 64 of the product of a signed and an unsigned number.
 fn high_mixed(a: u64, b: u64) -> u64
-    ensures { result ≡ high_mixed a b }
+    ensures { result ≡ alu_of Mulhsu a b }
 {
     let product = i128::from(a.cast_signed()) * i128::from(b);
     (product.cast_unsigned() >> 64) as u64
@@ -75,13 +76,13 @@ fn high_mixed(a: u64, b: u64) -> u64
 
 /// Bits 127 to 64 of the product of two unsigned numbers.
 fn high_unsigned(a: u64, b: u64) -> u64
-    ensures { result ≡ high_unsigned a b }
+    ensures { result ≡ alu_of Mulhu a b }
 {
     ((u128::from(a) * u128::from(b)) >> 64) as u64
 }
 
 fn quotient(a: u64, b: u64) -> u64
-    ensures { result ≡ quotient a b }
+    ensures { result ≡ alu_of Div a b }
 {
     if b == 0 {
         u64::MAX
@@ -93,13 +94,13 @@ fn quotient(a: u64, b: u64) -> u64
 }
 
 fn quotient_unsigned(a: u64, b: u64) -> u64
-    ensures { result ≡ quotient_unsigned a b }
+    ensures { result ≡ alu_of Divu a b }
 {
     if b == 0 { u64::MAX } else { a / b }
 }
 
 fn remainder(a: u64, b: u64) -> u64
-    ensures { result ≡ remainder a b }
+    ensures { result ≡ alu_of Rem a b }
 {
     if b == 0 {
         a
@@ -111,7 +112,7 @@ fn remainder(a: u64, b: u64) -> u64
 }
 
 fn remainder_unsigned(a: u64, b: u64) -> u64
-    ensures { result ≡ remainder_unsigned a b }
+    ensures { result ≡ alu_of Remu a b }
 {
     if b == 0 { a } else { a % b }
 }

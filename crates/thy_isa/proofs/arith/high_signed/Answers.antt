@@ -3,6 +3,7 @@ use Rattle.std.proofs.Common.{◌≡◌, ◌<◌, ◌≤◌, ◌^◌, ◌/◌, �
 use Rattle.std.specs.Int.{w64, w128}
 use Rattle.std.proofs.lemmas.Int.{to_z-of_z, fits_signed_mul}
 use lib.Signed.{mag}
+use Rattle.thy_isa.specs.Arith.{alu_of}
 use Rattle.thy_isa.proofs.arith.high_signed.Goals as goal
 
 abs_le : (m : ℕ) (z : ℤ) → mag z < m → unsigned_abs z ≤ m
@@ -16,6 +17,7 @@ kept : (x y f g : ℤ) (r : ℕ) → f ≡ x → g ≡ y → FitsSigned w128 f �
 kept x y f g r p q ff fg fp e = cc (to_z-of_z w128 f ff, to_z-of_z w128 g fg, to_z-of_z w128 (x *ℤ y) fp)
 
 pub returns : goal.returns
+unfolding alu_of
 returns c =
     let x : ℤ = c.cast_signed.result in
     let y : ℤ = c.cast_signed-2.result in

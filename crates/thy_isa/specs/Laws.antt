@@ -1,0 +1,43 @@
+-- What a step is, and what every step keeps.
+use Rattle.std.specs.Prelude.{◌≡◌, ℕ, ◌≤◌, true, List, length}
+use Rattle.thy_base.specs.declared.block.Block.{Block}
+use Rattle.thy_base.specs.declared.config.Parameters.{Parameters}
+use Rattle.thy_base.specs.Geometry.{IsInRange, memory_blocks, console_room}
+use Rattle.thy_isa.specs.declared.state.CpuState.{CpuState}
+use Rattle.thy_isa.specs.Console.{IsGrown}
+use Rattle.thy_isa.specs.OnBlocks.{setting_for, state_from, effect_in, bytes_in, cpu_after, blocks_after}
+use Rattle.thy_isa.specs.Step.{State, Setting, is_running, step}
+use Rattle.thy_isa.specs.Storable.{IsStorable, IsReadable}
+
+-- the state after the instruction at the program counter, done over the blocks of memory
+abbrev pub state_after : Parameters → List ℕ → CpuState → List Block → State
+state_after p input cpu blocks =
+    let e = effect_in p cpu blocks in
+    let bytes = bytes_in p input cpu blocks e in
+    state_from p (cpu_after p input cpu e bytes) (blocks_after p input cpu blocks e bytes)
+
+-- it is that of a step of the plain machine
+abbrev pub BlocksMakeTheStep : Type 0
+BlocksMakeTheStep =
+    (p : Parameters) (input : List ℕ) (cpu : CpuState) (blocks : List Block)
+    → IsInRange p → length blocks ≡ memory_blocks p → cpu.console_len ≤ console_room p → is_running cpu.status ≡ true
+    → state_after p input cpu blocks ≡ step (setting_for p input) (state_from p cpu blocks)
+
+-- a step of a state that can be stored leads to one
+abbrev pub StepKeepsStorable : Type 0
+StepKeepsStorable =
+    (g : Setting) (size : ℕ) (s : State) → IsReadable g → IsStorable size s → IsStorable size (step g s)
+
+-- the console only grows
+abbrev pub ConsoleGrows : Type 0
+ConsoleGrows = (g : Setting) (s : State) → IsGrown s.console (step g s).console
+
+-- and stays within its room
+abbrev pub ConsoleKeepsRoom : Type 0
+ConsoleKeepsRoom =
+    (g : Setting) (s : State) → length s.console ≤ g.room → length (step g s).console ≤ g.room
+
+-- the cursor stays inside the input
+abbrev pub CursorStaysInside : Type 0
+CursorStaysInside =
+    (g : Setting) (s : State) → s.cursor ≤ length g.input → (step g s).cursor ≤ length g.input

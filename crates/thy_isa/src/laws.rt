@@ -1,0 +1,17 @@
+//! Laws, each the contract of a function that does nothing.
+ghost use Rattle.thy_isa.specs.Laws.{BlocksMakeTheStep, StepKeepsStorable, ConsoleGrows, ConsoleKeepsRoom, CursorStaysInside};
+
+/// An instruction that is done over the blocks of memory is a step of the plain machine, whose memory is one flat list of
+/// bytes.
+pub fn blocks_make_the_step()
+    ensures { BlocksMakeTheStep }
+{}
+
+/// A step leads from a state that can be stored to one; the console only grows, and stays within its room; and the cursor
+/// stays inside the input.
+pub fn what_a_step_keeps()
+    ensures storable { StepKeepsStorable }
+    ensures console { ConsoleGrows }
+    ensures room { ConsoleKeepsRoom }
+    ensures cursor { CursorStaysInside }
+{}
