@@ -35,7 +35,7 @@ use Rattle.thy_run.specs.declared.ending.Stop.TheVariants.{Ended, Nvm, Memory, T
 use Rattle.thy_cli.specs.declared.answer.Answer.{Answer}
 use Rattle.thy_cli.specs.declared.refusal.Refusal.{Refusal}
 use Rattle.thy_cli.specs.declared.refusal.Refusal.TheVariants.{Words, Fetch, File, Device as DeviceRefusal, Memory as MemoryRefusal}
-use Rattle.thy_cli.specs.Answering.{Outside, Task, task_of, most_bytes, meaning_of, IsHeld, IsTooLong, IsInput, IsWanted, IsProgramFile, FetchDue, WordsDue, ProgramDue, TaskDue, origin_for, given_for, ClosesRun, IsRunOf, IsPlainOf, plain_stop, end_lines, stop_status, TaskAnswered, PlainAnswered, Answered}
+use Rattle.thy_cli.specs.Answering.{Outside, most_bytes, meaning_of, IsHeld, IsTooLong, IsInput, IsWanted, IsProgramFile, FetchDue, WordsDue, ProgramDue, RunDue, origin_for, given_for, ClosesRun, IsRunOf, IsPlainOf, plain_stop, end_lines, stop_status, RunAnswered, PlainAnswered, Answered}
 use Rattle.thy_cli.specs.Planning.{refused_status}
 use Rattle.thy_cli.proofs.PlainLemmas.{at_is, plain_steps}
 use Rattle.thy_cli.specs.Completing.{plain_state, IsAsked, Stayed, IsCalm, left_alone, TellsEnd, RunCompletes, PlainCompletes, Claim}
@@ -88,7 +88,7 @@ end_lawful c m (v ∷ vs) status count cycle state all = end_lawful c (marks_aft
 -- ---- refusals
 
 -- what is known of a task's program: file and input stand on a shelf that tells
-record Stands (task : Task) (stock : Stock) : Type 0 where
+record Stands (task : Job) (stock : Stock) : Type 0 where
   files : Files
   tells : stock.held ≡ Some files
   program : IsProgramFile task stock
@@ -102,14 +102,14 @@ input_same stock files None a b tells g h = g ∙ sym h
 input_same stock files (Some name) a b tells g h = held_same stock files name a b tells g h
 
 -- so a task has one program
-contents_same : (task : Task) (stock : Stock) (s : Stands task stock) (f : IsProgramFile task stock) → f.contents ≡ s.program.contents
+contents_same : (task : Job) (stock : Stock) (s : Stands task stock) (f : IsProgramFile task stock) → f.contents ≡ s.program.contents
 contents_same task stock s f =
     let bytes : f.bytes ≡ s.program.bytes = held_same stock s.files task.file f.bytes s.program.bytes s.tells f.held s.program.held in
     let read : meaning_of task s.program.bytes ≡ Ok f.contents = ap (meaning_of task) (sym bytes) ∙ f.means in
     let known : meaning_of task s.program.bytes ≡ Ok s.program.contents = s.program.means in
     cc
 
-inputs_same : (task : Task) (stock : Stock) (s : Stands task stock) (f : IsProgramFile task stock) → f.input ≡ s.program.input
+inputs_same : (task : Job) (stock : Stock) (s : Stands task stock) (f : IsProgramFile task stock) → f.input ≡ s.program.input
 inputs_same task stock s f = input_same stock s.files task.input f.input s.program.input s.tells f.is_input s.program.is_input
 
 -- what is held is had, unless memory is short
@@ -128,7 +128,7 @@ fetch_due old new files name bytes text TooLong tells held calm due =
     absurd (omega (arith, held.0, long.2, ap length same))
 fetch_due old new files name bytes text (FetchMemory e) tells held calm due = refl
 
-wanted_due : (task : Task) (old new : Stock) (text : _) (name : List ℕ) (e : FetchError) → Stands task old → Stayed old.faults new.faults → IsWanted task old name → FetchDue old new name e
+wanted_due : (task : Job) (old new : Stock) (text : _) (name : List ℕ) (e : FetchError) → Stands task old → Stayed old.faults new.faults → IsWanted task old name → FetchDue old new name e
     → refused_status (Fetch text e) ≡ 9
 wanted_due task old new text name e s calm (inl is) due =
     fetch_due old new s.files task.file s.program.bytes text e s.tells s.program.held calm (subst (λ n. FetchDue old new n e) is due)
@@ -136,7 +136,7 @@ wanted_due task old new text name e s calm (inr had) due =
     fetch_due old new s.files name s.program.input text e s.tells (subst (λ n. IsInput old n s.program.input) had.0 s.program.is_input) calm due
 
 -- a file that is a program is not refused
-means_none : {A : Type 0} (task : Task) (stock : Stock) (e : ElfError) (bytes : List ℕ) → Stands task stock → IsHeld stock task.file bytes → meaning_of task bytes ≡ Err e → A
+means_none : {A : Type 0} (task : Job) (stock : Stock) (e : ElfError) (bytes : List ℕ) → Stands task stock → IsHeld stock task.file bytes → meaning_of task bytes ≡ Err e → A
 means_none task stock e bytes s held means =
     let same : bytes ≡ s.program.bytes = held_same stock s.files task.file bytes s.program.bytes s.tells held s.program.held in
     let refused : meaning_of task s.program.bytes ≡ Err e = ap (meaning_of task) (sym same) ∙ means in
@@ -148,7 +148,7 @@ device_due FitFailed n m calm due = not_risen n.faults m.faults calm due.2
 device_due (FitMemory e) n m calm due = refl
 
 -- only for want of memory
-program_due : (task : Task) (old new : Stock) (r : Refusal) → Stands task old → Stayed old.faults new.faults → ProgramDue task old new r → refused_status r ≡ 9
+program_due : (task : Job) (old new : Stock) (r : Refusal) → Stands task old → Stayed old.faults new.faults → ProgramDue task old new r → refused_status r ≡ 9
 program_due task old new (Words e) s shelf due = absurd due
 program_due task old new (Fetch name e) s shelf due = wanted_due task old new name name.now e s shelf due.0 due.1
 program_due task old new (File (ElfMemory e)) s shelf due = refl
@@ -156,7 +156,7 @@ program_due task old new (File e) s shelf due = let d = due.1 in means_none task
 program_due task old new (DeviceRefusal e) s shelf due = absurd due
 program_due task old new (MemoryRefusal e) s shelf due = refl
 
-task_due : (task : Task) (before after : Outside) (r : Refusal) → Stands task before.shelf → IsCalm before after → TaskDue task before after r → refused_status r ≡ 9
+task_due : (task : Job) (before after : Outside) (r : Refusal) → Stands task before.shelf → IsCalm before after → RunDue task before after r → refused_status r ≡ 9
 task_due task before after (DeviceRefusal e) s calm due = device_due e before.device after.device calm.device due.2
 task_due task before after r s calm due = program_due task before.shelf after.shelf r s calm.shelf due.0
 
@@ -177,11 +177,11 @@ job_of_plain a b e = cc
 
 -- ---- runs
 
-module _ {M : Type 0} (K : KindOf M) (job : Job) (k : ℕ) (before after : Outside) (a : Answer) (s : Stands (task_of job) before.shelf)
-    (calm : IsCalm before after) (over : is_running (plain_state (task_of job) s.program.contents s.program.input k).status ≡ false)
-    (limit : cycles_for K (parameters_of job.config) job.config.cuts k ≤ job.config.limit) (h : IsRunOf K (task_of job) before after a) where
+module _ {M : Type 0} (K : KindOf M) (job : Job) (k : ℕ) (before after : Outside) (a : Answer) (s : Stands job before.shelf)
+    (calm : IsCalm before after) (over : is_running (plain_state job s.program.contents s.program.input k).status ≡ false)
+    (limit : cycles_for K (parameters_of job.config) job.config.cuts k ≤ job.config.limit) (h : IsRunOf K job before after a) where
   abbrev o : Origin
-  o = origin_for (task_of job) h.file.contents h.file.input
+  o = origin_for job h.file.contents h.file.input
 
   abbrev numbers : Parameters
   numbers = parameters_of job.config
@@ -194,10 +194,10 @@ module _ {M : Type 0} (K : KindOf M) (job : Job) (k : ℕ) (before after : Outsi
 
   -- the machine's program is the file's
   same_program : h.file.contents ≡ s.program.contents
-  same_program = contents_same (task_of job) before.shelf s h.file
+  same_program = contents_same job before.shelf s h.file
 
   same_input : h.file.input ≡ s.program.input
-  same_input = inputs_same (task_of job) before.shelf s h.file
+  same_input = inputs_same job before.shelf s h.file
 
   at_count : (count : ℕ) → at o count ≡ steps g (count - o.start.count) first
   at_count count =
@@ -206,7 +206,7 @@ module _ {M : Type 0} (K : KindOf M) (job : Job) (k : ℕ) (before after : Outsi
       ∙ ap (λ i. steps (setting_for numbers i) (count - o.start.count) first) same_input
 
   over_first : is_running (steps g k first).status ≡ false
-  over_first = ap (λ (x : State). is_running x.status) (sym (plain_steps (task_of job) s.program.contents s.program.input k)) ∙ over
+  over_first = ap (λ (x : State). is_running x.status) (sym (plain_steps job s.program.contents s.program.input k)) ∙ over
 
   few : a.cycles < job.config.limit
   few =
@@ -214,8 +214,8 @@ module _ {M : Type 0} (K : KindOf M) (job : Job) (k : ℕ) (before after : Outsi
       let soon : a.cycles < cycles_for K numbers job.config.cuts k = h.promise.soon k (ap (λ (x : State). is_running x.status) here ∙ over_first) in
       omega (arith, soon, limit)
 
-  fits : (stop : Stop) → h.ending.stop ≡ stop → StopFits numbers.limit (given_for K (task_of job) before.device).fitted after.device h.ending stop
-  fits stop is = subst (StopFits numbers.limit (given_for K (task_of job) before.device).fitted after.device h.ending) is h.ran.stop_fits
+  fits : (stop : Stop) → h.ending.stop ≡ stop → StopFits numbers.limit (given_for K job before.device).fitted after.device h.ending stop
+  fits stop is = subst (StopFits numbers.limit (given_for K job before.device).fitted after.device h.ending) is h.ran.stop_fits
 
   -- at an end the status is the program's
   told_end : (status : Status) → EndsWith h.ending.events status → status ≡ (steps g k first).status
@@ -227,8 +227,8 @@ module _ {M : Type 0} (K : KindOf M) (job : Job) (k : ℕ) (before after : Outsi
       let ended : is_running (steps g (end.count - o.start.count) first).status ≡ false = ap (λ (x : State). is_running x.status) (sym here) ∙ end.over in
       end.is_status ∙ ap (λ (x : State). x.status) here ∙ ap (λ (x : State). x.status) (same_end g first (end.count - o.start.count) k ended over_first)
 
-  by_stop : (stop : Stop) → h.ending.stop ≡ stop → TellsEnd (plain_state (task_of job) s.program.contents s.program.input k) a
-  by_stop (Ended status) is = inl (h.status ∙ ap stop_status is ∙ ap (λ x. stop_status (Ended x)) (told_end status (fits (Ended status) is).0 ∙ ap (λ (x : State). x.status) (sym (plain_steps (task_of job) s.program.contents s.program.input k))))
+  by_stop : (stop : Stop) → h.ending.stop ≡ stop → TellsEnd (plain_state job s.program.contents s.program.input k) a
+  by_stop (Ended status) is = inl (h.status ∙ ap stop_status is ∙ ap (λ x. stop_status (Ended x)) (told_end status (fits (Ended status) is).0 ∙ ap (λ (x : State). x.status) (sym (plain_steps job s.program.contents s.program.input k))))
   by_stop Memory is = inr (h.status ∙ ap stop_status is)
   by_stop Terminal is = not_failed (is_memory h.ending.stop) h.ending.mute _ _ before.terminal after.terminal calm.terminal h.ran.shown_all (fits Terminal is).0
   by_stop Report is =
@@ -242,9 +242,9 @@ module _ {M : Type 0} (K : KindOf M) (job : Job) (k : ℕ) (before after : Outsi
 
 -- ---- the plain machine
 
-module _ (job : Job) (k : ℕ) (before after : Outside) (a : Answer) (s : Stands (task_of job) before.shelf)
-    (calm : IsCalm before after) (over : is_running (plain_state (task_of job) s.program.contents s.program.input k).status ≡ false) (limit : k ≤ job.config.limit)
-    (h : IsPlainOf (task_of job) before after a) where
+module _ (job : Job) (k : ℕ) (before after : Outside) (a : Answer) (s : Stands job before.shelf)
+    (calm : IsCalm before after) (over : is_running (plain_state job s.program.contents s.program.input k).status ≡ false) (limit : k ≤ job.config.limit)
+    (h : IsPlainOf job before after a) where
   abbrev plain_setting : Setting
   plain_setting = setting_for (parameters_of job.config) h.file.input
 
@@ -252,19 +252,19 @@ module _ (job : Job) (k : ℕ) (before after : Outside) (a : Answer) (s : Stands
   plain_first = start_state (parameters_of job.config) h.file.contents
 
   -- the machine's program is the file's, and its input the one that was had
-  same_state : steps plain_setting k plain_first ≡ plain_state (task_of job) s.program.contents s.program.input k
+  same_state : steps plain_setting k plain_first ≡ plain_state job s.program.contents s.program.input k
   same_state =
-      sym (plain_steps (task_of job) h.file.contents h.file.input k)
-      ∙ ap (λ c. plain_state (task_of job) c h.file.input k) (contents_same (task_of job) before.shelf s h.file)
-      ∙ ap (λ i. plain_state (task_of job) s.program.contents i k) (inputs_same (task_of job) before.shelf s h.file)
+      sym (plain_steps job h.file.contents h.file.input k)
+      ∙ ap (λ c. plain_state job c h.file.input k) (contents_same job before.shelf s h.file)
+      ∙ ap (λ i. plain_state job s.program.contents i k) (inputs_same job before.shelf s h.file)
 
   -- the program ends where the machine stopped
   over_there : is_running (steps plain_setting k plain_first).status ≡ false
   over_there = ap (λ (x : State). is_running x.status) same_state ∙ over
 
   -- whether it runs after so many steps
-  runs_is : (j : ℕ) → runs_at (origin_for (task_of job) h.file.contents h.file.input) j ≡ is_running (steps plain_setting j plain_first).status
-  runs_is j = ap (λ (x : State). is_running x.status) (plain_steps (task_of job) h.file.contents h.file.input j)
+  runs_is : (j : ℕ) → runs_at (origin_for job h.file.contents h.file.input) j ≡ is_running (steps plain_setting j plain_first).status
+  runs_is j = ap (λ (x : State). is_running x.status) (plain_steps job h.file.contents h.file.input j)
 
   not_both : {A : Type 0} (b : Bool) → b ≡ true → b ≡ false → A
   not_both b e f = absurd (cc)
@@ -278,9 +278,9 @@ module _ (job : Job) (k : ℕ) (before after : Outside) (a : Answer) (s : Stands
     ]
   ]
 
-  last_status : h.last.status ≡ (plain_state (task_of job) s.program.contents s.program.input k).status
+  last_status : h.last.status ≡ (plain_state job s.program.contents s.program.input k).status
   last_status =
-      ap (λ (x : State). x.status) (h.is_last ∙ plain_steps (task_of job) h.file.contents h.file.input a.cycles)
+      ap (λ (x : State). x.status) (h.is_last ∙ plain_steps job h.file.contents h.file.input a.cycles)
       ∙ ap (λ (x : State). x.status) (same_end plain_setting plain_first a.cycles k stopped over_there)
       ∙ ap (λ (x : State). x.status) same_state
 
@@ -289,10 +289,10 @@ module _ (job : Job) (k : ℕ) (before after : Outside) (a : Answer) (s : Stands
   ended_stop (Exited v) e = refl
   ended_stop (Trapped v) e = refl
 
-  by_faults : (mute deaf : Bool) → h.mute ≡ mute → h.deaf ≡ deaf → TellsEnd (plain_state (task_of job) s.program.contents s.program.input k) a
+  by_faults : (mute deaf : Bool) → h.mute ≡ mute → h.deaf ≡ deaf → TellsEnd (plain_state job s.program.contents s.program.input k) a
   by_faults mute true is_mute is_deaf =
       let closed : after.report ≡ h.told = subst (λ b. ClosesRun b (plain_stop h.mute h.deaf h.last.status) job.config.limit h.told after.report) is_deaf h.closes in
-      let sent : Sent true before.report h.told (end_lines (task_of job) h.last) = subst (λ b. Sent b before.report h.told (end_lines (task_of job) h.last)) is_deaf h.read_all in
+      let sent : Sent true before.report h.told (end_lines job h.last) = subst (λ b. Sent b before.report h.told (end_lines job h.last)) is_deaf h.read_all in
       not_risen before.report.faults h.told.faults (subst (λ (x : Stream). Stayed before.report.faults x.faults) closed calm.report) sent.0.rose
   by_faults true false is_mute is_deaf =
       let sent : Sent true before.terminal after.terminal h.last.console = subst (λ b. Sent b before.terminal after.terminal h.last.console) is_mute h.shown_all in
@@ -305,12 +305,12 @@ module _ (job : Job) (k : ℕ) (before after : Outside) (a : Answer) (s : Stands
 
 -- ---- answers
 
-abbrev stands_of : (order : Job → Order) (words : List (List ℕ)) (stock : Stock) (i : IsAsked order words stock) → Stands (task_of i.job) stock
+abbrev stands_of : (order : Job → Order) (words : List (List ℕ)) (stock : Stock) (i : IsAsked order words stock) → Stands i.job stock
 stands_of order words stock i = record { files = i.files; tells = i.tells; program = i.program }
 
 run_completes : {M : Type 0} (K : KindOf M) (words : List (List ℕ)) (before after : Outside) (a : Answer) (i : IsAsked run words before.shelf) (k : ℕ) → IsCalm before after
-    → is_running (left_alone i k).status ≡ false → cycles_for K (parameters_of i.job.config) i.job.config.cuts k ≤ i.job.config.limit → TaskAnswered K (task_of i.job) before after a → TellsEnd (left_alone i k) a
-run_completes K words before after a i k calm over limit (inl (r, due, refused)) = inr (refused.status ∙ task_due (task_of i.job) before after r (stands_of run words before.shelf i) calm due)
+    → is_running (left_alone i k).status ≡ false → cycles_for K (parameters_of i.job.config) i.job.config.cuts k ≤ i.job.config.limit → RunAnswered K i.job before after a → TellsEnd (left_alone i k) a
+run_completes K words before after a i k calm over limit (inl (r, due, refused)) = inr (refused.status ∙ task_due i.job before after r (stands_of run words before.shelf i) calm due)
 run_completes K words before after a i k calm over limit (inr ran) = by_stop K i.job k before after a (stands_of run words before.shelf i) calm over limit ran ran.ending.stop refl
 
 -- an answer completes the run that is asked for
@@ -318,14 +318,14 @@ pub Completes-run : {M : Type 0} (K : KindOf M) (words : List (List ℕ)) (befor
 Completes-run K words before after a (held, inl (e, due, shelf, device, refused)) i k calm over limit = inr (refused.status ∙ words_due words (run i.job) e i.asked due)
 Completes-run K words before after a (held, inr (inl (job, asked, h))) i k calm over limit =
     run_completes K words before after a i k calm over limit
-    (subst (λ j. TaskAnswered K (task_of j) before after a) (job_of_run job i.job (order_same words (run i.job) (run job) i.asked asked)) h)
+    (subst (λ j. RunAnswered K j before after a) (job_of_run job i.job (order_same words (run i.job) (run job) i.asked asked)) h)
 Completes-run K words before after a (held, inr (inr (job, asked, h))) i k calm over limit =
     absurd (let same : plain job ≡ run i.job = order_same words (run i.job) (plain job) i.asked asked in cc)
 
 plain_completes : (words : List (List ℕ)) (before after : Outside) (a : Answer) (i : IsAsked plain words before.shelf) (k : ℕ) → IsCalm before after
-    → is_running (left_alone i k).status ≡ false → k ≤ i.job.config.limit → PlainAnswered (task_of i.job) before after a → TellsEnd (left_alone i k) a
+    → is_running (left_alone i k).status ≡ false → k ≤ i.job.config.limit → PlainAnswered i.job before after a → TellsEnd (left_alone i k) a
 plain_completes words before after a i k calm over limit (device, inl (r, due, refused)) =
-    inr (refused.status ∙ program_due (task_of i.job) before.shelf after.shelf r (stands_of plain words before.shelf i) calm.shelf due)
+    inr (refused.status ∙ program_due i.job before.shelf after.shelf r (stands_of plain words before.shelf i) calm.shelf due)
 plain_completes words before after a i k calm over limit (device, inr ran) = by_faults i.job k before after a (stands_of plain words before.shelf i) calm over limit ran ran.mute ran.deaf refl refl
 
 -- and the one on the plain machine
@@ -335,7 +335,7 @@ Completes-plain K words before after a (held, inr (inl (job, asked, h))) i k cal
     absurd (let same : run job ≡ plain i.job = order_same words (plain i.job) (run job) i.asked asked in cc)
 Completes-plain K words before after a (held, inr (inr (job, asked, h))) i k calm over limit =
     plain_completes words before after a i k calm over limit
-    (subst (λ j. PlainAnswered (task_of j) before after a) (job_of_plain job i.job (order_same words (plain i.job) (plain job) i.asked asked)) h)
+    (subst (λ j. PlainAnswered j before after a) (job_of_plain job i.job (order_same words (plain i.job) (plain job) i.asked asked)) h)
 
 -- so what is claimed of a call follows from what its answer is
 pub Claim-answered : {M : Type 0} (K : KindOf M) (words : List (List ℕ)) (before after : Outside) (a : Answer) → Answered K words before after a → Claim K words before after a

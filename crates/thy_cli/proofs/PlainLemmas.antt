@@ -11,11 +11,12 @@ use Rattle.thy_base.specs.Geometry.{parameters_of}
 use Rattle.thy_plain.specs.Machine.{Machine, loaded, after_steps, StopsAt as MachineStops}
 use Rattle.thy_plain.specs.Start.{start_state}
 use Rattle.thy_text.specs.Lines.{ended_lines}
+use Rattle.thy_words.specs.Settings.{Job}
 use Rattle.thy_cli.specs.declared.answer.Answer.{Answer}
 use Rattle.thy_run.specs.declared.ending.Stop.{Stop}
 use Rattle.thy_cli.specs.declared.source.Program.{Program}
 use Rattle.thy_view.specs.Origin.{Origin, setting_of, at, runs_at}
-use Rattle.thy_cli.specs.Answering.{Outside, Task, IsPlainOf, ClosesRun, StopsAt, origin_for, plain_stop, stop_status}
+use Rattle.thy_cli.specs.Answering.{Outside, IsPlainOf, ClosesRun, StopsAt, origin_for, plain_stop, stop_status}
 use Rattle.thy_cli.specs.Completing.{plain_state}
 use Rattle.thy_cli.specs.Planning.{IsProgramOf}
 use Rattle.thy_run.specs.Sending.{Sent}
@@ -25,14 +26,14 @@ unfolding at
 at_is o k = refl
 
 -- the uninterrupted program by its steps
-pub plain_steps : (task : Task) (contents : Contents) (input : List ℕ) (k : ℕ)
+pub plain_steps : (task : Job) (contents : Contents) (input : List ℕ) (k : ℕ)
     → plain_state task contents input k ≡ steps (setting_for (parameters_of task.config) input) k (start_state (parameters_of task.config) contents)
 plain_steps task contents input k =
     at_is (origin_for task contents input) k
     ∙ ap (λ j. steps (setting_for (parameters_of task.config) input) j (start_state (parameters_of task.config) contents)) (let e : k - 0 ≡ k = omega arith in e)
 
 -- it stops where the machine stops that was loaded with it
-stops_at : (task : Task) (contents : Contents) (input : List ℕ) (limit k : ℕ) → MachineStops (loaded (parameters_of task.config) contents input) limit k → StopsAt (origin_for task contents input) limit k
+stops_at : (task : Job) (contents : Contents) (input : List ℕ) (limit k : ℕ) → MachineStops (loaded (parameters_of task.config) contents input) limit k → StopsAt (origin_for task contents input) limit k
 stops_at task contents input limit k s = record {
   within = s.within;
   ran = λ j less. runs_is j ∙ s.ran j less;
@@ -43,7 +44,7 @@ stops_at task contents input limit k s = record {
     runs_is j = ap (λ (s : State). is_running s.status) (plain_steps task contents input j)
 
 -- a program's run on the plain machine is that of its task
-pub IsPlainOf-ran : (task : Task) (before after : Outside) (p : Program) (first last : Machine) (s : MachState) (limit k : ℕ) (mute deaf : Bool) (stop : Stop) (a : Answer) (told : Stream) → IsProgramOf task before.shelf p
+pub IsPlainOf-ran : (task : Job) (before after : Outside) (p : Program) (first last : Machine) (s : MachState) (limit k : ℕ) (mute deaf : Bool) (stop : Stop) (a : Answer) (told : Stream) → IsProgramOf task before.shelf p
     → after.shelf.faults ≡ before.shelf.faults → first ≡ loaded p.geometry (contents_of p.image) (bytes_of p.input) → limit ≡ p.geometry.limit → MachineStops first limit k → last ≡ after_steps k first → state_of s ≡ last.state
     → Sent mute before.terminal after.terminal (bytes_of s.console) → Sent deaf before.report told (ended_lines task.digest s.status s.count (bytes_of s.memory)) → stop ≡ plain_stop mute deaf s.status
     → ClosesRun deaf stop limit told after.report → a.events ≡ [] → a.cycles ≡ k → a.status ≡ stop_status stop → IsPlainOf task before after a

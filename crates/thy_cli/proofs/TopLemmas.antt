@@ -41,7 +41,7 @@ use Rattle.thy_run.specs.declared.ending.Ending.{Ending}
 use Rattle.thy_run.specs.declared.plan.Plan.{Plan}
 use Rattle.thy_cli.specs.declared.refusal.Refusal.{Refusal}
 use Rattle.thy_cli.specs.declared.refusal.Refusal.TheVariants.{Device as DeviceRefusal}
-use Rattle.thy_cli.specs.Answering.{Outside, Task, task_of, IsInput, most_bytes, WordsDue, ProgramDue, TaskDue, meaning_of, origin_for, given_for, shape_for, IsRunOf, ClosesRun, PlainAnswered, TaskAnswered, Answered, stop_status}
+use Rattle.thy_cli.specs.Answering.{Outside, IsInput, most_bytes, WordsDue, ProgramDue, RunDue, meaning_of, origin_for, given_for, shape_for, IsRunOf, ClosesRun, PlainAnswered, RunAnswered, Answered, stop_status}
 use Rattle.thy_cli.specs.Planning.{IsPlanOf}
 use Rattle.thy_run.specs.Going.{origin_of, given_of}
 use Rattle.thy_run.specs.Endings.{EndsBy, HasRun}
@@ -131,10 +131,10 @@ abbrev shape_at : ℕ → ℕ → ℕ → Shape
 shape_at blocks queue cuts = record { blocks = blocks; queue = queue; cuts = cuts }
 
 abbrev given_at : Config → Bool → Device → Given
-given_at c digest d = record { cuts = c.cuts; tears = c.tears; seed = c.mix; digest = digest; fitted = d }
+given_at c digest d = record { config = c; digest = digest; fitted = d }
 
 -- a run of the plan is about what the task's run is
-planned_origin : (task : Task) (stock : Stock) (plan : Plan) (p : IsPlanOf task stock plan) → origin_of plan ≡ origin_for task p.file.contents p.file.input
+planned_origin : (task : Job) (stock : Stock) (plan : Plan) (p : IsPlanOf task stock plan) → origin_of plan ≡ origin_for task p.file.contents p.file.input
 planned_origin task stock plan p =
     ap (λ g. origin_at g (origin_of plan).start (origin_of plan).input plan.start.kept) p.geometry
     ∙ ap (λ s. origin_at (parameters_of task.config) s (origin_of plan).input plan.start.kept) (p.start ∙ ap (λ g. start_state g p.file.contents) p.geometry)
@@ -142,7 +142,7 @@ planned_origin task stock plan p =
     ∙ ap (origin_at (parameters_of task.config) (start_state (parameters_of task.config) p.file.contents) p.file.input) p.from_file
 
 -- and is given the same
-planned_given : {M : Type 0} (K : KindOf M) (task : Task) (stock : Stock) (plan : Plan) (shape : Shape) (d n : Device) → IsPlanOf task stock plan → d ≡ fitted shape [] n
+planned_given : {M : Type 0} (K : KindOf M) (task : Job) (stock : Stock) (plan : Plan) (shape : Shape) (d n : Device) → IsPlanOf task stock plan → d ≡ fitted shape [] n
     → shape.blocks ≡ K.blocks plan.geometry → shape.queue ≡ plan.geometry.nvmq → shape.cuts ≡ length plan.config.cuts → given_of plan d ≡ given_for K task n
 planned_given K task stock plan shape d n p fit blocks queue cuts =
     let config : plan.config ≡ task.config = p.config in
@@ -157,7 +157,7 @@ planned_given K task stock plan shape d n p fit blocks queue cuts =
     ap (λ (c : Config). given_at c plan.digest d) config ∙ ap (λ b. given_at task.config b d) digest ∙ ap (given_at task.config task.digest) device
 
 -- a run that was begun keeps its promise
-pub IsRunOf-ran : {M : Type 0} (K : KindOf M) (laws : IsLawful K) → (task : Task) (before after : Outside) (plan : Plan) (d : Device) (shape : Shape) (e : Ending) (a : Answer) (told : Stream) → IsPlanOf task before.shelf plan
+pub IsRunOf-ran : {M : Type 0} (K : KindOf M) (laws : IsLawful K) → (task : Job) (before after : Outside) (plan : Plan) (d : Device) (shape : Shape) (e : Ending) (a : Answer) (told : Stream) → IsPlanOf task before.shelf plan
     → after.shelf.faults ≡ before.shelf.faults → d ≡ fitted shape [] before.device → shape.blocks ≡ K.blocks plan.geometry → shape.queue ≡ plan.geometry.nvmq → shape.cuts ≡ length plan.config.cuts
     → RunEnds K plan d after.device e before.terminal after.terminal before.report told
     → ClosesRun e.deaf e.stop plan.geometry.limit told after.report → a.events ≡ e.events → a.cycles ≡ e.cycles → a.status ≡ stop_status e.stop → IsRunOf K task before after a
@@ -189,22 +189,22 @@ IsRunOf-ran K laws task before after plan d shape e a told p calm fit blocks que
     }
 
 -- where there is no program, a task is not run
-pub TaskDue-program : (task : Task) (before after : Outside) (r : Refusal) → ProgramDue task before.shelf after.shelf r → after.device ≡ before.device → TaskDue task before after r
-TaskDue-program task before after (DeviceRefusal e) due device = absurd due
-TaskDue-program task before after r due device = (due, device)
+pub RunDue-program : (task : Job) (before after : Outside) (r : Refusal) → ProgramDue task before.shelf after.shelf r → after.device ≡ before.device → RunDue task before after r
+RunDue-program task before after (DeviceRefusal e) due device = absurd due
+RunDue-program task before after r due device = (due, device)
 
 -- a job as a task, with names that are the job's
-abbrev pub task_named : List ℕ → Option (List ℕ) → Job → Task
+abbrev pub task_named : List ℕ → Option (List ℕ) → Job → Job
 task_named file input job = record { file = file; input = input; config = job.config; digest = job.digest }
 
-task_is : (file : List ℕ) (input : Option (List ℕ)) (job : Job) → file ≡ job.file → input ≡ job.input → task_named file input job ≡ task_of job
+task_is : (file : List ℕ) (input : Option (List ℕ)) (job : Job) → file ≡ job.file → input ≡ job.input → task_named file input job ≡ job
 task_is file input job e f = ap (λ x. task_named x input job) e ∙ ap (λ x. task_named job.file x job) f
 
 -- a job for the machine
 pub Answered-run : {M : Type 0} (K : KindOf M) → (words : List (List ℕ)) (job : Job) (file : List ℕ) (input : Option (List ℕ)) (before after : Outside) (a : Answer) → settings_of words ≡ Ok (run job)
-    → file ≡ job.file → input ≡ job.input → after.shelf.held ≡ before.shelf.held → TaskAnswered K (task_named file input job) before after a → Answered K words before after a
+    → file ≡ job.file → input ≡ job.input → after.shelf.held ≡ before.shelf.held → RunAnswered K (task_named file input job) before after a → Answered K words before after a
 Answered-run K words job file input before after a is names reads held h =
-    (held, inr (inl (job, is, subst (λ t. TaskAnswered K t before after a) (task_is file input job names reads) h)))
+    (held, inr (inl (job, is, subst (λ t. RunAnswered K t before after a) (task_is file input job names reads) h)))
 
 -- a job for the plain machine
 pub Answered-plain : {M : Type 0} (K : KindOf M) → (words : List (List ℕ)) (job : Job) (file : List ℕ) (input : Option (List ℕ)) (before after : Outside) (a : Answer) → settings_of words ≡ Ok (plain job)
@@ -224,7 +224,7 @@ WordsDue-shown words (Value field value) h = h
 WordsDue-shown words (WordsMemory e) h = tt
 
 -- what a file was read as is what it means
-pub meaning_is : (task : Task) (bytes read : List ℕ) (p numbers : Parameters) (size : ℕ) (means : Result Contents ElfError) → p ≡ parameters_of task.config → numbers ≡ p → read ≡ bytes
+pub meaning_is : (task : Job) (bytes read : List ℕ) (p numbers : Parameters) (size : ℕ) (means : Result Contents ElfError) → p ≡ parameters_of task.config → numbers ≡ p → read ≡ bytes
     → size ≡ program_size p → read_of read numbers.base size ≡ means → meaning_of task bytes ≡ means
 meaning_is task bytes read p numbers size means geometry same read_is size_is h =
     ap (λ b. read_of b task.config.base (program_size (parameters_of task.config))) (sym read_is)

@@ -53,17 +53,6 @@ outside shelf device terminal report =
 
 -- ---- refusals: what is due when
 
--- what is to be done with a file: its name, that of its input, if it has one
-pub record Task : Type 0 where
-  pub file : List ℕ
-  pub input : Option (List ℕ)
-  pub config : Config
-  pub digest : Bool
-
--- what a job asks for
-abbrev pub task_of : Job → Task
-task_of job = record { file = job.file; input = job.input; config = job.config; digest = job.digest }
-
 -- the most bytes that a file may have
 abbrev pub most_bytes : ℕ
 most_bytes = 67108864
@@ -77,18 +66,19 @@ IsHeld stock name bytes =
 abbrev pub IsTooLong : Option (List ℕ) → Type 0
 IsTooLong there = (bytes : List ℕ) × (there ≡ Some bytes) × (most_bytes < length bytes)
 
--- why a file was not had: the shelf's count rose, or a shelf that tells has nothing there, or too much
+-- why a file was not had: the shelf's count rose, or a shelf that tells has nothing there, or too much; want of memory may
+-- raise the count
 abbrev pub FetchDue : Stock → Stock → List ℕ → FetchError → Type 0
 FetchDue old new name FetchFailed = Rose old.faults new.faults
 FetchDue old new name NotThere =
     MatchOption old.held (Rose old.faults new.faults) (λ files. (files name ≡ None) × (new.faults ≡ old.faults))
 FetchDue old new name TooLong =
     MatchOption old.held (Rose old.faults new.faults) (λ files. IsTooLong (files name) × (new.faults ≡ old.faults))
-FetchDue old new name (FetchMemory e) = Unit {0}
+FetchDue old new name (FetchMemory e) = old.faults ≤ new.faults
 
--- what the bytes of a file mean to a task
-abbrev pub meaning_of : Task → List ℕ → Result Contents ElfError
-meaning_of task bytes = read_of bytes task.config.base (program_size (parameters_of task.config))
+-- what the bytes of a file mean to a job
+abbrev pub meaning_of : Job → List ℕ → Result Contents ElfError
+meaning_of job bytes = read_of bytes job.config.base (program_size (parameters_of job.config))
 
 -- the bytes of an input: those under its name, or none where there is no name
 abbrev pub IsInput : Stock → Option (List ℕ) → List ℕ → Type 0
@@ -96,41 +86,42 @@ IsInput stock None bytes = bytes ≡ []
 IsInput stock (Some name) bytes = IsHeld stock name bytes
 
 -- file and input were had, and the file is a program
-pub record IsProgramFile (task : Task) (stock : Stock) : Type 0 where
+pub record IsProgramFile (job : Job) (stock : Stock) : Type 0 where
   pub bytes : List ℕ
   pub are_bytes : All IsByte bytes
-  pub held : IsHeld stock task.file bytes
+  pub held : IsHeld stock job.file bytes
   pub input : List ℕ
-  pub is_input : IsInput stock task.input input
+  pub input_bytes : All IsByte input
+  pub is_input : IsInput stock job.input input
   pub contents : Contents
-  pub means : meaning_of task bytes ≡ Ok contents
+  pub means : meaning_of job bytes ≡ Ok contents
 
 -- why the words are refused: what they mean; want of memory is free
 abbrev pub WordsDue : List (List ℕ) → WordsError → Type 0
 WordsDue words (WordsMemory e) = Unit {0}
 WordsDue words e = settings_of words ≡ Err e
 
--- a task asks for this name: that of its file; or that of its input, once it has the file
-abbrev pub IsWanted : Task → Stock → List ℕ → Type 0
-IsWanted task stock name =
-    (name ≡ task.file) ⊎ ((task.input ≡ Some name) × (bytes : List ℕ) × IsHeld stock task.file bytes)
+-- a job asks for this name: that of its file; or that of its input, once it has the file
+abbrev pub IsWanted : Job → Stock → List ℕ → Type 0
+IsWanted job stock name =
+    (name ≡ job.file) ⊎ ((job.input ≡ Some name) × (bytes : List ℕ) × IsHeld stock job.file bytes)
 
--- why a task has no program: its file or its input was not had, or both were and the file is none; want of memory is free,
+-- why a job has no program: its file or its input was not had, or both were and the file is none; want of memory is free,
 -- and once both were had the shelf's count stays
-abbrev pub ProgramDue : Task → Stock → Stock → Refusal → Type 0
-ProgramDue task old new (Fetch name e) = IsWanted task old name.now × FetchDue old new name.now e
-ProgramDue task old new (File (ElfMemory e)) = new.faults ≡ old.faults
-ProgramDue task old new (File e) =
-    (new.faults ≡ old.faults) × ((bytes : List ℕ) × IsHeld old task.file bytes × (meaning_of task bytes ≡ Err e)
-    × (input : List ℕ) × IsInput old task.input input)
-ProgramDue task old new (MemoryRefusal e) = new.faults ≡ old.faults
-ProgramDue task old new other = ⊥
+abbrev pub ProgramDue : Job → Stock → Stock → Refusal → Type 0
+ProgramDue job old new (Fetch name e) = IsWanted job old name.now × FetchDue old new name.now e
+ProgramDue job old new (File (ElfMemory e)) = new.faults ≡ old.faults
+ProgramDue job old new (File e) =
+    (new.faults ≡ old.faults) × ((bytes : List ℕ) × IsHeld old job.file bytes × (meaning_of job bytes ≡ Err e)
+    × (input : List ℕ) × IsInput old job.input input)
+ProgramDue job old new (MemoryRefusal e) = new.faults ≡ old.faults
+ProgramDue job old new other = ⊥
 
--- why a task is not run: a program's device was not fitted, or there is no program, and the device is left alone
-abbrev pub TaskDue : Task → Outside → Outside → Refusal → Type 0
-TaskDue task before after (DeviceRefusal e) =
-    IsProgramFile task before.shelf × (after.shelf.faults ≡ before.shelf.faults) × HasFailedToFit e before.device after.device
-TaskDue task before after r = ProgramDue task before.shelf after.shelf r × (after.device ≡ before.device)
+-- why a job is not run: a program's device was not fitted, or there is no program, and the device is left alone
+abbrev pub RunDue : Job → Outside → Outside → Refusal → Type 0
+RunDue job before after (DeviceRefusal e) =
+    IsProgramFile job before.shelf × (after.shelf.faults ≡ before.shelf.faults) × HasFailedToFit e before.device after.device
+RunDue job before after r = ProgramDue job before.shelf after.shelf r × (after.device ≡ before.device)
 
 -- ---- what is told of a refusal
 
@@ -172,27 +163,19 @@ pub record IsRefused (r : Refusal) (before after : Outside) (a : Answer) : Type 
 -- ---- runs
 
 -- what the run of a program file is about: the program from its entry, with what it reads
-abbrev pub origin_for : Task → Contents → List ℕ → Origin
-origin_for task contents input = record {
-  geometry = parameters_of task.config;
-  start = start_state (parameters_of task.config) contents;
-  input = input;
-  kept = None;
-}
+abbrev pub origin_for : Job → Contents → List ℕ → Origin
+origin_for job contents input =
+    let p = parameters_of job.config in
+    record { geometry = p; start = start_state p contents; input = input; kept = None }
 
--- the device that a task's machine is fitted with
+-- the device that a job's machine is fitted with
 abbrev pub shape_for : {M : Type 0} → KindOf M → Config → Shape
 shape_for K c = record { blocks = K.blocks (parameters_of c); queue = c.nvmq; cuts = length c.cuts }
 
 -- what a run is given besides its program, over a device that was fitted with zeros
-abbrev pub given_for : {M : Type 0} → KindOf M → Task → Device → Given
-given_for K task device = record {
-  cuts = task.config.cuts;
-  tears = task.config.tears;
-  seed = task.config.mix;
-  digest = task.digest;
-  fitted = fitted (shape_for K task.config) [] device;
-}
+abbrev pub given_for : {M : Type 0} → KindOf M → Job → Device → Given
+given_for K job device =
+    record { config = job.config; digest = job.digest; fitted = fitted (shape_for K job.config) [] device }
 
 -- the exit status of a stop
 abbrev pub stop_status : Stop → ℕ
@@ -214,18 +197,18 @@ ClosesRun deaf stop limit old new = new ≡ old
 
 -- A run was begun over a device that was fitted, and ended. Its cycles are those of a run, and keep what is promised
 -- of every run; the sinks took what its events say.
-pub record IsRunOf {M : Type 0} (K : KindOf M) (task : Task) (before after : Outside) (a : Answer) : Type 0 where
-  pub file : IsProgramFile task before.shelf
+pub record IsRunOf {M : Type 0} (K : KindOf M) (job : Job) (before after : Outside) (a : Answer) : Type 0 where
+  pub file : IsProgramFile job before.shelf
   pub calm : after.shelf.faults ≡ before.shelf.faults
   pub ending : Ending
   pub told : Stream
-  pub ran : HasRun K (origin_for task file.contents file.input) (given_for K task before.device) after.device ending
+  pub ran : HasRun K (origin_for job file.contents file.input) (given_for K job before.device) after.device ending
       before.terminal after.terminal before.report told
-  pub closes : ClosesRun ending.deaf ending.stop task.config.limit told after.report
+  pub closes : ClosesRun ending.deaf ending.stop job.config.limit told after.report
   pub events : a.events ≡ ending.events
   pub cycles : a.cycles ≡ ending.cycles
   pub status : a.status ≡ stop_status ending.stop
-  pub promise : Promise K (origin_for task file.contents file.input) (given_for K task before.device) a.cycles a.events after.device
+  pub promise : Promise K (origin_for job file.contents file.input) (given_for K job before.device) a.cycles a.events after.device
 
 -- ---- the plain machine
 
@@ -243,40 +226,40 @@ pub record StopsAt (o : Origin) (limit k : ℕ) : Type 0 where
   pub over : k < limit → runs_at o k ≡ false
 
 -- the lines of a state that has ended
-abbrev pub end_lines : Task → State → List ℕ
-end_lines task s = ended_lines task.digest s.status s.count s.memory
+abbrev pub end_lines : Job → State → List ℕ
+end_lines job s = ended_lines job.digest s.status s.count s.memory
 
 -- The plain machine took the program's steps from its start, up to the first state that runs no more or the limit;
 -- the sinks took what its last state says.
-pub record IsPlainOf (task : Task) (before after : Outside) (a : Answer) : Type 0 where
-  pub file : IsProgramFile task before.shelf
+pub record IsPlainOf (job : Job) (before after : Outside) (a : Answer) : Type 0 where
+  pub file : IsProgramFile job before.shelf
   pub calm : after.shelf.faults ≡ before.shelf.faults
-  pub stops : StopsAt (origin_for task file.contents file.input) task.config.limit a.cycles
+  pub stops : StopsAt (origin_for job file.contents file.input) job.config.limit a.cycles
   pub last : State
-  pub is_last : last ≡ at (origin_for task file.contents file.input) a.cycles
+  pub is_last : last ≡ at (origin_for job file.contents file.input) a.cycles
   pub mute : Bool
   pub deaf : Bool
   pub shown_all : Sent mute before.terminal after.terminal last.console
   pub told : Stream
-  pub read_all : Sent deaf before.report told (end_lines task last)
-  pub closes : ClosesRun deaf (plain_stop mute deaf last.status) task.config.limit told after.report
+  pub read_all : Sent deaf before.report told (end_lines job last)
+  pub closes : ClosesRun deaf (plain_stop mute deaf last.status) job.config.limit told after.report
   pub status : a.status ≡ stop_status (plain_stop mute deaf last.status)
   pub events : a.events ≡ []
 
 -- ---- answers
 
--- what the answer to a task is
-abbrev pub TaskAnswered : {M : Type 0} → KindOf M → Task → Outside → Outside → Answer → Type 0
-TaskAnswered K task before after a =
-    ((r : Refusal) × TaskDue task before after r × IsRefused r before after a)
-    ⊎ IsRunOf K task before after a
+-- what the answer to a job is
+abbrev pub RunAnswered : {M : Type 0} → KindOf M → Job → Outside → Outside → Answer → Type 0
+RunAnswered K job before after a =
+    ((r : Refusal) × RunDue job before after r × IsRefused r before after a)
+    ⊎ IsRunOf K job before after a
 
 -- what it is on the plain machine, which leaves the device alone
-abbrev pub PlainAnswered : Task → Outside → Outside → Answer → Type 0
-PlainAnswered task before after a =
+abbrev pub PlainAnswered : Job → Outside → Outside → Answer → Type 0
+PlainAnswered job before after a =
     (after.device ≡ before.device)
-    × (((r : Refusal) × ProgramDue task before.shelf after.shelf r × IsRefused r before after a)
-    ⊎ IsPlainOf task before after a)
+    × (((r : Refusal) × ProgramDue job before.shelf after.shelf r × IsRefused r before after a)
+    ⊎ IsPlainOf job before after a)
 
 -- the words are refused, and shelf and device are left alone
 abbrev pub WordsRefused : List (List ℕ) → Outside → Outside → Answer → Type 0
@@ -290,5 +273,5 @@ abbrev pub Answered : {M : Type 0} → KindOf M → List (List ℕ) → Outside 
 Answered K words before after a =
     (after.shelf.held ≡ before.shelf.held)
     × (WordsRefused words before after a
-    ⊎ (((job : Job) × (settings_of words ≡ Ok (run job)) × TaskAnswered K (task_of job) before after a)
-    ⊎ ((job : Job) × (settings_of words ≡ Ok (plain job)) × PlainAnswered (task_of job) before after a)))
+    ⊎ (((job : Job) × (settings_of words ≡ Ok (run job)) × RunAnswered K job before after a)
+    ⊎ ((job : Job) × (settings_of words ≡ Ok (plain job)) × PlainAnswered job before after a)))

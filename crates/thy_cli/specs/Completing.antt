@@ -9,7 +9,7 @@ use Rattle.thy_run.specs.declared.ending.Stop.TheVariants.{Ended}
 use Rattle.thy_view.specs.Kind.{KindOf}
 use Rattle.thy_words.specs.Settings.{Job, Order, run, plain, settings_of}
 use Rattle.thy_view.specs.Origin.{at}
-use Rattle.thy_cli.specs.Answering.{Outside, Task, task_of, IsProgramFile, origin_for, stop_status, Answered}
+use Rattle.thy_cli.specs.Answering.{Outside, IsProgramFile, origin_for, stop_status, Answered}
 use Rattle.thy_cli.specs.declared.answer.Answer.{Answer}
 
 -- the words order something of a shelf that tells: file and input stand there, each within the limit, and the file is a program
@@ -18,7 +18,7 @@ pub record IsAsked (order : Job → Order) (words : List (List ℕ)) (stock : St
   pub asked : settings_of words ≡ Ok (order job)
   pub files : Files
   pub tells : stock.held ≡ Some files
-  pub program : IsProgramFile (task_of job) stock
+  pub program : IsProgramFile job stock
 
 -- a count of faults stayed, below the last value, at which it would also stand after a fault
 pub record Stayed (old new : ℕ) : Type 0 where
@@ -33,12 +33,12 @@ pub record IsCalm (before after : Outside) : Type 0 where
   pub report : Stayed before.report.faults after.report.faults
 
 -- the uninterrupted program's state after so many steps
-abbrev pub plain_state : Task → Contents → List ℕ → ℕ → State
+abbrev pub plain_state : Job → Contents → List ℕ → ℕ → State
 plain_state task contents input k = at (origin_for task contents input) k
 
 -- the program's state after k instructions, left alone
 abbrev pub left_alone : {order : Job → Order} {words : List (List ℕ)} {stock : Stock} → IsAsked order words stock → ℕ → State
-left_alone i k = plain_state (task_of i.job) i.program.contents i.program.input k
+left_alone i k = plain_state i.job i.program.contents i.program.input k
 
 -- the answer is that of this state's end, or memory was short
 abbrev pub TellsEnd : State → Answer → Type 0

@@ -7,7 +7,8 @@ use Rattle.thy_elf.specs.Image.{contents_of}
 use Rattle.thy_plain.specs.Start.{start_state}
 use Rattle.thy_run.specs.Going.{origin_of, IsPlanned}
 use Rattle.thy_run.specs.declared.plan.Plan.{Plan}
-use Rattle.thy_cli.specs.Answering.{Task, IsProgramFile, told_of}
+use Rattle.thy_words.specs.Settings.{Job}
+use Rattle.thy_cli.specs.Answering.{IsProgramFile, told_of}
 use Rattle.thy_cli.specs.declared.refusal.Refusal.{Refusal}
 use Rattle.thy_cli.specs.declared.source.Program.{Program}
 use Rattle.thy_cli.specs.declared.source.Task.{Task as TaskValue}
@@ -20,7 +21,7 @@ abbrev pub refused_line : Refusal → List ℕ
 refused_line r = (told_of r).1
 
 -- the task that the program has in hand
-abbrev pub named : TaskValue → Task
+abbrev pub named : TaskValue → Job
 named task = record {
   file = task.file.now;
   input = option_map (λ name. name.now) task.input;
@@ -29,7 +30,7 @@ named task = record {
 }
 
 -- a program is what a task's file means, with the task's input
-pub record IsProgramOf (task : Task) (stock : Stock) (p : Program) : Type 0 where
+pub record IsProgramOf (task : Job) (stock : Stock) (p : Program) : Type 0 where
   pub geometry : p.geometry ≡ parameters_of task.config
   pub in_range : IsInRange p.geometry
   pub file : IsProgramFile task stock
@@ -38,7 +39,7 @@ pub record IsProgramOf (task : Task) (stock : Stock) (p : Program) : Type 0 wher
   pub size : length (bytes_of p.image.memory) ≡ program_size p.geometry
 
 -- a plan is that of a task: its program is what the file means, and reads the input
-pub record IsPlanOf (task : Task) (stock : Stock) (p : Plan) : Type 0 where
+pub record IsPlanOf (task : Job) (stock : Stock) (p : Plan) : Type 0 where
   pub config : p.config ≡ task.config
   pub geometry : p.geometry ≡ parameters_of task.config
   pub digest : p.digest ≡ task.digest

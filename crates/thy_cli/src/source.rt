@@ -100,6 +100,7 @@ fn program_for<'a, H: Shelf>(
         Err(refusal) => return Err(refusal),
     };
     are_bytes(file.as_slice());
+    are_bytes(input.as_slice());
     let base = geometry.numbers().base;
     match read(alloc, file.as_slice(), base, geometry.program_size()) {
         Ok(image) => Ok(Program {

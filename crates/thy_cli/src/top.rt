@@ -6,7 +6,7 @@ ghost use Rattle.thy_base.specs.Config.{fault_of as range_fault};
 ghost use Rattle.thy_base.specs.Geometry.{program_size};
 ghost use Rattle.thy_base.specs.Outside.{Stock};
 ghost use Rattle.thy_cli.specs.Completing.{Claim};
-ghost use Rattle.thy_cli.specs.Answering.{outside, TaskAnswered, ProgramDue};
+ghost use Rattle.thy_cli.specs.Answering.{outside, RunAnswered, ProgramDue};
 ghost use Rattle.thy_cli.specs.Planning.{IsProgramOf, IsPlanOf, named};
 
 use crate::answer::Answer;
@@ -17,7 +17,7 @@ use crate::source::{Program, Task, fetch_program};
 use std::alloc::Global;
 use thy_base::{Nvm, Shape, Shelf, Sink};
 use thy_copy::Machine;
-use thy_plain::{are_bytes, start_of};
+use thy_plain::start_of;
 use thy_record::Start;
 use thy_run::{Plan, run};
 use thy_view::Computer;
@@ -30,7 +30,6 @@ fn plan_of(alloc: Global, task: Task, program: Program) -> Plan
     ensures { (stock : Stock) → IsProgramOf (named task.entry) stock program
         → IsPlanOf (named task.entry) stock result }
 {
-    are_bytes(program.input.as_slice());
     let start = Start {
         state: start_of(alloc, program.image, &program.geometry),
         kept: None,
@@ -74,7 +73,7 @@ fn run_file<M: Computer, H: Shelf, T: Sink, R: Sink, N: Nvm>(
         (T.stream terminal.old) (R.stream report.old) in
         let after = outside (H.stock shelf.new) (N.device nvm.new)
         (T.stream terminal.new) (R.stream report.new) in
-        TaskAnswered M.kind (named task.entry) before after result }
+        RunAnswered M.kind (named task.entry) before after result }
 {
     let plan = match prepare(alloc, task, shelf) {
         Ok(plan) => plan,

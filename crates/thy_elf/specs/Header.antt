@@ -43,5 +43,4 @@ header_demands file =
     ∷ asked (bit_and h.flags 8 == 0) IsRve
     ∷ asked (h.size == 64 && (h.count == 0 || h.entry_size == 56)) BadHeaderSize
     ∷ asked (not (h.count == 0xFFFF)) TooManyHeaders
-    ∷ asked (h.count == 0 || nat_le (h.table + 56 * h.count) (length file)) HeadersOutside
-    ∷ []
+    ∷ asked (h.count == 0 || nat_le (h.table + 56 * h.count) (length file)) HeadersOutside ∷ []

@@ -46,8 +46,7 @@ segment_demands file base size k =
     let p = program_header file k in
     asked (not (is_load p) || nat_le p.file_size p.memory_size) (FileOverMemory k)
     ∷ asked (not (is_load p) || (p.file_size == 0 || nat_le (p.offset + p.file_size) (length file))) (SegmentOutsideFile k)
-    ∷ asked (not (takes_memory p) || is_inside base size p.address p.memory_size) (SegmentOutsideMemory k)
-    ∷ []
+    ∷ asked (not (takes_memory p) || is_inside base size p.address p.memory_size) (SegmentOutsideMemory k) ∷ []
 
 -- the file is long enough for its header and all its program headers
 pub record HasHeaders (file : List ℕ) : Type 0 where

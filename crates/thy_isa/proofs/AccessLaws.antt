@@ -1,18 +1,19 @@
 -- What the instruction at pc reads or writes lies within memory, and its address is a multiple of its width.
 use Rattle.std.proofs.Common.{◌≡◌, ℕ, ◌+◌, ◌%◌, ◌==◌, Bool, true, false, if◌then◌else◌, List, length, Option, Some, None, refl, arith}
 use Rattle.std.proofs.lemmas.Bool.Decides.{nat_tests}
+use Rattle.std.specs.Option.{option_map_or}
 use Rattle.thy_base.specs.Inside.{is_inside}
 use Rattle.thy_base.proofs.InsideLemmas.{is_inside-true}
 use Rattle.thy_isa.specs.declared.instr.Instr.{Instr}
 use Rattle.thy_isa.specs.declared.instr.Instr.TheVariants.{Lui, Auipc, Jal, Jalr, Branch, Load, Store, OpImm, Op, Fence, FenceI, Ecall, Ebreak}
 use Rattle.thy_isa.specs.declared.state.Cause.{Cause}
-use Rattle.thy_isa.specs.declared.state.Cause.TheVariants.{FetchMisaligned, LoadAccess, StoreAccess, LoadMisaligned, StoreMisaligned}
+use Rattle.thy_isa.specs.declared.state.Cause.TheVariants.{Illegal, FetchMisaligned, LoadAccess, StoreAccess, LoadMisaligned, StoreMisaligned}
 use Rattle.thy_isa.specs.declared.state.Effect.{Effect}
 use Rattle.thy_isa.specs.declared.state.Effect.TheVariants.{Next, Set, Read, Write, Environment, Trap}
 use Rattle.thy_isa.specs.Arith.{low64}
 use Rattle.thy_isa.specs.Regs.{reg_at}
 use Rattle.thy_isa.specs.Table.{instr_of}
-use Rattle.thy_isa.specs.Effects.{size_of, after, even, holds, linked, branched, effect_of, effect_or_illegal, word_effect}
+use Rattle.thy_isa.specs.Effects.{size_of, after, even, holds, linked, branched, effect_of, word_effect}
 use Rattle.thy_isa.specs.Step.{State, fetch_fault, within, fetched, word_at, effect_at}
 use Rattle.thy_isa.specs.Access.{IsWithin, IsAligned}
 
@@ -76,7 +77,7 @@ effect_of-aligned FenceI pc x = tt
 effect_of-aligned Ecall pc x = tt
 effect_of-aligned Ebreak pc x = tt
 
-effect_or_illegal-aligned : (o : Option Instr) (pc : ℕ) (x : List ℕ) → IsAligned (effect_or_illegal o pc x)
+effect_or_illegal-aligned : (o : Option Instr) (pc : ℕ) (x : List ℕ) → IsAligned (option_map_or (λ i. effect_of i pc x) o (Trap Illegal))
 effect_or_illegal-aligned None pc x = tt
 effect_or_illegal-aligned (Some i) pc x = effect_of-aligned i pc x
 

@@ -1,17 +1,18 @@
 -- The immediates of every word, and what every instruction gives, are numbers of 64 bits.
-use Rattle.std.proofs.Common.{ℕ, ◌+◌, ◌*◌, ◌%◌, ◌^◌, ◌==◌, Bool, true, false, if◌then◌else◌, nat_lt, List, [], ◌∷◌, ◌++◌, Option, Some, None, arith, lit<, get_or}
+use Rattle.std.proofs.Common.{ℕ, ◌+◌, ◌*◌, ◌%◌, ◌^◌, ◌==◌, Bool, true, false, if◌then◌else◌, nat_lt, List, [], ◌∷◌, Option, Some, None, arith, lit<, get_or}
 use Rattle.std.specs.List.{All}
+use Rattle.std.specs.Option.{option_map_or}
 use Rattle.std.specs.Prelude.{IfSome}
 use Rattle.thy_isa.specs.declared.instr.Instr.{Instr}
 use Rattle.thy_isa.specs.declared.instr.Instr.TheVariants.{Lui, Auipc, Jal, Jalr, Branch, Load, Store, OpImm, Op, Fence, FenceI, Ecall, Ebreak}
 use Rattle.thy_isa.specs.declared.state.Effect.{Effect}
 use Rattle.thy_isa.specs.declared.state.Effect.TheVariants.{Next, Set, Read, Write, Environment, Trap}
-use Rattle.thy_isa.specs.declared.state.Cause.TheVariants.{FetchMisaligned, LoadMisaligned, StoreMisaligned}
+use Rattle.thy_isa.specs.declared.state.Cause.TheVariants.{FetchMisaligned, Illegal, LoadMisaligned, StoreMisaligned}
 use Rattle.thy_isa.specs.Words.{bits_of, imm_i, imm_u, shamt_of, shamt_w_of}
-use Rattle.thy_isa.specs.Table.{Row, has_row, memory_rows, integer_rows, word_rows, system_rows, multiply_rows, table, first_row, instr_of}
+use Rattle.thy_isa.specs.Table.{Row, has_row, table, first_row, instr_of}
 use Rattle.thy_isa.specs.Arith.{low64}
 use Rattle.thy_isa.specs.Regs.{reg_at}
-use Rattle.thy_isa.specs.Effects.{size_of, after, even, linked, branched, holds, effect_of, effect_or_illegal, word_effect}
+use Rattle.thy_isa.specs.Effects.{size_of, after, even, linked, branched, holds, effect_of, word_effect}
 use Rattle.thy_isa.specs.Storable.{IsNumber}
 use Rattle.thy_isa.proofs.NumberBounds.{if_number, low64_number, alu_of-number}
 use Rattle.thy_isa.proofs.MemoryBounds.{anywhere}
@@ -39,32 +40,9 @@ abbrev EachRow : List Row → Type 0
 EachRow [] = Unit {0}
 EachRow (r ∷ rows) = ((w : ℕ) → HasNumbers (r.instr w)) × EachRow rows
 
-EachRow-append : (a b : List Row) → EachRow a → EachRow b → EachRow (a ++ b)
-EachRow-append [] b p q = q
-EachRow-append (r ∷ a) b p q = (p.0, EachRow-append a b p.1 q)
-
-memory_rows-numbers : EachRow memory_rows
-memory_rows-numbers = (imm_u-number, ((λ w. tt), ((λ w. tt), ((λ w. tt), ((λ w. tt), ((λ w. tt), ((λ w. tt), ((λ w. tt), ((λ w. tt), ((λ w. tt), ((λ w. tt), ((λ w. tt), ((λ w. tt), ((λ w. tt), ((λ w. tt), ((λ w. tt), ((λ w. tt), ((λ w. tt), ((λ w. tt), ((λ w. tt), ((λ w. tt), tt)))))))))))))))))))))
-
-integer_rows-numbers : EachRow integer_rows
-integer_rows-numbers = (imm_i-number, (imm_i-number, (imm_i-number, (imm_i-number, (imm_i-number, (imm_i-number, (shamt-number, (shamt-number, (shamt-number, ((λ w. tt), ((λ w. tt), ((λ w. tt), ((λ w. tt), ((λ w. tt), ((λ w. tt), ((λ w. tt), ((λ w. tt), ((λ w. tt), ((λ w. tt), tt)))))))))))))))))))
-
-word_rows-numbers : EachRow word_rows
-word_rows-numbers = (imm_i-number, (shamt_w-number, (shamt_w-number, (shamt_w-number, ((λ w. tt), ((λ w. tt), ((λ w. tt), ((λ w. tt), ((λ w. tt), tt)))))))))
-
-system_rows-numbers : EachRow system_rows
-system_rows-numbers = ((λ w. tt), ((λ w. tt), ((λ w. tt), ((λ w. tt), tt))))
-
-multiply_rows-numbers : EachRow multiply_rows
-multiply_rows-numbers = ((λ w. tt), ((λ w. tt), ((λ w. tt), ((λ w. tt), ((λ w. tt), ((λ w. tt), ((λ w. tt), ((λ w. tt), ((λ w. tt), ((λ w. tt), ((λ w. tt), ((λ w. tt), ((λ w. tt), tt)))))))))))))
-
 table-numbers : EachRow table
 table-numbers =
-    EachRow-append (memory_rows ++ integer_rows ++ word_rows ++ system_rows) multiply_rows
-    (EachRow-append (memory_rows ++ integer_rows ++ word_rows) system_rows
-    (EachRow-append (memory_rows ++ integer_rows) word_rows (EachRow-append memory_rows integer_rows memory_rows-numbers integer_rows-numbers) word_rows-numbers)
-    system_rows-numbers)
-    multiply_rows-numbers
+    (imm_u-number, ((λ w. tt), ((λ w. tt), ((λ w. tt), ((λ w. tt), ((λ w. tt), ((λ w. tt), ((λ w. tt), ((λ w. tt), ((λ w. tt), ((λ w. tt), ((λ w. tt), ((λ w. tt), ((λ w. tt), ((λ w. tt), ((λ w. tt), ((λ w. tt), ((λ w. tt), ((λ w. tt), ((λ w. tt), ((λ w. tt), (imm_i-number, (imm_i-number, (imm_i-number, (imm_i-number, (imm_i-number, (imm_i-number, (shamt-number, (shamt-number, (shamt-number, ((λ w. tt), ((λ w. tt), ((λ w. tt), ((λ w. tt), ((λ w. tt), ((λ w. tt), ((λ w. tt), ((λ w. tt), ((λ w. tt), ((λ w. tt), (imm_i-number, (shamt_w-number, (shamt_w-number, (shamt_w-number, ((λ w. tt), ((λ w. tt), ((λ w. tt), ((λ w. tt), ((λ w. tt), ((λ w. tt), ((λ w. tt), ((λ w. tt), ((λ w. tt), ((λ w. tt), ((λ w. tt), ((λ w. tt), ((λ w. tt), ((λ w. tt), ((λ w. tt), ((λ w. tt), ((λ w. tt), ((λ w. tt), ((λ w. tt), ((λ w. tt), ((λ w. tt), ((λ w. tt), tt))))))))))))))))))))))))))))))))))))))))))))))))))))))))))))))))))
 
 if_some : (b : Bool) (i : Instr) (o : Option Instr) → HasNumbers i → IfSome o HasNumbers → IfSome (if b then Some i else o) HasNumbers
 if_some true i o p q = p
@@ -127,7 +105,7 @@ effect_of-numbers FenceI pc x h q = low64_number (pc + 4)
 effect_of-numbers Ecall pc x h q = tt
 effect_of-numbers Ebreak pc x h q = tt
 
-effect_or_illegal-numbers : (o : Option Instr) (pc : ℕ) (x : List ℕ) → IfSome o HasNumbers → All IsNumber x → EffectNumbers (effect_or_illegal o pc x)
+effect_or_illegal-numbers : (o : Option Instr) (pc : ℕ) (x : List ℕ) → IfSome o HasNumbers → All IsNumber x → EffectNumbers (option_map_or (λ i. effect_of i pc x) o (Trap Illegal))
 effect_or_illegal-numbers None pc x h q = tt
 effect_or_illegal-numbers (Some i) pc x h q = effect_of-numbers i pc x h q
 

@@ -22,22 +22,12 @@ sx32 v = sign_extended 32 (low32 v)
 abbrev pub all_ones : ℕ
 all_ones = 2 ^ 64 - 1
 
--- the signed number that a number of 64 bits stands for
+-- the signed number that a number of 64 bits stands for, and that of its low 32 bits
 abbrev pub signed : ℕ → ℤ
 signed a = cast_signed w64 a
 
--- quotients and remainders of the low 32 bits a and b
-abbrev pub quotient_w : ℕ → ℕ → ℕ
-quotient_w a b = if b == 0 then all_ones else sx32 (cast_unsigned w32 (int_div (cast_signed w32 a) (cast_signed w32 b)))
-
-abbrev pub quotient_unsigned_w : ℕ → ℕ → ℕ
-quotient_unsigned_w a b = if b == 0 then all_ones else sx32 (a / b)
-
-abbrev pub remainder_w : ℕ → ℕ → ℕ
-remainder_w a b = if b == 0 then sx32 a else sx32 (cast_unsigned w32 (int_rem (cast_signed w32 a) (cast_signed w32 b)))
-
-abbrev pub remainder_unsigned_w : ℕ → ℕ → ℕ
-remainder_unsigned_w a b = if b == 0 then sx32 a else sx32 (a % b)
+abbrev pub signed32 : ℕ → ℤ
+signed32 a = cast_signed w32 (low32 a)
 
 -- What an operation gives for a and b. Mulh, Mulhsu and Mulhu give bits 127 to 64 of the exact product, each operand signed
 -- or not. Quotients round toward zero, and a remainder has the dividend's sign.
@@ -64,9 +54,11 @@ alu_of Addw a b = sx32 (a + b)
 alu_of Subw a b = sx32 (a + (2 ^ 64 - b))
 alu_of Sllw a b = sx32 (a * 2 ^ (b % 32))
 alu_of Srlw a b = sx32 (low32 a / 2 ^ (b % 32))
-alu_of Sraw a b = cast_unsigned w64 (int_shr (cast_signed w32 (low32 a)) (b % 32))
+alu_of Sraw a b = cast_unsigned w64 (int_shr (signed32 a) (b % 32))
 alu_of Mulw a b = sx32 (a * b)
-alu_of Divw a b = quotient_w (low32 a) (low32 b)
-alu_of Divuw a b = quotient_unsigned_w (low32 a) (low32 b)
-alu_of Remw a b = remainder_w (low32 a) (low32 b)
-alu_of Remuw a b = remainder_unsigned_w (low32 a) (low32 b)
+alu_of Divw a b =
+    if low32 b == 0 then all_ones else sx32 (cast_unsigned w32 (int_div (signed32 a) (signed32 b)))
+alu_of Divuw a b = if low32 b == 0 then all_ones else sx32 (low32 a / low32 b)
+alu_of Remw a b =
+    if low32 b == 0 then sx32 (low32 a) else sx32 (cast_unsigned w32 (int_rem (signed32 a) (signed32 b)))
+alu_of Remuw a b = if low32 b == 0 then sx32 (low32 a) else sx32 (low32 a % low32 b)

@@ -1,5 +1,6 @@
 -- What an instruction does, given the program counter and the registers.
-use Rattle.std.specs.Prelude.{ℕ, ◌+◌, ◌-◌, ◌%◌, Bool, not, ◌==◌, nat_lt, int_lt, if◌then◌else◌, List, Option, Some, None}
+use Rattle.std.specs.Prelude.{ℕ, ◌+◌, ◌-◌, ◌%◌, Bool, not, ◌==◌, nat_lt, int_lt, if◌then◌else◌, List}
+use Rattle.std.specs.Option.{option_map_or}
 use Rattle.std.specs.Int.{w64, cast_signed}
 use Rattle.thy_isa.specs.declared.instr.Instr.{Instr}
 use Rattle.thy_isa.specs.declared.instr.Instr.TheVariants.{Lui, Auipc, Jal, Jalr, Branch, Load, Store, OpImm, Op, Fence, FenceI, Ecall, Ebreak}
@@ -70,9 +71,5 @@ effect_of Ecall pc x = Environment
 effect_of Ebreak pc x = Trap Breakpoint
 
 -- what a word does: it is illegal where it means no instruction
-abbrev pub effect_or_illegal : Option Instr → ℕ → List ℕ → Effect
-effect_or_illegal None pc x = Trap Illegal
-effect_or_illegal (Some i) pc x = effect_of i pc x
-
 abbrev pub word_effect : ℕ → ℕ → List ℕ → Effect
-word_effect w pc x = effect_or_illegal (instr_of w) pc x
+word_effect w pc x = option_map_or (λ i. effect_of i pc x) (instr_of w) (Trap Illegal)

@@ -1,5 +1,5 @@
 -- The instructions of RV64I 2.1, M 2.0 and Zifencei 2.0, in the order of the RISC-V unprivileged ISA manual's listings.
-use Rattle.std.specs.Prelude.{ℕ, suc, Bool, true, ◌==◌, ◌&&◌, if◌then◌else◌, List, [], ◌∷◌, ◌++◌, Option, Some, None}
+use Rattle.std.specs.Prelude.{ℕ, suc, Bool, true, ◌==◌, ◌&&◌, if◌then◌else◌, List, [], ◌∷◌, Option, Some, None}
 use Rattle.thy_isa.specs.declared.instr.Instr.{Instr}
 use Rattle.thy_isa.specs.declared.instr.Instr.TheVariants.{Lui, Auipc, Jal, Jalr, Branch, Load, Store, OpImm, Op, Fence, FenceI, Ecall, Ebreak}
 use Rattle.thy_isa.specs.declared.instr.Alu.{Alu}
@@ -63,9 +63,10 @@ shift_w f w = OpImm f (rd_of w) (rs1_of w) (shamt_w_of w)
 abbrev pub register : Alu → ℕ → Instr
 register f w = Op f (rd_of w) (rs1_of w) (rs2_of w)
 
--- RV64I 2.1: jumps, branches, loads and stores
-abbrev pub memory_rows : List Row
-memory_rows =
+-- the table
+abbrev pub table : List Row
+table =
+    -- RV64I 2.1: jumps, branches, loads and stores
     row 0b0110111 Any (λ w. Lui (rd_of w) (imm_u w))
     ∷ row 0b0010111 Any (λ w. Auipc (rd_of w) (imm_u w))
     ∷ row 0b1101111 Any (λ w. Jal (rd_of w) (imm_j w))
@@ -86,12 +87,9 @@ memory_rows =
     ∷ row 0b0100011 (F3 0b000) (store Byte)
     ∷ row 0b0100011 (F3 0b001) (store Half)
     ∷ row 0b0100011 (F3 0b010) (store Word)
-    ∷ row 0b0100011 (F3 0b011) (store Double) ∷ []
-
--- RV64I 2.1: operations on the whole registers
-abbrev pub integer_rows : List Row
-integer_rows =
-    row 0b0010011 (F3 0b000) (immediate Add)
+    ∷ row 0b0100011 (F3 0b011) (store Double)
+    -- RV64I 2.1: operations on the whole registers
+    ∷ row 0b0010011 (F3 0b000) (immediate Add)
     ∷ row 0b0010011 (F3 0b010) (immediate Slt)
     ∷ row 0b0010011 (F3 0b011) (immediate Sltu)
     ∷ row 0b0010011 (F3 0b100) (immediate Xor)
@@ -109,12 +107,9 @@ integer_rows =
     ∷ row 0b0110011 (F37 0b101 0b0000000) (register Srl)
     ∷ row 0b0110011 (F37 0b101 0b0100000) (register Sra)
     ∷ row 0b0110011 (F37 0b110 0b0000000) (register Or)
-    ∷ row 0b0110011 (F37 0b111 0b0000000) (register And) ∷ []
-
--- RV64I 2.1: operations on the low 32 bits
-abbrev pub word_rows : List Row
-word_rows =
-    row 0b0011011 (F3 0b000) (immediate Addw)
+    ∷ row 0b0110011 (F37 0b111 0b0000000) (register And)
+    -- RV64I 2.1: operations on the low 32 bits
+    ∷ row 0b0011011 (F3 0b000) (immediate Addw)
     ∷ row 0b0011011 (F37 0b001 0b0000000) (shift_w Sllw)
     ∷ row 0b0011011 (F37 0b101 0b0000000) (shift_w Srlw)
     ∷ row 0b0011011 (F37 0b101 0b0100000) (shift_w Sraw)
@@ -122,20 +117,14 @@ word_rows =
     ∷ row 0b0111011 (F37 0b000 0b0100000) (register Subw)
     ∷ row 0b0111011 (F37 0b001 0b0000000) (register Sllw)
     ∷ row 0b0111011 (F37 0b101 0b0000000) (register Srlw)
-    ∷ row 0b0111011 (F37 0b101 0b0100000) (register Sraw) ∷ []
-
--- RV64I 2.1 and Zifencei 2.0: fences, whose other fields are ignored, and calls of the environment
-abbrev pub system_rows : List Row
-system_rows =
-    row 0b0001111 (F3 0b000) (λ w. Fence)
+    ∷ row 0b0111011 (F37 0b101 0b0100000) (register Sraw)
+    -- RV64I 2.1 and Zifencei 2.0: fences, whose other fields are ignored, and calls of the environment
+    ∷ row 0b0001111 (F3 0b000) (λ w. Fence)
     ∷ row 0b0001111 (F3 0b001) (λ w. FenceI)
     ∷ row 0b1110011 (Whole 0x00000073) (λ w. Ecall)
-    ∷ row 0b1110011 (Whole 0x00100073) (λ w. Ebreak) ∷ []
-
--- M 2.0
-abbrev pub multiply_rows : List Row
-multiply_rows =
-    row 0b0110011 (F37 0b000 0b0000001) (register Mul)
+    ∷ row 0b1110011 (Whole 0x00100073) (λ w. Ebreak)
+    -- M 2.0
+    ∷ row 0b0110011 (F37 0b000 0b0000001) (register Mul)
     ∷ row 0b0110011 (F37 0b001 0b0000001) (register Mulh)
     ∷ row 0b0110011 (F37 0b010 0b0000001) (register Mulhsu)
     ∷ row 0b0110011 (F37 0b011 0b0000001) (register Mulhu)
@@ -148,10 +137,6 @@ multiply_rows =
     ∷ row 0b0111011 (F37 0b101 0b0000001) (register Divuw)
     ∷ row 0b0111011 (F37 0b110 0b0000001) (register Remw)
     ∷ row 0b0111011 (F37 0b111 0b0000001) (register Remuw) ∷ []
-
--- every row
-abbrev pub table : List Row
-table = memory_rows ++ integer_rows ++ word_rows ++ system_rows ++ multiply_rows
 
 -- the instruction of the first of these rows that a word has
 abbrev pub first_row : List Row → ℕ → Option Instr

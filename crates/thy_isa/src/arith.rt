@@ -3,8 +3,8 @@
 
 ghost use Rattle.std.specs.Prelude.{◌≡◌, ◌+◌, ◌-◌, ◌*◌, ◌/◌, ◌%◌, ◌^◌, ◌<◌, nat_lt, if◌then◌else◌, int_div, int_rem};
 ghost use Rattle.std.specs.Int.{w32, w64, cast_signed, cast_unsigned, int_shr};
-ghost use Rattle.thy_isa.specs.declared.instr.Alu.TheVariants.{Mulh, Mulhsu, Mulhu, Div, Divu, Rem, Remu};
-ghost use Rattle.thy_isa.specs.Arith.{alu_of, sx32, low32, quotient_w, quotient_unsigned_w, remainder_w, remainder_unsigned_w};
+ghost use Rattle.thy_isa.specs.declared.instr.Alu.TheVariants.{Mulh, Mulhsu, Mulhu, Div, Divu, Rem, Remu, Divw, Divuw, Remw, Remuw};
+ghost use Rattle.thy_isa.specs.Arith.{alu_of, sx32, low32};
 
 use crate::instr::Alu;
 
@@ -37,10 +37,10 @@ pub fn alu(op: Alu, a: u64, b: u64) -> u64
         Alu::Srlw => sign_extended(low(a) >> (b & 31)),
         Alu::Sraw => i64::from(low(a).cast_signed() >> (b & 31)).cast_unsigned(),
         Alu::Mulw => sign_extended(low(a.wrapping_mul(b))),
-        Alu::Divw => quotient_w(low(a), low(b)),
-        Alu::Divuw => quotient_unsigned_w(low(a), low(b)),
-        Alu::Remw => remainder_w(low(a), low(b)),
-        Alu::Remuw => remainder_unsigned_w(low(a), low(b)),
+        Alu::Divw => quotient_w(a, b),
+        Alu::Divuw => quotient_unsigned_w(a, b),
+        Alu::Remw => remainder_w(a, b),
+        Alu::Remuw => remainder_unsigned_w(a, b),
     }
 }
 
@@ -117,9 +117,10 @@ fn remainder_unsigned(a: u64, b: u64) -> u64
     if b == 0 { a } else { a % b }
 }
 
-fn quotient_w(a: u32, b: u32) -> u64
-    ensures { result ≡ quotient_w a b }
+fn quotient_w(a: u64, b: u64) -> u64
+    ensures { result ≡ alu_of Divw a b }
 {
+    let (a, b) = (low(a), low(b));
     if b == 0 {
         u64::MAX
     } else {
@@ -137,9 +138,10 @@ fn divided(a: u32, b: u32) -> u32
         .cast_unsigned()
 }
 
-fn quotient_unsigned_w(a: u32, b: u32) -> u64
-    ensures { result ≡ quotient_unsigned_w a b }
+fn quotient_unsigned_w(a: u64, b: u64) -> u64
+    ensures { result ≡ alu_of Divuw a b }
 {
+    let (a, b) = (low(a), low(b));
     if b == 0 {
         u64::MAX
     } else {
@@ -147,9 +149,10 @@ fn quotient_unsigned_w(a: u32, b: u32) -> u64
     }
 }
 
-fn remainder_w(a: u32, b: u32) -> u64
-    ensures { result ≡ remainder_w a b }
+fn remainder_w(a: u64, b: u64) -> u64
+    ensures { result ≡ alu_of Remw a b }
 {
+    let (a, b) = (low(a), low(b));
     if b == 0 {
         sign_extended(a)
     } else {
@@ -167,9 +170,10 @@ fn left_over(a: u32, b: u32) -> u32
         .cast_unsigned()
 }
 
-fn remainder_unsigned_w(a: u32, b: u32) -> u64
-    ensures { result ≡ remainder_unsigned_w a b }
+fn remainder_unsigned_w(a: u64, b: u64) -> u64
+    ensures { result ≡ alu_of Remuw a b }
 {
+    let (a, b) = (low(a), low(b));
     if b == 0 {
         sign_extended(a)
     } else {

@@ -117,13 +117,13 @@ module _ {M : Type 0} (K : KindOf M) (laws : IsLawful K) (o : Origin) (cuts : Li
 
 -- so it is after any number of cycles
 pub Works-ran : {M : Type 0} (K : KindOf M) (laws : IsLawful K) (o : Origin) (given : Given) (k : ℕ) (w : World M) (ran : Ran K o given k w)
-    → Works K o given.cuts w (tally_of K o given k w ran)
+    → Works K o given.config.cuts w (tally_of K o given k w ran)
 Works-ran {M = M} K laws o given zero w first =
-    powered K laws o given.cuts w (subst (λ k. K.is_at o k w.machine w.device) (sym first.cycles) first.at_moment) first.powered first.empty
+    powered K laws o given.config.cuts w (subst (λ k. K.is_at o k w.machine w.device) (sym first.cycles) first.at_moment) first.powered first.empty
     (let none : w.cycles ≡ 0 = first.cycles in omega (arith, none))
 Works-ran {M = M} K laws o given (suc k) w (before, ran, cycle) =
-    by_due K laws o given.cuts before cycle.between w cycle.steps (tally_of K o given k before ran) (Works-ran K laws o given k before ran)
-    (tear given.tears cycle.between.passed) (is_due K o given.cuts cycle.between) refl cycle.cut
+    by_due K laws o given.config.cuts before cycle.between w cycle.steps (tally_of K o given k before ran) (Works-ran K laws o given k before ran)
+    (tear given.config.tears cycle.between.passed) (is_due K o given.config.cuts cycle.between) refl cycle.cut
 
 -- ---- what was spent
 
@@ -143,7 +143,7 @@ spent_by {M = M} K o w x next step pick false is = subst (λ (y : World M). (see
 spent-ran : {M : Type 0} (K : KindOf M) (o : Origin) (given : Given) (k : ℕ) (w : World M) → Ran K o given k w → 0 < k → (seen K o w).spent < K.most_spent o.geometry
 spent-ran {M = M} K o given zero w first some = absurd (omega arith)
 spent-ran {M = M} K o given (suc k) w (before, ran, cycle) some =
-    spent_by K o before cycle.between w cycle.steps (tear given.tears cycle.between.passed) (is_due K o given.cuts cycle.between) cycle.cut
+    spent_by K o before cycle.between w cycle.steps (tear given.config.tears cycle.between.passed) (is_due K o given.config.cuts cycle.between) cycle.cut
 
 -- ---- the laws
 

@@ -9,7 +9,7 @@ use Rattle.thy_run.proofs.StepFrames.{Steps-framed}
 
 -- the device keeps the picks of the first cuts
 pub record KeepsPicks (given : Given) (passed : ℕ) (n : Device) : Type 0 where
-  pub picks : n.picks ≡ torn given.tears passed
+  pub picks : n.picks ≡ torn given.config.tears passed
   pub fits : n.fits ≡ given.fitted.fits
 
 pub KeepsPicks-framed : (given : Given) (passed : ℕ) (old new : Device) → IsFramed old new → KeepsPicks given passed old → KeepsPicks given passed new
@@ -21,13 +21,13 @@ KeepsPicks-step {M = M} K o given w x step h =
     (KeepsPicks-framed given w.passed w.device x.device (Steps-framed K o w x step) h)
 
 keeps_by : {M : Type 0} (K : KindOf M) (o : Origin) (given : Given) (w x next : World M) → Steps K o w x → KeepsPicks given w.passed w.device
-    → (b : Bool) → MatchBool b (IsCutOff K o (tear given.tears x.passed) x next) (next ≡ x) → KeepsPicks given next.passed next.device
+    → (b : Bool) → MatchBool b (IsCutOff K o (tear given.config.tears x.passed) x next) (next ≡ x) → KeepsPicks given next.passed next.device
 keeps_by {M = M} K o given w x next step h true cut =
     let here = KeepsPicks-step K o given w x step h in
-    let device : next.device ≡ cut_to x.device (tear given.tears x.passed) next.device.image = cut.cut.device in
+    let device : next.device ≡ cut_to x.device (tear given.config.tears x.passed) next.device.image = cut.cut.device in
     let passed : next.passed ≡ suc x.passed = ap (λ (y : World M). y.passed) cut.next_is ∙ (let more : x.passed + 1 ≡ suc x.passed = omega arith in more) in
     record {
-      picks = ap (λ (n : Device). n.picks) device ∙ ap (λ (l : List ℕ). l ++ tear given.tears x.passed ∷ []) here.picks ∙ sym (ap (torn given.tears) passed);
+      picks = ap (λ (n : Device). n.picks) device ∙ ap (λ (l : List ℕ). l ++ tear given.config.tears x.passed ∷ []) here.picks ∙ sym (ap (torn given.config.tears) passed);
       fits = ap (λ (n : Device). n.fits) device ∙ here.fits;
     }
 keeps_by {M = M} K o given w x next step h false is =
@@ -36,8 +36,8 @@ keeps_by {M = M} K o given w x next step h false is =
 -- so it is after any number of cycles
 pub KeepsPicks-ran : {M : Type 0} (K : KindOf M) (o : Origin) (given : Given) (k : ℕ) (w : World M) → Ran K o given k w → KeepsPicks given w.passed w.device
 KeepsPicks-ran {M = M} K o given zero w first = record {
-  picks = first.picks ∙ sym (ap (torn given.tears) first.passed);
+  picks = first.picks ∙ sym (ap (torn given.config.tears) first.passed);
   fits = ap (λ (n : Device). n.fits) first.device;
 }
 KeepsPicks-ran {M = M} K o given (suc k) w (before, ran, cycle) =
-    keeps_by K o given before cycle.between w cycle.steps (KeepsPicks-ran K o given k before ran) (is_due K o given.cuts cycle.between) cycle.cut
+    keeps_by K o given before cycle.between w cycle.steps (KeepsPicks-ran K o given k before ran) (is_due K o given.config.cuts cycle.between) cycle.cut

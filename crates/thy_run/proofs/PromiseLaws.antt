@@ -62,8 +62,8 @@ cuts_fit cuts k w l = (
   ap length l.among ∙ length-numbered 1 (take w.passed cuts) ∙ length-taken w.passed cuts l.few,
 )
 
-module _ {M : Type 0} (K : KindOf M) (o : Origin) (given : Given) (w : World M) (least : 1 ≤ o.geometry.epoch) (g : Good K o given.cuts w) (keeps : KeepsPicks given w.passed w.device)
-    (soon : IsSoonOver K o given.cuts w.cycles) where
+module _ {M : Type 0} (K : KindOf M) (o : Origin) (given : Given) (w : World M) (least : 1 ≤ o.geometry.epoch) (g : Good K o given.config.cuts w) (keeps : KeepsPicks given w.passed w.device)
+    (soon : IsSoonOver K o given.config.cuts w.cycles) where
   abbrev read : List Block → Decoded
   read = K.decode o.geometry ceiling
 
@@ -73,12 +73,12 @@ module _ {M : Type 0} (K : KindOf M) (o : Origin) (given : Given) (w : World M) 
 
   done_promise : Promise K o given w.cycles w.events w.device
   done_promise =
-      let fit = cuts_fit given.cuts (last_cuttable w.events w.cycles) w g.listed in
+      let fit = cuts_fit given.config.cuts (last_cuttable w.events w.cycles) w g.listed in
       record {
         events_lawful = g.stands.lawful;
         restarts_decode = AllFit-ends read stood (HasLeft w.cycles) (first_found o) w.events w.device.left (λ t p. p.last) g.stands.each;
         cuts_listed = fit.0;
-        picks_listed = keeps.picks ∙ sym (ap (torn given.tears) fit.1);
+        picks_listed = keeps.picks ∙ sym (ap (torn given.config.tears) fit.1);
         fits_stay = keeps.fits;
         safe_at_return = g.stands.safe;
         soon = soon;
@@ -117,7 +117,7 @@ module _ {M : Type 0} (K : KindOf M) (o : Origin) (given : Given) (w : World M) 
         | inl e ↦ subst (KeepsPicks given w.passed) (sym e) at_next
         | inr f ↦ KeepsPicks-framed given w.passed next.device n f.framed at_next
       ] in
-      let fit = cuts_fit given.cuts w.cycles w (listed_going K o given.cuts w g step.going) in
+      let fit = cuts_fit given.config.cuts w.cycles w (listed_going K o given.config.cuts w g step.going) in
       let same_cuts : cuts_among (w.events ++ part) ≡ cuts_among w.events =
       cuts_among-append w.events part ∙ ap (λ (l : List Happening). cuts_among w.events ++ l) uncut ∙ append-nil (cuts_among w.events) in
       let going : has_ended (w.events ++ part) ≡ false =
@@ -138,8 +138,8 @@ module _ {M : Type 0} (K : KindOf M) (o : Origin) (given : Given) (w : World M) 
             (subst (λ vs. AllFit read (ImagesFit o (w.cycles + 1) false (seen K o next)) t vs []) whole
             (AllFit-events read o w.cycles w.fresh (seen K o w) (seen K o next) t p step.r.did (w.cycles + 1) step.is_step.step)) uncut p.last)
             g.stands.each);
-        cuts_listed = same_cuts ∙ fit.0 ∙ ap (λ k. numbered 1 (cuts_up_to k given.cuts)) (sym (ap (λ b. if b then w.cycles - 1 else w.cycles) going));
-        picks_listed = kept.picks ∙ sym (ap (torn given.tears) (ap length same_cuts ∙ fit.1));
+        cuts_listed = same_cuts ∙ fit.0 ∙ ap (λ k. numbered 1 (cuts_up_to k given.config.cuts)) (sym (ap (λ b. if b then w.cycles - 1 else w.cycles) going));
+        picks_listed = kept.picks ∙ sym (ap (torn given.config.tears) (ap length same_cuts ∙ fit.1));
         fits_stay = kept.fits;
         safe_at_return = subst (λ (x : Marks). Safe K.decode o x.kept x.sealed n) (sym marks) safe;
         soon = soon;
@@ -161,5 +161,5 @@ Promise-finished K laws o given cycles events n origin rising f =
     let least : 1 ≤ o.geometry.epoch = epoch_least o.geometry origin.geometry in
     let good = Good-ran K o given cycles f.last least rising f.ran in
     let same : f.last.cycles ≡ cycles = cycles-ran K o given cycles f.last f.ran in
-    let soon : IsSoonOver K o given.cuts f.last.cycles = subst (IsSoonOver K o given.cuts) (sym same) (SoonOver-ran K laws o given cycles f.last f.ran) in
+    let soon : IsSoonOver K o given.config.cuts f.last.cycles = subst (IsSoonOver K o given.config.cuts) (sym same) (SoonOver-ran K laws o given cycles f.last f.ran) in
     subst (λ k. Promise K o given k events n) same (ends_promise K o given f.last least good (KeepsPicks-ran K o given cycles f.last f.ran) soon events n f.ends)

@@ -155,7 +155,7 @@ module _ {M : Type 0} (K : KindOf M) (o : Origin) (given : Given) (end : ℕ) (s
   counts_ran : (k : ℕ) (w : World M) (ran : Ran K o given k w) → Counts o end (tally_of K o given k w ran).retired (seen K o w)
   counts_ran zero w first = subst (Counts o end 0) (sym first.found) (counts_first o end o.kept some)
   counts_ran (suc k) w (before, ran, cycle) =
-      by_due before cycle.between w cycle.steps (tally_of K o given k before ran) (counts_ran k before ran) (tear given.tears cycle.between.passed) (is_due K o given.cuts cycle.between) cycle.cut
+      by_due before cycle.between w cycle.steps (tally_of K o given k before ran) (counts_ran k before ran) (tear given.config.tears cycle.between.passed) (is_due K o given.config.cuts cycle.between) cycle.cut
 
   -- no more instructions are done than the program has
   few_done : (k : ℕ) (w : World M) (ran : Ran K o given k w) → o.start.count + (tally_of K o given k w ran).retired ≤ end

@@ -212,7 +212,7 @@ module _ {M : Type 0} (K : KindOf M) (o : Origin) where
         (tells_boot o (seen K o w) _ (ap (λ v. is_boot v.phase) start.found ∙ boot.0) (ap (λ v. v.retired) start.found ∙ boot.1));
   }
   strode_ran given (suc k) w (before, ran, cycle) =
-      by_due before cycle.between w cycle.steps (strode_ran given k before ran) (tear given.tears cycle.between.passed) (is_due K o given.cuts cycle.between) cycle.cut
+      by_due before cycle.between w cycle.steps (strode_ran given k before ran) (tear given.config.tears cycle.between.passed) (is_due K o given.config.cuts cycle.between) cycle.cut
 
   strode_ends : (w : World M) (events : List Happening) (n : Device) → Strode K o w → Ends K o w events n → AllStride o.start.count first events
   strode_ends w events n h (inl (same, device)) = subst (AllStride o.start.count first) (sym same) h.all

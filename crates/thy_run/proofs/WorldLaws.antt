@@ -378,7 +378,7 @@ first_boot o None = (refl, refl)
 first_boot o (Some m) = (refl, refl)
 
 -- and it holds at first
-pub Good-first : {M : Type 0} (K : KindOf M) → (o : Origin) (given : Given) (w : World M) → IsRising 0 given.cuts → IsFirst K o given w → Good K o given.cuts w
+pub Good-first : {M : Type 0} (K : KindOf M) → (o : Origin) (given : Given) (w : World M) → IsRising 0 given.config.cuts → IsFirst K o given w → Good K o given.config.cuts w
 Good-first {M = M} K o given w rising f =
     let none : w.events ≡ [] = f.events in
     let marks : marks_of o w.events ≡ first_marks o = ap (marks_of o) none in
@@ -412,16 +412,16 @@ Good-first {M = M} K o given w rising f =
       };
       listed = record {
         few = omega (arith, passed);
-        up_to = ap (λ k. cuts_up_to k given.cuts) last ∙ up_none 0 0 given.cuts rising (omega arith) ∙ sym (ap (λ k. take k given.cuts) passed);
-        among = ap cuts_among none ∙ sym (ap (λ k. numbered 1 (take k given.cuts)) passed);
+        up_to = ap (λ k. cuts_up_to k given.config.cuts) last ∙ up_none 0 0 given.config.cuts rising (omega arith) ∙ sym (ap (λ k. take k given.config.cuts) passed);
+        among = ap cuts_among none ∙ sym (ap (λ k. numbered 1 (take k given.config.cuts)) passed);
       };
     }
 
 -- so it holds after any number of cycles
-pub Good-ran : {M : Type 0} (K : KindOf M) → (o : Origin) (given : Given) (k : ℕ) (w : World M) → 1 ≤ o.geometry.epoch → IsRising 0 given.cuts → Ran K o given k w → Good K o given.cuts w
+pub Good-ran : {M : Type 0} (K : KindOf M) → (o : Origin) (given : Given) (k : ℕ) (w : World M) → 1 ≤ o.geometry.epoch → IsRising 0 given.config.cuts → Ran K o given k w → Good K o given.config.cuts w
 Good-ran {M = M} K o given zero w least rising first = Good-first K o given w rising first
 Good-ran {M = M} K o given (suc k) w least rising (before, ran, cycle) =
-    Good-cycle K o given.cuts given.tears before w least rising (Good-ran K o given k before least rising ran) cycle
+    Good-cycle K o given.config.cuts given.config.tears before w least rising (Good-ran K o given k before least rising ran) cycle
 
 cycle_counts : {M : Type 0} (K : KindOf M) → (o : Origin) (cuts : List ℕ) (w x next : World M) → Steps K o w x → (pick : ℕ) (b : Bool) → MatchBool b (IsCutOff K o pick x next) (next ≡ x) → next.cycles ≡ w.cycles + 1
 cycle_counts {M = M} K o cuts w x next step pick true cut = ap (λ (y : World M). y.cycles) cut.next_is ∙ stepped_cycles K o w x step
@@ -432,5 +432,5 @@ pub cycles-ran : {M : Type 0} (K : KindOf M) → (o : Origin) (given : Given) (k
 cycles-ran {M = M} K o given zero w first = first.cycles
 cycles-ran {M = M} K o given (suc k) w (before, ran, cycle) =
     let e : before.cycles ≡ k = cycles-ran K o given k before ran in
-    let f : w.cycles ≡ before.cycles + 1 = cycle_counts K o given.cuts before cycle.between w cycle.steps (tear given.tears cycle.between.passed) (is_due K o given.cuts cycle.between) cycle.cut in
+    let f : w.cycles ≡ before.cycles + 1 = cycle_counts K o given.config.cuts before cycle.between w cycle.steps (tear given.config.tears cycle.between.passed) (is_due K o given.config.cuts cycle.between) cycle.cut in
     omega (arith, e, f)

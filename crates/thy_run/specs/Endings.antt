@@ -33,7 +33,7 @@ EndsBy K o w events n stop = IsLast w events n
 -- these events were told before the last cycle
 abbrev pub ToldBefore : {M : Type 0} → KindOf M → Origin → Given → World M → List Happening → Type 0
 ToldBefore {M = M} K o given last settled =
-    (k : ℕ) × (before : World M) × Ran K o given k before × Cycle K o given.cuts given.tears before last × (settled ≡ before.events)
+    (k : ℕ) × (before : World M) × Ran K o given k before × Cycle K o given.config.cuts given.config.tears before last × (settled ≡ before.events)
 
 -- the events that were told before the last cycle that was begun; a sink that failed did so in that cycle
 abbrev pub IsSettled : {M : Type 0} → KindOf M → Origin → Given → World M → List Happening → Stop → Type 0

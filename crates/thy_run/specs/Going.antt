@@ -38,13 +38,7 @@ origin_of plan = record { geometry = plan.geometry; start = state_of plan.start.
 
 -- what it is given besides, over a device that was fitted
 abbrev pub given_of : Plan → Device → Given
-given_of plan fitted = record {
-  cuts = plan.config.cuts;
-  tears = plan.config.tears;
-  seed = plan.config.mix;
-  digest = plan.digest;
-  fitted = fitted;
-}
+given_of plan fitted = record { config = plan.config; digest = plan.digest; fitted = fitted }
 
 -- its start is one of a run, and the listed cuts rise
 pub record IsPlanned (plan : Plan) : Type 0 where

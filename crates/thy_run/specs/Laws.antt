@@ -52,14 +52,14 @@ torn tears (suc k) = torn tears k ++ tear tears k ∷ []
 pub record Promise {M : Type 0} (K : KindOf M) (o : Origin) (given : Given) (cycles : ℕ) (events : List Happening) (n : Device) : Type 0 where
   pub events_lawful : AllLawful (course_of o) (first_marks o) events
   pub restarts_decode : AllFit (K.decode o.geometry ceiling) (HasLeft cycles) (first_found o) events n.left
-  pub cuts_listed : cuts_among events ≡ numbered 1 (cuts_up_to (last_cuttable events cycles) given.cuts)
-  pub picks_listed : n.picks ≡ torn given.tears (length (cuts_among events))
+  pub cuts_listed : cuts_among events ≡ numbered 1 (cuts_up_to (last_cuttable events cycles) given.config.cuts)
+  pub picks_listed : n.picks ≡ torn given.config.tears (length (cuts_among events))
   pub fits_stay : n.fits ≡ given.fitted.fits
   pub safe_at_return : Safe K.decode o (marks_of o events).kept (marks_of o events).sealed n
-  pub soon : IsSoonOver K o given.cuts cycles
+  pub soon : IsSoonOver K o given.config.cuts cycles
 
 -- every run keeps it
 abbrev pub RunKeepsPromise : {M : Type 0} → KindOf M → Type 0
 RunKeepsPromise K =
     (o : Origin) (given : Given) (cycles : ℕ) (events : List Happening) (n : Device)
-    → IsOrigin o → IsRising 0 given.cuts → Finished K o given cycles events n → Promise K o given cycles events n
+    → IsOrigin o → IsRising 0 given.config.cuts → Finished K o given cycles events n → Promise K o given cycles events n

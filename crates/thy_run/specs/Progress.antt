@@ -33,7 +33,7 @@ IsSoonOver K o cuts cycles = (k : ℕ) → EndsWithin o k → cycles < cycles_fo
 abbrev pub RunIsSoonOver : {M : Type 0} → KindOf M → Type 0
 RunIsSoonOver {M = M} K =
     (o : Origin) (given : Given) (cycles : ℕ) (w : World M)
-    → Ran K o given cycles w → IsSoonOver K o given.cuts cycles
+    → Ran K o given cycles w → IsSoonOver K o given.config.cuts cycles
 
 -- ---- busy
 
@@ -68,7 +68,7 @@ abbrev pub tally_of : {M : Type 0} (K : KindOf M) (o : Origin) (given : Given) (
 tally_of K o given zero w first = nothing_done
 tally_of K o given (suc k) w (before, ran, cycle) =
     let booting = is_boot (seen K o before).phase in
-    if is_due K o given.cuts cycle.between then nothing_done
+    if is_due K o given.config.cuts cycle.between then nothing_done
     else counted (tally_of K o given k before ran) booting cycle.steps.r.did
 
 -- what holds of a run of so many cycles that has done this since its power came on
@@ -86,7 +86,7 @@ pub record IsBusy {M : Type 0} (K : KindOf M) (o : Origin) (cuts : List ℕ) (cy
 abbrev pub RunIsBusy : {M : Type 0} → KindOf M → Type 0
 RunIsBusy {M = M} K =
     (o : Origin) (given : Given) (cycles : ℕ) (w : World M) (ran : Ran K o given cycles w)
-    → IsBusy K o given.cuts cycles w (tally_of K o given cycles w ran)
+    → IsBusy K o given.config.cuts cycles w (tally_of K o given cycles w ran)
 
 -- ---- never at rest
 

@@ -1,5 +1,6 @@
 -- A run: its cycles, the power cuts between them, and the events that they give.
 use Rattle.std.specs.Prelude.{◌≡◌, ℕ, zero, suc, ◌+◌, ◌==◌, Bool, true, false, ◌&&◌, not, nat_lt, if◌then◌else◌, MatchBool, List, [], ◌∷◌, ◌++◌, length, slice_index, slice_index_or, None}
+use Rattle.thy_base.specs.declared.config.Config.{Config}
 use Rattle.thy_base.specs.declared.mix.Mix.{Mix}
 use Rattle.thy_base.specs.Device.{Device, IsCut}
 use Rattle.thy_base.specs.Mix.{mix_start, mix_pick, mix_next}
@@ -107,12 +108,10 @@ pub record Cycle {M : Type 0} (K : KindOf M) (o : Origin) (cuts tears : List ℕ
   pub steps : Steps K o w between
   pub cut : MatchBool (is_due K o cuts between) (IsCutOff K o (tear tears between.passed) between next) (next ≡ between)
 
--- What a run is given besides its program: the listed cuts and their picks, the schedule's seed, whether its report tells
--- digests of memory, and the device as it was fitted.
+-- What a run is given besides its program: its configuration, which lists the cuts and their picks and has the schedule's
+-- seed, whether its report tells digests of memory, and the device as it was fitted.
 pub record Given : Type 0 where
-  pub cuts : List ℕ
-  pub tears : List ℕ
-  pub seed : ℕ
+  pub config : Config
   pub digest : Bool
   pub fitted : Device
 
@@ -126,7 +125,7 @@ pub record IsFirst {M : Type 0} (K : KindOf M) (o : Origin) (given : Given) (w :
   pub left : w.device.left ≡ []
   pub picks : w.device.picks ≡ []
   pub empty : w.device.queue ≡ []
-  pub mix : w.mix ≡ mix_start given.seed
+  pub mix : w.mix ≡ mix_start given.config.mix
   pub passed : w.passed ≡ 0
   pub cycles : w.cycles ≡ 0
   pub fresh : w.fresh ≡ false
@@ -135,4 +134,4 @@ pub record IsFirst {M : Type 0} (K : KindOf M) (o : Origin) (given : Given) (w :
 -- a world after k cycles from the first
 abbrev pub Ran : {M : Type 0} → KindOf M → Origin → Given → ℕ → World M → Type 0
 Ran K o given zero w = IsFirst K o given w
-Ran {M = M} K o given (suc k) w = (before : World M) × Ran K o given k before × Cycle K o given.cuts given.tears before w
+Ran {M = M} K o given (suc k) w = (before : World M) × Ran K o given k before × Cycle K o given.config.cuts given.config.tears before w

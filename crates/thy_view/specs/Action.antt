@@ -1,10 +1,9 @@
 -- What a cycle asks of the device, and what that leaves.
 use Rattle.std.specs.Prelude.{◌≡◌, ◌≢◌, ℕ}
 use Rattle.thy_base.specs.declared.block.Block.{Block}
-use Rattle.thy_record.specs.declared.engine_step.EngineStep.{EngineStep}
 use Rattle.thy_record.specs.declared.engine_step.EngineStep.TheVariants.{Barrier as EngineBarrier, CommitWritten}
 use Rattle.thy_view.specs.declared.did.Did.{Did}
-use Rattle.thy_view.specs.declared.did.Did.TheVariants.{Boot, Loaded, Restarted, Refused, Retired, Merged, Sealed, Engine, Committed, NvmDrained, DramDrained, Nothing}
+use Rattle.thy_view.specs.declared.did.Did.TheVariants.{Boot, Loaded, Restarted, Refused, Moved, Flushed, Promoted, Engine, Committed, NvmDrained}
 use Rattle.thy_base.specs.Device.{Device, written_to, settled, drained, HasFailed, HasFailedToWrite}
 
 pub data Action : Type 0 where
@@ -26,10 +25,8 @@ after Drain n = drained n
 -- the device after an action that failed
 abbrev pub FailsTo : Action → Device → Device → Type 0
 FailsTo Rest old new = ⊥
-FailsTo (ReadAt place) old new = HasFailed old new
 FailsTo (WriteAt place block) old new = HasFailedToWrite place block old new
-FailsTo Barrier old new = HasFailed old new
-FailsTo Drain old new = HasFailed old new
+FailsTo action old new = HasFailed old new
 
 -- it neither lets writes land nor waits for them, and leaves the commit block alone
 abbrev pub IsAccess : Action → Type 0
@@ -49,31 +46,21 @@ abbrev pub IsBootAction : Action → Type 0
 IsBootAction Drain = ⊥
 IsBootAction action = Unit {0}
 
--- it is the write of the commit block
-abbrev pub IsCommitWrite : Action → Type 0
-IsCommitWrite action = (block : Block) × (action ≡ WriteAt 1 block)
-
--- what an action of the engine asks
-abbrev pub EngineAsks : EngineStep → Action → Type 0
-EngineAsks EngineBarrier action = action ≡ Barrier
-EngineAsks CommitWritten action = IsCommitWrite action
-EngineAsks step action = IsAccess action
-
--- what a cycle that did this asks: at most one write, which a read may come before
+-- what a cycle that did this asks: at most one write, which a read may come before; the commit block is written by the engine
 abbrev pub Asks : Did → Action → Type 0
 Asks NvmDrained action = action ≡ Drain
 Asks Loaded action = action ≡ Barrier
 Asks (Committed epoch overlapped) action = action ≡ Barrier
-Asks (Engine step) action = EngineAsks step action
-Asks Retired action = action ≡ Rest
-Asks Merged action = action ≡ Rest
-Asks (Sealed epoch count cause) action = action ≡ Rest
-Asks DramDrained action = action ≡ Rest
-Asks Nothing action = action ≡ Rest
+Asks (Engine EngineBarrier) action = action ≡ Barrier
+Asks (Engine CommitWritten) action = (block : Block) × (action ≡ WriteAt 1 block)
+Asks (Engine step) action = IsAccess action
+Asks Moved action = IsAccess action
+Asks Flushed action = IsAccess action
+Asks Promoted action = IsAccess action
 Asks Boot action = IsBootAction action
 Asks (Restarted epoch count) action = IsRead action
 Asks (Refused bad) action = IsRead action
-Asks did action = IsAccess action
+Asks did action = action ≡ Rest
 
 -- a cycle that did this acted on the device once
 pub record Acts (did : Did) (n new : Device) : Type 0 where

@@ -7,7 +7,7 @@ use Rattle.thy_view.specs.declared.view.Phase.{Phase}
 use Rattle.thy_view.specs.declared.view.Phase.TheVariants.{Boot as BootPhase, Run, Halt}
 use Rattle.thy_view.specs.declared.view.View.{View}
 use Rattle.thy_view.specs.declared.did.Did.{Did}
-use Rattle.thy_view.specs.declared.did.Did.TheVariants.{Boot, Loaded, Restarted, Refused, Moved, Retired, Flushed, Merged, Sealed, Promoted, Engine, Committed, NvmDrained, DramDrained, Nothing}
+use Rattle.thy_view.specs.declared.did.Did.TheVariants.{Boot, Loaded, Restarted, Refused, Moved, Retired, Sealed, Engine, Committed, NvmDrained, DramDrained, Nothing}
 use Rattle.thy_record.specs.declared.engine_step.EngineStep.{EngineStep}
 use Rattle.thy_record.specs.declared.engine_step.EngineStep.TheVariants.{Idle, CommitWritten, Committed as EngineCommitted}
 use Rattle.thy_view.specs.Origin.{Origin, runs_at}
@@ -95,7 +95,7 @@ pub record Commits (o : Origin) (epoch overlapped : ℕ) (v next : View) : Type 
   pub sealed : v.sealed ≡ Some (mark epoch count)
   pub becomes : next ≡ record (busier v) { phase = phase_at o count; done = v.sealed; sealed = None; written = false }
 
--- what a cycle did makes this of the view
+-- what a cycle did makes this of the view; a line flushed, entries merged and a block promoted are a cycle more
 abbrev pub CoreStep : Origin → View → Did → View → Type 0
 CoreStep o v Boot next = (v.phase ≡ BootPhase) × BootsTo v next
 CoreStep o v Loaded next = Loads o v next
@@ -103,12 +103,10 @@ CoreStep o v (Restarted epoch count) next = Restores o epoch count v next
 CoreStep o v (Refused bad) next = (v.phase ≡ BootPhase) × (v.done ≡ None) × (v.sealed ≡ None) × (next ≡ v)
 CoreStep o v Moved next = (v.phase ≡ Run) × (v.over ≡ None) × (runs_at o v.count ≡ true) × MovesTo v next
 CoreStep o v Retired next = Retires o v next
-CoreStep o v Flushed next = (v.phase ≡ Run) × (next ≡ busier v)
-CoreStep o v Merged next = (v.phase ≡ Run) × (next ≡ busier v)
-CoreStep o v Promoted next = (v.phase ≡ Run) × (next ≡ busier v)
 CoreStep o v (Sealed epoch count cause) next = Seals epoch count cause v next
 CoreStep o v (Engine step) next = (v.phase ≡ Run) × EngineTo step v next
 CoreStep o v (Committed epoch overlapped) next = Commits o epoch overlapped v next
 CoreStep o v NvmDrained next = next ≡ v
 CoreStep o v DramDrained next = next ≡ v
 CoreStep o v Nothing next = (v.phase ≡ Halt) × (next ≡ v)
+CoreStep o v did next = (v.phase ≡ Run) × (next ≡ busier v)

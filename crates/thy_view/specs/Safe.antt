@@ -2,7 +2,6 @@
 use Rattle.std.specs.Prelude.{◌≡◌, ◌⊎◌, ℕ, ◌^◌, List, Option, Some, None}
 use Rattle.thy_base.specs.declared.block.Block.{Block}
 use Rattle.thy_base.specs.Device.{Device, Crash}
-use Rattle.thy_isa.specs.Step.{State}
 use Rattle.thy_record.specs.Decoded.{Decoded, Nothing, Refused, At, Reading}
 use Rattle.thy_base.specs.declared.mark.Mark.{Mark}
 use Rattle.thy_base.specs.Marks.{mark}
@@ -12,16 +11,12 @@ use Rattle.thy_view.specs.Origin.{Origin, at}
 abbrev pub ceiling : ℕ
 ceiling = 2 ^ 63
 
--- an epoch and a state are those of one of two marks
-abbrev pub IsMarked : Origin → Option Mark → Option Mark → ℕ → State → Type 0
-IsMarked o kept sealed epoch state =
-    ((kept ≡ Some (mark epoch state.count)) ⊎ (sealed ≡ Some (mark epoch state.count))) × (state ≡ at o state.count)
-
 -- what an image decodes to is one of two marks, or nothing where none is kept
 abbrev pub IsOneOf : Origin → Option Mark → Option Mark → Decoded → Type 0
 IsOneOf o kept sealed Nothing = kept ≡ None
 IsOneOf o kept sealed (Refused bad) = ⊥
-IsOneOf o kept sealed (At epoch state) = IsMarked o kept sealed epoch state
+IsOneOf o kept sealed (At epoch state) =
+    ((kept ≡ Some (mark epoch state.count)) ⊎ (sealed ≡ Some (mark epoch state.count))) × (state ≡ at o state.count)
 
 -- whatever a cut leaves means one of two marks, whole
 abbrev pub Safe : Reading → Origin → Option Mark → Option Mark → Device → Type 0

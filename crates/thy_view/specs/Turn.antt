@@ -1,5 +1,5 @@
 -- Who takes a cycle.
-use Rattle.std.specs.Prelude.{◌≡◌, ◌⊎◌, ℕ, ◌==◌, Bool, false, ◌&&◌, ◌||◌, not, is_some, if◌then◌else◌, Option, Some, None}
+use Rattle.std.specs.Prelude.{◌≡◌, ◌⊎◌, ℕ, ◌==◌, Bool, false, ◌&&◌, ◌||◌, not, is_some, option_map, if◌then◌else◌, Option, Some, None}
 use Rattle.thy_base.specs.declared.cause.EndCause.{EndCause}
 use Rattle.thy_base.specs.declared.cause.EndCause.TheVariants.{Exhausted}
 use Rattle.thy_base.specs.declared.mark.Mark.{Mark}
@@ -106,5 +106,4 @@ Turn o pick nvm v p did stall = Does did (turn_of o pick nvm v p) × (stall ≡ 
 
 -- why the epoch is over once the hart moved on: an instruction that is short of entries ends it
 abbrev pub over_by : Option Shortage → Option EndCause
-over_by None = None
-over_by (Some s) = Some (Exhausted s.free s.dirty s.need)
+over_by = option_map (λ (s : Shortage). Exhausted s.free s.dirty s.need)

@@ -9,6 +9,7 @@ use Rattle.clap.specs.declared.builder.command.Command.{Command}
 use Rattle.clap.specs.declared.builder.command.Command.TheViews.{out-Command}
 use Rattle.thy_words.specs.declared.program.Argument.{Argument}
 use Rattle.thy_words.specs.declared.program.Argument.TheVariants.{Operand, Valued, Flag}
+use Rattle.thy_base.specs.declared.config.Field.{Field}
 use Rattle.thy_base.specs.Fields.{field_name}
 use Rattle.thy_words.specs.Fields.{fields, plain_fields}
 
@@ -24,10 +25,6 @@ option_rule name = record (new_rule name) { long = Some name }
 abbrev pub flag_rule : Text → Rule
 flag_rule name = record (new_rule name) { long = Some name; action = Some SetTrue }
 
--- a command with more arguments, each by such a rule
-abbrev pub with_each : (Text → Rule) → App → List Text → App
-with_each rule a names = fold (λ b name. with_rule b (rule name)) a names
-
 -- the rule of an argument that `clap` is told of
 abbrev pub rule_for : Argument → Rule
 rule_for (Operand name) = operand_rule name.now
@@ -37,35 +34,12 @@ rule_for (Flag name) = flag_rule name.now
 abbrev pub with_argument : App → Argument → App
 with_argument a x = with_rule a (rule_for x)
 
--- a command: its name, its operands in their order, its options and its flags
-pub record Form : Type 0 where
-  pub name : Text
-  pub operands : List Text
-  pub options : List Text
-  pub flags : List Text
-
-abbrev pub app_of_form : Form → App
-app_of_form f =
-    let operands = with_each operand_rule (new_app f.name) f.operands in
-    with_each flag_rule (with_each option_rule operands f.options) f.flags
-
--- `run FILE` takes an option for each field of the configuration, the input's name, and whether digests are told
-abbrev pub run_form : Form
-run_form = record {
-  name = codes "run";
-  operands = codes "FILE" ∷ [];
-  options = map field_name fields ++ codes "input" ∷ [];
-  flags = codes "digest" ∷ [];
-}
-
--- `plain FILE` takes the same, but of the fields only those of memory and the limit
-abbrev pub plain_form : Form
-plain_form = record {
-  name = codes "plain";
-  operands = codes "FILE" ∷ [];
-  options = map field_name plain_fields ++ codes "input" ∷ [];
-  flags = codes "digest" ∷ [];
-}
+-- a command: it takes FILE, an option for each of these fields and for the input's name, and the flag for digests
+abbrev pub command_of : Text → List Field → App
+command_of name fs =
+    let operand = with_rule (new_app name) (operand_rule (codes "FILE")) in
+    let options = fold (λ a option. with_rule a (option_rule option)) operand (map field_name fs ++ codes "input" ∷ []) in
+    with_rule options (flag_rule (codes "digest"))
 
 -- the program: one of its commands has to be named, and no word asks for help
 abbrev pub bare : App
@@ -78,9 +52,10 @@ bare = record {
   subs = [];
 }
 
--- with its commands
+-- with its commands: `plain` takes of the fields only those of memory and the limit
 abbrev pub program : App
-program = with_subcommand (with_subcommand bare (app_of_form run_form).top) (app_of_form plain_form).top
+program =
+    with_subcommand (with_subcommand bare (command_of (codes "run") fields).top) (command_of (codes "plain") plain_fields).top
 
 -- the argument has this rule, and is its command's alone
 pub record IsArg (a : Arg) (r : Rule) : Type 0 where

@@ -2,7 +2,8 @@ use Rattle.std.proofs.Common.{◌≡◌, Ok, ◌∙◌, sym, subst, refl}
 use Rattle.thy_base.specs.Bytes.{bytes_of}
 use Rattle.thy_base.specs.Outside.{Stock}
 use Rattle.thy_elf.specs.Image.{contents_of}
-use Rattle.thy_cli.specs.Answering.{Task, IsHeld, IsInput, ProgramDue}
+use Rattle.thy_words.specs.Settings.{Job}
+use Rattle.thy_cli.specs.Answering.{IsHeld, IsInput, ProgramDue}
 use Rattle.thy_cli.specs.Planning.{named}
 use Rattle.std.specs.List.{All}
 use Rattle.thy_isa.specs.Storable.{IsByte}
@@ -11,7 +12,7 @@ use Rattle.thy_cli.proofs.source.program_for.Goals as goal
 
 pub returns-in-Err-fetch_input-clause-refusal : goal.returns-in-Err-fetch_input-clause-refusal
 returns-in-Err-fetch_input-clause-refusal g c =
-    let task : Task = named c.args.task.now in
+    let task : Job = named c.args.task.now in
     let old : Stock = g.H.Shelf.stock c.args.shelf.now in
     let middle : Stock = g.H.Shelf.stock c.fetch_file.new.shelf in
     let same : middle ≡ old = stock_same old middle c.in-Ok.ensures.held c.in-Ok.ensures.calm in
@@ -20,7 +21,7 @@ returns-in-Err-fetch_input-clause-refusal g c =
 
 pub returns-in-Ok-read-clause-program : goal.returns-in-Ok-read-clause-program
 returns-in-Ok-read-clause-program g c =
-    let task : Task = named c.args.task.now in
+    let task : Job = named c.args.task.now in
     let old : Stock = g.H.Shelf.stock c.args.shelf.now in
     let middle : Stock = g.H.Shelf.stock c.fetch_file.new.shelf in
     let same : middle ≡ old = stock_same old middle c.in-Ok.ensures.held c.in-Ok.ensures.calm in
@@ -32,10 +33,11 @@ returns-in-Ok-read-clause-program g c =
         are_bytes = subst (All IsByte) c.as_slice.ensures c.are_bytes.ensures;
         held = c.in-Ok.ensures.file;
         input = bytes_of c.in-Ok-fetch_input.input;
+        input_bytes = subst (All IsByte) c.as_slice-2.ensures c.are_bytes-2.ensures;
         is_input = subst (λ s. IsInput s task.input (bytes_of c.in-Ok-fetch_input.input)) same c.in-Ok-fetch_input.ensures.input;
         contents = contents_of c.in-Ok-read.image;
-        means = meaning_is task (bytes_of c.in-Ok.file) c.as_slice-2.result.now c.args.geometry c.numbers-base.result
-            c.program_size.result (Ok (contents_of c.in-Ok-read.image)) c.requires c.numbers-base.ensures.same c.as_slice-2.ensures c.program_size.ensures.size c.in-Ok-read.ensures.image;
+        means = meaning_is task (bytes_of c.in-Ok.file) c.as_slice-3.result.now c.args.geometry c.numbers-base.result
+            c.program_size.result (Ok (contents_of c.in-Ok-read.image)) c.requires c.numbers-base.ensures.same c.as_slice-3.ensures c.program_size.ensures.size c.in-Ok-read.ensures.image;
       };
       contents = refl;
       input = refl;

@@ -18,7 +18,7 @@ returns c = λ stock program.
       input = program.input;
       from_file = refl;
       planned = record {
-        origin = IsOrigin-start _ (contents_of c.args.program.image) program.in_range c.start_of.ensures.state c.start_of.ensures.storable (record { bytes = subst (All IsByte) c.as_slice.ensures c.are_bytes.ensures; size = input_size stock _ _ (subst (IsInput stock _) (sym program.input) program.file.is_input) }) refl;
+        origin = IsOrigin-start _ (contents_of c.args.program.image) program.in_range c.start_of.ensures.state c.start_of.ensures.storable (record { bytes = subst (All IsByte) (sym program.input) program.file.input_bytes; size = input_size stock _ _ (subst (IsInput stock _) (sym program.input) program.file.is_input) }) refl;
         rising = rising_of c.args.task.config c.requires.range;
       };
     }

@@ -2,7 +2,7 @@ use Rattle.std.proofs.Common.{ap, subst, refl, inl, inr, ℕ, []}
 use Rattle.thy_base.specs.declared.config.Parameters.{Parameters}
 use Rattle.thy_cli.specs.declared.refusal.Refusal.TheVariants.{Device as DeviceRefusal}
 use Rattle.thy_cli.specs.Answering.{Outside, outside, ClosesRun}
-use Rattle.thy_cli.proofs.TopLemmas.{IsRunOf-ran, TaskDue-program, fitted_from_file}
+use Rattle.thy_cli.proofs.TopLemmas.{IsRunOf-ran, RunDue-program, fitted_from_file}
 use Rattle.thy_cli.proofs.top.run_file.Goals as goal
 
 pub returns-in-Err-clause-answer : goal.returns-in-Err-clause-answer
@@ -11,7 +11,7 @@ returns-in-Err-clause-answer g c =
     let after : Outside = outside (g.H.Shelf.stock c.prepare.new.shelf) (g.N.Nvm.device c.args.nvm.now) (g.T.Sink.stream c.args.terminal.now) (g.R.Sink.stream c.refuse.new.report) in
     inl (
       c.in-Err.refusal,
-      TaskDue-program _ before after c.in-Err.refusal c.in-Err.ensures.refusal refl,
+      RunDue-program _ before after c.in-Err.refusal c.in-Err.ensures.refusal refl,
       record { status = c.refuse.ensures.status; events = c.refuse.ensures.events; cycles = c.refuse.ensures.cycles; shown_none = refl {a = g.T.Sink.stream c.args.terminal.now}; closes = c.refuse.ensures.closes },
     )
 
