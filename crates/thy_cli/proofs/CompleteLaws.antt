@@ -35,7 +35,7 @@ use Rattle.thy_run.specs.declared.ending.Stop.TheVariants.{Ended, Nvm, Memory, T
 use Rattle.thy_cli.specs.declared.answer.Answer.{Answer}
 use Rattle.thy_cli.specs.declared.refusal.Refusal.{Refusal}
 use Rattle.thy_cli.specs.declared.refusal.Refusal.TheVariants.{Words, Fetch, File, Device as DeviceRefusal, Memory as MemoryRefusal}
-use Rattle.thy_cli.specs.Answering.{Outside, most_bytes, meaning_of, IsHeld, IsTooLong, IsInput, IsWanted, IsProgramFile, FetchDue, WordsDue, ProgramDue, RunDue, origin_for, given_for, ClosesRun, IsRunOf, IsPlainOf, plain_stop, end_lines, stop_status, RunAnswered, PlainAnswered, Answered}
+use Rattle.thy_cli.specs.Answering.{Outside, meaning_of, IsHeld, IsTooLong, IsInput, IsWanted, IsProgramFile, FetchDue, WordsDue, ProgramDue, RunDue, origin_for, given_for, ClosesRun, IsRunOf, IsPlainOf, plain_stop, end_lines, stop_status, RunAnswered, PlainAnswered, Answered}
 use Rattle.thy_cli.specs.Planning.{refused_status}
 use Rattle.thy_cli.proofs.PlainLemmas.{at_is, plain_steps}
 use Rattle.thy_cli.specs.Completing.{plain_state, IsAsked, Stayed, IsCalm, left_alone, TellsEnd, RunCompletes, PlainCompletes, Claim}

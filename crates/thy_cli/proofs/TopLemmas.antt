@@ -1,11 +1,7 @@
 -- What the top call makes of a job.
-use Rattle.std.proofs.Common.{◌≡◌, ℕ, Bool, true, false, Option, Some, None, List, [], length, refl, sym, ◌∙◌, ap, subst, inl, inr, lit<, arith, ◌<◌, ◌^◌}
+use Rattle.std.proofs.Common.{◌≡◌, ℕ, Bool, Option, Some, None, List, [], length, sym, ◌∙◌, ap, subst, inl, inr, lit<, arith, ◌<◌, ◌^◌}
 use Rattle.std.specs.Prelude.{Result, Ok, Err}
-use Rattle.std.specs.Option.{option_or}
-use Rattle.std.proofs.lemmas.List.Elements.{All-nil}
 use Rattle.thy_base.specs.declared.config.Config.{Config}
-use Rattle.thy_base.specs.declared.config.ConfigError.{ConfigError}
-use Rattle.thy_base.specs.declared.config.Field.{Field}
 use Rattle.thy_base.specs.declared.config.Parameters.{Parameters}
 use Rattle.thy_base.specs.declared.nvm.Shape.{Shape}
 use Rattle.thy_base.specs.Config.{fault_of, geometry_or, geometry_of, rows_of, IsRising}
@@ -13,8 +9,7 @@ use Rattle.thy_base.specs.Device.{Device, fitted}
 use Rattle.thy_base.specs.Geometry.{IsInRange, parameters_of, program_size}
 use Rattle.thy_base.specs.Outside.{Stock, Stream}
 use Rattle.thy_isa.specs.declared.state.Status.TheVariants.{Running}
-use Rattle.thy_isa.specs.OnBlocks.{setting_for}
-use Rattle.thy_isa.specs.Storable.{IsNumber, IsByte, IsStorable, IsReadable}
+use Rattle.thy_isa.specs.Storable.{IsNumber, IsStorable, IsReadable}
 use Rattle.thy_isa.specs.Step.{State}
 use Rattle.thy_isa.proofs.MemoryBounds.{anywhere}
 use Rattle.thy_record.specs.Cpu.{is_status, status_tag, status_value}
@@ -41,7 +36,7 @@ use Rattle.thy_run.specs.declared.ending.Ending.{Ending}
 use Rattle.thy_run.specs.declared.plan.Plan.{Plan}
 use Rattle.thy_cli.specs.declared.refusal.Refusal.{Refusal}
 use Rattle.thy_cli.specs.declared.refusal.Refusal.TheVariants.{Device as DeviceRefusal}
-use Rattle.thy_cli.specs.Answering.{Outside, IsInput, most_bytes, WordsDue, ProgramDue, RunDue, meaning_of, origin_for, given_for, shape_for, IsRunOf, ClosesRun, PlainAnswered, RunAnswered, Answered, stop_status}
+use Rattle.thy_cli.specs.Answering.{Outside, IsInput, WordsDue, ProgramDue, RunDue, meaning_of, origin_for, given_for, shape_for, IsRunOf, ClosesRun, PlainAnswered, RunAnswered, Answered, stop_status}
 use Rattle.thy_cli.specs.Planning.{IsPlanOf}
 use Rattle.thy_run.specs.Going.{origin_of, given_of}
 use Rattle.thy_run.specs.Endings.{EndsBy, HasRun}
@@ -96,19 +91,19 @@ IsOrigin-start o contents range is storable readable file =
 -- ---- answers
 
 -- whatever stopped it, a run is finished
-finished_by : {M : Type 0} (K : KindOf M) → (o : Origin) (given : Given) (k : ℕ) (last : World M) (events : List Happening) (n : Device) (stop : Stop) → Ran K o given k last → EndsBy K o last events n stop → Finished K o given k events n
+finished_by : {M : Type 0} (K : KindOf M) → (o : Origin) (given : Given) (k : ℕ) (last : World M) (events : List Happening) (n : Device) (stop : Stop) → Ran K o given k last → EndsBy K o given.config.cuts last events n stop → Finished K o given k events n
 finished_by K o given k last events n (Ended status) ran ends = record { last = last; ran = ran; ends = inl ends }
 finished_by K o given k last events n Nvm ran (inl failed) = record { last = last; ran = ran; ends = inr (inl failed) }
 finished_by K o given k last events n Nvm ran (inr f) = record {
   last = last;
   ran = ran;
-  ends = inr (inr (record { next = f.next; steps = f.steps; part = f.part; rest = f.rest; told = f.told; split = f.split; unended = f.unended; device = inr f.device }));
+  ends = inr (inr (record { next = f.next; steps = f.steps; part = f.part; rest = f.rest; told = f.told; split = f.split; unended = f.unended; why = inr f.why }));
 }
 finished_by K o given k last events n Memory ran (inl none) = record { last = last; ran = ran; ends = inl none.1 }
 finished_by K o given k last events n Memory ran (inr f) = record {
   last = last;
   ran = ran;
-  ends = inr (inr (record { next = f.next; steps = f.steps; part = f.part; rest = f.rest; told = f.told; split = f.split; unended = f.unended; device = inl f.device }));
+  ends = inr (inr (record { next = f.next; steps = f.steps; part = f.part; rest = f.rest; told = f.told; split = f.split; unended = f.unended; why = inl f.why.0 }));
 }
 finished_by K o given k last events n Terminal ran ends = record { last = last; ran = ran; ends = inl ends }
 finished_by K o given k last events n Report ran ends = record { last = last; ran = ran; ends = inl ends }

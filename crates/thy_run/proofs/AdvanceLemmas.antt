@@ -1,5 +1,5 @@
 -- One cycle of the program's loop is one of a run.
-use Rattle.std.proofs.Common.{◌≡◌, ℕ, ◌+◌, ◌<◌, Bool, true, false, ◌&&◌, not, nat_lt, ◌==◌, if◌then◌else◌, Option, Some, None, List, [], ◌∷◌, ◌++◌, length, refl, sym, ◌∙◌, ap, subst, inl, inr, append-nil, append_assoc, length-append, ◌^◌, arith}
+use Rattle.std.proofs.Common.{◌≡◌, ◌≢◌, ℕ, ◌+◌, ◌<◌, Bool, true, false, ◌&&◌, not, nat_lt, ◌==◌, if◌then◌else◌, Option, Some, None, List, [], ◌∷◌, ◌++◌, length, refl, sym, ◌∙◌, ap, subst, inl, inr, append-nil, append_assoc, length-append, ◌^◌, arith}
 use Rattle.std.specs.Prelude.{MatchBool, slice_index}
 use Rattle.std.proofs.lemmas.Bool.{ltb-true, and_parts}
 use Rattle.thy_base.specs.declared.mix.Mix.{Mix}
@@ -21,10 +21,11 @@ use Rattle.thy_view.specs.declared.error.CoreError.TheVariants.{Nvm as NvmFailed
 use Rattle.thy_view.specs.Kind.{HasFailedToRead, KindOf, IsLawful, CanStep}
 use Rattle.thy_run.specs.Laws.{released_of}
 use Rattle.thy_run.specs.Cuts.{is_end}
-use Rattle.thy_run.specs.Due.{due_of}
+use Rattle.thy_run.specs.Due.{due_of, IsTold}
 use Rattle.thy_run.specs.Unfinished.{TellingFailed, ReadFailed, LeftAlone}
 use Rattle.thy_run.specs.World.{World, seen, told, reload_told, end_told, events_of, stepped, Steps, is_due, IsCutOff, tear}
 use Rattle.thy_run.proofs.ConsoleLaws.{released-cut, released-stepped, released-part, length-released}
+use Rattle.thy_run.proofs.NoteLemmas.{events_due, told_or_halts}
 use Rattle.thy_run.proofs.WorldLaws.{Good, Good-ran, events_end}
 use Rattle.thy_run.specs.declared.ending.Stop.{Stop}
 use Rattle.thy_run.specs.declared.ending.Stop.TheVariants.{Nvm, Memory}
@@ -197,12 +198,13 @@ module _ {M : Type 0} (K : KindOf M) (laws : IsLawful K) (plan : Plan) (p q : Pr
       )
 
   -- a cut was due, and memory was short for it
-  pub broken_cut : (q' : Progress M) (m' : Device) → ended ≡ None → q' ≡ q → m' ≡ m → IsBroken K plan p q' n m' k bytes × Breaks K plan p q' n m' k bytes Memory
-  broken_cut q' m' is same device =
+  pub broken_cut : (q' : Progress M) (m' : Device) → ended ≡ None
+      → (nat_lt q.passed (length plan.config.cuts) && slice_index plan.config.cuts q.passed == k + 1) ≡ true → q' ≡ q → m' ≡ m → IsBroken K plan p q' n m' k bytes × Breaks K plan p q' n m' k bytes Memory
+  broken_cut q' m' is due same device =
       let v : View = seen K (origin_of plan) (world_at p n k) in
       let next : View = seen K (origin_of plan) (world_at q m (k + 1)) in
       let end : IsEnd (origin_of plan) v next None = subst (IsEnd (origin_of plan) v next) is noted.is_end in
-      let telling : TellingFailed K (origin_of plan) (world_at p n k) q.events m LeftAlone = record {
+      let telling : TellingFailed K (origin_of plan) (world_at p n k) q.events (LeftAlone K (origin_of plan) plan.config.cuts m) = record {
         next = world_at q m (k + 1);
         steps = noted.steps;
         part = _;
@@ -210,7 +212,7 @@ module _ {M : Type 0} (K : KindOf M) (laws : IsLawful K) (plan : Plan) (p q : Pr
         told = told_all;
         split = sym (append-nil q.events);
         unended = events_end (origin_of plan) p.fresh v noted.steps.r.did next (k + 1) ∙ end;
-        device = refl;
+        why = (refl, inr (due_both (is_halt next.phase) _ (going_on is) due));
       } in
       let broken : IsBroken K plan p q n m k bytes = record {
         rest = [];
@@ -303,7 +305,7 @@ IsBroken-made {M = M} K laws plan fitted p q t n m k r planned g s some same =
     let steps : Steps K o (world_at p n k) next = record { r = r; going = g.going; is_step = s.is_step; next_is = refl } in
     let told : t.events ≡ p.events ++ some.part = some.told ∙ ap (λ (l : List Happening). l ++ some.part) events_q in
     let more = released-part K o (world_at p n k) next (epoch_least (origin_of plan).geometry planned.origin.geometry) good.stands steps some.part some.rest (sym split) in
-    let telling : TellingFailed K o (world_at p n k) t.events m LeftAlone = record {
+    let telling : TellingFailed K o (world_at p n k) t.events (LeftAlone K o plan.config.cuts m) = record {
       next = next;
       steps = steps;
       part = some.part;
@@ -311,7 +313,7 @@ IsBroken-made {M = M} K laws plan fitted p q t n m k r planned g s some same =
       told = told;
       split = ap (λ (l : List Happening). p.events ++ l) split ∙ sym (append_assoc p.events some.part some.rest) ∙ ap (λ (l : List Happening). l ++ some.rest) (sym told);
       unended = some.unended;
-      device = refl;
+      why = (refl, inl some.some);
     } in
     let broken : IsBroken K plan p t n m k [] = record {
       rest = more.0;
@@ -324,14 +326,16 @@ IsBroken-made {M = M} K laws plan fitted p q t n m k r planned g s some same =
 
 -- a read failed before any event was made
 pub IsBroken-read : {M : Type 0} (K : KindOf M) (laws : IsLawful K) → (plan : Plan) (fitted : Device) (p q : Progress M) (n m m' : Device) (k : ℕ) (r : Stepped) (e : CoreError) → IsPlanned plan → GoesOn K plan fitted p n k → IsStepped K plan p q n m k r
-    → HasFailedToRead e m m' → IsFramed m m' → IsBroken K plan p q n m' k [] × Breaks K plan p q n m' k [] (stop_of e)
-IsBroken-read {M = M} K laws plan fitted p q n m m' k r e planned g s failed framed =
+    → HasFailedToRead e m m' → IsFramed m m' → IsTold r → IsBroken K plan p q n m' k [] × Breaks K plan p q n m' k [] (stop_of e)
+IsBroken-read {M = M} K laws plan fitted p q n m m' k r e planned g s failed framed due =
     let o : Origin = origin_of plan in
     let v : View = seen K o (world_at p n k) in
     let events_q : q.events ≡ p.events = ap (λ (y : Progress M). y.events) s.same in
     let next : World M = stepped K o (world_at p n k) q.machine m r.did in
     let steps : Steps K o (world_at p n k) next = record { r = r; going = g.going; is_step = s.is_step; next_is = refl } in
-    let telling : (Became : Device → Device → Type 0) → Became m m' → TellingFailed K o (world_at p n k) q.events m' Became = λ Became device. record {
+    let all : List Happening = events_of o p.fresh v r.did (K.view o q.machine m) (k + 1) in
+    let some : all ≢ [] = events_due o p.fresh v (K.view o q.machine m) r.did (k + 1) (told_or_halts r (halts v (K.view o q.machine m)) s.is_step.ended due) in
+    let telling : (Why : World M → List Happening → Type 0) → Why next all → TellingFailed K o (world_at p n k) q.events Why = λ Why why. record {
       next = next;
       steps = steps;
       part = [];
@@ -339,7 +343,7 @@ IsBroken-read {M = M} K laws plan fitted p q n m m' k r e planned g s failed fra
       told = events_q ∙ sym (append-nil p.events);
       split = ap (λ (l : List Happening). l ++ events_of o p.fresh v r.did (K.view o q.machine m) (k + 1)) (sym events_q);
       unended = refl;
-      device = device;
+      why = why;
     } in
     let broken : IsBroken K plan p q n m' k [] = record {
       rest = [];
@@ -348,16 +352,18 @@ IsBroken-read {M = M} K laws plan fitted p q n m m' k r e planned g s failed fra
       spoken = ap (λ (y : Progress M). y.mute) s.same;
       heard = ap (λ (y : Progress M). y.deaf) s.same;
     } in
-    by_error e failed broken telling events_q
+    by_error e failed broken all some telling events_q
   where
     by_error : (e : CoreError) → HasFailedToRead e m m' → IsBroken K plan p q n m' k []
-        → ((Became : Device → Device → Type 0) → Became m m' → TellingFailed K (origin_of plan) (world_at p n k) q.events m' Became) → q.events ≡ p.events
+        → (all : List Happening) → all ≢ []
+        → ((Why : World M → List Happening → Type 0) → Why (stepped K (origin_of plan) (world_at p n k) q.machine m r.did) all → TellingFailed K (origin_of plan) (world_at p n k) q.events Why)
+        → q.events ≡ p.events
         → IsBroken K plan p q n m' k [] × Breaks K plan p q n m' k [] (stop_of e)
-    by_error NvmFailed f broken telling events = (
+    by_error NvmFailed f broken all some telling events = (
       broken,
-      (inr (telling ReadFailed (record { failed = f.0; framed = framed; rose = f.1 })), record { events = events; none = refl; rose = subst (λ c. Rose c m'.faults) s.calm f.1 }),
+      (inr (telling (ReadFailed (world_at p n k) q.events m') (record { due = some; nothing_told = events; failed = f.0; framed = framed; rose = f.1 })), record { events = events; none = refl; rose = subst (λ c. Rose c m'.faults) s.calm f.1 }),
     )
-    by_error (NoMemory x) f broken telling events = (broken, (telling LeftAlone f, ap (λ (d : Device). d.faults) f ∙ s.calm))
+    by_error (NoMemory x) f broken all some telling events = (broken, (telling (LeftAlone K (origin_of plan) plan.config.cuts m') (f, inl some), ap (λ (d : Device). d.faults) f ∙ s.calm))
 
 -- the step itself failed
 pub IsBroken-stuck : {M : Type 0} (K : KindOf M) (laws : IsLawful K) → (plan : Plan) (fitted : Device) (p q : Progress M) (n m : Device) (k : ℕ) → GoesOn K plan fitted p n k → IsStuck K plan p q n m

@@ -19,7 +19,6 @@ use Rattle.thy_view.specs.declared.view.View.{View}
 use Rattle.thy_base.specs.Marks.{mark}
 use Rattle.thy_view.specs.Views.{loads, halts}
 use Rattle.thy_view.specs.CoreStep.{CoreStep}
-use Rattle.thy_base.specs.Geometry.{console_room}
 use Rattle.thy_view.specs.Origin.{Origin, at, setting_of, IsOrigin}
 use Rattle.thy_run.specs.Due.{console_at, shows_console, due_of}
 use Rattle.thy_run.specs.Laws.{first_marks, marks_of, released_of}

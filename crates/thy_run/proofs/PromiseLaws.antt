@@ -101,9 +101,9 @@ module _ {M : Type 0} (K : KindOf M) (o : Origin) (given : Given) (w : World M) 
       }
 
   -- of the step's events only a part was made
-  telling_promise : (part rest : List Happening) (next : World M) (n : Device) → Steps K o w next → next.events ≡ w.events ++ part ++ rest → has_ended part ≡ false
-      → (n ≡ next.device) ⊎ ReadFailed next.device n → Promise K o given w.cycles (w.events ++ part) n
-  telling_promise part rest next n step split unended device =
+  telling_promise : (part rest : List Happening) (next : World M) (events : List Happening) (n : Device) → Steps K o w next → next.events ≡ w.events ++ part ++ rest → has_ended part ≡ false
+      → (n ≡ next.device) ⊎ ReadFailed w events n next rest → Promise K o given w.cycles (w.events ++ part) n
+  telling_promise part rest next events n step split unended device =
       let m : Marks = marks_of o w.events in
       let es : List Happening = events_of o w.fresh (seen K o w) step.r.did (seen K o next) (w.cycles + 1) in
       let after : Coheres K o next = Coheres-stepped K o w least g.stands next step in
@@ -153,7 +153,7 @@ module _ {M : Type 0} (K : KindOf M) (o : Origin) (given : Given) (w : World M) 
       (failed_promise n (subst (λ (vs : List Happening). StepFailed K o w vs n) f.nothing_told f))
   ends_promise events n (inr (inr t)) =
       subst (λ (vs : List Happening). Promise K o given w.cycles vs n) (sym t.told)
-      (telling_promise t.part t.rest t.next n t.steps (t.split ∙ ap (λ (vs : List Happening). vs ++ t.rest) t.told) t.unended t.device)
+      (telling_promise t.part t.rest t.next events n t.steps (t.split ∙ ap (λ (vs : List Happening). vs ++ t.rest) t.told) t.unended t.why)
 
 -- every run keeps its promise
 pub Promise-finished : {M : Type 0} (K : KindOf M) → IsLawful K → RunKeepsPromise K

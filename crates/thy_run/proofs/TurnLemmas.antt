@@ -134,7 +134,7 @@ module _ {M : Type 0} (K : KindOf M) (plan : Plan) (fitted : Device) (p q : Prog
       long Memory sinks = absurd sinks
       long Limit sinks = absurd sinks
 
-      last_done : (stop : Stop) → IsSinks stop → EndsBy K (origin_of plan) (world_at q m (k + 1)) q.events m stop
+      last_done : (stop : Stop) → IsSinks stop → EndsBy K (origin_of plan) plan.config.cuts (world_at q m (k + 1)) q.events m stop
       last_done Terminal sinks = (refl, refl)
       last_done Report sinks = (refl, refl)
       last_done (Ended status) sinks = absurd sinks
@@ -186,7 +186,7 @@ module _ {M : Type 0} (K : KindOf M) (plan : Plan) (fitted : Device) (p q : Prog
     stop_fits = because stop why;
   }
     where
-      begun : (stop : Stop) → Breaks K plan p q n m k bytes stop → EndsBy K (origin_of plan) (world_at p n k) q.events m stop
+      begun : (stop : Stop) → Breaks K plan p q n m k bytes stop → EndsBy K (origin_of plan) plan.config.cuts (world_at p n k) q.events m stop
       begun Nvm f = f.0
       begun Memory f = inr f.0
       begun (Ended status) f = absurd f
@@ -303,7 +303,7 @@ module _ {M : Type 0} (K : KindOf M) (laws : IsLawful K) (plan : Plan) (fitted :
       → Sends (report_of plan.digest (take (length p.events) q.events)) (report_of plan.digest q.events) deaf r1 r2
       → RunEnds K plan fitted m (record { stop = Memory; events = q.events; cycles = k; mute = mute; deaf = deaf }) t0 t2 r0 r2
   RunEnds-uncut spoken heard lines =
-      let broken = broken_cut K laws plan p q n m k None bytes awaits.noted q m refl refl refl in
+      let broken = broken_cut K laws plan p q n m k None bytes awaits.noted q m refl awaits.due refl refl in
       broken_stops K plan fitted p q n m k bytes mute deaf t0 t1 t2 r0 r1 r2 running few sent lines Memory broken.0 broken.1 spoken heard
 
   -- there are no fewer events than before

@@ -25,10 +25,10 @@ is_memory stop = false
 
 -- What stands at the end, by the stop: only for a device's fault or want of memory one more cycle was begun. Where memory was
 -- short before the first one, none was.
-abbrev pub EndsBy : {M : Type 0} → KindOf M → Origin → World M → List Happening → Device → Stop → Type 0
-EndsBy K o w events n Nvm = StepFailed K o w events n ⊎ TellingFailed K o w events n ReadFailed
-EndsBy K o w events n Memory = ((w.cycles ≡ 0) × IsLast w events n) ⊎ TellingFailed K o w events n LeftAlone
-EndsBy K o w events n stop = IsLast w events n
+abbrev pub EndsBy : {M : Type 0} → KindOf M → Origin → List ℕ → World M → List Happening → Device → Stop → Type 0
+EndsBy K o cuts w events n Nvm = StepFailed K o w events n ⊎ TellingFailed K o w events (ReadFailed w events n)
+EndsBy K o cuts w events n Memory = ((w.cycles ≡ 0) × IsLast w events n) ⊎ TellingFailed K o w events (LeftAlone K o cuts n)
+EndsBy K o cuts w events n stop = IsLast w events n
 
 -- these events were told before the last cycle
 abbrev pub ToldBefore : {M : Type 0} → KindOf M → Origin → Given → World M → List Happening → Type 0
@@ -68,7 +68,7 @@ StopFits limit old new e Limit =
 pub record HasRun {M : Type 0} (K : KindOf M) (o : Origin) (given : Given) (new : Device) (e : Ending) (terminal shown report read : Stream) : Type 0 where
   pub last : World M
   pub ran : Ran K o given e.cycles last
-  pub ends : EndsBy K o last e.events new e.stop
+  pub ends : EndsBy K o given.config.cuts last e.events new e.stop
   pub few : e.cycles ≤ o.geometry.limit
   pub settled : List Happening
   pub is_settled : IsSettled K o given last settled e.stop

@@ -1,5 +1,5 @@
 -- The program's loop as a run.
-use Rattle.std.specs.Prelude.{◌≡◌, ◌⊎◌, ℕ, ◌+◌, ◌<◌, ◌==◌, true, false, ◌&&◌, nat_lt, slice_index, List, [], ◌∷◌, ◌++◌, length, Option, Some, None, Box}
+use Rattle.std.specs.Prelude.{◌≡◌, ◌≢◌, ◌⊎◌, ℕ, ◌+◌, ◌<◌, ◌==◌, true, false, ◌&&◌, nat_lt, slice_index, List, [], ◌∷◌, ◌++◌, length, Option, Some, None, Box}
 use Rattle.std.specs.declared.alloc.Global.{Global}
 use Rattle.thy_base.specs.Bytes.{bytes_of}
 use Rattle.thy_base.specs.Config.{IsRising}
@@ -107,12 +107,13 @@ abbrev pub IsEnd : Origin → View → View → Option Status → Type 0
 IsEnd o v next None = halts v next ≡ false
 IsEnd o v next (Some status) = (halts v next ≡ true) × (status ≡ (at o next.count).status)
 
--- some first events of a step were made, and memory was short for the rest
+-- some first events of a step were made, and memory was short for the rest, of which there is one
 pub record MadeSome (made : List Happening) (all : List Happening) (before : List Happening) : Type 0 where
   pub part : List Happening
   pub rest : List Happening
   pub told : made ≡ before ++ part
   pub split : all ≡ part ++ rest
+  pub some : rest ≢ []
   pub unended : has_ended part ≡ false
 
 -- ---- a cycle
@@ -162,10 +163,10 @@ pub record IsFault {M : Type 0} (p next : Progress M) (n new : Device) (bytes : 
 -- why a cycle is not done: a device's fault or want of memory
 abbrev pub Breaks : {M : Type 0} → KindOf M → Plan → Progress M → Progress M → Device → Device → ℕ → List ℕ → Stop → Type 0
 Breaks K plan p next n new cycles bytes Nvm =
-    (StepFailed K (origin_of plan) (world_at p n cycles) next.events new ⊎ TellingFailed K (origin_of plan) (world_at p n cycles) next.events new ReadFailed)
+    (StepFailed K (origin_of plan) (world_at p n cycles) next.events new ⊎ TellingFailed K (origin_of plan) (world_at p n cycles) next.events (ReadFailed (world_at p n cycles) next.events new))
     × IsFault p next n new bytes
 Breaks K plan p next n new cycles bytes Memory =
-    TellingFailed K (origin_of plan) (world_at p n cycles) next.events new LeftAlone × (new.faults ≡ n.faults)
+    TellingFailed K (origin_of plan) (world_at p n cycles) next.events (LeftAlone K (origin_of plan) plan.config.cuts new) × (new.faults ≡ n.faults)
 Breaks K plan p next n new cycles bytes stop = ⊥
 
 -- a cut is due after a cycle whose events were made: the next one that is listed

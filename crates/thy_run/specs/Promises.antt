@@ -24,10 +24,10 @@ use Rattle.thy_run.specs.declared.ending.Ending.{Ending}
 use Rattle.thy_run.specs.declared.gather.Readings.{Readings}
 use Rattle.thy_run.specs.declared.plan.Plan.{Plan}
 use Rattle.thy_run.specs.declared.progress.Progress.{Progress}
-use Rattle.thy_run.specs.Going.{origin_of, world_at, GoesOn, IsStepped, IsStuck, CanGather, MadeSome, Restores, IsEnding, IsGathered, IsNoted, AwaitsCut, ComesTo}
+use Rattle.thy_run.specs.Going.{origin_of, world_at, GoesOn, IsStepped, IsStuck, CanGather, MadeSome, Restores, IsEnding, IsEnd, IsGathered, IsNoted, AwaitsCut, ComesTo}
 use Rattle.thy_run.specs.Sending.{Sinks}
 use Rattle.thy_run.specs.Turning.{Running, IsTurned, RunEnds}
-use Rattle.thy_run.specs.World.{seen, told, events_of}
+use Rattle.thy_run.specs.World.{seen, told, end_told, events_of}
 
 -- ---- a step
 
@@ -81,6 +81,21 @@ GathersAll K p n stepped result =
 abbrev pub NotesRestart : {T E : Type 0} → ℕ → ℕ → Option (Box MachState Global) → List Happening → List Happening → Result T E → Type 0
 NotesRestart epoch count restored old new result =
     (o : Origin) → Restores o (Restarted epoch count) restored → OnOk result (new ≡ old ++ told o (Restarted epoch count) 0)
+
+-- so is that of what a step did
+abbrev pub NotesDid : {T E : Type 0} → Did → Option (Box MachState Global) → ℕ → List Happening → List Happening → Result T E → Type 0
+NotesDid did restored cycle old new result =
+    (o : Origin) → Restores o did restored → OnOk result (new ≡ old ++ told o did cycle)
+
+-- and that of the end
+abbrev pub NotesEnd : {T E : Type 0} → Option (Box MachState Global) → ℕ → List Happening → List Happening → Result T E → Type 0
+NotesEnd ended cycle old new result =
+    (o : Origin) (v next : View) → IsEnding o v next ended → OnOk result (new ≡ old ++ end_told o v next cycle)
+
+-- the program's status is answered where it has ended
+abbrev pub AnswersEnd : {E : Type 0} → Option (Box MachState Global) → Result (Option Status) E → Type 0
+AnswersEnd ended result =
+    (o : Origin) (v next : View) → IsEnding o v next ended → IfOk result (λ s. IsEnd o v next s)
 
 -- all events of a step are made
 abbrev pub NotesAll : {T E : Type 0} → Did → Bool → Option (Box MachState Global) → Option (Box MachState Global) → ℕ → List Happening → List Happening → Result T E → Type 0

@@ -10,6 +10,7 @@ use Rattle.thy_text.specs.Lines.{report_of}
 use Rattle.thy_run.specs.Laws.{released_of}
 use Rattle.thy_run.specs.declared.advance.Outcome.{Outcome}
 use Rattle.thy_run.specs.declared.advance.Outcome.TheVariants.{Goes, Cuts, Ends, Fails}
+use Rattle.thy_run.specs.declared.ending.Stop.{Stop}
 use Rattle.thy_run.specs.declared.ending.Stop.TheVariants.{Ended, Terminal, Report}
 use Rattle.thy_run.specs.declared.ending.Ending.{Ending}
 use Rattle.thy_run.specs.declared.cycles.Turned.{Turned}
@@ -54,6 +55,10 @@ abbrev pub RunEnds : {M : Type 0} → KindOf M → Plan → Device → Device �
 RunEnds K plan fitted new e terminal shown report read =
     HasRun K (origin_of plan) (given_of plan fitted) new e terminal shown report read
 
+-- the ending of a run that stops there
+abbrev pub ending_of : {M : Type 0} → Stop → Progress M → ℕ → Ending
+ending_of stop p cycles = record { stop = stop; events = p.events; cycles = cycles; mute = p.mute; deaf = p.deaf }
+
 -- what a turn of the loop comes to
 abbrev pub IsTurned : {M : Type 0} → KindOf M → Plan → Device → Progress M → Progress M → Device → Device → ℕ → Stream → Stream → Stream → Stream → Stream → Stream → Turned → Type 0
 IsTurned K plan fitted p next n new cycles terminal showing shown report reading read TurnedOn =
@@ -61,9 +66,9 @@ IsTurned K plan fitted p next n new cycles terminal showing shown report reading
 IsTurned K plan fitted p next n new cycles terminal showing shown report reading read (CutsOff bytes) =
     AwaitsCut K plan p next n new cycles (bytes_of bytes) × (shown ≡ showing) × (read ≡ reading)
 IsTurned K plan fitted p next n new cycles terminal showing shown report reading read (Stops stop) =
-    RunEnds K plan fitted new (record { stop = stop; events = next.events; cycles = cycles + 1; mute = next.mute; deaf = next.deaf }) terminal shown report read
+    RunEnds K plan fitted new (ending_of stop next (cycles + 1)) terminal shown report read
 IsTurned K plan fitted p next n new cycles terminal showing shown report reading read (BreaksOff stop) =
-    RunEnds K plan fitted new (record { stop = stop; events = next.events; cycles = cycles; mute = next.mute; deaf = next.deaf }) terminal shown report read
+    RunEnds K plan fitted new (ending_of stop next cycles) terminal shown report read
 
 -- a run before its first cycle
 abbrev pub first_progress : {M : Type 0} → Plan → M → Progress M

@@ -1,5 +1,5 @@
 -- A cycle that was begun and is not done, and what a run leaves at its end.
-use Rattle.std.specs.Prelude.{◌≡◌, ◌⊎◌, ℕ, false, List, ◌++◌}
+use Rattle.std.specs.Prelude.{◌≡◌, ◌≢◌, ◌⊎◌, ℕ, true, false, List, [], ◌++◌}
 use Rattle.thy_base.specs.Counts.{Rose}
 use Rattle.thy_base.specs.Device.{Device, HasFailed, IsFramed}
 use Rattle.thy_base.specs.Mix.{mix_pick}
@@ -9,7 +9,7 @@ use Rattle.thy_view.specs.Views.{is_halt}
 use Rattle.thy_view.specs.Origin.{Origin}
 use Rattle.thy_view.specs.Safe.{Safe}
 use Rattle.thy_run.specs.Cuts.{has_ended}
-use Rattle.thy_run.specs.World.{World, Given, seen, Steps, Ran}
+use Rattle.thy_run.specs.World.{World, Given, seen, is_due, Steps, Ran}
 
 -- the machine's step failed with a fault of the device
 pub record StepFailed {M : Type 0} (K : KindOf M) (o : Origin) (w : World M) (events : List Happening) (n : Device) : Type 0 where
@@ -20,19 +20,21 @@ pub record StepFailed {M : Type 0} (K : KindOf M) (o : Origin) (w : World M) (ev
   pub rose : Rose w.device.faults n.faults
   pub nothing_told : events ≡ w.events
 
--- a read for an event failed with a fault of the device
-pub record ReadFailed (old new : Device) : Type 0 where
-  pub failed : HasFailed old new
-  pub framed : IsFramed old new
-  pub rose : Rose old.faults new.faults
+-- a read for the events of a step failed with a fault of the device: there was one to be made, and none was
+pub record ReadFailed {M : Type 0} (w : World M) (events : List Happening) (n : Device) (next : World M) (rest : List Happening) : Type 0 where
+  pub due : rest ≢ []
+  pub nothing_told : events ≡ w.events
+  pub failed : HasFailed next.device n
+  pub framed : IsFramed next.device n
+  pub rose : Rose next.device.faults n.faults
 
--- memory was short for an event, and the device was left alone
-abbrev pub LeftAlone : Device → Device → Type 0
-LeftAlone old new = new ≡ old
+-- memory was short for an event of a step, or for the cut that is due behind it, and the device was left alone
+abbrev pub LeftAlone : {M : Type 0} → KindOf M → Origin → List ℕ → Device → World M → List Happening → Type 0
+LeftAlone K o cuts n next rest = (n ≡ next.device) × ((rest ≢ []) ⊎ (is_due K o cuts next ≡ true))
 
 -- The step was done, but of its events only the first were made: a read for the others failed, or memory was short; which of
--- these says what the step's device has become.
-pub record TellingFailed {M : Type 0} (K : KindOf M) (o : Origin) (w : World M) (events : List Happening) (n : Device) (Became : Device → Device → Type 0) : Type 0 where
+-- these says what the step's device has become, and what was still to be done.
+pub record TellingFailed {M : Type 0} (K : KindOf M) (o : Origin) (w : World M) (events : List Happening) (Why : World M → List Happening → Type 0) : Type 0 where
   pub next : World M
   pub steps : Steps K o w next
   pub part : List Happening
@@ -40,7 +42,7 @@ pub record TellingFailed {M : Type 0} (K : KindOf M) (o : Origin) (w : World M) 
   pub told : events ≡ w.events ++ part
   pub split : next.events ≡ events ++ rest
   pub unended : has_ended part ≡ false
-  pub device : Became next.device n
+  pub why : Why next rest
 
 -- the last cycle is done, and nothing was begun behind it
 abbrev pub IsLast : {M : Type 0} → World M → List Happening → Device → Type 0
@@ -49,7 +51,7 @@ IsLast w events n = (events ≡ w.events) × (n ≡ w.device)
 -- what stands at the end: the last cycle is done, or one more was begun
 abbrev pub Ends : {M : Type 0} → KindOf M → Origin → World M → List Happening → Device → Type 0
 Ends K o w events n =
-    IsLast w events n ⊎ (StepFailed K o w events n ⊎ TellingFailed K o w events n (λ old new. LeftAlone old new ⊎ ReadFailed old new))
+    IsLast w events n ⊎ (StepFailed K o w events n ⊎ TellingFailed K o w events (λ next rest. (n ≡ next.device) ⊎ ReadFailed w events n next rest))
 
 -- a run of so many cycles has given these events and left this device
 pub record Finished {M : Type 0} (K : KindOf M) (o : Origin) (given : Given) (cycles : ℕ) (events : List Happening) (n : Device) : Type 0 where

@@ -5,7 +5,7 @@ ghost use Rattle.thy_view.specs.Kind.{IsDramOf};
 ghost use Rattle.thy_run.specs.Going.{IsPlanned};
 ghost use Rattle.thy_run.specs.Promises.{IsRunning, TurnsTo, IsAwaiting, RunsTo, CutsOn, CutsShort};
 ghost use Rattle.thy_run.specs.Sending.{sinks};
-ghost use Rattle.thy_run.specs.Turning.{first_progress, stopped_for, turned_of, IsFitted};
+ghost use Rattle.thy_run.specs.Turning.{ending_of, first_progress, stopped_for, turned_of, IsFitted};
 
 use crate::advance::{Advance, Outcome, cut, take_cycle};
 use crate::ending::{Ending, Stop};
@@ -251,7 +251,7 @@ pub fn run<M: Computer, T: Sink, R: Sink, N: Nvm>(
 }
 
 fn ended_by<M: Computer>(stop: Stop, progress: Progress<M>, cycles: u64) -> Ending
-    ensures { result ≡ record { stop = stop; events = progress.events; cycles = cycles; mute = progress.mute; deaf = progress.deaf } }
+    ensures { result ≡ ending_of stop progress cycles }
 {
     Ending {
         stop,

@@ -1,9 +1,9 @@
 //! What the machine is read for after a step, before any event of it is made.
-ghost use Rattle.std.specs.Prelude.{◌≡◌, ◌&&◌, IfErr, OnOk};
+ghost use Rattle.std.specs.Prelude.{◌≡◌, ◌&&◌, true, IfErr, OnOk, OnErr};
 ghost use Rattle.thy_base.specs.Device.{IsFramed};
 ghost use Rattle.thy_view.specs.Kind.{CanRead, HasFailedToRead};
 ghost use Rattle.thy_view.specs.Views.{loads};
-ghost use Rattle.thy_run.specs.Due.{shows_console};
+ghost use Rattle.thy_run.specs.Due.{shows_console, IsTold};
 ghost use Rattle.thy_run.specs.Promises.{BoxesSnapshot, ReadsRestart, ReadsDue, ReadsEnd, TellsReload, GathersAll};
 
 use crate::progress::Progress;
@@ -65,6 +65,7 @@ fn restored<M: Computer, N: Nvm>(
     ensures read { ReadsRestart M.kind progress.now (N.device nvm.old) did result }
     ensures same { OnOk result (N.device nvm.new ≡ N.device nvm.old) }
     ensures err { IfErr result (λ e. HasFailedToRead e (N.device nvm.old) (N.device nvm.new)) }
+    ensures due { OnErr result (shows_console did ≡ true) }
     ensures frame { IsFramed (N.device nvm.old) (N.device nvm.new) }
 {
     match did {
@@ -87,6 +88,7 @@ fn due<M: Computer, N: Nvm>(
     ensures read { ReadsDue M.kind progress.now (N.device nvm.old) did result }
     ensures same { OnOk result (N.device nvm.new ≡ N.device nvm.old) }
     ensures err { IfErr result (λ e. HasFailedToRead e (N.device nvm.old) (N.device nvm.new)) }
+    ensures due { OnErr result (shows_console did ≡ true) }
     ensures frame { IsFramed (N.device nvm.old) (N.device nvm.new) }
 {
     if !shows_console(did) {
@@ -107,6 +109,7 @@ fn ending<M: Computer, N: Nvm>(
     ensures read { ReadsEnd M.kind progress.now (N.device nvm.old) ended result }
     ensures same { OnOk result (N.device nvm.new ≡ N.device nvm.old) }
     ensures err { IfErr result (λ e. HasFailedToRead e (N.device nvm.old) (N.device nvm.new)) }
+    ensures due { OnErr result (ended ≡ true) }
     ensures frame { IsFramed (N.device nvm.old) (N.device nvm.new) }
 {
     if !ended {
@@ -124,7 +127,8 @@ fn reloads<M: Computer>(progress: &Progress<M>) -> bool
     progress.fresh && loads
 }
 
-/// Reads what a step's events and the terminal need. The state of a restart comes before the console.
+/// Reads what a step's events and the terminal need. The state of a restart comes before the console. Where no event needs
+/// a state and no console is shown, nothing is read, and nothing fails.
 pub fn gather<M: Computer, N: Nvm>(
     alloc: Global,
     progress: &Progress<M>,
@@ -135,6 +139,7 @@ pub fn gather<M: Computer, N: Nvm>(
     ensures read { GathersAll M.kind progress.now (N.device nvm.old) stepped.now result }
     ensures same { OnOk result (N.device nvm.new ≡ N.device nvm.old) }
     ensures err { IfErr result (λ e. HasFailedToRead e (N.device nvm.old) (N.device nvm.new)) }
+    ensures due { OnErr result (IsTold stepped.now) }
     ensures frame { IsFramed (N.device nvm.old) (N.device nvm.new) }
 {
     let reload = reloads(progress);

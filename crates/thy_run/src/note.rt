@@ -1,12 +1,10 @@
 //! The events of a step. Each is made in a function of its own, so that a cycle without one makes none.
-ghost use Rattle.std.specs.Prelude.{◌≡◌, ◌++◌, ◌∷◌, [], ◌&&◌, if◌then◌else◌, OnOk, OnErr, IfOk};
+ghost use Rattle.std.specs.Prelude.{◌≡◌, ◌≢◌, ◌++◌, ◌∷◌, [], ◌&&◌, true, is_some, if◌then◌else◌, OnOk, OnErr, IfOk};
 ghost use Rattle.thy_view.specs.Origin.{Origin};
-ghost use Rattle.thy_view.specs.declared.view.View.{View};
-ghost use Rattle.thy_run.specs.World.{told, end_told};
+ghost use Rattle.thy_run.specs.World.{told};
 ghost use Rattle.thy_isa.specs.Step.{state_of};
 ghost use Rattle.thy_text.specs.Happening.{Reload, Commit, EpochEnd, Ended};
-ghost use Rattle.thy_run.specs.Promises.{NotesRestart, NotesAll, NotesSome};
-ghost use Rattle.thy_run.specs.Going.{Restores, IsEnding, IsEnd};
+ghost use Rattle.thy_run.specs.Promises.{NotesRestart, NotesDid, NotesEnd, AnswersEnd, NotesAll, NotesSome};
 
 use std::alloc::AllocError;
 use thy_base::EndCause;
@@ -22,10 +20,11 @@ fn note_load(events: &mut Events) -> Result<(), AllocError>
     events.push(Event::Reload)
 }
 
-/// Notes that the file is loaded again, where it is.
+/// Notes that the file is loaded again, where it is. Without one nothing fails.
 fn note_reload(events: &mut Events, reload: bool) -> Result<(), AllocError>
     ensures ok { OnOk result (events.new ≡ events.old ++ (if reload then Reload ∷ [] else [])) }
     ensures err { OnErr result (events.new ≡ events.old) }
+    ensures due { OnErr result (reload ≡ true) }
 {
     if reload {
         return note_load(events);
@@ -82,15 +81,16 @@ fn note_restart(
     }
 }
 
-/// Notes what a step did, where that is an event.
+/// Notes what a step did, where that is an event. Without one nothing fails.
 fn note_did(
     events: &mut Events,
     did: Did,
     restored: Option<Box<MachState>>,
     cycle: u64,
 ) -> Result<(), AllocError>
-    ensures ok { (o : Origin) → Restores o did restored → OnOk result (events.new ≡ events.old ++ told o did cycle) }
+    ensures ok { NotesDid did restored cycle events.old events.new result }
     ensures err { OnErr result (events.new ≡ events.old) }
+    ensures due { (o : Origin) → OnErr result (told o did cycle ≢ []) }
 {
     match did {
         Did::Loaded => note_commit(events, 0, cycle, 0),
@@ -103,7 +103,8 @@ fn note_did(
 
 /// Notes the end of the run, and answers the program's status.
 fn note_last(events: &mut Events, state: Box<MachState>, cycle: u64) -> Result<Status, AllocError>
-    ensures ok { OnOk result (events.new ≡ events.old ++ Ended state.value.status state.value.count cycle (state_of state.value) ∷ []) }
+    ensures ok { let s = state.value in
+        OnOk result (events.new ≡ events.old ++ Ended s.status s.count cycle (state_of s) ∷ []) }
     ensures status { IfOk result (λ s. s ≡ state.value.status) }
     ensures err { OnErr result (events.new ≡ events.old) }
 {
@@ -119,15 +120,16 @@ fn note_last(events: &mut Events, state: Box<MachState>, cycle: u64) -> Result<S
     Ok(status)
 }
 
-/// Notes the end of the run, where it has ended, and answers the program's status.
+/// Notes the end of the run, where it has ended, and answers the program's status. Without one nothing fails.
 fn note_end(
     events: &mut Events,
     ended: Option<Box<MachState>>,
     cycle: u64,
 ) -> Result<Option<Status>, AllocError>
-    ensures ok { (o : Origin) (v next : View) → IsEnding o v next ended → OnOk result (events.new ≡ events.old ++ end_told o v next cycle) }
-    ensures status { (o : Origin) (v next : View) → IsEnding o v next ended → IfOk result (λ s. IsEnd o v next s) }
+    ensures ok { NotesEnd ended cycle events.old events.new result }
+    ensures status { AnswersEnd ended result }
     ensures err { OnErr result (events.new ≡ events.old) }
+    ensures due { OnErr result (is_some ended ≡ true) }
 {
     match ended {
         Some(state) => {
@@ -148,7 +150,7 @@ pub fn note(
     cycle: u64,
 ) -> Result<Option<Status>, AllocError>
     ensures ok { NotesAll did reload restored ended cycle events.old events.new result }
-    ensures status { (o : Origin) (v next : View) → IsEnding o v next ended → IfOk result (λ s. IsEnd o v next s) }
+    ensures status { AnswersEnd ended result }
     ensures err { NotesSome did reload restored ended cycle events.old events.new result }
 {
     note_reload(events, reload)?;

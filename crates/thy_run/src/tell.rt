@@ -53,7 +53,8 @@ pub fn tell<T: Sink, R: Sink>(
 ) -> Failures
     requires { first ≤ length events.now }
     ensures terminal { Sent result.terminal (T.stream terminal.old) (T.stream terminal.new) bytes.now }
-    ensures report { TellsLines digest first events.now result.report (R.stream report.old) (R.stream report.new) }
+    ensures report { TellsLines digest first events.now result.report
+        (R.stream report.old) (R.stream report.new) }
     ensures spoken { bytes.now ≡ [] → result.terminal ≡ false }
     ensures heard { first ≡ length events.now → result.report ≡ false }
 {

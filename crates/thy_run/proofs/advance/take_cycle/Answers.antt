@@ -81,4 +81,4 @@ returns-in-Err-gather g c = λ fitted goes.
     broken_none g.M.Computer.kind plan p q n (g.N.Nvm.device c.gather.new.nvm) c.args.done (bytes_of c.new-in-Err-gather.result) (stop_of c.in-Err-gather.error) c.from.result
     c.new-in-Err-gather.ensures c.from.ensures
     (IsBroken-read g.M.Computer.kind g.met.M.Computer.lawful plan fitted p q n m (g.N.Nvm.device c.gather.new.nvm) c.args.done c.in-Ok.stepped c.in-Err-gather.error c.requires.planned goes stepped
-    c.in-Err-gather.ensures.err c.gather.ensures.frame)
+    c.in-Err-gather.ensures.err c.gather.ensures.frame c.in-Err-gather.ensures.due)
