@@ -27,7 +27,7 @@ use Rattle.thy_record.specs.Slots.{IsSlotOf, tables_in, epoch_fault, status_faul
 use Rattle.thy_record.specs.Tables.{Tables, IsTables}
 use Rattle.thy_record.specs.TableFaults.{tables_fault}
 use Rattle.thy_record.proofs.HeaderLemmas.{header_fault-header_of, header_fault-long}
-use Rattle.thy_record.proofs.ReadBackLemmas.{epoch_of-commit_of, commit_fault-commit_of, is_zero-commit_of, cpu_of_record-begins}
+use Rattle.thy_record.proofs.ReadBackLemmas.{epoch_of-commit_of, commit_fault-commit_of, is_zero-commit_of, FitsRecord-recordable, cpu_back}
 use Rattle.thy_record.proofs.SlotLemmas.{BeginsWithRecord-slot, length-entries_in, tables_in-back, slot_fault-back}
 use Rattle.thy_record.proofs.TableFaultLemmas.{neither, both_none, IsTables-faultless}
 
@@ -89,7 +89,7 @@ decode-written p ceiling cpu t epoch image r recordable s most below has =
     (ap (λ e. slot_fault p ceiling e (slot_in p image)) of_epoch ∙ slot_fault-back p ceiling cpu t epoch (slot_in p image) r recordable s most fits slot))
     of_epoch
     (ap (λ c. state_from p c (memory_in p (tables_in p (slot_in p image)) image))
-    (cpu_of_record-begins p ceiling cpu epoch (slot_in p image) recordable room most fits (BeginsWithRecord-slot p cpu t epoch (slot_in p image) slot))
+    (cpu_back cpu epoch (slot_in p image) (FitsRecord-recordable p ceiling cpu epoch recordable room most fits) (BeginsWithRecord-slot p cpu t epoch (slot_in p image) slot))
     ∙ ap (λ u. state_from p cpu (memory_in p u image)) (tables_in-back p cpu t epoch (slot_in p image) r s slot))
 
 -- ---- what decodes is whole

@@ -13,7 +13,7 @@ use Rattle.thy_isa.specs.declared.state.Status.TheVariants.{Running, Exited, Tra
 use Rattle.thy_record.specs.declared.image.BadImage.TheVariants.{Commit, Status as BadStatus, ConsoleLength}
 use Rattle.thy_record.specs.Words.{word_of, block_of}
 use Rattle.thy_record.specs.Commit.{commit_magic, commit_words, commit_of, is_zero, epoch_of, has_zero_rest, commit_fault}
-use Rattle.thy_record.specs.Cpu.{status_tag, status_value, status_of, is_status, cpu_words, cpu_block_of, record_word, record_words, record_of, IsRecordOf, BeginsWithRecord, cpu_of_record, record_fault, IsRecordable}
+use Rattle.thy_record.specs.Cpu.{status_tag, status_value, status_of, is_status, cpu_words, cpu_block_of, record_word, record_words, record_of, IsRecordOf, BeginsWithRecord, FitsRecord, cpu_of_record, epoch_of_record, record_fault, IsRecordable}
 use Rattle.thy_record.proofs.WordLemmas.{word_of-block_of}
 use Rattle.thy_record.proofs.CpuLemmas.{rest_words, cpu_words-reg, cpu_words-rest, block_words, length-block_words, record_words-at, length-record_words}
 
@@ -109,47 +109,51 @@ words_fit p ceiling c epoch (suc i) r room most l = elim (cases_lt i 31) as (λ 
       (subst (λ x. x < 2 ^ 64) (sym (cpu_words-rest c epoch (i - 31) r.regs_length)) (rest_fits p ceiling c epoch (i - 31) r room most l))
 ]
 
+-- so the record says all of a state that it can hold
+pub FitsRecord-recordable : (p : Parameters) (ceiling : ℕ) (c : CpuState) (epoch : ℕ)
+    → IsRecordable p ceiling c → console_room p < 2 ^ 64 → ceiling ≤ 2 ^ 64 → epoch < 2 ^ 64 → FitsRecord c epoch
+FitsRecord-recordable p ceiling c epoch r room most l = record {
+  regs_length = r.regs_length;
+  regs_zero = r.regs_zero;
+  words = λ i small. words_fit p ceiling c epoch i r room most l;
+}
+
 -- word i of a record reads back
-word_back : (p : Parameters) (ceiling : ℕ) (c : CpuState) (epoch : ℕ) (blocks : List Block) (i : ℕ)
-    → IsRecordable p ceiling c → console_room p < 2 ^ 64 → ceiling ≤ 2 ^ 64 → epoch < 2 ^ 64 → BeginsWithRecord c epoch blocks → i < 40
-    → record_word blocks i ≡ slice_index (cpu_words c epoch) i
+word_back : (c : CpuState) (epoch : ℕ) (blocks : List Block) (i : ℕ)
+    → FitsRecord c epoch → BeginsWithRecord c epoch blocks → i < 40 → record_word blocks i ≡ slice_index (cpu_words c epoch) i
 unfolding record_word cpu_block_of
-word_back p ceiling c epoch blocks i r room most l of small =
+word_back c epoch blocks i fits of small =
     let whole : 8 * (i / 8) + i % 8 ≡ i = omega arith in
     let same = block_words c epoch (i / 8) (i % 8) (omega arith) ∙ ap (slice_index (cpu_words c epoch)) whole in
-    let eight = length-block_words c epoch (i / 8) r.regs_length (omega arith) in
+    let eight = length-block_words c epoch (i / 8) fits.regs_length (omega arith) in
     ap (λ b. word_of b (i % 8)) (of.each (i / 8) (omega arith))
     ∙ word_of-block_of (take 8 (drop (8 * (i / 8)) (cpu_words c epoch))) (i % 8) (omega (arith, eight))
-    (subst (λ x. x < 2 ^ 64) (sym same) (words_fit p ceiling c epoch i r room most l))
+    (subst (λ x. x < 2 ^ 64) (sym same) (fits.words i small))
     ∙ same
 
-pub rest_back : (p : Parameters) (ceiling : ℕ) (c : CpuState) (epoch : ℕ) (blocks : List Block) (j : ℕ)
-    → IsRecordable p ceiling c → console_room p < 2 ^ 64 → ceiling ≤ 2 ^ 64 → epoch < 2 ^ 64 → BeginsWithRecord c epoch blocks → j < 8
-    → record_word blocks (32 + j) ≡ slice_index (rest_words c epoch) j
-rest_back p ceiling c epoch blocks j r room most l of small =
-    word_back p ceiling c epoch blocks (32 + j) r room most l of (omega arith) ∙ cpu_words-rest c epoch j r.regs_length
+pub rest_back : (c : CpuState) (epoch : ℕ) (blocks : List Block) (j : ℕ)
+    → FitsRecord c epoch → BeginsWithRecord c epoch blocks → j < 8 → record_word blocks (32 + j) ≡ slice_index (rest_words c epoch) j
+rest_back c epoch blocks j fits of small = word_back c epoch blocks (32 + j) fits of (omega arith) ∙ cpu_words-rest c epoch j fits.regs_length
 
 -- a register reads back
-reg_back : (p : Parameters) (ceiling : ℕ) (c : CpuState) (epoch : ℕ) (blocks : List Block) (i : ℕ)
-    → IsRecordable p ceiling c → console_room p < 2 ^ 64 → ceiling ≤ 2 ^ 64 → epoch < 2 ^ 64 → BeginsWithRecord c epoch blocks → i < 32
-    → slice_index (0 ∷ record_words blocks 1 31) i ≡ slice_index c.regs i
-reg_back p ceiling c epoch blocks zero r room most l of small = sym r.regs_zero
-reg_back p ceiling c epoch blocks (suc i) r room most l of small =
+reg_back : (c : CpuState) (epoch : ℕ) (blocks : List Block) (i : ℕ)
+    → FitsRecord c epoch → BeginsWithRecord c epoch blocks → i < 32 → slice_index (0 ∷ record_words blocks 1 31) i ≡ slice_index c.regs i
+reg_back c epoch blocks zero fits of small = sym fits.regs_zero
+reg_back c epoch blocks (suc i) fits of small =
     let e : 1 + i ≡ suc i = omega arith in
     record_words-at blocks 1 31 i (omega arith)
     ∙ ap (record_word blocks) e
-    ∙ word_back p ceiling c epoch blocks (suc i) r room most l of (omega arith)
-    ∙ cpu_words-reg c epoch (suc i) r.regs_length (omega arith) small
+    ∙ word_back c epoch blocks (suc i) fits of (omega arith)
+    ∙ cpu_words-reg c epoch (suc i) fits.regs_length (omega arith) small
 
 -- the registers read back, register 0 as the 0 that it is
-regs_back : (p : Parameters) (ceiling : ℕ) (c : CpuState) (epoch : ℕ) (blocks : List Block)
-    → IsRecordable p ceiling c → console_room p < 2 ^ 64 → ceiling ≤ 2 ^ 64 → epoch < 2 ^ 64 → BeginsWithRecord c epoch blocks
-    → 0 ∷ record_words blocks 1 31 ≡ c.regs
-regs_back p ceiling c epoch blocks r room most l of =
+regs_back : (c : CpuState) (epoch : ℕ) (blocks : List Block)
+    → FitsRecord c epoch → BeginsWithRecord c epoch blocks → 0 ∷ record_words blocks 1 31 ≡ c.regs
+regs_back c epoch blocks fits of =
     let long = length-record_words blocks 1 31 in
-    let h = r.regs_length in
+    let h = fits.regs_length in
     ext_get_or 0 (0 ∷ record_words blocks 1 31) c.regs (omega (arith, long, h))
-    (λ i below. reg_back p ceiling c epoch blocks i r room most l of (omega (arith, long)))
+    (λ i below. reg_back c epoch blocks i fits of (omega (arith, long)))
 
 abbrev pub cpu_with : ℕ → List ℕ → ℕ → ℕ → ℕ → ℕ → ℕ → Status → CpuState
 cpu_with pc regs console cursor brk floor count status =
@@ -169,25 +173,29 @@ same_cpu pc pc' regs regs' console console' cursor cursor' brk brk' floor floor'
     ∙ ap (λ x. cpu_with pc' regs' console' cursor' brk' floor' count' x) h
 
 -- a state reads back from its record
-pub cpu_of_record-begins : (p : Parameters) (ceiling : ℕ) (c : CpuState) (epoch : ℕ) (blocks : List Block)
-    → IsRecordable p ceiling c → console_room p < 2 ^ 64 → ceiling ≤ 2 ^ 64 → epoch < 2 ^ 64 → BeginsWithRecord c epoch blocks
-    → cpu_of_record blocks ≡ c
+pub cpu_back : (c : CpuState) (epoch : ℕ) (blocks : List Block)
+    → FitsRecord c epoch → BeginsWithRecord c epoch blocks → cpu_of_record blocks ≡ c
 unfolding cpu_of_record
-cpu_of_record-begins p ceiling c epoch blocks r room most l of =
-    let rest = λ (j : ℕ) (small : j < 8). rest_back p ceiling c epoch blocks j r room most l of small in
+cpu_back c epoch blocks fits of =
+    let rest = λ (j : ℕ) (small : j < 8). rest_back c epoch blocks j fits of small in
     same_cpu _ _ _ _ _ _ _ _ _ _ _ _ _ _ _ _
-    (word_back p ceiling c epoch blocks 0 r room most l of (omega arith))
-    (regs_back p ceiling c epoch blocks r room most l of)
+    (word_back c epoch blocks 0 fits of (omega arith))
+    (regs_back c epoch blocks fits of)
     (rest 2 (omega arith)) (rest 1 (omega arith)) (rest 3 (omega arith)) (rest 7 (omega arith)) (rest 0 (omega arith))
     (ap (λ t. status_of t (record_word blocks 37)) (rest 4 (omega arith))
     ∙ ap (status_of (status_tag c.status)) (rest 5 (omega arith))
     ∙ status_back c.status)
 
+-- and so does its epoch
+pub epoch_back : (c : CpuState) (epoch : ℕ) (blocks : List Block)
+    → FitsRecord c epoch → BeginsWithRecord c epoch blocks → epoch_of_record blocks ≡ epoch
+epoch_back c epoch blocks fits of = rest_back c epoch blocks 6 fits of (omega arith)
+
 pub cpu_of_record-back : (p : Parameters) (ceiling : ℕ) (c : CpuState) (epoch : ℕ) (blocks : List Block)
     → IsRecordable p ceiling c → console_room p < 2 ^ 64 → ceiling ≤ 2 ^ 64 → epoch < 2 ^ 64 → IsRecordOf c epoch blocks
     → cpu_of_record blocks ≡ c
 cpu_of_record-back p ceiling c epoch blocks r room most l of =
-    cpu_of_record-begins p ceiling c epoch blocks r room most l (record { each = of.each })
+    cpu_back c epoch blocks (FitsRecord-recordable p ceiling c epoch r room most l) (record { each = of.each })
 
 -- a record has no fault where each of its tests holds
 no_fault : (tag value count console of epoch room ceiling : ℕ) → of ≡ epoch → is_status tag value ≡ true → count < ceiling → console ≤ room
@@ -203,7 +211,8 @@ pub record_fault-back : (p : Parameters) (ceiling : ℕ) (c : CpuState) (epoch :
     → record_fault blocks epoch p ceiling ≡ None
 unfolding record_fault
 record_fault-back p ceiling c epoch blocks r room most l of =
-    let rest = λ (j : ℕ) (small : j < 8). rest_back p ceiling c epoch blocks j r room most l (record { each = of.each }) small in
+    let fits = FitsRecord-recordable p ceiling c epoch r room most l in
+    let rest = λ (j : ℕ) (small : j < 8). rest_back c epoch blocks j fits (record { each = of.each }) small in
     no_fault (record_word blocks 36) (record_word blocks 37) (record_word blocks 32) (record_word blocks 34) (record_word blocks 38) epoch
     (console_room p) ceiling
     (rest 6 (omega arith))

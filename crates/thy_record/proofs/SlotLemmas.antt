@@ -1,5 +1,5 @@
 -- A slot that was written reads back, and has no fault.
-use Rattle.std.proofs.Common.{◌≡◌, ℕ, ◌+◌, ◌-◌, ◌*◌, ◌/◌, ◌%◌, ◌^◌, ◌<◌, ◌≤◌, if◌then◌else◌, List, ◌++◌, length, take, drop, slice_index, Option, Some, None, refl, sym, ◌∙◌, ap, subst, inl, inr, arith}
+use Rattle.std.proofs.Common.{◌≡◌, ℕ, ◌+◌, ◌-◌, ◌*◌, ◌/◌, ◌%◌, ◌^◌, ◌<◌, ◌≤◌, if◌then◌else◌, List, ◌++◌, length, take, drop, slice_index, Option, None, sym, ◌∙◌, ap, subst, inl, inr, arith}
 use Rattle.std.proofs.lemmas.Bool.{cases_lt, eq-eqb, lt-ltb, le-leb}
 use Rattle.std.proofs.lemmas.List.{length-map, length-append, length-take-le, length-drop, get_or-map, get_or-take, get_or-drop, get_or_append_left, get_or-append-add, ext_get_or}
 use Rattle.std.proofs.lemmas.List.FromFn.{length-map-range_with_len, get_or-map-range_with_len}
@@ -10,14 +10,14 @@ use Rattle.thy_base.specs.Geometry.{IsInRange, console_room}
 use Rattle.thy_isa.specs.declared.state.CpuState.{CpuState}
 use Rattle.thy_record.specs.ImageLaws.{ReadsBack}
 use Rattle.thy_record.specs.Words.{word_of}
-use Rattle.thy_record.specs.Cpu.{status_tag, cpu_block_of, is_status, record_word, BeginsWithRecord, IsRecordable}
+use Rattle.thy_record.specs.Cpu.{status_tag, cpu_block_of, is_status, record_word, BeginsWithRecord, FitsRecord, IsRecordable}
 use Rattle.thy_record.specs.Tables.{Tables, entry_at, Lists, IsTables}
-use Rattle.thy_record.specs.TableBlocks.{entry_word, entry_from, table_words, table_block_of}
+use Rattle.thy_record.specs.TableBlocks.{entry_word, entry_from, FitBlocks, table_words, table_block_of}
 use Rattle.thy_record.specs.TableFaults.{tables_fault}
-use Rattle.thy_record.specs.Slots.{slot_block_of, IsSlotOf, entries_in, tables_in, epoch_fault, status_fault, slot_fault}
+use Rattle.thy_record.specs.Slots.{slot_block_of, IsSlotOf, HasTableBlocks, entries_in, tables_in, epoch_fault, status_fault, slot_fault}
 use Rattle.thy_record.proofs.WordLemmas.{word_of-block_of}
-use Rattle.thy_record.proofs.ReadBackLemmas.{taken, both, rest_back, cpu_of_record-begins}
-use Rattle.thy_record.proofs.TableLemmas.{entry_from-entry_word}
+use Rattle.thy_record.proofs.ReadBackLemmas.{taken, both, FitsRecord-recordable, rest_back, cpu_back, epoch_back}
+use Rattle.thy_record.proofs.TableLemmas.{entry_from-entry_word, entry_word-fits}
 use Rattle.thy_record.proofs.TableFaultLemmas.{both_none, IsFaultless-tables}
 use Rattle.thy_base.proofs.RangeLemmas.{btt_eights, ptt_eights}
 
@@ -38,56 +38,50 @@ BeginsWithRecord-slot p cpu t epoch slot s = record {
 -- ---- the tables
 
 -- each entry of both tables has a word
-listed_fits : (p : Parameters) (t : Tables) (m : ℕ) (e : Option ℕ) → IsInRange p → IsTables p t → entry_at (t.btt ++ t.ptt) m ≡ e → entry_word e < 2 ^ 64
-listed_fits p t m None r s h = omega arith
-listed_fits p t m (Some n) r s h = elim (cases_lt m (length t.btt)) as (λ _. entry_word (Some n) < 2 ^ 64) [
-  | inl low ↦
-      let l : Lists t.btt m n = record { is = sym (get_or_append_left t.btt t.ptt None m low) ∙ h } in
-      let small = s.blocks m n l in
-      omega arith
+both_fit : (p : Parameters) (t : Tables) (m n : ℕ) → FitBlocks p t → Lists (t.btt ++ t.ptt) m n → n < 2 ^ 64 - 1
+both_fit p t m n fit l = elim (cases_lt m (length t.btt)) as (λ _. n < 2 ^ 64 - 1) [
+  | inl low ↦ fit.btt.each m n (record { is = sym (get_or_append_left t.btt t.ptt None m low) ∙ l.is })
   | inr high ↦
       let e : length t.btt + (m - length t.btt) ≡ m = omega arith in
-      let l : Lists t.ptt (m - length t.btt) n =
-      record { is = sym (get_or-append-add t.btt t.ptt (m - length t.btt) None) ∙ ap (entry_at (t.btt ++ t.ptt)) e ∙ h } in
-      let small = s.pages (m - length t.btt) n l in
-      omega arith
+      fit.ptt.each (m - length t.btt) n
+      (record { is = sym (get_or-append-add t.btt t.ptt (m - length t.btt) None) ∙ ap (entry_at (t.btt ++ t.ptt)) e ∙ l.is })
 ]
 
 -- word m of the tables, in their block m / 8
-table_word : (p : Parameters) (t : Tables) (m : ℕ) → IsInRange p → IsTables p t → m < p.btt + p.ptt
+table_word : (p : Parameters) (t : Tables) (m : ℕ) → IsInRange p → FitBlocks p t → m < p.btt + p.ptt
     → word_of (table_block_of t (m / 8)) (m % 8) ≡ entry_word (entry_at (t.btt ++ t.ptt) m)
 unfolding table_block_of
-table_word p t m r s l =
+table_word p t m r fit l =
     let words = table_words t in
-    let all : length (table_words t) ≡ p.btt + p.ptt = omega (arith, length-map (t.btt ++ t.ptt) entry_word, length-append t.btt t.ptt, s.btt_length, s.ptt_length) in
+    let all : length (table_words t) ≡ p.btt + p.ptt = omega (arith, length-map (t.btt ++ t.ptt) entry_word, length-append t.btt t.ptt, fit.btt_length, fit.ptt_length) in
     let whole : 8 * (m / 8) + m % 8 ≡ m = omega arith in
     let here : slice_index (take 8 (drop (8 * (m / 8)) (table_words t))) (m % 8) ≡ entry_word (entry_at (t.btt ++ t.ptt) m) =
     get_or-take 8 (drop (8 * (m / 8)) (table_words t)) (m % 8) 0 (omega arith)
     ∙ get_or-drop (8 * (m / 8)) (table_words t) (m % 8) 0
     ∙ ap (slice_index (table_words t)) whole
-    ∙ get_or-map entry_word (t.btt ++ t.ptt) m None 0 (omega (arith, length-append t.btt t.ptt, s.btt_length, s.ptt_length)) in
+    ∙ get_or-map entry_word (t.btt ++ t.ptt) m None 0 (omega (arith, length-append t.btt t.ptt, fit.btt_length, fit.ptt_length)) in
     let btt8 : p.btt % 8 ≡ 0 = btt_eights p r in
     let ptt8 : p.ptt % 8 ≡ 0 = ptt_eights p r in
     let eight : length (take 8 (drop (8 * (m / 8)) (table_words t))) ≡ 8
     = length-take-le 8 (drop (8 * (m / 8)) (table_words t)) (omega (arith, length-drop (8 * (m / 8)) (table_words t), all)) in
     word_of-block_of (take 8 (drop (8 * (m / 8)) (table_words t))) (m % 8) (omega (arith, eight))
-    (subst (λ x. x < 2 ^ 64) (sym here) (listed_fits p t m (entry_at (t.btt ++ t.ptt) m) r s refl))
+    (subst (λ x. x < 2 ^ 64) (sym here) (entry_word-fits (t.btt ++ t.ptt) m (record { each = λ i n listed. both_fit p t i n fit listed })))
     ∙ here
 
 -- an entry reads back from the slot
-entry_back : (p : Parameters) (cpu : CpuState) (t : Tables) (epoch : ℕ) (slot : List Block) (m : ℕ)
-    → IsInRange p → IsTables p t → IsSlotOf p cpu t epoch slot → m < p.btt + p.ptt
+entry_back : (p : Parameters) (t : Tables) (slot : List Block) (m : ℕ)
+    → IsInRange p → FitBlocks p t → HasTableBlocks p t slot → m < p.btt + p.ptt
     → entry_from (record_word slot (40 + m)) ≡ entry_at (t.btt ++ t.ptt) m
 unfolding record_word
-entry_back p cpu t epoch slot m r s of l =
+entry_back p t slot m r fit of l =
     let btt8 : p.btt % 8 ≡ 0 = btt_eights p r in
     let ptt8 : p.ptt % 8 ≡ 0 = ptt_eights p r in
     let block : (40 + m) / 8 ≡ 5 + m / 8 = omega arith in
     let word : (40 + m) % 8 ≡ m % 8 = omega arith in
     ap entry_from (ap (λ k. word_of (block_at slot k) ((40 + m) % 8)) block
     ∙ ap (word_of (block_at slot (5 + m / 8))) word
-    ∙ ap (λ b. word_of b (m % 8)) (of.each (5 + m / 8) (omega arith) ∙ slot_block_of-table cpu t epoch (m / 8))
-    ∙ table_word p t m r s l)
+    ∙ ap (λ b. word_of b (m % 8)) (of.each (m / 8) (omega arith))
+    ∙ table_word p t m r fit l)
     ∙ entry_from-entry_word (entry_at (t.btt ++ t.ptt) m)
 
 pub length-entries_in : (slot : List Block) (first n : ℕ) → length (entries_in slot first n) ≡ n
@@ -107,34 +101,45 @@ tables_same : (a b c d : List (Option ℕ)) → a ≡ c → b ≡ d → (let t :
 tables_same a b c d h k = cc
 
 -- tables read back as they were written
-pub tables_in-back : (p : Parameters) (cpu : CpuState) (t : Tables) (epoch : ℕ) (slot : List Block)
-    → IsInRange p → IsTables p t → IsSlotOf p cpu t epoch slot → tables_in p slot ≡ t
-tables_in-back p cpu t epoch slot r s of =
+pub tables_back : (p : Parameters) (t : Tables) (slot : List Block)
+    → IsInRange p → FitBlocks p t → HasTableBlocks p t slot → tables_in p slot ≡ t
+tables_back p t slot r fit of =
     tables_same (entries_in slot 40 p.btt) (entries_in slot (40 + p.btt) p.ptt) t.btt t.ptt
-    (entries_back slot 40 p.btt t.btt s.btt_length (λ i l.
-    entry_back p cpu t epoch slot i r s of (omega arith)
-    ∙ get_or_append_left t.btt t.ptt None i (omega (arith, s.btt_length))))
-    (entries_back slot (40 + p.btt) p.ptt t.ptt s.ptt_length (λ j l.
+    (entries_back slot 40 p.btt t.btt fit.btt_length (λ i l.
+    entry_back p t slot i r fit of (omega arith)
+    ∙ get_or_append_left t.btt t.ptt None i (omega (arith, fit.btt_length))))
+    (entries_back slot (40 + p.btt) p.ptt t.ptt fit.ptt_length (λ j l.
     let at : 40 + p.btt + j ≡ 40 + (p.btt + j) = omega arith in
-    let from : p.btt + j ≡ length t.btt + j = omega (arith, s.btt_length) in
+    let from : p.btt + j ≡ length t.btt + j = omega (arith, fit.btt_length) in
     ap (λ x. entry_from (record_word slot x)) at
-    ∙ entry_back p cpu t epoch slot (p.btt + j) r s of (omega arith)
+    ∙ entry_back p t slot (p.btt + j) r fit of (omega arith)
     ∙ ap (entry_at (t.btt ++ t.ptt)) from
     ∙ get_or-append-add t.btt t.ptt j None))
 
+-- a checkpoint's tables fit their blocks
+pub FitBlocks-tables : (p : Parameters) (t : Tables) → IsInRange p → IsTables p t → FitBlocks p t
+FitBlocks-tables p t r s = record {
+  btt_length = s.btt_length;
+  ptt_length = s.ptt_length;
+  btt = record { each = λ i n l. let small = s.blocks i n l in omega arith };
+  ptt = record { each = λ i n l. let small = s.pages i n l in omega arith };
+}
+
+pub tables_in-back : (p : Parameters) (cpu : CpuState) (t : Tables) (epoch : ℕ) (slot : List Block)
+    → IsInRange p → IsTables p t → IsSlotOf p cpu t epoch slot → tables_in p slot ≡ t
+tables_in-back p cpu t epoch slot r s of =
+    tables_back p t slot r (FitBlocks-tables p t r s) (record { each = λ k l. of.each (5 + k) l ∙ slot_block_of-table cpu t epoch k })
+
 -- ---- its faults
 
-epoch_fault-back : (p : Parameters) (ceiling : ℕ) (cpu : CpuState) (epoch : ℕ) (slot : List Block)
-    → IsRecordable p ceiling cpu → console_room p < 2 ^ 64 → ceiling ≤ 2 ^ 64 → epoch < 2 ^ 64 → BeginsWithRecord cpu epoch slot
-    → epoch_fault epoch slot ≡ None
-epoch_fault-back p ceiling cpu epoch slot r room most l of =
-    taken _ _ _ (eq-eqb _ _ (rest_back p ceiling cpu epoch slot 6 r room most l of (omega arith)))
+epoch_fault-back : (cpu : CpuState) (epoch : ℕ) (slot : List Block)
+    → FitsRecord cpu epoch → BeginsWithRecord cpu epoch slot → epoch_fault epoch slot ≡ None
+epoch_fault-back cpu epoch slot fits of = taken _ _ _ (eq-eqb _ _ (epoch_back cpu epoch slot fits of))
 
 status_fault-back : (p : Parameters) (ceiling : ℕ) (cpu : CpuState) (epoch : ℕ) (slot : List Block)
-    → IsRecordable p ceiling cpu → console_room p < 2 ^ 64 → ceiling ≤ 2 ^ 64 → epoch < 2 ^ 64 → BeginsWithRecord cpu epoch slot
-    → status_fault p ceiling slot ≡ None
-status_fault-back p ceiling cpu epoch slot r room most l of =
-    let rest = λ (j : ℕ) (small : j < 8). rest_back p ceiling cpu epoch slot j r room most l of small in
+    → IsRecordable p ceiling cpu → FitsRecord cpu epoch → BeginsWithRecord cpu epoch slot → status_fault p ceiling slot ≡ None
+status_fault-back p ceiling cpu epoch slot r fits of =
+    let rest = λ (j : ℕ) (small : j < 8). rest_back cpu epoch slot j fits of small in
     taken _ _ _ (both _ _
     (ap (λ t. is_status t (record_word slot 37)) (rest 4 (omega arith)) ∙ ap (is_status (status_tag cpu.status)) (rest 5 (omega arith)) ∙ r.status)
     (lt-ltb _ _ (subst (λ x. x < ceiling) (sym (rest 0 (omega arith))) r.count)))
@@ -147,10 +152,11 @@ pub slot_fault-back : (p : Parameters) (ceiling : ℕ) (cpu : CpuState) (t : Tab
 unfolding slot_fault
 slot_fault-back p ceiling cpu t epoch slot r recordable s most l of =
     let room : console_room p < 2 ^ 64 = omega arith in
+    let fits = FitsRecord-recordable p ceiling cpu epoch recordable room most l in
     let begins = BeginsWithRecord-slot p cpu t epoch slot of in
-    both_none _ _ (epoch_fault-back p ceiling cpu epoch slot recordable room most l begins)
+    both_none _ _ (epoch_fault-back cpu epoch slot fits begins)
     (both_none _ _ (ap (tables_fault p) (tables_in-back p cpu t epoch slot r s of) ∙ (IsFaultless-tables p t s).none)
-    (status_fault-back p ceiling cpu epoch slot recordable room most l begins))
+    (status_fault-back p ceiling cpu epoch slot recordable fits begins))
 
 -- all of it reads back
 pub slot_back : (p : Parameters) (ceiling : ℕ) (cpu : CpuState) (t : Tables) (epoch : ℕ) (slot : List Block)
@@ -159,7 +165,7 @@ pub slot_back : (p : Parameters) (ceiling : ℕ) (cpu : CpuState) (t : Tables) (
 slot_back p ceiling cpu t epoch slot r recordable s most l of =
     let room : console_room p < 2 ^ 64 = omega arith in
     record {
-      cpu_back = cpu_of_record-begins p ceiling cpu epoch slot recordable room most l (BeginsWithRecord-slot p cpu t epoch slot of);
+      cpu_back = cpu_back cpu epoch slot (FitsRecord-recordable p ceiling cpu epoch recordable room most l) (BeginsWithRecord-slot p cpu t epoch slot of);
       tables_back = tables_in-back p cpu t epoch slot r s of;
       faultless = slot_fault-back p ceiling cpu t epoch slot r recordable s most l of;
     }

@@ -1,9 +1,10 @@
 -- Entries of tables as words.
-use Rattle.std.proofs.Common.{◌≡◌, ℕ, ◌-◌, ◌^◌, ◌<◌, List, length, map, slice_index, Option, Some, None, refl, sym, ◌∙◌, arith, ◌*◌, ◌++◌, take, drop, ap}
+use Rattle.std.proofs.Common.{◌≡◌, ℕ, ◌-◌, ◌^◌, ◌<◌, List, length, map, slice_index, Option, Some, None, refl, sym, ◌∙◌, arith, ◌*◌, ◌++◌, take, drop, ap, subst}
 use Rattle.std.proofs.lemmas.List.{take-map, drop-map, length-map, get_or-map, ext_get_or}
 use Rattle.thy_record.specs.Tables.{Tables, entry_at}
 use Rattle.thy_record.specs.TableBlocks.{entry_word, entry_from, HaveWords, table_block_of}
-use Rattle.thy_record.specs.Words.{block_of}
+use Rattle.thy_record.specs.Words.{word_of, block_of}
+use Rattle.thy_record.proofs.WordLemmas.{word_of-block_of}
 
 -- a word that was made of an entry
 word_fits : (e : Option ℕ) → ((n : ℕ) → e ≡ Some n → n < 2 ^ 64 - 1) → entry_word e < 2 ^ 64
@@ -17,6 +18,17 @@ entry_word-fits entries i h = word_fits (entry_at entries i) (λ n e. h.each i n
 pub entry_from-entry_word : (e : Option ℕ) → entry_from (entry_word e) ≡ e
 entry_from-entry_word None = refl
 entry_from-entry_word (Some n) = grind arith
+
+-- an entry reads back from its block
+pub entry_back : (entries : List (Option ℕ)) (i : ℕ) → HaveWords entries → i < length entries
+    → entry_from (word_of (block_of (map entry_word entries)) i) ≡ entry_at entries i
+entry_back entries i have l =
+    let here : slice_index (map entry_word entries) i ≡ entry_word (entry_at entries i) = get_or-map entry_word entries i None 0 l in
+    ap entry_from
+    (word_of-block_of (map entry_word entries) i (omega (arith, length-map entries entry_word, l))
+    (subst (λ x. x < 2 ^ 64) (sym here) (entry_word-fits entries i have))
+    ∙ here)
+    ∙ entry_from-entry_word (entry_at entries i)
 
 -- words that are those of the entries, one by one
 pub same_words : (ws : List ℕ) (entries : List (Option ℕ)) → length ws ≡ length entries

@@ -64,6 +64,17 @@ pub record IsRecordOf (c : CpuState) (epoch : ℕ) (blocks : List Block) : Type 
 pub record BeginsWithRecord (c : CpuState) (epoch : ℕ) (blocks : List Block) : Type 0 where
   pub each : (k : ℕ) → k < 5 → block_at blocks k ≡ cpu_block_of c epoch k
 
+-- a processor's state and an epoch of which the record says all: 32 registers, of which register 0 is zero, and numbers
+-- of 64 bits
+pub record FitsRecord (c : CpuState) (epoch : ℕ) : Type 0 where
+  pub regs_length : length c.regs ≡ 32
+  pub regs_zero : slice_index c.regs 0 ≡ 0
+  pub words : (i : ℕ) → i < 40 → slice_index (cpu_words c epoch) i < 2 ^ 64
+
+-- the epoch in a record
+abbrev pub epoch_of_record : List Block → ℕ
+epoch_of_record blocks = record_word blocks 38
+
 -- the processor's state in a record
 unfoldable pub cpu_of_record : List Block → CpuState
 cpu_of_record blocks = record {

@@ -8,6 +8,7 @@ pub mod Header
 pub mod TableFaults
 pub mod Slots
 pub mod Images
+pub mod BackLaws
 pub mod ImageLaws
 pub mod Files
 pub mod Issuing

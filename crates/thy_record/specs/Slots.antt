@@ -24,6 +24,10 @@ slot_block_of cpu t epoch k = if nat_lt k 5 then cpu_block_of cpu epoch k else t
 pub record IsSlotOf (p : Parameters) (cpu : CpuState) (t : Tables) (epoch : ℕ) (slot : List Block) : Type 0 where
   pub each : (k : ℕ) → k < slot_blocks p → block_at slot k ≡ slot_block_of cpu t epoch k
 
+-- these blocks have those of tables behind the record's five
+pub record HasTableBlocks (p : Parameters) (t : Tables) (slot : List Block) : Type 0 where
+  pub each : (k : ℕ) → 5 + k < slot_blocks p → block_at slot (5 + k) ≡ table_block_of t k
+
 -- n entries of a slot, of which the first stands in word `first`
 abbrev pub entries_in : List Block → ℕ → ℕ → List (Option ℕ)
 entries_in slot first n = map (λ i. entry_from (record_word slot (first + i))) (range_with_len 0 n)

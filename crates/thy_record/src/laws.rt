@@ -1,4 +1,5 @@
 //! Laws of the tables, of images and of how they are written, each the contract of a function that does nothing.
+ghost use Rattle.thy_record.specs.BackLaws.{RecordReadsBack, EntriesReadBack, TablesReadBack};
 ghost use Rattle.thy_record.specs.ImageLaws.{FaultlessTables, BlocksHavePlaces, PlacesAreOwn, EntriesAreBlock, SlotReadsBack, FileDecodes, WrittenDecodes, DecodedIsWhole, LookedDecides, CeilingGrows};
 ghost use Rattle.thy_record.specs.Issuing.{ListedHomeIsUnused, PagedHomeIsUnused, EmptyEntryIsUnused, EmptyPageIsUnused, FreeIsNotLooked, NothingIsLooked, IssuingBegins, SlotGoesOn, FreeKeepsIssuing, HeaderKeepsIssuing, DrainKeepsIssuing, IssuedDecodes};
 
@@ -11,6 +12,19 @@ pub fn faultless_tables()
 pub fn each_block_has_its_place()
     ensures there { BlocksHavePlaces }
     ensures own { PlacesAreOwn }
+{}
+
+/// The five blocks of the processor's record read back as they were written: its state and the epoch. That takes 32
+/// registers, of which register 0 is zero, and numbers of 64 bits.
+pub fn record_reads_back()
+    ensures { RecordReadsBack }
+{}
+
+/// A block of a table reads back as it was written, entry by entry; and so do both tables from their blocks in a slot,
+/// whatever they list and whatever else stands there.
+pub fn tables_read_back()
+    ensures entries { EntriesReadBack }
+    ensures tables { TablesReadBack }
 {}
 
 /// Eight entries are a block of the tables; and processor and tables read back from a slot as they were written.

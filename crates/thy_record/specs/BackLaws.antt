@@ -1,0 +1,33 @@
+-- What is written reads back, block by block.
+use Rattle.std.specs.Prelude.{◌≡◌, ℕ, ◌<◌, List, length, map, Option}
+use Rattle.thy_base.specs.declared.block.Block.{Block}
+use Rattle.thy_base.specs.declared.config.Parameters.{Parameters}
+use Rattle.thy_base.specs.Geometry.{IsInRange}
+use Rattle.thy_isa.specs.declared.state.CpuState.{CpuState}
+use Rattle.thy_record.specs.Cpu.{BeginsWithRecord, FitsRecord, cpu_of_record, epoch_of_record}
+use Rattle.thy_record.specs.Slots.{HasTableBlocks, tables_in}
+use Rattle.thy_record.specs.TableBlocks.{entry_word, entry_from, HaveWords, FitBlocks}
+use Rattle.thy_record.specs.Tables.{Tables, entry_at}
+use Rattle.thy_record.specs.Words.{word_of, block_of}
+
+-- processor and epoch read back from a record as they were written
+pub record RecordIsBack (cpu : CpuState) (epoch : ℕ) (blocks : List Block) : Type 0 where
+  pub cpu_back : cpu_of_record blocks ≡ cpu
+  pub epoch_back : epoch_of_record blocks ≡ epoch
+
+abbrev pub RecordReadsBack : Type 0
+RecordReadsBack =
+    (cpu : CpuState) (epoch : ℕ) (blocks : List Block)
+    → FitsRecord cpu epoch → BeginsWithRecord cpu epoch blocks → RecordIsBack cpu epoch blocks
+
+-- entries of a table read back from their block
+abbrev pub EntriesReadBack : Type 0
+EntriesReadBack =
+    (entries : List (Option ℕ)) (i : ℕ)
+    → HaveWords entries → i < length entries → entry_from (word_of (block_of (map entry_word entries)) i) ≡ entry_at entries i
+
+-- and both tables from their blocks in a slot, whatever else stands there
+abbrev pub TablesReadBack : Type 0
+TablesReadBack =
+    (p : Parameters) (t : Tables) (slot : List Block)
+    → IsInRange p → FitBlocks p t → HasTableBlocks p t slot → tables_in p slot ≡ t
