@@ -26,7 +26,7 @@ use Rattle.thy_record.specs.ImageLaws.{HasCheckpoint, IsDecoded, IsAlike}
 use Rattle.thy_record.specs.Slots.{IsSlotOf, tables_in, epoch_fault, status_fault, slot_fault}
 use Rattle.thy_record.specs.Tables.{Tables, IsTables}
 use Rattle.thy_record.specs.TableFaults.{tables_fault}
-use Rattle.thy_record.proofs.HeaderLemmas.{header_fault-header_of, header_fault-long}
+use Rattle.thy_record.proofs.HeaderLemmas.{header_fault-long}
 use Rattle.thy_record.proofs.ReadBackLemmas.{epoch_of-commit_of, commit_fault-commit_of, is_zero-commit_of, FitsRecord-recordable, cpu_back}
 use Rattle.thy_record.proofs.SlotLemmas.{BeginsWithRecord-slot, length-entries_in, tables_in-back, slot_fault-back}
 use Rattle.thy_record.proofs.TableFaultLemmas.{neither, both_none, IsTables-faultless}
@@ -67,6 +67,16 @@ decode-parts zeros fault epoch found state other a b c d =
 all_none : (a b c : Option BadImage) → a ≡ None → b ≡ None → c ≡ None → option_or a (option_or b c) ≡ None
 all_none a b c h k l = both_none a (option_or b c) h (both_none b c k l)
 
+-- the slot that the commit block names is the one that was written
+pub IsSlotOf-written : (p : Parameters) (cpu : CpuState) (t : Tables) (epoch : ℕ) (image : List Block)
+    → epoch < 2 ^ 64 → HasCheckpoint p image cpu t epoch → IsSlotOf p cpu t epoch (slot_in p image)
+IsSlotOf-written p cpu t epoch image fits has = record {
+  each = λ k l.
+      block_at-slot_in p image k l
+      ∙ ap (λ e. block_at image (slot_place p (e % 2) + k)) (ap epoch_of has.commit ∙ epoch_of-commit_of epoch fits)
+      ∙ has.slot k l;
+}
+
 pub decode-written : (p : Parameters) (ceiling : ℕ) (cpu : CpuState) (t : Tables) (epoch : ℕ) (image : List Block)
     → IsInRange p → IsRecordable p ceiling cpu → IsTables p t → ceiling ≤ 2 ^ 64 → epoch < ceiling
     → HasCheckpoint p image cpu t epoch
@@ -76,15 +86,13 @@ decode-written p ceiling cpu t epoch image r recordable s most below has =
     let fits : epoch < 2 ^ 64 = omega arith in
     let room : console_room p < 2 ^ 64 = omega arith in
     let of_epoch : epoch_of (block_at image 1) ≡ epoch = ap epoch_of has.commit ∙ epoch_of-commit_of epoch fits in
-    let slot : IsSlotOf p cpu t epoch (slot_in p image) = record {
-      each = λ k l. block_at-slot_in p image k l ∙ ap (λ e. block_at image (slot_place p (e % 2) + k)) of_epoch ∙ has.slot k l;
-    } in
+    let slot = IsSlotOf-written p cpu t epoch image fits has in
     let long : (length image == image_blocks p) ≡ true = eq-eqb _ _ has.long in
     decode-parts (is_zero (block_at image 1)) (image_fault p ceiling (length image == image_blocks p) image) (epoch_of (block_at image 1)) epoch
     (state_in p image) (state_from p cpu (memory_in p t image))
     (ap is_zero has.commit ∙ is_zero-commit_of epoch)
     (all_none _ _ _
-    (ap (header_fault (block_at image 0) p) long ∙ ap (λ b. header_fault b p true) has.header ∙ header_fault-header_of p r)
+    (ap (header_fault (block_at image 0) p) long ∙ has.header_fits)
     (ap (λ b. commit_fault b ceiling) has.commit ∙ commit_fault-commit_of epoch ceiling below most)
     (ap (λ e. slot_fault p ceiling e (slot_in p image)) of_epoch ∙ slot_fault-back p ceiling cpu t epoch (slot_in p image) r recordable s most fits slot))
     of_epoch

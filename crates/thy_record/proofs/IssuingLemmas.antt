@@ -1,7 +1,7 @@
 -- Which writes leave a checkpoint alone, and what reads give while one is written.
-use Rattle.std.proofs.Common.{◌≡◌, ◌≢◌, ℕ, zero, suc, ◌+◌, ◌%◌, ◌^◌, ◌<◌, ◌≤◌, Bool, true, false, if◌then◌else◌, List, [], ◌∷◌, ◌++◌, length, Contains, Option, Some, None, refl, sym, ◌∙◌, ap, subst, inl, inr, arith}
+use Rattle.std.proofs.Common.{◌≡◌, ◌≢◌, ℕ, zero, suc, ◌+◌, ◌%◌, ◌^◌, ◌<◌, ◌≤◌, Bool, true, false, if◌then◌else◌, List, [], ◌∷◌, ◌++◌, length, get_or, Contains, Option, Some, None, refl, sym, ◌∙◌, ap, subst, inl, inr, arith}
 use Rattle.std.proofs.lemmas.Bool.{cases_lt}
-use Rattle.std.proofs.lemmas.List.{length-map, length-set, get_or-map}
+use Rattle.std.proofs.lemmas.List.{length-map, length-set, get_or-map, ext_get_or}
 use Rattle.std.proofs.lemmas.List.Elements.{Contains-append_cases}
 use Rattle.std.proofs.lemmas.List.FromFn.{length-range_with_len, get_or-range_with_len}
 use Rattle.std.specs.List.{range_with_len}
@@ -9,13 +9,12 @@ use Rattle.thy_base.specs.declared.block.Block.{Block}
 use Rattle.thy_base.specs.declared.config.Parameters.{Parameters}
 use Rattle.thy_base.specs.declared.place.Place.{Place}
 use Rattle.thy_base.specs.declared.place.Place.TheVariants.{Home, AlternateBlock, AlternatePage}
-use Rattle.thy_base.specs.Device.{Device, block_at, applied, newest, drained, written_to}
+use Rattle.thy_base.specs.Device.{Device, zero_block, block_at, applied, newest, drained, written_to}
 use Rattle.thy_base.specs.Geometry.{IsInRange, memory_blocks}
 use Rattle.thy_base.specs.Places.{in_dram, number_of, IsPlace, slot_blocks, slot_place, first_home, image_blocks}
 use Rattle.thy_base.specs.Store.{page_of}
 use Rattle.thy_base.proofs.DeviceLemmas.{length-applied, length-drained, length-written_to, newest-drained, newest-written_to_other}
 use Rattle.thy_base.proofs.PlaceLemmas.{numbers_tell, behind_slots}
-use Rattle.thy_crash.specs.Fixed.{Reads}
 use Rattle.thy_crash.specs.Saved.{next_image}
 use Rattle.thy_crash.proofs.FixedLemmas.{ReadsFirst-elsewhere, ReadsFirst-drained, ReadsFirst-more}
 use Rattle.thy_crash.proofs.SavedLemmas.{next_image-reads, next_image-commit, IsIssued-next_image}
@@ -24,41 +23,38 @@ use Rattle.thy_record.specs.Commit.{commit_of, is_zero, epoch_of}
 use Rattle.thy_record.specs.Cpu.{IsRecordable}
 use Rattle.thy_record.specs.Decoded.{At}
 use Rattle.thy_isa.specs.OnBlocks.{state_from}
-use Rattle.thy_record.specs.Header.{header_of}
+use Rattle.thy_record.specs.Header.{header_fault}
 use Rattle.thy_record.specs.Images.{slot_numbers, slot_in, memory_numbers, memory_in, looked}
 use Rattle.thy_record.specs.ImageLaws.{HasCheckpoint}
-use Rattle.thy_record.specs.Issuing.{Target, SlotBlock, PlaceBlock, target_number, IsTarget, IsUnused, IsFree, IsToldBy, memory_read, IsIssuing, IsIssuedCheckpoint}
+use Rattle.thy_record.specs.Issuing.{Target, SlotBlock, PlaceBlock, target_number, IsTarget, IsUnused, IsFree, IsToldBy, memory_read, HasMemory, IsIssuing, IsIssuedCheckpoint}
 use Rattle.thy_record.specs.Slots.{slot_block_of, tables_in}
 use Rattle.thy_record.specs.Tables.{Tables, entry_at, Lists, entry_of, place_by_entries, place_of, IsTables}
 use Rattle.thy_record.proofs.EntryLemmas.{entry_of-Some, entry_of-None, IsPlace-place_of, in_dram-place_of}
-use Rattle.thy_record.proofs.ImageLemmas.{map-alike, decode-written, IsDecoded-at}
+use Rattle.thy_record.proofs.ImageLemmas.{map-alike, IsSlotOf-written, decode-written}
+use Rattle.thy_record.proofs.ReadBackLemmas.{epoch_of-commit_of}
+use Rattle.thy_record.proofs.SlotLemmas.{tables_in-back}
 
 -- ---- the numbers in which memory stands
 
-memory_number_at : (p : Parameters) (t : Tables) (k : ℕ) → k < memory_blocks p → (let xs : List ℕ = memory_numbers p t in Contains xs (number_of p (place_of t k)))
-memory_number_at p t k l =
-    let long : length (memory_numbers p t) ≡ memory_blocks p
-    = length-map (range_with_len 0 (memory_blocks p)) (λ b. number_of p (place_of t b)) ∙ length-range_with_len 0 (memory_blocks p) in
-    let plain : 0 + k ≡ k = omega arith in (
-      k,
-      omega (arith, long),
-      get_or-map (λ b. number_of p (place_of t b)) (range_with_len 0 (memory_blocks p)) k 0 _ (omega (arith, length-range_with_len 0 (memory_blocks p)))
-          ∙ ap (λ b. number_of p (place_of t b)) (get_or-range_with_len 0 (memory_blocks p) k 0 l ∙ plain),
-    )
+length-memory_numbers : (p : Parameters) (t : Tables) → (let xs : List ℕ = memory_numbers p t in length xs) ≡ memory_blocks p
+length-memory_numbers p t =
+    length-map (range_with_len 0 (memory_blocks p)) (λ b. number_of p (place_of t b)) ∙ length-range_with_len 0 (memory_blocks p)
+
+-- the k-th is the number of block k's place
+memory_number : (p : Parameters) (t : Tables) (k otherwise : ℕ) → k < memory_blocks p
+    → (let xs : List ℕ = memory_numbers p t in get_or xs k otherwise) ≡ number_of p (place_of t k)
+memory_number p t k otherwise l =
+    let plain : 0 + k ≡ k = omega arith in
+    get_or-map (λ b. number_of p (place_of t b)) (range_with_len 0 (memory_blocks p)) k 0 otherwise
+    (omega (arith, length-range_with_len 0 (memory_blocks p)))
+    ∙ ap (λ b. number_of p (place_of t b)) (get_or-range_with_len 0 (memory_blocks p) k 0 l ∙ plain)
 
 -- each is the number of a block's place
 memory_number_of : (p : Parameters) (t : Tables) (x : ℕ) → Contains (memory_numbers p t) x
     → (b : ℕ) × (b < memory_blocks p) × (number_of p (place_of t b) ≡ x)
 memory_number_of p t x (k, l, is) =
-    let long : length (memory_numbers p t) ≡ memory_blocks p
-    = length-map (range_with_len 0 (memory_blocks p)) (λ b. number_of p (place_of t b)) ∙ length-range_with_len 0 (memory_blocks p) in
-    let inside : k < memory_blocks p = omega (arith, long) in
-    let plain : 0 + k ≡ k = omega arith in (
-      k,
-      inside,
-      sym (get_or-map (λ b. number_of p (place_of t b)) (range_with_len 0 (memory_blocks p)) k 0 x (omega (arith, length-range_with_len 0 (memory_blocks p)))
-          ∙ ap (λ b. number_of p (place_of t b)) (get_or-range_with_len 0 (memory_blocks p) k 0 inside ∙ plain)) ∙ is,
-    )
+    let inside : k < memory_blocks p = omega (arith, length-memory_numbers p t) in
+    (k, inside, sym (memory_number p t k x inside) ∙ is)
 
 -- which lies behind the slots, within the image
 memory_behind : (p : Parameters) (t : Tables) (x : ℕ) → IsTables p t → Contains (memory_numbers p t) x → (first_home p ≤ x) × (x < image_blocks p)
@@ -211,6 +207,30 @@ nothing_looked p image x z other inside =
 
 -- ---- what reads give meanwhile
 
+length-memory_read : (p : Parameters) (t : Tables) (n : Device) → length (memory_read p t n) ≡ memory_blocks p
+length-memory_read p t n = length-map (memory_numbers p t) (newest n) ∙ length-memory_numbers p t
+
+-- a block of memory as it is read
+memory_read-at : (p : Parameters) (t : Tables) (n : Device) (b : ℕ) → b < memory_blocks p
+    → block_at (memory_read p t n) b ≡ newest n (number_of p (place_of t b))
+memory_read-at p t n b l =
+    get_or-map (newest n) (memory_numbers p t) b 0 zero_block (omega (arith, length-memory_numbers p t))
+    ∙ ap (newest n) (memory_number p t b 0 l)
+
+-- blocks that stand at their places are what is read through the tables
+pub memory_of_places : (p : Parameters) (t : Tables) (n : Device) (memory : List Block) → HasMemory p t n memory → memory_read p t n ≡ memory
+memory_of_places p t n memory has =
+    ext_get_or zero_block (memory_read p t n) memory (length-memory_read p t n ∙ sym has.as_long)
+    (λ b below.
+    let l : b < memory_blocks p = omega (arith, length-memory_read p t n) in
+    memory_read-at p t n b l ∙ has.each b l)
+
+pub places_of_memory : (p : Parameters) (t : Tables) (n : Device) (memory : List Block) → memory_read p t n ≡ memory → HasMemory p t n memory
+places_of_memory p t n memory is = record {
+  as_long = ap length (sym is) ∙ length-memory_read p t n;
+  each = λ b l. sym (memory_read-at p t n b l) ∙ ap (λ m. block_at m b) is;
+}
+
 memory_elsewhere : (p : Parameters) (t : Tables) (old new : Device) (at : ℕ) (block : Block) → length old.image ≡ image_blocks p → IsTables p t
     → (Contains (memory_numbers p t) at → ⊥) → new ≡ written_to old at block → memory_read p t new ≡ memory_read p t old
 memory_elsewhere p t old new at block sized tables other is =
@@ -318,16 +338,25 @@ length-next_image : (n : Device) (commit : Block) → length (next_image n commi
 length-next_image n commit = length-set (applied n.image n.queue) 1 commit ∙ length-applied n.image n.queue
 
 next_has : (p : Parameters) (n : Device) (cpu : CpuState) (t : Tables) (epoch : ℕ) (memory : List Block)
-    → IsIssuing p n cpu t epoch memory (slot_blocks p) → Reads n 0 (header_of p)
+    → IsIssuing p n cpu t epoch memory (slot_blocks p) → header_fault (newest n 0) p true ≡ None
     → HasCheckpoint p (next_image n (commit_of epoch)) cpu t epoch
 next_has p n cpu t epoch memory h header = record {
   long = length-next_image n (commit_of epoch) ∙ h.sized;
-  header = next_image-reads (commit_of epoch) n 0 header.inside (λ e. omega arith) ∙ header.newest_is;
+  header_fits = ap (λ b. header_fault b p true) (next_image-reads (commit_of epoch) n 0 (omega (arith, h.sized)) (λ e. omega arith)) ∙ header;
   commit = next_image-commit (commit_of epoch) n (omega (arith, h.sized));
   slot = λ k l.
       let read = h.slot.each k l in
       let behind = (slot_behind p (epoch % 2) k (half epoch) l).0 in
       next_image-reads (commit_of epoch) n (slot_place p (epoch % 2) + k) read.inside (λ e. omega (arith, behind, e)) ∙ read.newest_is;
+}
+
+-- an image tells the epoch and the tables that were written
+told_by_written : (p : Parameters) (cpu : CpuState) (t : Tables) (epoch : ℕ) (image : List Block)
+    → IsInRange p → IsTables p t → epoch < 2 ^ 64 → HasCheckpoint p image cpu t epoch → IsToldBy p image epoch t
+told_by_written p cpu t epoch image r s fits has = record {
+  of_epoch = ap epoch_of has.commit ∙ epoch_of-commit_of epoch fits;
+  tables = tables_in-back p cpu t epoch (slot_in p image) r s (IsSlotOf-written p cpu t epoch image fits has);
+  whole = s;
 }
 
 next_memory : (p : Parameters) (n : Device) (cpu : CpuState) (t : Tables) (epoch k : ℕ) (memory : List Block)
@@ -343,13 +372,16 @@ next_memory p n cpu t epoch k memory h =
 
 pub issued_decodes : (p : Parameters) (ceiling : ℕ) (n : Device) (cpu : CpuState) (t : Tables) (epoch : ℕ) (memory : List Block)
     → IsInRange p → IsRecordable p ceiling cpu → ceiling ≤ 2 ^ 64 → epoch < ceiling
-    → IsIssuing p n cpu t epoch memory (slot_blocks p) → Reads n 0 (header_of p)
-    → IsIssuedCheckpoint p ceiling n cpu epoch memory
+    → IsIssuing p n cpu t epoch memory (slot_blocks p) → header_fault (newest n 0) p true ≡ None
+    → IsIssuedCheckpoint p ceiling n cpu t epoch memory
 issued_decodes p ceiling n cpu t epoch memory r recordable most below h header =
-    let decodes = decode-written p ceiling cpu t epoch (next_image n (commit_of epoch)) r recordable h.tables most below (next_has p n cpu t epoch memory h header) in
-    let tables = (IsDecoded-at p ceiling (next_image n (commit_of epoch)) epoch _ decodes).tables in
+    let has = next_has p n cpu t epoch memory h header in
+    let told = told_by_written p cpu t epoch (next_image n (commit_of epoch)) r h.tables (omega arith) has in
+    let tables = subst (IsTables p) (sym told.tables) h.tables in
     record {
-      decodes = decodes ∙ ap (λ m. At epoch (state_from p cpu m)) (next_memory p n cpu t epoch (slot_blocks p) memory h);
+      told = told;
+      decodes = decode-written p ceiling cpu t epoch (next_image n (commit_of epoch)) r recordable h.tables most below has
+          ∙ ap (λ m. At epoch (state_from p cpu m)) (next_memory p n cpu t epoch (slot_blocks p) memory h);
       issued = IsIssued-next_image (looked p) (commit_of epoch) n
           (λ x inside.
           let l = looked_cases p (next_image n (commit_of epoch)) x (is_zero (block_at (next_image n (commit_of epoch)) 1)) tables inside in

@@ -1,14 +1,29 @@
 -- What is written reads back, block by block.
-use Rattle.std.specs.Prelude.{◌≡◌, ℕ, ◌<◌, List, length, map, Option}
+use Rattle.std.specs.Prelude.{◌≡◌, ℕ, ◌^◌, ◌<◌, ◌≤◌, true, false, List, length, map, Option, None}
 use Rattle.thy_base.specs.declared.block.Block.{Block}
 use Rattle.thy_base.specs.declared.config.Parameters.{Parameters}
 use Rattle.thy_base.specs.Geometry.{IsInRange}
 use Rattle.thy_isa.specs.declared.state.CpuState.{CpuState}
+use Rattle.thy_record.specs.Commit.{commit_of, is_zero, epoch_of, commit_fault}
 use Rattle.thy_record.specs.Cpu.{BeginsWithRecord, FitsRecord, cpu_of_record, epoch_of_record}
+use Rattle.thy_record.specs.Header.{header_of, header_fault}
 use Rattle.thy_record.specs.Slots.{HasTableBlocks, tables_in}
 use Rattle.thy_record.specs.TableBlocks.{entry_word, entry_from, HaveWords, FitBlocks}
 use Rattle.thy_record.specs.Tables.{Tables, entry_at}
 use Rattle.thy_record.specs.Words.{word_of, block_of}
+
+-- a header has no fault in an image of its length
+abbrev pub HeaderReadsBack : Type 0
+HeaderReadsBack = (p : Parameters) → IsInRange p → header_fault (header_of p) p true ≡ None
+
+-- a commit block is not zero, names its epoch, and has no fault
+pub record CommitIsBack (epoch ceiling : ℕ) : Type 0 where
+  pub committed : is_zero (commit_of epoch) ≡ false
+  pub of_epoch : epoch_of (commit_of epoch) ≡ epoch
+  pub fits : commit_fault (commit_of epoch) ceiling ≡ None
+
+abbrev pub CommitReadsBack : Type 0
+CommitReadsBack = (epoch ceiling : ℕ) → epoch < ceiling → ceiling ≤ 2 ^ 64 → CommitIsBack epoch ceiling
 
 -- processor and epoch read back from a record as they were written
 pub record RecordIsBack (cpu : CpuState) (epoch : ℕ) (blocks : List Block) : Type 0 where

@@ -1,5 +1,5 @@
 -- What is written reads back, said of whole images.
-use Rattle.std.specs.Prelude.{◌≡◌, ℕ, ◌+◌, ◌*◌, ◌%◌, ◌^◌, ◌<◌, ◌≤◌, false, List, ◌++◌, length, map, take, drop, Contains, Option, None}
+use Rattle.std.specs.Prelude.{◌≡◌, ℕ, ◌+◌, ◌*◌, ◌%◌, ◌^◌, ◌<◌, ◌≤◌, true, false, List, ◌++◌, length, map, take, drop, Contains, Option, None}
 use Rattle.thy_base.specs.declared.block.Block.{Block}
 use Rattle.thy_base.specs.declared.config.Parameters.{Parameters}
 use Rattle.thy_base.specs.Device.{block_at}
@@ -13,7 +13,7 @@ use Rattle.thy_record.specs.Cpu.{cpu_of_record, IsRecordable}
 use Rattle.thy_record.specs.Decoded.{At}
 use Rattle.thy_isa.specs.OnBlocks.{state_from}
 use Rattle.thy_record.specs.Files.{decode_file}
-use Rattle.thy_record.specs.Header.{header_of}
+use Rattle.thy_record.specs.Header.{header_fault}
 use Rattle.thy_record.specs.Images.{slot_in, memory_in, decode_image, looked, IsWholeImage}
 use Rattle.thy_record.specs.Slots.{slot_block_of, IsSlotOf, tables_in, slot_fault}
 use Rattle.thy_record.specs.TableBlocks.{entry_word, table_block_of}
@@ -64,10 +64,10 @@ SlotReadsBack =
     → IsInRange p → IsRecordable p ceiling cpu → IsTables p t → ceiling ≤ 2 ^ 64 → epoch < 2 ^ 64
     → IsSlotOf p cpu t epoch slot → ReadsBack p ceiling cpu t epoch slot
 
--- an image has a checkpoint's header, commit block and slot
+-- an image has a checkpoint's commit block and slot, and a header without a fault
 pub record HasCheckpoint (p : Parameters) (image : List Block) (cpu : CpuState) (t : Tables) (epoch : ℕ) : Type 0 where
   pub long : length image ≡ image_blocks p
-  pub header : block_at image 0 ≡ header_of p
+  pub header_fits : header_fault (block_at image 0) p true ≡ None
   pub commit : block_at image 1 ≡ commit_of epoch
   pub slot : (k : ℕ) → k < slot_blocks p → block_at image (slot_place p (epoch % 2) + k) ≡ slot_block_of cpu t epoch k
 

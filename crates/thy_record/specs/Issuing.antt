@@ -8,14 +8,14 @@ use Rattle.thy_base.specs.Device.{Device, block_at, newest, drained, written_to}
 use Rattle.thy_base.specs.Geometry.{IsInRange, memory_blocks}
 use Rattle.thy_base.specs.Places.{in_dram, number_of, IsPlace, slot_blocks, slot_place, image_blocks}
 use Rattle.thy_base.specs.Store.{page_of}
-use Rattle.thy_crash.specs.Fixed.{Reads, ReadsFirst}
+use Rattle.thy_crash.specs.Fixed.{ReadsFirst}
 use Rattle.thy_crash.specs.Saved.{IsIssued, next_image}
 use Rattle.thy_isa.specs.declared.state.CpuState.{CpuState}
 use Rattle.thy_record.specs.Commit.{commit_of, is_zero, epoch_of}
 use Rattle.thy_record.specs.Cpu.{IsRecordable}
 use Rattle.thy_record.specs.Decoded.{At}
 use Rattle.thy_isa.specs.OnBlocks.{state_from}
-use Rattle.thy_record.specs.Header.{header_of}
+use Rattle.thy_record.specs.Header.{header_fault}
 use Rattle.thy_record.specs.Images.{slot_in, memory_numbers, decode_image, looked}
 use Rattle.thy_record.specs.Slots.{slot_block_of, tables_in}
 use Rattle.thy_record.specs.Tables.{Tables, entry_at, Lists, place_of, IsTables}
@@ -83,6 +83,21 @@ NothingIsLooked =
 abbrev pub memory_read : Parameters → Tables → Device → List Block
 memory_read p t n = map (newest n) (memory_numbers p t)
 
+-- a device has each of these blocks of memory where tables have it
+pub record HasMemory (p : Parameters) (t : Tables) (n : Device) (memory : List Block) : Type 0 where
+  pub as_long : length memory ≡ memory_blocks p
+  pub each : (b : ℕ) → b < memory_blocks p → newest n (number_of p (place_of t b)) ≡ block_at memory b
+
+-- so memory, read through the tables, is these blocks
+abbrev pub PlacedIsMemory : Type 0
+PlacedIsMemory =
+    (p : Parameters) (t : Tables) (n : Device) (memory : List Block) → HasMemory p t n memory → memory_read p t n ≡ memory
+
+-- and where that is so, each stands there
+abbrev pub MemoryIsPlaced : Type 0
+MemoryIsPlaced =
+    (p : Parameters) (t : Tables) (n : Device) (memory : List Block) → memory_read p t n ≡ memory → HasMemory p t n memory
+
 -- the first k blocks of a checkpoint's slot were written, and memory is to be these blocks
 pub record IsIssuing (p : Parameters) (n : Device) (cpu : CpuState) (t : Tables) (epoch : ℕ) (memory : List Block) (k : ℕ) : Type 0 where
   pub sized : length n.image ≡ image_blocks p
@@ -122,15 +137,16 @@ DrainKeepsIssuing =
     (p : Parameters) (old new : Device) (cpu : CpuState) (t : Tables) (epoch : ℕ) (memory : List Block) (k : ℕ)
     → IsIssuing p old cpu t epoch memory k → new ≡ drained old → IsIssuing p new cpu t epoch memory k
 
--- the next image, with the commit block of this epoch, is the checkpoint, and lacks no other write
-pub record IsIssuedCheckpoint (p : Parameters) (ceiling : ℕ) (n : Device) (cpu : CpuState) (epoch : ℕ) (memory : List Block) : Type 0 where
+-- the next image, with the commit block of this epoch, is the checkpoint, tells its tables, and lacks no other write
+pub record IsIssuedCheckpoint (p : Parameters) (ceiling : ℕ) (n : Device) (cpu : CpuState) (t : Tables) (epoch : ℕ) (memory : List Block) : Type 0 where
+  pub told : IsToldBy p (next_image n (commit_of epoch)) epoch t
   pub decodes : decode_image p ceiling (next_image n (commit_of epoch)) ≡ At epoch (state_from p cpu memory)
   pub issued : IsIssued (looked p) n (next_image n (commit_of epoch))
 
--- with the whole slot written, and the header there
+-- with the whole slot written, and any header there that has no fault
 abbrev pub IssuedDecodes : Type 0
 IssuedDecodes =
     (p : Parameters) (ceiling : ℕ) (n : Device) (cpu : CpuState) (t : Tables) (epoch : ℕ) (memory : List Block)
     → IsInRange p → IsRecordable p ceiling cpu → ceiling ≤ 2 ^ 64 → epoch < ceiling
-    → IsIssuing p n cpu t epoch memory (slot_blocks p) → Reads n 0 (header_of p)
-    → IsIssuedCheckpoint p ceiling n cpu epoch memory
+    → IsIssuing p n cpu t epoch memory (slot_blocks p) → header_fault (newest n 0) p true ≡ None
+    → IsIssuedCheckpoint p ceiling n cpu t epoch memory

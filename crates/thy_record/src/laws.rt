@@ -1,7 +1,7 @@
 //! Laws of the tables, of images and of how they are written, each the contract of a function that does nothing.
-ghost use Rattle.thy_record.specs.BackLaws.{RecordReadsBack, EntriesReadBack, TablesReadBack};
+ghost use Rattle.thy_record.specs.BackLaws.{HeaderReadsBack, CommitReadsBack, RecordReadsBack, EntriesReadBack, TablesReadBack};
 ghost use Rattle.thy_record.specs.ImageLaws.{FaultlessTables, BlocksHavePlaces, PlacesAreOwn, EntriesAreBlock, SlotReadsBack, FileDecodes, WrittenDecodes, DecodedIsWhole, LookedDecides, CeilingGrows};
-ghost use Rattle.thy_record.specs.Issuing.{ListedHomeIsUnused, PagedHomeIsUnused, EmptyEntryIsUnused, EmptyPageIsUnused, FreeIsNotLooked, NothingIsLooked, IssuingBegins, SlotGoesOn, FreeKeepsIssuing, HeaderKeepsIssuing, DrainKeepsIssuing, IssuedDecodes};
+ghost use Rattle.thy_record.specs.Issuing.{ListedHomeIsUnused, PagedHomeIsUnused, EmptyEntryIsUnused, EmptyPageIsUnused, FreeIsNotLooked, NothingIsLooked, PlacedIsMemory, MemoryIsPlaced, IssuingBegins, SlotGoesOn, FreeKeepsIssuing, HeaderKeepsIssuing, DrainKeepsIssuing, IssuedDecodes};
 
 /// Tables are those that a checkpoint may have exactly where no fault is found in them.
 pub fn faultless_tables()
@@ -12,6 +12,12 @@ pub fn faultless_tables()
 pub fn each_block_has_its_place()
     ensures there { BlocksHavePlaces }
     ensures own { PlacesAreOwn }
+{}
+
+/// A header reads back as one without a fault, and a commit block as one of its epoch.
+pub fn header_and_commit_read_back()
+    ensures header { HeaderReadsBack }
+    ensures commit { CommitReadsBack }
 {}
 
 /// The five blocks of the processor's record read back as they were written: its state and the epoch. That takes 32
@@ -38,7 +44,7 @@ pub fn file_decodes()
     ensures { FileDecodes }
 {}
 
-/// An image that has a checkpoint's header, commit block and slot decodes to that checkpoint.
+/// An image that has a checkpoint's commit block and slot, and a header without a fault, decodes to that checkpoint.
 pub fn written_decodes()
     ensures { WrittenDecodes }
 {}
@@ -74,6 +80,12 @@ pub fn free_is_not_looked_at()
     ensures nothing { NothingIsLooked }
 {}
 
+/// Memory, read through tables, is a list of blocks exactly where each of these stands at its place by the tables.
+pub fn memory_is_read_at_its_places()
+    ensures blocks { PlacedIsMemory }
+    ensures memory { MemoryIsPlaced }
+{}
+
 /// The blocks of a slot that were written in turn are read, and memory is read where the tables have it; that stays so
 /// over writes to what is free, the header's write and drains.
 pub fn issuing_goes_on()
@@ -84,7 +96,8 @@ pub fn issuing_goes_on()
     ensures drain { DrainKeepsIssuing }
 {}
 
-/// With the whole slot written the next image decodes to the checkpoint, and all that tells it was written.
+/// With the whole slot written, and behind a header without a fault, whoever wrote it, the next image decodes to the
+/// checkpoint and tells its tables, and all that tells it was written.
 pub fn issued_decodes()
     ensures { IssuedDecodes }
 {}
