@@ -2,7 +2,7 @@
 use Rattle.std.specs.Prelude.{◌≡◌, ℕ, zero, suc, ◌+◌, ◌*◌, ◌/◌, ◌%◌, ◌^◌, ◌<◌, ◌≤◌, true, Bool, ◌&&◌, ◌==◌, nat_lt, nat_le, if◌then◌else◌, List, [], ◌∷◌, ◌++◌, take, drop, length, slice_index, Option}
 use Rattle.thy_base.specs.declared.block.Block.{Block}
 use Rattle.thy_base.specs.declared.config.Parameters.{Parameters}
-use Rattle.thy_base.specs.Demands.{asked, first_fault}
+use Rattle.thy_base.specs.Demands.{Demand, asked, first_fault}
 use Rattle.thy_base.specs.Device.{block_at}
 use Rattle.thy_base.specs.Geometry.{console_room}
 use Rattle.thy_isa.specs.declared.state.CpuState.{CpuState}
@@ -88,13 +88,20 @@ cpu_of_record blocks = record {
   status = status_of (record_word blocks 36) (record_word blocks 37);
 }
 
+-- a record is of the commit block's epoch
+abbrev pub epoch_demand : ℕ → List Block → Demand BadImage
+epoch_demand epoch blocks = asked (epoch_of_record blocks == epoch) Commit
+
+-- its status has a meaning and its count is below the ceiling, and the console is not longer than its pages
+abbrev pub status_demands : Parameters → ℕ → List Block → List (Demand BadImage)
+status_demands p ceiling blocks =
+    asked (is_status (record_word blocks 36) (record_word blocks 37) && nat_lt (record_word blocks 32) ceiling) BadStatus
+    ∷ asked (nat_le (record_word blocks 34) (console_room p)) ConsoleLength
+    ∷ []
+
 -- the first fault of a record under a commit block of this epoch
 unfoldable pub record_fault : List Block → ℕ → Parameters → ℕ → Option BadImage
-record_fault blocks epoch p ceiling =
-    first_fault (asked (record_word blocks 38 == epoch) Commit
-    ∷ asked (is_status (record_word blocks 36) (record_word blocks 37) && nat_lt (record_word blocks 32) ceiling) BadStatus
-    ∷ asked (nat_le (record_word blocks 34) (console_room p)) ConsoleLength
-    ∷ [])
+record_fault blocks epoch p ceiling = first_fault (epoch_demand epoch blocks ∷ status_demands p ceiling blocks)
 
 -- a processor's state that a record can hold, with counts below the ceiling
 pub record IsRecordable (p : Parameters) (ceiling : ℕ) (cpu : CpuState) : Type 0 where

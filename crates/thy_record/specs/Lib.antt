@@ -1,4 +1,5 @@
 pub mod Words
+pub mod Refusals
 pub mod Commit
 pub mod Cpu
 pub mod Decoded

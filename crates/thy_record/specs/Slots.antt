@@ -1,17 +1,15 @@
 -- A slot: the processor's record, and behind it the two tables.
-use Rattle.std.specs.Prelude.{◌≡◌, ℕ, ◌+◌, ◌-◌, ◌<◌, ◌&&◌, ◌==◌, nat_lt, nat_le, if◌then◌else◌, List, [], ◌∷◌, map, Option}
+use Rattle.std.specs.Prelude.{◌≡◌, ℕ, ◌+◌, ◌-◌, ◌<◌, nat_lt, if◌then◌else◌, List, [], ◌∷◌, map, Option}
 use Rattle.std.specs.List.{range_with_len}
 use Rattle.std.specs.Option.{option_or}
 use Rattle.thy_base.specs.declared.block.Block.{Block}
 use Rattle.thy_base.specs.declared.config.Parameters.{Parameters}
-use Rattle.thy_base.specs.Demands.{asked, first_fault}
+use Rattle.thy_base.specs.Demands.{first_fault}
 use Rattle.thy_base.specs.Device.{block_at}
-use Rattle.thy_base.specs.Geometry.{console_room}
 use Rattle.thy_base.specs.Places.{slot_blocks}
 use Rattle.thy_isa.specs.declared.state.CpuState.{CpuState}
 use Rattle.thy_record.specs.declared.image.BadImage.{BadImage}
-use Rattle.thy_record.specs.declared.image.BadImage.TheVariants.{Commit, Status, ConsoleLength}
-use Rattle.thy_record.specs.Cpu.{cpu_block_of, record_word, is_status}
+use Rattle.thy_record.specs.Cpu.{cpu_block_of, record_word, epoch_demand, status_demands}
 use Rattle.thy_record.specs.Tables.{Tables}
 use Rattle.thy_record.specs.TableBlocks.{entry_from, table_block_of}
 use Rattle.thy_record.specs.TableFaults.{tables_fault}
@@ -38,14 +36,11 @@ tables_in p slot = record { btt = entries_in slot 40 p.btt; ptt = entries_in slo
 
 -- the record is of another epoch than the commit block
 abbrev pub epoch_fault : ℕ → List Block → Option BadImage
-epoch_fault epoch slot = first_fault (asked (record_word slot 38 == epoch) Commit ∷ [])
+epoch_fault epoch slot = first_fault (epoch_demand epoch slot ∷ [])
 
 -- status or count have no meaning, or the console is longer than its pages
 abbrev pub status_fault : Parameters → ℕ → List Block → Option BadImage
-status_fault p ceiling slot =
-    first_fault (asked (is_status (record_word slot 36) (record_word slot 37) && nat_lt (record_word slot 32) ceiling) Status
-    ∷ asked (nat_le (record_word slot 34) (console_room p)) ConsoleLength
-    ∷ [])
+status_fault p ceiling slot = first_fault (status_demands p ceiling slot)
 
 -- the first fault of a slot under a commit block of this epoch
 unfoldable pub slot_fault : Parameters → ℕ → ℕ → List Block → Option BadImage

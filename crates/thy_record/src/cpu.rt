@@ -73,7 +73,7 @@ fn cpu_word(cpu: &CpuState, epoch: u64, i: u64) -> u64
     }
 }
 
-/// Block `k` of the processor's record at an epoch, 0 to 4.
+/// Block `k` of the processor's record at an epoch, 0 to 4. The processor has 32 registers.
 pub fn cpu_block(cpu: &CpuState, epoch: u64, k: u64) -> Block
     requires block { k < 5 }
     requires regs { length cpu.now.regs ≡ 32 }

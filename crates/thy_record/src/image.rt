@@ -1,4 +1,6 @@
 //! Why an image is refused.
+ghost use Rattle.std.specs.Prelude.{◌≡◌};
+ghost use Rattle.thy_record.specs.Refusals.{number_of, name_of};
 
 /// What is wrong with an image. The variants stand in the order in which they are tested. Entries of the page table
 /// are counted behind those of the block table, where a variant may name either.
@@ -10,9 +12,11 @@ pub enum BadImage {
     Header,
     /// The header's version is another.
     Version,
-    /// The image was made for another geometry.
+    /// The image was made for another geometry: base, pages, console or the size of a table differs. Or the header's
+    /// last word is not zero, or, where the layout asks for it, the image has another length.
     Geometry,
-    /// The commit block is none, or the processor's record is of another epoch.
+    /// The commit block does not begin with its name, its epoch is not below the ceiling, or a word behind the epoch
+    /// is not zero; or the processor's record is of another epoch.
     Commit,
     /// This entry of the tables names a block or a page that is not there.
     TableIndex(u64),
@@ -24,4 +28,42 @@ pub enum BadImage {
     Status,
     /// The console is longer than its pages.
     ConsoleLength,
+}
+
+impl BadImage {
+    /// The refusal's number, from 1 in the order in which they are tested.
+    pub fn number(&self) -> u64
+        ensures { result ≡ number_of self.now }
+    {
+        match self {
+            BadImage::Empty => 1,
+            BadImage::Header => 2,
+            BadImage::Version => 3,
+            BadImage::Geometry => 4,
+            BadImage::Commit => 5,
+            BadImage::TableIndex(_) => 6,
+            BadImage::TableTwice(_, _) => 7,
+            BadImage::BlockUnderPage(_, _) => 8,
+            BadImage::Status => 9,
+            BadImage::ConsoleLength => 10,
+        }
+    }
+
+    /// The refusal's name.
+    pub fn name(&self) -> &'static str
+        ensures { result.now ≡ name_of self.now }
+    {
+        match self {
+            BadImage::Empty => "Empty",
+            BadImage::Header => "Header",
+            BadImage::Version => "Version",
+            BadImage::Geometry => "Geometry",
+            BadImage::Commit => "Commit",
+            BadImage::TableIndex(_) => "TableIndex",
+            BadImage::TableTwice(_, _) => "TableTwice",
+            BadImage::BlockUnderPage(_, _) => "BlockUnderPage",
+            BadImage::Status => "Status",
+            BadImage::ConsoleLength => "ConsoleLength",
+        }
+    }
 }

@@ -1,0 +1,23 @@
+-- What the refusals of an image are called.
+use Rattle.std.specs.Prelude.{ℕ, List, codes}
+use Rattle.thy_record.specs.declared.image.BadImage.{BadImage}
+use Rattle.thy_record.specs.declared.image.BadImage.TheVariants.{Empty, Header, Version, Geometry, Commit, TableIndex, TableTwice, BlockUnderPage, Status, ConsoleLength}
+
+-- the number and the name of each
+abbrev pub called : BadImage → ℕ × List ℕ
+called Empty = (1, codes "Empty")
+called Header = (2, codes "Header")
+called Version = (3, codes "Version")
+called Geometry = (4, codes "Geometry")
+called Commit = (5, codes "Commit")
+called (TableIndex i) = (6, codes "TableIndex")
+called (TableTwice i k) = (7, codes "TableTwice")
+called (BlockUnderPage i j) = (8, codes "BlockUnderPage")
+called Status = (9, codes "Status")
+called ConsoleLength = (10, codes "ConsoleLength")
+
+abbrev pub number_of : BadImage → ℕ
+number_of bad = (called bad).0
+
+abbrev pub name_of : BadImage → List ℕ
+name_of bad = (called bad).1
