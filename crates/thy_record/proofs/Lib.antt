@@ -4,6 +4,7 @@ pub mod ReadBackLemmas
 pub mod TableLemmas
 pub mod EntryLemmas
 pub mod TableFaultLemmas
+pub mod TableRefusalLemmas
 pub mod HeaderLemmas
 pub mod SlotLemmas
 pub mod ImageLemmas

@@ -64,23 +64,23 @@ none_breaks rule es h = first_clash-of_rule rule 0 es (λ i n l. ap (λ x. rule 
 
 -- ---- what each rule asks
 
-index_asks : (before limit i n : ℕ) → index_rule before limit i n ≡ None → n < limit
+pub index_asks : (before limit i n : ℕ) → index_rule before limit i n ≡ None → n < limit
 index_asks before limit i n h =
     let cases : (b : Bool) → (if b then None else Some (TableIndex (before + i))) ≡ None → b ≡ true
     = λ b. elim b as (λ b. (if b then None else Some (TableIndex (before + i))) ≡ None → b ≡ true) [ true ↦ λ e. refl | false ↦ λ e. cc ] in
     ltb-true n limit (cases (nat_lt n limit) h)
 
-index_holds : (before limit i n : ℕ) → n < limit → index_rule before limit i n ≡ None
+pub index_holds : (before limit i n : ℕ) → n < limit → index_rule before limit i n ≡ None
 index_holds before limit i n l = ap (λ b. if b then None else Some (TableIndex (before + i))) (lt-ltb n limit l)
 
-twice_asks : (before : ℕ) (table : List (Option ℕ)) (i k n : ℕ) → twice_rule before table k n ≡ None → i < k → Lists table i n → ⊥
+pub twice_asks : (before : ℕ) (table : List (Option ℕ)) (i k n : ℕ) → twice_rule before table k n ≡ None → i < k → Lists table i n → ⊥
 twice_asks before table i k n h l here = entry_of-None (take k table) n i (mapped_none _ (entry_of (take k table) n) h) (Lists-take table k i n l here)
 
 twice_holds : (before : ℕ) (table : List (Option ℕ)) (k n : ℕ) → ((i : ℕ) → i < k → Lists table i n → ⊥) → twice_rule before table k n ≡ None
 twice_holds before table k n none =
     ap (option_map _) (entry_of-absent (take k table) n (λ i l. let of = Lists-of_take table k i n l in none i of.0 of.1))
 
-under_asks : (ptt : List (Option ℕ)) (i j b : ℕ) → under_rule ptt i b ≡ None → Lists ptt j (page_of b) → ⊥
+pub under_asks : (ptt : List (Option ℕ)) (i j b : ℕ) → under_rule ptt i b ≡ None → Lists ptt j (page_of b) → ⊥
 under_asks ptt i j b h l = entry_of-None ptt (page_of b) j (mapped_none _ (entry_of ptt (page_of b)) h) l
 
 under_holds : (ptt : List (Option ℕ)) (i b : ℕ) → ((j : ℕ) → Lists ptt j (page_of b) → ⊥) → under_rule ptt i b ≡ None

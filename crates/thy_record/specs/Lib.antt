@@ -7,6 +7,7 @@ pub mod Tables
 pub mod TableBlocks
 pub mod Header
 pub mod TableFaults
+pub mod TableRefusals
 pub mod Slots
 pub mod Images
 pub mod BackLaws

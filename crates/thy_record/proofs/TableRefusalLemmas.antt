@@ -1,0 +1,243 @@
+-- The refusal of tables that is found is so, and names the first entries.
+use Rattle.std.proofs.Common.{◌≡◌, ◌⊎◌, ℕ, zero, suc, ◌+◌, ◌<◌, ◌≤◌, if◌then◌else◌, List, [], ◌∷◌, length, take, Option, Some, None, refl, sym, ◌∙◌, ap, subst, inl, inr, arith, zero-add}
+use Rattle.std.proofs.lemmas.Bool.{cases_lt, le-ltb}
+use Rattle.std.proofs.Math.Nat.{add-zero}
+use Rattle.std.specs.Option.{option_or, option_map}
+use Rattle.thy_base.specs.declared.config.Parameters.{Parameters}
+use Rattle.thy_base.specs.Geometry.{memory_blocks}
+use Rattle.thy_base.specs.Store.{page_of}
+use Rattle.thy_record.specs.declared.image.BadImage.{BadImage}
+use Rattle.thy_record.specs.declared.image.BadImage.TheVariants.{TableIndex, TableTwice, BlockUnderPage}
+use Rattle.thy_record.specs.Tables.{Tables, Lists, entry_of}
+use Rattle.thy_record.specs.TableFaults.{entry_fault, first_clash, index_rule, twice_rule, under_rule, index_fault, twice_fault, under_fault, tables_fault}
+use Rattle.thy_record.specs.TableRefusals.{ListsBeyond, BlockBeyond, PageBeyond, ListTwice, BlockTwice, PageTwice, IsFirstBeyond, IsFirstTwice, IsFirstUnder, Says}
+use Rattle.thy_record.proofs.EntryLemmas.{entry_of-Some, Lists-inside, Lists-of_take}
+use Rattle.thy_record.proofs.TableFaultLemmas.{neither, unbroken, index_asks, index_holds, twice_asks, under_asks}
+
+-- ---- the first fault of a list
+
+-- it is that of the first entry that breaks the rule
+record FirstFrom (rule : ℕ → ℕ → Option BadImage) (k : ℕ) (table : List (Option ℕ)) (bad : BadImage) : Type 0 where
+  pub entry : ℕ
+  pub number : ℕ
+  pub lists : Lists table entry number
+  pub breaks : rule (k + entry) number ≡ Some bad
+  pub least : (j m : ℕ) → j < entry → Lists table j m → rule (k + j) m ≡ None
+
+listed_breaks : (rule : ℕ → ℕ → Option BadImage) (k : ℕ) (e : Option ℕ) (bad : BadImage) → entry_fault rule k e ≡ Some bad
+    → (n : ℕ) × (e ≡ Some n) × (rule k n ≡ Some bad)
+listed_breaks rule k None bad h = cc
+listed_breaks rule k (Some n) bad h = (n, refl, h)
+
+least_more : (rule : ℕ → ℕ → Option BadImage) (k : ℕ) (e : Option ℕ) (es : List (Option ℕ)) (i : ℕ) → entry_fault rule k e ≡ None
+    → ((j m : ℕ) → j < i → Lists es j m → rule (k + 1 + j) m ≡ None)
+    → (j m : ℕ) → j < suc i → Lists (e ∷ es) j m → rule (k + j) m ≡ None
+least_more rule k e es i here later zero m l at = ap (λ x. rule x m) (add-zero k) ∙ sym (ap (entry_fault rule k) at.is) ∙ here
+least_more rule k e es i here later (suc j) m l at =
+    let next : k + suc j ≡ k + 1 + j = omega arith in
+    ap (λ x. rule x m) next ∙ later j m (omega arith) (record { is = at.is })
+
+first_of : (rule : ℕ → ℕ → Option BadImage) (k : ℕ) (e : Option ℕ) (es : List (Option ℕ)) (bad : BadImage) (here : Option BadImage)
+    → entry_fault rule k e ≡ here → option_or here (first_clash rule (k + 1) es) ≡ Some bad
+    → (first_clash rule (k + 1) es ≡ Some bad → FirstFrom rule (k + 1) es bad) → FirstFrom rule k (e ∷ es) bad
+first_of rule k e es bad None is h later =
+    let rest = later h in
+    let next : k + suc rest.entry ≡ k + 1 + rest.entry = omega arith in
+    record {
+      entry = suc rest.entry;
+      number = rest.number;
+      lists = record { is = rest.lists.is };
+      breaks = ap (λ x. rule x rest.number) next ∙ rest.breaks;
+      least = least_more rule k e es rest.entry is rest.least;
+    }
+first_of rule k e es bad (Some b) is h later =
+    let of = listed_breaks rule k e b is in
+    record {
+      entry = 0;
+      number = of.0;
+      lists = record { is = of.1 };
+      breaks = ap (λ x. rule x of.0) (add-zero k) ∙ of.2 ∙ h;
+      least = λ j m l at. absurd (omega arith);
+    }
+
+first_from : (rule : ℕ → ℕ → Option BadImage) (k : ℕ) (table : List (Option ℕ)) (bad : BadImage)
+    → first_clash rule k table ≡ Some bad → FirstFrom rule k table bad
+first_from rule k [] bad h = cc
+first_from rule k (e ∷ es) bad h = first_of rule k e es bad (entry_fault rule k e) refl h (λ more. first_from rule (k + 1) es bad more)
+
+-- the same of a whole table
+record First (rule : ℕ → ℕ → Option BadImage) (table : List (Option ℕ)) (bad : BadImage) : Type 0 where
+  pub entry : ℕ
+  pub number : ℕ
+  pub lists : Lists table entry number
+  pub breaks : rule entry number ≡ Some bad
+  pub least : (j m : ℕ) → j < entry → Lists table j m → rule j m ≡ None
+
+first : (rule : ℕ → ℕ → Option BadImage) (table : List (Option ℕ)) (bad : BadImage) → first_clash rule 0 table ≡ Some bad → First rule table bad
+first rule table bad h =
+    let from = first_from rule 0 table bad h in
+    record {
+      entry = from.entry;
+      number = from.number;
+      lists = from.lists;
+      breaks = ap (λ x. rule x from.number) (sym (zero-add from.entry)) ∙ from.breaks;
+      least = λ j m l at. ap (λ x. rule x m) (sym (zero-add j)) ∙ from.least j m l at;
+    }
+
+-- ---- what a broken rule says
+
+index_breaks : (before limit i n : ℕ) (bad : BadImage) → index_rule before limit i n ≡ Some bad → (limit ≤ n) × (TableIndex (before + i) ≡ bad)
+index_breaks before limit i n bad h = elim (cases_lt n limit) as (λ _. (limit ≤ n) × (TableIndex (before + i) ≡ bad)) [
+  | inl below ↦ let none = index_holds before limit i n below in cc
+  | inr above ↦
+      let some : index_rule before limit i n ≡ Some (TableIndex (before + i))
+      = ap (λ b. if b then None else Some (TableIndex (before + i))) (le-ltb n limit above) in
+      (above, cc)
+]
+
+mapped_some : (f : ℕ → BadImage) (o : Option ℕ) (bad : BadImage) → option_map f o ≡ Some bad → (x : ℕ) × (o ≡ Some x) × (f x ≡ bad)
+mapped_some f None bad h = cc
+mapped_some f (Some x) bad h = (x, refl, cc)
+
+twice_breaks : (before : ℕ) (table : List (Option ℕ)) (k n : ℕ) (bad : BadImage) → twice_rule before table k n ≡ Some bad
+    → (i : ℕ) × (i < k) × Lists table i n × (TableTwice (before + i) (before + k) ≡ bad)
+twice_breaks before table k n bad h =
+    let of = mapped_some (λ i. TableTwice (before + i) (before + k)) (entry_of (take k table) n) bad h in
+    let twin = Lists-of_take table k of.0 n (entry_of-Some (take k table) n of.0 of.1) in
+    (of.0, twin.0, twin.1, of.2)
+
+under_breaks : (ptt : List (Option ℕ)) (i b : ℕ) (bad : BadImage) → under_rule ptt i b ≡ Some bad
+    → (j : ℕ) × Lists ptt j (page_of b) × (BlockUnderPage i j ≡ bad)
+under_breaks ptt i b bad h =
+    let of = mapped_some (λ j. BlockUnderPage i j) (entry_of ptt (page_of b)) bad h in
+    (of.0, entry_of-Some ptt (page_of b) of.0 of.1, of.2)
+
+-- ---- tables without a fault of one kind
+
+none_beyond : (p : Parameters) (t : Tables) → index_fault p t ≡ None → (m : ℕ) → ListsBeyond p t m → ⊥
+none_beyond p t h m (BlockBeyond i block l over) =
+    let btt = (neither (first_clash (index_rule 0 (memory_blocks p)) 0 t.btt) (first_clash (index_rule p.btt p.pages) 0 t.ptt) h).0 in
+    let below = index_asks 0 (memory_blocks p) i block (unbroken (index_rule 0 (memory_blocks p)) t.btt btt i block l) in
+    omega arith
+none_beyond p t h m (PageBeyond j page l over) =
+    let ptt = (neither (first_clash (index_rule 0 (memory_blocks p)) 0 t.btt) (first_clash (index_rule p.btt p.pages) 0 t.ptt) h).1 in
+    let below = index_asks p.btt p.pages j page (unbroken (index_rule p.btt p.pages) t.ptt ptt j page l) in
+    omega arith
+
+none_twice : (p : Parameters) (t : Tables) → twice_fault p t ≡ None → (m n : ℕ) → ListTwice p t m n → ⊥
+none_twice p t h m n (BlockTwice i k block l a b) =
+    let btt = (neither (first_clash (twice_rule 0 t.btt) 0 t.btt) (first_clash (twice_rule p.btt t.ptt) 0 t.ptt) h).0 in
+    twice_asks 0 t.btt i k block (unbroken (twice_rule 0 t.btt) t.btt btt k block b) l a
+none_twice p t h m n (PageTwice j k page l a b) =
+    let ptt = (neither (first_clash (twice_rule 0 t.btt) 0 t.btt) (first_clash (twice_rule p.btt t.ptt) 0 t.ptt) h).1 in
+    twice_asks p.btt t.ptt j k page (unbroken (twice_rule p.btt t.ptt) t.ptt ptt k page b) l a
+
+-- ---- which fault is found
+
+which : (a b : Option BadImage) (bad : BadImage) → option_or a b ≡ Some bad → (a ≡ Some bad) ⊎ ((a ≡ None) × (b ≡ Some bad))
+which None b bad h = inr (refl, h)
+which (Some a) b bad h = inl h
+
+block_beyond_least : (p : Parameters) (t : Tables) (i : ℕ) → i < p.btt
+    → ((j m : ℕ) → j < i → Lists t.btt j m → index_rule 0 (memory_blocks p) j m ≡ None)
+    → (k : ℕ) → k < i → ListsBeyond p t k → ⊥
+block_beyond_least p t i inside least k l (BlockBeyond j block at over) =
+    let below = index_asks 0 (memory_blocks p) j block (least j block l at) in
+    omega arith
+block_beyond_least p t i inside least k l (PageBeyond j page at over) = absurd (omega arith)
+
+page_beyond_least : (p : Parameters) (t : Tables) (i : ℕ) → first_clash (index_rule 0 (memory_blocks p)) 0 t.btt ≡ None
+    → ((j m : ℕ) → j < i → Lists t.ptt j m → index_rule p.btt p.pages j m ≡ None)
+    → (k : ℕ) → k < p.btt + i → ListsBeyond p t k → ⊥
+page_beyond_least p t i btt least k l (BlockBeyond j block at over) =
+    let below = index_asks 0 (memory_blocks p) j block (unbroken (index_rule 0 (memory_blocks p)) t.btt btt j block at) in
+    omega arith
+page_beyond_least p t i btt least k l (PageBeyond j page at over) =
+    let below = index_asks p.btt p.pages j page (least j page (omega arith) at) in
+    omega arith
+
+index_says : (p : Parameters) (t : Tables) (bad : BadImage) → length t.btt ≡ p.btt → index_fault p t ≡ Some bad → Says p t bad
+index_says p t bad long h =
+    elim (which (first_clash (index_rule 0 (memory_blocks p)) 0 t.btt) (first_clash (index_rule p.btt p.pages) 0 t.ptt) bad h) as (λ _. Says p t bad) [
+      | inl btt ↦
+          let of = first (index_rule 0 (memory_blocks p)) t.btt bad btt in
+          let broken = index_breaks 0 (memory_blocks p) of.entry of.number bad of.breaks in
+          let inside = Lists-inside t.btt of.entry of.number of.lists in
+          let is : IsFirstBeyond p t of.entry = record {
+            here = BlockBeyond of.entry of.number of.lists broken.0;
+            least = block_beyond_least p t of.entry (omega (arith, long, inside)) of.least;
+          } in
+          subst (Says p t) broken.1 (subst (IsFirstBeyond p t) (sym (zero-add of.entry)) is)
+      | inr ptt ↦
+          let of = first (index_rule p.btt p.pages) t.ptt bad ptt.1 in
+          let broken = index_breaks p.btt p.pages of.entry of.number bad of.breaks in
+          let is : IsFirstBeyond p t (p.btt + of.entry) = record {
+            here = PageBeyond of.entry of.number of.lists broken.0;
+            least = page_beyond_least p t of.entry ptt.0 of.least;
+          } in
+          subst (Says p t) broken.1 is
+    ]
+
+block_twice_least : (p : Parameters) (t : Tables) (i : ℕ) → i < p.btt
+    → ((j m : ℕ) → j < i → Lists t.btt j m → twice_rule 0 t.btt j m ≡ None)
+    → (j m : ℕ) → m < i → ListTwice p t j m → ⊥
+block_twice_least p t i inside least j m l (BlockTwice a b block below x y) = twice_asks 0 t.btt a b block (least b block l y) below x
+block_twice_least p t i inside least j m l (PageTwice a b page below x y) = absurd (omega arith)
+
+page_twice_least : (p : Parameters) (t : Tables) (i : ℕ) → first_clash (twice_rule 0 t.btt) 0 t.btt ≡ None
+    → ((j m : ℕ) → j < i → Lists t.ptt j m → twice_rule p.btt t.ptt j m ≡ None)
+    → (j m : ℕ) → m < p.btt + i → ListTwice p t j m → ⊥
+page_twice_least p t i btt least j m l (BlockTwice a b block below x y) =
+    twice_asks 0 t.btt a b block (unbroken (twice_rule 0 t.btt) t.btt btt b block y) below x
+page_twice_least p t i btt least j m l (PageTwice a b page below x y) =
+    twice_asks p.btt t.ptt a b page (least b page (omega arith) y) below x
+
+twice_says : (p : Parameters) (t : Tables) (bad : BadImage) → length t.btt ≡ p.btt → index_fault p t ≡ None → twice_fault p t ≡ Some bad → Says p t bad
+twice_says p t bad long index h =
+    elim (which (first_clash (twice_rule 0 t.btt) 0 t.btt) (first_clash (twice_rule p.btt t.ptt) 0 t.ptt) bad h) as (λ _. Says p t bad) [
+      | inl btt ↦
+          let of = first (twice_rule 0 t.btt) t.btt bad btt in
+          let broken = twice_breaks 0 t.btt of.entry of.number bad of.breaks in
+          let inside = Lists-inside t.btt of.entry of.number of.lists in
+          let is : IsFirstTwice p t broken.0 of.entry = record {
+            here = BlockTwice broken.0 of.entry of.number broken.1 broken.2 of.lists;
+            least = block_twice_least p t of.entry (omega (arith, long, inside)) of.least;
+            none_beyond = none_beyond p t index;
+          } in
+          subst (Says p t) broken.3
+          (subst (λ x. IsFirstTwice p t x (0 + of.entry)) (sym (zero-add broken.0))
+          (subst (IsFirstTwice p t broken.0) (sym (zero-add of.entry)) is))
+      | inr ptt ↦
+          let of = first (twice_rule p.btt t.ptt) t.ptt bad ptt.1 in
+          let broken = twice_breaks p.btt t.ptt of.entry of.number bad of.breaks in
+          let is : IsFirstTwice p t (p.btt + broken.0) (p.btt + of.entry) = record {
+            here = PageTwice broken.0 of.entry of.number broken.1 broken.2 of.lists;
+            least = page_twice_least p t of.entry ptt.0 of.least;
+            none_beyond = none_beyond p t index;
+          } in
+          subst (Says p t) broken.3 is
+    ]
+
+under_says : (p : Parameters) (t : Tables) (bad : BadImage) → index_fault p t ≡ None → twice_fault p t ≡ None → under_fault t ≡ Some bad → Says p t bad
+under_says p t bad index twice h =
+    let of = first (under_rule t.ptt) t.btt bad h in
+    let broken = under_breaks t.ptt of.entry of.number bad of.breaks in
+    let is : IsFirstUnder p t of.entry broken.0 = record {
+      here = record { block = of.number; lists = of.lists; page = broken.1 };
+      least = λ k m l under. under_asks t.ptt k m under.block (of.least k under.block l under.lists) under.page;
+      none_twice = none_twice p t twice;
+      none_beyond = none_beyond p t index;
+    } in
+    subst (Says p t) broken.2 is
+
+-- the refusal that is found is so
+pub tables_say : (p : Parameters) (t : Tables) (bad : BadImage) → length t.btt ≡ p.btt → tables_fault p t ≡ Some bad → Says p t bad
+unfolding tables_fault
+tables_say p t bad long h =
+    elim (which (index_fault p t) (option_or (twice_fault p t) (under_fault t)) bad h) as (λ _. Says p t bad) [
+      | inl index ↦ index_says p t bad long index
+      | inr rest ↦ elim (which (twice_fault p t) (under_fault t) bad rest.1) as (λ _. Says p t bad) [
+        | inl twice ↦ twice_says p t bad long rest.0 twice
+        | inr last ↦ under_says p t bad rest.0 last.0 last.1
+      ]
+    ]
