@@ -1,4 +1,4 @@
--- The refusal of tables that is found is so, and names the first entries.
+-- The refusal of tables that is found is the only one that is so: it names the first entries.
 use Rattle.std.proofs.Common.{◌≡◌, ◌⊎◌, ℕ, zero, suc, ◌+◌, ◌<◌, ◌≤◌, if◌then◌else◌, List, [], ◌∷◌, length, take, Option, Some, None, refl, sym, ◌∙◌, ap, subst, inl, inr, arith, zero-add}
 use Rattle.std.proofs.lemmas.Bool.{cases_lt, le-ltb}
 use Rattle.std.proofs.Math.Nat.{add-zero}
@@ -7,7 +7,7 @@ use Rattle.thy_base.specs.declared.config.Parameters.{Parameters}
 use Rattle.thy_base.specs.Geometry.{memory_blocks}
 use Rattle.thy_base.specs.Store.{page_of}
 use Rattle.thy_record.specs.declared.image.BadImage.{BadImage}
-use Rattle.thy_record.specs.declared.image.BadImage.TheVariants.{TableIndex, TableTwice, BlockUnderPage}
+use Rattle.thy_record.specs.declared.image.BadImage.TheVariants.{Empty, Header, Version, Geometry, Commit, TableIndex, TableTwice, BlockUnderPage, Status, ConsoleLength}
 use Rattle.thy_record.specs.Tables.{Tables, Lists, entry_of}
 use Rattle.thy_record.specs.TableFaults.{entry_fault, first_clash, index_rule, twice_rule, under_rule, index_fault, twice_fault, under_fault, tables_fault}
 use Rattle.thy_record.specs.TableRefusals.{ListsBeyond, BlockBeyond, PageBeyond, ListTwice, BlockTwice, PageTwice, IsFirstBeyond, IsFirstTwice, IsFirstUnder, Says}
@@ -241,3 +241,136 @@ tables_say p t bad long h =
         | inr last ↦ under_says p t bad rest.0 last.0 last.1
       ]
     ]
+
+-- ---- and none but it is so
+
+says_cases : (p : Parameters) (t : Tables) (bad : BadImage) → Says p t bad
+    → ((i : ℕ) × (bad ≡ TableIndex i) × IsFirstBeyond p t i)
+    ⊎ (((i : ℕ) × (k : ℕ) × (bad ≡ TableTwice i k) × IsFirstTwice p t i k)
+    ⊎ ((i : ℕ) × (j : ℕ) × (bad ≡ BlockUnderPage i j) × IsFirstUnder p t i j))
+says_cases p t Empty s = absurd s
+says_cases p t Header s = absurd s
+says_cases p t Version s = absurd s
+says_cases p t Geometry s = absurd s
+says_cases p t Commit s = absurd s
+says_cases p t (TableIndex i) s = inl (i, refl, s)
+says_cases p t (TableTwice i k) s = inr (inl (i, k, refl, s))
+says_cases p t (BlockUnderPage i j) s = inr (inr (i, j, refl, s))
+says_cases p t Status s = absurd s
+says_cases p t ConsoleLength s = absurd s
+
+twice_cases : (p : Parameters) (t : Tables) (i k : ℕ) → ListTwice p t i k
+    → ((n : ℕ) × (i < k) × Lists t.btt i n × Lists t.btt k n)
+    ⊎ ((a : ℕ) × (b : ℕ) × (n : ℕ) × (i ≡ p.btt + a) × (k ≡ p.btt + b) × (a < b) × Lists t.ptt a n × Lists t.ptt b n)
+twice_cases p t i k (BlockTwice a b n l x y) = inl (n, l, x, y)
+twice_cases p t i k (PageTwice a b n l x y) = inr (a, b, n, refl, refl, l, x, y)
+
+twice_before : (p : Parameters) (t : Tables) (i k : ℕ) → ListTwice p t i k → i < k
+twice_before p t i k twice = elim (twice_cases p t i k twice) as (λ _. i < k) [
+  | inl (n, l, x, y) ↦ l
+  | inr (a, b, n, e, f, l, x, y) ↦ omega arith
+]
+
+same_number : (table : List (Option ℕ)) (k n m : ℕ) → Lists table k n → Lists table k m → n ≡ m
+same_number table k n m a b = let x = a.is in let y = b.is in cc
+
+-- of two that list what entry k does the first and the second are a pair as well
+twice_in_order : (p : Parameters) (t : Tables) (i j k : ℕ) → length t.btt ≡ p.btt → ListTwice p t i k → ListTwice p t j k → i < j → ListTwice p t i j
+twice_in_order p t i j k long first second less = elim (twice_cases p t i k first) as (λ _. ListTwice p t i j) [
+  | inl (n, l, x, y) ↦ elim (twice_cases p t j k second) as (λ _. ListTwice p t i j) [
+    | inl (m, l', x', y') ↦ BlockTwice i j n less x (subst (Lists t.btt j) (same_number t.btt k m n y' y) x')
+    | inr (a', b', m, e', f', l', x', y') ↦ let inside = Lists-inside t.btt k n y in absurd (omega arith)
+  ]
+  | inr (a, b, n, e, f, l, x, y) ↦ elim (twice_cases p t j k second) as (λ _. ListTwice p t i j) [
+    | inl (m, l', x', y') ↦ let inside = Lists-inside t.btt k m y' in absurd (omega arith)
+    | inr (a', b', m, e', f', l', x', y') ↦
+        let same : b' ≡ b = omega arith in
+        let number : m ≡ n = same_number t.ptt b m n (subst (λ z. Lists t.ptt z m) same y') y in
+        let pair : ListTwice p t (p.btt + a) (p.btt + a') = PageTwice a a' n (omega arith) x (subst (Lists t.ptt a') number x') in
+        subst (λ z. ListTwice p t z j) (sym e) (subst (ListTwice p t (p.btt + a)) (sym e') pair)
+  ]
+]
+
+one_number : (i k : ℕ) → (i < k → ⊥) → (k < i → ⊥) → i ≡ k
+one_number i k a b = elim (cases_lt i k) as (λ _. i ≡ k) [
+  | inl below ↦ absurd (a below)
+  | inr above ↦ elim (cases_lt k i) as (λ _. i ≡ k) [
+    | inl over ↦ absurd (b over)
+    | inr level ↦ omega arith
+  ]
+]
+
+one_beyond : (p : Parameters) (t : Tables) (i k : ℕ) → IsFirstBeyond p t i → IsFirstBeyond p t k → i ≡ k
+one_beyond p t i k a b = one_number i k (λ l. b.least i l a.here) (λ l. a.least k l b.here)
+
+one_last : (p : Parameters) (t : Tables) (i j k m : ℕ) → IsFirstTwice p t i k → IsFirstTwice p t j m → k ≡ m
+one_last p t i j k m a b = one_number k m (λ l. b.least i k l a.here) (λ l. a.least j m l b.here)
+
+one_first : (p : Parameters) (t : Tables) (i j k : ℕ) → length t.btt ≡ p.btt → IsFirstTwice p t i k → IsFirstTwice p t j k → i ≡ j
+one_first p t i j k long a b = one_number i j
+    (λ l. b.least i j (twice_before p t j k b.here) (twice_in_order p t i j k long a.here b.here l))
+    (λ l. a.least j i (twice_before p t i k a.here) (twice_in_order p t j i k long b.here a.here l))
+
+one_twice : (p : Parameters) (t : Tables) (i j k m : ℕ) → length t.btt ≡ p.btt → IsFirstTwice p t i k → IsFirstTwice p t j m
+    → TableTwice i k ≡ TableTwice j m
+one_twice p t i j k m long a b =
+    let last = one_last p t i j k m a b in
+    let pair = one_first p t i j k long a (subst (IsFirstTwice p t j) (sym last) b) in
+    ap (λ x. TableTwice x k) pair ∙ ap (TableTwice j) last
+
+one_block : (p : Parameters) (t : Tables) (i j k m : ℕ) → IsFirstUnder p t i j → IsFirstUnder p t k m → i ≡ k
+one_block p t i j k m a b = one_number i k (λ l. b.least i j l a.here) (λ l. a.least k m l b.here)
+
+one_page : (p : Parameters) (t : Tables) (i j m : ℕ) → IsFirstUnder p t i j → IsFirstUnder p t i m → j ≡ m
+one_page p t i j m a b =
+    let same = ap page_of (same_number t.btt i b.here.block a.here.block b.here.lists a.here.lists) in
+    let other = subst (Lists t.ptt m) same b.here.page in
+    one_number j m
+    (λ l. a.none_twice (p.btt + j) (p.btt + m) (PageTwice j m (page_of a.here.block) l a.here.page other))
+    (λ l. a.none_twice (p.btt + m) (p.btt + j) (PageTwice m j (page_of a.here.block) l other a.here.page))
+
+one_under : (p : Parameters) (t : Tables) (i j k m : ℕ) → IsFirstUnder p t i j → IsFirstUnder p t k m → BlockUnderPage i j ≡ BlockUnderPage k m
+one_under p t i j k m a b =
+    let block = one_block p t i j k m a b in
+    let page = one_page p t i j m a (subst (λ x. IsFirstUnder p t x m) (sym block) b) in
+    ap (BlockUnderPage i) page ∙ ap (λ x. BlockUnderPage x m) block
+
+one_refusal : (p : Parameters) (t : Tables) (bad other : BadImage) → length t.btt ≡ p.btt → Says p t bad → Says p t other → bad ≡ other
+one_refusal p t bad other long a b = elim (says_cases p t bad a) as (λ _. bad ≡ other) [
+  | inl (i, e, x) ↦ elim (says_cases p t other b) as (λ _. bad ≡ other) [
+    | inl (k, f, y) ↦ e ∙ ap TableIndex (one_beyond p t i k x y) ∙ sym f
+    | inr (inl (k, m, f, y)) ↦ absurd (y.none_beyond i x.here)
+    | inr (inr (k, m, f, y)) ↦ absurd (y.none_beyond i x.here)
+  ]
+  | inr (inl (i, j, e, x)) ↦ elim (says_cases p t other b) as (λ _. bad ≡ other) [
+    | inl (k, f, y) ↦ absurd (x.none_beyond k y.here)
+    | inr (inl (k, m, f, y)) ↦ e ∙ one_twice p t i k j m long x y ∙ sym f
+    | inr (inr (k, m, f, y)) ↦ absurd (y.none_twice i j x.here)
+  ]
+  | inr (inr (i, j, e, x)) ↦ elim (says_cases p t other b) as (λ _. bad ≡ other) [
+    | inl (k, f, y) ↦ absurd (x.none_beyond k y.here)
+    | inr (inl (k, m, f, y)) ↦ absurd (x.none_twice k m y.here)
+    | inr (inr (k, m, f, y)) ↦ e ∙ one_under p t i j k m x y ∙ sym f
+  ]
+]
+
+-- tables of which a refusal is so have a fault
+some_fault : (p : Parameters) (t : Tables) (bad : BadImage) → Says p t bad → tables_fault p t ≡ None → ⊥
+unfolding tables_fault
+some_fault p t bad s h =
+    let whole = neither (index_fault p t) (option_or (twice_fault p t) (under_fault t)) h in
+    let rest = neither (twice_fault p t) (under_fault t) whole.1 in
+    elim (says_cases p t bad s) as (λ _. ⊥) [
+      | inl (i, e, x) ↦ none_beyond p t whole.0 i x.here
+      | inr (inl (i, k, e, x)) ↦ none_twice p t rest.0 i k x.here
+      | inr (inr (i, j, e, x)) ↦ under_asks t.ptt i j x.here.block (unbroken (under_rule t.ptt) t.btt rest.1 i x.here.block x.here.lists) x.here.page
+    ]
+
+found_is : (p : Parameters) (t : Tables) (bad : BadImage) (found : Option BadImage) → length t.btt ≡ p.btt → tables_fault p t ≡ found
+    → Says p t bad → found ≡ Some bad
+found_is p t bad None long h s = absurd (some_fault p t bad s h)
+found_is p t bad (Some other) long h s = ap Some (one_refusal p t other bad long (tables_say p t other long h) s)
+
+-- a refusal that is so is the one that is found
+pub found_of_says : (p : Parameters) (t : Tables) (bad : BadImage) → length t.btt ≡ p.btt → Says p t bad → tables_fault p t ≡ Some bad
+found_of_says p t bad long s = found_is p t bad (tables_fault p t) long refl s

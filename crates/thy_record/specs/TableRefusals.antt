@@ -50,7 +50,13 @@ Says p t (BlockUnderPage i j) = IsFirstUnder p t i j
 Says p t _ = ⊥
 
 -- that is so of the refusal that is found
-abbrev pub RefusalIsSo : Type 0
-RefusalIsSo =
+abbrev pub FoundIsSo : Type 0
+FoundIsSo =
     (p : Parameters) (t : Tables) (bad : BadImage)
     → length t.btt ≡ p.btt → tables_fault p t ≡ Some bad → Says p t bad
+
+-- and of no other
+abbrev pub SoIsFound : Type 0
+SoIsFound =
+    (p : Parameters) (t : Tables) (bad : BadImage)
+    → length t.btt ≡ p.btt → Says p t bad → tables_fault p t ≡ Some bad

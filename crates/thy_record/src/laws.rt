@@ -2,17 +2,18 @@
 ghost use Rattle.thy_record.specs.BackLaws.{HeaderReadsBack, CommitReadsBack, RecordReadsBack, EntriesReadBack, TablesReadBack};
 ghost use Rattle.thy_record.specs.ImageLaws.{FaultlessTables, BlocksHavePlaces, PlacesAreOwn, EntriesAreBlock, SlotReadsBack, FileDecodes, WrittenDecodes, DecodedIsWhole, LookedDecides, CeilingGrows};
 ghost use Rattle.thy_record.specs.Issuing.{ListedHomeIsUnused, PagedHomeIsUnused, EmptyEntryIsUnused, EmptyPageIsUnused, FreeIsNotLooked, NothingIsLooked, PlacedIsMemory, MemoryIsPlaced, IssuingBegins, SlotGoesOn, FreeKeepsIssuing, HeaderKeepsIssuing, DrainKeepsIssuing, IssuedDecodes};
-ghost use Rattle.thy_record.specs.TableRefusals.{RefusalIsSo};
+ghost use Rattle.thy_record.specs.TableRefusals.{FoundIsSo, SoIsFound};
 
 /// Tables are those that a checkpoint may have exactly where no fault is found in them.
 pub fn faultless_tables()
     ensures { FaultlessTables }
 {}
 
-/// Where tables are refused, what the refusal says of the entries that it names is so; they are the first of which it
-/// is, and no fault that is looked for before is there.
+/// Tables are refused exactly where what the refusal says of the entries that it names is so: they are the first of which
+/// it is, and no fault that is looked for before is there.
 pub fn refusals_name_the_first_entries()
-    ensures { RefusalIsSo }
+    ensures found { FoundIsSo }
+    ensures so { SoIsFound }
 {}
 
 /// Each block of memory has a place in the NVM, and no two have the same.
