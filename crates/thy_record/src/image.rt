@@ -6,7 +6,8 @@ ghost use Rattle.thy_record.specs.Refusals.{number_of, name_of};
 /// are counted behind those of the block table, where a variant may name either.
 #[derive(Clone, Copy, Debug, PartialEq, Eq)]
 pub enum BadImage {
-    /// There is no commit block: a file has fewer than 128 bytes. Or, where a checkpoint has to be there, it is all zero.
+    /// There is no commit block: a file has fewer than 128 bytes. Or it is all zero, where a checkpoint has to be
+    /// there; `check` says of that `Nothing`.
     Empty,
     /// The header does not begin with its name.
     Header,

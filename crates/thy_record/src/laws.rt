@@ -9,8 +9,8 @@ pub fn faultless_tables()
     ensures { FaultlessTables }
 {}
 
-/// Tables are refused exactly where what the refusal says of the entries that it names is so: they are the first of which
-/// it is, and no fault that is looked for before is there.
+/// Tables have a refusal exactly where what it says of the entries that it names is so: they are the first of which it
+/// is, and no fault that is looked for before is there.
 pub fn refusals_name_the_first_entries()
     ensures found { FoundIsSo }
     ensures so { SoIsFound }
