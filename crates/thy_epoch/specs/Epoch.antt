@@ -31,8 +31,20 @@ exhausted free dirty need e = record e { over = Some (Exhausted free dirty need)
 abbrev pub next_epoch : Epoch → Epoch
 next_epoch e = begun e.span (e.number + 1)
 
--- an epoch that is not over has retired fewer instructions than it may, and no epoch more
+-- fewer entries are free than are needed for the dirty lines and for the one or two blocks of an instruction
+pub record IsShort (free dirty need : ℕ) : Type 0 where
+  pub short : free < dirty + need
+  pub some : 1 ≤ need
+  pub few : need ≤ 2
+
+-- how many instructions an epoch has retired, by why it is over
+abbrev pub HasRetired : ℕ → ℕ → Option EndCause → Type 0
+HasRetired span retired None = retired < span
+HasRetired span retired (Some Length) = retired ≡ span
+HasRetired span retired (Some (Exhausted free dirty need)) = (retired < span) × IsShort free dirty need
+HasRetired span retired (Some Ended) = (0 < retired) × (retired ≤ span)
+
+-- what holds of every epoch
 pub record IsSound (e : Epoch) : Type 0 where
   pub some : 0 < e.span
-  pub going : e.over ≡ None → e.retired < e.span
-  pub within : e.retired ≤ e.span
+  pub cause : HasRetired e.span e.retired e.over

@@ -1,6 +1,6 @@
 //! The epoch.
 ghost use Rattle.std.specs.Prelude.{◌≡◌, ◌≢◌, ◌<◌, ◌≤◌, ◌+◌, ◌^◌};
-ghost use Rattle.thy_epoch.specs.Epoch.{Epoch, begun, retired_once, exhausted, next_epoch, IsSound};
+ghost use Rattle.thy_epoch.specs.Epoch.{Epoch, begun, retired_once, exhausted, next_epoch, IsShort, HasRetired};
 
 use std::marker::Model;
 use thy_base::EndCause;
@@ -56,7 +56,8 @@ impl EpochState {
 
     /// Why it is over, where it is.
     pub fn over(&self) -> Option<EndCause>
-        ensures { result ≡ self.now.over }
+        ensures over { result ≡ self.now.over }
+        ensures retired { HasRetired self.now.span self.now.retired result }
     {
         self.over
     }
@@ -80,7 +81,8 @@ impl EpochState {
     /// Ends the epoch before an instruction that stores into `need` blocks, where `free` table entries
     /// are fewer than the `dirty` lines of the cache and these together.
     pub fn exhausted(&mut self, free: u64, dirty: u64, need: u64)
-        requires { self.old.over ≡ None }
+        requires going { self.old.over ≡ None }
+        requires short { IsShort free dirty need }
         ensures { self.new ≡ exhausted free dirty need self.old }
     {
         self.over = Some(EndCause::Exhausted { free, dirty, need });
