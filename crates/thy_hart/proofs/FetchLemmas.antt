@@ -1,0 +1,127 @@
+-- The fetch reads one block.
+use Rattle.std.proofs.Common.{◌≡◌, ℕ, ◌+◌, ◌-◌, ◌*◌, ◌/◌, ◌%◌, ◌^◌, ◌<◌, ◌≤◌, ◌==◌, Bool, true, false, if◌then◌else◌, List, [], ◌++◌, length, Option, Some, None, refl, sym, ◌∙◌, ap, subst, append-nil, arith}
+use Rattle.std.proofs.lemmas.Bool.Decides.{nat_tests}
+use Rattle.thy_base.specs.declared.block.Block.{Block}
+use Rattle.thy_base.specs.declared.config.Parameters.{Parameters}
+use Rattle.thy_base.specs.Device.{block_at}
+use Rattle.thy_base.specs.Geometry.{IsInRange, memory_blocks, program_size, console_room}
+use Rattle.thy_base.specs.Inside.{is_inside}
+use Rattle.thy_base.specs.LittleEndian.{number_at}
+use Rattle.thy_base.proofs.RangeLemmas.{base_aligned, console_most, pages_most}
+use Rattle.thy_cache.specs.Contents.{Contents}
+use Rattle.thy_cache.specs.Flat.{flat, ReadsAs}
+use Rattle.thy_cache.proofs.FlatLemmas.{length-flat}
+use Rattle.thy_flat.specs.declared.span.Span.{Span}
+use Rattle.thy_flat.specs.Spans.{span, first_block, first_byte, rest_of, head_in, head_read, gathered}
+use Rattle.thy_flat.proofs.SpanLaws.{gathered-none, gathered-rest, rest_of-none}
+use Rattle.thy_isa.specs.declared.state.CallState.{CallState}
+use Rattle.thy_isa.specs.declared.state.Cause.{Cause}
+use Rattle.thy_isa.specs.declared.state.Cause.TheVariants.{FetchMisaligned, FetchAccess}
+use Rattle.thy_isa.specs.declared.state.CpuState.{CpuState}
+use Rattle.thy_isa.specs.declared.state.Effect.{Effect}
+use Rattle.thy_isa.specs.Access.{IsWithin}
+use Rattle.thy_isa.specs.Effects.{word_effect}
+use Rattle.thy_isa.specs.OnBlocks.{calls_in, effect_in}
+use Rattle.thy_isa.specs.Step.{fetch_fault, fetched as unless_trapped, within}
+use Rattle.thy_isa.proofs.AccessLaws.{within-is}
+use Rattle.thy_isa.proofs.BlockLaws.{fetch_inside}
+use Rattle.thy_hart.specs.Parts.{ReadsWord, FetchesEffect}
+
+-- ---- a word that can be fetched
+
+aligned_by : (a b : Bool) → (if a then (if b then None else Some FetchAccess) else Some FetchMisaligned) ≡ None → a ≡ true
+aligned_by true b h = refl
+aligned_by false b h = cc
+
+multiple : (pc : ℕ) → (pc % 4 == 0) ≡ true → pc % 4 ≡ 0
+multiple pc h = grind (arith, nat_tests)
+
+fetch_aligned : (base size pc : ℕ) → fetch_fault base size pc ≡ None → pc % 4 ≡ 0
+unfolding fetch_fault
+fetch_aligned base size pc h = multiple pc (aligned_by (pc % 4 == 0) (is_inside base size pc 4) h)
+
+-- it lies within program memory, and within one block
+pub record IsFetched (p : Parameters) (pc : ℕ) : Type 0 where
+  pub low : p.base ≤ pc
+  pub high : pc + 4 ≤ p.base + program_size p
+  pub aligned : pc % 4 ≡ 0
+
+pub fetch_none : (p q : Parameters) (size pc : ℕ) (fault : Option Cause) → q ≡ p → size ≡ program_size p
+    → fault ≡ fetch_fault q.base size pc → fault ≡ None → fetch_fault p.base (program_size p) pc ≡ None
+fetch_none p q size pc fault same size_is fault_is none =
+    let by_base : fetch_fault q.base size pc ≡ fetch_fault p.base size pc = ap (λ (g : Parameters). fetch_fault g.base size pc) same in
+    let by_size : fetch_fault p.base size pc ≡ fetch_fault p.base (program_size p) pc = ap (λ (n : ℕ). fetch_fault p.base n pc) size_is in
+    sym (by_base ∙ by_size) ∙ sym fault_is ∙ none
+
+pub fetched_inside : (p : Parameters) (pc : ℕ) → fetch_fault p.base (program_size p) pc ≡ None → IsFetched p pc
+fetched_inside p pc none =
+    let inside = fetch_inside p.base (program_size p) pc none in
+    record { low = inside.0; high = inside.1; aligned = fetch_aligned p.base (program_size p) pc none }
+
+pub fetched_low : (p q : Parameters) (size pc : ℕ) (fault : Option Cause) → q ≡ p → size ≡ program_size p
+    → fault ≡ fetch_fault q.base size pc → fault ≡ None → q.base ≤ pc
+fetched_low p q size pc fault same size_is fault_is none =
+    let w = fetched_inside p pc (fetch_none p q size pc fault same size_is fault_is none) in
+    omega (arith, w.low, ap (λ (g : Parameters). g.base) same)
+
+whole_word : (p : Parameters) (pc : ℕ) → IsInRange p → IsFetched p pc → first_byte (span (pc - p.base) 4) + 4 ≤ 64
+whole_word p pc r w = omega (arith, w.low, w.aligned, base_aligned p r)
+
+pub fetched_whole : (p q : Parameters) (size pc : ℕ) (fault : Option Cause) → IsInRange p → q ≡ p → size ≡ program_size p
+    → fault ≡ fetch_fault q.base size pc → fault ≡ None → first_byte (span (pc - q.base) 4) + 4 ≤ 64
+fetched_whole p q size pc fault r same size_is fault_is none =
+    let w = fetched_inside p pc (fetch_none p q size pc fault same size_is fault_is none) in
+    let P : Parameters → Type 0 = λ g. first_byte (span (pc - g.base) 4) + 4 ≤ 64 in
+    subst P (sym same) (whole_word p pc r w)
+
+pub word_inside : (p : Parameters) (pc : ℕ) → IsFetched p pc → first_block (span (pc - p.base) 4) < memory_blocks p
+word_inside p pc w = omega (arith, w.low, w.high)
+
+-- ---- its bytes
+
+-- the bytes of a span within one block
+gathered-head : (blocks : List Block) (s : Span) → s.len ≤ 64 → first_byte s + s.len ≤ 64 → head_read blocks s ≡ gathered blocks s
+gathered-head blocks s short whole =
+    sym (append-nil (head_read blocks s))
+    ∙ ap (λ t. head_read blocks s ++ t) (sym (gathered-none blocks (rest_of s) (rest_of-none s whole)))
+    ∙ gathered-rest blocks s short
+
+pub word_read : (c : Contents) (at : Span) (block : Block) (bytes : List ℕ) (word : ℕ) → at.len ≡ 4 → first_byte at + 4 ≤ 64
+    → ReadsAs c (first_block at) block → bytes ≡ head_in block at → word ≡ number_at 4 bytes 0 → ReadsWord c at word
+word_read c at block bytes word four whole reads is number blocks inside =
+    number
+    ∙ ap (λ t. number_at 4 t 0) is
+    ∙ ap (λ b. number_at 4 (head_in b at) 0) (sym (reads blocks inside))
+    ∙ ap (λ t. number_at 4 t 0) (gathered-head (flat c blocks) at (omega arith) (omega arith))
+
+-- ---- the effect
+
+pub effect_read : (p q : Parameters) (size : ℕ) (cpu : CpuState) (c : Contents) (fault : Option Cause) (word : ℕ) (e now : Effect) → q ≡ p → size ≡ program_size p
+    → fault ≡ fetch_fault q.base size cpu.pc → fault ≡ None → ReadsWord c (span (cpu.pc - q.base) 4) word
+    → e ≡ word_effect word cpu.pc cpu.regs → now ≡ within q.base size e → FetchesEffect p cpu c now
+unfolding effect_in
+effect_read p q size cpu c fault word e now same size_is fault_is none reads means is blocks whole =
+    let no_fault = fetch_none p q size cpu.pc fault same size_is fault_is none in
+    let w = fetched_inside p cpu.pc no_fault in
+    let number : ℕ = number_at 4 (gathered (flat c blocks) (span (cpu.pc - p.base) 4)) 0 in
+    let here : ReadsWord c (span (cpu.pc - p.base) 4) word = subst (λ (g : Parameters). ReadsWord c (span (cpu.pc - g.base) 4) word) same reads in
+    let inside : first_block (span (cpu.pc - p.base) 4) < length blocks = omega (arith, word_inside p cpu.pc w, whole) in
+    is
+    ∙ ap (λ (g : Parameters). within g.base size e) same
+    ∙ ap (λ (n : ℕ). within p.base n e) size_is
+    ∙ ap (within p.base (program_size p)) (means ∙ ap (λ n. word_effect n cpu.pc cpu.regs) (here blocks inside))
+    ∙ ap (λ f. unless_trapped f (within p.base (program_size p) (word_effect number cpu.pc cpu.regs))) (sym no_fault)
+
+-- an effect that was tested
+pub tested : (p q : Parameters) (size : ℕ) (e now : Effect) → q ≡ p → size ≡ program_size p → now ≡ within q.base size e → IsWithin p.base (program_size p) now
+tested p q size e now same size_is is =
+    let by_base : within q.base size e ≡ within p.base size e = ap (λ (g : Parameters). within g.base size e) same in
+    let by_size : within p.base size e ≡ within p.base (program_size p) e = ap (λ (n : ℕ). within p.base n e) size_is in
+    subst (IsWithin p.base (program_size p)) (sym (is ∙ by_base ∙ by_size)) (within-is p.base (program_size p) e)
+
+-- the blocks have room for what a call gives where there is any
+pub room_fits : (p : Parameters) (cpu : CpuState) (n : ℕ) (calls : CallState) → IsInRange p → calls ≡ calls_in p cpu n
+    → 1 ≤ calls.room → calls.size + calls.console_len < 2 ^ 64
+room_fits p cpu n calls r is =
+    let P : CallState → Type 0 = λ k. 1 ≤ k.room → k.size + k.console_len < 2 ^ 64 in
+    subst P (sym is) (λ some. omega (arith, pages_most p r, console_most p r))

@@ -1,0 +1,199 @@
+-- What is next of an instruction in hand, by what is left to read and to write.
+use Rattle.std.proofs.Common.{◌≡◌, ℕ, ◌+◌, ◌-◌, ◌*◌, ◌<◌, ◌≤◌, ◌==◌, Bool, true, false, if◌then◌else◌, nat_lt, List, [], ◌++◌, length, take, drop, Option, Some, None, refl, sym, ◌∙◌, ap, subst, arith}
+use Rattle.std.proofs.lemmas.Bool.Decides.{nat_tests}
+use Rattle.std.proofs.lemmas.List.{length-append, length-drop, length-take-le}
+use Rattle.thy_base.specs.declared.block.Block.{Block}
+use Rattle.thy_base.specs.declared.config.Parameters.{Parameters}
+use Rattle.thy_base.specs.Blocks.{block_bytes}
+use Rattle.thy_base.specs.Geometry.{IsInRange, memory_blocks, program_size}
+use Rattle.thy_base.proofs.BlockLemmas.{length-block_bytes}
+use Rattle.thy_flat.specs.declared.span.Span.{Span}
+use Rattle.thy_flat.specs.Spans.{IsSpanOf, first_block, first_byte, head_len, rest_of, head_in}
+use Rattle.thy_flat.proofs.SpanLaws.{rest_of-rest}
+use Rattle.thy_isa.specs.declared.state.CallState.{CallState}
+use Rattle.thy_isa.specs.declared.state.CpuState.{CpuState}
+use Rattle.thy_isa.specs.declared.state.Effect.{Effect}
+use Rattle.thy_isa.specs.declared.state.Effect.TheVariants.{Next, Set, Read, Write, Environment, Trap}
+use Rattle.thy_isa.specs.declared.state.Moves.{Moves}
+use Rattle.thy_isa.specs.Access.{IsWithin}
+use Rattle.thy_isa.specs.Moves.{moves_of, brings}
+use Rattle.thy_isa.specs.OnBlocks.{calls_in}
+use Rattle.thy_isa.proofs.MoveLaws.{moves_of-spans, moves_of-enough}
+use Rattle.thy_hart.specs.declared.hand.Hand.{Hand}
+use Rattle.thy_hart.specs.declared.hand.Hand.TheVariants.{Nothing, Reading, Reserving, Writing, Retiring}
+use Rattle.thy_hart.specs.Core.{Core, blocks_of, reserved, has_written, read_len, IsReading, IsWriting, IsInHand, IsSound}
+use Rattle.thy_hart.specs.Acts.{begun, written_on, room_reserved}
+
+-- ---- choices
+
+test_zero : (n : ℕ) → (n == 0) ≡ true → n ≡ 0
+test_zero n h = grind (arith, nat_tests)
+
+test_some : (n : ℕ) → (n == 0) ≡ false → 0 < n
+test_some n h = grind (arith, nat_tests)
+
+if_hand : (P : Hand → Type 0) (b : Bool) (x y : Hand) → (b ≡ true → P x) → (b ≡ false → P y) → P (if b then x else y)
+if_hand P true x y p q = p refl
+if_hand P false x y p q = q refl
+
+-- a fact of what an effect does that begins or goes on
+pub begun_by : (P : Hand → Type 0) (e : Effect) (from to : Span) → (0 < from.len → P (Reading e from to)) → (from.len ≡ 0 → 0 < to.len → P (Reserving e to))
+    → (from.len ≡ 0 → to.len ≡ 0 → P (Retiring e false)) → P (begun e from to)
+unfolding begun
+begun_by P e from to reads writes ends =
+    if_hand P (from.len == 0) (if to.len == 0 then Retiring e false else Reserving e to) (Reading e from to)
+    (λ none.
+    if_hand P (to.len == 0) (Retiring e false) (Reserving e to)
+    (λ end. ends (test_zero from.len none) (test_zero to.len end))
+    (λ some. writes (test_zero from.len none) (test_some to.len some)))
+    (λ some. reads (test_some from.len some))
+
+-- and of one that goes on behind a written block
+pub written_by : (P : Hand → Type 0) (e : Effect) (to : Span) (done : ℕ) → (0 < to.len → P (Writing e to done)) → (to.len ≡ 0 → P (Retiring e true))
+    → P (written_on e to done)
+unfolding written_on
+written_by P e to done writes ends =
+    if_hand P (to.len == 0) (Retiring e true) (Writing e to done) (λ end. ends (test_zero to.len end)) (λ some. writes (test_some to.len some))
+
+-- ---- spans
+
+pub head_len-some : (s : Span) → 0 < s.len → 0 < head_len s
+head_len-some s h = omega arith
+
+pub head_len-most : (s : Span) → head_len s ≤ s.len
+head_len-most s = omega arith
+
+head_len-inside : (s : Span) → first_byte s + head_len s ≤ 64
+head_len-inside s = omega arith
+
+pub rest_of-span : (n : ℕ) (s : Span) → IsSpanOf n s → IsSpanOf n (rest_of s)
+rest_of-span n s h = record { short = omega (arith, h.short, head_len-most s); inside = omega (arith, h.inside, head_len-most s) }
+
+-- the first block of a span that has bytes
+pub first_block-inside : (n : ℕ) (s : Span) → IsSpanOf n s → 0 < s.len → first_block s < n
+first_block-inside n s h some = omega (arith, h.inside)
+
+pub length-head_in : (block : Block) (s : Span) → length (head_in block s) ≡ head_len s
+length-head_in block s =
+    length-take-le (head_len s) (drop (first_byte s) (block_bytes block)) (omega (arith, length-drop (first_byte s) (block_bytes block), length-block_bytes block, head_len-inside s))
+
+if_number : (P : ℕ → Type 0) (b : Bool) (x y : ℕ) → (b ≡ true → P x) → (b ≡ false → P y) → P (if b then x else y)
+if_number P true x y p q = p refl
+if_number P false x y p q = q refl
+
+pub blocks_of-most : (s : Span) → blocks_of s ≤ 2
+blocks_of-most s = if_number (λ n. n ≤ 2) ((rest_of s).len == 0) 1 2 (λ _. omega arith) (λ _. omega arith)
+
+pub blocks_of-least : (s : Span) → 1 ≤ blocks_of s
+blocks_of-least s = if_number (λ n. 1 ≤ n) ((rest_of s).len == 0) 1 2 (λ _. omega arith) (λ _. omega arith)
+
+pub blocks_of-one : (s : Span) → (rest_of s).len ≡ 0 → blocks_of s ≡ 1
+blocks_of-one s h =
+    if_number (λ n. n ≡ 1) ((rest_of s).len == 0) 1 2 (λ _. refl) (λ e. absurd (omega (arith, test_some (rest_of s).len e)))
+
+pub blocks_of-two : (s : Span) → 0 < (rest_of s).len → blocks_of s ≡ 2
+blocks_of-two s h =
+    if_number (λ n. n ≡ 2) ((rest_of s).len == 0) 1 2 (λ e. absurd (omega (arith, test_zero (rest_of s).len e))) (λ _. refl)
+
+-- the rest of a span lies in one block
+pub blocks_of-rest : (s : Span) → s.len ≤ 64 → blocks_of (rest_of s) ≡ 1
+blocks_of-rest s h = blocks_of-one (rest_of s) (rest_of-rest s h)
+
+-- ---- what is in hand is sound
+
+pub begun-unreserved : (e : Effect) (from to : Span) → reserved (begun e from to) ≡ 0
+begun-unreserved e from to = begun_by (λ hand. reserved hand ≡ 0) e from to (λ _. refl) (λ _ _. refl) (λ _ _. refl)
+
+-- one block less is reserved behind a written block
+pub written_on-reserved : (e : Effect) (to : Span) (done : ℕ) → to.len ≤ 64 → reserved (written_on e (rest_of to) done) + 1 ≤ blocks_of to
+written_on-reserved e to done short =
+    written_by (λ hand. reserved hand + 1 ≤ blocks_of to) e (rest_of to) done
+    (λ some. omega (arith, blocks_of-two to some, blocks_of-rest to short))
+    (λ end. omega (arith, blocks_of-one to end))
+
+-- bytes that are there and are read fit, and are enough
+pub record IsServed (p : Parameters) (e : Effect) (from to : Span) (have : ℕ) : Type 0 where
+  pub span_from : IsSpanOf (memory_blocks p) from
+  pub span_to : IsSpanOf (memory_blocks p) to
+  pub most : have + from.len ≤ 64
+  pub least : to.len ≤ have + from.len
+  pub number : read_len e ≤ have + from.len
+
+pub begun-sound : (p : Parameters) (e : Effect) (from to : Span) (have : ℕ) → IsServed p e from to have → IsInHand p (begun e from to) have
+begun-sound p e from to have h =
+    begun_by (λ hand. IsInHand p hand have) e from to
+    (λ some. record { span_from = h.span_from; span_to = h.span_to; some = some; most = h.most; least = h.least; number = h.number })
+    (λ none some. record { span_to = h.span_to; some = some; least = omega (arith, h.least); number = omega (arith, h.number) })
+    (λ none end. omega (arith, h.number))
+
+-- behind a block that was read
+pub read-sound : (p : Parameters) (e : Effect) (from to : Span) (block : Block) (old new : List ℕ) (hand : Hand) → IsReading p e from to (length old)
+    → new ≡ old ++ head_in block from → hand ≡ begun e (rest_of from) to → IsInHand p hand (length new)
+read-sound p e from to block old new hand h bytes is =
+    let n : length new ≡ length old + head_len from
+    = ap length bytes ∙ length-append old (head_in block from) ∙ ap (λ k. length old + k) (length-head_in block from) in
+    let most = head_len-most from in
+    let served : IsServed p e (rest_of from) to (length new) = record {
+      span_from = rest_of-span (memory_blocks p) from h.span_from;
+      span_to = h.span_to;
+      most = omega (arith, n, most, h.most);
+      least = omega (arith, n, most, h.least);
+      number = omega (arith, n, most, h.number);
+    } in
+    subst (λ x. IsInHand p x (length new)) (sym is) (begun-sound p e (rest_of from) to (length new) served)
+
+-- behind a block that was written
+pub write-sound : (p : Parameters) (e : Effect) (to : Span) (done have : ℕ) (hand : Hand) → IsWriting p e to done have
+    → hand ≡ written_on e (rest_of to) (done + head_len to) → IsInHand p hand have
+write-sound p e to done have hand h is =
+    let most = head_len-most to in
+    let next : IsInHand p (written_on e (rest_of to) (done + head_len to)) have
+    = written_by (λ x. IsInHand p x have) e (rest_of to) (done + head_len to)
+    (λ some. record { span_to = rest_of-span (memory_blocks p) to h.span_to; some = some; least = omega (arith, most, h.least); number = h.number })
+    (λ end. h.number) in
+    subst (λ x. IsInHand p x have) (sym is) next
+
+read_len-enough : (x input : List ℕ) (c : CallState) (e : Effect) → read_len e ≤ length (brings input x c e) + (moves_of x c e).from.len
+unfolding moves_of
+read_len-enough x input c (Next pc) = omega arith
+read_len-enough x input c (Set pc rd v) = omega arith
+read_len-enough x input c (Read pc at width extend rd) = omega arith
+read_len-enough x input c (Write pc at width v) = omega arith
+read_len-enough x input c Environment = omega arith
+read_len-enough x input c (Trap cause) = omega arith
+
+-- behind a fetch
+pub fetch-sound : (p : Parameters) (input : List ℕ) (cpu : CpuState) (e : Effect) (calls : CallState) (bytes : List ℕ) (m : Moves) (hand : Hand)
+    → IsInRange p → IsWithin p.base (program_size p) e → calls ≡ calls_in p cpu (length input) → bytes ≡ brings input cpu.regs calls e
+    → m ≡ moves_of cpu.regs calls e → hand ≡ begun e m.from m.to → IsInHand p hand (length bytes)
+fetch-sound p input cpu e calls bytes m hand r inside is b moves begins =
+    let k = calls_in p cpu (length input) in
+    let spans = moves_of-spans p cpu (length input) r cpu.regs e inside in
+    let enough = moves_of-enough input k refl cpu.regs e in
+    let here : IsServed p e (moves_of cpu.regs k e).from (moves_of cpu.regs k e).to (length (brings input cpu.regs k e)) = record {
+      span_from = spans.from;
+      span_to = spans.to;
+      most = enough.most;
+      least = enough.least;
+      number = read_len-enough cpu.regs input k e;
+    } in
+    let there : IsServed p e (moves_of cpu.regs calls e).from (moves_of cpu.regs calls e).to (length (brings input cpu.regs calls e))
+    = subst (λ c. IsServed p e (moves_of cpu.regs c e).from (moves_of cpu.regs c e).to (length (brings input cpu.regs c e))) (sym is) here in
+    let at_bytes : IsServed p e (moves_of cpu.regs calls e).from (moves_of cpu.regs calls e).to (length bytes)
+    = subst (λ t. IsServed p e (moves_of cpu.regs calls e).from (moves_of cpu.regs calls e).to (length t)) (sym b) there in
+    let at_moves : IsServed p e m.from m.to (length bytes) = subst (λ (t : Moves). IsServed p e t.from t.to (length bytes)) (sym moves) at_bytes in
+    subst (λ x. IsInHand p x (length bytes)) (sym begins) (begun-sound p e m.from m.to (length bytes) at_moves)
+
+if_core : (P : Core → Type 0) (b : Bool) (x y : Core) → P x → P y → P (if b then x else y)
+if_core P true x y p q = p
+if_core P false x y p q = q
+
+-- behind a reservation, whatever comes of it
+pub room_reserved-sound : (free dirty : ℕ) (under_way : Bool) (e : Effect) (to : Span) (old new : Core) → IsSound old → IsWriting old.geometry e to 0 (length old.bytes)
+    → new ≡ room_reserved free under_way dirty e to old → IsSound new
+unfolding room_reserved
+room_reserved-sound free dirty under_way e to old new s h is =
+    subst IsSound (sym is)
+    (if_core IsSound (nat_lt free (dirty + blocks_of to)) _ _
+    (if_core IsSound under_way old _ s (record { range = s.range; in_hand = refl }))
+    (record { range = s.range; in_hand = h }))

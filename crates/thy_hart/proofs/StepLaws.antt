@@ -1,0 +1,170 @@
+-- A step of the hart, from what it does.
+use Rattle.std.proofs.Common.{◌≡◌, ◌⊎◌, ℕ, ◌+◌, ◌-◌, ◌<◌, ◌≤◌, Bool, true, false, not, if◌then◌else◌, List, length, Option, Some, None, refl, sym, ◌∙◌, ap, subst, inl, inr, arith}
+use Rattle.thy_base.specs.declared.block.Block.{Block}
+use Rattle.thy_base.specs.declared.cause.EndCause.{EndCause}
+use Rattle.thy_base.specs.Device.{block_at}
+use Rattle.thy_base.specs.Geometry.{memory_blocks}
+use Rattle.thy_base.specs.Store.{Holding}
+use Rattle.thy_cache.specs.Contents.{Contents, hits, dirty_count}
+use Rattle.thy_cache.specs.Flat.{flat}
+use Rattle.thy_flat.specs.Flat.{AllLong}
+use Rattle.thy_isa.specs.declared.state.CpuState.{CpuState}
+use Rattle.thy_base.specs.declared.config.Parameters.{Parameters}
+use Rattle.thy_base.proofs.RangeLemmas.{pages_most}
+use Rattle.thy_isa.specs.Step.{fetch_fault}
+use Rattle.thy_base.specs.Geometry.{program_size}
+use Rattle.thy_flat.specs.Spans.{span, first_block}
+use Rattle.thy_isa.specs.declared.state.Cause.{Cause}
+use Rattle.thy_hart.specs.declared.hand.Hand.{Hand}
+use Rattle.thy_hart.specs.declared.hand.Hand.TheVariants.{Nothing, Reading, Reserving, Writing, Retiring}
+use Rattle.thy_hart.specs.declared.hand.HartStep.{HartStep}
+use Rattle.thy_hart.specs.declared.hand.HartStep.TheVariants.{Moved, Retired, Waiting, Over}
+use Rattle.thy_hart.specs.Core.{Core, unless_fault, fetched_block, block_for, next_block, reserved, IsInHand, IsSound}
+use Rattle.thy_hart.specs.Acts.{Given, acted_by, answer_by, memory_by}
+use Rattle.thy_hart.specs.Bring.{IsNearer, IsBrought}
+use Rattle.thy_hart.specs.Moments.{Moment, moment, memory_of, is_missing, brings_line, IsOpenInTheWay, IsOpenFor, IsReady, touch_left, left_behind, moves_left}
+use Rattle.thy_hart.specs.Parts.{HitsNext, Acts}
+use Rattle.thy_hart.specs.Steps.{coming, ComesNearer, Nears, Closes, Leads, IsStep}
+use Rattle.thy_hart.proofs.FetchLemmas.{fetched_inside, word_inside}
+use Rattle.thy_hart.proofs.HandLemmas.{first_block-inside}
+use Rattle.thy_hart.proofs.StepLemmas.{FallsAt, left_at, IsDone, with_hand, done_by}
+
+-- ---- the block that is touched lies in memory
+
+unless_some : (o : Option Cause) (n b : ℕ) → unless_fault o n ≡ Some b → (o ≡ None) × (n ≡ b)
+unless_some None n b h = (refl, cc h)
+unless_some (Some cause) n b h = cc h
+
+fetched_block-inside : (p : Parameters) (cpu : CpuState) (b : ℕ) → fetched_block p cpu ≡ Some b → b < memory_blocks p
+unfolding fetched_block
+fetched_block-inside p cpu b h =
+    let w = unless_some (fetch_fault p.base (program_size p) cpu.pc) (first_block (span (cpu.pc - p.base) 4)) b h in
+    omega (arith, w.1, word_inside p cpu.pc (fetched_inside p cpu.pc w.0))
+
+some_same : (a b : ℕ) → Some a ≡ Some b → a ≡ b
+some_same a b h = cc
+
+block_for-inside : (p : Parameters) (cpu : CpuState) (hand : Hand) (have b : ℕ) → IsInHand p hand have → block_for p cpu hand ≡ Some b → b < memory_blocks p
+block_for-inside p cpu Nothing have b w h = fetched_block-inside p cpu b h
+block_for-inside p cpu (Reading e from to) have b w h =
+    omega (arith, some_same (first_block from) b h, first_block-inside (memory_blocks p) from w.span_from w.some)
+block_for-inside p cpu (Reserving e to) have b w h = cc h
+block_for-inside p cpu (Writing e to done) have b w h =
+    omega (arith, some_same (first_block to) b h, first_block-inside (memory_blocks p) to w.span_to w.some)
+block_for-inside p cpu (Retiring e wrote) have b w h = cc h
+
+pub next_block-inside : (h : Core) (b : ℕ) → IsSound h → next_block h ≡ Some b → b < memory_blocks h.geometry
+next_block-inside h b s is = block_for-inside h.geometry h.cpu h.hand (length h.bytes) b s.in_hand is
+
+-- ---- a line is brought
+
+-- the choice of what a step does, where its line is brought
+if_true : {A : Type 0} (b : Bool) (x y : A) → b ≡ true → x ≡ (if b then x else y)
+if_true b x y h = sym (ap (λ t. if t then x else y) h)
+
+if_false : {A : Type 0} (b : Bool) (x y : A) → b ≡ false → y ≡ (if b then x else y)
+if_false b x y h = sym (ap (λ t. if t then x else y) h)
+
+nearer_by : (b : ℕ) (h : Core) (c d : Contents) (old new : Holding) → next_block h ≡ Some b → IsNearer b c old d new → ComesNearer (moment h c old) (moment h d new)
+nearer_by b h c d old new is (inl less) = inl (omega (arith, less, ap (touch_left c) is, ap (touch_left d) is))
+nearer_by b h c d old new is (inr same) = inr (omega (arith, same.0, ap (touch_left c) is, ap (touch_left d) is), same.1)
+
+pub IsStep-brought : (g : Given) (b : ℕ) (h : Core) (c d : Contents) (old new : Holding) → IsReady (moment h c old) → next_block h ≡ Some b → hits c b ≡ false
+    → IsBrought b c old d new → IsStep g (moment h c old) (moment h d new) Moved
+IsStep-brought g b h c d old new r is miss w =
+    let brought : is_missing c (next_block h) ≡ true = ap (is_missing c) is ∙ ap not miss in
+    let before = flat c old.blocks in
+    record {
+      hart = if_true (is_missing c (next_block h)) h (acted_by g (dirty_count c) before h h.hand) brought;
+      says = if_true (is_missing c (next_block h)) Moved (answer_by g (dirty_count c) h h.hand) brought;
+      memory = w.memory ∙ if_true (is_missing c (next_block h)) before (memory_by h.bytes before h.hand) brought;
+      leads = record { cpu = refl; coming = ap (coming g.input h) w.memory };
+      nears = nearer_by b h c d old new is w.nearer;
+      unwritten = λ _. w.memory;
+      clean = λ _. w.memory;
+      written = λ e. e;
+      others = λ x _. ap (λ m. block_at m x) w.memory;
+      untouched = λ none. let e = sym is ∙ none in cc e;
+      ready = record {
+        blocks = w.blocks ∙ r.blocks;
+        agree = w.agree;
+        ready = w.ready ∙ r.ready;
+        room = omega (arith, w.room, r.room);
+        opened = subst (λ o. IsOpenFor d o new.open_page) (sym is) w.opened;
+      };
+      owed = w.owed;
+      closed = tt;
+      fixed = refl;
+      sized = w.sized;
+      long = subst AllLong (sym w.memory);
+      console = λ l. l;
+    }
+
+-- ---- the hart goes on
+
+-- a block that hits is not missing, and no page is open then
+hit_not_missing : (c : Contents) (o : Option ℕ) → HitsNext c o → is_missing c o ≡ false
+hit_not_missing c None h = refl
+hit_not_missing c (Some b) h = ap not h
+
+none_open_by : (c : Contents) (b : ℕ) (page : Option ℕ) → hits c b ≡ true → (page ≡ None) ⊎ IsOpenInTheWay c b page → page ≡ None
+none_open_by c b page hit (inl none) = none
+none_open_by c b page hit (inr way) = let e = sym hit ∙ way.missing in cc e
+
+none_open : (c : Contents) (o : Option ℕ) (page : Option ℕ) → HitsNext c o → IsOpenFor c o page → page ≡ None
+none_open c None page hit h = h
+none_open c (Some b) page hit h = none_open_by c b page hit h
+
+none_opens : (c : Contents) (o : Option ℕ) (page : Option ℕ) → page ≡ None → IsOpenFor c o page
+none_opens c None page h = h
+none_opens c (Some b) page h = inl h
+
+closes : (step : HartStep) (held : Holding) → held.open_page ≡ None → Closes step held
+closes Moved held h = tt
+closes Retired held h = h
+closes Waiting held h = h
+closes (Over cause) held h = h
+
+nears_by : (step : HartStep) (old new : Moment) → FallsAt step (left_at old.cache old.hart) (left_at new.cache new.hart) → Nears step old new
+nears_by Moved old new h = inl h
+nears_by Retired old new h = tt
+nears_by Waiting old new h = tt
+nears_by (Over cause) old new h = tt
+
+pub IsStep-acted : (g : Given) (h k : Core) (c d : Contents) (held : Holding) (step : HartStep) → g.free ≡ held.free → IsSound h → IsReady (moment h c held)
+    → HitsNext c (next_block h) → Acts g c d h k step → IsStep g (moment h c held) (moment k d held) step
+IsStep-acted g h k c d held step free s r hit a =
+    let before = flat c held.blocks in
+    let missing : is_missing c (next_block h) ≡ false = hit_not_missing c (next_block h) hit in
+    let none : held.open_page ≡ None = none_open c (next_block h) held.open_page hit r.opened in
+    let exactly = done_by g c d h before (dirty_count c) h.hand s.in_hand hit in
+    let hart : k ≡ acted_by g (dirty_count c) before h h.hand = a.hart held.blocks r.blocks in
+    let memory : flat d held.blocks ≡ memory_by h.bytes before h.hand = a.memory held.blocks r.blocks in
+    let at_memory = subst (λ m. IsDone g c d h before (acted_by g (dirty_count c) before h h.hand) (answer_by g (dirty_count c) h h.hand) m) (sym memory) exactly in
+    let at_hart = subst (λ x. IsDone g c d h before x (answer_by g (dirty_count c) h h.hand) (flat d held.blocks)) (sym hart) at_memory in
+    let w : IsDone g c d h before k step (flat d held.blocks) = subst (λ x. IsDone g c d h before k x (flat d held.blocks)) (sym a.says) at_hart in
+    record {
+      hart = hart ∙ if_false (is_missing c (next_block h)) h (acted_by g (dirty_count c) before h h.hand) missing;
+      says = a.says ∙ if_false (is_missing c (next_block h)) Moved (answer_by g (dirty_count c) h h.hand) missing;
+      memory = memory ∙ if_false (is_missing c (next_block h)) before (memory_by h.bytes before h.hand) missing;
+      leads = w.leads;
+      nears = nears_by step (moment h c held) (moment k d held) w.falls;
+      unwritten = w.unwritten;
+      clean = w.clean;
+      written = w.written;
+      others = w.others;
+      untouched = λ no. (a.untouched no, refl);
+      ready = record {
+        blocks = r.blocks ∙ ap memory_blocks (sym w.fixed);
+        agree = a.agree held.blocks r.agree;
+        ready = r.ready;
+        room = let room : dirty_count d + reserved k.hand ≤ g.free = a.room (omega (arith, free, r.room)) in omega (arith, free, room);
+        opened = none_opens d (next_block k) held.open_page none;
+      };
+      owed = omega arith;
+      closed = closes step held none;
+      fixed = w.fixed;
+      sized = a.sized;
+      long = w.long;
+      console = w.console;
+    }

@@ -1,0 +1,23 @@
+use Rattle.thy_hart.proofs.FetchLemmas.{fetched_low, fetched_whole, effect_read, tested}
+use Rattle.thy_hart.proofs.parts.Parts.next_effect.Goals as goal
+
+pub overflow_sub-at : goal.overflow_sub-at
+overflow_sub-at c =
+    fetched_low c.args.self.now.geometry c.numbers-base.result c.program_size-size.result c.args.self.now.cpu.pc c.fetch_fault.result
+    c.numbers-base.ensures.same c.program_size-size.ensures.size c.fetch_fault.ensures c.in-None.is
+
+pub fetch_word-word-requires-clause-whole : goal.fetch_word-word-requires-clause-whole
+fetch_word-word-requires-clause-whole c =
+    fetched_whole c.args.self.now.geometry c.numbers-base.result c.program_size-size.result c.args.self.now.cpu.pc c.fetch_fault.result
+    c.numbers-base.ensures.in_range c.numbers-base.ensures.same c.program_size-size.ensures.size c.fetch_fault.ensures c.in-None.is
+
+pub returns-in-None-clause-effect : goal.returns-in-None-clause-effect
+returns-in-None-clause-effect c =
+    effect_read c.args.self.now.geometry c.numbers-base.result c.program_size-size.result c.args.self.now.cpu c.args.cache.now c.fetch_fault.result
+    c.fetch_word-word.result c.word_effect.result c.within.result
+    c.numbers-base.ensures.same c.program_size-size.ensures.size c.fetch_fault.ensures c.in-None.is c.fetch_word-word.ensures.word c.word_effect.ensures c.within.ensures
+
+pub returns-in-None-clause-inside : goal.returns-in-None-clause-inside
+returns-in-None-clause-inside c =
+    tested c.args.self.now.geometry c.numbers-base.result c.program_size-size.result c.word_effect.result c.within.result
+    c.numbers-base.ensures.same c.program_size-size.ensures.size c.within.ensures

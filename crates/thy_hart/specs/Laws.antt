@@ -1,0 +1,57 @@
+-- Laws of the hart's steps.
+use Rattle.std.specs.Prelude.{◌≡◌, ◌⊎◌, ℕ, ◌≤◌, true, false, List, length}
+use Rattle.thy_base.specs.declared.block.Block.{Block}
+use Rattle.thy_base.specs.declared.cause.EndCause.{EndCause}
+use Rattle.thy_base.specs.declared.cause.EndCause.TheVariants.{Length, Exhausted, Ended}
+use Rattle.thy_base.specs.Geometry.{IsInRange, memory_blocks, console_room}
+use Rattle.thy_isa.specs.OnBlocks.{setting_for}
+use Rattle.thy_isa.specs.Step.{State, is_running, step}
+use Rattle.thy_hart.specs.declared.hand.Hand.TheVariants.{Nothing}
+use Rattle.thy_hart.specs.declared.hand.HartStep.{HartStep}
+use Rattle.thy_hart.specs.declared.hand.HartStep.TheVariants.{Moved, Retired, Waiting, Over}
+use Rattle.thy_hart.specs.Core.{Core, has_written}
+use Rattle.thy_hart.specs.Acts.{Given}
+use Rattle.thy_hart.specs.Moments.{Moment, memory_of, moves_left}
+use Rattle.thy_hart.specs.Steps.{current, coming, IsStep}
+
+-- an instruction has few steps left
+abbrev pub FewMovesAreLeft : Type 0
+FewMovesAreLeft = (m : Moment) → moves_left m ≤ 16
+
+-- blocks of memory, and a console within its room
+pub record IsSized (h : Core) (memory : List Block) : Type 0 where
+  pub range : IsInRange h.geometry
+  pub blocks : length memory ≡ memory_blocks h.geometry
+  pub console : h.cpu.console_len ≤ console_room h.geometry
+
+-- with nothing in hand the plain machine's next state is to come
+abbrev pub NextStateIsToCome : Type 0
+NextStateIsToCome =
+    (input : List ℕ) (h : Core) (memory : List Block) → IsSized h memory → h.hand ≡ Nothing → is_running h.cpu.status ≡ true
+    → coming input h memory ≡ step (setting_for h.geometry input) (current h memory)
+
+-- the hart is at this state of the plain machine: it stands there while the instruction in hand has written nothing, and
+-- the state that is to come is the next
+pub record Follows (input : List ℕ) (now : State) (h : Core) (memory : List Block) : Type 0 where
+  pub sized : IsSized h memory
+  pub current : has_written h.hand ≡ false → current h memory ≡ now
+  pub coming : is_running h.cpu.status ≡ true → coming input h memory ≡ step (setting_for h.geometry input) now
+
+-- the state of the plain machine where the hart is after a step
+abbrev pub state_over : EndCause → State → State → State
+state_over Length now next = next
+state_over (Exhausted free dirty need) now next = now
+state_over Ended now next = next
+
+abbrev pub state_after : HartStep → State → State → State
+state_after Moved now next = now
+state_after Retired now next = next
+state_after Waiting now next = now
+state_after (Over cause) now next = state_over cause now next
+
+-- a step of a hart that runs leads on: where an instruction retired, to the plain machine's next state
+abbrev pub StepFollowsOn : Type 0
+StepFollowsOn =
+    (g : Given) (old new : Moment) (s : HartStep) (now : State) → is_running old.hart.cpu.status ≡ true
+    → IsStep g old new s → Follows g.input now old.hart (memory_of old)
+    → Follows g.input (state_after s now (step (setting_for old.hart.geometry g.input) now)) new.hart (memory_of new)

@@ -1,0 +1,7 @@
+pub mod Core
+pub mod Acts
+pub mod Moments
+pub mod Bring
+pub mod Parts
+pub mod Steps
+pub mod Laws

@@ -1,0 +1,83 @@
+//! The instruction in hand, and how a step ends.
+#![tactic(auto, unfolding(crate::specs::Acts::begun, crate::specs::Acts::written_on))]
+
+ghost use Rattle.std.specs.Prelude.{◌≡◌};
+ghost use Rattle.thy_hart.specs.Acts.{begun, written_on};
+ghost use Rattle.thy_hart.specs.Core.{blocks_of};
+
+use thy_base::EndCause;
+use thy_flat::Span;
+use thy_isa::Effect;
+
+/// What the hart does next of the instruction in hand. A span that it names has bytes, at most 64, in one or
+/// two blocks of memory; the first of these is next.
+#[derive(Clone, Copy, Debug, PartialEq, Eq)]
+pub enum Hand {
+    /// No instruction is in hand: the next one is fetched.
+    Nothing,
+    /// The effect reads the bytes at `from`, and will write at `to`, where that has bytes.
+    Reading {
+        effect: Effect,
+        from: Span,
+        to: Span,
+    },
+    /// It reserves room for the blocks that it will write.
+    Reserving {
+        effect: Effect,
+        to: Span,
+    },
+    /// It writes at `to`, behind `done` bytes that it has written.
+    Writing {
+        effect: Effect,
+        to: Span,
+        done: u64,
+    },
+    /// It retires, and has written a block or has not.
+    Retiring {
+        effect: Effect,
+        wrote: bool,
+    },
+}
+
+/// How a step of the hart ended.
+#[derive(Clone, Copy, Debug, PartialEq, Eq)]
+pub enum HartStep {
+    /// The instruction in hand is a step further, or a line was brought.
+    Moved,
+    /// The instruction retired, and the epoch goes on.
+    Retired,
+    /// Table entries are short until the checkpoint that is under way is committed. Nothing was done.
+    Waiting,
+    /// The epoch is over: behind the instruction, which retired, or before it where entries are short.
+    Over(EndCause),
+}
+
+/// What an effect does that still has to read at `from`, where that has bytes, and to write at `to`.
+pub(crate) fn begun(effect: Effect, from: Span, to: Span) -> Hand
+    ensures { result ≡ begun effect from to }
+{
+    if !from.is_empty() {
+        Hand::Reading { effect, from, to }
+    } else if !to.is_empty() {
+        Hand::Reserving { effect, to }
+    } else {
+        Hand::Retiring {
+            effect,
+            wrote: false,
+        }
+    }
+}
+
+/// What an effect does that has written `done` bytes and still has to write at `to`, where that has bytes.
+pub(crate) fn written_on(effect: Effect, to: Span, done: u64) -> Hand
+    ensures { result ≡ written_on effect to done }
+{
+    if to.is_empty() {
+        Hand::Retiring {
+            effect,
+            wrote: true,
+        }
+    } else {
+        Hand::Writing { effect, to, done }
+    }
+}

@@ -1,0 +1,118 @@
+//! The hart and its calls.
+ghost use Rattle.std.specs.Prelude.{◌≡◌, ◌≢◌, ◌⊎◌, None, ◌+◌, ◌<◌, ◌^◌, IfOk, OnErr};
+ghost use Rattle.thy_base.specs.Device.{CountsFault};
+ghost use Rattle.thy_isa.specs.declared.state.Status.TheVariants.{Running};
+ghost use Rattle.thy_epoch.specs.Epoch.{next_epoch};
+ghost use Rattle.thy_hart.specs.Core.{new_hart};
+ghost use Rattle.thy_hart.specs.Acts.{given};
+ghost use Rattle.thy_hart.specs.Moments.{moment, IsReady};
+ghost use Rattle.thy_hart.specs.Steps.{IsStep};
+
+use crate::bring::bring;
+use crate::hand::{Hand, HartStep};
+use crate::parts::Parts;
+use std::marker::Model;
+use thy_base::{BlockStore, Geometry, NvmError};
+use thy_cache::Cache;
+use thy_epoch::EpochState;
+use thy_flat::Piece;
+use thy_isa::CpuState;
+
+/// One hart of RV64IM with its epoch, which executes an instruction in micro-steps.
+#[derive(Drop)]
+pub struct Hart {
+    parts: Parts,
+}
+
+impl Model for Hart {
+    ghost use Rattle.thy_hart.specs.Core.{Core, IsSound};
+
+    ghost Value = { Core };
+
+    ghost use Rattle.thy_hart.specs.Parts.{core_of};
+
+    ghost view = { λ h. core_of h.parts };
+
+    ghost invariant = { λ h. IsSound (core_of h.parts) };
+}
+
+impl Hart {
+    /// A hart with this processor and no instruction in hand, at the start of an epoch.
+    pub fn new(cpu: &CpuState, epoch: u64, geometry: &Geometry) -> Hart
+        ensures { result ≡ new_hart geometry.now cpu.now epoch }
+    {
+        let span = geometry.numbers().epoch;
+        Hart {
+            parts: Parts {
+                geometry: *geometry,
+                cpu: *cpu,
+                epoch: EpochState::new(span, epoch),
+                hand: Hand::Nothing,
+                bytes: Piece::new(),
+            },
+        }
+    }
+
+    /// The processor, as the last instruction that retired left it.
+    pub fn cpu(&self) -> CpuState
+        ensures { result ≡ self.now.cpu }
+    {
+        self.parts.cpu
+    }
+
+    /// The epoch under execution.
+    pub fn epoch(&self) -> &EpochState
+        ensures { result.now ≡ self.now.epoch }
+    {
+        &self.parts.epoch
+    }
+
+    /// Begins the next epoch, where this one is over.
+    pub fn sealed(&mut self)
+        requires over { self.old.epoch.over ≢ None }
+        requires number { self.old.epoch.number + 1 < 2 ^ 64 }
+        ensures { self.new ≡ record self.old { epoch = next_epoch self.old.epoch } }
+    {
+        self.parts.epoch.sealed();
+    }
+
+    /// Takes one step, a cycle. Where the step touches a block that is not in the cache, it brings the line
+    /// nearer and the hart stays; else it fetches, reads a block, reserves room, writes a block, or retires.
+    /// `free` is the store's number of free table entries, and `under_way` tells whether a checkpoint is under
+    /// way. A failure is the device's, and leaves hart and cache as they were.
+    pub fn step<N, S: BlockStore<N>>(
+        &mut self,
+        cache: &mut Cache,
+        store: &mut S,
+        nvm: &mut N,
+        free: u64,
+        under_way: bool,
+        input: &[u8],
+    ) -> Result<HartStep, NvmError>
+        requires going { self.old.epoch.over ≡ None }
+        requires running { self.old.cpu.status ≡ Running }
+        requires count { self.old.cpu.count + 1 < 2 ^ 64 }
+        requires ready { IsReady (moment self.old cache.old (S.holding store.old nvm.old)) }
+        requires free { free ≡ (S.holding store.old nvm.old).free }
+        ensures step { IfOk result (λ step. IsStep (given input.now free under_way)
+            (moment self.old cache.old (S.holding store.old nvm.old))
+            (moment self.new cache.new (S.holding store.new nvm.new)) step) }
+
+        // A failure leaves hart and cache.
+        ensures hart { OnErr result (self.new ≡ self.old) }
+        ensures cache { OnErr result (cache.new ≡ cache.old) }
+
+        // The store is called once or not at all.
+        ensures once { ((store.new ≡ store.old) × (nvm.new ≡ nvm.old)) ⊎ S.once store.old nvm.old store.new nvm.new }
+        ensures stays { S.stays store.old nvm.old store.new nvm.new }
+        ensures cause { CountsFault result (S.holding store.old nvm.old).faults (S.holding store.new nvm.new).faults }
+    {
+        match self.parts.next_block() {
+            Some(b) if !cache.hit(b) => match bring(cache, b, store, nvm) {
+                Ok(()) => Ok(HartStep::Moved),
+                Err(fault) => Err(fault),
+            },
+            _ => Ok(self.parts.act(cache, free, under_way, input)),
+        }
+    }
+}
