@@ -22,7 +22,7 @@ use Rattle.thy_cell.specs.Cells.{Seat, seat_of, frame_at, placed, pending_at, wo
 use Rattle.thy_cell.specs.Sound.{IsWithin}
 use Rattle.thy_cell.specs.Rules.{store_place}
 use Rattle.thy_control.specs.Keys.{block_key, page_key}
-use Rattle.thy_control.specs.State.{State, IsTables, cell_of}
+use Rattle.thy_control.specs.State.{State, AreSoundTables, cell_of}
 use Rattle.thy_control.proofs.FindLemmas.{key-entry_for, index_for-inside}
 
 IsPlace-frame : (p : Parameters) (x : Seat) → IsWithin p x → IsPlace p (frame_at x)
@@ -83,7 +83,7 @@ pub ptt_least : (p : Parameters) → IsInRange p → 8 ≤ p.ptt
 ptt_least p r = r.1.1.1.1.1.0.0.0
 
 -- and its numbers are there
-pub IsWithin-cell_of : (s : State) (b : ℕ) → IsTables s → b < memory_blocks s.p → IsWithin s.p (seat_of (cell_of s b))
+pub IsWithin-cell_of : (s : State) (b : ℕ) → AreSoundTables s → b < memory_blocks s.p → IsWithin s.p (seat_of (cell_of s b))
 IsWithin-cell_of s b t l =
     let some_blocks : 0 < length s.btt.entries = omega (arith, btt_least s.p t.range, t.btt_size) in
     let some_pages : 0 < length s.ptt.entries = omega (arith, ptt_least s.p t.range, t.ptt_size) in

@@ -26,7 +26,7 @@ use Rattle.thy_cell.specs.declared.cell.StoreRule.{StoreRule}
 use Rattle.thy_cell.specs.Cells.{Seat, seat_of, placed, penult, target}
 use Rattle.thy_cell.specs.Rules.{store_rule, store_place}
 use Rattle.thy_cell.specs.Store.{StoreGoesElsewhere, StoreLeavesTarget, put_by}
-use Rattle.thy_control.specs.State.{State, IsTables, cell_of, reads}
+use Rattle.thy_control.specs.State.{State, AreSoundTables, cell_of, reads}
 use Rattle.thy_control.specs.Rules.{with_block, rule_for, cell_before, devices_after, IsWholeState, FailsStore}
 use Rattle.thy_control.specs.Guarded.{LeavesGuarded}
 use Rattle.thy_control.proofs.CellLemmas.{IsPlace-penult, IsPlace-target, IsPlace-store, IsWithin-cell_of}
@@ -86,7 +86,7 @@ module _ (b : ℕ) (block : Block) (s : State) (m n : Device) where
   at_other (inr f) q there is side ne =
       no_more-failed_other s.p m n (store_place (rule_for b s) (cell_before b s)) q (put_by (rule_for b s) block (reads s m) (cell_before b s)) there is f.in_nvm side ne f.failed
 
-pub LeavesGuarded-after : StoreGoesElsewhere → StoreLeavesTarget → (b : ℕ) (block : Block) (s : State) (m n : Device) → IsTables s → IsWholeState s → b < memory_blocks s.p → 0 < free_count s.btt
+pub LeavesGuarded-after : StoreGoesElsewhere → StoreLeavesTarget → (b : ℕ) (block : Block) (s : State) (m n : Device) → AreSoundTables s → IsWholeState s → b < memory_blocks s.p → 0 < free_count s.btt
     → Outcome b block s m n → LeavesGuarded s m n
 unfolding cell_before
 LeavesGuarded-after elsewhere leaves b block s m n t whole inside room outcome =

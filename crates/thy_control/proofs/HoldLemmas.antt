@@ -22,7 +22,7 @@ use Rattle.thy_cell.specs.Sound.{IsWithin, Puts, Holds}
 use Rattle.thy_cell.specs.Rules.{store_rule, store_place, after_store}
 use Rattle.thy_cell.specs.Store.{StoreHolds, put_by}
 use Rattle.thy_cell.specs.Checkpoint.{with_dirty}
-use Rattle.thy_control.specs.State.{State, IsTables, IsSized, cell_of, reads}
+use Rattle.thy_control.specs.State.{State, AreSoundTables, IsSized, cell_of, reads}
 use Rattle.thy_control.specs.Rules.{with_block, with_cell, rule_for, cell_before, devices_after, state_after, IsWholeState}
 use Rattle.thy_control.specs.Stays.{HoldAll}
 use Rattle.thy_control.proofs.CellLemmas.{IsPlace-target, IsPlace-last, IsPlace-work, IsPlace-store, IsWithin-cell_of}
@@ -55,7 +55,7 @@ hold_or_dirty : (reads : Place → Block) (r : StoreRule) (c d : Cell) → OrDir
 hold_or_dirty reads r c d (inl e) h = subst (λ (x : Cell). Holds reads x) (sym e) h
 hold_or_dirty reads r c d (inr e) h = subst (λ (x : Cell). Holds reads x) (sym e.1) (hold_dirty reads c h)
 
-IsPlace-frame_of : (s : State) (b : ℕ) → IsTables s → b < memory_blocks s.p → IsPlace s.p (frame_at (seat_of (cell_of s b)))
+IsPlace-frame_of : (s : State) (b : ℕ) → AreSoundTables s → b < memory_blocks s.p → IsPlace s.p (frame_at (seat_of (cell_of s b)))
 IsPlace-frame_of s b t l = let w = IsWithin-cell_of s b t l in (w.page, omega arith)
 
 -- a cell with another place of its entry holds the same
@@ -70,7 +70,7 @@ hold_start reads c d e p j t l w h =
       issued = λ k. ap reads t ∙ h.issued (omega (arith, k, ap (λ n. n % 64) block, ap (λ (x : PttEntry). x.issued) p)) ∙ ap reads (sym frame);
     }
 
-pub HoldAll-after : StoreHolds → (b : ℕ) (block : Block) (s : State) (n : Device) → IsTables s → IsSized s n → IsWholeState s → b < memory_blocks s.p → 0 < free_count s.btt
+pub HoldAll-after : StoreHolds → (b : ℕ) (block : Block) (s : State) (n : Device) → AreSoundTables s → IsSized s n → IsWholeState s → b < memory_blocks s.p → 0 < free_count s.btt
     → HoldAll s n → HoldAll (state_after b block s n) (devices_after b block s n).nvm
 unfolding state_after devices_after cell_before
 HoldAll-after laws b block s n t sized whole inside room hold m l =

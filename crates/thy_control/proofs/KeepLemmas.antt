@@ -29,7 +29,7 @@ use Rattle.thy_cell.specs.Checkpoint.{with_dirty}
 use Rattle.thy_control.specs.Find.{index_for, with_found}
 use Rattle.thy_control.specs.Keys.{block_key}
 use Rattle.thy_control.specs.Tables.{btt_with, answer_of}
-use Rattle.thy_control.specs.State.{State, IsTables, IsSized, cell_of, reads}
+use Rattle.thy_control.specs.State.{State, AreSoundTables, IsSized, cell_of, reads}
 use Rattle.thy_control.specs.Rules.{with_block, with_cell, rule_for, cell_before, devices_after, state_after, IsWholeState}
 use Rattle.thy_control.specs.Versions.{KeepsCheckpoints, PutsWork, work_given}
 use Rattle.thy_control.proofs.FindLemmas.{entry_for-none}
@@ -90,7 +90,7 @@ pub record Kept (b : ℕ) (block : Block) (s : State) (m : Device) (t : State) (
   pub checkpoints : KeepsCheckpoints s m t n
   pub work_put : PutsWork answer b block s m t n
 
-pub Kept-after : StoreReads → (b : ℕ) (block : Block) (s : State) (n : Device) → IsTables s → IsSized s n → IsWholeState s → b < memory_blocks s.p → 0 < free_count s.btt
+pub Kept-after : StoreReads → (b : ℕ) (block : Block) (s : State) (n : Device) → AreSoundTables s → IsSized s n → IsWholeState s → b < memory_blocks s.p → 0 < free_count s.btt
     → Kept b block s n (state_after b block s n) (devices_after b block s n).nvm (answer_of (rule_for b s))
 unfolding state_after devices_after cell_before
 Kept-after laws b block s n t sized whole inside room =

@@ -1,5 +1,5 @@
 -- A new controller's tables.
-use Rattle.std.proofs.Common.{◌≡◌, ℕ, true, false, length, replicate, refl, sym, ◌∙◌, ap, subst, arith, None}
+use Rattle.std.proofs.Common.{◌≡◌, ℕ, true, false, length, replicate, refl, sym, ◌∙◌, ap, subst, arith, Some, None}
 use Rattle.std.proofs.lemmas.Grind.{common_steps}
 use Rattle.thy_base.specs.declared.config.Parameters.{Parameters}
 use Rattle.thy_base.specs.Geometry.{IsInRange, memory_blocks}
@@ -17,7 +17,7 @@ use Rattle.thy_cell.specs.Sound.{IsSoundCell}
 use Rattle.thy_cell.specs.Steps.{NewCellsAreSound}
 use Rattle.thy_control.specs.Find.{entry_for, index_for}
 use Rattle.thy_control.specs.Keys.{block_key, page_key}
-use Rattle.thy_control.specs.State.{IsTables, cell_of, new_state}
+use Rattle.thy_control.specs.State.{AreSoundTables, cell_of, new_state}
 use Rattle.thy_control.proofs.FindLemmas.{entry_for-none}
 
 module _ {E : Type 0} (key : E → ℕ) (size numbers : ℕ) where
@@ -33,8 +33,8 @@ module _ {E : Type 0} (key : E → ℕ) (size numbers : ℕ) where
   pub place_of-empty : (n : ℕ) → place_of key n (empty_table size numbers) ≡ None
   place_of-empty n = position-none (lists key n) None (replicate size None) (λ k l. ap (lists key n) (entry_at-empty k))
 
-pub IsTables-new : NewCellsAreSound → (p : Parameters) (dram : Contents) → IsInRange p → length dram.blocks ≡ dram_blocks p → IsTables (new_state p dram)
-IsTables-new new_sound p dram range size = record {
+pub AreSoundTables-new : NewCellsAreSound → (p : Parameters) (dram : Contents) → IsInRange p → length dram.blocks ≡ dram_blocks p → AreSoundTables (new_state p dram)
+AreSoundTables-new new_sound p dram range size = record {
   range = range;
   btt_size = grind (arith, common_steps);
   btt_numbers = refl;
@@ -42,7 +42,10 @@ IsTables-new new_sound p dram range size = record {
   ptt_size = grind (arith, common_steps);
   ptt_numbers = refl;
   ptt_once = IsListing-empty page_key p.ptt p.pages;
+  live_pages = λ j e h. let none : None ≡ Some e = sym (entry_at-empty page_key p.ptt p.pages j) ∙ h in absurd (cc);
   counts_size = grind (arith, common_steps);
+  counts_high = refl;
+  counts_low = refl;
   dram_size = size;
   cells = λ b l.
       let s = new_state p dram in

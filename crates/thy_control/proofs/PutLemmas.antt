@@ -1,6 +1,7 @@
 -- A store of a block in its parts: what each call of it needs, and what it leaves.
-use Rattle.std.proofs.Common.{◌≡◌, ◌≢◌, ℕ, ◌<◌, true, length, refl, sym, ◌∙◌, ap, subst, arith, Some, None, Result, Ok, Err, OnErr}
-use Rattle.std.proofs.lemmas.List.{length-set}
+use Rattle.std.proofs.Common.{◌≡◌, ◌≢◌, ℕ, ◌<◌, Bool, true, false, length, refl, sym, ◌∙◌, ap, subst, inl, inr, arith, Some, None, Result, Ok, Err, OnErr}
+use Rattle.std.proofs.lemmas.Bool.{cases_eq}
+use Rattle.std.proofs.lemmas.List.{length-set, get_or-set_same, get_or-set_other}
 use Rattle.thy_base.specs.declared.block.Block.{Block}
 use Rattle.thy_base.specs.declared.place.Place.{Place}
 use Rattle.thy_base.specs.Device.{Device, block_at}
@@ -15,7 +16,7 @@ use Rattle.thy_table.proofs.IndexLemmas.{count-none, lists-key}
 use Rattle.thy_tables.specs.declared.block_entry.BttEntry.{BttEntry}
 use Rattle.thy_tables.specs.declared.page_entry.PttEntry.{PttEntry}
 use Rattle.thy_tables.specs.BlockEntry.{new_entry}
-use Rattle.thy_tables.specs.PageEntry.{no_page}
+use Rattle.thy_tables.specs.PageEntry.{no_page, is_framed}
 use Rattle.thy_switch.specs.Counts.{Tally, counted}
 use Rattle.thy_cell.specs.declared.cell.Cell.{Cell}
 use Rattle.thy_cell.specs.declared.cell.StoreRule.{StoreRule}
@@ -27,11 +28,11 @@ use Rattle.thy_cell.specs.Store.{put_by}
 use Rattle.thy_control.specs.Find.{index_for}
 use Rattle.thy_control.specs.Keys.{block_key, page_key}
 use Rattle.thy_control.specs.Tables.{btt_with, btt_after, ptt_after, counts_after}
-use Rattle.thy_control.specs.State.{State, IsTables, IsSized, cell_of, reads}
+use Rattle.thy_control.specs.State.{State, AreSoundTables, IsSized, cell_of, reads}
 use Rattle.thy_control.specs.Rules.{with_block, with_cell, rule_for, cell_before, devices_after, state_after, IsWholeState}
 use Rattle.thy_control.proofs.FindLemmas.{found_entry, index_for-inside, length-with, numbers-with}
 use Rattle.thy_control.proofs.CellLemmas.{btt_least, block-cell_of, page-cell_of, IsWithin-cell_of}
-use Rattle.thy_control.proofs.StateLemmas.{IsListed, IsListed-with_block, cell-with_block_same, sound-with_block, sound-with_cell, rule-with_block}
+use Rattle.thy_control.proofs.StateLemmas.{IsListed, IsListed-with_block, cell-with_block_same, sound-with_block, sound-with_cell, rule-with_block, frame_is_framed}
 
 -- what holds whatever a result is
 pub OnErr-of : {T E P : Type 0} (r : Result T E) → P → OnErr r P
@@ -88,10 +89,41 @@ length-counts_after ToBuffer page t = length-counted page t
 length-counts_after ToNvm page t = length-counted page t
 length-counts_after PendingFirst page t = refl
 
+high-counts_after : (rule : StoreRule) (page : ℕ) (t : Tally) → (counts_after rule page t).high ≡ t.high
+high-counts_after ToFrame page t = refl
+high-counts_after ToBuffer page t = refl
+high-counts_after ToNvm page t = refl
+high-counts_after PendingFirst page t = refl
+
+low-counts_after : (rule : StoreRule) (page : ℕ) (t : Tally) → (counts_after rule page t).low ≡ t.low
+low-counts_after ToFrame page t = refl
+low-counts_after ToBuffer page t = refl
+low-counts_after ToNvm page t = refl
+low-counts_after PendingFirst page t = refl
+
+-- the page table's entries after a store: as before, or a framed one
+pages_after : (rule : StoreRule) (c : Cell) (t : Listing PttEntry) → (rule ≡ ToFrame → is_framed c.page ≡ true) → c.j < length t.entries
+    → ((j : ℕ) (e : PttEntry) → entry_at t j ≡ Some e → is_framed e ≡ false → e.fresh ≡ true)
+    → (j : ℕ) (e : PttEntry) → entry_at (ptt_after rule c t) j ≡ Some e → is_framed e ≡ false → e.fresh ≡ true
+pages_after ToFrame c t framed inside before j e h bare = elim (cases_eq j c.j) as (λ _. e.fresh ≡ true) [
+  | inl same ↦
+      let there : Some c.page ≡ Some e = sym (get_or-set_same t.entries c.j (Some c.page) None inside) ∙ ap (λ (k : ℕ). entry_at (ptt_after ToFrame c t) k) (sym same) ∙ h in
+      let is : c.page ≡ e = cc in
+      let full : is_framed e ≡ true = ap is_framed (sym is) ∙ framed refl in
+      absurd (not_both full bare)
+  | inr other ↦ before j e (sym (get_or-set_other t.entries c.j j (Some c.page) None other) ∙ h) bare
+]
+  where
+    not_both : {x : Bool} → x ≡ true → x ≡ false → ⊥
+    not_both f g = cc
+pages_after ToBuffer c t framed inside before j e h bare = before j e h bare
+pages_after ToNvm c t framed inside before j e h bare = before j e h bare
+pages_after PendingFirst c t framed inside before j e h bare = before j e h bare
+
 -- the tables with an entry more are sound
-pub IsTables-with_block : (rule : StoreRule) (b : ℕ) (s : State) → IsTables s → IsListing block_key (btt_with rule b s.btt)
-    → IsTables (with_block rule b s)
-IsTables-with_block rule b s t once = record {
+pub AreSoundTables-with_block : (rule : StoreRule) (b : ℕ) (s : State) → AreSoundTables s → IsListing block_key (btt_with rule b s.btt)
+    → AreSoundTables (with_block rule b s)
+AreSoundTables-with_block rule b s t once = record {
   range = t.range;
   btt_size = length-btt_with rule b s.btt ∙ t.btt_size;
   btt_numbers = numbers-btt_with rule b s.btt ∙ t.btt_numbers;
@@ -99,7 +131,10 @@ IsTables-with_block rule b s t once = record {
   ptt_size = t.ptt_size;
   ptt_numbers = t.ptt_numbers;
   ptt_once = t.ptt_once;
+  live_pages = t.live_pages;
   counts_size = t.counts_size;
+  counts_high = t.counts_high;
+  counts_low = t.counts_low;
   dram_size = t.dram_size;
   cells = λ m l. sound-with_block rule b s m (t.cells m l);
 }
@@ -113,7 +148,7 @@ cell_made s b i rule is place =
     ∙ ap (λ (r : StoreRule). cell_of (with_block r b s) b) is
 
 -- its numbers are there
-pub IsWithin-before : (s : State) (b : ℕ) → IsTables s → b < memory_blocks s.p → IsWithin s.p (seat_of (cell_before b s))
+pub IsWithin-before : (s : State) (b : ℕ) → AreSoundTables s → b < memory_blocks s.p → IsWithin s.p (seat_of (cell_before b s))
 unfolding cell_before
 IsWithin-before s b t l =
     let rule : StoreRule = rule_for b s in
@@ -172,11 +207,42 @@ state_after-is b block s n btt ptt counts d a =
     ∙ ap (λ (t : Tally). state_of s (btt_after (rule_for b s) (after_store (rule_for b s) (cell_before b s)) (btt_with (rule_for b s) b s.btt)) (ptt_after (rule_for b s) (after_store (rule_for b s) (cell_before b s)) s.ptt) t d.dram) a.counts_is
     ∙ ap (λ (e : Devices). state_of s (btt_after (rule_for b s) (after_store (rule_for b s) (cell_before b s)) (btt_with (rule_for b s) b s.btt)) (ptt_after (rule_for b s) (after_store (rule_for b s) (cell_before b s)) s.ptt) (counts_after (rule_for b s) (page_of b) s.counts) e.dram) a.devices_is
 
+-- a rule leaves the numbers of a cell
+pub after-i : (r : StoreRule) (c : Cell) → (after_store r c).i ≡ c.i
+after-i ToFrame c = refl
+after-i ToBuffer c = refl
+after-i ToNvm c = refl
+after-i PendingFirst c = refl
+
+pub after-j : (r : StoreRule) (c : Cell) → (after_store r c).j ≡ c.j
+after-j ToFrame c = refl
+after-j ToBuffer c = refl
+after-j ToNvm c = refl
+after-j PendingFirst c = refl
+
+pub after-block : (r : StoreRule) (c : Cell) → (after_store r c).entry.block ≡ c.entry.block
+after-block ToFrame c = refl
+after-block ToBuffer c = refl
+after-block ToNvm c = refl
+after-block PendingFirst c = refl
+
+pub after-page : (r : StoreRule) (c : Cell) → (after_store r c).page.page ≡ c.page.page
+after-page ToFrame c = refl
+after-page ToBuffer c = refl
+after-page ToNvm c = refl
+after-page PendingFirst c = refl
+
+framed-after : (r : StoreRule) (c : Cell) → is_framed (after_store r c).page ≡ is_framed c.page
+framed-after ToFrame c = refl
+framed-after ToBuffer c = refl
+framed-after ToNvm c = refl
+framed-after PendingFirst c = refl
+
 -- the state after a store has sound tables
-pub IsTables-after : (b : ℕ) (block : Block) (s : State) (n : Device) → IsTables s → IsSized s n → IsWholeState s → b < memory_blocks s.p → 0 < free_count s.btt
-    → IsListing block_key (state_after b block s n).btt → IsListing page_key (state_after b block s n).ptt → IsTables (state_after b block s n)
+pub AreSoundTables-after : (b : ℕ) (block : Block) (s : State) (n : Device) → AreSoundTables s → IsSized s n → IsWholeState s → b < memory_blocks s.p → 0 < free_count s.btt
+    → IsListing block_key (state_after b block s n).btt → IsListing page_key (state_after b block s n).ptt → AreSoundTables (state_after b block s n)
 unfolding state_after cell_before devices_after
-IsTables-after b block s n t sized whole l room btt_once ptt_once =
+AreSoundTables-after b block s n t sized whole l room btt_once ptt_once =
     let rule : StoreRule = rule_for b s in
     let u : State = with_block rule b s in
     let same : store_rule (cell_of u b) ≡ rule = rule-with_block rule b s in
@@ -187,6 +253,7 @@ IsTables-after b block s n t sized whole l room btt_once ptt_once =
     let place : Place = store_place rule (cell_of u b) in
     let put : Block = put_by rule block (reads s n) (cell_of u b) in
     let sizes = AreSized-written_at s.p (devices_of n s.dram) place put (record { nvm = sized.nvm; dram = t.dram_size }) in
+    let page_there : after.j < length s.ptt.entries = omega (arith, (IsWithin-cell_of s b t l).page, t.ptt_size, after-j rule (cell_of u b)) in
     record {
       range = t.range;
       btt_size = length-btt_after rule after (btt_with rule b s.btt) ∙ length-btt_with rule b s.btt ∙ t.btt_size;
@@ -195,7 +262,10 @@ IsTables-after b block s n t sized whole l room btt_once ptt_once =
       ptt_size = length-ptt_after rule after s.ptt ∙ t.ptt_size;
       ptt_numbers = numbers-ptt_after rule after s.ptt ∙ t.ptt_numbers;
       ptt_once = ptt_once;
+      live_pages = pages_after rule after s.ptt (λ frame. framed-after rule (cell_of u b) ∙ frame_is_framed (cell_of u b) (same ∙ frame)) page_there t.live_pages;
       counts_size = length-counts_after rule (page_of b) s.counts ∙ t.counts_size;
+      counts_high = high-counts_after rule (page_of b) s.counts ∙ t.counts_high;
+      counts_low = low-counts_after rule (page_of b) s.counts ∙ t.counts_low;
       dram_size = sizes.dram;
       cells = λ m k. subst (λ (r : StoreRule). IsSoundCell s.under_way (cell_of (with_cell r (after_store r (cell_of u b)) u) m)) same
           (sound-with_cell b u m listed whole_b (sound b l) (sound m k));
@@ -277,31 +347,6 @@ module _ (s v : State) (b : ℕ) (found : Cell) (r : StoreRule) (btt : Listing B
       ap (λ (t : State). state_of t btt t.ptt t.counts dram) w.view
       ∙ ap (λ (t : Listing BttEntry). state_of s t s.ptt s.counts dram) way_table
       ∙ ap (λ (d : Contents). state_of s (btt_with (rule_for b s) b s.btt) s.ptt s.counts d) (e ∙ ap (λ (t : State). t.dram) w.view)
-
--- a rule leaves the numbers of a cell
-pub after-i : (r : StoreRule) (c : Cell) → (after_store r c).i ≡ c.i
-after-i ToFrame c = refl
-after-i ToBuffer c = refl
-after-i ToNvm c = refl
-after-i PendingFirst c = refl
-
-pub after-j : (r : StoreRule) (c : Cell) → (after_store r c).j ≡ c.j
-after-j ToFrame c = refl
-after-j ToBuffer c = refl
-after-j ToNvm c = refl
-after-j PendingFirst c = refl
-
-pub after-block : (r : StoreRule) (c : Cell) → (after_store r c).entry.block ≡ c.entry.block
-after-block ToFrame c = refl
-after-block ToBuffer c = refl
-after-block ToNvm c = refl
-after-block PendingFirst c = refl
-
-pub after-page : (r : StoreRule) (c : Cell) → (after_store r c).page.page ≡ c.page.page
-after-page ToFrame c = refl
-after-page ToBuffer c = refl
-after-page ToNvm c = refl
-after-page PendingFirst c = refl
 
 -- the code's entries may be put in their places
 pub may_set_block : (s : State) (b : ℕ) (after : Cell) (btt : Listing BttEntry) → 0 < free_count s.btt

@@ -97,7 +97,7 @@ module _ {E : Type 0} (key : E → ℕ) (new : ℕ → E) (t : Listing E) (n : �
     by_place (Some i) h = h ∙ ap (λ o. Some (unwrap_or o 0)) (sym h)
 
 -- facts of the rules that name a listed entry
-frame_is_framed : (c : Cell) → store_rule c ≡ ToFrame → is_framed c.page ≡ true
+pub frame_is_framed : (c : Cell) → store_rule c ≡ ToFrame → is_framed c.page ≡ true
 frame_is_framed c e = grind arith
 
 first_is_pending : (c : Cell) → store_rule c ≡ PendingFirst → c.entry.pend ≡ FromBuffer

@@ -29,7 +29,7 @@ use Rattle.thy_cell.specs.Checkpoint.{IsCopied, with_dirty}
 use Rattle.thy_control.specs.Find.{with_found}
 use Rattle.thy_control.specs.Keys.{block_key, page_key}
 use Rattle.thy_control.specs.Tables.{btt_with}
-use Rattle.thy_control.specs.State.{State, IsTables, IsSized, cell_of, reads}
+use Rattle.thy_control.specs.State.{State, AreSoundTables, IsSized, cell_of, reads}
 use Rattle.thy_control.specs.Rules.{with_block, with_cell, rule_for, cell_before, devices_after, state_after, FailsStore}
 use Rattle.thy_control.specs.Versions.{KeepsCheckpoints}
 use Rattle.thy_control.specs.Stays.{Stays, stays_same, HoldAll, lists0, lists1, listed_block, listed_page}
@@ -171,7 +171,7 @@ low-reads true at x block d other l = refl
 low-reads false at x block d other l = newest-written_to_other d.nvm at block x (other refl) l
 
 -- the store was done
-pub Stays-done : (b : ℕ) (block : Block) (s : State) (m : Device) → IsTables s → IsSized s m → 0 < free_count s.btt → m.down ≡ false
+pub Stays-done : (b : ℕ) (block : Block) (s : State) (m : Device) → AreSoundTables s → IsSized s m → 0 < free_count s.btt → m.down ≡ false
     → IsFramed m (devices_after b block s m).nvm → LeavesGuarded s m (devices_after b block s m).nvm
     → KeepsCheckpoints s m (state_after b block s m) (devices_after b block s m).nvm
     → (HoldAll s m → HoldAll (state_after b block s m) (devices_after b block s m).nvm)
@@ -205,7 +205,7 @@ Stays-done b block s m t sized room up framed guarded keeps holds =
     }
 
 -- or it failed
-pub Stays-failed : (b : ℕ) (block : Block) (s : State) (m n : Device) → IsTables s → 0 < free_count s.btt → FailsStore b block s m n
+pub Stays-failed : (b : ℕ) (block : Block) (s : State) (m n : Device) → AreSoundTables s → 0 < free_count s.btt → FailsStore b block s m n
     → IsFramed m n → LeavesGuarded s m n → Stays s m (with_block (rule_for b s) b s) n
 Stays-failed b block s m n t room failed framed guarded =
     let r : StoreRule = rule_for b s in
@@ -233,7 +233,7 @@ pub stays_by : (b : ℕ) (block : Block) (s : State) (m : Device) (t : State) (n
     → OnOk r (t ≡ state_after b block s m) → OnOk r (n ≡ (devices_after b block s m).nvm)
     → OnErr r (t ≡ with_block (rule_for b s) b s) → OnErr r (FailsStore b block s m n)
     → OnOk r (KeepsCheckpoints s m t n) → OnOk r (HoldAll s m → HoldAll t n)
-    → IsTables s → IsSized s m → 0 < free_count s.btt → m.down ≡ false → IsFramed m n → LeavesGuarded s m n → Stays s m t n
+    → AreSoundTables s → IsSized s m → 0 < free_count s.btt → m.down ≡ false → IsFramed m n → LeavesGuarded s m n → Stays s m t n
 stays_by b block s m t n (Ok x) e f k g keeps holds tables sized room up framed guarded =
     subst (λ (y : State). Stays s m y n) (sym e) (subst (λ (y : Device). Stays s m (state_after b block s m) y) (sym f)
     (Stays-done b block s m tables sized room up (subst (λ (y : Device). IsFramed m y) f framed) (subst (λ (y : Device). LeavesGuarded s m y) f guarded)

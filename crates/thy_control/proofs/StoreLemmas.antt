@@ -27,7 +27,7 @@ use Rattle.thy_cell.specs.Rules.{store_place, after_store}
 use Rattle.thy_cell.specs.Store.{put_by}
 use Rattle.thy_control.specs.Keys.{page_key}
 use Rattle.thy_control.specs.Tables.{btt_with, btt_after, answer_of}
-use Rattle.thy_control.specs.State.{State, IsTables, IsSized, cell_of, work_of, reads}
+use Rattle.thy_control.specs.State.{State, AreSoundTables, IsSized, cell_of, work_of, reads}
 use Rattle.thy_control.specs.Rules.{with_block, rule_for, cell_before, devices_after, state_after, IsWholeState, FailsStore}
 use Rattle.thy_control.specs.Versions.{PutsWork}
 use Rattle.thy_control.specs.Stays.{Stays}
@@ -192,7 +192,7 @@ dram-after : (b : ℕ) (block : Block) (s : State) (m : Device) → (state_after
 unfolding state_after
 dram-after b block s m = refl
 
-Writes-after : (b : ℕ) (block : Block) (s : State) (m : Device) → IsTables s → b < memory_blocks s.p
+Writes-after : (b : ℕ) (block : Block) (s : State) (m : Device) → AreSoundTables s → b < memory_blocks s.p
     → Writes s.p (devices_of m s.dram) (devices_after b block s m)
 unfolding devices_after
 Writes-after b block s m t l = record {
@@ -205,7 +205,7 @@ Writes-after b block s m t l = record {
 pub once_stored : (b : ℕ) (block : Block) (s : State) (m : Device) (t : State) (n : Device) (r : Result Stored NvmError)
     → OnOk r (t ≡ state_after b block s m) → OnOk r (n ≡ (devices_after b block s m).nvm)
     → OnErr r (t ≡ with_block (rule_for b s) b s) → OnErr r (FailsStore b block s m n)
-    → IsTables s → b < memory_blocks s.p → IsFramed m n → Stays s m t n → Once s m t n
+    → AreSoundTables s → b < memory_blocks s.p → IsFramed m n → Stays s m t n → Once s m t n
 once_stored b block s m t n (Ok x) e f k g tables l framed stays =
     let both : devices_of n t.dram ≡ devices_after b block s m
     = ap (λ (d : Device). devices_of d t.dram) f

@@ -1,5 +1,5 @@
 -- The state of the controller, the versions of each block, and what the tables have to be.
-use Rattle.std.specs.Prelude.{◌≡◌, ℕ, ◌<◌, Bool, false, length}
+use Rattle.std.specs.Prelude.{◌≡◌, ℕ, ◌<◌, Bool, true, false, length, Some}
 use Rattle.thy_base.specs.declared.block.Block.{Block}
 use Rattle.thy_base.specs.declared.config.Parameters.{Parameters}
 use Rattle.thy_base.specs.declared.place.Place.{Place}
@@ -9,11 +9,11 @@ use Rattle.thy_base.specs.Places.{image_blocks, dram_blocks}
 use Rattle.thy_base.specs.Store.{page_of}
 use Rattle.thy_dram.specs.Contents.{Contents}
 use Rattle.thy_place.specs.Devices.{devices_of, read_at}
-use Rattle.thy_table.specs.Listing.{Listing, IsListing, empty_table}
+use Rattle.thy_table.specs.Listing.{Listing, IsListing, entry_at, empty_table}
 use Rattle.thy_tables.specs.declared.block_entry.BttEntry.{BttEntry}
 use Rattle.thy_tables.specs.declared.page_entry.PttEntry.{PttEntry}
 use Rattle.thy_tables.specs.BlockEntry.{new_entry}
-use Rattle.thy_tables.specs.PageEntry.{no_page}
+use Rattle.thy_tables.specs.PageEntry.{no_page, is_framed}
 use Rattle.thy_switch.specs.Counts.{Tally, uncounted}
 use Rattle.thy_cell.specs.declared.cell.Cell.{Cell}
 use Rattle.thy_cell.specs.Cells.{penult, last, work}
@@ -55,7 +55,7 @@ abbrev pub work_of : State → Device → ℕ → Block
 work_of s n b = reads s n (work (cell_of s b))
 
 -- the tables list blocks and pages of memory, none twice; every block is sound under them; and the sizes fit
-pub record IsTables (s : State) : Type 0 where
+pub record AreSoundTables (s : State) : Type 0 where
   pub range : IsInRange s.p
   pub btt_size : length s.btt.entries ≡ s.p.btt
   pub btt_numbers : s.btt.numbers ≡ memory_blocks s.p
@@ -63,7 +63,11 @@ pub record IsTables (s : State) : Type 0 where
   pub ptt_size : length s.ptt.entries ≡ s.p.ptt
   pub ptt_numbers : s.ptt.numbers ≡ s.p.pages
   pub ptt_once : IsListing page_key s.ptt
+  -- a page that has an entry, and not yet all of its frame, is being promoted
+  pub live_pages : (j : ℕ) (e : PttEntry) → entry_at s.ptt j ≡ Some e → is_framed e ≡ false → e.fresh ≡ true
   pub counts_size : length s.counts.counts ≡ s.p.pages
+  pub counts_high : s.counts.high ≡ s.p.high
+  pub counts_low : s.counts.low ≡ s.p.low
   pub dram_size : length s.dram.blocks ≡ dram_blocks s.p
   pub cells : (b : ℕ) → b < memory_blocks s.p → IsSoundCell s.under_way (cell_of s b)
 

@@ -36,13 +36,13 @@ pub struct Control {
 }
 
 impl Model for Control {
-    ghost use Rattle.thy_control.specs.State.{State, IsTables};
+    ghost use Rattle.thy_control.specs.State.{State, AreSoundTables};
 
     ghost Value = { State };
 
     ghost view = { λ c. record { p = c.geometry; btt = c.btt; ptt = c.ptt; counts = c.counts; under_way = c.under_way; dram = c.dram } };
 
-    ghost invariant = { λ c. IsTables (record { p = c.geometry; btt = c.btt; ptt = c.ptt; counts = c.counts; under_way = c.under_way; dram = c.dram }) };
+    ghost invariant = { λ c. AreSoundTables (record { p = c.geometry; btt = c.btt; ptt = c.ptt; counts = c.counts; under_way = c.under_way; dram = c.dram }) };
 }
 
 /// The place of a block's entry, 0 where it has none, and the entry, or one as a new one would be.
@@ -159,7 +159,7 @@ fn answer(rule: StoreRule) -> Stored
 
 impl Control {
     ghost use Rattle.thy_control.specs.Rules.{with_block, rule_for, devices_after, state_after, IsWholeState, FailsStore};
-    ghost use Rattle.thy_control.specs.State.{IsTables, IsSized, cell_of, penult_of, work_of, reads, new_state};
+    ghost use Rattle.thy_control.specs.State.{AreSoundTables, IsSized, cell_of, penult_of, work_of, reads, new_state};
     ghost use Rattle.thy_control.specs.Guarded.{LeavesGuarded};
     ghost use Rattle.thy_control.specs.Stays.{HoldAll, Stays};
     ghost use Rattle.thy_control.specs.Versions.{KeepsCheckpoints, PutsWork};
@@ -186,7 +186,7 @@ impl Control {
 
     /// The tables are sound, and the sizes fit.
     pub fn tables(&self)
-        ensures { IsTables self.now }
+        ensures { AreSoundTables self.now }
     {
         let _under_way = &self.under_way;
     }

@@ -14,10 +14,10 @@ use Rattle.thy_place.specs.Devices.{Devices, devices_of}
 use Rattle.thy_control.specs.Keys.{block_key, page_key}
 use Rattle.thy_control.specs.Tables.{answer_of}
 use Rattle.thy_cell.specs.Store.{put_by}
-use Rattle.thy_control.specs.State.{State, IsTables, reads}
+use Rattle.thy_control.specs.State.{State, AreSoundTables, reads}
 use Rattle.thy_control.specs.Rules.{rule_for, cell_before, devices_after}
 use Rattle.thy_control.proofs.CellLemmas.{IsPlace-store}
-use Rattle.thy_control.proofs.PutLemmas.{Way, AreAfter, IsTables-with_block, IsTables-after, IsWithin-before, way_rule, way_table, way_cell, way_place, way_put, way_after, way_devices, way_all, way_state, way_failed, may_set_block, may_set_page, OnErr-of}
+use Rattle.thy_control.proofs.PutLemmas.{Way, AreAfter, AreSoundTables-with_block, AreSoundTables-after, IsWithin-before, way_rule, way_table, way_cell, way_place, way_put, way_after, way_devices, way_all, way_state, way_failed, may_set_block, may_set_page, OnErr-of}
 use Rattle.thy_control.proofs.control.Control.put.Goals as goal
 
 pub entry_for_rule-i-requires-clause-room : goal.entry_for_rule-i-requires-clause-room
@@ -77,9 +77,9 @@ invariant_of-self g c =
     = record { view = c.self.view_is; found_is = c.cell-found.ensures; rule_is = c.store_rule-rule.ensures; table_is = c.entry_for_rule-i.ensures.table; entry_is = c.entry_for_rule-i.ensures.place } in
     let kept : c.write_place.new.dram ≡ c.self.inside.dram = c.in_err-write_place.ensures.dram in
     let once : IsListing block_key c.entry_for_rule-i.new.btt = c.lists_once.ensures in
-    let with_entry = IsTables-with_block r c.args.b v c.self.invariant (subst (λ (t : Listing BttEntry). IsListing block_key t) c.entry_for_rule-i.ensures.table once) in
-    subst (λ (d : Contents). IsTables (record v { btt = c.entry_for_rule-i.new.btt; dram = d })) (sym kept)
-    (subst (λ (t : Listing BttEntry). IsTables (record v { btt = t })) (sym c.entry_for_rule-i.ensures.table) with_entry)
+    let with_entry = AreSoundTables-with_block r c.args.b v c.self.invariant (subst (λ (t : Listing BttEntry). IsListing block_key t) c.entry_for_rule-i.ensures.table once) in
+    subst (λ (d : Contents). AreSoundTables (record v { btt = c.entry_for_rule-i.new.btt; dram = d })) (sym kept)
+    (subst (λ (t : Listing BttEntry). AreSoundTables (record v { btt = t })) (sym c.entry_for_rule-i.ensures.table) with_entry)
 
 pub returns-in_err-write_place-clause-kept : goal.returns-in_err-write_place-clause-kept
 returns-in_err-write_place-clause-kept g c =
@@ -156,8 +156,8 @@ invariant_of-self-2 g c =
     let all : AreAfter c.args.b c.args.block.now s m c.set_cell.new.btt c.set_cell.new.ptt c.count_store.new.counts d
     = way_all s v c.args.b found r c.entry_for_rule-i.new.btt i w c.args.block.now m d c.after.result c.set_cell.new.btt c.set_cell.new.ptt c.count_store.new.counts c.after.ensures c.set_cell.ensures.btt c.set_cell.ensures.ptt c.count_store.ensures devices in
     let e = way_state s v c.args.b found r c.entry_for_rule-i.new.btt i w c.args.block.now m c.set_cell.new.btt c.set_cell.new.ptt c.count_store.new.counts d all in
-    subst (λ (t : State). IsTables t) (sym e)
-    (IsTables-after c.args.b c.args.block.now s m c.tables.ensures c.requires.sized c.requires.whole c.requires.block c.requires.room
+    subst (λ (t : State). AreSoundTables t) (sym e)
+    (AreSoundTables-after c.args.b c.args.block.now s m c.tables.ensures c.requires.sized c.requires.whole c.requires.block c.requires.room
     (subst (λ (t : State). IsListing block_key t.btt) e c.lists_once-2.ensures) (subst (λ (t : State). IsListing page_key t.ptt) e c.lists_once-3.ensures))
 
 pub returns-clause-state : goal.returns-clause-state
