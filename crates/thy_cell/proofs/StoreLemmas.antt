@@ -1,5 +1,5 @@
 -- What is known where a rule of a store applies, and that it leaves the entries sound.
-use Rattle.std.proofs.Common.{◌≡◌, ◌≢◌, Bool, true, false, refl}
+use Rattle.std.proofs.Common.{◌≡◌, ◌≢◌, Bool, true, false, refl, sym, ◌∙◌}
 use Rattle.thy_tables.specs.declared.page_entry.PttEntry.{PttEntry}
 use Rattle.thy_tables.specs.declared.block_entry.Version.{Version}
 use Rattle.thy_tables.specs.declared.block_entry.Version.TheVariants.{Out, Alt}
@@ -52,14 +52,15 @@ IsSoundPage-dirty u d page s = record {
   filled = s.filled;
   issued = s.issued;
   bare_place = s.bare_place;
-  bare_idle = s.bare_idle;
+  bare_target = s.bare_target;
   bare_empty = s.bare_empty;
-  fresh_home = s.fresh_home;
+  fresh_place = s.fresh_place;
+  fresh_target = s.fresh_target;
+  one_place = s.one_place;
   busy_moves = s.busy_moves;
-  idle_stays = s.idle_stays;
-  idle_unissued = s.idle_unissued;
-  busy_under_way = s.busy_under_way;
-  busy_written = s.busy_written;
+  busy_unwritten = s.busy_unwritten;
+  freed_written = s.freed_written;
+  still_unissued = s.still_unissued;
   leaving_busy = s.leaving_busy;
   leaving_home = s.leaving_home;
 }
@@ -74,7 +75,7 @@ IsSoundCell-dirty u d c s = record {
   in_nvm_bare = s.in_nvm_bare;
   pending_moves = s.pending_moves;
   pending_home = s.pending_home;
-  pending_idle = s.pending_idle;
+  pending_still = s.pending_still;
   one_buffer = s.one_buffer;
   fresh_idle = s.fresh_idle;
   framed_out = s.framed_out;
@@ -93,7 +94,7 @@ sound-work u c w s free bare one idle = record {
   in_nvm_bare = bare;
   pending_moves = s.pending_moves;
   pending_home = s.pending_home;
-  pending_idle = s.pending_idle;
+  pending_still = s.pending_still;
   one_buffer = one;
   fresh_idle = idle;
   framed_out = s.framed_out;
@@ -109,7 +110,7 @@ IsSoundCell-after_copy u c s = record {
   in_nvm_bare = s.in_nvm_bare;
   pending_moves = λ n. absurd (n refl);
   pending_home = λ n. absurd (n refl);
-  pending_idle = λ n. absurd (n refl);
+  pending_still = λ n. absurd (n refl);
   one_buffer = λ e. cc;
   fresh_idle = s.fresh_idle;
   framed_out = s.framed_out;
@@ -120,7 +121,7 @@ fresh_takes : (u : Bool) (c : Cell) → IsSoundCell u c → IsWhole c.page
     → (is_framed c.page ≡ true → c.page.busy ≡ false → c.entry.work ≢ NoWork) → c.page.fresh ≡ true → ⊥
 fresh_takes u c s whole n fresh =
     let idle : c.entry.work ≡ NoWork = s.fresh_idle fresh in
-    let busy : c.page.busy ≡ true → ⊥ = λ b. let e : c.page.fresh ≡ false = s.of_page.busy_written b in cc in
+    let busy : c.page.busy ≡ true → ⊥ = λ b. s.of_page.busy_moves b (s.of_page.fresh_place fresh ∙ sym (s.of_page.fresh_target fresh)) in
     by_cases (is_framed c.page) c.page.busy
     (λ framed not_busy. n framed not_busy idle)
     (λ bare. let e : c.page.fresh ≡ false = whole.framed bare in cc)

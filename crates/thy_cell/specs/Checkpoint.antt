@@ -1,5 +1,5 @@
 -- What a seal, a commit, a merge, a promotion and the write of a page make of a block's entries, and their laws.
-use Rattle.std.specs.Prelude.{◌≡◌, ◌≢◌, ℕ, ◌+◌, Bool, true, false, ◌||◌, Option, Some, None}
+use Rattle.std.specs.Prelude.{◌≡◌, ◌≢◌, ℕ, ◌+◌, ◌≤◌, ◌==◌, Bool, true, false, ◌||◌, not, Option, Some, None}
 use Rattle.thy_base.specs.declared.block.Block.{Block}
 use Rattle.thy_base.specs.declared.place.Place.{Place}
 use Rattle.thy_tables.specs.declared.block_entry.BttEntry.{BttEntry}
@@ -13,7 +13,7 @@ use Rattle.thy_tables.specs.declared.page_entry.Site.{Site}
 use Rattle.thy_tables.specs.declared.page_entry.Site.TheVariants.{AtHome, AtAlternate}
 use Rattle.thy_cell.specs.declared.cell.Cell.{Cell}
 use Rattle.thy_tables.specs.BlockEntry.{new_entry, other_version}
-use Rattle.thy_tables.specs.PageEntry.{other_site, no_page, is_framed}
+use Rattle.thy_tables.specs.PageEntry.{page_blocks, other_site, no_page, is_framed}
 use Rattle.thy_cell.specs.Cells.{penult, last, work}
 use Rattle.thy_cell.specs.Sound.{IsSoundCell, IsWhole, Holds}
 
@@ -87,6 +87,13 @@ committed c = record c {
 abbrev pub merged : Cell → Cell
 merged c = record c { entry = new_entry c.entry.block; page = record c.page { dirty = true } }
 
+-- a page after one more of its blocks was written out: with the last its frame is free again, unless the page leaves
+abbrev pub page_issued : PttEntry → PttEntry
+page_issued page = record page {
+  issued = page.issued + 1;
+  busy = page.leaving || not (page.issued + 1 == page_blocks);
+}
+
 -- a block after its page was stored to, one block more of it was copied into the frame, and one more was written out
 abbrev pub with_dirty : Cell → Cell
 with_dirty c = record c { page = record c.page { dirty = true } }
@@ -95,7 +102,7 @@ abbrev pub with_filled : Cell → Cell
 with_filled c = record c { page = record c.page { filled = c.page.filled + 1 } }
 
 abbrev pub with_issued : Cell → Cell
-with_issued c = record c { page = record c.page { issued = c.page.issued + 1 } }
+with_issued c = record c { page = page_issued c.page }
 
 -- a block after a seal or a commit, which write no place: what each version reads as then
 pub record Moves (reads : Place → Block) (c d : Cell) (penult_now last_now : Block) : Type 0 where
@@ -111,7 +118,7 @@ pub record IsBare (c : Cell) : Type 0 where
 -- nothing of the block is left to copy or to write
 pub record IsCopied (c : Cell) : Type 0 where
   pub copied : c.entry.pend ≡ Settled
-  pub written : c.page.busy ≡ true → c.page.issued ≡ 64
+  pub written : c.page.busy ≡ true → 64 ≤ c.page.issued
 
 -- A seal: what was the work is the last version now, and the committed one stays
 abbrev pub SealKeepsSound : Type 0

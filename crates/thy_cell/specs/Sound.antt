@@ -26,15 +26,16 @@ pub record IsSoundPage (under_way : Bool) (page : PttEntry) : Type 0 where
   pub issued : page.issued ≤ 64
   -- a page that is not framed stands at home in both checkpoints; it is empty, or being promoted
   pub bare_place : is_framed page ≡ false → page.place ≡ AtHome
-  pub bare_idle : is_framed page ≡ false → page.busy ≡ false
+  pub bare_target : is_framed page ≡ false → page.target ≡ AtHome
   pub bare_empty : is_framed page ≡ false → page.fresh ≡ false → page.filled ≡ 0
-  pub fresh_home : page.fresh ≡ true → page.place ≡ AtHome
-  -- a page moves between two checkpoints exactly where it is busy
+  pub fresh_place : page.fresh ≡ true → page.place ≡ AtHome
+  pub fresh_target : page.fresh ≡ true → page.target ≡ AtHome
+  -- a page that moves between two checkpoints is busy until its last block was written, one that leaves until the commit
+  pub one_place : under_way ≡ false → page.place ≡ page.target
   pub busy_moves : page.busy ≡ true → page.place ≢ page.target
-  pub idle_stays : page.busy ≡ false → page.place ≡ page.target
-  pub idle_unissued : page.busy ≡ false → page.issued ≡ 0
-  pub busy_under_way : page.busy ≡ true → under_way ≡ true
-  pub busy_written : page.busy ≡ true → page.fresh ≡ false
+  pub busy_unwritten : page.busy ≡ true → page.leaving ≡ false → page.issued < 64
+  pub freed_written : page.place ≢ page.target → page.busy ≡ false → page.issued ≡ 64
+  pub still_unissued : page.place ≡ page.target → page.issued ≡ 0
   pub leaving_busy : page.leaving ≡ true → page.busy ≡ true
   pub leaving_home : page.leaving ≡ true → page.target ≡ AtHome
 
@@ -52,7 +53,7 @@ pub record IsSoundCell (under_way : Bool) (c : Cell) : Type 0 where
   -- what has to be copied moves between the checkpoints, within a page that does not
   pub pending_moves : c.entry.pend ≢ Settled → c.entry.v0 ≢ c.entry.v1
   pub pending_home : c.entry.pend ≢ Settled → c.page.target ≡ AtHome
-  pub pending_idle : c.entry.pend ≢ Settled → c.page.busy ≡ false
+  pub pending_still : c.entry.pend ≢ Settled → c.page.place ≡ AtHome
   pub one_buffer : c.entry.pend ≡ FromBuffer → c.entry.work ≢ InBuffer
   -- a page that was promoted since the seal takes every store, and one from before has no listed block
   pub fresh_idle : c.page.fresh ≡ true → c.entry.work ≡ NoWork
@@ -70,7 +71,7 @@ pub record Holds (reads : Place → Block) (c : Cell) : Type 0 where
   -- in a promotion what was copied is the working version
   pub copied : c.entry.block % 64 < c.page.filled → c.page.fresh ≡ true → reads (frame_at (seat_of c)) ≡ reads (work c)
   -- what was written of a busy page stands at its target
-  pub issued : c.entry.block % 64 < c.page.issued → reads (target c) ≡ reads (frame_at (seat_of c))
+  pub issued : c.page.busy ≡ true → c.entry.block % 64 < c.page.issued → reads (target c) ≡ reads (frame_at (seat_of c))
 
 -- a place holds this block now, and every other place reads as before
 pub record Puts (p : Parameters) (place : Place) (block : Block) (old new : Place → Block) : Type 0 where

@@ -4,10 +4,10 @@ use Rattle.thy_base.specs.declared.block.Block.{Block}
 use Rattle.thy_base.specs.declared.config.Parameters.{Parameters}
 use Rattle.thy_base.specs.declared.place.Place.{Place}
 use Rattle.thy_tables.specs.declared.block_entry.Pending.TheVariants.{Settled}
-use Rattle.thy_tables.specs.declared.block_entry.Working.TheVariants.{InBuffer}
+use Rattle.thy_tables.specs.declared.block_entry.Working.TheVariants.{NoWork, InBuffer}
 use Rattle.thy_cell.specs.declared.cell.Cell.{Cell}
-use Rattle.thy_tables.specs.BlockEntry.{new_entry}
-use Rattle.thy_tables.specs.PageEntry.{promoted_page, no_page, is_framed}
+use Rattle.thy_tables.specs.BlockEntry.{new_entry, listed_entry}
+use Rattle.thy_tables.specs.PageEntry.{promoted_page, no_page, listed_page, is_framed}
 use Rattle.thy_cell.specs.Cells.{seat_of, frame_at, penult, target, last, work}
 use Rattle.thy_cell.specs.Sound.{IsWithin, IsSoundCell, Holds, Puts}
 use Rattle.thy_cell.specs.Rules.{after_copy}
@@ -21,13 +21,35 @@ pub record Keeps (under_way : Bool) (old new : Place → Block) (c d : Cell) : T
   pub reads : Reads old new c d (old (work c))
   pub holds : Holds old c → Holds new d
 
--- a block that no table lists is sound, and so is one whose page was just listed
+-- a block that no table lists is sound, and so is one whose page is to be promoted
 pub record NewIsSound (i j block page : ℕ) (under_way : Bool) : Type 0 where
   pub bare : IsSoundCell under_way (record { i = i; entry = new_entry block; j = j; page = no_page page })
   pub promoted : IsSoundCell under_way (record { i = i; entry = new_entry block; j = j; page = promoted_page page })
 
 abbrev pub NewCellsAreSound : Type 0
 NewCellsAreSound = (i j block page : ℕ) (under_way : Bool) → NewIsSound i j block page under_way
+
+-- so are a block and a page that a boot finds listed in the committed checkpoint
+pub record ListedIsSound (i j block page : ℕ) : Type 0 where
+  pub of_block : IsSoundCell false (record { i = i; entry = listed_entry block; j = j; page = no_page page })
+  pub of_page : IsSoundCell false (record { i = i; entry = new_entry block; j = j; page = listed_page page })
+
+abbrev pub ListedCellsAreSound : Type 0
+ListedCellsAreSound = (i j block page : ℕ) → ListedIsSound i j block page
+
+-- the load of a listed page's block into its frame: both checkpoints have it as before, a load gives it, and its places hold
+-- what they have to; nothing was to be held before
+pub record Loads (old new : Place → Block) (c : Cell) : Type 0 where
+  pub reads : Reads old new c c (old (penult c))
+  pub holds : Holds new c
+
+abbrev pub FrameLoads : Type 0
+FrameLoads =
+    (p : Parameters) (c : Cell) (old new : Place → Block)
+    → IsWithin p (seat_of c) → IsSoundCell false c
+    → is_framed c.page ≡ true → c.page.fresh ≡ false → c.entry.work ≡ NoWork
+    → Puts p (frame_at (seat_of c)) (old (penult c)) old new
+    → Loads old new c
 
 -- the merge of a buffer into the frame
 abbrev pub MergeKeeps : Type 0
@@ -37,10 +59,19 @@ MergeKeeps =
     → Puts p (frame_at (seat_of c)) (old (work c)) old new
     → Keeps false old new c (merged c)
 
+-- a step leaves the places of a block as they read
+pub record ReadsSame (old new : Place → Block) (c : Cell) : Type 0 where
+  pub penult_same : new (penult c) ≡ old (penult c)
+  pub target_same : new (target c) ≡ old (target c)
+  pub last_same : new (last c) ≡ old (last c)
+  pub work_same : new (work c) ≡ old (work c)
+  pub frame_same : new (frame_at (seat_of c)) ≡ old (frame_at (seat_of c))
+
 -- a store or a merge into the frame of another block of the page
 abbrev pub DirtyKeeps : Type 0
 DirtyKeeps =
-    (under_way : Bool) (c : Cell) → IsSoundCell under_way c → IsSoundCell under_way (with_dirty c)
+    (under_way : Bool) (c : Cell) (old new : Place → Block)
+    → IsSoundCell under_way c → ReadsSame old new c → Keeps under_way old new c (with_dirty c)
 
 -- the copy of a promoted page's next block into its frame, for that block
 abbrev pub PromotionKeeps : Type 0
@@ -52,13 +83,6 @@ PromotionKeeps =
     → Keeps under_way old new c (with_filled c)
 
 -- and for the others of its page, whose places the write leaves
-pub record ReadsSame (old new : Place → Block) (c : Cell) : Type 0 where
-  pub penult_same : new (penult c) ≡ old (penult c)
-  pub target_same : new (target c) ≡ old (target c)
-  pub last_same : new (last c) ≡ old (last c)
-  pub work_same : new (work c) ≡ old (work c)
-  pub frame_same : new (frame_at (seat_of c)) ≡ old (frame_at (seat_of c))
-
 abbrev pub PromotionKeepsOthers : Type 0
 PromotionKeepsOthers =
     (under_way : Bool) (c : Cell) (old new : Place → Block)
@@ -75,7 +99,8 @@ CopyKeeps =
     → Puts p (target c) (old (last c)) old new
     → Keeps true old new c (after_copy c)
 
--- the write of a busy page's next block to its target, for that block
+-- the write of a busy page's next block to its target, for that block; with the last the frame is free, and the version of the
+-- checkpoint under way is read at the target
 abbrev pub PageWriteKeeps : Type 0
 PageWriteKeeps =
     (p : Parameters) (c : Cell) (old new : Place → Block)
@@ -89,8 +114,8 @@ abbrev pub PageWriteKeepsOthers : Type 0
 PageWriteKeepsOthers =
     (c : Cell) (old new : Place → Block)
     → IsSoundCell true c → c.page.busy ≡ true
-    → c.page.issued ≢ c.entry.block % 64 → c.page.issued < 64
-    → ReadsSame old new c
+    → c.page.issued ≢ c.entry.block % 64 → c.page.issued < 64 → c.entry.block % 64 < 64
+    → ReadsSame old new c → Holds old c
     → Keeps true old new c (with_issued c)
 
 -- a step that moves neither the entries of a block nor its places keeps it

@@ -1,7 +1,7 @@
 //! Laws of the rules, each the contract of a function that does nothing.
 ghost use Rattle.thy_cell.specs.Store.{StoreKeepsSound, StoreGoesElsewhere, StoreLeavesTarget, StoreKeepsPlaces, StoreReads, StoreHolds};
 ghost use Rattle.thy_cell.specs.Checkpoint.{SealKeepsSound, SealMoves, CommitKeepsSound, CommitMoves};
-ghost use Rattle.thy_cell.specs.Steps.{NewCellsAreSound, MergeKeeps, DirtyKeeps, PromotionKeeps, PromotionKeepsOthers, CopyKeeps, PageWriteKeeps, PageWriteKeepsOthers, OthersKeep};
+ghost use Rattle.thy_cell.specs.Steps.{NewCellsAreSound, ListedCellsAreSound, FrameLoads, MergeKeeps, DirtyKeeps, PromotionKeeps, PromotionKeepsOthers, CopyKeeps, PageWriteKeeps, PageWriteKeepsOthers, OthersKeep};
 
 /// A store leaves the entries of its block sound.
 pub fn a_store_keeps_entries_sound()
@@ -34,9 +34,19 @@ pub fn a_store_leaves_what_has_to_stand()
     ensures { StoreHolds }
 {}
 
-/// A block that no table lists is sound, and so is one whose page was just listed.
+/// A block that no table lists is sound, and so is one whose page is to be promoted.
 pub fn new_cells_are_sound()
     ensures { NewCellsAreSound }
+{}
+
+/// A block that the committed checkpoint lists is sound, and so is one whose page it lists.
+pub fn listed_cells_are_sound()
+    ensures { ListedCellsAreSound }
+{}
+
+/// With its committed version in its page's frame, a block of a page that was found listed holds what it has to.
+pub fn a_frame_is_loaded()
+    ensures { FrameLoads }
 {}
 
 /// A seal leaves the entries of a block sound.
@@ -64,8 +74,8 @@ pub fn a_merge_keeps_versions()
     ensures { MergeKeeps }
 {}
 
-/// A write into a page's frame leaves the entries of its other blocks sound.
-pub fn a_dirty_page_is_sound()
+/// A write into a page's frame keeps every version of its other blocks.
+pub fn a_dirty_page_keeps_others()
     ensures { DirtyKeeps }
 {}
 
@@ -84,7 +94,7 @@ pub fn a_copy_keeps_versions()
     ensures { CopyKeeps }
 {}
 
-/// The write of a page's block keeps every version of it.
+/// The write of a page's block keeps every version of it, also where it is the last and frees the frame.
 pub fn a_page_write_keeps_versions()
     ensures { PageWriteKeeps }
 {}

@@ -35,12 +35,12 @@ use Rattle.thy_control.proofs.KeepLemmas.{same_start, last-new, work-new, target
 hold_same : (old new : Place → Block) (c : Cell) → new (target c) ≡ old (target c) → new (last c) ≡ old (last c) → new (work c) ≡ old (work c)
     → (is_framed c.page ≡ true → new (frame_at (seat_of c)) ≡ old (frame_at (seat_of c)))
     → (c.page.fresh ≡ true → new (frame_at (seat_of c)) ≡ old (frame_at (seat_of c)))
-    → (c.entry.block % 64 < c.page.issued → new (frame_at (seat_of c)) ≡ old (frame_at (seat_of c)))
+    → (c.page.busy ≡ true → new (frame_at (seat_of c)) ≡ old (frame_at (seat_of c)))
     → Holds old c → Holds new c
-hold_same old new c t l w framed fresh issued h = record {
+hold_same old new c t l w framed fresh busy h = record {
   clean = λ f d e. framed f ∙ h.clean f d e ∙ sym l;
   copied = λ k f. fresh f ∙ h.copied k f ∙ sym w;
-  issued = λ k. t ∙ h.issued k ∙ sym (issued k);
+  issued = λ b k. t ∙ h.issued b k ∙ sym (busy b);
 }
 
 -- a block whose page is dirty now
@@ -67,7 +67,7 @@ hold_start reads c d e p j t l w h =
     record {
       clean = λ f a b. ap reads frame ∙ h.clean (ap is_framed (sym p) ∙ f) (ap (λ (x : PttEntry). x.dirty) (sym p) ∙ a) (ap (λ (x : PttEntry). x.fresh) (sym p) ∙ b) ∙ ap reads (sym l);
       copied = λ k f. ap reads frame ∙ h.copied (omega (arith, k, ap (λ n. n % 64) block, ap (λ (x : PttEntry). x.filled) p)) (ap (λ (x : PttEntry). x.fresh) (sym p) ∙ f) ∙ ap reads (sym w);
-      issued = λ k. ap reads t ∙ h.issued (omega (arith, k, ap (λ n. n % 64) block, ap (λ (x : PttEntry). x.issued) p)) ∙ ap reads (sym frame);
+      issued = λ b k. ap reads t ∙ h.issued (ap (λ (x : PttEntry). x.busy) (sym p) ∙ b) (omega (arith, k, ap (λ n. n % 64) block, ap (λ (x : PttEntry). x.issued) p)) ∙ ap reads (sym frame);
     }
 
 pub HoldAll-after : StoreHolds → (b : ℕ) (block : Block) (s : State) (n : Device) → AreSoundTables s → IsSized s n → IsWholeState s → b < memory_blocks s.p → 0 < free_count s.btt
@@ -110,7 +110,7 @@ HoldAll-after laws b block s n t sized whole inside room hold m l =
           (at (target d) (IsPlace-target s.p d w) (owned-target u m d o)) (at (last d) (IsPlace-last s.p d w) (owned-last u m d o)) (at (work d) (IsPlace-work s.p d w) (owned-work u m d o))
           (λ f. frame (λ e. let no : is_framed d.page ≡ false = ap is_framed e in cc))
           (λ f. frame (λ e. let no : d.page.fresh ≡ false = ap (λ (x : PttEntry). x.fresh) e in cc))
-          (λ k. frame (λ e. let no : d.page.issued ≡ 0 = ap (λ (x : PttEntry). x.issued) e in absurd (omega (arith, k, no))))
+          (λ f. frame (λ e. let no : d.page.busy ≡ false = ap (λ (x : PttEntry). x.busy) e in cc))
           (hold m l) in
           hold_or_dirty new r (cell_of u m) (cell_of after m) (cell-with_cell_other r b u m listed ne) (subst (λ (x : Cell). Holds new x) (sym same) kept)
     ]

@@ -35,9 +35,9 @@ no_page page = page_at AtHome page
 abbrev pub promoted_page : ℕ → PttEntry
 promoted_page page = record (page_at AtHome page) { fresh = true }
 
--- one that the committed checkpoint has in its entry's alternate page
+-- one that the committed checkpoint has in its entry's alternate page: it counts as framed at once
 abbrev pub listed_page : ℕ → PttEntry
-listed_page page = page_at AtAlternate page
+listed_page page = record (page_at AtAlternate page) { filled = page_blocks }
 
 -- its frame holds the whole page
 abbrev pub is_framed : PttEntry → Bool

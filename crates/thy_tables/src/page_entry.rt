@@ -29,13 +29,14 @@ pub struct PttEntry {
     pub dirty: bool,
     /// It was promoted, and its frame was not yet written to the NVM.
     pub fresh: bool,
-    /// Its frame belongs to the checkpoint under way, which writes it to the target.
+    /// Its frame belongs to the checkpoint under way, which writes it to the target: with the last block it is
+    /// free again, unless the page leaves.
     pub busy: bool,
     /// It leaves the table at the next commit.
     pub leaving: bool,
     /// How many blocks of its frame are filled, from the first on: at most 64, and then it is framed.
     pub filled: u8,
-    /// Of a busy page, how many blocks the checkpoint has issued, from the first on: at most 64.
+    /// How many blocks the checkpoint under way has written to the target, from the first on: at most 64.
     pub issued: u8,
 }
 
@@ -79,13 +80,15 @@ impl PttEntry {
         }
     }
 
-    /// An entry of a page that the committed checkpoint has in it, and that is to be loaded into its frame.
+    /// An entry of a page that the committed checkpoint has in it. It counts as framed at once: what its frame
+    /// holds comes later, as the boot loads each block of the page.
     pub fn listed(page: u64) -> PttEntry
         ensures { result ≡ listed_page page }
     {
         PttEntry {
             place: Site::AtAlternate,
             target: Site::AtAlternate,
+            filled: PAGE_BLOCKS,
             ..PttEntry::new(page)
         }
     }
