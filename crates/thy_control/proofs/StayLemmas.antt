@@ -25,19 +25,20 @@ use Rattle.thy_cell.specs.declared.cell.StoreRule.TheVariants.{ToFrame, ToBuffer
 use Rattle.thy_cell.specs.Cells.{penult, target}
 use Rattle.thy_cell.specs.Rules.{store_place, after_store}
 use Rattle.thy_cell.specs.Store.{put_by}
-use Rattle.thy_cell.specs.Checkpoint.{IsCopied, with_dirty}
 use Rattle.thy_control.specs.Find.{with_found}
 use Rattle.thy_control.specs.Keys.{block_key, page_key}
 use Rattle.thy_control.specs.Tables.{btt_with}
 use Rattle.thy_control.specs.State.{State, AreSoundTables, IsSized, cell_of, reads}
 use Rattle.thy_control.specs.Rules.{with_block, with_cell, rule_for, cell_before, devices_after, state_after, FailsStore}
 use Rattle.thy_control.specs.Versions.{KeepsCheckpoints}
-use Rattle.thy_control.specs.Stays.{Stays, stays_same, HoldAll, lists0, lists1, listed_block, listed_page}
+use Rattle.thy_control.specs.Stays.{CellStays, Stays, HoldAll}
+use Rattle.thy_control.specs.OverCalls.{cell_same, cell_on, stays_same}
+use Rattle.thy_control.specs.CheckpointTables.{tables0, tables1, entry_lists, page_lists}
 use Rattle.thy_control.specs.Guarded.{LeavesGuarded}
 use Rattle.thy_control.proofs.FindLemmas.{found_entry, entry_for-some}
-use Rattle.thy_control.proofs.StateLemmas.{IsListed, IsListed-with_block, OrDirty, cell-with_block_other, cell-with_block_same, cell-with_cell_same, cell-with_cell_other}
+use Rattle.thy_control.proofs.StateLemmas.{IsListed, IsListed-with_block, OrDirty, cell-with_block_other, entry-with_block, cell-with_cell_same, cell-with_cell_other}
 use Rattle.thy_control.proofs.PutLemmas.{has_free}
-use Rattle.thy_control.proofs.KeepLemmas.{same_start, or_dirty, penult-new, target-new}
+use Rattle.thy_control.proofs.KeepLemmas.{same_start, penult-new, target-new}
 use Rattle.thy_control.proofs.GuardLemmas.{behind_slots}
 
 -- where another element maps to the same, so does the list
@@ -90,24 +91,24 @@ map-page f t b e listed same =
     map-set_same (option_and_then f) t.ptt.entries (cell_of t b).j (Some e) None (same ∙ ap f is ∙ sym (ap (option_and_then f) there.1)) there.3
 
 -- both tables are the same lists, with an entry more
-lists0-with : (r : StoreRule) (b : ℕ) (s : State) → lists0 (with_block r b s) ≡ lists0 s
-lists0-with r b s = ap (λ (l : List (Option ℕ)). record (lists0 s) { btt = l }) (map-with (λ e. listed_block e.v0 e.block) (λ b. refl) r b s.btt)
+tables0-with : (r : StoreRule) (b : ℕ) (s : State) → tables0 (with_block r b s) ≡ tables0 s
+tables0-with r b s = ap (λ (l : List (Option ℕ)). record (tables0 s) { btt = l }) (map-with (λ e. entry_lists e.v0 e.block) (λ b. refl) r b s.btt)
 
-lists1-with : (r : StoreRule) (b : ℕ) (s : State) → lists1 (with_block r b s) ≡ lists1 s
-lists1-with r b s = ap (λ (l : List (Option ℕ)). record (lists1 s) { btt = l }) (map-with (λ e. listed_block e.v1 e.block) (λ b. refl) r b s.btt)
+tables1-with : (r : StoreRule) (b : ℕ) (s : State) → tables1 (with_block r b s) ≡ tables1 s
+tables1-with r b s = ap (λ (l : List (Option ℕ)). record (tables1 s) { btt = l }) (map-with (λ e. entry_lists e.v1 e.block) (λ b. refl) r b s.btt)
 
 -- and with the entries of a block as a rule leaves them
-lists0-cell : (r : StoreRule) (b : ℕ) (t : State) → IsListed r b t → lists0 (with_cell r (after_store r (cell_of t b)) t) ≡ lists0 t
-lists0-cell ToFrame b t l = ap (λ (x : List (Option ℕ)). record (lists0 t) { ptt = x }) (map-page (λ e. listed_page e.place e.page) t b (record (cell_of t b).page { dirty = true }) (l.page refl) refl)
-lists0-cell ToBuffer b t l = ap (λ (x : List (Option ℕ)). record (lists0 t) { btt = x }) (map-block (λ e. listed_block e.v0 e.block) t b (after_store ToBuffer (cell_of t b)).entry (l.block (λ e. cc)) refl)
-lists0-cell ToNvm b t l = ap (λ (x : List (Option ℕ)). record (lists0 t) { btt = x }) (map-block (λ e. listed_block e.v0 e.block) t b (after_store ToNvm (cell_of t b)).entry (l.block (λ e. cc)) refl)
-lists0-cell PendingFirst b t l = ap (λ (x : List (Option ℕ)). record (lists0 t) { btt = x }) (map-block (λ e. listed_block e.v0 e.block) t b (after_store PendingFirst (cell_of t b)).entry (l.block (λ e. cc)) refl)
+tables0-cell : (r : StoreRule) (b : ℕ) (t : State) → IsListed r b t → tables0 (with_cell r (after_store r (cell_of t b)) t) ≡ tables0 t
+tables0-cell ToFrame b t l = ap (λ (x : List (Option ℕ)). record (tables0 t) { ptt = x }) (map-page (λ e. page_lists e.place e.page) t b (record (cell_of t b).page { dirty = true }) (l.page refl) refl)
+tables0-cell ToBuffer b t l = ap (λ (x : List (Option ℕ)). record (tables0 t) { btt = x }) (map-block (λ e. entry_lists e.v0 e.block) t b (after_store ToBuffer (cell_of t b)).entry (l.block (λ e. cc)) refl)
+tables0-cell ToNvm b t l = ap (λ (x : List (Option ℕ)). record (tables0 t) { btt = x }) (map-block (λ e. entry_lists e.v0 e.block) t b (after_store ToNvm (cell_of t b)).entry (l.block (λ e. cc)) refl)
+tables0-cell PendingFirst b t l = ap (λ (x : List (Option ℕ)). record (tables0 t) { btt = x }) (map-block (λ e. entry_lists e.v0 e.block) t b (after_store PendingFirst (cell_of t b)).entry (l.block (λ e. cc)) refl)
 
-lists1-cell : (r : StoreRule) (b : ℕ) (t : State) → IsListed r b t → lists1 (with_cell r (after_store r (cell_of t b)) t) ≡ lists1 t
-lists1-cell ToFrame b t l = ap (λ (x : List (Option ℕ)). record (lists1 t) { ptt = x }) (map-page (λ e. listed_page e.target e.page) t b (record (cell_of t b).page { dirty = true }) (l.page refl) refl)
-lists1-cell ToBuffer b t l = ap (λ (x : List (Option ℕ)). record (lists1 t) { btt = x }) (map-block (λ e. listed_block e.v1 e.block) t b (after_store ToBuffer (cell_of t b)).entry (l.block (λ e. cc)) refl)
-lists1-cell ToNvm b t l = ap (λ (x : List (Option ℕ)). record (lists1 t) { btt = x }) (map-block (λ e. listed_block e.v1 e.block) t b (after_store ToNvm (cell_of t b)).entry (l.block (λ e. cc)) refl)
-lists1-cell PendingFirst b t l = ap (λ (x : List (Option ℕ)). record (lists1 t) { btt = x }) (map-block (λ e. listed_block e.v1 e.block) t b (after_store PendingFirst (cell_of t b)).entry (l.block (λ e. cc)) refl)
+tables1-cell : (r : StoreRule) (b : ℕ) (t : State) → IsListed r b t → tables1 (with_cell r (after_store r (cell_of t b)) t) ≡ tables1 t
+tables1-cell ToFrame b t l = ap (λ (x : List (Option ℕ)). record (tables1 t) { ptt = x }) (map-page (λ e. page_lists e.target e.page) t b (record (cell_of t b).page { dirty = true }) (l.page refl) refl)
+tables1-cell ToBuffer b t l = ap (λ (x : List (Option ℕ)). record (tables1 t) { btt = x }) (map-block (λ e. entry_lists e.v1 e.block) t b (after_store ToBuffer (cell_of t b)).entry (l.block (λ e. cc)) refl)
+tables1-cell ToNvm b t l = ap (λ (x : List (Option ℕ)). record (tables1 t) { btt = x }) (map-block (λ e. entry_lists e.v1 e.block) t b (after_store ToNvm (cell_of t b)).entry (l.block (λ e. cc)) refl)
+tables1-cell PendingFirst b t l = ap (λ (x : List (Option ℕ)). record (tables1 t) { btt = x }) (map-block (λ e. entry_lists e.v1 e.block) t b (after_store PendingFirst (cell_of t b)).entry (l.block (λ e. cc)) refl)
 
 -- the places of both checkpoints
 place-with : (f : Cell → Place) → ((c : Cell) (k b : ℕ) → c.entry ≡ new_entry b → f (record c { i = k }) ≡ f c) → (r : StoreRule) (b : ℕ) (s : State) (k : ℕ)
@@ -117,52 +118,36 @@ place-with f free r b s k = elim (cases_eq k b) as (λ _. f (cell_of (with_block
   | inr ne ↦ ap f (cell-with_block_other r b s k ne)
 ]
 
-place-cell : (f : Cell → Place) → ((c : Cell) → f (with_dirty c) ≡ f c) → ((r : StoreRule) (c : Cell) → f (after_store r c) ≡ f c) → (r : StoreRule) (b : ℕ) (t : State) (k : ℕ) → IsListed r b t
-    → f (cell_of (with_cell r (after_store r (cell_of t b)) t) k) ≡ f (cell_of t k)
-place-cell f dirty after r b t k l = elim (cases_eq k b) as (λ _. f (cell_of (with_cell r (after_store r (cell_of t b)) t) k) ≡ f (cell_of t k)) [
-  | inl e ↦ subst (λ (j : ℕ). f (cell_of (with_cell r (after_store r (cell_of t b)) t) j) ≡ f (cell_of t j)) (sym e) (ap f (cell-with_cell_same r b t l) ∙ after r (cell_of t b))
-  | inr ne ↦ or_dirty f dirty r (cell_of t k) (cell_of (with_cell r (after_store r (cell_of t b)) t) k) (cell-with_cell_other r b t k l ne)
-]
+-- a block with an entry
+stays-with : (r : StoreRule) (b : ℕ) (s : State) (k : ℕ) → CellStays (cell_of s k) (cell_of (with_block r b s) k)
+stays-with r b s k = record {
+  penult_same = place-with penult penult-new r b s k;
+  target_same = place-with target target-new r b s k;
+  settled = λ h. ap (λ (e : BttEntry). e.pend) (entry-with_block r b s k) ∙ h;
+  busy_before = λ h. h;
+  issued = omega arith;
+}
 
-penult-after : (r : StoreRule) (c : Cell) → penult (after_store r c) ≡ penult c
-penult-after ToFrame c = refl
-penult-after ToBuffer c = refl
-penult-after ToNvm c = refl
-penult-after PendingFirst c = refl
+-- a block as a rule leaves it
+stays-after : (r : StoreRule) (c : Cell) → CellStays c (after_store r c)
+stays-after ToFrame c = record { penult_same = refl; target_same = refl; settled = λ h. h; busy_before = λ h. h; issued = omega arith }
+stays-after ToBuffer c = record { penult_same = refl; target_same = refl; settled = λ h. h; busy_before = λ h. h; issued = omega arith }
+stays-after ToNvm c = record { penult_same = refl; target_same = refl; settled = λ h. h; busy_before = λ h. h; issued = omega arith }
+stays-after PendingFirst c = record { penult_same = refl; target_same = refl; settled = λ h. refl; busy_before = λ h. h; issued = omega arith }
 
-target-after : (r : StoreRule) (c : Cell) → target (after_store r c) ≡ target c
-target-after ToFrame c = refl
-target-after ToBuffer c = refl
-target-after ToNvm c = refl
-target-after PendingFirst c = refl
+-- and another block
+stays-or_dirty : (r : StoreRule) (c d : Cell) → OrDirty r c d → CellStays c d
+stays-or_dirty r c d (inl e) = subst (λ (x : Cell). CellStays c x) (sym e) (cell_same c)
+stays-or_dirty r c d (inr e) = subst (λ (x : Cell). CellStays c x) (sym e.1) (stays-after ToFrame c)
 
--- what was copied and written stays so
-copied-moved : (c : Cell) (k : ℕ) → IsCopied c → IsCopied (record c { i = k })
-copied-moved c k h = record { copied = h.copied; written = h.written }
-
-copied-after : (r : StoreRule) (c : Cell) → IsCopied c → IsCopied (after_store r c)
-copied-after ToFrame c h = record { copied = h.copied; written = h.written }
-copied-after ToBuffer c h = record { copied = h.copied; written = h.written }
-copied-after ToNvm c h = record { copied = h.copied; written = h.written }
-copied-after PendingFirst c h = record { copied = refl; written = h.written }
-
-copied-or_dirty : (r : StoreRule) (c d : Cell) → OrDirty r c d → IsCopied c → IsCopied d
-copied-or_dirty r c d (inl e) h = subst (λ (x : Cell). IsCopied x) (sym e) h
-copied-or_dirty r c d (inr e) h = subst (λ (x : Cell). IsCopied x) (sym e.1) (record { copied = h.copied; written = h.written })
-
-copied-with : (r : StoreRule) (b : ℕ) (s : State) (k : ℕ) → IsCopied (cell_of s k) → IsCopied (cell_of (with_block r b s) k)
-copied-with r b s k h = elim (cases_eq k b) as (λ _. IsCopied (cell_of (with_block r b s) k)) [
-  | inl e ↦ subst (λ (j : ℕ). IsCopied (cell_of (with_block r b s) j)) (sym e)
-      (subst (λ (c : Cell). IsCopied c) (sym (cell-with_block_same r b s)) (copied-moved (cell_of s b) _ (subst (λ (j : ℕ). IsCopied (cell_of s j)) e h)))
-  | inr ne ↦ subst (λ (c : Cell). IsCopied c) (sym (cell-with_block_other r b s k ne)) h
-]
-
-copied-cell : (r : StoreRule) (b : ℕ) (t : State) (k : ℕ) → IsListed r b t → IsCopied (cell_of t k) → IsCopied (cell_of (with_cell r (after_store r (cell_of t b)) t) k)
-copied-cell r b t k l h = elim (cases_eq k b) as (λ _. IsCopied (cell_of (with_cell r (after_store r (cell_of t b)) t) k)) [
-  | inl e ↦ subst (λ (j : ℕ). IsCopied (cell_of (with_cell r (after_store r (cell_of t b)) t) j)) (sym e)
-      (subst (λ (c : Cell). IsCopied c) (sym (cell-with_cell_same r b t l)) (copied-after r (cell_of t b) (subst (λ (j : ℕ). IsCopied (cell_of t j)) e h)))
-  | inr ne ↦ copied-or_dirty r (cell_of t k) (cell_of (with_cell r (after_store r (cell_of t b)) t) k) (cell-with_cell_other r b t k l ne) h
-]
+stays-cell : (r : StoreRule) (b : ℕ) (t : State) (k : ℕ) → IsListed r b t → CellStays (cell_of t k) (cell_of (with_cell r (after_store r (cell_of t b)) t) k)
+stays-cell r b t k l =
+    let u : State = with_cell r (after_store r (cell_of t b)) t in
+    elim (cases_eq k b) as (λ _. CellStays (cell_of t k) (cell_of u k)) [
+      | inl e ↦ subst (λ (j : ℕ). CellStays (cell_of t j) (cell_of u j)) (sym e)
+          (subst (λ (c : Cell). CellStays (cell_of t b) c) (sym (cell-with_cell_same r b t l)) (stays-after r (cell_of t b)))
+      | inr ne ↦ stays-or_dirty r (cell_of t k) (cell_of u k) (cell-with_cell_other r b t k l ne)
+    ]
 
 -- what stands before the homes reads as before
 low-reads : (side : Bool) (at x : ℕ) (block : Block) (d : Devices) → (side ≡ false → x ≢ at) → x < length d.nvm.image
@@ -187,20 +172,16 @@ Stays-done b block s m t sized room up framed guarded keeps holds =
       same_p = refl;
       same_way = refl;
       down = λ d. let no : true ≡ false = sym d ∙ up in cc;
-      same0 = lists0-cell r b u listed ∙ lists0-with r b s;
-      same1 = lists1-cell r b u listed ∙ lists1-with r b s;
-      penult_same = λ k l. place-cell penult (λ c. refl) penult-after r b u k listed ∙ place-with penult penult-new r b s k;
-      target_same = λ k l. place-cell target (λ c. refl) target-after r b u k listed ∙ place-with target target-new r b s k;
-      low = guarded.low;
-      old = guarded.old;
-      next = guarded.next;
-      copied = λ all k l. copied-cell r b u k listed (copied-with r b s k (all k l));
+      tables0_same = tables0-cell r b u listed ∙ tables0-with r b s;
+      tables1_same = tables1-cell r b u listed ∙ tables1-with r b s;
+      cells = λ k l. cell_on (cell_of s k) (cell_of u k) (cell_of (with_cell r (after_store r (cell_of u b)) u) k) (stays-with r b s k) (stays-cell r b u k listed);
+      guarded = guarded;
       up = λ d. record {
         low_reads = λ x l. low-reads (in_dram place) (number_of s.p place) x (put_by r block (reads s m) (cell_of u b)) (devices_of m s.dram)
             (λ side same. let behind = behind_slots s.p place side in absurd (omega (arith, behind, same, l)))
             (omega (arith, l, sized.nvm));
-        keeps = keeps;
-        holds = holds;
+        penult_same = keeps.penult_same;
+        held = λ h. record { holds = holds h; last_same = keeps.last_same };
       };
     }
 
@@ -214,14 +195,10 @@ Stays-failed b block s m n t room failed framed guarded =
       same_p = refl;
       same_way = refl;
       down = λ d. failed.failed.down;
-      same0 = lists0-with r b s;
-      same1 = lists1-with r b s;
-      penult_same = λ k l. place-with penult penult-new r b s k;
-      target_same = λ k l. place-with target target-new r b s k;
-      low = guarded.low;
-      old = guarded.old;
-      next = guarded.next;
-      copied = λ all k l. copied-with r b s k (all k l);
+      tables0_same = tables0-with r b s;
+      tables1_same = tables1-with r b s;
+      cells = λ k l. stays-with r b s k;
+      guarded = guarded;
       up = λ d. let no : true ≡ false = sym failed.failed.down ∙ d in absurd (not_both no);
     }
   where
@@ -250,14 +227,14 @@ stays_read s m n (Err x) same failed framed = record {
   same_p = refl;
   same_way = refl;
   down = λ d. failed.down;
-  same0 = refl;
-  same1 = refl;
-  penult_same = λ b l. refl;
-  target_same = λ b l. refl;
-  low = λ y l. record { no_more = λ b h. failed.no_more y b h };
-  old = λ b l. record { no_more = λ y h. failed.no_more (number_of s.p (penult (cell_of s b))) y h };
-  next = λ all b l. record { no_more = λ y h. failed.no_more (number_of s.p (target (cell_of s b))) y h };
-  copied = λ all. all;
+  tables0_same = refl;
+  tables1_same = refl;
+  cells = λ b l. cell_same (cell_of s b);
+  guarded = record {
+    low = λ y l. record { no_more = λ b h. failed.no_more y b h };
+    old = λ b l. record { no_more = λ y h. failed.no_more (number_of s.p (penult (cell_of s b))) y h };
+    next = λ b l copied. record { no_more = λ y h. failed.no_more (number_of s.p (target (cell_of s b))) y h };
+  };
   up = λ d. absurd (not_up failed.down d);
 }
   where

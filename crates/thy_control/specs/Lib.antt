@@ -5,6 +5,8 @@ pub mod State
 pub mod Rules
 pub mod Versions
 pub mod Holding
-pub mod Stays
+pub mod CheckpointTables
 pub mod Guarded
+pub mod Stays
+pub mod OverCalls
 pub mod Once

@@ -160,7 +160,6 @@ fn answer(rule: StoreRule) -> Stored
 impl Control {
     ghost use Rattle.thy_control.specs.Rules.{with_block, rule_for, devices_after, state_after, IsWholeState, FailsStore};
     ghost use Rattle.thy_control.specs.State.{AreSoundTables, IsSized, cell_of, penult_of, work_of, reads, new_state};
-    ghost use Rattle.thy_control.specs.Guarded.{LeavesGuarded};
     ghost use Rattle.thy_control.specs.Stays.{HoldAll, Stays};
     ghost use Rattle.thy_control.specs.Versions.{KeepsCheckpoints, PutsWork};
 
@@ -276,7 +275,6 @@ impl Control {
 
         // Whether or not it failed, nothing new is possible at the checkpoints' places, and both tables are as they were.
         ensures stays { Stays self.old (N.device nvm.old) self.new (N.device nvm.new) }
-        ensures guarded { LeavesGuarded self.old (N.device nvm.old) (N.device nvm.new) }
 
         ensures kept { OnErr result (self.new ≡ with_block (rule_for b self.old) b self.old) }
         ensures err { OnErr result (FailsStore b block.now self.old (N.device nvm.old) (N.device nvm.new)) }

@@ -1,11 +1,13 @@
 //! Laws of the controller, each the contract of a function that does nothing.
 ghost use Rattle.thy_control.specs.Holding.{BlocksAreWorks, MemoryIsHeld, NewIsReady};
 ghost use Rattle.thy_control.specs.Once.{OneActionIsOneOfNvm};
-ghost use Rattle.thy_control.specs.Stays.{StaysOverCalls};
+ghost use Rattle.thy_control.specs.OverCalls.{StaysOverCalls, CopiedStays};
 
-/// What stays does so where nothing happens, and over two calls one after the other.
+/// What stays does so where nothing happens, and over two calls one after the other. Where all blocks of the checkpoint
+/// under way are copied and written, they stay so.
 pub fn what_stays_does_so_over_calls()
-    ensures { StaysOverCalls }
+    ensures calls { StaysOverCalls }
+    ensures copied { CopiedStays }
 {}
 
 /// Seen as a store of blocks, the controller and the NVM hold the work of every block of memory, and no block where

@@ -8,7 +8,8 @@ use thy_base::{Block, BlockStore, Nvm, NvmError, Stored};
 impl<N: Nvm> BlockStore<N> for Control {
     ghost use Rattle.thy_control.specs.Holding.{holding_of};
     ghost use Rattle.thy_control.specs.Once.{Once};
-    ghost use Rattle.thy_control.specs.Stays.{Stays, stays_same, stays_on};
+    ghost use Rattle.thy_control.specs.Stays.{Stays};
+    ghost use Rattle.thy_control.specs.OverCalls.{stays_same, stays_on};
 
     ghost holding = { λ control nvm. holding_of control (N.device nvm) };
 

@@ -30,14 +30,6 @@ returns-clause-keeps g c =
     checkpoints_by b block s m c.put.new.self n c.put.result
     (kept_by b block s m c.put.new.self (state_after b block s m) n (devices_after b block s m).nvm (answer_of (rule_for b s)) c.put.result c.put.ensures.state c.put.ensures.nvm c.put.ensures.answer kept)
 
-pub returns-clause-guarded : goal.returns-clause-guarded
-returns-clause-guarded g c =
-    let s : State = c.args.self.now in
-    let m : Device = g.N.Nvm.device c.args.nvm.now in
-    let n : Device = g.N.Nvm.device c.put.new.nvm in
-    guarded_by c.args.b c.args.block.now s m n c.put.result c.put.ensures.nvm c.put.ensures.err
-    (LeavesGuarded-after c.a_store_goes_elsewhere.ensures c.a_store_leaves_the_target.ensures c.args.b c.args.block.now s m n c.tables.ensures c.requires.whole c.requires.block c.requires.room)
-
 pub returns-clause-holds : goal.returns-clause-holds
 returns-clause-holds g c =
     let s : State = c.args.self.now in

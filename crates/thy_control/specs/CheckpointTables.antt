@@ -1,0 +1,33 @@
+-- The tables of both checkpoints, by what the entries of the controller's tables say.
+use Rattle.std.specs.Prelude.{ℕ, map, option_and_then, Option, Some, None}
+use Rattle.thy_record.specs.Tables.{Tables}
+use Rattle.thy_tables.specs.declared.block_entry.BttEntry.{BttEntry}
+use Rattle.thy_tables.specs.declared.block_entry.Version.{Version}
+use Rattle.thy_tables.specs.declared.block_entry.Version.TheVariants.{Out, Alt}
+use Rattle.thy_tables.specs.declared.page_entry.PttEntry.{PttEntry}
+use Rattle.thy_tables.specs.declared.page_entry.Site.{Site}
+use Rattle.thy_tables.specs.declared.page_entry.Site.TheVariants.{AtHome, AtAlternate}
+use Rattle.thy_control.specs.State.{State}
+
+-- the number that a checkpoint lists at an entry, by where it has the block or the page of that entry
+abbrev pub entry_lists : Version → ℕ → Option ℕ
+entry_lists Out n = None
+entry_lists Alt n = Some n
+
+abbrev pub page_lists : Site → ℕ → Option ℕ
+page_lists AtHome n = None
+page_lists AtAlternate n = Some n
+
+abbrev pub tables_by : (BttEntry → Version) → (PttEntry → Site) → State → Tables
+tables_by version site s = record {
+  btt = map (option_and_then (λ (e : BttEntry). entry_lists (version e) e.block)) s.btt.entries;
+  ptt = map (option_and_then (λ (e : PttEntry). page_lists (site e) e.page)) s.ptt.entries;
+}
+
+-- the tables of the committed checkpoint
+abbrev pub tables0 : State → Tables
+tables0 s = tables_by (λ e. e.v0) (λ e. e.place) s
+
+-- and those of the one under way; the committed one's where none is
+abbrev pub tables1 : State → Tables
+tables1 s = tables_by (λ e. e.v1) (λ e. e.target) s

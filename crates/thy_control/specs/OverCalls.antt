@@ -1,0 +1,118 @@
+-- What stays does so where nothing happens, and over one call after another.
+use Rattle.std.specs.Prelude.{◌≡◌, ℕ, ◌<◌, Bool, true, false, refl}
+use Rattle.std.proofs.Common.{sym, ◌∙◌, ap, subst, arith}
+use Rattle.thy_base.specs.declared.config.Parameters.{Parameters}
+use Rattle.thy_base.specs.Device.{Device}
+use Rattle.thy_base.specs.Geometry.{memory_blocks}
+use Rattle.thy_base.specs.Places.{number_of, first_home}
+use Rattle.thy_place.specs.Devices.{NoMoreAt}
+use Rattle.thy_cell.specs.declared.cell.Cell.{Cell}
+use Rattle.thy_cell.specs.Cells.{penult, target}
+use Rattle.thy_cell.specs.Checkpoint.{IsCopied}
+use Rattle.thy_control.specs.State.{State, cell_of}
+use Rattle.thy_control.specs.Stays.{AreCopied, CellStays, StaysHeld, StaysUp, Stays}
+
+pub cell_same : (c : Cell) → CellStays c c
+cell_same c = record { penult_same = refl; target_same = refl; settled = λ e. e; busy_before = λ e. e; issued = omega arith }
+
+pub cell_on : (c d e : Cell) → CellStays c d → CellStays d e → CellStays c e
+cell_on c d e first second = record {
+  penult_same = second.penult_same ∙ first.penult_same;
+  target_same = second.target_same ∙ first.target_same;
+  settled = λ h. second.settled (first.settled h);
+  busy_before = λ h. first.busy_before (second.busy_before h);
+  issued = omega (arith, first.issued, second.issued);
+}
+
+-- what was copied and written is so still
+pub copied_on : (c d : Cell) → CellStays c d → IsCopied c → IsCopied d
+copied_on c d stays h = record {
+  copied = stays.settled h.copied;
+  written = λ busy. omega (arith, h.written (stays.busy_before busy), stays.issued);
+}
+
+-- what stays does so where nothing happens
+pub stays_same : (s : State) (m : Device) → Stays s m s m
+stays_same s m = record {
+  as_long = refl;
+  same_p = refl;
+  same_way = refl;
+  down = λ d. d;
+  tables0_same = refl;
+  tables1_same = refl;
+  cells = λ b l. cell_same (cell_of s b);
+  guarded = record {
+    low = λ x l. record { no_more = λ y h. h };
+    old = λ b l. record { no_more = λ y h. h };
+    next = λ b l copied. record { no_more = λ y h. h };
+  };
+  up = λ d. record {
+    low_reads = λ x l. refl;
+    penult_same = λ b l. refl;
+    held = λ h. record { holds = h; last_same = λ b l. refl };
+  };
+}
+
+-- places that hold no more over two calls
+no_more_on : (x y : ℕ) (m n o : Device) → y ≡ x → NoMoreAt x m n → NoMoreAt y n o → NoMoreAt x m o
+no_more_on x y m n o e first second = record { no_more = λ b h. first.no_more b ((subst (λ (z : ℕ). NoMoreAt z n o) e second).no_more b h) }
+
+-- a device that is up after two calls was so between them
+up_between : (a b c : Bool) → (b ≡ true → c ≡ true) → c ≡ false → b ≡ false
+up_between a false c h e = refl
+up_between a true c h e = let d : c ≡ true = h refl in absurd (false_is_not_true c e d) where
+  false_is_not_true : (c : Bool) → c ≡ false → c ≡ true → ⊥
+  false_is_not_true c e d = cc
+
+-- and over two calls one after the other
+pub stays_on : (s : State) (m : Device) (t : State) (n : Device) (u : State) (o : Device) → Stays s m t n → Stays t n u o → Stays s m u o
+stays_on s m t n u o first second =
+    let p : t.p ≡ s.p = first.same_p in
+    let in_t : (b : ℕ) → b < memory_blocks s.p → b < memory_blocks t.p = λ b l. subst (λ (q : Parameters). b < memory_blocks q) (sym p) l in
+    let low_t : (x : ℕ) → x < first_home s.p → x < first_home t.p = λ x l. subst (λ (q : Parameters). x < first_home q) (sym p) l in
+    record {
+      as_long = second.as_long ∙ first.as_long;
+      same_p = second.same_p ∙ p;
+      same_way = second.same_way ∙ first.same_way;
+      down = λ d. second.down (first.down d);
+      tables0_same = second.tables0_same ∙ first.tables0_same;
+      tables1_same = second.tables1_same ∙ first.tables1_same;
+      cells = λ b l. cell_on (cell_of s b) (cell_of t b) (cell_of u b) (first.cells b l) (second.cells b (in_t b l));
+      guarded = record {
+        low = λ x l. no_more_on x x m n o refl (first.guarded.low x l) (second.guarded.low x (low_t x l));
+        old = λ b l.
+            let same = ap (λ (q : Parameters). number_of q (penult (cell_of t b))) p ∙ ap (number_of s.p) (first.cells b l).penult_same in
+            no_more_on (number_of s.p (penult (cell_of s b))) (number_of t.p (penult (cell_of t b))) m n o same
+            (first.guarded.old b l) (second.guarded.old b (in_t b l));
+        next = λ b l copied.
+            let same = ap (λ (q : Parameters). number_of q (target (cell_of t b))) p ∙ ap (number_of s.p) (first.cells b l).target_same in
+            no_more_on (number_of s.p (target (cell_of s b))) (number_of t.p (target (cell_of t b))) m n o same
+            (first.guarded.next b l copied) (second.guarded.next b (in_t b l) (copied_on (cell_of s b) (cell_of t b) (first.cells b l) copied));
+      };
+      up = λ d.
+          let before : n.down ≡ false = up_between m.down n.down o.down second.down d in
+          let one : StaysUp s m t n = first.up before in
+          let two : StaysUp t n u o = second.up d in
+          record {
+            low_reads = λ x l. two.low_reads x (low_t x l) ∙ one.low_reads x l;
+            penult_same = λ b l. two.penult_same b (in_t b l) ∙ one.penult_same b l;
+            held = λ h.
+                let then : StaysHeld s m t n = one.held h in
+                let now : StaysHeld t n u o = two.held then.holds in
+                record { holds = now.holds; last_same = λ b l. now.last_same b (in_t b l) ∙ then.last_same b l };
+          };
+    }
+
+-- with all of the blocks
+pub are_copied_on : (s : State) (m : Device) (t : State) (n : Device) → Stays s m t n → AreCopied s → AreCopied t
+are_copied_on s m t n stays all b l =
+    let inside : b < memory_blocks s.p = subst (λ (q : Parameters). b < memory_blocks q) stays.same_p l in
+    copied_on (cell_of s b) (cell_of t b) (stays.cells b inside) (all b inside)
+
+abbrev pub StaysOverCalls : Type 0
+StaysOverCalls =
+    ((s : State) (m : Device) → Stays s m s m)
+    × ((s : State) (m : Device) (t : State) (n : Device) (u : State) (o : Device) → Stays s m t n → Stays t n u o → Stays s m u o)
+
+abbrev pub CopiedStays : Type 0
+CopiedStays = (s : State) (m : Device) (t : State) (n : Device) → Stays s m t n → AreCopied s → AreCopied t
