@@ -8,6 +8,7 @@ pub mod KeepLemmas
 pub mod GuardLemmas
 pub mod HoldLemmas
 pub mod StayLemmas
+pub mod TablesLemmas
 pub mod HoldingLemmas
 pub mod CountLemmas
 pub mod StoreLemmas

@@ -1,13 +1,17 @@
 -- The tables of both checkpoints, by what the entries of the controller's tables say.
-use Rattle.std.specs.Prelude.{ℕ, map, option_and_then, Option, Some, None}
-use Rattle.thy_record.specs.Tables.{Tables}
+use Rattle.std.specs.Prelude.{◌≡◌, ℕ, ◌<◌, map, option_and_then, Option, Some, None}
+use Rattle.thy_base.specs.declared.place.Place.{Place}
+use Rattle.thy_base.specs.Geometry.{memory_blocks}
+use Rattle.thy_record.specs.Tables.{Tables, IsTables, place_of}
 use Rattle.thy_tables.specs.declared.block_entry.BttEntry.{BttEntry}
 use Rattle.thy_tables.specs.declared.block_entry.Version.{Version}
 use Rattle.thy_tables.specs.declared.block_entry.Version.TheVariants.{Out, Alt}
 use Rattle.thy_tables.specs.declared.page_entry.PttEntry.{PttEntry}
 use Rattle.thy_tables.specs.declared.page_entry.Site.{Site}
 use Rattle.thy_tables.specs.declared.page_entry.Site.TheVariants.{AtHome, AtAlternate}
-use Rattle.thy_control.specs.State.{State}
+use Rattle.thy_cell.specs.declared.cell.Cell.{Cell}
+use Rattle.thy_cell.specs.Cells.{penult, target}
+use Rattle.thy_control.specs.State.{State, AreSoundTables, cell_of}
 
 -- the number that a checkpoint lists at an entry, by where it has the block or the page of that entry
 abbrev pub entry_lists : Version → ℕ → Option ℕ
@@ -31,3 +35,14 @@ tables0 s = tables_by (λ e. e.v0) (λ e. e.place) s
 -- and those of the one under way; the committed one's where none is
 abbrev pub tables1 : State → Tables
 tables1 s = tables_by (λ e. e.v1) (λ e. e.target) s
+
+-- they are tables that a checkpoint may have, and have each block of memory where its cell tells
+pub record AreTablesOf (s : State) (t : Tables) (place : Cell → Place) : Type 0 where
+  pub valid : IsTables s.p t
+  pub same_place : (b : ℕ) → b < memory_blocks s.p → place_of t b ≡ place (cell_of s b)
+
+abbrev pub CommittedTables : Type 0
+CommittedTables = (s : State) → AreSoundTables s → AreTablesOf s (tables0 s) penult
+
+abbrev pub TablesUnderWay : Type 0
+TablesUnderWay = (s : State) → AreSoundTables s → AreTablesOf s (tables1 s) target

@@ -2,12 +2,20 @@
 ghost use Rattle.thy_control.specs.Holding.{BlocksAreWorks, MemoryIsHeld, NewIsReady};
 ghost use Rattle.thy_control.specs.Once.{OneActionIsOneOfNvm};
 ghost use Rattle.thy_control.specs.OverCalls.{StaysOverCalls, CopiedStays};
+ghost use Rattle.thy_control.specs.CheckpointTables.{CommittedTables, TablesUnderWay};
 
 /// What stays does so where nothing happens, and over two calls one after the other. Where all blocks of the checkpoint
 /// under way are copied and written, they stay so.
 pub fn what_stays_does_so_over_calls()
     ensures calls { StaysOverCalls }
     ensures copied { CopiedStays }
+{}
+
+/// The tables of either checkpoint, as the controller's tables tell them, are those that a checkpoint may have, and
+/// have each block of memory where the controller has it.
+pub fn checkpoints_have_tables()
+    ensures committed { CommittedTables }
+    ensures under_way { TablesUnderWay }
 {}
 
 /// Seen as a store of blocks, the controller and the NVM hold the work of every block of memory, and no block where
