@@ -11,14 +11,14 @@ use Rattle.thy_tables.specs.PageEntry.{promoted_page, no_page, listed_page, is_f
 use Rattle.thy_cell.specs.Cells.{seat_of, frame_at, penult, target, last, work}
 use Rattle.thy_cell.specs.Sound.{IsWithin, IsSoundCell, Holds, Puts}
 use Rattle.thy_cell.specs.Rules.{after_copy}
-use Rattle.thy_cell.specs.Store.{Reads}
+use Rattle.thy_cell.specs.Store.{LoadGives}
 use Rattle.thy_cell.specs.Checkpoint.{merged, with_dirty, with_filled, with_issued}
 
 -- a block after a step that put one block at a place: its entries are sound, its versions read as before, and its places
 -- hold what they have to
 pub record Keeps (under_way : Bool) (old new : Place → Block) (c d : Cell) : Type 0 where
   pub sound : IsSoundCell under_way d
-  pub reads : Reads old new c d (old (work c))
+  pub reads : LoadGives old new c d (old (work c))
   pub holds : Holds old c → Holds new d
 
 -- a block that no table lists is sound, and so is one whose page is to be promoted
@@ -40,7 +40,7 @@ ListedCellsAreSound = (i j block page : ℕ) → ListedIsSound i j block page
 -- the load of a listed page's block into its frame: both checkpoints have it as before, a load gives it, and its places hold
 -- what they have to; nothing was to be held before
 pub record Loads (old new : Place → Block) (c : Cell) : Type 0 where
-  pub reads : Reads old new c c (old (penult c))
+  pub reads : LoadGives old new c c (old (penult c))
   pub holds : Holds new c
 
 abbrev pub FrameLoads : Type 0

@@ -17,7 +17,7 @@ pub record KeepsPlaces (c d : Cell) : Type 0 where
   pub target_same : target d ≡ target c
 
 -- the committed version, that of the checkpoint under way, and what a load gives
-pub record Reads (old new : Place → Block) (c d : Cell) (given : Block) : Type 0 where
+pub record LoadGives (old new : Place → Block) (c d : Cell) (given : Block) : Type 0 where
   pub penult_same : new (penult d) ≡ old (penult c)
   pub last_same : new (last d) ≡ old (last c)
   pub work_gives : new (work d) ≡ given
@@ -42,13 +42,13 @@ StoreKeepsSound =
     (under_way : Bool) (c : Cell) → IsSoundCell under_way c → IsWhole c.page → IsSoundCell under_way (after_store (store_rule c) c)
 
 -- a store writes none of the places of the two checkpoints
-pub record IsFree (place : Place) (c : Cell) : Type 0 where
+pub record IsElsewhere (place : Place) (c : Cell) : Type 0 where
   pub not_penult : penult c ≢ place
   pub not_last : last c ≢ place
 
 abbrev pub StoreGoesElsewhere : Type 0
 StoreGoesElsewhere =
-    (under_way : Bool) (c : Cell) → IsSoundCell under_way c → IsWhole c.page → IsFree (store_place (store_rule c) c) c
+    (under_way : Bool) (c : Cell) → IsSoundCell under_way c → IsWhole c.page → IsElsewhere (store_place (store_rule c) c) c
 
 -- nor that to which the block is to go, unless the copy goes first
 abbrev pub StoreLeavesTarget : Type 0
@@ -66,7 +66,7 @@ StoreReads =
     (p : Parameters) (under_way : Bool) (c : Cell) (block : Block) (old new : Place → Block)
     → IsWithin p (seat_of c) → IsSoundCell under_way c → IsWhole c.page
     → Puts p (store_place (store_rule c) c) (put_by (store_rule c) block old c) old new
-    → Reads old new c (after_store (store_rule c) c) (given_by (store_rule c) block old c)
+    → LoadGives old new c (after_store (store_rule c) c) (given_by (store_rule c) block old c)
 
 -- and the places hold what they have to
 abbrev pub StoreHolds : Type 0

@@ -24,7 +24,7 @@ use Rattle.thy_cell.specs.declared.cell.StoreRule.TheVariants.{ToFrame, ToBuffer
 use Rattle.thy_cell.specs.Cells.{seat_of, placed, penult, target, last, work}
 use Rattle.thy_cell.specs.Sound.{IsWithin, Puts}
 use Rattle.thy_cell.specs.Rules.{store_rule, store_place, after_store}
-use Rattle.thy_cell.specs.Store.{StoreReads, Reads, put_by, given_by}
+use Rattle.thy_cell.specs.Store.{StoreReads, LoadGives, put_by, given_by}
 use Rattle.thy_cell.specs.Checkpoint.{with_dirty}
 use Rattle.thy_control.specs.Find.{index_for, with_found}
 use Rattle.thy_control.specs.Keys.{block_key}
@@ -111,8 +111,8 @@ Kept-after laws b block s n t sized whole inside room =
       others = λ x is ne. read_at-written_other s.p (devices_of n s.dram) place x put there is sizes ne;
     } in
     let same_rule : store_rule c ≡ r = rule-with_block r b s in
-    let law : Reads old new c (after_store r c) (given_by r block old c)
-    = subst (λ (q : StoreRule). Puts s.p (store_place q c) (put_by q block old c) old new → Reads old new c (after_store q c) (given_by q block old c)) same_rule
+    let law : LoadGives old new c (after_store r c) (given_by r block old c)
+    = subst (λ (q : StoreRule). Puts s.p (store_place q c) (put_by q block old c) old new → LoadGives old new c (after_store q c) (given_by q block old c)) same_rule
     (laws s.p s.under_way c block old new within (sound-with_block r b s b (t.cells b inside)) (whole.whole b inside)) puts in
     let now : cell_of after b ≡ after_store r c = cell-with_cell_same r b u listed in
     let owns : owner u place ≡ Some b = owned-store r u b listed in
