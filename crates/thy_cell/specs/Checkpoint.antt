@@ -1,5 +1,5 @@
 -- What a seal, a commit, a merge, a promotion and the write of a page make of a block's entries, and their laws.
-use Rattle.std.specs.Prelude.{◌≡◌, ◌≢◌, ℕ, ◌+◌, ◌≤◌, ◌==◌, Bool, true, false, ◌||◌, not, Option, Some, None}
+use Rattle.std.specs.Prelude.{◌≡◌, ◌≢◌, ℕ, ◌+◌, ◌≤◌, ◌==◌, Bool, true, false, ◌||◌, not, if◌then◌else◌, Option, Some, None}
 use Rattle.thy_base.specs.declared.block.Block.{Block}
 use Rattle.thy_base.specs.declared.place.Place.{Place}
 use Rattle.thy_tables.specs.declared.block_entry.BttEntry.{BttEntry}
@@ -13,7 +13,7 @@ use Rattle.thy_tables.specs.declared.page_entry.Site.{Site}
 use Rattle.thy_tables.specs.declared.page_entry.Site.TheVariants.{AtHome, AtAlternate}
 use Rattle.thy_cell.specs.declared.cell.Cell.{Cell}
 use Rattle.thy_tables.specs.BlockEntry.{new_entry, other_version}
-use Rattle.thy_tables.specs.PageEntry.{page_blocks, other_site, no_page, is_framed}
+use Rattle.thy_tables.specs.PageEntry.{page_blocks, other_site, no_page, promoted_page, is_framed}
 use Rattle.thy_cell.specs.Cells.{penult, last, work}
 use Rattle.thy_cell.specs.Sound.{IsSoundCell, IsWhole, Holds}
 
@@ -37,24 +37,34 @@ page_sealed_by true written AtAlternate page = Some (record page { target = AtHo
 page_sealed_by low true place page = Some (record page { target = other_site place; busy = true; dirty = false; fresh = false })
 page_sealed_by low false place page = Some (record page { target = place; dirty = false; fresh = false })
 
+abbrev pub sealed_frame : Bool → PttEntry → Option PttEntry
+sealed_frame low page = page_sealed_by low (page.dirty || page.fresh) page.place page
+
+-- one that is not framed stays as it is
 abbrev pub sealed_page : Bool → PttEntry → Option PttEntry
-sealed_page low page = page_sealed_by low (page.dirty || page.fresh) page.place page
+sealed_page low page = if is_framed page then sealed_frame low page else Some page
+
+-- an entry's place, or 0 where it was cleared
+abbrev pub kept_index : {E : Type 0} → ℕ → Option E → ℕ
+kept_index i None = 0
+kept_index i (Some e) = i
 
 -- a page's entry, or what stands for it where it was cleared
 abbrev pub page_or_none : ℕ → Option PttEntry → PttEntry
 page_or_none page None = no_page page
 page_or_none page (Some e) = e
 
-abbrev pub sealed_page_of : Bool → Bool → PttEntry → PttEntry
-sealed_page_of true low page = page_or_none page.page (sealed_page low page)
-sealed_page_of false low page = page
-
 -- a block after a seal
 abbrev pub sealed : Bool → Bool → Cell → Cell
 sealed few low c = record c {
   entry = sealed_entry (is_framed c.page) few c.entry;
-  page = sealed_page_of (is_framed c.page) low c.page;
+  j = kept_index c.j (sealed_page low c.page);
+  page = page_or_none c.page.page (sealed_page low c.page);
 }
+
+-- a block after its page was listed at an entry, to be promoted
+abbrev pub with_listed : ℕ → Cell → Cell
+with_listed j c = record c { j = j; page = promoted_page c.page.page }
 
 -- A commit. An entry that lists nothing any more and has no work is cleared
 abbrev pub committed_by : Version → Working → BttEntry → Option BttEntry
@@ -79,13 +89,15 @@ entry_or_new b (Some e) = e
 -- a block after a commit
 abbrev pub committed : Cell → Cell
 committed c = record c {
+  i = kept_index c.i (committed_entry c.entry);
   entry = entry_or_new c.entry.block (committed_entry c.entry);
+  j = kept_index c.j (committed_page c.page);
   page = page_or_none c.page.page (committed_page c.page);
 }
 
 -- a block after its buffer was merged into its page's frame
 abbrev pub merged : Cell → Cell
-merged c = record c { entry = new_entry c.entry.block; page = record c.page { dirty = true } }
+merged c = record c { i = 0; entry = new_entry c.entry.block; page = record c.page { dirty = true } }
 
 -- a page after one more of its blocks was written out: with the last its frame is free again, unless the page leaves
 abbrev pub page_issued : PttEntry → PttEntry
@@ -129,6 +141,18 @@ abbrev pub SealMoves : Type 0
 SealMoves =
     (few low : Bool) (c : Cell) (reads : Place → Block) → IsSoundCell false c → IsWhole c.page → IsBare c → Holds reads c
     → Moves reads c (sealed few low c) (reads (penult c)) (reads (work c))
+
+-- it leaves no work
+abbrev pub SealTakesWork : Type 0
+SealTakesWork =
+    (few low : Bool) (c : Cell) → IsSoundCell false c → IsBare c → (sealed few low c).entry.work ≡ NoWork
+
+-- The listing of a page that is to be promoted keeps every version, where the block has no work
+abbrev pub ListingKeeps : Type 0
+ListingKeeps =
+    (under_way : Bool) (j page : ℕ) (c : Cell) (reads : Place → Block)
+    → IsSoundCell under_way c → c.page ≡ no_page page → c.entry.work ≡ NoWork
+    → IsSoundCell under_way (with_listed j c) × Moves reads c (with_listed j c) (reads (penult c)) (reads (last c))
 
 -- A commit: what was the last version is the committed one now
 abbrev pub CommitKeepsSound : Type 0

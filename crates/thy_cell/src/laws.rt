@@ -1,6 +1,6 @@
 //! Laws of the rules, each the contract of a function that does nothing.
 ghost use Rattle.thy_cell.specs.Store.{StoreKeepsSound, StoreGoesElsewhere, StoreLeavesTarget, StoreKeepsPlaces, StoreReads, StoreHolds};
-ghost use Rattle.thy_cell.specs.Checkpoint.{SealKeepsSound, SealMoves, CommitKeepsSound, CommitMoves};
+ghost use Rattle.thy_cell.specs.Checkpoint.{SealKeepsSound, SealMoves, SealTakesWork, ListingKeeps, CommitKeepsSound, CommitMoves};
 ghost use Rattle.thy_cell.specs.Steps.{NewCellsAreSound, ListedCellsAreSound, FrameLoads, MergeKeeps, DirtyKeeps, PromotionKeeps, PromotionKeepsOthers, CopyKeeps, PageWriteKeeps, PageWriteKeepsOthers, OthersKeep};
 
 /// A store leaves the entries of its block sound.
@@ -57,6 +57,16 @@ pub fn a_seal_keeps_entries_sound()
 /// A seal makes the working version that of the checkpoint under way, and keeps the committed one.
 pub fn a_seal_takes_the_work()
     ensures { SealMoves }
+{}
+
+/// A seal leaves no work of a block.
+pub fn a_seal_leaves_no_work()
+    ensures { SealTakesWork }
+{}
+
+/// The listing of a page that is to be promoted keeps every version of its blocks.
+pub fn a_listing_keeps_versions()
+    ensures { ListingKeeps }
 {}
 
 /// A commit leaves the entries of a block sound.
