@@ -30,6 +30,14 @@ counted page c = record c { counts = slice_set c.counts page (min (count_at c pa
 abbrev pub reset : Tally → Tally
 reset c = uncounted (length c.counts) c.high c.low
 
+-- a page is counted above the high threshold
+abbrev pub is_dense : Tally → ℕ → Bool
+is_dense c page = nat_lt c.high (count_at c page)
+
+-- and below the low one
+abbrev pub is_low : Tally → ℕ → Bool
+is_low c page = nat_lt (count_at c page) c.low
+
 -- the first number of a list from one place on that passes a test
 abbrev pub first_from : (ℕ → Bool) → ℕ → List ℕ → Option ℕ
 first_from test from xs = option_map (λ k. from + k) (position test (drop from xs))

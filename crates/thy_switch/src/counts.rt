@@ -1,6 +1,6 @@
 //! The counts.
-ghost use Rattle.std.specs.Prelude.{◌≡◌, ◌<◌, ◌≤◌, ◌+◌, min, nat_lt, length, replicate, slice_set, slice_index, position, None, IfOk, IfSome};
-ghost use Rattle.thy_switch.specs.Counts.{most, uncounted, count_at, counted, reset, first_from, promotion_from, low_page_from};
+ghost use Rattle.std.specs.Prelude.{◌≡◌, ◌<◌, ◌≤◌, ◌+◌, min, nat_lt, length, replicate, slice_set, slice_index, position, None, false, IfOk, IfSome};
+ghost use Rattle.thy_switch.specs.Counts.{most, uncounted, count_at, counted, reset, is_dense, is_low, first_from, promotion_from, low_page_from};
 
 use std::alloc::{AllocError, Global};
 use std::marker::Model;
@@ -60,6 +60,23 @@ impl Counts {
     {
         let count = self.counts[page as usize];
         self.counts[page as usize] = if count < MOST { count + 1 } else { MOST };
+    }
+
+    /// Whether a page was stored to more often than `high`.
+    pub fn is_dense(&self, page: u64) -> bool
+        requires { page < length self.now.counts }
+        ensures dense { result ≡ is_dense self.now page }
+        ensures never { most ≤ self.now.high → result ≡ false }
+    {
+        self.high < self.count_of(page)
+    }
+
+    /// Whether a page was stored to less often than `low`.
+    pub fn is_low(&self, page: u64) -> bool
+        requires { page < length self.now.counts }
+        ensures { result ≡ is_low self.now page }
+    {
+        self.count_of(page) < self.low
     }
 
     /// The least page from one on, whatever its number, that was stored to more often than `high`. Where
