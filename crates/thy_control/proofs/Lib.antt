@@ -13,3 +13,7 @@ pub mod HoldingLemmas
 pub mod CountLemmas
 pub mod StoreLemmas
 pub mod OnceLemmas
+pub mod MappedLemmas
+pub mod CommitLemmas
+pub mod ListPageLemmas
+pub mod SealLemmas

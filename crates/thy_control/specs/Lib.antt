@@ -10,3 +10,5 @@ pub mod Guarded
 pub mod Stays
 pub mod OverCalls
 pub mod Once
+pub mod Seal
+pub mod Commit

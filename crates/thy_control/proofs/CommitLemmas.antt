@@ -1,0 +1,103 @@
+-- A commit: every block has the cell that a commit makes of its own, so the tables are sound and the versions move.
+use Rattle.std.proofs.Common.{◌≡◌, ℕ, ◌<◌, Bool, true, false, refl, sym, ◌∙◌, ap, subst, Option, Some, None, unwrap_or}
+use Rattle.std.proofs.lemmas.List.{length-map}
+use Rattle.std.specs.Option.{option_and_then}
+use Rattle.thy_base.specs.Device.{Device}
+use Rattle.thy_base.specs.Geometry.{memory_blocks}
+use Rattle.thy_base.specs.Store.{page_of}
+use Rattle.thy_table.specs.Listing.{Listing, IsListing, entry_at, mapped}
+use Rattle.thy_table.proofs.ListingLaws.{entry_at-mapped, IsListing-mapped}
+use Rattle.thy_tables.specs.declared.block_entry.BttEntry.{BttEntry}
+use Rattle.thy_tables.specs.declared.page_entry.PttEntry.{PttEntry}
+use Rattle.thy_tables.specs.BlockEntry.{new_entry}
+use Rattle.thy_tables.specs.PageEntry.{no_page, is_framed}
+use Rattle.thy_cell.specs.declared.cell.Cell.{Cell}
+use Rattle.thy_cell.specs.Cells.{penult, last, work}
+use Rattle.thy_cell.specs.Sound.{IsSoundCell, Holds}
+use Rattle.thy_cell.specs.Checkpoint.{committed, committed_entry, committed_page, entry_or_new, page_or_none, page_committed_by, Moves, CommitKeepsSound, CommitMoves}
+use Rattle.thy_control.specs.Keys.{block_key, page_key}
+use Rattle.thy_control.specs.State.{State, AreSoundTables, cell_of, reads}
+use Rattle.thy_control.specs.Stays.{AreCopied, HoldAll}
+use Rattle.thy_control.specs.Commit.{committed_state, committed_entry-block, committed_page-page, Commits}
+use Rattle.thy_control.proofs.CellLemmas.{block-cell_of, page-cell_of}
+use Rattle.thy_control.proofs.MappedLemmas.{index_for-mapped, entry_for-mapped}
+
+-- cells with the same parts
+pub same_cell : (c d : Cell) → c.i ≡ d.i → c.entry ≡ d.entry → c.j ≡ d.j → c.page ≡ d.page → c ≡ d
+same_cell c d i entry j page =
+    ap (λ (x : ℕ). record c { i = x }) i ∙ ap (λ (x : BttEntry). record c { i = d.i; entry = x }) entry
+    ∙ ap (λ (x : ℕ). record d { j = x; page = c.page }) j ∙ ap (λ (x : PttEntry). record d { page = x }) page
+
+pub or_new : (b n : ℕ) (o : Option BttEntry) → b ≡ n → unwrap_or o (new_entry n) ≡ entry_or_new b o
+or_new b n None e = ap new_entry (sym e)
+or_new b n (Some x) e = refl
+
+pub or_none : (p n : ℕ) (o : Option PttEntry) → p ≡ n → unwrap_or o (no_page n) ≡ page_or_none p o
+or_none p n None e = ap no_page (sym e)
+or_none p n (Some x) e = refl
+
+module _ (s : State) (blocks : IsListing block_key s.btt) (pages : IsListing page_key s.ptt) where
+  pub cell-committed : (b : ℕ) → cell_of (committed_state s) b ≡ committed (cell_of s b)
+  unfolding committed_state
+  cell-committed b = same_cell (cell_of (committed_state s) b) (committed (cell_of s b))
+      (index_for-mapped block_key new_entry committed_entry committed_entry-block s.btt blocks b)
+      (entry_for-mapped block_key new_entry committed_entry committed_entry-block s.btt blocks b refl
+      ∙ or_new (cell_of s b).entry.block b (committed_entry (cell_of s b).entry) (block-cell_of s b))
+      (index_for-mapped page_key no_page committed_page committed_page-page s.ptt pages (page_of b))
+      (entry_for-mapped page_key no_page committed_page committed_page-page s.ptt pages (page_of b) refl
+      ∙ or_none (cell_of s b).page.page (page_of b) (committed_page (cell_of s b).page) (page-cell_of s b))
+
+-- a live page that is not framed is in promotion, also after a rule that keeps that
+abbrev pub AreLive : Listing PttEntry → Type 0
+AreLive t = (j : ℕ) (e : PttEntry) → entry_at t j ≡ Some e → is_framed e ≡ false → e.fresh ≡ true
+
+abbrev pub KeepsLive : (PttEntry → Option PttEntry) → Type 0
+KeepsLive rule = (e f : PttEntry) → rule e ≡ Some f → (is_framed e ≡ false → e.fresh ≡ true) → is_framed f ≡ false → f.fresh ≡ true
+
+pub live-mapped : (rule : PttEntry → Option PttEntry) → KeepsLive rule → (t : Listing PttEntry) → AreLive t → AreLive (mapped rule t)
+live-mapped rule keeps t live j f h = by_entry (entry_at t j) refl (sym (entry_at-mapped rule t j) ∙ h) where
+  by_entry : (o : Option PttEntry) → entry_at t j ≡ o → option_and_then rule o ≡ Some f → is_framed f ≡ false → f.fresh ≡ true
+  by_entry None was g = cc
+  by_entry (Some e) was g = keeps e f g (live j e was)
+
+committed_by-live : (leaving : Bool) (e f : PttEntry) → page_committed_by leaving e ≡ Some f → (is_framed e ≡ false → e.fresh ≡ true) → is_framed f ≡ false → f.fresh ≡ true
+committed_by-live true e f h live = cc
+committed_by-live false e f h live =
+    let same : record e { place = e.target; busy = false; issued = 0 } ≡ f = cc in
+    subst (λ (x : PttEntry). is_framed x ≡ false → x.fresh ≡ true) same live
+
+-- what a commit asks for
+module _ (s : State) (t : AreSoundTables s) (way : s.under_way ≡ true) (copied : AreCopied s) where
+  sound : (b : ℕ) → b < memory_blocks s.p → IsSoundCell true (cell_of s b)
+  sound b l = subst (λ (u : Bool). IsSoundCell u (cell_of s b)) way (t.cells b l)
+
+  pub AreSoundTables-committed : CommitKeepsSound → AreSoundTables (committed_state s)
+  unfolding committed_state
+  AreSoundTables-committed law = record {
+    range = t.range;
+    btt_size = length-map s.btt.entries (option_and_then committed_entry) ∙ t.btt_size;
+    btt_numbers = t.btt_numbers;
+    btt_once = IsListing-mapped block_key s.btt t.btt_once committed_entry committed_entry-block;
+    ptt_size = length-map s.ptt.entries (option_and_then committed_page) ∙ t.ptt_size;
+    ptt_numbers = t.ptt_numbers;
+    ptt_once = IsListing-mapped page_key s.ptt t.ptt_once committed_page committed_page-page;
+    live_pages = live-mapped committed_page (λ e f. committed_by-live e.leaving e f) s.ptt t.live_pages;
+    counts_size = t.counts_size;
+    counts_high = t.counts_high;
+    counts_low = t.counts_low;
+    dram_size = t.dram_size;
+    cells = λ b l. subst (IsSoundCell false) (sym (cell-committed s t.btt_once t.ptt_once b)) (law (cell_of s b) (sound b l) (copied b l));
+  }
+
+  pub Commits-committed : CommitMoves → (n : Device) → HoldAll s n → Commits s (committed_state s) n
+  unfolding committed_state
+  Commits-committed law n holds =
+      let moves : (b : ℕ) → b < memory_blocks s.p → Moves (reads s n) (cell_of s b) (committed (cell_of s b)) (reads s n (last (cell_of s b))) (reads s n (last (cell_of s b)))
+      = λ b l. law (cell_of s b) (reads s n) (sound b l) (copied b l) (holds b l) in
+      let cell : (b : ℕ) → cell_of (committed_state s) b ≡ committed (cell_of s b) = cell-committed s t.btt_once t.ptt_once in
+      record {
+        penult_is = λ b l. ap (λ (c : Cell). reads s n (penult c)) (cell b) ∙ (moves b l).penult_is;
+        last_is = λ b l. ap (λ (c : Cell). reads s n (last c)) (cell b) ∙ (moves b l).last_is;
+        work_same = λ b l. ap (λ (c : Cell). reads s n (work c)) (cell b) ∙ (moves b l).work_same;
+        holds = λ b l. subst (Holds (reads s n)) (sym (cell b)) (moves b l).holds;
+      }

@@ -1,0 +1,144 @@
+-- Pages that are listed to be promoted: every other page has the entry that it had.
+use Rattle.std.proofs.Common.{◌≡◌, ◌≢◌, ◌⊎◌, ℕ, ◌+◌, ◌<◌, true, List, [], ◌∷◌, ◌++◌, length, get_or, filter, cond, All, refl, sym, ◌∙◌, ap, subst, inl, inr, arith, suc, Option, Some, None, is_none}
+use Rattle.std.specs.List.{range_with_len}
+use Rattle.std.proofs.lemmas.Bool.{cases_eq}
+use Rattle.std.proofs.lemmas.List.{map-id, length-set, get_or-set_same, get_or-set_other}
+use Rattle.std.proofs.lemmas.List.Elements.{All-filter}
+use Rattle.std.proofs.lemmas.List.FromFn.{filter_of_map_range_with_len_more, get_or-range_with_len, length-range_with_len}
+use Rattle.std.proofs.lemmas.List.Quantifiers.{position-Some}
+use Rattle.thy_table.specs.Listing.{Listing, IsListing, entry_at, place_of, free_place, with_entry, added_at}
+use Rattle.thy_table.proofs.IndexLemmas.{None-is_none}
+use Rattle.thy_table.proofs.ListingLaws.{IsListing-put}
+use Rattle.thy_tables.specs.declared.page_entry.PttEntry.{PttEntry}
+use Rattle.thy_tables.specs.PageEntry.{no_page, promoted_page}
+use Rattle.thy_switch.specs.Counts.{Tally, is_dense}
+use Rattle.thy_control.specs.Find.{entry_for, with_found, with_entry_for}
+use Rattle.thy_control.specs.Keys.{page_key}
+use Rattle.thy_control.specs.Seal.{dense_below, with_pages}
+use Rattle.thy_control.proofs.FindLemmas.{found_entry, entry_for-some, entry_for-none, place_of-new_same, place_of-new_other}
+use Rattle.thy_control.proofs.CommitLemmas.{AreLive}
+
+-- a page has the entry that it had, or was not listed and is to be promoted
+pub record Same (t u : Listing PttEntry) (n : ℕ) : Type 0 where
+  pub place : place_of page_key n u ≡ place_of page_key n t
+  pub entry : entry_for page_key no_page n u ≡ entry_for page_key no_page n t
+
+pub record Listed (t u : Listing PttEntry) (n : ℕ) : Type 0 where
+  pub unlisted : place_of page_key n t ≡ None
+  pub at : ℕ
+  pub place : place_of page_key n u ≡ Some at
+  pub entry : entry_for page_key no_page n u ≡ promoted_page n
+
+-- what is known of a page table after some were listed
+pub record Lists (t u : Listing PttEntry) : Type 0 where
+  pub size : length u.entries ≡ length t.entries
+  pub numbers : u.numbers ≡ t.numbers
+  pub once : IsListing page_key t → IsListing page_key u
+  pub live : AreLive t → AreLive u
+  pub each : (n : ℕ) → Same t u n ⊎ Listed t u n
+
+lists_none : (t : Listing PttEntry) → Lists t t
+lists_none t = record { size = refl; numbers = refl; once = λ o. o; live = λ h. h; each = λ n. inl (record { place = refl; entry = refl }) }
+
+-- a page whose place stays listed stays so
+lists_on : (t u v : Listing PttEntry) → Lists t u → Lists u v → Lists t v
+lists_on t u v a b = record {
+  size = b.size ∙ a.size;
+  numbers = b.numbers ∙ a.numbers;
+  once = λ o. b.once (a.once o);
+  live = λ h. b.live (a.live h);
+  each = λ n. each n (a.each n) (b.each n);
+} where
+  each : (n : ℕ) → Same t u n ⊎ Listed t u n → Same u v n ⊎ Listed u v n → Same t v n ⊎ Listed t v n
+  each n (inl x) (inl y) = inl (record { place = y.place ∙ x.place; entry = y.entry ∙ x.entry })
+  each n (inl x) (inr y) = inr (record { unlisted = sym x.place ∙ y.unlisted; at = y.at; place = y.place; entry = y.entry })
+  each n (inr x) (inl y) = inr (record { unlisted = x.unlisted; at = x.at; place = y.place ∙ x.place; entry = y.entry ∙ x.entry })
+  each n (inr x) (inr y) = let both : Some x.at ≡ None = sym x.place ∙ y.unlisted in cc
+
+-- one page is put in the lowest free place
+module _ (t : Listing PttEntry) (m i : ℕ) (unlisted : place_of page_key m t ≡ None) (lowest : free_place t ≡ Some i) (room : m < t.numbers) where
+  free_there : (entry_at t i ≡ None) × (i < length t.entries)
+  free_there = let first = position-Some is_none t.entries i None lowest in (None-is_none (entry_at t i) first.1, first.0)
+
+  abbrev u : Listing PttEntry
+  u = with_entry i (Some (promoted_page m)) t
+
+  listed_here : Listed t u m
+  listed_here =
+      let place : place_of page_key m u ≡ Some i = place_of-new_same page_key promoted_page (λ n. refl) t m i unlisted lowest in
+      record {
+        unlisted = unlisted;
+        at = i;
+        place = place;
+        entry = entry_for-some page_key no_page u m i (promoted_page m) place (get_or-set_same t.entries i (Some (promoted_page m)) None free_there.1);
+      }
+
+  same_there : (n : ℕ) → n ≢ m → Same t u n
+  same_there n other = record { place = place; entry = by_place (place_of page_key n t) refl } where
+    place : place_of page_key n u ≡ place_of page_key n t
+    place = place_of-new_other page_key promoted_page (λ k. refl) t m i unlisted lowest n other
+
+    by_place : (o : Option ℕ) → place_of page_key n t ≡ o → entry_for page_key no_page n u ≡ entry_for page_key no_page n t
+    by_place None h = entry_for-none page_key no_page u n (place ∙ h) ∙ sym (entry_for-none page_key no_page t n h)
+    by_place (Some k) h =
+        let f = found_entry page_key no_page t n k h in
+        let apart : k ≢ i = λ s. (let both : Some f.0 ≡ None = sym f.1 ∙ ap (entry_at t) s ∙ free_there.0 in cc) in
+        entry_for-some page_key no_page u n k f.0 (place ∙ h) (get_or-set_other t.entries i k (Some (promoted_page m)) None apart ∙ f.1)
+        ∙ sym (entry_for-some page_key no_page t n k f.0 h f.1)
+
+  live_there : AreLive t → AreLive u
+  live_there live j e was bare = elim (cases_eq j i) as (λ _. e.fresh ≡ true) [
+    | inl s ↦
+        let now : Some (promoted_page m) ≡ Some e = sym (ap (entry_at u) s ∙ get_or-set_same t.entries i (Some (promoted_page m)) None free_there.1) ∙ was in
+        let same : promoted_page m ≡ e = cc in
+        sym (ap (λ (x : PttEntry). x.fresh) same)
+    | inr o ↦ live j e (sym (get_or-set_other t.entries i j (Some (promoted_page m)) None o) ∙ was) bare
+  ]
+
+  each_there : (n : ℕ) → Same t u n ⊎ Listed t u n
+  each_there n = elim (cases_eq n m) as (λ _. Same t u n ⊎ Listed t u n) [
+    | inl s ↦ inr (subst (λ (k : ℕ). Listed t u k) (sym s) listed_here)
+    | inr o ↦ inl (same_there n o)
+  ]
+
+-- so it is of one page
+pub lists_one : (t : Listing PttEntry) (m : ℕ) → m < t.numbers → Lists t (with_entry_for page_key promoted_page m t)
+lists_one t m room = by_place (place_of page_key m t) refl where
+  by_free : place_of page_key m t ≡ None → (o : Option ℕ) → free_place t ≡ o → Lists t (record t { entries = added_at o (promoted_page m) t.entries })
+  by_free h None f = lists_none t
+  by_free h (Some i) f = record {
+    size = length-set t.entries i (Some (promoted_page m));
+    numbers = refl;
+    once = λ once. IsListing-put page_key t once i (promoted_page m) (free_there t m i h f room).1 h room;
+    live = live_there t m i h f room;
+    each = each_there t m i h f room;
+  }
+
+  by_place : (o : Option ℕ) → place_of page_key m t ≡ o → Lists t (with_found page_key promoted_page o m t)
+  by_place (Some i) h = lists_none t
+  by_place None h = by_free h (free_place t) refl
+
+-- and of any number
+pub lists_all : (ns : List ℕ) (t : Listing PttEntry) → All (λ n. n < t.numbers) ns → Lists t (with_pages ns t)
+lists_all [] t inside = lists_none t
+lists_all (n ∷ ns) t inside =
+    let one : Lists t (with_entry_for page_key promoted_page n t) = lists_one t n (inside 0 0 (omega arith)) in
+    let u : Listing PttEntry = with_entry_for page_key promoted_page n t in
+    lists_on t u (with_pages ns u) one
+    (lists_all ns u (λ k d l. subst (λ (m : ℕ). get_or ns k d < m) (sym one.numbers) (inside (suc k) d (omega arith))))
+
+-- the dense pages below a number are below it
+pub dense-below : (c : Tally) (n : ℕ) → All (λ k. k < n) (dense_below c n)
+dense-below c n = All-filter (is_dense c) (λ k. k < n) (range_with_len 0 n)
+    (λ k d l. let inside : k < n = omega (arith, l, length-range_with_len 0 n) in omega (arith, get_or-range_with_len 0 n k d inside))
+
+-- one number more
+pub dense_below-more : (c : Tally) (n : ℕ) → dense_below c (n + 1) ≡ dense_below c n ++ cond (is_dense c n) (n ∷ []) []
+dense_below-more c n =
+    ap (filter (is_dense c)) (sym (map-id (range_with_len 0 (n + 1))))
+    ∙ filter_of_map_range_with_len_more (is_dense c) (λ k. k) 0 n n (omega arith)
+    ∙ ap (λ ks. filter (is_dense c) ks ++ cond (is_dense c n) (n ∷ []) []) (map-id (range_with_len 0 n))
+
+pub with_pages-append : (xs ys : List ℕ) (t : Listing PttEntry) → with_pages (xs ++ ys) t ≡ with_pages ys (with_pages xs t)
+with_pages-append [] ys t = refl
+with_pages-append (x ∷ xs) ys t = with_pages-append xs ys (with_entry_for page_key promoted_page x t)

@@ -1,0 +1,89 @@
+-- What a seal makes of the controller: what the program stored since the last one goes to the next checkpoint.
+use Rattle.std.specs.Prelude.{◌≡◌, ℕ, ◌*◌, ◌<◌, nat_lt, Bool, true, false, List, [], ◌∷◌, length, filter, Option, Some, refl}
+use Rattle.std.proofs.Common.{sym, ◌∙◌, ap}
+use Rattle.std.specs.List.{range_with_len}
+use Rattle.thy_base.specs.Device.{Device}
+use Rattle.thy_base.specs.Geometry.{memory_blocks}
+use Rattle.thy_base.specs.Store.{page_of}
+use Rattle.thy_table.specs.Listing.{Listing, free_count, mapped}
+use Rattle.thy_tables.specs.declared.block_entry.BttEntry.{BttEntry}
+use Rattle.thy_tables.specs.declared.block_entry.Version.{Version}
+use Rattle.thy_tables.specs.declared.block_entry.Version.TheVariants.{Out, Alt}
+use Rattle.thy_tables.specs.declared.block_entry.Working.{Working}
+use Rattle.thy_tables.specs.declared.block_entry.Working.TheVariants.{NoWork, InNvm, InBuffer}
+use Rattle.thy_tables.specs.declared.page_entry.PttEntry.{PttEntry}
+use Rattle.thy_tables.specs.PageEntry.{no_page, promoted_page, is_framed}
+use Rattle.thy_switch.specs.Counts.{Tally, is_dense, is_low, reset}
+use Rattle.thy_cell.specs.Checkpoint.{IsBare, sealed_by, sealed_entry, sealed_page}
+use Rattle.thy_control.specs.Find.{entry_for, with_entry_for}
+use Rattle.thy_control.specs.Keys.{block_key, page_key}
+use Rattle.thy_control.specs.State.{State, cell_of, penult_of, last_of, work_of}
+use Rattle.thy_control.specs.Stays.{HoldAll, lists0}
+
+-- few entries of the block table are free: under half
+abbrev pub is_few : State → Bool
+is_few s = nat_lt (2 * free_count s.btt) s.p.btt
+
+-- the page of a block is framed
+abbrev pub block_is_framed : Listing PttEntry → ℕ → Bool
+block_is_framed t b = is_framed (entry_for page_key no_page (page_of b) t)
+
+-- a block's entry, by whether few are free, and by the page table
+abbrev pub sealed_in : Bool → Listing PttEntry → BttEntry → Option BttEntry
+sealed_in few t e = Some (sealed_entry (block_is_framed t e.block) few e)
+
+-- a page's entry, by the counts
+abbrev pub sealed_as_counted : Tally → PttEntry → Option PttEntry
+sealed_as_counted c e = sealed_page (is_low c e.page) e
+
+-- which is of the block that it was of
+sealed_by-block : (framed : Bool) (w : Working) (few : Bool) (v : Version) (e : BttEntry) → block_key (sealed_by framed w few v e) ≡ block_key e
+sealed_by-block true w few v e = refl
+sealed_by-block false InNvm few v e = refl
+sealed_by-block false InBuffer few v e = refl
+sealed_by-block false NoWork true Alt e = refl
+sealed_by-block false NoWork true Out e = refl
+sealed_by-block false NoWork false v e = refl
+
+pub sealed_in-block : (few : Bool) (t : Listing PttEntry) (e f : BttEntry) → sealed_in few t e ≡ Some f → block_key f ≡ block_key e
+sealed_in-block few t e f h =
+    let framed : Bool = block_is_framed t e.block in
+    let same : sealed_entry framed few e ≡ f = cc in
+    sym (ap block_key same) ∙ sealed_by-block framed e.work few e.v1 e
+
+-- the pages below one that were stored to densely, by rising number
+abbrev pub dense_below : Tally → ℕ → List ℕ
+dense_below c n = filter (is_dense c) (range_with_len 0 n)
+
+-- each page that the table does not list takes the lowest free entry, while there is one, and is to be promoted
+abbrev pub with_pages : List ℕ → Listing PttEntry → Listing PttEntry
+with_pages [] t = t
+with_pages (n ∷ ns) t = with_pages ns (with_entry_for page_key promoted_page n t)
+
+-- the page table: first its entries, then the pages to be promoted
+abbrev pub sealed_ptt : Tally → Listing PttEntry → Listing PttEntry
+sealed_ptt c t = with_pages (dense_below c (length c.counts)) (mapped (sealed_as_counted c) t)
+
+unfoldable pub sealed_state : State → State
+sealed_state s = record s {
+  btt = mapped (sealed_in (is_few s) s.ptt) s.btt;
+  ptt = sealed_ptt s.counts s.ptt;
+  counts = reset s.counts;
+  under_way = true;
+}
+
+-- no block has work in a buffer over the frame of its page
+pub record IsBareState (s : State) : Type 0 where
+  pub bare : (b : ℕ) → b < memory_blocks s.p → IsBare (cell_of s b)
+
+-- where the places hold what they have to, the last version is what a load gave, and gives; the committed one stays
+pub record Seals (s t : State) (n : Device) : Type 0 where
+  pub penult_same : (b : ℕ) → b < memory_blocks s.p → penult_of t n b ≡ penult_of s n b
+  pub last_is : (b : ℕ) → b < memory_blocks s.p → last_of t n b ≡ work_of s n b
+  pub work_same : (b : ℕ) → b < memory_blocks s.p → work_of t n b ≡ work_of s n b
+  pub holds : HoldAll t n
+
+-- and so do the tables of the committed checkpoint
+pub record SealsTables (s t : State) : Type 0 where
+  pub lists : lists0 t ≡ lists0 s
+  pub versions : (n : Device) → HoldAll s n → Seals s t n
