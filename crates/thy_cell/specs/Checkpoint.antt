@@ -148,11 +148,15 @@ SealTakesWork =
     (few low : Bool) (c : Cell) → IsSoundCell false c → IsBare c → (sealed few low c).entry.work ≡ NoWork
 
 -- The listing of a page that is to be promoted keeps every version, where the block has no work
+pub record ListsPage (under_way : Bool) (c d : Cell) : Type 0 where
+  pub sound : IsSoundCell under_way d
+  pub moves : (reads : Place → Block) → Moves reads c d (reads (penult c)) (reads (last c))
+
 abbrev pub ListingKeeps : Type 0
 ListingKeeps =
-    (under_way : Bool) (j page : ℕ) (c : Cell) (reads : Place → Block)
+    (under_way : Bool) (j page : ℕ) (c : Cell)
     → IsSoundCell under_way c → c.page ≡ no_page page → c.entry.work ≡ NoWork
-    → IsSoundCell under_way (with_listed j c) × Moves reads c (with_listed j c) (reads (penult c)) (reads (last c))
+    → ListsPage under_way c (with_listed j c)
 
 -- A commit: what was the last version is the committed one now
 abbrev pub CommitKeepsSound : Type 0

@@ -17,3 +17,4 @@ pub mod MappedLemmas
 pub mod CommitLemmas
 pub mod ListPageLemmas
 pub mod SealLemmas
+pub mod SealStateLemmas

@@ -44,7 +44,7 @@ sealed_as_counted-page c e f h = elim (page_left (is_low c e.page) (is_framed e)
   | inr s ↦ ap page_key s
 ]
 
-live_left : (c : Tally) (e f : PttEntry) → sealed_as_counted c e ≡ Some f → (is_framed e ≡ false → e.fresh ≡ true) → is_framed f ≡ false → f.fresh ≡ true
+pub live_left : (c : Tally) (e f : PttEntry) → sealed_as_counted c e ≡ Some f → (is_framed e ≡ false → e.fresh ≡ true) → is_framed f ≡ false → f.fresh ≡ true
 live_left c e f h live bare = elim (page_left (is_low c e.page) (is_framed e) e f refl h) as (λ _. f.fresh ≡ true) [
   | inl l ↦ elim (cases_Bool (is_framed e)) as (λ _. f.fresh ≡ true) [
     | inl framed ↦ let now : is_framed f ≡ true = l.framed framed in cc
@@ -85,7 +85,3 @@ module _ (s : State) (blocks : IsListing block_key s.btt) (pages : IsListing pag
       (entry_for-mapped page_key no_page low (sealed_as_counted-page s.counts) s.ptt pages (page_of b) refl
       ∙ ap (λ (o : Option PttEntry). unwrap_or o (no_page (page_of b))) counted
       ∙ or_none c.page.page (page_of b) (sealed_page (is_low s.counts (page_of b)) c.page) (page-cell_of s b))
-
--- a block's cell after a seal: that of the seal, or its page was not listed and now is
-abbrev pub OrListed : Cell → Cell → Type 0
-OrListed c d = (d ≡ c) ⊎ ((c.page ≡ no_page c.page.page) × ((j : ℕ) × (d ≡ with_listed j c)))
