@@ -101,3 +101,12 @@ module _ (s : State) (t : AreSoundTables s) (way : s.under_way ≡ true) (copied
         work_same = λ b l. ap (λ (c : Cell). reads s n (work c)) (cell b) ∙ (moves b l).work_same;
         holds = λ b l. subst (Holds (reads s n)) (sym (cell b)) (moves b l).holds;
       }
+
+-- a state whose tables were committed
+pub committed_parts : (s v : State) (btt : Listing BttEntry) (ptt : Listing PttEntry) → v ≡ s
+    → btt ≡ mapped committed_entry v.btt → ptt ≡ mapped committed_page v.ptt
+    → record v { btt = btt; ptt = ptt; under_way = false } ≡ committed_state s
+unfolding committed_state
+committed_parts s v btt ptt e of_btt of_ptt =
+    ap (λ (t : Listing BttEntry). record v { btt = t; ptt = ptt; under_way = false }) of_btt
+    ∙ ap (λ (t : Listing PttEntry). record (committed_state v) { ptt = t }) of_ptt ∙ ap committed_state e

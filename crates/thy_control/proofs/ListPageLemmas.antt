@@ -1,5 +1,5 @@
 -- Pages that are listed to be promoted: every other page has the entry that it had.
-use Rattle.std.proofs.Common.{◌≡◌, ◌≢◌, ◌⊎◌, ℕ, ◌+◌, ◌<◌, true, List, [], ◌∷◌, ◌++◌, length, get_or, filter, cond, All, refl, sym, ◌∙◌, ap, subst, inl, inr, arith, suc, Option, Some, None, is_none}
+use Rattle.std.proofs.Common.{◌≡◌, ◌≢◌, ◌⊎◌, ℕ, ◌+◌, ◌<◌, ◌≤◌, Bool, true, false, if◌then◌else◌, List, [], ◌∷◌, ◌++◌, length, get_or, filter, cond, All, refl, sym, ◌∙◌, ap, subst, inl, inr, arith, suc, Option, Some, None, is_none}
 use Rattle.std.specs.List.{range_with_len}
 use Rattle.std.proofs.lemmas.Bool.{cases_eq}
 use Rattle.std.proofs.lemmas.List.{map-id, length-set, get_or-set_same, get_or-set_other}
@@ -14,7 +14,7 @@ use Rattle.thy_tables.specs.PageEntry.{no_page, promoted_page}
 use Rattle.thy_switch.specs.Counts.{Tally, is_dense}
 use Rattle.thy_control.specs.Find.{entry_for, with_found, with_entry_for}
 use Rattle.thy_control.specs.Keys.{page_key}
-use Rattle.thy_control.specs.Seal.{dense_below, with_pages}
+use Rattle.thy_control.specs.Seal.{dense_below, with_pages, with_dense}
 use Rattle.thy_control.proofs.FindLemmas.{found_entry, entry_for-some, entry_for-none, place_of-new_same, place_of-new_other}
 use Rattle.thy_control.proofs.CommitLemmas.{AreLive}
 
@@ -142,3 +142,16 @@ dense_below-more c n =
 pub with_pages-append : (xs ys : List ℕ) (t : Listing PttEntry) → with_pages (xs ++ ys) t ≡ with_pages ys (with_pages xs t)
 with_pages-append [] ys t = refl
 with_pages-append (x ∷ xs) ys t = with_pages-append xs ys (with_entry_for page_key promoted_page x t)
+
+pub with_pages-more : (c : Tally) (n : ℕ) (t : Listing PttEntry) → with_dense c n (with_pages (dense_below c n) t) ≡ with_pages (dense_below c (n + 1)) t
+with_pages-more c n t =
+    one (is_dense c n) (with_pages (dense_below c n) t) ∙ sym (with_pages-append (dense_below c n) (cond (is_dense c n) (n ∷ []) []) t)
+    ∙ sym (ap (λ ns. with_pages ns t) (dense_below-more c n))
+  where
+    one : (d : Bool) (u : Listing PttEntry) → (if d then with_entry_for page_key promoted_page n u else u) ≡ with_pages (cond d (n ∷ []) []) u
+    one true u = refl
+    one false u = refl
+
+-- the listing of pages below a number leaves the table the numbers that it can list
+pub numbers-below : (c : Tally) (n : ℕ) (t : Listing PttEntry) → n ≤ t.numbers → (with_pages (dense_below c n) t).numbers ≡ t.numbers
+numbers-below c n t l = (lists_all (dense_below c n) t (λ k d h. omega (arith, dense-below c n k d h))).numbers

@@ -12,7 +12,7 @@ use Rattle.thy_tables.specs.BlockEntry.{new_entry}
 use Rattle.thy_tables.specs.PageEntry.{no_page, is_framed}
 use Rattle.thy_switch.specs.Counts.{Tally, is_low}
 use Rattle.thy_cell.specs.declared.cell.Cell.{Cell}
-use Rattle.thy_cell.specs.Checkpoint.{sealed, sealed_entry, sealed_page, page_sealed_by, kept_index, with_listed}
+use Rattle.thy_cell.specs.Checkpoint.{sealed, sealed_entry, sealed_page, page_sealed_by, kept_index}
 use Rattle.thy_control.specs.Keys.{block_key, page_key}
 use Rattle.thy_control.specs.State.{State, cell_of}
 use Rattle.thy_control.specs.Seal.{is_few, block_is_framed, sealed_in, sealed_in-block, sealed_as_counted}

@@ -1,5 +1,5 @@
 -- A seal leaves the tables sound, and moves the versions of every block.
-use Rattle.std.proofs.Common.{◌≡◌, ◌⊎◌, ℕ, ◌<◌, Bool, true, false, length, replicate, refl, sym, ◌∙◌, ap, subst, inl, inr, arith, Option, Some, unwrap_or}
+use Rattle.std.proofs.Common.{◌≡◌, ◌⊎◌, ℕ, ◌<◌, Bool, true, false, length, refl, sym, ◌∙◌, ap, subst, inl, inr, arith, Option, unwrap_or}
 use Rattle.std.proofs.lemmas.List.{length-map, length-replicate}
 use Rattle.std.specs.Option.{option_and_then}
 use Rattle.thy_base.specs.declared.block.Block.{Block}
@@ -7,12 +7,14 @@ use Rattle.thy_base.specs.declared.place.Place.{Place}
 use Rattle.thy_base.specs.Device.{Device}
 use Rattle.thy_base.specs.Geometry.{memory_blocks}
 use Rattle.thy_base.specs.Store.{page_of}
+use Rattle.thy_table.specs.Listing.{Listing, mapped}
 use Rattle.thy_table.proofs.ListingLaws.{IsListing-mapped}
+use Rattle.thy_tables.specs.declared.block_entry.BttEntry.{BttEntry}
 use Rattle.thy_tables.specs.declared.page_entry.PttEntry.{PttEntry}
 use Rattle.thy_tables.specs.PageEntry.{no_page, promoted_page}
-use Rattle.thy_switch.specs.Counts.{is_low}
+use Rattle.thy_switch.specs.Counts.{Tally, is_low, reset}
 use Rattle.thy_cell.specs.declared.cell.Cell.{Cell}
-use Rattle.thy_cell.specs.Cells.{penult, last, work}
+use Rattle.thy_cell.specs.Cells.{penult, work}
 use Rattle.thy_cell.specs.Sound.{IsSoundCell, Holds}
 use Rattle.thy_cell.specs.Checkpoint.{sealed, with_listed, Moves, ListsPage, SealKeepsSound, SealMoves, SealTakesWork, ListingKeeps}
 use Rattle.thy_control.specs.Keys.{block_key, page_key}
@@ -128,3 +130,13 @@ module _ (s : State) (t : AreSoundTables s) (idle : s.under_way ≡ false) (whol
         work_same = λ b l. (each b l).work_same;
         holds = λ b l. (each b l).holds;
       }
+
+-- a state whose tables were sealed
+pub sealed_parts : (s v : State) (few : Bool) (btt : Listing BttEntry) (ptt : Listing PttEntry) (counts : Tally) → v ≡ s → few ≡ is_few v
+    → btt ≡ mapped (sealed_in few v.ptt) v.btt → ptt ≡ sealed_ptt v.counts v.ptt → counts ≡ reset v.counts
+    → record v { btt = btt; ptt = ptt; counts = counts; under_way = true } ≡ sealed_state s
+unfolding sealed_state
+sealed_parts s v few btt ptt counts e of_few of_btt of_ptt of_counts =
+    ap (λ (t : Listing BttEntry). record v { btt = t; ptt = ptt; counts = counts; under_way = true }) (of_btt ∙ ap (λ (q : Bool). mapped (sealed_in q v.ptt) v.btt) of_few)
+    ∙ ap (λ (t : Listing PttEntry). record (sealed_state v) { ptt = t; counts = counts }) of_ptt
+    ∙ ap (λ (t : Tally). record (sealed_state v) { counts = t }) of_counts ∙ ap sealed_state e

@@ -1,5 +1,5 @@
 -- What a seal makes of the controller: what the program stored since the last one goes to the next checkpoint.
-use Rattle.std.specs.Prelude.{◌≡◌, ℕ, ◌*◌, ◌<◌, nat_lt, Bool, true, false, List, [], ◌∷◌, length, filter, Option, Some, refl}
+use Rattle.std.specs.Prelude.{◌≡◌, ℕ, ◌*◌, ◌<◌, nat_lt, Bool, true, false, List, [], ◌∷◌, length, filter, if◌then◌else◌, Option, Some, refl}
 use Rattle.std.proofs.Common.{sym, ◌∙◌, ap}
 use Rattle.std.specs.List.{range_with_len}
 use Rattle.thy_base.specs.Device.{Device}
@@ -59,6 +59,10 @@ dense_below c n = filter (is_dense c) (range_with_len 0 n)
 abbrev pub with_pages : List ℕ → Listing PttEntry → Listing PttEntry
 with_pages [] t = t
 with_pages (n ∷ ns) t = with_pages ns (with_entry_for page_key promoted_page n t)
+
+-- one page, where it was stored to densely
+abbrev pub with_dense : Tally → ℕ → Listing PttEntry → Listing PttEntry
+with_dense c n t = if is_dense c n then with_entry_for page_key promoted_page n t else t
 
 -- the page table: first its entries, then the pages to be promoted
 abbrev pub sealed_ptt : Tally → Listing PttEntry → Listing PttEntry

@@ -11,11 +11,14 @@ ghost use Rattle.thy_control.specs.Keys.{block_key, page_key};
 ghost use Rattle.thy_cell.specs.Store.{put_by};
 ghost use Rattle.thy_control.specs.Tables.{btt_with, btt_after, ptt_after, counts_after, answer_of};
 
+use crate::seal::{CommitBlocks, CommitPages, seal_blocks, seal_pages};
 use std::alloc::{AllocError, Global};
 use std::marker::Model;
 use thy_base::{Block, Geometry, Nvm, NvmError, Place, Stored};
 use thy_cell::{
-    Cell, StoreRule, a_store_goes_elsewhere, a_store_is_read, a_store_leaves_the_target,
+    Cell, StoreRule, a_commit_keeps_entries_sound, a_commit_takes_the_last,
+    a_listing_keeps_versions, a_seal_keeps_entries_sound, a_seal_leaves_no_work,
+    a_seal_takes_the_work, a_store_goes_elsewhere, a_store_is_read, a_store_leaves_the_target,
     a_store_leaves_what_has_to_stand, new_cells_are_sound,
 };
 use thy_dram::Dram;
@@ -158,6 +161,10 @@ fn answer(rule: StoreRule) -> Stored
 }
 
 impl Control {
+    ghost use Rattle.thy_base.specs.Device.{Device};
+    ghost use Rattle.thy_control.specs.Seal.{is_few, sealed_state, IsBareState, Seals};
+    ghost use Rattle.thy_control.specs.Commit.{committed_state, Commits};
+    ghost use Rattle.thy_control.specs.Stays.{AreCopied};
     ghost use Rattle.thy_control.specs.Rules.{with_block, rule_for, devices_after, state_after, IsWholeState, FailsStore};
     ghost use Rattle.thy_control.specs.State.{AreSoundTables, IsSized, cell_of, penult_of, work_of, reads, new_state};
     ghost use Rattle.thy_control.specs.Stays.{HoldAll, Stays};
@@ -287,6 +294,54 @@ impl Control {
         a_store_leaves_what_has_to_stand();
         self.tables();
         self.put(b, block, nvm)
+    }
+
+    /// Seals the epoch: what the program stored since the last seal goes to the checkpoint that begins. No checkpoint
+    /// may be under way, no page in promotion, and no work in a buffer over a frame. Writes to no device.
+    pub fn seal(&mut self)
+        requires idle { self.old.under_way ≡ false }
+        requires whole { IsWholeState self.old }
+        requires bare { IsBareState self.old }
+        ensures state { self.new ≡ sealed_state self.old }
+
+        // The last version of each block is what a load gave, and gives; the committed one stays.
+        ensures versions { (n : Device) → HoldAll self.old n → Seals self.old self.new n }
+    {
+        a_seal_keeps_entries_sound();
+        a_seal_takes_the_work();
+        a_seal_leaves_no_work();
+        a_listing_keeps_versions();
+        self.tables();
+        let few = self.has_few();
+        seal_blocks(&mut self.btt, &self.ptt, few);
+        seal_pages(&mut self.ptt, &self.counts);
+        self.counts.reset();
+        self.under_way = true;
+    }
+
+    /// Whether under half of the block table's entries are free.
+    fn has_few(&self) -> bool
+        ensures { result ≡ is_few self.now }
+    {
+        2 * self.btt.free() < self.btt.size() as u64
+    }
+
+    /// Commits the checkpoint under way: it becomes the committed one. One must be under way, with every copy made and every
+    /// page written. Writes to no device.
+    pub fn commit(&mut self)
+        requires way { self.old.under_way ≡ true }
+        requires copied { AreCopied self.old }
+        ensures state { self.new ≡ committed_state self.old }
+
+        // The committed version of each block is what was the last one; that and what a load gives stay.
+        ensures versions { (n : Device) → HoldAll self.old n → Commits self.old self.new n }
+    {
+        a_commit_keeps_entries_sound();
+        a_commit_takes_the_last();
+        self.tables();
+        self.btt.map_entries(&CommitBlocks);
+        self.ptt.map_entries(&CommitPages);
+        self.under_way = false;
     }
 
     /// Stores block `b` by its rule, or makes the copy that has to go first: one write at one place.

@@ -4,6 +4,7 @@
 
 mod control;
 mod laws;
+mod seal;
 mod store;
 
 pub use control::Control;

@@ -1,0 +1,21 @@
+use Rattle.std.proofs.Common.{sym, subst}
+use Rattle.thy_control.specs.State.{State, AreSoundTables}
+use Rattle.thy_control.specs.Commit.{Commits}
+use Rattle.thy_control.proofs.CommitLemmas.{AreSoundTables-committed, Commits-committed, committed_parts}
+use Rattle.thy_control.proofs.control.Control.commit.Goals as goal
+
+pub returns-clause-state : goal.returns-clause-state
+returns-clause-state c =
+    let s : State = c.args.self.now in
+    let v : State = record { p = c.self.inside.geometry; btt = c.self.inside.btt; ptt = c.self.inside.ptt; counts = c.self.inside.counts; under_way = c.self.inside.under_way; dram = c.self.inside.dram } in
+    committed_parts s v c.map_entries.new.self c.map_entries-2.new.self c.self.view_is c.map_entries.ensures c.map_entries-2.ensures
+
+pub invariant_of-self : goal.invariant_of-self
+invariant_of-self c =
+    subst (λ (t : State). AreSoundTables t) (sym (returns-clause-state c))
+    (AreSoundTables-committed c.args.self.now c.tables.ensures c.requires.way c.requires.copied c.a_commit_keeps_entries_sound.ensures)
+
+pub returns-clause-versions : goal.returns-clause-versions
+returns-clause-versions c n holds =
+    subst (λ (t : State). Commits c.args.self.now t n) (sym (returns-clause-state c))
+    (Commits-committed c.args.self.now c.tables.ensures c.requires.way c.requires.copied c.a_commit_takes_the_last.ensures n holds)
