@@ -18,3 +18,4 @@ pub mod CommitLemmas
 pub mod ListPageLemmas
 pub mod SealLemmas
 pub mod SealStateLemmas
+pub mod MovedTablesLemmas

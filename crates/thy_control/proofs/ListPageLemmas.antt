@@ -1,8 +1,9 @@
 -- Pages that are listed to be promoted: every other page has the entry that it had.
-use Rattle.std.proofs.Common.{◌≡◌, ◌≢◌, ◌⊎◌, ℕ, ◌+◌, ◌<◌, ◌≤◌, Bool, true, false, if◌then◌else◌, List, [], ◌∷◌, ◌++◌, length, get_or, filter, cond, All, refl, sym, ◌∙◌, ap, subst, inl, inr, arith, suc, Option, Some, None, is_none}
+use Rattle.std.proofs.Common.{◌≡◌, ◌≢◌, ◌⊎◌, ℕ, ◌+◌, ◌<◌, ◌≤◌, Bool, true, false, if◌then◌else◌, List, [], ◌∷◌, ◌++◌, length, get_or, map, filter, cond, All, refl, sym, ◌∙◌, ap, subst, inl, inr, arith, suc, Option, Some, None, is_none, option_and_then}
 use Rattle.std.specs.List.{range_with_len}
 use Rattle.std.proofs.lemmas.Bool.{cases_eq}
 use Rattle.std.proofs.lemmas.List.{map-id, length-set, get_or-set_same, get_or-set_other}
+use Rattle.std.proofs.Math.Seq.{map-set_same}
 use Rattle.std.proofs.lemmas.List.Elements.{All-filter}
 use Rattle.std.proofs.lemmas.List.FromFn.{filter_of_map_range_with_len_more, get_or-range_with_len, length-range_with_len}
 use Rattle.std.proofs.lemmas.List.Quantifiers.{position-Some}
@@ -14,6 +15,7 @@ use Rattle.thy_tables.specs.PageEntry.{no_page, promoted_page}
 use Rattle.thy_switch.specs.Counts.{Tally, is_dense}
 use Rattle.thy_control.specs.Find.{entry_for, with_found, with_entry_for}
 use Rattle.thy_control.specs.Keys.{page_key}
+use Rattle.thy_control.specs.CheckpointTables.{page_lists}
 use Rattle.thy_control.specs.Seal.{dense_below, with_pages, with_dense}
 use Rattle.thy_control.proofs.FindLemmas.{found_entry, entry_for-some, entry_for-none, place_of-new_same, place_of-new_other}
 use Rattle.thy_control.proofs.CommitLemmas.{AreLive}
@@ -29,16 +31,21 @@ pub record Listed (t u : Listing PttEntry) (n : ℕ) : Type 0 where
   pub place : place_of page_key n u ≡ Some at
   pub entry : entry_for page_key no_page n u ≡ promoted_page n
 
+-- what the committed checkpoint lists of it
+abbrev pub page_listed0 : PttEntry → Option ℕ
+page_listed0 e = page_lists e.place e.page
+
 -- what is known of a page table after some were listed
 pub record Lists (t u : Listing PttEntry) : Type 0 where
   pub size : length u.entries ≡ length t.entries
   pub numbers : u.numbers ≡ t.numbers
   pub once : IsListing page_key t → IsListing page_key u
   pub live : AreLive t → AreLive u
+  pub tables : map (option_and_then page_listed0) u.entries ≡ map (option_and_then page_listed0) t.entries
   pub each : (n : ℕ) → Same t u n ⊎ Listed t u n
 
 lists_none : (t : Listing PttEntry) → Lists t t
-lists_none t = record { size = refl; numbers = refl; once = λ o. o; live = λ h. h; each = λ n. inl (record { place = refl; entry = refl }) }
+lists_none t = record { size = refl; numbers = refl; once = λ o. o; live = λ h. h; tables = refl; each = λ n. inl (record { place = refl; entry = refl }) }
 
 -- a page whose place stays listed stays so
 lists_on : (t u v : Listing PttEntry) → Lists t u → Lists u v → Lists t v
@@ -47,6 +54,7 @@ lists_on t u v a b = record {
   numbers = b.numbers ∙ a.numbers;
   once = λ o. b.once (a.once o);
   live = λ h. b.live (a.live h);
+  tables = b.tables ∙ a.tables;
   each = λ n. each n (a.each n) (b.each n);
 } where
   each : (n : ℕ) → Same t u n ⊎ Listed t u n → Same u v n ⊎ Listed u v n → Same t v n ⊎ Listed t v n
@@ -111,6 +119,8 @@ lists_one t m room = by_place (place_of page_key m t) refl where
     numbers = refl;
     once = λ once. IsListing-put page_key t once i (promoted_page m) (free_there t m i h f room).1 h room;
     live = live_there t m i h f room;
+    tables = map-set_same (option_and_then page_listed0) t.entries i (Some (promoted_page m)) None
+        (sym (ap (option_and_then page_listed0) (free_there t m i h f room).0));
     each = each_there t m i h f room;
   }
 

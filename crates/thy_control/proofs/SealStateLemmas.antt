@@ -31,7 +31,7 @@ use Rattle.thy_control.proofs.SealLemmas.{sealed_as_counted-page, live_left, map
 abbrev pub OrListed : ℕ → Cell → Cell → Type 0
 OrListed n c d = (d ≡ c) ⊎ ((c.page ≡ no_page n) × ((j : ℕ) × (d ≡ with_listed j c)))
 
-lists_sealed : (s : State) → AreSoundTables s → Lists (mapped_state s).ptt (sealed_ptt s.counts s.ptt)
+pub lists_sealed : (s : State) → AreSoundTables s → Lists (mapped_state s).ptt (sealed_ptt s.counts s.ptt)
 lists_sealed s t = lists_all (dense_below s.counts (length s.counts.counts)) (mapped_state s).ptt
     (λ k d l. let inside = dense-below s.counts (length s.counts.counts) k d l in omega (arith, inside, t.counts_size, t.ptt_numbers))
 

@@ -13,7 +13,8 @@ use Rattle.thy_tables.specs.declared.page_entry.PttEntry.{PttEntry}
 use Rattle.thy_cell.specs.Checkpoint.{committed_by, committed_entry, page_committed_by, committed_page}
 use Rattle.thy_control.specs.Keys.{block_key, page_key}
 use Rattle.thy_control.specs.State.{State, penult_of, last_of, work_of}
-use Rattle.thy_control.specs.Stays.{HoldAll, lists0, lists1}
+use Rattle.thy_control.specs.CheckpointTables.{tables0, tables1}
+use Rattle.thy_control.specs.Stays.{HoldAll}
 
 -- an entry that stays lists what it listed
 moved : (e f : BttEntry) (v : Version) → Some (record e { v0 = v }) ≡ Some f → block_key f ≡ block_key e
@@ -52,7 +53,7 @@ pub record Commits (s t : State) (n : Device) : Type 0 where
   pub work_same : (b : ℕ) → b < memory_blocks s.p → work_of t n b ≡ work_of s n b
   pub holds : HoldAll t n
 
--- and the tables of the committed checkpoint are those that were due
+-- the committed checkpoint has the tables that were due, and none is under way
 pub record CommitsTables (s t : State) : Type 0 where
-  pub lists : lists0 t ≡ lists1 s
-  pub versions : (n : Device) → HoldAll s n → Commits s t n
+  pub tables0_next : tables0 t ≡ tables1 s
+  pub tables1_same : tables1 t ≡ tables1 s

@@ -18,7 +18,7 @@ use Rattle.thy_cell.specs.Checkpoint.{IsBare, sealed_by, sealed_entry, sealed_pa
 use Rattle.thy_control.specs.Find.{entry_for, with_entry_for}
 use Rattle.thy_control.specs.Keys.{block_key, page_key}
 use Rattle.thy_control.specs.State.{State, cell_of, penult_of, last_of, work_of}
-use Rattle.thy_control.specs.Stays.{HoldAll, lists0}
+use Rattle.thy_control.specs.Stays.{HoldAll}
 
 -- few entries of the block table are free: under half
 abbrev pub is_few : State → Bool
@@ -86,8 +86,3 @@ pub record Seals (s t : State) (n : Device) : Type 0 where
   pub last_is : (b : ℕ) → b < memory_blocks s.p → last_of t n b ≡ work_of s n b
   pub work_same : (b : ℕ) → b < memory_blocks s.p → work_of t n b ≡ work_of s n b
   pub holds : HoldAll t n
-
--- and so do the tables of the committed checkpoint
-pub record SealsTables (s t : State) : Type 0 where
-  pub lists : lists0 t ≡ lists0 s
-  pub versions : (n : Device) → HoldAll s n → Seals s t n

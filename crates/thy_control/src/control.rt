@@ -162,8 +162,9 @@ fn answer(rule: StoreRule) -> Stored
 
 impl Control {
     ghost use Rattle.thy_base.specs.Device.{Device};
+    ghost use Rattle.thy_control.specs.CheckpointTables.{tables0};
     ghost use Rattle.thy_control.specs.Seal.{is_few, sealed_state, IsBareState, Seals};
-    ghost use Rattle.thy_control.specs.Commit.{committed_state, Commits};
+    ghost use Rattle.thy_control.specs.Commit.{committed_state, Commits, CommitsTables};
     ghost use Rattle.thy_control.specs.Stays.{AreCopied};
     ghost use Rattle.thy_control.specs.Rules.{with_block, rule_for, devices_after, state_after, IsWholeState, FailsStore};
     ghost use Rattle.thy_control.specs.State.{AreSoundTables, IsSized, cell_of, penult_of, work_of, reads, new_state};
@@ -306,6 +307,7 @@ impl Control {
 
         // The last version of each block is what a load gave, and gives; the committed one stays.
         ensures versions { (n : Device) → HoldAll self.old n → Seals self.old self.new n }
+        ensures tables { tables0 self.new ≡ tables0 self.old }
     {
         a_seal_keeps_entries_sound();
         a_seal_takes_the_work();
@@ -335,6 +337,7 @@ impl Control {
 
         // The committed version of each block is what was the last one; that and what a load gives stay.
         ensures versions { (n : Device) → HoldAll self.old n → Commits self.old self.new n }
+        ensures tables { CommitsTables self.old self.new }
     {
         a_commit_keeps_entries_sound();
         a_commit_takes_the_last();

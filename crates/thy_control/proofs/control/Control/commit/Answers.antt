@@ -1,7 +1,8 @@
 use Rattle.std.proofs.Common.{sym, subst}
 use Rattle.thy_control.specs.State.{State, AreSoundTables}
-use Rattle.thy_control.specs.Commit.{Commits}
+use Rattle.thy_control.specs.Commit.{Commits, CommitsTables}
 use Rattle.thy_control.proofs.CommitLemmas.{AreSoundTables-committed, Commits-committed, committed_parts}
+use Rattle.thy_control.proofs.MovedTablesLemmas.{CommitsTables-committed}
 use Rattle.thy_control.proofs.control.Control.commit.Goals as goal
 
 pub returns-clause-state : goal.returns-clause-state
@@ -19,3 +20,7 @@ pub returns-clause-versions : goal.returns-clause-versions
 returns-clause-versions c n holds =
     subst (λ (t : State). Commits c.args.self.now t n) (sym (returns-clause-state c))
     (Commits-committed c.args.self.now c.tables.ensures c.requires.way c.requires.copied c.a_commit_takes_the_last.ensures n holds)
+
+pub returns-clause-tables : goal.returns-clause-tables
+returns-clause-tables c =
+    subst (λ (t : State). CommitsTables c.args.self.now t) (sym (returns-clause-state c)) (CommitsTables-committed c.args.self.now c.tables.ensures)

@@ -2,6 +2,8 @@ use Rattle.std.proofs.Common.{sym, ◌∙◌, ap, subst}
 use Rattle.thy_control.specs.State.{State, AreSoundTables}
 use Rattle.thy_control.specs.Seal.{is_few, Seals}
 use Rattle.thy_control.proofs.SealStateLemmas.{AreSoundTables-sealed, Seals-sealed, sealed_parts}
+use Rattle.thy_control.specs.CheckpointTables.{tables0}
+use Rattle.thy_control.proofs.MovedTablesLemmas.{tables0-sealed}
 use Rattle.thy_control.proofs.control.Control.seal.Goals as goal
 
 pub returns-clause-state : goal.returns-clause-state
@@ -22,3 +24,6 @@ returns-clause-versions c n holds =
     subst (λ (t : State). Seals c.args.self.now t n) (sym (returns-clause-state c))
     (Seals-sealed c.args.self.now c.tables.ensures c.requires.idle c.requires.whole c.requires.bare
     c.a_seal_keeps_entries_sound.ensures c.a_seal_leaves_no_work.ensures c.a_listing_keeps_versions.ensures c.a_seal_takes_the_work.ensures n holds)
+
+pub returns-clause-tables : goal.returns-clause-tables
+returns-clause-tables c = ap tables0 (returns-clause-state c) ∙ tables0-sealed c.args.self.now c.tables.ensures
