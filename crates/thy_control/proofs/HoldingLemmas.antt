@@ -47,10 +47,10 @@ pub length-works : (s : State) (n : Device) → IsSized s n → n.down ≡ false
 length-works s n sized up = ap length (works-sized s n sized up) ∙ length-map-range_with_len (work_of s n) 0 (memory_blocks s.p)
 
 -- a table of free entries
-all_free : (size numbers : ℕ) → free_count (empty_table {E = BttEntry} size numbers) ≡ size
+pub all_free : (size numbers : ℕ) → free_count (empty_table {E = BttEntry} size numbers) ≡ size
 all_free size numbers = omega (arith, sum_by-replicate (λ (o : Option BttEntry). one_if (is_none o)) size None)
 
-none_passes : {E : Type 0} (test : E → Bool) (size : ℕ) → count_by (passes test) (replicate size None) ≡ 0
+pub none_passes : {E : Type 0} (test : E → Bool) (size : ℕ) → count_by (passes test) (replicate size None) ≡ 0
 none_passes {E} test size = omega (arith, sum_by-replicate (λ (o : Option E). one_if (passes test o)) size None)
 
 pub IsNew-holding : (p : Parameters) (dram : Contents) (n : Device) → IsNew p n (holding_of (new_state p dram) n)

@@ -19,3 +19,4 @@ pub mod ListPageLemmas
 pub mod SealLemmas
 pub mod SealStateLemmas
 pub mod MovedTablesLemmas
+pub mod FreesLemmas

@@ -12,3 +12,4 @@ pub mod OverCalls
 pub mod Once
 pub mod Seal
 pub mod Commit
+pub mod Frees

@@ -1,4 +1,5 @@
 //! Laws of the controller, each the contract of a function that does nothing.
+ghost use Rattle.thy_control.specs.Frees.{SealFrees};
 ghost use Rattle.thy_control.specs.Holding.{BlocksAreWorks, MemoryIsHeld, NewIsReady};
 ghost use Rattle.thy_control.specs.Once.{OneActionIsOneOfNvm};
 ghost use Rattle.thy_control.specs.OverCalls.{StaysOverCalls, CopiedStays};
@@ -36,4 +37,10 @@ pub fn a_new_controller_is_ready()
 /// have one write more queued at most.
 pub fn one_action_is_one_of_the_nvm()
     ensures { OneActionIsOneOfNvm }
+{}
+
+/// Where a seal finds no work, and no store comes before its commit, at least half of the block table is free then. So an
+/// epoch that ended for want of entries is followed by one that has them.
+pub fn a_seal_without_work_frees_entries()
+    ensures { SealFrees }
 {}
