@@ -20,3 +20,4 @@ pub mod SealLemmas
 pub mod SealStateLemmas
 pub mod MovedTablesLemmas
 pub mod FreesLemmas
+pub mod MarkLemmas

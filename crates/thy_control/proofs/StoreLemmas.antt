@@ -45,7 +45,7 @@ unpromoted : (framed fresh : Bool) → (not framed && fresh) ≡ false → frame
 unpromoted true fresh h e = cc
 unpromoted false fresh h e = h
 
-whole_page : (s : State) (b : ℕ) → promoted s.ptt ≡ 0 → (o : Option ℕ) → place_of page_key (page_of b) s.ptt ≡ o → IsWhole (cell_of s b).page
+pub whole_page : (s : State) (b : ℕ) → promoted s.ptt ≡ 0 → (o : Option ℕ) → place_of page_key (page_of b) s.ptt ≡ o → IsWhole (cell_of s b).page
 whole_page s b none None h =
     let is : (cell_of s b).page ≡ no_page (page_of b) = entry_for-none page_key no_page s.ptt (page_of b) h in
     record { framed = λ f. ap (λ (x : PttEntry). x.fresh) is }

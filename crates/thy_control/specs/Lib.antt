@@ -12,4 +12,5 @@ pub mod OverCalls
 pub mod Once
 pub mod Seal
 pub mod Commit
+pub mod Overlay
 pub mod Frees

@@ -1,5 +1,5 @@
 //! The controller.
-ghost use Rattle.std.specs.Prelude.{◌≡◌, ◌≢◌, true, None, ◌<◌, ◌≤◌, ◌*◌, false, length, IfOk, OnOk, OnErr};
+ghost use Rattle.std.specs.Prelude.{◌≡◌, ◌≢◌, true, nat_lt, None, ◌<◌, ◌≤◌, ◌*◌, false, length, IfOk, OnOk, OnErr};
 ghost use Rattle.thy_base.specs.Device.{HasFailed, IsFramed, CountsFault, block_at};
 ghost use Rattle.thy_base.specs.Geometry.{memory_blocks};
 ghost use Rattle.thy_base.specs.Places.{dram_blocks, number_of, IsPlace};
@@ -11,6 +11,7 @@ ghost use Rattle.thy_control.specs.Keys.{block_key, page_key};
 ghost use Rattle.thy_cell.specs.Store.{put_by};
 ghost use Rattle.thy_control.specs.Tables.{btt_with, btt_after, ptt_after, counts_after, answer_of};
 
+use crate::overlay::Marks;
 use crate::seal::{CommitBlocks, CommitPages, seal_blocks, seal_pages};
 use std::alloc::{AllocError, Global};
 use std::marker::Model;
@@ -36,16 +37,18 @@ pub struct Control {
     counts: Counts,
     under_way: bool,
     dram: Dram,
+    marks: Marks,
 }
 
 impl Model for Control {
-    ghost use Rattle.thy_control.specs.State.{State, AreSoundTables};
+    ghost use Rattle.thy_control.specs.State.{State};
+    ghost use Rattle.thy_control.specs.Overlay.{IsControl};
 
     ghost Value = { State };
 
     ghost view = { λ c. record { p = c.geometry; btt = c.btt; ptt = c.ptt; counts = c.counts; under_way = c.under_way; dram = c.dram } };
 
-    ghost invariant = { λ c. AreSoundTables (record { p = c.geometry; btt = c.btt; ptt = c.ptt; counts = c.counts; under_way = c.under_way; dram = c.dram }) };
+    ghost invariant = { λ c. IsControl (record { p = c.geometry; btt = c.btt; ptt = c.ptt; counts = c.counts; under_way = c.under_way; dram = c.dram }) c.marks };
 }
 
 /// The place of a block's entry, 0 where it has none, and the entry, or one as a new one would be.
@@ -163,6 +166,8 @@ fn answer(rule: StoreRule) -> Stored
 impl Control {
     ghost use Rattle.thy_base.specs.Device.{Device};
     ghost use Rattle.thy_control.specs.CheckpointTables.{tables0};
+    ghost use Rattle.thy_control.specs.Holding.{promoted};
+    ghost use Rattle.thy_control.specs.Overlay.{overlaid, IsOverlaid, IsPromoting};
     ghost use Rattle.thy_control.specs.Seal.{is_few, sealed_state, IsBareState, Seals};
     ghost use Rattle.thy_control.specs.Commit.{committed_state, Commits, CommitsTables};
     ghost use Rattle.thy_control.specs.Stays.{AreCopied};
@@ -188,6 +193,10 @@ impl Control {
             counts,
             under_way: false,
             dram,
+            marks: Marks {
+                overlaid: 0,
+                promoted: 0,
+            },
         })
     }
 
@@ -203,6 +212,24 @@ impl Control {
         ensures { result ≡ free_count self.now.btt }
     {
         self.btt.free()
+    }
+
+    /// Whether some block has work in a buffer over the frame of its page.
+    pub fn overlay(&self) -> bool
+        ensures overlay { result ≡ nat_lt 0 (overlaid self.now.ptt self.now.btt) }
+        ensures some { result ≡ true → IsOverlaid self.now }
+        ensures none { result ≡ false → IsBareState self.now }
+    {
+        self.marks.overlaid > 0
+    }
+
+    /// Whether a page is being promoted.
+    pub fn promoting(&self) -> bool
+        ensures promoting { result ≡ nat_lt 0 (promoted self.now.ptt) }
+        ensures some { result ≡ true → IsPromoting self.now }
+        ensures none { result ≡ false → IsWholeState self.now }
+    {
+        self.marks.promoted > 0
     }
 
     /// A block as both tables have it.
@@ -319,6 +346,7 @@ impl Control {
         seal_pages(&mut self.ptt, &self.counts);
         self.counts.reset();
         self.under_way = true;
+        self.marks = Marks::of(&self.btt, &self.ptt);
     }
 
     /// Whether under half of the block table's entries are free.
@@ -345,6 +373,7 @@ impl Control {
         self.btt.map_entries(&CommitBlocks);
         self.ptt.map_entries(&CommitPages);
         self.under_way = false;
+        self.marks = Marks::of(&self.btt, &self.ptt);
     }
 
     /// Stores block `b` by its rule, or makes the copy that has to go first: one write at one place.
@@ -380,6 +409,7 @@ impl Control {
         self.btt.lists_once();
         self.ptt.lists_once();
         count_store(rule, b / 64, &mut self.counts);
+        self.marks = self.marks.after(rule, &cell);
         Ok(answer(rule))
     }
 }

@@ -4,6 +4,7 @@
 
 mod control;
 mod laws;
+mod overlay;
 mod seal;
 mod store;
 

@@ -13,7 +13,7 @@ use thy_table::Rule;
 use thy_tables::{Btt, BttEntry, Ptt, PttEntry};
 
 /// Whether the page of a block is framed.
-fn block_is_framed(ptt: &Ptt, b: u64) -> bool
+pub fn block_is_framed(ptt: &Ptt, b: u64) -> bool
     ensures { result ≡ block_is_framed ptt.now b }
 {
     match ptt.find(b / 64) {

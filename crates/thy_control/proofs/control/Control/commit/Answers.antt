@@ -12,9 +12,11 @@ returns-clause-state c =
     committed_parts s v c.map_entries.new.self c.map_entries-2.new.self c.self.view_is c.map_entries.ensures c.map_entries-2.ensures
 
 pub invariant_of-self : goal.invariant_of-self
-invariant_of-self c =
-    subst (λ (t : State). AreSoundTables t) (sym (returns-clause-state c))
-    (AreSoundTables-committed c.args.self.now c.tables.ensures c.requires.way c.requires.copied c.a_commit_keeps_entries_sound.ensures)
+invariant_of-self c = record {
+  tables = subst (λ (t : State). AreSoundTables t) (sym (returns-clause-state c))
+      (AreSoundTables-committed c.args.self.now c.tables.ensures c.requires.way c.requires.copied c.a_commit_keeps_entries_sound.ensures);
+  marks = c.of-self-inside.ensures;
+}
 
 pub returns-clause-versions : goal.returns-clause-versions
 returns-clause-versions c n holds =

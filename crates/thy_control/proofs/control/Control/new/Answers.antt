@@ -6,6 +6,8 @@ use Rattle.thy_tables.specs.declared.block_entry.BttEntry.{BttEntry}
 use Rattle.thy_tables.specs.declared.page_entry.PttEntry.{PttEntry}
 use Rattle.thy_switch.specs.Counts.{Tally, uncounted}
 use Rattle.thy_control.specs.State.{AreSoundTables}
+use Rattle.thy_control.specs.Overlay.{AreMarks}
+use Rattle.thy_control.proofs.MarkLemmas.{no_marks, AreMarks-new}
 use Rattle.thy_control.proofs.NewLemmas.{AreSoundTables-new}
 use Rattle.thy_control.proofs.control.Control.new.Goals as goal
 
@@ -20,7 +22,11 @@ invariant_of-result c =
     = ap (λ (q : Parameters). empty_table q.ptt q.pages) (sym numbers) ∙ sym c.in_ok-ptt.ensures in
     let counts : uncounted p.pages p.high p.low ≡ c.in_ok-counts.counts
     = ap (λ (q : Parameters). uncounted q.pages q.high q.low) (sym numbers) ∙ sym c.in_ok-counts.ensures in
-    subst (λ (t : Tally). AreSoundTables (record { p = p; btt = c.in_ok-btt.btt; ptt = c.in_ok-ptt.ptt; counts = t; under_way = false; dram = c.args.dram })) counts
-    (subst (λ (t : Listing PttEntry). AreSoundTables (record { p = p; btt = c.in_ok-btt.btt; ptt = t; counts = uncounted p.pages p.high p.low; under_way = false; dram = c.args.dram })) ptt
-    (subst (λ (t : Listing BttEntry). AreSoundTables (record { p = p; btt = t; ptt = empty_table p.ptt p.pages; counts = uncounted p.pages p.high p.low; under_way = false; dram = c.args.dram })) btt
-    (AreSoundTables-new c.new_cells_are_sound.ensures p c.args.dram c.memory_blocks.ensures.in_range c.requires)))
+    record {
+      tables = subst (λ (t : Tally). AreSoundTables (record { p = p; btt = c.in_ok-btt.btt; ptt = c.in_ok-ptt.ptt; counts = t; under_way = false; dram = c.args.dram })) counts
+          (subst (λ (t : Listing PttEntry). AreSoundTables (record { p = p; btt = c.in_ok-btt.btt; ptt = t; counts = uncounted p.pages p.high p.low; under_way = false; dram = c.args.dram })) ptt
+          (subst (λ (t : Listing BttEntry). AreSoundTables (record { p = p; btt = t; ptt = empty_table p.ptt p.pages; counts = uncounted p.pages p.high p.low; under_way = false; dram = c.args.dram })) btt
+          (AreSoundTables-new c.new_cells_are_sound.ensures p c.args.dram c.memory_blocks.ensures.in_range c.requires)));
+      marks = subst (λ (t : Listing PttEntry). AreMarks t c.in_ok-btt.btt no_marks) ptt
+          (subst (λ (t : Listing BttEntry). AreMarks (empty_table p.ptt p.pages) t no_marks) btt (AreMarks-new p));
+    }

@@ -1,4 +1,4 @@
-use Rattle.std.proofs.Common.{◌≡◌, ℕ, ◌<◌, length, sym, ◌∙◌, ap, subst, arith}
+use Rattle.std.proofs.Common.{◌≡◌, ℕ, ◌+◌, ◌<◌, length, sym, ◌∙◌, ap, subst, arith}
 use Rattle.thy_base.specs.declared.block.Block.{Block}
 use Rattle.thy_base.specs.declared.place.Place.{Place}
 use Rattle.thy_base.specs.Device.{Device, HasFailedToWrite}
@@ -16,8 +16,10 @@ use Rattle.thy_control.specs.Tables.{answer_of}
 use Rattle.thy_cell.specs.Store.{put_by}
 use Rattle.thy_control.specs.State.{State, AreSoundTables, reads}
 use Rattle.thy_control.specs.Rules.{rule_for, cell_before, devices_after}
+use Rattle.thy_control.specs.Overlay.{covers, AreMarks}
+use Rattle.thy_control.proofs.MarkLemmas.{AreMarks-with, AreMarks-after, marks-small, btt_most}
 use Rattle.thy_control.proofs.CellLemmas.{IsPlace-store}
-use Rattle.thy_control.proofs.PutLemmas.{Way, AreAfter, AreSoundTables-with_block, AreSoundTables-after, IsWithin-before, way_rule, way_table, way_cell, way_place, way_put, way_after, way_devices, way_all, way_state, way_failed, may_set_block, may_set_page, OnErr-of}
+use Rattle.thy_control.proofs.PutLemmas.{has_free, Way, AreAfter, AreSoundTables-with_block, AreSoundTables-after, IsWithin-before, way_rule, way_table, way_cell, way_place, way_put, way_after, way_devices, way_all, way_state, way_failed, may_set_block, may_set_page, OnErr-of}
 use Rattle.thy_control.proofs.control.Control.put.Goals as goal
 
 pub entry_for_rule-i-requires-clause-room : goal.entry_for_rule-i-requires-clause-room
@@ -26,7 +28,7 @@ entry_for_rule-i-requires-clause-room g c = subst (λ (t : State). 0 < free_coun
 pub entry_for_rule-i-requires-clause-number : goal.entry_for_rule-i-requires-clause-number
 entry_for_rule-i-requires-clause-number g c =
     let l : c.args.b < memory_blocks c.self.inside.geometry = subst (λ (t : State). c.args.b < memory_blocks t.p) (sym c.self.view_is) c.requires.block in
-    omega (arith, c.self.invariant.btt_numbers)
+    omega (arith, c.self.invariant.tables.btt_numbers)
 
 pub block_to_put-put-requires-clause-entry : goal.block_to_put-put-requires-clause-entry
 block_to_put-put-requires-clause-entry g c =
@@ -42,7 +44,7 @@ block_to_put-put-requires-clause-entry g c =
     subst (λ (t : State). i < t.p.btt) (sym c.self.view_is) (omega (arith, l, same))
 
 pub block_to_put-put-requires-clause-dram : goal.block_to_put-put-requires-clause-dram
-block_to_put-put-requires-clause-dram g c = c.self.invariant.dram_size
+block_to_put-put-requires-clause-dram g c = c.self.invariant.tables.dram_size
 
 pub write_place-requires-clause-place : goal.write_place-requires-clause-place
 write_place-requires-clause-place g c =
@@ -60,7 +62,7 @@ write_place-requires-clause-place g c =
 pub write_place-requires-clause-sized : goal.write_place-requires-clause-sized
 write_place-requires-clause-sized g c = record {
   nvm = subst (λ (t : State). length (g.N.Nvm.device c.args.nvm.now).image ≡ image_blocks t.p) (sym c.self.view_is) c.requires.sized.nvm;
-  dram = c.self.invariant.dram_size;
+  dram = c.self.invariant.tables.dram_size;
 }
 
 pub write_place-requires-clause-up : goal.write_place-requires-clause-up
@@ -77,9 +79,13 @@ invariant_of-self g c =
     = record { view = c.self.view_is; found_is = c.cell-found.ensures; rule_is = c.store_rule-rule.ensures; table_is = c.entry_for_rule-i.ensures.table; entry_is = c.entry_for_rule-i.ensures.place } in
     let kept : c.write_place.new.dram ≡ c.self.inside.dram = c.in_err-write_place.ensures.dram in
     let once : IsListing block_key c.entry_for_rule-i.new.btt = c.lists_once.ensures in
-    let with_entry = AreSoundTables-with_block r c.args.b v c.self.invariant (subst (λ (t : Listing BttEntry). IsListing block_key t) c.entry_for_rule-i.ensures.table once) in
-    subst (λ (d : Contents). AreSoundTables (record v { btt = c.entry_for_rule-i.new.btt; dram = d })) (sym kept)
-    (subst (λ (t : Listing BttEntry). AreSoundTables (record v { btt = t })) (sym c.entry_for_rule-i.ensures.table) with_entry)
+    let with_entry = AreSoundTables-with_block r c.args.b v c.self.invariant.tables (subst (λ (t : Listing BttEntry). IsListing block_key t) c.entry_for_rule-i.ensures.table once) in
+    record {
+      tables = subst (λ (d : Contents). AreSoundTables (record v { btt = c.entry_for_rule-i.new.btt; dram = d })) (sym kept)
+          (subst (λ (t : Listing BttEntry). AreSoundTables (record v { btt = t })) (sym c.entry_for_rule-i.ensures.table) with_entry);
+      marks = subst (λ (t : Listing BttEntry). AreMarks v.ptt t c.self.inside.marks) (sym c.entry_for_rule-i.ensures.table)
+          (AreMarks-with r c.args.b v c.self.inside.marks c.self.invariant.marks);
+    }
 
 pub returns-in_err-write_place-clause-kept : goal.returns-in_err-write_place-clause-kept
 returns-in_err-write_place-clause-kept g c =
@@ -138,7 +144,7 @@ set_cell-requires-clause-page g c =
 pub count_store-requires : goal.count_store-requires
 count_store-requires g c =
     let l : c.args.b < memory_blocks c.self.inside.geometry = subst (λ (t : State). c.args.b < memory_blocks t.p) (sym c.self.view_is) c.requires.block in
-    omega (arith, c.self.invariant.counts_size)
+    omega (arith, c.self.invariant.tables.counts_size)
 
 pub invariant_of-self-2 : goal.invariant_of-self-2
 invariant_of-self-2 g c =
@@ -156,9 +162,17 @@ invariant_of-self-2 g c =
     let all : AreAfter c.args.b c.args.block.now s m c.set_cell.new.btt c.set_cell.new.ptt c.count_store.new.counts d
     = way_all s v c.args.b found r c.entry_for_rule-i.new.btt i w c.args.block.now m d c.after.result c.set_cell.new.btt c.set_cell.new.ptt c.count_store.new.counts c.after.ensures c.set_cell.ensures.btt c.set_cell.ensures.ptt c.count_store.ensures devices in
     let e = way_state s v c.args.b found r c.entry_for_rule-i.new.btt i w c.args.block.now m c.set_cell.new.btt c.set_cell.new.ptt c.count_store.new.counts d all in
-    subst (λ (t : State). AreSoundTables t) (sym e)
-    (AreSoundTables-after c.args.b c.args.block.now s m c.tables.ensures c.requires.sized c.requires.whole c.requires.block c.requires.room
-    (subst (λ (t : State). IsListing block_key t.btt) e c.lists_once-2.ensures) (subst (λ (t : State). IsListing page_key t.ptt) e c.lists_once-3.ensures))
+    let before : AreMarks s.ptt s.btt c.self.inside.marks = subst (λ (t : State). AreMarks t.ptt t.btt c.self.inside.marks) c.self.view_is c.self.invariant.marks in
+    let more = c.after-self-inside.ensures.overlaid ∙ ap (λ (k : ℕ). c.self.inside.marks.overlaid + k)
+    (ap (λ (q : StoreRule). covers q (record found { i = i })) (way_rule s v c.args.b found r c.entry_for_rule-i.new.btt i w)
+    ∙ ap (covers (rule_for c.args.b s)) (way_cell s v c.args.b found r c.entry_for_rule-i.new.btt i w)) in
+    record {
+      tables = subst (λ (t : State). AreSoundTables t) (sym e)
+          (AreSoundTables-after c.args.b c.args.block.now s m c.tables.ensures c.requires.sized c.requires.whole c.requires.block c.requires.room
+          (subst (λ (t : State). IsListing block_key t.btt) e c.lists_once-2.ensures) (subst (λ (t : State). IsListing page_key t.ptt) e c.lists_once-3.ensures));
+      marks = subst (λ (t : State). AreMarks t.ptt t.btt c.after-self-inside.result) (sym e)
+          (AreMarks-after c.args.b c.args.block.now s m c.self.inside.marks c.after-self-inside.result before (has_free s.btt c.requires.room) more c.after-self-inside.ensures.promoted);
+    }
 
 pub returns-clause-state : goal.returns-clause-state
 returns-clause-state g c =
@@ -206,3 +220,8 @@ returns-clause-answer g c =
     let w : Way s v c.args.b found r c.entry_for_rule-i.new.btt i
     = record { view = c.self.view_is; found_is = c.cell-found.ensures; rule_is = c.store_rule-rule.ensures; table_is = c.entry_for_rule-i.ensures.table; entry_is = c.entry_for_rule-i.ensures.place } in
     c.answer.ensures ∙ ap answer_of (way_rule s v c.args.b found r c.entry_for_rule-i.new.btt i w)
+
+pub after-self-inside-requires : goal.after-self-inside-requires
+after-self-inside-requires g c =
+    let v : State = record { p = c.self.inside.geometry; btt = c.self.inside.btt; ptt = c.self.inside.ptt; counts = c.self.inside.counts; under_way = c.self.inside.under_way; dram = c.self.inside.dram } in
+    omega (arith, marks-small v c.self.inside.marks c.self.invariant.tables c.self.invariant.marks, btt_most v.p c.self.invariant.tables.range)

@@ -14,10 +14,12 @@ returns-clause-state c =
     (c.has_few-few.ensures ∙ sym (ap is_few c.self.view_is)) c.seal_blocks.ensures c.seal_pages.ensures c.reset.ensures
 
 pub invariant_of-self : goal.invariant_of-self
-invariant_of-self c =
-    subst (λ (t : State). AreSoundTables t) (sym (returns-clause-state c))
-    (AreSoundTables-sealed c.args.self.now c.tables.ensures c.requires.idle c.requires.whole c.requires.bare
-    c.a_seal_keeps_entries_sound.ensures c.a_seal_leaves_no_work.ensures c.a_listing_keeps_versions.ensures)
+invariant_of-self c = record {
+  tables = subst (λ (t : State). AreSoundTables t) (sym (returns-clause-state c))
+      (AreSoundTables-sealed c.args.self.now c.tables.ensures c.requires.idle c.requires.whole c.requires.bare
+      c.a_seal_keeps_entries_sound.ensures c.a_seal_leaves_no_work.ensures c.a_listing_keeps_versions.ensures);
+  marks = c.of-self-inside.ensures;
+}
 
 pub returns-clause-versions : goal.returns-clause-versions
 returns-clause-versions c n holds =

@@ -1,0 +1,61 @@
+-- Work in buffers over the frames of pages, and pages in promotion: how many there are, which the controller counts.
+use Rattle.std.specs.Prelude.{◌≡◌, ℕ, ◌<◌, Bool, true, false, ◌&&◌, not, if◌then◌else◌, count_by}
+use Rattle.thy_base.specs.Geometry.{memory_blocks}
+use Rattle.thy_table.specs.Listing.{Listing, passes}
+use Rattle.thy_tables.specs.declared.block_entry.BttEntry.{BttEntry}
+use Rattle.thy_tables.specs.declared.block_entry.Working.{Working}
+use Rattle.thy_tables.specs.declared.block_entry.Working.TheVariants.{NoWork, InNvm, InBuffer}
+use Rattle.thy_tables.specs.declared.page_entry.PttEntry.{PttEntry}
+use Rattle.thy_tables.specs.PageEntry.{is_framed}
+use Rattle.thy_cell.specs.declared.cell.Cell.{Cell}
+use Rattle.thy_cell.specs.declared.cell.StoreRule.{StoreRule}
+use Rattle.thy_cell.specs.declared.cell.StoreRule.TheVariants.{ToFrame, ToBuffer, ToNvm, PendingFirst}
+use Rattle.thy_control.specs.State.{State, AreSoundTables, cell_of}
+use Rattle.thy_control.specs.Holding.{promoted}
+use Rattle.thy_control.specs.Seal.{block_is_framed}
+use Rattle.thy_control.specs.declared.overlay.Marks.{Marks}
+
+-- work stands in a buffer
+abbrev pub is_buffered : Working → Bool
+is_buffered NoWork = false
+is_buffered InNvm = false
+is_buffered InBuffer = true
+
+-- and over the frame of its page
+abbrev pub is_overlaid : Listing PttEntry → BttEntry → Bool
+is_overlaid pages e = is_buffered e.work && block_is_framed pages e.block
+
+-- how many entries of the block table have such work
+abbrev pub overlaid : Listing PttEntry → Listing BttEntry → ℕ
+overlaid pages blocks = count_by (passes (is_overlaid pages)) blocks.entries
+
+-- a block of memory that has such work
+pub record IsOverlaid (s : State) : Type 0 where
+  pub block : ℕ
+  pub inside : block < memory_blocks s.p
+  pub framed : is_framed (cell_of s block).page ≡ true
+  pub work : (cell_of s block).entry.work ≡ InBuffer
+
+-- a page that is being promoted, and one of its blocks
+pub record IsPromoting (s : State) : Type 0 where
+  pub block : ℕ
+  pub inside : block < memory_blocks s.p
+  pub unframed : is_framed (cell_of s block).page ≡ false
+  pub fresh : (cell_of s block).page.fresh ≡ true
+
+-- how many more there are after a store by a rule
+abbrev pub covers : StoreRule → Cell → ℕ
+covers ToFrame c = 0
+covers ToBuffer c = if is_framed c.page && not (is_buffered c.entry.work) then 1 else 0
+covers ToNvm c = 0
+covers PendingFirst c = 0
+
+-- the numbers that the controller keeps are these
+pub record AreMarks (pages : Listing PttEntry) (blocks : Listing BttEntry) (m : Marks) : Type 0 where
+  pub overlaid_is : m.overlaid ≡ overlaid pages blocks
+  pub promoted_is : m.promoted ≡ promoted pages
+
+-- what holds of the controller at every moment
+pub record IsControl (s : State) (m : Marks) : Type 0 where
+  pub tables : AreSoundTables s
+  pub marks : AreMarks s.ptt s.btt m
