@@ -14,3 +14,5 @@ pub mod Seal
 pub mod Commit
 pub mod Overlay
 pub mod Frees
+pub mod Moves
+pub mod Drains

@@ -1,0 +1,26 @@
+-- A block moves from one place to another: a read, and then one write.
+use Rattle.std.specs.Prelude.{◌≡◌, ◌⊎◌, false}
+use Rattle.thy_base.specs.declared.config.Parameters.{Parameters}
+use Rattle.thy_base.specs.declared.place.Place.{Place}
+use Rattle.thy_base.specs.Device.{HasFailed, HasFailedToWrite}
+use Rattle.thy_base.specs.Places.{in_dram, number_of}
+use Rattle.thy_place.specs.Devices.{Devices, read_at, written_at}
+
+-- both devices after it
+abbrev pub moved : Parameters → Place → Place → Devices → Devices
+moved p from to d = written_at p to (read_at p d from) d
+
+-- its read failed
+pub record FailsAtRead (from : Place) (old new : Devices) : Type 0 where
+  pub in_nvm : in_dram from ≡ false
+  pub failed : HasFailed old.nvm new.nvm
+
+-- or its write: the place may hold the block, and no other has changed
+pub record FailsAtWrite (p : Parameters) (from to : Place) (old new : Devices) : Type 0 where
+  pub in_nvm : in_dram to ≡ false
+  pub failed : HasFailedToWrite (number_of p to) (read_at p old from) old.nvm new.nvm
+
+-- the move failed; the DRAM is as before
+pub record FailsMove (p : Parameters) (from to : Place) (old new : Devices) : Type 0 where
+  pub dram : new.dram ≡ old.dram
+  pub failed : FailsAtRead from old new ⊎ FailsAtWrite p from to old new

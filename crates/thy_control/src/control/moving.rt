@@ -1,0 +1,34 @@
+//! The move of a block from one place to another.
+ghost use Rattle.std.specs.Prelude.{◌≡◌, false, OnOk, OnErr};
+ghost use Rattle.thy_base.specs.Device.{IsFramed, CountsFault};
+ghost use Rattle.thy_base.specs.Places.{IsPlace};
+ghost use Rattle.thy_place.specs.Devices.{AreSized, devices_of};
+ghost use Rattle.thy_control.specs.Moves.{moved, FailsMove};
+
+use thy_base::{Geometry, Nvm, NvmError, Place};
+use thy_dram::Dram;
+use thy_place::{read_place, write_place};
+
+/// Reads the block at one place, and writes it at another. Where the read or the write failed, the DRAM is as before.
+pub(super) fn move_block<N: Nvm>(
+    from: Place,
+    to: Place,
+    geometry: &Geometry,
+    nvm: &mut N,
+    dram: &mut Dram,
+) -> Result<(), NvmError>
+    requires from { IsPlace geometry.now from }
+    requires to { IsPlace geometry.now to }
+    requires sized { AreSized geometry.now (devices_of (N.device nvm.old) dram.old) }
+    requires up { (N.device nvm.old).down ≡ false }
+    ensures ok { let old = devices_of (N.device nvm.old) dram.old in
+        OnOk result (devices_of (N.device nvm.new) dram.new ≡ moved geometry.now from to old) }
+    ensures err { let old = devices_of (N.device nvm.old) dram.old in
+        OnErr result (FailsMove geometry.now from to old (devices_of (N.device nvm.new) dram.new)) }
+    ensures dram { OnErr result (dram.new ≡ dram.old) }
+    ensures frame { IsFramed (N.device nvm.old) (N.device nvm.new) }
+    ensures cause { CountsFault result (N.device nvm.old).faults (N.device nvm.new).faults }
+{
+    let block = read_place(from, geometry, nvm, dram)?;
+    write_place(to, &block, geometry, nvm, dram)
+}
