@@ -32,7 +32,7 @@ use Rattle.thy_control.proofs.OwnLemmas.{owner, Owns, Owns-cell_of, owned-target
 use Rattle.thy_control.proofs.KeepLemmas.{same_start, last-new, work-new, target-new}
 
 -- a block whose places read as before, where they matter
-hold_same : (old new : Place → Block) (c : Cell) → new (target c) ≡ old (target c) → new (last c) ≡ old (last c) → new (work c) ≡ old (work c)
+pub hold_same : (old new : Place → Block) (c : Cell) → new (target c) ≡ old (target c) → new (last c) ≡ old (last c) → new (work c) ≡ old (work c)
     → (is_framed c.page ≡ true → new (frame_at (seat_of c)) ≡ old (frame_at (seat_of c)))
     → (c.page.fresh ≡ true → new (frame_at (seat_of c)) ≡ old (frame_at (seat_of c)))
     → (c.page.busy ≡ true → new (frame_at (seat_of c)) ≡ old (frame_at (seat_of c)))
@@ -55,7 +55,7 @@ hold_or_dirty : (reads : Place → Block) (r : StoreRule) (c d : Cell) → OrDir
 hold_or_dirty reads r c d (inl e) h = subst (λ (x : Cell). Holds reads x) (sym e) h
 hold_or_dirty reads r c d (inr e) h = subst (λ (x : Cell). Holds reads x) (sym e.1) (hold_dirty reads c h)
 
-IsPlace-frame_of : (s : State) (b : ℕ) → AreSoundTables s → b < memory_blocks s.p → IsPlace s.p (frame_at (seat_of (cell_of s b)))
+pub IsPlace-frame_of : (s : State) (b : ℕ) → AreSoundTables s → b < memory_blocks s.p → IsPlace s.p (frame_at (seat_of (cell_of s b)))
 IsPlace-frame_of s b t l = let w = IsWithin-cell_of s b t l in (w.page, omega arith)
 
 -- a cell with another place of its entry holds the same

@@ -21,3 +21,5 @@ pub mod SealStateLemmas
 pub mod MovedTablesLemmas
 pub mod FreesLemmas
 pub mod MarkLemmas
+pub mod StepLemmas
+pub mod CopyLemmas

@@ -16,3 +16,4 @@ pub mod Overlay
 pub mod Frees
 pub mod Moves
 pub mod Drains
+pub mod Copies

@@ -1,5 +1,5 @@
 -- A block moves from one place to another: a read, and then one write.
-use Rattle.std.specs.Prelude.{◌≡◌, ◌⊎◌, false}
+use Rattle.std.specs.Prelude.{◌≡◌, ◌⊎◌, ℕ, ◌+◌, Bool, true, false}
 use Rattle.thy_base.specs.declared.config.Parameters.{Parameters}
 use Rattle.thy_base.specs.declared.place.Place.{Place}
 use Rattle.thy_base.specs.Device.{HasFailed, HasFailedToWrite}
@@ -24,3 +24,8 @@ pub record FailsAtWrite (p : Parameters) (from to : Place) (old new : Devices) :
 pub record FailsMove (p : Parameters) (from to : Place) (old new : Devices) : Type 0 where
   pub dram : new.dram ≡ old.dram
   pub failed : FailsAtRead from old new ⊎ FailsAtWrite p from to old new
+
+-- of what is left to move, one less is left where there was more, and else nothing was and is left
+abbrev pub IsOneLess : Bool → ℕ → ℕ → Type 0
+IsOneLess true old new = new + 1 ≡ old
+IsOneLess false old new = (old ≡ 0) × (new ≡ 0)

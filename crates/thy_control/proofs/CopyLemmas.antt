@@ -1,0 +1,222 @@
+-- The copy of a block's pending version: every block after it, and the tables.
+use Rattle.std.proofs.Common.{◌≡◌, ◌≢◌, ℕ, ◌+◌, ◌<◌, Bool, true, false, refl, sym, ◌∙◌, ap, subst, inl, inr, arith, Option, Some, None, is_some, Result, Ok, Err, OnOk, IfOk}
+use Rattle.std.proofs.lemmas.Bool.{cases_eq}
+use Rattle.std.proofs.lemmas.List.{length-set}
+use Rattle.thy_base.specs.declared.block.Block.{Block}
+use Rattle.thy_base.specs.declared.place.Place.{Place}
+use Rattle.thy_base.specs.declared.nvm.NvmError.{NvmError}
+use Rattle.thy_base.specs.Device.{Device}
+use Rattle.thy_base.specs.Geometry.{memory_blocks}
+use Rattle.thy_base.specs.Places.{IsPlace}
+use Rattle.thy_place.specs.Devices.{Devices, devices_of}
+use Rattle.thy_place.proofs.PlaceLemmas.{AreSized-written_at}
+use Rattle.thy_table.specs.Listing.{Listing, IsListing, entry_at, lists, passes, next_from, place_of, with_entry}
+use Rattle.thy_table.proofs.IndexLemmas.{lists-key}
+use Rattle.thy_table.proofs.FirstLemmas.{first_from-first, none-first_from}
+use Rattle.thy_tables.specs.declared.block_entry.BttEntry.{BttEntry}
+use Rattle.thy_tables.specs.declared.block_entry.Pending.{Pending}
+use Rattle.thy_tables.specs.declared.block_entry.Pending.TheVariants.{Settled, FromBuffer, FromAlternate}
+use Rattle.thy_tables.specs.BlockEntry.{new_entry}
+use Rattle.thy_cell.specs.declared.cell.Cell.{Cell}
+use Rattle.thy_cell.specs.Cells.{target, last}
+use Rattle.thy_cell.specs.Sound.{IsSoundCell}
+use Rattle.thy_cell.specs.Rules.{after_copy}
+use Rattle.thy_cell.specs.Steps.{CopyKeeps, Keeps}
+use Rattle.thy_cell.proofs.StoreLemmas.{IsSoundCell-after_copy}
+use Rattle.thy_control.specs.Find.{entry_for}
+use Rattle.thy_control.specs.Keys.{block_key}
+use Rattle.thy_control.specs.State.{State, AreSoundTables, IsSized, cell_of, reads}
+use Rattle.thy_control.specs.Copies.{is_pending, needs_copy, next_copy, copies_left, block_in, block_listed, devices_copied, copied, devices_after_copy, after_next_copy}
+use Rattle.thy_control.specs.Moves.{moved, IsOneLess}
+use Rattle.thy_control.specs.Stays.{HoldAll}
+use Rattle.thy_control.specs.Versions.{KeepsCheckpoints, KeepsWork}
+use Rattle.thy_control.proofs.FindLemmas.{found_entry, entry_for-some}
+use Rattle.thy_control.proofs.CellLemmas.{block-cell_of, IsPlace-target, IsWithin-cell_of}
+use Rattle.thy_control.proofs.CountLemmas.{count-set_less}
+use Rattle.thy_control.proofs.StateLemmas.{place_of-index, cell-set_block_same, cell-set_block_other}
+use Rattle.thy_control.proofs.OwnLemmas.{owner, Owns-cell_of, owned-target}
+use Rattle.thy_control.proofs.StepLemmas.{KeepsEach, Keeps-untouched, reads_after, puts, untouched, moved-is, none-passes, KeepsEach-same, checkpoints-each, work-each, holds-each}
+
+is_pending-not : (q : Pending) → q ≢ Settled → is_pending q ≡ true
+is_pending-not Settled h = absurd (h refl)
+is_pending-not FromBuffer h = refl
+is_pending-not FromAlternate h = refl
+
+pending-not_settled : (q : Pending) → is_pending q ≡ true → q ≢ Settled
+pending-not_settled Settled h = cc
+pending-not_settled FromBuffer h = λ e. cc
+pending-not_settled FromAlternate h = λ e. cc
+
+-- what has to be copied belongs to a checkpoint under way
+pub pending-under_way : (u : Bool) (c : Cell) → IsSoundCell u c → c.entry.pend ≢ Settled → u ≡ true
+pending-under_way true c s h = refl
+pending-under_way false c s h = absurd (s.pending_moves h (s.one refl))
+
+module _ (b : ℕ) (s : State) (pending : (cell_of s b).entry.pend ≢ Settled) where
+  pub listed-pending : place_of block_key b s.btt ≡ Some (cell_of s b).i
+  listed-pending = place_of-index block_key new_entry s.btt b (λ e. pending (ap (λ (x : BttEntry). x.pend) e))
+
+  -- its entry may be set
+  pub lists-pending : lists block_key (cell_of s b).entry.block (entry_at s.btt (cell_of s b).i) ≡ true
+  lists-pending =
+      let there = found_entry block_key new_entry s.btt b (cell_of s b).i listed-pending in
+      lists-key block_key (cell_of s b).entry.block (entry_at s.btt (cell_of s b).i) there.0 there.1 (there.2 ∙ sym (block-cell_of s b))
+
+  module _ (m : Device) where
+    pub cell-copied_same : cell_of (copied b s m) b ≡ after_copy (cell_of s b)
+    unfolding copied
+    cell-copied_same = cell-set_block_same s b (after_copy (cell_of s b)).entry (block-cell_of s b) listed-pending
+
+    pub cell-copied_other : (k : ℕ) → k ≢ b → cell_of (copied b s m) k ≡ cell_of s k
+    unfolding copied
+    cell-copied_other k other = cell-set_block_other s b (after_copy (cell_of s b)).entry (block-cell_of s b) listed-pending k other
+
+    -- every block is as it was, but for what was copied
+    pub cell-copied : (P : Cell → Cell → Type 0) (k : ℕ) → P (cell_of s b) (after_copy (cell_of s b)) → (k ≢ b → P (cell_of s k) (cell_of s k))
+        → P (cell_of s k) (cell_of (copied b s m) k)
+    cell-copied P k here others = elim (cases_eq k b) as (λ _. P (cell_of s k) (cell_of (copied b s m) k)) [
+      | inl e ↦ subst (λ (j : ℕ). P (cell_of s j) (cell_of (copied b s m) j)) (sym e) (subst (λ (c : Cell). P (cell_of s b) c) (sym cell-copied_same) here)
+      | inr ne ↦ subst (λ (c : Cell). P (cell_of s k) c) (sym (cell-copied_other k ne)) (others ne)
+    ]
+
+    module _ (t : AreSoundTables s) (sized : IsSized s m) (l : b < memory_blocks s.p) where
+      pub AreSoundTables-copied : IsListing block_key (copied b s m).btt → AreSoundTables (copied b s m)
+      unfolding copied devices_copied
+      AreSoundTables-copied once =
+          let sizes = AreSized-written_at s.p (devices_of m s.dram) (target (cell_of s b)) (reads s m (last (cell_of s b))) (record { nvm = sized.nvm; dram = t.dram_size }) in
+          record {
+            range = t.range;
+            btt_size = length-set s.btt.entries (cell_of s b).i (Some (after_copy (cell_of s b)).entry) ∙ t.btt_size;
+            btt_numbers = t.btt_numbers;
+            btt_once = once;
+            ptt_size = t.ptt_size;
+            ptt_numbers = t.ptt_numbers;
+            ptt_once = t.ptt_once;
+            live_pages = t.live_pages;
+            counts_size = t.counts_size;
+            counts_high = t.counts_high;
+            counts_low = t.counts_low;
+            dram_size = sizes.dram;
+            cells = λ k h. cell-copied (λ c d. IsSoundCell s.under_way c → IsSoundCell s.under_way d) k
+                (λ sound. IsSoundCell-after_copy s.under_way (cell_of s b) sound) (λ ne sound. sound) (t.cells k h);
+          }
+
+      -- every block is kept
+      pub KeepsEach-copied : CopyKeeps → KeepsEach s m (copied b s m) (devices_copied b s m).nvm
+      unfolding copied devices_copied
+      KeepsEach-copied law k h =
+          let c : Cell = cell_of s b in
+          let y : Place = target c in
+          let v : Block = reads s m (last c) in
+          let w = IsWithin-cell_of s b t l in
+          let there : IsPlace s.p y = IsPlace-target s.p c w in
+          let owns : owner s y ≡ Some b = owned-target s b c (Owns-cell_of s b) in
+          let old : Place → Block = reads s m in
+          let new : Place → Block = reads_after s m b y v t sized there owns in
+          let moving : s.under_way ≡ true = pending-under_way s.under_way c (t.cells b l) pending in
+          let here : Keeps s.under_way old new c (after_copy c)
+          = subst (λ (u : Bool). Keeps u old new c (after_copy c)) (sym moving)
+          (law s.p c old new w (subst (λ (u : Bool). IsSoundCell u c) moving (t.cells b l)) pending (puts s m b y v t sized there owns)) in
+          cell-copied (λ c d. Keeps s.under_way old new c d) k here
+          (λ ne. Keeps-untouched s.under_way old new k (cell_of s k) (t.cells k h) (untouched s m b y v t sized there owns k h ne))
+
+-- what is left to copy falls by one
+module _ (b : ℕ) (s : State) (m : Device) (pending : (cell_of s b).entry.pend ≢ Settled) where
+  pub copies_left-copied : copies_left (copied b s m) + 1 ≡ copies_left s
+  unfolding copied
+  copies_left-copied =
+      let there = found_entry block_key new_entry s.btt b (cell_of s b).i (listed-pending b s pending) in
+      let is : (cell_of s b).entry ≡ there.0 = entry_for-some block_key new_entry s.btt b (cell_of s b).i there.0 (listed-pending b s pending) there.1 in
+      count-set_less (passes needs_copy) s.btt.entries (cell_of s b).i (Some (after_copy (cell_of s b)).entry) None there.3 refl
+      (ap (passes needs_copy) there.1 ∙ ap needs_copy (sym is) ∙ is_pending-not (cell_of s b).entry.pend pending)
+
+-- what is known of the entry whose copy is next
+pub record IsNext (s : State) (b : ℕ) : Type 0 where
+  pub inside : b < memory_blocks s.p
+  pub pending : (cell_of s b).entry.pend ≢ Settled
+
+pub IsNext-entry : (s : State) → AreSoundTables s → (i : ℕ) → next_copy s ≡ Some i → IsNext s (block_listed i s)
+IsNext-entry s t i h = by_entry (entry_at s.btt i) refl (first_from-first (passes needs_copy) None s.btt.entries 0 i h).here where
+  by_entry : (o : Option BttEntry) → entry_at s.btt i ≡ o → passes needs_copy o ≡ true → IsNext s (block_listed i s)
+  by_entry None e p = cc
+  by_entry (Some x) e p =
+      let here : lists block_key x.block (entry_at s.btt i) ≡ true = lists-key block_key x.block (entry_at s.btt i) x e refl in
+      let block : block_listed i s ≡ x.block = ap block_in e in
+      let found : place_of block_key x.block s.btt ≡ Some i = t.btt_once.found i x.block here in
+      let entry : entry_for block_key new_entry x.block s.btt ≡ x = entry_for-some block_key new_entry s.btt x.block i x found e in
+      subst (λ (b : ℕ). IsNext s b) (sym block) (record {
+        inside = omega (arith, t.btt_once.inside i x.block here, t.btt_numbers);
+        pending = pending-not_settled (cell_of s x.block).entry.pend (ap needs_copy entry ∙ p);
+      })
+
+-- where none is next, none is left
+pub none_left : (s : State) → next_copy s ≡ None → copies_left s ≡ 0
+none_left s h = none-passes (passes needs_copy) s.btt.entries None (λ k l. none-first_from (passes needs_copy) None s.btt.entries 0 h k (omega arith) l)
+
+-- after the next copy, or none, every block is kept
+pub KeepsEach-next : CopyKeeps → (s : State) (m : Device) → AreSoundTables s → IsSized s m → (o : Option ℕ) → next_copy s ≡ o
+    → KeepsEach s m (after_next_copy o s m) (devices_after_copy o s m)
+KeepsEach-next law s m t sized None h = KeepsEach-same s m t
+KeepsEach-next law s m t sized (Some i) h =
+    let next = IsNext-entry s t i h in
+    KeepsEach-copied (block_listed i s) s next.pending m t sized next.inside law
+
+same_p-next : (s : State) (m : Device) (o : Option ℕ) → (after_next_copy o s m).p ≡ s.p
+unfolding copied
+same_p-next s m None = refl
+same_p-next s m (Some i) = refl
+
+-- and so it keeps both checkpoints, what a load gives, and what the places hold
+pub record KeepsAll (s : State) (m : Device) (t : State) (n : Device) : Type 0 where
+  pub checkpoints : KeepsCheckpoints s m t n
+  pub work : KeepsWork s m t n
+  pub holds : HoldAll s m → HoldAll t n
+
+pub KeepsAll-next : CopyKeeps → (s : State) (m : Device) → AreSoundTables s → IsSized s m
+    → KeepsAll s m (after_next_copy (next_copy s) s m) (devices_after_copy (next_copy s) s m)
+KeepsAll-next law s m t sized =
+    let u : State = after_next_copy (next_copy s) s m in
+    let k : Device = devices_after_copy (next_copy s) s m in
+    let each : KeepsEach s m u k = KeepsEach-next law s m t sized (next_copy s) refl in
+    record {
+      checkpoints = checkpoints-each s m u k each;
+      work = work-each s m u k each;
+      holds = holds-each s m u k (same_p-next s m (next_copy s)) each;
+    }
+
+-- one copy less is left
+left_by : (s : State) (m : Device) → AreSoundTables s → (o : Option ℕ) → next_copy s ≡ o → IsOneLess (is_some o) (copies_left s) (copies_left (after_next_copy o s m))
+left_by s m t None h = (none_left s h, none_left s h)
+left_by s m t (Some i) h = copies_left-copied (block_listed i s) s m (IsNext-entry s t i h).pending
+
+pub left_after : (s : State) (m : Device) (t : State) → AreSoundTables s → (r : Result Bool NvmError) → OnOk r (t ≡ after_next_copy (next_copy s) s m) → IfOk r (λ more. more ≡ is_some (next_copy s))
+    → IfOk r (λ more. IsOneLess more (copies_left s) (copies_left t))
+left_after s m t tables (Ok more) e f =
+    subst (λ (x : State). IsOneLess more (copies_left s) (copies_left x)) (sym e)
+    (subst (λ (x : Bool). IsOneLess x (copies_left s) (copies_left (after_next_copy (next_copy s) s m))) (sym f) (left_by s m tables (next_copy s) refl))
+left_after s m t tables (Err x) e f = tt
+
+-- the parts of the code's way: the state as its fields have it
+module _ (s w : State) (view : w ≡ s) where
+  pub next_is : (o : Option ℕ) (i : ℕ) → o ≡ next_from needs_copy 0 w.btt → o ≡ Some i → next_copy s ≡ Some i
+  next_is o i found is = sym (ap next_copy view) ∙ sym found ∙ is
+
+  pub block_is : (b i : ℕ) (e : Option BttEntry) → b ≡ block_in e → e ≡ entry_at w.btt i → b ≡ block_listed i s
+  block_is b i e is there = is ∙ ap block_in there ∙ ap (block_listed i) view
+
+  pub devices_are : (b : ℕ) (m : Device) (found : Cell) (from to : Place) (d : Devices) → found ≡ cell_of s b → from ≡ last found → to ≡ target found
+      → d ≡ moved w.p from to (devices_of m w.dram) → d ≡ devices_copied b s m
+  unfolding devices_copied
+  devices_are b m found from to d is from_is to_is d_is =
+      moved-is s w view m from to (last (cell_of s b)) (target (cell_of s b)) d (from_is ∙ ap last is) (to_is ∙ ap target is) d_is
+
+  pub state_is : (b : ℕ) (m : Device) (found : Cell) (t : Listing BttEntry) (d : Devices) → found ≡ cell_of s b
+      → t ≡ with_entry found.i (Some (after_copy found).entry) w.btt → d ≡ devices_copied b s m
+      → record w { btt = t; dram = d.dram } ≡ copied b s m
+  unfolding copied
+  state_is b m found t d is t_is d_is =
+      ap (λ (x : State). record x { btt = t; dram = d.dram }) view
+      ∙ ap (λ (x : Listing BttEntry). record s { btt = x; dram = d.dram })
+      (t_is ∙ ap (λ (x : State). with_entry found.i (Some (after_copy found).entry) x.btt) view
+      ∙ ap (λ (c : Cell). with_entry c.i (Some (after_copy c).entry) s.btt) is)
+      ∙ ap (λ (x : Devices). record s { btt = with_entry (cell_of s b).i (Some (after_copy (cell_of s b)).entry) s.btt; dram = x.dram }) d_is

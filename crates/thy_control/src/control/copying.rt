@@ -1,0 +1,131 @@
+//! The copies that the checkpoint under way still needs.
+ghost use Rattle.std.specs.Prelude.{◌≡◌, ◌≢◌, ◌<◌, false, is_some, IfOk, OnOk, OnErr};
+ghost use Rattle.thy_base.specs.Device.{IsFramed, CountsFault};
+ghost use Rattle.thy_base.specs.Geometry.{memory_blocks};
+ghost use Rattle.thy_tables.specs.declared.block_entry.Pending.TheVariants.{Settled as IsSettled};
+ghost use Rattle.thy_control.specs.Copies.{block_in};
+
+use super::Control;
+use super::moving::move_block;
+use thy_base::{Nvm, NvmError};
+use thy_cell::a_copy_keeps_versions;
+use thy_table::Test;
+use thy_tables::{BttEntry, Pending};
+
+/// A version has still to be copied to its place.
+#[derive(Drop)]
+struct NeedsCopy;
+
+impl Test<BttEntry> for NeedsCopy {
+    ghost use Rattle.thy_control.specs.Copies.{needs_copy};
+
+    ghost holds = { λ test e. needs_copy e };
+
+    fn test(&self, entry: &BttEntry) -> bool {
+        match entry.pend {
+            Pending::Settled => false,
+            Pending::FromBuffer | Pending::FromAlternate => true,
+        }
+    }
+}
+
+/// The block that an entry lists, 0 where it is free.
+fn block_in(entry: Option<BttEntry>) -> u64
+    ensures { result ≡ block_in entry }
+{
+    match entry {
+        Some(entry) => entry.block,
+        None => 0,
+    }
+}
+
+impl Control {
+    ghost use Rattle.thy_control.specs.State.{IsSized, cell_of};
+    ghost use Rattle.thy_control.specs.Moves.{IsOneLess};
+    ghost use Rattle.thy_control.specs.Stays.{HoldAll};
+    ghost use Rattle.thy_control.specs.Versions.{KeepsCheckpoints, KeepsWork};
+    ghost use Rattle.thy_control.specs.Copies.{next_copy, copies_left, copied, devices_copied, devices_after_copy, after_next_copy, FailsCopy, FailsNextCopy};
+
+    /// Issues the next copy that the checkpoint under way still needs: one write at one place. It tells whether there was
+    /// one; where none is left it touches nothing. Where the NVM failed, the place may hold the version or not.
+    pub fn copy_next<N: Nvm>(&mut self, nvm: &mut N) -> Result<bool, NvmError>
+        requires sized { IsSized self.old (N.device nvm.old) }
+        requires up { (N.device nvm.old).down ≡ false }
+        ensures more { IfOk result (λ more. more ≡ is_some (next_copy self.old)) }
+        ensures left { IfOk result (λ more. IsOneLess more (copies_left self.old) (copies_left self.new)) }
+
+        // Both checkpoints have every block as before, and so does a load; the frames and targets hold what they have to.
+        ensures keeps { OnOk result (KeepsCheckpoints self.old (N.device nvm.old) self.new (N.device nvm.new)) }
+        ensures work { OnOk result (KeepsWork self.old (N.device nvm.old) self.new (N.device nvm.new)) }
+        ensures holds { OnOk result (HoldAll self.old (N.device nvm.old) → HoldAll self.new (N.device nvm.new)) }
+
+        // So it is by this table and this one write.
+        ensures state { OnOk result (self.new ≡ after_next_copy (next_copy self.old) self.old (N.device nvm.old)) }
+        ensures nvm { OnOk result (N.device nvm.new ≡ devices_after_copy (next_copy self.old) self.old (N.device nvm.old)) }
+
+        ensures kept { OnErr result (self.new ≡ self.old) }
+        ensures err { OnErr result (FailsNextCopy self.old (N.device nvm.old) (N.device nvm.new)) }
+        ensures frame { IsFramed (N.device nvm.old) (N.device nvm.new) }
+        ensures cause { CountsFault result (N.device nvm.old).faults (N.device nvm.new).faults }
+    {
+        a_copy_keeps_versions();
+        self.tables();
+        self.copy_lowest(nvm)
+    }
+
+    /// Copies what the entry of lowest number has still to copy, and tells whether there was one.
+    fn copy_lowest<N: Nvm>(&mut self, nvm: &mut N) -> Result<bool, NvmError>
+        requires sized { IsSized self.old (N.device nvm.old) }
+        requires up { (N.device nvm.old).down ≡ false }
+        ensures more { IfOk result (λ more. more ≡ is_some (next_copy self.old)) }
+        ensures state { OnOk result (self.new ≡ after_next_copy (next_copy self.old) self.old (N.device nvm.old)) }
+        ensures nvm { OnOk result (N.device nvm.new ≡ devices_after_copy (next_copy self.old) self.old (N.device nvm.old)) }
+        ensures kept { OnErr result (self.new ≡ self.old) }
+        ensures err { OnErr result (FailsNextCopy self.old (N.device nvm.old) (N.device nvm.new)) }
+        ensures frame { IsFramed (N.device nvm.old) (N.device nvm.new) }
+        ensures cause { CountsFault result (N.device nvm.old).faults (N.device nvm.new).faults }
+    {
+        self.tables();
+        match self.btt.next(0, &NeedsCopy) {
+            Some(i) => {
+                let b = block_in(self.btt.entry(i));
+                self.copy_block(b, nvm)?;
+                Ok(true)
+            }
+            None => Ok(false),
+        }
+    }
+
+    /// Copies the version of a block that has still to be copied to its place.
+    fn copy_block<N: Nvm>(&mut self, b: u64, nvm: &mut N) -> Result<(), NvmError>
+        requires block { b < memory_blocks self.old.p }
+        requires pending { (cell_of self.old b).entry.pend ≢ IsSettled }
+        requires sized { IsSized self.old (N.device nvm.old) }
+        requires up { (N.device nvm.old).down ≡ false }
+        ensures state { OnOk result (self.new ≡ copied b self.old (N.device nvm.old)) }
+        ensures nvm { OnOk result (N.device nvm.new ≡ (devices_copied b self.old (N.device nvm.old)).nvm) }
+        ensures kept { OnErr result (self.new ≡ self.old) }
+        ensures err { OnErr result (FailsCopy b self.old (N.device nvm.old) (N.device nvm.new)) }
+        ensures frame { IsFramed (N.device nvm.old) (N.device nvm.new) }
+        ensures cause { CountsFault result (N.device nvm.old).faults (N.device nvm.new).faults }
+    {
+        self.tables();
+        let cell = self.cell(b);
+        move_block(
+            cell.last(),
+            cell.target(),
+            &self.geometry,
+            nvm,
+            &mut self.dram,
+        )?;
+        self.btt.set(
+            cell.i,
+            BttEntry {
+                pend: Pending::Settled,
+                ..cell.entry
+            },
+        );
+        self.btt.lists_once();
+        Ok(())
+    }
+}
