@@ -42,7 +42,8 @@ fn agree(v: Version, w: Version) -> bool
 impl Cell {
     ghost use Rattle.thy_cell.specs.Cells.{seat_of};
 
-    fn frame(&self) -> Place
+    /// Where the block stands in the frame of its page's entry.
+    pub fn frame(&self) -> Place
         ensures { result ≡ frame_at (seat_of self.now) }
     {
         Place::Frame {
@@ -51,7 +52,8 @@ impl Cell {
         }
     }
 
-    fn buffer(&self) -> Place
+    /// The buffer of the block's entry.
+    pub fn buffer(&self) -> Place
         ensures { result ≡ buffer_at (seat_of self.now) }
     {
         Place::Buffer { entry: self.i }

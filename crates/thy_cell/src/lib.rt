@@ -5,6 +5,7 @@
 mod cell;
 mod checkpoint;
 mod laws;
+mod steps;
 
 pub use cell::{Cell, StoreRule};
 pub use checkpoint::{committed_entry, committed_page, sealed_entry, sealed_page};

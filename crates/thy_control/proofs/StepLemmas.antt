@@ -82,7 +82,7 @@ Keeps-untouched under_way old new b c sound u = record {
   holds = hold_same old new c u.target_same u.last_same u.work_same
       (λ f. u.frame_same (λ e. let no : is_framed c.page ≡ false = ap is_framed e in cc))
       (λ f. u.frame_same (λ e. let no : c.page.fresh ≡ false = ap (λ (x : PttEntry). x.fresh) e in cc))
-      (λ k. u.frame_same (λ e. let no : c.page.issued ≡ 0 = ap (λ (x : PttEntry). x.issued) e in absurd (omega (arith, k, no))));
+      (λ f. u.frame_same (λ e. let no : c.page.busy ≡ false = ap (λ (x : PttEntry). x.busy) e in cc));
 }
 
 -- every block is kept
