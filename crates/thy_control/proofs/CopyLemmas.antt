@@ -210,13 +210,14 @@ module _ (s w : State) (view : w ≡ s) where
   devices_are b m found from to d is from_is to_is d_is =
       moved-is s w view m from to (last (cell_of s b)) (target (cell_of s b)) d (from_is ∙ ap last is) (to_is ∙ ap target is) d_is
 
-  pub state_is : (b : ℕ) (m : Device) (found : Cell) (t : Listing BttEntry) (d : Devices) → found ≡ cell_of s b
-      → t ≡ with_entry found.i (Some (after_copy found).entry) w.btt → d ≡ devices_copied b s m
+  pub state_is : (b : ℕ) (m : Device) (found after : Cell) (t : Listing BttEntry) (d : Devices) → found ≡ cell_of s b → after ≡ after_copy found
+      → t ≡ with_entry found.i (Some after.entry) w.btt → d ≡ devices_copied b s m
       → record w { btt = t; dram = d.dram } ≡ copied b s m
   unfolding copied
-  state_is b m found t d is t_is d_is =
+  state_is b m found after t d is after_is t_is d_is =
       ap (λ (x : State). record x { btt = t; dram = d.dram }) view
       ∙ ap (λ (x : Listing BttEntry). record s { btt = x; dram = d.dram })
-      (t_is ∙ ap (λ (x : State). with_entry found.i (Some (after_copy found).entry) x.btt) view
+      (t_is ∙ ap (λ (x : State). with_entry found.i (Some after.entry) x.btt) view
+      ∙ ap (λ (c : Cell). with_entry found.i (Some c.entry) s.btt) after_is
       ∙ ap (λ (c : Cell). with_entry c.i (Some (after_copy c).entry) s.btt) is)
       ∙ ap (λ (x : Devices). record s { btt = with_entry (cell_of s b).i (Some (after_copy (cell_of s b)).entry) s.btt; dram = x.dram }) d_is

@@ -23,3 +23,5 @@ pub mod FreesLemmas
 pub mod MarkLemmas
 pub mod StepLemmas
 pub mod CopyLemmas
+pub mod PageLemmas
+pub mod MergeLemmas

@@ -17,3 +17,4 @@ pub mod Frees
 pub mod Moves
 pub mod Drains
 pub mod Copies
+pub mod Merges

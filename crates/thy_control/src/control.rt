@@ -12,6 +12,7 @@ ghost use Rattle.thy_cell.specs.Store.{put_by};
 ghost use Rattle.thy_control.specs.Tables.{btt_with, btt_after, ptt_after, counts_after, answer_of};
 
 mod copying;
+mod merging;
 mod moving;
 mod queue;
 

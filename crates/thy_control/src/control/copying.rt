@@ -30,7 +30,7 @@ impl Test<BttEntry> for NeedsCopy {
 }
 
 /// The block that an entry lists, 0 where it is free.
-fn block_in(entry: Option<BttEntry>) -> u64
+pub(super) fn block_in(entry: Option<BttEntry>) -> u64
     ensures { result ≡ block_in entry }
 {
     match entry {
@@ -118,13 +118,8 @@ impl Control {
             nvm,
             &mut self.dram,
         )?;
-        self.btt.set(
-            cell.i,
-            BttEntry {
-                pend: Pending::Settled,
-                ..cell.entry
-            },
-        );
+        let copied = cell.with_copy();
+        self.btt.set(cell.i, copied.entry);
         self.btt.lists_once();
         Ok(())
     }

@@ -27,7 +27,7 @@ invariant_of-self-2 g c =
     let d : Devices = devices_of (g.N.Nvm.device c.move_block.new.nvm) c.move_block.new.dram in
     let d_is : d ≡ devices_copied c.args.b s m
     = devices_are s w c.self.view_is c.args.b m c.cell-cell.result c.last.result c.target.result d c.cell-cell.ensures c.last.ensures c.target.ensures c.in_ok-move_block.ensures.ok in
-    let e = state_is s w c.self.view_is c.args.b m c.cell-cell.result c.set.new.self d c.cell-cell.ensures c.set.ensures d_is in
+    let e = state_is s w c.self.view_is c.args.b m c.cell-cell.result c.with_copy-copied.result c.set.new.self d c.cell-cell.ensures c.with_copy-copied.ensures c.set.ensures d_is in
     subst (λ (t : State). AreSoundTables t) (sym e)
     (AreSoundTables-copied c.args.b s c.requires.pending m c.tables.ensures c.requires.sized c.requires.block (subst (λ (t : State). IsListing block_key t.btt) e c.lists_once.ensures))
 
@@ -39,7 +39,7 @@ returns-clause-state g c =
     let d : Devices = devices_of (g.N.Nvm.device c.move_block.new.nvm) c.move_block.new.dram in
     let d_is : d ≡ devices_copied c.args.b s m
     = devices_are s w c.self.view_is c.args.b m c.cell-cell.result c.last.result c.target.result d c.cell-cell.ensures c.last.ensures c.target.ensures c.in_ok-move_block.ensures.ok in
-    state_is s w c.self.view_is c.args.b m c.cell-cell.result c.set.new.self d c.cell-cell.ensures c.set.ensures d_is
+    state_is s w c.self.view_is c.args.b m c.cell-cell.result c.with_copy-copied.result c.set.new.self d c.cell-cell.ensures c.with_copy-copied.ensures c.set.ensures d_is
 
 pub returns-clause-nvm : goal.returns-clause-nvm
 returns-clause-nvm g c =

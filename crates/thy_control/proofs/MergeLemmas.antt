@@ -1,0 +1,242 @@
+-- The merge of a block's buffer into the frame of its page: every block after it, and the tables.
+use Rattle.std.proofs.Common.{◌≡◌, ◌≢◌, ℕ, ◌+◌, ◌<◌, Bool, true, false, ◌&&◌, refl, sym, ◌∙◌, ap, subst, inl, inr, arith, Option, Some, None, is_some}
+use Rattle.std.proofs.lemmas.Bool.{cases_eq, and_parts}
+use Rattle.std.proofs.lemmas.List.{length-set}
+use Rattle.thy_base.specs.declared.block.Block.{Block}
+use Rattle.thy_base.specs.declared.place.Place.{Place}
+use Rattle.thy_base.specs.Device.{Device, zero_block, block_at}
+use Rattle.thy_base.specs.Geometry.{memory_blocks}
+use Rattle.thy_base.specs.Places.{IsPlace, number_of}
+use Rattle.thy_base.specs.Store.{page_of}
+use Rattle.thy_dram.specs.Contents.{Contents, written}
+use Rattle.thy_table.specs.Listing.{Listing, IsListing, entry_at, lists, passes, place_of, with_entry}
+use Rattle.thy_table.proofs.IndexLemmas.{lists-key}
+use Rattle.thy_table.proofs.FirstLemmas.{first_from-first}
+use Rattle.thy_tables.specs.declared.block_entry.BttEntry.{BttEntry}
+use Rattle.thy_tables.specs.declared.page_entry.PttEntry.{PttEntry}
+use Rattle.thy_tables.specs.declared.block_entry.Working.{Working}
+use Rattle.thy_tables.specs.declared.block_entry.Working.TheVariants.{NoWork, InNvm, InBuffer}
+use Rattle.thy_tables.specs.BlockEntry.{new_entry}
+use Rattle.thy_tables.specs.PageEntry.{no_page, is_framed}
+use Rattle.thy_cell.specs.declared.cell.Cell.{Cell}
+use Rattle.thy_cell.specs.Cells.{seat_of, frame_at, buffer_at, worked_at, last, work}
+use Rattle.thy_cell.specs.Sound.{IsSoundCell, IsWithin, Puts}
+use Rattle.thy_cell.specs.Checkpoint.{merged, with_dirty}
+use Rattle.thy_cell.specs.Steps.{MergeKeeps, DirtyKeeps, Keeps}
+use Rattle.thy_control.specs.Find.{entry_for}
+use Rattle.thy_control.specs.Keys.{block_key, page_key}
+use Rattle.thy_control.specs.State.{State, AreSoundTables, IsSized, cell_of, reads}
+use Rattle.thy_control.specs.Seal.{block_is_framed}
+use Rattle.thy_control.specs.Copies.{block_listed, block_in}
+use Rattle.thy_control.specs.Merges.{is_in_buffer, lies_over, next_merge, overlays, dram_merged, merged_block, after_merge}
+use Rattle.thy_control.proofs.FindLemmas.{found_entry, entry_for-some}
+use Rattle.thy_control.proofs.CellLemmas.{block-cell_of, IsWithin-cell_of}
+use Rattle.thy_control.proofs.CountLemmas.{count-set_less}
+use Rattle.thy_control.proofs.HoldLemmas.{IsPlace-frame_of}
+use Rattle.thy_control.proofs.StateLemmas.{place_of-index}
+use Rattle.thy_control.proofs.OwnLemmas.{owner, Owns-cell_of}
+use Rattle.thy_control.proofs.PageLemmas.{count-same, block_cleared, cell-cleared_same, cell-cleared_other, cell-page_same, cell-page_other, same_page, live-set}
+use Rattle.thy_control.proofs.StepLemmas.{KeepsEach, Keeps-untouched, ReadsSame-of, reads_after, puts, untouched}
+
+-- a page that was written to
+abbrev dirty : PttEntry → PttEntry
+dirty e = record e { dirty = true }
+
+module _ (b : ℕ) (s : State) (framed : is_framed (cell_of s b).page ≡ true) (over : (cell_of s b).entry.work ≡ InBuffer) where
+  pub listed-merge : place_of block_key b s.btt ≡ Some (cell_of s b).i
+  listed-merge = place_of-index block_key new_entry s.btt b (λ e. let no : (cell_of s b).entry.work ≡ NoWork = ap (λ (x : BttEntry). x.work) e in cc)
+
+  has_page : (cell_of s b).page ≢ no_page (page_of b)
+  has_page e = let no : is_framed (cell_of s b).page ≡ false = ap is_framed e in cc
+
+  pub listed_page-merge : place_of page_key (page_of b) s.ptt ≡ Some (cell_of s b).j
+  listed_page-merge = place_of-index page_key no_page s.ptt (page_of b) has_page
+
+  module _ (once : IsListing block_key s.btt) where
+    abbrev cleared : State
+    cleared = block_cleared s once b listed-merge
+
+    pub cell-merged_same : cell_of (merged_block b s) b ≡ merged (cell_of s b)
+    unfolding merged_block
+    cell-merged_same =
+        cell-page_same dirty (λ e. refl) cleared b listed_page-merge b refl
+        ∙ ap (λ (c : Cell). record c { page = dirty c.page }) (cell-cleared_same s once b listed-merge)
+        ∙ ap (λ (n : ℕ). record (cell_of s b) { i = 0; entry = new_entry n; page = dirty (cell_of s b).page }) (sym (block-cell_of s b))
+
+    pub cell-merged_page : (k : ℕ) → k ≢ b → page_of k ≡ page_of b → cell_of (merged_block b s) k ≡ with_dirty (cell_of s k)
+    unfolding merged_block
+    cell-merged_page k ne q =
+        cell-page_same dirty (λ e. refl) cleared b listed_page-merge k q
+        ∙ ap (λ (c : Cell). record c { page = dirty c.page }) (cell-cleared_other s once b listed-merge k ne)
+
+    pub cell-merged_other : (k : ℕ) → k ≢ b → page_of k ≢ page_of b → cell_of (merged_block b s) k ≡ cell_of s k
+    unfolding merged_block
+    cell-merged_other k ne o = cell-page_other dirty (λ e. refl) cleared b listed_page-merge k o ∙ cell-cleared_other s once b listed-merge k ne
+
+    -- every block is as it was, but for the one that was merged, and that its page is dirty
+    pub cell-merged : (P : Cell → Cell → Type 0) (k : ℕ) → P (cell_of s b) (merged (cell_of s b))
+        → (k ≢ b → page_of k ≡ page_of b → P (cell_of s k) (with_dirty (cell_of s k))) → (k ≢ b → P (cell_of s k) (cell_of s k))
+        → P (cell_of s k) (cell_of (merged_block b s) k)
+    cell-merged P k here page other = elim (cases_eq k b) as (λ _. P (cell_of s k) (cell_of (merged_block b s) k)) [
+      | inl e ↦ subst (λ (j : ℕ). P (cell_of s j) (cell_of (merged_block b s) j)) (sym e) (subst (λ (c : Cell). P (cell_of s b) c) (sym cell-merged_same) here)
+      | inr ne ↦ elim (cases_eq (page_of k) (page_of b)) as (λ _. P (cell_of s k) (cell_of (merged_block b s) k)) [
+        | inl q ↦ subst (λ (c : Cell). P (cell_of s k) c) (sym (cell-merged_page k ne q)) (page ne q)
+        | inr o ↦ subst (λ (c : Cell). P (cell_of s k) c) (sym (cell-merged_other k ne o)) (other ne)
+      ]
+    ]
+
+  module _ (t : AreSoundTables s) (l : b < memory_blocks s.p) (idle : s.under_way ≡ false) (merge : MergeKeeps) (others : DirtyKeeps) where
+    within : IsWithin s.p (seat_of (cell_of s b))
+    within = IsWithin-cell_of s b t l
+
+    sound_b : IsSoundCell false (cell_of s b)
+    sound_b = subst (λ (u : Bool). IsSoundCell u (cell_of s b)) idle (t.cells b l)
+
+    work_is : work (cell_of s b) ≡ buffer_at (seat_of (cell_of s b))
+    work_is = ap (λ (w : Working). worked_at w (is_framed (cell_of s b).page) (last (cell_of s b)) (cell_of s b).entry.v0 (seat_of (cell_of s b))) over
+
+    -- the entries stay sound, whatever is read
+    sound-merged : (k : ℕ) → k < memory_blocks s.p → IsSoundCell s.under_way (cell_of (merged_block b s) k)
+    sound-merged k h =
+        let all : Place → Block = λ x. zero_block in
+        cell-merged t.btt_once (λ c d. IsSoundCell s.under_way d) k
+        (subst (λ (u : Bool). IsSoundCell u (merged (cell_of s b))) (sym idle)
+        (merge s.p (cell_of s b) all all within sound_b framed over (record { here = refl; others = λ x is ne. refl })).sound)
+        (λ ne q. (others s.under_way (cell_of s k) all all (t.cells k h)
+        (record { penult_same = refl; target_same = refl; last_same = refl; work_same = refl; frame_same = refl })).sound)
+        (λ ne. t.cells k h)
+
+    pub AreSoundTables-merged : IsListing block_key (merged_block b s).btt → IsListing page_key (merged_block b s).ptt → AreSoundTables (merged_block b s)
+    unfolding merged_block dram_merged
+    AreSoundTables-merged btt_once ptt_once =
+        let there = found_entry page_key no_page s.ptt (page_of b) (cell_of s b).j listed_page-merge in
+        record {
+          range = t.range;
+          btt_size = length-set s.btt.entries (cell_of s b).i None ∙ t.btt_size;
+          btt_numbers = t.btt_numbers;
+          btt_once = btt_once;
+          ptt_size = length-set s.ptt.entries (cell_of s b).j (Some (dirty (cell_of s b).page)) ∙ t.ptt_size;
+          ptt_numbers = t.ptt_numbers;
+          ptt_once = ptt_once;
+          live_pages = live-set s.ptt (cell_of s b).j (dirty (cell_of s b).page) there.3 (λ bare. let no : true ≡ false = sym framed ∙ bare in cc) t.live_pages;
+          counts_size = t.counts_size;
+          counts_high = t.counts_high;
+          counts_low = t.counts_low;
+          dram_size = length-set s.dram.blocks (number_of s.p (frame_at (seat_of (cell_of s b)))) (block_at s.dram.blocks (number_of s.p (buffer_at (seat_of (cell_of s b))))) ∙ t.dram_size;
+          cells = sound-merged;
+        }
+
+    -- every block is kept
+    pub KeepsEach-merged : (n : Device) → IsSized s n → KeepsEach s n (merged_block b s) n
+    unfolding merged_block dram_merged
+    KeepsEach-merged n sized k h =
+        let c : Cell = cell_of s b in
+        let y : Place = frame_at (seat_of c) in
+        let v : Block = reads s n (buffer_at (seat_of c)) in
+        let there : IsPlace s.p y = IsPlace-frame_of s b t l in
+        let owns : owner s y ≡ Some b = (Owns-cell_of s b).of_page has_page in
+        let old : Place → Block = reads s n in
+        let new : Place → Block = reads_after s n b y v t sized there owns in
+        let put : Puts s.p y (old (work c)) old new = subst (λ (x : Place). Puts s.p y (old x) old new) (sym work_is) (puts s n b y v t sized there owns) in
+        cell-merged t.btt_once (λ c d. Keeps s.under_way old new c d) k
+        (subst (λ (u : Bool). Keeps u old new c (merged c)) (sym idle) (merge s.p c old new within sound_b framed over put))
+        (λ ne q. others s.under_way (cell_of s k) old new (t.cells k h)
+        (ReadsSame-of old new k (cell_of s k) (untouched s n b y v t sized there owns k h ne)
+        (λ e. let no : is_framed (cell_of s k).page ≡ false = ap is_framed e in
+        let yes : is_framed (cell_of s k).page ≡ true = ap is_framed (same_page s k b q) ∙ framed in cc)))
+        (λ ne. Keeps-untouched s.under_way old new k (cell_of s k) (t.cells k h) (untouched s n b y v t sized there owns k h ne))
+
+    -- a page is framed as it was
+    framed_same : (k : ℕ) → block_is_framed (merged_block b s).ptt k ≡ block_is_framed s.ptt k
+    framed_same k = cell-merged t.btt_once (λ c d. is_framed d.page ≡ is_framed c.page) k refl (λ ne q. refl) (λ ne. refl)
+
+    -- and one buffer less lies over a frame
+    pub overlays-merged : overlays (merged_block b s) + 1 ≡ overlays s
+    unfolding merged_block
+    overlays-merged =
+        let c : Cell = cell_of s b in
+        let there = found_entry block_key new_entry s.btt b c.i listed-merge in
+        let is : c.entry ≡ there.0 = entry_for-some block_key new_entry s.btt b c.i there.0 listed-merge there.1 in
+        let before : lies_over s.ptt c.entry ≡ true = ap (λ (w : Working). is_in_buffer w && block_is_framed s.ptt c.entry.block) over
+        ∙ ap (λ (n : ℕ). block_is_framed s.ptt n) (block-cell_of s b) ∙ framed in
+        let less = count-set_less (passes (lies_over s.ptt)) s.btt.entries c.i None None there.3 refl (ap (passes (lies_over s.ptt)) there.1 ∙ ap (lies_over s.ptt) (sym is) ∙ before) in
+        let same = count-same (passes (lies_over (merged_block b s).ptt)) (passes (lies_over s.ptt)) by_entry (merged_block b s).btt.entries in
+        omega (arith, less, same)
+      where
+        by_entry : (o : Option BttEntry) → passes (lies_over (merged_block b s).ptt) o ≡ passes (lies_over s.ptt) o
+        by_entry None = refl
+        by_entry (Some e) = ap (λ (f : Bool). is_in_buffer e.work && f) (framed_same e.block)
+
+in_buffer : (w : Working) → is_in_buffer w ≡ true → w ≡ InBuffer
+in_buffer InBuffer e = refl
+in_buffer NoWork e = cc
+in_buffer InNvm e = cc
+
+-- what is known of the entry that is merged next
+pub record IsOverlay (s : State) (b : ℕ) : Type 0 where
+  pub inside : b < memory_blocks s.p
+  pub framed : is_framed (cell_of s b).page ≡ true
+  pub over : (cell_of s b).entry.work ≡ InBuffer
+
+pub IsOverlay-entry : (s : State) → AreSoundTables s → (i : ℕ) → next_merge s ≡ Some i → IsOverlay s (block_listed i s)
+IsOverlay-entry s t i h = by_entry (entry_at s.btt i) refl (first_from-first (passes (lies_over s.ptt)) None s.btt.entries 0 i h).here where
+  by_entry : (o : Option BttEntry) → entry_at s.btt i ≡ o → passes (lies_over s.ptt) o ≡ true → IsOverlay s (block_listed i s)
+  by_entry None e p = cc
+  by_entry (Some x) e p =
+      let here : lists block_key x.block (entry_at s.btt i) ≡ true = lists-key block_key x.block (entry_at s.btt i) x e refl in
+      let found : place_of block_key x.block s.btt ≡ Some i = t.btt_once.found i x.block here in
+      let entry : entry_for block_key new_entry x.block s.btt ≡ x = entry_for-some block_key new_entry s.btt x.block i x found e in
+      let both = and_parts (is_in_buffer x.work) (block_is_framed s.ptt x.block) p in
+      subst (λ (b : ℕ). IsOverlay s b) (sym (ap block_in e)) (record {
+        inside = omega (arith, t.btt_once.inside i x.block here, t.btt_numbers);
+        framed = both.1;
+        over = ap (λ (y : BttEntry). y.work) entry ∙ in_buffer x.work both.0;
+      })
+
+-- the parts of the code's way
+module _ (s w : State) (view : w ≡ s) (b : ℕ) (found : Cell) (is : found ≡ cell_of s b) where
+  pub dram_is : (from to : Place) (x y : ℕ) (v : Block) (dram : Contents) → from ≡ buffer_at (seat_of found) → to ≡ frame_at (seat_of found)
+      → x ≡ number_of w.p from → y ≡ number_of w.p to → v ≡ block_at w.dram.blocks x → dram ≡ written w.dram y v → dram ≡ dram_merged b s
+  unfolding dram_merged
+  dram_is from to x y v dram from_is to_is x_is y_is v_is dram_e =
+      dram_e ∙ ap (λ (n : ℕ). written w.dram n v) (y_is ∙ ap (number_of w.p) to_is)
+      ∙ ap (λ (z : Block). written w.dram (number_of w.p (frame_at (seat_of found))) z) (v_is ∙ ap (block_at w.dram.blocks) (x_is ∙ ap (number_of w.p) from_is))
+      ∙ ap (λ (q : State). written q.dram (number_of q.p (frame_at (seat_of found))) (block_at q.dram.blocks (number_of q.p (buffer_at (seat_of found))))) view
+      ∙ ap (λ (c : Cell). written s.dram (number_of s.p (frame_at (seat_of c))) (block_at s.dram.blocks (number_of s.p (buffer_at (seat_of c))))) is
+
+  pub merged_is : (btt : Listing BttEntry) (ptt : Listing PttEntry) (dram : Contents) → btt ≡ with_entry found.i None w.btt
+      → ptt ≡ with_entry found.j (Some (record found.page { dirty = true })) w.ptt → dram ≡ dram_merged b s
+      → record w { btt = btt; ptt = ptt; dram = dram } ≡ merged_block b s
+  unfolding merged_block
+  merged_is btt ptt dram btt_e ptt_e dram_e =
+      ap (λ (x : State). record x { btt = btt; ptt = ptt; dram = dram }) view
+      ∙ ap (λ (x : Listing BttEntry). record s { btt = x; ptt = ptt; dram = dram })
+      (btt_e ∙ ap (λ (x : State). with_entry found.i None x.btt) view ∙ ap (λ (c : Cell). with_entry c.i None s.btt) is)
+      ∙ ap (λ (x : Listing PttEntry). record s { btt = with_entry (cell_of s b).i None s.btt; ptt = x; dram = dram })
+      (ptt_e ∙ ap (λ (x : State). with_entry found.j (Some (dirty found.page)) x.ptt) view ∙ ap (λ (c : Cell). with_entry c.j (Some (dirty c.page)) s.ptt) is)
+      ∙ ap (λ (x : Contents). record s { btt = with_entry (cell_of s b).i None s.btt; ptt = with_entry (cell_of s b).j (Some (dirty (cell_of s b).page)) s.ptt; dram = x }) dram_e
+
+-- the block of the next overlay, as the code finds it
+pub overlay_block : (s w : State) → w ≡ s → (b i : ℕ) (e : Option BttEntry) → b ≡ block_in e → e ≡ entry_at w.btt i → b ≡ block_listed i s
+overlay_block s w view b i e is there = is ∙ ap block_in there ∙ ap (block_listed i) view
+
+-- what the next merge leaves, with any NVM
+pub record MergesAll (s t : State) : Type 0 where
+  pub left : overlays t + 1 ≡ overlays s
+  pub each : (n : Device) → IsSized s n → KeepsEach s n t n
+
+pub MergesAll-next : MergeKeeps → DirtyKeeps → (s : State) → AreSoundTables s → s.under_way ≡ false → is_some (next_merge s) ≡ true → MergesAll s (after_merge (next_merge s) s)
+MergesAll-next merge others s t idle some = by_next (next_merge s) refl some where
+  by_next : (o : Option ℕ) → next_merge s ≡ o → is_some o ≡ true → MergesAll s (after_merge o s)
+  by_next None h none = cc
+  by_next (Some i) h is =
+      let o = IsOverlay-entry s t i h in
+      record {
+        left = overlays-merged (block_listed i s) s o.framed o.over t o.inside idle merge others;
+        each = KeepsEach-merged (block_listed i s) s o.framed o.over t o.inside idle merge others;
+      }
+
+pub same_p-merge : (s : State) (o : Option ℕ) → (after_merge o s).p ≡ s.p
+unfolding merged_block
+same_p-merge s None = refl
+same_p-merge s (Some i) = refl

@@ -1,0 +1,28 @@
+use Rattle.std.proofs.Common.{◌≡◌, sym, subst}
+use Rattle.thy_table.specs.Listing.{IsListing}
+use Rattle.thy_control.specs.Keys.{block_key, page_key}
+use Rattle.thy_control.specs.State.{State, AreSoundTables}
+use Rattle.thy_control.specs.Merges.{dram_merged}
+use Rattle.thy_control.proofs.MergeLemmas.{AreSoundTables-merged, dram_is, merged_is}
+use Rattle.thy_control.proofs.control.Control.merge_block.Goals as goal
+
+pub invariant_of-self : goal.invariant_of-self
+invariant_of-self c =
+    let s : State = c.args.self.now in
+    let w : State = record { p = c.self.inside.geometry; btt = c.self.inside.btt; ptt = c.self.inside.ptt; counts = c.self.inside.counts; under_way = c.self.inside.under_way; dram = c.self.inside.dram } in
+    let dram : c.write.new.self ≡ dram_merged c.args.b s
+    = dram_is s w c.self.view_is c.args.b c.cell-cell.result c.cell-cell.ensures c.buffer.result c.frame.result c.number.result c.number-2.result c.read-block.result c.write.new.self
+    c.buffer.ensures c.frame.ensures c.number.ensures.place c.number-2.ensures.place c.read-block.ensures c.write.ensures in
+    let e = merged_is s w c.self.view_is c.args.b c.cell-cell.result c.cell-cell.ensures c.clear.new.self c.set.new.self c.write.new.self c.clear.ensures c.set.ensures dram in
+    subst (λ (t : State). AreSoundTables t) (sym e)
+    (AreSoundTables-merged c.args.b s c.requires.framed c.requires.work c.tables.ensures c.requires.block c.requires.idle c.a_merge_keeps_versions.ensures c.a_dirty_page_keeps_others.ensures
+    (subst (λ (t : State). IsListing block_key t.btt) e c.lists_once.ensures) (subst (λ (t : State). IsListing page_key t.ptt) e c.lists_once-2.ensures))
+
+pub returns : goal.returns
+returns c =
+    let s : State = c.args.self.now in
+    let w : State = record { p = c.self.inside.geometry; btt = c.self.inside.btt; ptt = c.self.inside.ptt; counts = c.self.inside.counts; under_way = c.self.inside.under_way; dram = c.self.inside.dram } in
+    let dram : c.write.new.self ≡ dram_merged c.args.b s
+    = dram_is s w c.self.view_is c.args.b c.cell-cell.result c.cell-cell.ensures c.buffer.result c.frame.result c.number.result c.number-2.result c.read-block.result c.write.new.self
+    c.buffer.ensures c.frame.ensures c.number.ensures.place c.number-2.ensures.place c.read-block.ensures c.write.ensures in
+    merged_is s w c.self.view_is c.args.b c.cell-cell.result c.cell-cell.ensures c.clear.new.self c.set.new.self c.write.new.self c.clear.ensures c.set.ensures dram

@@ -1,0 +1,36 @@
+use Rattle.std.proofs.Common.{◌≡◌, ◌+◌, sym, subst}
+use Rattle.thy_base.specs.Device.{Device}
+use Rattle.thy_control.specs.State.{State, IsSized}
+use Rattle.thy_control.specs.Merges.{next_merge, overlays, after_merge}
+use Rattle.thy_control.specs.Stays.{HoldAll}
+use Rattle.thy_control.specs.Versions.{KeepsCheckpoints, KeepsWork}
+use Rattle.thy_control.proofs.StepLemmas.{checkpoints-each, work-each, holds-each}
+use Rattle.thy_control.proofs.MergeLemmas.{MergesAll-next, same_p-merge}
+use Rattle.thy_control.proofs.control.Control.merge_one.Goals as goal
+
+pub returns-clause-left : goal.returns-clause-left
+returns-clause-left c =
+    let s : State = c.args.self.now in
+    let all = MergesAll-next c.a_merge_keeps_versions.ensures c.a_dirty_page_keeps_others.ensures s c.tables.ensures c.requires.idle c.requires.overlay in
+    subst (λ (t : State). overlays t + 1 ≡ overlays s) (sym c.merge_lowest.ensures) all.left
+
+pub returns-clause-keeps : goal.returns-clause-keeps
+returns-clause-keeps c =
+    let s : State = c.args.self.now in
+    let all = MergesAll-next c.a_merge_keeps_versions.ensures c.a_dirty_page_keeps_others.ensures s c.tables.ensures c.requires.idle c.requires.overlay in
+    subst (λ (t : State). (n : Device) → IsSized s n → KeepsCheckpoints s n t n) (sym c.merge_lowest.ensures)
+    (λ n sized. checkpoints-each s n (after_merge (next_merge s) s) n (all.each n sized))
+
+pub returns-clause-work : goal.returns-clause-work
+returns-clause-work c =
+    let s : State = c.args.self.now in
+    let all = MergesAll-next c.a_merge_keeps_versions.ensures c.a_dirty_page_keeps_others.ensures s c.tables.ensures c.requires.idle c.requires.overlay in
+    subst (λ (t : State). (n : Device) → IsSized s n → KeepsWork s n t n) (sym c.merge_lowest.ensures)
+    (λ n sized. work-each s n (after_merge (next_merge s) s) n (all.each n sized))
+
+pub returns-clause-holds : goal.returns-clause-holds
+returns-clause-holds c =
+    let s : State = c.args.self.now in
+    let all = MergesAll-next c.a_merge_keeps_versions.ensures c.a_dirty_page_keeps_others.ensures s c.tables.ensures c.requires.idle c.requires.overlay in
+    subst (λ (t : State). (n : Device) → IsSized s n → HoldAll s n → HoldAll t n) (sym c.merge_lowest.ensures)
+    (λ n sized. holds-each s n (after_merge (next_merge s) s) n (same_p-merge s (next_merge s)) (all.each n sized))

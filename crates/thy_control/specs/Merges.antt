@@ -1,0 +1,50 @@
+-- Buffers that lie over the frames of their pages, and what the merge of one makes of the controller.
+use Rattle.std.specs.Prelude.{ℕ, Bool, true, false, ◌&&◌, Option, Some, None, count_by}
+use Rattle.thy_base.specs.Device.{block_at}
+use Rattle.thy_base.specs.Places.{number_of}
+use Rattle.thy_dram.specs.Contents.{Contents, written}
+use Rattle.thy_table.specs.Listing.{Listing, with_entry, passes, next_from}
+use Rattle.thy_tables.specs.declared.block_entry.BttEntry.{BttEntry}
+use Rattle.thy_tables.specs.declared.block_entry.Working.{Working}
+use Rattle.thy_tables.specs.declared.block_entry.Working.TheVariants.{NoWork, InNvm, InBuffer}
+use Rattle.thy_tables.specs.declared.page_entry.PttEntry.{PttEntry}
+use Rattle.thy_cell.specs.Cells.{seat_of, frame_at, buffer_at}
+use Rattle.thy_cell.specs.Checkpoint.{merged}
+use Rattle.thy_control.specs.Copies.{block_listed}
+use Rattle.thy_control.specs.Seal.{block_is_framed}
+use Rattle.thy_control.specs.State.{State, cell_of}
+
+abbrev pub is_in_buffer : Working → Bool
+is_in_buffer NoWork = false
+is_in_buffer InNvm = false
+is_in_buffer InBuffer = true
+
+-- an entry's buffer lies over the frame of its block's page
+abbrev pub lies_over : Listing PttEntry → BttEntry → Bool
+lies_over t e = is_in_buffer e.work && block_is_framed t e.block
+
+-- the entry that is merged next, and how many are left
+abbrev pub next_merge : State → Option ℕ
+next_merge s = next_from (lies_over s.ptt) 0 s.btt
+
+abbrev pub overlays : State → ℕ
+overlays s = count_by (passes (lies_over s.ptt)) s.btt.entries
+
+-- the DRAM after a block was copied from its buffer into the frame
+unfoldable pub dram_merged : ℕ → State → Contents
+dram_merged b s =
+    let x = seat_of (cell_of s b) in
+    written s.dram (number_of s.p (frame_at x)) (block_at s.dram.blocks (number_of s.p (buffer_at x)))
+
+-- and the controller: the block's entry is cleared, and the page is dirty
+unfoldable pub merged_block : ℕ → State → State
+merged_block b s = record s {
+  btt = with_entry (cell_of s b).i None s.btt;
+  ptt = with_entry (cell_of s b).j (Some (merged (cell_of s b)).page) s.ptt;
+  dram = dram_merged b s;
+}
+
+-- the same of the entry that is merged next
+abbrev pub after_merge : Option ℕ → State → State
+after_merge None s = s
+after_merge (Some i) s = merged_block (block_listed i s) s

@@ -1,0 +1,122 @@
+//! Buffers that lie over the frames of their pages.
+ghost use Rattle.std.specs.Prelude.{◌≡◌, ◌+◌, ◌<◌, true, false, length, is_some, IfSome};
+ghost use Rattle.thy_base.specs.Device.{Device};
+ghost use Rattle.thy_base.specs.Geometry.{memory_blocks};
+ghost use Rattle.thy_tables.specs.PageEntry.{is_framed as IsFramedPage};
+ghost use Rattle.thy_tables.specs.declared.block_entry.Working.TheVariants.{InBuffer as IsInBuffer};
+ghost use Rattle.thy_control.specs.Seal.{block_is_framed};
+
+use super::copying::block_in;
+use super::{Control, page_entry};
+use thy_cell::{a_dirty_page_keeps_others, a_merge_keeps_versions};
+use thy_table::Test;
+use thy_tables::{BttEntry, Ptt, PttEntry, Working};
+
+/// A buffer lies over the frame of its block's page, by this page table.
+#[derive(Drop)]
+struct LiesOver<'a> {
+    ptt: &'a Ptt,
+}
+
+impl<'a> Test<BttEntry> for LiesOver<'a> {
+    ghost use Rattle.thy_control.specs.Merges.{lies_over};
+
+    ghost holds = { λ test e. lies_over test.ptt.now e };
+
+    fn test(&self, entry: &BttEntry) -> bool {
+        match entry.work {
+            Working::InBuffer => block_is_framed(self.ptt, entry.block),
+            Working::NoWork | Working::InNvm => false,
+        }
+    }
+}
+
+/// Whether the page of a block is framed.
+fn block_is_framed(ptt: &Ptt, b: u64) -> bool
+    ensures { result ≡ block_is_framed ptt.now b }
+{
+    let (_, page) = page_entry(ptt, b / 64);
+    page.is_framed()
+}
+
+impl Control {
+    ghost use Rattle.thy_control.specs.State.{IsSized, cell_of};
+    ghost use Rattle.thy_control.specs.Stays.{HoldAll};
+    ghost use Rattle.thy_control.specs.Versions.{KeepsCheckpoints, KeepsWork};
+    ghost use Rattle.thy_control.specs.Merges.{next_merge, overlays, merged_block, after_merge};
+
+    /// Whether the buffer of some entry lies over the frame of its block's page.
+    pub fn overlay(&self) -> bool
+        ensures { result ≡ is_some (next_merge self.now) }
+    {
+        self.next_overlay().is_some()
+    }
+
+    /// The entry of lowest number whose buffer lies over a frame.
+    fn next_overlay(&self) -> Option<usize>
+        ensures place { result ≡ next_merge self.now }
+        ensures inside { IfSome result (λ i. i < length self.now.btt.entries) }
+    {
+        self.btt.next(0, &LiesOver { ptt: &self.ptt })
+    }
+
+    /// Merges the entry of lowest number whose buffer lies over the frame of its block's page: the block is copied into the
+    /// frame, the page is dirty, and the entry is free. The NVM is not touched.
+    pub fn merge_one(&mut self)
+        requires overlay { is_some (next_merge self.old) ≡ true }
+        requires idle { self.old.under_way ≡ false }
+
+        // One buffer less lies over a frame.
+        ensures left { overlays self.new + 1 ≡ overlays self.old }
+
+        // Both checkpoints have every block as before, and so does a load; the frames and targets hold what they have to.
+        ensures keeps { (nvm : Device) → IsSized self.old nvm → KeepsCheckpoints self.old nvm self.new nvm }
+        ensures work { (nvm : Device) → IsSized self.old nvm → KeepsWork self.old nvm self.new nvm }
+        ensures holds { (nvm : Device) → IsSized self.old nvm → HoldAll self.old nvm → HoldAll self.new nvm }
+        ensures state { self.new ≡ after_merge (next_merge self.old) self.old }
+    {
+        a_merge_keeps_versions();
+        a_dirty_page_keeps_others();
+        self.tables();
+        self.merge_lowest();
+    }
+
+    /// Merges the entry of lowest number whose buffer lies over a frame.
+    fn merge_lowest(&mut self)
+        requires overlay { is_some (next_merge self.old) ≡ true }
+        requires idle { self.old.under_way ≡ false }
+        ensures { self.new ≡ after_merge (next_merge self.old) self.old }
+    {
+        self.tables();
+        if let Some(i) = self.next_overlay() {
+            let b = block_in(self.btt.entry(i));
+            self.merge_block(b);
+        }
+    }
+
+    /// Copies a block from its buffer into the frame of its page, and clears its entry.
+    fn merge_block(&mut self, b: u64)
+        requires block { b < memory_blocks self.old.p }
+        requires idle { self.old.under_way ≡ false }
+        requires framed { IsFramedPage (cell_of self.old b).page ≡ true }
+        requires work { (cell_of self.old b).entry.work ≡ IsInBuffer }
+        ensures { self.new ≡ merged_block b self.old }
+    {
+        a_merge_keeps_versions();
+        a_dirty_page_keeps_others();
+        self.tables();
+        let cell = self.cell(b);
+        let block = self.dram.read(self.geometry.number(cell.buffer()));
+        self.dram.write(self.geometry.number(cell.frame()), &block);
+        self.btt.clear(cell.i);
+        self.ptt.set(
+            cell.j,
+            PttEntry {
+                dirty: true,
+                ..cell.page
+            },
+        );
+        self.btt.lists_once();
+        self.ptt.lists_once();
+    }
+}
