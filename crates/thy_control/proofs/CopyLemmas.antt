@@ -1,11 +1,11 @@
 -- The copy of a block's pending version: every block after it, and the tables.
-use Rattle.std.proofs.Common.{◌≡◌, ◌≢◌, ℕ, ◌+◌, ◌<◌, Bool, true, false, refl, sym, ◌∙◌, ap, subst, inl, inr, arith, Option, Some, None, is_some, Result, Ok, Err, OnOk, IfOk}
+use Rattle.std.proofs.Common.{◌≡◌, ◌≢◌, ℕ, ◌+◌, ◌<◌, Bool, true, false, refl, sym, ◌∙◌, ap, subst, inl, inr, arith, Option, Some, None, is_some, List, Result, Ok, Err, OnOk, OnErr, IfOk}
 use Rattle.std.proofs.lemmas.Bool.{cases_eq}
 use Rattle.std.proofs.lemmas.List.{length-set}
 use Rattle.thy_base.specs.declared.block.Block.{Block}
 use Rattle.thy_base.specs.declared.place.Place.{Place}
 use Rattle.thy_base.specs.declared.nvm.NvmError.{NvmError}
-use Rattle.thy_base.specs.Device.{Device}
+use Rattle.thy_base.specs.Device.{Device, IsFramed}
 use Rattle.thy_base.specs.Geometry.{memory_blocks}
 use Rattle.thy_base.specs.Places.{IsPlace}
 use Rattle.thy_place.specs.Devices.{Devices, devices_of}
@@ -18,7 +18,7 @@ use Rattle.thy_tables.specs.declared.block_entry.Pending.{Pending}
 use Rattle.thy_tables.specs.declared.block_entry.Pending.TheVariants.{Settled, FromBuffer, FromAlternate}
 use Rattle.thy_tables.specs.BlockEntry.{new_entry}
 use Rattle.thy_cell.specs.declared.cell.Cell.{Cell}
-use Rattle.thy_cell.specs.Cells.{target, last}
+use Rattle.thy_cell.specs.Cells.{Seat, seat_of, placed, target, last}
 use Rattle.thy_cell.specs.Sound.{IsSoundCell}
 use Rattle.thy_cell.specs.Rules.{after_copy}
 use Rattle.thy_cell.specs.Steps.{CopyKeeps, Keeps}
@@ -26,7 +26,7 @@ use Rattle.thy_cell.proofs.StoreLemmas.{IsSoundCell-after_copy}
 use Rattle.thy_control.specs.Find.{entry_for}
 use Rattle.thy_control.specs.Keys.{block_key}
 use Rattle.thy_control.specs.State.{State, AreSoundTables, IsSized, cell_of, reads}
-use Rattle.thy_control.specs.Copies.{is_pending, needs_copy, next_copy, copies_left, block_in, block_listed, devices_copied, copied, devices_after_copy, after_next_copy}
+use Rattle.thy_control.specs.Copies.{is_pending, needs_copy, next_copy, copies_left, block_in, block_listed, devices_copied, copied, devices_after_copy, after_next_copy, FailsCopy, FailsNextCopy}
 use Rattle.thy_control.specs.Moves.{moved, IsOneLess}
 use Rattle.thy_control.specs.Stays.{HoldAll}
 use Rattle.thy_control.specs.Versions.{KeepsCheckpoints, KeepsWork}
@@ -36,6 +36,16 @@ use Rattle.thy_control.proofs.CountLemmas.{count-set_less}
 use Rattle.thy_control.proofs.StateLemmas.{place_of-index, cell-set_block_same, cell-set_block_other}
 use Rattle.thy_control.proofs.OwnLemmas.{owner, Owns-cell_of, owned-target}
 use Rattle.thy_control.proofs.StepLemmas.{KeepsEach, Keeps-untouched, reads_after, puts, untouched, moved-is, none-passes, KeepsEach-same, checkpoints-each, work-each, holds-each}
+use Rattle.thy_tables.specs.declared.block_entry.Version.{Version}
+use Rattle.thy_tables.specs.declared.block_entry.Version.TheVariants.{Out, Alt}
+use Rattle.thy_tables.specs.declared.page_entry.Site.{Site}
+use Rattle.thy_tables.specs.declared.page_entry.Site.TheVariants.{AtHome, AtAlternate}
+use Rattle.thy_control.specs.CheckpointTables.{tables0, tables1, entry_lists}
+use Rattle.thy_control.specs.Guarded.{LeavesGuarded}
+use Rattle.thy_control.specs.OverCalls.{cell_same, stays_same}
+use Rattle.thy_control.specs.Stays.{CellStays, Stays}
+use Rattle.thy_control.proofs.StayLemmas.{map-block}
+use Rattle.thy_control.proofs.StepStayLemmas.{StaysTables, Outcome, LeavesGuarded-step, Stays-step, Stays-failed_step, Outcome-failed}
 
 is_pending-not : (q : Pending) → q ≢ Settled → is_pending q ≡ true
 is_pending-not Settled h = absurd (h refl)
@@ -221,3 +231,72 @@ module _ (s w : State) (view : w ≡ s) where
       ∙ ap (λ (c : Cell). with_entry found.i (Some c.entry) s.btt) after_is
       ∙ ap (λ (c : Cell). with_entry c.i (Some (after_copy c).entry) s.btt) is)
       ∙ ap (λ (x : Devices). record s { btt = with_entry (cell_of s b).i (Some (after_copy (cell_of s b)).entry) s.btt; dram = x.dram }) d_is
+
+-- the place of what has to be copied is not that of the committed checkpoint
+versions_apart : (v w : Version) (p q : Site) (x : Seat) → v ≢ w → p ≡ AtHome → q ≡ AtHome → placed v p x ≢ placed w q x
+versions_apart Out Out p q x other hp hq e = other refl
+versions_apart Alt Alt p q x other hp hq e = other refl
+versions_apart Out Alt AtHome q x other hp hq e = cc
+versions_apart Out Alt AtAlternate q x other hp hq e = cc
+versions_apart Alt Out p AtHome x other hp hq e = cc
+versions_apart Alt Out p AtAlternate x other hp hq e = cc
+
+module _ (b : ℕ) (s : State) (m : Device) (pending : (cell_of s b).entry.pend ≢ Settled) where
+  stays_tables : StaysTables s (copied b s m)
+  unfolding copied
+  stays_tables = record {
+    same_p = refl;
+    same_way = refl;
+    tables0_same = ap (λ (x : List (Option ℕ)). record (tables0 s) { btt = x })
+        (map-block (λ e. entry_lists e.v0 e.block) s b (after_copy (cell_of s b)).entry (listed-pending b s pending) refl);
+    tables1_same = ap (λ (x : List (Option ℕ)). record (tables1 s) { btt = x })
+        (map-block (λ e. entry_lists e.v1 e.block) s b (after_copy (cell_of s b)).entry (listed-pending b s pending) refl);
+    cells = λ k l. cell-copied b s pending m CellStays k
+        (record { penult_same = refl; target_same = refl; settled = λ h. refl; busy_before = λ h. h; issued = omega arith })
+        (λ ne. cell_same (cell_of s k));
+  }
+
+  module _ (t : AreSoundTables s) (sized : IsSized s m) (l : b < memory_blocks s.p) where
+    guarded_by : (n : Device) → Outcome s (target (cell_of s b)) (reads s m (last (cell_of s b))) m n → LeavesGuarded s m n
+    guarded_by n outcome =
+        let c : Cell = cell_of s b in
+        let sound = t.cells b l in
+        LeavesGuarded-step s (target c) (reads s m (last c)) m n b t (IsPlace-target s.p c (IsWithin-cell_of s b t l)) (owned-target s b c (Owns-cell_of s b))
+        (versions_apart c.entry.v0 c.entry.v1 c.page.place c.page.target (seat_of c) (sound.pending_moves pending) (sound.pending_still pending) (sound.pending_home pending))
+        (λ copied same. pending copied.copied) outcome
+
+    pub Stays-copied : CopyKeeps → m.down ≡ false → IsFramed m (devices_copied b s m).nvm → Stays s m (copied b s m) (devices_copied b s m).nvm
+    unfolding devices_copied
+    Stays-copied law up framed =
+        let c : Cell = cell_of s b in
+        let each : KeepsEach s m (copied b s m) (devices_copied b s m).nvm = KeepsEach-copied b s pending m t sized l law in
+        Stays-step s (target c) (reads s m (last c)) m (copied b s m) sized stays_tables (λ d. let no : true ≡ false = sym d ∙ up in cc) framed
+        (guarded_by (devices_copied b s m).nvm (inl refl))
+        (λ k h. (each k h).reads.penult_same)
+        (λ hold. record {
+          holds = holds-each s m (copied b s m) (devices_copied b s m).nvm stays_tables.same_p each hold;
+          last_same = λ k h. (each k h).reads.last_same;
+        })
+
+    pub Stays-not_copied : (n : Device) → FailsCopy b s m n → IsFramed m n → Stays s m s n
+    Stays-not_copied n failed framed =
+        let f = Outcome-failed s (last (cell_of s b)) (target (cell_of s b)) m n failed in
+        Stays-failed_step s m n framed f.1 (guarded_by n f.0)
+
+-- so does the next copy, or none, whichever way it ended
+Stays-next : CopyKeeps → (s : State) (m : Device) → AreSoundTables s → IsSized s m → m.down ≡ false → (o : Option ℕ) → next_copy s ≡ o
+    → IsFramed m (devices_after_copy o s m) → Stays s m (after_next_copy o s m) (devices_after_copy o s m)
+Stays-next law s m t sized up None h framed = stays_same s m
+Stays-next law s m t sized up (Some i) h framed =
+    let next = IsNext-entry s t i h in
+    Stays-copied (block_listed i s) s m next.pending t sized next.inside law up framed
+
+pub stays_by : CopyKeeps → (s : State) (m : Device) (t : State) (n : Device) (r : Result Bool NvmError) → AreSoundTables s → IsSized s m → m.down ≡ false
+    → OnOk r (t ≡ after_next_copy (next_copy s) s m) → OnOk r (n ≡ devices_after_copy (next_copy s) s m)
+    → OnErr r (t ≡ s) → OnErr r (FailsNextCopy s m n) → IsFramed m n → Stays s m t n
+stays_by law s m t n (Ok more) tables sized up e f k g framed =
+    subst (λ (y : State). Stays s m y n) (sym e) (subst (λ (y : Device). Stays s m (after_next_copy (next_copy s) s m) y) (sym f)
+    (Stays-next law s m tables sized up (next_copy s) refl (subst (λ (y : Device). IsFramed m y) f framed)))
+stays_by law s m t n (Err x) tables sized up e f k g framed =
+    let next = IsNext-entry s tables g.entry g.next in
+    subst (λ (y : State). Stays s m y n) (sym k) (Stays-not_copied (block_listed g.entry s) s m next.pending tables sized next.inside n g.fails framed)

@@ -37,7 +37,7 @@ use Rattle.thy_control.proofs.OwnLemmas.{owner, Owns-cell_of, owned-penult, owne
 use Rattle.thy_control.proofs.KeepLemmas.{same_start, penult-new, target-new}
 
 -- places of checkpoints are in the NVM
-placed-in_nvm : (v : Version) (s : Site) (x : Seat) → in_dram (placed v s x) ≡ false
+pub placed-in_nvm : (v : Version) (s : Site) (x : Seat) → in_dram (placed v s x) ≡ false
 placed-in_nvm Alt s x = refl
 placed-in_nvm Out AtAlternate x = refl
 placed-in_nvm Out AtHome x = refl
@@ -50,12 +50,12 @@ behind_slots p (AlternatePage j k) e = omega arith
 behind_slots p (Buffer i) e = cc
 behind_slots p (Frame j k) e = cc
 
-low-written : (side : Bool) (at x : ℕ) (block : Block) (d : Devices) → (side ≡ false → x ≢ at)
+pub low-written : (side : Bool) (at x : ℕ) (block : Block) (d : Devices) → (side ≡ false → x ≢ at)
     → NoMoreAt x d.nvm (if side then record d { dram = written d.dram at block } else record d { nvm = written_to d.nvm at block }).nvm
 low-written true at x block d other = record { no_more = λ b h. h }
 low-written false at x block d other = record { no_more = λ b h. no_more-written_to_other d.nvm at block x b (other refl) h }
 
-low-failed : (at x : ℕ) (block : Block) (m n : Device) → x ≢ at → HasFailedToWrite at block m n → NoMoreAt x m n
+pub low-failed : (at x : ℕ) (block : Block) (m n : Device) → x ≢ at → HasFailedToWrite at block m n → NoMoreAt x m n
 low-failed at x block m n other failed = record {
   no_more = λ b h. elim (failed.no_more x b h) as (λ _. Contains (possible m x) b) [ inl before ↦ before | inr here ↦ absurd (other here.0) ];
 }

@@ -25,3 +25,4 @@ pub mod StepLemmas
 pub mod CopyLemmas
 pub mod PageLemmas
 pub mod MergeLemmas
+pub mod StepStayLemmas

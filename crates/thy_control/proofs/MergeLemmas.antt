@@ -1,5 +1,17 @@
 -- The merge of a block's buffer into the frame of its page: every block after it, and the tables.
-use Rattle.std.proofs.Common.{◌≡◌, ◌≢◌, ℕ, ◌+◌, ◌<◌, Bool, true, false, ◌&&◌, refl, sym, ◌∙◌, ap, subst, inl, inr, arith, Option, Some, None, is_some}
+use Rattle.thy_base.specs.declared.place.Place.TheVariants.{Home, AlternatePage}
+use Rattle.thy_tables.specs.declared.block_entry.Pending.{Pending}
+use Rattle.thy_tables.specs.declared.block_entry.Pending.TheVariants.{Settled, FromBuffer, FromAlternate}
+use Rattle.thy_tables.specs.declared.block_entry.Version.{Version}
+use Rattle.thy_tables.specs.declared.block_entry.Version.TheVariants.{Out, Alt}
+use Rattle.thy_tables.specs.declared.page_entry.Site.{Site}
+use Rattle.thy_tables.specs.declared.page_entry.Site.TheVariants.{AtHome, AtAlternate}
+use Rattle.thy_control.specs.CheckpointTables.{tables0, tables1, entry_lists, page_lists}
+use Rattle.thy_control.specs.OverCalls.{cell_same, stays_same}
+use Rattle.thy_control.specs.Stays.{CellStays, Stays}
+use Rattle.thy_control.proofs.StayLemmas.{map-set_same, map-page}
+use Rattle.thy_control.proofs.StepStayLemmas.{StaysTables, LeavesGuarded-step, Stays-step, penult-in_nvm, target-in_nvm}
+use Rattle.std.proofs.Common.{◌≡◌, ◌≢◌, ℕ, ◌+◌, ◌<◌, Bool, true, false, ◌&&◌, refl, sym, ◌∙◌, ap, subst, inl, inr, arith, Option, Some, None, is_some, List, map, option_and_then, ◌%◌}
 use Rattle.std.proofs.lemmas.Bool.{cases_eq, and_parts}
 use Rattle.std.proofs.lemmas.List.{length-set}
 use Rattle.thy_base.specs.declared.block.Block.{Block}
@@ -19,7 +31,7 @@ use Rattle.thy_tables.specs.declared.block_entry.Working.TheVariants.{NoWork, In
 use Rattle.thy_tables.specs.BlockEntry.{new_entry}
 use Rattle.thy_tables.specs.PageEntry.{no_page, is_framed}
 use Rattle.thy_cell.specs.declared.cell.Cell.{Cell}
-use Rattle.thy_cell.specs.Cells.{seat_of, frame_at, buffer_at, worked_at, last, work}
+use Rattle.thy_cell.specs.Cells.{Seat, placed, seat_of, frame_at, buffer_at, worked_at, last, work}
 use Rattle.thy_cell.specs.Sound.{IsSoundCell, IsWithin, Puts}
 use Rattle.thy_cell.specs.Checkpoint.{merged, with_dirty}
 use Rattle.thy_cell.specs.Steps.{MergeKeeps, DirtyKeeps, Keeps}
@@ -36,7 +48,7 @@ use Rattle.thy_control.proofs.HoldLemmas.{IsPlace-frame_of}
 use Rattle.thy_control.proofs.StateLemmas.{place_of-index}
 use Rattle.thy_control.proofs.OwnLemmas.{owner, Owns-cell_of}
 use Rattle.thy_control.proofs.PageLemmas.{count-same, block_cleared, cell-cleared_same, cell-cleared_other, cell-page_same, cell-page_other, same_page, live-set}
-use Rattle.thy_control.proofs.StepLemmas.{KeepsEach, Keeps-untouched, ReadsSame-of, reads_after, puts, untouched}
+use Rattle.thy_control.proofs.StepLemmas.{KeepsEach, Keeps-untouched, ReadsSame-of, reads_after, puts, untouched, holds-each}
 
 -- a page that was written to
 abbrev dirty : PttEntry → PttEntry
@@ -240,3 +252,88 @@ pub same_p-merge : (s : State) (o : Option ℕ) → (after_merge o s).p ≡ s.p
 unfolding merged_block
 same_p-merge s None = refl
 same_p-merge s (Some i) = refl
+
+-- a merge moves no place of a checkpoint
+module _ (b : ℕ) (s : State) (framed : is_framed (cell_of s b).page ≡ true) (over : (cell_of s b).entry.work ≡ InBuffer) (t : AreSoundTables s) (l : b < memory_blocks s.p) (idle : s.under_way ≡ false) where
+  -- the entry lists nothing
+  fresh_not : (cell_of s b).page.fresh ≡ false
+  fresh_not = by_fresh (cell_of s b).page.fresh refl where
+    by_fresh : (f : Bool) → (cell_of s b).page.fresh ≡ f → f ≡ false
+    by_fresh false e = refl
+    by_fresh true e = let no : InBuffer ≡ NoWork = sym over ∙ (t.cells b l).fresh_idle e in cc
+
+  out1 : (cell_of s b).entry.v1 ≡ Out
+  out1 = (t.cells b l).framed_out framed fresh_not
+
+  out0 : (cell_of s b).entry.v0 ≡ Out
+  out0 = (t.cells b l).one idle ∙ out1
+
+  settled : (cell_of s b).entry.pend ≡ Settled
+  settled = by_pending (cell_of s b).entry.pend refl where
+    by_pending : (q : Pending) → (cell_of s b).entry.pend ≡ q → q ≡ Settled
+    by_pending Settled e = refl
+    by_pending FromBuffer e = absurd ((t.cells b l).pending_moves (λ h. let no : FromBuffer ≡ Settled = sym e ∙ h in cc) ((t.cells b l).one idle))
+    by_pending FromAlternate e = absurd ((t.cells b l).pending_moves (λ h. let no : FromAlternate ≡ Settled = sym e ∙ h in cc) ((t.cells b l).one idle))
+
+  map-cleared : (f : BttEntry → Option ℕ) → f (cell_of s b).entry ≡ None
+      → map (option_and_then f) (with_entry (cell_of s b).i None s.btt).entries ≡ map (option_and_then f) s.btt.entries
+  map-cleared f none =
+      let listed = listed-merge b s framed over in
+      let there = found_entry block_key new_entry s.btt b (cell_of s b).i listed in
+      let is : (cell_of s b).entry ≡ there.0 = entry_for-some block_key new_entry s.btt b (cell_of s b).i there.0 listed there.1 in
+      map-set_same (option_and_then f) s.btt.entries (cell_of s b).i None None (sym none ∙ ap f is ∙ sym (ap (option_and_then f) there.1)) there.3
+
+  -- where a block that is out stands does not hang on its entry's place
+  placed_out : (v : Version) (site : Site) (x y : Seat) → v ≡ Out → x.j ≡ y.j → x.block ≡ y.block → placed Out site x ≡ placed v site y
+  placed_out Out AtHome x y e j k = ap Home k
+  placed_out Out AtAlternate x y e j k = ap (λ (n : ℕ). AlternatePage n (x.block % 64)) j ∙ ap (λ (n : ℕ). AlternatePage y.j (n % 64)) k
+  placed_out Alt site x y e j k = cc
+
+  stays_tables-merged : StaysTables s (merged_block b s)
+  unfolding merged_block
+  stays_tables-merged =
+      let c : Cell = cell_of s b in
+      let page = λ (f : PttEntry → Option ℕ) (same : f (dirty c.page) ≡ f c.page). map-page f s b (dirty c.page) (listed_page-merge b s framed over) same in
+      record {
+        same_p = refl;
+        same_way = refl;
+        tables0_same =
+            ap (λ (x : List (Option ℕ)). record (tables0 (merged_block b s)) { btt = x }) (map-cleared (λ e. entry_lists e.v0 e.block) (ap (λ (v : Version). entry_lists v c.entry.block) out0))
+            ∙ ap (λ (x : List (Option ℕ)). record (tables0 s) { ptt = x }) (page (λ e. page_lists e.place e.page) refl);
+        tables1_same =
+            ap (λ (x : List (Option ℕ)). record (tables1 (merged_block b s)) { btt = x }) (map-cleared (λ e. entry_lists e.v1 e.block) (ap (λ (v : Version). entry_lists v c.entry.block) out1))
+            ∙ ap (λ (x : List (Option ℕ)). record (tables1 s) { ptt = x }) (page (λ e. page_lists e.target e.page) refl);
+        cells = λ k h. cell-merged b s framed over t.btt_once CellStays k
+            (record {
+              penult_same = placed_out c.entry.v0 c.page.place (seat_of (merged c)) (seat_of c) out0 refl refl;
+              target_same = placed_out c.entry.v1 c.page.target (seat_of (merged c)) (seat_of c) out1 refl refl;
+              settled = λ q. refl;
+              busy_before = λ q. q;
+              issued = omega arith;
+            })
+            (λ ne q. record { penult_same = refl; target_same = refl; settled = λ e. e; busy_before = λ e. e; issued = omega arith })
+            (λ ne. cell_same (cell_of s k));
+      }
+
+  module _ (merge : MergeKeeps) (others : DirtyKeeps) (n : Device) (sized : IsSized s n) where
+    pub Stays-merged : Stays s n (merged_block b s) n
+    Stays-merged =
+        let c : Cell = cell_of s b in
+        let y : Place = frame_at (seat_of c) in
+        let each : KeepsEach s n (merged_block b s) n = KeepsEach-merged b s framed over t l idle merge others n sized in
+        Stays-step s y zero_block n (merged_block b s) sized stays_tables-merged (λ d. d)
+        (record { blocks = refl; left = refl; picks = refl; queue_room = refl; left_room = refl; fits = refl })
+        (LeavesGuarded-step s y zero_block n n b t (IsPlace-frame_of s b t l) ((Owns-cell_of s b).of_page (has_page b s framed over))
+        (penult-in_nvm s b y refl) (λ q. target-in_nvm s b y refl) (inl refl))
+        (λ k h. (each k h).reads.penult_same)
+        (λ hold. record {
+          holds = holds-each s n (merged_block b s) n stays_tables-merged.same_p each hold;
+          last_same = λ k h. (each k h).reads.last_same;
+        })
+
+pub Stays-merge : MergeKeeps → DirtyKeeps → (s : State) → AreSoundTables s → s.under_way ≡ false → (o : Option ℕ) → next_merge s ≡ o
+    → (n : Device) → IsSized s n → Stays s n (after_merge o s) n
+Stays-merge merge others s t idle None h n sized = stays_same s n
+Stays-merge merge others s t idle (Some i) h n sized =
+    let o = IsOverlay-entry s t i h in
+    Stays-merged (block_listed i s) s o.framed o.over t o.inside idle merge others n sized

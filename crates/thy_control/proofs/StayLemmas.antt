@@ -42,7 +42,7 @@ use Rattle.thy_control.proofs.KeepLemmas.{same_start, penult-new, target-new}
 use Rattle.thy_control.proofs.GuardLemmas.{behind_slots}
 
 -- where another element maps to the same, so does the list
-map-set_same : {X Y : Type 0} (f : X → Y) (xs : List X) (i : ℕ) (y d : X) → f y ≡ f (get_or xs i d) → i < length xs → map f (slice_set xs i y) ≡ map f xs
+pub map-set_same : {X Y : Type 0} (f : X → Y) (xs : List X) (i : ℕ) (y d : X) → f y ≡ f (get_or xs i d) → i < length xs → map f (slice_set xs i y) ≡ map f xs
 map-set_same f xs i y d same inside =
     ext_get_or (f d) (map f (slice_set xs i y)) (map f xs) (length-map (slice_set xs i y) f ∙ length-set xs i y ∙ sym (length-map xs f))
     (λ k l.
@@ -76,14 +76,14 @@ module _ (f : BttEntry → Option ℕ) (new_none : (b : ℕ) → f (new_entry b)
   map-with PendingFirst b t = refl
 
 -- an entry of the block table that is listed the same
-map-block : (f : BttEntry → Option ℕ) (t : State) (b : ℕ) (e : BttEntry) → place_of block_key b t.btt ≡ Some (cell_of t b).i → f e ≡ f (cell_of t b).entry
+pub map-block : (f : BttEntry → Option ℕ) (t : State) (b : ℕ) (e : BttEntry) → place_of block_key b t.btt ≡ Some (cell_of t b).i → f e ≡ f (cell_of t b).entry
     → map (option_and_then f) (with_entry (cell_of t b).i (Some e) t.btt).entries ≡ map (option_and_then f) t.btt.entries
 map-block f t b e listed same =
     let there = found_entry block_key new_entry t.btt b (cell_of t b).i listed in
     let is : (cell_of t b).entry ≡ there.0 = entry_for-some block_key new_entry t.btt b (cell_of t b).i there.0 listed there.1 in
     map-set_same (option_and_then f) t.btt.entries (cell_of t b).i (Some e) None (same ∙ ap f is ∙ sym (ap (option_and_then f) there.1)) there.3
 
-map-page : (f : PttEntry → Option ℕ) (t : State) (b : ℕ) (e : PttEntry) → place_of page_key (page_of b) t.ptt ≡ Some (cell_of t b).j → f e ≡ f (cell_of t b).page
+pub map-page : (f : PttEntry → Option ℕ) (t : State) (b : ℕ) (e : PttEntry) → place_of page_key (page_of b) t.ptt ≡ Some (cell_of t b).j → f e ≡ f (cell_of t b).page
     → map (option_and_then f) (with_entry (cell_of t b).j (Some e) t.ptt).entries ≡ map (option_and_then f) t.ptt.entries
 map-page f t b e listed same =
     let there = found_entry page_key no_page t.ptt (page_of b) (cell_of t b).j listed in
@@ -150,7 +150,7 @@ stays-cell r b t k l =
     ]
 
 -- what stands before the homes reads as before
-low-reads : (side : Bool) (at x : ℕ) (block : Block) (d : Devices) → (side ≡ false → x ≢ at) → x < length d.nvm.image
+pub low-reads : (side : Bool) (at x : ℕ) (block : Block) (d : Devices) → (side ≡ false → x ≢ at) → x < length d.nvm.image
     → newest (if side then record d { dram = written d.dram at block } else record d { nvm = written_to d.nvm at block }).nvm x ≡ newest d.nvm x
 low-reads true at x block d other l = refl
 low-reads false at x block d other l = newest-written_to_other d.nvm at block x (other refl) l

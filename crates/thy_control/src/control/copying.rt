@@ -42,7 +42,7 @@ pub(super) fn block_in(entry: Option<BttEntry>) -> u64
 impl Control {
     ghost use Rattle.thy_control.specs.State.{IsSized, cell_of};
     ghost use Rattle.thy_control.specs.Moves.{IsOneLess};
-    ghost use Rattle.thy_control.specs.Stays.{HoldAll};
+    ghost use Rattle.thy_control.specs.Stays.{HoldAll, Stays};
     ghost use Rattle.thy_control.specs.Versions.{KeepsCheckpoints, KeepsWork};
     ghost use Rattle.thy_control.specs.Copies.{next_copy, copies_left, copied, devices_copied, devices_after_copy, after_next_copy, FailsCopy, FailsNextCopy};
 
@@ -63,6 +63,8 @@ impl Control {
         ensures state { OnOk result (self.new ≡ after_next_copy (next_copy self.old) self.old (N.device nvm.old)) }
         ensures nvm { OnOk result (N.device nvm.new ≡ devices_after_copy (next_copy self.old) self.old (N.device nvm.old)) }
 
+        // Whether or not it failed, nothing new is possible at the checkpoints' places, and both tables are as they were.
+        ensures stays { Stays self.old (N.device nvm.old) self.new (N.device nvm.new) }
         ensures kept { OnErr result (self.new ≡ self.old) }
         ensures err { OnErr result (FailsNextCopy self.old (N.device nvm.old) (N.device nvm.new)) }
         ensures frame { IsFramed (N.device nvm.old) (N.device nvm.new) }

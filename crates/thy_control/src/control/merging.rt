@@ -41,7 +41,7 @@ fn block_is_framed(ptt: &Ptt, b: u64) -> bool
 
 impl Control {
     ghost use Rattle.thy_control.specs.State.{IsSized, cell_of};
-    ghost use Rattle.thy_control.specs.Stays.{HoldAll};
+    ghost use Rattle.thy_control.specs.Stays.{HoldAll, Stays};
     ghost use Rattle.thy_control.specs.Versions.{KeepsCheckpoints, KeepsWork};
     ghost use Rattle.thy_control.specs.Merges.{next_merge, overlays, merged_block, after_merge};
 
@@ -74,6 +74,7 @@ impl Control {
         ensures work { (nvm : Device) → IsSized self.old nvm → KeepsWork self.old nvm self.new nvm }
         ensures holds { (nvm : Device) → IsSized self.old nvm → HoldAll self.old nvm → HoldAll self.new nvm }
         ensures state { self.new ≡ after_merge (next_merge self.old) self.old }
+        ensures stays { (nvm : Device) → IsSized self.old nvm → Stays self.old nvm self.new nvm }
     {
         a_merge_keeps_versions();
         a_dirty_page_keeps_others();

@@ -4,7 +4,7 @@ use Rattle.thy_control.specs.Copies.{next_copy, devices_after_copy, after_next_c
 use Rattle.thy_control.specs.Stays.{HoldAll}
 use Rattle.thy_control.specs.Versions.{KeepsCheckpoints, KeepsWork}
 use Rattle.thy_control.proofs.StepLemmas.{at_result}
-use Rattle.thy_control.proofs.CopyLemmas.{KeepsAll-next, left_after}
+use Rattle.thy_control.proofs.CopyLemmas.{KeepsAll-next, left_after, stays_by}
 use Rattle.thy_control.proofs.control.Control.copy_next.Goals as goal
 
 pub returns-clause-left : goal.returns-clause-left
@@ -34,3 +34,8 @@ returns-clause-holds g c =
     let all = KeepsAll-next c.a_copy_keeps_versions.ensures s m c.tables.ensures c.requires.sized in
     at_result (λ t n. HoldAll s m → HoldAll t n) c.copy_lowest.result c.copy_lowest.new.self (after_next_copy (next_copy s) s m) (g.N.Nvm.device c.copy_lowest.new.nvm) (devices_after_copy (next_copy s) s m)
     c.copy_lowest.ensures.state c.copy_lowest.ensures.nvm all.holds
+
+pub returns-clause-stays : goal.returns-clause-stays
+returns-clause-stays g c =
+    stays_by c.a_copy_keeps_versions.ensures c.args.self.now (g.N.Nvm.device c.args.nvm.now) c.copy_lowest.new.self (g.N.Nvm.device c.copy_lowest.new.nvm) c.copy_lowest.result
+    c.tables.ensures c.requires.sized c.requires.up c.copy_lowest.ensures.state c.copy_lowest.ensures.nvm c.copy_lowest.ensures.kept c.copy_lowest.ensures.err c.copy_lowest.ensures.frame

@@ -1,11 +1,11 @@
-use Rattle.std.proofs.Common.{◌≡◌, ◌+◌, sym, subst}
+use Rattle.std.proofs.Common.{◌≡◌, ◌+◌, refl, sym, subst}
 use Rattle.thy_base.specs.Device.{Device}
 use Rattle.thy_control.specs.State.{State, IsSized}
 use Rattle.thy_control.specs.Merges.{next_merge, overlays, after_merge}
-use Rattle.thy_control.specs.Stays.{HoldAll}
+use Rattle.thy_control.specs.Stays.{HoldAll, Stays}
 use Rattle.thy_control.specs.Versions.{KeepsCheckpoints, KeepsWork}
 use Rattle.thy_control.proofs.StepLemmas.{checkpoints-each, work-each, holds-each}
-use Rattle.thy_control.proofs.MergeLemmas.{MergesAll-next, same_p-merge}
+use Rattle.thy_control.proofs.MergeLemmas.{MergesAll-next, same_p-merge, Stays-merge}
 use Rattle.thy_control.proofs.control.Control.merge_one.Goals as goal
 
 pub returns-clause-left : goal.returns-clause-left
@@ -34,3 +34,9 @@ returns-clause-holds c =
     let all = MergesAll-next c.a_merge_keeps_versions.ensures c.a_dirty_page_keeps_others.ensures s c.tables.ensures c.requires.idle c.requires.overlay in
     subst (λ (t : State). (n : Device) → IsSized s n → HoldAll s n → HoldAll t n) (sym c.merge_lowest.ensures)
     (λ n sized. holds-each s n (after_merge (next_merge s) s) n (same_p-merge s (next_merge s)) (all.each n sized))
+
+pub returns-clause-stays : goal.returns-clause-stays
+returns-clause-stays c =
+    let s : State = c.args.self.now in
+    subst (λ (t : State). (n : Device) → IsSized s n → Stays s n t n) (sym c.merge_lowest.ensures)
+    (Stays-merge c.a_merge_keeps_versions.ensures c.a_dirty_page_keeps_others.ensures s c.tables.ensures c.requires.idle (next_merge s) refl)
