@@ -26,3 +26,4 @@ pub mod CopyLemmas
 pub mod PageLemmas
 pub mod MergeLemmas
 pub mod StepStayLemmas
+pub mod IssueLemmas

@@ -18,3 +18,4 @@ pub mod Moves
 pub mod Drains
 pub mod Copies
 pub mod Merges
+pub mod Pages

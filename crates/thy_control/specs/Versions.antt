@@ -12,6 +12,10 @@ pub record KeepsCheckpoints (s : State) (m : Device) (t : State) (n : Device) : 
   pub penult_same : (b : ℕ) → b < memory_blocks s.p → penult_of t n b ≡ penult_of s m b
   pub last_same : (b : ℕ) → b < memory_blocks s.p → last_of t n b ≡ last_of s m b
 
+-- the committed one has
+pub record KeepsCommitted (s : State) (m : Device) (t : State) (n : Device) : Type 0 where
+  pub penult_same : (b : ℕ) → b < memory_blocks s.p → penult_of t n b ≡ penult_of s m b
+
 -- a load of every block gives what it gave
 pub record KeepsWork (s : State) (m : Device) (t : State) (n : Device) : Type 0 where
   pub work_same : (b : ℕ) → b < memory_blocks s.p → work_of t n b ≡ work_of s m b

@@ -15,6 +15,7 @@ mod copying;
 mod merging;
 mod moving;
 mod queue;
+mod writing;
 
 use crate::overlay::Marks;
 use crate::seal::{CommitBlocks, CommitPages, seal_blocks, seal_pages};

@@ -1,0 +1,441 @@
+-- The write of a busy page's next block: every block after it, and the tables.
+use Rattle.std.proofs.Common.{◌≡◌, ◌≢◌, ℕ, ◌+◌, ◌-◌, ◌*◌, ◌<◌, ◌≤◌, ◌%◌, ◌==◌, ◌&&◌, ◌||◌, not, nat_lt, if◌then◌else◌, Bool, true, false, All, List, get_or, refl, sym, ◌∙◌, ap, subst, inl, inr, arith, Option, Some, None, is_some, Result, Ok, Err, OnOk, OnErr, IfOk}
+use Rattle.std.proofs.lemmas.Bool.{cases_eq, and_parts, eqb-true, ltb-true, ltb-false}
+use Rattle.std.proofs.lemmas.List.{length-set, get_or_default}
+use Rattle.std.proofs.lemmas.List.Sums.{sum_by-set, sum_by-le}
+use Rattle.thy_base.specs.declared.block.Block.{Block}
+use Rattle.thy_base.specs.declared.place.Place.{Place}
+use Rattle.thy_base.specs.declared.nvm.NvmError.{NvmError}
+use Rattle.thy_base.specs.Device.{Device, IsFramed, zero_block}
+use Rattle.thy_base.specs.Geometry.{memory_blocks}
+use Rattle.thy_base.specs.Places.{IsPlace}
+use Rattle.thy_base.specs.Store.{page_of}
+use Rattle.thy_place.specs.Devices.{Devices, devices_of}
+use Rattle.thy_place.proofs.PlaceLemmas.{AreSized-written_at}
+use Rattle.thy_table.specs.Listing.{Listing, IsListing, entry_at, lists, passes, next_from, place_of, with_entry}
+use Rattle.thy_table.proofs.IndexLemmas.{lists-key}
+use Rattle.thy_table.proofs.FirstLemmas.{first_from-first, none-first_from}
+use Rattle.thy_tables.specs.declared.block_entry.Version.{Version}
+use Rattle.thy_tables.specs.declared.block_entry.Version.TheVariants.{Out, Alt}
+use Rattle.thy_tables.specs.declared.block_entry.Working.{Working}
+use Rattle.thy_tables.specs.declared.block_entry.Working.TheVariants.{NoWork, InNvm, InBuffer}
+use Rattle.thy_tables.specs.declared.page_entry.Site.{Site}
+use Rattle.thy_tables.specs.declared.page_entry.Site.TheVariants.{AtHome, AtAlternate}
+use Rattle.thy_tables.specs.declared.page_entry.PttEntry.{PttEntry}
+use Rattle.thy_tables.specs.PageEntry.{no_page, is_framed, page_blocks}
+use Rattle.thy_cell.specs.declared.cell.Cell.{Cell}
+use Rattle.thy_cell.specs.Cells.{Seat, seat_of, placed, frame_at, worked_at, penult, target, last, work}
+use Rattle.thy_cell.specs.Sound.{IsSoundPage, IsSoundCell, IsWithin, Holds, Puts}
+use Rattle.thy_cell.specs.Checkpoint.{page_issued, with_issued}
+use Rattle.thy_cell.specs.Steps.{PageWriteKeeps, PageWriteKeepsOthers, Keeps, ReadsSame}
+use Rattle.thy_control.specs.CheckpointTables.{tables0, tables1, page_lists}
+use Rattle.thy_control.specs.Find.{entry_for}
+use Rattle.thy_control.specs.Guarded.{LeavesGuarded}
+use Rattle.thy_control.specs.Keys.{page_key}
+use Rattle.thy_control.specs.Moves.{moved, IsOneLess}
+use Rattle.thy_control.specs.OverCalls.{cell_same, stays_same}
+use Rattle.thy_control.specs.State.{State, AreSoundTables, IsSized, cell_of, reads, penult_of, work_of}
+use Rattle.thy_control.specs.Stays.{CellStays, HoldAll, StaysHeld, Stays}
+use Rattle.thy_control.specs.Versions.{KeepsCommitted, KeepsWork}
+use Rattle.thy_control.specs.Pages.{needs_write, next_page, issues_left, writes_left, page_in, block_after, block_to_write, devices_issued, issued, devices_after_write, after_next_write, FailsWriteOf, FailsNextWrite}
+use Rattle.thy_control.proofs.FindLemmas.{found_entry, entry_for-some}
+use Rattle.thy_control.proofs.CellLemmas.{block-cell_of, page-cell_of, IsPlace-target, IsWithin-cell_of}
+use Rattle.thy_control.proofs.OwnLemmas.{owner, Owns-cell_of, owned-target}
+use Rattle.thy_control.proofs.PageLemmas.{cell-page, same_page, live-set}
+use Rattle.thy_control.proofs.StateLemmas.{place_of-index}
+use Rattle.thy_control.proofs.StayLemmas.{map-page}
+use Rattle.thy_control.proofs.StepLemmas.{Untouched, Keeps-untouched, ReadsSame-of, reads_after, puts, untouched, moved-is}
+use Rattle.thy_control.proofs.StepStayLemmas.{StaysTables, Outcome, LeavesGuarded-step, Stays-step, Stays-failed_step, Outcome-failed}
+
+no_both : {x : Bool} → x ≡ true → x ≡ false → ⊥
+no_both e f = cc
+
+-- a busy page moves in a checkpoint under way, is framed, and was not just promoted
+pub busy-framed : (u : Bool) (page : PttEntry) → IsSoundPage u page → page.busy ≡ true → is_framed page ≡ true
+busy-framed u page s busy = by_framed (is_framed page) refl where
+  by_framed : (f : Bool) → is_framed page ≡ f → f ≡ true
+  by_framed true e = refl
+  by_framed false e = absurd (s.busy_moves busy (s.bare_place e ∙ sym (s.bare_target e)))
+
+busy-old : (u : Bool) (page : PttEntry) → IsSoundPage u page → page.busy ≡ true → page.fresh ≡ false
+busy-old u page s busy = by_fresh page.fresh refl where
+  by_fresh : (f : Bool) → page.fresh ≡ f → f ≡ false
+  by_fresh false e = refl
+  by_fresh true e = absurd (s.busy_moves busy (s.fresh_place e ∙ sym (s.fresh_target e)))
+
+busy-under_way : (u : Bool) (page : PttEntry) → IsSoundPage u page → page.busy ≡ true → u ≡ true
+busy-under_way true page s busy = refl
+busy-under_way false page s busy = absurd (s.busy_moves busy (s.one_place refl))
+
+-- a framed page's block has its work where it had it, whatever its last version is
+worked-framed : (w : Working) (f : Bool) (x y : Place) (v : Version) (seat : Seat) → f ≡ true → worked_at w f x v seat ≡ worked_at w f y v seat
+worked-framed NoWork true x y v seat e = refl
+worked-framed NoWork false x y v seat e = cc
+worked-framed InNvm f x y v seat e = refl
+worked-framed InBuffer f x y v seat e = refl
+
+-- blocks of one page that are two have two numbers in it
+pub two_in_page : (k b : ℕ) → page_of k ≡ page_of b → k ≢ b → k % 64 ≢ b % 64
+two_in_page k b q ne e = ne (omega (arith, q, e))
+
+module _ (b : ℕ) (s : State) (busy : (cell_of s b).page.busy ≡ true) where
+  has_page : (cell_of s b).page ≢ no_page (page_of b)
+  has_page e = let no : (cell_of s b).page.busy ≡ false = ap (λ (x : PttEntry). x.busy) e in no_both busy no
+
+  pub listed-busy : place_of page_key (page_of b) s.ptt ≡ Some (cell_of s b).j
+  listed-busy = place_of-index page_key no_page s.ptt (page_of b) has_page
+
+  pub lists-busy : lists page_key (cell_of s b).page.page (entry_at s.ptt (cell_of s b).j) ≡ true
+  lists-busy =
+      let there = found_entry page_key no_page s.ptt (page_of b) (cell_of s b).j listed-busy in
+      lists-key page_key (cell_of s b).page.page (entry_at s.ptt (cell_of s b).j) there.0 there.1 (there.2 ∙ sym (page-cell_of s b))
+
+  busy-same : (k : ℕ) → page_of k ≡ page_of b → (cell_of s k).page.busy ≡ true
+  busy-same k q = ap (λ (x : PttEntry). x.busy) (same_page s k b q) ∙ busy
+
+  has_page-same : (k : ℕ) → page_of k ≡ page_of b → (cell_of s k).page ≢ no_page (page_of k)
+  has_page-same k q e = let no : (cell_of s k).page.busy ≡ false = ap (λ (x : PttEntry). x.busy) e in no_both (busy-same k q) no
+
+  module _ (m : Device) where
+    -- every block is as it was, but for those of the page
+    pub cell-issued : (P : Cell → Cell → Type 0) (k : ℕ) → (page_of k ≡ page_of b → P (cell_of s k) (with_issued (cell_of s k)))
+        → (page_of k ≢ page_of b → P (cell_of s k) (cell_of s k)) → P (cell_of s k) (cell_of (issued b s m) k)
+    unfolding issued
+    cell-issued P k here others = cell-page page_issued (λ e. refl) s b listed-busy P k here others
+
+    module _ (t : AreSoundTables s) (sized : IsSized s m) (l : b < memory_blocks s.p) (due : (cell_of s b).page.issued ≡ b % 64) (law : PageWriteKeeps) (other : PageWriteKeepsOthers) where
+      within : IsWithin s.p (seat_of (cell_of s b))
+      within = IsWithin-cell_of s b t l
+
+      moving : s.under_way ≡ true
+      moving = busy-under_way s.under_way (cell_of s b).page (t.cells b l).of_page busy
+
+      sound : (k : ℕ) → k < memory_blocks s.p → IsSoundCell true (cell_of s k)
+      sound k h = subst (λ (u : Bool). IsSoundCell u (cell_of s k)) moving (t.cells k h)
+
+      less : (cell_of s b).page.issued < 64
+      less = omega (arith, due)
+
+      due_b : (cell_of s b).page.issued ≡ (cell_of s b).entry.block % 64
+      due_b = due ∙ ap (λ (n : ℕ). n % 64) (sym (block-cell_of s b))
+
+      -- what the law of the page's other blocks asks for
+      less-same : (k : ℕ) → page_of k ≡ page_of b → (cell_of s k).page.issued < 64
+      less-same k q = omega (arith, less, ap (λ (x : PttEntry). x.issued) (same_page s k b q))
+
+      not_due : (k : ℕ) → page_of k ≡ page_of b → k ≢ b → (cell_of s k).page.issued ≢ (cell_of s k).entry.block % 64
+      not_due k q ne e =
+          let numbers : k % 64 ≢ b % 64 = two_in_page k b q ne in
+          numbers (ap (λ (n : ℕ). n % 64) (sym (block-cell_of s k)) ∙ sym e ∙ ap (λ (x : PttEntry). x.issued) (same_page s k b q) ∙ due)
+
+      -- the block itself
+      here : (old new : Place → Block) → Puts s.p (target (cell_of s b)) (old (frame_at (seat_of (cell_of s b)))) old new → Keeps true old new (cell_of s b) (with_issued (cell_of s b))
+      here old new put = law s.p (cell_of s b) old new within (sound b l) busy due_b less put
+
+      -- and the others of its page
+      there : (old new : Place → Block) (k : ℕ) → k < memory_blocks s.p → page_of k ≡ page_of b → k ≢ b → ReadsSame old new (cell_of s k) → Holds old (cell_of s k)
+          → Keeps true old new (cell_of s k) (with_issued (cell_of s k))
+      there old new k h q ne same hold =
+          other (cell_of s k) old new (sound k h) (busy-same k q) (not_due k q ne) (less-same k q) (omega arith) same hold
+
+      -- the entries stay sound, whatever is read
+      sound-issued : (k : ℕ) → k < memory_blocks s.p → IsSoundCell s.under_way (cell_of (issued b s m) k)
+      sound-issued k h =
+          let all : Place → Block = λ x. zero_block in
+          subst (λ (u : Bool). IsSoundCell u (cell_of (issued b s m) k)) (sym moving)
+          (cell-issued (λ c d. IsSoundCell true d) k
+          (λ q. elim (cases_eq k b) as (λ _. IsSoundCell true (with_issued (cell_of s k))) [
+            | inl e ↦ subst (λ (j : ℕ). IsSoundCell true (with_issued (cell_of s j))) (sym e) (here all all (record { here = refl; others = λ x is ne. refl })).sound
+            | inr ne ↦ (there all all k h q ne (record { penult_same = refl; target_same = refl; last_same = refl; work_same = refl; frame_same = refl })
+                (record { clean = λ f d e. refl; copied = λ j f. refl; issued = λ f j. refl })).sound
+          ])
+          (λ o. sound k h))
+
+      pub AreSoundTables-issued : IsListing page_key (issued b s m).ptt → AreSoundTables (issued b s m)
+      unfolding issued devices_issued
+      AreSoundTables-issued once =
+          let found = found_entry page_key no_page s.ptt (page_of b) (cell_of s b).j listed-busy in
+          let sizes = AreSized-written_at s.p (devices_of m s.dram) (target (cell_of s b)) (reads s m (frame_at (seat_of (cell_of s b)))) (record { nvm = sized.nvm; dram = t.dram_size }) in
+          record {
+            range = t.range;
+            btt_size = t.btt_size;
+            btt_numbers = t.btt_numbers;
+            btt_once = t.btt_once;
+            ptt_size = length-set s.ptt.entries (cell_of s b).j (Some (page_issued (cell_of s b).page)) ∙ t.ptt_size;
+            ptt_numbers = t.ptt_numbers;
+            ptt_once = once;
+            live_pages = live-set s.ptt (cell_of s b).j (page_issued (cell_of s b).page) found.3
+                (λ bare. absurd (no_both (busy-framed s.under_way (cell_of s b).page (t.cells b l).of_page busy) bare)) t.live_pages;
+            counts_size = t.counts_size;
+            counts_high = t.counts_high;
+            counts_low = t.counts_low;
+            dram_size = sizes.dram;
+            cells = sound-issued;
+          }
+
+module _ (law : PageWriteKeeps) (other : PageWriteKeepsOthers) (b : ℕ) (s : State) (busy : (cell_of s b).page.busy ≡ true) (m : Device)
+    (t : AreSoundTables s) (sized : IsSized s m) (l : b < memory_blocks s.p) (due : (cell_of s b).page.issued ≡ b % 64) where
+  there_is : IsPlace s.p (target (cell_of s b))
+  there_is = IsPlace-target s.p (cell_of s b) (IsWithin-cell_of s b t l)
+
+  owns : owner s (target (cell_of s b)) ≡ Some b
+  owns = owned-target s b (cell_of s b) (Owns-cell_of s b)
+
+  abbrev v : Block
+  v = reads s m (frame_at (seat_of (cell_of s b)))
+
+  abbrev new : Place → Block
+  new = reads_after s m b (target (cell_of s b)) v t sized there_is owns
+
+  here_now : Keeps true (reads s m) new (cell_of s b) (with_issued (cell_of s b))
+  here_now = here b s busy m t sized l due law other (reads s m) new (puts s m b (target (cell_of s b)) v t sized there_is owns)
+
+  left_as : (k : ℕ) → k < memory_blocks s.p → k ≢ b → Untouched (reads s m) new k (cell_of s k)
+  left_as k h ne = untouched s m b (target (cell_of s b)) v t sized there_is owns k h ne
+
+  -- where the places hold what they have to, every block is kept
+  pub Keeps-issued : (k : ℕ) → k < memory_blocks s.p → Holds (reads s m) (cell_of s k)
+      → Keeps true (reads s m) (reads (issued b s m) (devices_issued b s m).nvm) (cell_of s k) (cell_of (issued b s m) k)
+  unfolding issued devices_issued
+  Keeps-issued k h hold = cell-issued b s busy m (λ c d. Keeps true (reads s m) new c d) k
+      (λ q. elim (cases_eq k b) as (λ _. Keeps true (reads s m) new (cell_of s k) (with_issued (cell_of s k))) [
+        | inl e ↦ subst (λ (j : ℕ). Keeps true (reads s m) new (cell_of s j) (with_issued (cell_of s j))) (sym e) here_now
+        | inr ne ↦ there b s busy m t sized l due law other (reads s m) new k h q ne
+            (ReadsSame-of (reads s m) new k (cell_of s k) (left_as k h ne) (has_page-same b s busy k q)) hold
+      ])
+      (λ o. Keeps-untouched true (reads s m) new k (cell_of s k) (sound b s busy m t sized l due law other k h)
+      (left_as k h (λ e. o (ap page_of e))))
+
+  -- in any case the committed version reads as before
+  pub penult-issued : (k : ℕ) → k < memory_blocks s.p → penult_of (issued b s m) (devices_issued b s m).nvm k ≡ penult_of s m k
+  unfolding issued devices_issued
+  penult-issued k h = cell-issued b s busy m (λ c d. new (penult d) ≡ reads s m (penult c)) k
+      (λ q. elim (cases_eq k b) as (λ _. new (penult (with_issued (cell_of s k))) ≡ reads s m (penult (cell_of s k))) [
+        | inl e ↦ subst (λ (j : ℕ). new (penult (with_issued (cell_of s j))) ≡ reads s m (penult (cell_of s j))) (sym e) here_now.reads.penult_same
+        | inr ne ↦ (left_as k h ne).penult_same
+      ])
+      (λ o. (left_as k h (λ e. o (ap page_of e))).penult_same)
+
+  -- and so does what a load gives
+  pub work-issued : (k : ℕ) → k < memory_blocks s.p → work_of (issued b s m) (devices_issued b s m).nvm k ≡ work_of s m k
+  unfolding issued devices_issued
+  work-issued k h = cell-issued b s busy m (λ c d. new (work d) ≡ reads s m (work c)) k
+      (λ q. elim (cases_eq k b) as (λ _. new (work (with_issued (cell_of s k))) ≡ reads s m (work (cell_of s k))) [
+        | inl e ↦ subst (λ (j : ℕ). new (work (with_issued (cell_of s j))) ≡ reads s m (work (cell_of s j))) (sym e) here_now.reads.work_gives
+        | inr ne ↦
+            let c : Cell = cell_of s k in
+            let framed : is_framed c.page ≡ true = busy-framed s.under_way c.page (t.cells k h).of_page (busy-same b s busy k q) in
+            ap new (worked-framed c.entry.work (is_framed c.page) (last (with_issued c)) (last c) c.entry.v0 (seat_of c) framed) ∙ (left_as k h ne).work_same
+      ])
+      (λ o. (left_as k h (λ e. o (ap page_of e))).work_same)
+
+  moving_now : s.under_way ≡ true
+  moving_now = busy-under_way s.under_way (cell_of s b).page (t.cells b l).of_page busy
+
+  pub held-issued : HoldAll s m → StaysHeld s m (issued b s m) (devices_issued b s m).nvm
+  unfolding issued
+  held-issued hold = record {
+    holds = λ k h. (Keeps-issued k h (hold k h)).holds (hold k h);
+    last_same = λ k h. (Keeps-issued k h (hold k h)).reads.last_same;
+  }
+
+-- one block less is left
+left_one : (leaving : Bool) (i : ℕ) → i < 64 → (if leaving || not (i + 1 == page_blocks) then page_blocks - (i + 1) else 0) + 1 ≡ page_blocks - i
+left_one true i l = omega arith
+left_one false i l = by_test (i + 1 == page_blocks) refl where
+  by_test : (x : Bool) → (i + 1 == page_blocks) ≡ x → (if not x then page_blocks - (i + 1) else 0) + 1 ≡ page_blocks - i
+  by_test true e = let full : i + 1 ≡ page_blocks = eqb-true (i + 1) page_blocks e in omega (arith, full)
+  by_test false e = omega arith
+
+module _ (b : ℕ) (s : State) (m : Device) (busy : (cell_of s b).page.busy ≡ true) (less : (cell_of s b).page.issued < 64) where
+  pub writes_left-issued : writes_left (issued b s m) + 1 ≡ writes_left s
+  unfolding issued
+  writes_left-issued =
+      let c : Cell = cell_of s b in
+      let found = found_entry page_key no_page s.ptt (page_of b) c.j (listed-busy b s busy) in
+      let is : c.page ≡ found.0 = entry_for-some page_key no_page s.ptt (page_of b) c.j found.0 (listed-busy b s busy) found.1 in
+      let was : issues_left (entry_at s.ptt c.j) ≡ page_blocks - c.page.issued
+      = ap issues_left found.1 ∙ ap (λ (e : PttEntry). issues_left (Some e)) (sym is) ∙ ap (λ (x : Bool). if x then page_blocks - c.page.issued else 0) busy in
+      omega (arith, sum_by-set issues_left s.ptt.entries c.j (Some (page_issued c.page)) None found.3, was, left_one c.page.leaving c.page.issued less)
+
+-- what is known of the next block
+pub record IsDue (s : State) (b : ℕ) : Type 0 where
+  pub inside : b < memory_blocks s.p
+  pub busy : (cell_of s b).page.busy ≡ true
+  pub due : (cell_of s b).page.issued ≡ b % 64
+
+pub IsDue-entry : (s : State) → AreSoundTables s → (j : ℕ) → next_page s ≡ Some j → IsDue s (block_to_write j s)
+IsDue-entry s t j h = by_entry (entry_at s.ptt j) refl (first_from-first (passes needs_write) None s.ptt.entries 0 j h).here where
+  by_entry : (o : Option PttEntry) → entry_at s.ptt j ≡ o → passes needs_write o ≡ true → IsDue s (block_to_write j s)
+  by_entry None e p = cc
+  by_entry (Some x) e p =
+      let both = and_parts x.busy (nat_lt x.issued page_blocks) p in
+      let few : x.issued < page_blocks = ltb-true x.issued page_blocks both.1 in
+      let here : lists page_key x.page (entry_at s.ptt j) ≡ true = lists-key page_key x.page (entry_at s.ptt j) x e refl in
+      let found : place_of page_key x.page s.ptt ≡ Some j = t.ptt_once.found j x.page here in
+      let entry : entry_for page_key no_page x.page s.ptt ≡ x = entry_for-some page_key no_page s.ptt x.page j x found e in
+      let b : ℕ = page_blocks * x.page + x.issued in
+      let page : page_of b ≡ x.page = omega (arith, few) in
+      let of_b : (cell_of s b).page ≡ x = ap (λ (n : ℕ). entry_for page_key no_page n s.ptt) page ∙ entry in
+      subst (λ (k : ℕ). IsDue s k) (sym (ap (block_after (λ e. e.issued)) e)) (record {
+        inside = omega (arith, few, t.ptt_once.inside j x.page here, t.ptt_numbers);
+        busy = ap (λ (y : PttEntry). y.busy) of_b ∙ both.0;
+        due = ap (λ (y : PttEntry). y.issued) of_b ∙ omega (arith, few);
+      })
+
+pub page_in-small : (s : State) → AreSoundTables s → (j : ℕ) → page_in (entry_at s.ptt j) < memory_blocks s.p + 1
+page_in-small s t j = by_entry (entry_at s.ptt j) refl where
+  by_entry : (o : Option PttEntry) → entry_at s.ptt j ≡ o → page_in o < memory_blocks s.p + 1
+  by_entry None e = omega arith
+  by_entry (Some x) e =
+      let here : lists page_key x.page (entry_at s.ptt j) ≡ true = lists-key page_key x.page (entry_at s.ptt j) x e refl in
+      omega (arith, t.ptt_once.inside j x.page here, t.ptt_numbers)
+
+-- the place that is written is none of the committed checkpoint
+sites_apart : (v w : Version) (p q : Site) (x : Seat) → w ≡ Out → p ≢ q → placed v p x ≢ placed w q x
+sites_apart v Alt p q x out other e = cc
+sites_apart Alt Out p AtHome x out other e = cc
+sites_apart Alt Out p AtAlternate x out other e = cc
+sites_apart Out Out AtHome AtHome x out other e = other refl
+sites_apart Out Out AtAlternate AtAlternate x out other e = other refl
+sites_apart Out Out AtHome AtAlternate x out other e = cc
+sites_apart Out Out AtAlternate AtHome x out other e = cc
+
+module _ (b : ℕ) (s : State) (busy : (cell_of s b).page.busy ≡ true) (m : Device) where
+  stays_tables : StaysTables s (issued b s m)
+  unfolding issued
+  stays_tables = record {
+    same_p = refl;
+    same_way = refl;
+    tables0_same = ap (λ (x : List (Option ℕ)). record (tables0 s) { ptt = x })
+        (map-page (λ e. page_lists e.place e.page) s b (page_issued (cell_of s b).page) (listed-busy b s busy) refl);
+    tables1_same = ap (λ (x : List (Option ℕ)). record (tables1 s) { ptt = x })
+        (map-page (λ e. page_lists e.target e.page) s b (page_issued (cell_of s b).page) (listed-busy b s busy) refl);
+    cells = λ k l. cell-issued b s busy m CellStays k
+        (λ q. record { penult_same = refl; target_same = refl; settled = λ h. h; busy_before = λ h. busy-same b s busy k q; issued = omega arith })
+        (λ o. cell_same (cell_of s k));
+  }
+
+  module _ (t : AreSoundTables s) (sized : IsSized s m) (l : b < memory_blocks s.p) (due : (cell_of s b).page.issued ≡ b % 64) where
+    guarded_by : (n : Device) → Outcome s (target (cell_of s b)) (reads s m (frame_at (seat_of (cell_of s b)))) m n → LeavesGuarded s m n
+    guarded_by n outcome =
+        let c : Cell = cell_of s b in
+        let sound = t.cells b l in
+        let framed : is_framed c.page ≡ true = busy-framed s.under_way c.page sound.of_page busy in
+        let out : c.entry.v1 ≡ Out = sound.framed_out framed (busy-old s.under_way c.page sound.of_page busy) in
+        LeavesGuarded-step s (target c) (reads s m (frame_at (seat_of c))) m n b t (IsPlace-target s.p c (IsWithin-cell_of s b t l)) (owned-target s b c (Owns-cell_of s b))
+        (sites_apart c.entry.v0 c.entry.v1 c.page.place c.page.target (seat_of c) out (sound.of_page.busy_moves busy))
+        (λ copied same. absurd (omega (arith, due, copied.written busy))) outcome
+
+    pub Stays-issued : PageWriteKeeps → PageWriteKeepsOthers → m.down ≡ false → IsFramed m (devices_issued b s m).nvm → Stays s m (issued b s m) (devices_issued b s m).nvm
+    unfolding devices_issued
+    Stays-issued law other up framed =
+        let c : Cell = cell_of s b in
+        Stays-step s (target c) (reads s m (frame_at (seat_of c))) m (issued b s m) sized stays_tables (λ d. let no : true ≡ false = sym d ∙ up in cc) framed
+        (guarded_by (devices_issued b s m).nvm (inl refl))
+        (penult-issued law other b s busy m t sized l due) (held-issued law other b s busy m t sized l due)
+
+    pub Stays-not_issued : (n : Device) → FailsWriteOf b s m n → IsFramed m n → Stays s m s n
+    Stays-not_issued n failed framed =
+        let f = Outcome-failed s (frame_at (seat_of (cell_of s b))) (target (cell_of s b)) m n failed in
+        Stays-failed_step s m n framed f.1 (guarded_by n f.0)
+
+-- after the next write, or none
+pub record KeepsNext (s : State) (m : Device) (t : State) (n : Device) : Type 0 where
+  pub committed : KeepsCommitted s m t n
+  pub held : HoldAll s m → StaysHeld s m t n
+  pub work : KeepsWork s m t n
+
+KeepsNext-by : PageWriteKeeps → PageWriteKeepsOthers → (s : State) (m : Device) → AreSoundTables s → IsSized s m → (o : Option ℕ) → next_page s ≡ o
+    → KeepsNext s m (after_next_write o s m) (devices_after_write o s m)
+KeepsNext-by law other s m t sized None h = record {
+  committed = record { penult_same = λ b l. refl };
+  held = λ hold. record { holds = hold; last_same = λ b l. refl };
+  work = record { work_same = λ b l. refl };
+}
+KeepsNext-by law other s m t sized (Some j) h =
+    let b : ℕ = block_to_write j s in
+    let d = IsDue-entry s t j h in
+    record {
+      committed = record { penult_same = penult-issued law other b s d.busy m t sized d.inside d.due };
+      held = held-issued law other b s d.busy m t sized d.inside d.due;
+      work = record { work_same = work-issued law other b s d.busy m t sized d.inside d.due };
+    }
+
+pub KeepsNext-write : PageWriteKeeps → PageWriteKeepsOthers → (s : State) (m : Device) → AreSoundTables s → IsSized s m
+    → KeepsNext s m (after_next_write (next_page s) s m) (devices_after_write (next_page s) s m)
+KeepsNext-write law other s m t sized = KeepsNext-by law other s m t sized (next_page s) refl
+
+-- where no page is next, no block is left
+none_left : (s : State) → next_page s ≡ None → writes_left s ≡ 0
+none_left s h =
+    let each : All (λ o. issues_left o ≤ 0) s.ptt.entries = λ k d l.
+    let is : get_or s.ptt.entries k d ≡ get_or s.ptt.entries k None = get_or_default s.ptt.entries k d None l in
+    let none : passes needs_write (get_or s.ptt.entries k None) ≡ false = none-first_from (passes needs_write) None s.ptt.entries 0 h k (omega arith) l in
+    omega (arith, ap issues_left is, by_entry (get_or s.ptt.entries k None) none) in
+    omega (arith, sum_by-le issues_left 0 s.ptt.entries each)
+  where
+    by_busy : (busy : Bool) (i : ℕ) → (busy && nat_lt i page_blocks) ≡ false → (if busy then page_blocks - i else 0) ≤ 0
+    by_busy false i h = omega arith
+    by_busy true i h = let full : page_blocks ≤ i = ltb-false i page_blocks h in omega (arith, full)
+
+    by_entry : (o : Option PttEntry) → passes needs_write o ≡ false → issues_left o ≤ 0
+    by_entry None h = omega arith
+    by_entry (Some e) h = by_busy e.busy e.issued h
+
+left_by : (s : State) (m : Device) → AreSoundTables s → (o : Option ℕ) → next_page s ≡ o → IsOneLess (is_some o) (writes_left s) (writes_left (after_next_write o s m))
+left_by s m t None h = (none_left s h, none_left s h)
+left_by s m t (Some j) h =
+    let d = IsDue-entry s t j h in
+    writes_left-issued (block_to_write j s) s m d.busy (omega (arith, d.due))
+
+pub left_after : (s : State) (m : Device) (t : State) → AreSoundTables s → (r : Result Bool NvmError) → OnOk r (t ≡ after_next_write (next_page s) s m) → IfOk r (λ more. more ≡ is_some (next_page s))
+    → IfOk r (λ more. IsOneLess more (writes_left s) (writes_left t))
+left_after s m t tables (Ok more) e f =
+    subst (λ (x : State). IsOneLess more (writes_left s) (writes_left x)) (sym e)
+    (subst (λ (x : Bool). IsOneLess x (writes_left s) (writes_left (after_next_write (next_page s) s m))) (sym f) (left_by s m tables (next_page s) refl))
+left_after s m t tables (Err x) e f = tt
+
+Stays-next : PageWriteKeeps → PageWriteKeepsOthers → (s : State) (m : Device) → AreSoundTables s → IsSized s m → m.down ≡ false → (o : Option ℕ) → next_page s ≡ o
+    → IsFramed m (devices_after_write o s m) → Stays s m (after_next_write o s m) (devices_after_write o s m)
+Stays-next law other s m t sized up None h framed = stays_same s m
+Stays-next law other s m t sized up (Some j) h framed =
+    let d = IsDue-entry s t j h in
+    Stays-issued (block_to_write j s) s d.busy m t sized d.inside d.due law other up framed
+
+pub stays_by : PageWriteKeeps → PageWriteKeepsOthers → (s : State) (m : Device) (t : State) (n : Device) (r : Result Bool NvmError) → AreSoundTables s → IsSized s m → m.down ≡ false
+    → OnOk r (t ≡ after_next_write (next_page s) s m) → OnOk r (n ≡ devices_after_write (next_page s) s m)
+    → OnErr r (t ≡ s) → OnErr r (FailsNextWrite s m n) → IsFramed m n → Stays s m t n
+stays_by law other s m t n (Ok more) tables sized up e f k g framed =
+    subst (λ (y : State). Stays s m y n) (sym e) (subst (λ (y : Device). Stays s m (after_next_write (next_page s) s m) y) (sym f)
+    (Stays-next law other s m tables sized up (next_page s) refl (subst (λ (y : Device). IsFramed m y) f framed)))
+stays_by law other s m t n (Err x) tables sized up e f k g framed =
+    let d = IsDue-entry s tables g.entry g.next in
+    subst (λ (y : State). Stays s m y n) (sym k) (Stays-not_issued (block_to_write g.entry s) s d.busy m tables sized d.inside d.due n g.fails framed)
+
+-- the parts of the code's way: the state as its fields have it
+module _ (s w : State) (view : w ≡ s) where
+  pub next_is : (o : Option ℕ) (j : ℕ) → o ≡ next_from needs_write 0 w.ptt → o ≡ Some j → next_page s ≡ Some j
+  next_is o j found is = sym (ap next_page view) ∙ sym found ∙ is
+
+  pub block_is : (b j : ℕ) (e : Option PttEntry) → b ≡ block_after (λ e. e.issued) e → e ≡ entry_at w.ptt j → b ≡ block_to_write j s
+  block_is b j e is there = is ∙ ap (block_after (λ e. e.issued)) there ∙ ap (block_to_write j) view
+
+  pub devices_are : (b : ℕ) (m : Device) (found : Cell) (from to : Place) (d : Devices) → found ≡ cell_of s b → from ≡ frame_at (seat_of found) → to ≡ target found
+      → d ≡ moved w.p from to (devices_of m w.dram) → d ≡ devices_issued b s m
+  unfolding devices_issued
+  devices_are b m found from to d is from_is to_is d_is =
+      moved-is s w view m from to (frame_at (seat_of (cell_of s b))) (target (cell_of s b)) d
+      (from_is ∙ ap (λ (c : Cell). frame_at (seat_of c)) is) (to_is ∙ ap target is) d_is
+
+  pub state_is : (b : ℕ) (m : Device) (found after : Cell) (t : Listing PttEntry) (d : Devices) → found ≡ cell_of s b → after ≡ with_issued found
+      → t ≡ with_entry found.j (Some after.page) w.ptt → d ≡ devices_issued b s m
+      → record w { ptt = t; dram = d.dram } ≡ issued b s m
+  unfolding issued
+  state_is b m found after t d is after_is t_is d_is =
+      ap (λ (x : State). record x { ptt = t; dram = d.dram }) view
+      ∙ ap (λ (x : Listing PttEntry). record s { ptt = x; dram = d.dram })
+      (t_is ∙ ap (λ (x : State). with_entry found.j (Some after.page) x.ptt) view
+      ∙ ap (λ (c : Cell). with_entry found.j (Some c.page) s.ptt) after_is
+      ∙ ap (λ (c : Cell). with_entry c.j (Some (page_issued c.page)) s.ptt) is)
+      ∙ ap (λ (x : Devices). record s { ptt = with_entry (cell_of s b).j (Some (page_issued (cell_of s b).page)) s.ptt; dram = x.dram }) d_is

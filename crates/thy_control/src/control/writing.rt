@@ -1,0 +1,131 @@
+//! The pages that the checkpoint under way has still to write.
+ghost use Rattle.std.specs.Prelude.{◌≡◌, ◌<◌, ◌*◌, ◌^◌, ◌%◌, true, false, is_some, IfOk, OnOk, OnErr};
+ghost use Rattle.thy_base.specs.Device.{IsFramed, CountsFault};
+ghost use Rattle.thy_base.specs.Geometry.{memory_blocks};
+ghost use Rattle.thy_control.specs.Pages.{page_in, block_after};
+
+use super::Control;
+use super::moving::move_block;
+use thy_base::{Nvm, NvmError};
+use thy_cell::{a_page_write_keeps_others, a_page_write_keeps_versions};
+use thy_table::Test;
+use thy_tables::{PAGE_BLOCKS, PttEntry};
+
+/// A page's blocks are not all issued.
+#[derive(Drop)]
+struct NeedsWrite;
+
+impl Test<PttEntry> for NeedsWrite {
+    ghost use Rattle.thy_control.specs.Pages.{needs_write};
+
+    ghost holds = { λ test e. needs_write e };
+
+    fn test(&self, entry: &PttEntry) -> bool {
+        entry.busy && entry.issued < PAGE_BLOCKS
+    }
+}
+
+/// The next block to be written of the page that an entry lists, 0 where the entry is free.
+fn block_to_write(entry: Option<PttEntry>) -> u64
+    requires { page_in entry < 2 ^ 32 }
+    ensures { result ≡ block_after (λ e. e.issued) entry }
+{
+    match entry {
+        Some(entry) => PAGE_BLOCKS as u64 * entry.page + entry.issued as u64,
+        None => 0,
+    }
+}
+
+impl Control {
+    ghost use Rattle.thy_control.specs.State.{IsSized, cell_of};
+    ghost use Rattle.thy_control.specs.Moves.{IsOneLess};
+    ghost use Rattle.thy_control.specs.Stays.{HoldAll, StaysHeld, Stays};
+    ghost use Rattle.thy_control.specs.Versions.{KeepsCommitted, KeepsWork};
+    ghost use Rattle.thy_control.specs.Pages.{next_page, writes_left, issued, devices_issued, devices_after_write, after_next_write, FailsWriteOf, FailsNextWrite};
+
+    /// Issues the next block of a page that the checkpoint under way has still to write, from the page's frame: one write at one
+    /// place. It tells whether there was one; where none is left it touches nothing. With its last block a page that does
+    /// not leave is free again. Where the NVM failed, the place may hold the block or not.
+    pub fn page_next<N: Nvm>(&mut self, nvm: &mut N) -> Result<bool, NvmError>
+        requires sized { IsSized self.old (N.device nvm.old) }
+        requires up { (N.device nvm.old).down ≡ false }
+        ensures more { IfOk result (λ more. more ≡ is_some (next_page self.old)) }
+        ensures left { IfOk result (λ more. IsOneLess more (writes_left self.old) (writes_left self.new)) }
+
+        // The committed checkpoint has every block as before, and a load gives it. Where the frames and targets held what they
+        // have to, they do so still, and so the checkpoint under way has every block as before.
+        ensures committed { OnOk result (KeepsCommitted self.old (N.device nvm.old) self.new (N.device nvm.new)) }
+        ensures work { OnOk result (KeepsWork self.old (N.device nvm.old) self.new (N.device nvm.new)) }
+        ensures held { OnOk result (HoldAll self.old (N.device nvm.old) → StaysHeld self.old (N.device nvm.old) self.new (N.device nvm.new)) }
+
+        // So it is by this table and this one write.
+        ensures state { OnOk result (self.new ≡ after_next_write (next_page self.old) self.old (N.device nvm.old)) }
+        ensures nvm { OnOk result (N.device nvm.new ≡ devices_after_write (next_page self.old) self.old (N.device nvm.old)) }
+
+        // Whether or not it failed, nothing new is possible at the checkpoints' places, and both tables are as they were.
+        ensures stays { Stays self.old (N.device nvm.old) self.new (N.device nvm.new) }
+        ensures kept { OnErr result (self.new ≡ self.old) }
+        ensures err { OnErr result (FailsNextWrite self.old (N.device nvm.old) (N.device nvm.new)) }
+        ensures frame { IsFramed (N.device nvm.old) (N.device nvm.new) }
+        ensures cause { CountsFault result (N.device nvm.old).faults (N.device nvm.new).faults }
+    {
+        a_page_write_keeps_versions();
+        a_page_write_keeps_others();
+        self.tables();
+        self.write_lowest(nvm)
+    }
+
+    /// Writes the next block of the lowest page whose blocks are not all issued, and tells whether there was one.
+    fn write_lowest<N: Nvm>(&mut self, nvm: &mut N) -> Result<bool, NvmError>
+        requires sized { IsSized self.old (N.device nvm.old) }
+        requires up { (N.device nvm.old).down ≡ false }
+        ensures more { IfOk result (λ more. more ≡ is_some (next_page self.old)) }
+        ensures state { OnOk result (self.new ≡ after_next_write (next_page self.old) self.old (N.device nvm.old)) }
+        ensures nvm { OnOk result (N.device nvm.new ≡ devices_after_write (next_page self.old) self.old (N.device nvm.old)) }
+        ensures kept { OnErr result (self.new ≡ self.old) }
+        ensures err { OnErr result (FailsNextWrite self.old (N.device nvm.old) (N.device nvm.new)) }
+        ensures frame { IsFramed (N.device nvm.old) (N.device nvm.new) }
+        ensures cause { CountsFault result (N.device nvm.old).faults (N.device nvm.new).faults }
+    {
+        self.tables();
+        match self.ptt.next(0, &NeedsWrite) {
+            Some(j) => {
+                let b = block_to_write(self.ptt.entry(j));
+                self.write_block(b, nvm)?;
+                Ok(true)
+            }
+            None => Ok(false),
+        }
+    }
+
+    /// Writes a block of a busy page, the next one, from the frame to its place.
+    fn write_block<N: Nvm>(&mut self, b: u64, nvm: &mut N) -> Result<(), NvmError>
+        requires block { b < memory_blocks self.old.p }
+        requires busy { (cell_of self.old b).page.busy ≡ true }
+        requires due { (cell_of self.old b).page.issued ≡ b % 64 }
+        requires sized { IsSized self.old (N.device nvm.old) }
+        requires up { (N.device nvm.old).down ≡ false }
+        ensures state { OnOk result (self.new ≡ issued b self.old (N.device nvm.old)) }
+        ensures nvm { OnOk result (N.device nvm.new ≡ (devices_issued b self.old (N.device nvm.old)).nvm) }
+        ensures kept { OnErr result (self.new ≡ self.old) }
+        ensures err { OnErr result (FailsWriteOf b self.old (N.device nvm.old) (N.device nvm.new)) }
+        ensures frame { IsFramed (N.device nvm.old) (N.device nvm.new) }
+        ensures cause { CountsFault result (N.device nvm.old).faults (N.device nvm.new).faults }
+    {
+        a_page_write_keeps_versions();
+        a_page_write_keeps_others();
+        self.tables();
+        let cell = self.cell(b);
+        move_block(
+            cell.frame(),
+            cell.target(),
+            &self.geometry,
+            nvm,
+            &mut self.dram,
+        )?;
+        let written = cell.with_issued();
+        self.ptt.set(cell.j, written.page);
+        self.ptt.lists_once();
+        Ok(())
+    }
+}
