@@ -27,3 +27,4 @@ pub mod PageLemmas
 pub mod MergeLemmas
 pub mod StepStayLemmas
 pub mod IssueLemmas
+pub mod StepMarkLemmas

@@ -11,7 +11,7 @@ use Rattle.thy_control.specs.OverCalls.{cell_same, stays_same}
 use Rattle.thy_control.specs.Stays.{CellStays, Stays}
 use Rattle.thy_control.proofs.StayLemmas.{map-set_same, map-page}
 use Rattle.thy_control.proofs.StepStayLemmas.{StaysTables, LeavesGuarded-step, Stays-step, penult-in_nvm, target-in_nvm}
-use Rattle.std.proofs.Common.{◌≡◌, ◌≢◌, ℕ, ◌+◌, ◌<◌, Bool, true, false, ◌&&◌, refl, sym, ◌∙◌, ap, subst, inl, inr, arith, Option, Some, None, is_some, List, map, option_and_then, ◌%◌}
+use Rattle.std.proofs.Common.{◌≡◌, ◌≢◌, ℕ, ◌+◌, ◌<◌, Bool, true, false, ◌&&◌, refl, sym, ◌∙◌, ap, subst, inl, inr, arith, Option, Some, None, List, map, option_and_then, ◌%◌}
 use Rattle.std.proofs.lemmas.Bool.{cases_eq, and_parts}
 use Rattle.std.proofs.lemmas.List.{length-set}
 use Rattle.thy_base.specs.declared.block.Block.{Block}
@@ -23,7 +23,7 @@ use Rattle.thy_base.specs.Store.{page_of}
 use Rattle.thy_dram.specs.Contents.{Contents, written}
 use Rattle.thy_table.specs.Listing.{Listing, IsListing, entry_at, lists, passes, place_of, with_entry}
 use Rattle.thy_table.proofs.IndexLemmas.{lists-key}
-use Rattle.thy_table.proofs.FirstLemmas.{first_from-first}
+use Rattle.thy_table.proofs.FirstLemmas.{first_from-first, none-first_from}
 use Rattle.thy_tables.specs.declared.block_entry.BttEntry.{BttEntry}
 use Rattle.thy_tables.specs.declared.page_entry.PttEntry.{PttEntry}
 use Rattle.thy_tables.specs.declared.block_entry.Working.{Working}
@@ -38,9 +38,10 @@ use Rattle.thy_cell.specs.Steps.{MergeKeeps, DirtyKeeps, Keeps}
 use Rattle.thy_control.specs.Find.{entry_for}
 use Rattle.thy_control.specs.Keys.{block_key, page_key}
 use Rattle.thy_control.specs.State.{State, AreSoundTables, IsSized, cell_of, reads}
+use Rattle.thy_control.specs.Overlay.{is_buffered, is_overlaid}
 use Rattle.thy_control.specs.Seal.{block_is_framed}
 use Rattle.thy_control.specs.Copies.{block_listed, block_in}
-use Rattle.thy_control.specs.Merges.{is_in_buffer, lies_over, next_merge, overlays, dram_merged, merged_block, after_merge}
+use Rattle.thy_control.specs.Merges.{next_merge, overlays, dram_merged, merged_block, after_merge}
 use Rattle.thy_control.proofs.FindLemmas.{found_entry, entry_for-some}
 use Rattle.thy_control.proofs.CellLemmas.{block-cell_of, IsWithin-cell_of}
 use Rattle.thy_control.proofs.CountLemmas.{count-set_less}
@@ -48,7 +49,7 @@ use Rattle.thy_control.proofs.HoldLemmas.{IsPlace-frame_of}
 use Rattle.thy_control.proofs.StateLemmas.{place_of-index}
 use Rattle.thy_control.proofs.OwnLemmas.{owner, Owns-cell_of}
 use Rattle.thy_control.proofs.PageLemmas.{count-same, block_cleared, cell-cleared_same, cell-cleared_other, cell-page_same, cell-page_other, same_page, live-set}
-use Rattle.thy_control.proofs.StepLemmas.{KeepsEach, Keeps-untouched, ReadsSame-of, reads_after, puts, untouched, holds-each}
+use Rattle.thy_control.proofs.StepLemmas.{KeepsEach, Keeps-untouched, ReadsSame-of, reads_after, puts, untouched, holds-each, none-passes}
 
 -- a page that was written to
 abbrev dirty : PttEntry → PttEntry
@@ -159,7 +160,7 @@ module _ (b : ℕ) (s : State) (framed : is_framed (cell_of s b).page ≡ true) 
         (λ ne. Keeps-untouched s.under_way old new k (cell_of s k) (t.cells k h) (untouched s n b y v t sized there owns k h ne))
 
     -- a page is framed as it was
-    framed_same : (k : ℕ) → block_is_framed (merged_block b s).ptt k ≡ block_is_framed s.ptt k
+    pub framed_same : (k : ℕ) → block_is_framed (merged_block b s).ptt k ≡ block_is_framed s.ptt k
     framed_same k = cell-merged t.btt_once (λ c d. is_framed d.page ≡ is_framed c.page) k refl (λ ne q. refl) (λ ne. refl)
 
     -- and one buffer less lies over a frame
@@ -169,17 +170,17 @@ module _ (b : ℕ) (s : State) (framed : is_framed (cell_of s b).page ≡ true) 
         let c : Cell = cell_of s b in
         let there = found_entry block_key new_entry s.btt b c.i listed-merge in
         let is : c.entry ≡ there.0 = entry_for-some block_key new_entry s.btt b c.i there.0 listed-merge there.1 in
-        let before : lies_over s.ptt c.entry ≡ true = ap (λ (w : Working). is_in_buffer w && block_is_framed s.ptt c.entry.block) over
+        let before : is_overlaid s.ptt c.entry ≡ true = ap (λ (w : Working). is_buffered w && block_is_framed s.ptt c.entry.block) over
         ∙ ap (λ (n : ℕ). block_is_framed s.ptt n) (block-cell_of s b) ∙ framed in
-        let less = count-set_less (passes (lies_over s.ptt)) s.btt.entries c.i None None there.3 refl (ap (passes (lies_over s.ptt)) there.1 ∙ ap (lies_over s.ptt) (sym is) ∙ before) in
-        let same = count-same (passes (lies_over (merged_block b s).ptt)) (passes (lies_over s.ptt)) by_entry (merged_block b s).btt.entries in
+        let less = count-set_less (passes (is_overlaid s.ptt)) s.btt.entries c.i None None there.3 refl (ap (passes (is_overlaid s.ptt)) there.1 ∙ ap (is_overlaid s.ptt) (sym is) ∙ before) in
+        let same = count-same (passes (is_overlaid (merged_block b s).ptt)) (passes (is_overlaid s.ptt)) by_entry (merged_block b s).btt.entries in
         omega (arith, less, same)
       where
-        by_entry : (o : Option BttEntry) → passes (lies_over (merged_block b s).ptt) o ≡ passes (lies_over s.ptt) o
+        by_entry : (o : Option BttEntry) → passes (is_overlaid (merged_block b s).ptt) o ≡ passes (is_overlaid s.ptt) o
         by_entry None = refl
-        by_entry (Some e) = ap (λ (f : Bool). is_in_buffer e.work && f) (framed_same e.block)
+        by_entry (Some e) = ap (λ (f : Bool). is_buffered e.work && f) (framed_same e.block)
 
-in_buffer : (w : Working) → is_in_buffer w ≡ true → w ≡ InBuffer
+in_buffer : (w : Working) → is_buffered w ≡ true → w ≡ InBuffer
 in_buffer InBuffer e = refl
 in_buffer NoWork e = cc
 in_buffer InNvm e = cc
@@ -191,14 +192,14 @@ pub record IsOverlay (s : State) (b : ℕ) : Type 0 where
   pub over : (cell_of s b).entry.work ≡ InBuffer
 
 pub IsOverlay-entry : (s : State) → AreSoundTables s → (i : ℕ) → next_merge s ≡ Some i → IsOverlay s (block_listed i s)
-IsOverlay-entry s t i h = by_entry (entry_at s.btt i) refl (first_from-first (passes (lies_over s.ptt)) None s.btt.entries 0 i h).here where
-  by_entry : (o : Option BttEntry) → entry_at s.btt i ≡ o → passes (lies_over s.ptt) o ≡ true → IsOverlay s (block_listed i s)
+IsOverlay-entry s t i h = by_entry (entry_at s.btt i) refl (first_from-first (passes (is_overlaid s.ptt)) None s.btt.entries 0 i h).here where
+  by_entry : (o : Option BttEntry) → entry_at s.btt i ≡ o → passes (is_overlaid s.ptt) o ≡ true → IsOverlay s (block_listed i s)
   by_entry None e p = cc
   by_entry (Some x) e p =
       let here : lists block_key x.block (entry_at s.btt i) ≡ true = lists-key block_key x.block (entry_at s.btt i) x e refl in
       let found : place_of block_key x.block s.btt ≡ Some i = t.btt_once.found i x.block here in
       let entry : entry_for block_key new_entry x.block s.btt ≡ x = entry_for-some block_key new_entry s.btt x.block i x found e in
-      let both = and_parts (is_in_buffer x.work) (block_is_framed s.ptt x.block) p in
+      let both = and_parts (is_buffered x.work) (block_is_framed s.ptt x.block) p in
       subst (λ (b : ℕ). IsOverlay s b) (sym (ap block_in e)) (record {
         inside = omega (arith, t.btt_once.inside i x.block here, t.btt_numbers);
         framed = both.1;
@@ -237,11 +238,13 @@ pub record MergesAll (s t : State) : Type 0 where
   pub left : overlays t + 1 ≡ overlays s
   pub each : (n : Device) → IsSized s n → KeepsEach s n t n
 
-pub MergesAll-next : MergeKeeps → DirtyKeeps → (s : State) → AreSoundTables s → s.under_way ≡ false → is_some (next_merge s) ≡ true → MergesAll s (after_merge (next_merge s) s)
-MergesAll-next merge others s t idle some = by_next (next_merge s) refl some where
-  by_next : (o : Option ℕ) → next_merge s ≡ o → is_some o ≡ true → MergesAll s (after_merge o s)
-  by_next None h none = cc
-  by_next (Some i) h is =
+pub MergesAll-next : MergeKeeps → DirtyKeeps → (s : State) → AreSoundTables s → s.under_way ≡ false → 0 < overlays s → MergesAll s (after_merge (next_merge s) s)
+MergesAll-next merge others s t idle some = by_next (next_merge s) refl where
+  by_next : (o : Option ℕ) → next_merge s ≡ o → MergesAll s (after_merge o s)
+  by_next None h =
+      let none : overlays s ≡ 0 = none-passes (passes (is_overlaid s.ptt)) s.btt.entries None (λ k l. none-first_from (passes (is_overlaid s.ptt)) None s.btt.entries 0 h k (omega arith) l) in
+      absurd (omega (arith, some, none))
+  by_next (Some i) h =
       let o = IsOverlay-entry s t i h in
       record {
         left = overlays-merged (block_listed i s) s o.framed o.over t o.inside idle merge others;

@@ -1,34 +1,22 @@
 -- Buffers that lie over the frames of their pages, and what the merge of one makes of the controller.
-use Rattle.std.specs.Prelude.{ℕ, Bool, true, false, ◌&&◌, Option, Some, None, count_by}
+use Rattle.std.specs.Prelude.{ℕ, Option, Some, None}
 use Rattle.thy_base.specs.Device.{block_at}
 use Rattle.thy_base.specs.Places.{number_of}
 use Rattle.thy_dram.specs.Contents.{Contents, written}
-use Rattle.thy_table.specs.Listing.{Listing, with_entry, passes, next_from}
-use Rattle.thy_tables.specs.declared.block_entry.BttEntry.{BttEntry}
-use Rattle.thy_tables.specs.declared.block_entry.Working.{Working}
-use Rattle.thy_tables.specs.declared.block_entry.Working.TheVariants.{NoWork, InNvm, InBuffer}
-use Rattle.thy_tables.specs.declared.page_entry.PttEntry.{PttEntry}
+use Rattle.thy_table.specs.Listing.{with_entry, next_from}
 use Rattle.thy_cell.specs.Cells.{seat_of, frame_at, buffer_at}
 use Rattle.thy_cell.specs.Checkpoint.{merged}
 use Rattle.thy_control.specs.Copies.{block_listed}
-use Rattle.thy_control.specs.Seal.{block_is_framed}
+use Rattle.thy_control.specs.Overlay.{is_overlaid, overlaid}
 use Rattle.thy_control.specs.State.{State, cell_of}
 
-abbrev pub is_in_buffer : Working → Bool
-is_in_buffer NoWork = false
-is_in_buffer InNvm = false
-is_in_buffer InBuffer = true
-
--- an entry's buffer lies over the frame of its block's page
-abbrev pub lies_over : Listing PttEntry → BttEntry → Bool
-lies_over t e = is_in_buffer e.work && block_is_framed t e.block
-
--- the entry that is merged next, and how many are left
+-- the entry that is merged next: the first whose block has work over the frame of its page
 abbrev pub next_merge : State → Option ℕ
-next_merge s = next_from (lies_over s.ptt) 0 s.btt
+next_merge s = next_from (is_overlaid s.ptt) 0 s.btt
 
+-- how many there are
 abbrev pub overlays : State → ℕ
-overlays s = count_by (passes (lies_over s.ptt)) s.btt.entries
+overlays s = overlaid s.ptt s.btt
 
 -- the DRAM after a block was copied from its buffer into the frame
 unfoldable pub dram_merged : ℕ → State → Contents

@@ -4,10 +4,10 @@ ghost use Rattle.thy_base.specs.Device.{Device};
 ghost use Rattle.thy_base.specs.Geometry.{memory_blocks};
 ghost use Rattle.thy_tables.specs.PageEntry.{is_framed as IsFramedPage};
 ghost use Rattle.thy_tables.specs.declared.block_entry.Working.TheVariants.{InBuffer as IsInBuffer};
-ghost use Rattle.thy_control.specs.Seal.{block_is_framed};
 
+use super::Control;
 use super::copying::block_in;
-use super::{Control, page_entry};
+use crate::seal::block_is_framed;
 use thy_cell::{a_dirty_page_keeps_others, a_merge_keeps_versions};
 use thy_table::Test;
 use thy_tables::{BttEntry, Ptt, PttEntry, Working};
@@ -19,9 +19,9 @@ struct LiesOver<'a> {
 }
 
 impl<'a> Test<BttEntry> for LiesOver<'a> {
-    ghost use Rattle.thy_control.specs.Merges.{lies_over};
+    ghost use Rattle.thy_control.specs.Overlay.{is_overlaid};
 
-    ghost holds = { λ test e. lies_over test.ptt.now e };
+    ghost holds = { λ test e. is_overlaid test.ptt.now e };
 
     fn test(&self, entry: &BttEntry) -> bool {
         match entry.work {
@@ -31,26 +31,11 @@ impl<'a> Test<BttEntry> for LiesOver<'a> {
     }
 }
 
-/// Whether the page of a block is framed.
-fn block_is_framed(ptt: &Ptt, b: u64) -> bool
-    ensures { result ≡ block_is_framed ptt.now b }
-{
-    let (_, page) = page_entry(ptt, b / 64);
-    page.is_framed()
-}
-
 impl Control {
     ghost use Rattle.thy_control.specs.State.{IsSized, cell_of};
     ghost use Rattle.thy_control.specs.Stays.{HoldAll, Stays};
     ghost use Rattle.thy_control.specs.Versions.{KeepsCheckpoints, KeepsWork};
     ghost use Rattle.thy_control.specs.Merges.{next_merge, overlays, merged_block, after_merge};
-
-    /// Whether the buffer of some entry lies over the frame of its block's page.
-    pub fn overlay(&self) -> bool
-        ensures { result ≡ is_some (next_merge self.now) }
-    {
-        self.next_overlay().is_some()
-    }
 
     /// The entry of lowest number whose buffer lies over a frame.
     fn next_overlay(&self) -> Option<usize>
@@ -63,7 +48,7 @@ impl Control {
     /// Merges the entry of lowest number whose buffer lies over the frame of its block's page: the block is copied into the
     /// frame, the page is dirty, and the entry is free. The NVM is not touched.
     pub fn merge_one(&mut self)
-        requires overlay { is_some (next_merge self.old) ≡ true }
+        requires overlay { 0 < overlays self.old }
         requires idle { self.old.under_way ≡ false }
 
         // One buffer less lies over a frame.
@@ -84,7 +69,7 @@ impl Control {
 
     /// Merges the entry of lowest number whose buffer lies over a frame.
     fn merge_lowest(&mut self)
-        requires overlay { is_some (next_merge self.old) ≡ true }
+        requires overlay { 0 < overlays self.old }
         requires idle { self.old.under_way ≡ false }
         ensures { self.new ≡ after_merge (next_merge self.old) self.old }
     {
@@ -119,5 +104,6 @@ impl Control {
         );
         self.btt.lists_once();
         self.ptt.lists_once();
+        self.marks.overlaid -= 1;
     }
 }

@@ -10,6 +10,8 @@ use Rattle.thy_control.specs.State.{State, AreSoundTables, cell_of}
 use Rattle.thy_control.specs.Copies.{devices_copied}
 use Rattle.thy_control.proofs.CellLemmas.{IsPlace-target, IsWithin-cell_of}
 use Rattle.thy_control.proofs.CopyLemmas.{AreSoundTables-copied, devices_are, state_is}
+use Rattle.thy_control.specs.Overlay.{AreMarks}
+use Rattle.thy_control.proofs.StepMarkLemmas.{AreMarks-copied}
 use Rattle.thy_control.proofs.control.Control.copy_block.Goals as goal
 
 pub move_block-requires-clause-to : goal.move_block-requires-clause-to
@@ -28,8 +30,12 @@ invariant_of-self-2 g c =
     let d_is : d ≡ devices_copied c.args.b s m
     = devices_are s w c.self.view_is c.args.b m c.cell-cell.result c.last.result c.target.result d c.cell-cell.ensures c.last.ensures c.target.ensures c.in_ok-move_block.ensures.ok in
     let e = state_is s w c.self.view_is c.args.b m c.cell-cell.result c.with_copy-copied.result c.set.new.self d c.cell-cell.ensures c.with_copy-copied.ensures c.set.ensures d_is in
-    subst (λ (t : State). AreSoundTables t) (sym e)
-    (AreSoundTables-copied c.args.b s c.requires.pending m c.tables.ensures c.requires.sized c.requires.block (subst (λ (t : State). IsListing block_key t.btt) e c.lists_once.ensures))
+    let before : AreMarks s.ptt s.btt c.self.inside.marks = subst (λ (t : State). AreMarks t.ptt t.btt c.self.inside.marks) c.self.view_is c.self.invariant.marks in
+    record {
+      tables = subst (λ (t : State). AreSoundTables t) (sym e)
+          (AreSoundTables-copied c.args.b s c.requires.pending m c.tables.ensures c.requires.sized c.requires.block (subst (λ (t : State). IsListing block_key t.btt) e c.lists_once.ensures));
+      marks = subst (λ (t : State). AreMarks t.ptt t.btt c.self.inside.marks) (sym e) (AreMarks-copied c.args.b s m c.self.inside.marks c.requires.pending before);
+    }
 
 pub returns-clause-state : goal.returns-clause-state
 returns-clause-state g c =
