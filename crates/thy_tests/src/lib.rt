@@ -6,6 +6,8 @@ mod cache;
 #[cfg(test)]
 mod calls;
 #[cfg(test)]
+mod controller;
+#[cfg(test)]
 mod counts;
 #[cfg(test)]
 mod crash;

@@ -1,0 +1,19 @@
+-- A store of blocks and the lists beside it, as a test of random calls has them.
+use Rattle.std.specs.Prelude.{◌≡◌, ℕ, Bool, true, List, length}
+use Rattle.thy_base.specs.declared.block.Block.{Block}
+use Rattle.thy_base.specs.Store.{Holding}
+
+-- how many blocks the least memory has
+abbrev pub all : ℕ
+all = 512
+
+-- the store holds all of them, and takes more
+pub record Takes (h : Holding) : Type 0 where
+  pub long : length h.blocks ≡ all
+  pub ready : h.ready ≡ true
+
+-- the lists beside are of as many
+pub record AreLong (start blocks : List Block) (stored : List Bool) : Type 0 where
+  pub start_long : length start ≡ all
+  pub blocks_long : length blocks ≡ all
+  pub stored_long : length stored ≡ all
