@@ -28,3 +28,4 @@ pub mod MergeLemmas
 pub mod StepStayLemmas
 pub mod IssueLemmas
 pub mod StepMarkLemmas
+pub mod IdleLemmas

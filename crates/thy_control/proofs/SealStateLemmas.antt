@@ -1,5 +1,5 @@
 -- A seal leaves the tables sound, and moves the versions of every block.
-use Rattle.std.proofs.Common.{◌≡◌, ◌⊎◌, ℕ, ◌<◌, Bool, true, false, length, refl, sym, ◌∙◌, ap, subst, inl, inr, arith, Option, unwrap_or}
+use Rattle.std.proofs.Common.{◌≡◌, ℕ, ◌<◌, Bool, true, false, length, refl, sym, ◌∙◌, ap, subst, inl, inr, arith, Option, unwrap_or}
 use Rattle.std.proofs.lemmas.List.{length-map, length-replicate}
 use Rattle.std.specs.Option.{option_and_then}
 use Rattle.thy_base.specs.declared.block.Block.{Block}
@@ -16,20 +16,16 @@ use Rattle.thy_switch.specs.Counts.{Tally, is_low, reset}
 use Rattle.thy_cell.specs.declared.cell.Cell.{Cell}
 use Rattle.thy_cell.specs.Cells.{penult, work}
 use Rattle.thy_cell.specs.Sound.{IsSoundCell, Holds}
-use Rattle.thy_cell.specs.Checkpoint.{sealed, with_listed, Moves, ListsPage, SealKeepsSound, SealMoves, SealTakesWork, ListingKeeps}
+use Rattle.thy_cell.specs.Checkpoint.{with_listed, Moves, ListsPage, SealKeepsSound, SealMoves, SealTakesWork, ListingKeeps}
 use Rattle.thy_control.specs.Keys.{block_key, page_key}
 use Rattle.thy_control.specs.State.{State, AreSoundTables, cell_of, reads}
 use Rattle.thy_control.specs.Rules.{IsWholeState}
 use Rattle.thy_control.specs.Stays.{HoldAll}
-use Rattle.thy_control.specs.Seal.{is_few, sealed_in, sealed_in-block, sealed_as_counted, dense_below, sealed_ptt, sealed_state, IsBareState, Seals}
+use Rattle.thy_control.specs.Seal.{is_few, sealed_in, sealed_in-block, sealed_as_counted, dense_below, sealed_ptt, sealed_state, IsBareState, OrListed, sealed_cell, Seals}
 use Rattle.thy_control.proofs.FindLemmas.{entry_for-none}
 use Rattle.thy_control.proofs.CommitLemmas.{same_cell, live-mapped}
 use Rattle.thy_control.proofs.ListPageLemmas.{Lists, lists_all, dense-below}
 use Rattle.thy_control.proofs.SealLemmas.{sealed_as_counted-page, live_left, mapped_state, cell-mapped}
-
--- a block's cell after a seal: that of the seal, or its page was not listed and now is
-abbrev pub OrListed : ℕ → Cell → Cell → Type 0
-OrListed n c d = (d ≡ c) ⊎ ((c.page ≡ no_page n) × ((j : ℕ) × (d ≡ with_listed j c)))
 
 pub lists_sealed : (s : State) → AreSoundTables s → Lists (mapped_state s).ptt (sealed_ptt s.counts s.ptt)
 lists_sealed s t = lists_all (dense_below s.counts (length s.counts.counts)) (mapped_state s).ptt
@@ -52,11 +48,7 @@ module _ (s : State) (t : AreSoundTables s) where
         )
   ]
 
-  -- the cell that a seal makes of a block's own
-  abbrev pub sealed_cell : ℕ → Cell
-  sealed_cell b = sealed (is_few s) (is_low s.counts (page_of b)) (cell_of s b)
-
-  pub cell-sealed : (b : ℕ) → OrListed (page_of b) (sealed_cell b) (cell_of (sealed_state s) b)
+  pub cell-sealed : (b : ℕ) → OrListed (page_of b) (sealed_cell s b) (cell_of (sealed_state s) b)
   cell-sealed b = subst (λ (c : Cell). OrListed (page_of b) c (cell_of (sealed_state s) b)) (cell-mapped s t.btt_once t.ptt_once b) (or_listed b)
 
 -- what a seal asks for, and what is known of blocks
@@ -64,14 +56,14 @@ module _ (s : State) (t : AreSoundTables s) (idle : s.under_way ≡ false) (whol
   sound : (b : ℕ) → b < memory_blocks s.p → IsSoundCell false (cell_of s b)
   sound b l = subst (λ (u : Bool). IsSoundCell u (cell_of s b)) idle (t.cells b l)
 
-  listed : SealTakesWork → ListingKeeps → (b j : ℕ) → b < memory_blocks s.p → IsSoundCell true (sealed_cell s t b) → (sealed_cell s t b).page ≡ no_page (page_of b)
-      → ListsPage true (sealed_cell s t b) (with_listed j (sealed_cell s t b))
+  listed : SealTakesWork → ListingKeeps → (b j : ℕ) → b < memory_blocks s.p → IsSoundCell true (sealed_cell s b) → (sealed_cell s b).page ≡ no_page (page_of b)
+      → ListsPage true (sealed_cell s b) (with_listed j (sealed_cell s b))
   listed takes keeps b j l now none =
-      keeps true j (page_of b) (sealed_cell s t b) now none (takes (is_few s) (is_low s.counts (page_of b)) (cell_of s b) (sound b l) (bare.bare b l))
+      keeps true j (page_of b) (sealed_cell s b) now none (takes (is_few s) (is_low s.counts (page_of b)) (cell_of s b) (sound b l) (bare.bare b l))
 
   sound_sealed : SealKeepsSound → SealTakesWork → ListingKeeps → (b : ℕ) → b < memory_blocks s.p → IsSoundCell true (cell_of (sealed_state s) b)
   sound_sealed law takes keeps b l =
-      let now : IsSoundCell true (sealed_cell s t b) = law (is_few s) (is_low s.counts (page_of b)) (cell_of s b) (sound b l) (whole.whole b l) (bare.bare b l) in
+      let now : IsSoundCell true (sealed_cell s b) = law (is_few s) (is_low s.counts (page_of b)) (cell_of s b) (sound b l) (whole.whole b l) (bare.bare b l) in
       elim (cell-sealed s t b) as (λ _. IsSoundCell true (cell_of (sealed_state s) b)) [
         | inl e ↦ subst (IsSoundCell true) (sym e) now
         | inr x ↦ subst (IsSoundCell true) (sym x.1.1) (listed takes keeps b x.1.0 l now x.0).sound
@@ -104,8 +96,8 @@ module _ (s : State) (t : AreSoundTables s) (idle : s.under_way ≡ false) (whol
       let few : Bool = is_few s in
       let low : Bool = is_low s.counts (page_of b) in
       let c : Cell = cell_of s b in
-      let now : IsSoundCell true (sealed_cell s t b) = law few low c (sound b l) (whole.whole b l) (bare.bare b l) in
-      let first : Moves reads c (sealed_cell s t b) (reads (penult c)) (reads (work c)) = moves few low c reads (sound b l) (whole.whole b l) (bare.bare b l) holds in
+      let now : IsSoundCell true (sealed_cell s b) = law few low c (sound b l) (whole.whole b l) (bare.bare b l) in
+      let first : Moves reads c (sealed_cell s b) (reads (penult c)) (reads (work c)) = moves few low c reads (sound b l) (whole.whole b l) (bare.bare b l) holds in
       elim (cell-sealed s t b) as (λ _. Moves reads c (cell_of (sealed_state s) b) (reads (penult c)) (reads (work c))) [
         | inl e ↦ subst (λ (d : Cell). Moves reads c d (reads (penult c)) (reads (work c))) (sym e) first
         | inr x ↦

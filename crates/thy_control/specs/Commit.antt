@@ -10,9 +10,9 @@ use Rattle.thy_tables.specs.declared.block_entry.Version.TheVariants.{Out, Alt}
 use Rattle.thy_tables.specs.declared.block_entry.Working.{Working}
 use Rattle.thy_tables.specs.declared.block_entry.Working.TheVariants.{NoWork, InNvm, InBuffer}
 use Rattle.thy_tables.specs.declared.page_entry.PttEntry.{PttEntry}
-use Rattle.thy_cell.specs.Checkpoint.{committed_by, committed_entry, page_committed_by, committed_page}
+use Rattle.thy_cell.specs.Checkpoint.{committed_by, committed_entry, page_committed_by, committed_page, committed}
 use Rattle.thy_control.specs.Keys.{block_key, page_key}
-use Rattle.thy_control.specs.State.{State, penult_of, last_of, work_of}
+use Rattle.thy_control.specs.State.{State, AreSoundTables, cell_of, penult_of, last_of, work_of}
 use Rattle.thy_control.specs.CheckpointTables.{tables0, tables1}
 use Rattle.thy_control.specs.Stays.{HoldAll}
 
@@ -45,6 +45,10 @@ committed_state s = record s {
   ptt = mapped committed_page s.ptt;
   under_way = false;
 }
+
+-- a block's cell after a commit is what the commit makes of its own
+abbrev pub CommitMakesCells : Type 0
+CommitMakesCells = (s : State) → AreSoundTables s → (b : ℕ) → cell_of (committed_state s) b ≡ committed (cell_of s b)
 
 -- where the places hold what they have to, the committed version is what was the last one, and a load gives what it gave
 pub record Commits (s t : State) (n : Device) : Type 0 where

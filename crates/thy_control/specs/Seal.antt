@@ -1,5 +1,5 @@
 -- What a seal makes of the controller: what the program stored since the last one goes to the next checkpoint.
-use Rattle.std.specs.Prelude.{◌≡◌, ℕ, ◌*◌, ◌<◌, nat_lt, Bool, true, false, List, [], ◌∷◌, length, filter, if◌then◌else◌, Option, Some, refl}
+use Rattle.std.specs.Prelude.{◌≡◌, ◌⊎◌, ℕ, ◌*◌, ◌<◌, nat_lt, Bool, true, false, List, [], ◌∷◌, length, filter, if◌then◌else◌, Option, Some, refl}
 use Rattle.std.proofs.Common.{sym, ◌∙◌, ap}
 use Rattle.std.specs.List.{range_with_len}
 use Rattle.thy_base.specs.Device.{Device}
@@ -14,10 +14,11 @@ use Rattle.thy_tables.specs.declared.block_entry.Working.TheVariants.{NoWork, In
 use Rattle.thy_tables.specs.declared.page_entry.PttEntry.{PttEntry}
 use Rattle.thy_tables.specs.PageEntry.{no_page, promoted_page, is_framed}
 use Rattle.thy_switch.specs.Counts.{Tally, is_dense, is_low, reset}
-use Rattle.thy_cell.specs.Checkpoint.{IsBare, sealed_by, sealed_entry, sealed_page}
+use Rattle.thy_cell.specs.declared.cell.Cell.{Cell}
+use Rattle.thy_cell.specs.Checkpoint.{IsBare, sealed_by, sealed_entry, sealed_page, sealed, with_listed}
 use Rattle.thy_control.specs.Find.{entry_for, with_entry_for}
 use Rattle.thy_control.specs.Keys.{block_key, page_key}
-use Rattle.thy_control.specs.State.{State, cell_of, penult_of, last_of, work_of}
+use Rattle.thy_control.specs.State.{State, AreSoundTables, cell_of, penult_of, last_of, work_of}
 use Rattle.thy_control.specs.Stays.{HoldAll}
 
 -- few entries of the block table are free: under half
@@ -75,6 +76,16 @@ sealed_state s = record s {
   counts = reset s.counts;
   under_way = true;
 }
+
+-- a block's cell after a seal: what the seal makes of its own, whose page may have been listed to be promoted
+abbrev pub OrListed : ℕ → Cell → Cell → Type 0
+OrListed n c d = (d ≡ c) ⊎ ((c.page ≡ no_page n) × ((j : ℕ) × (d ≡ with_listed j c)))
+
+abbrev pub sealed_cell : State → ℕ → Cell
+sealed_cell s b = sealed (is_few s) (is_low s.counts (page_of b)) (cell_of s b)
+
+abbrev pub SealMakesCells : Type 0
+SealMakesCells = (s : State) → AreSoundTables s → (b : ℕ) → OrListed (page_of b) (sealed_cell s b) (cell_of (sealed_state s) b)
 
 -- no block has work in a buffer over the frame of its page
 pub record IsBareState (s : State) : Type 0 where

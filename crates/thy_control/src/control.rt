@@ -172,6 +172,7 @@ fn answer(rule: StoreRule) -> Stored
 impl Control {
     ghost use Rattle.thy_base.specs.Device.{Device};
     ghost use Rattle.thy_control.specs.CheckpointTables.{tables0};
+    ghost use Rattle.thy_control.specs.Frees.{HasNoWork};
     ghost use Rattle.thy_control.specs.Holding.{promoted};
     ghost use Rattle.thy_control.specs.Overlay.{overlaid, IsOverlaid, IsPromoting};
     ghost use Rattle.thy_control.specs.Seal.{is_few, sealed_state, IsBareState, Seals};
@@ -341,6 +342,10 @@ impl Control {
         // The last version of each block is what a load gave, and gives; the committed one stays.
         ensures versions { (n : Device) → HoldAll self.old n → Seals self.old self.new n }
         ensures tables { tables0 self.new ≡ tables0 self.old }
+
+        // No work is left, and as many entries are free.
+        ensures idle { HasNoWork self.new }
+        ensures free { free_count self.new.btt ≡ free_count self.old.btt }
     {
         a_seal_keeps_entries_sound();
         a_seal_takes_the_work();
@@ -372,6 +377,10 @@ impl Control {
         // The committed version of each block is what was the last one; that and what a load gives stay.
         ensures versions { (n : Device) → HoldAll self.old n → Commits self.old self.new n }
         ensures tables { CommitsTables self.old self.new }
+
+        // There is no new work, and not fewer entries are free.
+        ensures idle { HasNoWork self.old → HasNoWork self.new }
+        ensures free { free_count self.old.btt ≤ free_count self.new.btt }
     {
         a_commit_keeps_entries_sound();
         a_commit_takes_the_last();

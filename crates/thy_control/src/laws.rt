@@ -1,4 +1,6 @@
 //! Laws of the controller, each the contract of a function that does nothing.
+ghost use Rattle.thy_control.specs.Seal.{SealMakesCells};
+ghost use Rattle.thy_control.specs.Commit.{CommitMakesCells};
 ghost use Rattle.thy_control.specs.Frees.{SealFrees};
 ghost use Rattle.thy_control.specs.Holding.{BlocksAreWorks, MemoryIsHeld, NewIsReady};
 ghost use Rattle.thy_control.specs.Once.{OneActionIsOneOfNvm};
@@ -43,4 +45,15 @@ pub fn one_action_is_one_of_the_nvm()
 /// epoch that ended for want of entries is followed by one that has them.
 pub fn a_seal_without_work_frees_entries()
     ensures { SealFrees }
+{}
+
+/// After a seal each block has the entries that the seal makes of its own; its page may have been listed besides, to be
+/// promoted.
+pub fn a_seal_makes_cells()
+    ensures { SealMakesCells }
+{}
+
+/// After a commit each block has the entries that the commit makes of its own.
+pub fn a_commit_makes_cells()
+    ensures { CommitMakesCells }
 {}

@@ -1,8 +1,11 @@
-use Rattle.std.proofs.Common.{sym, subst}
+use Rattle.std.proofs.Common.{◌≤◌, sym, subst}
 use Rattle.thy_control.specs.State.{State, AreSoundTables}
 use Rattle.thy_control.specs.Commit.{Commits, CommitsTables}
 use Rattle.thy_control.proofs.CommitLemmas.{AreSoundTables-committed, Commits-committed, committed_parts}
 use Rattle.thy_control.proofs.MovedTablesLemmas.{CommitsTables-committed}
+use Rattle.thy_table.specs.Listing.{free_count}
+use Rattle.thy_control.specs.Frees.{HasNoWork}
+use Rattle.thy_control.proofs.IdleLemmas.{HasNoWork-committed, free-committed}
 use Rattle.thy_control.proofs.control.Control.commit.Goals as goal
 
 pub returns-clause-state : goal.returns-clause-state
@@ -26,3 +29,9 @@ returns-clause-versions c n holds =
 pub returns-clause-tables : goal.returns-clause-tables
 returns-clause-tables c =
     subst (λ (t : State). CommitsTables c.args.self.now t) (sym (returns-clause-state c)) (CommitsTables-committed c.args.self.now c.tables.ensures)
+
+pub returns-clause-idle : goal.returns-clause-idle
+returns-clause-idle c none = subst (λ (t : State). HasNoWork t) (sym (returns-clause-state c)) (HasNoWork-committed c.args.self.now none)
+
+pub returns-clause-free : goal.returns-clause-free
+returns-clause-free c = subst (λ (t : State). free_count c.args.self.now.btt ≤ free_count t.btt) (sym (returns-clause-state c)) (free-committed c.args.self.now)

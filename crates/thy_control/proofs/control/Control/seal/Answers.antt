@@ -4,6 +4,9 @@ use Rattle.thy_control.specs.Seal.{is_few, Seals}
 use Rattle.thy_control.proofs.SealStateLemmas.{AreSoundTables-sealed, Seals-sealed, sealed_parts}
 use Rattle.thy_control.specs.CheckpointTables.{tables0}
 use Rattle.thy_control.proofs.MovedTablesLemmas.{tables0-sealed}
+use Rattle.thy_table.specs.Listing.{free_count}
+use Rattle.thy_control.specs.Frees.{HasNoWork}
+use Rattle.thy_control.proofs.IdleLemmas.{HasNoWork-sealed, free-sealed}
 use Rattle.thy_control.proofs.control.Control.seal.Goals as goal
 
 pub returns-clause-state : goal.returns-clause-state
@@ -29,3 +32,11 @@ returns-clause-versions c n holds =
 
 pub returns-clause-tables : goal.returns-clause-tables
 returns-clause-tables c = ap tables0 (returns-clause-state c) ∙ tables0-sealed c.args.self.now c.tables.ensures
+
+pub returns-clause-idle : goal.returns-clause-idle
+returns-clause-idle c =
+    subst (λ (t : State). HasNoWork t) (sym (returns-clause-state c))
+    (HasNoWork-sealed c.a_seal_leaves_no_work.ensures c.args.self.now c.tables.ensures c.requires.idle c.requires.bare)
+
+pub returns-clause-free : goal.returns-clause-free
+returns-clause-free c = ap (λ (t : State). free_count t.btt) (returns-clause-state c) ∙ free-sealed c.args.self.now
