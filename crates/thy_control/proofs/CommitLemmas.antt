@@ -18,7 +18,8 @@ use Rattle.thy_cell.specs.Checkpoint.{committed, committed_entry, committed_page
 use Rattle.thy_control.specs.Keys.{block_key, page_key}
 use Rattle.thy_control.specs.State.{State, AreSoundTables, cell_of, reads}
 use Rattle.thy_control.specs.Stays.{AreCopied, HoldAll}
-use Rattle.thy_control.specs.Commit.{committed_state, committed_entry-block, committed_page-page, Commits}
+use Rattle.thy_control.specs.Commit.{committed_state, Commits}
+use Rattle.thy_control.specs.CommitKeys.{committed_entry-block, committed_page-page}
 use Rattle.thy_control.proofs.CellLemmas.{block-cell_of, page-cell_of}
 use Rattle.thy_control.proofs.MappedLemmas.{index_for-mapped, entry_for-mapped}
 

@@ -3,8 +3,12 @@
 use Rattle.std.proofs.Common.{◌≡◌, ◌⊎◌, ℕ, Bool, true, false, ◌||◌, refl, sym, ◌∙◌, ap, inl, inr, arith, Option, Some, unwrap_or}
 use Rattle.std.proofs.lemmas.Bool.{cases_Bool}
 use Rattle.thy_base.specs.Store.{page_of}
-use Rattle.thy_table.specs.Listing.{IsListing, mapped}
+use Rattle.thy_table.specs.Listing.{Listing, IsListing, mapped}
 use Rattle.thy_tables.specs.declared.block_entry.BttEntry.{BttEntry}
+use Rattle.thy_tables.specs.declared.block_entry.Version.{Version}
+use Rattle.thy_tables.specs.declared.block_entry.Version.TheVariants.{Out, Alt}
+use Rattle.thy_tables.specs.declared.block_entry.Working.{Working}
+use Rattle.thy_tables.specs.declared.block_entry.Working.TheVariants.{NoWork, InNvm, InBuffer}
 use Rattle.thy_tables.specs.declared.page_entry.PttEntry.{PttEntry}
 use Rattle.thy_tables.specs.declared.page_entry.Site.{Site}
 use Rattle.thy_tables.specs.declared.page_entry.Site.TheVariants.{AtHome, AtAlternate}
@@ -12,13 +16,29 @@ use Rattle.thy_tables.specs.BlockEntry.{new_entry}
 use Rattle.thy_tables.specs.PageEntry.{no_page, is_framed}
 use Rattle.thy_switch.specs.Counts.{Tally, is_low}
 use Rattle.thy_cell.specs.declared.cell.Cell.{Cell}
-use Rattle.thy_cell.specs.Checkpoint.{sealed, sealed_entry, sealed_page, page_sealed_by, kept_index}
+use Rattle.thy_cell.specs.Checkpoint.{sealed, sealed_by, sealed_entry, sealed_page, page_sealed_by, kept_index}
 use Rattle.thy_control.specs.Keys.{block_key, page_key}
 use Rattle.thy_control.specs.State.{State, cell_of}
-use Rattle.thy_control.specs.Seal.{is_few, block_is_framed, sealed_in, sealed_in-block, sealed_as_counted}
+use Rattle.thy_control.specs.Seal.{is_few, block_is_framed, sealed_in, sealed_as_counted}
 use Rattle.thy_control.proofs.CellLemmas.{block-cell_of, page-cell_of}
 use Rattle.thy_control.proofs.MappedLemmas.{index_for-mapped, entry_for-mapped}
 use Rattle.thy_control.proofs.CommitLemmas.{same_cell, or_none}
+
+-- a block's entry that a seal leaves is of the same block
+sealed_by-block : (framed : Bool) (w : Working) (few : Bool) (v : Version) (e : BttEntry)
+    → block_key (sealed_by framed w few v e) ≡ block_key e
+sealed_by-block true w few v e = refl
+sealed_by-block false InNvm few v e = refl
+sealed_by-block false InBuffer few v e = refl
+sealed_by-block false NoWork true Alt e = refl
+sealed_by-block false NoWork true Out e = refl
+sealed_by-block false NoWork false v e = refl
+
+pub sealed_in-block : (few : Bool) (t : Listing PttEntry) (e f : BttEntry) → sealed_in few t e ≡ Some f → block_key f ≡ block_key e
+sealed_in-block few t e f h =
+    let framed : Bool = block_is_framed t e.block in
+    let same : sealed_entry framed few e ≡ f = cc in
+    sym (ap block_key same) ∙ sealed_by-block framed e.work few e.v1 e
 
 -- a page's entry that a seal leaves is of the same page, and as much of its frame is filled
 record Left (e f : PttEntry) : Type 0 where

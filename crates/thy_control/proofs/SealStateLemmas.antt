@@ -21,11 +21,11 @@ use Rattle.thy_control.specs.Keys.{block_key, page_key}
 use Rattle.thy_control.specs.State.{State, AreSoundTables, cell_of, reads}
 use Rattle.thy_control.specs.Rules.{IsWholeState}
 use Rattle.thy_control.specs.Stays.{HoldAll}
-use Rattle.thy_control.specs.Seal.{is_few, sealed_in, sealed_in-block, sealed_as_counted, dense_below, sealed_ptt, sealed_state, IsBareState, OrListed, sealed_cell, Seals}
+use Rattle.thy_control.specs.Seal.{is_few, sealed_in, sealed_as_counted, dense_below, sealed_ptt, sealed_state, IsBareState, OrListed, sealed_cell, Seals}
 use Rattle.thy_control.proofs.FindLemmas.{entry_for-none}
 use Rattle.thy_control.proofs.CommitLemmas.{same_cell, live-mapped}
 use Rattle.thy_control.proofs.ListPageLemmas.{Lists, lists_all, dense-below}
-use Rattle.thy_control.proofs.SealLemmas.{sealed_as_counted-page, live_left, mapped_state, cell-mapped}
+use Rattle.thy_control.proofs.SealLemmas.{sealed_in-block, sealed_as_counted-page, live_left, mapped_state, cell-mapped}
 
 pub lists_sealed : (s : State) → AreSoundTables s → Lists (mapped_state s).ptt (sealed_ptt s.counts s.ptt)
 lists_sealed s t = lists_all (dense_below s.counts (length s.counts.counts)) (mapped_state s).ptt

@@ -12,6 +12,7 @@ pub mod OverCalls
 pub mod Once
 pub mod Seal
 pub mod Commit
+pub mod CommitKeys
 pub mod Overlay
 pub mod Frees
 pub mod Moves

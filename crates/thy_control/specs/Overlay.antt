@@ -1,4 +1,4 @@
--- Work in buffers over the frames of pages, and pages in promotion: how many there are, which the controller counts.
+-- Work in buffers over the frames of pages, and pages in promotion: the controller counts both.
 use Rattle.std.specs.Prelude.{◌≡◌, ℕ, ◌<◌, Bool, true, false, ◌&&◌, not, if◌then◌else◌, count_by}
 use Rattle.thy_base.specs.Geometry.{memory_blocks}
 use Rattle.thy_table.specs.Listing.{Listing, passes}

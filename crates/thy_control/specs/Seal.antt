@@ -1,23 +1,18 @@
 -- What a seal makes of the controller: what the program stored since the last one goes to the next checkpoint.
-use Rattle.std.specs.Prelude.{◌≡◌, ◌⊎◌, ℕ, ◌*◌, ◌<◌, nat_lt, Bool, true, false, List, [], ◌∷◌, length, filter, if◌then◌else◌, Option, Some, refl}
-use Rattle.std.proofs.Common.{sym, ◌∙◌, ap}
+use Rattle.std.specs.Prelude.{◌≡◌, ◌⊎◌, ℕ, ◌*◌, ◌<◌, nat_lt, Bool, true, List, [], ◌∷◌, length, filter, if◌then◌else◌, Option, Some}
 use Rattle.std.specs.List.{range_with_len}
 use Rattle.thy_base.specs.Device.{Device}
 use Rattle.thy_base.specs.Geometry.{memory_blocks}
 use Rattle.thy_base.specs.Store.{page_of}
 use Rattle.thy_table.specs.Listing.{Listing, free_count, mapped}
 use Rattle.thy_tables.specs.declared.block_entry.BttEntry.{BttEntry}
-use Rattle.thy_tables.specs.declared.block_entry.Version.{Version}
-use Rattle.thy_tables.specs.declared.block_entry.Version.TheVariants.{Out, Alt}
-use Rattle.thy_tables.specs.declared.block_entry.Working.{Working}
-use Rattle.thy_tables.specs.declared.block_entry.Working.TheVariants.{NoWork, InNvm, InBuffer}
 use Rattle.thy_tables.specs.declared.page_entry.PttEntry.{PttEntry}
 use Rattle.thy_tables.specs.PageEntry.{no_page, promoted_page, is_framed}
 use Rattle.thy_switch.specs.Counts.{Tally, is_dense, is_low, reset}
 use Rattle.thy_cell.specs.declared.cell.Cell.{Cell}
-use Rattle.thy_cell.specs.Checkpoint.{IsBare, sealed_by, sealed_entry, sealed_page, sealed, with_listed}
+use Rattle.thy_cell.specs.Checkpoint.{IsBare, sealed_entry, sealed_page, sealed, with_listed}
 use Rattle.thy_control.specs.Find.{entry_for, with_entry_for}
-use Rattle.thy_control.specs.Keys.{block_key, page_key}
+use Rattle.thy_control.specs.Keys.{page_key}
 use Rattle.thy_control.specs.State.{State, AreSoundTables, cell_of, penult_of, last_of, work_of}
 use Rattle.thy_control.specs.Stays.{HoldAll}
 
@@ -36,21 +31,6 @@ sealed_in few t e = Some (sealed_entry (block_is_framed t e.block) few e)
 -- a page's entry, by the counts
 abbrev pub sealed_as_counted : Tally → PttEntry → Option PttEntry
 sealed_as_counted c e = sealed_page (is_low c e.page) e
-
--- which is of the block that it was of
-sealed_by-block : (framed : Bool) (w : Working) (few : Bool) (v : Version) (e : BttEntry) → block_key (sealed_by framed w few v e) ≡ block_key e
-sealed_by-block true w few v e = refl
-sealed_by-block false InNvm few v e = refl
-sealed_by-block false InBuffer few v e = refl
-sealed_by-block false NoWork true Alt e = refl
-sealed_by-block false NoWork true Out e = refl
-sealed_by-block false NoWork false v e = refl
-
-pub sealed_in-block : (few : Bool) (t : Listing PttEntry) (e f : BttEntry) → sealed_in few t e ≡ Some f → block_key f ≡ block_key e
-sealed_in-block few t e f h =
-    let framed : Bool = block_is_framed t e.block in
-    let same : sealed_entry framed few e ≡ f = cc in
-    sym (ap block_key same) ∙ sealed_by-block framed e.work few e.v1 e
 
 -- the pages below one that were stored to densely, by rising number
 abbrev pub dense_below : Tally → ℕ → List ℕ
@@ -77,7 +57,7 @@ sealed_state s = record s {
   under_way = true;
 }
 
--- a block's cell after a seal: what the seal makes of its own, whose page may have been listed to be promoted
+-- a block's cell after a seal: what the seal makes of its own; its page may have been listed, to be promoted
 abbrev pub OrListed : ℕ → Cell → Cell → Type 0
 OrListed n c d = (d ≡ c) ⊎ ((c.page ≡ no_page n) × ((j : ℕ) × (d ≡ with_listed j c)))
 
@@ -85,7 +65,9 @@ abbrev pub sealed_cell : State → ℕ → Cell
 sealed_cell s b = sealed (is_few s) (is_low s.counts (page_of b)) (cell_of s b)
 
 abbrev pub SealMakesCells : Type 0
-SealMakesCells = (s : State) → AreSoundTables s → (b : ℕ) → OrListed (page_of b) (sealed_cell s b) (cell_of (sealed_state s) b)
+SealMakesCells =
+    (s : State) → AreSoundTables s → (b : ℕ)
+    → OrListed (page_of b) (sealed_cell s b) (cell_of (sealed_state s) b)
 
 -- no block has work in a buffer over the frame of its page
 pub record IsBareState (s : State) : Type 0 where

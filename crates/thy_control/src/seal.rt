@@ -119,7 +119,7 @@ pub struct CommitBlocks;
 
 impl Rule<BttEntry> for CommitBlocks {
     ghost use Rattle.thy_cell.specs.Checkpoint.{committed_entry};
-    ghost use Rattle.thy_control.specs.Commit.{committed_entry-block};
+    ghost use Rattle.thy_control.specs.CommitKeys.{committed_entry-block};
 
     ghost gives = { λ rule e. committed_entry e };
 
@@ -136,7 +136,7 @@ pub struct CommitPages;
 
 impl Rule<PttEntry> for CommitPages {
     ghost use Rattle.thy_cell.specs.Checkpoint.{committed_page};
-    ghost use Rattle.thy_control.specs.Commit.{committed_page-page};
+    ghost use Rattle.thy_control.specs.CommitKeys.{committed_page-page};
 
     ghost gives = { λ rule e. committed_page e };
 

@@ -1,0 +1,33 @@
+-- An entry that a commit leaves lists the number that it listed, as a rule over a table has to show.
+use Rattle.std.specs.Prelude.{◌≡◌, Bool, true, false, Some}
+use Rattle.std.proofs.Common.{sym, ap}
+use Rattle.thy_tables.specs.declared.block_entry.BttEntry.{BttEntry}
+use Rattle.thy_tables.specs.declared.block_entry.Version.{Version}
+use Rattle.thy_tables.specs.declared.block_entry.Version.TheVariants.{Out, Alt}
+use Rattle.thy_tables.specs.declared.block_entry.Working.{Working}
+use Rattle.thy_tables.specs.declared.block_entry.Working.TheVariants.{NoWork, InNvm, InBuffer}
+use Rattle.thy_tables.specs.declared.page_entry.PttEntry.{PttEntry}
+use Rattle.thy_cell.specs.Checkpoint.{committed_by, committed_entry, page_committed_by, committed_page}
+use Rattle.thy_control.specs.Keys.{block_key, page_key}
+
+moved : (e f : BttEntry) (v : Version) → Some (record e { v0 = v }) ≡ Some f → block_key f ≡ block_key e
+moved e f v h = let same : record e { v0 = v } ≡ f = cc in sym (ap block_key same)
+
+committed_by-block : (v : Version) (w : Working) (e f : BttEntry) → committed_by v w e ≡ Some f
+    → block_key f ≡ block_key e
+committed_by-block Out NoWork e f h = cc
+committed_by-block Out InNvm e f h = moved e f Out h
+committed_by-block Out InBuffer e f h = moved e f Out h
+committed_by-block Alt w e f h = moved e f Alt h
+
+pub committed_entry-block : (e f : BttEntry) → committed_entry e ≡ Some f → block_key f ≡ block_key e
+committed_entry-block e f h = committed_by-block e.v1 e.work e f h
+
+committed_by-page : (leaving : Bool) (e f : PttEntry) → page_committed_by leaving e ≡ Some f
+    → page_key f ≡ page_key e
+committed_by-page true e f h = cc
+committed_by-page false e f h =
+    let same : record e { place = e.target; busy = false; issued = 0 } ≡ f = cc in sym (ap page_key same)
+
+pub committed_page-page : (e f : PttEntry) → committed_page e ≡ Some f → page_key f ≡ page_key e
+committed_page-page e f h = committed_by-page e.leaving e f h
