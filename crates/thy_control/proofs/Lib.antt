@@ -29,3 +29,5 @@ pub mod StepStayLemmas
 pub mod IssueLemmas
 pub mod StepMarkLemmas
 pub mod IdleLemmas
+pub mod FreesLemmas
+pub mod TableBlockLemmas

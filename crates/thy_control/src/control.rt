@@ -16,6 +16,7 @@ mod merging;
 mod moving;
 mod queue;
 mod writing;
+mod tables;
 
 use crate::overlay::Marks;
 use crate::seal::{CommitBlocks, CommitPages, seal_blocks, seal_pages};

@@ -1,0 +1,72 @@
+-- The entries of a block of tables, one by one.
+use Rattle.std.proofs.Common.{◌≡◌, ℕ, ◌+◌, ◌-◌, ◌*◌, ◌^◌, ◌<◌, ◌≤◌, List, ◌++◌, drop, length, map, get_or, Option, Some, None, option_and_then, sym, ◌∙◌, ap, inl, inr, arith}
+use Rattle.std.proofs.Math.ListN.{get_or-map}
+use Rattle.std.proofs.lemmas.Bool.{cases_lt}
+use Rattle.std.proofs.lemmas.List.{length-map, length-append, length-drop, length-take-le, length-take, get_or_past, get_or-take, get_or-drop, get_or_append_left, get_or-append-add, get_or-append_right, ext_get_or}
+use Rattle.thy_base.specs.declared.config.Parameters.{Parameters}
+use Rattle.thy_base.specs.Geometry.{IsInRange}
+use Rattle.thy_record.specs.Tables.{Tables, entry_at, Lists, IsTables}
+use Rattle.thy_record.specs.TableBlocks.{HaveWords}
+use Rattle.thy_tables.specs.declared.block_entry.BttEntry.{BttEntry}
+use Rattle.thy_tables.specs.declared.page_entry.PttEntry.{PttEntry}
+use Rattle.thy_control.specs.TableBlocks.{block_due, page_due, entries_of}
+
+-- an entry of both tables, one behind the other
+module _ (btt : List (Option BttEntry)) (ptt : List (Option PttEntry)) where
+  abbrev blocks_due : List (Option ℕ)
+  blocks_due = map (option_and_then block_due) btt
+
+  abbrev pages_due : List (Option ℕ)
+  pages_due = map (option_and_then page_due) ptt
+
+  pub due-block : (n : ℕ) → n < length btt → option_and_then block_due (get_or btt n None) ≡ entry_at (blocks_due ++ pages_due) n
+  due-block n l =
+      sym (get_or-map (option_and_then block_due) btt n None)
+      ∙ sym (get_or_append_left blocks_due pages_due None n (omega (arith, length-map btt (option_and_then block_due))))
+
+  pub due-page : (n : ℕ) → length btt ≤ n → option_and_then page_due (get_or ptt (n - length btt) None) ≡ entry_at (blocks_due ++ pages_due) n
+  due-page n l =
+      sym (get_or-map (option_and_then page_due) ptt (n - length btt) None)
+      ∙ sym (get_or-append_right blocks_due pages_due (length btt) n None (length-map btt (option_and_then block_due)) l)
+
+-- the entries of a block of tables are eight
+pub entries-eight : (t : Tables) (k : ℕ) → 8 * k + 8 ≤ length t.btt + length t.ptt → length (entries_of t k) ≡ 8
+entries-eight t k l =
+    length-take-le 8 (drop (8 * k) (t.btt ++ t.ptt)) (omega (arith, length-drop (8 * k) (t.btt ++ t.ptt), length-append t.btt t.ptt))
+
+pub entries-each : (t : Tables) (k j : ℕ) → j < 8 → entry_at (entries_of t k) j ≡ entry_at (t.btt ++ t.ptt) (8 * k + j)
+entries-each t k j l =
+    get_or-take 8 (drop (8 * k) (t.btt ++ t.ptt)) j None l ∙ get_or-drop (8 * k) (t.btt ++ t.ptt) j None
+
+-- eight entries that are those are all of them
+pub entries-are : (t : Tables) (k : ℕ) (entries : List (Option ℕ)) → 8 * k + 8 ≤ length t.btt + length t.ptt → length entries ≡ 8
+    → ((j : ℕ) → j < 8 → entry_at entries j ≡ entry_at (t.btt ++ t.ptt) (8 * k + j)) → entries ≡ entries_of t k
+entries-are t k entries l long each =
+    ext_get_or None entries (entries_of t k) (long ∙ sym (entries-eight t k l))
+    (λ j inside. let below : j < 8 = omega (arith, long) in each j below ∙ sym (entries-each t k j below))
+
+-- each has a word
+entry-fits : (p : Parameters) (t : Tables) → IsInRange p → IsTables p t → (m n : ℕ) → entry_at (t.btt ++ t.ptt) m ≡ Some n → n < 2 ^ 64 - 1
+entry-fits p t r s m n h = elim (cases_lt m (length t.btt)) as (λ _. n < 2 ^ 64 - 1) [
+  | inl low ↦
+      let l : Lists t.btt m n = record { is = sym (get_or_append_left t.btt t.ptt None m low) ∙ h } in
+      let small = s.blocks m n l in
+      omega arith
+  | inr high ↦
+      let e : length t.btt + (m - length t.btt) ≡ m = omega arith in
+      let l : Lists t.ptt (m - length t.btt) n =
+      record { is = sym (get_or-append-add t.btt t.ptt (m - length t.btt) None) ∙ ap (entry_at (t.btt ++ t.ptt)) e ∙ h } in
+      let small = s.pages (m - length t.btt) n l in
+      omega arith
+]
+
+past_eight : (t : Tables) (k i : ℕ) → 8 ≤ i → entry_at (entries_of t k) i ≡ None
+past_eight t k i l = get_or_past (entries_of t k) i None (omega (arith, length-take 8 (drop (8 * k) (t.btt ++ t.ptt))))
+
+pub HaveWords-entries : (p : Parameters) (t : Tables) (k : ℕ) → IsInRange p → IsTables p t → HaveWords (entries_of t k)
+HaveWords-entries p t k r s = record {
+  each = λ i n l. elim (cases_lt i 8) as (λ _. n < 2 ^ 64 - 1) [
+    | inl low ↦ entry-fits p t r s (8 * k + i) n (sym (entries-each t k i low) ∙ l.is)
+    | inr high ↦ let no : None ≡ Some n = sym (past_eight t k i high) ∙ l.is in cc
+  ];
+}

@@ -1,0 +1,77 @@
+//! The tables of the checkpoint under way, as blocks.
+ghost use Rattle.std.specs.Prelude.{◌≡◌, ◌+◌, ◌/◌, ◌<◌, ◌++◌, length, map, option_and_then};
+ghost use Rattle.thy_record.specs.TableBlocks.{table_block_of};
+ghost use Rattle.thy_record.specs.Tables.{entry_at as listed_at};
+ghost use Rattle.thy_control.specs.TableBlocks.{block_due, page_due};
+
+use super::Control;
+use thy_base::Block;
+use thy_record::table_block;
+use thy_tables::{Btt, BttEntry, Ptt, PttEntry, Site, Version};
+
+/// The block that the checkpoint under way lists at an entry.
+fn block_listed_by(entry: Option<BttEntry>) -> Option<u64>
+    ensures { result ≡ option_and_then block_due entry }
+{
+    match entry {
+        Some(entry) => match entry.v1 {
+            Version::Out => None,
+            Version::Alt => Some(entry.block),
+        },
+        None => None,
+    }
+}
+
+/// The page that it lists at an entry.
+fn page_listed_by(entry: Option<PttEntry>) -> Option<u64>
+    ensures { result ≡ option_and_then page_due entry }
+{
+    match entry {
+        Some(entry) => match entry.target {
+            Site::AtHome => None,
+            Site::AtAlternate => Some(entry.page),
+        },
+        None => None,
+    }
+}
+
+/// What it lists at an entry of both tables: the block table's entries, and behind them the page table's.
+fn listed_by(btt: &Btt, ptt: &Ptt, n: usize) -> Option<u64>
+    requires { n < length btt.now.entries + length ptt.now.entries }
+    ensures { result ≡ listed_at (map (option_and_then block_due) btt.now.entries ++ map (option_and_then page_due) ptt.now.entries) n }
+{
+    let blocks = btt.size();
+    if n < blocks {
+        block_listed_by(btt.entry(n))
+    } else {
+        page_listed_by(ptt.entry(n - blocks))
+    }
+}
+
+impl Control {
+    ghost use Rattle.thy_control.specs.CheckpointTables.{tables1};
+    ghost use Rattle.thy_control.specs.TableBlocks.{entries_of};
+
+    /// Block `k` of the tables of the checkpoint under way, eight entries a block: the block table, and behind it the page
+    /// table.
+    pub fn table(&self, k: u64) -> Block
+        requires { k < self.now.p.btt / 8 + self.now.p.ptt / 8 }
+        ensures { result ≡ table_block_of (tables1 self.now) k }
+    {
+        self.tables();
+        table_block(&self.listed_in(k))
+    }
+
+    /// The eight entries of a block of the tables.
+    fn listed_in(&self, k: u64) -> [Option<u64>; 8]
+        requires { k < self.now.p.btt / 8 + self.now.p.ptt / 8 }
+        ensures { result ≡ entries_of (tables1 self.now) k }
+    {
+        self.tables();
+        let mut entries = [None; 8];
+        for i in 0..8 {
+            entries[i] = listed_by(&self.btt, &self.ptt, 8 * k as usize + i);
+        }
+        entries
+    }
+}
