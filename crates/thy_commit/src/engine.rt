@@ -1,0 +1,313 @@
+//! The checkpoint engine.
+ghost use Rattle.std.specs.Prelude.{◌≡◌, ◌<◌, false, true, length, nat_lt, if◌then◌else◌, IfOk, OnOk, OnErr};
+ghost use Rattle.thy_base.specs.Device.{IsFramed, CountsFault, HasFailed, HasFailedToWrite, settled, written_to};
+ghost use Rattle.thy_record.specs.Commit.{commit_of};
+ghost use Rattle.thy_record.specs.declared.engine_step.EngineStep.TheVariants.{StateBlock as IsStateBlock, TableBlock as IsTableBlock};
+ghost use Rattle.thy_control.specs.State.{IsSized};
+
+use crate::Next;
+use std::marker::Model;
+use thy_base::{Block, Geometry, Nvm, NvmError};
+use thy_control::Control;
+use thy_isa::{CpuState, Regs, Status};
+use thy_record::{EngineStep, commit_block, cpu_block};
+
+/// The checkpoint engine. It takes one action on the NVM a cycle.
+#[derive(Drop)]
+pub struct Engine {
+    geometry: Geometry,
+    next: Next,
+    cpu: CpuState,
+    epoch: u64,
+}
+
+impl Model for Engine {
+    ghost use Rattle.thy_commit.specs.Progress.{Progress, IsSoundProgress};
+
+    ghost Value = { Progress };
+
+    ghost view = { λ e. record { p = e.geometry; next = e.next; cpu = e.cpu; epoch = e.epoch } };
+
+    ghost invariant = { λ e. IsSoundProgress (record { p = e.geometry; next = e.next; cpu = e.cpu; epoch = e.epoch }) };
+}
+
+/// What the engine did, and what it looks for next.
+#[derive(Clone, Copy)]
+struct Done {
+    step: EngineStep,
+    next: Next,
+}
+
+/// How the write of block `k` of a slot is told.
+fn slot_step(k: u64) -> EngineStep
+    ensures { result ≡ (if nat_lt k 5 then IsStateBlock else IsTableBlock) }
+{
+    if k < 5 {
+        EngineStep::StateBlock
+    } else {
+        EngineStep::TableBlock
+    }
+}
+
+impl Engine {
+    ghost use Rattle.thy_base.specs.Places.{slot_blocks};
+    ghost use Rattle.thy_commit.specs.Items.{SlotItem, SettleItem, CommitItem, ConfirmItem, is_under_way, copy_item, page_item, next_after, answer};
+    ghost use Rattle.thy_commit.specs.Progress.{begun, Fits, IsDone, slot_block, state_after, device_after, FailsItem, item_of, engine_next, state_next, device_next, FailsNext};
+
+    /// An engine with no checkpoint under way.
+    pub fn new(geometry: &Geometry) -> Engine
+        ensures geometry { result.p ≡ geometry.now }
+        ensures idle { is_under_way result.next ≡ false }
+    {
+        Engine {
+            geometry: *geometry,
+            next: Next::Nothing,
+            cpu: CpuState {
+                pc: 0,
+                regs: Regs::new(),
+                console_len: 0,
+                cursor: 0,
+                brk: 0,
+                floor: 0,
+                count: 0,
+                status: Status::Running,
+            },
+            epoch: 0,
+        }
+    }
+
+    /// Begins the checkpoint of an epoch, with the processor as it was sealed. None may be under way.
+    pub fn begin(&mut self, cpu: &CpuState, epoch: u64)
+        requires idle { is_under_way self.old.next ≡ false }
+        requires regs { length cpu.now.regs ≡ 32 }
+        ensures { self.new ≡ begun cpu.now epoch self.old }
+    {
+        self.next = Next::Copies;
+        self.cpu = *cpu;
+        self.epoch = epoch;
+    }
+
+    /// Whether a checkpoint is under way.
+    pub fn under_way(&self) -> bool
+        ensures { result ≡ is_under_way self.now.next }
+    {
+        match self.next {
+            Next::Nothing => false,
+            Next::Copies
+            | Next::Pages
+            | Next::Slot(_)
+            | Next::Settle
+            | Next::Commit
+            | Next::Confirm => true,
+        }
+    }
+
+    /// Takes one action: nothing where no checkpoint is under way. A copy or a page that is not left costs no cycle. Where the
+    /// NVM failed, engine and controller are as they were, and only the place of a write that failed may hold more.
+    pub fn step<N: Nvm>(
+        &mut self,
+        control: &mut Control,
+        nvm: &mut N,
+    ) -> Result<EngineStep, NvmError>
+        requires fits { Fits self.old control.old }
+        requires sized { IsSized control.old (N.device nvm.old) }
+        requires up { (N.device nvm.old).down ≡ false }
+        ensures answer { IfOk result (λ step. step ≡ answer self.old.epoch (item_of self.old control.old)) }
+
+        // So it is by this item, the next one by how far the checkpoint is.
+        ensures engine { OnOk result (self.new ≡ engine_next self.old control.old) }
+        ensures control { OnOk result (control.new ≡ state_next self.old control.old (N.device nvm.old)) }
+        ensures device { OnOk result (N.device nvm.new ≡ device_next self.old control.old (N.device nvm.old)) }
+
+        ensures kept { OnErr result (self.new ≡ self.old) }
+        ensures kept_control { OnErr result (control.new ≡ control.old) }
+        ensures err { OnErr result (FailsNext self.old control.old (N.device nvm.old) (N.device nvm.new)) }
+        ensures frame { IsFramed (N.device nvm.old) (N.device nvm.new) }
+        ensures cause { CountsFault result (N.device nvm.old).faults (N.device nvm.new).faults }
+    {
+        let done = self.act(control, nvm)?;
+        self.next = done.next;
+        Ok(done.step)
+    }
+
+    /// Takes the action that is next.
+    fn act<N: Nvm>(&self, control: &mut Control, nvm: &mut N) -> Result<Done, NvmError>
+        requires fits { Fits self.now control.old }
+        requires sized { IsSized control.old (N.device nvm.old) }
+        requires up { (N.device nvm.old).down ≡ false }
+        ensures answer { IfOk result (λ done. done.step ≡ answer self.now.epoch (item_of self.now control.old)) }
+        ensures next { IfOk result (λ done. done.next ≡ next_after self.now.p (item_of self.now control.old)) }
+        ensures control { OnOk result (control.new ≡ state_next self.now control.old (N.device nvm.old)) }
+        ensures device { OnOk result (N.device nvm.new ≡ device_next self.now control.old (N.device nvm.old)) }
+        ensures kept { OnErr result (control.new ≡ control.old) }
+        ensures err { OnErr result (FailsNext self.now control.old (N.device nvm.old) (N.device nvm.new)) }
+        ensures frame { IsFramed (N.device nvm.old) (N.device nvm.new) }
+        ensures cause { CountsFault result (N.device nvm.old).faults (N.device nvm.new).faults }
+    {
+        match self.next {
+            Next::Nothing => Ok(Done {
+                step: EngineStep::Idle,
+                next: Next::Nothing,
+            }),
+            Next::Copies => self.copy(control, nvm),
+            Next::Pages => self.write_page(control, nvm),
+            Next::Slot(k) => self.write_slot(k, control, nvm),
+            Next::Settle => self.settle(nvm),
+            Next::Commit => self.write_commit(nvm),
+            Next::Confirm => self.confirm(control, nvm),
+        }
+    }
+
+    /// Makes the next copy; where none is left, writes the next block of a page or the slot's first.
+    fn copy<N: Nvm>(&self, control: &mut Control, nvm: &mut N) -> Result<Done, NvmError>
+        requires geometry { control.old.p ≡ self.now.p }
+        requires sized { IsSized control.old (N.device nvm.old) }
+        requires up { (N.device nvm.old).down ≡ false }
+        ensures answer { IfOk result (λ done. done.step ≡ answer self.now.epoch (copy_item control.old)) }
+        ensures next { IfOk result (λ done. done.next ≡ next_after self.now.p (copy_item control.old)) }
+        ensures control { OnOk result (control.new ≡ state_after (copy_item control.old) control.old (N.device nvm.old)) }
+        ensures device { OnOk result (N.device nvm.new ≡ device_after self.now (copy_item control.old) control.old (N.device nvm.old)) }
+        ensures kept { OnErr result (control.new ≡ control.old) }
+        ensures err { OnErr result (FailsItem self.now (copy_item control.old) control.old (N.device nvm.old) (N.device nvm.new)) }
+        ensures frame { IsFramed (N.device nvm.old) (N.device nvm.new) }
+        ensures cause { CountsFault result (N.device nvm.old).faults (N.device nvm.new).faults }
+    {
+        if control.copy_next(nvm)? {
+            Ok(Done {
+                step: EngineStep::Copied,
+                next: Next::Copies,
+            })
+        } else {
+            self.write_page(control, nvm)
+        }
+    }
+
+    /// Writes the next block of a page; where none is left, the slot's first block.
+    fn write_page<N: Nvm>(&self, control: &mut Control, nvm: &mut N) -> Result<Done, NvmError>
+        requires geometry { control.old.p ≡ self.now.p }
+        requires sized { IsSized control.old (N.device nvm.old) }
+        requires up { (N.device nvm.old).down ≡ false }
+        ensures answer { IfOk result (λ done. done.step ≡ answer self.now.epoch (page_item control.old)) }
+        ensures next { IfOk result (λ done. done.next ≡ next_after self.now.p (page_item control.old)) }
+        ensures control { OnOk result (control.new ≡ state_after (page_item control.old) control.old (N.device nvm.old)) }
+        ensures device { OnOk result (N.device nvm.new ≡ device_after self.now (page_item control.old) control.old (N.device nvm.old)) }
+        ensures kept { OnErr result (control.new ≡ control.old) }
+        ensures err { OnErr result (FailsItem self.now (page_item control.old) control.old (N.device nvm.old) (N.device nvm.new)) }
+        ensures frame { IsFramed (N.device nvm.old) (N.device nvm.new) }
+        ensures cause { CountsFault result (N.device nvm.old).faults (N.device nvm.new).faults }
+    {
+        if control.page_next(nvm)? {
+            Ok(Done {
+                step: EngineStep::PageBlock,
+                next: Next::Pages,
+            })
+        } else {
+            self.write_slot(0, control, nvm)
+        }
+    }
+
+    /// Writes block `k` of the slot.
+    fn write_slot<N: Nvm>(&self, k: u64, control: &Control, nvm: &mut N) -> Result<Done, NvmError>
+        requires block { k < slot_blocks self.now.p }
+        requires geometry { control.now.p ≡ self.now.p }
+        requires sized { IsSized control.now (N.device nvm.old) }
+        requires up { (N.device nvm.old).down ≡ false }
+        ensures answer { IfOk result (λ done. done.step ≡ answer self.now.epoch (SlotItem k)) }
+        ensures next { IfOk result (λ done. done.next ≡ next_after self.now.p (SlotItem k)) }
+        ensures device { OnOk result (N.device nvm.new ≡ device_after self.now (SlotItem k) control.now (N.device nvm.old)) }
+        ensures err { OnErr result (FailsItem self.now (SlotItem k) control.now (N.device nvm.old) (N.device nvm.new)) }
+        ensures frame { IsFramed (N.device nvm.old) (N.device nvm.new) }
+        ensures cause { CountsFault result (N.device nvm.old).faults (N.device nvm.new).faults }
+    {
+        let at = self.geometry.slot(self.epoch % 2) + k;
+        nvm.write(at, &self.slot_block(k, control))?;
+        Ok(Done {
+            step: slot_step(k),
+            next: self.after_slot(k),
+        })
+    }
+
+    /// Block `k` of the slot.
+    fn slot_block(&self, k: u64, control: &Control) -> Block
+        requires block { k < slot_blocks self.now.p }
+        requires geometry { control.now.p ≡ self.now.p }
+        ensures { result ≡ slot_block self.now control.now k }
+    {
+        if k < 5 {
+            cpu_block(&self.cpu, self.epoch, k)
+        } else {
+            control.table(k - 5)
+        }
+    }
+
+    /// What comes after block `k` of the slot.
+    fn after_slot(&self, k: u64) -> Next
+        requires block { k < slot_blocks self.now.p }
+        ensures { result ≡ next_after self.now.p (SlotItem k) }
+    {
+        let blocks = self.geometry.slot_blocks();
+        if k + 1 < blocks {
+            Next::Slot(k + 1)
+        } else {
+            Next::Settle
+        }
+    }
+
+    /// The barrier behind all that comes before the commit block.
+    fn settle<N: Nvm>(&self, nvm: &mut N) -> Result<Done, NvmError>
+        requires up { (N.device nvm.old).down ≡ false }
+        ensures answer { IfOk result (λ done. done.step ≡ answer self.now.epoch SettleItem) }
+        ensures next { IfOk result (λ done. done.next ≡ next_after self.now.p SettleItem) }
+        ensures device { OnOk result (N.device nvm.new ≡ settled (N.device nvm.old)) }
+        ensures err { OnErr result (HasFailed (N.device nvm.old) (N.device nvm.new)) }
+        ensures frame { IsFramed (N.device nvm.old) (N.device nvm.new) }
+        ensures cause { CountsFault result (N.device nvm.old).faults (N.device nvm.new).faults }
+    {
+        nvm.barrier()?;
+        Ok(Done {
+            step: EngineStep::Barrier,
+            next: Next::Commit,
+        })
+    }
+
+    /// Writes the commit block.
+    fn write_commit<N: Nvm>(&self, nvm: &mut N) -> Result<Done, NvmError>
+        requires place { 1 < length (N.device nvm.old).image }
+        requires up { (N.device nvm.old).down ≡ false }
+        ensures answer { IfOk result (λ done. done.step ≡ answer self.now.epoch CommitItem) }
+        ensures next { IfOk result (λ done. done.next ≡ next_after self.now.p CommitItem) }
+        ensures device { OnOk result (N.device nvm.new ≡ written_to (N.device nvm.old) 1 (commit_of self.now.epoch)) }
+        ensures err { OnErr result (HasFailedToWrite 1 (commit_of self.now.epoch) (N.device nvm.old) (N.device nvm.new)) }
+        ensures frame { IsFramed (N.device nvm.old) (N.device nvm.new) }
+        ensures cause { CountsFault result (N.device nvm.old).faults (N.device nvm.new).faults }
+    {
+        nvm.write(1, &commit_block(self.epoch))?;
+        Ok(Done {
+            step: EngineStep::CommitWritten,
+            next: Next::Confirm,
+        })
+    }
+
+    /// The barrier behind the commit block, with which the controller commits.
+    fn confirm<N: Nvm>(&self, control: &mut Control, nvm: &mut N) -> Result<Done, NvmError>
+        requires way { control.old.under_way ≡ true }
+        requires done { IsDone control.old }
+        requires up { (N.device nvm.old).down ≡ false }
+        ensures answer { IfOk result (λ done. done.step ≡ answer self.now.epoch ConfirmItem) }
+        ensures next { IfOk result (λ done. done.next ≡ next_after self.now.p ConfirmItem) }
+        ensures control { OnOk result (control.new ≡ state_after ConfirmItem control.old (N.device nvm.old)) }
+        ensures device { OnOk result (N.device nvm.new ≡ device_after self.now ConfirmItem control.old (N.device nvm.old)) }
+        ensures kept { OnErr result (control.new ≡ control.old) }
+        ensures err { OnErr result (FailsItem self.now ConfirmItem control.old (N.device nvm.old) (N.device nvm.new)) }
+        ensures frame { IsFramed (N.device nvm.old) (N.device nvm.new) }
+        ensures cause { CountsFault result (N.device nvm.old).faults (N.device nvm.new).faults }
+    {
+        nvm.barrier()?;
+        control.tables();
+        control.commit();
+        Ok(Done {
+            step: EngineStep::Committed(self.epoch),
+            next: Next::Nothing,
+        })
+    }
+}
