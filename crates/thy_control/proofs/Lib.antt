@@ -31,3 +31,5 @@ pub mod StepMarkLemmas
 pub mod IdleLemmas
 pub mod FreesLemmas
 pub mod TableBlockLemmas
+pub mod BootLemmas
+pub mod FrameLemmas

@@ -21,7 +21,7 @@ use Rattle.thy_control.specs.State.{AreSoundTables, cell_of, new_state}
 use Rattle.thy_control.proofs.FindLemmas.{entry_for-none}
 
 module _ {E : Type 0} (key : E → ℕ) (size numbers : ℕ) where
-  entry_at-empty : (i : ℕ) → entry_at (empty_table {E = E} size numbers) i ≡ None
+  pub entry_at-empty : (i : ℕ) → entry_at (empty_table {E = E} size numbers) i ≡ None
   entry_at-empty i = grind (arith, common_steps)
 
   pub IsListing-empty : IsListing key (empty_table size numbers)

@@ -11,6 +11,7 @@ ghost use Rattle.thy_control.specs.Keys.{block_key, page_key};
 ghost use Rattle.thy_cell.specs.Store.{put_by};
 ghost use Rattle.thy_control.specs.Tables.{btt_with, btt_after, ptt_after, counts_after, answer_of};
 
+mod boot;
 mod copying;
 mod merging;
 mod moving;
