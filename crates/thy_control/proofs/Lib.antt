@@ -29,7 +29,6 @@ pub mod StepStayLemmas
 pub mod IssueLemmas
 pub mod StepMarkLemmas
 pub mod IdleLemmas
-pub mod FreesLemmas
 pub mod TableBlockLemmas
 pub mod BootLemmas
 pub mod FrameLemmas

@@ -20,6 +20,5 @@ pub mod Drains
 pub mod Copies
 pub mod Merges
 pub mod Pages
-pub mod Frees
 pub mod TableBlocks
 pub mod Boot

@@ -16,8 +16,8 @@ mod copying;
 mod merging;
 mod moving;
 mod queue;
-mod writing;
 mod tables;
+mod writing;
 
 use crate::overlay::Marks;
 use crate::seal::{CommitBlocks, CommitPages, seal_blocks, seal_pages};

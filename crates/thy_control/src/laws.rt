@@ -57,15 +57,21 @@ pub fn a_seal_makes_cells()
 /// After a commit each block has the entries that the commit makes of its own.
 pub fn a_commit_makes_cells()
     ensures { CommitMakesCells }
+{}
+
 /// A new controller is as a boot has it, and so is one of which a write landed; both checkpoints have the same tables then.
 pub fn a_new_controller_boots()
     ensures new { NewIsBooting }
     ensures drained { DrainKeepsBooting }
     ensures tables { BootHasTables }
+{}
+
 /// A block or a page may be listed where its entry is empty, and with it the tables are those that a checkpoint may have.
 pub fn tables_allow_listing()
     ensures block { TablesMayListBlock }
     ensures page { TablesMayListPage }
+{}
+
 /// Once the frames of all listed pages are loaded, the places of every block hold what they have to.
 pub fn loaded_frames_hold_all()
     ensures { FramedHoldsAll }

@@ -10,10 +10,8 @@ mod store;
 
 pub use control::Control;
 pub use laws::{
-    a_commit_makes_cells, a_new_controller_is_ready, a_seal_makes_cells,
+    a_commit_makes_cells, a_new_controller_boots, a_new_controller_is_ready, a_seal_makes_cells,
     a_seal_without_work_frees_entries, blocks_are_works, checkpoints_have_tables,
-    one_action_is_one_of_the_nvm, what_stays_does_so_over_calls,
-    a_new_controller_boots, a_new_controller_is_ready, a_seal_without_work_frees_entries,
-    blocks_are_works, checkpoints_have_tables, loaded_frames_hold_all,
-    one_action_is_one_of_the_nvm, tables_allow_listing, what_stays_does_so_over_calls,
+    loaded_frames_hold_all, one_action_is_one_of_the_nvm, tables_allow_listing,
+    what_stays_does_so_over_calls,
 };

@@ -31,7 +31,7 @@ pub use laws::{
     written_decodes,
 };
 pub use restored::state;
-pub use slot::slot_fault;
+pub use slot::{cpu_in, listed_block, listed_page, slot_fault};
 pub use start::Start;
 pub use tables::{table_block, table_entry};
 pub use words::{block_with, word};

@@ -3,11 +3,12 @@ ghost use Rattle.std.specs.Prelude.{◌≡◌, ◌*◌, ◌/◌, ◌<◌, ◌≤
 ghost use Rattle.thy_base.specs.Places.{slot_blocks};
 ghost use Rattle.thy_record.specs.Cpu.{record_word, cpu_of_record};
 ghost use Rattle.thy_record.specs.Files.{block_in as block_of_bytes, blocks_of, table_in};
+ghost use Rattle.thy_record.specs.Tables.{entry_at};
 ghost use Rattle.thy_record.specs.Slots.{tables_in, status_fault as fault_of_status, slot_fault as fault_of_slot};
 
 use crate::cpu::{cpu_state, is_status};
 use crate::image::BadImage;
-use crate::table_faults::tables_fault;
+use crate::table_faults::{entry, tables_fault};
 use byteorder::{ByteOrder, LittleEndian};
 use thy_base::{BLOCK_SIZE, Block, Geometry};
 use thy_isa::CpuState;
@@ -33,8 +34,8 @@ fn word_in(slot: &[u8], i: usize) -> u64
     LittleEndian::read_u64(&slot[8 * i..])
 }
 
-// The processor's state in a slot.
-pub(crate) fn cpu_in(slot: &[u8]) -> CpuState
+/// The processor's state in the bytes of a slot. A status whose tag is over 1 reads as a trap.
+pub fn cpu_in(slot: &[u8]) -> CpuState
     requires { 5 ≤ length slot.now / 64 }
     ensures { result ≡ cpu_of_record (blocks_of slot.now) }
 {
@@ -64,6 +65,24 @@ pub(crate) fn ptt_in<'a>(slot: &'a [u8], geometry: &Geometry) -> &'a [u8]
     let p = geometry.numbers();
     let first = RECORD_SIZE + 8 * p.btt as usize;
     &slot[first..first + 8 * p.ptt as usize]
+}
+
+/// The block that entry `i` of the block table in these bytes of a slot lists; none where the entry is empty.
+pub fn listed_block(slot: &[u8], i: usize, geometry: &Geometry) -> Option<u64>
+    requires slot { length slot.now ≡ 64 * slot_blocks geometry.now }
+    requires entry { i < geometry.now.btt }
+    ensures { result ≡ entry_at (tables_in geometry.now (blocks_of slot.now)).btt i }
+{
+    entry(btt_in(slot, geometry), i)
+}
+
+/// The page that entry `j` of the page table there lists; none where the entry is empty.
+pub fn listed_page(slot: &[u8], j: usize, geometry: &Geometry) -> Option<u64>
+    requires slot { length slot.now ≡ 64 * slot_blocks geometry.now }
+    requires entry { j < geometry.now.ptt }
+    ensures { result ≡ entry_at (tables_in geometry.now (blocks_of slot.now)).ptt j }
+{
+    entry(ptt_in(slot, geometry), j)
 }
 
 // A status or a count without meaning, or a console longer than its pages.

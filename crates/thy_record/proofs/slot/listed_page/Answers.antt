@@ -1,0 +1,10 @@
+use Rattle.std.proofs.Common.{arith, ap, length, ◌+◌}
+use Rattle.thy_record.specs.Files.{blocks_of}
+use Rattle.thy_record.proofs.ClashLemmas.{length-table_in}
+use Rattle.thy_record.proofs.SlotLemmas.{length-entries_in}
+use Rattle.thy_record.proofs.slot.listed_page.Goals as goal
+
+pub entry-requires : goal.entry-requires
+entry-requires c =
+    let p = c.args.geometry.now in
+    omega (arith, length-table_in c.ptt_in.result.now, length-entries_in (blocks_of c.args.slot.now) (40 + p.btt) p.ptt, ap length c.ptt_in.ensures, c.requires.entry)
