@@ -34,11 +34,15 @@ rule_for (Flag name) = flag_rule name.now
 abbrev pub with_argument : App → Argument → App
 with_argument a x = with_rule a (rule_for x)
 
+-- a command with one more option
+abbrev pub with_option : App → Text → App
+with_option a name = with_rule a (option_rule name)
+
 -- a command: it takes FILE, an option for each of these fields and for the input's name, and the flag for digests
 abbrev pub command_of : Text → List Field → App
 command_of name fs =
     let operand = with_rule (new_app name) (operand_rule (codes "FILE")) in
-    let options = fold (λ a option. with_rule a (option_rule option)) operand (map field_name fs ++ codes "input" ∷ []) in
+    let options = fold with_option operand (map field_name fs ++ codes "input" ∷ []) in
     with_rule options (flag_rule (codes "digest"))
 
 -- the program: one of its commands has to be named, and no word asks for help
@@ -55,7 +59,8 @@ bare = record {
 -- with its commands: `plain` takes of the fields only those of memory and the limit
 abbrev pub program : App
 program =
-    with_subcommand (with_subcommand bare (command_of (codes "run") fields).top) (command_of (codes "plain") plain_fields).top
+    with_subcommand (with_subcommand bare (command_of (codes "run") fields).top)
+    (command_of (codes "plain") plain_fields).top
 
 -- the argument has this rule, and is its command's alone
 pub record IsArg (a : Arg) (r : Rule) : Type 0 where
