@@ -32,3 +32,4 @@ pub mod IdleLemmas
 pub mod TableBlockLemmas
 pub mod BootLemmas
 pub mod FrameLemmas
+pub mod FillLemmas

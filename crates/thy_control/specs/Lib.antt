@@ -22,3 +22,4 @@ pub mod Merges
 pub mod Pages
 pub mod TableBlocks
 pub mod Boot
+pub mod Promotions

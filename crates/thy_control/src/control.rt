@@ -15,6 +15,7 @@ mod boot;
 mod copying;
 mod merging;
 mod moving;
+mod promoting;
 mod queue;
 mod tables;
 mod writing;

@@ -1,7 +1,7 @@
 //! The move of a block from one place to another.
-ghost use Rattle.std.specs.Prelude.{◌≡◌, false, OnOk, OnErr};
-ghost use Rattle.thy_base.specs.Device.{IsFramed, CountsFault};
-ghost use Rattle.thy_base.specs.Places.{IsPlace};
+ghost use Rattle.std.specs.Prelude.{◌≡◌, true, false, OnOk, OnErr};
+ghost use Rattle.thy_base.specs.Device.{HasFailed, IsFramed, CountsFault};
+ghost use Rattle.thy_base.specs.Places.{in_dram, IsPlace};
 ghost use Rattle.thy_place.specs.Devices.{AreSized, devices_of};
 ghost use Rattle.thy_control.specs.Moves.{moved, FailsMove};
 
@@ -31,4 +31,30 @@ pub(super) fn move_block<N: Nvm>(
 {
     let block = read_place(from, geometry, nvm, dram)?;
     write_place(to, &block, geometry, nvm, dram)
+}
+
+/// Reads the block at a place, and writes it at one of the DRAM. Only the read can fail; then the DRAM is as before.
+pub(super) fn move_to_dram<N: Nvm>(
+    from: Place,
+    to: Place,
+    geometry: &Geometry,
+    nvm: &mut N,
+    dram: &mut Dram,
+) -> Result<(), NvmError>
+    requires from { IsPlace geometry.now from }
+    requires to { IsPlace geometry.now to }
+    requires target { in_dram to ≡ true }
+    requires sized { AreSized geometry.now (devices_of (N.device nvm.old) dram.old) }
+    ensures ok { let old = devices_of (N.device nvm.old) dram.old in
+        OnOk result (devices_of (N.device nvm.new) dram.new ≡ moved geometry.now from to old) }
+    ensures same { OnOk result (N.device nvm.new ≡ N.device nvm.old) }
+    ensures err { OnErr result (HasFailed (N.device nvm.old) (N.device nvm.new)) }
+    ensures side { OnErr result (in_dram from ≡ false) }
+    ensures dram { OnErr result (dram.new ≡ dram.old) }
+    ensures frame { IsFramed (N.device nvm.old) (N.device nvm.new) }
+    ensures cause { CountsFault result (N.device nvm.old).faults (N.device nvm.new).faults }
+{
+    let block = read_place(from, geometry, nvm, dram)?;
+    dram.write(geometry.number(to), &block);
+    Ok(())
 }

@@ -1,0 +1,431 @@
+-- The copy of a promoted page's next block into its frame: every block after it, and the tables.
+use Rattle.thy_control.specs.Seal.{block_is_framed}
+use Rattle.thy_control.specs.Overlay.{is_buffered, is_overlaid, overlaid, AreMarks}
+use Rattle.thy_control.specs.declared.overlay.Marks.{Marks}
+use Rattle.thy_tables.specs.BlockEntry.{new_entry}
+use Rattle.thy_tables.specs.declared.block_entry.BttEntry.{BttEntry}
+use Rattle.std.specs.List.{count_by}
+use Rattle.std.proofs.Common.{length, ◌≡◌, ◌≢◌, ℕ, ◌+◌, ◌-◌, ◌*◌, ◌<◌, ◌≤◌, ◌%◌, ◌==◌, ◌&&◌, not, if◌then◌else◌, Bool, true, false, List, get_or, refl, sym, ◌∙◌, ap, subst, inl, inr, arith, Option, Some, None, Result, Ok, Err, OnOk, OnErr, [], ◌∷◌, suc}
+use Rattle.std.proofs.lemmas.Bool.{cases_eq, and_parts, eqb-true}
+use Rattle.std.proofs.lemmas.List.{length-set}
+use Rattle.std.proofs.lemmas.List.Sums.{sum_by-set, sum_by-cons, get_or-le-sum_by}
+use Rattle.thy_base.specs.declared.block.Block.{Block}
+use Rattle.thy_base.specs.declared.place.Place.{Place}
+use Rattle.thy_base.specs.declared.nvm.NvmError.{NvmError}
+use Rattle.thy_base.specs.Device.{Device, IsFramed, zero_block, HasFailed}
+use Rattle.thy_base.specs.Geometry.{memory_blocks}
+use Rattle.thy_base.specs.Places.{IsPlace, number_of}
+use Rattle.thy_base.specs.Store.{page_of}
+use Rattle.thy_place.specs.Devices.{Devices, devices_of}
+use Rattle.thy_place.proofs.PlaceLemmas.{AreSized-written_at}
+use Rattle.thy_table.specs.Listing.{Listing, IsListing, entry_at, lists, passes, next_from, place_of, with_entry}
+use Rattle.thy_table.proofs.IndexLemmas.{lists-key, one_if}
+use Rattle.thy_table.proofs.FirstLemmas.{first_from-first, none-first_from}
+use Rattle.thy_tables.specs.declared.block_entry.Working.{Working}
+use Rattle.thy_tables.specs.declared.block_entry.Working.TheVariants.{NoWork}
+use Rattle.thy_tables.specs.declared.page_entry.PttEntry.{PttEntry}
+use Rattle.thy_tables.specs.PageEntry.{no_page, is_framed, page_blocks}
+use Rattle.thy_cell.specs.declared.cell.Cell.{Cell}
+use Rattle.thy_cell.specs.Cells.{seat_of, frame_at, penult, target, last, work}
+use Rattle.thy_cell.specs.Sound.{IsSoundCell, IsWithin, Holds, Puts}
+use Rattle.thy_cell.specs.Checkpoint.{with_filled}
+use Rattle.thy_cell.specs.Steps.{PromotionKeeps, PromotionKeepsOthers, Keeps, ReadsSame}
+use Rattle.thy_control.specs.CheckpointTables.{tables0, tables1, page_lists}
+use Rattle.thy_control.specs.Find.{entry_for}
+use Rattle.thy_control.specs.Keys.{page_key, block_key}
+use Rattle.thy_control.specs.Moves.{moved}
+use Rattle.thy_control.specs.OverCalls.{cell_same}
+use Rattle.thy_control.specs.State.{State, AreSoundTables, IsSized, cell_of, reads}
+use Rattle.thy_control.specs.Stays.{CellStays, HoldAll, Stays}
+use Rattle.thy_control.specs.Versions.{KeepsCheckpoints}
+use Rattle.thy_control.specs.Pages.{block_after}
+use Rattle.thy_control.specs.Holding.{is_promoted, promoted}
+use Rattle.thy_control.specs.Promotions.{next_promotion, fills_left, unfilled, block_to_fill, devices_filled, block_filled, after_promotion, HoldsWork}
+use Rattle.thy_control.proofs.FindLemmas.{found_entry, entry_for-some}
+use Rattle.thy_control.proofs.CellLemmas.{block-cell_of, IsWithin-cell_of}
+use Rattle.thy_control.proofs.OwnLemmas.{owner, Owns-cell_of}
+use Rattle.thy_control.proofs.PageLemmas.{cell-page, same_page, live-set, cell-page_other}
+use Rattle.thy_control.proofs.HoldLemmas.{IsPlace-frame_of}
+use Rattle.thy_control.proofs.IssueLemmas.{two_in_page}
+use Rattle.thy_control.proofs.StateLemmas.{place_of-index}
+use Rattle.thy_control.proofs.StayLemmas.{map-page}
+use Rattle.thy_control.proofs.StepLemmas.{Untouched, Keeps-untouched, ReadsSame-of, reads_after, puts, untouched, moved-is, none-passes}
+use Rattle.thy_control.proofs.StepStayLemmas.{StaysTables, LeavesGuarded-step, Stays-step, Stays-failed_step, penult-in_nvm, target-in_nvm}
+
+abbrev page_filled : PttEntry → PttEntry
+page_filled e = record e { filled = e.filled + 1 }
+
+no_both : {x : Bool} → x ≡ true → x ≡ false → ⊥
+no_both e f = cc
+
+module _ (b : ℕ) (s : State) (fresh : (cell_of s b).page.fresh ≡ true) where
+  pub has_page : (cell_of s b).page ≢ no_page (page_of b)
+  has_page e = let no : (cell_of s b).page.fresh ≡ false = ap (λ (x : PttEntry). x.fresh) e in no_both fresh no
+
+  pub listed-fresh : place_of page_key (page_of b) s.ptt ≡ Some (cell_of s b).j
+  listed-fresh = place_of-index page_key no_page s.ptt (page_of b) has_page
+
+  fresh-same : (k : ℕ) → page_of k ≡ page_of b → (cell_of s k).page.fresh ≡ true
+  fresh-same k q = ap (λ (x : PttEntry). x.fresh) (same_page s k b q) ∙ fresh
+
+  has_page-same : (k : ℕ) → page_of k ≡ page_of b → (cell_of s k).page ≢ no_page (page_of k)
+  has_page-same k q e = let no : (cell_of s k).page.fresh ≡ false = ap (λ (x : PttEntry). x.fresh) e in no_both (fresh-same k q) no
+
+  module _ (m : Device) where
+    -- every block is as it was, but for those of the page
+    pub cell-filled : (P : Cell → Cell → Type 0) (k : ℕ) → (page_of k ≡ page_of b → P (cell_of s k) (with_filled (cell_of s k)))
+        → (page_of k ≢ page_of b → P (cell_of s k) (cell_of s k)) → P (cell_of s k) (cell_of (block_filled b s m) k)
+    unfolding block_filled
+    cell-filled P k here others = cell-page page_filled (λ e. refl) s b listed-fresh P k here others
+
+    module _ (t : AreSoundTables s) (sized : IsSized s m) (l : b < memory_blocks s.p) (due : (cell_of s b).page.filled ≡ b % 64) (law : PromotionKeeps) (other : PromotionKeepsOthers) where
+      within : IsWithin s.p (seat_of (cell_of s b))
+      within = IsWithin-cell_of s b t l
+
+      less : (cell_of s b).page.filled < 64
+      less = omega (arith, due)
+
+      due_b : (cell_of s b).page.filled ≡ (cell_of s b).entry.block % 64
+      due_b = due ∙ ap (λ (n : ℕ). n % 64) (sym (block-cell_of s b))
+
+      less-same : (k : ℕ) → page_of k ≡ page_of b → (cell_of s k).page.filled < 64
+      less-same k q = omega (arith, less, ap (λ (x : PttEntry). x.filled) (same_page s k b q))
+
+      not_due : (k : ℕ) → page_of k ≡ page_of b → k ≢ b → (cell_of s k).page.filled ≢ (cell_of s k).entry.block % 64
+      not_due k q ne e =
+          let numbers : k % 64 ≢ b % 64 = two_in_page k b q ne in
+          numbers (ap (λ (n : ℕ). n % 64) (sym (block-cell_of s k)) ∙ sym e ∙ ap (λ (x : PttEntry). x.filled) (same_page s k b q) ∙ due)
+
+      -- the block itself
+      here : (old new : Place → Block) → Puts s.p (frame_at (seat_of (cell_of s b))) (old (work (cell_of s b))) old new → Keeps s.under_way old new (cell_of s b) (with_filled (cell_of s b))
+      here old new put = law s.p s.under_way (cell_of s b) old new within (t.cells b l) fresh due_b less put
+
+      -- and the others of its page
+      there : (old new : Place → Block) (k : ℕ) → k < memory_blocks s.p → page_of k ≡ page_of b → k ≢ b → ReadsSame old new (cell_of s k) → Holds old (cell_of s k)
+          → Keeps s.under_way old new (cell_of s k) (with_filled (cell_of s k))
+      there old new k h q ne same hold =
+          other s.under_way (cell_of s k) old new (t.cells k h) (fresh-same k q) (not_due k q ne) (less-same k q) (omega arith) same hold
+
+      -- the entries stay sound, whatever is read
+      sound-filled : (k : ℕ) → k < memory_blocks s.p → IsSoundCell s.under_way (cell_of (block_filled b s m) k)
+      sound-filled k h =
+          let all : Place → Block = λ x. zero_block in
+          cell-filled (λ c d. IsSoundCell s.under_way d) k
+          (λ q. elim (cases_eq k b) as (λ _. IsSoundCell s.under_way (with_filled (cell_of s k))) [
+            | inl e ↦ subst (λ (j : ℕ). IsSoundCell s.under_way (with_filled (cell_of s j))) (sym e) (here all all (record { here = refl; others = λ x is ne. refl })).sound
+            | inr ne ↦ (there all all k h q ne (record { penult_same = refl; target_same = refl; last_same = refl; work_same = refl; frame_same = refl })
+                (record { clean = λ f d e. refl; copied = λ j f. refl; issued = λ f j. refl })).sound
+          ])
+          (λ o. t.cells k h)
+
+      pub AreSoundTables-filled : IsListing page_key (block_filled b s m).ptt → AreSoundTables (block_filled b s m)
+      unfolding block_filled devices_filled
+      AreSoundTables-filled once =
+          let found = found_entry page_key no_page s.ptt (page_of b) (cell_of s b).j listed-fresh in
+          let sizes = AreSized-written_at s.p (devices_of m s.dram) (frame_at (seat_of (cell_of s b))) (reads s m (work (cell_of s b))) (record { nvm = sized.nvm; dram = t.dram_size }) in
+          record {
+            range = t.range;
+            btt_size = t.btt_size;
+            btt_numbers = t.btt_numbers;
+            btt_once = t.btt_once;
+            ptt_size = length-set s.ptt.entries (cell_of s b).j (Some (page_filled (cell_of s b).page)) ∙ t.ptt_size;
+            ptt_numbers = t.ptt_numbers;
+            ptt_once = once;
+            live_pages = live-set s.ptt (cell_of s b).j (page_filled (cell_of s b).page) found.3 (λ bare. fresh) t.live_pages;
+            counts_size = t.counts_size;
+            counts_high = t.counts_high;
+            counts_low = t.counts_low;
+            dram_size = sizes.dram;
+            cells = sound-filled;
+          }
+
+module _ (law : PromotionKeeps) (other : PromotionKeepsOthers) (b : ℕ) (s : State) (fresh : (cell_of s b).page.fresh ≡ true) (m : Device)
+    (t : AreSoundTables s) (sized : IsSized s m) (l : b < memory_blocks s.p) (due : (cell_of s b).page.filled ≡ b % 64) where
+  there_is : IsPlace s.p (frame_at (seat_of (cell_of s b)))
+  there_is = IsPlace-frame_of s b t l
+
+  owns : owner s (frame_at (seat_of (cell_of s b))) ≡ Some b
+  owns = (Owns-cell_of s b).of_page (has_page b s fresh)
+
+  abbrev v : Block
+  v = reads s m (work (cell_of s b))
+
+  abbrev new : Place → Block
+  new = reads_after s m b (frame_at (seat_of (cell_of s b))) v t sized there_is owns
+
+  here_now : Keeps s.under_way (reads s m) new (cell_of s b) (with_filled (cell_of s b))
+  here_now = here b s fresh m t sized l due law other (reads s m) new (puts s m b (frame_at (seat_of (cell_of s b))) v t sized there_is owns)
+
+  left_as : (k : ℕ) → k < memory_blocks s.p → k ≢ b → Untouched (reads s m) new k (cell_of s k)
+  left_as k h ne = untouched s m b (frame_at (seat_of (cell_of s b))) v t sized there_is owns k h ne
+
+  -- where the places hold what they have to, every block is kept
+  pub Keeps-filled : (k : ℕ) → k < memory_blocks s.p → Holds (reads s m) (cell_of s k)
+      → Keeps s.under_way (reads s m) (reads (block_filled b s m) m) (cell_of s k) (cell_of (block_filled b s m) k)
+  unfolding block_filled devices_filled
+  Keeps-filled k h hold = cell-filled b s fresh m (λ c d. Keeps s.under_way (reads s m) new c d) k
+      (λ q. elim (cases_eq k b) as (λ _. Keeps s.under_way (reads s m) new (cell_of s k) (with_filled (cell_of s k))) [
+        | inl e ↦ subst (λ (j : ℕ). Keeps s.under_way (reads s m) new (cell_of s j) (with_filled (cell_of s j))) (sym e) here_now
+        | inr ne ↦ there b s fresh m t sized l due law other (reads s m) new k h q ne
+            (ReadsSame-of (reads s m) new k (cell_of s k) (left_as k h ne) (has_page-same b s fresh k q)) hold
+      ])
+      (λ o. Keeps-untouched s.under_way (reads s m) new k (cell_of s k) (t.cells k h) (left_as k h (λ e. o (ap page_of e))))
+
+  -- in any case both checkpoints have every block as before
+  pub checkpoints-filled : KeepsCheckpoints s m (block_filled b s m) m
+  unfolding block_filled devices_filled
+  checkpoints-filled = record {
+    penult_same = λ k h. cell-filled b s fresh m (λ c d. new (penult d) ≡ reads s m (penult c)) k
+        (λ q. elim (cases_eq k b) as (λ _. new (penult (with_filled (cell_of s k))) ≡ reads s m (penult (cell_of s k))) [
+          | inl e ↦ subst (λ (j : ℕ). new (penult (with_filled (cell_of s j))) ≡ reads s m (penult (cell_of s j))) (sym e) here_now.reads.penult_same
+          | inr ne ↦ (left_as k h ne).penult_same
+        ])
+        (λ o. (left_as k h (λ e. o (ap page_of e))).penult_same);
+    last_same = λ k h. cell-filled b s fresh m (λ c d. new (last d) ≡ reads s m (last c)) k
+        (λ q. elim (cases_eq k b) as (λ _. new (last (with_filled (cell_of s k))) ≡ reads s m (last (cell_of s k))) [
+          | inl e ↦ subst (λ (j : ℕ). new (last (with_filled (cell_of s j))) ≡ reads s m (last (cell_of s j))) (sym e) here_now.reads.last_same
+          | inr ne ↦ (left_as k h ne).last_same
+        ])
+        (λ o. (left_as k h (λ e. o (ap page_of e))).last_same);
+  }
+
+  pub held-filled : HoldAll s m → HoldsWork s m (block_filled b s m) m
+  unfolding block_filled
+  held-filled hold = record {
+    holds = λ k h. (Keeps-filled k h (hold k h)).holds (hold k h);
+    work = record { work_same = λ k h. (Keeps-filled k h (hold k h)).reads.work_gives };
+  }
+
+-- one block less is left
+fill_one : (fresh : Bool) (i : ℕ) → fresh ≡ true → i < 64 → (if not (i + 1 == page_blocks) && fresh then page_blocks - (i + 1) else 0) + 1 ≡ page_blocks - i
+fill_one false i f l = cc
+fill_one true i f l = by_test (i + 1 == page_blocks) refl where
+  by_test : (x : Bool) → (i + 1 == page_blocks) ≡ x → (if not x && true then page_blocks - (i + 1) else 0) + 1 ≡ page_blocks - i
+  by_test true e = let full : i + 1 ≡ page_blocks = eqb-true (i + 1) page_blocks e in omega (arith, full)
+  by_test false e = omega arith
+
+-- with the last the page is promoted
+one_or : (framed fresh : Bool) → fresh ≡ true → one_if (not framed && fresh) + (if framed then 1 else 0) ≡ 1
+one_or framed false f = cc
+one_or true true f = refl
+one_or false true f = refl
+
+promoted-yes : (framed fresh : Bool) → framed ≡ false → fresh ≡ true → (not framed && fresh) ≡ true
+promoted-yes true fresh f g = cc
+promoted-yes false fresh f g = g
+
+module _ (b : ℕ) (s : State) (fresh : (cell_of s b).page.fresh ≡ true) (bare : is_framed (cell_of s b).page ≡ false) where
+  is_now : is_promoted (cell_of s b).page ≡ true
+  is_now = promoted-yes (is_framed (cell_of s b).page) (cell_of s b).page.fresh bare fresh
+
+  found : (e : PttEntry) × (entry_at s.ptt (cell_of s b).j ≡ Some e) × (e.page ≡ page_of b) × ((cell_of s b).j < length s.ptt.entries)
+  found = found_entry page_key no_page s.ptt (page_of b) (cell_of s b).j (listed-fresh b s fresh)
+
+  is_found : entry_at s.ptt (cell_of s b).j ≡ Some (cell_of s b).page
+  is_found = found.1 ∙ sym (ap Some (entry_for-some page_key no_page s.ptt (page_of b) (cell_of s b).j found.0 (listed-fresh b s fresh) found.1))
+
+  pub some-promoted : 0 < promoted s.ptt
+  some-promoted =
+      let one = get_or-le-sum_by (λ (o : Option PttEntry). one_if (passes is_promoted o)) s.ptt.entries (cell_of s b).j None found.3 in
+      let passes_now : passes is_promoted (entry_at s.ptt (cell_of s b).j) ≡ true = ap (passes is_promoted) is_found ∙ is_now in
+      omega (arith, one, ap one_if passes_now)
+
+  module _ (m : Device) (less : (cell_of s b).page.filled < 64) where
+    pub unfilled-filled : unfilled (block_filled b s m) + 1 ≡ unfilled s
+    unfolding block_filled
+    unfilled-filled =
+        let c : Cell = cell_of s b in
+        let was : fills_left (entry_at s.ptt c.j) ≡ page_blocks - c.page.filled
+        = ap fills_left is_found ∙ ap (λ (x : Bool). if x then page_blocks - c.page.filled else 0) is_now in
+        omega (arith, sum_by-set fills_left s.ptt.entries c.j (Some (page_filled c.page)) None found.3, was, fill_one c.page.fresh c.page.filled fresh less)
+
+    pub promoted-filled : promoted (block_filled b s m).ptt + (if is_framed (page_filled (cell_of s b).page) then 1 else 0) ≡ promoted s.ptt
+    unfolding block_filled
+    promoted-filled =
+        let c : Cell = cell_of s b in
+        let passes_now : passes is_promoted (entry_at s.ptt c.j) ≡ true = ap (passes is_promoted) is_found ∙ is_now in
+        omega (
+          arith,
+          sum_by-set (λ (o : Option PttEntry). one_if (passes is_promoted o)) s.ptt.entries c.j (Some (page_filled c.page)) None found.3,
+          ap one_if passes_now,
+          one_or (is_framed (page_filled c.page)) c.page.fresh fresh,
+        )
+
+-- lists whose elements pass alike count alike
+count-same_at : {X : Type 0} (p q : X → Bool) (d : X) (xs : List X) → ((k : ℕ) → k < length xs → p (get_or xs k d) ≡ q (get_or xs k d)) → count_by p xs ≡ count_by q xs
+count-same_at p q d [] h = refl
+count-same_at p q d (x ∷ xs) h =
+    omega (
+      arith,
+      sum_by-cons (λ y. one_if (p y)) x xs,
+      sum_by-cons (λ y. one_if (q y)) x xs,
+      ap one_if (h 0 (omega arith)),
+      count-same_at p q d xs (λ k l. h (suc k) (omega (arith, l))),
+    )
+
+-- no block of a page in promotion has work: none lies over its frame, before and after
+module _ (b : ℕ) (s : State) (fresh : (cell_of s b).page.fresh ≡ true) (m : Device) (t : AreSoundTables s) where
+  framed_other : (k : ℕ) → page_of k ≢ page_of b → block_is_framed (block_filled b s m).ptt k ≡ block_is_framed s.ptt k
+  unfolding block_filled
+  framed_other k o = ap (λ (c : Cell). is_framed c.page) (cell-page_other page_filled (λ e. refl) s b (listed-fresh b s fresh) k o)
+
+  pub overlaid-filled : overlaid (block_filled b s m).ptt s.btt ≡ overlaid s.ptt s.btt
+  overlaid-filled = count-same_at (passes (is_overlaid (block_filled b s m).ptt)) (passes (is_overlaid s.ptt)) None s.btt.entries (λ i l. by_entry i (entry_at s.btt i) refl) where
+    by_entry : (i : ℕ) (o : Option BttEntry) → entry_at s.btt i ≡ o → passes (is_overlaid (block_filled b s m).ptt) o ≡ passes (is_overlaid s.ptt) o
+    by_entry i None e = refl
+    by_entry i (Some x) e = elim (cases_eq (page_of x.block) (page_of b)) as (λ _. is_overlaid (block_filled b s m).ptt x ≡ is_overlaid s.ptt x) [
+      | inl q ↦
+          let here : lists block_key x.block (entry_at s.btt i) ≡ true = lists-key block_key x.block (entry_at s.btt i) x e refl in
+          let place : place_of block_key x.block s.btt ≡ Some i = t.btt_once.found i x.block here in
+          let entry : entry_for block_key new_entry x.block s.btt ≡ x = entry_for-some block_key new_entry s.btt x.block i x place e in
+          let inside : x.block < memory_blocks s.p = omega (arith, t.btt_once.inside i x.block here, t.btt_numbers) in
+          let idle : x.work ≡ NoWork = sym (ap (λ (y : BttEntry). y.work) entry) ∙ (t.cells x.block inside).fresh_idle (fresh-same b s fresh x.block q) in
+          ap (λ (w : Working). is_buffered w && block_is_framed (block_filled b s m).ptt x.block) idle
+          ∙ sym (ap (λ (w : Working). is_buffered w && block_is_framed s.ptt x.block) idle)
+      | inr o ↦ ap (λ (f : Bool). is_buffered x.work && f) (framed_other x.block o)
+    ]
+
+  pub AreMarks-filled : (k now : Marks) → is_framed (cell_of s b).page ≡ false → (cell_of s b).page.filled < 64 → AreMarks s.ptt s.btt k → now.overlaid ≡ k.overlaid
+      → now.promoted + (if is_framed (page_filled (cell_of s b).page) then 1 else 0) ≡ k.promoted → AreMarks (block_filled b s m).ptt s.btt now
+  AreMarks-filled k now bare less marks same_overlaid fewer = record {
+    overlaid_is = same_overlaid ∙ marks.overlaid_is ∙ sym overlaid-filled;
+    promoted_is = omega (arith, fewer, marks.promoted_is, promoted-filled b s fresh bare m less);
+  }
+
+-- what is known of the next block
+pub record IsFill (s : State) (b : ℕ) : Type 0 where
+  pub inside : b < memory_blocks s.p
+  pub fresh : (cell_of s b).page.fresh ≡ true
+  pub bare : is_framed (cell_of s b).page ≡ false
+  pub due : (cell_of s b).page.filled ≡ b % 64
+
+is_not : (x : Bool) → not x ≡ true → x ≡ false
+is_not false e = refl
+is_not true e = cc
+
+pub IsFill-entry : (s : State) → AreSoundTables s → (j : ℕ) → next_promotion s ≡ Some j → IsFill s (block_to_fill j s)
+IsFill-entry s t j h = by_entry (entry_at s.ptt j) refl (first_from-first (passes is_promoted) None s.ptt.entries 0 j h).here where
+  by_entry : (o : Option PttEntry) → entry_at s.ptt j ≡ o → passes is_promoted o ≡ true → IsFill s (block_to_fill j s)
+  by_entry None e p = cc
+  by_entry (Some x) e p =
+      let both = and_parts (not (is_framed x)) x.fresh p in
+      let bare : is_framed x ≡ false = is_not (is_framed x) both.0 in
+      let here : lists page_key x.page (entry_at s.ptt j) ≡ true = lists-key page_key x.page (entry_at s.ptt j) x e refl in
+      let place : place_of page_key x.page s.ptt ≡ Some j = t.ptt_once.found j x.page here in
+      let entry : entry_for page_key no_page x.page s.ptt ≡ x = entry_for-some page_key no_page s.ptt x.page j x place e in
+      let page_inside : x.page < s.ptt.numbers = t.ptt_once.inside j x.page here in
+      let first : page_blocks * x.page < memory_blocks s.p = omega (arith, page_inside, t.ptt_numbers) in
+      let first_page : page_of (page_blocks * x.page) ≡ x.page = omega arith in
+      let of_first : (cell_of s (page_blocks * x.page)).page ≡ x = ap (λ (n : ℕ). entry_for page_key no_page n s.ptt) first_page ∙ entry in
+      let most : x.filled ≤ 64 = subst (λ (y : PttEntry). y.filled ≤ 64) of_first (t.cells (page_blocks * x.page) first).of_page.filled in
+      let not_full : x.filled ≢ 64 = λ q. no_both (ap (λ (n : ℕ). n == page_blocks) q) bare in
+      let few : x.filled < 64 = omega (arith, most, not_full) in
+      let b : ℕ = page_blocks * x.page + x.filled in
+      let page : page_of b ≡ x.page = omega (arith, few) in
+      let of_b : (cell_of s b).page ≡ x = ap (λ (n : ℕ). entry_for page_key no_page n s.ptt) page ∙ entry in
+      subst (λ (k : ℕ). IsFill s k) (sym (ap (block_after (λ e. e.filled)) e)) (record {
+        inside = omega (arith, few, page_inside, t.ptt_numbers);
+        fresh = ap (λ (y : PttEntry). y.fresh) of_b ∙ both.1;
+        bare = ap is_framed of_b ∙ bare;
+        due = ap (λ (y : PttEntry). y.filled) of_b ∙ omega (arith, few);
+      })
+
+-- a page in promotion moves no place of a checkpoint
+module _ (b : ℕ) (s : State) (fresh : (cell_of s b).page.fresh ≡ true) (m : Device) where
+  stays_tables : StaysTables s (block_filled b s m)
+  unfolding block_filled
+  stays_tables = record {
+    same_p = refl;
+    same_way = refl;
+    tables0_same = ap (λ (x : List (Option ℕ)). record (tables0 s) { ptt = x })
+        (map-page (λ e. page_lists e.place e.page) s b (page_filled (cell_of s b).page) (listed-fresh b s fresh) refl);
+    tables1_same = ap (λ (x : List (Option ℕ)). record (tables1 s) { ptt = x })
+        (map-page (λ e. page_lists e.target e.page) s b (page_filled (cell_of s b).page) (listed-fresh b s fresh) refl);
+    cells = λ k l. cell-filled b s fresh m CellStays k
+        (λ q. record { penult_same = refl; target_same = refl; settled = λ h. h; busy_before = λ h. h; issued = omega arith })
+        (λ o. cell_same (cell_of s k));
+  }
+
+  pub Stays-filled : (t : AreSoundTables s) → IsSized s m → b < memory_blocks s.p → (cell_of s b).page.filled ≡ b % 64 → PromotionKeeps → PromotionKeepsOthers
+      → Stays s m (block_filled b s m) m
+  Stays-filled t sized l due law other =
+      let y : Place = frame_at (seat_of (cell_of s b)) in
+      let checkpoints = checkpoints-filled law other b s fresh m t sized l due in
+      Stays-step s y zero_block m (block_filled b s m) sized stays_tables (λ d. d)
+      (record { blocks = refl; left = refl; picks = refl; queue_room = refl; left_room = refl; fits = refl })
+      (LeavesGuarded-step s y zero_block m m b t (IsPlace-frame_of s b t l) ((Owns-cell_of s b).of_page (has_page b s fresh))
+      (penult-in_nvm s b y refl) (λ q. target-in_nvm s b y refl) (inl refl))
+      checkpoints.penult_same
+      (λ hold. record { holds = (held-filled law other b s fresh m t sized l due hold).holds; last_same = checkpoints.last_same })
+
+-- what the copy of the next block leaves
+pub record FillsNext (s : State) (m : Device) (t : State) (n : Device) : Type 0 where
+  pub left : unfilled t + 1 ≡ unfilled s
+  pub checkpoints : KeepsCheckpoints s m t n
+  pub held : HoldAll s m → HoldsWork s m t n
+  pub stays : Stays s m t n
+
+pub FillsNext-promotion : PromotionKeeps → PromotionKeepsOthers → (s : State) (m : Device) → AreSoundTables s → IsSized s m → 0 < promoted s.ptt
+    → FillsNext s m (after_promotion (next_promotion s) s m) m
+FillsNext-promotion law other s m t sized some = by_next (next_promotion s) refl where
+  by_next : (o : Option ℕ) → next_promotion s ≡ o → FillsNext s m (after_promotion o s m) m
+  by_next None h =
+      let none : promoted s.ptt ≡ 0 = none-passes (passes is_promoted) s.ptt.entries None (λ k l. none-first_from (passes is_promoted) None s.ptt.entries 0 h k (omega arith) l) in
+      absurd (omega (arith, some, none))
+  by_next (Some j) h =
+      let b : ℕ = block_to_fill j s in
+      let f = IsFill-entry s t j h in
+      record {
+        left = unfilled-filled b s f.fresh f.bare m (omega (arith, f.due));
+        checkpoints = checkpoints-filled law other b s f.fresh m t sized f.inside f.due;
+        held = held-filled law other b s f.fresh m t sized f.inside f.due;
+        stays = Stays-filled b s f.fresh m t sized f.inside f.due law other;
+      }
+
+-- whichever way a call ended
+pub stays_by : PromotionKeeps → PromotionKeepsOthers → (s : State) (m : Device) (t : State) (n : Device) (r : Result (Unit {0}) NvmError) → AreSoundTables s → IsSized s m → 0 < promoted s.ptt
+    → OnOk r (t ≡ after_promotion (next_promotion s) s m) → OnOk r (n ≡ m) → OnErr r (t ≡ s) → OnErr r (HasFailed m n) → IsFramed m n → Stays s m t n
+stays_by law other s m t n (Ok x) tables sized some e f k g framed =
+    subst (λ (y : State). Stays s m y n) (sym e) (subst (λ (y : Device). Stays s m (after_promotion (next_promotion s) s m) y) (sym f)
+    (FillsNext-promotion law other s m tables sized some).stays)
+stays_by law other s m t n (Err x) tables sized some e f k g framed =
+    subst (λ (y : State). Stays s m y n) (sym k)
+    (Stays-failed_step s m n framed g.down (record {
+      low = λ y l. record { no_more = λ b h. g.no_more y b h };
+      old = λ b l. record { no_more = λ y h. g.no_more (number_of s.p (penult (cell_of s b))) y h };
+      next = λ b l q. record { no_more = λ y h. g.no_more (number_of s.p (target (cell_of s b))) y h };
+    }))
+
+-- the parts of the code's way: the state as its fields have it
+module _ (s w : State) (view : w ≡ s) where
+  pub next_is : (o : Option ℕ) (j : ℕ) → o ≡ next_from is_promoted 0 w.ptt → o ≡ Some j → next_promotion s ≡ Some j
+  next_is o j place is = sym (ap next_promotion view) ∙ sym place ∙ is
+
+  pub block_is : (b j : ℕ) (e : Option PttEntry) → b ≡ block_after (λ e. e.filled) e → e ≡ entry_at w.ptt j → b ≡ block_to_fill j s
+  block_is b j e is there = is ∙ ap (block_after (λ e. e.filled)) there ∙ ap (block_to_fill j) view
+
+  pub devices_are : (b : ℕ) (m : Device) (cell : Cell) (from to : Place) (d : Devices) → cell ≡ cell_of s b → from ≡ work cell → to ≡ frame_at (seat_of cell)
+      → d ≡ moved w.p from to (devices_of m w.dram) → d ≡ devices_filled b s m
+  unfolding devices_filled
+  devices_are b m cell from to d is from_is to_is d_is =
+      moved-is s w view m from to (work (cell_of s b)) (frame_at (seat_of (cell_of s b))) d
+      (from_is ∙ ap work is) (to_is ∙ ap (λ (c : Cell). frame_at (seat_of c)) is) d_is
+
+  pub state_is : (b : ℕ) (m : Device) (cell after : Cell) (t : Listing PttEntry) (d : Devices) → cell ≡ cell_of s b → after ≡ with_filled cell
+      → t ≡ with_entry cell.j (Some after.page) w.ptt → d ≡ devices_filled b s m
+      → record w { ptt = t; dram = d.dram } ≡ block_filled b s m
+  unfolding block_filled
+  state_is b m cell after t d is after_is t_is d_is =
+      ap (λ (x : State). record x { ptt = t; dram = d.dram }) view
+      ∙ ap (λ (x : Listing PttEntry). record s { ptt = x; dram = d.dram })
+      (t_is ∙ ap (λ (x : State). with_entry cell.j (Some after.page) x.ptt) view
+      ∙ ap (λ (c : Cell). with_entry cell.j (Some c.page) s.ptt) after_is
+      ∙ ap (λ (c : Cell). with_entry c.j (Some (page_filled c.page)) s.ptt) is)
+      ∙ ap (λ (x : Devices). record s { ptt = with_entry (cell_of s b).j (Some (page_filled (cell_of s b).page)) s.ptt; dram = x.dram }) d_is
+
+-- the numbers that the controller keeps are right after the copy
+pub marks-filled : (b : ℕ) (s : State) (fresh : (cell_of s b).page.fresh ≡ true) (m : Device) (t : AreSoundTables s) (k now : Marks) → is_framed (cell_of s b).page ≡ false
+    → (cell_of s b).page.filled < 64 → AreMarks s.ptt s.btt k → now.overlaid ≡ k.overlaid
+    → now.promoted + (if is_framed (with_filled (cell_of s b)).page then 1 else 0) ≡ k.promoted → AreMarks (block_filled b s m).ptt (block_filled b s m).btt now
+unfolding block_filled
+marks-filled b s fresh m t k now bare less marks same fewer = AreMarks-filled b s fresh m t k now bare less marks same fewer

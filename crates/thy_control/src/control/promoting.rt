@@ -1,0 +1,145 @@
+//! The pages that are being promoted.
+ghost use Rattle.std.specs.Prelude.{◌≡◌, ◌+◌, ◌<◌, ◌*◌, ◌^◌, ◌%◌, true, false, if◌then◌else◌, is_some, IfOk, OnOk, OnErr};
+ghost use Rattle.thy_base.specs.Device.{HasFailed, IsFramed, CountsFault};
+ghost use Rattle.thy_base.specs.Geometry.{memory_blocks};
+ghost use Rattle.thy_tables.specs.PageEntry.{is_framed as IsFramedPage};
+ghost use Rattle.thy_control.specs.Pages.{page_in, block_after};
+
+use super::Control;
+use super::moving::move_to_dram;
+use crate::overlay::Marks;
+use thy_base::{Nvm, NvmError};
+use thy_cell::{a_promotion_keeps_others, a_promotion_keeps_versions};
+use thy_table::Test;
+use thy_tables::{PAGE_BLOCKS, PttEntry};
+
+/// A page is being promoted.
+#[derive(Drop)]
+struct IsPromoted;
+
+impl Test<PttEntry> for IsPromoted {
+    ghost use Rattle.thy_control.specs.Holding.{is_promoted};
+
+    ghost holds = { λ test e. is_promoted e };
+
+    fn test(&self, entry: &PttEntry) -> bool {
+        !entry.is_framed() && entry.fresh
+    }
+}
+
+/// The next block to be copied of the page that an entry lists, 0 where the entry is free.
+fn block_to_fill(entry: Option<PttEntry>) -> u64
+    requires { page_in entry < 2 ^ 32 }
+    ensures { result ≡ block_after (λ e. e.filled) entry }
+{
+    match entry {
+        Some(entry) => PAGE_BLOCKS as u64 * entry.page + entry.filled as u64,
+        None => 0,
+    }
+}
+
+/// The numbers after one more block of a page in promotion was copied: with the last it is promoted.
+fn marks_after(marks: Marks, page: &PttEntry) -> Marks
+    requires { 0 < marks.promoted }
+    ensures overlaid { result.overlaid ≡ marks.overlaid }
+    ensures promoted { result.promoted + (if IsFramedPage page.now then 1 else 0) ≡ marks.promoted }
+{
+    if page.is_framed() {
+        Marks {
+            promoted: marks.promoted - 1,
+            ..marks
+        }
+    } else {
+        marks
+    }
+}
+
+impl Control {
+    ghost use Rattle.thy_control.specs.State.{IsSized, cell_of};
+    ghost use Rattle.thy_control.specs.Holding.{promoted};
+    ghost use Rattle.thy_control.specs.Stays.{HoldAll, Stays};
+    ghost use Rattle.thy_control.specs.Versions.{KeepsCheckpoints};
+    ghost use Rattle.thy_control.specs.Promotions.{next_promotion, unfilled, HoldsWork, block_filled, devices_filled, after_promotion};
+
+    /// Copies the next block of the lowest page in promotion, as a load gives it, into its frame; with the last block the page
+    /// is framed. Some page must be in promotion. Only the DRAM is written; where the NVM failed, nothing is.
+    pub fn promote_one<N: Nvm>(&mut self, nvm: &mut N) -> Result<(), NvmError>
+        requires sized { IsSized self.old (N.device nvm.old) }
+        requires promoting { 0 < promoted self.old.ptt }
+
+        // One block less is left.
+        ensures left { OnOk result (unfilled self.new + 1 ≡ unfilled self.old) }
+
+        // Both checkpoints have every block as before. Where the frames and targets held what they have to, they do so still,
+        // and so a load of every block gives what it gave.
+        ensures keeps { OnOk result (KeepsCheckpoints self.old (N.device nvm.old) self.new (N.device nvm.new)) }
+        ensures held { OnOk result (HoldAll self.old (N.device nvm.old) → HoldsWork self.old (N.device nvm.old) self.new (N.device nvm.new)) }
+        ensures state { OnOk result (self.new ≡ after_promotion (next_promotion self.old) self.old (N.device nvm.old)) }
+        ensures same { OnOk result (N.device nvm.new ≡ N.device nvm.old) }
+
+        // Whether or not it failed, nothing new is possible at the checkpoints' places, and both tables are as they were.
+        ensures stays { Stays self.old (N.device nvm.old) self.new (N.device nvm.new) }
+        ensures kept { OnErr result (self.new ≡ self.old) }
+        ensures err { OnErr result (HasFailed (N.device nvm.old) (N.device nvm.new)) }
+        ensures frame { IsFramed (N.device nvm.old) (N.device nvm.new) }
+        ensures cause { CountsFault result (N.device nvm.old).faults (N.device nvm.new).faults }
+    {
+        a_promotion_keeps_versions();
+        a_promotion_keeps_others();
+        self.tables();
+        self.fill_lowest(nvm)
+    }
+
+    /// Copies the next block of the lowest page in promotion into its frame.
+    fn fill_lowest<N: Nvm>(&mut self, nvm: &mut N) -> Result<(), NvmError>
+        requires sized { IsSized self.old (N.device nvm.old) }
+        requires promoting { 0 < promoted self.old.ptt }
+        ensures state { OnOk result (self.new ≡ after_promotion (next_promotion self.old) self.old (N.device nvm.old)) }
+        ensures same { OnOk result (N.device nvm.new ≡ N.device nvm.old) }
+        ensures kept { OnErr result (self.new ≡ self.old) }
+        ensures err { OnErr result (HasFailed (N.device nvm.old) (N.device nvm.new)) }
+        ensures frame { IsFramed (N.device nvm.old) (N.device nvm.new) }
+        ensures cause { CountsFault result (N.device nvm.old).faults (N.device nvm.new).faults }
+    {
+        self.tables();
+        match self.ptt.next(0, &IsPromoted) {
+            Some(j) => {
+                let b = block_to_fill(self.ptt.entry(j));
+                self.fill_block(b, nvm)
+            }
+            None => Ok(()),
+        }
+    }
+
+    /// Copies a block of a page in promotion, the next one, from where a load reads it into the frame.
+    fn fill_block<N: Nvm>(&mut self, b: u64, nvm: &mut N) -> Result<(), NvmError>
+        requires block { b < memory_blocks self.old.p }
+        requires fresh { (cell_of self.old b).page.fresh ≡ true }
+        requires unframed { IsFramedPage (cell_of self.old b).page ≡ false }
+        requires due { (cell_of self.old b).page.filled ≡ b % 64 }
+        requires sized { IsSized self.old (N.device nvm.old) }
+        ensures state { OnOk result (self.new ≡ block_filled b self.old (N.device nvm.old)) }
+        ensures same { OnOk result (N.device nvm.new ≡ N.device nvm.old) }
+        ensures kept { OnErr result (self.new ≡ self.old) }
+        ensures err { OnErr result (HasFailed (N.device nvm.old) (N.device nvm.new)) }
+        ensures frame { IsFramed (N.device nvm.old) (N.device nvm.new) }
+        ensures cause { CountsFault result (N.device nvm.old).faults (N.device nvm.new).faults }
+    {
+        a_promotion_keeps_versions();
+        a_promotion_keeps_others();
+        self.tables();
+        let cell = self.cell(b);
+        move_to_dram(
+            cell.work(),
+            cell.frame(),
+            &self.geometry,
+            nvm,
+            &mut self.dram,
+        )?;
+        let filled = cell.with_filled();
+        self.ptt.set(cell.j, filled.page);
+        self.ptt.lists_once();
+        self.marks = marks_after(self.marks, &filled.page);
+        Ok(())
+    }
+}
