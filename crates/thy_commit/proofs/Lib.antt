@@ -1,1 +1,3 @@
 pub mod DoneLemmas
+pub mod MemoryLemmas
+pub mod ItemLemmas

@@ -2,7 +2,9 @@
 #![tactic(auto)]
 
 mod engine;
+mod laws;
 mod next;
 
 pub use engine::Engine;
+pub use laws::{items_move_versions, memory_is_last};
 pub use next::Next;

@@ -1,0 +1,24 @@
+//! Laws of the engine, each the contract of a function that does nothing.
+ghost use Rattle.thy_commit.specs.Versions.{ItemsMoveVersions, MemoryIsLast};
+
+use thy_cell::{
+    a_commit_takes_the_last, a_copy_keeps_versions, a_page_write_keeps_others,
+    a_page_write_keeps_versions,
+};
+
+/// Where the places hold what they have to, every item keeps both checkpoints of every block and what a load gives, but
+/// that with the last one the committed checkpoint has what the one under way had.
+pub fn items_move_versions()
+    ensures { ItemsMoveVersions }
+{
+    a_copy_keeps_versions();
+    a_page_write_keeps_versions();
+    a_page_write_keeps_others();
+    a_commit_takes_the_last();
+}
+
+/// With nothing left to copy or to write, memory as the tables of the checkpoint under way have it is the last version of
+/// every block.
+pub fn memory_is_last()
+    ensures { MemoryIsLast }
+{}
