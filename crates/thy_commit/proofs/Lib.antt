@@ -1,3 +1,5 @@
 pub mod DoneLemmas
 pub mod MemoryLemmas
 pub mod ItemLemmas
+pub mod WrittenLemmas
+pub mod CycleLemmas

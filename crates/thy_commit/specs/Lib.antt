@@ -1,3 +1,5 @@
 pub mod Items
 pub mod Progress
 pub mod Versions
+pub mod Written
+pub mod Cycles

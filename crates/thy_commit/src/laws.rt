@@ -1,5 +1,7 @@
 //! Laws of the engine, each the contract of a function that does nothing.
+ghost use Rattle.thy_commit.specs.Cycles.{ItemsCount};
 ghost use Rattle.thy_commit.specs.Versions.{ItemsMoveVersions, MemoryIsLast};
+ghost use Rattle.thy_commit.specs.Written.{ItemsWrite, StaysWritten};
 
 use thy_cell::{
     a_commit_takes_the_last, a_copy_keeps_versions, a_page_write_keeps_others,
@@ -21,4 +23,17 @@ pub fn items_move_versions()
 /// every block.
 pub fn memory_is_last()
     ensures { MemoryIsLast }
+{}
+
+/// Every item leaves on the NVM what has to stand before the next one: the blocks of the slot before it, memory where the
+/// tables have it, and at last the commit block. So does every call of the controller in between, while the NVM is up.
+pub fn the_checkpoint_is_written_in_turn()
+    ensures items { ItemsWrite }
+    ensures stays { StaysWritten }
+{}
+
+/// A checkpoint takes as many cycles of the engine as copies and page blocks are left, as the slot has blocks, and three
+/// more.
+pub fn every_item_takes_a_cycle()
+    ensures { ItemsCount }
 {}

@@ -6,5 +6,8 @@ mod laws;
 mod next;
 
 pub use engine::Engine;
-pub use laws::{items_move_versions, memory_is_last};
+pub use laws::{
+    every_item_takes_a_cycle, items_move_versions, memory_is_last,
+    the_checkpoint_is_written_in_turn,
+};
 pub use next::Next;

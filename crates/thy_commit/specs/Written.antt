@@ -1,0 +1,45 @@
+-- What stands on the NVM of the checkpoint under way, by how far the engine is.
+use Rattle.std.specs.Prelude.{◌≡◌, ℕ, false}
+use Rattle.thy_base.specs.Device.{Device}
+use Rattle.thy_base.specs.Places.{slot_blocks}
+use Rattle.thy_crash.specs.Fixed.{Reads}
+use Rattle.thy_record.specs.Commit.{commit_of}
+use Rattle.thy_record.specs.Issuing.{IsIssuing}
+use Rattle.thy_control.specs.State.{State, AreSoundTables, IsSized}
+use Rattle.thy_control.specs.CheckpointTables.{tables1}
+use Rattle.thy_control.specs.Stays.{HoldAll, Stays}
+use Rattle.thy_commit.specs.declared.next.Next.{Next}
+use Rattle.thy_commit.specs.declared.next.Next.TheVariants.{Nothing, Copies, Pages, Slot, Settle, Commit, Confirm}
+use Rattle.thy_commit.specs.Progress.{Progress, IsSoundProgress, Fits, engine_next, state_next, device_next}
+use Rattle.thy_commit.specs.Versions.{lasts}
+
+-- the first k blocks of the slot are read, and memory where the tables have it: the last version of every block
+abbrev pub HasWritten : Progress → State → Device → ℕ → Type 0
+HasWritten e s n k = IsIssuing e.p n e.cpu (tables1 s) e.epoch (lasts s n) k
+
+-- by what comes next: the blocks of the slot before it, then all of them, and at last the commit block too
+abbrev pub HasStood : Next → Progress → State → Device → Type 0
+HasStood Nothing e s n = Unit {0}
+HasStood Copies e s n = Unit {0}
+HasStood Pages e s n = Unit {0}
+HasStood (Slot k) e s n = HasWritten e s n k
+HasStood Settle e s n = HasWritten e s n (slot_blocks e.p)
+HasStood Commit e s n = HasWritten e s n (slot_blocks e.p)
+HasStood Confirm e s n = HasWritten e s n (slot_blocks e.p) × Reads n 1 (commit_of e.epoch)
+
+abbrev pub Stands : Progress → State → Device → Type 0
+Stands e s n = HasStood e.next e s n
+
+-- every item leaves what has to stand before the next one
+abbrev pub ItemsWrite : Type 0
+ItemsWrite =
+    (e : Progress) (s : State) (m : Device)
+    → IsSoundProgress e → AreSoundTables s → IsSized s m → Fits e s → HoldAll s m → Stands e s m
+    → Stands (engine_next e s) (state_next e s m) (device_next e s m)
+
+-- and so does every call of the controller in between, while the NVM is up
+abbrev pub StaysWritten : Type 0
+StaysWritten =
+    (e : Progress) (s : State) (m : Device) (t : State) (n : Device)
+    → IsSoundProgress e → AreSoundTables t → IsSized t n → Fits e s → Fits e t → Stays s m t n → n.down ≡ false → HoldAll s m
+    → Stands e s m → Stands e t n
