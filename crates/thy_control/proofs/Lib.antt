@@ -33,3 +33,4 @@ pub mod TableBlockLemmas
 pub mod BootLemmas
 pub mod FrameLemmas
 pub mod FillLemmas
+pub mod BootMarkLemmas

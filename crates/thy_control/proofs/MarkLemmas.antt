@@ -44,7 +44,7 @@ count-alike p q h (x ∷ xs) =
     omega (arith, count-alike p q h xs, sum_by-cons (λ y. one_if (p y)) x xs, sum_by-cons (λ y. one_if (q y)) x xs, ap one_if (h x))
 
 -- where some element passes, there is one
-counted-some : {X : Type 0} (test : X → Bool) (d : X) (xs : List X) → 0 < count_by test xs → (i : ℕ) × (i < length xs) × (test (get_or xs i d) ≡ true)
+pub counted-some : {X : Type 0} (test : X → Bool) (d : X) (xs : List X) → 0 < count_by test xs → (i : ℕ) × (i < length xs) × (test (get_or xs i d) ≡ true)
 counted-some test d [] l = absurd (omega (arith, l))
 counted-some {X} test d (x ∷ xs) l = elim (cases_Bool (test x)) as (λ _. (i : ℕ) × (i < length (x ∷ xs)) × (test (get_or (x ∷ xs) i d) ≡ true)) [
   | inl t ↦ (0, omega arith, t)

@@ -12,6 +12,6 @@ returns c =
     let k : ℕ = c.args.k in
     let asked : k < w.p.btt / 8 + w.p.ptt / 8 = subst (λ (s : State). k < s.p.btt / 8 + s.p.ptt / 8) (sym c.self.view_is) c.requires in
     let room : 8 * k + 8 ≤ length (tables1 w).btt + length (tables1 w).ptt
-    = omega (arith, asked, length-map w.btt.entries (option_and_then block_due), length-map w.ptt.entries (option_and_then page_due), c.self.invariant.btt_size, c.self.invariant.ptt_size) in
+    = omega (arith, asked, length-map w.btt.entries (option_and_then block_due), length-map w.ptt.entries (option_and_then page_due), c.self.invariant.tables.btt_size, c.self.invariant.tables.ptt_size) in
     entries-are (tables1 w) k c.loop-i.entries room c.loop-i.invariant.0 (λ j l. c.loop-i.invariant.1 j (omega (arith, l, c.loop-i-test.false)))
     ∙ ap (λ (s : State). entries_of (tables1 s) k) c.self.view_is
