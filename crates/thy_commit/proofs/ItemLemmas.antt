@@ -78,7 +78,7 @@ KeepsVersions-reads s m n t hold same =
     }
 
 -- the slots lie before the homes
-low_in_slot : (p : Parameters) (r k : ℕ) → r < 2 → k < slot_blocks p → slot_place p r + k < first_home p
+pub low_in_slot : (p : Parameters) (r k : ℕ) → r < 2 → k < slot_blocks p → slot_place p r + k < first_home p
 low_in_slot p zero k l m = omega arith
 low_in_slot p (suc zero) k l m = omega arith
 low_in_slot p (suc (suc r)) k l m = absurd (omega arith)

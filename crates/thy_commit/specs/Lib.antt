@@ -3,3 +3,4 @@ pub mod Progress
 pub mod Versions
 pub mod Written
 pub mod Cycles
+pub mod Moves

@@ -1,5 +1,6 @@
 //! Laws of the engine, each the contract of a function that does nothing.
 ghost use Rattle.thy_commit.specs.Cycles.{ItemsCount};
+ghost use Rattle.thy_commit.specs.Moves.{ItemsMove, StaysMove};
 ghost use Rattle.thy_commit.specs.Versions.{ItemsMoveVersions, MemoryIsLast};
 ghost use Rattle.thy_commit.specs.Written.{ItemsWrite, StaysWritten};
 
@@ -37,3 +38,15 @@ pub fn the_checkpoint_is_written_in_turn()
 pub fn every_item_takes_a_cycle()
     ensures { ItemsCount }
 {}
+
+/// Every item is a move of the run's checkpoints on the NVM: it spares all places that tell what the committed one is; the
+/// first barrier makes the next one ready, its commit block leaves the two in doubt, and the barrier behind that ends
+/// the doubt. Every call of the controller before the first barrier is a move too.
+pub fn items_are_moves()
+    ensures items { ItemsMove }
+    ensures stays { StaysMove }
+{
+    a_copy_keeps_versions();
+    a_page_write_keeps_versions();
+    a_page_write_keeps_others();
+}

@@ -1,0 +1,149 @@
+-- Every item of the engine is a move of the run's checkpoints.
+use Rattle.std.proofs.Common.{◌≡◌, ℕ, ◌+◌, ◌%◌, ◌<◌, true, false, List, ◌∷◌, Contains, refl, sym, ◌∙◌, ap, subst, inl, arith, Option, Some, None}
+use Rattle.thy_base.specs.declared.block.Block.{Block}
+use Rattle.thy_base.specs.declared.config.Parameters.{Parameters}
+use Rattle.thy_base.specs.Device.{Device, block_at, written_to, settled, IsFramed}
+use Rattle.thy_base.specs.Places.{slot_blocks, slot_place}
+use Rattle.thy_base.specs.Geometry.{IsInRange}
+use Rattle.thy_crash.specs.Fixed.{Reads}
+use Rattle.thy_crash.specs.Saved.{Saved, Kept, IsIssued, next_image}
+use Rattle.thy_crash.specs.Spares.{Spares}
+use Rattle.thy_crash.proofs.SparesLemmas.{Spares-written}
+use Rattle.thy_record.specs.Commit.{commit_of}
+use Rattle.thy_record.specs.Decoded.{At}
+use Rattle.thy_record.specs.Images.{looked}
+use Rattle.thy_record.specs.Issuing.{SlotBlock, IsToldBy, IsIssuing, IsIssuedCheckpoint}
+use Rattle.thy_record.proofs.IssuingLemmas.{free_not_looked, issued_decodes}
+use Rattle.thy_view.specs.Origin.{Origin, at}
+use Rattle.thy_view.specs.Safe.{ceiling}
+use Rattle.thy_cell.specs.Steps.{CopyKeeps, PageWriteKeeps, PageWriteKeepsOthers}
+use Rattle.thy_control.specs.State.{State, AreSoundTables, IsSized}
+use Rattle.thy_control.specs.CheckpointTables.{tables0, tables1}
+use Rattle.thy_control.specs.Copies.{next_copy, block_listed, devices_after_copy, after_next_copy}
+use Rattle.thy_control.specs.Pages.{next_page, block_to_write, devices_after_write, after_next_write}
+use Rattle.thy_control.specs.Stays.{Stays}
+use Rattle.thy_control.proofs.CopyLemmas.{IsNext-entry, Stays-copied}
+use Rattle.thy_control.proofs.IssueLemmas.{IsDue-entry, Stays-issued}
+use Rattle.thy_protocol.specs.Keeps.{IsOf}
+use Rattle.thy_protocol.specs.Layout.{looked_by}
+use Rattle.thy_protocol.specs.Moves.{standing, Move, Goes, Readies, Commits, Confirms}
+use Rattle.thy_protocol.proofs.VersionOneLemmas.{decode_by-version_one, looked_by-version_one}
+use Rattle.thy_commit.specs.declared.next.Next.{Next}
+use Rattle.thy_commit.specs.declared.next.Next.TheVariants.{Nothing, Copies, Pages, Slot, Settle, Commit, Confirm}
+use Rattle.thy_commit.specs.Items.{Item, SlotItem, item, is_under_way, copy_or, page_or_slot, page_item}
+use Rattle.thy_commit.specs.Progress.{Progress, slot_number, slot_block, device_after}
+use Rattle.thy_commit.specs.Versions.{lasts}
+use Rattle.thy_commit.specs.Written.{HasWritten, HasStood}
+use Rattle.thy_commit.specs.Moves.{Checkpoints, layout_of, saved_at, standing_after, is_written, IsKeptBy, IsMadeFor, ItemsMove, StaysMove}
+use Rattle.thy_commit.proofs.GuardLemmas.{Spares-stays}
+
+-- version 1 looks where images of the run look
+spares-layout : (o : Origin) (before : List Block) (m n : Device) → Spares (1 ∷ looked o.geometry before) m n
+    → Spares (1 ∷ looked_by (layout_of o) before) m n
+spares-layout o before m n h = subst (λ (xs : List ℕ). Spares (1 ∷ xs) m n) (sym (looked_by-version_one o.geometry ceiling before)) h
+
+goes : (o : Origin) (c : Checkpoints) (m n : Device) → Spares (1 ∷ looked o.geometry c.before) m n
+    → Move o (layout_of o) (standing m (Kept c.before) c.kept (Some c.sealed)) (standing n (Kept c.before) c.kept (Some c.sealed))
+goes o c m n h = Goes (Kept c.before) c.kept (Some c.sealed) m n (spares-layout o c.before m n h)
+
+-- a call of the controller
+goes-stays : (o : Origin) (e : Progress) (s : State) (m : Device) (t : State) (n : Device) (c : Checkpoints)
+    → AreSoundTables s → s.p ≡ e.p → Stays s m t n → IsKeptBy o e s c.before
+    → Move o (layout_of o) (standing m (Kept c.before) c.kept (Some c.sealed)) (standing n (Kept c.before) c.kept (Some c.sealed))
+goes-stays o e s m t n c tables same stays kept =
+    let p : s.p ≡ o.geometry = same ∙ kept.geometry in
+    goes o c m n (subst (λ (q : Parameters). Spares (1 ∷ looked q c.before) m n) p
+    (Spares-stays s m t n c.before kept.epoch tables stays (subst (λ (q : Parameters). IsToldBy q c.before kept.epoch (tables0 s)) (sym p) kept.told)))
+
+module _ (copy : CopyKeeps) (write : PageWriteKeeps) (others : PageWriteKeepsOthers) (o : Origin) (e : Progress) (s : State) (m : Device) (c : Checkpoints)
+    (tables : AreSoundTables s) (sized : IsSized s m) (same : s.p ≡ e.p) (up : m.down ≡ false) (kept : IsKeptBy o e s c.before) where
+  abbrev Going : Item → Type 0
+  Going i = IsFramed m (device_after e i s m)
+      → Move o (layout_of o) (standing m (Kept c.before) c.kept (Some c.sealed)) (standing_after i e m (device_after e i s m) c)
+
+  goes-slot : (k : ℕ) → k < slot_blocks e.p → Going (SlotItem k)
+  goes-slot k l framed =
+      let p : e.p ≡ o.geometry = kept.geometry in
+      let inside : k < slot_blocks o.geometry = subst (λ (q : Parameters). k < slot_blocks q) p l in
+      let number : slot_place o.geometry (e.epoch % 2) + k ≡ slot_number e k = ap (λ (q : Parameters). slot_place q (e.epoch % 2) + k) (sym p) in
+      let two : e.epoch % 2 < 2 = omega arith in
+      goes o c m (device_after e (SlotItem k) s m)
+      (Spares-written (1 ∷ looked o.geometry c.before) (slot_number e k) (slot_block e s k) m (device_after e (SlotItem k) s m)
+      (λ there. free_not_looked o.geometry c.before kept.epoch (tables0 s) (SlotBlock (e.epoch % 2) k) kept.told (two, inside) kept.other_slot
+      (subst (λ (x : ℕ). Contains (1 ∷ looked o.geometry c.before) x) (sym number) there)) refl)
+
+  goes-page : (x : Option ℕ) → next_page s ≡ x → Going (page_or_slot x)
+  goes-page None h framed = goes-slot 0 (omega arith) framed
+  goes-page (Some j) h framed =
+      let d = IsDue-entry s tables j h in
+      goes-stays o e s m (after_next_write (Some j) s m) (devices_after_write (Some j) s m) c tables same
+      (Stays-issued (block_to_write j s) s d.busy m tables sized d.inside d.due write others up framed) kept
+
+  goes-copy : (x : Option ℕ) → next_copy s ≡ x → Going (copy_or x (page_item s))
+  goes-copy None h framed = goes-page (next_page s) refl framed
+  goes-copy (Some i) h framed =
+      let next = IsNext-entry s tables i h in
+      goes-stays o e s m (after_next_copy (Some i) s m) (devices_after_copy (Some i) s m) c tables same
+      (Stays-copied (block_listed i s) s m next.pending tables sized next.inside copy up framed) kept
+
+-- the next image is that of the sealed mark, and lacks its commit block alone
+module _ (o : Origin) (e : Progress) (s : State) (m : Device) (c : Checkpoints) (tables : AreSoundTables s) (same : s.p ≡ e.p) (geometry : e.p ≡ o.geometry)
+    (made : IsMadeFor o e s m c) (written : HasWritten e s m (slot_blocks e.p)) where
+  abbrev made_image : List Block
+  made_image = next_image m (commit_of e.epoch)
+
+  decoded : IsIssuedCheckpoint o.geometry ceiling m e.cpu e.epoch (lasts s m)
+  decoded =
+      issued_decodes o.geometry ceiling m e.cpu (tables1 s) e.epoch (lasts s m)
+      (subst (λ (q : Parameters). IsInRange q) (same ∙ geometry) tables.range) made.recordable (omega arith) made.small
+      (subst (λ (q : Parameters). IsIssuing q m e.cpu (tables1 s) e.epoch (lasts s m) (slot_blocks q)) geometry written) made.header
+
+  made-issued : IsIssued (looked_by (layout_of o)) m made_image
+  made-issued = record {
+    as_long = decoded.issued.as_long;
+    each = λ x inside. decoded.issued.each x (subst (λ (xs : List ℕ). Contains xs x) (looked_by-version_one o.geometry ceiling made_image) inside);
+  }
+
+  made-of : IsOf o (layout_of o) made_image c.sealed
+  made-of = record {
+    decodes =
+        decode_by-version_one o.geometry ceiling made_image ∙ decoded.decodes
+        ∙ ap (At e.epoch) made.state_is ∙ ap (λ (n : ℕ). At n (at o c.sealed.count)) (sym made.of_epoch);
+    counted = made.counted;
+  }
+
+module _ (copy : CopyKeeps) (write : PageWriteKeeps) (others : PageWriteKeepsOthers) (o : Origin) (e : Progress) (s : State) (m : Device) (c : Checkpoints)
+    (tables : AreSoundTables s) (sized : IsSized s m) (same : s.p ≡ e.p) (up : m.down ≡ false) (kept : IsKeptBy o e s c.before) where
+  moves-next : (q : Next) → ((k : ℕ) → q ≡ Slot k → k < slot_blocks e.p) → HasStood q e s m → is_under_way q ≡ true
+      → IsFramed m (device_after e (item q s) s m) → IsMadeFor o e s m c → (is_written q ≡ true → block_at c.next 1 ≡ commit_of e.epoch)
+      → Move o (layout_of o) (standing m (saved_at q c) c.kept (Some c.sealed)) (standing_after (item q s) e m (device_after e (item q s) s m) c)
+  moves-next Nothing inside h way framed made commit = cc
+  moves-next Copies inside h way framed made commit = goes-copy copy write others o e s m c tables sized same up kept (next_copy s) refl framed
+  moves-next Pages inside h way framed made commit = goes-page copy write others o e s m c tables sized same up kept (next_page s) refl framed
+  moves-next (Slot k) inside h way framed made commit = goes-slot copy write others o e s m c tables sized same up kept k (inside k refl) framed
+  moves-next Settle inside h way framed made commit =
+      Readies c.before (next_image m (commit_of e.epoch)) c.kept c.sealed m (settled m)
+      (made-issued o e s m c tables same kept.geometry made h) (made-of o e s m c tables same kept.geometry made h) refl
+  moves-next Commit inside h way framed made commit =
+      Commits c.before c.next c.kept c.sealed m (written_to m 1 (commit_of e.epoch)) (inl (ap (written_to m 1) (sym (commit refl))))
+  moves-next Confirm inside h way framed made commit =
+      Confirms c.before c.next c.kept c.sealed m (settled m) (subst (λ (b : Block). Reads m 1 b) (sym (commit refl)) h.1) refl
+
+pub items_move : CopyKeeps → PageWriteKeeps → PageWriteKeepsOthers → ItemsMove
+items_move copy write others o e s m c sound tables sized fits hold h way up framed kept made =
+    moves-next copy write others o e s m c tables sized fits.same_p up kept e.next sound.inside h way framed made made.commit
+
+-- until the first barrier one image is kept
+saved-kept : (q : Next) (c : Checkpoints) → is_written q ≡ false → saved_at q c ≡ Kept c.before
+saved-kept Nothing c h = refl
+saved-kept Copies c h = refl
+saved-kept Pages c h = refl
+saved-kept (Slot k) c h = refl
+saved-kept Settle c h = refl
+saved-kept Commit c h = cc
+saved-kept Confirm c h = cc
+
+pub stays_move : StaysMove
+stays_move o e s m t n c tables fits stays kept early =
+    subst (λ (x : Saved). Move o (layout_of o) (standing m x c.kept (Some c.sealed)) (standing n x c.kept (Some c.sealed)))
+    (sym (saved-kept e.next c early)) (goes-stays o e s m t n c tables fits.same_p stays kept)
