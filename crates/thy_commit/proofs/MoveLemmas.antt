@@ -92,7 +92,7 @@ module _ (o : Origin) (e : Progress) (s : State) (m : Device) (c : Checkpoints) 
   abbrev made_image : List Block
   made_image = next_image m (commit_of e.epoch)
 
-  decoded : IsIssuedCheckpoint o.geometry ceiling m e.cpu e.epoch (lasts s m)
+  decoded : IsIssuedCheckpoint o.geometry ceiling m e.cpu (tables1 s) e.epoch (lasts s m)
   decoded =
       issued_decodes o.geometry ceiling m e.cpu (tables1 s) e.epoch (lasts s m)
       (subst (λ (q : Parameters). IsInRange q) (same ∙ geometry) tables.range) made.recordable (omega arith) made.small

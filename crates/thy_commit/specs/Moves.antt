@@ -2,13 +2,12 @@
 use Rattle.std.specs.Prelude.{◌≡◌, ◌≢◌, ℕ, ◌%◌, ◌<◌, Bool, true, false, List, Option, Some, None}
 use Rattle.thy_base.specs.declared.block.Block.{Block}
 use Rattle.thy_base.specs.declared.mark.Mark.{Mark}
-use Rattle.thy_base.specs.Device.{Device, block_at, IsFramed}
-use Rattle.thy_crash.specs.Fixed.{Reads}
+use Rattle.thy_base.specs.Device.{Device, block_at, newest, IsFramed}
 use Rattle.thy_crash.specs.Saved.{Saved, Kept, Ready, InDoubt, next_image}
 use Rattle.thy_isa.specs.OnBlocks.{state_from}
 use Rattle.thy_record.specs.Commit.{commit_of}
 use Rattle.thy_record.specs.Cpu.{IsRecordable}
-use Rattle.thy_record.specs.Header.{header_of}
+use Rattle.thy_record.specs.Header.{header_fault}
 use Rattle.thy_record.specs.Issuing.{IsToldBy}
 use Rattle.thy_view.specs.Origin.{Origin, at}
 use Rattle.thy_view.specs.Safe.{ceiling}
@@ -64,14 +63,14 @@ pub record IsKeptBy (o : Origin) (e : Progress) (s : State) (before : List Block
   pub told : IsToldBy o.geometry before epoch (tables0 s)
   pub other_slot : e.epoch % 2 ≢ epoch % 2
 
--- the checkpoint under way is that of the sealed mark, and the header stands
+-- the checkpoint under way is that of the sealed mark, and the header has no fault
 pub record IsMadeFor (o : Origin) (e : Progress) (s : State) (n : Device) (c : Checkpoints) : Type 0 where
   pub of_epoch : c.sealed.epoch ≡ e.epoch
   pub small : e.epoch < ceiling
   pub recordable : IsRecordable o.geometry ceiling e.cpu
   pub state_is : state_from o.geometry e.cpu (lasts s n) ≡ at o c.sealed.count
   pub counted : (at o c.sealed.count).count ≡ c.sealed.count
-  pub header : Reads n 0 (header_of o.geometry)
+  pub header : header_fault (newest n 0) o.geometry true ≡ None
   pub commit : is_written e.next ≡ true → block_at c.next 1 ≡ commit_of e.epoch
 
 -- so every item is a move
