@@ -1,7 +1,7 @@
 -- What calls that keep the controller's checkpoints leave of an image that has one of them.
 use Rattle.std.proofs.Common.{◌≡◌, ◌⊎◌, ℕ, ◌+◌, ◌%◌, ◌<◌, Bool, true, false, if◌then◌else◌, List, [], ◌∷◌, ◌++◌, Contains, sym, ◌∙◌, ap, subst, inl, inr, zero, suc, arith}
 use Rattle.std.specs.List.{range_with_len}
-use Rattle.std.proofs.lemmas.List.Elements.{Contains-append_cases}
+use Rattle.std.proofs.lemmas.List.Elements.{Contains-append_cases, Contains-append_right}
 use Rattle.std.proofs.lemmas.List.FromFn.{length-range_with_len, get_or-range_with_len, length-map-range_with_len, get_or-map-range_with_len}
 use Rattle.thy_base.specs.declared.block.Block.{Block}
 use Rattle.thy_base.specs.declared.config.Parameters.{Parameters}
@@ -16,10 +16,10 @@ use Rattle.thy_record.specs.Issuing.{IsToldBy}
 use Rattle.thy_record.specs.Slots.{tables_in}
 use Rattle.thy_record.specs.Tables.{Tables, place_of}
 use Rattle.thy_control.specs.State.{State, AreSoundTables, cell_of}
-use Rattle.thy_control.specs.CheckpointTables.{tables0}
-use Rattle.thy_control.specs.Stays.{Stays}
-use Rattle.thy_control.proofs.TablesLemmas.{AreTablesOf-committed}
-use Rattle.thy_cell.specs.Cells.{penult}
+use Rattle.thy_control.specs.CheckpointTables.{tables0, tables1}
+use Rattle.thy_control.specs.Stays.{AreCopied, Stays}
+use Rattle.thy_control.proofs.TablesLemmas.{AreTablesOf-committed, AreTablesOf-under_way}
+use Rattle.thy_cell.specs.Cells.{penult, target}
 use Rattle.thy_commit.proofs.ItemLemmas.{low_in_slot}
 
 first_or_rest : (y x : ℕ) (xs : List ℕ) → Contains (x ∷ xs) y → (x ≡ y) ⊎ Contains xs y
@@ -87,5 +87,31 @@ Spares-stays s m t n image epoch tables stays told = record {
     | inr of ↦
         let same : number_of s.p (penult (cell_of s of.0)) ≡ x = ap (number_of s.p) (sym ((AreTablesOf-committed s tables).same_place of.0 of.1)) ∙ of.2 in
         subst (λ (y : ℕ). NoMoreAt y m n) same (stays.guarded.old of.0 of.1)
+  ]).no_more;
+}
+
+-- and with every block copied and written, that of the one under way
+pub Spares-stays_next : (s : State) (m : Device) (t : State) (n : Device) (image : List Block) (epoch : ℕ)
+    → AreSoundTables s → Stays s m t n → AreCopied s → IsToldBy s.p image epoch (tables1 s) → Spares (1 ∷ looked s.p image) m n
+Spares-stays_next s m t n image epoch tables stays copied told = record {
+  as_long = stays.as_long;
+  no_more = λ x inside. (elim (looked_cases s.p image epoch (tables1 s) x told inside) as (λ _. NoMoreAt x m n) [
+    | inl low ↦ stays.guarded.low x low
+    | inr of ↦
+        let same : number_of s.p (target (cell_of s of.0)) ≡ x = ap (number_of s.p) (sym ((AreTablesOf-under_way s tables).same_place of.0 of.1)) ∙ of.2 in
+        subst (λ (y : ℕ). NoMoreAt y m n) same (stays.guarded.next of.0 of.1 (copied of.0 of.1))
+  ]).no_more;
+}
+
+-- what spares some places and others spares both
+pub Spares-two : (xs ys : List ℕ) (m n : Device) → Spares (1 ∷ xs) m n → Spares (1 ∷ ys) m n → Spares (1 ∷ (xs ++ ys)) m n
+Spares-two xs ys m n first second = record {
+  as_long = first.as_long;
+  no_more = λ x inside. (elim (first_or_rest x 1 (xs ++ ys) inside) as (λ _. NoMoreAt x m n) [
+    | inl e ↦ record { no_more = first.no_more x (zero, omega arith, e) }
+    | inr rest ↦ elim (Contains-append_cases xs ys x rest) as (λ _. NoMoreAt x m n) [
+      | inl a ↦ record { no_more = first.no_more x (Contains-append_right (1 ∷ []) xs x a) }
+      | inr b ↦ record { no_more = second.no_more x (Contains-append_right (1 ∷ []) ys x b) }
+    ]
   ]).no_more;
 }

@@ -1,19 +1,24 @@
 -- Every item of the engine is a move of the run's checkpoints.
-use Rattle.std.proofs.Common.{◌≡◌, ℕ, ◌+◌, ◌%◌, ◌<◌, true, false, List, ◌∷◌, Contains, refl, sym, ◌∙◌, ap, subst, inl, arith, Option, Some, None}
+use Rattle.std.proofs.Common.{◌≡◌, ℕ, ◌+◌, ◌%◌, ◌<◌, true, false, List, ◌∷◌, ◌++◌, Contains, refl, sym, ◌∙◌, ap, subst, inl, arith, Option, Some, None, ◌^◌, inr}
 use Rattle.thy_base.specs.declared.block.Block.{Block}
 use Rattle.thy_base.specs.declared.config.Parameters.{Parameters}
-use Rattle.thy_base.specs.Device.{Device, block_at, written_to, settled, IsFramed}
+use Rattle.thy_base.specs.Device.{Device, block_at, written_to, settled, IsFramed, HasFailedToWrite}
 use Rattle.thy_base.specs.Places.{slot_blocks, slot_place}
 use Rattle.thy_base.specs.Geometry.{IsInRange}
 use Rattle.thy_crash.specs.Fixed.{Reads}
-use Rattle.thy_crash.specs.Saved.{Saved, Kept, IsIssued, next_image}
+use Rattle.thy_crash.specs.Saved.{Kept, IsIssued, next_image, Ready, InDoubt}
 use Rattle.thy_crash.specs.Spares.{Spares}
-use Rattle.thy_crash.proofs.SparesLemmas.{Spares-written}
-use Rattle.thy_record.specs.Commit.{commit_of}
+use Rattle.thy_crash.proofs.SparesLemmas.{Spares-written, Spares-failed, Spares-failed_to_write}
+use Rattle.thy_record.specs.Commit.{commit_of, epoch_of}
 use Rattle.thy_record.specs.Decoded.{At}
-use Rattle.thy_record.specs.Images.{looked}
+use Rattle.thy_record.specs.Images.{looked, slot_in}
+use Rattle.thy_record.specs.Slots.{IsSlotOf}
+use Rattle.thy_record.proofs.SlotLemmas.{tables_in-back}
 use Rattle.thy_record.specs.Issuing.{SlotBlock, IsToldBy, IsIssuing, IsIssuedCheckpoint}
 use Rattle.thy_record.proofs.IssuingLemmas.{free_not_looked, issued_decodes}
+use Rattle.thy_record.proofs.ImageLemmas.{block_at-slot_in}
+use Rattle.thy_record.proofs.ReadBackLemmas.{epoch_of-commit_of}
+use Rattle.thy_crash.proofs.SavedLemmas.{next_image-reads, next_image-commit}
 use Rattle.thy_view.specs.Origin.{Origin, at}
 use Rattle.thy_view.specs.Safe.{ceiling}
 use Rattle.thy_cell.specs.Steps.{CopyKeeps, PageWriteKeeps, PageWriteKeepsOthers}
@@ -22,8 +27,8 @@ use Rattle.thy_control.specs.CheckpointTables.{tables0, tables1}
 use Rattle.thy_control.specs.Copies.{next_copy, block_listed, devices_after_copy, after_next_copy}
 use Rattle.thy_control.specs.Pages.{next_page, block_to_write, devices_after_write, after_next_write}
 use Rattle.thy_control.specs.Stays.{Stays}
-use Rattle.thy_control.proofs.CopyLemmas.{IsNext-entry, Stays-copied}
-use Rattle.thy_control.proofs.IssueLemmas.{IsDue-entry, Stays-issued}
+use Rattle.thy_control.proofs.CopyLemmas.{IsNext-entry, Stays-copied, Stays-not_copied}
+use Rattle.thy_control.proofs.IssueLemmas.{IsDue-entry, Stays-issued, Stays-not_issued}
 use Rattle.thy_protocol.specs.Keeps.{IsOf}
 use Rattle.thy_protocol.specs.Layout.{looked_by}
 use Rattle.thy_protocol.specs.Moves.{standing, Move, Goes, Readies, Commits, Confirms}
@@ -31,11 +36,12 @@ use Rattle.thy_protocol.proofs.VersionOneLemmas.{decode_by-version_one, looked_b
 use Rattle.thy_commit.specs.declared.next.Next.{Next}
 use Rattle.thy_commit.specs.declared.next.Next.TheVariants.{Nothing, Copies, Pages, Slot, Settle, Commit, Confirm}
 use Rattle.thy_commit.specs.Items.{Item, SlotItem, item, is_under_way, copy_or, page_or_slot, page_item}
-use Rattle.thy_commit.specs.Progress.{Progress, slot_number, slot_block, device_after}
+use Rattle.thy_commit.specs.Progress.{Progress, IsDone, IsPast, slot_number, slot_block, device_after, FailsItem}
 use Rattle.thy_commit.specs.Versions.{lasts}
 use Rattle.thy_commit.specs.Written.{HasWritten, HasStood}
-use Rattle.thy_commit.specs.Moves.{Checkpoints, layout_of, saved_at, standing_after, is_written, IsKeptBy, IsMadeFor, ItemsMove, StaysMove}
-use Rattle.thy_commit.proofs.GuardLemmas.{Spares-stays}
+use Rattle.thy_commit.specs.Moves.{Checkpoints, layout_of, saved_at, standing_after, standing_failed, is_written, IsKeptBy, IsMadeFor, IsNextBy, ItemsMove, NextIsTold, StaysMove, FailedItemsMove}
+use Rattle.thy_commit.proofs.GuardLemmas.{Spares-stays, Spares-stays_next, Spares-two}
+use Rattle.thy_commit.proofs.DoneLemmas.{AreCopied-done}
 
 -- version 1 looks where images of the run look
 spares-layout : (o : Origin) (before : List Block) (m n : Device) → Spares (1 ∷ looked o.geometry before) m n
@@ -133,17 +139,129 @@ pub items_move : CopyKeeps → PageWriteKeeps → PageWriteKeepsOthers → Items
 items_move copy write others o e s m c sound tables sized fits hold h way up framed kept made =
     moves-next copy write others o e s m c tables sized fits.same_p up kept e.next sound.inside h way framed made made.commit
 
--- until the first barrier one image is kept
-saved-kept : (q : Next) (c : Checkpoints) → is_written q ≡ false → saved_at q c ≡ Kept c.before
-saved-kept Nothing c h = refl
-saved-kept Copies c h = refl
-saved-kept Pages c h = refl
-saved-kept (Slot k) c h = refl
-saved-kept Settle c h = refl
-saved-kept Commit c h = cc
-saved-kept Confirm c h = cc
+-- ---- the image that is made
+
+pub next_is_told : NextIsTold
+next_is_told o e s m c tables fits h settle geometry made = by_next e.next settle h where
+  told : HasWritten e s m (slot_blocks e.p) → IsNextBy o e s (next_image m (commit_of e.epoch))
+  told written =
+      let p : Parameters = o.geometry in
+      let image : List Block = next_image m (commit_of e.epoch) in
+      let issuing : IsIssuing o.geometry m e.cpu (tables1 s) e.epoch (lasts s m) (slot_blocks o.geometry) =
+      subst (λ (q : Parameters). IsIssuing q m e.cpu (tables1 s) e.epoch (lasts s m) (slot_blocks q)) geometry written in
+      let range : IsInRange o.geometry = subst (λ (q : Parameters). IsInRange q) (fits.same_p ∙ geometry) tables.range in
+      let commit : block_at image 1 ≡ commit_of e.epoch = next_image-commit (commit_of e.epoch) m (let long = issuing.sized in omega (arith, long)) in
+      let small : e.epoch < 2 ^ 64 = let l = made.small in omega (arith, l) in
+      let of_epoch : epoch_of (block_at image 1) ≡ e.epoch = ap epoch_of commit ∙ epoch_of-commit_of e.epoch small in
+      let slot : IsSlotOf o.geometry e.cpu (tables1 s) e.epoch (slot_in o.geometry image) = record {
+        each = λ k l.
+            let read = issuing.slot.each k l in
+            block_at-slot_in o.geometry image k l ∙ ap (λ (r : ℕ). block_at image (slot_place o.geometry (r % 2) + k)) of_epoch
+            ∙ next_image-reads (commit_of e.epoch) m (slot_place o.geometry (e.epoch % 2) + k) read.inside (λ q. omega arith) ∙ read.newest_is;
+      } in
+      record {
+        of_epoch = of_epoch;
+        tables = tables_in-back o.geometry e.cpu (tables1 s) e.epoch (slot_in o.geometry image) range issuing.tables slot;
+        whole = issuing.tables;
+      }
+
+  by_next : (q : Next) → q ≡ Settle → HasStood q e s m → IsNextBy o e s (next_image m (commit_of e.epoch))
+  by_next Settle is stood = told stood
+  by_next Nothing is stood = cc
+  by_next Copies is stood = cc
+  by_next Pages is stood = cc
+  by_next (Slot k) is stood = cc
+  by_next Commit is stood = cc
+  by_next Confirm is stood = cc
+
+-- ---- calls in between
+
+-- what spares the places of both images spares the places of the two
+spares-both : (o : Origin) (before next : List Block) (m n : Device) → Spares (1 ∷ looked o.geometry before) m n → Spares (1 ∷ looked o.geometry next) m n
+    → Spares (1 ∷ (looked_by (layout_of o) before ++ looked_by (layout_of o) next)) m n
+spares-both o before next m n first second =
+    let a : Spares (1 ∷ looked_by (layout_of o) before) m n = spares-layout o before m n first in
+    let b : Spares (1 ∷ looked_by (layout_of o) next) m n = spares-layout o next m n second in
+    Spares-two (looked_by (layout_of o) before) (looked_by (layout_of o) next) m n a b
+
+goes-all : (o : Origin) (c : Checkpoints) (m n : Device) (q : Next) → Spares (1 ∷ looked o.geometry c.before) m n
+    → (is_written q ≡ true → Spares (1 ∷ looked o.geometry c.next) m n)
+    → Move o (layout_of o) (standing m (saved_at q c) c.kept (Some c.sealed)) (standing n (saved_at q c) c.kept (Some c.sealed))
+goes-all o c m n Nothing first second = goes o c m n first
+goes-all o c m n Copies first second = goes o c m n first
+goes-all o c m n Pages first second = goes o c m n first
+goes-all o c m n (Slot k) first second = goes o c m n first
+goes-all o c m n Settle first second = goes o c m n first
+goes-all o c m n Commit first second =
+    Goes (Ready c.before c.next) c.kept (Some c.sealed) m n (spares-both o c.before c.next m n first (second refl))
+goes-all o c m n Confirm first second =
+    Goes (InDoubt c.before c.next) c.kept (Some c.sealed) m n (spares-both o c.before c.next m n first (second refl))
+
+written-done : (q : Next) (s : State) → is_written q ≡ true → IsPast q s → IsDone s
+written-done Nothing s h past = cc
+written-done Copies s h past = cc
+written-done Pages s h past = cc
+written-done (Slot k) s h past = cc
+written-done Settle s h past = cc
+written-done Commit s h past = past
+written-done Confirm s h past = past
 
 pub stays_move : StaysMove
-stays_move o e s m t n c tables fits stays kept early =
-    subst (λ (x : Saved). Move o (layout_of o) (standing m x c.kept (Some c.sealed)) (standing n x c.kept (Some c.sealed)))
-    (sym (saved-kept e.next c early)) (goes-stays o e s m t n c tables fits.same_p stays kept)
+stays_move o e s m t n c tables fits stays kept next =
+    let p : s.p ≡ o.geometry = fits.same_p ∙ kept.geometry in
+    goes-all o c m n e.next
+    (subst (λ (q : Parameters). Spares (1 ∷ looked q c.before) m n) p
+    (Spares-stays s m t n c.before kept.epoch tables stays (subst (λ (q : Parameters). IsToldBy q c.before kept.epoch (tables0 s)) (sym p) kept.told)))
+    (λ written. subst (λ (q : Parameters). Spares (1 ∷ looked q c.next) m n) p
+    (Spares-stays_next s m t n c.next e.epoch tables stays (AreCopied-done s (written-done e.next s written fits.past))
+    (subst (λ (q : Parameters). IsToldBy q c.next e.epoch (tables1 s)) (sym p) (next written))))
+
+-- ---- items that failed
+
+module _ (o : Origin) (e : Progress) (s : State) (m n : Device) (c : Checkpoints)
+    (tables : AreSoundTables s) (sized : IsSized s m) (same : s.p ≡ e.p) (framed : IsFramed m n) (kept : IsKeptBy o e s c.before) where
+  abbrev Failing : Item → Type 0
+  Failing i = FailsItem e i s m n
+      → Move o (layout_of o) (standing m (Kept c.before) c.kept (Some c.sealed)) (standing n (Kept c.before) c.kept (Some c.sealed))
+
+  fails-slot : (k : ℕ) → k < slot_blocks e.p → Failing (SlotItem k)
+  fails-slot k l failed =
+      let p : e.p ≡ o.geometry = kept.geometry in
+      let inside : k < slot_blocks o.geometry = subst (λ (q : Parameters). k < slot_blocks q) p l in
+      let number : slot_place o.geometry (e.epoch % 2) + k ≡ slot_number e k = ap (λ (q : Parameters). slot_place q (e.epoch % 2) + k) (sym p) in
+      let two : e.epoch % 2 < 2 = omega arith in
+      goes o c m n
+      (Spares-failed_to_write (1 ∷ looked o.geometry c.before) (slot_number e k) (slot_block e s k) m n
+      (λ there. free_not_looked o.geometry c.before kept.epoch (tables0 s) (SlotBlock (e.epoch % 2) k) kept.told (two, inside) kept.other_slot
+      (subst (λ (x : ℕ). Contains (1 ∷ looked o.geometry c.before) x) (sym number) there)) failed framed)
+
+  fails-page : (x : Option ℕ) → next_page s ≡ x → Failing (page_or_slot x)
+  fails-page None h failed = fails-slot 0 (omega arith) failed
+  fails-page (Some j) h failed =
+      let d = IsDue-entry s tables j h in
+      goes-stays o e s m s n c tables same (Stays-not_issued (block_to_write j s) s d.busy m tables sized d.inside d.due n failed framed) kept
+
+  fails-copy : (x : Option ℕ) → next_copy s ≡ x → Failing (copy_or x (page_item s))
+  fails-copy None h failed = fails-page (next_page s) refl failed
+  fails-copy (Some i) h failed =
+      let next = IsNext-entry s tables i h in
+      goes-stays o e s m s n c tables same (Stays-not_copied (block_listed i s) s m next.pending tables sized next.inside n failed framed) kept
+
+  fails-next : (q : Next) → ((k : ℕ) → q ≡ Slot k → k < slot_blocks e.p) → FailsItem e (item q s) s m n
+      → (is_written q ≡ true → block_at c.next 1 ≡ commit_of e.epoch)
+      → Move o (layout_of o) (standing m (saved_at q c) c.kept (Some c.sealed)) (standing_failed q n c)
+  fails-next Nothing inside failed commit = absurd failed
+  fails-next Copies inside failed commit = fails-copy (next_copy s) refl failed
+  fails-next Pages inside failed commit = fails-page (next_page s) refl failed
+  fails-next (Slot k) inside failed commit = fails-slot k (inside k refl) failed
+  fails-next Settle inside failed commit = goes o c m n (Spares-failed (1 ∷ looked o.geometry c.before) m n failed framed)
+  fails-next Commit inside failed commit =
+      let write : HasFailedToWrite 1 (block_at c.next 1) m n = subst (λ (b : Block). HasFailedToWrite 1 b m n) (sym (commit refl)) failed in
+      Commits c.before c.next c.kept c.sealed m n (inr (write, framed))
+  fails-next Confirm inside failed commit =
+      Goes (InDoubt c.before c.next) c.kept (Some c.sealed) m n
+      (Spares-failed (1 ∷ (looked_by (layout_of o) c.before ++ looked_by (layout_of o) c.next)) m n failed framed)
+
+pub failed_items_move : FailedItemsMove
+failed_items_move o e s m n c sound tables sized fits failed framed kept commit =
+    fails-next o e s m n c tables sized fits.same_p framed kept e.next sound.inside failed commit

@@ -12,15 +12,15 @@ use Rattle.thy_record.specs.Issuing.{IsToldBy}
 use Rattle.thy_view.specs.Origin.{Origin, at}
 use Rattle.thy_view.specs.Safe.{ceiling}
 use Rattle.thy_control.specs.State.{State, AreSoundTables, IsSized}
-use Rattle.thy_control.specs.CheckpointTables.{tables0}
+use Rattle.thy_control.specs.CheckpointTables.{tables0, tables1}
 use Rattle.thy_control.specs.Stays.{HoldAll, Stays}
 use Rattle.thy_protocol.specs.Layout.{Layout}
 use Rattle.thy_protocol.specs.Moves.{Standing, standing, Move}
 use Rattle.thy_protocol.specs.VersionOne.{version_one}
 use Rattle.thy_commit.specs.declared.next.Next.{Next}
-use Rattle.thy_commit.specs.declared.next.Next.TheVariants.{Commit, Confirm}
+use Rattle.thy_commit.specs.declared.next.Next.TheVariants.{Settle, Commit, Confirm}
 use Rattle.thy_commit.specs.Items.{Item, SettleItem, CommitItem, ConfirmItem, is_under_way}
-use Rattle.thy_commit.specs.Progress.{Progress, IsSoundProgress, Fits, item_of, device_next}
+use Rattle.thy_commit.specs.Progress.{Progress, IsSoundProgress, Fits, item_of, device_next, FailsNext}
 use Rattle.thy_commit.specs.Versions.{lasts}
 use Rattle.thy_commit.specs.Written.{Stands}
 
@@ -82,9 +82,32 @@ ItemsMove =
     → IsKeptBy o e s c.before → IsMadeFor o e s m c
     → Move o (layout_of o) (standing_at e m c) (standing_after (item_of e s) e m (device_next e s m) c)
 
--- and so is every call of the controller until the first barrier
+-- the image that is made has the tables of the checkpoint under way, and names its epoch
+abbrev pub IsNextBy : Origin → Progress → State → List Block → Type 0
+IsNextBy o e s next = IsToldBy o.geometry next e.epoch (tables1 s)
+
+-- so has the one that the first barrier makes ready
+abbrev pub NextIsTold : Type 0
+NextIsTold =
+    (o : Origin) (e : Progress) (s : State) (m : Device) (c : Checkpoints)
+    → AreSoundTables s → Fits e s → Stands e s m → e.next ≡ Settle → e.p ≡ o.geometry → IsMadeFor o e s m c
+    → IsNextBy o e s (next_image m (commit_of e.epoch))
+
+-- every call of the controller is a move too, whether or not it failed
 abbrev pub StaysMove : Type 0
 StaysMove =
     (o : Origin) (e : Progress) (s : State) (m : Device) (t : State) (n : Device) (c : Checkpoints)
-    → AreSoundTables s → Fits e s → Stays s m t n → IsKeptBy o e s c.before → is_written e.next ≡ false
+    → AreSoundTables s → Fits e s → Stays s m t n → IsKeptBy o e s c.before → (is_written e.next ≡ true → IsNextBy o e s c.next)
     → Move o (layout_of o) (standing_at e m c) (standing_at e n c)
+
+-- and so is an item that failed: the write of the commit block leaves the two in doubt, and every other one what was
+abbrev pub standing_failed : Next → Device → Checkpoints → Standing
+standing_failed Commit n c = standing n (InDoubt c.before c.next) c.kept (Some c.sealed)
+standing_failed next n c = standing n (saved_at next c) c.kept (Some c.sealed)
+
+abbrev pub FailedItemsMove : Type 0
+FailedItemsMove =
+    (o : Origin) (e : Progress) (s : State) (m n : Device) (c : Checkpoints)
+    → IsSoundProgress e → AreSoundTables s → IsSized s m → Fits e s → FailsNext e s m n → IsFramed m n
+    → IsKeptBy o e s c.before → (is_written e.next ≡ true → block_at c.next 1 ≡ commit_of e.epoch)
+    → Move o (layout_of o) (standing_at e m c) (standing_failed e.next n c)

@@ -1,6 +1,6 @@
 //! Laws of the engine, each the contract of a function that does nothing.
 ghost use Rattle.thy_commit.specs.Cycles.{ItemsCount};
-ghost use Rattle.thy_commit.specs.Moves.{ItemsMove, StaysMove};
+ghost use Rattle.thy_commit.specs.Moves.{FailedItemsMove, ItemsMove, NextIsTold, StaysMove};
 ghost use Rattle.thy_commit.specs.Versions.{ItemsMoveVersions, MemoryIsLast};
 ghost use Rattle.thy_commit.specs.Written.{ItemsWrite, StaysWritten};
 
@@ -41,12 +41,19 @@ pub fn every_item_takes_a_cycle()
 
 /// Every item is a move of the run's checkpoints on the NVM: it spares all places that tell what the committed one is; the
 /// first barrier makes the next one ready, its commit block leaves the two in doubt, and the barrier behind that ends
-/// the doubt. Every call of the controller before the first barrier is a move too.
+/// the doubt. So is an item that failed: the commit block's write leaves the two in doubt, and every other what was.
 pub fn items_are_moves()
     ensures items { ItemsMove }
-    ensures stays { StaysMove }
+    ensures failed { FailedItemsMove }
 {
     a_copy_keeps_versions();
     a_page_write_keeps_versions();
     a_page_write_keeps_others();
 }
+
+/// Every call of the controller in between is a move too, whether or not it failed. Behind the first barrier it spares the
+/// next image as well, which has the tables of the checkpoint under way.
+pub fn calls_are_moves()
+    ensures next { NextIsTold }
+    ensures stays { StaysMove }
+{}

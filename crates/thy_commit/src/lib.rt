@@ -7,7 +7,7 @@ mod next;
 
 pub use engine::Engine;
 pub use laws::{
-    every_item_takes_a_cycle, items_are_moves, items_move_versions, memory_is_last,
-    the_checkpoint_is_written_in_turn,
+    calls_are_moves, every_item_takes_a_cycle, items_are_moves, items_move_versions,
+    memory_is_last, the_checkpoint_is_written_in_turn,
 };
 pub use next::Next;
