@@ -1,16 +1,14 @@
 -- Each micro-step whose block hits acts as is said, whatever store is behind the cache.
-use Rattle.std.proofs.Common.{◌≡◌, ℕ, ◌+◌, ◌<◌, ◌≤◌, List, length, drop, Option, Some, None, refl, sym, ◌∙◌, ap, subst, arith}
-use Rattle.thy_base.specs.declared.block.Block.{Block}
+use Rattle.std.proofs.Common.{◌≡◌, ℕ, ◌+◌, ◌≤◌, length, drop, None, sym, ◌∙◌, ap, arith}
 use Rattle.thy_base.specs.Geometry.{memory_blocks}
 use Rattle.thy_cache.specs.Contents.{Contents, dirty_count, KeepsSize}
 use Rattle.thy_cache.specs.Flat.{flat, AgreesStill}
 use Rattle.thy_flat.specs.declared.span.Span.{Span}
-use Rattle.thy_flat.specs.Spans.{head_len, rest_of}
+use Rattle.thy_flat.specs.Spans.{head_len}
 use Rattle.thy_isa.specs.declared.state.Effect.{Effect}
-use Rattle.thy_hart.specs.declared.hand.Hand.{Hand}
 use Rattle.thy_hart.specs.declared.hand.Hand.TheVariants.{Nothing, Reading, Writing}
 use Rattle.thy_hart.specs.declared.hand.HartStep.TheVariants.{Moved}
-use Rattle.thy_hart.specs.Core.{Core, block_for, fetched_block, next_block, blocks_of, reserved, IsWriting}
+use Rattle.thy_hart.specs.Core.{Core, block_for, fetched_block, reserved, IsWriting}
 use Rattle.thy_hart.specs.Acts.{Given, block_written, acted_by, answer_by, memory_by}
 use Rattle.thy_hart.specs.Parts.{KeepsLines, FetchesIn, ReadsIn, WritesIn, Acts}
 use Rattle.thy_hart.proofs.HandLemmas.{written_on-reserved}

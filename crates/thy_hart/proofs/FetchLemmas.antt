@@ -1,16 +1,14 @@
 -- The fetch reads one block.
-use Rattle.std.proofs.Common.{◌≡◌, ℕ, ◌+◌, ◌-◌, ◌*◌, ◌/◌, ◌%◌, ◌^◌, ◌<◌, ◌≤◌, ◌==◌, Bool, true, false, if◌then◌else◌, List, [], ◌++◌, length, Option, Some, None, refl, sym, ◌∙◌, ap, subst, append-nil, arith}
+use Rattle.std.proofs.Common.{◌≡◌, ℕ, ◌+◌, ◌-◌, ◌%◌, ◌^◌, ◌<◌, ◌≤◌, ◌==◌, Bool, true, false, if◌then◌else◌, List, ◌++◌, length, Option, Some, None, refl, sym, ◌∙◌, ap, subst, append-nil, arith}
 use Rattle.std.proofs.lemmas.Bool.Decides.{nat_tests}
 use Rattle.thy_base.specs.declared.block.Block.{Block}
 use Rattle.thy_base.specs.declared.config.Parameters.{Parameters}
-use Rattle.thy_base.specs.Device.{block_at}
-use Rattle.thy_base.specs.Geometry.{IsInRange, memory_blocks, program_size, console_room}
+use Rattle.thy_base.specs.Geometry.{IsInRange, memory_blocks, program_size}
 use Rattle.thy_base.specs.Inside.{is_inside}
 use Rattle.thy_base.specs.LittleEndian.{number_at}
 use Rattle.thy_base.proofs.RangeLemmas.{base_aligned, console_most, pages_most}
 use Rattle.thy_cache.specs.Contents.{Contents}
 use Rattle.thy_cache.specs.Flat.{flat, ReadsAs}
-use Rattle.thy_cache.proofs.FlatLemmas.{length-flat}
 use Rattle.thy_flat.specs.declared.span.Span.{Span}
 use Rattle.thy_flat.specs.Spans.{span, first_block, first_byte, rest_of, head_in, head_read, gathered}
 use Rattle.thy_flat.proofs.SpanLaws.{gathered-none, gathered-rest, rest_of-none}

@@ -1,12 +1,12 @@
 -- The steps of the hart follow those of the plain machine.
-use Rattle.std.proofs.Common.{◌≡◌, ℕ, ◌≤◌, true, false, List, length, refl, sym, ◌∙◌, ap, subst}
+use Rattle.std.proofs.Common.{◌≡◌, ℕ, true, false, List, sym, ◌∙◌, ap, subst}
 use Rattle.thy_base.specs.declared.block.Block.{Block}
 use Rattle.thy_base.specs.declared.cause.EndCause.{EndCause}
 use Rattle.thy_base.specs.declared.cause.EndCause.TheVariants.{Length, Exhausted, Ended}
 use Rattle.thy_base.specs.declared.config.Parameters.{Parameters}
-use Rattle.thy_base.specs.Geometry.{IsInRange, memory_blocks, console_room}
+use Rattle.thy_base.specs.Geometry.{IsInRange}
 use Rattle.thy_cache.proofs.FlatLemmas.{length-flat}
-use Rattle.thy_isa.specs.OnBlocks.{setting_for, effect_in, bytes_in, cpu_after, blocks_after}
+use Rattle.thy_isa.specs.OnBlocks.{setting_for}
 use Rattle.thy_isa.specs.Step.{State, is_running, step}
 use Rattle.thy_isa.proofs.BlockLaws.{state_from-step}
 use Rattle.thy_hart.specs.declared.hand.Hand.TheVariants.{Nothing}

@@ -1,5 +1,5 @@
 -- What is next of an instruction in hand, by what is left to read and to write.
-use Rattle.std.proofs.Common.{◌≡◌, ℕ, ◌+◌, ◌-◌, ◌*◌, ◌<◌, ◌≤◌, ◌==◌, Bool, true, false, if◌then◌else◌, nat_lt, List, [], ◌++◌, length, take, drop, Option, Some, None, refl, sym, ◌∙◌, ap, subst, arith}
+use Rattle.std.proofs.Common.{◌≡◌, ℕ, ◌+◌, ◌<◌, ◌≤◌, ◌==◌, Bool, true, false, if◌then◌else◌, nat_lt, List, ◌++◌, length, drop, refl, sym, ◌∙◌, ap, subst, arith}
 use Rattle.std.proofs.lemmas.Bool.Decides.{nat_tests}
 use Rattle.std.proofs.lemmas.List.{length-append, length-drop, length-take-le}
 use Rattle.thy_base.specs.declared.block.Block.{Block}
@@ -20,8 +20,8 @@ use Rattle.thy_isa.specs.Moves.{moves_of, brings}
 use Rattle.thy_isa.specs.OnBlocks.{calls_in}
 use Rattle.thy_isa.proofs.MoveLaws.{moves_of-spans, moves_of-enough}
 use Rattle.thy_hart.specs.declared.hand.Hand.{Hand}
-use Rattle.thy_hart.specs.declared.hand.Hand.TheVariants.{Nothing, Reading, Reserving, Writing, Retiring}
-use Rattle.thy_hart.specs.Core.{Core, blocks_of, reserved, has_written, read_len, IsReading, IsWriting, IsInHand, IsSound}
+use Rattle.thy_hart.specs.declared.hand.Hand.TheVariants.{Reading, Reserving, Writing, Retiring}
+use Rattle.thy_hart.specs.Core.{Core, blocks_of, reserved, read_len, IsReading, IsWriting, IsInHand, IsSound}
 use Rattle.thy_hart.specs.Acts.{begun, written_on, room_reserved}
 
 -- ---- choices

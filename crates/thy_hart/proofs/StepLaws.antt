@@ -1,16 +1,13 @@
 -- A step of the hart, from what it does.
-use Rattle.std.proofs.Common.{◌≡◌, ◌⊎◌, ℕ, ◌+◌, ◌-◌, ◌<◌, ◌≤◌, Bool, true, false, not, if◌then◌else◌, List, length, Option, Some, None, refl, sym, ◌∙◌, ap, subst, inl, inr, arith}
-use Rattle.thy_base.specs.declared.block.Block.{Block}
-use Rattle.thy_base.specs.declared.cause.EndCause.{EndCause}
+use Rattle.std.proofs.Common.{◌≡◌, ◌⊎◌, ℕ, ◌+◌, ◌-◌, ◌<◌, ◌≤◌, Bool, true, false, not, if◌then◌else◌, length, Option, Some, None, refl, sym, ◌∙◌, ap, subst, inl, inr, arith}
 use Rattle.thy_base.specs.Device.{block_at}
 use Rattle.thy_base.specs.Geometry.{memory_blocks}
 use Rattle.thy_base.specs.Store.{Holding}
 use Rattle.thy_cache.specs.Contents.{Contents, hits, dirty_count}
-use Rattle.thy_cache.specs.Flat.{flat}
+use Rattle.thy_cache.specs.Flat.{flat, Agrees}
 use Rattle.thy_flat.specs.Flat.{AllLong}
 use Rattle.thy_isa.specs.declared.state.CpuState.{CpuState}
 use Rattle.thy_base.specs.declared.config.Parameters.{Parameters}
-use Rattle.thy_base.proofs.RangeLemmas.{pages_most}
 use Rattle.thy_isa.specs.Step.{fetch_fault}
 use Rattle.thy_base.specs.Geometry.{program_size}
 use Rattle.thy_flat.specs.Spans.{span, first_block}
@@ -22,12 +19,12 @@ use Rattle.thy_hart.specs.declared.hand.HartStep.TheVariants.{Moved, Retired, Wa
 use Rattle.thy_hart.specs.Core.{Core, unless_fault, fetched_block, block_for, next_block, reserved, IsInHand, IsSound}
 use Rattle.thy_hart.specs.Acts.{Given, acted_by, answer_by, memory_by}
 use Rattle.thy_hart.specs.Bring.{IsNearer, IsBrought}
-use Rattle.thy_hart.specs.Moments.{Moment, moment, memory_of, is_missing, brings_line, IsOpenInTheWay, IsOpenFor, IsReady, touch_left, left_behind, moves_left}
+use Rattle.thy_hart.specs.Moments.{Moment, moment, is_missing, IsOpenInTheWay, IsOpenFor, IsReady, touch_left}
 use Rattle.thy_hart.specs.Parts.{HitsNext, Acts}
-use Rattle.thy_hart.specs.Steps.{coming, ComesNearer, Nears, Closes, Leads, IsStep}
+use Rattle.thy_hart.specs.Steps.{coming, ComesNearer, Nears, Closes, IsStep}
 use Rattle.thy_hart.proofs.FetchLemmas.{fetched_inside, word_inside}
 use Rattle.thy_hart.proofs.HandLemmas.{first_block-inside}
-use Rattle.thy_hart.proofs.StepLemmas.{FallsAt, left_at, IsDone, with_hand, done_by}
+use Rattle.thy_hart.proofs.StepLemmas.{FallsAt, left_at, IsDone, done_by}
 
 -- ---- the block that is touched lies in memory
 
@@ -118,6 +115,16 @@ none_open c (Some b) page hit h = none_open_by c b page hit h
 none_opens : (c : Contents) (o : Option ℕ) (page : Option ℕ) → page ≡ None → IsOpenFor c o page
 none_opens c None page h = h
 none_opens c (Some b) page h = inl h
+
+pub ready-closed : (m : Moment) → length m.held.blocks ≡ memory_blocks m.hart.geometry → Agrees m.cache m.held.blocks → m.held.ready ≡ true
+    → dirty_count m.cache + reserved m.hart.hand ≤ m.held.free → m.held.open_page ≡ None → IsReady m
+ready-closed m blocks agree ready room none = record {
+  blocks = blocks;
+  agree = agree;
+  ready = ready;
+  room = room;
+  opened = none_opens m.cache (next_block m.hart) m.held.open_page none;
+}
 
 closes : (step : HartStep) (held : Holding) → held.open_page ≡ None → Closes step held
 closes Moved held h = tt

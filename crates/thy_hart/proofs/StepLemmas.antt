@@ -1,14 +1,13 @@
 -- What each micro-step does that touches its block, or none: whither it leads, how near that is, what it writes.
-use Rattle.std.proofs.Common.{◌≡◌, ℕ, ◌+◌, ◌-◌, ◌*◌, ◌<◌, ◌≤◌, ◌==◌, Bool, true, false, if◌then◌else◌, nat_lt, List, [], ◌++◌, length, take, drop, slice_set, Option, Some, None, refl, sym, ◌∙◌, ap, subst, append_assoc, append-nil, arith}
+use Rattle.std.proofs.Common.{◌≡◌, ℕ, ◌+◌, ◌-◌, ◌*◌, ◌<◌, ◌≤◌, ◌==◌, Bool, true, false, if◌then◌else◌, nat_lt, List, ◌++◌, length, take, drop, slice_set, Option, Some, None, refl, sym, ◌∙◌, ap, append_assoc, append-nil, arith}
 use Rattle.std.proofs.lemmas.Bool.Decides.{nat_tests}
 use Rattle.std.proofs.lemmas.List.{drop-drop, length-take}
 use Rattle.thy_base.specs.declared.block.Block.{Block}
-use Rattle.thy_base.specs.declared.cause.EndCause.{EndCause}
 use Rattle.thy_base.specs.declared.cause.EndCause.TheVariants.{Length, Exhausted, Ended}
 use Rattle.thy_base.specs.declared.config.Parameters.{Parameters}
 use Rattle.thy_base.specs.Blocks.{overwritten}
 use Rattle.thy_base.specs.Device.{block_at}
-use Rattle.thy_base.specs.Geometry.{memory_blocks, program_size, console_room}
+use Rattle.thy_base.specs.Geometry.{program_size, console_room}
 use Rattle.thy_base.proofs.BlockLemmas.{length-overwritten}
 use Rattle.thy_cache.specs.Contents.{Contents, hits, victim_of, is_dirty_victim}
 use Rattle.thy_flat.specs.declared.span.Span.{Span}
@@ -20,22 +19,21 @@ use Rattle.thy_isa.specs.declared.state.Cause.{Cause}
 use Rattle.thy_isa.specs.declared.state.CpuState.{CpuState}
 use Rattle.thy_isa.specs.declared.state.Effect.{Effect}
 use Rattle.thy_isa.specs.declared.state.Effect.TheVariants.{Trap}
-use Rattle.thy_isa.specs.Effects.{word_effect}
-use Rattle.thy_isa.specs.Moves.{moves_of, brings, number_in}
+use Rattle.thy_isa.specs.Moves.{moves_of, number_in}
 use Rattle.thy_isa.specs.OnBlocks.{calls_in, effect_in, bytes_in, cpu_after, blocks_after}
-use Rattle.thy_isa.specs.Step.{State, fetched as unless_trapped, fetch_fault, is_running, within}
+use Rattle.thy_isa.specs.Step.{fetched as unless_trapped, fetch_fault, is_running}
 use Rattle.thy_isa.proofs.StorableLaws.{finished-room}
 use Rattle.thy_epoch.specs.Epoch.{exhausted}
 use Rattle.thy_hart.specs.declared.hand.Hand.{Hand}
 use Rattle.thy_hart.specs.declared.hand.Hand.TheVariants.{Nothing, Reading, Reserving, Writing, Retiring}
 use Rattle.thy_hart.specs.declared.hand.HartStep.{HartStep}
 use Rattle.thy_hart.specs.declared.hand.HartStep.TheVariants.{Moved, Retired, Waiting, Over}
-use Rattle.thy_hart.specs.Core.{Core, unless_fault, fetched_block, block_for, next_block, blocks_of, reserved, has_written, IsReading, IsWriting, IsInHand}
+use Rattle.thy_hart.specs.Core.{Core, unless_fault, fetched_block, block_for, next_block, blocks_of, reserved, has_written, IsWriting, IsInHand}
 use Rattle.thy_hart.specs.Acts.{Given, begun, written_on, fetched, block_read, dropped, room_reserved, room_answer, block_written, epoch_retired, retired, over_or_retired, acted_by, answer_by, memory_by}
 use Rattle.thy_hart.specs.Moments.{touch_steps, touch_left, left_behind}
 use Rattle.thy_hart.specs.Parts.{HitsNext}
-use Rattle.thy_hart.specs.Steps.{current, led, led_from_fetch, coming_by, coming, IsOnTheWay, HasCome, IsDropped, IsUnmoved, Leads, StaysWritten}
-use Rattle.thy_hart.proofs.HandLemmas.{begun_by, written_by, head_len-some, blocks_of-most, blocks_of-least, blocks_of-one, blocks_of-two, blocks_of-rest}
+use Rattle.thy_hart.specs.Steps.{current, led, coming_by, coming, HasCome, Leads, StaysWritten}
+use Rattle.thy_hart.proofs.HandLemmas.{begun_by, written_by, head_len-some, blocks_of-most, blocks_of-least, blocks_of-two, blocks_of-rest}
 
 -- how many steps are left, before and after
 abbrev pub FallsAt : HartStep → ℕ → ℕ → Type 0

@@ -1,18 +1,26 @@
 -- Laws of the hart's steps.
-use Rattle.std.specs.Prelude.{◌≡◌, ◌⊎◌, ℕ, ◌≤◌, true, false, List, length}
+use Rattle.std.specs.Prelude.{◌≡◌, ℕ, ◌+◌, ◌≤◌, true, false, List, length, None}
 use Rattle.thy_base.specs.declared.block.Block.{Block}
 use Rattle.thy_base.specs.declared.cause.EndCause.{EndCause}
 use Rattle.thy_base.specs.declared.cause.EndCause.TheVariants.{Length, Exhausted, Ended}
 use Rattle.thy_base.specs.Geometry.{IsInRange, memory_blocks, console_room}
+use Rattle.thy_cache.specs.Contents.{dirty_count}
+use Rattle.thy_cache.specs.Flat.{Agrees}
 use Rattle.thy_isa.specs.OnBlocks.{setting_for}
 use Rattle.thy_isa.specs.Step.{State, is_running, step}
 use Rattle.thy_hart.specs.declared.hand.Hand.TheVariants.{Nothing}
 use Rattle.thy_hart.specs.declared.hand.HartStep.{HartStep}
 use Rattle.thy_hart.specs.declared.hand.HartStep.TheVariants.{Moved, Retired, Waiting, Over}
-use Rattle.thy_hart.specs.Core.{Core, has_written}
+use Rattle.thy_hart.specs.Core.{Core, reserved, has_written}
 use Rattle.thy_hart.specs.Acts.{Given}
-use Rattle.thy_hart.specs.Moments.{Moment, memory_of, moves_left}
+use Rattle.thy_hart.specs.Moments.{Moment, memory_of, IsReady, moves_left}
 use Rattle.thy_hart.specs.Steps.{current, coming, IsStep}
+
+-- with no page open, a hart is ready where cache and store agree and there is room
+abbrev pub ReadyWithNoPageOpen : Type 0
+ReadyWithNoPageOpen =
+    (m : Moment) → length m.held.blocks ≡ memory_blocks m.hart.geometry → Agrees m.cache m.held.blocks
+    → m.held.ready ≡ true → dirty_count m.cache + reserved m.hart.hand ≤ m.held.free → m.held.open_page ≡ None → IsReady m
 
 -- an instruction has few steps left
 abbrev pub FewMovesAreLeft : Type 0

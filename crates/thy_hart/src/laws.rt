@@ -1,5 +1,11 @@
 //! Laws of the hart's steps, each the contract of a function that does nothing.
-ghost use Rattle.thy_hart.specs.Laws.{FewMovesAreLeft, NextStateIsToCome, StepFollowsOn};
+ghost use Rattle.thy_hart.specs.Laws.{ReadyWithNoPageOpen, FewMovesAreLeft, NextStateIsToCome, StepFollowsOn};
+
+/// With no page open, a hart is ready where cache and store agree and there is room: so is a new one, and one
+/// whose next epoch has begun.
+pub fn a_hart_is_ready_with_no_page_open()
+    ensures { ReadyWithNoPageOpen }
+{}
 
 /// An instruction has at most sixteen steps left before it retires, besides copies that have to go first.
 pub fn few_moves_are_left()

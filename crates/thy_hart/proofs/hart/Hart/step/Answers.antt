@@ -1,4 +1,4 @@
-use Rattle.std.proofs.Common.{◌≡◌, Some, sym, ◌∙◌, ap, subst, arith, rules}
+use Rattle.std.proofs.Common.{◌≡◌, Some, sym, ◌∙◌, ap, subst, arith}
 use Rattle.thy_hart.specs.Acts.{given}
 use Rattle.thy_hart.specs.Core.{Core, next_block, IsSound}
 use Rattle.thy_hart.specs.Parts.{core_of, HitsNext, Acts}

@@ -1,4 +1,3 @@
-use Rattle.thy_hart.proofs.FetchLemmas.{room_fits}
 use Rattle.thy_hart.proofs.HandLemmas.{fetch-sound, begun-unreserved}
 use Rattle.thy_hart.specs.Core.{reserved}
 use Rattle.std.proofs.Common.{◌∙◌, ap}
