@@ -1,0 +1,6 @@
+pub mod ListedLemmas
+pub mod StageLemmas
+pub mod DecodeLemmas
+pub mod WorkLemmas
+pub mod RecoverLemmas
+pub mod StepLemmas

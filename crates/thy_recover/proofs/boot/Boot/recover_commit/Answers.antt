@@ -1,0 +1,12 @@
+use Rattle.thy_base.specs.Device.{Device, newest}
+use Rattle.thy_recover.specs.Boot.{after_commit}
+use Rattle.thy_recover.specs.Recovers.{HasRead}
+use Rattle.thy_recover.proofs.RecoverLemmas.{read_commit-found}
+use Rattle.thy_recover.proofs.StepLemmas.{at_ok}
+use Rattle.thy_recover.proofs.boot.Boot.recover_commit.Goals as goal
+
+pub returns-clause-read : goal.returns-clause-read
+returns-clause-read g c =
+    let n : Device = g.N.Nvm.device c.args.nvm.now in
+    at_ok (λ m d. HasRead m d c.args.control.now) c.read_commit.result (g.N.Nvm.device c.read_commit.new.nvm) n c.read_commit.new.self (record c.args.self.now { stage = after_commit (newest n 1) })
+    c.read_commit.ensures.state c.read_commit.ensures.reads.same (read_commit-found n c.args.self.now c.args.control.now c.requires.stage c.requires.read)

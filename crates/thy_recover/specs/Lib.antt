@@ -1,0 +1,4 @@
+pub mod Listed
+pub mod Boot
+pub mod Reads
+pub mod Recovers

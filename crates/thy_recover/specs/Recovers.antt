@@ -1,0 +1,108 @@
+-- What was read of an image so far, and what the controller has of it.
+use Rattle.std.specs.Prelude.{◌≡◌, ℕ, ◌+◌, ◌*◌, ◌%◌, ◌<◌, true, false, List, [], length, map, None}
+use Rattle.std.specs.List.{range_with_len}
+use Rattle.thy_base.specs.declared.block.Block.{Block}
+use Rattle.thy_base.specs.declared.config.Parameters.{Parameters}
+use Rattle.thy_base.specs.Device.{Device, block_at}
+use Rattle.thy_base.specs.Geometry.{memory_blocks}
+use Rattle.thy_base.specs.Places.{slot_place, image_blocks}
+use Rattle.thy_dram.specs.Contents.{Contents}
+use Rattle.thy_isa.specs.OnBlocks.{state_from}
+use Rattle.thy_record.specs.Commit.{is_zero, epoch_of, commit_fault}
+use Rattle.thy_record.specs.Cpu.{cpu_of_record}
+use Rattle.thy_record.specs.Decoded.{Nothing, Refused as IsRefused, At}
+use Rattle.thy_record.specs.Files.{block_in, blocks_of}
+use Rattle.thy_record.specs.Header.{header_fault}
+use Rattle.thy_record.specs.Images.{slot_in, decode_image}
+use Rattle.thy_record.specs.Slots.{tables_in, slot_fault}
+use Rattle.thy_record.specs.Tables.{entry_at}
+use Rattle.thy_cell.specs.Sound.{Holds}
+use Rattle.thy_control.specs.State.{State, cell_of, work_of, reads, new_state}
+use Rattle.thy_control.specs.Stays.{HoldAll}
+use Rattle.thy_control.specs.CheckpointTables.{tables0}
+use Rattle.thy_control.specs.Boot.{IsBooting, MayFrame, framed_block}
+use Rattle.thy_view.specs.Safe.{ceiling}
+use Rattle.thy_recover.specs.declared.stage.Stage.{Stage}
+use Rattle.thy_recover.specs.declared.stage.Stage.TheVariants.{Unread, Header, Slot, Frames, Refusing, Loading, Restored}
+use Rattle.thy_recover.specs.declared.stage.BootStep.{BootStep}
+use Rattle.thy_recover.specs.declared.stage.BootStep.TheVariants.{Reading, Loading as HasToLoad, Restarted, Refused}
+use Rattle.thy_recover.specs.Boot.{Booting, new_boot}
+
+-- the controller lists nothing yet
+pub record IsFresh (c : State) : Type 0 where
+  pub booting : IsBooting c
+  pub no_blocks : (k : ℕ) → entry_at (tables0 c).btt k ≡ None
+  pub no_pages : (k : ℕ) → entry_at (tables0 c).ptt k ≡ None
+
+-- an image has the commit block of an epoch
+pub record HasCommit (g : List Block) (epoch : ℕ) : Type 0 where
+  pub committed : is_zero (block_at g 1) ≡ false
+  pub of_epoch : epoch_of (block_at g 1) ≡ epoch
+
+-- and header and commit block have no fault
+pub record HasHead (p : Parameters) (g : List Block) (epoch : ℕ) : Type 0 where
+  pub commit : HasCommit g epoch
+  pub header_fits : header_fault (block_at g 0) p true ≡ None
+  pub commit_fits : commit_fault (block_at g 1) ceiling ≡ None
+
+-- the first blocks of these bytes are those of the epoch's slot
+pub record HasSlot (p : Parameters) (g : List Block) (epoch n : ℕ) (slot : List ℕ) : Type 0 where
+  pub each : (k : ℕ) → k < n → block_in slot k ≡ block_at g (slot_place p (epoch % 2) + k)
+
+-- these bytes are the whole slot, which has no fault, and the controller lists its tables
+pub record HasTables (p : Parameters) (g : List Block) (epoch : ℕ) (slot : List ℕ) (c : State) : Type 0 where
+  pub head : HasHead p g epoch
+  pub slot_is : blocks_of slot ≡ slot_in p g
+  pub slot_fits : slot_fault p ceiling epoch (blocks_of slot) ≡ None
+  pub booting : IsBooting c
+  pub tables_are : tables0 c ≡ tables_in p (blocks_of slot)
+
+-- the frames of listed pages are loaded, up to block n of the page that entry j lists
+pub record AreFramed (c : State) (n : Device) (j k : ℕ) : Type 0 where
+  pub each : (i m : ℕ) → MayFrame i m c → 64 * i + m < 64 * j + k → Holds (reads c n) (cell_of c (framed_block i m c))
+
+-- what a load of each block of memory gives
+abbrev pub loads : State → Device → List Block
+loads c n = map (work_of c n) (range_with_len 0 (memory_blocks c.p))
+
+-- the checkpoint is that of the image, and the controller has it: its tables, its memory, and what has to stand in the frames
+pub record IsRestored (p : Parameters) (n : Device) (epoch : ℕ) (slot : List ℕ) (c : State) : Type 0 where
+  pub tables : HasTables p n.image epoch slot c
+  pub holds : HoldAll c n
+  pub found : decode_image p ceiling n.image ≡ At epoch (state_from p (cpu_of_record (blocks_of slot)) (loads c n))
+
+-- by the stage, what was read of the image that stands
+abbrev pub HasReadAt : Stage → Device → Parameters → List ℕ → State → Type 0
+HasReadAt Unread n p slot c = IsFresh c
+HasReadAt (Header epoch fault) n p slot c = IsFresh c × HasCommit n.image epoch × (fault ≡ commit_fault (block_at n.image 1) ceiling)
+HasReadAt (Slot epoch next) n p slot c = IsFresh c × HasHead p n.image epoch × HasSlot p n.image epoch next slot
+HasReadAt (Frames epoch page next) n p slot c = HasTables p n.image epoch slot c × AreFramed c n page next × MayFrame page next c
+HasReadAt (Refusing bad) n p slot c = decode_image p ceiling n.image ≡ IsRefused bad
+HasReadAt Loading n p slot c = IsFresh c × (decode_image p ceiling n.image ≡ Nothing)
+HasReadAt (Restored epoch) n p slot c = IsRestored p n epoch slot c
+
+-- a boot, and the controller that it fills, over a device with nothing queued
+pub record HasRead (n : Device) (b : Booting) (c : State) : Type 0 where
+  pub same_p : c.p ≡ b.p
+  pub sized : length n.image ≡ image_blocks b.p
+  pub settled : n.queue ≡ []
+  pub so_far : HasReadAt b.stage n b.p b.slot c
+
+-- it reads on, or tells again that the image is refused
+abbrev pub CanRecover : Stage → Type 0
+CanRecover Loading = ⊥
+CanRecover (Restored epoch) = ⊥
+CanRecover _ = Unit {0}
+
+-- what an answer says of an image: a restart is that of its checkpoint, with memory as the controller loads it
+abbrev pub Tells : BootStep → Parameters → Device → State → Type 0
+Tells Reading p n c = Unit {0}
+Tells HasToLoad p n c = decode_image p ceiling n.image ≡ Nothing
+Tells (Restarted cpu epoch) p n c = (decode_image p ceiling n.image ≡ At epoch (state_from p cpu (loads c n))) × HoldAll c n
+Tells (Refused bad) p n c = decode_image p ceiling n.image ≡ IsRefused bad
+
+-- a new boot with a new controller
+abbrev pub NewHasRead : Type 0
+NewHasRead =
+    (p : Parameters) (dram : Contents) (n : Device) → length n.image ≡ image_blocks p → n.queue ≡ []
+    → HasRead n (new_boot p) (new_state p dram)

@@ -1,0 +1,80 @@
+//! The boot.
+ghost use Rattle.std.specs.Prelude.{◌≡◌, ◌+◌, ◌*◌, ◌≤◌, length, IfOk};
+ghost use Rattle.thy_base.specs.Bytes.{written};
+ghost use Rattle.thy_recover.specs.Boot.{new_boot, answer_of, IsBoot};
+
+use crate::stage::{BootStep, Stage};
+use std::alloc::{AllocError, Global};
+use std::marker::Model;
+use thy_base::{BLOCK_SIZE, Block, Geometry};
+use thy_record::cpu_in;
+
+/// A boot. Only `new` takes memory: room for the bytes of a slot.
+#[derive(Drop)]
+pub struct Boot {
+    pub(crate) geometry: Geometry,
+    pub(crate) slot: Vec<u8>,
+    pub(crate) stage: Stage,
+}
+
+impl Model for Boot {
+    ghost use Rattle.thy_recover.specs.Boot.{Booting, IsBoot};
+
+    ghost Value = { Booting };
+
+    ghost view = { λ b. record { p = b.geometry; slot = b.slot.items; stage = b.stage } };
+
+    ghost invariant = { λ b. IsBoot (record { p = b.geometry; slot = b.slot.items; stage = b.stage }) };
+}
+
+/// Writes a block over the bytes of block `k`.
+pub(crate) fn keep_block(bytes: &mut [u8], k: usize, block: &Block)
+    requires { 64 * k + 64 ≤ length bytes.old }
+    ensures { bytes.new ≡ written bytes.old (64 * k) block.now.0 }
+{
+    bytes[BLOCK_SIZE * k..BLOCK_SIZE * k + BLOCK_SIZE].copy_from_slice(&block.0);
+}
+
+impl Boot {
+    /// The boot of a machine whose power came on.
+    pub fn new(alloc: Global, geometry: &Geometry) -> Result<Boot, AllocError>
+        ensures { IfOk result (λ boot. boot ≡ new_boot geometry.now) }
+    {
+        let size = BLOCK_SIZE * geometry.slot_blocks() as usize;
+        let mut slot = Vec::with_capacity(alloc, size)?;
+        slot.resize(size, 0)?;
+        Ok(Boot {
+            geometry: *geometry,
+            slot,
+            stage: Stage::Unread,
+        })
+    }
+
+    /// The slot has its room, and what is read next is there.
+    pub(crate) fn fits(&self)
+        ensures { IsBoot self.now }
+    {
+        let _slot = &self.slot;
+    }
+
+    /// How far it is.
+    pub fn stage(&self) -> Stage
+        ensures { result ≡ self.now.stage }
+    {
+        self.stage
+    }
+
+    /// What a step tells that left the boot so far.
+    pub(crate) fn answer(&self) -> BootStep
+        ensures { result ≡ answer_of self.now }
+    {
+        match self.stage {
+            Stage::Unread | Stage::Header { .. } | Stage::Slot { .. } | Stage::Frames { .. } => {
+                BootStep::Reading
+            }
+            Stage::Refusing(bad) => BootStep::Refused(bad),
+            Stage::Loading => BootStep::Loading,
+            Stage::Restored(epoch) => BootStep::Restarted(cpu_in(&self.slot), epoch),
+        }
+    }
+}

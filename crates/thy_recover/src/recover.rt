@@ -1,0 +1,141 @@
+//! The steps of the recovery, and what each has read of the image.
+ghost use Rattle.std.specs.Prelude.{◌≡◌, IfOk, OnOk, OnErr};
+ghost use Rattle.thy_recover.specs.Boot.{answer_of};
+ghost use Rattle.thy_recover.specs.Reads.{IsRead};
+ghost use Rattle.thy_recover.specs.Recovers.{HasRead, CanRecover, Tells};
+
+use crate::boot::Boot;
+use crate::stage::{BootStep, Stage};
+use thy_base::{Nvm, NvmError};
+use thy_control::{Control, checkpoints_have_tables, loaded_frames_hold_all};
+use thy_record::BadImage;
+
+impl Boot {
+    ghost use Rattle.thy_recover.specs.declared.stage.Stage.TheVariants.{Unread as IsUnread, Header as IsHeader, Slot as IsSlot, Frames as IsFrames};
+
+    /// Reads the next block of the checkpoint in the NVM: commit block, header, the slot's blocks, and then, page by page,
+    /// those of the listed pages, into their frames. Writes nothing to the NVM. Once header, commit block or slot was found
+    /// at fault, it answers the refusal at each step. A restart is that of the checkpoint that the image means, with all of
+    /// memory in the controller. Nothing may be queued in the NVM. Where a read failed, boot and controller are as before.
+    pub fn recover<N: Nvm>(
+        &mut self,
+        control: &mut Control,
+        nvm: &mut N,
+    ) -> Result<BootStep, NvmError>
+        requires stage { CanRecover self.old.stage }
+        requires read { HasRead (N.device nvm.old) self.old control.old }
+        ensures answer { IfOk result (λ answer. answer ≡ answer_of self.new) }
+
+        // Restart, refusal, and that there is no checkpoint, are what the image decodes to.
+        ensures tells { IfOk result (λ answer. Tells answer self.new.p (N.device nvm.new) control.new) }
+        ensures read { OnOk result (HasRead (N.device nvm.new) self.new control.new) }
+
+        ensures boot { OnErr result (self.new ≡ self.old) }
+        ensures control { OnErr result (control.new ≡ control.old) }
+        ensures nvm { IsRead result (N.device nvm.old) (N.device nvm.new) }
+    {
+        self.read_next(control, nvm)?;
+        Ok(self.answer())
+    }
+
+    /// Reads the next block, where one is to be read.
+    fn read_next<N: Nvm>(&mut self, control: &mut Control, nvm: &mut N) -> Result<(), NvmError>
+        requires stage { CanRecover self.old.stage }
+        requires read { HasRead (N.device nvm.old) self.old control.old }
+        ensures read { OnOk result (HasRead (N.device nvm.new) self.new control.new) }
+        ensures boot { OnErr result (self.new ≡ self.old) }
+        ensures control { OnErr result (control.new ≡ control.old) }
+        ensures nvm { IsRead result (N.device nvm.old) (N.device nvm.new) }
+    {
+        match self.stage() {
+            Stage::Unread => self.recover_commit(control, nvm),
+            Stage::Header { epoch, fault } => self.recover_header(epoch, fault, control, nvm),
+            Stage::Slot { epoch, next } => self.recover_slot(epoch, next, control, nvm),
+            Stage::Frames { epoch, page, next } => {
+                self.recover_frame(epoch, page, next, control, nvm)
+            }
+            Stage::Refusing(_) | Stage::Loading | Stage::Restored(_) => Ok(()),
+        }
+    }
+
+    /// Reads the commit block.
+    fn recover_commit<N: Nvm>(&mut self, control: &Control, nvm: &mut N) -> Result<(), NvmError>
+        requires stage { self.old.stage ≡ IsUnread }
+        requires read { HasRead (N.device nvm.old) self.old control.now }
+        ensures read { OnOk result (HasRead (N.device nvm.new) self.new control.now) }
+        ensures boot { OnErr result (self.new ≡ self.old) }
+        ensures nvm { IsRead result (N.device nvm.old) (N.device nvm.new) }
+    {
+        let _control = control;
+        self.read_commit(nvm)
+    }
+
+    /// Reads the header.
+    fn recover_header<N: Nvm>(
+        &mut self,
+        epoch: u64,
+        fault: Option<BadImage>,
+        control: &Control,
+        nvm: &mut N,
+    ) -> Result<(), NvmError>
+        requires stage { self.old.stage ≡ IsHeader epoch fault }
+        requires read { HasRead (N.device nvm.old) self.old control.now }
+        ensures read { OnOk result (HasRead (N.device nvm.new) self.new control.now) }
+        ensures boot { OnErr result (self.new ≡ self.old) }
+        ensures nvm { IsRead result (N.device nvm.old) (N.device nvm.new) }
+    {
+        let _control = control;
+        self.read_header(epoch, fault, nvm)
+    }
+
+    /// Reads block `next` of the slot; with the last, the slot is judged.
+    fn recover_slot<N: Nvm>(
+        &mut self,
+        epoch: u64,
+        next: u64,
+        control: &mut Control,
+        nvm: &mut N,
+    ) -> Result<(), NvmError>
+        requires stage { self.old.stage ≡ IsSlot epoch next }
+        requires read { HasRead (N.device nvm.old) self.old control.old }
+        ensures read { OnOk result (HasRead (N.device nvm.new) self.new control.new) }
+        ensures boot { OnErr result (self.new ≡ self.old) }
+        ensures control { OnErr result (control.new ≡ control.old) }
+        ensures nvm { IsRead result (N.device nvm.old) (N.device nvm.new) }
+    {
+        loaded_frames_hold_all();
+        checkpoints_have_tables();
+        self.fits();
+        control.tables();
+        self.read_block(epoch, next, nvm)?;
+        self.go_on(epoch, next, control);
+        control.tables();
+        Ok(())
+    }
+
+    /// Loads block `next` of the page that entry `page` lists into its frame.
+    fn recover_frame<N: Nvm>(
+        &mut self,
+        epoch: u64,
+        page: usize,
+        next: u64,
+        control: &mut Control,
+        nvm: &mut N,
+    ) -> Result<(), NvmError>
+        requires stage { self.old.stage ≡ IsFrames epoch page next }
+        requires read { HasRead (N.device nvm.old) self.old control.old }
+        ensures read { OnOk result (HasRead (N.device nvm.new) self.new control.new) }
+        ensures boot { OnErr result (self.new ≡ self.old) }
+        ensures control { OnErr result (control.new ≡ control.old) }
+        ensures nvm { IsRead result (N.device nvm.old) (N.device nvm.new) }
+    {
+        loaded_frames_hold_all();
+        checkpoints_have_tables();
+        self.fits();
+        control.tables();
+        control.frame_block(page, next, nvm)?;
+        self.go_on_framing(epoch, page, next);
+        control.tables();
+        Ok(())
+    }
+}

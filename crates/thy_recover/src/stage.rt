@@ -1,0 +1,35 @@
+//! How far a boot is, and what its steps tell.
+use thy_isa::CpuState;
+use thy_record::BadImage;
+
+/// How far a boot is.
+#[derive(Clone, Copy, Debug, PartialEq, Eq)]
+pub enum Stage {
+    /// Nothing was read yet.
+    Unread,
+    /// The commit block was read: it names this epoch, and has this fault, if any.
+    Header { epoch: u64, fault: Option<BadImage> },
+    /// Header and commit block have no fault, and so many blocks of the slot were read.
+    Slot { epoch: u64, next: u64 },
+    /// The slot has no fault, and its tables are listed. Block `next` of the page that entry `page` lists is loaded next.
+    Frames { epoch: u64, page: usize, next: u64 },
+    /// The image is refused.
+    Refusing(BadImage),
+    /// There is no checkpoint: the program has to be loaded.
+    Loading,
+    /// The checkpoint of this epoch is restored.
+    Restored(u64),
+}
+
+/// What a step of a boot tells.
+#[derive(Clone, Copy, Debug, PartialEq, Eq)]
+pub enum BootStep {
+    /// A block was read, and more are to be read.
+    Reading,
+    /// There is no checkpoint: the program has to be loaded.
+    Loading,
+    /// The checkpoint of this epoch was restored, with this state of the processor.
+    Restarted(CpuState, u64),
+    /// The image is refused.
+    Refused(BadImage),
+}
