@@ -24,6 +24,8 @@ mod flat;
 #[cfg(test)]
 mod geometry;
 #[cfg(test)]
+mod hart;
+#[cfg(test)]
 mod image;
 #[cfg(test)]
 mod isa;

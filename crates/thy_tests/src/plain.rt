@@ -1,7 +1,7 @@
 //! The plain machine's steps on a few programs.
 ghost use Rattle.std.specs.Prelude.{◌≡◌, ◌<◌, length};
 ghost use Rattle.thy_base.specs.Bytes.{bytes_of};
-ghost use Rattle.thy_base.specs.Geometry.{program_size};
+ghost use Rattle.thy_base.specs.Geometry.{memory_blocks, program_size};
 
 use crate::expect::expect;
 use crate::geometry::geometry_of;
@@ -30,8 +30,9 @@ static SMALLEST: Parameters = Parameters {
     limit: 1000,
 };
 
-fn smallest(rt: &impl Abort, alloc: Global) -> Geometry
-    ensures { program_size result ≡ 28672 }
+pub(crate) fn smallest(rt: &impl Abort, alloc: Global) -> Geometry
+    ensures program { program_size result ≡ 28672 }
+    ensures memory { memory_blocks result ≡ 512 }
 {
     geometry_of(rt, alloc, &SMALLEST)
 }
@@ -62,7 +63,7 @@ fn start(rt: &impl Abort, alloc: Global, words: &[u32]) -> Plain
 }
 
 /// The same, with an input.
-fn start_with(rt: &impl Abort, alloc: Global, words: &[u32], input: &[u8]) -> Plain
+pub(crate) fn start_with(rt: &impl Abort, alloc: Global, words: &[u32], input: &[u8]) -> Plain
     ensures { result.state.count ≡ 0 }
 {
     let image = image_of(rt, alloc, words);

@@ -4,6 +4,7 @@ mod cuts;
 mod inputs;
 mod programs;
 
+pub(crate) use console::GREET;
 use std::alloc::{AllocError, Global};
 use std::process::Abort;
 use std::test::Fail;
