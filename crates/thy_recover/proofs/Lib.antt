@@ -4,3 +4,4 @@ pub mod DecodeLemmas
 pub mod WorkLemmas
 pub mod RecoverLemmas
 pub mod StepLemmas
+pub mod NearerLemmas

@@ -1,11 +1,11 @@
 -- What was read of an image so far, and what the controller has of it.
-use Rattle.std.specs.Prelude.{◌≡◌, ℕ, ◌+◌, ◌*◌, ◌%◌, ◌<◌, true, false, List, [], length, map, None}
+use Rattle.std.specs.Prelude.{◌≡◌, ℕ, ◌+◌, ◌*◌, ◌%◌, ◌-◌, ◌<◌, true, false, List, [], length, map, None}
 use Rattle.std.specs.List.{range_with_len}
 use Rattle.thy_base.specs.declared.block.Block.{Block}
 use Rattle.thy_base.specs.declared.config.Parameters.{Parameters}
 use Rattle.thy_base.specs.Device.{Device, block_at}
 use Rattle.thy_base.specs.Geometry.{memory_blocks}
-use Rattle.thy_base.specs.Places.{slot_place, image_blocks}
+use Rattle.thy_base.specs.Places.{slot_blocks, slot_place, image_blocks}
 use Rattle.thy_dram.specs.Contents.{Contents}
 use Rattle.thy_isa.specs.OnBlocks.{state_from}
 use Rattle.thy_record.specs.Commit.{is_zero, epoch_of, commit_fault}
@@ -100,6 +100,21 @@ Tells Reading p n c = Unit {0}
 Tells HasToLoad p n c = decode_image p ceiling n.image ≡ Nothing
 Tells (Restarted cpu epoch) p n c = (decode_image p ceiling n.image ≡ At epoch (state_from p cpu (loads c n))) × HoldAll c n
 Tells (Refused bad) p n c = decode_image p ceiling n.image ≡ IsRefused bad
+
+-- how many blocks are still to be read, at most
+abbrev pub reads_left : Parameters → Stage → ℕ
+reads_left p Unread = 2 + slot_blocks p + 64 * p.ptt
+reads_left p (Header epoch fault) = 1 + slot_blocks p + 64 * p.ptt
+reads_left p (Slot epoch next) = slot_blocks p - next + 64 * p.ptt
+reads_left p (Frames epoch page next) = 64 * (p.ptt - page) - next
+reads_left p _ = 0
+
+-- a step leaves fewer; where nothing is to be read, the stage stays
+abbrev pub IsNearer : Parameters → Stage → Stage → Type 0
+IsNearer p (Refusing bad) next = next ≡ Refusing bad
+IsNearer p Loading next = next ≡ Loading
+IsNearer p (Restored epoch) next = next ≡ Restored epoch
+IsNearer p old next = reads_left p next < reads_left p old
 
 -- a new boot with a new controller
 abbrev pub NewHasRead : Type 0

@@ -2,7 +2,7 @@
 ghost use Rattle.std.specs.Prelude.{◌≡◌, IfOk, OnOk, OnErr};
 ghost use Rattle.thy_recover.specs.Boot.{answer_of};
 ghost use Rattle.thy_recover.specs.Reads.{IsRead};
-ghost use Rattle.thy_recover.specs.Recovers.{HasRead, CanRecover, Tells};
+ghost use Rattle.thy_recover.specs.Recovers.{HasRead, CanRecover, Tells, IsNearer};
 
 use crate::boot::Boot;
 use crate::stage::{BootStep, Stage};
@@ -29,6 +29,7 @@ impl Boot {
         // Restart, refusal, and that there is no checkpoint, are what the image decodes to.
         ensures tells { IfOk result (λ answer. Tells answer self.new.p (N.device nvm.new) control.new) }
         ensures read { OnOk result (HasRead (N.device nvm.new) self.new control.new) }
+        ensures fewer { OnOk result (IsNearer self.old.p self.old.stage self.new.stage) }
 
         ensures boot { OnErr result (self.new ≡ self.old) }
         ensures control { OnErr result (control.new ≡ control.old) }
@@ -43,6 +44,7 @@ impl Boot {
         requires stage { CanRecover self.old.stage }
         requires read { HasRead (N.device nvm.old) self.old control.old }
         ensures read { OnOk result (HasRead (N.device nvm.new) self.new control.new) }
+        ensures fewer { OnOk result (IsNearer self.old.p self.old.stage self.new.stage) }
         ensures boot { OnErr result (self.new ≡ self.old) }
         ensures control { OnErr result (control.new ≡ control.old) }
         ensures nvm { IsRead result (N.device nvm.old) (N.device nvm.new) }
@@ -63,6 +65,7 @@ impl Boot {
         requires stage { self.old.stage ≡ IsUnread }
         requires read { HasRead (N.device nvm.old) self.old control.now }
         ensures read { OnOk result (HasRead (N.device nvm.new) self.new control.now) }
+        ensures fewer { OnOk result (IsNearer self.old.p self.old.stage self.new.stage) }
         ensures boot { OnErr result (self.new ≡ self.old) }
         ensures nvm { IsRead result (N.device nvm.old) (N.device nvm.new) }
     {
@@ -81,6 +84,7 @@ impl Boot {
         requires stage { self.old.stage ≡ IsHeader epoch fault }
         requires read { HasRead (N.device nvm.old) self.old control.now }
         ensures read { OnOk result (HasRead (N.device nvm.new) self.new control.now) }
+        ensures fewer { OnOk result (IsNearer self.old.p self.old.stage self.new.stage) }
         ensures boot { OnErr result (self.new ≡ self.old) }
         ensures nvm { IsRead result (N.device nvm.old) (N.device nvm.new) }
     {
@@ -99,6 +103,7 @@ impl Boot {
         requires stage { self.old.stage ≡ IsSlot epoch next }
         requires read { HasRead (N.device nvm.old) self.old control.old }
         ensures read { OnOk result (HasRead (N.device nvm.new) self.new control.new) }
+        ensures fewer { OnOk result (IsNearer self.old.p self.old.stage self.new.stage) }
         ensures boot { OnErr result (self.new ≡ self.old) }
         ensures control { OnErr result (control.new ≡ control.old) }
         ensures nvm { IsRead result (N.device nvm.old) (N.device nvm.new) }
@@ -125,6 +130,7 @@ impl Boot {
         requires stage { self.old.stage ≡ IsFrames epoch page next }
         requires read { HasRead (N.device nvm.old) self.old control.old }
         ensures read { OnOk result (HasRead (N.device nvm.new) self.new control.new) }
+        ensures fewer { OnOk result (IsNearer self.old.p self.old.stage self.new.stage) }
         ensures boot { OnErr result (self.new ≡ self.old) }
         ensures control { OnErr result (control.new ≡ control.old) }
         ensures nvm { IsRead result (N.device nvm.old) (N.device nvm.new) }
