@@ -1,11 +1,11 @@
 //! The hart and its calls.
-ghost use Rattle.std.specs.Prelude.{◌≡◌, ◌≢◌, ◌⊎◌, None, ◌+◌, ◌<◌, ◌^◌, IfOk, OnErr};
+ghost use Rattle.std.specs.Prelude.{◌≡◌, ◌≢◌, ◌⊎◌, None, false, ◌+◌, ◌<◌, ◌^◌, IfOk, OnErr};
 ghost use Rattle.thy_base.specs.Device.{CountsFault};
 ghost use Rattle.thy_isa.specs.declared.state.Status.TheVariants.{Running};
 ghost use Rattle.thy_epoch.specs.Epoch.{next_epoch};
 ghost use Rattle.thy_hart.specs.Core.{new_hart};
 ghost use Rattle.thy_hart.specs.Acts.{given};
-ghost use Rattle.thy_hart.specs.Moments.{moment, IsReady};
+ghost use Rattle.thy_hart.specs.Moments.{moment, brings_line, IsReady};
 ghost use Rattle.thy_hart.specs.Steps.{IsStep};
 
 use crate::bring::bring;
@@ -102,7 +102,9 @@ impl Hart {
         ensures hart { OnErr result (self.new ≡ self.old) }
         ensures cache { OnErr result (cache.new ≡ cache.old) }
 
-        // The store is called once or not at all.
+        // The store is called once at most, and not at all where no line is brought.
+        ensures untouched { brings_line (moment self.old cache.old (S.holding store.old nvm.old)) ≡ false
+            → (store.new ≡ store.old) × (nvm.new ≡ nvm.old) }
         ensures once { ((store.new ≡ store.old) × (nvm.new ≡ nvm.old)) ⊎ S.once store.old nvm.old store.new nvm.new }
         ensures stays { S.stays store.old nvm.old store.new nvm.new }
         ensures cause { CountsFault result (S.holding store.old nvm.old).faults (S.holding store.new nvm.new).faults }
