@@ -81,6 +81,7 @@ IsStep-brought g b h c d old new r is miss w =
       clean = λ _. w.memory;
       written = λ e. e;
       others = λ x _. ap (λ m. block_at m x) w.memory;
+      alone = λ no. let e = sym brought ∙ no in cc e;
       untouched = λ none. let e = sym is ∙ none in cc e;
       ready = record {
         blocks = w.blocks ∙ r.blocks;
@@ -160,7 +161,8 @@ IsStep-acted g h k c d held step free s r hit a =
       clean = w.clean;
       written = w.written;
       others = w.others;
-      untouched = λ no. (a.untouched no, refl);
+      alone = λ _. refl;
+      untouched = a.untouched;
       ready = record {
         blocks = r.blocks ∙ ap memory_blocks (sym w.fixed);
         agree = a.agree held.blocks r.agree;

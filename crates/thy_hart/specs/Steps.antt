@@ -132,8 +132,9 @@ pub record IsStep (g : Given) (old new : Moment) (step : HartStep) : Type 0 wher
   pub clean : has_written new.hart.hand ≡ false → memory_of new ≡ memory_of old
   pub written : StaysWritten step old.hart.hand new.hart.hand
   pub others : (b : ℕ) → (next_block old.hart ≡ Some b → ⊥) → block_at (memory_of new) b ≡ block_at (memory_of old) b
-  -- a step that touches no block leaves cache and store alone
-  pub untouched : next_block old.hart ≡ None → (new.cache ≡ old.cache) × (new.held ≡ old.held)
+  -- the store is left alone where no line is brought, and the cache where no block is touched
+  pub alone : brings_line old ≡ false → new.held ≡ old.held
+  pub untouched : next_block old.hart ≡ None → new.cache ≡ old.cache
   -- what the next step asks for
   pub ready : IsReady new
   pub owed : new.held.owed ≤ old.held.owed
