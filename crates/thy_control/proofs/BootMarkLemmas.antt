@@ -1,9 +1,8 @@
 -- The numbers that the controller keeps, after the listings of a boot: nothing has work, and no page is in promotion.
-use Rattle.std.proofs.Common.{◌≡◌, ℕ, ◌<◌, Bool, true, false, ◌&&◌, length, refl, sym, ◌∙◌, ap, inl, inr, arith, Option, Some, None}
+use Rattle.std.proofs.Common.{◌≡◌, ℕ, ◌<◌, true, false, length, refl, sym, ◌∙◌, ap, inl, inr, arith, Option, Some, None}
 use Rattle.std.proofs.lemmas.Bool.{cases_lt, and_parts}
 use Rattle.thy_table.specs.Listing.{Listing, entry_at, passes}
 use Rattle.thy_tables.specs.declared.block_entry.BttEntry.{BttEntry}
-use Rattle.thy_tables.specs.declared.block_entry.Working.{Working}
 use Rattle.thy_tables.specs.declared.block_entry.Working.TheVariants.{NoWork}
 use Rattle.thy_tables.specs.declared.page_entry.PttEntry.{PttEntry}
 use Rattle.thy_tables.specs.BlockEntry.{listed_entry}
@@ -18,7 +17,7 @@ use Rattle.thy_control.proofs.CountLemmas.{count-set_same}
 use Rattle.thy_control.proofs.MarkLemmas.{counted-some}
 
 -- an entry that is listed has no work over a frame
-none_over : (pages : Listing PttEntry) (s : State) → IsBooting s → (i : ℕ) (o : Option BttEntry) → entry_at s.btt i ≡ o → passes (is_overlaid pages) o ≡ true → ⊥
+pub none_over : (pages : Listing PttEntry) (s : State) → IsBooting s → (i : ℕ) (o : Option BttEntry) → entry_at s.btt i ≡ o → passes (is_overlaid pages) o ≡ true → ⊥
 none_over pages s boot i None e over = cc
 none_over pages s boot i (Some x) e over =
     let idle : x.work ≡ NoWork = ap (λ (y : BttEntry). y.work) (boot.blocks i x e) in

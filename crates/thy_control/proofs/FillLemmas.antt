@@ -215,7 +215,7 @@ promoted-yes true fresh f g = cc
 promoted-yes false fresh f g = g
 
 module _ (b : ℕ) (s : State) (fresh : (cell_of s b).page.fresh ≡ true) (bare : is_framed (cell_of s b).page ≡ false) where
-  is_now : is_promoted (cell_of s b).page ≡ true
+  pub is_now : is_promoted (cell_of s b).page ≡ true
   is_now = promoted-yes (is_framed (cell_of s b).page) (cell_of s b).page.fresh bare fresh
 
   found : (e : PttEntry) × (entry_at s.ptt (cell_of s b).j ≡ Some e) × (e.page ≡ page_of b) × ((cell_of s b).j < length s.ptt.entries)
@@ -269,11 +269,11 @@ module _ (b : ℕ) (s : State) (fresh : (cell_of s b).page.fresh ≡ true) (m : 
   unfolding block_filled
   framed_other k o = ap (λ (c : Cell). is_framed c.page) (cell-page_other page_filled (λ e. refl) s b (listed-fresh b s fresh) k o)
 
-  pub overlaid-filled : overlaid (block_filled b s m).ptt s.btt ≡ overlaid s.ptt s.btt
-  overlaid-filled = count-same_at (passes (is_overlaid (block_filled b s m).ptt)) (passes (is_overlaid s.ptt)) None s.btt.entries (λ i l. by_entry i (entry_at s.btt i) refl) where
-    by_entry : (i : ℕ) (o : Option BttEntry) → entry_at s.btt i ≡ o → passes (is_overlaid (block_filled b s m).ptt) o ≡ passes (is_overlaid s.ptt) o
-    by_entry i None e = refl
-    by_entry i (Some x) e = elim (cases_eq (page_of x.block) (page_of b)) as (λ _. is_overlaid (block_filled b s m).ptt x ≡ is_overlaid s.ptt x) [
+  pub overlaid-filled_at : (i : ℕ) → passes (is_overlaid (block_filled b s m).ptt) (entry_at s.btt i) ≡ passes (is_overlaid s.ptt) (entry_at s.btt i)
+  overlaid-filled_at i = by_entry (entry_at s.btt i) refl where
+    by_entry : (o : Option BttEntry) → entry_at s.btt i ≡ o → passes (is_overlaid (block_filled b s m).ptt) o ≡ passes (is_overlaid s.ptt) o
+    by_entry None e = refl
+    by_entry (Some x) e = elim (cases_eq (page_of x.block) (page_of b)) as (λ _. is_overlaid (block_filled b s m).ptt x ≡ is_overlaid s.ptt x) [
       | inl q ↦
           let here : lists block_key x.block (entry_at s.btt i) ≡ true = lists-key block_key x.block (entry_at s.btt i) x e refl in
           let place : place_of block_key x.block s.btt ≡ Some i = t.btt_once.found i x.block here in
@@ -284,6 +284,9 @@ module _ (b : ℕ) (s : State) (fresh : (cell_of s b).page.fresh ≡ true) (m : 
           ∙ sym (ap (λ (w : Working). is_buffered w && block_is_framed s.ptt x.block) idle)
       | inr o ↦ ap (λ (f : Bool). is_buffered x.work && f) (framed_other x.block o)
     ]
+
+  pub overlaid-filled : overlaid (block_filled b s m).ptt s.btt ≡ overlaid s.ptt s.btt
+  overlaid-filled = count-same_at (passes (is_overlaid (block_filled b s m).ptt)) (passes (is_overlaid s.ptt)) None s.btt.entries (λ i l. overlaid-filled_at i)
 
   pub AreMarks-filled : (k now : Marks) → is_framed (cell_of s b).page ≡ false → (cell_of s b).page.filled < 64 → AreMarks s.ptt s.btt k → now.overlaid ≡ k.overlaid
       → now.promoted + (if is_framed (page_filled (cell_of s b).page) then 1 else 0) ≡ k.promoted → AreMarks (block_filled b s m).ptt s.btt now

@@ -34,3 +34,4 @@ pub mod BootLemmas
 pub mod FrameLemmas
 pub mod FillLemmas
 pub mod BootMarkLemmas
+pub mod CursorLemmas

@@ -97,7 +97,7 @@ module _ (t : State) (b : ℕ) (e : BttEntry) (of_block : e.block ≡ b) (listed
   )
 
 -- a frame that was stored to is a frame still
-framed-cell : (b : ℕ) (t : State) (m : ℕ) → IsListed ToFrame b t → block_is_framed (ptt_after ToFrame (after_store ToFrame (cell_of t b)) t.ptt) m ≡ block_is_framed t.ptt m
+pub framed-cell : (b : ℕ) (t : State) (m : ℕ) → IsListed ToFrame b t → block_is_framed (ptt_after ToFrame (after_store ToFrame (cell_of t b)) t.ptt) m ≡ block_is_framed t.ptt m
 framed-cell b t m l = elim (cases_eq m b) as (λ _. block_is_framed (ptt_after ToFrame (after_store ToFrame (cell_of t b)) t.ptt) m ≡ block_is_framed t.ptt m) [
   | inl e ↦
       ap (λ (k : ℕ). block_is_framed (ptt_after ToFrame (after_store ToFrame (cell_of t b)) t.ptt) k) e

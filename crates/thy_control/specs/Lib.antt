@@ -23,3 +23,4 @@ pub mod Pages
 pub mod TableBlocks
 pub mod Boot
 pub mod Promotions
+pub mod Cursors

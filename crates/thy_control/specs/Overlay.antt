@@ -10,7 +10,7 @@ use Rattle.thy_tables.specs.PageEntry.{is_framed}
 use Rattle.thy_cell.specs.declared.cell.Cell.{Cell}
 use Rattle.thy_cell.specs.declared.cell.StoreRule.{StoreRule}
 use Rattle.thy_cell.specs.declared.cell.StoreRule.TheVariants.{ToFrame, ToBuffer, ToNvm, PendingFirst}
-use Rattle.thy_control.specs.State.{State, AreSoundTables, cell_of}
+use Rattle.thy_control.specs.State.{State, cell_of}
 use Rattle.thy_control.specs.Holding.{promoted}
 use Rattle.thy_control.specs.Seal.{block_is_framed}
 use Rattle.thy_control.specs.declared.overlay.Marks.{Marks}
@@ -54,8 +54,3 @@ covers PendingFirst c = 0
 pub record AreMarks (pages : Listing PttEntry) (blocks : Listing BttEntry) (m : Marks) : Type 0 where
   pub overlaid_is : m.overlaid ≡ overlaid pages blocks
   pub promoted_is : m.promoted ≡ promoted pages
-
--- what holds of the controller at every moment
-pub record IsControl (s : State) (m : Marks) : Type 0 where
-  pub tables : AreSoundTables s
-  pub marks : AreMarks s.ptt s.btt m

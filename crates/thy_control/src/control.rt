@@ -20,6 +20,7 @@ mod queue;
 mod tables;
 mod writing;
 
+use crate::cursors::Cursors;
 use crate::overlay::Marks;
 use crate::seal::{CommitBlocks, CommitPages, seal_blocks, seal_pages};
 use std::alloc::{AllocError, Global};
@@ -47,17 +48,18 @@ pub struct Control {
     under_way: bool,
     dram: Dram,
     marks: Marks,
+    cursors: Cursors,
 }
 
 impl Model for Control {
     ghost use Rattle.thy_control.specs.State.{State};
-    ghost use Rattle.thy_control.specs.Overlay.{IsControl};
+    ghost use Rattle.thy_control.specs.Cursors.{IsControl};
 
     ghost Value = { State };
 
     ghost view = { λ c. record { p = c.geometry; btt = c.btt; ptt = c.ptt; counts = c.counts; under_way = c.under_way; dram = c.dram } };
 
-    ghost invariant = { λ c. IsControl (record { p = c.geometry; btt = c.btt; ptt = c.ptt; counts = c.counts; under_way = c.under_way; dram = c.dram }) c.marks };
+    ghost invariant = { λ c. IsControl (record { p = c.geometry; btt = c.btt; ptt = c.ptt; counts = c.counts; under_way = c.under_way; dram = c.dram }) c.marks c.cursors };
 }
 
 /// The place of a block's entry, 0 where it has none, and the entry, or one as a new one would be.
@@ -195,6 +197,7 @@ impl Control {
         let btt = Table::new(alloc, numbers.btt, geometry.memory_blocks())?;
         let ptt = Table::new(alloc, numbers.ptt, numbers.pages)?;
         let counts = Counts::new(alloc, numbers.pages, numbers.high, numbers.low)?;
+        let cursors = Cursors::start();
         new_cells_are_sound();
         Ok(Control {
             geometry: *geometry,
@@ -207,6 +210,7 @@ impl Control {
                 overlaid: 0,
                 promoted: 0,
             },
+            cursors,
         })
     }
 
@@ -361,6 +365,7 @@ impl Control {
         self.counts.reset();
         self.under_way = true;
         self.marks = Marks::of(&self.btt, &self.ptt);
+        self.cursors = Cursors::start();
     }
 
     /// Whether under half of the block table's entries are free.
@@ -392,6 +397,7 @@ impl Control {
         self.ptt.map_entries(&CommitPages);
         self.under_way = false;
         self.marks = Marks::of(&self.btt, &self.ptt);
+        self.cursors = Cursors::start();
     }
 
     /// Stores block `b` by its rule, or makes the copy that has to go first: one write at one place.
@@ -428,6 +434,7 @@ impl Control {
         self.ptt.lists_once();
         count_store(rule, b / 64, &mut self.counts);
         self.marks = self.marks.after(rule, &cell);
+        self.cursors = self.cursors.lowered(rule, &cell);
         Ok(answer(rule))
     }
 }

@@ -3,6 +3,7 @@
 #![tactic(auto)]
 
 mod control;
+mod cursors;
 mod laws;
 mod overlay;
 mod seal;

@@ -1,5 +1,5 @@
 //! The copies that the checkpoint under way still needs.
-ghost use Rattle.std.specs.Prelude.{◌≡◌, ◌≢◌, ◌<◌, false, is_some, IfOk, OnOk, OnErr};
+ghost use Rattle.std.specs.Prelude.{◌≡◌, ◌≢◌, ◌<◌, false, length, is_some, IfOk, IfSome, OnOk, OnErr};
 ghost use Rattle.thy_base.specs.Device.{IsFramed, CountsFault};
 ghost use Rattle.thy_base.specs.Geometry.{memory_blocks};
 ghost use Rattle.thy_tables.specs.declared.block_entry.Pending.TheVariants.{Settled as IsSettled};
@@ -7,6 +7,7 @@ ghost use Rattle.thy_control.specs.Copies.{block_in};
 
 use super::Control;
 use super::moving::move_block;
+use crate::cursors::goes_on;
 use thy_base::{Nvm, NvmError};
 use thy_cell::a_copy_keeps_versions;
 use thy_table::Test;
@@ -30,7 +31,7 @@ impl Test<BttEntry> for NeedsCopy {
 }
 
 /// The block that an entry lists, 0 where it is free.
-pub(super) fn block_in(entry: Option<BttEntry>) -> u64
+fn block_in(entry: Option<BttEntry>) -> u64
     ensures { result ≡ block_in entry }
 {
     match entry {
@@ -44,7 +45,7 @@ impl Control {
     ghost use Rattle.thy_control.specs.Moves.{IsOneLess};
     ghost use Rattle.thy_control.specs.Stays.{HoldAll, Stays};
     ghost use Rattle.thy_control.specs.Versions.{KeepsCheckpoints, KeepsWork};
-    ghost use Rattle.thy_control.specs.Copies.{next_copy, copies_left, copied, devices_copied, devices_after_copy, after_next_copy, FailsCopy, FailsNextCopy};
+    ghost use Rattle.thy_control.specs.Copies.{next_copy, block_listed, copies_left, copied, devices_copied, devices_after_copy, after_next_copy, FailsCopy, FailsNextCopy};
 
     /// Issues the next copy that the checkpoint under way still needs: one write at one place. It tells whether there was
     /// one; where none is left it touches nothing. Where the NVM failed, the place may hold the version or not.
@@ -75,6 +76,26 @@ impl Control {
         self.copy_lowest(nvm)
     }
 
+    /// The entry of lowest number that has still to be copied. The next search goes on there.
+    fn seek_copy(&mut self) -> Option<usize>
+        ensures same { self.new ≡ self.old }
+        ensures place { result ≡ next_copy self.old }
+        ensures inside { IfSome result (λ i. i < length self.new.btt.entries) }
+    {
+        let next = self.btt.next(self.cursors.copies, &NeedsCopy);
+        let place = goes_on(next, self.btt.size());
+        self.cursors.copies = place;
+        next
+    }
+
+    /// The block that an entry lists, 0 where it is free.
+    pub(super) fn block_at(&self, i: usize) -> u64
+        requires { i < length self.now.btt.entries }
+        ensures { result ≡ block_listed i self.now }
+    {
+        block_in(self.btt.entry(i))
+    }
+
     /// Copies what the entry of lowest number has still to copy, and tells whether there was one.
     fn copy_lowest<N: Nvm>(&mut self, nvm: &mut N) -> Result<bool, NvmError>
         requires sized { IsSized self.old (N.device nvm.old) }
@@ -88,9 +109,9 @@ impl Control {
         ensures cause { CountsFault result (N.device nvm.old).faults (N.device nvm.new).faults }
     {
         self.tables();
-        match self.btt.next(0, &NeedsCopy) {
+        match self.seek_copy() {
             Some(i) => {
-                let b = block_in(self.btt.entry(i));
+                let b = self.block_at(i);
                 self.copy_block(b, nvm)?;
                 Ok(true)
             }

@@ -6,7 +6,7 @@ ghost use Rattle.thy_tables.specs.PageEntry.{is_framed as IsFramedPage};
 ghost use Rattle.thy_tables.specs.declared.block_entry.Working.TheVariants.{InBuffer as IsInBuffer};
 
 use super::Control;
-use super::copying::block_in;
+use crate::cursors::goes_on;
 use crate::seal::block_is_framed;
 use thy_cell::{a_dirty_page_keeps_others, a_merge_keeps_versions};
 use thy_table::Test;
@@ -37,12 +37,18 @@ impl Control {
     ghost use Rattle.thy_control.specs.Versions.{KeepsCheckpoints, KeepsWork};
     ghost use Rattle.thy_control.specs.Merges.{next_merge, overlays, merged_block, after_merge};
 
-    /// The entry of lowest number whose buffer lies over a frame.
-    fn next_overlay(&self) -> Option<usize>
-        ensures place { result ≡ next_merge self.now }
-        ensures inside { IfSome result (λ i. i < length self.now.btt.entries) }
+    /// The entry of lowest number whose buffer lies over a frame. The next search goes on there.
+    fn seek_overlay(&mut self) -> Option<usize>
+        ensures same { self.new ≡ self.old }
+        ensures place { result ≡ next_merge self.old }
+        ensures inside { IfSome result (λ i. i < length self.new.btt.entries) }
     {
-        self.btt.next(0, &LiesOver { ptt: &self.ptt })
+        let next = self
+            .btt
+            .next(self.cursors.merges, &LiesOver { ptt: &self.ptt });
+        let place = goes_on(next, self.btt.size());
+        self.cursors.merges = place;
+        next
     }
 
     /// Merges the entry of lowest number whose buffer lies over the frame of its block's page: the block is copied into the
@@ -74,8 +80,8 @@ impl Control {
         ensures { self.new ≡ after_merge (next_merge self.old) self.old }
     {
         self.tables();
-        if let Some(i) = self.next_overlay() {
-            let b = block_in(self.btt.entry(i));
+        if let Some(i) = self.seek_overlay() {
+            let b = self.block_at(i);
             self.merge_block(b);
         }
     }

@@ -1,5 +1,5 @@
 //! The pages that are being promoted.
-ghost use Rattle.std.specs.Prelude.{◌≡◌, ◌+◌, ◌<◌, ◌*◌, ◌^◌, ◌%◌, true, false, if◌then◌else◌, is_some, IfOk, OnOk, OnErr};
+ghost use Rattle.std.specs.Prelude.{◌≡◌, ◌+◌, ◌<◌, ◌*◌, ◌^◌, ◌%◌, true, false, if◌then◌else◌, length, is_some, IfOk, IfSome, OnOk, OnErr};
 ghost use Rattle.thy_base.specs.Device.{HasFailed, IsFramed, CountsFault};
 ghost use Rattle.thy_base.specs.Geometry.{memory_blocks};
 ghost use Rattle.thy_tables.specs.PageEntry.{is_framed as IsFramedPage};
@@ -7,6 +7,7 @@ ghost use Rattle.thy_control.specs.Pages.{page_in, block_after};
 
 use super::Control;
 use super::moving::move_to_dram;
+use crate::cursors::goes_on;
 use crate::overlay::Marks;
 use thy_base::{Nvm, NvmError};
 use thy_cell::{a_promotion_keeps_others, a_promotion_keeps_versions};
@@ -59,7 +60,7 @@ impl Control {
     ghost use Rattle.thy_control.specs.Holding.{promoted};
     ghost use Rattle.thy_control.specs.Stays.{HoldAll, Stays};
     ghost use Rattle.thy_control.specs.Versions.{KeepsCheckpoints};
-    ghost use Rattle.thy_control.specs.Promotions.{next_promotion, unfilled, HoldsWork, block_filled, devices_filled, after_promotion};
+    ghost use Rattle.thy_control.specs.Promotions.{next_promotion, block_to_fill as block_filled_next, unfilled, HoldsWork, block_filled, devices_filled, after_promotion};
 
     /// Copies the next block of the lowest page in promotion, as a load gives it, into its frame; with the last block the page
     /// is framed. Some page must be in promotion. Only the DRAM is written; where the NVM failed, nothing is.
@@ -90,6 +91,27 @@ impl Control {
         self.fill_lowest(nvm)
     }
 
+    /// The entry of lowest number whose page is being promoted. The next search goes on there.
+    fn seek_promotion(&mut self) -> Option<usize>
+        ensures same { self.new ≡ self.old }
+        ensures place { result ≡ next_promotion self.old }
+        ensures inside { IfSome result (λ j. j < length self.new.ptt.entries) }
+    {
+        let next = self.ptt.next(self.cursors.promotions, &IsPromoted);
+        let place = goes_on(next, self.ptt.size());
+        self.cursors.promotions = place;
+        next
+    }
+
+    /// The next block to be copied of the page that an entry lists, 0 where the entry is free.
+    fn block_unfilled(&self, j: usize) -> u64
+        requires { j < length self.now.ptt.entries }
+        ensures { result ≡ block_filled_next j self.now }
+    {
+        self.tables();
+        block_to_fill(self.ptt.entry(j))
+    }
+
     /// Copies the next block of the lowest page in promotion into its frame.
     fn fill_lowest<N: Nvm>(&mut self, nvm: &mut N) -> Result<(), NvmError>
         requires sized { IsSized self.old (N.device nvm.old) }
@@ -102,9 +124,9 @@ impl Control {
         ensures cause { CountsFault result (N.device nvm.old).faults (N.device nvm.new).faults }
     {
         self.tables();
-        match self.ptt.next(0, &IsPromoted) {
+        match self.seek_promotion() {
             Some(j) => {
-                let b = block_to_fill(self.ptt.entry(j));
+                let b = self.block_unfilled(j);
                 self.fill_block(b, nvm)
             }
             None => Ok(()),

@@ -1,11 +1,12 @@
 //! The pages that the checkpoint under way has still to write.
-ghost use Rattle.std.specs.Prelude.{◌≡◌, ◌<◌, ◌*◌, ◌^◌, ◌%◌, true, false, is_some, IfOk, OnOk, OnErr};
+ghost use Rattle.std.specs.Prelude.{◌≡◌, ◌<◌, ◌*◌, ◌^◌, ◌%◌, true, false, length, is_some, IfOk, IfSome, OnOk, OnErr};
 ghost use Rattle.thy_base.specs.Device.{IsFramed, CountsFault};
 ghost use Rattle.thy_base.specs.Geometry.{memory_blocks};
 ghost use Rattle.thy_control.specs.Pages.{page_in, block_after};
 
 use super::Control;
 use super::moving::move_block;
+use crate::cursors::goes_on;
 use thy_base::{Nvm, NvmError};
 use thy_cell::{a_page_write_keeps_others, a_page_write_keeps_versions};
 use thy_table::Test;
@@ -41,7 +42,7 @@ impl Control {
     ghost use Rattle.thy_control.specs.Moves.{IsOneLess};
     ghost use Rattle.thy_control.specs.Stays.{HoldAll, StaysHeld, Stays};
     ghost use Rattle.thy_control.specs.Versions.{KeepsCommitted, KeepsWork};
-    ghost use Rattle.thy_control.specs.Pages.{next_page, writes_left, issued, devices_issued, devices_after_write, after_next_write, FailsWriteOf, FailsNextWrite};
+    ghost use Rattle.thy_control.specs.Pages.{next_page, block_to_write as block_written_next, writes_left, issued, devices_issued, devices_after_write, after_next_write, FailsWriteOf, FailsNextWrite};
 
     /// Issues the next block of a page that the checkpoint under way has still to write, from the page's frame: one write at one
     /// place. It tells whether there was one; where none is left it touches nothing. With its last block a page that does
@@ -75,6 +76,27 @@ impl Control {
         self.write_lowest(nvm)
     }
 
+    /// The entry of lowest number whose page's blocks are not all issued. The next search goes on there.
+    fn seek_page(&mut self) -> Option<usize>
+        ensures same { self.new ≡ self.old }
+        ensures place { result ≡ next_page self.old }
+        ensures inside { IfSome result (λ j. j < length self.new.ptt.entries) }
+    {
+        let next = self.ptt.next(self.cursors.writes, &NeedsWrite);
+        let place = goes_on(next, self.ptt.size());
+        self.cursors.writes = place;
+        next
+    }
+
+    /// The next block to be written of the page that an entry lists, 0 where the entry is free.
+    fn block_due(&self, j: usize) -> u64
+        requires { j < length self.now.ptt.entries }
+        ensures { result ≡ block_written_next j self.now }
+    {
+        self.tables();
+        block_to_write(self.ptt.entry(j))
+    }
+
     /// Writes the next block of the lowest page whose blocks are not all issued, and tells whether there was one.
     fn write_lowest<N: Nvm>(&mut self, nvm: &mut N) -> Result<bool, NvmError>
         requires sized { IsSized self.old (N.device nvm.old) }
@@ -88,9 +110,9 @@ impl Control {
         ensures cause { CountsFault result (N.device nvm.old).faults (N.device nvm.new).faults }
     {
         self.tables();
-        match self.ptt.next(0, &NeedsWrite) {
+        match self.seek_page() {
             Some(j) => {
-                let b = block_to_write(self.ptt.entry(j));
+                let b = self.block_due(j);
                 self.write_block(b, nvm)?;
                 Ok(true)
             }

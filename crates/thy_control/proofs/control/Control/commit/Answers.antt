@@ -19,6 +19,7 @@ invariant_of-self c = record {
   tables = subst (λ (t : State). AreSoundTables t) (sym (returns-clause-state c))
       (AreSoundTables-committed c.args.self.now c.tables.ensures c.requires.way c.requires.copied c.a_commit_keeps_entries_sound.ensures);
   marks = c.of-self-inside.ensures;
+  cursors = c.start-self-inside.ensures c.map_entries-2.new.self c.map_entries.new.self;
 }
 
 pub returns-clause-versions : goal.returns-clause-versions

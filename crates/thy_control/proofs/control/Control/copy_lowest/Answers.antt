@@ -1,39 +1,43 @@
-use Rattle.std.proofs.Common.{◌≡◌, ◌≢◌, ◌<◌, ℕ, Some, sym, subst}
+use Rattle.std.proofs.Common.{◌≡◌, ◌≢◌, ◌<◌, ℕ, Some, sym, ◌∙◌, ap, subst}
 use Rattle.thy_base.specs.Device.{Device}
 use Rattle.thy_base.specs.Geometry.{memory_blocks}
 use Rattle.thy_tables.specs.declared.block_entry.Pending.TheVariants.{Settled}
-use Rattle.thy_control.specs.State.{State, cell_of}
+use Rattle.thy_control.specs.State.{State, IsSized, cell_of}
 use Rattle.thy_control.specs.Copies.{next_copy, block_listed, FailsCopy}
 use Rattle.thy_control.proofs.PutLemmas.{OnErr-of}
-use Rattle.thy_control.proofs.CopyLemmas.{IsNext-entry, next_is, block_is}
+use Rattle.thy_control.proofs.CopyLemmas.{IsNext-entry}
 use Rattle.thy_control.proofs.control.Control.copy_lowest.Goals as goal
 
 pub copy_block-requires-clause-block : goal.copy_block-requires-clause-block
 copy_block-requires-clause-block g c =
     let s : State = c.args.self.now in
-    let w : State = record { p = c.self.inside.geometry; btt = c.self.inside.btt; ptt = c.self.inside.ptt; counts = c.self.inside.counts; under_way = c.self.inside.under_way; dram = c.self.inside.dram } in
-    let next : next_copy s ≡ Some c.in-Some.i = next_is s w c.self.view_is c.next.result c.in-Some.i c.next.ensures.place c.in-Some.is in
-    let block : c.block_in-b.result ≡ block_listed c.in-Some.i s = block_is s w c.self.view_is c.block_in-b.result c.in-Some.i c.entry.result c.block_in-b.ensures c.entry.ensures in
-    subst (λ (b : ℕ). b < memory_blocks s.p) (sym block) (IsNext-entry s c.tables.ensures c.in-Some.i next).inside
+    let next : next_copy s ≡ Some c.in-Some.i = sym c.seek_copy.ensures.place ∙ c.in-Some.is in
+    let block : c.block_at-b.result ≡ block_listed c.in-Some.i s = c.block_at-b.ensures ∙ ap (block_listed c.in-Some.i) c.seek_copy.ensures.same in
+    subst (λ (t : State). c.block_at-b.result < memory_blocks t.p) (sym c.seek_copy.ensures.same)
+    (subst (λ (b : ℕ). b < memory_blocks s.p) (sym block) (IsNext-entry s c.tables.ensures c.in-Some.i next).inside)
 
 pub copy_block-requires-clause-pending : goal.copy_block-requires-clause-pending
 copy_block-requires-clause-pending g c =
     let s : State = c.args.self.now in
-    let w : State = record { p = c.self.inside.geometry; btt = c.self.inside.btt; ptt = c.self.inside.ptt; counts = c.self.inside.counts; under_way = c.self.inside.under_way; dram = c.self.inside.dram } in
-    let next : next_copy s ≡ Some c.in-Some.i = next_is s w c.self.view_is c.next.result c.in-Some.i c.next.ensures.place c.in-Some.is in
-    let block : c.block_in-b.result ≡ block_listed c.in-Some.i s = block_is s w c.self.view_is c.block_in-b.result c.in-Some.i c.entry.result c.block_in-b.ensures c.entry.ensures in
-    subst (λ (b : ℕ). (cell_of s b).entry.pend ≢ Settled) (sym block) (IsNext-entry s c.tables.ensures c.in-Some.i next).pending
+    let next : next_copy s ≡ Some c.in-Some.i = sym c.seek_copy.ensures.place ∙ c.in-Some.is in
+    let block : c.block_at-b.result ≡ block_listed c.in-Some.i s = c.block_at-b.ensures ∙ ap (block_listed c.in-Some.i) c.seek_copy.ensures.same in
+    subst (λ (t : State). (cell_of t c.block_at-b.result).entry.pend ≢ Settled) (sym c.seek_copy.ensures.same)
+    (subst (λ (b : ℕ). (cell_of s b).entry.pend ≢ Settled) (sym block) (IsNext-entry s c.tables.ensures c.in-Some.i next).pending)
+
+pub copy_block-requires-clause-sized : goal.copy_block-requires-clause-sized
+copy_block-requires-clause-sized g c =
+    subst (λ (t : State). IsSized t (g.N.Nvm.device c.args.nvm.now)) (sym c.seek_copy.ensures.same) c.requires.sized
 
 pub returns-in_err-copy_block-in-Some-clause-err : goal.returns-in_err-copy_block-in-Some-clause-err
 returns-in_err-copy_block-in-Some-clause-err g c =
     let s : State = c.args.self.now in
     let m : Device = g.N.Nvm.device c.args.nvm.now in
     let n : Device = g.N.Nvm.device c.copy_block.new.nvm in
-    let w : State = record { p = c.self.inside.geometry; btt = c.self.inside.btt; ptt = c.self.inside.ptt; counts = c.self.inside.counts; under_way = c.self.inside.under_way; dram = c.self.inside.dram } in
-    let next : next_copy s ≡ Some c.in-Some.i = next_is s w c.self.view_is c.next.result c.in-Some.i c.next.ensures.place c.in-Some.is in
-    let block : c.block_in-b.result ≡ block_listed c.in-Some.i s = block_is s w c.self.view_is c.block_in-b.result c.in-Some.i c.entry.result c.block_in-b.ensures c.entry.ensures in
+    let next : next_copy s ≡ Some c.in-Some.i = sym c.seek_copy.ensures.place ∙ c.in-Some.is in
+    let block : c.block_at-b.result ≡ block_listed c.in-Some.i s = c.block_at-b.ensures ∙ ap (block_listed c.in-Some.i) c.seek_copy.ensures.same in
     OnErr-of c.from_residual.result (record {
       entry = c.in-Some.i;
       next = next;
-      fails = subst (λ (b : ℕ). FailsCopy b s m n) block c.in_err-copy_block-in-Some.ensures.err;
+      fails = subst (λ (b : ℕ). FailsCopy b s m n) block
+          (subst (λ (t : State). FailsCopy c.block_at-b.result t m n) c.seek_copy.ensures.same c.in_err-copy_block-in-Some.ensures.err);
     })

@@ -12,6 +12,8 @@ use Rattle.thy_cell.specs.Checkpoint.{with_filled}
 use Rattle.thy_control.specs.Keys.{page_key}
 use Rattle.thy_control.specs.State.{State, AreSoundTables, cell_of}
 use Rattle.thy_control.specs.Overlay.{AreMarks}
+use Rattle.thy_control.specs.Cursors.{AreCursors}
+use Rattle.thy_control.proofs.CursorLemmas.{AreCursors-filled}
 use Rattle.thy_control.specs.Promotions.{devices_filled}
 use Rattle.thy_control.proofs.CellLemmas.{IsPlace-work, IsWithin-cell_of}
 use Rattle.thy_control.proofs.FillLemmas.{AreSoundTables-filled, marks-filled, some-promoted, devices_are, state_is}
@@ -43,6 +45,7 @@ invariant_of-self-2 g c =
     let page : c.with_filled-filled.result.page ≡ (with_filled (cell_of s c.args.b)).page
     = ap (λ (x : Cell). x.page) c.with_filled-filled.ensures ∙ ap (λ (x : Cell). (with_filled x).page) c.cell-cell.ensures in
     let fewer = ap (λ (x : PttEntry). c.marks_after-self-inside.result.promoted + (if is_framed x then 1 else 0)) (sym page) ∙ c.marks_after-self-inside.ensures.promoted in
+    let cursors : AreCursors s.ptt s.btt c.self.inside.cursors = subst (λ (t : State). AreCursors t.ptt t.btt c.self.inside.cursors) c.self.view_is c.self.invariant.cursors in
     record {
       tables = subst (λ (t : State). AreSoundTables t) (sym e)
           (AreSoundTables-filled c.args.b s c.requires.fresh m c.tables.ensures c.requires.sized c.requires.block c.requires.due c.a_promotion_keeps_versions.ensures c.a_promotion_keeps_others.ensures
@@ -50,6 +53,8 @@ invariant_of-self-2 g c =
       marks = subst (λ (t : State). AreMarks t.ptt t.btt c.marks_after-self-inside.result) (sym e)
           (marks-filled c.args.b s c.requires.fresh m c.tables.ensures c.self.inside.marks c.marks_after-self-inside.result c.requires.unframed (omega (arith, c.requires.due)) before
           c.marks_after-self-inside.ensures.overlaid fewer);
+      cursors = subst (λ (t : State). AreCursors t.ptt t.btt c.self.inside.cursors) (sym e)
+          (AreCursors-filled c.args.b s m c.self.inside.cursors c.requires.fresh c.requires.unframed c.tables.ensures cursors);
     }
 
 pub returns-clause-state : goal.returns-clause-state

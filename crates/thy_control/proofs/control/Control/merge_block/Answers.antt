@@ -3,8 +3,10 @@ use Rattle.thy_table.specs.Listing.{IsListing}
 use Rattle.thy_control.specs.Keys.{block_key, page_key}
 use Rattle.thy_control.specs.State.{State, AreSoundTables}
 use Rattle.thy_control.specs.Merges.{dram_merged}
-use Rattle.thy_control.proofs.MergeLemmas.{AreSoundTables-merged, dram_is, merged_is}
+use Rattle.thy_control.proofs.MergeLemmas.{AreSoundTables-merged, framed_same, dram_is, merged_is}
 use Rattle.thy_control.specs.Overlay.{AreMarks}
+use Rattle.thy_control.specs.Cursors.{AreCursors}
+use Rattle.thy_control.proofs.CursorLemmas.{AreCursors-merged}
 use Rattle.thy_control.proofs.StepMarkLemmas.{AreMarks-merged, overlaid-some}
 use Rattle.thy_control.proofs.control.Control.merge_block.Goals as goal
 
@@ -18,6 +20,7 @@ invariant_of-self c =
     let e = merged_is s w c.self.view_is c.args.b c.cell-cell.result c.cell-cell.ensures c.clear.new.self c.set.new.self c.write.new.self c.clear.ensures c.set.ensures dram in
     let before : AreMarks s.ptt s.btt c.self.inside.marks = subst (λ (t : State). AreMarks t.ptt t.btt c.self.inside.marks) c.self.view_is c.self.invariant.marks in
     let some = overlaid-some c.args.b s c.requires.framed c.requires.work c.self.inside.marks c.tables.ensures c.requires.block c.requires.idle c.a_merge_keeps_versions.ensures c.a_dirty_page_keeps_others.ensures before in
+    let cursors : AreCursors s.ptt s.btt c.self.inside.cursors = subst (λ (t : State). AreCursors t.ptt t.btt c.self.inside.cursors) c.self.view_is c.self.invariant.cursors in
     record {
       tables = subst (λ (t : State). AreSoundTables t) (sym e)
           (AreSoundTables-merged c.args.b s c.requires.framed c.requires.work c.tables.ensures c.requires.block c.requires.idle c.a_merge_keeps_versions.ensures c.a_dirty_page_keeps_others.ensures
@@ -25,6 +28,9 @@ invariant_of-self c =
       marks = subst (λ (t : State). AreMarks t.ptt t.btt (record c.self.inside.marks { overlaid = c.self.inside.marks.overlaid - 1 })) (sym e)
           (AreMarks-merged c.args.b s c.requires.framed c.requires.work c.self.inside.marks (record c.self.inside.marks { overlaid = c.self.inside.marks.overlaid - 1 }) c.tables.ensures c.requires.block c.requires.idle
           c.a_merge_keeps_versions.ensures c.a_dirty_page_keeps_others.ensures before (omega (arith, some)) refl);
+      cursors = subst (λ (t : State). AreCursors t.ptt t.btt c.self.inside.cursors) (sym e)
+          (AreCursors-merged c.args.b s c.self.inside.cursors c.requires.framed c.requires.work
+          (framed_same c.args.b s c.requires.framed c.requires.work c.tables.ensures c.requires.block c.requires.idle c.a_merge_keeps_versions.ensures c.a_dirty_page_keeps_others.ensures) cursors);
     }
 
 pub returns : goal.returns

@@ -27,6 +27,7 @@ invariant_of-result c =
           (subst (λ (t : Listing PttEntry). AreSoundTables (record { p = p; btt = c.in_ok-btt.btt; ptt = t; counts = uncounted p.pages p.high p.low; under_way = false; dram = c.args.dram })) ptt
           (subst (λ (t : Listing BttEntry). AreSoundTables (record { p = p; btt = t; ptt = empty_table p.ptt p.pages; counts = uncounted p.pages p.high p.low; under_way = false; dram = c.args.dram })) btt
           (AreSoundTables-new c.new_cells_are_sound.ensures p c.args.dram c.memory_blocks.ensures.in_range c.requires)));
+      cursors = c.start-cursors.ensures c.in_ok-ptt.ptt c.in_ok-btt.btt;
       marks = subst (λ (t : Listing PttEntry). AreMarks t c.in_ok-btt.btt no_marks) ptt
           (subst (λ (t : Listing BttEntry). AreMarks (empty_table p.ptt p.pages) t no_marks) btt (AreMarks-new p));
     }

@@ -17,6 +17,8 @@ use Rattle.thy_cell.specs.Store.{put_by}
 use Rattle.thy_control.specs.State.{State, AreSoundTables, reads}
 use Rattle.thy_control.specs.Rules.{rule_for, cell_before, devices_after}
 use Rattle.thy_control.specs.Overlay.{covers, AreMarks}
+use Rattle.thy_control.specs.Cursors.{AreCursors}
+use Rattle.thy_control.proofs.CursorLemmas.{AreLowered, AreCursors-with, AreCursors-after}
 use Rattle.thy_control.proofs.MarkLemmas.{AreMarks-with, AreMarks-after, marks-small, btt_most}
 use Rattle.thy_control.proofs.CellLemmas.{IsPlace-store}
 use Rattle.thy_control.proofs.PutLemmas.{has_free, Way, AreAfter, AreSoundTables-with_block, AreSoundTables-after, IsWithin-before, way_rule, way_table, way_cell, way_place, way_put, way_after, way_devices, way_all, way_state, way_failed, may_set_block, may_set_page, OnErr-of}
@@ -85,6 +87,8 @@ invariant_of-self g c =
           (subst (λ (t : Listing BttEntry). AreSoundTables (record v { btt = t })) (sym c.entry_for_rule-i.ensures.table) with_entry);
       marks = subst (λ (t : Listing BttEntry). AreMarks v.ptt t c.self.inside.marks) (sym c.entry_for_rule-i.ensures.table)
           (AreMarks-with r c.args.b v c.self.inside.marks c.self.invariant.marks);
+      cursors = subst (λ (t : Listing BttEntry). AreCursors v.ptt t c.self.inside.cursors) (sym c.entry_for_rule-i.ensures.table)
+          (AreCursors-with r c.args.b v c.self.inside.cursors c.self.invariant.cursors);
     }
 
 pub returns-in_err-write_place-clause-kept : goal.returns-in_err-write_place-clause-kept
@@ -166,12 +170,25 @@ invariant_of-self-2 g c =
     let more = c.after-self-inside.ensures.overlaid ∙ ap (λ (k : ℕ). c.self.inside.marks.overlaid + k)
     (ap (λ (q : StoreRule). covers q (record found { i = i })) (way_rule s v c.args.b found r c.entry_for_rule-i.new.btt i w)
     ∙ ap (covers (rule_for c.args.b s)) (way_cell s v c.args.b found r c.entry_for_rule-i.new.btt i w)) in
+    let cursors : AreCursors s.ptt s.btt c.self.inside.cursors = subst (λ (t : State). AreCursors t.ptt t.btt c.self.inside.cursors) c.self.view_is c.self.invariant.cursors in
+    let low : AreLowered (rule_for c.args.b s) (cell_before c.args.b s) c.self.inside.cursors c.lowered-self-inside.result
+    = subst (λ (x : Cell). AreLowered (rule_for c.args.b s) x c.self.inside.cursors c.lowered-self-inside.result) (way_cell s v c.args.b found r c.entry_for_rule-i.new.btt i w)
+    (subst (λ (q : StoreRule). AreLowered q (record found { i = i }) c.self.inside.cursors c.lowered-self-inside.result) (way_rule s v c.args.b found r c.entry_for_rule-i.new.btt i w)
+    (record {
+      copies = c.lowered-self-inside.ensures.copies;
+      writes = c.lowered-self-inside.ensures.writes;
+      promotions = c.lowered-self-inside.ensures.promotions;
+      merges = c.lowered-self-inside.ensures.merges;
+      buffer = c.lowered-self-inside.ensures.buffer;
+    })) in
     record {
       tables = subst (λ (t : State). AreSoundTables t) (sym e)
           (AreSoundTables-after c.args.b c.args.block.now s m c.tables.ensures c.requires.sized c.requires.whole c.requires.block c.requires.room
           (subst (λ (t : State). IsListing block_key t.btt) e c.lists_once-2.ensures) (subst (λ (t : State). IsListing page_key t.ptt) e c.lists_once-3.ensures));
       marks = subst (λ (t : State). AreMarks t.ptt t.btt c.after-self-inside.result) (sym e)
           (AreMarks-after c.args.b c.args.block.now s m c.self.inside.marks c.after-self-inside.result before (has_free s.btt c.requires.room) more c.after-self-inside.ensures.promoted);
+      cursors = subst (λ (t : State). AreCursors t.ptt t.btt c.lowered-self-inside.result) (sym e)
+          (AreCursors-after c.args.b c.args.block.now s m c.self.inside.cursors c.lowered-self-inside.result cursors (has_free s.btt c.requires.room) low);
     }
 
 pub returns-clause-state : goal.returns-clause-state

@@ -22,6 +22,7 @@ invariant_of-self c = record {
       (AreSoundTables-sealed c.args.self.now c.tables.ensures c.requires.idle c.requires.whole c.requires.bare
       c.a_seal_keeps_entries_sound.ensures c.a_seal_leaves_no_work.ensures c.a_listing_keeps_versions.ensures);
   marks = c.of-self-inside.ensures;
+  cursors = c.start-self-inside.ensures c.seal_pages.new.ptt c.seal_blocks.new.btt;
 }
 
 pub returns-clause-versions : goal.returns-clause-versions

@@ -1,54 +1,50 @@
-use Rattle.std.proofs.Common.{◌≡◌, ◌<◌, ◌%◌, ℕ, true, Some, sym, ◌∙◌, ap, subst, arith}
+use Rattle.std.proofs.Common.{◌≡◌, ◌<◌, ◌%◌, ℕ, true, Some, sym, ◌∙◌, ap, subst}
 use Rattle.thy_base.specs.Device.{Device}
 use Rattle.thy_base.specs.Geometry.{memory_blocks}
-use Rattle.thy_table.specs.Listing.{entry_at}
-use Rattle.thy_control.specs.State.{State, cell_of}
-use Rattle.thy_control.specs.Pages.{page_in, next_page, block_to_write, FailsWriteOf}
+use Rattle.thy_control.specs.State.{State, IsSized, cell_of}
+use Rattle.thy_control.specs.Pages.{next_page, block_to_write, FailsWriteOf}
 use Rattle.thy_control.proofs.PutLemmas.{OnErr-of}
-use Rattle.thy_control.proofs.IssueLemmas.{IsDue-entry, page_in-small, next_is, block_is}
+use Rattle.thy_control.proofs.IssueLemmas.{IsDue-entry}
 use Rattle.thy_control.proofs.control.Control.write_lowest.Goals as goal
-
-pub block_to_write-b-requires : goal.block_to_write-b-requires
-block_to_write-b-requires g c =
-    let s : State = c.args.self.now in
-    let w : State = record { p = c.self.inside.geometry; btt = c.self.inside.btt; ptt = c.self.inside.ptt; counts = c.self.inside.counts; under_way = c.self.inside.under_way; dram = c.self.inside.dram } in
-    let is : page_in c.entry.result ≡ page_in (entry_at s.ptt c.in-Some.j) = ap page_in c.entry.ensures ∙ ap (λ (x : State). page_in (entry_at x.ptt c.in-Some.j)) c.self.view_is in
-    omega (arith, is, page_in-small s c.tables.ensures c.in-Some.j, c.tables.ensures.range.0)
 
 pub write_block-requires-clause-block : goal.write_block-requires-clause-block
 write_block-requires-clause-block g c =
     let s : State = c.args.self.now in
-    let w : State = record { p = c.self.inside.geometry; btt = c.self.inside.btt; ptt = c.self.inside.ptt; counts = c.self.inside.counts; under_way = c.self.inside.under_way; dram = c.self.inside.dram } in
-    let next : next_page s ≡ Some c.in-Some.j = next_is s w c.self.view_is c.next.result c.in-Some.j c.next.ensures.place c.in-Some.is in
-    let block : c.block_to_write-b.result ≡ block_to_write c.in-Some.j s = block_is s w c.self.view_is c.block_to_write-b.result c.in-Some.j c.entry.result c.block_to_write-b.ensures c.entry.ensures in
-    subst (λ (b : ℕ). b < memory_blocks s.p) (sym block) (IsDue-entry s c.tables.ensures c.in-Some.j next).inside
+    let next : next_page s ≡ Some c.in-Some.j = sym c.seek_page.ensures.place ∙ c.in-Some.is in
+    let block : c.block_due-b.result ≡ block_to_write c.in-Some.j s = c.block_due-b.ensures ∙ ap (block_to_write c.in-Some.j) c.seek_page.ensures.same in
+    subst (λ (t : State). c.block_due-b.result < memory_blocks t.p) (sym c.seek_page.ensures.same)
+    (subst (λ (b : ℕ). b < memory_blocks s.p) (sym block) (IsDue-entry s c.tables.ensures c.in-Some.j next).inside)
 
 pub write_block-requires-clause-busy : goal.write_block-requires-clause-busy
 write_block-requires-clause-busy g c =
     let s : State = c.args.self.now in
-    let w : State = record { p = c.self.inside.geometry; btt = c.self.inside.btt; ptt = c.self.inside.ptt; counts = c.self.inside.counts; under_way = c.self.inside.under_way; dram = c.self.inside.dram } in
-    let next : next_page s ≡ Some c.in-Some.j = next_is s w c.self.view_is c.next.result c.in-Some.j c.next.ensures.place c.in-Some.is in
-    let block : c.block_to_write-b.result ≡ block_to_write c.in-Some.j s = block_is s w c.self.view_is c.block_to_write-b.result c.in-Some.j c.entry.result c.block_to_write-b.ensures c.entry.ensures in
-    subst (λ (b : ℕ). (cell_of s b).page.busy ≡ true) (sym block) (IsDue-entry s c.tables.ensures c.in-Some.j next).busy
+    let next : next_page s ≡ Some c.in-Some.j = sym c.seek_page.ensures.place ∙ c.in-Some.is in
+    let block : c.block_due-b.result ≡ block_to_write c.in-Some.j s = c.block_due-b.ensures ∙ ap (block_to_write c.in-Some.j) c.seek_page.ensures.same in
+    subst (λ (t : State). (cell_of t c.block_due-b.result).page.busy ≡ true) (sym c.seek_page.ensures.same)
+    (subst (λ (b : ℕ). (cell_of s b).page.busy ≡ true) (sym block) (IsDue-entry s c.tables.ensures c.in-Some.j next).busy)
 
 pub write_block-requires-clause-due : goal.write_block-requires-clause-due
 write_block-requires-clause-due g c =
     let s : State = c.args.self.now in
-    let w : State = record { p = c.self.inside.geometry; btt = c.self.inside.btt; ptt = c.self.inside.ptt; counts = c.self.inside.counts; under_way = c.self.inside.under_way; dram = c.self.inside.dram } in
-    let next : next_page s ≡ Some c.in-Some.j = next_is s w c.self.view_is c.next.result c.in-Some.j c.next.ensures.place c.in-Some.is in
-    let block : c.block_to_write-b.result ≡ block_to_write c.in-Some.j s = block_is s w c.self.view_is c.block_to_write-b.result c.in-Some.j c.entry.result c.block_to_write-b.ensures c.entry.ensures in
-    subst (λ (b : ℕ). (cell_of s b).page.issued ≡ b % 64) (sym block) (IsDue-entry s c.tables.ensures c.in-Some.j next).due
+    let next : next_page s ≡ Some c.in-Some.j = sym c.seek_page.ensures.place ∙ c.in-Some.is in
+    let block : c.block_due-b.result ≡ block_to_write c.in-Some.j s = c.block_due-b.ensures ∙ ap (block_to_write c.in-Some.j) c.seek_page.ensures.same in
+    subst (λ (t : State). (cell_of t c.block_due-b.result).page.issued ≡ c.block_due-b.result % 64) (sym c.seek_page.ensures.same)
+    (subst (λ (b : ℕ). (cell_of s b).page.issued ≡ b % 64) (sym block) (IsDue-entry s c.tables.ensures c.in-Some.j next).due)
+
+pub write_block-requires-clause-sized : goal.write_block-requires-clause-sized
+write_block-requires-clause-sized g c =
+    subst (λ (t : State). IsSized t (g.N.Nvm.device c.args.nvm.now)) (sym c.seek_page.ensures.same) c.requires.sized
 
 pub returns-in_err-write_block-in-Some-clause-err : goal.returns-in_err-write_block-in-Some-clause-err
 returns-in_err-write_block-in-Some-clause-err g c =
     let s : State = c.args.self.now in
     let m : Device = g.N.Nvm.device c.args.nvm.now in
     let n : Device = g.N.Nvm.device c.write_block.new.nvm in
-    let w : State = record { p = c.self.inside.geometry; btt = c.self.inside.btt; ptt = c.self.inside.ptt; counts = c.self.inside.counts; under_way = c.self.inside.under_way; dram = c.self.inside.dram } in
-    let next : next_page s ≡ Some c.in-Some.j = next_is s w c.self.view_is c.next.result c.in-Some.j c.next.ensures.place c.in-Some.is in
-    let block : c.block_to_write-b.result ≡ block_to_write c.in-Some.j s = block_is s w c.self.view_is c.block_to_write-b.result c.in-Some.j c.entry.result c.block_to_write-b.ensures c.entry.ensures in
+    let next : next_page s ≡ Some c.in-Some.j = sym c.seek_page.ensures.place ∙ c.in-Some.is in
+    let block : c.block_due-b.result ≡ block_to_write c.in-Some.j s = c.block_due-b.ensures ∙ ap (block_to_write c.in-Some.j) c.seek_page.ensures.same in
     OnErr-of c.from_residual.result (record {
       entry = c.in-Some.j;
       next = next;
-      fails = subst (λ (b : ℕ). FailsWriteOf b s m n) block c.in_err-write_block-in-Some.ensures.err;
+      fails = subst (λ (b : ℕ). FailsWriteOf b s m n) block
+          (subst (λ (t : State). FailsWriteOf c.block_due-b.result t m n) c.seek_page.ensures.same c.in_err-write_block-in-Some.ensures.err);
     })

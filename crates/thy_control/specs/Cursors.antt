@@ -1,0 +1,29 @@
+-- Where the searches of the tables go on: no entry below has what is looked for.
+use Rattle.std.specs.Prelude.{◌≡◌, ℕ, ◌<◌, Bool, false}
+use Rattle.thy_table.specs.Listing.{Listing, entry_at, passes}
+use Rattle.thy_tables.specs.declared.block_entry.BttEntry.{BttEntry}
+use Rattle.thy_tables.specs.declared.page_entry.PttEntry.{PttEntry}
+use Rattle.thy_control.specs.State.{State, AreSoundTables}
+use Rattle.thy_control.specs.Copies.{needs_copy}
+use Rattle.thy_control.specs.Pages.{needs_write}
+use Rattle.thy_control.specs.Holding.{is_promoted}
+use Rattle.thy_control.specs.Overlay.{is_overlaid, AreMarks}
+use Rattle.thy_control.specs.declared.overlay.Marks.{Marks}
+use Rattle.thy_control.specs.declared.cursors.Cursors.{Cursors}
+
+-- no entry below a place passes a test
+abbrev pub NoneBelow : {E : Type 0} → (E → Bool) → ℕ → Listing E → Type 0
+NoneBelow test place t = (k : ℕ) → k < place → passes test (entry_at t k) ≡ false
+
+-- so it is of each place where a search goes on
+pub record AreCursors (pages : Listing PttEntry) (blocks : Listing BttEntry) (c : Cursors) : Type 0 where
+  pub copies : NoneBelow needs_copy c.copies blocks
+  pub writes : NoneBelow needs_write c.writes pages
+  pub merges : NoneBelow (is_overlaid pages) c.merges blocks
+  pub promotions : NoneBelow is_promoted c.promotions pages
+
+-- what holds of the controller at every moment
+pub record IsControl (s : State) (m : Marks) (c : Cursors) : Type 0 where
+  pub tables : AreSoundTables s
+  pub marks : AreMarks s.ptt s.btt m
+  pub cursors : AreCursors s.ptt s.btt c

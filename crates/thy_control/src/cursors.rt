@@ -1,0 +1,64 @@
+//! Where the searches of the tables go on.
+ghost use Rattle.std.specs.Prelude.{◌≡◌, ◌≤◌, true, unwrap_or};
+ghost use Rattle.thy_table.specs.Listing.{Listing};
+ghost use Rattle.thy_tables.specs.declared.block_entry.BttEntry.{BttEntry as BlockEntry};
+ghost use Rattle.thy_tables.specs.declared.page_entry.PttEntry.{PttEntry as PageEntry};
+ghost use Rattle.thy_tables.specs.PageEntry.{is_framed as IsFramedPage};
+ghost use Rattle.thy_control.specs.Cursors.{AreCursors};
+
+use thy_cell::{Cell, StoreRule};
+
+/// For each kind of work that is looked for in a table, a place below which no entry has any. So from one seal or commit to
+/// the next each search goes over its table once, and again only from where a store set it back.
+#[derive(Clone, Copy, Debug)]
+pub struct Cursors {
+    /// Of the block table: no entry below has a version to be copied.
+    pub copies: usize,
+    /// Of the page table: no page below has blocks to be written.
+    pub writes: usize,
+    /// Of the block table: no entry below has work in a buffer over the frame of its page.
+    pub merges: usize,
+    /// Of the page table: no page below is being promoted.
+    pub promotions: usize,
+}
+
+/// Where the next search goes on: at what this one found, past the last entry where it found nothing.
+pub fn goes_on(found: Option<usize>, size: usize) -> usize
+    ensures { result ≡ unwrap_or found size }
+{
+    match found {
+        Some(i) => i,
+        None => size,
+    }
+}
+
+impl Cursors {
+    /// At the start of both tables.
+    pub fn start() -> Cursors
+        ensures { (pages : Listing PageEntry) (blocks : Listing BlockEntry) → AreCursors pages blocks result }
+    {
+        Cursors {
+            copies: 0,
+            writes: 0,
+            merges: 0,
+            promotions: 0,
+        }
+    }
+
+    /// After a store by a rule, by what the block was before: a buffer over a frame has to be merged.
+    pub fn lowered(self, rule: StoreRule, cell: &Cell) -> Cursors
+        ensures copies { result.copies ≡ self.copies }
+        ensures writes { result.writes ≡ self.writes }
+        ensures promotions { result.promotions ≡ self.promotions }
+        ensures merges { result.merges ≤ self.merges }
+        ensures buffer { rule ≡ StoreRule.ToBuffer → IsFramedPage cell.now.page ≡ true → result.merges ≤ cell.now.i }
+    {
+        match rule {
+            StoreRule::ToBuffer if cell.page.is_framed() => Cursors {
+                merges: self.merges.min(cell.i),
+                ..self
+            },
+            _ => self,
+        }
+    }
+}
