@@ -8,11 +8,15 @@ mod calls;
 #[cfg(test)]
 mod controller;
 #[cfg(test)]
+mod controller_rows;
+#[cfg(test)]
 mod counts;
 #[cfg(test)]
 mod crash;
 #[cfg(test)]
 mod dram;
+#[cfg(test)]
+mod driven;
 #[cfg(test)]
 mod elf;
 #[cfg(test)]
