@@ -8,6 +8,8 @@ mod calls;
 #[cfg(test)]
 mod controller;
 #[cfg(test)]
+mod controller_epochs;
+#[cfg(test)]
 mod controller_rows;
 #[cfg(test)]
 mod counts;
