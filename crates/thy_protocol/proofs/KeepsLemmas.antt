@@ -17,7 +17,7 @@ use Rattle.thy_view.specs.Booting.{boot_view, found_first, view_of_image}
 use Rattle.thy_view.specs.Origin.{Origin, IsOrigin, StartsFrom, setting_of, at}
 use Rattle.thy_view.specs.Safe.{ceiling, Safe, IsOneOf}
 use Rattle.thy_base.specs.Marks.{mark}
-use Rattle.thy_protocol.specs.Layout.{Layout, Scheme, decode_by, reading, looked_by}
+use Rattle.thy_protocol.specs.Layout.{Layout, Layouts, decode_by, reading, looked_by}
 use Rattle.thy_protocol.specs.Keeps.{IsOf, Tells, TellsNext, TellsAll, Keeps, doubt_in, finding_view}
 use Rattle.thy_protocol.specs.Moves.{Standing, IsKeeping, CommitsTo, Move, Goes, Seals, Readies, Commits, Confirms, Moves, Rests, Then, LeavesAlone}
 use Rattle.thy_protocol.proofs.LayoutLemmas.{decode_by-copy}
@@ -65,25 +65,25 @@ one_of_kept : (o : Origin) (l : Layout) (g : List Block) (kept doubt : Option Ma
 one_of_kept o l g None doubt t = subst (IsOneOf o None doubt) (sym t.0) refl
 one_of_kept o l g (Some m) doubt is = one_of_mark o (Some m) doubt m (decode_by l g) is.decodes is.counted (inl refl)
 
-pub Safe-kept : (scheme : Scheme) (o : Origin) (n : Device) (s : Saved) (kept sealed : Option Mark)
-    → Keeps o (scheme o.geometry ceiling) n s kept sealed → Safe (reading scheme) o kept (doubt_in s sealed) n
-Safe-kept scheme o n s kept sealed k = λ g c.
-    let l : Layout = scheme o.geometry ceiling in
+pub Safe-kept : (layouts : Layouts) (o : Origin) (n : Device) (s : Saved) (kept sealed : Option Mark)
+    → Keeps o (layouts o.geometry ceiling) n s kept sealed → Safe (reading layouts) o kept (doubt_in s sealed) n
+Safe-kept layouts o n s kept sealed k = λ g c.
+    let l : Layout = layouts o.geometry ceiling in
     elim (found o l n s kept sealed g k c) as (λ _. IsOneOf o kept (doubt_in s sealed) (decode_by l g)) [
       | inl old ↦ one_of_kept o l g kept (doubt_in s sealed) old
       | inr new ↦ one_of_mark o kept (doubt_in s sealed) new.0 (decode_by l g) new.2.decodes new.2.counted (inr new.1)
     ]
 
 -- what is safe for the mark in doubt is safe for the sealed one
-safe_for_both : (scheme : Scheme) (o : Origin) (n : Device) (s : Saved) (kept sealed : Option Mark)
-    → Safe (reading scheme) o kept (doubt_in s sealed) n → Safe (reading scheme) o kept sealed n
-safe_for_both scheme o n (Kept before) kept sealed safe = Safe-doubt (reading scheme) o kept sealed n safe
-safe_for_both scheme o n (Ready before next) kept sealed safe = Safe-doubt (reading scheme) o kept sealed n safe
-safe_for_both scheme o n (InDoubt before next) kept sealed safe = safe
+safe_for_both : (layouts : Layouts) (o : Origin) (n : Device) (s : Saved) (kept sealed : Option Mark)
+    → Safe (reading layouts) o kept (doubt_in s sealed) n → Safe (reading layouts) o kept sealed n
+safe_for_both layouts o n (Kept before) kept sealed safe = Safe-doubt (reading layouts) o kept sealed n safe
+safe_for_both layouts o n (Ready before next) kept sealed safe = Safe-doubt (reading layouts) o kept sealed n safe
+safe_for_both layouts o n (InDoubt before next) kept sealed safe = safe
 
-pub Safe-sealed : (scheme : Scheme) (o : Origin) (n : Device) (s : Saved) (kept sealed : Option Mark)
-    → Keeps o (scheme o.geometry ceiling) n s kept sealed → Safe (reading scheme) o kept sealed n
-Safe-sealed scheme o n s kept sealed k = safe_for_both scheme o n s kept sealed (Safe-kept scheme o n s kept sealed k)
+pub Safe-sealed : (layouts : Layouts) (o : Origin) (n : Device) (s : Saved) (kept sealed : Option Mark)
+    → Keeps o (layouts o.geometry ceiling) n s kept sealed → Safe (reading layouts) o kept sealed n
+Safe-sealed layouts o n s kept sealed k = safe_for_both layouts o n s kept sealed (Safe-kept layouts o n s kept sealed k)
 
 -- ---- what a boot finds
 
@@ -184,12 +184,12 @@ IsKeeping-moves o l a b (Rests s) k = k
 IsKeeping-moves o l a b (Then first mid last moves move) k =
     IsKeeping-move o l mid last move (IsKeeping-moves o l first mid moves k)
 
-pub Safe-moves : (scheme : Scheme) (o : Origin) (a b : Standing)
-    → IsKeeping o (scheme o.geometry ceiling) a → Moves o (scheme o.geometry ceiling) a b
-    → IsKeeping o (scheme o.geometry ceiling) b × Safe (reading scheme) o b.kept (doubt_in b.saved b.sealed) b.device
-Safe-moves scheme o a b k moves =
-    let after : IsKeeping o (scheme o.geometry ceiling) b = IsKeeping-moves o (scheme o.geometry ceiling) a b moves k in
-    (after, Safe-kept scheme o b.device b.saved b.kept b.sealed after)
+pub Safe-moves : (layouts : Layouts) (o : Origin) (a b : Standing)
+    → IsKeeping o (layouts o.geometry ceiling) a → Moves o (layouts o.geometry ceiling) a b
+    → IsKeeping o (layouts o.geometry ceiling) b × Safe (reading layouts) o b.kept (doubt_in b.saved b.sealed) b.device
+Safe-moves layouts o a b k moves =
+    let after : IsKeeping o (layouts o.geometry ceiling) b = IsKeeping-moves o (layouts o.geometry ceiling) a b moves k in
+    (after, Safe-kept layouts o b.device b.saved b.kept b.sealed after)
 
 -- ---- what a cycle's action spares
 

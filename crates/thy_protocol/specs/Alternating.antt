@@ -15,7 +15,7 @@ use Rattle.thy_crash.specs.Saved.{Kept}
 use Rattle.thy_view.specs.Origin.{Origin}
 use Rattle.thy_view.specs.Safe.{ceiling}
 use Rattle.thy_base.specs.Marks.{mark}
-use Rattle.thy_protocol.specs.Layout.{Scheme, slot_in, memory_in, decode_by}
+use Rattle.thy_protocol.specs.Layout.{Layouts, slot_in, memory_in, decode_by}
 use Rattle.thy_protocol.specs.Moves.{standing, IsKeeping, Moves}
 
 -- how many blocks a copy has
@@ -27,7 +27,7 @@ abbrev pub copy_place : Parameters → ℕ → ℕ
 copy_place p epoch = 2 + epoch % 2 * copy_blocks p
 
 -- the header is a block of zeros
-abbrev pub alternating : Scheme
+abbrev pub alternating : Layouts
 alternating p ceiling = record {
   image_blocks = 2 + 2 * copy_blocks p;
   memory_blocks = memory_blocks p;

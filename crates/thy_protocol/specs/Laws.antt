@@ -12,7 +12,7 @@ use Rattle.thy_view.specs.Action.{Action, after, FailsTo}
 use Rattle.thy_view.specs.Booting.{found_first, view_of_image}
 use Rattle.thy_view.specs.Origin.{Origin, IsOrigin}
 use Rattle.thy_view.specs.Safe.{ceiling, Safe}
-use Rattle.thy_protocol.specs.Layout.{Layout, Scheme, decode_by, reading, looked_by, IsWhole}
+use Rattle.thy_protocol.specs.Layout.{Layout, Layouts, decode_by, reading, looked_by, IsWhole}
 use Rattle.thy_protocol.specs.Keeps.{Keeps, Tells, doubt_in, finding_view}
 use Rattle.thy_protocol.specs.Moves.{Standing, IsKeeping, Moves, LeavesAlone}
 
@@ -49,21 +49,21 @@ DecodedIsWhole =
 -- whatever a cut leaves is the checkpoint that is kept, whole, or the one in doubt
 abbrev pub KeptIsSafe : Type 0
 KeptIsSafe =
-    (scheme : Scheme) (o : Origin) (n : Device) (s : Saved) (kept sealed : Option Mark)
-    → Keeps o (scheme o.geometry ceiling) n s kept sealed → Safe (reading scheme) o kept (doubt_in s sealed) n
+    (layouts : Layouts) (o : Origin) (n : Device) (s : Saved) (kept sealed : Option Mark)
+    → Keeps o (layouts o.geometry ceiling) n s kept sealed → Safe (reading layouts) o kept (doubt_in s sealed) n
 
 -- so it is the one kept or the one sealed, which a failed call may leave too
 abbrev pub KeptIsSafeForBoth : Type 0
 KeptIsSafeForBoth =
-    (scheme : Scheme) (o : Origin) (n : Device) (s : Saved) (kept sealed : Option Mark)
-    → Keeps o (scheme o.geometry ceiling) n s kept sealed → Safe (reading scheme) o kept sealed n
+    (layouts : Layouts) (o : Origin) (n : Device) (s : Saved) (kept sealed : Option Mark)
+    → Keeps o (layouts o.geometry ceiling) n s kept sealed → Safe (reading layouts) o kept sealed n
 
 -- after any number of moves too
 abbrev pub MovesAreSafe : Type 0
 MovesAreSafe =
-    (scheme : Scheme) (o : Origin) (a b : Standing)
-    → IsKeeping o (scheme o.geometry ceiling) a → Moves o (scheme o.geometry ceiling) a b
-    → IsKeeping o (scheme o.geometry ceiling) b × Safe (reading scheme) o b.kept (doubt_in b.saved b.sealed) b.device
+    (layouts : Layouts) (o : Origin) (a b : Standing)
+    → IsKeeping o (layouts o.geometry ceiling) a → Moves o (layouts o.geometry ceiling) a b
+    → IsKeeping o (layouts o.geometry ceiling) b × Safe (reading layouts) o b.kept (doubt_in b.saved b.sealed) b.device
 
 -- a cut leaves a device that keeps the checkpoint that was kept, or the one in doubt
 abbrev pub CutKeeps : Type 0

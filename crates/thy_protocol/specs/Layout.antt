@@ -30,8 +30,8 @@ pub record Layout : Type 0 where
   pub state_from : List Block → List Block → State
 
 -- a layout for each geometry, with epochs and counts below a ceiling
-abbrev pub Scheme : Type 0
-Scheme = Parameters → ℕ → Layout
+abbrev pub Layouts : Type 0
+Layouts = Parameters → ℕ → Layout
 
 -- ---- the parts of an image
 
@@ -82,9 +82,9 @@ meaning_of l sized header commit slot memory =
 unfoldable pub decode_by : Layout → List Block → Decoded
 decode_by l g = meaning_of l (is_sized l g) (block_at g 0) (block_at g 1) (slot_in l g) (memory_in l g)
 
--- how images of a scheme are read
-abbrev pub reading : Scheme → Reading
-reading scheme p ceiling g = decode_by (scheme p ceiling) g
+-- how images are read
+abbrev pub reading : Layouts → Reading
+reading layouts p ceiling g = decode_by (layouts p ceiling) g
 
 -- the places that tell what an image with a checkpoint means
 abbrev pub parts_of : Layout → Looking

@@ -11,9 +11,9 @@ use Rattle.thy_record.specs.Slots.{tables_in, slot_fault}
 use Rattle.thy_record.specs.Tables.{place_of}
 use Rattle.thy_isa.specs.OnBlocks.{state_from}
 use Rattle.thy_record.specs.Images.{decode_image, looked}
-use Rattle.thy_protocol.specs.Layout.{Scheme, decode_by, looked_by}
+use Rattle.thy_protocol.specs.Layout.{Layouts, decode_by, looked_by}
 
-abbrev pub version_one : Scheme
+abbrev pub version_one : Layouts
 version_one p ceiling = record {
   image_blocks = image_blocks p;
   memory_blocks = memory_blocks p;
