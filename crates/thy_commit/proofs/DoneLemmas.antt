@@ -17,7 +17,7 @@ use Rattle.thy_control.specs.Pages.{needs_write}
 use Rattle.thy_commit.specs.Progress.{IsDone}
 
 -- where no live entry passes a test, and no new one, the entry of no number does
-none-entry_for : {E : Type 0} (key : E → ℕ) (new : ℕ → E) (test : E → Bool) (t : Listing E) → next_from test 0 t ≡ None
+pub none-entry_for : {E : Type 0} (key : E → ℕ) (new : ℕ → E) (test : E → Bool) (t : Listing E) → next_from test 0 t ≡ None
     → ((n : ℕ) → test (new n) ≡ false) → (n : ℕ) → test (entry_for key new n t) ≡ false
 none-entry_for {E} key new test t none new_fails n = by_place (place_of key n t) refl where
   by_place : (o : Option ℕ) → place_of key n t ≡ o → test (entry_for key new n t) ≡ false
@@ -28,12 +28,12 @@ none-entry_for {E} key new test t none new_fails n = by_place (place_of key n t)
       ∙ sym (ap (passes test) f.1)
       ∙ none-first_from (passes test) None t.entries 0 none i (omega arith) f.3
 
-not_pending : (q : Pending) → is_pending q ≡ false → q ≡ Settled
+pub not_pending : (q : Pending) → is_pending q ≡ false → q ≡ Settled
 not_pending Settled h = refl
 not_pending FromBuffer h = cc
 not_pending FromAlternate h = cc
 
-not_to_write : (busy : Bool) (issued : ℕ) → (busy && nat_lt issued 64) ≡ false → busy ≡ true → 64 ≤ issued
+pub not_to_write : (busy : Bool) (issued : ℕ) → (busy && nat_lt issued 64) ≡ false → busy ≡ true → 64 ≤ issued
 not_to_write true issued h e = grind arith
 not_to_write false issued h e = cc
 

@@ -1,7 +1,13 @@
 pub mod DoneLemmas
+pub mod FitLemmas
+pub mod ListedLemmas
 pub mod MemoryLemmas
 pub mod ItemLemmas
 pub mod WrittenLemmas
 pub mod CycleLemmas
+pub mod FreeLemmas
 pub mod GuardLemmas
+pub mod ActionLemmas
+pub mod HeldLemmas
 pub mod MoveLemmas
+pub mod TableLemmas

@@ -1,11 +1,12 @@
 -- How many cycles of the engine a checkpoint still takes.
-use Rattle.std.specs.Prelude.{◌≡◌, ℕ, ◌+◌, ◌-◌, true}
+use Rattle.std.specs.Prelude.{◌≡◌, ℕ, ◌+◌, ◌-◌, ◌*◌, ◌≤◌, true}
 use Rattle.thy_base.specs.declared.config.Parameters.{Parameters}
 use Rattle.thy_base.specs.Device.{Device}
 use Rattle.thy_base.specs.Places.{slot_blocks}
 use Rattle.thy_control.specs.State.{State, AreSoundTables}
 use Rattle.thy_control.specs.Copies.{copies_left}
 use Rattle.thy_control.specs.Pages.{writes_left}
+use Rattle.thy_control.specs.Stays.{Stays}
 use Rattle.thy_commit.specs.declared.next.Next.{Next}
 use Rattle.thy_commit.specs.declared.next.Next.TheVariants.{Nothing, Copies, Pages, Slot, Settle, Commit, Confirm}
 use Rattle.thy_commit.specs.Items.{is_under_way}
@@ -30,3 +31,16 @@ ItemsCount =
     (e : Progress) (s : State) (m : Device)
     → IsSoundProgress e → AreSoundTables s → Fits e s → is_under_way e.next ≡ true
     → cycles_left (engine_next e s) (state_next e s m) + 1 ≡ cycles_left e s
+
+-- a call of the controller in between adds none, whether or not it failed
+abbrev pub StaysCount : Type 0
+StaysCount =
+    (e : Progress) (s : State) (m : Device) (t : State) (n : Device)
+    → AreSoundTables s → AreSoundTables t → Stays s m t n → cycles_left e t ≤ cycles_left e s
+
+-- a checkpoint takes a cycle for each entry of the block table, 64 for each of the page table, and those of the slot at most
+abbrev pub most_cycles : Parameters → ℕ
+most_cycles p = p.btt + (64 * p.ptt + (slot_blocks p + 3))
+
+abbrev pub CyclesAreFew : Type 0
+CyclesAreFew = (e : Progress) (s : State) → AreSoundTables s → Fits e s → cycles_left e s ≤ most_cycles e.p

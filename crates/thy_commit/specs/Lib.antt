@@ -1,6 +1,12 @@
 pub mod Items
 pub mod Progress
+pub mod Fitting
+pub mod Tables
 pub mod Versions
+pub mod Held
 pub mod Written
 pub mod Cycles
+pub mod Frees
+pub mod Actions
 pub mod Moves
+pub mod Chain

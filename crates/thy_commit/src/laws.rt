@@ -1,6 +1,12 @@
 //! Laws of the engine, each the contract of a function that does nothing.
-ghost use Rattle.thy_commit.specs.Cycles.{ItemsCount};
+ghost use Rattle.thy_commit.specs.Actions.{FailedItemsAct, ItemsAct};
+ghost use Rattle.thy_commit.specs.Chain.{ItemsTell, SealMoves, StaysTell};
+ghost use Rattle.thy_commit.specs.Cycles.{CyclesAreFew, ItemsCount, StaysCount};
+ghost use Rattle.thy_commit.specs.Fitting.{ItemsFit, SealFits, StaysFit};
 ghost use Rattle.thy_commit.specs.Moves.{FailedItemsMove, ItemsMove, NextIsTold, StaysMove};
+ghost use Rattle.thy_commit.specs.Frees.{CommitFrees, ItemsCopy};
+ghost use Rattle.thy_commit.specs.Held.{ItemsKeepStore};
+ghost use Rattle.thy_commit.specs.Tables.{ItemsMoveTables};
 ghost use Rattle.thy_commit.specs.Versions.{ItemsMoveVersions, MemoryIsLast};
 ghost use Rattle.thy_commit.specs.Written.{ItemsWrite, StaysWritten};
 
@@ -34,9 +40,52 @@ pub fn the_checkpoint_is_written_in_turn()
 {}
 
 /// A checkpoint takes as many cycles of the engine as copies and page blocks are left, as the slot has blocks, and three
-/// more.
+/// more. A call of the controller in between adds none. So it takes a cycle for each entry of the block table, 64 for each of
+/// the page table, and those of the slot at most.
 pub fn every_item_takes_a_cycle()
-    ensures { ItemsCount }
+    ensures items { ItemsCount }
+    ensures stays { StaysCount }
+    ensures most { CyclesAreFew }
+{}
+
+/// Engine and controller belong together after every item, after a seal with which a checkpoint begins, and after every call
+/// of the controller in between, whether or not it failed: what was done stays so.
+pub fn engine_and_controller_fit()
+    ensures items { ItemsFit }
+    ensures seal { SealFits }
+    ensures stays { StaysFit }
+{}
+
+/// Every item keeps what controller and NVM hold together, seen as a store of blocks: each block, readiness, and that no page is
+/// open; there is not less room, and no more copies are owed. As many pages are being promoted, and as many buffers lie over
+/// frames, or fewer after the commit.
+pub fn items_keep_the_store()
+    ensures { ItemsKeepStore }
+{
+    a_copy_keeps_versions();
+    a_page_write_keeps_versions();
+    a_page_write_keeps_others();
+    a_commit_takes_the_last();
+}
+
+/// Where a seal finds no work, and over its checkpoint no store comes, at least half of the block table is free after the
+/// commit: the items before it change that table by copies alone.
+pub fn a_checkpoint_without_stores_frees_entries()
+    ensures copies { ItemsCopy }
+    ensures frees { CommitFrees }
+{}
+
+/// Every item keeps the tables of both checkpoints, and one under way, but that with the last one the committed checkpoint has
+/// the tables that were due, and none is under way any more.
+pub fn items_move_tables()
+    ensures { ItemsMoveTables }
+{}
+
+/// Every item is one action on the NVM: nothing, a write that leaves the commit block alone, the commit block's write, or a
+/// barrier; where it failed, that action did, or a read before it.
+pub fn an_item_is_one_action()
+    ensures done { ItemsAct }
+    ensures failed { FailedItemsAct }
 {}
 
 /// Every item is a move of the run's checkpoints on the NVM: it spares all places that tell what the committed one is; the
@@ -51,9 +100,22 @@ pub fn items_are_moves()
     a_page_write_keeps_others();
 }
 
-/// Every call of the controller in between is a move too, whether or not it failed. Behind the first barrier it spares the
-/// next image as well, which has the tables of the checkpoint under way.
+/// Every call of the controller is a move too, whether or not it failed, and whether or not a checkpoint is under way. Behind
+/// the first barrier it spares the next image as well, which has the tables of the checkpoint under way.
 pub fn calls_are_moves()
     ensures next { NextIsTold }
     ensures stays { StaysMove }
+{}
+
+/// The tables of the image that is kept stay known, from one checkpoint to the next: with the last item that image is the one
+/// that was made, and the controller has its tables as the committed ones. Calls of the controller in between change nothing
+/// of that.
+pub fn the_next_checkpoint_is_kept()
+    ensures items { ItemsTell }
+    ensures stays { StaysTell }
+{}
+
+/// A seal is a move, where it is that of the epoch after the one whose checkpoint is kept, and the image is told as before.
+pub fn a_seal_is_a_move()
+    ensures { SealMoves }
 {}

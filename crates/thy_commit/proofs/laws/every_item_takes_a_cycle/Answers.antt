@@ -1,5 +1,11 @@
-use Rattle.thy_commit.proofs.CycleLemmas.{items_count}
+use Rattle.thy_commit.proofs.CycleLemmas.{items_count, stays_count, cycles_are_few}
 use Rattle.thy_commit.proofs.laws.every_item_takes_a_cycle.Goals as goal
 
-pub returns : goal.returns
-returns c = items_count
+pub returns-clause-items : goal.returns-clause-items
+returns-clause-items c = items_count
+
+pub returns-clause-stays : goal.returns-clause-stays
+returns-clause-stays c = stays_count
+
+pub returns-clause-most : goal.returns-clause-most
+returns-clause-most c = cycles_are_few

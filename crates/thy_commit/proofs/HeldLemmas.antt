@@ -1,0 +1,312 @@
+-- Every item keeps what controller and NVM hold together.
+use Rattle.std.proofs.Common.{◌≡◌, ◌≢◌, ℕ, ◌+◌, ◌*◌, ◌<◌, ◌≤◌, ◌==◌, ◌&&◌, not, Bool, true, false, List, [], ◌∷◌, length, get_or, map, slice_set, is_none, refl, sym, ◌∙◌, ap, subst, arith, zero, suc, Option, Some, None, option_and_then}
+use Rattle.std.specs.List.{range_with_len, count_by}
+use Rattle.std.proofs.lemmas.Bool.{and_parts}
+use Rattle.std.proofs.lemmas.List.{ext_get_or}
+use Rattle.std.proofs.lemmas.List.FromFn.{length-map-range_with_len, get_or-map-range_with_len}
+use Rattle.std.proofs.lemmas.List.Sums.{sum_by-set, sum_by-cons}
+use Rattle.thy_base.specs.declared.block.Block.{Block}
+use Rattle.thy_base.specs.declared.config.Parameters.{Parameters}
+use Rattle.thy_base.specs.Device.{Device, zero_block, surplus}
+use Rattle.thy_base.proofs.DeviceLemmas.{length-applied, length-landed}
+use Rattle.thy_base.specs.Geometry.{memory_blocks}
+use Rattle.thy_base.specs.Places.{image_blocks}
+use Rattle.thy_table.specs.Listing.{Listing, entry_at, free_count, passes, with_entry}
+use Rattle.thy_table.proofs.IndexLemmas.{one_if}
+use Rattle.thy_tables.specs.declared.block_entry.BttEntry.{BttEntry}
+use Rattle.thy_tables.specs.declared.block_entry.Pending.TheVariants.{Settled}
+use Rattle.thy_tables.specs.declared.block_entry.Version.{Version}
+use Rattle.thy_tables.specs.declared.block_entry.Version.TheVariants.{Out, Alt}
+use Rattle.thy_tables.specs.declared.block_entry.Working.{Working}
+use Rattle.thy_tables.specs.declared.block_entry.Working.TheVariants.{NoWork, InNvm, InBuffer}
+use Rattle.thy_tables.specs.declared.page_entry.PttEntry.{PttEntry}
+use Rattle.thy_tables.specs.BlockEntry.{new_entry}
+use Rattle.thy_tables.specs.PageEntry.{is_framed}
+use Rattle.thy_cell.specs.declared.cell.Cell.{Cell}
+use Rattle.thy_cell.specs.Checkpoint.{CommitMoves, committed_by, committed_entry, page_committed_by, committed_page, page_or_none, page_issued}
+use Rattle.thy_cell.specs.Rules.{after_copy}
+use Rattle.thy_cell.specs.Steps.{CopyKeeps, PageWriteKeeps, PageWriteKeepsOthers}
+use Rattle.thy_view.specs.Action.{Action, Rest, ReadAt, WriteAt, Barrier, Drain, Acts, after}
+use Rattle.thy_control.specs.declared.overlay.Marks.{Marks}
+use Rattle.thy_control.specs.Keys.{block_key}
+use Rattle.thy_control.specs.State.{State, AreSoundTables, IsSized, cell_of, work_of}
+use Rattle.thy_control.specs.Commit.{committed_state}
+use Rattle.thy_control.specs.Copies.{next_copy, block_listed, copied}
+use Rattle.thy_control.specs.Holding.{works, waits, is_promoted, waiting, promoted, holding_of}
+use Rattle.thy_control.specs.Merges.{overlays}
+use Rattle.thy_control.specs.Overlay.{is_buffered, is_overlaid, AreMarks}
+use Rattle.thy_control.specs.Pages.{next_page, block_to_write, issued}
+use Rattle.thy_control.specs.Seal.{block_is_framed}
+use Rattle.thy_control.proofs.CommitLemmas.{cell-committed}
+use Rattle.thy_control.proofs.CopyLemmas.{IsNext-entry, listed-pending}
+use Rattle.thy_control.proofs.CountLemmas.{count-set_same}
+use Rattle.thy_control.proofs.FindLemmas.{found_entry}
+use Rattle.thy_control.proofs.HoldingLemmas.{works-sized}
+use Rattle.thy_control.proofs.IdleLemmas.{free-committed}
+use Rattle.thy_control.proofs.IssueLemmas.{IsDue-entry, busy-framed}
+use Rattle.thy_control.proofs.StepMarkLemmas.{AreMarks-copied, AreMarks-issued}
+use Rattle.thy_commit.specs.declared.next.Next.{Next}
+use Rattle.thy_commit.specs.declared.next.Next.TheVariants.{Nothing, Copies, Pages, Slot, Settle, Commit, Confirm}
+use Rattle.thy_commit.specs.Items.{Item, NoItem, CopyItem, PageItem, SlotItem, SettleItem, CommitItem, ConfirmItem, item, copy_or, page_or_slot, page_item}
+use Rattle.thy_commit.specs.Progress.{Progress, state_after, item_of, state_next, device_next}
+use Rattle.thy_commit.specs.Versions.{MovesVersions}
+use Rattle.thy_commit.specs.Held.{KeepsHolding, MovesOverlays, KeepsStore, ItemsKeepStore}
+use Rattle.thy_commit.proofs.ActionLemmas.{items_act}
+use Rattle.thy_commit.proofs.FitLemmas.{IsOfPage, page-listed}
+use Rattle.thy_commit.proofs.ItemLemmas.{items_move_versions}
+
+-- ---- counts over a rule
+
+module _ {X Y : Type 0} (f : X → Y) (p : X → Bool) (q : Y → Bool) (d : X) where
+  by_both : (a b : Bool) → (a ≡ true → b ≡ true) → one_if a ≤ one_if b
+  by_both false b h = omega arith
+  by_both true b h = let yes : b ≡ true = h refl in omega (arith, ap one_if yes)
+
+  -- where what passes did so before, no more pass
+  count-implied : (xs : List X) → ((i : ℕ) → i < length xs → q (f (get_or xs i d)) ≡ true → p (get_or xs i d) ≡ true) → count_by q (map f xs) ≤ count_by p xs
+  count-implied [] h = omega arith
+  count-implied (x ∷ xs) h = omega (
+    arith,
+    count-implied xs (λ i l. h (suc i) (omega (arith, l))),
+    sum_by-cons (λ y. one_if (q y)) (f x) (map f xs),
+    sum_by-cons (λ y. one_if (p y)) x xs,
+    by_both (q (f x)) (p x) (h 0 (omega arith)),
+  )
+
+  -- and where what passed does so still, no fewer
+  count-implies : (xs : List X) → ((i : ℕ) → i < length xs → p (get_or xs i d) ≡ true → q (f (get_or xs i d)) ≡ true) → count_by p xs ≤ count_by q (map f xs)
+  count-implies [] h = omega arith
+  count-implies (x ∷ xs) h = omega (
+    arith,
+    count-implies xs (λ i l. h (suc i) (omega (arith, l))),
+    sum_by-cons (λ y. one_if (q y)) (f x) (map f xs),
+    sum_by-cons (λ y. one_if (p y)) x xs,
+    by_both (p x) (q (f x)) (h 0 (omega arith)),
+  )
+
+-- ---- room, copies owed, promotions and overlays
+
+-- no fewer entries are free, no more buffers wait, as many pages are being promoted, and the overlays are as the item leaves them
+record KeepsCounts (i : Item) (s t : State) : Type 0 where
+  free : free_count s.btt ≤ free_count t.btt
+  owed : waiting t.btt ≤ waiting s.btt
+  promoted_same : promoted t.ptt ≡ promoted s.ptt
+  overlays_are : MovesOverlays i s t
+
+abbrev marks_of : State → Marks
+marks_of s = record { overlaid = overlays s; promoted = promoted s.ptt }
+
+are-marks : (s : State) → AreMarks s.ptt s.btt (marks_of s)
+are-marks s = record { overlaid_is = refl; promoted_is = refl }
+
+counts-copied : (i b : ℕ) (s : State) (m : Device) → (cell_of s b).entry.pend ≢ Settled → KeepsCounts (CopyItem i) s (copied b s m)
+unfolding copied
+counts-copied i b s m pending =
+    let c : Cell = cell_of s b in
+    let there = found_entry block_key new_entry s.btt b c.i (listed-pending b s pending) in
+    let marks : AreMarks (copied b s m).ptt (copied b s m).btt (marks_of s) = AreMarks-copied b s m (marks_of s) pending (are-marks s) in
+    let same : free_count (copied b s m).btt ≡ free_count s.btt
+    = count-set_same is_none s.btt.entries c.i (Some (after_copy c).entry) None there.3 (sym (ap is_none there.1)) in
+    let fewer = sum_by-set (λ (o : Option BttEntry). one_if (passes (λ (e : BttEntry). waits e.pend) o)) s.btt.entries c.i (Some (after_copy c).entry) None there.3 in
+    record {
+      free = omega (arith, same);
+      owed = omega (arith, fewer);
+      promoted_same = refl;
+      overlays_are = sym marks.overlaid_is;
+    }
+
+counts-issued : (j b : ℕ) (s : State) (m : Device) → (cell_of s b).page.busy ≡ true → KeepsCounts (PageItem j) s (issued b s m)
+unfolding issued
+counts-issued j b s m busy =
+    let marks : AreMarks (issued b s m).ptt (issued b s m).btt (marks_of s) = AreMarks-issued b s m (marks_of s) busy (are-marks s) in
+    record {
+      free = omega arith;
+      owed = omega arith;
+      promoted_same = sym marks.promoted_is;
+      overlays_are = sym marks.overlaid_is;
+    }
+
+-- what a commit leaves of an entry waits as it did, and lies over a frame only where it did
+committed-waits : (v : Version) (w : Working) (e : BttEntry) → passes (λ (x : BttEntry). waits x.pend) (committed_by v w e) ≡ true → waits e.pend ≡ true
+committed-waits Out NoWork e h = cc
+committed-waits Out InNvm e h = h
+committed-waits Out InBuffer e h = h
+committed-waits Alt w e h = h
+
+committed-lies : (pages : Listing PttEntry) (v : Version) (w : Working) (e : BttEntry) → passes (is_overlaid pages) (committed_by v w e) ≡ true → is_overlaid pages e ≡ true
+committed-lies pages Out NoWork e h = cc
+committed-lies pages Out InNvm e h = h
+committed-lies pages Out InBuffer e h = h
+committed-lies pages Alt w e h = h
+
+-- a page that a commit leaves is in promotion as it was
+committed-promoted : (leaving : Bool) (e : PttEntry) → passes is_promoted (page_committed_by leaving e) ≡ true → is_promoted e ≡ true
+committed-promoted true e h = cc
+committed-promoted false e h = h
+
+stays-promoted : (leaving : Bool) (e : PttEntry) → (leaving ≡ true → is_promoted e ≡ false) → is_promoted e ≡ true → passes is_promoted (page_committed_by leaving e) ≡ true
+stays-promoted true e none h = let no : is_promoted e ≡ false = none refl in cc
+stays-promoted false e none h = h
+
+framed-before : (leaving : Bool) (e : PttEntry) → is_framed (page_or_none e.page (page_committed_by leaving e)) ≡ true → is_framed e ≡ true
+framed-before true e h = cc
+framed-before false e h = h
+
+module _ (s : State) (tables : AreSoundTables s) where
+  -- a page that leaves is framed
+  leaving-framed : (j : ℕ) (e : PttEntry) → entry_at s.ptt j ≡ Some e → e.leaving ≡ true → is_promoted e ≡ false
+  leaving-framed j e was leaving =
+      let of_page : IsOfPage s tables e = page-listed s tables j e was in
+      let sound = (tables.cells (64 * e.page) of_page.inside).of_page in
+      let page : PttEntry = (cell_of s (64 * e.page)).page in
+      let busy : page.busy ≡ true = sound.leaving_busy (ap (λ (x : PttEntry). x.leaving) of_page.page ∙ leaving) in
+      let framed : is_framed e ≡ true = ap is_framed (sym of_page.page) ∙ busy-framed s.under_way page sound busy in
+      ap (λ (x : Bool). not x && e.fresh) framed
+
+  block-framed : (b : ℕ) → block_is_framed (committed_state s).ptt b ≡ true → block_is_framed s.ptt b ≡ true
+  block-framed b h =
+      framed-before (cell_of s b).page.leaving (cell_of s b).page
+      (ap (λ (c : Cell). is_framed c.page) (sym (cell-committed s tables.btt_once tables.ptt_once b)) ∙ h)
+
+  overlaid-before : (e : BttEntry) → is_overlaid (committed_state s).ptt e ≡ true → is_overlaid s.ptt e ≡ true
+  overlaid-before e h =
+      let both = and_parts (is_buffered e.work) (block_is_framed (committed_state s).ptt e.block) h in
+      ap (λ (x : Bool). x && block_is_framed s.ptt e.block) both.0 ∙ block-framed e.block both.1
+
+  owed-committed : waiting (committed_state s).btt ≤ waiting s.btt
+  unfolding committed_state
+  owed-committed = count-implied (option_and_then committed_entry) (passes waits_of) (passes waits_of) None s.btt.entries (λ i l. by_entry (entry_at s.btt i)) where
+    waits_of : BttEntry → Bool
+    waits_of e = waits e.pend
+
+    by_entry : (o : Option BttEntry) → passes waits_of (option_and_then committed_entry o) ≡ true → passes waits_of o ≡ true
+    by_entry None h = h
+    by_entry (Some e) h = committed-waits e.v1 e.work e h
+
+  overlays-committed : overlays (committed_state s) ≤ overlays s
+  unfolding committed_state
+  overlays-committed =
+      count-implied (option_and_then committed_entry) (passes (is_overlaid s.ptt)) (passes (is_overlaid (committed_state s).ptt)) None s.btt.entries (λ i l. by_entry (entry_at s.btt i))
+    where
+      by_entry : (o : Option BttEntry) → passes (is_overlaid (committed_state s).ptt) (option_and_then committed_entry o) ≡ true → passes (is_overlaid s.ptt) o ≡ true
+      by_entry None h = h
+      by_entry (Some e) h = overlaid-before e (committed-lies (committed_state s).ptt e.v1 e.work e h)
+
+  promoted-committed : promoted (committed_state s).ptt ≡ promoted s.ptt
+  unfolding committed_state
+  promoted-committed = omega (
+    arith,
+    count-implied (option_and_then committed_page) (passes is_promoted) (passes is_promoted) None s.ptt.entries (λ j l. fewer (entry_at s.ptt j)),
+    count-implies (option_and_then committed_page) (passes is_promoted) (passes is_promoted) None s.ptt.entries (λ j l. more j (entry_at s.ptt j) refl),
+  )
+    where
+      fewer : (o : Option PttEntry) → passes is_promoted (option_and_then committed_page o) ≡ true → passes is_promoted o ≡ true
+      fewer None h = h
+      fewer (Some e) h = committed-promoted e.leaving e h
+
+      more : (j : ℕ) (o : Option PttEntry) → entry_at s.ptt j ≡ o → passes is_promoted o ≡ true → passes is_promoted (option_and_then committed_page o) ≡ true
+      more j None was h = h
+      more j (Some e) was h = stays-promoted e.leaving e (leaving-framed j e was) h
+
+module _ (s : State) (m : Device) (tables : AreSoundTables s) where
+  abbrev Counting : Item → Type 0
+  Counting i = KeepsCounts i s (state_after i s m)
+
+  counts-slot : (k : ℕ) → Counting (SlotItem k)
+  counts-slot k = record { free = omega arith; owed = omega arith; promoted_same = refl; overlays_are = refl }
+
+  counts-page : (o : Option ℕ) → next_page s ≡ o → Counting (page_or_slot o)
+  counts-page None h = counts-slot 0
+  counts-page (Some j) h = counts-issued j (block_to_write j s) s m (IsDue-entry s tables j h).busy
+
+  counts-copy : (o : Option ℕ) → next_copy s ≡ o → Counting (copy_or o (page_item s))
+  counts-copy None h = counts-page (next_page s) refl
+  counts-copy (Some i) h = counts-copied i (block_listed i s) s m (IsNext-entry s tables i h).pending
+
+  counts-next : (q : Next) → Counting (item q s)
+  counts-next Nothing = record { free = omega arith; owed = omega arith; promoted_same = refl; overlays_are = refl }
+  counts-next Copies = counts-copy (next_copy s) refl
+  counts-next Pages = counts-page (next_page s) refl
+  counts-next (Slot k) = counts-slot k
+  counts-next Settle = record { free = omega arith; owed = omega arith; promoted_same = refl; overlays_are = refl }
+  counts-next Commit = record { free = omega arith; owed = omega arith; promoted_same = refl; overlays_are = refl }
+  counts-next Confirm = record {
+    free = free-committed s;
+    owed = owed-committed s tables;
+    promoted_same = promoted-committed s tables;
+    overlays_are = overlays-committed s tables;
+  }
+
+-- ---- the blocks
+
+-- an action leaves as many blocks on the NVM, and that as up as it was
+length-after : (a : Action) (m : Device) → length (after a m).image ≡ length m.image
+length-after Rest m = refl
+length-after (ReadAt place) m = refl
+length-after (WriteAt place block) m = length-landed (surplus m) m
+length-after Barrier m = length-applied m.image m.queue
+length-after Drain m = length-landed 1 m
+
+down-after : (a : Action) (m : Device) → (after a m).down ≡ m.down
+down-after Rest m = refl
+down-after (ReadAt place) m = refl
+down-after (WriteAt place block) m = refl
+down-after Barrier m = refl
+down-after Drain m = refl
+
+-- what a load gives, as it is moved by the item
+work-moved : (i : Item) (s : State) (m : Device) (t : State) (n : Device) → MovesVersions i s m t n → (b : ℕ) → b < memory_blocks s.p → work_of t n b ≡ work_of s m b
+work-moved NoItem s m t n h = h.work_same
+work-moved (CopyItem i) s m t n h = h.work_same
+work-moved (PageItem j) s m t n h = h.work_same
+work-moved (SlotItem k) s m t n h = h.work_same
+work-moved SettleItem s m t n h = h.work_same
+work-moved CommitItem s m t n h = h.work_same
+work-moved ConfirmItem s m t n h = h.work_same
+
+same_p-after : (i : Item) (s : State) (m : Device) → (state_after i s m).p ≡ s.p
+unfolding copied issued committed_state
+same_p-after NoItem s m = refl
+same_p-after (CopyItem i) s m = refl
+same_p-after (PageItem j) s m = refl
+same_p-after (SlotItem k) s m = refl
+same_p-after SettleItem s m = refl
+same_p-after CommitItem s m = refl
+same_p-after ConfirmItem s m = refl
+
+works-same : (s : State) (m : Device) (t : State) (n : Device) → t.p ≡ s.p → IsSized s m → m.down ≡ false → IsSized t n → n.down ≡ false
+    → ((b : ℕ) → b < memory_blocks s.p → work_of t n b ≡ work_of s m b) → works t n ≡ works s m
+works-same s m t n p sized up sized_now up_now same =
+    let size : ℕ = memory_blocks s.p in
+    works-sized t n sized_now up_now
+    ∙ ap (λ (q : Parameters). map (work_of t n) (range_with_len 0 (memory_blocks q))) p
+    ∙ ext_get_or zero_block (map (work_of t n) (range_with_len 0 size)) (map (work_of s m) (range_with_len 0 size))
+    (length-map-range_with_len (work_of t n) 0 size ∙ sym (length-map-range_with_len (work_of s m) 0 size))
+    (λ b l.
+    let inside : b < size = omega (arith, l, length-map-range_with_len (work_of t n) 0 size) in
+    get_or-map-range_with_len (work_of t n) 0 size b b zero_block inside (omega arith) ∙ same b inside
+    ∙ sym (get_or-map-range_with_len (work_of s m) 0 size b b zero_block inside (omega arith)))
+    ∙ sym (works-sized s m sized up)
+
+pub items_keep_store : CopyKeeps → PageWriteKeeps → PageWriteKeepsOthers → CommitMoves → ItemsKeepStore
+items_keep_store copy write others commit e s m sound tables sized fits hold up =
+    let t : State = state_next e s m in
+    let n : Device = device_next e s m in
+    let acts = items_act 0 e s m in
+    let long : length n.image ≡ length m.image = ap (λ (x : Device). length x.image) acts.left ∙ length-after acts.action m in
+    let down : n.down ≡ m.down = ap (λ (x : Device). x.down) acts.left ∙ down-after acts.action m in
+    let p : t.p ≡ s.p = same_p-after (item_of e s) s m in
+    let sized_now : IsSized t n = record { nvm = long ∙ sized.nvm ∙ ap image_blocks (sym p) } in
+    let versions : MovesVersions (item_of e s) s m t n = items_move_versions copy write others commit e s m sound tables sized fits hold in
+    let counts : KeepsCounts (item_of e s) s t = counts-next s m tables e.next in
+    record {
+      holding = record {
+        blocks = works-same s m t n p sized up sized_now (down ∙ up) (work-moved (item_of e s) s m t n versions);
+        free = counts.free;
+        ready = ap (λ (k : ℕ). k == 0 && not n.down) counts.promoted_same ∙ ap (λ (x : Bool). promoted s.ptt == 0 && not x) down;
+        open_page = refl;
+        owed = counts.owed;
+      };
+      promoted_same = counts.promoted_same;
+      overlays_are = counts.overlays_are;
+    }

@@ -1,0 +1,11 @@
+use Rattle.thy_commit.proofs.FitLemmas.{items_fit, seal_fits, stays_fit}
+use Rattle.thy_commit.proofs.laws.engine_and_controller_fit.Goals as goal
+
+pub returns-clause-items : goal.returns-clause-items
+returns-clause-items c = items_fit
+
+pub returns-clause-seal : goal.returns-clause-seal
+returns-clause-seal c = seal_fits
+
+pub returns-clause-stays : goal.returns-clause-stays
+returns-clause-stays c = stays_fit

@@ -1,0 +1,25 @@
+-- That engine and controller belong together stays so.
+use Rattle.std.specs.Prelude.{◌≡◌, ℕ, false}
+use Rattle.thy_base.specs.Device.{Device}
+use Rattle.thy_isa.specs.declared.state.CpuState.{CpuState}
+use Rattle.thy_control.specs.State.{State, AreSoundTables}
+use Rattle.thy_control.specs.Seal.{sealed_state}
+use Rattle.thy_control.specs.Stays.{Stays}
+use Rattle.thy_commit.specs.Items.{is_under_way}
+use Rattle.thy_commit.specs.Progress.{Progress, Fits, begun, engine_next, state_next}
+
+-- every item leaves them so
+abbrev pub ItemsFit : Type 0
+ItemsFit = (e : Progress) (s : State) (m : Device) → Fits e s → Fits (engine_next e s) (state_next e s m)
+
+-- so does a seal, with which a checkpoint begins
+abbrev pub SealFits : Type 0
+SealFits =
+    (e : Progress) (s : State) (cpu : CpuState) (epoch : ℕ)
+    → Fits e s → is_under_way e.next ≡ false → Fits (begun cpu epoch e) (sealed_state s)
+
+-- and every call of the controller in between, whether or not it failed
+abbrev pub StaysFit : Type 0
+StaysFit =
+    (e : Progress) (s : State) (m : Device) (t : State) (n : Device)
+    → AreSoundTables t → Fits e s → Stays s m t n → Fits e t
