@@ -32,7 +32,7 @@ use Rattle.thy_commit.specs.declared.next.Next.TheVariants.{Nothing, Copies, Pag
 use Rattle.thy_commit.specs.Items.{Item, SlotItem, item, is_under_way, copy_or, page_or_slot, page_item, next_after}
 use Rattle.thy_commit.specs.Progress.{Progress, state_after}
 use Rattle.thy_commit.specs.Cycles.{left_after, ItemsCount, most_cycles, StaysCount, CyclesAreFew}
-use Rattle.thy_commit.proofs.DoneLemmas.{not_pending}
+use Rattle.thy_control.proofs.LeftLemmas.{not_pending}
 use Rattle.thy_commit.proofs.FitLemmas.{IsOfBlock, block-listed, IsOfPage, page-listed}
 use Rattle.thy_commit.proofs.ListedLemmas.{all_at, AreBelow, sum-most, at_least}
 

@@ -28,7 +28,7 @@ use Rattle.thy_commit.specs.declared.next.Next.TheVariants.{Nothing, Copies, Pag
 use Rattle.thy_commit.specs.Items.{Item, SlotItem, item, is_under_way, copy_or, page_or_slot, page_item, next_after}
 use Rattle.thy_commit.specs.Progress.{Progress, IsDone, IsPast, Fits, state_after}
 use Rattle.thy_commit.specs.Fitting.{ItemsFit, SealFits, StaysFit}
-use Rattle.thy_commit.proofs.DoneLemmas.{not_pending, not_to_write, none-entry_for}
+use Rattle.thy_control.proofs.LeftLemmas.{not_pending, not_to_write, none-entry_for}
 
 -- ---- items
 

@@ -25,7 +25,7 @@ use Rattle.thy_commit.specs.declared.next.Next.TheVariants.{Nothing, Copies, Pag
 use Rattle.thy_commit.specs.Items.{Item, item, copy_or, page_or_slot, page_item}
 use Rattle.thy_commit.specs.Progress.{IsDone, IsPast, state_after}
 use Rattle.thy_commit.specs.Frees.{IsButCopied, ItemsCopy, CommitFrees}
-use Rattle.thy_commit.proofs.DoneLemmas.{not_pending}
+use Rattle.thy_control.proofs.LeftLemmas.{not_pending}
 
 but-copied : (b : ℕ) (s : State) (m : Device) → (cell_of s b).entry.pend ≢ Settled → IsButCopied s (copied b s m)
 unfolding copied

@@ -18,6 +18,7 @@ use Rattle.thy_record.specs.Tables.{Tables, place_of}
 use Rattle.thy_control.specs.State.{State, AreSoundTables, cell_of}
 use Rattle.thy_control.specs.CheckpointTables.{tables0, tables1}
 use Rattle.thy_control.specs.Stays.{AreCopied, Stays}
+use Rattle.thy_control.proofs.PlacedLemmas.{IsPlaced-copied}
 use Rattle.thy_control.proofs.TablesLemmas.{AreTablesOf-committed, AreTablesOf-under_way}
 use Rattle.thy_cell.specs.Cells.{penult, target}
 use Rattle.thy_commit.proofs.ItemLemmas.{low_in_slot}
@@ -99,7 +100,7 @@ Spares-stays_next s m t n image epoch tables stays copied told = record {
     | inl low ↦ stays.guarded.low x low
     | inr of ↦
         let same : number_of s.p (target (cell_of s of.0)) ≡ x = ap (number_of s.p) (sym ((AreTablesOf-under_way s tables).same_place of.0 of.1)) ∙ of.2 in
-        subst (λ (y : ℕ). NoMoreAt y m n) same (stays.guarded.next of.0 of.1 (copied of.0 of.1))
+        subst (λ (y : ℕ). NoMoreAt y m n) same (stays.guarded.next of.0 of.1 (IsPlaced-copied of.0 (cell_of s of.0) (copied of.0 of.1)))
   ]).no_more;
 }
 

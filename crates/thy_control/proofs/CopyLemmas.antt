@@ -263,7 +263,7 @@ module _ (b : ℕ) (s : State) (m : Device) (pending : (cell_of s b).entry.pend 
         let sound = t.cells b l in
         LeavesGuarded-step s (target c) (reads s m (last c)) m n b t (IsPlace-target s.p c (IsWithin-cell_of s b t l)) (owned-target s b c (Owns-cell_of s b))
         (versions_apart c.entry.v0 c.entry.v1 c.page.place c.page.target (seat_of c) (sound.pending_moves pending) (sound.pending_still pending) (sound.pending_home pending))
-        (λ copied same. pending copied.copied) outcome
+        (λ placed same. pending placed.copied) outcome
 
     pub Stays-copied : CopyKeeps → m.down ≡ false → IsFramed m (devices_copied b s m).nvm → Stays s m (copied b s m) (devices_copied b s m).nvm
     unfolding devices_copied

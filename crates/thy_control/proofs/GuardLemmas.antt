@@ -25,11 +25,10 @@ use Rattle.thy_cell.specs.declared.cell.Cell.{Cell}
 use Rattle.thy_cell.specs.declared.cell.StoreRule.{StoreRule}
 use Rattle.thy_cell.specs.Cells.{Seat, seat_of, placed, penult, target}
 use Rattle.thy_cell.specs.Rules.{store_rule, store_place}
-use Rattle.thy_cell.specs.Checkpoint.{IsCopied}
 use Rattle.thy_cell.specs.Store.{StoreGoesElsewhere, StoreLeavesTarget, put_by}
 use Rattle.thy_control.specs.State.{State, AreSoundTables, cell_of, reads}
 use Rattle.thy_control.specs.Rules.{with_block, rule_for, cell_before, devices_after, IsWholeState, FailsStore}
-use Rattle.thy_control.specs.Guarded.{LeavesGuarded}
+use Rattle.thy_control.specs.Guarded.{IsPlaced, LeavesGuarded}
 use Rattle.thy_control.proofs.CellLemmas.{IsPlace-penult, IsPlace-target, IsPlace-store, IsWithin-cell_of}
 use Rattle.thy_control.proofs.StateLemmas.{IsListed, IsListed-with_block, cell-with_block_other, entry-with_block, sound-with_block, rule-with_block}
 use Rattle.thy_control.proofs.PutLemmas.{has_free, IsWithin-before}
@@ -113,11 +112,11 @@ LeavesGuarded-after elsewhere leaves b block s m n t whole inside room outcome =
             | inl e ↦ λ same. not_penult (start0 ∙ ap (λ (j : ℕ). penult (cell_of s j)) (sym e) ∙ same)
             | inr ne ↦ λ same. owned-apart u k b (penult (cell_of u k)) place ne (owned-penult u k (cell_of u k) (Owns-cell_of u k)) owns (ap penult (cell-with_block_other r b s k ne) ∙ same)
           ]);
-      next = λ k l copied. at_other b block s m n outcome (target (cell_of s k)) there (IsPlace-target s.p (cell_of s k) (IsWithin-cell_of s k t l))
+      next = λ k l placed. at_other b block s m n outcome (target (cell_of s k)) there (IsPlace-target s.p (cell_of s k) (IsWithin-cell_of s k t l))
           (placed-in_nvm (cell_of s k).entry.v1 (cell_of s k).page.target (seat_of (cell_of s k)))
           (elim (cases_eq k b) as (λ _. target (cell_of s k) ≢ place) [
             | inl e ↦ λ same.
-                let settled : c.entry.pend ≡ Settled = ap (λ (x : BttEntry). x.pend) entry ∙ (subst (λ (j : ℕ). IsCopied (cell_of s j)) e copied).copied in
+                let settled : c.entry.pend ≡ Settled = ap (λ (x : BttEntry). x.pend) entry ∙ (subst (λ (j : ℕ). IsPlaced j (cell_of s j)) e placed).copied in
                 let not_target : target c ≢ place
                 = subst (λ (q : StoreRule). target c ≢ store_place q c) same_rule (leaves s.under_way c sound (whole.whole b inside) (λ f. cc)) in
                 not_target (start1 ∙ ap (λ (j : ℕ). target (cell_of s j)) (sym e) ∙ same)

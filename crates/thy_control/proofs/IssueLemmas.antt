@@ -325,7 +325,7 @@ module _ (b : ℕ) (s : State) (busy : (cell_of s b).page.busy ≡ true) (m : De
         let out : c.entry.v1 ≡ Out = sound.framed_out framed (busy-old s.under_way c.page sound.of_page busy) in
         LeavesGuarded-step s (target c) (reads s m (frame_at (seat_of c))) m n b t (IsPlace-target s.p c (IsWithin-cell_of s b t l)) (owned-target s b c (Owns-cell_of s b))
         (sites_apart c.entry.v0 c.entry.v1 c.page.place c.page.target (seat_of c) out (sound.of_page.busy_moves busy))
-        (λ copied same. absurd (omega (arith, due, copied.written busy))) outcome
+        (λ placed same. absurd (omega (arith, due, placed.issued busy))) outcome
 
     pub Stays-issued : PageWriteKeeps → PageWriteKeepsOthers → m.down ≡ false → IsFramed m (devices_issued b s m).nvm → Stays s m (issued b s m) (devices_issued b s m).nvm
     unfolding devices_issued

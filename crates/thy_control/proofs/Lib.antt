@@ -35,3 +35,7 @@ pub mod FrameLemmas
 pub mod FillLemmas
 pub mod BootMarkLemmas
 pub mod CursorLemmas
+pub mod DrainLemmas
+pub mod LeftLemmas
+pub mod CommittedLemmas
+pub mod PlacedLemmas

@@ -233,7 +233,7 @@ stays_read s m n (Err x) same failed framed = record {
   guarded = record {
     low = λ y l. record { no_more = λ b h. failed.no_more y b h };
     old = λ b l. record { no_more = λ y h. failed.no_more (number_of s.p (penult (cell_of s b))) y h };
-    next = λ b l copied. record { no_more = λ y h. failed.no_more (number_of s.p (target (cell_of s b))) y h };
+    next = λ b l placed. record { no_more = λ y h. failed.no_more (number_of s.p (target (cell_of s b))) y h };
   };
   up = λ d. absurd (not_up failed.down d);
 }

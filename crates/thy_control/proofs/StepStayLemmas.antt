@@ -9,10 +9,9 @@ use Rattle.thy_base.specs.Places.{in_dram, number_of, first_home, IsPlace}
 use Rattle.thy_place.specs.Devices.{NoMoreAt, devices_of, written_at}
 use Rattle.thy_place.proofs.PlaceLemmas.{no_more-written_other, no_more-failed_other}
 use Rattle.thy_cell.specs.Cells.{seat_of, penult, target}
-use Rattle.thy_cell.specs.Checkpoint.{IsCopied}
 use Rattle.thy_control.specs.State.{State, AreSoundTables, IsSized, cell_of, reads, penult_of}
 use Rattle.thy_control.specs.CheckpointTables.{tables0, tables1}
-use Rattle.thy_control.specs.Guarded.{LeavesGuarded}
+use Rattle.thy_control.specs.Guarded.{IsPlaced, LeavesGuarded}
 use Rattle.thy_control.specs.Moves.{FailsMove}
 use Rattle.thy_control.specs.OverCalls.{cell_same}
 use Rattle.thy_control.specs.Stays.{CellStays, StaysHeld, Stays, HoldAll}
@@ -54,7 +53,7 @@ module _ (s : State) (y : Place) (v : Block) (m n : Device) where
 
   -- so what a cut may leave of the checkpoints stays
   pub LeavesGuarded-step : (b : ℕ) → AreSoundTables s → IsPlace s.p y → owner s y ≡ Some b
-      → penult (cell_of s b) ≢ y → (IsCopied (cell_of s b) → target (cell_of s b) ≢ y) → Outcome s y v m n → LeavesGuarded s m n
+      → penult (cell_of s b) ≢ y → (IsPlaced b (cell_of s b) → target (cell_of s b) ≢ y) → Outcome s y v m n → LeavesGuarded s m n
   LeavesGuarded-step b t there owns not_penult not_target outcome = record {
     low = low_of outcome;
     old = λ k l. elsewhere outcome (penult (cell_of s k)) there (IsPlace-penult s.p (cell_of s k) (IsWithin-cell_of s k t l))
@@ -63,10 +62,10 @@ module _ (s : State) (y : Place) (v : Block) (m n : Device) where
           | inl e ↦ λ same. not_penult (ap (λ (j : ℕ). penult (cell_of s j)) (sym e) ∙ same)
           | inr ne ↦ owned-apart s k b (penult (cell_of s k)) y ne (owned-penult s k (cell_of s k) (Owns-cell_of s k)) owns
         ]);
-    next = λ k l copied. elsewhere outcome (target (cell_of s k)) there (IsPlace-target s.p (cell_of s k) (IsWithin-cell_of s k t l))
+    next = λ k l placed. elsewhere outcome (target (cell_of s k)) there (IsPlace-target s.p (cell_of s k) (IsWithin-cell_of s k t l))
         (placed-in_nvm (cell_of s k).entry.v1 (cell_of s k).page.target (seat_of (cell_of s k)))
         (elim (cases_eq k b) as (λ _. target (cell_of s k) ≢ y) [
-          | inl e ↦ λ same. not_target (subst (λ (j : ℕ). IsCopied (cell_of s j)) e copied) (ap (λ (j : ℕ). target (cell_of s j)) (sym e) ∙ same)
+          | inl e ↦ λ same. not_target (subst (λ (j : ℕ). IsPlaced j (cell_of s j)) e placed) (ap (λ (j : ℕ). target (cell_of s j)) (sym e) ∙ same)
           | inr ne ↦ owned-apart s k b (target (cell_of s k)) y ne (owned-target s k (cell_of s k) (Owns-cell_of s k)) owns
         ]);
   }

@@ -3,8 +3,9 @@ use Rattle.std.specs.Prelude.{◌≡◌, ℕ, ◌<◌, false}
 use Rattle.thy_base.specs.Device.{Device}
 use Rattle.thy_base.specs.Geometry.{memory_blocks}
 use Rattle.thy_table.specs.Listing.{mapped}
+use Rattle.thy_cell.specs.Cells.{target}
 use Rattle.thy_cell.specs.Checkpoint.{committed_entry, committed_page, committed}
-use Rattle.thy_control.specs.State.{State, AreSoundTables, cell_of, penult_of, last_of, work_of}
+use Rattle.thy_control.specs.State.{State, AreSoundTables, cell_of, reads, penult_of, last_of, work_of}
 use Rattle.thy_control.specs.CheckpointTables.{tables0, tables1}
 use Rattle.thy_control.specs.Stays.{HoldAll}
 
@@ -28,6 +29,10 @@ pub record Commits (s t : State) (n : Device) : Type 0 where
   pub last_is : (b : ℕ) → b < memory_blocks s.p → last_of t n b ≡ last_of s n b
   pub work_same : (b : ℕ) → b < memory_blocks s.p → work_of t n b ≡ work_of s n b
   pub holds : HoldAll t n
+
+-- whatever the places hold, the committed version is what stands where the checkpoint under way was to have the block
+pub record CommitsTargets (s t : State) (n : Device) : Type 0 where
+  pub penult_is : (b : ℕ) → b < memory_blocks s.p → penult_of t n b ≡ reads s n (target (cell_of s b))
 
 -- the committed checkpoint has the tables that were due, and none is under way
 pub record CommitsTables (s t : State) : Type 0 where

@@ -1,17 +1,33 @@
 -- What a cut may leave of both checkpoints stays, whether or not a call failed.
-use Rattle.std.specs.Prelude.{ℕ, ◌<◌}
+use Rattle.std.specs.Prelude.{◌≡◌, ℕ, ◌<◌, ◌%◌, true}
 use Rattle.thy_base.specs.Device.{Device}
 use Rattle.thy_base.specs.Geometry.{memory_blocks}
 use Rattle.thy_base.specs.Places.{number_of, first_home}
 use Rattle.thy_place.specs.Devices.{NoMoreAt}
+use Rattle.thy_tables.specs.declared.block_entry.Pending.TheVariants.{Settled}
+use Rattle.thy_cell.specs.declared.cell.Cell.{Cell}
 use Rattle.thy_cell.specs.Cells.{penult, target}
 use Rattle.thy_cell.specs.Checkpoint.{IsCopied}
-use Rattle.thy_control.specs.State.{State, cell_of}
+use Rattle.thy_control.specs.State.{State, AreSoundTables, cell_of}
+
+-- the checkpoint under way has block b at its place already: it is copied, and where its page is busy, it was issued
+pub record IsPlaced (b : ℕ) (c : Cell) : Type 0 where
+  pub copied : c.entry.pend ≡ Settled
+  pub issued : c.page.busy ≡ true → b % 64 < c.page.issued
 
 -- nothing new is possible before the homes, at the places of the committed checkpoint, and at that of each block which the one
--- under way has copied and written
+-- under way has at its place already
 pub record LeavesGuarded (s : State) (m n : Device) : Type 0 where
   pub low : (x : ℕ) → x < first_home s.p → NoMoreAt x m n
   pub old : (b : ℕ) → b < memory_blocks s.p → NoMoreAt (number_of s.p (penult (cell_of s b))) m n
-  pub next : (b : ℕ) → b < memory_blocks s.p → IsCopied (cell_of s b)
+  pub next : (b : ℕ) → b < memory_blocks s.p → IsPlaced b (cell_of s b)
       → NoMoreAt (number_of s.p (target (cell_of s b))) m n
+
+-- such are the blocks of which nothing is left, and of a busy page those that were issued
+abbrev pub CopiedIsPlaced : Type 0
+CopiedIsPlaced = (b : ℕ) (c : Cell) → IsCopied c → IsPlaced b c
+
+abbrev pub IssuedIsPlaced : Type 0
+IssuedIsPlaced =
+    (s : State) (b : ℕ) → AreSoundTables s → b < memory_blocks s.p
+    → (cell_of s b).page.busy ≡ true → b % 64 < (cell_of s b).page.issued → IsPlaced b (cell_of s b)

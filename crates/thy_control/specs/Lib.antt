@@ -20,6 +20,7 @@ pub mod Drains
 pub mod Copies
 pub mod Merges
 pub mod Pages
+pub mod Left
 pub mod TableBlocks
 pub mod Boot
 pub mod Promotions

@@ -9,6 +9,7 @@ use Rattle.thy_place.specs.Devices.{NoMoreAt}
 use Rattle.thy_cell.specs.declared.cell.Cell.{Cell}
 use Rattle.thy_cell.specs.Cells.{penult, target}
 use Rattle.thy_cell.specs.Checkpoint.{IsCopied}
+use Rattle.thy_control.specs.Guarded.{IsPlaced}
 use Rattle.thy_control.specs.State.{State, cell_of}
 use Rattle.thy_control.specs.Stays.{AreCopied, CellStays, StaysHeld, StaysUp, Stays}
 
@@ -31,6 +32,13 @@ copied_on c d stays h = record {
   written = λ busy. omega (arith, h.written (stays.busy_before busy), stays.issued);
 }
 
+-- what is at its place is so still
+placed_on : (b : ℕ) (c d : Cell) → CellStays c d → IsPlaced b c → IsPlaced b d
+placed_on b c d stays h = record {
+  copied = stays.settled h.copied;
+  issued = λ busy. omega (arith, h.issued (stays.busy_before busy), stays.issued);
+}
+
 -- what stays does so where nothing happens
 pub stays_same : (s : State) (m : Device) → Stays s m s m
 stays_same s m = record {
@@ -44,7 +52,7 @@ stays_same s m = record {
   guarded = record {
     low = λ x l. record { no_more = λ y h. h };
     old = λ b l. record { no_more = λ y h. h };
-    next = λ b l copied. record { no_more = λ y h. h };
+    next = λ b l placed. record { no_more = λ y h. h };
   };
   up = λ d. record {
     low_reads = λ x l. refl;
@@ -84,10 +92,10 @@ stays_on s m t n u o first second =
             let same = ap (λ (q : Parameters). number_of q (penult (cell_of t b))) p ∙ ap (number_of s.p) (first.cells b l).penult_same in
             no_more_on (number_of s.p (penult (cell_of s b))) (number_of t.p (penult (cell_of t b))) m n o same
             (first.guarded.old b l) (second.guarded.old b (in_t b l));
-        next = λ b l copied.
+        next = λ b l placed.
             let same = ap (λ (q : Parameters). number_of q (target (cell_of t b))) p ∙ ap (number_of s.p) (first.cells b l).target_same in
             no_more_on (number_of s.p (target (cell_of s b))) (number_of t.p (target (cell_of t b))) m n o same
-            (first.guarded.next b l copied) (second.guarded.next b (in_t b l) (copied_on (cell_of s b) (cell_of t b) (first.cells b l) copied));
+            (first.guarded.next b l placed) (second.guarded.next b (in_t b l) (placed_on b (cell_of s b) (cell_of t b) (first.cells b l) placed));
       };
       up = λ d.
           let before : n.down ≡ false = up_between m.down n.down o.down second.down d in

@@ -181,12 +181,12 @@ impl Control {
     ghost use Rattle.thy_control.specs.Holding.{promoted};
     ghost use Rattle.thy_control.specs.Overlay.{overlaid, IsOverlaid, IsPromoting};
     ghost use Rattle.thy_control.specs.Seal.{is_few, sealed_state, IsBareState, Seals};
-    ghost use Rattle.thy_control.specs.Commit.{committed_state, Commits, CommitsTables};
+    ghost use Rattle.thy_control.specs.Commit.{committed_state, Commits, CommitsTables, CommitsTargets};
     ghost use Rattle.thy_control.specs.Stays.{AreCopied};
     ghost use Rattle.thy_control.specs.Rules.{with_block, rule_for, devices_after, state_after, IsWholeState, FailsStore};
     ghost use Rattle.thy_control.specs.State.{AreSoundTables, IsSized, cell_of, penult_of, work_of, reads, new_state};
     ghost use Rattle.thy_control.specs.Stays.{HoldAll, Stays};
-    ghost use Rattle.thy_control.specs.Versions.{KeepsCheckpoints, PutsWork};
+    ghost use Rattle.thy_control.specs.Versions.{KeepsCheckpoints, KeepsCommitted, PutsWork};
 
     /// The controller of a machine whose power came on, over a DRAM of the geometry's size.
     pub fn new(alloc: Global, geometry: &Geometry, dram: Dram) -> Result<Control, AllocError>
@@ -348,6 +348,7 @@ impl Control {
 
         // The last version of each block is what a load gave, and gives; the committed one stays.
         ensures versions { (n : Device) → HoldAll self.old n → Seals self.old self.new n }
+        ensures committed { (n : Device) → KeepsCommitted self.old n self.new n }
         ensures tables { tables0 self.new ≡ tables0 self.old }
 
         // No work is left, and as many entries are free.
@@ -384,6 +385,7 @@ impl Control {
 
         // The committed version of each block is what was the last one; that and what a load gives stay.
         ensures versions { (n : Device) → HoldAll self.old n → Commits self.old self.new n }
+        ensures targets { (n : Device) → CommitsTargets self.old self.new n }
         ensures tables { CommitsTables self.old self.new }
 
         // There is no new work, and not fewer entries are free.

@@ -7,6 +7,9 @@ ghost use Rattle.thy_control.specs.Holding.{BlocksAreWorks, MemoryIsHeld, NewIsR
 ghost use Rattle.thy_control.specs.Once.{OneActionIsOneOfNvm};
 ghost use Rattle.thy_control.specs.OverCalls.{StaysOverCalls, CopiedStays};
 ghost use Rattle.thy_control.specs.CheckpointTables.{CommittedTables, TablesUnderWay};
+ghost use Rattle.thy_control.specs.Guarded.{CopiedIsPlaced, IssuedIsPlaced};
+ghost use Rattle.thy_control.specs.Left.{NoneLeftIsCopied, CopiedHasNoneLeft};
+ghost use Rattle.thy_control.specs.Drains.{LandingIsUnseen, NvmDrainIsUnseen, BarrierIsUnseen, DrainIsUnseen, DrainTakesOne};
 
 /// What stays does so where nothing happens, and over two calls one after the other. Where all blocks of the checkpoint
 /// under way are copied and written, they stay so.
@@ -75,4 +78,32 @@ pub fn tables_allow_listing()
 /// Once the frames of all listed pages are loaded, the places of every block hold what they have to.
 pub fn loaded_frames_hold_all()
     ensures { FramedHoldsAll }
+{}
+
+/// Where writes of the NVM landed, by a drain or by a barrier, every place reads as before, the places hold what they have to
+/// if they did, and both checkpoints stay. The NVM may be down.
+pub fn landing_is_unseen()
+    ensures landing { LandingIsUnseen }
+    ensures drain { NvmDrainIsUnseen }
+    ensures barrier { BarrierIsUnseen }
+{}
+
+/// So it is where a write of the DRAM landed, and one less is queued there then, if any was.
+pub fn a_drain_of_the_dram_is_unseen()
+    ensures unseen { DrainIsUnseen }
+    ensures queued { DrainTakesOne }
+{}
+
+/// Where no copy and no block of a page comes next, every block of the checkpoint under way is copied and written, and the other
+/// way round.
+pub fn nothing_left_is_all_copied()
+    ensures copied { NoneLeftIsCopied }
+    ensures none { CopiedHasNoneLeft }
+{}
+
+/// The checkpoint under way has a block at its place already once nothing is left of it, and, where its page is busy, once it was
+/// issued.
+pub fn copied_and_issued_blocks_are_placed()
+    ensures copied { CopiedIsPlaced }
+    ensures issued { IssuedIsPlaced }
 {}

@@ -1,6 +1,7 @@
 use Rattle.std.proofs.Common.{◌≤◌, sym, subst}
 use Rattle.thy_control.specs.State.{State, AreSoundTables}
-use Rattle.thy_control.specs.Commit.{Commits, CommitsTables}
+use Rattle.thy_control.specs.Commit.{committed_state, Commits, CommitsTables, CommitsTargets}
+use Rattle.thy_control.proofs.CommittedLemmas.{CommitsTargets-committed}
 use Rattle.thy_control.proofs.CommitLemmas.{AreSoundTables-committed, Commits-committed, committed_parts}
 use Rattle.thy_control.proofs.MovedTablesLemmas.{CommitsTables-committed}
 use Rattle.thy_table.specs.Listing.{free_count}
@@ -36,3 +37,9 @@ returns-clause-idle c none = subst (λ (t : State). HasNoWork t) (sym (returns-c
 
 pub returns-clause-free : goal.returns-clause-free
 returns-clause-free c = subst (λ (t : State). free_count c.args.self.now.btt ≤ free_count t.btt) (sym (returns-clause-state c)) (free-committed c.args.self.now)
+
+pub returns-clause-targets : goal.returns-clause-targets
+returns-clause-targets c n =
+    let sound : AreSoundTables (committed_state c.args.self.now)
+    = AreSoundTables-committed c.args.self.now c.tables.ensures c.requires.way c.requires.copied c.a_commit_keeps_entries_sound.ensures in
+    subst (λ (t : State). CommitsTargets c.args.self.now t n) (sym (returns-clause-state c)) (CommitsTargets-committed c.args.self.now c.tables.ensures sound n)

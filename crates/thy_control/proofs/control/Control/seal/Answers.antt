@@ -1,6 +1,8 @@
 use Rattle.std.proofs.Common.{sym, ◌∙◌, ap, subst}
 use Rattle.thy_control.specs.State.{State, AreSoundTables}
-use Rattle.thy_control.specs.Seal.{is_few, Seals}
+use Rattle.thy_control.specs.Seal.{is_few, sealed_state, Seals}
+use Rattle.thy_control.specs.Versions.{KeepsCommitted}
+use Rattle.thy_control.proofs.CommittedLemmas.{KeepsCommitted-sealed}
 use Rattle.thy_control.proofs.SealStateLemmas.{AreSoundTables-sealed, Seals-sealed, sealed_parts}
 use Rattle.thy_control.specs.CheckpointTables.{tables0}
 use Rattle.thy_control.proofs.MovedTablesLemmas.{tables0-sealed}
@@ -41,3 +43,10 @@ returns-clause-idle c =
 
 pub returns-clause-free : goal.returns-clause-free
 returns-clause-free c = ap (λ (t : State). free_count t.btt) (returns-clause-state c) ∙ free-sealed c.args.self.now
+
+pub returns-clause-committed : goal.returns-clause-committed
+returns-clause-committed c n =
+    let sound : AreSoundTables (sealed_state c.args.self.now)
+    = AreSoundTables-sealed c.args.self.now c.tables.ensures c.requires.idle c.requires.whole c.requires.bare
+    c.a_seal_keeps_entries_sound.ensures c.a_seal_leaves_no_work.ensures c.a_listing_keeps_versions.ensures in
+    subst (λ (t : State). KeepsCommitted c.args.self.now n t n) (sym (returns-clause-state c)) (KeepsCommitted-sealed c.args.self.now c.tables.ensures sound n)
