@@ -1,0 +1,117 @@
+-- The machine: hart, cache and a scheme of checkpoints, and what is seen of it.
+use Rattle.std.specs.Prelude.{ℕ, ◌+◌, ◌&&◌, not, Bool, true, nat_lt, if◌then◌else◌, List, length, Option, Some, None}
+use Rattle.thy_base.specs.declared.block.Block.{Block}
+use Rattle.thy_base.specs.Device.{Device}
+use Rattle.thy_cache.specs.Contents.{Contents, dirty_count}
+use Rattle.thy_cache.specs.Flat.{flat}
+use Rattle.thy_hart.specs.declared.hand.Hand.{Hand}
+use Rattle.thy_hart.specs.declared.hand.Hand.TheVariants.{Nothing, Reading, Reserving, Writing, Retiring}
+use Rattle.thy_hart.specs.Core.{Core, blocks_of, reserved}
+use Rattle.thy_hart.specs.Moments.{Moment, moment}
+use Rattle.thy_view.specs.declared.view.Phase.{Phase}
+use Rattle.thy_view.specs.declared.view.Phase.TheVariants.{Boot, Run, Halt}
+use Rattle.thy_view.specs.declared.view.View.{View}
+use Rattle.thy_view.specs.Origin.{Origin}
+use Rattle.thy_view.specs.Pace.{Gauge}
+use Rattle.thy_view.specs.Turn.{Pressure, Shortage}
+use Rattle.thy_scheme.specs.Marks.{Marks}
+use Rattle.thy_scheme.specs.Scheme.{SchemeOf}
+use Rattle.thy_scheme.specs.Behind.{held_behind}
+
+-- how long the consoles of the committed checkpoint and of the sealed one are
+pub record Lengths : Type 0 where
+  pub done : ℕ
+  pub sealed : ℕ
+
+pub record Machine (S : Type 0) : Type 0 where
+  pub hart : Core
+  pub cache : Contents
+  pub scheme : S
+  pub phase : Phase
+  pub marks : Marks
+  pub consoles : Lengths
+  -- the state that was sealed has ended
+  pub ends : Bool
+  -- cycles of hart and engine, and instructions, since the latest seal
+  pub spent : ℕ
+  pub lap : ℕ
+  -- the epoch that was sealed last had retired nothing
+  pub idle : Bool
+
+-- hart and cache over the scheme
+abbrev pub moment_of : {S : Type 0} → SchemeOf S → Machine S → Device → Moment
+moment_of K m n = moment m.hart m.cache (held_behind K m.scheme n)
+
+-- memory, as it is read through the cache
+abbrev pub memory_of : {S : Type 0} → SchemeOf S → Machine S → Device → List Block
+memory_of K m n = flat m.cache (K.holding m.scheme n).blocks
+
+-- ---- what is seen
+
+abbrev pub run_view : {S : Type 0} → Machine S → View
+run_view m = record {
+  phase = m.phase;
+  done = Some m.marks.done;
+  sealed = m.marks.sealed;
+  epoch = m.hart.epoch.number;
+  count = m.hart.cpu.count;
+  retired = m.hart.epoch.retired;
+  spent = m.spent;
+  lap = m.lap;
+  over = m.hart.epoch.over;
+  written = m.marks.written;
+}
+
+abbrev pub view_in : {S : Type 0} → SchemeOf S → Origin → Phase → Machine S → Device → View
+view_in K o Boot m n = K.boot_view o m.scheme n
+view_in K o Run m n = run_view m
+view_in K o Halt m n = run_view m
+
+-- in the boot the view is the scheme's
+abbrev pub view_of : {S : Type 0} → SchemeOf S → Origin → Machine S → Device → View
+view_of K o m n = view_in K o m.phase m n
+
+-- a scheme that lets nothing run beside its checkpoint is at one
+abbrev pub is_barred : {S : Type 0} → SchemeOf S → Machine S → Bool
+is_barred K m = K.under_way m.scheme && not K.overlaps
+
+-- an instruction that reserves room is short where fewer entries are free than the dirty lines and its blocks need
+abbrev pub short_of : ℕ → ℕ → Hand → Option Shortage
+short_of free dirty Nothing = None
+short_of free dirty (Reading e from to) = None
+short_of free dirty (Reserving e to) =
+    if nat_lt free (dirty + blocks_of to) then Some (record { free = free; dirty = dirty; need = blocks_of to }) else None
+short_of free dirty (Writing e to done) = None
+short_of free dirty (Retiring e wrote) = None
+
+-- while it is barred, any is
+abbrev pub shortage_of : {S : Type 0} → SchemeOf S → Machine S → Option Shortage
+shortage_of K m =
+    if is_barred K m then Some (record { free = 0; dirty = 0; need = 1 })
+    else short_of (K.free m.scheme) (dirty_count m.cache) m.hart.hand
+
+abbrev pub pressure_of : {S : Type 0} → SchemeOf S → Machine S → Pressure
+pressure_of K m = record { dram = K.queued m.scheme; short = shortage_of K m; promotes = K.promoting m.scheme }
+
+abbrev pub boot_left_in : {S : Type 0} → SchemeOf S → Phase → Machine S → ℕ
+boot_left_in K Boot m = K.boot_left m.scheme
+boot_left_in K Run m = 0
+boot_left_in K Halt m = 0
+
+abbrev pub gauge_of : {S : Type 0} → SchemeOf S → Machine S → Device → Gauge
+gauge_of K m n = record {
+  boot_left = boot_left_in K m.phase m;
+  idle = m.idle;
+  queued = length n.queue + K.queued m.scheme;
+  free = if is_barred K m then 0 else K.free m.scheme;
+  dirty = if is_barred K m then 0 else dirty_count m.cache + reserved m.hart.hand;
+}
+
+abbrev pub has_read_in : {S : Type 0} → SchemeOf S → Phase → Machine S → Bool
+has_read_in K Boot m = K.has_read m.scheme
+has_read_in K Run m = true
+has_read_in K Halt m = true
+
+-- the commit block was read
+abbrev pub has_read_of : {S : Type 0} → SchemeOf S → Machine S → Bool
+has_read_of K m = has_read_in K m.phase m

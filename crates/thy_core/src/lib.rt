@@ -1,0 +1,3 @@
+//! The machine of hart, cache and a scheme of checkpoints: what holds of it at every moment of a run, and what each
+//! cycle makes of it, whatever the scheme.
+#![tactic(auto)]

@@ -1,0 +1,44 @@
+-- A load acts on the NVM once, and its failure is counted.
+use Rattle.std.proofs.Common.{◌≡◌, ℕ, ◌<◌, Bool, true, false, length, Result, Ok, Err, OnOk, OnErr, ap, ◌∙◌, arith, if◌then◌else◌}
+use Rattle.thy_base.specs.declared.block.Block.{Block}
+use Rattle.thy_base.specs.declared.nvm.NvmError.{NvmError}
+use Rattle.thy_base.specs.Counts.{Rose}
+use Rattle.thy_base.specs.Device.{Device, HasFailed, IsFramed, CountsFault}
+use Rattle.thy_view.specs.Action.{ReadAt}
+use Rattle.thy_scheme.specs.Scheme.{SchemeOf}
+use Rattle.thy_scheme.specs.Calls.{IsOneAccess}
+use Rattle.thy_scheme.specs.Behind.{fails_of}
+use Rattle.thy_scheme.specs.Laws.{IsLawful}
+
+pub load_once : {S : Type 0} (K : SchemeOf S) (l : IsLawful K) (s : S) (n new : Device) (b : ℕ) (result : Result Block NvmError)
+    → b < length (K.holding s n).blocks → K.stays s n s new → IsFramed n new → OnOk result (new ≡ n) → OnErr result (HasFailed n new)
+    → IsOneAccess K s n s new
+load_once K l s n new b (Ok block) inside stays frame same failed =
+    let up : new.down ≡ false = ap (λ (d : Device). d.down) same ∙ l.up s n b inside in
+    record {
+      action = ReadAt b;
+      access = tt;
+      succeeds = λ alive. record { left = same; queue = omega (arith, ap (λ (d : Device). length d.queue) same) };
+      fails = λ dead. absurd (cc);
+      frame = frame;
+      stays = stays;
+    }
+load_once K l s n new b (Err e) inside stays frame same failed = record {
+  action = ReadAt b;
+  access = tt;
+  succeeds = λ alive. absurd (let dead = failed.down in cc);
+  fails = λ dead. failed;
+  frame = frame;
+  stays = stays;
+}
+
+pub rises : (old new : Bool) → old ≡ false → new ≡ true → Rose (if old then 1 else 0) (if new then 1 else 0)
+rises true new o n = absurd (cc)
+rises false true o n = record { no_less = omega arith; more = omega arith }
+rises false false o n = absurd (cc)
+
+pub load_counts : {S : Type 0} (K : SchemeOf S) (l : IsLawful K) (s : S) (n new : Device) (b : ℕ) (result : Result Block NvmError)
+    → b < length (K.holding s n).blocks → OnOk result (new ≡ n) → OnErr result (HasFailed n new)
+    → CountsFault result (fails_of n) (fails_of new)
+load_counts K l s n new b (Ok block) inside same failed = ap fails_of same
+load_counts K l s n new b (Err e) inside same failed = rises n.down new.down (l.up s n b inside) failed.down

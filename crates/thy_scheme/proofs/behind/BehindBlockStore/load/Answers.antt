@@ -1,0 +1,14 @@
+use Rattle.thy_scheme.proofs.behind.BehindBlockStore.load.Goals as goal
+use Rattle.thy_scheme.proofs.BehindLemmas.{load_once, load_counts}
+
+-- one action, or none
+pub returns-clause-once : goal.returns-clause-once
+returns-clause-once g c =
+    load_once g.S.Scheme.scheme g.met.S.Scheme.lawful c.args.self.now.scheme (g.N.Nvm.device c.args.nvm.now) (g.N.Nvm.device c.load.new.nvm) c.args.b c.load.result
+    c.requires c.load.ensures.stays c.load.ensures.frame c.load.ensures.same c.load.ensures.err
+
+-- a failure is counted
+pub returns-clause-cause : goal.returns-clause-cause
+returns-clause-cause g c =
+    load_counts g.S.Scheme.scheme g.met.S.Scheme.lawful c.args.self.now.scheme (g.N.Nvm.device c.args.nvm.now) (g.N.Nvm.device c.load.new.nvm) c.args.b c.load.result
+    c.requires c.load.ensures.same c.load.ensures.err

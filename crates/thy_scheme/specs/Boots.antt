@@ -1,0 +1,88 @@
+-- What the calls of a scheme promise in the boot.
+use Rattle.std.specs.Prelude.{◌≡◌, ◌⊎◌, ℕ, ◌+◌, ◌≤◌, true, false, [], Some, None}
+use Rattle.thy_base.specs.declared.mark.Mark.{Mark}
+use Rattle.thy_base.specs.Device.{Device}
+use Rattle.thy_base.specs.Marks.{mark}
+use Rattle.thy_isa.specs.declared.state.CpuState.{CpuState}
+use Rattle.thy_isa.specs.OnBlocks.{state_from}
+use Rattle.thy_isa.specs.Step.{cpu_of}
+use Rattle.thy_record.specs.Cpu.{IsRecordable}
+use Rattle.thy_view.specs.declared.did.Did.{Did}
+use Rattle.thy_view.specs.declared.did.Did.TheVariants.{Boot, Loaded, Restarted, Refused}
+use Rattle.thy_view.specs.declared.view.View.{View}
+use Rattle.thy_view.specs.Action.{Acts, ActionFailed}
+use Rattle.thy_view.specs.Booting.{boot_view, loading_view}
+use Rattle.thy_view.specs.CoreStep.{BootsTo}
+use Rattle.thy_view.specs.Origin.{Origin, at}
+use Rattle.thy_view.specs.Safe.{ceiling, Safe}
+use Rattle.thy_scheme.specs.declared.boot_step.BootStep.{BootStep}
+use Rattle.thy_scheme.specs.declared.boot_step.BootStep.TheVariants.{GoesOn, Loaded as IsLoaded, Restarted as IsRestarted, Refused as IsRefused}
+use Rattle.thy_scheme.specs.Marks.{only}
+use Rattle.thy_scheme.specs.Scheme.{SchemeOf}
+use Rattle.thy_scheme.specs.Calls.{queued_in}
+
+-- the view of a boot: a checkpoint was found, or the program is loaded, whose commit block was written or not
+abbrev pub IsBootView : Origin → View → Type 0
+IsBootView o v =
+    ((m : Mark) × (v ≡ boot_view (Some m) None))
+    ⊎ ((o.kept ≡ None) × ((v ≡ loading_view o.start.count) ⊎ (v ≡ record (loading_view o.start.count) { written = true })))
+
+-- what a cycle did with an answer of the boot
+abbrev pub boot_did : BootStep → Did
+boot_did GoesOn = Boot
+boot_did IsLoaded = Loaded
+boot_did (IsRestarted cpu epoch) = Restarted epoch cpu.count
+boot_did (IsRefused bad) = Refused bad
+
+-- the boot is over: the checkpoint of a mark is the committed one, and memory is its
+pub record IsBooted {S : Type 0} (K : SchemeOf S) (o : Origin) (m : Mark) (cpu : CpuState) (t : S) (new : Device) : Type 0 where
+  pub sound : K.is_sound o (only m) t new
+  pub state : state_from o.geometry cpu (K.holding t new).blocks ≡ at o m.count
+  pub count : cpu.count ≡ m.count
+  pub recordable : IsRecordable o.geometry ceiling cpu
+  pub closed : (K.holding t new).open_page ≡ None
+  pub whole : K.promoting t ≡ false
+
+-- the program was loaded, as the checkpoint of epoch 0
+pub record Loads {S : Type 0} (K : SchemeOf S) (o : Origin) (s : S) (n : Device) (t : S) (new : Device) : Type 0 where
+  pub fresh : o.kept ≡ None
+  pub view : K.boot_view o s n ≡ record (loading_view o.start.count) { written = true }
+  pub booted : IsBooted K o (mark 0 o.start.count) (cpu_of o.start) t new
+
+-- the checkpoint that was found was restored
+pub record Restarts {S : Type 0} (K : SchemeOf S) (o : Origin) (cpu : CpuState) (epoch : ℕ) (s : S) (n : Device) (t : S) (new : Device) : Type 0 where
+  pub view : K.boot_view o s n ≡ boot_view (Some (mark epoch cpu.count)) None
+  pub booted : IsBooted K o (mark epoch cpu.count) cpu t new
+
+-- by the answer; no image of a run is refused
+abbrev pub Answers : {S : Type 0} → SchemeOf S → Origin → BootStep → S → Device → S → Device → Type 0
+Answers K o GoesOn s n t new = K.boots o t new × BootsTo (K.boot_view o s n) (K.boot_view o t new)
+Answers K o IsLoaded s n t new = Loads K o s n t new
+Answers K o (IsRestarted cpu epoch) s n t new = Restarts K o cpu epoch s n t new
+Answers K o (IsRefused bad) s n t new = ⊥
+
+-- a step of the boot; with nothing queued it has read the commit block
+pub record BootsOn {S : Type 0} (K : SchemeOf S) (o : Origin) (step : BootStep) (s : S) (n : Device) (t : S) (new : Device) : Type 0 where
+  pub answers : Answers K o step s n t new
+  pub acts : Acts (boot_did step) n new
+  pub queue : queued_in K t new ≤ queued_in K s n + 1
+  pub nearer : K.boot_left t + 1 ≤ K.boot_left s
+  pub read : n.queue ≡ [] → K.has_read t ≡ true
+
+-- that failed in its action, and leaves what the boot found, whole, or what is loaded
+pub record BootFails {S : Type 0} (K : SchemeOf S) (o : Origin) (s : S) (n new : Device) : Type 0 where
+  pub step : BootStep
+  pub acted : ActionFailed (boot_did step) n new
+  pub safe : Safe K.decode o (K.boot_view o s n).done (K.boot_view o s n).sealed new
+
+-- the boot and what is seen of it are as before
+pub record BootStays {S : Type 0} (K : SchemeOf S) (o : Origin) (s : S) (n : Device) (t : S) (new : Device) : Type 0 where
+  pub boots : K.boots o t new
+  pub view : K.boot_view o t new ≡ K.boot_view o s n
+  pub left : K.boot_left t ≡ K.boot_left s
+  pub read : K.has_read t ≡ K.has_read s
+
+-- a write of the DRAM lands while it boots
+pub record BootDrains {S : Type 0} (K : SchemeOf S) (o : Origin) (s : S) (n : Device) (t : S) : Type 0 where
+  pub stays : BootStays K o s n t n
+  pub queue : K.queued t + 1 ≤ K.queued s

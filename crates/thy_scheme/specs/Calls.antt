@@ -1,0 +1,135 @@
+-- What the calls of a scheme promise behind the boot.
+use Rattle.std.specs.Prelude.{◌≡◌, ◌⊎◌, ℕ, ◌+◌, ◌<◌, ◌≤◌, true, false, length, Option, Some, None}
+use Rattle.thy_base.specs.declared.mark.Mark.{Mark}
+use Rattle.thy_base.specs.Device.{Device, IsFramed, HasFailed}
+use Rattle.thy_base.specs.Store.{Holding}
+use Rattle.thy_isa.specs.declared.state.CpuState.{CpuState}
+use Rattle.thy_isa.specs.OnBlocks.{state_from}
+use Rattle.thy_record.specs.Cpu.{IsRecordable}
+use Rattle.thy_record.specs.declared.engine_step.EngineStep.{EngineStep}
+use Rattle.thy_record.specs.declared.engine_step.EngineStep.TheVariants.{Idle, Committed}
+use Rattle.thy_view.specs.declared.did.Did.{Did}
+use Rattle.thy_view.specs.declared.did.Did.TheVariants.{Engine, Promoted, Committed as DidCommit}
+use Rattle.thy_view.specs.Action.{Action, IsAccess, after, FailsTo, Acts, ActionFailed}
+use Rattle.thy_view.specs.Origin.{Origin, at}
+use Rattle.thy_view.specs.Safe.{ceiling, Safe}
+use Rattle.thy_scheme.specs.Marks.{Marks, marks_after}
+use Rattle.thy_scheme.specs.Scheme.{SchemeOf}
+
+-- ---- loads and stores
+
+-- how many writes are queued in both devices
+abbrev pub queued_in : {S : Type 0} → SchemeOf S → S → Device → ℕ
+queued_in K s n = length n.queue + K.queued s
+
+-- after an action that succeeded, which queued one write at most
+pub record Succeeds {S : Type 0} (K : SchemeOf S) (action : Action) (s : S) (n : Device) (t : S) (new : Device) : Type 0 where
+  pub left : new ≡ after action n
+  pub queue : queued_in K t new ≤ queued_in K s n + 1
+
+-- one load or store acts on the NVM once
+pub record IsOneAccess {S : Type 0} (K : SchemeOf S) (s : S) (n : Device) (t : S) (new : Device) : Type 0 where
+  pub action : Action
+  pub access : IsAccess action
+  pub succeeds : new.down ≡ false → Succeeds K action s n t new
+  pub fails : new.down ≡ true → FailsTo action n new
+  pub frame : IsFramed n new
+  pub stays : K.stays s n t new
+
+-- ---- what every other call keeps
+
+-- no page was opened
+abbrev pub OpensNone : Option ℕ → Option ℕ → Type 0
+OpensNone old new = (new ≡ None) ⊎ (new ≡ old)
+
+-- each block as before, no less room, and no page opened
+pub record HoldsSame (old new : Holding) : Type 0 where
+  pub blocks : new.blocks ≡ old.blocks
+  pub free : old.free ≤ new.free
+  pub opened : OpensNone old.open_page new.open_page
+
+-- nothing that is still to be done became more
+pub record KeepsLeft {S : Type 0} (K : SchemeOf S) (s : S) (n : Device) (t : S) (new : Device) : Type 0 where
+  pub owed : (K.holding t new).owed ≤ (K.holding s n).owed
+  pub engine : K.engine_left t ≤ K.engine_left s
+  pub merges : K.merges_left t ≤ K.merges_left s
+  pub promotions : K.promotions_left t ≤ K.promotions_left s
+
+-- what a load gives stays, nothing new is promoted, and no block was stored
+pub record Keeps {S : Type 0} (K : SchemeOf S) (s : S) (n : Device) (t : S) (new : Device) : Type 0 where
+  pub held : HoldsSame (K.holding s n) (K.holding t new)
+  pub left : KeepsLeft K s n t new
+  pub whole : K.promoting s ≡ false → K.promoting t ≡ false
+  pub rested : K.rested t ≡ K.rested s
+
+-- ---- the calls
+
+-- a block is merged into its page
+pub record Merges {S : Type 0} (K : SchemeOf S) (o : Origin) (k : Marks) (s : S) (n : Device) (t : S) : Type 0 where
+  pub sound : K.is_sound o k t n
+  pub keeps : Keeps K s n t n
+  pub queue : K.queued t ≤ K.queued s + 1
+  pub nearer : K.merges_left t + 1 ≤ K.merges_left s
+
+-- a block of a page is promoted
+pub record Promotes {S : Type 0} (K : SchemeOf S) (o : Origin) (k : Marks) (s : S) (n : Device) (t : S) (new : Device) : Type 0 where
+  pub sound : K.is_sound o k t new
+  pub keeps : Keeps K s n t new
+  pub acts : Acts Promoted n new
+  pub queue : queued_in K t new ≤ queued_in K s n + 1
+  pub nearer : K.promotions_left t + 1 ≤ K.promotions_left s
+
+-- that failed, in its read
+pub record PromotionFails (n new : Device) : Type 0 where
+  pub failed : HasFailed n new
+  pub frame : IsFramed n new
+
+-- a write of the DRAM lands
+pub record Drains {S : Type 0} (K : SchemeOf S) (o : Origin) (k : Marks) (s : S) (n : Device) (t : S) : Type 0 where
+  pub sound : K.is_sound o k t n
+  pub keeps : Keeps K s n t n
+  pub queue : K.queued t + 1 ≤ K.queued s
+
+-- the machine is at a mark, whose checkpoint comes next
+pub record IsTaken (o : Origin) (k : Marks) (cpu : CpuState) (epoch : ℕ) (m : Mark) (held : Holding) : Type 0 where
+  pub unsealed : k.sealed ≡ None
+  pub unwritten : k.written ≡ false
+  pub next : epoch ≡ k.done.epoch + 1
+  pub of_epoch : m.epoch ≡ epoch
+  pub small : epoch < ceiling
+  pub recordable : IsRecordable o.geometry ceiling cpu
+  pub state : state_from o.geometry cpu held.blocks ≡ at o m.count
+  pub counted : (at o m.count).count ≡ m.count
+
+-- an epoch is sealed, and its checkpoint is under way
+pub record Seals {S : Type 0} (K : SchemeOf S) (o : Origin) (k : Marks) (cpu : CpuState) (epoch : ℕ) (s : S) (n : Device) (t : S) : Type 0 where
+  pub sound : (m : Mark) → IsTaken o k cpu epoch m (K.holding s n) → K.is_sound o (record k { sealed = Some m }) t n
+  pub held : HoldsSame (K.holding s n) (K.holding t n)
+  pub queue : K.queued t ≡ K.queued s
+  pub rested : K.rested t ≡ true
+
+-- a step of the engine is due: a checkpoint is under way, whose commit block was written before it is committed
+abbrev pub IsDue : EngineStep → Marks → Type 0
+IsDue Idle k = ⊥
+IsDue (Committed epoch) k = (k.written ≡ true) × ((m : Mark) × (k.sealed ≡ Some m) × (m.epoch ≡ epoch))
+IsDue step k = Unit {0}
+
+-- what a cycle did with this step, where so many instructions were retired since the seal
+abbrev pub engine_did : ℕ → EngineStep → Did
+engine_did lap (Committed epoch) = DidCommit epoch lap
+engine_did lap step = Engine step
+
+-- a step of the engine
+pub record Engines {S : Type 0} (K : SchemeOf S) (o : Origin) (k : Marks) (step : EngineStep) (s : S) (n : Device) (t : S) (new : Device) : Type 0 where
+  pub due : IsDue step k
+  pub sound : K.is_sound o (marks_after step k) t new
+  pub keeps : Keeps K s n t new
+  pub acts : (lap : ℕ) → Acts (engine_did lap step) n new
+  pub queue : queued_in K t new ≤ queued_in K s n + 1
+  pub nearer : K.engine_left t + 1 ≤ K.engine_left s
+
+-- that failed in its action, and leaves the committed checkpoint, whole, or the sealed one
+pub record EngineFails {S : Type 0} (K : SchemeOf S) (o : Origin) (k : Marks) (n new : Device) : Type 0 where
+  pub step : EngineStep
+  pub acted : (lap : ℕ) → ActionFailed (engine_did lap step) n new
+  pub safe : Safe K.decode o (Some k.done) k.sealed new

@@ -1,0 +1,113 @@
+-- What holds of every scheme.
+use Rattle.std.specs.Prelude.{◌≡◌, ℕ, ◌<◌, ◌≤◌, ◌||◌, not, true, false, is_some, Bool, [], length, Some, None}
+use Rattle.thy_base.specs.declared.config.Parameters.{Parameters}
+use Rattle.thy_base.specs.declared.nvm.Shape.{Shape}
+use Rattle.thy_base.specs.Device.{Device, drained, fitted}
+use Rattle.thy_base.specs.Geometry.{memory_blocks}
+use Rattle.thy_isa.specs.declared.state.CpuState.{CpuState}
+use Rattle.thy_isa.specs.OnBlocks.{state_from}
+use Rattle.thy_record.specs.Decoded.{Decoded, Nothing, Refused, At}
+use Rattle.thy_view.specs.Booting.{view_of_image}
+use Rattle.thy_view.specs.Origin.{Origin, IsOrigin, at}
+use Rattle.thy_view.specs.Safe.{ceiling, Safe}
+use Rattle.thy_view.specs.Views.{doubt_of}
+use Rattle.thy_scheme.specs.Marks.{Marks, doubt_in}
+use Rattle.thy_scheme.specs.Scheme.{SchemeOf, Stands, IsBooting}
+use Rattle.thy_scheme.specs.Calls.{Keeps}
+use Rattle.thy_scheme.specs.Boots.{IsBootView, BootStays}
+
+-- an image is the run's own: it means nothing, where the run began so, or a state of the plain machine
+abbrev pub IsOwn : Origin → Decoded → Type 0
+IsOwn o Nothing = o.kept ≡ None
+IsOwn o (Refused bad) = ⊥
+IsOwn o (At epoch state) = state ≡ at o state.count
+
+-- an NVM that is up, of its size and with nothing queued, whose image is the run's own
+pub record IsFound {S : Type 0} (K : SchemeOf S) (o : Origin) (n : Device) : Type 0 where
+  pub up : n.down ≡ false
+  pub sized : length n.image ≡ K.blocks o.geometry
+  pub settled : n.queue ≡ []
+  pub own : IsOwn o (K.decode o.geometry ceiling n.image)
+
+-- a scheme whose power has just come on
+pub record IsNew {S : Type 0} (K : SchemeOf S) (p : Parameters) (s : S) : Type 0 where
+  pub queued : K.queued s ≡ 0
+  pub boot_left : K.boot_left s ≤ K.most_boot p
+
+-- over such an NVM it boots what the image means
+pub record BootsFound {S : Type 0} (K : SchemeOf S) (o : Origin) (s : S) (n : Device) : Type 0 where
+  pub boots : K.boots o s n
+  pub view : K.boot_view o s n ≡ view_of_image o.start.count (K.decode o.geometry ceiling n.image)
+
+-- what holds in the boot: a cut leaves what is seen, and a drain of the NVM changes nothing of it
+pub record BootHolds {S : Type 0} (K : SchemeOf S) (o : Origin) (s : S) (n : Device) : Type 0 where
+  pub sized : length n.image ≡ K.blocks o.geometry
+  pub safe : Safe K.decode o (K.boot_view o s n).done (doubt_of (K.boot_view o s n)) n
+  pub shown : IsBootView o (K.boot_view o s n)
+  pub unread : K.has_read s ≡ false → K.queued s ≡ 0
+  pub drains : 0 < length n.queue → BootStays K o s n s (drained n)
+
+-- no number is above its most
+pub record IsBounded {S : Type 0} (K : SchemeOf S) (p : Parameters) (s : S) (n : Device) : Type 0 where
+  pub engine : K.engine_left s ≤ K.most_engine p
+  pub merges : K.merges_left s ≤ K.most_merges p
+  pub promotions : K.promotions_left s ≤ K.most_promotions p
+  pub owed : (K.holding s n).owed ≤ K.most_owed p
+  pub free : K.free s ≤ K.most_free p
+
+-- memory as the committed checkpoint has it makes its state
+pub record IsCommitted {S : Type 0} (K : SchemeOf S) (o : Origin) (count : ℕ) (s : S) (n : Device) : Type 0 where
+  pub blocks : length (K.committed s n) ≡ memory_blocks o.geometry
+  pub cpu : CpuState
+  pub state : state_from o.geometry cpu (K.committed s n) ≡ at o count
+
+-- what holds behind the boot, while the NVM is up
+pub record RunHolds {S : Type 0} (K : SchemeOf S) (o : Origin) (k : Marks) (s : S) (n : Device) : Type 0 where
+  pub sized : length n.image ≡ K.blocks o.geometry
+  pub safe : Safe K.decode o (Some k.done) (doubt_in k) n
+  pub way : K.under_way s ≡ is_some k.sealed
+  pub memory : length (K.holding s n).blocks ≡ memory_blocks o.geometry
+  pub ready : K.promoting s ≡ false → (K.holding s n).ready ≡ true
+  pub overlays : K.overlaid s ≡ false → K.merges_left s ≡ 0
+  pub bounded : IsBounded K o.geometry s n
+  -- an epoch without a store leaves room for an instruction once it is committed
+  pub room : K.rested s ≡ true → K.under_way s ≡ false → 2 ≤ K.free s
+  pub committed : IsCommitted K o k.done.count s n
+  -- a write of the NVM lands
+  pub drained_sound : 0 < length n.queue → K.is_sound o k s (drained n)
+  pub drained_keeps : 0 < length n.queue → Keeps K s n s (drained n)
+
+-- the hart may store: no checkpoint is under way, or it may run beside it
+abbrev pub is_free_to_run : {S : Type 0} → SchemeOf S → S → Bool
+is_free_to_run K s = K.overlaps || not (K.under_way s)
+
+-- loads and stores keep the checkpoints, and bring the engine no more to do
+pub record StaysSound {S : Type 0} (K : SchemeOf S) (o : Origin) (k : Marks) (s : S) (t : S) (new : Device) : Type 0 where
+  pub sound : new.down ≡ false → K.is_sound o k t new
+  pub safe : Safe K.decode o (Some k.done) (doubt_in k) new
+  pub way : K.under_way t ≡ K.under_way s
+  pub engine : K.engine_left t ≤ K.engine_left s
+
+pub record IsLawful {S : Type 0} (K : SchemeOf S) : Type 0 where
+  -- power can come on, over any DRAM
+  pub powers : (p : Parameters) → (s : S) × K.powered p s
+  pub is_new : (p : Parameters) (s : S) → K.powered p s → IsNew K p s
+  -- zeros are no checkpoint
+  pub finds_nothing : (p : Parameters) (shape : Shape) (n : Device)
+      → shape.blocks ≡ K.blocks p → K.decode p ceiling (fitted shape [] n).image ≡ Nothing
+  -- the boot
+  pub finds : (o : Origin) (s : S) (n : Device) → IsOrigin o → K.powered o.geometry s → IsFound K o n → BootsFound K o s n
+  pub boot_holds : (o : Origin) (s : S) (n : Device) → IsBooting K o s n → BootHolds K o s n
+  -- behind it
+  pub run_holds : (o : Origin) (k : Marks) (s : S) (n : Device) → Stands K o k s n → RunHolds K o k s n
+  -- blocks are held only while the NVM is up, and are stored only where no page is being promoted
+  pub up : (s : S) (n : Device) (b : ℕ) → b < length (K.holding s n).blocks → n.down ≡ false
+  pub ready_up : (s : S) (n : Device) → (K.holding s n).ready ≡ true → n.down ≡ false
+  pub ready_whole : (s : S) (n : Device) → (K.holding s n).ready ≡ true → K.promoting s ≡ false
+  pub free_is : (s : S) (n : Device) → (K.holding s n).free ≡ K.free s
+  -- what loads and stores keep
+  pub stays_same : (s : S) (n : Device) → K.stays s n s n
+  pub stays_on : (a : S) (m : Device) (b : S) (n : Device) (c : S) (o : Device)
+      → K.stays a m b n → K.stays b n c o → K.stays a m c o
+  pub stays_sound : (o : Origin) (k : Marks) (s : S) (n : Device) (t : S) (new : Device)
+      → Stands K o k s n → is_free_to_run K s ≡ true → K.stays s n t new → StaysSound K o k s t new

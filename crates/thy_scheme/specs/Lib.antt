@@ -1,0 +1,6 @@
+pub mod Marks
+pub mod Scheme
+pub mod Calls
+pub mod Boots
+pub mod Laws
+pub mod Behind

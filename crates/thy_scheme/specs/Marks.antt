@@ -1,0 +1,27 @@
+-- The checkpoints of a machine whose boot is over.
+use Rattle.std.specs.Prelude.{true, false, if◌then◌else◌, Bool, Option, None, unwrap_or}
+use Rattle.thy_base.specs.declared.mark.Mark.{Mark}
+use Rattle.thy_record.specs.declared.engine_step.EngineStep.{EngineStep}
+use Rattle.thy_record.specs.declared.engine_step.EngineStep.TheVariants.{CommitWritten, Committed}
+
+pub record Marks : Type 0 where
+  -- the committed checkpoint
+  pub done : Mark
+  -- the checkpoint that is under way
+  pub sealed : Option Mark
+  -- its commit block was written, and no barrier has come since
+  pub written : Bool
+
+-- one committed checkpoint, and none under way
+abbrev pub only : Mark → Marks
+only m = record { done = m; sealed = None; written = false }
+
+-- the mark that a cut may leave besides the one done
+abbrev pub doubt_in : Marks → Option Mark
+doubt_in k = if k.written then k.sealed else None
+
+-- after a step of the engine
+abbrev pub marks_after : EngineStep → Marks → Marks
+marks_after CommitWritten k = record k { written = true }
+marks_after (Committed epoch) k = only (unwrap_or k.sealed k.done)
+marks_after step k = k

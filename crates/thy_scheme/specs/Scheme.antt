@@ -1,0 +1,80 @@
+-- What a scheme of checkpoints is to the machine above it.
+use Rattle.std.specs.Prelude.{◌≡◌, ℕ, false, Bool, List}
+use Rattle.thy_base.specs.declared.block.Block.{Block}
+use Rattle.thy_base.specs.declared.config.Parameters.{Parameters}
+use Rattle.thy_base.specs.Device.{Device}
+use Rattle.thy_base.specs.Store.{Holding}
+use Rattle.thy_record.specs.Decoded.{Reading}
+use Rattle.thy_record.specs.declared.start.Start.{Start}
+use Rattle.thy_view.specs.declared.view.View.{View}
+use Rattle.thy_view.specs.Origin.{Origin, Begins}
+use Rattle.thy_scheme.specs.Marks.{Marks}
+
+-- what is seen of schemes of a type, over the NVM behind them
+pub record SchemeOf (S : Type 0) : Type 1 where
+  -- what an image of the NVM means
+  pub decode : Reading
+  -- how many blocks the NVM has
+  pub blocks : Parameters → ℕ
+  -- power has just come on: nothing was read, and nothing is queued in the DRAM
+  pub powered : Parameters → S → Type 0
+  -- what a load of each block gives, and what stores there is room for
+  pub holding : S → Device → Holding
+  -- memory as the committed checkpoint has it
+  pub committed : S → Device → List Block
+  -- what loads and stores keep, those that fail too, over any number of them
+  pub stays : S → Device → S → Device → Type 0
+  -- a checkpoint is under way
+  pub under_way : S → Bool
+  -- a block has still to be merged into its page before a seal
+  pub overlaid : S → Bool
+  -- a block of a page has still to be promoted before a store
+  pub promoting : S → Bool
+  -- no block was stored since the last seal
+  pub rested : S → Bool
+  -- the hart may run while a checkpoint is under way
+  pub overlaps : Bool
+  -- how many writes are queued in the DRAM, and how many table entries are free
+  pub queued : S → ℕ
+  pub free : S → ℕ
+  -- behind the boot: scheme and NVM have the checkpoints of these marks
+  pub is_sound : Origin → Marks → S → Device → Type 0
+  -- in the boot: scheme and NVM have the checkpoint that is found, or load the program
+  pub boots : Origin → S → Device → Type 0
+  -- what is then seen of it, and whether the commit block was read
+  pub boot_view : Origin → S → Device → View
+  pub has_read : S → Bool
+  -- actions that the boot has left, cycles of the engine, merges and promotions, and the most of each
+  pub boot_left : S → ℕ
+  pub engine_left : S → ℕ
+  pub merges_left : S → ℕ
+  pub promotions_left : S → ℕ
+  pub most_boot : Parameters → ℕ
+  pub most_engine : Parameters → ℕ
+  pub most_merges : Parameters → ℕ
+  pub most_promotions : Parameters → ℕ
+  -- the most copies that may be owed, and the most entries
+  pub most_owed : Parameters → ℕ
+  pub most_free : Parameters → ℕ
+
+-- behind the boot, over an NVM that is up
+pub record Stands {S : Type 0} (K : SchemeOf S) (o : Origin) (k : Marks) (s : S) (n : Device) : Type 0 where
+  pub sound : K.is_sound o k s n
+  pub up : n.down ≡ false
+
+-- so it is for some run
+pub record CanRun {S : Type 0} (K : SchemeOf S) (s : S) (n : Device) : Type 0 where
+  pub o : Origin
+  pub k : Marks
+  pub stands : Stands K o k s n
+
+-- in the boot of a run, over an NVM that is up
+pub record IsBooting {S : Type 0} (K : SchemeOf S) (o : Origin) (s : S) (n : Device) : Type 0 where
+  pub boots : K.boots o s n
+  pub up : n.down ≡ false
+
+-- so it is for a run with this start
+pub record CanBoot {S : Type 0} (K : SchemeOf S) (start : Start) (s : S) (n : Device) : Type 0 where
+  pub o : Origin
+  pub begins : Begins o start
+  pub booting : IsBooting K o s n

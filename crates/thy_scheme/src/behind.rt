@@ -1,0 +1,34 @@
+//! A scheme as a store of blocks.
+use crate::Scheme;
+use thy_base::{Block, BlockStore, Nvm, NvmError, Stored};
+
+/// A scheme as the store of blocks behind cache and hart.
+#[derive(Drop)]
+pub struct Behind<S> {
+    pub scheme: S,
+}
+
+impl<N: Nvm, S: Scheme> BlockStore<N> for Behind<S> {
+    ghost use Rattle.thy_scheme.specs.Behind.{held_behind};
+    ghost use Rattle.thy_scheme.specs.Calls.{IsOneAccess};
+
+    ghost holding = { λ store nvm. held_behind S.scheme store.scheme (N.device nvm) };
+
+    ghost once = { λ a m b n. IsOneAccess S.scheme a.scheme (N.device m) b.scheme (N.device n) };
+
+    ghost stays = { λ a m b n. S.scheme.stays a.scheme (N.device m) b.scheme (N.device n) };
+
+    fn load(&mut self, b: u64, nvm: &mut N) -> Result<Block, NvmError> {
+        self.scheme.load(b, nvm)
+    }
+
+    fn store(&mut self, b: u64, block: &Block, nvm: &mut N) -> Result<Stored, NvmError> {
+        self.scheme.store(b, block, nvm)
+    }
+
+    ghost once_stays = { λ a m b n once. once.stays };
+
+    ghost stays_same = { λ store nvm. S.lawful.stays_same store.scheme (N.device nvm) };
+
+    ghost stays_on = { λ a m b n c o first second. S.lawful.stays_on a.scheme (N.device m) b.scheme (N.device n) c.scheme (N.device o) first second };
+}

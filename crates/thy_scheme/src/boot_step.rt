@@ -1,0 +1,16 @@
+//! What a step of the boot tells.
+use thy_isa::CpuState;
+use thy_record::BadImage;
+
+/// What a step of the boot tells.
+#[derive(Clone, Copy, Debug, PartialEq, Eq)]
+pub enum BootStep {
+    /// It goes on.
+    GoesOn,
+    /// The program is loaded, as the checkpoint of epoch 0.
+    Loaded,
+    /// The checkpoint of this epoch was restored, with this state of the processor.
+    Restarted(CpuState, u64),
+    /// The image is refused. This comes again at each later step.
+    Refused(BadImage),
+}

@@ -1,0 +1,159 @@
+//! What a scheme of checkpoints is to the machine above it.
+ghost use Rattle.std.specs.Prelude.{◌≡◌, ◌&&◌, ◌<◌, true, false, length, IfOk, OnOk, OnErr};
+ghost use Rattle.thy_base.specs.Device.{Device, HasFailed, IsFramed, CountsFault, block_at};
+ghost use Rattle.thy_base.specs.Store.{IsKeptByLoad, HasStored};
+ghost use Rattle.thy_view.specs.Kind.{IsDramOf};
+ghost use Rattle.thy_view.specs.Origin.{Origin, Begins};
+ghost use Rattle.thy_view.specs.Views.{loads};
+ghost use Rattle.thy_scheme.specs.Marks.{Marks};
+ghost use Rattle.thy_scheme.specs.Scheme.{SchemeOf, Stands, CanRun, IsBooting, CanBoot};
+ghost use Rattle.thy_scheme.specs.Calls.{IsOneAccess, Merges, Promotes, PromotionFails, Drains, Seals, Engines, EngineFails};
+ghost use Rattle.thy_scheme.specs.Boots.{BootsOn, BootFails, BootDrains};
+ghost use Rattle.thy_scheme.specs.Laws.{IsLawful};
+
+use crate::BootStep;
+use std::alloc::{AllocError, Global};
+use thy_base::{Block, Geometry, Nvm, NvmError, Stored};
+use thy_dram::Dram;
+use thy_isa::CpuState;
+use thy_record::{EngineStep, Start};
+
+/// A scheme of checkpoints: memory over a DRAM and an NVM, of which it keeps a committed version while the next one is
+/// made. It has the boot, which finds the committed version, and the engine, which makes the next.
+///
+/// Only `new` takes memory. A call answers `NvmError` only where the NVM failed; nothing but `cut` is to be asked of a
+/// scheme then.
+pub trait Scheme: Drop {
+    /// What is seen of it.
+    ghost scheme: { SchemeOf Self };
+
+    /// How many blocks its NVM has.
+    fn nvm_blocks(geometry: &Geometry) -> u64
+        ensures { result ≡ scheme.blocks geometry.now };
+
+    /// A scheme whose power has just come on, over a DRAM of any content. On a refusal the DRAM is given up.
+    fn new(alloc: Global, geometry: &Geometry, dram: Dram) -> Result<Self, AllocError>
+        requires { IsDramOf geometry.now dram }
+        ensures { IfOk result (λ s. scheme.powered geometry.now s) };
+
+    /// Loses power: all is gone but the DRAM, whose bytes are those that the pick draws.
+    fn cut(self, pick: u64) -> Dram
+        ensures running { (o : Origin) (k : Marks) (n : Device) → scheme.is_sound o k self n → IsDramOf o.geometry result }
+        ensures booting { (o : Origin) (n : Device) → scheme.boots o self n → IsDramOf o.geometry result };
+
+    /// Block `b` of memory. Nothing changes.
+    fn load<N: Nvm>(&self, b: u64, nvm: &mut N) -> Result<Block, NvmError>
+        requires { b < length (scheme.holding self.now (N.device nvm.old)).blocks }
+        ensures ok { IfOk result (λ block. block ≡ block_at (scheme.holding self.now (N.device nvm.old)).blocks b) }
+        ensures same { OnOk result (N.device nvm.new ≡ N.device nvm.old) }
+        ensures err { OnErr result (HasFailed (N.device nvm.old) (N.device nvm.new)) }
+        ensures kept { IsKeptByLoad (scheme.holding self.now (N.device nvm.old)) (scheme.holding self.now (N.device nvm.new)) }
+        ensures stays { scheme.stays self.now (N.device nvm.old) self.now (N.device nvm.new) }
+        ensures frame { IsFramed (N.device nvm.old) (N.device nvm.new) }
+        ensures cause { CountsFault result (N.device nvm.old).faults (N.device nvm.new).faults };
+
+    /// Stores block `b` of memory, or makes the copy that has to go first.
+    fn store<N: Nvm>(&mut self, b: u64, block: &Block, nvm: &mut N) -> Result<Stored, NvmError>
+        requires inside { b < length (scheme.holding self.old (N.device nvm.old)).blocks }
+        requires ready { (scheme.holding self.old (N.device nvm.old)).ready ≡ true }
+        requires room { 0 < (scheme.holding self.old (N.device nvm.old)).free }
+        ensures ok { IfOk result (λ stored. HasStored stored b block.now (scheme.holding self.old (N.device nvm.old)) (scheme.holding self.new (N.device nvm.new))) }
+        ensures up { OnOk result ((N.device nvm.new).down ≡ false) }
+        ensures err { OnErr result ((N.device nvm.new).down ≡ true) }
+        ensures once { IsOneAccess scheme self.old (N.device nvm.old) self.new (N.device nvm.new) }
+        ensures cause { CountsFault result (N.device nvm.old).faults (N.device nvm.new).faults };
+
+    /// Block `b` of memory, as the committed checkpoint has it. Nothing changes.
+    fn committed<N: Nvm>(&self, b: u64, nvm: &mut N) -> Result<Block, NvmError>
+        requires block { b < length (scheme.committed self.now (N.device nvm.old)) }
+        requires stands { CanRun scheme self.now (N.device nvm.old) }
+        ensures ok { IfOk result (λ block. block ≡ block_at (scheme.committed self.now (N.device nvm.old)) b) }
+        ensures same { OnOk result (N.device nvm.new ≡ N.device nvm.old) }
+        ensures err { OnErr result (HasFailed (N.device nvm.old) (N.device nvm.new)) }
+        ensures frame { IsFramed (N.device nvm.old) (N.device nvm.new) }
+        ensures cause { CountsFault result (N.device nvm.old).faults (N.device nvm.new).faults };
+
+    /// How many table entries are free.
+    fn free(&self) -> u64
+        ensures { result ≡ scheme.free self.now };
+
+    /// Whether a block has still to be merged into its page before a seal.
+    fn overlay(&self) -> bool
+        ensures { result ≡ scheme.overlaid self.now };
+
+    /// Whether a block of a page has still to be promoted before a store.
+    fn promoting(&self) -> bool
+        ensures { result ≡ scheme.promoting self.now };
+
+    /// Whether a checkpoint is under way.
+    fn under_way(&self) -> bool
+        ensures { result ≡ scheme.under_way self.now };
+
+    /// Whether the hart may run while a checkpoint is under way.
+    fn overlaps() -> bool
+        ensures { result ≡ scheme.overlaps };
+
+    /// How many writes are queued in the DRAM.
+    fn queued(&self) -> u64
+        ensures { result ≡ scheme.queued self.now };
+
+    /// Lets the oldest queued write of the DRAM land.
+    fn drain(&mut self)
+        requires { 0 < scheme.queued self.old }
+        ensures running { (o : Origin) (k : Marks) (n : Device) → Stands scheme o k self.old n → Drains scheme o k self.old n self.new }
+        ensures booting { (o : Origin) (n : Device) → IsBooting scheme o self.old n → BootDrains scheme o self.old n self.new };
+
+    /// Merges a block into its page. Only before a seal, with no checkpoint under way.
+    fn merge_one(&mut self)
+        requires overlaid { scheme.overlaid self.old ≡ true }
+        requires idle { scheme.under_way self.old ≡ false }
+        ensures { (o : Origin) (k : Marks) (n : Device) → Stands scheme o k self.old n → Merges scheme o k self.old n self.new };
+
+    /// Promotes a block of a page.
+    fn promote_one<N: Nvm>(&mut self, nvm: &mut N) -> Result<(), NvmError>
+        requires promoting { scheme.promoting self.old ≡ true }
+        requires stands { CanRun scheme self.old (N.device nvm.old) }
+        ensures ok { (o : Origin) (k : Marks) → Stands scheme o k self.old (N.device nvm.old)
+            → OnOk result (Promotes scheme o k self.old (N.device nvm.old) self.new (N.device nvm.new)) }
+        ensures err { OnErr result (PromotionFails (N.device nvm.old) (N.device nvm.new)) }
+        ensures frame { IsFramed (N.device nvm.old) (N.device nvm.new) }
+        ensures cause { CountsFault result (N.device nvm.old).faults (N.device nvm.new).faults };
+
+    /// Seals an epoch: the checkpoint of memory as it is, and of this processor, is under way then.
+    fn seal(&mut self, cpu: &CpuState, epoch: u64)
+        requires idle { scheme.under_way self.old ≡ false }
+        requires whole { scheme.promoting self.old ≡ false }
+        requires bare { scheme.overlaid self.old ≡ false }
+        requires regs { length cpu.now.regs ≡ 32 }
+        ensures { (o : Origin) (k : Marks) (n : Device) → Stands scheme o k self.old n
+            → Seals scheme o k cpu.now epoch self.old n self.new };
+
+    /// Takes one action of the checkpoint that is under way.
+    fn engine_step<N: Nvm>(&mut self, nvm: &mut N) -> Result<EngineStep, NvmError>
+        requires way { scheme.under_way self.old ≡ true }
+        requires stands { CanRun scheme self.old (N.device nvm.old) }
+        ensures ok { (o : Origin) (k : Marks) → Stands scheme o k self.old (N.device nvm.old)
+            → IfOk result (λ step. Engines scheme o k step self.old (N.device nvm.old) self.new (N.device nvm.new)) }
+        ensures err { (o : Origin) (k : Marks) → Stands scheme o k self.old (N.device nvm.old)
+            → OnErr result (EngineFails scheme o k (N.device nvm.old) (N.device nvm.new)) }
+        ensures frame { IsFramed (N.device nvm.old) (N.device nvm.new) }
+        ensures cause { CountsFault result (N.device nvm.old).faults (N.device nvm.new).faults };
+
+    /// Takes one action of the boot.
+    fn boot_step<N: Nvm>(&mut self, start: &Start, nvm: &mut N) -> Result<BootStep, NvmError>
+        requires boots { CanBoot scheme start.now self.old (N.device nvm.old) }
+        ensures ok { (o : Origin) → Begins o start.now → IsBooting scheme o self.old (N.device nvm.old)
+            → IfOk result (λ step. BootsOn scheme o step self.old (N.device nvm.old) self.new (N.device nvm.new)) }
+        ensures err { (o : Origin) → Begins o start.now → IsBooting scheme o self.old (N.device nvm.old)
+            → OnErr result (BootFails scheme o self.old (N.device nvm.old) (N.device nvm.new)) }
+        ensures frame { IsFramed (N.device nvm.old) (N.device nvm.new) }
+        ensures cause { CountsFault result (N.device nvm.old).faults (N.device nvm.new).faults };
+
+    /// Whether the boot has found that there is no checkpoint.
+    fn loading(&self) -> bool
+        ensures { (o : Origin) (n : Device) → scheme.boots o self.now n
+            → result ≡ (scheme.has_read self.now && loads (scheme.boot_view o self.now n)) };
+
+    /// What holds of every scheme.
+    ghost lawful: { IsLawful scheme };
+}
