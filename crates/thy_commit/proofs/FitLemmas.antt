@@ -23,10 +23,11 @@ use Rattle.thy_control.specs.Pages.{needs_write, next_page, issued}
 use Rattle.thy_control.specs.Seal.{sealed_state}
 use Rattle.thy_control.specs.Stays.{Stays}
 use Rattle.thy_control.proofs.FindLemmas.{entry_for-some}
+use Rattle.thy_commit.specs.declared.engine.Done.{Done}
 use Rattle.thy_commit.specs.declared.next.Next.{Next}
 use Rattle.thy_commit.specs.declared.next.Next.TheVariants.{Nothing, Copies, Pages, Slot, Settle, Commit, Confirm}
 use Rattle.thy_commit.specs.Items.{Item, SlotItem, item, is_under_way, copy_or, page_or_slot, page_item, next_after}
-use Rattle.thy_commit.specs.Progress.{Progress, IsDone, IsPast, Fits, state_after}
+use Rattle.thy_commit.specs.Progress.{Progress, IsDone, IsPast, Fits, state_after, IsTaken, item_of, state_next}
 use Rattle.thy_commit.specs.Fitting.{ItemsFit, SealFits, StaysFit}
 use Rattle.thy_control.proofs.LeftLemmas.{not_pending, not_to_write, none-entry_for}
 
@@ -64,6 +65,12 @@ module _ (e : Progress) (s : State) (m : Device) (same : s.p ≡ e.p) where
 
 pub items_fit : ItemsFit
 items_fit e s m fits = fits-next e s m fits.same_p e.next fits.past fits.way
+
+-- so it is of the engine that an item leaves
+pub fits_on : (e f : Progress) (s t : State) (m n : Device) (d : Done) → Fits e s → IsTaken (item_of e s) e s m d t n → f ≡ record e { next = d.next } → Fits f t
+fits_on e f s t m n d fits taken is =
+    subst (λ (x : State). Fits f x) (sym taken.controller)
+    (subst (λ (x : Progress). Fits x (state_next e s m)) (sym (is ∙ ap (λ (q : Next). record e { next = q }) taken.next)) (items_fit e s m fits))
 
 pub seal_fits : SealFits
 unfolding sealed_state

@@ -12,9 +12,10 @@ use Rattle.thy_control.specs.CheckpointTables.{tables1}
 use Rattle.thy_control.specs.Commit.{committed_state}
 use Rattle.thy_control.specs.Copies.{next_copy, block_listed, devices_after_copy, after_next_copy, FailsCopy}
 use Rattle.thy_control.specs.Pages.{next_page, block_to_write, devices_after_write, after_next_write, FailsWriteOf}
+use Rattle.thy_commit.specs.declared.engine.Done.{Done}
 use Rattle.thy_commit.specs.declared.next.Next.{Next}
 use Rattle.thy_commit.specs.declared.next.Next.TheVariants.{Nothing, Copies, Pages, Slot, Settle, Commit, Confirm}
-use Rattle.thy_commit.specs.Items.{is_under_way, Item, NoItem, CopyItem, PageItem, SlotItem, SettleItem, CommitItem, ConfirmItem, item, next_after}
+use Rattle.thy_commit.specs.Items.{is_under_way, Item, NoItem, CopyItem, PageItem, SlotItem, SettleItem, CommitItem, ConfirmItem, item, next_after, answer}
 
 pub record Progress : Type 0 where
   pub p : Parameters
@@ -89,6 +90,18 @@ FailsItem e (SlotItem k) s m n = HasFailedToWrite (slot_number e k) (slot_block 
 FailsItem e SettleItem s m n = HasFailed m n
 FailsItem e CommitItem s m n = HasFailedToWrite 1 (commit_of e.epoch) m n
 FailsItem e ConfirmItem s m n = HasFailed m n
+
+-- an item was taken: how it is told, what comes after it, and what it makes of controller and NVM
+pub record IsTaken (i : Item) (e : Progress) (s : State) (m : Device) (d : Done) (t : State) (n : Device) : Type 0 where
+  pub step : d.step ≡ answer e.epoch i
+  pub next : d.next ≡ next_after e.p i
+  pub controller : t ≡ state_after i s m
+  pub device : n ≡ device_after e i s m
+
+-- it failed: the controller is as before
+pub record IsNotTaken (i : Item) (e : Progress) (s : State) (m : Device) (t : State) (n : Device) : Type 0 where
+  pub controller : t ≡ s
+  pub failed : FailsItem e i s m n
 
 -- what comes next: the item, and the engine, the controller and the NVM after it
 abbrev pub item_of : Progress → State → Item

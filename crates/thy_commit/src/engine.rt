@@ -52,7 +52,7 @@ fn slot_step(k: u64) -> EngineStep
 impl Engine {
     ghost use Rattle.thy_base.specs.Places.{slot_blocks};
     ghost use Rattle.thy_commit.specs.Items.{SlotItem, SettleItem, CommitItem, ConfirmItem, is_under_way, copy_item, page_item, next_after, answer};
-    ghost use Rattle.thy_commit.specs.Progress.{begun, Fits, IsDone, slot_block, state_after, device_after, FailsItem, item_of, engine_next, state_next, device_next, FailsNext};
+    ghost use Rattle.thy_commit.specs.Progress.{begun, Fits, IsDone, slot_block, device_after, FailsItem, IsTaken, IsNotTaken, item_of, engine_next, state_next, device_next, FailsNext};
 
     /// An engine with no checkpoint under way.
     pub fn new(geometry: &Geometry) -> Engine
@@ -122,6 +122,9 @@ impl Engine {
         ensures kept { OnErr result (self.new ≡ self.old) }
         ensures kept_control { OnErr result (control.new ≡ control.old) }
         ensures err { OnErr result (FailsNext self.old control.old (N.device nvm.old) (N.device nvm.new)) }
+
+        // Whether or not it failed, they belong together still.
+        ensures fits { Fits self.new control.new }
         ensures frame { IsFramed (N.device nvm.old) (N.device nvm.new) }
         ensures cause { CountsFault result (N.device nvm.old).faults (N.device nvm.new).faults }
     {
@@ -135,12 +138,8 @@ impl Engine {
         requires fits { Fits self.now control.old }
         requires sized { IsSized control.old (N.device nvm.old) }
         requires up { (N.device nvm.old).down ≡ false }
-        ensures answer { IfOk result (λ done. done.step ≡ answer self.now.epoch (item_of self.now control.old)) }
-        ensures next { IfOk result (λ done. done.next ≡ next_after self.now.p (item_of self.now control.old)) }
-        ensures control { OnOk result (control.new ≡ state_next self.now control.old (N.device nvm.old)) }
-        ensures device { OnOk result (N.device nvm.new ≡ device_next self.now control.old (N.device nvm.old)) }
-        ensures kept { OnErr result (control.new ≡ control.old) }
-        ensures err { OnErr result (FailsNext self.now control.old (N.device nvm.old) (N.device nvm.new)) }
+        ensures taken { IfOk result (λ done. IsTaken (item_of self.now control.old) self.now control.old (N.device nvm.old) done control.new (N.device nvm.new)) }
+        ensures failed { OnErr result (IsNotTaken (item_of self.now control.old) self.now control.old (N.device nvm.old) control.new (N.device nvm.new)) }
         ensures frame { IsFramed (N.device nvm.old) (N.device nvm.new) }
         ensures cause { CountsFault result (N.device nvm.old).faults (N.device nvm.new).faults }
     {
@@ -163,12 +162,8 @@ impl Engine {
         requires geometry { control.old.p ≡ self.now.p }
         requires sized { IsSized control.old (N.device nvm.old) }
         requires up { (N.device nvm.old).down ≡ false }
-        ensures answer { IfOk result (λ done. done.step ≡ answer self.now.epoch (copy_item control.old)) }
-        ensures next { IfOk result (λ done. done.next ≡ next_after self.now.p (copy_item control.old)) }
-        ensures control { OnOk result (control.new ≡ state_after (copy_item control.old) control.old (N.device nvm.old)) }
-        ensures device { OnOk result (N.device nvm.new ≡ device_after self.now (copy_item control.old) control.old (N.device nvm.old)) }
-        ensures kept { OnErr result (control.new ≡ control.old) }
-        ensures err { OnErr result (FailsItem self.now (copy_item control.old) control.old (N.device nvm.old) (N.device nvm.new)) }
+        ensures taken { IfOk result (λ done. IsTaken (copy_item control.old) self.now control.old (N.device nvm.old) done control.new (N.device nvm.new)) }
+        ensures failed { OnErr result (IsNotTaken (copy_item control.old) self.now control.old (N.device nvm.old) control.new (N.device nvm.new)) }
         ensures frame { IsFramed (N.device nvm.old) (N.device nvm.new) }
         ensures cause { CountsFault result (N.device nvm.old).faults (N.device nvm.new).faults }
     {
@@ -187,12 +182,8 @@ impl Engine {
         requires geometry { control.old.p ≡ self.now.p }
         requires sized { IsSized control.old (N.device nvm.old) }
         requires up { (N.device nvm.old).down ≡ false }
-        ensures answer { IfOk result (λ done. done.step ≡ answer self.now.epoch (page_item control.old)) }
-        ensures next { IfOk result (λ done. done.next ≡ next_after self.now.p (page_item control.old)) }
-        ensures control { OnOk result (control.new ≡ state_after (page_item control.old) control.old (N.device nvm.old)) }
-        ensures device { OnOk result (N.device nvm.new ≡ device_after self.now (page_item control.old) control.old (N.device nvm.old)) }
-        ensures kept { OnErr result (control.new ≡ control.old) }
-        ensures err { OnErr result (FailsItem self.now (page_item control.old) control.old (N.device nvm.old) (N.device nvm.new)) }
+        ensures taken { IfOk result (λ done. IsTaken (page_item control.old) self.now control.old (N.device nvm.old) done control.new (N.device nvm.new)) }
+        ensures failed { OnErr result (IsNotTaken (page_item control.old) self.now control.old (N.device nvm.old) control.new (N.device nvm.new)) }
         ensures frame { IsFramed (N.device nvm.old) (N.device nvm.new) }
         ensures cause { CountsFault result (N.device nvm.old).faults (N.device nvm.new).faults }
     {
@@ -293,12 +284,8 @@ impl Engine {
         requires way { control.old.under_way ≡ true }
         requires done { IsDone control.old }
         requires up { (N.device nvm.old).down ≡ false }
-        ensures answer { IfOk result (λ done. done.step ≡ answer self.now.epoch ConfirmItem) }
-        ensures next { IfOk result (λ done. done.next ≡ next_after self.now.p ConfirmItem) }
-        ensures control { OnOk result (control.new ≡ state_after ConfirmItem control.old (N.device nvm.old)) }
-        ensures device { OnOk result (N.device nvm.new ≡ device_after self.now ConfirmItem control.old (N.device nvm.old)) }
-        ensures kept { OnErr result (control.new ≡ control.old) }
-        ensures err { OnErr result (FailsItem self.now ConfirmItem control.old (N.device nvm.old) (N.device nvm.new)) }
+        ensures taken { IfOk result (λ done. IsTaken ConfirmItem self.now control.old (N.device nvm.old) done control.new (N.device nvm.new)) }
+        ensures failed { OnErr result (IsNotTaken ConfirmItem self.now control.old (N.device nvm.old) control.new (N.device nvm.new)) }
         ensures frame { IsFramed (N.device nvm.old) (N.device nvm.new) }
         ensures cause { CountsFault result (N.device nvm.old).faults (N.device nvm.new).faults }
     {
