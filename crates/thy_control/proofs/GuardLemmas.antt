@@ -13,7 +13,7 @@ use Rattle.thy_base.specs.Places.{in_dram, number_of, first_home, IsPlace}
 use Rattle.thy_base.proofs.DeviceLemmas.{no_more-written_to_other}
 use Rattle.thy_dram.specs.Contents.{written}
 use Rattle.thy_place.specs.Devices.{Devices, NoMoreAt, devices_of}
-use Rattle.thy_place.proofs.PlaceLemmas.{no_more-written_other, no_more-failed_other}
+use Rattle.thy_place.proofs.PlaceLemmas.{numbers_apart, no_more-written_other, no_more-failed_other}
 use Rattle.thy_table.specs.Listing.{free_count}
 use Rattle.thy_tables.specs.declared.block_entry.BttEntry.{BttEntry}
 use Rattle.thy_tables.specs.declared.block_entry.Version.{Version}
@@ -27,7 +27,7 @@ use Rattle.thy_cell.specs.Cells.{Seat, seat_of, placed, penult, target}
 use Rattle.thy_cell.specs.Rules.{store_rule, store_place}
 use Rattle.thy_cell.specs.Store.{StoreGoesElsewhere, StoreLeavesTarget, put_by}
 use Rattle.thy_control.specs.State.{State, AreSoundTables, cell_of, reads}
-use Rattle.thy_control.specs.Rules.{with_block, rule_for, cell_before, devices_after, IsWholeState, FailsStore}
+use Rattle.thy_control.specs.Rules.{with_block, rule_for, cell_before, devices_after, IsWholeState, StoresFree, FailsStore}
 use Rattle.thy_control.specs.Guarded.{IsPlaced, LeavesGuarded}
 use Rattle.thy_control.proofs.CellLemmas.{IsPlace-penult, IsPlace-target, IsPlace-store, IsWithin-cell_of}
 use Rattle.thy_control.proofs.StateLemmas.{IsListed, IsListed-with_block, cell-with_block_other, entry-with_block, sound-with_block, rule-with_block}
@@ -86,43 +86,75 @@ module _ (b : ℕ) (block : Block) (s : State) (m n : Device) where
   at_other (inr f) q there is side ne =
       no_more-failed_other s.p m n (store_place (rule_for b s) (cell_before b s)) q (put_by (rule_for b s) block (reads s m) (cell_before b s)) there is f.in_nvm side ne f.failed
 
-pub LeavesGuarded-after : StoreGoesElsewhere → StoreLeavesTarget → (b : ℕ) (block : Block) (s : State) (m n : Device) → AreSoundTables s → IsWholeState s → b < memory_blocks s.p → 0 < free_count s.btt
-    → Outcome b block s m n → LeavesGuarded s m n
-unfolding cell_before
-LeavesGuarded-after elsewhere leaves b block s m n t whole inside room outcome =
-    let r : StoreRule = rule_for b s in
-    let u : State = with_block r b s in
-    let c : Cell = cell_of u b in
-    let place : Place = store_place r c in
-    let listed : IsListed r b u = IsListed-with_block r b s refl (has_free s.btt room) in
-    let there : IsPlace s.p place = IsPlace-store s.p r c (IsWithin-before s b t inside) in
-    let same_rule : store_rule c ≡ r = rule-with_block r b s in
-    let sound = sound-with_block r b s b (t.cells b inside) in
-    let owns : owner u place ≡ Some b = owned-store r u b listed in
-    let free = elsewhere s.under_way c sound (whole.whole b inside) in
-    let not_penult : penult c ≢ place = subst (λ (q : StoreRule). penult c ≢ store_place q c) same_rule free.not_penult in
-    let start0 : penult c ≡ penult (cell_of s b) = same_start penult r b s (λ k h. penult-new (cell_of s b) k b h) in
-    let start1 : target c ≡ target (cell_of s b) = same_start target r b s (λ k h. target-new (cell_of s b) k b h) in
-    let entry : c.entry ≡ (cell_of s b).entry = entry-with_block r b s b in
-    record {
-      low = low_of b block s m n outcome;
-      old = λ k l. at_other b block s m n outcome (penult (cell_of s k)) there (IsPlace-penult s.p (cell_of s k) (IsWithin-cell_of s k t l))
-          (placed-in_nvm (cell_of s k).entry.v0 (cell_of s k).page.place (seat_of (cell_of s k)))
-          (elim (cases_eq k b) as (λ _. penult (cell_of s k) ≢ place) [
-            | inl e ↦ λ same. not_penult (start0 ∙ ap (λ (j : ℕ). penult (cell_of s j)) (sym e) ∙ same)
-            | inr ne ↦ λ same. owned-apart u k b (penult (cell_of u k)) place ne (owned-penult u k (cell_of u k) (Owns-cell_of u k)) owns (ap penult (cell-with_block_other r b s k ne) ∙ same)
-          ]);
-      next = λ k l placed. at_other b block s m n outcome (target (cell_of s k)) there (IsPlace-target s.p (cell_of s k) (IsWithin-cell_of s k t l))
-          (placed-in_nvm (cell_of s k).entry.v1 (cell_of s k).page.target (seat_of (cell_of s k)))
-          (elim (cases_eq k b) as (λ _. target (cell_of s k) ≢ place) [
-            | inl e ↦ λ same.
-                let settled : c.entry.pend ≡ Settled = ap (λ (x : BttEntry). x.pend) entry ∙ (subst (λ (j : ℕ). IsPlaced j (cell_of s j)) e placed).copied in
-                let not_target : target c ≢ place
-                = subst (λ (q : StoreRule). target c ≢ store_place q c) same_rule (leaves s.under_way c sound (whole.whole b inside) (λ f. cc)) in
-                not_target (start1 ∙ ap (λ (j : ℕ). target (cell_of s j)) (sym e) ∙ same)
-            | inr ne ↦ λ same. owned-apart u k b (target (cell_of u k)) place ne (owned-target u k (cell_of u k) (Owns-cell_of u k)) owns (ap target (cell-with_block_other r b s k ne) ∙ same)
-          ]);
-    }
+-- the place of a store is none that a checkpoint has
+record IsApart (s : State) (place : Place) : Type 0 where
+  not_penult : (k : ℕ) → penult (cell_of s k) ≢ place
+  not_target : (k : ℕ) → IsPlaced k (cell_of s k) → target (cell_of s k) ≢ place
+
+module _ (elsewhere : StoreGoesElsewhere) (leaves : StoreLeavesTarget) (b : ℕ) (s : State) (t : AreSoundTables s) (whole : IsWholeState s) (inside : b < memory_blocks s.p) (room : 0 < free_count s.btt) where
+  apart : IsApart s (store_place (rule_for b s) (cell_before b s))
+  unfolding cell_before
+  apart =
+      let r : StoreRule = rule_for b s in
+      let u : State = with_block r b s in
+      let c : Cell = cell_of u b in
+      let place : Place = store_place r c in
+      let listed : IsListed r b u = IsListed-with_block r b s refl (has_free s.btt room) in
+      let same_rule : store_rule c ≡ r = rule-with_block r b s in
+      let sound = sound-with_block r b s b (t.cells b inside) in
+      let owns : owner u place ≡ Some b = owned-store r u b listed in
+      let free = elsewhere s.under_way c sound (whole.whole b inside) in
+      let not_penult : penult c ≢ place = subst (λ (q : StoreRule). penult c ≢ store_place q c) same_rule free.not_penult in
+      let start0 : penult c ≡ penult (cell_of s b) = same_start penult r b s (λ k h. penult-new (cell_of s b) k b h) in
+      let start1 : target c ≡ target (cell_of s b) = same_start target r b s (λ k h. target-new (cell_of s b) k b h) in
+      let entry : c.entry ≡ (cell_of s b).entry = entry-with_block r b s b in
+      record {
+        not_penult = λ k. elim (cases_eq k b) as (λ _. penult (cell_of s k) ≢ place) [
+          | inl e ↦ λ same. not_penult (start0 ∙ ap (λ (j : ℕ). penult (cell_of s j)) (sym e) ∙ same)
+          | inr ne ↦ λ same. owned-apart u k b (penult (cell_of u k)) place ne (owned-penult u k (cell_of u k) (Owns-cell_of u k)) owns (ap penult (cell-with_block_other r b s k ne) ∙ same)
+        ];
+        not_target = λ k placed. elim (cases_eq k b) as (λ _. target (cell_of s k) ≢ place) [
+          | inl e ↦ λ same.
+              let settled : c.entry.pend ≡ Settled = ap (λ (x : BttEntry). x.pend) entry ∙ (subst (λ (j : ℕ). IsPlaced j (cell_of s j)) e placed).copied in
+              let not_target : target c ≢ place
+              = subst (λ (q : StoreRule). target c ≢ store_place q c) same_rule (leaves s.under_way c sound (whole.whole b inside) (λ f. cc)) in
+              not_target (start1 ∙ ap (λ (j : ℕ). target (cell_of s j)) (sym e) ∙ same)
+          | inr ne ↦ λ same. owned-apart u k b (target (cell_of u k)) place ne (owned-target u k (cell_of u k) (Owns-cell_of u k)) owns (ap target (cell-with_block_other r b s k ne) ∙ same)
+        ];
+      }
+
+  -- it is a place
+  there : IsPlace s.p (store_place (rule_for b s) (cell_before b s))
+  there = IsPlace-store s.p (rule_for b s) (cell_before b s) (IsWithin-before s b t inside)
+
+  -- those of both checkpoints are places of the NVM
+  penult_is : (k : ℕ) → k < memory_blocks s.p → IsPlace s.p (penult (cell_of s k))
+  penult_is k l = IsPlace-penult s.p (cell_of s k) (IsWithin-cell_of s k t l)
+
+  target_is : (k : ℕ) → k < memory_blocks s.p → IsPlace s.p (target (cell_of s k))
+  target_is k l = IsPlace-target s.p (cell_of s k) (IsWithin-cell_of s k t l)
+
+  penult_in : (k : ℕ) → in_dram (penult (cell_of s k)) ≡ false
+  penult_in k = placed-in_nvm (cell_of s k).entry.v0 (cell_of s k).page.place (seat_of (cell_of s k))
+
+  target_in : (k : ℕ) → in_dram (target (cell_of s k)) ≡ false
+  target_in k = placed-in_nvm (cell_of s k).entry.v1 (cell_of s k).page.target (seat_of (cell_of s k))
+
+  pub StoresFree-store : StoresFree b s
+  StoresFree-store side =
+      let place : Place = store_place (rule_for b s) (cell_before b s) in
+      record {
+        low = behind_slots s.p place side;
+        old = λ k l. numbers_apart s.p place (penult (cell_of s k)) there (penult_is k l) (side ∙ sym (penult_in k)) (apart.not_penult k);
+        next = λ k l placed. numbers_apart s.p place (target (cell_of s k)) there (target_is k l) (side ∙ sym (target_in k)) (apart.not_target k placed);
+      }
+
+  pub LeavesGuarded-after : (block : Block) (m n : Device) → Outcome b block s m n → LeavesGuarded s m n
+  LeavesGuarded-after block m n outcome = record {
+    low = low_of b block s m n outcome;
+    old = λ k l. at_other b block s m n outcome (penult (cell_of s k)) there (penult_is k l) (penult_in k) (apart.not_penult k);
+    next = λ k l placed. at_other b block s m n outcome (target (cell_of s k)) there (target_is k l) (target_in k) (apart.not_target k placed);
+  }
 
 -- whichever way a call ended
 pub guarded_by : (b : ℕ) (block : Block) (s : State) (m n : Device) (r : Result Stored NvmError)

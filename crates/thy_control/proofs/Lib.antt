@@ -39,3 +39,4 @@ pub mod DrainLemmas
 pub mod LeftLemmas
 pub mod CommittedLemmas
 pub mod PlacedLemmas
+pub mod CheckpointWorkLemmas

@@ -22,23 +22,23 @@ use Rattle.thy_tables.specs.PageEntry.{no_page, is_framed}
 use Rattle.thy_cell.specs.declared.cell.StoreRule.{StoreRule}
 use Rattle.thy_cell.specs.declared.cell.StoreRule.TheVariants.{ToFrame, ToBuffer, ToNvm, PendingFirst}
 use Rattle.thy_cell.specs.Sound.{IsWhole}
-use Rattle.thy_cell.specs.Cells.{agree}
 use Rattle.thy_cell.specs.Rules.{store_place, after_store}
 use Rattle.thy_cell.specs.Store.{put_by}
 use Rattle.thy_control.specs.Keys.{page_key}
 use Rattle.thy_control.specs.Tables.{btt_with, btt_after, answer_of}
 use Rattle.thy_control.specs.State.{State, AreSoundTables, IsSized, cell_of, work_of, reads}
-use Rattle.thy_control.specs.Rules.{with_block, rule_for, cell_before, devices_after, state_after, IsWholeState, FailsStore}
+use Rattle.thy_control.specs.Rules.{with_block, rule_for, cell_before, devices_after, state_after, IsWholeState, StoresFree, FailsStore}
 use Rattle.thy_control.specs.Versions.{PutsWork}
 use Rattle.thy_control.specs.Stays.{Stays}
 use Rattle.thy_control.specs.Holding.{works, is_promoted, waiting, promoted, holding_of}
-use Rattle.thy_control.specs.Once.{Once, Writes}
+use Rattle.thy_control.specs.Once.{Once, Writes, KeepsCheckpointWork}
 use Rattle.thy_control.proofs.HoldingLemmas.{not-of, works-sized}
 use Rattle.thy_control.proofs.FindLemmas.{found_entry, entry_for-none, entry_for-some}
 use Rattle.thy_control.proofs.CellLemmas.{IsPlace-store}
 use Rattle.thy_control.proofs.StateLemmas.{IsListed, IsListed-with_block}
 use Rattle.thy_control.proofs.PutLemmas.{has_free, IsWithin-before}
-use Rattle.thy_control.proofs.CountLemmas.{free-with, free-cell, waiting-with, waiting-cell, waiting-copied, promoted-cell, rule_of-first, none-counted}
+use Rattle.thy_control.proofs.CountLemmas.{free-with, free-cell, waiting-with, waiting-cell, waiting-copied, promoted-cell, none-counted}
+use Rattle.thy_control.proofs.CheckpointWorkLemmas.{first_waits, work_same, work-with, work-stored}
 
 -- what is ready has no promotion unfinished, and the NVM is up
 unpromoted : (framed fresh : Bool) → (not framed && fresh) ≡ false → framed ≡ false → fresh ≡ false
@@ -117,12 +117,6 @@ copied_less ToFrame b s e l was = cc
 copied_less ToBuffer b s e l was = cc
 copied_less ToNvm b s e l was = cc
 
-first_waits : (b : ℕ) (s : State) → rule_for b s ≡ PendingFirst → (cell_of s b).entry.pend ≡ FromBuffer
-unfolding rule_for
-first_waits b s e =
-    let c = cell_of s b in
-    rule_of-first (is_framed c.page) c.page.busy c.entry.work (agree c.entry.v0 c.entry.v1) c.entry.pend e
-
 down-on : (side : Bool) (at : ℕ) (block : Block) (d : Devices)
     → (if side then record d { dram = written d.dram at block } else record d { nvm = written_to d.nvm at block }).nvm.down ≡ d.nvm.down
 down-on true at block d = refl
@@ -192,44 +186,58 @@ dram-after : (b : ℕ) (block : Block) (s : State) (m : Device) → (state_after
 unfolding state_after
 dram-after b block s m = refl
 
-Writes-after : (b : ℕ) (block : Block) (s : State) (m : Device) → AreSoundTables s → b < memory_blocks s.p
-    → Writes s.p (devices_of m s.dram) (devices_after b block s m)
+Writes-after : (b : ℕ) (block : Block) (s : State) (m : Device) → AreSoundTables s → b < memory_blocks s.p → StoresFree b s
+    → Writes s (devices_of m s.dram) (devices_after b block s m)
 unfolding devices_after
-Writes-after b block s m t l = record {
+Writes-after b block s m t l free = record {
   place = store_place (rule_for b s) (cell_before b s);
   block = put_by (rule_for b s) block (reads s m) (cell_before b s);
   there = IsPlace-store s.p (rule_for b s) (cell_before b s) (IsWithin-before s b t l);
+  free = free;
   written = refl;
 }
 
 pub once_stored : (b : ℕ) (block : Block) (s : State) (m : Device) (t : State) (n : Device) (r : Result Stored NvmError)
     → OnOk r (t ≡ state_after b block s m) → OnOk r (n ≡ (devices_after b block s m).nvm)
     → OnErr r (t ≡ with_block (rule_for b s) b s) → OnErr r (FailsStore b block s m n)
-    → AreSoundTables s → b < memory_blocks s.p → IsFramed m n → Stays s m t n → Once s m t n
-once_stored b block s m t n (Ok x) e f k g tables l framed stays =
+    → AreSoundTables s → b < memory_blocks s.p → 0 < free_count s.btt → StoresFree b s → IsFramed m n → Stays s m t n → Once s m t n
+once_stored b block s m t n (Ok x) e f k g tables l room free framed stays =
     let both : devices_of n t.dram ≡ devices_after b block s m
     = ap (λ (d : Device). devices_of d t.dram) f
     ∙ ap (λ (y : State). devices_of (devices_after b block s m).nvm y.dram) e
     ∙ ap (devices_of (devices_after b block s m).nvm) (dram-after b block s m) in
     record {
-      action = inr (inl (subst (λ (d : Devices). Writes s.p (devices_of m s.dram) d) (sym both) (Writes-after b block s m tables l)));
+      action = inr (inl (subst (λ (d : Devices). Writes s (devices_of m s.dram) d) (sym both) (Writes-after b block s m tables l free)));
       frame = framed;
       stays = stays;
+      work = λ j h. subst (λ (y : State). KeepsCheckpointWork (cell_of s j) (cell_of y j)) (sym e) (work-stored b block s m room j);
     }
-once_stored b block s m t n (Err x) e f k g tables l framed stays = record {
+once_stored b block s m t n (Err x) e f k g tables l room free framed stays = record {
   action = inr (inr (inr (record {
     place = store_place (rule_for b s) (cell_before b s);
     block = put_by (rule_for b s) block (reads s m) (cell_before b s);
     there = IsPlace-store s.p (rule_for b s) (cell_before b s) (IsWithin-before s b tables l);
     in_nvm = g.in_nvm;
+    free = free g.in_nvm;
     dram = ap (λ (y : State). y.dram) k;
     failed = g.failed;
   })));
   frame = framed;
   stays = stays;
+  work = λ j h. subst (λ (y : State). KeepsCheckpointWork (cell_of s j) (cell_of y j)) (sym k) (work-with (rule_for b s) b s j);
 }
 
 pub once_loaded : (s : State) (m n : Device) (r : Result Block NvmError)
     → OnOk r (n ≡ m) → OnErr r (HasFailed m n) → IsFramed m n → Stays s m s n → Once s m s n
-once_loaded s m n (Ok x) same failed framed stays = record { action = inl (ap (λ (d : Device). devices_of d s.dram) same); frame = framed; stays = stays }
-once_loaded s m n (Err x) same failed framed stays = record { action = inr (inr (inl (record { dram = refl; failed = failed }))); frame = framed; stays = stays }
+once_loaded s m n (Ok x) same failed framed stays = record {
+  action = inl (ap (λ (d : Device). devices_of d s.dram) same);
+  frame = framed;
+  stays = stays;
+  work = λ j h. work_same (cell_of s j);
+}
+once_loaded s m n (Err x) same failed framed stays = record {
+  action = inr (inr (inl (record { dram = refl; failed = failed })));
+  frame = framed;
+  stays = stays;
+  work = λ j h. work_same (cell_of s j);
+}

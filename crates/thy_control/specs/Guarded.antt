@@ -1,5 +1,5 @@
 -- What a cut may leave of both checkpoints stays, whether or not a call failed.
-use Rattle.std.specs.Prelude.{◌≡◌, ℕ, ◌<◌, ◌%◌, true}
+use Rattle.std.specs.Prelude.{◌≡◌, ◌≢◌, ℕ, ◌<◌, ◌≤◌, ◌%◌, true}
 use Rattle.thy_base.specs.Device.{Device}
 use Rattle.thy_base.specs.Geometry.{memory_blocks}
 use Rattle.thy_base.specs.Places.{number_of, first_home}
@@ -23,7 +23,13 @@ pub record LeavesGuarded (s : State) (m n : Device) : Type 0 where
   pub next : (b : ℕ) → b < memory_blocks s.p → IsPlaced b (cell_of s b)
       → NoMoreAt (number_of s.p (target (cell_of s b))) m n
 
--- such are the blocks of which nothing is left, and of a busy page those that were issued
+-- a place of the NVM, by its number, is none of these
+pub record IsFree (s : State) (x : ℕ) : Type 0 where
+  pub low : first_home s.p ≤ x
+  pub old : (b : ℕ) → b < memory_blocks s.p → number_of s.p (penult (cell_of s b)) ≢ x
+  pub next : (b : ℕ) → b < memory_blocks s.p → IsPlaced b (cell_of s b) → number_of s.p (target (cell_of s b)) ≢ x
+
+-- a block is at its place once nothing is left of it, and where its page is busy once it was issued
 abbrev pub CopiedIsPlaced : Type 0
 CopiedIsPlaced = (b : ℕ) (c : Cell) → IsCopied c → IsPlaced b c
 

@@ -111,6 +111,10 @@ stays_on s m t n u o first second =
           };
     }
 
+pub is_placed_on : (s : State) (m : Device) (t : State) (n : Device) (b : ℕ) → Stays s m t n → b < memory_blocks s.p
+    → IsPlaced b (cell_of s b) → IsPlaced b (cell_of t b)
+is_placed_on s m t n b stays l placed = placed_on b (cell_of s b) (cell_of t b) (stays.cells b l) placed
+
 -- with all of the blocks
 pub are_copied_on : (s : State) (m : Device) (t : State) (n : Device) → Stays s m t n → AreCopied s → AreCopied t
 are_copied_on s m t n stays all b l =
@@ -124,3 +128,8 @@ StaysOverCalls =
 
 abbrev pub CopiedStays : Type 0
 CopiedStays = (s : State) (m : Device) (t : State) (n : Device) → Stays s m t n → AreCopied s → AreCopied t
+
+abbrev pub PlacedStays : Type 0
+PlacedStays =
+    (s : State) (m : Device) (t : State) (n : Device) (b : ℕ) → Stays s m t n → b < memory_blocks s.p
+    → IsPlaced b (cell_of s b) → IsPlaced b (cell_of t b)

@@ -11,6 +11,7 @@ use Rattle.thy_cell.specs.declared.cell.StoreRule.{StoreRule}
 use Rattle.thy_cell.specs.Rules.{store_rule, store_place, after_store}
 use Rattle.thy_cell.specs.Sound.{IsWhole}
 use Rattle.thy_cell.specs.Store.{put_by}
+use Rattle.thy_control.specs.Guarded.{IsFree}
 use Rattle.thy_control.specs.Tables.{btt_with, btt_after, ptt_after, counts_after}
 use Rattle.thy_control.specs.State.{State, cell_of, reads}
 
@@ -47,6 +48,12 @@ state_after b block s n =
 -- no promotion is unfinished
 pub record IsWholeState (s : State) : Type 0 where
   pub whole : (b : ℕ) → b < memory_blocks s.p → IsWhole (cell_of s b).page
+
+-- the place that is written, if it is one of the NVM, is none that a checkpoint has
+abbrev pub StoresFree : ℕ → State → Type 0
+StoresFree b s =
+    in_dram (store_place (rule_for b s) (cell_before b s)) ≡ false
+    → IsFree s (number_of s.p (store_place (rule_for b s) (cell_before b s)))
 
 -- the store failed: its place, one of the NVM, may hold what was to be put there, and nothing else
 pub record FailsStore (b : ℕ) (block : Block) (s : State) (old new : Device) : Type 0 where

@@ -183,7 +183,7 @@ impl Control {
     ghost use Rattle.thy_control.specs.Seal.{is_few, sealed_state, IsBareState, Seals};
     ghost use Rattle.thy_control.specs.Commit.{committed_state, Commits, CommitsTables, CommitsTargets};
     ghost use Rattle.thy_control.specs.Stays.{AreCopied};
-    ghost use Rattle.thy_control.specs.Rules.{with_block, rule_for, devices_after, state_after, IsWholeState, FailsStore};
+    ghost use Rattle.thy_control.specs.Rules.{with_block, rule_for, devices_after, state_after, IsWholeState, StoresFree, FailsStore};
     ghost use Rattle.thy_control.specs.State.{AreSoundTables, IsSized, cell_of, penult_of, work_of, reads, new_state};
     ghost use Rattle.thy_control.specs.Stays.{HoldAll, Stays};
     ghost use Rattle.thy_control.specs.Versions.{KeepsCheckpoints, KeepsCommitted, PutsWork};
@@ -318,6 +318,9 @@ impl Control {
         // So it is by these tables and this one write.
         ensures state { OnOk result (self.new ≡ state_after b block.now self.old (N.device nvm.old)) }
         ensures nvm { OnOk result (N.device nvm.new ≡ (devices_after b block.now self.old (N.device nvm.old)).nvm) }
+
+        // The place that is written is none that a checkpoint has.
+        ensures free { StoresFree b self.old }
 
         // The frames and targets hold what they have to, if they did.
         ensures holds { OnOk result (HoldAll self.old (N.device nvm.old) → HoldAll self.new (N.device nvm.new)) }

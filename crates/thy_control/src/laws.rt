@@ -5,17 +5,18 @@ ghost use Rattle.thy_control.specs.Boot.{NewIsBooting, DrainKeepsBooting, BootHa
 ghost use Rattle.thy_control.specs.Frees.{SealFrees};
 ghost use Rattle.thy_control.specs.Holding.{BlocksAreWorks, MemoryIsHeld, NewIsReady};
 ghost use Rattle.thy_control.specs.Once.{OneActionIsOneOfNvm};
-ghost use Rattle.thy_control.specs.OverCalls.{StaysOverCalls, CopiedStays};
+ghost use Rattle.thy_control.specs.OverCalls.{StaysOverCalls, CopiedStays, PlacedStays};
 ghost use Rattle.thy_control.specs.CheckpointTables.{CommittedTables, TablesUnderWay};
 ghost use Rattle.thy_control.specs.Guarded.{CopiedIsPlaced, IssuedIsPlaced};
 ghost use Rattle.thy_control.specs.Left.{NoneLeftIsCopied, CopiedHasNoneLeft};
 ghost use Rattle.thy_control.specs.Drains.{LandingIsUnseen, NvmDrainIsUnseen, BarrierIsUnseen, DrainIsUnseen, DrainTakesOne};
 
 /// What stays does so where nothing happens, and over two calls one after the other. Where all blocks of the checkpoint
-/// under way are copied and written, they stay so.
+/// under way are copied and written, they stay so, and each block that it has at its place already stays there.
 pub fn what_stays_does_so_over_calls()
     ensures calls { StaysOverCalls }
     ensures copied { CopiedStays }
+    ensures placed { PlacedStays }
 {}
 
 /// The tables of either checkpoint, as the controller's tables tell them, are those that a checkpoint may have, and
@@ -38,8 +39,8 @@ pub fn a_new_controller_is_ready()
     ensures { NewIsReady }
 {}
 
-/// What a call does once at both devices is one action of the NVM at most: nothing, one write behind both slots, or a
-/// read or such a write that failed. Where the NVM is up afterwards it did not fail, and both devices together
+/// What a call does once at both devices is one action of the NVM at most: nothing, one write behind both slots at a place
+/// that no checkpoint has, or a read or such a write that failed. Where the NVM is up afterwards it did not fail, and both devices together
 /// have one write more queued at most.
 pub fn one_action_is_one_of_the_nvm()
     ensures { OneActionIsOneOfNvm }
