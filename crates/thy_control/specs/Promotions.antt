@@ -1,7 +1,8 @@
 -- The pages that are being promoted, and what the copy of the next block into its frame makes of the controller.
-use Rattle.std.specs.Prelude.{ℕ, ◌-◌, if◌then◌else◌, Option, Some, None}
+use Rattle.std.specs.Prelude.{◌≡◌, ℕ, false, ◌-◌, if◌then◌else◌, Option, Some, None}
 use Rattle.std.specs.List.{sum_by}
 use Rattle.thy_base.specs.Device.{Device}
+use Rattle.thy_base.specs.Places.{in_dram}
 use Rattle.thy_place.specs.Devices.{Devices, devices_of}
 use Rattle.thy_table.specs.Listing.{entry_at, with_entry, next_from}
 use Rattle.thy_tables.specs.declared.page_entry.PttEntry.{PttEntry}
@@ -45,6 +46,11 @@ block_filled b s m = record s {
 abbrev pub after_promotion : Option ℕ → State → Device → State
 after_promotion None s m = s
 after_promotion (Some j) s m = block_filled (block_to_fill j s) s m
+
+-- that block is read from the NVM
+abbrev pub ReadsNvm : Option ℕ → State → Type 0
+ReadsNvm None s = ⊥
+ReadsNvm (Some j) s = in_dram (work (cell_of s (block_to_fill j s))) ≡ false
 
 -- the places hold what they have to, and a load of every block gives what it gave
 pub record HoldsWork (s : State) (m : Device) (t : State) (n : Device) : Type 0 where

@@ -2,12 +2,13 @@
 ghost use Rattle.std.specs.Prelude.{◌≡◌, ◌≢◌, true, nat_lt, None, ◌<◌, ◌≤◌, ◌*◌, false, length, IfOk, OnOk, OnErr};
 ghost use Rattle.thy_base.specs.Device.{HasFailed, IsFramed, CountsFault, block_at};
 ghost use Rattle.thy_base.specs.Geometry.{memory_blocks};
-ghost use Rattle.thy_base.specs.Places.{dram_blocks, number_of, IsPlace};
+ghost use Rattle.thy_base.specs.Places.{dram_blocks, in_dram, number_of, IsPlace};
 ghost use Rattle.thy_table.specs.Listing.{free_count, lists, entry_at, place_of};
 ghost use Rattle.thy_tables.specs.BlockEntry.{new_entry};
 ghost use Rattle.thy_tables.specs.PageEntry.{no_page};
 ghost use Rattle.thy_control.specs.Find.{index_for, entry_for, with_entry_for};
 ghost use Rattle.thy_control.specs.Keys.{block_key, page_key};
+ghost use Rattle.thy_cell.specs.Cells.{work as work_place};
 ghost use Rattle.thy_cell.specs.Store.{put_by};
 ghost use Rattle.thy_control.specs.Tables.{btt_with, btt_after, ptt_after, counts_after, answer_of};
 
@@ -262,6 +263,7 @@ impl Control {
         ensures ok { IfOk result (λ block. block ≡ reads self.now (N.device nvm.old) place) }
         ensures same { OnOk result (N.device nvm.new ≡ N.device nvm.old) }
         ensures err { OnErr result (HasFailed (N.device nvm.old) (N.device nvm.new)) }
+        ensures side { OnErr result (in_dram place ≡ false) }
         ensures frame { IsFramed (N.device nvm.old) (N.device nvm.new) }
         ensures cause { CountsFault result (N.device nvm.old).faults (N.device nvm.new).faults }
     {
@@ -284,7 +286,7 @@ impl Control {
         self.read(cell.penult(), nvm)
     }
 
-    /// Block `b` as it was stored last.
+    /// Block `b` as it was stored last. It fails only where that stands in the NVM.
     pub fn load<N: Nvm>(&self, b: u64, nvm: &mut N) -> Result<Block, NvmError>
         requires block { b < memory_blocks self.now.p }
         requires sized { IsSized self.now (N.device nvm.old) }
@@ -292,6 +294,7 @@ impl Control {
         ensures same { OnOk result (N.device nvm.new ≡ N.device nvm.old) }
         ensures stays { Stays self.now (N.device nvm.old) self.now (N.device nvm.new) }
         ensures err { OnErr result (HasFailed (N.device nvm.old) (N.device nvm.new)) }
+        ensures side { OnErr result (in_dram (work_place (cell_of self.now b)) ≡ false) }
         ensures frame { IsFramed (N.device nvm.old) (N.device nvm.new) }
         ensures cause { CountsFault result (N.device nvm.old).faults (N.device nvm.new).faults }
     {

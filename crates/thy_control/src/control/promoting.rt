@@ -2,6 +2,8 @@
 ghost use Rattle.std.specs.Prelude.{◌≡◌, ◌+◌, ◌<◌, ◌*◌, ◌^◌, ◌%◌, true, false, if◌then◌else◌, length, is_some, IfOk, IfSome, OnOk, OnErr};
 ghost use Rattle.thy_base.specs.Device.{HasFailed, IsFramed, CountsFault};
 ghost use Rattle.thy_base.specs.Geometry.{memory_blocks};
+ghost use Rattle.thy_base.specs.Places.{in_dram};
+ghost use Rattle.thy_cell.specs.Cells.{work as work_place};
 ghost use Rattle.thy_tables.specs.PageEntry.{is_framed as IsFramedPage};
 ghost use Rattle.thy_control.specs.Pages.{page_in, block_after};
 
@@ -58,12 +60,13 @@ fn marks_after(marks: Marks, page: &PttEntry) -> Marks
 impl Control {
     ghost use Rattle.thy_control.specs.State.{IsSized, cell_of};
     ghost use Rattle.thy_control.specs.Holding.{promoted};
-    ghost use Rattle.thy_control.specs.Stays.{HoldAll, Stays};
+    ghost use Rattle.thy_control.specs.Stays.{WhereHeld, Stays};
     ghost use Rattle.thy_control.specs.Versions.{KeepsCheckpoints};
-    ghost use Rattle.thy_control.specs.Promotions.{next_promotion, block_to_fill as block_filled_next, unfilled, HoldsWork, block_filled, devices_filled, after_promotion};
+    ghost use Rattle.thy_control.specs.Promotions.{next_promotion, block_to_fill as block_filled_next, unfilled, HoldsWork, block_filled, devices_filled, after_promotion, ReadsNvm};
 
     /// Copies the next block of the lowest page in promotion, as a load gives it, into its frame; with the last block the page
-    /// is framed. Some page must be in promotion. Only the DRAM is written; where the NVM failed, nothing is.
+    /// is framed. Some page must be in promotion. Only the DRAM is written. It fails only where the block is read from the
+    /// NVM; then nothing is written.
     pub fn promote_one<N: Nvm>(&mut self, nvm: &mut N) -> Result<(), NvmError>
         requires sized { IsSized self.old (N.device nvm.old) }
         requires promoting { 0 < promoted self.old.ptt }
@@ -74,7 +77,7 @@ impl Control {
         // Both checkpoints have every block as before. Where the frames and targets held what they have to, they do so still,
         // and so a load of every block gives what it gave.
         ensures keeps { OnOk result (KeepsCheckpoints self.old (N.device nvm.old) self.new (N.device nvm.new)) }
-        ensures held { OnOk result (HoldAll self.old (N.device nvm.old) → HoldsWork self.old (N.device nvm.old) self.new (N.device nvm.new)) }
+        ensures held { OnOk result (WhereHeld HoldsWork self.old (N.device nvm.old) self.new (N.device nvm.new)) }
         ensures state { OnOk result (self.new ≡ after_promotion (next_promotion self.old) self.old (N.device nvm.old)) }
         ensures same { OnOk result (N.device nvm.new ≡ N.device nvm.old) }
 
@@ -82,6 +85,7 @@ impl Control {
         ensures stays { Stays self.old (N.device nvm.old) self.new (N.device nvm.new) }
         ensures kept { OnErr result (self.new ≡ self.old) }
         ensures err { OnErr result (HasFailed (N.device nvm.old) (N.device nvm.new)) }
+        ensures side { OnErr result (ReadsNvm (next_promotion self.old) self.old) }
         ensures frame { IsFramed (N.device nvm.old) (N.device nvm.new) }
         ensures cause { CountsFault result (N.device nvm.old).faults (N.device nvm.new).faults }
     {
@@ -120,6 +124,7 @@ impl Control {
         ensures same { OnOk result (N.device nvm.new ≡ N.device nvm.old) }
         ensures kept { OnErr result (self.new ≡ self.old) }
         ensures err { OnErr result (HasFailed (N.device nvm.old) (N.device nvm.new)) }
+        ensures side { OnErr result (ReadsNvm (next_promotion self.old) self.old) }
         ensures frame { IsFramed (N.device nvm.old) (N.device nvm.new) }
         ensures cause { CountsFault result (N.device nvm.old).faults (N.device nvm.new).faults }
     {
@@ -144,6 +149,7 @@ impl Control {
         ensures same { OnOk result (N.device nvm.new ≡ N.device nvm.old) }
         ensures kept { OnErr result (self.new ≡ self.old) }
         ensures err { OnErr result (HasFailed (N.device nvm.old) (N.device nvm.new)) }
+        ensures side { OnErr result (in_dram (work_place (cell_of self.old b)) ≡ false) }
         ensures frame { IsFramed (N.device nvm.old) (N.device nvm.new) }
         ensures cause { CountsFault result (N.device nvm.old).faults (N.device nvm.new).faults }
     {

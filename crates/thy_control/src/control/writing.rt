@@ -40,7 +40,7 @@ fn block_to_write(entry: Option<PttEntry>) -> u64
 impl Control {
     ghost use Rattle.thy_control.specs.State.{IsSized, cell_of};
     ghost use Rattle.thy_control.specs.Moves.{IsOneLess};
-    ghost use Rattle.thy_control.specs.Stays.{HoldAll, StaysHeld, Stays};
+    ghost use Rattle.thy_control.specs.Stays.{StaysHeld, WhereHeld, Stays};
     ghost use Rattle.thy_control.specs.Versions.{KeepsCommitted, KeepsWork};
     ghost use Rattle.thy_control.specs.Pages.{next_page, block_to_write as block_written_next, writes_left, issued, devices_issued, devices_after_write, after_next_write, FailsWriteOf, FailsNextWrite};
 
@@ -57,7 +57,7 @@ impl Control {
         // have to, they do so still, and so the checkpoint under way has every block as before.
         ensures committed { OnOk result (KeepsCommitted self.old (N.device nvm.old) self.new (N.device nvm.new)) }
         ensures work { OnOk result (KeepsWork self.old (N.device nvm.old) self.new (N.device nvm.new)) }
-        ensures held { OnOk result (HoldAll self.old (N.device nvm.old) → StaysHeld self.old (N.device nvm.old) self.new (N.device nvm.new)) }
+        ensures held { OnOk result (WhereHeld StaysHeld self.old (N.device nvm.old) self.new (N.device nvm.new)) }
 
         // So it is by this table and this one write.
         ensures state { OnOk result (self.new ≡ after_next_write (next_page self.old) self.old (N.device nvm.old)) }
