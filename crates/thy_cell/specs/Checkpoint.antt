@@ -76,7 +76,7 @@ committed_entry e = committed_by e.v1 e.work e
 
 abbrev pub page_committed_by : Bool → PttEntry → Option PttEntry
 page_committed_by true page = None
-page_committed_by false page = Some (record page { place = page.target; busy = false; issued = 0 })
+page_committed_by false page = Some (record page { place = page.target; issued = 0 })
 
 abbrev pub committed_page : PttEntry → Option PttEntry
 committed_page page = page_committed_by page.leaving page

@@ -106,7 +106,6 @@ pub fn committed_page(page: &PttEntry) -> Option<PttEntry>
     }
     Some(PttEntry {
         place: page.target,
-        busy: false,
         issued: 0,
         ..*page
     })

@@ -64,7 +64,7 @@ live-mapped rule keeps t live j f h = by_entry (entry_at t j) refl (sym (entry_a
 committed_by-live : (leaving : Bool) (e f : PttEntry) → page_committed_by leaving e ≡ Some f → (is_framed e ≡ false → e.fresh ≡ true) → is_framed f ≡ false → f.fresh ≡ true
 committed_by-live true e f h live = cc
 committed_by-live false e f h live =
-    let same : record e { place = e.target; busy = false; issued = 0 } ≡ f = cc in
+    let same : record e { place = e.target; issued = 0 } ≡ f = cc in
     subst (λ (x : PttEntry). is_framed x ≡ false → x.fresh ≡ true) same live
 
 -- what a commit asks for

@@ -27,7 +27,7 @@ committed_by-page : (leaving : Bool) (e f : PttEntry) → page_committed_by leav
     → page_key f ≡ page_key e
 committed_by-page true e f h = cc
 committed_by-page false e f h =
-    let same : record e { place = e.target; busy = false; issued = 0 } ≡ f = cc in sym (ap page_key same)
+    let same : record e { place = e.target; issued = 0 } ≡ f = cc in sym (ap page_key same)
 
 pub committed_page-page : (e f : PttEntry) → committed_page e ≡ Some f → page_key f ≡ page_key e
 committed_page-page e f h = committed_by-page e.leaving e f h
