@@ -1,3 +1,4 @@
+pub mod OrderLemmas
 pub mod WaysLemmas
 pub mod LineLemmas
 pub mod AgreeLemmas
@@ -8,3 +9,4 @@ pub mod WriteLaws
 pub mod StoreLaws
 pub mod FlushLaws
 pub mod SizeLaws
+pub mod PlaceLaws

@@ -1,12 +1,13 @@
 -- The parts of a set after each change.
-use Rattle.std.proofs.Common.{◌≡◌, ℕ, suc, ◌+◌, ◌<◌, List, [], ◌∷◌, ◌++◌, length, slice_set, Option, None, All, sym, ◌∙◌, ap, arith}
-use Rattle.std.specs.List.{remove, range_with_len}
+use Rattle.std.proofs.Common.{◌≡◌, ℕ, suc, ◌+◌, ◌<◌, ◌==◌, List, [], ◌∷◌, ◌++◌, length, slice_set, Option, Some, None, All, sym, ◌∙◌, ap, arith}
+use Rattle.std.specs.List.{remove, position, range_with_len}
 use Rattle.std.proofs.lemmas.List.{map-id, length-set, length-replicate, length_push}
 use Rattle.std.proofs.lemmas.List.Edits.{length-remove}
 use Rattle.std.proofs.lemmas.List.FromFn.{map-range_with_len_more, length-range_with_len, get_or-range_with_len}
 use Rattle.std.proofs.lemmas.List.Elements.{All-append, All-take, All-drop, All-push, All-from_get_or}
 use Rattle.thy_cache.specs.declared.line.Line.{Line}
 use Rattle.thy_cache.specs.Ways.{IsSound, empty_ways}
+use Rattle.thy_cache.proofs.OrderLemmas.{found_way, StandOnce-moved, StandOnce-range}
 
 -- one number more
 pub range_with_len_more : (n : ℕ) → range_with_len 0 (n + 1) ≡ range_with_len 0 n ++ n ∷ []
@@ -28,18 +29,21 @@ IsSound-empty n lines order some e f =
       some_way = omega (arith, many, some);
       all_ordered = ap length f ∙ length-range_with_len 0 n ∙ sym many;
       ordered = rw (many, f) (range_below n);
+      once = rw f (StandOnce-range n);
     }
 
 -- and stay so after a use
-pub IsSound-used : (lines : List (Option Line)) (order moved : List ℕ) (at way : ℕ) → IsSound lines order → at < length order → way < length lines
+pub IsSound-used : (lines : List (Option Line)) (order moved : List ℕ) (at way : ℕ) → IsSound lines order → position (λ v. v == way) order ≡ Some at → way < length lines
     → moved ≡ remove order at ++ way ∷ [] → IsSound lines moved
-IsSound-used lines order moved at way sound inside here e =
+IsSound-used lines order moved at way sound found here e =
+    let there = found_way order way at found in
     let Below : ℕ → Type 0 = λ w. w < length lines in
     let left : All Below (remove order at) = All-append Below _ _ (All-take Below at order sound.ordered) (All-drop Below (suc at) order sound.ordered) in
     record {
       some_way = sound.some_way;
-      all_ordered = ap length e ∙ length_push (remove order at) way ∙ length-remove order at inside ∙ sound.all_ordered;
+      all_ordered = ap length e ∙ length_push (remove order at) way ∙ length-remove order at there.0 ∙ sound.all_ordered;
       ordered = rw e (All-push Below (remove order at) way left here);
+      once = rw e (StandOnce-moved order at way sound.once there.0 there.1);
     }
 
 -- and after a line was put in
@@ -50,4 +54,5 @@ IsSound-with_line lines order way line sound =
       some_way = omega (arith, same, sound.some_way);
       all_ordered = sound.all_ordered ∙ sym same;
       ordered = rw same sound.ordered;
+      once = sound.once;
     }

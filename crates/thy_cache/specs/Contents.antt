@@ -6,11 +6,12 @@ use Rattle.thy_base.specs.declared.store.Stored.{Stored}
 use Rattle.thy_base.specs.declared.store.Stored.TheVariants.{Done, CopyFirst}
 use Rattle.thy_base.specs.Store.{Holding, HasStored, page_of}
 use Rattle.thy_cache.specs.declared.line.Line.{Line}
+use Rattle.thy_cache.specs.declared.line.Place.{Place}
 use Rattle.thy_cache.specs.declared.line.Victim.{Victim}
 use Rattle.thy_cache.specs.declared.line.Victim.TheVariants.{Room, Dirty}
 use Rattle.thy_cache.specs.declared.line.Flushed.{Flushed}
 use Rattle.thy_cache.specs.declared.line.Flushed.TheVariants.{Clean, Line as StoredLine, CopyFirst as CopiedFirst}
-use Rattle.thy_cache.specs.Ways.{Ways, empty_ways, line_at, line_in, is_dirty, dirty_lines, has_dirty, victim_way, victim_line, over_line, clean, used_for, written_to, filled}
+use Rattle.thy_cache.specs.Ways.{Ways, empty_ways, line_at, line_in, way_of, is_dirty, dirty_lines, has_dirty, victim_way, victim_line, over_line, clean, used_for, written_to, filled}
 
 pub record Contents : Type 0 where
   pub sets : List Ways
@@ -45,6 +46,10 @@ set_of c b = set_at c (index_of c b)
 -- a block's line
 abbrev pub line_of : Contents → ℕ → Option Line
 line_of c b = line_in (set_of c b) b
+
+-- where a block's line is, where it has one
+abbrev pub place_of : Contents → ℕ → Option Place
+place_of c b = option_map (λ way. record { set = index_of c b; way = way }) (way_of (set_of c b) b)
 
 -- what a block's line holds, where it has one
 abbrev pub peeked : Contents → ℕ → Option Block

@@ -1,12 +1,12 @@
 -- A cache over a store, read as one flat list of blocks.
-use Rattle.std.specs.Prelude.{◌≡◌, ℕ, ◌<◌, ◌%◌, List, length, map, false, Some, unwrap_or}
+use Rattle.std.specs.Prelude.{◌≡◌, ℕ, ◌+◌, ◌<◌, ◌%◌, if◌then◌else◌, List, length, map, false, Some, unwrap_or}
 use Rattle.std.specs.List.{range_with_len}
 use Rattle.thy_base.specs.declared.block.Block.{Block}
 use Rattle.thy_base.specs.Blocks.{block_written}
 use Rattle.thy_base.specs.Device.{block_at}
 use Rattle.thy_cache.specs.declared.line.Line.{Line}
-use Rattle.thy_cache.specs.Ways.{Ways, line_at}
-use Rattle.thy_cache.specs.Contents.{Contents, set_at, peeked, hits}
+use Rattle.thy_cache.specs.Ways.{Ways, line_at, is_dirty}
+use Rattle.thy_cache.specs.Contents.{Contents, set_at, line_of, peeked, hits, dirty_count, KeepsSize}
 
 -- a block: its line where it hits, else the store's block
 abbrev pub flat_at : Contents → List Block → ℕ → Block
@@ -56,6 +56,23 @@ WritesOver b at bytes old new = (blocks : List Block) → b < length blocks
 -- every store that agreed does so still
 abbrev pub AgreesStill : Contents → Contents → Type 0
 AgreesStill old new = (blocks : List Block) → Agrees old blocks → Agrees new blocks
+
+-- no line has changed
+pub record KeepsLines (old new : Contents) : Type 0 where
+  pub peeks : PeeksSame old new
+  pub hits : HitsSame old new
+  pub flat : ReadsSame old new
+  pub agree : AgreesStill old new
+  pub dirty : dirty_count new ≡ dirty_count old
+  pub sized : KeepsSize old new
+
+-- these bytes of a block have changed and nothing else, and its line is dirty
+pub record IsWritten (b at : ℕ) (bytes : List ℕ) (old new : Contents) : Type 0 where
+  pub flat : WritesOver b at bytes old new
+  pub hits : HitsSame old new
+  pub agree : AgreesStill old new
+  pub dirty : dirty_count new + (if is_dirty (line_of old b) then 1 else 0) ≡ dirty_count old + 1
+  pub sized : KeepsSize old new
 
 -- every store agrees
 abbrev pub AgreesWithAll : Contents → Type 0

@@ -18,11 +18,16 @@ pub record Ways : Type 0 where
 abbrev pub empty_ways : ℕ → Ways
 empty_ways n = record { lines = replicate n None; order = range_with_len 0 n }
 
+-- no two places of a list have the same way
+abbrev pub StandOnce : List ℕ → Type 0
+StandOnce order = (i j : ℕ) → i < length order → j < length order → slice_index order i ≡ slice_index order j → i ≡ j
+
 -- what holds of the parts of a set
 pub record IsSound (lines : List (Option Line)) (order : List ℕ) : Type 0 where
   pub some_way : 0 < length lines
   pub all_ordered : length order ≡ length lines
   pub ordered : All (λ w. w < length lines) order
+  pub once : StandOnce order
 
 -- the line in a way
 abbrev pub line_at : Ways → ℕ → Option Line

@@ -3,10 +3,10 @@ ghost use Rattle.std.specs.Prelude.{◌≡◌, ◌≢◌, ◌<◌, ◌≤◌, �
 ghost use Rattle.thy_base.specs.Device.{block_at, CountsFault};
 ghost use Rattle.thy_base.specs.Store.{IsKeptByLoad};
 ghost use Rattle.thy_cache.specs.Ways.{is_dirty, line_at, victim_way, has_dirty};
-ghost use Rattle.thy_cache.specs.Contents.{Contents, empty_cache, set_at, set_of, index_of, victim_line_of, is_dirty_victim, cleaned_at, filled_with, evicted_for, stored_at, dirty_set, dirty_way, dirty_line, HasNoneDirty, IsSized, KeepsSize, KeepsOpen, flushed_from, HasFlushed, CountsFlushed, StoresLine, CountsStored, line_of, peeked, hits, victim_of, dirty_count, read_from, written_at};
-ghost use Rattle.thy_cache.specs.Flat.{flat, Agrees, PeeksSame, HitsSame, ReadsSame, ReadsAs, AgreesWithAll, ReadsAsStore, WritesOver, AgreesStill};
+ghost use Rattle.thy_cache.specs.Contents.{Contents, empty_cache, set_at, set_of, index_of, victim_line_of, is_dirty_victim, cleaned_at, filled_with, evicted_for, stored_at, dirty_set, dirty_way, dirty_line, HasNoneDirty, IsSized, KeepsSize, KeepsOpen, flushed_from, HasFlushed, CountsFlushed, StoresLine, CountsStored, line_of, place_of, peeked, hits, victim_of, dirty_count, read_from, written_at};
+ghost use Rattle.thy_cache.specs.Flat.{flat, Agrees, PeeksSame, HitsSame, ReadsAs, AgreesWithAll, ReadsAsStore, KeepsLines, IsWritten};
 
-use crate::line::{Flushed, Line, Victim};
+use crate::line::{Flushed, Line, Place, Victim};
 use crate::ways::{WaySet, empty_sets};
 use std::alloc::{AllocError, Global};
 use std::marker::Model;
@@ -67,11 +67,23 @@ impl Cache {
         self.sets[set].line_of(b)
     }
 
+    /// Where the line of block `b` is, where the cache has one.
+    pub fn find(&self, b: u64) -> Option<Place>
+        ensures place { result ≡ place_of self.now b }
+        ensures hit { is_some result ≡ hits self.now b }
+    {
+        let set = self.index_of(b);
+        match self.sets[set].way_of(b) {
+            Some(way) => Some(Place { set, way }),
+            None => None,
+        }
+    }
+
     /// Whether the cache has a line of block `b`.
     pub fn hit(&self, b: u64) -> bool
         ensures { result ≡ hits self.now b }
     {
-        self.line_of(b).is_some()
+        self.find(b).is_some()
     }
 
     /// What the line of block `b` holds, where there is one. It does not count as a use.
@@ -104,13 +116,24 @@ impl Cache {
         }
     }
 
-    /// Notes that the line of block `b` was used.
-    fn touch(&mut self, b: u64)
+    /// Notes that the line of block `b`, which is at this place, was used.
+    fn touch(&mut self, b: u64, place: Place)
+        requires { place_of self.old b ≡ Some place }
         ensures cache { self.new ≡ read_from b self.old }
         ensures inside { index_of self.old b < length self.old.sets }
     {
-        let set = self.index_of(b);
-        self.sets[set].touch_block(b);
+        self.sets[place.set].touch(place.way);
+    }
+
+    /// The line of block `b`, which is at this place.
+    fn line_in(&self, b: u64, place: Place) -> Line
+        requires { place_of self.now b ≡ Some place }
+        ensures { line_of self.now b ≡ Some result }
+    {
+        match self.sets[place.set].line(place.way) {
+            Some(line) => line,
+            None => unreachable!(),
+        }
     }
 
     /// Block `b`, which hits. Its line is now the most recently used of its set.
@@ -119,21 +142,25 @@ impl Cache {
         ensures block { peeked self.old b ≡ Some result }
         ensures reads { ReadsAs self.old b result }
         ensures cache { self.new ≡ read_from b self.old }
-
-        // No line changes.
-        ensures peeks { PeeksSame self.old self.new }
-        ensures hits { HitsSame self.old self.new }
-        ensures flat { ReadsSame self.old self.new }
-        ensures agree { AgreesStill self.old self.new }
-        ensures dirty { dirty_count self.new ≡ dirty_count self.old }
-        ensures sized { KeepsSize self.old self.new }
+        ensures lines { KeepsLines self.old self.new }
     {
-        let line = self.line_of(b);
-        self.touch(b);
-        match line {
-            Some(line) => line.block,
+        match self.find(b) {
+            Some(place) => self.read_at(b, place),
             None => unreachable!(),
         }
+    }
+
+    /// Block `b`, whose line is at this place. It is now the most recently used of its set.
+    pub fn read_at(&mut self, b: u64, place: Place) -> Block
+        requires { place_of self.old b ≡ Some place }
+        ensures block { peeked self.old b ≡ Some result }
+        ensures reads { ReadsAs self.old b result }
+        ensures cache { self.new ≡ read_from b self.old }
+        ensures lines { KeepsLines self.old self.new }
+    {
+        let block = self.line_in(b, place).block;
+        self.touch(b, place);
+        block
     }
 
     /// Writes bytes over block `b`, which hits, from byte `at` on. Its line is dirty then, and the
@@ -142,39 +169,36 @@ impl Cache {
         requires hit { hits self.old b ≡ true }
         requires within { at + length bytes.now ≤ 64 }
         ensures cache { self.new ≡ written_at b at bytes.now self.old }
-
-        // These bytes of the flat list change, and nothing else.
-        ensures flat { WritesOver b at bytes.now self.old self.new }
-        ensures hits { HitsSame self.old self.new }
-        ensures agree { AgreesStill self.old self.new }
-        ensures dirty { dirty_count self.new + (if is_dirty (line_of self.old b) then 1 else 0) ≡ dirty_count self.old + 1 }
-        ensures sized { KeepsSize self.old self.new }
+        ensures lines { IsWritten b at bytes.now self.old self.new }
     {
-        self.write_line(b, at as usize, bytes);
+        match self.find(b) {
+            Some(place) => self.write_at(b, place, at, bytes),
+            None => unreachable!(),
+        }
     }
 
-    /// Writes bytes over the line of block `b`, which hits, from byte `at` on.
-    fn write_line(&mut self, b: u64, at: usize, bytes: &[u8])
-        requires hit { hits self.old b ≡ true }
+    /// Writes bytes over block `b`, whose line is at this place, from byte `at` on. It is dirty then, and
+    /// the most recently used of its set.
+    pub fn write_at(&mut self, b: u64, place: Place, at: u64, bytes: &[u8])
+        requires place { place_of self.old b ≡ Some place }
+        requires within { at + length bytes.now ≤ 64 }
+        ensures cache { self.new ≡ written_at b at bytes.now self.old }
+        ensures lines { IsWritten b at bytes.now self.old self.new }
+    {
+        self.write_line(b, place, at as usize, bytes);
+    }
+
+    /// Writes bytes over the line of block `b`, which is at this place, from byte `at` on.
+    fn write_line(&mut self, b: u64, place: Place, at: usize, bytes: &[u8])
+        requires place { place_of self.old b ≡ Some place }
         requires within { at + length bytes.now ≤ 64 }
         ensures cache { self.new ≡ written_at b at bytes.now self.old }
         ensures inside { index_of self.old b < length self.old.sets }
     {
-        let was_dirty = self.is_dirty(b);
-        let set = self.index_of(b);
-        self.sets[set].write(b, at, bytes);
+        let was_dirty = self.line_in(b, place).dirty;
+        self.sets[place.set].write(place.way, at, bytes);
         if !was_dirty {
             self.dirty += 1;
-        }
-    }
-
-    /// Whether the line of block `b` is dirty.
-    fn is_dirty(&self, b: u64) -> bool
-        ensures { result ≡ is_dirty (line_of self.now b) }
-    {
-        match self.line_of(b) {
-            Some(line) => line.dirty,
-            None => false,
         }
     }
 

@@ -7,4 +7,4 @@ mod line;
 mod ways;
 
 pub use cache::Cache;
-pub use line::{Flushed, Line, Victim};
+pub use line::{Flushed, Line, Place, Victim};

@@ -13,6 +13,15 @@ pub struct Line {
     pub dirty: bool,
 }
 
+/// Where a cache has the line of a block.
+#[derive(Clone, Copy, Debug, PartialEq, Eq)]
+pub struct Place {
+    /// The number of its set.
+    pub set: usize,
+    /// Its way in that.
+    pub way: usize,
+}
+
 /// What has to happen before a block can be filled into its set.
 #[derive(Clone, Copy, Debug, PartialEq, Eq)]
 pub enum Victim {

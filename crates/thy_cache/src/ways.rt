@@ -1,9 +1,9 @@
 //! One set of a cache.
-ghost use Rattle.std.specs.Prelude.{◌≡◌, ◌<◌, ◌≤◌, ◌+◌, ◌==◌, ◌++◌, [], ◌∷◌, length, replicate, remove, position, is_none, IfOk, IfSome};
+ghost use Rattle.std.specs.Prelude.{◌≡◌, ◌<◌, ◌≤◌, ◌+◌, ◌==◌, true, ◌++◌, [], ◌∷◌, length, replicate, remove, position, is_none, IfOk, IfSome};
 ghost use Rattle.std.specs.List.{range_with_len};
 ghost use Rattle.std.specs.Option.{option_map};
 ghost use Rattle.thy_base.specs.Blocks.{overwritten};
-ghost use Rattle.thy_cache.specs.Ways.{is_dirty, has_dirty, empty_ways, line_at, line_in, way_of, used, used_for, with_line, over_line, clean, changed, written_to, filled, victim_way};
+ghost use Rattle.thy_cache.specs.Ways.{is_dirty, has_dirty, empty_ways, line_at, line_in, way_of, moved_last, used, with_line, over_line, clean, changed, filled, victim_way};
 
 use crate::line::Line;
 use std::alloc::{AllocError, Global};
@@ -128,8 +128,25 @@ impl WaySet {
         self.order.iter().position(|other| *other == way)
     }
 
+    /// Whether a way was the last one used.
+    fn is_last(&self, way: usize) -> bool
+        ensures { result ≡ true → moved_last way self.now.order ≡ self.now.order }
+    {
+        self.order[self.order.len() - 1] == way
+    }
+
     /// Notes that a way was used.
     pub(crate) fn touch(&mut self, way: usize)
+        requires { way < length self.old.lines }
+        ensures { self.new ≡ used way self.old }
+    {
+        if !self.is_last(way) {
+            self.move_last(way);
+        }
+    }
+
+    /// Puts a way at the end of the order.
+    fn move_last(&mut self, way: usize)
         requires { way < length self.old.lines }
         ensures { self.new ≡ used way self.old }
     {
@@ -156,24 +173,14 @@ impl WaySet {
         }
     }
 
-    /// Notes that the line of block `b` was used.
-    pub(crate) fn touch_block(&mut self, b: u64)
-        ensures { self.new ≡ used_for b self.old }
+    /// Writes bytes over the line in a way, from byte `at` on, which is a use of it.
+    pub(crate) fn write(&mut self, way: usize, at: usize, bytes: &[u8])
+        requires way { way < length self.old.lines }
+        requires bytes { at + length bytes.now ≤ 64 }
+        ensures { self.new ≡ over_line (changed at bytes.now) way (used way self.old) }
     {
-        if let Some(way) = self.way_of(b) {
-            self.touch(way);
-        }
-    }
-
-    /// Writes bytes over the line of block `b`, from byte `at` on.
-    pub(crate) fn write(&mut self, b: u64, at: usize, bytes: &[u8])
-        requires { at + length bytes.now ≤ 64 }
-        ensures { self.new ≡ written_to b at bytes.now self.old }
-    {
-        if let Some(way) = self.way_of(b) {
-            self.touch(way);
-            self.change(way, at, bytes);
-        }
+        self.touch(way);
+        self.change(way, at, bytes);
     }
 
     /// Writes bytes over the line in a way, from byte `at` on.

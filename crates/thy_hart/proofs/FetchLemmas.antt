@@ -1,16 +1,18 @@
 -- The fetch reads one block.
-use Rattle.std.proofs.Common.{◌≡◌, ℕ, ◌+◌, ◌-◌, ◌%◌, ◌^◌, ◌<◌, ◌≤◌, ◌==◌, Bool, true, false, if◌then◌else◌, List, ◌++◌, length, Option, Some, None, refl, sym, ◌∙◌, ap, subst, append-nil, arith}
+use Rattle.std.proofs.Common.{◌≡◌, ℕ, ◌+◌, ◌-◌, ◌%◌, ◌^◌, ◌<◌, ◌≤◌, ◌==◌, Bool, true, false, if◌then◌else◌, List, ◌++◌, length, Option, Some, None, refl, sym, ◌∙◌, ap, subst, drop, append-nil, arith}
 use Rattle.std.proofs.lemmas.Bool.Decides.{nat_tests}
 use Rattle.thy_base.specs.declared.block.Block.{Block}
 use Rattle.thy_base.specs.declared.config.Parameters.{Parameters}
 use Rattle.thy_base.specs.Geometry.{IsInRange, memory_blocks, program_size}
 use Rattle.thy_base.specs.Inside.{is_inside}
+use Rattle.thy_base.specs.Blocks.{block_bytes}
 use Rattle.thy_base.specs.LittleEndian.{number_at}
+use Rattle.thy_base.proofs.LittleEndianLemmas.{number_at-take, number_at-drop}
 use Rattle.thy_base.proofs.RangeLemmas.{base_aligned, console_most, pages_most}
 use Rattle.thy_cache.specs.Contents.{Contents}
 use Rattle.thy_cache.specs.Flat.{flat, ReadsAs}
 use Rattle.thy_flat.specs.declared.span.Span.{Span}
-use Rattle.thy_flat.specs.Spans.{span, first_block, first_byte, rest_of, head_in, head_read, gathered}
+use Rattle.thy_flat.specs.Spans.{span, first_block, first_byte, head_len, rest_of, head_in, head_read, gathered}
 use Rattle.thy_flat.proofs.SpanLaws.{gathered-none, gathered-rest, rest_of-none}
 use Rattle.thy_isa.specs.declared.state.CallState.{CallState}
 use Rattle.thy_isa.specs.declared.state.Cause.{Cause}
@@ -23,6 +25,7 @@ use Rattle.thy_isa.specs.OnBlocks.{calls_in, effect_in}
 use Rattle.thy_isa.specs.Step.{fetch_fault, fetched as unless_trapped, within}
 use Rattle.thy_isa.proofs.AccessLaws.{within-is}
 use Rattle.thy_isa.proofs.BlockLaws.{fetch_inside}
+use Rattle.thy_hart.specs.Core.{unless_fault, fetched_block}
 use Rattle.thy_hart.specs.Parts.{ReadsWord, FetchesEffect}
 
 -- ---- a word that can be fetched
@@ -84,11 +87,20 @@ gathered-head blocks s short whole =
     ∙ ap (λ t. head_read blocks s ++ t) (sym (gathered-none blocks (rest_of s) (rest_of-none s whole)))
     ∙ gathered-rest blocks s short
 
-pub word_read : (c : Contents) (at : Span) (block : Block) (bytes : List ℕ) (word : ℕ) → at.len ≡ 4 → first_byte at + 4 ≤ 64
-    → ReadsAs c (first_block at) block → bytes ≡ head_in block at → word ≡ number_at 4 bytes 0 → ReadsWord c at word
-word_read c at block bytes word four whole reads is number blocks inside =
+-- their number
+number_in_head : (block : Block) (at : Span) → at.len ≡ 4 → first_byte at + 4 ≤ 64
+    → number_at 4 (head_in block at) 0 ≡ number_at 4 (block_bytes block) (first_byte at)
+number_in_head block at four whole =
+    let start : first_byte at + 0 ≡ first_byte at = omega arith in
+    number_at-take 4 (head_len at) (drop (first_byte at) (block_bytes block)) 0 (omega (arith, four, whole))
+    ∙ number_at-drop 4 (first_byte at) (block_bytes block) 0
+    ∙ ap (number_at 4 (block_bytes block)) start
+
+pub word_read : (c : Contents) (at : Span) (block : Block) (word : ℕ) → at.len ≡ 4 → first_byte at + 4 ≤ 64
+    → ReadsAs c (first_block at) block → word ≡ number_at 4 (block_bytes block) (first_byte at) → ReadsWord c at word
+word_read c at block word four whole reads number blocks inside =
     number
-    ∙ ap (λ t. number_at 4 t 0) is
+    ∙ sym (number_in_head block at four whole)
     ∙ ap (λ b. number_at 4 (head_in b at) 0) (sym (reads blocks inside))
     ∙ ap (λ t. number_at 4 t 0) (gathered-head (flat c blocks) at (omega arith) (omega arith))
 
@@ -123,3 +135,26 @@ pub room_fits : (p : Parameters) (cpu : CpuState) (n : ℕ) (calls : CallState) 
 room_fits p cpu n calls r is =
     let P : CallState → Type 0 = λ k. 1 ≤ k.room → k.size + k.console_len < 2 ^ 64 in
     subst P (sym is) (λ some. omega (arith, pages_most p r, console_most p r))
+
+-- ---- the block of a fetch
+
+pub unless_some : (o : Option Cause) (n b : ℕ) → unless_fault o n ≡ Some b → (o ≡ None) × (n ≡ b)
+unless_some None n b h = (refl, cc h)
+unless_some (Some cause) n b h = cc h
+
+-- it is touched where there is no fault
+pub fetched_some : (p q : Parameters) (size : ℕ) (cpu : CpuState) (fault : Option Cause) → q ≡ p → size ≡ program_size p
+    → fault ≡ fetch_fault q.base size cpu.pc → fault ≡ None → fetched_block p cpu ≡ Some (first_block (span (cpu.pc - q.base) 4))
+unfolding fetched_block
+fetched_some p q size cpu fault same size_is fault_is none =
+    ap (λ f. unless_fault f (first_block (span (cpu.pc - p.base) 4))) (fetch_none p q size cpu.pc fault same size_is fault_is none)
+    ∙ ap (λ (g : Parameters). Some (first_block (span (cpu.pc - g.base) 4))) (sym same)
+
+-- and none where there is one
+pub fetched_not : (p q : Parameters) (size : ℕ) (cpu : CpuState) (fault : Option Cause) (cause : Cause) → q ≡ p → size ≡ program_size p
+    → fault ≡ fetch_fault q.base size cpu.pc → fault ≡ Some cause → fetched_block p cpu ≡ None
+unfolding fetched_block
+fetched_not p q size cpu fault cause same size_is fault_is some =
+    let is : fetch_fault p.base (program_size p) cpu.pc ≡ Some cause
+    = ap (λ (n : ℕ). fetch_fault p.base n cpu.pc) (sym size_is) ∙ ap (λ (g : Parameters). fetch_fault g.base size cpu.pc) (sym same) ∙ sym fault_is ∙ some in
+    ap (λ f. unless_fault f (first_block (span (cpu.pc - p.base) 4))) is

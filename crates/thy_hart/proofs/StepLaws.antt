@@ -3,7 +3,7 @@ use Rattle.std.proofs.Common.{◌≡◌, ◌⊎◌, ℕ, ◌+◌, ◌-◌, ◌<�
 use Rattle.thy_base.specs.Device.{block_at}
 use Rattle.thy_base.specs.Geometry.{memory_blocks}
 use Rattle.thy_base.specs.Store.{Holding}
-use Rattle.thy_cache.specs.Contents.{Contents, hits, dirty_count}
+use Rattle.thy_cache.specs.Contents.{Contents, hits, victim_of, dirty_count}
 use Rattle.thy_cache.specs.Flat.{flat, Agrees}
 use Rattle.thy_flat.specs.Flat.{AllLong}
 use Rattle.thy_isa.specs.declared.state.CpuState.{CpuState}
@@ -11,26 +11,21 @@ use Rattle.thy_base.specs.declared.config.Parameters.{Parameters}
 use Rattle.thy_isa.specs.Step.{fetch_fault}
 use Rattle.thy_base.specs.Geometry.{program_size}
 use Rattle.thy_flat.specs.Spans.{span, first_block}
-use Rattle.thy_isa.specs.declared.state.Cause.{Cause}
 use Rattle.thy_hart.specs.declared.hand.Hand.{Hand}
 use Rattle.thy_hart.specs.declared.hand.Hand.TheVariants.{Nothing, Reading, Reserving, Writing, Retiring}
 use Rattle.thy_hart.specs.declared.hand.HartStep.{HartStep}
 use Rattle.thy_hart.specs.declared.hand.HartStep.TheVariants.{Moved, Retired, Waiting, Over}
-use Rattle.thy_hart.specs.Core.{Core, unless_fault, fetched_block, block_for, next_block, reserved, IsInHand, IsSound}
+use Rattle.thy_hart.specs.Core.{Core, fetched_block, block_for, next_block, reserved, IsInHand, IsSound}
 use Rattle.thy_hart.specs.Acts.{Given, acted_by, answer_by, memory_by}
-use Rattle.thy_hart.specs.Bring.{IsNearer, IsBrought}
+use Rattle.thy_hart.specs.Bring.{IsNearer, BringsLine, IsBrought}
 use Rattle.thy_hart.specs.Moments.{Moment, moment, is_missing, IsOpenInTheWay, IsOpenFor, IsReady, touch_left}
 use Rattle.thy_hart.specs.Parts.{HitsNext, Acts}
 use Rattle.thy_hart.specs.Steps.{coming, ComesNearer, Nears, Closes, IsStep}
-use Rattle.thy_hart.proofs.FetchLemmas.{fetched_inside, word_inside}
+use Rattle.thy_hart.proofs.FetchLemmas.{fetched_inside, word_inside, unless_some}
 use Rattle.thy_hart.proofs.HandLemmas.{first_block-inside}
 use Rattle.thy_hart.proofs.StepLemmas.{FallsAt, left_at, IsDone, done_by}
 
 -- ---- the block that is touched lies in memory
-
-unless_some : (o : Option Cause) (n b : ℕ) → unless_fault o n ≡ Some b → (o ≡ None) × (n ≡ b)
-unless_some None n b h = (refl, cc h)
-unless_some (Some cause) n b h = cc h
 
 fetched_block-inside : (p : Parameters) (cpu : CpuState) (b : ℕ) → fetched_block p cpu ≡ Some b → b < memory_blocks p
 unfolding fetched_block
@@ -81,6 +76,8 @@ IsStep-brought g b h c d old new r is miss w =
       clean = λ _. w.memory;
       written = λ e. e;
       others = λ x _. ap (λ m. block_at m x) w.memory;
+      brought = λ x _ at. subst (λ y. BringsLine (victim_of c y) y c old d) (some_same b x (sym is ∙ at)) w.line;
+      used = λ no. let e = sym brought ∙ no in cc e;
       alone = λ no. let e = sym brought ∙ no in cc e;
       untouched = λ none. let e = sym is ∙ none in cc e;
       ready = record {
@@ -161,6 +158,8 @@ IsStep-acted g h k c d held step free s r hit a =
       clean = w.clean;
       written = w.written;
       others = w.others;
+      brought = λ b is _. let e = sym missing ∙ is in cc e;
+      used = λ _. a.cache;
       alone = λ _. refl;
       untouched = a.untouched;
       ready = record {

@@ -1,10 +1,11 @@
 -- What a step makes of the hart whose block is in the cache, or that touches none.
-use Rattle.std.specs.Prelude.{ℕ, ◌+◌, ◌==◌, Bool, true, false, if◌then◌else◌, nat_lt, List, [], ◌++◌, length, drop, Option, Some, None}
+use Rattle.std.specs.Prelude.{ℕ, ◌+◌, ◌==◌, Bool, true, false, if◌then◌else◌, nat_lt, List, [], ◌++◌, length, take, drop, Option, Some, None}
 use Rattle.thy_base.specs.declared.block.Block.{Block}
 use Rattle.thy_base.specs.declared.cause.EndCause.{EndCause}
 use Rattle.thy_base.specs.declared.cause.EndCause.TheVariants.{Exhausted}
+use Rattle.thy_cache.specs.Contents.{Contents, read_from, written_at}
 use Rattle.thy_flat.specs.declared.span.Span.{Span}
-use Rattle.thy_flat.specs.Spans.{head_len, head_read, head_put, rest_of}
+use Rattle.thy_flat.specs.Spans.{first_block, first_byte, head_len, head_read, head_put, rest_of}
 use Rattle.thy_isa.specs.declared.state.CpuState.{CpuState}
 use Rattle.thy_isa.specs.declared.state.Effect.{Effect}
 use Rattle.thy_isa.specs.Moves.{moves_of, brings}
@@ -15,7 +16,7 @@ use Rattle.thy_hart.specs.declared.hand.Hand.{Hand}
 use Rattle.thy_hart.specs.declared.hand.Hand.TheVariants.{Nothing, Reading, Reserving, Writing, Retiring}
 use Rattle.thy_hart.specs.declared.hand.HartStep.{HartStep}
 use Rattle.thy_hart.specs.declared.hand.HartStep.TheVariants.{Moved, Retired, Waiting, Over}
-use Rattle.thy_hart.specs.Core.{Core, blocks_of}
+use Rattle.thy_hart.specs.Core.{Core, blocks_of, fetched_block}
 
 -- what a step is handed besides cache and store: the input, how many table entries are free, and whether a checkpoint
 -- is under way
@@ -117,3 +118,20 @@ memory_by bytes memory (Reading e from to) = memory
 memory_by bytes memory (Reserving e to) = memory
 memory_by bytes memory (Writing e to done) = head_put memory to (drop done bytes)
 memory_by bytes memory (Retiring e wrote) = memory
+
+-- the cache where a block is read, if one is: its line was used last
+abbrev pub touched : Contents → Option ℕ → Contents
+touched c None = c
+touched c (Some b) = read_from b c
+
+-- the cache after those of these bytes were written that fall into the first block of a span
+abbrev pub written_by : Contents → Span → List ℕ → Contents
+written_by c to bytes = written_at (first_block to) (first_byte to) (take (head_len to) bytes) c
+
+-- the cache, where no line is brought
+abbrev pub cache_by : Contents → Core → Hand → Contents
+cache_by c h Nothing = touched c (fetched_block h.geometry h.cpu)
+cache_by c h (Reading e from to) = read_from (first_block from) c
+cache_by c h (Reserving e to) = c
+cache_by c h (Writing e to done) = written_by c to (drop done h.bytes)
+cache_by c h (Retiring e wrote) = c

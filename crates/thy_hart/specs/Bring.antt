@@ -1,7 +1,11 @@
 -- What bringing a missing line a step nearer does.
 use Rattle.std.specs.Prelude.{◌≡◌, ◌⊎◌, ℕ, ◌+◌, ◌≤◌, length, Some}
+use Rattle.thy_base.specs.declared.store.Stored.{Stored}
+use Rattle.thy_base.specs.Device.{block_at}
 use Rattle.thy_base.specs.Store.{Holding}
-use Rattle.thy_cache.specs.Contents.{Contents, dirty_count, KeepsSize}
+use Rattle.thy_cache.specs.declared.line.Victim.{Victim}
+use Rattle.thy_cache.specs.declared.line.Victim.TheVariants.{Room, Dirty}
+use Rattle.thy_cache.specs.Contents.{Contents, victim_of, dirty_count, filled_with, evicted_for, KeepsSize}
 use Rattle.thy_cache.specs.Flat.{flat, Agrees}
 use Rattle.thy_hart.specs.Moments.{IsOpenFor, touch_steps}
 
@@ -9,6 +13,11 @@ use Rattle.thy_hart.specs.Moments.{IsOpenFor, touch_steps}
 abbrev pub IsNearer : ℕ → Contents → Holding → Contents → Holding → Type 0
 IsNearer b old before new now =
     (touch_steps new b + 1 ≤ touch_steps old b) ⊎ ((touch_steps new b ≡ touch_steps old b) × (now.owed + 1 ≤ before.owed))
+
+-- the block is filled in where there is room for it, else the dirty line in its way is stored, or a copy goes first
+abbrev pub BringsLine : Victim → ℕ → Contents → Holding → Contents → Type 0
+BringsLine Room b old before new = new ≡ filled_with b (block_at before.blocks b) old
+BringsLine (Dirty at) b old before new = (stored : Stored) × (new ≡ evicted_for stored b old)
 
 -- memory is as before, and its block is a step nearer
 pub record IsBrought (b : ℕ) (old : Contents) (before : Holding) (new : Contents) (now : Holding) : Type 0 where
@@ -21,4 +30,5 @@ pub record IsBrought (b : ℕ) (old : Contents) (before : Holding) (new : Conten
   pub opened : IsOpenFor new (Some b) now.open_page
   pub owed : now.owed ≤ before.owed
   pub nearer : IsNearer b old before new now
+  pub line : BringsLine (victim_of old b) b old before new
   pub sized : KeepsSize old new

@@ -1,20 +1,23 @@
 -- The parts of a hart as one core, and what a micro-step makes of them over every store of blocks.
-use Rattle.std.specs.Prelude.{◌≡◌, ℕ, ◌+◌, ◌<◌, ◌≤◌, true, List, length, Option, Some, None}
+use Rattle.std.specs.Prelude.{◌≡◌, ℕ, ◌+◌, ◌<◌, ◌≤◌, true, false, List, length, Option, Some, None}
 use Rattle.thy_base.specs.declared.block.Block.{Block}
 use Rattle.thy_base.specs.declared.config.Parameters.{Parameters}
 use Rattle.thy_base.specs.Geometry.{memory_blocks}
 use Rattle.thy_base.specs.LittleEndian.{number_at}
-use Rattle.thy_cache.specs.Contents.{Contents, hits, dirty_count, KeepsSize}
-use Rattle.thy_cache.specs.Flat.{flat, AgreesStill, ReadsSame}
+use Rattle.thy_cache.specs.declared.line.Place.{Place}
+use Rattle.thy_cache.specs.Contents.{Contents, hits, place_of, dirty_count, KeepsSize}
+use Rattle.thy_cache.specs.Flat.{flat, AgreesStill}
 use Rattle.thy_flat.specs.declared.span.Span.{Span}
 use Rattle.thy_flat.specs.Spans.{first_block, gathered, head_put}
 use Rattle.thy_isa.specs.declared.state.CpuState.{CpuState}
 use Rattle.thy_isa.specs.declared.state.Effect.{Effect}
 use Rattle.thy_isa.specs.OnBlocks.{effect_in}
 use Rattle.thy_hart.specs.declared.hand.HartStep.{HartStep}
+use Rattle.thy_hart.specs.declared.hand.Next.{Next}
+use Rattle.thy_hart.specs.declared.hand.Next.TheVariants.{Bring, Act}
 use Rattle.thy_hart.specs.declared.parts.Parts.{Parts}
 use Rattle.thy_hart.specs.Core.{Core, next_block, reserved}
-use Rattle.thy_hart.specs.Acts.{Given, fetched, block_read, acted_by, answer_by, memory_by}
+use Rattle.thy_hart.specs.Acts.{Given, fetched, block_read, acted_by, answer_by, memory_by, cache_by}
 
 abbrev pub core_of : Parts → Core
 core_of h = record { geometry = h.geometry; cpu = h.cpu; epoch = h.epoch; hand = h.hand; bytes = h.bytes.items }
@@ -24,12 +27,17 @@ abbrev pub HitsNext : Contents → Option ℕ → Type 0
 HitsNext c None = Unit {0}
 HitsNext c (Some b) = hits c b ≡ true
 
--- no line has changed
-pub record KeepsLines (c d : Contents) : Type 0 where
-  pub flat : ReadsSame c d
-  pub agree : AgreesStill c d
-  pub dirty : dirty_count d ≡ dirty_count c
-  pub sized : KeepsSize c d
+-- and its line is at this place
+abbrev pub IsFound : Contents → Option ℕ → Option Place → Type 0
+IsFound c None None = Unit {0}
+IsFound c None (Some place) = ⊥
+IsFound c (Some b) None = ⊥
+IsFound c (Some b) (Some place) = place_of c b ≡ Some place
+
+-- what a micro-step finds that touches this block, if it touches one: its line is missing, or is there
+abbrev pub IsNext : Contents → Option ℕ → Next → Type 0
+IsNext c o (Bring b) = (o ≡ Some b) × (hits c b ≡ false)
+IsNext c o (Act place) = HitsNext c o × IsFound c o place
 
 -- whatever store with its block is behind the cache: the number of a span of four bytes
 abbrev pub ReadsWord : Contents → Span → ℕ → Type 0
@@ -63,5 +71,6 @@ pub record Acts (g : Given) (c d : Contents) (old new : Core) (step : HartStep) 
       → flat d blocks ≡ memory_by old.bytes (flat c blocks) old.hand
   pub agree : AgreesStill c d
   pub room : dirty_count c + reserved old.hand ≤ g.free → dirty_count d + reserved new.hand ≤ g.free
+  pub cache : d ≡ cache_by c old old.hand
   pub untouched : next_block old ≡ None → d ≡ c
   pub sized : KeepsSize c d

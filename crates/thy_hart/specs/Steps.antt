@@ -1,12 +1,12 @@
 -- One step of the hart.
-use Rattle.std.specs.Prelude.{◌≡◌, ◌⊎◌, ℕ, ◌+◌, ◌≤◌, false, if◌then◌else◌, List, ◌++◌, drop, Some, None}
+use Rattle.std.specs.Prelude.{◌≡◌, ◌⊎◌, ℕ, ◌+◌, ◌≤◌, true, false, if◌then◌else◌, List, ◌++◌, drop, Some, None}
 use Rattle.thy_base.specs.declared.block.Block.{Block}
 use Rattle.thy_base.specs.declared.cause.EndCause.{EndCause}
 use Rattle.thy_base.specs.declared.cause.EndCause.TheVariants.{Length, Exhausted, Ended}
 use Rattle.thy_base.specs.Device.{block_at}
 use Rattle.thy_base.specs.Geometry.{console_room}
 use Rattle.thy_base.specs.Store.{Holding}
-use Rattle.thy_cache.specs.Contents.{dirty_count, KeepsSize}
+use Rattle.thy_cache.specs.Contents.{victim_of, dirty_count, KeepsSize}
 use Rattle.thy_flat.specs.Flat.{AllLong}
 use Rattle.thy_flat.specs.Spans.{gathered, scattered}
 use Rattle.thy_isa.specs.declared.state.Effect.{Effect}
@@ -17,7 +17,8 @@ use Rattle.thy_hart.specs.declared.hand.Hand.TheVariants.{Nothing, Reading, Rese
 use Rattle.thy_hart.specs.declared.hand.HartStep.{HartStep}
 use Rattle.thy_hart.specs.declared.hand.HartStep.TheVariants.{Moved, Retired, Waiting, Over}
 use Rattle.thy_hart.specs.Core.{Core, next_block, reserved, has_written}
-use Rattle.thy_hart.specs.Acts.{Given, acted_by, answer_by, memory_by}
+use Rattle.thy_hart.specs.Acts.{Given, acted_by, answer_by, memory_by, cache_by}
+use Rattle.thy_hart.specs.Bring.{BringsLine}
 use Rattle.thy_hart.specs.Moments.{Moment, memory_of, brings_line, IsReady, moves_left}
 
 -- ---- the plain state
@@ -132,6 +133,10 @@ pub record IsStep (g : Given) (old new : Moment) (step : HartStep) : Type 0 wher
   pub clean : has_written new.hart.hand ≡ false → memory_of new ≡ memory_of old
   pub written : StaysWritten step old.hart.hand new.hart.hand
   pub others : (b : ℕ) → (next_block old.hart ≡ Some b → ⊥) → block_at (memory_of new) b ≡ block_at (memory_of old) b
+  -- exactly this cache: a line is brought nearer, or else that of the block that is touched was used last, and no other
+  pub brought : (b : ℕ) → brings_line old ≡ true → next_block old.hart ≡ Some b
+      → BringsLine (victim_of old.cache b) b old.cache old.held new.cache
+  pub used : brings_line old ≡ false → new.cache ≡ cache_by old.cache old.hart old.hart.hand
   -- the store is left alone where no line is brought, and the cache where no block is touched
   pub alone : brings_line old ≡ false → new.held ≡ old.held
   pub untouched : next_block old.hart ≡ None → new.cache ≡ old.cache

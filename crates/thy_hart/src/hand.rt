@@ -6,6 +6,7 @@ ghost use Rattle.thy_hart.specs.Acts.{begun, written_on};
 ghost use Rattle.thy_hart.specs.Core.{blocks_of};
 
 use thy_base::EndCause;
+use thy_cache::Place;
 use thy_flat::Span;
 use thy_isa::Effect;
 
@@ -50,6 +51,15 @@ pub enum HartStep {
     Waiting,
     /// The epoch is over: behind the instruction, which retired, or before it where entries are short.
     Over(EndCause),
+}
+
+/// What the next micro-step finds in the cache.
+#[derive(Clone, Copy, Debug, PartialEq, Eq)]
+pub(crate) enum Next {
+    /// The line of this block, which it touches, is missing.
+    Bring(u64),
+    /// The line of the block that it touches is at this place, or it touches none.
+    Act(Option<Place>),
 }
 
 /// What an effect does that still has to read at `from`, where that has bytes, and to write at `to`.

@@ -9,7 +9,7 @@ ghost use Rattle.thy_hart.specs.Moments.{moment, brings_line, IsReady};
 ghost use Rattle.thy_hart.specs.Steps.{IsStep};
 
 use crate::bring::bring;
-use crate::hand::{Hand, HartStep};
+use crate::hand::{Hand, HartStep, Next};
 use crate::parts::Parts;
 use std::marker::Model;
 use thy_base::{BlockStore, Geometry, NvmError};
@@ -54,10 +54,10 @@ impl Hart {
     }
 
     /// The processor, as the last instruction that retired left it.
-    pub fn cpu(&self) -> CpuState
-        ensures { result ≡ self.now.cpu }
+    pub fn cpu(&self) -> &CpuState
+        ensures { result.now ≡ self.now.cpu }
     {
-        self.parts.cpu
+        &self.parts.cpu
     }
 
     /// The epoch under execution.
@@ -109,12 +109,12 @@ impl Hart {
         ensures stays { S.stays store.old nvm.old store.new nvm.new }
         ensures cause { CountsFault result (S.holding store.old nvm.old).faults (S.holding store.new nvm.new).faults }
     {
-        match self.parts.next_block() {
-            Some(b) if !cache.hit(b) => match bring(cache, b, store, nvm) {
+        match self.parts.next(cache) {
+            Next::Act(place) => Ok(self.parts.act(cache, place, free, under_way, input)),
+            Next::Bring(b) => match bring(cache, b, store, nvm) {
                 Ok(()) => Ok(HartStep::Moved),
                 Err(fault) => Err(fault),
             },
-            _ => Ok(self.parts.act(cache, free, under_way, input)),
         }
     }
 }

@@ -134,7 +134,7 @@ fn step<S: BlockStore<()>>(
 fn advance(rt: &impl Abort, plain: &mut Plain, hart: &Hart) {
     assert!(rt; plain.state().count < 1 << 62);
     plain.step();
-    expect(rt, hart.cpu(), cpu_of(plain.state()));
+    expect(rt, *hart.cpu(), cpu_of(plain.state()));
 }
 
 /// A block as it is read through the cache.

@@ -1,13 +1,18 @@
-use Rattle.std.proofs.Common.{◌+◌, ◌^◌, ◌<◌, length, sym, subst, arith}
-use Rattle.thy_cache.specs.Contents.{Contents, IsSound, index_of}
+use Rattle.std.proofs.Common.{◌≡◌, ◌+◌, ◌^◌, ◌<◌, true, false, sym, ◌∙◌, ap, subst, arith}
+use Rattle.std.specs.Option.{is_some}
+use Rattle.thy_cache.specs.Ways.{is_dirty}
+use Rattle.thy_cache.specs.Contents.{Contents, IsSound, hits, line_of}
+use Rattle.thy_cache.proofs.PlaceLaws.{place-inside, place-hits}
 use Rattle.thy_cache.proofs.WriteLaws.{write-fits}
 use Rattle.thy_cache.proofs.cache.Cache.write_line.Goals as goal
 
 pub overflow_add-self : goal.overflow_add-self
 overflow_add-self c =
+    let now : Contents = c.args.self.now in
     let IsSoundNow : Contents → Type 0 = λ v. IsSound v.sets c.self.inside.dirty in
-    let sound : IsSound c.args.self.now.sets c.self.inside.dirty = subst IsSoundNow c.self.view_is c.self.invariant in
-    let inside : index_of c.args.self.now c.args.b < length c.args.self.now.sets = omega (arith, c.index_of-set.ensures.index, c.index_of-set.ensures.inside) in
+    let sound : IsSound now.sets c.self.inside.dirty = subst IsSoundNow c.self.view_is c.self.invariant in
+    let hit : hits now c.args.b ≡ true = sym (place-hits now c.args.b) ∙ ap is_some c.requires.place in
+    let clean : is_dirty (line_of now c.args.b) ≡ false = ap is_dirty c.line_in-was_dirty.ensures ∙ c.if-not-was_dirty.true in
     let fits : c.self.inside.dirty + 1 < 2 ^ 64
-    = write-fits c.args.self.now c.args.b c.args.at c.args.bytes.now c.self.inside.dirty sound inside c.requires.hit (sym c.if-not-was_dirty.ensures) in
+    = write-fits now c.args.b c.args.at c.args.bytes.now c.self.inside.dirty sound (place-inside now c.args.b sound.some_set) hit clean in
     omega arith

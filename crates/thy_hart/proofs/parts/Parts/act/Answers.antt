@@ -9,12 +9,12 @@ use Rattle.thy_hart.proofs.parts.Parts.act.Goals as goal
 pub returns-in-Nothing-clause-acts : goal.returns-in-Nothing-clause-acts
 returns-in-Nothing-clause-acts c =
     Acts-fetch (given c.args.input.now c.args.free c.args.under_way) c.args.cache.now c.fetch.new.cache (core_of c.args.self.now) (core_of c.fetch.new.self)
-    c.in-Nothing.is c.fetch.ensures.hart c.fetch.ensures.unreserved c.fetch.ensures.lines c.fetch.ensures.untouched
+    c.in-Nothing.is c.fetch.ensures.hart c.fetch.ensures.unreserved c.fetch.ensures.lines c.fetch.ensures.cache
 
 pub returns-in-Reading-clause-acts : goal.returns-in-Reading-clause-acts
 returns-in-Reading-clause-acts c =
     Acts-read (given c.args.input.now c.args.free c.args.under_way) c.args.cache.now c.read.new.cache (core_of c.args.self.now) (core_of c.read.new.self)
-    c.in-Reading.effect c.in-Reading.from c.in-Reading.to c.in-Reading.is c.read.ensures.hart c.read.ensures.unreserved c.read.ensures.lines
+    c.in-Reading.effect c.in-Reading.from c.in-Reading.to c.in-Reading.is c.read.ensures.hart c.read.ensures.unreserved c.read.ensures.lines c.read.ensures.cache
 
 pub returns-in-Reserving-clause-sound : goal.returns-in-Reserving-clause-sound
 returns-in-Reserving-clause-sound c =
@@ -25,4 +25,4 @@ pub returns-in-Writing-clause-acts : goal.returns-in-Writing-clause-acts
 returns-in-Writing-clause-acts c =
     let written = subst (λ hand. IsInHand c.args.self.now.geometry hand (length c.args.self.now.bytes.items)) c.in-Writing.is c.requires.sound.in_hand in
     Acts-write (given c.args.input.now c.args.free c.args.under_way) c.args.cache.now c.write.new.cache (core_of c.args.self.now) (core_of c.write.new.self)
-    c.in-Writing.effect c.in-Writing.to c.in-Writing.done c.in-Writing.is written c.write.ensures.hart c.write.ensures.memory c.write.ensures.agree c.write.ensures.room c.write.ensures.sized
+    c.in-Writing.effect c.in-Writing.to c.in-Writing.done c.in-Writing.is written c.write.ensures.hart c.write.ensures.memory c.write.ensures.agree c.write.ensures.room c.write.ensures.sized c.write.ensures.cache

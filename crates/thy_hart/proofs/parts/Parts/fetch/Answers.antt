@@ -6,8 +6,8 @@ use Rattle.thy_hart.proofs.parts.Parts.fetch.Goals as goal
 pub returns-clause-sound : goal.returns-clause-sound
 returns-clause-sound c = record {
   range = c.requires.range;
-  in_hand = fetch-sound c.args.self.now.geometry c.args.input.now c.args.self.now.cpu c.next_effect-effect.result c.calls-calls.result c.brought-self.result.items c.moves-moves.result c.begun-self.result
-      c.requires.range c.next_effect-effect.ensures.inside c.calls-calls.ensures.calls c.brought-self.ensures c.moves-moves.ensures c.begun-self.ensures;
+  in_hand = fetch-sound c.args.self.now.geometry c.args.input.now c.args.self.now.cpu c.next_effect-effect.result c.calls-calls.result c.bring_along.new.bytes.items c.moves-moves.result c.begun-self.result
+      c.requires.range c.next_effect-effect.ensures.inside c.calls-calls.ensures.calls c.bring_along.ensures c.moves-moves.ensures c.begun-self.ensures;
 }
 
 pub returns-clause-unreserved : goal.returns-clause-unreserved

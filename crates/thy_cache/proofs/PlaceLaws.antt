@@ -1,0 +1,82 @@
+-- The place of a block's line, and what a use of the line there leaves.
+use Rattle.std.proofs.Common.{◌≡◌, ℕ, ◌<◌, List, length, true, Option, Some, None, option_and_then, refl, sym, ◌∙◌, ap, arith}
+use Rattle.std.proofs.Math.Nat.{mod-lt}
+use Rattle.std.specs.List.{count_by}
+use Rattle.std.specs.Option.{option_map, option_map_or, is_some}
+use Rattle.thy_cache.specs.declared.line.Line.{Line}
+use Rattle.thy_cache.specs.declared.line.Place.{Place}
+use Rattle.thy_cache.specs.Ways.{Ways, is_dirty, way_of, line_at, used, used_for, over_line, changed, written_to}
+use Rattle.thy_cache.specs.Contents.{Contents, index_of, set_of, line_of, hits, place_of, read_from, written_at}
+use Rattle.thy_cache.specs.Flat.{KeepsLines, IsWritten}
+use Rattle.thy_cache.proofs.LineLemmas.{place-way_of, held}
+use Rattle.thy_cache.proofs.AgreeLemmas.{map-Some}
+use Rattle.thy_cache.proofs.CountLemmas.{dirty_count-with_set}
+use Rattle.thy_cache.proofs.WriteLaws.{ReadsSame-peeks, used_for-lines, read-line_of, read-peeks, read-agrees, write-flat, write-hits, write-agrees, write-count}
+use Rattle.thy_cache.proofs.SizeLaws.{KeepsSize-read, KeepsSize-write}
+
+-- a block's set is one of the cache's
+pub place-inside : (c : Contents) (b : ℕ) → 0 < length c.sets → index_of c b < length c.sets
+place-inside c b some = mod-lt b some
+
+-- what is known of the place of a block's line
+pub record IsPlace (c : Contents) (b : ℕ) (place : Place) : Type 0 where
+  pub set : place.set ≡ index_of c b
+  pub way : way_of (set_of c b) b ≡ Some place.way
+  pub inside : place.way < length (set_of c b).lines
+  pub line : Line
+  pub stands : line_at (set_of c b) place.way ≡ Some line
+
+pub IsPlace-of : (c : Contents) (b : ℕ) (place : Place) → place_of c b ≡ Some place → IsPlace c b place
+IsPlace-of c b place e =
+    let w = map-Some (λ way. record { set = index_of c b; way = way }) (way_of (set_of c b) b) place e in
+    let way : way_of (set_of c b) b ≡ Some place.way = w.1 ∙ ap (λ (p : Place). Some p.way) w.2 in
+    let there = place-way_of (set_of c b) b place.way way in
+    let line = held b (line_at (set_of c b) place.way) there.2 in
+    record { set = sym (ap (λ (p : Place). p.set) w.2); way = way; inside = there.1; line = line.0; stands = line.1 }
+
+-- the line there is the block's
+pub place-line : (c : Contents) (b : ℕ) (place : Place) → place_of c b ≡ Some place → line_of c b ≡ line_at (set_of c b) place.way
+place-line c b place e = ap (option_and_then (line_at (set_of c b))) (IsPlace-of c b place e).way
+
+-- a block has a place where it hits
+found_by : (ways : Ways) (b : ℕ) (o : Option ℕ) → way_of ways b ≡ o → is_some o ≡ is_some (option_and_then (line_at ways) o)
+found_by ways b None e = refl
+found_by ways b (Some w) e = sym (ap is_some (held b (line_at ways w) (place-way_of ways b w e).2).1)
+
+some_map : {X Y : Type 0} (f : X → Y) (o : Option X) → is_some (option_map f o) ≡ is_some o
+some_map f None = refl
+some_map f (Some x) = refl
+
+pub place-hits : (c : Contents) (b : ℕ) → is_some (place_of c b) ≡ hits c b
+place-hits c b =
+    some_map (λ way. record { set = index_of c b; way = way }) (way_of (set_of c b) b) ∙ found_by (set_of c b) b (way_of (set_of c b) b) refl
+
+-- a use of the line there is one of the block's
+pub place-used : (c : Contents) (b : ℕ) (place : Place) → place_of c b ≡ Some place → used_for b (set_of c b) ≡ used place.way (set_of c b)
+place-used c b place e =
+    ap (λ o. option_map_or (λ w. used w (set_of c b)) o (set_of c b)) (IsPlace-of c b place e).way
+
+pub place-written : (c : Contents) (b : ℕ) (place : Place) (at : ℕ) (bytes : List ℕ) → place_of c b ≡ Some place
+    → written_to b at bytes (set_of c b) ≡ over_line (changed at bytes) place.way (used place.way (set_of c b))
+place-written c b place at bytes e =
+    ap (λ o. option_map_or (λ w. over_line (changed at bytes) w (used w (set_of c b))) o (set_of c b)) (IsPlace-of c b place e).way
+
+pub KeepsLines-read : (c : Contents) (b : ℕ) → index_of c b < length c.sets → KeepsLines c (read_from b c)
+KeepsLines-read c b inside = record {
+  peeks = read-peeks c b inside;
+  hits = λ x. ap is_some (read-line_of c b inside x);
+  flat = ReadsSame-peeks c (read_from b c) (read-peeks c b inside);
+  agree = read-agrees c b inside;
+  dirty = omega (arith, dirty_count-with_set c (index_of c b) (used_for b (set_of c b)) inside, ap (count_by is_dirty) (used_for-lines b (set_of c b)));
+  sized = KeepsSize-read c b inside;
+}
+
+pub IsWritten-write : (c : Contents) (b at : ℕ) (bytes : List ℕ) → index_of c b < length c.sets → hits c b ≡ true
+    → IsWritten b at bytes c (written_at b at bytes c)
+IsWritten-write c b at bytes inside hit = record {
+  flat = write-flat c b at bytes inside hit;
+  hits = write-hits c b at bytes inside;
+  agree = write-agrees c b at bytes inside;
+  dirty = write-count c b at bytes inside hit;
+  sized = KeepsSize-write c b at bytes inside;
+}
