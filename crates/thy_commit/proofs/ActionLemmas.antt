@@ -27,13 +27,13 @@ use Rattle.thy_commit.specs.Progress.{Progress, slot_number, slot_block, device_
 use Rattle.thy_commit.specs.Actions.{did_by, ItemsAct, FailedItemsAct}
 
 -- a block that moves to a place of the NVM is written there
-written-nvm : (side : Bool) (at : ℕ) (v : Block) (d : Devices) → side ≡ false
+pub written-nvm : (side : Bool) (at : ℕ) (v : Block) (d : Devices) → side ≡ false
     → (if side then record d { dram = written d.dram at v } else record d { nvm = written_to d.nvm at v }).nvm ≡ written_to d.nvm at v
 written-nvm true at v d e = cc
 written-nvm false at v d e = refl
 
 -- each block's place in the checkpoint under way is one of the NVM, behind both slots
-target-in_nvm : (s : State) (b : ℕ) → in_dram (target (cell_of s b)) ≡ false
+pub target-in_nvm : (s : State) (b : ℕ) → in_dram (target (cell_of s b)) ≡ false
 target-in_nvm s b = placed-in_nvm (cell_of s b).entry.v1 (cell_of s b).page.target (seat_of (cell_of s b))
 
 target-not_one : (s : State) (b : ℕ) → number_of s.p (target (cell_of s b)) ≢ 1

@@ -15,6 +15,7 @@ use Rattle.thy_tables.specs.declared.block_entry.Pending.TheVariants.{Settled}
 use Rattle.thy_tables.specs.declared.page_entry.PttEntry.{PttEntry}
 use Rattle.thy_tables.specs.BlockEntry.{new_entry}
 use Rattle.thy_tables.specs.PageEntry.{no_page}
+use Rattle.thy_isa.specs.declared.state.CpuState.{CpuState}
 use Rattle.thy_control.specs.Keys.{block_key, page_key}
 use Rattle.thy_control.specs.State.{State, AreSoundTables, cell_of}
 use Rattle.thy_control.specs.Commit.{committed_state}
@@ -27,7 +28,7 @@ use Rattle.thy_commit.specs.declared.engine.Done.{Done}
 use Rattle.thy_commit.specs.declared.next.Next.{Next}
 use Rattle.thy_commit.specs.declared.next.Next.TheVariants.{Nothing, Copies, Pages, Slot, Settle, Commit, Confirm}
 use Rattle.thy_commit.specs.Items.{Item, SlotItem, item, is_under_way, copy_or, page_or_slot, page_item, next_after}
-use Rattle.thy_commit.specs.Progress.{Progress, IsDone, IsPast, Fits, state_after, IsTaken, item_of, state_next}
+use Rattle.thy_commit.specs.Progress.{Progress, IsDone, IsPast, Fits, begun, state_after, IsTaken, item_of, state_next}
 use Rattle.thy_commit.specs.Fitting.{ItemsFit, SealFits, StaysFit}
 use Rattle.thy_control.proofs.LeftLemmas.{not_pending, not_to_write, none-entry_for}
 
@@ -75,6 +76,10 @@ fits_on e f s t m n d fits taken is =
 pub seal_fits : SealFits
 unfolding sealed_state
 seal_fits e s cpu epoch fits idle = record { same_p = fits.same_p; way = refl; past = tt }
+
+-- so it is of the engine that begins
+pub fits_begun : (e f : Progress) (cpu : CpuState) (epoch : ℕ) → is_under_way e.next ≡ false → f ≡ begun cpu epoch e → (s : State) → Fits e s → Fits f (sealed_state s)
+fits_begun e f cpu epoch idle is s fits = subst (λ (x : Progress). Fits x (sealed_state s)) (sym is) (seal_fits e s cpu epoch fits idle)
 
 -- ---- calls in between
 

@@ -264,7 +264,7 @@ work-moved SettleItem s m t n h = h.work_same
 work-moved CommitItem s m t n h = h.work_same
 work-moved ConfirmItem s m t n h = h.work_same
 
-same_p-after : (i : Item) (s : State) (m : Device) → (state_after i s m).p ≡ s.p
+pub same_p-after : (i : Item) (s : State) (m : Device) → (state_after i s m).p ≡ s.p
 unfolding copied issued committed_state
 same_p-after NoItem s m = refl
 same_p-after (CopyItem i) s m = refl

@@ -11,3 +11,4 @@ pub mod ActionLemmas
 pub mod HeldLemmas
 pub mod MoveLemmas
 pub mod TableLemmas
+pub mod MadeLemmas

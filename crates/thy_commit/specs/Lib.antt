@@ -10,3 +10,4 @@ pub mod Frees
 pub mod Actions
 pub mod Moves
 pub mod Chain
+pub mod Made

@@ -3,7 +3,8 @@ ghost use Rattle.std.specs.Prelude.{◌≡◌, ◌<◌, false, true, length, nat
 ghost use Rattle.thy_base.specs.Device.{IsFramed, CountsFault, HasFailed, HasFailedToWrite, settled, written_to};
 ghost use Rattle.thy_record.specs.Commit.{commit_of};
 ghost use Rattle.thy_record.specs.declared.engine_step.EngineStep.TheVariants.{StateBlock as IsStateBlock, TableBlock as IsTableBlock};
-ghost use Rattle.thy_control.specs.State.{IsSized};
+ghost use Rattle.thy_control.specs.Seal.{sealed_state};
+ghost use Rattle.thy_control.specs.State.{State, IsSized};
 
 use crate::Next;
 use std::marker::Model;
@@ -52,7 +53,7 @@ fn slot_step(k: u64) -> EngineStep
 impl Engine {
     ghost use Rattle.thy_base.specs.Places.{slot_blocks};
     ghost use Rattle.thy_commit.specs.Items.{SlotItem, SettleItem, CommitItem, ConfirmItem, is_under_way, copy_item, page_item, next_after, answer};
-    ghost use Rattle.thy_commit.specs.Progress.{begun, Fits, IsDone, slot_block, device_after, FailsItem, IsTaken, IsNotTaken, item_of, engine_next, state_next, device_next, FailsNext};
+    ghost use Rattle.thy_commit.specs.Progress.{begun, Fits, IsDone, slot_block, FailsItem, IsTaken, IsNotTaken, item_of, engine_next, state_next, device_next, FailsNext};
 
     /// An engine with no checkpoint under way.
     pub fn new(geometry: &Geometry) -> Engine
@@ -80,7 +81,10 @@ impl Engine {
     pub fn begin(&mut self, cpu: &CpuState, epoch: u64)
         requires idle { is_under_way self.old.next ≡ false }
         requires regs { length cpu.now.regs ≡ 32 }
-        ensures { self.new ≡ begun cpu.now epoch self.old }
+        ensures begun { self.new ≡ begun cpu.now epoch self.old }
+
+        // With the controller that was sealed it belongs together.
+        ensures fits { (s : State) → Fits self.old s → Fits self.new (sealed_state s) }
     {
         self.next = Next::Copies;
         self.cpu = *cpu;
@@ -203,10 +207,8 @@ impl Engine {
         requires geometry { control.now.p ≡ self.now.p }
         requires sized { IsSized control.now (N.device nvm.old) }
         requires up { (N.device nvm.old).down ≡ false }
-        ensures answer { IfOk result (λ done. done.step ≡ answer self.now.epoch (SlotItem k)) }
-        ensures next { IfOk result (λ done. done.next ≡ next_after self.now.p (SlotItem k)) }
-        ensures device { OnOk result (N.device nvm.new ≡ device_after self.now (SlotItem k) control.now (N.device nvm.old)) }
-        ensures err { OnErr result (FailsItem self.now (SlotItem k) control.now (N.device nvm.old) (N.device nvm.new)) }
+        ensures taken { IfOk result (λ done. IsTaken (SlotItem k) self.now control.now (N.device nvm.old) done control.now (N.device nvm.new)) }
+        ensures failed { OnErr result (FailsItem self.now (SlotItem k) control.now (N.device nvm.old) (N.device nvm.new)) }
         ensures frame { IsFramed (N.device nvm.old) (N.device nvm.new) }
         ensures cause { CountsFault result (N.device nvm.old).faults (N.device nvm.new).faults }
     {

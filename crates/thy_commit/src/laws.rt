@@ -3,6 +3,7 @@ ghost use Rattle.thy_commit.specs.Actions.{FailedItemsAct, ItemsAct};
 ghost use Rattle.thy_commit.specs.Chain.{ItemsTell, SealMoves, StaysTell};
 ghost use Rattle.thy_commit.specs.Cycles.{CyclesAreFew, ItemsCount, StaysCount};
 ghost use Rattle.thy_commit.specs.Fitting.{ItemsFit, SealFits, StaysFit};
+ghost use Rattle.thy_commit.specs.Made.{ItemsMake, SealMakes, StaysMade};
 ghost use Rattle.thy_commit.specs.Moves.{FailedItemsMove, ItemsMove, NextIsTold, StaysMove};
 ghost use Rattle.thy_commit.specs.Frees.{CommitFrees, ItemsCopy};
 ghost use Rattle.thy_commit.specs.Held.{ItemsKeepStore};
@@ -119,3 +120,16 @@ pub fn the_next_checkpoint_is_kept()
 pub fn a_seal_is_a_move()
     ensures { SealMoves }
 {}
+
+/// With a seal, the checkpoint that begins is that of the sealed mark: its last versions and its processor are the plain machine at
+/// the mark's count. Every item before the last leaves it so, and every call of the controller in between, while the NVM is up.
+pub fn the_checkpoint_is_of_its_mark()
+    ensures items { ItemsMake }
+    ensures stays { StaysMade }
+    ensures seal { SealMakes }
+{
+    a_copy_keeps_versions();
+    a_page_write_keeps_versions();
+    a_page_write_keeps_others();
+    a_commit_takes_the_last();
+}
