@@ -1,5 +1,5 @@
 -- Every item keeps what controller and NVM hold together.
-use Rattle.std.proofs.Common.{◌≡◌, ◌≢◌, ℕ, ◌+◌, ◌*◌, ◌<◌, ◌≤◌, ◌==◌, ◌&&◌, not, Bool, true, false, List, [], ◌∷◌, length, get_or, map, slice_set, is_none, refl, sym, ◌∙◌, ap, subst, arith, zero, suc, Option, Some, None, option_and_then}
+use Rattle.std.proofs.Common.{◌≡◌, ◌≢◌, ℕ, ◌+◌, ◌*◌, ◌<◌, ◌≤◌, ◌==◌, ◌&&◌, not, if◌then◌else◌, Bool, true, false, List, [], ◌∷◌, length, get_or, map, slice_set, is_none, refl, sym, ◌∙◌, ap, subst, arith, zero, suc, Option, Some, None, option_and_then}
 use Rattle.std.specs.List.{range_with_len, count_by}
 use Rattle.std.proofs.lemmas.Bool.{and_parts}
 use Rattle.std.proofs.lemmas.List.{ext_get_or}
@@ -7,10 +7,13 @@ use Rattle.std.proofs.lemmas.List.FromFn.{length-map-range_with_len, get_or-map-
 use Rattle.std.proofs.lemmas.List.Sums.{sum_by-set, sum_by-cons}
 use Rattle.thy_base.specs.declared.block.Block.{Block}
 use Rattle.thy_base.specs.declared.config.Parameters.{Parameters}
-use Rattle.thy_base.specs.Device.{Device, zero_block, surplus}
+use Rattle.thy_base.specs.Device.{Device, written_to, zero_block, surplus}
 use Rattle.thy_base.proofs.DeviceLemmas.{length-applied, length-landed}
 use Rattle.thy_base.specs.Geometry.{memory_blocks}
-use Rattle.thy_base.specs.Places.{image_blocks}
+use Rattle.thy_base.specs.declared.place.Place.{Place}
+use Rattle.thy_base.specs.Places.{in_dram, number_of, image_blocks}
+use Rattle.thy_dram.specs.Contents.{written}
+use Rattle.thy_place.specs.Devices.{Devices, devices_of}
 use Rattle.thy_table.specs.Listing.{Listing, entry_at, free_count, passes, with_entry}
 use Rattle.thy_table.proofs.IndexLemmas.{one_if}
 use Rattle.thy_tables.specs.declared.block_entry.BttEntry.{BttEntry}
@@ -23,19 +26,20 @@ use Rattle.thy_tables.specs.declared.page_entry.PttEntry.{PttEntry}
 use Rattle.thy_tables.specs.BlockEntry.{new_entry}
 use Rattle.thy_tables.specs.PageEntry.{is_framed}
 use Rattle.thy_cell.specs.declared.cell.Cell.{Cell}
+use Rattle.thy_cell.specs.Cells.{seat_of, frame_at, target, last}
 use Rattle.thy_cell.specs.Checkpoint.{CommitMoves, committed_by, committed_entry, page_committed_by, committed_page, page_or_none, page_issued}
 use Rattle.thy_cell.specs.Rules.{after_copy}
 use Rattle.thy_cell.specs.Steps.{CopyKeeps, PageWriteKeeps, PageWriteKeepsOthers}
 use Rattle.thy_view.specs.Action.{Action, Rest, ReadAt, WriteAt, Barrier, Drain, Acts, after}
 use Rattle.thy_control.specs.declared.overlay.Marks.{Marks}
 use Rattle.thy_control.specs.Keys.{block_key}
-use Rattle.thy_control.specs.State.{State, AreSoundTables, IsSized, cell_of, work_of}
+use Rattle.thy_control.specs.State.{State, AreSoundTables, IsSized, cell_of, reads, work_of}
 use Rattle.thy_control.specs.Commit.{committed_state}
-use Rattle.thy_control.specs.Copies.{next_copy, block_listed, copied}
+use Rattle.thy_control.specs.Copies.{next_copy, block_listed, devices_copied, copied}
 use Rattle.thy_control.specs.Holding.{works, waits, is_promoted, waiting, promoted, holding_of}
 use Rattle.thy_control.specs.Merges.{overlays}
 use Rattle.thy_control.specs.Overlay.{is_buffered, is_overlaid, AreMarks}
-use Rattle.thy_control.specs.Pages.{next_page, block_to_write, issued}
+use Rattle.thy_control.specs.Pages.{next_page, block_to_write, devices_issued, issued}
 use Rattle.thy_control.specs.Seal.{block_is_framed}
 use Rattle.thy_control.proofs.CommitLemmas.{cell-committed}
 use Rattle.thy_control.proofs.CopyLemmas.{IsNext-entry, listed-pending}
@@ -51,7 +55,7 @@ use Rattle.thy_commit.specs.Items.{Item, NoItem, CopyItem, PageItem, SlotItem, S
 use Rattle.thy_commit.specs.Progress.{Progress, state_after, item_of, state_next, device_next}
 use Rattle.thy_commit.specs.Versions.{MovesVersions}
 use Rattle.thy_commit.specs.Held.{KeepsHolding, MovesOverlays, KeepsStore, ItemsKeepStore}
-use Rattle.thy_commit.proofs.ActionLemmas.{items_act}
+use Rattle.thy_commit.proofs.ActionLemmas.{target-in_nvm, items_act}
 use Rattle.thy_commit.proofs.FitLemmas.{IsOfPage, page-listed}
 use Rattle.thy_commit.proofs.ItemLemmas.{items_move_versions}
 
@@ -274,6 +278,38 @@ same_p-after SettleItem s m = refl
 same_p-after CommitItem s m = refl
 same_p-after ConfirmItem s m = refl
 
+-- an item writes to no place of the DRAM, and counts no store
+record KeepsDram (s t : State) : Type 0 where
+  dram_same : t.dram ≡ s.dram
+  counts_same : t.counts ≡ s.counts
+
+written-dram : (side : Bool) (at : ℕ) (v : Block) (d : Devices) → side ≡ false
+    → (if side then record d { dram = written d.dram at v } else record d { nvm = written_to d.nvm at v }).dram ≡ d.dram
+written-dram true at v d e = cc
+written-dram false at v d e = refl
+
+dram-after : (i : Item) (s : State) (m : Device) → KeepsDram s (state_after i s m)
+unfolding copied devices_copied issued devices_issued committed_state
+dram-after NoItem s m = record { dram_same = refl; counts_same = refl }
+dram-after (CopyItem i) s m =
+    let b : ℕ = block_listed i s in
+    let y : Place = target (cell_of s b) in
+    record {
+      dram_same = written-dram (in_dram y) (number_of s.p y) (reads s m (last (cell_of s b))) (devices_of m s.dram) (target-in_nvm s b);
+      counts_same = refl;
+    }
+dram-after (PageItem j) s m =
+    let b : ℕ = block_to_write j s in
+    let y : Place = target (cell_of s b) in
+    record {
+      dram_same = written-dram (in_dram y) (number_of s.p y) (reads s m (frame_at (seat_of (cell_of s b)))) (devices_of m s.dram) (target-in_nvm s b);
+      counts_same = refl;
+    }
+dram-after (SlotItem k) s m = record { dram_same = refl; counts_same = refl }
+dram-after SettleItem s m = record { dram_same = refl; counts_same = refl }
+dram-after CommitItem s m = record { dram_same = refl; counts_same = refl }
+dram-after ConfirmItem s m = record { dram_same = refl; counts_same = refl }
+
 works-same : (s : State) (m : Device) (t : State) (n : Device) → t.p ≡ s.p → IsSized s m → m.down ≡ false → IsSized t n → n.down ≡ false
     → ((b : ℕ) → b < memory_blocks s.p → work_of t n b ≡ work_of s m b) → works t n ≡ works s m
 works-same s m t n p sized up sized_now up_now same =
@@ -307,6 +343,8 @@ items_keep_store copy write others commit e s m sound tables sized fits hold up 
         open_page = refl;
         owed = counts.owed;
       };
+      dram_same = (dram-after (item_of e s) s m).dram_same;
+      counts_same = (dram-after (item_of e s) s m).counts_same;
       promoted_same = counts.promoted_same;
       overlays_are = counts.overlays_are;
     }

@@ -22,9 +22,11 @@ abbrev pub MovesOverlays : Item → State → State → Type 0
 MovesOverlays ConfirmItem s t = overlays t ≤ overlays s
 MovesOverlays i s t = overlays t ≡ overlays s
 
--- and as many pages are being promoted
+-- as many pages are being promoted; the DRAM and the counts of stores are as before
 pub record KeepsStore (i : Item) (s : State) (m : Device) (t : State) (n : Device) : Type 0 where
   pub holding : KeepsHolding (holding_of s m) (holding_of t n)
+  pub dram_same : t.dram ≡ s.dram
+  pub counts_same : t.counts ≡ s.counts
   pub promoted_same : promoted t.ptt ≡ promoted s.ptt
   pub overlays_are : MovesOverlays i s t
 

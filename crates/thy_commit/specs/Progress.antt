@@ -1,8 +1,9 @@
 -- The engine's progress, and what one cycle of it makes of the controller and of the NVM.
-use Rattle.std.specs.Prelude.{◌≡◌, ℕ, ◌+◌, ◌%◌, ◌<◌, length, Some, None}
+use Rattle.std.specs.Prelude.{◌≡◌, ℕ, ◌+◌, ◌%◌, ◌<◌, length, Some, None, Result, IfOk, OnErr}
 use Rattle.thy_base.specs.declared.block.Block.{Block}
 use Rattle.thy_base.specs.declared.config.Parameters.{Parameters}
-use Rattle.thy_base.specs.Device.{Device, written_to, settled, HasFailed, HasFailedToWrite}
+use Rattle.thy_base.specs.declared.nvm.NvmError.{NvmError}
+use Rattle.thy_base.specs.Device.{Device, written_to, settled, HasFailed, HasFailedToWrite, IsFramed, CountsFault}
 use Rattle.thy_base.specs.Places.{slot_blocks, slot_place}
 use Rattle.thy_isa.specs.declared.state.CpuState.{CpuState}
 use Rattle.thy_record.specs.Commit.{commit_of}
@@ -102,6 +103,13 @@ pub record IsTaken (i : Item) (e : Progress) (s : State) (m : Device) (d : Done)
 pub record IsNotTaken (i : Item) (e : Progress) (s : State) (m : Device) (t : State) (n : Device) : Type 0 where
   pub controller : t ≡ s
   pub failed : FailsItem e i s m n
+
+-- how it ended, and how faults are counted
+pub record Ends (i : Item) (e : Progress) (s : State) (m : Device) (r : Result Done NvmError) (t : State) (n : Device) : Type 0 where
+  pub taken : IfOk r (λ d. IsTaken i e s m d t n)
+  pub failed : OnErr r (IsNotTaken i e s m t n)
+  pub frame : IsFramed m n
+  pub cause : CountsFault r m.faults n.faults
 
 -- what comes next: the item, and the engine, the controller and the NVM after it
 abbrev pub item_of : Progress → State → Item

@@ -53,7 +53,7 @@ fn slot_step(k: u64) -> EngineStep
 impl Engine {
     ghost use Rattle.thy_base.specs.Places.{slot_blocks};
     ghost use Rattle.thy_commit.specs.Items.{SlotItem, SettleItem, CommitItem, ConfirmItem, is_under_way, copy_item, page_item, next_after, answer};
-    ghost use Rattle.thy_commit.specs.Progress.{begun, Fits, IsDone, slot_block, FailsItem, IsTaken, IsNotTaken, item_of, engine_next, state_next, device_next, FailsNext};
+    ghost use Rattle.thy_commit.specs.Progress.{begun, Fits, IsDone, slot_block, Ends, item_of, engine_next, state_next, device_next, FailsNext};
 
     /// An engine with no checkpoint under way.
     pub fn new(geometry: &Geometry) -> Engine
@@ -142,10 +142,7 @@ impl Engine {
         requires fits { Fits self.now control.old }
         requires sized { IsSized control.old (N.device nvm.old) }
         requires up { (N.device nvm.old).down ≡ false }
-        ensures taken { IfOk result (λ done. IsTaken (item_of self.now control.old) self.now control.old (N.device nvm.old) done control.new (N.device nvm.new)) }
-        ensures failed { OnErr result (IsNotTaken (item_of self.now control.old) self.now control.old (N.device nvm.old) control.new (N.device nvm.new)) }
-        ensures frame { IsFramed (N.device nvm.old) (N.device nvm.new) }
-        ensures cause { CountsFault result (N.device nvm.old).faults (N.device nvm.new).faults }
+        ensures { Ends (item_of self.now control.old) self.now control.old (N.device nvm.old) result control.new (N.device nvm.new) }
     {
         match self.next {
             Next::Nothing => Ok(Done {
@@ -166,10 +163,7 @@ impl Engine {
         requires geometry { control.old.p ≡ self.now.p }
         requires sized { IsSized control.old (N.device nvm.old) }
         requires up { (N.device nvm.old).down ≡ false }
-        ensures taken { IfOk result (λ done. IsTaken (copy_item control.old) self.now control.old (N.device nvm.old) done control.new (N.device nvm.new)) }
-        ensures failed { OnErr result (IsNotTaken (copy_item control.old) self.now control.old (N.device nvm.old) control.new (N.device nvm.new)) }
-        ensures frame { IsFramed (N.device nvm.old) (N.device nvm.new) }
-        ensures cause { CountsFault result (N.device nvm.old).faults (N.device nvm.new).faults }
+        ensures { Ends (copy_item control.old) self.now control.old (N.device nvm.old) result control.new (N.device nvm.new) }
     {
         if control.copy_next(nvm)? {
             Ok(Done {
@@ -186,10 +180,7 @@ impl Engine {
         requires geometry { control.old.p ≡ self.now.p }
         requires sized { IsSized control.old (N.device nvm.old) }
         requires up { (N.device nvm.old).down ≡ false }
-        ensures taken { IfOk result (λ done. IsTaken (page_item control.old) self.now control.old (N.device nvm.old) done control.new (N.device nvm.new)) }
-        ensures failed { OnErr result (IsNotTaken (page_item control.old) self.now control.old (N.device nvm.old) control.new (N.device nvm.new)) }
-        ensures frame { IsFramed (N.device nvm.old) (N.device nvm.new) }
-        ensures cause { CountsFault result (N.device nvm.old).faults (N.device nvm.new).faults }
+        ensures { Ends (page_item control.old) self.now control.old (N.device nvm.old) result control.new (N.device nvm.new) }
     {
         if control.page_next(nvm)? {
             Ok(Done {
@@ -207,10 +198,7 @@ impl Engine {
         requires geometry { control.now.p ≡ self.now.p }
         requires sized { IsSized control.now (N.device nvm.old) }
         requires up { (N.device nvm.old).down ≡ false }
-        ensures taken { IfOk result (λ done. IsTaken (SlotItem k) self.now control.now (N.device nvm.old) done control.now (N.device nvm.new)) }
-        ensures failed { OnErr result (FailsItem self.now (SlotItem k) control.now (N.device nvm.old) (N.device nvm.new)) }
-        ensures frame { IsFramed (N.device nvm.old) (N.device nvm.new) }
-        ensures cause { CountsFault result (N.device nvm.old).faults (N.device nvm.new).faults }
+        ensures { Ends (SlotItem k) self.now control.now (N.device nvm.old) result control.now (N.device nvm.new) }
     {
         let at = self.geometry.slot(self.epoch % 2) + k;
         nvm.write(at, &self.slot_block(k, control))?;
@@ -286,10 +274,7 @@ impl Engine {
         requires way { control.old.under_way ≡ true }
         requires done { IsDone control.old }
         requires up { (N.device nvm.old).down ≡ false }
-        ensures taken { IfOk result (λ done. IsTaken ConfirmItem self.now control.old (N.device nvm.old) done control.new (N.device nvm.new)) }
-        ensures failed { OnErr result (IsNotTaken ConfirmItem self.now control.old (N.device nvm.old) control.new (N.device nvm.new)) }
-        ensures frame { IsFramed (N.device nvm.old) (N.device nvm.new) }
-        ensures cause { CountsFault result (N.device nvm.old).faults (N.device nvm.new).faults }
+        ensures { Ends ConfirmItem self.now control.old (N.device nvm.old) result control.new (N.device nvm.new) }
     {
         nvm.barrier()?;
         control.tables();

@@ -59,7 +59,7 @@ pub fn engine_and_controller_fit()
 
 /// Every item keeps what controller and NVM hold together, seen as a store of blocks: each block, readiness, and that no page is
 /// open; there is not less room, and no more copies are owed. As many pages are being promoted, and as many buffers lie over
-/// frames, or fewer after the commit.
+/// frames, or fewer after the commit. The DRAM and the counts of stores are as before.
 pub fn items_keep_the_store()
     ensures { ItemsKeepStore }
 {
@@ -121,8 +121,9 @@ pub fn a_seal_is_a_move()
     ensures { SealMoves }
 {}
 
-/// With a seal, the checkpoint that begins is that of the sealed mark: its last versions and its processor are the plain machine at
-/// the mark's count. Every item before the last leaves it so, and every call of the controller in between, while the NVM is up.
+/// With a seal, the checkpoint that begins is that of the sealed mark: its last versions and its processor are the plain machine
+/// at the mark's count. Every item before the last leaves it so, and every call of the controller in between, while the NVM
+/// is up.
 pub fn the_checkpoint_is_of_its_mark()
     ensures items { ItemsMake }
     ensures stays { StaysMade }
