@@ -1,23 +1,19 @@
 -- Every item is one action on the NVM.
-use Rattle.std.proofs.Common.{◌≡◌, ◌≢◌, ℕ, ◌+◌, ◌%◌, ◌≤◌, nat_lt, Bool, true, false, if◌then◌else◌, refl, sym, ◌∙◌, ap, subst, inl, inr, arith, Option, Some, None}
+use Rattle.std.proofs.Common.{◌≡◌, ◌≢◌, ℕ, ◌≤◌, nat_lt, Bool, true, false, if◌then◌else◌, refl, sym, subst, inl, inr, arith, Option, Some, None}
 use Rattle.thy_base.specs.declared.block.Block.{Block}
-use Rattle.thy_base.specs.declared.config.Parameters.{Parameters}
 use Rattle.thy_base.specs.declared.place.Place.{Place}
-use Rattle.thy_base.specs.Device.{Device, written_to, settled, HasFailedToWrite}
-use Rattle.thy_base.specs.Places.{in_dram, number_of, first_home, slot_place}
+use Rattle.thy_base.specs.Device.{Device, written_to, HasFailedToWrite}
+use Rattle.thy_base.specs.Places.{in_dram, number_of, first_home}
 use Rattle.thy_dram.specs.Contents.{written}
-use Rattle.thy_place.specs.Devices.{Devices, devices_of, written_at}
-use Rattle.thy_cell.specs.declared.cell.Cell.{Cell}
+use Rattle.thy_place.specs.Devices.{Devices, devices_of}
 use Rattle.thy_cell.specs.Cells.{seat_of, frame_at, target, last}
 use Rattle.thy_record.specs.Commit.{commit_of}
-use Rattle.thy_record.specs.declared.engine_step.EngineStep.{EngineStep}
 use Rattle.thy_record.specs.declared.engine_step.EngineStep.TheVariants.{Copied, PageBlock, StateBlock, TableBlock}
 use Rattle.thy_view.specs.declared.did.Did.{Did}
 use Rattle.thy_view.specs.declared.did.Did.TheVariants.{Engine}
-use Rattle.thy_view.specs.Action.{Action, Rest, ReadAt, WriteAt, Barrier, Acts, ActionFailed}
+use Rattle.thy_view.specs.Action.{Rest, ReadAt, WriteAt, Barrier, Acts, ActionFailed}
 use Rattle.thy_control.specs.State.{State, cell_of, reads}
 use Rattle.thy_control.specs.Copies.{next_copy, block_listed, devices_copied}
-use Rattle.thy_control.specs.Moves.{moved, FailsMove}
 use Rattle.thy_control.specs.Pages.{next_page, block_to_write, devices_issued}
 use Rattle.thy_control.proofs.GuardLemmas.{behind_slots, placed-in_nvm}
 use Rattle.thy_commit.specs.declared.next.Next.{Next}

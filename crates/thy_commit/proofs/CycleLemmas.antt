@@ -1,8 +1,6 @@
 -- Every item takes one of the cycles that are left.
-use Rattle.std.proofs.Common.{◌≡◌, ◌≢◌, ℕ, ◌+◌, ◌-◌, ◌*◌, ◌<◌, ◌≤◌, nat_lt, Bool, true, false, if◌then◌else◌, All, length, get_or, refl, sym, ◌∙◌, ap, subst, arith, Option, Some, None, is_some, Result, Ok}
-use Rattle.std.specs.List.{sum_by}
+use Rattle.std.proofs.Common.{◌≡◌, ◌≢◌, ℕ, ◌+◌, ◌-◌, ◌*◌, ◌<◌, ◌≤◌, nat_lt, Bool, true, false, if◌then◌else◌, All, get_or, refl, sym, ◌∙◌, ap, subst, arith, Option, Some, None, is_some, Result, Ok}
 use Rattle.std.proofs.lemmas.Bool.{ltb-true, ltb-false}
-use Rattle.std.proofs.lemmas.List.{get_or_default}
 use Rattle.std.proofs.lemmas.List.Sums.{sum_by-le, count_by-le-length}
 use Rattle.thy_base.specs.declared.nvm.NvmError.{NvmError}
 use Rattle.thy_base.specs.Device.{Device}
@@ -10,7 +8,7 @@ use Rattle.thy_base.specs.declared.config.Parameters.{Parameters}
 use Rattle.thy_base.specs.Geometry.{memory_blocks}
 use Rattle.thy_base.specs.Places.{slot_blocks}
 use Rattle.thy_base.specs.Store.{page_of}
-use Rattle.thy_table.specs.Listing.{entry_at, passes, place_of}
+use Rattle.thy_table.specs.Listing.{entry_at, passes}
 use Rattle.thy_table.proofs.IndexLemmas.{one_if, lists-key}
 use Rattle.thy_tables.specs.declared.block_entry.BttEntry.{BttEntry}
 use Rattle.thy_tables.specs.declared.block_entry.Pending.{Pending}
@@ -32,7 +30,6 @@ use Rattle.thy_commit.specs.declared.next.Next.TheVariants.{Nothing, Copies, Pag
 use Rattle.thy_commit.specs.Items.{Item, SlotItem, item, is_under_way, copy_or, page_or_slot, page_item, next_after}
 use Rattle.thy_commit.specs.Progress.{Progress, state_after}
 use Rattle.thy_commit.specs.Cycles.{left_after, ItemsCount, most_cycles, StaysCount, CyclesAreFew}
-use Rattle.thy_control.proofs.LeftLemmas.{not_pending}
 use Rattle.thy_commit.proofs.FitLemmas.{IsOfBlock, block-listed, IsOfPage, page-listed}
 use Rattle.thy_commit.proofs.ListedLemmas.{all_at, AreBelow, sum-most, at_least}
 

@@ -1,9 +1,9 @@
 -- A checkpoint whose seal found no work, and over which no store came, frees entries of the block table.
-use Rattle.std.proofs.Common.{◌≡◌, ◌≢◌, ℕ, ◌*◌, ◌<◌, ◌≤◌, false, List, length, map, refl, sym, ◌∙◌, ap, subst, arith, Option, Some, None, option_and_then}
+use Rattle.std.proofs.Common.{◌≡◌, ◌≢◌, ℕ, ◌*◌, ◌≤◌, false, List, map, refl, sym, ◌∙◌, ap, subst, arith, Option, Some, None, option_and_then}
 use Rattle.std.proofs.lemmas.List.{length-map, ext_get_or}
 use Rattle.std.proofs.Math.ListN.{get_or-map}
 use Rattle.thy_base.specs.Device.{Device}
-use Rattle.thy_table.specs.Listing.{Listing, entry_at, free_count, mapped, passes}
+use Rattle.thy_table.specs.Listing.{entry_at, free_count, mapped, passes}
 use Rattle.thy_table.proofs.FirstLemmas.{none-first_from}
 use Rattle.thy_tables.specs.declared.block_entry.BttEntry.{BttEntry}
 use Rattle.thy_tables.specs.declared.block_entry.Pending.{Pending}
@@ -13,7 +13,7 @@ use Rattle.thy_cell.specs.Rules.{after_copy}
 use Rattle.thy_control.specs.Keys.{block_key}
 use Rattle.thy_control.specs.State.{State, AreSoundTables, cell_of}
 use Rattle.thy_control.specs.Copies.{needs_copy, next_copy, block_listed, copied}
-use Rattle.thy_control.specs.Frees.{HasNoWork, settled}
+use Rattle.thy_control.specs.Frees.{settled}
 use Rattle.thy_control.specs.Pages.{next_page, issued}
 use Rattle.thy_control.specs.Seal.{sealed_state}
 use Rattle.thy_control.proofs.CopyLemmas.{IsNext-entry, listed-pending}

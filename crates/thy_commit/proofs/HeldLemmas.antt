@@ -1,5 +1,5 @@
 -- Every item keeps what controller and NVM hold together.
-use Rattle.std.proofs.Common.{◌≡◌, ◌≢◌, ℕ, ◌+◌, ◌*◌, ◌<◌, ◌≤◌, ◌==◌, ◌&&◌, not, if◌then◌else◌, Bool, true, false, List, [], ◌∷◌, length, get_or, map, slice_set, is_none, refl, sym, ◌∙◌, ap, subst, arith, zero, suc, Option, Some, None, option_and_then}
+use Rattle.std.proofs.Common.{◌≡◌, ◌≢◌, ℕ, ◌*◌, ◌<◌, ◌≤◌, ◌==◌, ◌&&◌, not, if◌then◌else◌, Bool, true, false, List, [], ◌∷◌, length, get_or, map, is_none, refl, sym, ◌∙◌, ap, arith, suc, Option, Some, None, option_and_then}
 use Rattle.std.specs.List.{range_with_len, count_by}
 use Rattle.std.proofs.lemmas.Bool.{and_parts}
 use Rattle.std.proofs.lemmas.List.{ext_get_or}
@@ -14,7 +14,7 @@ use Rattle.thy_base.specs.declared.place.Place.{Place}
 use Rattle.thy_base.specs.Places.{in_dram, number_of, image_blocks}
 use Rattle.thy_dram.specs.Contents.{written}
 use Rattle.thy_place.specs.Devices.{Devices, devices_of}
-use Rattle.thy_table.specs.Listing.{Listing, entry_at, free_count, passes, with_entry}
+use Rattle.thy_table.specs.Listing.{Listing, entry_at, free_count, passes}
 use Rattle.thy_table.proofs.IndexLemmas.{one_if}
 use Rattle.thy_tables.specs.declared.block_entry.BttEntry.{BttEntry}
 use Rattle.thy_tables.specs.declared.block_entry.Pending.TheVariants.{Settled}
@@ -27,16 +27,16 @@ use Rattle.thy_tables.specs.BlockEntry.{new_entry}
 use Rattle.thy_tables.specs.PageEntry.{is_framed}
 use Rattle.thy_cell.specs.declared.cell.Cell.{Cell}
 use Rattle.thy_cell.specs.Cells.{seat_of, frame_at, target, last}
-use Rattle.thy_cell.specs.Checkpoint.{CommitMoves, committed_by, committed_entry, page_committed_by, committed_page, page_or_none, page_issued}
+use Rattle.thy_cell.specs.Checkpoint.{CommitMoves, committed_by, committed_entry, page_committed_by, committed_page, page_or_none}
 use Rattle.thy_cell.specs.Rules.{after_copy}
 use Rattle.thy_cell.specs.Steps.{CopyKeeps, PageWriteKeeps, PageWriteKeepsOthers}
-use Rattle.thy_view.specs.Action.{Action, Rest, ReadAt, WriteAt, Barrier, Drain, Acts, after}
+use Rattle.thy_view.specs.Action.{Action, Rest, ReadAt, WriteAt, Barrier, Drain, after}
 use Rattle.thy_control.specs.declared.overlay.Marks.{Marks}
 use Rattle.thy_control.specs.Keys.{block_key}
 use Rattle.thy_control.specs.State.{State, AreSoundTables, IsSized, cell_of, reads, work_of}
 use Rattle.thy_control.specs.Commit.{committed_state}
 use Rattle.thy_control.specs.Copies.{next_copy, block_listed, devices_copied, copied}
-use Rattle.thy_control.specs.Holding.{works, waits, is_promoted, waiting, promoted, holding_of}
+use Rattle.thy_control.specs.Holding.{works, waits, is_promoted, waiting, promoted}
 use Rattle.thy_control.specs.Merges.{overlays}
 use Rattle.thy_control.specs.Overlay.{is_buffered, is_overlaid, AreMarks}
 use Rattle.thy_control.specs.Pages.{next_page, block_to_write, devices_issued, issued}
@@ -52,9 +52,9 @@ use Rattle.thy_control.proofs.StepMarkLemmas.{AreMarks-copied, AreMarks-issued}
 use Rattle.thy_commit.specs.declared.next.Next.{Next}
 use Rattle.thy_commit.specs.declared.next.Next.TheVariants.{Nothing, Copies, Pages, Slot, Settle, Commit, Confirm}
 use Rattle.thy_commit.specs.Items.{Item, NoItem, CopyItem, PageItem, SlotItem, SettleItem, CommitItem, ConfirmItem, item, copy_or, page_or_slot, page_item}
-use Rattle.thy_commit.specs.Progress.{Progress, state_after, item_of, state_next, device_next}
+use Rattle.thy_commit.specs.Progress.{state_after, item_of, state_next, device_next}
 use Rattle.thy_commit.specs.Versions.{MovesVersions}
-use Rattle.thy_commit.specs.Held.{KeepsHolding, MovesOverlays, KeepsStore, ItemsKeepStore}
+use Rattle.thy_commit.specs.Held.{MovesOverlays, ItemsKeepStore}
 use Rattle.thy_commit.proofs.ActionLemmas.{target-in_nvm, items_act}
 use Rattle.thy_commit.proofs.FitLemmas.{IsOfPage, page-listed}
 use Rattle.thy_commit.proofs.ItemLemmas.{items_move_versions}

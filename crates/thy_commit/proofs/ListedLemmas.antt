@@ -1,12 +1,11 @@
 -- What is counted over the entries of a table is counted over the numbers that they list.
 use Rattle.std.proofs.Common.{◌≡◌, ◌≢◌, ℕ, ◌+◌, ◌<◌, ◌≤◌, ◌==◌, if◌then◌else◌, Bool, true, false, All, List, [], ◌∷◌, length, get_or, slice_set, refl, sym, ◌∙◌, ap, subst, inl, inr, arith, zero, suc, Option, Some, None}
 use Rattle.std.specs.List.{sum_by}
-use Rattle.std.proofs.lemmas.Bool.{cases_eq, cases_lt, eqb-true, eq-eqb, ne_eqb}
-use Rattle.std.proofs.lemmas.List.{length-set, get_or_default, get_or-set_same, get_or-set_other}
+use Rattle.std.proofs.lemmas.Bool.{cases_eq, cases_lt, eq-eqb, ne_eqb}
+use Rattle.std.proofs.lemmas.List.{get_or_default, get_or-set_same, get_or-set_other}
 use Rattle.std.proofs.lemmas.List.Sums.{sum_by-set, sum_by-le, sum_by-cons, get_or-le-sum_by}
 use Rattle.thy_table.specs.Listing.{Listing, IsListing, entry_at, lists, place_of}
 use Rattle.thy_table.proofs.ListingLaws.{place_of-lists, none-lists, found-once}
-use Rattle.thy_table.proofs.IndexLemmas.{lists-key}
 
 -- the sum over the numbers below a bound
 abbrev total : (ℕ → ℕ) → ℕ → ℕ

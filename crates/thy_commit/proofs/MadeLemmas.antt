@@ -1,11 +1,10 @@
 -- The checkpoint under way stays that of the sealed mark.
-use Rattle.std.proofs.Common.{◌≡◌, ◌≢◌, ℕ, ◌+◌, ◌<◌, ◌≤◌, nat_lt, Bool, true, false, if◌then◌else◌, List, length, map, refl, sym, ◌∙◌, ap, subst, arith, Option, Some, None}
+use Rattle.std.proofs.Common.{◌≡◌, ◌≢◌, ℕ, ◌+◌, ◌<◌, ◌≤◌, nat_lt, Bool, true, false, if◌then◌else◌, length, map, refl, sym, ◌∙◌, ap, arith, Option, Some, None}
 use Rattle.std.specs.List.{range_with_len}
 use Rattle.std.proofs.lemmas.List.{ext_get_or}
 use Rattle.std.proofs.lemmas.List.FromFn.{length-map-range_with_len, get_or-map-range_with_len}
 use Rattle.thy_base.specs.declared.block.Block.{Block}
 use Rattle.thy_base.specs.declared.config.Parameters.{Parameters}
-use Rattle.thy_base.specs.declared.mark.Mark.{Mark}
 use Rattle.thy_base.specs.declared.place.Place.{Place}
 use Rattle.thy_base.specs.Device.{Device, block_at, newest, written_to, zero_block}
 use Rattle.thy_base.specs.Geometry.{memory_blocks}
@@ -20,7 +19,7 @@ use Rattle.thy_cell.specs.Cells.{seat_of, frame_at, target, last}
 use Rattle.thy_cell.specs.Checkpoint.{CommitMoves}
 use Rattle.thy_cell.specs.Steps.{CopyKeeps, PageWriteKeeps, PageWriteKeepsOthers}
 use Rattle.thy_view.specs.Origin.{Origin, at}
-use Rattle.thy_control.specs.State.{State, AreSoundTables, IsSized, cell_of, reads, last_of, work_of}
+use Rattle.thy_control.specs.State.{State, IsSized, cell_of, reads, last_of, work_of}
 use Rattle.thy_control.specs.Copies.{next_copy, block_listed, devices_copied}
 use Rattle.thy_control.specs.Pages.{next_page, block_to_write, devices_issued}
 use Rattle.thy_control.proofs.GuardLemmas.{behind_slots}
@@ -29,7 +28,7 @@ use Rattle.thy_control.specs.Stays.{StaysUp, StaysHeld}
 use Rattle.thy_commit.specs.declared.next.Next.{Next}
 use Rattle.thy_commit.specs.declared.next.Next.TheVariants.{Nothing, Copies, Pages, Slot, Settle, Commit, Confirm}
 use Rattle.thy_commit.specs.Items.{Item, NoItem, CopyItem, PageItem, SlotItem, SettleItem, CommitItem, ConfirmItem, item, is_under_way, copy_or, page_or_slot, page_item, next_after}
-use Rattle.thy_commit.specs.Progress.{Progress, slot_number, slot_block, state_after, device_after, item_of, state_next, device_next}
+use Rattle.thy_commit.specs.Progress.{Progress, slot_number, slot_block, device_after, item_of, state_next, device_next}
 use Rattle.thy_commit.specs.Versions.{MovesVersions, lasts}
 use Rattle.thy_commit.specs.Moves.{Checkpoints, is_written, checkpoints_after, IsMadeFor}
 use Rattle.thy_commit.specs.Made.{ItemsMake, StaysMade, SealMakes}

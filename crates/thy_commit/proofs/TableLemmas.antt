@@ -1,11 +1,9 @@
 -- What every item makes of the tables of both checkpoints, and so of the images that have them.
-use Rattle.std.proofs.Common.{◌≡◌, ◌≢◌, ℕ, ◌+◌, ◌%◌, ◌<◌, nat_lt, Bool, true, false, if◌then◌else◌, List, refl, sym, ◌∙◌, ap, subst, arith, Option, Some, None}
+use Rattle.std.proofs.Common.{◌≡◌, ◌≢◌, ℕ, ◌+◌, ◌%◌, nat_lt, Bool, true, false, if◌then◌else◌, List, refl, sym, ◌∙◌, ap, subst, arith, Option, Some, None}
 use Rattle.thy_base.specs.declared.block.Block.{Block}
-use Rattle.thy_base.specs.declared.config.Parameters.{Parameters}
-use Rattle.thy_base.specs.Device.{Device, block_at}
+use Rattle.thy_base.specs.Device.{Device}
 use Rattle.thy_base.specs.Places.{slot_blocks}
 use Rattle.thy_crash.specs.Saved.{Saved, Kept}
-use Rattle.thy_record.specs.Commit.{epoch_of}
 use Rattle.thy_record.specs.Issuing.{IsToldBy}
 use Rattle.thy_record.specs.Tables.{Tables}
 use Rattle.thy_cell.specs.Rules.{after_copy}
@@ -19,13 +17,12 @@ use Rattle.thy_control.specs.Commit.{committed_state}
 use Rattle.thy_control.specs.Copies.{next_copy, block_listed, copied}
 use Rattle.thy_control.specs.Pages.{next_page, block_to_write, issued}
 use Rattle.thy_control.specs.Seal.{sealed_state}
-use Rattle.thy_control.specs.Stays.{Stays}
 use Rattle.thy_control.proofs.CopyLemmas.{IsNext-entry, listed-pending}
 use Rattle.thy_control.proofs.IssueLemmas.{IsDue-entry, listed-busy}
 use Rattle.thy_control.proofs.MovedTablesLemmas.{CommitsTables-committed, tables0-sealed}
 use Rattle.thy_control.proofs.StayLemmas.{map-block, map-page}
 use Rattle.thy_protocol.specs.Keeps.{IsOf, Tells, TellsAll}
-use Rattle.thy_protocol.specs.Moves.{Standing, standing, IsKeeping, Move, Seals}
+use Rattle.thy_protocol.specs.Moves.{Standing, standing, Move, Seals}
 use Rattle.thy_protocol.proofs.LayoutLemmas.{decode_by-whole_back}
 use Rattle.thy_base.specs.declared.mark.Mark.{Mark}
 use Rattle.thy_commit.specs.declared.next.Next.{Next}
@@ -35,7 +32,7 @@ use Rattle.thy_commit.specs.Progress.{Progress, Fits, begun, state_after}
 use Rattle.thy_commit.specs.Tables.{KeepsTables, MovesTables, ItemsMoveTables}
 use Rattle.thy_commit.specs.Written.{HasStood}
 use Rattle.thy_commit.specs.Moves.{Checkpoints, layout_of, is_written, saved_at, standing_at, checkpoints_after, IsKeptBy, IsNextBy, AreTold, IsMadeFor}
-use Rattle.thy_commit.specs.Chain.{ItemsTell, StaysTell, IsNextSeal, sealing, IsSealed, SealMoves}
+use Rattle.thy_commit.specs.Chain.{ItemsTell, StaysTell, IsNextSeal, sealing, SealMoves}
 use Rattle.thy_commit.proofs.MoveLemmas.{next_is_told}
 
 tables-same : (s : State) → KeepsTables s s

@@ -6,9 +6,9 @@ use Rattle.thy_record.specs.declared.engine_step.EngineStep.TheVariants.{Committ
 use Rattle.thy_view.specs.declared.did.Did.{Did}
 use Rattle.thy_view.specs.declared.did.Did.TheVariants.{Engine, Committed}
 use Rattle.thy_view.specs.Action.{Acts, ActionFailed}
-use Rattle.thy_control.specs.State.{State, AreSoundTables}
+use Rattle.thy_control.specs.State.{State}
 use Rattle.thy_commit.specs.Items.{answer}
-use Rattle.thy_commit.specs.Progress.{Progress, Fits, item_of, device_next, FailsNext}
+use Rattle.thy_commit.specs.Progress.{Progress, item_of, device_next, FailsNext}
 
 -- how a machine tells the engine's answer; with the last one, how many instructions were retired meanwhile
 abbrev pub did_by : ℕ → EngineStep → Did

@@ -1,5 +1,5 @@
 -- One checkpoint after another: the tables of the image that is kept stay known, and a seal is a move.
-use Rattle.std.specs.Prelude.{◌≡◌, ℕ, ◌+◌, true, false, Option, Some, None}
+use Rattle.std.specs.Prelude.{◌≡◌, ◌+◌, true, false, Some, None}
 use Rattle.thy_base.specs.declared.mark.Mark.{Mark}
 use Rattle.thy_base.specs.Device.{Device}
 use Rattle.thy_isa.specs.declared.state.CpuState.{CpuState}

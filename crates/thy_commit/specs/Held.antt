@@ -1,6 +1,6 @@
 -- An item keeps what controller and NVM hold together, seen as a store of blocks.
 use Rattle.std.specs.Prelude.{◌≡◌, ◌≤◌, false}
-use Rattle.thy_base.specs.Device.{Device, IsFramed}
+use Rattle.thy_base.specs.Device.{Device}
 use Rattle.thy_base.specs.Store.{Holding}
 use Rattle.thy_control.specs.State.{State, AreSoundTables, IsSized}
 use Rattle.thy_control.specs.Holding.{holding_of, promoted}

@@ -19,7 +19,7 @@ use Rattle.thy_protocol.specs.Moves.{Standing, standing, Move}
 use Rattle.thy_protocol.specs.VersionOne.{version_one}
 use Rattle.thy_commit.specs.declared.next.Next.{Next}
 use Rattle.thy_commit.specs.declared.next.Next.TheVariants.{Settle, Commit, Confirm}
-use Rattle.thy_commit.specs.Items.{Item, SettleItem, CommitItem, ConfirmItem, is_under_way}
+use Rattle.thy_commit.specs.Items.{Item, SettleItem, ConfirmItem, is_under_way}
 use Rattle.thy_commit.specs.Progress.{Progress, IsSoundProgress, Fits, item_of, engine_next, device_next, FailsNext}
 use Rattle.thy_commit.specs.Versions.{lasts}
 use Rattle.thy_commit.specs.Written.{Stands}

@@ -1,4 +1,4 @@
-use Rattle.std.proofs.Common.{sym, ap}
+use Rattle.std.proofs.Common.{ap}
 use Rattle.thy_commit.specs.Progress.{Progress}
 use Rattle.thy_commit.proofs.FitLemmas.{fits_on}
 use Rattle.thy_commit.proofs.engine.Engine.step.Goals as goal
