@@ -1,20 +1,22 @@
 -- Engine and controller belong together after every item, after a seal, and over every call in between.
 use Rattle.std.proofs.Common.{◌≡◌, ℕ, ◌+◌, ◌*◌, ◌<◌, ◌≤◌, nat_lt, Bool, true, false, ◌&&◌, if◌then◌else◌, refl, sym, ◌∙◌, ap, subst, arith, Option, Some, None}
-use Rattle.std.proofs.lemmas.Bool.{le-ltb}
+use Rattle.std.proofs.lemmas.Bool.{le-ltb, ltb-false}
 use Rattle.thy_base.specs.declared.config.Parameters.{Parameters}
 use Rattle.thy_base.specs.Device.{Device}
 use Rattle.thy_base.specs.Geometry.{memory_blocks}
 use Rattle.thy_base.specs.Places.{slot_blocks}
 use Rattle.thy_base.specs.Store.{page_of}
-use Rattle.thy_table.specs.Listing.{entry_at, passes, place_of}
+use Rattle.thy_table.specs.Listing.{Listing, next_from, entry_at, passes, place_of}
 use Rattle.thy_table.proofs.IndexLemmas.{lists-key}
-use Rattle.thy_table.proofs.FirstLemmas.{first_from-none}
+use Rattle.thy_table.proofs.FirstLemmas.{first_from-none, none-first_from}
 use Rattle.thy_tables.specs.declared.block_entry.BttEntry.{BttEntry}
-use Rattle.thy_tables.specs.declared.block_entry.Pending.TheVariants.{Settled}
+use Rattle.thy_tables.specs.declared.block_entry.Pending.{Pending}
+use Rattle.thy_tables.specs.declared.block_entry.Pending.TheVariants.{Settled, FromBuffer, FromAlternate}
 use Rattle.thy_tables.specs.declared.page_entry.PttEntry.{PttEntry}
 use Rattle.thy_tables.specs.BlockEntry.{new_entry}
 use Rattle.thy_tables.specs.PageEntry.{no_page}
 use Rattle.thy_isa.specs.declared.state.CpuState.{CpuState}
+use Rattle.thy_control.specs.Find.{entry_for}
 use Rattle.thy_control.specs.Keys.{block_key, page_key}
 use Rattle.thy_control.specs.State.{State, AreSoundTables, cell_of}
 use Rattle.thy_control.specs.Commit.{committed_state}
@@ -22,14 +24,36 @@ use Rattle.thy_control.specs.Copies.{is_pending, needs_copy, next_copy, copied}
 use Rattle.thy_control.specs.Pages.{needs_write, next_page, issued}
 use Rattle.thy_control.specs.Seal.{sealed_state}
 use Rattle.thy_control.specs.Stays.{Stays}
-use Rattle.thy_control.proofs.FindLemmas.{entry_for-some}
+use Rattle.thy_control.proofs.FindLemmas.{found_entry, entry_for-none, entry_for-some}
 use Rattle.thy_commit.specs.declared.engine.Done.{Done}
 use Rattle.thy_commit.specs.declared.next.Next.{Next}
 use Rattle.thy_commit.specs.declared.next.Next.TheVariants.{Nothing, Copies, Pages, Slot, Settle, Commit, Confirm}
 use Rattle.thy_commit.specs.Items.{Item, SlotItem, item, is_under_way, copy_or, page_or_slot, page_item, next_after}
 use Rattle.thy_commit.specs.Progress.{Progress, IsDone, IsPast, Fits, begun, state_after, IsTaken, item_of, state_next}
-use Rattle.thy_commit.specs.Fitting.{ItemsFit, SealFits, StaysFit}
 use Rattle.thy_control.proofs.LeftLemmas.{not_pending, not_to_write, none-entry_for}
+use Rattle.thy_commit.specs.Fitting.{IdleFits, ItemsFit, SealFits, StaysFit}
+
+-- ---- nothing left
+
+settled-all : (s : State) → next_copy s ≡ None → (b : ℕ) → (cell_of s b).entry.pend ≡ Settled
+settled-all s none b = not_pending (cell_of s b).entry.pend (none-entry_for block_key new_entry needs_copy s.btt none (λ n. refl) b)
+
+written-all : (s : State) → next_page s ≡ None → (b : ℕ) → (cell_of s b).page.busy ≡ true → 64 ≤ (cell_of s b).page.issued
+written-all s none b = not_to_write (cell_of s b).page.busy (cell_of s b).page.issued (none-entry_for page_key no_page needs_write s.ptt none (λ n. refl) (page_of b))
+
+-- ---- idle
+
+past-idle : (q : Next) (s : State) → is_under_way q ≡ false → IsPast q s
+past-idle Nothing s h = tt
+past-idle Copies s h = cc
+past-idle Pages s h = cc
+past-idle (Slot k) s h = cc
+past-idle Settle s h = cc
+past-idle Commit s h = cc
+past-idle Confirm s h = cc
+
+pub idle_fits : IdleFits
+idle_fits e s same idle way = record { same_p = same; way = way ∙ sym idle; past = past-idle e.next s idle }
 
 -- ---- items
 
@@ -126,9 +150,8 @@ module _ (s : State) (m : Device) (t : State) (n : Device) (tables : AreSoundTab
     by_entry i None was = refl
     by_entry i (Some e) was =
         let of_block : IsOfBlock t tables e = block-listed t tables i e was in
-        let old : (cell_of s e.block).entry.pend ≡ Settled
-        = not_pending (cell_of s e.block).entry.pend (none-entry_for block_key new_entry needs_copy s.btt none (λ n. refl) e.block) in
-        let new : (cell_of t e.block).entry.pend ≡ Settled = (stays.cells e.block (before e.block of_block.inside)).settled old in
+        let new : (cell_of t e.block).entry.pend ≡ Settled
+        = (stays.cells e.block (before e.block of_block.inside)).settled (settled-all s none e.block) in
         ap needs_copy (sym of_block.entry) ∙ ap is_pending new
 
   pages-stay : next_page s ≡ None → next_page t ≡ None
@@ -139,10 +162,8 @@ module _ (s : State) (m : Device) (t : State) (n : Device) (tables : AreSoundTab
         let of_page : IsOfPage t tables e = page-listed t tables j e was in
         let b : ℕ = 64 * e.page in
         let cell = stays.cells b (before b of_page.inside) in
-        let old : (cell_of s b).page.busy ≡ true → 64 ≤ (cell_of s b).page.issued
-        = not_to_write (cell_of s b).page.busy (cell_of s b).page.issued (none-entry_for page_key no_page needs_write s.ptt none (λ n. refl) (page_of b)) in
         ap needs_write (sym of_page.page)
-        ∙ written-not (cell_of t b).page.busy (cell_of t b).page.issued (λ busy. omega (arith, old (cell.busy_before busy), cell.issued))
+        ∙ written-not (cell_of t b).page.busy (cell_of t b).page.issued (λ busy. omega (arith, written-all s none b (cell.busy_before busy), cell.issued))
 
   done-stays : IsDone s → IsDone t
   done-stays done = record { copies = copies-stay done.copies; pages = pages-stay done.pages }

@@ -8,6 +8,12 @@ use Rattle.thy_control.specs.Stays.{Stays}
 use Rattle.thy_commit.specs.Items.{is_under_way}
 use Rattle.thy_commit.specs.Progress.{Progress, Fits, begun, engine_next, state_next}
 
+-- they do where no checkpoint is under way in either
+abbrev pub IdleFits : Type 0
+IdleFits =
+    (e : Progress) (s : State)
+    → s.p ≡ e.p → is_under_way e.next ≡ false → s.under_way ≡ false → Fits e s
+
 -- every item leaves them so
 abbrev pub ItemsFit : Type 0
 ItemsFit = (e : Progress) (s : State) (m : Device) → Fits e s → Fits (engine_next e s) (state_next e s m)

@@ -2,7 +2,7 @@
 ghost use Rattle.thy_commit.specs.Actions.{FailedItemsAct, ItemsAct};
 ghost use Rattle.thy_commit.specs.Chain.{ItemsTell, SealMoves, StaysTell};
 ghost use Rattle.thy_commit.specs.Cycles.{CyclesAreFew, ItemsCount, StaysCount};
-ghost use Rattle.thy_commit.specs.Fitting.{ItemsFit, SealFits, StaysFit};
+ghost use Rattle.thy_commit.specs.Fitting.{IdleFits, ItemsFit, SealFits, StaysFit};
 ghost use Rattle.thy_commit.specs.Made.{ItemsMake, SealMakes, StaysMade};
 ghost use Rattle.thy_commit.specs.Moves.{FailedItemsMove, ItemsMove, NextIsTold, StaysMove};
 ghost use Rattle.thy_commit.specs.Frees.{CommitFrees, ItemsCopy};
@@ -49,9 +49,11 @@ pub fn every_item_takes_a_cycle()
     ensures most { CyclesAreFew }
 {}
 
-/// Engine and controller belong together after every item, after a seal with which a checkpoint begins, and after every call
-/// of the controller in between, whether or not it failed: what was done stays so.
+/// Engine and controller belong together where no checkpoint is under way in either. They do so after every item, after a seal
+/// with which a checkpoint begins, and after every call of the controller in between, whether or not it failed: what was
+/// done stays so.
 pub fn engine_and_controller_fit()
+    ensures idle { IdleFits }
     ensures items { ItemsFit }
     ensures seal { SealFits }
     ensures stays { StaysFit }

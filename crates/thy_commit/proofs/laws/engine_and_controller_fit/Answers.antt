@@ -1,5 +1,8 @@
-use Rattle.thy_commit.proofs.FitLemmas.{items_fit, seal_fits, stays_fit}
+use Rattle.thy_commit.proofs.FitLemmas.{idle_fits, items_fit, seal_fits, stays_fit}
 use Rattle.thy_commit.proofs.laws.engine_and_controller_fit.Goals as goal
+
+pub returns-clause-idle : goal.returns-clause-idle
+returns-clause-idle c = idle_fits
 
 pub returns-clause-items : goal.returns-clause-items
 returns-clause-items c = items_fit
