@@ -15,7 +15,6 @@ use Rattle.thy_tables.specs.declared.block_entry.Pending.TheVariants.{Settled, F
 use Rattle.thy_tables.specs.declared.page_entry.PttEntry.{PttEntry}
 use Rattle.thy_tables.specs.BlockEntry.{new_entry}
 use Rattle.thy_tables.specs.PageEntry.{no_page}
-use Rattle.thy_isa.specs.declared.state.CpuState.{CpuState}
 use Rattle.thy_control.specs.Find.{entry_for}
 use Rattle.thy_control.specs.Keys.{block_key, page_key}
 use Rattle.thy_control.specs.State.{State, AreSoundTables, cell_of}
@@ -96,13 +95,17 @@ fits_on e f s t m n d fits taken is =
     subst (λ (x : State). Fits f x) (sym taken.controller)
     (subst (λ (x : Progress). Fits x (state_next e s m)) (sym (is ∙ ap (λ (q : Next). record e { next = q }) taken.next)) (items_fit e s m fits))
 
-pub seal_fits : SealFits
+-- and of one that begins, over the controller that was sealed
+pub fits_begun : (e f : Progress) → f.p ≡ e.p → f.next ≡ Copies → (s : State) → Fits e s → Fits f (sealed_state s)
 unfolding sealed_state
-seal_fits e s cpu epoch fits idle = record { same_p = fits.same_p; way = refl; past = tt }
+fits_begun e f same copies s fits = record {
+  same_p = fits.same_p ∙ sym same;
+  way = ap is_under_way (sym copies);
+  past = subst (λ (q : Next). IsPast q (sealed_state s)) (sym copies) tt;
+}
 
--- so it is of the engine that begins
-pub fits_begun : (e f : Progress) (cpu : CpuState) (epoch : ℕ) → is_under_way e.next ≡ false → f ≡ begun cpu epoch e → (s : State) → Fits e s → Fits f (sealed_state s)
-fits_begun e f cpu epoch idle is s fits = subst (λ (x : Progress). Fits x (sealed_state s)) (sym is) (seal_fits e s cpu epoch fits idle)
+pub seal_fits : SealFits
+seal_fits e s cpu epoch fits = fits_begun e (begun cpu epoch e) refl refl s fits
 
 -- ---- calls in between
 

@@ -22,7 +22,7 @@ ItemsFit = (e : Progress) (s : State) (m : Device) → Fits e s → Fits (engine
 abbrev pub SealFits : Type 0
 SealFits =
     (e : Progress) (s : State) (cpu : CpuState) (epoch : ℕ)
-    → Fits e s → is_under_way e.next ≡ false → Fits (begun cpu epoch e) (sealed_state s)
+    → Fits e s → Fits (begun cpu epoch e) (sealed_state s)
 
 -- and every call of the controller in between, whether or not it failed
 abbrev pub StaysFit : Type 0
