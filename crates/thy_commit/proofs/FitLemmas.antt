@@ -1,21 +1,19 @@
 -- Engine and controller belong together after every item, after a seal, and over every call in between.
 use Rattle.std.proofs.Common.{◌≡◌, ℕ, ◌+◌, ◌*◌, ◌<◌, ◌≤◌, nat_lt, Bool, true, false, ◌&&◌, if◌then◌else◌, refl, sym, ◌∙◌, ap, subst, arith, Option, Some, None}
-use Rattle.std.proofs.lemmas.Bool.{le-ltb, ltb-false}
+use Rattle.std.proofs.lemmas.Bool.{le-ltb}
 use Rattle.thy_base.specs.declared.config.Parameters.{Parameters}
 use Rattle.thy_base.specs.Device.{Device}
 use Rattle.thy_base.specs.Geometry.{memory_blocks}
 use Rattle.thy_base.specs.Places.{slot_blocks}
 use Rattle.thy_base.specs.Store.{page_of}
-use Rattle.thy_table.specs.Listing.{Listing, next_from, entry_at, passes, place_of}
+use Rattle.thy_table.specs.Listing.{entry_at, passes, place_of}
 use Rattle.thy_table.proofs.IndexLemmas.{lists-key}
-use Rattle.thy_table.proofs.FirstLemmas.{first_from-none, none-first_from}
+use Rattle.thy_table.proofs.FirstLemmas.{first_from-none}
 use Rattle.thy_tables.specs.declared.block_entry.BttEntry.{BttEntry}
-use Rattle.thy_tables.specs.declared.block_entry.Pending.{Pending}
-use Rattle.thy_tables.specs.declared.block_entry.Pending.TheVariants.{Settled, FromBuffer, FromAlternate}
+use Rattle.thy_tables.specs.declared.block_entry.Pending.TheVariants.{Settled}
 use Rattle.thy_tables.specs.declared.page_entry.PttEntry.{PttEntry}
 use Rattle.thy_tables.specs.BlockEntry.{new_entry}
 use Rattle.thy_tables.specs.PageEntry.{no_page}
-use Rattle.thy_control.specs.Find.{entry_for}
 use Rattle.thy_control.specs.Keys.{block_key, page_key}
 use Rattle.thy_control.specs.State.{State, AreSoundTables, cell_of}
 use Rattle.thy_control.specs.Commit.{committed_state}
@@ -23,7 +21,7 @@ use Rattle.thy_control.specs.Copies.{is_pending, needs_copy, next_copy, copied}
 use Rattle.thy_control.specs.Pages.{needs_write, next_page, issued}
 use Rattle.thy_control.specs.Seal.{sealed_state}
 use Rattle.thy_control.specs.Stays.{Stays}
-use Rattle.thy_control.proofs.FindLemmas.{found_entry, entry_for-none, entry_for-some}
+use Rattle.thy_control.proofs.FindLemmas.{entry_for-some}
 use Rattle.thy_commit.specs.declared.engine.Done.{Done}
 use Rattle.thy_commit.specs.declared.next.Next.{Next}
 use Rattle.thy_commit.specs.declared.next.Next.TheVariants.{Nothing, Copies, Pages, Slot, Settle, Commit, Confirm}

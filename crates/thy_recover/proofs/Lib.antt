@@ -5,3 +5,8 @@ pub mod WorkLemmas
 pub mod RecoverLemmas
 pub mod StepLemmas
 pub mod NearerLemmas
+pub mod BlockLemmas
+pub mod StartLemmas
+pub mod WrittenLemmas
+pub mod SoundLemmas
+pub mod StepLawLemmas

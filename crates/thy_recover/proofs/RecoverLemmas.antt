@@ -29,41 +29,38 @@ use Rattle.thy_control.specs.State.{State, AreSoundTables, cell_of, reads, new_s
 use Rattle.thy_control.specs.Stays.{HoldAll}
 use Rattle.thy_control.specs.Keys.{block_key, page_key}
 use Rattle.thy_control.specs.CheckpointTables.{tables0, entry_lists, page_lists, CommittedTables}
-use Rattle.thy_control.specs.Boot.{MayFrame, page_in, framed_block, LoadsFrame, with_frame, FramedHoldsAll}
+use Rattle.thy_control.specs.Boot.{IsBooting, MayFrame, page_in, framed_block, LoadsFrame, with_frame, FramedHoldsAll}
 use Rattle.thy_control.proofs.BootLemmas.{IsBooting-new}
 use Rattle.thy_control.proofs.NewLemmas.{entry_at-empty}
 use Rattle.thy_control.proofs.FrameLemmas.{IsBooting-frame}
 use Rattle.thy_view.specs.Safe.{ceiling}
 use Rattle.thy_recover.specs.declared.stage.Stage.{Stage}
-use Rattle.thy_recover.specs.declared.stage.Stage.TheVariants.{Unread, Header, Slot, Frames, Refusing, Loading, Restored}
-use Rattle.thy_recover.specs.Boot.{Booting, new_boot, answer_at, answer_of, slot_of, tables_of, refusing_or, after_commit, after_header, frames_of, next_page, after_slot, after_frame, with_slot_block, gone_on, IsJudged, JudgesUnless, GoesOn}
+use Rattle.thy_recover.specs.declared.stage.Stage.TheVariants.{Unread, Header, Slot, Frames, Refusing, Loading, Restored, Loaded}
+use Rattle.thy_recover.specs.declared.stage.Issue.TheVariants.{Home}
+use Rattle.thy_recover.specs.Boot.{Booting, new_boot, at_stage, answer_at, answer_of, slot_of, tables_of, refusing_or, after_commit, after_header, frames_of, next_page, after_slot, after_frame, with_slot_block, gone_on, IsJudged, JudgesUnless, GoesOn}
 use Rattle.thy_recover.specs.Listed.{HaveFirst, ListsUpTo, AsListed}
 use Rattle.thy_recover.specs.Recovers.{IsFresh, HasCommit, HasHead, HasSlot, HasTables, AreFramed, IsRestored, HasReadAt, HasRead, Tells, loads}
 use Rattle.thy_recover.proofs.StageLemmas.{none_of_two, size_of_btt, size_of_ptt}
 use Rattle.thy_recover.proofs.DecodeLemmas.{newest-settled, decode-zero, refused-head, by_slot, HasSlot-more, slot_is_whole}
 use Rattle.thy_recover.proofs.WorkLemmas.{loads-are}
 
--- a boot at another stage
-abbrev at_stage : Booting → Stage → Booting
-at_stage b s = record b { stage = s }
-
 -- ---- commit block and header
 
-pub read_commit-found : (n : Device) (b : Booting) (c : State) → b.stage ≡ Unread → HasRead n b c → HasRead n (at_stage b (after_commit (newest n 1))) c
+pub read_commit-found : (n : Device) (b : Booting) (c : State) → b.stage ≡ Unread → HasRead n b c → HasRead n (at_stage (after_commit (newest n 1)) b) c
 read_commit-found n b c is h = record { same_p = h.same_p; sized = h.sized; settled = h.settled; so_far = found } where
   fresh : IsFresh c
   fresh = subst (λ (s : Stage). HasReadAt s n b.p b.slot c) is h.so_far
 
   stage : (z : Bool) → is_zero (block_at n.image 1) ≡ z
-      → HasReadAt (if z then Loading else Header (epoch_of (block_at n.image 1)) (commit_fault (block_at n.image 1) ceiling)) n b.p b.slot c
-  stage true e = (fresh, decode-zero b.p n.image e)
+      → HasReadAt (if z then Loading (Home 0) else Header (epoch_of (block_at n.image 1)) (commit_fault (block_at n.image 1) ceiling)) n b.p b.slot c
+  stage true e = (fresh, decode-zero b.p n.image e, refl)
   stage false e = (fresh, record { committed = e; of_epoch = refl }, refl)
 
   found : HasReadAt (after_commit (newest n 1)) n b.p b.slot c
   found = subst (λ (x : Block). HasReadAt (after_commit x) n b.p b.slot c) (sym (newest-settled n 1 h.settled)) (stage (is_zero (block_at n.image 1)) refl)
 
 pub read_header-found : (n : Device) (b : Booting) (c : State) (epoch : ℕ) (fault : Option BadImage) → b.stage ≡ Header epoch fault → HasRead n b c
-    → HasRead n (at_stage b (after_header b.p epoch fault (newest n 0))) c
+    → HasRead n (at_stage (after_header b.p epoch fault (newest n 0)) b) c
 read_header-found n b c epoch fault is h = record { same_p = h.same_p; sized = h.sized; settled = h.settled; so_far = found } where
   had : IsFresh c × HasCommit n.image epoch × (fault ≡ commit_fault (block_at n.image 1) ceiling)
   had = subst (λ (s : Stage). HasReadAt s n b.p b.slot c) is h.so_far
@@ -135,18 +132,21 @@ framed_inside c i m t may = by_entry (live_at c.ptt i) refl may.listed where
       let is : framed_block i m c ≡ 64 * e.page + m = ap (λ (o : Option PttEntry). 64 * page_in o + m) s in
       omega (arith, page, is, t.ptt_numbers, may.inside)
 
+-- a page is live in a booting controller exactly where the committed checkpoint lists it
+pub live_in_tables : (c : State) → IsBooting c → (j : ℕ) → is_some (live_at c.ptt j) ≡ is_some (entry_at (tables0 c).ptt j)
+live_in_tables c booting j =
+    by_entry (live_at c.ptt j) refl
+    ∙ ap is_some (sym (get_or-map (option_and_then (λ (e : PttEntry). page_lists e.place e.page)) c.ptt.entries j None))
+  where
+    by_entry : (o : Option PttEntry) → live_at c.ptt j ≡ o → is_some (live_at c.ptt j) ≡ is_some (option_and_then (λ (e : PttEntry). page_lists e.place e.page) (live_at c.ptt j))
+    by_entry None s = ap is_some s ∙ sym (ap (λ (x : Option PttEntry). is_some (option_and_then (λ (e : PttEntry). page_lists e.place e.page) x)) s)
+    by_entry (Some e) s =
+        ap is_some s ∙ sym (ap is_some (ap (λ (q : PttEntry). page_lists q.place q.page) (booting.pages j e s))) ∙ sym (ap (λ (x : Option PttEntry). is_some (option_and_then (λ (q : PttEntry). page_lists q.place q.page) x)) s)
+
 -- a page may be framed exactly where the tables list it
 module _ (n : Device) (epoch : ℕ) (b : Booting) (c : State) (h : HasTables b.p n.image epoch b.slot c) where
   live_listed : (j : ℕ) → is_some (live_at c.ptt j) ≡ is_some (entry_at (tables_of b).ptt j)
-  live_listed j =
-      by_entry (live_at c.ptt j) refl
-      ∙ ap is_some (sym (get_or-map (option_and_then (λ (e : PttEntry). page_lists e.place e.page)) c.ptt.entries j None))
-      ∙ ap (λ (t : Tables). is_some (entry_at t.ptt j)) h.tables_are
-    where
-      by_entry : (o : Option PttEntry) → live_at c.ptt j ≡ o → is_some (live_at c.ptt j) ≡ is_some (option_and_then (λ (e : PttEntry). page_lists e.place e.page) (live_at c.ptt j))
-      by_entry None s = ap is_some s ∙ sym (ap (λ (x : Option PttEntry). is_some (option_and_then (λ (e : PttEntry). page_lists e.place e.page) x)) s)
-      by_entry (Some e) s =
-          ap is_some s ∙ sym (ap is_some (ap (λ (q : PttEntry). page_lists q.place q.page) (h.booting.pages j e s))) ∙ sym (ap (λ (x : Option PttEntry). is_some (option_and_then (λ (q : PttEntry). page_lists q.place q.page) x)) s)
+  live_listed j = live_in_tables c h.booting j ∙ ap (λ (t : Tables). is_some (entry_at t.ptt j)) h.tables_are
 
   -- with all frames loaded, the checkpoint is restored
   module _ (t : AreSoundTables c) (same : c.p ≡ b.p) (sized : length n.image ≡ image_blocks b.p) (settled : n.queue ≡ []) (all : FramedHoldsAll) (law : CommittedTables) where
@@ -290,7 +290,7 @@ module _ (n : Device) (b : Booting) (c : State) (epoch j k : ℕ) (is : b.stage 
       go_to_page-found n epoch b d tables_then u same_p_then h.sized h.settled all law (j + 1)
       (record { each = λ i m may below. framed_then.each i m may (omega (arith, below, ltb-false (k + 1) 64 e)) })
 
-  pub read_frame-found : HasRead n (at_stage b (after_frame epoch j k b)) d
+  pub read_frame-found : HasRead n (at_stage (after_frame epoch j k b) b) d
   read_frame-found = record { same_p = same_p_then; sized = h.sized; settled = h.settled; so_far = frame_stage (nat_lt (k + 1) 64) refl }
 
 -- ---- what an answer says
@@ -303,7 +303,8 @@ Tells-read n b c h = by_stage b.stage h.so_far where
   by_stage (Slot epoch next) f = tt
   by_stage (Frames epoch page next) f = tt
   by_stage (Refusing bad) f = f
-  by_stage Loading f = f.1
+  by_stage (Loading issue) f = f.1
+  by_stage Loaded f = absurd f
   by_stage (Restored epoch) f = (f.found, f.holds)
 
 pub HasRead-new : (p : Parameters) (dram : Contents) (n : Device) → length n.image ≡ image_blocks p → n.queue ≡ [] → HasRead n (new_boot p) (new_state p dram)

@@ -4,6 +4,7 @@ use Rattle.std.specs.Option.{option_or}
 use Rattle.thy_base.specs.declared.block.Block.{Block}
 use Rattle.thy_base.specs.declared.config.Parameters.{Parameters}
 use Rattle.thy_base.specs.Bytes.{written}
+use Rattle.thy_base.specs.Geometry.{memory_blocks}
 use Rattle.thy_base.specs.Places.{slot_blocks}
 use Rattle.thy_record.specs.declared.image.BadImage.{BadImage}
 use Rattle.thy_record.specs.Commit.{is_zero, epoch_of, commit_fault}
@@ -17,9 +18,11 @@ use Rattle.thy_control.specs.State.{State}
 use Rattle.thy_recover.specs.Listed.{AsListed}
 use Rattle.thy_view.specs.Safe.{ceiling}
 use Rattle.thy_recover.specs.declared.stage.Stage.{Stage}
-use Rattle.thy_recover.specs.declared.stage.Stage.TheVariants.{Unread, Header, Slot, Frames, Refusing, Loading, Restored}
+use Rattle.thy_recover.specs.declared.stage.Stage.TheVariants.{Unread, Header, Slot, Frames, Refusing, Loading, Restored, Loaded}
+use Rattle.thy_recover.specs.declared.stage.Issue.{Issue}
+use Rattle.thy_recover.specs.declared.stage.Issue.TheVariants.{Home, Slot as SlotBlock}
 use Rattle.thy_recover.specs.declared.stage.BootStep.{BootStep}
-use Rattle.thy_recover.specs.declared.stage.BootStep.TheVariants.{Reading, Loading as HasToLoad, Restarted, Refused}
+use Rattle.thy_recover.specs.declared.stage.BootStep.TheVariants.{Reading, Loading as IsLoading, Loaded as HasLoaded, Restarted, Refused}
 
 pub record Booting : Type 0 where
   pub p : Parameters
@@ -30,10 +33,22 @@ pub record Booting : Type 0 where
 abbrev pub new_boot : Parameters → Booting
 new_boot p = record { p = p; slot = replicate (64 * slot_blocks p) 0; stage = Unread }
 
--- what is read next is there
+-- what is written next is there
+abbrev pub IsIssue : Parameters → Issue → Type 0
+IsIssue p (Home b) = b < memory_blocks p
+IsIssue p (SlotBlock k) = k < slot_blocks p
+IsIssue p issue = Unit {0}
+
+-- what loading does next, at a stage of it
+abbrev pub issue_at : Stage → Option Issue
+issue_at (Loading issue) = Some issue
+issue_at _ = None
+
+-- what is read or written next is there
 abbrev pub IsThere : Parameters → Stage → Type 0
 IsThere p (Slot epoch next) = next < slot_blocks p
 IsThere p (Frames epoch page next) = (page < p.ptt) × (next < 64)
+IsThere p (Loading issue) = IsIssue p issue
 IsThere p _ = Unit {0}
 
 pub record IsBoot (b : Booting) : Type 0 where
@@ -50,7 +65,8 @@ tables_of b = tables_in b.p (slot_of b)
 -- what a step tells that left the boot so far
 abbrev pub answer_at : Stage → Booting → BootStep
 answer_at (Refusing bad) b = Refused bad
-answer_at Loading b = HasToLoad
+answer_at (Loading issue) b = IsLoading
+answer_at Loaded b = HasLoaded
 answer_at (Restored epoch) b = Restarted (cpu_of_record (slot_of b)) epoch
 answer_at _ b = Reading
 
@@ -64,9 +80,9 @@ abbrev pub refusing_or : Option BadImage → Stage → Stage
 refusing_or None next = next
 refusing_or (Some bad) next = Refusing bad
 
--- the commit block
+-- the commit block; where it is zero, the program is loaded from its first block on
 abbrev pub after_commit : Block → Stage
-after_commit block = if is_zero block then Loading else Header (epoch_of block) (commit_fault block ceiling)
+after_commit block = if is_zero block then Loading (Home 0) else Header (epoch_of block) (commit_fault block ceiling)
 
 -- the header, behind a commit block with this fault
 abbrev pub after_header : Parameters → ℕ → Option BadImage → Block → Stage
@@ -89,6 +105,10 @@ after_slot epoch b = refusing_or (slot_fault b.p ceiling epoch (slot_of b)) (fra
 abbrev pub after_frame : ℕ → ℕ → ℕ → Booting → Stage
 after_frame epoch page next b =
     if nat_lt (next + 1) 64 then Frames epoch page (next + 1) else frames_of epoch (next_page (page + 1) (tables_of b))
+
+-- the boot at another stage
+abbrev pub at_stage : Stage → Booting → Booting
+at_stage stage b = record b { stage = stage }
 
 -- the boot with a block of the slot
 abbrev pub with_slot_block : ℕ → Block → Booting → Booting

@@ -1,11 +1,11 @@
 -- What was read of an image so far, and what the controller has of it.
-use Rattle.std.specs.Prelude.{◌≡◌, ℕ, ◌+◌, ◌*◌, ◌%◌, ◌-◌, ◌<◌, true, false, List, [], length, map, None}
+use Rattle.std.specs.Prelude.{◌≡◌, ℕ, ◌+◌, ◌*◌, ◌%◌, ◌<◌, true, false, List, [], length, map, None}
 use Rattle.std.specs.List.{range_with_len}
 use Rattle.thy_base.specs.declared.block.Block.{Block}
 use Rattle.thy_base.specs.declared.config.Parameters.{Parameters}
 use Rattle.thy_base.specs.Device.{Device, block_at}
 use Rattle.thy_base.specs.Geometry.{memory_blocks}
-use Rattle.thy_base.specs.Places.{slot_blocks, slot_place, image_blocks}
+use Rattle.thy_base.specs.Places.{slot_place, image_blocks}
 use Rattle.thy_dram.specs.Contents.{Contents}
 use Rattle.thy_isa.specs.OnBlocks.{state_from}
 use Rattle.thy_record.specs.Commit.{is_zero, epoch_of, commit_fault}
@@ -23,10 +23,12 @@ use Rattle.thy_control.specs.CheckpointTables.{tables0}
 use Rattle.thy_control.specs.Boot.{IsBooting, MayFrame, framed_block}
 use Rattle.thy_view.specs.Safe.{ceiling}
 use Rattle.thy_recover.specs.declared.stage.Stage.{Stage}
-use Rattle.thy_recover.specs.declared.stage.Stage.TheVariants.{Unread, Header, Slot, Frames, Refusing, Loading, Restored}
+use Rattle.thy_recover.specs.declared.stage.Stage.TheVariants.{Unread, Header, Slot, Frames, Refusing, Loading, Restored, Loaded}
+use Rattle.thy_recover.specs.declared.stage.Issue.TheVariants.{Home}
 use Rattle.thy_recover.specs.declared.stage.BootStep.{BootStep}
-use Rattle.thy_recover.specs.declared.stage.BootStep.TheVariants.{Reading, Loading as HasToLoad, Restarted, Refused}
+use Rattle.thy_recover.specs.declared.stage.BootStep.TheVariants.{Reading, Loading as IsLoading, Loaded as HasLoaded, Restarted, Refused}
 use Rattle.thy_recover.specs.Boot.{Booting, new_boot}
+use Rattle.thy_recover.specs.Left.{boot_left}
 
 -- the controller lists nothing yet
 pub record IsFresh (c : State) : Type 0 where
@@ -78,10 +80,11 @@ HasReadAt (Header epoch fault) n p slot c = IsFresh c × HasCommit n.image epoch
 HasReadAt (Slot epoch next) n p slot c = IsFresh c × HasHead p n.image epoch × HasSlot p n.image epoch next slot
 HasReadAt (Frames epoch page next) n p slot c = HasTables p n.image epoch slot c × AreFramed c n page next × MayFrame page next c
 HasReadAt (Refusing bad) n p slot c = decode_image p ceiling n.image ≡ IsRefused bad
-HasReadAt Loading n p slot c = IsFresh c × (decode_image p ceiling n.image ≡ Nothing)
+HasReadAt (Loading issue) n p slot c = IsFresh c × (decode_image p ceiling n.image ≡ Nothing) × (issue ≡ Home 0)
 HasReadAt (Restored epoch) n p slot c = IsRestored p n epoch slot c
+HasReadAt Loaded n p slot c = ⊥
 
--- a boot, and the controller that it fills, over a device with nothing queued
+-- a boot that reads, and the controller that it fills, over a device with nothing queued
 pub record HasRead (n : Device) (b : Booting) (c : State) : Type 0 where
   pub same_p : c.p ≡ b.p
   pub sized : length n.image ≡ image_blocks b.p
@@ -90,31 +93,23 @@ pub record HasRead (n : Device) (b : Booting) (c : State) : Type 0 where
 
 -- it reads on, or tells again that the image is refused
 abbrev pub CanRecover : Stage → Type 0
-CanRecover Loading = ⊥
+CanRecover (Loading issue) = ⊥
 CanRecover (Restored epoch) = ⊥
+CanRecover Loaded = ⊥
 CanRecover _ = Unit {0}
 
 -- what an answer says of an image: a restart is that of its checkpoint, with memory as the controller loads it
 abbrev pub Tells : BootStep → Parameters → Device → State → Type 0
 Tells Reading p n c = Unit {0}
-Tells HasToLoad p n c = decode_image p ceiling n.image ≡ Nothing
+Tells IsLoading p n c = decode_image p ceiling n.image ≡ Nothing
+Tells HasLoaded p n c = ⊥
 Tells (Restarted cpu epoch) p n c = (decode_image p ceiling n.image ≡ At epoch (state_from p cpu (loads c n))) × HoldAll c n
 Tells (Refused bad) p n c = decode_image p ceiling n.image ≡ IsRefused bad
 
--- how many blocks are still to be read, at most
-abbrev pub reads_left : Parameters → Stage → ℕ
-reads_left p Unread = 2 + slot_blocks p + 64 * p.ptt
-reads_left p (Header epoch fault) = 1 + slot_blocks p + 64 * p.ptt
-reads_left p (Slot epoch next) = slot_blocks p - next + 64 * p.ptt
-reads_left p (Frames epoch page next) = 64 * (p.ptt - page) - next
-reads_left p _ = 0
-
--- a step leaves fewer; where nothing is to be read, the stage stays
+-- a step of the recovery is an action nearer to the boot's end; a refusal comes again
 abbrev pub IsNearer : Parameters → Stage → Stage → Type 0
 IsNearer p (Refusing bad) next = next ≡ Refusing bad
-IsNearer p Loading next = next ≡ Loading
-IsNearer p (Restored epoch) next = next ≡ Restored epoch
-IsNearer p old next = reads_left p next < reads_left p old
+IsNearer p old next = boot_left p next < boot_left p old
 
 -- a new boot with a new controller
 abbrev pub NewHasRead : Type 0

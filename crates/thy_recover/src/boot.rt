@@ -1,9 +1,9 @@
 //! The boot.
 ghost use Rattle.std.specs.Prelude.{◌≡◌, ◌+◌, ◌*◌, ◌≤◌, length, IfOk};
 ghost use Rattle.thy_base.specs.Bytes.{written};
-ghost use Rattle.thy_recover.specs.Boot.{new_boot, answer_of, IsBoot};
+ghost use Rattle.thy_recover.specs.Boot.{new_boot, answer_of, issue_at, IsBoot};
 
-use crate::stage::{BootStep, Stage};
+use crate::stage::{BootStep, Issue, Stage};
 use std::alloc::{AllocError, Global};
 use std::marker::Model;
 use thy_base::{BLOCK_SIZE, Block, Geometry};
@@ -64,6 +64,22 @@ impl Boot {
         self.stage
     }
 
+    /// What loading does next, where it has begun.
+    pub(crate) fn issue(&self) -> Option<Issue>
+        ensures { result ≡ issue_at self.now.stage }
+    {
+        match self.stage {
+            Stage::Loading(issue) => Some(issue),
+            Stage::Unread
+            | Stage::Header { .. }
+            | Stage::Slot { .. }
+            | Stage::Frames { .. }
+            | Stage::Refusing(_)
+            | Stage::Restored(_)
+            | Stage::Loaded => None,
+        }
+    }
+
     /// What a step tells that left the boot so far.
     pub(crate) fn answer(&self) -> BootStep
         ensures { result ≡ answer_of self.now }
@@ -73,7 +89,8 @@ impl Boot {
                 BootStep::Reading
             }
             Stage::Refusing(bad) => BootStep::Refused(bad),
-            Stage::Loading => BootStep::Loading,
+            Stage::Loading(_) => BootStep::Loading,
+            Stage::Loaded => BootStep::Loaded,
             Stage::Restored(epoch) => BootStep::Restarted(cpu_in(&self.slot), epoch),
         }
     }

@@ -1,13 +1,21 @@
-//! The recovery of a checkpoint: after power came on, the boot reads it, a block a cycle, and gives it to the controller.
+//! The boot. After power came on it reads the checkpoint in the NVM, a block a cycle, and gives it to the controller. Where
+//! there is none, it loads the start of a run: that becomes the checkpoint of epoch 0.
 #![tactic(auto)]
 
 mod boot;
 mod laws;
 mod listing;
+mod load;
 mod recover;
 mod recovery;
 mod stage;
+mod start;
+mod step;
 
 pub use boot::Boot;
-pub use laws::a_new_boot_has_read_nothing;
-pub use stage::{BootStep, Stage};
+pub use laws::{
+    a_boot_is_safe, a_boot_may_go_on, a_boot_shows_the_image, a_new_boot_has_read_nothing,
+    a_new_boot_is_one_of_the_run, a_restart_is_the_kept_one, drains_keep_the_boot,
+    failed_steps_are_moves, steps_act_once, steps_are_moves, steps_come_nearer,
+};
+pub use stage::{BootStep, Issue, Stage};

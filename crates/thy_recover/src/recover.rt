@@ -1,50 +1,30 @@
 //! The steps of the recovery, and what each has read of the image.
-ghost use Rattle.std.specs.Prelude.{◌≡◌, IfOk, OnOk, OnErr};
-ghost use Rattle.thy_recover.specs.Boot.{answer_of};
+ghost use Rattle.std.specs.Prelude.{◌≡◌, OnOk, OnErr};
 ghost use Rattle.thy_recover.specs.Reads.{IsRead};
-ghost use Rattle.thy_recover.specs.Recovers.{HasRead, CanRecover, Tells, IsNearer};
+ghost use Rattle.thy_recover.specs.Recovers.{HasRead, CanRecover, IsNearer};
 
 use crate::boot::Boot;
-use crate::stage::{BootStep, Stage};
+use crate::stage::Stage;
 use thy_base::{Nvm, NvmError};
 use thy_control::{Control, checkpoints_have_tables, loaded_frames_hold_all};
 use thy_record::BadImage;
 
 impl Boot {
-    ghost use Rattle.thy_recover.specs.declared.stage.Stage.TheVariants.{Unread as IsUnread, Header as IsHeader, Slot as IsSlot, Frames as IsFrames};
+    ghost use Rattle.thy_recover.specs.declared.stage.Stage.TheVariants.{Unread as IsUnread, Header as IsHeader};
+    ghost use Rattle.thy_recover.specs.declared.stage.Stage.TheVariants.{Slot as IsSlot, Frames as IsFrames};
 
     /// Reads the next block of the checkpoint in the NVM: commit block, header, the slot's blocks, and then, page by page,
-    /// those of the listed pages, into their frames. Writes nothing to the NVM. Once header, commit block or slot was found
-    /// at fault, it answers the refusal at each step. A restart is that of the checkpoint that the image means, with all of
-    /// memory in the controller. Nothing may be queued in the NVM. Where a read failed, boot and controller are as before.
-    pub fn recover<N: Nvm>(
+    /// those of the listed pages, into their frames. Once header, commit block or slot was found at fault, it reads none.
+    pub(crate) fn read_next<N: Nvm>(
         &mut self,
         control: &mut Control,
         nvm: &mut N,
-    ) -> Result<BootStep, NvmError>
-        requires stage { CanRecover self.old.stage }
-        requires read { HasRead (N.device nvm.old) self.old control.old }
-        ensures answer { IfOk result (λ answer. answer ≡ answer_of self.new) }
-
-        // Restart, refusal, and that there is no checkpoint, are what the image decodes to.
-        ensures tells { IfOk result (λ answer. Tells answer self.new.p (N.device nvm.new) control.new) }
-        ensures read { OnOk result (HasRead (N.device nvm.new) self.new control.new) }
-        ensures fewer { OnOk result (IsNearer self.old.p self.old.stage self.new.stage) }
-
-        ensures boot { OnErr result (self.new ≡ self.old) }
-        ensures control { OnErr result (control.new ≡ control.old) }
-        ensures nvm { IsRead result (N.device nvm.old) (N.device nvm.new) }
-    {
-        self.read_next(control, nvm)?;
-        Ok(self.answer())
-    }
-
-    /// Reads the next block, where one is to be read.
-    fn read_next<N: Nvm>(&mut self, control: &mut Control, nvm: &mut N) -> Result<(), NvmError>
+    ) -> Result<(), NvmError>
         requires stage { CanRecover self.old.stage }
         requires read { HasRead (N.device nvm.old) self.old control.old }
         ensures read { OnOk result (HasRead (N.device nvm.new) self.new control.new) }
         ensures fewer { OnOk result (IsNearer self.old.p self.old.stage self.new.stage) }
+        ensures geometry { OnOk result (self.new.p ≡ self.old.p) }
         ensures boot { OnErr result (self.new ≡ self.old) }
         ensures control { OnErr result (control.new ≡ control.old) }
         ensures nvm { IsRead result (N.device nvm.old) (N.device nvm.new) }
@@ -56,7 +36,7 @@ impl Boot {
             Stage::Frames { epoch, page, next } => {
                 self.recover_frame(epoch, page, next, control, nvm)
             }
-            Stage::Refusing(_) | Stage::Loading | Stage::Restored(_) => Ok(()),
+            Stage::Refusing(_) | Stage::Loading(_) | Stage::Restored(_) | Stage::Loaded => Ok(()),
         }
     }
 
@@ -66,6 +46,7 @@ impl Boot {
         requires read { HasRead (N.device nvm.old) self.old control.now }
         ensures read { OnOk result (HasRead (N.device nvm.new) self.new control.now) }
         ensures fewer { OnOk result (IsNearer self.old.p self.old.stage self.new.stage) }
+        ensures geometry { OnOk result (self.new.p ≡ self.old.p) }
         ensures boot { OnErr result (self.new ≡ self.old) }
         ensures nvm { IsRead result (N.device nvm.old) (N.device nvm.new) }
     {
@@ -85,6 +66,7 @@ impl Boot {
         requires read { HasRead (N.device nvm.old) self.old control.now }
         ensures read { OnOk result (HasRead (N.device nvm.new) self.new control.now) }
         ensures fewer { OnOk result (IsNearer self.old.p self.old.stage self.new.stage) }
+        ensures geometry { OnOk result (self.new.p ≡ self.old.p) }
         ensures boot { OnErr result (self.new ≡ self.old) }
         ensures nvm { IsRead result (N.device nvm.old) (N.device nvm.new) }
     {
@@ -104,6 +86,7 @@ impl Boot {
         requires read { HasRead (N.device nvm.old) self.old control.old }
         ensures read { OnOk result (HasRead (N.device nvm.new) self.new control.new) }
         ensures fewer { OnOk result (IsNearer self.old.p self.old.stage self.new.stage) }
+        ensures geometry { OnOk result (self.new.p ≡ self.old.p) }
         ensures boot { OnErr result (self.new ≡ self.old) }
         ensures control { OnErr result (control.new ≡ control.old) }
         ensures nvm { IsRead result (N.device nvm.old) (N.device nvm.new) }
@@ -131,6 +114,7 @@ impl Boot {
         requires read { HasRead (N.device nvm.old) self.old control.old }
         ensures read { OnOk result (HasRead (N.device nvm.new) self.new control.new) }
         ensures fewer { OnOk result (IsNearer self.old.p self.old.stage self.new.stage) }
+        ensures geometry { OnOk result (self.new.p ≡ self.old.p) }
         ensures boot { OnErr result (self.new ≡ self.old) }
         ensures control { OnErr result (control.new ≡ control.old) }
         ensures nvm { IsRead result (N.device nvm.old) (N.device nvm.new) }

@@ -2,7 +2,8 @@
 ghost use Rattle.std.specs.Prelude.{◌≡◌, ◌%◌, ◌+◌, ◌<◌, [], length, IfOk, OnOk, OnErr};
 ghost use Rattle.thy_base.specs.Device.{newest, IsFramed, CountsFault, HasFailed};
 ghost use Rattle.thy_base.specs.Places.{slot_blocks, slot_place, image_blocks};
-ghost use Rattle.thy_recover.specs.Boot.{after_commit, after_header, after_slot, after_frame, with_slot_block, gone_on, tables_of, slot_of, IsJudged, GoesOn, frames_of, next_page};
+ghost use Rattle.thy_recover.specs.Boot.{after_commit, after_header, after_slot, after_frame, frames_of, next_page};
+ghost use Rattle.thy_recover.specs.Boot.{at_stage, with_slot_block, gone_on, tables_of, slot_of, IsJudged, GoesOn};
 ghost use Rattle.thy_record.specs.Slots.{slot_fault as fault_of_slot};
 ghost use Rattle.thy_view.specs.Safe.{ceiling};
 ghost use Rattle.thy_recover.specs.Listed.{ListsUpTo};
@@ -10,7 +11,7 @@ ghost use Rattle.thy_recover.specs.Reads.{IsRead};
 
 use crate::boot::{Boot, keep_block};
 use crate::listing::{list_all, next_listed};
-use crate::stage::Stage;
+use crate::stage::{Issue, Stage};
 use thy_base::{Block, Nvm, NvmError};
 use thy_control::Control;
 use thy_record::{
@@ -25,7 +26,7 @@ fn stage_of_commit(commit: &Block) -> Stage
     ensures { result ≡ after_commit commit.now }
 {
     if is_zero(commit) {
-        return Stage::Loading;
+        return Stage::Loading(Issue::Home(0));
     }
     Stage::Header {
         epoch: word(commit, 1),
@@ -51,10 +52,11 @@ impl Boot {
     /// Reads the commit block.
     pub(crate) fn read_commit<N: Nvm>(&mut self, nvm: &mut N) -> Result<(), NvmError>
         requires { length (N.device nvm.old).image ≡ image_blocks self.old.p }
-        ensures state { OnOk result (self.new ≡ record self.old { stage = after_commit (newest (N.device nvm.old) 1) }) }
+        ensures state { OnOk result (self.new ≡ at_stage (after_commit (newest (N.device nvm.old) 1)) self.old) }
         ensures kept { OnErr result (self.new ≡ self.old) }
         ensures reads { IsRead result (N.device nvm.old) (N.device nvm.new) }
     {
+        let _blocks = self.geometry.blocks();
         let commit = nvm.read(1)?;
         self.stage = stage_of_commit(&commit);
         Ok(())
@@ -68,7 +70,7 @@ impl Boot {
         nvm: &mut N,
     ) -> Result<(), NvmError>
         requires { length (N.device nvm.old).image ≡ image_blocks self.old.p }
-        ensures state { OnOk result (self.new ≡ record self.old { stage = after_header self.old.p epoch fault (newest (N.device nvm.old) 0) }) }
+        ensures state { OnOk result (self.new ≡ at_stage (after_header self.old.p epoch fault (newest (N.device nvm.old) 0)) self.old) }
         ensures kept { OnErr result (self.new ≡ self.old) }
         ensures reads { IsRead result (N.device nvm.old) (N.device nvm.new) }
     {
@@ -124,7 +126,7 @@ impl Boot {
     fn judge(&mut self, epoch: u64, control: &mut Control)
         requires geometry { control.old.p ≡ self.old.p }
         requires fresh { ListsUpTo 0 0 (tables_of self.old) control.old }
-        ensures boot { self.new ≡ record self.old { stage = after_slot epoch self.old } }
+        ensures boot { self.new ≡ at_stage (after_slot epoch self.old) self.old }
         ensures control { IsJudged (fault_of_slot self.old.p ceiling epoch (slot_of self.old)) self.old control.old control.new }
     {
         faultless_tables();
@@ -141,7 +143,7 @@ impl Boot {
     pub(crate) fn go_on_framing(&mut self, epoch: u64, page: usize, next: u64)
         requires page { page < self.old.p.ptt }
         requires block { next < 64 }
-        ensures { self.new ≡ record self.old { stage = after_frame epoch page next self.old } }
+        ensures { self.new ≡ at_stage (after_frame epoch page next self.old) self.old }
     {
         let _pages = self.geometry.numbers().ptt;
         if next + 1 < 64 {
@@ -157,7 +159,7 @@ impl Boot {
 
     /// Goes to the frame of the first page that is listed at this entry or behind it; where there is none, all is restored.
     fn go_to_page(&mut self, epoch: u64, from: usize)
-        ensures { self.new ≡ record self.old { stage = frames_of epoch (next_page from (tables_of self.old)) } }
+        ensures { self.new ≡ at_stage (frames_of epoch (next_page from (tables_of self.old))) self.old }
     {
         self.stage = stage_of_page(epoch, next_listed(&self.slot, from, &self.geometry));
     }

@@ -2,6 +2,23 @@
 use thy_isa::CpuState;
 use thy_record::BadImage;
 
+/// What loading does next.
+#[derive(Clone, Copy, Debug, PartialEq, Eq)]
+pub enum Issue {
+    /// The write of this block of memory to its home.
+    Home(u64),
+    /// The write of this block of slot 0.
+    Slot(u64),
+    /// The write of the header.
+    Header,
+    /// The barrier behind all that comes before the commit block.
+    Settle,
+    /// The write of the commit block.
+    Commit,
+    /// The barrier behind the commit block.
+    Confirm,
+}
+
 /// How far a boot is.
 #[derive(Clone, Copy, Debug, PartialEq, Eq)]
 pub enum Stage {
@@ -15,10 +32,12 @@ pub enum Stage {
     Frames { epoch: u64, page: usize, next: u64 },
     /// The image is refused.
     Refusing(BadImage),
-    /// There is no checkpoint: the program has to be loaded.
-    Loading,
+    /// There is no checkpoint: the program is loaded, and this comes next.
+    Loading(Issue),
     /// The checkpoint of this epoch is restored.
     Restored(u64),
+    /// The program is loaded, as the checkpoint of epoch 0.
+    Loaded,
 }
 
 /// What a step of a boot tells.
@@ -26,10 +45,12 @@ pub enum Stage {
 pub enum BootStep {
     /// A block was read, and more are to be read.
     Reading,
-    /// There is no checkpoint: the program has to be loaded.
+    /// There is no checkpoint, and loading goes on.
     Loading,
+    /// The program is loaded, as the checkpoint of epoch 0.
+    Loaded,
     /// The checkpoint of this epoch was restored, with this state of the processor.
     Restarted(CpuState, u64),
-    /// The image is refused.
+    /// The image is refused. This comes again at each later step.
     Refused(BadImage),
 }

@@ -1,0 +1,136 @@
+-- The checkpoint of a start: tables that list nothing, and blocks that make its state.
+use Rattle.std.proofs.Common.{◌≡◌, ℕ, suc, ◌+◌, ◌-◌, ◌*◌, ◌%◌, ◌<◌, ◌≤◌, List, [], ◌∷◌, ◌++◌, length, take, drop, replicate, Option, Some, None, refl, sym, ◌∙◌, ap, inl, inr, arith}
+use Rattle.std.proofs.Math.Seq.{take-append_seam, drop-append_seam}
+use Rattle.std.proofs.lemmas.Bool.{cases_lt}
+use Rattle.std.proofs.lemmas.List.{drop-drop, drop-replicate, take-replicate, replicate-append-replicate, take-append-drop, length-take-le, length-append, length-drop, length-replicate, get_or-replicate, get_or_past}
+use Rattle.std.proofs.lemmas.List.FromFn.{length-map-range_with_len, get_or-map-range_with_len}
+use Rattle.thy_base.specs.declared.block.Block.{Block}
+use Rattle.thy_base.specs.declared.config.Parameters.{Parameters}
+use Rattle.thy_base.specs.declared.place.Place.TheVariants.{Home}
+use Rattle.thy_base.specs.Blocks.{block_bytes}
+use Rattle.thy_base.specs.Device.{zero_block, block_at}
+use Rattle.thy_base.specs.Geometry.{IsInRange, memory_blocks, program_size, console_room}
+use Rattle.thy_base.specs.Places.{slot_blocks}
+use Rattle.thy_base.specs.Store.{page_of}
+use Rattle.thy_base.proofs.BlockLemmas.{block_bytes-long}
+use Rattle.thy_base.proofs.RangeLemmas.{console_below, btt_eights, ptt_eights}
+use Rattle.thy_flat.specs.Flat.{flat}
+use Rattle.thy_isa.specs.OnBlocks.{state_from}
+use Rattle.thy_isa.specs.Step.{State, cpu_of, state_with}
+use Rattle.thy_record.specs.Tables.{Lists, IsTables, entry_of, place_by_entries, place_of}
+use Rattle.thy_record.specs.TableBlocks.{table_block_of}
+use Rattle.thy_record.specs.Words.{block_of}
+use Rattle.thy_record.proofs.EntryLemmas.{entry_of-absent}
+use Rattle.thy_record.proofs.TableLemmas.{table_block_of-entries}
+use Rattle.thy_view.specs.Origin.{Origin, IsOrigin}
+use Rattle.thy_recover.specs.Start.{IsStartFor, start_bytes, start_block, start_blocks, no_tables}
+
+-- ---- tables that list nothing
+
+lists_none : (n i k : ℕ) → Lists (replicate n None) i k → ⊥
+lists_none n i k l = elim (cases_lt i n) as (λ _. ⊥) [
+  | inl inside ↦ let both : Some k ≡ None = sym l.is ∙ get_or-replicate n i None None inside in absurd (cc)
+  | inr past ↦
+      let size : length (replicate {A = Option ℕ} n None) ≡ n = length-replicate n None in
+      let both : Some k ≡ None = sym l.is ∙ get_or_past (replicate n None) i None (omega (arith, size, past)) in absurd (cc)
+]
+
+pub IsTables-none : (p : Parameters) → IsTables p (no_tables p)
+IsTables-none p = record {
+  btt_length = length-replicate p.btt None;
+  ptt_length = length-replicate p.ptt None;
+  blocks = λ i b l. absurd (lists_none p.btt i b l);
+  pages = λ j n l. absurd (lists_none p.ptt j n l);
+  blocks_once = λ i k b l m. absurd (lists_none p.btt i b l);
+  pages_once = λ j k n l m. absurd (lists_none p.ptt j n l);
+  apart = λ i j b l m. lists_none p.btt i b l;
+}
+
+-- every block is at home
+pub place_of-none : (p : Parameters) (b : ℕ) → place_of (no_tables p) b ≡ Home b
+place_of-none p b =
+    ap (λ (o : Option ℕ). place_by_entries o (entry_of (replicate p.ptt None) (page_of b)) b)
+    (entry_of-absent (replicate p.btt None) b (λ i l. lists_none p.btt i b l))
+    ∙ ap (λ (o : Option ℕ). place_by_entries None o b)
+    (entry_of-absent (replicate p.ptt None) (page_of b) (λ i l. lists_none p.ptt i (page_of b) l))
+
+-- and their blocks hold zeros
+pub table_block-none : (p : Parameters) (k : ℕ) → IsInRange p → 5 + k < slot_blocks p → block_of (replicate 8 0) ≡ table_block_of (no_tables p) k
+table_block-none p k r inside =
+    let eights : p.btt % 8 ≡ 0 = btt_eights p r in
+    let pages : p.ptt % 8 ≡ 0 = ptt_eights p r in
+    let enough : 8 ≤ p.btt + p.ptt - 8 * k = omega (arith, inside, eights, pages) in
+    let entries : replicate 8 None ≡ take 8 (drop (8 * k) (replicate p.btt None ++ replicate p.ptt None))
+    = sym (ap (λ (xs : List (Option ℕ)). take 8 (drop (8 * k) xs)) (replicate-append-replicate p.btt p.ptt None)
+    ∙ ap (take 8) (drop-replicate (8 * k) (p.btt + p.ptt) None) ∙ take-replicate 8 (p.btt + p.ptt - 8 * k) None enough) in
+    table_block_of-entries (no_tables p) k (replicate 8 None) entries
+
+-- ---- the state
+
+same_block : (a : Block) (bytes : List ℕ) → 64 ≤ length bytes → a.0 ≡ take 64 bytes → block_bytes a ≡ take 64 bytes
+same_block a bytes l own = block_bytes-long a (ap length own ∙ length-take-le 64 bytes l) ∙ own
+
+abbrev block_from : List ℕ → ℕ → Block
+block_from bytes i = record { 0 = take 64 (drop (64 * i) bytes) }
+
+next_block : (bytes : List ℕ) (i : ℕ) → block_from bytes (suc i) ≡ block_from (drop 64 bytes) i
+next_block bytes i =
+    let e : 64 + 64 * i ≡ 64 * suc i = omega arith in
+    ap (λ (bs : List ℕ). block_from bs 0) (ap (λ k. drop k bytes) (sym e) ∙ sym (drop-drop (64 * i) 64 bytes))
+
+flat-blocks : (blocks : List Block) (bytes : List ℕ) → length bytes ≡ 64 * length blocks
+    → ((i : ℕ) → i < length blocks → block_at blocks i ≡ block_from bytes i) → flat blocks ≡ bytes
+unfolding flat
+flat-blocks [] [] l each = refl
+flat-blocks [] (byte ∷ bytes) l each = absurd (omega arith)
+flat-blocks (b ∷ blocks) bytes l each =
+    let rest : flat blocks ≡ drop 64 bytes
+    = flat-blocks blocks (drop 64 bytes) (omega (arith, length-drop 64 bytes)) (λ i less. each (suc i) (omega arith) ∙ next_block bytes i) in
+    ap (λ xs. xs ++ flat blocks) (same_block b bytes (omega arith) (ap (λ (x : Block). x.0) (each 0 (omega arith))))
+    ∙ ap (λ xs. take 64 bytes ++ xs) rest
+    ∙ take-append-drop 64 bytes
+
+length-start_bytes : (o : Origin) → IsOrigin o → length (start_bytes o.geometry o.start) ≡ 64 * memory_blocks o.geometry
+length-start_bytes o h =
+    let room = h.recordable.console in
+    let least = console_below o.geometry h.geometry in
+    let size = h.memory in
+    let zeros : List ℕ = replicate (console_room o.geometry - length o.start.console) 0 in
+    omega (
+      arith,
+      length-append o.start.memory (o.start.console ++ zeros),
+      length-append o.start.console zeros,
+      length-replicate {A = ℕ} (console_room o.geometry - length o.start.console) 0,
+    )
+
+start_parts : (s : State) (size : ℕ) (zeros : List ℕ) → length s.memory ≡ size
+    → state_with (cpu_of s) (take size (s.memory ++ (s.console ++ zeros))) (take (length s.console) (drop size (s.memory ++ (s.console ++ zeros)))) ≡ s
+start_parts s size zeros e =
+    let first = λ (n : ℕ). state_with (cpu_of s) (take n (s.memory ++ (s.console ++ zeros))) (take (length s.console) (drop n (s.memory ++ (s.console ++ zeros)))) in
+    ap first (sym e)
+    ∙ ap (λ m. state_with (cpu_of s) m (take (length s.console) (drop (length s.memory) (s.memory ++ (s.console ++ zeros))))) (take-append_seam s.memory (s.console ++ zeros))
+    ∙ ap (λ bs. state_with (cpu_of s) s.memory (take (length s.console) bs)) (drop-append_seam s.memory (s.console ++ zeros))
+    ∙ ap (state_with (cpu_of s) s.memory) (take-append_seam s.console zeros)
+
+pub length-start_blocks : (p : Parameters) (s : State) → length (start_blocks p s) ≡ memory_blocks p
+length-start_blocks p s = length-map-range_with_len (start_block p s) 0 (memory_blocks p)
+
+pub block_at-start_blocks : (p : Parameters) (s : State) (b : ℕ) → b < memory_blocks p → block_at (start_blocks p s) b ≡ start_block p s b
+block_at-start_blocks p s b inside = get_or-map-range_with_len (start_block p s) 0 (memory_blocks p) b b zero_block inside (omega arith)
+
+-- the start's blocks and its processor make the start
+pub state_from-start : (o : Origin) → IsOrigin o → state_from o.geometry (cpu_of o.start) (start_blocks o.geometry o.start) ≡ o.start
+unfolding state_from
+state_from-start o h =
+    let p : Parameters = o.geometry in
+    let bytes : List ℕ = start_bytes p o.start in
+    let long : length (start_blocks p o.start) ≡ memory_blocks p = length-start_blocks p o.start in
+    let all : flat (start_blocks p o.start) ≡ bytes
+    = flat-blocks (start_blocks p o.start) bytes (length-start_bytes o h ∙ ap (λ n. 64 * n) (sym long))
+    (λ i l. block_at-start_blocks p o.start i (omega (arith, l, long))) in
+    ap (λ bs. state_with (cpu_of o.start) (take (program_size p) bs) (take (length o.start.console) (drop (program_size p) bs))) all
+    ∙ start_parts o.start (program_size p) (replicate (console_room p - length o.start.console) 0) h.memory
+
+-- the start fits
+pub IsStartFor-origin : (o : Origin) → IsOrigin o → IsStartFor o.geometry o.start
+IsStartFor-origin o h = record { regs = h.recordable.regs_length; memory = h.memory; console = h.recordable.console }

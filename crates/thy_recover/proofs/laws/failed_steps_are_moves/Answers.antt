@@ -1,0 +1,5 @@
+use Rattle.thy_recover.proofs.StepLawLemmas.{failures_move}
+use Rattle.thy_recover.proofs.laws.failed_steps_are_moves.Goals as goal
+
+pub returns : goal.returns
+returns c = failures_move

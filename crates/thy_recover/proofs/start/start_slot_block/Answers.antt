@@ -1,0 +1,16 @@
+use Rattle.std.proofs.Common.{ℕ, ◌-◌, Bool, if◌then◌else◌, ◌∙◌, sym, ap, arith}
+use Rattle.thy_isa.specs.Step.{state_of, cpu_of}
+use Rattle.thy_record.specs.Cpu.{cpu_block_of}
+use Rattle.thy_record.specs.TableBlocks.{table_block_of}
+use Rattle.thy_recover.specs.Start.{no_tables}
+use Rattle.std.proofs.lemmas.Bool.{le-ltb}
+use Rattle.thy_recover.proofs.StartLemmas.{table_block-none}
+use Rattle.thy_recover.proofs.start.start_slot_block.Goals as goal
+
+pub returns-else-k-lt5 : goal.returns-else-k-lt5
+returns-else-k-lt5 c =
+    let k : ℕ = c.args.k in
+    c.block_with.ensures
+    ∙ table_block-none c.args.geometry.now (k - 5) c.numbers-numbers.ensures.in_range (omega (arith, c.requires.place, c.if-k-lt5.false))
+    ∙ ap (λ (t : Bool). if t then cpu_block_of (cpu_of (state_of c.args.state.now)) 0 k else table_block_of (no_tables c.args.geometry.now) (k - 5))
+    (sym (le-ltb k 5 (omega (arith, c.if-k-lt5.false))))

@@ -1,0 +1,152 @@
+-- What holds of every boot of a run.
+use Rattle.std.specs.Prelude.{◌≡◌, ◌≢◌, ℕ, ◌+◌, ◌≤◌, false, [], length, Some, None}
+use Rattle.thy_base.specs.declared.mark.Mark.{Mark}
+use Rattle.thy_base.specs.Device.{Device, drained, IsFramed}
+use Rattle.thy_base.specs.Places.{image_blocks}
+use Rattle.thy_crash.specs.Saved.{Kept, InDoubt}
+use Rattle.thy_dram.specs.Contents.{Contents}
+use Rattle.thy_isa.specs.Step.{State as Plain}
+use Rattle.thy_record.specs.declared.image.BadImage.{BadImage}
+use Rattle.thy_record.specs.Cpu.{cpu_of_record}
+use Rattle.thy_record.specs.Images.{decode_image}
+use Rattle.thy_control.specs.State.{State, AreSoundTables, new_state}
+use Rattle.thy_control.specs.Drains.{after_drain}
+use Rattle.thy_view.specs.Action.{Acts, ActionFailed}
+use Rattle.thy_view.specs.Booting.{view_of_image}
+use Rattle.thy_view.specs.CoreStep.{CoreStep}
+use Rattle.thy_view.specs.Origin.{Origin, IsOrigin}
+use Rattle.thy_view.specs.Safe.{ceiling, Safe}
+use Rattle.thy_view.specs.Views.{doubt_of}
+use Rattle.thy_protocol.specs.Keeps.{Keeps, Tells}
+use Rattle.thy_protocol.specs.Layout.{reading}
+use Rattle.thy_protocol.specs.Moves.{Standing, standing, Move}
+use Rattle.thy_protocol.specs.VersionOne.{version_one}
+use Rattle.thy_recover.specs.declared.stage.Stage.{Stage}
+use Rattle.thy_recover.specs.declared.stage.Stage.TheVariants.{Unread, Refusing, Loading, Restored, Loaded}
+use Rattle.thy_recover.specs.declared.stage.Issue.TheVariants.{Commit}
+use Rattle.thy_recover.specs.declared.stage.BootStep.{BootStep}
+use Rattle.thy_recover.specs.Boot.{Booting, IsBoot, new_boot, slot_of, answer_of}
+use Rattle.thy_recover.specs.Left.{boot_left}
+use Rattle.thy_recover.specs.Shows.{seen_at, did_of}
+use Rattle.thy_recover.specs.Sound.{Checkpoints, layout_of, start_mark, standing_at, checkpoints_after, IsBooted, IsSound}
+use Rattle.thy_recover.specs.Start.{IsStartFor}
+use Rattle.thy_recover.specs.Steps.{CanStep, Steps, Fails}
+
+-- a new boot, over a device with nothing queued whose image means the mark that is kept, is one of a run
+abbrev pub NewIsSound : Type 0
+NewIsSound =
+    (o : Origin) (g : Checkpoints) (n : Device) (dram : Contents)
+    → g.before ≡ n.image → length n.image ≡ image_blocks o.geometry → n.queue ≡ [] → Tells o (layout_of o) n.image g.kept
+    → IsSound o g n (new_boot o.geometry) (new_state o.geometry dram)
+
+-- the boot is not over
+abbrev pub IsGoing : Stage → Type 0
+IsGoing (Restored epoch) = ⊥
+IsGoing Loaded = ⊥
+IsGoing stage = Unit {0}
+
+-- it may take a step then
+abbrev pub SoundMayStep : Type 0
+SoundMayStep =
+    (o : Origin) (g : Checkpoints) (n : Device) (b : Booting) (c : State)
+    → IsOrigin o → IsSound o g n b c → IsGoing b.stage → n.down ≡ false → CanStep o.start n b c
+
+-- whatever a cut leaves then is the mark that is done, whole, or, once loading's commit block was written, the start's
+abbrev pub SoundIsSafe : Type 0
+SoundIsSafe =
+    (o : Origin) (g : Checkpoints) (n : Device) (b : Booting) (c : State)
+    → IsSound o g n b c → Safe (reading version_one) o (seen_at o g.kept b.stage).done (doubt_of (seen_at o g.kept b.stage)) n
+
+-- whoever has taken a step may take the next, until the boot is over
+abbrev pub MayGoOn : Type 0
+MayGoOn =
+    (s : Plain) (n : Device) (b : Booting) (c : State) (m : Device) (d : Booting) (e : State)
+    → IsStartFor b.p s → n.down ≡ false → CanStep s n b c → Steps s n b c m d e → IsGoing d.stage
+    → (d.p ≡ b.p) × (m.down ≡ false) × CanStep s m d e
+
+-- a step is a move of the run's checkpoints
+pub record IsMoved (o : Origin) (g : Checkpoints) (n : Device) (b : Booting) (m : Device) (d : Booting) (e : State) : Type 0 where
+  pub move : Move o (layout_of o) (standing_at o b.stage g n) (standing_at o d.stage (checkpoints_after b.stage n g) m)
+  pub sound : IsSound o (checkpoints_after b.stage n g) m d e
+  pub shows : CoreStep o (seen_at o g.kept b.stage) (did_of (answer_of d)) (seen_at o g.kept d.stage)
+
+-- every step of a run's boot is one, and the boot is one of the run afterwards
+abbrev pub StepsMove : Type 0
+StepsMove =
+    (o : Origin) (g : Checkpoints) (n : Device) (b : Booting) (c : State) (m : Device) (d : Booting) (e : State)
+    → IsOrigin o → IsBoot b → AreSoundTables c → IsSound o g n b c → Steps o.start n b c m d e → IsMoved o g n b m d e
+
+-- and so is a step that failed: the write of the commit block leaves the two in doubt, and every other one what was
+abbrev pub standing_failed : Origin → Stage → Checkpoints → Device → Standing
+standing_failed o (Loading Commit) g n = standing n (InDoubt g.before g.next) None (Some (start_mark o))
+standing_failed o stage g n = standing_at o stage g n
+
+pub record IsFailed (o : Origin) (g : Checkpoints) (n : Device) (b : Booting) (m : Device) : Type 0 where
+  pub move : Move o (layout_of o) (standing_at o b.stage g n) (standing_failed o b.stage g m)
+  pub safe : Safe (reading version_one) o (seen_at o g.kept b.stage).done (seen_at o g.kept b.stage).sealed m
+
+abbrev pub FailuresMove : Type 0
+FailuresMove =
+    (o : Origin) (g : Checkpoints) (n : Device) (b : Booting) (c : State) (m : Device)
+    → IsBoot b → IsSound o g n b c → IsGoing b.stage → Fails o.start b n m → IsFramed n m → IsFailed o g n b m
+
+-- ---- where it ends
+
+-- a restart has the kept mark's state, and its checkpoint is kept
+abbrev pub RestoredIsBooted : Type 0
+RestoredIsBooted =
+    (o : Origin) (g : Checkpoints) (n : Device) (b : Booting) (c : State) (epoch : ℕ)
+    → AreSoundTables c → IsSound o g n b c → b.stage ≡ Restored epoch
+    → (m : Mark) × (g.kept ≡ Some m) × (m.epoch ≡ epoch) × Keeps o (layout_of o) n (Kept g.before) (Some m) None
+    × IsBooted o m (cpu_of_record (slot_of b)) g.before n c
+
+-- the boot of a run is never refused
+abbrev pub NeverRefused : Type 0
+NeverRefused =
+    (o : Origin) (g : Checkpoints) (n : Device) (b : Booting) (c : State) (bad : BadImage)
+    → IsSound o g n b c → b.stage ≢ Refusing bad
+
+-- ---- drains
+
+abbrev pub DrainsKeepBoot : Type 0
+DrainsKeepBoot =
+    (o : Origin) (g : Checkpoints) (n : Device) (b : Booting) (c : State)
+    → IsSound o g n b c → IsSound o g (drained n) b c × IsSound o g n b (after_drain c)
+
+-- a drain of the NVM is a move
+abbrev pub DrainsMove : Type 0
+DrainsMove =
+    (o : Origin) (g : Checkpoints) (n : Device) (b : Booting)
+    → Move o (layout_of o) (standing_at o b.stage g n) (standing_at o b.stage g (drained n))
+
+-- ---- what is seen
+
+-- a boot that was begun shows what the image means
+abbrev pub ShowsImage : Type 0
+ShowsImage =
+    (o : Origin) (g : Checkpoints) (n : Device) (b : Booting) (c : State)
+    → IsSound o g n b c → b.stage ≡ Unread
+    → seen_at o g.kept b.stage ≡ view_of_image o.start.count (decode_image o.geometry ceiling n.image)
+
+-- ---- actions
+
+-- a step acts once on the NVM, as it is asked to
+abbrev pub StepsAct : Type 0
+StepsAct =
+    (s : Plain) (n : Device) (b : Booting) (c : State) (m : Device) (d : Booting) (e : State)
+    → Steps s n b c m d e → Acts (did_of (answer_of d)) n m
+
+-- so does one that failed
+pub record IsActionFailed (n m : Device) : Type 0 where
+  pub answer : BootStep
+  pub failed : ActionFailed (did_of answer) n m
+
+abbrev pub FailuresAct : Type 0
+FailuresAct = (s : Plain) (b : Booting) (n m : Device) → Fails s b n m → IsActionFailed n m
+
+-- an action lowers how many are left by one at least
+abbrev pub StepsComeNearer : Type 0
+StepsComeNearer =
+    (s : Plain) (n : Device) (b : Booting) (c : State) (m : Device) (d : Booting) (e : State)
+    → IsBoot b → Steps s n b c m d e → ((bad : BadImage) → b.stage ≢ Refusing bad)
+    → boot_left b.p d.stage + 1 ≤ boot_left b.p b.stage

@@ -1,0 +1,31 @@
+-- How many actions a boot has left, at most.
+use Rattle.std.specs.Prelude.{ℕ, ◌+◌, ◌*◌, ◌-◌, ◌≤◌}
+use Rattle.thy_base.specs.declared.config.Parameters.{Parameters}
+use Rattle.thy_base.specs.Geometry.{memory_blocks}
+use Rattle.thy_base.specs.Places.{slot_blocks}
+use Rattle.thy_recover.specs.declared.stage.Stage.{Stage}
+use Rattle.thy_recover.specs.declared.stage.Stage.TheVariants.{Unread, Header, Slot, Frames, Loading}
+use Rattle.thy_recover.specs.declared.stage.Issue.{Issue}
+use Rattle.thy_recover.specs.declared.stage.Issue.TheVariants.{Home, Slot as SlotBlock, Header as HeaderBlock, Settle, Commit, Confirm}
+
+-- how many writes and barriers loading has left
+abbrev pub loads_left : Parameters → Issue → ℕ
+loads_left p (Home b) = memory_blocks p - b + slot_blocks p + 4
+loads_left p (SlotBlock k) = slot_blocks p - k + 4
+loads_left p HeaderBlock = 4
+loads_left p Settle = 3
+loads_left p Commit = 2
+loads_left p Confirm = 1
+
+-- how many actions the boot has left
+abbrev pub boot_left : Parameters → Stage → ℕ
+boot_left p Unread = memory_blocks p + 2 * slot_blocks p + 64 * p.ptt + 8
+boot_left p (Header epoch fault) = 1 + slot_blocks p + 64 * p.ptt
+boot_left p (Slot epoch next) = slot_blocks p - next + 64 * p.ptt
+boot_left p (Frames epoch page next) = 64 * (p.ptt - page) - next
+boot_left p (Loading issue) = loads_left p issue
+boot_left p _ = 0
+
+-- a new boot has at most so many
+abbrev pub NewHasLeft : Type 0
+NewHasLeft = (p : Parameters) → boot_left p Unread ≤ 64 * p.pages + 2 * slot_blocks p + 64 * p.ptt + 8

@@ -1,0 +1,145 @@
+-- A boot over a run's checkpoints: what the device keeps of them, and what was read or written so far.
+use Rattle.std.specs.Prelude.{◌≡◌, ℕ, true, List, [], length, Option, Some, None}
+use Rattle.thy_base.specs.declared.block.Block.{Block}
+use Rattle.thy_base.specs.declared.mark.Mark.{Mark}
+use Rattle.thy_base.specs.Device.{Device, block_at, newest}
+use Rattle.thy_base.specs.Geometry.{memory_blocks}
+use Rattle.thy_base.specs.Marks.{mark}
+use Rattle.thy_base.specs.Places.{slot_blocks, slot_place, first_home, image_blocks}
+use Rattle.thy_crash.specs.Fixed.{Reads, ReadsFirst}
+use Rattle.thy_crash.specs.Saved.{Saved, Kept, Ready, InDoubt, next_image}
+use Rattle.thy_isa.specs.declared.state.CpuState.{CpuState}
+use Rattle.thy_isa.specs.OnBlocks.{state_from}
+use Rattle.thy_isa.specs.Step.{cpu_of}
+use Rattle.thy_record.specs.Commit.{commit_of}
+use Rattle.thy_record.specs.Header.{header_of, header_fault}
+use Rattle.thy_record.specs.Issuing.{IsToldBy}
+use Rattle.thy_control.specs.State.{State}
+use Rattle.thy_control.specs.Boot.{IsBooting}
+use Rattle.thy_control.specs.CheckpointTables.{tables0}
+use Rattle.thy_control.specs.Stays.{HoldAll}
+use Rattle.thy_view.specs.Origin.{Origin, at}
+use Rattle.thy_view.specs.Safe.{ceiling}
+use Rattle.thy_protocol.specs.Layout.{Layout}
+use Rattle.thy_protocol.specs.Moves.{Standing, standing, IsKeeping}
+use Rattle.thy_protocol.specs.VersionOne.{version_one}
+use Rattle.thy_recover.specs.declared.stage.Stage.{Stage}
+use Rattle.thy_recover.specs.declared.stage.Stage.TheVariants.{Loading, Loaded}
+use Rattle.thy_recover.specs.declared.stage.Issue.{Issue}
+use Rattle.thy_recover.specs.declared.stage.Issue.TheVariants.{Home, Slot, Header, Settle, Commit, Confirm}
+use Rattle.thy_recover.specs.Boot.{Booting}
+use Rattle.thy_recover.specs.Recovers.{IsFresh, HasRead, loads}
+use Rattle.thy_recover.specs.Start.{start_block, start_blocks, start_slot, no_tables}
+
+abbrev pub layout_of : Origin → Layout
+layout_of o = version_one o.geometry ceiling
+
+-- the mark of the start's checkpoint
+abbrev pub start_mark : Origin → Mark
+start_mark o = mark 0 o.start.count
+
+-- the image that the boot finds, with its mark, if it is a checkpoint, and the image that loading makes
+pub record Checkpoints : Type 0 where
+  pub before : List Block
+  pub kept : Option Mark
+  pub next : List Block
+
+-- where none is kept, that of the start is under way
+abbrev pub sealed_by : Origin → Option Mark → Option Mark
+sealed_by o None = Some (start_mark o)
+sealed_by o (Some m) = None
+
+-- before an action of loading: until the first barrier one image is kept, behind it the next one is ready, and with its
+-- commit block in doubt
+abbrev pub saved_at : Issue → Checkpoints → Saved
+saved_at Commit g = Ready g.before g.next
+saved_at Confirm g = InDoubt g.before g.next
+saved_at issue g = Kept g.before
+
+-- by the stage, which images a cut may leave
+abbrev pub standing_at : Origin → Stage → Checkpoints → Device → Standing
+standing_at o (Loading issue) g n = standing n (saved_at issue g) None (Some (start_mark o))
+standing_at o Loaded g n = standing n (Kept g.next) (Some (start_mark o)) None
+standing_at o stage g n = standing n (Kept g.before) g.kept (sealed_by o g.kept)
+
+-- with the first barrier the next image is that of all that was written, with the commit block
+abbrev pub checkpoints_after : Stage → Device → Checkpoints → Checkpoints
+checkpoints_after (Loading Settle) n g = record g { next = next_image n (commit_of 0) }
+checkpoints_after stage n g = g
+
+-- ---- what was written
+
+-- the first h homes and the first k blocks of slot 0 read as the start's
+pub record HasWritten (o : Origin) (h k : ℕ) (n : Device) : Type 0 where
+  pub sized : length n.image ≡ image_blocks o.geometry
+  pub homes : ReadsFirst n (first_home o.geometry) (start_block o.geometry o.start) h
+  pub slot : ReadsFirst n (slot_place o.geometry 0) (start_slot o.geometry o.start) k
+
+-- all of them, and the header
+pub record HasWrittenAll (o : Origin) (n : Device) : Type 0 where
+  pub parts : HasWritten o (memory_blocks o.geometry) (slot_blocks o.geometry) n
+  pub header : Reads n 0 (header_of o.geometry)
+
+-- by what comes next
+abbrev pub HasStood : Origin → Issue → Device → Type 0
+HasStood o (Home b) n = HasWritten o b 0 n
+HasStood o (Slot k) n = HasWritten o (memory_blocks o.geometry) k n
+HasStood o Header n = HasWritten o (memory_blocks o.geometry) (slot_blocks o.geometry) n
+HasStood o Settle n = HasWrittenAll o n
+HasStood o Commit n = HasWrittenAll o n
+HasStood o Confirm n = HasWrittenAll o n × Reads n 1 (commit_of 0)
+
+-- an image is the start's checkpoint
+pub record IsStartImage (o : Origin) (image : List Block) : Type 0 where
+  pub told : IsToldBy o.geometry image 0 (no_tables o.geometry)
+  pub commit : block_at image 1 ≡ commit_of 0
+
+-- from the first barrier on, the next image is
+abbrev pub IsMade : Origin → Issue → List Block → Type 0
+IsMade o Commit next = IsStartImage o next
+IsMade o Confirm next = IsStartImage o next
+IsMade o issue next = Unit {0}
+
+-- ---- the boot
+
+-- while it reads, nothing is written
+pub record IsRecovering (g : Checkpoints) (n : Device) (b : Booting) (c : State) : Type 0 where
+  pub before_is : g.before ≡ n.image
+  pub read : HasRead n b c
+
+-- while it loads, there is no checkpoint, and the controller lists nothing
+pub record IsLoading (o : Origin) (issue : Issue) (g : Checkpoints) (n : Device) (c : State) : Type 0 where
+  pub none : g.kept ≡ None
+  pub fresh : IsFresh c
+  pub made : IsMade o issue g.next
+  pub stood : HasStood o issue n
+
+-- A boot that is over: the image of a mark is kept, the controller has its tables, memory as it loads it and this
+-- processor make the state of the mark.
+pub record IsBooted (o : Origin) (m : Mark) (cpu : CpuState) (image : List Block) (n : Device) (c : State) : Type 0 where
+  pub settled : n.queue ≡ []
+  pub booting : IsBooting c
+  pub told : IsToldBy o.geometry image m.epoch (tables0 c)
+  pub header : header_fault (newest n 0) o.geometry true ≡ None
+  pub holds : HoldAll c n
+  pub state : state_from o.geometry cpu (loads c n) ≡ at o m.count
+  pub counted : (at o m.count).count ≡ m.count
+
+-- behind loading these are the start's, with tables that list nothing
+pub record IsLoaded (o : Origin) (g : Checkpoints) (n : Device) (c : State) : Type 0 where
+  pub over : IsBooted o (start_mark o) (cpu_of o.start) g.next n c
+  pub tables : tables0 c ≡ no_tables o.geometry
+  pub memory : loads c n ≡ start_blocks o.geometry o.start
+  pub start : state_from o.geometry (cpu_of o.start) (loads c n) ≡ o.start
+
+abbrev pub IsSoundAt : Origin → Stage → Checkpoints → Device → Booting → State → Type 0
+IsSoundAt o (Loading issue) g n b c = IsLoading o issue g n c
+IsSoundAt o Loaded g n b c = IsLoaded o g n c
+IsSoundAt o stage g n b c = IsRecovering g n b c
+
+-- a boot of a run, with the images of its checkpoints
+pub record IsSound (o : Origin) (g : Checkpoints) (n : Device) (b : Booting) (c : State) : Type 0 where
+  pub geometry : b.p ≡ o.geometry
+  pub same_p : c.p ≡ o.geometry
+  pub keeps : IsKeeping o (layout_of o) (standing_at o b.stage g n)
+  pub so_far : IsSoundAt o b.stage g n b c
