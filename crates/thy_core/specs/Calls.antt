@@ -13,7 +13,7 @@ use Rattle.thy_hart.specs.declared.hand.HartStep.{HartStep}
 use Rattle.thy_hart.specs.declared.hand.HartStep.TheVariants.{Moved, Retired, Waiting, Over}
 use Rattle.thy_hart.specs.Acts.{Given}
 use Rattle.thy_hart.specs.Core.{Core, new_hart, reserved}
-use Rattle.thy_hart.specs.Moments.{moment}
+use Rattle.thy_hart.specs.Moments.{moment, brings_line}
 use Rattle.thy_hart.specs.Steps.{IsStep}
 use Rattle.thy_isa.specs.declared.state.CpuState.{CpuState}
 use Rattle.thy_isa.specs.Step.{cpu_of, is_running}
@@ -43,6 +43,7 @@ pub record HartStepped {S : Type 0} (K : SchemeOf S) (g : Given) (m : Machine S)
   pub is_step : IsStep g (moment_of K m n) (moment h c (held_behind K t new)) step
   pub asked : IsAsked K m.scheme n t new
   pub stays : K.stays m.scheme n t new
+  pub untouched : brings_line (moment_of K m n) ≡ false → (t ≡ m.scheme) × (new ≡ n)
   -- no line becomes dirty before room is reserved, and without a dirty line nothing is stored
   pub tidy : reserved m.hart.hand ≡ 0 → dirty_count c ≤ dirty_count m.cache
   pub rests : dirty_count m.cache ≡ 0 → K.rested t ≡ K.rested m.scheme

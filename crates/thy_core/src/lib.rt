@@ -1,3 +1,7 @@
 //! The machine of hart, cache and a scheme of checkpoints: what holds of it at every moment of a run, and what each
 //! cycle makes of it, whatever the scheme.
 #![tactic(auto)]
+
+mod laws;
+
+pub use laws::the_hart_leads_on;

@@ -69,6 +69,7 @@ pub record RunHolds {S : Type 0} (K : SchemeOf S) (o : Origin) (k : Marks) (s : 
   pub memory : length (K.holding s n).blocks ≡ memory_blocks o.geometry
   pub ready : K.promoting s ≡ false → (K.holding s n).ready ≡ true
   pub overlays : K.overlaid s ≡ false → K.merges_left s ≡ 0
+  pub promotions : K.promoting s ≡ false → K.promotions_left s ≡ 0
   pub bounded : IsBounded K o.geometry s n
   -- an epoch without a store leaves room for an instruction once it is committed
   pub room : K.rested s ≡ true → K.under_way s ≡ false → 2 ≤ K.free s

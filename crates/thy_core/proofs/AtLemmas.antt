@@ -1,0 +1,47 @@
+-- The plain machine at a count, and the processor's part of a state.
+use Rattle.std.proofs.Common.{◌≡◌, ℕ, suc, ◌+◌, ◌-◌, ◌≤◌, true, List, refl, sym, ◌∙◌, ap, arith, inl, inr}
+use Rattle.std.proofs.lemmas.Bool.{cases_lt}
+use Rattle.thy_base.specs.declared.block.Block.{Block}
+use Rattle.thy_isa.specs.OnBlocks.{state_from}
+use Rattle.thy_isa.specs.Step.{step, steps}
+use Rattle.thy_isa.proofs.StepLaws.{step-count}
+use Rattle.thy_hart.specs.Core.{Core}
+use Rattle.thy_hart.specs.Steps.{current}
+use Rattle.thy_view.specs.Origin.{Origin, setting_of, at, runs_at}
+
+-- one instruction on
+pub at-next : (o : Origin) (k : ℕ) → o.start.count ≤ k → at o (k + 1) ≡ step (setting_of o) (at o k)
+unfolding at steps
+at-next o k l =
+    let e : k + 1 - o.start.count ≡ suc (k - o.start.count) = omega arith in
+    ap (λ i. steps (setting_of o) i o.start) e
+
+-- before the start's count there is the start
+pub at-early : (o : Origin) (k : ℕ) → k ≤ o.start.count → at o k ≡ o.start
+unfolding at steps
+at-early o k l =
+    let e : k - o.start.count ≡ 0 = omega arith in
+    ap (λ i. steps (setting_of o) i o.start) e
+
+-- so a state that has its count is not before the start
+pub at-late : (o : Origin) (k : ℕ) → (at o k).count ≡ k → o.start.count ≤ k
+at-late o k h = elim (cases_lt k o.start.count) as (λ _. o.start.count ≤ k) [
+  | inl l ↦
+      let early : o.start.count ≡ k = ap (λ s. s.count) (sym (at-early o k (omega arith))) ∙ h in
+      omega arith
+  | inr l ↦ l
+]
+
+-- an instruction adds one to the count
+pub at-count : (o : Origin) (k : ℕ) → o.start.count ≤ k → (at o k).count ≡ k → runs_at o k ≡ true → (at o (k + 1)).count ≡ k + 1
+at-count o k late is runs =
+    ap (λ s. s.count) (at-next o k late) ∙ step-count (setting_of o) (at o k) runs ∙ ap (λ i. i + 1) is
+
+-- the processor's part of the state where the hart is
+pub count-current : (h : Core) (memory : List Block) → (current h memory).count ≡ h.cpu.count
+unfolding current state_from
+count-current h memory = refl
+
+pub status-current : (h : Core) (memory : List Block) → (current h memory).status ≡ h.cpu.status
+unfolding current state_from
+status-current h memory = refl
