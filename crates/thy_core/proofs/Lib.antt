@@ -5,3 +5,7 @@ pub mod EpochLemmas
 pub mod Facts
 pub mod HartRow
 pub mod HartCases
+pub mod SmallLaws
+pub mod KeepsLaws
+pub mod SealingLaws
+pub mod CallRows

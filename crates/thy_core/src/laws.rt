@@ -1,9 +1,19 @@
 //! Laws of the machine, for every scheme, each the contract of a function that does nothing.
-ghost use Rattle.thy_core.specs.Rows.{HartLeads};
+ghost use Rattle.thy_core.specs.Rows.{HartLeads, MergeLeads, PromotionLeads};
 
 use thy_scheme::Scheme;
 
 /// A step of the hart leads to the next moment: by a step of the view, one action on the NVM, and within bounds.
 pub fn the_hart_leads_on<S: Scheme>()
     ensures { HartLeads S.scheme }
+{}
+
+/// A block that is merged before a seal leads to the next moment.
+pub fn a_merge_leads_on<S: Scheme>()
+    ensures { MergeLeads S.scheme }
+{}
+
+/// A block that is promoted leads to the next moment.
+pub fn a_promotion_leads_on<S: Scheme>()
+    ensures { PromotionLeads S.scheme }
 {}
