@@ -9,3 +9,5 @@ pub mod SmallLaws
 pub mod KeepsLaws
 pub mod SealingLaws
 pub mod CallRows
+pub mod CacheLemmas
+pub mod FlushRow

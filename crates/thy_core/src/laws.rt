@@ -1,11 +1,16 @@
 //! Laws of the machine, for every scheme, each the contract of a function that does nothing.
-ghost use Rattle.thy_core.specs.Rows.{HartLeads, MergeLeads, PromotionLeads};
+ghost use Rattle.thy_core.specs.Rows.{HartLeads, FlushLeads, MergeLeads, PromotionLeads};
 
 use thy_scheme::Scheme;
 
 /// A step of the hart leads to the next moment: by a step of the view, one action on the NVM, and within bounds.
 pub fn the_hart_leads_on<S: Scheme>()
     ensures { HartLeads S.scheme }
+{}
+
+/// A step of a flush before a seal leads to the next moment.
+pub fn a_flush_leads_on<S: Scheme>()
+    ensures { FlushLeads S.scheme }
 {}
 
 /// A block that is merged before a seal leads to the next moment.
