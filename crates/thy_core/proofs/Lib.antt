@@ -11,3 +11,4 @@ pub mod SealingLaws
 pub mod CallRows
 pub mod CacheLemmas
 pub mod FlushRow
+pub mod RunLaws

@@ -1,5 +1,6 @@
 //! Laws of the machine, for every scheme, each the contract of a function that does nothing.
 ghost use Rattle.thy_core.specs.Rows.{HartLeads, FlushLeads, MergeLeads, PromotionLeads};
+ghost use Rattle.thy_core.specs.Runs.{MomentIsSafe};
 
 use thy_scheme::Scheme;
 
@@ -21,4 +22,9 @@ pub fn a_merge_leads_on<S: Scheme>()
 /// A block that is promoted leads to the next moment.
 pub fn a_promotion_leads_on<S: Scheme>()
     ensures { PromotionLeads S.scheme }
+{}
+
+/// Whatever a power cut leaves at a moment is the committed checkpoint, whole, or the one in doubt.
+pub fn a_moment_is_safe<S: Scheme>()
+    ensures { MomentIsSafe S.scheme }
 {}
