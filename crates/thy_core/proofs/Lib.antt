@@ -12,3 +12,4 @@ pub mod CallRows
 pub mod CacheLemmas
 pub mod FlushRow
 pub mod RunLaws
+pub mod NearLaws

@@ -1,6 +1,6 @@
 //! Laws of the machine, for every scheme, each the contract of a function that does nothing.
 ghost use Rattle.thy_core.specs.Rows.{HartLeads, FlushLeads, MergeLeads, PromotionLeads};
-ghost use Rattle.thy_core.specs.Runs.{MomentIsSafe};
+ghost use Rattle.thy_core.specs.Runs.{MomentIsSafe, CyclesComeNearer};
 
 use thy_scheme::Scheme;
 
@@ -27,4 +27,9 @@ pub fn a_promotion_leads_on<S: Scheme>()
 /// Whatever a power cut leaves at a moment is the committed checkpoint, whole, or the one in doubt.
 pub fn a_moment_is_safe<S: Scheme>()
     ensures { MomentIsSafe S.scheme }
+{}
+
+/// A cycle of a machine that has not halted is one nearer to the next instruction, or to the end.
+pub fn cycles_come_nearer()
+    ensures { CyclesComeNearer }
 {}
