@@ -1,6 +1,6 @@
 //! Laws of the machine, for every scheme, each the contract of a function that does nothing.
 ghost use Rattle.thy_core.specs.Rows.{HartLeads, FlushLeads, MergeLeads, PromotionLeads};
-ghost use Rattle.thy_core.specs.Runs.{MomentIsSafe, CyclesComeNearer};
+ghost use Rattle.thy_core.specs.Runs.{MomentIsSafe, CyclesComeNearer, FreshLeads, CutLeads};
 
 use thy_scheme::Scheme;
 
@@ -32,4 +32,14 @@ pub fn a_moment_is_safe<S: Scheme>()
 /// A cycle of a machine that has not halted is one nearer to the next instruction, or to the end.
 pub fn cycles_come_nearer()
     ensures { CyclesComeNearer }
+{}
+
+/// A new machine over a fitted device is at a moment of the run that this begins.
+pub fn a_fresh_start_leads_on<S: Scheme>()
+    ensures { FreshLeads S.scheme }
+{}
+
+/// A power cut leads to a moment of the same run, whose view is what the image means that was left.
+pub fn a_cut_leads_on<S: Scheme>()
+    ensures { CutLeads S.scheme }
 {}

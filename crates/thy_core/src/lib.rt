@@ -4,4 +4,4 @@
 
 mod laws;
 
-pub use laws::{a_flush_leads_on, a_merge_leads_on, a_moment_is_safe, a_promotion_leads_on, cycles_come_nearer, the_hart_leads_on};
+pub use laws::{a_cut_leads_on, a_flush_leads_on, a_fresh_start_leads_on, a_merge_leads_on, a_moment_is_safe, a_promotion_leads_on, cycles_come_nearer, the_hart_leads_on};
