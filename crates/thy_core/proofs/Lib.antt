@@ -13,3 +13,5 @@ pub mod CacheLemmas
 pub mod FlushRow
 pub mod RunLaws
 pub mod NearLaws
+pub mod LawfulLaws
+pub mod FailRows

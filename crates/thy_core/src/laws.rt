@@ -1,6 +1,7 @@
 //! Laws of the machine, for every scheme, each the contract of a function that does nothing.
+ghost use Rattle.thy_core.specs.Failures.{HartFails, FlushFails, PromotionLeaves, EngineLeaves, BootLeaves, DrainFails};
 ghost use Rattle.thy_core.specs.Rows.{HartLeads, FlushLeads, MergeLeads, PromotionLeads};
-ghost use Rattle.thy_core.specs.Runs.{MomentIsSafe, CyclesComeNearer, FreshLeads, CutLeads};
+ghost use Rattle.thy_core.specs.Runs.{MomentIsSafe, CyclesComeNearer, FreshLeads, CutLeads, MachineIsLawful};
 
 use thy_scheme::Scheme;
 
@@ -42,4 +43,39 @@ pub fn a_fresh_start_leads_on<S: Scheme>()
 /// A power cut leads to a moment of the same run, whose view is what the image means that was left.
 pub fn a_cut_leads_on<S: Scheme>()
     ensures { CutLeads S.scheme }
+{}
+
+/// So the machine keeps the laws of machines.
+pub fn the_machine_is_lawful<S: Scheme>()
+    ensures { MachineIsLawful S.scheme }
+{}
+
+/// A load or a store of the hart that fails leaves the committed checkpoint, whole, or the sealed one.
+pub fn the_hart_fails_safely<S: Scheme>()
+    ensures { HartFails S.scheme }
+{}
+
+/// So does a store of a line.
+pub fn a_flush_fails_safely<S: Scheme>()
+    ensures { FlushFails S.scheme }
+{}
+
+/// So does a promotion.
+pub fn a_promotion_fails_safely<S: Scheme>()
+    ensures { PromotionLeaves S.scheme }
+{}
+
+/// So does a step of the engine.
+pub fn the_engine_fails_safely<S: Scheme>()
+    ensures { EngineLeaves S.scheme }
+{}
+
+/// So does a step of the boot.
+pub fn the_boot_fails_safely<S: Scheme>()
+    ensures { BootLeaves S.scheme }
+{}
+
+/// So does a drain of the NVM.
+pub fn a_drain_fails_safely<S: Scheme>()
+    ensures { DrainFails S.scheme }
 {}
