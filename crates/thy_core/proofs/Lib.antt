@@ -15,3 +15,4 @@ pub mod RunLaws
 pub mod NearLaws
 pub mod LawfulLaws
 pub mod FailRows
+pub mod BootRow
