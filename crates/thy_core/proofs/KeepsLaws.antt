@@ -126,11 +126,11 @@ module _ {S : Type 0} (K : SchemeOf S) (o : Origin) (cycles : ℕ) (did : Did)
 -- ---- what stays over a call of the scheme
 
 -- no page need be open
-none_for : (c : Contents) (b : Option ℕ) → IsOpenFor c b None
+pub none_for : (c : Contents) (b : Option ℕ) → IsOpenFor c b None
 none_for c None = refl
 none_for c (Some b) = inl refl
 
-none_now : (over : Option EndCause) (c : Contents) (h : Core) → OpenNow over c h None
+pub none_now : (over : Option EndCause) (c : Contents) (h : Core) → OpenNow over c h None
 none_now None c h = none_for c (next_block h)
 none_now (Some cause) c h = inl refl
 

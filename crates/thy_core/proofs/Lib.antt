@@ -16,3 +16,5 @@ pub mod NearLaws
 pub mod LawfulLaws
 pub mod FailRows
 pub mod BootRow
+pub mod RecordLemmas
+pub mod SealRow

@@ -1,6 +1,6 @@
 //! Laws of the machine, for every scheme, each the contract of a function that does nothing.
 ghost use Rattle.thy_core.specs.Failures.{HartFails, FlushFails, PromotionLeaves, EngineLeaves, BootLeaves, DrainFails};
-ghost use Rattle.thy_core.specs.Rows.{HartLeads, FlushLeads, MergeLeads, PromotionLeads, BootLeads};
+ghost use Rattle.thy_core.specs.Rows.{HartLeads, FlushLeads, MergeLeads, PromotionLeads, BootLeads, SealLeads};
 ghost use Rattle.thy_core.specs.Runs.{MomentIsSafe, CyclesComeNearer, FreshLeads, CutLeads, MachineIsLawful};
 
 use thy_scheme::Scheme;
@@ -83,4 +83,9 @@ pub fn a_drain_fails_safely<S: Scheme>()
 /// A step of the boot leads to the next moment: behind its last one the hart is at the checkpoint that was found or loaded.
 pub fn the_boot_leads_on<S: Scheme>()
     ensures { BootLeads S.scheme }
+{}
+
+/// A seal of an epoch that is over leads to the next moment, at which its checkpoint is under way.
+pub fn a_seal_leads_on<S: Scheme>()
+    ensures { SealLeads S.scheme }
 {}
