@@ -162,7 +162,9 @@ module _ {S : Type 0} (K : SchemeOf S) (o : Origin) (m : Machine S) (cpu : CpuSt
       let owed = holds.bounded.owed in
       record {
         spent = omega arith;
-        strides = λ idle. absurd (let lively = blank.idle in cc);
+        fresh = λ none. (blank.clean, booted.rested);
+        lean = λ idle. absurd (let lively = blank.idle in cc);
+        strides = λ idle over. absurd (over refl);
         promoted = λ over. absurd (over refl);
       }
 

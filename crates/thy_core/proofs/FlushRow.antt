@@ -1,5 +1,5 @@
 -- A step of a flush leads on.
-use Rattle.std.proofs.Common.{◌≡◌, ◌≢◌, ℕ, ◌+◌, ◌<◌, ◌≤◌, ◌==◌, not, Bool, false, true, is_some, refl, sym, ◌∙◌, ap, subst, if◌then◌else◌, ◌||◌, arith}
+use Rattle.std.proofs.Common.{◌≡◌, ◌≢◌, ℕ, ◌+◌, ◌<◌, ◌≤◌, ◌==◌, not, Bool, false, true, Some, is_some, refl, sym, ◌∙◌, ap, subst, if◌then◌else◌, ◌||◌, arith}
 use Rattle.std.proofs.lemmas.Bool.{ne_eqb}
 use Rattle.thy_base.specs.Device.{Device}
 use Rattle.thy_base.specs.Store.{Holding}
@@ -17,7 +17,7 @@ use Rattle.thy_core.specs.Calls.{FlushStepped, after_flush}
 use Rattle.thy_core.specs.Machine.{Machine}
 use Rattle.thy_core.specs.Pace.{flushes_left, hart_left, cycles_left, most_spent}
 use Rattle.thy_core.specs.Rows.{At, IsSealing, FlushLeads}
-use Rattle.thy_core.specs.Sound.{OpenNow, Strides, SoundRun}
+use Rattle.thy_core.specs.Sound.{OpenNow, StartsFresh, SoundRun}
 use Rattle.thy_core.proofs.CacheLemmas.{line_counted, open_for_line}
 use Rattle.thy_core.proofs.SealingLaws.{IsOver, over_at}
 use Rattle.thy_core.proofs.KeepsLaws.{run_of, stands, runs_behind, leads_on}
@@ -137,6 +137,8 @@ flush_leads {S} K = λ o cycles m n c t new flushed at sealing whole f.
     let free_now = at.lawful.free_is t new in
     let room = s.held.room in
     let less_room = g.less.room in
+    let started : StartsFresh (Some g.over.cause) m.hart.epoch.retired m.hart.hand (dirty_count m.cache) (K.rested m.scheme) =
+    subst (λ x. StartsFresh x m.hart.epoch.retired m.hart.hand (dirty_count m.cache) (K.rested m.scheme)) g.over.over_is s.paced.fresh in
     leads_on K o cycles DidFlush m n next new at behind
     (record {
       behind = behind;
@@ -166,10 +168,10 @@ flush_leads {S} K = λ o cycles m n c t new flushed at sealing whole f.
         };
         paced = record {
           spent = omega (arith, spent, was, is, promotions, engine, nearer);
-          strides = λ is.
-              subst (λ x. Strides x m.hart.epoch.retired m.hart.hand (dirty_count c) (K.rested t)) (sym g.over.over_is)
-              (subst (λ x. Strides x m.hart.epoch.retired m.hart.hand (dirty_count m.cache) (K.rested m.scheme)) g.over.over_is
-              (s.paced.strides is));
+          fresh = subst (λ x. StartsFresh x m.hart.epoch.retired m.hart.hand (dirty_count c) (K.rested t)) (sym g.over.over_is)
+              (λ zero. let clean = (started zero).0 in absurd (omega (arith, clean, some)));
+          lean = λ idle. g.stays.lean ∙ s.paced.lean idle;
+          strides = s.paced.strides;
           promoted = λ over. g.whole;
         };
       };

@@ -13,7 +13,7 @@ use Rattle.thy_hart.specs.declared.hand.Hand.{Hand}
 use Rattle.thy_hart.specs.declared.hand.Hand.TheVariants.{Nothing, Reading, Reserving, Writing, Retiring}
 use Rattle.thy_hart.specs.declared.hand.HartStep.{HartStep}
 use Rattle.thy_hart.specs.declared.hand.HartStep.TheVariants.{Moved, Retired, Waiting, Over}
-use Rattle.thy_hart.specs.Core.{Core, blocks_of}
+use Rattle.thy_hart.specs.Core.{Core, reserved, blocks_of}
 use Rattle.thy_hart.specs.Acts.{Given, given}
 use Rattle.thy_hart.specs.Moments.{Moment, moment, brings_line, moves_left}
 use Rattle.thy_hart.specs.Steps.{current, ComesNearer, HasCome, answer_to}
@@ -29,7 +29,7 @@ use Rattle.thy_scheme.specs.Scheme.{SchemeOf}
 use Rattle.thy_scheme.specs.Behind.{held_behind}
 use Rattle.thy_core.specs.Machine.{Machine, run_view, moment_of, memory_of, is_barred, short_of, shortage_of}
 use Rattle.thy_core.specs.Pace.{instructions_left, flushes_left, hart_left, cycles_left}
-use Rattle.thy_core.specs.Sound.{OpenNow, IsFresh, Strides}
+use Rattle.thy_core.specs.Sound.{OpenNow, IsFresh, StartsFresh}
 use Rattle.thy_core.specs.Calls.{IsAsked, HartStepped}
 use Rattle.thy_core.specs.Rows.{At, HartGoes, HartLeads}
 use Rattle.thy_core.proofs.AtLemmas.{at-next, at-count, count-current, status-current}
@@ -103,6 +103,14 @@ fresh-short free dirty (Reserving x to) s d r e f = f
 fresh-short free dirty (Writing x to done) s d r e f = absurd (cc)
 fresh-short free dirty (Retiring x wrote) s d r e f = absurd (cc)
 
+-- and has nothing reserved
+short-reserved : (free dirty : ℕ) (h : Hand) (s : Shortage) → short_of free dirty h ≡ Some s → reserved h ≡ 0
+short-reserved free dirty Nothing s e = refl
+short-reserved free dirty (Reading x from to) s e = refl
+short-reserved free dirty (Reserving x to) s e = refl
+short-reserved free dirty (Writing x to done) s e = absurd (cc)
+short-reserved free dirty (Retiring x wrote) s e = refl
+
 short-is : {S : Type 0} (K : SchemeOf S) (m : Machine S) (s : Option Shortage) → is_barred K m ≡ false → short_of (K.free m.scheme) (dirty_count m.cache) m.hart.hand ≡ s → shortage_of K m ≡ s
 short-is K m s bar e = ap (λ b. if b then Some (shortage 0 0 1) else short_of (K.free m.scheme) (dirty_count m.cache) m.hart.hand) bar ∙ e
 
@@ -154,11 +162,12 @@ moved-next K o cycles m n h c t new at-m turn hs mv =
       };
       follows = subst (λ x. Follows o.input (at o x.count) h (memory_of K (hart_on (m.lap + 0) h c t m) new)) (sym cpu) f;
       live = λ _. subst (λ x. runs_at o x.count ≡ true) (sym cpu) going.runs;
-      strides = λ idle.
+      fresh =
           let old : m.hart.epoch.retired ≡ 0 → IsFresh m.hart.hand (dirty_count m.cache) (K.rested m.scheme)
-          = subst (λ x. Strides x m.hart.epoch.retired m.hart.hand (dirty_count m.cache) (K.rested m.scheme)) going.going (run.paced.strides idle) in
-          subst (λ x. Strides x h.epoch.retired h.hand (dirty_count c) (K.rested t)) (sym over)
+          = subst (λ x. StartsFresh x m.hart.epoch.retired m.hart.hand (dirty_count m.cache) (K.rested m.scheme)) going.going run.paced.fresh in
+          subst (λ x. StartsFresh x h.epoch.retired h.hand (dirty_count c) (K.rested t)) (sym over)
           (λ zero. mv.fresh (dirty_count m.cache) (dirty_count c) (K.rested m.scheme) (K.rested t) (old (sym (ap (λ (x : Epoch). x.retired) mv.epoch) ∙ zero)) hs.tidy hs.rests);
+      strides = λ idle ends. absurd (ends over);
       spent = moved-spent K o.geometry m n (m.lap + 0) h c t new going.going mv.epoch on.engine (on.holds.promotions on.whole) w.owed w.nears;
       step = (turn.phase, going.going, going.runs, inl (view-is m h.epoch m.hart.epoch h.cpu.count m.hart.cpu.count (m.lap + 0) m.lap mv.epoch (ap (λ x. x.count) cpu) (add-zero m.lap)));
       acts = moved-acts K m.scheme n t new hs.asked on.up;
@@ -175,10 +184,10 @@ exhausted-once K o cycles m n d free dd need at-m turn way short less few same i
       let run = sound-run K o cycles m n at-m.sound turn.phase in
       let going = is-going K o cycles m n at-m turn in
       let old : m.hart.epoch.retired ≡ 0 → IsFresh m.hart.hand (dirty_count m.cache) (K.rested m.scheme)
-      = subst (λ x. Strides x m.hart.epoch.retired m.hart.hand (dirty_count m.cache) (K.rested m.scheme)) going.going (run.paced.strides idle) in
+      = subst (λ x. StartsFresh x m.hart.epoch.retired m.hart.hand (dirty_count m.cache) (K.rested m.scheme)) going.going run.paced.fresh in
       let fresh = fresh-short (K.free m.scheme) d m.hart.hand (shortage free dd need) (dirty_count m.cache) (K.rested m.scheme) short (old zero) in
       let is = is-short-of (K.free m.scheme) d m.hart.hand (shortage free dd need) short in
-      let room = (holds-run K at-m.lawful o cycles m n at-m.sound turn.phase).room fresh.1 way in
+      let room = (holds-run K at-m.lawful o cycles m n at-m.sound turn.phase).room (run.paced.lean idle) fresh.1 way in
       omega (arith, room, is.0, is.1, fresh.0, less, few, same)
   | inr some ↦ omega (arith, some)
 ]
@@ -219,7 +228,16 @@ exhausted-next K o cycles m n h c t new free dd need at-m turn hs ex =
       };
       follows = subst (λ x. Follows o.input (at o x.count) h (memory_of K (hart_on (m.lap + 0) h c t m) new)) (sym cpu) f;
       live = λ none. absurd (cc);
-      strides = λ idle. subst (λ x. Strides x h.epoch.retired h.hand (dirty_count c) (K.rested t)) (sym over)
+      fresh = subst (λ x. StartsFresh x h.epoch.retired h.hand (dirty_count c) (K.rested t)) (sym over)
+          (λ zero.
+          let old : m.hart.epoch.retired ≡ 0 → IsFresh m.hart.hand (dirty_count m.cache) (K.rested m.scheme)
+          = subst (λ x. StartsFresh x m.hart.epoch.retired m.hart.hand (dirty_count m.cache) (K.rested m.scheme)) going.going run.paced.fresh in
+          let was = old (sym (ap (λ (x : Epoch). x.retired) ex.epoch) ∙ zero) in
+          let clean = fresh-short (K.free m.scheme) (dirty_count m.cache) m.hart.hand (shortage free dd need) (dirty_count m.cache) (K.rested m.scheme) ex.short was in
+          let unreserved = short-reserved (K.free m.scheme) (dirty_count m.cache) m.hart.hand (shortage free dd need) ex.short in
+          let tidy = hs.tidy unreserved in
+          (omega (arith, tidy, clean.0), hs.rests clean.0 ∙ clean.1));
+      strides = λ idle ends.
           (let some = exhausted-once K o cycles m n (dirty_count m.cache) free dd need at-m turn ex.idle ex.short ex.is_short.short ex.is_short.most refl idle in
           omega (arith, some, ap (λ (x : Epoch). x.retired) ex.epoch));
       spent = over-spent K o m n (m.lap + 0) h c t new (Exhausted free dd need) going.going over on w.owed;
@@ -238,9 +256,9 @@ over-same : (o : Origin) (running : Bool) (span retired now : ℕ) → running �
 over-same o running span retired now runs same =
     ap (λ b. over_after b span retired) runs ∙ ap (λ x. over_after (runs_at o now) x retired) same
 
-strides-retired : (over : Option EndCause) (retired : ℕ) (h : Hand) (d : ℕ) (r : Bool) → 1 ≤ retired → Strides over retired h d r
-strides-retired None retired h d r some = λ zero. absurd (omega (arith, some, zero))
-strides-retired (Some cause) retired h d r some = some
+fresh-retired : (over : Option EndCause) (retired : ℕ) (h : Hand) (d : ℕ) (r : Bool) → 1 ≤ retired → StartsFresh over retired h d r
+fresh-retired None retired h d r some = λ zero. absurd (omega (arith, some, zero))
+fresh-retired (Some cause) retired h d r some = λ zero. absurd (omega (arith, some, zero))
 
 opened-retired : (over : Option EndCause) (c : Contents) (h : Core) (page : Option ℕ) → OpenNow None c h page → page ≡ None → OpenNow over c h page
 opened-retired None c h page free closed = free
@@ -283,7 +301,8 @@ retired-next K o cycles m n h c t new s over at-m turn hs rt come closed f =
       };
       follows = subst (λ x. Follows o.input (at o x) h memory) (sym count) (subst (λ x. Follows o.input x h memory) next f);
       live = λ none. ap (runs_at o) count ∙ sym running ∙ runs-on (is_running h.cpu.status) m.hart.epoch.span (m.hart.epoch.retired + 1) (sym over-after ∙ none);
-      strides = λ idle. strides-retired h.epoch.over h.epoch.retired h.hand (dirty_count c) (K.rested t) (omega (arith, ap (λ (x : Epoch). x.retired) rt.epoch));
+      fresh = fresh-retired h.epoch.over h.epoch.retired h.hand (dirty_count c) (K.rested t) (omega (arith, ap (λ (x : Epoch). x.retired) rt.epoch));
+      strides = λ idle ends. omega (arith, ap (λ (x : Epoch). x.retired) rt.epoch);
       spent = retired-spent over rt has going.going on w.owed;
       step = record {
         phase = turn.phase;

@@ -21,7 +21,7 @@ use Rattle.thy_scheme.specs.Calls.{queued_in}
 use Rattle.thy_scheme.specs.Laws.{RunHolds}
 use Rattle.thy_core.specs.Machine.{Machine, run_view, view_of, memory_of, is_barred, shortage_of, gauge_of, has_read_in}
 use Rattle.thy_core.specs.Pace.{cycles_left, most_spent}
-use Rattle.thy_core.specs.Sound.{IsSmall, OpenNow, IsCounted, Strides, IsPaced, SoundRun, SoundIn}
+use Rattle.thy_core.specs.Sound.{IsSmall, OpenNow, IsCounted, StartsFresh, IsPaced, SoundRun, SoundIn}
 use Rattle.thy_core.specs.Calls.{IsAsked, HartStepped}
 use Rattle.thy_core.specs.Rows.{Leads, At, HartGoes}
 use Rattle.thy_core.proofs.Facts.{view-run, sound-run, is-going, small-next}
@@ -37,6 +37,7 @@ pub record IsOn {S : Type 0} (K : SchemeOf S) (o : Origin) (m : Machine S) (n : 
   pub sound : K.is_sound o m.marks t new
   pub holds : RunHolds K o m.marks t new
   pub engine : K.engine_left t ≤ K.engine_left m.scheme
+  pub lean : K.lean t ≡ K.lean m.scheme
   pub room : dirty_count c + reserved h.hand ≤ K.free t
   pub geometry : h.geometry ≡ o.geometry
   pub unbarred : is_barred K (record m { scheme = t }) ≡ false
@@ -63,6 +64,7 @@ is-on K o cycles m n h c t new s at turn hs =
       sound = stays.sound up;
       holds = l.run_holds o m.marks t new (record { sound = stays.sound up; up = up });
       engine = stays.engine;
+      lean = stays.lean;
       room = omega (arith, w.ready.room, l.free_is t new);
       geometry = w.fixed ∙ at.sound.geometry;
       unbarred = ap (λ way. way && not K.overlaps) stays.way ∙ going.unbarred;
@@ -82,7 +84,8 @@ pub record IsNext {S : Type 0} (K : SchemeOf S) (o : Origin) (cycles : ℕ) (m :
   pub counted : IsCounted o (hart_on lap h c t m)
   pub follows : Follows o.input (at o h.cpu.count) h (memory_of K (hart_on lap h c t m) new)
   pub live : h.epoch.over ≡ None → runs_at o h.cpu.count ≡ true
-  pub strides : m.idle ≡ true → Strides h.epoch.over h.epoch.retired h.hand (dirty_count c) (K.rested t)
+  pub fresh : StartsFresh h.epoch.over h.epoch.retired h.hand (dirty_count c) (K.rested t)
+  pub strides : m.idle ≡ true → h.epoch.over ≢ None → 1 ≤ h.epoch.retired
   pub spent : cycles_left K o.geometry (hart_on lap h c t m) new + 1 ≤ cycles_left K o.geometry m n
   pub step : CoreStep o (run_view m) did (run_view (hart_on lap h c t m))
   pub acts : Acts did n new
@@ -112,7 +115,13 @@ next-run K o cycles m n lap did h c t new s at turn hs x =
         halted = λ e. absurd (let p = turn.phase in cc);
         live = λ e over still. x.live over;
       };
-      paced = record { spent = omega (arith, x.spent, run.paced.spent); strides = x.strides; promoted = λ e. on.whole };
+      paced = record {
+        spent = omega (arith, x.spent, run.paced.spent);
+        fresh = x.fresh;
+        lean = λ idle. on.lean ∙ run.paced.lean idle;
+        strides = x.strides;
+        promoted = λ e. on.whole;
+      };
     }
 
 next-pace : {S : Type 0} (K : SchemeOf S) (o : Origin) (cycles : ℕ) (m : Machine S) (n : Device) (lap : ℕ) (did : Did) (h : Core) (c : Contents) (t : S) (new : Device)

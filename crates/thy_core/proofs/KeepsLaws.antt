@@ -27,7 +27,7 @@ use Rattle.thy_scheme.specs.Calls.{queued_in, OpensNone, HoldsSame, KeepsLeft, K
 use Rattle.thy_scheme.specs.Laws.{IsLawful}
 use Rattle.thy_core.specs.Machine.{Machine, moment_of, memory_of, run_view, view_in, view_of, is_barred, pressure_of, has_read_in}
 use Rattle.thy_core.specs.Pace.{instructions_left, flushes_left, hart_left, cycles_left, most_spent}
-use Rattle.thy_core.specs.Sound.{OpenNow, IsHeld, IsCounted, IsEpoch, Strides, IsPaced, IsSmall, SoundRun, SoundIn, Sound}
+use Rattle.thy_core.specs.Sound.{OpenNow, IsHeld, IsCounted, IsEpoch, StartsFresh, IsPaced, IsSmall, SoundRun, SoundIn, Sound}
 use Rattle.thy_core.specs.Rows.{Leads, At}
 use Rattle.thy_core.proofs.SmallLaws.{small_step}
 
@@ -235,11 +235,13 @@ module _ {S : Type 0} (K : SchemeOf S) (m next : Machine S) (n new : Device)
       → next.spent + cycles_left K p next new < most_spent K p → IsPaced K p next new
   paced_kept p idle k old spent = record {
     spent = spent;
-    strides = λ is.
-        subst (λ (x : Core). Strides x.epoch.over x.epoch.retired x.hand (dirty_count next.cache) (K.rested next.scheme)) (sym hart)
-        (subst (λ d. Strides m.hart.epoch.over m.hart.epoch.retired m.hart.hand d (K.rested next.scheme)) (sym dirty_kept)
-        (subst (λ r. Strides m.hart.epoch.over m.hart.epoch.retired m.hart.hand (dirty_count m.cache) r) (sym k.rested)
-        (old.strides (sym idle ∙ is))));
+    fresh =
+        subst (λ (x : Core). StartsFresh x.epoch.over x.epoch.retired x.hand (dirty_count next.cache) (K.rested next.scheme)) (sym hart)
+        (subst (λ d. StartsFresh m.hart.epoch.over m.hart.epoch.retired m.hart.hand d (K.rested next.scheme)) (sym dirty_kept)
+        (subst (λ r. StartsFresh m.hart.epoch.over m.hart.epoch.retired m.hart.hand (dirty_count m.cache) r) (sym k.rested)
+        old.fresh));
+    lean = λ is. k.lean ∙ old.lean (sym idle ∙ is);
+    strides = λ is. subst (λ (x : Core). x.epoch.over ≢ None → 1 ≤ x.epoch.retired) (sym hart) (old.strides (sym idle ∙ is));
     promoted = λ over. k.whole (old.promoted (subst (λ (x : Core). x.epoch.over ≢ None) hart over));
   }
 

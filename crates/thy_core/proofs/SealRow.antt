@@ -1,5 +1,6 @@
 -- A seal leads on.
 use Rattle.std.proofs.Common.{◌≡◌, ℕ, ◌+◌, ◌<◌, ◌≤◌, not, Bool, false, true, List, length, Option, Some, None, refl, sym, ◌∙◌, ap, subst, inl, inr, arith}
+use Rattle.std.proofs.lemmas.Bool.{eqb-true}
 use Rattle.thy_base.specs.declared.block.Block.{Block}
 use Rattle.thy_base.specs.declared.cause.EndCause.{EndCause}
 use Rattle.thy_base.specs.declared.mark.Mark.{Mark}
@@ -30,7 +31,7 @@ use Rattle.thy_scheme.specs.Laws.{RunHolds}
 use Rattle.thy_core.specs.Calls.{after_seal}
 use Rattle.thy_core.specs.Machine.{Machine, moment_of, memory_of, run_view}
 use Rattle.thy_core.specs.Rows.{At, IsSealing, SealLeads}
-use Rattle.thy_core.specs.Sound.{OpenNow, epochs_ahead, IsFresh, Strides, IsSmall, SoundRun}
+use Rattle.thy_core.specs.Sound.{OpenNow, epochs_ahead, IsFresh, StartsFresh, IsSmall, SoundRun}
 use Rattle.thy_core.proofs.CacheLemmas.{none_for_flush}
 use Rattle.thy_core.proofs.EpochLemmas.{few-moves}
 use Rattle.thy_core.proofs.KeepsLaws.{run_of, view_run, runs_behind, none_for, leads_on}
@@ -166,6 +167,8 @@ seal_leads {S} K = λ o cycles m n t cause at sealing whole bare clean over_is p
     let closed : (K.holding t n).open_page ≡ None =
     closed_on (K.holding m.scheme n).open_page (K.holding t n).open_page g.closed p.held.opened in
     let next_epoch_is : m.hart.epoch.number ≡ m.marks.done.epoch + 1 = g.taken.next in
+    let started : StartsFresh (Some cause) m.hart.epoch.retired m.hart.hand (dirty_count m.cache) (K.rested m.scheme) =
+    subst (λ x. StartsFresh x m.hart.epoch.retired m.hart.hand (dirty_count m.cache) (K.rested m.scheme)) over_is s.paced.fresh in
     leads_on K o cycles (Sealed m.hart.epoch.number m.hart.cpu.count cause) m n next n at behind
     (record {
       behind = behind;
@@ -204,7 +207,9 @@ seal_leads {S} K = λ o cycles m n t cause at sealing whole bare clean over_is p
         };
         paced = record {
           spent = omega (arith, engine, promotions, owed, span, some, moves);
-          strides = λ idle retired. fresh_with m.hart.hand (dirty_count m.cache) (K.rested t) g.hand clean p.rested;
+          fresh = λ retired. fresh_with m.hart.hand (dirty_count m.cache) (K.rested t) g.hand clean p.rested;
+          lean = λ idle. p.lean ∙ (started (eqb-true m.hart.epoch.retired 0 idle)).1;
+          strides = λ idle over. absurd (over refl);
           promoted = λ over. absurd (over refl);
         };
       };
@@ -218,11 +223,6 @@ seal_leads {S} K = λ o cycles m n t cause at sealing whole bare clean over_is p
       };
       acts = record { action = Rest; asked = refl; left = refl };
       queues = omega (arith, queue);
-      strides = (
-        λ idle.
-            subst (λ x. Strides x m.hart.epoch.retired m.hart.hand (dirty_count m.cache) (K.rested m.scheme)) over_is
-            (s.paced.strides idle),
-        refl,
-      );
+      strides = (λ idle. s.paced.strides idle (λ none. absurd (cc)), refl);
       exhausts = λ is. absurd (cc);
     })

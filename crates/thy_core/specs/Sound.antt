@@ -100,16 +100,18 @@ IsFresh (Reserving e to) dirty rested = (dirty ≡ 0) × (rested ≡ true)
 IsFresh (Writing e to done) dirty rested = Unit {0}
 IsFresh (Retiring e wrote) dirty rested = Unit {0}
 
--- an epoch behind one that retired nothing retires an instruction, before which nothing is stored
-abbrev pub Strides : Option EndCause → ℕ → Hand → ℕ → Bool → Type 0
-Strides None retired hand dirty rested = retired ≡ 0 → IsFresh hand dirty rested
-Strides (Some cause) retired hand dirty rested = 1 ≤ retired
+-- an epoch stores nothing before its first instruction has room reserved, and one that retires none stores nothing
+abbrev pub StartsFresh : Option EndCause → ℕ → Hand → ℕ → Bool → Type 0
+StartsFresh None retired hand dirty rested = retired ≡ 0 → IsFresh hand dirty rested
+StartsFresh (Some cause) retired hand dirty rested = retired ≡ 0 → (dirty ≡ 0) × (rested ≡ true)
 
 -- where the cycles go
 pub record IsPaced {S : Type 0} (K : SchemeOf S) (p : Parameters) (m : Machine S) (n : Device) : Type 0 where
   pub spent : m.spent + cycles_left K p m n < most_spent K p
-  pub strides : m.idle ≡ true
-      → Strides m.hart.epoch.over m.hart.epoch.retired m.hart.hand (dirty_count m.cache) (K.rested m.scheme)
+  pub fresh : StartsFresh m.hart.epoch.over m.hart.epoch.retired m.hart.hand (dirty_count m.cache) (K.rested m.scheme)
+  -- an epoch behind one that retired nothing, and so stored nothing, retires an instruction
+  pub lean : m.idle ≡ true → K.lean m.scheme ≡ true
+  pub strides : m.idle ≡ true → m.hart.epoch.over ≢ None → 1 ≤ m.hart.epoch.retired
   -- nothing is promoted once the epoch is over
   pub promoted : m.hart.epoch.over ≢ None → K.promoting m.scheme ≡ false
 

@@ -42,6 +42,7 @@ pub record IsBooted {S : Type 0} (K : SchemeOf S) (o : Origin) (m : Mark) (cpu :
   pub recordable : IsRecordable o.geometry ceiling cpu
   pub closed : (K.holding t new).open_page ≡ None
   pub whole : K.promoting t ≡ false
+  pub rested : K.rested t ≡ true
 
 -- the program was loaded, as the checkpoint of epoch 0
 pub record Loads {S : Type 0} (K : SchemeOf S) (o : Origin) (s : S) (n : Device) (t : S) (new : Device) : Type 0 where

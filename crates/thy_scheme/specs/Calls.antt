@@ -61,6 +61,7 @@ pub record Keeps {S : Type 0} (K : SchemeOf S) (s : S) (n : Device) (t : S) (new
   pub left : KeepsLeft K s n t new
   pub whole : K.promoting s ≡ false → K.promoting t ≡ false
   pub rested : K.rested t ≡ K.rested s
+  pub lean : K.lean t ≡ K.lean s
 
 -- ---- the calls
 
@@ -107,6 +108,7 @@ pub record Seals {S : Type 0} (K : SchemeOf S) (o : Origin) (k : Marks) (cpu : C
   pub held : HoldsSame (K.holding s n) (K.holding t n)
   pub queue : K.queued t ≡ K.queued s
   pub rested : K.rested t ≡ true
+  pub lean : K.lean t ≡ K.rested s
 
 -- a step of the engine is due: a checkpoint is under way, whose commit block was written before it is committed
 abbrev pub IsDue : EngineStep → Marks → Type 0

@@ -71,8 +71,8 @@ pub record RunHolds {S : Type 0} (K : SchemeOf S) (o : Origin) (k : Marks) (s : 
   pub overlays : K.overlaid s ≡ false → K.merges_left s ≡ 0
   pub promotions : K.promoting s ≡ false → K.promotions_left s ≡ 0
   pub bounded : IsBounded K o.geometry s n
-  -- an epoch without a store leaves room for an instruction once it is committed
-  pub room : K.rested s ≡ true → K.under_way s ≡ false → 2 ≤ K.free s
+  -- once an epoch without a store is committed, the next one has room for an instruction
+  pub room : K.lean s ≡ true → K.rested s ≡ true → K.under_way s ≡ false → 2 ≤ K.free s
   pub committed : IsCommitted K o k.done.count s n
   -- a write of the NVM lands
   pub drained_sound : 0 < length n.queue → K.is_sound o k s (drained n)
@@ -88,6 +88,7 @@ pub record StaysSound {S : Type 0} (K : SchemeOf S) (o : Origin) (k : Marks) (s 
   pub safe : Safe K.decode o (Some k.done) (doubt_in k) new
   pub way : K.under_way t ≡ K.under_way s
   pub engine : K.engine_left t ≤ K.engine_left s
+  pub lean : K.lean t ≡ K.lean s
 
 pub record IsLawful {S : Type 0} (K : SchemeOf S) : Type 0 where
   -- power can come on, over any DRAM

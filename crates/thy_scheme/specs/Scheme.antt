@@ -32,6 +32,8 @@ pub record SchemeOf (S : Type 0) : Type 1 where
   pub promoting : S → Bool
   -- no block was stored since the last seal
   pub rested : S → Bool
+  -- none was in the epoch that was sealed last
+  pub lean : S → Bool
   -- the hart may run while a checkpoint is under way
   pub overlaps : Bool
   -- how many writes are queued in the DRAM, and how many table entries are free
