@@ -18,3 +18,4 @@ pub mod FailRows
 pub mod BootRow
 pub mod RecordLemmas
 pub mod SealRow
+pub mod EngineRow

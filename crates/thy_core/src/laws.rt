@@ -1,6 +1,6 @@
 //! Laws of the machine, for every scheme, each the contract of a function that does nothing.
 ghost use Rattle.thy_core.specs.Failures.{HartFails, FlushFails, PromotionLeaves, EngineLeaves, BootLeaves, DrainFails};
-ghost use Rattle.thy_core.specs.Rows.{HartLeads, FlushLeads, MergeLeads, PromotionLeads, BootLeads, SealLeads};
+ghost use Rattle.thy_core.specs.Rows.{HartLeads, FlushLeads, MergeLeads, PromotionLeads, BootLeads, SealLeads, EngineLeads};
 ghost use Rattle.thy_core.specs.Runs.{MomentIsSafe, CyclesComeNearer, FreshLeads, CutLeads, MachineIsLawful};
 
 use thy_scheme::Scheme;
@@ -88,4 +88,9 @@ pub fn the_boot_leads_on<S: Scheme>()
 /// A seal of an epoch that is over leads to the next moment, at which its checkpoint is under way.
 pub fn a_seal_leads_on<S: Scheme>()
     ensures { SealLeads S.scheme }
+{}
+
+/// A step of the engine leads to the next moment: with the last one the sealed checkpoint is the committed one.
+pub fn the_engine_leads_on<S: Scheme>()
+    ensures { EngineLeads S.scheme }
 {}
