@@ -71,7 +71,7 @@ runs_behind phase is = λ boots. absurd (cc)
 
 -- ---- what makes a cycle lead on
 
-entries_in : (barred : Bool) (dirty free : ℕ) → dirty ≤ free → (if barred then 0 else dirty) ≤ (if barred then 0 else free)
+pub entries_in : (barred : Bool) (dirty free : ℕ) → dirty ≤ free → (if barred then 0 else dirty) ≤ (if barred then 0 else free)
 entries_in true dirty free l = omega arith
 entries_in false dirty free l = l
 
@@ -247,7 +247,7 @@ module _ {S : Type 0} (K : SchemeOf S) (m next : Machine S) (n new : Device)
 
 -- ---- after a call that leaves all but the scheme, and how much was spent
 
-abbrev with_scheme : {S : Type 0} → S → ℕ → Machine S → Machine S
+abbrev pub with_scheme : {S : Type 0} → S → ℕ → Machine S → Machine S
 with_scheme t spent m = record m { scheme = t; spent = spent }
 
 pub sound_kept : {S : Type 0} (K : SchemeOf S) (o : Origin) (m : Machine S) (n : Device) (t : S) (spent : ℕ) (new : Device)

@@ -19,3 +19,5 @@ pub mod BootRow
 pub mod RecordLemmas
 pub mod SealRow
 pub mod EngineRow
+pub mod BootingLaws
+pub mod DrainRows

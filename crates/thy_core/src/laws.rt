@@ -1,6 +1,6 @@
 //! Laws of the machine, for every scheme, each the contract of a function that does nothing.
 ghost use Rattle.thy_core.specs.Failures.{HartFails, FlushFails, PromotionLeaves, EngineLeaves, BootLeaves, DrainFails};
-ghost use Rattle.thy_core.specs.Rows.{HartLeads, FlushLeads, MergeLeads, PromotionLeads, BootLeads, SealLeads, EngineLeads};
+ghost use Rattle.thy_core.specs.Rows.{HartLeads, FlushLeads, MergeLeads, PromotionLeads, BootLeads, SealLeads, EngineLeads, NvmDrainLeads, DramDrainLeads, BootDrainLeads, NothingLeads};
 ghost use Rattle.thy_core.specs.Runs.{MomentIsSafe, CyclesComeNearer, FreshLeads, CutLeads, MachineIsLawful};
 
 use thy_scheme::Scheme;
@@ -93,4 +93,24 @@ pub fn a_seal_leads_on<S: Scheme>()
 /// A step of the engine leads to the next moment: with the last one the sealed checkpoint is the committed one.
 pub fn the_engine_leads_on<S: Scheme>()
     ensures { EngineLeads S.scheme }
+{}
+
+/// A write of the NVM that lands leads to the next moment, in each phase: nothing of the view changes.
+pub fn an_nvm_drain_leads_on<S: Scheme>()
+    ensures { NvmDrainLeads S.scheme }
+{}
+
+/// A write of the DRAM that lands behind the boot leads to the next moment.
+pub fn a_dram_drain_leads_on<S: Scheme>()
+    ensures { DramDrainLeads S.scheme }
+{}
+
+/// And so does one that lands in the boot.
+pub fn a_drain_of_the_boot_leads_on<S: Scheme>()
+    ensures { BootDrainLeads S.scheme }
+{}
+
+/// A machine that has halted does nothing, and stays at a moment of the run.
+pub fn nothing_leads_on<S: Scheme>()
+    ensures { NothingLeads S.scheme }
 {}
