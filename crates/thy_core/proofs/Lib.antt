@@ -21,3 +21,4 @@ pub mod SealRow
 pub mod EngineRow
 pub mod BootingLaws
 pub mod DrainRows
+pub mod StepLaws

@@ -1,7 +1,7 @@
 //! Laws of the machine, for every scheme, each the contract of a function that does nothing.
 ghost use Rattle.thy_core.specs.Failures.{HartFails, FlushFails, PromotionLeaves, EngineLeaves, BootLeaves, DrainFails};
 ghost use Rattle.thy_core.specs.Rows.{HartLeads, FlushLeads, MergeLeads, PromotionLeads, BootLeads, SealLeads, EngineLeads, NvmDrainLeads, DramDrainLeads, BootDrainLeads, NothingLeads};
-ghost use Rattle.thy_core.specs.Runs.{MomentIsSafe, CyclesComeNearer, FreshLeads, CutLeads, MachineIsLawful};
+ghost use Rattle.thy_core.specs.Runs.{MomentIsSafe, CyclesComeNearer, FreshLeads, CutLeads, MachineIsLawful, LeadingIsStep, FailingIsSafe};
 
 use thy_scheme::Scheme;
 
@@ -113,4 +113,14 @@ pub fn a_drain_of_the_boot_leads_on<S: Scheme>()
 /// A machine that has halted does nothing, and stays at a moment of the run.
 pub fn nothing_leads_on<S: Scheme>()
     ensures { NothingLeads S.scheme }
+{}
+
+/// A cycle that leads to the next moment, at the turn of its pick, is a step of a machine.
+pub fn a_cycle_that_leads_on_is_a_step<S: Scheme>()
+    ensures { LeadingIsStep S.scheme }
+{}
+
+/// A cycle that fails in its action, at the turn of its pick, leaves the committed checkpoint, whole, or the sealed one.
+pub fn a_cycle_that_fails_is_safe<S: Scheme>()
+    ensures { FailingIsSafe S.scheme }
 {}
