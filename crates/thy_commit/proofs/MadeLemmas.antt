@@ -23,6 +23,7 @@ use Rattle.thy_control.specs.State.{State, IsSized, cell_of, reads, last_of, wor
 use Rattle.thy_control.specs.Copies.{next_copy, block_listed, devices_copied}
 use Rattle.thy_control.specs.Pages.{next_page, block_to_write, devices_issued}
 use Rattle.thy_control.proofs.GuardLemmas.{behind_slots}
+use Rattle.thy_control.proofs.HoldingLemmas.{works-sized}
 use Rattle.thy_control.specs.Seal.{sealed_state}
 use Rattle.thy_control.specs.Stays.{StaysUp, StaysHeld}
 use Rattle.thy_commit.specs.declared.next.Next.{Next}
@@ -165,13 +166,15 @@ stays_made o e s m t n c stays up hold made =
 
 pub seal_makes : SealMakes
 unfolding sealed_state
-seal_makes o e s n c cpu mark seals moment header = record {
+seal_makes o e s n c cpu mark sized up seals moment header = record {
   mark = mark;
   sealed = refl;
   of_epoch = refl;
   small = moment.small;
   recordable = moment.recordable;
-  state_is = ap (state_from o.geometry cpu) (blocks-same (last_of (sealed_state s) n) (work_of s n) (memory_blocks s.p) seals.last_is) ∙ moment.state_is;
+  state_is =
+      ap (state_from o.geometry cpu) (blocks-same (last_of (sealed_state s) n) (work_of s n) (memory_blocks s.p) seals.last_is ∙ sym (works-sized s n sized up))
+      ∙ moment.state_is;
   counted = moment.counted;
   header = header;
   commit = λ h. cc;

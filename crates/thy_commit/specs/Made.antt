@@ -1,16 +1,15 @@
 -- The checkpoint under way is that of the sealed mark, from the seal to the barrier behind its commit block.
-use Rattle.std.specs.Prelude.{◌≡◌, ◌≢◌, ◌<◌, true, false, map, None}
-use Rattle.std.specs.List.{range_with_len}
+use Rattle.std.specs.Prelude.{◌≡◌, ◌≢◌, ◌<◌, true, false, None}
 use Rattle.thy_base.specs.declared.mark.Mark.{Mark}
 use Rattle.thy_base.specs.Device.{Device, newest}
-use Rattle.thy_base.specs.Geometry.{memory_blocks}
 use Rattle.thy_isa.specs.declared.state.CpuState.{CpuState}
 use Rattle.thy_isa.specs.OnBlocks.{state_from}
 use Rattle.thy_record.specs.Cpu.{IsRecordable}
 use Rattle.thy_record.specs.Header.{header_fault}
 use Rattle.thy_view.specs.Origin.{Origin, at}
 use Rattle.thy_view.specs.Safe.{ceiling}
-use Rattle.thy_control.specs.State.{State, AreSoundTables, IsSized, work_of}
+use Rattle.thy_control.specs.State.{State, AreSoundTables, IsSized}
+use Rattle.thy_control.specs.Holding.{holding_of}
 use Rattle.thy_control.specs.Seal.{sealed_state, Seals}
 use Rattle.thy_control.specs.Stays.{HoldAll, Stays}
 use Rattle.thy_commit.specs.declared.next.Next.TheVariants.{Confirm}
@@ -33,16 +32,17 @@ StaysMade =
     (o : Origin) (e : Progress) (s : State) (m : Device) (t : State) (n : Device) (c : Checkpoints)
     → Stays s m t n → n.down ≡ false → HoldAll s m → IsMadeFor o e s m c → IsMadeFor o e t n c
 
--- a processor and what loads give are the plain machine at a mark's count, and can be stored
+-- a processor and what the store holds are the plain machine at a mark's count, and can be recorded
 pub record IsMomentOf (o : Origin) (s : State) (n : Device) (cpu : CpuState) (mark : Mark) : Type 0 where
   pub small : mark.epoch < ceiling
   pub recordable : IsRecordable o.geometry ceiling cpu
-  pub state_is : state_from o.geometry cpu (map (work_of s n) (range_with_len 0 (memory_blocks s.p))) ≡ at o mark.count
+  pub state_is : state_from o.geometry cpu (holding_of s n).blocks ≡ at o mark.count
   pub counted : (at o mark.count).count ≡ mark.count
 
 -- with a seal it begins to be so
 abbrev pub SealMakes : Type 0
 SealMakes =
     (o : Origin) (e : Progress) (s : State) (n : Device) (c : Checkpoints) (cpu : CpuState) (mark : Mark)
-    → Seals s (sealed_state s) n → IsMomentOf o s n cpu mark → header_fault (newest n 0) o.geometry true ≡ None
+    → IsSized s n → n.down ≡ false → Seals s (sealed_state s) n → IsMomentOf o s n cpu mark
+    → header_fault (newest n 0) o.geometry true ≡ None
     → IsMadeFor o (begun cpu mark.epoch e) (sealed_state s) n (sealing mark c)
