@@ -2,7 +2,9 @@
 use Rattle.std.specs.Prelude.{◌≡◌, ◌⊎◌, ℕ, ◌+◌, ◌<◌, ◌≤◌, true, false, length, Option, Some, None}
 use Rattle.thy_base.specs.declared.mark.Mark.{Mark}
 use Rattle.thy_base.specs.Device.{Device, IsFramed, HasFailed}
-use Rattle.thy_base.specs.Store.{Holding}
+use Rattle.thy_base.specs.Store.{Holding, HasStored}
+use Rattle.thy_base.specs.declared.store.Stored.{Stored}
+use Rattle.thy_base.specs.declared.block.Block.{Block}
 use Rattle.thy_isa.specs.declared.state.CpuState.{CpuState}
 use Rattle.thy_isa.specs.OnBlocks.{state_from}
 use Rattle.thy_record.specs.Cpu.{IsRecordable}
@@ -35,6 +37,10 @@ pub record IsOneAccess {S : Type 0} (K : SchemeOf S) (s : S) (n : Device) (t : S
   pub fails : new.down ≡ true → FailsTo action n new
   pub frame : IsFramed n new
   pub stays : K.stays s n t new
+
+-- what a store of a block that succeeds leaves, by its answer
+abbrev pub Stores : {S : Type 0} → SchemeOf S → Stored → ℕ → Block → S → Device → S → Device → Type 0
+Stores K stored b block s n t new = HasStored stored b block (K.holding s n) (K.holding t new)
 
 -- ---- what every other call keeps
 

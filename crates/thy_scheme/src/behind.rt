@@ -30,5 +30,6 @@ impl<N: Nvm, S: Scheme> BlockStore<N> for Behind<S> {
 
     ghost stays_same = { λ store nvm. S.lawful.stays_same store.scheme (N.device nvm) };
 
-    ghost stays_on = { λ a m b n c o first second. S.lawful.stays_on a.scheme (N.device m) b.scheme (N.device n) c.scheme (N.device o) first second };
+    ghost stays_on = { λ a m b n c o first second.
+        S.lawful.stays_on a.scheme (N.device m) b.scheme (N.device n) c.scheme (N.device o) first second };
 }

@@ -1,13 +1,13 @@
 //! What a scheme of checkpoints is to the machine above it.
 ghost use Rattle.std.specs.Prelude.{◌≡◌, ◌&&◌, ◌<◌, true, false, length, IfOk, OnOk, OnErr};
 ghost use Rattle.thy_base.specs.Device.{Device, HasFailed, IsFramed, CountsFault, block_at};
-ghost use Rattle.thy_base.specs.Store.{IsKeptByLoad, HasStored};
+ghost use Rattle.thy_base.specs.Store.{IsKeptByLoad};
 ghost use Rattle.thy_view.specs.Kind.{IsDramOf};
 ghost use Rattle.thy_view.specs.Origin.{Origin, Begins};
 ghost use Rattle.thy_view.specs.Views.{loads};
 ghost use Rattle.thy_scheme.specs.Marks.{Marks};
 ghost use Rattle.thy_scheme.specs.Scheme.{SchemeOf, Stands, CanRun, IsBooting, CanBoot};
-ghost use Rattle.thy_scheme.specs.Calls.{IsOneAccess, Merges, Promotes, PromotionFails, Drains, Seals, Engines, EngineFails};
+ghost use Rattle.thy_scheme.specs.Calls.{IsOneAccess, Stores, Merges, Promotes, PromotionFails, Drains, Seals, Engines, EngineFails};
 ghost use Rattle.thy_scheme.specs.Boots.{BootsOn, BootFails, BootDrains};
 ghost use Rattle.thy_scheme.specs.Laws.{IsLawful};
 
@@ -57,7 +57,7 @@ pub trait Scheme: Drop {
         requires inside { b < length (scheme.holding self.old (N.device nvm.old)).blocks }
         requires ready { (scheme.holding self.old (N.device nvm.old)).ready ≡ true }
         requires room { 0 < (scheme.holding self.old (N.device nvm.old)).free }
-        ensures ok { IfOk result (λ stored. HasStored stored b block.now (scheme.holding self.old (N.device nvm.old)) (scheme.holding self.new (N.device nvm.new))) }
+        ensures ok { IfOk result (λ stored. Stores scheme stored b block.now self.old (N.device nvm.old) self.new (N.device nvm.new)) }
         ensures up { OnOk result ((N.device nvm.new).down ≡ false) }
         ensures err { OnErr result ((N.device nvm.new).down ≡ true) }
         ensures once { IsOneAccess scheme self.old (N.device nvm.old) self.new (N.device nvm.new) }
