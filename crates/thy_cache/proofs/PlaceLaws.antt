@@ -2,11 +2,11 @@
 use Rattle.std.proofs.Common.{◌≡◌, ℕ, ◌<◌, List, length, true, Option, Some, None, option_and_then, refl, sym, ◌∙◌, ap, arith}
 use Rattle.std.proofs.Math.Nat.{mod-lt}
 use Rattle.std.specs.List.{count_by}
-use Rattle.std.specs.Option.{option_map, option_map_or, is_some}
+use Rattle.std.specs.Option.{option_map, is_some}
 use Rattle.thy_cache.specs.declared.line.Line.{Line}
 use Rattle.thy_cache.specs.declared.line.Place.{Place}
-use Rattle.thy_cache.specs.Ways.{Ways, is_dirty, way_of, line_at, used, used_for, over_line, changed, written_to}
-use Rattle.thy_cache.specs.Contents.{Contents, index_of, set_of, line_of, hits, place_of, read_from, written_at}
+use Rattle.thy_cache.specs.Ways.{Ways, is_dirty, way_of, line_at, used_for}
+use Rattle.thy_cache.specs.Contents.{Contents, index_of, set_of, hits, place_of, read_from, written_at}
 use Rattle.thy_cache.specs.Flat.{KeepsLines, IsWritten}
 use Rattle.thy_cache.proofs.LineLemmas.{place-way_of, held}
 use Rattle.thy_cache.proofs.AgreeLemmas.{map-Some}
@@ -34,10 +34,6 @@ IsPlace-of c b place e =
     let line = held b (line_at (set_of c b) place.way) there.2 in
     record { set = sym (ap (λ (p : Place). p.set) w.2); way = way; inside = there.1; line = line.0; stands = line.1 }
 
--- the line there is the block's
-pub place-line : (c : Contents) (b : ℕ) (place : Place) → place_of c b ≡ Some place → line_of c b ≡ line_at (set_of c b) place.way
-place-line c b place e = ap (option_and_then (line_at (set_of c b))) (IsPlace-of c b place e).way
-
 -- a block has a place where it hits
 found_by : (ways : Ways) (b : ℕ) (o : Option ℕ) → way_of ways b ≡ o → is_some o ≡ is_some (option_and_then (line_at ways) o)
 found_by ways b None e = refl
@@ -51,16 +47,7 @@ pub place-hits : (c : Contents) (b : ℕ) → is_some (place_of c b) ≡ hits c 
 place-hits c b =
     some_map (λ way. record { set = index_of c b; way = way }) (way_of (set_of c b) b) ∙ found_by (set_of c b) b (way_of (set_of c b) b) refl
 
--- a use of the line there is one of the block's
-pub place-used : (c : Contents) (b : ℕ) (place : Place) → place_of c b ≡ Some place → used_for b (set_of c b) ≡ used place.way (set_of c b)
-place-used c b place e =
-    ap (λ o. option_map_or (λ w. used w (set_of c b)) o (set_of c b)) (IsPlace-of c b place e).way
-
-pub place-written : (c : Contents) (b : ℕ) (place : Place) (at : ℕ) (bytes : List ℕ) → place_of c b ≡ Some place
-    → written_to b at bytes (set_of c b) ≡ over_line (changed at bytes) place.way (used place.way (set_of c b))
-place-written c b place at bytes e =
-    ap (λ o. option_map_or (λ w. over_line (changed at bytes) w (used w (set_of c b))) o (set_of c b)) (IsPlace-of c b place e).way
-
+-- what a read leaves, and a write
 pub KeepsLines-read : (c : Contents) (b : ℕ) → index_of c b < length c.sets → KeepsLines c (read_from b c)
 KeepsLines-read c b inside = record {
   peeks = read-peeks c b inside;
