@@ -484,7 +484,7 @@ load_failure o g n m issue k made failed framed =
     (move, Safe-sealed version_one o m (failed_saved issue g) None (Some (start_mark o)) (subst (λ (a : Standing). IsKeeping o (layout_of o) a) (failed_is o g m issue) kept))
 
 pub failures_move : FailuresMove
-failures_move o g n b c m boot sound going fails framed =
+failures_move o g n b c m sound going fails framed =
     let r = by_stage b.stage sound.so_far sound.keeps going fails in
     record { move = r.0; safe = r.1 }
   where

@@ -88,7 +88,7 @@ pub record IsFailed (o : Origin) (g : Checkpoints) (n : Device) (b : Booting) (m
 abbrev pub FailuresMove : Type 0
 FailuresMove =
     (o : Origin) (g : Checkpoints) (n : Device) (b : Booting) (c : State) (m : Device)
-    → IsBoot b → IsSound o g n b c → IsGoing b.stage → Fails o.start b n m → IsFramed n m → IsFailed o g n b m
+    → IsSound o g n b c → IsGoing b.stage → Fails o.start b n m → IsFramed n m → IsFailed o g n b m
 
 -- ---- where it ends
 

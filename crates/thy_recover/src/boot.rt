@@ -50,8 +50,8 @@ impl Boot {
         })
     }
 
-    /// The slot has its room, and what is read next is there.
-    pub(crate) fn fits(&self)
+    /// The slot has its room, and what is read or written next is there.
+    pub fn fits(&self)
         ensures { IsBoot self.now }
     {
         let _slot = &self.slot;
