@@ -1,3 +1,4 @@
 pub mod Beside
+pub mod Boots
 pub mod Driven
 pub mod Entries
