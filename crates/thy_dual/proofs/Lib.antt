@@ -1,0 +1,3 @@
+pub mod BlocksLemmas
+pub mod SafeLemmas
+pub mod StaysLemmas

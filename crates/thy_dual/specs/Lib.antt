@@ -1,0 +1,5 @@
+pub mod Dual
+pub mod Stays
+pub mod Sound
+pub mod Scheme
+pub mod Laws

@@ -1,0 +1,6 @@
+//! The scheme of both tables: controller, checkpoint engine and boot together, as a scheme of checkpoints.
+#![tactic(auto)]
+
+mod laws;
+
+pub use laws::stays_keep_the_checkpoints;
