@@ -1,3 +1,5 @@
 pub mod BlocksLemmas
 pub mod SafeLemmas
 pub mod StaysLemmas
+pub mod CountLemmas
+pub mod HoldsLemmas

@@ -1,7 +1,13 @@
 //! Laws of the scheme, each the contract of a function that does nothing.
-ghost use Rattle.thy_dual.specs.Laws.{StaysKeep};
+ghost use Rattle.thy_dual.specs.Laws.{RunIsSound, StaysKeep};
 
 /// Loads and stores keep the checkpoints, those that fail too, and bring the engine no more to do.
 pub fn stays_keep_the_checkpoints()
     ensures { StaysKeep }
+{}
+
+/// Behind the boot, while the NVM is up, memory is held whole, what a cut may leave is safe, no number is above its most, and
+/// writes of the NVM may land.
+pub fn a_run_is_sound()
+    ensures { RunIsSound }
 {}

@@ -3,4 +3,4 @@
 
 mod laws;
 
-pub use laws::stays_keep_the_checkpoints;
+pub use laws::{a_run_is_sound, stays_keep_the_checkpoints};
