@@ -1,6 +1,8 @@
 //! The scheme of both tables: controller, checkpoint engine and boot together, as a scheme of checkpoints.
 #![tactic(auto)]
 
+mod dual;
 mod laws;
 
+pub use dual::DualScheme;
 pub use laws::{a_run_is_sound, stays_keep_the_checkpoints};

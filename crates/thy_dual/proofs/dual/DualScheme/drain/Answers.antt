@@ -1,0 +1,15 @@
+use Rattle.std.proofs.Common.{◌≡◌, ◌<◌, true, false, refl, sym, ◌∙◌, ap, subst, IsTrue}
+use Rattle.thy_base.specs.Device.{Device}
+use Rattle.thy_scheme.specs.Scheme.{Stands}
+use Rattle.thy_dual.specs.Dual.{Dual, is_promoting, is_overlaid}
+use Rattle.thy_dual.specs.Scheme.{dual_scheme}
+use Rattle.thy_scheme.specs.Calls.{Drains}
+use Rattle.thy_dual.proofs.CallLemmas.{drains}
+use Rattle.thy_dual.proofs.dual.DualScheme.drain.Goals as goal
+
+pub returns : goal.returns
+returns c = λ o k n stands.
+    let v : Dual = record { control = c.self.inside.control; engine = c.self.inside.engine; rested = c.self.inside.rested; lean = c.self.inside.lean } in
+    let some : 0 < v.control.dram.queued = subst (λ (s : Dual). 0 < s.control.dram.queued) (sym c.self.view_is) c.requires in
+    subst (λ (s : Dual). Drains dual_scheme o k s n (record v { control = c.drain.new.self })) c.self.view_is
+    (drains o k v n c.drain.new.self (subst (λ (s : Dual). Stands dual_scheme o k s n) (sym c.self.view_is) stands) c.drain.ensures.state some c.tables.ensures)
