@@ -5,3 +5,6 @@ pub mod CountLemmas
 pub mod HoldsLemmas
 pub mod MergeLemmas
 pub mod CallLemmas
+pub mod AccessLemmas
+pub mod SealLemmas
+pub mod ItemLemmas

@@ -1,16 +1,18 @@
 //! The scheme.
 ghost use Rattle.std.specs.Prelude.{◌≡◌, ◌<◌, true, false, length, IfOk, OnOk, OnErr};
 ghost use Rattle.thy_base.specs.Device.{Device, HasFailed, IsFramed, CountsFault, block_at};
+ghost use Rattle.thy_base.specs.Store.{IsKeptByLoad, HasStored};
 ghost use Rattle.thy_view.specs.Origin.{Origin};
 ghost use Rattle.thy_scheme.specs.Marks.{Marks};
 ghost use Rattle.thy_scheme.specs.Scheme.{Stands, CanRun};
-ghost use Rattle.thy_scheme.specs.Calls.{Merges, Promotes, PromotionFails, Drains};
+ghost use Rattle.thy_scheme.specs.Calls.{IsOneAccess, Merges, Promotes, PromotionFails, Drains, Seals};
 ghost use Rattle.thy_dual.specs.Scheme.{dual_scheme};
 
 use std::marker::Model;
-use thy_base::{Block, Nvm, NvmError};
+use thy_base::{Block, Nvm, NvmError, Stored};
 use thy_commit::Engine;
-use thy_control::Control;
+use thy_control::{Control, blocks_are_works};
+use thy_isa::CpuState;
 
 /// The scheme of both tables: its controller keeps two checkpoints of all blocks beside the work, and its engine writes
 /// the next one into the NVM while the hart runs.
@@ -34,6 +36,53 @@ impl Model for DualScheme {
 }
 
 impl DualScheme {
+    /// Block `b` of memory. Nothing changes.
+    pub fn load<N: Nvm>(&self, b: u64, nvm: &mut N) -> Result<Block, NvmError>
+        requires { b < length (dual_scheme.holding self.now (N.device nvm.old)).blocks }
+        ensures ok { IfOk result (λ block. block ≡ block_at (dual_scheme.holding self.now (N.device nvm.old)).blocks b) }
+        ensures same { OnOk result (N.device nvm.new ≡ N.device nvm.old) }
+        ensures err { OnErr result (HasFailed (N.device nvm.old) (N.device nvm.new)) }
+        ensures kept { IsKeptByLoad (dual_scheme.holding self.now (N.device nvm.old)) (dual_scheme.holding self.now (N.device nvm.new)) }
+        ensures stays { dual_scheme.stays self.now (N.device nvm.old) self.now (N.device nvm.new) }
+        ensures frame { IsFramed (N.device nvm.old) (N.device nvm.new) }
+        ensures cause { CountsFault result (N.device nvm.old).faults (N.device nvm.new).faults }
+    {
+        blocks_are_works();
+        self.control.load(b, nvm)
+    }
+
+    /// Stores block `b` of memory, or makes the copy that has to go first.
+    pub fn store<N: Nvm>(&mut self, b: u64, block: &Block, nvm: &mut N) -> Result<Stored, NvmError>
+        requires inside { b < length (dual_scheme.holding self.old (N.device nvm.old)).blocks }
+        requires ready { (dual_scheme.holding self.old (N.device nvm.old)).ready ≡ true }
+        requires room { 0 < (dual_scheme.holding self.old (N.device nvm.old)).free }
+        ensures ok { IfOk result (λ stored. HasStored stored b block.now (dual_scheme.holding self.old (N.device nvm.old)) (dual_scheme.holding self.new (N.device nvm.new))) }
+        ensures up { OnOk result ((N.device nvm.new).down ≡ false) }
+        ensures err { OnErr result ((N.device nvm.new).down ≡ true) }
+        ensures once { IsOneAccess dual_scheme self.old (N.device nvm.old) self.new (N.device nvm.new) }
+        ensures cause { CountsFault result (N.device nvm.old).faults (N.device nvm.new).faults }
+    {
+        blocks_are_works();
+        self.control.tables();
+        self.rested = false;
+        let result = self.control.store(b, block, nvm);
+        self.control.tables();
+        result
+    }
+
+    /// Block `b` of memory, as the committed checkpoint has it. Nothing changes.
+    pub fn committed<N: Nvm>(&self, b: u64, nvm: &mut N) -> Result<Block, NvmError>
+        requires block { b < length (dual_scheme.committed self.now (N.device nvm.old)) }
+        requires stands { CanRun dual_scheme self.now (N.device nvm.old) }
+        ensures ok { IfOk result (λ block. block ≡ block_at (dual_scheme.committed self.now (N.device nvm.old)) b) }
+        ensures same { OnOk result (N.device nvm.new ≡ N.device nvm.old) }
+        ensures err { OnErr result (HasFailed (N.device nvm.old) (N.device nvm.new)) }
+        ensures frame { IsFramed (N.device nvm.old) (N.device nvm.new) }
+        ensures cause { CountsFault result (N.device nvm.old).faults (N.device nvm.new).faults }
+    {
+        self.control.committed(b, nvm)
+    }
+
     /// How many table entries are free.
     pub fn free(&self) -> u64
         ensures { result ≡ dual_scheme.free self.now }
@@ -108,5 +157,23 @@ impl DualScheme {
         self.control.promote_one(nvm)?;
         self.control.tables();
         Ok(())
+    }
+
+    /// Seals an epoch: the checkpoint of memory as it is, and of this processor, is under way then.
+    pub fn seal(&mut self, cpu: &CpuState, epoch: u64)
+        requires idle { dual_scheme.under_way self.old ≡ false }
+        requires whole { dual_scheme.promoting self.old ≡ false }
+        requires bare { dual_scheme.overlaid self.old ≡ false }
+        requires regs { length cpu.now.regs ≡ 32 }
+        ensures { (o : Origin) (k : Marks) (n : Device) → Stands dual_scheme o k self.old n
+            → Seals dual_scheme o k cpu.now epoch self.old n self.new }
+    {
+        let _whole = self.control.promoting();
+        let _bare = self.control.overlay();
+        self.lean = self.rested;
+        self.rested = true;
+        self.control.seal();
+        self.control.tables();
+        self.engine.begin(cpu, epoch);
     }
 }
