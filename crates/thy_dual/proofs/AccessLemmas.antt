@@ -1,5 +1,5 @@
 -- What a load and a store leave: one action, and the checkpoints.
-use Rattle.std.proofs.Common.{◌≡◌, ◌≢◌, ◌⊎◌, ℕ, ◌+◌, ◌<◌, ◌≤◌, ◌==◌, ◌&&◌, not, nat_lt, Bool, true, false, if◌then◌else◌, length, refl, sym, ◌∙◌, ap, subst, inl, inr, arith, Option, Some, None, Result, Ok, Err, OnOk, OnErr, IfOk}
+use Rattle.std.proofs.Common.{◌≡◌, ◌⊎◌, ℕ, ◌<◌, ◌≤◌, ◌==◌, ◌&&◌, not, nat_lt, Bool, true, false, if◌then◌else◌, length, refl, sym, ◌∙◌, ap, inl, inr, arith, Result, Ok, Err, OnOk, OnErr, IfOk}
 use Rattle.std.proofs.lemmas.Bool.{and_parts, eqb-true}
 use Rattle.thy_base.specs.declared.block.Block.{Block}
 use Rattle.thy_base.specs.declared.nvm.NvmError.{NvmError}
@@ -9,7 +9,7 @@ use Rattle.thy_base.specs.declared.store.Stored.TheVariants.{Done, CopyFirst}
 use Rattle.thy_base.specs.declared.config.Parameters.{Parameters}
 use Rattle.std.proofs.lemmas.List.FromFn.{length-map-range_with_len, get_or-map-range_with_len}
 use Rattle.thy_base.specs.Geometry.{memory_blocks}
-use Rattle.thy_base.specs.Device.{Device, zero_block, block_at, HasFailed, HasFailedToWrite, IsFramed, written_to}
+use Rattle.thy_base.specs.Device.{Device, zero_block, block_at, written_to}
 use Rattle.thy_base.specs.Places.{in_dram, number_of, first_home}
 use Rattle.thy_dram.specs.Contents.{written}
 use Rattle.thy_cell.specs.Rules.{store_place}
@@ -17,16 +17,16 @@ use Rattle.thy_cell.specs.Store.{put_by}
 use Rattle.thy_base.specs.Store.{HasStored, IsKeptByLoad}
 use Rattle.thy_place.specs.Devices.{Devices, devices_of, written_at}
 use Rattle.thy_control.specs.Holding.{promoted, holding_of}
-use Rattle.thy_control.specs.Once.{Once, Spot, AccessesNvm, FailsOnNvm, IsOneOfNvm}
+use Rattle.thy_control.specs.Once.{Once, AccessesNvm, FailsOnNvm, IsOneOfNvm}
 use Rattle.thy_control.specs.Rules.{with_block, rule_for, cell_before, devices_after, state_after, FailsStore}
 use Rattle.thy_control.specs.State.{State, AreSoundTables, reads, penult_of}
 use Rattle.thy_control.specs.Stays.{Stays}
 use Rattle.thy_control.proofs.OnceLemmas.{one_of_nvm}
-use Rattle.thy_view.specs.Action.{Action, Rest, ReadAt, WriteAt, IsAccess, after, FailsTo}
-use Rattle.thy_scheme.specs.Calls.{IsOneAccess, Succeeds}
-use Rattle.thy_dual.specs.Dual.{Dual, is_promoting, penults}
+use Rattle.thy_view.specs.Action.{Rest, ReadAt, WriteAt}
+use Rattle.thy_scheme.specs.Calls.{IsOneAccess}
+use Rattle.thy_dual.specs.Dual.{Dual, penults}
 use Rattle.thy_dual.specs.Scheme.{dual_scheme}
-use Rattle.thy_dual.specs.Stays.{RestsOn, PromotesOn, StaysDual}
+use Rattle.thy_dual.specs.Stays.{StaysDual}
 
 -- ---- one action
 

@@ -1,5 +1,5 @@
 -- What a drain of the DRAM, a merge and a promotion keep of the checkpoints.
-use Rattle.std.proofs.Common.{◌≡◌, ℕ, ◌+◌, ◌<◌, ◌≤◌, nat_lt, ◌&&◌, Bool, true, false, length, refl, sym, ◌∙◌, ap, subst, inl, arith, zero, suc, Option, Some, None}
+use Rattle.std.proofs.Common.{◌≡◌, ℕ, ◌+◌, ◌<◌, ◌≤◌, nat_lt, ◌&&◌, true, false, length, refl, sym, ◌∙◌, ap, subst, inl, arith, zero, suc, Option, Some, None}
 use Rattle.thy_base.specs.Places.{image_blocks}
 use Rattle.thy_base.specs.Device.{Device}
 use Rattle.thy_table.specs.Listing.{Listing, entry_at, passes, free_count}
@@ -7,7 +7,7 @@ use Rattle.thy_tables.specs.declared.block_entry.BttEntry.{BttEntry}
 use Rattle.thy_tables.specs.declared.block_entry.Working.{Working}
 use Rattle.thy_control.specs.Drains.{after_drain}
 use Rattle.thy_control.specs.Frees.{HasNoWork}
-use Rattle.thy_control.specs.Holding.{waiting, promoted}
+use Rattle.thy_control.specs.Holding.{waiting}
 use Rattle.thy_control.specs.Merges.{next_merge, overlays, after_merge}
 use Rattle.thy_control.specs.Overlay.{is_buffered, is_overlaid as lies_over}
 use Rattle.thy_control.specs.Promotions.{next_promotion, unfilled, HoldsWork, after_promotion}
@@ -25,9 +25,7 @@ use Rattle.thy_scheme.specs.Scheme.{Stands}
 use Rattle.thy_scheme.specs.Calls.{Keeps, Drains, Merges, Promotes}
 use Rattle.thy_dual.specs.Dual.{Dual, is_promoting}
 use Rattle.thy_dual.specs.Scheme.{dual_scheme}
-use Rattle.thy_dual.specs.Sound.{IsRest, IsSound}
-use Rattle.thy_dual.specs.Stays.{RestsOn, PromotesOn, StaysDual}
-use Rattle.thy_dual.proofs.CountLemmas.{some-left}
+use Rattle.thy_dual.specs.Stays.{StaysDual}
 use Rattle.thy_dual.proofs.HoldsLemmas.{works-agree}
 use Rattle.thy_dual.proofs.MergeLemmas.{IsMerged, IsMerged-next, IsPromoted, IsPromoted-next}
 use Rattle.thy_dual.proofs.StaysLemmas.{sound-on}

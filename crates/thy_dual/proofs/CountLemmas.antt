@@ -1,15 +1,15 @@
 -- How many entries there are of each kind, at the most, and what is left of the pages in promotion.
-use Rattle.std.proofs.Common.{is_none, ◌≡◌, ℕ, ◌+◌, ◌-◌, ◌*◌, ◌<◌, ◌≤◌, ◌==◌, ◌&&◌, not, nat_lt, Bool, true, false, if◌then◌else◌, List, [], ◌∷◌, All, length, get_or, map, slice_set, refl, sym, ◌∙◌, ap, subst, arith, Option, Some, None, option_and_then}
+use Rattle.std.proofs.Common.{is_none, ◌≡◌, ℕ, ◌-◌, ◌*◌, ◌<◌, ◌≤◌, ◌==◌, ◌&&◌, not, nat_lt, Bool, true, false, if◌then◌else◌, List, [], ◌∷◌, All, length, get_or, map, slice_set, refl, ◌∙◌, ap, arith, Option, Some, None, option_and_then}
 use Rattle.std.specs.List.{count_by, sum_by}
-use Rattle.std.proofs.lemmas.Bool.{ltb-false, ltb-true, eq-eqb, not_from_false}
+use Rattle.std.proofs.lemmas.Bool.{ltb-false, ltb-true, not_from_false}
 use Rattle.std.proofs.lemmas.List.Sums.{sum_by-set, sum_by-cons, sum_by-le, count_by-le-length}
 use Rattle.thy_base.specs.declared.config.Parameters.{Parameters}
 use Rattle.thy_base.specs.Geometry.{IsInRange}
-use Rattle.thy_table.specs.Listing.{Listing, entry_at, free_count, passes, with_entry}
+use Rattle.thy_table.specs.Listing.{free_count, passes}
 use Rattle.thy_table.proofs.IndexLemmas.{one_if}
 use Rattle.thy_tables.specs.declared.block_entry.BttEntry.{BttEntry}
 use Rattle.thy_tables.specs.declared.page_entry.PttEntry.{PttEntry}
-use Rattle.thy_tables.specs.PageEntry.{page_blocks, is_framed}
+use Rattle.thy_tables.specs.PageEntry.{page_blocks}
 use Rattle.thy_cell.specs.Checkpoint.{page_committed_by, committed_page}
 use Rattle.thy_control.specs.Holding.{waits, is_promoted, waiting, promoted}
 use Rattle.thy_control.specs.Merges.{overlays}

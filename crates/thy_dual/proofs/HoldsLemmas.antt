@@ -1,5 +1,5 @@
 -- What holds behind the boot.
-use Rattle.std.proofs.Common.{◌≡◌, ℕ, ◌+◌, ◌*◌, ◌<◌, ◌≤◌, Bool, true, false, length, refl, sym, ◌∙◌, ap, subst, inl, arith, Option, Some, None}
+use Rattle.std.proofs.Common.{◌≡◌, ℕ, ◌<◌, ◌≤◌, Bool, false, refl, sym, ◌∙◌, ap, subst, inl, arith}
 use Rattle.std.proofs.lemmas.List.FromFn.{length-map-range_with_len}
 use Rattle.thy_base.specs.declared.config.Parameters.{Parameters}
 use Rattle.thy_base.specs.Device.{Device, drained}
@@ -7,13 +7,10 @@ use Rattle.thy_base.specs.Geometry.{memory_blocks}
 use Rattle.thy_base.specs.Places.{image_blocks}
 use Rattle.thy_base.proofs.DeviceLemmas.{length-drained}
 use Rattle.thy_cell.specs.Cells.{work}
-use Rattle.thy_table.specs.Listing.{free_count}
-use Rattle.thy_control.specs.Drains.{IsUnseen, after_drain}
-use Rattle.thy_control.specs.Holding.{works, holding_of, promoted}
+use Rattle.thy_control.specs.Drains.{IsUnseen}
+use Rattle.thy_control.specs.Holding.{works, promoted}
 use Rattle.thy_control.specs.Merges.{overlays}
-use Rattle.thy_control.specs.Promotions.{unfilled}
 use Rattle.thy_control.specs.State.{State, AreSoundTables, IsSized, cell_of, penult_of, work_of}
-use Rattle.thy_control.specs.Stays.{Stays}
 use Rattle.thy_control.proofs.CellLemmas.{IsPlace-work, IsWithin-cell_of}
 use Rattle.thy_control.proofs.DrainLemmas.{IsUnseen-nvm_drained}
 use Rattle.thy_control.proofs.HoldingLemmas.{works-sized, length-works}
@@ -21,15 +18,15 @@ use Rattle.thy_view.specs.Origin.{Origin}
 use Rattle.thy_commit.specs.Cycles.{cycles_left, most_cycles}
 use Rattle.thy_commit.proofs.CycleLemmas.{cycles_are_few}
 use Rattle.thy_scheme.specs.Marks.{Marks}
-use Rattle.thy_scheme.specs.Calls.{HoldsSame, Keeps}
-use Rattle.thy_scheme.specs.Laws.{IsBounded, IsCommitted, RunHolds}
-use Rattle.thy_dual.specs.Dual.{Dual, is_promoting, penults}
+use Rattle.thy_scheme.specs.Calls.{Keeps}
+use Rattle.thy_scheme.specs.Laws.{IsBounded, RunHolds}
+use Rattle.thy_dual.specs.Dual.{Dual}
 use Rattle.thy_dual.specs.Laws.{RunIsSound}
 use Rattle.thy_dual.specs.Scheme.{dual_scheme}
 use Rattle.thy_dual.specs.Sound.{HasRoom, IsSound}
 use Rattle.thy_dual.specs.Stays.{StaysDual}
 use Rattle.thy_dual.proofs.BlocksLemmas.{blocks-agree}
-use Rattle.thy_dual.proofs.CountLemmas.{none-left, ready-of, free-few, owed-few, overlays-few, unfilled-few, unfilled-none}
+use Rattle.thy_dual.proofs.CountLemmas.{none-left, ready-of, free-few, owed-few, overlays-few, unfilled-few}
 use Rattle.thy_dual.proofs.SafeLemmas.{Safe-doubt}
 use Rattle.thy_dual.proofs.StaysLemmas.{sound-on}
 

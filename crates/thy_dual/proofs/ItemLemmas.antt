@@ -1,21 +1,19 @@
 -- What an item of the engine leaves alone.
-use Rattle.std.proofs.Common.{◌≡◌, ◌≢◌, ℕ, ◌+◌, ◌%◌, ◌<◌, ◌≤◌, nat_lt, Bool, true, false, if◌then◌else◌, length, refl, sym, ◌∙◌, ap, subst, arith, Option, Some, None, option_and_then, length-append, length-drop}
+use Rattle.std.proofs.Common.{◌≡◌, ◌≢◌, ℕ, ◌+◌, ◌<◌, ◌≤◌, nat_lt, Bool, true, false, if◌then◌else◌, length, refl, sym, ◌∙◌, ap, arith, Option, Some, None, option_and_then, length-append, length-drop}
 use Rattle.std.proofs.lemmas.Bool.{ltb-true}
 use Rattle.thy_base.specs.declared.block.Block.{Block}
 use Rattle.thy_base.specs.declared.config.Parameters.{Parameters}
-use Rattle.thy_base.specs.declared.nvm.Write.{Write}
 use Rattle.thy_base.specs.declared.place.Place.{Place}
 use Rattle.thy_base.specs.declared.place.Place.TheVariants.{Home, AlternateBlock, AlternatePage, Buffer, Frame}
-use Rattle.thy_base.specs.Device.{Device, newest, written_to, settled, surplus}
-use Rattle.thy_base.specs.Places.{in_dram, number_of, first_home, slot_blocks, slot_place}
+use Rattle.thy_base.specs.Device.{Device, newest, written_to, settled}
+use Rattle.thy_base.specs.Places.{in_dram, number_of, slot_blocks}
 use Rattle.thy_base.specs.Store.{page_of}
 use Rattle.thy_base.proofs.DeviceLemmas.{newest-written_to_other, newest-settled, length-written_to, length-settled}
 use Rattle.thy_dram.specs.Contents.{written}
 use Rattle.thy_place.specs.Devices.{Devices, devices_of, read_at, written_at}
-use Rattle.thy_table.specs.Listing.{Listing, entry_at, mapped}
+use Rattle.thy_table.specs.Listing.{Listing, entry_at}
 use Rattle.thy_table.proofs.ListingLaws.{entry_at-mapped}
 use Rattle.thy_tables.specs.declared.block_entry.BttEntry.{BttEntry}
-use Rattle.thy_tables.specs.declared.block_entry.Working.{Working}
 use Rattle.thy_tables.specs.declared.block_entry.Working.TheVariants.{NoWork}
 use Rattle.thy_tables.specs.declared.page_entry.PttEntry.{PttEntry}
 use Rattle.thy_tables.specs.PageEntry.{no_page}

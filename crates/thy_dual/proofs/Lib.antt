@@ -8,3 +8,4 @@ pub mod CallLemmas
 pub mod AccessLemmas
 pub mod SealLemmas
 pub mod ItemLemmas
+pub mod EngineLemmas

@@ -1,8 +1,6 @@
 -- What a merge, a promotion and a drain of the DRAM make of the counts, and of the DRAM's queue.
-use Rattle.std.proofs.Common.{◌≡◌, ◌≢◌, ℕ, ◌+◌, ◌<◌, ◌≤◌, Bool, true, false, length, get_or, slice_set, is_none, refl, sym, ◌∙◌, ap, subst, arith, Option, Some, None}
-use Rattle.std.specs.List.{count_by}
+use Rattle.std.proofs.Common.{◌≡◌, ℕ, ◌+◌, ◌<◌, ◌≤◌, Bool, true, false, length, is_none, refl, ◌∙◌, ap, arith, Option, Some, None}
 use Rattle.std.proofs.lemmas.List.Sums.{sum_by-set}
-use Rattle.thy_base.specs.declared.config.Parameters.{Parameters}
 use Rattle.thy_base.specs.Device.{Device}
 use Rattle.thy_base.specs.Store.{page_of}
 use Rattle.thy_table.specs.Listing.{Listing, entry_at, free_count, passes, with_entry}
@@ -16,8 +14,8 @@ use Rattle.thy_cell.specs.Checkpoint.{merged}
 use Rattle.thy_control.specs.Copies.{block_listed}
 use Rattle.thy_control.specs.Holding.{waits, waiting, promoted}
 use Rattle.thy_control.specs.Keys.{block_key, page_key}
-use Rattle.thy_control.specs.Merges.{next_merge, overlays, dram_merged, merged_block, after_merge}
-use Rattle.thy_control.specs.Promotions.{fills_left, unfilled, block_to_fill, devices_filled, block_filled, after_promotion}
+use Rattle.thy_control.specs.Merges.{next_merge, dram_merged, merged_block, after_merge}
+use Rattle.thy_control.specs.Promotions.{fills_left, unfilled, devices_filled, block_filled, after_promotion}
 use Rattle.thy_control.specs.State.{State, AreSoundTables, cell_of}
 use Rattle.thy_control.proofs.FindLemmas.{found_entry, entry_for-some}
 use Rattle.thy_control.proofs.MergeLemmas.{listed-merge, listed_page-merge, IsOverlay, IsOverlay-entry, same_p-merge}

@@ -1,6 +1,5 @@
 -- What the NVM keeps of the checkpoints is safe.
-use Rattle.std.proofs.Common.{◌≡◌, Bool, true, false, if◌then◌else◌, List, refl, sym, ◌∙◌, ap, subst, Option, Some, None}
-use Rattle.thy_base.specs.declared.block.Block.{Block}
+use Rattle.std.proofs.Common.{◌≡◌, Bool, if◌then◌else◌, refl, sym, ◌∙◌, ap, subst, Option, Some, None}
 use Rattle.thy_base.specs.declared.mark.Mark.{Mark}
 use Rattle.thy_base.specs.Device.{Device}
 use Rattle.thy_record.specs.Decoded.{Decoded}
@@ -11,9 +10,8 @@ use Rattle.thy_protocol.specs.Keeps.{doubt_in}
 use Rattle.thy_protocol.specs.Layout.{reading}
 use Rattle.thy_protocol.specs.Moves.{IsKeeping}
 use Rattle.thy_protocol.specs.VersionOne.{version_one}
-use Rattle.thy_protocol.proofs.KeepsLemmas.{Safe-kept, Safe-sealed}
+use Rattle.thy_protocol.proofs.KeepsLemmas.{Safe-kept}
 use Rattle.thy_protocol.proofs.VersionOneLemmas.{decode_by-version_one}
-use Rattle.thy_control.specs.State.{State}
 use Rattle.thy_commit.specs.declared.next.Next.{Next}
 use Rattle.thy_commit.specs.declared.next.Next.TheVariants.{Nothing, Copies, Pages, Slot, Settle, Commit, Confirm}
 use Rattle.thy_commit.specs.Moves.{Checkpoints, layout_of, saved_at, standing_at}

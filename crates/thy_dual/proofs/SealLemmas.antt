@@ -1,10 +1,7 @@
 -- What a seal makes of the checkpoints.
-use Rattle.std.proofs.Common.{◌≡◌, ℕ, ◌+◌, ◌<◌, ◌≤◌, Bool, true, false, map, length, refl, sym, ◌∙◌, ap, subst, inl, arith, is_some, Option, Some, None}
-use Rattle.thy_base.specs.declared.block.Block.{Block}
-use Rattle.thy_base.specs.declared.config.Parameters.{Parameters}
+use Rattle.std.proofs.Common.{◌≡◌, ℕ, Bool, true, false, length, refl, sym, ◌∙◌, ap, subst, inl, arith, Some}
 use Rattle.thy_base.specs.declared.mark.Mark.{Mark}
 use Rattle.thy_base.specs.Device.{Device}
-use Rattle.thy_base.specs.Geometry.{memory_blocks}
 use Rattle.thy_base.specs.Places.{image_blocks}
 use Rattle.thy_isa.specs.declared.state.CpuState.{CpuState}
 use Rattle.thy_isa.specs.OnBlocks.{state_from}
@@ -17,22 +14,19 @@ use Rattle.thy_control.specs.State.{State, AreSoundTables, IsSized, penult_of, l
 use Rattle.thy_control.specs.Stays.{HoldAll}
 use Rattle.thy_control.specs.Versions.{KeepsCommitted}
 use Rattle.thy_control.proofs.HoldingLemmas.{works-sized}
-use Rattle.thy_protocol.specs.Moves.{IsKeeping}
 use Rattle.thy_protocol.proofs.KeepsLemmas.{IsKeeping-move}
-use Rattle.thy_view.specs.Origin.{Origin, at}
-use Rattle.thy_commit.specs.declared.next.Next.{Next}
-use Rattle.thy_commit.specs.declared.next.Next.TheVariants.{Copies}
+use Rattle.thy_view.specs.Origin.{Origin}
 use Rattle.thy_commit.specs.Items.{is_under_way}
 use Rattle.thy_commit.specs.Chain.{IsNextSeal, sealing, IsSealed}
 use Rattle.thy_commit.specs.Moves.{Checkpoints, layout_of, standing_at, IsMadeFor}
-use Rattle.thy_commit.specs.Progress.{Progress, IsSoundProgress, Fits, begun}
+use Rattle.thy_commit.specs.Progress.{Fits, begun}
 use Rattle.thy_commit.specs.Versions.{lasts}
 use Rattle.thy_commit.proofs.FitLemmas.{seal_fits}
 use Rattle.thy_commit.proofs.TableLemmas.{seal_moves}
 use Rattle.thy_scheme.specs.Marks.{Marks}
 use Rattle.thy_scheme.specs.Scheme.{Stands}
 use Rattle.thy_scheme.specs.Calls.{IsTaken, Seals}
-use Rattle.thy_dual.specs.Dual.{Dual, penults}
+use Rattle.thy_dual.specs.Dual.{Dual}
 use Rattle.thy_dual.specs.Scheme.{dual_scheme}
 use Rattle.thy_dual.specs.Sound.{IsHeld, HasCheckpoints, HasRoom, IsSound}
 use Rattle.thy_dual.proofs.BlocksLemmas.{blocks-agree}

@@ -1,9 +1,8 @@
 -- What loads and stores keep of the checkpoints, and every other call that stays within it.
-use Rattle.std.proofs.Common.{◌≡◌, ℕ, ◌<◌, ◌≤◌, Bool, true, false, refl, sym, ◌∙◌, ap, subst, arith, Option, Some, None}
+use Rattle.std.proofs.Common.{◌≡◌, ◌≤◌, Bool, true, false, sym, ◌∙◌, ap, subst, arith, Some, None}
 use Rattle.thy_base.specs.declared.block.Block.{Block}
 use Rattle.thy_base.specs.declared.config.Parameters.{Parameters}
 use Rattle.thy_base.specs.Device.{Device, newest}
-use Rattle.thy_base.specs.Geometry.{memory_blocks}
 use Rattle.thy_base.specs.Places.{image_blocks}
 use Rattle.thy_isa.specs.OnBlocks.{state_from}
 use Rattle.thy_record.specs.Header.{header_fault}
@@ -15,9 +14,8 @@ use Rattle.thy_control.specs.State.{State, AreSoundTables, IsSized, penult_of, l
 use Rattle.thy_control.specs.Stays.{HoldAll, Stays, StaysUp, StaysHeld}
 use Rattle.thy_protocol.specs.Moves.{IsKeeping}
 use Rattle.thy_protocol.proofs.KeepsLemmas.{IsKeeping-move}
-use Rattle.thy_view.specs.Origin.{Origin, at}
+use Rattle.thy_view.specs.Origin.{Origin}
 use Rattle.thy_view.specs.Safe.{Safe}
-use Rattle.thy_commit.specs.Frees.{IsButCopied}
 use Rattle.thy_commit.specs.Items.{is_under_way}
 use Rattle.thy_commit.specs.Cycles.{cycles_left}
 use Rattle.thy_commit.specs.Moves.{Checkpoints, layout_of, standing_at, AreTold, IsMadeFor}
@@ -29,9 +27,9 @@ use Rattle.thy_commit.proofs.MoveLemmas.{stays_move}
 use Rattle.thy_commit.proofs.TableLemmas.{stays_tell}
 use Rattle.thy_commit.proofs.WrittenLemmas.{stays_written}
 use Rattle.thy_scheme.specs.Marks.{Marks, doubt_in}
-use Rattle.thy_dual.specs.Dual.{Dual, is_promoting, penults}
+use Rattle.thy_dual.specs.Dual.{Dual, penults}
 use Rattle.thy_dual.specs.Laws.{StaysKeep}
-use Rattle.thy_dual.specs.Sound.{is_confirming, IsHeld, HasCheckpoints, HasState, IsOfRest, HasRoom, IsRest, IsSound}
+use Rattle.thy_dual.specs.Sound.{is_confirming, IsHeld, HasCheckpoints, HasRoom, IsRest, IsSound}
 use Rattle.thy_dual.specs.Stays.{RestsOn, PromotesOn, StaysDual}
 use Rattle.thy_dual.proofs.BlocksLemmas.{blocks-agree}
 use Rattle.thy_dual.proofs.SafeLemmas.{Safe-doubt}

@@ -1,5 +1,5 @@
 -- The scheme of both tables: the controller, its checkpoint engine, and whether blocks were stored.
-use Rattle.std.specs.Prelude.{ℕ, nat_lt, Bool, List, map}
+use Rattle.std.specs.Prelude.{nat_lt, Bool, List, map}
 use Rattle.std.specs.List.{range_with_len}
 use Rattle.thy_base.specs.declared.block.Block.{Block}
 use Rattle.thy_base.specs.Device.{Device}

@@ -1,5 +1,4 @@
 -- What holds of the scheme.
-use Rattle.std.specs.Prelude.{◌≡◌, true}
 use Rattle.thy_base.specs.Device.{Device}
 use Rattle.thy_view.specs.Origin.{Origin}
 use Rattle.thy_scheme.specs.Marks.{Marks}

@@ -1,6 +1,5 @@
 -- Behind the boot: scheme and NVM have the checkpoints of a run.
-use Rattle.std.specs.Prelude.{◌≡◌, ℕ, ◌≤◌, Bool, true, false, List, is_some, Option, Some, None}
-use Rattle.thy_base.specs.declared.block.Block.{Block}
+use Rattle.std.specs.Prelude.{◌≡◌, ◌≤◌, Bool, true, false, is_some, Some, None}
 use Rattle.thy_base.specs.declared.mark.Mark.{Mark}
 use Rattle.thy_base.specs.Device.{Device, newest}
 use Rattle.thy_isa.specs.declared.state.CpuState.{CpuState}

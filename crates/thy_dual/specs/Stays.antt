@@ -1,7 +1,7 @@
 -- What loads and stores keep, those that fail too, and whatever else the checkpoints bear in between.
 use Rattle.std.specs.Prelude.{◌≡◌, true}
 use Rattle.thy_base.specs.Device.{Device}
-use Rattle.thy_control.specs.State.{State, AreSoundTables}
+use Rattle.thy_control.specs.State.{AreSoundTables}
 use Rattle.thy_control.specs.Stays.{Stays}
 use Rattle.thy_dual.specs.Dual.{Dual, is_promoting}
 

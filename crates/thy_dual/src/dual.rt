@@ -5,14 +5,15 @@ ghost use Rattle.thy_base.specs.Store.{IsKeptByLoad, HasStored};
 ghost use Rattle.thy_view.specs.Origin.{Origin};
 ghost use Rattle.thy_scheme.specs.Marks.{Marks};
 ghost use Rattle.thy_scheme.specs.Scheme.{Stands, CanRun};
-ghost use Rattle.thy_scheme.specs.Calls.{IsOneAccess, Merges, Promotes, PromotionFails, Drains, Seals};
+ghost use Rattle.thy_scheme.specs.Calls.{IsOneAccess, Merges, Promotes, PromotionFails, Drains, Seals, Engines, EngineFails};
 ghost use Rattle.thy_dual.specs.Scheme.{dual_scheme};
 
 use std::marker::Model;
 use thy_base::{Block, Nvm, NvmError, Stored};
-use thy_commit::Engine;
+use thy_commit::{Engine, items_are_moves, items_keep_the_store, items_move_versions};
 use thy_control::{Control, blocks_are_works};
 use thy_isa::CpuState;
+use thy_record::EngineStep;
 
 /// The scheme of both tables: its controller keeps two checkpoints of all blocks beside the work, and its engine writes
 /// the next one into the NVM while the hart runs.
@@ -175,5 +176,24 @@ impl DualScheme {
         self.control.seal();
         self.control.tables();
         self.engine.begin(cpu, epoch);
+    }
+
+    /// Takes one action of the checkpoint that is under way.
+    pub fn engine_step<N: Nvm>(&mut self, nvm: &mut N) -> Result<EngineStep, NvmError>
+        requires way { dual_scheme.under_way self.old ≡ true }
+        requires stands { CanRun dual_scheme self.old (N.device nvm.old) }
+        ensures ok { (o : Origin) (k : Marks) → Stands dual_scheme o k self.old (N.device nvm.old)
+            → IfOk result (λ step. Engines dual_scheme o k step self.old (N.device nvm.old) self.new (N.device nvm.new)) }
+        ensures err { (o : Origin) (k : Marks) → Stands dual_scheme o k self.old (N.device nvm.old)
+            → OnErr result (EngineFails dual_scheme o k (N.device nvm.old) (N.device nvm.new)) }
+        ensures frame { IsFramed (N.device nvm.old) (N.device nvm.new) }
+        ensures cause { CountsFault result (N.device nvm.old).faults (N.device nvm.new).faults }
+    {
+        items_are_moves();
+        items_keep_the_store();
+        items_move_versions();
+        let result = self.engine.step(&mut self.control, nvm);
+        self.control.tables();
+        result
     }
 }

@@ -1,13 +1,9 @@
-use Rattle.std.proofs.Common.{◌≡◌, ◌<◌, true, false, length, refl, sym, ◌∙◌, ap, subst, IfOk, Result}
+use Rattle.std.proofs.Common.{◌≡◌, ◌<◌, length, sym, subst, IfOk, Result}
 use Rattle.thy_base.specs.declared.block.Block.{Block}
 use Rattle.thy_base.specs.Device.{Device}
-use Rattle.thy_scheme.specs.Scheme.{Stands}
-use Rattle.thy_dual.specs.Dual.{Dual, is_promoting, is_overlaid, penults}
-use Rattle.thy_dual.specs.Scheme.{dual_scheme}
+use Rattle.thy_dual.specs.Dual.{Dual, penults}
 use Rattle.thy_base.specs.declared.nvm.NvmError.{NvmError}
 use Rattle.thy_base.specs.Device.{block_at}
-use Rattle.thy_base.specs.Geometry.{memory_blocks}
-use Rattle.thy_control.specs.State.{State}
 use Rattle.thy_dual.proofs.AccessLemmas.{penults-inside, committed-is}
 use Rattle.thy_dual.proofs.dual.DualScheme.committed.Goals as goal
 

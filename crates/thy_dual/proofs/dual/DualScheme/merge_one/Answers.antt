@@ -1,7 +1,6 @@
-use Rattle.std.proofs.Common.{◌≡◌, ◌<◌, true, false, refl, sym, ◌∙◌, ap, subst, IsTrue}
-use Rattle.thy_base.specs.Device.{Device}
+use Rattle.std.proofs.Common.{◌≡◌, false, sym, subst}
 use Rattle.thy_scheme.specs.Scheme.{Stands}
-use Rattle.thy_dual.specs.Dual.{Dual, is_promoting, is_overlaid}
+use Rattle.thy_dual.specs.Dual.{Dual}
 use Rattle.thy_dual.specs.Scheme.{dual_scheme}
 use Rattle.thy_commit.specs.Items.{is_under_way}
 use Rattle.thy_scheme.specs.Calls.{Merges}

@@ -1,7 +1,7 @@
-use Rattle.std.proofs.Common.{◌≡◌, ◌<◌, true, false, refl, sym, ◌∙◌, ap, subst, IsTrue}
+use Rattle.std.proofs.Common.{◌≡◌, true, sym, subst}
 use Rattle.thy_base.specs.Device.{Device}
 use Rattle.thy_scheme.specs.Scheme.{Stands}
-use Rattle.thy_dual.specs.Dual.{Dual, is_promoting, is_overlaid}
+use Rattle.thy_dual.specs.Dual.{Dual, is_promoting}
 use Rattle.thy_dual.specs.Scheme.{dual_scheme}
 use Rattle.thy_commit.proofs.FitLemmas.{stays_fit}
 use Rattle.thy_scheme.specs.Calls.{Promotes}

@@ -1,5 +1,4 @@
-use Rattle.std.proofs.Common.{◌≡◌, ◌<◌, true, false, length, refl, sym, ◌∙◌, ap, subst, IfOk, Result}
-use Rattle.thy_base.specs.Device.{Device}
+use Rattle.std.proofs.Common.{◌≡◌, true, false, sym, subst}
 use Rattle.thy_scheme.specs.Scheme.{Stands}
 use Rattle.thy_dual.specs.Dual.{Dual}
 use Rattle.thy_dual.specs.Scheme.{dual_scheme}

@@ -1,8 +1,6 @@
-use Rattle.std.proofs.Common.{◌≡◌, ◌<◌, true, false, length, refl, sym, ◌∙◌, ap, subst, IfOk, Result}
-use Rattle.thy_base.specs.declared.block.Block.{Block}
+use Rattle.std.proofs.Common.{◌≡◌, ◌<◌, true, false, length, sym, subst, IfOk, Result}
 use Rattle.thy_base.specs.Device.{Device}
-use Rattle.thy_scheme.specs.Scheme.{Stands}
-use Rattle.thy_dual.specs.Dual.{Dual, is_promoting, is_overlaid, penults}
+use Rattle.thy_dual.specs.Dual.{Dual}
 use Rattle.thy_dual.specs.Scheme.{dual_scheme}
 use Rattle.thy_base.specs.declared.nvm.NvmError.{NvmError}
 use Rattle.thy_base.specs.declared.store.Stored.{Stored}
