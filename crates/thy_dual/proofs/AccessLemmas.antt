@@ -34,10 +34,10 @@ not_up : (d : Bool) → d ≡ false → d ≡ true → ⊥
 not_up d e f = let both : false ≡ true = sym e ∙ f in cc
 
 module _ (s : Dual) (m : Device) (t : Dual) (n : Device) (once : Once s.control m t.control n) (up : m.down ≡ false) (stays : StaysDual s m t n) where
-  one : IsOneOfNvm s.control.p (devices_of m s.control.dram) (devices_of n t.control.dram)
-  one = one_of_nvm s.control.p (devices_of m s.control.dram) (devices_of n t.control.dram) once.action
+  one : IsOneOfNvm s.control (devices_of m s.control.dram) (devices_of n t.control.dram)
+  one = one_of_nvm s.control (devices_of m s.control.dram) (devices_of n t.control.dram) once.action
 
-  accessed : AccessesNvm s.control.p m n → IsOneAccess dual_scheme s m t n
+  accessed : AccessesNvm s.control m n → IsOneAccess dual_scheme s m t n
   accessed (inl same) =
       let down : n.down ≡ false = ap (λ (x : Device). x.down) same ∙ up in
       record {
@@ -50,7 +50,7 @@ module _ (s : Dual) (m : Device) (t : Dual) (n : Device) (once : Once s.control 
       }
   accessed (inr x) =
       let down : n.down ≡ false = ap (λ (y : Device). y.down) x.1 ∙ up in
-      let behind : first_home s.control.p ≤ x.0.at = x.0.behind in
+      let behind : first_home s.control.p ≤ x.0.at = x.0.free.low in
       record {
         action = WriteAt x.0.at x.0.block;
         access = λ e. absurd (omega (arith, e, behind));
@@ -60,7 +60,7 @@ module _ (s : Dual) (m : Device) (t : Dual) (n : Device) (once : Once s.control 
         stays = stays;
       }
 
-  failed-access : FailsOnNvm s.control.p m n → IsOneAccess dual_scheme s m t n
+  failed-access : FailsOnNvm s.control m n → IsOneAccess dual_scheme s m t n
   failed-access (inl failed) = record {
     action = ReadAt 0;
     access = tt;
@@ -70,7 +70,7 @@ module _ (s : Dual) (m : Device) (t : Dual) (n : Device) (once : Once s.control 
     stays = stays;
   }
   failed-access (inr x) =
-      let behind : first_home s.control.p ≤ x.0.at = x.0.behind in
+      let behind : first_home s.control.p ≤ x.0.at = x.0.free.low in
       record {
         action = WriteAt x.0.at x.0.block;
         access = λ e. absurd (omega (arith, e, behind));
@@ -82,7 +82,7 @@ module _ (s : Dual) (m : Device) (t : Dual) (n : Device) (once : Once s.control 
 
   pub one-access : IsOneAccess dual_scheme s m t n
   one-access = by_either one.nvm where
-    by_either : AccessesNvm s.control.p m n ⊎ FailsOnNvm s.control.p m n → IsOneAccess dual_scheme s m t n
+    by_either : AccessesNvm s.control m n ⊎ FailsOnNvm s.control m n → IsOneAccess dual_scheme s m t n
     by_either (inl x) = accessed x
     by_either (inr x) = failed-access x
 

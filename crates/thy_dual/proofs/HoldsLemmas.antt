@@ -26,7 +26,7 @@ use Rattle.thy_dual.specs.Scheme.{dual_scheme}
 use Rattle.thy_dual.specs.Sound.{HasRoom, IsSound}
 use Rattle.thy_dual.specs.Stays.{StaysDual}
 use Rattle.thy_dual.proofs.BlocksLemmas.{blocks-agree}
-use Rattle.thy_dual.proofs.CountLemmas.{none-left, ready-of, free-few, owed-few, overlays-few, unfilled-few}
+use Rattle.thy_dual.proofs.CountLemmas.{none-left, ready-of, free-few, owed-few, overlays-few, unfilled-few, unfilled-none}
 use Rattle.thy_dual.proofs.SafeLemmas.{Safe-doubt}
 use Rattle.thy_dual.proofs.StaysLemmas.{sound-on}
 
@@ -92,6 +92,7 @@ module _ (o : Origin) (k : Marks) (s : Dual) (n : Device) (sound : IsSound o k s
         memory = length-works s.control n sound.held.sized up ∙ ap memory_blocks p;
         ready = λ whole. ready-of (promoted s.control.ptt) n.down (none-left (promoted s.control.ptt) whole) up;
         overlays = λ bare. none-left (overlays s.control) bare;
+        promotions = λ whole. unfilled-none s.control (none-left (promoted s.control.ptt) whole);
         bounded = bounded;
         room = λ l r idle.
             subst (λ (w : Bool). HasRoom w s.control) (sound.held.fits.way ∙ idle) (sound.rest.room l r);

@@ -84,7 +84,7 @@ module _ (o : Origin) (k : Marks) (s : Dual) (n : Device) (stands : Stands dual_
     sized = sized;
     holds = versions.holds;
     progress = record { regs = regs; inside = λ j h. cc };
-    fits = subst (λ (x : State). Fits (begun cpu epoch s.engine) x) (sym done.state) (seal_fits s.engine s.control cpu epoch sound.held.fits idle);
+    fits = subst (λ (x : State). Fits (begun cpu epoch s.engine) x) (sym done.state) (seal_fits s.engine s.control cpu epoch sound.held.fits);
     room = ap (λ (d : Contents). d.room) same_dram ∙ sound.held.room;
   }
 

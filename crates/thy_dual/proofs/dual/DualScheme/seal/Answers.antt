@@ -2,22 +2,16 @@ use Rattle.std.proofs.Common.{◌≡◌, true, false, sym, subst}
 use Rattle.thy_scheme.specs.Scheme.{Stands}
 use Rattle.thy_dual.specs.Dual.{Dual}
 use Rattle.thy_dual.specs.Scheme.{dual_scheme}
-use Rattle.thy_commit.proofs.FitLemmas.{seal_fits}
 use Rattle.thy_commit.specs.Items.{is_under_way}
-use Rattle.thy_commit.specs.Progress.{Progress, Fits, begun}
+use Rattle.thy_commit.specs.Progress.{Progress, Fits}
 use Rattle.thy_control.specs.State.{State}
-use Rattle.thy_control.specs.Seal.{sealed_state}
 use Rattle.thy_scheme.specs.Calls.{Seals}
 use Rattle.thy_dual.proofs.SealLemmas.{IsSealedControl, seals}
 use Rattle.thy_dual.proofs.dual.DualScheme.seal.Goals as goal
 
 pub invariant_of-self : goal.invariant_of-self
 invariant_of-self c =
-    let e : Progress = c.self.inside.engine in
-    let idle : is_under_way e.next ≡ false = subst (λ (s : Dual). is_under_way s.engine.next ≡ false) (sym c.self.view_is) c.requires.idle in
-    let fits : Fits (begun c.args.cpu.now c.args.epoch e) (sealed_state c.self.inside.control) = seal_fits e c.self.inside.control c.args.cpu.now c.args.epoch c.self.invariant idle in
-    subst (λ (x : Progress). Fits x c.seal.new.self) (sym c.begin.ensures)
-    (subst (λ (x : State). Fits (begun c.args.cpu.now c.args.epoch e) x) (sym c.seal.ensures.state) fits)
+    subst (λ (x : State). Fits c.begin.new.self x) (sym c.seal.ensures.state) (c.begin.ensures.fits c.self.inside.control c.self.invariant)
 
 pub returns : goal.returns
 returns c = λ o k n stands.
@@ -29,4 +23,4 @@ returns c = λ o k n stands.
     = record { state = e.state; versions = e.versions; committed = e.committed; idle = e.idle; free = e.free; tables = c.tables.ensures } in
     let all = seals o k v n stands_v idle c.args.cpu.now c.args.epoch c.requires.regs c.seal.new.self done in
     subst (λ (s : Dual). Seals dual_scheme o k c.args.cpu.now c.args.epoch s n (record v { control = c.seal.new.self; engine = c.begin.new.self; rested = true; lean = v.rested })) c.self.view_is
-    (subst (λ (x : Progress). Seals dual_scheme o k c.args.cpu.now c.args.epoch v n (record v { control = c.seal.new.self; engine = x; rested = true; lean = v.rested })) (sym c.begin.ensures) all)
+    (subst (λ (x : Progress). Seals dual_scheme o k c.args.cpu.now c.args.epoch v n (record v { control = c.seal.new.self; engine = x; rested = true; lean = v.rested })) (sym c.begin.ensures.begun) all)

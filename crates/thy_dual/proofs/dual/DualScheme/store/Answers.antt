@@ -50,7 +50,7 @@ returns-clause-once g c =
     let room = subst (λ (d : Dual). 0 < (holding_of d.control m).free) (sym c.self.view_is) c.requires.room in
     let works = c.blocks_are_works.ensures.works v.control m c.args.b h in
     let e = c.store-result.ensures in
-    let once : Once v.control m t n = once_stored c.args.b c.args.block.now v.control m t n r e.state e.nvm e.kept e.err c.tables.ensures works.inside e.frame e.stays in
+    let once : Once v.control m t n = once_stored c.args.b c.args.block.now v.control m t n r e.state e.nvm e.kept e.err c.tables.ensures works.inside room e.free e.frame e.stays in
     let stored : IfOk r (λ x. HasStored x c.args.b c.args.block.now (holding_of v.control m) (holding_of t n))
     = stored_by c.args.b c.args.block.now v.control m t n r e.state e.nvm e.answer e.work works.sized works.up room e.stays in
     let whole : promoted t.ptt ≡ 0 = store-whole c.args.b c.args.block.now v.control m t n r ready stored e.kept in
