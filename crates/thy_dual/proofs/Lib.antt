@@ -9,3 +9,4 @@ pub mod AccessLemmas
 pub mod SealLemmas
 pub mod ItemLemmas
 pub mod EngineLemmas
+pub mod BootedLemmas
