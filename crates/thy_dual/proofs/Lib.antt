@@ -10,3 +10,4 @@ pub mod SealLemmas
 pub mod ItemLemmas
 pub mod EngineLemmas
 pub mod BootedLemmas
+pub mod BootLemmas

@@ -1,4 +1,4 @@
--- The scheme of both tables: the controller, its checkpoint engine, and whether blocks were stored.
+-- The scheme of both tables: the controller, its checkpoint engine, its boot, and whether blocks were stored.
 use Rattle.std.specs.Prelude.{nat_lt, Bool, List, map}
 use Rattle.std.specs.List.{range_with_len}
 use Rattle.thy_base.specs.declared.block.Block.{Block}
@@ -8,6 +8,7 @@ use Rattle.thy_control.specs.Holding.{promoted}
 use Rattle.thy_control.specs.Merges.{overlays}
 use Rattle.thy_control.specs.State.{State, penult_of}
 use Rattle.thy_commit.specs.Progress.{Progress}
+use Rattle.thy_recover.specs.Boot.{Booting}
 
 pub record Dual : Type 0 where
   pub control : State
@@ -16,6 +17,7 @@ pub record Dual : Type 0 where
   pub rested : Bool
   -- none was in the epoch that was sealed last
   pub lean : Bool
+  pub boot : Booting
 
 -- a block has still to be merged into its page, and a page is being promoted
 abbrev pub is_overlaid : State → Bool

@@ -1,9 +1,14 @@
 -- What holds of the scheme.
-use Rattle.thy_base.specs.Device.{Device}
-use Rattle.thy_view.specs.Origin.{Origin}
+use Rattle.std.specs.Prelude.{◌≡◌, []}
+use Rattle.thy_base.specs.declared.config.Parameters.{Parameters}
+use Rattle.thy_base.specs.declared.nvm.Shape.{Shape}
+use Rattle.thy_base.specs.Device.{Device, fitted}
+use Rattle.thy_record.specs.Decoded.{Nothing}
+use Rattle.thy_view.specs.Origin.{Origin, IsOrigin}
+use Rattle.thy_view.specs.Safe.{ceiling}
 use Rattle.thy_scheme.specs.Marks.{Marks}
-use Rattle.thy_scheme.specs.Scheme.{Stands}
-use Rattle.thy_scheme.specs.Laws.{RunHolds, StaysSound}
+use Rattle.thy_scheme.specs.Scheme.{Stands, IsBooting}
+use Rattle.thy_scheme.specs.Laws.{IsFound, IsNew, BootsFound, BootHolds, RunHolds, StaysSound}
 use Rattle.thy_dual.specs.Dual.{Dual}
 use Rattle.thy_dual.specs.Scheme.{dual_scheme}
 use Rattle.thy_dual.specs.Stays.{StaysDual}
@@ -17,3 +22,25 @@ StaysKeep =
 -- what holds behind the boot
 abbrev pub RunIsSound : Type 0
 RunIsSound = (o : Origin) (k : Marks) (s : Dual) (n : Device) → Stands dual_scheme o k s n → RunHolds dual_scheme o k s n
+
+-- ---- in the boot
+
+-- what a cut leaves is what is seen, and drains of both devices change nothing of it
+abbrev pub BootIsSound : Type 0
+BootIsSound = (o : Origin) (s : Dual) (n : Device) → IsBooting dual_scheme o s n → BootHolds dual_scheme o s n
+
+-- a scheme whose power has just come on boots what the image means
+abbrev pub PowerFinds : Type 0
+PowerFinds =
+    (o : Origin) (s : Dual) (n : Device)
+    → IsOrigin o → dual_scheme.powered o.geometry s → IsFound dual_scheme o n → BootsFound dual_scheme o s n
+
+-- nothing is queued in its DRAM, and no more is left to do than there may be
+abbrev pub PowerIsNew : Type 0
+PowerIsNew = (p : Parameters) (s : Dual) → dual_scheme.powered p s → IsNew dual_scheme p s
+
+-- zeros are no checkpoint
+abbrev pub ZerosAreNothing : Type 0
+ZerosAreNothing =
+    (p : Parameters) (shape : Shape) (n : Device)
+    → shape.blocks ≡ dual_scheme.blocks p → dual_scheme.decode p ceiling (fitted shape [] n).image ≡ Nothing

@@ -1,6 +1,7 @@
 pub mod Dual
 pub mod Stays
 pub mod Sound
-pub mod Scheme
 pub mod Booted
+pub mod Boots
+pub mod Scheme
 pub mod Laws

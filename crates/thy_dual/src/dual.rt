@@ -4,8 +4,9 @@ ghost use Rattle.thy_base.specs.Device.{Device, HasFailed, IsFramed, CountsFault
 ghost use Rattle.thy_base.specs.Store.{IsKeptByLoad, HasStored};
 ghost use Rattle.thy_view.specs.Origin.{Origin};
 ghost use Rattle.thy_scheme.specs.Marks.{Marks};
-ghost use Rattle.thy_scheme.specs.Scheme.{Stands, CanRun};
+ghost use Rattle.thy_scheme.specs.Scheme.{Stands, CanRun, IsBooting};
 ghost use Rattle.thy_scheme.specs.Calls.{IsOneAccess, Merges, Promotes, PromotionFails, Drains, Seals, Engines, EngineFails};
+ghost use Rattle.thy_scheme.specs.Boots.{BootDrains};
 ghost use Rattle.thy_dual.specs.Scheme.{dual_scheme};
 
 use std::marker::Model;
@@ -14,6 +15,7 @@ use thy_commit::{Engine, items_are_moves, items_keep_the_store, items_move_versi
 use thy_control::{Control, blocks_are_works};
 use thy_isa::CpuState;
 use thy_record::EngineStep;
+use thy_recover::Boot;
 
 /// The scheme of both tables: its controller keeps two checkpoints of all blocks beside the work, and its engine writes
 /// the next one into the NVM while the hart runs.
@@ -23,6 +25,7 @@ pub struct DualScheme {
     engine: Engine,
     rested: bool,
     lean: bool,
+    boot: Boot,
 }
 
 impl Model for DualScheme {
@@ -31,7 +34,7 @@ impl Model for DualScheme {
 
     ghost Value = { Dual };
 
-    ghost view = { λ d. record { control = d.control; engine = d.engine; rested = d.rested; lean = d.lean } };
+    ghost view = { λ d. record { control = d.control; engine = d.engine; rested = d.rested; lean = d.lean; boot = d.boot } };
 
     ghost invariant = { λ d. Fits d.engine d.control };
 }
@@ -129,7 +132,8 @@ impl DualScheme {
     /// Lets the oldest queued write of the DRAM land.
     pub fn drain(&mut self)
         requires { 0 < dual_scheme.queued self.old }
-        ensures { (o : Origin) (k : Marks) (n : Device) → Stands dual_scheme o k self.old n → Drains dual_scheme o k self.old n self.new }
+        ensures running { (o : Origin) (k : Marks) (n : Device) → Stands dual_scheme o k self.old n → Drains dual_scheme o k self.old n self.new }
+        ensures booting { (o : Origin) (n : Device) → IsBooting dual_scheme o self.old n → BootDrains dual_scheme o self.old n self.new }
     {
         self.control.drain();
         self.control.tables();

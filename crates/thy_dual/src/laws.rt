@@ -1,6 +1,6 @@
 //! Laws of the scheme, each the contract of a function that does nothing.
 ghost use Rattle.thy_dual.specs.Booted.{BootedIsSound};
-ghost use Rattle.thy_dual.specs.Laws.{RunIsSound, StaysKeep};
+ghost use Rattle.thy_dual.specs.Laws.{BootIsSound, PowerFinds, PowerIsNew, RunIsSound, StaysKeep, ZerosAreNothing};
 
 /// Loads and stores keep the checkpoints, those that fail too, and bring the engine no more to do.
 pub fn stays_keep_the_checkpoints()
@@ -17,4 +17,18 @@ pub fn a_run_is_sound()
 /// nothing was stored.
 pub fn where_a_boot_ends_is_sound()
     ensures { BootedIsSound }
+{}
+
+/// In the boot, whatever a cut leaves is what is seen: the checkpoint that was found, or what is loaded; writes of the NVM may
+/// land, and before the commit block was read nothing is queued in the DRAM.
+pub fn a_boot_is_sound()
+    ensures { BootIsSound }
+{}
+
+/// A scheme whose power has just come on has nothing queued in its DRAM. Over an NVM of a run that has nothing queued either it
+/// boots what the image means; one of zeros means nothing.
+pub fn a_boot_finds_the_image()
+    ensures finds { PowerFinds }
+    ensures new { PowerIsNew }
+    ensures zeros { ZerosAreNothing }
 {}

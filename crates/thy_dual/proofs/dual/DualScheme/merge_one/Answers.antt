@@ -15,7 +15,7 @@ invariant_of-self c =
 
 pub returns : goal.returns
 returns c = λ o k n stands.
-    let v : Dual = record { control = c.self.inside.control; engine = c.self.inside.engine; rested = c.self.inside.rested; lean = c.self.inside.lean } in
+    let v : Dual = record { control = c.self.inside.control; engine = c.self.inside.engine; rested = c.self.inside.rested; lean = c.self.inside.lean; boot = c.self.inside.boot } in
     let stands_v : Stands dual_scheme o k v n = subst (λ (s : Dual). Stands dual_scheme o k s n) (sym c.self.view_is) stands in
     let m = c.merge_one.ensures in
     subst (λ (s : Dual). Merges dual_scheme o k s n (record v { control = c.merge_one.new.self })) c.self.view_is

@@ -15,7 +15,7 @@ invariant_of-self-2 g c =
 
 pub returns-clause-ok : goal.returns-clause-ok
 returns-clause-ok g c = λ o k stands.
-    let v : Dual = record { control = c.self.inside.control; engine = c.self.inside.engine; rested = c.self.inside.rested; lean = c.self.inside.lean } in
+    let v : Dual = record { control = c.self.inside.control; engine = c.self.inside.engine; rested = c.self.inside.rested; lean = c.self.inside.lean; boot = c.self.inside.boot } in
     let n : Device = g.N.Nvm.device c.args.nvm.now in
     let new : Device = g.N.Nvm.device c.promote_one.new.nvm in
     let stands_v : Stands dual_scheme o k v n = subst (λ (s : Dual). Stands dual_scheme o k s n) (sym c.self.view_is) stands in

@@ -40,7 +40,7 @@ returns-clause-up g c =
 
 pub returns-clause-once : goal.returns-clause-once
 returns-clause-once g c =
-    let v : Dual = record { control = c.self.inside.control; engine = c.self.inside.engine; rested = c.self.inside.rested; lean = c.self.inside.lean } in
+    let v : Dual = record { control = c.self.inside.control; engine = c.self.inside.engine; rested = c.self.inside.rested; lean = c.self.inside.lean; boot = c.self.inside.boot } in
     let t : State = c.store-result.new.self in
     let m : Device = g.N.Nvm.device c.args.nvm.now in
     let n : Device = g.N.Nvm.device c.store-result.new.nvm in
