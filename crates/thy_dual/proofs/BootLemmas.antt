@@ -1,5 +1,5 @@
 -- What holds in the boot.
-use Rattle.std.proofs.Common.{◌≡◌, ℕ, ◌+◌, ◌-◌, ◌*◌, ◌<◌, ◌≤◌, [], ◌++◌, Bool, true, false, List, length, replicate, refl, sym, ◌∙◌, ap, subst, inl, inr, arith, Option, Some, None}
+use Rattle.std.proofs.Common.{◌≡◌, ◌≢◌, ◌&&◌, ℕ, ◌+◌, ◌-◌, ◌*◌, ◌<◌, ◌≤◌, [], ◌∷◌, ◌++◌, suc, Bool, true, false, List, length, replicate, refl, sym, ◌∙◌, ap, subst, inl, inr, arith, Option, Some, None}
 use Rattle.std.proofs.lemmas.List.{get_or-replicate, length-replicate}
 use Rattle.thy_base.specs.declared.block.Block.{Block}
 use Rattle.thy_base.specs.declared.config.Parameters.{Parameters}
@@ -23,11 +23,15 @@ use Rattle.thy_protocol.specs.Moves.{IsKeeping}
 use Rattle.thy_protocol.specs.VersionOne.{version_one}
 use Rattle.thy_protocol.proofs.KeepsLemmas.{finding_view-told}
 use Rattle.thy_protocol.proofs.VersionOneLemmas.{decode_by-version_one}
+use Rattle.thy_base.specs.Places.{dram_blocks}
+use Rattle.thy_dram.specs.Contents.{Contents, lost}
+use Rattle.thy_dram.specs.Draws.{blocks_over, after_block}
+use Rattle.thy_view.specs.Kind.{IsDramOf}
 use Rattle.thy_view.specs.declared.view.View.{View}
 use Rattle.thy_view.specs.Booting.{boot_view, loading_view, view_of_image}
 use Rattle.thy_view.specs.Origin.{Origin, IsOrigin, at}
 use Rattle.thy_view.specs.Safe.{ceiling, Safe}
-use Rattle.thy_view.specs.Views.{doubt_of}
+use Rattle.thy_view.specs.Views.{doubt_of, loads}
 use Rattle.thy_recover.specs.declared.stage.Stage.{Stage}
 use Rattle.thy_recover.specs.declared.stage.Stage.TheVariants.{Unread, Header as ReadsHeader, Slot as ReadsSlot, Frames, Refusing, Loading, Restored, Loaded}
 use Rattle.thy_recover.specs.declared.stage.Issue.{Issue}
@@ -38,11 +42,14 @@ use Rattle.thy_recover.specs.Laws.{IsGoing}
 use Rattle.thy_recover.specs.Shows.{is_written, seen_at}
 use Rattle.thy_recover.specs.Sound.{Checkpoints, layout_of, start_mark, saved_at, standing_at, IsRecovering, IsLoading, IsSoundAt, IsSound as IsBootOf}
 use Rattle.thy_recover.proofs.DecodeLemmas.{decode-zero}
-use Rattle.thy_recover.proofs.StepLawLemmas.{sound_is_safe, drains_keep_boot, new_is_sound}
+use Rattle.thy_recover.proofs.StepLawLemmas.{sound_is_safe, drains_keep_boot, new_is_sound, never_refused}
+use Rattle.thy_recover.specs.Recovers.{HasReadAt}
+use Rattle.thy_record.specs.declared.image.BadImage.{BadImage}
+use Rattle.thy_protocol.proofs.LayoutLemmas.{decode_by-nothing_back}
 use Rattle.thy_scheme.specs.Boots.{IsBootView, BootStays, BootDrains}
 use Rattle.thy_scheme.specs.Scheme.{IsBooting}
 use Rattle.thy_scheme.specs.Laws.{IsOwn, IsFound, IsNew, BootsFound, BootHolds}
-use Rattle.thy_dual.specs.Boots.{Boots, IsPowered, view_at, has_read_at}
+use Rattle.thy_dual.specs.Boots.{Boots, IsPowered, view_at, has_read_at, loads_at}
 use Rattle.thy_dual.specs.Dual.{Dual}
 use Rattle.thy_dual.specs.Laws.{BootIsSound, PowerFinds, PowerIsNew, ZerosAreNothing}
 use Rattle.thy_dual.specs.Scheme.{dual_scheme}
@@ -261,3 +268,80 @@ pub zeros_are_nothing : ZerosAreNothing
 zeros_are_nothing p shape n same =
     let some : 1 < shape.blocks - 0 = omega (arith, same) in
     decode-zero p (fitted shape [] n).image (ap is_zero (get_or-replicate (shape.blocks - 0) 1 zero_block zero_block some) ∙ is_zero-zero_block)
+
+-- ---- whether it loads
+
+-- an image with a commit block has a checkpoint
+kept-some : (o : Origin) (g : Checkpoints) (n : Device) (kept : Option Mark) → g.before ≡ n.image → Tells o (layout_of o) g.before kept → is_zero (block_at n.image 1) ≡ false
+    → loads (finding_view o.start.count kept) ≡ false
+kept-some o g n (Some m) before tells committed = refl
+kept-some o g n None before tells committed =
+    let zero : is_zero (block_at g.before 1) ≡ true = decode_by-nothing_back (layout_of o) g.before tells.0 in
+    let both : false ≡ true = sym committed ∙ ap (λ (x : List Block). is_zero (block_at x 1)) (sym before) ∙ zero in
+    cc
+
+-- behind the commit block it is not zero
+abbrev HasCommitAt : Stage → Device → Type 0
+HasCommitAt (ReadsHeader epoch fault) n = is_zero (block_at n.image 1) ≡ false
+HasCommitAt (ReadsSlot epoch next) n = is_zero (block_at n.image 1) ≡ false
+HasCommitAt (Frames epoch page next) n = is_zero (block_at n.image 1) ≡ false
+HasCommitAt stage n = Unit {0}
+
+has-commit : (q : Stage) (n : Device) (p : Parameters) (slot : List ℕ) (c : State) → HasReadAt q n p slot c → HasCommitAt q n
+has-commit Unread n p slot c h = tt
+has-commit (ReadsHeader epoch fault) n p slot c h = h.1.committed
+has-commit (ReadsSlot epoch next) n p slot c h = h.1.commit.committed
+has-commit (Frames epoch page next) n p slot c h = h.0.head.commit.committed
+has-commit (Refusing bad) n p slot c h = tt
+has-commit (Loading issue) n p slot c h = tt
+has-commit (Restored epoch) n p slot c h = tt
+has-commit Loaded n p slot c h = tt
+
+module _ (o : Origin) (g : Checkpoints) (n : Device) (b : Booting) (c : State) where
+  not-loading : IsRecovering g n b c → Tells o (layout_of o) g.before g.kept → is_zero (block_at n.image 1) ≡ false
+      → loads (view_of_image o.start.count (decode_image o.geometry ceiling n.image)) ≡ false
+  not-loading reading tells committed =
+      ap loads (view-reading o g n b c reading tells) ∙ kept-some o g n g.kept reading.before_is tells committed
+
+  -- a boot that reads has read what its stage says
+  commit-at : (q : Stage) → q ≡ b.stage → IsSoundAt o q g n b c → HasCommitAt q n
+  commit-at (ReadsHeader epoch fault) is far = has-commit (ReadsHeader epoch fault) n b.p b.slot c (subst (λ (x : Stage). HasReadAt x n b.p b.slot c) (sym is) far.read.so_far)
+  commit-at (ReadsSlot epoch next) is far = has-commit (ReadsSlot epoch next) n b.p b.slot c (subst (λ (x : Stage). HasReadAt x n b.p b.slot c) (sym is) far.read.so_far)
+  commit-at (Frames epoch page next) is far = has-commit (Frames epoch page next) n b.p b.slot c (subst (λ (x : Stage). HasReadAt x n b.p b.slot c) (sym is) far.read.so_far)
+  commit-at Unread is far = tt
+  commit-at (Refusing bad) is far = tt
+  commit-at (Loading issue) is far = tt
+  commit-at (Restored epoch) is far = tt
+  commit-at Loaded is far = tt
+
+  loading-at : (q : Stage) → IsGoing q → ((bad : BadImage) → q ≢ Refusing bad) → IsKeeping o (layout_of o) (standing_at o q g n) → IsSoundAt o q g n b c
+      → HasCommitAt q n → loads_at q ≡ (has_read_at q && loads (view_at o q n))
+  loading-at Unread going good keeps far read = refl
+  loading-at (ReadsHeader epoch fault) going good keeps far read = sym (not-loading far keeps.told read)
+  loading-at (ReadsSlot epoch next) going good keeps far read = sym (not-loading far keeps.told read)
+  loading-at (Frames epoch page next) going good keeps far read = sym (not-loading far keeps.told read)
+  loading-at (Refusing bad) going good keeps far read = absurd (good bad refl)
+  loading-at (Loading issue) going good keeps far read = refl
+  loading-at (Restored epoch) going good keeps far read = absurd going
+  loading-at Loaded going good keeps far read = absurd going
+
+pub loading-is : (o : Origin) (s : Dual) (n : Device) → Boots o s n
+    → loads_at s.boot.stage ≡ (has_read_at s.boot.stage && loads (view_at o s.boot.stage n))
+loading-is o s n boots =
+    loading-at o boots.images n s.boot s.control s.boot.stage boots.going
+    (λ bad. never_refused o boots.images n s.boot s.control bad boots.sound) boots.sound.keeps boots.sound.so_far
+    (commit-at o boots.images n s.boot s.control s.boot.stage refl boots.sound.so_far)
+
+-- ---- a loss of power
+
+length-over : (seed : ℕ) (xs : List Block) → length (blocks_over seed xs) ≡ length xs
+length-over seed [] = refl
+length-over seed (x ∷ xs) = ap suc (length-over (after_block seed) xs)
+
+-- what is left of a DRAM of its size is one with nothing queued
+pub IsDramOf-lost : (p : Parameters) (s : State) (pick : ℕ) (d : Contents) → AreSoundTables s → s.p ≡ p → s.dram.room ≡ p.dramq → d ≡ lost s.dram pick → IsDramOf p d
+IsDramOf-lost p s pick d tables same room is = subst (λ (x : Contents). IsDramOf p x) (sym is) (record {
+  blocks = length-over pick s.dram.blocks ∙ tables.dram_size ∙ ap dram_blocks same;
+  room = room;
+  empty = refl;
+})

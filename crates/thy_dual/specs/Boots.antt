@@ -44,6 +44,11 @@ abbrev pub has_read_at : Stage → Bool
 has_read_at Unread = false
 has_read_at stage = true
 
+-- there is no checkpoint
+abbrev pub loads_at : Stage → Bool
+loads_at (Loading issue) = true
+loads_at stage = false
+
 -- power has just come on
 pub record IsPowered (p : Parameters) (s : Dual) : Type 0 where
   pub dram : Contents

@@ -1,21 +1,25 @@
 //! The scheme.
-ghost use Rattle.std.specs.Prelude.{◌≡◌, ◌<◌, true, false, length, IfOk, OnOk, OnErr};
+ghost use Rattle.std.specs.Prelude.{◌≡◌, ◌&&◌, ◌<◌, true, false, length, IfOk, OnOk, OnErr};
 ghost use Rattle.thy_base.specs.Device.{Device, HasFailed, IsFramed, CountsFault, block_at};
 ghost use Rattle.thy_base.specs.Store.{IsKeptByLoad, HasStored};
+ghost use Rattle.thy_view.specs.Kind.{IsDramOf};
 ghost use Rattle.thy_view.specs.Origin.{Origin};
+ghost use Rattle.thy_view.specs.Views.{loads};
 ghost use Rattle.thy_scheme.specs.Marks.{Marks};
 ghost use Rattle.thy_scheme.specs.Scheme.{Stands, CanRun, IsBooting};
 ghost use Rattle.thy_scheme.specs.Calls.{IsOneAccess, Merges, Promotes, PromotionFails, Drains, Seals, Engines, EngineFails};
 ghost use Rattle.thy_scheme.specs.Boots.{BootDrains};
+ghost use Rattle.thy_dual.specs.Boots.{loads_at};
 ghost use Rattle.thy_dual.specs.Scheme.{dual_scheme};
 
 use std::marker::Model;
 use thy_base::{Block, Nvm, NvmError, Stored};
 use thy_commit::{Engine, items_are_moves, items_keep_the_store, items_move_versions};
 use thy_control::{Control, blocks_are_works};
+use thy_dram::Dram;
 use thy_isa::CpuState;
 use thy_record::EngineStep;
-use thy_recover::Boot;
+use thy_recover::{Boot, Stage};
 
 /// The scheme of both tables: its controller keeps two checkpoints of all blocks beside the work, and its engine writes
 /// the next one into the NVM while the hart runs.
@@ -37,6 +41,22 @@ impl Model for DualScheme {
     ghost view = { λ d. record { control = d.control; engine = d.engine; rested = d.rested; lean = d.lean; boot = d.boot } };
 
     ghost invariant = { λ d. Fits d.engine d.control };
+}
+
+/// Whether a boot that is so far has found that there is no checkpoint.
+fn is_loading(stage: Stage) -> bool
+    ensures { result ≡ loads_at stage }
+{
+    match stage {
+        Stage::Loading(_) => true,
+        Stage::Unread
+        | Stage::Header { .. }
+        | Stage::Slot { .. }
+        | Stage::Frames { .. }
+        | Stage::Refusing(_)
+        | Stage::Restored(_)
+        | Stage::Loaded => false,
+    }
 }
 
 impl DualScheme {
@@ -199,5 +219,21 @@ impl DualScheme {
         let result = self.engine.step(&mut self.control, nvm);
         self.control.tables();
         result
+    }
+
+    /// Whether the boot has found that there is no checkpoint.
+    pub fn loading(&self) -> bool
+        ensures { (o : Origin) (n : Device) → dual_scheme.boots o self.now n
+            → result ≡ (dual_scheme.has_read self.now && loads (dual_scheme.boot_view o self.now n)) }
+    {
+        is_loading(self.boot.stage())
+    }
+
+    /// Loses power: all is gone but the DRAM, whose bytes are those that the pick draws.
+    pub fn cut(self, pick: u64) -> Dram
+        ensures running { (o : Origin) (k : Marks) (n : Device) → dual_scheme.is_sound o k self n → IsDramOf o.geometry result }
+        ensures booting { (o : Origin) (n : Device) → dual_scheme.boots o self n → IsDramOf o.geometry result }
+    {
+        self.control.cut(pick)
     }
 }
