@@ -12,8 +12,9 @@ ghost use Rattle.thy_scheme.specs.Boots.{BootDrains};
 ghost use Rattle.thy_dual.specs.Boots.{loads_at};
 ghost use Rattle.thy_dual.specs.Scheme.{dual_scheme};
 
+use std::alloc::{AllocError, Global};
 use std::marker::Model;
-use thy_base::{Block, Nvm, NvmError, Stored};
+use thy_base::{Block, Geometry, Nvm, NvmError, Stored};
 use thy_commit::{Engine, items_are_moves, items_keep_the_store, items_move_versions};
 use thy_control::{Control, blocks_are_works};
 use thy_dram::Dram;
@@ -60,6 +61,24 @@ fn is_loading(stage: Stage) -> bool
 }
 
 impl DualScheme {
+    /// A scheme whose power has just come on, over a DRAM of any content. On a refusal the DRAM is given up.
+    pub fn new(alloc: Global, geometry: &Geometry, dram: Dram) -> Result<DualScheme, AllocError>
+        requires { IsDramOf geometry.now dram }
+        ensures { IfOk result (λ s. dual_scheme.powered geometry.now s) }
+    {
+        let boot = Boot::new(alloc, geometry)?;
+        let engine = Engine::new(geometry);
+        let control = Control::new(alloc, geometry, dram)?;
+        control.tables();
+        Ok(DualScheme {
+            control,
+            engine,
+            rested: true,
+            lean: false,
+            boot,
+        })
+    }
+
     /// Block `b` of memory. Nothing changes.
     pub fn load<N: Nvm>(&self, b: u64, nvm: &mut N) -> Result<Block, NvmError>
         requires { b < length (dual_scheme.holding self.now (N.device nvm.old)).blocks }
