@@ -1,14 +1,12 @@
 -- What holds in the boot.
-use Rattle.std.proofs.Common.{◌≡◌, ◌≢◌, ◌&&◌, ℕ, ◌+◌, ◌-◌, ◌*◌, ◌<◌, ◌≤◌, [], ◌∷◌, ◌++◌, suc, Bool, true, false, List, length, replicate, refl, sym, ◌∙◌, ap, subst, inl, inr, arith, Option, Some, None}
+use Rattle.std.proofs.Common.{◌≡◌, ◌≢◌, ◌&&◌, ℕ, ◌-◌, ◌*◌, ◌<◌, ◌≤◌, [], ◌∷◌, suc, true, false, List, length, refl, sym, ◌∙◌, ap, subst, inl, inr, arith, Option, Some, None}
 use Rattle.std.proofs.lemmas.List.{get_or-replicate, length-replicate}
 use Rattle.thy_base.specs.declared.block.Block.{Block}
 use Rattle.thy_base.specs.declared.config.Parameters.{Parameters}
 use Rattle.thy_base.specs.declared.mark.Mark.{Mark}
-use Rattle.thy_base.specs.declared.nvm.Shape.{Shape}
 use Rattle.thy_base.specs.Device.{Device, block_at, zero_block, fitted, drained}
 use Rattle.thy_base.specs.Marks.{mark}
 use Rattle.thy_base.specs.Places.{slot_blocks, image_blocks}
-use Rattle.thy_crash.specs.Saved.{Saved, Kept}
 use Rattle.thy_record.specs.Commit.{is_zero}
 use Rattle.thy_record.specs.Decoded.{Decoded, Nothing, Refused, At}
 use Rattle.thy_record.specs.Images.{decode_image}
@@ -16,11 +14,10 @@ use Rattle.thy_record.proofs.ReadBackLemmas.{is_zero-zero_block}
 use Rattle.thy_control.specs.Drains.{after_drain}
 use Rattle.thy_control.proofs.DrainLemmas.{takes_one}
 use Rattle.thy_isa.specs.Step.{State as Plain}
-use Rattle.thy_control.specs.State.{State, AreSoundTables, new_state}
+use Rattle.thy_control.specs.State.{State, AreSoundTables}
 use Rattle.thy_protocol.specs.Keeps.{Tells, TellsAll, finding_view}
-use Rattle.thy_protocol.specs.Layout.{decode_by, reading}
+use Rattle.thy_protocol.specs.Layout.{reading}
 use Rattle.thy_protocol.specs.Moves.{IsKeeping}
-use Rattle.thy_protocol.specs.VersionOne.{version_one}
 use Rattle.thy_protocol.proofs.KeepsLemmas.{finding_view-told}
 use Rattle.thy_protocol.proofs.VersionOneLemmas.{decode_by-version_one}
 use Rattle.thy_base.specs.Places.{dram_blocks}
@@ -28,8 +25,8 @@ use Rattle.thy_dram.specs.Contents.{Contents, lost}
 use Rattle.thy_dram.specs.Draws.{blocks_over, after_block}
 use Rattle.thy_view.specs.Kind.{IsDramOf}
 use Rattle.thy_view.specs.declared.view.View.{View}
-use Rattle.thy_view.specs.Booting.{boot_view, loading_view, view_of_image}
-use Rattle.thy_view.specs.Origin.{Origin, IsOrigin, at}
+use Rattle.thy_view.specs.Booting.{loading_view, view_of_image}
+use Rattle.thy_view.specs.Origin.{Origin, IsOrigin}
 use Rattle.thy_view.specs.Safe.{ceiling, Safe}
 use Rattle.thy_view.specs.Views.{doubt_of, loads}
 use Rattle.thy_recover.specs.declared.stage.Stage.{Stage}
@@ -40,15 +37,14 @@ use Rattle.thy_recover.specs.Boot.{Booting, IsBoot, new_boot}
 use Rattle.thy_recover.specs.Left.{boot_left}
 use Rattle.thy_recover.specs.Laws.{IsGoing}
 use Rattle.thy_recover.specs.Shows.{is_written, seen_at}
-use Rattle.thy_recover.specs.Sound.{Checkpoints, layout_of, start_mark, saved_at, standing_at, IsRecovering, IsLoading, IsSoundAt, IsSound as IsBootOf}
+use Rattle.thy_recover.specs.Sound.{Checkpoints, layout_of, start_mark, saved_at, standing_at, IsRecovering, IsSoundAt, IsSound as IsBootOf}
 use Rattle.thy_recover.proofs.DecodeLemmas.{decode-zero}
 use Rattle.thy_recover.proofs.StepLawLemmas.{sound_is_safe, drains_keep_boot, new_is_sound, never_refused}
 use Rattle.thy_recover.specs.Recovers.{HasReadAt}
 use Rattle.thy_record.specs.declared.image.BadImage.{BadImage}
 use Rattle.thy_protocol.proofs.LayoutLemmas.{decode_by-nothing_back}
 use Rattle.thy_scheme.specs.Boots.{IsBootView, BootStays, BootDrains}
-use Rattle.thy_scheme.specs.Scheme.{IsBooting}
-use Rattle.thy_scheme.specs.Laws.{IsOwn, IsFound, IsNew, BootsFound, BootHolds}
+use Rattle.thy_scheme.specs.Laws.{IsOwn, IsFound, BootsFound, BootHolds}
 use Rattle.thy_dual.specs.Boots.{Boots, IsPowered, view_at, has_read_at, loads_at}
 use Rattle.thy_dual.specs.Dual.{Dual}
 use Rattle.thy_dual.specs.Laws.{BootIsSound, PowerFinds, PowerIsNew, ZerosAreNothing}
@@ -213,11 +209,13 @@ own-mark : (o : Origin) (n : Device) (d : Decoded) → decode_image o.geometry c
     → (kept : Option Mark) × Tells o (layout_of o) n.image kept
 own-mark o n Nothing is own = (None, (decode_by-version_one o.geometry ceiling n.image ∙ is, own))
 own-mark o n (Refused bad) is own = absurd own
-own-mark o n (At epoch state) is own =
-    (Some (mark epoch state.count), record {
-      decodes = decode_by-version_one o.geometry ceiling n.image ∙ is ∙ ap (At epoch) own;
-      counted = ap (λ (x : Plain). x.count) (sym own);
-    })
+own-mark o n (At epoch state) is own = (
+  Some (mark epoch state.count),
+  record {
+    decodes = decode_by-version_one o.geometry ceiling n.image ∙ is ∙ ap (At epoch) own;
+    counted = ap (λ (x : Plain). x.count) (sym own);
+  },
+)
 
 new-is_boot : (p : Parameters) → IsBoot (new_boot p)
 new-is_boot p = record { room = length-replicate (64 * slot_blocks p) 0; there = tt }

@@ -1,5 +1,5 @@
 -- Where a boot ends, the checkpoint that it found or made is the committed one.
-use Rattle.std.proofs.Common.{◌≡◌, ℕ, ◌<◌, [], nat_lt, Bool, true, false, ◌&&◌, not, if◌then◌else◌, List, length, map, refl, sym, ◌∙◌, ap, subst, arith, Option, Some, None}
+use Rattle.std.proofs.Common.{◌≡◌, ℕ, ◌<◌, [], Bool, true, false, if◌then◌else◌, List, length, refl, sym, ◌∙◌, ap, subst, arith, Option, Some, None}
 use Rattle.std.specs.List.{range_with_len}
 use Rattle.std.proofs.lemmas.Bool.{ltb-true}
 use Rattle.std.proofs.lemmas.List.{length-map, get_or-map, ext_get_or}
@@ -15,7 +15,7 @@ use Rattle.thy_isa.specs.declared.state.CpuState.{CpuState}
 use Rattle.thy_isa.specs.OnBlocks.{state_from}
 use Rattle.thy_record.specs.Images.{memory_in, memory_numbers}
 use Rattle.thy_record.specs.Tables.{place_of as place_in}
-use Rattle.thy_table.specs.Listing.{Listing, entry_at, passes}
+use Rattle.thy_table.specs.Listing.{entry_at, passes}
 use Rattle.thy_tables.specs.declared.block_entry.BttEntry.{BttEntry}
 use Rattle.thy_tables.specs.declared.block_entry.Version.{Version}
 use Rattle.thy_tables.specs.declared.block_entry.Version.TheVariants.{Out, Alt}
@@ -33,12 +33,11 @@ use Rattle.thy_control.specs.Stays.{HoldAll}
 use Rattle.thy_control.proofs.MarkLemmas.{counted-some}
 use Rattle.thy_control.proofs.TablesLemmas.{AreTablesOf-committed}
 use Rattle.thy_protocol.specs.Keeps.{Keeps}
-use Rattle.thy_protocol.specs.Moves.{Standing, standing, IsKeeping}
-use Rattle.thy_view.specs.Origin.{Origin, at}
+use Rattle.thy_view.specs.Origin.{Origin}
 use Rattle.thy_commit.specs.declared.next.Next.{Next}
 use Rattle.thy_commit.specs.declared.next.Next.TheVariants.{Nothing, Copies, Pages, Slot, Settle, Commit, Confirm}
 use Rattle.thy_commit.specs.Items.{is_under_way}
-use Rattle.thy_commit.specs.Moves.{Checkpoints, layout_of, is_written, saved_at, standing_at}
+use Rattle.thy_commit.specs.Moves.{Checkpoints, layout_of, is_written, saved_at}
 use Rattle.thy_commit.specs.Progress.{Progress, Fits}
 use Rattle.thy_commit.specs.Written.{HasStood}
 use Rattle.thy_commit.proofs.FitLemmas.{idle_fits}

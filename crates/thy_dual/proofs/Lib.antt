@@ -11,3 +11,4 @@ pub mod ItemLemmas
 pub mod EngineLemmas
 pub mod BootedLemmas
 pub mod BootLemmas
+pub mod StoreLemmas

@@ -1,5 +1,5 @@
 -- The boot of a run, and what is seen of it.
-use Rattle.std.specs.Prelude.{◌≡◌, ℕ, true, false, Bool}
+use Rattle.std.specs.Prelude.{◌≡◌, true, false, Bool}
 use Rattle.thy_base.specs.declared.config.Parameters.{Parameters}
 use Rattle.thy_base.specs.Device.{Device}
 use Rattle.thy_base.specs.Geometry.{IsInRange}

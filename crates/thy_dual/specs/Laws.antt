@@ -1,5 +1,5 @@
 -- What holds of the scheme.
-use Rattle.std.specs.Prelude.{◌≡◌, []}
+use Rattle.std.specs.Prelude.{◌≡◌, ℕ, ◌<◌, true, false, [], length}
 use Rattle.thy_base.specs.declared.config.Parameters.{Parameters}
 use Rattle.thy_base.specs.declared.nvm.Shape.{Shape}
 use Rattle.thy_base.specs.Device.{Device, fitted}
@@ -12,6 +12,27 @@ use Rattle.thy_scheme.specs.Laws.{IsFound, IsNew, BootsFound, BootHolds, RunHold
 use Rattle.thy_dual.specs.Dual.{Dual}
 use Rattle.thy_dual.specs.Scheme.{dual_scheme}
 use Rattle.thy_dual.specs.Stays.{StaysDual}
+
+-- ---- as a store of blocks
+
+-- blocks are held only while the NVM is up
+abbrev pub HeldIsUp : Type 0
+HeldIsUp = (s : Dual) (n : Device) (b : ℕ) → b < length (dual_scheme.holding s n).blocks → n.down ≡ false
+
+-- blocks can be stored only while it is, and where no page is being promoted
+abbrev pub ReadyIsWhole : Type 0
+ReadyIsWhole =
+    (s : Dual) (n : Device)
+    → (dual_scheme.holding s n).ready ≡ true → (n.down ≡ false) × (dual_scheme.promoting s ≡ false)
+
+-- what stays does so where nothing happens, and over one call after another
+abbrev pub StaysOver : Type 0
+StaysOver =
+    ((s : Dual) (n : Device) → StaysDual s n s n)
+    × ((a : Dual) (m : Device) (b : Dual) (n : Device) (c : Dual) (o : Device)
+    → StaysDual a m b n → StaysDual b n c o → StaysDual a m c o)
+
+-- ---- behind the boot
 
 -- what stays keeps the checkpoints, whether or not a call failed
 abbrev pub StaysKeep : Type 0

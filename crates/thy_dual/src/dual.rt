@@ -61,6 +61,13 @@ fn is_loading(stage: Stage) -> bool
 }
 
 impl DualScheme {
+    /// How many blocks its NVM has.
+    pub fn nvm_blocks(geometry: &Geometry) -> u64
+        ensures { result ≡ dual_scheme.blocks geometry.now }
+    {
+        geometry.blocks()
+    }
+
     /// A scheme whose power has just come on, over a DRAM of any content. On a refusal the DRAM is given up.
     pub fn new(alloc: Global, geometry: &Geometry, dram: Dram) -> Result<DualScheme, AllocError>
         requires { IsDramOf geometry.now dram }

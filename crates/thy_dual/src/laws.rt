@@ -1,6 +1,6 @@
 //! Laws of the scheme, each the contract of a function that does nothing.
 ghost use Rattle.thy_dual.specs.Booted.{BootedIsSound};
-ghost use Rattle.thy_dual.specs.Laws.{BootIsSound, PowerFinds, PowerIsNew, RunIsSound, StaysKeep, ZerosAreNothing};
+ghost use Rattle.thy_dual.specs.Laws.{BootIsSound, HeldIsUp, PowerFinds, PowerIsNew, ReadyIsWhole, RunIsSound, StaysKeep, StaysOver, ZerosAreNothing};
 
 /// Loads and stores keep the checkpoints, those that fail too, and bring the engine no more to do.
 pub fn stays_keep_the_checkpoints()
@@ -31,4 +31,12 @@ pub fn a_boot_finds_the_image()
     ensures finds { PowerFinds }
     ensures new { PowerIsNew }
     ensures zeros { ZerosAreNothing }
+{}
+
+/// As a store of blocks the scheme holds blocks, and is ready, only while the NVM is up, and is ready only where no page is being
+/// promoted. What stays over a call does so where nothing happens, and over one call after another.
+pub fn what_is_held_stays()
+    ensures up { HeldIsUp }
+    ensures ready { ReadyIsWhole }
+    ensures over { StaysOver }
 {}

@@ -1,5 +1,4 @@
 use Rattle.std.proofs.Common.{sym, subst}
-use Rattle.thy_view.specs.Kind.{IsDramOf}
 use Rattle.thy_dual.specs.Boots.{Boots}
 use Rattle.thy_dual.specs.Dual.{Dual}
 use Rattle.thy_dual.specs.Sound.{IsSound}

@@ -1,5 +1,5 @@
-use Rattle.std.proofs.Common.{◌≡◌, ◌∙◌, ap, sym, subst}
-use Rattle.thy_dual.specs.Boots.{Boots, loads_at}
+use Rattle.std.proofs.Common.{◌∙◌, ap}
+use Rattle.thy_dual.specs.Boots.{loads_at}
 use Rattle.thy_dual.specs.Dual.{Dual}
 use Rattle.thy_dual.proofs.BootLemmas.{loading-is}
 use Rattle.thy_dual.proofs.dual.DualScheme.loading.Goals as goal
