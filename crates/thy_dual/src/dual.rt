@@ -106,7 +106,9 @@ impl DualScheme {
         requires inside { b < length (dual_scheme.holding self.old (N.device nvm.old)).blocks }
         requires ready { (dual_scheme.holding self.old (N.device nvm.old)).ready ≡ true }
         requires room { 0 < (dual_scheme.holding self.old (N.device nvm.old)).free }
-        ensures ok { IfOk result (λ stored. HasStored stored b block.now (dual_scheme.holding self.old (N.device nvm.old)) (dual_scheme.holding self.new (N.device nvm.new))) }
+        ensures ok { IfOk result (λ stored.
+            HasStored stored b block.now (dual_scheme.holding self.old (N.device nvm.old))
+            (dual_scheme.holding self.new (N.device nvm.new))) }
         ensures up { OnOk result ((N.device nvm.new).down ≡ false) }
         ensures err { OnErr result ((N.device nvm.new).down ≡ true) }
         ensures once { IsOneAccess dual_scheme self.old (N.device nvm.old) self.new (N.device nvm.new) }
@@ -178,8 +180,10 @@ impl DualScheme {
     /// Lets the oldest queued write of the DRAM land.
     pub fn drain(&mut self)
         requires { 0 < dual_scheme.queued self.old }
-        ensures running { (o : Origin) (k : Marks) (n : Device) → Stands dual_scheme o k self.old n → Drains dual_scheme o k self.old n self.new }
-        ensures booting { (o : Origin) (n : Device) → IsBooting dual_scheme o self.old n → BootDrains dual_scheme o self.old n self.new }
+        ensures running { (o : Origin) (k : Marks) (n : Device) → Stands dual_scheme o k self.old n
+            → Drains dual_scheme o k self.old n self.new }
+        ensures booting { (o : Origin) (n : Device) → IsBooting dual_scheme o self.old n
+            → BootDrains dual_scheme o self.old n self.new }
     {
         self.control.drain();
         self.control.tables();
@@ -189,7 +193,8 @@ impl DualScheme {
     pub fn merge_one(&mut self)
         requires overlaid { dual_scheme.overlaid self.old ≡ true }
         requires idle { dual_scheme.under_way self.old ≡ false }
-        ensures { (o : Origin) (k : Marks) (n : Device) → Stands dual_scheme o k self.old n → Merges dual_scheme o k self.old n self.new }
+        ensures { (o : Origin) (k : Marks) (n : Device) → Stands dual_scheme o k self.old n
+            → Merges dual_scheme o k self.old n self.new }
     {
         self.control.merge_one();
         self.control.tables();

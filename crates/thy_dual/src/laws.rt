@@ -1,6 +1,7 @@
 //! Laws of the scheme, each the contract of a function that does nothing.
 ghost use Rattle.thy_dual.specs.Booted.{BootedIsSound};
-ghost use Rattle.thy_dual.specs.Laws.{BootIsSound, HeldIsUp, PowerFinds, PowerIsNew, ReadyIsWhole, RunIsSound, StaysKeep, StaysOver, ZerosAreNothing};
+ghost use Rattle.thy_dual.specs.Laws.{BootIsSound, PowerFinds, PowerIsNew, ZerosAreNothing};
+ghost use Rattle.thy_dual.specs.Laws.{HeldIsUp, ReadyIsWhole, RunIsSound, StaysKeep, StaysOver};
 
 /// Loads and stores keep the checkpoints, those that fail too, and bring the engine no more to do.
 pub fn stays_keep_the_checkpoints()
