@@ -1,1 +1,2 @@
 mod DrivenLemmas
+mod MemoryLemmas

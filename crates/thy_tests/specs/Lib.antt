@@ -2,3 +2,4 @@ pub mod Beside
 pub mod Boots
 pub mod Driven
 pub mod Entries
+pub mod Memory

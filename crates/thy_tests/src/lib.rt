@@ -24,6 +24,8 @@ mod driven;
 #[cfg(test)]
 mod elf;
 #[cfg(test)]
+mod engine_rows;
+#[cfg(test)]
 mod epochs;
 #[cfg(test)]
 mod expect;
@@ -39,6 +41,8 @@ mod image;
 mod isa;
 #[cfg(test)]
 mod isa_rows;
+#[cfg(test)]
+mod memory;
 #[cfg(test)]
 mod nvm;
 #[cfg(test)]

@@ -1,0 +1,59 @@
+-- What the calls of a memory with its engine leave.
+use Rattle.std.proofs.Common.{◌≡◌, refl, sym, ◌∙◌, ap, subst, Some}
+use Rattle.thy_base.specs.declared.config.Parameters.{Parameters}
+use Rattle.thy_base.specs.Device.{Device, IsFramed}
+use Rattle.thy_base.specs.Places.{image_blocks}
+use Rattle.thy_base.specs.Geometry.{memory_blocks}
+use Rattle.thy_commit.specs.Items.{Item, NoItem, CopyItem, PageItem, SlotItem, SettleItem, CommitItem, ConfirmItem}
+use Rattle.thy_commit.specs.Progress.{Progress, Fits, device_after, device_next, engine_next, item_of}
+use Rattle.thy_control.specs.Seal.{sealed_state}
+use Rattle.thy_control.specs.State.{State}
+use Rattle.thy_control.specs.Stays.{Stays}
+use Rattle.thy_tests.specs.Memory.{Parts, IsMemory}
+use Rattle.thy_tests.proofs.DrivenLemmas.{Drives-stays, Drives-sealed, down-copy, down-write}
+
+abbrev pub parts : Parameters → State → Progress → Device → Parts
+parts p s e n = record { p = p; control = s; engine = e; nvm = n }
+
+-- an item of the engine leaves the NVM up or down as it was
+pub down-item : (e : Progress) (i : Item) (s : State) (n : Device) → (device_after e i s n).down ≡ n.down
+down-item e NoItem s n = refl
+down-item e (CopyItem i) s n = down-copy (Some i) s n
+down-item e (PageItem j) s n = down-write (Some j) s n
+down-item e (SlotItem k) s n = refl
+down-item e SettleItem s n = refl
+down-item e CommitItem s n = refl
+down-item e ConfirmItem s n = refl
+
+-- what stays is a memory still, while the NVM is up
+pub IsMemory-stays : (p : Parameters) (e : Progress) (s t : State) (m n : Device)
+    → IsMemory (parts p s e m) → Fits e t → Stays s m t n → n.down ≡ m.down → IsMemory (parts p t e n)
+IsMemory-stays p e s t m n w fits stays same = record {
+  same_p = stays.same_p ∙ w.same_p;
+  drives = Drives-stays s t m n w.drives stays same;
+  fits = fits;
+}
+
+-- so it is after an action of the engine
+pub IsMemory-item : (p : Parameters) (e f : Progress) (s t : State) (m n : Device)
+    → IsMemory (parts p s e m) → Fits f t → f ≡ engine_next e s → n ≡ device_next e s m → IsFramed m n
+    → IsMemory (parts p t f n)
+IsMemory-item p e f s t m n w fits f_is n_is frame =
+    let t_p : t.p ≡ s.p = fits.same_p ∙ ap (λ (g : Progress). g.p) f_is ∙ sym w.fits.same_p in
+    record {
+      same_p = t_p ∙ w.same_p;
+      drives = record {
+        blocks = ap memory_blocks t_p ∙ w.drives.blocks;
+        sized = record { nvm = frame.blocks ∙ w.drives.sized.nvm ∙ sym (ap image_blocks t_p) };
+        up = ap (λ (d : Device). d.down) n_is ∙ down-item e (item_of e s) s m ∙ w.drives.up;
+      };
+      fits = fits;
+    }
+
+-- and after a seal, with which a checkpoint begins
+pub IsMemory-sealed : (p : Parameters) (e f : Progress) (s t : State) (n : Device)
+    → IsMemory (parts p s e n) → t ≡ sealed_state s → Fits f (sealed_state s) → IsMemory (parts p t f n)
+unfolding sealed_state
+IsMemory-sealed p e f s t n w t_is fits =
+    subst (λ (u : State). IsMemory (parts p u f n)) (sym t_is)
+    (record { same_p = w.same_p; drives = Drives-sealed s n w.drives; fits = fits })

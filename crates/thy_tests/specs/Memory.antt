@@ -1,0 +1,19 @@
+-- A controller of the least memory with its engine, and the NVM behind both.
+use Rattle.std.specs.Prelude.{◌≡◌}
+use Rattle.thy_base.specs.declared.config.Parameters.{Parameters}
+use Rattle.thy_base.specs.Device.{Device}
+use Rattle.thy_commit.specs.Progress.{Progress, Fits}
+use Rattle.thy_control.specs.State.{State}
+use Rattle.thy_tests.specs.Driven.{Drives}
+
+pub record Parts : Type 0 where
+  pub p : Parameters
+  pub control : State
+  pub engine : Progress
+  pub nvm : Device
+
+-- the controller can be driven, and belongs together with its engine
+pub record IsMemory (m : Parts) : Type 0 where
+  pub same_p : m.control.p ≡ m.p
+  pub drives : Drives m.control m.nvm
+  pub fits : Fits m.engine m.control

@@ -1,0 +1,232 @@
+//! Rows of calls of the controller with its engine over the simulated NVM, worked out by hand: with how many actions the
+//! engine commits a checkpoint, and what the image is then.
+ghost use Rattle.std.specs.Prelude.{◌≡◌, ◌<◌};
+
+use crate::expect::{expect, expect_at};
+use crate::memory::Memory;
+use std::alloc::Global;
+use std::process::Abort;
+use thy_base::{Block, Parameters, Stored};
+use thy_record::EngineStep;
+
+/// The least memory, with a block table of so many entries. A page is stored to densely by more than 22 stores of an
+/// epoch, and no longer by fewer than 16. A slot has 6 blocks, and one for each 8 entries of the block table.
+fn least(btt: u64) -> Parameters
+    ensures { result.pages ≡ 8 }
+{
+    Parameters {
+        base: 65536,
+        pages: 8,
+        console: 1,
+        epoch: 1,
+        btt,
+        ptt: 8,
+        sets: 1,
+        ways: 1,
+        nvmq: 4,
+        dramq: 4,
+        high: 22,
+        low: 16,
+        mix: 0,
+        limit: 1,
+    }
+}
+
+/// A block of one letter.
+fn of(letter: u8) -> Block {
+    Block([letter; 64])
+}
+
+/// Stores a block of one letter, which needs no copy before it.
+fn done(rt: &impl Abort, memory: &mut Memory, b: u64, letter: u8)
+    requires inside { b < 512 }
+{
+    let stored = memory.store(rt, b, &of(letter));
+    expect(rt, stored, Stored::Done);
+}
+
+fn loads(rt: &impl Abort, memory: &mut Memory, b: u64, letter: u8)
+    requires inside { b < 512 }
+{
+    let block = memory.load(rt, b);
+    expect(rt, block, of(letter));
+}
+
+/// Takes so many actions of a checkpoint, with which it is not committed.
+fn steps(rt: &impl Abort, memory: &mut Memory, many: u64) {
+    for i in 0..many {
+        let step = memory.step(rt);
+        let going = !matches!(&step, EngineStep::Committed(_) | EngineStep::Idle);
+        expect_at(rt, going, true, i);
+    }
+}
+
+/// With just so many more actions the checkpoint of an epoch is committed.
+fn commits(rt: &impl Abort, memory: &mut Memory, many: u64, epoch: u64) {
+    steps(rt, memory, many.saturating_sub(1));
+    let step = memory.step(rt);
+    expect(rt, step, EngineStep::Committed(epoch));
+}
+
+/// The image is the checkpoint of this epoch, and has this block.
+fn decodes(rt: &impl Abort, alloc: Global, memory: &mut Memory, epoch: u64, b: u64, letter: u8) {
+    let decoded = memory.decoded(rt, alloc, b);
+    expect(rt, decoded, (epoch, of(letter)));
+}
+
+// The third version goes over the second, which the checkpoint under way has still to copy. So there is nothing left to copy,
+// and the slot's 7 blocks, two barriers and the commit block are written.
+#[test]
+fn three_versions_of_a_block_are_committed_in_turn(rt: HostRuntime) {
+    let mut memory = Memory::power_on(&rt, rt.alloc(), &least(8));
+    three_versions(&rt, rt.alloc(), &mut memory);
+}
+
+fn three_versions(rt: &impl Abort, alloc: Global, memory: &mut Memory) {
+    done(rt, memory, 70, b'A');
+    memory.seal(rt, 1, 10);
+    done(rt, memory, 70, b'B');
+    commits(rt, memory, 10, 1);
+    decodes(rt, alloc, memory, 1, 70, b'A');
+    memory.seal(rt, 2, 20);
+    let stored = memory.store(rt, 70, &of(b'C'));
+    expect(rt, stored, Stored::CopyFirst);
+    loads(rt, memory, 70, b'B');
+    done(rt, memory, 70, b'C');
+    done(rt, memory, 70, b'D');
+    loads(rt, memory, 70, b'D');
+    commits(rt, memory, 10, 2);
+    decodes(rt, alloc, memory, 2, 70, b'B');
+    loads(rt, memory, 70, b'D');
+}
+
+/// Stores the first 23 blocks of the first page.
+fn store_page(rt: &impl Abort, memory: &mut Memory) {
+    for b in 0..23 {
+        done(rt, memory, b, b'A');
+    }
+}
+
+/// Fills the frame of the page that is being promoted.
+fn promote_page(rt: &impl Abort, memory: &mut Memory) {
+    for _ in 0..64 {
+        memory.promote_one(rt);
+    }
+    expect(rt, memory.promoting(), false);
+}
+
+/// Stores a page densely in the first epoch, and one of its blocks in the second, into the frame. The page is to be written
+/// then. The slot has 10 blocks.
+fn frame_page(rt: &impl Abort, alloc: Global, memory: &mut Memory) {
+    store_page(rt, memory);
+    expect(rt, memory.free(), 9);
+    memory.seal(rt, 1, 10);
+    promote_page(rt, memory);
+    commits(rt, memory, 13, 1);
+    decodes(rt, alloc, memory, 1, 5, b'A');
+    done(rt, memory, 5, b'B');
+    expect(rt, memory.overlay(), false);
+    memory.seal(rt, 2, 20);
+}
+
+fn round_trip(rt: &impl Abort, alloc: Global, memory: &mut Memory) {
+    frame_page(rt, alloc, memory);
+    done(rt, memory, 5, b'X');
+    expect(rt, memory.overlay(), true);
+    loads(rt, memory, 5, b'X');
+    commits(rt, memory, 77, 2);
+    decodes(rt, alloc, memory, 2, 5, b'B');
+    expect(rt, memory.free(), 31);
+    memory.merge_one(rt);
+    expect(rt, memory.free(), 32);
+    memory.seal(rt, 3, 30);
+    commits(rt, memory, 77, 3);
+    decodes(rt, alloc, memory, 3, 5, b'X');
+    decodes(rt, alloc, memory, 3, 6, b'A');
+    loads(rt, memory, 5, b'X');
+}
+
+/// No block stands in a frame: one of the page is stored by an entry of its own.
+fn no_frame_is_used(rt: &impl Abort, memory: &mut Memory) {
+    expect(rt, memory.promoting(), false);
+    expect(rt, memory.overlay(), false);
+    expect(rt, memory.free(), 32);
+    done(rt, memory, 5, b'Y');
+    expect(rt, memory.overlay(), false);
+    expect(rt, memory.free(), 31);
+}
+
+// It comes for its 23 stores of one epoch, its 64 blocks are written to its alternate page, and it leaves by its home, with 64
+// more, for its few stores of another.
+#[test]
+fn a_page_comes_and_leaves_by_its_home(rt: HostRuntime) {
+    let mut memory = Memory::power_on(&rt, rt.alloc(), &least(32));
+    round_trip(&rt, rt.alloc(), &mut memory);
+    no_frame_is_used(&rt, &mut memory);
+}
+
+/// Stores a block of the page behind so many of the 77 actions, and commits.
+fn store_behind(rt: &impl Abort, alloc: Global, memory: &mut Memory, many: u64, overlay: bool) {
+    frame_page(rt, alloc, memory);
+    steps(rt, memory, many);
+    done(rt, memory, 5, b'X');
+    expect(rt, memory.overlay(), overlay);
+    loads(rt, memory, 5, b'X');
+    commits(rt, memory, 77u64.saturating_sub(many), 2);
+    decodes(rt, alloc, memory, 2, 5, b'B');
+    loads(rt, memory, 5, b'X');
+}
+
+// A store while one block is left goes into a buffer, and one behind it into the frame.
+#[test]
+fn a_frame_is_free_before_its_page_is_committed(rt: HostRuntime) {
+    let mut memory = Memory::power_on(&rt, rt.alloc(), &least(32));
+    store_behind(&rt, rt.alloc(), &mut memory, 63, true);
+    expect(&rt, memory.free(), 31);
+    let mut memory = Memory::power_on(&rt, rt.alloc(), &least(32));
+    store_behind(&rt, rt.alloc(), &mut memory, 64, false);
+    expect(&rt, memory.free(), 32);
+}
+
+/// So many actions that are told alike.
+fn are(rt: &impl Abort, memory: &mut Memory, many: u64, want: EngineStep) {
+    for i in 0..many {
+        let step = memory.step(rt);
+        expect_at(rt, step, want, i);
+    }
+}
+
+/// A page in a frame and two blocks in buffers are stored in the second epoch.
+fn two_blocks_and_a_page(rt: &impl Abort, memory: &mut Memory) {
+    store_page(rt, memory);
+    done(rt, memory, 100, b'C');
+    done(rt, memory, 200, b'D');
+    memory.seal(rt, 1, 10);
+    promote_page(rt, memory);
+    done(rt, memory, 100, b'E');
+    done(rt, memory, 200, b'F');
+    commits(rt, memory, 13, 1);
+    done(rt, memory, 5, b'B');
+    memory.seal(rt, 2, 20);
+}
+
+fn in_order(rt: &impl Abort, memory: &mut Memory) {
+    are(rt, memory, 2, EngineStep::Copied);
+    are(rt, memory, 64, EngineStep::PageBlock);
+    are(rt, memory, 5, EngineStep::StateBlock);
+    are(rt, memory, 5, EngineStep::TableBlock);
+    are(rt, memory, 1, EngineStep::Barrier);
+    are(rt, memory, 1, EngineStep::CommitWritten);
+    are(rt, memory, 1, EngineStep::Committed(2));
+    are(rt, memory, 2, EngineStep::Idle);
+}
+
+#[test]
+fn a_checkpoint_is_copies_then_pages_then_the_slot_then_its_commit(rt: HostRuntime) {
+    let mut memory = Memory::power_on(&rt, rt.alloc(), &least(32));
+    two_blocks_and_a_page(&rt, &mut memory);
+    in_order(&rt, &mut memory);
+    decodes(&rt, rt.alloc(), &mut memory, 2, 100, b'E');
+    decodes(&rt, rt.alloc(), &mut memory, 2, 200, b'F');
+    decodes(&rt, rt.alloc(), &mut memory, 2, 5, b'B');
+}
