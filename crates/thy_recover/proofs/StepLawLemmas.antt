@@ -1,5 +1,5 @@
 -- Every step of a boot: what it finds, and how the view changes.
-use Rattle.std.proofs.Common.{◌≡◌, ◌≢◌, ℕ, ◌+◌, ◌<◌, ◌≤◌, nat_lt, Bool, true, false, if◌then◌else◌, List, length, [], take, drop, Option, Some, None, refl, sym, ◌∙◌, ap, subst, inl, inr, arith}
+use Rattle.std.proofs.Common.{◌≡◌, ◌≢◌, ℕ, ◌+◌, ◌%◌, ◌<◌, ◌≤◌, nat_lt, Bool, true, false, if◌then◌else◌, List, length, [], take, drop, Option, Some, None, refl, sym, ◌∙◌, ap, subst, inl, inr, arith}
 use Rattle.thy_base.specs.declared.block.Block.{Block}
 use Rattle.thy_base.specs.declared.config.Parameters.{Parameters}
 use Rattle.thy_base.specs.declared.mark.Mark.{Mark}
@@ -7,7 +7,7 @@ use Rattle.thy_base.specs.declared.nvm.Write.{Write}
 use Rattle.thy_base.specs.Device.{Device, block_at, newest, drained, applied, IsFramed, HasFailed}
 use Rattle.thy_base.specs.Geometry.{memory_blocks}
 use Rattle.thy_base.specs.Places.{number_of, slot_place, slot_blocks, image_blocks}
-use Rattle.thy_base.specs.declared.place.Place.TheVariants.{Home as AtHome}
+use Rattle.thy_base.specs.declared.place.Place.TheVariants.{Home as AtHome, AlternatePage}
 use Rattle.thy_base.proofs.DeviceLemmas.{length-written_to, length-settled}
 use Rattle.thy_record.specs.Commit.{commit_of}
 use Rattle.thy_crash.specs.Saved.{Kept, guarded, InDoubt, Saved}
@@ -22,13 +22,14 @@ use Rattle.thy_record.specs.Files.{blocks_of}
 use Rattle.thy_record.specs.Header.{header_of, header_fault}
 use Rattle.thy_record.specs.Images.{decode_image}
 use Rattle.thy_record.specs.Issuing.{IsToldBy}
-use Rattle.thy_record.specs.Slots.{tables_in}
+use Rattle.thy_record.specs.Slots.{tables_in, slot_fault}
 use Rattle.thy_record.specs.Tables.{IsTables}
 use Rattle.thy_control.specs.State.{State, AreSoundTables}
 use Rattle.thy_control.specs.CheckpointTables.{tables0}
+use Rattle.thy_control.specs.Boot.{with_frame}
 use Rattle.thy_control.specs.Drains.{after_drain}
 use Rattle.thy_control.proofs.TablesLemmas.{AreTablesOf-committed}
-use Rattle.thy_view.specs.Action.{Rest, ReadAt, Barrier, after, FailsTo, Asks, Acts}
+use Rattle.thy_view.specs.Action.{Action, Rest, ReadAt, after, FailsTo, Asks, Acts, ActionFailed}
 use Rattle.thy_view.specs.Booting.{boot_view, loading_view, view_of_image}
 use Rattle.thy_view.specs.CoreStep.{CoreStep}
 use Rattle.thy_view.specs.Origin.{Origin, IsOrigin, at}
@@ -46,16 +47,16 @@ use Rattle.thy_recover.specs.declared.stage.Stage.{Stage}
 use Rattle.thy_recover.specs.declared.stage.Stage.TheVariants.{Unread, Header as ReadsHeader, Slot as ReadsSlot, Frames, Refusing, Loading, Restored, Loaded}
 use Rattle.thy_recover.specs.declared.stage.Issue.{Issue}
 use Rattle.thy_recover.specs.declared.stage.Issue.TheVariants.{Home, Slot, Header, Settle, Commit, Confirm}
-use Rattle.thy_recover.specs.declared.stage.BootStep.TheVariants.{Reading, Loaded as HasLoaded}
-use Rattle.thy_recover.specs.Boot.{Booting, IsThere, IsIssue, at_stage, issue_at, slot_of, answer_at, answer_of}
+use Rattle.thy_recover.specs.Boot.{Booting, IsThere, IsIssue, at_stage, issue_at, slot_of, answer_at, answer_of, JudgesUnless}
 use Rattle.thy_recover.specs.Left.{loads_left, boot_left}
 use Rattle.thy_recover.specs.Loads.{after_issue, issue_action}
+use Rattle.thy_recover.specs.Reads.{read_action, slot_read, Fills}
 use Rattle.thy_recover.specs.Start.{IsStartFor, start_block, start_slot}
 use Rattle.thy_recover.specs.Recovers.{IsFresh, HasTables, CanRecover, HasReadAt, HasRead, IsRestored, IsNearer, loads}
 use Rattle.thy_recover.specs.Shows.{is_written, restored_view, seen_at, did_of}
 use Rattle.thy_recover.specs.Sound.{Checkpoints, layout_of, start_mark, sealed_by, saved_at, standing_at, checkpoints_after, HasStood, IsMade, IsRecovering, IsLoading, IsSoundAt, IsSound}
 use Rattle.thy_recover.specs.Steps.{CanStepBy, CanRead, ReadsOn, LoadsOn, StepsBy, FailsBy}
-use Rattle.thy_recover.specs.Laws.{NewIsSound, SoundMayStep, SoundIsSafe, MayGoOn, IsGoing, StepsMove, standing_failed, FailuresMove, RestoredIsBooted, NeverRefused, DrainsKeepBoot, DrainsMove, ShowsImage, StepsAct, IsActionFailed, FailuresAct, StepsComeNearer}
+use Rattle.thy_recover.specs.Laws.{NewIsSound, SoundMayStep, SoundIsSafe, MayGoOn, IsGoing, StepsMove, standing_failed, FailuresMove, RestoredIsBooted, NeverRefused, DrainsKeepBoot, DrainsMove, ShowsImage, StepsAct, failed_answer, FailuresAct, IsFilled, StepsFill, StepsComeNearer}
 use Rattle.thy_recover.proofs.DecodeLemmas.{newest-settled}
 use Rattle.thy_recover.proofs.RecoverLemmas.{HasRead-new}
 use Rattle.thy_recover.proofs.SoundLemmas.{load_moves, made_on, sound_at, kept_after, load_fails}
@@ -193,7 +194,7 @@ ReadOutcome o g n m d e =
     × CoreStep o (finding_view o.start.count g.kept) (did_of (answer_of d)) (seen_at o g.kept d.stage)
 
 module _ (o : Origin) (g : Checkpoints) (n : Device) (b : Booting) (c : State) (m : Device) (d : Booting) (e : State) (geometry : b.p ≡ o.geometry) where
-  read_outcome : IsRecovering g n b c → IsKeeping o (layout_of o) (reading_of o g n) → ReadsOn n b m d e → ReadOutcome o g n m d e
+  read_outcome : IsRecovering g n b c → IsKeeping o (layout_of o) (reading_of o g n) → ReadsOn n b c m d e → ReadOutcome o g n m d e
   read_outcome rec k r =
       let before_is : g.before ≡ m.image = rec.before_is ∙ ap (λ (x : Device). x.image) (sym r.device) in
       let same : d.p ≡ o.geometry = r.same_p ∙ geometry in
@@ -211,7 +212,7 @@ module _ (o : Origin) (g : Checkpoints) (n : Device) (b : Booting) (c : State) (
       )
 
   -- behind the boot nothing is read
-  over : (q : Stage) → b.stage ≡ q → boot_left b.p q ≡ 0 → ((bad : BadImage) → q ≢ Refusing bad) → ReadsOn n b m d e → ⊥
+  over : (q : Stage) → b.stage ≡ q → boot_left b.p q ≡ 0 → ((bad : BadImage) → q ≢ Refusing bad) → ReadsOn n b c m d e → ⊥
   over q is none other r = by_stage q other none (subst (λ (s : Stage). IsNearer b.p s d.stage) is r.nearer) where
     by_stage : (s : Stage) → ((bad : BadImage) → s ≢ Refusing bad) → boot_left b.p s ≡ 0 → IsNearer b.p s d.stage → ⊥
     by_stage (Refusing bad) other none near = other bad refl
@@ -485,19 +486,25 @@ load_failure o g n m issue k made failed framed =
 
 pub failures_move : FailuresMove
 failures_move o g n b c m sound going fails framed =
-    let r = by_stage b.stage sound.so_far sound.keeps going fails in
+    let r = by_stage b.stage refl sound.so_far sound.keeps going fails in
     record { move = r.0; safe = r.1 }
   where
-    by_stage : (q : Stage) → IsSoundAt o q g n b c → IsKeeping o (layout_of o) (standing_at o q g n) → IsGoing q → FailsBy (issue_at q) o.start b n m → Failure o g n q m
-    by_stage (Loading issue) at k going f =
-        load_failure o g n m issue k at.made (subst (λ (p : Parameters). FailsTo (issue_action p o.start issue) n m) sound.geometry f) framed
-    by_stage Unread at k going f = read_failure o g n m k f framed
-    by_stage (ReadsHeader epoch fault) at k going f = read_failure o g n m k f framed
-    by_stage (ReadsSlot epoch next) at k going f = read_failure o g n m k f framed
-    by_stage (Frames epoch page next) at k going f = read_failure o g n m k f framed
-    by_stage (Refusing bad) at k going f = read_failure o g n m k f framed
-    by_stage (Restored epoch) at k going f = absurd going
-    by_stage Loaded at k going f = absurd going
+    read_at : (q : Stage) (x : ℕ) → b.stage ≡ q → read_action b.p q ≡ ReadAt x → FailsTo (read_action b.p b.stage) n m → HasFailed n m
+    read_at q x is act f = subst (λ (a : Action). FailsTo a n m) (ap (read_action b.p) is ∙ act) f
+
+    by_stage : (q : Stage) → b.stage ≡ q → IsSoundAt o q g n b c → IsKeeping o (layout_of o) (standing_at o q g n) → IsGoing q
+        → FailsBy (issue_at q) o.start b n m → Failure o g n q m
+    by_stage (Loading issue) is there k going f =
+        load_failure o g n m issue k there.made (subst (λ (p : Parameters). FailsTo (issue_action p o.start issue) n m) sound.geometry f) framed
+    by_stage Unread is there k going f = read_failure o g n m k (read_at Unread 1 is refl f) framed
+    by_stage (ReadsHeader epoch fault) is there k going f = read_failure o g n m k (read_at (ReadsHeader epoch fault) 0 is refl f) framed
+    by_stage (ReadsSlot epoch next) is there k going f =
+        read_failure o g n m k (read_at (ReadsSlot epoch next) (slot_place b.p (epoch % 2) + next) is refl f) framed
+    by_stage (Frames epoch page next) is there k going f =
+        read_failure o g n m k (read_at (Frames epoch page next) (number_of b.p (AlternatePage page next)) is refl f) framed
+    by_stage (Refusing bad) is there k going f = absurd (subst (λ (s : Stage). FailsTo (read_action b.p s) n m) is f)
+    by_stage (Restored epoch) is there k going f = absurd going
+    by_stage Loaded is there k going f = absurd going
 
 -- ---- where it ends
 
@@ -713,19 +720,66 @@ steps_act s n b c m d e steps = by_issue (issue_at b.stage) steps where
     left = l.device;
   }
 
-load_failed : (p : Parameters) (s : Plain) (issue : Issue) (n m : Device) → FailsTo (issue_action p s issue) n m → IsActionFailed n m
-load_failed p s (Home b) n m f = record { answer = Reading; failed = record { action = issue_action p s (Home b); asked = tt; failed = f } }
-load_failed p s (Slot k) n m f = record { answer = Reading; failed = record { action = issue_action p s (Slot k); asked = tt; failed = f } }
-load_failed p s Header n m f = record { answer = Reading; failed = record { action = issue_action p s Header; asked = tt; failed = f } }
-load_failed p s Settle n m f = record { answer = Reading; failed = record { action = Barrier; asked = tt; failed = f } }
-load_failed p s Commit n m f = record { answer = Reading; failed = record { action = issue_action p s Commit; asked = tt; failed = f } }
-load_failed p s Confirm n m f = record { answer = HasLoaded; failed = record { action = Barrier; asked = refl; failed = f } }
+load_asks : (p : Parameters) (s : Plain) (issue : Issue) → Asks (did_of (failed_answer (Loading issue))) (issue_action p s issue)
+load_asks p s (Home b) = tt
+load_asks p s (Slot k) = tt
+load_asks p s Header = tt
+load_asks p s Settle = tt
+load_asks p s Commit = tt
+load_asks p s Confirm = refl
 
 pub failures_act : FailuresAct
-failures_act s b n m fails = by_issue (issue_at b.stage) fails where
-  by_issue : (o : Option Issue) → FailsBy o s b n m → IsActionFailed n m
-  by_issue None f = record { answer = Reading; failed = record { action = ReadAt 0; asked = tt; failed = f } }
-  by_issue (Some issue) f = load_failed b.p s issue n m f
+failures_act s b n m fails = by_stage b.stage refl fails where
+  read_at : (q : Stage) → b.stage ≡ q → FailsTo (read_action b.p b.stage) n m → FailsTo (read_action b.p q) n m
+  read_at q is f = subst (λ (x : Stage). FailsTo (read_action b.p x) n m) is f
+
+  by_stage : (q : Stage) → b.stage ≡ q → FailsBy (issue_at q) s b n m → ActionFailed (did_of (failed_answer q)) n m
+  by_stage (Loading issue) is f = record { action = issue_action b.p s issue; asked = load_asks b.p s issue; failed = f }
+  by_stage Unread is f = record { action = ReadAt 1; asked = tt; failed = read_at Unread is f }
+  by_stage (ReadsHeader epoch fault) is f = record { action = ReadAt 0; asked = tt; failed = read_at (ReadsHeader epoch fault) is f }
+  by_stage (ReadsSlot epoch next) is f =
+      record { action = ReadAt (slot_place b.p (epoch % 2) + next); asked = tt; failed = read_at (ReadsSlot epoch next) is f }
+  by_stage (Frames epoch page next) is f =
+      record { action = ReadAt (number_of b.p (AlternatePage page next)); asked = tt; failed = read_at (Frames epoch page next) is f }
+  by_stage (Refusing bad) is f = absurd (read_at (Refusing bad) is f)
+  by_stage (Restored epoch) is f = absurd (read_at (Restored epoch) is f)
+  by_stage Loaded is f = absurd (read_at Loaded is f)
+
+-- what is as it was has no write more
+same_fills : (c e : State) → e ≡ c → IsFilled c e
+same_fills c e h = subst (λ (x : State). IsFilled c x) (sym h) (record { room = refl; most = omega arith; counts = refl })
+
+-- a slot that was judged leaves all but the tables
+judged_fills : (z : Bool) (o : Option BadImage) (b : Booting) (c e : State) → JudgesUnless z o b c e → IsFilled c e
+judged_fills true o b c e h = same_fills c e h
+judged_fills false None b c e h = record {
+  room = ap (λ (x : State). x.dram.room) h.same;
+  most = subst (λ (x : ℕ). x ≤ c.dram.queued + 1) (sym (ap (λ (y : State). y.dram.queued) h.same)) (omega arith);
+  counts = ap (λ (x : State). x.counts) h.same;
+}
+judged_fills false (Some bad) b c e h = same_fills c e h
+
+frame_fills : (page next : ℕ) (c : State) (n : Device) → IsFilled c (with_frame page next c n)
+unfolding with_frame
+frame_fills page next c n = record { room = refl; most = omega arith; counts = refl }
+
+pub steps_fill : StepsFill
+steps_fill s n b c m d e steps = by_issue (issue_at b.stage) steps where
+  reads : (q : Stage) → Fills q n b c e → IsFilled c e
+  reads Unread f = same_fills c e f
+  reads (ReadsHeader epoch fault) f = same_fills c e f
+  reads (ReadsSlot epoch next) f =
+      let b1 : Booting = slot_read epoch next n b in
+      judged_fills (nat_lt (next + 1) (slot_blocks b1.p)) (slot_fault b1.p ceiling epoch (slot_of b1)) b1 c e f
+  reads (Frames epoch page next) f = subst (λ (x : State). IsFilled c x) (sym f) (frame_fills page next c n)
+  reads (Refusing bad) f = same_fills c e f
+  reads (Loading issue) f = same_fills c e f
+  reads (Restored epoch) f = same_fills c e f
+  reads Loaded f = same_fills c e f
+
+  by_issue : (o : Option Issue) → StepsBy o s n b c m d e → IsFilled c e
+  by_issue None r = reads b.stage r.control
+  by_issue (Some issue) l = same_fills c e l.control
 
 load_nearer : (p : Parameters) (issue : Issue) → IsIssue p issue → boot_left p (after_issue p issue) + 1 ≤ loads_left p issue
 load_nearer p (Home b) inside = by_more (nat_lt (b + 1) (memory_blocks p)) refl where
@@ -743,7 +797,7 @@ load_nearer p Confirm inside = omega arith
 
 pub steps_come_nearer : StepsComeNearer
 steps_come_nearer s n b c m d e boot steps other = by_stage b.stage refl boot.there steps other where
-  reads : (q : Stage) → b.stage ≡ q → ((next : Stage) → IsNearer b.p q next → boot_left b.p next < boot_left b.p q) → ReadsOn n b m d e
+  reads : (q : Stage) → b.stage ≡ q → ((next : Stage) → IsNearer b.p q next → boot_left b.p next < boot_left b.p q) → ReadsOn n b c m d e
       → boot_left b.p d.stage + 1 ≤ boot_left b.p q
   reads q is less r = let l = less d.stage (subst (λ (x : Stage). IsNearer b.p x d.stage) is r.nearer) in omega (arith, l)
 

@@ -23,8 +23,9 @@ use Rattle.thy_protocol.specs.Moves.{Standing, standing, Move}
 use Rattle.thy_protocol.specs.VersionOne.{version_one}
 use Rattle.thy_recover.specs.declared.stage.Stage.{Stage}
 use Rattle.thy_recover.specs.declared.stage.Stage.TheVariants.{Unread, Refusing, Loading, Restored, Loaded}
-use Rattle.thy_recover.specs.declared.stage.Issue.TheVariants.{Commit}
+use Rattle.thy_recover.specs.declared.stage.Issue.TheVariants.{Commit, Confirm}
 use Rattle.thy_recover.specs.declared.stage.BootStep.{BootStep}
+use Rattle.thy_recover.specs.declared.stage.BootStep.TheVariants.{Reading, Loading as IsLoading, Loaded as HasLoaded}
 use Rattle.thy_recover.specs.Boot.{Booting, IsBoot, new_boot, slot_of, answer_of}
 use Rattle.thy_recover.specs.Left.{boot_left}
 use Rattle.thy_recover.specs.Shows.{seen_at, did_of}
@@ -136,13 +137,28 @@ StepsAct =
     (s : Plain) (n : Device) (b : Booting) (c : State) (m : Device) (d : Booting) (e : State)
     → Steps s n b c m d e → Acts (did_of (answer_of d)) n m
 
--- so does one that failed
-pub record IsActionFailed (n m : Device) : Type 0 where
-  pub answer : BootStep
-  pub failed : ActionFailed (did_of answer) n m
+-- what a step that failed was to tell: that the program is loaded, where it was loading's last, else that the boot goes on
+abbrev pub failed_answer : Stage → BootStep
+failed_answer (Loading Confirm) = HasLoaded
+failed_answer (Loading issue) = IsLoading
+failed_answer stage = Reading
 
+-- it failed in its one action
 abbrev pub FailuresAct : Type 0
-FailuresAct = (s : Plain) (b : Booting) (n m : Device) → Fails s b n m → IsActionFailed n m
+FailuresAct =
+    (s : Plain) (b : Booting) (n m : Device)
+    → Fails s b n m → ActionFailed (did_of (failed_answer b.stage)) n m
+
+-- the controller's DRAM has one write more at most, and the counts of stores are as they were
+pub record IsFilled (c e : State) : Type 0 where
+  pub room : e.dram.room ≡ c.dram.room
+  pub most : e.dram.queued ≤ c.dram.queued + 1
+  pub counts : e.counts ≡ c.counts
+
+abbrev pub StepsFill : Type 0
+StepsFill =
+    (s : Plain) (n : Device) (b : Booting) (c : State) (m : Device) (d : Booting) (e : State)
+    → Steps s n b c m d e → IsFilled c e
 
 -- an action lowers how many are left by one at least
 abbrev pub StepsComeNearer : Type 0

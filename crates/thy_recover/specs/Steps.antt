@@ -1,13 +1,14 @@
 -- What a step makes of boot, controller and NVM.
 use Rattle.std.specs.Prelude.{◌≡◌, Option, Some, None, Result, OnOk, OnErr}
 use Rattle.thy_base.specs.declared.nvm.NvmError.{NvmError}
-use Rattle.thy_base.specs.Device.{Device, HasFailed, IsFramed, CountsFault}
+use Rattle.thy_base.specs.Device.{Device, IsFramed, CountsFault}
 use Rattle.thy_isa.specs.Step.{State as Plain}
 use Rattle.thy_control.specs.State.{State}
 use Rattle.thy_view.specs.Action.{after, FailsTo}
 use Rattle.thy_recover.specs.declared.stage.Issue.{Issue}
 use Rattle.thy_recover.specs.Boot.{Booting, at_stage, issue_at, answer_of}
 use Rattle.thy_recover.specs.Loads.{CanLoad, after_issue, issue_action}
+use Rattle.thy_recover.specs.Reads.{read_action, read_on, Fills}
 use Rattle.thy_recover.specs.Recovers.{CanRecover, HasRead, Tells, IsNearer}
 
 -- a boot that reads goes on from what it has read
@@ -24,10 +25,13 @@ CanStepBy None s n b c = CanRead n b c
 abbrev pub CanStep : Plain → Device → Booting → State → Type 0
 CanStep s n b c = CanStepBy (issue_at b.stage) s n b c
 
--- the NVM is as it was, and what was read is more, or the refusal; so far as it tells, that is what the image decodes to
-pub record ReadsOn (n : Device) (b : Booting) (m : Device) (d : Booting) (e : State) : Type 0 where
+-- the NVM is as it was, and one block more was read, or the refusal comes again; so far as it tells, that is what the image
+-- decodes to
+pub record ReadsOn (n : Device) (b : Booting) (c : State) (m : Device) (d : Booting) (e : State) : Type 0 where
   pub same_p : d.p ≡ b.p
   pub device : m ≡ n
+  pub boot : d ≡ read_on b.stage n b
+  pub control : Fills b.stage n b c e
   pub read : HasRead m d e
   pub tells : Tells (answer_of d) d.p m e
   pub nearer : IsNearer b.p b.stage d.stage
@@ -42,15 +46,15 @@ pub record LoadsOn (s : Plain) (issue : Issue) (n : Device) (b : Booting) (c : S
 -- a step that was taken
 abbrev pub StepsBy : Option Issue → Plain → Device → Booting → State → Device → Booting → State → Type 0
 StepsBy (Some issue) s n b c m d e = LoadsOn s issue n b c m d e
-StepsBy None s n b c m d e = ReadsOn n b m d e
+StepsBy None s n b c m d e = ReadsOn n b c m d e
 
 abbrev pub Steps : Plain → Device → Booting → State → Device → Booting → State → Type 0
 Steps s n b c m d e = StepsBy (issue_at b.stage) s n b c m d e
 
--- what one that failed leaves
+-- what one that failed leaves; a refusal that comes again does not fail
 abbrev pub FailsBy : Option Issue → Plain → Booting → Device → Device → Type 0
 FailsBy (Some issue) s b n m = FailsTo (issue_action b.p s issue) n m
-FailsBy None s b n m = HasFailed n m
+FailsBy None s b n m = FailsTo (read_action b.p b.stage) n m
 
 abbrev pub Fails : Plain → Booting → Device → Device → Type 0
 Fails s b n m = FailsBy (issue_at b.stage) s b n m

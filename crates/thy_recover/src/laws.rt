@@ -1,7 +1,7 @@
 //! Laws of the boot, each the contract of a function that does nothing.
 ghost use Rattle.thy_recover.specs.Laws.{NewIsSound, SoundMayStep, SoundIsSafe, MayGoOn, StepsMove, FailuresMove};
 ghost use Rattle.thy_recover.specs.Laws.{RestoredIsBooted, NeverRefused, DrainsKeepBoot, DrainsMove, ShowsImage};
-ghost use Rattle.thy_recover.specs.Laws.{StepsAct, FailuresAct, StepsComeNearer};
+ghost use Rattle.thy_recover.specs.Laws.{StepsAct, FailuresAct, StepsFill, StepsComeNearer};
 ghost use Rattle.thy_recover.specs.Left.{NewHasLeft};
 ghost use Rattle.thy_recover.specs.Recovers.{NewHasRead};
 
@@ -54,10 +54,15 @@ pub fn a_boot_shows_the_image()
     ensures { ShowsImage }
 {}
 
-/// A step acts once on the NVM, as what it tells asks for, also where it failed.
+/// A step acts once on the NVM, as what it tells asks for; one that failed did so in the one action of its stage.
 pub fn steps_act_once()
     ensures acts { StepsAct }
     ensures failed { FailuresAct }
+{}
+
+/// A step queues one write of the DRAM at most, and counts no store.
+pub fn steps_queue_one_write()
+    ensures { StepsFill }
 {}
 
 /// Each action leaves fewer, and a new boot has no more than this many.

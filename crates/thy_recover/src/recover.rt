@@ -1,6 +1,7 @@
 //! The steps of the recovery, and what each has read of the image.
 ghost use Rattle.std.specs.Prelude.{◌≡◌, OnOk, OnErr};
-ghost use Rattle.thy_recover.specs.Reads.{IsRead};
+ghost use Rattle.thy_recover.specs.Loads.{Takes};
+ghost use Rattle.thy_recover.specs.Reads.{read_action, read_on, Fills};
 ghost use Rattle.thy_recover.specs.Recovers.{HasRead, CanRecover, IsNearer};
 
 use crate::boot::Boot;
@@ -22,12 +23,14 @@ impl Boot {
     ) -> Result<(), NvmError>
         requires stage { CanRecover self.old.stage }
         requires read { HasRead (N.device nvm.old) self.old control.old }
+        ensures goes { OnOk result (self.new ≡ read_on self.old.stage (N.device nvm.old) self.old) }
+        ensures fills { OnOk result (Fills self.old.stage (N.device nvm.old) self.old control.old control.new) }
         ensures read { OnOk result (HasRead (N.device nvm.new) self.new control.new) }
         ensures fewer { OnOk result (IsNearer self.old.p self.old.stage self.new.stage) }
         ensures geometry { OnOk result (self.new.p ≡ self.old.p) }
         ensures boot { OnErr result (self.new ≡ self.old) }
         ensures control { OnErr result (control.new ≡ control.old) }
-        ensures nvm { IsRead result (N.device nvm.old) (N.device nvm.new) }
+        ensures nvm { Takes (read_action self.old.p self.old.stage) result (N.device nvm.old) (N.device nvm.new) }
     {
         match self.stage() {
             Stage::Unread => self.recover_commit(control, nvm),
@@ -44,11 +47,13 @@ impl Boot {
     fn recover_commit<N: Nvm>(&mut self, control: &Control, nvm: &mut N) -> Result<(), NvmError>
         requires stage { self.old.stage ≡ IsUnread }
         requires read { HasRead (N.device nvm.old) self.old control.now }
+        ensures goes { OnOk result (self.new ≡ read_on self.old.stage (N.device nvm.old) self.old) }
+        ensures fills { OnOk result (Fills self.old.stage (N.device nvm.old) self.old control.now control.now) }
         ensures read { OnOk result (HasRead (N.device nvm.new) self.new control.now) }
         ensures fewer { OnOk result (IsNearer self.old.p self.old.stage self.new.stage) }
         ensures geometry { OnOk result (self.new.p ≡ self.old.p) }
         ensures boot { OnErr result (self.new ≡ self.old) }
-        ensures nvm { IsRead result (N.device nvm.old) (N.device nvm.new) }
+        ensures nvm { Takes (read_action self.old.p self.old.stage) result (N.device nvm.old) (N.device nvm.new) }
     {
         let _control = control;
         self.read_commit(nvm)
@@ -64,11 +69,13 @@ impl Boot {
     ) -> Result<(), NvmError>
         requires stage { self.old.stage ≡ IsHeader epoch fault }
         requires read { HasRead (N.device nvm.old) self.old control.now }
+        ensures goes { OnOk result (self.new ≡ read_on self.old.stage (N.device nvm.old) self.old) }
+        ensures fills { OnOk result (Fills self.old.stage (N.device nvm.old) self.old control.now control.now) }
         ensures read { OnOk result (HasRead (N.device nvm.new) self.new control.now) }
         ensures fewer { OnOk result (IsNearer self.old.p self.old.stage self.new.stage) }
         ensures geometry { OnOk result (self.new.p ≡ self.old.p) }
         ensures boot { OnErr result (self.new ≡ self.old) }
-        ensures nvm { IsRead result (N.device nvm.old) (N.device nvm.new) }
+        ensures nvm { Takes (read_action self.old.p self.old.stage) result (N.device nvm.old) (N.device nvm.new) }
     {
         let _control = control;
         self.read_header(epoch, fault, nvm)
@@ -84,12 +91,14 @@ impl Boot {
     ) -> Result<(), NvmError>
         requires stage { self.old.stage ≡ IsSlot epoch next }
         requires read { HasRead (N.device nvm.old) self.old control.old }
+        ensures goes { OnOk result (self.new ≡ read_on self.old.stage (N.device nvm.old) self.old) }
+        ensures fills { OnOk result (Fills self.old.stage (N.device nvm.old) self.old control.old control.new) }
         ensures read { OnOk result (HasRead (N.device nvm.new) self.new control.new) }
         ensures fewer { OnOk result (IsNearer self.old.p self.old.stage self.new.stage) }
         ensures geometry { OnOk result (self.new.p ≡ self.old.p) }
         ensures boot { OnErr result (self.new ≡ self.old) }
         ensures control { OnErr result (control.new ≡ control.old) }
-        ensures nvm { IsRead result (N.device nvm.old) (N.device nvm.new) }
+        ensures nvm { Takes (read_action self.old.p self.old.stage) result (N.device nvm.old) (N.device nvm.new) }
     {
         loaded_frames_hold_all();
         checkpoints_have_tables();
@@ -112,12 +121,14 @@ impl Boot {
     ) -> Result<(), NvmError>
         requires stage { self.old.stage ≡ IsFrames epoch page next }
         requires read { HasRead (N.device nvm.old) self.old control.old }
+        ensures goes { OnOk result (self.new ≡ read_on self.old.stage (N.device nvm.old) self.old) }
+        ensures fills { OnOk result (Fills self.old.stage (N.device nvm.old) self.old control.old control.new) }
         ensures read { OnOk result (HasRead (N.device nvm.new) self.new control.new) }
         ensures fewer { OnOk result (IsNearer self.old.p self.old.stage self.new.stage) }
         ensures geometry { OnOk result (self.new.p ≡ self.old.p) }
         ensures boot { OnErr result (self.new ≡ self.old) }
         ensures control { OnErr result (control.new ≡ control.old) }
-        ensures nvm { IsRead result (N.device nvm.old) (N.device nvm.new) }
+        ensures nvm { Takes (read_action self.old.p self.old.stage) result (N.device nvm.old) (N.device nvm.new) }
     {
         loaded_frames_hold_all();
         checkpoints_have_tables();

@@ -23,7 +23,8 @@ impl Boot {
         requires { CanStep (state_of start.now.state) (N.device nvm.old) self.old control.old }
         ensures answer { IfOk result (λ answer. answer ≡ answer_of self.new) }
 
-        // A read leaves the NVM as it was, and what was read is what the image means; an action of loading is exact.
+        // A read leaves the NVM as it was; what its block makes of boot and controller is exact, and what was read is what
+        // the image means. An action of loading is exact.
         ensures step { let s = state_of start.now.state in
             TakesStep result s (N.device nvm.old) self.old control.old (N.device nvm.new) self.new control.new }
     {
