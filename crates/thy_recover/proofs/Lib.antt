@@ -8,5 +8,6 @@ pub mod NearerLemmas
 pub mod BlockLemmas
 pub mod StartLemmas
 pub mod WrittenLemmas
+pub mod RecordLemmas
 pub mod SoundLemmas
 pub mod StepLawLemmas

@@ -47,6 +47,7 @@ use Rattle.thy_recover.specs.Recovers.{IsFresh, loads}
 use Rattle.thy_recover.specs.Sound.{Checkpoints, layout_of, start_mark, standing_at, checkpoints_after, HasWrittenAll, HasStood, IsStartImage, IsMade, IsLoaded, IsSoundAt}
 use Rattle.thy_recover.specs.Start.{start_block, start_blocks, start_slot, no_tables}
 use Rattle.thy_recover.specs.Laws.{standing_failed}
+use Rattle.thy_recover.proofs.RecordLemmas.{start-recordable}
 use Rattle.thy_recover.proofs.DecodeLemmas.{newest-settled}
 use Rattle.thy_recover.proofs.RecoverLemmas.{live_in_tables}
 use Rattle.thy_recover.proofs.StartLemmas.{state_from-start}
@@ -210,6 +211,7 @@ module _ (o : Origin) (origin : IsOrigin o) (g : Checkpoints) (n : Device) (c : 
           holds = all_hold;
           state = made_state ∙ sym (at-start o);
           counted = ap (λ s. s.count) (at-start o);
+          recordable = start-recordable o origin;
         };
         tables = none_listed;
         memory = memory_is;

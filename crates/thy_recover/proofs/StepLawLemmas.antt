@@ -58,6 +58,7 @@ use Rattle.thy_recover.specs.Sound.{Checkpoints, layout_of, start_mark, sealed_b
 use Rattle.thy_recover.specs.Steps.{CanStepBy, CanRead, ReadsOn, LoadsOn, StepsBy, FailsBy}
 use Rattle.thy_recover.specs.Laws.{NewIsSound, SoundMayStep, SoundIsSafe, MayGoOn, IsGoing, StepsMove, standing_failed, FailuresMove, RestoredIsBooted, NeverRefused, DrainsKeepBoot, DrainsMove, ShowsImage, StepsAct, failed_answer, FailuresAct, IsFilled, StepsFill, StepsComeNearer}
 use Rattle.thy_recover.proofs.DecodeLemmas.{newest-settled}
+use Rattle.thy_recover.proofs.RecordLemmas.{restored-recordable}
 use Rattle.thy_recover.proofs.RecoverLemmas.{HasRead-new}
 use Rattle.thy_recover.proofs.SoundLemmas.{load_moves, made_on, sound_at, kept_after, load_fails}
 use Rattle.thy_recover.proofs.StartLemmas.{IsStartFor-origin}
@@ -509,24 +510,28 @@ failures_move o g n b c m sound going fails framed =
 -- ---- where it ends
 
 pub restored_is_booted : RestoredIsBooted
-restored_is_booted o g n b c epoch t sound is =
-    let at : IsRecovering g n b c = subst (λ (s : Stage). IsSoundAt o s g n b c) is sound.so_far in
+restored_is_booted o g n b c epoch origin t sound is =
+    let rec : IsRecovering g n b c = subst (λ (s : Stage). IsSoundAt o s g n b c) is sound.so_far in
     let k : IsKeeping o (layout_of o) (reading_of o g n) = subst (λ (s : Stage). IsKeeping o (layout_of o) (standing_at o s g n)) is sound.keeps in
-    let f : IsRestored b.p n epoch b.slot c = subst (λ (s : Stage). HasReadAt s n b.p b.slot c) is at.read.so_far in
-    let found = found-restored o g n b c at.before_is sound.geometry k.told at.read epoch f in
+    let f : IsRestored b.p n epoch b.slot c = subst (λ (s : Stage). HasReadAt s n b.p b.slot c) is rec.read.so_far in
+    let found = found-restored o g n b c rec.before_is sound.geometry k.told rec.read epoch f in
     let cpu : CpuState = cpu_of_record (slot_of b) in
     let told : IsToldBy b.p n.image epoch (tables0 c) = record {
       of_epoch = f.tables.head.commit.of_epoch;
       tables = ap (tables_in b.p) (sym f.tables.slot_is) ∙ sym f.tables.tables_are;
-      whole = subst (λ (p : Parameters). IsTables p (tables0 c)) at.read.same_p (AreTablesOf-committed c t).valid;
+      whole = subst (λ (p : Parameters). IsTables p (tables0 c)) rec.read.same_p (AreTablesOf-committed c t).valid;
     } in
     let told_mark : IsToldBy o.geometry g.before found.m.epoch (tables0 c)
     = subst (λ (p : Parameters). IsToldBy p g.before found.m.epoch (tables0 c)) sound.geometry
-    (subst (λ (h : List Block). IsToldBy b.p h found.m.epoch (tables0 c)) (sym at.before_is)
+    (subst (λ (h : List Block). IsToldBy b.p h found.m.epoch (tables0 c)) (sym rec.before_is)
     (subst (λ (x : ℕ). IsToldBy b.p n.image x (tables0 c)) (sym found.epoch_is) told)) in
     let header : header_fault (newest n 0) o.geometry true ≡ None
-    = ap (λ (x : Block). header_fault x o.geometry true) (newest-settled n 0 at.read.settled)
+    = ap (λ (x : Block). header_fault x o.geometry true) (newest-settled n 0 rec.read.settled)
     ∙ ap (λ (p : Parameters). header_fault (block_at n.image 0) p true) (sym sound.geometry) ∙ f.tables.head.header_fits in
+    let state : state_from o.geometry cpu (loads c n) ≡ at o found.m.count
+    = ap (λ (p : Parameters). state_from p cpu (loads c n)) (sym sound.geometry) ∙ found.state_is in
+    let fits : slot_fault o.geometry ceiling epoch (slot_of b) ≡ None
+    = ap (λ (p : Parameters). slot_fault p ceiling epoch (slot_of b)) (sym sound.geometry) ∙ f.tables.slot_fits in
     let keeps : Keeps o (layout_of o) n (Kept g.before) (Some found.m) None
     = subst (λ (x : Option Mark). Keeps o (layout_of o) n (Kept g.before) x (sealed_by o x)) found.kept_is k in (
       found.m,
@@ -534,13 +539,14 @@ restored_is_booted o g n b c epoch t sound is =
       found.epoch_is,
       keeps,
       record {
-        settled = at.read.settled;
+        settled = rec.read.settled;
         booting = f.tables.booting;
         told = told_mark;
         header = header;
         holds = f.holds;
-        state = ap (λ (p : Parameters). state_from p cpu (loads c n)) (sym sound.geometry) ∙ found.state_is;
+        state = state;
         counted = found.counted;
+        recordable = restored-recordable o found.m.count epoch (slot_of b) (loads c n) origin fits state;
       },
     )
 
@@ -658,6 +664,7 @@ dram_drained o g n b c sound = record {
       holds = at.over.holds;
       state = at.over.state;
       counted = at.over.counted;
+      recordable = at.over.recordable;
     };
     tables = at.tables;
     memory = at.memory;

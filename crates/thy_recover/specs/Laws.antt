@@ -97,7 +97,7 @@ FailuresMove =
 abbrev pub RestoredIsBooted : Type 0
 RestoredIsBooted =
     (o : Origin) (g : Checkpoints) (n : Device) (b : Booting) (c : State) (epoch : ℕ)
-    → AreSoundTables c → IsSound o g n b c → b.stage ≡ Restored epoch
+    → IsOrigin o → AreSoundTables c → IsSound o g n b c → b.stage ≡ Restored epoch
     → (m : Mark) × (g.kept ≡ Some m) × (m.epoch ≡ epoch) × Keeps o (layout_of o) n (Kept g.before) (Some m) None
     × IsBooted o m (cpu_of_record (slot_of b)) g.before n c
 

@@ -12,6 +12,7 @@ use Rattle.thy_isa.specs.declared.state.CpuState.{CpuState}
 use Rattle.thy_isa.specs.OnBlocks.{state_from}
 use Rattle.thy_isa.specs.Step.{cpu_of}
 use Rattle.thy_record.specs.Commit.{commit_of}
+use Rattle.thy_record.specs.Cpu.{IsRecordable}
 use Rattle.thy_record.specs.Header.{header_of, header_fault}
 use Rattle.thy_record.specs.Issuing.{IsToldBy}
 use Rattle.thy_control.specs.State.{State}
@@ -115,7 +116,7 @@ pub record IsLoading (o : Origin) (issue : Issue) (g : Checkpoints) (n : Device)
   pub stood : HasStood o issue n
 
 -- A boot that is over: the image of a mark is kept, the controller has its tables, memory as it loads it and this
--- processor make the state of the mark.
+-- processor make the state of the mark, and the next checkpoint's record can hold the processor.
 pub record IsBooted (o : Origin) (m : Mark) (cpu : CpuState) (image : List Block) (n : Device) (c : State) : Type 0 where
   pub settled : n.queue ≡ []
   pub booting : IsBooting c
@@ -124,6 +125,7 @@ pub record IsBooted (o : Origin) (m : Mark) (cpu : CpuState) (image : List Block
   pub holds : HoldAll c n
   pub state : state_from o.geometry cpu (loads c n) ≡ at o m.count
   pub counted : (at o m.count).count ≡ m.count
+  pub recordable : IsRecordable o.geometry ceiling cpu
 
 -- behind loading these are the start's, with tables that list nothing
 pub record IsLoaded (o : Origin) (g : Checkpoints) (n : Device) (c : State) : Type 0 where

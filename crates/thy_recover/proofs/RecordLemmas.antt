@@ -1,0 +1,103 @@
+-- The processor that a boot ends with can be recorded.
+use Rattle.std.proofs.Common.{◌≡◌, ℕ, ◌-◌, ◌^◌, ◌<◌, ◌≤◌, Bool, true, false, ◌&&◌, nat_lt, nat_le, if◌then◌else◌, List, length, slice_index, refl, sym, subst, inl, inr, arith, Option, Some, None}
+use Rattle.std.proofs.lemmas.Bool.{cases_lt, le-leb, leb-true, ltb-true}
+use Rattle.std.proofs.lemmas.List.{get_or_past}
+use Rattle.std.specs.Option.{option_or}
+use Rattle.thy_base.specs.declared.block.Block.{Block}
+use Rattle.thy_base.specs.declared.config.Parameters.{Parameters}
+use Rattle.thy_base.specs.Geometry.{program_size, console_room}
+use Rattle.thy_isa.specs.declared.state.CpuState.{CpuState}
+use Rattle.thy_isa.specs.declared.state.Status.{Status}
+use Rattle.thy_isa.specs.declared.state.Status.TheVariants.{Running, Exited, Trapped}
+use Rattle.thy_isa.specs.OnBlocks.{state_from}
+use Rattle.thy_isa.specs.Step.{cpu_of}
+use Rattle.thy_isa.specs.Storable.{IsStatus, IsStorable}
+use Rattle.thy_isa.proofs.StorableLaws.{steps-storable}
+use Rattle.thy_record.specs.declared.image.BadImage.{BadImage}
+use Rattle.thy_record.specs.declared.image.BadImage.TheVariants.{Status as BadStatus, ConsoleLength}
+use Rattle.thy_record.specs.Cpu.{status_tag, status_value, is_status, record_word, cpu_of_record, IsRecordable}
+use Rattle.thy_record.specs.Slots.{tables_in, epoch_fault, status_fault, slot_fault}
+use Rattle.thy_record.specs.TableFaults.{tables_fault}
+use Rattle.thy_view.specs.Origin.{Origin, IsOrigin, setting_of, at}
+use Rattle.thy_view.specs.Safe.{ceiling}
+
+-- every state of a run can be stored
+at-storable : (o : Origin) (k : ℕ) → IsOrigin o → IsStorable (program_size o.geometry) (at o k)
+unfolding at
+at-storable o k h = steps-storable (setting_of o) (program_size o.geometry) (k - o.start.count) o.start h.readable h.storable
+
+status_fits : (status : Status) → IsStatus status → is_status (status_tag status) (status_value status) ≡ true
+status_fits Running h = refl
+status_fits (Exited v) h = le-leb v 255 (omega arith)
+status_fits (Trapped v) h = le-leb v 7 (omega arith)
+
+-- what a slot without a fault asks of its record
+second : (a b : Option BadImage) → option_or a b ≡ None → b ≡ None
+second None b h = h
+second (Some bad) b h = cc
+
+asks : (status below room : Bool) → (if status && below then (if room then None else Some ConsoleLength) else Some BadStatus) ≡ None
+    → (below ≡ true) × (room ≡ true)
+asks true true true h = (refl, refl)
+asks true true false h = cc
+asks true false room h = cc
+asks false below room h = cc
+
+slot_asks : (p : Parameters) (epoch : ℕ) (slot : List Block) → slot_fault p ceiling epoch slot ≡ None
+    → (record_word slot 32 < ceiling) × (record_word slot 34 ≤ console_room p)
+unfolding slot_fault
+slot_asks p epoch slot h =
+    let fits : status_fault p ceiling slot ≡ None
+    = second (tables_fault p (tables_in p slot)) (status_fault p ceiling slot)
+    (second (epoch_fault epoch slot) (option_or (tables_fault p (tables_in p slot)) (status_fault p ceiling slot)) h) in
+    let both = asks (is_status (record_word slot 36) (record_word slot 37)) (nat_lt (record_word slot 32) ceiling)
+    (nat_le (record_word slot 34) (console_room p)) fits in
+    (ltb-true (record_word slot 32) ceiling both.0, leb-true (record_word slot 34) (console_room p) both.1)
+
+-- so its processor has a count and a console that fit
+pub slot_fits-cpu : (p : Parameters) (epoch : ℕ) (slot : List Block) → slot_fault p ceiling epoch slot ≡ None
+    → ((cpu_of_record slot).count < ceiling) × ((cpu_of_record slot).console_len ≤ console_room p)
+unfolding cpu_of_record
+slot_fits-cpu p epoch slot h = slot_asks p epoch slot h
+
+recordable_there : (p : Parameters) (cpu : CpuState) (memory : List Block) (size : ℕ) → IsStorable size (state_from p cpu memory)
+    → cpu.console_len ≤ console_room p → cpu.count < ceiling → IsRecordable p ceiling cpu
+unfolding state_from
+recordable_there p cpu memory size there console count = record {
+  pc = there.pc;
+  regs_length = there.registers;
+  regs_zero = there.zero_register;
+  regs = λ i. elim (cases_lt i (length cpu.regs)) as (λ _. slice_index cpu.regs i < 2 ^ 64) [
+    | inl l ↦ there.numbers i 0 l
+    | inr l ↦ let past : slice_index cpu.regs i ≡ 0 = get_or_past cpu.regs i 0 l in omega arith
+  ];
+  console = console;
+  cursor = there.cursor;
+  brk = there.brk;
+  floor = there.floor;
+  count = count;
+  status = status_fits cpu.status there.status;
+}
+
+-- one that makes a state of the run, and is that of such a slot
+pub restored-recordable : (o : Origin) (k epoch : ℕ) (slot memory : List Block) → IsOrigin o → slot_fault o.geometry ceiling epoch slot ≡ None
+    → state_from o.geometry (cpu_of_record slot) memory ≡ at o k → IsRecordable o.geometry ceiling (cpu_of_record slot)
+restored-recordable o k epoch slot memory origin fits is =
+    let fit = slot_fits-cpu o.geometry epoch slot fits in
+    recordable_there o.geometry (cpu_of_record slot) memory (program_size o.geometry)
+    (subst (IsStorable (program_size o.geometry)) (sym is) (at-storable o k origin)) fit.1 fit.0
+
+-- and that of the start
+pub start-recordable : (o : Origin) → IsOrigin o → IsRecordable o.geometry ceiling (cpu_of o.start)
+start-recordable o origin = record {
+  pc = origin.recordable.pc;
+  regs_length = origin.recordable.regs_length;
+  regs_zero = origin.recordable.regs_zero;
+  regs = origin.recordable.regs;
+  console = origin.recordable.console;
+  cursor = origin.recordable.cursor;
+  brk = origin.recordable.brk;
+  floor = origin.recordable.floor;
+  count = let l = origin.recordable.count in omega (arith, l);
+  status = origin.recordable.status;
+}
