@@ -683,13 +683,24 @@ drains_keep_boot o g n b c sound = (nvm_drained o g n b c sound, dram_drained o 
 -- ---- what is seen
 
 pub shows_image : ShowsImage
-shows_image o g n b c sound is =
-    let at : IsRecovering g n b c = subst (λ (s : Stage). IsSoundAt o s g n b c) is sound.so_far in
-    let k : IsKeeping o (layout_of o) (reading_of o g n) = subst (λ (s : Stage). IsKeeping o (layout_of o) (standing_at o s g n)) is sound.keeps in
-    ap (seen_at o g.kept) is
-    ∙ sym (finding_view-told o (layout_of o) g.before g.kept o.start.count k.told)
-    ∙ ap (λ (h : List Block). view_of_image o.start.count (decode_by (layout_of o) h)) at.before_is
-    ∙ ap (view_of_image o.start.count) (decode_by-version_one o.geometry ceiling n.image)
+shows_image o g n b c sound can = by_stage b.stage can sound.so_far sound.keeps where
+  reads : IsRecovering g n b c → IsKeeping o (layout_of o) (reading_of o g n)
+      → finding_view o.start.count g.kept ≡ view_of_image o.start.count (decode_image o.geometry ceiling n.image)
+  reads rec k =
+      sym (finding_view-told o (layout_of o) g.before g.kept o.start.count k.told)
+      ∙ ap (λ (h : List Block). view_of_image o.start.count (decode_by (layout_of o) h)) rec.before_is
+      ∙ ap (view_of_image o.start.count) (decode_by-version_one o.geometry ceiling n.image)
+
+  by_stage : (q : Stage) → CanRecover q → IsSoundAt o q g n b c → IsKeeping o (layout_of o) (standing_at o q g n)
+      → seen_at o g.kept q ≡ view_of_image o.start.count (decode_image o.geometry ceiling n.image)
+  by_stage Unread can rec k = reads rec k
+  by_stage (ReadsHeader epoch fault) can rec k = reads rec k
+  by_stage (ReadsSlot epoch next) can rec k = reads rec k
+  by_stage (Frames epoch page next) can rec k = reads rec k
+  by_stage (Refusing bad) can rec k = reads rec k
+  by_stage (Loading issue) can rec k = absurd can
+  by_stage (Restored epoch) can rec k = absurd can
+  by_stage Loaded can rec k = absurd can
 
 -- ---- actions
 

@@ -22,12 +22,13 @@ use Rattle.thy_protocol.specs.Layout.{reading}
 use Rattle.thy_protocol.specs.Moves.{Standing, standing, Move}
 use Rattle.thy_protocol.specs.VersionOne.{version_one}
 use Rattle.thy_recover.specs.declared.stage.Stage.{Stage}
-use Rattle.thy_recover.specs.declared.stage.Stage.TheVariants.{Unread, Refusing, Loading, Restored, Loaded}
+use Rattle.thy_recover.specs.declared.stage.Stage.TheVariants.{Refusing, Loading, Restored, Loaded}
 use Rattle.thy_recover.specs.declared.stage.Issue.TheVariants.{Commit, Confirm}
 use Rattle.thy_recover.specs.declared.stage.BootStep.{BootStep}
 use Rattle.thy_recover.specs.declared.stage.BootStep.TheVariants.{Reading, Loading as IsLoading, Loaded as HasLoaded}
 use Rattle.thy_recover.specs.Boot.{Booting, IsBoot, new_boot, slot_of, answer_of}
 use Rattle.thy_recover.specs.Left.{boot_left}
+use Rattle.thy_recover.specs.Recovers.{CanRecover}
 use Rattle.thy_recover.specs.Shows.{seen_at, did_of}
 use Rattle.thy_recover.specs.Sound.{Checkpoints, layout_of, start_mark, standing_at, checkpoints_after, IsBooted, IsSound}
 use Rattle.thy_recover.specs.Start.{IsStartFor}
@@ -122,11 +123,11 @@ DrainsMove =
 
 -- ---- what is seen
 
--- a boot that was begun shows what the image means
+-- a boot that reads shows what the image means
 abbrev pub ShowsImage : Type 0
 ShowsImage =
     (o : Origin) (g : Checkpoints) (n : Device) (b : Booting) (c : State)
-    → IsSound o g n b c → b.stage ≡ Unread
+    → IsSound o g n b c → CanRecover b.stage
     → seen_at o g.kept b.stage ≡ view_of_image o.start.count (decode_image o.geometry ceiling n.image)
 
 -- ---- actions

@@ -1,5 +1,5 @@
 -- How many actions a boot has left, at most.
-use Rattle.std.specs.Prelude.{ℕ, ◌+◌, ◌*◌, ◌-◌, ◌≤◌}
+use Rattle.std.specs.Prelude.{ℕ, ◌+◌, ◌*◌, ◌-◌, max}
 use Rattle.thy_base.specs.declared.config.Parameters.{Parameters}
 use Rattle.thy_base.specs.Geometry.{memory_blocks}
 use Rattle.thy_base.specs.Places.{slot_blocks}
@@ -17,15 +17,12 @@ loads_left p Settle = 3
 loads_left p Commit = 2
 loads_left p Confirm = 1
 
--- how many actions the boot has left
+-- how many actions the boot has left, at most: a new one reads the commit block, and then it loads, or reads the header,
+-- the slot and the frames of as many pages as the table can list
 abbrev pub boot_left : Parameters → Stage → ℕ
-boot_left p Unread = memory_blocks p + 2 * slot_blocks p + 64 * p.ptt + 8
+boot_left p Unread = 1 + max (loads_left p (Home 0)) (1 + slot_blocks p + 64 * p.ptt)
 boot_left p (Header epoch fault) = 1 + slot_blocks p + 64 * p.ptt
 boot_left p (Slot epoch next) = slot_blocks p - next + 64 * p.ptt
 boot_left p (Frames epoch page next) = 64 * (p.ptt - page) - next
 boot_left p (Loading issue) = loads_left p issue
 boot_left p _ = 0
-
--- a new boot has at most so many
-abbrev pub NewHasLeft : Type 0
-NewHasLeft = (p : Parameters) → boot_left p Unread ≤ 64 * p.pages + 2 * slot_blocks p + 64 * p.ptt + 8

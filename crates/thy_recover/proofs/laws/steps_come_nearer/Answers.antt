@@ -1,5 +1,5 @@
 use Rattle.thy_recover.proofs.StepLawLemmas.{steps_come_nearer}
 use Rattle.thy_recover.proofs.laws.steps_come_nearer.Goals as goal
 
-pub returns-clause-nearer : goal.returns-clause-nearer
-returns-clause-nearer c = steps_come_nearer
+pub returns : goal.returns
+returns c = steps_come_nearer
