@@ -16,7 +16,6 @@ pub mod NearLaws
 pub mod LawfulLaws
 pub mod FailRows
 pub mod BootRow
-pub mod RecordLemmas
 pub mod SealRow
 pub mod EngineRow
 pub mod BootingLaws

@@ -35,7 +35,7 @@ use Rattle.thy_core.specs.Sound.{OpenNow, epochs_ahead, IsFresh, StartsFresh, Is
 use Rattle.thy_core.proofs.CacheLemmas.{none_for_flush}
 use Rattle.thy_core.proofs.EpochLemmas.{few-moves}
 use Rattle.thy_core.proofs.KeepsLaws.{run_of, view_run, runs_behind, none_for, leads_on}
-use Rattle.thy_core.proofs.RecordLemmas.{at-storable, state-recordable, state-console}
+use Rattle.thy_scheme.proofs.RecordLemmas.{at-storable, state-recordable, state-console}
 use Rattle.thy_core.proofs.SealingLaws.{IsOver, over_at}
 
 -- ---- a hart whose next epoch begins is where it was

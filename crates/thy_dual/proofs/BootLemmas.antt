@@ -85,7 +85,7 @@ module _ (o : Origin) (g : Checkpoints) (n : Device) (b : Booting) (c : State) w
   shown-loading Confirm none = inr (none, inr refl)
 
   -- a run that loads began without a checkpoint
-  loads-first : (issue : Issue) → TellsAll o (layout_of o) (saved_at issue g) None (Some (start_mark o)) → o.kept ≡ None
+  pub loads-first : (issue : Issue) → TellsAll o (layout_of o) (saved_at issue g) None (Some (start_mark o)) → o.kept ≡ None
   loads-first (Home k) told = told.1
   loads-first (Slot k) told = told.1
   loads-first Header told = told.1

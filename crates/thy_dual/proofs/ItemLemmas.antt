@@ -49,7 +49,7 @@ pub record IsWrite (old new : Devices) : Type 0 where
   pub header : 0 < length old.nvm.image → newest new.nvm 0 ≡ newest old.nvm 0
   pub queue : length new.nvm.queue + new.dram.queued ≤ length old.nvm.queue + old.dram.queued + 1
 
-queue-written : (n : Device) (at : ℕ) (block : Block) → length (written_to n at block).queue ≤ length n.queue + 1
+pub queue-written : (n : Device) (at : ℕ) (block : Block) → length (written_to n at block).queue ≤ length n.queue + 1
 queue-written n at block = simp (length-append, length-drop) (omega arith)
 
 pub IsWrite-nvm : (n : Device) (at : ℕ) (block : Block) (d : Devices) → d.nvm ≡ n → at ≢ 0 → IsWrite d (record d { nvm = written_to d.nvm at block })

@@ -12,3 +12,5 @@ pub mod EngineLemmas
 pub mod BootedLemmas
 pub mod BootLemmas
 pub mod StoreLemmas
+pub mod RestoredLemmas
+pub mod BootStepLemmas

@@ -1,6 +1,7 @@
 -- The boot of a run, and what is seen of it.
-use Rattle.std.specs.Prelude.{◌≡◌, true, false, Bool}
+use Rattle.std.specs.Prelude.{◌≡◌, true, false, Bool, Result, Ok, Err}
 use Rattle.thy_base.specs.declared.config.Parameters.{Parameters}
+use Rattle.thy_base.specs.declared.nvm.NvmError.{NvmError}
 use Rattle.thy_base.specs.Device.{Device}
 use Rattle.thy_base.specs.Geometry.{IsInRange}
 use Rattle.thy_dram.specs.Contents.{Contents}
@@ -13,12 +14,16 @@ use Rattle.thy_view.specs.Safe.{ceiling}
 use Rattle.thy_control.specs.State.{AreSoundTables, new_state}
 use Rattle.thy_commit.specs.Items.{is_under_way}
 use Rattle.thy_commit.specs.Progress.{IsSoundProgress}
+use Rattle.thy_recover.specs.declared.stage.BootStep.{BootStep}
+use Rattle.thy_recover.specs.declared.stage.BootStep.TheVariants.{Reading, Loading as IsLoading, Loaded as HasLoaded, Restarted, Refused}
 use Rattle.thy_recover.specs.declared.stage.Stage.{Stage}
 use Rattle.thy_recover.specs.declared.stage.Stage.TheVariants.{Unread, Loading}
 use Rattle.thy_recover.specs.Boot.{IsBoot, new_boot}
 use Rattle.thy_recover.specs.Laws.{IsGoing}
 use Rattle.thy_recover.specs.Shows.{is_written}
 use Rattle.thy_recover.specs.Sound.{Checkpoints, IsSound as IsBootOf}
+use Rattle.thy_scheme.specs.declared.boot_step.BootStep.{BootStep as SchemeStep}
+use Rattle.thy_scheme.specs.declared.boot_step.BootStep.TheVariants.{GoesOn, Loaded as SchemeLoaded, Restarted as SchemeRestarted, Refused as SchemeRefused}
 use Rattle.thy_dual.specs.Booted.{IsUnused}
 use Rattle.thy_dual.specs.Dual.{Dual}
 
@@ -48,6 +53,18 @@ has_read_at stage = true
 abbrev pub loads_at : Stage → Bool
 loads_at (Loading issue) = true
 loads_at stage = false
+
+-- what a step of the boot tells, as a scheme tells it
+abbrev pub step_of : BootStep → SchemeStep
+step_of Reading = GoesOn
+step_of IsLoading = GoesOn
+step_of HasLoaded = SchemeLoaded
+step_of (Restarted cpu epoch) = SchemeRestarted cpu epoch
+step_of (Refused bad) = SchemeRefused bad
+
+abbrev pub told_as : Result BootStep NvmError → Result SchemeStep NvmError
+told_as (Ok step) = Ok (step_of step)
+told_as (Err e) = Err e
 
 -- power has just come on
 pub record IsPowered (p : Parameters) (s : Dual) : Type 0 where

@@ -3,13 +3,13 @@ ghost use Rattle.std.specs.Prelude.{◌≡◌, ◌&&◌, ◌<◌, true, false, l
 ghost use Rattle.thy_base.specs.Device.{Device, HasFailed, IsFramed, CountsFault, block_at};
 ghost use Rattle.thy_base.specs.Store.{IsKeptByLoad, HasStored};
 ghost use Rattle.thy_view.specs.Kind.{IsDramOf};
-ghost use Rattle.thy_view.specs.Origin.{Origin};
+ghost use Rattle.thy_view.specs.Origin.{Origin, Begins};
 ghost use Rattle.thy_view.specs.Views.{loads};
 ghost use Rattle.thy_scheme.specs.Marks.{Marks};
-ghost use Rattle.thy_scheme.specs.Scheme.{Stands, CanRun, IsBooting};
+ghost use Rattle.thy_scheme.specs.Scheme.{Stands, CanRun, IsBooting, CanBoot};
 ghost use Rattle.thy_scheme.specs.Calls.{IsOneAccess, Merges, Promotes, PromotionFails, Drains, Seals, Engines, EngineFails};
-ghost use Rattle.thy_scheme.specs.Boots.{BootDrains};
-ghost use Rattle.thy_dual.specs.Boots.{loads_at};
+ghost use Rattle.thy_scheme.specs.Boots.{BootsOn, BootFails, BootDrains};
+ghost use Rattle.thy_dual.specs.Boots.{loads_at, step_of, told_as};
 ghost use Rattle.thy_dual.specs.Scheme.{dual_scheme};
 
 use std::alloc::{AllocError, Global};
@@ -19,8 +19,9 @@ use thy_commit::{Engine, items_are_moves, items_keep_the_store, items_move_versi
 use thy_control::{Control, blocks_are_works};
 use thy_dram::Dram;
 use thy_isa::CpuState;
-use thy_record::EngineStep;
-use thy_recover::{Boot, Stage};
+use thy_record::{EngineStep, Start};
+use thy_recover::{Boot, BootStep as Recovered, Stage};
+use thy_scheme::BootStep;
 
 /// The scheme of both tables: its controller keeps two checkpoints of all blocks beside the work, and its engine writes
 /// the next one into the NVM while the hart runs.
@@ -57,6 +58,28 @@ fn is_loading(stage: Stage) -> bool
         | Stage::Refusing(_)
         | Stage::Restored(_)
         | Stage::Loaded => false,
+    }
+}
+
+/// What a step of the boot tells, as a scheme tells it.
+fn tell(step: Recovered) -> BootStep
+    ensures { result ≡ step_of step }
+{
+    match step {
+        Recovered::Reading | Recovered::Loading => BootStep::GoesOn,
+        Recovered::Loaded => BootStep::Loaded,
+        Recovered::Restarted(cpu, epoch) => BootStep::Restarted(cpu, epoch),
+        Recovered::Refused(bad) => BootStep::Refused(bad),
+    }
+}
+
+/// So where the NVM may have failed.
+fn tell_all(told: Result<Recovered, NvmError>) -> Result<BootStep, NvmError>
+    ensures { result ≡ told_as told }
+{
+    match told {
+        Ok(step) => Ok(tell(step)),
+        Err(error) => Err(error),
     }
 }
 
@@ -250,6 +273,22 @@ impl DualScheme {
         let result = self.engine.step(&mut self.control, nvm);
         self.control.tables();
         result
+    }
+
+    /// Takes one action of the boot.
+    pub fn boot_step<N: Nvm>(&mut self, start: &Start, nvm: &mut N) -> Result<BootStep, NvmError>
+        requires boots { CanBoot dual_scheme start.now self.old (N.device nvm.old) }
+        ensures ok { (o : Origin) → Begins o start.now → IsBooting dual_scheme o self.old (N.device nvm.old)
+            → IfOk result (λ step. BootsOn dual_scheme o step self.old (N.device nvm.old) self.new (N.device nvm.new)) }
+        ensures err { (o : Origin) → Begins o start.now → IsBooting dual_scheme o self.old (N.device nvm.old)
+            → OnErr result (BootFails dual_scheme o self.old (N.device nvm.old) (N.device nvm.new)) }
+        ensures frame { IsFramed (N.device nvm.old) (N.device nvm.new) }
+        ensures cause { CountsFault result (N.device nvm.old).faults (N.device nvm.new).faults }
+    {
+        let result = self.boot.step(&mut self.control, start, nvm);
+        self.boot.fits();
+        self.control.tables();
+        tell_all(result)
     }
 
     /// Whether the boot has found that there is no checkpoint.
