@@ -1,0 +1,25 @@
+use Rattle.std.proofs.Common.{◌≡◌, true, sym, subst}
+use Rattle.thy_base.specs.Device.{Device}
+use Rattle.thy_scheme.specs.Scheme.{Stands}
+use Rattle.thy_dual_model.specs.Dual.{Dual, is_promoting}
+use Rattle.thy_dual_model.specs.Scheme.{dual_scheme}
+use Rattle.thy_commit.proofs.FitLemmas.{stays_fit}
+use Rattle.thy_scheme.specs.Calls.{Promotes}
+use Rattle.thy_dual_model.proofs.CallLemmas.{promotes}
+use Rattle.thy_dual.proofs.dual.DualSchemeScheme.promote_one.Goals as goal
+
+pub invariant_of-self-2 : goal.invariant_of-self-2
+invariant_of-self-2 g c =
+    stays_fit c.self.inside.engine c.self.inside.control (g.N.Nvm.device c.args.nvm.now) c.promote_one.new.self (g.N.Nvm.device c.promote_one.new.nvm)
+    c.tables.ensures c.self.invariant c.promote_one.ensures.stays
+
+pub returns-clause-ok : goal.returns-clause-ok
+returns-clause-ok g c = λ o k stands.
+    let v : Dual = record { control = c.self.inside.control; engine = c.self.inside.engine; rested = c.self.inside.rested; lean = c.self.inside.lean; boot = c.self.inside.boot } in
+    let n : Device = g.N.Nvm.device c.args.nvm.now in
+    let new : Device = g.N.Nvm.device c.promote_one.new.nvm in
+    let stands_v : Stands dual_scheme o k v n = subst (λ (s : Dual). Stands dual_scheme o k s n) (sym c.self.view_is) stands in
+    let some : is_promoting v.control ≡ true = subst (λ (s : Dual). is_promoting s.control ≡ true) (sym c.self.view_is) c.requires.promoting in
+    let p = c.in_ok-promote_one.ensures in
+    subst (λ (s : Dual). Promotes dual_scheme o k s n (record v { control = c.promote_one.new.self }) new) c.self.view_is
+    (promotes o k v n c.promote_one.new.self new stands_v some p.left p.held p.state p.same p.stays c.tables.ensures)

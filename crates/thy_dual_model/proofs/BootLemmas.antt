@@ -1,0 +1,345 @@
+-- What holds in the boot.
+use Rattle.std.proofs.Common.{◌≡◌, ◌≢◌, ◌&&◌, ℕ, ◌-◌, ◌*◌, ◌<◌, ◌≤◌, [], ◌∷◌, suc, true, false, List, length, refl, sym, ◌∙◌, ap, subst, inl, inr, arith, Option, Some, None}
+use Rattle.std.proofs.lemmas.List.{get_or-replicate, length-replicate}
+use Rattle.thy_base.specs.declared.block.Block.{Block}
+use Rattle.thy_base.specs.declared.config.Parameters.{Parameters}
+use Rattle.thy_base.specs.declared.mark.Mark.{Mark}
+use Rattle.thy_base.specs.Device.{Device, block_at, zero_block, fitted, drained}
+use Rattle.thy_base.specs.Marks.{mark}
+use Rattle.thy_base.specs.Places.{slot_blocks, image_blocks}
+use Rattle.thy_record.specs.Commit.{is_zero}
+use Rattle.thy_record.specs.Decoded.{Decoded, Nothing, Refused, At}
+use Rattle.thy_record.specs.Images.{decode_image}
+use Rattle.thy_record.proofs.ReadBackLemmas.{is_zero-zero_block}
+use Rattle.thy_control.specs.Drains.{after_drain}
+use Rattle.thy_control.proofs.DrainLemmas.{takes_one}
+use Rattle.thy_isa.specs.Step.{State as Plain}
+use Rattle.thy_control.specs.State.{State, AreSoundTables}
+use Rattle.thy_protocol.specs.Keeps.{Tells, TellsAll, finding_view}
+use Rattle.thy_protocol.specs.Layout.{reading}
+use Rattle.thy_protocol.specs.Moves.{IsKeeping}
+use Rattle.thy_protocol.proofs.KeepsLemmas.{finding_view-told}
+use Rattle.thy_protocol.proofs.VersionOneLemmas.{decode_by-version_one}
+use Rattle.thy_base.specs.Places.{dram_blocks}
+use Rattle.thy_dram.specs.Contents.{Contents, lost}
+use Rattle.thy_dram.specs.Draws.{blocks_over, after_block}
+use Rattle.thy_view.specs.Kind.{IsDramOf}
+use Rattle.thy_view.specs.declared.view.View.{View}
+use Rattle.thy_view.specs.Booting.{loading_view, view_of_image}
+use Rattle.thy_view.specs.Origin.{Origin, IsOrigin}
+use Rattle.thy_view.specs.Safe.{ceiling, Safe}
+use Rattle.thy_view.specs.Views.{doubt_of, loads}
+use Rattle.thy_recover.specs.declared.stage.Stage.{Stage}
+use Rattle.thy_recover.specs.declared.stage.Stage.TheVariants.{Unread, Header as ReadsHeader, Slot as ReadsSlot, Frames, Refusing, Loading, Restored, Loaded}
+use Rattle.thy_recover.specs.declared.stage.Issue.{Issue}
+use Rattle.thy_recover.specs.declared.stage.Issue.TheVariants.{Home, Slot, Header, Settle, Commit, Confirm}
+use Rattle.thy_recover.specs.Boot.{Booting, IsBoot, new_boot}
+use Rattle.thy_recover.specs.Left.{boot_left}
+use Rattle.thy_recover.specs.Laws.{IsGoing}
+use Rattle.thy_recover.specs.Shows.{is_written, seen_at}
+use Rattle.thy_recover.specs.Sound.{Checkpoints, layout_of, start_mark, saved_at, standing_at, IsRecovering, IsSoundAt, IsSound as IsBootOf}
+use Rattle.thy_recover.proofs.DecodeLemmas.{decode-zero}
+use Rattle.thy_recover.proofs.StepLawLemmas.{sound_is_safe, drains_keep_boot, new_is_sound, never_refused}
+use Rattle.thy_recover.specs.Recovers.{HasReadAt}
+use Rattle.thy_record.specs.declared.image.BadImage.{BadImage}
+use Rattle.thy_protocol.proofs.LayoutLemmas.{decode_by-nothing_back}
+use Rattle.thy_scheme.specs.Boots.{IsBootView, BootStays, BootDrains}
+use Rattle.thy_scheme.specs.Laws.{IsOwn, IsFound, BootsFound, BootHolds}
+use Rattle.thy_dual_model.specs.Boots.{Boots, IsPowered, view_at, has_read_at, loads_at}
+use Rattle.thy_dual_model.specs.Dual.{Dual}
+use Rattle.thy_dual_model.specs.Laws.{BootIsSound, PowerFinds, PowerIsNew, ZerosAreNothing}
+use Rattle.thy_dual_model.specs.Scheme.{dual_scheme}
+use Rattle.thy_dual_model.proofs.SafeLemmas.{Safe-read}
+
+-- ---- what is seen
+
+module _ (o : Origin) (g : Checkpoints) (n : Device) (b : Booting) (c : State) where
+  -- while it reads, what the image means is the mark that is kept
+  view-reading : IsRecovering g n b c → Tells o (layout_of o) g.before g.kept
+      → view_of_image o.start.count (decode_image o.geometry ceiling n.image) ≡ finding_view o.start.count g.kept
+  view-reading reading tells =
+      ap (λ (x : List Block). view_of_image o.start.count (decode_image o.geometry ceiling x)) (sym reading.before_is)
+      ∙ ap (view_of_image o.start.count) (sym (decode_by-version_one o.geometry ceiling g.before))
+      ∙ finding_view-told o (layout_of o) g.before g.kept o.start.count tells
+
+  view-at : (q : Stage) → IsGoing q → IsKeeping o (layout_of o) (standing_at o q g n) → IsSoundAt o q g n b c → view_at o q n ≡ seen_at o g.kept q
+  view-at Unread going keeps far = view-reading far keeps.told
+  view-at (ReadsHeader epoch fault) going keeps far = view-reading far keeps.told
+  view-at (ReadsSlot epoch next) going keeps far = view-reading far keeps.told
+  view-at (Frames epoch page next) going keeps far = view-reading far keeps.told
+  view-at (Refusing bad) going keeps far = view-reading far keeps.told
+  view-at (Loading issue) going keeps far = refl
+  view-at (Restored epoch) going keeps far = absurd going
+  view-at Loaded going keeps far = absurd going
+
+  shown-finding : (kept : Option Mark) → Tells o (layout_of o) g.before kept → IsBootView o (finding_view o.start.count kept)
+  shown-finding None tells = inr (tells.1, inl refl)
+  shown-finding (Some m) tells = inl (m, refl)
+
+  shown-loading : (issue : Issue) → o.kept ≡ None → IsBootView o (record (loading_view o.start.count) { written = is_written issue })
+  shown-loading (Home k) none = inr (none, inl refl)
+  shown-loading (Slot k) none = inr (none, inl refl)
+  shown-loading Header none = inr (none, inl refl)
+  shown-loading Settle none = inr (none, inl refl)
+  shown-loading Commit none = inr (none, inl refl)
+  shown-loading Confirm none = inr (none, inr refl)
+
+  -- a run that loads began without a checkpoint
+  pub loads-first : (issue : Issue) → TellsAll o (layout_of o) (saved_at issue g) None (Some (start_mark o)) → o.kept ≡ None
+  loads-first (Home k) told = told.1
+  loads-first (Slot k) told = told.1
+  loads-first Header told = told.1
+  loads-first Settle told = told.1
+  loads-first Commit told = told.0.1
+  loads-first Confirm told = told.0.1
+
+  shown-at : (q : Stage) → IsGoing q → IsKeeping o (layout_of o) (standing_at o q g n) → IsBootView o (seen_at o g.kept q)
+  shown-at Unread going keeps = shown-finding g.kept keeps.told
+  shown-at (ReadsHeader epoch fault) going keeps = shown-finding g.kept keeps.told
+  shown-at (ReadsSlot epoch next) going keeps = shown-finding g.kept keeps.told
+  shown-at (Frames epoch page next) going keeps = shown-finding g.kept keeps.told
+  shown-at (Refusing bad) going keeps = shown-finding g.kept keeps.told
+  shown-at (Loading issue) going keeps = shown-loading issue (loads-first issue keeps.told)
+  shown-at (Restored epoch) going keeps = absurd going
+  shown-at Loaded going keeps = absurd going
+
+  sized-at : (q : Stage) → IsGoing q → IsKeeping o (layout_of o) (standing_at o q g n) → length n.image ≡ image_blocks o.geometry
+  sized-at Unread going keeps = keeps.sized
+  sized-at (ReadsHeader epoch fault) going keeps = keeps.sized
+  sized-at (ReadsSlot epoch next) going keeps = keeps.sized
+  sized-at (Frames epoch page next) going keeps = keeps.sized
+  sized-at (Refusing bad) going keeps = keeps.sized
+  sized-at (Loading issue) going keeps = keeps.sized
+  sized-at (Restored epoch) going keeps = absurd going
+  sized-at Loaded going keeps = absurd going
+
+-- the view of a boot
+pub view-is : (o : Origin) (s : Dual) (n : Device) (boots : Boots o s n) → view_at o s.boot.stage n ≡ seen_at o boots.images.kept s.boot.stage
+view-is o s n boots = view-at o boots.images n s.boot s.control s.boot.stage boots.going boots.sound.keeps boots.sound.so_far
+
+unread-at : (q : Stage) → has_read_at q ≡ false → q ≡ Unread
+unread-at Unread h = refl
+unread-at (ReadsHeader epoch fault) h = cc
+unread-at (ReadsSlot epoch next) h = cc
+unread-at (Frames epoch page next) h = cc
+unread-at (Refusing bad) h = cc
+unread-at (Loading issue) h = cc
+unread-at (Restored epoch) h = cc
+unread-at Loaded h = cc
+
+-- ---- drains of the NVM
+
+abbrev pub boots-drained : (o : Origin) (s : Dual) (n : Device) → Boots o s n → Boots o s (drained n)
+boots-drained o s n boots = record {
+  origin = boots.origin;
+  images = boots.images;
+  sound = (drains_keep_boot o boots.images n s.boot s.control boots.sound).0;
+  going = boots.going;
+  boot = boots.boot;
+  unused = boots.unused;
+  unread = boots.unread;
+  rested = boots.rested;
+}
+
+module _ (o : Origin) (s : Dual) (n : Device) (boots : Boots o s n) where
+  drained-stays : BootStays dual_scheme o s n s (drained n)
+  drained-stays = record {
+    boots = boots-drained o s n boots;
+    view = view-is o s (drained n) (boots-drained o s n boots) ∙ sym (view-is o s n boots);
+    left = refl;
+    read = refl;
+  }
+
+  safe-seen : Safe decode_image o (view_at o s.boot.stage n).done (doubt_of (view_at o s.boot.stage n)) n
+  safe-seen =
+      let seen : View = seen_at o boots.images.kept s.boot.stage in
+      subst (λ (v : View). Safe decode_image o v.done (doubt_of v) n) (sym (view-is o s n boots))
+      (Safe-read o seen.done (doubt_of seen) n (sound_is_safe o boots.images n s.boot s.control boots.sound))
+
+  pub boot-holds : BootHolds dual_scheme o s n
+  boot-holds = record {
+    sized = sized-at o boots.images n s.boot s.control s.boot.stage boots.going boots.sound.keeps;
+    safe = safe-seen;
+    shown = subst (λ (v : View). IsBootView o v) (sym (view-is o s n boots))
+        (shown-at o boots.images n s.boot s.control s.boot.stage boots.going boots.sound.keeps);
+    unread = λ h. boots.unread (unread-at s.boot.stage h);
+    drains = λ some. drained-stays;
+  }
+
+pub boot_is_sound : BootIsSound
+boot_is_sound o s n booting = boot-holds o s n booting.boots
+
+-- ---- drains of the DRAM
+
+module _ (o : Origin) (s : Dual) (n : Device) (t : State) (boots : Boots o s n) (is : t ≡ after_drain s.control) (some : 0 < s.control.dram.queued) (tables : AreSoundTables t) where
+  abbrev after : Dual
+  after = record s { control = after_drain s.control }
+
+  boots-after : AreSoundTables (after_drain s.control) → Boots o after n
+  boots-after now = record {
+    origin = boots.origin;
+    images = boots.images;
+    sound = (drains_keep_boot o boots.images n s.boot s.control boots.sound).1;
+    going = boots.going;
+    boot = boots.boot;
+    unused = record {
+      tables = now;
+      controller = boots.unused.controller;
+      engine = boots.unused.engine;
+      progress = boots.unused.progress;
+      idle = boots.unused.idle;
+      room = boots.unused.room;
+      lean = boots.unused.lean;
+    };
+    unread = λ h. let none = boots.unread h in omega (arith, none);
+    rested = boots.rested;
+  }
+
+  pub boot-drains : BootDrains dual_scheme o s n (record s { control = t })
+  boot-drains =
+      subst (λ (x : State). BootDrains dual_scheme o s n (record s { control = x })) (sym is) (record {
+        stays = record { boots = boots-after (subst (λ (x : State). AreSoundTables x) is tables); view = refl; left = refl; read = refl };
+        queue = omega (arith, takes_one s.control some);
+      })
+
+-- ---- power comes on
+
+-- the mark of an image that is the run's own
+own-mark : (o : Origin) (n : Device) (d : Decoded) → decode_image o.geometry ceiling n.image ≡ d → IsOwn o d
+    → (kept : Option Mark) × Tells o (layout_of o) n.image kept
+own-mark o n Nothing is own = (None, (decode_by-version_one o.geometry ceiling n.image ∙ is, own))
+own-mark o n (Refused bad) is own = absurd own
+own-mark o n (At epoch state) is own = (
+  Some (mark epoch state.count),
+  record {
+    decodes = decode_by-version_one o.geometry ceiling n.image ∙ is ∙ ap (At epoch) own;
+    counted = ap (λ (x : Plain). x.count) (sym own);
+  },
+)
+
+new-is_boot : (p : Parameters) → IsBoot (new_boot p)
+new-is_boot p = record { room = length-replicate (64 * slot_blocks p) 0; there = tt }
+
+module _ (o : Origin) (s : Dual) (n : Device) (origin : IsOrigin o) (powered : IsPowered o.geometry s) (found : IsFound dual_scheme o n) where
+  own : (kept : Option Mark) × Tells o (layout_of o) n.image kept
+  own = own-mark o n (decode_image o.geometry ceiling n.image) refl found.own
+
+  abbrev first : Checkpoints
+  first = record { before = n.image; kept = own.0; next = [] }
+
+  boots-first : Boots o s n
+  boots-first = record {
+    origin = origin;
+    images = first;
+    sound =
+        subst (λ (b : Booting). IsBootOf o first n b s.control) (sym powered.boot)
+        (subst (λ (c : State). IsBootOf o first n (new_boot o.geometry) c) (sym powered.controller)
+        (new_is_sound o first n powered.dram refl found.sized found.settled own.1));
+    going = subst (λ (b : Booting). IsGoing b.stage) (sym powered.boot) tt;
+    boot = subst (λ (b : Booting). IsBoot b) (sym powered.boot) (new-is_boot o.geometry);
+    unused = record {
+      tables = powered.tables origin.geometry;
+      controller = ap (λ (c : State). c.p) powered.controller;
+      engine = powered.engine;
+      progress = powered.progress;
+      idle = powered.idle;
+      room = ap (λ (c : State). c.dram.room) powered.controller ∙ powered.is_dram.room;
+      lean = powered.lean;
+    };
+    unread = λ h. ap (λ (c : State). c.dram.queued) powered.controller ∙ powered.is_dram.empty;
+    rested = powered.rested;
+  }
+
+  boots-found : BootsFound dual_scheme o s n
+  boots-found = record { boots = boots-first; view = ap (λ (b : Booting). view_at o b.stage n) powered.boot }
+
+pub power_finds : PowerFinds
+power_finds o s n origin powered found = boots-found o s n origin powered found
+
+pub power_is_new : PowerIsNew
+power_is_new p s powered = record {
+  queued = ap (λ (c : State). c.dram.queued) powered.controller ∙ powered.is_dram.empty;
+  boot_left = subst (λ (b : Booting). boot_left b.p b.stage ≤ boot_left p Unread) (sym powered.boot) (omega arith);
+}
+
+pub zeros_are_nothing : ZerosAreNothing
+zeros_are_nothing p shape n same =
+    let some : 1 < shape.blocks - 0 = omega (arith, same) in
+    decode-zero p (fitted shape [] n).image (ap is_zero (get_or-replicate (shape.blocks - 0) 1 zero_block zero_block some) ∙ is_zero-zero_block)
+
+-- ---- whether it loads
+
+-- an image with a commit block has a checkpoint
+kept-some : (o : Origin) (g : Checkpoints) (n : Device) (kept : Option Mark) → g.before ≡ n.image → Tells o (layout_of o) g.before kept → is_zero (block_at n.image 1) ≡ false
+    → loads (finding_view o.start.count kept) ≡ false
+kept-some o g n (Some m) before tells committed = refl
+kept-some o g n None before tells committed =
+    let zero : is_zero (block_at g.before 1) ≡ true = decode_by-nothing_back (layout_of o) g.before tells.0 in
+    let both : false ≡ true = sym committed ∙ ap (λ (x : List Block). is_zero (block_at x 1)) (sym before) ∙ zero in
+    cc
+
+-- behind the commit block it is not zero
+abbrev HasCommitAt : Stage → Device → Type 0
+HasCommitAt (ReadsHeader epoch fault) n = is_zero (block_at n.image 1) ≡ false
+HasCommitAt (ReadsSlot epoch next) n = is_zero (block_at n.image 1) ≡ false
+HasCommitAt (Frames epoch page next) n = is_zero (block_at n.image 1) ≡ false
+HasCommitAt stage n = Unit {0}
+
+has-commit : (q : Stage) (n : Device) (p : Parameters) (slot : List ℕ) (c : State) → HasReadAt q n p slot c → HasCommitAt q n
+has-commit Unread n p slot c h = tt
+has-commit (ReadsHeader epoch fault) n p slot c h = h.1.committed
+has-commit (ReadsSlot epoch next) n p slot c h = h.1.commit.committed
+has-commit (Frames epoch page next) n p slot c h = h.0.head.commit.committed
+has-commit (Refusing bad) n p slot c h = tt
+has-commit (Loading issue) n p slot c h = tt
+has-commit (Restored epoch) n p slot c h = tt
+has-commit Loaded n p slot c h = tt
+
+module _ (o : Origin) (g : Checkpoints) (n : Device) (b : Booting) (c : State) where
+  not-loading : IsRecovering g n b c → Tells o (layout_of o) g.before g.kept → is_zero (block_at n.image 1) ≡ false
+      → loads (view_of_image o.start.count (decode_image o.geometry ceiling n.image)) ≡ false
+  not-loading reading tells committed =
+      ap loads (view-reading o g n b c reading tells) ∙ kept-some o g n g.kept reading.before_is tells committed
+
+  -- a boot that reads has read what its stage says
+  commit-at : (q : Stage) → q ≡ b.stage → IsSoundAt o q g n b c → HasCommitAt q n
+  commit-at (ReadsHeader epoch fault) is far = has-commit (ReadsHeader epoch fault) n b.p b.slot c (subst (λ (x : Stage). HasReadAt x n b.p b.slot c) (sym is) far.read.so_far)
+  commit-at (ReadsSlot epoch next) is far = has-commit (ReadsSlot epoch next) n b.p b.slot c (subst (λ (x : Stage). HasReadAt x n b.p b.slot c) (sym is) far.read.so_far)
+  commit-at (Frames epoch page next) is far = has-commit (Frames epoch page next) n b.p b.slot c (subst (λ (x : Stage). HasReadAt x n b.p b.slot c) (sym is) far.read.so_far)
+  commit-at Unread is far = tt
+  commit-at (Refusing bad) is far = tt
+  commit-at (Loading issue) is far = tt
+  commit-at (Restored epoch) is far = tt
+  commit-at Loaded is far = tt
+
+  loading-at : (q : Stage) → IsGoing q → ((bad : BadImage) → q ≢ Refusing bad) → IsKeeping o (layout_of o) (standing_at o q g n) → IsSoundAt o q g n b c
+      → HasCommitAt q n → loads_at q ≡ (has_read_at q && loads (view_at o q n))
+  loading-at Unread going good keeps far read = refl
+  loading-at (ReadsHeader epoch fault) going good keeps far read = sym (not-loading far keeps.told read)
+  loading-at (ReadsSlot epoch next) going good keeps far read = sym (not-loading far keeps.told read)
+  loading-at (Frames epoch page next) going good keeps far read = sym (not-loading far keeps.told read)
+  loading-at (Refusing bad) going good keeps far read = absurd (good bad refl)
+  loading-at (Loading issue) going good keeps far read = refl
+  loading-at (Restored epoch) going good keeps far read = absurd going
+  loading-at Loaded going good keeps far read = absurd going
+
+pub loading-is : (o : Origin) (s : Dual) (n : Device) → Boots o s n
+    → loads_at s.boot.stage ≡ (has_read_at s.boot.stage && loads (view_at o s.boot.stage n))
+loading-is o s n boots =
+    loading-at o boots.images n s.boot s.control s.boot.stage boots.going
+    (λ bad. never_refused o boots.images n s.boot s.control bad boots.sound) boots.sound.keeps boots.sound.so_far
+    (commit-at o boots.images n s.boot s.control s.boot.stage refl boots.sound.so_far)
+
+-- ---- a loss of power
+
+length-over : (seed : ℕ) (xs : List Block) → length (blocks_over seed xs) ≡ length xs
+length-over seed [] = refl
+length-over seed (x ∷ xs) = ap suc (length-over (after_block seed) xs)
+
+-- what is left of a DRAM of its size is one with nothing queued
+pub IsDramOf-lost : (p : Parameters) (s : State) (pick : ℕ) (d : Contents) → AreSoundTables s → s.p ≡ p → s.dram.room ≡ p.dramq → d ≡ lost s.dram pick → IsDramOf p d
+IsDramOf-lost p s pick d tables same room is = subst (λ (x : Contents). IsDramOf p x) (sym is) (record {
+  blocks = length-over pick s.dram.blocks ∙ tables.dram_size ∙ ap dram_blocks same;
+  room = room;
+  empty = refl;
+})

@@ -1,0 +1,420 @@
+-- A step of the boot.
+use Rattle.std.proofs.Common.{◌≡◌, ◌≢◌, ℕ, ◌+◌, ◌≤◌, Bool, true, false, List, length, refl, sym, ◌∙◌, ap, subst, arith, Option, Some, None, Result, Ok, Err, IfOk, OnErr}
+use Rattle.std.proofs.lemmas.List.{length-drop}
+use Rattle.thy_base.specs.declared.block.Block.{Block}
+use Rattle.thy_base.specs.declared.config.Parameters.{Parameters}
+use Rattle.thy_base.specs.declared.mark.Mark.{Mark}
+use Rattle.thy_base.specs.declared.nvm.NvmError.{NvmError}
+use Rattle.thy_base.specs.Device.{Device, IsFramed, CountsFault}
+use Rattle.thy_base.specs.Marks.{mark}
+use Rattle.thy_base.specs.Places.{image_blocks}
+use Rattle.thy_crash.specs.Saved.{Kept}
+use Rattle.thy_isa.specs.declared.state.CpuState.{CpuState}
+use Rattle.thy_isa.specs.OnBlocks.{state_from}
+use Rattle.thy_isa.specs.Step.{State as Plain, cpu_of, state_of}
+use Rattle.thy_record.specs.declared.image.BadImage.{BadImage}
+use Rattle.thy_record.specs.declared.start.Start.{Start}
+use Rattle.thy_record.specs.Cpu.{cpu_of_record, IsRecordable}
+use Rattle.thy_record.specs.Images.{decode_image}
+use Rattle.thy_control.specs.State.{State, AreSoundTables, IsSized}
+use Rattle.thy_control.proofs.HoldingLemmas.{works-sized}
+use Rattle.thy_protocol.specs.Keeps.{Keeps, finding_view}
+use Rattle.thy_protocol.specs.Moves.{IsKeeping}
+use Rattle.thy_view.specs.declared.did.Did.{Did}
+use Rattle.thy_view.specs.declared.view.View.{View}
+use Rattle.thy_view.specs.Action.{Action, Rest, ReadAt, WriteAt, Barrier, Drain, after, Acts, ActionFailed}
+use Rattle.thy_view.specs.Booting.{boot_view, loading_view}
+use Rattle.thy_view.specs.CoreStep.{BootsTo, CoreStep}
+use Rattle.thy_view.specs.Origin.{Origin, Begins}
+use Rattle.thy_view.specs.Safe.{ceiling, Safe}
+use Rattle.thy_commit.specs.Progress.{Fits}
+use Rattle.thy_commit.proofs.FitLemmas.{idle_fits}
+use Rattle.thy_recover.specs.declared.stage.Stage.{Stage}
+use Rattle.thy_recover.specs.declared.stage.Stage.TheVariants.{Unread, Header as ReadsHeader, Slot as ReadsSlot, Frames, Refusing, Loading, Restored, Loaded}
+use Rattle.thy_recover.specs.declared.stage.Issue.{Issue}
+use Rattle.thy_recover.specs.declared.stage.Issue.TheVariants.{Home, Slot, Header, Settle, Commit, Confirm}
+use Rattle.thy_recover.specs.declared.stage.BootStep.{BootStep}
+use Rattle.thy_recover.specs.declared.stage.BootStep.TheVariants.{Reading, Loading as IsLoading, Loaded as HasLoaded, Restarted, Refused}
+use Rattle.thy_recover.specs.Boot.{Booting, IsBoot, slot_of, issue_at, answer_at, answer_of}
+use Rattle.thy_recover.specs.Left.{boot_left}
+use Rattle.thy_recover.specs.Laws.{IsGoing, IsMoved, IsFilled, failed_answer}
+use Rattle.thy_recover.specs.Loads.{issue_action}
+use Rattle.thy_recover.specs.Recovers.{HasReadAt, loads}
+use Rattle.thy_recover.specs.Shows.{seen_at, did_of}
+use Rattle.thy_recover.specs.Sound.{Checkpoints, layout_of, start_mark, standing_at, checkpoints_after, IsSoundAt, IsLoaded, IsBooted as IsBootedAt}
+use Rattle.thy_recover.specs.Steps.{CanStep, Steps, StepsBy, Fails, TakesStep}
+use Rattle.thy_recover.proofs.StepLawLemmas.{steps_move, failures_move, restored_is_booted, never_refused, steps_act, steps_fill, failures_act, steps_come_nearer, sound_may_step}
+use Rattle.thy_scheme.specs.Boots.{boot_did, IsBooted, Loads, Restarts, Answers, BootsOn, BootFails}
+use Rattle.thy_scheme.specs.Scheme.{IsBooting, CanBoot}
+use Rattle.thy_dual_model.specs.Boots.{Boots, step_of, told_as, view_at, has_read_at}
+use Rattle.thy_dual_model.specs.Booted.{IsUnused}
+use Rattle.thy_dual_model.specs.Dual.{Dual, is_promoting}
+use Rattle.thy_dual_model.specs.Scheme.{dual_scheme}
+use Rattle.thy_dual_model.proofs.BootLemmas.{view-is, loads-first}
+use Rattle.thy_dual_model.proofs.BootedLemmas.{booted_is_sound, booting-whole}
+use Rattle.thy_dual_model.proofs.ItemLemmas.{queue-written}
+use Rattle.thy_dual_model.proofs.RestoredLemmas.{start-recordable, restored-recordable}
+use Rattle.thy_dual_model.proofs.SafeLemmas.{Safe-read}
+
+no-false : false ≡ true → ⊥
+no-false e = cc
+
+not-true : (t : Bool) → (t ≡ true → ⊥) → t ≡ false
+not-true true h = absurd (h refl)
+not-true false h = refl
+
+-- what a step tells is what a cycle did
+did-told : (a : BootStep) → boot_did (step_of a) ≡ did_of a
+did-told Reading = refl
+did-told IsLoading = refl
+did-told HasLoaded = refl
+did-told (Restarted cpu epoch) = refl
+did-told (Refused bad) = refl
+
+-- ---- an action
+
+after-up : (a : Action) (n : Device) → (after a n).down ≡ n.down
+after-up Rest n = refl
+after-up (ReadAt place) n = refl
+after-up (WriteAt place block) n = refl
+after-up Barrier n = refl
+after-up Drain n = refl
+
+after-queue : (a : Action) (n : Device) → length (after a n).queue ≤ length n.queue + 1
+after-queue Rest n = omega arith
+after-queue (ReadAt place) n = omega arith
+after-queue (WriteAt place block) n = queue-written n place block
+after-queue Barrier n = omega arith
+after-queue Drain n = omega (arith, length-drop 1 n.queue)
+
+-- ---- how far it is
+
+-- no stage has more left than the first
+loads-most : (p : Parameters) (issue : Issue) → boot_left p (Loading issue) ≤ boot_left p Unread
+loads-most p (Home b) = omega arith
+loads-most p (Slot k) = omega arith
+loads-most p Header = omega arith
+loads-most p Settle = omega arith
+loads-most p Commit = omega arith
+loads-most p Confirm = omega arith
+
+left-most : (p : Parameters) (q : Stage) → boot_left p q ≤ boot_left p Unread
+left-most p Unread = omega arith
+left-most p (ReadsHeader epoch fault) = omega arith
+left-most p (ReadsSlot epoch next) = omega arith
+left-most p (Frames epoch page next) = omega arith
+left-most p (Refusing bad) = omega arith
+left-most p (Loading issue) = loads-most p issue
+left-most p (Restored epoch) = omega arith
+left-most p Loaded = omega arith
+
+-- so behind a step the commit block was read
+read-on : (p : Parameters) (q r : Stage) → boot_left p r + 1 ≤ boot_left p q → has_read_at r ≡ true
+read-on p q Unread less = let most : boot_left p q ≤ boot_left p Unread = left-most p q in absurd (omega (arith, less, most))
+read-on p q (ReadsHeader epoch fault) less = refl
+read-on p q (ReadsSlot epoch next) less = refl
+read-on p q (Frames epoch page next) less = refl
+read-on p q (Refusing bad) less = refl
+read-on p q (Loading issue) less = refl
+read-on p q (Restored epoch) less = refl
+read-on p q Loaded less = refl
+
+not-unread : (q : Stage) → has_read_at q ≡ true → q ≡ Unread → ⊥
+not-unread q read is = no-false (sym (ap has_read_at is) ∙ read)
+
+kept-issue : (issue : Issue) (n : Device) (g : Checkpoints) → (checkpoints_after (Loading issue) n g).kept ≡ g.kept
+kept-issue (Home b) n g = refl
+kept-issue (Slot k) n g = refl
+kept-issue Header n g = refl
+kept-issue Settle n g = refl
+kept-issue Commit n g = refl
+kept-issue Confirm n g = refl
+
+-- the mark that is kept stays
+kept-on : (q : Stage) (n : Device) (g : Checkpoints) → (checkpoints_after q n g).kept ≡ g.kept
+kept-on Unread n g = refl
+kept-on (ReadsHeader epoch fault) n g = refl
+kept-on (ReadsSlot epoch next) n g = refl
+kept-on (Frames epoch page next) n g = refl
+kept-on (Refusing bad) n g = refl
+kept-on (Loading issue) n g = kept-issue issue n g
+kept-on (Restored epoch) n g = refl
+kept-on Loaded n g = refl
+
+-- ---- the controller has no checkpoint under way
+
+module _ (o : Origin) (g : Checkpoints) (n : Device) (b : Booting) (c : State) where
+  idle-at : (q : Stage) → b.stage ≡ q → ((bad : BadImage) → q ≢ Refusing bad) → IsSoundAt o q g n b c → c.under_way ≡ false
+  idle-at Unread is good far = (subst (λ (x : Stage). HasReadAt x n b.p b.slot c) is far.read.so_far).booting.idle
+  idle-at (ReadsHeader epoch fault) is good far = (subst (λ (x : Stage). HasReadAt x n b.p b.slot c) is far.read.so_far).0.booting.idle
+  idle-at (ReadsSlot epoch next) is good far = (subst (λ (x : Stage). HasReadAt x n b.p b.slot c) is far.read.so_far).0.booting.idle
+  idle-at (Frames epoch page next) is good far = (subst (λ (x : Stage). HasReadAt x n b.p b.slot c) is far.read.so_far).0.booting.idle
+  idle-at (Refusing bad) is good far = absurd (good bad refl)
+  idle-at (Loading issue) is good far = far.fresh.booting.idle
+  idle-at (Restored epoch) is good far = (subst (λ (x : Stage). HasReadAt x n b.p b.slot c) is far.read.so_far).tables.booting.idle
+  idle-at Loaded is good far = far.over.booting.idle
+
+  -- ---- what was seen before the boot was over
+
+  unwritten : (kept : Option Mark) → (finding_view o.start.count kept).written ≡ true → ⊥
+  unwritten None w = no-false w
+  unwritten (Some m) w = no-false w
+
+  -- where the commit block of loading was written, the run began without a checkpoint
+  abbrev WasLoading : Stage → Type 0
+  WasLoading q = (o.kept ≡ None) × (seen_at o g.kept q ≡ record (loading_view o.start.count) { written = true })
+
+  was-loading : (q : Stage) → IsGoing q → (seen_at o g.kept q).written ≡ true → IsKeeping o (layout_of o) (standing_at o q g n) → WasLoading q
+  was-loading Unread going w keeps = absurd (unwritten g.kept w)
+  was-loading (ReadsHeader epoch fault) going w keeps = absurd (unwritten g.kept w)
+  was-loading (ReadsSlot epoch next) going w keeps = absurd (unwritten g.kept w)
+  was-loading (Frames epoch page next) going w keeps = absurd (unwritten g.kept w)
+  was-loading (Refusing bad) going w keeps = absurd (unwritten g.kept w)
+  was-loading (Loading issue) going w keeps =
+      (loads-first o g n b c issue keeps.told, ap (λ (t : Bool). record (loading_view o.start.count) { written = t }) w)
+  was-loading (Restored epoch) going w keeps = absurd going
+  was-loading Loaded going w keeps = absurd going
+
+  found-mark : (kept : Option Mark) (m : Mark) → (finding_view o.start.count kept).done ≡ Some m → finding_view o.start.count kept ≡ boot_view (Some m) None
+  found-mark None m d = cc
+  found-mark (Some k) m d = ap (λ (x : Option Mark). boot_view x None) d
+
+  none-done : (m : Mark) → None ≡ Some m → ⊥
+  none-done m d = cc
+
+  -- where a checkpoint was found, that is all that was seen
+  was-found : (q : Stage) (m : Mark) → IsGoing q → (seen_at o g.kept q).done ≡ Some m → seen_at o g.kept q ≡ boot_view (Some m) None
+  was-found Unread m going d = found-mark g.kept m d
+  was-found (ReadsHeader epoch fault) m going d = found-mark g.kept m d
+  was-found (ReadsSlot epoch next) m going d = found-mark g.kept m d
+  was-found (Frames epoch page next) m going d = found-mark g.kept m d
+  was-found (Refusing bad) m going d = found-mark g.kept m d
+  was-found (Loading issue) m going d = absurd (none-done m d)
+  was-found (Restored epoch) m going d = absurd going
+  was-found Loaded m going d = absurd going
+
+count-state_from : (p : Parameters) (cpu : CpuState) (memory : List Block) → (state_from p cpu memory).count ≡ cpu.count
+unfolding state_from
+count-state_from p cpu memory = refl
+
+-- ---- a step that was taken
+
+module _ (o : Origin) (s : Dual) (n : Device) (booting : IsBooting dual_scheme o s n) (new : Device) (d : Booting) (e : State)
+    (steps : Steps o.start n s.boot s.control new d e) (boot : IsBoot d) (tables : AreSoundTables e) where
+  abbrev boots : Boots o s n
+  boots = booting.boots
+
+  abbrev b : Booting
+  b = s.boot
+
+  abbrev g : Checkpoints
+  g = boots.images
+
+  abbrev h : Checkpoints
+  h = checkpoints_after b.stage n g
+
+  abbrev t : Dual
+  t = record s { control = e; boot = d }
+
+  moved : IsMoved o g n b new d e
+  moved = steps_move o g n b s.control new d e boots.origin boots.boot boots.unused.tables boots.sound steps
+
+  filled : IsFilled s.control e
+  filled = steps_fill o.start n b s.control new d e steps
+
+  same : d.p ≡ b.p
+  same = moved.sound.geometry ∙ sym boots.sound.geometry
+
+  kept : h.kept ≡ g.kept
+  kept = kept-on b.stage n g
+
+  never : (bad : BadImage) → d.stage ≢ Refusing bad
+  never bad = never_refused o h new d e bad moved.sound
+
+  nearer : boot_left b.p d.stage + 1 ≤ boot_left b.p b.stage
+  nearer = steps_come_nearer o.start n b s.control new d e boots.boot steps (λ bad. never_refused o g n b s.control bad boots.sound)
+
+  read : has_read_at d.stage ≡ true
+  read = read-on b.p b.stage d.stage nearer
+
+  acts : Acts (did_of (answer_of d)) n new
+  acts = steps_act o.start n b s.control new d e steps
+
+  up : new.down ≡ false
+  up = ap (λ (x : Device). x.down) acts.left ∙ after-up acts.action n ∙ booting.up
+
+  idle : e.under_way ≡ false
+  idle = idle-at o h new d e d.stage refl never moved.sound.so_far
+
+  -- controller and engine belong together afterwards
+  pub fits : Fits s.engine e
+  fits = idle_fits s.engine e (moved.sound.same_p ∙ sym boots.unused.engine) boots.unused.idle idle
+
+  unused : IsUnused o t
+  unused = record {
+    tables = tables;
+    controller = moved.sound.same_p;
+    engine = boots.unused.engine;
+    progress = boots.unused.progress;
+    idle = boots.unused.idle;
+    room = filled.room ∙ boots.unused.room;
+    lean = boots.unused.lean;
+  }
+
+  abbrev boots-on : IsGoing d.stage → Boots o t new
+  boots-on going = record {
+    origin = boots.origin;
+    images = h;
+    sound = moved.sound;
+    going = going;
+    boot = boot;
+    unused = unused;
+    unread = λ u. absurd (not-unread d.stage read u);
+    rested = boots.rested;
+  }
+
+  before : view_at o b.stage n ≡ seen_at o g.kept b.stage
+  before = view-is o s n boots
+
+  abbrev v : View
+  v = seen_at o g.kept b.stage
+
+  -- ---- it goes on
+
+  goes-on : (q : Stage) → d.stage ≡ q → IsGoing q → BootsTo v (seen_at o g.kept q) → Boots o t new × BootsTo (view_at o b.stage n) (view_at o d.stage new)
+  goes-on q is going to =
+      let on : Boots o t new = boots-on (subst (λ (x : Stage). IsGoing x) (sym is) going) in
+      let now : view_at o d.stage new ≡ seen_at o g.kept q
+      = view-is o t new on ∙ ap (λ (k : Option Mark). seen_at o k d.stage) kept ∙ ap (λ (x : Stage). seen_at o g.kept x) is in (
+        on,
+        subst (λ (x : View). BootsTo x (view_at o d.stage new)) (sym before) (subst (λ (x : View). BootsTo v x) (sym now) to),
+      )
+
+  -- ---- it is over
+
+  booted : (m : Mark) (cpu : CpuState) (image : List Block) → Keeps o (layout_of o) new (Kept image) (Some m) None → IsBootedAt o m cpu image new e
+      → cpu.count ≡ m.count → IsRecordable o.geometry ceiling cpu → IsBooted dual_scheme o m cpu t new
+  booted m cpu image keeps over count recordable =
+      let sized : IsSized e new = record { nvm = keeps.sized ∙ ap image_blocks (sym moved.sound.same_p) } in
+      record {
+        sound = booted_is_sound o m cpu image t new unused keeps over;
+        state = ap (state_from o.geometry cpu) (works-sized e new sized up) ∙ over.state;
+        count = count;
+        recordable = recordable;
+        closed = refl;
+        whole = not-true (is_promoting e) (booting-whole e over.booting);
+        rested = boots.rested;
+      }
+
+  loaded : d.stage ≡ Loaded → Loads dual_scheme o s n t new
+  loaded is =
+      let shows = subst (λ (x : Stage). CoreStep o v (did_of (answer_at x d)) (seen_at o g.kept x)) is moved.shows in
+      let was : WasLoading o g n b s.control b.stage = was-loading o g n b s.control b.stage boots.going shows.written boots.sound.keeps in
+      let keeps : IsKeeping o (layout_of o) (standing_at o Loaded h new) = subst (λ (x : Stage). IsKeeping o (layout_of o) (standing_at o x h new)) is moved.sound.keeps in
+      let far : IsLoaded o h new e = subst (λ (x : Stage). IsSoundAt o x h new d e) is moved.sound.so_far in
+      record {
+        fresh = was.0;
+        view = before ∙ was.1;
+        booted = booted (start_mark o) (cpu_of o.start) h.next keeps far.over refl (start-recordable o boots.origin);
+      }
+
+  restarted : (epoch : ℕ) → d.stage ≡ Restored epoch → Restarts dual_scheme o (cpu_of_record (slot_of d)) epoch s n t new
+  restarted epoch is =
+      let cpu : CpuState = cpu_of_record (slot_of d) in
+      let shows = subst (λ (x : Stage). CoreStep o v (did_of (answer_at x d)) (seen_at o g.kept x)) is moved.shows in
+      let r = restored_is_booted o h new d e epoch boots.origin tables moved.sound is in
+      let m : Mark = r.0 in
+      let over : IsBootedAt o m cpu h.before new e = r.4 in
+      let count : cpu.count ≡ m.count
+      = sym (count-state_from o.geometry cpu (loads e new)) ∙ ap (λ (x : Plain). x.count) over.state ∙ over.counted in
+      let is_mark : m ≡ mark epoch cpu.count
+      = ap (λ (x : ℕ). mark x m.count) r.2 ∙ ap (mark epoch) (sym count) in
+      let recordable : IsRecordable o.geometry ceiling cpu = restored-recordable o h new d e epoch boots.origin moved.sound is (loads e new) m.count over.state in
+      record {
+        view = before ∙ was-found o g n b s.control b.stage (mark epoch cpu.count) boots.going shows.done;
+        booted = subst (λ (x : Mark). IsBooted dual_scheme o x cpu t new) is_mark (booted m cpu h.before r.3 over count recordable);
+      }
+
+  -- ---- by the answer
+
+  answers-at : (q : Stage) → d.stage ≡ q → CoreStep o v (did_of (answer_at q d)) (seen_at o g.kept q)
+      → Answers dual_scheme o (step_of (answer_at q d)) s n t new
+  answers-at Unread is shows = goes-on Unread is tt shows.1
+  answers-at (ReadsHeader epoch fault) is shows = goes-on (ReadsHeader epoch fault) is tt shows.1
+  answers-at (ReadsSlot epoch next) is shows = goes-on (ReadsSlot epoch next) is tt shows.1
+  answers-at (Frames epoch page next) is shows = goes-on (Frames epoch page next) is tt shows.1
+  answers-at (Refusing bad) is shows = absurd (never bad is)
+  answers-at (Loading issue) is shows = goes-on (Loading issue) is tt shows.1
+  answers-at (Restored epoch) is shows = restarted epoch is
+  answers-at Loaded is shows = loaded is
+
+  queue-by : (i : Option Issue) → StepsBy i o.start n b s.control new d e → length new.queue + e.dram.queued ≤ length n.queue + s.control.dram.queued + 1
+  queue-by None r = omega (arith, filled.most, ap (λ (x : Device). length x.queue) r.device)
+  queue-by (Some issue) l =
+      omega (
+        arith,
+        after-queue (issue_action b.p o.start issue) n,
+        ap (λ (x : Device). length x.queue) l.device,
+        ap (λ (x : State). x.dram.queued) l.control,
+      )
+
+  boots_on : BootsOn dual_scheme o (step_of (answer_of d)) s n t new
+  boots_on = record {
+    answers = answers-at d.stage refl moved.shows;
+    acts = subst (λ (x : Did). Acts x n new) (sym (did-told (answer_of d))) acts;
+    queue = queue-by (issue_at b.stage) steps;
+    nearer = subst (λ (p : Parameters). boot_left p d.stage + 1 ≤ boot_left b.p b.stage) (sym same) nearer;
+    read = λ none. read;
+  }
+
+-- ---- one that failed
+
+module _ (o : Origin) (s : Dual) (n : Device) (booting : IsBooting dual_scheme o s n) (new : Device) where
+  boot_fails : Fails o.start s.boot n new → IsFramed n new → BootFails dual_scheme o s n new
+  boot_fails fails framed =
+      let boots : Boots o s n = booting.boots in
+      let seen : View = seen_at o boots.images.kept s.boot.stage in
+      let safe : Safe decode_image o seen.done seen.sealed new
+      = Safe-read o seen.done seen.sealed new (failures_move o boots.images n s.boot s.control new boots.sound boots.going fails framed).safe in
+      let answer : BootStep = failed_answer s.boot.stage in
+      record {
+        step = step_of answer;
+        acted = subst (λ (x : Did). ActionFailed x n new) (sym (did-told answer)) (failures_act o.start s.boot n new fails);
+        safe = subst (λ (x : View). Safe decode_image o x.done x.sealed new) (sym (view-is o s n boots)) safe;
+      }
+
+-- ---- by the boot's answer
+
+module _ (o : Origin) (s : Dual) (n : Device) (booting : IsBooting dual_scheme o s n) (new : Device) (d : Booting) (e : State) (boot : IsBoot d) (tables : AreSoundTables e) where
+  abbrev Took : Result BootStep NvmError → Type 0
+  Took r = TakesStep r o.start n s.boot s.control new d e
+
+  pub boots-by : (r : Result BootStep NvmError) → IfOk r (λ a. a ≡ answer_of d) → Took r
+      → IfOk (told_as r) (λ step. BootsOn dual_scheme o step s n (record s { control = e; boot = d }) new)
+  boots-by (Ok a) is took =
+      subst (λ (x : BootStep). BootsOn dual_scheme o (step_of x) s n (record s { control = e; boot = d }) new) (sym is)
+      (boots_on o s n booting new d e took.steps boot tables)
+  boots-by (Err x) is took = tt
+
+  pub fails-by : (r : Result BootStep NvmError) → Took r → OnErr (told_as r) (BootFails dual_scheme o s n new)
+  fails-by (Ok a) took = tt
+  fails-by (Err x) took = boot_fails o s n booting new took.err took.frame
+
+  pub fits-by : (r : Result BootStep NvmError) → Took r → Fits s.engine s.control → Fits s.engine e
+  fits-by (Ok a) took was = fits o s n booting new d e took.steps boot tables
+  fits-by (Err x) took was = subst (λ (c : State). Fits s.engine c) (sym took.control) was
+
+pub cause-by : (r : Result BootStep NvmError) (old new : ℕ) → CountsFault r old new → CountsFault (told_as r) old new
+cause-by (Ok a) old new h = h
+cause-by (Err x) old new h = h
+
+-- with the start of a run
+pub took-for : (o : Origin) (start : Start) → Begins o start → (r : Result BootStep NvmError) (n : Device) (b : Booting) (c : State) (new : Device) (d : Booting) (e : State)
+    → TakesStep r (state_of start.state) n b c new d e → TakesStep r o.start n b c new d e
+took-for o start begins r n b c new d e took = subst (λ (x : Plain). TakesStep r x n b c new d e) (sym begins.state) took
+
+pub may-step : (start : Start) (s : Dual) (n : Device) → CanBoot dual_scheme start s n → CanStep (state_of start.state) n s.boot s.control
+may-step start s n can =
+    let boots : Boots can.o s n = can.booting.boots in
+    subst (λ (x : Plain). CanStep x n s.boot s.control) can.begins.state
+    (sound_may_step can.o boots.images n s.boot s.control boots.origin boots.sound boots.going can.booting.up)

@@ -1,0 +1,226 @@
+-- What an item of the engine leaves alone.
+use Rattle.std.proofs.Common.{◌≡◌, ◌≢◌, ℕ, ◌+◌, ◌<◌, ◌≤◌, nat_lt, Bool, true, false, if◌then◌else◌, length, refl, sym, ◌∙◌, ap, arith, Option, Some, None, option_and_then, length-append, length-drop}
+use Rattle.std.proofs.lemmas.Bool.{ltb-true}
+use Rattle.thy_base.specs.declared.block.Block.{Block}
+use Rattle.thy_base.specs.declared.config.Parameters.{Parameters}
+use Rattle.thy_base.specs.declared.place.Place.{Place}
+use Rattle.thy_base.specs.declared.place.Place.TheVariants.{Home, AlternateBlock, AlternatePage, Buffer, Frame}
+use Rattle.thy_base.specs.Device.{Device, newest, written_to, settled}
+use Rattle.thy_base.specs.Places.{in_dram, number_of, slot_blocks}
+use Rattle.thy_base.specs.Store.{page_of}
+use Rattle.thy_base.proofs.DeviceLemmas.{newest-written_to_other, newest-settled, length-written_to, length-settled}
+use Rattle.thy_dram.specs.Contents.{written}
+use Rattle.thy_place.specs.Devices.{Devices, devices_of, read_at, written_at}
+use Rattle.thy_table.specs.Listing.{Listing, entry_at}
+use Rattle.thy_table.proofs.ListingLaws.{entry_at-mapped}
+use Rattle.thy_tables.specs.declared.block_entry.BttEntry.{BttEntry}
+use Rattle.thy_tables.specs.declared.block_entry.Working.TheVariants.{NoWork}
+use Rattle.thy_tables.specs.declared.page_entry.PttEntry.{PttEntry}
+use Rattle.thy_tables.specs.PageEntry.{no_page}
+use Rattle.thy_cell.specs.Cells.{seat_of, frame_at, target, last}
+use Rattle.thy_cell.specs.Checkpoint.{page_issued}
+use Rattle.thy_tables.specs.declared.block_entry.Pending.TheVariants.{Settled}
+use Rattle.thy_record.specs.Commit.{commit_of}
+use Rattle.thy_control.specs.Commit.{committed_state}
+use Rattle.thy_control.specs.Copies.{next_copy, block_listed, copied, devices_copied}
+use Rattle.thy_control.specs.Frees.{HasNoWork, settled as settled_entry}
+use Rattle.thy_control.specs.Keys.{page_key}
+use Rattle.thy_control.specs.Pages.{next_page, block_to_write, issued, devices_issued}
+use Rattle.thy_control.specs.Promotions.{fills_left, unfilled}
+use Rattle.thy_control.specs.State.{State, AreSoundTables, cell_of}
+use Rattle.thy_control.proofs.FindLemmas.{found_entry, entry_for-some}
+use Rattle.thy_control.proofs.IssueLemmas.{IsDue-entry, listed-busy}
+use Rattle.thy_commit.specs.declared.next.Next.{Next}
+use Rattle.thy_commit.specs.declared.next.Next.TheVariants.{Nothing, Copies, Pages, Slot, Settle, Commit, Confirm}
+use Rattle.thy_commit.specs.Frees.{IsButCopied}
+use Rattle.thy_commit.specs.Items.{Item, NoItem, CopyItem, PageItem, SlotItem, SettleItem, CommitItem, ConfirmItem, item, copy_or, page_or_slot, page_item, next_after}
+use Rattle.thy_commit.specs.Progress.{Progress, IsSoundProgress, slot_number, slot_block, state_after, device_after}
+use Rattle.thy_dual_model.specs.Sound.{is_confirming}
+use Rattle.thy_dual_model.proofs.CountLemmas.{unfilled-set, unfilled-committed}
+
+-- ---- one write
+
+-- a write leaves the room of the DRAM's queue, as many blocks in the NVM, that as up as it was, its header, and one write more
+-- in both queues at most
+pub record IsWrite (old new : Devices) : Type 0 where
+  pub room : new.dram.room ≡ old.dram.room
+  pub as_long : length new.nvm.image ≡ length old.nvm.image
+  pub down : new.nvm.down ≡ old.nvm.down
+  pub header : 0 < length old.nvm.image → newest new.nvm 0 ≡ newest old.nvm 0
+  pub queue : length new.nvm.queue + new.dram.queued ≤ length old.nvm.queue + old.dram.queued + 1
+
+pub queue-written : (n : Device) (at : ℕ) (block : Block) → length (written_to n at block).queue ≤ length n.queue + 1
+queue-written n at block = simp (length-append, length-drop) (omega arith)
+
+pub IsWrite-nvm : (n : Device) (at : ℕ) (block : Block) (d : Devices) → d.nvm ≡ n → at ≢ 0 → IsWrite d (record d { nvm = written_to d.nvm at block })
+IsWrite-nvm n at block d is ne = record {
+  room = refl;
+  as_long = length-written_to d.nvm at block;
+  down = refl;
+  header = λ l. newest-written_to_other d.nvm at block 0 (λ e. ne (sym e)) l;
+  queue = omega (arith, queue-written d.nvm at block);
+}
+
+IsWrite-dram : (x : ℕ) (block : Block) (d : Devices) → IsWrite d (record d { dram = written d.dram x block })
+IsWrite-dram x block d = record { room = refl; as_long = refl; down = refl; header = λ l. refl; queue = omega arith }
+
+-- the places of the NVM lie behind the header
+behind : (p : Parameters) (x : Place) → in_dram x ≡ false → number_of p x ≢ 0
+behind p (Home b) h e = absurd (omega (arith, e))
+behind p (AlternateBlock i) h e = absurd (omega (arith, e))
+behind p (AlternatePage i k) h e = absurd (omega (arith, e))
+behind p (Buffer i) h e = cc
+behind p (Frame i k) h e = cc
+
+pub IsWrite-at : (p : Parameters) (x : Place) (block : Block) (d : Devices) → IsWrite d (written_at p x block d)
+IsWrite-at p x block d = by_side (in_dram x) refl where
+  by_side : (side : Bool) → in_dram x ≡ side
+      → IsWrite d (if side then record d { dram = written d.dram (number_of p x) block } else record d { nvm = written_to d.nvm (number_of p x) block })
+  by_side true h = IsWrite-dram (number_of p x) block d
+  by_side false h = IsWrite-nvm d.nvm (number_of p x) block d refl (behind p x h)
+
+IsWrite-none : (d : Devices) → IsWrite d d
+IsWrite-none d = record { room = refl; as_long = refl; down = refl; header = λ l. refl; queue = omega arith }
+
+IsWrite-settled : (n : Device) (s : State) → IsWrite (devices_of n s.dram) (devices_of (settled n) s.dram)
+IsWrite-settled n s = record {
+  room = refl;
+  as_long = length-settled n;
+  down = refl;
+  header = λ l. newest-settled n 0 l;
+  queue = omega arith;
+}
+
+-- every item is one write at most
+pub IsWrite-after : (e : Progress) (i : Item) (s : State) (n : Device) → IsWrite (devices_of n s.dram) (devices_of (device_after e i s n) (state_after i s n).dram)
+unfolding copied devices_copied issued devices_issued committed_state
+IsWrite-after e NoItem s n = IsWrite-none (devices_of n s.dram)
+IsWrite-after e (CopyItem i) s n =
+    let b : ℕ = block_listed i s in
+    IsWrite-at s.p (target (cell_of s b)) (read_at s.p (devices_of n s.dram) (last (cell_of s b))) (devices_of n s.dram)
+IsWrite-after e (PageItem j) s n =
+    let b : ℕ = block_to_write j s in
+    IsWrite-at s.p (target (cell_of s b)) (read_at s.p (devices_of n s.dram) (frame_at (seat_of (cell_of s b)))) (devices_of n s.dram)
+IsWrite-after e (SlotItem k) s n = IsWrite-nvm n (slot_number e k) (slot_block e s k) (devices_of n s.dram) refl (λ h. absurd (omega (arith, h)))
+IsWrite-after e SettleItem s n = IsWrite-settled n s
+IsWrite-after e CommitItem s n = IsWrite-nvm n 1 (commit_of e.epoch) (devices_of n s.dram) refl (λ h. absurd (omega (arith, h)))
+IsWrite-after e ConfirmItem s n = IsWrite-settled n s
+
+-- ---- the controller
+
+pub same_p-after : (i : Item) (s : State) (n : Device) → (state_after i s n).p ≡ s.p
+unfolding copied issued committed_state
+same_p-after NoItem s n = refl
+same_p-after (CopyItem i) s n = refl
+same_p-after (PageItem j) s n = refl
+same_p-after (SlotItem k) s n = refl
+same_p-after SettleItem s n = refl
+same_p-after CommitItem s n = refl
+same_p-after ConfirmItem s n = refl
+
+-- what is left to promote is no more
+unfilled-issued : (b : ℕ) (s : State) (n : Device) → (cell_of s b).page.busy ≡ true → unfilled (issued b s n) ≡ unfilled s
+unfolding issued
+unfilled-issued b s n busy =
+    let listed = listed-busy b s busy in
+    let there = found_entry page_key no_page s.ptt (page_of b) (cell_of s b).j listed in
+    let is : (cell_of s b).page ≡ there.0 = entry_for-some page_key no_page s.ptt (page_of b) (cell_of s b).j there.0 listed there.1 in
+    unfilled-set s.ptt.entries (cell_of s b).j there.0 (page_issued (cell_of s b).page) there.3 there.1 (ap (λ (f : PttEntry). fills_left (Some f)) is)
+
+unfilled-copied : (b : ℕ) (s : State) (n : Device) → unfilled (copied b s n) ≡ unfilled s
+unfolding copied
+unfilled-copied b s n = refl
+
+module _ (s : State) (n : Device) (tables : AreSoundTables s) where
+  abbrev Left : Item → Type 0
+  Left i = unfilled (state_after i s n) ≤ unfilled s
+
+  left-page : (o : Option ℕ) → next_page s ≡ o → Left (page_or_slot o)
+  left-page None h = omega arith
+  left-page (Some j) h = omega (arith, unfilled-issued (block_to_write j s) s n (IsDue-entry s tables j h).busy)
+
+  left-copy : (o : Option ℕ) → Left (copy_or o (page_item s))
+  left-copy None = left-page (next_page s) refl
+  left-copy (Some i) = omega (arith, unfilled-copied (block_listed i s) s n)
+
+  pub unfilled-after : (q : Next) → Left (item q s)
+  unfolding committed_state
+  unfilled-after Nothing = omega arith
+  unfilled-after Copies = left-copy (next_copy s)
+  unfilled-after Pages = left-page (next_page s) refl
+  unfilled-after (Slot k) = omega arith
+  unfilled-after Settle = omega arith
+  unfilled-after Commit = omega arith
+  unfilled-after Confirm = unfilled-committed s.ptt.entries
+
+-- where only copies were made there is no work, if there was none
+pub no_work-copied : (s t : State) → IsButCopied s t → HasNoWork s → HasNoWork t
+no_work-copied s t same none = record { no_work = λ i e was. by_entry i e was (entry_at s.btt i) refl } where
+  by_entry : (i : ℕ) (e : BttEntry) → entry_at t.btt i ≡ Some e → (o : Option BttEntry) → entry_at s.btt i ≡ o → e.work ≡ NoWork
+  by_entry i e now o was = by_old o was (sym (entry_at-mapped settled_entry s.btt i ∙ ap (option_and_then settled_entry) was)
+      ∙ ap (λ (u : Listing BttEntry). entry_at u i) (sym same) ∙ entry_at-mapped settled_entry t.btt i ∙ ap (option_and_then settled_entry) now)
+    where
+      by_old : (o : Option BttEntry) → entry_at s.btt i ≡ o → option_and_then settled_entry o ≡ settled_entry e → e.work ≡ NoWork
+      by_old None was h = cc
+      by_old (Some f) was h =
+          let alike : record f { pend = Settled } ≡ record e { pend = Settled } = cc in
+          ap (λ (x : BttEntry). x.work) (sym alike) ∙ none.no_work i f was
+
+-- ---- the engine
+
+-- it still has the registers, and the slot the block that is next
+slot-next : (p : Parameters) (j : ℕ) (more : Bool) → nat_lt (j + 1) (slot_blocks p) ≡ more → (k : ℕ) → (if more then Slot (j + 1) else Settle) ≡ Slot k → k < slot_blocks p
+slot-next p j true h k is =
+    let below : j + 1 < slot_blocks p = ltb-true (j + 1) (slot_blocks p) h in
+    let same : j + 1 ≡ k = cc in
+    omega (arith, below, same)
+slot-next p j false h k is = cc
+
+inside-next : (p : Parameters) (i : Item) (k : ℕ) → next_after p i ≡ Slot k → k < slot_blocks p
+inside-next p NoItem k is = cc
+inside-next p (CopyItem j) k is = cc
+inside-next p (PageItem j) k is = cc
+inside-next p (SlotItem j) k is = slot-next p j (nat_lt (j + 1) (slot_blocks p)) refl k is
+inside-next p SettleItem k is = cc
+inside-next p CommitItem k is = cc
+inside-next p ConfirmItem k is = cc
+
+pub progress-next : (e : Progress) (i : Item) → IsSoundProgress e → IsSoundProgress (record e { next = next_after e.p i })
+progress-next e i sound = record { regs = sound.regs; inside = λ k is. inside-next e.p i k is }
+
+-- an item tells what was next, but for copies, pages and the slot
+abbrev pub back : Item → Option Next
+back NoItem = Some Nothing
+back (CopyItem i) = None
+back (PageItem j) = None
+back (SlotItem k) = None
+back SettleItem = Some Settle
+back CommitItem = Some Commit
+back ConfirmItem = Some Confirm
+
+back-page : (o : Option ℕ) → back (page_or_slot o) ≡ None
+back-page None = refl
+back-page (Some j) = refl
+
+back-copy : (o : Option ℕ) (s : State) → back (copy_or o (page_item s)) ≡ None
+back-copy None s = back-page (next_page s)
+back-copy (Some i) s = refl
+
+pub back-item : (q : Next) (s : State) (r : Next) → back (item q s) ≡ Some r → q ≡ r
+back-item Nothing s r h = cc
+back-item Copies s r h = let none = back-copy (next_copy s) s in cc
+back-item Pages s r h = let none = back-page (next_page s) in cc
+back-item (Slot k) s r h = cc
+back-item Settle s r h = cc
+back-item Commit s r h = cc
+back-item Confirm s r h = cc
+
+-- it waits for the last barrier only where that is the item
+pub not-confirming : (q : Next) (s : State) → item q s ≢ ConfirmItem → is_confirming q ≡ false
+not-confirming Nothing s h = refl
+not-confirming Copies s h = refl
+not-confirming Pages s h = refl
+not-confirming (Slot k) s h = refl
+not-confirming Settle s h = refl
+not-confirming Commit s h = refl
+not-confirming Confirm s h = absurd (h refl)

@@ -1,0 +1,80 @@
+-- The scheme is lawful.
+use Rattle.std.proofs.Common.{◌≡◌, ℕ, Bool, true, false, length, replicate, refl, arith}
+use Rattle.std.proofs.lemmas.List.{length-replicate}
+use Rattle.thy_base.specs.declared.config.Parameters.{Parameters}
+use Rattle.thy_base.specs.Device.{zero_block}
+use Rattle.thy_base.specs.Places.{dram_blocks}
+use Rattle.thy_cell.specs.Steps.{NewIsSound}
+use Rattle.thy_dram.specs.Contents.{Contents, fresh}
+use Rattle.thy_isa.specs.declared.state.CpuState.{CpuState}
+use Rattle.thy_isa.specs.declared.state.Status.TheVariants.{Running}
+use Rattle.thy_control.specs.State.{new_state}
+use Rattle.thy_control.proofs.NewLemmas.{AreSoundTables-new}
+use Rattle.thy_commit.specs.declared.next.Next.TheVariants.{Nothing, Slot}
+use Rattle.thy_recover.specs.Boot.{new_boot}
+use Rattle.thy_scheme.specs.Laws.{IsLawful}
+use Rattle.thy_dual_model.specs.Boots.{IsPowered}
+use Rattle.thy_dual_model.specs.Dual.{Dual}
+use Rattle.thy_dual_model.specs.Scheme.{dual_scheme}
+use Rattle.thy_dual_model.proofs.BootLemmas.{boot_is_sound, power_finds, power_is_new, zeros_are_nothing}
+use Rattle.thy_dual_model.proofs.HoldsLemmas.{run_is_sound}
+use Rattle.thy_dual_model.proofs.StaysLemmas.{stays_keep}
+use Rattle.thy_dual_model.proofs.StoreLemmas.{held_is_up, ready_is_whole, same-stays, on-stays}
+
+-- ---- power can come on
+
+abbrev no_cpu : CpuState
+no_cpu = record { pc = 0; regs = replicate 32 0; console_len = 0; cursor = 0; brk = 0; floor = 0; count = 0; status = Running }
+
+abbrev no_dram : Parameters → Contents
+no_dram p = fresh (dram_blocks p) p.dramq
+
+abbrev first : Parameters → Dual
+first p = record {
+  control = new_state p (no_dram p);
+  engine = record { p = p; next = Nothing; cpu = no_cpu; epoch = 0 };
+  rested = true;
+  lean = false;
+  boot = new_boot p;
+}
+
+new-cells : (i j block page : ℕ) (under_way : Bool) → NewIsSound i j block page under_way
+new-cells i j block page under_way = grind arith
+
+no-slot : (k : ℕ) → Nothing ≡ Slot k → ⊥
+no-slot k e = cc
+
+powered : (p : Parameters) → IsPowered p (first p)
+powered p =
+    let size : length (no_dram p).blocks ≡ dram_blocks p = length-replicate (dram_blocks p) zero_block in
+    record {
+      dram = no_dram p;
+      is_dram = record { blocks = size; room = refl; empty = refl };
+      controller = refl;
+      tables = λ range. AreSoundTables-new new-cells p (no_dram p) range size;
+      boot = refl;
+      engine = refl;
+      progress = record { regs = length-replicate {A = ℕ} 32 0; inside = λ k is. absurd (no-slot k is) };
+      idle = refl;
+      rested = refl;
+      lean = refl;
+    }
+
+-- ---- the laws
+
+pub lawful : IsLawful dual_scheme
+lawful = record {
+  powers = λ p. (first p, powered p);
+  is_new = power_is_new;
+  finds_nothing = zeros_are_nothing;
+  finds = power_finds;
+  boot_holds = boot_is_sound;
+  run_holds = run_is_sound;
+  up = held_is_up;
+  ready_up = λ s n ready. (ready_is_whole s n ready).0;
+  ready_whole = λ s n ready. (ready_is_whole s n ready).1;
+  free_is = λ s n. refl;
+  stays_same = same-stays;
+  stays_on = on-stays;
+  stays_sound = λ o k s n t new stands free stays. stays_keep o k s n t new stands stays;
+}

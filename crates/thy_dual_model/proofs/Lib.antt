@@ -1,0 +1,17 @@
+pub mod BlocksLemmas
+pub mod SafeLemmas
+pub mod StaysLemmas
+pub mod CountLemmas
+pub mod HoldsLemmas
+pub mod MergeLemmas
+pub mod CallLemmas
+pub mod AccessLemmas
+pub mod SealLemmas
+pub mod ItemLemmas
+pub mod EngineLemmas
+pub mod BootedLemmas
+pub mod BootLemmas
+pub mod StoreLemmas
+pub mod RestoredLemmas
+pub mod BootStepLemmas
+pub mod LawfulLemmas

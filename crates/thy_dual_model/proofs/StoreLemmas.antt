@@ -1,0 +1,49 @@
+-- The scheme as a store of blocks: when it holds blocks and is ready, and what stays over any number of loads and stores.
+use Rattle.std.proofs.Common.{ℕ, ◌==◌, not, nat_lt, refl, ◌∙◌, ap}
+use Rattle.std.proofs.lemmas.Bool.{and_parts, eqb-true}
+use Rattle.thy_base.specs.Device.{Device}
+use Rattle.thy_control.specs.Holding.{promoted}
+use Rattle.thy_control.specs.OverCalls.{stays_same, stays_on}
+use Rattle.thy_control.proofs.HoldingLemmas.{AreWorks-holding, not-of}
+use Rattle.thy_dual_model.specs.Dual.{Dual}
+use Rattle.thy_dual_model.specs.Laws.{HeldIsUp, ReadyIsWhole, StaysOver}
+use Rattle.thy_dual_model.specs.Stays.{RestsOn, PromotesOn, StaysDual}
+
+pub held_is_up : HeldIsUp
+held_is_up s n b l = (AreWorks-holding s.control n b l).up
+
+pub ready_is_whole : ReadyIsWhole
+ready_is_whole s n ready =
+    let both = and_parts (promoted s.control.ptt == 0) (not n.down) ready in
+    (not-of n.down both.1, ap (λ (k : ℕ). nat_lt 0 k) (eqb-true (promoted s.control.ptt) 0 both.0))
+
+pub same-stays : (s : Dual) (n : Device) → StaysDual s n s n
+same-stays s n = record {
+  control = stays_same s.control n;
+  engine = refl;
+  lean = refl;
+  room = refl;
+  tables = λ t. t;
+  rests = λ r. record { before = r; blocks = refl };
+  promotes = λ p. record { before = p; rested = refl };
+}
+
+pub on-stays : (a : Dual) (m : Device) (b : Dual) (n : Device) (c : Dual) (o : Device) → StaysDual a m b n → StaysDual b n c o → StaysDual a m c o
+on-stays a m b n c o first second = record {
+  control = stays_on a.control m b.control n c.control o first.control second.control;
+  engine = second.engine ∙ first.engine;
+  lean = second.lean ∙ first.lean;
+  room = second.room ∙ first.room;
+  tables = λ t. second.tables (first.tables t);
+  rests = λ r.
+      let now : RestsOn b c = second.rests r in
+      let then : RestsOn a b = first.rests now.before in
+      record { before = then.before; blocks = now.blocks ∙ then.blocks };
+  promotes = λ p.
+      let now : PromotesOn b c = second.promotes p in
+      let then : PromotesOn a b = first.promotes now.before in
+      record { before = then.before; rested = now.rested ∙ then.rested };
+}
+
+pub stays_over : StaysOver
+stays_over = (same-stays, on-stays)

@@ -1,0 +1,80 @@
+-- The boot of a run, and what is seen of it.
+use Rattle.std.specs.Prelude.{◌≡◌, true, false, Bool, Result, Ok, Err}
+use Rattle.thy_base.specs.declared.config.Parameters.{Parameters}
+use Rattle.thy_base.specs.declared.nvm.NvmError.{NvmError}
+use Rattle.thy_base.specs.Device.{Device}
+use Rattle.thy_base.specs.Geometry.{IsInRange}
+use Rattle.thy_dram.specs.Contents.{Contents}
+use Rattle.thy_record.specs.Images.{decode_image}
+use Rattle.thy_view.specs.declared.view.View.{View}
+use Rattle.thy_view.specs.Booting.{loading_view, view_of_image}
+use Rattle.thy_view.specs.Kind.{IsDramOf}
+use Rattle.thy_view.specs.Origin.{Origin, IsOrigin}
+use Rattle.thy_view.specs.Safe.{ceiling}
+use Rattle.thy_control.specs.State.{AreSoundTables, new_state}
+use Rattle.thy_commit.specs.Items.{is_under_way}
+use Rattle.thy_commit.specs.Progress.{IsSoundProgress}
+use Rattle.thy_recover.specs.declared.stage.BootStep.{BootStep}
+use Rattle.thy_recover.specs.declared.stage.BootStep.TheVariants.{Reading, Loading as IsLoading, Loaded as HasLoaded, Restarted, Refused}
+use Rattle.thy_recover.specs.declared.stage.Stage.{Stage}
+use Rattle.thy_recover.specs.declared.stage.Stage.TheVariants.{Unread, Loading}
+use Rattle.thy_recover.specs.Boot.{IsBoot, new_boot}
+use Rattle.thy_recover.specs.Laws.{IsGoing}
+use Rattle.thy_recover.specs.Shows.{is_written}
+use Rattle.thy_recover.specs.Sound.{Checkpoints, IsSound as IsBootOf}
+use Rattle.thy_scheme.specs.declared.boot_step.BootStep.{BootStep as SchemeStep}
+use Rattle.thy_scheme.specs.declared.boot_step.BootStep.TheVariants.{GoesOn, Loaded as SchemeLoaded, Restarted as SchemeRestarted, Refused as SchemeRefused}
+use Rattle.thy_dual_model.specs.Booted.{IsUnused}
+use Rattle.thy_dual_model.specs.Dual.{Dual}
+
+-- a boot of a run that is not over, of a scheme in which nothing was sealed or stored; before it has read, nothing is queued in
+-- the DRAM
+pub record Boots (o : Origin) (s : Dual) (n : Device) : Type 0 where
+  pub origin : IsOrigin o
+  pub images : Checkpoints
+  pub sound : IsBootOf o images n s.boot s.control
+  pub going : IsGoing s.boot.stage
+  pub boot : IsBoot s.boot
+  pub unused : IsUnused o s
+  pub unread : s.boot.stage ≡ Unread → s.control.dram.queued ≡ 0
+  pub rested : s.rested ≡ true
+
+-- what is seen: while it loads, whether the commit block was written, and before what the image means
+abbrev pub view_at : Origin → Stage → Device → View
+view_at o (Loading issue) n = record (loading_view o.start.count) { written = is_written issue }
+view_at o stage n = view_of_image o.start.count (decode_image o.geometry ceiling n.image)
+
+-- the commit block was read
+abbrev pub has_read_at : Stage → Bool
+has_read_at Unread = false
+has_read_at stage = true
+
+-- there is no checkpoint
+abbrev pub loads_at : Stage → Bool
+loads_at (Loading issue) = true
+loads_at stage = false
+
+-- what a step of the boot tells, as a scheme tells it
+abbrev pub step_of : BootStep → SchemeStep
+step_of Reading = GoesOn
+step_of IsLoading = GoesOn
+step_of HasLoaded = SchemeLoaded
+step_of (Restarted cpu epoch) = SchemeRestarted cpu epoch
+step_of (Refused bad) = SchemeRefused bad
+
+abbrev pub told_as : Result BootStep NvmError → Result SchemeStep NvmError
+told_as (Ok step) = Ok (step_of step)
+told_as (Err e) = Err e
+
+-- power has just come on
+pub record IsPowered (p : Parameters) (s : Dual) : Type 0 where
+  pub dram : Contents
+  pub is_dram : IsDramOf p dram
+  pub controller : s.control ≡ new_state p dram
+  pub tables : IsInRange p → AreSoundTables s.control
+  pub boot : s.boot ≡ new_boot p
+  pub engine : s.engine.p ≡ p
+  pub progress : IsSoundProgress s.engine
+  pub idle : is_under_way s.engine.next ≡ false
+  pub rested : s.rested ≡ true
+  pub lean : s.lean ≡ false

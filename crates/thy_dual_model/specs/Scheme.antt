@@ -1,0 +1,49 @@
+-- What is seen of the scheme.
+use Rattle.std.specs.Prelude.{◌*◌, true}
+use Rattle.thy_base.specs.Places.{image_blocks}
+use Rattle.thy_record.specs.Images.{decode_image}
+use Rattle.thy_table.specs.Listing.{free_count}
+use Rattle.thy_recover.specs.declared.stage.Stage.TheVariants.{Unread}
+use Rattle.thy_recover.specs.Left.{boot_left}
+use Rattle.thy_control.specs.Holding.{holding_of}
+use Rattle.thy_control.specs.Merges.{overlays}
+use Rattle.thy_control.specs.Promotions.{unfilled}
+use Rattle.thy_commit.specs.Cycles.{cycles_left, most_cycles}
+use Rattle.thy_commit.specs.Items.{is_under_way}
+use Rattle.thy_scheme.specs.Scheme.{SchemeOf}
+use Rattle.thy_dual_model.specs.Boots.{Boots, IsPowered, view_at, has_read_at}
+use Rattle.thy_dual_model.specs.Dual.{Dual, is_overlaid, is_promoting, penults}
+use Rattle.thy_dual_model.specs.Sound.{IsSound}
+use Rattle.thy_dual_model.specs.Stays.{StaysDual}
+
+abbrev pub dual_scheme : SchemeOf Dual
+dual_scheme = record {
+  decode = decode_image;
+  blocks = image_blocks;
+  powered = IsPowered;
+  holding = λ s n. holding_of s.control n;
+  committed = λ s n. penults s.control n;
+  stays = StaysDual;
+  under_way = λ s. is_under_way s.engine.next;
+  overlaid = λ s. is_overlaid s.control;
+  promoting = λ s. is_promoting s.control;
+  rested = λ s. s.rested;
+  lean = λ s. s.lean;
+  overlaps = true;
+  queued = λ s. s.control.dram.queued;
+  free = λ s. free_count s.control.btt;
+  is_sound = IsSound;
+  boots = Boots;
+  boot_view = λ o s n. view_at o s.boot.stage n;
+  has_read = λ s. has_read_at s.boot.stage;
+  boot_left = λ s. boot_left s.boot.p s.boot.stage;
+  engine_left = λ s. cycles_left s.engine s.control;
+  merges_left = λ s. overlays s.control;
+  promotions_left = λ s. unfilled s.control;
+  most_boot = λ p. boot_left p Unread;
+  most_engine = most_cycles;
+  most_merges = λ p. p.btt;
+  most_promotions = λ p. 64 * p.ptt;
+  most_owed = λ p. p.btt;
+  most_free = λ p. p.btt;
+}

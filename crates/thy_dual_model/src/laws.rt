@@ -1,0 +1,43 @@
+//! Laws of the scheme, each the contract of a function that does nothing.
+ghost use Rattle.thy_dual_model.specs.Booted.{BootedIsSound};
+ghost use Rattle.thy_dual_model.specs.Laws.{BootIsSound, PowerFinds, PowerIsNew, ZerosAreNothing};
+ghost use Rattle.thy_dual_model.specs.Laws.{HeldIsUp, ReadyIsWhole, RunIsSound, StaysKeep, StaysOver};
+
+/// Loads and stores keep the checkpoints, those that fail too, and bring the engine no more to do.
+pub fn stays_keep_the_checkpoints()
+    ensures { StaysKeep }
+{}
+
+/// Behind the boot, while the NVM is up, memory is held whole, what a cut may leave is safe, no number is above its most, and
+/// writes of the NVM may land.
+pub fn a_run_is_sound()
+    ensures { RunIsSound }
+{}
+
+/// Where a boot ends the scheme is sound: the checkpoint that was found or loaded is the committed one, none is under way, and
+/// nothing was stored.
+pub fn where_a_boot_ends_is_sound()
+    ensures { BootedIsSound }
+{}
+
+/// In the boot, whatever a cut leaves is what is seen: the checkpoint that was found, or what is loaded; writes of the NVM may
+/// land, and before the commit block was read nothing is queued in the DRAM.
+pub fn a_boot_is_sound()
+    ensures { BootIsSound }
+{}
+
+/// A scheme whose power has just come on has nothing queued in its DRAM. Over an NVM of a run that has nothing queued either it
+/// boots what the image means; one of zeros means nothing.
+pub fn a_boot_finds_the_image()
+    ensures finds { PowerFinds }
+    ensures new { PowerIsNew }
+    ensures zeros { ZerosAreNothing }
+{}
+
+/// As a store of blocks the scheme holds blocks, and is ready, only while the NVM is up, and is ready only where no page is being
+/// promoted. What stays over a call does so where nothing happens, and over one call after another.
+pub fn what_is_held_stays()
+    ensures up { HeldIsUp }
+    ensures ready { ReadyIsWhole }
+    ensures over { StaysOver }
+{}

@@ -1,0 +1,9 @@
+//! The scheme of both tables as its contracts see it: what it is, in its boot and behind it, and the laws that hold of it.
+#![tactic(auto)]
+
+mod laws;
+
+pub use laws::{
+    a_boot_finds_the_image, a_boot_is_sound, a_run_is_sound, stays_keep_the_checkpoints,
+    what_is_held_stays, where_a_boot_ends_is_sound,
+};
