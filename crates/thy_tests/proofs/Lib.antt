@@ -1,2 +1,3 @@
 mod DrivenLemmas
 mod MemoryLemmas
+mod StartingLemmas

@@ -1,5 +1,5 @@
 -- What the calls of a memory with its engine leave.
-use Rattle.std.proofs.Common.{◌≡◌, refl, sym, ◌∙◌, ap, subst, Some}
+use Rattle.std.proofs.Common.{◌≡◌, ℕ, ◌+◌, ◌≤◌, length, refl, sym, ◌∙◌, ap, subst, Some}
 use Rattle.thy_base.specs.declared.config.Parameters.{Parameters}
 use Rattle.thy_base.specs.Device.{Device, IsFramed}
 use Rattle.thy_base.specs.Places.{image_blocks}
@@ -9,11 +9,11 @@ use Rattle.thy_commit.specs.Progress.{Progress, Fits, device_after, device_next,
 use Rattle.thy_control.specs.Seal.{sealed_state}
 use Rattle.thy_control.specs.State.{State}
 use Rattle.thy_control.specs.Stays.{Stays}
-use Rattle.thy_tests.specs.Memory.{Parts, IsMemory}
+use Rattle.thy_tests.specs.Memory.{Parts, IsMemory, HasRoom}
 use Rattle.thy_tests.proofs.DrivenLemmas.{Drives-stays, Drives-sealed, down-copy, down-write}
 
-abbrev pub parts : Parameters → State → Progress → Device → Parts
-parts p s e n = record { p = p; control = s; engine = e; nvm = n }
+abbrev pub parts : Parameters → State → Progress → Device → ℕ → Parts
+parts p s e n cuts = record { p = p; control = s; engine = e; nvm = n; cuts = cuts }
 
 -- an item of the engine leaves the NVM up or down as it was
 pub down-item : (e : Progress) (i : Item) (s : State) (n : Device) → (device_after e i s n).down ≡ n.down
@@ -25,20 +25,42 @@ down-item e SettleItem s n = refl
 down-item e CommitItem s n = refl
 down-item e ConfirmItem s n = refl
 
+-- the room for cuts stays but for a cut
+pub HasRoom-framed : (m n : Device) (cuts : ℕ) → HasRoom m cuts → IsFramed m n → HasRoom n cuts
+HasRoom-framed m n cuts room frame =
+    subst (λ (k : ℕ). length n.left + cuts ≤ k) (sym frame.left_room)
+    (subst (λ l. length l + cuts ≤ m.left_room) (sym frame.left) room)
+
 -- what stays is a memory still, while the NVM is up
-pub IsMemory-stays : (p : Parameters) (e : Progress) (s t : State) (m n : Device)
-    → IsMemory (parts p s e m) → Fits e t → Stays s m t n → n.down ≡ m.down → IsMemory (parts p t e n)
-IsMemory-stays p e s t m n w fits stays same = record {
+pub IsMemory-stays : (p : Parameters) (e : Progress) (s t : State) (m n : Device) (cuts : ℕ)
+    → IsMemory (parts p s e m cuts) → Fits e t → Stays s m t n → n.down ≡ m.down → IsFramed m n
+    → IsMemory (parts p t e n cuts)
+IsMemory-stays p e s t m n cuts w fits stays same frame = record {
   same_p = stays.same_p ∙ w.same_p;
   drives = Drives-stays s t m n w.drives stays same;
   fits = fits;
+  room = HasRoom-framed m n cuts w.room frame;
+}
+
+-- so it is where a write of the NVM landed
+pub IsMemory-landed : (p : Parameters) (e : Progress) (s : State) (m n : Device) (cuts : ℕ)
+    → IsMemory (parts p s e m cuts) → n.down ≡ m.down → IsFramed m n → IsMemory (parts p s e n cuts)
+IsMemory-landed p e s m n cuts w same frame = record {
+  same_p = w.same_p;
+  drives = record {
+    blocks = w.drives.blocks;
+    sized = record { nvm = frame.blocks ∙ w.drives.sized.nvm };
+    up = same ∙ w.drives.up;
+  };
+  fits = w.fits;
+  room = HasRoom-framed m n cuts w.room frame;
 }
 
 -- so it is after an action of the engine
-pub IsMemory-item : (p : Parameters) (e f : Progress) (s t : State) (m n : Device)
-    → IsMemory (parts p s e m) → Fits f t → f ≡ engine_next e s → n ≡ device_next e s m → IsFramed m n
-    → IsMemory (parts p t f n)
-IsMemory-item p e f s t m n w fits f_is n_is frame =
+pub IsMemory-item : (p : Parameters) (e f : Progress) (s t : State) (m n : Device) (cuts : ℕ)
+    → IsMemory (parts p s e m cuts) → Fits f t → f ≡ engine_next e s → n ≡ device_next e s m → IsFramed m n
+    → IsMemory (parts p t f n cuts)
+IsMemory-item p e f s t m n cuts w fits f_is n_is frame =
     let t_p : t.p ≡ s.p = fits.same_p ∙ ap (λ (g : Progress). g.p) f_is ∙ sym w.fits.same_p in
     record {
       same_p = t_p ∙ w.same_p;
@@ -48,12 +70,13 @@ IsMemory-item p e f s t m n w fits f_is n_is frame =
         up = ap (λ (d : Device). d.down) n_is ∙ down-item e (item_of e s) s m ∙ w.drives.up;
       };
       fits = fits;
+      room = HasRoom-framed m n cuts w.room frame;
     }
 
 -- and after a seal, with which a checkpoint begins
-pub IsMemory-sealed : (p : Parameters) (e f : Progress) (s t : State) (n : Device)
-    → IsMemory (parts p s e n) → t ≡ sealed_state s → Fits f (sealed_state s) → IsMemory (parts p t f n)
+pub IsMemory-sealed : (p : Parameters) (e f : Progress) (s t : State) (n : Device) (cuts : ℕ)
+    → IsMemory (parts p s e n cuts) → t ≡ sealed_state s → Fits f (sealed_state s) → IsMemory (parts p t f n cuts)
 unfolding sealed_state
-IsMemory-sealed p e f s t n w t_is fits =
-    subst (λ (u : State). IsMemory (parts p u f n)) (sym t_is)
-    (record { same_p = w.same_p; drives = Drives-sealed s n w.drives; fits = fits })
+IsMemory-sealed p e f s t n cuts w t_is fits =
+    subst (λ (u : State). IsMemory (parts p u f n cuts)) (sym t_is)
+    (record { same_p = w.same_p; drives = Drives-sealed s n w.drives; fits = fits; room = w.room })

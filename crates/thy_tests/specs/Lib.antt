@@ -3,3 +3,4 @@ pub mod Boots
 pub mod Driven
 pub mod Entries
 pub mod Memory
+pub mod Starting

@@ -18,6 +18,8 @@ mod counts;
 #[cfg(test)]
 mod crash;
 #[cfg(test)]
+mod cuts;
+#[cfg(test)]
 mod dram;
 #[cfg(test)]
 mod driven;
@@ -57,6 +59,8 @@ mod plain;
 mod record;
 #[cfg(test)]
 mod runs;
+#[cfg(test)]
+mod starting;
 #[cfg(test)]
 mod tables;
 #[cfg(test)]

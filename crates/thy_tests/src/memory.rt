@@ -2,8 +2,11 @@
 //! the test where that does not hold.
 ghost use Rattle.std.specs.Prelude.{◌≡◌, ◌<◌, length, false};
 ghost use Rattle.thy_base.specs.Places.{image_blocks};
+ghost use Rattle.thy_tests.specs.Driven.{Drives};
+ghost use Rattle.thy_tests.specs.Memory.{HasRoom};
 
 use crate::geometry::geometry_of;
+use crate::starting::Off;
 use std::alloc::Global;
 use std::marker::Model;
 use std::process::Abort;
@@ -22,6 +25,7 @@ pub(crate) struct Memory {
     control: Control,
     engine: Engine,
     nvm: MemNvm,
+    cuts: u64,
 }
 
 impl Model for Memory {
@@ -29,9 +33,9 @@ impl Model for Memory {
 
     ghost Value = { Parts };
 
-    ghost view = { λ m. record { p = m.geometry; control = m.control; engine = m.engine; nvm = m.nvm } };
+    ghost view = { λ m. record { p = m.geometry; control = m.control; engine = m.engine; nvm = m.nvm; cuts = m.cuts } };
 
-    ghost invariant = { λ m. IsMemory (record { p = m.geometry; control = m.control; engine = m.engine; nvm = m.nvm }) };
+    ghost invariant = { λ m. IsMemory (record { p = m.geometry; control = m.control; engine = m.engine; nvm = m.nvm; cuts = m.cuts }) };
 }
 
 /// Epochs and counts are below this.
@@ -58,6 +62,7 @@ fn with_header(rt: &impl Abort, alloc: Global, geometry: &Geometry, cuts: u64) -
     requires least { geometry.now.pages ≡ 8 }
     ensures sized { length result.image ≡ image_blocks geometry.now }
     ensures up { result.down ≡ false }
+    ensures room { HasRoom result cuts }
 {
     let shape = Shape {
         blocks: geometry.blocks(),
@@ -86,6 +91,25 @@ impl Memory {
             control,
             engine,
             nvm,
+            cuts: 0,
+        }
+    }
+
+    /// A boot has filled this controller: an engine with no checkpoint under way stands beside it.
+    pub(crate) fn booted(geometry: Geometry, control: Control, nvm: MemNvm, cuts: u64) -> Memory
+        requires same_p { control.p ≡ geometry }
+        requires drives { Drives control nvm }
+        requires idle { control.under_way ≡ false }
+        requires room { HasRoom nvm cuts }
+    {
+        let engine = Engine::new(&geometry);
+        engine_and_controller_fit();
+        Memory {
+            geometry,
+            control,
+            engine,
+            nvm,
+            cuts,
         }
     }
 
@@ -155,6 +179,36 @@ impl Memory {
         self.control.tables();
     }
 
+    /// Lets the oldest write that is queued in the NVM land, if there is one.
+    pub(crate) fn drain_nvm(&mut self, rt: &impl Abort) {
+        if self.nvm.queued() > 0 {
+            self.nvm.drain().expect(rt, "a drain");
+        }
+    }
+
+    /// Lets the oldest write that is queued in the DRAM land, if there is one.
+    pub(crate) fn drain_dram(&mut self) {
+        if self.control.queued() > 0 {
+            self.control.drain();
+            engine_and_controller_fit();
+            self.control.tables();
+        }
+    }
+
+    /// Cuts the power of both devices with one pick.
+    pub(crate) fn cut(self, rt: &impl Abort, pick: u64) -> Off {
+        assert!(rt; self.cuts > 0);
+        self.control.tables();
+        let mut nvm = self.nvm;
+        nvm.cut(pick);
+        Off {
+            geometry: self.geometry,
+            dram: self.control.cut(pick),
+            nvm,
+            cuts: self.cuts - 1,
+        }
+    }
+
     /// One action of the engine.
     pub(crate) fn step(&mut self, rt: &impl Abort) -> EngineStep {
         self.engine
@@ -197,7 +251,7 @@ impl Memory {
 }
 
 /// Block `b` of a memory.
-fn block_of(rt: &impl Abort, memory: &[u8], b: usize) -> Block {
+pub(crate) fn block_of(rt: &impl Abort, memory: &[u8], b: usize) -> Block {
     let inside = b < memory.len() / 64;
     assert!(rt; inside);
     let mut block = Block::ZERO;

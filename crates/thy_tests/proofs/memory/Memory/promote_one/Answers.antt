@@ -13,6 +13,6 @@ invariant_of-self g c =
     let m : Device = c.self.inside.nvm in
     let n : Device = c.promote_one.new.nvm in
     let is : n ≡ m = subst (λ r. OnOk r (n ≡ m)) c.expect.ensures c.promote_one.ensures.same in
-    IsMemory-stays c.self.inside.geometry e s t m n c.self.invariant
+    IsMemory-stays c.self.inside.geometry e s t m n c.self.inside.cuts c.self.invariant
     (c.engine_and_controller_fit.ensures.stays e s m t n c.tables.ensures c.self.invariant.fits c.promote_one.ensures.stays)
-    c.promote_one.ensures.stays (ap (λ (d : Device). d.down) is)
+    c.promote_one.ensures.stays (ap (λ (d : Device). d.down) is) c.promote_one.ensures.frame

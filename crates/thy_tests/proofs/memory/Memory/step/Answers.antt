@@ -12,6 +12,6 @@ invariant_of-self g c =
     let m : Device = c.self.inside.nvm in
     let f : Progress = c.step.new.self in
     let n : Device = c.step.new.nvm in
-    IsMemory-item c.self.inside.geometry e f s c.step.new.control m n c.self.invariant c.step.ensures.fits
+    IsMemory-item c.self.inside.geometry e f s c.step.new.control m n c.self.inside.cuts c.self.invariant c.step.ensures.fits
     (subst (λ r. OnOk r (f ≡ engine_next e s)) c.expect.ensures c.step.ensures.engine)
     (subst (λ r. OnOk r (n ≡ device_next e s m)) c.expect.ensures c.step.ensures.device) c.step.ensures.frame
