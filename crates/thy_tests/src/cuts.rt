@@ -388,8 +388,8 @@ fn found(rt: &impl Abort, told: BootStep, beside: &Beside, at: u64) -> u64 {
     }
 }
 
-/// Cuts the power behind so many ticks, and compares what the machine restarts with.
-fn cut(rt: &impl Abort, alloc: Global, ticks: u64, pick: u64) -> u64 {
+/// Cuts the power behind so many ticks, and compares what the machine restarts with. Tells whether a checkpoint was in doubt.
+fn cut(rt: &impl Abort, alloc: Global, ticks: u64, pick: u64) -> bool {
     let (mut machine, mut beside) = begun(rt, alloc);
     for at in 0..ticks {
         machine = tick(rt, machine, &mut beside, at);
@@ -403,16 +403,27 @@ fn cut(rt: &impl Abort, alloc: Global, ticks: u64, pick: u64) -> u64 {
     for b in 0..512 {
         expect_at(rt, memory.load(rt, b), beside.sealed(rt, epoch, b), ticks);
     }
-    epoch
+    beside.in_doubt.is_some()
 }
 
-// The power is cut behind every tick, with each of four picks for what that leaves of the queued writes: none, all, and draws.
+/// Cuts the power behind so many ticks with each of four picks for what that leaves of the queued writes: none, all, and two
+/// draws. Where a checkpoint is in doubt it is cut with 32 more draws, so that its commit block lands without others.
+fn cuts(rt: &impl Abort, alloc: Global, ticks: u64) {
+    for pick in [0, 1, 7] {
+        cut(rt, alloc, ticks, pick);
+    }
+    if cut(rt, alloc, ticks, 12345) {
+        for pick in 100..132 {
+            cut(rt, alloc, ticks, pick);
+        }
+    }
+}
+
+// The power is cut behind every tick: each step of the boot and of the engine, each store, seal and drain.
 #[test]
 fn every_cut_restarts_with_what_was_committed(rt: HostRuntime) {
     let ticks = whole(&rt, rt.alloc());
     for at in 0..=ticks {
-        for pick in [0, 1, 7, 12345] {
-            cut(&rt, rt.alloc(), at, pick);
-        }
+        cuts(&rt, rt.alloc(), at);
     }
 }
