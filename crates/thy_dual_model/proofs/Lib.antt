@@ -15,3 +15,4 @@ pub mod StoreLemmas
 pub mod RestoredLemmas
 pub mod BootStepLemmas
 pub mod LawfulLemmas
+pub mod BoundLemmas

@@ -5,3 +5,4 @@ pub mod Booted
 pub mod Boots
 pub mod Scheme
 pub mod Laws
+pub mod Bounds

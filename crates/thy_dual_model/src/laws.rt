@@ -1,5 +1,6 @@
 //! Laws of the scheme, each the contract of a function that does nothing.
 ghost use Rattle.thy_dual_model.specs.Booted.{BootedIsSound};
+ghost use Rattle.thy_dual_model.specs.Bounds.{BootsAreShort, EpochsAreShort};
 ghost use Rattle.thy_dual_model.specs.Laws.{BootIsSound, PowerFinds, PowerIsNew, ZerosAreNothing};
 ghost use Rattle.thy_dual_model.specs.Laws.{HeldIsUp, ReadyIsWhole, RunIsSound, StaysKeep, StaysOver};
 
@@ -40,4 +41,12 @@ pub fn what_is_held_stays()
     ensures up { HeldIsUp }
     ensures ready { ReadyIsWhole }
     ensures over { StaysOver }
+{}
+
+/// An epoch of a machine over the scheme spends less than 64 cycles for each of its instructions, lines of the cache, entries
+/// of the block table and blocks of the pages that its page table can list, and sixteen more. A boot takes at most an action
+/// for each of memory's blocks, two for each of the slot's, 64 for each entry of the page table, and eight more.
+pub fn epochs_and_boots_are_short()
+    ensures epochs { EpochsAreShort }
+    ensures boots { BootsAreShort }
 {}

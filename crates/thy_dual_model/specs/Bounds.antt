@@ -1,0 +1,21 @@
+-- How long epochs and boots can be.
+use Rattle.std.specs.Prelude.{ℕ, ◌+◌, ◌*◌, ◌<◌, ◌≤◌}
+use Rattle.thy_base.specs.declared.config.Parameters.{Parameters}
+use Rattle.thy_base.specs.Geometry.{memory_blocks}
+use Rattle.thy_base.specs.Places.{slot_blocks}
+use Rattle.thy_core.specs.Pace.{most_spent}
+use Rattle.thy_dual_model.specs.Scheme.{dual_scheme}
+
+-- instructions, lines of the cache, entries of the block table, blocks of the page table's pages, and sixteen more
+abbrev pub size_of : Parameters → ℕ
+size_of p = p.epoch + p.sets * p.ways + p.btt + 64 * p.ptt + 16
+
+-- an epoch spends less than 64 cycles for each of them
+abbrev pub EpochsAreShort : Type 0
+EpochsAreShort = (p : Parameters) → most_spent dual_scheme p < 64 * size_of p
+
+-- a boot takes an action for each of memory's blocks, two for each of the slot's, 64 for each entry of the page table,
+-- and eight more, at the most
+abbrev pub BootsAreShort : Type 0
+BootsAreShort =
+    (p : Parameters) → dual_scheme.most_boot p ≤ memory_blocks p + 2 * slot_blocks p + 64 * p.ptt + 8
