@@ -26,6 +26,9 @@ pub trait BlockStore<N> {
     /// It need hold neither where no call is made nor over two: who promises it has made one call.
     ghost once: { Self → N → Self → N → Type 0 };
 
+    /// From a store and a device before one load to those after it, one that fails too.
+    ghost loads: { Self → N → Self → N → Type 0 };
+
     /// What every call keeps, one that fails too: a relation from an earlier store and device to
     /// later ones, over any number of calls.
     ghost stays: { Self → N → Self → N → Type 0 };
@@ -36,6 +39,7 @@ pub trait BlockStore<N> {
         ensures ok { IfOk result (λ block. block ≡ block_at (holding self.old nvm.old).blocks b) }
         ensures same { OnOk result (holding self.new nvm.new ≡ holding self.old nvm.old) }
         ensures kept { IsKeptByLoad (holding self.old nvm.old) (holding self.new nvm.new) }
+        ensures loads { loads self.old nvm.old self.new nvm.new }
         ensures once { once self.old nvm.old self.new nvm.new }
         ensures cause { CountsFault result (holding self.old nvm.old).faults (holding self.new nvm.new).faults };
 
@@ -65,6 +69,8 @@ impl BlockStore<()> for Vec<Block> {
     ghost holding = { λ list nothing. flat_list list.items };
 
     ghost once = { λ a m b n. ChangesOne a.items b.items };
+
+    ghost loads = { λ a m b n. b.items ≡ a.items };
 
     ghost stays = { λ a m b n. Unit {0} };
 

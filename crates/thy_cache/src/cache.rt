@@ -104,9 +104,10 @@ impl Cache {
         self.dirty
     }
 
-    /// What has to happen before block `b` can be filled in.
+    /// What has to happen before block `b` can be filled in: nothing where no line is dirty.
     pub fn victim(&self, b: u64) -> Victim
-        ensures { result ≡ victim_of self.now b }
+        ensures victim { result ≡ victim_of self.now b }
+        ensures clean { dirty_count self.now ≡ 0 → result ≡ Victim.Room }
     {
         let set = self.index_of(b);
         let ways = &self.sets[set];
@@ -239,6 +240,7 @@ impl Cache {
 
         // The store makes one load.
         ensures once { S.once store.old nvm.old store.new nvm.new }
+        ensures loads { S.loads store.old nvm.old store.new nvm.new }
         ensures kept { IsKeptByLoad (S.holding store.old nvm.old) (S.holding store.new nvm.new) }
         ensures stays { S.stays store.old nvm.old store.new nvm.new }
         ensures cause { CountsFault result (S.holding store.old nvm.old).faults (S.holding store.new nvm.new).faults }

@@ -6,6 +6,7 @@ use thy_base::{Block, BlockStore, Nvm, NvmError, Stored};
 /// ready while no page is being promoted and the NVM is up, and has room for as many stores as entries of the block
 /// table are free. A copy is owed for each buffer that has still to be copied.
 impl<N: Nvm> BlockStore<N> for Control {
+    ghost use Rattle.std.specs.Prelude.{◌≡◌};
     ghost use Rattle.thy_control.specs.Holding.{holding_of};
     ghost use Rattle.thy_control.specs.Once.{Once};
     ghost use Rattle.thy_control.specs.Stays.{Stays};
@@ -14,6 +15,8 @@ impl<N: Nvm> BlockStore<N> for Control {
     ghost holding = { λ control nvm. holding_of control (N.device nvm) };
 
     ghost once = { λ a m b n. Once a (N.device m) b (N.device n) };
+
+    ghost loads = { λ a m b n. b ≡ a };
 
     ghost stays = { λ a m b n. Stays a (N.device m) b (N.device n) };
 

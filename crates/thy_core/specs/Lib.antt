@@ -1,8 +1,4 @@
-pub mod Machine
-pub mod Pace
-pub mod Sound
-pub mod Calls
-pub mod Rows
-pub mod Kind
-pub mod Failures
-pub mod Runs
+pub mod Parts
+pub mod Turns
+pub mod Cycles
+pub mod Reading

@@ -3,7 +3,7 @@ use Rattle.std.specs.Prelude.{ℕ, ◌+◌, ◌*◌, ◌<◌, ◌≤◌}
 use Rattle.thy_base.specs.declared.config.Parameters.{Parameters}
 use Rattle.thy_base.specs.Geometry.{memory_blocks}
 use Rattle.thy_base.specs.Places.{slot_blocks}
-use Rattle.thy_core.specs.Pace.{most_spent}
+use Rattle.thy_core_model.specs.Pace.{most_spent}
 use Rattle.thy_dual_model.specs.Scheme.{dual_scheme}
 
 -- instructions, lines of the cache, entries of the block table, blocks of the page table's pages, and sixteen more

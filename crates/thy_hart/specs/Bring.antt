@@ -27,6 +27,7 @@ pub record IsBrought (b : ℕ) (old : Contents) (before : Holding) (new : Conten
   pub ready : now.ready ≡ before.ready
   -- no more room is taken than dirty lines have gone
   pub room : dirty_count new + before.free ≤ dirty_count old + now.free
+  pub tidy : dirty_count new ≤ dirty_count old
   pub opened : IsOpenFor new (Some b) now.open_page
   pub owed : now.owed ≤ before.owed
   pub nearer : IsNearer b old before new now

@@ -65,6 +65,14 @@ reserved (Reserving e to) = 0
 reserved (Writing e to done) = blocks_of to
 reserved (Retiring e wrote) = 0
 
+-- how many blocks it is to reserve room for next, if it is at that
+abbrev pub to_reserve : Hand → Option ℕ
+to_reserve Nothing = None
+to_reserve (Reading e from to) = None
+to_reserve (Reserving e to) = Some (blocks_of to)
+to_reserve (Writing e to done) = None
+to_reserve (Retiring e wrote) = None
+
 -- it has written a block
 abbrev pub has_written : Hand → Bool
 has_written Nothing = false

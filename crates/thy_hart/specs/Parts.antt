@@ -71,6 +71,7 @@ pub record Acts (g : Given) (c d : Contents) (old new : Core) (step : HartStep) 
       → flat d blocks ≡ memory_by old.bytes (flat c blocks) old.hand
   pub agree : AgreesStill c d
   pub room : dirty_count c + reserved old.hand ≤ g.free → dirty_count d + reserved new.hand ≤ g.free
+  pub tidy : reserved old.hand ≡ 0 → dirty_count d ≤ dirty_count c
   pub cache : d ≡ cache_by c old old.hand
   pub untouched : next_block old ≡ None → d ≡ c
   pub sized : KeepsSize c d

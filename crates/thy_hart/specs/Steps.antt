@@ -137,6 +137,8 @@ pub record IsStep (g : Given) (old new : Moment) (step : HartStep) : Type 0 wher
   pub brought : (b : ℕ) → brings_line old ≡ true → next_block old.hart ≡ Some b
       → BringsLine (victim_of old.cache b) b old.cache old.held new.cache
   pub used : brings_line old ≡ false → new.cache ≡ cache_by old.cache old.hart old.hart.hand
+  -- no line becomes dirty before its room is reserved
+  pub tidy : reserved old.hart.hand ≡ 0 → dirty_count new.cache ≤ dirty_count old.cache
   -- the store is left alone where no line is brought, and the cache where no block is touched
   pub alone : brings_line old ≡ false → new.held ≡ old.held
   pub untouched : next_block old.hart ≡ None → new.cache ≡ old.cache

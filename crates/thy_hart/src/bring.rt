@@ -28,6 +28,7 @@ pub(crate) fn bring<N, S: BlockStore<N>>(
         cache.new (S.holding store.new nvm.new)) }
     ensures err { OnErr result (cache.new ≡ cache.old) }
     ensures once { S.once store.old nvm.old store.new nvm.new }
+    ensures loads { dirty_count cache.old ≡ 0 → S.loads store.old nvm.old store.new nvm.new }
     ensures stays { S.stays store.old nvm.old store.new nvm.new }
     ensures cause { CountsFault result (S.holding store.old nvm.old).faults (S.holding store.new nvm.new).faults }
 {

@@ -1,9 +1,10 @@
 //! The hart and its calls.
 ghost use Rattle.std.specs.Prelude.{◌≡◌, ◌≢◌, ◌⊎◌, None, false, ◌+◌, ◌<◌, ◌^◌, IfOk, OnErr};
 ghost use Rattle.thy_base.specs.Device.{CountsFault};
+ghost use Rattle.thy_cache.specs.Contents.{dirty_count};
 ghost use Rattle.thy_isa.specs.declared.state.Status.TheVariants.{Running};
 ghost use Rattle.thy_epoch.specs.Epoch.{next_epoch};
-ghost use Rattle.thy_hart.specs.Core.{new_hart};
+ghost use Rattle.thy_hart.specs.Core.{new_hart, to_reserve};
 ghost use Rattle.thy_hart.specs.Acts.{given};
 ghost use Rattle.thy_hart.specs.Moments.{moment, brings_line, IsReady};
 ghost use Rattle.thy_hart.specs.Steps.{IsStep};
@@ -67,6 +68,20 @@ impl Hart {
         &self.parts.epoch
     }
 
+    /// The geometry of its machine.
+    pub fn geometry(&self) -> &Geometry
+        ensures { result.now ≡ self.now.geometry }
+    {
+        &self.parts.geometry
+    }
+
+    /// How many blocks the instruction in hand is to reserve room for next, 1 or 2, if it is at that.
+    pub fn to_reserve(&self) -> Option<u64>
+        ensures { result ≡ to_reserve self.now.hand }
+    {
+        self.parts.to_reserve()
+    }
+
     /// Begins the next epoch, where this one is over.
     pub fn sealed(&mut self)
         requires over { self.old.epoch.over ≢ None }
@@ -102,10 +117,12 @@ impl Hart {
         ensures hart { OnErr result (self.new ≡ self.old) }
         ensures cache { OnErr result (cache.new ≡ cache.old) }
 
-        // The store is called once at most, and not at all where no line is brought.
+        // The store is called once at most, not at all where no line is brought, and for a load where no line is dirty.
         ensures untouched { brings_line (moment self.old cache.old (S.holding store.old nvm.old)) ≡ false
             → (store.new ≡ store.old) × (nvm.new ≡ nvm.old) }
         ensures once { ((store.new ≡ store.old) × (nvm.new ≡ nvm.old)) ⊎ S.once store.old nvm.old store.new nvm.new }
+        ensures loads { dirty_count cache.old ≡ 0
+            → ((store.new ≡ store.old) × (nvm.new ≡ nvm.old)) ⊎ S.loads store.old nvm.old store.new nvm.new }
         ensures stays { S.stays store.old nvm.old store.new nvm.new }
         ensures cause { CountsFault result (S.holding store.old nvm.old).faults (S.holding store.new nvm.new).faults }
     {

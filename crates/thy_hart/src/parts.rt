@@ -11,7 +11,7 @@ ghost use Rattle.thy_isa.specs.Access.{IsWithin};
 ghost use Rattle.thy_isa.specs.Moves.{brings};
 ghost use Rattle.thy_isa.specs.OnBlocks.{calls_in};
 ghost use Rattle.thy_isa.specs.Step.{AreCallsOf, is_running};
-ghost use Rattle.thy_hart.specs.Core.{IsReading, IsWriting, IsSound, fetched_block, next_block, blocks_of, read_len, reserved};
+ghost use Rattle.thy_hart.specs.Core.{IsReading, IsWriting, IsSound, fetched_block, next_block, blocks_of, read_len, reserved, to_reserve};
 ghost use Rattle.thy_hart.specs.Acts.{touched, written_by, block_written, room_reserved, room_answer, retired, over_or_retired, epoch_retired, given};
 ghost use Rattle.thy_hart.specs.Parts.{core_of, IsFound, IsNext, ReadsWord, FetchesEffect, FetchesIn, ReadsIn, WritesIn, Acts};
 
@@ -97,6 +97,18 @@ impl Parts {
             Hand::Reading { from, .. } => Some(from.first_block()),
             Hand::Writing { to, .. } => Some(to.first_block()),
             Hand::Reserving { .. } | Hand::Retiring { .. } => None,
+        }
+    }
+
+    /// How many blocks the instruction in hand is to reserve room for, if it is at that.
+    pub fn to_reserve(&self) -> Option<u64>
+        requires { IsSound (core_of self.now) }
+        ensures { result ≡ to_reserve self.now.hand }
+    {
+        match self.hand {
+            Hand::Reserving { to, .. } => Some(blocks_of(to)),
+            Hand::Nothing | Hand::Reading { .. } | Hand::Writing { .. } | Hand::Retiring { .. } =>
+                None,
         }
     }
 

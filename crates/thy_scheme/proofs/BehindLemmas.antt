@@ -32,6 +32,18 @@ load_once K l s n new b (Err e) inside stays frame same failed = record {
   stays = stays;
 }
 
+-- a call that failed is counted
+pub failure_counts : {T : Type 0} (result : Result T NvmError) (n new : Device) → OnOk result (new.down ≡ false) → CountsFault result n.faults new.faults
+    → new.down ≡ true → Rose n.faults new.faults
+failure_counts (Ok x) n new up counts dead = absurd (cc)
+failure_counts (Err e) n new up counts dead = counts
+
+-- a load that succeeds leaves the NVM up
+pub load_up : {S : Type 0} (K : SchemeOf S) (l : IsLawful K) (s : S) (n new : Device) (b : ℕ) (result : Result Block NvmError)
+    → b < length (K.holding s n).blocks → OnOk result (new ≡ n) → OnOk result (new.down ≡ false)
+load_up K l s n new b (Ok block) inside same = ap (λ (d : Device). d.down) same ∙ l.up s n b inside
+load_up K l s n new b (Err e) inside same = tt
+
 pub rises : (old new : Bool) → old ≡ false → new ≡ true → Rose (if old then 1 else 0) (if new then 1 else 0)
 rises true new o n = absurd (cc)
 rises false true o n = record { no_less = omega arith; more = omega arith }

@@ -9,12 +9,14 @@ pub struct Behind<S> {
 }
 
 impl<N: Nvm, S: Scheme> BlockStore<N> for Behind<S> {
-    ghost use Rattle.thy_scheme.specs.Behind.{held_behind};
-    ghost use Rattle.thy_scheme.specs.Calls.{IsOneAccess};
+    ghost use Rattle.std.specs.Prelude.{◌≡◌};
+    ghost use Rattle.thy_scheme.specs.Behind.{held_behind, IsOneCall};
 
     ghost holding = { λ store nvm. held_behind S.scheme store.scheme (N.device nvm) };
 
-    ghost once = { λ a m b n. IsOneAccess S.scheme a.scheme (N.device m) b.scheme (N.device n) };
+    ghost once = { λ a m b n. IsOneCall S.scheme a.scheme (N.device m) b.scheme (N.device n) };
+
+    ghost loads = { λ a m b n. b.scheme ≡ a.scheme };
 
     ghost stays = { λ a m b n. S.scheme.stays a.scheme (N.device m) b.scheme (N.device n) };
 
@@ -26,7 +28,7 @@ impl<N: Nvm, S: Scheme> BlockStore<N> for Behind<S> {
         self.scheme.store(b, block, nvm)
     }
 
-    ghost once_stays = { λ a m b n once. once.stays };
+    ghost once_stays = { λ a m b n once. once.access.stays };
 
     ghost stays_same = { λ store nvm. S.lawful.stays_same store.scheme (N.device nvm) };
 

@@ -29,6 +29,8 @@ impl BlockStore<()> for Copying {
 
     ghost once = { λ a m b n. (b.turn ≡ not a.turn) × (a.faults ≤ b.faults) };
 
+    ghost loads = { λ a m b n. (b.blocks.items ≡ a.blocks.items) × (b.copies ≡ a.copies) };
+
     ghost stays = { λ a m b n. a.faults ≤ b.faults };
 
     fn load(&mut self, b: u64, _nvm: &mut ()) -> Result<Block, NvmError> {

@@ -37,6 +37,8 @@ impl BlockStore<()> for Scarce {
 
     ghost once = { λ a m b n. b.turn ≡ not a.turn };
 
+    ghost loads = { λ a m b n. (b.blocks.items ≡ a.blocks.items) × (b.copies ≡ a.copies) };
+
     ghost stays = { λ a m b n. Unit {0} };
 
     fn load(&mut self, b: u64, _nvm: &mut ()) -> Result<Block, NvmError> {

@@ -1,11 +1,18 @@
 use Rattle.thy_scheme.proofs.behind.BehindBlockStore.load.Goals as goal
-use Rattle.thy_scheme.proofs.BehindLemmas.{load_once, load_counts}
+use Rattle.thy_scheme.proofs.BehindLemmas.{load_once, load_up, failure_counts, load_counts}
 
 -- one action, or none
 pub returns-clause-once : goal.returns-clause-once
 returns-clause-once g c =
-    load_once g.S.Scheme.scheme g.met.S.Scheme.lawful c.args.self.now.scheme (g.N.Nvm.device c.args.nvm.now) (g.N.Nvm.device c.load.new.nvm) c.args.b c.load.result
-    c.requires c.load.ensures.stays c.load.ensures.frame c.load.ensures.same c.load.ensures.err
+    let K = g.S.Scheme.scheme in
+    let l = g.met.S.Scheme.lawful in
+    let s = c.args.self.now.scheme in
+    let n = g.N.Nvm.device c.args.nvm.now in
+    let new = g.N.Nvm.device c.load.new.nvm in
+    record {
+      access = load_once K l s n new c.args.b c.load.result c.requires c.load.ensures.stays c.load.ensures.frame c.load.ensures.same c.load.ensures.err;
+      counted = failure_counts c.load.result n new (load_up K l s n new c.args.b c.load.result c.requires c.load.ensures.same) c.load.ensures.cause;
+    }
 
 -- a failure is counted
 pub returns-clause-cause : goal.returns-clause-cause

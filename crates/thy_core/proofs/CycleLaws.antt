@@ -1,0 +1,377 @@
+-- Each actor's cycle, from what its call leaves.
+use Rattle.std.proofs.Common.{◌≡◌, ◌≢◌, ◌⊎◌, ℕ, ◌-◌, ◌<◌, ◌^◌, Bool, List, true, false, if◌then◌else◌, length, Some, None, Result, Ok, Err, IfOk, OnErr, refl, sym, ◌∙◌, ap, subst, inl, inr, arith}
+use Rattle.thy_base.specs.declared.cause.EndCause.{EndCause}
+use Rattle.thy_base.specs.declared.nvm.NvmError.{NvmError}
+use Rattle.thy_base.specs.Marks.{mark}
+use Rattle.thy_base.specs.Counts.{Rose}
+use Rattle.thy_base.specs.Device.{Device, HasFailed, IsFramed, drained}
+use Rattle.thy_base.specs.Geometry.{memory_blocks}
+use Rattle.thy_cache.specs.declared.line.Flushed.{Flushed}
+use Rattle.thy_cache.specs.Contents.{Contents, dirty_count}
+use Rattle.thy_hart.specs.declared.hand.HartStep.{HartStep}
+use Rattle.thy_hart.specs.Acts.{given}
+use Rattle.thy_hart.specs.Core.{Core}
+use Rattle.thy_hart.specs.Moments.{moment, brings_line, IsReady}
+use Rattle.thy_hart.specs.Steps.{IsStep}
+use Rattle.thy_isa.specs.declared.state.Status.{Status}
+use Rattle.thy_isa.specs.declared.state.Status.TheVariants.{Running, Exited, Trapped}
+use Rattle.thy_isa.specs.Step.{is_running}
+use Rattle.thy_record.specs.declared.engine_step.EngineStep.{EngineStep}
+use Rattle.thy_record.specs.declared.engine_step.EngineStep.TheVariants.{Idle, Copied, PageBlock, StateBlock, TableBlock, Barrier, CommitWritten, Committed}
+use Rattle.thy_view.specs.declared.did.Did.{Did}
+use Rattle.thy_view.specs.declared.did.Did.TheVariants.{Moved, Retired, Flushed as DidFlush, Merged, Sealed, Promoted, Engine, Committed as DidCommit, NvmDrained, DramDrained, Nothing, Boot as DidBoot, Loaded as DidLoad, Restarted as DidRestart, Refused as DidRefuse}
+use Rattle.thy_view.specs.declared.did.Stall.TheVariants.{Booting, Sealing, Waiting, Halted}
+use Rattle.thy_view.specs.declared.view.Phase.{Phase}
+use Rattle.thy_view.specs.declared.view.Phase.TheVariants.{Boot, Run, Halt}
+use Rattle.thy_view.specs.Action.{Action, Rest, ReadAt, WriteAt, Barrier as ActBarrier, Drain, after}
+use Rattle.thy_view.specs.Origin.{Origin}
+use Rattle.thy_view.specs.Turn.{Actor, Nvm, Dram, Checkpoint, TheHart, Does}
+use Rattle.thy_scheme.specs.declared.behind.Behind.{Behind}
+use Rattle.thy_scheme.specs.Behind.{fails_of, held_behind, IsOneCall}
+use Rattle.thy_scheme.specs.Marks.{Marks}
+use Rattle.thy_scheme.specs.Scheme.{SchemeOf, Stands, IsBooting}
+use Rattle.thy_scheme.specs.Calls.{IsOneAccess, Merges, Promotes, PromotionFails, Drains, Seals, Engines, EngineFails, engine_did}
+use Rattle.thy_scheme.specs.Boots.{BootsOn, BootFails, BootDrains, boot_did}
+use Rattle.thy_scheme.specs.declared.boot_step.BootStep.{BootStep}
+use Rattle.thy_scheme.specs.declared.boot_step.BootStep.TheVariants.{GoesOn, Loaded, Restarted, Refused}
+use Rattle.thy_core.specs.declared.parts.Parts.{Parts}
+use Rattle.thy_core.specs.Parts.{machine_of, IsRestartBelow}
+use Rattle.thy_core_model.specs.Machine.{Machine, moment_of}
+use Rattle.thy_core_model.specs.Sound.{OpenNow}
+use Rattle.thy_core_model.specs.Calls.{IsAsked, HartStepped, FlushStepped, retires_by, hart_did, after_hart, after_flush, after_call, after_drain, after_seal, after_engine, after_boot}
+use Rattle.thy_core_model.specs.Rows.{At, HartGoes, IsSealing, Leads}
+use Rattle.thy_core.specs.Cycles.{IsEngineDue, IsTurnOf, IsCycle, HasFailedAs, LeadsAs, FailsAs}
+use Rattle.thy_core_model.proofs.Facts.{sound-run, holds-run, is-going}
+use Rattle.thy_core_model.proofs.KeepsLaws.{stands, runs_behind}
+use Rattle.thy_core_model.proofs.BootingLaws.{sound-boot, small-boot}
+use Rattle.thy_core_model.proofs.DrainRows.{nvm_drain_leads, nothing_leads, dram_drain_leads, boot_drain_leads}
+use Rattle.thy_core_model.proofs.CallRows.{merge_leads, promotion_leads}
+use Rattle.thy_core_model.proofs.EngineRow.{engine_leads}
+use Rattle.thy_core_model.proofs.FlushRow.{flush_leads}
+use Rattle.thy_core_model.proofs.SealRow.{standing, seal_leads}
+use Rattle.thy_core_model.proofs.HartCases.{hart-leads}
+use Rattle.thy_core_model.proofs.FailRows.{hart_fails, flush_fails, promotion_leaves, engine_leaves, boot_leaves, drain_fails}
+use Rattle.thy_core_model.proofs.BootRow.{boot_leads}
+
+-- a call that failed
+pub on_err : {T E : Type 0} (r : Result T E) {P : Type 0} → P → OnErr r P
+on_err (Ok x) p = tt
+on_err (Err e) p = p
+
+does_boot : (step : BootStep) → Does (boot_did step) (TheHart (Some Booting))
+does_boot GoesOn = refl
+does_boot Loaded = refl
+does_boot (Restarted cpu epoch) = refl
+does_boot (Refused bad) = refl
+
+-- what the scheme was before the boot's step does not count
+pub boot_over : {S : Type 0} (o : Origin) (step : BootStep) (t : S) (m : Machine S) → after_boot o step t (record m { scheme = t }) ≡ after_boot o step t m
+boot_over o GoesOn t m = refl
+boot_over o Loaded t m = refl
+boot_over o (Restarted cpu epoch) t m = refl
+boot_over o (Refused bad) t m = refl
+
+module _ {S : Type 0} (K : SchemeOf S) (o : Origin) (cycles : ℕ) (m : Machine S) (n : Device) (at : At K o cycles m n) where
+  -- ---- the DRAM's queue
+
+  pub stands_run : m.phase ≡ Run → Stands K o m.marks m.scheme n
+  stands_run e = stands K o cycles m n at.sound (runs_behind m.phase e)
+
+  drains_in : (phase : Phase) (t : S) → m.phase ≡ phase → 0 < K.queued m.scheme
+      → ((p : Origin) (k : Marks) (d : Device) → Stands K p k m.scheme d → Drains K p k m.scheme d t)
+      → ((p : Origin) (d : Device) → IsBooting K p m.scheme d → BootDrains K p m.scheme d t)
+      → Leads K o cycles DramDrained m n (after_drain t m) n
+  drains_in Boot t e some running booting =
+      boot_drain_leads K o cycles m n t at e some (booting o n (record { boots = (sound-boot K o cycles m n at.sound e).boots; up = at.sound.up }))
+  drains_in Run t e some running booting =
+      let behind : m.phase ≢ Boot = λ b. absurd (cc) in
+      dram_drain_leads K o cycles m n t at behind some (running o m.marks n (stands K o cycles m n at.sound behind))
+  drains_in Halt t e some running booting =
+      let behind : m.phase ≢ Boot = λ b. absurd (cc) in
+      dram_drain_leads K o cycles m n t at behind some (running o m.marks n (stands K o cycles m n at.sound behind))
+
+  pub drain_cycle : (t : S) → 0 < K.queued m.scheme
+      → ((p : Origin) (k : Marks) (d : Device) → Stands K p k m.scheme d → Drains K p k m.scheme d t)
+      → ((p : Origin) (d : Device) → IsBooting K p m.scheme d → BootDrains K p m.scheme d t)
+      → IsCycle K o cycles Dram DramDrained m n (after_drain t m) n
+  drain_cycle t some running booting = record { does = refl; leads = drains_in m.phase t refl some running booting }
+
+  -- ---- the engine
+
+  does_engine : (lap : ℕ) (step : EngineStep) → Does (engine_did lap step) Checkpoint
+  does_engine lap Idle = inl refl
+  does_engine lap Copied = inl refl
+  does_engine lap PageBlock = inl refl
+  does_engine lap StateBlock = inl refl
+  does_engine lap TableBlock = inl refl
+  does_engine lap Barrier = inl refl
+  does_engine lap CommitWritten = inl refl
+  does_engine lap (Committed epoch) = inl refl
+
+  pub engine_cycle : (t : S) (new : Device) (step : EngineStep) (next : Machine S) (did : Did) → IsEngineDue K m
+      → Engines K o m.marks step m.scheme n t new → next ≡ after_engine step t m → did ≡ engine_did m.lap step
+      → IsCycle K o cycles Checkpoint did m n next new
+  engine_cycle t new step next did due e is says =
+      subst (λ x. IsCycle K o cycles Checkpoint did m n x new) (sym is)
+      (subst (λ d. IsCycle K o cycles Checkpoint d m n (after_engine step t m) new) (sym says)
+      (record { does = does_engine m.lap step; leads = engine_leads K o cycles m n t new step at due.0 due.1 e }))
+
+  pub engine_failed : (new : Device) → IsEngineDue K m → EngineFails K o m.marks n new → HasFailedAs K o Checkpoint m n new
+  engine_failed new due e = record {
+    did = engine_did m.lap e.step;
+    does = does_engine m.lap e.step;
+    fails = engine_leaves K o cycles m n new at due.0 e;
+  }
+
+  -- ---- before a seal
+
+  pub promotion_cycle : (t : S) (new : Device) → IsSealing K o m n → K.promoting m.scheme ≡ true → Promotes K o m.marks m.scheme n t new
+      → IsCycle K o cycles (TheHart (Some Sealing)) Promoted m n (after_call t m) new
+  promotion_cycle t new sealing promoting p = record { does = refl; leads = promotion_leads K o cycles m n t new at sealing promoting p }
+
+  pub promotion_failed : (new : Device) → IsSealing K o m n → PromotionFails n new → HasFailedAs K o (TheHart (Some Sealing)) m n new
+  promotion_failed new sealing f = record { did = Promoted; does = refl; fails = promotion_leaves K o cycles m n new at sealing.phase f }
+
+  pub merge_cycle : (t : S) → IsSealing K o m n → K.promoting m.scheme ≡ false → dirty_count m.cache ≡ 0 → Merges K o m.marks m.scheme n t
+      → IsCycle K o cycles (TheHart (Some Sealing)) Merged m n (after_call t m) n
+  merge_cycle t sealing whole clean p = record { does = refl; leads = merge_leads K o cycles m n t at sealing whole clean p }
+
+  -- ---- the seal
+
+  pub sealed_regs : (cause : EndCause) → IsSealing K o m n → K.promoting m.scheme ≡ false → dirty_count m.cache ≡ 0
+      → Some cause ≡ m.hart.epoch.over → length m.hart.cpu.regs ≡ 32
+  sealed_regs cause sealing whole clean over = (standing K o cycles m n cause at sealing whole clean (sym over)).taken.recordable.regs_length
+
+  pub seal_cycle : (cause : EndCause) (t : S) (next : Machine S) (epoch count : ℕ) → IsSealing K o m n → K.promoting m.scheme ≡ false
+      → K.overlaid m.scheme ≡ false → dirty_count m.cache ≡ 0 → Some cause ≡ m.hart.epoch.over
+      → Seals K o m.marks m.hart.cpu m.hart.epoch.number m.scheme n t → epoch ≡ m.hart.epoch.number → count ≡ m.hart.cpu.count
+      → next ≡ after_seal t m → IsCycle K o cycles (TheHart (Some Sealing)) (Sealed epoch count cause) m n next n
+  seal_cycle cause t next epoch count sealing whole bare clean over p number at_count is =
+      subst (λ x. IsCycle K o cycles (TheHart (Some Sealing)) (Sealed epoch count cause) m n x n) (sym is)
+      (subst (λ e. IsCycle K o cycles (TheHart (Some Sealing)) (Sealed e count cause) m n (after_seal t m) n) (sym number)
+      (subst (λ i. IsCycle K o cycles (TheHart (Some Sealing)) (Sealed m.hart.epoch.number i cause) m n (after_seal t m) n) (sym at_count)
+      (record { does = refl; leads = seal_leads K o cycles m n t cause at sealing whole bare clean (sym over) p })))
+
+  -- ---- the hart
+
+  runs_by : (status : Status) → is_running status ≡ true → status ≡ Running
+  runs_by Running e = refl
+  runs_by (Exited v) e = absurd (cc)
+  runs_by (Trapped v) e = absurd (cc)
+
+  pub hart_runs : HartGoes K o m n → m.hart.cpu.status ≡ Running
+  hart_runs goes =
+      let run = sound-run K o cycles m n at.sound goes.phase in
+      runs_by m.hart.cpu.status (run.counted.running ∙ (is-going K o cycles m n at goes).runs)
+
+  pub hart_ready : HartGoes K o m n → IsReady (moment_of K m n)
+  hart_ready goes =
+      let run = sound-run K o cycles m n at.sound goes.phase in
+      let holds = holds-run K at.lawful o cycles m n at.sound goes.phase in
+      let going = is-going K o cycles m n at goes in
+      record {
+        blocks = holds.memory ∙ ap memory_blocks (sym at.sound.geometry);
+        agree = run.held.agree;
+        ready = holds.ready going.whole;
+        room = let free = at.lawful.free_is m.scheme n in omega (arith, run.held.room, free);
+        opened = subst (λ x. OpenNow x m.cache m.hart (K.holding m.scheme n).open_page) going.going run.held.opened;
+      }
+
+  does_hart : (retired : Bool) → Does (if retired then Retired else Moved) (TheHart None)
+  does_hart true = refl
+  does_hart false = refl
+
+  pub hart_cycle : (h : Core) (c : Contents) (t : S) (new : Device) (step : HartStep) (next : Machine S) (did : Did) → HartGoes K o m n
+      → HartStepped K (given o.input (K.free m.scheme) (K.under_way m.scheme)) m n h c t new step
+      → next ≡ after_hart step h c t m → did ≡ hart_did step → IsCycle K o cycles (TheHart None) did m n next new
+  hart_cycle h c t new step next did goes hs is says =
+      subst (λ x. IsCycle K o cycles (TheHart None) did m n x new) (sym is)
+      (subst (λ d. IsCycle K o cycles (TheHart None) d m n (after_hart step h c t m) new) (sym says)
+      (record { does = does_hart (retires_by step); leads = hart-leads K o cycles m n h c t new step at goes hs }))
+
+  pub hart_failed : (t : S) (new : Device) → HartGoes K o m n → IsOneAccess K m.scheme n t new → new.down ≡ true → HasFailedAs K o (TheHart None) m n new
+  hart_failed t new goes access down = record { did = Moved; does = refl; fails = hart_fails K o cycles m n t new at goes access down }
+
+  -- ---- a flush
+
+  pub flush_cycle : (c : Contents) (t : S) (new : Device) (flushed : Flushed) → IsSealing K o m n → K.promoting m.scheme ≡ false
+      → FlushStepped K m n flushed c t new → IsCycle K o cycles (TheHart (Some Sealing)) DidFlush m n (after_flush c t m) new
+  flush_cycle c t new flushed sealing whole f = record { does = refl; leads = flush_leads K o cycles m n c t new flushed at sealing whole f }
+
+  pub flush_failed : (t : S) (new : Device) → IsSealing K o m n → IsOneAccess K m.scheme n t new → new.down ≡ true
+      → HasFailedAs K o (TheHart (Some Sealing)) m n new
+  flush_failed t new sealing access down = record { did = DidFlush; does = refl; fails = flush_fails K o cycles m n t new at sealing access down }
+
+  -- ---- the boot
+
+  pub boot_below : (t : S) (new : Device) (step : BootStep) → m.phase ≡ Boot → BootsOn K o step m.scheme n t new → IsRestartBelow (2 ^ 64 - 1) step
+  boot_below t new GoesOn e b = tt
+  boot_below t new Loaded e b = tt
+  boot_below t new (Refused bad) e b = tt
+  boot_below t new (Restarted cpu epoch) e b =
+      let small = small-boot K o cycles m n at.sound e in
+      let mark_small = small.done (mark epoch cpu.count) (ap (λ v. v.done) b.answers.view) in
+      let few = at.few in
+      omega (arith, mark_small.epoch, few)
+
+  pub boot_cycle : (t : S) (new : Device) (step : BootStep) (next : Machine S) (did : Did) → m.phase ≡ Boot
+      → BootsOn K o step m.scheme n t new → next ≡ after_boot o step t m → did ≡ boot_did step
+      → IsCycle K o cycles (TheHart (Some Booting)) did m n next new
+  boot_cycle t new step next did e b is says =
+      subst (λ x. IsCycle K o cycles (TheHart (Some Booting)) did m n x new) (sym is)
+      (subst (λ d. IsCycle K o cycles (TheHart (Some Booting)) d m n (after_boot o step t m) new) (sym says)
+      (record { does = does_boot step; leads = boot_leads K o cycles m n t new step at e b }))
+
+  pub boot_failed : (new : Device) → m.phase ≡ Boot → BootFails K o m.scheme n new → HasFailedAs K o (TheHart (Some Booting)) m n new
+  boot_failed new e b = record { did = boot_did b.step; does = does_boot b.step; fails = boot_leaves K o cycles m n new at e b }
+
+  -- ---- the NVM's queue, and nothing
+
+  pub land_cycle : (new : Device) → 0 < length n.queue → new ≡ drained n → IsCycle K o cycles Nvm NvmDrained m n m new
+  land_cycle new some is =
+      subst (λ d. IsCycle K o cycles Nvm NvmDrained m n m d) (sym is) (record { does = refl; leads = nvm_drain_leads K o cycles m n at some })
+
+  pub land_failed : (new : Device) → HasFailed n new → IsFramed n new → HasFailedAs K o Nvm m n new
+  land_failed new failed frame = record { did = NvmDrained; does = refl; fails = drain_fails K o cycles m n new at failed frame }
+
+  pub rest_cycle : m.phase ≡ Halt → IsCycle K o cycles (TheHart (Some Halted)) Nothing m n m n
+  rest_cycle e = record { does = refl; leads = nothing_leads K o cycles m n at e }
+
+-- ---- the engine works for a hart that waits
+
+waits_does : (did : Did) → Does did Checkpoint → Does did (TheHart (Some Waiting))
+waits_does (Engine step) d = inr refl
+waits_does (DidCommit epoch overlapped) d = inr refl
+waits_does NvmDrained d = absurd (cc)
+waits_does DramDrained d = absurd (cc)
+waits_does Moved d = absurd (cc)
+waits_does Retired d = absurd (cc)
+waits_does DidFlush d = absurd (cc)
+waits_does Merged d = absurd (cc)
+waits_does (Sealed epoch count cause) d = absurd (cc)
+waits_does Promoted d = absurd (cc)
+waits_does Nothing d = absurd (cc)
+waits_does DidBoot d = absurd (cc)
+waits_does DidLoad d = absurd (cc)
+waits_does (DidRestart epoch count) d = absurd (cc)
+waits_does (DidRefuse bad) d = absurd (cc)
+
+pub waits_cycle : {S : Type 0} (K : SchemeOf S) (o : Origin) (cycles : ℕ) (did : Did) (m next : Machine S) (n new : Device)
+    → IsCycle K o cycles Checkpoint did m n next new → IsCycle K o cycles (TheHart (Some Waiting)) did m n next new
+waits_cycle K o cycles did m next n new c = record { does = waits_does did c.does; leads = c.leads }
+
+pub waits_failed : {S : Type 0} (K : SchemeOf S) (o : Origin) (m : Machine S) (n new : Device)
+    → HasFailedAs K o Checkpoint m n new → HasFailedAs K o (TheHart (Some Waiting)) m n new
+waits_failed K o m n new f = record { did = f.did; does = waits_does f.did f.does; fails = f.fails }
+
+-- so it is by a result
+pub waits_leads : {S : Type 0} (K : SchemeOf S) (o : Origin) (cycles : ℕ) (m next : Machine S) (n new : Device) (r : Result Did NvmError)
+    → IfOk r (λ did. IsCycle K o cycles Checkpoint did m n next new) → IfOk r (λ did. IsCycle K o cycles (TheHart (Some Waiting)) did m n next new)
+waits_leads K o cycles m next n new (Ok did) c = waits_cycle K o cycles did m next n new c
+waits_leads K o cycles m next n new (Err e) c = tt
+
+pub waits_fails : {S : Type 0} (K : SchemeOf S) (o : Origin) (m : Machine S) (n new : Device) (r : Result Did NvmError)
+    → OnErr r (HasFailedAs K o Checkpoint m n new) → OnErr r (HasFailedAs K o (TheHart (Some Waiting)) m n new)
+waits_fails K o m n new (Ok did) f = tt
+waits_fails K o m n new (Err e) f = waits_failed K o m n new f
+
+-- ---- a call through the store of blocks
+
+-- what it asked for
+abbrev pub CalledOnce : {S N : Type 0} → SchemeOf S → (N → Device) → Behind S → N → Behind S → N → Type 0
+CalledOnce K device a x b y = ((b ≡ a) × (y ≡ x)) ⊎ IsOneCall K a.scheme (device x) b.scheme (device y)
+
+pub asked_once : {S N : Type 0} (K : SchemeOf S) (device : N → Device) (a b : Behind S) (x y : N) → CalledOnce K device a x b y
+    → IsAsked K a.scheme (device x) b.scheme (device y)
+asked_once K device a b x y (inl same) = inl (ap (λ s. s.scheme) same.0, ap device same.1)
+asked_once K device a b x y (inr once) = inr once.access
+
+framed_same : (n : Device) → IsFramed n n
+framed_same n = record { blocks = refl; left = refl; picks = refl; queue_room = refl; left_room = refl; fits = refl }
+
+pub framed_once : {S N : Type 0} (K : SchemeOf S) (device : N → Device) (a b : Behind S) (x y : N) → CalledOnce K device a x b y
+    → IsFramed (device x) (device y)
+framed_once K device a b x y (inl same) = subst (λ z. IsFramed (device x) (device z)) (sym same.1) (framed_same (device x))
+framed_once K device a b x y (inr once) = once.access.frame
+
+-- one that failed left the NVM down
+down_now : (old new : Bool) → old ≡ false → Rose (if old then 1 else 0) (if new then 1 else 0) → new ≡ true
+down_now old true up rose = refl
+down_now true false up rose = absurd (cc)
+down_now false false up rose = absurd (let more = rose.more in omega (arith, more))
+
+pub failed_once : {S N : Type 0} (K : SchemeOf S) (device : N → Device) (a b : Behind S) (x y : N) → (device x).down ≡ false
+    → CalledOnce K device a x b y → Rose (fails_of (device x)) (fails_of (device y))
+    → IsOneCall K a.scheme (device x) b.scheme (device y) × ((device y).down ≡ true)
+failed_once K device a b x y up (inl same) rose =
+    let down = down_now (device x).down (device y).down up rose in
+    absurd (let kept = ap (λ z. (device z).down) same.1 in cc)
+failed_once K device a b x y up (inr once) rose = (once, down_now (device x).down (device y).down up rose)
+
+-- a call that succeeded left it up
+abbrev count_of : Bool → ℕ
+count_of down = if down then 1 else 0
+
+up_now : (old new : Bool) → old ≡ false → count_of new ≡ count_of old → new ≡ false
+up_now old false up e = refl
+up_now true true up e = absurd (cc)
+up_now false true up e = absurd (let one : 1 ≡ count_of false = e in omega (arith, one))
+
+faults_after : (a : Action) (n : Device) → (after a n).faults ≡ n.faults
+faults_after Rest n = refl
+faults_after (ReadAt place) n = refl
+faults_after (WriteAt place block) n = refl
+faults_after ActBarrier n = refl
+faults_after Drain n = refl
+
+-- one that did not has counted no failure
+pub kept_once : {S N : Type 0} (K : SchemeOf S) (device : N → Device) (a b : Behind S) (x y : N) → (device x).down ≡ false
+    → CalledOnce K device a x b y → fails_of (device y) ≡ fails_of (device x) → (device y).faults ≡ (device x).faults
+kept_once K device a b x y up (inl same) e = ap (λ z. (device z).faults) same.1
+kept_once K device a b x y up (inr once) e =
+    let done = once.access.succeeds (up_now (device x).down (device y).down up e) in
+    ap (λ (d : Device). d.faults) done.left ∙ faults_after once.access.action (device x)
+
+-- ---- a step of the hart
+
+rests_by : {S N : Type 0} (K : SchemeOf S) (a b : Behind S) (x y : N) → ((b ≡ a) × (y ≡ x)) ⊎ (b.scheme ≡ a.scheme) → K.rested b.scheme ≡ K.rested a.scheme
+rests_by K a b x y (inl same) = ap (λ s. K.rested s.scheme) same.0
+rests_by K a b x y (inr same) = ap K.rested same
+
+given_is : (input other : List ℕ) (free before : ℕ) (way under : Bool) → other ≡ input → free ≡ before → way ≡ under
+    → given input free way ≡ given other before under
+given_is input other free before way under i f w =
+    ap (λ x. given x free way) (sym i) ∙ ap (λ x. given other x way) f ∙ ap (λ x. given other before x) w
+
+pub hart_stepped : {S N : Type 0} (K : SchemeOf S) (device : N → Device) (o : Origin) (p : Parts S) (b : Behind S) (x y : N) (h : Core) (c : Contents)
+    (step : HartStep) (input : List ℕ) (free : ℕ) (way : Bool) → o.input ≡ input → free ≡ K.free p.behind.scheme → way ≡ K.under_way p.behind.scheme
+    → IsStep (given input free way) (moment_of K (machine_of p) (device x)) (moment h c (held_behind K b.scheme (device y))) step
+    → CalledOnce K device p.behind x b y → K.stays p.behind.scheme (device x) b.scheme (device y)
+    → (brings_line (moment_of K (machine_of p) (device x)) ≡ false → (b ≡ p.behind) × (y ≡ x))
+    → (dirty_count p.cache ≡ 0 → ((b ≡ p.behind) × (y ≡ x)) ⊎ (b.scheme ≡ p.behind.scheme))
+    → HartStepped K (given o.input (K.free p.behind.scheme) (K.under_way p.behind.scheme)) (machine_of p) (device x) h c b.scheme (device y) step
+hart_stepped K device o p b x y h c step input free way i f w s once stays untouched loads =
+    let same = given_is input o.input free (K.free p.behind.scheme) way (K.under_way p.behind.scheme) i f w in
+    let is_step = subst (λ g. IsStep g (moment_of K (machine_of p) (device x)) (moment h c (held_behind K b.scheme (device y))) step) same s in
+    record {
+      is_step = is_step;
+      asked = asked_once K device p.behind b x y once;
+      stays = stays;
+      untouched = λ none. let kept = untouched none in (ap (λ s. s.scheme) kept.0, ap device kept.1);
+      tidy = is_step.tidy;
+      rests = λ clean. rests_by K p.behind b x y (loads clean);
+    }
+
+-- ---- the turn by another name
+
+pub leads_is : {S : Type 0} (K : SchemeOf S) (P Q : Origin → Type 0) (a b : Actor) (m next : Machine S) (n new : Device) (r : Result Did NvmError)
+    → b ≡ a → ((o : Origin) → Q o → P o) → LeadsAs K P a m n next new r → LeadsAs K Q b m n next new r
+leads_is K P Q a b m next n new r e kind leads = λ o cycles q at turn.
+    subst (λ x. IfOk r (λ did. IsCycle K o cycles x did m n next new)) (sym e)
+    (leads o cycles (kind o q) at (subst (IsTurnOf K o m n) e turn))
+
+pub fails_is : {S : Type 0} (K : SchemeOf S) (P Q : Origin → Type 0) (a b : Actor) (m : Machine S) (n new : Device) (r : Result Did NvmError)
+    → b ≡ a → ((o : Origin) → Q o → P o) → FailsAs K P a m n new r → FailsAs K Q b m n new r
+fails_is K P Q a b m n new r e kind fails = λ o cycles q at turn.
+    subst (λ x. OnErr r (HasFailedAs K o x m n new)) (sym e)
+    (fails o cycles (kind o q) at (subst (IsTurnOf K o m n) e turn))

@@ -1,0 +1,162 @@
+-- What is read behind the boot: the plain machine's state, and the console of the committed checkpoint.
+use Rattle.std.proofs.Common.{◌≡◌, ◌⊎◌, ℕ, ◌*◌, ◌-◌, ◌≤◌, ◌||◌, ◌&&◌, ◌==◌, not, true, false, Some, Result, Ok, Err, IfOk, List, length, take, drop, inl, inr, sym, ◌∙◌, ap, subst, arith}
+use Rattle.std.proofs.lemmas.Bool.{eqb-true}
+use Rattle.std.proofs.lemmas.List.{length-take, length-drop, take_min}
+use Rattle.thy_base.specs.declared.block.Block.{Block}
+use Rattle.thy_base.specs.declared.mark.Mark.{Mark}
+use Rattle.thy_base.specs.declared.config.Parameters.{Parameters}
+use Rattle.thy_base.specs.declared.bytes.Bytes.{Bytes}
+use Rattle.thy_base.specs.Bytes.{bytes_of}
+use Rattle.thy_base.specs.Device.{Device}
+use Rattle.thy_base.specs.Geometry.{program_size}
+use Rattle.thy_flat.specs.Flat.{flat, console_bytes}
+use Rattle.thy_flat.proofs.FlatLemmas.{flat-take}
+use Rattle.thy_flat.proofs.MemoryLaws.{room_inside}
+use Rattle.thy_hart.specs.declared.hand.Hand.TheVariants.{Nothing}
+use Rattle.thy_hart.specs.Core.{Core, has_written}
+use Rattle.thy_hart.specs.Laws.{IsSized}
+use Rattle.thy_hart.specs.Steps.{current}
+use Rattle.thy_isa.specs.declared.state.CpuState.{CpuState}
+use Rattle.thy_isa.specs.declared.state.MachState.{MachState}
+use Rattle.thy_isa.specs.OnBlocks.{state_from}
+use Rattle.thy_isa.specs.Step.{State, state_of, state_with}
+use Rattle.thy_view.specs.declared.error.CoreError.{CoreError}
+use Rattle.thy_view.specs.declared.view.Phase.TheVariants.{Boot, Run, Halt}
+use Rattle.thy_view.specs.declared.view.View.{View}
+use Rattle.thy_view.specs.Kind.{IsSnapshot}
+use Rattle.thy_view.specs.Origin.{Origin, at}
+use Rattle.thy_view.specs.Views.{is_boot, is_halt, is_between}
+use Rattle.thy_scheme.specs.Scheme.{SchemeOf, CanRun}
+use Rattle.thy_scheme.specs.Laws.{IsLawful, IsCommitted}
+use Rattle.thy_core_model.specs.Machine.{Machine, memory_of, run_view, view_in, view_of}
+use Rattle.thy_core_model.specs.Sound.{SoundRun, SoundIn, Sound}
+use Rattle.thy_core.specs.Reading.{IsRoomy}
+use Rattle.thy_core.proofs.TakenLaws.{phase_in}
+
+-- the bytes of memory and console make the state
+pub state_read : (h : Core) (blocks : List Block) (s : State) (n : ℕ) (memory console : List ℕ) → IsSized h blocks
+    → n ≡ 64 * (h.geometry.pages - h.geometry.console) → s ≡ state_with h.cpu memory console → memory ≡ flat (drop 0 (take n blocks))
+    → console ≡ drop 0 (console_bytes h.geometry blocks h.cpu.console_len) → s ≡ current h blocks
+unfolding current state_from
+state_read h blocks s n memory console sized n_is is memory_is console_is =
+    let inside : n ≤ length blocks = omega (arith, sized.blocks) in
+    let size : 64 * n ≡ program_size h.geometry = omega arith in
+    is
+    ∙ ap (λ (bytes : List ℕ). state_with h.cpu bytes console) (memory_is ∙ flat-take n blocks inside ∙ ap (λ k. take k (flat blocks)) size)
+    ∙ ap (λ (bytes : List ℕ). state_with h.cpu (take (program_size h.geometry) (flat blocks)) bytes) console_is
+
+-- ---- behind the boot
+
+pub sound-behind : {S : Type 0} (K : SchemeOf S) (o : Origin) (k : ℕ) (m : Machine S) (n : Device) → Sound K o k m n
+    → ((m.phase ≡ Run) ⊎ (m.phase ≡ Halt)) → SoundRun K o m n
+sound-behind K o k m n s (inl e) = subst (λ phase. SoundIn K o phase m n) e s.moment
+sound-behind K o k m n s (inr e) = subst (λ phase. SoundIn K o phase m n) e s.moment
+
+pub view-behind : {S : Type 0} (K : SchemeOf S) (o : Origin) (m : Machine S) (n : Device) → ((m.phase ≡ Run) ⊎ (m.phase ≡ Halt)) → view_of K o m n ≡ run_view m
+view-behind K o m n (inl e) = ap (λ phase. view_in K o phase m n) e
+view-behind K o m n (inr e) = ap (λ phase. view_in K o phase m n) e
+
+pub can_run : {S : Type 0} (K : SchemeOf S) (o : Origin) (k : ℕ) (m : Machine S) (n : Device) → Sound K o k m n
+    → ((m.phase ≡ Run) ⊎ (m.phase ≡ Halt)) → CanRun K m.scheme n
+can_run K o k m n s e = record { o = o; k = m.marks; stands = record { sound = (sound-behind K o k m n s e).checkpoints; up = s.up } }
+
+-- the boot is not between two instructions
+pub boot_between : {S : Type 0} (K : SchemeOf S) (l : IsLawful K) (o : Origin) (k : ℕ) (m : Machine S) (n : Device) → Sound K o k m n → m.phase ≡ Boot
+    → is_between (view_of K o m n) ≡ true → ⊥
+boot_between K l o k m n s e between =
+    let v : View = view_of K o m n in
+    let shown = ap (λ phase. is_halt phase || (not (is_boot phase) && v.spent == 0)) (phase_in K l o k m n Boot s e) in
+    let none : false ≡ true = sym shown ∙ between in
+    cc
+
+pub boot_shown : {S : Type 0} (K : SchemeOf S) (l : IsLawful K) (o : Origin) (k : ℕ) (m : Machine S) (n : Device) → Sound K o k m n → m.phase ≡ Boot
+    → is_boot (view_of K o m n).phase ≡ false → ⊥
+boot_shown K l o k m n s e behind =
+    let both : true ≡ false = sym (ap is_boot (phase_in K l o k m n Boot s e)) ∙ behind in
+    cc
+
+-- between two instructions none is in hand
+no_hand : {S : Type 0} (K : SchemeOf S) (o : Origin) (k : ℕ) (m : Machine S) (n : Device) → Sound K o k m n
+    → ((m.phase ≡ Run) ⊎ (m.phase ≡ Halt)) → is_between (run_view m) ≡ true → m.hart.hand ≡ Nothing
+no_hand K o k m n s (inl e) between =
+    let run = sound-behind K o k m n s (inl e) in
+    let spent : (m.spent == 0) ≡ true = sym (ap (λ phase. is_halt phase || (not (is_boot phase) && m.spent == 0)) e) ∙ between in
+    run.epoch.began (eqb-true m.spent 0 spent)
+no_hand K o k m n s (inr e) between = ((sound-behind K o k m n s (inr e)).ended.halted e).0.hand
+
+-- so what was read is the plain machine's state
+pub snapshot_is : {S : Type 0} (K : SchemeOf S) (o : Origin) (k : ℕ) (m : Machine S) (n : Device) (s : MachState) → Sound K o k m n
+    → ((m.phase ≡ Run) ⊎ (m.phase ≡ Halt)) → is_between (view_of K o m n) ≡ true → state_of s ≡ current m.hart (memory_of K m n)
+    → IsSnapshot o (view_of K o m n) s
+snapshot_is K o k m n s sound e between is =
+    let run = sound-behind K o k m n sound e in
+    let shown = view-behind K o m n e in
+    let hand = no_hand K o k m n sound e (sym (ap is_between shown) ∙ between) in
+    let now : state_of s ≡ at o m.hart.cpu.count = is ∙ run.follows.current (ap has_written hand) in
+    subst (λ v. IsSnapshot o v s) (sym shown) (record {
+      state = now;
+      count = ap (λ (t : State). t.count) now ∙ run.counted.count;
+    })
+
+pub snapshot_when : {S : Type 0} (K : SchemeOf S) (o : Origin) (k : ℕ) (m : Machine S) (n : Device) (r : Result MachState CoreError) → Sound K o k m n
+    → ((m.phase ≡ Run) ⊎ (m.phase ≡ Halt)) → is_between (view_of K o m n) ≡ true → IfOk r (λ s. state_of s ≡ current m.hart (memory_of K m n))
+    → IfOk r (λ s. IsSnapshot o (view_of K o m n) s)
+snapshot_when K o k m n (Ok s) sound e between is = snapshot_is K o k m n s sound e between is
+snapshot_when K o k m n (Err error) sound e between is = tt
+
+-- ---- the committed checkpoint's console
+
+console_from : (p : Parameters) (cpu : CpuState) (blocks : List Block) (s : State) → state_from p cpu blocks ≡ s → s.console ≡ console_bytes p blocks cpu.console_len
+unfolding state_from
+console_from p cpu blocks s is = sym (ap (λ (t : State). t.console) is)
+
+-- of so many bytes or more, those that are there
+console_whole : (p : Parameters) (cpu : CpuState) (blocks : List Block) (s : State) → state_from p cpu blocks ≡ s
+    → s.console ≡ console_bytes p blocks (length s.console)
+console_whole p cpu blocks s is =
+    let pages : List ℕ = drop (program_size p) (flat blocks) in
+    let shown = console_from p cpu blocks s is in
+    shown ∙ sym (take_min cpu.console_len pages)
+    ∙ ap (λ k. take k pages) (sym (ap length shown ∙ length-take cpu.console_len pages))
+
+pub committed_room : {S : Type 0} (K : SchemeOf S) (l : IsLawful K) (o : Origin) (k : ℕ) (m : Machine S) (n : Device) → Sound K o k m n
+    → ((m.phase ≡ Run) ⊎ (m.phase ≡ Halt)) → IsRoomy m.hart.geometry m.consoles.done (K.committed m.scheme n)
+committed_room K l o k m n s e =
+    let run = sound-behind K o k m n s e in
+    let found : IsCommitted K o m.marks.done.count m.scheme n = (l.run_holds o m.marks m.scheme n (record { sound = run.checkpoints; up = s.up })).committed in
+    let pages : List ℕ = drop (program_size o.geometry) (flat (K.committed m.scheme n)) in
+    let len : m.consoles.done ≡ length (take found.cpu.console_len pages) =
+    run.shown.done ∙ ap length (console_from o.geometry found.cpu (K.committed m.scheme n) (at o m.marks.done.count) found.state) in
+    let roomy : IsRoomy o.geometry m.consoles.done (K.committed m.scheme n) = record {
+      range = s.origin.geometry;
+      whole = found.blocks;
+      room = omega (
+        arith,
+        len,
+        length-take found.cpu.console_len pages,
+        length-drop (program_size o.geometry) (flat (K.committed m.scheme n)),
+        room_inside o.geometry (K.committed m.scheme n) s.origin.geometry found.blocks,
+      );
+    } in
+    subst (λ p. IsRoomy p m.consoles.done (K.committed m.scheme n)) (sym s.geometry) roomy
+
+pub console_is : {S : Type 0} (K : SchemeOf S) (l : IsLawful K) (o : Origin) (k : ℕ) (m : Machine S) (n : Device) (done : Mark) (from : ℕ) (bytes : List ℕ)
+    → Sound K o k m n → ((m.phase ≡ Run) ⊎ (m.phase ≡ Halt)) → (view_of K o m n).done ≡ Some done
+    → bytes ≡ drop from (console_bytes m.hart.geometry (K.committed m.scheme n) m.consoles.done) → bytes ≡ drop from (at o done.count).console
+console_is K l o k m n done from bytes s e seen is =
+    let run = sound-behind K o k m n s e in
+    let found : IsCommitted K o m.marks.done.count m.scheme n = (l.run_holds o m.marks m.scheme n (record { sound = run.checkpoints; up = s.up })).committed in
+    let marked : Some m.marks.done ≡ Some done = sym (ap (λ (v : View). v.done) (view-behind K o m n e)) ∙ seen in
+    let same : m.marks.done ≡ done = cc in
+    is
+    ∙ ap (λ p. drop from (console_bytes p (K.committed m.scheme n) m.consoles.done)) s.geometry
+    ∙ ap (λ len. drop from (console_bytes o.geometry (K.committed m.scheme n) len)) run.shown.done
+    ∙ ap (drop from) (sym (console_whole o.geometry found.cpu (K.committed m.scheme n) (at o m.marks.done.count) found.state))
+    ∙ ap (λ (d : Mark). drop from (at o d.count).console) same
+
+pub console_when : {S : Type 0} (K : SchemeOf S) (l : IsLawful K) (o : Origin) (k : ℕ) (m : Machine S) (n : Device) (done : Mark) (from : ℕ) (r : Result Bytes CoreError)
+    → Sound K o k m n → ((m.phase ≡ Run) ⊎ (m.phase ≡ Halt)) → (view_of K o m n).done ≡ Some done
+    → IfOk r (λ b. bytes_of b ≡ drop from (console_bytes m.hart.geometry (K.committed m.scheme n) m.consoles.done))
+    → IfOk r (λ b. bytes_of b ≡ drop from (at o done.count).console)
+console_when K l o k m n done from (Ok b) s e seen is = console_is K l o k m n done from (bytes_of b) s e seen is
+console_when K l o k m n done from (Err error) s e seen is = tt

@@ -1,0 +1,10 @@
+use Rattle.std.proofs.Common.{subst}
+use Rattle.thy_view.specs.Kind.{ShowsConsole}
+use Rattle.thy_core_model.specs.Kind.{kind_over}
+use Rattle.thy_core_model.specs.Machine.{Machine}
+use Rattle.thy_core.proofs.machine.Machine.console.Goals as goal
+
+pub returns-clause-console : goal.returns-clause-console
+returns-clause-console g c =
+    subst (λ (m : Machine g.row.S.Denot). ShowsConsole (kind_over g.S.Scheme.scheme) c.args.from m (g.N.Nvm.device c.args.nvm.now) c.console.result)
+    c.self.view_is c.console.ensures.console

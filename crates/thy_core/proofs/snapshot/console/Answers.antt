@@ -1,0 +1,22 @@
+use Rattle.thy_core.specs.Parts.{machine_of}
+use Rattle.thy_core.proofs.SnapshotLaws.{can_run, committed_room, boot_shown, console_when}
+use Rattle.thy_core.proofs.snapshot.console.Goals as goal
+
+pub read_console-requires-clause-stands : goal.read_console-requires-clause-stands
+read_console-requires-clause-stands g c =
+    let run = c.requires in
+    can_run g.S.Scheme.scheme run.o run.cycles (machine_of c.args.m.now) (g.N.Nvm.device c.args.nvm.now) run.at_moment c.in-Run.is
+
+pub read_console-requires-clause-roomy : goal.read_console-requires-clause-roomy
+read_console-requires-clause-roomy g c =
+    let run = c.requires in
+    committed_room g.S.Scheme.scheme g.met.S.Scheme.lawful run.o run.cycles (machine_of c.args.m.now) (g.N.Nvm.device c.args.nvm.now) run.at_moment c.in-Run.is
+
+pub returns-in-Boot-clause-console : goal.returns-in-Boot-clause-console
+returns-in-Boot-clause-console g c = λ o k done sound behind shown.
+    absurd (boot_shown g.S.Scheme.scheme g.met.S.Scheme.lawful o k (machine_of c.args.m.now) (g.N.Nvm.device c.args.nvm.now) sound c.in-Boot.is behind)
+
+pub returns-in-Run-clause-console : goal.returns-in-Run-clause-console
+returns-in-Run-clause-console g c = λ o k done sound behind shown.
+    console_when g.S.Scheme.scheme g.met.S.Scheme.lawful o k (machine_of c.args.m.now) (g.N.Nvm.device c.args.nvm.now) done c.args.from c.read_console.result
+    sound c.in-Run.is shown c.read_console.ensures.console

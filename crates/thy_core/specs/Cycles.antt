@@ -1,0 +1,73 @@
+-- What a cycle promises at an actor's turn.
+use Rattle.std.specs.Prelude.{◌≡◌, ℕ, ◌<◌, true, List, length, Option, Some, None, Result, IfOk, OnErr}
+use Rattle.thy_base.specs.declared.nvm.NvmError.{NvmError}
+use Rattle.thy_base.specs.Device.{Device}
+use Rattle.thy_record.specs.declared.start.Start.{Start}
+use Rattle.thy_view.specs.declared.did.Did.{Did}
+use Rattle.thy_view.specs.declared.did.Stall.{Stall}
+use Rattle.thy_view.specs.declared.did.Stall.TheVariants.{Booting, Sealing, Waiting, Halted}
+use Rattle.thy_view.specs.declared.view.Phase.TheVariants.{Boot, Run, Halt}
+use Rattle.thy_view.specs.Origin.{Origin, Begins}
+use Rattle.thy_view.specs.Turn.{Actor, Nvm, Dram, Checkpoint, TheHart, Does}
+use Rattle.thy_scheme.specs.Scheme.{SchemeOf}
+use Rattle.thy_core_model.specs.Machine.{Machine}
+use Rattle.thy_core_model.specs.Rows.{At, HartGoes, IsSealing, Leads}
+use Rattle.thy_core_model.specs.Failures.{Fails}
+
+-- a checkpoint is under way, behind the boot
+abbrev pub IsEngineDue : {S : Type 0} → SchemeOf S → Machine S → Type 0
+IsEngineDue K m = (m.phase ≡ Run) × (K.under_way m.scheme ≡ true)
+
+-- what holds at the hart's turn, by its stall
+abbrev pub IsHartsTurn : {S : Type 0} → SchemeOf S → Origin → Machine S → Device → Option Stall → Type 0
+IsHartsTurn K o m n None = HartGoes K o m n
+IsHartsTurn K o m n (Some Booting) = m.phase ≡ Boot
+IsHartsTurn K o m n (Some Sealing) = IsSealing K o m n
+IsHartsTurn K o m n (Some Waiting) = IsEngineDue K m
+IsHartsTurn K o m n (Some Halted) = m.phase ≡ Halt
+
+-- and at each actor's
+abbrev pub IsTurnOf : {S : Type 0} → SchemeOf S → Origin → Machine S → Device → Actor → Type 0
+IsTurnOf K o m n Nvm = 0 < length n.queue
+IsTurnOf K o m n Dram = 0 < K.queued m.scheme
+IsTurnOf K o m n Checkpoint = IsEngineDue K m
+IsTurnOf K o m n (TheHart stall) = IsHartsTurn K o m n stall
+
+-- runs of every kind, those with this start, and those with this input
+abbrev pub IsAnyRun : Origin → Type 0
+IsAnyRun o = Unit {0}
+
+abbrev pub HasStart : Start → Origin → Type 0
+HasStart start o = Begins o start
+
+abbrev pub HasInput : List ℕ → Origin → Type 0
+HasInput input o = o.input ≡ input
+
+-- a cycle may be taken: at the actor's turn, at a moment of a run of this kind
+pub record CanTake {S : Type 0} (K : SchemeOf S) (P : Origin → Type 0) (actor : Actor) (m : Machine S) (n : Device) : Type 0 where
+  pub o : Origin
+  pub cycles : ℕ
+  pub of_kind : P o
+  pub at_moment : At K o cycles m n
+  pub turn : IsTurnOf K o m n actor
+
+-- a cycle that did this was the actor's, and leads on
+pub record IsCycle {S : Type 0} (K : SchemeOf S) (o : Origin) (cycles : ℕ) (actor : Actor) (did : Did) (m : Machine S) (n : Device) (next : Machine S) (new : Device) : Type 0 where
+  pub does : Does did actor
+  pub leads : Leads K o cycles did m n next new
+
+-- a cycle of the actor's failed, and leaves what is safe
+pub record HasFailedAs {S : Type 0} (K : SchemeOf S) (o : Origin) (actor : Actor) (m : Machine S) (n new : Device) : Type 0 where
+  pub did : Did
+  pub does : Does did actor
+  pub fails : Fails K o did m n new
+
+-- so it is in whatever run of this kind
+abbrev pub LeadsAs : {S : Type 0} → SchemeOf S → (Origin → Type 0) → Actor → Machine S → Device → Machine S → Device → Result Did NvmError → Type 0
+LeadsAs K P actor m n next new result =
+    (o : Origin) (cycles : ℕ) → P o → At K o cycles m n → IsTurnOf K o m n actor
+    → IfOk result (λ did. IsCycle K o cycles actor did m n next new)
+
+abbrev pub FailsAs : {S : Type 0} → SchemeOf S → (Origin → Type 0) → Actor → Machine S → Device → Device → Result Did NvmError → Type 0
+FailsAs K P actor m n new result =
+    (o : Origin) (cycles : ℕ) → P o → At K o cycles m n → IsTurnOf K o m n actor → OnErr result (HasFailedAs K o actor m n new)

@@ -1,0 +1,46 @@
+-- The parts of a machine as one, and the turns that its code tells.
+use Rattle.std.specs.Prelude.{ℕ, ◌<◌}
+use Rattle.thy_view.specs.Turn.{Actor, Nvm, Dram, Checkpoint, TheHart}
+use Rattle.thy_scheme.specs.declared.boot_step.BootStep.{BootStep}
+use Rattle.thy_scheme.specs.declared.boot_step.BootStep.TheVariants.{GoesOn, Loaded, Restarted, Refused}
+use Rattle.thy_scheme.specs.Marks.{Marks}
+use Rattle.thy_core.specs.declared.parts.Checkpoints.{Checkpoints}
+use Rattle.thy_core.specs.declared.parts.Consoles.{Consoles}
+use Rattle.thy_core.specs.declared.parts.Parts.{Parts}
+use Rattle.thy_core.specs.declared.turn.Turn.{Turn}
+use Rattle.thy_core.specs.declared.turn.Turn.TheVariants as turns
+use Rattle.thy_core_model.specs.Machine.{Machine, Lengths}
+
+abbrev pub marks_of : Checkpoints → Marks
+marks_of k = record { done = k.done; sealed = k.sealed; written = k.written }
+
+abbrev pub lengths_of : Consoles → Lengths
+lengths_of c = record { done = c.done; sealed = c.sealed }
+
+abbrev pub machine_of : {S : Type 0} → Parts S → Machine S
+machine_of p = record {
+  hart = p.hart;
+  cache = p.cache;
+  scheme = p.behind.scheme;
+  phase = p.phase;
+  marks = marks_of p.checkpoints;
+  consoles = lengths_of p.consoles;
+  ends = p.ends;
+  spent = p.spent;
+  lap = p.lap;
+  idle = p.idle;
+}
+
+-- the actor of a turn
+abbrev pub actor_of : Turn → Actor
+actor_of turns.Nvm = Nvm
+actor_of turns.Dram = Dram
+actor_of turns.Engine = Checkpoint
+actor_of (turns.Hart stall) = TheHart stall
+
+-- what a step of the boot restored is of an epoch below this
+abbrev pub IsRestartBelow : ℕ → BootStep → Type 0
+IsRestartBelow n GoesOn = Unit {0}
+IsRestartBelow n Loaded = Unit {0}
+IsRestartBelow n (Restarted cpu epoch) = epoch < n
+IsRestartBelow n (Refused bad) = Unit {0}

@@ -1,0 +1,45 @@
+-- Whose turn a pick is, by what the machine holds.
+use Rattle.std.specs.Prelude.{ℕ, ◌+◌, ◌==◌, ◌&&◌, ◌||◌, not, nat_lt, Bool, false, is_some, if◌then◌else◌, Option, Some, None}
+use Rattle.thy_base.specs.declared.mix.Pick.{Pick}
+use Rattle.thy_base.specs.declared.mix.Pick.TheVariants.{Hart, Engine, NvmDrain, DramDrain}
+use Rattle.thy_view.specs.declared.did.Stall.{Stall}
+use Rattle.thy_view.specs.declared.did.Stall.TheVariants.{Booting, Sealing, Waiting, Halted}
+use Rattle.thy_view.specs.declared.view.Phase.{Phase}
+use Rattle.thy_view.specs.declared.view.Phase.TheVariants.{Boot, Run, Halt}
+use Rattle.thy_view.specs.Turn.{Actor, Nvm, Dram, Checkpoint, TheHart}
+use Rattle.thy_scheme.specs.Scheme.{SchemeOf}
+use Rattle.thy_core_model.specs.Machine.{Machine, shortage_of}
+
+-- fewer entries are free than the dirty lines and the blocks need that room is to be reserved for
+abbrev pub lacks : ℕ → ℕ → Option ℕ → Bool
+lacks free dirty None = false
+lacks free dirty (Some need) = nat_lt free (dirty + need)
+
+-- the hart waits for the checkpoint under way
+abbrev pub waits_now : {S : Type 0} → SchemeOf S → Machine S → Bool
+waits_now K m =
+    is_some m.marks.sealed && (is_some m.hart.epoch.over || is_some (shortage_of K m) || (m.ends && not (K.promoting m.scheme)))
+
+-- the hart's stall in this phase
+abbrev pub stall_now : {S : Type 0} → SchemeOf S → Phase → Machine S → Option Stall
+stall_now K Boot m = Some Booting
+stall_now K Halt m = Some Halted
+stall_now K Run m =
+    if waits_now K m then Some Waiting else (if is_some m.hart.epoch.over || K.promoting m.scheme then Some Sealing else None)
+
+-- its turn
+abbrev pub hart_now : {S : Type 0} → SchemeOf S → Machine S → Actor
+hart_now K m = TheHart (stall_now K m.phase m)
+
+-- the engine's
+abbrev pub engine_now : {S : Type 0} → SchemeOf S → Phase → Machine S → Actor
+engine_now K Boot m = hart_now K m
+engine_now K Halt m = hart_now K m
+engine_now K Run m = if is_some m.marks.sealed then Checkpoint else hart_now K m
+
+-- whose turn a pick is
+abbrev pub turn_now : {S : Type 0} → SchemeOf S → Pick → ℕ → Machine S → Actor
+turn_now K Hart nvm m = hart_now K m
+turn_now K Engine nvm m = engine_now K m.phase m
+turn_now K NvmDrain nvm m = if nvm == 0 then hart_now K m else Nvm
+turn_now K DramDrain nvm m = if K.queued m.scheme == 0 then hart_now K m else Dram

@@ -1,0 +1,107 @@
+//! The boot's turn.
+ghost use Rattle.std.specs.Prelude.{◌≡◌, ◌+◌, ◌-◌, ◌<◌, ◌^◌, if◌then◌else◌, Some};
+ghost use Rattle.thy_base.specs.Device.{IsFramed, CountsFault};
+ghost use Rattle.thy_isa.specs.Step.{state_of, cpu_of, is_running};
+ghost use Rattle.thy_view.specs.declared.did.Stall.TheVariants.{Booting};
+ghost use Rattle.thy_view.specs.Origin.{Origin, Begins};
+ghost use Rattle.thy_view.specs.Turn.{TheHart};
+ghost use Rattle.thy_scheme.specs.Boots.{boot_did};
+ghost use Rattle.thy_core_model.specs.Calls.{running_from, after_boot};
+ghost use Rattle.thy_core.specs.Cycles.{HasStart, CanTake, LeadsAs, FailsAs};
+ghost use Rattle.thy_core.specs.Parts.{machine_of, IsRestartBelow};
+
+use crate::parts::{Checkpoints, Consoles, Parts};
+use crate::sealing::runs;
+use thy_base::{Mark, Nvm, NvmError};
+use thy_hart::Hart;
+use thy_isa::{CpuState, MachState};
+use thy_record::Start;
+use thy_scheme::{BootStep, Scheme};
+use thy_view::{Did, Phase};
+
+/// Takes one action of the boot.
+pub(crate) fn boot<N: Nvm, S: Scheme>(
+    m: &mut Parts<S>,
+    start: &Start,
+    nvm: &mut N,
+) -> Result<Did, NvmError>
+    requires { CanTake S.scheme (HasStart start.now) (TheHart (Some Booting)) (machine_of m.old) (N.device nvm.old) }
+    ensures leads { LeadsAs S.scheme (HasStart start.now) (TheHart (Some Booting))
+        (machine_of m.old) (N.device nvm.old) (machine_of m.new) (N.device nvm.new) result }
+    ensures fails { FailsAs S.scheme (HasStart start.now) (TheHart (Some Booting))
+        (machine_of m.old) (N.device nvm.old) (N.device nvm.new) result }
+    ensures frame { IsFramed (N.device nvm.old) (N.device nvm.new) }
+    ensures cause { CountsFault result (N.device nvm.old).faults (N.device nvm.new).faults }
+{
+    let step = m.behind.scheme.boot_step(start, nvm)?;
+    Ok(boot_on(m, start, step))
+}
+
+/// Notes what the boot did: behind its last step the hart is at the checkpoint that was loaded or restored.
+fn boot_on<S>(m: &mut Parts<S>, start: &Start, step: BootStep) -> Did
+    requires { IsRestartBelow (2 ^ 64 - 1) step }
+    ensures parts { (o : Origin) → Begins o start.now → machine_of m.new ≡ after_boot o step m.old.behind.scheme (machine_of m.old) }
+    ensures did { result ≡ boot_did step }
+{
+    match step {
+        BootStep::GoesOn => Did::Boot,
+        BootStep::Loaded => {
+            run_from(m, &start_cpu(&start.state), 0);
+            Did::Loaded
+        }
+        BootStep::Restarted(cpu, epoch) => {
+            run_from(m, &cpu, epoch);
+            Did::Restarted(epoch, cpu.count)
+        }
+        BootStep::Refused(bad) => Did::Refused(bad),
+    }
+}
+
+/// Begins to execute behind the checkpoint of an epoch, with this processor.
+fn run_from<S>(m: &mut Parts<S>, cpu: &CpuState, epoch: u64)
+    requires { epoch + 1 < 2 ^ 64 }
+    ensures { machine_of m.new ≡ running_from cpu.now epoch m.old.behind.scheme (machine_of m.old) }
+{
+    let geometry = *m.hart.geometry();
+    m.hart = Hart::new(cpu, epoch + 1, &geometry);
+    m.phase = phase_of(cpu);
+    m.checkpoints = Checkpoints {
+        done: Mark {
+            epoch,
+            count: cpu.count,
+        },
+        sealed: None,
+        written: false,
+    };
+    m.consoles = Consoles {
+        done: cpu.console_len,
+        sealed: 0,
+    };
+}
+
+/// The phase of a machine that begins with this processor.
+fn phase_of(cpu: &CpuState) -> Phase
+    ensures { result ≡ (if is_running cpu.now.status then Phase.Run else Phase.Halt) }
+{
+    if runs(cpu.status) {
+        Phase::Run
+    } else {
+        Phase::Halt
+    }
+}
+
+/// A state without its memory, and with the length of its console.
+fn start_cpu(state: &MachState) -> CpuState
+    ensures { result ≡ cpu_of (state_of state.now) }
+{
+    CpuState {
+        pc: state.pc,
+        regs: state.regs,
+        console_len: state.console.len() as u64,
+        cursor: state.cursor,
+        brk: state.brk,
+        floor: state.floor,
+        count: state.count,
+        status: state.status,
+    }
+}

@@ -1,0 +1,52 @@
+//! The machine as one of those that the layers above run.
+
+use crate::Machine;
+use std::alloc::{AllocError, Global};
+use thy_base::{Bytes, Geometry, Nvm, NvmError, Pick};
+use thy_dram::Dram;
+use thy_isa::MachState;
+use thy_record::Start;
+use thy_scheme::Scheme;
+use thy_view::{Computer, CoreError, Stepped};
+
+impl<S: Scheme> Computer for Machine<S> {
+    ghost use Rattle.thy_core_model.specs.Kind.{kind_over};
+    ghost use Rattle.thy_core_model.proofs.LawfulLaws.{machine_is_lawful};
+
+    ghost kind = { kind_over S.scheme };
+
+    ghost lawful = { machine_is_lawful S.scheme S.lawful };
+
+    fn nvm_blocks(geometry: &Geometry) -> u64 {
+        S::nvm_blocks(geometry)
+    }
+
+    fn power_on(alloc: Global, geometry: &Geometry, dram: Dram) -> Result<Machine<S>, AllocError> {
+        Machine::power_on(alloc, geometry, dram)
+    }
+
+    fn step<N: Nvm>(
+        &mut self,
+        pick: Pick,
+        start: &Start,
+        nvm: &mut N,
+    ) -> Result<Stepped, NvmError> {
+        self.step(pick, start, nvm)
+    }
+
+    fn snapshot<N: Nvm>(&self, alloc: Global, nvm: &mut N) -> Result<MachState, CoreError> {
+        self.snapshot(alloc, nvm)
+    }
+
+    fn console<N: Nvm>(&self, alloc: Global, from: u64, nvm: &mut N) -> Result<Bytes, CoreError> {
+        self.console(alloc, from, nvm)
+    }
+
+    fn loading(&self) -> bool {
+        self.loading()
+    }
+
+    fn cut(self, pick: u64) -> Dram {
+        self.cut(pick)
+    }
+}

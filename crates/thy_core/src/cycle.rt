@@ -1,0 +1,119 @@
+//! One cycle, at the turn of an actor.
+ghost use Rattle.std.specs.Prelude.{Ok, Some};
+ghost use Rattle.thy_base.specs.Device.{IsFramed, CountsFault};
+ghost use Rattle.thy_view.specs.declared.did.Stall.TheVariants.{Waiting, Halted};
+ghost use Rattle.thy_view.specs.Turn.{Nvm, TheHart};
+ghost use Rattle.thy_core.specs.Cycles.{IsAnyRun, HasStart, CanTake, LeadsAs, FailsAs};
+ghost use Rattle.thy_core.specs.Parts.{machine_of, actor_of};
+
+use crate::boot::boot;
+use crate::engine::{checkpoint, drain};
+use crate::hart::execute;
+use crate::parts::Parts;
+use crate::sealing::prepare;
+use crate::turn::Turn;
+use thy_base::{Nvm, NvmError};
+use thy_record::Start;
+use thy_scheme::Scheme;
+use thy_view::{Did, Stall};
+
+/// Takes the cycle of the actor whose turn it is. The engine works for a hart that waits.
+pub(crate) fn cycle<N: Nvm, S: Scheme>(
+    m: &mut Parts<S>,
+    turn: Turn,
+    start: &Start,
+    nvm: &mut N,
+) -> Result<Did, NvmError>
+    requires { CanTake S.scheme (HasStart start.now) (actor_of turn) (machine_of m.old) (N.device nvm.old) }
+    ensures leads { LeadsAs S.scheme (HasStart start.now) (actor_of turn)
+        (machine_of m.old) (N.device nvm.old) (machine_of m.new) (N.device nvm.new) result }
+    ensures fails { FailsAs S.scheme (HasStart start.now) (actor_of turn)
+        (machine_of m.old) (N.device nvm.old) (N.device nvm.new) result }
+    ensures frame { IsFramed (N.device nvm.old) (N.device nvm.new) }
+    ensures cause { CountsFault result (N.device nvm.old).faults (N.device nvm.new).faults }
+{
+    match turn {
+        Turn::Nvm => land(m, nvm),
+        Turn::Dram => Ok(drain(m, nvm)),
+        Turn::Engine => checkpoint(m, nvm),
+        Turn::Hart(stall) => at_hart(m, stall, start, nvm),
+    }
+}
+
+/// Takes the cycle of the hart, with this stall.
+fn at_hart<N: Nvm, S: Scheme>(
+    m: &mut Parts<S>,
+    stall: Option<Stall>,
+    start: &Start,
+    nvm: &mut N,
+) -> Result<Did, NvmError>
+    requires { CanTake S.scheme (HasStart start.now) (TheHart stall) (machine_of m.old) (N.device nvm.old) }
+    ensures leads { LeadsAs S.scheme (HasStart start.now) (TheHart stall)
+        (machine_of m.old) (N.device nvm.old) (machine_of m.new) (N.device nvm.new) result }
+    ensures fails { FailsAs S.scheme (HasStart start.now) (TheHart stall)
+        (machine_of m.old) (N.device nvm.old) (N.device nvm.new) result }
+    ensures frame { IsFramed (N.device nvm.old) (N.device nvm.new) }
+    ensures cause { CountsFault result (N.device nvm.old).faults (N.device nvm.new).faults }
+{
+    match stall {
+        None => execute(m, start.input.as_slice(), nvm),
+        Some(why) => stalled(m, why, start, nvm),
+    }
+}
+
+/// Takes the cycle of a hart that advances no instruction, for this reason.
+fn stalled<N: Nvm, S: Scheme>(
+    m: &mut Parts<S>,
+    why: Stall,
+    start: &Start,
+    nvm: &mut N,
+) -> Result<Did, NvmError>
+    requires { CanTake S.scheme (HasStart start.now) (TheHart (Some why)) (machine_of m.old) (N.device nvm.old) }
+    ensures leads { LeadsAs S.scheme (HasStart start.now) (TheHart (Some why))
+        (machine_of m.old) (N.device nvm.old) (machine_of m.new) (N.device nvm.new) result }
+    ensures fails { FailsAs S.scheme (HasStart start.now) (TheHart (Some why))
+        (machine_of m.old) (N.device nvm.old) (N.device nvm.new) result }
+    ensures frame { IsFramed (N.device nvm.old) (N.device nvm.new) }
+    ensures cause { CountsFault result (N.device nvm.old).faults (N.device nvm.new).faults }
+{
+    match why {
+        Stall::Booting => boot(m, start, nvm),
+        Stall::Sealing => prepare(m, nvm),
+        Stall::Waiting => wait(m, nvm),
+        Stall::Halted => Ok(rest(m, nvm)),
+    }
+}
+
+/// Lets the oldest queued write of the NVM land.
+fn land<N: Nvm, S: Scheme>(m: &Parts<S>, nvm: &mut N) -> Result<Did, NvmError>
+    requires { CanTake S.scheme IsAnyRun Nvm (machine_of m.now) (N.device nvm.old) }
+    ensures leads { LeadsAs S.scheme IsAnyRun Nvm
+        (machine_of m.now) (N.device nvm.old) (machine_of m.now) (N.device nvm.new) result }
+    ensures fails { FailsAs S.scheme IsAnyRun Nvm (machine_of m.now) (N.device nvm.old) (N.device nvm.new) result }
+    ensures frame { IsFramed (N.device nvm.old) (N.device nvm.new) }
+    ensures cause { CountsFault result (N.device nvm.old).faults (N.device nvm.new).faults }
+{
+    nvm.drain()?;
+    Ok(Did::NvmDrained)
+}
+
+/// Takes an action of the engine, for the hart that waits for it.
+fn wait<N: Nvm, S: Scheme>(m: &mut Parts<S>, nvm: &mut N) -> Result<Did, NvmError>
+    requires { CanTake S.scheme IsAnyRun (TheHart (Some Waiting)) (machine_of m.old) (N.device nvm.old) }
+    ensures leads { LeadsAs S.scheme IsAnyRun (TheHart (Some Waiting))
+        (machine_of m.old) (N.device nvm.old) (machine_of m.new) (N.device nvm.new) result }
+    ensures fails { FailsAs S.scheme IsAnyRun (TheHart (Some Waiting))
+        (machine_of m.old) (N.device nvm.old) (N.device nvm.new) result }
+    ensures frame { IsFramed (N.device nvm.old) (N.device nvm.new) }
+    ensures cause { CountsFault result (N.device nvm.old).faults (N.device nvm.new).faults }
+{
+    checkpoint(m, nvm)
+}
+
+/// Does nothing, where the machine has halted.
+fn rest<N: Nvm, S: Scheme>(m: &Parts<S>, nvm: &N) -> Did
+    ensures { LeadsAs S.scheme IsAnyRun (TheHart (Some Halted))
+        (machine_of m.now) (N.device nvm.now) (machine_of m.now) (N.device nvm.now) (Ok result) }
+{
+    Did::Nothing
+}

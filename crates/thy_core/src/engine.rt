@@ -1,0 +1,79 @@
+//! The checkpoint engine's turn, and that of the DRAM's queue.
+ghost use Rattle.std.specs.Prelude.{◌≡◌, ◌+◌, ◌<◌, ◌^◌, if◌then◌else◌, Ok};
+ghost use Rattle.thy_base.specs.Device.{IsFramed, CountsFault};
+ghost use Rattle.thy_view.specs.Turn.{Dram, Checkpoint};
+ghost use Rattle.thy_scheme.specs.Calls.{engine_did};
+ghost use Rattle.thy_core_model.specs.Calls.{after_engine};
+ghost use Rattle.thy_core.specs.Cycles.{IsAnyRun, CanTake, LeadsAs, FailsAs};
+ghost use Rattle.thy_core.specs.Parts.{machine_of};
+
+use crate::parts::{Checkpoints, Parts};
+use thy_base::{Nvm, NvmError};
+use thy_record::EngineStep;
+use thy_scheme::Scheme;
+use thy_view::{Did, Phase};
+
+/// Takes one action of the checkpoint that is under way.
+pub(crate) fn checkpoint<N: Nvm, S: Scheme>(m: &mut Parts<S>, nvm: &mut N) -> Result<Did, NvmError>
+    requires { CanTake S.scheme IsAnyRun Checkpoint (machine_of m.old) (N.device nvm.old) }
+    ensures leads { LeadsAs S.scheme IsAnyRun Checkpoint
+        (machine_of m.old) (N.device nvm.old) (machine_of m.new) (N.device nvm.new) result }
+    ensures fails { FailsAs S.scheme IsAnyRun Checkpoint (machine_of m.old) (N.device nvm.old) (N.device nvm.new) result }
+    ensures frame { IsFramed (N.device nvm.old) (N.device nvm.new) }
+    ensures cause { CountsFault result (N.device nvm.old).faults (N.device nvm.new).faults }
+{
+    let step = m.behind.scheme.engine_step(nvm)?;
+    Ok(engine_on(m, step))
+}
+
+/// Notes what the engine did. With a commit the sealed checkpoint is the committed one, and the machine halts where its
+/// state has ended.
+fn engine_on<S>(m: &mut Parts<S>, step: EngineStep) -> Did
+    requires { m.old.spent + 1 < 2 ^ 64 }
+    ensures parts { machine_of m.new ≡ after_engine step m.old.behind.scheme (machine_of m.old) }
+    ensures did { result ≡ engine_did m.old.lap step }
+{
+    m.spent += 1;
+    match step {
+        EngineStep::Committed(epoch) => {
+            m.checkpoints = Checkpoints {
+                done: m.checkpoints.sealed.unwrap_or(m.checkpoints.done),
+                sealed: None,
+                written: false,
+            };
+            m.consoles.done = m.consoles.sealed;
+            m.phase = phase_behind(m.ends);
+            Did::Committed {
+                epoch,
+                overlapped: m.lap,
+            }
+        }
+        EngineStep::CommitWritten => {
+            m.checkpoints.written = true;
+            Did::Engine(step)
+        }
+        EngineStep::Idle
+        | EngineStep::Copied
+        | EngineStep::PageBlock
+        | EngineStep::StateBlock
+        | EngineStep::TableBlock
+        | EngineStep::Barrier => Did::Engine(step),
+    }
+}
+
+/// The phase behind a checkpoint whose state has ended, or goes on.
+fn phase_behind(ends: bool) -> Phase
+    ensures { result ≡ (if ends then Phase.Halt else Phase.Run) }
+{
+    if ends { Phase::Halt } else { Phase::Run }
+}
+
+/// Lets the oldest queued write of the DRAM land.
+pub(crate) fn drain<N: Nvm, S: Scheme>(m: &mut Parts<S>, nvm: &N) -> Did
+    requires { CanTake S.scheme IsAnyRun Dram (machine_of m.old) (N.device nvm.now) }
+    ensures { LeadsAs S.scheme IsAnyRun Dram
+        (machine_of m.old) (N.device nvm.now) (machine_of m.new) (N.device nvm.now) (Ok result) }
+{
+    m.behind.scheme.drain();
+    Did::DramDrained
+}

@@ -1,0 +1,118 @@
+//! The machine and its calls.
+ghost use Rattle.std.specs.Prelude.{◌≡◌, ℕ, IfOk, IfErr, OnOk};
+ghost use Rattle.thy_base.specs.Device.{Device, IsFramed, CountsFault};
+ghost use Rattle.thy_view.specs.Kind.{CanStep, CanRead, LeadsOn, FailsSafe, IsDramOf, Snapshots, ShowsConsole, TellsLoading, HasFailedToRead};
+ghost use Rattle.thy_view.specs.Origin.{Origin};
+ghost use Rattle.thy_core_model.specs.Kind.{kind_over};
+ghost use Rattle.thy_core_model.specs.Sound.{Sound, IsPowered};
+
+use crate::parts::Parts;
+use crate::step::take_step;
+use crate::{power, snapshot};
+use std::alloc::{AllocError, Global};
+use std::marker::Model;
+use thy_base::{Bytes, Geometry, Nvm, NvmError, Pick};
+use thy_dram::Dram;
+use thy_isa::MachState;
+use thy_record::Start;
+use thy_scheme::Scheme;
+use thy_view::{CoreError, Stepped};
+
+/// A hart with its cache over a scheme of checkpoints. One step is one cycle.
+#[derive(Drop)]
+pub struct Machine<S> {
+    parts: Parts<S>,
+}
+
+impl<S> Model for Machine<S> {
+    ghost use Rattle.thy_core_model.specs.Machine.{Machine as MachineOver};
+
+    ghost Value = { MachineOver S };
+
+    ghost use Rattle.thy_core.specs.Parts.{machine_of};
+
+    ghost view = { λ m. machine_of m.parts };
+}
+
+impl<S: Scheme> Machine<S> {
+    /// How many blocks its NVM has.
+    pub fn nvm_blocks(geometry: &Geometry) -> u64
+        ensures { result ≡ (kind_over S.scheme).blocks geometry.now }
+    {
+        S::nvm_blocks(geometry)
+    }
+
+    /// A machine whose power has just come on, over a DRAM of any content. On a refusal the DRAM is given up.
+    pub fn power_on(
+        alloc: Global,
+        geometry: &Geometry,
+        dram: Dram,
+    ) -> Result<Machine<S>, AllocError>
+        requires { IsDramOf geometry.now dram }
+        ensures { IfOk result (λ m. IsPowered S.scheme geometry.now m) }
+    {
+        let parts = power::power_on(alloc, geometry, dram)?;
+        Ok(Machine { parts })
+    }
+
+    /// Loses power: all is gone but the DRAM, whose bytes are those that the pick draws.
+    pub fn cut(self, pick: u64) -> Dram
+        ensures { (o : Origin) (k : ℕ) (n : Device) → Sound S.scheme o k self n → IsDramOf o.geometry result }
+    {
+        power::cut(self.parts, pick)
+    }
+
+    /// Whether the boot goes on and has found no checkpoint.
+    pub fn loading(&self) -> bool
+        ensures { TellsLoading (kind_over S.scheme) self.now result }
+    {
+        power::is_loading(&self.parts)
+    }
+
+    /// One cycle: the pick's, or where its actor has nothing to do the hart's. Takes no memory.
+    ///
+    /// After an error the NVM may hold what the failed call left, and nothing but `cut` is to be asked of the machine.
+    pub fn step<N: Nvm>(
+        &mut self,
+        pick: Pick,
+        start: &Start,
+        nvm: &mut N,
+    ) -> Result<Stepped, NvmError>
+        requires { CanStep (kind_over S.scheme) start.now self.old (N.device nvm.old) }
+        ensures steps { LeadsOn (kind_over S.scheme) start.now pick self.old self.new (N.device nvm.old) (N.device nvm.new) result }
+        ensures safe { FailsSafe (kind_over S.scheme) start.now pick self.old (N.device nvm.old) (N.device nvm.new) result }
+        ensures frame { IsFramed (N.device nvm.old) (N.device nvm.new) }
+        ensures cause { CountsFault result (N.device nvm.old).faults (N.device nvm.new).faults }
+    {
+        take_step(&mut self.parts, pick, start, nvm)
+    }
+
+    /// The state that the machine executes, where no instruction is under way.
+    ///
+    /// # Errors
+    /// `Nvm` where the NVM fails, `Memory` for want of memory.
+    pub fn snapshot<N: Nvm>(&self, alloc: Global, nvm: &mut N) -> Result<MachState, CoreError>
+        requires { CanRead (kind_over S.scheme) self.now (N.device nvm.old) }
+        ensures state { Snapshots (kind_over S.scheme) self.now (N.device nvm.old) result }
+        ensures same { OnOk result (N.device nvm.new ≡ N.device nvm.old) }
+        ensures err { IfErr result (λ e. HasFailedToRead e (N.device nvm.old) (N.device nvm.new)) }
+        ensures frame { IsFramed (N.device nvm.old) (N.device nvm.new) }
+    {
+        snapshot::snapshot(alloc, &self.parts, nvm)
+    }
+
+    /// Once the boot is over, the console of the committed checkpoint from byte `from` on. It is this also when the
+    /// hart has gone on.
+    ///
+    /// # Errors
+    /// `Nvm` where the NVM fails, `Memory` for want of memory.
+    pub fn console<N: Nvm>(&self, alloc: Global, from: u64, nvm: &mut N) -> Result<Bytes, CoreError>
+        requires { CanRead (kind_over S.scheme) self.now (N.device nvm.old) }
+        ensures console { ShowsConsole (kind_over S.scheme) from self.now (N.device nvm.old) result }
+        ensures same { OnOk result (N.device nvm.new ≡ N.device nvm.old) }
+        ensures err { IfErr result (λ e. HasFailedToRead e (N.device nvm.old) (N.device nvm.new)) }
+        ensures frame { IsFramed (N.device nvm.old) (N.device nvm.new) }
+    {
+        snapshot::console(alloc, &self.parts, from, nvm)
+    }
+}

@@ -1,0 +1,46 @@
+//! What a machine is made of.
+
+use thy_base::Mark;
+use thy_cache::Cache;
+use thy_hart::Hart;
+use thy_scheme::Behind;
+use thy_view::Phase;
+
+/// The checkpoints of a machine whose boot is over.
+#[derive(Clone, Copy, Debug, PartialEq, Eq)]
+pub(crate) struct Checkpoints {
+    /// The committed one.
+    pub done: Mark,
+    /// The one that is under way.
+    pub sealed: Option<Mark>,
+    /// The commit block of that was written, and no barrier has come since.
+    pub written: bool,
+}
+
+/// How long the consoles of the checkpoints are, in bytes.
+#[derive(Clone, Copy, Debug, PartialEq, Eq)]
+pub(crate) struct Consoles {
+    /// Of the committed one.
+    pub done: u64,
+    /// Of the one that was sealed last.
+    pub sealed: u64,
+}
+
+/// What a machine is made of.
+#[derive(Drop)]
+pub(crate) struct Parts<S> {
+    pub hart: Hart,
+    pub cache: Cache,
+    pub behind: Behind<S>,
+    pub phase: Phase,
+    pub checkpoints: Checkpoints,
+    pub consoles: Consoles,
+    /// The state that was sealed last has ended.
+    pub ends: bool,
+    /// The cycles of hart and engine since the latest seal.
+    pub spent: u64,
+    /// The instructions retired since then.
+    pub lap: u64,
+    /// The epoch that was sealed last had retired nothing.
+    pub idle: bool,
+}

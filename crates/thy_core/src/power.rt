@@ -1,0 +1,79 @@
+//! Power: it comes on, and is lost.
+ghost use Rattle.std.specs.Prelude.{◌≡◌, ℕ, ◌<◌, IfOk, length};
+ghost use Rattle.thy_base.specs.Device.{Device};
+ghost use Rattle.thy_view.specs.Kind.{IsDramOf, TellsLoading};
+ghost use Rattle.thy_view.specs.Origin.{Origin};
+ghost use Rattle.thy_core_model.specs.Kind.{kind_over};
+ghost use Rattle.thy_core.specs.Parts.{machine_of};
+ghost use Rattle.thy_core_model.specs.Sound.{Sound, IsPowered};
+
+use crate::parts::{Checkpoints, Consoles, Parts};
+use std::alloc::{AllocError, Global};
+use thy_base::{Geometry, Mark};
+use thy_cache::Cache;
+use thy_dram::Dram;
+use thy_hart::Hart;
+use thy_isa::{CpuState, Regs, Status};
+use thy_scheme::{Behind, Scheme};
+use thy_view::Phase;
+
+/// The parts of a machine whose power has just come on, over a DRAM of any content.
+pub(crate) fn power_on<S: Scheme>(
+    alloc: Global,
+    geometry: &Geometry,
+    dram: Dram,
+) -> Result<Parts<S>, AllocError>
+    requires { IsDramOf geometry.now dram }
+    ensures { IfOk result (λ m. IsPowered S.scheme geometry.now (machine_of m)) }
+{
+    let numbers = geometry.numbers();
+    let cache = Cache::new(alloc, numbers.sets, numbers.ways)?;
+    let scheme = S::new(alloc, geometry, dram)?;
+    Ok(Parts {
+        hart: Hart::new(&no_cpu(), 0, geometry),
+        cache,
+        behind: Behind { scheme },
+        phase: Phase::Boot,
+        checkpoints: Checkpoints {
+            done: Mark { epoch: 0, count: 0 },
+            sealed: None,
+            written: false,
+        },
+        consoles: Consoles { done: 0, sealed: 0 },
+        ends: false,
+        spent: 0,
+        lap: 0,
+        idle: false,
+    })
+}
+
+/// A processor before the boot has found or loaded one.
+fn no_cpu() -> CpuState {
+    CpuState {
+        pc: 0,
+        regs: Regs::new(),
+        console_len: 0,
+        cursor: 0,
+        brk: 0,
+        floor: 0,
+        count: 0,
+        status: Status::Running,
+    }
+}
+
+/// Whether the boot goes on and has found no checkpoint.
+pub(crate) fn is_loading<S: Scheme>(m: &Parts<S>) -> bool
+    ensures { TellsLoading (kind_over S.scheme) (machine_of m.now) result }
+{
+    match m.phase {
+        Phase::Boot => m.behind.scheme.loading(),
+        Phase::Run | Phase::Halt => false,
+    }
+}
+
+/// Loses power: all is gone but the DRAM, whose bytes are those that the pick draws.
+pub(crate) fn cut<S: Scheme>(m: Parts<S>, pick: u64) -> Dram
+    ensures { (o : Origin) (k : ℕ) (n : Device) → Sound S.scheme o k (machine_of m) n → IsDramOf o.geometry result }
+{
+    m.behind.scheme.cut(pick)
+}

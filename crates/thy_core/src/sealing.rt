@@ -1,0 +1,132 @@
+//! The hart's turn while its epoch is over or a page is promoted: what comes before a seal, and the seal.
+ghost use Rattle.std.specs.Prelude.{◌≡◌, ◌≢◌, Ok, None, Some, true, false, ◌+◌, ◌<◌, ◌^◌};
+ghost use Rattle.thy_base.specs.Device.{IsFramed, CountsFault};
+ghost use Rattle.thy_cache.specs.Contents.{dirty_count};
+ghost use Rattle.thy_isa.specs.Step.{is_running};
+ghost use Rattle.thy_view.specs.declared.did.Stall.TheVariants.{Sealing};
+ghost use Rattle.thy_view.specs.Turn.{TheHart};
+ghost use Rattle.thy_core_model.specs.Calls.{after_seal};
+ghost use Rattle.thy_core.specs.Cycles.{IsAnyRun, CanTake, LeadsAs, FailsAs};
+ghost use Rattle.thy_core.specs.Parts.{machine_of};
+
+use crate::parts::Parts;
+use thy_base::{EndCause, Mark, Nvm, NvmError};
+use thy_isa::Status;
+use thy_scheme::Scheme;
+use thy_view::Did;
+
+/// Promotes a block of a page, or stores a dirty line, or merges a block into its page, or else seals the epoch.
+pub(crate) fn prepare<N: Nvm, S: Scheme>(m: &mut Parts<S>, nvm: &mut N) -> Result<Did, NvmError>
+    requires { CanTake S.scheme IsAnyRun (TheHart (Some Sealing)) (machine_of m.old) (N.device nvm.old) }
+    ensures leads { LeadsAs S.scheme IsAnyRun (TheHart (Some Sealing))
+        (machine_of m.old) (N.device nvm.old) (machine_of m.new) (N.device nvm.new) result }
+    ensures fails { FailsAs S.scheme IsAnyRun (TheHart (Some Sealing))
+        (machine_of m.old) (N.device nvm.old) (N.device nvm.new) result }
+    ensures frame { IsFramed (N.device nvm.old) (N.device nvm.new) }
+    ensures cause { CountsFault result (N.device nvm.old).faults (N.device nvm.new).faults }
+{
+    if m.behind.scheme.promoting() {
+        promote(m, nvm)
+    } else if m.cache.dirty() != 0 {
+        flush(m, nvm)
+    } else if m.behind.scheme.overlay() {
+        Ok(merge(m, nvm))
+    } else {
+        Ok(seal(m, nvm))
+    }
+}
+
+/// Promotes a block of a page.
+fn promote<N: Nvm, S: Scheme>(m: &mut Parts<S>, nvm: &mut N) -> Result<Did, NvmError>
+    requires turn { CanTake S.scheme IsAnyRun (TheHart (Some Sealing)) (machine_of m.old) (N.device nvm.old) }
+    requires promoting { S.scheme.promoting m.old.behind.scheme ≡ true }
+    ensures leads { LeadsAs S.scheme IsAnyRun (TheHart (Some Sealing))
+        (machine_of m.old) (N.device nvm.old) (machine_of m.new) (N.device nvm.new) result }
+    ensures fails { FailsAs S.scheme IsAnyRun (TheHart (Some Sealing))
+        (machine_of m.old) (N.device nvm.old) (N.device nvm.new) result }
+    ensures frame { IsFramed (N.device nvm.old) (N.device nvm.new) }
+    ensures cause { CountsFault result (N.device nvm.old).faults (N.device nvm.new).faults }
+{
+    m.behind.scheme.promote_one(nvm)?;
+    m.spent += 1;
+    Ok(Did::Promoted)
+}
+
+/// Stores a dirty line, or makes the copy that has to go first.
+fn flush<N: Nvm, S: Scheme>(m: &mut Parts<S>, nvm: &mut N) -> Result<Did, NvmError>
+    requires turn { CanTake S.scheme IsAnyRun (TheHart (Some Sealing)) (machine_of m.old) (N.device nvm.old) }
+    requires whole { S.scheme.promoting m.old.behind.scheme ≡ false }
+    requires dirty { dirty_count m.old.cache ≢ 0 }
+    ensures leads { LeadsAs S.scheme IsAnyRun (TheHart (Some Sealing))
+        (machine_of m.old) (N.device nvm.old) (machine_of m.new) (N.device nvm.new) result }
+    ensures fails { FailsAs S.scheme IsAnyRun (TheHart (Some Sealing))
+        (machine_of m.old) (N.device nvm.old) (N.device nvm.new) result }
+    ensures frame { IsFramed (N.device nvm.old) (N.device nvm.new) }
+    ensures cause { CountsFault result (N.device nvm.old).faults (N.device nvm.new).faults }
+{
+    let _flushed = m.cache.flush_one(&mut m.behind, nvm)?;
+    m.spent += 1;
+    Ok(Did::Flushed)
+}
+
+/// Merges a block into its page.
+fn merge<N: Nvm, S: Scheme>(m: &mut Parts<S>, nvm: &N) -> Did
+    requires turn { CanTake S.scheme IsAnyRun (TheHart (Some Sealing)) (machine_of m.old) (N.device nvm.now) }
+    requires whole { S.scheme.promoting m.old.behind.scheme ≡ false }
+    requires clean { dirty_count m.old.cache ≡ 0 }
+    requires overlaid { S.scheme.overlaid m.old.behind.scheme ≡ true }
+    ensures { LeadsAs S.scheme IsAnyRun (TheHart (Some Sealing))
+        (machine_of m.old) (N.device nvm.now) (machine_of m.new) (N.device nvm.now) (Ok result) }
+{
+    m.behind.scheme.merge_one();
+    m.spent += 1;
+    Did::Merged
+}
+
+/// Seals the epoch, which is over.
+fn seal<N: Nvm, S: Scheme>(m: &mut Parts<S>, nvm: &N) -> Did
+    requires turn { CanTake S.scheme IsAnyRun (TheHart (Some Sealing)) (machine_of m.old) (N.device nvm.now) }
+    requires whole { S.scheme.promoting m.old.behind.scheme ≡ false }
+    requires clean { dirty_count m.old.cache ≡ 0 }
+    requires bare { S.scheme.overlaid m.old.behind.scheme ≡ false }
+    ensures { LeadsAs S.scheme IsAnyRun (TheHart (Some Sealing))
+        (machine_of m.old) (N.device nvm.now) (machine_of m.new) (N.device nvm.now) (Ok result) }
+{
+    let epoch = m.hart.epoch().epoch();
+    let count = m.hart.cpu().count;
+    let Some(cause) = m.hart.epoch().over() else {
+        unreachable!()
+    };
+    m.behind.scheme.seal(m.hart.cpu(), epoch);
+    begin_epoch(m);
+    Did::Sealed(epoch, count, cause)
+}
+
+/// Notes that the epoch was sealed, and begins the next one.
+fn begin_epoch<S>(m: &mut Parts<S>)
+    requires over { m.old.hart.epoch.over ≢ None }
+    requires number { m.old.hart.epoch.number + 1 < 2 ^ 64 }
+    ensures { machine_of m.new ≡ after_seal m.old.behind.scheme (machine_of m.old) }
+{
+    let cpu = m.hart.cpu();
+    m.checkpoints.sealed = Some(Mark {
+        epoch: m.hart.epoch().epoch(),
+        count: cpu.count,
+    });
+    m.consoles.sealed = cpu.console_len;
+    m.ends = !runs(cpu.status);
+    m.idle = m.hart.epoch().retired() == 0;
+    m.hart.sealed();
+    m.spent = 0;
+    m.lap = 0;
+}
+
+/// Whether a program of this status runs.
+pub(crate) fn runs(status: Status) -> bool
+    ensures { result ≡ is_running status }
+{
+    match status {
+        Status::Running => true,
+        Status::Exited(_) | Status::Trapped(_) => false,
+    }
+}

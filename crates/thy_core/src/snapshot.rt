@@ -1,0 +1,97 @@
+//! What a machine is read for: the state that it executes, and the console of its committed checkpoint.
+ghost use Rattle.std.specs.Prelude.{◌≡◌, IfOk, IfErr, OnOk};
+ghost use Rattle.thy_base.specs.Device.{IsFramed};
+ghost use Rattle.thy_hart.specs.Laws.{IsSized};
+ghost use Rattle.thy_hart.specs.Steps.{current};
+ghost use Rattle.thy_isa.specs.Step.{state_of, state_with};
+ghost use Rattle.thy_base.specs.Bytes.{bytes_of};
+ghost use Rattle.thy_scheme.specs.Scheme.{CanRun};
+ghost use Rattle.thy_view.specs.Kind.{CanRead, Snapshots, ShowsConsole, HasFailedToRead};
+ghost use Rattle.thy_core_model.specs.Kind.{kind_over};
+ghost use Rattle.thy_core_model.specs.Machine.{memory_of};
+ghost use Rattle.thy_core.specs.Parts.{machine_of};
+
+use crate::parts::Parts;
+use crate::reading::{Version, read_blocks, read_console};
+use std::alloc::Global;
+use thy_base::{Bytes, Nvm};
+use thy_isa::{CpuState, MachState};
+use thy_scheme::Scheme;
+use thy_view::{CoreError, Phase};
+
+/// The state that a processor makes with a memory and a console.
+fn state_with(cpu: &CpuState, memory: Bytes, console: Bytes) -> MachState
+    ensures { state_of result ≡ state_with cpu.now (bytes_of memory) (bytes_of console) }
+{
+    MachState {
+        pc: cpu.pc,
+        regs: cpu.regs,
+        memory,
+        console,
+        cursor: cpu.cursor,
+        brk: cpu.brk,
+        floor: cpu.floor,
+        count: cpu.count,
+        status: cpu.status,
+    }
+}
+
+/// The state of processor and memory, behind the boot.
+fn executing<N: Nvm, S: Scheme>(
+    alloc: Global,
+    m: &Parts<S>,
+    nvm: &mut N,
+) -> Result<MachState, CoreError>
+    requires stands { CanRun S.scheme m.now.behind.scheme (N.device nvm.old) }
+    requires sized { IsSized m.now.hart (memory_of S.scheme (machine_of m.now) (N.device nvm.old)) }
+    ensures state { IfOk result (λ s. state_of s ≡ current m.now.hart (memory_of S.scheme (machine_of m.now) (N.device nvm.old))) }
+    ensures same { OnOk result (N.device nvm.new ≡ N.device nvm.old) }
+    ensures err { IfErr result (λ e. HasFailedToRead e (N.device nvm.old) (N.device nvm.new)) }
+    ensures frame { IsFramed (N.device nvm.old) (N.device nvm.new) }
+{
+    let numbers = m.hart.geometry().numbers();
+    let blocks = 64 * (numbers.pages - numbers.console);
+    let memory = read_blocks(alloc, m, Version::Executing, 0, blocks, nvm)?;
+    let cpu = m.hart.cpu();
+    let console = read_console(alloc, m, Version::Executing, 0, cpu.console_len, nvm)?;
+    Ok(state_with(cpu, memory, console))
+}
+
+/// The state that a machine executes, where no instruction is under way. In the boot it has no memory, and nothing is read.
+pub(crate) fn snapshot<N: Nvm, S: Scheme>(
+    alloc: Global,
+    m: &Parts<S>,
+    nvm: &mut N,
+) -> Result<MachState, CoreError>
+    requires { CanRead (kind_over S.scheme) (machine_of m.now) (N.device nvm.old) }
+    ensures state { Snapshots (kind_over S.scheme) (machine_of m.now) (N.device nvm.old) result }
+    ensures same { OnOk result (N.device nvm.new ≡ N.device nvm.old) }
+    ensures err { IfErr result (λ e. HasFailedToRead e (N.device nvm.old) (N.device nvm.new)) }
+    ensures frame { IsFramed (N.device nvm.old) (N.device nvm.new) }
+{
+    match m.phase {
+        Phase::Boot => Ok(state_with(m.hart.cpu(), Bytes::new(alloc), Bytes::new(alloc))),
+        Phase::Run | Phase::Halt => executing(alloc, m, nvm),
+    }
+}
+
+/// Once the boot is over, the console of the committed checkpoint from byte `from` on.
+pub(crate) fn console<N: Nvm, S: Scheme>(
+    alloc: Global,
+    m: &Parts<S>,
+    from: u64,
+    nvm: &mut N,
+) -> Result<Bytes, CoreError>
+    requires { CanRead (kind_over S.scheme) (machine_of m.now) (N.device nvm.old) }
+    ensures console { ShowsConsole (kind_over S.scheme) from (machine_of m.now) (N.device nvm.old) result }
+    ensures same { OnOk result (N.device nvm.new ≡ N.device nvm.old) }
+    ensures err { IfErr result (λ e. HasFailedToRead e (N.device nvm.old) (N.device nvm.new)) }
+    ensures frame { IsFramed (N.device nvm.old) (N.device nvm.new) }
+{
+    match m.phase {
+        Phase::Boot => Ok(Bytes::new(alloc)),
+        Phase::Run | Phase::Halt => {
+            read_console(alloc, m, Version::Committed, from, m.consoles.done, nvm)
+        }
+    }
+}

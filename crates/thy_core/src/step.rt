@@ -1,0 +1,57 @@
+//! One cycle of a pick.
+ghost use Rattle.std.specs.Prelude.{◌≡◌, ◌&&◌, not};
+ghost use Rattle.thy_base.specs.Device.{IsFramed, CountsFault};
+ghost use Rattle.thy_view.specs.Kind.{CanStep, LeadsOn, FailsSafe};
+ghost use Rattle.thy_view.specs.Turn.{told_at};
+ghost use Rattle.thy_view.specs.Views.{is_halt};
+ghost use Rattle.thy_core_model.specs.Kind.{kind_over};
+ghost use Rattle.thy_core.specs.Parts.{machine_of, actor_of};
+
+use crate::cycle::cycle;
+use crate::parts::Parts;
+use crate::turn::{Turn, next_turn};
+use thy_base::{Nvm, NvmError, Pick};
+use thy_record::Start;
+use thy_scheme::Scheme;
+use thy_view::{Phase, Stall, Stepped};
+
+/// Takes one cycle: the pick's, or where its actor has nothing to do the hart's.
+pub(crate) fn take_step<N: Nvm, S: Scheme>(
+    m: &mut Parts<S>,
+    pick: Pick,
+    start: &Start,
+    nvm: &mut N,
+) -> Result<Stepped, NvmError>
+    requires { CanStep (kind_over S.scheme) start.now (machine_of m.old) (N.device nvm.old) }
+    ensures steps { LeadsOn (kind_over S.scheme) start.now pick
+        (machine_of m.old) (machine_of m.new) (N.device nvm.old) (N.device nvm.new) result }
+    ensures safe { FailsSafe (kind_over S.scheme) start.now pick (machine_of m.old) (N.device nvm.old) (N.device nvm.new) result }
+    ensures frame { IsFramed (N.device nvm.old) (N.device nvm.new) }
+    ensures cause { CountsFault result (N.device nvm.old).faults (N.device nvm.new).faults }
+{
+    let before = m.phase;
+    let turn = next_turn(m, pick, nvm.queued());
+    let did = cycle(m, turn, start, nvm)?;
+    Ok(Stepped {
+        did,
+        stall: told(turn),
+        ended: has_halted(before, m.phase),
+    })
+}
+
+/// The stall that is told at a turn.
+fn told(turn: Turn) -> Option<Stall>
+    ensures { result ≡ told_at (actor_of turn) }
+{
+    match turn {
+        Turn::Nvm | Turn::Dram | Turn::Engine => None,
+        Turn::Hart(stall) => stall,
+    }
+}
+
+/// Whether a machine halted by a cycle, from the phases before and after it.
+fn has_halted(before: Phase, after: Phase) -> bool
+    ensures { result ≡ (not (is_halt before) && is_halt after) }
+{
+    before != Phase::Halt && after == Phase::Halt
+}

@@ -1,0 +1,110 @@
+//! Whose turn a cycle is.
+ghost use Rattle.std.specs.Prelude.{◌≡◌, is_some};
+ghost use Rattle.thy_core_model.specs.Machine.{shortage_of};
+ghost use Rattle.thy_core.specs.Parts.{machine_of, actor_of};
+ghost use Rattle.thy_core.specs.Turns.{lacks, waits_now, stall_now, engine_now, turn_now};
+ghost use Rattle.thy_view.specs.Turn.{TheHart};
+
+use crate::parts::Parts;
+use thy_base::Pick;
+use thy_scheme::Scheme;
+use thy_view::{Phase, Stall};
+
+/// Who takes a cycle.
+#[derive(Clone, Copy, Debug, PartialEq, Eq)]
+pub(crate) enum Turn {
+    /// The NVM's queue.
+    Nvm,
+    /// The DRAM's queue.
+    Dram,
+    /// The checkpoint engine.
+    Engine,
+    /// The hart, with its stall, if it advances no instruction.
+    Hart(Option<Stall>),
+}
+
+/// Whether fewer entries are free than the dirty lines and the blocks need that an instruction reserves room for.
+fn lacks(free: u64, dirty: u64, need: Option<u64>) -> bool
+    ensures { result ≡ lacks free dirty need }
+{
+    match need {
+        Some(need) => free < need || free - need < dirty,
+        None => false,
+    }
+}
+
+/// Whether the hart can't reserve room: no checkpoint lets it, or entries are short.
+fn is_short<S: Scheme>(m: &Parts<S>) -> bool
+    ensures { result ≡ is_some (shortage_of S.scheme (machine_of m.now)) }
+{
+    if m.behind.scheme.under_way() && !S::overlaps() {
+        return true;
+    }
+    lacks(m.behind.scheme.free(), m.cache.dirty(), m.hart.to_reserve())
+}
+
+/// Whether the hart waits for the checkpoint that is under way.
+fn waits<S: Scheme>(m: &Parts<S>) -> bool
+    ensures { result ≡ waits_now S.scheme (machine_of m.now) }
+{
+    m.checkpoints.sealed.is_some()
+        && (m.hart.epoch().over().is_some()
+            || is_short(m)
+            || m.ends && !m.behind.scheme.promoting())
+}
+
+/// Why the hart advances no instruction at its turn.
+fn hart_stall<S: Scheme>(m: &Parts<S>) -> Option<Stall>
+    ensures { result ≡ stall_now S.scheme m.now.phase (machine_of m.now) }
+{
+    match m.phase {
+        Phase::Boot => Some(Stall::Booting),
+        Phase::Halt => Some(Stall::Halted),
+        Phase::Run => run_stall(m),
+    }
+}
+
+/// Why it advances none once the boot is over: it waits, or the epoch is over or a page is promoted.
+fn run_stall<S: Scheme>(m: &Parts<S>) -> Option<Stall>
+    ensures { result ≡ stall_now S.scheme Phase.Run (machine_of m.now) }
+{
+    if waits(m) {
+        Some(Stall::Waiting)
+    } else if m.hart.epoch().over().is_some() || m.behind.scheme.promoting() {
+        Some(Stall::Sealing)
+    } else {
+        None
+    }
+}
+
+/// Whose turn a pick is, where so many writes are queued in the NVM: where its actor has nothing to do, the hart's.
+pub(crate) fn next_turn<S: Scheme>(m: &Parts<S>, pick: Pick, nvm: u64) -> Turn
+    ensures { actor_of result ≡ turn_now S.scheme pick nvm (machine_of m.now) }
+{
+    let hart = Turn::Hart(hart_stall(m));
+    match pick {
+        Pick::Hart => hart,
+        Pick::Engine => engine_turn(m, hart),
+        Pick::NvmDrain => if nvm == 0 { hart } else { Turn::Nvm },
+        Pick::DramDrain => if m.behind.scheme.queued() == 0 {
+            hart
+        } else {
+            Turn::Dram
+        },
+    }
+}
+
+/// The engine's turn, where a checkpoint is under way, or else the hart's.
+fn engine_turn<S: Scheme>(m: &Parts<S>, hart: Turn) -> Turn
+    requires { actor_of hart ≡ TheHart (stall_now S.scheme m.now.phase (machine_of m.now)) }
+    ensures { actor_of result ≡ engine_now S.scheme m.now.phase (machine_of m.now) }
+{
+    match m.phase {
+        Phase::Run => if m.checkpoints.sealed.is_some() {
+            Turn::Engine
+        } else {
+            hart
+        },
+        Phase::Boot | Phase::Halt => hart,
+    }
+}

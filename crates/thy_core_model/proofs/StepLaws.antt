@@ -1,0 +1,52 @@
+-- A cycle that leads on, at the turn of its pick, is a step of a machine, and one that failed is a cycle that failed.
+use Rattle.std.proofs.Common.{◌≡◌, ℕ, ◌+◌, sym, ◌∙◌, ap, inl, inr, subst, refl}
+use Rattle.thy_base.specs.Device.{Device}
+use Rattle.thy_view.specs.declared.view.Phase.{Phase}
+use Rattle.thy_view.specs.declared.view.Phase.TheVariants.{Boot, Run, Halt}
+use Rattle.thy_view.specs.declared.view.View.{View}
+use Rattle.thy_view.specs.Origin.{Origin}
+use Rattle.thy_scheme.specs.Boots.{IsBootView}
+use Rattle.thy_scheme.specs.Laws.{IsLawful}
+use Rattle.thy_scheme.specs.Scheme.{SchemeOf}
+use Rattle.thy_core_model.specs.Machine.{Machine, view_in, view_of, gauge_of}
+use Rattle.thy_core_model.specs.Pace.{most_spent}
+use Rattle.thy_core_model.specs.Runs.{LeadingIsStep, FailingIsSafe}
+use Rattle.thy_core_model.specs.Sound.{SoundIn, Sound}
+use Rattle.thy_core_model.proofs.NearLaws.{cycles_come_nearer}
+use Rattle.thy_core_model.proofs.RunLaws.{moment_is_safe}
+
+-- a boot has retired nothing
+boots_fresh : (o : Origin) (v : View) → IsBootView o v → v.retired ≡ 0
+boots_fresh o v shown = elim shown as (λ _. v.retired ≡ 0) [
+  | inl s ↦ ap (λ (w : View). w.retired) s.1
+  | inr s ↦ elim s.1 as (λ _. v.retired ≡ 0) [
+    | inl e ↦ ap (λ (w : View). w.retired) e
+    | inr e ↦ ap (λ (w : View). w.retired) e
+  ]
+]
+
+fresh_in : {S : Type 0} (K : SchemeOf S) (l : IsLawful K) (o : Origin) (cycles : ℕ) (m : Machine S) (n : Device) → Sound K o cycles m n
+    → (phase : Phase) → m.phase ≡ phase → (view_in K o phase m n).phase ≡ Boot → (view_in K o phase m n).retired ≡ 0
+fresh_in K l o cycles m n s Boot is boots =
+    boots_fresh o (K.boot_view o m.scheme n) (l.boot_holds o m.scheme n (record { boots = (subst (λ p. SoundIn K o p m n) is s.moment).boots; up = s.up })).shown
+fresh_in K l o cycles m n s Run is boots = absurd (let both : Run ≡ Boot = sym is ∙ boots in cc)
+fresh_in K l o cycles m n s Halt is boots = absurd (let both : Halt ≡ Boot = sym is ∙ boots in cc)
+
+pub leading_is_step : {S : Type 0} (K : SchemeOf S) → LeadingIsStep K
+leading_is_step K o cycles pick m next n new r at leads turn ended = record {
+  at_next = leads.at_next;
+  step = leads.step;
+  turn = turn;
+  acts = leads.acts;
+  pace = leads.pace;
+  nears = cycles_come_nearer (most_spent K o.geometry) o (view_of K o m n) (view_of K o next new) r.did (gauge_of K m n) (gauge_of K next new)
+      (fresh_in K at.lawful o cycles m n at.sound m.phase refl) leads.step leads.pace;
+  exhausts = leads.exhausts;
+  ended = ended;
+  safe = moment_is_safe K o (cycles + 1) next new at.lawful leads.at_next;
+  read = leads.read;
+}
+
+pub failing_is_safe : {S : Type 0} (K : SchemeOf S) → FailingIsSafe K
+failing_is_safe K o pick m n new did stall fails turn =
+    record { safe = fails.safe; acted = record { did = did; stall = stall; turn = turn; failed = fails.failed } }

@@ -1,0 +1,73 @@
+-- How a run of the machine begins, what a power cut leads to, and that every cycle comes nearer to its end.
+use Rattle.std.specs.Prelude.{◌≡◌, ℕ, ◌+◌, ◌*◌, ◌≤◌, false, List, length, Option}
+use Rattle.thy_base.specs.declared.block.Block.{Block}
+use Rattle.thy_base.specs.declared.nvm.Shape.{Shape}
+use Rattle.thy_base.specs.Device.{Device, Crash, cut_to, fitted}
+use Rattle.thy_base.specs.declared.mix.Pick.{Pick}
+use Rattle.thy_view.specs.declared.did.Did.{Did}
+use Rattle.thy_view.specs.declared.did.Stall.{Stall}
+use Rattle.thy_view.specs.declared.did.Stepped.{Stepped}
+use Rattle.thy_view.specs.declared.view.Phase.TheVariants.{Boot}
+use Rattle.thy_view.specs.declared.view.View.{View}
+use Rattle.thy_view.specs.Booting.{first_view, view_of_image}
+use Rattle.thy_view.specs.CoreStep.{CoreStep}
+use Rattle.thy_view.specs.Kind.{IsLawful, IsFittedFor, IsStep, LeavesSafe}
+use Rattle.thy_view.specs.Origin.{Origin, IsOrigin}
+use Rattle.thy_view.specs.Pace.{Gauge, KeepsPace, retires}
+use Rattle.thy_view.specs.Safe.{ceiling, Safe}
+use Rattle.thy_view.specs.Turn.{Turn}
+use Rattle.thy_view.specs.Views.{is_halt, halts, doubt_of}
+use Rattle.thy_scheme.specs.Scheme.{SchemeOf}
+use Rattle.thy_scheme.specs.Laws.{IsLawful as IsLawfulScheme}
+use Rattle.thy_core_model.specs.Kind.{kind_over, left_ahead}
+use Rattle.thy_core_model.specs.Machine.{Machine, view_of, pressure_of}
+use Rattle.thy_core_model.specs.Failures.{Fails}
+use Rattle.thy_core_model.specs.Rows.{At, Leads}
+use Rattle.thy_core_model.specs.Sound.{Sound, IsPowered}
+
+-- whatever a cut leaves at a moment is the committed checkpoint, whole, or the one in doubt
+abbrev pub MomentIsSafe : {S : Type 0} → SchemeOf S → Type 0
+MomentIsSafe {S} K =
+    (o : Origin) (cycles : ℕ) (m : Machine S) (n : Device)
+    → IsLawfulScheme K → Sound K o cycles m n → Safe K.decode o (view_of K o m n).done (doubt_of (view_of K o m n)) n
+
+-- a new machine over a fitted device is at a moment of the run that this begins
+abbrev pub FreshLeads : {S : Type 0} → SchemeOf S → Type 0
+FreshLeads {S} K =
+    (o : Origin) (m : Machine S) (shape : Shape) (start : List Block) (n : Device)
+    → IsLawfulScheme K → IsOrigin o → IsPowered K o.geometry m → IsFittedFor (kind_over K) o shape start n
+    → Sound K o 0 m (fitted shape start n) × (view_of K o m (fitted shape start n) ≡ first_view o)
+
+-- a power cut leads to a moment of the same run, whose view is what the image means that was left
+abbrev pub CutLeads : {S : Type 0} → SchemeOf S → Type 0
+CutLeads {S} K =
+    (o : Origin) (cycles : ℕ) (m next : Machine S) (n : Device) (pick : ℕ) (g : List Block)
+    → IsLawfulScheme K → Sound K o cycles m n → IsPowered K o.geometry next → Crash n g
+    → Sound K o cycles next (cut_to n pick g)
+    × (view_of K o next (cut_to n pick g) ≡ view_of_image o.start.count (K.decode o.geometry ceiling g))
+
+-- a cycle of a machine that has not halted is one nearer to the next instruction, by view and gauge alone
+abbrev pub CyclesComeNearer : Type 0
+CyclesComeNearer =
+    (most : ℕ) (o : Origin) (v next : View) (did : Did) (old new : Gauge)
+    → (v.phase ≡ Boot → v.retired ≡ 0) → CoreStep o v did next → KeepsPace most v next did old new → is_halt v.phase ≡ false
+    → left_ahead most next new + 1 ≤ left_ahead most v old + 4 * most * retires did
+
+-- a cycle that leads to the next moment, at the turn of its pick, is a step of a machine
+abbrev pub LeadingIsStep : {S : Type 0} → SchemeOf S → Type 0
+LeadingIsStep {S} K =
+    (o : Origin) (cycles : ℕ) (pick : Pick) (m next : Machine S) (n new : Device) (r : Stepped)
+    → At K o cycles m n → Leads K o cycles r.did m n next new
+    → Turn o pick (length n.queue) (view_of K o m n) (pressure_of K m) r.did r.stall
+    → r.ended ≡ halts (view_of K o m n) (view_of K o next new) → IsStep (kind_over K) o cycles pick m next n new r
+
+-- and one that failed so is a cycle that failed
+abbrev pub FailingIsSafe : {S : Type 0} → SchemeOf S → Type 0
+FailingIsSafe {S} K =
+    (o : Origin) (pick : Pick) (m : Machine S) (n new : Device) (did : Did) (stall : Option Stall)
+    → Fails K o did m n new → Turn o pick (length n.queue) (view_of K o m n) (pressure_of K m) did stall
+    → LeavesSafe (kind_over K) o pick m n new
+
+-- so the machine keeps the laws of machines
+abbrev pub MachineIsLawful : {S : Type 0} → SchemeOf S → Type 0
+MachineIsLawful K = IsLawfulScheme K → IsLawful (kind_over K)

@@ -1,0 +1,126 @@
+//! Laws of the machine, for every scheme, each the contract of a function that does nothing.
+ghost use Rattle.thy_core_model.specs.Failures.{HartFails, FlushFails, PromotionLeaves, EngineLeaves, BootLeaves, DrainFails};
+ghost use Rattle.thy_core_model.specs.Rows.{HartLeads, FlushLeads, MergeLeads, PromotionLeads, BootLeads, SealLeads, EngineLeads, NvmDrainLeads, DramDrainLeads, BootDrainLeads, NothingLeads};
+ghost use Rattle.thy_core_model.specs.Runs.{MomentIsSafe, CyclesComeNearer, FreshLeads, CutLeads, MachineIsLawful, LeadingIsStep, FailingIsSafe};
+
+use thy_scheme::Scheme;
+
+/// A step of the hart leads to the next moment: by a step of the view, one action on the NVM, and within bounds.
+pub fn the_hart_leads_on<S: Scheme>()
+    ensures { HartLeads S.scheme }
+{}
+
+/// A step of a flush before a seal leads to the next moment.
+pub fn a_flush_leads_on<S: Scheme>()
+    ensures { FlushLeads S.scheme }
+{}
+
+/// A block that is merged before a seal leads to the next moment.
+pub fn a_merge_leads_on<S: Scheme>()
+    ensures { MergeLeads S.scheme }
+{}
+
+/// A block that is promoted leads to the next moment.
+pub fn a_promotion_leads_on<S: Scheme>()
+    ensures { PromotionLeads S.scheme }
+{}
+
+/// Whatever a power cut leaves at a moment is the committed checkpoint, whole, or the one in doubt.
+pub fn a_moment_is_safe<S: Scheme>()
+    ensures { MomentIsSafe S.scheme }
+{}
+
+/// A cycle of a machine that has not halted is one nearer to the next instruction, or to the end.
+pub fn cycles_come_nearer()
+    ensures { CyclesComeNearer }
+{}
+
+/// A new machine over a fitted device is at a moment of the run that this begins.
+pub fn a_fresh_start_leads_on<S: Scheme>()
+    ensures { FreshLeads S.scheme }
+{}
+
+/// A power cut leads to a moment of the same run, whose view is what the image means that was left.
+pub fn a_cut_leads_on<S: Scheme>()
+    ensures { CutLeads S.scheme }
+{}
+
+/// So the machine keeps the laws of machines.
+pub fn the_machine_is_lawful<S: Scheme>()
+    ensures { MachineIsLawful S.scheme }
+{}
+
+/// A load or a store of the hart that fails leaves the committed checkpoint, whole, or the sealed one.
+pub fn the_hart_fails_safely<S: Scheme>()
+    ensures { HartFails S.scheme }
+{}
+
+/// So does a store of a line.
+pub fn a_flush_fails_safely<S: Scheme>()
+    ensures { FlushFails S.scheme }
+{}
+
+/// So does a promotion.
+pub fn a_promotion_fails_safely<S: Scheme>()
+    ensures { PromotionLeaves S.scheme }
+{}
+
+/// So does a step of the engine.
+pub fn the_engine_fails_safely<S: Scheme>()
+    ensures { EngineLeaves S.scheme }
+{}
+
+/// So does a step of the boot.
+pub fn the_boot_fails_safely<S: Scheme>()
+    ensures { BootLeaves S.scheme }
+{}
+
+/// So does a drain of the NVM.
+pub fn a_drain_fails_safely<S: Scheme>()
+    ensures { DrainFails S.scheme }
+{}
+
+/// A step of the boot leads to the next moment: behind its last one the hart is at the checkpoint that was found or loaded.
+pub fn the_boot_leads_on<S: Scheme>()
+    ensures { BootLeads S.scheme }
+{}
+
+/// A seal of an epoch that is over leads to the next moment, at which its checkpoint is under way.
+pub fn a_seal_leads_on<S: Scheme>()
+    ensures { SealLeads S.scheme }
+{}
+
+/// A step of the engine leads to the next moment: with the last one the sealed checkpoint is the committed one.
+pub fn the_engine_leads_on<S: Scheme>()
+    ensures { EngineLeads S.scheme }
+{}
+
+/// A write of the NVM that lands leads to the next moment, in each phase: nothing of the view changes.
+pub fn an_nvm_drain_leads_on<S: Scheme>()
+    ensures { NvmDrainLeads S.scheme }
+{}
+
+/// A write of the DRAM that lands behind the boot leads to the next moment.
+pub fn a_dram_drain_leads_on<S: Scheme>()
+    ensures { DramDrainLeads S.scheme }
+{}
+
+/// And so does one that lands in the boot.
+pub fn a_drain_of_the_boot_leads_on<S: Scheme>()
+    ensures { BootDrainLeads S.scheme }
+{}
+
+/// A machine that has halted does nothing, and stays at a moment of the run.
+pub fn nothing_leads_on<S: Scheme>()
+    ensures { NothingLeads S.scheme }
+{}
+
+/// A cycle that leads to the next moment, at the turn of its pick, is a step of a machine.
+pub fn a_cycle_that_leads_on_is_a_step<S: Scheme>()
+    ensures { LeadingIsStep S.scheme }
+{}
+
+/// A cycle that fails in its action, at the turn of its pick, leaves the committed checkpoint, whole, or the sealed one.
+pub fn a_cycle_that_fails_is_safe<S: Scheme>()
+    ensures { FailingIsSafe S.scheme }
+{}
