@@ -34,7 +34,7 @@ if_long : (b : Bool) (old new : List Block) → AllLong old → AllLong new → 
 if_long true old new p q = p
 if_long false old new p q = q
 
-AllLong-head_put : (blocks : List Block) (s : Span) (bytes : List ℕ) → AllLong blocks → AllLong (head_put blocks s bytes)
+pub AllLong-head_put : (blocks : List Block) (s : Span) (bytes : List ℕ) → AllLong blocks → AllLong (head_put blocks s bytes)
 AllLong-head_put blocks s bytes h =
     let piece = take (head_len s) bytes in
     let b = overwritten (first_byte s) piece (block_at blocks (first_block s)) in

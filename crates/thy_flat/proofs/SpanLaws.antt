@@ -20,10 +20,10 @@ whole_place i = omega arith
 
 -- ---- head and rest
 
-head_len-most : (s : Span) → head_len s ≤ s.len
+pub head_len-most : (s : Span) → head_len s ≤ s.len
 head_len-most s = omega arith
 
-head_len-inside : (s : Span) → first_byte s + head_len s ≤ 64
+pub head_len-inside : (s : Span) → first_byte s + head_len s ≤ 64
 head_len-inside s = omega arith
 
 -- the rest lies in one block
@@ -43,7 +43,7 @@ first_inside blocks s some l = omega arith
 
 -- ---- reading
 
-length-head_in : (block : Block) (s : Span) → length (head_in block s) ≡ head_len s
+pub length-head_in : (block : Block) (s : Span) → length (head_in block s) ≡ head_len s
 length-head_in block s =
     length-take-le (head_len s) (drop (first_byte s) (block_bytes block)) (omega (arith, length-drop (first_byte s) (block_bytes block), length-block_bytes block, head_len-inside s))
 

@@ -9,7 +9,7 @@ use Rattle.thy_base.specs.Geometry.{IsInRange, memory_blocks, program_size}
 use Rattle.thy_base.proofs.BlockLemmas.{length-block_bytes}
 use Rattle.thy_flat.specs.declared.span.Span.{Span}
 use Rattle.thy_flat.specs.Spans.{IsSpanOf, first_block, first_byte, head_len, rest_of, head_in}
-use Rattle.thy_flat.proofs.SpanLaws.{rest_of-rest}
+use Rattle.thy_flat.proofs.SpanLaws.{head_len-most, head_len-inside, rest_of-rest, length-head_in}
 use Rattle.thy_isa.specs.declared.state.CallState.{CallState}
 use Rattle.thy_isa.specs.declared.state.CpuState.{CpuState}
 use Rattle.thy_isa.specs.declared.state.Effect.{Effect}
@@ -60,22 +60,12 @@ written_by P e to done writes ends =
 pub head_len-some : (s : Span) → 0 < s.len → 0 < head_len s
 head_len-some s h = omega arith
 
-pub head_len-most : (s : Span) → head_len s ≤ s.len
-head_len-most s = omega arith
-
-head_len-inside : (s : Span) → first_byte s + head_len s ≤ 64
-head_len-inside s = omega arith
-
 pub rest_of-span : (n : ℕ) (s : Span) → IsSpanOf n s → IsSpanOf n (rest_of s)
 rest_of-span n s h = record { short = omega (arith, h.short, head_len-most s); inside = omega (arith, h.inside, head_len-most s) }
 
 -- the first block of a span that has bytes
 pub first_block-inside : (n : ℕ) (s : Span) → IsSpanOf n s → 0 < s.len → first_block s < n
 first_block-inside n s h some = omega (arith, h.inside)
-
-pub length-head_in : (block : Block) (s : Span) → length (head_in block s) ≡ head_len s
-length-head_in block s =
-    length-take-le (head_len s) (drop (first_byte s) (block_bytes block)) (omega (arith, length-drop (first_byte s) (block_bytes block), length-block_bytes block, head_len-inside s))
 
 if_number : (P : ℕ → Type 0) (b : Bool) (x y : ℕ) → (b ≡ true → P x) → (b ≡ false → P y) → P (if b then x else y)
 if_number P true x y p q = p refl

@@ -1,19 +1,17 @@
 -- What each micro-step does that touches its block, or none: whither it leads, how near that is, what it writes.
-use Rattle.std.proofs.Common.{◌≡◌, ℕ, ◌+◌, ◌-◌, ◌*◌, ◌<◌, ◌≤◌, ◌==◌, Bool, true, false, if◌then◌else◌, nat_lt, List, ◌++◌, length, take, drop, slice_set, Option, Some, None, refl, sym, ◌∙◌, ap, append_assoc, append-nil, arith}
+use Rattle.std.proofs.Common.{◌≡◌, ℕ, ◌+◌, ◌-◌, ◌*◌, ◌<◌, ◌≤◌, ◌==◌, Bool, true, false, if◌then◌else◌, nat_lt, List, ◌++◌, length, take, drop, Option, Some, None, refl, sym, ◌∙◌, ap, append_assoc, append-nil, arith}
 use Rattle.std.proofs.lemmas.Bool.Decides.{nat_tests}
-use Rattle.std.proofs.lemmas.List.{drop-drop, length-take}
+use Rattle.std.proofs.lemmas.List.{drop-drop}
 use Rattle.thy_base.specs.declared.block.Block.{Block}
 use Rattle.thy_base.specs.declared.cause.EndCause.TheVariants.{Length, Exhausted, Ended}
 use Rattle.thy_base.specs.declared.config.Parameters.{Parameters}
-use Rattle.thy_base.specs.Blocks.{overwritten}
 use Rattle.thy_base.specs.Device.{block_at}
 use Rattle.thy_base.specs.Geometry.{program_size, console_room}
-use Rattle.thy_base.proofs.BlockLemmas.{length-overwritten}
 use Rattle.thy_cache.specs.Contents.{Contents, hits, victim_of, is_dirty_victim}
 use Rattle.thy_flat.specs.declared.span.Span.{Span}
 use Rattle.thy_flat.specs.Flat.{AllLong}
 use Rattle.thy_flat.specs.Spans.{span, first_block, first_byte, head_len, rest_of, head_read, gathered, head_put, scattered}
-use Rattle.thy_flat.proofs.LongLemmas.{AllLong-set}
+use Rattle.thy_flat.proofs.LongLemmas.{AllLong-head_put}
 use Rattle.thy_flat.proofs.SpanLaws.{gathered-none, gathered-rest, scattered-none, scattered-rest, head_put-others}
 use Rattle.thy_isa.specs.declared.state.Cause.{Cause}
 use Rattle.thy_isa.specs.declared.state.CpuState.{CpuState}
@@ -164,18 +162,6 @@ not_zero n h = grind (arith, nat_tests)
 written-has : (e : Effect) (to : Span) (n : ℕ) → 0 < n → has_written (written_on e to n) ≡ true
 written-has e to n some =
     written_by (λ hand. has_written hand ≡ true) e to n (λ _. ap (λ b. if b then false else true) (not_zero n some)) (λ _. refl)
-
-if_long : (b : Bool) (old new : List Block) → AllLong old → AllLong new → AllLong (if b then old else new)
-if_long true old new p q = p
-if_long false old new p q = q
-
-AllLong-head_put : (blocks : List Block) (s : Span) (bytes : List ℕ) → AllLong blocks → AllLong (head_put blocks s bytes)
-AllLong-head_put blocks s bytes h =
-    let piece = take (head_len s) bytes in
-    let b = overwritten (first_byte s) piece (block_at blocks (first_block s)) in
-    let l : first_byte s + length piece ≤ 64 = omega (arith, length-take (head_len s) bytes) in
-    if_long (s.len == 0) blocks (slice_set blocks (first_block s) b) h
-    (AllLong-set blocks (first_block s) b h (length-overwritten (first_byte s) piece (block_at blocks (first_block s)) l))
 
 -- ---- each micro-step
 
