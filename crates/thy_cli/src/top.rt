@@ -16,7 +16,8 @@ use crate::refusal::{Refusal, refuse};
 use crate::source::{Program, Task, fetch_program};
 use std::alloc::Global;
 use thy_base::{Nvm, Shape, Shelf, Sink};
-use thy_copy::Machine;
+use thy_core::Machine;
+use thy_dual::DualScheme;
 use thy_plain::start_of;
 use thy_record::Start;
 use thy_run::{Plan, run};
@@ -119,7 +120,7 @@ pub fn thynvm<H: Shelf, T: Sink, R: Sink, N: Nvm>(
         (T.stream terminal.old) (R.stream report.old) in
         let after = outside (H.stock shelf.new) (N.device nvm.new)
         (T.stream terminal.new) (R.stream report.new) in
-        Claim ⟦<Machine as Computer>⟧.kind (map string_bytes words.now) before after result }
+        Claim ⟦<Machine<DualScheme> as Computer>⟧.kind (map string_bytes words.now) before after result }
 {
     match settings(alloc, words) {
         Ok(
@@ -136,7 +137,7 @@ pub fn thynvm<H: Shelf, T: Sink, R: Sink, N: Nvm>(
                 config,
                 digest,
             };
-            run_file::<Machine, H, T, R, N>(alloc, task, shelf, terminal, report, nvm)
+            run_file::<Machine<DualScheme>, H, T, R, N>(alloc, task, shelf, terminal, report, nvm)
         }
         Ok(
             Command::Plain {

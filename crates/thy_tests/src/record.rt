@@ -6,10 +6,10 @@ use crate::geometry::geometry_of;
 use std::alloc::Global;
 use std::process::Abort;
 use thy_base::{Block, Geometry, Parameters};
-use thy_copy_model::{header_block, header_fault};
 use thy_isa::{CpuState, Reg, Regs, Status};
 use thy_record::{
-    BadImage, commit_block, commit_fault, cpu_block, cpu_state, is_zero, record_fault, word,
+    BadImage, commit_block, commit_fault, cpu_block, cpu_state, header_block, header_fault, is_zero,
+    record_fault, word,
 };
 
 /// Numbers of a machine with 256 pages, one of them the console's.
@@ -70,7 +70,7 @@ fn fault(geometry: &Geometry, i: usize, value: u64, j: usize, other: u64) -> Opt
 
 /// The header of that machine.
 static HEADER: [u8; 64] = [
-    0x54, 0x48, 0x59, 0x4e, 0x48, 0x44, 0x52, 0x31, 0x00, 0x00, 0x00, 0x00, 0x00, 0x00, 0x00, 0x00,
+    0x54, 0x48, 0x59, 0x4e, 0x48, 0x44, 0x52, 0x31, 0x01, 0x00, 0x00, 0x00, 0x00, 0x00, 0x00, 0x00,
     0x00, 0x00, 0x01, 0x00, 0x00, 0x00, 0x00, 0x00, 0x00, 0x01, 0x00, 0x00, 0x00, 0x00, 0x00, 0x00,
     0x01, 0x00, 0x00, 0x00, 0x00, 0x00, 0x00, 0x00, 0x00, 0x08, 0x00, 0x00, 0x00, 0x00, 0x00, 0x00,
     0x40, 0x00, 0x00, 0x00, 0x00, 0x00, 0x00, 0x00, 0x00, 0x00, 0x00, 0x00, 0x00, 0x00, 0x00, 0x00,
@@ -141,7 +141,7 @@ fn a_record_is_its_bytes(rt: HostRuntime) {
 /// A word of the header, another value of it, and what it is refused for then.
 static HEADERS: [(usize, u64, BadImage); 8] = [
     (0, 0, BadImage::Header),
-    (1, 1, BadImage::Version),
+    (1, 0, BadImage::Version),
     (2, 0, BadImage::Geometry),
     (3, 255, BadImage::Geometry),
     (4, 2, BadImage::Geometry),
@@ -154,10 +154,15 @@ static HEADERS: [(usize, u64, BadImage); 8] = [
 fn a_header_of_another_machine_is_refused(rt: HostRuntime) {
     let geometry = geometry(&rt, rt.alloc());
     let header = header_block(&geometry);
-    expect(&rt, header_fault(&header, &geometry), None);
+    expect(&rt, header_fault(&header, &geometry, true), None);
+    expect(
+        &rt,
+        header_fault(&header, &geometry, false),
+        Some(BadImage::Geometry),
+    );
     for (i, value, bad) in &HEADERS {
         let other = with_word(header, *i, *value);
-        expect_at(&rt, header_fault(&other, &geometry), Some(*bad), *i);
+        expect_at(&rt, header_fault(&other, &geometry, true), Some(*bad), *i);
     }
 }
 
