@@ -1,10 +1,14 @@
 //! Whole runs over memory: what is reported, and with which status.
 mod console;
 mod cuts;
+mod epochs;
 mod inputs;
 mod programs;
 
 pub(crate) use console::GREET;
+use console::HELLO;
+use epochs::{FOUR_INSTRUCTIONS, NINE_STORES, NINE_STORES_TWICE};
+use programs::file_of;
 use std::alloc::{AllocError, Global};
 use std::process::Abort;
 use std::test::Fail;
@@ -27,30 +31,13 @@ static EXIT_SEVEN: [u8; 132] = [
 
 /// `auipc t0,0; lw t1,24(t0); sw t1,16(t0); fence.i; addi a0,zero,1; jal zero,+8; addi a0,zero,9;
 /// addi a7,zero,93; ecall`: it puts its seventh word in place of its fifth.
-static SELF_MODIFYING: [u8; 156] = [
-    0x7f, 0x45, 0x4c, 0x46, 0x02, 0x01, 0x01, 0x00, 0x00, 0x00, 0x00, 0x00, 0x00, 0x00, 0x00, 0x00,
-    0x02, 0x00, 0xf3, 0x00, 0x01, 0x00, 0x00, 0x00, 0x00, 0x00, 0x01, 0x00, 0x00, 0x00, 0x00, 0x00,
-    0x40, 0x00, 0x00, 0x00, 0x00, 0x00, 0x00, 0x00, 0x00, 0x00, 0x00, 0x00, 0x00, 0x00, 0x00, 0x00,
-    0x00, 0x00, 0x00, 0x00, 0x40, 0x00, 0x38, 0x00, 0x01, 0x00, 0x00, 0x00, 0x00, 0x00, 0x00, 0x00,
-    0x01, 0x00, 0x00, 0x00, 0x07, 0x00, 0x00, 0x00, 0x78, 0x00, 0x00, 0x00, 0x00, 0x00, 0x00, 0x00,
-    0x00, 0x00, 0x01, 0x00, 0x00, 0x00, 0x00, 0x00, 0x00, 0x00, 0x01, 0x00, 0x00, 0x00, 0x00, 0x00,
-    0x24, 0x00, 0x00, 0x00, 0x00, 0x00, 0x00, 0x00, 0x24, 0x00, 0x00, 0x00, 0x00, 0x00, 0x00, 0x00,
-    0x04, 0x00, 0x00, 0x00, 0x00, 0x00, 0x00, 0x00, 0x97, 0x02, 0x00, 0x00, 0x03, 0xa3, 0x82, 0x01,
-    0x23, 0xa8, 0x62, 0x00, 0x0f, 0x10, 0x00, 0x00, 0x13, 0x05, 0x10, 0x00, 0x6f, 0x00, 0x80, 0x00,
-    0x13, 0x05, 0x90, 0x00, 0x93, 0x08, 0xd0, 0x05, 0x73, 0x00, 0x00, 0x00,
+static SELF_MODIFYING: [u32; 9] = [
+    0x00000297, 0x0182a303, 0x0062a823, 0x0000100f, 0x00100513, 0x0080006f, 0x00900513, 0x05d00893,
+    0x00000073,
 ];
 
 /// One word, which is no instruction.
-static NO_INSTRUCTION: [u8; 124] = [
-    0x7f, 0x45, 0x4c, 0x46, 0x02, 0x01, 0x01, 0x00, 0x00, 0x00, 0x00, 0x00, 0x00, 0x00, 0x00, 0x00,
-    0x02, 0x00, 0xf3, 0x00, 0x01, 0x00, 0x00, 0x00, 0x00, 0x00, 0x01, 0x00, 0x00, 0x00, 0x00, 0x00,
-    0x40, 0x00, 0x00, 0x00, 0x00, 0x00, 0x00, 0x00, 0x00, 0x00, 0x00, 0x00, 0x00, 0x00, 0x00, 0x00,
-    0x00, 0x00, 0x00, 0x00, 0x40, 0x00, 0x38, 0x00, 0x01, 0x00, 0x00, 0x00, 0x00, 0x00, 0x00, 0x00,
-    0x01, 0x00, 0x00, 0x00, 0x07, 0x00, 0x00, 0x00, 0x78, 0x00, 0x00, 0x00, 0x00, 0x00, 0x00, 0x00,
-    0x00, 0x00, 0x01, 0x00, 0x00, 0x00, 0x00, 0x00, 0x00, 0x00, 0x01, 0x00, 0x00, 0x00, 0x00, 0x00,
-    0x04, 0x00, 0x00, 0x00, 0x00, 0x00, 0x00, 0x00, 0x04, 0x00, 0x00, 0x00, 0x00, 0x00, 0x00, 0x00,
-    0x04, 0x00, 0x00, 0x00, 0x00, 0x00, 0x00, 0x00, 0x00, 0x00, 0x00, 0x00,
-];
+static NO_INSTRUCTION: [u32; 1] = [0];
 
 /// What a call gave.
 #[derive(Drop)]
@@ -63,14 +50,25 @@ struct Given {
 }
 
 /// The files of these tests: the program that exits with 7 under the name F, the one that modifies itself
-/// under S, the one that is no program under Z, and 63 bytes of the first under G.
+/// under S, the one that is no program under Z, and 63 bytes of the first under G; the one that prints under P,
+/// and those of several epochs under E, N and D.
 fn files(alloc: Global) -> Result<Vec<(String, Vec<u8>)>, AllocError> {
+    let modifying = file_of(alloc, 0, &SELF_MODIFYING)?;
+    let nothing = file_of(alloc, 0, &NO_INSTRUCTION)?;
+    let printing = file_of(alloc, 0, &HELLO)?;
+    let short = file_of(alloc, 0, &FOUR_INSTRUCTIONS)?;
+    let storing = file_of(alloc, 0, &NINE_STORES)?;
+    let storing_twice = file_of(alloc, 0, &NINE_STORES_TWICE)?;
     let mut files = Vec::new(alloc);
     for (name, bytes) in [
         ("F", EXIT_SEVEN.as_slice()),
-        ("S", SELF_MODIFYING.as_slice()),
-        ("Z", NO_INSTRUCTION.as_slice()),
+        ("S", modifying.as_slice()),
+        ("Z", nothing.as_slice()),
         ("G", &EXIT_SEVEN[..63]),
+        ("P", printing.as_slice()),
+        ("E", short.as_slice()),
+        ("N", storing.as_slice()),
+        ("D", storing_twice.as_slice()),
     ] {
         files.push((
             String::from_str(alloc, name)?,
@@ -137,12 +135,24 @@ fn expect(
     Ok(())
 }
 
-/// Runs that end, with status, cycles (of `plain`: steps) and report.
-static RUNS: [(&str, u8, u64, &str); 6] = [
+/// Runs that stop, with status, cycles (of `plain`: steps) and report.
+static RUNS: [(&str, u8, u64, &str); 8] = [
     (
         "thynvm run F --pages 8 --btt 8 --ptt 8",
         0,
-        1392,
+        718,
+        "commit 0 overlapped 0\nepoch 1 ends at 3 by end\ncommit 1 overlapped 0\nexit 7 at 3\n",
+    ),
+    (
+        "thynvm run F --pages 8 --btt 8 --ptt 8 --limit 717",
+        8,
+        717,
+        "commit 0 overlapped 0\nepoch 1 ends at 3 by end\nlimit 717\n",
+    ),
+    (
+        "thynvm run F --pages 8 --btt 8 --ptt 8 --limit 718",
+        0,
+        718,
         "commit 0 overlapped 0\nepoch 1 ends at 3 by end\ncommit 1 overlapped 0\nexit 7 at 3\n",
     ),
     ("thynvm plain F", 0, 3, "exit 7 at 3\n"),
@@ -268,8 +278,8 @@ fn a_report_that_fails_has_taken_the_pieces_before(rt: HostRuntime) -> Result<()
 /// Runs that exit, with a report that has digests.
 static DIGESTS: [(&str, &str); 2] = [
     (
-        "thynvm run F --pages 8 --btt 8 --ptt 8 --cuts 1391 --tears 1 --digest",
-        "commit 0 overlapped 0\nepoch 1 ends at 3 by end\ncut 1 at cycle 1391\nrestart 1 at 3\nmemory 6deb2f4354900ff2a9411931cbbb227b278920c0a05d7246af55f9487e46505f\nexit 7 at 3\nmemory 6deb2f4354900ff2a9411931cbbb227b278920c0a05d7246af55f9487e46505f\n",
+        "thynvm run F --pages 8 --btt 8 --ptt 8 --cuts 717 --tears 1 --digest",
+        "commit 0 overlapped 0\nepoch 1 ends at 3 by end\ncut 1 at cycle 717\nrestart 1 at 3\nmemory 6deb2f4354900ff2a9411931cbbb227b278920c0a05d7246af55f9487e46505f\nexit 7 at 3\nmemory 6deb2f4354900ff2a9411931cbbb227b278920c0a05d7246af55f9487e46505f\n",
     ),
     (
         "thynvm plain F --pages 8 --digest",
@@ -286,13 +296,24 @@ fn digests_are_those_of_another_program(rt: HostRuntime) -> Result<(), Fail> {
     Ok(())
 }
 
+/// Runs of the program that modifies itself, across the ends of epochs and with a cache of one line.
+static MODIFYING: [&str; 3] = [
+    "thynvm run S --epoch 3",
+    "thynvm run S --pages 8 --btt 8 --ptt 8 --epoch 3",
+    "thynvm run S --pages 8 --btt 8 --ptt 8 --epoch 3 --sets 1 --ways 1",
+];
+
 #[test]
 fn a_program_that_modifies_itself_over_an_epochs_end_exits_with_9(
     rt: HostRuntime,
 ) -> Result<(), Fail> {
     let alloc = rt.alloc();
-    let given = ran(alloc, "thynvm run S --pages 8 --epoch 3")?;
-    assert!(rt; given.status == 0 && has(&given.report, "\nexit 9 at 8\n"));
+    let report =
+        "commit 0\nepoch 1 ends at 3 by length\ncommit 1\nepoch 2 ends at 6 by length\ncommit 2\nepoch 3 ends at 8 by end\ncommit 3\nexit 9 at 8\n";
+    for line in &MODIFYING {
+        let given = ran(alloc, line)?;
+        assert!(rt; given.status == 0 && tells(&given.report, report), "{line}");
+    }
     Ok(())
 }
 
@@ -304,18 +325,25 @@ fn has(text: &[u8], piece: &str) -> bool {
     }
 }
 
-#[test]
-fn every_schedule_and_queue_ends_alike(rt: HostRuntime) -> Result<(), Fail> {
-    let alloc = rt.alloc();
-    let end = "\nepoch 3 ends at 3 by end\ncommit 3 overlapped 0\nexit 7 at 3\n";
-    for seed in 0..6u64 {
-        for queue in [1, 2, 64] {
-            let line = format!(in alloc;
-                "thynvm run F --pages 8 --btt 8 --ptt 8 --epoch 1 --mix {seed} --nvmq {queue}"
-            )?;
-            let given = ran(alloc, line.as_str())?;
-            assert!(rt; given.status == 0 && has(&given.report, end), "{line}");
+/// A line of a report without how many instructions were executed meanwhile, which a commit's line has.
+fn without_overlapped(line: &str) -> &str {
+    match line.split_once(" overlapped ") {
+        Some((commit, _)) => commit,
+        None => line,
+    }
+}
+
+/// Whether a report has these lines, in which those of commits end with the epoch.
+fn tells(report: &[u8], wanted: &str) -> bool {
+    let Ok(report) = std::str::from_utf8(report) else {
+        return false;
+    };
+    let mut lines = report.lines();
+    for want in wanted.lines() {
+        match lines.next() {
+            Some(line) if without_overlapped(line) == want => {}
+            _ => return false,
         }
     }
-    Ok(())
+    lines.next().is_none()
 }

@@ -2,13 +2,12 @@
 use crate::runs::programs::{file_of, shelf_of};
 use crate::runs::{Given, called, compare, has};
 use std::alloc::{AllocError, Global};
-use std::process::Abort;
 use std::test::Fail;
 use thy_out::MemShelf;
 
 /// `auipc a1,0; addi a1,a1,32; addi a0,zero,1; addi a2,zero,3; addi a7,zero,64; ecall`, which prints three
 /// bytes; `addi a7,zero,93; ecall`; and the bytes, `Hi` and a line feed.
-static HELLO: [u32; 9] = [
+pub(crate) static HELLO: [u32; 9] = [
     0x00000597, 0x02058593, 0x00100513, 0x00300613, 0x04000893, 0x00000073, 0x05d00893, 0x00000073,
     0x000a6948,
 ];
@@ -67,8 +66,12 @@ fn ran(alloc: Global, line: &str) -> Result<Given, AllocError> {
     called(alloc, line, programs(alloc)?, &[], &[])
 }
 
-/// Lines with the status, what the terminal takes, and the report. A checkpoint is shown once it is committed.
-static PRINTED: [(&str, u8, &str, &str); 8] = [
+/// Lines with the status, what the terminal takes, and the report. A checkpoint is shown once it is committed. In
+/// the smallest memory that is cycle 734 for the whole program: 698 for the loading, 21 for the eight instructions
+/// (two for each, and one for the first line, one to read, and three to reserve, fill and write the
+/// console's block), the flush of that block, the seal, and ten actions of the checkpoint with three drains
+/// between them. Two instructions are left behind an epoch of six, and are executed while its checkpoint is written.
+static PRINTED: [(&str, u8, &str, &str); 10] = [
     (
         "thynvm run H",
         0,
@@ -82,16 +85,28 @@ static PRINTED: [(&str, u8, &str, &str); 8] = [
         "commit 0 overlapped 0\nepoch 1 ends at 8 by end\ncommit 1 overlapped 0\nexit 3 at 8\n",
     ),
     (
-        "thynvm run H --pages 8 --btt 8 --ptt 8 --limit 1391",
-        8,
-        "",
-        "commit 0 overlapped 0\nepoch 1 ends at 8 by end\nlimit 1391\n",
+        "thynvm run H --pages 8 --btt 8 --ptt 8 --sets 1 --ways 1",
+        0,
+        "Hi\n",
+        "commit 0 overlapped 0\nepoch 1 ends at 8 by end\ncommit 1 overlapped 0\nexit 3 at 8\n",
     ),
     (
-        "thynvm run H --pages 8 --btt 8 --ptt 8 --epoch 6 --limit 2000",
+        "thynvm run H --pages 8 --btt 8 --ptt 8 --limit 733",
+        8,
+        "",
+        "commit 0 overlapped 0\nepoch 1 ends at 8 by end\nlimit 733\n",
+    ),
+    (
+        "thynvm run H --pages 8 --btt 8 --ptt 8 --limit 734",
+        0,
+        "Hi\n",
+        "commit 0 overlapped 0\nepoch 1 ends at 8 by end\ncommit 1 overlapped 0\nexit 3 at 8\n",
+    ),
+    (
+        "thynvm run H --pages 8 --btt 8 --ptt 8 --epoch 6 --limit 740",
         8,
         "Hi\n",
-        "commit 0 overlapped 0\nepoch 1 ends at 6 by length\ncommit 1 overlapped 0\nepoch 2 ends at 8 by end\nlimit 2000\n",
+        "commit 0 overlapped 0\nepoch 1 ends at 6 by length\ncommit 1 overlapped 2\nepoch 2 ends at 8 by end\nlimit 740\n",
     ),
     ("thynvm plain H", 0, "Hi\n", "exit 3 at 8\n"),
     ("thynvm plain H --limit 5", 8, "", "limit 5\n"),
@@ -111,7 +126,7 @@ fn the_terminal_shows_what_was_committed(rt: HostRuntime) -> Result<(), Fail> {
 
 /// Runs that read, and how they end: with four bytes at the start's sp, or with none. Of memory is told the
 /// SHA-256, by another program.
-static READ: [(&str, &str); 8] = [
+static READ: [(&str, &str); 7] = [
     ("thynvm run R --input A", "\nexit 4 at 6\n"),
     ("thynvm run R --input N", "\nexit 0 at 6\n"),
     ("thynvm run R", "\nexit 0 at 6\n"),
@@ -120,19 +135,15 @@ static READ: [(&str, &str); 8] = [
         "\nexit 4 at 6\nmemory f5d1994aecdd1db5eb815e0e77ab69b7b00a1de9be36087d0d3beb9e74c815c6\n",
     ),
     (
+        "thynvm run R --input A --pages 8 --btt 8 --ptt 8 --digest --sets 1 --ways 1",
+        "\nexit 4 at 6\nmemory f5d1994aecdd1db5eb815e0e77ab69b7b00a1de9be36087d0d3beb9e74c815c6\n",
+    ),
+    (
         "thynvm run R --input N --pages 8 --btt 8 --ptt 8 --digest",
         "\nexit 0 at 6\nmemory 20d3aa3a6487303d74badebb39b24850e7259a141f087ba621dfb205afc9af6a\n",
     ),
     (
-        "thynvm run R --input A --pages 8 --btt 8 --ptt 8 --digest --epoch 2 --cuts 1300,2500 --tears 0,1",
-        "\nexit 4 at 6\nmemory f5d1994aecdd1db5eb815e0e77ab69b7b00a1de9be36087d0d3beb9e74c815c6\n",
-    ),
-    (
-        "thynvm run R --input A --pages 8 --btt 8 --ptt 8 --digest --epoch 4 --cuts 1391 --tears 0",
-        "\nexit 4 at 6\nmemory f5d1994aecdd1db5eb815e0e77ab69b7b00a1de9be36087d0d3beb9e74c815c6\n",
-    ),
-    (
-        "thynvm run R --input A --pages 8 --btt 8 --ptt 8 --digest --epoch 4 --cuts 1391 --tears 1",
+        "thynvm run R --input A --pages 8 --btt 8 --ptt 8 --digest --epoch 2 --cuts 710,740 --tears 0,1",
         "\nexit 4 at 6\nmemory f5d1994aecdd1db5eb815e0e77ab69b7b00a1de9be36087d0d3beb9e74c815c6\n",
     ),
 ];
@@ -148,57 +159,67 @@ fn an_input_is_read_also_through_cuts(rt: HostRuntime) -> Result<(), Fail> {
     Ok(())
 }
 
+/// Runs whose power is cut with the commit block of the first checkpoint behind the read queued, which does not
+/// land or lands. Both instructions behind the read are executed while that checkpoint is written.
+static READ_AND_CUT: [(&str, &str); 2] = [
+    (
+        "thynvm run R --input A --pages 8 --btt 8 --ptt 8 --digest --epoch 4 --cuts 729 --tears 0",
+        "commit 0 overlapped 0\nepoch 1 ends at 4 by length\ncut 1 at cycle 729\nrestart 0 at 0\nmemory 20d3aa3a6487303d74badebb39b24850e7259a141f087ba621dfb205afc9af6a\nepoch 1 ends at 4 by length\ncommit 1 overlapped 2\nepoch 2 ends at 6 by end\ncommit 2 overlapped 0\nexit 4 at 6\nmemory f5d1994aecdd1db5eb815e0e77ab69b7b00a1de9be36087d0d3beb9e74c815c6\n",
+    ),
+    (
+        "thynvm run R --input A --pages 8 --btt 8 --ptt 8 --digest --epoch 4 --cuts 729 --tears 1",
+        "commit 0 overlapped 0\nepoch 1 ends at 4 by length\ncut 1 at cycle 729\nrestart 1 at 4\nmemory f5d1994aecdd1db5eb815e0e77ab69b7b00a1de9be36087d0d3beb9e74c815c6\nepoch 2 ends at 6 by end\ncommit 2 overlapped 0\nexit 4 at 6\nmemory f5d1994aecdd1db5eb815e0e77ab69b7b00a1de9be36087d0d3beb9e74c815c6\n",
+    ),
+];
+
+#[test]
+fn what_was_read_is_there_again_where_it_was_committed(rt: HostRuntime) -> Result<(), Fail> {
+    let alloc = rt.alloc();
+    for (line, report) in &READ_AND_CUT {
+        let given = ran(alloc, line)?;
+        compare(&rt, line, &given, 0, "", report.as_bytes());
+    }
+    Ok(())
+}
+
 /// Whether a run exited with a last line, and printed a text once and in order.
 fn ends(given: &Given, printed: &str, last: &str) -> bool {
     given.status == 0 && given.printed.as_slice() == printed.as_bytes() && has(&given.report, last)
 }
 
-/// A cut of `hello` at every third cycle up to its end, with one pick.
-fn cut_often(rt: &impl Abort, alloc: Global, tear: u64) -> Result<(), AllocError> {
-    let whole = ran(alloc, "thynvm run H --pages 8 --btt 8 --ptt 8")?;
-    for cycle in 1..whole.cycles {
-        if cycle % 3 == 0 {
-            let line = format!(in alloc;
-                "thynvm run H --pages 8 --btt 8 --ptt 8 --cuts {cycle} --tears {tear}"
-            )?;
-            let given = ran(alloc, line.as_str())?;
-            let is_so = has(&given.report, "cut 1 at cycle ")
-                && ends(&given, "Hi\n", "\nexit 3 at 8\n");
-            assert!(rt; is_so, "{line}");
-        }
-    }
-    Ok(())
-}
-
-#[test]
-fn a_greeting_is_printed_once_where_no_write_lands(rt: HostRuntime) -> Result<(), Fail> {
-    cut_often(&rt, rt.alloc(), 0)?;
-    Ok(())
-}
-
-#[test]
-fn a_greeting_is_printed_once_where_every_write_lands(rt: HostRuntime) -> Result<(), Fail> {
-    cut_often(&rt, rt.alloc(), 1)?;
-    Ok(())
-}
-
-/// Schedules, cuts and what they leave, for a program whose lines fall into several epochs.
-static GREETED: [&str; 6] = [
-    "",
-    " --epoch 50 --mix 7",
-    " --epoch 200 --cuts 2000 --tears 0",
-    " --epoch 200 --cuts 2000,4200 --tears 1",
-    " --epoch 50 --cuts 1500,3000,4500,6000 --tears 5,0,1,9",
-    " --epoch 50 --cuts 1500,3000,4500,6000 --tears 5,0,1,9 --mix 3 --nvmq 2",
+/// Schedules, caches, pages in the DRAM, cuts and what these leave, for a program whose lines fall into several
+/// epochs; and the cut that is told last.
+static GREETED: [(&str, &str); 8] = [
+    ("", ""),
+    (" --epoch 50 --mix 7", ""),
+    (" --epoch 50 --sets 1 --ways 1", ""),
+    (" --epoch 200 --cuts 1700 --tears 0", "cut 1 at cycle 1700\n"),
+    (
+        " --epoch 200 --cuts 1700,2300 --tears 1",
+        "cut 2 at cycle 2300\n",
+    ),
+    (
+        " --epoch 50 --cuts 900,1300,1700,2100 --tears 5,0,1,9",
+        "cut 4 at cycle 2100\n",
+    ),
+    (
+        " --epoch 50 --cuts 900,1300,1700,2100 --tears 5,0,1,9 --mix 3 --nvmq 2",
+        "cut 4 at cycle 2100\n",
+    ),
+    (
+        " --epoch 50 --cuts 900,1300,1700,2100 --tears 5,0,1,9 --high 0 --low 0",
+        "cut 4 at cycle 2100\n",
+    ),
 ];
 
 #[test]
 fn ten_lines_are_printed_over_several_epochs_and_cuts(rt: HostRuntime) -> Result<(), Fail> {
     let alloc = rt.alloc();
-    for options in &GREETED {
+    for (options, cut) in &GREETED {
         let line = format!(in alloc; "thynvm run G --input W --pages 8 --btt 8 --ptt 8{options}")?;
         let given = ran(alloc, line.as_str())?;
-        assert!(rt; ends(&given, GREETING, "\nexit 5 at 666\n"), "{line}");
+        let is_cut = has(&given.report, cut);
+        assert!(rt; is_cut && ends(&given, GREETING, "\nexit 5 at 666\n"), "{line}");
     }
     Ok(())
 }
@@ -211,7 +232,7 @@ static UNSEEN: [(&str, &str); 3] = [
     ),
     (
         "thynvm run H --pages 8 --btt 8 --ptt 8 --epoch 6",
-        "commit 0 overlapped 0\nepoch 1 ends at 6 by length\ncommit 1 overlapped 0\nterminal failed\n",
+        "commit 0 overlapped 0\nepoch 1 ends at 6 by length\ncommit 1 overlapped 2\nterminal failed\n",
     ),
     ("thynvm plain H", "exit 3 at 8\nterminal failed\n"),
 ];

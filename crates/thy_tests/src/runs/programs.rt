@@ -1,6 +1,7 @@
 //! Program files made for runs, from a header and their words.
 use crate::runs::{EXIT_SEVEN, called, compare};
 use std::alloc::{AllocError, Global};
+use std::process::Abort;
 use std::test::Fail;
 use thy_out::MemShelf;
 
@@ -49,39 +50,100 @@ fn zeros_of(alloc: Global, size: u64) -> Result<Vec<u8>, AllocError> {
     Ok(file)
 }
 
+/// Runs a file alone in the smallest memory, and compares its status and its report.
+fn expect_of(
+    rt: &impl Abort,
+    alloc: Global,
+    file: &[u8],
+    status: u8,
+    report: &str,
+) -> Result<(), AllocError> {
+    let shelf = shelf_of(alloc, &[("F", file)])?;
+    let line = "thynvm run F --pages 8 --btt 8 --ptt 8";
+    let given = called(alloc, line, shelf, &[], &[])?;
+    compare(rt, report, &given, status, "", report.as_bytes());
+    Ok(())
+}
+
 /// Where a program with nothing in it starts, and how its first step ends.
 static STARTS: [(u64, &str); 3] = [
-    (65536, "trap 2 at 1"),
-    (65538, "trap 0 at 1"),
-    (4096, "trap 1 at 1"),
+    (
+        65536,
+        "commit 0 overlapped 0\nepoch 1 ends at 1 by end\ncommit 1 overlapped 0\ntrap 2 at 1\n",
+    ),
+    (
+        65538,
+        "commit 0 overlapped 0\nepoch 1 ends at 1 by end\ncommit 1 overlapped 0\ntrap 0 at 1\n",
+    ),
+    (
+        4096,
+        "commit 0 overlapped 0\nepoch 1 ends at 1 by end\ncommit 1 overlapped 0\ntrap 1 at 1\n",
+    ),
 ];
 
 #[test]
 fn a_program_of_a_header_alone_traps_at_its_entry(rt: HostRuntime) -> Result<(), Fail> {
     let alloc = rt.alloc();
-    for (entry, end) in &STARTS {
+    for (entry, report) in &STARTS {
         let file = header_of(alloc, *entry)?;
-        let shelf = shelf_of(alloc, &[("F", file.as_slice())])?;
-        let given = called(
-            alloc,
-            "thynvm run F --pages 8 --btt 8 --ptt 8",
-            shelf,
-            &[],
-            &[],
-        )?;
-        let report = format!(in alloc;
-            "commit 0 overlapped 0\nepoch 1 ends at 1 by end\ncommit 1 overlapped 0\n{end}\n"
-        )?;
-        compare(&rt, end, &given, 1, "", report.as_bytes());
+        expect_of(&rt, alloc, file.as_slice(), 1, report)?;
     }
+    Ok(())
+}
+
+/// `jalr x1, 2(x0)` and `jalr x1, 3(x0)`, whose targets are no multiple of 4, so that the jump traps; `jalr x1, 1(x0)`,
+/// which jumps to 0, outside memory.
+static ODD_JUMPS: [(u32, &str); 3] = [
+    (
+        0x002000e7,
+        "commit 0 overlapped 0\nepoch 1 ends at 1 by end\ncommit 1 overlapped 0\ntrap 0 at 1\n",
+    ),
+    (
+        0x003000e7,
+        "commit 0 overlapped 0\nepoch 1 ends at 1 by end\ncommit 1 overlapped 0\ntrap 0 at 1\n",
+    ),
+    (
+        0x001000e7,
+        "commit 0 overlapped 0\nepoch 1 ends at 2 by end\ncommit 1 overlapped 0\ntrap 1 at 2\n",
+    ),
+];
+
+#[test]
+fn a_jump_to_an_odd_target_ends_a_run(rt: HostRuntime) -> Result<(), Fail> {
+    let alloc = rt.alloc();
+    for (word, report) in &ODD_JUMPS {
+        let file = file_of(alloc, 0, &[*word])?;
+        expect_of(&rt, alloc, file.as_slice(), 1, report)?;
+    }
+    Ok(())
+}
+
+/// `bne x0, x0, .+2; addi a7,zero,93; ecall`: a branch that is not taken.
+static ODD_BRANCH: [u32; 3] = [0x00001163, 0x05d00893, 0x00000073];
+
+#[test]
+fn a_branch_to_an_odd_target_is_not_taken(rt: HostRuntime) -> Result<(), Fail> {
+    let alloc = rt.alloc();
+    let file = file_of(alloc, 0, &ODD_BRANCH)?;
+    let report =
+        "commit 0 overlapped 0\nepoch 1 ends at 3 by end\ncommit 1 overlapped 0\nexit 0 at 3\n";
+    expect_of(&rt, alloc, file.as_slice(), 0, report)?;
     Ok(())
 }
 
 /// `e_flags` of the program that exits with 7: none, compressed instructions, and the total store order.
 static FLAGS: [(u32, u8, &str); 3] = [
-    (0, 0, "exit 7 at 3\n"),
+    (
+        0,
+        0,
+        "commit 0 overlapped 0\nepoch 1 ends at 3 by end\ncommit 1 overlapped 0\nexit 7 at 3\n",
+    ),
     (1, 4, "file 8 NeedsCompressed\n"),
-    (16, 0, "exit 7 at 3\n"),
+    (
+        16,
+        0,
+        "commit 0 overlapped 0\nepoch 1 ends at 3 by end\ncommit 1 overlapped 0\nexit 7 at 3\n",
+    ),
 ];
 
 #[test]
@@ -89,9 +151,7 @@ fn a_program_for_another_processor_is_refused(rt: HostRuntime) -> Result<(), Fai
     let alloc = rt.alloc();
     for (flags, status, report) in &FLAGS {
         let file = file_of(alloc, *flags, &[0x05d00893, 0x00700513, 0x00000073])?;
-        let shelf = shelf_of(alloc, &[("F", file.as_slice())])?;
-        let given = called(alloc, "thynvm plain F", shelf, &[], &[])?;
-        compare(&rt, report, &given, *status, "", report.as_bytes());
+        expect_of(&rt, alloc, file.as_slice(), *status, report)?;
     }
     Ok(())
 }
@@ -111,15 +171,7 @@ fn zeros_may_fill_the_smallest_memory(rt: HostRuntime) -> Result<(), Fail> {
     let alloc = rt.alloc();
     for (size, status, report) in &ZEROS {
         let file = zeros_of(alloc, *size)?;
-        let shelf = shelf_of(alloc, &[("F", file.as_slice())])?;
-        let given = called(
-            alloc,
-            "thynvm run F --pages 8 --btt 8 --ptt 8",
-            shelf,
-            &[],
-            &[],
-        )?;
-        compare(&rt, report, &given, *status, "", report.as_bytes());
+        expect_of(&rt, alloc, file.as_slice(), *status, report)?;
     }
     Ok(())
 }

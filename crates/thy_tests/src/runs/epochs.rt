@@ -1,0 +1,105 @@
+//! Runs of several epochs: why each ends, and what is executed while its checkpoint is written.
+use crate::runs::{expect, ran, tells};
+use std::alloc::{AllocError, Global};
+use std::process::Abort;
+use std::test::Fail;
+
+/// `addi a0,zero,5; addi a0,a0,1; addi a7,zero,93; ecall`.
+pub(crate) static FOUR_INSTRUCTIONS: [u32; 4] = [0x00500513, 0x00150513, 0x05d00893, 0x00000073];
+
+/// `sd zero,-64*k(sp)` for k from 0 to 8, which stores to nine blocks of one page; `addi a7,zero,93; ecall`.
+pub(crate) static NINE_STORES: [u32; 11] = [
+    0x00013023, 0xfc013023, 0xf8013023, 0xf4013023, 0xf0013023, 0xec013023, 0xe8013023, 0xe4013023,
+    0xe0013023, 0x05d00893, 0x00000073,
+];
+
+/// The same nine stores twice; `addi a7,zero,93; ecall`.
+pub(crate) static NINE_STORES_TWICE: [u32; 20] = [
+    0x00013023, 0xfc013023, 0xf8013023, 0xf4013023, 0xf0013023, 0xec013023, 0xe8013023, 0xe4013023,
+    0xe0013023, 0x00013023, 0xfc013023, 0xf8013023, 0xf4013023, 0xf0013023, 0xec013023, 0xe8013023,
+    0xe4013023, 0xe0013023, 0x05d00893, 0x00000073,
+];
+
+/// What is reported of nine stores where the block table has eight entries and the cache a line for each block:
+/// the ninth store finds eight dirty lines and then, with those stored, no free entry.
+const EXHAUSTED: &str =
+    "commit 0 overlapped 0\nepoch 1 ends at 8 by exhausted 8 8 1\ncommit 1 overlapped 0\nepoch 2 ends at 8 by exhausted 0 0 1\ncommit 2 overlapped 0\nepoch 3 ends at 11 by end\ncommit 3 overlapped 0\nexit 0 at 11\n";
+
+/// Runs that exit, with the report: four instructions in as many epochs, each of which ends while the checkpoint
+/// before it is written; nine stores, with entries for all of them, and in caches of a line and of four; and
+/// eighteen stores through one line, with the page in the DRAM once it was stored to, and with no page there.
+static REPORTS: [(&str, &str); 7] = [
+    (
+        "thynvm run E --pages 8 --btt 8 --ptt 8 --epoch 1",
+        "commit 0 overlapped 0\nepoch 1 ends at 1 by length\ncommit 1 overlapped 1\nepoch 2 ends at 2 by length\ncommit 2 overlapped 1\nepoch 3 ends at 3 by length\ncommit 3 overlapped 1\nepoch 4 ends at 4 by end\ncommit 4 overlapped 0\nexit 6 at 4\n",
+    ),
+    ("thynvm run N --pages 8 --btt 8 --ptt 8", EXHAUSTED),
+    (
+        "thynvm run N --pages 8 --btt 16 --ptt 8",
+        "commit 0 overlapped 0\nepoch 1 ends at 11 by end\ncommit 1 overlapped 0\nexit 0 at 11\n",
+    ),
+    (
+        "thynvm run N --pages 8 --btt 8 --ptt 8 --sets 1 --ways 1",
+        "commit 0 overlapped 0\nepoch 1 ends at 8 by exhausted 0 0 1\ncommit 1 overlapped 0\nepoch 2 ends at 8 by exhausted 0 0 1\ncommit 2 overlapped 0\nepoch 3 ends at 11 by end\ncommit 3 overlapped 0\nexit 0 at 11\n",
+    ),
+    (
+        "thynvm run N --pages 8 --btt 8 --ptt 8 --sets 1 --ways 4",
+        "commit 0 overlapped 0\nepoch 1 ends at 8 by exhausted 3 3 1\ncommit 1 overlapped 0\nepoch 2 ends at 8 by exhausted 0 0 1\ncommit 2 overlapped 0\nepoch 3 ends at 11 by end\ncommit 3 overlapped 0\nexit 0 at 11\n",
+    ),
+    (
+        "thynvm run D --pages 8 --btt 8 --ptt 8 --sets 1 --ways 1 --high 0 --low 0",
+        "commit 0 overlapped 0\nepoch 1 ends at 8 by exhausted 0 0 1\ncommit 1 overlapped 0\nepoch 2 ends at 8 by exhausted 0 0 1\ncommit 2 overlapped 0\nepoch 3 ends at 20 by end\ncommit 3 overlapped 0\nexit 0 at 20\n",
+    ),
+    (
+        "thynvm run D --pages 8 --btt 8 --ptt 8 --sets 1 --ways 1",
+        "commit 0 overlapped 0\nepoch 1 ends at 8 by exhausted 0 0 1\ncommit 1 overlapped 0\nepoch 2 ends at 8 by exhausted 0 0 1\ncommit 2 overlapped 0\nepoch 3 ends at 16 by exhausted 0 0 1\ncommit 3 overlapped 0\nepoch 4 ends at 16 by exhausted 0 0 1\ncommit 4 overlapped 0\nepoch 5 ends at 20 by end\ncommit 5 overlapped 0\nexit 0 at 20\n",
+    ),
+];
+
+#[test]
+fn each_epoch_ends_for_its_cause(rt: HostRuntime) -> Result<(), Fail> {
+    let alloc = rt.alloc();
+    for (line, report) in &REPORTS {
+        expect(&rt, alloc, line, 0, report)?;
+    }
+    Ok(())
+}
+
+/// Runs whose epochs end alike whatever the schedule; of a commit's line the epoch alone is told here, as how much
+/// is executed meanwhile rests on the schedule.
+static SCHEDULED: [(&str, &str); 3] = [
+    (
+        "thynvm run F --epoch 1",
+        "commit 0\nepoch 1 ends at 1 by length\ncommit 1\nepoch 2 ends at 2 by length\ncommit 2\nepoch 3 ends at 3 by end\ncommit 3\nexit 7 at 3\n",
+    ),
+    (
+        "thynvm run E --epoch 1",
+        "commit 0\nepoch 1 ends at 1 by length\ncommit 1\nepoch 2 ends at 2 by length\ncommit 2\nepoch 3 ends at 3 by length\ncommit 3\nepoch 4 ends at 4 by end\ncommit 4\nexit 6 at 4\n",
+    ),
+    (
+        "thynvm run N",
+        "commit 0\nepoch 1 ends at 8 by exhausted 8 8 1\ncommit 1\nepoch 2 ends at 8 by exhausted 0 0 1\ncommit 2\nepoch 3 ends at 11 by end\ncommit 3\nexit 0 at 11\n",
+    ),
+];
+
+/// Runs these with one seed of the schedule and one length of both queues.
+fn schedule(rt: &impl Abort, alloc: Global, seed: u64, queue: u64) -> Result<(), AllocError> {
+    for (start, report) in &SCHEDULED {
+        let line = format!(in alloc;
+            "{start} --pages 8 --btt 8 --ptt 8 --mix {seed} --nvmq {queue} --dramq {queue}"
+        )?;
+        let given = ran(alloc, line.as_str())?;
+        assert!(rt; given.status == 0 && tells(&given.report, report), "{line}");
+    }
+    Ok(())
+}
+
+#[test]
+fn every_schedule_and_queue_ends_alike(rt: HostRuntime) -> Result<(), Fail> {
+    for seed in 0..6u64 {
+        for queue in [1, 2, 64] {
+            schedule(&rt, rt.alloc(), seed, queue)?;
+        }
+    }
+    Ok(())
+}
