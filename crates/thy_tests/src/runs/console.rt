@@ -193,7 +193,10 @@ static GREETED: [(&str, &str); 8] = [
     ("", ""),
     (" --epoch 50 --mix 7", ""),
     (" --epoch 50 --sets 1 --ways 1", ""),
-    (" --epoch 200 --cuts 1700 --tears 0", "cut 1 at cycle 1700\n"),
+    (
+        " --epoch 200 --cuts 1700 --tears 0",
+        "cut 1 at cycle 1700\n",
+    ),
     (
         " --epoch 200 --cuts 1700,2300 --tears 1",
         "cut 2 at cycle 2300\n",
@@ -219,7 +222,10 @@ fn ten_lines_are_printed_over_several_epochs_and_cuts(rt: HostRuntime) -> Result
         let line = format!(in alloc; "thynvm run G --input W --pages 8 --btt 8 --ptt 8{options}")?;
         let given = ran(alloc, line.as_str())?;
         let is_cut = has(&given.report, cut);
-        assert!(rt; is_cut && ends(&given, GREETING, "\nexit 5 at 666\n"), "{line}");
+        assert!(rt;
+            is_cut && ends(&given, GREETING, "\nexit 5 at 666\n"),
+            "{line}"
+        );
     }
     Ok(())
 }
