@@ -1,3 +1,4 @@
 mod DrivenLemmas
 mod MemoryLemmas
+mod PoweredLemmas
 mod StartingLemmas

@@ -103,7 +103,7 @@ length-over seed [] = refl
 length-over seed (x ∷ xs) = ap suc (length-over (after_block seed) xs)
 
 -- one image more is kept
-room-cut : {A : Type 0} (left : List A) (image : A) (room cuts : ℕ) → length left + cuts ≤ room → 0 < cuts
+pub room-cut : {A : Type 0} (left : List A) (image : A) (room cuts : ℕ) → length left + cuts ≤ room → 0 < cuts
     → length (left ++ image ∷ []) + (cuts - 1) ≤ room
 room-cut left image room cuts h some = grind (arith, h, some, length-append left (image ∷ []))
 

@@ -3,4 +3,5 @@ pub mod Boots
 pub mod Driven
 pub mod Entries
 pub mod Memory
+pub mod Powered
 pub mod Starting

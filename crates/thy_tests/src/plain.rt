@@ -38,7 +38,7 @@ pub(crate) fn smallest(rt: &impl Abort, alloc: Global) -> Geometry
 }
 
 /// An image of words at the base, where it starts.
-fn image_of(rt: &impl Abort, alloc: Global, words: &[u32]) -> Image
+pub(crate) fn image_of(rt: &impl Abort, alloc: Global, words: &[u32]) -> Image
     ensures { length (bytes_of result.memory) ≡ 28672 }
 {
     let mut memory = Vec::new(alloc);

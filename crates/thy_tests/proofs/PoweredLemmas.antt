@@ -1,0 +1,64 @@
+-- What the calls of a machine leave, with its device.
+use Rattle.std.proofs.Common.{◌≡◌, ℕ, ◌+◌, ◌-◌, ◌^◌, ◌<◌, None, [], sym, ◌∙◌, ap, subst, arith}
+use Rattle.thy_base.specs.declared.config.Parameters.{Parameters}
+use Rattle.thy_base.specs.declared.mix.Pick.{Pick}
+use Rattle.thy_base.specs.declared.nvm.Shape.{Shape}
+use Rattle.thy_base.specs.Device.{Device, IsCut, IsFramed, fitted}
+use Rattle.thy_record.specs.declared.start.Start.{Start}
+use Rattle.thy_view.specs.declared.did.Stepped.{Stepped}
+use Rattle.thy_view.specs.Booting.{found_first}
+use Rattle.thy_view.specs.Kind.{KindOf, IsLawful, IsStep, IsFittedFor}
+use Rattle.thy_view.specs.Origin.{Origin, IsOrigin}
+use Rattle.thy_tests.specs.Powered.{origin_from, powered, IsPowered}
+use Rattle.thy_tests.proofs.MemoryLemmas.{HasRoom-framed}
+use Rattle.thy_tests.proofs.StartingLemmas.{room-cut}
+
+-- a device of zeros is fitted for a start that was made from a file
+fits : {M : Type 0} (K : KindOf M) (laws : IsLawful K) → (o : Origin) (shape : Shape) (n : Device) → o.kept ≡ None → shape.blocks ≡ K.blocks o.geometry
+    → IsFittedFor K o shape [] n
+fits K laws o shape n file blocks = record {
+  blocks = blocks;
+  fits = omega arith;
+  long = record { each = λ i l. absurd (omega arith) };
+  found = laws.finds_nothing o.geometry shape n blocks ∙ ap (found_first o) (sym file);
+}
+
+-- power comes on for the first time
+pub IsPowered-first : {M : Type 0} (K : KindOf M) (laws : IsLawful K) → (p : Parameters) (start : Start) (m : M) (shape : Shape) (before n : Device)
+    → IsOrigin (origin_from p start) → start.kept ≡ None → K.powered p m
+    → shape.blocks ≡ K.blocks p → shape.cuts ≡ 1 → n ≡ fitted shape [] before
+    → IsPowered K (powered p start m n 0 1)
+IsPowered-first K laws p start m shape before n origin file new blocks cuts is =
+    let o : Origin = origin_from p start in
+    subst (λ (d : Device). IsPowered K (powered p start m d 0 1)) (sym is) (record {
+      at_moment = (laws.begins o m shape [] before origin new (fits K laws o shape before file blocks)).0;
+      few = omega arith;
+      room = omega (arith, cuts);
+    })
+
+-- a cycle is done
+pub IsPowered-stepped : {M : Type 0} (K : KindOf M) → (p : Parameters) (start : Start) (m next : M) (n new : Device) (k cuts : ℕ) (pick : Pick) (r : Stepped)
+    → IsPowered K (powered p start m n k cuts) → k + 1 < 2 ^ 62 → IsStep K (origin_from p start) k pick m next n new r → IsFramed n new
+    → IsPowered K (powered p start next new (k + 1) cuts)
+IsPowered-stepped K p start m next n new k cuts pick r w few step frame = record {
+  at_moment = step.at_next;
+  few = few;
+  room = HasRoom-framed n new cuts w.room frame;
+}
+
+-- the device was read
+pub IsPowered-read : {M : Type 0} (K : KindOf M) → (p : Parameters) (start : Start) (m : M) (n new : Device) (k cuts : ℕ)
+    → IsPowered K (powered p start m n k cuts) → new ≡ n → IsPowered K (powered p start m new k cuts)
+IsPowered-read K p start m n new k cuts w same = subst (λ (d : Device). IsPowered K (powered p start m d k cuts)) (sym same) w
+
+-- power was cut, and comes on again
+pub IsPowered-cut : {M : Type 0} (K : KindOf M) (laws : IsLawful K) → (p : Parameters) (start : Start) (m next : M) (n new : Device) (k cuts pick : ℕ)
+    → IsPowered K (powered p start m n k cuts) → K.powered p next → IsCut pick n new → 0 < cuts
+    → IsPowered K (powered p start next new k (cuts - 1))
+IsPowered-cut K laws p start m next n new k cuts pick w powers cut some =
+    let o : Origin = origin_from p start in
+    subst (λ (d : Device). IsPowered K (powered p start next d k (cuts - 1))) (sym cut.device) (record {
+      at_moment = (laws.recovers o k m next n pick new.image w.at_moment powers cut.crash).0;
+      few = w.few;
+      room = room-cut n.left new.image n.left_room cuts w.room some;
+    })
