@@ -44,6 +44,8 @@ mod isa;
 #[cfg(test)]
 mod isa_rows;
 #[cfg(test)]
+mod made;
+#[cfg(test)]
 mod memory;
 #[cfg(test)]
 mod nvm;

@@ -8,8 +8,8 @@ use std::process::Abort;
 use thy_base::{Block, Geometry, Parameters};
 use thy_isa::{CpuState, Reg, Regs, Status};
 use thy_record::{
-    BadImage, commit_block, commit_fault, cpu_block, cpu_state, header_block, header_fault, is_zero,
-    record_fault, word,
+    BadImage, commit_block, commit_fault, cpu_block, cpu_state, header_block, header_fault,
+    is_zero, record_fault, word,
 };
 
 /// Numbers of a machine with 256 pages, one of them the console's.

@@ -1,0 +1,4 @@
+pub mod ProgramLemmas
+pub mod FileLemmas
+pub mod DecodeLemmas
+pub mod ReachLemmas
