@@ -9,7 +9,7 @@ use Rattle.thy_make.specs.Program.{made_words}
 use Rattle.thy_make.proofs.ProgramLemmas.{length-made_words}
 
 -- a word has four bytes
-length-words : (ws : List ℕ) → length (flat_map (number_bytes 4) ws) ≡ 4 * length ws
+pub length-words : (ws : List ℕ) → length (flat_map (number_bytes 4) ws) ≡ 4 * length ws
 unfolding number_bytes
 length-words [] = refl
 length-words (w ∷ ws) = let e = length-words ws in omega (arith, e)

@@ -2,3 +2,4 @@ pub mod ProgramLemmas
 pub mod FileLemmas
 pub mod DecodeLemmas
 pub mod ReachLemmas
+pub mod ImageLemmas

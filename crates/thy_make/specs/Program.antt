@@ -26,7 +26,7 @@ draws (suc k) state = lcg_draw (lcg_next state) ∷ draws k (lcg_next state)
 abbrev pub page_of : ℕ → ℕ
 page_of r = if r % 2 == 1 then 64 + r / 2 % 16 else 80 + r / 2 % 128
 
--- the byte of the page from which it goes on: that of one of its 512 words, in the first half
+-- the byte of the page from which it goes on: that of one of the 256 words in its first half
 abbrev pub offset_of : ℕ → ℕ
 offset_of r = 8 * (r / 256 % 256)
 

@@ -1,5 +1,5 @@
 //! Laws of made programs, each the contract of a function that does nothing.
-ghost use Rattle.thy_make.specs.Laws.{FilesHaveOneLength, ProgramsHaveOneLength, StoresAreInReach, WordsMeanTheProgram};
+ghost use Rattle.thy_make.specs.Laws.{FilesAreImages, FilesHaveOneLength, ProgramsHaveOneLength, StoresAreInReach, WordsMeanTheProgram};
 
 /// Every program has 6007 instructions, and its file 24,148 bytes.
 pub fn made_files_are_long()
@@ -15,4 +15,10 @@ pub fn made_words_decode()
 /// The store of every draw is aligned, behind the program's code, and within 192 pages from its first byte on.
 pub fn stores_are_in_reach()
     ensures { StoresAreInReach }
+{}
+
+/// The file of every number is an image, where program memory begins at 65536 and has room for the words: it starts at its first
+/// word, and memory holds the words and behind them zeros.
+pub fn made_files_are_images()
+    ensures { FilesAreImages }
 {}

@@ -8,5 +8,7 @@ mod made;
 mod program;
 mod small;
 
-pub use laws::{made_files_are_long, made_words_decode, stores_are_in_reach};
+pub use laws::{
+    made_files_are_images, made_files_are_long, made_words_decode, stores_are_in_reach,
+};
 pub use made::file;
