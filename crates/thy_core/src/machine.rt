@@ -1,5 +1,5 @@
 //! The machine and its calls.
-ghost use Rattle.std.specs.Prelude.{◌≡◌, ℕ, IfOk, IfErr, OnOk};
+ghost use Rattle.std.specs.Prelude.{◌≡◌, ℕ, IfOk, IfErr, OnOk, is_err};
 ghost use Rattle.thy_base.specs.Device.{Device, IsFramed, CountsFault};
 ghost use Rattle.thy_view.specs.Kind.{CanStep, CanRead, LeadsOn, FailsSafe, IsDramOf, Snapshots, ShowsConsole, TellsLoading, HasFailedToRead};
 ghost use Rattle.thy_view.specs.Origin.{Origin};
@@ -69,9 +69,17 @@ impl<S: Scheme> Machine<S> {
         power::is_loading(&self.parts)
     }
 
+    /// Whether a step failed since power came on.
+    pub fn failed(&self) -> bool
+        ensures { result ≡ self.now.failed }
+    {
+        self.parts.failed
+    }
+
     /// One cycle: the pick's, or where its actor has nothing to do the hart's. Takes no memory.
     ///
-    /// After an error the NVM may hold what the failed call left, and nothing but `cut` is to be asked of the machine.
+    /// After an error the NVM may hold what the failed call left, and nothing but `failed` and `cut` is to be asked of
+    /// the machine.
     pub fn step<N: Nvm>(
         &mut self,
         pick: Pick,
@@ -83,6 +91,7 @@ impl<S: Scheme> Machine<S> {
         ensures safe { FailsSafe (kind_over S.scheme) start.now pick self.old (N.device nvm.old) (N.device nvm.new) result }
         ensures frame { IsFramed (N.device nvm.old) (N.device nvm.new) }
         ensures cause { CountsFault result (N.device nvm.old).faults (N.device nvm.new).faults }
+        ensures failed { self.new.failed ≡ is_err result }
     {
         take_step(&mut self.parts, pick, start, nvm)
     }
