@@ -3,11 +3,12 @@ ghost use Rattle.std.specs.Prelude.{◌≡◌, ◌∷◌, [], OnOk, OnErr, codes
 ghost use Rattle.std.specs.Fmt.{decimal};
 ghost use Rattle.thy_base.specs.Fields.{field_name};
 ghost use Rattle.thy_base.specs.Outside.{Took, TookPart};
-ghost use Rattle.thy_text.specs.Closings.{closing_of, fault_text};
+ghost use Rattle.thy_text.specs.Closings.{closing_of, fault_text, image_parts};
 ghost use Rattle.thy_text.specs.Lines.{joined, line_feed};
 
 use crate::piece::{Piece, write_pieces};
 use thy_base::{Field, Sink, SinkError};
+use thy_record::BadImage;
 
 /// Why the bytes under a name were not had.
 #[derive(Clone, Copy, Debug, PartialEq, Eq)]
@@ -30,10 +31,16 @@ pub enum Closing<'a> {
     Value(Field, u64),
     /// The bytes under a name were not had.
     Fetch(&'a str, FetchFault),
+    /// The bytes could not be put under a name.
+    Put(&'a str),
     /// The file is refused: the refusal's number and name.
     File(u64, &'a str),
     /// The same, with the number of the program header at fault.
     FileAt(u64, &'a str, u64),
+    /// The image is refused.
+    Image(BadImage),
+    /// The image has read more of its input than there is: its cursor, and the input's length, in bytes.
+    Input { cursor: u64, length: u64 },
     /// The terminal failed.
     Terminal,
     /// The device failed.
@@ -59,8 +66,14 @@ pub fn write_closing<R: Sink>(closing: Closing, report: &mut R) -> Result<(), Si
         ),
         Closing::Value(field, value) => write_value(field, value, report),
         Closing::Fetch(name, fault) => write_fetch(name, fault, report),
+        Closing::Put(name) => write_pieces(
+            &[Piece::Text("put "), Piece::Text(name), Piece::Text(" failed"), end],
+            report,
+        ),
         Closing::File(number, name) => write_file(number, name, report),
         Closing::FileAt(number, name, k) => write_file_at(number, name, k, report),
+        Closing::Image(bad) => write_image(bad, report),
+        Closing::Input { cursor, length } => write_input(cursor, length, report),
         Closing::Terminal => write_pieces(&[Piece::Text("terminal failed"), end], report),
         Closing::Nvm => write_pieces(&[Piece::Text("nvm failed"), end], report),
         Closing::Limit(limit) => write_pieces(
@@ -138,6 +151,51 @@ fn write_file_at<R: Sink>(number: u64, name: &str, k: u64, report: &mut R) -> Re
         Piece::Text(name),
         Piece::Text(" "),
         Piece::Number(k),
+        Piece::Text("\n"),
+    ];
+    write_pieces(&pieces, report)
+}
+
+/// Writes the line of a refused image, with the entries of the tables that are at fault.
+fn write_image<R: Sink>(bad: BadImage, report: &mut R) -> Result<(), SinkError>
+    ensures whole { OnOk result (Took (R.stream report.old) (R.stream report.new) (joined (image_parts bad))) }
+    ensures failed { OnErr result (TookPart (R.stream report.old) (R.stream report.new) (joined (image_parts bad))) }
+{
+    let first = Piece::Text("image ");
+    let number = Piece::Number(bad.number());
+    let blank = Piece::Text(" ");
+    let name = Piece::Text(bad.name());
+    let end = Piece::Text("\n");
+    match bad {
+        BadImage::TableIndex(i) => {
+            let entry = Piece::Number(i);
+            write_pieces(&[first, number, blank, name, blank, entry, end], report)
+        }
+        BadImage::TableTwice(i, k) | BadImage::BlockUnderPage(i, k) => {
+            let one = Piece::Number(i);
+            let two = Piece::Number(k);
+            write_pieces(&[first, number, blank, name, blank, one, blank, two, end], report)
+        }
+        BadImage::Empty
+        | BadImage::Header
+        | BadImage::Version
+        | BadImage::Geometry
+        | BadImage::Commit
+        | BadImage::Status
+        | BadImage::ConsoleLength => write_pieces(&[first, number, blank, name, end], report),
+    }
+}
+
+/// Writes the line of an image that has read more than there is.
+fn write_input<R: Sink>(cursor: u64, length: u64, report: &mut R) -> Result<(), SinkError>
+    ensures whole { OnOk result (Took (R.stream report.old) (R.stream report.new) (joined (codes "input " ∷ decimal cursor ∷ codes " " ∷ decimal length ∷ line_feed ∷ []))) }
+    ensures failed { OnErr result (TookPart (R.stream report.old) (R.stream report.new) (joined (codes "input " ∷ decimal cursor ∷ codes " " ∷ decimal length ∷ line_feed ∷ []))) }
+{
+    let pieces = [
+        Piece::Text("input "),
+        Piece::Number(cursor),
+        Piece::Text(" "),
+        Piece::Number(length),
         Piece::Text("\n"),
     ];
     write_pieces(&pieces, report)
