@@ -6,8 +6,8 @@ use thy_base::{Bytes, EndCause, Field, Sink, SinkError};
 use thy_isa::{MachState, Regs, Status};
 use thy_record::BadImage;
 use thy_text::{
-    Closing, Event, Events, FetchFault, digest, write_closing, write_ended, write_event, write_made,
-    write_summary,
+    Closing, Event, Events, FetchFault, digest, write_closing, write_ended, write_event,
+    write_made, write_summary,
 };
 
 /// Keeps what it is given, which is never an empty piece.

@@ -117,7 +117,11 @@ static VALUES: [(&str, &str, u64); 27] = [
     ("thynvm|bench|4294967296|--base|4097", "n", 4294967296),
     ("thynvm|bench|4294967295|--base|4097", "base", 4097),
     ("thynvm|make|4294967296|O", "n", 4294967296),
-    ("thynvm|make|9999999999999999999|O", "n", 9999999999999999999),
+    (
+        "thynvm|make|9999999999999999999|O",
+        "n",
+        9999999999999999999,
+    ),
 ];
 
 /// The numbers of a configuration that no option changes, in the order of its fields.
@@ -146,14 +150,16 @@ type Row = (
 static COMMANDS: [Row; 16] = [
     (
         "thynvm|run|F",
-        ("run", "F", 0), (None, None, false),
+        ("run", "F", 0),
+        (None, None, false),
         DEFAULTS,
         &[],
         &[],
     ),
     (
         "any|run|--pages=9|F|--ways|007",
-        ("run", "F", 0), (None, None, false),
+        ("run", "F", 0),
+        (None, None, false),
         [
             65536, 9, 1, 10000, 512, 64, 16, 7, 16, 16, 22, 16, 0, 1000000000,
         ],
@@ -162,22 +168,32 @@ static COMMANDS: [Row; 16] = [
     ),
     (
         "thynvm|run|--|-f",
-        ("run", "-f", 0), (None, None, false),
+        ("run", "-f", 0),
+        (None, None, false),
         DEFAULTS,
         &[],
         &[],
     ),
     (
         "thynvm|run|-|--input|",
-        ("run", "-", 0), (Some(""), None, false),
+        ("run", "-", 0),
+        (Some(""), None, false),
         DEFAULTS,
         &[],
         &[],
     ),
-    ("thynvm|run|", ("run", "", 0), (None, None, false), DEFAULTS, &[], &[]),
+    (
+        "thynvm|run|",
+        ("run", "", 0),
+        (None, None, false),
+        DEFAULTS,
+        &[],
+        &[],
+    ),
     (
         "thynvm|run|F|--cuts|1,02,70|--tears|9,0,9,5|--mix|9999999999999999999",
-        ("run", "F", 0), (None, None, false),
+        ("run", "F", 0),
+        (None, None, false),
         [
             65536,
             256,
@@ -199,28 +215,32 @@ static COMMANDS: [Row; 16] = [
     ),
     (
         "|run|F|--base|8192|--pages|8|--console|2|--epoch|3|--btt|16|--ptt|24|--sets|1|--ways|5|--nvmq|6|--dramq|7|--high|9|--low|8|--mix|10|--cuts|11|--tears|12|--limit|13|--input|I",
-        ("run", "F", 0), (Some("I"), None, false),
+        ("run", "F", 0),
+        (Some("I"), None, false),
         [8192, 8, 2, 3, 16, 24, 1, 5, 6, 7, 9, 8, 10, 13],
         &[11],
         &[12],
     ),
     (
         "thynvm|run|F|--digest",
-        ("run", "F", 0), (None, None, true),
+        ("run", "F", 0),
+        (None, None, true),
         DEFAULTS,
         &[],
         &[],
     ),
     (
         "thynvm|plain|F",
-        ("plain", "F", 0), (None, None, false),
+        ("plain", "F", 0),
+        (None, None, false),
         DEFAULTS,
         &[],
         &[],
     ),
     (
         "thynvm|plain|--digest|F|--limit|9|--base|8192|--console|2|--pages|8|--input|I",
-        ("plain", "F", 0), (Some("I"), None, true),
+        ("plain", "F", 0),
+        (Some("I"), None, true),
         [8192, 8, 2, 10000, 512, 64, 16, 4, 16, 16, 22, 16, 0, 9],
         &[],
         &[],

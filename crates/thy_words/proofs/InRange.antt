@@ -27,11 +27,11 @@ both-None None b h = (refl, h)
 both-None (Some f) b h = absurd (cc)
 
 number-in_range : (n : ℕ) → number_fault n ≡ None → n ≤ most_number
-number-in_range n = go (nat_le n most_number) refl
+number-in_range n = go (nat_le n most_number) (record { field = N; value = n }) refl
   where
-    go : (b : Bool) → nat_le n most_number ≡ b → cond b None (Some (record { field = N; value = n })) ≡ None → n ≤ most_number
-    go true e h = leb-true n most_number e
-    go false e h = absurd (cc)
+    go : (b : Bool) (f : ConfigError) → nat_le n most_number ≡ b → cond b None (Some f) ≡ None → n ≤ most_number
+    go true f e h = leb-true n most_number e
+    go false f e h = absurd (cc)
 
 faultless : (v : Values) → value_fault v ≡ None → AreInRange v
 faultless v h =

@@ -7,7 +7,7 @@ use Rattle.clap.specs.Simple.{subcommand_rows, subcommand_rows_of}
 use Rattle.clap.specs.Walk.{Row, Text}
 use Rattle.clap.specs.declared.parser.matches.ArgMatches.{ArgMatches}
 use Rattle.clap.specs.declared.parser.matches.ArgMatches.TheViews.{out-ArgMatches, out-SubCommand}
-use Rattle.thy_words.specs.Settings.{Answers, order_for, order_named, verb_of}
+use Rattle.thy_words.specs.Settings.{Answers, order_for, order_in, order_named, verb_of}
 use Rattle.thy_words.specs.declared.verb.Verb.{Verb}
 use Rattle.thy_words.specs.declared.words.Command.{Command}
 use Rattle.thy_words.specs.declared.words.WordsError.{WordsError}
@@ -30,10 +30,14 @@ name_found m =
       | Some b ↦ refl
     ]
 
--- the answer to a command is that to its name
-pub names_command : (found : Option (Text × List Row)) (name : Text) (rows : List Row) (verb : Option Verb) (answer : Result Command WordsError)
-    → found ≡ Some (name, rows) → verb ≡ verb_of name
-    → Answers (option_map_or (λ v. order_for v rows) verb (Err Usage)) answer → Answers (order_named found) answer
-names_command found name rows verb answer is named answers =
-    subst (λ (f : Option (Text × List Row)). Answers (order_named f) answer) (sym is)
-    (subst (λ (v : Option Verb). Answers (option_map_or (λ w. order_for w rows) v (Err Usage)) answer) named answers)
+-- the answer to what is found is that to its name
+pub names_command : (found : Option (Text × List Row)) (name : Text) (rows : List Row) (answer : Result Command WordsError)
+    → found ≡ Some (name, rows) → Answers (order_in (name, rows)) answer → Answers (order_named found) answer
+names_command found name rows answer is answers =
+    subst (λ (f : Option (Text × List Row)). Answers (order_named f) answer) (sym is) answers
+
+-- the answer to a name is that to its command
+pub answers_name : (name : Text) (rows : List Row) (verb : Option Verb) (answer : Result Command WordsError)
+    → verb ≡ verb_of name → Answers (option_map_or (λ v. order_for v rows) verb (Err Usage)) answer → Answers (order_in (name, rows)) answer
+answers_name name rows verb answer is answers =
+    subst (λ (o : Option Verb). Answers (option_map_or (λ v. order_for v rows) o (Err Usage)) answer) is answers

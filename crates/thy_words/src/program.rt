@@ -65,7 +65,16 @@ fn arg<'a>(alloc: Global, argument: Argument) -> Arg<'a>
     }
 }
 
-/// A command with its arguments: the operand that each command begins with, and the others.
+/// A command that begins with an operand.
+fn begun<'a>(alloc: Global, name: &'a str, first: &'static str) -> Result<Command<'a>, AllocError>
+    ensures { IfOk result (λ c. IsBuilt c (begun name.entry.now first.entry.now)) }
+{
+    let operand = arg(alloc, Argument::Operand(first));
+    let command = Command::new(alloc, name).arg(operand)?;
+    Ok(command)
+}
+
+/// A command with its arguments: the operand that it begins with, and the others.
 fn command<'a>(
     alloc: Global,
     name: &'a str,
@@ -75,7 +84,8 @@ fn command<'a>(
     ensures { IfOk result (λ c. IsBuilt c
         (fold with_argument (begun name.entry.now first.entry.now) others.entry.now)) }
 {
-    let mut wider = Command::new(alloc, name).arg(arg(alloc, Argument::Operand(first)))?;
+    let start = begun(alloc, name, first)?;
+    let mut wider = start;
     for item in others {
         wider = wider.arg(arg(alloc, *item))?;
     }

@@ -5,7 +5,8 @@ ghost use Rattle.clap.specs.Matches.{found_of};
 ghost use Rattle.clap.specs.Simple.{subcommand_rows_of};
 ghost use Rattle.clap.specs.Values.{kind_of};
 ghost use Rattle.clap.specs.Walk.{first_of, rows_of};
-ghost use Rattle.thy_words.specs.Settings.{Answers, IsInRange, ShowsOrMemory, job_of, job_with, operand, order_for, order_named, order_of, order_with, ranged, settings_of, value_fault, values_at, values_in};
+ghost use Rattle.thy_base.specs.Config.{fault_of as range_fault};
+ghost use Rattle.thy_words.specs.Settings.{Answers, IsInRange, ShowsOrMemory, job_of, job_with, number_fault, operand, order_for, order_in, order_named, order_of, order_with, ranged, settings_of, value_fault, values_at, values_in};
 ghost use Rattle.thy_words.specs.Refused.{is_out_of_memory, refused};
 
 use crate::fields::{config_at, has_flag, number_at, text_of, unreadable};
@@ -14,7 +15,7 @@ use crate::verb::{Verb, verb_of};
 use clap::ArgMatches;
 use clap::error::ErrorKind;
 use std::alloc::{AllocError, Global};
-use thy_base::{Config, Field, Geometry};
+use thy_base::{Config, ConfigError, Field, Geometry};
 
 /// The greatest number of which a program is made.
 const MOST_NUMBER: u64 = 4_294_967_295;
@@ -67,16 +68,47 @@ struct Values {
     config: Config,
 }
 
+/// The number of a made program, where it is out of range.
+fn number_fault(number: u64) -> Option<ConfigError>
+    ensures { result ≡ number_fault number }
+{
+    if number <= MOST_NUMBER {
+        None
+    } else {
+        Some(ConfigError {
+            field: Field::N,
+            value: number,
+        })
+    }
+}
+
+/// The first value of a configuration that is out of range.
+fn range_fault(config: &Config) -> Option<ConfigError>
+    ensures { result ≡ range_fault config.now }
+{
+    match Geometry::new(config) {
+        Ok(_) => None,
+        Err(fault) => Some(fault),
+    }
+}
+
+/// The first value that is out of range.
+fn value_fault(values: &Values) -> Option<ConfigError>
+    ensures { result ≡ value_fault values.now }
+{
+    match number_fault(values.number) {
+        None => range_fault(&values.config),
+        Some(fault) => Some(fault),
+    }
+}
+
 /// The values, unless one is out of range.
 fn ranged(values: Values) -> Result<Values, WordsError>
     ensures { result ≡ ranged values (value_fault values) }
 {
-    if values.number > MOST_NUMBER {
-        return Err(WordsError::Value(Field::N, values.number));
-    }
-    match Geometry::new(&values.config) {
-        Ok(_) => Ok(values),
-        Err(fault) => Err(WordsError::Value(fault.field, fault.value)),
+    match value_fault(&values) {
+        None => Ok(values),
+        Some(fault) => Err(WordsError::Value(fault.field, fault.value)),
     }
 }
 
@@ -111,8 +143,8 @@ fn operand(alloc: Global, matches: &ArgMatches<'_>, name: &str) -> Result<String
     String::from_str(alloc, text_of(matches, name).unwrap_or(""))
 }
 
-/// The name that an option gives, as a text of the caller's own.
-fn option(
+/// The name that an option gives, if it stands, as a text of the caller's own.
+fn optional(
     alloc: Global,
     matches: &ArgMatches<'_>,
     name: &str,
@@ -130,8 +162,8 @@ fn option(
 fn job_with(alloc: Global, matches: &ArgMatches<'_>, config: Config) -> Result<Job, AllocError>
     ensures { IfOk result (λ j. job_of j ≡ job_with (rows_of (found_of matches.now)) config) }
 {
-    let input = option(alloc, matches, "input")?;
-    let save = option(alloc, matches, "save")?;
+    let input = optional(alloc, matches, "input")?;
+    let save = optional(alloc, matches, "save")?;
     Ok(Job {
         config,
         input,
@@ -175,11 +207,7 @@ fn order_with(
 }
 
 /// A command, of what `clap` found for its arguments.
-fn order_for(
-    alloc: Global,
-    verb: Verb,
-    matches: &ArgMatches<'_>,
-) -> Result<Command, WordsError>
+fn order_for(alloc: Global, verb: Verb, matches: &ArgMatches<'_>) -> Result<Command, WordsError>
     ensures { Answers (order_for verb (rows_of (found_of matches.now))) result }
 {
     let values = values_in(alloc, matches)?;
@@ -189,15 +217,22 @@ fn order_for(
     }
 }
 
+/// What the words ask for, of the name and what `clap` found behind it.
+fn order_in(alloc: Global, name: &str, found: &ArgMatches<'_>) -> Result<Command, WordsError>
+    ensures { Answers (order_in (name.now, rows_of (found_of found.now))) result }
+{
+    match verb_of(name) {
+        Some(verb) => order_for(alloc, verb, found),
+        None => Err(WordsError::Usage),
+    }
+}
+
 /// What the words ask for, of what `clap` found in them.
 fn order(alloc: Global, matches: &ArgMatches<'_>) -> Result<Command, WordsError>
     ensures { Answers (order_named (subcommand_rows_of matches.now)) result }
 {
     match matches.subcommand() {
-        Some((name, found)) => match verb_of(name) {
-            Some(verb) => order_for(alloc, verb, found),
-            None => Err(WordsError::Usage),
-        },
+        Some((name, found)) => order_in(alloc, name, found),
         None => Err(WordsError::Usage),
     }
 }

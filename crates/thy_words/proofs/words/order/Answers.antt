@@ -1,4 +1,10 @@
-use Rattle.std.proofs.Common.{◌∙◌, sym}
+use Rattle.std.proofs.Common.{◌∙◌}
 use Rattle.clap.specs.Simple.{subcommand_rows_of}
 use Rattle.thy_words.proofs.Naming.{found_by, name_found, names_command}
 use Rattle.thy_words.proofs.words.order.Goals as goal
+
+pub returns-in-Some : goal.returns-in-Some
+returns-in-Some c =
+    let found = subcommand_rows_of c.args.matches.now in
+    names_command found _ _ c.order_in.result (found_by found _ _ (c.in-Some.ensures.name ∙ name_found c.args.matches.now) c.in-Some.ensures.rows)
+    c.order_in.ensures
