@@ -20,12 +20,14 @@ abbrev pub overlapped_by : Happening → ℕ
 overlapped_by (Commit epoch cycle overlapped) = overlapped
 overlapped_by event = 0
 
--- the line, in parts: the epochs that were sealed, those of them that were early, and all instructions that retired
--- while a checkpoint was under way
-abbrev pub summary_parts : List Happening → List (List ℕ)
-summary_parts vs =
-    codes "summary epochs " ∷ decimal (count_by ends_epoch vs) ∷ codes " early " ∷ decimal (count_by ends_early vs)
-    ∷ codes " overlapped " ∷ decimal (sum_by overlapped_by vs) ∷ line_feed ∷ []
+-- the line of these sums, in parts
+abbrev pub summary_parts : (epochs early overlapped : ℕ) → List (List ℕ)
+summary_parts epochs early overlapped =
+    codes "summary epochs " ∷ decimal epochs ∷ codes " early " ∷ decimal early
+    ∷ codes " overlapped " ∷ decimal overlapped ∷ line_feed ∷ []
 
+-- the line of a run: the epochs that were sealed, those of them that were early, and all instructions that retired while
+-- a checkpoint was under way
 abbrev pub summary_of : List Happening → List ℕ
-summary_of vs = joined (summary_parts vs)
+summary_of vs =
+    joined (summary_parts (count_by ends_epoch vs) (count_by ends_early vs) (sum_by overlapped_by vs))

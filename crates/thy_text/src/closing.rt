@@ -3,7 +3,7 @@ ghost use Rattle.std.specs.Prelude.{◌≡◌, ◌∷◌, [], OnOk, OnErr, codes
 ghost use Rattle.std.specs.Fmt.{decimal};
 ghost use Rattle.thy_base.specs.Fields.{field_name};
 ghost use Rattle.thy_base.specs.Outside.{Took, TookPart};
-ghost use Rattle.thy_text.specs.Closings.{closing_of, fault_text, image_parts};
+ghost use Rattle.thy_text.specs.Closings.{closing_of, entries_of, fault_text, image_parts, numbers_of, refusal_parts};
 ghost use Rattle.thy_text.specs.Lines.{joined, line_feed};
 
 use crate::piece::{Piece, write_pieces};
@@ -51,6 +51,14 @@ pub enum Closing<'a> {
     Memory,
 }
 
+/// The entries of an image's tables that are at fault.
+#[derive(Clone, Copy)]
+enum Entries {
+    None,
+    One(u64),
+    Two(u64, u64),
+}
+
 /// Writes the closing line in pieces, none of them empty. On an error the sink has taken only the
 /// first part of the line. Takes no memory.
 pub fn write_closing<R: Sink>(closing: Closing, report: &mut R) -> Result<(), SinkError>
@@ -67,11 +75,16 @@ pub fn write_closing<R: Sink>(closing: Closing, report: &mut R) -> Result<(), Si
         Closing::Value(field, value) => write_value(field, value, report),
         Closing::Fetch(name, fault) => write_fetch(name, fault, report),
         Closing::Put(name) => write_pieces(
-            &[Piece::Text("put "), Piece::Text(name), Piece::Text(" failed"), end],
+            &[
+                Piece::Text("put "),
+                Piece::Text(name),
+                Piece::Text(" failed"),
+                end,
+            ],
             report,
         ),
-        Closing::File(number, name) => write_file(number, name, report),
-        Closing::FileAt(number, name, k) => write_file_at(number, name, k, report),
+        Closing::File(number, name) => write_refusal("file ", number, name, report),
+        Closing::FileAt(number, name, k) => write_refusal_at("file ", number, name, k, report),
         Closing::Image(bad) => write_image(bad, report),
         Closing::Input { cursor, length } => write_input(cursor, length, report),
         Closing::Terminal => write_pieces(&[Piece::Text("terminal failed"), end], report),
@@ -124,13 +137,18 @@ fn write_fetch<R: Sink>(name: &str, fault: FetchFault, report: &mut R) -> Result
     write_pieces(&pieces, report)
 }
 
-/// Writes the line of a refused file.
-fn write_file<R: Sink>(number: u64, name: &str, report: &mut R) -> Result<(), SinkError>
-    ensures whole { OnOk result (Took (R.stream report.old) (R.stream report.new) (joined (codes "file " ∷ decimal number ∷ codes " " ∷ name.now ∷ line_feed ∷ []))) }
-    ensures failed { OnErr result (TookPart (R.stream report.old) (R.stream report.new) (joined (codes "file " ∷ decimal number ∷ codes " " ∷ name.now ∷ line_feed ∷ []))) }
+/// Writes the line of a refusal: its number and its name.
+fn write_refusal<R: Sink>(
+    what: &'static str,
+    number: u64,
+    name: &str,
+    report: &mut R,
+) -> Result<(), SinkError>
+    ensures whole { OnOk result (Took (R.stream report.old) (R.stream report.new) (joined (refusal_parts what.now number name.now []))) }
+    ensures failed { OnErr result (TookPart (R.stream report.old) (R.stream report.new) (joined (refusal_parts what.now number name.now []))) }
 {
     let pieces = [
-        Piece::Text("file "),
+        Piece::Text(what),
         Piece::Number(number),
         Piece::Text(" "),
         Piece::Text(name),
@@ -139,13 +157,19 @@ fn write_file<R: Sink>(number: u64, name: &str, report: &mut R) -> Result<(), Si
     write_pieces(&pieces, report)
 }
 
-/// Writes the line of a file that is refused for a program header.
-fn write_file_at<R: Sink>(number: u64, name: &str, k: u64, report: &mut R) -> Result<(), SinkError>
-    ensures whole { OnOk result (Took (R.stream report.old) (R.stream report.new) (joined (codes "file " ∷ decimal number ∷ codes " " ∷ name.now ∷ codes " " ∷ decimal k ∷ line_feed ∷ []))) }
-    ensures failed { OnErr result (TookPart (R.stream report.old) (R.stream report.new) (joined (codes "file " ∷ decimal number ∷ codes " " ∷ name.now ∷ codes " " ∷ decimal k ∷ line_feed ∷ []))) }
+/// Writes the line of a refusal with the number of what is at fault.
+fn write_refusal_at<R: Sink>(
+    what: &'static str,
+    number: u64,
+    name: &str,
+    k: u64,
+    report: &mut R,
+) -> Result<(), SinkError>
+    ensures whole { OnOk result (Took (R.stream report.old) (R.stream report.new) (joined (refusal_parts what.now number name.now (k ∷ [])))) }
+    ensures failed { OnErr result (TookPart (R.stream report.old) (R.stream report.new) (joined (refusal_parts what.now number name.now (k ∷ [])))) }
 {
     let pieces = [
-        Piece::Text("file "),
+        Piece::Text(what),
         Piece::Number(number),
         Piece::Text(" "),
         Piece::Text(name),
@@ -156,33 +180,54 @@ fn write_file_at<R: Sink>(number: u64, name: &str, k: u64, report: &mut R) -> Re
     write_pieces(&pieces, report)
 }
 
-/// Writes the line of a refused image, with the entries of the tables that are at fault.
+/// Writes the line of a refused image for two entries of its tables.
+fn write_image_at_two<R: Sink>(
+    number: u64,
+    name: &str,
+    i: u64,
+    k: u64,
+    report: &mut R,
+) -> Result<(), SinkError>
+    ensures whole { OnOk result (Took (R.stream report.old) (R.stream report.new) (joined (refusal_parts (codes "image ") number name.now (i ∷ k ∷ [])))) }
+    ensures failed { OnErr result (TookPart (R.stream report.old) (R.stream report.new) (joined (refusal_parts (codes "image ") number name.now (i ∷ k ∷ [])))) }
+{
+    let pieces = [
+        Piece::Text("image "),
+        Piece::Number(number),
+        Piece::Text(" "),
+        Piece::Text(name),
+        Piece::Text(" "),
+        Piece::Number(i),
+        Piece::Text(" "),
+        Piece::Number(k),
+        Piece::Text("\n"),
+    ];
+    write_pieces(&pieces, report)
+}
+
+/// The entries of the tables for which an image is refused.
+fn entries_of(bad: BadImage) -> Entries
+    ensures { numbers_of result ≡ entries_of bad }
+{
+    match bad {
+        BadImage::TableIndex(i) => Entries::One(i),
+        BadImage::TableTwice(i, k) => Entries::Two(i, k),
+        BadImage::BlockUnderPage(i, j) => Entries::Two(i, j),
+        _ => Entries::None,
+    }
+}
+
+/// Writes the line of a refused image, with the entries of its tables that are at fault.
 fn write_image<R: Sink>(bad: BadImage, report: &mut R) -> Result<(), SinkError>
     ensures whole { OnOk result (Took (R.stream report.old) (R.stream report.new) (joined (image_parts bad))) }
     ensures failed { OnErr result (TookPart (R.stream report.old) (R.stream report.new) (joined (image_parts bad))) }
 {
-    let first = Piece::Text("image ");
-    let number = Piece::Number(bad.number());
-    let blank = Piece::Text(" ");
-    let name = Piece::Text(bad.name());
-    let end = Piece::Text("\n");
-    match bad {
-        BadImage::TableIndex(i) => {
-            let entry = Piece::Number(i);
-            write_pieces(&[first, number, blank, name, blank, entry, end], report)
-        }
-        BadImage::TableTwice(i, k) | BadImage::BlockUnderPage(i, k) => {
-            let one = Piece::Number(i);
-            let two = Piece::Number(k);
-            write_pieces(&[first, number, blank, name, blank, one, blank, two, end], report)
-        }
-        BadImage::Empty
-        | BadImage::Header
-        | BadImage::Version
-        | BadImage::Geometry
-        | BadImage::Commit
-        | BadImage::Status
-        | BadImage::ConsoleLength => write_pieces(&[first, number, blank, name, end], report),
+    let place = bad.number();
+    let called = bad.name();
+    match entries_of(bad) {
+        Entries::None => write_refusal("image ", place, called, report),
+        Entries::One(i) => write_refusal_at("image ", place, called, i, report),
+        Entries::Two(i, k) => write_image_at_two(place, called, i, k, report),
     }
 }
 

@@ -65,7 +65,7 @@ fn sums_of(events: &Events) -> Sums
         let event = events.get(i);
         epochs += epochs_in(event);
         early += early_in(event);
-        overlapped += u128::from(overlapped_by(event));
+        overlapped += overlapped_by(event) as u128;
     }
     Sums {
         epochs,

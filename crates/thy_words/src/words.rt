@@ -37,9 +37,9 @@ pub struct Job {
 pub enum Command {
     /// Run the program file on a fresh machine.
     Run { file: String, job: Job },
-    /// Run on what the image has saved.
+    /// Run on from what the image has saved.
     Resume { image: String, job: Job },
-    /// Run the program that is made from the number, and sum up.
+    /// Run the program that is made from the number, and sum the run up.
     Bench { number: u64, job: Job },
     /// Run the program file on the plain machine.
     Plain { file: String, job: Job },
@@ -258,7 +258,8 @@ fn refused(error: &clap::Error) -> WordsError
 /// The command and the configuration that the words ask for, the program's name first.
 ///
 /// Words that are no command line are refused as `Usage`. Else the first field whose text is no
-/// value of it is refused as `Word`, and else the first that is out of range as `Value`.
+/// value of it is refused as `Word`, and else the first that is out of range as `Value`. The number of
+/// a made program is the first field, those of the configuration follow in their order.
 pub fn settings(alloc: Global, words: &[String]) -> Result<Command, WordsError>
     ensures exact { Answers (settings_of (map string_bytes words.now)) result }
     ensures in_range { IfOk result (λ command. IsInRange (order_of command)) }

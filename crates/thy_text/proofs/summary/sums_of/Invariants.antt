@@ -1,4 +1,4 @@
-use Rattle.std.proofs.Common.{◌≡◌, ℕ, ◌*◌, ◌≤◌, count_by, sum_by, take}
+use Rattle.std.proofs.Common.{◌≡◌, ◌*◌, ◌≤◌, count_by, sum_by, take}
 use Rattle.thy_text.specs.Summary.{ends_early, ends_epoch, overlapped_by}
 use Rattle.thy_text.proofs.summary.sums_of.Given as goal
 
