@@ -6,6 +6,7 @@ mod answer;
 mod close;
 mod plain;
 mod refusal;
+mod restoring;
 mod source;
 mod top;
 
