@@ -2,4 +2,4 @@ pub mod PlainLemmas
 pub mod ClosingLaws
 pub mod CompleteLaws
 pub mod TopLemmas
-pub mod SavingLemmas
+pub mod RestoringLaws

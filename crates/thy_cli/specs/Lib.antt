@@ -1,4 +1,4 @@
 pub mod Answering
 pub mod Completing
 pub mod Planning
-pub mod Saving
+pub mod Restoring

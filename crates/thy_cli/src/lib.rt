@@ -6,7 +6,7 @@ mod answer;
 mod close;
 mod plain;
 mod refusal;
-mod saving;
+mod restoring;
 mod source;
 mod top;
 
