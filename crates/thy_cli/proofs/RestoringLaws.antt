@@ -330,23 +330,3 @@ IsOrigin-restored o bytes epoch range are_bytes readable saved kept =
       readable = readable;
       starts = subst (λ (kept : Option Mark). StartsFrom kept o.start) (sym kept) (refl, below);
     }
-
--- and the device is fitted for it with the image's blocks
-pub IsFittedFor-restored : {M : Type 0} (K : KindOf M) (reads : ReadsFiles K) → (o : Origin) (bytes : List ℕ) (epoch : ℕ) (shape : Shape) (n : Device)
-    → decode_file o.geometry (2 ^ 62) bytes ≡ At epoch o.start → o.kept ≡ Some (mark epoch o.start.count)
-    → shape.blocks ≡ K.blocks o.geometry → IsFittedFor K o shape (blocks_of bytes) n
-IsFittedFor-restored K reads o bytes epoch shape n saved kept blocks =
-    let all : length (blocks_of bytes) ≡ shape.blocks = length-saved_blocks o.geometry bytes epoch o.start saved ∙ sym (blocks ∙ reads.blocks o.geometry) in
-    let none : shape.blocks - length (blocks_of bytes) ≡ 0 = omega (arith, all) in
-    let image : (fitted shape (blocks_of bytes) n).image ≡ blocks_of bytes =
-    ap (λ k. blocks_of bytes ++ replicate k zero_block) none ∙ append-nil (blocks_of bytes) in
-    record {
-      blocks = blocks;
-      fits = omega (arith, all);
-      long = AllLong-blocks_of bytes;
-      found =
-          reads.decode o.geometry ceiling (fitted shape (blocks_of bytes) n).image
-          ∙ ap (decode_image o.geometry ceiling) image
-          ∙ decode-restored o.geometry bytes epoch o.start saved
-          ∙ ap (found_first o) (sym kept);
-    }

@@ -1,5 +1,5 @@
 -- From a saved image to the beginning of a run.
-use Rattle.std.specs.Prelude.{◌≡◌, ℕ, ◌^◌, nat_le, if◌then◌else◌, List, Option, Some, None, Ok}
+use Rattle.std.specs.Prelude.{◌≡◌, ℕ, ◌^◌, List, Some, Ok}
 use Rattle.thy_base.specs.declared.block.Block.{Block}
 use Rattle.thy_base.specs.declared.config.Parameters.{Parameters}
 use Rattle.thy_base.specs.Bytes.{bytes_of}
@@ -12,7 +12,6 @@ use Rattle.thy_record.specs.Files.{blocks_of, decode_file, found_in}
 use Rattle.thy_record.specs.Images.{decode_image}
 use Rattle.thy_view.specs.Kind.{KindOf}
 use Rattle.thy_cli.specs.declared.restoring.Beginning.{Beginning}
-use Rattle.thy_cli.specs.declared.restoring.Overrun.{Overrun}
 
 -- a check of these bytes has found the checkpoint of this epoch, with epochs and counts below 2^62
 pub record IsFoundAt (p : Parameters) (bytes : List ℕ) (epoch : ℕ) : Type 0 where
@@ -24,10 +23,6 @@ pub record IsRestored (p : Parameters) (bytes input : List ℕ) (epoch : ℕ) (b
   pub kept : b.start.kept ≡ Some (mark epoch b.start.state.count)
   pub reads : bytes_of b.start.input ≡ input
   pub blocks : b.blocks.items ≡ blocks_of bytes
-
--- a cursor that lies past the end of an input of that length
-abbrev pub overrun_of : ℕ → ℕ → Option Overrun
-overrun_of cursor length = if nat_le cursor length then None else Some (record { cursor = cursor; length = length })
 
 -- the NVM of these machines has the images that stand in files
 pub record ReadsFiles {M : Type 0} (K : KindOf M) : Type 0 where

@@ -2,7 +2,7 @@
 ghost use Rattle.std.specs.Prelude.{◌≡◌, ◌/◌, ◌<◌, length, IfOk};
 ghost use Rattle.thy_base.specs.Bytes.{bytes_of};
 ghost use Rattle.thy_record.specs.Files.{block_in as block_of_bytes, blocks_of};
-ghost use Rattle.thy_cli.specs.Restoring.{IsFoundAt, IsRestored, overrun_of};
+ghost use Rattle.thy_cli.specs.Restoring.{IsFoundAt, IsRestored};
 
 use std::alloc::{AllocError, Global};
 use thy_base::{BLOCK_SIZE, Block, Bytes, Geometry, Mark};
@@ -15,16 +15,7 @@ pub struct Beginning {
     pub blocks: Vec<Block>,
 }
 
-/// A checkpoint has read more of an input than there is.
-#[derive(Clone, Copy, Debug, PartialEq, Eq)]
-pub struct Overrun {
-    /// How many bytes the checkpoint has read.
-    pub cursor: u64,
-    /// How many bytes the input has.
-    pub length: u64,
-}
-
-/// Block k of bytes.
+// Block k of bytes.
 fn block_in(bytes: &[u8], k: usize) -> Block
     requires { k < length bytes.now / 64 }
     ensures { result ≡ block_of_bytes bytes.now k }
@@ -69,17 +60,4 @@ pub fn restore(
         start: Start { state, kept, input },
         blocks,
     })
-}
-
-/// How far a start's state has read past the end of its input, if it has.
-pub fn past_input(start: &Start) -> Option<Overrun>
-    ensures { result ≡ overrun_of start.now.state.cursor (length (bytes_of start.now.input)) }
-{
-    let cursor = start.state.cursor;
-    let length = start.input.len() as u64;
-    if cursor <= length {
-        None
-    } else {
-        Some(Overrun { cursor, length })
-    }
 }
