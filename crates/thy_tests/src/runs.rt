@@ -3,7 +3,9 @@ mod console;
 mod cuts;
 mod epochs;
 mod inputs;
+mod made;
 mod programs;
+mod saved;
 
 pub(crate) use console::GREET;
 use console::HELLO;
@@ -86,6 +88,17 @@ fn called(
     unseen: &[u64],
     untold: &[u64],
 ) -> Result<Given, AllocError> {
+    called_on(alloc, line, &mut shelf, unseen, untold)
+}
+
+/// The same over a shelf that is kept.
+fn called_on(
+    alloc: Global,
+    line: &str,
+    shelf: &mut MemShelf,
+    unseen: &[u64],
+    untold: &[u64],
+) -> Result<Given, AllocError> {
     let mut words = Vec::new(alloc);
     for word in line.split(' ') {
         words.push(String::from_str(alloc, word)?)?;
@@ -96,7 +109,7 @@ fn called(
     let answer = thynvm(
         alloc,
         &words,
-        &mut shelf,
+        shelf,
         &mut terminal,
         &mut report,
         &mut nvm,

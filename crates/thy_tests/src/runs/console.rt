@@ -14,7 +14,7 @@ pub(crate) static HELLO: [u32; 9] = [
 
 /// `addi a7,zero,63; addi a1,sp,0; addi a2,zero,10; ecall`, which reads up to ten bytes to the start's sp; and
 /// `addi a7,zero,93; ecall`, which exits with their number.
-static READ_INPUT: [u32; 6] = [
+pub(crate) static READ_INPUT: [u32; 6] = [
     0x03f00893, 0x00010593, 0x00a00613, 0x00000073, 0x05d00893, 0x00000073,
 ];
 
