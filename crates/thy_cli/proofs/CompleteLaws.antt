@@ -1,15 +1,18 @@
 -- An answer is complete: where nothing is amiss it is that of the program's own end.
 use Rattle.std.proofs.Common.{◌≡◌, ℕ, ◌+◌, ◌-◌, ◌<◌, ◌≤◌, Bool, true, false, Option, Some, None, List, [], ◌∷◌, ◌++◌, length, refl, sym, ◌∙◌, ap, subst, inl, inr, arith}
-use Rattle.std.specs.Prelude.{Ok, Err, MatchOption}
+use Rattle.std.specs.Prelude.{Result, Ok, Err, MatchOption, ◌⊎◌}
 use Rattle.std.proofs.lemmas.Bool.{cases_order}
 use Rattle.thy_base.specs.declared.config.Parameters.{Parameters}
 use Rattle.thy_base.specs.declared.nvm.FitError.{FitError}
 use Rattle.thy_base.specs.declared.nvm.FitError.TheVariants.{Failed as FitFailed, Memory as FitMemory}
 use Rattle.thy_base.specs.declared.outside.FetchError.{FetchError}
 use Rattle.thy_base.specs.declared.outside.FetchError.TheVariants.{Failed as FetchFailed, NotThere, TooLong, Memory as FetchMemory}
+use Rattle.thy_base.specs.declared.outside.PutError.{PutError}
+use Rattle.thy_base.specs.declared.outside.PutError.TheVariants.{Failed as PutFailed, Memory as PutMemory}
+use Rattle.thy_base.specs.declared.config.Config.{Config}
 use Rattle.thy_base.specs.Counts.{Rose}
 use Rattle.thy_base.specs.Device.{Device, HasFailedToFit}
-use Rattle.thy_base.specs.Geometry.{parameters_of}
+use Rattle.thy_base.specs.Geometry.{parameters_of, program_size}
 use Rattle.thy_base.specs.Outside.{Stock, Files, Stream}
 use Rattle.thy_elf.specs.declared.error.ElfError.{ElfError}
 use Rattle.thy_elf.specs.declared.error.ElfError.TheVariants.{Memory as ElfMemory}
@@ -17,28 +20,31 @@ use Rattle.thy_isa.specs.declared.state.Status.{Status}
 use Rattle.thy_isa.specs.declared.state.Status.TheVariants.{Running, Exited, Trapped}
 use Rattle.thy_isa.specs.Step.{State, Setting, is_running, steps}
 use Rattle.thy_isa.proofs.StepLaws.{steps-add, steps-ended}
-use Rattle.thy_isa.specs.OnBlocks.{setting_for}
+use Rattle.thy_elf.specs.Image.{Contents, read_of}
 use Rattle.thy_plain.specs.Start.{start_state}
 use Rattle.thy_text.specs.Happening.{Happening, Ended as EndedEvent}
 use Rattle.thy_text.specs.Marks.{Course, Marks, marks_after, AllLawful}
 use Rattle.thy_words.specs.declared.words.WordsError.{WordsError}
 use Rattle.thy_words.specs.declared.words.WordsError.TheVariants.{Usage, Word, Value, Memory as WordsMemory}
-use Rattle.thy_words.specs.Settings.{Job, Order, run, plain, settings_of}
+use Rattle.thy_words.specs.Settings.{Job, Order, plain, make, settings_of}
 use Rattle.thy_view.specs.Kind.{KindOf}
-use Rattle.thy_view.specs.Origin.{Origin, at, runs_at}
+use Rattle.thy_view.specs.Origin.{Origin, setting_of, at, runs_at}
 use Rattle.thy_run.specs.Progress.{cycles_for}
 use Rattle.thy_run.specs.Endings.{EndsWith, is_memory, StopFits}
 use Rattle.thy_run.specs.Laws.{course_of, first_marks}
 use Rattle.thy_run.specs.Sending.{Sent, Delivered}
+use Rattle.thy_run.specs.World.{Given}
 use Rattle.thy_run.specs.declared.ending.Stop.{Stop}
 use Rattle.thy_run.specs.declared.ending.Stop.TheVariants.{Ended, Nvm, Memory, Terminal, Report, Limit}
 use Rattle.thy_cli.specs.declared.answer.Answer.{Answer}
 use Rattle.thy_cli.specs.declared.refusal.Refusal.{Refusal}
-use Rattle.thy_cli.specs.declared.refusal.Refusal.TheVariants.{Words, Fetch, File, Device as DeviceRefusal, Memory as MemoryRefusal}
-use Rattle.thy_cli.specs.Answering.{Outside, meaning_of, IsHeld, IsTooLong, IsInput, IsWanted, IsProgramFile, FetchDue, WordsDue, ProgramDue, RunDue, origin_for, given_for, ClosesRun, IsRunOf, IsPlainOf, plain_stop, end_lines, stop_status, RunAnswered, PlainAnswered, Answered}
+use Rattle.thy_cli.specs.declared.refusal.Refusal.TheVariants.{Words, Fetch, File, Image, Input, Device as DeviceRefusal, Memory as MemoryRefusal}
+use Rattle.thy_cli.specs.Answering.{Outside, WordsDue, RunDue, given_for, ClosesRun, IsRunOf, IsPlainOf, MakeAnswered, made_told, plain_stop, end_lines, stop_line, stop_status, run_line, run_status, summary_for, RunAnswered, PlainAnswered, OrderAnswered, Answered}
+use Rattle.thy_cli.specs.Completing.{IsAsked, Stayed, IsCalm, left_alone, run_of, TellsEnd, RunCompletes, PlainCompletes, MakeCompletes, Claim}
 use Rattle.thy_cli.specs.Planning.{refused_status}
-use Rattle.thy_cli.proofs.PlainLemmas.{at_is, plain_steps}
-use Rattle.thy_cli.specs.Completing.{plain_state, IsAsked, Stayed, IsCalm, left_alone, TellsEnd, RunCompletes, PlainCompletes, Claim}
+use Rattle.thy_cli.specs.Saving.{PutCounted, SavesUnder, saves}
+use Rattle.thy_cli.specs.Sources.{Source, file, made, image, Beginning, begun, name_of, AreBytesOf, IsHeld, IsTooLong, IsInput, FetchDue, meaning_of, IsProgram, IsWanted, IsMeant, ProgramDue, origin_for}
+use Rattle.thy_cli.proofs.PlainLemmas.{at_is}
 
 -- ---- counts of faults
 
@@ -87,11 +93,11 @@ end_lawful c m (v ∷ vs) status count cycle state all = end_lawful c (marks_aft
 
 -- ---- refusals
 
--- what is known of a task's program: file and input stand on a shelf that tells
-record Stands (task : Job) (stock : Stock) : Type 0 where
+-- what is known of a job's program: its bytes and input stand on a shelf that tells, or are made
+record Stands (source : Source) (job : Job) (stock : Stock) : Type 0 where
   files : Files
   tells : stock.held ≡ Some files
-  program : IsProgramFile task stock
+  program : IsProgram source job stock
 
 -- a shelf that tells holds the same under a name each time
 held_same : (stock : Stock) (files : Files) (name a b : List ℕ) → stock.held ≡ Some files → IsHeld stock name a → IsHeld stock name b → a ≡ b
@@ -101,16 +107,28 @@ input_same : (stock : Stock) (files : Files) (name : Option (List ℕ)) (a b : L
 input_same stock files None a b tells g h = g ∙ sym h
 input_same stock files (Some name) a b tells g h = held_same stock files name a b tells g h
 
--- so a task has one program
-contents_same : (task : Job) (stock : Stock) (s : Stands task stock) (f : IsProgramFile task stock) → f.contents ≡ s.program.contents
-contents_same task stock s f =
-    let bytes : f.bytes ≡ s.program.bytes = held_same stock s.files task.file f.bytes s.program.bytes s.tells f.held s.program.held in
-    let read : meaning_of task s.program.bytes ≡ Ok f.contents = ap (meaning_of task) (sym bytes) ∙ f.means in
-    let known : meaning_of task s.program.bytes ≡ Ok s.program.contents = s.program.means in
-    cc
+bytes_same : (source : Source) (stock : Stock) (files : Files) (a b : List ℕ) → stock.held ≡ Some files → AreBytesOf source stock a → AreBytesOf source stock b → a ≡ b
+bytes_same (file name) stock files a b tells g h = held_same stock files name a b tells g h
+bytes_same (image name) stock files a b tells g h = held_same stock files name a b tells g h
+bytes_same (made n) stock files a b tells g h = g ∙ sym h
 
-inputs_same : (task : Job) (stock : Stock) (s : Stands task stock) (f : IsProgramFile task stock) → f.input ≡ s.program.input
-inputs_same task stock s f = input_same stock s.files task.input f.input s.program.input s.tells f.is_input s.program.is_input
+-- so a job has one program
+inputs_same : (source : Source) (job : Job) (stock : Stock) (s : Stands source job stock) (f : IsProgram source job stock) → f.input ≡ s.program.input
+inputs_same source job stock s f = input_same stock s.files job.input f.input s.program.input s.tells f.had.is_input s.program.had.is_input
+
+-- what is meant by bytes and an input that were had
+meant_same : (source : Source) (job : Job) (stock : Stock) (s : Stands source job stock) (bytes input : List ℕ) → AreBytesOf source stock bytes → IsInput stock job.input input
+    → meaning_of source job bytes input ≡ Ok s.program.begins
+meant_same source job stock s bytes input had reads =
+    ap (λ b. meaning_of source job b input) (bytes_same source stock s.files bytes s.program.bytes s.tells had s.program.had.had)
+    ∙ ap (meaning_of source job s.program.bytes) (input_same stock s.files job.input input s.program.input s.tells reads s.program.had.is_input)
+    ∙ s.program.means
+
+begins_same : (source : Source) (job : Job) (stock : Stock) (s : Stands source job stock) (f : IsProgram source job stock) → f.begins ≡ s.program.begins
+begins_same source job stock s f =
+    let known : meaning_of source job f.bytes f.input ≡ Ok s.program.begins = meant_same source job stock s f.bytes f.input f.had.had f.had.is_input in
+    let read : meaning_of source job f.bytes f.input ≡ Ok f.begins = f.means in
+    cc
 
 -- what is held is had, unless memory is short
 fetch_due : (old new : Stock) (files : Files) (name bytes : List ℕ) (text : _) (e : FetchError) → old.held ≡ Some files → IsHeld old name bytes → Stayed old.faults new.faults → FetchDue old new name e
@@ -128,19 +146,26 @@ fetch_due old new files name bytes text TooLong tells held calm due =
     absurd (omega (arith, held.0, long.2, ap length same))
 fetch_due old new files name bytes text (FetchMemory e) tells held calm due = refl
 
-wanted_due : (task : Job) (old new : Stock) (text : _) (name : List ℕ) (e : FetchError) → Stands task old → Stayed old.faults new.faults → IsWanted task old name → FetchDue old new name e
+named_due : (source : Source) (job : Job) (old new : Stock) (text : _) (name : List ℕ) (e : FetchError) → Stands source job old → Stayed old.faults new.faults → name_of source ≡ Some name → FetchDue old new name e
     → refused_status (Fetch text e) ≡ 9
-wanted_due task old new text name e s calm (inl is) due =
-    fetch_due old new s.files task.file s.program.bytes text e s.tells s.program.held calm (subst (λ n. FetchDue old new n e) is due)
-wanted_due task old new text name e s calm (inr had) due =
-    fetch_due old new s.files name s.program.input text e s.tells (subst (λ n. IsInput old n s.program.input) had.0 s.program.is_input) calm due
+named_due (file own) job old new text name e s calm is due =
+    let same : name ≡ own = (cc) in
+    fetch_due old new s.files own s.program.bytes text e s.tells s.program.had.had calm (subst (λ n. FetchDue old new n e) same due)
+named_due (image own) job old new text name e s calm is due =
+    let same : name ≡ own = (cc) in
+    fetch_due old new s.files own s.program.bytes text e s.tells s.program.had.had calm (subst (λ n. FetchDue old new n e) same due)
+named_due (made n) job old new text name e s calm is due = absurd (cc)
 
--- a file that is a program is not refused
-means_none : {A : Type 0} (task : Job) (stock : Stock) (e : ElfError) (bytes : List ℕ) → Stands task stock → IsHeld stock task.file bytes → meaning_of task bytes ≡ Err e → A
-means_none task stock e bytes s held means =
-    let same : bytes ≡ s.program.bytes = held_same stock s.files task.file bytes s.program.bytes s.tells held s.program.held in
-    let refused : meaning_of task s.program.bytes ≡ Err e = ap (meaning_of task) (sym same) ∙ means in
-    let known : meaning_of task s.program.bytes ≡ Ok s.program.contents = s.program.means in
+wanted_due : (source : Source) (job : Job) (old new : Stock) (text : _) (name : List ℕ) (e : FetchError) → Stands source job old → Stayed old.faults new.faults → IsWanted source job old name → FetchDue old new name e
+    → refused_status (Fetch text e) ≡ 9
+wanted_due source job old new text name e s calm (inl is) due = named_due source job old new text name e s calm is due
+wanted_due source job old new text name e s calm (inr had) due =
+    fetch_due old new s.files name s.program.input text e s.tells (subst (λ n. IsInput old n s.program.input) had.0 s.program.had.is_input) calm due
+
+-- what means a program is not refused
+means_none : {A : Type 0} (source : Source) (job : Job) (stock : Stock) (r : Refusal) → Stands source job stock → IsMeant source job stock r → A
+means_none source job stock r s (bytes, had, input, reads, means) =
+    let known : meaning_of source job bytes input ≡ Ok s.program.begins = meant_same source job stock s bytes input had reads in
     absurd (cc)
 
 device_due : (e : FitError) (n m : Device) → Stayed n.faults m.faults → HasFailedToFit e n m → refused_status (DeviceRefusal e) ≡ 9
@@ -148,17 +173,19 @@ device_due FitFailed n m calm due = not_risen n.faults m.faults calm due.2
 device_due (FitMemory e) n m calm due = refl
 
 -- only for want of memory
-program_due : (task : Job) (old new : Stock) (r : Refusal) → Stands task old → Stayed old.faults new.faults → ProgramDue task old new r → refused_status r ≡ 9
-program_due task old new (Words e) s shelf due = absurd due
-program_due task old new (Fetch name e) s shelf due = wanted_due task old new name name.now e s shelf due.0 due.1
-program_due task old new (File (ElfMemory e)) s shelf due = refl
-program_due task old new (File e) s shelf due = let d = due.1 in means_none task old e d.0 s d.1 d.2
-program_due task old new (DeviceRefusal e) s shelf due = absurd due
-program_due task old new (MemoryRefusal e) s shelf due = refl
+program_due : (source : Source) (job : Job) (old new : Stock) (r : Refusal) → Stands source job old → Stayed old.faults new.faults → ProgramDue source job old new r → refused_status r ≡ 9
+program_due source job old new (Words e) s shelf due = absurd due
+program_due source job old new (Fetch name e) s shelf due = wanted_due source job old new name name.now e s shelf due.0 due.1
+program_due source job old new (File (ElfMemory e)) s shelf due = refl
+program_due source job old new (File e) s shelf due = means_none source job old (File e) s due.1
+program_due source job old new (Image bad) s shelf due = means_none source job old (Image bad) s due.1
+program_due source job old new (Input cursor length) s shelf due = means_none source job old (Input cursor length) s due.1
+program_due source job old new (DeviceRefusal e) s shelf due = absurd due
+program_due source job old new (MemoryRefusal e) s shelf due = refl
 
-task_due : (task : Job) (before after : Outside) (r : Refusal) → Stands task before.shelf → IsCalm before after → RunDue task before after r → refused_status r ≡ 9
-task_due task before after (DeviceRefusal e) s calm due = device_due e before.device after.device calm.device due.2
-task_due task before after r s calm due = program_due task before.shelf after.shelf r s calm.shelf due.0
+run_due : (source : Source) (job : Job) (before after : Outside) (r : Refusal) → Stands source job before.shelf → IsCalm before after → RunDue source job before after r → refused_status r ≡ 9
+run_due source job before after (DeviceRefusal e) s calm due = device_due e before.device after.device calm.device due.2
+run_due source job before after r s calm due = program_due source job before.shelf after.shelf r s calm.shelf due.0
 
 words_due : (words : List (List ℕ)) (order : Order) (e : WordsError) → settings_of words ≡ Ok order → WordsDue words e → refused_status (Words e) ≡ 9
 words_due words order Usage is due = absurd (cc)
@@ -169,129 +196,160 @@ words_due words order (WordsMemory e) is due = refl
 order_same : (words : List (List ℕ)) (a b : Order) → settings_of words ≡ Ok a → settings_of words ≡ Ok b → b ≡ a
 order_same words a b e f = cc
 
-job_of_run : (a b : Job) → run a ≡ run b → a ≡ b
-job_of_run a b e = cc
+-- ---- saves
 
-job_of_plain : (a b : Job) → plain a ≡ plain b → a ≡ b
-job_of_plain a b e = cc
+-- a shelf that did not fail took what was put on it, unless memory was short
+put_calm : {A : Type 0} (old new : Stock) → Stayed old.faults new.faults → PutCounted old new (Some PutFailed) → A
+put_calm old new calm rose = not_risen old.faults new.faults calm rose
+
+save_calm : {A : Type 0} (name : Option (List ℕ)) (due : Bool) (c : Config) (n m : Device) (old new : Stock) → Stayed old.faults new.faults → SavesUnder name due c n m old new (Some PutFailed) → A
+save_calm (Some name) true c n m old new calm h = put_calm old new calm h.1.counted
+save_calm None true c n m old new calm h = absurd (let none : Some PutFailed ≡ None = h.2 in cc)
+save_calm None false c n m old new calm h = absurd (let none : Some PutFailed ≡ None = h.2 in cc)
+save_calm (Some name) false c n m old new calm h = absurd (let none : Some PutFailed ≡ None = h.2 in cc)
+
+-- the device's count after a save
+save_counts : (name : Option (List ℕ)) (due : Bool) (c : Config) (n m : Device) (old new : Stock) (why : Option PutError) → SavesUnder name due c n m old new why → m.faults ≡ n.faults
+save_counts (Some name) true c n m old new why h = ap (λ (d : Device). d.faults) h.0.device
+save_counts None true c n m old new why h = ap (λ (d : Device). d.faults) h.0
+save_counts None false c n m old new why h = ap (λ (d : Device). d.faults) h.0
+save_counts (Some name) false c n m old new why h = ap (λ (d : Device). d.faults) h.0
 
 -- ---- runs
 
-module _ {M : Type 0} (K : KindOf M) (job : Job) (k : ℕ) (before after : Outside) (a : Answer) (s : Stands job before.shelf)
-    (calm : IsCalm before after) (over : is_running (plain_state job s.program.contents s.program.input k).status ≡ false)
-    (limit : cycles_for K (parameters_of job.config) job.config.cuts k ≤ job.config.limit) (h : IsRunOf K job before after a) where
+module _ {M : Type 0} (K : KindOf M) (source : Source) (job : Job) (k : ℕ) (before after : Outside) (a : Answer) (s : Stands source job before.shelf)
+    (calm : IsCalm before after) (over : is_running (left_alone s.program k).status ≡ false)
+    (limit : cycles_for K (parameters_of job.config) job.config.cuts k ≤ job.config.limit) (h : IsRunOf K source job before after a) where
   abbrev o : Origin
-  o = origin_for job h.file.contents h.file.input
+  o = origin_for job h.program.begins h.program.input
 
-  abbrev numbers : Parameters
-  numbers = parameters_of job.config
+  abbrev given : Given
+  given = given_for K job h.program.begins before.device
 
-  abbrev g : Setting
-  g = setting_for numbers s.program.input
+  abbrev over_at : Origin
+  over_at = origin_for job s.program.begins s.program.input
 
-  abbrev first : State
-  first = start_state numbers s.program.contents
+  -- the run is about the program that stands there
+  same_origin : over_at ≡ o
+  same_origin =
+      sym (ap (λ b. origin_for job b h.program.input) (begins_same source job before.shelf s h.program)
+      ∙ ap (origin_for job s.program.begins) (inputs_same source job before.shelf s h.program))
 
-  -- the machine's program is the file's
-  same_program : h.file.contents ≡ s.program.contents
-  same_program = contents_same job before.shelf s h.file
+  left_here : left_alone s.program k ≡ at o (o.start.count + k)
+  left_here = ap (λ (x : Origin). at x (x.start.count + k)) same_origin
 
-  same_input : h.file.input ≡ s.program.input
-  same_input = inputs_same job before.shelf s h.file
-
-  at_count : (count : ℕ) → at o count ≡ steps g (count - o.start.count) first
-  at_count count =
-      at_is o count
-      ∙ ap (λ c. steps (setting_for numbers h.file.input) (count - o.start.count) (start_state numbers c)) same_program
-      ∙ ap (λ i. steps (setting_for numbers i) (count - o.start.count) first) same_input
-
-  over_first : is_running (steps g k first).status ≡ false
-  over_first = ap (λ (x : State). is_running x.status) (sym (plain_steps job s.program.contents s.program.input k)) ∙ over
+  over_here : is_running (at o (o.start.count + k)).status ≡ false
+  over_here = ap (λ (x : State). is_running x.status) (sym left_here) ∙ over
 
   few : a.cycles < job.config.limit
   few =
-      let here : at o (o.start.count + k) ≡ steps g k first = at_count (o.start.count + k) ∙ ap (λ j. steps g j first) (let e : o.start.count + k - o.start.count ≡ k = omega arith in e) in
-      let soon : a.cycles < cycles_for K numbers job.config.cuts k = h.promise.soon k (ap (λ (x : State). is_running x.status) here ∙ over_first) in
+      let soon : a.cycles < cycles_for K (parameters_of job.config) job.config.cuts k = h.promise.soon k over_here in
       omega (arith, soon, limit)
 
-  fits : (stop : Stop) → h.ending.stop ≡ stop → StopFits numbers.limit (given_for K job before.device).fitted after.device h.ending stop
-  fits stop is = subst (StopFits numbers.limit (given_for K job before.device).fitted after.device h.ending) is h.ran.stop_fits
+  fits : (stop : Stop) → h.ending.stop ≡ stop → StopFits (parameters_of job.config).limit given.fitted h.stood h.ending stop
+  fits stop is = subst (StopFits (parameters_of job.config).limit given.fitted h.stood h.ending) is h.ran.stop_fits
 
   -- at an end the status is the program's
-  told_end : (status : Status) → EndsWith h.ending.events status → status ≡ (steps g k first).status
+  told_end : (status : Status) → EndsWith h.ending.events status → status ≡ (left_alone s.program k).status
   told_end status e =
       let lawful : AllLawful (course_of o) (first_marks o) (e.before ++ EndedEvent status e.count e.cycle e.state ∷ []) =
       subst (AllLawful (course_of o) (first_marks o)) (h.events ∙ e.last) h.promise.events_lawful in
       let end : IsEndOf (course_of o) status = end_lawful (course_of o) (first_marks o) e.before status e.count e.cycle e.state lawful in
-      let here : at o end.count ≡ steps g (end.count - o.start.count) first = at_count end.count in
-      let ended : is_running (steps g (end.count - o.start.count) first).status ≡ false = ap (λ (x : State). is_running x.status) (sym here) ∙ end.over in
-      end.is_status ∙ ap (λ (x : State). x.status) here ∙ ap (λ (x : State). x.status) (same_end g first (end.count - o.start.count) k ended over_first)
+      let j : ℕ = end.count - o.start.count in
+      let there : at o end.count ≡ steps (setting_of o) j o.start = at_is o end.count in
+      let here : at o (o.start.count + k) ≡ steps (setting_of o) k o.start = at_is o (o.start.count + k) ∙ ap (λ i. steps (setting_of o) i o.start) (let e : o.start.count + k - o.start.count ≡ k = omega arith in e) in
+      let ended_there : is_running (steps (setting_of o) j o.start).status ≡ false = ap (λ (x : State). is_running x.status) (sym there) ∙ end.over in
+      let ended_here : is_running (steps (setting_of o) k o.start).status ≡ false = ap (λ (x : State). is_running x.status) (sym here) ∙ over_here in
+      end.is_status ∙ ap (λ (x : State). x.status) (there ∙ same_end (setting_of o) o.start j k ended_there ended_here ∙ sym here ∙ sym left_here)
 
-  by_stop : (stop : Stop) → h.ending.stop ≡ stop → TellsEnd (plain_state job s.program.contents s.program.input k) a
-  by_stop (Ended status) is = inl (h.status ∙ ap stop_status is ∙ ap (λ x. stop_status (Ended x)) (told_end status (fits (Ended status) is).0 ∙ ap (λ (x : State). x.status) (sym (plain_steps job s.program.contents s.program.input k))))
-  by_stop Memory is = inr (h.status ∙ ap stop_status is)
-  by_stop Terminal is = not_failed (is_memory h.ending.stop) h.ending.mute _ _ before.terminal after.terminal calm.terminal h.ran.shown_all (fits Terminal is).0
-  by_stop Report is =
+  abbrev last : State
+  last = left_alone s.program k
+
+  abbrev lines : List ℕ
+  lines = summary_for source h.ending.stop h.ending.events ++ run_line job.config.limit job.save h.ending.stop h.why
+
+  -- where it was saved, or was not to be, the stop tells
+  by_stop : (stop : Stop) → h.ending.stop ≡ stop → h.why ≡ None → TellsEnd last a
+  by_stop (Ended status) is saved =
+      inl (h.status ∙ ap (run_status h.ending.stop) saved ∙ ap stop_status is ∙ ap (λ x. stop_status (Ended x)) (told_end status (fits (Ended status) is).0))
+  by_stop Memory is saved = inr (h.status ∙ ap (run_status h.ending.stop) saved ∙ ap stop_status is)
+  by_stop Terminal is saved = not_failed (is_memory h.ending.stop) h.ending.mute _ _ before.terminal after.terminal calm.terminal h.ran.shown_all (fits Terminal is).0
+  by_stop Report is saved =
       let deaf : h.ending.deaf ≡ true = (fits Report is).0 in
-      let closed : after.report ≡ h.told = subst (λ b. ClosesRun b h.ending.stop job.config.limit h.told after.report) deaf h.closes in
+      let closed : after.report ≡ h.told = subst (λ b. ClosesRun b lines h.told after.report) deaf h.closes in
       not_failed false h.ending.deaf _ _ before.report h.told (subst (λ (x : Stream). Stayed before.report.faults x.faults) closed calm.report) h.ran.read_all deaf
-  by_stop Nvm is = not_risen before.device.faults after.device.faults calm.device (fits Nvm is).0
-  by_stop Limit is =
+  by_stop Nvm is saved =
+      let same : after.device.faults ≡ h.stood.faults = save_counts job.save (saves h.ending.stop) job.config h.stood after.device before.shelf after.shelf h.why h.saved in
+      not_risen before.device.faults h.stood.faults (subst (Stayed before.device.faults) same calm.device) (fits Nvm is).0
+  by_stop Limit is saved =
       let reached : h.ending.cycles ≡ job.config.limit = (fits Limit is).0 in
       absurd (omega (arith, few, reached, h.cycles))
 
+  by_save : (why : Option PutError) → h.why ≡ why → TellsEnd last a
+  by_save None is = by_stop h.ending.stop refl is
+  by_save (Some PutFailed) is =
+      save_calm job.save (saves h.ending.stop) job.config h.stood after.device before.shelf after.shelf calm.shelf
+      (subst (SavesUnder job.save (saves h.ending.stop) job.config h.stood after.device before.shelf after.shelf) is h.saved)
+  by_save (Some (PutMemory e)) is = inr (h.status ∙ ap (run_status h.ending.stop) is)
+
 -- ---- the plain machine
 
-module _ (job : Job) (k : ℕ) (before after : Outside) (a : Answer) (s : Stands job before.shelf)
-    (calm : IsCalm before after) (over : is_running (plain_state job s.program.contents s.program.input k).status ≡ false) (limit : k ≤ job.config.limit)
-    (h : IsPlainOf job before after a) where
-  abbrev plain_setting : Setting
-  plain_setting = setting_for (parameters_of job.config) h.file.input
+-- a program file's program begins at the count 0
+begun_count : (p : Parameters) (read : Result Contents ElfError) (b : Beginning) → begun p read ≡ Ok b → b.start.count ≡ 0
+begun_count p (Ok contents) b is = let same : record { start = start_state p contents; kept = None; blocks = [] } ≡ b = (cc) in ap (λ (x : Beginning). x.start.count) (sym same)
+begun_count p (Err e) b is = absurd (cc)
 
-  abbrev plain_first : State
-  plain_first = start_state (parameters_of job.config) h.file.contents
+module _ (name : List ℕ) (job : Job) (k : ℕ) (before after : Outside) (a : Answer) (s : Stands (file name) job before.shelf)
+    (calm : IsCalm before after) (over : is_running (left_alone s.program k).status ≡ false) (limit : k ≤ job.config.limit)
+    (h : IsPlainOf name job before after a) where
+  abbrev plain_at : Origin
+  plain_at = origin_for job h.program.begins h.program.input
+
+  none_before : plain_at.start.count ≡ 0
+  none_before = begun_count (parameters_of job.config) (read_of h.program.bytes job.config.base (program_size (parameters_of job.config))) h.program.begins h.program.means
 
   -- the machine's program is the file's, and its input the one that was had
-  same_state : steps plain_setting k plain_first ≡ plain_state job s.program.contents s.program.input k
-  same_state =
-      sym (plain_steps job h.file.contents h.file.input k)
-      ∙ ap (λ c. plain_state job c h.file.input k) (contents_same job before.shelf s h.file)
-      ∙ ap (λ i. plain_state job s.program.contents i k) (inputs_same job before.shelf s h.file)
+  left_there : left_alone s.program k ≡ at plain_at k
+  left_there =
+      sym (ap (λ (x : Origin). at x (x.start.count + k)) (ap (λ b. origin_for job b h.program.input) (begins_same (file name) job before.shelf s h.program)
+      ∙ ap (origin_for job s.program.begins) (inputs_same (file name) job before.shelf s h.program)))
+      ∙ ap (at plain_at) (let e : plain_at.start.count + k ≡ k = omega (arith, none_before) in e)
+
+  by_steps : (j : ℕ) → at plain_at j ≡ steps (setting_of plain_at) j plain_at.start
+  by_steps j = at_is plain_at j ∙ ap (λ i. steps (setting_of plain_at) i plain_at.start) (let e : j - plain_at.start.count ≡ j = omega (arith, none_before) in e)
 
   -- the program ends where the machine stopped
-  over_there : is_running (steps plain_setting k plain_first).status ≡ false
-  over_there = ap (λ (x : State). is_running x.status) same_state ∙ over
+  over_there : is_running (steps (setting_of plain_at) k plain_at.start).status ≡ false
+  over_there = ap (λ (x : State). is_running x.status) (sym (left_there ∙ by_steps k)) ∙ over
 
   -- whether it runs after so many steps
-  runs_is : (j : ℕ) → runs_at (origin_for job h.file.contents h.file.input) j ≡ is_running (steps plain_setting j plain_first).status
-  runs_is j = ap (λ (x : State). is_running x.status) (plain_steps job h.file.contents h.file.input j)
+  runs_is : (j : ℕ) → runs_at plain_at j ≡ is_running (steps (setting_of plain_at) j plain_at.start).status
+  runs_is j = ap (λ (x : State). is_running x.status) (by_steps j)
 
   not_both : {A : Type 0} (b : Bool) → b ≡ true → b ≡ false → A
   not_both b e f = absurd (cc)
 
-  stopped : is_running (steps plain_setting a.cycles plain_first).status ≡ false
-  stopped = elim (cases_order a.cycles k) as (λ _. is_running (steps plain_setting a.cycles plain_first).status ≡ false) [
-    | inl same ↦ ap (λ j. is_running (steps plain_setting j plain_first).status) same ∙ over_there
-    | inr other ↦ elim other as (λ _. is_running (steps plain_setting a.cycles plain_first).status ≡ false) [
+  stopped : is_running (steps (setting_of plain_at) a.cycles plain_at.start).status ≡ false
+  stopped = elim (cases_order a.cycles k) as (λ _. is_running (steps (setting_of plain_at) a.cycles plain_at.start).status ≡ false) [
+    | inl same ↦ ap (λ j. is_running (steps (setting_of plain_at) j plain_at.start).status) same ∙ over_there
+    | inr other ↦ elim other as (λ _. is_running (steps (setting_of plain_at) a.cycles plain_at.start).status ≡ false) [
       | inl less ↦ sym (runs_is a.cycles) ∙ h.stops.over (omega (arith, less, limit))
       | inr more ↦ not_both _ (sym (runs_is k) ∙ h.stops.ran k more) over_there
     ]
   ]
 
-  last_status : h.last.status ≡ (plain_state job s.program.contents s.program.input k).status
+  last_status : h.last.status ≡ (left_alone s.program k).status
   last_status =
-      ap (λ (x : State). x.status) (h.is_last ∙ plain_steps job h.file.contents h.file.input a.cycles)
-      ∙ ap (λ (x : State). x.status) (same_end plain_setting plain_first a.cycles k stopped over_there)
-      ∙ ap (λ (x : State). x.status) same_state
+      ap (λ (x : State). x.status) (h.is_last ∙ by_steps a.cycles ∙ same_end (setting_of plain_at) plain_at.start a.cycles k stopped over_there ∙ sym (left_there ∙ by_steps k))
 
   ended_stop : (status : Status) → is_running status ≡ false → plain_stop false false status ≡ Ended status
   ended_stop Running e = absurd (cc)
   ended_stop (Exited v) e = refl
   ended_stop (Trapped v) e = refl
 
-  by_faults : (mute deaf : Bool) → h.mute ≡ mute → h.deaf ≡ deaf → TellsEnd (plain_state job s.program.contents s.program.input k) a
+  by_faults : (mute deaf : Bool) → h.mute ≡ mute → h.deaf ≡ deaf → TellsEnd (left_alone s.program k) a
   by_faults mute true is_mute is_deaf =
-      let closed : after.report ≡ h.told = subst (λ b. ClosesRun b (plain_stop h.mute h.deaf h.last.status) job.config.limit h.told after.report) is_deaf h.closes in
+      let closed : after.report ≡ h.told = subst (λ b. ClosesRun b (stop_line job.config.limit (plain_stop h.mute h.deaf h.last.status)) h.told after.report) is_deaf h.closes in
       let sent : Sent true before.report h.told (end_lines job h.last) = subst (λ b. Sent b before.report h.told (end_lines job h.last)) is_deaf h.read_all in
       not_risen before.report.faults h.told.faults (subst (λ (x : Stream). Stayed before.report.faults x.faults) closed calm.report) sent.0.rose
   by_faults true false is_mute is_deaf =
@@ -305,38 +363,60 @@ module _ (job : Job) (k : ℕ) (before after : Outside) (a : Answer) (s : Stands
 
 -- ---- answers
 
-abbrev stands_of : (order : Job → Order) (words : List (List ℕ)) (stock : Stock) (i : IsAsked order words stock) → Stands i.job stock
-stands_of order words stock i = record { files = i.files; tells = i.tells; program = i.program }
+abbrev stands_of : {order : Order} {source : Source} {job : Job} {words : List (List ℕ)} {stock : Stock} → IsAsked order source job words stock → Stands source job stock
+stands_of i = record { files = i.files; tells = i.tells; program = i.program }
 
-run_completes : {M : Type 0} (K : KindOf M) (words : List (List ℕ)) (before after : Outside) (a : Answer) (i : IsAsked run words before.shelf) (k : ℕ) → IsCalm before after
-    → is_running (left_alone i k).status ≡ false → cycles_for K (parameters_of i.job.config) i.job.config.cuts k ≤ i.job.config.limit → RunAnswered K i.job before after a → TellsEnd (left_alone i k) a
-run_completes K words before after a i k calm over limit (inl (r, due, refused)) = inr (refused.status ∙ task_due i.job before after r (stands_of run words before.shelf i) calm due)
-run_completes K words before after a i k calm over limit (inr ran) = by_stop K i.job k before after a (stands_of run words before.shelf i) calm over limit ran ran.ending.stop refl
+run_completes : {M : Type 0} (K : KindOf M) (words : List (List ℕ)) (before after : Outside) (a : Answer) (source : Source) (job : Job) (i : IsAsked (run_of source job) source job words before.shelf) (k : ℕ) → IsCalm before after
+    → is_running (left_alone i.program k).status ≡ false → cycles_for K (parameters_of job.config) job.config.cuts k ≤ job.config.limit → RunAnswered K source job before after a → TellsEnd (left_alone i.program k) a
+run_completes K words before after a source job i k calm over limit (inl (r, due, refused)) = inr (refused.status ∙ run_due source job before after r (stands_of i) calm due)
+run_completes K words before after a source job i k calm over limit (inr ran) = by_save K source job k before after a (stands_of i) calm over limit ran ran.why refl
+
+-- the answer to the order of a run is that of its source
+order_answered : {M : Type 0} (K : KindOf M) (before after : Outside) (a : Answer) (source : Source) (job : Job) → OrderAnswered K (run_of source job) before after a → RunAnswered K source job before after a
+order_answered K before after a (file name) job h = h
+order_answered K before after a (made n) job h = h
+order_answered K before after a (image name) job h = h
 
 -- an answer completes the run that is asked for
 pub Completes-run : {M : Type 0} (K : KindOf M) (words : List (List ℕ)) (before after : Outside) (a : Answer) → Answered K words before after a → RunCompletes K words before after a
-Completes-run K words before after a (held, inl (e, due, shelf, device, refused)) i k calm over limit = inr (refused.status ∙ words_due words (run i.job) e i.asked due)
-Completes-run K words before after a (held, inr (inl (job, asked, h))) i k calm over limit =
-    run_completes K words before after a i k calm over limit
-    (subst (λ j. RunAnswered K j before after a) (job_of_run job i.job (order_same words (run i.job) (run job) i.asked asked)) h)
-Completes-run K words before after a (held, inr (inr (job, asked, h))) i k calm over limit =
-    absurd (let same : plain job ≡ run i.job = order_same words (run i.job) (plain job) i.asked asked in cc)
+Completes-run K words before after a (inl (e, due, shelf, device, refused)) source job i k calm over limit = inr (refused.status ∙ words_due words (run_of source job) e i.asked due)
+Completes-run K words before after a (inr (order, asked, h)) source job i k calm over limit =
+    run_completes K words before after a source job i k calm over limit
+    (order_answered K before after a source job (subst (λ x. OrderAnswered K x before after a) (order_same words (run_of source job) order i.asked asked) h))
 
-plain_completes : (words : List (List ℕ)) (before after : Outside) (a : Answer) (i : IsAsked plain words before.shelf) (k : ℕ) → IsCalm before after
-    → is_running (left_alone i k).status ≡ false → k ≤ i.job.config.limit → PlainAnswered i.job before after a → TellsEnd (left_alone i k) a
-plain_completes words before after a i k calm over limit (device, inl (r, due, refused)) =
-    inr (refused.status ∙ program_due i.job before.shelf after.shelf r (stands_of plain words before.shelf i) calm.shelf due)
-plain_completes words before after a i k calm over limit (device, inr ran) = by_faults i.job k before after a (stands_of plain words before.shelf i) calm over limit ran ran.mute ran.deaf refl refl
+plain_completes : (words : List (List ℕ)) (before after : Outside) (a : Answer) (name : List ℕ) (job : Job) (i : IsAsked (plain name job) (file name) job words before.shelf) (k : ℕ) → IsCalm before after
+    → is_running (left_alone i.program k).status ≡ false → k ≤ job.config.limit → PlainAnswered name job before after a → TellsEnd (left_alone i.program k) a
+plain_completes words before after a name job i k calm over limit (device, inl (r, due, refused)) =
+    inr (refused.status ∙ program_due (file name) job before.shelf after.shelf r (stands_of i) calm.shelf due)
+plain_completes words before after a name job i k calm over limit (device, inr ran) = by_faults name job k before after a (stands_of i) calm over limit ran ran.mute ran.deaf refl refl
 
 -- and the one on the plain machine
 pub Completes-plain : {M : Type 0} (K : KindOf M) (words : List (List ℕ)) (before after : Outside) (a : Answer) → Answered K words before after a → PlainCompletes words before after a
-Completes-plain K words before after a (held, inl (e, due, shelf, device, refused)) i k calm over limit = inr (refused.status ∙ words_due words (plain i.job) e i.asked due)
-Completes-plain K words before after a (held, inr (inl (job, asked, h))) i k calm over limit =
-    absurd (let same : run job ≡ plain i.job = order_same words (plain i.job) (run job) i.asked asked in cc)
-Completes-plain K words before after a (held, inr (inr (job, asked, h))) i k calm over limit =
-    plain_completes words before after a i k calm over limit
-    (subst (λ j. PlainAnswered j before after a) (job_of_plain job i.job (order_same words (plain i.job) (plain job) i.asked asked)) h)
+Completes-plain K words before after a (inl (e, due, shelf, device, refused)) name job i k calm over limit = inr (refused.status ∙ words_due words (plain name job) e i.asked due)
+Completes-plain K words before after a (inr (order, asked, h)) name job i k calm over limit =
+    plain_completes words before after a name job i k calm over limit
+    (subst (λ x. OrderAnswered K x before after a) (order_same words (plain name job) order i.asked asked) h)
+
+-- a made program is put, unless memory was short
+make_told : (n : ℕ) (name : List ℕ) (before after : Outside) (a : Answer) (why : Option PutError) → IsCalm before after → a.status ≡ (made_told n name why).0 → PutCounted before.shelf after.shelf why
+    → (a.status ≡ 0) ⊎ (a.status ≡ 9)
+make_told n name before after a None calm is counted = inl is
+make_told n name before after a (Some PutFailed) calm is counted = put_calm before.shelf after.shelf calm.shelf counted
+make_told n name before after a (Some (PutMemory e)) calm is counted = inr is
+
+make_completes : (n : ℕ) (name : List ℕ) (before after : Outside) (a : Answer) → IsCalm before after → MakeAnswered n name before after a → (a.status ≡ 0) ⊎ (a.status ≡ 9)
+make_completes n name before after a calm h = make_told n name before after a h.why calm h.status h.put.counted
+
+pub Completes-make : {M : Type 0} (K : KindOf M) (words : List (List ℕ)) (before after : Outside) (a : Answer) → Answered K words before after a → MakeCompletes words before after a
+Completes-make K words before after a (inl (e, due, shelf, device, refused)) n name asked calm = inr (refused.status ∙ words_due words (make n name) e asked due)
+Completes-make K words before after a (inr (order, is, h)) n name asked calm =
+    make_completes n name before after a calm (subst (λ x. OrderAnswered K x before after a) (order_same words (make n name) order asked is) h)
 
 -- so what is claimed of a call follows from what its answer is
 pub Claim-answered : {M : Type 0} (K : KindOf M) (words : List (List ℕ)) (before after : Outside) (a : Answer) → Answered K words before after a → Claim K words before after a
-Claim-answered K words before after a h = record { answered = h; complete_run = Completes-run K words before after a h; complete_plain = Completes-plain K words before after a h }
+Claim-answered K words before after a h = record {
+  answered = h;
+  complete_run = Completes-run K words before after a h;
+  complete_plain = Completes-plain K words before after a h;
+  complete_make = Completes-make K words before after a h;
+}

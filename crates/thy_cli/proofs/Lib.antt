@@ -1,4 +1,6 @@
-pub mod PlainLemmas
 pub mod ClosingLaws
-pub mod CompleteLaws
+pub mod PlainLemmas
 pub mod TopLemmas
+pub mod CompleteLaws
+pub mod SavingLemmas
+pub mod RestoringLaws

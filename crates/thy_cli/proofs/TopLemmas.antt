@@ -1,33 +1,45 @@
 -- What the top call makes of a job.
-use Rattle.std.proofs.Common.{◌≡◌, ℕ, Bool, Option, Some, None, List, [], length, sym, ◌∙◌, ap, subst, inl, inr, lit<, arith, ◌<◌, ◌^◌}
+use Rattle.std.proofs.Common.{◌≡◌, ℕ, ◌+◌, ◌-◌, Bool, true, false, Option, Some, None, List, [], ◌++◌, length, replicate, refl, sym, ◌∙◌, ap, append-nil, subst, inl, inr, lit<, arith, ◌<◌, ◌≤◌, ◌^◌, if◌then◌else◌}
 use Rattle.std.specs.Prelude.{Result, Ok, Err}
+use Rattle.std.proofs.lemmas.Bool.{le-leb}
+use Rattle.std.proofs.lemmas.List.{length-append, length-replicate}
 use Rattle.thy_base.specs.declared.config.Config.{Config}
 use Rattle.thy_base.specs.declared.config.Parameters.{Parameters}
 use Rattle.thy_base.specs.declared.nvm.Shape.{Shape}
 use Rattle.thy_base.specs.Config.{fault_of, geometry_or, geometry_of, rows_of, IsRising}
-use Rattle.thy_base.specs.Device.{Device, fitted}
+use Rattle.thy_base.specs.declared.block.Block.{Block}
+use Rattle.thy_base.specs.declared.outside.PutError.{PutError}
+use Rattle.thy_base.specs.Device.{Device, fitted, zero_block}
 use Rattle.thy_base.specs.Geometry.{IsInRange, parameters_of, program_size}
 use Rattle.thy_base.specs.Outside.{Stock, Stream}
 use Rattle.thy_isa.specs.declared.state.Status.TheVariants.{Running}
 use Rattle.thy_isa.specs.Storable.{IsNumber, IsStorable, IsReadable}
-use Rattle.thy_isa.specs.Step.{State}
+use Rattle.thy_base.specs.Bytes.{bytes_of}
+use Rattle.thy_base.specs.Marks.{mark}
+use Rattle.thy_record.specs.Decoded.{Decoded, At}
+use Rattle.thy_record.specs.Files.{blocks_of, decode_file}
+use Rattle.thy_isa.specs.Step.{State, state_of}
 use Rattle.thy_isa.proofs.MemoryBounds.{anywhere}
+use Rattle.thy_record.specs.declared.start.Start.{Start}
 use Rattle.thy_record.specs.Cpu.{is_status, status_tag, status_value}
 use Rattle.thy_elf.specs.declared.error.ElfError.{ElfError}
-use Rattle.thy_elf.specs.Image.{Contents, read_of}
+use Rattle.thy_elf.specs.declared.image.Image.{Image}
+use Rattle.thy_elf.specs.Image.{Contents, contents_of, read_of}
 use Rattle.thy_plain.specs.Start.{start_state}
 use Rattle.thy_words.specs.declared.words.WordsError.{WordsError}
 use Rattle.thy_words.specs.declared.words.WordsError.TheVariants.{Usage, Word, Value, Memory as WordsMemory}
-use Rattle.thy_words.specs.Settings.{Job, run, plain, settings_of, order_of, ShowsOrMemory}
+use Rattle.thy_words.specs.Settings.{Job, settings_of, order_of, ShowsOrMemory}
 use Rattle.thy_view.specs.Booting.{found_first}
 use Rattle.thy_view.specs.Kind.{KindOf, IsLawful, IsFittedFor}
 use Rattle.thy_base.specs.declared.mark.Mark.{Mark}
 use Rattle.thy_base.proofs.RangeLemmas.{AreIn-none, IsRising-rows}
 use Rattle.thy_view.specs.Origin.{Origin, IsOrigin, StartsFrom, setting_of}
-use Rattle.thy_run.specs.Laws.{Promise}
+use Rattle.thy_view.specs.Safe.{ceiling}
+use Rattle.thy_run.specs.Laws.{Promise, marks_of}
 use Rattle.thy_run.specs.Unfinished.{Finished}
 use Rattle.thy_run.specs.World.{Given, World, Ran}
 use Rattle.thy_run.proofs.PromiseLaws.{Promise-finished}
+use Rattle.thy_run.proofs.WorldLaws.{Safe-cut}
 use Rattle.thy_text.specs.Happening.{Happening}
 use Rattle.thy_run.specs.declared.ending.Stop.{Stop}
 use Rattle.thy_run.specs.declared.ending.Stop.TheVariants.{Ended, Nvm, Memory, Terminal, Report, Limit}
@@ -36,9 +48,17 @@ use Rattle.thy_run.specs.declared.ending.Ending.{Ending}
 use Rattle.thy_run.specs.declared.plan.Plan.{Plan}
 use Rattle.thy_cli.specs.declared.refusal.Refusal.{Refusal}
 use Rattle.thy_cli.specs.declared.refusal.Refusal.TheVariants.{Device as DeviceRefusal}
-use Rattle.thy_cli.specs.Answering.{Outside, IsInput, WordsDue, ProgramDue, RunDue, meaning_of, origin_for, given_for, shape_for, IsRunOf, ClosesRun, PlainAnswered, RunAnswered, Answered, stop_status}
-use Rattle.thy_cli.specs.Planning.{IsPlanOf}
-use Rattle.thy_run.specs.Going.{origin_of, given_of}
+use Rattle.thy_cli.specs.Answering.{Outside, outside, RunAnswered, WordsDue, RunDue, given_for, shape_for, IsRunOf, IsSafeFor, ClosesRun, run_line, run_status, summary_for}
+use Rattle.thy_cli.specs.Planning.{Begins, CanRun, FitsKept, HasRoom, IsElf, IsHadFor, IsPlanOf, IsProgramOf}
+use Rattle.thy_cli.specs.Restoring.{IsRestored, ReadsFiles}
+use Rattle.thy_cli.specs.Saving.{SavesUnder, save_pick, saves}
+use Rattle.thy_cli.specs.Sources.{Source, file, made, image, Beginning, begun, restored, IsInput, IsMeant, meaning_of, origin_for, ProgramDue}
+use Rattle.thy_cli.specs.declared.refusal.Refusal.TheVariants.{Input}
+use Rattle.thy_cli.specs.declared.restoring.Beginning.{Beginning as BeginningValue}
+use Rattle.thy_cli.specs.declared.source.Had.{Had}
+use Rattle.thy_cli.specs.declared.source.Program.{Program}
+use Rattle.thy_cli.proofs.RestoringLaws.{AllLong-blocks_of, length-saved_blocks, decode-restored, IsOrigin-restored}
+use Rattle.thy_run.specs.Going.{origin_of, given_of, IsPlanned}
 use Rattle.thy_run.specs.Endings.{EndsBy, HasRun}
 use Rattle.thy_run.specs.Turning.{RunEnds}
 
@@ -64,7 +84,7 @@ input_size stock (Some name) input held = omega (arith, held.0)
 
 -- a start state begins a run from a file
 pub IsOrigin-start : (o : Origin) (contents : Contents) → IsInRange o.geometry → o.start ≡ start_state o.geometry contents → IsStorable (program_size o.geometry) o.start → IsReadable (setting_of o) → o.kept ≡ None → IsOrigin o
-IsOrigin-start o contents range is storable readable file =
+IsOrigin-start o contents range is storable readable fresh =
     let console : length o.start.console ≡ 0 = ap (λ (s : State). length s.console) is in
     let count : o.start.count ≡ 0 = ap (λ (s : State). s.count) is in
     let status : o.start.status ≡ Running = ap (λ (s : State). s.status) is in
@@ -85,7 +105,7 @@ IsOrigin-start o contents range is storable readable file =
       memory = storable.memory_size;
       storable = storable;
       readable = readable;
-      starts = subst (λ (kept : Option Mark). StartsFrom kept o.start) (sym file) status;
+      starts = subst (λ (kept : Option Mark). StartsFrom kept o.start) (sym fresh) status;
     }
 
 -- ---- answers
@@ -109,18 +129,30 @@ finished_by K o given k last events n Terminal ran ends = record { last = last; 
 finished_by K o given k last events n Report ran ends = record { last = last; ran = ran; ends = inl ends }
 finished_by K o given k last events n Limit ran ends = record { last = last; ran = ran; ends = inl ends }
 
--- a device of zeros is fitted for a start that was made from a file
-pub fitted_from_file : {M : Type 0} (K : KindOf M) (laws : IsLawful K) → (plan : Plan) (shape : Shape) (n : Device) → plan.start.kept ≡ None → shape.blocks ≡ K.blocks plan.geometry
-    → IsFittedFor K (origin_of plan) shape [] n
-fitted_from_file K laws plan shape n file blocks = record {
-  blocks = blocks;
-  fits = omega arith;
-  long = record { each = λ i l. absurd (omega arith) };
-  found = laws.finds_nothing plan.geometry shape n blocks ∙ ap (found_first (origin_of plan)) (sym file);
-}
+-- a device that begins with an image, or with nothing, is fitted for what that means
+fitted_by : {M : Type 0} (K : KindOf M) (laws : IsLawful K) (reads : ReadsFiles K) → (o : Origin) (blocks : List Block) (shape : Shape) (n : Device) (kept : Option Mark) → o.kept ≡ kept
+    → FitsKept o.geometry (record { start = o.start; kept = o.kept; blocks = blocks }) kept → shape.blocks ≡ K.blocks o.geometry → IsFittedFor K o shape blocks n
+fitted_by K laws reads o blocks shape n None is none many =
+    subst (λ bs. IsFittedFor K o shape bs n) (sym none) (record {
+      blocks = many;
+      fits = omega arith;
+      long = record { each = λ i l. absurd (omega arith) };
+      found = laws.finds_nothing o.geometry shape n many ∙ ap (found_first o) (sym is);
+    })
+fitted_by K laws reads o blocks shape n (Some m) is of many =
+    let all : length blocks ≡ shape.blocks = of.many ∙ sym (many ∙ reads.blocks o.geometry) in
+    let rest : replicate (shape.blocks - length blocks) zero_block ≡ [] = ap (λ k. replicate k zero_block) (let e : shape.blocks - length blocks ≡ 0 = omega (arith, all) in e) in
+    let whole : (fitted shape blocks n).image ≡ blocks = ap (λ bs. blocks ++ bs) rest ∙ append-nil blocks in
+    record {
+      blocks = many;
+      fits = omega (arith, all);
+      long = of.long;
+      found = ap (K.decode o.geometry ceiling) whole ∙ reads.decode o.geometry ceiling blocks ∙ of.decodes ∙ ap (found_first o) (sym is);
+    }
 
-abbrev origin_at : Parameters → State → List ℕ → Option Mark → Origin
-origin_at geometry start input kept = record { geometry = geometry; start = start; input = input; kept = kept }
+pub fitted_for_plan : {M : Type 0} (K : KindOf M) (laws : IsLawful K) (reads : ReadsFiles K) → (plan : Plan) (blocks : List Block) (shape : Shape) (n : Device) → CanRun plan blocks → shape.blocks ≡ K.blocks plan.geometry
+    → IsFittedFor K (origin_of plan) shape blocks n
+fitted_for_plan K laws reads plan blocks shape n can many = fitted_by K laws reads (origin_of plan) blocks shape n plan.start.kept refl can.fits many
 
 abbrev shape_at : ℕ → ℕ → ℕ → Shape
 shape_at blocks queue cuts = record { blocks = blocks; queue = queue; cuts = cuts }
@@ -128,84 +160,88 @@ shape_at blocks queue cuts = record { blocks = blocks; queue = queue; cuts = cut
 abbrev given_at : Config → Bool → Device → Given
 given_at c digest d = record { config = c; digest = digest; fitted = d }
 
--- a run of the plan is about what the task's run is
-planned_origin : (task : Job) (stock : Stock) (plan : Plan) (p : IsPlanOf task stock plan) → origin_of plan ≡ origin_for task p.file.contents p.file.input
-planned_origin task stock plan p =
-    ap (λ g. origin_at g (origin_of plan).start (origin_of plan).input plan.start.kept) p.geometry
-    ∙ ap (λ s. origin_at (parameters_of task.config) s (origin_of plan).input plan.start.kept) (p.start ∙ ap (λ g. start_state g p.file.contents) p.geometry)
-    ∙ ap (λ i. origin_at (parameters_of task.config) (start_state (parameters_of task.config) p.file.contents) i plan.start.kept) p.input
-    ∙ ap (origin_at (parameters_of task.config) (start_state (parameters_of task.config) p.file.contents) p.file.input) p.from_file
+-- the numbers of a job's plan
+planned_numbers : (source : Source) (job : Job) (stock : Stock) (plan : Plan) (blocks : List Block) → IsPlanOf source job stock plan blocks → plan.geometry ≡ parameters_of job.config
+planned_numbers source job stock plan blocks p = ap (λ (o : Origin). o.geometry) p.origin
 
--- and is given the same
-planned_given : {M : Type 0} (K : KindOf M) (task : Job) (stock : Stock) (plan : Plan) (shape : Shape) (d n : Device) → IsPlanOf task stock plan → d ≡ fitted shape [] n
-    → shape.blocks ≡ K.blocks plan.geometry → shape.queue ≡ plan.geometry.nvmq → shape.cuts ≡ length plan.config.cuts → given_of plan d ≡ given_for K task n
-planned_given K task stock plan shape d n p fit blocks queue cuts =
-    let config : plan.config ≡ task.config = p.config in
-    let digest : plan.digest ≡ task.digest = p.digest in
-    let many : shape.blocks ≡ K.blocks (parameters_of task.config) = blocks ∙ ap K.blocks p.geometry in
-    let long : shape.queue ≡ task.config.nvmq = queue ∙ ap (λ (x : Parameters). x.nvmq) p.geometry in
-    let room : shape.cuts ≡ length task.config.cuts = cuts ∙ ap (λ (c : Config). length c.cuts) config in
-    let same : shape ≡ shape_for K task.config =
-    ap (λ b. shape_at b shape.queue shape.cuts) many ∙ ap (λ q. shape_at (K.blocks (parameters_of task.config)) q shape.cuts) long
-    ∙ ap (shape_at (K.blocks (parameters_of task.config)) task.config.nvmq) room in
-    let device : d ≡ fitted (shape_for K task.config) [] n = fit ∙ ap (λ s. fitted s [] n) same in
-    ap (λ (c : Config). given_at c plan.digest d) config ∙ ap (λ b. given_at task.config b d) digest ∙ ap (given_at task.config task.digest) device
+-- a run of the plan is given what the job's run is
+planned_given : {M : Type 0} (K : KindOf M) (source : Source) (job : Job) (stock : Stock) (plan : Plan) (blocks : List Block) (shape : Shape) (d n : Device) → (p : IsPlanOf source job stock plan blocks) → d ≡ fitted shape blocks n
+    → shape.blocks ≡ K.blocks plan.geometry → shape.queue ≡ plan.geometry.nvmq → shape.cuts ≡ length plan.config.cuts → given_of plan d ≡ given_for K job p.program.begins n
+planned_given K source job stock plan blocks shape d n p fit many queue cuts =
+    let config : plan.config ≡ job.config = p.config in
+    let digest : plan.digest ≡ job.digest = p.digest in
+    let numbers : plan.geometry ≡ parameters_of job.config = planned_numbers source job stock plan blocks p in
+    let as_many : shape.blocks ≡ K.blocks (parameters_of job.config) = many ∙ ap K.blocks numbers in
+    let long : shape.queue ≡ job.config.nvmq = queue ∙ ap (λ (x : Parameters). x.nvmq) numbers in
+    let room : shape.cuts ≡ length job.config.cuts = cuts ∙ ap (λ (c : Config). length c.cuts) config in
+    let same : shape ≡ shape_for K job.config =
+    ap (λ b. shape_at b shape.queue shape.cuts) as_many ∙ ap (λ q. shape_at (K.blocks (parameters_of job.config)) q shape.cuts) long
+    ∙ ap (shape_at (K.blocks (parameters_of job.config)) job.config.nvmq) room in
+    let device : d ≡ fitted (shape_for K job.config) p.program.begins.blocks n = fit ∙ ap (λ s. fitted s blocks n) same ∙ ap (λ bs. fitted (shape_for K job.config) bs n) p.over in
+    ap (λ (c : Config). given_at c plan.digest d) config ∙ ap (λ b. given_at job.config b d) digest ∙ ap (given_at job.config job.digest) device
+
+-- what a run of a plan keeps
+pub planned_promise : {M : Type 0} (K : KindOf M) (laws : IsLawful K) → (plan : Plan) (d stood : Device) (e : Ending) (terminal shown report read : Stream) → IsPlanned plan → RunEnds K plan d stood e terminal shown report read
+    → Promise K (origin_of plan) (given_of plan d) e.cycles e.events stood
+planned_promise K laws plan d stood e terminal shown report read planned ends =
+    Promise-finished K laws (origin_of plan) (given_of plan d) e.cycles e.events stood planned.origin planned.rising
+    (finished_by K (origin_of plan) (given_of plan d) e.cycles ends.last e.events stood e.stop ends.ran ends.ends)
+
+-- a save leaves a device that is as safe
+safe_saved : {M : Type 0} (K : KindOf M) (o : Origin) (events : List Happening) (name : Option (List ℕ)) (due : Bool) (c : Config) (n m : Device) (old new : Stock) (why : Option PutError)
+    → SavesUnder name due c n m old new why → IsSafeFor K o events n → IsSafeFor K o events m
+safe_saved K o events (Some name) true c n m old new why h safe = Safe-cut K o (marks_of o events).kept (marks_of o events).sealed (save_pick c) n m h.0 safe
+safe_saved K o events (Some name) false c n m old new why h safe = subst (IsSafeFor K o events) (sym h.0) safe
+safe_saved K o events None true c n m old new why h safe = subst (IsSafeFor K o events) (sym h.0) safe
+safe_saved K o events None false c n m old new why h safe = subst (IsSafeFor K o events) (sym h.0) safe
 
 -- a run that was begun keeps its promise
-pub IsRunOf-ran : {M : Type 0} (K : KindOf M) (laws : IsLawful K) → (task : Job) (before after : Outside) (plan : Plan) (d : Device) (shape : Shape) (e : Ending) (a : Answer) (told : Stream) → IsPlanOf task before.shelf plan
-    → after.shelf.faults ≡ before.shelf.faults → d ≡ fitted shape [] before.device → shape.blocks ≡ K.blocks plan.geometry → shape.queue ≡ plan.geometry.nvmq → shape.cuts ≡ length plan.config.cuts
-    → RunEnds K plan d after.device e before.terminal after.terminal before.report told
-    → ClosesRun e.deaf e.stop plan.geometry.limit told after.report → a.events ≡ e.events → a.cycles ≡ e.cycles → a.status ≡ stop_status e.stop → IsRunOf K task before after a
-IsRunOf-ran K laws task before after plan d shape e a told p calm fit blocks queue cuts ends closes events cycles status =
-    let m : Device = after.device in
-    let o : Origin = origin_for task p.file.contents p.file.input in
-    let given : Given = given_for K task before.device in
-    let about = planned_origin task before.shelf plan p in
-    let besides = planned_given K task before.shelf plan shape d before.device p fit blocks queue cuts in
-    let kept = Promise-finished K laws (origin_of plan) (given_of plan d) e.cycles e.events m p.planned.origin p.planned.rising
-    (finished_by K (origin_of plan) (given_of plan d) e.cycles ends.last e.events m e.stop ends.ran ends.ends) in
-    let promise : Promise K o given e.cycles e.events m =
-    subst (λ x. Promise K o x e.cycles e.events m) besides (subst (λ x. Promise K x (given_of plan d) e.cycles e.events m) about kept) in
+pub IsRunOf-ran : {M : Type 0} (K : KindOf M) (laws : IsLawful K) → (source : Source) (job : Job) (save : Option (List ℕ)) (before after : Outside) (plan : Plan) (blocks : List Block) (d stood : Device) (shape : Shape) (e : Ending) (a : Answer) (told : Stream) (why : Option PutError)
+    → (p : IsPlanOf source job before.shelf plan blocks) → job.save ≡ save
+    → d ≡ fitted shape blocks before.device → shape.blocks ≡ K.blocks plan.geometry → shape.queue ≡ plan.geometry.nvmq → shape.cuts ≡ length plan.config.cuts
+    → RunEnds K plan d stood e before.terminal after.terminal before.report told
+    → SavesUnder save (saves e.stop) plan.config stood after.device before.shelf after.shelf why
+    → ClosesRun e.deaf (summary_for source e.stop e.events ++ run_line plan.geometry.limit save e.stop why) told after.report
+    → a.events ≡ e.events → a.cycles ≡ e.cycles → a.status ≡ run_status e.stop why → IsRunOf K source job before after a
+IsRunOf-ran K laws source job save before after plan blocks d stood shape e a told why p names fit many queue cuts ends saved closes events cycles status =
+    let o : Origin = origin_for job p.program.begins p.program.input in
+    let given : Given = given_for K job p.program.begins before.device in
+    let about : origin_of plan ≡ o = p.origin in
+    let besides = planned_given K source job before.shelf plan blocks shape d before.device p fit many queue cuts in
+    let kept = planned_promise K laws plan d stood e before.terminal after.terminal before.report told p.planned ends in
+    let promise : Promise K o given e.cycles e.events stood =
+    subst (λ x. Promise K o x e.cycles e.events stood) besides (subst (λ x. Promise K x (given_of plan d) e.cycles e.events stood) about kept) in
+    let put : SavesUnder job.save (saves e.stop) job.config stood after.device before.shelf after.shelf why =
+    subst (λ c. SavesUnder job.save (saves e.stop) c stood after.device before.shelf after.shelf why) p.config
+    (subst (λ n. SavesUnder n (saves e.stop) plan.config stood after.device before.shelf after.shelf why) (sym names) saved) in
     record {
-      file = p.file;
-      calm = calm;
+      program = p.program;
       ending = e;
+      stood = stood;
       told = told;
       ran =
-          subst (λ x. HasRun K o x m e before.terminal after.terminal before.report told) besides
-          (subst (λ x. HasRun K x (given_of plan d) m e before.terminal after.terminal before.report told) about ends);
-      closes = subst (λ l. ClosesRun e.deaf e.stop l told after.report) (ap (λ (x : Parameters). x.limit) p.geometry) closes;
+          subst (λ x. HasRun K o x stood e before.terminal after.terminal before.report told) besides
+          (subst (λ x. HasRun K x (given_of plan d) stood e before.terminal after.terminal before.report told) about ends);
+      why = why;
+      saved = put;
+      closes =
+          subst (λ l. ClosesRun e.deaf (summary_for source e.stop e.events ++ run_line l job.save e.stop why) told after.report)
+          (ap (λ (x : Parameters). x.limit) (planned_numbers source job before.shelf plan blocks p))
+          (subst (λ n. ClosesRun e.deaf (summary_for source e.stop e.events ++ run_line plan.geometry.limit n e.stop why) told after.report) (sym names) closes);
       events = events;
       cycles = cycles;
       status = status;
       promise =
-          subst (λ k. Promise K o given k a.events m) (sym cycles)
-          (subst (λ vs. Promise K o given e.cycles vs m) (sym events) promise);
+          subst (λ k. Promise K o given k a.events stood) (sym cycles)
+          (subst (λ vs. Promise K o given e.cycles vs stood) (sym events) promise);
+      safe = safe_saved K o a.events job.save (saves e.stop) job.config stood after.device before.shelf after.shelf why put
+          (subst (λ vs. IsSafeFor K o vs stood) (sym events) promise.safe_at_return);
     }
 
--- where there is no program, a task is not run
-pub RunDue-program : (task : Job) (before after : Outside) (r : Refusal) → ProgramDue task before.shelf after.shelf r → after.device ≡ before.device → RunDue task before after r
-RunDue-program task before after (DeviceRefusal e) due device = absurd due
-RunDue-program task before after r due device = (due, device)
-
--- a job as a task, with names that are the job's
-abbrev pub task_named : List ℕ → Option (List ℕ) → Job → Job
-task_named file input job = record { file = file; input = input; config = job.config; digest = job.digest }
-
-task_is : (file : List ℕ) (input : Option (List ℕ)) (job : Job) → file ≡ job.file → input ≡ job.input → task_named file input job ≡ job
-task_is file input job e f = ap (λ x. task_named x input job) e ∙ ap (λ x. task_named job.file x job) f
-
--- a job for the machine
-pub Answered-run : {M : Type 0} (K : KindOf M) → (words : List (List ℕ)) (job : Job) (file : List ℕ) (input : Option (List ℕ)) (before after : Outside) (a : Answer) → settings_of words ≡ Ok (run job)
-    → file ≡ job.file → input ≡ job.input → after.shelf.held ≡ before.shelf.held → RunAnswered K (task_named file input job) before after a → Answered K words before after a
-Answered-run K words job file input before after a is names reads held h =
-    (held, inr (inl (job, is, subst (λ t. RunAnswered K t before after a) (task_is file input job names reads) h)))
-
--- a job for the plain machine
-pub Answered-plain : {M : Type 0} (K : KindOf M) → (words : List (List ℕ)) (job : Job) (file : List ℕ) (input : Option (List ℕ)) (before after : Outside) (a : Answer) → settings_of words ≡ Ok (plain job)
-    → file ≡ job.file → input ≡ job.input → after.shelf.held ≡ before.shelf.held → PlainAnswered (task_named file input job) before after a → Answered K words before after a
-Answered-plain K words job file input before after a is names reads held h =
-    (held, inr (inr (job, is, subst (λ t. PlainAnswered t before after a) (task_is file input job names reads) h)))
+-- where there is no program, a job is not run
+pub RunDue-program : (source : Source) (job : Job) (before after : Outside) (r : Refusal) → ProgramDue source job before.shelf after.shelf r → after.device ≡ before.device → RunDue source job before after r
+RunDue-program source job before after (DeviceRefusal e) due device = absurd due
+RunDue-program source job before after r due device = (due, device)
 
 -- a shelf whose count and whose files stayed is the one before
 pub stock_same : (old new : Stock) → new.held ≡ old.held → new.faults ≡ old.faults → new ≡ old
@@ -219,9 +255,173 @@ WordsDue-shown words (Value field value) h = h
 WordsDue-shown words (WordsMemory e) h = tt
 
 -- what a file was read as is what it means
-pub meaning_is : (task : Job) (bytes read : List ℕ) (p numbers : Parameters) (size : ℕ) (means : Result Contents ElfError) → p ≡ parameters_of task.config → numbers ≡ p → read ≡ bytes
-    → size ≡ program_size p → read_of read numbers.base size ≡ means → meaning_of task bytes ≡ means
-meaning_is task bytes read p numbers size means geometry same read_is size_is h =
-    ap (λ b. read_of b task.config.base (program_size (parameters_of task.config))) (sym read_is)
-    ∙ ap (λ b. read_of read b (program_size (parameters_of task.config))) (sym (ap (λ (x : Parameters). x.base) (same ∙ geometry)))
-    ∙ ap (read_of read numbers.base) (sym (size_is ∙ ap program_size geometry)) ∙ h
+pub bytes_read : (job : Job) (bytes read : List ℕ) (p numbers : Parameters) (size : ℕ) (means : Result Contents ElfError) → p ≡ parameters_of job.config → numbers ≡ p → read ≡ bytes
+    → size ≡ program_size p → read_of read numbers.base size ≡ means → read_of bytes job.config.base (program_size (parameters_of job.config)) ≡ means
+bytes_read job bytes read p numbers size means geometry same as_read as_long h =
+    ap (λ b. read_of b job.config.base (program_size (parameters_of job.config))) (sym as_read)
+    ∙ ap (λ b. read_of read b (program_size (parameters_of job.config))) (sym (ap (λ (x : Parameters). x.base) (same ∙ geometry)))
+    ∙ ap (read_of read numbers.base) (sym (as_long ∙ ap program_size geometry)) ∙ h
+
+-- and so it is what the bytes of a program file mean
+pub meaning_is : (source : Source) (job : Job) (bytes input : List ℕ) (means : Result Contents ElfError) → IsElf source → read_of bytes job.config.base (program_size (parameters_of job.config)) ≡ means
+    → meaning_of source job bytes input ≡ begun (parameters_of job.config) means
+meaning_is (file name) job bytes input means elf h = ap (begun (parameters_of job.config)) h
+meaning_is (made n) job bytes input means elf h = ap (begun (parameters_of job.config)) h
+meaning_is (image name) job bytes input means elf h = absurd elf
+
+-- ---- beginnings
+
+-- what a run of a program file begins with
+pub Begins-entry : (source : Source) (job : Job) (stock : Stock) (p : Program) (b : BeginningValue) → IsProgramOf source job stock p
+    → state_of b.start.state ≡ start_state p.geometry (contents_of p.image) → IsStorable (program_size p.geometry) (state_of b.start.state)
+    → b.start.kept ≡ None → bytes_of b.start.input ≡ bytes_of p.input → b.blocks.items ≡ [] → Begins source job stock b
+Begins-entry source job stock p b program start storable kept reads blocks =
+    let first : program.program.begins.start ≡ start_state (parameters_of job.config) (contents_of p.image) = program.start ∙ ap (λ q. start_state q (contents_of p.image)) program.geometry in
+    let same : state_of b.start.state ≡ program.program.begins.start = start ∙ sym program.start in
+    record {
+      program = program.program;
+      start = same;
+      kept = kept ∙ sym program.made;
+      input = reads ∙ program.input;
+      blocks = blocks ∙ sym program.bare;
+      origin = IsOrigin-start (origin_for job program.program.begins program.program.input) (contents_of p.image)
+          (subst IsInRange program.geometry program.in_range) first
+          (subst (λ q. IsStorable (program_size q) program.program.begins.start) program.geometry (subst (IsStorable (program_size p.geometry)) same storable))
+          (record { bytes = program.program.had.input_bytes; size = input_size stock job.input program.program.input program.program.had.is_input })
+          program.made;
+      fits = subst (FitsKept (parameters_of job.config) program.program.begins) (sym program.made) program.bare;
+    }
+
+within_is : (bytes input : List ℕ) (epoch : ℕ) (s : State) → s.cursor ≤ length input
+    → restored bytes input (At epoch s) ≡ Ok (record { start = s; kept = Some (mark epoch s.count); blocks = blocks_of bytes })
+within_is bytes input epoch s l = ap (λ t. if t then Ok (record { start = s; kept = Some (mark epoch s.count); blocks = blocks_of bytes }) else Err (Input s.cursor (length input))) (le-leb s.cursor (length input) l)
+
+-- what a run of an image begins with
+pub Begins-image : (name : List ℕ) (job : Job) (stock : Stock) (p : Parameters) (had : Had) (epoch : ℕ) (b : BeginningValue) → IsHadFor (image name) job stock p had
+    → IsRestored p (bytes_of had.bytes) (bytes_of had.input) epoch b → b.start.state.cursor ≤ length (bytes_of had.input) → Begins (image name) job stock b
+Begins-image name job stock p had epoch b h r within =
+    let s : State = state_of b.start.state in
+    let bytes : List ℕ = bytes_of had.bytes in
+    let input : List ℕ = bytes_of had.input in
+    let decodes : decode_file (parameters_of job.config) (2 ^ 62) bytes ≡ At epoch s = ap (λ q. decode_file q (2 ^ 62) bytes) (sym h.numbers) ∙ r.decodes in
+    let begins : Beginning = record { start = s; kept = Some (mark epoch s.count); blocks = blocks_of bytes } in
+    record {
+      program = record {
+        bytes = bytes;
+        input = input;
+        had = h.both;
+        begins = begins;
+        means = ap (restored bytes input) decodes ∙ within_is bytes input epoch s within;
+      };
+      start = refl;
+      kept = r.kept;
+      input = r.reads;
+      blocks = r.blocks;
+      origin = IsOrigin-restored (origin_for job begins input) bytes epoch (subst IsInRange h.numbers h.in_range) h.both.are_bytes
+          (record { bytes = h.both.input_bytes; size = input_size stock job.input input h.both.is_input }) decodes refl;
+      fits = record {
+        many = length-saved_blocks (parameters_of job.config) bytes epoch s decodes;
+        long = AllLong-blocks_of bytes;
+        decodes = decode-restored (parameters_of job.config) bytes epoch s decodes;
+      };
+    }
+
+-- why there is no beginning
+pub meant_refusal : (name : List ℕ) (job : Job) (stock : Stock) (p : Parameters) (had : Had) (r : Refusal) (d : Decoded) → IsHadFor (image name) job stock p had
+    → decode_file p (2 ^ 62) (bytes_of had.bytes) ≡ d → restored (bytes_of had.bytes) (bytes_of had.input) d ≡ Err r → IsMeant (image name) job stock r
+meant_refusal name job stock p had r d h decodes refused = (
+  bytes_of had.bytes,
+  h.both.had,
+  bytes_of had.input,
+  h.both.is_input,
+  ap (restored (bytes_of had.bytes) (bytes_of had.input)) (ap (λ q. decode_file q (2 ^ 62) (bytes_of had.bytes)) (sym h.numbers) ∙ decodes) ∙ refused,
+)
+
+-- a program is what was read of the bytes of a program file
+pub IsProgramOf-read : (source : Source) (job : Job) (stock : Stock) (p : Parameters) (had : Had) (i : Image) → IsElf source → IsHadFor source job stock p had
+    → read_of (bytes_of had.bytes) job.config.base (program_size (parameters_of job.config)) ≡ Ok (contents_of i) → length (bytes_of i.memory) ≡ program_size p
+    → IsProgramOf source job stock (record { geometry = p; image = i; input = had.input })
+IsProgramOf-read source job stock p had i elf h read size = record {
+  geometry = h.numbers;
+  in_range = h.in_range;
+  program = record {
+    bytes = bytes_of had.bytes;
+    input = bytes_of had.input;
+    had = h.both;
+    begins = record { start = start_state (parameters_of job.config) (contents_of i); kept = None; blocks = [] };
+    means = meaning_is source job (bytes_of had.bytes) (bytes_of had.input) (Ok (contents_of i)) elf read;
+  };
+  start = ap (λ q. start_state q (contents_of i)) (sym h.numbers);
+  made = refl;
+  bare = refl;
+  input = refl;
+  size = size;
+}
+
+-- ---- plans
+
+-- a beginning in hand is the one that is meant
+beginning_is : (b : BeginningValue) (begins : Beginning) → state_of b.start.state ≡ begins.start → b.start.kept ≡ begins.kept → b.blocks.items ≡ begins.blocks
+    → record { start = state_of b.start.state; kept = b.start.kept; blocks = b.blocks.items } ≡ begins
+beginning_is b begins start kept blocks =
+    ap (λ s. record { start = s; kept = b.start.kept; blocks = b.blocks.items }) start
+    ∙ ap (λ m. record { start = begins.start; kept = m; blocks = b.blocks.items }) kept
+    ∙ ap (λ bs. record { start = begins.start; kept = begins.kept; blocks = bs }) blocks
+
+abbrev pub plan_with : Config → Parameters → Start → Bool → Plan
+plan_with c p start digest = record { config = c; geometry = p; start = start; digest = digest }
+
+-- what a plan is that is made of a beginning
+pub record IsBegun (source : Source) (job : Job) (stock : Stock) (p : Plan) (blocks : List Block) : Type 0 where
+  pub is_plan : IsPlanOf source job stock p blocks
+  pub can : CanRun p blocks
+
+pub IsBegun-begins : (source : Source) (job : Job) (stock : Stock) (b : BeginningValue) (numbers : Parameters) → fault_of job.config ≡ None → numbers ≡ parameters_of job.config → Begins source job stock b
+    → IsBegun source job stock (plan_with job.config numbers b.start job.digest) b.blocks.items
+IsBegun-begins source job stock b numbers none same h =
+    let plan : Plan = plan_with job.config numbers b.start job.digest in
+    let begins : Beginning = h.program.begins in
+    let about : origin_of plan ≡ origin_for job begins h.program.input =
+    ap (λ q. record { geometry = q; start = state_of b.start.state; input = bytes_of b.start.input; kept = b.start.kept }) same
+    ∙ ap (λ s. record { geometry = parameters_of job.config; start = s; input = bytes_of b.start.input; kept = b.start.kept }) h.start
+    ∙ ap (λ i. record { geometry = parameters_of job.config; start = begins.start; input = i; kept = b.start.kept }) h.input
+    ∙ ap (λ m. record { geometry = parameters_of job.config; start = begins.start; input = h.program.input; kept = m }) h.kept in
+    let planned : IsPlanned plan = record { origin = subst IsOrigin (sym about) h.origin; rising = rising_of job.config none } in
+    let is : record { start = state_of b.start.state; kept = b.start.kept; blocks = b.blocks.items } ≡ begins = beginning_is b begins h.start h.kept h.blocks in
+    record {
+      is_plan = record {
+        config = refl;
+        digest = refl;
+        program = h.program;
+        origin = about;
+        over = h.blocks;
+        fits = h.fits;
+        planned = planned;
+      };
+      can = record {
+        planned = planned;
+        fits = subst (λ q. FitsKept q (record { start = state_of b.start.state; kept = b.start.kept; blocks = b.blocks.items }) b.start.kept) (sym same)
+            (subst (λ (x : Beginning). FitsKept (parameters_of job.config) x x.kept) (sym is) h.fits);
+      };
+    }
+
+-- after a run the device has room for a save
+pub HasRoom-ran : {M : Type 0} (K : KindOf M) (laws : IsLawful K) → (plan : Plan) (blocks : List Block) (shape : Shape) (n d stood : Device) (e : Ending) (terminal shown report read : Stream)
+    → IsPlanned plan → d ≡ fitted shape blocks n → length blocks ≤ shape.blocks → shape.cuts ≡ length plan.config.cuts → RunEnds K plan d stood e terminal shown report read
+    → HasRoom stood e.events shape.blocks
+HasRoom-ran K laws plan blocks shape n d stood e terminal shown report read planned fit fits cuts ends =
+    let room = (planned_promise K laws plan d stood e terminal shown report read planned ends).room in
+    let left : d.left_room ≡ shape.cuts + 1 = ap (λ (x : Device). x.left_room) fit in
+    let many : length d.image ≡ shape.blocks =
+    ap (λ (x : Device). length x.image) fit ∙ (let l : length (blocks ++ replicate (shape.blocks - length blocks) zero_block) ≡ shape.blocks =
+    omega (arith, fits, length-append blocks (replicate (shape.blocks - length blocks) zero_block), length-replicate (shape.blocks - length blocks) zero_block) in l) in
+    record {
+      room = omega (arith, room.few, room.room, left, cuts);
+      cuts = room.kept;
+      whole = room.blocks ∙ many;
+    }
+
+-- a run from a shelf that is the one before is one from that
+pub RunAnswered-same : {M : Type 0} (K : KindOf M) (source : Source) (job : Job) (old middle new : Stock) (n m : Device) (t u r s : Stream) (a : Answer) → middle ≡ old
+    → RunAnswered K source job (outside middle n t r) (outside new m u s) a → RunAnswered K source job (outside old n t r) (outside new m u s) a
+RunAnswered-same K source job old middle new n m t u r s a same h = subst (λ x. RunAnswered K source job (outside x n t r) (outside new m u s) a) same h

@@ -1,44 +1,46 @@
 -- What the top call answers.
-use Rattle.std.specs.Prelude.{◌≡◌, ◌⊎◌, ℕ, ◌<◌, ◌≤◌, Bool, true, false, List, [], ◌∷◌, length, codes, Option, Some, None, Result, Ok, Err, MatchOption}
+use Rattle.std.specs.Prelude.{◌≡◌, ◌⊎◌, ℕ, ◌<◌, ◌≤◌, Bool, true, false, List, [], ◌∷◌, ◌++◌, length, codes, Option, Some, None, Ok, Err}
 use Rattle.std.specs.Fmt.{decimal}
-use Rattle.std.specs.List.{All}
-use Rattle.thy_base.specs.declared.outside.FetchError.{FetchError}
-use Rattle.thy_base.specs.declared.outside.FetchError.TheVariants.{Failed as FetchFailed, NotThere, TooLong, Memory as FetchMemory}
+use Rattle.thy_base.specs.declared.outside.FetchError.TheVariants.{Failed as FetchFailed, NotThere, TooLong}
+use Rattle.thy_base.specs.declared.outside.PutError.{PutError}
+use Rattle.thy_base.specs.declared.outside.PutError.TheVariants.{Failed as PutFailed, Memory as PutMemory}
 use Rattle.thy_base.specs.declared.nvm.FitError.TheVariants.{Failed as FitFailed}
 use Rattle.thy_base.specs.declared.config.Config.{Config}
 use Rattle.thy_base.specs.declared.nvm.Shape.{Shape}
 use Rattle.thy_base.specs.Device.{Device, HasFailedToFit, fitted}
-use Rattle.thy_base.specs.Geometry.{parameters_of, program_size}
-use Rattle.thy_base.specs.Counts.{Rose}
-use Rattle.thy_base.specs.Outside.{Stock, Files, Stream}
+use Rattle.thy_base.specs.Geometry.{parameters_of}
+use Rattle.thy_base.specs.Outside.{Stock, Stream}
 use Rattle.thy_elf.specs.declared.error.ElfError.{ElfError}
 use Rattle.thy_elf.specs.declared.error.ElfError.TheVariants.{Memory as ElfMemory}
-use Rattle.thy_elf.specs.Image.{Contents, read_of}
 use Rattle.thy_elf.specs.Refusal.{called, index_of}
-use Rattle.thy_isa.specs.declared.state.Status.TheVariants.{Running, Trapped}
 use Rattle.thy_isa.specs.declared.state.Status.{Status}
+use Rattle.thy_isa.specs.declared.state.Status.TheVariants.{Running, Exited, Trapped}
 use Rattle.thy_isa.specs.Step.{State}
-use Rattle.thy_isa.specs.Storable.{IsByte}
-use Rattle.thy_plain.specs.Start.{start_state}
+use Rattle.thy_make.specs.File.{made_file}
 use Rattle.thy_text.specs.declared.closing.Closing.TheVariants as closing
 use Rattle.thy_text.specs.declared.closing.FetchFault.TheVariants as fault
 use Rattle.thy_text.specs.Closings.{closing_of}
-use Rattle.thy_text.specs.Lines.{joined, line_feed, ended_lines}
+use Rattle.thy_text.specs.Happening.{Happening}
+use Rattle.thy_text.specs.Lines.{joined, line_feed, ended_lines, made_of}
+use Rattle.thy_text.specs.Summary.{summary_of}
 use Rattle.thy_words.specs.declared.words.WordsError.{WordsError}
 use Rattle.thy_words.specs.declared.words.WordsError.TheVariants.{Usage, Word, Value, Memory as WordsMemory}
-use Rattle.thy_words.specs.Settings.{Job, run, plain, settings_of}
+use Rattle.thy_words.specs.Settings.{Job, Order, run, resume, bench, plain, make, settings_of}
 use Rattle.thy_view.specs.Kind.{KindOf}
 use Rattle.thy_view.specs.Origin.{Origin, at, runs_at}
-use Rattle.thy_run.specs.Laws.{Promise}
-use Rattle.thy_cli.specs.declared.answer.Answer.{Answer}
+use Rattle.thy_view.specs.Safe.{Safe}
+use Rattle.thy_run.specs.declared.ending.Ending.{Ending}
 use Rattle.thy_run.specs.declared.ending.Stop.{Stop}
 use Rattle.thy_run.specs.declared.ending.Stop.TheVariants.{Ended, Nvm, Memory, Terminal, Report, Limit}
-use Rattle.thy_run.specs.declared.ending.Ending.{Ending}
-use Rattle.thy_cli.specs.declared.refusal.Refusal.{Refusal}
-use Rattle.thy_cli.specs.declared.refusal.Refusal.TheVariants.{Words, Fetch, File, Device as DeviceRefusal, Memory as MemoryRefusal}
 use Rattle.thy_run.specs.Endings.{HasRun}
+use Rattle.thy_run.specs.Laws.{Promise, marks_of}
 use Rattle.thy_run.specs.Sending.{Sent}
 use Rattle.thy_run.specs.World.{Given}
+use Rattle.thy_cli.specs.declared.answer.Answer.{Answer}
+use Rattle.thy_cli.specs.declared.refusal.Refusal.{Refusal}
+use Rattle.thy_cli.specs.declared.refusal.Refusal.TheVariants.{Words, Fetch, File, Image, Input, Device as DeviceRefusal}
+use Rattle.thy_cli.specs.Saving.{IsPut, SavesUnder, saves}
+use Rattle.thy_cli.specs.Sources.{Source, file, made, image, Beginning, IsProgram, origin_for, ProgramDue}
 
 -- what a call finds outside, or leaves there
 pub record Outside : Type 0 where
@@ -53,75 +55,16 @@ outside shelf device terminal report =
 
 -- ---- refusals: what is due when
 
--- the most bytes that a file may have
-abbrev pub most_bytes : ℕ
-most_bytes = 67108864
-
--- bytes that may be those under a name: they are, where the shelf tells
-abbrev pub IsHeld : Stock → List ℕ → List ℕ → Type 0
-IsHeld stock name bytes =
-    (length bytes ≤ most_bytes) × ((files : Files) → stock.held ≡ Some files → files name ≡ Some bytes)
-
--- more bytes than a file may have
-abbrev pub IsTooLong : Option (List ℕ) → Type 0
-IsTooLong there = (bytes : List ℕ) × (there ≡ Some bytes) × (most_bytes < length bytes)
-
--- why a file was not had: the shelf's count rose, or a shelf that tells has nothing there, or too much; want of memory may
--- raise the count
-abbrev pub FetchDue : Stock → Stock → List ℕ → FetchError → Type 0
-FetchDue old new name FetchFailed = Rose old.faults new.faults
-FetchDue old new name NotThere =
-    MatchOption old.held (Rose old.faults new.faults) (λ files. (files name ≡ None) × (new.faults ≡ old.faults))
-FetchDue old new name TooLong =
-    MatchOption old.held (Rose old.faults new.faults) (λ files. IsTooLong (files name) × (new.faults ≡ old.faults))
-FetchDue old new name (FetchMemory e) = old.faults ≤ new.faults
-
--- what the bytes of a file mean to a job
-abbrev pub meaning_of : Job → List ℕ → Result Contents ElfError
-meaning_of job bytes = read_of bytes job.config.base (program_size (parameters_of job.config))
-
--- the bytes of an input: those under its name, or none where there is no name
-abbrev pub IsInput : Stock → Option (List ℕ) → List ℕ → Type 0
-IsInput stock None bytes = bytes ≡ []
-IsInput stock (Some name) bytes = IsHeld stock name bytes
-
--- file and input were had, and the file is a program
-pub record IsProgramFile (job : Job) (stock : Stock) : Type 0 where
-  pub bytes : List ℕ
-  pub are_bytes : All IsByte bytes
-  pub held : IsHeld stock job.file bytes
-  pub input : List ℕ
-  pub input_bytes : All IsByte input
-  pub is_input : IsInput stock job.input input
-  pub contents : Contents
-  pub means : meaning_of job bytes ≡ Ok contents
-
 -- why the words are refused: what they mean; want of memory is free
 abbrev pub WordsDue : List (List ℕ) → WordsError → Type 0
 WordsDue words (WordsMemory e) = Unit {0}
 WordsDue words e = settings_of words ≡ Err e
 
--- a job asks for this name: that of its file; or that of its input, once it has the file
-abbrev pub IsWanted : Job → Stock → List ℕ → Type 0
-IsWanted job stock name =
-    (name ≡ job.file) ⊎ ((job.input ≡ Some name) × (bytes : List ℕ) × IsHeld stock job.file bytes)
-
--- why a job has no program: its file or its input was not had, or both were and the file is none; want of memory is free,
--- and once both were had the shelf's count stays
-abbrev pub ProgramDue : Job → Stock → Stock → Refusal → Type 0
-ProgramDue job old new (Fetch name e) = IsWanted job old name.now × FetchDue old new name.now e
-ProgramDue job old new (File (ElfMemory e)) = new.faults ≡ old.faults
-ProgramDue job old new (File e) =
-    (new.faults ≡ old.faults) × ((bytes : List ℕ) × IsHeld old job.file bytes × (meaning_of job bytes ≡ Err e)
-    × (input : List ℕ) × IsInput old job.input input)
-ProgramDue job old new (MemoryRefusal e) = new.faults ≡ old.faults
-ProgramDue job old new other = ⊥
-
 -- why a job is not run: a program's device was not fitted, or there is no program, and the device is left alone
-abbrev pub RunDue : Job → Outside → Outside → Refusal → Type 0
-RunDue job before after (DeviceRefusal e) =
-    IsProgramFile job before.shelf × (after.shelf.faults ≡ before.shelf.faults) × HasFailedToFit e before.device after.device
-RunDue job before after r = ProgramDue job before.shelf after.shelf r × (after.device ≡ before.device)
+abbrev pub RunDue : Source → Job → Outside → Outside → Refusal → Type 0
+RunDue source job before after (DeviceRefusal e) =
+    IsProgram source job before.shelf × (after.shelf.faults ≡ before.shelf.faults) × HasFailedToFit e before.device after.device
+RunDue source job before after r = ProgramDue source job before.shelf after.shelf r × (after.device ≡ before.device)
 
 -- ---- what is told of a refusal
 
@@ -145,6 +88,8 @@ told_of (Fetch name NotThere) = (3, closing_of (closing.Fetch name fault.Missing
 told_of (Fetch name TooLong) = (3, closing_of (closing.Fetch name fault.TooLong))
 told_of (File (ElfMemory e)) = (9, closing_of closing.Memory)
 told_of (File e) = (4, file_line e)
+told_of (Image bad) = (5, closing_of (closing.Image bad))
+told_of (Input cursor length) = (10, closing_of (closing.Input cursor length))
 told_of (DeviceRefusal FitFailed) = (7, closing_of closing.Nvm)
 told_of other = (9, closing_of closing.Memory)
 
@@ -152,30 +97,25 @@ told_of other = (9, closing_of closing.Memory)
 abbrev pub Closes : List ℕ → Stream → Stream → Type 0
 Closes line old new = (failed : Bool) × Sent failed old new line
 
--- a call that began no run: a line says why
+-- a call that began no run: a line says why, and what stands on the shelf stays
 pub record IsRefused (r : Refusal) (before after : Outside) (a : Answer) : Type 0 where
   pub status : a.status ≡ (told_of r).0
   pub events : a.events ≡ []
   pub cycles : a.cycles ≡ 0
   pub shown_none : after.terminal ≡ before.terminal
+  pub held : after.shelf.held ≡ before.shelf.held
   pub closes : Closes (told_of r).1 before.report after.report
 
 -- ---- runs
-
--- what the run of a program file is about: the program from its entry, with what it reads
-abbrev pub origin_for : Job → Contents → List ℕ → Origin
-origin_for job contents input =
-    let p = parameters_of job.config in
-    record { geometry = p; start = start_state p contents; input = input; kept = None }
 
 -- the device that a job's machine is fitted with
 abbrev pub shape_for : {M : Type 0} → KindOf M → Config → Shape
 shape_for K c = record { blocks = K.blocks (parameters_of c); queue = c.nvmq; cuts = length c.cuts }
 
--- what a run is given besides its program, over a device that was fitted with zeros
-abbrev pub given_for : {M : Type 0} → KindOf M → Job → Device → Given
-given_for K job device =
-    record { config = job.config; digest = job.digest; fitted = fitted (shape_for K job.config) [] device }
+-- what a run is given besides its program, over a device that was fitted with its first blocks
+abbrev pub given_for : {M : Type 0} → KindOf M → Job → Beginning → Device → Given
+given_for K job begins device =
+    record { config = job.config; digest = job.digest; fitted = fitted (shape_for K job.config) begins.blocks device }
 
 -- the exit status of a stop
 abbrev pub stop_status : Stop → ℕ
@@ -187,28 +127,65 @@ stop_status Nvm = 7
 stop_status Limit = 8
 stop_status Memory = 9
 
--- the report takes the closing line of a stop; at an end there is none, and a report that failed gets no more
-abbrev pub ClosesRun : (deaf : Bool) → Stop → ℕ → Stream → Stream → Type 0
-ClosesRun false Terminal limit old new = Closes (closing_of closing.Terminal) old new
-ClosesRun false Nvm limit old new = Closes (closing_of closing.Nvm) old new
-ClosesRun false Limit limit old new = Closes (closing_of (closing.Limit limit)) old new
-ClosesRun false Memory limit old new = Closes (closing_of closing.Memory) old new
-ClosesRun deaf stop limit old new = new ≡ old
+-- and where the run was not saved, that of the put
+abbrev pub run_status : Stop → Option PutError → ℕ
+run_status stop None = stop_status stop
+run_status stop (Some PutFailed) = 3
+run_status stop (Some (PutMemory e)) = 9
 
--- A run was begun over a device that was fitted, and ended. Its cycles are those of a run, and keep what is promised
--- of every run; the sinks took what its events say.
-pub record IsRunOf {M : Type 0} (K : KindOf M) (job : Job) (before after : Outside) (a : Answer) : Type 0 where
-  pub file : IsProgramFile job before.shelf
-  pub calm : after.shelf.faults ≡ before.shelf.faults
+-- the closing line of a stop; at an end there is none
+abbrev pub stop_line : ℕ → Stop → List ℕ
+stop_line limit Terminal = closing_of closing.Terminal
+stop_line limit Nvm = closing_of closing.Nvm
+stop_line limit Limit = closing_of (closing.Limit limit)
+stop_line limit Memory = closing_of closing.Memory
+stop_line limit stop = []
+
+-- the line of a name under which nothing was put
+abbrev pub put_line : List ℕ → List ℕ
+put_line name = joined (codes "put " ∷ name ∷ codes " failed" ∷ line_feed ∷ [])
+
+-- and where the run was not saved, that of the put
+abbrev pub run_line : ℕ → Option (List ℕ) → Stop → Option PutError → List ℕ
+run_line limit (Some name) stop (Some PutFailed) = put_line name
+run_line limit save stop (Some (PutMemory e)) = closing_of closing.Memory
+run_line limit save stop why = stop_line limit stop
+
+-- the summary of a made program that exited
+abbrev pub summary_for : Source → Stop → List Happening → List ℕ
+summary_for (made n) (Ended (Exited value)) events = summary_of events
+summary_for source stop events = []
+
+-- the report takes the last lines, or fails in them; one that failed before gets no more
+abbrev pub ClosesRun : (deaf : Bool) → List ℕ → Stream → Stream → Type 0
+ClosesRun false lines old new = Closes lines old new
+ClosesRun true lines old new = new ≡ old
+
+-- whatever a cut leaves of a device is safe for the marks of a run's events
+abbrev pub IsSafeFor : {M : Type 0} → KindOf M → Origin → List Happening → Device → Type 0
+IsSafeFor K o events n = Safe K.decode o (marks_of o events).kept (marks_of o events).sealed n
+
+-- A run was begun over a device that was fitted, and stopped. Its cycles are those of a run, and keep what is promised
+-- of every run; the sinks took what its events say. It was saved, where that was asked for, and its device is safe also then.
+pub record IsRunOf {M : Type 0} (K : KindOf M) (source : Source) (job : Job) (before after : Outside) (a : Answer) : Type 0 where
+  pub program : IsProgram source job before.shelf
   pub ending : Ending
+  -- the device where the run stopped, and the report with the lines of its events
+  pub stood : Device
   pub told : Stream
-  pub ran : HasRun K (origin_for job file.contents file.input) (given_for K job before.device) after.device ending
+  pub ran : HasRun K (origin_for job program.begins program.input) (given_for K job program.begins before.device) stood ending
       before.terminal after.terminal before.report told
-  pub closes : ClosesRun ending.deaf ending.stop job.config.limit told after.report
+  -- why it was not saved, if it was to be and was not
+  pub why : Option PutError
+  pub saved : SavesUnder job.save (saves ending.stop) job.config stood after.device before.shelf after.shelf why
+  pub closes : ClosesRun ending.deaf
+      (summary_for source ending.stop ending.events ++ run_line job.config.limit job.save ending.stop why) told after.report
   pub events : a.events ≡ ending.events
   pub cycles : a.cycles ≡ ending.cycles
-  pub status : a.status ≡ stop_status ending.stop
-  pub promise : Promise K (origin_for job file.contents file.input) (given_for K job before.device) a.cycles a.events after.device
+  pub status : a.status ≡ run_status ending.stop why
+  pub promise : Promise K (origin_for job program.begins program.input) (given_for K job program.begins before.device)
+      a.cycles a.events stood
+  pub safe : IsSafeFor K (origin_for job program.begins program.input) a.events after.device
 
 -- ---- the plain machine
 
@@ -231,35 +208,54 @@ end_lines job s = ended_lines job.digest s.status s.count s.memory
 
 -- The plain machine took the program's steps from its start, up to the first state that runs no more or the limit;
 -- the sinks took what its last state says.
-pub record IsPlainOf (job : Job) (before after : Outside) (a : Answer) : Type 0 where
-  pub file : IsProgramFile job before.shelf
-  pub calm : after.shelf.faults ≡ before.shelf.faults
-  pub stops : StopsAt (origin_for job file.contents file.input) job.config.limit a.cycles
+pub record IsPlainOf (name : List ℕ) (job : Job) (before after : Outside) (a : Answer) : Type 0 where
+  pub program : IsProgram (file name) job before.shelf
+  pub shelf : after.shelf ≡ before.shelf
+  pub stops : StopsAt (origin_for job program.begins program.input) job.config.limit a.cycles
   pub last : State
-  pub is_last : last ≡ at (origin_for job file.contents file.input) a.cycles
+  pub is_last : last ≡ at (origin_for job program.begins program.input) a.cycles
   pub mute : Bool
   pub deaf : Bool
   pub shown_all : Sent mute before.terminal after.terminal last.console
   pub told : Stream
   pub read_all : Sent deaf before.report told (end_lines job last)
-  pub closes : ClosesRun deaf (plain_stop mute deaf last.status) job.config.limit told after.report
+  pub closes : ClosesRun deaf (stop_line job.config.limit (plain_stop mute deaf last.status)) told after.report
   pub status : a.status ≡ stop_status (plain_stop mute deaf last.status)
   pub events : a.events ≡ []
+
+-- ---- the made program
+
+-- what is told of a put: the made file's number and length, or why it was not put
+abbrev pub made_told : ℕ → List ℕ → Option PutError → ℕ × List ℕ
+made_told n name None = (0, made_of n (length (made_file n)))
+made_told n name (Some PutFailed) = (3, put_line name)
+made_told n name (Some (PutMemory e)) = (9, closing_of closing.Memory)
+
+-- the file of a number was put under a name, or was not
+pub record MakeAnswered (n : ℕ) (name : List ℕ) (before after : Outside) (a : Answer) : Type 0 where
+  pub why : Option PutError
+  pub put : IsPut name (made_file n) before.shelf after.shelf why
+  pub status : a.status ≡ (made_told n name why).0
+  pub closes : Closes (made_told n name why).1 before.report after.report
+  pub events : a.events ≡ []
+  pub cycles : a.cycles ≡ 0
+  pub shown_none : after.terminal ≡ before.terminal
+  pub device : after.device ≡ before.device
 
 -- ---- answers
 
 -- what the answer to a job is
-abbrev pub RunAnswered : {M : Type 0} → KindOf M → Job → Outside → Outside → Answer → Type 0
-RunAnswered K job before after a =
-    ((r : Refusal) × RunDue job before after r × IsRefused r before after a)
-    ⊎ IsRunOf K job before after a
+abbrev pub RunAnswered : {M : Type 0} → KindOf M → Source → Job → Outside → Outside → Answer → Type 0
+RunAnswered K source job before after a =
+    ((r : Refusal) × RunDue source job before after r × IsRefused r before after a)
+    ⊎ IsRunOf K source job before after a
 
 -- what it is on the plain machine, which leaves the device alone
-abbrev pub PlainAnswered : Job → Outside → Outside → Answer → Type 0
-PlainAnswered job before after a =
+abbrev pub PlainAnswered : List ℕ → Job → Outside → Outside → Answer → Type 0
+PlainAnswered name job before after a =
     (after.device ≡ before.device)
-    × (((r : Refusal) × ProgramDue job before.shelf after.shelf r × IsRefused r before after a)
-    ⊎ IsPlainOf job before after a)
+    × (((r : Refusal) × ProgramDue (file name) job before.shelf after.shelf r × IsRefused r before after a)
+    ⊎ IsPlainOf name job before after a)
 
 -- the words are refused, and shelf and device are left alone
 abbrev pub WordsRefused : List (List ℕ) → Outside → Outside → Answer → Type 0
@@ -267,11 +263,16 @@ WordsRefused words before after a =
     (e : WordsError) × WordsDue words e × (after.shelf ≡ before.shelf) × (after.device ≡ before.device)
     × IsRefused (Words e) before after a
 
--- What the answer to a call is: the words are refused, or they order a run, on the machine or on the plain machine, and this
--- is answered. What stands on the shelf stays.
+-- what the answer to an order is: a run of a source, one on the plain machine, or a made program
+abbrev pub OrderAnswered : {M : Type 0} → KindOf M → Order → Outside → Outside → Answer → Type 0
+OrderAnswered K (run name job) before after a = RunAnswered K (file name) job before after a
+OrderAnswered K (bench n job) before after a = RunAnswered K (made n) job before after a
+OrderAnswered K (resume name job) before after a = RunAnswered K (image name) job before after a
+OrderAnswered K (plain name job) before after a = PlainAnswered name job before after a
+OrderAnswered K (make n name) before after a = MakeAnswered n name before after a
+
+-- What the answer to a call is: the words are refused, or they give an order, and this is answered.
 abbrev pub Answered : {M : Type 0} → KindOf M → List (List ℕ) → Outside → Outside → Answer → Type 0
 Answered K words before after a =
-    (after.shelf.held ≡ before.shelf.held)
-    × (WordsRefused words before after a
-    ⊎ (((job : Job) × (settings_of words ≡ Ok (run job)) × RunAnswered K job before after a)
-    ⊎ ((job : Job) × (settings_of words ≡ Ok (plain job)) × PlainAnswered job before after a)))
+    WordsRefused words before after a
+    ⊎ ((order : Order) × (settings_of words ≡ Ok order) × OrderAnswered K order before after a)

@@ -1,3 +1,6 @@
+pub mod Sources
+pub mod Saving
+pub mod Restoring
 pub mod Answering
 pub mod Completing
 pub mod Planning

@@ -1,17 +1,38 @@
--- What the program keeps of a task: its file, and what is planned for the run of it.
-use Rattle.std.specs.Prelude.{◌≡◌, ℕ, List, length, None, option_map}
+-- What the program keeps of a job: where its program comes from, and what is planned for the run of it.
+use Rattle.std.specs.Prelude.{◌≡◌, ℕ, ◌<◌, Bool, List, [], length, Option, Some, None, Result, Ok, Err, IfOk, IfErr}
+use Rattle.thy_base.specs.declared.block.Block.{Block}
+use Rattle.thy_base.specs.declared.config.Config.{Config}
+use Rattle.thy_base.specs.declared.config.Parameters.{Parameters}
+use Rattle.thy_base.specs.declared.mark.Mark.{Mark}
 use Rattle.thy_base.specs.Bytes.{bytes_of}
+use Rattle.thy_base.specs.Device.{Device}
 use Rattle.thy_base.specs.Geometry.{IsInRange, parameters_of, program_size}
 use Rattle.thy_base.specs.Outside.{Stock}
+use Rattle.thy_base.specs.Places.{image_blocks}
 use Rattle.thy_elf.specs.Image.{contents_of}
+use Rattle.thy_flat.specs.Flat.{AllLong}
+use Rattle.thy_isa.specs.Step.{state_of}
 use Rattle.thy_plain.specs.Start.{start_state}
+use Rattle.thy_record.specs.Decoded.{At}
+use Rattle.thy_record.specs.Images.{decode_image}
+use Rattle.thy_run.specs.Cuts.{cuts_among}
 use Rattle.thy_run.specs.Going.{origin_of, IsPlanned}
 use Rattle.thy_run.specs.declared.plan.Plan.{Plan}
+use Rattle.thy_text.specs.Happening.{Happening}
+use Rattle.thy_view.specs.Kind.{KindOf}
+use Rattle.thy_view.specs.Origin.{Origin, IsOrigin}
+use Rattle.thy_view.specs.Safe.{ceiling}
 use Rattle.thy_words.specs.Settings.{Job}
-use Rattle.thy_cli.specs.Answering.{IsProgramFile, told_of}
+use Rattle.thy_cli.specs.declared.answer.Answer.{Answer}
 use Rattle.thy_cli.specs.declared.refusal.Refusal.{Refusal}
+use Rattle.thy_cli.specs.declared.refusal.Refusal.TheVariants.{Fetch}
+use Rattle.thy_cli.specs.declared.restoring.Beginning.{Beginning as BeginningValue}
+use Rattle.thy_cli.specs.declared.source.Had.{Had}
 use Rattle.thy_cli.specs.declared.source.Program.{Program}
-use Rattle.thy_cli.specs.declared.source.Task.{Task as TaskValue}
+use Rattle.thy_cli.specs.declared.source.Source.{Source as SourceValue}
+use Rattle.thy_cli.specs.declared.source.Source.TheVariants as value
+use Rattle.thy_cli.specs.Answering.{Outside, told_of, RunAnswered}
+use Rattle.thy_cli.specs.Sources.{Source, file, made, image, Beginning, FetchDue, IsHad, IsProgram, origin_for, ProgramDue}
 
 -- the exit status of a refusal, and its line
 abbrev pub refused_status : Refusal → ℕ
@@ -20,31 +41,126 @@ refused_status r = (told_of r).0
 abbrev pub refused_line : Refusal → List ℕ
 refused_line r = (told_of r).1
 
--- the task that the program has in hand
-abbrev pub named : TaskValue → Job
-named task = record {
-  file = task.file.now;
-  input = option_map (λ name. name.now) task.input;
-  config = task.config;
-  digest = task.digest;
-}
+-- why there is no result, if there is none
+abbrev pub err_of : {T E : Type 0} → Result T E → Option E
+err_of (Ok value) = None
+err_of (Err e) = Some e
 
--- a program is what a task's file means, with the task's input
-pub record IsProgramOf (task : Job) (stock : Stock) (p : Program) : Type 0 where
-  pub geometry : p.geometry ≡ parameters_of task.config
+-- what the program keeps of a source
+abbrev pub named : SourceValue → Source
+named (value.File name) = file name.now
+named (value.Made n) = made n
+named (value.Image name) = image name.now
+
+-- what comes from it is a program file
+abbrev pub IsElf : Source → Type 0
+IsElf (image name) = ⊥
+IsElf source = Unit {0}
+
+-- a fetch under this name did not give its bytes
+abbrev pub IsNotHad : List ℕ → Stock → Stock → Refusal → Type 0
+IsNotHad name old new (Fetch text e) = (text.now ≡ name) × FetchDue old new text.now e
+IsNotHad name old new r = ⊥
+
+-- bytes and input were had for a job, in the numbers of its configuration
+pub record IsHadFor (source : Source) (job : Job) (stock : Stock) (p : Parameters) (had : Had) : Type 0 where
+  pub numbers : p ≡ parameters_of job.config
+  pub in_range : IsInRange p
+  pub both : IsHad source job stock (bytes_of had.bytes) (bytes_of had.input)
+
+-- a program is what the bytes of a program file mean, in the numbers of a job
+pub record IsProgramOf (source : Source) (job : Job) (stock : Stock) (p : Program) : Type 0 where
+  pub geometry : p.geometry ≡ parameters_of job.config
   pub in_range : IsInRange p.geometry
-  pub file : IsProgramFile task stock
-  pub contents : file.contents ≡ contents_of p.image
-  pub input : bytes_of p.input ≡ file.input
+  pub program : IsProgram source job stock
+  pub start : program.begins.start ≡ start_state p.geometry (contents_of p.image)
+  pub made : program.begins.kept ≡ None
+  pub bare : program.begins.blocks ≡ []
+  pub input : bytes_of p.input ≡ program.input
   pub size : length (bytes_of p.image.memory) ≡ program_size p.geometry
 
--- a plan is that of a task: its program is what the file means, and reads the input
-pub record IsPlanOf (task : Job) (stock : Stock) (p : Plan) : Type 0 where
-  pub config : p.config ≡ task.config
-  pub geometry : p.geometry ≡ parameters_of task.config
-  pub digest : p.digest ≡ task.digest
-  pub file : IsProgramFile task stock
-  pub start : (origin_of p).start ≡ start_state p.geometry file.contents
-  pub input : (origin_of p).input ≡ file.input
-  pub from_file : p.start.kept ≡ None
+-- what is read of a program file's bytes, or why that is none
+abbrev pub ReadsProgram : Parameters → Had → Result Program Refusal → Type 0
+ReadsProgram p had result =
+    (source : Source) (job : Job) (stock : Stock) → IsElf source → IsHadFor source job stock p had
+    → IfOk result (λ program. IsProgramOf source job stock program)
+
+abbrev pub RefusesProgram : {T : Type 0} → Parameters → Had → Result T Refusal → Type 0
+RefusesProgram p had result =
+    (source : Source) (job : Job) (stock : Stock) → IsElf source → IsHadFor source job stock p had
+    → IfErr result (λ r. ProgramDue source job stock stock r)
+
+-- an image means the checkpoint that a beginning was taken from
+pub record IsImageOf (p : Parameters) (epoch : ℕ) (b : Beginning) : Type 0 where
+  pub many : length b.blocks ≡ image_blocks p
+  pub long : AllLong b.blocks
+  pub decodes : decode_image p ceiling b.blocks ≡ At epoch b.start
+
+-- how a plan's run begins, over these blocks
+abbrev pub beginning_of : Plan → List Block → Beginning
+beginning_of p blocks = record { start = (origin_of p).start; kept = p.start.kept; blocks = blocks }
+
+-- a device's first blocks fit a beginning: they are none, or those of an image that means its checkpoint
+abbrev pub FitsKept : Parameters → Beginning → Option Mark → Type 0
+FitsKept p b None = b.blocks ≡ []
+FitsKept p b (Some m) = IsImageOf p m.epoch b
+
+abbrev pub Fits : Parameters → Beginning → Type 0
+Fits p b = FitsKept p b b.kept
+
+-- a run begins with what the bytes of a source mean, and can begin so
+pub record Begins (source : Source) (job : Job) (stock : Stock) (b : BeginningValue) : Type 0 where
+  pub program : IsProgram source job stock
+  pub start : state_of b.start.state ≡ program.begins.start
+  pub kept : b.start.kept ≡ program.begins.kept
+  pub input : bytes_of b.start.input ≡ program.input
+  pub blocks : b.blocks.items ≡ program.begins.blocks
+  pub origin : IsOrigin (origin_for job program.begins program.input)
+  pub fits : Fits (parameters_of job.config) program.begins
+
+-- how a run of a source begins, or why there is none
+abbrev pub BeginsAs : Source → Parameters → Had → Result BeginningValue Refusal → Type 0
+BeginsAs source p had result =
+    (job : Job) (stock : Stock) → IsHadFor source job stock p had → IfOk result (λ b. Begins source job stock b)
+
+abbrev pub RefusesAs : Source → Parameters → Had → Result BeginningValue Refusal → Type 0
+RefusesAs source p had result =
+    (job : Job) (stock : Stock) → IsHadFor source job stock p had
+    → IfErr result (λ r. ProgramDue source job stock stock r)
+
+-- configuration, the input's name and the flag for digests are a job's
+pub record IsJobOf (job : Job) (config : Config) (input : Option (List ℕ)) (digest : Bool) : Type 0 where
+  pub configures : job.config ≡ config
+  pub reads : job.input ≡ input
+  pub digests : job.digest ≡ digest
+
+-- the numbers and the input's name are a job's
+pub record IsPlannedFor (job : Job) (p : Parameters) (input : Option (List ℕ)) : Type 0 where
+  pub numbers : p ≡ parameters_of job.config
+  pub reads : job.input ≡ input
+
+-- a plan can be run over a device with these first blocks
+pub record CanRun (p : Plan) (blocks : List Block) : Type 0 where
   pub planned : IsPlanned p
+  pub fits : FitsKept p.geometry (beginning_of p blocks) p.start.kept
+
+-- after a run the device has room for one more image; its images are those of the cuts that were told, and it has its blocks
+pub record HasRoom (n : Device) (events : List Happening) (blocks : ℕ) : Type 0 where
+  pub room : length n.left < n.left_room
+  pub cuts : length n.left ≡ length (cuts_among events)
+  pub whole : length n.image ≡ blocks
+
+-- a plan is that of a job: its run begins with what the bytes of a source mean
+pub record IsPlanOf (source : Source) (job : Job) (stock : Stock) (p : Plan) (blocks : List Block) : Type 0 where
+  pub config : p.config ≡ job.config
+  pub digest : p.digest ≡ job.digest
+  pub program : IsProgram source job stock
+  pub origin : origin_of p ≡ origin_for job program.begins program.input
+  pub over : blocks ≡ program.begins.blocks
+  pub fits : Fits (parameters_of job.config) program.begins
+  pub planned : IsPlanned p
+
+-- what a run of a plan is to a job that it is the plan of
+abbrev pub RunsPlan : {M : Type 0} → KindOf M → Source → Option (List ℕ) → Plan → List Block → Outside → Outside → Answer → Type 0
+RunsPlan K source save p blocks before after a =
+    (job : Job) → job.save ≡ save → IsPlanOf source job before.shelf p blocks → RunAnswered K source job before after a

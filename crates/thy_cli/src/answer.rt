@@ -1,8 +1,9 @@
 //! What the top call answers.
 
 ghost use Rattle.std.specs.Prelude.{◌≡◌};
-ghost use Rattle.thy_cli.specs.Answering.{stop_status};
+ghost use Rattle.thy_cli.specs.Answering.{run_status, stop_status};
 
+use thy_base::PutError;
 use thy_isa::Status;
 use thy_run::Stop;
 use thy_text::Events;
@@ -10,7 +11,7 @@ use thy_text::Events;
 /// The answer of the top call.
 #[derive(Drop)]
 pub struct Answer {
-    /// The exit status: 0 where the program exited, 1 where it trapped, 2 to 9 as `docs/FORMATS.md`
+    /// The exit status: 0 where the program exited, 1 where it trapped, 2 to 10 as `docs/FORMATS.md`
     /// lists them.
     pub status: u8,
     /// What happened, in order.
@@ -30,5 +31,16 @@ pub fn status_of(stop: Stop) -> u8
         Stop::Nvm => 7,
         Stop::Limit => 8,
         Stop::Memory => 9,
+    }
+}
+
+/// The status of a run that stopped; where it was to be saved and was not, that of the put.
+pub fn run_status(stop: Stop, why: Option<PutError>) -> u8
+    ensures { result ≡ run_status stop why }
+{
+    match why {
+        None => status_of(stop),
+        Some(PutError::Failed) => 3,
+        Some(PutError::Memory(_)) => 9,
     }
 }

@@ -1,13 +1,16 @@
 //! The end of a report, and the answer.
-ghost use Rattle.std.specs.Prelude.{◌≡◌, false};
+ghost use Rattle.std.specs.Prelude.{◌≡◌, ◌++◌, false, option_map};
 ghost use Rattle.thy_text.specs.Closings.{closing_of};
-ghost use Rattle.thy_cli.specs.Answering.{ClosesRun, stop_status};
+ghost use Rattle.thy_cli.specs.Answering.{Closes, ClosesRun, run_line, run_status, stop_line, summary_for};
+ghost use Rattle.thy_cli.specs.Planning.{named};
 ghost use Rattle.thy_run.specs.Sending.{Sent};
 
-use crate::answer::{Answer, status_of};
-use thy_base::Sink;
+use crate::answer::{Answer, run_status};
+use crate::source::Source;
+use thy_base::{PutError, Sink};
+use thy_isa::Status;
 use thy_run::{Ending, Stop};
-use thy_text::{Closing, write_closing};
+use thy_text::{Closing, write_closing, write_summary};
 
 /// Writes a closing line, and answers whether the report failed.
 pub fn close<R: Sink>(closing: Closing, report: &mut R) -> bool
@@ -19,10 +22,22 @@ pub fn close<R: Sink>(closing: Closing, report: &mut R) -> bool
     }
 }
 
-/// Writes the closing line of a stop; at an end there is none. Where the report fails in it, the answer
-/// stays.
-fn close_run<R: Sink>(stop: Stop, limit: u64, report: &mut R)
-    ensures { ClosesRun false stop limit (R.stream report.old) (R.stream report.new) }
+/// Writes the summary of a made program that exited, and answers whether the report failed.
+fn sum_up<R: Sink>(source: Source, ending: &Ending, report: &mut R) -> bool
+    ensures { Sent result (R.stream report.old) (R.stream report.new)
+        (summary_for (named source.entry) ending.now.stop ending.now.events) }
+{
+    match (source, ending.stop) {
+        (Source::Made(_), Stop::Ended(Status::Exited(_))) => {
+            write_summary(&ending.events, report).is_err()
+        }
+        _ => false,
+    }
+}
+
+/// Writes the closing line of a stop; at an end there is none.
+fn close_stop<R: Sink>(stop: Stop, limit: u64, report: &mut R)
+    ensures { Closes (stop_line limit stop) (R.stream report.old) (R.stream report.new) }
 {
     match stop {
         Stop::Ended(_) | Stop::Report => {}
@@ -41,19 +56,68 @@ fn close_run<R: Sink>(stop: Stop, limit: u64, report: &mut R)
     }
 }
 
-/// The answer of a run that has ended. A report that has not failed gets the closing line.
-pub fn answer<R: Sink>(ending: Ending, limit: u64, report: &mut R) -> Answer
-    ensures closes { ClosesRun ending.deaf ending.stop limit
+/// Writes the closing line of a run: where it was to be saved and was not, that of the put.
+fn close_line<R: Sink>(
+    save: Option<&str>,
+    stop: Stop,
+    why: Option<PutError>,
+    limit: u64,
+    report: &mut R,
+)
+    ensures { Closes (run_line limit (option_map (λ n. n.now) save.entry) stop why)
+        (R.stream report.old) (R.stream report.new) }
+{
+    match (why, save) {
+        (Some(PutError::Memory(_)), _) => {
+            close(Closing::Memory, report);
+        }
+        (Some(PutError::Failed), Some(name)) => {
+            close(Closing::Put(name), report);
+        }
+        _ => close_stop(stop, limit, report),
+    }
+}
+
+/// Writes the last lines of a run. Where the report fails in them, the answer stays.
+fn close_run<R: Sink>(
+    source: Source,
+    save: Option<&str>,
+    ending: &Ending,
+    why: Option<PutError>,
+    limit: u64,
+    report: &mut R,
+)
+    ensures { Closes (summary_for (named source.entry) ending.now.stop ending.now.events
+            ++ run_line limit (option_map (λ n. n.now) save.entry) ending.now.stop why)
+        (R.stream report.old) (R.stream report.new) }
+{
+    if !sum_up(source, ending, report) {
+        close_line(save, ending.stop, why, limit, report);
+    }
+}
+
+/// The answer of a run that has stopped. A report that has not failed gets the last lines.
+pub fn answer<R: Sink>(
+    source: Source,
+    save: Option<&str>,
+    ending: Ending,
+    why: Option<PutError>,
+    limit: u64,
+    report: &mut R,
+) -> Answer
+    ensures closes { ClosesRun ending.deaf
+        (summary_for (named source.entry) ending.stop ending.events
+            ++ run_line limit (option_map (λ n. n.now) save.entry) ending.stop why)
         (R.stream report.old) (R.stream report.new) }
     ensures events { result.events ≡ ending.events }
     ensures cycles { result.cycles ≡ ending.cycles }
-    ensures status { result.status ≡ stop_status ending.stop }
+    ensures status { result.status ≡ run_status ending.stop why }
 {
     if !ending.deaf {
-        close_run(ending.stop, limit, report);
+        close_run(source, save, &ending, why, limit, report);
     }
     Answer {
-        status: status_of(ending.stop),
+        status: run_status(ending.stop, why),
         events: ending.events,
         cycles: ending.cycles,
     }

@@ -3,9 +3,14 @@
 #![tactic(auto)]
 
 mod answer;
+mod beginning;
 mod close;
+mod making;
 mod plain;
 mod refusal;
+mod restoring;
+mod running;
+mod saving;
 mod source;
 mod top;
 

@@ -1,23 +1,27 @@
 //! A program on the plain machine.
-ghost use Rattle.std.specs.Prelude.{◌≡◌, None};
+ghost use Rattle.std.specs.Prelude.{◌≡◌, None, length, IfOk, IfErr, OnOk, option_map};
 ghost use Rattle.thy_base.specs.Bytes.{bytes_of};
 ghost use Rattle.thy_base.specs.Config.{fault_of as range_fault};
 ghost use Rattle.thy_base.specs.Device.{Device as DeviceValue};
+ghost use Rattle.thy_base.specs.Geometry.{IsInRange, program_size};
 ghost use Rattle.thy_text.specs.Lines.{ended_lines};
+ghost use Rattle.thy_words.specs.Settings.{Job as JobValue, job_of};
 ghost use Rattle.thy_cli.specs.Answering.{outside, PlainAnswered, plain_stop};
-ghost use Rattle.thy_cli.specs.Planning.{named};
+ghost use Rattle.thy_cli.specs.Planning.{IsJobOf, IsPlannedFor, IsProgramOf};
+ghost use Rattle.thy_cli.specs.Sources.{ProgramDue, file};
 ghost use Rattle.thy_run.specs.Sending.{Sent};
 
 use crate::answer::Answer;
 use crate::close::answer;
 use crate::refusal::{Refusal, refuse};
-use crate::source::{Program, Task, fetch_program};
+use crate::source::{Program, Source, fetch_both, program_of};
 use std::alloc::Global;
-use thy_base::{Shelf, Sink};
+use thy_base::{Config, Geometry, Shelf, Sink};
 use thy_isa::{MachState, Status};
 use thy_plain::Plain;
 use thy_run::{Ending, Stop, write_bytes};
 use thy_text::{Events, write_ended};
+use thy_words::{Job, WordsError};
 
 /// Writes how the program has ended, if it has, and answers whether the report failed.
 fn write_end<R: Sink>(state: &MachState, digest: bool, report: &mut R) -> bool
@@ -47,27 +51,58 @@ fn plain_stop(mute: bool, deaf: bool, status: Status) -> Stop
     }
 }
 
-/// Runs a program file on the plain machine. The console of its last state goes to the terminal, and
-/// how it has ended to the report; `cycles` is the number of its steps, and there are no events.
-pub fn plain_file<H: Shelf, T: Sink, R: Sink>(
+/// Fetches a program file and its input, and reads the file.
+fn plain_program<'a, H: Shelf>(
     alloc: Global,
-    task: &Task,
+    name: &'a str,
+    input: Option<&'a str>,
+    geometry: Geometry,
+    shelf: &mut H,
+) -> Result<Program, Refusal<'a>>
+    requires { IsInRange geometry }
+    ensures refusal { (job : JobValue) → IsPlannedFor job geometry (option_map (λ n. n.now) input.entry)
+        → IfErr result (ProgramDue (file name.now) job (H.stock shelf.old) (H.stock shelf.new)) }
+    ensures held { (H.stock shelf.new).held ≡ (H.stock shelf.old).held }
+    ensures calm { OnOk result ((H.stock shelf.new).faults ≡ (H.stock shelf.old).faults) }
+    ensures program { (job : JobValue) → IsPlannedFor job geometry (option_map (λ n. n.now) input.entry)
+        → IfOk result (λ p. IsProgramOf (file name.now) job (H.stock shelf.old) p) }
+    ensures size { IfOk result (λ p. length (bytes_of p.image.memory) ≡ program_size p.geometry) }
+{
+    match fetch_both(alloc, Source::File(name), input, shelf) {
+        Ok(had) => program_of(alloc, geometry, had),
+        Err(refusal) => Err(refusal),
+    }
+}
+
+/// Runs a program file on the plain machine, with what this job says.
+fn run_plain<'a, H: Shelf, T: Sink, R: Sink>(
+    alloc: Global,
+    name: &'a str,
+    input: Option<&'a str>,
+    config: &Config,
+    digest: bool,
     shelf: &mut H,
     terminal: &mut T,
     report: &mut R,
 ) -> Answer
-    requires { range_fault task.now.config ≡ None }
-    ensures held { (H.stock shelf.new).held ≡ (H.stock shelf.old).held }
-    ensures answer { (n : DeviceValue) →
+    requires { range_fault config.now ≡ None }
+    ensures { (n : DeviceValue) (job : JobValue) → IsJobOf job config.now (option_map (λ n. n.now) input.entry) digest →
         let before = outside (H.stock shelf.old) n (T.stream terminal.old) (R.stream report.old) in
         let after = outside (H.stock shelf.new) n (T.stream terminal.new) (R.stream report.new) in
-        PlainAnswered (named task.now) before after result }
+        PlainAnswered name.now job before after result }
 {
+    let geometry = match Geometry::new(config) {
+        Ok(geometry) => geometry,
+        Err(fault) => {
+            let error = WordsError::Value(fault.field, fault.value);
+            return refuse(alloc, Refusal::Words(error), report);
+        }
+    };
     let Program {
         geometry,
         image,
         input,
-    } = match fetch_program(alloc, task, shelf) {
+    } = match plain_program(alloc, name, input, geometry, shelf) {
         Ok(program) => program,
         Err(refusal) => return refuse(alloc, refusal, report),
     };
@@ -77,7 +112,7 @@ pub fn plain_file<H: Shelf, T: Sink, R: Sink>(
             let cycles = machine.run(limit);
             let state = machine.state();
             let mute = write_bytes(state.console.as_slice(), terminal);
-            let deaf = write_end(state, task.digest, report);
+            let deaf = write_end(state, digest, report);
             let ending = Ending {
                 stop: plain_stop(mute, deaf, state.status),
                 events: Events::new(alloc),
@@ -85,8 +120,34 @@ pub fn plain_file<H: Shelf, T: Sink, R: Sink>(
                 mute,
                 deaf,
             };
-            answer(ending, limit, report)
+            answer(Source::File(name), None, ending, None, limit, report)
         }
         Err(error) => refuse(alloc, Refusal::Memory(error), report),
     }
+}
+
+/// Runs a program file on the plain machine. The console of its last state goes to the terminal, and
+/// how it has ended to the report; `cycles` is the number of its steps, and there are no events.
+pub fn plain_file<H: Shelf, T: Sink, R: Sink>(
+    alloc: Global,
+    name: &str,
+    job: Job,
+    shelf: &mut H,
+    terminal: &mut T,
+    report: &mut R,
+) -> Answer
+    requires { range_fault job.config ≡ None }
+    ensures { (n : DeviceValue) →
+        let before = outside (H.stock shelf.old) n (T.stream terminal.old) (R.stream report.old) in
+        let after = outside (H.stock shelf.new) n (T.stream terminal.new) (R.stream report.new) in
+        PlainAnswered name.now (job_of job) before after result }
+{
+    let Job {
+        config,
+        input,
+        save: _,
+        digest,
+    } = job;
+    let input = input.as_deref();
+    run_plain(alloc, name, input, &config, digest, shelf, terminal, report)
 }

@@ -9,6 +9,7 @@ use crate::close::close;
 use std::alloc::{AllocError, Global};
 use thy_base::{FetchError, FitError, Sink};
 use thy_elf::ElfError;
+use thy_record::BadImage;
 use thy_text::{Closing, Events, FetchFault};
 use thy_words::WordsError;
 
@@ -21,6 +22,15 @@ pub enum Refusal<'a> {
     Fetch(&'a str, FetchError),
     /// The file is refused.
     File(ElfError),
+    /// The image is refused.
+    Image(BadImage),
+    /// What the image's program has read of its input is more than the input.
+    Input {
+        /// How many bytes it has read.
+        cursor: u64,
+        /// How many the input has.
+        length: u64,
+    },
     /// The device could not be fitted.
     Device(FitError),
     /// There was not enough memory.
@@ -40,6 +50,8 @@ fn status(refusal: &Refusal) -> u8
         Refusal::Words(_) => 2,
         Refusal::Fetch(..) => 3,
         Refusal::File(_) => 4,
+        Refusal::Image(_) => 5,
+        Refusal::Input { .. } => 10,
         Refusal::Device(FitError::Failed) => 7,
     }
 }
@@ -105,6 +117,8 @@ pub fn refuse<R: Sink>(alloc: Global, refusal: Refusal, report: &mut R) -> Answe
         Refusal::Words(error) => words_closing(error),
         Refusal::Fetch(name, error) => fetch_closing(name, error),
         Refusal::File(error) => file_closing(error),
+        Refusal::Image(bad) => Closing::Image(bad),
+        Refusal::Input { cursor, length } => Closing::Input { cursor, length },
         Refusal::Device(error) => device_closing(error),
         Refusal::Memory(_) => Closing::Memory,
     };

@@ -1,31 +1,36 @@
-//! From names on the shelf to the program and the input that stand there.
-ghost use Rattle.std.specs.Prelude.{◌≡◌, List, ℕ, None, IfOk, IfErr, OnOk};
+//! Where the program of a run comes from, and how it is had.
+ghost use Rattle.std.specs.Prelude.{◌≡◌, ℕ, List, length, IfOk, IfErr, OnOk, option_map};
 ghost use Rattle.thy_base.specs.Bytes.{bytes_of};
-ghost use Rattle.thy_base.specs.Config.{fault_of as range_fault};
-ghost use Rattle.thy_base.specs.Geometry.{parameters_of};
-ghost use Rattle.thy_cli.specs.Answering.{ProgramDue, IsHeld, IsInput};
-ghost use Rattle.thy_cli.specs.Planning.{IsProgramOf, named};
+ghost use Rattle.thy_base.specs.Geometry.{IsInRange, program_size};
+ghost use Rattle.thy_words.specs.Settings.{Job};
+ghost use Rattle.thy_cli.specs.Sources.{AreBytesOf, IsHad, IsHeld, IsInput, ProgramDue, Source as SourceValue};
+ghost use Rattle.thy_cli.specs.Planning.{IsNotHad, ReadsProgram, RefusesProgram, named};
 
 use crate::refusal::Refusal;
 use std::alloc::Global;
-use thy_base::{Bytes, Config, Geometry, Shelf};
+use thy_base::{Bytes, Geometry, Shelf};
 use thy_elf::{Image, read};
 use thy_plain::are_bytes;
-use thy_words::WordsError;
 
-/// The most bytes that a program file may have, and an input.
+/// The most bytes that a file may have which is fetched.
 const MOST_BYTES: u64 = 67_108_864;
 
-/// What is to be done with a program file.
+/// Where the program of a run comes from.
+#[derive(Clone, Copy)]
+pub enum Source<'a> {
+    /// A program file of this name on the shelf.
+    File(&'a str),
+    /// The program file that is made from this number.
+    Made(u64),
+    /// A saved image of this name on the shelf.
+    Image(&'a str),
+}
+
+/// The bytes of a source, and what its program reads.
 #[derive(Drop)]
-pub struct Task<'a> {
-    /// The file's name on the shelf.
-    pub file: &'a str,
-    /// The name on the shelf of what the program is to read, if it has an input.
-    pub input: Option<&'a str>,
-    pub config: Config,
-    /// Whether the line of the program's end is followed by a digest of its memory.
-    pub digest: bool,
+pub struct Had {
+    pub bytes: Bytes,
+    pub input: Bytes,
 }
 
 /// A program as its file means it, in the numbers of its configuration, and its input.
@@ -36,97 +41,107 @@ pub struct Program {
     pub input: Bytes,
 }
 
-/// Fetches a program file.
-fn fetch_file<'a, H: Shelf>(
-    alloc: Global,
-    task: &Task<'a>,
-    shelf: &mut H,
-) -> Result<Bytes, Refusal<'a>>
-    ensures refusal { IfErr result
-        (ProgramDue (named task.now) (H.stock shelf.old) (H.stock shelf.new)) }
+/// Fetches what stands under a name.
+fn fetch<'a, H: Shelf>(alloc: Global, name: &'a str, shelf: &mut H) -> Result<Bytes, Refusal<'a>>
+    ensures refusal { IfErr result (IsNotHad name.now (H.stock shelf.old) (H.stock shelf.new)) }
     ensures held { (H.stock shelf.new).held ≡ (H.stock shelf.old).held }
     ensures calm { OnOk result ((H.stock shelf.new).faults ≡ (H.stock shelf.old).faults) }
-    ensures file { IfOk result (λ file.
-        IsHeld (H.stock shelf.old) (named task.now).file (bytes_of file)) }
+    ensures bytes { IfOk result (λ b. IsHeld (H.stock shelf.old) name.now (bytes_of b)) }
 {
-    match shelf.fetch(alloc, task.file, MOST_BYTES) {
-        Ok(file) => Ok(Bytes::from_vec(file)),
-        Err(error) => Err(Refusal::Fetch(task.file, error)),
-    }
-}
-
-/// Fetches the input of a program whose file was had; nothing is fetched where it has none.
-fn fetch_input<'a, H: Shelf>(
-    alloc: Global,
-    task: &Task<'a>,
-    shelf: &mut H,
-) -> Result<Bytes, Refusal<'a>>
-    ensures refusal { (file : List ℕ) → IsHeld (H.stock shelf.old) (named task.now).file file
-        → IfErr result (ProgramDue (named task.now) (H.stock shelf.old) (H.stock shelf.new)) }
-    ensures held { (H.stock shelf.new).held ≡ (H.stock shelf.old).held }
-    ensures calm { OnOk result ((H.stock shelf.new).faults ≡ (H.stock shelf.old).faults) }
-    ensures input { IfOk result (λ input.
-        IsInput (H.stock shelf.old) (named task.now).input (bytes_of input)) }
-{
-    let Some(name) = task.input else {
-        return Ok(Bytes::new(alloc));
-    };
     match shelf.fetch(alloc, name, MOST_BYTES) {
-        Ok(input) => Ok(Bytes::from_vec(input)),
+        Ok(bytes) => Ok(Bytes::from_vec(bytes)),
         Err(error) => Err(Refusal::Fetch(name, error)),
     }
 }
 
-/// Fetches a program file and its input, and reads the file, for a machine of these numbers.
-fn program_for<'a, H: Shelf>(
+/// The bytes of a source.
+fn source_bytes<'a, H: Shelf>(
     alloc: Global,
-    task: &Task<'a>,
-    geometry: Geometry,
+    source: Source<'a>,
     shelf: &mut H,
-) -> Result<Program, Refusal<'a>>
-    requires { geometry ≡ parameters_of task.now.config }
-    ensures refusal { IfErr result
-        (ProgramDue (named task.now) (H.stock shelf.old) (H.stock shelf.new)) }
+) -> Result<Bytes, Refusal<'a>>
+    ensures refusal { (job : Job) →
+        IfErr result (ProgramDue (named source.entry) job (H.stock shelf.old) (H.stock shelf.new)) }
     ensures held { (H.stock shelf.new).held ≡ (H.stock shelf.old).held }
     ensures calm { OnOk result ((H.stock shelf.new).faults ≡ (H.stock shelf.old).faults) }
-    ensures program { IfOk result (λ p. IsProgramOf (named task.now) (H.stock shelf.old) p) }
+    ensures bytes { IfOk result (λ b.
+        AreBytesOf (named source.entry) (H.stock shelf.old) (bytes_of b)) }
 {
-    let file = match fetch_file(alloc, task, shelf) {
-        Ok(file) => file,
+    match source {
+        Source::File(name) | Source::Image(name) => fetch(alloc, name, shelf),
+        Source::Made(number) => match thy_make::file(alloc, number) {
+            Ok(bytes) => Ok(bytes),
+            Err(error) => Err(Refusal::Memory(error)),
+        },
+    }
+}
+
+/// What a program reads, whose bytes were had; nothing is fetched where it has no input.
+fn input_bytes<'a, H: Shelf>(
+    alloc: Global,
+    name: Option<&'a str>,
+    shelf: &mut H,
+) -> Result<Bytes, Refusal<'a>>
+    ensures refusal { (source : SourceValue) (job : Job) (bytes : List ℕ)
+        → job.input ≡ option_map (λ n. n.now) name.entry → AreBytesOf source (H.stock shelf.old) bytes
+        → IfErr result (ProgramDue source job (H.stock shelf.old) (H.stock shelf.new)) }
+    ensures held { (H.stock shelf.new).held ≡ (H.stock shelf.old).held }
+    ensures calm { OnOk result ((H.stock shelf.new).faults ≡ (H.stock shelf.old).faults) }
+    ensures input { IfOk result (λ b.
+        IsInput (H.stock shelf.old) (option_map (λ n. n.now) name.entry) (bytes_of b)) }
+{
+    match name {
+        Some(name) => fetch(alloc, name, shelf),
+        None => Ok(Bytes::new(alloc)),
+    }
+}
+
+/// Fetches the bytes of a source, and then what its program reads.
+pub fn fetch_both<'a, H: Shelf>(
+    alloc: Global,
+    source: Source<'a>,
+    input: Option<&'a str>,
+    shelf: &mut H,
+) -> Result<Had, Refusal<'a>>
+    ensures refusal { (job : Job) → job.input ≡ option_map (λ n. n.now) input.entry
+        → IfErr result (ProgramDue (named source.entry) job (H.stock shelf.old) (H.stock shelf.new)) }
+    ensures held { (H.stock shelf.new).held ≡ (H.stock shelf.old).held }
+    ensures calm { OnOk result ((H.stock shelf.new).faults ≡ (H.stock shelf.old).faults) }
+    ensures had { (job : Job) → job.input ≡ option_map (λ n. n.now) input.entry
+        → IfOk result (λ h. IsHad (named source.entry) job (H.stock shelf.old) (bytes_of h.bytes) (bytes_of h.input)) }
+{
+    let bytes = match source_bytes(alloc, source, shelf) {
+        Ok(bytes) => bytes,
         Err(refusal) => return Err(refusal),
     };
-    let input = match fetch_input(alloc, task, shelf) {
+    let input = match input_bytes(alloc, input, shelf) {
         Ok(input) => input,
         Err(refusal) => return Err(refusal),
     };
-    are_bytes(file.as_slice());
+    are_bytes(bytes.as_slice());
     are_bytes(input.as_slice());
+    Ok(Had { bytes, input })
+}
+
+/// Reads a program file, for a machine of these numbers.
+pub fn program_of<'a>(
+    alloc: Global,
+    geometry: Geometry,
+    had: Had,
+) -> Result<Program, Refusal<'a>>
+    requires { IsInRange geometry }
+    ensures refusal { RefusesProgram geometry had result }
+    ensures program { ReadsProgram geometry had result }
+    ensures size { IfOk result (λ p. length (bytes_of p.image.memory) ≡ program_size p.geometry) }
+{
+    let Had { bytes, input } = had;
     let base = geometry.numbers().base;
-    match read(alloc, file.as_slice(), base, geometry.program_size()) {
+    match read(alloc, bytes.as_slice(), base, geometry.program_size()) {
         Ok(image) => Ok(Program {
             geometry,
             image,
             input,
         }),
         Err(error) => Err(Refusal::File(error)),
-    }
-}
-
-/// Fetches a program file and its input, and reads the file; or says why there is no program.
-pub fn fetch_program<'a, H: Shelf>(
-    alloc: Global,
-    task: &Task<'a>,
-    shelf: &mut H,
-) -> Result<Program, Refusal<'a>>
-    requires { range_fault task.now.config ≡ None }
-    ensures refusal { IfErr result
-        (ProgramDue (named task.now) (H.stock shelf.old) (H.stock shelf.new)) }
-    ensures held { (H.stock shelf.new).held ≡ (H.stock shelf.old).held }
-    ensures calm { OnOk result ((H.stock shelf.new).faults ≡ (H.stock shelf.old).faults) }
-    ensures program { IfOk result (λ p. IsProgramOf (named task.now) (H.stock shelf.old) p) }
-{
-    match Geometry::new(&task.config) {
-        Ok(geometry) => program_for(alloc, task, geometry, shelf),
-        Err(error) => Err(Refusal::Words(WordsError::Value(error.field, error.value))),
     }
 }

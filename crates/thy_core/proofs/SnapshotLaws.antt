@@ -1,5 +1,5 @@
 -- What is read behind the boot: the plain machine's state, and the console of the committed checkpoint.
-use Rattle.std.proofs.Common.{◌≡◌, ◌⊎◌, ℕ, ◌*◌, ◌-◌, ◌≤◌, ◌||◌, ◌&&◌, ◌==◌, not, true, false, Some, Result, Ok, Err, IfOk, List, length, take, drop, inl, inr, sym, ◌∙◌, ap, subst, arith}
+use Rattle.std.proofs.Common.{◌≡◌, ◌⊎◌, ℕ, ◌*◌, ◌-◌, ◌≤◌, ◌||◌, ◌&&◌, ◌==◌, not, true, false, Some, Result, Ok, Err, IfOk, List, length, take, drop, inl, inr, refl, sym, ◌∙◌, ap, subst, arith}
 use Rattle.std.proofs.lemmas.Bool.{eqb-true}
 use Rattle.std.proofs.lemmas.List.{length-take, length-drop, take_min}
 use Rattle.thy_base.specs.declared.block.Block.{Block}
@@ -21,16 +21,18 @@ use Rattle.thy_isa.specs.declared.state.MachState.{MachState}
 use Rattle.thy_isa.specs.OnBlocks.{state_from}
 use Rattle.thy_isa.specs.Step.{State, state_of, state_with}
 use Rattle.thy_view.specs.declared.error.CoreError.{CoreError}
+use Rattle.thy_view.specs.declared.view.Phase.{Phase}
 use Rattle.thy_view.specs.declared.view.Phase.TheVariants.{Boot, Run, Halt}
 use Rattle.thy_view.specs.declared.view.View.{View}
-use Rattle.thy_view.specs.Kind.{IsSnapshot}
+use Rattle.thy_view.specs.Kind.{IsSnapshot, Snapshots}
 use Rattle.thy_view.specs.Origin.{Origin, at}
 use Rattle.thy_view.specs.Views.{is_boot, is_halt, is_between}
 use Rattle.thy_scheme.specs.Scheme.{SchemeOf, CanRun}
 use Rattle.thy_scheme.specs.Laws.{IsLawful, IsCommitted}
+use Rattle.thy_core_model.specs.Kind.{kind_over}
 use Rattle.thy_core_model.specs.Machine.{Machine, memory_of, run_view, view_in, view_of}
 use Rattle.thy_core_model.specs.Sound.{SoundRun, SoundIn, Sound}
-use Rattle.thy_core.specs.Reading.{IsRoomy}
+use Rattle.thy_core.specs.Reading.{IsRoomy, IsUnwritten, ReadsState}
 use Rattle.thy_core.proofs.TakenLaws.{phase_in}
 
 -- the bytes of memory and console make the state
@@ -75,6 +77,12 @@ boot_shown K l o k m n s e behind =
     let both : true ≡ false = sym (ap is_boot (phase_in K l o k m n Boot s e)) ∙ behind in
     cc
 
+-- nor is it over
+pub boot_unwritten : {S : Type 0} (m : Machine S) → m.phase ≡ Boot → IsUnwritten m → ⊥
+boot_unwritten m e u =
+    let both : true ≡ false = sym (ap is_boot e) ∙ u.booted in
+    cc
+
 -- between two instructions none is in hand
 no_hand : {S : Type 0} (K : SchemeOf S) (o : Origin) (k : ℕ) (m : Machine S) (n : Device) → Sound K o k m n
     → ((m.phase ≡ Run) ⊎ (m.phase ≡ Halt)) → is_between (run_view m) ≡ true → m.hart.hand ≡ Nothing
@@ -84,25 +92,43 @@ no_hand K o k m n s (inl e) between =
     run.epoch.began (eqb-true m.spent 0 spent)
 no_hand K o k m n s (inr e) between = ((sound-behind K o k m n s (inr e)).ended.halted e).0.hand
 
--- so what was read is the plain machine's state
+-- so none has written a block
+unwritten_behind : {S : Type 0} (K : SchemeOf S) (o : Origin) (k : ℕ) (m : Machine S) (n : Device) (phase : Phase) → Sound K o k m n
+    → m.phase ≡ phase → ((m.phase ≡ Run) ⊎ (m.phase ≡ Halt)) → is_boot phase ≡ false → is_between (view_of K o m n) ≡ true → IsUnwritten m
+unwritten_behind K o k m n phase s e behind booted between = record {
+  booted = ap is_boot e ∙ booted;
+  unwritten = ap has_written (no_hand K o k m n s behind (sym (ap is_between (view-behind K o m n behind)) ∙ between));
+}
+
+unwritten_in : {S : Type 0} (K : SchemeOf S) (l : IsLawful K) (o : Origin) (k : ℕ) (m : Machine S) (n : Device) (phase : Phase) → Sound K o k m n
+    → m.phase ≡ phase → is_between (view_of K o m n) ≡ true → IsUnwritten m
+unwritten_in K l o k m n Boot s e between = absurd (boot_between K l o k m n s e between)
+unwritten_in K l o k m n Run s e between = unwritten_behind K o k m n Run s e (inl e) refl between
+unwritten_in K l o k m n Halt s e between = unwritten_behind K o k m n Halt s e (inr e) refl between
+
+-- and what is read where none has, is the state there too
+pub reads_between : {S : Type 0} (K : SchemeOf S) (l : IsLawful K) (m : Machine S) (n : Device) (r : Result MachState CoreError) → ReadsState K m n r
+    → Snapshots (kind_over K) m n r
+reads_between K l m n r reads = λ o k s between. reads o k s (unwritten_in K l o k m n m.phase s refl between)
+
+-- where none has written a block, what was read is the plain machine's state
 pub snapshot_is : {S : Type 0} (K : SchemeOf S) (o : Origin) (k : ℕ) (m : Machine S) (n : Device) (s : MachState) → Sound K o k m n
-    → ((m.phase ≡ Run) ⊎ (m.phase ≡ Halt)) → is_between (view_of K o m n) ≡ true → state_of s ≡ current m.hart (memory_of K m n)
+    → ((m.phase ≡ Run) ⊎ (m.phase ≡ Halt)) → IsUnwritten m → state_of s ≡ current m.hart (memory_of K m n)
     → IsSnapshot o (view_of K o m n) s
-snapshot_is K o k m n s sound e between is =
+snapshot_is K o k m n s sound e calm is =
     let run = sound-behind K o k m n sound e in
     let shown = view-behind K o m n e in
-    let hand = no_hand K o k m n sound e (sym (ap is_between shown) ∙ between) in
-    let now : state_of s ≡ at o m.hart.cpu.count = is ∙ run.follows.current (ap has_written hand) in
+    let now : state_of s ≡ at o m.hart.cpu.count = is ∙ run.follows.current calm.unwritten in
     subst (λ v. IsSnapshot o v s) (sym shown) (record {
       state = now;
       count = ap (λ (t : State). t.count) now ∙ run.counted.count;
     })
 
 pub snapshot_when : {S : Type 0} (K : SchemeOf S) (o : Origin) (k : ℕ) (m : Machine S) (n : Device) (r : Result MachState CoreError) → Sound K o k m n
-    → ((m.phase ≡ Run) ⊎ (m.phase ≡ Halt)) → is_between (view_of K o m n) ≡ true → IfOk r (λ s. state_of s ≡ current m.hart (memory_of K m n))
+    → ((m.phase ≡ Run) ⊎ (m.phase ≡ Halt)) → IsUnwritten m → IfOk r (λ s. state_of s ≡ current m.hart (memory_of K m n))
     → IfOk r (λ s. IsSnapshot o (view_of K o m n) s)
-snapshot_when K o k m n (Ok s) sound e between is = snapshot_is K o k m n s sound e between is
-snapshot_when K o k m n (Err error) sound e between is = tt
+snapshot_when K o k m n (Ok s) sound e calm is = snapshot_is K o k m n s sound e calm is
+snapshot_when K o k m n (Err error) sound e calm is = tt
 
 -- ---- the committed checkpoint's console
 

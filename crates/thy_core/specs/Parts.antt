@@ -29,6 +29,7 @@ machine_of p = record {
   spent = p.spent;
   lap = p.lap;
   idle = p.idle;
+  failed = p.failed;
 }
 
 -- the actor of a turn

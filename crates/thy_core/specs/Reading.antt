@@ -1,13 +1,20 @@
 -- What is read of a machine behind its boot.
-use Rattle.std.specs.Prelude.{◌≡◌, ℕ, ◌≤◌, List, length}
+use Rattle.std.specs.Prelude.{◌≡◌, ℕ, ◌≤◌, false, List, length, Result, IfOk}
 use Rattle.thy_base.specs.declared.block.Block.{Block}
 use Rattle.thy_base.specs.declared.config.Parameters.{Parameters}
 use Rattle.thy_base.specs.Device.{Device}
 use Rattle.thy_base.specs.Geometry.{IsInRange, memory_blocks, console_room}
+use Rattle.thy_hart.specs.Core.{has_written}
+use Rattle.thy_isa.specs.declared.state.MachState.{MachState}
+use Rattle.thy_view.specs.declared.error.CoreError.{CoreError}
+use Rattle.thy_view.specs.Kind.{IsSnapshot}
+use Rattle.thy_view.specs.Origin.{Origin}
+use Rattle.thy_view.specs.Views.{is_boot}
 use Rattle.thy_scheme.specs.Scheme.{SchemeOf}
 use Rattle.thy_core.specs.declared.reading.Version.{Version}
 use Rattle.thy_core.specs.declared.reading.Version.TheVariants.{Executing, Committed}
-use Rattle.thy_core_model.specs.Machine.{Machine, memory_of}
+use Rattle.thy_core_model.specs.Machine.{Machine, memory_of, view_of}
+use Rattle.thy_core_model.specs.Sound.{Sound}
 
 -- memory in a version
 abbrev pub blocks_in : {S : Type 0} → SchemeOf S → Version → Machine S → Device → List Block
@@ -19,3 +26,13 @@ pub record IsRoomy (p : Parameters) (len : ℕ) (blocks : List Block) : Type 0 w
   pub range : IsInRange p
   pub whole : length blocks ≡ memory_blocks p
   pub room : len ≤ console_room p
+
+-- the boot is over, and the instruction in hand, if there is one, has written no block
+pub record IsUnwritten {S : Type 0} (m : Machine S) : Type 0 where
+  pub booted : is_boot m.phase ≡ false
+  pub unwritten : has_written m.hart.hand ≡ false
+
+-- at a moment of a run where that holds, what was read is the plain machine's state
+abbrev pub ReadsState : {S : Type 0} → SchemeOf S → Machine S → Device → Result MachState CoreError → Type 0
+ReadsState K m n result =
+    (o : Origin) (k : ℕ) → Sound K o k m n → IsUnwritten m → IfOk result (λ s. IsSnapshot o (view_of K o m n) s)

@@ -1,10 +1,11 @@
 //! The machine and its calls.
-ghost use Rattle.std.specs.Prelude.{◌≡◌, ℕ, IfOk, IfErr, OnOk};
+ghost use Rattle.std.specs.Prelude.{◌≡◌, ℕ, IfOk, IfErr, OnOk, is_err};
 ghost use Rattle.thy_base.specs.Device.{Device, IsFramed, CountsFault};
-ghost use Rattle.thy_view.specs.Kind.{CanStep, CanRead, LeadsOn, FailsSafe, IsDramOf, Snapshots, ShowsConsole, TellsLoading, HasFailedToRead};
+ghost use Rattle.thy_view.specs.Kind.{CanStep, CanRead, LeadsOn, FailsSafe, IsDramOf, ShowsConsole, TellsLoading, HasFailedToRead};
 ghost use Rattle.thy_view.specs.Origin.{Origin};
 ghost use Rattle.thy_core_model.specs.Kind.{kind_over};
 ghost use Rattle.thy_core_model.specs.Sound.{Sound, IsPowered};
+ghost use Rattle.thy_core.specs.Reading.{ReadsState};
 
 use crate::parts::Parts;
 use crate::step::take_step;
@@ -69,9 +70,17 @@ impl<S: Scheme> Machine<S> {
         power::is_loading(&self.parts)
     }
 
+    /// Whether a step failed since power came on.
+    pub fn failed(&self) -> bool
+        ensures { result ≡ self.now.failed }
+    {
+        self.parts.failed
+    }
+
     /// One cycle: the pick's, or where its actor has nothing to do the hart's. Takes no memory.
     ///
-    /// After an error the NVM may hold what the failed call left, and nothing but `cut` is to be asked of the machine.
+    /// After an error the NVM may hold what the failed call left, and nothing but `failed` and `cut` is to be asked of
+    /// the machine.
     pub fn step<N: Nvm>(
         &mut self,
         pick: Pick,
@@ -83,17 +92,19 @@ impl<S: Scheme> Machine<S> {
         ensures safe { FailsSafe (kind_over S.scheme) start.now pick self.old (N.device nvm.old) (N.device nvm.new) result }
         ensures frame { IsFramed (N.device nvm.old) (N.device nvm.new) }
         ensures cause { CountsFault result (N.device nvm.old).faults (N.device nvm.new).faults }
+        ensures failed { self.new.failed ≡ is_err result }
     {
         take_step(&mut self.parts, pick, start, nvm)
     }
 
-    /// The state that the machine executes, where no instruction is under way.
+    /// Once the boot is over, the state that the machine executes, where no instruction that is under way has written a
+    /// block: it is that from before this instruction. Not to be asked after a step that failed.
     ///
     /// # Errors
     /// `Nvm` where the NVM fails, `Memory` for want of memory.
     pub fn snapshot<N: Nvm>(&self, alloc: Global, nvm: &mut N) -> Result<MachState, CoreError>
         requires { CanRead (kind_over S.scheme) self.now (N.device nvm.old) }
-        ensures state { Snapshots (kind_over S.scheme) self.now (N.device nvm.old) result }
+        ensures state { ReadsState S.scheme self.now (N.device nvm.old) result }
         ensures same { OnOk result (N.device nvm.new ≡ N.device nvm.old) }
         ensures err { IfErr result (λ e. HasFailedToRead e (N.device nvm.old) (N.device nvm.new)) }
         ensures frame { IsFramed (N.device nvm.old) (N.device nvm.new) }
@@ -102,7 +113,7 @@ impl<S: Scheme> Machine<S> {
     }
 
     /// Once the boot is over, the console of the committed checkpoint from byte `from` on. It is this also when the
-    /// hart has gone on.
+    /// hart has gone on. Not to be asked after a step that failed.
     ///
     /// # Errors
     /// `Nvm` where the NVM fails, `Memory` for want of memory.

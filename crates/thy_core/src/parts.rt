@@ -43,4 +43,6 @@ pub(crate) struct Parts<S> {
     pub lap: u64,
     /// The epoch that was sealed last had retired nothing.
     pub idle: bool,
+    /// A step failed since power came on.
+    pub failed: bool,
 }

@@ -44,6 +44,7 @@ pub(crate) fn power_on<S: Scheme>(
         spent: 0,
         lap: 0,
         idle: false,
+        failed: false,
     })
 }
 

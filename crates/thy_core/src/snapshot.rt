@@ -6,10 +6,11 @@ ghost use Rattle.thy_hart.specs.Steps.{current};
 ghost use Rattle.thy_isa.specs.Step.{state_of, state_with};
 ghost use Rattle.thy_base.specs.Bytes.{bytes_of};
 ghost use Rattle.thy_scheme.specs.Scheme.{CanRun};
-ghost use Rattle.thy_view.specs.Kind.{CanRead, Snapshots, ShowsConsole, HasFailedToRead};
+ghost use Rattle.thy_view.specs.Kind.{CanRead, ShowsConsole, HasFailedToRead};
 ghost use Rattle.thy_core_model.specs.Kind.{kind_over};
 ghost use Rattle.thy_core_model.specs.Machine.{memory_of};
 ghost use Rattle.thy_core.specs.Parts.{machine_of};
+ghost use Rattle.thy_core.specs.Reading.{ReadsState};
 
 use crate::parts::Parts;
 use crate::reading::{Version, read_blocks, read_console};
@@ -57,14 +58,15 @@ fn executing<N: Nvm, S: Scheme>(
     Ok(state_with(cpu, memory, console))
 }
 
-/// The state that a machine executes, where no instruction is under way. In the boot it has no memory, and nothing is read.
+/// The state that a machine executes, where no instruction that is under way has written a block. In the boot it has no
+/// memory, and nothing is read.
 pub(crate) fn snapshot<N: Nvm, S: Scheme>(
     alloc: Global,
     m: &Parts<S>,
     nvm: &mut N,
 ) -> Result<MachState, CoreError>
     requires { CanRead (kind_over S.scheme) (machine_of m.now) (N.device nvm.old) }
-    ensures state { Snapshots (kind_over S.scheme) (machine_of m.now) (N.device nvm.old) result }
+    ensures state { ReadsState S.scheme (machine_of m.now) (N.device nvm.old) result }
     ensures same { OnOk result (N.device nvm.new ≡ N.device nvm.old) }
     ensures err { IfErr result (λ e. HasFailedToRead e (N.device nvm.old) (N.device nvm.new)) }
     ensures frame { IsFramed (N.device nvm.old) (N.device nvm.new) }

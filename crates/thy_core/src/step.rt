@@ -1,5 +1,5 @@
 //! One cycle of a pick.
-ghost use Rattle.std.specs.Prelude.{◌≡◌, ◌&&◌, not};
+ghost use Rattle.std.specs.Prelude.{◌≡◌, ◌&&◌, not, is_err};
 ghost use Rattle.thy_base.specs.Device.{IsFramed, CountsFault};
 ghost use Rattle.thy_view.specs.Kind.{CanStep, LeadsOn, FailsSafe};
 ghost use Rattle.thy_view.specs.Turn.{told_at};
@@ -15,7 +15,7 @@ use thy_record::Start;
 use thy_scheme::Scheme;
 use thy_view::{Phase, Stall, Stepped};
 
-/// Takes one cycle: the pick's, or where its actor has nothing to do the hart's.
+/// Takes one cycle: the pick's, or where its actor has nothing to do the hart's. Notes where it failed.
 pub(crate) fn take_step<N: Nvm, S: Scheme>(
     m: &mut Parts<S>,
     pick: Pick,
@@ -28,15 +28,21 @@ pub(crate) fn take_step<N: Nvm, S: Scheme>(
     ensures safe { FailsSafe (kind_over S.scheme) start.now pick (machine_of m.old) (N.device nvm.old) (N.device nvm.new) result }
     ensures frame { IsFramed (N.device nvm.old) (N.device nvm.new) }
     ensures cause { CountsFault result (N.device nvm.old).faults (N.device nvm.new).faults }
+    ensures failed { m.new.failed ≡ is_err result }
 {
     let before = m.phase;
     let turn = next_turn(m, pick, nvm.queued());
-    let did = cycle(m, turn, start, nvm)?;
-    Ok(Stepped {
-        did,
-        stall: told(turn),
-        ended: has_halted(before, m.phase),
-    })
+    match cycle(m, turn, start, nvm) {
+        Ok(did) => Ok(Stepped {
+            did,
+            stall: told(turn),
+            ended: has_halted(before, m.phase),
+        }),
+        Err(error) => {
+            m.failed = true;
+            Err(error)
+        }
+    }
 }
 
 /// The stall that is told at a turn.

@@ -218,6 +218,7 @@ module _ {S : Type 0} (K : SchemeOf S) (o : Origin) (cycles : ℕ) (m : Machine 
           origin = at.sound.origin;
           geometry = refl;
           up = up;
+          unfailed = at.sound.unfailed;
           small = small_step o cycles (K.boot_view o m.scheme n) (K.boot_view o t new) at.sound.small DidBoot step;
           moment = record {
             boots = b.answers.0;
@@ -258,6 +259,7 @@ module _ {S : Type 0} (K : SchemeOf S) (o : Origin) (cycles : ℕ) (m : Machine 
           origin = at.sound.origin;
           geometry = refl;
           up = up;
+          unfailed = at.sound.unfailed;
           small = small_step o cycles (K.boot_view o m.scheme n) (view_of K o next new) at.sound.small did stepped;
           moment = sound_in K o next new runs (run_here K o m cpu epoch t new at.sound.origin blank booted holds);
         };

@@ -73,6 +73,7 @@ leads-booting {S} K o cycles did m n t new at-m phase other up boots small step 
         origin = at-m.sound.origin;
         geometry = at-m.sound.geometry;
         up = up;
+        unfailed = at-m.sound.unfailed;
         small = subst (IsSmall (cycles + 1)) (sym new-view) small;
         moment = subst (λ x. SoundIn K o x (after_drain t m) new) (sym phase) (record {
           boots = boots;

@@ -28,6 +28,7 @@ promotion_leads {S} K = λ o cycles m n t new at sealing whole p.
       behind = behind;
       geometry = refl;
       up = up_after Promoted n new at.sound.up p.acts;
+      unfailed = refl;
       moment = sound_kept K o m n t (m.spent + 1) new at.lawful s p.sound p.keeps (λ none. absurd (omega (arith, none)))
           (omega (arith, spent, hart_left, owed, engine, nearer));
       step = (sealing.phase, refl);
@@ -61,6 +62,7 @@ merge_leads {S} K = λ o cycles m n t at sealing whole clean p.
       behind = behind;
       geometry = refl;
       up = at.sound.up;
+      unfailed = refl;
       moment = sound_kept K o m n t (m.spent + 1) n at.lawful s p.sound p.keeps (λ none. absurd (omega (arith, none)))
           (omega (arith, spent, hart_left, owed, engine, promotions));
       step = (sealing.phase, refl);

@@ -48,6 +48,7 @@ module _ {S : Type 0} (K : SchemeOf S) (o : Origin) (cycles : ℕ) (m : Machine 
         behind = behind;
         geometry = refl;
         up = at.sound.up;
+        unfailed = refl;
         moment = sound_drained m.scheme (drained n) (holds.drained_sound some) (holds.drained_keeps some);
         step = refl;
         acts = record { action = Drain; asked = refl; left = refl };
@@ -64,6 +65,7 @@ dram_drain_leads {S} K = λ o cycles m n t at behind some drains.
       behind = behind;
       geometry = refl;
       up = at.sound.up;
+      unfailed = refl;
       moment = sound_drained K o cycles m n at behind t n drains.sound drains.keeps;
       step = refl;
       acts = record { action = Rest; asked = refl; left = refl };
@@ -90,6 +92,7 @@ nothing_leads {S} K = λ o cycles m n at phase.
       behind = behind;
       geometry = refl;
       up = at.sound.up;
+      unfailed = refl;
       moment = sound_drained K o cycles m n at behind m.scheme n sound (keeps_itself K m.scheme n);
       step = (phase, refl);
       acts = record { action = Rest; asked = refl; left = refl };

@@ -74,6 +74,7 @@ module _ {S : Type 0} (K : SchemeOf S) (o : Origin) (cycles : ℕ) (m : Machine 
         behind = behind;
         geometry = refl;
         up = up_after (Engine step) n new here.sound.up acts;
+        unfailed = refl;
         moment = sound_kept K o m n t (m.spent + 1) new here.lawful run sound keeps (λ none. absurd (omega (arith, none))) below;
         step = moves;
         acts = acts;
@@ -95,6 +96,7 @@ module _ {S : Type 0} (K : SchemeOf S) (o : Origin) (cycles : ℕ) (m : Machine 
         behind = behind;
         geometry = refl;
         up = up_after (Engine CommitWritten) n new here.sound.up (e.acts m.lap);
+        unfailed = refl;
         moment = record {
           checkpoints = e.sound;
           held = held_kept K m next n new refl refl here.lawful e.keeps.held run.held;
@@ -131,6 +133,7 @@ module _ {S : Type 0} (K : SchemeOf S) (o : Origin) (cycles : ℕ) (m : Machine 
         behind = subst (λ p. phase_after (Committed epoch) m.ends p ≢ Boot) (sym phase) (ended_behind m.ends);
         geometry = refl;
         up = up_after did n new here.sound.up (e.acts m.lap);
+        unfailed = refl;
         moment = record {
           checkpoints = e.sound;
           held = held_kept K m next n new refl refl here.lawful e.keeps.held run.held;

@@ -144,6 +144,7 @@ flush_leads {S} K = λ o cycles m n c t new flushed at sealing whole f.
       behind = behind;
       geometry = refl;
       up = g.up;
+      unfailed = refl;
       moment = record {
         checkpoints = g.stays.sound g.up;
         held = record {

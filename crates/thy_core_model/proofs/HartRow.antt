@@ -163,6 +163,7 @@ leads-next K o cycles m n lap did h c t new s at turn hs harts x =
         origin = at.sound.origin;
         geometry = on.geometry;
         up = on.up;
+        unfailed = at.sound.unfailed;
         small = subst (IsSmall (cycles + 1)) (sym new-view)
             (small_step o cycles (run_view m) (run_view (hart_on lap h c t m)) (subst (IsSmall cycles) old-view at.sound.small) did x.step);
         moment = subst (λ phase. SoundIn K o phase (hart_on lap h c t m) new) (sym turn.phase) run';

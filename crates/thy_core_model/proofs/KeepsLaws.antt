@@ -81,6 +81,7 @@ pub record GoesOn {S : Type 0} (K : SchemeOf S) (o : Origin) (did : Did) (m : Ma
   pub behind : next.phase ≢ Boot
   pub geometry : next.hart.geometry ≡ m.hart.geometry
   pub up : new.down ≡ false
+  pub unfailed : next.failed ≡ m.failed
   pub moment : SoundRun K o next new
   pub step : CoreStep o (run_view m) did (run_view next)
   pub acts : Acts did n new
@@ -107,6 +108,7 @@ module _ {S : Type 0} (K : SchemeOf S) (o : Origin) (cycles : ℕ) (did : Did)
           origin = at.sound.origin;
           geometry = g.geometry ∙ at.sound.geometry;
           up = g.up;
+          unfailed = g.unfailed ∙ at.sound.unfailed;
           small = small_on at.sound.small behind g;
           moment = in_run K o next.phase next new g.behind g.moment;
         };

@@ -43,6 +43,7 @@ over_scheme p s = record {
   spent = 0;
   lap = 0;
   idle = false;
+  failed = false;
 }
 
 powers : {S : Type 0} (K : SchemeOf S) → IsLawfulScheme K → (p : Parameters) → (m : Machine S) × IsPowered K p m
@@ -63,6 +64,7 @@ powers K l p =
           lap = refl;
           idle = refl;
         };
+        unfailed = refl;
       },
     )
 

@@ -78,6 +78,7 @@ module _ {S : Type 0} (K : SchemeOf S) (o : Origin) (cycles : ℕ) (m : Machine 
     origin = origin;
     geometry = on.geometry;
     up = found.up;
+    unfailed = on.unfailed;
     small = subst (IsSmall cycles) (sym view_found) small;
     moment = subst (λ p. SoundIn K o p m n) (sym on.phase) (record { boots = (lawful.finds o m.scheme n origin on.scheme found).boots; blank = on.blank });
   }

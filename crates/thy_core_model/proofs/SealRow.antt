@@ -174,6 +174,7 @@ seal_leads {S} K = λ o cycles m n t cause at sealing whole bare clean over_is p
       behind = behind;
       geometry = refl;
       up = at.sound.up;
+      unfailed = refl;
       moment = record {
         checkpoints = sound;
         held = record {

@@ -37,6 +37,8 @@ pub record Machine (S : Type 0) : Type 0 where
   pub lap : ℕ
   -- the epoch that was sealed last had retired nothing
   pub idle : Bool
+  -- a step failed since power came on
+  pub failed : Bool
 
 -- hart and cache over the scheme
 abbrev pub moment_of : {S : Type 0} → SchemeOf S → Machine S → Device → Moment

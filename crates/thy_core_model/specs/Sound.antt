@@ -156,6 +156,7 @@ pub record Sound {S : Type 0} (K : SchemeOf S) (o : Origin) (cycles : ℕ) (m : 
   pub origin : IsOrigin o
   pub geometry : m.hart.geometry ≡ o.geometry
   pub up : n.down ≡ false
+  pub unfailed : m.failed ≡ false
   pub small : IsSmall cycles (view_of K o m n)
   pub moment : SoundIn K o m.phase m n
 
@@ -165,3 +166,4 @@ pub record IsPowered {S : Type 0} (K : SchemeOf S) (p : Parameters) (m : Machine
   pub geometry : m.hart.geometry ≡ p
   pub scheme : K.powered p m.scheme
   pub blank : IsBlank m
+  pub unfailed : m.failed ≡ false

@@ -1,5 +1,5 @@
--- A device keeps the picks of the cuts that fell, and is fitted no second time.
-use Rattle.std.proofs.Common.{◌≡◌, ℕ, zero, suc, ◌+◌, Bool, true, false, MatchBool, List, [], ◌∷◌, ◌++◌, sym, ◌∙◌, ap, subst, arith}
+-- A device keeps the picks of the cuts that fell, is fitted no second time, and so keeps its size and its room.
+use Rattle.std.proofs.Common.{◌≡◌, ℕ, zero, suc, ◌+◌, Bool, true, false, MatchBool, List, [], ◌∷◌, ◌++◌, length, sym, ◌∙◌, ap, subst, arith}
 use Rattle.thy_base.specs.Device.{Device, IsFramed, cut_to}
 use Rattle.thy_view.specs.Kind.{KindOf}
 use Rattle.thy_view.specs.Origin.{Origin}
@@ -7,37 +7,48 @@ use Rattle.thy_run.specs.Laws.{torn}
 use Rattle.thy_run.specs.World.{World, Given, Steps, is_due, IsCutOff, tear, Ran}
 use Rattle.thy_run.proofs.StepFrames.{Steps-framed}
 
--- the device keeps the picks of the first cuts
-pub record KeepsPicks (given : Given) (passed : ℕ) (n : Device) : Type 0 where
+-- the device keeps the picks of the first cuts, and what it was fitted with
+pub record StaysFitted (given : Given) (passed : ℕ) (n : Device) : Type 0 where
   pub picks : n.picks ≡ torn given.config.tears passed
   pub fits : n.fits ≡ given.fitted.fits
+  pub blocks : length n.image ≡ length given.fitted.image
+  pub room : n.left_room ≡ given.fitted.left_room
 
-pub KeepsPicks-framed : (given : Given) (passed : ℕ) (old new : Device) → IsFramed old new → KeepsPicks given passed old → KeepsPicks given passed new
-KeepsPicks-framed given passed old new f h = record { picks = f.picks ∙ h.picks; fits = f.fits ∙ h.fits }
+pub StaysFitted-framed : (given : Given) (passed : ℕ) (old new : Device) → IsFramed old new → StaysFitted given passed old → StaysFitted given passed new
+StaysFitted-framed given passed old new f h = record {
+  picks = f.picks ∙ h.picks;
+  fits = f.fits ∙ h.fits;
+  blocks = f.blocks ∙ h.blocks;
+  room = f.left_room ∙ h.room;
+}
 
-pub KeepsPicks-step : {M : Type 0} (K : KindOf M) (o : Origin) (given : Given) (w x : World M) → Steps K o w x → KeepsPicks given w.passed w.device → KeepsPicks given x.passed x.device
-KeepsPicks-step {M = M} K o given w x step h =
-    subst (λ k. KeepsPicks given k x.device) (sym (ap (λ (y : World M). y.passed) step.next_is))
-    (KeepsPicks-framed given w.passed w.device x.device (Steps-framed K o w x step) h)
+pub StaysFitted-step : {M : Type 0} (K : KindOf M) (o : Origin) (given : Given) (w x : World M) → Steps K o w x → StaysFitted given w.passed w.device → StaysFitted given x.passed x.device
+StaysFitted-step {M = M} K o given w x step h =
+    subst (λ k. StaysFitted given k x.device) (sym (ap (λ (y : World M). y.passed) step.next_is))
+    (StaysFitted-framed given w.passed w.device x.device (Steps-framed K o w x step) h)
 
-keeps_by : {M : Type 0} (K : KindOf M) (o : Origin) (given : Given) (w x next : World M) → Steps K o w x → KeepsPicks given w.passed w.device
-    → (b : Bool) → MatchBool b (IsCutOff K o (tear given.config.tears x.passed) x next) (next ≡ x) → KeepsPicks given next.passed next.device
+keeps_by : {M : Type 0} (K : KindOf M) (o : Origin) (given : Given) (w x next : World M) → Steps K o w x → StaysFitted given w.passed w.device
+    → (b : Bool) → MatchBool b (IsCutOff K o (tear given.config.tears x.passed) x next) (next ≡ x) → StaysFitted given next.passed next.device
 keeps_by {M = M} K o given w x next step h true cut =
-    let here = KeepsPicks-step K o given w x step h in
+    let here = StaysFitted-step K o given w x step h in
     let device : next.device ≡ cut_to x.device (tear given.config.tears x.passed) next.device.image = cut.cut.device in
     let passed : next.passed ≡ suc x.passed = ap (λ (y : World M). y.passed) cut.next_is ∙ (let more : x.passed + 1 ≡ suc x.passed = omega arith in more) in
     record {
       picks = ap (λ (n : Device). n.picks) device ∙ ap (λ (l : List ℕ). l ++ tear given.config.tears x.passed ∷ []) here.picks ∙ sym (ap (torn given.config.tears) passed);
       fits = ap (λ (n : Device). n.fits) device ∙ here.fits;
+      blocks = cut.cut.crash.same_length ∙ here.blocks;
+      room = ap (λ (n : Device). n.left_room) device ∙ here.room;
     }
 keeps_by {M = M} K o given w x next step h false is =
-    subst (λ (y : World M). KeepsPicks given y.passed y.device) (sym is) (KeepsPicks-step K o given w x step h)
+    subst (λ (y : World M). StaysFitted given y.passed y.device) (sym is) (StaysFitted-step K o given w x step h)
 
 -- so it is after any number of cycles
-pub KeepsPicks-ran : {M : Type 0} (K : KindOf M) (o : Origin) (given : Given) (k : ℕ) (w : World M) → Ran K o given k w → KeepsPicks given w.passed w.device
-KeepsPicks-ran {M = M} K o given zero w first = record {
+pub StaysFitted-ran : {M : Type 0} (K : KindOf M) (o : Origin) (given : Given) (k : ℕ) (w : World M) → Ran K o given k w → StaysFitted given w.passed w.device
+StaysFitted-ran {M = M} K o given zero w first = record {
   picks = first.picks ∙ sym (ap (torn given.config.tears) first.passed);
   fits = ap (λ (n : Device). n.fits) first.device;
+  blocks = ap (λ (n : Device). length n.image) first.device;
+  room = ap (λ (n : Device). n.left_room) first.device;
 }
-KeepsPicks-ran {M = M} K o given (suc k) w (before, ran, cycle) =
-    keeps_by K o given before cycle.between w cycle.steps (KeepsPicks-ran K o given k before ran) (is_due K o given.config.cuts cycle.between) cycle.cut
+StaysFitted-ran {M = M} K o given (suc k) w (before, ran, cycle) =
+    keeps_by K o given before cycle.between w cycle.steps (StaysFitted-ran K o given k before ran) (is_due K o given.config.cuts cycle.between) cycle.cut

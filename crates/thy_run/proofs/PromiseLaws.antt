@@ -15,7 +15,7 @@ use Rattle.thy_view.specs.Views.{doubt_of}
 use Rattle.thy_view.proofs.SafeLemmas.{Safe-failed}
 use Rattle.thy_run.specs.Cuts.{is_end, has_ended, cuts_among, numbered, last_cuttable, cuts_up_to}
 use Rattle.thy_run.specs.Images.{Found, HasLeft, AllFit}
-use Rattle.thy_run.specs.Laws.{course_of, first_marks, marks_of, first_found, torn, Promise, RunKeepsPromise}
+use Rattle.thy_run.specs.Laws.{course_of, first_marks, marks_of, first_found, torn, LeavesRoom, Promise, RunKeepsPromise}
 use Rattle.thy_run.specs.Progress.{IsSoonOver}
 use Rattle.thy_run.specs.Unfinished.{StepFailed, ReadFailed, Ends}
 use Rattle.thy_run.specs.World.{World, Given, seen, events_of, Steps}
@@ -23,7 +23,7 @@ use Rattle.thy_run.proofs.CoverLaws.{Covers-sealed, Covers-part, Safe-covered}
 use Rattle.thy_run.proofs.ImageLaws.{ImagesFit, AllFit-events}
 use Rattle.thy_run.proofs.ImageLemmas.{AllFit-append, AllFit-ends, AllFit-part}
 use Rattle.thy_run.proofs.ListedLemmas.{cuts_among-append}
-use Rattle.thy_run.proofs.PickLaws.{KeepsPicks, KeepsPicks-framed, KeepsPicks-ran}
+use Rattle.thy_run.proofs.PickLaws.{StaysFitted, StaysFitted-framed, StaysFitted-ran}
 use Rattle.thy_run.proofs.SoonLaws.{SoonOver-ran}
 use Rattle.thy_run.proofs.WorldLaws.{Coheres, Listed, Good, listed_going, events_uncut, Coheres-stepped, Good-ran, cycles-ran}
 use Rattle.thy_base.proofs.RangeLemmas.{epoch_least}
@@ -62,7 +62,17 @@ cuts_fit cuts k w l = (
   ap length l.among ∙ length-numbered 1 (take w.passed cuts) ∙ length-taken w.passed cuts l.few,
 )
 
-module _ {M : Type 0} (K : KindOf M) (o : Origin) (given : Given) (w : World M) (least : 1 ≤ o.geometry.epoch) (g : Good K o given.config.cuts w) (keeps : KeepsPicks given w.passed w.device)
+-- what is left has the room, where it keeps an image for each cut that fell
+leaves_room : (given : Given) (passed : ℕ) (events : List Happening) (n : Device) → StaysFitted given passed n → passed ≤ length given.config.cuts
+    → length n.left ≡ passed → length (cuts_among events) ≡ passed → LeavesRoom given events n
+leaves_room given passed events n stays few left cuts = record {
+  blocks = stays.blocks;
+  kept = left ∙ sym cuts;
+  few = omega (arith, few, left);
+  room = stays.room;
+}
+
+module _ {M : Type 0} (K : KindOf M) (o : Origin) (given : Given) (w : World M) (least : 1 ≤ o.geometry.epoch) (g : Good K o given.config.cuts w) (keeps : StaysFitted given w.passed w.device)
     (soon : IsSoonOver K o given.config.cuts w.cycles) where
   abbrev read : List Block → Decoded
   read = K.decode o.geometry ceiling
@@ -80,6 +90,7 @@ module _ {M : Type 0} (K : KindOf M) (o : Origin) (given : Given) (w : World M) 
         cuts_listed = fit.0;
         picks_listed = keeps.picks ∙ sym (ap (torn given.config.tears) fit.1);
         fits_stay = keeps.fits;
+        room = leaves_room given w.passed w.events w.device keeps g.listed.few g.stands.left fit.1;
         safe_at_return = g.stands.safe;
         soon = soon;
       }
@@ -90,12 +101,14 @@ module _ {M : Type 0} (K : KindOf M) (o : Origin) (given : Given) (w : World M) 
       let left : n.left ≡ w.device.left = f.framed.left in
       let m : Marks = marks_of o w.events in
       let p = done_promise in
+      let fit = cuts_fit given.config.cuts (last_cuttable w.events w.cycles) w g.listed in
       record {
         events_lawful = p.events_lawful;
         restarts_decode = subst (AllFit read (HasLeft w.cycles) (first_found o) w.events) (sym left) p.restarts_decode;
         cuts_listed = p.cuts_listed;
         picks_listed = f.framed.picks ∙ p.picks_listed;
         fits_stay = f.framed.fits ∙ keeps.fits;
+        room = leaves_room given w.passed w.events n (StaysFitted-framed given w.passed w.device n f.framed keeps) g.listed.few (ap length left ∙ g.stands.left) fit.1;
         safe_at_return = Safe-covered K o m.kept m.sealed (seen K o w).done (seen K o w).sealed n (Covers-sealed o (seen K o w) m g.stands.fits) f.safe;
         soon = soon;
       }
@@ -112,10 +125,10 @@ module _ {M : Type 0} (K : KindOf M) (o : Origin) (given : Given) (w : World M) 
       first_none (cuts_among part) (cuts_among rest) (sym (cuts_among-append part rest) ∙ ap cuts_among (sym whole) ∙ events_uncut o w.fresh (seen K o w) step.r.did (seen K o next) (w.cycles + 1)) in
       let left_next : next.device.left ≡ w.device.left = (Steps-framed K o w next step).left in
       let left : n.left ≡ next.device.left = elim device as (λ _. n.left ≡ next.device.left) [ inl e ↦ ap (λ (x : Device). x.left) e | inr f ↦ f.framed.left ] in
-      let at_next : KeepsPicks given w.passed next.device = KeepsPicks-framed given w.passed w.device next.device (Steps-framed K o w next step) keeps in
-      let kept : KeepsPicks given w.passed n = elim device as (λ _. KeepsPicks given w.passed n) [
-        | inl e ↦ subst (KeepsPicks given w.passed) (sym e) at_next
-        | inr f ↦ KeepsPicks-framed given w.passed next.device n f.framed at_next
+      let at_next : StaysFitted given w.passed next.device = StaysFitted-framed given w.passed w.device next.device (Steps-framed K o w next step) keeps in
+      let kept : StaysFitted given w.passed n = elim device as (λ _. StaysFitted given w.passed n) [
+        | inl e ↦ subst (StaysFitted given w.passed) (sym e) at_next
+        | inr f ↦ StaysFitted-framed given w.passed next.device n f.framed at_next
       ] in
       let fit = cuts_fit given.config.cuts w.cycles w (listed_going K o given.config.cuts w g step.going) in
       let same_cuts : cuts_among (w.events ++ part) ≡ cuts_among w.events =
@@ -141,6 +154,7 @@ module _ {M : Type 0} (K : KindOf M) (o : Origin) (given : Given) (w : World M) 
         cuts_listed = same_cuts ∙ fit.0 ∙ ap (λ k. numbered 1 (cuts_up_to k given.config.cuts)) (sym (ap (λ b. if b then w.cycles - 1 else w.cycles) going));
         picks_listed = kept.picks ∙ sym (ap (torn given.config.tears) (ap length same_cuts ∙ fit.1));
         fits_stay = kept.fits;
+        room = leaves_room given w.passed (w.events ++ part) n kept g.listed.few (ap length (left ∙ left_next) ∙ g.stands.left) (ap length same_cuts ∙ fit.1);
         safe_at_return = subst (λ (x : Marks). Safe K.decode o x.kept x.sealed n) (sym marks) safe;
         soon = soon;
       }
@@ -162,4 +176,4 @@ Promise-finished K laws o given cycles events n origin rising f =
     let good = Good-ran K o given cycles f.last least rising f.ran in
     let same : f.last.cycles ≡ cycles = cycles-ran K o given cycles f.last f.ran in
     let soon : IsSoonOver K o given.config.cuts f.last.cycles = subst (IsSoonOver K o given.config.cuts) (sym same) (SoonOver-ran K laws o given cycles f.last f.ran) in
-    subst (λ k. Promise K o given k events n) same (ends_promise K o given f.last least good (KeepsPicks-ran K o given cycles f.last f.ran) soon events n f.ends)
+    subst (λ k. Promise K o given k events n) same (ends_promise K o given f.last least good (StaysFitted-ran K o given cycles f.last f.ran) soon events n f.ends)

@@ -1,8 +1,8 @@
 -- What follows for every run, whatever the cuts left.
-use Rattle.std.specs.Prelude.{◌≡◌, ℕ, zero, suc, List, [], ◌∷◌, ◌++◌, length, None, Option, Some}
+use Rattle.std.specs.Prelude.{◌≡◌, ℕ, ◌≤◌, zero, suc, List, [], ◌∷◌, ◌++◌, length, None, Option, Some}
 use Rattle.thy_base.specs.Config.{IsRising}
 use Rattle.thy_base.specs.declared.mark.Mark.{Mark}
-use Rattle.thy_base.specs.Device.{Device}
+use Rattle.thy_base.specs.Device.{Device, IsCut}
 use Rattle.thy_view.specs.Kind.{KindOf}
 use Rattle.thy_text.specs.Happening.{Happening}
 use Rattle.thy_base.specs.Marks.{mark}
@@ -46,15 +46,24 @@ abbrev pub torn : List ℕ → ℕ → List ℕ
 torn tears zero = []
 torn tears (suc k) = torn tears k ++ tear tears k ∷ []
 
+-- The device that a run leaves has as many blocks as it was fitted with. It has kept an image for each cut, of which there are
+-- no more than are listed, and room for as many as it was fitted with.
+pub record LeavesRoom (given : Given) (events : List Happening) (n : Device) : Type 0 where
+  pub blocks : length n.image ≡ length given.fitted.image
+  pub kept : length n.left ≡ length (cuts_among events)
+  pub few : length n.left ≤ length given.config.cuts
+  pub room : n.left_room ≡ given.fitted.left_room
+
 -- What is promised of a run: its events are lawful, its restarts are what the cuts left, of which each left one image, its
--- cuts are the listed ones and have the listed picks, the device was fitted no second time and is safe for the marks that
--- the events leave, and the run is soon over.
+-- cuts are the listed ones and have the listed picks, the device was fitted no second time, has room for one more cut and is
+-- safe for the marks that the events leave, and the run is soon over.
 pub record Promise {M : Type 0} (K : KindOf M) (o : Origin) (given : Given) (cycles : ℕ) (events : List Happening) (n : Device) : Type 0 where
   pub events_lawful : AllLawful (course_of o) (first_marks o) events
   pub restarts_decode : AllFit (K.decode o.geometry ceiling) (HasLeft cycles) (first_found o) events n.left
   pub cuts_listed : cuts_among events ≡ numbered 1 (cuts_up_to (last_cuttable events cycles) given.config.cuts)
   pub picks_listed : n.picks ≡ torn given.config.tears (length (cuts_among events))
   pub fits_stay : n.fits ≡ given.fitted.fits
+  pub room : LeavesRoom given events n
   pub safe_at_return : Safe K.decode o (marks_of o events).kept (marks_of o events).sealed n
   pub soon : IsSoonOver K o given.config.cuts cycles
 
@@ -63,3 +72,10 @@ abbrev pub RunKeepsPromise : {M : Type 0} → KindOf M → Type 0
 RunKeepsPromise K =
     (o : Origin) (given : Given) (cycles : ℕ) (events : List Happening) (n : Device)
     → IsOrigin o → IsRising 0 given.config.cuts → Finished K o given cycles events n → Promise K o given cycles events n
+
+-- What one more cut leaves of a device, whatever its pick, is safe for the marks for which the device was safe. So is an image
+-- that is taken behind a run.
+abbrev pub OneMoreCutIsSafe : {M : Type 0} → KindOf M → Type 0
+OneMoreCutIsSafe K =
+    (o : Origin) (kept sealed : Option Mark) (pick : ℕ) (n new : Device)
+    → IsCut pick n new → Safe K.decode o kept sealed n → Safe K.decode o kept sealed new

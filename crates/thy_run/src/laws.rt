@@ -1,14 +1,20 @@
 //! The laws of runs, each as the contract of a function that does nothing.
-ghost use Rattle.thy_run.specs.Laws.{RunKeepsPromise};
+ghost use Rattle.thy_run.specs.Laws.{OneMoreCutIsSafe, RunKeepsPromise};
 ghost use Rattle.thy_run.specs.Progress.{RunIsBusy, RunIsSoonOver, RunNeverRests};
 ghost use Rattle.thy_run.specs.Strides.{RunStrides};
 
 use thy_view::Computer;
 
 /// Whatever the cuts of a run left, its events are lawful, each restart is what the cut before it left,
-/// the cuts are the listed ones, and the device is safe for the checkpoints that the events tell of.
+/// the cuts are the listed ones, and the device is safe for the checkpoints that the events tell of and has room
+/// for one more cut.
 pub fn every_run_keeps_its_promise<M: Computer>()
     ensures { RunKeepsPromise M.kind }
+{}
+
+/// What one more cut of power leaves of a device that is safe for some checkpoints, is safe for these.
+pub fn one_more_cut_is_safe<M: Computer>()
+    ensures { OneMoreCutIsSafe M.kind }
 {}
 
 /// A run of a program that ends within k instructions has fewer cycles than the last cut, the longest boot and k times

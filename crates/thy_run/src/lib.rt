@@ -16,7 +16,7 @@ pub use cycles::run;
 pub use ending::{Ending, Stop};
 pub use laws::{
     every_run_is_busy, every_run_is_soon_over, every_run_keeps_its_promise, every_run_strides,
-    no_cycle_of_a_run_rests,
+    no_cycle_of_a_run_rests, one_more_cut_is_safe,
 };
 pub use plan::Plan;
 pub use tell::write_bytes;

@@ -46,6 +46,8 @@ mod isa_rows;
 #[cfg(test)]
 mod machine;
 #[cfg(test)]
+mod made;
+#[cfg(test)]
 mod memory;
 #[cfg(test)]
 mod nvm;

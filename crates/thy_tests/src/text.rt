@@ -4,8 +4,10 @@ use std::alloc::Global;
 use std::process::Abort;
 use thy_base::{Bytes, EndCause, Field, Sink, SinkError};
 use thy_isa::{MachState, Regs, Status};
+use thy_record::BadImage;
 use thy_text::{
     Closing, Event, Events, FetchFault, digest, write_closing, write_ended, write_event,
+    write_made, write_summary,
 };
 
 /// Keeps what it is given, which is never an empty piece.
@@ -74,7 +76,7 @@ fn events_have_their_lines(rt: HostRuntime) {
 }
 
 /// The closings that tell a field, a name or a number.
-static CLOSINGS: [Closing<'static>; 7] = [
+static CLOSINGS: [Closing<'static>; 16] = [
     Closing::Word(Field::Pages),
     Closing::Value(Field::Low, 16),
     Closing::Fetch("F", FetchFault::TooLong),
@@ -82,6 +84,18 @@ static CLOSINGS: [Closing<'static>; 7] = [
     Closing::File(1, "TooShort"),
     Closing::FileAt(17, "SegmentOutsideMemory", 0),
     Closing::Limit(717),
+    Closing::Word(Field::N),
+    Closing::Value(Field::N, 4294967296),
+    Closing::Put("D"),
+    Closing::Image(BadImage::Empty),
+    Closing::Image(BadImage::TableIndex(5)),
+    Closing::Image(BadImage::TableTwice(0, 1)),
+    Closing::Image(BadImage::BlockUnderPage(3, 0)),
+    Closing::Image(BadImage::ConsoleLength),
+    Closing::Input {
+        cursor: 4,
+        length: 2,
+    },
 ];
 
 #[test]
@@ -91,7 +105,57 @@ fn closings_have_their_lines(rt: HostRuntime) {
         expect(&rt, write_closing(*closing, &mut page), Ok(()));
     }
     let text =
-        b"word pages\nvalue low 16\nfetch F too long\nfetch  missing\nfile 1 TooShort\nfile 17 SegmentOutsideMemory 0\nlimit 717\n";
+        b"word pages\nvalue low 16\nfetch F too long\nfetch  missing\nfile 1 TooShort\nfile 17 SegmentOutsideMemory 0\nlimit 717\nword n\nvalue n 4294967296\nput D failed\nimage 1 Empty\nimage 6 TableIndex 5\nimage 7 TableTwice 0 1\nimage 8 BlockUnderPage 3 0\nimage 10 ConsoleLength\ninput 4 2\n";
+    expect(&rt, page.bytes.as_slice(), text.as_slice());
+}
+
+/// A commit with so many instructions overlapped.
+fn commit(overlapped: u64) -> Event {
+    Event::Commit {
+        epoch: 0,
+        cycle: 698,
+        overlapped,
+    }
+}
+
+/// The end of an epoch by this cause.
+fn epoch_end(cause: EndCause) -> Event {
+    Event::EpochEnd {
+        epoch: 1,
+        count: 8,
+        cause,
+    }
+}
+
+#[test]
+fn a_run_is_summed_up(rt: HostRuntime) {
+    let exhausted = EndCause::Exhausted {
+        free: 8,
+        dirty: 9,
+        need: 1,
+    };
+    let mut page = blank(rt.alloc());
+    let mut events = Events::new(rt.alloc());
+    expect(&rt, write_summary(&events, &mut page), Ok(()));
+    for event in [
+        commit(0),
+        epoch_end(exhausted),
+        commit(5),
+        epoch_end(EndCause::Length),
+        Event::Cut {
+            index: 1,
+            cycle: 1391,
+        },
+        Event::Reload,
+        commit(u64::MAX),
+        epoch_end(EndCause::Ended),
+    ] {
+        events.push(event).expect(&rt, "memory");
+    }
+    expect(&rt, write_summary(&events, &mut page), Ok(()));
+    expect(&rt, write_made(0, 24148, &mut page), Ok(()));
+    let text =
+        b"summary epochs 0 early 0 overlapped 0\nsummary epochs 3 early 1 overlapped 18446744073709551620\nmade 0 24148\n";
     expect(&rt, page.bytes.as_slice(), text.as_slice());
 }
 

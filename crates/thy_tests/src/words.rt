@@ -4,10 +4,10 @@ use crate::expect::{expect, expect_at};
 use std::alloc::Global;
 use std::process::Abort;
 use thy_base::Config;
-use thy_words::{Command, WordsError, settings};
+use thy_words::{Command, Job, WordsError, settings};
 
 /// Words that are no command line.
-static USAGE: [&str; 27] = [
+static USAGE: [&str; 44] = [
     "thynvm",
     "thynvm|run",
     "thynvm|help",
@@ -35,10 +35,27 @@ static USAGE: [&str; 27] = [
     "thynvm|plain|F|--epoch|9",
     "thynvm|plain|F|--cuts|9",
     "thynvm|run|plain|F",
+    "thynvm|run|F|--save",
+    "thynvm|run|F|--save|A|--save|B",
+    "thynvm|plain|F|--save|S",
+    "thynvm|resume",
+    "thynvm|resume|D|E",
+    "thynvm|resume|D|--n|7",
+    "thynvm|Resume|D",
+    "thynvm|bench",
+    "thynvm|bench|7|F",
+    "thynvm|bench|-7",
+    "thynvm|bench|--n|7",
+    "thynvm|make",
+    "thynvm|make|7",
+    "thynvm|make|7|O|P",
+    "thynvm|make|7|O|--digest",
+    "thynvm|make|7|O|--pages|9",
+    "thynvm|make|7|O|--save|S",
 ];
 
 /// Words of which one is no value, and the field that it should be of.
-static WORDS: [(&str, &str); 16] = [
+static WORDS: [(&str, &str); 27] = [
     ("thynvm|run|F|--pages|x", "pages"),
     ("thynvm|run|F|--pages=-5", "pages"),
     ("thynvm|run|F|--pages=+9", "pages"),
@@ -55,10 +72,21 @@ static WORDS: [(&str, &str); 16] = [
     ("thynvm|run|F|--limit|x|--base|y", "base"),
     ("thynvm|run|F|--pages|7|--limit|x", "limit"),
     ("thynvm|plain|F|--limit|x", "limit"),
+    ("thynvm|resume|D|--limit|x", "limit"),
+    ("thynvm|bench|x", "n"),
+    ("thynvm|bench|", "n"),
+    ("thynvm|bench|7,8", "n"),
+    ("thynvm|bench|x|--base|y", "n"),
+    ("thynvm|bench|7|--base|y", "base"),
+    ("thynvm|bench|4294967296|--limit|x", "limit"),
+    ("thynvm|make|x|O", "n"),
+    ("thynvm|make|+7|O", "n"),
+    ("thynvm|make|10000000000000000000|O", "n"),
+    ("thynvm|make|00000000000000000007|O", "n"),
 ];
 
 /// Words that give a value out of range, its field, and the value.
-static VALUES: [(&str, &str, u64); 21] = [
+static VALUES: [(&str, &str, u64); 27] = [
     ("thynvm|run|F|--base|4097", "base", 4097),
     ("thynvm|run|F|--pages|7", "pages", 7),
     ("thynvm|run|F|--pages|4097", "pages", 4097),
@@ -84,6 +112,16 @@ static VALUES: [(&str, &str, u64); 21] = [
     ("thynvm|run|F|--limit|1000000000001", "limit", 1000000000001),
     ("thynvm|run|F|--limit|0|--pages|7", "pages", 7),
     ("thynvm|plain|F|--pages|8|--console|8", "console", 8),
+    ("thynvm|resume|D|--pages|7", "pages", 7),
+    ("thynvm|bench|4294967296", "n", 4294967296),
+    ("thynvm|bench|4294967296|--base|4097", "n", 4294967296),
+    ("thynvm|bench|4294967295|--base|4097", "base", 4097),
+    ("thynvm|make|4294967296|O", "n", 4294967296),
+    (
+        "thynvm|make|9999999999999999999|O",
+        "n",
+        9999999999999999999,
+    ),
 ];
 
 /// The numbers of a configuration that no option changes, in the order of its fields.
@@ -91,13 +129,17 @@ const DEFAULTS: [u64; 14] = [
     65536, 256, 1, 10000, 512, 64, 16, 4, 16, 16, 22, 16, 0, 1000000000,
 ];
 
-/// A command's name, its file, the name of its input, and whether it tells digests.
-type Told<'a> = (&'a str, &'a str, Option<&'a str>, bool);
+/// A command's name, the name and the number that it is about, and there `""` or 0 where there is none.
+type Asked<'a> = (&'a str, &'a str, u64);
+
+/// The name of a command's input, the name under which it saves, and whether it tells digests.
+type Told<'a> = (Option<&'a str>, Option<&'a str>, bool);
 
 /// What a row says of a command and its configuration: the numbers in the order of the fields, the cuts and
 /// the tears.
 type Row = (
     &'static str,
+    Asked<'static>,
     Told<'static>,
     [u64; 14],
     &'static [u64],
@@ -105,17 +147,19 @@ type Row = (
 );
 
 /// Words that ask for a command, and the command.
-static COMMANDS: [Row; 10] = [
+static COMMANDS: [Row; 16] = [
     (
         "thynvm|run|F",
-        ("run", "F", None, false),
+        ("run", "F", 0),
+        (None, None, false),
         DEFAULTS,
         &[],
         &[],
     ),
     (
         "any|run|--pages=9|F|--ways|007",
-        ("run", "F", None, false),
+        ("run", "F", 0),
+        (None, None, false),
         [
             65536, 9, 1, 10000, 512, 64, 16, 7, 16, 16, 22, 16, 0, 1000000000,
         ],
@@ -124,22 +168,32 @@ static COMMANDS: [Row; 10] = [
     ),
     (
         "thynvm|run|--|-f",
-        ("run", "-f", None, false),
+        ("run", "-f", 0),
+        (None, None, false),
         DEFAULTS,
         &[],
         &[],
     ),
     (
         "thynvm|run|-|--input|",
-        ("run", "-", Some(""), false),
+        ("run", "-", 0),
+        (Some(""), None, false),
         DEFAULTS,
         &[],
         &[],
     ),
-    ("thynvm|run|", ("run", "", None, false), DEFAULTS, &[], &[]),
+    (
+        "thynvm|run|",
+        ("run", "", 0),
+        (None, None, false),
+        DEFAULTS,
+        &[],
+        &[],
+    ),
     (
         "thynvm|run|F|--cuts|1,02,70|--tears|9,0,9,5|--mix|9999999999999999999",
-        ("run", "F", None, false),
+        ("run", "F", 0),
+        (None, None, false),
         [
             65536,
             256,
@@ -161,32 +215,92 @@ static COMMANDS: [Row; 10] = [
     ),
     (
         "|run|F|--base|8192|--pages|8|--console|2|--epoch|3|--btt|16|--ptt|24|--sets|1|--ways|5|--nvmq|6|--dramq|7|--high|9|--low|8|--mix|10|--cuts|11|--tears|12|--limit|13|--input|I",
-        ("run", "F", Some("I"), false),
+        ("run", "F", 0),
+        (Some("I"), None, false),
         [8192, 8, 2, 3, 16, 24, 1, 5, 6, 7, 9, 8, 10, 13],
         &[11],
         &[12],
     ),
     (
         "thynvm|run|F|--digest",
-        ("run", "F", None, true),
+        ("run", "F", 0),
+        (None, None, true),
         DEFAULTS,
         &[],
         &[],
     ),
     (
         "thynvm|plain|F",
-        ("plain", "F", None, false),
+        ("plain", "F", 0),
+        (None, None, false),
         DEFAULTS,
         &[],
         &[],
     ),
     (
         "thynvm|plain|--digest|F|--limit|9|--base|8192|--console|2|--pages|8|--input|I",
-        ("plain", "F", Some("I"), true),
+        ("plain", "F", 0),
+        (Some("I"), None, true),
         [8192, 8, 2, 10000, 512, 64, 16, 4, 16, 16, 22, 16, 0, 9],
         &[],
         &[],
     ),
+    (
+        "thynvm|run|F|--save|S|--input|I",
+        ("run", "F", 0),
+        (Some("I"), Some("S"), false),
+        DEFAULTS,
+        &[],
+        &[],
+    ),
+    (
+        "thynvm|run|F|--save=|--digest",
+        ("run", "F", 0),
+        (None, Some(""), true),
+        DEFAULTS,
+        &[],
+        &[],
+    ),
+    (
+        "thynvm|resume|D",
+        ("resume", "D", 0),
+        (None, None, false),
+        DEFAULTS,
+        &[],
+        &[],
+    ),
+    (
+        "thynvm|resume|--digest|D|--save|D|--input|I|--cuts|5|--tears|1,2",
+        ("resume", "D", 0),
+        (Some("I"), Some("D"), true),
+        DEFAULTS,
+        &[5],
+        &[1, 2],
+    ),
+    (
+        "thynvm|bench|0",
+        ("bench", "", 0),
+        (None, None, false),
+        DEFAULTS,
+        &[],
+        &[],
+    ),
+    (
+        "thynvm|bench|--limit|9|04294967295|--save|S|--input|I|--digest",
+        ("bench", "", 4294967295),
+        (Some("I"), Some("S"), true),
+        [65536, 256, 1, 10000, 512, 64, 16, 4, 16, 16, 22, 16, 0, 9],
+        &[],
+        &[],
+    ),
+];
+
+/// Words that ask for a made program, its number, and the name under which it is put.
+static MAKES: [(&str, u64, &str); 4] = [
+    ("thynvm|make|0|O", 0, "O"),
+    ("thynvm|make|4294967295|-", 4294967295, "-"),
+    ("thynvm|make|007|", 7, ""),
+    ("thynvm|make|--|7|--save", 7, "--save"),
 ];
 
 /// The words of a row.
@@ -247,29 +361,33 @@ fn numbers_of(c: &Config) -> [u64; 14] {
     ]
 }
 
-fn told<'a>(name: &'a str, file: &'a String, input: &'a Option<String>, digest: bool) -> Told<'a> {
-    let input = match input {
+/// The text of a name that may be missing.
+fn text(name: &Option<String>) -> Option<&str> {
+    match name {
         Some(name) => Some(name.as_str()),
         None => None,
-    };
-    (name, file.as_str(), input, digest)
+    }
 }
 
-/// A command without its configuration, and that.
-fn parts(command: &Command) -> (Told<'_>, &Config) {
+/// A command without how it is run.
+fn asked(command: &Command) -> Asked<'_> {
     match command {
-        Command::Run {
-            file,
-            input,
-            config,
-            digest,
-        } => (told("run", file, input, *digest), config),
-        Command::Plain {
-            file,
-            input,
-            config,
-            digest,
-        } => (told("plain", file, input, *digest), config),
+        Command::Run { file, .. } => ("run", file.as_str(), 0),
+        Command::Resume { image, .. } => ("resume", image.as_str(), 0),
+        Command::Bench { number, .. } => ("bench", "", *number),
+        Command::Plain { file, .. } => ("plain", file.as_str(), 0),
+        Command::Make { number, name } => ("make", name.as_str(), *number),
+    }
+}
+
+/// How a command is run, unless nothing is run.
+fn job(command: &Command) -> Option<&Job> {
+    match command {
+        Command::Run { job, .. }
+        | Command::Resume { job, .. }
+        | Command::Bench { job, .. }
+        | Command::Plain { job, .. } => Some(job),
+        Command::Make { .. } => None,
     }
 }
 
@@ -281,12 +399,14 @@ fn command_of(rt: &impl Abort, alloc: Global, row: &str) -> Command {
 
 /// Compares a command with what a row says of it.
 fn compare(rt: &impl Abort, command: &Command, row: &Row) {
-    let (words, want, numbers, cuts, tears) = row;
-    let (found, config) = parts(command);
-    expect_at(rt, found, *want, *words);
-    expect_at(rt, &numbers_of(config), numbers, *words);
-    expect_at(rt, config.cuts.as_slice(), *cuts, *words);
-    expect_at(rt, config.tears.as_slice(), *tears, *words);
+    let (words, want, told, numbers, cuts, tears) = row;
+    expect_at(rt, asked(command), *want, *words);
+    let job = job(command).expect(rt, "a command that runs");
+    let found = (text(&job.input), text(&job.save), job.digest);
+    expect_at(rt, found, *told, *words);
+    expect_at(rt, &numbers_of(&job.config), numbers, *words);
+    expect_at(rt, job.config.cuts.as_slice(), *cuts, *words);
+    expect_at(rt, job.config.tears.as_slice(), *tears, *words);
 }
 
 #[test]
@@ -294,5 +414,14 @@ fn words_ask_for_their_settings(rt: HostRuntime) {
     for row in &COMMANDS {
         let command = command_of(&rt, rt.alloc(), row.0);
         compare(&rt, &command, row);
+    }
+}
+
+#[test]
+fn words_ask_for_a_made_program(rt: HostRuntime) {
+    for (words, number, name) in &MAKES {
+        let command = command_of(&rt, rt.alloc(), words);
+        expect_at(&rt, asked(&command), ("make", *name, *number), words);
+        expect_at(&rt, job(&command).is_none(), true, words);
     }
 }

@@ -1,3 +1,4 @@
 pub mod Joining
 pub mod Taking
 pub mod Histories
+pub mod Rewording

@@ -5,3 +5,4 @@ pub mod Marks
 pub mod Pieces
 pub mod Released
 pub mod Seen
+pub mod Summary

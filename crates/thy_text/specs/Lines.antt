@@ -65,3 +65,7 @@ line_of digest (Ended status count cycle state) = ended_lines digest status coun
 abbrev pub report_of : Bool → List Happening → List ℕ
 report_of digest [] = []
 report_of digest (v ∷ vs) = line_of digest v ++ report_of digest vs
+
+-- the line of a made program: its number and its length
+abbrev pub made_of : ℕ → ℕ → List ℕ
+made_of number length = joined (codes "made " ∷ decimal number ∷ codes " " ∷ decimal length ∷ line_feed ∷ [])

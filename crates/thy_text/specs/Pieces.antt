@@ -2,10 +2,11 @@
 use Rattle.std.specs.Prelude.{ℕ, List}
 use Rattle.std.specs.Fmt.{decimal}
 use Rattle.thy_text.specs.declared.piece.Piece.{Piece}
-use Rattle.thy_text.specs.declared.piece.Piece.TheVariants.{Text, Number, Digits}
+use Rattle.thy_text.specs.declared.piece.Piece.TheVariants.{Text, Number, Sum, Digits}
 
 -- the bytes of a part
 abbrev pub bytes_of_piece : Piece → List ℕ
 bytes_of_piece (Text text) = text.now
 bytes_of_piece (Number number) = decimal number
+bytes_of_piece (Sum sum) = decimal sum
 bytes_of_piece (Digits digits) = digits.now

@@ -3,11 +3,12 @@ ghost use Rattle.std.specs.Prelude.{◌≡◌, ◌∷◌, [], OnOk, OnErr, codes
 ghost use Rattle.std.specs.Fmt.{decimal};
 ghost use Rattle.thy_base.specs.Fields.{field_name};
 ghost use Rattle.thy_base.specs.Outside.{Took, TookPart};
-ghost use Rattle.thy_text.specs.Closings.{closing_of, fault_text};
+ghost use Rattle.thy_text.specs.Closings.{closing_of, entries_of, fault_text, image_parts, numbers_of, refusal_parts};
 ghost use Rattle.thy_text.specs.Lines.{joined, line_feed};
 
 use crate::piece::{Piece, write_pieces};
 use thy_base::{Field, Sink, SinkError};
+use thy_record::BadImage;
 
 /// Why the bytes under a name were not had.
 #[derive(Clone, Copy, Debug, PartialEq, Eq)]
@@ -30,10 +31,16 @@ pub enum Closing<'a> {
     Value(Field, u64),
     /// The bytes under a name were not had.
     Fetch(&'a str, FetchFault),
+    /// The bytes could not be put under a name.
+    Put(&'a str),
     /// The file is refused: the refusal's number and name.
     File(u64, &'a str),
     /// The same, with the number of the program header at fault.
     FileAt(u64, &'a str, u64),
+    /// The image is refused.
+    Image(BadImage),
+    /// The image has read more of its input than there is: its cursor, and the input's length, in bytes.
+    Input { cursor: u64, length: u64 },
     /// The terminal failed.
     Terminal,
     /// The device failed.
@@ -42,6 +49,14 @@ pub enum Closing<'a> {
     Limit(u64),
     /// There was not enough memory.
     Memory,
+}
+
+/// The entries of an image's tables that are at fault.
+#[derive(Clone, Copy)]
+enum Entries {
+    None,
+    One(u64),
+    Two(u64, u64),
 }
 
 /// Writes the closing line in pieces, none of them empty. On an error the sink has taken only the
@@ -59,8 +74,19 @@ pub fn write_closing<R: Sink>(closing: Closing, report: &mut R) -> Result<(), Si
         ),
         Closing::Value(field, value) => write_value(field, value, report),
         Closing::Fetch(name, fault) => write_fetch(name, fault, report),
-        Closing::File(number, name) => write_file(number, name, report),
-        Closing::FileAt(number, name, k) => write_file_at(number, name, k, report),
+        Closing::Put(name) => write_pieces(
+            &[
+                Piece::Text("put "),
+                Piece::Text(name),
+                Piece::Text(" failed"),
+                end,
+            ],
+            report,
+        ),
+        Closing::File(number, name) => write_refusal("file ", number, name, report),
+        Closing::FileAt(number, name, k) => write_refusal_at("file ", number, name, k, report),
+        Closing::Image(bad) => write_image(bad, report),
+        Closing::Input { cursor, length } => write_input(cursor, length, report),
         Closing::Terminal => write_pieces(&[Piece::Text("terminal failed"), end], report),
         Closing::Nvm => write_pieces(&[Piece::Text("nvm failed"), end], report),
         Closing::Limit(limit) => write_pieces(
@@ -111,13 +137,18 @@ fn write_fetch<R: Sink>(name: &str, fault: FetchFault, report: &mut R) -> Result
     write_pieces(&pieces, report)
 }
 
-/// Writes the line of a refused file.
-fn write_file<R: Sink>(number: u64, name: &str, report: &mut R) -> Result<(), SinkError>
-    ensures whole { OnOk result (Took (R.stream report.old) (R.stream report.new) (joined (codes "file " ∷ decimal number ∷ codes " " ∷ name.now ∷ line_feed ∷ []))) }
-    ensures failed { OnErr result (TookPart (R.stream report.old) (R.stream report.new) (joined (codes "file " ∷ decimal number ∷ codes " " ∷ name.now ∷ line_feed ∷ []))) }
+/// Writes the line of a refusal: its number and its name.
+fn write_refusal<R: Sink>(
+    what: &'static str,
+    number: u64,
+    name: &str,
+    report: &mut R,
+) -> Result<(), SinkError>
+    ensures whole { OnOk result (Took (R.stream report.old) (R.stream report.new) (joined (refusal_parts what.now number name.now []))) }
+    ensures failed { OnErr result (TookPart (R.stream report.old) (R.stream report.new) (joined (refusal_parts what.now number name.now []))) }
 {
     let pieces = [
-        Piece::Text("file "),
+        Piece::Text(what),
         Piece::Number(number),
         Piece::Text(" "),
         Piece::Text(name),
@@ -126,18 +157,90 @@ fn write_file<R: Sink>(number: u64, name: &str, report: &mut R) -> Result<(), Si
     write_pieces(&pieces, report)
 }
 
-/// Writes the line of a file that is refused for a program header.
-fn write_file_at<R: Sink>(number: u64, name: &str, k: u64, report: &mut R) -> Result<(), SinkError>
-    ensures whole { OnOk result (Took (R.stream report.old) (R.stream report.new) (joined (codes "file " ∷ decimal number ∷ codes " " ∷ name.now ∷ codes " " ∷ decimal k ∷ line_feed ∷ []))) }
-    ensures failed { OnErr result (TookPart (R.stream report.old) (R.stream report.new) (joined (codes "file " ∷ decimal number ∷ codes " " ∷ name.now ∷ codes " " ∷ decimal k ∷ line_feed ∷ []))) }
+/// Writes the line of a refusal with the number of what is at fault.
+fn write_refusal_at<R: Sink>(
+    what: &'static str,
+    number: u64,
+    name: &str,
+    k: u64,
+    report: &mut R,
+) -> Result<(), SinkError>
+    ensures whole { OnOk result (Took (R.stream report.old) (R.stream report.new) (joined (refusal_parts what.now number name.now (k ∷ [])))) }
+    ensures failed { OnErr result (TookPart (R.stream report.old) (R.stream report.new) (joined (refusal_parts what.now number name.now (k ∷ [])))) }
 {
     let pieces = [
-        Piece::Text("file "),
+        Piece::Text(what),
         Piece::Number(number),
         Piece::Text(" "),
         Piece::Text(name),
         Piece::Text(" "),
         Piece::Number(k),
+        Piece::Text("\n"),
+    ];
+    write_pieces(&pieces, report)
+}
+
+/// Writes the line of a refused image for two entries of its tables.
+fn write_image_at_two<R: Sink>(
+    number: u64,
+    name: &str,
+    i: u64,
+    k: u64,
+    report: &mut R,
+) -> Result<(), SinkError>
+    ensures whole { OnOk result (Took (R.stream report.old) (R.stream report.new) (joined (refusal_parts (codes "image ") number name.now (i ∷ k ∷ [])))) }
+    ensures failed { OnErr result (TookPart (R.stream report.old) (R.stream report.new) (joined (refusal_parts (codes "image ") number name.now (i ∷ k ∷ [])))) }
+{
+    let pieces = [
+        Piece::Text("image "),
+        Piece::Number(number),
+        Piece::Text(" "),
+        Piece::Text(name),
+        Piece::Text(" "),
+        Piece::Number(i),
+        Piece::Text(" "),
+        Piece::Number(k),
+        Piece::Text("\n"),
+    ];
+    write_pieces(&pieces, report)
+}
+
+/// The entries of the tables for which an image is refused.
+fn entries_of(bad: BadImage) -> Entries
+    ensures { numbers_of result ≡ entries_of bad }
+{
+    match bad {
+        BadImage::TableIndex(i) => Entries::One(i),
+        BadImage::TableTwice(i, k) => Entries::Two(i, k),
+        BadImage::BlockUnderPage(i, j) => Entries::Two(i, j),
+        _ => Entries::None,
+    }
+}
+
+/// Writes the line of a refused image, with the entries of its tables that are at fault.
+fn write_image<R: Sink>(bad: BadImage, report: &mut R) -> Result<(), SinkError>
+    ensures whole { OnOk result (Took (R.stream report.old) (R.stream report.new) (joined (image_parts bad))) }
+    ensures failed { OnErr result (TookPart (R.stream report.old) (R.stream report.new) (joined (image_parts bad))) }
+{
+    let place = bad.number();
+    let called = bad.name();
+    match entries_of(bad) {
+        Entries::None => write_refusal("image ", place, called, report),
+        Entries::One(i) => write_refusal_at("image ", place, called, i, report),
+        Entries::Two(i, k) => write_image_at_two(place, called, i, k, report),
+    }
+}
+
+/// Writes the line of an image that has read more than there is.
+fn write_input<R: Sink>(cursor: u64, length: u64, report: &mut R) -> Result<(), SinkError>
+    ensures whole { OnOk result (Took (R.stream report.old) (R.stream report.new) (joined (codes "input " ∷ decimal cursor ∷ codes " " ∷ decimal length ∷ line_feed ∷ []))) }
+    ensures failed { OnErr result (TookPart (R.stream report.old) (R.stream report.new) (joined (codes "input " ∷ decimal cursor ∷ codes " " ∷ decimal length ∷ line_feed ∷ []))) }
+{
+    let pieces = [
+        Piece::Text("input "),
+        Piece::Number(cursor),
+        Piece::Text(" "),
+        Piece::Number(length),
         Piece::Text("\n"),
     ];
     write_pieces(&pieces, report)

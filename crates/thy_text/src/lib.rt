@@ -7,9 +7,11 @@ mod events;
 mod line;
 mod memory;
 mod piece;
+mod summary;
 
 pub use closing::{Closing, FetchFault, write_closing};
 pub use event::Event;
 pub use events::Events;
-pub use line::{write_ended, write_event};
+pub use line::{write_ended, write_event, write_made};
 pub use memory::digest;
+pub use summary::write_summary;

@@ -3,7 +3,7 @@ ghost use Rattle.std.specs.Prelude.{◌∷◌, [], ◌≢◌, OnOk, OnErr};
 ghost use Rattle.std.specs.Fmt.{decimal};
 ghost use Rattle.thy_base.specs.Bytes.{bytes_of};
 ghost use Rattle.thy_base.specs.Outside.{Took, TookPart};
-ghost use Rattle.thy_text.specs.Lines.{joined, line_feed, line_of, state_lines, ended_lines, epoch_end_parts};
+ghost use Rattle.thy_text.specs.Lines.{joined, line_feed, line_of, state_lines, ended_lines, epoch_end_parts, made_of};
 ghost use Rattle.thy_text.specs.Seen.{happening_of};
 
 use crate::Event;
@@ -162,4 +162,13 @@ fn write_state<R: Sink>(
 {
     write_numbers(word, number, " at ", count, report)?;
     write_digest(state, digest, report)
+}
+
+/// Writes the line of a made program: the number of which it is made, and its length in bytes. On an
+/// error the sink has taken only the first part of the line. Takes no memory.
+pub fn write_made<R: Sink>(number: u64, length: u64, report: &mut R) -> Result<(), SinkError>
+    ensures whole { OnOk result (Took (R.stream report.old) (R.stream report.new) (made_of number length)) }
+    ensures failed { OnErr result (TookPart (R.stream report.old) (R.stream report.new) (made_of number length)) }
+{
+    write_numbers("made ", number, " ", length, report)
 }

@@ -13,6 +13,8 @@ pub(crate) enum Piece<'a> {
     Text(&'a str),
     /// In decimal digits.
     Number(u64),
+    /// A sum of numbers, in decimal digits.
+    Sum(u128),
     /// Digits that stand already.
     Digits(&'a [u8; 64]),
 }
@@ -32,6 +34,10 @@ fn write_piece<R: Sink>(piece: &Piece, to: &mut R) -> Result<(), SinkError>
         Piece::Number(number) => {
             let mut buffer = Buffer::new();
             to.write(buffer.format(*number).as_bytes())
+        }
+        Piece::Sum(sum) => {
+            let mut buffer = Buffer::new();
+            to.write(buffer.format(*sum).as_bytes())
         }
         Piece::Digits(digits) => to.write(digits.as_slice()),
     }

@@ -1,13 +1,14 @@
 -- What the command that is named asks for.
-use Rattle.std.proofs.Common.{◌≡◌, Bool, true, false, cond, refl, sym, subst, ap₂, List, Option, Some, None, Result, Err, codes, option_map}
+use Rattle.std.proofs.Common.{◌≡◌, refl, sym, subst, ap₂, List, Option, Some, None, Result, Err, option_map}
 use Rattle.std.specs.Box.{box_value}
-use Rattle.std.specs.Str.{bytes_eq}
+use Rattle.std.specs.Option.{option_map_or}
 use Rattle.clap.specs.Matches.{subcommand_name_of}
 use Rattle.clap.specs.Simple.{subcommand_rows, subcommand_rows_of}
 use Rattle.clap.specs.Walk.{Row, Text}
 use Rattle.clap.specs.declared.parser.matches.ArgMatches.{ArgMatches}
 use Rattle.clap.specs.declared.parser.matches.ArgMatches.TheViews.{out-ArgMatches, out-SubCommand}
-use Rattle.thy_words.specs.Settings.{Answers, job_in, order_named, order_with, plain, run}
+use Rattle.thy_words.specs.Settings.{Answers, order_for, order_in, order_named, verb_of}
+use Rattle.thy_words.specs.declared.verb.Verb.{Verb}
 use Rattle.thy_words.specs.declared.words.Command.{Command}
 use Rattle.thy_words.specs.declared.words.WordsError.{WordsError}
 use Rattle.thy_words.specs.declared.words.WordsError.TheVariants.{Usage}
@@ -29,19 +30,14 @@ name_found m =
       | Some b ↦ refl
     ]
 
--- `run`
-pub names_run : (found : Option (Text × List Row)) (name : Text) (rows : List Row) (answer : Result Command WordsError)
-    → found ≡ Some (name, rows) → bytes_eq name (codes "run") ≡ true
-    → Answers (order_with run (job_in rows)) answer → Answers (order_named found) answer
-names_run found name rows answer is same answers =
-    subst (λ f. Answers (order_named f) answer) (sym is)
-    (subst (λ (b : Bool). Answers (cond b (order_with run (job_in rows)) (cond (bytes_eq name (codes "plain")) (order_with plain (job_in rows)) (Err Usage))) answer) (sym same) answers)
+-- the answer to what is found is that to its name
+pub names_command : (found : Option (Text × List Row)) (name : Text) (rows : List Row) (answer : Result Command WordsError)
+    → found ≡ Some (name, rows) → Answers (order_in (name, rows)) answer → Answers (order_named found) answer
+names_command found name rows answer is answers =
+    subst (λ (f : Option (Text × List Row)). Answers (order_named f) answer) (sym is) answers
 
--- `plain`
-pub names_plain : (found : Option (Text × List Row)) (name : Text) (rows : List Row) (answer : Result Command WordsError)
-    → found ≡ Some (name, rows) → bytes_eq name (codes "run") ≡ false → bytes_eq name (codes "plain") ≡ true
-    → Answers (order_with plain (job_in rows)) answer → Answers (order_named found) answer
-names_plain found name rows answer is other same answers =
-    subst (λ f. Answers (order_named f) answer) (sym is)
-    (subst (λ (b : Bool). Answers (cond b (order_with run (job_in rows)) (cond (bytes_eq name (codes "plain")) (order_with plain (job_in rows)) (Err Usage))) answer) (sym other)
-    (subst (λ (b : Bool). Answers (cond b (order_with plain (job_in rows)) (Err Usage)) answer) (sym same) answers))
+-- the answer to a name is that to its command
+pub answers_name : (name : Text) (rows : List Row) (verb : Option Verb) (answer : Result Command WordsError)
+    → verb ≡ verb_of name → Answers (option_map_or (λ v. order_for v rows) verb (Err Usage)) answer → Answers (order_in (name, rows)) answer
+answers_name name rows verb answer is answers =
+    subst (λ (o : Option Verb). Answers (option_map_or (λ v. order_for v rows) o (Err Usage)) answer) is answers

@@ -5,14 +5,18 @@ use Rattle.std.specs.Option.{option_map_or}
 use Rattle.clap.specs.Walk.{Row, Text, first_of}
 use Rattle.thy_base.specs.declared.config.Config.{Config}
 use Rattle.thy_base.specs.declared.config.Field.{Field}
-use Rattle.thy_base.specs.declared.config.Field.TheVariants.{Base, Pages, Console, Epoch, Btt, Ptt, Sets, Ways, Nvmq, Dramq, High, Low, Mix, Cuts, Tears, Limit}
+use Rattle.thy_base.specs.declared.config.Field.TheVariants.{Base, Pages, Console, Epoch, Btt, Ptt, Sets, Ways, Nvmq, Dramq, High, Low, Mix, Cuts, Tears, Limit, N}
 use Rattle.thy_base.specs.Fields.{field_name}
 use Rattle.thy_words.specs.Numbers.{is_list, is_number, number_in, numbers_in}
 
--- in the order in which they are read, and then tested
+-- those of a configuration, in the order in which they are read, and then tested
 abbrev pub fields : List Field
 fields = Base ∷ Pages ∷ Console ∷ Epoch ∷ Btt ∷ Ptt ∷ Sets ∷ Ways ∷ Nvmq ∷ Dramq ∷ High ∷ Low
     ∷ Mix ∷ Cuts ∷ Tears ∷ Limit ∷ []
+
+-- those that words are read for: the number of a made program comes first
+abbrev pub all_fields : List Field
+all_fields = N ∷ fields
 
 -- those that `plain` has an option for
 abbrev pub plain_fields : List Field
@@ -38,7 +42,7 @@ is_readable rows f = option_map_or (reads f) (text_of rows f) true
 
 -- the first field whose text is no value of it
 abbrev pub unreadable : List Row → Option Field
-unreadable rows = find (λ f. not (is_readable rows f)) fields
+unreadable rows = find (λ f. not (is_readable rows f)) all_fields
 
 -- the number of a field, or this one where the words leave it out
 abbrev pub number_at : List Row → Field → ℕ → ℕ

@@ -34,16 +34,29 @@ rule_for (Flag name) = flag_rule name.now
 abbrev pub with_argument : App → Argument → App
 with_argument a x = with_rule a (rule_for x)
 
--- a command with one more option
-abbrev pub with_option : App → Text → App
-with_option a name = with_rule a (option_rule name)
+-- a command that begins with this operand
+abbrev pub begun : Text → Text → App
+begun name first = with_rule (new_app name) (operand_rule first)
 
--- a command: it takes FILE, an option for each of these fields and for the input's name, and the flag for digests
-abbrev pub command_of : Text → List Field → App
-command_of name fs =
-    let operand = with_rule (new_app name) (operand_rule (codes "FILE")) in
-    let options = fold with_option operand (map field_name fs ++ codes "input" ∷ []) in
-    with_rule options (flag_rule (codes "digest"))
+-- a command: it takes these operands, an option for each of these fields and of these names, and these flags
+abbrev pub command_of : Text → (operands : List Text) → List Field → (names flags : List Text) → App
+command_of name operands fs names flags = fold with_rule (new_app name)
+    (map operand_rule operands ++ map option_rule (map field_name fs ++ names) ++ map flag_rule flags)
+
+-- a command that runs the machine: it takes an option for every field, for what is read and for what is saved
+abbrev pub run_of : Text → (operand : Text) → App
+run_of name operand =
+    command_of name (operand ∷ []) fields (codes "input" ∷ codes "save" ∷ []) (codes "digest" ∷ [])
+
+-- the commands: `plain` takes of the fields only those of memory and the limit
+abbrev pub commands : List App
+commands =
+    run_of (codes "run") (codes "FILE")
+    ∷ run_of (codes "resume") (codes "IMAGE")
+    ∷ run_of (codes "bench") (codes "n")
+    ∷ command_of (codes "plain") (codes "FILE" ∷ []) plain_fields (codes "input" ∷ []) (codes "digest" ∷ [])
+    ∷ command_of (codes "make") (codes "n" ∷ codes "OUT" ∷ []) [] [] []
+    ∷ []
 
 -- the program: one of its commands has to be named, and no word asks for help
 abbrev pub bare : App
@@ -56,11 +69,9 @@ bare = record {
   subs = [];
 }
 
--- with its commands: `plain` takes of the fields only those of memory and the limit
+-- with its commands
 abbrev pub program : App
-program =
-    with_subcommand (with_subcommand bare (command_of (codes "run") fields).top)
-    (command_of (codes "plain") plain_fields).top
+program = fold (λ p c. with_subcommand p c.top) bare commands
 
 -- the argument has this rule, and is its command's alone
 pub record IsArg (a : Arg) (r : Rule) : Type 0 where

@@ -11,7 +11,8 @@ use std::alloc::{AllocError, Global};
 use thy_base::{Config, Field, Numbers};
 
 /// The fields, in the order in which they are read.
-static FIELDS: [Field; 16] = [
+static FIELDS: [Field; 17] = [
+    Field::N,
     Field::Base,
     Field::Pages,
     Field::Console,
@@ -81,7 +82,7 @@ pub(crate) fn unreadable(matches: &ArgMatches<'_>) -> Option<Field>
 }
 
 /// The number of a field, or `otherwise` where the words leave it out.
-fn number_at(matches: &ArgMatches<'_>, field: Field, otherwise: u64) -> u64
+pub(crate) fn number_at(matches: &ArgMatches<'_>, field: Field, otherwise: u64) -> u64
     ensures { result ≡ number_at (rows_of (found_of matches.now)) field otherwise }
 {
     match text_of(matches, field.name()) {

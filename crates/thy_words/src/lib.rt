@@ -5,6 +5,7 @@
 mod fields;
 mod numbers;
 mod program;
+mod verb;
 mod words;
 
-pub use words::{Command, WordsError, settings};
+pub use words::{Command, Job, WordsError, settings};

@@ -1,7 +1,7 @@
 //! The program's command line as `clap` is told of it.
 ghost use Rattle.std.specs.Prelude.{◌≡◌, IfOk, fold};
-ghost use Rattle.clap.specs.Simple.{app_of, new_app, with_subcommand};
-ghost use Rattle.thy_words.specs.Program.{IsArg, IsBuilt, bare, program, rule_for, with_argument};
+ghost use Rattle.clap.specs.Simple.{app_of, with_subcommand};
+ghost use Rattle.thy_words.specs.Program.{IsArg, IsBuilt, bare, begun, program, rule_for, with_argument};
 
 use clap::{Arg, ArgAction, Command};
 use std::alloc::{AllocError, Global};
@@ -17,10 +17,9 @@ enum Argument {
     Flag(&'static str),
 }
 
-/// The arguments of `run`: the name of the program file, the options, and whether digests of memory
-/// are told.
-static RUN_ARGUMENTS: [Argument; 19] = [
-    Argument::Operand("FILE"),
+/// The options of `run`, `resume` and `bench`: every field of a configuration, the names of what is read
+/// and of what is saved, and whether digests of memory are told.
+static RUN_OPTIONS: [Argument; 19] = [
     Argument::Valued("base"),
     Argument::Valued("pages"),
     Argument::Valued("console"),
@@ -38,12 +37,12 @@ static RUN_ARGUMENTS: [Argument; 19] = [
     Argument::Valued("tears"),
     Argument::Valued("limit"),
     Argument::Valued("input"),
+    Argument::Valued("save"),
     Argument::Flag("digest"),
 ];
 
-/// The arguments of `plain`.
-static PLAIN_ARGUMENTS: [Argument; 7] = [
-    Argument::Operand("FILE"),
+/// The options of `plain`.
+static PLAIN_OPTIONS: [Argument; 6] = [
     Argument::Valued("base"),
     Argument::Valued("pages"),
     Argument::Valued("console"),
@@ -51,6 +50,9 @@ static PLAIN_ARGUMENTS: [Argument; 7] = [
     Argument::Valued("input"),
     Argument::Flag("digest"),
 ];
+
+/// What `make` takes besides a number: the name under which the program is put.
+static MAKE_NAME: [Argument; 1] = [Argument::Operand("OUT")];
 
 /// An argument as `clap` is told of it.
 fn arg<'a>(alloc: Global, argument: Argument) -> Arg<'a>
@@ -63,17 +65,28 @@ fn arg<'a>(alloc: Global, argument: Argument) -> Arg<'a>
     }
 }
 
-/// A command with its arguments.
+/// A command that begins with an operand.
+fn begun<'a>(alloc: Global, name: &'a str, first: &'static str) -> Result<Command<'a>, AllocError>
+    ensures { IfOk result (λ c. IsBuilt c (begun name.entry.now first.entry.now)) }
+{
+    let operand = arg(alloc, Argument::Operand(first));
+    let command = Command::new(alloc, name).arg(operand)?;
+    Ok(command)
+}
+
+/// A command with its arguments: the operand that it begins with, and the others.
 fn command<'a>(
     alloc: Global,
     name: &'a str,
-    arguments: &'static [Argument],
+    first: &'static str,
+    others: &'static [Argument],
 ) -> Result<Command<'a>, AllocError>
     ensures { IfOk result (λ c. IsBuilt c
-        (fold with_argument (new_app name.entry.now) arguments.entry.now)) }
+        (fold with_argument (begun name.entry.now first.entry.now) others.entry.now)) }
 {
-    let mut wider = Command::new(alloc, name);
-    for item in arguments {
+    let start = begun(alloc, name, first)?;
+    let mut wider = start;
+    for item in others {
         wider = wider.arg(arg(alloc, *item))?;
     }
     Ok(wider)
@@ -84,12 +97,13 @@ fn with_command<'a>(
     alloc: Global,
     program: Command<'a>,
     name: &'a str,
-    arguments: &'static [Argument],
+    first: &'static str,
+    others: &'static [Argument],
 ) -> Result<Command<'a>, AllocError>
     ensures { IfOk result (λ c. app_of c ≡ with_subcommand (app_of program.entry)
-        (fold with_argument (new_app name.entry.now) arguments.entry.now).top) }
+        (fold with_argument (begun name.entry.now first.entry.now) others.entry.now).top) }
 {
-    program.subcommand(command(alloc, name, arguments)?)
+    program.subcommand(command(alloc, name, first, others)?)
 }
 
 /// The program without its commands. It answers no call for help or for a version.
@@ -102,10 +116,13 @@ fn bare<'a>(alloc: Global) -> Command<'a>
         .disable_help_subcommand(true)
 }
 
-/// The program, with its commands `run` and `plain`.
+/// The program, with its five commands.
 pub(crate) fn thynvm<'a>(alloc: Global) -> Result<Command<'a>, AllocError>
     ensures { IfOk result (λ c. app_of c ≡ program) }
 {
-    let program = with_command(alloc, bare(alloc), "run", RUN_ARGUMENTS.as_slice())?;
-    with_command(alloc, program, "plain", PLAIN_ARGUMENTS.as_slice())
+    let program = with_command(alloc, bare(alloc), "run", "FILE", RUN_OPTIONS.as_slice())?;
+    let program = with_command(alloc, program, "resume", "IMAGE", RUN_OPTIONS.as_slice())?;
+    let program = with_command(alloc, program, "bench", "n", RUN_OPTIONS.as_slice())?;
+    let program = with_command(alloc, program, "plain", "FILE", PLAIN_OPTIONS.as_slice())?;
+    with_command(alloc, program, "make", "n", MAKE_NAME.as_slice())
 }

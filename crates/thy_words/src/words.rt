@@ -4,45 +4,47 @@ ghost use Rattle.std.specs.String.{string_bytes};
 ghost use Rattle.clap.specs.Matches.{found_of};
 ghost use Rattle.clap.specs.Simple.{subcommand_rows_of};
 ghost use Rattle.clap.specs.Values.{kind_of};
-ghost use Rattle.clap.specs.Walk.{rows_of};
+ghost use Rattle.clap.specs.Walk.{first_of, rows_of};
 ghost use Rattle.thy_base.specs.Config.{fault_of as range_fault};
-ghost use Rattle.thy_words.specs.Settings.{Answers, AreNames, IsInRange, ShowsOrMemory, job_in, job_of, order_of, order_with, config_in, order_named, ranged, run as RunOrder, plain as PlainOrder, settings_of};
+ghost use Rattle.thy_words.specs.Settings.{Answers, IsInRange, ShowsOrMemory, job_of, job_with, number_fault, operand, order_for, order_in, order_named, order_of, order_with, ranged, settings_of, value_fault, values_at, values_in};
 ghost use Rattle.thy_words.specs.Refused.{is_out_of_memory, refused};
 
-use crate::fields::{config_at, has_flag, text_of, unreadable};
+use crate::fields::{config_at, has_flag, number_at, text_of, unreadable};
 use crate::program::thynvm;
+use crate::verb::{Verb, verb_of};
 use clap::ArgMatches;
 use clap::error::ErrorKind;
 use std::alloc::{AllocError, Global};
-use thy_base::{Config, Field, Geometry};
+use thy_base::{Config, ConfigError, Field, Geometry};
 
-/// A command that the words ask for.
+/// The greatest number of which a program is made.
+const MOST_NUMBER: u64 = 4_294_967_295;
+
+/// How a program is to be run. What a command has no option for has its default.
 #[derive(Debug, Drop)]
-pub enum Command {
-    /// Run the program file FILE on a fresh machine. `input` is the name of what it reads, and `digest`
-    /// says that digests of memory are told.
-    Run {
-        file: String,
-        input: Option<String>,
-        config: Config,
-        digest: bool,
-    },
-    /// The same on the plain machine. A field that it has no option for has its default.
-    Plain {
-        file: String,
-        input: Option<String>,
-        config: Config,
-        digest: bool,
-    },
+pub struct Job {
+    pub config: Config,
+    /// The name on the shelf of what the program reads, if it has an input.
+    pub input: Option<String>,
+    /// The name on the shelf under which the image that the run leaves is saved, if it is.
+    pub save: Option<String>,
+    /// Whether digests of memory are told.
+    pub digest: bool,
 }
 
-/// A program to be run.
-#[derive(Drop)]
-struct Job {
-    file: String,
-    input: Option<String>,
-    config: Config,
-    digest: bool,
+/// A command that the words ask for. A number is at most 4294967295.
+#[derive(Debug, Drop)]
+pub enum Command {
+    /// Run the program file on a fresh machine.
+    Run { file: String, job: Job },
+    /// Run on from what the image has saved.
+    Resume { image: String, job: Job },
+    /// Run the program that is made from the number, and sum the run up.
+    Bench { number: u64, job: Job },
+    /// Run the program file on the plain machine.
+    Plain { file: String, job: Job },
+    /// Put the program that is made from the number under the name.
+    Make { number: u64, name: String },
 }
 
 /// Why the words are refused, or were not read.
@@ -58,93 +60,170 @@ pub enum WordsError {
     Memory(AllocError),
 }
 
-/// The configuration, unless a value is out of range.
-fn ranged(config: Config) -> Result<Config, WordsError>
-    ensures { result ≡ ranged config (range_fault config) }
+/// What the words give for the fields.
+#[derive(Drop)]
+struct Values {
+    /// The number of a made program, or 0 where the words leave it out.
+    number: u64,
+    config: Config,
+}
+
+/// The number of a made program, where it is out of range.
+fn number_fault(number: u64) -> Option<ConfigError>
+    ensures { result ≡ number_fault number }
 {
-    match Geometry::new(&config) {
-        Ok(_) => Ok(config),
-        Err(fault) => Err(WordsError::Value(fault.field, fault.value)),
+    if number <= MOST_NUMBER {
+        None
+    } else {
+        Some(ConfigError {
+            field: Field::N,
+            value: number,
+        })
     }
 }
 
-/// The configuration of what `clap` found for a command's arguments.
-fn config_in(alloc: Global, matches: &ArgMatches<'_>) -> Result<Config, WordsError>
-    ensures { ShowsOrMemory (λ c. c) (config_in (rows_of (found_of matches.now))) result }
+/// The first value of a configuration that is out of range.
+fn range_fault(config: &Config) -> Option<ConfigError>
+    ensures { result ≡ range_fault config.now }
+{
+    match Geometry::new(config) {
+        Ok(_) => None,
+        Err(fault) => Some(fault),
+    }
+}
+
+/// The first value that is out of range.
+fn value_fault(values: &Values) -> Option<ConfigError>
+    ensures { result ≡ value_fault values.now }
+{
+    match number_fault(values.number) {
+        None => range_fault(&values.config),
+        Some(fault) => Some(fault),
+    }
+}
+
+/// The values, unless one is out of range.
+fn ranged(values: Values) -> Result<Values, WordsError>
+    ensures { result ≡ ranged values (value_fault values) }
+{
+    match value_fault(&values) {
+        None => Ok(values),
+        Some(fault) => Err(WordsError::Value(fault.field, fault.value)),
+    }
+}
+
+/// The values of what `clap` found for a command's arguments, in which each field is readable.
+fn values_at(alloc: Global, matches: &ArgMatches<'_>) -> Result<Values, AllocError>
+    ensures { IfOk result (λ v. v ≡ values_at (rows_of (found_of matches.now))) }
+{
+    Ok(Values {
+        number: number_at(matches, Field::N, 0),
+        config: config_at(alloc, matches)?,
+    })
+}
+
+/// The values of what `clap` found for a command's arguments.
+fn values_in(alloc: Global, matches: &ArgMatches<'_>) -> Result<Values, WordsError>
+    ensures { ShowsOrMemory (λ v. v) (values_in (rows_of (found_of matches.now))) result }
 {
     match unreadable(matches) {
         Some(field) => Err(WordsError::Word(field)),
-        None => match config_at(alloc, matches) {
-            Ok(config) => ranged(config),
+        None => match values_at(alloc, matches) {
+            Ok(values) => ranged(values),
             Err(error) => Err(WordsError::Memory(error)),
         },
     }
 }
 
-/// A text of the caller's own.
-fn owned(alloc: Global, text: Option<&str>) -> Result<Option<String>, AllocError>
-    ensures { IfOk result (λ o. option_map string_bytes o ≡ option_map (λ s. s.now) text.entry) }
+/// The name that stands for an operand, as a text of the caller's own.
+fn operand(alloc: Global, matches: &ArgMatches<'_>, name: &str) -> Result<String, AllocError>
+    ensures { IfOk result (λ s.
+        string_bytes s ≡ operand name.now (rows_of (found_of matches.now))) }
 {
-    match text {
+    String::from_str(alloc, text_of(matches, name).unwrap_or(""))
+}
+
+/// The name that an option gives, if it stands, as a text of the caller's own.
+fn optional(
+    alloc: Global,
+    matches: &ArgMatches<'_>,
+    name: &str,
+) -> Result<Option<String>, AllocError>
+    ensures { IfOk result (λ o. option_map string_bytes o
+        ≡ first_of name.now (rows_of (found_of matches.now))) }
+{
+    match text_of(matches, name) {
         Some(text) => Ok(Some(String::from_str(alloc, text)?)),
         None => Ok(None),
     }
 }
 
-/// FILE and the name of the input, as texts of the caller's own.
-fn names_in(alloc: Global, matches: &ArgMatches<'_>) -> Result<(String, Option<String>), AllocError>
-    ensures { IfOk result (λ names. AreNames (rows_of (found_of matches.now))
-        (string_bytes names.0) (option_map string_bytes names.1)) }
+/// How a program is to be run, of what `clap` found for a command's arguments.
+fn job_with(alloc: Global, matches: &ArgMatches<'_>, config: Config) -> Result<Job, AllocError>
+    ensures { IfOk result (λ j. job_of j ≡ job_with (rows_of (found_of matches.now)) config) }
 {
-    let file = String::from_str(alloc, text_of(matches, "FILE").unwrap_or(""))?;
-    let input = owned(alloc, text_of(matches, "input"))?;
-    Ok((file, input))
+    let input = optional(alloc, matches, "input")?;
+    let save = optional(alloc, matches, "save")?;
+    Ok(Job {
+        config,
+        input,
+        save,
+        digest: has_flag(matches, "digest"),
+    })
 }
 
-/// A program to be run, of what `clap` found for a command's arguments.
-fn job_in(alloc: Global, matches: &ArgMatches<'_>) -> Result<Job, WordsError>
-    ensures { ShowsOrMemory job_of (job_in (rows_of (found_of matches.now))) result }
+/// A command with its values, of what `clap` found for its arguments.
+fn order_with(
+    alloc: Global,
+    verb: Verb,
+    matches: &ArgMatches<'_>,
+    values: Values,
+) -> Result<Command, AllocError>
+    ensures { IfOk result (λ c.
+        order_of c ≡ order_with verb (rows_of (found_of matches.now)) values) }
 {
-    let config = config_in(alloc, matches)?;
-    let digest = has_flag(matches, "digest");
-    match names_in(alloc, matches) {
-        Ok((file, input)) => Ok(Job {
-            file,
-            input,
-            config,
-            digest,
+    match verb {
+        Verb::Run => Ok(Command::Run {
+            file: operand(alloc, matches, "FILE")?,
+            job: job_with(alloc, matches, values.config)?,
         }),
+        Verb::Resume => Ok(Command::Resume {
+            image: operand(alloc, matches, "IMAGE")?,
+            job: job_with(alloc, matches, values.config)?,
+        }),
+        Verb::Bench => Ok(Command::Bench {
+            number: values.number,
+            job: job_with(alloc, matches, values.config)?,
+        }),
+        Verb::Plain => Ok(Command::Plain {
+            file: operand(alloc, matches, "FILE")?,
+            job: job_with(alloc, matches, values.config)?,
+        }),
+        Verb::Make => Ok(Command::Make {
+            number: values.number,
+            name: operand(alloc, matches, "OUT")?,
+        }),
+    }
+}
+
+/// A command, of what `clap` found for its arguments.
+fn order_for(alloc: Global, verb: Verb, matches: &ArgMatches<'_>) -> Result<Command, WordsError>
+    ensures { Answers (order_for verb (rows_of (found_of matches.now))) result }
+{
+    let values = values_in(alloc, matches)?;
+    match order_with(alloc, verb, matches, values) {
+        Ok(command) => Ok(command),
         Err(error) => Err(WordsError::Memory(error)),
     }
 }
 
-/// `run`, of what `clap` found for its arguments.
-fn run(alloc: Global, matches: &ArgMatches<'_>) -> Result<Command, WordsError>
-    ensures { Answers (order_with RunOrder (job_in (rows_of (found_of matches.now)))) result }
+/// What the words ask for, of the name and what `clap` found behind it.
+fn order_in(alloc: Global, name: &str, found: &ArgMatches<'_>) -> Result<Command, WordsError>
+    ensures { Answers (order_in (name.now, rows_of (found_of found.now))) result }
 {
-    match job_in(alloc, matches) {
-        Ok(job) => Ok(Command::Run {
-            file: job.file,
-            input: job.input,
-            config: job.config,
-            digest: job.digest,
-        }),
-        Err(error) => Err(error),
-    }
-}
-
-/// `plain`, of what `clap` found for its arguments.
-fn plain(alloc: Global, matches: &ArgMatches<'_>) -> Result<Command, WordsError>
-    ensures { Answers (order_with PlainOrder (job_in (rows_of (found_of matches.now)))) result }
-{
-    match job_in(alloc, matches) {
-        Ok(job) => Ok(Command::Plain {
-            file: job.file,
-            input: job.input,
-            config: job.config,
-            digest: job.digest,
-        }),
-        Err(error) => Err(error),
+    match verb_of(name) {
+        Some(verb) => order_for(alloc, verb, found),
+        None => Err(WordsError::Usage),
     }
 }
 
@@ -153,15 +232,7 @@ fn order(alloc: Global, matches: &ArgMatches<'_>) -> Result<Command, WordsError>
     ensures { Answers (order_named (subcommand_rows_of matches.now)) result }
 {
     match matches.subcommand() {
-        Some((name, found)) => {
-            if name == "run" {
-                run(alloc, found)
-            } else if name == "plain" {
-                plain(alloc, found)
-            } else {
-                Err(WordsError::Usage)
-            }
-        }
+        Some((name, found)) => order_in(alloc, name, found),
         None => Err(WordsError::Usage),
     }
 }
@@ -187,7 +258,8 @@ fn refused(error: &clap::Error) -> WordsError
 /// The command and the configuration that the words ask for, the program's name first.
 ///
 /// Words that are no command line are refused as `Usage`. Else the first field whose text is no
-/// value of it is refused as `Word`, and else the first that is out of range as `Value`.
+/// value of it is refused as `Word`, and else the first that is out of range as `Value`. The number of
+/// a made program is the first field, those of the configuration follow in their order.
 pub fn settings(alloc: Global, words: &[String]) -> Result<Command, WordsError>
     ensures exact { Answers (settings_of (map string_bytes words.now)) result }
     ensures in_range { IfOk result (λ command. IsInRange (order_of command)) }

@@ -1,5 +1,5 @@
 use Rattle.thy_core.specs.Parts.{machine_of}
-use Rattle.thy_core.proofs.SnapshotLaws.{can_run, sound-behind, boot_between, snapshot_when}
+use Rattle.thy_core.proofs.SnapshotLaws.{can_run, sound-behind, boot_unwritten, snapshot_when}
 use Rattle.thy_core.proofs.snapshot.snapshot.Goals as goal
 
 pub executing-requires-clause-stands : goal.executing-requires-clause-stands
@@ -13,10 +13,10 @@ executing-requires-clause-sized g c =
     (sound-behind g.S.Scheme.scheme run.o run.cycles (machine_of c.args.m.now) (g.N.Nvm.device c.args.nvm.now) run.at_moment c.in-Run.is).follows.sized
 
 pub returns-in-Boot-clause-state : goal.returns-in-Boot-clause-state
-returns-in-Boot-clause-state g c = λ o k sound between.
-    absurd (boot_between g.S.Scheme.scheme g.met.S.Scheme.lawful o k (machine_of c.args.m.now) (g.N.Nvm.device c.args.nvm.now) sound c.in-Boot.is between)
+returns-in-Boot-clause-state g c = λ o k sound unwritten.
+    absurd (boot_unwritten (machine_of c.args.m.now) c.in-Boot.is unwritten)
 
 pub returns-in-Run-clause-state : goal.returns-in-Run-clause-state
-returns-in-Run-clause-state g c = λ o k sound between.
-    snapshot_when g.S.Scheme.scheme o k (machine_of c.args.m.now) (g.N.Nvm.device c.args.nvm.now) c.executing.result sound c.in-Run.is between
+returns-in-Run-clause-state g c = λ o k sound unwritten.
+    snapshot_when g.S.Scheme.scheme o k (machine_of c.args.m.now) (g.N.Nvm.device c.args.nvm.now) c.executing.result sound c.in-Run.is unwritten
     c.executing.ensures.state

@@ -1,5 +1,8 @@
+use Rattle.std.proofs.Common.{Result, IfOk, OnErr, subst}
+use Rattle.thy_base.specs.declared.nvm.NvmError.{NvmError}
+use Rattle.thy_view.specs.declared.did.Did.{Did}
+use Rattle.thy_core.specs.Cycles.{IsCycle, HasFailedAs}
 use Rattle.thy_core.specs.Parts.{machine_of, actor_of}
-use Rattle.thy_core.proofs.CycleLaws.{on_err}
 use Rattle.thy_core.proofs.TakenLaws.{at_run, turned, step_taken, step_failed}
 use Rattle.thy_core.proofs.step.take_step.Goals as goal
 
@@ -18,27 +21,48 @@ cycle-requires g c =
       turn = turned K run.o run.cycles c.args.pick c.queued.result (actor_of c.next_turn-turn.result) m n at c.queued.ensures c.next_turn-turn.ensures;
     }
 
-pub returns-clause-steps : goal.returns-clause-steps
-returns-clause-steps g c = λ o k begins sound few.
+pub returns-in-Ok-clause-steps : goal.returns-in-Ok-clause-steps
+returns-in-Ok-clause-steps g c = λ o k begins sound few.
     let K = g.S.Scheme.scheme in
     let m = machine_of c.args.m.now in
     let n = g.N.Nvm.device c.args.nvm.now in
+    let next = machine_of c.cycle.new.m in
+    let new = g.N.Nvm.device c.cycle.new.nvm in
     let actor = actor_of c.next_turn-turn.result in
     let at = at_run K g.met.S.Scheme.lawful o k m n sound few in
     let turn = turned K o k c.args.pick c.queued.result actor m n at c.queued.ensures c.next_turn-turn.ensures in
-    step_taken K o k c.args.pick c.queued.result actor m (machine_of c.cycle.new.m) n (g.N.Nvm.device c.cycle.new.nvm)
-    (record { did = c.in_ok-did.did; stall = c.told.result; ended = c.has_halted.result })
-    at c.queued.ensures c.next_turn-turn.ensures (c.in_ok-did.ensures.leads o k begins at turn) c.told.ensures c.has_halted.ensures
+    let led : IsCycle K o k actor c.in-Ok.did m n next new =
+    subst (λ (r : Result Did NvmError). IfOk r (λ did. IsCycle K o k actor did m n next new)) c.in-Ok.is (c.cycle.ensures.leads o k begins at turn) in
+    step_taken K o k c.args.pick c.queued.result actor m next n new
+    (record { did = c.in-Ok.did; stall = c.told.result; ended = c.has_halted.result })
+    at c.queued.ensures c.next_turn-turn.ensures led c.told.ensures c.has_halted.ensures
 
-pub returns-in_err-did-clause-safe : goal.returns-in_err-did-clause-safe
-returns-in_err-did-clause-safe g c = λ o k begins sound.
+pub returns-in-Ok-clause-failed : goal.returns-in-Ok-clause-failed
+returns-in-Ok-clause-failed g c =
     let K = g.S.Scheme.scheme in
     let m = machine_of c.args.m.now in
     let n = g.N.Nvm.device c.args.nvm.now in
+    let next = machine_of c.cycle.new.m in
+    let new = g.N.Nvm.device c.cycle.new.nvm in
     let run = c.requires in
     let actor = actor_of c.next_turn-turn.result in
     let at = at_run K g.met.S.Scheme.lawful run.o run.cycles m n run.at_moment run.few in
     let turn = turned K run.o run.cycles c.args.pick c.queued.result actor m n at c.queued.ensures c.next_turn-turn.ensures in
-    on_err c.from_residual.result
-    (step_failed K run.o o run.cycles k c.args.start.now c.args.pick c.queued.result actor m n (g.N.Nvm.device c.cycle.new.nvm)
-    at run.begins begins sound c.queued.ensures c.next_turn-turn.ensures (c.in_err-did.ensures.fails run.o run.cycles run.begins at turn))
+    let led : IsCycle K run.o run.cycles actor c.in-Ok.did m n next new =
+    subst (λ (r : Result Did NvmError). IfOk r (λ did. IsCycle K run.o run.cycles actor did m n next new)) c.in-Ok.is (c.cycle.ensures.leads run.o run.cycles run.begins at turn) in
+    led.leads.at_next.unfailed
+
+pub returns-in-Err-clause-safe : goal.returns-in-Err-clause-safe
+returns-in-Err-clause-safe g c = λ o k begins sound.
+    let K = g.S.Scheme.scheme in
+    let m = machine_of c.args.m.now in
+    let n = g.N.Nvm.device c.args.nvm.now in
+    let new = g.N.Nvm.device c.cycle.new.nvm in
+    let run = c.requires in
+    let actor = actor_of c.next_turn-turn.result in
+    let at = at_run K g.met.S.Scheme.lawful run.o run.cycles m n run.at_moment run.few in
+    let turn = turned K run.o run.cycles c.args.pick c.queued.result actor m n at c.queued.ensures c.next_turn-turn.ensures in
+    let failed : HasFailedAs K run.o actor m n new =
+    subst (λ (r : Result Did NvmError). OnErr r (HasFailedAs K run.o actor m n new)) c.in-Err.is (c.cycle.ensures.fails run.o run.cycles run.begins at turn) in
+    step_failed K run.o o run.cycles k c.args.start.now c.args.pick c.queued.result actor m n new
+    at run.begins begins sound c.queued.ensures c.next_turn-turn.ensures failed

@@ -5,11 +5,11 @@ use Rattle.std.proofs.lemmas.Iterator.Consumers.{YieldsList-from_copied}
 use Rattle.std.proofs.lemmas.Iterator.Search.{find_from_yields_List}
 use Rattle.clap.specs.Matches.{found_of}
 use Rattle.clap.specs.Walk.{rows_of}
-use Rattle.thy_words.specs.Fields.{fields, is_readable}
+use Rattle.thy_words.specs.Fields.{all_fields, is_readable}
 use Rattle.thy_words.proofs.fields.unreadable.Goals as goal
 
 pub returns : goal.returns
 returns c =
     sym (option_map_id c.find.result)
     ∙ find_from_yields_List (λ field. not (is_readable (rows_of (found_of c.args.matches.now)) field)) _ _ _ c.find.ensures.ran
-    (YieldsList-from_copied (YieldsList-from_slice fields (cc))) (λ x b q k. search rules)
+    (YieldsList-from_copied (YieldsList-from_slice all_fields (cc))) (λ x b q k. search rules)

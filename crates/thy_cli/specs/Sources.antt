@@ -1,0 +1,151 @@
+-- Where the program of a run comes from, and what its bytes mean.
+use Rattle.std.specs.Prelude.{◌≡◌, ◌⊎◌, ℕ, ◌<◌, ◌≤◌, ◌^◌, nat_le, if◌then◌else◌, List, [], length, Option, Some, None, Result, Ok, Err, MatchOption}
+use Rattle.std.specs.List.{All}
+use Rattle.thy_base.specs.declared.block.Block.{Block}
+use Rattle.thy_base.specs.declared.config.Parameters.{Parameters}
+use Rattle.thy_base.specs.declared.mark.Mark.{Mark}
+use Rattle.thy_base.specs.declared.outside.FetchError.{FetchError}
+use Rattle.thy_base.specs.declared.outside.FetchError.TheVariants.{Failed as FetchFailed, NotThere, TooLong, Memory as FetchMemory}
+use Rattle.thy_base.specs.Counts.{Rose}
+use Rattle.thy_base.specs.Geometry.{parameters_of, program_size}
+use Rattle.thy_base.specs.Marks.{mark}
+use Rattle.thy_base.specs.Outside.{Stock, Files}
+use Rattle.thy_elf.specs.declared.error.ElfError.{ElfError}
+use Rattle.thy_elf.specs.declared.error.ElfError.TheVariants.{Memory as ElfMemory}
+use Rattle.thy_elf.specs.Image.{Contents, read_of}
+use Rattle.thy_isa.specs.Step.{State}
+use Rattle.thy_isa.specs.Storable.{IsByte}
+use Rattle.thy_make.specs.File.{made_file}
+use Rattle.thy_plain.specs.Start.{start_state}
+use Rattle.thy_record.specs.declared.image.BadImage.TheVariants.{Empty}
+use Rattle.thy_record.specs.Decoded.{Decoded, Nothing, Refused, At}
+use Rattle.thy_record.specs.Files.{blocks_of, decode_file}
+use Rattle.thy_view.specs.Origin.{Origin}
+use Rattle.thy_words.specs.Settings.{Job}
+use Rattle.thy_cli.specs.declared.refusal.Refusal.{Refusal}
+use Rattle.thy_cli.specs.declared.refusal.Refusal.TheVariants.{Words, Fetch, File, Image, Input, Device as DeviceRefusal, Memory as MemoryRefusal}
+
+-- ---- what stands on a shelf
+
+-- the most bytes that a file may have
+abbrev pub most_bytes : ℕ
+most_bytes = 67108864
+
+-- bytes that may be those under a name: they are, where the shelf tells
+abbrev pub IsHeld : Stock → List ℕ → List ℕ → Type 0
+IsHeld stock name bytes =
+    (length bytes ≤ most_bytes) × ((files : Files) → stock.held ≡ Some files → files name ≡ Some bytes)
+
+-- more bytes than a file may have
+abbrev pub IsTooLong : Option (List ℕ) → Type 0
+IsTooLong there = (bytes : List ℕ) × (there ≡ Some bytes) × (most_bytes < length bytes)
+
+-- why a file was not had: the shelf's count rose, or a shelf that tells has nothing there, or too much; want of memory may
+-- raise the count
+abbrev pub FetchDue : Stock → Stock → List ℕ → FetchError → Type 0
+FetchDue old new name FetchFailed = Rose old.faults new.faults
+FetchDue old new name NotThere =
+    MatchOption old.held (Rose old.faults new.faults) (λ files. (files name ≡ None) × (new.faults ≡ old.faults))
+FetchDue old new name TooLong =
+    MatchOption old.held (Rose old.faults new.faults) (λ files. IsTooLong (files name) × (new.faults ≡ old.faults))
+FetchDue old new name (FetchMemory e) = old.faults ≤ new.faults
+
+-- the bytes of an input: those under its name, or none where there is no name
+abbrev pub IsInput : Stock → Option (List ℕ) → List ℕ → Type 0
+IsInput stock None bytes = bytes ≡ []
+IsInput stock (Some name) bytes = IsHeld stock name bytes
+
+-- ---- sources
+
+-- a program file of this name, the one that is made from this number, or a saved image of this name
+pub data Source : Type 0 where
+  file : List ℕ → Source
+  made : ℕ → Source
+  image : List ℕ → Source
+
+-- the name that has to be had for a source
+abbrev pub name_of : Source → Option (List ℕ)
+name_of (file name) = Some name
+name_of (image name) = Some name
+name_of (made n) = None
+
+-- the bytes of a source: those under its name, or those that are made
+abbrev pub AreBytesOf : Source → Stock → List ℕ → Type 0
+AreBytesOf (file name) stock bytes = IsHeld stock name bytes
+AreBytesOf (image name) stock bytes = IsHeld stock name bytes
+AreBytesOf (made n) stock bytes = bytes ≡ made_file n
+
+-- with what a run begins: a state, the checkpoint that it was taken from if it was, and the first blocks of its device
+pub record Beginning : Type 0 where
+  pub start : State
+  pub kept : Option Mark
+  pub blocks : List Block
+
+-- a program from its entry, over a device of zeros
+abbrev pub begun : Parameters → Result Contents ElfError → Result Beginning Refusal
+begun p (Ok contents) = Ok (record { start = start_state p contents; kept = None; blocks = [] })
+begun p (Err e) = Err (File e)
+
+-- a checkpoint, over the image that it stands in; what it has read of the input has to be there
+abbrev pub restored : (bytes input : List ℕ) → Decoded → Result Beginning Refusal
+restored bytes input Nothing = Err (Image Empty)
+restored bytes input (Refused bad) = Err (Image bad)
+restored bytes input (At epoch s) =
+    if nat_le s.cursor (length input)
+    then Ok (record { start = s; kept = Some (mark epoch s.count); blocks = blocks_of bytes })
+    else Err (Input s.cursor (length input))
+
+-- the epochs and counts of a saved image are below this
+abbrev pub saved_ceiling : ℕ
+saved_ceiling = 2 ^ 62
+
+-- what the bytes of a source mean to a job with this input
+abbrev pub meaning_of : Source → Job → (bytes input : List ℕ) → Result Beginning Refusal
+meaning_of (image name) job bytes input =
+    restored bytes input (decode_file (parameters_of job.config) saved_ceiling bytes)
+meaning_of source job bytes input =
+    begun (parameters_of job.config) (read_of bytes job.config.base (program_size (parameters_of job.config)))
+
+-- bytes of a source, and an input, were had
+pub record IsHad (source : Source) (job : Job) (stock : Stock) (bytes input : List ℕ) : Type 0 where
+  pub are_bytes : All IsByte bytes
+  pub had : AreBytesOf source stock bytes
+  pub input_bytes : All IsByte input
+  pub is_input : IsInput stock job.input input
+
+-- and a run can begin with them
+pub record IsProgram (source : Source) (job : Job) (stock : Stock) : Type 0 where
+  pub bytes : List ℕ
+  pub input : List ℕ
+  pub had : IsHad source job stock bytes input
+  pub begins : Beginning
+  pub means : meaning_of source job bytes input ≡ Ok begins
+
+-- what a run is about, that begins so
+abbrev pub origin_for : Job → Beginning → List ℕ → Origin
+origin_for job begins input =
+    record { geometry = parameters_of job.config; start = begins.start; input = input; kept = begins.kept }
+
+-- ---- why there is no program
+
+-- a job asks for this name: that of its source; or that of its input, once it has the source's bytes
+abbrev pub IsWanted : Source → Job → Stock → List ℕ → Type 0
+IsWanted source job stock name =
+    (name_of source ≡ Some name)
+    ⊎ ((job.input ≡ Some name) × (bytes : List ℕ) × AreBytesOf source stock bytes)
+
+-- bytes and input were had, and mean this refusal
+abbrev pub IsMeant : Source → Job → Stock → Refusal → Type 0
+IsMeant source job stock r =
+    (bytes : List ℕ) × AreBytesOf source stock bytes × (input : List ℕ) × IsInput stock job.input input
+    × (meaning_of source job bytes input ≡ Err r)
+
+-- Why a run has no program: bytes or input were not had, or both were and mean none. Want of memory is free, but that the
+-- shelf's count stays.
+abbrev pub ProgramDue : Source → Job → Stock → Stock → Refusal → Type 0
+ProgramDue source job old new (Fetch name e) = IsWanted source job old name.now × FetchDue old new name.now e
+ProgramDue source job old new (File (ElfMemory e)) = new.faults ≡ old.faults
+ProgramDue source job old new (MemoryRefusal e) = new.faults ≡ old.faults
+ProgramDue source job old new (Words e) = ⊥
+ProgramDue source job old new (DeviceRefusal e) = ⊥
+ProgramDue source job old new r = (new.faults ≡ old.faults) × IsMeant source job old r

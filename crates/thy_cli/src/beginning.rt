@@ -1,0 +1,77 @@
+//! With what a run begins, by where its program comes from.
+ghost use Rattle.std.specs.Prelude.{List, ℕ};
+ghost use Rattle.thy_base.specs.Geometry.{IsInRange};
+ghost use Rattle.thy_cli.specs.Sources.{Source as SourceValue, image};
+ghost use Rattle.thy_cli.specs.Planning.{BeginsAs, IsElf, RefusesAs, named};
+
+use crate::refusal::Refusal;
+use crate::restoring::{Beginning, restore};
+use crate::source::{Had, Source, program_of};
+use std::alloc::Global;
+use thy_base::Geometry;
+use thy_plain::start_of;
+use thy_record::{BadImage, Found, Start, check};
+
+/// The epochs and counts of a saved image are below this.
+const SAVED_CEILING: u64 = 1 << 62;
+
+/// From a program's entry, over a device of zeros.
+fn from_entry<'a>(alloc: Global, geometry: Geometry, had: Had) -> Result<Beginning, Refusal<'a>>
+    requires { IsInRange geometry }
+    ensures refusal { (source : SourceValue) → IsElf source → RefusesAs source geometry had result }
+    ensures begins { (source : SourceValue) → IsElf source → BeginsAs source geometry had result }
+{
+    let program = match program_of(alloc, geometry, had) {
+        Ok(program) => program,
+        Err(refusal) => return Err(refusal),
+    };
+    let start = Start {
+        state: start_of(alloc, program.image, &program.geometry),
+        kept: None,
+        input: program.input,
+    };
+    Ok(Beginning {
+        start,
+        blocks: Vec::new(alloc),
+    })
+}
+
+/// From the checkpoint of a saved image, over that image.
+fn from_image<'a>(alloc: Global, geometry: &Geometry, had: Had) -> Result<Beginning, Refusal<'a>>
+    ensures refusal { (name : List ℕ) → RefusesAs (image name) geometry.now had result }
+    ensures begins { (name : List ℕ) → BeginsAs (image name) geometry.now had result }
+{
+    let Had { bytes, input } = had;
+    let epoch = match check(bytes.as_slice(), geometry, SAVED_CEILING) {
+        Ok(Found::At(epoch)) => epoch,
+        Ok(Found::Nothing) => return Err(Refusal::Image(BadImage::Empty)),
+        Err(bad) => return Err(Refusal::Image(bad)),
+    };
+    let length = input.len() as u64;
+    let beginning = match restore(alloc, bytes.as_slice(), geometry, epoch, input) {
+        Ok(beginning) => beginning,
+        Err(error) => return Err(Refusal::Memory(error)),
+    };
+    let cursor = beginning.start.state.cursor;
+    if cursor > length {
+        return Err(Refusal::Input { cursor, length });
+    }
+    Ok(beginning)
+}
+
+/// With what a run begins whose bytes and input were had.
+pub fn begin<'a>(
+    alloc: Global,
+    source: Source<'a>,
+    geometry: Geometry,
+    had: Had,
+) -> Result<Beginning, Refusal<'a>>
+    requires { IsInRange geometry }
+    ensures refusal { RefusesAs (named source.entry) geometry had result }
+    ensures begins { BeginsAs (named source.entry) geometry had result }
+{
+    match source {
+        Source::Image(_) => from_image(alloc, &geometry, had),
+        Source::File(_) | Source::Made(_) => from_entry(alloc, geometry, had),
+    }
+}

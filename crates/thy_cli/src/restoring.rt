@@ -1,0 +1,63 @@
+//! With what a run begins that goes on from a saved image.
+ghost use Rattle.std.specs.Prelude.{◌≡◌, ◌/◌, ◌<◌, length, IfOk};
+ghost use Rattle.thy_base.specs.Bytes.{bytes_of};
+ghost use Rattle.thy_record.specs.Files.{block_in as block_of_bytes, blocks_of};
+ghost use Rattle.thy_cli.specs.Restoring.{IsFoundAt, IsRestored};
+
+use std::alloc::{AllocError, Global};
+use thy_base::{BLOCK_SIZE, Block, Bytes, Geometry, Mark};
+use thy_record::{Start, state};
+
+/// With what a run begins: a start, and the first blocks of its device.
+#[derive(Drop)]
+pub struct Beginning {
+    pub start: Start,
+    pub blocks: Vec<Block>,
+}
+
+// Block k of bytes.
+fn block_in(bytes: &[u8], k: usize) -> Block
+    requires { k < length bytes.now / 64 }
+    ensures { result ≡ block_of_bytes bytes.now k }
+{
+    let mut block = [0; BLOCK_SIZE];
+    block.copy_from_slice(&bytes[BLOCK_SIZE * k..BLOCK_SIZE * k + BLOCK_SIZE]);
+    Block(block)
+}
+
+/// The whole blocks of bytes.
+fn whole_blocks(alloc: Global, bytes: &[u8]) -> Result<Vec<Block>, AllocError>
+    ensures { IfOk result (λ v. v.items ≡ blocks_of bytes.now) }
+{
+    let count = bytes.len() / BLOCK_SIZE;
+    let mut blocks = Vec::with_capacity(alloc, count)?;
+    for k in 0..count {
+        blocks.push(block_in(bytes, k))?;
+    }
+    Ok(blocks)
+}
+
+/// With what a run begins that goes on from the checkpoint in the bytes of an image: its state, with this input, and the
+/// image's blocks. A `check` of these bytes has found the checkpoint of this epoch, with epochs and counts below `2^62`.
+/// Fails where memory is short.
+pub fn restore(
+    alloc: Global,
+    bytes: &[u8],
+    geometry: &Geometry,
+    epoch: u64,
+    input: Bytes,
+) -> Result<Beginning, AllocError>
+    requires { IsFoundAt geometry.now bytes.now epoch }
+    ensures { IfOk result (λ b. IsRestored geometry.now bytes.now (bytes_of input) epoch b) }
+{
+    let state = state(alloc, bytes, geometry)?;
+    let blocks = whole_blocks(alloc, bytes)?;
+    let kept = Some(Mark {
+        epoch,
+        count: state.count,
+    });
+    Ok(Beginning {
+        start: Start { state, kept, input },
+        blocks,
+    })
+}

@@ -1,0 +1,168 @@
+//! A run on the machine.
+ghost use Rattle.std.specs.Prelude.{◌≡◌, None, IfOk, IfErr, OnOk, option_map};
+ghost use Rattle.thy_base.specs.Config.{fault_of as range_fault};
+ghost use Rattle.thy_base.specs.Geometry.{IsInRange};
+ghost use Rattle.thy_words.specs.Settings.{Job as JobValue, job_of};
+ghost use Rattle.thy_cli.specs.Answering.{outside, RunAnswered};
+ghost use Rattle.thy_cli.specs.Sources.{ProgramDue};
+ghost use Rattle.thy_cli.specs.Saving.{SavesUnder, saves};
+ghost use Rattle.thy_cli.specs.Planning.{Begins, CanRun, HasRoom, IsPlannedFor, RunsPlan, named};
+ghost use Rattle.thy_cli.specs.Restoring.{ReadsFiles};
+
+use crate::answer::Answer;
+use crate::beginning::begin;
+use crate::close::answer;
+use crate::refusal::{Refusal, refuse};
+use crate::restoring::Beginning;
+use crate::saving::{cuts_in, is_saved, save, save_pick};
+use crate::source::{Source, fetch_both};
+use std::alloc::Global;
+use thy_base::{Block, Geometry, Nvm, PutError, Shape, Shelf, Sink};
+use thy_run::{Ending, Plan, run};
+use thy_view::Computer;
+use thy_words::{Job, WordsError};
+
+/// With what a job's run begins; or why there is no run.
+fn prepare<'a, H: Shelf>(
+    alloc: Global,
+    source: Source<'a>,
+    input: Option<&'a str>,
+    geometry: Geometry,
+    shelf: &mut H,
+) -> Result<Beginning, Refusal<'a>>
+    requires { IsInRange geometry }
+    ensures refusal { (job : JobValue) → IsPlannedFor job geometry (option_map (λ n. n.now) input.entry)
+        → IfErr result (ProgramDue (named source.entry) job (H.stock shelf.old) (H.stock shelf.new)) }
+    ensures held { (H.stock shelf.new).held ≡ (H.stock shelf.old).held }
+    ensures calm { OnOk result ((H.stock shelf.new).faults ≡ (H.stock shelf.old).faults) }
+    ensures begins { (job : JobValue) → IsPlannedFor job geometry (option_map (λ n. n.now) input.entry)
+        → IfOk result (λ b. Begins (named source.entry) job (H.stock shelf.old) b) }
+{
+    match fetch_both(alloc, source, input, shelf) {
+        Ok(had) => begin(alloc, source, geometry, had),
+        Err(refusal) => Err(refusal),
+    }
+}
+
+/// Saves a run that stopped, if it is to be saved; and answers why it was not, where it was to be and was not.
+fn save_run<H: Shelf, N: Nvm>(
+    alloc: Global,
+    name: Option<&str>,
+    plan: &Plan,
+    blocks: u64,
+    ending: &Ending,
+    shelf: &mut H,
+    nvm: &mut N,
+) -> Option<PutError>
+    requires { HasRoom (N.device nvm.old) ending.now.events blocks }
+    ensures { let n = N.device nvm.old in
+        let new = N.device nvm.new in
+        SavesUnder (option_map (λ n. n.now) name.entry) (saves ending.now.stop) plan.now.config n new (H.stock shelf.old) (H.stock shelf.new) result }
+{
+    match name {
+        Some(name) if is_saved(ending.stop) => {
+            let kept = cuts_in(&ending.events);
+            save(
+                alloc,
+                name,
+                save_pick(&plan.config),
+                kept,
+                blocks,
+                nvm,
+                shelf,
+            )
+        }
+        _ => None,
+    }
+}
+
+/// Runs a plan over a device that is made for it, with these first blocks, and saves the run.
+fn run_plan<M: Computer, H: Shelf, T: Sink, R: Sink, N: Nvm>(
+    alloc: Global,
+    source: Source,
+    save: Option<&str>,
+    plan: &Plan,
+    blocks: &[Block],
+    shelf: &mut H,
+    terminal: &mut T,
+    report: &mut R,
+    nvm: &mut N,
+) -> Answer
+    requires can { CanRun plan.now blocks.now }
+    requires reads { ReadsFiles M.kind }
+    ensures { let before = outside (H.stock shelf.old) (N.device nvm.old)
+        (T.stream terminal.old) (R.stream report.old) in
+        let after = outside (H.stock shelf.new) (N.device nvm.new)
+        (T.stream terminal.new) (R.stream report.new) in
+        RunsPlan M.kind (named source.entry) (option_map (λ n. n.now) save.entry) plan.now blocks.now before after result }
+{
+    let shape = Shape {
+        blocks: M::nvm_blocks(&plan.geometry),
+        queue: plan.geometry.numbers().nvmq,
+        cuts: plan.config.cuts.len() as u64,
+    };
+    match nvm.fit(alloc, &shape, blocks) {
+        Ok(()) => {
+            let ending = run::<M, T, R, N>(alloc, plan, terminal, report, nvm);
+            let why = save_run(alloc, save, plan, shape.blocks, &ending, shelf, nvm);
+            let limit = plan.geometry.numbers().limit;
+            answer(source, save, ending, why, limit, report)
+        }
+        Err(error) => refuse(alloc, Refusal::Device(error), report),
+    }
+}
+
+/// Runs a job on the machine, from where its program comes.
+pub fn run_source<M: Computer, H: Shelf, T: Sink, R: Sink, N: Nvm>(
+    alloc: Global,
+    source: Source,
+    job: Job,
+    shelf: &mut H,
+    terminal: &mut T,
+    report: &mut R,
+    nvm: &mut N,
+) -> Answer
+    requires range { range_fault job.config ≡ None }
+    requires reads { ReadsFiles M.kind }
+    ensures { let before = outside (H.stock shelf.old) (N.device nvm.old)
+        (T.stream terminal.old) (R.stream report.old) in
+        let after = outside (H.stock shelf.new) (N.device nvm.new)
+        (T.stream terminal.new) (R.stream report.new) in
+        RunAnswered M.kind (named source.entry) (job_of job) before after result }
+{
+    let Job {
+        config,
+        input,
+        save,
+        digest,
+    } = job;
+    let geometry = match Geometry::new(&config) {
+        Ok(geometry) => geometry,
+        Err(fault) => {
+            let error = WordsError::Value(fault.field, fault.value);
+            return refuse(alloc, Refusal::Words(error), report);
+        }
+    };
+    let Beginning { start, blocks } =
+        match prepare(alloc, source, input.as_deref(), geometry, shelf) {
+            Ok(beginning) => beginning,
+            Err(refusal) => return refuse(alloc, refusal, report),
+        };
+    let plan = Plan {
+        config,
+        geometry,
+        start,
+        digest,
+    };
+    run_plan::<M, H, T, R, N>(
+        alloc,
+        source,
+        save.as_deref(),
+        &plan,
+        blocks.as_slice(),
+        shelf,
+        terminal,
+        report,
+        nvm,
+    )
+}

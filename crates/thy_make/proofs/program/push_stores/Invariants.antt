@@ -1,0 +1,11 @@
+use Rattle.std.proofs.Common.{◌≡◌, ◌-◌, ◌++◌, map}
+use Rattle.std.specs.List.{flat_map}
+use Rattle.thy_make.specs.Encode.{encoded}
+use Rattle.thy_make.specs.Program.{draws, store_of}
+use Rattle.thy_make.proofs.program.push_stores.Given as goal
+
+-- with the stores that are to come the words are those of all stores
+abbrev pub invariant-loop-store : goal.invariant-loop-store
+invariant-loop-store l =
+    l.words.items ++ map encoded (flat_map store_of (draws (2000 - l._store) l.lcg))
+    ≡ l.initial.words.items ++ map encoded (flat_map store_of (draws 2000 l.n))

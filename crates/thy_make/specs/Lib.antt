@@ -1,0 +1,4 @@
+pub mod Encode
+pub mod Program
+pub mod File
+pub mod Laws

@@ -1,0 +1,24 @@
+//! Laws of made programs, each the contract of a function that does nothing.
+ghost use Rattle.thy_make.specs.Laws.{FilesAreImages, FilesHaveOneLength, ProgramsHaveOneLength, StoresAreInReach, WordsMeanTheProgram};
+
+/// Every program has 6007 instructions, and its file 24,148 bytes.
+pub fn made_files_are_long()
+    ensures program { ProgramsHaveOneLength }
+    ensures file { FilesHaveOneLength }
+{}
+
+/// Each word of a program means the instruction that it stands for.
+pub fn made_words_decode()
+    ensures { WordsMeanTheProgram }
+{}
+
+/// The store of every draw is aligned, behind the program's code, and within 192 pages from its first byte on.
+pub fn stores_are_in_reach()
+    ensures { StoresAreInReach }
+{}
+
+/// The file of every number is an image, where program memory begins at 65536 and has room for the words: it starts at its first
+/// word, and memory holds the words and behind them zeros.
+pub fn made_files_are_images()
+    ensures { FilesAreImages }
+{}

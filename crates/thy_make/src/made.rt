@@ -1,0 +1,18 @@
+//! The file of a made program.
+ghost use Rattle.std.specs.Prelude.{◌≡◌, length, IfOk};
+ghost use Rattle.thy_base.specs.Bytes.{bytes_of};
+ghost use Rattle.thy_make.specs.File.{made_file};
+
+use crate::program::words;
+use crate::small::small_file;
+use std::alloc::{AllocError, Global};
+use thy_base::Bytes;
+
+/// The program file of number n. Takes memory for it, and for its words while it is made.
+pub fn file(alloc: Global, n: u64) -> Result<Bytes, AllocError>
+    ensures file { IfOk result (λ file. bytes_of file ≡ made_file n) }
+    ensures len { IfOk result (λ file. length (bytes_of file) ≡ 24148) }
+{
+    let words = words(alloc, n)?;
+    small_file(alloc, words.as_slice())
+}

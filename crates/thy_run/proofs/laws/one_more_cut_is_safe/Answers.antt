@@ -1,0 +1,5 @@
+use Rattle.thy_run.proofs.WorldLaws.{Safe-cut}
+use Rattle.thy_run.proofs.laws.one_more_cut_is_safe.Goals as goal
+
+pub returns : goal.returns
+returns g c = Safe-cut g.M.Computer.kind
