@@ -88,7 +88,7 @@ fn close_run<R: Sink>(
     report: &mut R,
 )
     ensures { Closes (summary_for (named source.entry) ending.now.stop ending.now.events
-            ++ run_line limit (option_map (λ n. n.now) save.entry) ending.now.stop why)
+        ++ run_line limit (option_map (λ n. n.now) save.entry) ending.now.stop why)
         (R.stream report.old) (R.stream report.new) }
 {
     if !sum_up(source, ending, report) {
@@ -107,7 +107,7 @@ pub fn answer<R: Sink>(
 ) -> Answer
     ensures closes { ClosesRun ending.deaf
         (summary_for (named source.entry) ending.stop ending.events
-            ++ run_line limit (option_map (λ n. n.now) save.entry) ending.stop why)
+        ++ run_line limit (option_map (λ n. n.now) save.entry) ending.stop why)
         (R.stream report.old) (R.stream report.new) }
     ensures events { result.events ≡ ending.events }
     ensures cycles { result.cycles ≡ ending.cycles }

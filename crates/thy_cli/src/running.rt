@@ -143,11 +143,16 @@ pub fn run_source<M: Computer, H: Shelf, T: Sink, R: Sink, N: Nvm>(
             return refuse(alloc, Refusal::Words(error), report);
         }
     };
-    let Beginning { start, blocks } =
-        match prepare(alloc, source, input.as_deref(), geometry, shelf) {
-            Ok(beginning) => beginning,
-            Err(refusal) => return refuse(alloc, refusal, report),
-        };
+    let Beginning { start, blocks } = match prepare(
+        alloc,
+        source,
+        input.as_deref(),
+        geometry,
+        shelf,
+    ) {
+        Ok(beginning) => beginning,
+        Err(refusal) => return refuse(alloc, refusal, report),
+    };
     let plan = Plan {
         config,
         geometry,

@@ -124,11 +124,7 @@ pub fn fetch_both<'a, H: Shelf>(
 }
 
 /// Reads a program file, for a machine of these numbers.
-pub fn program_of<'a>(
-    alloc: Global,
-    geometry: Geometry,
-    had: Had,
-) -> Result<Program, Refusal<'a>>
+pub fn program_of<'a>(alloc: Global, geometry: Geometry, had: Had) -> Result<Program, Refusal<'a>>
     requires { IsInRange geometry }
     ensures refusal { RefusesProgram geometry had result }
     ensures program { ReadsProgram geometry had result }

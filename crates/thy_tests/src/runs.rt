@@ -106,14 +106,7 @@ fn called_on(
     let mut terminal = MemSink::new(alloc, 4096, Vec::from_slice(alloc, unseen)?)?;
     let mut report = MemSink::new(alloc, 4096, Vec::from_slice(alloc, untold)?)?;
     let mut nvm = MemNvm::new(alloc);
-    let answer = thynvm(
-        alloc,
-        &words,
-        shelf,
-        &mut terminal,
-        &mut report,
-        &mut nvm,
-    );
+    let answer = thynvm(alloc, &words, shelf, &mut terminal, &mut report, &mut nvm);
     Ok(Given {
         status: answer.status,
         cycles: answer.cycles,

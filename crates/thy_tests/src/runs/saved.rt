@@ -1,7 +1,7 @@
 //! Runs that are saved and resumed.
-use crate::runs::programs::{file_of, shelf_of};
 use crate::runs::console::{GREET, READ_INPUT};
 use crate::runs::epochs::NINE_STORES;
+use crate::runs::programs::{file_of, shelf_of};
 use crate::runs::{called_on, compare};
 use std::alloc::{AllocError, Global};
 use std::process::Abort;
@@ -39,32 +39,50 @@ fn expect_on(
     Ok(())
 }
 
+/// What the shelf has under a name.
+fn held(rt: &impl Abort, alloc: Global, shelf: &mut MemShelf, name: &str) -> Vec<u8> {
+    match shelf.fetch(alloc, name, 67_108_864) {
+        Ok(bytes) => bytes,
+        Err(_) => rt.abort(),
+    }
+}
+
 /// Where the second slot's block table begins, and its first entry: block 436.
 const TABLE: usize = 896;
+
 static ENTRY: [u8; 8] = [0xb5, 0x01, 0, 0, 0, 0, 0, 0];
 
 #[test]
 fn a_saved_run_stands_on_the_shelf_and_is_resumed(rt: HostRuntime) -> Result<(), Fail> {
     let alloc = rt.alloc();
     let mut shelf = programs(alloc)?;
-    let told = "commit 0 overlapped 0\nepoch 1 ends at 8 by exhausted 8 8 1\ncommit 1 overlapped 0\nepoch 2 ends at 8 by exhausted 0 0 1\ncommit 2 overlapped 0\nepoch 3 ends at 11 by end\ncommit 3 overlapped 0\nexit 0 at 11\n";
+    let told =
+        "commit 0 overlapped 0\nepoch 1 ends at 8 by exhausted 8 8 1\ncommit 1 overlapped 0\nepoch 2 ends at 8 by exhausted 0 0 1\ncommit 2 overlapped 0\nepoch 3 ends at 11 by end\ncommit 3 overlapped 0\nexit 0 at 11\n";
     let line = "thynvm run N --pages 8 --btt 8 --ptt 8 --save D";
     expect_on(&rt, alloc, &mut shelf, line, 0, "", told)?;
-    let Ok(mut image) = shelf.fetch(alloc, "D", 67_108_864) else {
-        rt.abort("no image was saved");
-    };
-    assert!(rt; image.as_slice()[TABLE..TABLE + 8] == ENTRY);
+    let mut image = held(&rt, alloc, &mut shelf, "D");
+    assert!(rt; image.get(TABLE..TABLE + 8) == Some(ENTRY.as_slice()));
     let line = "thynvm resume D --pages 8 --btt 8 --ptt 8";
     let told = "restart 3 at 11\nexit 0 at 11\n";
     expect_on(&rt, alloc, &mut shelf, line, 0, "", told)?;
     let line = "thynvm resume D --pages 16 --btt 8 --ptt 8";
     expect_on(&rt, alloc, &mut shelf, line, 5, "", "image 4 Geometry\n")?;
-    image.as_mut_slice()[TABLE + 8..TABLE + 16].copy_from_slice(&ENTRY);
-    let Ok(()) = shelf.put(alloc, "T", image.as_slice()) else {
-        rt.abort("nothing was put");
-    };
+    for (i, byte) in ENTRY.iter().enumerate() {
+        if let Some(place) = image.get_mut(TABLE + 8 + i) {
+            *place = *byte;
+        }
+    }
+    assert!(rt; shelf.put(alloc, "T", image.as_slice()).is_ok());
     let line = "thynvm resume T --pages 8 --btt 8 --ptt 8";
-    expect_on(&rt, alloc, &mut shelf, line, 5, "", "image 7 TableTwice 0 1\n")?;
+    expect_on(
+        &rt,
+        alloc,
+        &mut shelf,
+        line,
+        5,
+        "",
+        "image 7 TableTwice 0 1\n",
+    )?;
     Ok(())
 }
 
@@ -73,12 +91,21 @@ fn a_resumed_program_wants_the_input_that_it_has_read(rt: HostRuntime) -> Result
     let alloc = rt.alloc();
     let mut shelf = programs(alloc)?;
     let line = "thynvm run R --input A --save D";
-    let told = "commit 0 overlapped 0\nepoch 1 ends at 6 by end\ncommit 1 overlapped 0\nexit 4 at 6\n";
+    let told =
+        "commit 0 overlapped 0\nepoch 1 ends at 6 by end\ncommit 1 overlapped 0\nexit 4 at 6\n";
     expect_on(&rt, alloc, &mut shelf, line, 0, "", told)?;
     let line = "thynvm resume D --input B";
     expect_on(&rt, alloc, &mut shelf, line, 10, "", "input 4 2\n")?;
     let line = "thynvm resume D --input A";
-    expect_on(&rt, alloc, &mut shelf, line, 0, "", "restart 1 at 6\nexit 4 at 6\n")?;
+    expect_on(
+        &rt,
+        alloc,
+        &mut shelf,
+        line,
+        0,
+        "",
+        "restart 1 at 6\nexit 4 at 6\n",
+    )?;
     let line = "thynvm resume D";
     expect_on(&rt, alloc, &mut shelf, line, 10, "", "input 4 0\n")?;
     let line = "thynvm resume X";
@@ -96,7 +123,15 @@ fn a_run_that_has_no_checkpoint_is_saved_as_an_empty_image(rt: HostRuntime) -> R
     let mut shelf = programs(alloc)?;
     let line = "thynvm run R --limit 10 --save D";
     expect_on(&rt, alloc, &mut shelf, line, 8, "", "limit 10\n")?;
-    expect_on(&rt, alloc, &mut shelf, "thynvm resume D", 5, "", "image 1 Empty\n")?;
+    expect_on(
+        &rt,
+        alloc,
+        &mut shelf,
+        "thynvm resume D",
+        5,
+        "",
+        "image 1 Empty\n",
+    )?;
     Ok(())
 }
 
@@ -107,7 +142,8 @@ fn a_save_that_is_not_put_has_its_line(rt: HostRuntime) -> Result<(), Fail> {
     let mut held = Vec::new(alloc);
     held.push((String::from_str(alloc, "R")?, read))?;
     let mut shelf = MemShelf::new(held, Vec::from_slice(alloc, &[2, 4])?);
-    let told = "commit 0 overlapped 0\nepoch 1 ends at 6 by end\ncommit 1 overlapped 0\nexit 0 at 6\nput D failed\n";
+    let told =
+        "commit 0 overlapped 0\nepoch 1 ends at 6 by end\ncommit 1 overlapped 0\nexit 0 at 6\nput D failed\n";
     expect_on(&rt, alloc, &mut shelf, "thynvm run R --save D", 3, "", told)?;
     let line = "thynvm run R --save D --limit 10";
     expect_on(&rt, alloc, &mut shelf, line, 3, "", "put D failed\n")?;
@@ -134,10 +170,12 @@ fn a_run_in_pieces_ends_as_one_run(rt: HostRuntime) -> Result<(), Fail> {
         &[],
     )?;
     assert!(rt; plain.status == 0);
-    let line = "thynvm run G --input W --pages 8 --btt 8 --ptt 8 --epoch 100 --limit 1500 --save D --digest";
+    let line =
+        "thynvm run G --input W --pages 8 --btt 8 --ptt 8 --epoch 100 --limit 1500 --save D --digest";
     let mut given = called_on(alloc, line, &mut shelf, &[], &[])?;
     let mut pieces = 1u64;
-    let line = "thynvm resume D --input W --pages 8 --btt 8 --ptt 8 --epoch 100 --limit 1500 --save D --digest";
+    let line =
+        "thynvm resume D --input W --pages 8 --btt 8 --ptt 8 --epoch 100 --limit 1500 --save D --digest";
     while given.status == 8 && pieces < 40 {
         given = called_on(alloc, line, &mut shelf, &[], &[])?;
         pieces += 1;

@@ -14,8 +14,7 @@ use Rattle.thy_cli.proofs.plain.run_plain.Goals as goal
 
 pub returns-in-Err-plain_program : goal.returns-in-Err-plain_program
 returns-in-Err-plain_program g c = λ n job h.
-    let numbers : c.in-Ok.geometry ≡ parameters_of job.config = geometry_is c.args.config.now c.in-Ok.geometry c.requires c.in-Ok.ensures.geometry ∙ ap parameters_of (sym h.configures) in
-    (
+    let numbers : c.in-Ok.geometry ≡ parameters_of job.config = geometry_is c.args.config.now c.in-Ok.geometry c.requires c.in-Ok.ensures.geometry ∙ ap parameters_of (sym h.configures) in (
       refl,
       inl (
         c.in-Err-plain_program.refusal,
@@ -36,8 +35,7 @@ returns-in-Ok-load g c = λ n job h.
     let numbers : c.in-Ok.geometry ≡ parameters_of job.config = geometry_is c.args.config.now c.in-Ok.geometry c.requires c.in-Ok.ensures.geometry ∙ ap parameters_of (sym h.configures) in
     let old : Stock = g.H.Shelf.stock c.args.shelf.now in
     let new : Stock = g.H.Shelf.stock c.plain_program.new.shelf in
-    let last : MachState = c.state-state.result.now in
-    (
+    let last : MachState = c.state-state.result.now in (
       refl,
       inr (IsPlainOf-ran c.args.name.now job (outside old n (g.T.Sink.stream c.args.terminal.now) (g.R.Sink.stream c.args.report.now))
           (outside new n (g.T.Sink.stream c.write_bytes-mute.new.terminal) (g.R.Sink.stream c.answer.new.report))
