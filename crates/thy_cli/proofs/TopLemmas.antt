@@ -425,3 +425,10 @@ HasRoom-ran K laws plan blocks shape n d stood e terminal shown report read plan
 pub RunAnswered-same : {M : Type 0} (K : KindOf M) (source : Source) (job : Job) (old middle new : Stock) (n m : Device) (t u r s : Stream) (a : Answer) → middle ≡ old
     → RunAnswered K source job (outside middle n t r) (outside new m u s) a → RunAnswered K source job (outside old n t r) (outside new m u s) a
 RunAnswered-same K source job old middle new n m t u r s a same h = subst (λ x. RunAnswered K source job (outside x n t r) (outside new m u s) a) same h
+
+-- a run of a source under a name is one under the same name in other words
+pub RunAnswered-file : {M : Type 0} (K : KindOf M) (name own : List ℕ) (job : Job) (before after : Outside) (a : Answer) → name ≡ own → RunAnswered K (file name) job before after a → RunAnswered K (file own) job before after a
+RunAnswered-file K name own job before after a same h = subst (λ n. RunAnswered K (file n) job before after a) same h
+
+pub RunAnswered-image : {M : Type 0} (K : KindOf M) (name own : List ℕ) (job : Job) (before after : Outside) (a : Answer) → name ≡ own → RunAnswered K (image name) job before after a → RunAnswered K (image own) job before after a
+RunAnswered-image K name own job before after a same h = subst (λ n. RunAnswered K (image n) job before after a) same h

@@ -4,10 +4,9 @@ use Rattle.std.specs.String.{string_bytes}
 use Rattle.thy_words.specs.declared.words.Command.{Command}
 use Rattle.thy_words.specs.declared.words.WordsError.{WordsError}
 use Rattle.thy_words.specs.Settings.{Job, Order, run, resume, bench, plain, make, job_of, order_of}
-use Rattle.thy_cli.specs.Answering.{Outside, outside, PlainAnswered, RunAnswered, MakeAnswered}
-use Rattle.thy_cli.specs.Sources.{file, image}
+use Rattle.thy_cli.specs.Answering.{Outside, outside, PlainAnswered, MakeAnswered}
 use Rattle.thy_cli.proofs.CompleteLaws.{Claim-answered}
-use Rattle.thy_cli.proofs.TopLemmas.{WordsDue-shown}
+use Rattle.thy_cli.proofs.TopLemmas.{RunAnswered-file, RunAnswered-image, WordsDue-shown}
 use Rattle.thy_cli.proofs.top.thynvm.Goals as goal
 
 pub returns-in-Ok-Run : goal.returns-in-Ok-Run
@@ -18,7 +17,7 @@ returns-in-Ok-Run g c =
     Claim-answered _ _ before after _ (inr (
       run (string_bytes c.in-Ok-Run.file) (job_of c.in-Ok-Run.job),
       c.in-Ok-Run.ensures.exact ∙ ap shown c.in-Ok-Run.field-0-is,
-      subst (λ name. RunAnswered g.M.Computer.kind (file name) (job_of c.in-Ok-Run.job) before after c.run_source.result) c.as_str.ensures.value c.run_source.ensures,
+      RunAnswered-file _ c.as_str.result.now (string_bytes c.in-Ok-Run.file) (job_of c.in-Ok-Run.job) before after c.run_source.result c.as_str.ensures.value c.run_source.ensures,
     ))
 
 pub returns-in-Ok-Resume : goal.returns-in-Ok-Resume
@@ -29,7 +28,7 @@ returns-in-Ok-Resume g c =
     Claim-answered _ _ before after _ (inr (
       resume (string_bytes c.in-Ok-Resume.image) (job_of c.in-Ok-Resume.job),
       c.in-Ok-Resume.ensures.exact ∙ ap shown c.in-Ok-Resume.field-0-is,
-      subst (λ name. RunAnswered g.M.Computer.kind (image name) (job_of c.in-Ok-Resume.job) before after c.run_source-in-Ok-Resume.result) c.as_str-in-Ok-Resume.ensures.value c.run_source-in-Ok-Resume.ensures,
+      RunAnswered-image _ c.as_str-in-Ok-Resume.result.now (string_bytes c.in-Ok-Resume.image) (job_of c.in-Ok-Resume.job) before after c.run_source-in-Ok-Resume.result c.as_str-in-Ok-Resume.ensures.value c.run_source-in-Ok-Resume.ensures,
     ))
 
 pub returns-in-Ok-Bench : goal.returns-in-Ok-Bench
