@@ -171,16 +171,16 @@ fn a_run_in_pieces_ends_as_one_run(rt: HostRuntime) -> Result<(), Fail> {
     )?;
     assert!(rt; plain.status == 0);
     let line =
-        "thynvm run G --input W --pages 8 --btt 8 --ptt 8 --epoch 100 --limit 1500 --save D --digest";
+        "thynvm run G --input W --pages 8 --btt 8 --ptt 8 --epoch 100 --limit 900 --save D --digest";
     let mut given = called_on(alloc, line, &mut shelf, &[], &[])?;
     let mut pieces = 1u64;
     let line =
-        "thynvm resume D --input W --pages 8 --btt 8 --ptt 8 --epoch 100 --limit 1500 --save D --digest";
+        "thynvm resume D --input W --pages 8 --btt 8 --ptt 8 --epoch 100 --limit 900 --save D --digest";
     while given.status == 8 && pieces < 40 {
         given = called_on(alloc, line, &mut shelf, &[], &[])?;
         pieces += 1;
     }
-    assert!(rt; given.status == 0 && pieces > 2);
+    assert!(rt; given.status == 0 && pieces > 1);
     assert!(rt; given.printed == plain.printed);
     let end = last_lines(plain.report.as_slice(), "exit ");
     assert!(rt; end.is_some() && last_lines(given.report.as_slice(), "exit ") == end);
