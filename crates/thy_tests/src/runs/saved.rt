@@ -173,14 +173,15 @@ fn a_run_in_pieces_ends_as_one_run(rt: HostRuntime) -> Result<(), Fail> {
     let line =
         "thynvm run G --input W --pages 8 --btt 8 --ptt 8 --epoch 100 --limit 900 --save D --digest";
     let mut given = called_on(alloc, line, &mut shelf, &[], &[])?;
-    let mut pieces = 1u64;
+    assert!(rt; given.status == 8);
     let line =
         "thynvm resume D --input W --pages 8 --btt 8 --ptt 8 --epoch 100 --limit 900 --save D --digest";
-    while given.status == 8 && pieces < 40 {
-        given = called_on(alloc, line, &mut shelf, &[], &[])?;
-        pieces += 1;
+    for _ in 0..40 {
+        if given.status == 8 {
+            given = called_on(alloc, line, &mut shelf, &[], &[])?;
+        }
     }
-    assert!(rt; given.status == 0 && pieces > 1);
+    assert!(rt; given.status == 0);
     assert!(rt; given.printed == plain.printed);
     let end = last_lines(plain.report.as_slice(), "exit ");
     assert!(rt; end.is_some() && last_lines(given.report.as_slice(), "exit ") == end);
