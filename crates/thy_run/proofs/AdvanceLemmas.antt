@@ -10,6 +10,7 @@ use Rattle.thy_isa.specs.declared.state.Status.{Status}
 use Rattle.thy_record.specs.Decoded.{Decoded, Nothing as NothingLeft, Refused as RefusedImage, At}
 use Rattle.thy_text.specs.Happening.{Happening, Cut, Ended as EndedEvent}
 use Rattle.thy_view.specs.declared.did.Did.{Did}
+use Rattle.thy_view.specs.declared.did.Did.TheVariants.{Loaded, Restarted, Sealed, Committed}
 use Rattle.thy_view.specs.declared.did.Stepped.{Stepped}
 use Rattle.thy_view.specs.declared.view.View.{View}
 use Rattle.thy_view.specs.Booting.{view_of_image}
@@ -21,10 +22,11 @@ use Rattle.thy_view.specs.declared.error.CoreError.TheVariants.{Nvm as NvmFailed
 use Rattle.thy_view.specs.Kind.{HasFailedToRead, KindOf, IsLawful, CanStep}
 use Rattle.thy_run.specs.Laws.{released_of}
 use Rattle.thy_run.specs.Cuts.{is_end}
-use Rattle.thy_run.specs.Due.{due_of, IsTold}
+use Rattle.thy_run.specs.Due.{due_of, is_told, shows_console, IsQuiet, IsTold}
 use Rattle.thy_run.specs.Unfinished.{TellingFailed, ReadFailed, LeftAlone}
 use Rattle.thy_run.specs.World.{World, seen, told, reload_told, end_told, events_of, stepped, Steps, is_due, IsCutOff, tear}
 use Rattle.thy_run.proofs.ConsoleLaws.{released-cut, released-stepped, released-part, length-released}
+use Rattle.thy_run.proofs.GatherLemmas.{due_hidden}
 use Rattle.thy_run.proofs.NoteLemmas.{events_due, told_or_halts}
 use Rattle.thy_run.proofs.WorldLaws.{Good, Good-ran, events_end}
 use Rattle.thy_run.specs.declared.ending.Stop.{Stop}
@@ -449,3 +451,42 @@ broken_none {M = M} K plan p q n m k bytes stop is none same h =
     let P : List ℕ → Type 0 = λ b. IsBroken K plan p q n m k b × Breaks K plan p q n m k b stop in
     let Q : Stop → Type 0 = λ s. IsBroken K plan p q n m k bytes × Breaks K plan p q n m k bytes s in
     subst Q (sym same) (subst P (sym none) h)
+
+-- ---- a quiet cycle
+
+-- what has no event of its own tells none
+told_none : (o : Origin) (did : Did) (cycle : ℕ) → is_told did ≡ false → told o did cycle ≡ []
+told_none o Loaded cycle h = absurd (cc)
+told_none o (Restarted epoch count) cycle h = absurd (cc)
+told_none o (Sealed epoch count cause) cycle h = absurd (cc)
+told_none o (Committed epoch overlapped) cycle h = absurd (cc)
+told_none o did cycle h = refl
+
+-- and shows no console
+hidden_none : (did : Did) → is_told did ≡ false → shows_console did ≡ false
+hidden_none Loaded h = absurd (cc)
+hidden_none (Restarted epoch count) h = absurd (cc)
+hidden_none (Committed epoch overlapped) h = absurd (cc)
+hidden_none did h = refl
+
+-- a quiet step makes a cycle without an event
+pub quiet_goes : {M : Type 0} (K : KindOf M) (laws : IsLawful K) → (plan : Plan) (fitted : Device) (p q : Progress M) (n m : Device) (k : ℕ) (r : Stepped) → IsPlanned plan → GoesOn K plan fitted p n k
+    → IsStepped K plan p q n m k r → IsQuiet plan.config.cuts q r (k + 1)
+    → IsDone K plan p q n m k [] × (is_halt (seen K (origin_of plan) (world_at q m (k + 1))).phase ≡ false)
+quiet_goes {M = M} K laws plan fitted p q n m k r planned g s quiet =
+    let o : Origin = origin_of plan in
+    let v : View = seen K o (world_at p n k) in
+    let next : View = K.view o q.machine m in
+    let going : halts v next ≡ false = sym s.is_step.ended ∙ quiet.going in
+    let reload : reload_told q.fresh next ≡ [] = ap (λ b. reload_told b next) quiet.later in
+    let end : end_told o v next (k + 1) ≡ [] =
+    ap (λ b. if b then EndedEvent (at o next.count).status next.count (k + 1) (at o next.count) ∷ [] else []) going in
+    let none : events_of o q.fresh v r.did next (k + 1) ≡ [] =
+    ap (λ (l : List Happening). (l ++ told o r.did (k + 1)) ++ end_told o v next (k + 1)) reload
+    ∙ ap (λ (l : List Happening). l ++ end_told o v next (k + 1)) (told_none o r.did (k + 1) quiet.untold) ∙ end in
+    let noted : IsNoted K plan p q n m k None [] =
+    IsNoted-made K laws plan fitted p q q n m k r None [] planned g s
+    (sym (append-nil q.events) ∙ ap (λ (l : List Happening). q.events ++ l) (sym none))
+    (ap (λ b. record q { fresh = b }) quiet.later) (omega arith)
+    (due_hidden o next r.did q.events [] (hidden_none r.did quiet.untold) refl) going in
+    done_going K laws plan p q n m k None [] noted refl (k + 1) refl quiet.uncut

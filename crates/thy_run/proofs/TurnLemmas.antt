@@ -286,6 +286,25 @@ IsTold-not Cuts h = h refl
 IsTold-not (Ends status) h = tt
 IsTold-not (Fails stop) h = tt
 
+-- a cycle without an event lets the run go on, and its sinks have taken all
+pub Running-quiet : {M : Type 0} (K : KindOf M) → (plan : Plan) (fitted : Device) (p q : Progress M) (n m : Device) (k : ℕ) (t0 t1 r0 r1 : Stream)
+    → Running K plan fitted p n k t0 t1 r0 r1 → q.events ≡ p.events → ComesTo K plan p q n m k [] Goes → Running K plan fitted q m (k + 1) t0 t1 r0 r1
+Running-quiet {M = M} K plan fitted p q n m k t0 t1 r0 r1 running same c = record {
+  goes = record {
+    ran =
+        let e : suc k ≡ k + 1 = omega arith in
+        subst (λ (j : ℕ). Ran K (origin_of plan) (given_of plan fitted) j (world_at q m (k + 1))) e (world_at p n k, running.goes.ran, c.0.cycle);
+    going = c.1;
+    released = c.0.released;
+    room = c.0.room ∙ running.goes.room;
+    calm = c.0.calm ∙ running.goes.calm;
+    spoken = c.0.spoken ∙ running.goes.spoken;
+    heard = c.0.heard ∙ running.goes.heard;
+  };
+  shown_all = subst (λ (l : List Happening). Took t0 t1 (released_of (origin_of plan) l)) (sym same) running.shown_all;
+  read_all = subst (λ (l : List Happening). Took r0 r1 (report_of plan.digest l)) (sym same) running.read_all;
+}
+
 -- ---- a cut behind a cycle
 
 module _ {M : Type 0} (K : KindOf M) (laws : IsLawful K) (plan : Plan) (fitted : Device) (p q : Progress M) (n m : Device) (k : ℕ) (bytes : List ℕ) (mute deaf : Bool) (t0 t1 t2 r0 r1 r2 : Stream)

@@ -1,13 +1,19 @@
--- What of the console a cycle's end releases to the terminal.
-use Rattle.std.specs.Prelude.{◌≡◌, ◌⊎◌, ℕ, Bool, true, false, if◌then◌else◌, List, [], length, drop}
+-- What of the console a cycle's end releases to the terminal, and which cycles have nothing to tell.
+use Rattle.std.specs.Prelude.{◌≡◌, ◌⊎◌, ℕ, Bool, true, false, ◌&&◌, ◌==◌, nat_lt, if◌then◌else◌, List, [], length, drop, slice_index}
+use Rattle.thy_base.specs.Bytes.{bytes_of}
 use Rattle.thy_text.specs.Happening.{Happening}
 use Rattle.thy_text.specs.Released.{console_of}
 use Rattle.thy_view.specs.declared.did.Did.{Did}
-use Rattle.thy_view.specs.declared.did.Did.TheVariants.{Loaded, Restarted, Committed}
+use Rattle.thy_view.specs.declared.did.Did.TheVariants.{Loaded, Restarted, Sealed, Committed}
 use Rattle.thy_view.specs.declared.did.Stepped.{Stepped}
 use Rattle.thy_view.specs.declared.view.View.{View}
 use Rattle.thy_view.specs.Origin.{Origin, at}
 use Rattle.thy_run.specs.Laws.{released_of}
+use Rattle.thy_run.specs.declared.advance.Advance.{Advance}
+use Rattle.thy_run.specs.declared.advance.Advance.TheVariants.{Quiet, Noted}
+use Rattle.thy_run.specs.declared.advance.Outcome.{Outcome}
+use Rattle.thy_run.specs.declared.advance.Outcome.TheVariants.{Goes}
+use Rattle.thy_run.specs.declared.progress.Progress.{Progress}
 
 -- what was done makes the console of another checkpoint known
 abbrev pub shows_console : Did → Bool
@@ -28,3 +34,30 @@ console_at o k = (at o k).console
 abbrev pub due_of : Origin → List Happening → Did → View → List ℕ
 due_of o events did next =
     if shows_console did then drop (length (released_of o events)) (console_of (console_at o) next.done) else []
+
+-- ---- quiet cycles
+
+-- what was done has an event of its own
+abbrev pub is_told : Did → Bool
+is_told Loaded = true
+is_told (Restarted epoch count) = true
+is_told (Sealed epoch count cause) = true
+is_told (Committed epoch overlapped) = true
+is_told did = false
+
+-- a step has no event, and no cut is due after it
+pub record IsQuiet {M : Type 0} (cuts : List ℕ) (p : Progress M) (r : Stepped) (cycle : ℕ) : Type 0 where
+  pub untold : is_told r.did ≡ false
+  pub going : r.ended ≡ false
+  pub later : p.fresh ≡ false
+  pub uncut : (nat_lt p.passed (length cuts) && slice_index cuts p.passed == cycle) ≡ false
+
+-- the bytes that the terminal is due for a cycle
+abbrev pub bytes_due : Advance → List ℕ
+bytes_due Quiet = []
+bytes_due (Noted noted) = bytes_of noted.bytes
+
+-- what a cycle came to
+abbrev pub outcome_of : Advance → Outcome
+outcome_of Quiet = Goes
+outcome_of (Noted noted) = noted.outcome

@@ -17,7 +17,8 @@ use Rattle.thy_view.specs.declared.view.View.{View}
 use Rattle.thy_view.specs.Kind.{IsSnapshot, KindOf}
 use Rattle.thy_view.specs.Origin.{Origin}
 use Rattle.thy_view.specs.Views.{is_between, loads}
-use Rattle.thy_run.specs.Due.{due_of}
+use Rattle.thy_run.specs.Due.{bytes_due, due_of, outcome_of}
+use Rattle.thy_run.specs.declared.advance.Advance.{Advance}
 use Rattle.thy_run.specs.declared.advance.Outcome.{Outcome}
 use Rattle.thy_run.specs.declared.cycles.Turned.{Turned}
 use Rattle.thy_run.specs.declared.ending.Ending.{Ending}
@@ -138,9 +139,9 @@ Concludes {M = M} K plan q next did readings cycle bytes outcome =
     → r.did ≡ did → cycle ≡ k + 1 → ComesTo K plan p next n m k bytes outcome
 
 -- from where a run goes on, a cycle comes to this
-abbrev pub TakesCycle : {M : Type 0} → KindOf M → Plan → Progress M → Progress M → Device → Device → ℕ → List ℕ → Outcome → Type 0
-TakesCycle K plan p next n new done bytes outcome =
-    (fitted : Device) → GoesOn K plan fitted p n done → ComesTo K plan p next n new done bytes outcome
+abbrev pub TakesCycle : {M : Type 0} → KindOf M → Plan → Progress M → Progress M → Device → Device → ℕ → Advance → Type 0
+TakesCycle K plan p next n new done advance =
+    (fitted : Device) → GoesOn K plan fitted p n done → ComesTo K plan p next n new done (bytes_due advance) (outcome_of advance)
 
 -- ---- a turn of the loop
 

@@ -1,9 +1,10 @@
 //! One cycle: a step of the machine, its events, and the cut that is due after it.
-ghost use Rattle.std.specs.Prelude.{◌≡◌, ◌<◌, ◌+◌, ◌^◌, ◌&&◌, ◌==◌, nat_lt, length, slice_index, slice_index_or, IfOk, IfErr};
+ghost use Rattle.std.specs.Prelude.{◌≡◌, ◌<◌, ◌+◌, ◌^◌, ◌&&◌, ◌==◌, true, nat_lt, length, slice_index, slice_index_or, IfOk, IfErr};
 ghost use Rattle.thy_base.specs.Bytes.{bytes_of};
 ghost use Rattle.thy_base.specs.Device.{Device as DeviceValue};
 ghost use Rattle.thy_view.specs.Kind.{CanStep};
 ghost use Rattle.thy_run.specs.Going.{IsPlanned, GoesOn, CanCut, IsCutOffTo};
+ghost use Rattle.thy_run.specs.Due.{is_told, IsQuiet};
 ghost use Rattle.thy_run.specs.Promises.{StepsOn, GetsStuck, ConcludesNoted, CanConclude, Concludes, TakesCycle};
 
 use crate::ending::Stop;
@@ -30,11 +31,20 @@ pub enum Outcome {
     Fails(Stop),
 }
 
-/// A cycle, and what the terminal is due for it.
+/// What a cycle came to, and what the terminal is due for it.
 #[derive(Drop)]
-pub struct Advance {
+pub struct Noted {
     pub bytes: Bytes,
     pub outcome: Outcome,
+}
+
+/// A cycle, and what has to be told of it.
+#[derive(Drop)]
+pub enum Advance {
+    /// It is done, has no event, and no cut is due after it. Most cycles are such.
+    Quiet,
+    /// Its events were made, as far as it came.
+    Noted(Noted),
 }
 
 /// Steps the machine by the schedule's next pick.
@@ -60,6 +70,26 @@ fn is_due(config: &Config, passed: usize, cycle: u64) -> bool
         result ≡ (nat_lt passed (length cuts) && slice_index cuts passed == cycle) }
 {
     passed < config.cuts.len() && config.cuts.get(passed) == cycle
+}
+
+/// Whether what was done has an event of its own.
+fn is_told(did: Did) -> bool
+    ensures { result ≡ is_told did }
+{
+    matches!(
+        did,
+        Did::Loaded | Did::Restarted(..) | Did::Sealed(..) | Did::Committed { .. }
+    )
+}
+
+/// Whether a step has no event, and no cut is due after it.
+fn is_quiet<M>(progress: &Progress<M>, plan: &Plan, stepped: &Stepped, cycle: u64) -> bool
+    ensures { result ≡ true → IsQuiet plan.now.config.cuts progress.now stepped.now cycle }
+{
+    !is_told(stepped.did)
+        && !stepped.ended
+        && !progress.fresh
+        && !is_due(&plan.config, progress.passed, cycle)
 }
 
 /// The pick of a cut: that of its place in the list, 0 where the list is shorter.
@@ -151,7 +181,7 @@ fn conclude<M: Computer>(
     did: Did,
     readings: Readings,
     cycle: u64,
-) -> Advance
+) -> Noted
     requires planned { IsPlanned plan.now }
     requires gathered { CanConclude M.kind plan.now progress.old did readings cycle }
     ensures { let bytes = bytes_of result.bytes in
@@ -168,9 +198,9 @@ fn conclude<M: Computer>(
             progress.released += bytes.len() as u64;
             progress.fresh = false;
             let outcome = come_to_after(progress, plan, ended, cycle);
-            Advance { bytes, outcome }
+            Noted { bytes, outcome }
         }
-        Err(_) => Advance {
+        Err(_) => Noted {
             bytes: Bytes::new(alloc),
             outcome: Outcome::Fails(Stop::Memory),
         },
@@ -190,25 +220,30 @@ pub fn take_cycle<M: Computer, N: Nvm>(
     requires goes { let n = N.device nvm.old in
         (fitted : DeviceValue) × GoesOn M.kind plan.now fitted progress.old n done }
     requires few { done < 2 ^ 62 }
-    ensures { let n = N.device nvm.old in
-        let next = N.device nvm.new in
-        let bytes = bytes_of result.bytes in
-        TakesCycle M.kind plan.now progress.old progress.new n next done bytes result.outcome }
+    ensures cycle { let n = N.device nvm.old in
+        TakesCycle M.kind plan.now progress.old progress.new n (N.device nvm.new) done result }
+    ensures quiet { result ≡ Advance.Quiet → progress.new.events ≡ progress.old.events }
 {
     let stepped = match step(progress, plan, nvm) {
         Ok(stepped) => stepped,
         Err(_) => {
-            return Advance {
+            return Advance::Noted(Noted {
                 bytes: Bytes::new(alloc),
                 outcome: Outcome::Fails(Stop::Nvm),
-            };
+            });
         }
     };
+    if is_quiet(progress, plan, &stepped, done + 1) {
+        return Advance::Quiet;
+    }
     match gather(alloc, progress, &stepped, nvm) {
-        Ok(readings) => conclude(alloc, progress, plan, stepped.did, readings, done + 1),
-        Err(error) => Advance {
+        Ok(readings) => {
+            let did = stepped.did;
+            Advance::Noted(conclude(alloc, progress, plan, did, readings, done + 1))
+        }
+        Err(error) => Advance::Noted(Noted {
             bytes: Bytes::new(alloc),
             outcome: Outcome::Fails(Stop::from(error)),
-        },
+        }),
     }
 }

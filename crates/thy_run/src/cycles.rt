@@ -7,7 +7,7 @@ ghost use Rattle.thy_run.specs.Promises.{IsRunning, TurnsTo, IsAwaiting, RunsTo,
 ghost use Rattle.thy_run.specs.Sending.{sinks};
 ghost use Rattle.thy_run.specs.Turning.{ending_of, first_progress, stopped_for, turned_of, IsFitted};
 
-use crate::advance::{Advance, Outcome, cut, take_cycle};
+use crate::advance::{Advance, Noted, Outcome, cut, take_cycle};
 use crate::ending::{Ending, Stop};
 use crate::plan::Plan;
 use crate::progress::Progress;
@@ -78,7 +78,10 @@ fn turn<M: Computer, T: Sink, R: Sink, N: Nvm>(
         let new = N.device nvm.new in
         TurnsTo M.kind plan.now progress.old progress.new n new done before after result }
 {
-    let Advance { bytes, outcome } = take_cycle(alloc, progress, plan, done, nvm);
+    let Noted { bytes, outcome } = match take_cycle(alloc, progress, plan, done, nvm) {
+        Advance::Quiet => return Turned::GoesOn,
+        Advance::Noted(noted) => noted,
+    };
     if let Outcome::Cuts = outcome {
         return Turned::Cuts(bytes);
     }

@@ -1,18 +1,18 @@
-use Rattle.std.proofs.Common.{◌+◌, sym, subst, refl}
+use Rattle.std.proofs.Common.{◌+◌, sym, subst, refl, ap}
 use Rattle.thy_base.specs.Bytes.{bytes_of}
 use Rattle.thy_base.specs.Device.{Device}
 use Rattle.thy_run.specs.World.{seen}
 use Rattle.thy_run.specs.declared.ending.Stop.TheVariants.{Nvm}
 use Rattle.thy_run.specs.Going.{origin_of, world_at, IsStepped, ComesTo}
 use Rattle.thy_run.specs.Stopping.{stop_of}
-use Rattle.thy_run.proofs.AdvanceLemmas.{can_step, at_of, CanGather-stepped, IsBroken-stuck, IsBroken-read, broken_none}
+use Rattle.thy_run.proofs.AdvanceLemmas.{can_step, at_of, CanGather-stepped, IsBroken-stuck, IsBroken-read, broken_none, quiet_goes}
 use Rattle.thy_run.proofs.advance.take_cycle.Goals as goal
 
 pub step-requires : goal.step-requires
 step-requires g c = can_step g.M.Computer.kind c.args.plan.now c.requires.goes.0 c.args.progress.now (g.N.Nvm.device c.args.nvm.now) c.args.done c.requires.planned c.requires.goes.1 c.requires.few
 
-pub returns-in-Err : goal.returns-in-Err
-returns-in-Err g c = λ fitted goes.
+pub returns-in-Err-clause-cycle : goal.returns-in-Err-clause-cycle
+returns-in-Err-clause-cycle g c = λ fitted goes.
     broken_none g.M.Computer.kind c.args.plan.now c.args.progress.now c.step.new.progress (g.N.Nvm.device c.args.nvm.now) (g.N.Nvm.device c.step.new.nvm) c.args.done (bytes_of c.new.result) Nvm Nvm c.new.ensures refl
     (IsBroken-stuck g.M.Computer.kind g.met.M.Computer.lawful c.args.plan.now fitted c.args.progress.now c.step.new.progress (g.N.Nvm.device c.args.nvm.now) (g.N.Nvm.device c.step.new.nvm) c.args.done goes
     (c.in-Err.ensures.stuck c.args.done (at_of g.M.Computer.kind c.args.plan.now fitted c.args.progress.now (g.N.Nvm.device c.args.nvm.now) c.args.done c.requires.planned goes)))
@@ -53,8 +53,8 @@ conclude-requires-clause-gathered g c =
       refl,
     )
 
-pub returns-in-Ok-gather : goal.returns-in-Ok-gather
-returns-in-Ok-gather g c = λ fitted goes.
+pub returns-in-Ok-gather-clause-cycle : goal.returns-in-Ok-gather-clause-cycle
+returns-in-Ok-gather-clause-cycle g c = λ fitted goes.
     let plan = c.args.plan.now in
     let p = c.args.progress.now in
     let q = c.step.new.progress in
@@ -69,8 +69,8 @@ returns-in-Ok-gather g c = λ fitted goes.
     (c.conclude.ensures fitted p n m c.args.done c.in-Ok.stepped goes stepped
     (c.in-Ok-gather.ensures.read o (c.args.done + 1) v (CanGather-stepped g.M.Computer.kind plan fitted p q n m c.args.done c.in-Ok.stepped c.requires.planned goes stepped)) refl refl)
 
-pub returns-in-Err-gather : goal.returns-in-Err-gather
-returns-in-Err-gather g c = λ fitted goes.
+pub returns-in-Err-gather-clause-cycle : goal.returns-in-Err-gather-clause-cycle
+returns-in-Err-gather-clause-cycle g c = λ fitted goes.
     let plan = c.args.plan.now in
     let p = c.args.progress.now in
     let q = c.step.new.progress in
@@ -82,3 +82,25 @@ returns-in-Err-gather g c = λ fitted goes.
     c.new-in-Err-gather.ensures c.from.ensures
     (IsBroken-read g.M.Computer.kind g.met.M.Computer.lawful plan fitted p q n m (g.N.Nvm.device c.gather.new.nvm) c.args.done c.in-Ok.stepped c.in-Err-gather.error c.requires.planned goes stepped
     c.in-Err-gather.ensures.err c.gather.ensures.frame c.in-Err-gather.ensures.due)
+
+pub returns-then-is_quiet-clause-cycle : goal.returns-then-is_quiet-clause-cycle
+returns-then-is_quiet-clause-cycle g c = λ fitted goes.
+    let plan = c.args.plan.now in
+    let p = c.args.progress.now in
+    let q = c.step.new.progress in
+    let n = g.N.Nvm.device c.args.nvm.now in
+    let m = g.N.Nvm.device c.step.new.nvm in
+    let stepped : IsStepped g.M.Computer.kind plan p q n m c.args.done c.in-Ok.stepped =
+    c.in-Ok.ensures.stepped c.args.done (at_of g.M.Computer.kind plan fitted p n c.args.done c.requires.planned goes) c.requires.few in
+    quiet_goes g.M.Computer.kind g.met.M.Computer.lawful plan fitted p q n m c.args.done c.in-Ok.stepped c.requires.planned goes stepped
+    (c.is_quiet.ensures c.if-is_quiet.true)
+
+pub returns-then-is_quiet-clause-quiet : goal.returns-then-is_quiet-clause-quiet
+returns-then-is_quiet-clause-quiet g c = λ _.
+    let plan = c.args.plan.now in
+    let p = c.args.progress.now in
+    let n = g.N.Nvm.device c.args.nvm.now in
+    let fitted = c.requires.goes.0 in
+    let stepped : IsStepped g.M.Computer.kind plan p c.step.new.progress n (g.N.Nvm.device c.step.new.nvm) c.args.done c.in-Ok.stepped =
+    c.in-Ok.ensures.stepped c.args.done (at_of g.M.Computer.kind plan fitted p n c.args.done c.requires.planned c.requires.goes.1) c.requires.few in
+    ap (λ y. y.events) stepped.same
