@@ -1,5 +1,5 @@
 pub mod Closings
-pub mod Happening
+pub mod Event
 pub mod Lines
 pub mod Marks
 pub mod Pieces

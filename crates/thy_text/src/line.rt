@@ -4,7 +4,7 @@ ghost use Rattle.std.specs.Fmt.{decimal};
 ghost use Rattle.thy_base.specs.Bytes.{bytes_of};
 ghost use Rattle.thy_base.specs.Outside.{Took, TookPart};
 ghost use Rattle.thy_text.specs.Lines.{joined, line_feed, line_of, state_lines, ended_lines, epoch_end_parts, made_of};
-ghost use Rattle.thy_text.specs.Seen.{happening_of};
+ghost use Rattle.thy_text.specs.Seen.{event_of};
 
 use crate::Event;
 use crate::memory::write_digest;
@@ -16,9 +16,9 @@ use thy_isa::{MachState, Status};
 /// that of an end are followed by the line of memory's digest. On an error the sink has taken only the
 /// first part of these lines. Takes no memory.
 pub fn write_event<R: Sink>(event: &Event, digest: bool, report: &mut R) -> Result<(), SinkError>
-    ensures whole { OnOk result (Took (R.stream report.old) (R.stream report.new) (line_of digest (happening_of event.now))) }
-    ensures failed { OnErr result (TookPart (R.stream report.old) (R.stream report.new) (line_of digest (happening_of event.now))) }
-    ensures due { OnErr result (line_of digest (happening_of event.now) ≢ []) }
+    ensures whole { OnOk result (Took (R.stream report.old) (R.stream report.new) (line_of digest (event_of event.now))) }
+    ensures failed { OnErr result (TookPart (R.stream report.old) (R.stream report.new) (line_of digest (event_of event.now))) }
+    ensures due { OnErr result (line_of digest (event_of event.now) ≢ []) }
 {
     match event {
         Event::EpochEnd {

@@ -1,11 +1,11 @@
 use Rattle.std.proofs.Common.{◌≡◌, ℕ, List, count_by, sum_by, refl}
-use Rattle.thy_text.specs.Happening.{Happening}
+use Rattle.thy_text.specs.Event.{Event}
 use Rattle.thy_text.specs.Summary.{ends_early, ends_epoch, overlapped_by, summary_parts}
 use Rattle.thy_text.proofs.Rewording.{whole-as, part-as}
 use Rattle.thy_text.proofs.summary.write_summary.Goals as goal
 
 -- the line of a run, where its sums are known
-summary_is : (vs : List Happening) (epochs early overlapped : ℕ)
+summary_is : (vs : List Event) (epochs early overlapped : ℕ)
     → epochs ≡ count_by ends_epoch vs → early ≡ count_by ends_early vs → overlapped ≡ sum_by overlapped_by vs
     → summary_parts epochs early overlapped
     ≡ summary_parts (count_by ends_epoch vs) (count_by ends_early vs) (sum_by overlapped_by vs)
