@@ -6,3 +6,4 @@ pub mod Pieces
 pub mod Released
 pub mod Seen
 pub mod Summary
+pub mod Writing
