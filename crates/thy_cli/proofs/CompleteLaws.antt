@@ -22,7 +22,7 @@ use Rattle.thy_isa.specs.Step.{State, Setting, is_running, steps}
 use Rattle.thy_isa.proofs.StepLaws.{steps-add, steps-ended}
 use Rattle.thy_elf.specs.Image.{Contents, read_of}
 use Rattle.thy_plain.specs.Start.{start_state}
-use Rattle.thy_text.specs.Happening.{Happening, Ended as EndedEvent}
+use Rattle.thy_text.specs.Event.{Event, Ended as EndedEvent}
 use Rattle.thy_text.specs.Marks.{Course, Marks, marks_after, AllLawful}
 use Rattle.thy_words.specs.declared.words.WordsError.{WordsError}
 use Rattle.thy_words.specs.declared.words.WordsError.TheVariants.{Usage, Word, Value, Memory as WordsMemory}
@@ -80,7 +80,7 @@ record IsEndOf (c : Course) (status : Status) : Type 0 where
   is_status : status ≡ (c.at count).status
   over : is_running (c.at count).status ≡ false
 
-end_lawful : (c : Course) (m : Marks) (vs : List Happening) (status : Status) (count cycle : ℕ) (state : State)
+end_lawful : (c : Course) (m : Marks) (vs : List Event) (status : Status) (count cycle : ℕ) (state : State)
     → AllLawful c m (vs ++ EndedEvent status count cycle state ∷ []) → IsEndOf c status
 end_lawful c m [] status count cycle state all =
     let whole : state ≡ c.at count = all.0.0.whole in

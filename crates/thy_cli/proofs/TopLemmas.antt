@@ -40,7 +40,7 @@ use Rattle.thy_run.specs.Unfinished.{Finished}
 use Rattle.thy_run.specs.World.{Given, World, Ran}
 use Rattle.thy_run.proofs.PromiseLaws.{Promise-finished}
 use Rattle.thy_run.proofs.WorldLaws.{Safe-cut}
-use Rattle.thy_text.specs.Happening.{Happening}
+use Rattle.thy_text.specs.Event.{Event}
 use Rattle.thy_run.specs.declared.ending.Stop.{Stop}
 use Rattle.thy_run.specs.declared.ending.Stop.TheVariants.{Ended, Nvm, Memory, Terminal, Report, Limit}
 use Rattle.thy_cli.specs.declared.answer.Answer.{Answer}
@@ -111,7 +111,7 @@ IsOrigin-start o contents range is storable readable fresh =
 -- ---- answers
 
 -- whatever stopped it, a run is finished
-finished_by : {M : Type 0} (K : KindOf M) → (o : Origin) (given : Given) (k : ℕ) (last : World M) (events : List Happening) (n : Device) (stop : Stop) → Ran K o given k last → EndsBy K o given.config.cuts last events n stop → Finished K o given k events n
+finished_by : {M : Type 0} (K : KindOf M) → (o : Origin) (given : Given) (k : ℕ) (last : World M) (events : List Event) (n : Device) (stop : Stop) → Ran K o given k last → EndsBy K o given.config.cuts last events n stop → Finished K o given k events n
 finished_by K o given k last events n (Ended status) ran ends = record { last = last; ran = ran; ends = inl ends }
 finished_by K o given k last events n Nvm ran (inl failed) = record { last = last; ran = ran; ends = inr (inl failed) }
 finished_by K o given k last events n Nvm ran (inr f) = record {
@@ -188,7 +188,7 @@ planned_promise K laws plan d stood e terminal shown report read planned ends =
     (finished_by K (origin_of plan) (given_of plan d) e.cycles ends.last e.events stood e.stop ends.ran ends.ends)
 
 -- a save leaves a device that is as safe
-safe_saved : {M : Type 0} (K : KindOf M) (o : Origin) (events : List Happening) (name : Option (List ℕ)) (due : Bool) (c : Config) (n m : Device) (old new : Stock) (why : Option PutError)
+safe_saved : {M : Type 0} (K : KindOf M) (o : Origin) (events : List Event) (name : Option (List ℕ)) (due : Bool) (c : Config) (n m : Device) (old new : Stock) (why : Option PutError)
     → SavesUnder name due c n m old new why → IsSafeFor K o events n → IsSafeFor K o events m
 safe_saved K o events (Some name) true c n m old new why h safe = Safe-cut K o (marks_of o events).kept (marks_of o events).sealed (save_pick c) n m h.0 safe
 safe_saved K o events (Some name) false c n m old new why h safe = subst (IsSafeFor K o events) (sym h.0) safe

@@ -20,7 +20,7 @@ use Rattle.thy_make.specs.File.{made_file}
 use Rattle.thy_text.specs.declared.closing.Closing.TheVariants as closing
 use Rattle.thy_text.specs.declared.closing.FetchFault.TheVariants as fault
 use Rattle.thy_text.specs.Closings.{closing_of}
-use Rattle.thy_text.specs.Happening.{Happening}
+use Rattle.thy_text.specs.Event.{Event}
 use Rattle.thy_text.specs.Lines.{joined, line_feed, ended_lines, made_of}
 use Rattle.thy_text.specs.Summary.{summary_of}
 use Rattle.thy_words.specs.declared.words.WordsError.{WordsError}
@@ -152,7 +152,7 @@ run_line limit save stop (Some (PutMemory e)) = closing_of closing.Memory
 run_line limit save stop why = stop_line limit stop
 
 -- the summary of a made program that exited
-abbrev pub summary_for : Source → Stop → List Happening → List ℕ
+abbrev pub summary_for : Source → Stop → List Event → List ℕ
 summary_for (made n) (Ended (Exited value)) events = summary_of events
 summary_for source stop events = []
 
@@ -162,7 +162,7 @@ ClosesRun false lines old new = Closes lines old new
 ClosesRun true lines old new = new ≡ old
 
 -- whatever a cut leaves of a device is safe for the marks of a run's events
-abbrev pub IsSafeFor : {M : Type 0} → KindOf M → Origin → List Happening → Device → Type 0
+abbrev pub IsSafeFor : {M : Type 0} → KindOf M → Origin → List Event → Device → Type 0
 IsSafeFor K o events n = Safe K.decode o (marks_of o events).kept (marks_of o events).sealed n
 
 -- A run was begun over a device that was fitted, and stopped. Its cycles are those of a run, and keep what is promised

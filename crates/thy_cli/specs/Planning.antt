@@ -18,7 +18,7 @@ use Rattle.thy_record.specs.Images.{decode_image}
 use Rattle.thy_run.specs.Cuts.{cuts_among}
 use Rattle.thy_run.specs.Going.{origin_of, IsPlanned}
 use Rattle.thy_run.specs.declared.plan.Plan.{Plan}
-use Rattle.thy_text.specs.Happening.{Happening}
+use Rattle.thy_text.specs.Event.{Event}
 use Rattle.thy_view.specs.Kind.{KindOf}
 use Rattle.thy_view.specs.Origin.{Origin, IsOrigin}
 use Rattle.thy_view.specs.Safe.{ceiling}
@@ -145,7 +145,7 @@ pub record CanRun (p : Plan) (blocks : List Block) : Type 0 where
   pub fits : FitsKept p.geometry (beginning_of p blocks) p.start.kept
 
 -- after a run the device has room for one more image; its images are those of the cuts that were told, and it has its blocks
-pub record HasRoom (n : Device) (events : List Happening) (blocks : ℕ) : Type 0 where
+pub record HasRoom (n : Device) (events : List Event) (blocks : ℕ) : Type 0 where
   pub room : length n.left < n.left_room
   pub cuts : length n.left ≡ length (cuts_among events)
   pub whole : length n.image ≡ blocks

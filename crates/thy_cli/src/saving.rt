@@ -3,7 +3,7 @@ ghost use Rattle.std.specs.Prelude.{◌≡◌, ◌<◌, ◌++◌, length, IfOk, 
 ghost use Rattle.thy_base.specs.Blocks.{block_bytes};
 ghost use Rattle.thy_base.specs.Device.{block_at, IsCut};
 ghost use Rattle.thy_flat.specs.Flat.{flat};
-ghost use Rattle.thy_text.specs.Seen.{happening_of};
+ghost use Rattle.thy_text.specs.Seen.{event_of};
 ghost use Rattle.thy_run.specs.Cuts.{is_cut, cuts_among};
 ghost use Rattle.thy_cli.specs.Saving.{image_left, saves, save_pick, IsPut};
 
@@ -33,7 +33,7 @@ pub fn save_pick(config: &Config) -> u64
 
 /// Whether an event is a cut of power.
 fn is_cut(event: &Event) -> bool
-    ensures { result ≡ is_cut (happening_of event.now) }
+    ensures { result ≡ is_cut (event_of event.now) }
 {
     matches!(event, Event::Cut { .. })
 }

@@ -8,7 +8,7 @@ use Rattle.thy_base.specs.Device.{Device, IsFramed, cut_to}
 use Rattle.thy_base.specs.Mix.{mix_next}
 use Rattle.thy_isa.specs.declared.state.Status.{Status}
 use Rattle.thy_record.specs.Decoded.{Decoded, Nothing as NothingLeft, Refused as RefusedImage, At}
-use Rattle.thy_text.specs.Happening.{Happening, Cut, Ended as EndedEvent}
+use Rattle.thy_text.specs.Event.{Event, Cut, Ended as EndedEvent}
 use Rattle.thy_view.specs.declared.did.Did.{Did}
 use Rattle.thy_view.specs.declared.did.Did.TheVariants.{Loaded, Restarted, Sealed, Committed}
 use Rattle.thy_view.specs.declared.did.Stepped.{Stepped}
@@ -88,7 +88,7 @@ module _ {M : Type 0} (K : KindOf M) (laws : IsLawful K) (plan : Plan) (p q : Pr
   abbrev x : World M
   x = world_at q m (k + 1)
 
-  abbrev es : List Happening
+  abbrev es : List Event
   es = events_of (origin_of plan) p.fresh (seen K (origin_of plan) (world_at p n k)) noted.steps.r.did (seen K (origin_of plan) (world_at q m (k + 1))) (k + 1)
 
   told_all : q.events ≡ p.events ++ events_of (origin_of plan) p.fresh (seen K (origin_of plan) (world_at p n k)) noted.steps.r.did (seen K (origin_of plan) (world_at q m (k + 1))) (k + 1)
@@ -122,7 +122,7 @@ module _ {M : Type 0} (K : KindOf M) (laws : IsLawful K) (plan : Plan) (p q : Pr
       let next : View = seen K (origin_of plan) (world_at q m (k + 1)) in
       let end : IsEnd (origin_of plan) v next (Some status) = subst (IsEnd (origin_of plan) v next) is noted.is_end in
       let halt : is_halt next.phase ≡ true = halted_next (is_halt v.phase) (is_halt next.phase) end.0 in
-      let first : List Happening = reload_told p.fresh next ++ told (origin_of plan) noted.steps.r.did (k + 1) in
+      let first : List Event = reload_told p.fresh next ++ told (origin_of plan) noted.steps.r.did (k + 1) in
       let told_last : end_told (origin_of plan) v next (k + 1) ≡ EndedEvent status next.count (k + 1) (at (origin_of plan) next.count) ∷ [] =
       end_told-halted (origin_of plan) v next (k + 1) end.0 ∙ ap (λ x. EndedEvent x next.count (k + 1) (at (origin_of plan) next.count) ∷ []) (sym end.1) in
       let ends : EndsWith q.events status = record {
@@ -130,7 +130,7 @@ module _ {M : Type 0} (K : KindOf M) (laws : IsLawful K) (plan : Plan) (p q : Pr
         count = next.count;
         cycle = k + 1;
         state = at (origin_of plan) next.count;
-        last = told_all ∙ ap (λ (l : List Happening). p.events ++ (first ++ l)) told_last
+        last = told_all ∙ ap (λ (l : List Event). p.events ++ (first ++ l)) told_last
             ∙ sym (append_assoc p.events first (EndedEvent status next.count (k + 1) (at (origin_of plan) next.count) ∷ []));
       } in
       (done_uncut (halted_due (is_halt next.phase) _ halt), halt, ends)
@@ -190,7 +190,7 @@ module _ {M : Type 0} (K : KindOf M) (laws : IsLawful K) (plan : Plan) (p q : Pr
           };
           released = ap (λ (y : Progress M). y.released) cut.same ∙ noted.released ∙ ap length (sym releases);
           releases = releases ∙ noted.releases;
-          told = (_, events ∙ ap (λ (l : List Happening). l ++ Cut (q.passed + 1) cycle ∷ []) told_all ∙ append_assoc p.events _ (Cut (q.passed + 1) cycle ∷ []));
+          told = (_, events ∙ ap (λ (l : List Event). l ++ Cut (q.passed + 1) cycle ∷ []) told_all ∙ append_assoc p.events _ (Cut (q.passed + 1) cycle ∷ []));
           room = ap (λ (d : Device). d.left_room) device ∙ (Steps-framed K (origin_of plan) _ _ noted.steps).left_room;
           calm = ap (λ (d : Device). d.faults) device ∙ noted.calm;
           spoken = ap (λ (y : Progress M). y.mute) cut.same ∙ noted.spoken;
@@ -272,13 +272,13 @@ IsNoted-made {M = M} K laws plan fitted p q t n m k r ended bytes planned g s ma
       is_step = s.is_step;
       next_is =
           ap (λ (y : Progress M). world_at (record y { events = t.events; fresh = false }) m (k + 1)) s.same
-          ∙ ap (λ (l : List Happening). world_at (record p { machine = q.machine; mix = mix_next p.mix; events = l; fresh = false }) m (k + 1))
-          (made ∙ ap (λ (l : List Happening). l ++ events_of o q.fresh v r.did (K.view o q.machine m) (k + 1)) events_q
+          ∙ ap (λ (l : List Event). world_at (record p { machine = q.machine; mix = mix_next p.mix; events = l; fresh = false }) m (k + 1))
+          (made ∙ ap (λ (l : List Event). l ++ events_of o q.fresh v r.did (K.view o q.machine m) (k + 1)) events_q
           ∙ ap (λ b. p.events ++ events_of o b v r.did (K.view o q.machine m) (k + 1)) fresh_q);
     } in
     let releases : released_of o t.events ≡ released_of o p.events ++ bytes =
     released-stepped K o (world_at p n k) _ (epoch_least (origin_of plan).geometry planned.origin.geometry) good.stands steps
-    ∙ ap (λ (l : List ℕ). released_of o p.events ++ l) (ap (λ (e : List Happening). due_of o e r.did (K.view o q.machine m)) (sym events_q) ∙ sym bytes_is) in
+    ∙ ap (λ (l : List ℕ). released_of o p.events ++ l) (ap (λ (e : List Event). due_of o e r.did (K.view o q.machine m)) (sym events_q) ∙ sym bytes_is) in
     let now : IsNoted K plan p (record q { events = t.events; released = t.released; fresh = false }) n m k ended bytes = record {
       steps = steps;
       is_end = is_end;
@@ -301,11 +301,11 @@ IsBroken-made {M = M} K laws plan fitted p q t n m k r planned g s some same =
     let good = good_of K plan fitted p n k planned g in
     let events_q : q.events ≡ p.events = ap (λ (y : Progress M). y.events) s.same in
     let fresh_q : q.fresh ≡ p.fresh = ap (λ (y : Progress M). y.fresh) s.same in
-    let all : List Happening = events_of o p.fresh v r.did (K.view o q.machine m) (k + 1) in
+    let all : List Event = events_of o p.fresh v r.did (K.view o q.machine m) (k + 1) in
     let split : all ≡ some.part ++ some.rest = ap (λ b. events_of o b v r.did (K.view o q.machine m) (k + 1)) (sym fresh_q) ∙ some.split in
     let next : World M = stepped K o (world_at p n k) q.machine m r.did in
     let steps : Steps K o (world_at p n k) next = record { r = r; going = g.going; is_step = s.is_step; next_is = refl } in
-    let told : t.events ≡ p.events ++ some.part = some.told ∙ ap (λ (l : List Happening). l ++ some.part) events_q in
+    let told : t.events ≡ p.events ++ some.part = some.told ∙ ap (λ (l : List Event). l ++ some.part) events_q in
     let more = released-part K o (world_at p n k) next (epoch_least (origin_of plan).geometry planned.origin.geometry) good.stands steps some.part some.rest (sym split) in
     let telling : TellingFailed K o (world_at p n k) t.events (LeftAlone K o plan.config.cuts m) = record {
       next = next;
@@ -313,7 +313,7 @@ IsBroken-made {M = M} K laws plan fitted p q t n m k r planned g s some same =
       part = some.part;
       rest = some.rest;
       told = told;
-      split = ap (λ (l : List Happening). p.events ++ l) split ∙ sym (append_assoc p.events some.part some.rest) ∙ ap (λ (l : List Happening). l ++ some.rest) (sym told);
+      split = ap (λ (l : List Event). p.events ++ l) split ∙ sym (append_assoc p.events some.part some.rest) ∙ ap (λ (l : List Event). l ++ some.rest) (sym told);
       unended = some.unended;
       why = (refl, inl some.some);
     } in
@@ -335,15 +335,15 @@ IsBroken-read {M = M} K laws plan fitted p q n m m' k r e planned g s failed fra
     let events_q : q.events ≡ p.events = ap (λ (y : Progress M). y.events) s.same in
     let next : World M = stepped K o (world_at p n k) q.machine m r.did in
     let steps : Steps K o (world_at p n k) next = record { r = r; going = g.going; is_step = s.is_step; next_is = refl } in
-    let all : List Happening = events_of o p.fresh v r.did (K.view o q.machine m) (k + 1) in
+    let all : List Event = events_of o p.fresh v r.did (K.view o q.machine m) (k + 1) in
     let some : all ≢ [] = events_due o p.fresh v (K.view o q.machine m) r.did (k + 1) (told_or_halts r (halts v (K.view o q.machine m)) s.is_step.ended due) in
-    let telling : (Why : World M → List Happening → Type 0) → Why next all → TellingFailed K o (world_at p n k) q.events Why = λ Why why. record {
+    let telling : (Why : World M → List Event → Type 0) → Why next all → TellingFailed K o (world_at p n k) q.events Why = λ Why why. record {
       next = next;
       steps = steps;
       part = [];
       rest = events_of o p.fresh v r.did (K.view o q.machine m) (k + 1);
       told = events_q ∙ sym (append-nil p.events);
-      split = ap (λ (l : List Happening). l ++ events_of o p.fresh v r.did (K.view o q.machine m) (k + 1)) (sym events_q);
+      split = ap (λ (l : List Event). l ++ events_of o p.fresh v r.did (K.view o q.machine m) (k + 1)) (sym events_q);
       unended = refl;
       why = why;
     } in
@@ -357,8 +357,8 @@ IsBroken-read {M = M} K laws plan fitted p q n m m' k r e planned g s failed fra
     by_error e failed broken all some telling events_q
   where
     by_error : (e : CoreError) → HasFailedToRead e m m' → IsBroken K plan p q n m' k []
-        → (all : List Happening) → all ≢ []
-        → ((Why : World M → List Happening → Type 0) → Why (stepped K (origin_of plan) (world_at p n k) q.machine m r.did) all → TellingFailed K (origin_of plan) (world_at p n k) q.events Why)
+        → (all : List Event) → all ≢ []
+        → ((Why : World M → List Event → Type 0) → Why (stepped K (origin_of plan) (world_at p n k) q.machine m r.did) all → TellingFailed K (origin_of plan) (world_at p n k) q.events Why)
         → q.events ≡ p.events
         → IsBroken K plan p q n m' k [] × Breaks K plan p q n m' k [] (stop_of e)
     by_error NvmFailed f broken all some telling events = (
@@ -396,7 +396,7 @@ few_released {M = M} K laws plan fitted p q n m k r bytes planned g s due =
     let steps : Steps K o (world_at p n k) next = record { r = r; going = g.going; is_step = s.is_step; next_is = refl } in
     let releases : released_of o next.events ≡ released_of o p.events ++ bytes =
     released-stepped K o (world_at p n k) next (epoch_least (origin_of plan).geometry planned.origin.geometry) good.stands steps
-    ∙ ap (λ (l : List ℕ). released_of o p.events ++ l) (ap (λ (e : List Happening). due_of o e r.did (K.view o q.machine m)) (sym events_q) ∙ sym due) in
+    ∙ ap (λ (l : List ℕ). released_of o p.events ++ l) (ap (λ (e : List Event). due_of o e r.did (K.view o q.machine m)) (sym events_q) ∙ sym due) in
     let released : q.released ≡ length (released_of o p.events) = ap (λ (y : Progress M). y.released) s.same ∙ g.released in
     let sum : length (released_of o next.events) ≡ length (released_of o p.events) + length bytes = ap length releases ∙ length-append (released_of o p.events) bytes in
     let few : length (released_of o next.events) < 2 ^ 64 = length-released o next.events planned.origin in
@@ -416,7 +416,7 @@ can_step K plan fitted p n k planned g few =
 
 -- ---- the same, from what the calls promise
 
-pub noted_from : {M : Type 0} (K : KindOf M) (laws : IsLawful K) → (plan : Plan) (fitted : Device) (p q : Progress M) (n m : Device) (k : ℕ) (r : Stepped) (ended : Option Status) (bytes : List ℕ) (e : List Happening) (len cycle : ℕ) (did : Did)
+pub noted_from : {M : Type 0} (K : KindOf M) (laws : IsLawful K) → (plan : Plan) (fitted : Device) (p q : Progress M) (n m : Device) (k : ℕ) (r : Stepped) (ended : Option Status) (bytes : List ℕ) (e : List Event) (len cycle : ℕ) (did : Did)
     → IsPlanned plan → GoesOn K plan fitted p n k → IsStepped K plan p q n m k r → r.did ≡ did → len ≡ length bytes → cycle ≡ k + 1
     → e ≡ q.events ++ events_of (origin_of plan) q.fresh (seen K (origin_of plan) (world_at p n k)) did (K.view (origin_of plan) q.machine m) cycle
     → bytes ≡ due_of (origin_of plan) q.events did (K.view (origin_of plan) q.machine m)
@@ -430,7 +430,7 @@ noted_from {M = M} K laws plan fitted p q n m k r ended bytes e len cycle did pl
     (made ∙ ap (λ (d : Did). q.events ++ events_of o q.fresh v d next cycle) (sym did_is) ∙ ap (λ c. q.events ++ events_of o q.fresh v r.did next c) cycle_is)
     refl (ap (λ l. q.released + l) len_is) (due ∙ ap (λ (d : Did). due_of o q.events d next) (sym did_is)) is_end
 
-pub broken_from : {M : Type 0} (K : KindOf M) (laws : IsLawful K) → (plan : Plan) (fitted : Device) (p q : Progress M) (n m : Device) (k : ℕ) (r : Stepped) (e : List Happening) (bytes : List ℕ) (cycle : ℕ) (did : Did)
+pub broken_from : {M : Type 0} (K : KindOf M) (laws : IsLawful K) → (plan : Plan) (fitted : Device) (p q : Progress M) (n m : Device) (k : ℕ) (r : Stepped) (e : List Event) (bytes : List ℕ) (cycle : ℕ) (did : Did)
     → IsPlanned plan → GoesOn K plan fitted p n k → IsStepped K plan p q n m k r → r.did ≡ did → cycle ≡ k + 1 → bytes ≡ []
     → MadeSome e (events_of (origin_of plan) q.fresh (seen K (origin_of plan) (world_at p n k)) did (K.view (origin_of plan) q.machine m) cycle) q.events
     → IsBroken K plan p (record q { events = e }) n m k bytes × Breaks K plan p (record q { events = e }) n m k bytes Memory
@@ -438,7 +438,7 @@ broken_from {M = M} K laws plan fitted p q n m k r e bytes cycle did planned g s
     let o : Origin = origin_of plan in
     let v : View = seen K o (world_at p n k) in
     let next : View = K.view o q.machine m in
-    let P : List Happening → Type 0 = λ all. MadeSome e all q.events in
+    let P : List Event → Type 0 = λ all. MadeSome e all q.events in
     let some_of : MadeSome e (events_of o q.fresh v r.did next (k + 1)) q.events =
     subst P (ap (λ (d : Did). events_of o q.fresh v d next cycle) (sym did_is) ∙ ap (λ c. events_of o q.fresh v r.did next c) cycle_is) some in
     subst (λ (b : List ℕ). IsBroken K plan p (record q { events = e }) n m k b × Breaks K plan p (record q { events = e }) n m k b Memory) (sym none)
@@ -482,11 +482,11 @@ quiet_goes {M = M} K laws plan fitted p q n m k r planned g s quiet =
     let end : end_told o v next (k + 1) ≡ [] =
     ap (λ b. if b then EndedEvent (at o next.count).status next.count (k + 1) (at o next.count) ∷ [] else []) going in
     let none : events_of o q.fresh v r.did next (k + 1) ≡ [] =
-    ap (λ (l : List Happening). (l ++ told o r.did (k + 1)) ++ end_told o v next (k + 1)) reload
-    ∙ ap (λ (l : List Happening). l ++ end_told o v next (k + 1)) (told_none o r.did (k + 1) quiet.untold) ∙ end in
+    ap (λ (l : List Event). (l ++ told o r.did (k + 1)) ++ end_told o v next (k + 1)) reload
+    ∙ ap (λ (l : List Event). l ++ end_told o v next (k + 1)) (told_none o r.did (k + 1) quiet.untold) ∙ end in
     let noted : IsNoted K plan p q n m k None [] =
     IsNoted-made K laws plan fitted p q q n m k r None [] planned g s
-    (sym (append-nil q.events) ∙ ap (λ (l : List Happening). q.events ++ l) (sym none))
+    (sym (append-nil q.events) ∙ ap (λ (l : List Event). q.events ++ l) (sym none))
     (ap (λ b. record q { fresh = b }) quiet.later) (omega arith)
     (due_hidden o next r.did q.events [] (hidden_none r.did quiet.untold) refl) going in
     done_going K laws plan p q n m k None [] noted refl (k + 1) refl quiet.uncut

@@ -8,7 +8,7 @@ use Rattle.thy_isa.specs.Step.{State, steps}
 use Rattle.thy_isa.proofs.StepLaws.{steps-add}
 use Rattle.thy_isa.proofs.StorableLaws.{steps-console, steps-room}
 use Rattle.thy_view.specs.Kind.{KindOf}
-use Rattle.thy_text.specs.Happening.{Happening, Cut, Reload, Ended}
+use Rattle.thy_text.specs.Event.{Event, Cut, Reload, Ended}
 use Rattle.thy_text.specs.Marks.{Marks, marks_from}
 use Rattle.thy_text.specs.Released.{shows, console_of}
 use Rattle.thy_text.proofs.Histories.{marks_from-append}
@@ -126,14 +126,14 @@ module _ (o : Origin) (v next : View) (m : Marks) (h : Fits o v m) where
 abbrev pub mark_if : Bool → Option Mark → Option Mark
 mark_if shown kept = if shown then kept else None
 
-abbrev pub shown_of : Origin → List Happening → Option Mark
+abbrev pub shown_of : Origin → List Event → Option Mark
 shown_of o events = mark_if (list_any shows events) (marks_of o events).kept
 
 released_if : (console_at : ℕ → List ℕ) (b : Bool) (kept : Option Mark) → (if b then console_of console_at kept else []) ≡ console_of console_at (mark_if b kept)
 released_if console_at true kept = refl
 released_if console_at false kept = refl
 
-released_marks : (o : Origin) (events : List Happening) → released_of o events ≡ console_of (console_at o) (shown_of o events)
+released_marks : (o : Origin) (events : List Event) → released_of o events ≡ console_of (console_at o) (shown_of o events)
 released_marks o events = released_if (console_at o) (list_any shows events) (marks_of o events).kept
 
 -- what was shown stays shown
@@ -142,7 +142,7 @@ grows_if true true kept later h g = g
 grows_if true false kept later h g = absurd (let no : false ≡ true = h refl in cc)
 grows_if false b kept later h g = grows_none None (mark_if b later) refl
 
-shown_on : (o : Origin) (vs ws : List Happening) → list_any shows vs ≡ true → list_any shows (vs ++ ws) ≡ true
+shown_on : (o : Origin) (vs ws : List Event) → list_any shows vs ≡ true → list_any shows (vs ++ ws) ≡ true
 shown_on o vs ws is = list_any-append shows vs ws ∙ ap (λ b. b || list_any shows ws) is
 
 -- which events of a step show a console
@@ -202,13 +202,13 @@ module _ {M : Type 0} (K : KindOf M) (o : Origin) (w next : World M) (least : 1 
   abbrev marks_told : Marks
   marks_told = marks_from o.start.count (marks_of o w.events) (told o step.r.did (w.cycles + 1))
 
-  marks_more : (part : List Happening) → marks_of o (w.events ++ part) ≡ marks_from o.start.count (marks_of o w.events) part
+  marks_more : (part : List Event) → marks_of o (w.events ++ part) ≡ marks_from o.start.count (marks_of o w.events) part
   marks_more part = marks_from-append o.start.count (first_marks o) w.events part
 
   told_grows : Grows (marks_of o w.events).kept (marks_from o.start.count (marks_of o w.events) (told o step.r.did (w.cycles + 1))).kept
   told_grows = Grows-told o (seen K o w) (seen K o next) (marks_of o w.events) h.fits step.r.did (w.cycles + 1) step.is_step.step
 
-  part_grows : (part rest : List Happening) → part ++ rest ≡ events_of o w.fresh (seen K o w) step.r.did (seen K o next) (w.cycles + 1)
+  part_grows : (part rest : List Event) → part ++ rest ≡ events_of o w.fresh (seen K o w) step.r.did (seen K o next) (w.cycles + 1)
       → Grows (marks_of o w.events).kept (marks_of o (w.events ++ part)).kept
   part_grows part rest e =
       subst (λ (x : Marks). Grows (marks_of o w.events).kept x.kept) (sym (marks_more part))
@@ -218,14 +218,14 @@ module _ {M : Type 0} (K : KindOf M) (o : Origin) (w next : World M) (least : 1 
         | inr done ↦ subst (λ (x : Marks). Grows (marks_of o w.events).kept x.kept) (sym done) told_grows
       ])
 
-  shown_grows : (part rest : List Happening) → part ++ rest ≡ events_of o w.fresh (seen K o w) step.r.did (seen K o next) (w.cycles + 1)
+  shown_grows : (part rest : List Event) → part ++ rest ≡ events_of o w.fresh (seen K o w) step.r.did (seen K o next) (w.cycles + 1)
       → Grows (shown_of o w.events) (shown_of o (w.events ++ part))
   shown_grows part rest e =
       grows_if (list_any shows w.events) (list_any shows (w.events ++ part)) (marks_of o w.events).kept (marks_of o (w.events ++ part)).kept
       (shown_on o w.events part) (part_grows part rest e)
 
   -- the first of a cycle's events release more, or nothing
-  pub released-part : (part rest : List Happening) → part ++ rest ≡ events_of o w.fresh (seen K o w) step.r.did (seen K o next) (w.cycles + 1)
+  pub released-part : (part rest : List Event) → part ++ rest ≡ events_of o w.fresh (seen K o w) step.r.did (seen K o next) (w.cycles + 1)
       → (more : List ℕ) × (released_of o (w.events ++ part) ≡ released_of o w.events ++ more)
   released-part part rest e =
       let more : List ℕ = drop (length (console_of (console_at o) (shown_of o w.events))) (console_of (console_at o) (shown_of o (w.events ++ part))) in (
@@ -236,14 +236,14 @@ module _ {M : Type 0} (K : KindOf M) (o : Origin) (w next : World M) (least : 1 
 
   all_kept : (marks_of o next.events).kept ≡ (if shows_console step.r.did then (seen K o next).done else (marks_of o w.events).kept)
   all_kept =
-      let es : List Happening = events_of o w.fresh (seen K o w) step.r.did (seen K o next) (w.cycles + 1) in
+      let es : List Event = events_of o w.fresh (seen K o w) step.r.did (seen K o next) (w.cycles + 1) in
       ap (λ (x : World M). (marks_of o x.events).kept) step.next_is
       ∙ ap (λ (x : Marks). x.kept) (marks_more es ∙ marks-events o (seen K o w) (seen K o next) (marks_of o w.events) step.r.did w.fresh (w.cycles + 1) least h.fits step.is_step.step)
       ∙ kept-told o (seen K o w) (seen K o next) (marks_of o w.events) h.fits step.r.did (w.cycles + 1) step.is_step.step
 
   all_shown : shown_of o next.events ≡ (if shows_console step.r.did then (seen K o next).done else shown_of o w.events)
   all_shown =
-      let es : List Happening = events_of o w.fresh (seen K o w) step.r.did (seen K o next) (w.cycles + 1) in
+      let es : List Event = events_of o w.fresh (seen K o w) step.r.did (seen K o next) (w.cycles + 1) in
       let events : next.events ≡ w.events ++ es = ap (λ (x : World M). x.events) step.next_is in
       ap (λ b. mark_if b (marks_of o next.events).kept) (ap (list_any shows) events ∙ list_any-append shows w.events es)
       ∙ mark_next (list_any shows w.events) (list_any shows es) (shows_console step.r.did) (seen K o next).done (marks_of o w.events).kept (marks_of o next.events).kept
@@ -253,7 +253,7 @@ module _ {M : Type 0} (K : KindOf M) (o : Origin) (w next : World M) (least : 1 
       → released_of o next.events ≡ released_of o w.events ++ (if b then drop (length (released_of o w.events)) (console_of (console_at o) (seen K o next).done) else [])
   by_show true shows_it =
       let before : Option Mark = shown_of o w.events in
-      let es : List Happening = events_of o w.fresh (seen K o w) step.r.did (seen K o next) (w.cycles + 1) in
+      let es : List Event = events_of o w.fresh (seen K o w) step.r.did (seen K o next) (w.cycles + 1) in
       let events : next.events ≡ w.events ++ es = ap (λ (x : World M). x.events) step.next_is in
       let shown : shown_of o next.events ≡ (seen K o next).done = all_shown ∙ ap (λ b. if b then (seen K o next).done else before) shows_it in
       let grows : Grows before (seen K o next).done = subst (Grows before) (sym (ap (shown_of o) events) ∙ shown) (shown_grows es [] (append-nil es)) in
@@ -269,7 +269,7 @@ module _ {M : Type 0} (K : KindOf M) (o : Origin) (w next : World M) (least : 1 
   released-stepped = by_show (shows_console step.r.did) refl
 
 -- a cut releases nothing
-pub released-cut : (o : Origin) (events : List Happening) (index cycle : ℕ) → released_of o (events ++ Cut index cycle ∷ []) ≡ released_of o events
+pub released-cut : (o : Origin) (events : List Event) (index cycle : ℕ) → released_of o (events ++ Cut index cycle ∷ []) ≡ released_of o events
 released-cut o events index cycle =
     released_marks o (events ++ Cut index cycle ∷ [])
     ∙ ap (console_of (console_at o))
@@ -290,6 +290,6 @@ kept_few o None origin = omega arith
 kept_few o (Some m) origin = console-few o m.count origin
 
 -- what is released has a length of 64 bits
-pub length-released : (o : Origin) (events : List Happening) → IsOrigin o → length (released_of o events) < 2 ^ 64
+pub length-released : (o : Origin) (events : List Event) → IsOrigin o → length (released_of o events) < 2 ^ 64
 length-released o events origin =
     subst (λ (l : List ℕ). length l < 2 ^ 64) (sym (released_marks o events)) (kept_few o (shown_of o events) origin)

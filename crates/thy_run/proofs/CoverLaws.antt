@@ -5,7 +5,7 @@ use Rattle.thy_base.specs.declared.mark.Mark.{Mark}
 use Rattle.thy_base.specs.Device.{Device}
 use Rattle.thy_record.specs.Decoded.{Decoded, Nothing as NothingLeft, Refused as RefusedImage, At}
 use Rattle.thy_view.specs.Kind.{KindOf}
-use Rattle.thy_text.specs.Happening.{Happening, Reload, Ended}
+use Rattle.thy_text.specs.Event.{Event, Reload, Ended}
 use Rattle.thy_text.specs.Marks.{Marks, marks_from}
 use Rattle.thy_text.proofs.Histories.{marks_from-append}
 use Rattle.thy_view.specs.declared.did.Did.{Did}
@@ -137,15 +137,15 @@ module _ (o : Origin) (v next : View) (m : Marks) (least : 1 ≤ o.geometry.epoc
 -- ---- the first of a cycle's events
 
 -- a first part of two lists is one of the first, or all of it and a first part of the second
-data Cutting (part xs ys : List Happening) : Type 0 where
-  within : (rest : List Happening) → part ++ rest ≡ xs → Cutting part xs ys
-  beyond : (more rest : List Happening) → part ≡ xs ++ more → more ++ rest ≡ ys → Cutting part xs ys
+data Cutting (part xs ys : List Event) : Type 0 where
+  within : (rest : List Event) → part ++ rest ≡ xs → Cutting part xs ys
+  beyond : (more rest : List Event) → part ≡ xs ++ more → more ++ rest ≡ ys → Cutting part xs ys
 
-longer : (x : Happening) (part xs ys : List Happening) → Cutting part xs ys → Cutting (x ∷ part) (x ∷ xs) ys
+longer : (x : Event) (part xs ys : List Event) → Cutting part xs ys → Cutting (x ∷ part) (x ∷ xs) ys
 longer x part xs ys (within rest e) = within rest (ap (λ l. x ∷ l) e)
 longer x part xs ys (beyond more rest e f) = beyond more rest (ap (λ l. x ∷ l) e) f
 
-cutting : (part rest xs ys : List Happening) → part ++ rest ≡ xs ++ ys → Cutting part xs ys
+cutting : (part rest xs ys : List Event) → part ++ rest ≡ xs ++ ys → Cutting part xs ys
 cutting part rest [] ys e = beyond part rest refl e
 cutting [] rest (x ∷ xs) ys e = within (x ∷ xs) refl
 cutting (p ∷ part) rest (x ∷ xs) ys e =
@@ -154,19 +154,19 @@ cutting (p ∷ part) rest (x ∷ xs) ys e =
     subst (λ q. Cutting (q ∷ part) (x ∷ xs) ys) (sym same) (longer x part xs ys (cutting part rest xs ys tails))
 
 -- the marks that a first part of a list of at most one event leaves
-abbrev pub IsShort : List Happening → Type 0
-IsShort vs = (vs ≡ []) ⊎ ((v : Happening) × (vs ≡ v ∷ []))
+abbrev pub IsShort : List Event → Type 0
+IsShort vs = (vs ≡ []) ⊎ ((v : Event) × (vs ≡ v ∷ []))
 
-part_of_one : (part rest : List Happening) (v : Happening) → part ++ rest ≡ v ∷ [] → (part ≡ []) ⊎ (part ≡ v ∷ [])
+part_of_one : (part rest : List Event) (v : Event) → part ++ rest ≡ v ∷ [] → (part ≡ []) ⊎ (part ≡ v ∷ [])
 part_of_one [] rest v e = inl refl
 part_of_one (p ∷ []) rest v e = inr (let same : p ≡ v = cc in ap (λ q. q ∷ []) same)
 part_of_one (p ∷ q ∷ part) rest v e = absurd (cc)
 
-part_of_none : (part rest : List Happening) → part ++ rest ≡ [] → part ≡ []
+part_of_none : (part rest : List Event) → part ++ rest ≡ [] → part ≡ []
 part_of_none [] rest e = refl
 part_of_none (p ∷ part) rest e = absurd (cc)
 
-part_of_short : (part rest vs : List Happening) → IsShort vs → part ++ rest ≡ vs → (part ≡ []) ⊎ (part ≡ vs)
+part_of_short : (part rest vs : List Event) → IsShort vs → part ++ rest ≡ vs → (part ≡ []) ⊎ (part ≡ vs)
 part_of_short part rest vs (inl none) e = inl (part_of_none part rest (e ∙ none))
 part_of_short part rest vs (inr (v, one)) e = elim (part_of_one part rest v (e ∙ one)) as (λ _. (part ≡ []) ⊎ (part ≡ vs)) [ inl a ↦ inl a | inr b ↦ inr (b ∙ sym one) ]
 
@@ -187,11 +187,11 @@ told_short o NvmDrained cycle = inl refl
 told_short o DramDrained cycle = inl refl
 told_short o Nothing cycle = inl refl
 
-if_short : (b : Bool) (v : Happening) → IsShort (if b then v ∷ [] else [])
+if_short : (b : Bool) (v : Event) → IsShort (if b then v ∷ [] else [])
 if_short true v = inr (v, refl)
 if_short false v = inl refl
 
-end_kept : (o : Origin) (m : Marks) (next : View) (cycle : ℕ) (part : List Happening) (b : Bool)
+end_kept : (o : Origin) (m : Marks) (next : View) (cycle : ℕ) (part : List Event) (b : Bool)
     → (part ≡ []) ⊎ (part ≡ (if b then Ended (at o next.count).status next.count cycle (at o next.count) ∷ [] else []))
     → marks_from o.start.count m part ≡ m
 end_kept o m next cycle part b (inl none) = ap (marks_from o.start.count m) none
@@ -200,34 +200,34 @@ end_kept o m next cycle part false (inr none) = ap (marks_from o.start.count m) 
 
 module _ (o : Origin) (v next : View) (m : Marks) (did : Did) (fresh : Bool) (cycle : ℕ) (least : 1 ≤ o.geometry.epoch) (h : Fits o v m) (s : CoreStep o v did next) where
   -- some events leave the marks that stood, or those that what was done leaves
-  abbrev pub LeavesEither : List Happening → Type 0
+  abbrev pub LeavesEither : List Event → Type 0
   LeavesEither part = (marks_from o.start.count m part ≡ m) ⊎ (marks_from o.start.count m part ≡ marks_from o.start.count m (told o did cycle))
 
   reload_kept : marks_from o.start.count m (reload_told fresh next) ≡ m
   reload_kept = (Reloads-told o v next m did fresh least h s).marks
 
-  after_reload : (more : List Happening) → marks_from o.start.count m (reload_told fresh next ++ more) ≡ marks_from o.start.count m more
+  after_reload : (more : List Event) → marks_from o.start.count m (reload_told fresh next ++ more) ≡ marks_from o.start.count m more
   after_reload more = marks_from-append o.start.count m (reload_told fresh next) more ∙ ap (λ n. marks_from o.start.count n more) reload_kept
 
-  of_reload : (part rest : List Happening) → part ++ rest ≡ reload_told fresh next → LeavesEither part
+  of_reload : (part rest : List Event) → part ++ rest ≡ reload_told fresh next → LeavesEither part
   of_reload part rest e = elim (part_of_short part rest (reload_told fresh next) (if_short (fresh && loads next) Reload) e) as (λ _. LeavesEither part) [
     | inl none ↦ inl (ap (marks_from o.start.count m) none)
     | inr all ↦ inl (ap (marks_from o.start.count m) all ∙ reload_kept)
   ]
 
-  of_told : (part more rest : List Happening) → part ≡ reload_told fresh next ++ more → more ++ rest ≡ told o did cycle → LeavesEither part
+  of_told : (part more rest : List Event) → part ≡ reload_told fresh next ++ more → more ++ rest ≡ told o did cycle → LeavesEither part
   of_told part more rest is e = elim (part_of_short more rest (told o did cycle) (told_short o did cycle) e) as (λ _. LeavesEither part) [
     | inl none ↦ inl (ap (marks_from o.start.count m) is ∙ after_reload more ∙ ap (marks_from o.start.count m) none)
     | inr all ↦ inr (ap (marks_from o.start.count m) is ∙ after_reload more ∙ ap (marks_from o.start.count m) all)
   ]
 
-  of_both : (part rest : List Happening) → part ++ rest ≡ reload_told fresh next ++ told o did cycle → LeavesEither part
+  of_both : (part rest : List Event) → part ++ rest ≡ reload_told fresh next ++ told o did cycle → LeavesEither part
   of_both part rest e = elim (cutting part rest (reload_told fresh next) (told o did cycle) e) as (λ _. LeavesEither part) [
     | within r f ↦ of_reload part r f
     | beyond more r is f ↦ of_told part more r is f
   ]
 
-  of_end : (part more rest : List Happening) → part ≡ reload_told fresh next ++ told o did cycle ++ more → more ++ rest ≡ end_told o v next cycle → LeavesEither part
+  of_end : (part more rest : List Event) → part ≡ reload_told fresh next ++ told o did cycle ++ more → more ++ rest ≡ end_told o v next cycle → LeavesEither part
   of_end part more rest is e =
       inr (
       ap (marks_from o.start.count m) is ∙ marks_from-append o.start.count m (reload_told fresh next ++ told o did cycle) more
@@ -236,7 +236,7 @@ module _ (o : Origin) (v next : View) (m : Marks) (did : Did) (fresh : Bool) (cy
       ∙ after_reload (told o did cycle))
 
   -- so the first of a cycle's events do
-  pub marks-part : (part rest : List Happening) → part ++ rest ≡ events_of o fresh v did next cycle → LeavesEither part
+  pub marks-part : (part rest : List Event) → part ++ rest ≡ events_of o fresh v did next cycle → LeavesEither part
   marks-part part rest e = elim (cutting part rest (reload_told fresh next ++ told o did cycle) (end_told o v next cycle) e) as (λ _. LeavesEither part) [
     | within r f ↦ of_both part r f
     | beyond more r is f ↦ of_end part more r is f
@@ -246,7 +246,7 @@ module _ (o : Origin) (v next : View) (m : Marks) (did : Did) (fresh : Bool) (cy
   covered_by n x is c = subst (λ (y : Marks). Covers y.kept y.sealed next.done (doubt_of next)) (sym is) c
 
   -- the marks that the first of a cycle's events leave cover the view after it
-  pub Covers-part : (part rest : List Happening) → part ++ rest ≡ events_of o fresh v did next cycle
+  pub Covers-part : (part rest : List Event) → part ++ rest ≡ events_of o fresh v did next cycle
       → Covers (marks_from o.start.count m part).kept (marks_from o.start.count m part).sealed next.done (doubt_of next)
   Covers-part part rest e = elim (marks-part part rest e) as (λ _. Covers (marks_from o.start.count m part).kept (marks_from o.start.count m part).sealed next.done (doubt_of next)) [
     | inl stood ↦ covered_by m (marks_from o.start.count m part) stood (Covers-before o v next m least h did s)

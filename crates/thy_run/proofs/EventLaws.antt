@@ -2,7 +2,7 @@
 use Rattle.std.proofs.Common.{◌≡◌, ℕ, ◌≤◌, Bool, true, false, ◌&&◌, not, is_none, if◌then◌else◌, Option, Some, None, List, [], ◌∷◌, ◌++◌, refl, sym, ◌∙◌, ap, subst, inl, inr}
 use Rattle.std.proofs.lemmas.Bool.{and_parts}
 use Rattle.thy_base.specs.declared.mark.Mark.{Mark}
-use Rattle.thy_text.specs.Happening.{Happening, Reload, Ended}
+use Rattle.thy_text.specs.Event.{Event, Reload, Ended}
 use Rattle.thy_text.specs.Marks.{Marks, loading_marks, marks_from, AllLawful}
 use Rattle.thy_text.proofs.Histories.{marks_from-append, AllLawful-append}
 use Rattle.thy_view.specs.declared.did.Did.{Did}
@@ -90,7 +90,7 @@ end_marks o m next cycle true = refl
 end_marks o m next cycle false = refl
 
 -- what follows a reload, or none
-pub record Reloads (o : Origin) (m : Marks) (reload : List Happening) : Type 0 where
+pub record Reloads (o : Origin) (m : Marks) (reload : List Event) : Type 0 where
   pub lawful : AllLawful (course_of o) m reload
   pub marks : marks_from o.start.count m reload ≡ m
 
@@ -112,8 +112,8 @@ Reloads-told o v next m did fresh least h s = by_test (fresh && loads next) refl
 pub marks-events : (o : Origin) (v next : View) (m : Marks) (did : Did) (fresh : Bool) (cycle : ℕ) → 1 ≤ o.geometry.epoch → Fits o v m → CoreStep o v did next
     → marks_from o.start.count m (events_of o fresh v did next cycle) ≡ marks_from o.start.count m (told o did cycle)
 marks-events o v next m did fresh cycle least h s =
-    let reload : List Happening = reload_told fresh next in
-    let step : List Happening = told o did cycle in
+    let reload : List Event = reload_told fresh next in
+    let step : List Event = told o did cycle in
     let start : ℕ = o.start.count in
     marks_from-append start m (reload ++ step) (end_told o v next cycle)
     ∙ end_marks o (marks_from start m (reload ++ step)) next cycle (halts v next)
@@ -123,9 +123,9 @@ marks-events o v next m did fresh cycle least h s =
 pub Fits-events : (o : Origin) (v next : View) (m : Marks) (did : Did) (fresh : Bool) (cycle : ℕ) → 1 ≤ o.geometry.epoch → Fits o v m → CoreStep o v did next
     → Fits o next (marks_from o.start.count m (events_of o fresh v did next cycle)) × AllLawful (course_of o) m (events_of o fresh v did next cycle)
 Fits-events o v next m did fresh cycle least h s =
-    let reload : List Happening = reload_told fresh next in
-    let step : List Happening = told o did cycle in
-    let end : List Happening = end_told o v next cycle in
+    let reload : List Event = reload_told fresh next in
+    let step : List Event = told o did cycle in
+    let end : List Event = end_told o v next cycle in
     let reloads = Reloads-told o v next m did fresh least h s in
     let tells = Fits-told o v next m least h did cycle s in
     let start : ℕ = o.start.count in

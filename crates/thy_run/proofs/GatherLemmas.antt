@@ -3,7 +3,7 @@ use Rattle.std.proofs.Common.{◌≡◌, ℕ, Bool, true, false, ◌&&◌, ◌||
 use Rattle.std.proofs.lemmas.Bool.{and_parts}
 use Rattle.thy_base.specs.declared.mark.Mark.{Mark}
 use Rattle.thy_isa.specs.declared.state.MachState.{MachState}
-use Rattle.thy_text.specs.Happening.{Happening}
+use Rattle.thy_text.specs.Event.{Event}
 use Rattle.thy_text.specs.Released.{console_of}
 use Rattle.thy_view.specs.declared.did.Did.{Did}
 use Rattle.thy_view.specs.declared.did.Did.TheVariants.{Boot, Loaded, Restarted, Refused, Moved, Retired, Flushed, Merged, Sealed, Promoted, Engine, Committed, NvmDrained, DramDrained, Nothing}
@@ -63,7 +63,7 @@ Shows-step o v next DramDrained s e = never e
 Shows-step o v next Nothing s e = never e
 
 -- the console of the committed mark, behind the bytes that were released, is what is due
-pub due_shown : (o : Origin) (v next : View) (did : Did) (events : List Happening) (from : ℕ) (bytes : List ℕ) → CoreStep o v did next → shows_console did ≡ true
+pub due_shown : (o : Origin) (v next : View) (did : Did) (events : List Event) (from : ℕ) (bytes : List ℕ) → CoreStep o v did next → shows_console did ≡ true
     → from ≡ length (released_of o events) → ((m : Mark) → is_boot next.phase ≡ false → next.done ≡ Some m → bytes ≡ drop from (at o m.count).console)
     → bytes ≡ due_of o events did next
 due_shown o v next did events from bytes step shown released console =
@@ -72,7 +72,7 @@ due_shown o v next did events from bytes step shown released console =
     ∙ sym (ap (λ (d : Option Mark). drop (length (released_of o events)) (console_of (console_at o) d)) s.done)
     ∙ sym (ap (λ b. if b then drop (length (released_of o events)) (console_of (console_at o) next.done) else []) shown)
 
-pub due_hidden : (o : Origin) (next : View) (did : Did) (events : List Happening) (bytes : List ℕ) → shows_console did ≡ false → bytes ≡ [] → bytes ≡ due_of o events did next
+pub due_hidden : (o : Origin) (next : View) (did : Did) (events : List Event) (bytes : List ℕ) → shows_console did ≡ false → bytes ≡ [] → bytes ≡ due_of o events did next
 due_hidden o next did events bytes hidden none =
     none ∙ sym (ap (λ b. if b then drop (length (released_of o events)) (console_of (console_at o) next.done) else []) hidden)
 

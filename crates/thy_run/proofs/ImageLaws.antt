@@ -5,7 +5,7 @@ use Rattle.std.specs.Prelude.{◌≢◌}
 use Rattle.thy_base.specs.declared.block.Block.{Block}
 use Rattle.thy_base.specs.declared.mark.Mark.{Mark}
 use Rattle.thy_record.specs.Decoded.{Decoded, Nothing as NothingLeft, Refused as RefusedImage, At}
-use Rattle.thy_text.specs.Happening.{Happening, Reload, Ended}
+use Rattle.thy_text.specs.Event.{Event, Reload, Ended}
 use Rattle.thy_view.specs.declared.did.Did.{Did}
 use Rattle.thy_view.specs.declared.did.Did.TheVariants.{Boot, Loaded, Restarted, Refused, Moved, Retired, Flushed, Merged, Sealed, Promoted, Engine, Committed, NvmDrained, DramDrained, Nothing}
 use Rattle.thy_record.specs.declared.engine_step.EngineStep.{EngineStep}
@@ -52,7 +52,7 @@ stays_engine v next Barrier e = stays_busy v next e
 stays_engine v next (EngineCommitted epoch) e = absurd e
 stays_engine v next CommitWritten e = record { phase = ap (λ w. w.phase) e.1; done = ap (λ w. w.done) e.1 }
 
-some_event : (v : Happening) {A : Type 0} → v ∷ [] ≡ [] → A
+some_event : (v : Event) {A : Type 0} → v ∷ [] ≡ [] → A
 some_event v e = absurd (cc)
 
 pub Stays-quiet : (o : Origin) (v next : View) (did : Did) (cycle : ℕ) → CoreStep o v did next → told o did cycle ≡ [] → Stays v next
@@ -138,11 +138,11 @@ shape_of o v next did fresh cycle Told c tells = by_test (fresh && loads next) r
     end_none : told o did cycle ≡ [] → end_told o v next cycle ≡ []
     end_none none = if_none (halts v next) (Ended (at o next.count).status next.count cycle (at o next.count) ∷ []) (halts-quiet o v next did cycle c none)
 
-    all : (r t e : List Happening) → reload_told fresh next ≡ r → told o did cycle ≡ t → end_told o v next cycle ≡ e → events_of o fresh v did next cycle ≡ r ++ t ++ e
+    all : (r t e : List Event) → reload_told fresh next ≡ r → told o did cycle ≡ t → end_told o v next cycle ≡ e → events_of o fresh v did next cycle ≡ r ++ t ++ e
     all r t e is_r is_t is_e =
-        ap (λ (x : List Happening). x ++ told o did cycle ++ end_told o v next cycle) is_r
-        ∙ ap (λ (x : List Happening). r ++ x ++ end_told o v next cycle) is_t
-        ∙ ap (λ (x : List Happening). r ++ t ++ x) is_e
+        ap (λ (x : List Event). x ++ told o did cycle ++ end_told o v next cycle) is_r
+        ∙ ap (λ (x : List Event). r ++ x ++ end_told o v next cycle) is_t
+        ∙ ap (λ (x : List Event). r ++ t ++ x) is_e
 
     by_test : (b : Bool) → (fresh && loads next) ≡ b → Shape o v next did fresh cycle Told
     by_test true is =
@@ -231,7 +231,7 @@ module _ (read : List Block → Decoded) (o : Origin) (cycles : ℕ) (fresh : Bo
     end_fits true = (refl, (refl, settled_images))
     end_fits false = (refl, settled_images)
 
-    abbrev Fits : List Happening → Type 0
+    abbrev Fits : List Event → Type 0
     Fits vs = AllFit read (ImagesFit o (cycles + 1) false next) s vs []
 
     by_shape : Shape o v next did fresh cycle (ToldFits did cycle) → Fits (events_of o fresh v did next cycle)

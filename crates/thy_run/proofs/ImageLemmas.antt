@@ -2,12 +2,12 @@
 use Rattle.std.proofs.Common.{◌≡◌, ℕ, suc, Some, None, List, [], ◌∷◌, ◌++◌, length, refl, ap}
 use Rattle.thy_base.specs.declared.block.Block.{Block}
 use Rattle.thy_record.specs.Decoded.{Decoded}
-use Rattle.thy_text.specs.Happening.{Happening, EpochEnd, Commit, Cut, Restart, Reload, Ended}
+use Rattle.thy_text.specs.Event.{Event, EpochEnd, Commit, Cut, Restart, Reload, Ended}
 use Rattle.thy_run.specs.Cuts.{cuts_among}
 use Rattle.thy_run.specs.Images.{Found, found, HasLeft, AllFit}
 
 -- more events behind some, and the images of the cuts among them
-pub AllFit-append : (read : List Block → Decoded) (P Q : Found → Type 0) (s : Found) (vs ws : List Happening) (left more : List (List Block))
+pub AllFit-append : (read : List Block → Decoded) (P Q : Found → Type 0) (s : Found) (vs ws : List Event) (left more : List (List Block))
     → ((t : Found) → P t → AllFit read Q t ws more) → AllFit read P s vs left → AllFit read Q s (vs ++ ws) (left ++ more)
 AllFit-append read P Q s [] ws [] more next (none, p) = next s p
 AllFit-append read P Q s [] ws (g ∷ left) more next (none, p) = absurd (cc)
@@ -25,7 +25,7 @@ has_left : (cycles : ℕ) (d : Decoded) → HasLeft cycles (found d None)
 has_left cycles d = λ at e. absurd (cc)
 
 -- another thing that stands at the end
-pub AllFit-ends : (read : List Block → Decoded) (P Q : Found → Type 0) (s : Found) (vs : List Happening) (left : List (List Block))
+pub AllFit-ends : (read : List Block → Decoded) (P Q : Found → Type 0) (s : Found) (vs : List Event) (left : List (List Block))
     → ((t : Found) → P t → Q t) → AllFit read P s vs left → AllFit read Q s vs left
 AllFit-ends read P Q s [] left next (none, p) = (none, next s p)
 AllFit-ends read P Q s (Cut index cycle ∷ vs) [] next h = absurd h
@@ -37,7 +37,7 @@ AllFit-ends read P Q s (Reload ∷ vs) left next h = (h.0, AllFit-ends read P Q 
 AllFit-ends read P Q s (Ended status count cycle state ∷ vs) left next h = (h.0, AllFit-ends read P Q (found s.means None) vs left next h.1)
 
 -- the first of some events, no cut among them
-pub AllFit-part : (read : List Block → Decoded) (P : Found → Type 0) (cycles : ℕ) (s : Found) (vs ws : List Happening) (left : List (List Block)) → AllFit read P s (vs ++ ws) left → cuts_among vs ≡ []
+pub AllFit-part : (read : List Block → Decoded) (P : Found → Type 0) (cycles : ℕ) (s : Found) (vs ws : List Event) (left : List (List Block)) → AllFit read P s (vs ++ ws) left → cuts_among vs ≡ []
     → HasLeft cycles s → AllFit read (HasLeft cycles) s vs []
 AllFit-part read P cycles s [] ws left h uncut last = (refl, last)
 AllFit-part read P cycles s (Cut index cycle ∷ vs) ws left h uncut last = absurd (cc)
@@ -48,7 +48,7 @@ AllFit-part read P cycles s (Reload ∷ vs) ws left h uncut last = (h.0, AllFit-
 AllFit-part read P cycles s (Ended status count cycle state ∷ vs) ws left h uncut last = (h.0, AllFit-part read P cycles (found s.means None) vs ws left h.1 uncut (has_left cycles s.means))
 
 -- there is one image for each cut
-pub AllFit-many : (read : List Block → Decoded) (P : Found → Type 0) (s : Found) (vs : List Happening) (left : List (List Block)) → AllFit read P s vs left → length left ≡ length (cuts_among vs)
+pub AllFit-many : (read : List Block → Decoded) (P : Found → Type 0) (s : Found) (vs : List Event) (left : List (List Block)) → AllFit read P s vs left → length left ≡ length (cuts_among vs)
 AllFit-many read P s [] left h = ap length h.0
 AllFit-many read P s (Cut index cycle ∷ vs) [] h = absurd h
 AllFit-many read P s (Cut index cycle ∷ vs) (g ∷ left) h = ap (λ n. suc n) (AllFit-many read P (found (read g) (Some cycle)) vs left h.1)

@@ -6,7 +6,7 @@ use Rattle.std.proofs.lemmas.Bool.{le-leb, cases_lt, cases_eq}
 use Rattle.std.proofs.lemmas.List.Elements.{filter-append}
 use Rattle.std.proofs.lemmas.Bool.Decides.{leb_tells}
 use Rattle.thy_base.specs.Config.{IsRising}
-use Rattle.thy_text.specs.Happening.{Happening, Cut}
+use Rattle.thy_text.specs.Event.{Event, Cut}
 use Rattle.thy_run.specs.Cuts.{is_cut, cuts_among, numbered, cuts_up_to}
 
 up_true : (c n : ℕ) (ns : List ℕ) → n ≤ c → cuts_up_to c (n ∷ ns) ≡ n ∷ cuts_up_to c ns
@@ -64,7 +64,7 @@ next_cut c before (n ∷ ns) (suc p) rising few now =
 -- ---- the cuts among events
 
 -- numbered cuts are cuts
-pub cuts_among-append : (vs ws : List Happening) → cuts_among (vs ++ ws) ≡ cuts_among vs ++ cuts_among ws
+pub cuts_among-append : (vs ws : List Event) → cuts_among (vs ++ ws) ≡ cuts_among vs ++ cuts_among ws
 cuts_among-append vs ws = filter-append is_cut vs ws
 
 -- one more numbered cut

@@ -3,7 +3,7 @@ use Rattle.std.proofs.Common.{◌≡◌, ◌≢◌, ◌⊎◌, inl, inr, ℕ, Bo
 use Rattle.std.specs.Prelude.{is_some}
 use Rattle.std.proofs.lemmas.Bool.{or_from}
 use Rattle.std.proofs.lemmas.List.Folds.{list_any-append}
-use Rattle.thy_text.specs.Happening.{Happening, Reload}
+use Rattle.thy_text.specs.Event.{Event, Reload}
 use Rattle.thy_isa.specs.declared.state.MachState.{MachState}
 use Rattle.thy_view.specs.declared.did.Did.{Did}
 use Rattle.thy_view.specs.declared.did.Did.TheVariants.{Loaded, Restarted, Committed}
@@ -19,15 +19,15 @@ use Rattle.thy_run.specs.Going.{MadeSome, IsEnding}
 
 -- ---- where an event is due, there is one to make
 
-none_before : (a b : List Happening) → a ++ b ≡ [] → a ≡ []
+none_before : (a b : List Event) → a ++ b ≡ [] → a ≡ []
 none_before [] b e = refl
 none_before (v ∷ a) b e = absurd (cc)
 
-none_behind : (a b : List Happening) → a ++ b ≡ [] → b ≡ []
+none_behind : (a b : List Event) → a ++ b ≡ [] → b ≡ []
 none_behind [] b e = e
 none_behind (v ∷ a) b e = absurd (cc)
 
-some_if : (b : Bool) (v : Happening) → b ≡ true → (if b then v ∷ [] else []) ≢ []
+some_if : (b : Bool) (v : Event) → b ≡ true → (if b then v ∷ [] else []) ≢ []
 some_if true v h = λ e. absurd (cc)
 some_if false v h = absurd (cc)
 
@@ -60,7 +60,7 @@ ended_halts o v next (Some state) ending h = ending.0
 -- ---- what was made
 
 -- all but the end
-pub made_but_end : (o : Origin) (fresh : Bool) (v next : View) (did : Did) (cycle : ℕ) (reload : Bool) (before one two : List Happening)
+pub made_but_end : (o : Origin) (fresh : Bool) (v next : View) (did : Did) (cycle : ℕ) (reload : Bool) (before one two : List Event)
     → reload ≡ (fresh && loads next) → one ≡ before ++ (if reload then Reload ∷ [] else []) → two ≡ one ++ told o did cycle → halts v next ≡ true
     → MadeSome two (events_of o fresh v did next cycle) before
 made_but_end o fresh v next did cycle reload before one two is first second ends =
@@ -68,7 +68,7 @@ made_but_end o fresh v next did cycle reload before one two is first second ends
     record {
       part = reload_told fresh next ++ told o did cycle;
       rest = end_told o v next cycle;
-      told = second ∙ ap (λ (l : List Happening). l ++ told o did cycle) (first ∙ ap (λ (l : List Happening). before ++ l) r) ∙ append_assoc before (reload_told fresh next) (told o did cycle);
+      told = second ∙ ap (λ (l : List Event). l ++ told o did cycle) (first ∙ ap (λ (l : List Event). before ++ l) r) ∙ append_assoc before (reload_told fresh next) (told o did cycle);
       split = refl;
       some = end_due o v next cycle ends;
       unended = list_any-append is_end (reload_told fresh next) (told o did cycle)

@@ -5,7 +5,7 @@ use Rattle.std.proofs.lemmas.List.Folds.{list_any-append}
 use Rattle.thy_base.specs.declared.block.Block.{Block}
 use Rattle.thy_base.specs.Device.{Device}
 use Rattle.thy_view.specs.Kind.{KindOf, IsLawful}
-use Rattle.thy_text.specs.Happening.{Happening}
+use Rattle.thy_text.specs.Event.{Event}
 use Rattle.thy_text.specs.Marks.{Marks, Course, marks_from, marks_after, AllLawful}
 use Rattle.thy_text.proofs.Histories.{marks_from-append}
 use Rattle.thy_view.specs.Origin.{Origin}
@@ -49,7 +49,7 @@ length-taken (suc p) [] few = absurd (omega arith)
 length-taken (suc p) (c ∷ cs) few = ap (λ n. suc n) (length-taken p cs (omega arith))
 
 -- the first of some lawful events
-pub AllLawful-part : (c : Course) (m : Marks) (vs ws : List Happening) → AllLawful c m (vs ++ ws) → AllLawful c m vs
+pub AllLawful-part : (c : Course) (m : Marks) (vs ws : List Event) → AllLawful c m (vs ++ ws) → AllLawful c m vs
 AllLawful-part c m [] ws all = tt
 AllLawful-part c m (v ∷ vs) ws all = (all.0, AllLawful-part c (marks_after c.start m v) vs ws all.1)
 
@@ -63,7 +63,7 @@ cuts_fit cuts k w l = (
 )
 
 -- what is left has the room, where it keeps an image for each cut that fell
-leaves_room : (given : Given) (passed : ℕ) (events : List Happening) (n : Device) → StaysFitted given passed n → passed ≤ length given.config.cuts
+leaves_room : (given : Given) (passed : ℕ) (events : List Event) (n : Device) → StaysFitted given passed n → passed ≤ length given.config.cuts
     → length n.left ≡ passed → length (cuts_among events) ≡ passed → LeavesRoom given events n
 leaves_room given passed events n stays few left cuts = record {
   blocks = stays.blocks;
@@ -114,11 +114,11 @@ module _ {M : Type 0} (K : KindOf M) (o : Origin) (given : Given) (w : World M) 
       }
 
   -- of the step's events only a part was made
-  telling_promise : (part rest : List Happening) (next : World M) (events : List Happening) (n : Device) → Steps K o w next → next.events ≡ w.events ++ part ++ rest → has_ended part ≡ false
+  telling_promise : (part rest : List Event) (next : World M) (events : List Event) (n : Device) → Steps K o w next → next.events ≡ w.events ++ part ++ rest → has_ended part ≡ false
       → (n ≡ next.device) ⊎ ReadFailed w events n next rest → Promise K o given w.cycles (w.events ++ part) n
   telling_promise part rest next events n step split unended device =
       let m : Marks = marks_of o w.events in
-      let es : List Happening = events_of o w.fresh (seen K o w) step.r.did (seen K o next) (w.cycles + 1) in
+      let es : List Event = events_of o w.fresh (seen K o w) step.r.did (seen K o next) (w.cycles + 1) in
       let after : Coheres K o next = Coheres-stepped K o w least g.stands next step in
       let whole : es ≡ part ++ rest = behind_same w.events es (part ++ rest) (sym (ap (λ (x : World M). x.events) step.next_is) ∙ split ∙ append_assoc w.events part rest) in
       let uncut : cuts_among part ≡ [] =
@@ -132,7 +132,7 @@ module _ {M : Type 0} (K : KindOf M) (o : Origin) (given : Given) (w : World M) 
       ] in
       let fit = cuts_fit given.config.cuts w.cycles w (listed_going K o given.config.cuts w g step.going) in
       let same_cuts : cuts_among (w.events ++ part) ≡ cuts_among w.events =
-      cuts_among-append w.events part ∙ ap (λ (l : List Happening). cuts_among w.events ++ l) uncut ∙ append-nil (cuts_among w.events) in
+      cuts_among-append w.events part ∙ ap (λ (l : List Event). cuts_among w.events ++ l) uncut ∙ append-nil (cuts_among w.events) in
       let going : has_ended (w.events ++ part) ≡ false =
       list_any-append is_end w.events part ∙ or_from (has_ended w.events) (has_ended part) (g.stands.ended ∙ step.going) unended in
       let marks : marks_of o (w.events ++ part) ≡ marks_from o.start.count m part = marks_from-append o.start.count (first_marks o) w.events part in
@@ -159,15 +159,15 @@ module _ {M : Type 0} (K : KindOf M) (o : Origin) (given : Given) (w : World M) 
         soon = soon;
       }
 
-  pub ends_promise : (events : List Happening) (n : Device) → Ends K o w events n → Promise K o given w.cycles events n
+  pub ends_promise : (events : List Event) (n : Device) → Ends K o w events n → Promise K o given w.cycles events n
   ends_promise events n (inl (same, device)) =
-      subst (λ (vs : List Happening). Promise K o given w.cycles vs n) (sym same) (subst (Promise K o given w.cycles w.events) (sym device) done_promise)
+      subst (λ (vs : List Event). Promise K o given w.cycles vs n) (sym same) (subst (Promise K o given w.cycles w.events) (sym device) done_promise)
   ends_promise events n (inr (inl f)) =
-      subst (λ (vs : List Happening). Promise K o given w.cycles vs n) (sym f.nothing_told)
-      (failed_promise n (subst (λ (vs : List Happening). StepFailed K o w vs n) f.nothing_told f))
+      subst (λ (vs : List Event). Promise K o given w.cycles vs n) (sym f.nothing_told)
+      (failed_promise n (subst (λ (vs : List Event). StepFailed K o w vs n) f.nothing_told f))
   ends_promise events n (inr (inr t)) =
-      subst (λ (vs : List Happening). Promise K o given w.cycles vs n) (sym t.told)
-      (telling_promise t.part t.rest t.next events n t.steps (t.split ∙ ap (λ (vs : List Happening). vs ++ t.rest) t.told) t.unended t.why)
+      subst (λ (vs : List Event). Promise K o given w.cycles vs n) (sym t.told)
+      (telling_promise t.part t.rest t.next events n t.steps (t.split ∙ ap (λ (vs : List Event). vs ++ t.rest) t.told) t.unended t.why)
 
 -- every run keeps its promise
 pub Promise-finished : {M : Type 0} (K : KindOf M) → IsLawful K → RunKeepsPromise K

@@ -4,7 +4,7 @@ use Rattle.thy_base.specs.declared.mark.Mark.{Mark}
 use Rattle.thy_base.specs.Device.{Device}
 use Rattle.thy_base.specs.Outside.{Stream}
 use Rattle.thy_view.specs.Kind.{KindOf, IsLawful}
-use Rattle.thy_text.specs.Happening.{Happening}
+use Rattle.thy_text.specs.Event.{Event}
 use Rattle.thy_text.specs.Lines.{report_of}
 use Rattle.thy_view.specs.declared.view.View.{View}
 use Rattle.thy_view.specs.Booting.{found_first, first_view, view_of_image}
@@ -80,7 +80,7 @@ Running-first {M = M} K laws plan p m n t r planned powered f is =
     subst (λ (x : Progress M). Running K plan n x n 0 t t r r) (sym is) here
 
 -- no memory was found for a machine
-pub RunEnds-unpowered : {M : Type 0} (K : KindOf M) (laws : IsLawful K) → (plan : Plan) (events : List Happening) (n : Device) (t r : Stream) → IsPlanned plan → IsFitted K plan n → events ≡ []
+pub RunEnds-unpowered : {M : Type 0} (K : KindOf M) (laws : IsLawful K) → (plan : Plan) (events : List Event) (n : Device) (t r : Stream) → IsPlanned plan → IsFitted K plan n → events ≡ []
     → RunEnds K plan n n (record { stop = Memory; events = events; cycles = 0; mute = false; deaf = false }) t t r r
 RunEnds-unpowered K laws plan events n t r planned f none = record {
   last = world_at (first_progress plan (laws.powers plan.geometry).0) n 0;
@@ -90,7 +90,7 @@ RunEnds-unpowered K laws plan events n t r planned f none = record {
   settled = [];
   is_settled = refl;
   shown_all = record { more = []; unsent = []; is_text = ap (released_of (origin_of plan)) none; whole = λ _. refl; middle = t; took = Took-none t; sent = Took-none t };
-  read_all = subst (λ (vs : List Happening). Delivered false false [] (report_of plan.digest vs) r r) (sym none) (delivered_all false [] r r refl (Took-none r));
+  read_all = subst (λ (vs : List Event). Delivered false false [] (report_of plan.digest vs) r r) (sym none) (delivered_all false [] r r refl (Took-none r));
   stop_fits = (omega (arith, limit_least plan.geometry planned.origin.geometry), refl);
 }
 

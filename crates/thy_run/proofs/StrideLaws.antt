@@ -4,7 +4,7 @@ use Rattle.std.specs.Prelude.{MatchBool}
 use Rattle.std.proofs.lemmas.Bool.{eq-eqb, eqb-true}
 use Rattle.thy_record.specs.Decoded.{Decoded, Nothing as NothingLeft, Refused as RefusedImage, At}
 use Rattle.thy_base.specs.Device.{Device}
-use Rattle.thy_text.specs.Happening.{Happening, Cut, Reload, Ended}
+use Rattle.thy_text.specs.Event.{Event, Cut, Reload, Ended}
 use Rattle.thy_view.specs.declared.did.Did.{Did}
 use Rattle.thy_view.specs.declared.view.View.{View}
 use Rattle.thy_view.specs.Booting.{found_first, view_of_image}
@@ -19,27 +19,27 @@ use Rattle.thy_run.proofs.StepKinds.{Kind, keeps, loads, restores, advances, sea
 
 -- ---- epochs and events
 
-abbrev epoch_from : ℕ → Epoch → List Happening → Epoch
+abbrev epoch_from : ℕ → Epoch → List Event → Epoch
 epoch_from start e [] = e
 epoch_from start e (v ∷ vs) = epoch_from start (epoch_after start e v) vs
 
-epoch_from-append : (start : ℕ) (e : Epoch) (vs ws : List Happening) → epoch_from start e (vs ++ ws) ≡ epoch_from start (epoch_from start e vs) ws
+epoch_from-append : (start : ℕ) (e : Epoch) (vs ws : List Event) → epoch_from start e (vs ++ ws) ≡ epoch_from start (epoch_from start e vs) ws
 epoch_from-append start e [] ws = refl
 epoch_from-append start e (v ∷ vs) ws = epoch_from-append start (epoch_after start e v) vs ws
 
-AllStride-append : (start : ℕ) (e : Epoch) (vs ws : List Happening) → AllStride start e vs → AllStride start (epoch_from start e vs) ws → AllStride start e (vs ++ ws)
+AllStride-append : (start : ℕ) (e : Epoch) (vs ws : List Event) → AllStride start e vs → AllStride start (epoch_from start e vs) ws → AllStride start e (vs ++ ws)
 AllStride-append start e [] ws all more = more
 AllStride-append start e (v ∷ vs) ws all more = (all.0, AllStride-append start (epoch_after start e v) vs ws all.1 more)
 
-AllStride-part : (start : ℕ) (e : Epoch) (vs ws : List Happening) → AllStride start e (vs ++ ws) → AllStride start e vs
+AllStride-part : (start : ℕ) (e : Epoch) (vs ws : List Event) → AllStride start e (vs ++ ws) → AllStride start e vs
 AllStride-part start e [] ws all = tt
 AllStride-part start e (v ∷ vs) ws all = (all.0, AllStride-part start (epoch_after start e v) vs ws all.1)
 
 -- events that stride, and the epoch that they leave
-abbrev Leaves : ℕ → Epoch → List Happening → Epoch → Type 0
+abbrev Leaves : ℕ → Epoch → List Event → Epoch → Type 0
 Leaves start e vs after = AllStride start e vs × (epoch_from start e vs ≡ after)
 
-leaves_append : (start : ℕ) (e f g : Epoch) (vs ws : List Happening) → Leaves start e vs f → Leaves start f ws g → Leaves start e (vs ++ ws) g
+leaves_append : (start : ℕ) (e f g : Epoch) (vs ws : List Event) → Leaves start e vs f → Leaves start f ws g → Leaves start e (vs ++ ws) g
 leaves_append start e f g vs ws a b = (
   AllStride-append start e vs ws a.0 (subst (λ x. AllStride start x ws) (sym a.1) b.0),
   epoch_from-append start e vs ws ∙ ap (λ x. epoch_from start x ws) a.1 ∙ b.1,
@@ -89,7 +89,7 @@ tells_step : (o : Origin) (e : Epoch) (v next : View) (did : Did) (cycle : ℕ) 
     → TellsOn o e next did cycle new
 tells_step o e v next did cycle old new (keeps k) step h =
     let same : new ≡ old = k.idle v.retired old new step in
-    tells_same o e next did cycle new (subst (λ (l : List Happening). Leaves o.start.count e l e) (sym (k.nothing_told cycle)) (tt, refl))
+    tells_same o e next did cycle new (subst (λ (l : List Event). Leaves o.start.count e l e) (sym (k.nothing_told cycle)) (tt, refl))
     (record {
       idle = λ i. same ∙ h.idle i;
       boot = λ b. let here = h.boot (ap is_boot (sym k.phase) ∙ b) in (k.retired ∙ here.0, here.1);
@@ -176,7 +176,7 @@ module _ {M : Type 0} (K : KindOf M) (o : Origin) where
       let next : View = seen K o x in
       let did : Did = step.r.did in
       let e : Epoch = epoch_from o.start.count first w.events in
-      let es : List Happening = events_of o w.fresh v did next (w.cycles + 1) in
+      let es : List Event = events_of o w.fresh v did next (w.cycles + 1) in
       let on : TellsOn o e next did (w.cycles + 1) (K.gauge x.machine x.device).idle =
       tells_step o e v next did (w.cycles + 1) _ _ (kind_of o v next did step.is_step.step) step.is_step.pace.strides h.tells in
       let l : Leaves o.start.count e es on.after = leaves_all o o.start.count e on.after w.fresh v did next (w.cycles + 1) on.leaves in
@@ -191,7 +191,7 @@ module _ {M : Type 0} (K : KindOf M) (o : Origin) where
   -- a cut
   strode_cut : (pick : ℕ) (x next : World M) → IsCutOff K o pick x next → Strode K o x → Strode K o next
   strode_cut pick x next cut h =
-      let es : List Happening = Cut (x.passed + 1) x.cycles ∷ [] in
+      let es : List Event = Cut (x.passed + 1) x.cycles ∷ [] in
       let told : next.events ≡ x.events ++ es = ap (λ (y : World M). y.events) cut.next_is in
       let here : epoch_from o.start.count first (x.events ++ es) ≡ first = epoch_from-append o.start.count first x.events es in
       let boot = image_boot o.start.count _ in
@@ -214,7 +214,7 @@ module _ {M : Type 0} (K : KindOf M) (o : Origin) where
   strode_ran given (suc k) w (before, ran, cycle) =
       by_due before cycle.between w cycle.steps (strode_ran given k before ran) (tear given.config.tears cycle.between.passed) (is_due K o given.config.cuts cycle.between) cycle.cut
 
-  strode_ends : (w : World M) (events : List Happening) (n : Device) → Strode K o w → Ends K o w events n → AllStride o.start.count first events
+  strode_ends : (w : World M) (events : List Event) (n : Device) → Strode K o w → Ends K o w events n → AllStride o.start.count first events
   strode_ends w events n h (inl (same, device)) = subst (AllStride o.start.count first) (sym same) h.all
   strode_ends w events n h (inr (inl f)) = subst (AllStride o.start.count first) (sym f.nothing_told) h.all
   strode_ends w events n h (inr (inr t)) =

@@ -6,7 +6,7 @@ use Rattle.std.proofs.lemmas.List.{take_more, take-append-drop}
 use Rattle.std.proofs.lemmas.Option.{get_or_from_slice_get, slice_get_within}
 use Rattle.thy_base.specs.Outside.{Stream, Took, TookPart}
 use Rattle.thy_base.proofs.Streams.{Took-append, TookPart-append, TookPart-more}
-use Rattle.thy_text.specs.Happening.{Happening, Reload}
+use Rattle.thy_text.specs.Event.{Event, Reload}
 use Rattle.thy_text.specs.Lines.{line_of, report_of}
 use Rattle.thy_text.proofs.Histories.{report_of-append, report_of-more}
 use Rattle.thy_run.specs.Sending.{Sends}
@@ -20,13 +20,13 @@ last_none [] ys e = e
 last_none (x ∷ xs) ys e = absurd (cc)
 
 -- the first lines and one more
-one_more : (digest : Bool) (events : List Happening) (i : ℕ) (v : Happening) → i < length events → slice_get events i ≡ Some v
+one_more : (digest : Bool) (events : List Event) (i : ℕ) (v : Event) → i < length events → slice_get events i ≡ Some v
     → report_of digest (take (i + 1) events) ≡ report_of digest (take i events) ++ line_of digest v
 one_more digest events i v within is =
-    ap (report_of digest) (take_more events i Reload within ∙ ap (λ (x : Happening). take i events ++ x ∷ []) (get_or_from_slice_get events i v Reload is))
+    ap (report_of digest) (take_more events i Reload within ∙ ap (λ (x : Event). take i events ++ x ∷ []) (get_or_from_slice_get events i v Reload is))
     ∙ report_of-more digest (take i events) v
 
-pub lines_more : (digest : Bool) (events : List Happening) (i : ℕ) (v : Happening) (before : List ℕ) (a b c : Stream) → slice_get events i ≡ Some v
+pub lines_more : (digest : Bool) (events : List Event) (i : ℕ) (v : Event) (before : List ℕ) (a b c : Stream) → slice_get events i ≡ Some v
     → Sends before (report_of digest (take i events)) false a b → Took b c (line_of digest v) → Sends before (report_of digest (take (i + 1) events)) false a c
 lines_more digest events i v before a b c is so_far took = let within = slice_get_within events i v is in record {
   more = so_far.more ++ line_of digest v;
@@ -35,7 +35,7 @@ lines_more digest events i v before a b c is so_far took = let within = slice_ge
 }
 
 -- the report failed at a line: it was to take all the rest too
-pub lines_failed : (digest : Bool) (events : List Happening) (i : ℕ) (v : Happening) (before : List ℕ) (a b c : Stream) → slice_get events i ≡ Some v
+pub lines_failed : (digest : Bool) (events : List Event) (i : ℕ) (v : Event) (before : List ℕ) (a b c : Stream) → slice_get events i ≡ Some v
     → Sends before (report_of digest (take i events)) false a b → TookPart b c (line_of digest v) → line_of digest v ≢ [] → Sends before (report_of digest events) true a c
 lines_failed digest events i v before a b c is so_far took due =
     let within = slice_get_within events i v is in

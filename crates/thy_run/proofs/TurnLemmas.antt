@@ -5,7 +5,7 @@ use Rattle.thy_base.specs.Device.{Device}
 use Rattle.thy_base.specs.Outside.{Stream, Took}
 use Rattle.thy_base.proofs.Streams.{Took-append}
 use Rattle.thy_view.specs.Kind.{KindOf, IsLawful}
-use Rattle.thy_text.specs.Happening.{Happening}
+use Rattle.thy_text.specs.Event.{Event}
 use Rattle.thy_text.specs.Lines.{report_of}
 use Rattle.thy_run.specs.Laws.{released_of}
 use Rattle.thy_isa.specs.declared.state.Status.{Status}
@@ -30,11 +30,11 @@ first_same [] ys = refl
 first_same (x ∷ xs) ys = ap (λ l. x ∷ l) (first_same xs ys)
 
 -- the report is due the lines of all events
-read_on : (digest failed : Bool) (before after more : List Happening) (y z : Stream) → after ≡ before ++ more
+read_on : (digest failed : Bool) (before after more : List Event) (y z : Stream) → after ≡ before ++ more
     → Sends (report_of digest (take (length before) after)) (report_of digest after) failed y z → Sends (report_of digest before) (report_of digest after) failed y z
 read_on digest failed before after more y z grew two =
     let same : take (length before) after ≡ before = ap (take (length before)) grew ∙ first_same before more in
-    subst (λ (l : List Happening). Sends (report_of digest l) (report_of digest after) failed y z) same two
+    subst (λ (l : List Event). Sends (report_of digest l) (report_of digest after) failed y z) same two
 
 -- a sink took what was settled, and then what came behind, or a first part
 delivered_on : (failed : Bool) (before after : List ℕ) (x y z : Stream) → Took x y before → Sends before after failed y z → Delivered false failed before after x z
@@ -53,7 +53,7 @@ took_on : (before after : List ℕ) (x y z : Stream) → Took x y before → Sen
 took_on before after x y z one two = subst (Took x z) (sym two.grew) (Took-append x y z before two.more one two.sent)
 
 -- what was told grew
-pub told_of : {M : Type 0} (K : KindOf M) → (plan : Plan) (p q : Progress M) (n m : Device) (k : ℕ) (bytes : List ℕ) (outcome : Outcome) → ComesTo K plan p q n m k bytes outcome → (more : List Happening) × (q.events ≡ p.events ++ more)
+pub told_of : {M : Type 0} (K : KindOf M) → (plan : Plan) (p q : Progress M) (n m : Device) (k : ℕ) (bytes : List ℕ) (outcome : Outcome) → ComesTo K plan p q n m k bytes outcome → (more : List Event) × (q.events ≡ p.events ++ more)
 told_of {M = M} K plan p q n m k bytes Goes c = c.0.told
 told_of {M = M} K plan p q n m k bytes Cuts c = (_, ap (λ (w : World M). w.events) c.noted.steps.next_is)
 told_of {M = M} K plan p q n m k bytes (Ends status) c = c.0.told
@@ -106,7 +106,7 @@ module _ {M : Type 0} (K : KindOf M) (plan : Plan) (fitted : Device) (p q : Prog
   shown_on : IsDone K plan p q n m k bytes → Sends (released_of (origin_of plan) p.events) (released_of (origin_of plan) q.events) mute t1 t2
   shown_on d = record { more = bytes; grew = d.releases; sent = sent }
 
-  lines_on : ((more : List Happening) × (q.events ≡ p.events ++ more)) → Sends (report_of plan.digest p.events) (report_of plan.digest q.events) deaf r1 r2
+  lines_on : ((more : List Event) × (q.events ≡ p.events ++ more)) → Sends (report_of plan.digest p.events) (report_of plan.digest q.events) deaf r1 r2
   lines_on t = read_on plan.digest deaf p.events q.events t.0 r1 r2 t.1 lines
 
   -- the cycle is done, and a sink failed
@@ -301,8 +301,8 @@ Running-quiet {M = M} K plan fitted p q n m k t0 t1 r0 r1 running same c = recor
     spoken = c.0.spoken ∙ running.goes.spoken;
     heard = c.0.heard ∙ running.goes.heard;
   };
-  shown_all = subst (λ (l : List Happening). Took t0 t1 (released_of (origin_of plan) l)) (sym same) running.shown_all;
-  read_all = subst (λ (l : List Happening). Took r0 r1 (report_of plan.digest l)) (sym same) running.read_all;
+  shown_all = subst (λ (l : List Event). Took t0 t1 (released_of (origin_of plan) l)) (sym same) running.shown_all;
+  read_all = subst (λ (l : List Event). Took r0 r1 (report_of plan.digest l)) (sym same) running.read_all;
 }
 
 -- ---- a cut behind a cycle

@@ -10,7 +10,7 @@ use Rattle.thy_base.specs.Device.{Device, Crash, IsCut, cut_to}
 use Rattle.thy_base.proofs.CrashLemmas.{Crash-cut_to}
 use Rattle.thy_record.specs.Decoded.{Decoded, Nothing as NothingLeft, Refused as RefusedImage, At}
 use Rattle.thy_view.specs.Kind.{KindOf}
-use Rattle.thy_text.specs.Happening.{Happening, Cut, Reload, Ended}
+use Rattle.thy_text.specs.Event.{Event, Cut, Reload, Ended}
 use Rattle.thy_text.specs.Marks.{Marks, loading_marks, marks_from, AllLawful}
 use Rattle.thy_text.proofs.Histories.{marks_from-append, AllLawful-append}
 use Rattle.thy_view.specs.declared.did.Did.{Did}
@@ -70,8 +70,8 @@ end_uncut o next cycle false = (refl, refl)
 pub events_uncut : (o : Origin) (fresh : Bool) (v : View) (did : Did) (next : View) (cycle : ℕ) → cuts_among (events_of o fresh v did next cycle) ≡ []
 events_uncut o fresh v did next cycle =
     cuts_among-append (reload_told fresh next ++ told o did cycle) (end_told o v next cycle)
-    ∙ ap (λ (l : List Happening). l ++ cuts_among (end_told o v next cycle)) (cuts_among-append (reload_told fresh next) (told o did cycle)
-    ∙ ap (λ (l : List Happening). l ++ cuts_among (told o did cycle)) (reload_uncut (fresh && loads next)).0
+    ∙ ap (λ (l : List Event). l ++ cuts_among (end_told o v next cycle)) (cuts_among-append (reload_told fresh next) (told o did cycle)
+    ∙ ap (λ (l : List Event). l ++ cuts_among (told o did cycle)) (reload_uncut (fresh && loads next)).0
     ∙ (told_uncut o did cycle).0)
     ∙ (end_uncut o next cycle (halts v next)).0
 
@@ -119,7 +119,7 @@ module _ {M : Type 0} (K : KindOf M) (o : Origin) (w : World M) (least : 1 ≤ o
       let v : View = seen K o w in
       let did : Did = step.r.did in
       let m : Marks = marks_of o w.events in
-      let e : List Happening = events_of o w.fresh v did next (w.cycles + 1) in
+      let e : List Event = events_of o w.fresh v did next (w.cycles + 1) in
       let core : CoreStep o v did next = step.is_step.step in
       let events = Fits-events o v next m did w.fresh (w.cycles + 1) least h.fits core in
       let marks : marks_of o (w.events ++ e) ≡ marks_from o.start.count m e = marks_from-append o.start.count (first_marks o) w.events e in
@@ -150,11 +150,11 @@ module _ {M : Type 0} (K : KindOf M) (o : Origin) (w : World M) (least : 1 ≤ o
 
 listed_stepped : {M : Type 0} (K : KindOf M) → (o : Origin) (cuts : List ℕ) (w x : World M) (cycle : ℕ) → Steps K o w x → Listed cuts cycle w → Listed cuts cycle x
 listed_stepped {M = M} K o cuts w x cycle step l =
-    let e : List Happening = events_of o w.fresh (seen K o w) step.r.did (seen K o x) (w.cycles + 1) in
+    let e : List Event = events_of o w.fresh (seen K o w) step.r.did (seen K o x) (w.cycles + 1) in
     let now : Listed cuts cycle (stepped K o w x.machine x.device step.r.did) = record {
       few = l.few;
       up_to = l.up_to;
-      among = cuts_among-append w.events e ∙ ap (λ (c : List Happening). cuts_among w.events ++ c) (events_uncut o w.fresh (seen K o w) step.r.did (seen K o x) (w.cycles + 1))
+      among = cuts_among-append w.events e ∙ ap (λ (c : List Event). cuts_among w.events ++ c) (events_uncut o w.fresh (seen K o w) step.r.did (seen K o x) (w.cycles + 1))
           ∙ append-nil (cuts_among w.events) ∙ l.among;
     } in
     subst (Listed cuts cycle) (sym step.next_is) now
@@ -263,7 +263,7 @@ Safe-cut K o kept sealed pick old new cut safe = λ h crash.
 
 module _ {M : Type 0} (K : KindOf M) (o : Origin) (x next : World M) (h : Coheres K o x) (late : x.fresh ≡ false) (going : is_halt (seen K o x).phase ≡ false)
     (safe : Safe K.decode o (seen K o x).done (doubt_of (seen K o x)) x.device) (pick : ℕ) (cut : IsCutOff K o pick x next) where
-  cut_event : List Happening
+  cut_event : List Event
   cut_event = Cut (x.passed + 1) x.cycles ∷ []
 
   -- what the image that was left decodes to
@@ -323,7 +323,7 @@ module _ {M : Type 0} (K : KindOf M) (o : Origin) (x next : World M) (h : Cohere
         | inl comes ↦ record {
           few = omega (arith, comes.0);
           up_to = ap (λ k. cuts_up_to k cuts) cycles ∙ comes.2 ∙ ap (λ k. take k cuts) (let e : suc x.passed ≡ x.passed + 1 = omega arith in e);
-          among = cuts_among-append x.events (Cut (x.passed + 1) x.cycles ∷ []) ∙ ap (λ (e : List Happening). e ++ Cut (x.passed + 1) x.cycles ∷ []) l.among
+          among = cuts_among-append x.events (Cut (x.passed + 1) x.cycles ∷ []) ∙ ap (λ (e : List Event). e ++ Cut (x.passed + 1) x.cycles ∷ []) l.among
               ∙ ap (λ i. numbered 1 (take x.passed cuts) ++ Cut i x.cycles ∷ []) (let e : x.passed + 1 ≡ 1 + x.passed = omega arith in e)
               ∙ ap (λ i. numbered 1 (take x.passed cuts) ++ Cut (1 + x.passed) i ∷ []) (sym (eqb-true (slice_index cuts x.passed) x.cycles due))
               ∙ sym (numbered-take 1 cuts x.passed comes.0)

@@ -1,7 +1,7 @@
 -- What of the console a cycle's end releases to the terminal, and which cycles have nothing to tell.
 use Rattle.std.specs.Prelude.{◌≡◌, ◌⊎◌, ℕ, Bool, true, false, ◌&&◌, ◌==◌, nat_lt, if◌then◌else◌, List, [], length, drop, slice_index}
 use Rattle.thy_base.specs.Bytes.{bytes_of}
-use Rattle.thy_text.specs.Happening.{Happening}
+use Rattle.thy_text.specs.Event.{Event}
 use Rattle.thy_text.specs.Released.{console_of}
 use Rattle.thy_view.specs.declared.did.Did.{Did}
 use Rattle.thy_view.specs.declared.did.Did.TheVariants.{Loaded, Restarted, Sealed, Committed}
@@ -31,7 +31,7 @@ abbrev pub console_at : Origin → ℕ → List ℕ
 console_at o k = (at o k).console
 
 -- the bytes of the console that the terminal has not had yet
-abbrev pub due_of : Origin → List Happening → Did → View → List ℕ
+abbrev pub due_of : Origin → List Event → Did → View → List ℕ
 due_of o events did next =
     if shows_console did then drop (length (released_of o events)) (console_of (console_at o) next.done) else []
 

@@ -5,7 +5,7 @@ use Rattle.thy_base.specs.Device.{Device}
 use Rattle.thy_base.specs.Outside.{Stream}
 use Rattle.thy_isa.specs.declared.state.Status.{Status}
 use Rattle.thy_isa.specs.Step.{State}
-use Rattle.thy_text.specs.Happening.{Happening, Ended as EndedEvent}
+use Rattle.thy_text.specs.Event.{Event, Ended as EndedEvent}
 use Rattle.thy_text.specs.Lines.{report_of}
 use Rattle.thy_view.specs.Kind.{KindOf}
 use Rattle.thy_view.specs.Origin.{Origin}
@@ -25,25 +25,25 @@ is_memory stop = false
 
 -- What stands at the end, by the stop: only for a device's fault or want of memory one more cycle was begun. Where memory was
 -- short before the first one, none was.
-abbrev pub EndsBy : {M : Type 0} → KindOf M → Origin → List ℕ → World M → List Happening → Device → Stop → Type 0
+abbrev pub EndsBy : {M : Type 0} → KindOf M → Origin → List ℕ → World M → List Event → Device → Stop → Type 0
 EndsBy K o cuts w events n Nvm = StepFailed K o w events n ⊎ TellingFailed K o w events (ReadFailed w events n)
 EndsBy K o cuts w events n Memory = ((w.cycles ≡ 0) × IsLast w events n) ⊎ TellingFailed K o w events (LeftAlone K o cuts n)
 EndsBy K o cuts w events n stop = IsLast w events n
 
 -- these events were told before the last cycle
-abbrev pub ToldBefore : {M : Type 0} → KindOf M → Origin → Given → World M → List Happening → Type 0
+abbrev pub ToldBefore : {M : Type 0} → KindOf M → Origin → Given → World M → List Event → Type 0
 ToldBefore {M = M} K o given last settled =
     (k : ℕ) × (before : World M) × Ran K o given k before × Cycle K o given.config.cuts given.config.tears before last × (settled ≡ before.events)
 
 -- the events that were told before the last cycle that was begun; a sink that failed did so in that cycle
-abbrev pub IsSettled : {M : Type 0} → KindOf M → Origin → Given → World M → List Happening → Stop → Type 0
+abbrev pub IsSettled : {M : Type 0} → KindOf M → Origin → Given → World M → List Event → Stop → Type 0
 IsSettled K o given last settled Terminal = ToldBefore K o given last settled
 IsSettled K o given last settled Report = ToldBefore K o given last settled
 IsSettled K o given last settled stop = settled ≡ last.events
 
 -- the last event is the end, with this status
-pub record EndsWith (events : List Happening) (status : Status) : Type 0 where
-  pub before : List Happening
+pub record EndsWith (events : List Event) (status : Status) : Type 0 where
+  pub before : List Event
   pub count : ℕ
   pub cycle : ℕ
   pub state : State
@@ -70,7 +70,7 @@ pub record HasRun {M : Type 0} (K : KindOf M) (o : Origin) (given : Given) (new 
   pub ran : Ran K o given e.cycles last
   pub ends : EndsBy K o given.config.cuts last e.events new e.stop
   pub few : e.cycles ≤ o.geometry.limit
-  pub settled : List Happening
+  pub settled : List Event
   pub is_settled : IsSettled K o given last settled e.stop
   pub shown_all : Delivered (is_memory e.stop) e.mute (released_of o settled) (released_of o e.events) terminal shown
   pub read_all : Delivered false e.deaf (report_of given.digest settled) (report_of given.digest e.events) report read

@@ -9,7 +9,7 @@ use Rattle.thy_base.specs.Mix.{mix_pick, mix_next}
 use Rattle.thy_isa.specs.declared.state.MachState.{MachState}
 use Rattle.thy_isa.specs.declared.state.Status.{Status}
 use Rattle.thy_isa.specs.Step.{state_of}
-use Rattle.thy_text.specs.Happening.{Happening, Cut}
+use Rattle.thy_text.specs.Event.{Event, Cut}
 use Rattle.thy_view.specs.declared.did.Did.{Did}
 use Rattle.thy_view.specs.declared.did.Did.TheVariants.{Restarted}
 use Rattle.thy_view.specs.declared.did.Stepped.{Stepped}
@@ -108,9 +108,9 @@ IsEnd o v next None = halts v next ≡ false
 IsEnd o v next (Some status) = (halts v next ≡ true) × (status ≡ (at o next.count).status)
 
 -- some first events of a step were made, and memory was short for the rest, of which there is one
-pub record MadeSome (made : List Happening) (all : List Happening) (before : List Happening) : Type 0 where
-  pub part : List Happening
-  pub rest : List Happening
+pub record MadeSome (made : List Event) (all : List Event) (before : List Event) : Type 0 where
+  pub part : List Event
+  pub rest : List Event
   pub told : made ≡ before ++ part
   pub split : all ≡ part ++ rest
   pub some : rest ≢ []
@@ -140,7 +140,7 @@ pub record IsDone {M : Type 0} (K : KindOf M) (plan : Plan) (p next : Progress M
   pub cycle : Cycle K (origin_of plan) plan.config.cuts plan.config.tears (world_at p n cycles) (world_at next new (cycles + 1))
   pub released : next.released ≡ length (released_of (origin_of plan) next.events)
   pub releases : released_of (origin_of plan) next.events ≡ released_of (origin_of plan) p.events ++ bytes
-  pub told : (more : List Happening) × (next.events ≡ p.events ++ more)
+  pub told : (more : List Event) × (next.events ≡ p.events ++ more)
   pub room : new.left_room ≡ n.left_room
   pub calm : new.faults ≡ n.faults
   pub spoken : next.mute ≡ p.mute
@@ -150,7 +150,7 @@ pub record IsDone {M : Type 0} (K : KindOf M) (plan : Plan) (p next : Progress M
 pub record IsBroken {M : Type 0} (K : KindOf M) (plan : Plan) (p next : Progress M) (n new : Device) (cycles : ℕ) (bytes : List ℕ) : Type 0 where
   pub rest : List ℕ
   pub releases : released_of (origin_of plan) next.events ≡ released_of (origin_of plan) p.events ++ bytes ++ rest
-  pub told : (more : List Happening) × (next.events ≡ p.events ++ more)
+  pub told : (more : List Event) × (next.events ≡ p.events ++ more)
   pub spoken : next.mute ≡ p.mute
   pub heard : next.deaf ≡ p.deaf
 

@@ -2,7 +2,7 @@
 use Rattle.std.specs.Prelude.{◌≡◌, ◌≢◌, ℕ, ◌<◌, List, [], ◌∷◌, Option, Some, None}
 use Rattle.thy_base.specs.declared.block.Block.{Block}
 use Rattle.thy_record.specs.Decoded.{Decoded, Nothing, At}
-use Rattle.thy_text.specs.Happening.{Happening, Cut, Restart, Reload}
+use Rattle.thy_text.specs.Event.{Event, Cut, Restart, Reload}
 
 -- what there is to be found: what the latest image means, and the cycle of the cut that left it where nothing was told since
 pub record Found : Type 0 where
@@ -18,14 +18,14 @@ HasLeft cycle s = (at : ℕ) → s.just ≡ Some at → at < cycle → s.means �
 
 -- A restart has the epoch and the state that there are to be found. The file is loaded again only right behind a cut that left
 -- no checkpoint. Right behind a cut no epoch ends, none is committed, and the run does not end.
-abbrev pub FitsFound : Found → Happening → Type 0
+abbrev pub FitsFound : Found → Event → Type 0
 FitsFound s (Restart epoch count state) = s.means ≡ At epoch state
 FitsFound s Reload = (s.means ≡ Nothing) × ((at : ℕ) × (s.just ≡ Some at))
 FitsFound s event = s.just ≡ None
 
 -- Each cut among the events leaves the next image, and each other event fits what there is to be found; and so does what
 -- stands at the end.
-abbrev pub AllFit : (List Block → Decoded) → (Found → Type 0) → Found → List Happening → List (List Block) → Type 0
+abbrev pub AllFit : (List Block → Decoded) → (Found → Type 0) → Found → List Event → List (List Block) → Type 0
 AllFit read ends s [] left = (left ≡ []) × ends s
 AllFit read ends s (Cut index cycle ∷ vs) [] = ⊥
 AllFit read ends s (Cut index cycle ∷ vs) (g ∷ left) = HasLeft cycle s × AllFit read ends (found (read g) (Some cycle)) vs left

@@ -4,7 +4,7 @@ use Rattle.thy_base.specs.Config.{IsRising}
 use Rattle.thy_base.specs.declared.mark.Mark.{Mark}
 use Rattle.thy_base.specs.Device.{Device, IsCut}
 use Rattle.thy_view.specs.Kind.{KindOf}
-use Rattle.thy_text.specs.Happening.{Happening}
+use Rattle.thy_text.specs.Event.{Event}
 use Rattle.thy_base.specs.Marks.{mark}
 use Rattle.thy_text.specs.Marks.{Marks, Course, loading_marks, marks_from, AllLawful}
 use Rattle.thy_text.specs.Released.{released}
@@ -30,7 +30,7 @@ abbrev pub first_marks : Origin → Marks
 first_marks o = marks_at o.start.count o.kept
 
 -- the marks that events leave
-abbrev pub marks_of : Origin → List Happening → Marks
+abbrev pub marks_of : Origin → List Event → Marks
 marks_of o events = marks_from o.start.count (first_marks o) events
 
 -- what there is to be found before any event
@@ -38,7 +38,7 @@ abbrev pub first_found : Origin → Found
 first_found o = found (found_first o o.kept) None
 
 -- what the terminal has of the console once events were told: that of the committed checkpoint
-abbrev pub released_of : Origin → List Happening → List ℕ
+abbrev pub released_of : Origin → List Event → List ℕ
 released_of o events = released (λ k. (at o k).console) o.start.count (first_marks o) events
 
 -- the picks of the first k cuts
@@ -48,7 +48,7 @@ torn tears (suc k) = torn tears k ++ tear tears k ∷ []
 
 -- The device that a run leaves has as many blocks as it was fitted with. It has kept an image for each cut, of which there are
 -- no more than are listed, and room for as many as it was fitted with.
-pub record LeavesRoom (given : Given) (events : List Happening) (n : Device) : Type 0 where
+pub record LeavesRoom (given : Given) (events : List Event) (n : Device) : Type 0 where
   pub blocks : length n.image ≡ length given.fitted.image
   pub kept : length n.left ≡ length (cuts_among events)
   pub few : length n.left ≤ length given.config.cuts
@@ -57,7 +57,7 @@ pub record LeavesRoom (given : Given) (events : List Happening) (n : Device) : T
 -- What is promised of a run: its events are lawful, its restarts are what the cuts left, of which each left one image, its
 -- cuts are the listed ones and have the listed picks, the device was fitted no second time, has room for one more cut and is
 -- safe for the marks that the events leave, and the run is soon over.
-pub record Promise {M : Type 0} (K : KindOf M) (o : Origin) (given : Given) (cycles : ℕ) (events : List Happening) (n : Device) : Type 0 where
+pub record Promise {M : Type 0} (K : KindOf M) (o : Origin) (given : Given) (cycles : ℕ) (events : List Event) (n : Device) : Type 0 where
   pub events_lawful : AllLawful (course_of o) (first_marks o) events
   pub restarts_decode : AllFit (K.decode o.geometry ceiling) (HasLeft cycles) (first_found o) events n.left
   pub cuts_listed : cuts_among events ≡ numbered 1 (cuts_up_to (last_cuttable events cycles) given.config.cuts)
@@ -70,7 +70,7 @@ pub record Promise {M : Type 0} (K : KindOf M) (o : Origin) (given : Given) (cyc
 -- every run keeps it
 abbrev pub RunKeepsPromise : {M : Type 0} → KindOf M → Type 0
 RunKeepsPromise K =
-    (o : Origin) (given : Given) (cycles : ℕ) (events : List Happening) (n : Device)
+    (o : Origin) (given : Given) (cycles : ℕ) (events : List Event) (n : Device)
     → IsOrigin o → IsRising 0 given.config.cuts → Finished K o given cycles events n → Promise K o given cycles events n
 
 -- What one more cut leaves of a device, whatever its pick, is safe for the marks for which the device was safe. So is an image

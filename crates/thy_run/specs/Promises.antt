@@ -8,7 +8,7 @@ use Rattle.thy_base.specs.Device.{Device}
 use Rattle.thy_base.specs.Outside.{Stream}
 use Rattle.thy_isa.specs.declared.state.MachState.{MachState}
 use Rattle.thy_isa.specs.declared.state.Status.{Status}
-use Rattle.thy_text.specs.Happening.{Happening}
+use Rattle.thy_text.specs.Event.{Event}
 use Rattle.thy_view.specs.declared.did.Did.{Did}
 use Rattle.thy_view.specs.declared.did.Did.TheVariants.{Restarted}
 use Rattle.thy_view.specs.declared.did.Stepped.{Stepped}
@@ -79,17 +79,17 @@ GathersAll K p n stepped result =
 -- ---- a step's events
 
 -- the event of a restart is made
-abbrev pub NotesRestart : {T E : Type 0} → ℕ → ℕ → Option (Box MachState Global) → List Happening → List Happening → Result T E → Type 0
+abbrev pub NotesRestart : {T E : Type 0} → ℕ → ℕ → Option (Box MachState Global) → List Event → List Event → Result T E → Type 0
 NotesRestart epoch count restored old new result =
     (o : Origin) → Restores o (Restarted epoch count) restored → OnOk result (new ≡ old ++ told o (Restarted epoch count) 0)
 
 -- so is that of what a step did
-abbrev pub NotesDid : {T E : Type 0} → Did → Option (Box MachState Global) → ℕ → List Happening → List Happening → Result T E → Type 0
+abbrev pub NotesDid : {T E : Type 0} → Did → Option (Box MachState Global) → ℕ → List Event → List Event → Result T E → Type 0
 NotesDid did restored cycle old new result =
     (o : Origin) → Restores o did restored → OnOk result (new ≡ old ++ told o did cycle)
 
 -- and that of the end
-abbrev pub NotesEnd : {T E : Type 0} → Option (Box MachState Global) → ℕ → List Happening → List Happening → Result T E → Type 0
+abbrev pub NotesEnd : {T E : Type 0} → Option (Box MachState Global) → ℕ → List Event → List Event → Result T E → Type 0
 NotesEnd ended cycle old new result =
     (o : Origin) (v next : View) → IsEnding o v next ended → OnOk result (new ≡ old ++ end_told o v next cycle)
 
@@ -99,13 +99,13 @@ AnswersEnd ended result =
     (o : Origin) (v next : View) → IsEnding o v next ended → IfOk result (λ s. IsEnd o v next s)
 
 -- all events of a step are made
-abbrev pub NotesAll : {T E : Type 0} → Did → Bool → Option (Box MachState Global) → Option (Box MachState Global) → ℕ → List Happening → List Happening → Result T E → Type 0
+abbrev pub NotesAll : {T E : Type 0} → Did → Bool → Option (Box MachState Global) → Option (Box MachState Global) → ℕ → List Event → List Event → Result T E → Type 0
 NotesAll did reload restored ended cycle old new result =
     (o : Origin) (fresh : Bool) (v next : View) → reload ≡ (fresh && loads next) → Restores o did restored → IsEnding o v next ended
     → OnOk result (new ≡ old ++ events_of o fresh v did next cycle)
 
 -- or the first ones, where memory was short
-abbrev pub NotesSome : {T E : Type 0} → Did → Bool → Option (Box MachState Global) → Option (Box MachState Global) → ℕ → List Happening → List Happening → Result T E → Type 0
+abbrev pub NotesSome : {T E : Type 0} → Did → Bool → Option (Box MachState Global) → Option (Box MachState Global) → ℕ → List Event → List Event → Result T E → Type 0
 NotesSome did reload restored ended cycle old new result =
     (o : Origin) (fresh : Bool) (v next : View) → reload ≡ (fresh && loads next) → Restores o did restored → IsEnding o v next ended
     → OnErr result (MadeSome new (events_of o fresh v did next cycle) old)

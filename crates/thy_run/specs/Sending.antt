@@ -1,7 +1,7 @@
 -- What a sink took of a text that grows.
 use Rattle.std.specs.Prelude.{◌≡◌, ◌≢◌, Bool, true, false, ℕ, List, [], ◌++◌, take}
 use Rattle.thy_base.specs.Outside.{Stream, Took, TookPart}
-use Rattle.thy_text.specs.Happening.{Happening}
+use Rattle.thy_text.specs.Event.{Event}
 use Rattle.thy_text.specs.Lines.{report_of}
 
 -- what the two sinks have taken
@@ -24,7 +24,7 @@ pub record Sends (before after : List ℕ) (failed : Bool) (old new : Stream) : 
   pub sent : Sent failed old new more
 
 -- the report took the lines of the events from the first on, or where it failed a first part of them
-abbrev pub TellsLines : Bool → ℕ → List Happening → Bool → Stream → Stream → Type 0
+abbrev pub TellsLines : Bool → ℕ → List Event → Bool → Stream → Stream → Type 0
 TellsLines digest first events failed old new =
     Sends (report_of digest (take first events)) (report_of digest events) failed old new
 

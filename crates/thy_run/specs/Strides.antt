@@ -1,7 +1,7 @@
 -- Of two epochs in a row one retires an instruction.
 use Rattle.std.specs.Prelude.{◌≡◌, ℕ, ◌<◌, ◌==◌, Bool, true, false, List, [], ◌∷◌}
 use Rattle.thy_base.specs.Device.{Device}
-use Rattle.thy_text.specs.Happening.{Happening, EpochEnd, Commit, Cut, Restart, Reload, Ended}
+use Rattle.thy_text.specs.Event.{Event, EpochEnd, Commit, Cut, Restart, Reload, Ended}
 use Rattle.thy_view.specs.Kind.{KindOf}
 use Rattle.thy_view.specs.Origin.{Origin}
 use Rattle.thy_run.specs.Unfinished.{Finished}
@@ -19,7 +19,7 @@ abbrev pub first_epoch : ℕ → Epoch
 first_epoch start = record { began = start; idle = false }
 
 -- what an event makes of it; `start` is the count at which the run starts
-abbrev pub epoch_after : ℕ → Epoch → Happening → Epoch
+abbrev pub epoch_after : ℕ → Epoch → Event → Epoch
 epoch_after start e (EpochEnd epoch count cause) = record { began = count; idle = count == e.began }
 epoch_after start e (Cut index cycle) = first_epoch start
 epoch_after start e (Restart epoch count state) = first_epoch count
@@ -28,7 +28,7 @@ epoch_after start e Reload = e
 epoch_after start e (Ended status count cycle state) = e
 
 -- behind an idle epoch none ends at the count at which it began
-abbrev pub Strides : Epoch → Happening → Type 0
+abbrev pub Strides : Epoch → Event → Type 0
 Strides e (EpochEnd epoch count cause) = e.idle ≡ true → e.began < count
 Strides e (Cut index cycle) = Unit {0}
 Strides e (Restart epoch count state) = Unit {0}
@@ -37,16 +37,16 @@ Strides e Reload = Unit {0}
 Strides e (Ended status count cycle state) = Unit {0}
 
 -- each event after those before it
-abbrev pub AllStride : ℕ → Epoch → List Happening → Type 0
+abbrev pub AllStride : ℕ → Epoch → List Event → Type 0
 AllStride start e [] = Unit {0}
 AllStride start e (v ∷ vs) = Strides e v × AllStride start (epoch_after start e v) vs
 
 -- events of a run that starts at this count
-abbrev pub IsStriding : ℕ → List Happening → Type 0
+abbrev pub IsStriding : ℕ → List Event → Type 0
 IsStriding start events = AllStride start (first_epoch start) events
 
 -- every run strides
 abbrev pub RunStrides : {M : Type 0} → KindOf M → Type 0
 RunStrides K =
-    (o : Origin) (given : Given) (cycles : ℕ) (events : List Happening) (n : Device)
+    (o : Origin) (given : Given) (cycles : ℕ) (events : List Event) (n : Device)
     → Finished K o given cycles events n → IsStriding o.start.count events

@@ -4,7 +4,7 @@ use Rattle.thy_base.specs.Counts.{Rose}
 use Rattle.thy_base.specs.Device.{Device, HasFailed, IsFramed}
 use Rattle.thy_base.specs.Mix.{mix_pick}
 use Rattle.thy_view.specs.Kind.{CycleFailed, KindOf}
-use Rattle.thy_text.specs.Happening.{Happening}
+use Rattle.thy_text.specs.Event.{Event}
 use Rattle.thy_view.specs.Views.{is_halt}
 use Rattle.thy_view.specs.Origin.{Origin}
 use Rattle.thy_view.specs.Safe.{Safe}
@@ -12,7 +12,7 @@ use Rattle.thy_run.specs.Cuts.{has_ended}
 use Rattle.thy_run.specs.World.{World, Given, seen, is_due, Steps, Ran}
 
 -- the machine's step failed with a fault of the device
-pub record StepFailed {M : Type 0} (K : KindOf M) (o : Origin) (w : World M) (events : List Happening) (n : Device) : Type 0 where
+pub record StepFailed {M : Type 0} (K : KindOf M) (o : Origin) (w : World M) (events : List Event) (n : Device) : Type 0 where
   pub going : is_halt (seen K o w).phase ≡ false
   pub safe : Safe K.decode o (seen K o w).done (seen K o w).sealed n
   pub acted : CycleFailed K o (mix_pick w.mix) w.machine w.device n
@@ -21,7 +21,7 @@ pub record StepFailed {M : Type 0} (K : KindOf M) (o : Origin) (w : World M) (ev
   pub nothing_told : events ≡ w.events
 
 -- a read for the events of a step failed with a fault of the device: there was one to be made, and none was
-pub record ReadFailed {M : Type 0} (w : World M) (events : List Happening) (n : Device) (next : World M) (rest : List Happening) : Type 0 where
+pub record ReadFailed {M : Type 0} (w : World M) (events : List Event) (n : Device) (next : World M) (rest : List Event) : Type 0 where
   pub due : rest ≢ []
   pub nothing_told : events ≡ w.events
   pub failed : HasFailed next.device n
@@ -29,32 +29,32 @@ pub record ReadFailed {M : Type 0} (w : World M) (events : List Happening) (n : 
   pub rose : Rose next.device.faults n.faults
 
 -- memory was short for an event of a step, or for the cut that is due behind it, and the device was left alone
-abbrev pub LeftAlone : {M : Type 0} → KindOf M → Origin → List ℕ → Device → World M → List Happening → Type 0
+abbrev pub LeftAlone : {M : Type 0} → KindOf M → Origin → List ℕ → Device → World M → List Event → Type 0
 LeftAlone K o cuts n next rest = (n ≡ next.device) × ((rest ≢ []) ⊎ (is_due K o cuts next ≡ true))
 
 -- The step was done, but of its events only the first were made: a read for the others failed, or memory was short; which of
 -- these says what the step's device has become, and what was still to be done.
-pub record TellingFailed {M : Type 0} (K : KindOf M) (o : Origin) (w : World M) (events : List Happening) (Why : World M → List Happening → Type 0) : Type 0 where
+pub record TellingFailed {M : Type 0} (K : KindOf M) (o : Origin) (w : World M) (events : List Event) (Why : World M → List Event → Type 0) : Type 0 where
   pub next : World M
   pub steps : Steps K o w next
-  pub part : List Happening
-  pub rest : List Happening
+  pub part : List Event
+  pub rest : List Event
   pub told : events ≡ w.events ++ part
   pub split : next.events ≡ events ++ rest
   pub unended : has_ended part ≡ false
   pub why : Why next rest
 
 -- the last cycle is done, and nothing was begun behind it
-abbrev pub IsLast : {M : Type 0} → World M → List Happening → Device → Type 0
+abbrev pub IsLast : {M : Type 0} → World M → List Event → Device → Type 0
 IsLast w events n = (events ≡ w.events) × (n ≡ w.device)
 
 -- what stands at the end: the last cycle is done, or one more was begun
-abbrev pub Ends : {M : Type 0} → KindOf M → Origin → World M → List Happening → Device → Type 0
+abbrev pub Ends : {M : Type 0} → KindOf M → Origin → World M → List Event → Device → Type 0
 Ends K o w events n =
     IsLast w events n ⊎ (StepFailed K o w events n ⊎ TellingFailed K o w events (λ next rest. (n ≡ next.device) ⊎ ReadFailed w events n next rest))
 
 -- a run of so many cycles has given these events and left this device
-pub record Finished {M : Type 0} (K : KindOf M) (o : Origin) (given : Given) (cycles : ℕ) (events : List Happening) (n : Device) : Type 0 where
+pub record Finished {M : Type 0} (K : KindOf M) (o : Origin) (given : Given) (cycles : ℕ) (events : List Event) (n : Device) : Type 0 where
   pub last : World M
   pub ran : Ran K o given cycles last
   pub ends : Ends K o last events n

@@ -5,7 +5,7 @@ use Rattle.thy_base.specs.declared.mix.Mix.{Mix}
 use Rattle.thy_base.specs.Device.{Device, IsCut}
 use Rattle.thy_base.specs.Mix.{mix_start, mix_pick, mix_next}
 use Rattle.thy_view.specs.Kind.{KindOf, IsStep}
-use Rattle.thy_text.specs.Happening.{Happening, EpochEnd, Commit, Cut, Restart, Reload, Ended}
+use Rattle.thy_text.specs.Event.{Event, EpochEnd, Commit, Cut, Restart, Reload, Ended}
 use Rattle.thy_view.specs.declared.did.Did.{Did}
 use Rattle.thy_view.specs.declared.did.Did.TheVariants.{Loaded, Restarted, Sealed, Committed}
 use Rattle.thy_view.specs.declared.did.Stepped.{Stepped}
@@ -27,7 +27,7 @@ pub record World (M : Type 0) : Type 0 where
   pub cycles : ℕ
   -- no cycle was done since the latest cut
   pub fresh : Bool
-  pub events : List Happening
+  pub events : List Event
 
 -- what is seen of the machine
 abbrev pub seen : {M : Type 0} → KindOf M → Origin → World M → View
@@ -36,7 +36,7 @@ seen K o w = K.view o w.machine w.device
 -- ---- events
 
 -- the event of what a cycle did
-abbrev pub told : Origin → Did → ℕ → List Happening
+abbrev pub told : Origin → Did → ℕ → List Event
 told o Loaded cycle = Commit 0 cycle 0 ∷ []
 told o (Restarted epoch count) cycle = Restart epoch count (at o count) ∷ []
 told o (Sealed epoch count cause) cycle = EpochEnd epoch count cause ∷ []
@@ -44,15 +44,15 @@ told o (Committed epoch overlapped) cycle = Commit epoch cycle overlapped ∷ []
 told o did cycle = []
 
 -- the first cycle after a cut tells that the file is loaded again
-abbrev pub reload_told : Bool → View → List Happening
+abbrev pub reload_told : Bool → View → List Event
 reload_told fresh next = if fresh && loads next then Reload ∷ [] else []
 
 -- a cycle that halts tells the end
-abbrev pub end_told : Origin → View → View → ℕ → List Happening
+abbrev pub end_told : Origin → View → View → ℕ → List Event
 end_told o v next cycle = if halts v next then Ended (at o next.count).status next.count cycle (at o next.count) ∷ [] else []
 
 -- the events of a cycle
-abbrev pub events_of : Origin → Bool → View → Did → View → ℕ → List Happening
+abbrev pub events_of : Origin → Bool → View → Did → View → ℕ → List Event
 events_of o fresh v did next cycle = reload_told fresh next ++ told o did cycle ++ end_told o v next cycle
 
 -- ---- cycles

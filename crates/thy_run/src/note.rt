@@ -3,7 +3,7 @@ ghost use Rattle.std.specs.Prelude.{◌≡◌, ◌≢◌, ◌++◌, ◌∷◌, [
 ghost use Rattle.thy_view.specs.Origin.{Origin};
 ghost use Rattle.thy_run.specs.World.{told};
 ghost use Rattle.thy_isa.specs.Step.{state_of};
-ghost use Rattle.thy_text.specs.Happening.{Reload, Commit, EpochEnd, Ended};
+ghost use Rattle.thy_text.specs.Event.{Reload, Commit, EpochEnd, Ended};
 ghost use Rattle.thy_run.specs.Promises.{NotesRestart, NotesDid, NotesEnd, AnswersEnd, NotesAll, NotesSome};
 
 use std::alloc::AllocError;

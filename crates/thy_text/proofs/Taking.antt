@@ -1,9 +1,10 @@
 -- A sink that takes the texts of a list's elements, one after another.
-use Rattle.std.proofs.Common.{ℕ, ◌+◌, ◌<◌, List, ◌++◌, map, take, drop, length, get_or, sym, subst, Result, Ok, Err, OnOk, OnErr}
+use Rattle.std.proofs.Common.{ℕ, ◌+◌, ◌<◌, List, ◌++◌, map, take, drop, length, get_or, sym, subst, Result, Ok, Err}
 use Rattle.thy_base.specs.declared.outside.SinkError.{SinkError}
 use Rattle.thy_base.specs.Outside.{Stream, Took, TookPart}
 use Rattle.thy_base.proofs.Streams.{Took-append, TookPart-append, TookPart-more}
 use Rattle.thy_text.specs.Lines.{joined}
+use Rattle.thy_text.specs.Writing.{Wrote}
 use Rattle.thy_text.proofs.Joining.{joined-take-more, joined-split}
 
 -- it took one more
@@ -21,12 +22,7 @@ TookPart-at f xs i d a b c h before now =
     subst (λ (bytes : List ℕ). TookPart a c bytes) (sym (joined-split f xs (i + 1)))
     (TookPart-more a c (joined (map f (take (i + 1) xs))) (joined (map f (drop (i + 1) xs))) here)
 
--- it took these, and then those where that went well
-pub Took-then : (r : Result (Unit {0}) SinkError) (a b c : Stream) (first then : List ℕ) → Took a b first → OnOk r (Took b c then) → OnOk r (Took a c (first ++ then))
-Took-then (Ok done) a b c first then one two = Took-append a b c first then one two
-Took-then (Err e) a b c first then one two = two
-
--- it took these, and some of those where that failed
-pub TookPart-then : (r : Result (Unit {0}) SinkError) (a b c : Stream) (first then : List ℕ) → Took a b first → OnErr r (TookPart b c then) → OnErr r (TookPart a c (first ++ then))
-TookPart-then (Ok done) a b c first then one two = two
-TookPart-then (Err e) a b c first then one two = TookPart-append a b c first then one two
+-- it took these, and then others or a first part of them
+pub Wrote-then : (r : Result (Unit {0}) SinkError) (a b c : Stream) (first then : List ℕ) → Took a b first → Wrote r b c then → Wrote r a c (first ++ then)
+Wrote-then (Ok done) a b c first then one two = record { whole = Took-append a b c first then one two.whole; failed = two.failed }
+Wrote-then (Err e) a b c first then one two = record { whole = two.whole; failed = TookPart-append a b c first then one two.failed }

@@ -1,8 +1,9 @@
 pub mod Closings
-pub mod Happening
+pub mod Event
 pub mod Lines
 pub mod Marks
 pub mod Pieces
 pub mod Released
 pub mod Seen
 pub mod Summary
+pub mod Writing

@@ -7,7 +7,7 @@ use Rattle.thy_base.specs.declared.cause.EndCause.{EndCause}
 use Rattle.thy_base.specs.declared.cause.EndCause.TheVariants.{Length, Exhausted, Ended as EndedCause}
 use Rattle.thy_isa.specs.declared.state.Status.{Status}
 use Rattle.thy_isa.specs.declared.state.Status.TheVariants.{Running, Exited, Trapped}
-use Rattle.thy_text.specs.Happening.{Happening, EpochEnd, Commit, Cut, Restart, Reload, Ended}
+use Rattle.thy_text.specs.Event.{Event, EpochEnd, Commit, Cut, Restart, Reload, Ended}
 
 -- texts one after another
 abbrev pub joined : List (List ℕ) → List ℕ
@@ -51,7 +51,7 @@ epoch_end_parts epoch count cause =
     codes "epoch " ∷ decimal epoch ∷ codes " ends at " ∷ decimal count ∷ codes " by " ∷ cause_parts cause
 
 -- the line of what happened, and behind a restart and an end memory's digest, where digests are told
-abbrev pub line_of : Bool → Happening → List ℕ
+abbrev pub line_of : Bool → Event → List ℕ
 line_of digest (EpochEnd epoch count cause) = joined (epoch_end_parts epoch count cause)
 line_of digest (Commit epoch cycle overlapped) =
     joined (codes "commit " ∷ decimal epoch ∷ codes " overlapped " ∷ decimal overlapped ∷ line_feed ∷ [])
@@ -62,7 +62,7 @@ line_of digest Reload = joined (codes "reload" ∷ line_feed ∷ [])
 line_of digest (Ended status count cycle state) = ended_lines digest status count state.memory
 
 -- the lines of all that happened
-abbrev pub report_of : Bool → List Happening → List ℕ
+abbrev pub report_of : Bool → List Event → List ℕ
 report_of digest [] = []
 report_of digest (v ∷ vs) = line_of digest v ++ report_of digest vs
 

@@ -5,7 +5,7 @@ use Rattle.thy_base.specs.declared.cause.EndCause.TheVariants.{Length, Exhausted
 use Rattle.thy_base.specs.Marks.{mark}
 use Rattle.thy_base.specs.declared.mark.Mark.{Mark}
 use Rattle.thy_isa.specs.Step.{State, is_running}
-use Rattle.thy_text.specs.Happening.{Happening, EpochEnd, Commit, Cut, Restart, Reload, Ended}
+use Rattle.thy_text.specs.Event.{Event, EpochEnd, Commit, Cut, Restart, Reload, Ended}
 
 -- the checkpoint that is committed, and the one that is sealed and may be
 pub record Marks : Type 0 where
@@ -17,7 +17,7 @@ abbrev pub loading_marks : ℕ → Marks
 loading_marks start = record { kept = None; sealed = Some (mark 0 start) }
 
 -- what an event makes of the marks; `start` is the count at which the run starts
-abbrev pub marks_after : ℕ → Marks → Happening → Marks
+abbrev pub marks_after : ℕ → Marks → Event → Marks
 marks_after start m (EpochEnd epoch count cause) = record m { sealed = Some (mark epoch count) }
 marks_after start m (Commit epoch cycle overlapped) = record { kept = m.sealed; sealed = None }
 marks_after start m (Restart epoch count state) = record { kept = Some (mark epoch count); sealed = None }
@@ -25,7 +25,7 @@ marks_after start m Reload = loading_marks start
 marks_after start m event = m
 
 -- what events make of the marks
-abbrev pub marks_from : ℕ → Marks → List Happening → Marks
+abbrev pub marks_from : ℕ → Marks → List Event → Marks
 marks_from start m [] = m
 marks_from start m (v ∷ vs) = marks_from start (marks_after start m v) vs
 
@@ -67,7 +67,7 @@ pub record EndsRun (c : Course) (m : Marks) (count : ℕ) (state : State) : Type
   pub over : is_running state.status ≡ false
 
 -- an event may come where the events before it left these marks
-abbrev pub Lawful : Course → Marks → Happening → Type 0
+abbrev pub Lawful : Course → Marks → Event → Type 0
 Lawful c m (EpochEnd epoch count cause) = EndsEpoch c m epoch count cause
 Lawful c m (Commit epoch cycle overlapped) = (count : ℕ) × (m.sealed ≡ Some (mark epoch count))
 Lawful c m (Cut index cycle) = Unit {0}
@@ -76,6 +76,6 @@ Lawful c m Reload = m.kept ≡ None
 Lawful c m (Ended status count cycle state) = EndsRun c m count state × (status ≡ state.status)
 
 -- each event is lawful after those before it
-abbrev pub AllLawful : Course → Marks → List Happening → Type 0
+abbrev pub AllLawful : Course → Marks → List Event → Type 0
 AllLawful c m [] = Unit {0}
 AllLawful c m (v ∷ vs) = Lawful c m v × AllLawful c (marks_after c.start m v) vs

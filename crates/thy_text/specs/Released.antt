@@ -1,12 +1,12 @@
 -- What the terminal has of the console.
 use Rattle.std.specs.Prelude.{ℕ, Bool, true, false, if◌then◌else◌, List, [], Option, Some, None}
 use Rattle.std.specs.List.{list_any}
-use Rattle.thy_text.specs.Happening.{Happening, Commit, Restart}
+use Rattle.thy_text.specs.Event.{Event, Commit, Restart}
 use Rattle.thy_base.specs.declared.mark.Mark.{Mark}
 use Rattle.thy_text.specs.Marks.{Marks, marks_from}
 
 -- an event after which a committed state is known
-abbrev pub shows : Happening → Bool
+abbrev pub shows : Event → Bool
 shows (Commit epoch cycle overlapped) = true
 shows (Restart epoch count state) = true
 shows event = false
@@ -17,6 +17,6 @@ console_of console_at None = []
 console_of console_at (Some m) = console_at m.count
 
 -- the console of the committed state, once an event has told of one
-abbrev pub released : (ℕ → List ℕ) → ℕ → Marks → List Happening → List ℕ
+abbrev pub released : (ℕ → List ℕ) → ℕ → Marks → List Event → List ℕ
 released console_at start m vs =
     if list_any shows vs then console_of console_at (marks_from start m vs).kept else []

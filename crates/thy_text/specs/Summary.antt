@@ -2,21 +2,21 @@
 use Rattle.std.specs.Prelude.{ℕ, Bool, true, false, List, [], ◌∷◌, codes, count_by, sum_by}
 use Rattle.std.specs.Fmt.{decimal}
 use Rattle.thy_base.specs.declared.cause.EndCause.TheVariants.{Exhausted}
-use Rattle.thy_text.specs.Happening.{Happening, EpochEnd, Commit}
+use Rattle.thy_text.specs.Event.{Event, EpochEnd, Commit}
 use Rattle.thy_text.specs.Lines.{joined, line_feed}
 
 -- an epoch was sealed
-abbrev pub ends_epoch : Happening → Bool
+abbrev pub ends_epoch : Event → Bool
 ends_epoch (EpochEnd epoch count cause) = true
 ends_epoch event = false
 
 -- an epoch was sealed early, for want of free entries
-abbrev pub ends_early : Happening → Bool
+abbrev pub ends_early : Event → Bool
 ends_early (EpochEnd epoch count (Exhausted free dirty need)) = true
 ends_early event = false
 
 -- the instructions that retired while the checkpoint was under way that was committed
-abbrev pub overlapped_by : Happening → ℕ
+abbrev pub overlapped_by : Event → ℕ
 overlapped_by (Commit epoch cycle overlapped) = overlapped
 overlapped_by event = 0
 
@@ -28,6 +28,6 @@ summary_parts epochs early overlapped =
 
 -- the line of a run: the epochs that were sealed, those of them that were early, and all instructions that retired while
 -- a checkpoint was under way
-abbrev pub summary_of : List Happening → List ℕ
+abbrev pub summary_of : List Event → List ℕ
 summary_of vs =
     joined (summary_parts (count_by ends_epoch vs) (count_by ends_early vs) (sum_by overlapped_by vs))

@@ -2,9 +2,9 @@
 ghost use Rattle.std.specs.Prelude.{◌≡◌, ◌∷◌, [], OnOk, OnErr, codes};
 ghost use Rattle.std.specs.Fmt.{decimal};
 ghost use Rattle.thy_base.specs.Fields.{field_name};
-ghost use Rattle.thy_base.specs.Outside.{Took, TookPart};
 ghost use Rattle.thy_text.specs.Closings.{closing_of, entries_of, fault_text, image_parts, numbers_of, refusal_parts};
 ghost use Rattle.thy_text.specs.Lines.{joined, line_feed};
+ghost use Rattle.thy_text.specs.Writing.{Wrote};
 
 use crate::piece::{Piece, write_pieces};
 use thy_base::{Field, Sink, SinkError};
@@ -62,8 +62,7 @@ enum Entries {
 /// Writes the closing line in pieces, none of them empty. On an error the sink has taken only the
 /// first part of the line. Takes no memory.
 pub fn write_closing<R: Sink>(closing: Closing, report: &mut R) -> Result<(), SinkError>
-    ensures whole { OnOk result (Took (R.stream report.old) (R.stream report.new) (closing_of closing.entry)) }
-    ensures failed { OnErr result (TookPart (R.stream report.old) (R.stream report.new) (closing_of closing.entry)) }
+    ensures { Wrote result (R.stream report.old) (R.stream report.new) (closing_of closing.entry) }
 {
     let end = Piece::Text("\n");
     match closing {
@@ -99,8 +98,8 @@ pub fn write_closing<R: Sink>(closing: Closing, report: &mut R) -> Result<(), Si
 
 /// Writes the line of a value out of its range.
 fn write_value<R: Sink>(field: Field, value: u64, report: &mut R) -> Result<(), SinkError>
-    ensures whole { OnOk result (Took (R.stream report.old) (R.stream report.new) (joined (codes "value " ∷ field_name field ∷ codes " " ∷ decimal value ∷ line_feed ∷ []))) }
-    ensures failed { OnErr result (TookPart (R.stream report.old) (R.stream report.new) (joined (codes "value " ∷ field_name field ∷ codes " " ∷ decimal value ∷ line_feed ∷ []))) }
+    ensures { Wrote result (R.stream report.old) (R.stream report.new)
+        (joined (codes "value " ∷ field_name field ∷ codes " " ∷ decimal value ∷ line_feed ∷ [])) }
 {
     let pieces = [
         Piece::Text("value "),
@@ -125,8 +124,8 @@ fn fault_words(fault: FetchFault) -> &'static str
 
 /// Writes the line of bytes that were not had.
 fn write_fetch<R: Sink>(name: &str, fault: FetchFault, report: &mut R) -> Result<(), SinkError>
-    ensures whole { OnOk result (Took (R.stream report.old) (R.stream report.new) (joined (codes "fetch " ∷ name.now ∷ fault_text fault ∷ line_feed ∷ []))) }
-    ensures failed { OnErr result (TookPart (R.stream report.old) (R.stream report.new) (joined (codes "fetch " ∷ name.now ∷ fault_text fault ∷ line_feed ∷ []))) }
+    ensures { Wrote result (R.stream report.old) (R.stream report.new)
+        (joined (codes "fetch " ∷ name.now ∷ fault_text fault ∷ line_feed ∷ [])) }
 {
     let pieces = [
         Piece::Text("fetch "),
@@ -144,8 +143,8 @@ fn write_refusal<R: Sink>(
     name: &str,
     report: &mut R,
 ) -> Result<(), SinkError>
-    ensures whole { OnOk result (Took (R.stream report.old) (R.stream report.new) (joined (refusal_parts what.now number name.now []))) }
-    ensures failed { OnErr result (TookPart (R.stream report.old) (R.stream report.new) (joined (refusal_parts what.now number name.now []))) }
+    ensures { Wrote result (R.stream report.old) (R.stream report.new)
+        (joined (refusal_parts what.now number name.now [])) }
 {
     let pieces = [
         Piece::Text(what),
@@ -165,8 +164,8 @@ fn write_refusal_at<R: Sink>(
     k: u64,
     report: &mut R,
 ) -> Result<(), SinkError>
-    ensures whole { OnOk result (Took (R.stream report.old) (R.stream report.new) (joined (refusal_parts what.now number name.now (k ∷ [])))) }
-    ensures failed { OnErr result (TookPart (R.stream report.old) (R.stream report.new) (joined (refusal_parts what.now number name.now (k ∷ [])))) }
+    ensures { Wrote result (R.stream report.old) (R.stream report.new)
+        (joined (refusal_parts what.now number name.now (k ∷ []))) }
 {
     let pieces = [
         Piece::Text(what),
@@ -188,8 +187,8 @@ fn write_image_at_two<R: Sink>(
     k: u64,
     report: &mut R,
 ) -> Result<(), SinkError>
-    ensures whole { OnOk result (Took (R.stream report.old) (R.stream report.new) (joined (refusal_parts (codes "image ") number name.now (i ∷ k ∷ [])))) }
-    ensures failed { OnErr result (TookPart (R.stream report.old) (R.stream report.new) (joined (refusal_parts (codes "image ") number name.now (i ∷ k ∷ [])))) }
+    ensures { Wrote result (R.stream report.old) (R.stream report.new)
+        (joined (refusal_parts (codes "image ") number name.now (i ∷ k ∷ []))) }
 {
     let pieces = [
         Piece::Text("image "),
@@ -219,8 +218,7 @@ fn entries_of(bad: BadImage) -> Entries
 
 /// Writes the line of a refused image, with the entries of its tables that are at fault.
 fn write_image<R: Sink>(bad: BadImage, report: &mut R) -> Result<(), SinkError>
-    ensures whole { OnOk result (Took (R.stream report.old) (R.stream report.new) (joined (image_parts bad))) }
-    ensures failed { OnErr result (TookPart (R.stream report.old) (R.stream report.new) (joined (image_parts bad))) }
+    ensures { Wrote result (R.stream report.old) (R.stream report.new) (joined (image_parts bad)) }
 {
     let place = bad.number();
     let called = bad.name();
@@ -233,8 +231,8 @@ fn write_image<R: Sink>(bad: BadImage, report: &mut R) -> Result<(), SinkError>
 
 /// Writes the line of an image that has read more than there is.
 fn write_input<R: Sink>(cursor: u64, length: u64, report: &mut R) -> Result<(), SinkError>
-    ensures whole { OnOk result (Took (R.stream report.old) (R.stream report.new) (joined (codes "input " ∷ decimal cursor ∷ codes " " ∷ decimal length ∷ line_feed ∷ []))) }
-    ensures failed { OnErr result (TookPart (R.stream report.old) (R.stream report.new) (joined (codes "input " ∷ decimal cursor ∷ codes " " ∷ decimal length ∷ line_feed ∷ []))) }
+    ensures { Wrote result (R.stream report.old) (R.stream report.new)
+        (joined (codes "input " ∷ decimal cursor ∷ codes " " ∷ decimal length ∷ line_feed ∷ [])) }
 {
     let pieces = [
         Piece::Text("input "),

@@ -1,12 +1,12 @@
 //! The events of a run, in order.
 ghost use Rattle.std.specs.Prelude.{◌≡◌, ◌++◌, ◌∷◌, [], ◌<◌, length, OnOk, OnErr, slice_get, Some};
-ghost use Rattle.thy_text.specs.Seen.{happening_of};
+ghost use Rattle.thy_text.specs.Seen.{event_of};
 
 use crate::Event;
 use std::alloc::{AllocError, Global};
 use std::marker::Model;
 
-/// A list of events. Contracts see what happened: the events with the plain machine's states.
+/// A list of events. Contracts see them with the plain machine's states.
 #[derive(Debug, Drop)]
 pub struct Events {
     items: Vec<Event>,
@@ -14,12 +14,12 @@ pub struct Events {
 
 impl Model for Events {
     ghost use Rattle.std.specs.Prelude.{List, map};
-    ghost use Rattle.thy_text.specs.Happening.{Happening};
-    ghost use Rattle.thy_text.specs.Seen.{happening_of};
+    ghost use Rattle.thy_text.specs.Event.{Event as EventValue};
+    ghost use Rattle.thy_text.specs.Seen.{event_of};
 
-    ghost Value = { List Happening };
+    ghost Value = { List EventValue };
 
-    ghost view = { λ e. map happening_of e.items.items };
+    ghost view = { λ e. map event_of e.items.items };
 }
 
 impl Events {
@@ -34,7 +34,7 @@ impl Events {
 
     /// Adds an event at the end.
     pub fn push(&mut self, event: Event) -> Result<(), AllocError>
-        ensures ok { OnOk result (self.new ≡ self.old ++ happening_of event ∷ []) }
+        ensures ok { OnOk result (self.new ≡ self.old ++ event_of event ∷ []) }
         ensures err { OnErr result (self.new ≡ self.old) }
     {
         self.items.push(event)?;
@@ -51,7 +51,7 @@ impl Events {
     /// Event `i`, from 0.
     pub fn get(&self, i: usize) -> &Event
         requires { i < length self.now }
-        ensures { slice_get self.now i ≡ Some (happening_of result.now) }
+        ensures { slice_get self.now i ≡ Some (event_of result.now) }
     {
         &self.items[i]
     }

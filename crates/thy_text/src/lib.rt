@@ -5,7 +5,7 @@ mod closing;
 mod event;
 mod events;
 mod line;
-mod memory;
+mod memory_digest;
 mod piece;
 mod summary;
 
@@ -13,5 +13,5 @@ pub use closing::{Closing, FetchFault, write_closing};
 pub use event::Event;
 pub use events::Events;
 pub use line::{write_ended, write_event, write_made};
-pub use memory::digest;
+pub use memory_digest::digest;
 pub use summary::write_summary;

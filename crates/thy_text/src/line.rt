@@ -2,12 +2,12 @@
 ghost use Rattle.std.specs.Prelude.{◌∷◌, [], ◌≢◌, OnOk, OnErr};
 ghost use Rattle.std.specs.Fmt.{decimal};
 ghost use Rattle.thy_base.specs.Bytes.{bytes_of};
-ghost use Rattle.thy_base.specs.Outside.{Took, TookPart};
 ghost use Rattle.thy_text.specs.Lines.{joined, line_feed, line_of, state_lines, ended_lines, epoch_end_parts, made_of};
-ghost use Rattle.thy_text.specs.Seen.{happening_of};
+ghost use Rattle.thy_text.specs.Seen.{event_of};
+ghost use Rattle.thy_text.specs.Writing.{Wrote};
 
 use crate::Event;
-use crate::memory::write_digest;
+use crate::memory_digest::write_digest;
 use crate::piece::{Piece, write_pieces};
 use thy_base::{EndCause, Sink, SinkError};
 use thy_isa::{MachState, Status};
@@ -16,9 +16,9 @@ use thy_isa::{MachState, Status};
 /// that of an end are followed by the line of memory's digest. On an error the sink has taken only the
 /// first part of these lines. Takes no memory.
 pub fn write_event<R: Sink>(event: &Event, digest: bool, report: &mut R) -> Result<(), SinkError>
-    ensures whole { OnOk result (Took (R.stream report.old) (R.stream report.new) (line_of digest (happening_of event.now))) }
-    ensures failed { OnErr result (TookPart (R.stream report.old) (R.stream report.new) (line_of digest (happening_of event.now))) }
-    ensures due { OnErr result (line_of digest (happening_of event.now) ≢ []) }
+    ensures wrote { Wrote result (R.stream report.old) (R.stream report.new)
+        (line_of digest (event_of event.now)) }
+    ensures due { OnErr result (line_of digest (event_of event.now) ≢ []) }
 {
     match event {
         Event::EpochEnd {
@@ -55,8 +55,8 @@ fn write_numbers<R: Sink>(
     two: u64,
     report: &mut R,
 ) -> Result<(), SinkError>
-    ensures whole { OnOk result (Took (R.stream report.old) (R.stream report.new) (joined (first.now ∷ decimal one ∷ then.now ∷ decimal two ∷ line_feed ∷ []))) }
-    ensures failed { OnErr result (TookPart (R.stream report.old) (R.stream report.new) (joined (first.now ∷ decimal one ∷ then.now ∷ decimal two ∷ line_feed ∷ []))) }
+    ensures { Wrote result (R.stream report.old) (R.stream report.new)
+        (joined (first.now ∷ decimal one ∷ then.now ∷ decimal two ∷ line_feed ∷ [])) }
 {
     let pieces = [
         Piece::Text(first),
@@ -75,8 +75,8 @@ fn write_epoch_end<R: Sink>(
     cause: EndCause,
     report: &mut R,
 ) -> Result<(), SinkError>
-    ensures whole { OnOk result (Took (R.stream report.old) (R.stream report.new) (joined (epoch_end_parts epoch count cause))) }
-    ensures failed { OnErr result (TookPart (R.stream report.old) (R.stream report.new) (joined (epoch_end_parts epoch count cause))) }
+    ensures { Wrote result (R.stream report.old) (R.stream report.new)
+        (joined (epoch_end_parts epoch count cause)) }
 {
     let first = Piece::Text("epoch ");
     let number = Piece::Number(epoch);
@@ -121,9 +121,10 @@ pub fn write_ended<R: Sink>(
     digest: bool,
     report: &mut R,
 ) -> Result<(), SinkError>
-    ensures whole { OnOk result (Took (R.stream report.old) (R.stream report.new) (ended_lines digest state.now.status state.now.count (bytes_of state.now.memory))) }
-    ensures failed { OnErr result (TookPart (R.stream report.old) (R.stream report.new) (ended_lines digest state.now.status state.now.count (bytes_of state.now.memory))) }
-    ensures due { OnErr result (ended_lines digest state.now.status state.now.count (bytes_of state.now.memory) ≢ []) }
+    ensures wrote { let s = state.now in Wrote result (R.stream report.old) (R.stream report.new)
+        (ended_lines digest s.status s.count (bytes_of s.memory)) }
+    ensures due { let s = state.now in
+        OnErr result (ended_lines digest s.status s.count (bytes_of s.memory) ≢ []) }
 {
     write_end(state.status, state.count, state, digest, report)
 }
@@ -136,8 +137,8 @@ fn write_end<R: Sink>(
     digest: bool,
     report: &mut R,
 ) -> Result<(), SinkError>
-    ensures whole { OnOk result (Took (R.stream report.old) (R.stream report.new) (ended_lines digest status count (bytes_of state.now.memory))) }
-    ensures failed { OnErr result (TookPart (R.stream report.old) (R.stream report.new) (ended_lines digest status count (bytes_of state.now.memory))) }
+    ensures wrote { Wrote result (R.stream report.old) (R.stream report.new)
+        (ended_lines digest status count (bytes_of state.now.memory)) }
     ensures due { OnErr result (ended_lines digest status count (bytes_of state.now.memory) ≢ []) }
 {
     match status {
@@ -157,8 +158,8 @@ fn write_state<R: Sink>(
     digest: bool,
     report: &mut R,
 ) -> Result<(), SinkError>
-    ensures whole { OnOk result (Took (R.stream report.old) (R.stream report.new) (state_lines digest word.now number count (bytes_of state.now.memory))) }
-    ensures failed { OnErr result (TookPart (R.stream report.old) (R.stream report.new) (state_lines digest word.now number count (bytes_of state.now.memory))) }
+    ensures { Wrote result (R.stream report.old) (R.stream report.new)
+        (state_lines digest word.now number count (bytes_of state.now.memory)) }
 {
     write_numbers(word, number, " at ", count, report)?;
     write_digest(state, digest, report)
@@ -167,8 +168,7 @@ fn write_state<R: Sink>(
 /// Writes the line of a made program: the number of which it is made, and its length in bytes. On an
 /// error the sink has taken only the first part of the line. Takes no memory.
 pub fn write_made<R: Sink>(number: u64, length: u64, report: &mut R) -> Result<(), SinkError>
-    ensures whole { OnOk result (Took (R.stream report.old) (R.stream report.new) (made_of number length)) }
-    ensures failed { OnErr result (TookPart (R.stream report.old) (R.stream report.new) (made_of number length)) }
+    ensures { Wrote result (R.stream report.old) (R.stream report.new) (made_of number length) }
 {
     write_numbers("made ", number, " ", length, report)
 }

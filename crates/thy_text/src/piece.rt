@@ -1,8 +1,8 @@
 //! The parts that lines are written in.
 ghost use Rattle.std.specs.Prelude.{map, OnOk, OnErr};
-ghost use Rattle.thy_base.specs.Outside.{Took, TookPart};
 ghost use Rattle.thy_text.specs.Lines.{joined};
 ghost use Rattle.thy_text.specs.Pieces.{bytes_of_piece};
+ghost use Rattle.thy_text.specs.Writing.{Wrote};
 
 use itoa::Buffer;
 use thy_base::{Sink, SinkError};
@@ -21,8 +21,7 @@ pub(crate) enum Piece<'a> {
 
 /// Writes a part, unless it is empty.
 fn write_piece<R: Sink>(piece: &Piece, to: &mut R) -> Result<(), SinkError>
-    ensures whole { OnOk result (Took (R.stream to.old) (R.stream to.new) (bytes_of_piece piece.now)) }
-    ensures failed { OnErr result (TookPart (R.stream to.old) (R.stream to.new) (bytes_of_piece piece.now)) }
+    ensures { Wrote result (R.stream to.old) (R.stream to.new) (bytes_of_piece piece.now) }
 {
     match piece {
         Piece::Text(text) => {
@@ -45,8 +44,8 @@ fn write_piece<R: Sink>(piece: &Piece, to: &mut R) -> Result<(), SinkError>
 
 /// Writes parts one after another, until one fails.
 pub(crate) fn write_pieces<R: Sink>(pieces: &[Piece], to: &mut R) -> Result<(), SinkError>
-    ensures whole { OnOk result (Took (R.stream to.old) (R.stream to.new) (joined (map bytes_of_piece pieces.now))) }
-    ensures failed { OnErr result (TookPart (R.stream to.old) (R.stream to.new) (joined (map bytes_of_piece pieces.now))) }
+    ensures { Wrote result (R.stream to.old) (R.stream to.new)
+        (joined (map bytes_of_piece pieces.now)) }
 {
     for piece in pieces {
         write_piece(piece, to)?;

@@ -1,8 +1,8 @@
 //! The line that sums a run up.
 ghost use Rattle.std.specs.Prelude.{◌≡◌, OnOk, OnErr, cond, count_by, sum_by};
-ghost use Rattle.thy_base.specs.Outside.{Took, TookPart};
-ghost use Rattle.thy_text.specs.Seen.{happening_of};
+ghost use Rattle.thy_text.specs.Seen.{event_of};
 ghost use Rattle.thy_text.specs.Summary.{ends_early, ends_epoch, overlapped_by, summary_of};
+ghost use Rattle.thy_text.specs.Writing.{Wrote};
 
 use crate::piece::{Piece, write_pieces};
 use crate::{Event, Events};
@@ -21,7 +21,7 @@ struct Sums {
 
 /// 1 for an epoch's end.
 fn epochs_in(event: &Event) -> u64
-    ensures { result ≡ cond (ends_epoch (happening_of event.now)) 1 0 }
+    ensures { result ≡ cond (ends_epoch (event_of event.now)) 1 0 }
 {
     match event {
         Event::EpochEnd { .. } => 1,
@@ -31,7 +31,7 @@ fn epochs_in(event: &Event) -> u64
 
 /// 1 for the end of an epoch that was exhausted.
 fn early_in(event: &Event) -> u64
-    ensures { result ≡ cond (ends_early (happening_of event.now)) 1 0 }
+    ensures { result ≡ cond (ends_early (event_of event.now)) 1 0 }
 {
     match event {
         Event::EpochEnd {
@@ -44,7 +44,7 @@ fn early_in(event: &Event) -> u64
 
 /// The instructions that a commit overlapped.
 fn overlapped_by(event: &Event) -> u64
-    ensures { result ≡ overlapped_by (happening_of event.now) }
+    ensures { result ≡ overlapped_by (event_of event.now) }
 {
     match event {
         Event::Commit { overlapped, .. } => *overlapped,
@@ -78,8 +78,7 @@ fn sums_of(events: &Events) -> Sums
 /// exhausted, and how many instructions retired while a checkpoint was under way. On an error the sink
 /// has taken only the first part of the line. Takes no memory.
 pub fn write_summary<R: Sink>(events: &Events, report: &mut R) -> Result<(), SinkError>
-    ensures whole { OnOk result (Took (R.stream report.old) (R.stream report.new) (summary_of events.now)) }
-    ensures failed { OnErr result (TookPart (R.stream report.old) (R.stream report.new) (summary_of events.now)) }
+    ensures { Wrote result (R.stream report.old) (R.stream report.new) (summary_of events.now) }
 {
     let sums = sums_of(events);
     let pieces = [

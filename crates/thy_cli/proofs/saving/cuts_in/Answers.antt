@@ -1,12 +1,12 @@
 use Rattle.std.proofs.Common.{sym, ◌∙◌, arith}
-use Rattle.thy_text.specs.Seen.{happening_of}
+use Rattle.thy_text.specs.Seen.{event_of}
 use Rattle.thy_cli.proofs.SavingLemmas.{counted_more, counted_none}
 use Rattle.thy_cli.proofs.saving.cuts_in.Goals as goal
 use Rattle.thy_cli.proofs.saving.cuts_in.Goals.{then-is_cut, else-is_cut}
 
 pub loop-i-preserved : goal.loop-i-preserved
 loop-i-preserved c =
-    let v = happening_of c.get.result.now in
+    let v = event_of c.get.result.now in
     elim c.if-is_cut.branch [
       | then-is_cut w ↦ record {
         counted = w.count-is ∙ counted_more c.args.events.now c.loop-i.i c.loop-i.count v c.get.ensures c.loop-i.invariant.counted (sym c.is_cut.ensures ∙ w.if-is_cut.true);

@@ -1,7 +1,7 @@
 use Rattle.std.proofs.Common.{◌∙◌, sym, ap, subst, ◌+◌, ℕ, Bool, false, take, length, List}
 use Rattle.thy_base.specs.Bytes.{bytes_of}
 use Rattle.thy_base.specs.Device.{Device}
-use Rattle.thy_text.specs.Happening.{Happening}
+use Rattle.thy_text.specs.Event.{Event}
 use Rattle.thy_text.specs.Lines.{report_of}
 use Rattle.thy_run.specs.declared.advance.Outcome.TheVariants.{Goes}
 use Rattle.thy_run.specs.declared.ending.Ending.{Ending}
@@ -31,8 +31,8 @@ returns-in-Err-clause-err g c = λ fitted p n t r running awaits first.
     let mute = c.tell-failures.result.terminal in
     let deaf = c.tell-failures.result.report in
     let L : ℕ → Type 0 = λ k. Sends (report_of plan.digest (take k c.in-Err.events)) (report_of plan.digest c.in-Err.events) deaf r1 r2 in
-    let Q : List Happening → Type 0 = λ vs. Sends (report_of plan.digest (take (length p.events) vs)) (report_of plan.digest vs) deaf r1 r2 in
-    let E : List Happening → Type 0 = λ vs. RunEnds K plan fitted m (record { stop = Memory; events = vs; cycles = c.args.done; mute = mute; deaf = deaf }) t t2 r r2 in
+    let Q : List Event → Type 0 = λ vs. Sends (report_of plan.digest (take (length p.events) vs)) (report_of plan.digest vs) deaf r1 r2 in
+    let E : List Event → Type 0 = λ vs. RunEnds K plan fitted m (record { stop = Memory; events = vs; cycles = c.args.done; mute = mute; deaf = deaf }) t t2 r r2 in
     let D : Device → Type 0 = λ d. RunEnds K plan fitted d (record { stop = Memory; events = c.in-Err.events; cycles = c.args.done; mute = mute; deaf = deaf }) t t2 r r2 in
     subst D (sym c.in-Err.ensures.same)
     (subst E (sym c.in-Err.ensures.events)

@@ -2,7 +2,7 @@ use Rattle.std.proofs.Common.{◌≡◌, ◌∷◌, [], ℕ, List, refl, codes}
 use Rattle.thy_record.specs.Refusals.{number_of, name_of}
 use Rattle.thy_record.specs.declared.image.BadImage.{BadImage}
 use Rattle.thy_text.specs.Closings.{entries_of, image_parts, refusal_parts}
-use Rattle.thy_text.proofs.Rewording.{whole-as, part-as}
+use Rattle.thy_text.proofs.Rewording.{wrote-as}
 use Rattle.thy_text.proofs.closing.write_image.Goals as goal
 
 -- the line of an image, where its parts are known
@@ -10,32 +10,17 @@ image_is : (bad : BadImage) (number : ℕ) (name told : List ℕ) → number ≡
     → refusal_parts (codes "image ") number name told ≡ image_parts bad
 image_is bad number name told a b c = rw (a, b, c) refl
 
-pub returns-in-None-clause-whole : goal.returns-in-None-clause-whole
-returns-in-None-clause-whole g c =
-    whole-as c.write_refusal.result _ _ _ _
-    (image_is c.args.bad _ _ [] c.number-place.ensures c.name-called.ensures c.in-None.ensures) c.write_refusal.ensures.whole
+pub returns-in-None : goal.returns-in-None
+returns-in-None g c =
+    wrote-as c.write_refusal.result _ _ _ _
+    (image_is c.args.bad _ _ [] c.number-place.ensures c.name-called.ensures c.in-None.ensures) c.write_refusal.ensures
 
-pub returns-in-None-clause-failed : goal.returns-in-None-clause-failed
-returns-in-None-clause-failed g c =
-    part-as c.write_refusal.result _ _ _ _
-    (image_is c.args.bad _ _ [] c.number-place.ensures c.name-called.ensures c.in-None.ensures) c.write_refusal.ensures.failed
+pub returns-in-One : goal.returns-in-One
+returns-in-One g c =
+    wrote-as c.write_refusal_at.result _ _ _ _
+    (image_is c.args.bad _ _ (c.in-One.i ∷ []) c.number-place.ensures c.name-called.ensures c.in-One.ensures) c.write_refusal_at.ensures
 
-pub returns-in-One-clause-whole : goal.returns-in-One-clause-whole
-returns-in-One-clause-whole g c =
-    whole-as c.write_refusal_at.result _ _ _ _
-    (image_is c.args.bad _ _ (c.in-One.i ∷ []) c.number-place.ensures c.name-called.ensures c.in-One.ensures) c.write_refusal_at.ensures.whole
-
-pub returns-in-One-clause-failed : goal.returns-in-One-clause-failed
-returns-in-One-clause-failed g c =
-    part-as c.write_refusal_at.result _ _ _ _
-    (image_is c.args.bad _ _ (c.in-One.i ∷ []) c.number-place.ensures c.name-called.ensures c.in-One.ensures) c.write_refusal_at.ensures.failed
-
-pub returns-in-Two-clause-whole : goal.returns-in-Two-clause-whole
-returns-in-Two-clause-whole g c =
-    whole-as c.write_image_at_two.result _ _ _ _
-    (image_is c.args.bad _ _ (c.in-Two.i ∷ c.in-Two.k ∷ []) c.number-place.ensures c.name-called.ensures c.in-Two.ensures) c.write_image_at_two.ensures.whole
-
-pub returns-in-Two-clause-failed : goal.returns-in-Two-clause-failed
-returns-in-Two-clause-failed g c =
-    part-as c.write_image_at_two.result _ _ _ _
-    (image_is c.args.bad _ _ (c.in-Two.i ∷ c.in-Two.k ∷ []) c.number-place.ensures c.name-called.ensures c.in-Two.ensures) c.write_image_at_two.ensures.failed
+pub returns-in-Two : goal.returns-in-Two
+returns-in-Two g c =
+    wrote-as c.write_image_at_two.result _ _ _ _
+    (image_is c.args.bad _ _ (c.in-Two.i ∷ c.in-Two.k ∷ []) c.number-place.ensures c.name-called.ensures c.in-Two.ensures) c.write_image_at_two.ensures

@@ -6,6 +6,7 @@ pub loop-piece-preserved : goal.loop-piece-preserved
 loop-piece-preserved g c =
     Took-more _ _ _ _ _ _ _ c.loop-piece-test.true c.loop-piece.invariant c.in_ok-write_piece.ensures.whole
 
-pub returns-in_err-write_piece-clause-failed : goal.returns-in_err-write_piece-clause-failed
-returns-in_err-write_piece-clause-failed g c =
-    let at = TookPart-at _ _ _ _ _ _ _ c.loop-piece-test.true c.loop-piece.invariant c.in_err-write_piece.ensures.failed in search (rules, at)
+pub returns-in_err-write_piece : goal.returns-in_err-write_piece
+returns-in_err-write_piece g c =
+    let at = TookPart-at _ _ _ _ _ _ _ c.loop-piece-test.true c.loop-piece.invariant c.in_err-write_piece.ensures.failed in
+    record { whole = search rules; failed = search (rules, at) }

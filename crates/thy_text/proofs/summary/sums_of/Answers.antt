@@ -1,17 +1,17 @@
 use Rattle.std.proofs.Common.{◌≡◌, ◌∙◌, ◌+◌, ◌≤◌, ℕ, Bool, true, false, List, Some, ap, ap₂, arith, cond, slice_get, sum_by, sym, take}
 use Rattle.std.proofs.lemmas.List.Sums.{sum_by_more}
 use Rattle.std.proofs.lemmas.Option.{get_or_from_slice_get, slice_get_within}
-use Rattle.thy_text.specs.Happening.{Happening}
+use Rattle.thy_text.specs.Event.{Event}
 use Rattle.thy_text.specs.Summary.{ends_early, ends_epoch, overlapped_by}
 use Rattle.thy_text.proofs.summary.sums_of.Goals as goal
 
 -- the sum of one event more
-one_more : (f : Happening → ℕ) (vs : List Happening) (i : ℕ) (v : Happening) (n m : ℕ) → slice_get vs i ≡ Some v
+one_more : (f : Event → ℕ) (vs : List Event) (i : ℕ) (v : Event) (n m : ℕ) → slice_get vs i ≡ Some v
     → n ≡ sum_by f (take i vs) → m ≡ f v → n + m ≡ sum_by f (take (i + 1) vs)
 one_more f vs i v n m there so_far more =
     ap₂ ◌+◌ so_far more
     ∙ sym (sum_by_more f vs i v (slice_get_within vs i v there)
-    ∙ ap (λ (w : Happening). sum_by f (take i vs) + f w) (get_or_from_slice_get vs i v v there))
+    ∙ ap (λ (w : Event). sum_by f (take i vs) + f w) (get_or_from_slice_get vs i v v there))
 
 -- a count of one event is at most 1
 at_most_one : (b : Bool) (n : ℕ) → n ≡ cond b 1 0 → n ≤ 1

@@ -1,19 +1,19 @@
--- What happens in a run, with the states of the plain machine.
+-- The events of a run, with the states of the plain machine.
 use Rattle.std.specs.Prelude.{ℕ}
 use Rattle.thy_base.specs.declared.cause.EndCause.{EndCause}
 use Rattle.thy_isa.specs.declared.state.Status.{Status}
 use Rattle.thy_isa.specs.Step.{State}
 
-pub data Happening : Type 0 where
+pub data Event : Type 0 where
   -- this epoch was sealed at this count of instructions, for this cause
-  EpochEnd : (epoch count : ℕ) (cause : EndCause) → Happening
+  EpochEnd : (epoch count : ℕ) (cause : EndCause) → Event
   -- the sealed checkpoint of this epoch was committed in this cycle; so many instructions retired meanwhile
-  Commit : (epoch cycle overlapped : ℕ) → Happening
+  Commit : (epoch cycle overlapped : ℕ) → Event
   -- power was cut for this time, counted from 1, after this cycle
-  Cut : (index cycle : ℕ) → Happening
+  Cut : (index cycle : ℕ) → Event
   -- the run went on from the checkpoint of this epoch, whose state has this count
-  Restart : (epoch count : ℕ) (state : State) → Happening
+  Restart : (epoch count : ℕ) (state : State) → Event
   -- no checkpoint was there, and the file is loaded again
-  Reload : Happening
+  Reload : Event
   -- the program is over, by the committed checkpoint of this count
-  Ended : (status : Status) (count cycle : ℕ) (state : State) → Happening
+  Ended : (status : Status) (count cycle : ℕ) (state : State) → Event

@@ -3,8 +3,8 @@ ghost use Rattle.std.specs.Prelude.{◌≡◌, OnOk, OnErr};
 ghost use Rattle.hex.specs.Hex.{encode_lower};
 ghost use Rattle.sha2.specs.Sha256.{sha256};
 ghost use Rattle.thy_base.specs.Bytes.{bytes_of};
-ghost use Rattle.thy_base.specs.Outside.{Took, TookPart};
 ghost use Rattle.thy_text.specs.Lines.{memory_line, digest_line};
+ghost use Rattle.thy_text.specs.Writing.{Wrote};
 
 use crate::piece::{Piece, write_pieces};
 use sha2::{Digest, Sha256};
@@ -31,8 +31,8 @@ fn lower_hex(bytes: &[u8; 32]) -> [u8; 64]
 
 /// Writes the line of memory's digest.
 fn write_memory<R: Sink>(state: &MachState, report: &mut R) -> Result<(), SinkError>
-    ensures whole { OnOk result (Took (R.stream report.old) (R.stream report.new) (memory_line (bytes_of state.now.memory))) }
-    ensures failed { OnErr result (TookPart (R.stream report.old) (R.stream report.new) (memory_line (bytes_of state.now.memory))) }
+    ensures { Wrote result (R.stream report.old) (R.stream report.new)
+        (memory_line (bytes_of state.now.memory)) }
 {
     let digits = lower_hex(&digest(state));
     let pieces = [
@@ -49,8 +49,8 @@ pub(crate) fn write_digest<R: Sink>(
     told: bool,
     report: &mut R,
 ) -> Result<(), SinkError>
-    ensures whole { OnOk result (Took (R.stream report.old) (R.stream report.new) (digest_line told (bytes_of state.now.memory))) }
-    ensures failed { OnErr result (TookPart (R.stream report.old) (R.stream report.new) (digest_line told (bytes_of state.now.memory))) }
+    ensures { Wrote result (R.stream report.old) (R.stream report.new)
+        (digest_line told (bytes_of state.now.memory)) }
 {
     if told {
         write_memory(state, report)
