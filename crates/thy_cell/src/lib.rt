@@ -6,10 +6,10 @@
 //! stand thy_control, and the engine, the boot and the scheme above it.
 #![tactic(auto)]
 
+mod between_checkpoints;
 mod cell;
 mod checkpoint;
 mod laws;
-mod steps;
 
 pub use cell::{Cell, StoreRule};
 pub use checkpoint::{committed_entry, committed_page, sealed_entry, sealed_page};
