@@ -1,5 +1,10 @@
-//! What every other crate stands on: blocks, bytes, the configuration and its sizes, the numbers
-//! drawn for schedules, and the traits of the outside world.
+//! What every other crate stands on: blocks, bytes, the configuration and its sizes, the numbers drawn for schedules,
+//! and the traits of the outside world. Callers rest on `Geometry::new`, which gives a geometry exactly where each
+//! field is in its range, and on the clauses of `Nvm`, `Shelf`, `Sink` and `BlockStore`, all that is known of what is
+//! behind them.
+//!
+//! Open specs/Device.antt and src/nvm.rt first, then specs/Geometry.antt. It stands on no crate of this repository;
+//! every other stands on it.
 #![tactic(auto)]
 
 mod block;

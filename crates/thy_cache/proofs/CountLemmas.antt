@@ -1,10 +1,11 @@
 -- How many lines are dirty after a change.
 use Rattle.std.proofs.Common.{◌≡◌, ℕ, ◌+◌, ◌^◌, ◌<◌, ◌≤◌, cond, length, slice_set, Option, None, arith}
+use Rattle.std.specs.Prelude.{sum_by}
 use Rattle.std.proofs.lemmas.List.{length-set}
 use Rattle.std.proofs.lemmas.List.Sums.{sum_by-set, sum_by-le-sum_by, count_by-le-length}
 use Rattle.thy_cache.specs.declared.line.Line.{Line}
 use Rattle.thy_cache.specs.Ways.{Ways, line_at, is_dirty, dirty_lines}
-use Rattle.thy_cache.specs.Contents.{Contents, IsSound, no_ways, set_at, with_set, dirty_count, way_count}
+use Rattle.thy_cache.specs.Contents.{Contents, IsSound, no_ways, set_at, with_set, dirty_count}
 use Rattle.thy_cache.proofs.AgreeLemmas.{rewritten}
 
 -- a dirty line counts as one
@@ -22,6 +23,10 @@ dirty_count-with_set c s set inside = sum_by-set dirty_lines c.sets s set no_way
 -- a set's number of lines
 abbrev pub width : Ways → ℕ
 width set = length set.lines
+
+-- how many ways there are
+abbrev pub way_count : Contents → ℕ
+way_count c = sum_by width c.sets
 
 -- the number of ways is as before
 pub way_count-with_set : (c : Contents) (s : ℕ) (set : Ways) → s < length c.sets → width set ≡ width (set_at c s) → way_count (with_set s set c) ≡ way_count c

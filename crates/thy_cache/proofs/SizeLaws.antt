@@ -9,8 +9,8 @@ use Rattle.thy_base.specs.declared.store.Stored.{Stored}
 use Rattle.thy_base.specs.declared.store.Stored.TheVariants.{Done, CopyFirst}
 use Rattle.thy_cache.specs.declared.line.Line.{Line}
 use Rattle.thy_cache.specs.Ways.{Ways, line_at, way_of, used_for, written_to, filled, over_line, clean, fresh_line, victim_way, empty_ways}
-use Rattle.thy_cache.specs.Contents.{Contents, IsSized, KeepsSize, empty_cache, no_ways, set_at, set_of, index_of, with_set, read_from, written_at, filled_with, stored_at, dirty_count, way_count}
-use Rattle.thy_cache.proofs.CountLemmas.{width, dirty_count-le}
+use Rattle.thy_cache.specs.Contents.{Contents, IsSized, KeepsSize, empty_cache, no_ways, set_at, set_of, index_of, with_set, read_from, written_at, filled_with, stored_at, dirty_count}
+use Rattle.thy_cache.proofs.CountLemmas.{width, way_count, dirty_count-le}
 use Rattle.thy_cache.proofs.WriteLaws.{used_for-lines, written-width}
 
 -- no more lines are dirty than sets and ways make

@@ -76,10 +76,6 @@ is_dirty_victim (Dirty b) = true
 abbrev pub dirty_count : Contents → ℕ
 dirty_count c = sum_by dirty_lines c.sets
 
--- how many ways there are
-abbrev pub way_count : Contents → ℕ
-way_count c = sum_by (λ set. length set.lines) c.sets
-
 -- a cache of so many sets of so many ways each
 pub record IsSized (sets ways : ℕ) (c : Contents) : Type 0 where
   pub set_count : length c.sets ≡ sets

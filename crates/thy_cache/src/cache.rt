@@ -233,7 +233,8 @@ impl Cache {
 
         // The flat list is as before, and the block hits now.
         ensures hit { OnOk result (hits self.new b ≡ true) }
-        ensures flat { OnOk result (flat self.new (S.holding store.new nvm.new).blocks ≡ flat self.old (S.holding store.old nvm.old).blocks) }
+        ensures flat { OnOk result
+            (flat self.new (S.holding store.new nvm.new).blocks ≡ flat self.old (S.holding store.old nvm.old).blocks) }
         ensures agree { OnOk result (Agrees self.new (S.holding store.new nvm.new).blocks) }
         ensures dirty { dirty_count self.new ≡ dirty_count self.old }
         ensures sized { KeepsSize self.old self.new }
@@ -287,12 +288,14 @@ impl Cache {
         requires ready { (S.holding store.old nvm.old).ready ≡ true }
         requires room { dirty_count self.old ≤ (S.holding store.old nvm.old).free }
         ensures cache { IfOk result (λ stored. self.new ≡ stored_at stored set way self.old) }
-        ensures store { IfOk result (λ stored. StoresLine stored (line_at (set_at self.old set) way) (S.holding store.old nvm.old) (S.holding store.new nvm.new)) }
+        ensures store { IfOk result (λ stored.
+            StoresLine stored (line_at (set_at self.old set) way) (S.holding store.old nvm.old) (S.holding store.new nvm.new)) }
         ensures err { OnErr result (self.new ≡ self.old) }
 
         ensures peeks { PeeksSame self.old self.new }
         ensures hits { HitsSame self.old self.new }
-        ensures flat { OnOk result (flat self.new (S.holding store.new nvm.new).blocks ≡ flat self.old (S.holding store.old nvm.old).blocks) }
+        ensures flat { OnOk result
+            (flat self.new (S.holding store.new nvm.new).blocks ≡ flat self.old (S.holding store.old nvm.old).blocks) }
         ensures agree { OnOk result (Agrees self.new (S.holding store.new nvm.new).blocks) }
         ensures dirty { IfOk result (λ stored. CountsStored stored (dirty_count self.old) (dirty_count self.new)) }
         ensures sized { KeepsSize self.old self.new }
@@ -325,14 +328,16 @@ impl Cache {
         requires ready { (S.holding store.old nvm.old).ready ≡ true }
         requires room { dirty_count self.old ≤ (S.holding store.old nvm.old).free }
         ensures cache { IfOk result (λ stored. self.new ≡ evicted_for stored b self.old) }
-        ensures store { IfOk result (λ stored. StoresLine stored (victim_line_of self.old b) (S.holding store.old nvm.old) (S.holding store.new nvm.new)) }
+        ensures store { IfOk result (λ stored.
+            StoresLine stored (victim_line_of self.old b) (S.holding store.old nvm.old) (S.holding store.new nvm.new)) }
         ensures err { OnErr result (self.new ≡ self.old) }
         ensures room { result ≡ Ok Stored.Done → victim_of self.new b ≡ Victim.Room }
 
         // What the lines hold stays, and the flat list is as before.
         ensures peeks { PeeksSame self.old self.new }
         ensures hits { HitsSame self.old self.new }
-        ensures flat { OnOk result (flat self.new (S.holding store.new nvm.new).blocks ≡ flat self.old (S.holding store.old nvm.old).blocks) }
+        ensures flat { OnOk result
+            (flat self.new (S.holding store.new nvm.new).blocks ≡ flat self.old (S.holding store.old nvm.old).blocks) }
         ensures agree { OnOk result (Agrees self.new (S.holding store.new nvm.new).blocks) }
         ensures dirty { IfOk result (λ stored. CountsStored stored (dirty_count self.old) (dirty_count self.new)) }
         ensures sized { KeepsSize self.old self.new }
@@ -373,12 +378,14 @@ impl Cache {
         // Once no line is dirty the store's list is the flat list.
         ensures clean { (result ≡ Ok Flushed.Clean) ↔ (dirty_count self.old ≡ 0) }
         ensures none { result ≡ Ok Flushed.Clean → HasNoneDirty self.new }
-        ensures written { result ≡ Ok Flushed.Clean → flat self.new (S.holding store.new nvm.new).blocks ≡ (S.holding store.new nvm.new).blocks }
+        ensures written { result ≡ Ok Flushed.Clean →
+            flat self.new (S.holding store.new nvm.new).blocks ≡ (S.holding store.new nvm.new).blocks }
 
         // What the lines hold stays, and the flat list is as before.
         ensures peeks { PeeksSame self.old self.new }
         ensures hits { HitsSame self.old self.new }
-        ensures flat { OnOk result (flat self.new (S.holding store.new nvm.new).blocks ≡ flat self.old (S.holding store.old nvm.old).blocks) }
+        ensures flat { OnOk result
+            (flat self.new (S.holding store.new nvm.new).blocks ≡ flat self.old (S.holding store.old nvm.old).blocks) }
         ensures agree { OnOk result (Agrees self.new (S.holding store.new nvm.new).blocks) }
         ensures dirty { IfOk result (λ flushed. CountsFlushed flushed (dirty_count self.old) (dirty_count self.new)) }
         ensures sized { KeepsSize self.old self.new }

@@ -1,4 +1,4 @@
--- Laws of the steps between two checkpoints, for one block and for the other blocks of its page.
+-- Laws of what is done to a block between two checkpoints, for the block and for the others of its page.
 use Rattle.std.specs.Prelude.{◌≡◌, ◌≢◌, ℕ, ◌%◌, ◌<◌, Bool, true, false}
 use Rattle.thy_base.specs.declared.block.Block.{Block}
 use Rattle.thy_base.specs.declared.config.Parameters.{Parameters}

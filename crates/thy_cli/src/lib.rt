@@ -1,5 +1,9 @@
-//! The top call, which does all that the program does: from the words of a command line to the exit
-//! status.
+//! The top call, which does all that the program does: from the words of a command line to the exit status. The
+//! contract of `thynvm` is the theorem of this repository.
+//!
+//! Open src/top.rt first, then specs/Answering.antt. It stands on thy_core and thy_dual, whose machine it names, on
+//! thy_run, on thy_words, thy_elf, thy_make, thy_plain, thy_text and thy_record, and on what those stand on; on it stand
+//! the program and the tests.
 #![tactic(auto)]
 
 mod answer;

@@ -1,5 +1,9 @@
-//! The machine of hart, cache and a scheme of checkpoints, as definitions: what holds of it at every moment of a run, what
-//! each cycle makes of it, whatever the scheme, and the laws by which it is one of the machines that the layers above run.
+//! The machine of hart, cache and a scheme of checkpoints, as definitions: what holds of it at every moment of a run,
+//! what each cycle makes of it, whatever the scheme, and the laws by which it is one of the machines that the layers
+//! above run. The last of them is `the_machine_is_lawful`.
+//!
+//! Open specs/Sound.antt first, then specs/Rows.antt, and src/laws.rt. It stands on thy_hart, thy_cache, thy_epoch,
+//! thy_scheme and what those stand on; on it stands thy_core, and thy_dual_model for the bound of an epoch's length.
 #![tactic(auto)]
 
 mod laws;

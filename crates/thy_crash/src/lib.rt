@@ -2,7 +2,10 @@
 //!
 //! A checkpoint is a whole image, the one to be found. Which of its places tell what it means is a function of the
 //! image, a list. The laws say what each call of a device keeps of it and how the next one takes its place; a
-//! controller owes that its other writes spare the guarded places.
+//! controller owes that its other writes spare the guarded places. `a_cut_leaves_a_copy` is the first of them.
+//!
+//! Open specs/Saved.antt first, then specs/Laws.antt and src/laws.rt. It stands on thy_base alone; on it stand
+//! thy_record, thy_control and thy_protocol, and the engine, the boot and the scheme above them.
 #![tactic(auto)]
 
 mod checkpoint;

@@ -1,4 +1,9 @@
-//! A list of blocks as a list of bytes, and the spans of it that one instruction or call moves.
+//! A list of blocks as a list of bytes, and the spans of it that one instruction or call moves. Callers rest on
+//! `take_head` and `Span`'s calls, which are exact, and on `spans_are_bytes`: what is gathered of a span are the bytes
+//! that stand there, and what is scattered over one changes those and no other.
+//!
+//! Open specs/Spans.antt and src/piece.rt first. It stands on thy_base; on it stand thy_isa, thy_hart, thy_record and
+//! what is above them.
 #![tactic(auto)]
 
 mod laws;

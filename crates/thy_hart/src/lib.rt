@@ -1,4 +1,9 @@
-//! One hart: an instruction in micro-steps through a write-back cache, over any store of blocks.
+//! One hart: an instruction in micro-steps through a write-back cache, over any store of blocks. Callers rest on
+//! `Hart::step`, which is exact, and on `the_next_state_is_to_come`: the step that retires an instruction makes the
+//! plain machine's next state.
+//!
+//! Open specs/Moments.antt first, then specs/Steps.antt, and src/hart.rt. It stands on thy_base, thy_flat, thy_isa,
+//! thy_cache and thy_epoch; on it stand thy_core_model and thy_core.
 #![tactic(auto)]
 
 mod bring;

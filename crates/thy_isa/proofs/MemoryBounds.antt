@@ -11,7 +11,7 @@ use Rattle.thy_isa.specs.declared.instr.Width.TheVariants.{Byte, Half, Word, Dou
 use Rattle.thy_isa.specs.declared.instr.Extend.{Extend}
 use Rattle.thy_isa.specs.declared.instr.Extend.TheVariants.{Sign, Zero}
 use Rattle.thy_isa.specs.Effects.{size_of}
-use Rattle.thy_isa.specs.Memory.{extended}
+use Rattle.thy_isa.specs.Extending.{extended}
 use Rattle.thy_isa.specs.Storable.{IsNumber, IsByte}
 use Rattle.thy_isa.proofs.NumberBounds.{if_number}
 

@@ -18,12 +18,17 @@ use Rattle.thy_isa.specs.declared.state.Moves.{Moves}
 use Rattle.thy_isa.specs.Access.{IsWithin, HasRead}
 use Rattle.thy_isa.specs.Calls.{IsFit, call_of}
 use Rattle.thy_isa.specs.Effects.{size_of}
-use Rattle.thy_isa.specs.Moves.{AreSpans, no_moves, call_moves, moves_of, call_brings, brings}
+use Rattle.thy_isa.specs.Moves.{no_moves, call_moves, moves_of, call_brings, brings}
 use Rattle.thy_isa.specs.OnBlocks.{calls_in}
 use Rattle.thy_isa.specs.Step.{AreCallsOf}
 use Rattle.thy_isa.proofs.CallLaws.{call_of-fit}
 use Rattle.thy_isa.proofs.MemoryBounds.{length-number_bytes}
 use Rattle.thy_base.proofs.RangeLemmas.{console_below, console_most}
+
+-- what is moved are spans of so many blocks
+pub record AreSpans (blocks : ℕ) (m : Moves) : Type 0 where
+  pub from : IsSpanOf blocks m.from
+  pub to : IsSpanOf blocks m.to
 
 pub size_of-most : (w : Width) → size_of w ≤ 8
 size_of-most Byte = omega arith

@@ -1,5 +1,5 @@
 -- Where the effects of instructions read and write.
-use Rattle.std.specs.Prelude.{ℕ, ◌≡◌, ◌+◌, ◌%◌, ◌≤◌, List, length}
+use Rattle.std.specs.Prelude.{ℕ, ◌+◌, ◌≤◌, List, length}
 use Rattle.thy_isa.specs.declared.state.Effect.{Effect}
 use Rattle.thy_isa.specs.declared.state.Effect.TheVariants.{Next, Set, Read, Write, Environment, Trap}
 use Rattle.thy_isa.specs.Effects.{size_of}
@@ -12,15 +12,6 @@ IsWithin base size (Read pc at width extend rd) = (base ≤ at) × (at + size_of
 IsWithin base size (Write pc at width v) = (base ≤ at) × (at + size_of width ≤ base + size)
 IsWithin base size Environment = Unit {0}
 IsWithin base size (Trap c) = Unit {0}
-
--- a read or a write has an address that is a multiple of its width
-abbrev pub IsAligned : Effect → Type 0
-IsAligned (Next pc) = Unit {0}
-IsAligned (Set pc rd v) = Unit {0}
-IsAligned (Read pc at width extend rd) = at % size_of width ≡ 0
-IsAligned (Write pc at width v) = at % size_of width ≡ 0
-IsAligned Environment = Unit {0}
-IsAligned (Trap c) = Unit {0}
 
 -- an effect that reads a number has read as many bytes as it has
 abbrev pub HasRead : Effect → List ℕ → Type 0

@@ -4,7 +4,7 @@ pub mod Table
 pub mod Arith
 pub mod Effects
 pub mod Calls
-pub mod Memory
+pub mod Extending
 pub mod Step
 pub mod Moves
 pub mod OnBlocks

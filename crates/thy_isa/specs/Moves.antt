@@ -2,7 +2,7 @@
 -- that it writes. The blocks of the console follow those of program memory.
 use Rattle.std.specs.Prelude.{ℕ, ◌+◌, ◌-◌, List, [], take, drop}
 use Rattle.thy_base.specs.LittleEndian.{number_at, number_bytes}
-use Rattle.thy_flat.specs.Spans.{span, IsSpanOf}
+use Rattle.thy_flat.specs.Spans.{span}
 use Rattle.thy_isa.specs.declared.state.Call.{Call}
 use Rattle.thy_isa.specs.declared.state.Call.TheVariants.{Answer, Exit, Break, Take, Give}
 use Rattle.thy_isa.specs.declared.state.CallState.{CallState}
@@ -11,11 +11,6 @@ use Rattle.thy_isa.specs.declared.state.Effect.TheVariants.{Next, Set, Read, Wri
 use Rattle.thy_isa.specs.declared.state.Moves.{Moves}
 use Rattle.thy_isa.specs.Calls.{call_of}
 use Rattle.thy_isa.specs.Effects.{size_of}
-
--- what is moved are spans of so many blocks
-pub record AreSpans (blocks : ℕ) (m : Moves) : Type 0 where
-  pub from : IsSpanOf blocks m.from
-  pub to : IsSpanOf blocks m.to
 
 -- nothing is read, and nothing is written
 abbrev pub no_moves : Moves

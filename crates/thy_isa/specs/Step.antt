@@ -16,7 +16,7 @@ use Rattle.thy_isa.specs.declared.state.CpuState.{CpuState}
 use Rattle.thy_isa.specs.declared.state.MachState.{MachState}
 use Rattle.thy_isa.specs.Regs.{regs_with}
 use Rattle.thy_isa.specs.Calls.{call_of}
-use Rattle.thy_isa.specs.Memory.{extended}
+use Rattle.thy_isa.specs.Extending.{extended}
 use Rattle.thy_isa.specs.Effects.{size_of, after, word_effect}
 
 -- all that a program sees

@@ -1,27 +1,32 @@
-//! The instructions of RV64IM with FENCE.I: what each word means, what each instruction computes, and
-//! what one step does to the state of the plain machine.
+//! The instructions of RV64IM with FENCE.I: what each word means, what each instruction computes, and what one step
+//! does to the state of the plain machine. Callers rest on `decode`, `effect`, `call`, `moves` and `finish`, the parts
+//! of a step, all exact, and on `blocks_make_the_step`: done over blocks they are the step over bytes.
+//!
+//! Open specs/Step.antt first, then specs/Table.antt, and src/effects.rt. It stands on thy_base and thy_flat; every
+//! crate that names a processor or a state stands on it: thy_plain, thy_make, thy_hart, thy_record, thy_text and all
+//! from thy_control on.
 #![tactic(auto)]
 
 mod arith;
 mod decoding;
+mod effects;
 mod environment;
-mod finishing;
 mod instr;
 mod laws;
-mod memory;
 mod moving;
-mod perform;
+mod numbers;
 mod regs;
 mod state;
+mod step;
 
 pub use arith::alu;
 pub use decoding::{decode, is_legal};
+pub use effects::{after, bytes_in, effect, word_effect};
 pub use environment::call;
-pub use finishing::{cause_number, fetch_fault, finish, within};
 pub use instr::{Alu, Cond, Extend, Instr, Reg, Width};
 pub use laws::{blocks_make_the_step, what_a_step_keeps};
-pub use memory::{extended, number, put_number, word};
 pub use moving::{brought, moves, number_in};
-pub use perform::{after, bytes_in, effect, word_effect};
+pub use numbers::{extended, number, put_number, word};
 pub use regs::Regs;
 pub use state::{Call, CallState, Cause, CpuState, Effect, MachState, Moves, Status};
+pub use step::{cause_number, fetch_fault, finish, within};

@@ -8,10 +8,10 @@ ghost use Rattle.thy_isa.specs.Calls.{call_of};
 ghost use Rattle.thy_isa.specs.Effects.{size_of};
 ghost use Rattle.thy_isa.specs.Moves.{no_moves, moves_of, call_moves, brings, call_brings, number_in};
 
+use crate::effects::bytes_in;
 use crate::environment::call;
 use crate::instr::Width;
-use crate::memory::number;
-use crate::perform::bytes_in;
+use crate::numbers::number;
 use crate::regs::Regs;
 use crate::state::{Call, CallState, Effect, Moves};
 use thy_flat::{Piece, Span, extend};

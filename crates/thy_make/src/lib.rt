@@ -1,5 +1,7 @@
-//! Made programs, one for each number: 16,000 stores to pages that are drawn, some of which are stored to
-//! often, and an exit.
+//! Made programs, one for each number: 16,000 stores to pages that are drawn, some of which are stored to often, and an
+//! exit. `file` gives exactly the stated bytes; `made_files_are_images` says that the loader takes them.
+//!
+//! Open specs/Program.antt first, and src/made.rt. It stands on thy_base, thy_isa and thy_elf; on it stands thy_cli.
 #![tactic(auto)]
 
 mod encode;

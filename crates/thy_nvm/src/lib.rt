@@ -1,4 +1,8 @@
-//! The non-volatile memory, simulated in the memory of the host.
+//! The non-volatile memory, simulated in the memory of the host. `MemNvm` keeps the laws of the trait `Nvm`, and its
+//! cut leaves exactly the image of its pick.
+//!
+//! Open specs/Pick.antt first, and src/memory.rt. It stands on thy_base and thy_ring. The program and the tests use it;
+//! no other crate does, since each is proved for every device.
 #![tactic(auto)]
 
 mod kept;

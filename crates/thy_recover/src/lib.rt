@@ -1,5 +1,9 @@
-//! The boot. After power came on it reads the checkpoint in the NVM, a block a cycle, and gives it to the controller. Where
-//! there is none, it loads the start of a run: that becomes the checkpoint of epoch 0.
+//! The boot. After power came on it reads the checkpoint in the NVM, a block a cycle, and gives it to the controller.
+//! Where there is none, it loads the start of a run: that becomes the checkpoint of epoch 0. Callers rest on
+//! `Boot::step`, on `a_restart_is_the_kept_one` and on `steps_are_moves`.
+//!
+//! Open specs/Boot.antt first, then specs/Laws.antt, and src/step.rt. It stands on thy_control, thy_protocol and what
+//! those stand on; on it stand thy_dual_model and thy_dual.
 #![tactic(auto)]
 
 mod boot;

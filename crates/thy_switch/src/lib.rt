@@ -1,4 +1,8 @@
-//! The store counts of pages, by which a page is given a frame or loses it.
+//! The store counts of pages, by which a page is given a frame or loses it. `Counts` counts up to 63, and finds the
+//! least page above the one threshold, or below the other, exactly.
+//!
+//! Open specs/Counts.antt first, and src/counts.rt. It stands on thy_base; on it stand thy_control, and the engine, the
+//! boot and the scheme above it.
 #![tactic(auto)]
 
 mod counts;

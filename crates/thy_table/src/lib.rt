@@ -1,4 +1,8 @@
-//! A table of entries, each of which lists a number: what the tables of blocks and of pages stand on.
+//! A table of entries, each of which lists a number: what the tables of blocks and of pages stand on. `Table` takes
+//! each call exactly, and no number is listed twice.
+//!
+//! Open specs/Listing.antt first, and src/table.rt. It stands on thy_base; on it stand thy_tables and thy_control, and
+//! the engine, the boot and the scheme above them.
 #![tactic(auto)]
 
 mod keyed;

@@ -1,4 +1,8 @@
-//! Tests of the crates and of whole runs, by public calls.
+//! Tests of the crates and of whole runs, by public calls. They promise nothing that is proved; they show what no
+//! contract says: tables from outside, printed text, and whole runs with their cuts.
+//!
+//! Open src/runs.rt first, then src/cuts.rt. specs/ has what is asked of the values that tests pass on. It stands on
+//! all crates but thy_ring, thy_core_model, thy_dual_model, thy_run and thynvm; nothing stands on it.
 #![tactic(auto)]
 
 #[cfg(test)]

@@ -1,5 +1,7 @@
-//! The command line: what the words after the program's name ask for, as a command with its
-//! configuration, or why they are refused.
+//! The command line: what the words after the program's name ask for, as a command with its configuration, or why they
+//! are refused. `settings` is exact in both.
+//!
+//! Open specs/Settings.antt first, and src/words.rt. It stands on thy_base, and on `clap`; on it stands thy_cli.
 #![tactic(auto)]
 
 mod fields;

@@ -1,5 +1,8 @@
-//! The program: runs a guest program on the machine, cuts its power where the words say so, and
-//! reports what happens.
+//! The program: runs a guest program on the machine, cuts its power where the words say so, and reports what happens.
+//! `main` makes the real shelf, sinks and device, calls `thynvm` of thy_cli with the words, and exits with its status.
+//!
+//! This is the one file, without a contract of its own. It stands on thy_cli, thy_out and thy_nvm; nothing stands on
+//! it.
 #![tactic(auto)]
 
 use std::alloc::{AllocError, Global};

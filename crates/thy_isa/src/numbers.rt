@@ -1,14 +1,14 @@
 //! Numbers in memory, the lowest byte first.
-#![tactic(auto, unfolding(thy_base::specs::LittleEndian::number_at, thy_base::specs::LittleEndian::number_bytes, crate::specs::Memory::extended))]
+#![tactic(auto, unfolding(thy_base::specs::LittleEndian::number_at, thy_base::specs::LittleEndian::number_bytes, crate::specs::Extending::extended))]
 
 ghost use Rattle.std.specs.Prelude.{◌≡◌, ◌+◌, ◌≤◌, length};
 ghost use Rattle.thy_base.specs.Bytes.{written};
 ghost use Rattle.thy_base.specs.LittleEndian.{number_at, number_bytes};
 ghost use Rattle.thy_isa.specs.Effects.{size_of};
-ghost use Rattle.thy_isa.specs.Memory.{extended};
+ghost use Rattle.thy_isa.specs.Extending.{extended};
 
+use crate::effects::bytes_in;
 use crate::instr::{Extend, Width};
-use crate::perform::bytes_in;
 
 /// The number of `width` bytes from index `at` on.
 pub fn number(bytes: &[u8], at: usize, width: Width) -> u64

@@ -1,6 +1,6 @@
 use Rattle.std.proofs.Common.{rules}
 use Rattle.thy_isa.specs.Step.{served}
-use Rattle.thy_isa.proofs.finishing.serve.Goals as goal
+use Rattle.thy_isa.proofs.step.serve.Goals as goal
 
 pub returns-in-Answer : goal.returns-in-Answer
 unfolding served

@@ -1,4 +1,4 @@
-//! What the steps between two checkpoints make of a block's entries.
+//! What copies and the blocks of pages, between two checkpoints, make of a block's entries.
 ghost use Rattle.std.specs.Prelude.{◌≡◌, ◌<◌};
 ghost use Rattle.thy_cell.specs.Rules.{after_copy};
 ghost use Rattle.thy_cell.specs.Checkpoint.{with_filled, with_issued};

@@ -1,6 +1,6 @@
 use Rattle.std.proofs.Common.{rules}
 use Rattle.thy_isa.specs.Effects.{effect_of}
-use Rattle.thy_isa.proofs.perform.effect.Goals as goal
+use Rattle.thy_isa.proofs.effects.effect.Goals as goal
 
 pub returns-in-Jalr : goal.returns-in-Jalr
 unfolding effect_of

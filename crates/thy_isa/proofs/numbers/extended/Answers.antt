@@ -1,7 +1,7 @@
 use Rattle.std.proofs.Common.{arith}
 use Rattle.std.proofs.lemmas.Grind.{common_steps}
-use Rattle.thy_isa.specs.Memory.{extended}
-use Rattle.thy_isa.proofs.memory.extended.Goals as goal
+use Rattle.thy_isa.specs.Extending.{extended}
+use Rattle.thy_isa.proofs.numbers.extended.Goals as goal
 
 pub returns-in-Word : goal.returns-in-Word
 unfolding extended

@@ -5,10 +5,10 @@ ghost use Rattle.std.specs.Prelude.{◌≡◌, ◌+◌, ◌<◌, ◌^◌};
 ghost use Rattle.thy_isa.specs.Calls.{call_of};
 ghost use Rattle.thy_isa.specs.Step.{fetch_fault, within, cause_number, AreCallsOf, answered, served, finished};
 
+use crate::effects::{after, bytes_in};
 use crate::environment::call;
 use crate::instr::Reg;
-use crate::memory::extended;
-use crate::perform::{after, bytes_in};
+use crate::numbers::extended;
 use crate::state::{Call, CallState, Cause, CpuState, Effect, Status};
 use thy_base::is_inside;
 
