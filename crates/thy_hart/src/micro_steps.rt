@@ -13,7 +13,7 @@ ghost use Rattle.thy_isa.specs.OnBlocks.{calls_in};
 ghost use Rattle.thy_isa.specs.Step.{AreCallsOf, is_running};
 ghost use Rattle.thy_hart.specs.Core.{IsReading, IsWriting, IsSound, fetched_block, next_block, blocks_of, read_len, reserved, to_reserve};
 ghost use Rattle.thy_hart.specs.Acts.{touched, written_by, block_written, room_reserved, room_answer, retired, over_or_retired, epoch_retired, given};
-ghost use Rattle.thy_hart.specs.Parts.{core_of, IsFound, IsNext, ReadsWord, FetchesEffect, FetchesIn, ReadsIn, WritesIn, Acts};
+ghost use Rattle.thy_hart.specs.MicroSteps.{core_of, IsFound, IsNext, ReadsWord, FetchesEffect, FetchesIn, ReadsIn, WritesIn, Acts};
 
 use crate::hand::{Hand, HartStep, Next, begun, written_on};
 use thy_base::{EndCause, Geometry};

@@ -1,10 +1,10 @@
 use Rattle.std.proofs.Common.{length, subst}
 use Rattle.thy_hart.specs.Acts.{given}
 use Rattle.thy_hart.specs.Core.{IsInHand}
-use Rattle.thy_hart.specs.Parts.{core_of}
+use Rattle.thy_hart.specs.MicroSteps.{core_of}
 use Rattle.thy_hart.proofs.ActLemmas.{Acts-fetch, Acts-read, Acts-write}
 use Rattle.thy_hart.proofs.HandLemmas.{room_reserved-sound}
-use Rattle.thy_hart.proofs.parts.Parts.act.Goals as goal
+use Rattle.thy_hart.proofs.micro_steps.Parts.act.Goals as goal
 
 pub returns-in-Nothing-clause-acts : goal.returns-in-Nothing-clause-acts
 returns-in-Nothing-clause-acts c =

@@ -5,7 +5,7 @@ use Rattle.thy_flat.specs.declared.span.Span.{Span}
 use Rattle.thy_flat.specs.Spans.{first_block, first_byte, rest_of}
 use Rattle.thy_hart.specs.Acts.{written_on}
 use Rattle.thy_hart.proofs.HandLemmas.{write-sound}
-use Rattle.thy_hart.proofs.parts.Parts.write.Goals as goal
+use Rattle.thy_hart.proofs.micro_steps.Parts.write.Goals as goal
 
 pub returns-clause-sound : goal.returns-clause-sound
 returns-clause-sound c = record {

@@ -3,7 +3,7 @@ use Rattle.thy_base.specs.Blocks.{block_bytes}
 use Rattle.thy_base.specs.LittleEndian.{number_at}
 use Rattle.thy_cache.specs.Flat.{ReadsAs}
 use Rattle.thy_hart.proofs.FetchLemmas.{word_read}
-use Rattle.thy_hart.proofs.parts.fetch_word.Goals as goal
+use Rattle.thy_hart.proofs.micro_steps.fetch_word.Goals as goal
 
 pub returns-clause-word : goal.returns-clause-word
 returns-clause-word c =

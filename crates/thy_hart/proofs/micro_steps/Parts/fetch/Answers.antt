@@ -1,7 +1,7 @@
 use Rattle.thy_hart.proofs.HandLemmas.{fetch-sound, begun-unreserved}
 use Rattle.thy_hart.specs.Core.{reserved}
 use Rattle.std.proofs.Common.{◌∙◌, ap}
-use Rattle.thy_hart.proofs.parts.Parts.fetch.Goals as goal
+use Rattle.thy_hart.proofs.micro_steps.Parts.fetch.Goals as goal
 
 pub returns-clause-sound : goal.returns-clause-sound
 returns-clause-sound c = record {

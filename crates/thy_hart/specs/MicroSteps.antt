@@ -15,7 +15,7 @@ use Rattle.thy_isa.specs.OnBlocks.{effect_in}
 use Rattle.thy_hart.specs.declared.hand.HartStep.{HartStep}
 use Rattle.thy_hart.specs.declared.hand.Next.{Next}
 use Rattle.thy_hart.specs.declared.hand.Next.TheVariants.{Bring, Act}
-use Rattle.thy_hart.specs.declared.parts.Parts.{Parts}
+use Rattle.thy_hart.specs.declared.micro_steps.Parts.{Parts}
 use Rattle.thy_hart.specs.Core.{Core, next_block, reserved}
 use Rattle.thy_hart.specs.Acts.{Given, fetched, block_read, acted_by, answer_by, memory_by, cache_by}
 

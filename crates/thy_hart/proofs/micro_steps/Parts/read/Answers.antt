@@ -3,7 +3,7 @@ use Rattle.thy_flat.specs.declared.span.Span.{Span}
 use Rattle.thy_hart.specs.Acts.{begun}
 use Rattle.thy_hart.specs.Core.{reserved}
 use Rattle.thy_hart.proofs.HandLemmas.{read-sound, begun-unreserved}
-use Rattle.thy_hart.proofs.parts.Parts.read.Goals as goal
+use Rattle.thy_hart.proofs.micro_steps.Parts.read.Goals as goal
 
 pub returns-clause-sound : goal.returns-clause-sound
 returns-clause-sound c = record {

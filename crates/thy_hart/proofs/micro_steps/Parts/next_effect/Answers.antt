@@ -1,8 +1,8 @@
 use Rattle.std.proofs.Common.{◌∙◌, sym, ap, subst}
 use Rattle.thy_hart.specs.Acts.{touched}
-use Rattle.thy_hart.specs.Parts.{IsFound}
+use Rattle.thy_hart.specs.MicroSteps.{IsFound}
 use Rattle.thy_hart.proofs.FetchLemmas.{fetched_low, fetched_whole, fetched_some, fetched_not, effect_read, tested}
-use Rattle.thy_hart.proofs.parts.Parts.next_effect.Goals as goal
+use Rattle.thy_hart.proofs.micro_steps.Parts.next_effect.Goals as goal
 
 pub overflow_sub-at : goal.overflow_sub-at
 overflow_sub-at c =

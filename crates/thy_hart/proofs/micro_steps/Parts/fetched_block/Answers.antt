@@ -1,5 +1,5 @@
 use Rattle.thy_hart.proofs.FetchLemmas.{fetched_low}
-use Rattle.thy_hart.proofs.parts.Parts.fetched_block.Goals as goal
+use Rattle.thy_hart.proofs.micro_steps.Parts.fetched_block.Goals as goal
 
 pub overflow_sub-self : goal.overflow_sub-self
 overflow_sub-self c =
