@@ -3,7 +3,7 @@ use Rattle.std.specs.List.{fold, range_with_len}
 use Rattle.thy_elf.specs.Header.{header_of}
 use Rattle.thy_elf.specs.Image.{reached}
 use Rattle.thy_elf.specs.ProgramHeader.{indices_of}
-use Rattle.thy_elf.proofs.memory.floor.Given as goal
+use Rattle.thy_elf.proofs.segments.floor.Given as goal
 
 abbrev pub invariant-loop-k : goal.invariant-loop-k
 invariant-loop-k l = record {

@@ -2,7 +2,7 @@ use Rattle.std.proofs.Common.{◌≡◌, ◌+◌, ◌-◌, length, take, drop, r
 use Rattle.std.proofs.lemmas.List.{length-replicate, length-take, length-drop}
 use borrow.Rule.Slice.PartMut.{put_mid}
 use Rattle.thy_elf.proofs.MemoryLemmas.{put_mid_twice, length-put_mid}
-use Rattle.thy_elf.proofs.memory.write_padded.Goals as goal
+use Rattle.thy_elf.proofs.segments.write_padded.Goals as goal
 
 pub returns : goal.returns
 returns c =
