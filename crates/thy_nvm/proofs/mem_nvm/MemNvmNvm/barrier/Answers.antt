@@ -1,9 +1,9 @@
 use Rattle.std.proofs.Common.{length, sym, ◌∙◌, ap, subst}
 use Rattle.thy_base.specs.Device.{IsFramed, settled}
 use Rattle.thy_base.proofs.DeviceLemmas.{length-applied}
-use Rattle.thy_nvm.specs.Memory.{device_in}
+use Rattle.thy_nvm.specs.DeviceInMemory.{device_in}
 use Rattle.thy_nvm.proofs.BarrierLemmas.{IsFramed-settled}
-use Rattle.thy_nvm.proofs.memory.MemNvmNvm.barrier.Goals as goal
+use Rattle.thy_nvm.proofs.mem_nvm.MemNvmNvm.barrier.Goals as goal
 
 pub invariant_of-self : goal.invariant_of-self
 invariant_of-self c =

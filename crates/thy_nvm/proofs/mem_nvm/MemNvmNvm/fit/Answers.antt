@@ -1,5 +1,5 @@
 use Rattle.std.proofs.Common.{rules}
-use Rattle.thy_nvm.proofs.memory.MemNvmNvm.fit.Goals as goal
+use Rattle.thy_nvm.proofs.mem_nvm.MemNvmNvm.fit.Goals as goal
 
 pub returns-in-Ok-clause-ok : goal.returns-in-Ok-clause-ok
 returns-in-Ok-clause-ok c = search rules

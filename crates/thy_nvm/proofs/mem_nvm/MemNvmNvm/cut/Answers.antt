@@ -2,10 +2,10 @@ use Rattle.std.proofs.Common.{length, sym, ap, ◌∙◌}
 use Rattle.thy_base.specs.Device.{cut_to}
 use Rattle.thy_ring.specs.Held.{device_of}
 use Rattle.thy_nvm.specs.Kept.{with_cut}
-use Rattle.thy_nvm.specs.Memory.{device_in}
+use Rattle.thy_nvm.specs.DeviceInMemory.{device_in}
 use Rattle.thy_nvm.specs.Pick.{picked}
 use Rattle.thy_nvm.proofs.PickLemmas.{Crash-picked, IsCut-picked}
-use Rattle.thy_nvm.proofs.memory.MemNvmNvm.cut.Goals as goal
+use Rattle.thy_nvm.proofs.mem_nvm.MemNvmNvm.cut.Goals as goal
 
 pub keep-requires-clause-size : goal.keep-requires-clause-size
 keep-requires-clause-size c =

@@ -1,7 +1,7 @@
 //! A device that lies in the memory of the host.
 ghost use Rattle.std.specs.Prelude.{◌≡◌, ◌<◌, ◌≤◌, false, length, IfOk, OnOk, OnErr, IfErr, slice_index_or, []};
 ghost use Rattle.thy_base.specs.Device.{Device, newest, block_at, written_to, drained, settled, fitted, cut_to, IsCut, IsFramed, HasFailed, HasFailedToWrite, HasFailedToFit, CountsFault};
-ghost use Rattle.thy_nvm.specs.Memory.{fresh_device};
+ghost use Rattle.thy_nvm.specs.DeviceInMemory.{fresh_device};
 ghost use Rattle.thy_nvm.specs.Pick.{picked};
 
 use crate::kept::Kept;
@@ -23,7 +23,7 @@ pub struct MemNvm {
 impl Model for MemNvm {
     ghost use Rattle.std.specs.Prelude.{◌≡◌, length};
     ghost use Rattle.thy_base.specs.Device.{Device};
-    ghost use Rattle.thy_nvm.specs.Memory.{device_in};
+    ghost use Rattle.thy_nvm.specs.DeviceInMemory.{device_in};
 
     ghost Value = { Device };
 
