@@ -9,8 +9,8 @@ ghost use Rattle.thy_elf.specs.Refusal.{IsRefusal};
 
 use crate::error::ElfError;
 use crate::header::{header_refusal, read_header};
-use crate::memory::{floor, write_segments};
 use crate::program_header::{header_count, segment_refusal, some_needs_loader};
+use crate::segments::{floor, write_segments};
 use std::alloc::{AllocError, Global};
 use thy_base::Bytes;
 

@@ -7,9 +7,9 @@
 mod error;
 mod header;
 mod image;
-mod memory;
 mod number;
 mod program_header;
+mod segments;
 
 pub use error::ElfError;
 pub use image::{Image, read};

@@ -10,7 +10,7 @@ use Rattle.thy_hart.specs.declared.hand.Hand.TheVariants.{Nothing, Reading, Writ
 use Rattle.thy_hart.specs.declared.hand.HartStep.TheVariants.{Moved}
 use Rattle.thy_hart.specs.Core.{Core, block_for, fetched_block, reserved, IsWriting}
 use Rattle.thy_hart.specs.Acts.{Given, block_written, acted_by, answer_by, memory_by, touched, written_by, cache_by}
-use Rattle.thy_hart.specs.Parts.{FetchesIn, ReadsIn, WritesIn, Acts}
+use Rattle.thy_hart.specs.MicroSteps.{FetchesIn, ReadsIn, WritesIn, Acts}
 use Rattle.thy_hart.proofs.HandLemmas.{blocks_of-least, written_on-reserved}
 
 pub Acts-fetch : (g : Given) (c d : Contents) (old new : Core) → old.hand ≡ Nothing → FetchesIn g.input c old new → reserved new.hand ≡ 0 → KeepsLines c d

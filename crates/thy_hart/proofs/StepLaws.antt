@@ -19,7 +19,7 @@ use Rattle.thy_hart.specs.Core.{Core, fetched_block, block_for, next_block, rese
 use Rattle.thy_hart.specs.Acts.{Given, acted_by, answer_by, memory_by}
 use Rattle.thy_hart.specs.Bring.{IsNearer, BringsLine, IsBrought}
 use Rattle.thy_hart.specs.Moments.{Moment, moment, is_missing, IsOpenInTheWay, IsOpenFor, IsReady, touch_left}
-use Rattle.thy_hart.specs.Parts.{HitsNext, Acts}
+use Rattle.thy_hart.specs.MicroSteps.{HitsNext, Acts}
 use Rattle.thy_hart.specs.Steps.{coming, ComesNearer, Nears, Closes, IsStep}
 use Rattle.thy_hart.proofs.FetchLemmas.{fetched_inside, word_inside, unless_some}
 use Rattle.thy_hart.proofs.HandLemmas.{first_block-inside}

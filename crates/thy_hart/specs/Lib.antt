@@ -2,6 +2,6 @@ pub mod Core
 pub mod Acts
 pub mod Moments
 pub mod Bring
-pub mod Parts
+pub mod MicroSteps
 pub mod Steps
 pub mod Laws

@@ -11,7 +11,7 @@ ghost use Rattle.thy_hart.specs.Steps.{IsStep};
 
 use crate::bring::bring;
 use crate::hand::{Hand, HartStep, Next};
-use crate::parts::Parts;
+use crate::micro_steps::Parts;
 use std::marker::Model;
 use thy_base::{BlockStore, Geometry, NvmError};
 use thy_cache::Cache;
@@ -30,7 +30,7 @@ impl Model for Hart {
 
     ghost Value = { Core };
 
-    ghost use Rattle.thy_hart.specs.Parts.{core_of};
+    ghost use Rattle.thy_hart.specs.MicroSteps.{core_of};
 
     ghost view = { λ h. core_of h.parts };
 

@@ -1,6 +1,6 @@
 //! One hart: an instruction in micro-steps through a write-back cache, over any store of blocks. Callers rest on
-//! `Hart::step`, which is exact, and on `the_next_state_is_to_come`: the step that retires an instruction makes the
-//! plain machine's next state.
+//! `Hart::step`, which is exact, and on `a_step_follows_on`: the step that retires an instruction makes the plain
+//! machine's next state.
 //!
 //! Open specs/Moments.antt first, then specs/Steps.antt, and src/hart.rt. It stands on thy_base, thy_flat, thy_isa,
 //! thy_cache and thy_epoch; on it stand thy_core_model and thy_core.
@@ -10,7 +10,7 @@ mod bring;
 mod hand;
 mod hart;
 mod laws;
-mod parts;
+mod micro_steps;
 
 pub use hand::{Hand, HartStep};
 pub use hart::Hart;

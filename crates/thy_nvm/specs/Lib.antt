@@ -1,3 +1,3 @@
 pub mod Kept
-pub mod Memory
+pub mod DeviceInMemory
 pub mod Pick

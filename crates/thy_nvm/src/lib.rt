@@ -1,12 +1,12 @@
 //! The non-volatile memory, simulated in the memory of the host. `MemNvm` keeps the laws of the trait `Nvm`, and its
 //! cut leaves exactly the image of its pick.
 //!
-//! Open specs/Pick.antt first, and src/memory.rt. It stands on thy_base and thy_ring. The program and the tests use it;
+//! Open specs/Pick.antt first, and src/mem_nvm.rt. It stands on thy_base and thy_ring. The program and the tests use it;
 //! no other crate does, since each is proved for every device.
 #![tactic(auto)]
 
 mod kept;
-mod memory;
+mod mem_nvm;
 mod pick;
 
-pub use memory::MemNvm;
+pub use mem_nvm::MemNvm;

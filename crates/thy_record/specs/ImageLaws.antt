@@ -95,7 +95,8 @@ pub record IsAlike (p : Parameters) (g h : List Block) : Type 0 where
   pub each : (x : ℕ) → Contains (looked p h) x → block_at g x ≡ block_at h x
 
 abbrev pub LookedDecides : Type 0
-LookedDecides = (p : Parameters) (ceiling : ℕ) (g h : List Block) → IsAlike p g h → decode_image p ceiling g ≡ decode_image p ceiling h
+LookedDecides =
+    (p : Parameters) (ceiling : ℕ) (g h : List Block) → IsAlike p g h → decode_image p ceiling g ≡ decode_image p ceiling h
 
 -- what decodes below a ceiling decodes to the same below a higher one
 abbrev pub CeilingGrows : Type 0

@@ -75,7 +75,8 @@ FreeIsNotLooked =
 -- of an image without a checkpoint no block but the commit block is
 abbrev pub NothingIsLooked : Type 0
 NothingIsLooked =
-    (p : Parameters) (image : List Block) (x : ℕ) → is_zero (block_at image 1) ≡ true → x ≢ 1 → ¬ Contains (1 ∷ looked p image) x
+    (p : Parameters) (image : List Block) (x : ℕ) → is_zero (block_at image 1) ≡ true → x ≢ 1
+    → ¬ Contains (1 ∷ looked p image) x
 
 -- ---- what was written so far
 
@@ -122,7 +123,8 @@ SlotGoesOn =
 -- a write to what is free for this checkpoint keeps it
 abbrev pub FreeKeepsIssuing : Type 0
 FreeKeepsIssuing =
-    (p : Parameters) (old new : Device) (cpu : CpuState) (t : Tables) (epoch : ℕ) (memory : List Block) (k : ℕ) (x : Target) (block : Block)
+    (p : Parameters) (old new : Device) (cpu : CpuState) (t : Tables) (epoch : ℕ) (memory : List Block) (k : ℕ)
+    (x : Target) (block : Block)
     → IsIssuing p old cpu t epoch memory k → k ≤ slot_blocks p → IsTarget p x → IsFree p epoch t x
     → new ≡ written_to old (target_number p x) block → IsIssuing p new cpu t epoch memory k
 

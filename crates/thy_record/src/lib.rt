@@ -7,6 +7,7 @@
 //! thy_isa; on it stand thy_text and all from thy_control on.
 #![tactic(auto)]
 
+mod block_words;
 mod commit;
 mod cpu;
 mod engine_step;
@@ -19,8 +20,8 @@ mod slot;
 mod start;
 mod table_faults;
 mod tables;
-mod words;
 
+pub use block_words::{block_with, word};
 pub use commit::{COMMIT_MAGIC, commit_block, commit_fault, is_zero};
 pub use cpu::{cpu_block, cpu_state, record_fault};
 pub use engine_step::EngineStep;
@@ -38,4 +39,3 @@ pub use restored::state;
 pub use slot::{cpu_in, listed_block, listed_page, slot_fault};
 pub use start::Start;
 pub use tables::{table_block, table_entry};
-pub use words::{block_with, word};

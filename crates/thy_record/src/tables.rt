@@ -3,7 +3,7 @@ ghost use Rattle.std.specs.Prelude.{◌≡◌, ◌^◌, ◌<◌, map};
 ghost use Rattle.thy_record.specs.TableBlocks.{entry_word as word_of_entry, entry_from, HaveWords};
 ghost use Rattle.thy_record.specs.Words.{word_of, block_of};
 
-use crate::words::{block_with, word};
+use crate::block_words::{block_with, word};
 use thy_base::Block;
 
 // An entry as a word: 0 where it is empty, else one more than its number.

@@ -1,7 +1,7 @@
 use Rattle.std.proofs.Common.{subst, arith}
 use Rattle.thy_hart.specs.Acts.{given}
 use Rattle.thy_hart.specs.Core.{Core, next_block, IsSound}
-use Rattle.thy_hart.specs.Parts.{core_of, IsNext, Acts}
+use Rattle.thy_hart.specs.MicroSteps.{core_of, IsNext, Acts}
 use Rattle.thy_hart.proofs.StepLaws.{next_block-inside, IsStep-brought, IsStep-acted}
 use Rattle.thy_hart.proofs.hart.Hart.step.Goals as goal
 use Rattle.thy_hart.proofs.hart.Hart.step.Goals.{in-Ok, in-Err}

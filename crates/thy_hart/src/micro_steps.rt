@@ -1,0 +1,358 @@
+//! The micro-steps of an instruction whose block is in the cache.
+#![tactic(auto, unfolding(crate::specs::Core::fetched_block, crate::specs::Acts::fetched, crate::specs::Acts::room_reserved, crate::specs::Acts::room_answer, thy_isa::specs::OnBlocks::effect_in, thy_isa::specs::OnBlocks::cpu_after))]
+
+ghost use Rattle.std.specs.Prelude.{◌≡◌, true, None, Some, ◌+◌, ◌*◌, ◌<◌, ◌≤◌, ◌^◌, [], length, drop};
+ghost use Rattle.arrayvec.specs.ArrayVec.{array_vec_len};
+ghost use Rattle.thy_base.specs.Geometry.{IsInRange, memory_blocks, program_size};
+ghost use Rattle.thy_cache.specs.Contents.{dirty_count, read_from, KeepsSize};
+ghost use Rattle.thy_cache.specs.Flat.{AgreesStill, KeepsLines};
+ghost use Rattle.thy_flat.specs.Spans.{first_block, first_byte};
+ghost use Rattle.thy_isa.specs.Access.{IsWithin};
+ghost use Rattle.thy_isa.specs.Moves.{brings};
+ghost use Rattle.thy_isa.specs.OnBlocks.{calls_in};
+ghost use Rattle.thy_isa.specs.Step.{AreCallsOf, is_running};
+ghost use Rattle.thy_hart.specs.Core.{IsReading, IsWriting, IsSound, fetched_block, next_block, blocks_of, read_len, reserved, to_reserve};
+ghost use Rattle.thy_hart.specs.Acts.{touched, written_by, block_written, room_reserved, room_answer, retired, over_or_retired, epoch_retired, given};
+ghost use Rattle.thy_hart.specs.MicroSteps.{core_of, IsFound, IsNext, ReadsWord, FetchesEffect, FetchesIn, ReadsIn, WritesIn, Acts};
+
+use crate::hand::{Hand, HartStep, Next, begun, written_on};
+use thy_base::{EndCause, Geometry};
+use thy_cache::{Cache, Place};
+use thy_epoch::EpochState;
+use thy_flat::{Piece, Span, take_head};
+use thy_isa::{
+    CallState, CpuState, Effect, Regs, Status, brought, fetch_fault, finish, moves, number_in,
+    within, word, word_effect,
+};
+
+/// What a hart is made of.
+#[derive(Drop)]
+pub(crate) struct Parts {
+    pub geometry: Geometry,
+    pub cpu: CpuState,
+    pub epoch: EpochState,
+    pub hand: Hand,
+    /// The bytes of the instruction in hand: those that it brought along or has read.
+    pub bytes: Piece,
+}
+
+/// The word of a span of four bytes within one block, whose line is at this place.
+fn fetch_word(cache: &mut Cache, at: Span, place: Option<Place>) -> u32
+    requires found { IsFound cache.old (Some (first_block at)) place }
+    requires len { at.len ≡ 4 }
+    requires whole { first_byte at + 4 ≤ 64 }
+    ensures word { ReadsWord cache.old at result }
+    ensures cache { cache.new ≡ read_from (first_block at) cache.old }
+    ensures lines { KeepsLines cache.old cache.new }
+{
+    match place {
+        Some(place) => {
+            let block = cache.read_at(at.first_block(), place);
+            word(block.bytes(), at.first_byte() as usize)
+        }
+        None => unreachable!(),
+    }
+}
+
+/// Takes the bytes that an effect brings along into a piece that has none. Most effects bring none.
+#[tactic(auto, unfolding(thy_isa::specs::Moves::brings))]
+fn bring_along(bytes: &mut Piece, input: &[u8], regs: &Regs, calls: &CallState, effect: &Effect)
+    requires empty { bytes.old.items ≡ [] }
+    requires input { calls.now.input_len ≡ length input.now }
+    ensures { bytes.new.items ≡ brings input.now regs.now calls.now effect.now }
+{
+    match *effect {
+        Effect::Write { .. } | Effect::Environment => {
+            *bytes = brought(input, regs, calls, effect);
+        }
+        Effect::Next { .. } | Effect::Set { .. } | Effect::Read { .. } | Effect::Trap(_) => {}
+    }
+}
+
+/// Whether a program of this status runs.
+fn runs(status: Status) -> bool
+    ensures { result ≡ is_running status }
+{
+    match status {
+        Status::Running => true,
+        Status::Exited(_) | Status::Trapped(_) => false,
+    }
+}
+
+/// How many blocks a span lies in that has bytes: 1 or 2.
+fn blocks_of(span: Span) -> u64
+    requires { span.at + span.len < 2 ^ 64 }
+    ensures { result ≡ blocks_of span }
+{
+    if span.rest().is_empty() { 1 } else { 2 }
+}
+
+impl Parts {
+    /// The block that the next micro-step reads or writes, if it does.
+    fn next_block(&self) -> Option<u64>
+        ensures { result ≡ next_block (core_of self.now) }
+    {
+        match self.hand {
+            Hand::Nothing => self.fetched_block(),
+            Hand::Reading { from, .. } => Some(from.first_block()),
+            Hand::Writing { to, .. } => Some(to.first_block()),
+            Hand::Reserving { .. } | Hand::Retiring { .. } => None,
+        }
+    }
+
+    /// How many blocks the instruction in hand is to reserve room for, if it is at that.
+    pub fn to_reserve(&self) -> Option<u64>
+        requires { IsSound (core_of self.now) }
+        ensures { result ≡ to_reserve self.now.hand }
+    {
+        match self.hand {
+            Hand::Reserving { to, .. } => Some(blocks_of(to)),
+            Hand::Nothing | Hand::Reading { .. } | Hand::Writing { .. } | Hand::Retiring { .. } =>
+                None,
+        }
+    }
+
+    /// What the next micro-step finds in the cache.
+    pub fn next(&self, cache: &Cache) -> Next
+        ensures { IsNext cache.now (next_block (core_of self.now)) result }
+    {
+        match self.next_block() {
+            None => Next::Act(None),
+            Some(b) => match cache.find(b) {
+                Some(place) => Next::Act(Some(place)),
+                None => Next::Bring(b),
+            },
+        }
+    }
+
+    /// The block of the word at the program counter, if that can be fetched.
+    fn fetched_block(&self) -> Option<u64>
+        ensures { result ≡ fetched_block self.now.geometry self.now.cpu }
+    {
+        let base = self.geometry.numbers().base;
+        let size = self.geometry.program_size();
+        match fetch_fault(base, size, self.cpu.pc) {
+            Some(_) => None,
+            None => Some(Span {
+                at: self.cpu.pc - base,
+                len: 4,
+            }
+            .first_block()),
+        }
+    }
+
+    /// The effect of the instruction at the program counter. Where that can't be fetched no line is touched.
+    fn next_effect(&self, cache: &mut Cache, place: Option<Place>) -> Effect
+        requires found { IsFound cache.old (fetched_block self.now.geometry self.now.cpu) place }
+        ensures effect { FetchesEffect self.now.geometry self.now.cpu cache.old result }
+        ensures inside { IsWithin self.now.geometry.base (program_size self.now.geometry) result }
+        ensures cache { cache.new ≡ touched cache.old (fetched_block self.now.geometry self.now.cpu) }
+        ensures lines { KeepsLines cache.old cache.new }
+    {
+        let base = self.geometry.numbers().base;
+        let size = self.geometry.program_size();
+        match fetch_fault(base, size, self.cpu.pc) {
+            Some(cause) => Effect::Trap(cause),
+            None => {
+                let at = Span {
+                    at: self.cpu.pc - base,
+                    len: 4,
+                };
+                let word = fetch_word(cache, at, place);
+                within(base, size, word_effect(word, self.cpu.pc, &self.cpu.regs))
+            }
+        }
+    }
+
+    /// What an environment call is decided by, with an input of so many bytes.
+    fn calls(&self, input_len: u64) -> CallState
+        ensures calls { result ≡ calls_in self.now.geometry self.now.cpu input_len }
+        ensures fits { AreCallsOf self.now.cpu result }
+    {
+        CallState {
+            cursor: self.cpu.cursor,
+            input_len,
+            console_len: self.cpu.console_len,
+            room: self
+                .geometry
+                .console_room()
+                .saturating_sub(self.cpu.console_len),
+            base: self.geometry.numbers().base,
+            size: self.geometry.program_size(),
+            floor: self.cpu.floor,
+            brk: self.cpu.brk,
+        }
+    }
+
+    /// Fetches the instruction at the program counter.
+    fn fetch(&mut self, cache: &mut Cache, place: Option<Place>, input: &[u8])
+        requires range { IsInRange self.old.geometry }
+        requires empty { array_vec_len self.old.bytes ≡ 0 }
+        requires found { IsFound cache.old (fetched_block self.old.geometry self.old.cpu) place }
+        ensures hart { FetchesIn input.now cache.old (core_of self.old) (core_of self.new) }
+        ensures sound { IsSound (core_of self.new) }
+        ensures unreserved { reserved self.new.hand ≡ 0 }
+        ensures cache { cache.new ≡ touched cache.old (fetched_block self.old.geometry self.old.cpu) }
+        ensures lines { KeepsLines cache.old cache.new }
+    {
+        let effect = self.next_effect(cache, place);
+        let calls = self.calls(input.len() as u64);
+        let moves = moves(&self.cpu.regs, &calls, &effect);
+        bring_along(&mut self.bytes, input, &self.cpu.regs, &calls, &effect);
+        self.hand = begun(effect, moves.from, moves.to);
+    }
+
+    /// Reads the bytes of a span that lie in its first block, whose line is at this place.
+    fn read(
+        &mut self,
+        cache: &mut Cache,
+        place: Option<Place>,
+        effect: Effect,
+        from: Span,
+        to: Span,
+    )
+        requires range { IsInRange self.old.geometry }
+        requires reading { IsReading self.old.geometry effect from to (array_vec_len self.old.bytes) }
+        requires found { IsFound cache.old (Some (first_block from)) place }
+        ensures hart { ReadsIn cache.old effect from to (core_of self.old) (core_of self.new) }
+        ensures sound { IsSound (core_of self.new) }
+        ensures unreserved { reserved self.new.hand ≡ 0 }
+        ensures cache { cache.new ≡ read_from (first_block from) cache.old }
+        ensures lines { KeepsLines cache.old cache.new }
+    {
+        match place {
+            Some(place) => {
+                let block = cache.read_at(from.first_block(), place);
+                take_head(&mut self.bytes, &block, from);
+                self.hand = begun(effect, from.rest(), to);
+            }
+            None => unreachable!(),
+        }
+    }
+
+    /// Reserves room for the blocks that will be written, or waits for it where a checkpoint is under way, or
+    /// else ends the epoch and drops the instruction.
+    fn reserve(
+        &mut self,
+        dirty: u64,
+        free: u64,
+        under_way: bool,
+        effect: Effect,
+        to: Span,
+    ) -> HartStep
+        requires range { IsInRange self.old.geometry }
+        requires writing { IsWriting self.old.geometry effect to 0 (array_vec_len self.old.bytes) }
+        requires going { self.old.epoch.over ≡ None }
+        ensures hart { core_of self.new ≡ room_reserved free under_way dirty effect to (core_of self.old) }
+        ensures says { result ≡ room_answer free under_way dirty to }
+    {
+        let need = blocks_of(to);
+        if free >= need && free - need >= dirty {
+            self.hand = Hand::Writing {
+                effect,
+                to,
+                done: 0,
+            };
+            return HartStep::Moved;
+        }
+        if under_way {
+            return HartStep::Waiting;
+        }
+        self.epoch.exhausted(free, dirty, need);
+        self.hand = Hand::Nothing;
+        self.bytes.clear();
+        HartStep::Over(EndCause::Exhausted { free, dirty, need })
+    }
+
+    /// Writes those bytes of a span that fall into its first block, whose line is at this place.
+    fn write(
+        &mut self,
+        cache: &mut Cache,
+        place: Option<Place>,
+        effect: Effect,
+        to: Span,
+        done: u64,
+    )
+        requires range { IsInRange self.old.geometry }
+        requires writing { IsWriting self.old.geometry effect to done (array_vec_len self.old.bytes) }
+        requires found { IsFound cache.old (Some (first_block to)) place }
+        ensures hart { core_of self.new ≡ block_written effect to done (core_of self.old) }
+        ensures sound { IsSound (core_of self.new) }
+        ensures cache { cache.new ≡ written_by cache.old to (drop done self.old.bytes.items) }
+        ensures memory { WritesIn (memory_blocks self.old.geometry) cache.old cache.new to (drop done self.old.bytes.items) }
+        ensures agree { AgreesStill cache.old cache.new }
+        ensures room { dirty_count cache.new ≤ dirty_count cache.old + 1 }
+        ensures sized { KeepsSize cache.old cache.new }
+    {
+        match place {
+            Some(place) => {
+                let len = to.head_len();
+                let left = &self.bytes.as_slice()[done as usize..];
+                cache.write_at(
+                    to.first_block(),
+                    place,
+                    to.first_byte(),
+                    &left[..len as usize],
+                );
+                self.hand = written_on(effect, to.rest(), done + len);
+            }
+            None => unreachable!(),
+        }
+    }
+
+    /// Retires the instruction, which has read and written.
+    fn retire(&mut self, effect: Effect, input: &[u8]) -> HartStep
+        requires number { read_len effect ≤ array_vec_len self.old.bytes }
+        requires count { self.old.cpu.count + 1 < 2 ^ 64 }
+        requires going { self.old.epoch.over ≡ None }
+        ensures hart { core_of self.new ≡ retired input.now effect (core_of self.old) }
+        ensures says { result ≡ over_or_retired (epoch_retired input.now effect (core_of self.old)).over }
+    {
+        let calls = self.calls(input.len() as u64);
+        let number = number_in(&effect, self.bytes.as_slice());
+        finish(&mut self.cpu, &effect, number, &calls);
+        self.epoch.retired_once(runs(self.cpu.status));
+        self.hand = Hand::Nothing;
+        self.bytes.clear();
+        match self.epoch.over() {
+            None => HartStep::Retired,
+            Some(cause) => HartStep::Over(cause),
+        }
+    }
+
+    /// Takes the next micro-step. The line of the block that it touches, if it does, is at this place.
+    pub fn act(
+        &mut self,
+        cache: &mut Cache,
+        place: Option<Place>,
+        free: u64,
+        under_way: bool,
+        input: &[u8],
+    ) -> HartStep
+        requires sound { IsSound (core_of self.old) }
+        requires found { IsFound cache.old (next_block (core_of self.old)) place }
+        requires count { self.old.cpu.count + 1 < 2 ^ 64 }
+        requires going { self.old.epoch.over ≡ None }
+        ensures acts { Acts (given input.now free under_way) cache.old cache.new (core_of self.old) (core_of self.new) result }
+        ensures sound { IsSound (core_of self.new) }
+    {
+        match self.hand {
+            Hand::Nothing => {
+                self.fetch(cache, place, input);
+                HartStep::Moved
+            }
+            Hand::Reading { effect, from, to } => {
+                self.read(cache, place, effect, from, to);
+                HartStep::Moved
+            }
+            Hand::Reserving { effect, to } => {
+                self.reserve(cache.dirty(), free, under_way, effect, to)
+            }
+            Hand::Writing { effect, to, done } => {
+                self.write(cache, place, effect, to, done);
+                HartStep::Moved
+            }
+            Hand::Retiring { effect, .. } => self.retire(effect, input),
+        }
+    }
+}
