@@ -2,9 +2,9 @@
 //! configuration, or why they are refused.
 #![tactic(auto)]
 
+mod command_line;
 mod fields;
 mod numbers;
-mod program;
 mod verb;
 mod words;
 
