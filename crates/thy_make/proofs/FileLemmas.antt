@@ -3,7 +3,7 @@ use Rattle.std.proofs.Common.{◌≡◌, ℕ, ◌+◌, ◌*◌, List, [], ◌∷
 use Rattle.std.proofs.lemmas.List.Concat.{flat_map-append}
 use Rattle.std.specs.List.{flat_map}
 use Rattle.thy_base.specs.LittleEndian.{number_bytes}
-use Rattle.thy_make.specs.declared.small.HeaderField.{HeaderField}
+use Rattle.thy_make.specs.declared.one_segment.HeaderField.{HeaderField}
 use Rattle.thy_make.specs.File.{field_bytes, file_header, segment_header, file_of, made_file}
 use Rattle.thy_make.specs.Program.{made_words}
 use Rattle.thy_make.proofs.ProgramLemmas.{length-made_words}

@@ -2,8 +2,8 @@
 use Rattle.std.specs.Prelude.{ℕ, ◌*◌, List, [], ◌∷◌, ◌++◌, length}
 use Rattle.std.specs.List.{flat_map}
 use Rattle.thy_base.specs.LittleEndian.{number_bytes}
-use Rattle.thy_make.specs.declared.small.HeaderField.{HeaderField}
-use Rattle.thy_make.specs.declared.small.HeaderField.TheVariants.{U8, U16, U32, U64}
+use Rattle.thy_make.specs.declared.one_segment.HeaderField.{HeaderField}
+use Rattle.thy_make.specs.declared.one_segment.HeaderField.TheVariants.{U8, U16, U32, U64}
 use Rattle.thy_make.specs.Program.{made_words}
 
 -- the bytes of a header's field of one, two, four or eight bytes, the lowest first

@@ -7,8 +7,8 @@
 mod encode;
 mod laws;
 mod made;
+mod one_segment;
 mod program;
-mod small;
 
 pub use laws::{
     made_files_are_images, made_files_are_long, made_words_decode, stores_are_in_reach,

@@ -3,8 +3,8 @@ ghost use Rattle.std.specs.Prelude.{◌≡◌, length, IfOk};
 ghost use Rattle.thy_base.specs.Bytes.{bytes_of};
 ghost use Rattle.thy_make.specs.File.{made_file};
 
+use crate::one_segment::small_file;
 use crate::program::words;
-use crate::small::small_file;
 use std::alloc::{AllocError, Global};
 use thy_base::Bytes;
 

@@ -1,5 +1,5 @@
 pub mod Numbers
 pub mod Fields
-pub mod Program
+pub mod CommandLine
 pub mod Settings
 pub mod Refused

@@ -12,7 +12,7 @@ use Rattle.thy_base.specs.declared.config.Config.{Config}
 use Rattle.thy_base.specs.declared.config.ConfigError.{ConfigError}
 use Rattle.thy_base.specs.declared.config.Field.TheVariants.{N}
 use Rattle.thy_words.specs.Fields.{config_at, number_at, unreadable}
-use Rattle.thy_words.specs.Program.{program}
+use Rattle.thy_words.specs.CommandLine.{program}
 use Rattle.thy_words.specs.declared.verb.Verb.{Verb}
 use Rattle.thy_words.specs.declared.verb.Verb.TheVariants.{Run, Resume, Bench, Plain, Make}
 use Rattle.thy_words.specs.declared.words.Values.{Values}

@@ -4,9 +4,9 @@
 //! Open specs/Settings.antt first, and src/words.rt. It stands on thy_base, and on `clap`; on it stands thy_cli.
 #![tactic(auto)]
 
+mod command_line;
 mod fields;
 mod numbers;
-mod program;
 mod verb;
 mod words;
 

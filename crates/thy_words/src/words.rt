@@ -9,8 +9,8 @@ ghost use Rattle.thy_base.specs.Config.{fault_of as range_fault};
 ghost use Rattle.thy_words.specs.Settings.{Answers, IsInRange, ShowsOrMemory, job_of, job_with, number_fault, operand, order_for, order_in, order_named, order_of, order_with, ranged, settings_of, value_fault, values_at, values_in};
 ghost use Rattle.thy_words.specs.Refused.{is_out_of_memory, refused};
 
+use crate::command_line::thynvm;
 use crate::fields::{config_at, has_flag, number_at, text_of, unreadable};
-use crate::program::thynvm;
 use crate::verb::{Verb, verb_of};
 use clap::ArgMatches;
 use clap::error::ErrorKind;

@@ -8,7 +8,7 @@ use Rattle.clap.specs.Values.{kind_of}
 use Rattle.clap.specs.declared.error.kind.ErrorKind.{ErrorKind}
 use Rattle.clap.specs.declared.error.kind.ErrorKind.TheVariants.{OutOfMemory}
 use Rattle.clap.proofs.OnLiterals.{clap_on_literals}
-use Rattle.thy_words.specs.Program.{program}
+use Rattle.thy_words.specs.CommandLine.{program}
 use Rattle.thy_words.specs.Refused.{is_out_of_memory, refused}
 use Rattle.thy_words.specs.Settings.{Answers, named, order_named, settings_of}
 use Rattle.thy_words.specs.declared.words.WordsError.TheVariants.{Usage, Memory}

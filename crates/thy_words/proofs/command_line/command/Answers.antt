@@ -1,8 +1,8 @@
 use Rattle.std.proofs.Common.{◌∙◌, ◌||◌, ap₂, sym}
 use Rattle.clap.specs.Simple.{with_rule}
-use Rattle.thy_words.specs.Program.{begun, with_argument}
+use Rattle.thy_words.specs.CommandLine.{begun, with_argument}
 use Rattle.thy_words.proofs.Folding.{fold-more}
-use Rattle.thy_words.proofs.program.command.Goals as goal
+use Rattle.thy_words.proofs.command_line.command.Goals as goal
 
 pub loop-item-preserved : goal.loop-item-preserved
 loop-item-preserved c =

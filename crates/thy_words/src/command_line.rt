@@ -1,7 +1,7 @@
 //! The program's command line as `clap` is told of it.
 ghost use Rattle.std.specs.Prelude.{◌≡◌, IfOk, fold};
 ghost use Rattle.clap.specs.Simple.{app_of, with_subcommand};
-ghost use Rattle.thy_words.specs.Program.{IsArg, IsBuilt, bare, begun, program, rule_for, with_argument};
+ghost use Rattle.thy_words.specs.CommandLine.{IsArg, IsBuilt, bare, begun, program, rule_for, with_argument};
 
 use clap::{Arg, ArgAction, Command};
 use std::alloc::{AllocError, Global};

@@ -2,7 +2,7 @@ use Rattle.std.proofs.Common.{◌≡◌, ◌++◌, take}
 use Rattle.std.specs.List.{flat_map}
 use Rattle.thy_base.specs.Bytes.{bytes_of}
 use Rattle.thy_make.specs.File.{field_bytes}
-use Rattle.thy_make.proofs.small.push_fields.Given as goal
+use Rattle.thy_make.proofs.one_segment.push_fields.Given as goal
 
 abbrev pub invariant-loop-field : goal.invariant-loop-field
 invariant-loop-field l =

@@ -1,6 +1,6 @@
 use Rattle.std.proofs.Common.{◌∙◌, ◌||◌, ap₂}
 use Rattle.clap.specs.Simple.{with_rule}
-use Rattle.thy_words.proofs.program.begun.Goals as goal
+use Rattle.thy_words.proofs.command_line.begun.Goals as goal
 
 pub returns : goal.returns
 returns c =

@@ -1,6 +1,6 @@
 use Rattle.std.proofs.Common.{◌*◌, length, refl}
 use Rattle.thy_make.proofs.FileLemmas.{file_joined}
-use Rattle.thy_make.proofs.small.small_file.Goals as goal
+use Rattle.thy_make.proofs.one_segment.small_file.Goals as goal
 
 pub returns : goal.returns
 returns c =

@@ -7,8 +7,8 @@ use Rattle.clap.specs.declared.builder.action.ArgAction.TheVariants.{SetTrue}
 use Rattle.clap.specs.declared.builder.arg.Arg.{Arg}
 use Rattle.clap.specs.declared.builder.command.Command.{Command}
 use Rattle.clap.specs.declared.builder.command.Command.TheViews.{out-Command}
-use Rattle.thy_words.specs.declared.program.Argument.{Argument}
-use Rattle.thy_words.specs.declared.program.Argument.TheVariants.{Operand, Valued, Flag}
+use Rattle.thy_words.specs.declared.command_line.Argument.{Argument}
+use Rattle.thy_words.specs.declared.command_line.Argument.TheVariants.{Operand, Valued, Flag}
 use Rattle.thy_base.specs.declared.config.Field.{Field}
 use Rattle.thy_base.specs.Fields.{field_name}
 use Rattle.thy_words.specs.Fields.{fields, plain_fields}
