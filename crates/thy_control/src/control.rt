@@ -134,7 +134,7 @@ fn block_to_put(
     ensures { result ≡ put_by rule block.now (λ place. block_at dram.now.blocks (number_of geometry.now place)) cell.now }
 {
     match rule {
-        StoreRule::PendingFirst => dram.read(geometry.buf(cell.i)),
+        StoreRule::PendingFirst => dram.read(geometry.buffer(cell.i)),
         StoreRule::ToFrame | StoreRule::ToBuffer | StoreRule::ToNvm => *block,
     }
 }
