@@ -4,7 +4,7 @@ use Rattle.std.proofs.lemmas.Bool.{cases_eq, cases_lt}
 use Rattle.std.proofs.lemmas.List.{length-set, get_or-set_same, get_or-set_other, set-set, set-get_or, get_or_past, set_past, ext_get_or}
 use Rattle.std.proofs.lemmas.List.Elements.{Contains-push, Contains-append_left}
 use Rattle.thy_base.specs.declared.block.Block.{Block}
-use Rattle.thy_base.specs.Device.{Device, Crash, HoldsNoMore, HoldsNoMoreBut, HasFailed, HasFailedToWrite, IsFramed, IsSettled, zero_block, block_at, queued_for, applied, possible, landed, drained, settled, written_to, cut_to}
+use Rattle.thy_base.specs.Device.{Device, Crash, HoldsNoMore, HoldsNoMoreBut, HasFailed, HasFailedToWrite, IsFramed, zero_block, block_at, queued_for, applied, possible, landed, drained, settled, written_to, cut_to}
 use Rattle.thy_base.proofs.DeviceLemmas.{same_as_only, length-applied, length-landed, length-settled, length-written_to, Contains-applied, no_more-landed, no_more-settled, no_more_but-written_to}
 
 -- the block that stands is possible
@@ -41,8 +41,8 @@ pub Crash-failed : {old new : Device} {g : List Block} → HasFailed old new →
 Crash-failed failed framed c = Crash-no_more failed.no_more framed.blocks c
 
 -- nothing queued for a place: a cut leaves there what a read gives
-pub block_at-settled : (n : Device) (g : List Block) (x : ℕ) → IsSettled n x → Crash n g → block_at g x ≡ block_at n.image x
-block_at-settled n g x s c = sym (same_as_only _ _ (subst (λ (q : List Block). Contains (block_at n.image x ∷ q) (block_at g x)) s.nothing_queued (c.each x)))
+pub block_at-settled : (n : Device) (g : List Block) (x : ℕ) → queued_for n.queue x ≡ [] → Crash n g → block_at g x ≡ block_at n.image x
+block_at-settled n g x none c = sym (same_as_only _ _ (subst (λ (q : List Block). Contains (block_at n.image x ∷ q) (block_at g x)) none (c.each x)))
 
 -- an image that differs from another at no place
 pub same_images : (g h : List Block) → length g ≡ length h → ((x : ℕ) → block_at g x ≡ block_at h x) → g ≡ h
@@ -51,7 +51,7 @@ same_images g h l each = ext_get_or zero_block g h l (λ x _. each x)
 -- with an empty queue a cut leaves the image as it stands
 pub Crash-of_empty : (n : Device) (g : List Block) → n.queue ≡ [] → Crash n g → g ≡ n.image
 Crash-of_empty n g e c = same_images g n.image c.same_length
-    (λ x. block_at-settled n g x (record { nothing_queued = ap (λ q. queued_for q x) e }) c)
+    (λ x. block_at-settled n g x (ap (λ q. queued_for q x) e) c)
 
 -- an image where one place holds what it holds in another of the same length
 pub block_at-set_back : (g image : List Block) (at : ℕ) → length g ≡ length image

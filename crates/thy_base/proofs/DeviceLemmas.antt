@@ -1,12 +1,12 @@
 -- What follows from the definitions of a device: reads, possible contents and crashes after each call.
 use Rattle.std.proofs.Common.{◌≡◌, ◌≢◌, ◌⊎◌, ℕ, ◌<◌, ◌≤◌, ◌==◌, true, false, List, [], ◌∷◌, ◌++◌, length, take, drop, slice_set, Contains, refl, sym, ◌∙◌, ap, subst, inl, inr, arith, if◌then◌else◌}
 use Rattle.std.proofs.lemmas.Bool.{cases_eq, cases_lt, eq-eqb, ne_eqb}
-use Rattle.std.proofs.lemmas.List.{append-nil, take-append-drop, length-append, nil_from_length, length-set, get_or_past}
+use Rattle.std.proofs.lemmas.List.{append-nil, take-append-drop, length-set, get_or_past}
 use Rattle.std.proofs.lemmas.List.Elements.{Contains-push, Contains-push_cases, Contains-append_left, Contains-append_right, Contains-append_cases}
 use Rattle.std.proofs.lemmas.Grind.{common_steps}
 use Rattle.thy_base.specs.declared.block.Block.{Block}
 use Rattle.thy_base.specs.declared.nvm.Write.{Write}
-use Rattle.thy_base.specs.Device.{Device, HoldsNoMore, HoldsNoMoreBut, IsSettled, zero_block, write_of, block_at, queued_for, newest_over, applied, possible, newest, landed, drained, settled, surplus, written_to}
+use Rattle.thy_base.specs.Device.{Device, HoldsNoMore, HoldsNoMoreBut, zero_block, write_of, block_at, queued_for, newest_over, applied, possible, newest, landed, drained, settled, surplus, written_to}
 
 -- the blocks queued by one list of writes and then by another
 pub queued_for-append : (ws vs : List Write) (x : ℕ) → queued_for (ws ++ vs) x ≡ queued_for ws x ++ queued_for vs x
@@ -166,29 +166,3 @@ length-settled n = length-applied n.image n.queue
 
 pub length-written_to : (n : Device) (at : ℕ) (block : Block) → length (written_to n at block).image ≡ length n.image
 length-written_to n at block = length-landed (surplus n) n
-
--- the end of a list without blocks has none
-pub nothing_after : (xs ys : List Block) → xs ++ ys ≡ [] → ys ≡ []
-nothing_after xs ys e = nil_from_length ys (omega (arith, length-append xs ys, ap length e))
-
--- a settled place stays settled where writes land
-pub IsSettled-landed : (k : ℕ) (n : Device) (x : ℕ) → IsSettled n x → IsSettled (landed k n) x
-IsSettled-landed k n x s = record {
-  nothing_queued = nothing_after (queued_for (take k n.queue) x) (queued_for (drop k n.queue) x)
-      (sym (queued_for-append (take k n.queue) (drop k n.queue) x) ∙ ap (λ q. queued_for q x) (take-append-drop k n.queue) ∙ s.nothing_queued);
-}
-
-pub IsSettled-drained : (n : Device) (x : ℕ) → IsSettled n x → IsSettled (drained n) x
-IsSettled-drained n x s = IsSettled-landed 1 n x s
-
--- after a barrier every place is settled
-pub IsSettled-settled : (n : Device) (x : ℕ) → IsSettled (settled n) x
-IsSettled-settled n x = record { nothing_queued = refl }
-
--- a settled place stays settled where another is written
-pub IsSettled-written_to : (n : Device) (at : ℕ) (block : Block) (x : ℕ) → x ≢ at → IsSettled n x → IsSettled (written_to n at block) x
-IsSettled-written_to n at block x other s = record {
-  nothing_queued = queued_for-append (drop (surplus n) n.queue) (write_of at block ∷ []) x
-      ∙ ap (λ q. q ++ queued_for (write_of at block ∷ []) x) (IsSettled-landed (surplus n) n x s).nothing_queued
-      ∙ queued_for-one at block x other;
-}

@@ -129,10 +129,6 @@ pub record IsFramed (old new : Device) : Type 0 where
   pub left_room : new.left_room ≡ old.left_room
   pub fits : new.fits ≡ old.fits
 
--- nothing is queued for a place
-pub record IsSettled (n : Device) (x : ℕ) : Type 0 where
-  pub nothing_queued : queued_for n.queue x ≡ []
-
 -- no place may hold after a cut what it could not hold before
 abbrev pub HoldsNoMore : Device → Device → Type 0
 HoldsNoMore old new = (x : ℕ) (b : Block) → Contains (possible new x) b → Contains (possible old x) b

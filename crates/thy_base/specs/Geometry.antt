@@ -7,7 +7,22 @@ use Rattle.thy_base.specs.Ranges.{Row, row, AreIn, below, at_most, between, mult
 
 -- a configuration without its lists
 abbrev pub parameters_of : Config → Parameters
-parameters_of c = record { base = c.base; pages = c.pages; console = c.console; epoch = c.epoch; btt = c.btt; ptt = c.ptt; sets = c.sets; ways = c.ways; nvmq = c.nvmq; dramq = c.dramq; high = c.high; low = c.low; mix = c.mix; limit = c.limit }
+parameters_of c = record {
+  base = c.base;
+  pages = c.pages;
+  console = c.console;
+  epoch = c.epoch;
+  btt = c.btt;
+  ptt = c.ptt;
+  sets = c.sets;
+  ways = c.ways;
+  nvmq = c.nvmq;
+  dramq = c.dramq;
+  high = c.high;
+  low = c.low;
+  mix = c.mix;
+  limit = c.limit;
+}
 
 -- memory: where it is, and how many pages
 abbrev pub memory_rows : Parameters → List Row

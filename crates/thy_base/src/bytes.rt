@@ -38,14 +38,6 @@ impl Bytes {
         Bytes { items }
     }
 
-    /// The vector of these bytes, with their room. Takes no memory.
-    pub fn into_vec(self) -> Vec<u8>
-        ensures bytes { result.items ≡ bytes_of self }
-        ensures room { vec_capacity result ≡ room_of self }
-    {
-        self.items
-    }
-
     /// The bytes.
     pub fn as_slice(&self) -> &[u8]
         ensures { result.now ≡ bytes_of self.now }

@@ -36,7 +36,7 @@ pub struct Config {
     pub cuts: Numbers,
     /// The picks of the cuts in order, and then of a save: at most one more than `cuts`.
     pub tears: Numbers,
-    /// The cycles (or, for the flat machine, instructions) after which the run stops: 1 to `10^12`.
+    /// The cycles (or, for the plain machine, instructions) after which the run stops: 1 to `10^12`.
     pub limit: u64,
 }
 

@@ -23,13 +23,6 @@ impl Numbers {
         Numbers { items }
     }
 
-    /// The vector of these numbers. Takes no memory.
-    pub fn into_vec(self) -> Vec<u64>
-        ensures { result.items ≡ self }
-    {
-        self.items
-    }
-
     /// The numbers.
     pub fn as_slice(&self) -> &[u64]
         ensures { result.now ≡ self.now }

@@ -55,7 +55,7 @@ impl Geometry {
     }
 
     /// The block of the NVM that entry `i` of the block table owns.
-    pub fn ablk(&self, i: usize) -> u64
+    fn alternate_block(&self, i: usize) -> u64
         requires { i < self.now.btt }
         ensures place { result ≡ number_of self.now (AtAlternateBlock i) }
         ensures in_range { IsInRange self.now }
@@ -64,7 +64,7 @@ impl Geometry {
     }
 
     /// Block `k` of the page of the NVM that entry `j` of the page table owns.
-    pub fn apage(&self, j: usize, k: u64) -> u64
+    fn alternate_page_block(&self, j: usize, k: u64) -> u64
         requires entry { j < self.now.ptt }
         requires block { k < 64 }
         ensures place { result ≡ number_of self.now (AtAlternatePage j k) }
@@ -75,7 +75,7 @@ impl Geometry {
     }
 
     /// The block of the DRAM that entry `i` of the block table owns.
-    pub fn buf(&self, i: usize) -> u64
+    pub fn buffer(&self, i: usize) -> u64
         requires { i < self.now.btt }
         ensures place { result ≡ number_of self.now (AtBuffer i) }
         ensures in_range { IsInRange self.now }
@@ -102,9 +102,9 @@ impl Geometry {
     {
         match place {
             Place::Home { block } => self.home(block),
-            Place::AlternateBlock { entry } => self.ablk(entry),
-            Place::AlternatePage { entry, block } => self.apage(entry, block),
-            Place::Buffer { entry } => self.buf(entry),
+            Place::AlternateBlock { entry } => self.alternate_block(entry),
+            Place::AlternatePage { entry, block } => self.alternate_page_block(entry, block),
+            Place::Buffer { entry } => self.buffer(entry),
             Place::Frame { entry, block } => self.frame(entry, block),
         }
     }

@@ -18,7 +18,7 @@ use Rattle.thy_cell.specs.declared.cell.StoreRule.TheVariants.{ToFrame, ToBuffer
 use Rattle.thy_cell.specs.Rules.{into_buffer, rule_of, after_store}
 use Rattle.thy_control.specs.Find.{with_found}
 use Rattle.thy_control.specs.Keys.{block_key, page_key}
-use Rattle.thy_control.specs.Tables.{btt_with, btt_after, ptt_after}
+use Rattle.thy_control.specs.StoredTables.{btt_with, btt_after, ptt_after}
 use Rattle.thy_control.specs.State.{State, cell_of}
 use Rattle.thy_control.specs.Holding.{waits, is_promoted, waiting, promoted}
 use Rattle.thy_control.proofs.FindLemmas.{found_entry, entry_for-some}

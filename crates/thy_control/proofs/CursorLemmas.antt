@@ -23,7 +23,7 @@ use Rattle.thy_control.specs.declared.cursors.Cursors.{Cursors}
 use Rattle.thy_control.specs.Cursors.{NoneBelow, AreCursors}
 use Rattle.thy_control.specs.Find.{with_found}
 use Rattle.thy_control.specs.Keys.{block_key, page_key}
-use Rattle.thy_control.specs.Tables.{btt_with, btt_after, ptt_after}
+use Rattle.thy_control.specs.StoredTables.{btt_with, btt_after, ptt_after}
 use Rattle.thy_control.specs.State.{State, AreSoundTables, cell_of}
 use Rattle.thy_control.specs.Rules.{with_block, rule_for, cell_before, state_after}
 use Rattle.thy_control.specs.Holding.{is_promoted}

@@ -28,7 +28,7 @@ use Rattle.thy_cell.specs.Store.{StoreReads, LoadGives, put_by, given_by}
 use Rattle.thy_cell.specs.Checkpoint.{with_dirty}
 use Rattle.thy_control.specs.Find.{index_for, with_found}
 use Rattle.thy_control.specs.Keys.{block_key}
-use Rattle.thy_control.specs.Tables.{btt_with, answer_of}
+use Rattle.thy_control.specs.StoredTables.{btt_with, answer_of}
 use Rattle.thy_control.specs.State.{State, AreSoundTables, IsSized, cell_of, reads}
 use Rattle.thy_control.specs.Rules.{with_block, with_cell, rule_for, cell_before, devices_after, state_after, IsWholeState}
 use Rattle.thy_control.specs.Versions.{KeepsCheckpoints, PutsWork, work_given}

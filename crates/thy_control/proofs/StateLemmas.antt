@@ -18,7 +18,7 @@ use Rattle.thy_cell.proofs.StoreLemmas.{IsSoundCell-dirty, IsSoundCell-after_sto
 use Rattle.thy_control.specs.Find.{entry_for, index_for}
 use Rattle.thy_control.specs.Keys.{block_key, page_key}
 use Rattle.thy_control.specs.State.{State, cell_of}
-use Rattle.thy_control.specs.Tables.{btt_with}
+use Rattle.thy_control.specs.StoredTables.{btt_with}
 use Rattle.thy_control.specs.Rules.{with_block, with_cell, rule_for}
 use Rattle.thy_control.proofs.FindLemmas.{found_entry, entry_for-none, entry_for-with, place_of-with_other, place_of-with_same, place_of-set, entry_for-set_same, entry_for-set_other}
 use Rattle.thy_control.proofs.CellLemmas.{block-cell_of, page-cell_of}

@@ -27,7 +27,7 @@ use Rattle.thy_cell.specs.Rules.{store_place, after_store}
 use Rattle.thy_cell.specs.Store.{put_by}
 use Rattle.thy_control.specs.Find.{with_found}
 use Rattle.thy_control.specs.Keys.{block_key, page_key}
-use Rattle.thy_control.specs.Tables.{btt_with}
+use Rattle.thy_control.specs.StoredTables.{btt_with}
 use Rattle.thy_control.specs.State.{State, AreSoundTables, IsSized, cell_of, reads}
 use Rattle.thy_control.specs.Rules.{with_block, with_cell, rule_for, cell_before, devices_after, state_after, FailsStore}
 use Rattle.thy_control.specs.Versions.{KeepsCheckpoints}

@@ -25,7 +25,7 @@ use Rattle.thy_cell.specs.Sound.{IsWhole}
 use Rattle.thy_cell.specs.Rules.{store_place, after_store}
 use Rattle.thy_cell.specs.Store.{put_by}
 use Rattle.thy_control.specs.Keys.{page_key}
-use Rattle.thy_control.specs.Tables.{btt_with, btt_after, answer_of}
+use Rattle.thy_control.specs.StoredTables.{btt_with, btt_after, answer_of}
 use Rattle.thy_control.specs.State.{State, AreSoundTables, IsSized, cell_of, work_of, reads}
 use Rattle.thy_control.specs.Rules.{with_block, rule_for, cell_before, devices_after, state_after, IsWholeState, StoresFree, FailsStore}
 use Rattle.thy_control.specs.Versions.{PutsWork}

@@ -1,6 +1,6 @@
 pub mod Find
 pub mod Keys
-pub mod Tables
+pub mod StoredTables
 pub mod State
 pub mod Rules
 pub mod Versions

@@ -8,7 +8,6 @@ use Rattle.thy_base.specs.Places.{number_of, first_home}
 use Rattle.thy_place.specs.Devices.{NoMoreAt}
 use Rattle.thy_cell.specs.declared.cell.Cell.{Cell}
 use Rattle.thy_cell.specs.Cells.{penult, target}
-use Rattle.thy_cell.specs.Checkpoint.{IsCopied}
 use Rattle.thy_control.specs.Guarded.{IsPlaced}
 use Rattle.thy_control.specs.State.{State, cell_of}
 use Rattle.thy_control.specs.Stays.{AreCopied, CellStays, StaysHeld, StaysUp, Stays}
@@ -25,15 +24,8 @@ cell_on c d e first second = record {
   issued = omega (arith, first.issued, second.issued);
 }
 
--- what was copied and written is so still
-pub copied_on : (c d : Cell) → CellStays c d → IsCopied c → IsCopied d
-copied_on c d stays h = record {
-  copied = stays.settled h.copied;
-  written = λ busy. omega (arith, h.written (stays.busy_before busy), stays.issued);
-}
-
 -- what is at its place is so still
-placed_on : (b : ℕ) (c d : Cell) → CellStays c d → IsPlaced b c → IsPlaced b d
+pub placed_on : (b : ℕ) (c d : Cell) → CellStays c d → IsPlaced b c → IsPlaced b d
 placed_on b c d stays h = record {
   copied = stays.settled h.copied;
   issued = λ busy. omega (arith, h.issued (stays.busy_before busy), stays.issued);
@@ -110,16 +102,6 @@ stays_on s m t n u o first second =
                 record { holds = now.holds; last_same = λ b l. now.last_same b (in_t b l) ∙ then.last_same b l };
           };
     }
-
-pub is_placed_on : (s : State) (m : Device) (t : State) (n : Device) (b : ℕ) → Stays s m t n → b < memory_blocks s.p
-    → IsPlaced b (cell_of s b) → IsPlaced b (cell_of t b)
-is_placed_on s m t n b stays l placed = placed_on b (cell_of s b) (cell_of t b) (stays.cells b l) placed
-
--- with all of the blocks
-pub are_copied_on : (s : State) (m : Device) (t : State) (n : Device) → Stays s m t n → AreCopied s → AreCopied t
-are_copied_on s m t n stays all b l =
-    let inside : b < memory_blocks s.p = subst (λ (q : Parameters). b < memory_blocks q) stays.same_p l in
-    copied_on (cell_of s b) (cell_of t b) (stays.cells b inside) (all b inside)
 
 abbrev pub StaysOverCalls : Type 0
 StaysOverCalls =

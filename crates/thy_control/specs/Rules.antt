@@ -12,7 +12,7 @@ use Rattle.thy_cell.specs.Rules.{store_rule, store_place, after_store}
 use Rattle.thy_cell.specs.Sound.{IsWhole}
 use Rattle.thy_cell.specs.Store.{put_by}
 use Rattle.thy_control.specs.Guarded.{IsFree}
-use Rattle.thy_control.specs.Tables.{btt_with, btt_after, ptt_after, counts_after}
+use Rattle.thy_control.specs.StoredTables.{btt_with, btt_after, ptt_after, counts_after}
 use Rattle.thy_control.specs.State.{State, cell_of, reads}
 
 -- the controller with an entry for a block, where the rule of its store names one

@@ -31,6 +31,10 @@ pub record State : Type 0 where
   pub under_way : Bool
   pub dram : Contents
 
+-- the state that has these parts
+abbrev pub state_in : Parameters → Listing BttEntry → Listing PttEntry → Tally → Bool → Contents → State
+state_in p btt ptt counts under_way dram = record { p = p; btt = btt; ptt = ptt; counts = counts; under_way = under_way; dram = dram }
+
 -- a block as both tables have it
 abbrev pub cell_of : State → ℕ → Cell
 cell_of s b = record {

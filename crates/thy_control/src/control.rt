@@ -10,7 +10,7 @@ ghost use Rattle.thy_control.specs.Find.{index_for, entry_for, with_entry_for};
 ghost use Rattle.thy_control.specs.Keys.{block_key, page_key};
 ghost use Rattle.thy_cell.specs.Cells.{work as work_place};
 ghost use Rattle.thy_cell.specs.Store.{put_by};
-ghost use Rattle.thy_control.specs.Tables.{btt_with, btt_after, ptt_after, counts_after, answer_of};
+ghost use Rattle.thy_control.specs.StoredTables.{btt_with, btt_after, ptt_after, counts_after, answer_of};
 
 mod boot;
 mod copying;
@@ -53,14 +53,14 @@ pub struct Control {
 }
 
 impl Model for Control {
-    ghost use Rattle.thy_control.specs.State.{State};
+    ghost use Rattle.thy_control.specs.State.{State, state_in};
     ghost use Rattle.thy_control.specs.Cursors.{IsControl};
 
     ghost Value = { State };
 
-    ghost view = { λ c. record { p = c.geometry; btt = c.btt; ptt = c.ptt; counts = c.counts; under_way = c.under_way; dram = c.dram } };
+    ghost view = { λ c. state_in c.geometry c.btt c.ptt c.counts c.under_way c.dram };
 
-    ghost invariant = { λ c. IsControl (record { p = c.geometry; btt = c.btt; ptt = c.ptt; counts = c.counts; under_way = c.under_way; dram = c.dram }) c.marks c.cursors };
+    ghost invariant = { λ c. IsControl (state_in c.geometry c.btt c.ptt c.counts c.under_way c.dram) c.marks c.cursors };
 }
 
 /// The place of a block's entry, 0 where it has none, and the entry, or one as a new one would be.
@@ -134,7 +134,7 @@ fn block_to_put(
     ensures { result ≡ put_by rule block.now (λ place. block_at dram.now.blocks (number_of geometry.now place)) cell.now }
 {
     match rule {
-        StoreRule::PendingFirst => dram.read(geometry.buf(cell.i)),
+        StoreRule::PendingFirst => dram.read(geometry.buffer(cell.i)),
         StoreRule::ToFrame | StoreRule::ToBuffer | StoreRule::ToNvm => *block,
     }
 }

@@ -5,7 +5,7 @@ use Rattle.thy_base.specs.Bytes.{bytes_of}
 use Rattle.thy_elf.specs.Image.{Contents}
 use Rattle.thy_isa.specs.OnBlocks.{setting_for}
 use Rattle.thy_isa.specs.Step.{State, Setting, is_running, step, steps}
-use Rattle.thy_plain.specs.declared.world.World.{World}
+use Rattle.thy_plain.specs.declared.setup.Setup.{Setup}
 use Rattle.thy_plain.specs.Start.{start_state}
 
 -- a machine: what stays the same over a run, and a state
@@ -32,5 +32,5 @@ pub record StopsAt (m : Machine) (limit k : ℕ) : Type 0 where
   pub over : k < limit → is_running (steps m.setting k m.state).status ≡ false
 
 -- what the code keeps beside a state
-abbrev pub setting_of : World → Setting
+abbrev pub setting_of : Setup → Setting
 setting_of w = record { base = w.base; input = bytes_of w.input; room = w.room }

@@ -11,7 +11,7 @@ ghost use Rattle.thy_isa.specs.Regs.{regs_with};
 ghost use Rattle.thy_isa.specs.Step.{state_of, call_state_of, effect_at, performed, is_running, step};
 ghost use Rattle.thy_plain.specs.Machine.{setting_of};
 
-use crate::world::World;
+use crate::setup::Setup;
 use thy_base::Bytes;
 use thy_isa::{
     Call, CallState, Effect, MachState, Reg, Status, Width, after, bytes_in, call, cause_number,
@@ -47,16 +47,16 @@ fn write_number(memory: &mut Bytes, at: usize, width: Width, value: u64)
 }
 
 /// What an environment call is decided by.
-fn call_state(state: &MachState, world: &World) -> CallState
-    ensures { result ≡ call_state_of (setting_of world.now) (state_of state.now) }
+fn call_state(state: &MachState, setup: &Setup) -> CallState
+    ensures { result ≡ call_state_of (setting_of setup.now) (state_of state.now) }
 {
     let console_len = state.console.len() as u64;
     CallState {
         cursor: state.cursor,
-        input_len: world.input.len() as u64,
+        input_len: setup.input.len() as u64,
         console_len,
-        room: world.room.saturating_sub(console_len),
-        base: world.base,
+        room: setup.room.saturating_sub(console_len),
+        base: setup.base,
         size: state.memory.len() as u64,
         floor: state.floor,
         brk: state.brk,
@@ -88,7 +88,11 @@ fn give(console: &mut Bytes, memory: &Bytes, at: usize, len: usize)
 /// The instruction after an environment call, with the call's answer in a0.
 fn answer(state: &mut MachState, value: u64)
     requires { state.old.count < 2 ^ 63 }
-    ensures { state.new ≡ record state.old { pc = after state.old.pc; regs = regs_with state.old.regs 10 value; count = state.old.count + 1 } }
+    ensures { state.new ≡ record state.old {
+      pc = after state.old.pc;
+      regs = regs_with state.old.regs 10 value;
+      count = state.old.count + 1;
+    } }
 {
     state.regs.set(Reg::new(A0), value);
     state.pc = after(state.pc);
@@ -96,13 +100,13 @@ fn answer(state: &mut MachState, value: u64)
 }
 
 /// Does an environment call.
-fn serve(state: &mut MachState, world: &World)
+fn serve(state: &mut MachState, setup: &Setup)
     requires count { state.old.count < 2 ^ 63 }
-    requires room { world.now.room ≤ room_of state.old.console }
-    ensures state { state_of state.new ≡ performed (setting_of world.now) (state_of state.old) Environment }
+    requires room { setup.now.room ≤ room_of state.old.console }
+    ensures state { state_of state.new ≡ performed (setting_of setup.now) (state_of state.old) Environment }
     ensures room { room_of state.old.console ≤ room_of state.new.console }
 {
-    match call(&state.regs, &call_state(state, world)) {
+    match call(&state.regs, &call_state(state, setup)) {
         Call::Answer(value) => answer(state, value),
         Call::Exit(value) => {
             state.status = Status::Exited(value);
@@ -113,14 +117,14 @@ fn serve(state: &mut MachState, world: &World)
             state.brk = at;
         }
         Call::Take { at, len } => {
-            let to = (at - world.base) as usize;
+            let to = (at - setup.base) as usize;
             let from = state.cursor as usize;
-            take(&mut state.memory, to, &world.input, from, len as usize);
+            take(&mut state.memory, to, &setup.input, from, len as usize);
             answer(state, len);
             state.cursor += len;
         }
         Call::Give { at, len } => {
-            let from = (at - world.base) as usize;
+            let from = (at - setup.base) as usize;
             give(&mut state.console, &state.memory, from, len as usize);
             answer(state, len);
         }
@@ -128,11 +132,11 @@ fn serve(state: &mut MachState, world: &World)
 }
 
 /// Does what an instruction does, to a state that runs.
-fn perform(state: &mut MachState, world: &World, effect: Effect)
+fn perform(state: &mut MachState, setup: &Setup, effect: Effect)
     requires count { state.old.count < 2 ^ 63 }
-    requires room { world.now.room ≤ room_of state.old.console }
-    requires inside { IsWithin world.now.base (length (bytes_of state.old.memory)) effect }
-    ensures state { state_of state.new ≡ performed (setting_of world.now) (state_of state.old) effect }
+    requires room { setup.now.room ≤ room_of state.old.console }
+    requires inside { IsWithin setup.now.base (length (bytes_of state.old.memory)) effect }
+    ensures state { state_of state.new ≡ performed (setting_of setup.now) (state_of state.old) effect }
     ensures room { room_of state.old.console ≤ room_of state.new.console }
 {
     match effect {
@@ -152,7 +156,7 @@ fn perform(state: &mut MachState, world: &World, effect: Effect)
             extend,
             rd,
         } => {
-            let value = number(state.memory.as_slice(), (at - world.base) as usize, width);
+            let value = number(state.memory.as_slice(), (at - setup.base) as usize, width);
             state.regs.set(rd, extended(width, extend, value));
             state.pc = pc;
             state.count += 1;
@@ -163,11 +167,11 @@ fn perform(state: &mut MachState, world: &World, effect: Effect)
             width,
             value,
         } => {
-            write_number(&mut state.memory, (at - world.base) as usize, width, value);
+            write_number(&mut state.memory, (at - setup.base) as usize, width, value);
             state.pc = pc;
             state.count += 1;
         }
-        Effect::Environment => serve(state, world),
+        Effect::Environment => serve(state, setup),
         Effect::Trap(cause) => {
             state.status = Status::Trapped(cause_number(cause));
             state.count += 1;
@@ -186,14 +190,14 @@ pub(crate) fn runs(status: Status) -> bool
 }
 
 /// Takes a step. An ended state stays as it is.
-pub(crate) fn take_step(state: &mut MachState, world: &World)
+pub(crate) fn take_step(state: &mut MachState, setup: &Setup)
     requires count { state.old.count < 2 ^ 63 }
-    requires room { world.now.room ≤ room_of state.old.console }
-    ensures state { state_of state.new ≡ step (setting_of world.now) (state_of state.old) }
+    requires room { setup.now.room ≤ room_of state.old.console }
+    ensures state { state_of state.new ≡ step (setting_of setup.now) (state_of state.old) }
     ensures room { room_of state.old.console ≤ room_of state.new.console }
 {
     if runs(state.status) {
-        let effect = next_effect(state, world.base);
-        perform(state, world, effect);
+        let effect = next_effect(state, setup.base);
+        perform(state, setup, effect);
     }
 }

@@ -7,8 +7,8 @@
 
 mod advance;
 mod plain;
+mod setup;
 mod start;
-mod world;
 
 pub use plain::Plain;
 pub use start::{are_bytes, start_of};

@@ -8,8 +8,8 @@ ghost use Rattle.thy_isa.specs.Storable.{IsStorable};
 ghost use Rattle.thy_plain.specs.Machine.{loaded, stepped, after_steps, StopsAt};
 
 use crate::advance::{runs, take_step};
+use crate::setup::Setup;
 use crate::start::state_over;
-use crate::world::World;
 use std::alloc::{AllocError, Global};
 use std::marker::Model;
 use thy_base::{Bytes, Geometry};
@@ -21,7 +21,7 @@ use thy_isa::MachState;
 #[derive(Debug, Drop)]
 pub struct Plain {
     state: MachState,
-    world: World,
+    setup: Setup,
 }
 
 impl Model for Plain {
@@ -32,9 +32,9 @@ impl Model for Plain {
 
     ghost Value = { Machine };
 
-    ghost view = { λ p. record { setting = setting_of p.world; state = state_of p.state } };
+    ghost view = { λ p. record { setting = setting_of p.setup; state = state_of p.state } };
 
-    ghost invariant = { λ p. p.world.room ≤ room_of p.state.console };
+    ghost invariant = { λ p. p.setup.room ≤ room_of p.state.console };
 }
 
 impl Plain {
@@ -55,7 +55,7 @@ impl Plain {
         let console = Bytes::with_room(alloc, room as usize)?;
         Ok(Plain {
             state: state_over(image.entry, image.floor, memory, console, geometry),
-            world: World {
+            setup: Setup {
                 base: geometry.numbers().base,
                 input,
                 room,
@@ -68,7 +68,7 @@ impl Plain {
         requires { self.old.state.count < 2 ^ 63 }
         ensures { self.new ≡ stepped self.old }
     {
-        take_step(&mut self.state, &self.world);
+        take_step(&mut self.state, &self.setup);
     }
 
     /// Takes steps until the program runs no more, or `limit` steps are done. Answers how many it took.

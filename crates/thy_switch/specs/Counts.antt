@@ -1,6 +1,5 @@
 -- How often each page was stored to, and which pages are counted above or below a threshold.
-use Rattle.std.specs.Prelude.{ℕ, ◌+◌, ◌≤◌, nat_lt, min, Bool, List, length, replicate, drop, slice_index, slice_set, position, All, Option}
-use Rattle.std.specs.Option.{option_map}
+use Rattle.std.specs.Prelude.{ℕ, ◌+◌, ◌≤◌, nat_lt, min, Bool, List, length, replicate, slice_index, slice_set, All}
 
 pub record Tally : Type 0 where
   -- the stores of each page, up to 63
@@ -37,18 +36,6 @@ is_dense c page = nat_lt c.high (count_at c page)
 -- and below the low one
 abbrev pub is_low : Tally → ℕ → Bool
 is_low c page = nat_lt (count_at c page) c.low
-
--- the first number of a list from one place on that passes a test
-abbrev pub first_from : (ℕ → Bool) → ℕ → List ℕ → Option ℕ
-first_from test from xs = option_map (λ k. from + k) (position test (drop from xs))
-
--- the least page from one on that is counted above the high threshold
-abbrev pub promotion_from : ℕ → Tally → Option ℕ
-promotion_from from c = first_from (λ n. nat_lt c.high n) from c.counts
-
--- and the least that is counted below the low one
-abbrev pub low_page_from : ℕ → Tally → Option ℕ
-low_page_from from c = first_from (λ n. nat_lt n c.low) from c.counts
 
 -- no count is past the last
 abbrev pub AreWithin : List ℕ → Type 0

@@ -1,6 +1,6 @@
 //! The counts.
-ghost use Rattle.std.specs.Prelude.{◌≡◌, ◌<◌, ◌≤◌, ◌+◌, min, nat_lt, length, replicate, slice_set, slice_index, position, None, false, IfOk, IfSome};
-ghost use Rattle.thy_switch.specs.Counts.{most, uncounted, count_at, counted, reset, is_dense, is_low, first_from, promotion_from, low_page_from};
+ghost use Rattle.std.specs.Prelude.{◌≡◌, ◌<◌, ◌≤◌, ◌+◌, min, length, replicate, slice_set, false, IfOk};
+ghost use Rattle.thy_switch.specs.Counts.{most, uncounted, count_at, counted, reset, is_dense, is_low};
 
 use std::alloc::{AllocError, Global};
 use std::marker::Model;
@@ -79,78 +79,10 @@ impl Counts {
         self.count_of(page) < self.low
     }
 
-    /// The least page from one on, whatever its number, that was stored to more often than `high`. Where
-    /// that is 63 or more, there is none.
-    pub fn promotions(&self, from: u64) -> Option<u64>
-        ensures page { result ≡ promotion_from from self.now }
-        ensures inside { IfSome result (λ page. page < length self.now.counts) }
-        ensures above { IfSome result (λ page. self.now.high < count_at self.now page) }
-        ensures never { most ≤ self.now.high → result ≡ None }
-    {
-        first_above(&self.counts, from, self.high)
-    }
-
-    /// The least page from one on, whatever its number, that was stored to less often than `low`.
-    pub fn low_pages(&self, from: u64) -> Option<u64>
-        ensures page { result ≡ low_page_from from self.now }
-        ensures inside { IfSome result (λ page. page < length self.now.counts) }
-        ensures below { IfSome result (λ page. count_at self.now page < self.now.low) }
-    {
-        first_below(&self.counts, from, self.low)
-    }
-
     /// Counts anew from 0.
     pub fn reset(&mut self)
         ensures { self.new ≡ reset self.old }
     {
         self.counts.fill(0);
-    }
-}
-
-/// The first count above a threshold.
-fn above(counts: &[u8], high: u64) -> Option<usize>
-    ensures place { result ≡ position (λ n. nat_lt high n) counts.now }
-    ensures inside { IfSome result (λ place. place < length counts.now) }
-    ensures above { IfSome result (λ place. high < slice_index counts.now place) }
-{
-    counts.iter().position(|count| high < *count as u64)
-}
-
-/// The first count below a threshold.
-fn below(counts: &[u8], low: u64) -> Option<usize>
-    ensures place { result ≡ position (λ n. nat_lt n low) counts.now }
-    ensures inside { IfSome result (λ place. place < length counts.now) }
-    ensures below { IfSome result (λ place. slice_index counts.now place < low) }
-{
-    counts.iter().position(|count| (*count as u64) < low)
-}
-
-/// The first place from one on whose count is above a threshold.
-fn first_above(counts: &[u8], from: u64, high: u64) -> Option<u64>
-    ensures page { result ≡ first_from (λ n. nat_lt high n) from counts.now }
-    ensures inside { IfSome result (λ page. page < length counts.now) }
-    ensures above { IfSome result (λ page. high < slice_index counts.now page) }
-{
-    if from >= counts.len() as u64 {
-        return None;
-    }
-    match above(&counts[from as usize..], high) {
-        Some(skipped) => Some(from + skipped as u64),
-        None => None,
-    }
-}
-
-/// The first place from one on whose count is below a threshold.
-fn first_below(counts: &[u8], from: u64, low: u64) -> Option<u64>
-    ensures page { result ≡ first_from (λ n. nat_lt n low) from counts.now }
-    ensures inside { IfSome result (λ page. page < length counts.now) }
-    ensures below { IfSome result (λ page. slice_index counts.now page < low) }
-{
-    if from >= counts.len() as u64 {
-        return None;
-    }
-    match below(&counts[from as usize..], low) {
-        Some(skipped) => Some(from + skipped as u64),
-        None => None,
     }
 }

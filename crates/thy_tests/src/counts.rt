@@ -8,16 +8,13 @@ fn pages_are_counted_to_63(rt: HostRuntime) {
     counts.count(1);
     counts.count(1);
     expect(&rt, counts.count_of(1), 2);
-    expect(&rt, counts.promotions(0), None);
-    expect(&rt, counts.low_pages(0), Some(0));
-    expect(&rt, counts.low_pages(1), Some(2));
-    expect(&rt, counts.low_pages(3), None);
+    expect(&rt, counts.is_dense(1), false);
+    expect(&rt, counts.is_low(0), true);
+    expect(&rt, counts.is_low(1), false);
     counts.count(1);
-    expect(&rt, counts.promotions(0), Some(1));
-    expect(&rt, counts.promotions(1), Some(1));
-    expect(&rt, counts.promotions(2), None);
-    expect(&rt, counts.promotions(100), None);
+    expect(&rt, counts.is_dense(0), false);
+    expect(&rt, counts.is_dense(1), true);
     counts.reset();
-    expect(&rt, counts.promotions(0), None);
+    expect(&rt, counts.is_dense(1), false);
     expect(&rt, counts.count_of(1), 0);
 }

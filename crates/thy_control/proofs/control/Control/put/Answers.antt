@@ -12,7 +12,7 @@ use Rattle.thy_cell.specs.declared.cell.StoreRule.{StoreRule}
 use Rattle.thy_cell.specs.Rules.{store_place}
 use Rattle.thy_place.specs.Devices.{Devices, devices_of}
 use Rattle.thy_control.specs.Keys.{block_key, page_key}
-use Rattle.thy_control.specs.Tables.{answer_of}
+use Rattle.thy_control.specs.StoredTables.{answer_of}
 use Rattle.thy_cell.specs.Store.{put_by}
 use Rattle.thy_control.specs.State.{State, AreSoundTables, reads}
 use Rattle.thy_control.specs.Rules.{rule_for, cell_before, devices_after}

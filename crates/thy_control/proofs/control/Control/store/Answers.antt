@@ -1,7 +1,7 @@
 use Rattle.thy_base.specs.Device.{Device}
 use Rattle.thy_control.specs.State.{State}
 use Rattle.thy_control.specs.Rules.{rule_for, devices_after, state_after}
-use Rattle.thy_control.specs.Tables.{answer_of}
+use Rattle.thy_control.specs.StoredTables.{answer_of}
 use Rattle.thy_control.proofs.KeepLemmas.{Kept-after, kept_by, checkpoints_by, work_by}
 use Rattle.thy_control.proofs.GuardLemmas.{StoresFree-store, LeavesGuarded-after, guarded_by}
 use Rattle.thy_control.proofs.HoldLemmas.{HoldAll-after, hold_by}

@@ -4,7 +4,7 @@ use thy_base::Bytes;
 
 /// What a step needs besides the state.
 #[derive(Debug, Drop)]
-pub(crate) struct World {
+pub(crate) struct Setup {
     /// The address of the first byte of program memory.
     pub(crate) base: u64,
     /// The bytes that the program can read.

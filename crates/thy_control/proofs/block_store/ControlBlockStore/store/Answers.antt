@@ -1,7 +1,7 @@
 use Rattle.thy_base.specs.Device.{Device}
 use Rattle.thy_control.specs.State.{State}
 use Rattle.thy_control.proofs.StoreLemmas.{ready-whole, stored_by, once_stored}
-use Rattle.thy_control.proofs.store.ControlBlockStore.store.Goals as goal
+use Rattle.thy_control.proofs.block_store.ControlBlockStore.store.Goals as goal
 
 pub store-requires-clause-block : goal.store-requires-clause-block
 store-requires-clause-block g c = (c.blocks_are_works.ensures.works c.args.self.now (g.N.Nvm.device c.args.nvm.now) c.args.b c.requires.inside).inside

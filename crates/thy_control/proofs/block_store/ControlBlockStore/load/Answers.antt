@@ -1,5 +1,5 @@
 use Rattle.thy_control.proofs.StoreLemmas.{once_loaded}
-use Rattle.thy_control.proofs.store.ControlBlockStore.load.Goals as goal
+use Rattle.thy_control.proofs.block_store.ControlBlockStore.load.Goals as goal
 
 pub load-requires-clause-block : goal.load-requires-clause-block
 load-requires-clause-block g c = (c.blocks_are_works.ensures.works c.args.self.now (g.N.Nvm.device c.args.nvm.now) c.args.b c.requires).inside
