@@ -43,7 +43,7 @@ use Rattle.thy_cli.specs.Answering.{Outside, WordsDue, RunDue, given_for, Closes
 use Rattle.thy_cli.specs.Completing.{IsAsked, Stayed, IsCalm, left_alone, run_of, TellsEnd, RunCompletes, PlainCompletes, MakeCompletes, Claim}
 use Rattle.thy_cli.specs.Planning.{refused_status}
 use Rattle.thy_cli.specs.Saving.{PutCounted, SavesUnder, saves}
-use Rattle.thy_cli.specs.Sources.{Source, file, made, image, Beginning, begun, name_of, AreBytesOf, IsHeld, IsTooLong, IsInput, FetchDue, meaning_of, IsProgram, IsWanted, IsMeant, ProgramDue, origin_for}
+use Rattle.thy_cli.specs.Sources.{Source, file, made, image, Beginning, begun, from_entry, name_of, AreBytesOf, IsHeld, IsTooLong, IsInput, FetchDue, meaning_of, IsProgram, IsWanted, IsMeant, ProgramDue, origin_for}
 use Rattle.thy_cli.proofs.PlainLemmas.{at_is}
 
 -- ---- counts of faults
@@ -296,7 +296,7 @@ module _ {M : Type 0} (K : KindOf M) (source : Source) (job : Job) (k : ℕ) (be
 
 -- a program file's program begins at the count 0
 begun_count : (p : Parameters) (read : Result Contents ElfError) (b : Beginning) → begun p read ≡ Ok b → b.start.count ≡ 0
-begun_count p (Ok contents) b is = let same : record { start = start_state p contents; kept = None; blocks = [] } ≡ b = (cc) in ap (λ (x : Beginning). x.start.count) (sym same)
+begun_count p (Ok contents) b is = let same : from_entry p contents ≡ b = (cc) in ap (λ (x : Beginning). x.start.count) (sym same)
 begun_count p (Err e) b is = absurd (cc)
 
 module _ (name : List ℕ) (job : Job) (k : ℕ) (before after : Outside) (a : Answer) (s : Stands (file name) job before.shelf)

@@ -55,7 +55,7 @@ IsPlainOf-ran name job before after p first last s limit k mute deaf stop a told
     let input : List ℕ = program.program.input in
     let plain_start : Machine = loaded (parameters_of job.config) contents input in
     let start : first ≡ plain_start = is ∙ ap (loaded p.geometry contents) program.input ∙ ap (λ q. loaded q contents input) program.geometry in
-    let begins : program.program.begins.start ≡ start_state (parameters_of job.config) contents = program.start ∙ ap (λ q. start_state q contents) program.geometry in
+    let begins : program.program.begins.start ≡ start_state (parameters_of job.config) contents = ap (λ (b : Beginning). b.start) program.begins ∙ ap (λ q. start_state q contents) program.geometry in
     let most : limit ≡ job.config.limit = bound ∙ ap (λ (q : Parameters). q.limit) program.geometry in
     record {
       program = program.program;

@@ -49,10 +49,10 @@ use Rattle.thy_run.specs.declared.plan.Plan.{Plan}
 use Rattle.thy_cli.specs.declared.refusal.Refusal.{Refusal}
 use Rattle.thy_cli.specs.declared.refusal.Refusal.TheVariants.{Device as DeviceRefusal}
 use Rattle.thy_cli.specs.Answering.{Outside, outside, RunAnswered, WordsDue, RunDue, given_for, shape_for, IsRunOf, IsSafeFor, ClosesRun, run_line, run_status, summary_for}
-use Rattle.thy_cli.specs.Planning.{Begins, CanRun, FitsKept, HasRoom, IsElf, IsHadFor, IsPlanOf, IsProgramOf}
+use Rattle.thy_cli.specs.Planning.{Begins, begun_with, CanRun, Fits, FitsKept, HasRoom, IsElf, IsHadFor, IsPlanOf, IsProgramOf}
 use Rattle.thy_cli.specs.Restoring.{IsRestored, ReadsFiles}
 use Rattle.thy_cli.specs.Saving.{SavesUnder, save_pick, saves}
-use Rattle.thy_cli.specs.Sources.{Source, file, made, image, Beginning, begun, restored, IsInput, IsMeant, meaning_of, origin_for, ProgramDue}
+use Rattle.thy_cli.specs.Sources.{Source, file, made, image, Beginning, begun, from_entry, restored, IsInput, IsMeant, meaning_of, origin_for, ProgramDue}
 use Rattle.thy_cli.specs.declared.refusal.Refusal.TheVariants.{Input}
 use Rattle.thy_cli.specs.declared.restoring.Beginning.{Beginning as BeginningValue}
 use Rattle.thy_cli.specs.declared.source.Had.{Had}
@@ -197,18 +197,18 @@ safe_saved K o events None false c n m old new why h safe = subst (IsSafeFor K o
 
 -- a run that was begun keeps its promise
 pub IsRunOf-ran : {M : Type 0} (K : KindOf M) (laws : IsLawful K) → (source : Source) (job : Job) (save : Option (List ℕ)) (before after : Outside) (plan : Plan) (blocks : List Block) (d stood : Device) (shape : Shape) (e : Ending) (a : Answer) (told : Stream) (why : Option PutError)
-    → (p : IsPlanOf source job before.shelf plan blocks) → job.save ≡ save
+    → CanRun plan blocks → (p : IsPlanOf source job before.shelf plan blocks) → job.save ≡ save
     → d ≡ fitted shape blocks before.device → shape.blocks ≡ K.blocks plan.geometry → shape.queue ≡ plan.geometry.nvmq → shape.cuts ≡ length plan.config.cuts
     → RunEnds K plan d stood e before.terminal after.terminal before.report told
     → SavesUnder save (saves e.stop) plan.config stood after.device before.shelf after.shelf why
     → ClosesRun e.deaf (summary_for source e.stop e.events ++ run_line plan.geometry.limit save e.stop why) told after.report
     → a.events ≡ e.events → a.cycles ≡ e.cycles → a.status ≡ run_status e.stop why → IsRunOf K source job before after a
-IsRunOf-ran K laws source job save before after plan blocks d stood shape e a told why p names fit many queue cuts ends saved closes events cycles status =
+IsRunOf-ran K laws source job save before after plan blocks d stood shape e a told why can p names fit many queue cuts ends saved closes events cycles status =
     let o : Origin = origin_for job p.program.begins p.program.input in
     let given : Given = given_for K job p.program.begins before.device in
     let about : origin_of plan ≡ o = p.origin in
     let besides = planned_given K source job before.shelf plan blocks shape d before.device p fit many queue cuts in
-    let kept = planned_promise K laws plan d stood e before.terminal after.terminal before.report told p.planned ends in
+    let kept = planned_promise K laws plan d stood e before.terminal after.terminal before.report told can.planned ends in
     let promise : Promise K o given e.cycles e.events stood =
     subst (λ x. Promise K o x e.cycles e.events stood) besides (subst (λ x. Promise K x (given_of plan d) e.cycles e.events stood) about kept) in
     let put : SavesUnder job.save (saves e.stop) job.config stood after.device before.shelf after.shelf why =
@@ -271,25 +271,34 @@ meaning_is (image name) job bytes input means elf h = absurd elf
 
 -- ---- beginnings
 
+-- a beginning in hand is the one that is meant
+beginning_is : (s : Start) (blocks : List Block) (begins : Beginning) → state_of s.state ≡ begins.start → s.kept ≡ begins.kept → blocks ≡ begins.blocks → begun_with s blocks ≡ begins
+beginning_is s blocks begins start kept same =
+    ap (λ x. record { start = x; kept = s.kept; blocks = blocks }) start
+    ∙ ap (λ m. record { start = begins.start; kept = m; blocks = blocks }) kept
+    ∙ ap (λ bs. record { start = begins.start; kept = begins.kept; blocks = bs }) same
+
 -- what a run of a program file begins with
 pub Begins-entry : (source : Source) (job : Job) (stock : Stock) (p : Program) (b : BeginningValue) → IsProgramOf source job stock p
     → state_of b.start.state ≡ start_state p.geometry (contents_of p.image) → IsStorable (program_size p.geometry) (state_of b.start.state)
     → b.start.kept ≡ None → bytes_of b.start.input ≡ bytes_of p.input → b.blocks.items ≡ [] → Begins source job stock b
 Begins-entry source job stock p b program start storable kept reads blocks =
-    let first : program.program.begins.start ≡ start_state (parameters_of job.config) (contents_of p.image) = program.start ∙ ap (λ q. start_state q (contents_of p.image)) program.geometry in
-    let same : state_of b.start.state ≡ program.program.begins.start = start ∙ sym program.start in
+    let begins : Beginning = program.program.begins in
+    let fresh : begins.kept ≡ None = ap (λ (x : Beginning). x.kept) program.begins in
+    let bare : begins.blocks ≡ [] = ap (λ (x : Beginning). x.blocks) program.begins in
+    let there : begins.start ≡ start_state p.geometry (contents_of p.image) = ap (λ (x : Beginning). x.start) program.begins in
+    let first : begins.start ≡ start_state (parameters_of job.config) (contents_of p.image) = there ∙ ap (λ q. start_state q (contents_of p.image)) program.geometry in
+    let same : state_of b.start.state ≡ begins.start = start ∙ sym there in
     record {
       program = program.program;
-      start = same;
-      kept = kept ∙ sym program.made;
+      begins = beginning_is b.start b.blocks.items begins same (kept ∙ sym fresh) (blocks ∙ sym bare);
       input = reads ∙ program.input;
-      blocks = blocks ∙ sym program.bare;
-      origin = IsOrigin-start (origin_for job program.program.begins program.program.input) (contents_of p.image)
+      origin = IsOrigin-start (origin_for job begins program.program.input) (contents_of p.image)
           (subst IsInRange program.geometry program.in_range) first
-          (subst (λ q. IsStorable (program_size q) program.program.begins.start) program.geometry (subst (IsStorable (program_size p.geometry)) same storable))
+          (subst (λ q. IsStorable (program_size q) begins.start) program.geometry (subst (IsStorable (program_size p.geometry)) same storable))
           (record { bytes = program.program.had.input_bytes; size = input_size stock job.input program.program.input program.program.had.is_input })
-          program.made;
-      fits = subst (FitsKept (parameters_of job.config) program.program.begins) (sym program.made) program.bare;
+          fresh;
+      fits = subst (FitsKept (parameters_of job.config) begins) (sym fresh) bare;
     }
 
 within_is : (bytes input : List ℕ) (epoch : ℕ) (s : State) → s.cursor ≤ length input
@@ -313,10 +322,8 @@ Begins-image name job stock p had epoch b h r within =
         begins = begins;
         means = ap (restored bytes input) decodes ∙ within_is bytes input epoch s within;
       };
-      start = refl;
-      kept = r.kept;
+      begins = beginning_is b.start b.blocks.items begins refl r.kept r.blocks;
       input = r.reads;
-      blocks = r.blocks;
       origin = IsOrigin-restored (origin_for job begins input) bytes epoch (subst IsInRange h.numbers h.in_range) h.both.are_bytes
           (record { bytes = h.both.input_bytes; size = input_size stock job.input input h.both.is_input }) decodes refl;
       fits = record {
@@ -348,25 +355,15 @@ IsProgramOf-read source job stock p had i elf h read size = record {
     bytes = bytes_of had.bytes;
     input = bytes_of had.input;
     had = h.both;
-    begins = record { start = start_state (parameters_of job.config) (contents_of i); kept = None; blocks = [] };
+    begins = from_entry (parameters_of job.config) (contents_of i);
     means = meaning_is source job (bytes_of had.bytes) (bytes_of had.input) (Ok (contents_of i)) elf read;
   };
-  start = ap (λ q. start_state q (contents_of i)) (sym h.numbers);
-  made = refl;
-  bare = refl;
+  begins = ap (λ q. from_entry q (contents_of i)) (sym h.numbers);
   input = refl;
   size = size;
 }
 
 -- ---- plans
-
--- a beginning in hand is the one that is meant
-beginning_is : (b : BeginningValue) (begins : Beginning) → state_of b.start.state ≡ begins.start → b.start.kept ≡ begins.kept → b.blocks.items ≡ begins.blocks
-    → record { start = state_of b.start.state; kept = b.start.kept; blocks = b.blocks.items } ≡ begins
-beginning_is b begins start kept blocks =
-    ap (λ s. record { start = s; kept = b.start.kept; blocks = b.blocks.items }) start
-    ∙ ap (λ m. record { start = begins.start; kept = m; blocks = b.blocks.items }) kept
-    ∙ ap (λ bs. record { start = begins.start; kept = begins.kept; blocks = bs }) blocks
 
 abbrev pub plan_with : Config → Parameters → Start → Bool → Plan
 plan_with c p start digest = record { config = c; geometry = p; start = start; digest = digest }
@@ -380,28 +377,22 @@ pub IsBegun-begins : (source : Source) (job : Job) (stock : Stock) (b : Beginnin
     → IsBegun source job stock (plan_with job.config numbers b.start job.digest) b.blocks.items
 IsBegun-begins source job stock b numbers none same h =
     let plan : Plan = plan_with job.config numbers b.start job.digest in
-    let begins : Beginning = h.program.begins in
-    let about : origin_of plan ≡ origin_for job begins h.program.input =
-    ap (λ q. record { geometry = q; start = state_of b.start.state; input = bytes_of b.start.input; kept = b.start.kept }) same
-    ∙ ap (λ s. record { geometry = parameters_of job.config; start = s; input = bytes_of b.start.input; kept = b.start.kept }) h.start
-    ∙ ap (λ i. record { geometry = parameters_of job.config; start = begins.start; input = i; kept = b.start.kept }) h.input
-    ∙ ap (λ m. record { geometry = parameters_of job.config; start = begins.start; input = h.program.input; kept = m }) h.kept in
-    let planned : IsPlanned plan = record { origin = subst IsOrigin (sym about) h.origin; rising = rising_of job.config none } in
-    let is : record { start = state_of b.start.state; kept = b.start.kept; blocks = b.blocks.items } ≡ begins = beginning_is b begins h.start h.kept h.blocks in
+    let input : List ℕ = bytes_of b.start.input in
+    let about : origin_of plan ≡ origin_for job h.program.begins h.program.input =
+    ap (λ q. record { geometry = q; start = state_of b.start.state; input = input; kept = b.start.kept }) same
+    ∙ ap (λ x. origin_for job x input) h.begins
+    ∙ ap (origin_for job h.program.begins) h.input in
     record {
       is_plan = record {
         config = refl;
         digest = refl;
         program = h.program;
         origin = about;
-        over = h.blocks;
-        fits = h.fits;
-        planned = planned;
+        over = ap (λ (x : Beginning). x.blocks) h.begins;
       };
       can = record {
-        planned = planned;
-        fits = subst (λ q. FitsKept q (record { start = state_of b.start.state; kept = b.start.kept; blocks = b.blocks.items }) b.start.kept) (sym same)
-            (subst (λ (x : Beginning). FitsKept (parameters_of job.config) x x.kept) (sym is) h.fits);
+        planned = record { origin = subst IsOrigin (sym about) h.origin; rising = rising_of job.config none };
+        fits = subst (λ q. Fits q (begun_with b.start b.blocks.items)) (sym same) (subst (Fits (parameters_of job.config)) (sym h.begins) h.fits);
       };
     }
 

@@ -12,7 +12,7 @@ use Rattle.thy_base.specs.Places.{image_blocks}
 use Rattle.thy_elf.specs.Image.{contents_of}
 use Rattle.thy_flat.specs.Flat.{AllLong}
 use Rattle.thy_isa.specs.Step.{state_of}
-use Rattle.thy_plain.specs.Start.{start_state}
+use Rattle.thy_record.specs.declared.start.Start.{Start}
 use Rattle.thy_record.specs.Decoded.{At}
 use Rattle.thy_record.specs.Images.{decode_image}
 use Rattle.thy_run.specs.Cuts.{cuts_among}
@@ -32,7 +32,7 @@ use Rattle.thy_cli.specs.declared.source.Program.{Program}
 use Rattle.thy_cli.specs.declared.source.Source.{Source as SourceValue}
 use Rattle.thy_cli.specs.declared.source.Source.TheVariants as value
 use Rattle.thy_cli.specs.Answering.{Outside, told_of, RunAnswered}
-use Rattle.thy_cli.specs.Sources.{Source, file, made, image, Beginning, FetchDue, IsHad, IsProgram, origin_for, ProgramDue}
+use Rattle.thy_cli.specs.Sources.{Source, file, made, image, Beginning, from_entry, FetchDue, IsHad, IsProgram, origin_for, ProgramDue}
 
 -- the exit status of a refusal, and its line
 abbrev pub refused_status : Refusal → ℕ
@@ -73,9 +73,7 @@ pub record IsProgramOf (source : Source) (job : Job) (stock : Stock) (p : Progra
   pub geometry : p.geometry ≡ parameters_of job.config
   pub in_range : IsInRange p.geometry
   pub program : IsProgram source job stock
-  pub start : program.begins.start ≡ start_state p.geometry (contents_of p.image)
-  pub made : program.begins.kept ≡ None
-  pub bare : program.begins.blocks ≡ []
+  pub begins : program.begins ≡ from_entry p.geometry (contents_of p.image)
   pub input : bytes_of p.input ≡ program.input
   pub size : length (bytes_of p.image.memory) ≡ program_size p.geometry
 
@@ -96,9 +94,9 @@ pub record IsImageOf (p : Parameters) (epoch : ℕ) (b : Beginning) : Type 0 whe
   pub long : AllLong b.blocks
   pub decodes : decode_image p ceiling b.blocks ≡ At epoch b.start
 
--- how a plan's run begins, over these blocks
-abbrev pub beginning_of : Plan → List Block → Beginning
-beginning_of p blocks = record { start = (origin_of p).start; kept = p.start.kept; blocks = blocks }
+-- what the program has in hand of a beginning: a start, and the first blocks of the device
+abbrev pub begun_with : Start → List Block → Beginning
+begun_with s blocks = record { start = state_of s.state; kept = s.kept; blocks = blocks }
 
 -- a device's first blocks fit a beginning: they are none, or those of an image that means its checkpoint
 abbrev pub FitsKept : Parameters → Beginning → Option Mark → Type 0
@@ -111,10 +109,8 @@ Fits p b = FitsKept p b b.kept
 -- a run begins with what the bytes of a source mean, and can begin so
 pub record Begins (source : Source) (job : Job) (stock : Stock) (b : BeginningValue) : Type 0 where
   pub program : IsProgram source job stock
-  pub start : state_of b.start.state ≡ program.begins.start
-  pub kept : b.start.kept ≡ program.begins.kept
+  pub begins : begun_with b.start b.blocks.items ≡ program.begins
   pub input : bytes_of b.start.input ≡ program.input
-  pub blocks : b.blocks.items ≡ program.begins.blocks
   pub origin : IsOrigin (origin_for job program.begins program.input)
   pub fits : Fits (parameters_of job.config) program.begins
 
@@ -142,7 +138,7 @@ pub record IsPlannedFor (job : Job) (p : Parameters) (input : Option (List ℕ))
 -- a plan can be run over a device with these first blocks
 pub record CanRun (p : Plan) (blocks : List Block) : Type 0 where
   pub planned : IsPlanned p
-  pub fits : FitsKept p.geometry (beginning_of p blocks) p.start.kept
+  pub fits : Fits p.geometry (begun_with p.start blocks)
 
 -- after a run the device has room for one more image; its images are those of the cuts that were told, and it has its blocks
 pub record HasRoom (n : Device) (events : List Event) (blocks : ℕ) : Type 0 where
@@ -157,8 +153,6 @@ pub record IsPlanOf (source : Source) (job : Job) (stock : Stock) (p : Plan) (bl
   pub program : IsProgram source job stock
   pub origin : origin_of p ≡ origin_for job program.begins program.input
   pub over : blocks ≡ program.begins.blocks
-  pub fits : Fits (parameters_of job.config) program.begins
-  pub planned : IsPlanned p
 
 -- what a run of a plan is to a job that it is the plan of
 abbrev pub RunsPlan : {M : Type 0} → KindOf M → Source → Option (List ℕ) → Plan → List Block → Outside → Outside → Answer → Type 0

@@ -82,8 +82,11 @@ pub record Beginning : Type 0 where
   pub blocks : List Block
 
 -- a program from its entry, over a device of zeros
+abbrev pub from_entry : Parameters → Contents → Beginning
+from_entry p contents = record { start = start_state p contents; kept = None; blocks = [] }
+
 abbrev pub begun : Parameters → Result Contents ElfError → Result Beginning Refusal
-begun p (Ok contents) = Ok (record { start = start_state p contents; kept = None; blocks = [] })
+begun p (Ok contents) = Ok (from_entry p contents)
 begun p (Err e) = Err (File e)
 
 -- a checkpoint, over the image that it stands in; what it has read of the input has to be there

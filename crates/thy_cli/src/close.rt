@@ -16,10 +16,7 @@ use thy_text::{Closing, write_closing, write_summary};
 pub fn close<R: Sink>(closing: Closing, report: &mut R) -> bool
     ensures { Sent result (R.stream report.old) (R.stream report.new) (closing_of closing.entry) }
 {
-    match write_closing(closing, report) {
-        Ok(()) => false,
-        Err(_) => true,
-    }
+    write_closing(closing, report).is_err()
 }
 
 /// Writes the summary of a made program that exited, and answers whether the report failed.

@@ -29,10 +29,7 @@ fn write_end<R: Sink>(state: &MachState, digest: bool, report: &mut R) -> bool
         let lines = ended_lines digest s.status s.count (bytes_of s.memory) in
         Sent result (R.stream report.old) (R.stream report.new) lines }
 {
-    match write_ended(state, digest, report) {
-        Ok(()) => false,
-        Err(_) => true,
-    }
+    write_ended(state, digest, report).is_err()
 }
 
 /// Why the plain machine stopped: for a sink that failed, else by its status.
