@@ -25,9 +25,9 @@ use Rattle.thy_view.specs.declared.view.Phase.{Phase}
 use Rattle.thy_view.specs.declared.view.Phase.TheVariants.{Boot, Run, Halt}
 use Rattle.thy_view.specs.Action.{Action, Rest, ReadAt, WriteAt, Barrier as ActBarrier, Drain, after}
 use Rattle.thy_view.specs.Origin.{Origin}
-use Rattle.thy_view.specs.Turn.{Actor, Nvm, Dram, Checkpoint, TheHart, Does}
+use Rattle.thy_view.specs.Turn.{Actor, Nvm, Dram, Checkpoint, TheHart, Pressure, Does, Prepares}
 use Rattle.thy_scheme.specs.declared.behind.Behind.{Behind}
-use Rattle.thy_scheme.specs.Behind.{fails_of, held_behind, IsOneCall}
+use Rattle.thy_scheme.specs.Behind.{failed_calls, held_behind, IsOneCall}
 use Rattle.thy_scheme.specs.Marks.{Marks}
 use Rattle.thy_scheme.specs.Scheme.{SchemeOf, Stands, IsBooting}
 use Rattle.thy_scheme.specs.Calls.{IsOneAccess, Merges, Promotes, PromotionFails, Drains, Seals, Engines, EngineFails, engine_did}
@@ -36,10 +36,10 @@ use Rattle.thy_scheme.specs.declared.boot_step.BootStep.{BootStep}
 use Rattle.thy_scheme.specs.declared.boot_step.BootStep.TheVariants.{GoesOn, Loaded, Restarted, Refused}
 use Rattle.thy_core.specs.declared.parts.Parts.{Parts}
 use Rattle.thy_core.specs.Parts.{machine_of, IsRestartBelow}
-use Rattle.thy_core_model.specs.Machine.{Machine, moment_of}
-use Rattle.thy_core_model.specs.Sound.{OpenNow}
-use Rattle.thy_core_model.specs.Calls.{IsAsked, HartStepped, FlushStepped, retires_by, hart_did, after_hart, after_flush, after_call, after_drain, after_seal, after_engine, after_boot}
-use Rattle.thy_core_model.specs.Rows.{At, HartGoes, IsSealing, Leads}
+use Rattle.thy_core_model.specs.Machine.{Machine, moment_of, pressure_of}
+use Rattle.thy_core_model.specs.Sound.{OpenNow, Sound}
+use Rattle.thy_core_model.specs.Calls.{IsAsked, HartCall, FlushCall, retires_by, hart_did, after_hart, after_flush, after_call, after_drain, after_seal, after_engine, after_boot}
+use Rattle.thy_core_model.specs.Rows.{IsMoment, At, HartGoes, IsSealing, Leads}
 use Rattle.thy_core.specs.Cycles.{IsEngineDue, IsTurnOf, IsCycle, HasFailedAs, LeadsAs, FailsAs}
 use Rattle.thy_core_model.proofs.Facts.{sound-run, holds-run, is-going}
 use Rattle.thy_core_model.proofs.KeepsLaws.{stands, runs_behind}
@@ -64,6 +64,12 @@ does_boot Loaded = refl
 does_boot (Restarted cpu epoch) = refl
 does_boot (Refused bad) = refl
 
+due_boot : (step : BootStep) (p : Pressure) → Prepares (boot_did step) p
+due_boot GoesOn p = tt
+due_boot Loaded p = tt
+due_boot (Restarted cpu epoch) p = tt
+due_boot (Refused bad) p = tt
+
 -- what the scheme was before the boot's step does not count
 pub boot_over : {S : Type 0} (o : Origin) (step : BootStep) (t : S) (m : Machine S) → after_boot o step t (record m { scheme = t }) ≡ after_boot o step t m
 boot_over o GoesOn t m = refl
@@ -71,11 +77,69 @@ boot_over o Loaded t m = refl
 boot_over o (Restarted cpu epoch) t m = refl
 boot_over o (Refused bad) t m = refl
 
+pub stands_run : {S : Type 0} (K : SchemeOf S) (o : Origin) (cycles : ℕ) (m : Machine S) (n : Device) → Sound K o cycles m n → m.phase ≡ Run
+    → Stands K o m.marks m.scheme n
+stands_run K o cycles m n sound e = stands K o cycles m n sound (runs_behind m.phase e)
+
+does_engine : (lap : ℕ) (step : EngineStep) → Does (engine_did lap step) Checkpoint
+does_engine lap Idle = inl refl
+does_engine lap Copied = inl refl
+does_engine lap PageBlock = inl refl
+does_engine lap StateBlock = inl refl
+does_engine lap TableBlock = inl refl
+does_engine lap Barrier = inl refl
+does_engine lap CommitWritten = inl refl
+does_engine lap (Committed epoch) = inl refl
+
+due_engine : (lap : ℕ) (step : EngineStep) (p : Pressure) → Prepares (engine_did lap step) p
+due_engine lap Idle p = tt
+due_engine lap Copied p = tt
+due_engine lap PageBlock p = tt
+due_engine lap StateBlock p = tt
+due_engine lap TableBlock p = tt
+due_engine lap Barrier p = tt
+due_engine lap CommitWritten p = tt
+due_engine lap (Committed epoch) p = tt
+
+-- ---- a cycle that failed
+
+module _ {S : Type 0} (K : SchemeOf S) (o : Origin) (cycles : ℕ) (m : Machine S) (n : Device) (at : IsMoment K o cycles m n) where
+  pub engine_failed : (new : Device) → IsEngineDue K m → EngineFails K o m.marks n new → HasFailedAs K o Checkpoint m n new
+  engine_failed new due e = record {
+    did = engine_did m.lap e.step;
+    does = does_engine m.lap e.step;
+    due = due_engine m.lap e.step (pressure_of K m);
+    fails = engine_leaves K o cycles m n new at due.0 e;
+  }
+
+  pub promotion_failed : (new : Device) → IsSealing K o m n → K.promoting m.scheme ≡ true → PromotionFails n new
+      → HasFailedAs K o (TheHart (Some Sealing)) m n new
+  promotion_failed new sealing promoting f =
+      record { did = Promoted; does = refl; due = promoting; fails = promotion_leaves K o cycles m n new at sealing.phase f }
+
+  pub hart_failed : (t : S) (new : Device) → HartGoes K o m n → IsOneAccess K m.scheme n t new → new.down ≡ true → HasFailedAs K o (TheHart None) m n new
+  hart_failed t new goes access down = record { did = Moved; does = refl; due = tt; fails = hart_fails K o cycles m n t new at goes access down }
+
+  pub flush_failed : (t : S) (new : Device) → IsSealing K o m n → K.promoting m.scheme ≡ false → dirty_count m.cache ≢ 0 → IsOneAccess K m.scheme n t new → new.down ≡ true
+      → HasFailedAs K o (TheHart (Some Sealing)) m n new
+  flush_failed t new sealing whole dirty access down =
+      record { did = DidFlush; does = refl; due = (whole, dirty); fails = flush_fails K o cycles m n t new at sealing access down }
+
+  pub boot_failed : (new : Device) → m.phase ≡ Boot → BootFails K o m.scheme n new → HasFailedAs K o (TheHart (Some Booting)) m n new
+  boot_failed new e b = record {
+    did = boot_did b.step;
+    does = does_boot b.step;
+    due = due_boot b.step (pressure_of K m);
+    fails = boot_leaves K o cycles m n new at e b;
+  }
+
+  pub land_failed : (new : Device) → HasFailed n new → IsFramed n new → HasFailedAs K o Nvm m n new
+  land_failed new failed frame = record { did = NvmDrained; does = refl; due = tt; fails = drain_fails K o cycles m n new at failed frame }
+
+-- ---- one that leads on
+
 module _ {S : Type 0} (K : SchemeOf S) (o : Origin) (cycles : ℕ) (m : Machine S) (n : Device) (at : At K o cycles m n) where
   -- ---- the DRAM's queue
-
-  pub stands_run : m.phase ≡ Run → Stands K o m.marks m.scheme n
-  stands_run e = stands K o cycles m n at.sound (runs_behind m.phase e)
 
   drains_in : (phase : Phase) (t : S) → m.phase ≡ phase → 0 < K.queued m.scheme
       → ((p : Origin) (k : Marks) (d : Device) → Stands K p k m.scheme d → Drains K p k m.scheme d t)
@@ -94,19 +158,9 @@ module _ {S : Type 0} (K : SchemeOf S) (o : Origin) (cycles : ℕ) (m : Machine 
       → ((p : Origin) (k : Marks) (d : Device) → Stands K p k m.scheme d → Drains K p k m.scheme d t)
       → ((p : Origin) (d : Device) → IsBooting K p m.scheme d → BootDrains K p m.scheme d t)
       → IsCycle K o cycles Dram DramDrained m n (after_drain t m) n
-  drain_cycle t some running booting = record { does = refl; leads = drains_in m.phase t refl some running booting }
+  drain_cycle t some running booting = record { does = refl; due = tt; leads = drains_in m.phase t refl some running booting }
 
   -- ---- the engine
-
-  does_engine : (lap : ℕ) (step : EngineStep) → Does (engine_did lap step) Checkpoint
-  does_engine lap Idle = inl refl
-  does_engine lap Copied = inl refl
-  does_engine lap PageBlock = inl refl
-  does_engine lap StateBlock = inl refl
-  does_engine lap TableBlock = inl refl
-  does_engine lap Barrier = inl refl
-  does_engine lap CommitWritten = inl refl
-  does_engine lap (Committed epoch) = inl refl
 
   pub engine_cycle : (t : S) (new : Device) (step : EngineStep) (next : Machine S) (did : Did) → IsEngineDue K m
       → Engines K o m.marks step m.scheme n t new → next ≡ after_engine step t m → did ≡ engine_did m.lap step
@@ -114,27 +168,17 @@ module _ {S : Type 0} (K : SchemeOf S) (o : Origin) (cycles : ℕ) (m : Machine 
   engine_cycle t new step next did due e is says =
       subst (λ x. IsCycle K o cycles Checkpoint did m n x new) (sym is)
       (subst (λ d. IsCycle K o cycles Checkpoint d m n (after_engine step t m) new) (sym says)
-      (record { does = does_engine m.lap step; leads = engine_leads K o cycles m n t new step at due.0 due.1 e }))
-
-  pub engine_failed : (new : Device) → IsEngineDue K m → EngineFails K o m.marks n new → HasFailedAs K o Checkpoint m n new
-  engine_failed new due e = record {
-    did = engine_did m.lap e.step;
-    does = does_engine m.lap e.step;
-    fails = engine_leaves K o cycles m n new at due.0 e;
-  }
+      (record { does = does_engine m.lap step; due = due_engine m.lap step (pressure_of K m); leads = engine_leads K o cycles m n t new step at due.0 due.1 e }))
 
   -- ---- before a seal
 
   pub promotion_cycle : (t : S) (new : Device) → IsSealing K o m n → K.promoting m.scheme ≡ true → Promotes K o m.marks m.scheme n t new
       → IsCycle K o cycles (TheHart (Some Sealing)) Promoted m n (after_call t m) new
-  promotion_cycle t new sealing promoting p = record { does = refl; leads = promotion_leads K o cycles m n t new at sealing promoting p }
+  promotion_cycle t new sealing promoting p = record { does = refl; due = promoting; leads = promotion_leads K o cycles m n t new at sealing promoting p }
 
-  pub promotion_failed : (new : Device) → IsSealing K o m n → PromotionFails n new → HasFailedAs K o (TheHart (Some Sealing)) m n new
-  promotion_failed new sealing f = record { did = Promoted; does = refl; fails = promotion_leaves K o cycles m n new at sealing.phase f }
-
-  pub merge_cycle : (t : S) → IsSealing K o m n → K.promoting m.scheme ≡ false → dirty_count m.cache ≡ 0 → Merges K o m.marks m.scheme n t
+  pub merge_cycle : (t : S) → IsSealing K o m n → K.promoting m.scheme ≡ false → dirty_count m.cache ≡ 0 → K.overlaid m.scheme ≡ true → Merges K o m.marks m.scheme n t
       → IsCycle K o cycles (TheHart (Some Sealing)) Merged m n (after_call t m) n
-  merge_cycle t sealing whole clean p = record { does = refl; leads = merge_leads K o cycles m n t at sealing whole clean p }
+  merge_cycle t sealing whole clean overlaid p = record { does = refl; due = (whole, clean, overlaid); leads = merge_leads K o cycles m n t at sealing whole clean p }
 
   -- ---- the seal
 
@@ -150,7 +194,7 @@ module _ {S : Type 0} (K : SchemeOf S) (o : Origin) (cycles : ℕ) (m : Machine 
       subst (λ x. IsCycle K o cycles (TheHart (Some Sealing)) (Sealed epoch count cause) m n x n) (sym is)
       (subst (λ e. IsCycle K o cycles (TheHart (Some Sealing)) (Sealed e count cause) m n (after_seal t m) n) (sym number)
       (subst (λ i. IsCycle K o cycles (TheHart (Some Sealing)) (Sealed m.hart.epoch.number i cause) m n (after_seal t m) n) (sym at_count)
-      (record { does = refl; leads = seal_leads K o cycles m n t cause at sealing whole bare clean (sym over) p })))
+      (record { does = refl; due = (whole, clean, bare); leads = seal_leads K o cycles m n t cause at sealing whole bare clean (sym over) p })))
 
   -- ---- the hart
 
@@ -177,30 +221,27 @@ module _ {S : Type 0} (K : SchemeOf S) (o : Origin) (cycles : ℕ) (m : Machine 
         opened = subst (λ x. OpenNow x m.cache m.hart (K.holding m.scheme n).open_page) going.going run.held.opened;
       }
 
+  due_hart : (retired : Bool) (p : Pressure) → Prepares (if retired then Retired else Moved) p
+  due_hart true p = tt
+  due_hart false p = tt
+
   does_hart : (retired : Bool) → Does (if retired then Retired else Moved) (TheHart None)
   does_hart true = refl
   does_hart false = refl
 
   pub hart_cycle : (h : Core) (c : Contents) (t : S) (new : Device) (step : HartStep) (next : Machine S) (did : Did) → HartGoes K o m n
-      → HartStepped K (given o.input (K.free m.scheme) (K.under_way m.scheme)) m n h c t new step
+      → HartCall K (given o.input (K.free m.scheme) (K.under_way m.scheme)) m n h c t new step
       → next ≡ after_hart step h c t m → did ≡ hart_did step → IsCycle K o cycles (TheHart None) did m n next new
   hart_cycle h c t new step next did goes hs is says =
       subst (λ x. IsCycle K o cycles (TheHart None) did m n x new) (sym is)
       (subst (λ d. IsCycle K o cycles (TheHart None) d m n (after_hart step h c t m) new) (sym says)
-      (record { does = does_hart (retires_by step); leads = hart-leads K o cycles m n h c t new step at goes hs }))
-
-  pub hart_failed : (t : S) (new : Device) → HartGoes K o m n → IsOneAccess K m.scheme n t new → new.down ≡ true → HasFailedAs K o (TheHart None) m n new
-  hart_failed t new goes access down = record { did = Moved; does = refl; fails = hart_fails K o cycles m n t new at goes access down }
+      (record { does = does_hart (retires_by step); due = due_hart (retires_by step) (pressure_of K m); leads = hart-leads K o cycles m n h c t new step at goes hs }))
 
   -- ---- a flush
 
-  pub flush_cycle : (c : Contents) (t : S) (new : Device) (flushed : Flushed) → IsSealing K o m n → K.promoting m.scheme ≡ false
-      → FlushStepped K m n flushed c t new → IsCycle K o cycles (TheHart (Some Sealing)) DidFlush m n (after_flush c t m) new
-  flush_cycle c t new flushed sealing whole f = record { does = refl; leads = flush_leads K o cycles m n c t new flushed at sealing whole f }
-
-  pub flush_failed : (t : S) (new : Device) → IsSealing K o m n → IsOneAccess K m.scheme n t new → new.down ≡ true
-      → HasFailedAs K o (TheHart (Some Sealing)) m n new
-  flush_failed t new sealing access down = record { did = DidFlush; does = refl; fails = flush_fails K o cycles m n t new at sealing access down }
+  pub flush_cycle : (c : Contents) (t : S) (new : Device) (flushed : Flushed) → IsSealing K o m n → K.promoting m.scheme ≡ false → dirty_count m.cache ≢ 0
+      → FlushCall K m n flushed c t new → IsCycle K o cycles (TheHart (Some Sealing)) DidFlush m n (after_flush c t m) new
+  flush_cycle c t new flushed sealing whole dirty f = record { does = refl; due = (whole, dirty); leads = flush_leads K o cycles m n c t new flushed at sealing whole f }
 
   -- ---- the boot
 
@@ -220,22 +261,16 @@ module _ {S : Type 0} (K : SchemeOf S) (o : Origin) (cycles : ℕ) (m : Machine 
   boot_cycle t new step next did e b is says =
       subst (λ x. IsCycle K o cycles (TheHart (Some Booting)) did m n x new) (sym is)
       (subst (λ d. IsCycle K o cycles (TheHart (Some Booting)) d m n (after_boot o step t m) new) (sym says)
-      (record { does = does_boot step; leads = boot_leads K o cycles m n t new step at e b }))
-
-  pub boot_failed : (new : Device) → m.phase ≡ Boot → BootFails K o m.scheme n new → HasFailedAs K o (TheHart (Some Booting)) m n new
-  boot_failed new e b = record { did = boot_did b.step; does = does_boot b.step; fails = boot_leaves K o cycles m n new at e b }
+      (record { does = does_boot step; due = due_boot step (pressure_of K m); leads = boot_leads K o cycles m n t new step at e b }))
 
   -- ---- the NVM's queue, and nothing
 
   pub land_cycle : (new : Device) → 0 < length n.queue → new ≡ drained n → IsCycle K o cycles Nvm NvmDrained m n m new
   land_cycle new some is =
-      subst (λ d. IsCycle K o cycles Nvm NvmDrained m n m d) (sym is) (record { does = refl; leads = nvm_drain_leads K o cycles m n at some })
-
-  pub land_failed : (new : Device) → HasFailed n new → IsFramed n new → HasFailedAs K o Nvm m n new
-  land_failed new failed frame = record { did = NvmDrained; does = refl; fails = drain_fails K o cycles m n new at failed frame }
+      subst (λ d. IsCycle K o cycles Nvm NvmDrained m n m d) (sym is) (record { does = refl; due = tt; leads = nvm_drain_leads K o cycles m n at some })
 
   pub rest_cycle : m.phase ≡ Halt → IsCycle K o cycles (TheHart (Some Halted)) Nothing m n m n
-  rest_cycle e = record { does = refl; leads = nothing_leads K o cycles m n at e }
+  rest_cycle e = record { does = refl; due = tt; leads = nothing_leads K o cycles m n at e }
 
 -- ---- the engine works for a hart that waits
 
@@ -258,11 +293,11 @@ waits_does (DidRefuse bad) d = absurd (cc)
 
 pub waits_cycle : {S : Type 0} (K : SchemeOf S) (o : Origin) (cycles : ℕ) (did : Did) (m next : Machine S) (n new : Device)
     → IsCycle K o cycles Checkpoint did m n next new → IsCycle K o cycles (TheHart (Some Waiting)) did m n next new
-waits_cycle K o cycles did m next n new c = record { does = waits_does did c.does; leads = c.leads }
+waits_cycle K o cycles did m next n new c = record { does = waits_does did c.does; due = c.due; leads = c.leads }
 
 pub waits_failed : {S : Type 0} (K : SchemeOf S) (o : Origin) (m : Machine S) (n new : Device)
     → HasFailedAs K o Checkpoint m n new → HasFailedAs K o (TheHart (Some Waiting)) m n new
-waits_failed K o m n new f = record { did = f.did; does = waits_does f.did f.does; fails = f.fails }
+waits_failed K o m n new f = record { did = f.did; does = waits_does f.did f.does; due = f.due; fails = f.fails }
 
 -- so it is by a result
 pub waits_leads : {S : Type 0} (K : SchemeOf S) (o : Origin) (cycles : ℕ) (m next : Machine S) (n new : Device) (r : Result Did NvmError)
@@ -301,7 +336,7 @@ down_now true false up rose = absurd (cc)
 down_now false false up rose = absurd (let more = rose.more in omega (arith, more))
 
 pub failed_once : {S N : Type 0} (K : SchemeOf S) (device : N → Device) (a b : Behind S) (x y : N) → (device x).down ≡ false
-    → CalledOnce K device a x b y → Rose (fails_of (device x)) (fails_of (device y))
+    → CalledOnce K device a x b y → Rose (failed_calls (device x)) (failed_calls (device y))
     → IsOneCall K a.scheme (device x) b.scheme (device y) × ((device y).down ≡ true)
 failed_once K device a b x y up (inl same) rose =
     let down = down_now (device x).down (device y).down up rose in
@@ -326,7 +361,7 @@ faults_after Drain n = refl
 
 -- one that did not has counted no failure
 pub kept_once : {S N : Type 0} (K : SchemeOf S) (device : N → Device) (a b : Behind S) (x y : N) → (device x).down ≡ false
-    → CalledOnce K device a x b y → fails_of (device y) ≡ fails_of (device x) → (device y).faults ≡ (device x).faults
+    → CalledOnce K device a x b y → failed_calls (device y) ≡ failed_calls (device x) → (device y).faults ≡ (device x).faults
 kept_once K device a b x y up (inl same) e = ap (λ z. (device z).faults) same.1
 kept_once K device a b x y up (inr once) e =
     let done = once.access.succeeds (up_now (device x).down (device y).down up e) in
@@ -343,14 +378,14 @@ given_is : (input other : List ℕ) (free before : ℕ) (way under : Bool) → o
 given_is input other free before way under i f w =
     ap (λ x. given x free way) (sym i) ∙ ap (λ x. given other x way) f ∙ ap (λ x. given other before x) w
 
-pub hart_stepped : {S N : Type 0} (K : SchemeOf S) (device : N → Device) (o : Origin) (p : Parts S) (b : Behind S) (x y : N) (h : Core) (c : Contents)
+pub hart_call : {S N : Type 0} (K : SchemeOf S) (device : N → Device) (o : Origin) (p : Parts S) (b : Behind S) (x y : N) (h : Core) (c : Contents)
     (step : HartStep) (input : List ℕ) (free : ℕ) (way : Bool) → o.input ≡ input → free ≡ K.free p.behind.scheme → way ≡ K.under_way p.behind.scheme
     → IsStep (given input free way) (moment_of K (machine_of p) (device x)) (moment h c (held_behind K b.scheme (device y))) step
     → CalledOnce K device p.behind x b y → K.stays p.behind.scheme (device x) b.scheme (device y)
     → (brings_line (moment_of K (machine_of p) (device x)) ≡ false → (b ≡ p.behind) × (y ≡ x))
     → (dirty_count p.cache ≡ 0 → ((b ≡ p.behind) × (y ≡ x)) ⊎ (b.scheme ≡ p.behind.scheme))
-    → HartStepped K (given o.input (K.free p.behind.scheme) (K.under_way p.behind.scheme)) (machine_of p) (device x) h c b.scheme (device y) step
-hart_stepped K device o p b x y h c step input free way i f w s once stays untouched loads =
+    → HartCall K (given o.input (K.free p.behind.scheme) (K.under_way p.behind.scheme)) (machine_of p) (device x) h c b.scheme (device y) step
+hart_call K device o p b x y h c step input free way i f w s once stays untouched loads =
     let same = given_is input o.input free (K.free p.behind.scheme) way (K.under_way p.behind.scheme) i f w in
     let is_step = subst (λ g. IsStep g (moment_of K (machine_of p) (device x)) (moment h c (held_behind K b.scheme (device y))) step) same s in
     record {

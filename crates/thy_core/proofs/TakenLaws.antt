@@ -2,12 +2,11 @@
 use Rattle.std.proofs.Common.{◌≡◌, ℕ, ◌+◌, ◌<◌, ◌^◌, ◌&&◌, not, length, refl, sym, ◌∙◌, ap, subst}
 use Rattle.thy_base.specs.declared.mix.Pick.{Pick}
 use Rattle.thy_base.specs.Device.{Device}
-use Rattle.thy_record.specs.declared.start.Start.{Start}
 use Rattle.thy_view.specs.declared.did.Stepped.{Stepped}
 use Rattle.thy_view.specs.declared.view.Phase.{Phase}
 use Rattle.thy_view.specs.declared.view.Phase.TheVariants.{Boot, Run, Halt}
 use Rattle.thy_view.specs.Kind.{IsStep, LeavesSafe}
-use Rattle.thy_view.specs.Origin.{Origin, Begins}
+use Rattle.thy_view.specs.Origin.{Origin}
 use Rattle.thy_view.specs.Turn.{Actor, Does, told_at, turn_of}
 use Rattle.thy_view.specs.Views.{is_halt}
 use Rattle.thy_scheme.specs.Scheme.{SchemeOf}
@@ -15,7 +14,7 @@ use Rattle.thy_scheme.specs.Laws.{IsLawful}
 use Rattle.thy_core_model.specs.Machine.{Machine, view_in, view_of, pressure_of}
 use Rattle.thy_core_model.specs.Sound.{Sound}
 use Rattle.thy_core_model.specs.Kind.{kind_over}
-use Rattle.thy_core_model.specs.Rows.{At}
+use Rattle.thy_core_model.specs.Rows.{IsMoment, At}
 use Rattle.thy_core.specs.Turns.{turn_now}
 use Rattle.thy_core.specs.Cycles.{IsTurnOf, IsCycle, HasFailedAs}
 use Rattle.thy_core_model.proofs.Facts.{view-run}
@@ -27,6 +26,9 @@ pub at_run : {S : Type 0} (K : SchemeOf S) (l : IsLawful K) (o : Origin) (cycles
     → At K o cycles m n
 at_run K l o cycles m n sound few = record { lawful = l; sound = sound; few = few }
 
+pub moment_of : {S : Type 0} (K : SchemeOf S) (o : Origin) (cycles : ℕ) (m : Machine S) (n : Device) → At K o cycles m n → IsMoment K o cycles m n
+moment_of K o cycles m n at = record { lawful = at.lawful; sound = at.sound }
+
 -- the phase of the view is the machine's
 pub phase_in : {S : Type 0} (K : SchemeOf S) (l : IsLawful K) (o : Origin) (cycles : ℕ) (m : Machine S) (n : Device) (phase : Phase) → Sound K o cycles m n → m.phase ≡ phase
     → (view_of K o m n).phase ≡ phase
@@ -34,12 +36,12 @@ phase_in K l o cycles m n Boot s e = ap (λ v. v.phase) (view-boot K o m n e) �
 phase_in K l o cycles m n Run s e = ap (λ v. v.phase) (view-run K o m n e) ∙ e
 phase_in K l o cycles m n Halt s e = ap (λ phase. (view_in K o phase m n).phase) e ∙ e
 
-pub turned : {S : Type 0} (K : SchemeOf S) (o : Origin) (cycles : ℕ) (pick : Pick) (nvm : ℕ) (actor : Actor) (m : Machine S) (n : Device) → At K o cycles m n
+pub turned : {S : Type 0} (K : SchemeOf S) (o : Origin) (cycles : ℕ) (pick : Pick) (nvm : ℕ) (actor : Actor) (m : Machine S) (n : Device) → IsMoment K o cycles m n
     → nvm ≡ length n.queue → actor ≡ turn_now K pick nvm m → IsTurnOf K o m n actor
 turned K o cycles pick nvm actor m n at queued is = subst (IsTurnOf K o m n) (sym is) (at_turn K o cycles m n at pick nvm queued)
 
 -- the actor is the one of the view
-actor_is : {S : Type 0} (K : SchemeOf S) (o : Origin) (cycles : ℕ) (pick : Pick) (nvm : ℕ) (actor : Actor) (m : Machine S) (n : Device) → At K o cycles m n
+actor_is : {S : Type 0} (K : SchemeOf S) (o : Origin) (cycles : ℕ) (pick : Pick) (nvm : ℕ) (actor : Actor) (m : Machine S) (n : Device) → IsMoment K o cycles m n
     → nvm ≡ length n.queue → actor ≡ turn_now K pick nvm m → actor ≡ turn_of o pick (length n.queue) (view_of K o m n) (pressure_of K m)
 actor_is K o cycles pick nvm actor m n at queued is =
     is ∙ turn_is K o cycles m n at pick nvm ∙ ap (λ q. turn_of o pick q (view_of K o m n) (pressure_of K m)) queued
@@ -48,27 +50,17 @@ pub step_taken : {S : Type 0} (K : SchemeOf S) (o : Origin) (cycles : ℕ) (pick
     → At K o cycles m n → nvm ≡ length n.queue → actor ≡ turn_now K pick nvm m → IsCycle K o cycles actor r.did m n next new
     → r.stall ≡ told_at actor → r.ended ≡ (not (is_halt m.phase) && is_halt next.phase) → IsStep (kind_over K) o cycles pick m next n new r
 step_taken K o cycles pick nvm actor m next n new r at queued is c stall ended =
-    let turn = actor_is K o cycles pick nvm actor m n at queued is in
+    let turn = actor_is K o cycles pick nvm actor m n (moment_of K o cycles m n at) queued is in
     let before = phase_in K at.lawful o cycles m n m.phase at.sound refl in
     let behind = phase_in K at.lawful o (cycles + 1) next new next.phase c.leads.at_next refl in
     leading_is_step K o cycles pick m next n new r at c.leads
-    (subst (Does r.did) turn c.does, stall ∙ ap told_at turn)
+    (subst (Does r.did) turn c.does, stall ∙ ap told_at turn, c.due)
     (ended ∙ ap (λ x. not (is_halt x) && is_halt next.phase) (sym before)
     ∙ ap (λ x. not (is_halt (view_of K o m n).phase) && is_halt x) (sym behind))
 
--- a run is known by its start and its geometry
-origin_is : (a b : Origin) → a.geometry ≡ b.geometry → a.start ≡ b.start → a.input ≡ b.input → a.kept ≡ b.kept → a ≡ b
-origin_is a b g s i k =
-    ap (λ x. record { geometry = x; start = a.start; input = a.input; kept = a.kept }) g
-    ∙ ap (λ x. record { geometry = b.geometry; start = x; input = a.input; kept = a.kept }) s
-    ∙ ap (λ x. record { geometry = b.geometry; start = b.start; input = x; kept = a.kept }) i
-    ∙ ap (λ x. record { geometry = b.geometry; start = b.start; input = b.input; kept = x }) k
-
-pub step_failed : {S : Type 0} (K : SchemeOf S) (a o : Origin) (cycles k : ℕ) (start : Start) (pick : Pick) (nvm : ℕ) (actor : Actor) (m : Machine S) (n new : Device)
-    → At K a cycles m n → Begins a start → Begins o start → Sound K o k m n → nvm ≡ length n.queue → actor ≡ turn_now K pick nvm m
-    → HasFailedAs K a actor m n new → LeavesSafe (kind_over K) o pick m n new
-step_failed K a o cycles k start pick nvm actor m n new at first begins sound queued is f =
-    let same = origin_is a o (sym at.sound.geometry ∙ sound.geometry) (first.state ∙ sym begins.state) (first.input ∙ sym begins.input) (first.kept ∙ sym begins.kept) in
-    let turn = actor_is K a cycles pick nvm actor m n at queued is in
-    subst (λ x. LeavesSafe (kind_over K) x pick m n new) same
-    (failing_is_safe K a pick m n new f.did (told_at actor) f.fails (subst (Does f.did) turn f.does, ap told_at turn))
+pub step_failed : {S : Type 0} (K : SchemeOf S) (o : Origin) (cycles : ℕ) (pick : Pick) (nvm : ℕ) (actor : Actor) (m : Machine S) (n new : Device)
+    → IsMoment K o cycles m n → nvm ≡ length n.queue → actor ≡ turn_now K pick nvm m → HasFailedAs K o actor m n new
+    → LeavesSafe (kind_over K) o pick m n new
+step_failed K o cycles pick nvm actor m n new at queued is f =
+    let turn = actor_is K o cycles pick nvm actor m n at queued is in
+    failing_is_safe K o pick m n new f.did (told_at actor) f.fails (subst (Does f.did) turn f.does, ap told_at turn, f.due)

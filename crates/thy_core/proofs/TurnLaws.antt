@@ -13,7 +13,7 @@ use Rattle.thy_view.specs.Origin.{Origin, runs_at}
 use Rattle.thy_view.specs.Turn.{Nvm, Dram, Checkpoint, TheHart, has_stopped, is_under_way, stall_in, engine_turn, turn_of}
 use Rattle.thy_scheme.specs.Scheme.{SchemeOf}
 use Rattle.thy_core_model.specs.Machine.{Machine, view_in, view_of, shortage_of, pressure_of}
-use Rattle.thy_core_model.specs.Rows.{At}
+use Rattle.thy_core_model.specs.Rows.{IsMoment}
 use Rattle.thy_core.specs.Turns.{waits_now, stall_now, hart_now, engine_now, turn_now}
 use Rattle.thy_core.specs.Cycles.{IsEngineDue, IsHartsTurn, IsTurnOf}
 use Rattle.thy_core_model.proofs.Facts.{view-run, sound-run, holds-run}
@@ -32,7 +32,7 @@ no_other true seals stall w s e = w (cc)
 no_other false true stall w s e = s (cc)
 no_other false false stall w s e = absurd (cc)
 
-module _ {S : Type 0} (K : SchemeOf S) (o : Origin) (cycles : ℕ) (m : Machine S) (n : Device) (at : At K o cycles m n) where
+module _ {S : Type 0} (K : SchemeOf S) (o : Origin) (cycles : ℕ) (m : Machine S) (n : Device) (at : IsMoment K o cycles m n) where
   stall_run : m.phase ≡ Run → stall_now K Run m ≡ stall_in o Run (view_of K o m n) (pressure_of K m)
   stall_run e =
       let run = sound-run K o cycles m n at.sound e in

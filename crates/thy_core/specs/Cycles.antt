@@ -8,10 +8,10 @@ use Rattle.thy_view.specs.declared.did.Stall.{Stall}
 use Rattle.thy_view.specs.declared.did.Stall.TheVariants.{Booting, Sealing, Waiting, Halted}
 use Rattle.thy_view.specs.declared.view.Phase.TheVariants.{Boot, Run, Halt}
 use Rattle.thy_view.specs.Origin.{Origin, Begins}
-use Rattle.thy_view.specs.Turn.{Actor, Nvm, Dram, Checkpoint, TheHart, Does}
+use Rattle.thy_view.specs.Turn.{Actor, Nvm, Dram, Checkpoint, TheHart, Does, Prepares}
 use Rattle.thy_scheme.specs.Scheme.{SchemeOf}
-use Rattle.thy_core_model.specs.Machine.{Machine}
-use Rattle.thy_core_model.specs.Rows.{At, HartGoes, IsSealing, Leads}
+use Rattle.thy_core_model.specs.Machine.{Machine, pressure_of}
+use Rattle.thy_core_model.specs.Rows.{IsMoment, At, HartGoes, IsSealing, Leads}
 use Rattle.thy_core_model.specs.Failures.{Fails}
 
 -- a checkpoint is under way, behind the boot
@@ -54,12 +54,14 @@ pub record CanTake {S : Type 0} (K : SchemeOf S) (P : Origin → Type 0) (actor 
 -- a cycle that did this was the actor's, and leads on
 pub record IsCycle {S : Type 0} (K : SchemeOf S) (o : Origin) (cycles : ℕ) (actor : Actor) (did : Did) (m : Machine S) (n : Device) (next : Machine S) (new : Device) : Type 0 where
   pub does : Does did actor
+  pub due : Prepares did (pressure_of K m)
   pub leads : Leads K o cycles did m n next new
 
 -- a cycle of the actor's failed, and leaves what is safe
 pub record HasFailedAs {S : Type 0} (K : SchemeOf S) (o : Origin) (actor : Actor) (m : Machine S) (n new : Device) : Type 0 where
   pub did : Did
   pub does : Does did actor
+  pub due : Prepares did (pressure_of K m)
   pub fails : Fails K o did m n new
 
 -- so it is in whatever run of this kind
@@ -70,4 +72,4 @@ LeadsAs K P actor m n next new result =
 
 abbrev pub FailsAs : {S : Type 0} → SchemeOf S → (Origin → Type 0) → Actor → Machine S → Device → Device → Result Did NvmError → Type 0
 FailsAs K P actor m n new result =
-    (o : Origin) (cycles : ℕ) → P o → At K o cycles m n → IsTurnOf K o m n actor → OnErr result (HasFailedAs K o actor m n new)
+    (o : Origin) (cycles : ℕ) → P o → IsMoment K o cycles m n → IsTurnOf K o m n actor → OnErr result (HasFailedAs K o actor m n new)

@@ -1,4 +1,4 @@
--- The parts of a machine as one, and the turns that its code tells.
+-- The parts of a machine as one, and the actors of its code.
 use Rattle.std.specs.Prelude.{ℕ, ◌<◌}
 use Rattle.thy_view.specs.Turn.{Actor, Nvm, Dram, Checkpoint, TheHart}
 use Rattle.thy_scheme.specs.declared.boot_step.BootStep.{BootStep}
@@ -7,8 +7,8 @@ use Rattle.thy_scheme.specs.Marks.{Marks}
 use Rattle.thy_core.specs.declared.parts.Checkpoints.{Checkpoints}
 use Rattle.thy_core.specs.declared.parts.Consoles.{Consoles}
 use Rattle.thy_core.specs.declared.parts.Parts.{Parts}
-use Rattle.thy_core.specs.declared.turn.Turn.{Turn}
-use Rattle.thy_core.specs.declared.turn.Turn.TheVariants as turns
+use Rattle.thy_core.specs.declared.turn.Actor.{Actor as ActorHere}
+use Rattle.thy_core.specs.declared.turn.Actor.TheVariants as here
 use Rattle.thy_core_model.specs.Machine.{Machine, Lengths}
 
 abbrev pub marks_of : Checkpoints → Marks
@@ -32,12 +32,12 @@ machine_of p = record {
   failed = p.failed;
 }
 
--- the actor of a turn
-abbrev pub actor_of : Turn → Actor
-actor_of turns.Nvm = Nvm
-actor_of turns.Dram = Dram
-actor_of turns.Engine = Checkpoint
-actor_of (turns.Hart stall) = TheHart stall
+-- an actor, as the view has it
+abbrev pub actor_seen : ActorHere → Actor
+actor_seen here.Nvm = Nvm
+actor_seen here.Dram = Dram
+actor_seen here.Engine = Checkpoint
+actor_seen (here.Hart stall) = TheHart stall
 
 -- what a step of the boot restored is of an epoch below this
 abbrev pub IsRestartBelow : ℕ → BootStep → Type 0

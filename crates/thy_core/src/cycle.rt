@@ -4,14 +4,14 @@ ghost use Rattle.thy_base.specs.Device.{IsFramed, CountsFault};
 ghost use Rattle.thy_view.specs.declared.did.Stall.TheVariants.{Waiting, Halted};
 ghost use Rattle.thy_view.specs.Turn.{Nvm, TheHart};
 ghost use Rattle.thy_core.specs.Cycles.{IsAnyRun, HasStart, CanTake, LeadsAs, FailsAs};
-ghost use Rattle.thy_core.specs.Parts.{machine_of, actor_of};
+ghost use Rattle.thy_core.specs.Parts.{machine_of, actor_seen};
 
 use crate::boot::boot;
 use crate::engine::{checkpoint, drain};
 use crate::hart::execute;
 use crate::parts::Parts;
 use crate::sealing::prepare;
-use crate::turn::Turn;
+use crate::turn::Actor;
 use thy_base::{Nvm, NvmError};
 use thy_record::Start;
 use thy_scheme::Scheme;
@@ -20,23 +20,23 @@ use thy_view::{Did, Stall};
 /// Takes the cycle of the actor whose turn it is. The engine works for a hart that waits.
 pub(crate) fn cycle<N: Nvm, S: Scheme>(
     m: &mut Parts<S>,
-    turn: Turn,
+    actor: Actor,
     start: &Start,
     nvm: &mut N,
 ) -> Result<Did, NvmError>
-    requires { CanTake S.scheme (HasStart start.now) (actor_of turn) (machine_of m.old) (N.device nvm.old) }
-    ensures leads { LeadsAs S.scheme (HasStart start.now) (actor_of turn)
+    requires { CanTake S.scheme (HasStart start.now) (actor_seen actor) (machine_of m.old) (N.device nvm.old) }
+    ensures leads { LeadsAs S.scheme (HasStart start.now) (actor_seen actor)
         (machine_of m.old) (N.device nvm.old) (machine_of m.new) (N.device nvm.new) result }
-    ensures fails { FailsAs S.scheme (HasStart start.now) (actor_of turn)
+    ensures fails { FailsAs S.scheme (HasStart start.now) (actor_seen actor)
         (machine_of m.old) (N.device nvm.old) (N.device nvm.new) result }
     ensures frame { IsFramed (N.device nvm.old) (N.device nvm.new) }
     ensures cause { CountsFault result (N.device nvm.old).faults (N.device nvm.new).faults }
 {
-    match turn {
-        Turn::Nvm => land(m, nvm),
-        Turn::Dram => Ok(drain(m, nvm)),
-        Turn::Engine => checkpoint(m, nvm),
-        Turn::Hart(stall) => at_hart(m, stall, start, nvm),
+    match actor {
+        Actor::Nvm => land(m, nvm),
+        Actor::Dram => Ok(drain(m, nvm)),
+        Actor::Engine => checkpoint(m, nvm),
+        Actor::Hart(stall) => at_hart(m, stall, start, nvm),
     }
 }
 

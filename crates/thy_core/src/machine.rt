@@ -1,6 +1,7 @@
 //! The machine and its calls.
 ghost use Rattle.std.specs.Prelude.{◌≡◌, ℕ, IfOk, IfErr, OnOk, is_err};
 ghost use Rattle.thy_base.specs.Device.{Device, IsFramed, CountsFault};
+ghost use Rattle.thy_dram.specs.Contents.{lost};
 ghost use Rattle.thy_view.specs.Kind.{CanStep, CanRead, LeadsOn, FailsSafe, IsDramOf, ShowsConsole, TellsLoading, HasFailedToRead};
 ghost use Rattle.thy_view.specs.Origin.{Origin};
 ghost use Rattle.thy_core_model.specs.Kind.{kind_over};
@@ -58,7 +59,8 @@ impl<S: Scheme> Machine<S> {
 
     /// Loses power: all is gone but the DRAM, whose bytes are those that the pick draws.
     pub fn cut(self, pick: u64) -> Dram
-        ensures { (o : Origin) (k : ℕ) (n : Device) → Sound S.scheme o k self n → IsDramOf o.geometry result }
+        ensures drawn { result ≡ lost (S.scheme.dram self.scheme) pick }
+        ensures sized { (o : Origin) (k : ℕ) (n : Device) → Sound S.scheme o k self n → IsDramOf o.geometry result }
     {
         power::cut(self.parts, pick)
     }

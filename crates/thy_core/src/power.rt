@@ -1,6 +1,7 @@
 //! Power: it comes on, and is lost.
 ghost use Rattle.std.specs.Prelude.{◌≡◌, ℕ, ◌<◌, IfOk, length};
 ghost use Rattle.thy_base.specs.Device.{Device};
+ghost use Rattle.thy_dram.specs.Contents.{lost};
 ghost use Rattle.thy_view.specs.Kind.{IsDramOf, TellsLoading};
 ghost use Rattle.thy_view.specs.Origin.{Origin};
 ghost use Rattle.thy_core_model.specs.Kind.{kind_over};
@@ -74,7 +75,8 @@ pub(crate) fn is_loading<S: Scheme>(m: &Parts<S>) -> bool
 
 /// Loses power: all is gone but the DRAM, whose bytes are those that the pick draws.
 pub(crate) fn cut<S: Scheme>(m: Parts<S>, pick: u64) -> Dram
-    ensures { (o : Origin) (k : ℕ) (n : Device) → Sound S.scheme o k (machine_of m) n → IsDramOf o.geometry result }
+    ensures drawn { result ≡ lost (S.scheme.dram m.behind.scheme) pick }
+    ensures sized { (o : Origin) (k : ℕ) (n : Device) → Sound S.scheme o k (machine_of m) n → IsDramOf o.geometry result }
 {
     m.behind.scheme.cut(pick)
 }

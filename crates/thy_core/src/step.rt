@@ -5,11 +5,11 @@ ghost use Rattle.thy_view.specs.Kind.{CanStep, LeadsOn, FailsSafe};
 ghost use Rattle.thy_view.specs.Turn.{told_at};
 ghost use Rattle.thy_view.specs.Views.{is_halt};
 ghost use Rattle.thy_core_model.specs.Kind.{kind_over};
-ghost use Rattle.thy_core.specs.Parts.{machine_of, actor_of};
+ghost use Rattle.thy_core.specs.Parts.{machine_of, actor_seen};
 
 use crate::cycle::cycle;
 use crate::parts::Parts;
-use crate::turn::{Turn, next_turn};
+use crate::turn::{Actor, turn_now};
 use thy_base::{Nvm, NvmError, Pick};
 use thy_record::Start;
 use thy_scheme::Scheme;
@@ -31,11 +31,11 @@ pub(crate) fn take_step<N: Nvm, S: Scheme>(
     ensures failed { m.new.failed ≡ is_err result }
 {
     let before = m.phase;
-    let turn = next_turn(m, pick, nvm.queued());
-    match cycle(m, turn, start, nvm) {
+    let actor = turn_now(m, pick, nvm.queued());
+    match cycle(m, actor, start, nvm) {
         Ok(did) => Ok(Stepped {
             did,
-            stall: told(turn),
+            stall: told_stall(actor),
             ended: has_halted(before, m.phase),
         }),
         Err(error) => {
@@ -45,13 +45,13 @@ pub(crate) fn take_step<N: Nvm, S: Scheme>(
     }
 }
 
-/// The stall that is told at a turn.
-fn told(turn: Turn) -> Option<Stall>
-    ensures { result ≡ told_at (actor_of turn) }
+/// The stall that is told at an actor's turn.
+fn told_stall(actor: Actor) -> Option<Stall>
+    ensures { result ≡ told_at (actor_seen actor) }
 {
-    match turn {
-        Turn::Nvm | Turn::Dram | Turn::Engine => None,
-        Turn::Hart(stall) => stall,
+    match actor {
+        Actor::Nvm | Actor::Dram | Actor::Engine => None,
+        Actor::Hart(stall) => stall,
     }
 }
 

@@ -1,7 +1,7 @@
 //! Whose turn a cycle is.
 ghost use Rattle.std.specs.Prelude.{◌≡◌, is_some};
 ghost use Rattle.thy_core_model.specs.Machine.{shortage_of};
-ghost use Rattle.thy_core.specs.Parts.{machine_of, actor_of};
+ghost use Rattle.thy_core.specs.Parts.{machine_of, actor_seen};
 ghost use Rattle.thy_core.specs.Turns.{lacks, waits_now, stall_now, engine_now, turn_now};
 ghost use Rattle.thy_view.specs.Turn.{TheHart};
 
@@ -12,7 +12,7 @@ use thy_view::{Phase, Stall};
 
 /// Who takes a cycle.
 #[derive(Clone, Copy, Debug, PartialEq, Eq)]
-pub(crate) enum Turn {
+pub(crate) enum Actor {
     /// The NVM's queue.
     Nvm,
     /// The DRAM's queue.
@@ -78,30 +78,30 @@ fn run_stall<S: Scheme>(m: &Parts<S>) -> Option<Stall>
 }
 
 /// Whose turn a pick is, where so many writes are queued in the NVM: where its actor has nothing to do, the hart's.
-pub(crate) fn next_turn<S: Scheme>(m: &Parts<S>, pick: Pick, nvm: u64) -> Turn
-    ensures { actor_of result ≡ turn_now S.scheme pick nvm (machine_of m.now) }
+pub(crate) fn turn_now<S: Scheme>(m: &Parts<S>, pick: Pick, nvm: u64) -> Actor
+    ensures { actor_seen result ≡ turn_now S.scheme pick nvm (machine_of m.now) }
 {
-    let hart = Turn::Hart(hart_stall(m));
+    let hart = Actor::Hart(hart_stall(m));
     match pick {
         Pick::Hart => hart,
         Pick::Engine => engine_turn(m, hart),
-        Pick::NvmDrain => if nvm == 0 { hart } else { Turn::Nvm },
+        Pick::NvmDrain => if nvm == 0 { hart } else { Actor::Nvm },
         Pick::DramDrain => if m.behind.scheme.queued() == 0 {
             hart
         } else {
-            Turn::Dram
+            Actor::Dram
         },
     }
 }
 
 /// The engine's turn, where a checkpoint is under way, or else the hart's.
-fn engine_turn<S: Scheme>(m: &Parts<S>, hart: Turn) -> Turn
-    requires { actor_of hart ≡ TheHart (stall_now S.scheme m.now.phase (machine_of m.now)) }
-    ensures { actor_of result ≡ engine_now S.scheme m.now.phase (machine_of m.now) }
+fn engine_turn<S: Scheme>(m: &Parts<S>, hart: Actor) -> Actor
+    requires { actor_seen hart ≡ TheHart (stall_now S.scheme m.now.phase (machine_of m.now)) }
+    ensures { actor_seen result ≡ engine_now S.scheme m.now.phase (machine_of m.now) }
 {
     match m.phase {
         Phase::Run => if m.checkpoints.sealed.is_some() {
-            Turn::Engine
+            Actor::Engine
         } else {
             hart
         },

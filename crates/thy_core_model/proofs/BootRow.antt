@@ -235,7 +235,7 @@ module _ {S : Type 0} (K : SchemeOf S) (o : Origin) (cycles : ℕ) (m : Machine 
           entries = no_entries (is_barred K (after_boot o GoesOn t (in_boot o m))) (dirty_count m.cache + reserved m.hart.hand) (K.free t) (omega (arith, unreserved, clean));
         };
         exhausts = λ moved. absurd (cc);
-        read = b.read;
+        read = λ empty. b.read;
       }
 
   -- its last step, by what the cycle is told to have done

@@ -50,9 +50,10 @@ merge_leads {S} K = λ o cycles m n t at sealing whole clean p.
     let over : IsOver m.hart.epoch.over m.marks.sealed = over_at K o m n sealing whole in
     let next : Machine S = after_call t m in
     let spent : m.spent + cycles_left K o.geometry m n < most_spent K o.geometry = s.paced.spent in
+    let one = p.nearer in
     let hart_left : hart_left K o.geometry m.hart.epoch.over next n + 1 ≤ hart_left K o.geometry m.hart.epoch.over m n =
     subst (λ x. hart_left K o.geometry x next n + 1 ≤ hart_left K o.geometry x m n) (sym over.over_is)
-    (flushes_one (K.most_merges o.geometry) (dirty_count m.cache) (K.merges_left m.scheme) (K.merges_left t) clean p.nearer) in
+    (flushes_one (K.most_merges o.geometry) (dirty_count m.cache) (K.merges_left m.scheme) (K.merges_left t) clean (omega (arith, one))) in
     let owed = p.keeps.left.owed in
     let engine = p.keeps.left.engine in
     let promotions = p.keeps.left.promotions in

@@ -19,10 +19,10 @@ use Rattle.thy_core_model.proofs.KeepsLaws.{run_of, stands, left_kept, leads_on,
 use Rattle.thy_core_model.proofs.SmallLaws.{small_step}
 
 -- of a queue that is not empty one write lands
-drained_queue : (n : Device) → 0 < length n.queue → length (drained n).queue + 1 ≤ length n.queue
+drained_queue : (n : Device) → 0 < length n.queue → length (drained n).queue + 1 ≡ length n.queue
 drained_queue n some = drop_one n.queue some
   where
-    drop_one : (ws : List Write) → 0 < length ws → length (drop 1 ws) + 1 ≤ length ws
+    drop_one : (ws : List Write) → 0 < length ws → length (drop 1 ws) + 1 ≡ length ws
     drop_one [] some = absurd (omega (arith, some))
     drop_one (w ∷ ws) some = omega arith
 

@@ -22,7 +22,7 @@ use Rattle.thy_scheme.specs.Laws.{is_free_to_run}
 use Rattle.thy_cache.specs.Contents.{dirty_count}
 use Rattle.thy_core_model.specs.Machine.{Machine, run_view, view_in, view_of, short_of, pressure_of}
 use Rattle.thy_core_model.specs.Sound.{SoundRun, SoundIn}
-use Rattle.thy_core_model.specs.Rows.{At}
+use Rattle.thy_core_model.specs.Rows.{IsMoment}
 use Rattle.thy_core_model.specs.Failures.{Fails, HartFails, FlushFails, PromotionLeaves, EngineLeaves, BootLeaves, DrainFails}
 use Rattle.thy_core_model.proofs.RunLaws.{moment_is_safe}
 
@@ -56,7 +56,7 @@ seals_now false rest e = refl
 
 -- ---- of the hart, and of a flush
 
-module _ {S : Type 0} (K : SchemeOf S) (o : Origin) (cycles : ℕ) (m : Machine S) (n new : Device) (at : At K o cycles m n) (phase : m.phase ≡ Run) where
+module _ {S : Type 0} (K : SchemeOf S) (o : Origin) (cycles : ℕ) (m : Machine S) (n new : Device) (at : IsMoment K o cycles m n) (phase : m.phase ≡ Run) where
   run_is : SoundRun K o m n
   run_is = subst (λ p. SoundIn K o p m n) phase at.sound.moment
 

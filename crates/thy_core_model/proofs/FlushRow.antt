@@ -13,7 +13,7 @@ use Rattle.thy_scheme.specs.Behind.{held_behind}
 use Rattle.thy_scheme.specs.Scheme.{SchemeOf, Stands}
 use Rattle.thy_scheme.specs.Calls.{Succeeds}
 use Rattle.thy_scheme.specs.Laws.{RunHolds, StaysSound}
-use Rattle.thy_core_model.specs.Calls.{FlushStepped, after_flush}
+use Rattle.thy_core_model.specs.Calls.{FlushCall, after_flush}
 use Rattle.thy_core_model.specs.Machine.{Machine}
 use Rattle.thy_core_model.specs.Pace.{flushes_left, hart_left, cycles_left, most_spent}
 use Rattle.thy_core_model.specs.Rows.{At, IsSealing, FlushLeads}
@@ -86,7 +86,7 @@ free_behind false true e = absurd (cc)
 free_behind false false e = refl
 
 flushing : {S : Type 0} (K : SchemeOf S) (o : Origin) (cycles : ℕ) (m : Machine S) (n : Device) (flushed : Flushed) (c : Contents) (t : S)
-    (new : Device) → At K o cycles m n → IsSealing K o m n → K.promoting m.scheme ≡ false → FlushStepped K m n flushed c t new
+    (new : Device) → At K o cycles m n → IsSealing K o m n → K.promoting m.scheme ≡ false → FlushCall K m n flushed c t new
     → IsFlushing K o m n c t new
 flushing K o cycles m n flushed c t new at sealing whole f =
     let behind = runs_behind m.phase sealing.phase in

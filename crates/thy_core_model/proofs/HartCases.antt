@@ -30,7 +30,7 @@ use Rattle.thy_scheme.specs.Behind.{held_behind}
 use Rattle.thy_core_model.specs.Machine.{Machine, run_view, moment_of, memory_of, is_barred, short_of, shortage_of}
 use Rattle.thy_core_model.specs.Pace.{instructions_left, flushes_left, hart_left, cycles_left}
 use Rattle.thy_core_model.specs.Sound.{OpenNow, IsFresh, StartsFresh}
-use Rattle.thy_core_model.specs.Calls.{IsAsked, HartStepped}
+use Rattle.thy_core_model.specs.Calls.{IsAsked, HartCall}
 use Rattle.thy_core_model.specs.Rows.{At, HartGoes, HartLeads}
 use Rattle.thy_core_model.proofs.AtLemmas.{at-next, at-count, count-current, status-current}
 use Rattle.thy_core_model.proofs.EpochLemmas.{retired-on, few-moves}
@@ -136,7 +136,7 @@ moved-spent K p m n lap h c t new going e engine promotions owed nearer = elim n
 ]
 
 moved-next : {S : Type 0} (K : SchemeOf S) (o : Origin) (cycles : ℕ) (m : Machine S) (n : Device) (h : Core) (c : Contents) (t : S) (new : Device)
-    → At K o cycles m n → HartGoes K o m n → HartStepped K (given o.input (K.free m.scheme) (K.under_way m.scheme)) m n h c t new Moved
+    → At K o cycles m n → HartGoes K o m n → HartCall K (given o.input (K.free m.scheme) (K.under_way m.scheme)) m n h c t new Moved
     → IsMoved (given o.input (K.free m.scheme) (K.under_way m.scheme)) (dirty_count m.cache) m.hart h
     → IsNext K o cycles m n (m.lap + 0) DidMove h c t new
 moved-next K o cycles m n h c t new at-m turn hs mv =
@@ -199,7 +199,7 @@ over-spent K o m n lap h c t new cause going over on owed =
     omega (arith, left-going K o.geometry m n going, left-over K o.geometry (hart_on lap h c t m) new cause over, flushes, on.engine, on.holds.promotions on.whole, owed, on.room, on.holds.bounded.free)
 
 exhausted-next : {S : Type 0} (K : SchemeOf S) (o : Origin) (cycles : ℕ) (m : Machine S) (n : Device) (h : Core) (c : Contents) (t : S) (new : Device) (free dd need : ℕ)
-    → At K o cycles m n → HartGoes K o m n → HartStepped K (given o.input (K.free m.scheme) (K.under_way m.scheme)) m n h c t new (Over (Exhausted free dd need))
+    → At K o cycles m n → HartGoes K o m n → HartCall K (given o.input (K.free m.scheme) (K.under_way m.scheme)) m n h c t new (Over (Exhausted free dd need))
     → IsExhausted (given o.input (K.free m.scheme) (K.under_way m.scheme)) (dirty_count m.cache) free dd need m.hart h
     → IsNext K o cycles m n (m.lap + 0) DidMove h c t new
 exhausted-next K o cycles m n h c t new free dd need at-m turn hs ex =
@@ -263,7 +263,7 @@ opened-retired None c h page free closed = free
 opened-retired (Some cause) c h page free closed = inl closed
 
 retired-next : {S : Type 0} (K : SchemeOf S) (o : Origin) (cycles : ℕ) (m : Machine S) (n : Device) (h : Core) (c : Contents) (t : S) (new : Device) (s : HartStep) (over : Option EndCause)
-    → At K o cycles m n → HartGoes K o m n → HartStepped K (given o.input (K.free m.scheme) (K.under_way m.scheme)) m n h c t new s
+    → At K o cycles m n → HartGoes K o m n → HartCall K (given o.input (K.free m.scheme) (K.under_way m.scheme)) m n h c t new s
     → IsRetired (brings_line (moment_of K m n)) m.hart h over
     → HasCome o.input m.hart (memory_of K m n) h (memory_of K (hart_on (m.lap + 1) h c t m) new) → (K.holding t new).open_page ≡ None
     → Follows o.input (step (setting_for m.hart.geometry o.input) (at o m.hart.cpu.count)) h (memory_of K (hart_on (m.lap + 1) h c t m) new)
@@ -327,14 +327,14 @@ retired-next K o cycles m n h c t new s over at-m turn hs rt come closed f =
 -- ---- by the answer
 
 told-step : {S : Type 0} (K : SchemeOf S) (g : Given) (m : Machine S) (n : Device) (h : Core) (c : Contents) (t : S) (new : Device) (s : HartStep)
-    → HartStepped K g m n h c t new s → Told s (brings_line (moment_of K m n)) g (dirty_count m.cache) m.hart h
+    → HartCall K g m n h c t new s → Told s (brings_line (moment_of K m n)) g (dirty_count m.cache) m.hart h
 told-step K g m n h c t new s hs =
     let old = moment_of K m n in
     subst (λ x. Told x (brings_line old) g (dirty_count m.cache) m.hart h) (sym hs.is_step.says)
     (subst (Told (answer_to g old) (brings_line old) g (dirty_count m.cache) m.hart) (sym hs.is_step.hart) (told g old))
 
 follows-step : {S : Type 0} (K : SchemeOf S) (o : Origin) (cycles : ℕ) (m : Machine S) (n : Device) (h : Core) (c : Contents) (t : S) (new : Device) (s : HartStep)
-    → At K o cycles m n → HartGoes K o m n → HartStepped K (given o.input (K.free m.scheme) (K.under_way m.scheme)) m n h c t new s
+    → At K o cycles m n → HartGoes K o m n → HartCall K (given o.input (K.free m.scheme) (K.under_way m.scheme)) m n h c t new s
     → Follows o.input (state_after s (at o m.hart.cpu.count) (step (setting_for m.hart.geometry o.input) (at o m.hart.cpu.count))) h (memory_of K (hart_on (m.lap + 1) h c t m) new)
 follows-step K o cycles m n h c t new s at-m turn hs =
     let run = sound-run K o cycles m n at-m.sound turn.phase in

@@ -22,7 +22,7 @@ use Rattle.thy_scheme.specs.Laws.{RunHolds}
 use Rattle.thy_core_model.specs.Machine.{Machine, run_view, view_of, memory_of, is_barred, shortage_of, gauge_of, has_read_in}
 use Rattle.thy_core_model.specs.Pace.{cycles_left, most_spent}
 use Rattle.thy_core_model.specs.Sound.{IsSmall, OpenNow, IsCounted, StartsFresh, IsPaced, SoundRun, SoundIn}
-use Rattle.thy_core_model.specs.Calls.{IsAsked, HartStepped}
+use Rattle.thy_core_model.specs.Calls.{IsAsked, HartCall}
 use Rattle.thy_core_model.specs.Rows.{Leads, At, HartGoes}
 use Rattle.thy_core_model.proofs.Facts.{view-run, sound-run, is-going}
 use Rattle.thy_core_model.proofs.SmallLaws.{small_step}
@@ -51,7 +51,7 @@ queue-asked K s n t new asked up = elim asked as (λ _. queued_in K t new ≤ qu
 ]
 
 pub is-on : {S : Type 0} (K : SchemeOf S) (o : Origin) (cycles : ℕ) (m : Machine S) (n : Device) (h : Core) (c : Contents) (t : S) (new : Device) (s : HartStep)
-    → At K o cycles m n → HartGoes K o m n → HartStepped K (given o.input (K.free m.scheme) (K.under_way m.scheme)) m n h c t new s → IsOn K o m n h c t new
+    → At K o cycles m n → HartGoes K o m n → HartCall K (given o.input (K.free m.scheme) (K.under_way m.scheme)) m n h c t new s → IsOn K o m n h c t new
 is-on K o cycles m n h c t new s at turn hs =
     let l = at.lawful in
     let w = hs.is_step in
@@ -96,7 +96,7 @@ abbrev pub IsHarts : Did → Type 0
 IsHarts did = (did ≡ DidMove) ⊎ (did ≡ DidRetire)
 
 next-run : {S : Type 0} (K : SchemeOf S) (o : Origin) (cycles : ℕ) (m : Machine S) (n : Device) (lap : ℕ) (did : Did) (h : Core) (c : Contents) (t : S) (new : Device) (s : HartStep)
-    → At K o cycles m n → HartGoes K o m n → HartStepped K (given o.input (K.free m.scheme) (K.under_way m.scheme)) m n h c t new s
+    → At K o cycles m n → HartGoes K o m n → HartCall K (given o.input (K.free m.scheme) (K.under_way m.scheme)) m n h c t new s
     → IsNext K o cycles m n lap did h c t new → SoundRun K o (hart_on lap h c t m) new
 next-run K o cycles m n lap did h c t new s at turn hs x =
     let run = sound-run K o cycles m n at.sound turn.phase in
@@ -151,7 +151,7 @@ next-pace K o cycles m n lap did h c t new phase harts on paced = elim harts as 
     entries = subst (λ b. (if b then 0 else dirty_count c + reserved h.hand) ≤ (if b then 0 else K.free t)) (sym on.unbarred) on.room
 
 pub leads-next : {S : Type 0} (K : SchemeOf S) (o : Origin) (cycles : ℕ) (m : Machine S) (n : Device) (lap : ℕ) (did : Did) (h : Core) (c : Contents) (t : S) (new : Device) (s : HartStep)
-    → At K o cycles m n → HartGoes K o m n → HartStepped K (given o.input (K.free m.scheme) (K.under_way m.scheme)) m n h c t new s
+    → At K o cycles m n → HartGoes K o m n → HartCall K (given o.input (K.free m.scheme) (K.under_way m.scheme)) m n h c t new s
     → IsHarts did → IsNext K o cycles m n lap did h c t new → Leads K o cycles did m n (hart_on lap h c t m) new
 leads-next K o cycles m n lap did h c t new s at turn hs harts x =
     let on = is-on K o cycles m n h c t new s at turn hs in

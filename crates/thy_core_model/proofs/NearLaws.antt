@@ -103,7 +103,7 @@ drained_most most Halt v old new boots idle = omega arith
 -- ---- by what the cycle did
 
 module _ (most : ℕ) (o : Origin) (v next : View) (old new : Gauge) where
-  drains : next ≡ v → new.queued + 1 ≤ old.queued → (v.phase ≡ Boot → new.boot_left ≤ old.boot_left) → new.idle ≡ old.idle
+  drains : next ≡ v → new.queued + 1 ≡ old.queued → (v.phase ≡ Boot → new.boot_left ≤ old.boot_left) → new.idle ≡ old.idle
       → left_ahead most next new + 1 ≤ left_ahead most v old + 4 * most * 0
   drains e queued boots idle =
       let own : own_left most next.phase next new ≡ own_left most v.phase v new = ap (λ (w : View). own_left most w.phase w new) e in

@@ -39,7 +39,7 @@ abbrev pub IsAsked : {S : Type 0} → SchemeOf S → S → Device → S → Devi
 IsAsked K s n t new = ((t ≡ s) × (new ≡ n)) ⊎ IsOneAccess K s n t new
 
 -- a step of the hart left this hart, cache and scheme
-pub record HartStepped {S : Type 0} (K : SchemeOf S) (g : Given) (m : Machine S) (n : Device) (h : Core) (c : Contents) (t : S) (new : Device) (step : HartStep) : Type 0 where
+pub record HartCall {S : Type 0} (K : SchemeOf S) (g : Given) (m : Machine S) (n : Device) (h : Core) (c : Contents) (t : S) (new : Device) (step : HartStep) : Type 0 where
   pub is_step : IsStep g (moment_of K m n) (moment h c (held_behind K t new)) step
   pub asked : IsAsked K m.scheme n t new
   pub stays : K.stays m.scheme n t new
@@ -49,7 +49,7 @@ pub record HartStepped {S : Type 0} (K : SchemeOf S) (g : Given) (m : Machine S)
   pub rests : dirty_count m.cache ≡ 0 → K.rested t ≡ K.rested m.scheme
 
 -- a step of a flush left this cache and scheme; it was not the last
-pub record FlushStepped {S : Type 0} (K : SchemeOf S) (m : Machine S) (n : Device) (flushed : Flushed) (c : Contents) (t : S) (new : Device) : Type 0 where
+pub record FlushCall {S : Type 0} (K : SchemeOf S) (m : Machine S) (n : Device) (flushed : Flushed) (c : Contents) (t : S) (new : Device) : Type 0 where
   pub more : flushed ≢ Clean
   pub cache : c ≡ flushed_from flushed m.cache
   pub store : HasFlushed flushed m.cache (held_behind K m.scheme n) (held_behind K t new)

@@ -11,7 +11,7 @@ use Rattle.thy_scheme.specs.Scheme.{SchemeOf}
 use Rattle.thy_scheme.specs.Calls.{IsOneAccess, PromotionFails, EngineFails, engine_did}
 use Rattle.thy_scheme.specs.Boots.{BootFails, boot_did}
 use Rattle.thy_core_model.specs.Machine.{Machine, view_of}
-use Rattle.thy_core_model.specs.Rows.{At, HartGoes, IsSealing}
+use Rattle.thy_core_model.specs.Rows.{IsMoment, HartGoes, IsSealing}
 
 -- a cycle that was to do this failed in its action, and leaves the committed checkpoint, whole, or the sealed one
 pub record Fails {S : Type 0} (K : SchemeOf S) (o : Origin) (did : Did) (m : Machine S) (n new : Device) : Type 0 where
@@ -22,33 +22,33 @@ pub record Fails {S : Type 0} (K : SchemeOf S) (o : Origin) (did : Did) (m : Mac
 abbrev pub HartFails : {S : Type 0} → SchemeOf S → Type 0
 HartFails {S} K =
     (o : Origin) (cycles : ℕ) (m : Machine S) (n : Device) (t : S) (new : Device)
-    → At K o cycles m n → HartGoes K o m n → IsOneAccess K m.scheme n t new → new.down ≡ true → Fails K o Moved m n new
+    → IsMoment K o cycles m n → HartGoes K o m n → IsOneAccess K m.scheme n t new → new.down ≡ true → Fails K o Moved m n new
 
 -- a store of a line
 abbrev pub FlushFails : {S : Type 0} → SchemeOf S → Type 0
 FlushFails {S} K =
     (o : Origin) (cycles : ℕ) (m : Machine S) (n : Device) (t : S) (new : Device)
-    → At K o cycles m n → IsSealing K o m n → IsOneAccess K m.scheme n t new → new.down ≡ true → Fails K o Flushed m n new
+    → IsMoment K o cycles m n → IsSealing K o m n → IsOneAccess K m.scheme n t new → new.down ≡ true → Fails K o Flushed m n new
 
 abbrev pub PromotionLeaves : {S : Type 0} → SchemeOf S → Type 0
 PromotionLeaves {S} K =
     (o : Origin) (cycles : ℕ) (m : Machine S) (n new : Device)
-    → At K o cycles m n → m.phase ≡ Run → PromotionFails n new → Fails K o Promoted m n new
+    → IsMoment K o cycles m n → m.phase ≡ Run → PromotionFails n new → Fails K o Promoted m n new
 
 -- a step of the engine, or of the boot, in what it was to do
 abbrev pub EngineLeaves : {S : Type 0} → SchemeOf S → Type 0
 EngineLeaves {S} K =
     (o : Origin) (cycles : ℕ) (m : Machine S) (n new : Device)
-    → At K o cycles m n → m.phase ≡ Run → (e : EngineFails K o m.marks n new)
+    → IsMoment K o cycles m n → m.phase ≡ Run → (e : EngineFails K o m.marks n new)
     → Fails K o (engine_did m.lap e.step) m n new
 
 abbrev pub BootLeaves : {S : Type 0} → SchemeOf S → Type 0
 BootLeaves {S} K =
     (o : Origin) (cycles : ℕ) (m : Machine S) (n new : Device)
-    → At K o cycles m n → m.phase ≡ Boot → (b : BootFails K o m.scheme n new) → Fails K o (boot_did b.step) m n new
+    → IsMoment K o cycles m n → m.phase ≡ Boot → (b : BootFails K o m.scheme n new) → Fails K o (boot_did b.step) m n new
 
 -- a drain of the NVM
 abbrev pub DrainFails : {S : Type 0} → SchemeOf S → Type 0
 DrainFails {S} K =
     (o : Origin) (cycles : ℕ) (m : Machine S) (n new : Device)
-    → At K o cycles m n → HasFailed n new → IsFramed n new → Fails K o NvmDrained m n new
+    → IsMoment K o cycles m n → HasFailed n new → IsFramed n new → Fails K o NvmDrained m n new

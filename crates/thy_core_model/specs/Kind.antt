@@ -32,7 +32,7 @@ abbrev pub ahead_of : {S : Type 0} → SchemeOf S → Origin → Machine S → D
 ahead_of K o m n = left_ahead (most_spent K o.geometry) (view_of K o m n) (gauge_of K m n)
 
 abbrev pub most_ahead : {S : Type 0} → SchemeOf S → Parameters → ℕ
-most_ahead K p = 1 + 2 * K.most_boot p + 4 * most_spent K p
+most_ahead K p = 1 + 2 * K.most_booting p + 4 * most_spent K p
 
 abbrev pub most_each_of : {S : Type 0} → SchemeOf S → Parameters → ℕ
 most_each_of K p = 4 * most_spent K p
@@ -45,11 +45,12 @@ kind_over K = record {
   is_at = Sound K;
   view = view_of K;
   has_read = has_read_of K;
+  dram = λ m. K.dram m.scheme;
   pressure = pressure_of K;
   gauge = gauge_of K;
   ahead = ahead_of K;
   most_spent = most_spent K;
-  most_booting = K.most_boot;
+  most_booting = K.most_booting;
   most_boot = most_ahead K;
   most_each = most_each_of K;
 }

@@ -93,7 +93,13 @@ shortage_of K m =
     else short_of (K.free m.scheme) (dirty_count m.cache) m.hart.hand
 
 abbrev pub pressure_of : {S : Type 0} → SchemeOf S → Machine S → Pressure
-pressure_of K m = record { dram = K.queued m.scheme; short = shortage_of K m; promotes = K.promoting m.scheme }
+pressure_of K m = record {
+  dram = K.queued m.scheme;
+  short = shortage_of K m;
+  promotes = K.promoting m.scheme;
+  dirty = dirty_count m.cache;
+  overlaid = K.overlaid m.scheme;
+}
 
 abbrev pub boot_left_in : {S : Type 0} → SchemeOf S → Phase → Machine S → ℕ
 boot_left_in K Boot m = K.boot_left m.scheme

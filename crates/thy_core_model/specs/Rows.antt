@@ -25,7 +25,7 @@ use Rattle.thy_scheme.specs.Laws.{IsLawful}
 use Rattle.thy_core_model.specs.Machine.{Machine, view_of, pressure_of, gauge_of, has_read_of}
 use Rattle.thy_core_model.specs.Pace.{most_spent}
 use Rattle.thy_core_model.specs.Sound.{Sound}
-use Rattle.thy_core_model.specs.Calls.{HartStepped, FlushStepped, hart_did, after_hart, after_flush, after_call, after_drain, after_seal, after_engine, after_boot}
+use Rattle.thy_core_model.specs.Calls.{HartCall, FlushCall, hart_did, after_hart, after_flush, after_call, after_drain, after_seal, after_engine, after_boot}
 
 -- a cycle that did this leads to the next moment: by a step of the view, one action, and within bounds
 pub record Leads {S : Type 0} (K : SchemeOf S) (o : Origin) (cycles : ℕ) (did : Did) (m : Machine S) (n : Device) (next : Machine S) (new : Device) : Type 0 where
@@ -36,7 +36,12 @@ pub record Leads {S : Type 0} (K : SchemeOf S) (o : Origin) (cycles : ℕ) (did 
   pub exhausts : did ≡ Moved → (view_of K o next new).over ≡ over_by (pressure_of K m).short
   pub read : n.queue ≡ [] → has_read_of K next ≡ true
 
--- a moment within a run's cycles, over a lawful scheme
+-- a moment of a run, over a lawful scheme
+pub record IsMoment {S : Type 0} (K : SchemeOf S) (o : Origin) (cycles : ℕ) (m : Machine S) (n : Device) : Type 0 where
+  pub lawful : IsLawful K
+  pub sound : Sound K o cycles m n
+
+-- one within a run's cycles
 pub record At {S : Type 0} (K : SchemeOf S) (o : Origin) (cycles : ℕ) (m : Machine S) (n : Device) : Type 0 where
   pub lawful : IsLawful K
   pub sound : Sound K o cycles m n
@@ -59,7 +64,7 @@ abbrev pub HartLeads : {S : Type 0} → SchemeOf S → Type 0
 HartLeads {S} K =
     (o : Origin) (cycles : ℕ) (m : Machine S) (n : Device) (h : Core) (c : Contents) (t : S) (new : Device) (step : HartStep)
     → At K o cycles m n → HartGoes K o m n
-    → HartStepped K (given o.input (K.free m.scheme) (K.under_way m.scheme)) m n h c t new step
+    → HartCall K (given o.input (K.free m.scheme) (K.under_way m.scheme)) m n h c t new step
     → Leads K o cycles (hart_did step) m n (after_hart step h c t m) new
 
 -- ---- before a seal, and the seal
@@ -67,7 +72,7 @@ HartLeads {S} K =
 abbrev pub FlushLeads : {S : Type 0} → SchemeOf S → Type 0
 FlushLeads {S} K =
     (o : Origin) (cycles : ℕ) (m : Machine S) (n : Device) (c : Contents) (t : S) (new : Device) (flushed : Flushed)
-    → At K o cycles m n → IsSealing K o m n → K.promoting m.scheme ≡ false → FlushStepped K m n flushed c t new
+    → At K o cycles m n → IsSealing K o m n → K.promoting m.scheme ≡ false → FlushCall K m n flushed c t new
     → Leads K o cycles DidFlush m n (after_flush c t m) new
 
 abbrev pub MergeLeads : {S : Type 0} → SchemeOf S → Type 0

@@ -364,7 +364,7 @@ module _ (o : Origin) (s : Dual) (n : Device) (booting : IsBooting dual_scheme o
     acts = subst (λ (x : Did). Acts x n new) (sym (did-told (answer_of d))) acts;
     queue = queue-by (issue_at b.stage) steps;
     nearer = subst (λ (p : Parameters). boot_left p d.stage + 1 ≤ boot_left b.p b.stage) (sym same) nearer;
-    read = λ none. read;
+    read = read;
   }
 
 -- ---- one that failed

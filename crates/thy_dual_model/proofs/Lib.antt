@@ -16,3 +16,4 @@ pub mod RestoredLemmas
 pub mod BootStepLemmas
 pub mod LawfulLemmas
 pub mod BoundLemmas
+pub mod BarLemmas

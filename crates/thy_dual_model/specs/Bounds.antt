@@ -18,4 +18,4 @@ EpochsAreShort = (p : Parameters) → most_spent dual_scheme p < 64 * size_of p
 -- and eight more, at the most
 abbrev pub BootsAreShort : Type 0
 BootsAreShort =
-    (p : Parameters) → dual_scheme.most_boot p ≤ memory_blocks p + 2 * slot_blocks p + 64 * p.ptt + 8
+    (p : Parameters) → dual_scheme.most_booting p ≤ memory_blocks p + 2 * slot_blocks p + 64 * p.ptt + 8

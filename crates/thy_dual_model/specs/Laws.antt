@@ -9,6 +9,7 @@ use Rattle.thy_view.specs.Safe.{ceiling}
 use Rattle.thy_scheme.specs.Marks.{Marks}
 use Rattle.thy_scheme.specs.Scheme.{Stands, IsBooting}
 use Rattle.thy_scheme.specs.Laws.{IsFound, IsNew, BootsFound, BootHolds, RunHolds, StaysSound}
+use Rattle.thy_core_model.specs.Machine.{Machine, is_barred}
 use Rattle.thy_dual_model.specs.Dual.{Dual}
 use Rattle.thy_dual_model.specs.Scheme.{dual_scheme}
 use Rattle.thy_dual_model.specs.Stays.{StaysDual}
@@ -43,6 +44,10 @@ StaysKeep =
 -- what holds behind the boot
 abbrev pub RunIsSound : Type 0
 RunIsSound = (o : Origin) (k : Marks) (s : Dual) (n : Device) → Stands dual_scheme o k s n → RunHolds dual_scheme o k s n
+
+-- nothing is barred while a checkpoint is under way: an instruction is short only of entries
+abbrev pub NothingIsBarred : Type 0
+NothingIsBarred = (m : Machine Dual) → is_barred dual_scheme m ≡ false
 
 -- ---- in the boot
 

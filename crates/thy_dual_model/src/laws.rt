@@ -2,7 +2,7 @@
 ghost use Rattle.thy_dual_model.specs.Booted.{BootedIsSound};
 ghost use Rattle.thy_dual_model.specs.Bounds.{BootsAreShort, EpochsAreShort};
 ghost use Rattle.thy_dual_model.specs.Laws.{BootIsSound, PowerFinds, PowerIsNew, ZerosAreNothing};
-ghost use Rattle.thy_dual_model.specs.Laws.{HeldIsUp, ReadyIsWhole, RunIsSound, StaysKeep, StaysOver};
+ghost use Rattle.thy_dual_model.specs.Laws.{HeldIsUp, NothingIsBarred, ReadyIsWhole, RunIsSound, StaysKeep, StaysOver};
 
 /// Loads and stores keep the checkpoints, those that fail too, and bring the engine no more to do.
 pub fn stays_keep_the_checkpoints()
@@ -13,6 +13,11 @@ pub fn stays_keep_the_checkpoints()
 /// writes of the NVM may land.
 pub fn a_run_is_sound()
     ensures { RunIsSound }
+{}
+
+/// The hart may run on beside every checkpoint: an instruction is short only where entries of the block table are.
+pub fn a_checkpoint_bars_nothing()
+    ensures { NothingIsBarred }
 {}
 
 /// Where a boot ends the scheme is sound: the checkpoint that was found or loaded is the committed one, none is under way, and

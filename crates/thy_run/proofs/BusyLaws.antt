@@ -29,7 +29,7 @@ listed-last_of (c ∷ cs) (suc i) few =
     omega (arith, rest)
 
 -- one more drain, or one more other cycle
-drains_kept : (b : Bool) (drains others old new : ℕ) → MatchBool b (new + 1 ≤ old) (new ≤ old + 1) → drains + old ≤ others
+drains_kept : (b : Bool) (drains others old new : ℕ) → MatchBool b (new + 1 ≡ old) (new ≤ old + 1) → drains + old ≤ others
     → drains + one_if b + new ≤ others + one_if (not b)
 drains_kept true drains others old new step kept = omega (arith, step, kept)
 drains_kept false drains others old new step kept = omega (arith, step, kept)

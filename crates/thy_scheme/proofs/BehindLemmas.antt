@@ -7,7 +7,7 @@ use Rattle.thy_base.specs.Device.{Device, HasFailed, IsFramed, CountsFault}
 use Rattle.thy_view.specs.Action.{ReadAt}
 use Rattle.thy_scheme.specs.Scheme.{SchemeOf}
 use Rattle.thy_scheme.specs.Calls.{IsOneAccess}
-use Rattle.thy_scheme.specs.Behind.{fails_of}
+use Rattle.thy_scheme.specs.Behind.{failed_calls}
 use Rattle.thy_scheme.specs.Laws.{IsLawful}
 
 pub load_once : {S : Type 0} (K : SchemeOf S) (l : IsLawful K) (s : S) (n new : Device) (b : ℕ) (result : Result Block NvmError)
@@ -51,6 +51,6 @@ rises false false o n = absurd (cc)
 
 pub load_counts : {S : Type 0} (K : SchemeOf S) (l : IsLawful K) (s : S) (n new : Device) (b : ℕ) (result : Result Block NvmError)
     → b < length (K.holding s n).blocks → OnOk result (new ≡ n) → OnErr result (HasFailed n new)
-    → CountsFault result (fails_of n) (fails_of new)
-load_counts K l s n new b (Ok block) inside same failed = ap fails_of same
+    → CountsFault result (failed_calls n) (failed_calls new)
+load_counts K l s n new b (Ok block) inside same failed = ap failed_calls same
 load_counts K l s n new b (Err e) inside same failed = rises n.down new.down (l.up s n b inside) failed.down

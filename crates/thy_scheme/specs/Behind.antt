@@ -11,10 +11,10 @@ pub record IsOneCall {S : Type 0} (K : SchemeOf S) (s : S) (n : Device) (t : S) 
   pub access : IsOneAccess K s n t new
   pub counted : new.down ≡ true → Rose n.faults new.faults
 
--- whether the NVM has failed, as a count
-abbrev pub fails_of : Device → ℕ
-fails_of n = if n.down then 1 else 0
+-- how many calls have failed since power came on: none, or the one behind which none is made any more
+abbrev pub failed_calls : Device → ℕ
+failed_calls n = if n.down then 1 else 0
 
--- what a scheme holds, whose failed calls are counted so
+-- what a scheme holds, and the calls that have failed
 abbrev pub held_behind : {S : Type 0} → SchemeOf S → S → Device → Holding
-held_behind K s n = record (K.holding s n) { faults = fails_of n }
+held_behind K s n = record (K.holding s n) { faults = failed_calls n }

@@ -1,5 +1,5 @@
 -- What the calls of a scheme promise in the boot.
-use Rattle.std.specs.Prelude.{◌≡◌, ◌⊎◌, ℕ, ◌+◌, ◌≤◌, true, false, [], Some, None}
+use Rattle.std.specs.Prelude.{◌≡◌, ◌⊎◌, ℕ, ◌+◌, ◌≤◌, true, false, Some, None}
 use Rattle.thy_base.specs.declared.mark.Mark.{Mark}
 use Rattle.thy_base.specs.Device.{Device}
 use Rattle.thy_base.specs.Marks.{mark}
@@ -62,13 +62,13 @@ Answers K o IsLoaded s n t new = Loads K o s n t new
 Answers K o (IsRestarted cpu epoch) s n t new = Restarts K o cpu epoch s n t new
 Answers K o (IsRefused bad) s n t new = ⊥
 
--- a step of the boot; with nothing queued it has read the commit block
+-- a step of the boot, whose first one reads the commit block
 pub record BootsOn {S : Type 0} (K : SchemeOf S) (o : Origin) (step : BootStep) (s : S) (n : Device) (t : S) (new : Device) : Type 0 where
   pub answers : Answers K o step s n t new
   pub acts : Acts (boot_did step) n new
   pub queue : queued_in K t new ≤ queued_in K s n + 1
   pub nearer : K.boot_left t + 1 ≤ K.boot_left s
-  pub read : n.queue ≡ [] → K.has_read t ≡ true
+  pub read : K.has_read t ≡ true
 
 -- that failed in its action, and leaves what the boot found, whole, or what is loaded
 pub record BootFails {S : Type 0} (K : SchemeOf S) (o : Origin) (s : S) (n new : Device) : Type 0 where
@@ -83,7 +83,7 @@ pub record BootStays {S : Type 0} (K : SchemeOf S) (o : Origin) (s : S) (n : Dev
   pub left : K.boot_left t ≡ K.boot_left s
   pub read : K.has_read t ≡ K.has_read s
 
--- a write of the DRAM lands while it boots
+-- one write of the DRAM lands while it boots
 pub record BootDrains {S : Type 0} (K : SchemeOf S) (o : Origin) (s : S) (n : Device) (t : S) : Type 0 where
   pub stays : BootStays K o s n t n
-  pub queue : K.queued t + 1 ≤ K.queued s
+  pub queue : K.queued t + 1 ≡ K.queued s

@@ -71,31 +71,31 @@ pub record Keeps {S : Type 0} (K : SchemeOf S) (s : S) (n : Device) (t : S) (new
 
 -- ---- the calls
 
--- a block is merged into its page
+-- one block is merged into its page
 pub record Merges {S : Type 0} (K : SchemeOf S) (o : Origin) (k : Marks) (s : S) (n : Device) (t : S) : Type 0 where
   pub sound : K.is_sound o k t n
   pub keeps : Keeps K s n t n
   pub queue : K.queued t ≤ K.queued s + 1
-  pub nearer : K.merges_left t + 1 ≤ K.merges_left s
+  pub nearer : K.merges_left t + 1 ≡ K.merges_left s
 
--- a block of a page is promoted
+-- one block of a page is promoted
 pub record Promotes {S : Type 0} (K : SchemeOf S) (o : Origin) (k : Marks) (s : S) (n : Device) (t : S) (new : Device) : Type 0 where
   pub sound : K.is_sound o k t new
   pub keeps : Keeps K s n t new
   pub acts : Acts Promoted n new
   pub queue : queued_in K t new ≤ queued_in K s n + 1
-  pub nearer : K.promotions_left t + 1 ≤ K.promotions_left s
+  pub nearer : K.promotions_left t + 1 ≡ K.promotions_left s
 
 -- that failed, in its read
 pub record PromotionFails (n new : Device) : Type 0 where
   pub failed : HasFailed n new
   pub frame : IsFramed n new
 
--- a write of the DRAM lands
+-- one write of the DRAM lands
 pub record Drains {S : Type 0} (K : SchemeOf S) (o : Origin) (k : Marks) (s : S) (n : Device) (t : S) : Type 0 where
   pub sound : K.is_sound o k t n
   pub keeps : Keeps K s n t n
-  pub queue : K.queued t + 1 ≤ K.queued s
+  pub queue : K.queued t + 1 ≡ K.queued s
 
 -- the machine is at a mark, whose checkpoint comes next
 pub record IsTaken (o : Origin) (k : Marks) (cpu : CpuState) (epoch : ℕ) (m : Mark) (held : Holding) : Type 0 where

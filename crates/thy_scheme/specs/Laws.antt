@@ -32,7 +32,7 @@ pub record IsFound {S : Type 0} (K : SchemeOf S) (o : Origin) (n : Device) : Typ
 -- a scheme whose power has just come on
 pub record IsNew {S : Type 0} (K : SchemeOf S) (p : Parameters) (s : S) : Type 0 where
   pub queued : K.queued s ≡ 0
-  pub boot_left : K.boot_left s ≤ K.most_boot p
+  pub boot_left : K.boot_left s ≤ K.most_booting p
 
 -- over such an NVM it boots what the image means
 pub record BootsFound {S : Type 0} (K : SchemeOf S) (o : Origin) (s : S) (n : Device) : Type 0 where
@@ -91,7 +91,7 @@ pub record StaysSound {S : Type 0} (K : SchemeOf S) (o : Origin) (k : Marks) (s 
   pub lean : K.lean t ≡ K.lean s
 
 pub record IsLawful {S : Type 0} (K : SchemeOf S) : Type 0 where
-  -- power can come on, over any DRAM
+  -- power can come on
   pub powers : (p : Parameters) → (s : S) × K.powered p s
   pub is_new : (p : Parameters) (s : S) → K.powered p s → IsNew K p s
   -- zeros are no checkpoint

@@ -4,6 +4,7 @@ use Rattle.thy_base.specs.declared.block.Block.{Block}
 use Rattle.thy_base.specs.declared.config.Parameters.{Parameters}
 use Rattle.thy_base.specs.Device.{Device}
 use Rattle.thy_base.specs.Store.{Holding}
+use Rattle.thy_dram.specs.Contents.{Contents}
 use Rattle.thy_record.specs.Decoded.{Reading}
 use Rattle.thy_record.specs.declared.start.Start.{Start}
 use Rattle.thy_view.specs.declared.view.View.{View}
@@ -36,7 +37,9 @@ pub record SchemeOf (S : Type 0) : Type 1 where
   pub lean : S → Bool
   -- the hart may run while a checkpoint is under way
   pub overlaps : Bool
-  -- how many writes are queued in the DRAM, and how many table entries are free
+  -- what the DRAM holds
+  pub dram : S → Contents
+  -- how many writes are queued in it, and how many table entries are free
   pub queued : S → ℕ
   pub free : S → ℕ
   -- behind the boot: scheme and NVM have the checkpoints of these marks
@@ -51,7 +54,7 @@ pub record SchemeOf (S : Type 0) : Type 1 where
   pub engine_left : S → ℕ
   pub merges_left : S → ℕ
   pub promotions_left : S → ℕ
-  pub most_boot : Parameters → ℕ
+  pub most_booting : Parameters → ℕ
   pub most_engine : Parameters → ℕ
   pub most_merges : Parameters → ℕ
   pub most_promotions : Parameters → ℕ

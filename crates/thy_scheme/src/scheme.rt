@@ -2,6 +2,7 @@
 ghost use Rattle.std.specs.Prelude.{◌≡◌, ◌&&◌, ◌<◌, true, false, length, IfOk, OnOk, OnErr};
 ghost use Rattle.thy_base.specs.Device.{Device, HasFailed, IsFramed, CountsFault, block_at};
 ghost use Rattle.thy_base.specs.Store.{IsKeptByLoad};
+ghost use Rattle.thy_dram.specs.Contents.{lost};
 ghost use Rattle.thy_view.specs.Kind.{IsDramOf};
 ghost use Rattle.thy_view.specs.Origin.{Origin, Begins};
 ghost use Rattle.thy_view.specs.Views.{loads};
@@ -38,6 +39,7 @@ pub trait Scheme: Drop {
 
     /// Loses power: all is gone but the DRAM, whose bytes are those that the pick draws.
     fn cut(self, pick: u64) -> Dram
+        ensures drawn { result ≡ lost (scheme.dram self) pick }
         ensures running { (o : Origin) (k : Marks) (n : Device) → scheme.is_sound o k self n → IsDramOf o.geometry result }
         ensures booting { (o : Origin) (n : Device) → scheme.boots o self n → IsDramOf o.geometry result };
 

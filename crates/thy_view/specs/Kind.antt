@@ -45,6 +45,8 @@ pub record KindOf (M : Type 0) : Type 1 where
   pub view : Origin → M → Device → View
   -- the boot has read the commit block
   pub has_read : M → Bool
+  -- what the DRAM holds
+  pub dram : M → Contents
   pub pressure : M → Pressure
   pub gauge : M → Device → Gauge
   -- cycles that are left until the next instruction, or the end, at the most

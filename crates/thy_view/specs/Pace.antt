@@ -28,9 +28,9 @@ abbrev pub retires : Did → ℕ
 retires Retired = 1
 retires did = 0
 
--- a drain lets a write land, and every other cycle queues at most one, over the two devices together
+-- a drain lets one write land, and every other cycle queues at most one, over the two devices together
 abbrev pub Queues : Did → ℕ → ℕ → Type 0
-Queues did old new = MatchBool (is_drained did) (new + 1 ≤ old) (new ≤ old + 1)
+Queues did old new = MatchBool (is_drained did) (new + 1 ≡ old) (new ≤ old + 1)
 
 -- a cycle of the boot that is no drain is one of its actions
 abbrev pub Boots : Did → ℕ → ℕ → Type 0

@@ -1,5 +1,5 @@
 -- Who takes a cycle.
-use Rattle.std.specs.Prelude.{◌≡◌, ◌⊎◌, ℕ, ◌==◌, Bool, false, ◌&&◌, ◌||◌, not, is_some, option_map, if◌then◌else◌, Option, Some, None}
+use Rattle.std.specs.Prelude.{◌≡◌, ◌≢◌, ◌⊎◌, ℕ, ◌==◌, Bool, true, false, ◌&&◌, ◌||◌, not, is_some, option_map, if◌then◌else◌, Option, Some, None}
 use Rattle.thy_base.specs.declared.cause.EndCause.{EndCause}
 use Rattle.thy_base.specs.declared.cause.EndCause.TheVariants.{Exhausted}
 use Rattle.thy_base.specs.declared.mark.Mark.{Mark}
@@ -39,6 +39,10 @@ pub record Pressure : Type 0 where
   pub short : Option Shortage
   -- a block of a page is still to be promoted
   pub promotes : Bool
+  -- lines of the cache that are dirty
+  pub dirty : ℕ
+  -- a block is still to be merged into its page
+  pub overlaid : Bool
 
 -- a checkpoint is under way
 abbrev pub is_under_way : View → Bool
@@ -95,14 +99,24 @@ Does Promoted actor = actor ≡ TheHart (Some Sealing)
 Does Nothing actor = actor ≡ TheHart (Some Halted)
 Does did actor = actor ≡ TheHart (Some Booting)
 
+-- Before a seal the first of these is done that is left: a block is promoted, a dirty line stored, a block merged. The
+-- epoch is sealed once none is left.
+abbrev pub Prepares : Did → Pressure → Type 0
+Prepares Promoted p = p.promotes ≡ true
+Prepares Flushed p = (p.promotes ≡ false) × (p.dirty ≢ 0)
+Prepares Merged p = (p.promotes ≡ false) × (p.dirty ≡ 0) × (p.overlaid ≡ true)
+Prepares (Sealed epoch count cause) p = (p.promotes ≡ false) × (p.dirty ≡ 0) × (p.overlaid ≡ false)
+Prepares did p = Unit {0}
+
 -- the stall that is told at an actor's turn
 abbrev pub told_at : Actor → Option Stall
 told_at (TheHart stall) = stall
 told_at actor = None
 
--- a pick was the turn of the actor that did this, and this stall is told
+-- a pick was the turn of the actor that did this, which was due, and this stall is told
 abbrev pub Turn : Origin → Pick → ℕ → View → Pressure → Did → Option Stall → Type 0
-Turn o pick nvm v p did stall = Does did (turn_of o pick nvm v p) × (stall ≡ told_at (turn_of o pick nvm v p))
+Turn o pick nvm v p did stall =
+    Does did (turn_of o pick nvm v p) × (stall ≡ told_at (turn_of o pick nvm v p)) × Prepares did p
 
 -- why the epoch is over once the hart moved on: an instruction that is short of entries ends it
 abbrev pub over_by : Option Shortage → Option EndCause

@@ -1,6 +1,7 @@
 //! What a machine is to the layers above it.
 ghost use Rattle.std.specs.Prelude.{◌≡◌, ◌<◌, ℕ, IfOk, IfErr, OnOk};
 ghost use Rattle.thy_base.specs.Device.{Device, IsFramed, CountsFault};
+ghost use Rattle.thy_dram.specs.Contents.{lost};
 ghost use Rattle.thy_view.specs.Kind.{KindOf, IsLawful, CanStep, CanRead, IsDramOf, LeadsOn, FailsSafe, Snapshots, ShowsConsole, TellsLoading, HasFailedToRead};
 ghost use Rattle.thy_view.specs.Origin.{Origin};
 
@@ -69,7 +70,8 @@ pub trait Computer: Drop {
 
     /// Loses power: all is gone but the DRAM, whose bytes are those that the pick draws.
     fn cut(self, pick: u64) -> Dram
-        ensures { (o : Origin) (k : ℕ) (n : Device) → kind.is_at o k self n → IsDramOf o.geometry result };
+        ensures drawn { result ≡ lost (kind.dram self) pick }
+        ensures sized { (o : Origin) (k : ℕ) (n : Device) → kind.is_at o k self n → IsDramOf o.geometry result };
 
     /// What holds of every such machine.
     ghost lawful: { IsLawful kind };

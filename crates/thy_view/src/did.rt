@@ -38,7 +38,7 @@ pub enum Did {
     Nothing,
 }
 
-/// Why a hart's pick advanced no instruction.
+/// Why the hart advanced no instruction at its turn.
 #[derive(Clone, Copy, Debug, PartialEq, Eq)]
 pub enum Stall {
     /// The boot is not over.
@@ -51,11 +51,11 @@ pub enum Stall {
     Halted,
 }
 
-/// One cycle.
+/// What a step tells of its one cycle.
 #[derive(Clone, Copy, Debug, PartialEq, Eq)]
 pub struct Stepped {
     pub did: Did,
-    /// The hart's stall, where the cycle was a hart's pick that advanced no instruction.
+    /// The hart's stall, where the cycle was its turn and advanced no instruction.
     pub stall: Option<Stall>,
     /// The machine is halted from this cycle on.
     pub ended: bool,

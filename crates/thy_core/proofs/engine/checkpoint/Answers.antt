@@ -8,7 +8,7 @@ returns-in_err-step-clause-fails g c = λ o cycles _ at due.
     let m = machine_of c.args.m.now in
     let n = g.N.Nvm.device c.args.nvm.now in
     on_err c.from_residual.result
-    (engine_failed K o cycles m n at (g.N.Nvm.device c.engine_step.new.nvm) due (c.in_err-step.ensures.err o m.marks (stands_run K o cycles m n at due.0)))
+    (engine_failed K o cycles m n at (g.N.Nvm.device c.engine_step.new.nvm) due (c.in_err-step.ensures.err o m.marks (stands_run K o cycles m n at.sound due.0)))
 
 pub returns-clause-leads : goal.returns-clause-leads
 returns-clause-leads g c = λ o cycles _ at due.
@@ -16,4 +16,4 @@ returns-clause-leads g c = λ o cycles _ at due.
     let m = machine_of c.args.m.now in
     let n = g.N.Nvm.device c.args.nvm.now in
     engine_cycle K o cycles m n at c.engine_step.new.self (g.N.Nvm.device c.engine_step.new.nvm) c.in_ok-step.step (machine_of c.engine_on.new.m) c.engine_on.result due
-    (c.in_ok-step.ensures.ok o m.marks (stands_run K o cycles m n at due.0)) c.engine_on.ensures.parts c.engine_on.ensures.did
+    (c.in_ok-step.ensures.ok o m.marks (stands_run K o cycles m n at.sound due.0)) c.engine_on.ensures.parts c.engine_on.ensures.did

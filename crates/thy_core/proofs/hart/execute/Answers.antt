@@ -1,5 +1,5 @@
 use Rattle.thy_core.specs.Parts.{machine_of}
-use Rattle.thy_core.proofs.CycleLaws.{on_err, hart_runs, hart_ready, hart_stepped, hart_cycle, failed_once, hart_failed}
+use Rattle.thy_core.proofs.CycleLaws.{on_err, hart_runs, hart_ready, hart_call, hart_cycle, failed_once, hart_failed}
 use Rattle.thy_core.proofs.hart.execute.Goals as goal
 
 pub step-requires-clause-running : goal.step-requires-clause-running
@@ -25,8 +25,8 @@ pub returns-clause-leads : goal.returns-clause-leads
 returns-clause-leads g c = λ o cycles input at goes.
     let K = g.S.Scheme.scheme in
     let done = c.in_ok-step.ensures in
-    let stepped = hart_stepped K g.N.Nvm.device o c.args.m.now c.step.new.store c.args.nvm.now c.step.new.nvm c.step.new.self c.step.new.cache
+    let call = hart_call K g.N.Nvm.device o c.args.m.now c.step.new.store c.args.nvm.now c.step.new.nvm c.step.new.self c.step.new.cache
     c.in_ok-step.step c.args.input.now c.free-free.result c.under_way-under_way.result input c.free-free.ensures c.under_way-under_way.ensures
     done.step done.once done.stays done.untouched done.loads in
     hart_cycle K o cycles (machine_of c.args.m.now) (g.N.Nvm.device c.args.nvm.now) at c.step.new.self c.step.new.cache c.step.new.store.scheme
-    (g.N.Nvm.device c.step.new.nvm) c.in_ok-step.step (machine_of c.count.new.m) c.count.result goes stepped c.count.ensures.parts c.count.ensures.did
+    (g.N.Nvm.device c.step.new.nvm) c.in_ok-step.step (machine_of c.count.new.m) c.count.result goes call c.count.ensures.parts c.count.ensures.did

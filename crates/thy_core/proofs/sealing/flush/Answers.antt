@@ -11,7 +11,8 @@ returns-in_err-_flushed-clause-fails g c = λ o cycles _ at sealing.
     let failed = failed_once K g.N.Nvm.device c.args.m.now.behind c.flush_one.new.store c.args.nvm.now c.flush_one.new.nvm at.sound.up
     (inr once) c.in_err-_flushed.ensures.cause in
     on_err c.from_residual.result
-    (flush_failed K o cycles (machine_of c.args.m.now) (g.N.Nvm.device c.args.nvm.now) at c.flush_one.new.store.scheme new sealing failed.0.access failed.1)
+    (flush_failed K o cycles (machine_of c.args.m.now) (g.N.Nvm.device c.args.nvm.now) at c.flush_one.new.store.scheme new sealing c.requires.whole c.requires.dirty
+    failed.0.access failed.1)
 
 pub returns-clause-leads : goal.returns-clause-leads
 returns-clause-leads g c = λ o cycles _ at sealing.
@@ -19,7 +20,7 @@ returns-clause-leads g c = λ o cycles _ at sealing.
     let done = c.in_ok-_flushed.ensures in
     let once = done.once (λ is. c.requires.dirty (done.clean.0 is)) in
     flush_cycle K o cycles (machine_of c.args.m.now) (g.N.Nvm.device c.args.nvm.now) at c.flush_one.new.self c.flush_one.new.store.scheme
-    (g.N.Nvm.device c.flush_one.new.nvm) c.in_ok-_flushed._flushed sealing c.requires.whole
+    (g.N.Nvm.device c.flush_one.new.nvm) c.in_ok-_flushed._flushed sealing c.requires.whole c.requires.dirty
     (record {
       more = λ is. c.requires.dirty (done.clean.0 (ap Ok is));
       cache = done.cache;

@@ -7,5 +7,5 @@ returns g c = λ o cycles _ at sealing.
     let K = g.S.Scheme.scheme in
     let m = machine_of c.args.m.now in
     let n = g.N.Nvm.device c.args.nvm.now in
-    merge_cycle K o cycles m n at c.merge_one.new.self sealing c.requires.whole c.requires.clean
-    (c.merge_one.ensures o m.marks n (stands_run K o cycles m n at sealing.phase))
+    merge_cycle K o cycles m n at c.merge_one.new.self sealing c.requires.whole c.requires.clean c.requires.overlaid
+    (c.merge_one.ensures o m.marks n (stands_run K o cycles m n at.sound sealing.phase))

@@ -6,7 +6,7 @@ pub returns-in_err-promote_one-clause-fails : goal.returns-in_err-promote_one-cl
 returns-in_err-promote_one-clause-fails g c = λ o cycles _ at sealing.
     on_err c.from_residual.result
     (promotion_failed g.S.Scheme.scheme o cycles (machine_of c.args.m.now) (g.N.Nvm.device c.args.nvm.now) at (g.N.Nvm.device c.promote_one.new.nvm)
-    sealing c.in_err-promote_one.ensures.err)
+    sealing c.requires.promoting c.in_err-promote_one.ensures.err)
 
 pub returns-clause-leads : goal.returns-clause-leads
 returns-clause-leads g c = λ o cycles _ at sealing.
@@ -14,4 +14,4 @@ returns-clause-leads g c = λ o cycles _ at sealing.
     let m = machine_of c.args.m.now in
     let n = g.N.Nvm.device c.args.nvm.now in
     promotion_cycle K o cycles m n at c.promote_one.new.self (g.N.Nvm.device c.promote_one.new.nvm) sealing c.requires.promoting
-    (c.in_ok-promote_one.ensures.ok o m.marks (stands_run K o cycles m n at sealing.phase))
+    (c.in_ok-promote_one.ensures.ok o m.marks (stands_run K o cycles m n at.sound sealing.phase))

@@ -1,9 +1,10 @@
 use Rattle.std.proofs.Common.{Result, IfOk, OnErr, subst}
 use Rattle.thy_base.specs.declared.nvm.NvmError.{NvmError}
 use Rattle.thy_view.specs.declared.did.Did.{Did}
+use Rattle.thy_core_model.specs.Rows.{IsMoment}
 use Rattle.thy_core.specs.Cycles.{IsCycle, HasFailedAs}
-use Rattle.thy_core.specs.Parts.{machine_of, actor_of}
-use Rattle.thy_core.proofs.TakenLaws.{at_run, turned, step_taken, step_failed}
+use Rattle.thy_core.specs.Parts.{machine_of, actor_seen}
+use Rattle.thy_core.proofs.TakenLaws.{at_run, moment_of, turned, step_taken, step_failed}
 use Rattle.thy_core.proofs.step.take_step.Goals as goal
 
 pub cycle-requires : goal.cycle-requires
@@ -18,7 +19,7 @@ cycle-requires g c =
       cycles = run.cycles;
       of_kind = run.begins;
       at_moment = at;
-      turn = turned K run.o run.cycles c.args.pick c.queued.result (actor_of c.next_turn-turn.result) m n at c.queued.ensures c.next_turn-turn.ensures;
+      turn = turned K run.o run.cycles c.args.pick c.queued.result (actor_seen c.turn_now-actor.result) m n (moment_of K run.o run.cycles m n at) c.queued.ensures c.turn_now-actor.ensures;
     }
 
 pub returns-in-Ok-clause-steps : goal.returns-in-Ok-clause-steps
@@ -28,14 +29,14 @@ returns-in-Ok-clause-steps g c = λ o k begins sound few.
     let n = g.N.Nvm.device c.args.nvm.now in
     let next = machine_of c.cycle.new.m in
     let new = g.N.Nvm.device c.cycle.new.nvm in
-    let actor = actor_of c.next_turn-turn.result in
+    let actor = actor_seen c.turn_now-actor.result in
     let at = at_run K g.met.S.Scheme.lawful o k m n sound few in
-    let turn = turned K o k c.args.pick c.queued.result actor m n at c.queued.ensures c.next_turn-turn.ensures in
+    let turn = turned K o k c.args.pick c.queued.result actor m n (moment_of K o k m n at) c.queued.ensures c.turn_now-actor.ensures in
     let led : IsCycle K o k actor c.in-Ok.did m n next new =
     subst (λ (r : Result Did NvmError). IfOk r (λ did. IsCycle K o k actor did m n next new)) c.in-Ok.is (c.cycle.ensures.leads o k begins at turn) in
     step_taken K o k c.args.pick c.queued.result actor m next n new
-    (record { did = c.in-Ok.did; stall = c.told.result; ended = c.has_halted.result })
-    at c.queued.ensures c.next_turn-turn.ensures led c.told.ensures c.has_halted.ensures
+    (record { did = c.in-Ok.did; stall = c.told_stall.result; ended = c.has_halted.result })
+    at c.queued.ensures c.turn_now-actor.ensures led c.told_stall.ensures c.has_halted.ensures
 
 pub returns-in-Ok-clause-failed : goal.returns-in-Ok-clause-failed
 returns-in-Ok-clause-failed g c =
@@ -45,9 +46,9 @@ returns-in-Ok-clause-failed g c =
     let next = machine_of c.cycle.new.m in
     let new = g.N.Nvm.device c.cycle.new.nvm in
     let run = c.requires in
-    let actor = actor_of c.next_turn-turn.result in
+    let actor = actor_seen c.turn_now-actor.result in
     let at = at_run K g.met.S.Scheme.lawful run.o run.cycles m n run.at_moment run.few in
-    let turn = turned K run.o run.cycles c.args.pick c.queued.result actor m n at c.queued.ensures c.next_turn-turn.ensures in
+    let turn = turned K run.o run.cycles c.args.pick c.queued.result actor m n (moment_of K run.o run.cycles m n at) c.queued.ensures c.turn_now-actor.ensures in
     let led : IsCycle K run.o run.cycles actor c.in-Ok.did m n next new =
     subst (λ (r : Result Did NvmError). IfOk r (λ did. IsCycle K run.o run.cycles actor did m n next new)) c.in-Ok.is (c.cycle.ensures.leads run.o run.cycles run.begins at turn) in
     led.leads.at_next.unfailed
@@ -58,11 +59,9 @@ returns-in-Err-clause-safe g c = λ o k begins sound.
     let m = machine_of c.args.m.now in
     let n = g.N.Nvm.device c.args.nvm.now in
     let new = g.N.Nvm.device c.cycle.new.nvm in
-    let run = c.requires in
-    let actor = actor_of c.next_turn-turn.result in
-    let at = at_run K g.met.S.Scheme.lawful run.o run.cycles m n run.at_moment run.few in
-    let turn = turned K run.o run.cycles c.args.pick c.queued.result actor m n at c.queued.ensures c.next_turn-turn.ensures in
-    let failed : HasFailedAs K run.o actor m n new =
-    subst (λ (r : Result Did NvmError). OnErr r (HasFailedAs K run.o actor m n new)) c.in-Err.is (c.cycle.ensures.fails run.o run.cycles run.begins at turn) in
-    step_failed K run.o o run.cycles k c.args.start.now c.args.pick c.queued.result actor m n new
-    at run.begins begins sound c.queued.ensures c.next_turn-turn.ensures failed
+    let actor = actor_seen c.turn_now-actor.result in
+    let at : IsMoment K o k m n = record { lawful = g.met.S.Scheme.lawful; sound = sound } in
+    let turn = turned K o k c.args.pick c.queued.result actor m n at c.queued.ensures c.turn_now-actor.ensures in
+    let failed : HasFailedAs K o actor m n new =
+    subst (λ (r : Result Did NvmError). OnErr r (HasFailedAs K o actor m n new)) c.in-Err.is (c.cycle.ensures.fails o k begins at turn) in
+    step_failed K o k c.args.pick c.queued.result actor m n new at c.queued.ensures c.turn_now-actor.ensures failed

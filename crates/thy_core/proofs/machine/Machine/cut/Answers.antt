@@ -1,8 +1,13 @@
-use Rattle.std.proofs.Common.{subst, sym}
+use Rattle.std.proofs.Common.{subst, sym, ◌∙◌, ap}
+use Rattle.thy_dram.specs.Contents.{lost}
 use Rattle.thy_core_model.specs.Machine.{Machine}
 use Rattle.thy_core_model.specs.Sound.{Sound}
 use Rattle.thy_core.proofs.machine.Machine.cut.Goals as goal
 
-pub returns : goal.returns
-returns g c = λ o k n sound.
-    c.cut.ensures o k n (subst (λ (m : Machine g.row.S.Denot). Sound g.S.Scheme.scheme o k m n) (sym c.self.view_is) sound)
+pub returns-clause-drawn : goal.returns-clause-drawn
+returns-clause-drawn g c =
+    c.cut.ensures.drawn ∙ ap (λ (m : Machine g.row.S.Denot). lost (g.S.Scheme.scheme.dram m.scheme) c.args.pick) c.self.view_is
+
+pub returns-clause-sized : goal.returns-clause-sized
+returns-clause-sized g c = λ o k n sound.
+    c.cut.ensures.sized o k n (subst (λ (m : Machine g.row.S.Denot). Sound g.S.Scheme.scheme o k m n) (sym c.self.view_is) sound)
