@@ -40,7 +40,7 @@ target-not_one s b e =
 slot-not_one : (e : Progress) (k : ℕ) → slot_number e k ≢ 1
 slot-not_one e k same = absurd (omega (arith, same))
 
--- what leaves the commit block alone may be told as any block of the slot
+-- what leaves the commit block alone may be answered as any block of the slot
 slot-acts : (first : Bool) (at : ℕ) (block : Block) (m : Device) → at ≢ 1 → Acts (Engine (if first then StateBlock else TableBlock)) m (written_to m at block)
 slot-acts true at block m other = record { action = WriteAt at block; asked = other; left = refl }
 slot-acts false at block m other = record { action = WriteAt at block; asked = other; left = refl }

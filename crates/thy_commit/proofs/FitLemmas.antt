@@ -1,6 +1,6 @@
 -- Engine and controller belong together after every item, after a seal, and over every call in between.
 use Rattle.std.proofs.Common.{◌≡◌, ℕ, ◌+◌, ◌*◌, ◌<◌, ◌≤◌, nat_lt, Bool, true, false, ◌&&◌, if◌then◌else◌, refl, sym, ◌∙◌, ap, subst, arith, Option, Some, None}
-use Rattle.std.proofs.lemmas.Bool.{le-ltb}
+use Rattle.std.proofs.lemmas.Bool.{le-ltb, ltb-true}
 use Rattle.thy_base.specs.declared.config.Parameters.{Parameters}
 use Rattle.thy_base.specs.Device.{Device}
 use Rattle.thy_base.specs.Geometry.{memory_blocks}
@@ -25,10 +25,10 @@ use Rattle.thy_control.proofs.FindLemmas.{entry_for-some}
 use Rattle.thy_commit.specs.declared.engine.Done.{Done}
 use Rattle.thy_commit.specs.declared.next.Next.{Next}
 use Rattle.thy_commit.specs.declared.next.Next.TheVariants.{Nothing, Copies, Pages, Slot, Settle, Commit, Confirm}
-use Rattle.thy_commit.specs.Items.{Item, SlotItem, item, is_under_way, copy_or, page_or_slot, page_item, next_after}
-use Rattle.thy_commit.specs.Progress.{Progress, IsDone, IsPast, Fits, begun, state_after, IsTaken, item_of, state_next}
+use Rattle.thy_commit.specs.Items.{Item, NoItem, CopyItem, PageItem, SlotItem, SettleItem, CommitItem, ConfirmItem, item, is_under_way, copy_or, page_or_slot, page_item, next_after}
+use Rattle.thy_commit.specs.Progress.{Progress, IsSoundProgress, IsDone, IsPast, Fits, begun, state_after, IsTaken, item_of, state_next}
 use Rattle.thy_control.proofs.LeftLemmas.{not_pending, not_to_write, none-entry_for}
-use Rattle.thy_commit.specs.Fitting.{IdleFits, ItemsFit, SealFits, StaysFit}
+use Rattle.thy_commit.specs.Fitting.{IdleFits, ItemsFit, ItemsSound, SealFits, StaysFit}
 
 -- ---- nothing left
 
@@ -86,6 +86,29 @@ module _ (e : Progress) (s : State) (m : Device) (same : s.p ≡ e.p) where
 
 pub items_fit : ItemsFit
 items_fit e s m fits = fits-next e s m fits.same_p e.next fits.past fits.way
+
+-- it still has the registers, and the slot the block that is next
+slot-next : (p : Parameters) (j : ℕ) (more : Bool) → nat_lt (j + 1) (slot_blocks p) ≡ more → (k : ℕ) → (if more then Slot (j + 1) else Settle) ≡ Slot k → k < slot_blocks p
+slot-next p j true h k is =
+    let below : j + 1 < slot_blocks p = ltb-true (j + 1) (slot_blocks p) h in
+    let same : j + 1 ≡ k = cc in
+    omega (arith, below, same)
+slot-next p j false h k is = cc
+
+inside-next : (p : Parameters) (i : Item) (k : ℕ) → next_after p i ≡ Slot k → k < slot_blocks p
+inside-next p NoItem k is = cc
+inside-next p (CopyItem j) k is = cc
+inside-next p (PageItem j) k is = cc
+inside-next p (SlotItem j) k is = slot-next p j (nat_lt (j + 1) (slot_blocks p)) refl k is
+inside-next p SettleItem k is = cc
+inside-next p CommitItem k is = cc
+inside-next p ConfirmItem k is = cc
+
+pub sound_after : (e : Progress) (i : Item) → IsSoundProgress e → IsSoundProgress (record e { next = next_after e.p i })
+sound_after e i sound = record { regs = sound.regs; inside = λ k is. inside-next e.p i k is }
+
+pub items_sound : ItemsSound
+items_sound e s sound = sound_after e (item_of e s) sound
 
 -- so it is of the engine that an item leaves
 pub fits_on : (e f : Progress) (s t : State) (m n : Device) (d : Done) → Fits e s → IsTaken (item_of e s) e s m d t n → f ≡ record e { next = d.next } → Fits f t

@@ -3,28 +3,31 @@ use Rattle.std.proofs.Common.{◌≡◌, ◌≢◌, ℕ, ◌*◌, ◌≤◌, fal
 use Rattle.std.proofs.lemmas.List.{length-map, ext_get_or}
 use Rattle.std.proofs.Math.ListN.{get_or-map}
 use Rattle.thy_base.specs.Device.{Device}
-use Rattle.thy_table.specs.Listing.{entry_at, free_count, mapped, passes}
+use Rattle.thy_table.specs.Listing.{Listing, entry_at, free_count, mapped, passes}
 use Rattle.thy_table.proofs.FirstLemmas.{none-first_from}
+use Rattle.thy_table.proofs.ListingLaws.{entry_at-mapped}
 use Rattle.thy_tables.specs.declared.block_entry.BttEntry.{BttEntry}
 use Rattle.thy_tables.specs.declared.block_entry.Pending.{Pending}
 use Rattle.thy_tables.specs.declared.block_entry.Pending.TheVariants.{Settled}
+use Rattle.thy_tables.specs.declared.block_entry.Working.TheVariants.{NoWork}
 use Rattle.thy_tables.specs.BlockEntry.{new_entry}
 use Rattle.thy_cell.specs.Rules.{after_copy}
 use Rattle.thy_control.specs.Keys.{block_key}
 use Rattle.thy_control.specs.State.{State, AreSoundTables, cell_of}
 use Rattle.thy_control.specs.Copies.{needs_copy, next_copy, block_listed, copied}
-use Rattle.thy_control.specs.Frees.{settled}
+use Rattle.thy_control.specs.Frees.{HasNoWork, settled}
 use Rattle.thy_control.specs.Pages.{next_page, issued}
 use Rattle.thy_control.specs.Seal.{sealed_state}
 use Rattle.thy_control.proofs.CopyLemmas.{IsNext-entry, listed-pending}
 use Rattle.thy_control.proofs.FindLemmas.{found_entry, entry_for-some}
 use Rattle.thy_control.proofs.FreesLemmas.{half_free}
+use Rattle.thy_control.proofs.IdleLemmas.{HasNoWork-committed}
 use Rattle.thy_control.proofs.StayLemmas.{map-set_same}
 use Rattle.thy_commit.specs.declared.next.Next.{Next}
 use Rattle.thy_commit.specs.declared.next.Next.TheVariants.{Nothing, Copies, Pages, Slot, Settle, Commit, Confirm}
 use Rattle.thy_commit.specs.Items.{Item, item, copy_or, page_or_slot, page_item}
-use Rattle.thy_commit.specs.Progress.{IsDone, IsPast, state_after}
-use Rattle.thy_commit.specs.Frees.{IsButCopied, ItemsCopy, CommitFrees}
+use Rattle.thy_commit.specs.Progress.{IsDone, IsPast, state_after, state_next}
+use Rattle.thy_commit.specs.Frees.{IsButCopied, ItemsCopy, ItemsRest, CommitFrees}
 use Rattle.thy_control.proofs.LeftLemmas.{not_pending}
 
 but-copied : (b : ℕ) (s : State) (m : Device) → (cell_of s b).entry.pend ≢ Settled → IsButCopied s (copied b s m)
@@ -60,6 +63,33 @@ module _ (s : State) (m : Device) where
 
 pub items_copy : ItemsCopy
 items_copy e s m tables other = copy-next s m tables e.next other
+
+-- where only copies were made no entry has work, if none had
+no_work-copied : (s t : State) → IsButCopied s t → HasNoWork s → HasNoWork t
+no_work-copied s t same none = record { no_work = λ i e was. by_entry i e was (entry_at s.btt i) refl } where
+  by_entry : (i : ℕ) (e : BttEntry) → entry_at t.btt i ≡ Some e → (o : Option BttEntry) → entry_at s.btt i ≡ o → e.work ≡ NoWork
+  by_entry i e now o was = by_old o was (sym (entry_at-mapped settled s.btt i ∙ ap (option_and_then settled) was)
+      ∙ ap (λ (u : Listing BttEntry). entry_at u i) (sym same) ∙ entry_at-mapped settled t.btt i ∙ ap (option_and_then settled) now)
+    where
+      by_old : (o : Option BttEntry) → entry_at s.btt i ≡ o → option_and_then settled o ≡ settled e → e.work ≡ NoWork
+      by_old None was h = cc
+      by_old (Some f) was h =
+          let alike : record f { pend = Settled } ≡ record e { pend = Settled } = cc in
+          ap (λ (x : BttEntry). x.work) (sym alike) ∙ none.no_work i f was
+
+pub items_rest : ItemsRest
+items_rest e s m tables none = by_next e.next refl where
+  before : (q : Next) → e.next ≡ q → q ≢ Confirm → HasNoWork (state_next e s m)
+  before q is other = no_work-copied s (state_next e s m) (items_copy e s m tables (λ h. other (sym is ∙ h))) none
+
+  by_next : (q : Next) → e.next ≡ q → HasNoWork (state_next e s m)
+  by_next Confirm is = subst (λ (q : Next). HasNoWork (state_after (item q s) s m)) (sym is) (HasNoWork-committed s none)
+  by_next Nothing is = before Nothing is (λ h. cc)
+  by_next Copies is = before Copies is (λ h. cc)
+  by_next Pages is = before Pages is (λ h. cc)
+  by_next (Slot k) is = before (Slot k) is (λ h. cc)
+  by_next Settle is = before Settle is (λ h. cc)
+  by_next Commit is = before Commit is (λ h. cc)
 
 -- once all copies are made, the table is as it is with all of them made
 settled-done : (t : State) → next_copy t ≡ None → mapped settled t.btt ≡ t.btt

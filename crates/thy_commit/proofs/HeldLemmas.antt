@@ -1,6 +1,6 @@
 -- Every item keeps what controller and NVM hold together.
-use Rattle.std.proofs.Common.{◌≡◌, ◌≢◌, ℕ, ◌*◌, ◌<◌, ◌≤◌, ◌==◌, ◌&&◌, not, if◌then◌else◌, Bool, true, false, List, [], ◌∷◌, length, get_or, map, is_none, refl, sym, ◌∙◌, ap, arith, suc, Option, Some, None, option_and_then}
-use Rattle.std.specs.List.{range_with_len, count_by}
+use Rattle.std.proofs.Common.{◌≡◌, ◌≢◌, ℕ, ◌-◌, ◌*◌, ◌<◌, ◌≤◌, ◌==◌, ◌&&◌, not, if◌then◌else◌, Bool, true, false, List, [], ◌∷◌, length, get_or, map, slice_set, is_none, refl, sym, ◌∙◌, ap, arith, suc, Option, Some, None, option_and_then}
+use Rattle.std.specs.List.{range_with_len, count_by, sum_by}
 use Rattle.std.proofs.lemmas.Bool.{and_parts}
 use Rattle.std.proofs.lemmas.List.{ext_get_or}
 use Rattle.std.proofs.lemmas.List.FromFn.{length-map-range_with_len, get_or-map-range_with_len}
@@ -12,6 +12,7 @@ use Rattle.thy_base.proofs.DeviceLemmas.{length-applied, length-landed}
 use Rattle.thy_base.specs.Geometry.{memory_blocks}
 use Rattle.thy_base.specs.declared.place.Place.{Place}
 use Rattle.thy_base.specs.Places.{in_dram, number_of, image_blocks}
+use Rattle.thy_base.specs.Store.{page_of}
 use Rattle.thy_dram.specs.Contents.{written}
 use Rattle.thy_place.specs.Devices.{Devices, devices_of}
 use Rattle.thy_table.specs.Listing.{Listing, entry_at, free_count, passes}
@@ -24,15 +25,15 @@ use Rattle.thy_tables.specs.declared.block_entry.Working.{Working}
 use Rattle.thy_tables.specs.declared.block_entry.Working.TheVariants.{NoWork, InNvm, InBuffer}
 use Rattle.thy_tables.specs.declared.page_entry.PttEntry.{PttEntry}
 use Rattle.thy_tables.specs.BlockEntry.{new_entry}
-use Rattle.thy_tables.specs.PageEntry.{is_framed}
+use Rattle.thy_tables.specs.PageEntry.{is_framed, no_page, page_blocks}
 use Rattle.thy_cell.specs.declared.cell.Cell.{Cell}
 use Rattle.thy_cell.specs.Cells.{seat_of, frame_at, target, last}
-use Rattle.thy_cell.specs.Checkpoint.{CommitMoves, committed_by, committed_entry, page_committed_by, committed_page, page_or_none}
+use Rattle.thy_cell.specs.Checkpoint.{CommitMoves, committed_by, committed_entry, page_committed_by, committed_page, page_or_none, page_issued}
 use Rattle.thy_cell.specs.Rules.{after_copy}
 use Rattle.thy_cell.specs.Steps.{CopyKeeps, PageWriteKeeps, PageWriteKeepsOthers}
 use Rattle.thy_view.specs.Action.{Action, Rest, ReadAt, WriteAt, Barrier, Drain, after}
 use Rattle.thy_control.specs.declared.overlay.Marks.{Marks}
-use Rattle.thy_control.specs.Keys.{block_key}
+use Rattle.thy_control.specs.Keys.{block_key, page_key}
 use Rattle.thy_control.specs.State.{State, AreSoundTables, IsSized, cell_of, reads, work_of}
 use Rattle.thy_control.specs.Commit.{committed_state}
 use Rattle.thy_control.specs.Copies.{next_copy, block_listed, devices_copied, copied}
@@ -40,14 +41,15 @@ use Rattle.thy_control.specs.Holding.{works, waits, is_promoted, waiting, promot
 use Rattle.thy_control.specs.Merges.{overlays}
 use Rattle.thy_control.specs.Overlay.{is_buffered, is_overlaid, AreMarks}
 use Rattle.thy_control.specs.Pages.{next_page, block_to_write, devices_issued, issued}
+use Rattle.thy_control.specs.Promotions.{fills_left, unfilled}
 use Rattle.thy_control.specs.Seal.{block_is_framed}
 use Rattle.thy_control.proofs.CommitLemmas.{cell-committed}
 use Rattle.thy_control.proofs.CopyLemmas.{IsNext-entry, listed-pending}
 use Rattle.thy_control.proofs.CountLemmas.{count-set_same}
-use Rattle.thy_control.proofs.FindLemmas.{found_entry}
+use Rattle.thy_control.proofs.FindLemmas.{found_entry, entry_for-some}
 use Rattle.thy_control.proofs.HoldingLemmas.{works-sized}
 use Rattle.thy_control.proofs.IdleLemmas.{free-committed}
-use Rattle.thy_control.proofs.IssueLemmas.{IsDue-entry, busy-framed}
+use Rattle.thy_control.proofs.IssueLemmas.{IsDue-entry, listed-busy, busy-framed}
 use Rattle.thy_control.proofs.StepMarkLemmas.{AreMarks-copied, AreMarks-issued}
 use Rattle.thy_commit.specs.declared.next.Next.{Next}
 use Rattle.thy_commit.specs.declared.next.Next.TheVariants.{Nothing, Copies, Pages, Slot, Settle, Commit, Confirm}
@@ -88,13 +90,32 @@ module _ {X Y : Type 0} (f : X → Y) (p : X → Bool) (q : Y → Bool) (d : X) 
     by_both (p x) (q (f x)) (h 0 (omega arith)),
   )
 
+module _ {X : Type 0} (f : X → ℕ) (g : X → X) (d : X) where
+  -- where each counts as much as before, so does all
+  sum-alike : (xs : List X) → ((i : ℕ) → i < length xs → f (g (get_or xs i d)) ≡ f (get_or xs i d)) → sum_by f (map g xs) ≡ sum_by f xs
+  sum-alike [] h = refl
+  sum-alike (x ∷ xs) h = omega (
+    arith,
+    sum-alike xs (λ i l. h (suc i) (omega (arith, l))),
+    h 0 (omega arith),
+    sum_by-cons f (g x) (map g xs),
+    sum_by-cons f x xs,
+  )
+
+-- as many blocks are left where an entry is put for one that has as many
+pub unfilled-set : (es : List (Option PttEntry)) (j : ℕ) (e f : PttEntry) → j < length es → get_or es j None ≡ Some e
+    → fills_left (Some f) ≡ fills_left (Some e) → sum_by fills_left (slice_set es j (Some f)) ≡ sum_by fills_left es
+unfilled-set es j e f inside was same = omega (arith, sum_by-set fills_left es j (Some f) None inside, ap fills_left was, same)
+
 -- ---- room, copies owed, promotions and overlays
 
--- no fewer entries are free, no more buffers wait, as many pages are being promoted, and the overlays are as the item leaves them
+-- no fewer entries are free, no more buffers wait, as many pages are being promoted, with as many blocks left, and the overlays
+-- are as the item leaves them
 record KeepsCounts (i : Item) (s t : State) : Type 0 where
   free : free_count s.btt ≤ free_count t.btt
   owed : waiting t.btt ≤ waiting s.btt
   promoted_same : promoted t.ptt ≡ promoted s.ptt
+  unfilled_same : unfilled t ≡ unfilled s
   overlays_are : MovesOverlays i s t
 
 abbrev marks_of : State → Marks
@@ -116,8 +137,17 @@ counts-copied i b s m pending =
       free = omega (arith, same);
       owed = omega (arith, fewer);
       promoted_same = refl;
+      unfilled_same = refl;
       overlays_are = sym marks.overlaid_is;
     }
+
+unfilled-issued : (b : ℕ) (s : State) (m : Device) → (cell_of s b).page.busy ≡ true → unfilled (issued b s m) ≡ unfilled s
+unfolding issued
+unfilled-issued b s m busy =
+    let listed = listed-busy b s busy in
+    let there = found_entry page_key no_page s.ptt (page_of b) (cell_of s b).j listed in
+    let is : (cell_of s b).page ≡ there.0 = entry_for-some page_key no_page s.ptt (page_of b) (cell_of s b).j there.0 listed there.1 in
+    unfilled-set s.ptt.entries (cell_of s b).j there.0 (page_issued (cell_of s b).page) there.3 there.1 (ap (λ (e : PttEntry). fills_left (Some e)) is)
 
 counts-issued : (j b : ℕ) (s : State) (m : Device) → (cell_of s b).page.busy ≡ true → KeepsCounts (PageItem j) s (issued b s m)
 unfolding issued
@@ -127,6 +157,7 @@ counts-issued j b s m busy =
       free = omega arith;
       owed = omega arith;
       promoted_same = sym marks.promoted_is;
+      unfilled_same = unfilled-issued b s m busy;
       overlays_are = sym marks.overlaid_is;
     }
 
@@ -151,6 +182,11 @@ committed-promoted false e h = h
 stays-promoted : (leaving : Bool) (e : PttEntry) → (leaving ≡ true → is_promoted e ≡ false) → is_promoted e ≡ true → passes is_promoted (page_committed_by leaving e) ≡ true
 stays-promoted true e none h = let no : is_promoted e ≡ false = none refl in cc
 stays-promoted false e none h = h
+
+-- and has as many blocks left
+fills-stay : (leaving : Bool) (e : PttEntry) → (leaving ≡ true → is_promoted e ≡ false) → fills_left (page_committed_by leaving e) ≡ fills_left (Some e)
+fills-stay true e none = sym (ap (λ (x : Bool). if x then page_blocks - e.filled else 0) (none refl))
+fills-stay false e none = refl
 
 framed-before : (leaving : Bool) (e : PttEntry) → is_framed (page_or_none e.page (page_committed_by leaving e)) ≡ true → is_framed e ≡ true
 framed-before true e h = cc
@@ -212,12 +248,19 @@ module _ (s : State) (tables : AreSoundTables s) where
       more j None was h = h
       more j (Some e) was h = stays-promoted e.leaving e (leaving-framed j e was) h
 
+  unfilled-committed : unfilled (committed_state s) ≡ unfilled s
+  unfolding committed_state
+  unfilled-committed = sum-alike fills_left (option_and_then committed_page) None s.ptt.entries (λ j l. by_entry j (entry_at s.ptt j) refl) where
+    by_entry : (j : ℕ) (o : Option PttEntry) → entry_at s.ptt j ≡ o → fills_left (option_and_then committed_page o) ≡ fills_left o
+    by_entry j None was = refl
+    by_entry j (Some e) was = fills-stay e.leaving e (leaving-framed j e was)
+
 module _ (s : State) (m : Device) (tables : AreSoundTables s) where
   abbrev Counting : Item → Type 0
   Counting i = KeepsCounts i s (state_after i s m)
 
   counts-slot : (k : ℕ) → Counting (SlotItem k)
-  counts-slot k = record { free = omega arith; owed = omega arith; promoted_same = refl; overlays_are = refl }
+  counts-slot k = record { free = omega arith; owed = omega arith; promoted_same = refl; unfilled_same = refl; overlays_are = refl }
 
   counts-page : (o : Option ℕ) → next_page s ≡ o → Counting (page_or_slot o)
   counts-page None h = counts-slot 0
@@ -228,16 +271,17 @@ module _ (s : State) (m : Device) (tables : AreSoundTables s) where
   counts-copy (Some i) h = counts-copied i (block_listed i s) s m (IsNext-entry s tables i h).pending
 
   counts-next : (q : Next) → Counting (item q s)
-  counts-next Nothing = record { free = omega arith; owed = omega arith; promoted_same = refl; overlays_are = refl }
+  counts-next Nothing = record { free = omega arith; owed = omega arith; promoted_same = refl; unfilled_same = refl; overlays_are = refl }
   counts-next Copies = counts-copy (next_copy s) refl
   counts-next Pages = counts-page (next_page s) refl
   counts-next (Slot k) = counts-slot k
-  counts-next Settle = record { free = omega arith; owed = omega arith; promoted_same = refl; overlays_are = refl }
-  counts-next Commit = record { free = omega arith; owed = omega arith; promoted_same = refl; overlays_are = refl }
+  counts-next Settle = record { free = omega arith; owed = omega arith; promoted_same = refl; unfilled_same = refl; overlays_are = refl }
+  counts-next Commit = record { free = omega arith; owed = omega arith; promoted_same = refl; unfilled_same = refl; overlays_are = refl }
   counts-next Confirm = record {
     free = free-committed s;
     owed = owed-committed s tables;
     promoted_same = promoted-committed s tables;
+    unfilled_same = unfilled-committed s tables;
     overlays_are = overlays-committed s tables;
   }
 
@@ -346,5 +390,6 @@ items_keep_store copy write others commit e s m sound tables sized fits hold up 
       dram_same = (dram-after (item_of e s) s m).dram_same;
       counts_same = (dram-after (item_of e s) s m).counts_same;
       promoted_same = counts.promoted_same;
+      unfilled_same = counts.unfilled_same;
       overlays_are = counts.overlays_are;
     }

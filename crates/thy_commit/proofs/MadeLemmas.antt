@@ -31,7 +31,7 @@ use Rattle.thy_commit.specs.declared.next.Next.TheVariants.{Nothing, Copies, Pag
 use Rattle.thy_commit.specs.Items.{Item, NoItem, CopyItem, PageItem, SlotItem, SettleItem, CommitItem, ConfirmItem, item, is_under_way, copy_or, page_or_slot, page_item, next_after}
 use Rattle.thy_commit.specs.Progress.{Progress, slot_number, slot_block, device_after, item_of, state_next, device_next}
 use Rattle.thy_commit.specs.Versions.{MovesVersions, lasts}
-use Rattle.thy_commit.specs.Moves.{Checkpoints, is_written, checkpoints_after, IsMadeFor}
+use Rattle.thy_commit.specs.Moves.{Checkpoints, is_settled, checkpoints_after, IsMadeFor}
 use Rattle.thy_commit.specs.Made.{ItemsMake, StaysMade, SealMakes}
 use Rattle.thy_commit.proofs.ActionLemmas.{written-nvm, target-in_nvm}
 use Rattle.thy_commit.proofs.HeldLemmas.{same_p-after}
@@ -54,7 +54,7 @@ lasts-same s m t n p same =
 module _ (o : Origin) (e : Progress) (s : State) (m : Device) (c : Checkpoints) (made : IsMadeFor o e s m c) where
   -- with the last versions and the header as before, and the commit block where it has to be
   made-on : (next : Next) (t : State) (n : Device) (d : Checkpoints) → d.sealed ≡ c.sealed → lasts t n ≡ lasts s m → newest n 0 ≡ newest m 0
-      → (is_written next ≡ true → block_at d.next 1 ≡ commit_of e.epoch) → IsMadeFor o (record e { next = next }) t n d
+      → (is_settled next ≡ true → block_at d.next 1 ≡ commit_of e.epoch) → IsMadeFor o (record e { next = next }) t n d
   made-on next t n d sealed same header commit = record {
     mark = made.mark;
     sealed = sealed ∙ made.sealed;
@@ -118,7 +118,7 @@ last-moved ConfirmItem s m t n h = h.last_same
 -- the commit block of the image that is made, and that no mark but the last is taken
 record HasCommit (next : Next) (e : Progress) (c d : Checkpoints) : Type 0 where
   sealed : d.sealed ≡ c.sealed
-  commit : is_written next ≡ true → block_at d.next 1 ≡ commit_of e.epoch
+  commit : is_settled next ≡ true → block_at d.next 1 ≡ commit_of e.epoch
 
 module _ (e : Progress) (s : State) (m : Device) (c : Checkpoints) (long : 1 < length m.image) where
   abbrev Committing : Item → Type 0
@@ -126,7 +126,7 @@ module _ (e : Progress) (s : State) (m : Device) (c : Checkpoints) (long : 1 < l
 
   commit-slot : (k : ℕ) → Committing (SlotItem k)
   commit-slot k = record { sealed = refl; commit = by_more (nat_lt (k + 1) (slot_blocks e.p)) } where
-    by_more : (more : Bool) → is_written (if more then Slot (k + 1) else Settle) ≡ true → block_at c.next 1 ≡ commit_of e.epoch
+    by_more : (more : Bool) → is_settled (if more then Slot (k + 1) else Settle) ≡ true → block_at c.next 1 ≡ commit_of e.epoch
     by_more true h = cc
     by_more false h = cc
 
@@ -138,7 +138,7 @@ module _ (e : Progress) (s : State) (m : Device) (c : Checkpoints) (long : 1 < l
   commit-copy None = commit-page (next_page s)
   commit-copy (Some i) = record { sealed = refl; commit = λ h. cc }
 
-  commit-next : (q : Next) → is_under_way q ≡ true → q ≢ Confirm → (is_written q ≡ true → block_at c.next 1 ≡ commit_of e.epoch) → Committing (item q s)
+  commit-next : (q : Next) → is_under_way q ≡ true → q ≢ Confirm → (is_settled q ≡ true → block_at c.next 1 ≡ commit_of e.epoch) → Committing (item q s)
   commit-next Nothing way other was = cc
   commit-next Copies way other was = commit-copy (next_copy s)
   commit-next Pages way other was = commit-page (next_page s)

@@ -34,13 +34,14 @@ use Rattle.thy_protocol.specs.Keeps.{IsOf}
 use Rattle.thy_protocol.specs.Layout.{looked_by}
 use Rattle.thy_protocol.specs.Moves.{standing, Move, Goes, Readies, Commits, Confirms}
 use Rattle.thy_protocol.proofs.VersionOneLemmas.{decode_by-version_one, looked_by-version_one}
+use Rattle.thy_protocol.specs.VersionOne.{layout_of}
 use Rattle.thy_commit.specs.declared.next.Next.{Next}
 use Rattle.thy_commit.specs.declared.next.Next.TheVariants.{Nothing, Copies, Pages, Slot, Settle, Commit, Confirm}
 use Rattle.thy_commit.specs.Items.{Item, SlotItem, item, is_under_way, copy_or, page_or_slot, page_item, next_after}
 use Rattle.thy_commit.specs.Progress.{Progress, IsDone, IsPast, slot_number, slot_block, device_after, FailsItem}
 use Rattle.thy_commit.specs.Versions.{lasts}
 use Rattle.thy_commit.specs.Written.{HasWritten, HasStood}
-use Rattle.thy_commit.specs.Moves.{Checkpoints, layout_of, saved_at, standing_at, checkpoints_after, standing_failed, is_written, HasNext, IsKeptBy, IsMadeFor, IsNextBy, ItemsMove, NextIsTold, StaysMove, FailedItemsMove}
+use Rattle.thy_commit.specs.Moves.{Checkpoints, saved_at, standing_at, checkpoints_after, standing_failed, is_settled, HasNext, IsKeptBy, IsMadeFor, IsNextBy, ItemsMove, NextIsTold, StaysMove, FailedItemsMove}
 use Rattle.thy_commit.proofs.GuardLemmas.{Spares-stays, Spares-stays_next, Spares-two}
 use Rattle.thy_commit.proofs.DoneLemmas.{AreCopied-done}
 
@@ -142,7 +143,7 @@ module _ (copy : CopyKeeps) (write : PageWriteKeeps) (others : PageWriteKeepsOth
       subst (λ (x : Option Mark). Move o (layout_of o) (standing m old c.kept x) (standing n new c.kept x)) (sym made.sealed) move
 
   moves-next : (q : Next) → ((k : ℕ) → q ≡ Slot k → k < slot_blocks e.p) → HasStood q e s m → is_under_way q ≡ true
-      → IsFramed m (device_after e (item q s) s m) → (is_written q ≡ true → block_at c.next 1 ≡ commit_of e.epoch)
+      → IsFramed m (device_after e (item q s) s m) → (is_settled q ≡ true → block_at c.next 1 ≡ commit_of e.epoch)
       → Move o (layout_of o) (standing m (saved_at q c) c.kept c.sealed)
       (standing_at (record e { next = next_after e.p (item q s) }) (device_after e (item q s) s m) (checkpoints_after (item q s) e m c))
   moves-next Nothing inside h on framed commit = cc
@@ -211,7 +212,7 @@ spares-both o before next m n first second =
     Spares-two (looked_by (layout_of o) before) (looked_by (layout_of o) next) m n a b
 
 goes-all : (o : Origin) (c : Checkpoints) (m n : Device) (q : Next) → Spares (1 ∷ looked o.geometry c.before) m n
-    → (is_written q ≡ true → Spares (1 ∷ looked o.geometry c.next) m n)
+    → (is_settled q ≡ true → Spares (1 ∷ looked o.geometry c.next) m n)
     → Move o (layout_of o) (standing m (saved_at q c) c.kept c.sealed) (standing n (saved_at q c) c.kept c.sealed)
 goes-all o c m n Nothing first second = goes o c m n first
 goes-all o c m n Copies first second = goes o c m n first
@@ -223,7 +224,7 @@ goes-all o c m n Commit first second =
 goes-all o c m n Confirm first second =
     Goes (InDoubt c.before c.next) c.kept c.sealed m n (spares-both o c.before c.next m n first (second refl))
 
-written-done : (q : Next) (s : State) → is_written q ≡ true → IsPast q s → IsDone s
+written-done : (q : Next) (s : State) → is_settled q ≡ true → IsPast q s → IsDone s
 written-done Nothing s h past = cc
 written-done Copies s h past = cc
 written-done Pages s h past = cc
@@ -278,7 +279,7 @@ module _ (o : Origin) (e : Progress) (s : State) (m n : Device) (c : Checkpoints
       goes-stays o e s m s n c tables same (Stays-not_copied (block_listed i s) s m next.pending tables sized next.inside n failed framed) kept
 
   fails-next : (q : Next) → ((k : ℕ) → q ≡ Slot k → k < slot_blocks e.p) → FailsItem e (item q s) s m n
-      → (is_under_way q ≡ true → HasOther) → (is_written q ≡ true → HasNext e c)
+      → (is_under_way q ≡ true → HasOther) → (is_settled q ≡ true → HasNext e c)
       → Move o (layout_of o) (standing m (saved_at q c) c.kept c.sealed) (standing_failed q n c)
   fails-next Nothing inside failed other made = absurd failed
   fails-next Copies inside failed other made = fails-copy (next_copy s) refl (other refl) failed

@@ -24,6 +24,7 @@ use Rattle.thy_control.proofs.StayLemmas.{map-block, map-page}
 use Rattle.thy_protocol.specs.Keeps.{IsOf, Tells, TellsAll}
 use Rattle.thy_protocol.specs.Moves.{Standing, standing, Move, Seals}
 use Rattle.thy_protocol.proofs.LayoutLemmas.{decode_by-whole_back}
+use Rattle.thy_protocol.specs.VersionOne.{layout_of}
 use Rattle.thy_base.specs.declared.mark.Mark.{Mark}
 use Rattle.thy_commit.specs.declared.next.Next.{Next}
 use Rattle.thy_commit.specs.declared.next.Next.TheVariants.{Nothing, Copies, Pages, Slot, Settle, Commit, Confirm}
@@ -31,7 +32,7 @@ use Rattle.thy_commit.specs.Items.{Item, SlotItem, item, is_under_way, copy_or, 
 use Rattle.thy_commit.specs.Progress.{Progress, Fits, begun, state_after}
 use Rattle.thy_commit.specs.Tables.{KeepsTables, MovesTables, ItemsMoveTables}
 use Rattle.thy_commit.specs.Written.{HasStood}
-use Rattle.thy_commit.specs.Moves.{Checkpoints, layout_of, is_written, saved_at, standing_at, checkpoints_after, IsKeptBy, IsNextBy, AreTold, IsMadeFor}
+use Rattle.thy_commit.specs.Moves.{Checkpoints, is_settled, saved_at, standing_at, checkpoints_after, IsKeptBy, IsNextBy, AreTold, IsMadeFor}
 use Rattle.thy_commit.specs.Chain.{ItemsTell, StaysTell, IsNextSeal, sealing, SealMoves}
 use Rattle.thy_commit.proofs.MoveLemmas.{next_is_told}
 
@@ -105,7 +106,7 @@ module _ (o : Origin) (e : Progress) (s : State) (m : Device) (c : Checkpoints) 
   Telling i = AreTold o (record e { next = next_after e.p i }) (state_after i s m) (checkpoints_after i e m c)
 
   -- before the first barrier
-  tells-before : (t : State) (next : Next) → is_written next ≡ false → KeepsTables s t → AreTold o (record e { next = next }) t c
+  tells-before : (t : State) (next : Next) → is_settled next ≡ false → KeepsTables s t → AreTold o (record e { next = next }) t c
   tells-before t next unwritten keeps = record {
     kept = kept-on o e s t next c.before (λ h. way) keeps.tables0_same told.kept;
     next = λ written. absurd (not_both unwritten written);
@@ -116,7 +117,7 @@ module _ (o : Origin) (e : Progress) (s : State) (m : Device) (c : Checkpoints) 
 
   tells-slot : (k : ℕ) → Telling (SlotItem k)
   tells-slot k = tells-before s (next_after e.p (SlotItem k)) (by_more (nat_lt (k + 1) (slot_blocks e.p))) (tables-same s) where
-    by_more : (more : Bool) → is_written (if more then Slot (k + 1) else Settle) ≡ false
+    by_more : (more : Bool) → is_settled (if more then Slot (k + 1) else Settle) ≡ false
     by_more true = refl
     by_more false = refl
 
@@ -142,13 +143,13 @@ module _ (o : Origin) (e : Progress) (s : State) (m : Device) (c : Checkpoints) 
   }
   tells-next Commit is tables fits stood made = record {
     kept = kept-on o e s s Confirm c.before (λ h. way) refl told.kept;
-    next = λ h. told.next (ap is_written (sym is));
+    next = λ h. told.next (ap is_settled (sym is));
   }
   tells-next Confirm is tables fits stood made = record {
     kept = record {
       geometry = told.kept.geometry;
       epoch = e.epoch;
-      told = subst (λ (x : Tables). IsToldBy o.geometry c.next e.epoch x) (sym (CommitsTables-committed s tables).tables0_next) (told.next (ap is_written (sym is)));
+      told = subst (λ (x : Tables). IsToldBy o.geometry c.next e.epoch x) (sym (CommitsTables-committed s tables).tables0_next) (told.next (ap is_settled (sym is)));
       other_slot = λ h. cc;
     };
     next = λ h. cc;

@@ -10,7 +10,7 @@ use Rattle.thy_control.specs.State.{State}
 use Rattle.thy_commit.specs.Items.{answer}
 use Rattle.thy_commit.specs.Progress.{Progress, item_of, device_next, FailsNext}
 
--- how a machine tells the engine's answer; with the last one, how many instructions were retired meanwhile
+-- what a machine makes of the engine's answer; with the last one, how many instructions were retired meanwhile
 abbrev pub did_by : ℕ → EngineStep → Did
 did_by overlapped (EngineCommitted epoch) = Committed epoch overlapped
 did_by overlapped step = Engine step

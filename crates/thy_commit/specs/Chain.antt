@@ -8,10 +8,11 @@ use Rattle.thy_control.specs.State.{State, AreSoundTables}
 use Rattle.thy_control.specs.Seal.{sealed_state}
 use Rattle.thy_control.specs.Stays.{Stays}
 use Rattle.thy_protocol.specs.Moves.{IsKeeping, Move}
+use Rattle.thy_protocol.specs.VersionOne.{layout_of}
 use Rattle.thy_commit.specs.Items.{is_under_way}
 use Rattle.thy_commit.specs.Progress.{Progress, Fits, begun, item_of, engine_next, state_next}
 use Rattle.thy_commit.specs.Written.{Stands}
-use Rattle.thy_commit.specs.Moves.{Checkpoints, layout_of, standing_at, checkpoints_after, AreTold, IsMadeFor}
+use Rattle.thy_commit.specs.Moves.{Checkpoints, standing_at, checkpoints_after, AreTold, IsMadeFor}
 
 -- every item leaves the images told; with the last one the image that was made is the one that is kept
 abbrev pub ItemsTell : Type 0

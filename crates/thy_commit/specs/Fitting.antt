@@ -6,7 +6,7 @@ use Rattle.thy_control.specs.State.{State, AreSoundTables}
 use Rattle.thy_control.specs.Seal.{sealed_state}
 use Rattle.thy_control.specs.Stays.{Stays}
 use Rattle.thy_commit.specs.Items.{is_under_way}
-use Rattle.thy_commit.specs.Progress.{Progress, Fits, begun, engine_next, state_next}
+use Rattle.thy_commit.specs.Progress.{Progress, IsSoundProgress, Fits, begun, engine_next, state_next}
 
 -- they do where no checkpoint is under way in either
 abbrev pub IdleFits : Type 0
@@ -17,6 +17,10 @@ IdleFits =
 -- every item leaves them so
 abbrev pub ItemsFit : Type 0
 ItemsFit = (e : Progress) (s : State) (m : Device) → Fits e s → Fits (engine_next e s) (state_next e s m)
+
+-- and the engine sound: with the registers, and at a block that the slot has
+abbrev pub ItemsSound : Type 0
+ItemsSound = (e : Progress) (s : State) → IsSoundProgress e → IsSoundProgress (engine_next e s)
 
 -- so does a seal, with which a checkpoint begins
 abbrev pub SealFits : Type 0

@@ -17,6 +17,10 @@ abbrev pub ItemsCopy : Type 0
 ItemsCopy =
     (e : Progress) (s : State) (m : Device) → AreSoundTables s → e.next ≢ Confirm → IsButCopied s (state_next e s m)
 
+-- where no entry has work, none has after any item
+abbrev pub ItemsRest : Type 0
+ItemsRest = (e : Progress) (s : State) (m : Device) → AreSoundTables s → HasNoWork s → HasNoWork (state_next e s m)
+
 -- and where the seal found no work, at least half of the block table is free after the commit
 abbrev pub CommitFrees : Type 0
 CommitFrees =

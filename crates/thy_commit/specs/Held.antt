@@ -5,6 +5,7 @@ use Rattle.thy_base.specs.Store.{Holding}
 use Rattle.thy_control.specs.State.{State, AreSoundTables, IsSized}
 use Rattle.thy_control.specs.Holding.{holding_of, promoted}
 use Rattle.thy_control.specs.Merges.{overlays}
+use Rattle.thy_control.specs.Promotions.{unfilled}
 use Rattle.thy_control.specs.Stays.{HoldAll}
 use Rattle.thy_commit.specs.Items.{Item, ConfirmItem}
 use Rattle.thy_commit.specs.Progress.{Progress, IsSoundProgress, Fits, item_of, state_next, device_next}
@@ -22,12 +23,13 @@ abbrev pub MovesOverlays : Item → State → State → Type 0
 MovesOverlays ConfirmItem s t = overlays t ≤ overlays s
 MovesOverlays i s t = overlays t ≡ overlays s
 
--- as many pages are being promoted; the DRAM and the counts of stores are as before
+-- as many pages are being promoted, with as many blocks left; the DRAM and the counts of stores are as before
 pub record KeepsStore (i : Item) (s : State) (m : Device) (t : State) (n : Device) : Type 0 where
   pub holding : KeepsHolding (holding_of s m) (holding_of t n)
   pub dram_same : t.dram ≡ s.dram
   pub counts_same : t.counts ≡ s.counts
   pub promoted_same : promoted t.ptt ≡ promoted s.ptt
+  pub unfilled_same : unfilled t ≡ unfilled s
   pub overlays_are : MovesOverlays i s t
 
 abbrev pub ItemsKeepStore : Type 0

@@ -64,7 +64,9 @@ next_after p SettleItem = Commit
 next_after p CommitItem = Confirm
 next_after p ConfirmItem = Nothing
 
--- how it is told; the first five blocks of a slot are the processor's record
+-- what the engine answers for it; the first five blocks of a slot are the processor's record. A copy, a block of a page, one of
+-- the record and one of the tables are told apart by this definition alone: to all above they are a write that leaves the
+-- commit block alone
 abbrev pub answer : ℕ → Item → EngineStep
 answer epoch NoItem = Idle
 answer epoch (CopyItem i) = Copied

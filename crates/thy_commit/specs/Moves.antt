@@ -16,7 +16,7 @@ use Rattle.thy_control.specs.CheckpointTables.{tables0, tables1}
 use Rattle.thy_control.specs.Stays.{HoldAll, Stays}
 use Rattle.thy_protocol.specs.Layout.{Layout}
 use Rattle.thy_protocol.specs.Moves.{Standing, standing, Move}
-use Rattle.thy_protocol.specs.VersionOne.{version_one}
+use Rattle.thy_protocol.specs.VersionOne.{layout_of}
 use Rattle.thy_commit.specs.declared.next.Next.{Next}
 use Rattle.thy_commit.specs.declared.next.Next.TheVariants.{Settle, Commit, Confirm}
 use Rattle.thy_commit.specs.Items.{Item, SettleItem, ConfirmItem, is_under_way}
@@ -31,14 +31,11 @@ pub record Checkpoints : Type 0 where
   pub next : List Block
   pub sealed : Option Mark
 
-abbrev pub layout_of : Origin → Layout
-layout_of o = version_one o.geometry ceiling
-
 -- the first barrier came: all but the commit block is written
-abbrev pub is_written : Next → Bool
-is_written Commit = true
-is_written Confirm = true
-is_written next = false
+abbrev pub is_settled : Next → Bool
+is_settled Commit = true
+is_settled Confirm = true
+is_settled next = false
 
 -- until the first barrier one image is kept, behind it the next one is ready, and with its commit block in doubt
 abbrev pub saved_at : Next → Checkpoints → Saved
@@ -76,7 +73,7 @@ IsNextBy o e s next = IsToldBy o.geometry next e.epoch (tables1 s)
 -- the controller has the tables of the image that is kept, and behind the first barrier of the one that is made
 pub record AreTold (o : Origin) (e : Progress) (s : State) (c : Checkpoints) : Type 0 where
   pub kept : IsKeptBy o e s c.before
-  pub next : is_written e.next ≡ true → IsNextBy o e s c.next
+  pub next : is_settled e.next ≡ true → IsNextBy o e s c.next
 
 -- the checkpoint under way is that of the sealed mark, and the header has no fault
 pub record IsMadeFor (o : Origin) (e : Progress) (s : State) (n : Device) (c : Checkpoints) : Type 0 where
@@ -88,7 +85,7 @@ pub record IsMadeFor (o : Origin) (e : Progress) (s : State) (n : Device) (c : C
   pub state_is : state_from o.geometry e.cpu (lasts s n) ≡ at o mark.count
   pub counted : (at o mark.count).count ≡ mark.count
   pub header : header_fault (newest n 0) o.geometry true ≡ None
-  pub commit : is_written e.next ≡ true → block_at c.next 1 ≡ commit_of e.epoch
+  pub commit : is_settled e.next ≡ true → block_at c.next 1 ≡ commit_of e.epoch
 
 -- so every item is a move
 abbrev pub ItemsMove : Type 0
@@ -123,5 +120,5 @@ abbrev pub FailedItemsMove : Type 0
 FailedItemsMove =
     (o : Origin) (e : Progress) (s : State) (m n : Device) (c : Checkpoints)
     → IsSoundProgress e → AreSoundTables s → IsSized s m → Fits e s → FailsNext e s m n → IsFramed m n
-    → IsKeptBy o e s c.before → (is_written e.next ≡ true → HasNext e c)
+    → IsKeptBy o e s c.before → (is_settled e.next ≡ true → HasNext e c)
     → Move o (layout_of o) (standing_at e m c) (standing_failed e.next n c)

@@ -92,7 +92,7 @@ FailsItem e SettleItem s m n = HasFailed m n
 FailsItem e CommitItem s m n = HasFailedToWrite 1 (commit_of e.epoch) m n
 FailsItem e ConfirmItem s m n = HasFailed m n
 
--- an item was taken: how it is told, what comes after it, and what it makes of controller and NVM
+-- an item was taken: what is answered, what comes after it, and what it makes of controller and NVM
 pub record IsTaken (i : Item) (e : Progress) (s : State) (m : Device) (d : Done) (t : State) (n : Device) : Type 0 where
   pub step : d.step ≡ answer e.epoch i
   pub next : d.next ≡ next_after e.p i

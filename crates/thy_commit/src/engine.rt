@@ -39,7 +39,7 @@ struct Done {
     next: Next,
 }
 
-/// How the write of block `k` of a slot is told.
+/// What the engine answers for the write of block `k` of a slot.
 fn slot_step(k: u64) -> EngineStep
     ensures { result ≡ (if nat_lt k 5 then IsStateBlock else IsTableBlock) }
 {
@@ -53,7 +53,7 @@ fn slot_step(k: u64) -> EngineStep
 impl Engine {
     ghost use Rattle.thy_base.specs.Places.{slot_blocks};
     ghost use Rattle.thy_commit.specs.Items.{SlotItem, SettleItem, CommitItem, ConfirmItem, is_under_way, copy_item, page_item, next_after, answer};
-    ghost use Rattle.thy_commit.specs.Progress.{begun, Fits, IsDone, slot_block, Ends, item_of, engine_next, state_next, device_next, FailsNext};
+    ghost use Rattle.thy_commit.specs.Progress.{begun, Fits, IsSoundProgress, IsDone, slot_block, Ends, item_of, engine_next, state_next, device_next, FailsNext};
 
     /// An engine with no checkpoint under way.
     pub fn new(geometry: &Geometry) -> Engine
@@ -75,6 +75,13 @@ impl Engine {
             },
             epoch: 0,
         }
+    }
+
+    /// It has the registers, and where a block of the slot comes next, the slot has it.
+    pub fn sound(&self)
+        ensures { IsSoundProgress self.now }
+    {
+        let _next = &self.next;
     }
 
     /// Begins the checkpoint of an epoch, with the processor as it was sealed. None may be under way.
@@ -108,6 +115,9 @@ impl Engine {
 
     /// Takes one action: nothing where no checkpoint is under way. A copy or a page that is not left costs no cycle. Where the
     /// NVM failed, engine and controller are as they were, and only the place of a write that failed may hold more.
+    ///
+    /// The answer names the item. `Copied`, `PageBlock`, `StateBlock` and `TableBlock` differ in nothing else: each is a write
+    /// that leaves the commit block alone, and no contract above this one tells them apart.
     pub fn step<N: Nvm>(
         &mut self,
         control: &mut Control,

@@ -2,10 +2,10 @@
 ghost use Rattle.thy_commit.specs.Actions.{FailedItemsAct, ItemsAct};
 ghost use Rattle.thy_commit.specs.Chain.{ItemsTell, SealMoves, StaysTell};
 ghost use Rattle.thy_commit.specs.Cycles.{CyclesAreFew, ItemsCount, StaysCount};
-ghost use Rattle.thy_commit.specs.Fitting.{IdleFits, ItemsFit, SealFits, StaysFit};
+ghost use Rattle.thy_commit.specs.Fitting.{IdleFits, ItemsFit, ItemsSound, SealFits, StaysFit};
 ghost use Rattle.thy_commit.specs.Made.{ItemsMake, SealMakes, StaysMade};
 ghost use Rattle.thy_commit.specs.Moves.{FailedItemsMove, ItemsMove, NextIsTold, StaysMove};
-ghost use Rattle.thy_commit.specs.Frees.{CommitFrees, ItemsCopy};
+ghost use Rattle.thy_commit.specs.Frees.{CommitFrees, ItemsCopy, ItemsRest};
 ghost use Rattle.thy_commit.specs.Held.{ItemsKeepStore};
 ghost use Rattle.thy_commit.specs.Tables.{ItemsMoveTables};
 ghost use Rattle.thy_commit.specs.Versions.{ItemsMoveVersions, MemoryIsLast};
@@ -49,19 +49,20 @@ pub fn every_item_takes_a_cycle()
     ensures most { CyclesAreFew }
 {}
 
-/// Engine and controller belong together where no checkpoint is under way in either. They do so after every item, after a seal
+/// Engine and controller belong together where no checkpoint is under way in either. They do so after every item, which leaves the engine sound, after a seal
 /// with which a checkpoint begins, and after every call of the controller in between, whether or not it failed: what was
 /// done stays so.
 pub fn engine_and_controller_fit()
     ensures idle { IdleFits }
     ensures items { ItemsFit }
+    ensures sound { ItemsSound }
     ensures seal { SealFits }
     ensures stays { StaysFit }
 {}
 
 /// Every item keeps what controller and NVM hold together, seen as a store of blocks: each block, readiness, and that no page is
-/// open; there is not less room, and no more copies are owed. As many pages are being promoted, and as many buffers lie over
-/// frames, or fewer after the commit. The DRAM and the counts of stores are as before.
+/// open; there is not less room, and no more copies are owed. As many pages are being promoted, with as many blocks left, and
+/// as many buffers lie over frames, or fewer after the commit. The DRAM and the counts of stores are as before.
 pub fn items_keep_the_store()
     ensures { ItemsKeepStore }
 {
@@ -72,9 +73,10 @@ pub fn items_keep_the_store()
 }
 
 /// Where a seal finds no work, and over its checkpoint no store comes, at least half of the block table is free after the
-/// commit: the items before it change that table by copies alone.
+/// commit: the items before it change that table by copies alone, and no item makes work.
 pub fn a_checkpoint_without_stores_frees_entries()
     ensures copies { ItemsCopy }
+    ensures rests { ItemsRest }
     ensures frees { CommitFrees }
 {}
 

@@ -1,6 +1,6 @@
 //! The scheme.
 ghost use Rattle.std.specs.Prelude.{◌≡◌};
-ghost use Rattle.thy_dual_model.specs.Boots.{loads_at, step_of, told_as};
+ghost use Rattle.thy_dual_model.specs.Boots.{loads_at, step_of, result_of};
 
 use std::alloc::{AllocError, Global};
 use std::marker::Model;
@@ -51,8 +51,8 @@ fn is_loading(stage: Stage) -> bool
     }
 }
 
-/// What a step of the boot tells, as a scheme tells it.
-fn tell(step: Recovered) -> BootStep
+/// What a step of the boot answers, as a scheme answers it.
+fn scheme_step(step: Recovered) -> BootStep
     ensures { result ≡ step_of step }
 {
     match step {
@@ -64,11 +64,11 @@ fn tell(step: Recovered) -> BootStep
 }
 
 /// So where the NVM may have failed.
-fn tell_all(told: Result<Recovered, NvmError>) -> Result<BootStep, NvmError>
-    ensures { result ≡ told_as told }
+fn scheme_result(answer: Result<Recovered, NvmError>) -> Result<BootStep, NvmError>
+    ensures { result ≡ result_of answer }
 {
-    match told {
-        Ok(step) => Ok(tell(step)),
+    match answer {
+        Ok(step) => Ok(scheme_step(step)),
         Err(error) => Err(error),
     }
 }
@@ -86,6 +86,7 @@ impl Scheme for DualScheme {
     fn new(alloc: Global, geometry: &Geometry, dram: Dram) -> Result<DualScheme, AllocError> {
         let boot = Boot::new(alloc, geometry)?;
         let engine = Engine::new(geometry);
+        engine.sound();
         let control = Control::new(alloc, geometry, dram)?;
         control.tables();
         Ok(DualScheme {
@@ -178,7 +179,7 @@ impl Scheme for DualScheme {
         let result = self.boot.step(&mut self.control, start, nvm);
         self.boot.fits();
         self.control.tables();
-        tell_all(result)
+        scheme_result(result)
     }
 
     fn loading(&self) -> bool {

@@ -37,12 +37,16 @@ use Rattle.thy_recover.specs.Boot.{Booting, IsBoot, new_boot}
 use Rattle.thy_recover.specs.Left.{boot_left}
 use Rattle.thy_recover.specs.Laws.{IsGoing}
 use Rattle.thy_recover.specs.Shows.{is_written, seen_at}
-use Rattle.thy_recover.specs.Sound.{Checkpoints, layout_of, start_mark, saved_at, standing_at, IsRecovering, IsSoundAt, IsSound as IsBootOf}
+use Rattle.thy_recover.specs.Sound.{BootImages, start_mark, saved_loading, standing_in_boot, IsRecovering, IsSoundAt, IsSound as IsBootOf}
 use Rattle.thy_recover.proofs.DecodeLemmas.{decode-zero}
-use Rattle.thy_recover.proofs.StepLawLemmas.{sound_is_safe, drains_keep_boot, new_is_sound, never_refused}
+use Rattle.thy_recover.proofs.SafeLemmas.{sound_is_safe}
+use Rattle.thy_recover.proofs.BootDrainLemmas.{drains_keep_boot}
+use Rattle.thy_recover.proofs.GoOnLemmas.{new_is_sound}
+use Rattle.thy_recover.proofs.EndLemmas.{never_refused}
 use Rattle.thy_recover.specs.Recovers.{HasReadAt}
 use Rattle.thy_record.specs.declared.image.BadImage.{BadImage}
 use Rattle.thy_protocol.proofs.LayoutLemmas.{decode_by-nothing_back}
+use Rattle.thy_protocol.specs.VersionOne.{layout_of}
 use Rattle.thy_scheme.specs.Boots.{IsBootView, BootStays, BootDrains}
 use Rattle.thy_scheme.specs.Laws.{IsOwn, IsFound, BootsFound, BootHolds}
 use Rattle.thy_dual_model.specs.Boots.{Boots, IsPowered, view_at, has_read_at, loads_at}
@@ -53,7 +57,7 @@ use Rattle.thy_dual_model.proofs.SafeLemmas.{Safe-read}
 
 -- ---- what is seen
 
-module _ (o : Origin) (g : Checkpoints) (n : Device) (b : Booting) (c : State) where
+module _ (o : Origin) (g : BootImages) (n : Device) (b : Booting) (c : State) where
   -- while it reads, what the image means is the mark that is kept
   view-reading : IsRecovering g n b c → Tells o (layout_of o) g.before g.kept
       → view_of_image o.start.count (decode_image o.geometry ceiling n.image) ≡ finding_view o.start.count g.kept
@@ -62,7 +66,7 @@ module _ (o : Origin) (g : Checkpoints) (n : Device) (b : Booting) (c : State) w
       ∙ ap (view_of_image o.start.count) (sym (decode_by-version_one o.geometry ceiling g.before))
       ∙ finding_view-told o (layout_of o) g.before g.kept o.start.count tells
 
-  view-at : (q : Stage) → IsGoing q → IsKeeping o (layout_of o) (standing_at o q g n) → IsSoundAt o q g n b c → view_at o q n ≡ seen_at o g.kept q
+  view-at : (q : Stage) → IsGoing q → IsKeeping o (layout_of o) (standing_in_boot o q g n) → IsSoundAt o q g n b c → view_at o q n ≡ seen_at o g.kept q
   view-at Unread going keeps far = view-reading far keeps.told
   view-at (ReadsHeader epoch fault) going keeps far = view-reading far keeps.told
   view-at (ReadsSlot epoch next) going keeps far = view-reading far keeps.told
@@ -85,7 +89,7 @@ module _ (o : Origin) (g : Checkpoints) (n : Device) (b : Booting) (c : State) w
   shown-loading Confirm none = inr (none, inr refl)
 
   -- a run that loads began without a checkpoint
-  pub loads-first : (issue : Issue) → TellsAll o (layout_of o) (saved_at issue g) None (Some (start_mark o)) → o.kept ≡ None
+  pub loads-first : (issue : Issue) → TellsAll o (layout_of o) (saved_loading issue g) None (Some (start_mark o)) → o.kept ≡ None
   loads-first (Home k) told = told.1
   loads-first (Slot k) told = told.1
   loads-first Header told = told.1
@@ -93,7 +97,7 @@ module _ (o : Origin) (g : Checkpoints) (n : Device) (b : Booting) (c : State) w
   loads-first Commit told = told.0.1
   loads-first Confirm told = told.0.1
 
-  shown-at : (q : Stage) → IsGoing q → IsKeeping o (layout_of o) (standing_at o q g n) → IsBootView o (seen_at o g.kept q)
+  shown-at : (q : Stage) → IsGoing q → IsKeeping o (layout_of o) (standing_in_boot o q g n) → IsBootView o (seen_at o g.kept q)
   shown-at Unread going keeps = shown-finding g.kept keeps.told
   shown-at (ReadsHeader epoch fault) going keeps = shown-finding g.kept keeps.told
   shown-at (ReadsSlot epoch next) going keeps = shown-finding g.kept keeps.told
@@ -103,7 +107,7 @@ module _ (o : Origin) (g : Checkpoints) (n : Device) (b : Booting) (c : State) w
   shown-at (Restored epoch) going keeps = absurd going
   shown-at Loaded going keeps = absurd going
 
-  sized-at : (q : Stage) → IsGoing q → IsKeeping o (layout_of o) (standing_at o q g n) → length n.image ≡ image_blocks o.geometry
+  sized-at : (q : Stage) → IsGoing q → IsKeeping o (layout_of o) (standing_in_boot o q g n) → length n.image ≡ image_blocks o.geometry
   sized-at Unread going keeps = keeps.sized
   sized-at (ReadsHeader epoch fault) going keeps = keeps.sized
   sized-at (ReadsSlot epoch next) going keeps = keeps.sized
@@ -224,7 +228,7 @@ module _ (o : Origin) (s : Dual) (n : Device) (origin : IsOrigin o) (powered : I
   own : (kept : Option Mark) × Tells o (layout_of o) n.image kept
   own = own-mark o n (decode_image o.geometry ceiling n.image) refl found.own
 
-  abbrev first : Checkpoints
+  abbrev first : BootImages
   first = record { before = n.image; kept = own.0; next = [] }
 
   boots-first : Boots o s n
@@ -270,7 +274,7 @@ zeros_are_nothing p shape n same =
 -- ---- whether it loads
 
 -- an image with a commit block has a checkpoint
-kept-some : (o : Origin) (g : Checkpoints) (n : Device) (kept : Option Mark) → g.before ≡ n.image → Tells o (layout_of o) g.before kept → is_zero (block_at n.image 1) ≡ false
+kept-some : (o : Origin) (g : BootImages) (n : Device) (kept : Option Mark) → g.before ≡ n.image → Tells o (layout_of o) g.before kept → is_zero (block_at n.image 1) ≡ false
     → loads (finding_view o.start.count kept) ≡ false
 kept-some o g n (Some m) before tells committed = refl
 kept-some o g n None before tells committed =
@@ -295,7 +299,7 @@ has-commit (Loading issue) n p slot c h = tt
 has-commit (Restored epoch) n p slot c h = tt
 has-commit Loaded n p slot c h = tt
 
-module _ (o : Origin) (g : Checkpoints) (n : Device) (b : Booting) (c : State) where
+module _ (o : Origin) (g : BootImages) (n : Device) (b : Booting) (c : State) where
   not-loading : IsRecovering g n b c → Tells o (layout_of o) g.before g.kept → is_zero (block_at n.image 1) ≡ false
       → loads (view_of_image o.start.count (decode_image o.geometry ceiling n.image)) ≡ false
   not-loading reading tells committed =
@@ -312,7 +316,7 @@ module _ (o : Origin) (g : Checkpoints) (n : Device) (b : Booting) (c : State) w
   commit-at (Restored epoch) is far = tt
   commit-at Loaded is far = tt
 
-  loading-at : (q : Stage) → IsGoing q → ((bad : BadImage) → q ≢ Refusing bad) → IsKeeping o (layout_of o) (standing_at o q g n) → IsSoundAt o q g n b c
+  loading-at : (q : Stage) → IsGoing q → ((bad : BadImage) → q ≢ Refusing bad) → IsKeeping o (layout_of o) (standing_in_boot o q g n) → IsSoundAt o q g n b c
       → HasCommitAt q n → loads_at q ≡ (has_read_at q && loads (view_at o q n))
   loading-at Unread going good keeps far read = refl
   loading-at (ReadsHeader epoch fault) going good keeps far read = sym (not-loading far keeps.told read)

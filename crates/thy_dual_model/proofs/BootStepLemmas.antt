@@ -14,12 +14,13 @@ use Rattle.thy_isa.specs.OnBlocks.{state_from}
 use Rattle.thy_isa.specs.Step.{State as Plain, cpu_of, state_of}
 use Rattle.thy_record.specs.declared.image.BadImage.{BadImage}
 use Rattle.thy_record.specs.declared.start.Start.{Start}
-use Rattle.thy_record.specs.Cpu.{cpu_of_record, IsRecordable}
+use Rattle.thy_record.specs.Cpu.{cpu_of_record}
 use Rattle.thy_record.specs.Images.{decode_image}
 use Rattle.thy_control.specs.State.{State, AreSoundTables, IsSized}
 use Rattle.thy_control.proofs.HoldingLemmas.{works-sized}
 use Rattle.thy_protocol.specs.Keeps.{Keeps, finding_view}
 use Rattle.thy_protocol.specs.Moves.{IsKeeping}
+use Rattle.thy_protocol.specs.VersionOne.{layout_of}
 use Rattle.thy_view.specs.declared.did.Did.{Did}
 use Rattle.thy_view.specs.declared.view.View.{View}
 use Rattle.thy_view.specs.Action.{Action, Rest, ReadAt, WriteAt, Barrier, Drain, after, Acts, ActionFailed}
@@ -41,19 +42,24 @@ use Rattle.thy_recover.specs.Laws.{IsGoing, IsMoved, IsFilled, failed_answer}
 use Rattle.thy_recover.specs.Loads.{issue_action}
 use Rattle.thy_recover.specs.Recovers.{HasReadAt, loads}
 use Rattle.thy_recover.specs.Shows.{seen_at, did_of}
-use Rattle.thy_recover.specs.Sound.{Checkpoints, layout_of, start_mark, standing_at, checkpoints_after, IsSoundAt, IsLoaded, IsBooted as IsBootedAt}
+use Rattle.thy_recover.specs.Sound.{BootImages, start_mark, standing_in_boot, images_after, IsSoundAt, IsLoaded, IsBooted as IsBootedAt}
 use Rattle.thy_recover.specs.Steps.{CanStep, Steps, StepsBy, Fails, TakesStep}
-use Rattle.thy_recover.proofs.StepLawLemmas.{steps_move, failures_move, restored_is_booted, never_refused, steps_act, steps_fill, failures_act, steps_come_nearer, sound_may_step}
+use Rattle.thy_recover.proofs.StepMoveLemmas.{steps_move}
+use Rattle.thy_recover.proofs.SafeLemmas.{failures_move}
+use Rattle.thy_recover.proofs.EndLemmas.{restored_is_booted, never_refused}
+use Rattle.thy_recover.proofs.FoundLemmas.{count-state_from}
+use Rattle.thy_recover.proofs.SoundLemmas.{kept_after}
+use Rattle.thy_recover.proofs.ActLemmas.{steps_act, steps_fill, failures_act, steps_come_nearer}
+use Rattle.thy_recover.proofs.GoOnLemmas.{sound_may_step}
 use Rattle.thy_scheme.specs.Boots.{boot_did, IsBooted, Loads, Restarts, Answers, BootsOn, BootFails}
 use Rattle.thy_scheme.specs.Scheme.{IsBooting, CanBoot}
-use Rattle.thy_dual_model.specs.Boots.{Boots, step_of, told_as, view_at, has_read_at}
+use Rattle.thy_dual_model.specs.Boots.{Boots, step_of, result_of, view_at, has_read_at}
 use Rattle.thy_dual_model.specs.Booted.{IsUnused}
 use Rattle.thy_dual_model.specs.Dual.{Dual, is_promoting}
 use Rattle.thy_dual_model.specs.Scheme.{dual_scheme}
 use Rattle.thy_dual_model.proofs.BootLemmas.{view-is, loads-first}
 use Rattle.thy_dual_model.proofs.BootedLemmas.{booted_is_sound, booting-whole}
 use Rattle.thy_dual_model.proofs.ItemLemmas.{queue-written}
-use Rattle.thy_dual_model.proofs.RestoredLemmas.{start-recordable, restored-recordable}
 use Rattle.thy_dual_model.proofs.SafeLemmas.{Safe-read}
 
 no-false : false ≡ true → ⊥
@@ -63,13 +69,13 @@ not-true : (t : Bool) → (t ≡ true → ⊥) → t ≡ false
 not-true true h = absurd (h refl)
 not-true false h = refl
 
--- what a step tells is what a cycle did
-did-told : (a : BootStep) → boot_did (step_of a) ≡ did_of a
-did-told Reading = refl
-did-told IsLoading = refl
-did-told HasLoaded = refl
-did-told (Restarted cpu epoch) = refl
-did-told (Refused bad) = refl
+-- what a step answers is what a cycle did
+did-answered : (a : BootStep) → boot_did (step_of a) ≡ did_of a
+did-answered Reading = refl
+did-answered IsLoading = refl
+did-answered HasLoaded = refl
+did-answered (Restarted cpu epoch) = refl
+did-answered (Refused bad) = refl
 
 -- ---- an action
 
@@ -122,28 +128,20 @@ read-on p q Loaded less = refl
 not-unread : (q : Stage) → has_read_at q ≡ true → q ≡ Unread → ⊥
 not-unread q read is = no-false (sym (ap has_read_at is) ∙ read)
 
-kept-issue : (issue : Issue) (n : Device) (g : Checkpoints) → (checkpoints_after (Loading issue) n g).kept ≡ g.kept
-kept-issue (Home b) n g = refl
-kept-issue (Slot k) n g = refl
-kept-issue Header n g = refl
-kept-issue Settle n g = refl
-kept-issue Commit n g = refl
-kept-issue Confirm n g = refl
-
 -- the mark that is kept stays
-kept-on : (q : Stage) (n : Device) (g : Checkpoints) → (checkpoints_after q n g).kept ≡ g.kept
+kept-on : (q : Stage) (n : Device) (g : BootImages) → (images_after q n g).kept ≡ g.kept
 kept-on Unread n g = refl
 kept-on (ReadsHeader epoch fault) n g = refl
 kept-on (ReadsSlot epoch next) n g = refl
 kept-on (Frames epoch page next) n g = refl
 kept-on (Refusing bad) n g = refl
-kept-on (Loading issue) n g = kept-issue issue n g
+kept-on (Loading issue) n g = kept_after issue n g
 kept-on (Restored epoch) n g = refl
 kept-on Loaded n g = refl
 
 -- ---- the controller has no checkpoint under way
 
-module _ (o : Origin) (g : Checkpoints) (n : Device) (b : Booting) (c : State) where
+module _ (o : Origin) (g : BootImages) (n : Device) (b : Booting) (c : State) where
   idle-at : (q : Stage) → b.stage ≡ q → ((bad : BadImage) → q ≢ Refusing bad) → IsSoundAt o q g n b c → c.under_way ≡ false
   idle-at Unread is good far = (subst (λ (x : Stage). HasReadAt x n b.p b.slot c) is far.read.so_far).booting.idle
   idle-at (ReadsHeader epoch fault) is good far = (subst (λ (x : Stage). HasReadAt x n b.p b.slot c) is far.read.so_far).0.booting.idle
@@ -164,7 +162,7 @@ module _ (o : Origin) (g : Checkpoints) (n : Device) (b : Booting) (c : State) w
   abbrev WasLoading : Stage → Type 0
   WasLoading q = (o.kept ≡ None) × (seen_at o g.kept q ≡ record (loading_view o.start.count) { written = true })
 
-  was-loading : (q : Stage) → IsGoing q → (seen_at o g.kept q).written ≡ true → IsKeeping o (layout_of o) (standing_at o q g n) → WasLoading q
+  was-loading : (q : Stage) → IsGoing q → (seen_at o g.kept q).written ≡ true → IsKeeping o (layout_of o) (standing_in_boot o q g n) → WasLoading q
   was-loading Unread going w keeps = absurd (unwritten g.kept w)
   was-loading (ReadsHeader epoch fault) going w keeps = absurd (unwritten g.kept w)
   was-loading (ReadsSlot epoch next) going w keeps = absurd (unwritten g.kept w)
@@ -193,10 +191,6 @@ module _ (o : Origin) (g : Checkpoints) (n : Device) (b : Booting) (c : State) w
   was-found (Restored epoch) m going d = absurd going
   was-found Loaded m going d = absurd going
 
-count-state_from : (p : Parameters) (cpu : CpuState) (memory : List Block) → (state_from p cpu memory).count ≡ cpu.count
-unfolding state_from
-count-state_from p cpu memory = refl
-
 -- ---- a step that was taken
 
 module _ (o : Origin) (s : Dual) (n : Device) (booting : IsBooting dual_scheme o s n) (new : Device) (d : Booting) (e : State)
@@ -207,11 +201,11 @@ module _ (o : Origin) (s : Dual) (n : Device) (booting : IsBooting dual_scheme o
   abbrev b : Booting
   b = s.boot
 
-  abbrev g : Checkpoints
+  abbrev g : BootImages
   g = boots.images
 
-  abbrev h : Checkpoints
-  h = checkpoints_after b.stage n g
+  abbrev h : BootImages
+  h = images_after b.stage n g
 
   abbrev t : Dual
   t = record s { control = e; boot = d }
@@ -293,14 +287,14 @@ module _ (o : Origin) (s : Dual) (n : Device) (booting : IsBooting dual_scheme o
   -- ---- it is over
 
   booted : (m : Mark) (cpu : CpuState) (image : List Block) → Keeps o (layout_of o) new (Kept image) (Some m) None → IsBootedAt o m cpu image new e
-      → cpu.count ≡ m.count → IsRecordable o.geometry ceiling cpu → IsBooted dual_scheme o m cpu t new
-  booted m cpu image keeps over count recordable =
+      → cpu.count ≡ m.count → IsBooted dual_scheme o m cpu t new
+  booted m cpu image keeps over count =
       let sized : IsSized e new = record { nvm = keeps.sized ∙ ap image_blocks (sym moved.sound.same_p) } in
       record {
         sound = booted_is_sound o m cpu image t new unused keeps over;
         state = ap (state_from o.geometry cpu) (works-sized e new sized up) ∙ over.state;
         count = count;
-        recordable = recordable;
+        recordable = over.recordable;
         closed = refl;
         whole = not-true (is_promoting e) (booting-whole e over.booting);
         rested = boots.rested;
@@ -310,12 +304,12 @@ module _ (o : Origin) (s : Dual) (n : Device) (booting : IsBooting dual_scheme o
   loaded is =
       let shows = subst (λ (x : Stage). CoreStep o v (did_of (answer_at x d)) (seen_at o g.kept x)) is moved.shows in
       let was : WasLoading o g n b s.control b.stage = was-loading o g n b s.control b.stage boots.going shows.written boots.sound.keeps in
-      let keeps : IsKeeping o (layout_of o) (standing_at o Loaded h new) = subst (λ (x : Stage). IsKeeping o (layout_of o) (standing_at o x h new)) is moved.sound.keeps in
+      let keeps : IsKeeping o (layout_of o) (standing_in_boot o Loaded h new) = subst (λ (x : Stage). IsKeeping o (layout_of o) (standing_in_boot o x h new)) is moved.sound.keeps in
       let far : IsLoaded o h new e = subst (λ (x : Stage). IsSoundAt o x h new d e) is moved.sound.so_far in
       record {
         fresh = was.0;
         view = before ∙ was.1;
-        booted = booted (start_mark o) (cpu_of o.start) h.next keeps far.over refl (start-recordable o boots.origin);
+        booted = booted (start_mark o) (cpu_of o.start) h.next keeps far.over refl;
       }
 
   restarted : (epoch : ℕ) → d.stage ≡ Restored epoch → Restarts dual_scheme o (cpu_of_record (slot_of d)) epoch s n t new
@@ -329,10 +323,9 @@ module _ (o : Origin) (s : Dual) (n : Device) (booting : IsBooting dual_scheme o
       = sym (count-state_from o.geometry cpu (loads e new)) ∙ ap (λ (x : Plain). x.count) over.state ∙ over.counted in
       let is_mark : m ≡ mark epoch cpu.count
       = ap (λ (x : ℕ). mark x m.count) r.2 ∙ ap (mark epoch) (sym count) in
-      let recordable : IsRecordable o.geometry ceiling cpu = restored-recordable o h new d e epoch boots.origin moved.sound is (loads e new) m.count over.state in
       record {
         view = before ∙ was-found o g n b s.control b.stage (mark epoch cpu.count) boots.going shows.done;
-        booted = subst (λ (x : Mark). IsBooted dual_scheme o x cpu t new) is_mark (booted m cpu h.before r.3 over count recordable);
+        booted = subst (λ (x : Mark). IsBooted dual_scheme o x cpu t new) is_mark (booted m cpu h.before r.3 over count);
       }
 
   -- ---- by the answer
@@ -361,7 +354,7 @@ module _ (o : Origin) (s : Dual) (n : Device) (booting : IsBooting dual_scheme o
   boots_on : BootsOn dual_scheme o (step_of (answer_of d)) s n t new
   boots_on = record {
     answers = answers-at d.stage refl moved.shows;
-    acts = subst (λ (x : Did). Acts x n new) (sym (did-told (answer_of d))) acts;
+    acts = subst (λ (x : Did). Acts x n new) (sym (did-answered (answer_of d))) acts;
     queue = queue-by (issue_at b.stage) steps;
     nearer = subst (λ (p : Parameters). boot_left p d.stage + 1 ≤ boot_left b.p b.stage) (sym same) nearer;
     read = read;
@@ -379,7 +372,7 @@ module _ (o : Origin) (s : Dual) (n : Device) (booting : IsBooting dual_scheme o
       let answer : BootStep = failed_answer s.boot.stage in
       record {
         step = step_of answer;
-        acted = subst (λ (x : Did). ActionFailed x n new) (sym (did-told answer)) (failures_act o.start s.boot n new fails);
+        acted = subst (λ (x : Did). ActionFailed x n new) (sym (did-answered answer)) (failures_act o.start s.boot n new fails);
         safe = subst (λ (x : View). Safe decode_image o x.done x.sealed new) (sym (view-is o s n boots)) safe;
       }
 
@@ -390,13 +383,13 @@ module _ (o : Origin) (s : Dual) (n : Device) (booting : IsBooting dual_scheme o
   Took r = TakesStep r o.start n s.boot s.control new d e
 
   pub boots-by : (r : Result BootStep NvmError) → IfOk r (λ a. a ≡ answer_of d) → Took r
-      → IfOk (told_as r) (λ step. BootsOn dual_scheme o step s n (record s { control = e; boot = d }) new)
+      → IfOk (result_of r) (λ step. BootsOn dual_scheme o step s n (record s { control = e; boot = d }) new)
   boots-by (Ok a) is took =
       subst (λ (x : BootStep). BootsOn dual_scheme o (step_of x) s n (record s { control = e; boot = d }) new) (sym is)
       (boots_on o s n booting new d e took.steps boot tables)
   boots-by (Err x) is took = tt
 
-  pub fails-by : (r : Result BootStep NvmError) → Took r → OnErr (told_as r) (BootFails dual_scheme o s n new)
+  pub fails-by : (r : Result BootStep NvmError) → Took r → OnErr (result_of r) (BootFails dual_scheme o s n new)
   fails-by (Ok a) took = tt
   fails-by (Err x) took = boot_fails o s n booting new took.err took.frame
 
@@ -404,7 +397,7 @@ module _ (o : Origin) (s : Dual) (n : Device) (booting : IsBooting dual_scheme o
   fits-by (Ok a) took was = fits o s n booting new d e took.steps boot tables
   fits-by (Err x) took was = subst (λ (c : State). Fits s.engine c) (sym took.control) was
 
-pub cause-by : (r : Result BootStep NvmError) (old new : ℕ) → CountsFault r old new → CountsFault (told_as r) old new
+pub cause-by : (r : Result BootStep NvmError) (old new : ℕ) → CountsFault r old new → CountsFault (result_of r) old new
 cause-by (Ok a) old new h = h
 cause-by (Err x) old new h = h
 

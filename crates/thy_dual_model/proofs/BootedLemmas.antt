@@ -33,11 +33,12 @@ use Rattle.thy_control.specs.Stays.{HoldAll}
 use Rattle.thy_control.proofs.MarkLemmas.{counted-some}
 use Rattle.thy_control.proofs.TablesLemmas.{AreTablesOf-committed}
 use Rattle.thy_protocol.specs.Keeps.{Keeps}
+use Rattle.thy_protocol.specs.VersionOne.{layout_of}
 use Rattle.thy_view.specs.Origin.{Origin}
 use Rattle.thy_commit.specs.declared.next.Next.{Next}
 use Rattle.thy_commit.specs.declared.next.Next.TheVariants.{Nothing, Copies, Pages, Slot, Settle, Commit, Confirm}
 use Rattle.thy_commit.specs.Items.{is_under_way}
-use Rattle.thy_commit.specs.Moves.{Checkpoints, layout_of, is_written, saved_at}
+use Rattle.thy_commit.specs.Moves.{Checkpoints, is_settled, saved_at}
 use Rattle.thy_commit.specs.Progress.{Progress, Fits}
 use Rattle.thy_commit.specs.Written.{HasStood}
 use Rattle.thy_commit.proofs.FitLemmas.{idle_fits}
@@ -121,7 +122,7 @@ idle-stands Settle e s n h = cc
 idle-stands Commit e s n h = cc
 idle-stands Confirm e s n h = cc
 
-idle-unwritten : (q : Next) → is_under_way q ≡ false → is_written q ≡ true → ⊥
+idle-unwritten : (q : Next) → is_under_way q ≡ false → is_settled q ≡ true → ⊥
 idle-unwritten Nothing h w = no-false w
 idle-unwritten Copies h w = no-false w
 idle-unwritten Pages h w = no-false w

@@ -82,23 +82,3 @@ fills-none (Some e) h = ap (λ (x : Bool). if x then page_blocks - e.filled else
 -- with no page in promotion nothing is left to copy
 pub unfilled-none : (s : State) → promoted s.ptt ≡ 0 → unfilled s ≡ 0
 unfilled-none s none = sum-none fills_left (passes is_promoted) fills-none s.ptt.entries none
-
--- a commit leaves no more
-fills-committed : (leaving : Bool) (e : PttEntry) → fills_left (page_committed_by leaving e) ≤ fills_left (Some e)
-fills-committed true e = omega arith
-fills-committed false e = omega arith
-
-sum-less : {X : Type 0} (f : X → ℕ) (g : X → X) → ((x : X) → f (g x) ≤ f x) → (xs : List X) → sum_by f (map g xs) ≤ sum_by f xs
-sum-less f g less [] = omega arith
-sum-less f g less (x ∷ xs) = omega (arith, sum-less f g less xs, less x, sum_by-cons f (g x) (map g xs), sum_by-cons f x xs)
-
-pub unfilled-committed : (es : List (Option PttEntry)) → sum_by fills_left (map (option_and_then committed_page) es) ≤ sum_by fills_left es
-unfilled-committed es = sum-less fills_left (option_and_then committed_page) by_entry es where
-  by_entry : (o : Option PttEntry) → fills_left (option_and_then committed_page o) ≤ fills_left o
-  by_entry None = omega arith
-  by_entry (Some e) = fills-committed e.leaving e
-
--- as many are left where an entry is put for one that has as many
-pub unfilled-set : (es : List (Option PttEntry)) (j : ℕ) (e f : PttEntry) → j < length es → get_or es j None ≡ Some e
-    → fills_left (Some f) ≡ fills_left (Some e) → sum_by fills_left (slice_set es j (Some f)) ≡ sum_by fills_left es
-unfilled-set es j e f inside was same = omega (arith, sum_by-set fills_left es j (Some f) None inside, ap fills_left was, same)

@@ -14,14 +14,13 @@ use Rattle.thy_record.specs.Images.{decode_image}
 use Rattle.thy_record.specs.declared.engine_step.EngineStep.{EngineStep}
 use Rattle.thy_record.specs.declared.engine_step.EngineStep.TheVariants.{Idle, Copied, PageBlock, StateBlock, TableBlock, Barrier, CommitWritten, Committed}
 use Rattle.thy_table.specs.Listing.{free_count}
+use Rattle.thy_control.specs.Frees.{HasNoWork}
 use Rattle.thy_control.specs.Merges.{overlays}
-use Rattle.thy_control.specs.Promotions.{unfilled}
 use Rattle.thy_control.specs.State.{State, AreSoundTables, penult_of, last_of}
 use Rattle.thy_control.specs.Stays.{HoldAll}
-use Rattle.thy_control.proofs.IdleLemmas.{HasNoWork-committed}
 use Rattle.thy_protocol.specs.Layout.{reading}
 use Rattle.thy_protocol.specs.Moves.{IsKeeping, Move}
-use Rattle.thy_protocol.specs.VersionOne.{version_one}
+use Rattle.thy_protocol.specs.VersionOne.{version_one, layout_of}
 use Rattle.thy_protocol.proofs.KeepsLemmas.{IsKeeping-move, Safe-sealed}
 use Rattle.thy_crash.specs.Saved.{InDoubt}
 use Rattle.thy_view.specs.Action.{Acts, ActionFailed}
@@ -34,15 +33,16 @@ use Rattle.thy_commit.specs.Cycles.{cycles_left}
 use Rattle.thy_commit.specs.Frees.{IsButCopied}
 use Rattle.thy_commit.specs.Held.{MovesOverlays, KeepsStore, ItemsKeepStore}
 use Rattle.thy_commit.specs.Items.{Item, NoItem, CopyItem, PageItem, SlotItem, SettleItem, CommitItem, ConfirmItem, is_under_way, item, next_after, answer}
-use Rattle.thy_commit.specs.Moves.{Checkpoints, layout_of, is_written, saved_at, standing_at, checkpoints_after, standing_failed, HasNext, AreTold, IsMadeFor, ItemsMove}
+use Rattle.thy_commit.specs.Moves.{Checkpoints, is_settled, saved_at, standing_at, checkpoints_after, standing_failed, HasNext, AreTold, IsMadeFor, ItemsMove}
 use Rattle.thy_commit.specs.Progress.{Progress, Fits, state_after, device_after, item_of, engine_next, state_next, device_next, FailsNext}
 use Rattle.thy_commit.specs.Tables.{MovesTables}
 use Rattle.thy_commit.specs.Versions.{KeepsVersions, MovesVersions, ItemsMoveVersions}
 use Rattle.thy_commit.specs.Written.{Stands as StandsWritten}
 use Rattle.thy_commit.proofs.ActionLemmas.{items_act, failed_items_act}
 use Rattle.thy_commit.proofs.CycleLemmas.{items_count}
-use Rattle.thy_commit.proofs.FitLemmas.{items_fit}
-use Rattle.thy_commit.proofs.FreeLemmas.{items_copy, commit_frees}
+use Rattle.thy_commit.proofs.FitLemmas.{items_fit, sound_after}
+use Rattle.thy_commit.proofs.FreeLemmas.{items_copy, items_rest, commit_frees}
+use Rattle.thy_commit.proofs.HeldLemmas.{same_p-after}
 use Rattle.thy_commit.proofs.MoveLemmas.{failed_items_move}
 use Rattle.thy_commit.proofs.TableLemmas.{items_move_tables, items_tell}
 use Rattle.thy_commit.proofs.WrittenLemmas.{items_write}
@@ -55,7 +55,7 @@ use Rattle.thy_dual_model.specs.Scheme.{dual_scheme}
 use Rattle.thy_dual_model.specs.Sound.{is_confirming, IsHeld, IsOfRest, HasRoom, IsRest, IsSound}
 use Rattle.thy_dual_model.proofs.BlocksLemmas.{blocks-agree}
 use Rattle.thy_dual_model.proofs.CountLemmas.{btt_least}
-use Rattle.thy_dual_model.proofs.ItemLemmas.{IsWrite, IsWrite-after, same_p-after, unfilled-after, no_work-copied, progress-next, back, back-item, not-confirming}
+use Rattle.thy_dual_model.proofs.ItemLemmas.{IsWrite, IsWrite-after, back, back-item, not-confirming}
 use Rattle.thy_dual_model.proofs.SafeLemmas.{Safe-read}
 
 -- ---- how steps are told
@@ -86,7 +86,7 @@ confirming-slot : (k : ℕ) (more : Bool) → is_confirming (if more then Slot k
 confirming-slot k true = refl
 confirming-slot k false = refl
 
-written-slot : (k : ℕ) (more : Bool) → is_written (if more then Slot k else Settle) ≡ false
+written-slot : (k : ℕ) (more : Bool) → is_settled (if more then Slot k else Settle) ≡ false
 written-slot k true = refl
 written-slot k false = refl
 
@@ -139,7 +139,7 @@ module _ (o : Origin) (k : Marks) (s : Dual) (n : Device) (stands : Stands dual_
     move : Move o (layout_of o) (standing_at e n images) (standing_at (record e { next = next_after e.p i }) (nvm_after i) (checkpoints_after i e n images))
     copied : i ≢ ConfirmItem → IsButCopied c (state_after i c n)
     frees : i ≡ ConfirmItem → IsOfRest c → 2 ≤ free_count (state_after i c n).btt
-    fewer : unfilled (state_after i c n) ≤ unfilled c
+    rests : HasNoWork c → HasNoWork (state_after i c n)
     confirming : i ≢ ConfirmItem → is_confirming e.next ≡ false
 
   freed : item_of e c ≡ ConfirmItem → IsOfRest c → 2 ≤ free_count (state_next e c n).btt
@@ -164,7 +164,7 @@ module _ (o : Origin) (k : Marks) (s : Dual) (n : Device) (stands : Stands dual_
         move = moves o e c n images h.progress h.tables h.sized h.fits h.holds stood on stands.up framed told.kept made;
         copied = λ other. items_copy e c n h.tables (λ confirm. other (ap (λ (q : Next). item q c) confirm));
         frees = freed;
-        fewer = unfilled-after c n h.tables e.next;
+        rests = items_rest e c n h.tables;
         confirming = λ other. not-confirming e.next c other;
       }
 
@@ -181,7 +181,7 @@ module _ (o : Origin) (k : Marks) (s : Dual) (n : Device) (stands : Stands dual_
       tables = a.tables_now;
       sized = record { nvm = wrote.as_long ∙ sound.held.sized.nvm ∙ ap image_blocks (sym p_same) };
       holds = holds;
-      progress = progress-next e i sound.held.progress;
+      progress = sound_after e i sound.held.progress;
       fits = a.fits;
       room = wrote.room ∙ sound.held.room;
     }
@@ -199,7 +199,7 @@ module _ (o : Origin) (k : Marks) (s : Dual) (n : Device) (stands : Stands dual_
     -- before the last item both checkpoints stay, and that under way is of the same mark
     module _ (other : i ≢ ConfirmItem) (keeps : KeepsVersions c n (state_after i c n) (nvm_after i)) (way_same : (state_after i c n).under_way ≡ c.under_way)
         (under : is_under_way (next_after e.p i) ≡ true)
-        (commit : is_written (next_after e.p i) ≡ true → block_at (checkpoints_after i e n images).next 1 ≡ commit_of e.epoch)
+        (commit : is_settled (next_after e.p i) ≡ true → block_at (checkpoints_after i e n images).next 1 ≡ commit_of e.epoch)
         (kept : (checkpoints_after i e n images).kept ≡ images.kept) (sealed : (checkpoints_after i e n images).sealed ≡ images.sealed) where
       made-on : IsMadeFor o (record e { next = next_after e.p i }) (state_after i c n) (nvm_after i) (checkpoints_after i e n images)
       made-on = record {
@@ -217,7 +217,7 @@ module _ (o : Origin) (k : Marks) (s : Dual) (n : Device) (stands : Stands dual_
 
       rest-on : IsRest (dual_after i)
       rest-on = record {
-        no_work = λ r. no_work-copied c (state_after i c n) (a.copied other) (sound.rest.no_work r);
+        no_work = λ r. a.rests (sound.rest.no_work r);
         promoting = promoting;
         room = λ l r.
             let going : c.under_way ≡ true = sound.held.fits.way ∙ on in
@@ -283,7 +283,7 @@ module _ (o : Origin) (k : Marks) (s : Dual) (n : Device) (stands : Stands dual_
               (blocks-agree (penult_of t new) (last_of c n) c.p t.p (p_same ConfirmItem a) a.versions.penult_is) ∙ made.state_is;
         };
         rest = record {
-          no_work = λ r. HasNoWork-committed c (sound.rest.no_work r);
+          no_work = λ r. a.rests (sound.rest.no_work r);
           promoting = promoting ConfirmItem a;
           room = λ l r.
               let going : c.under_way ≡ true = sound.held.fits.way ∙ on in
@@ -304,12 +304,12 @@ module _ (o : Origin) (k : Marks) (s : Dual) (n : Device) (stands : Stands dual_
       let more : Bool = nat_lt (j + 1) (slot_blocks e.p) in
       subst (λ (m : Marks). IsSound o m (dual_after (SlotItem j)) (nvm_after (SlotItem j))) (sym (marks-slot k (nat_lt j 5)))
       (sound-same (SlotItem j) a (λ h. cc) a.versions a.tables.way_same (way-slot (j + 1) more)
-      (λ h. absurd (not_both (is_written (next_after e.p (SlotItem j))) (written-slot (j + 1) more) h)) refl refl (confirming-slot (j + 1) more))
+      (λ h. absurd (not_both (is_settled (next_after e.p (SlotItem j))) (written-slot (j + 1) more) h)) refl refl (confirming-slot (j + 1) more))
   sound-after SettleItem is a = sound-same SettleItem a (λ h. cc) a.versions a.tables.way_same refl
       (λ h. next_image-commit (commit_of e.epoch) n (omega (arith, sound.held.sized.nvm))) refl refl refl
   sound-after CommitItem is a =
       let commit : e.next ≡ Commit = back-item e.next c Commit (ap back is) in
-      sound-on CommitItem a (λ h. cc) a.versions a.tables.way_same refl (λ h. made.commit (ap is_written commit)) refl refl true refl
+      sound-on CommitItem a (λ h. cc) a.versions a.tables.way_same refl (λ h. made.commit (ap is_settled commit)) refl refl true refl
   sound-after ConfirmItem is a =
       subst (λ (m : Mark). IsSound o (only m) (dual_after ConfirmItem) (nvm_after ConfirmItem)) (sym done-mark) (sound-confirmed a)
 
@@ -333,7 +333,7 @@ module _ (o : Origin) (k : Marks) (s : Dual) (n : Device) (stands : Stands dual_
       owed = a.store.holding.owed;
       engine = omega (arith, count);
       merges = fewer-overlays i c (state_after i c n) a.store.overlays_are;
-      promotions = a.fewer;
+      promotions = omega (arith, a.store.unfilled_same);
     };
     whole = λ h. ap (λ (x : ℕ). nat_lt 0 x) a.store.promoted_same ∙ h;
     rested = refl;
@@ -371,7 +371,7 @@ module _ (o : Origin) (k : Marks) (s : Dual) (n : Device) (stands : Stands dual_
   pub engine-fails : (new : Device) → FailsNext e c n new → IsFramed n new → EngineFails dual_scheme o k n new
   engine-fails new failed framed =
       let h = sound.held in
-      let next : is_written e.next ≡ true → HasNext e images = λ w. record { mark = made.mark; sealed = made.sealed; commit = made.commit w } in
+      let next : is_settled e.next ≡ true → HasNext e images = λ w. record { mark = made.mark; sealed = made.sealed; commit = made.commit w } in
       let move = failed_items_move o e c n new images h.progress h.tables h.sized h.fits failed framed sound.checkpoints.told.kept next in
       let keeps = IsKeeping-move o (layout_of o) (standing_at e n images) (standing_failed e.next new images) move sound.checkpoints.keeping in
       let safe : Safe decode_image o images.kept images.sealed new = Safe-read o images.kept images.sealed new (failed-safe e.next new keeps) in

@@ -36,7 +36,6 @@ use Rattle.thy_commit.specs.Frees.{IsButCopied}
 use Rattle.thy_commit.specs.Items.{Item, NoItem, CopyItem, PageItem, SlotItem, SettleItem, CommitItem, ConfirmItem, item, copy_or, page_or_slot, page_item, next_after}
 use Rattle.thy_commit.specs.Progress.{Progress, IsSoundProgress, slot_number, slot_block, state_after, device_after}
 use Rattle.thy_dual_model.specs.Sound.{is_confirming}
-use Rattle.thy_dual_model.proofs.CountLemmas.{unfilled-set, unfilled-committed}
 
 -- ---- one write
 
@@ -106,87 +105,7 @@ IsWrite-after e SettleItem s n = IsWrite-settled n s
 IsWrite-after e CommitItem s n = IsWrite-nvm n 1 (commit_of e.epoch) (devices_of n s.dram) refl (λ h. absurd (omega (arith, h)))
 IsWrite-after e ConfirmItem s n = IsWrite-settled n s
 
--- ---- the controller
-
-pub same_p-after : (i : Item) (s : State) (n : Device) → (state_after i s n).p ≡ s.p
-unfolding copied issued committed_state
-same_p-after NoItem s n = refl
-same_p-after (CopyItem i) s n = refl
-same_p-after (PageItem j) s n = refl
-same_p-after (SlotItem k) s n = refl
-same_p-after SettleItem s n = refl
-same_p-after CommitItem s n = refl
-same_p-after ConfirmItem s n = refl
-
--- what is left to promote is no more
-unfilled-issued : (b : ℕ) (s : State) (n : Device) → (cell_of s b).page.busy ≡ true → unfilled (issued b s n) ≡ unfilled s
-unfolding issued
-unfilled-issued b s n busy =
-    let listed = listed-busy b s busy in
-    let there = found_entry page_key no_page s.ptt (page_of b) (cell_of s b).j listed in
-    let is : (cell_of s b).page ≡ there.0 = entry_for-some page_key no_page s.ptt (page_of b) (cell_of s b).j there.0 listed there.1 in
-    unfilled-set s.ptt.entries (cell_of s b).j there.0 (page_issued (cell_of s b).page) there.3 there.1 (ap (λ (f : PttEntry). fills_left (Some f)) is)
-
-unfilled-copied : (b : ℕ) (s : State) (n : Device) → unfilled (copied b s n) ≡ unfilled s
-unfolding copied
-unfilled-copied b s n = refl
-
-module _ (s : State) (n : Device) (tables : AreSoundTables s) where
-  abbrev Left : Item → Type 0
-  Left i = unfilled (state_after i s n) ≤ unfilled s
-
-  left-page : (o : Option ℕ) → next_page s ≡ o → Left (page_or_slot o)
-  left-page None h = omega arith
-  left-page (Some j) h = omega (arith, unfilled-issued (block_to_write j s) s n (IsDue-entry s tables j h).busy)
-
-  left-copy : (o : Option ℕ) → Left (copy_or o (page_item s))
-  left-copy None = left-page (next_page s) refl
-  left-copy (Some i) = omega (arith, unfilled-copied (block_listed i s) s n)
-
-  pub unfilled-after : (q : Next) → Left (item q s)
-  unfolding committed_state
-  unfilled-after Nothing = omega arith
-  unfilled-after Copies = left-copy (next_copy s)
-  unfilled-after Pages = left-page (next_page s) refl
-  unfilled-after (Slot k) = omega arith
-  unfilled-after Settle = omega arith
-  unfilled-after Commit = omega arith
-  unfilled-after Confirm = unfilled-committed s.ptt.entries
-
--- where only copies were made there is no work, if there was none
-pub no_work-copied : (s t : State) → IsButCopied s t → HasNoWork s → HasNoWork t
-no_work-copied s t same none = record { no_work = λ i e was. by_entry i e was (entry_at s.btt i) refl } where
-  by_entry : (i : ℕ) (e : BttEntry) → entry_at t.btt i ≡ Some e → (o : Option BttEntry) → entry_at s.btt i ≡ o → e.work ≡ NoWork
-  by_entry i e now o was = by_old o was (sym (entry_at-mapped settled_entry s.btt i ∙ ap (option_and_then settled_entry) was)
-      ∙ ap (λ (u : Listing BttEntry). entry_at u i) (sym same) ∙ entry_at-mapped settled_entry t.btt i ∙ ap (option_and_then settled_entry) now)
-    where
-      by_old : (o : Option BttEntry) → entry_at s.btt i ≡ o → option_and_then settled_entry o ≡ settled_entry e → e.work ≡ NoWork
-      by_old None was h = cc
-      by_old (Some f) was h =
-          let alike : record f { pend = Settled } ≡ record e { pend = Settled } = cc in
-          ap (λ (x : BttEntry). x.work) (sym alike) ∙ none.no_work i f was
-
 -- ---- the engine
-
--- it still has the registers, and the slot the block that is next
-slot-next : (p : Parameters) (j : ℕ) (more : Bool) → nat_lt (j + 1) (slot_blocks p) ≡ more → (k : ℕ) → (if more then Slot (j + 1) else Settle) ≡ Slot k → k < slot_blocks p
-slot-next p j true h k is =
-    let below : j + 1 < slot_blocks p = ltb-true (j + 1) (slot_blocks p) h in
-    let same : j + 1 ≡ k = cc in
-    omega (arith, below, same)
-slot-next p j false h k is = cc
-
-inside-next : (p : Parameters) (i : Item) (k : ℕ) → next_after p i ≡ Slot k → k < slot_blocks p
-inside-next p NoItem k is = cc
-inside-next p (CopyItem j) k is = cc
-inside-next p (PageItem j) k is = cc
-inside-next p (SlotItem j) k is = slot-next p j (nat_lt (j + 1) (slot_blocks p)) refl k is
-inside-next p SettleItem k is = cc
-inside-next p CommitItem k is = cc
-inside-next p ConfirmItem k is = cc
-
-pub progress-next : (e : Progress) (i : Item) → IsSoundProgress e → IsSoundProgress (record e { next = next_after e.p i })
-progress-next e i sound = record { regs = sound.regs; inside = λ k is. inside-next e.p i k is }
 
 -- an item tells what was next, but for copies, pages and the slot
 abbrev pub back : Item → Option Next

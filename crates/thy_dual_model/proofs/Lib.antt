@@ -12,7 +12,6 @@ pub mod EngineLemmas
 pub mod BootedLemmas
 pub mod BootLemmas
 pub mod StoreLemmas
-pub mod RestoredLemmas
 pub mod BootStepLemmas
 pub mod LawfulLemmas
 pub mod BoundLemmas

@@ -24,7 +24,7 @@ use Rattle.thy_commit.specs.declared.next.Next.{Next}
 use Rattle.thy_commit.specs.declared.next.Next.TheVariants.{Nothing, Copies, Pages, Slot, Settle, Commit, Confirm}
 use Rattle.thy_commit.specs.Items.{is_under_way}
 use Rattle.thy_commit.specs.Progress.{Progress, IsPast, Fits}
-use Rattle.thy_dual_model.proofs.CountLemmas.{unfilled-set}
+use Rattle.thy_commit.proofs.HeldLemmas.{unfilled-set}
 
 -- ---- a merge
 

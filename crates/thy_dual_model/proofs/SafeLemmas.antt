@@ -9,12 +9,12 @@ use Rattle.thy_view.specs.Safe.{ceiling, IsOneOf, Safe}
 use Rattle.thy_protocol.specs.Keeps.{doubt_in}
 use Rattle.thy_protocol.specs.Layout.{reading}
 use Rattle.thy_protocol.specs.Moves.{IsKeeping}
-use Rattle.thy_protocol.specs.VersionOne.{version_one}
+use Rattle.thy_protocol.specs.VersionOne.{version_one, layout_of}
 use Rattle.thy_protocol.proofs.KeepsLemmas.{Safe-kept}
 use Rattle.thy_protocol.proofs.VersionOneLemmas.{decode_by-version_one}
 use Rattle.thy_commit.specs.declared.next.Next.{Next}
 use Rattle.thy_commit.specs.declared.next.Next.TheVariants.{Nothing, Copies, Pages, Slot, Settle, Commit, Confirm}
-use Rattle.thy_commit.specs.Moves.{Checkpoints, layout_of, saved_at, standing_at}
+use Rattle.thy_commit.specs.Moves.{Checkpoints, saved_at, standing_at}
 use Rattle.thy_commit.specs.Progress.{Progress}
 use Rattle.thy_scheme.specs.Marks.{Marks, doubt_in as doubt_of}
 use Rattle.thy_dual_model.specs.Sound.{is_confirming}

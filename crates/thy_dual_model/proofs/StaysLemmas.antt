@@ -14,11 +14,12 @@ use Rattle.thy_control.specs.State.{State, AreSoundTables, IsSized, penult_of, l
 use Rattle.thy_control.specs.Stays.{HoldAll, Stays, StaysUp, StaysHeld}
 use Rattle.thy_protocol.specs.Moves.{IsKeeping}
 use Rattle.thy_protocol.proofs.KeepsLemmas.{IsKeeping-move}
+use Rattle.thy_protocol.specs.VersionOne.{layout_of}
 use Rattle.thy_view.specs.Origin.{Origin}
 use Rattle.thy_view.specs.Safe.{Safe}
 use Rattle.thy_commit.specs.Items.{is_under_way}
 use Rattle.thy_commit.specs.Cycles.{cycles_left}
-use Rattle.thy_commit.specs.Moves.{Checkpoints, layout_of, standing_at, AreTold, IsMadeFor}
+use Rattle.thy_commit.specs.Moves.{Checkpoints, standing_at, AreTold, IsMadeFor}
 use Rattle.thy_commit.specs.Progress.{Progress, IsSoundProgress, Fits}
 use Rattle.thy_commit.specs.Versions.{lasts}
 use Rattle.thy_commit.proofs.CycleLemmas.{stays_count}

@@ -21,7 +21,7 @@ use Rattle.thy_recover.specs.declared.stage.Stage.TheVariants.{Unread, Loading}
 use Rattle.thy_recover.specs.Boot.{IsBoot, new_boot}
 use Rattle.thy_recover.specs.Laws.{IsGoing}
 use Rattle.thy_recover.specs.Shows.{is_written}
-use Rattle.thy_recover.specs.Sound.{Checkpoints, IsSound as IsBootOf}
+use Rattle.thy_recover.specs.Sound.{BootImages, IsSound as IsBootOf}
 use Rattle.thy_scheme.specs.declared.boot_step.BootStep.{BootStep as SchemeStep}
 use Rattle.thy_scheme.specs.declared.boot_step.BootStep.TheVariants.{GoesOn, Loaded as SchemeLoaded, Restarted as SchemeRestarted, Refused as SchemeRefused}
 use Rattle.thy_dual_model.specs.Booted.{IsUnused}
@@ -31,7 +31,7 @@ use Rattle.thy_dual_model.specs.Dual.{Dual}
 -- the DRAM
 pub record Boots (o : Origin) (s : Dual) (n : Device) : Type 0 where
   pub origin : IsOrigin o
-  pub images : Checkpoints
+  pub images : BootImages
   pub sound : IsBootOf o images n s.boot s.control
   pub going : IsGoing s.boot.stage
   pub boot : IsBoot s.boot
@@ -54,7 +54,7 @@ abbrev pub loads_at : Stage → Bool
 loads_at (Loading issue) = true
 loads_at stage = false
 
--- what a step of the boot tells, as a scheme tells it
+-- what a step of the boot answers, as a scheme answers it; and so where the NVM may have failed
 abbrev pub step_of : BootStep → SchemeStep
 step_of Reading = GoesOn
 step_of IsLoading = GoesOn
@@ -62,9 +62,9 @@ step_of HasLoaded = SchemeLoaded
 step_of (Restarted cpu epoch) = SchemeRestarted cpu epoch
 step_of (Refused bad) = SchemeRefused bad
 
-abbrev pub told_as : Result BootStep NvmError → Result SchemeStep NvmError
-told_as (Ok step) = Ok (step_of step)
-told_as (Err e) = Err e
+abbrev pub result_of : Result BootStep NvmError → Result SchemeStep NvmError
+result_of (Ok step) = Ok (step_of step)
+result_of (Err e) = Err e
 
 -- power has just come on
 pub record IsPowered (p : Parameters) (s : Dual) : Type 0 where

@@ -11,12 +11,13 @@ use Rattle.thy_control.specs.Seal.{sealed_state}
 use Rattle.thy_control.specs.State.{State, AreSoundTables, IsSized}
 use Rattle.thy_control.specs.Stays.{HoldAll}
 use Rattle.thy_protocol.specs.Moves.{IsKeeping}
+use Rattle.thy_protocol.specs.VersionOne.{layout_of}
 use Rattle.thy_view.specs.Origin.{Origin, at}
 use Rattle.thy_commit.specs.declared.next.Next.{Next}
 use Rattle.thy_commit.specs.declared.next.Next.TheVariants.{Confirm}
 use Rattle.thy_commit.specs.Frees.{IsButCopied}
 use Rattle.thy_commit.specs.Items.{is_under_way}
-use Rattle.thy_commit.specs.Moves.{Checkpoints, layout_of, standing_at, AreTold, IsMadeFor}
+use Rattle.thy_commit.specs.Moves.{Checkpoints, standing_at, AreTold, IsMadeFor}
 use Rattle.thy_commit.specs.Progress.{Progress, IsSoundProgress, Fits}
 use Rattle.thy_commit.specs.Written.{Stands}
 use Rattle.thy_scheme.specs.Marks.{Marks}

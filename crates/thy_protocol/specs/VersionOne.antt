@@ -11,7 +11,9 @@ use Rattle.thy_record.specs.Slots.{tables_in, slot_fault}
 use Rattle.thy_record.specs.Tables.{place_of}
 use Rattle.thy_isa.specs.OnBlocks.{state_from}
 use Rattle.thy_record.specs.Images.{decode_image, looked}
-use Rattle.thy_protocol.specs.Layout.{Layouts, decode_by, looked_by}
+use Rattle.thy_view.specs.Origin.{Origin}
+use Rattle.thy_view.specs.Safe.{ceiling}
+use Rattle.thy_protocol.specs.Layout.{Layout, Layouts, decode_by, looked_by}
 
 abbrev pub version_one : Layouts
 version_one p ceiling = record {
@@ -25,6 +27,10 @@ version_one p ceiling = record {
   slot_bad = λ commit slot. slot_fault p ceiling (epoch_of commit) slot;
   state_from = λ slot memory. state_from p (cpu_of_record slot) memory;
 }
+
+-- the layout of a run's own images
+abbrev pub layout_of : Origin → Layout
+layout_of o = version_one o.geometry ceiling
 
 -- what its images decode to
 abbrev pub DecodesSame : Type 0

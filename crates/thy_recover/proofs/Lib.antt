@@ -10,4 +10,10 @@ pub mod StartLemmas
 pub mod WrittenLemmas
 pub mod RecordLemmas
 pub mod SoundLemmas
-pub mod StepLawLemmas
+pub mod FoundLemmas
+pub mod StepMoveLemmas
+pub mod GoOnLemmas
+pub mod SafeLemmas
+pub mod EndLemmas
+pub mod BootDrainLemmas
+pub mod ActLemmas

@@ -37,9 +37,9 @@ use Rattle.thy_view.specs.Safe.{ceiling}
 use Rattle.thy_recover.specs.declared.stage.Stage.{Stage}
 use Rattle.thy_recover.specs.declared.stage.Stage.TheVariants.{Unread, Header, Slot, Frames, Refusing, Loading, Restored, Loaded}
 use Rattle.thy_recover.specs.declared.stage.Issue.TheVariants.{Home}
-use Rattle.thy_recover.specs.Boot.{Booting, new_boot, at_stage, answer_at, answer_of, slot_of, tables_of, refusing_or, after_commit, after_header, frames_of, next_page, after_slot, after_frame, with_slot_block, gone_on, IsJudged, JudgesUnless, GoesOn}
+use Rattle.thy_recover.specs.Boot.{Booting, new_boot, at_stage, slot_of, tables_of, refusing_or, after_commit, after_header, frames_of, next_page, after_slot, after_frame, with_slot_block, gone_on, IsJudged, JudgesUnless, GoesOn}
 use Rattle.thy_recover.specs.Listed.{HaveFirst, ListsUpTo, AsListed}
-use Rattle.thy_recover.specs.Recovers.{IsFresh, HasCommit, HasHead, HasSlot, HasTables, AreFramed, IsRestored, HasReadAt, HasRead, Tells, loads}
+use Rattle.thy_recover.specs.Recovers.{IsFresh, HasCommit, HasHead, HasSlot, HasTables, AreFramed, IsRestored, HasReadAt, HasRead, loads}
 use Rattle.thy_recover.proofs.StageLemmas.{none_of_two, size_of_btt, size_of_ptt}
 use Rattle.thy_recover.proofs.DecodeLemmas.{newest-settled, decode-zero, refused-head, by_slot, HasSlot-more, slot_is_whole}
 use Rattle.thy_recover.proofs.WorkLemmas.{loads-are}
@@ -293,19 +293,7 @@ module _ (n : Device) (b : Booting) (c : State) (epoch j k : ℕ) (is : b.stage 
   pub read_frame-found : HasRead n (at_stage (after_frame epoch j k b) b) d
   read_frame-found = record { same_p = same_p_then; sized = h.sized; settled = h.settled; so_far = frame_stage (nat_lt (k + 1) 64) refl }
 
--- ---- what an answer says
-
-pub Tells-read : (n : Device) (b : Booting) (c : State) → HasRead n b c → Tells (answer_of b) b.p n c
-Tells-read n b c h = by_stage b.stage h.so_far where
-  by_stage : (s : Stage) → HasReadAt s n b.p b.slot c → Tells (answer_at s b) b.p n c
-  by_stage Unread f = tt
-  by_stage (Header epoch fault) f = tt
-  by_stage (Slot epoch next) f = tt
-  by_stage (Frames epoch page next) f = tt
-  by_stage (Refusing bad) f = f
-  by_stage (Loading issue) f = f.1
-  by_stage Loaded f = absurd f
-  by_stage (Restored epoch) f = (f.found, f.holds)
+-- ---- a new boot
 
 pub HasRead-new : (p : Parameters) (dram : Contents) (n : Device) → length n.image ≡ image_blocks p → n.queue ≡ [] → HasRead n (new_boot p) (new_state p dram)
 HasRead-new p dram n sized settled = record {

@@ -37,6 +37,7 @@ use Rattle.thy_protocol.specs.Moves.{Standing, standing, IsKeeping, Move, Goes, 
 use Rattle.thy_protocol.proofs.KeepsLemmas.{at-start}
 use Rattle.thy_protocol.proofs.LayoutLemmas.{decode_by-nothing_back}
 use Rattle.thy_protocol.proofs.VersionOneLemmas.{decode_by-version_one, looked_by-version_one}
+use Rattle.thy_protocol.specs.VersionOne.{layout_of}
 use Rattle.thy_recover.specs.declared.stage.Stage.{Stage}
 use Rattle.thy_recover.specs.declared.stage.Stage.TheVariants.{Unread, Header as ReadsHeader, Slot as ReadsSlot, Frames, Refusing, Loading, Restored, Loaded}
 use Rattle.thy_recover.specs.declared.stage.Issue.{Issue}
@@ -44,9 +45,9 @@ use Rattle.thy_recover.specs.declared.stage.Issue.TheVariants.{Home, Slot, Heade
 use Rattle.thy_recover.specs.Boot.{Booting}
 use Rattle.thy_recover.specs.Loads.{after_issue, issue_action}
 use Rattle.thy_recover.specs.Recovers.{IsFresh, loads}
-use Rattle.thy_recover.specs.Sound.{Checkpoints, layout_of, start_mark, standing_at, checkpoints_after, HasWrittenAll, HasStood, IsStartImage, IsMade, IsLoaded, IsSoundAt}
+use Rattle.thy_recover.specs.Sound.{BootImages, start_mark, standing_in_boot, images_after, HasWrittenAll, HasStood, IsStartImage, IsMade, IsLoaded, IsSoundAt}
 use Rattle.thy_recover.specs.Start.{start_block, start_blocks, start_slot, no_tables}
-use Rattle.thy_recover.specs.Laws.{standing_failed}
+use Rattle.thy_recover.specs.Laws.{standing_after_fault}
 use Rattle.thy_recover.proofs.RecordLemmas.{start-recordable}
 use Rattle.thy_recover.proofs.DecodeLemmas.{newest-settled}
 use Rattle.thy_recover.proofs.RecoverLemmas.{live_in_tables}
@@ -61,18 +62,18 @@ alone o before x nothing other inside =
     (subst (λ (xs : List ℕ). Contains (1 ∷ xs) x) (looked_by-version_one o.geometry ceiling before) inside)
 
 -- before the first barrier
-abbrev before_of : Origin → Checkpoints → Device → Standing
+abbrev before_of : Origin → BootImages → Device → Standing
 before_of o g n = standing n (Kept g.before) None (Some (start_mark o))
 
 -- a write of another place than the commit block's
-writes : (o : Origin) (g : Checkpoints) (n : Device) (x : ℕ) (block : Block) → decode_by (layout_of o) g.before ≡ Nothing → x ≢ 1
+writes : (o : Origin) (g : BootImages) (n : Device) (x : ℕ) (block : Block) → decode_by (layout_of o) g.before ≡ Nothing → x ≢ 1
     → Move o (layout_of o) (before_of o g n) (before_of o g (written_to n x block))
 writes o g n x block nothing other =
     Goes (Kept g.before) None (Some (start_mark o)) n (written_to n x block)
     (Spares-written (1 ∷ looked_by (layout_of o) g.before) x block n (written_to n x block) (alone o g.before x nothing other) refl)
 
 -- one that failed
-fails_write : (o : Origin) (g : Checkpoints) (n m : Device) (x : ℕ) (block : Block) → decode_by (layout_of o) g.before ≡ Nothing → x ≢ 1
+fails_write : (o : Origin) (g : BootImages) (n m : Device) (x : ℕ) (block : Block) → decode_by (layout_of o) g.before ≡ Nothing → x ≢ 1
     → HasFailedToWrite x block n m → IsFramed n m → Move o (layout_of o) (before_of o g n) (before_of o g m)
 fails_write o g n m x block nothing other failed framed =
     Goes (Kept g.before) None (Some (start_mark o)) n m
@@ -124,21 +125,21 @@ module _ (o : Origin) (origin : IsOrigin o) (n : Device) (w : HasWrittenAll o n)
 
 -- ---- an action of loading
 
-abbrev Loads : Origin → Checkpoints → Issue → Device → Type 0
+abbrev Loads : Origin → BootImages → Issue → Device → Type 0
 Loads o g issue n =
-    Move o (layout_of o) (standing_at o (Loading issue) g n)
-    (standing_at o (after_issue o.geometry issue) (checkpoints_after (Loading issue) n g) (after (issue_action o.geometry o.start issue) n))
+    Move o (layout_of o) (standing_in_boot o (Loading issue) g n)
+    (standing_in_boot o (after_issue o.geometry issue) (images_after (Loading issue) n g) (after (issue_action o.geometry o.start issue) n))
 
-module _ (o : Origin) (g : Checkpoints) (n : Device) (origin : IsOrigin o) where
-  pub load_moves : (issue : Issue) → IsKeeping o (layout_of o) (standing_at o (Loading issue) g n) → IsMade o issue g.next → HasStood o issue n → Loads o g issue n
+module _ (o : Origin) (g : BootImages) (n : Device) (origin : IsOrigin o) where
+  pub load_moves : (issue : Issue) → IsKeeping o (layout_of o) (standing_in_boot o (Loading issue) g n) → IsMade o issue g.next → HasStood o issue n → Loads o g issue n
   load_moves (Home b) k made w = by_more (nat_lt (b + 1) (memory_blocks o.geometry)) where
     by_more : (t : Bool) → Move o (layout_of o) (before_of o g n)
-        (standing_at o (if t then Loading (Home (b + 1)) else Loading (Slot 0)) g (after (issue_action o.geometry o.start (Home b)) n))
+        (standing_in_boot o (if t then Loading (Home (b + 1)) else Loading (Slot 0)) g (after (issue_action o.geometry o.start (Home b)) n))
     by_more true = writes o g n (number_of o.geometry (AtHome b)) (start_block o.geometry o.start b) k.told.0 (λ e. omega (arith, e))
     by_more false = writes o g n (number_of o.geometry (AtHome b)) (start_block o.geometry o.start b) k.told.0 (λ e. omega (arith, e))
   load_moves (Slot j) k made w = by_more (nat_lt (j + 1) (slot_blocks o.geometry)) where
     by_more : (t : Bool) → Move o (layout_of o) (before_of o g n)
-        (standing_at o (if t then Loading (Slot (j + 1)) else Loading Header) g (after (issue_action o.geometry o.start (Slot j)) n))
+        (standing_in_boot o (if t then Loading (Slot (j + 1)) else Loading Header) g (after (issue_action o.geometry o.start (Slot j)) n))
     by_more true = writes o g n (slot_place o.geometry 0 + j) (start_slot o.geometry o.start j) k.told.0 (λ e. omega (arith, e))
     by_more false = writes o g n (slot_place o.geometry 0 + j) (start_slot o.geometry o.start j) k.told.0 (λ e. omega (arith, e))
   load_moves Header k made w = writes o g n 0 (header_of o.geometry) k.told.0 (λ e. omega (arith, e))
@@ -154,7 +155,7 @@ module _ (o : Origin) (g : Checkpoints) (n : Device) (origin : IsOrigin o) where
   MadeAt (Loading issue) next = IsMade o issue next
   MadeAt stage next = IsStartImage o next
 
-  pub made_on : (issue : Issue) → IsMade o issue g.next → HasStood o issue n → MadeAt (after_issue o.geometry issue) (checkpoints_after (Loading issue) n g).next
+  pub made_on : (issue : Issue) → IsMade o issue g.next → HasStood o issue n → MadeAt (after_issue o.geometry issue) (images_after (Loading issue) n g).next
   made_on (Home b) made w = by_more (nat_lt (b + 1) (memory_blocks o.geometry)) where
     by_more : (t : Bool) → MadeAt (if t then Loading (Home (b + 1)) else Loading (Slot 0)) g.next
     by_more true = tt
@@ -170,7 +171,7 @@ module _ (o : Origin) (g : Checkpoints) (n : Device) (origin : IsOrigin o) where
 
 -- ---- behind loading
 
-module _ (o : Origin) (origin : IsOrigin o) (g : Checkpoints) (n : Device) (c : State) (t : AreSoundTables c) (same : c.p ≡ o.geometry) (fresh : IsFresh c)
+module _ (o : Origin) (origin : IsOrigin o) (g : BootImages) (n : Device) (c : State) (t : AreSoundTables c) (same : c.p ≡ o.geometry) (fresh : IsFresh c)
     (w : HasWrittenAll o n) (settled_is : n.queue ≡ []) (made : IsStartImage o g.next) where
   none_listed : tables0 c ≡ no_tables o.geometry
   none_listed =
@@ -219,8 +220,8 @@ module _ (o : Origin) (origin : IsOrigin o) (g : Checkpoints) (n : Device) (c : 
       }
 
 -- what stands at a stage of loading, or behind it, makes a boot of the run
-pub sound_at : (o : Origin) (origin : IsOrigin o) (g : Checkpoints) (n : Device) (b : Booting) (c : State) → AreSoundTables c → c.p ≡ o.geometry → IsFresh c → g.kept ≡ None
-    → (h : Checkpoints) → h.kept ≡ None
+pub sound_at : (o : Origin) (origin : IsOrigin o) (g : BootImages) (n : Device) (b : Booting) (c : State) → AreSoundTables c → c.p ≡ o.geometry → IsFresh c → g.kept ≡ None
+    → (h : BootImages) → h.kept ≡ None
     → (m : Device) (q : Stage) → StandsAt o q m → MadeAt o g n origin q h.next → IsSoundAt o q h m b c
 sound_at o origin g n b c t same fresh none h still m (Loading issue) stands made = record { none = still; fresh = fresh; made = made; stood = stands }
 sound_at o origin g n b c t same fresh none h still m Loaded stands made = IsLoaded-written o origin h m c t same fresh stands.0 stands.1 made
@@ -232,7 +233,7 @@ sound_at o origin g n b c t same fresh none h still m (Refusing bad) stands made
 sound_at o origin g n b c t same fresh none h still m (Restored epoch) stands made = absurd stands
 
 -- the mark that is kept stays
-pub kept_after : (issue : Issue) (n : Device) (g : Checkpoints) → (checkpoints_after (Loading issue) n g).kept ≡ g.kept
+pub kept_after : (issue : Issue) (n : Device) (g : BootImages) → (images_after (Loading issue) n g).kept ≡ g.kept
 kept_after (Home b) n g = refl
 kept_after (Slot k) n g = refl
 kept_after Header n g = refl
@@ -242,8 +243,8 @@ kept_after Confirm n g = refl
 
 -- ---- an action of loading that failed
 
-pub load_fails : (o : Origin) (g : Checkpoints) (n m : Device) (issue : Issue) → IsKeeping o (layout_of o) (standing_at o (Loading issue) g n) → IsMade o issue g.next
-    → FailsTo (issue_action o.geometry o.start issue) n m → IsFramed n m → Move o (layout_of o) (standing_at o (Loading issue) g n) (standing_failed o (Loading issue) g m)
+pub load_fails : (o : Origin) (g : BootImages) (n m : Device) (issue : Issue) → IsKeeping o (layout_of o) (standing_in_boot o (Loading issue) g n) → IsMade o issue g.next
+    → FailsTo (issue_action o.geometry o.start issue) n m → IsFramed n m → Move o (layout_of o) (standing_in_boot o (Loading issue) g n) (standing_after_fault o (Loading issue) g m)
 load_fails o g n m (Home b) k made failed framed = fails_write o g n m (number_of o.geometry (AtHome b)) (start_block o.geometry o.start b) k.told.0 (λ e. omega (arith, e)) failed framed
 load_fails o g n m (Slot j) k made failed framed = fails_write o g n m (slot_place o.geometry 0 + j) (start_slot o.geometry o.start j) k.told.0 (λ e. omega (arith, e)) failed framed
 load_fails o g n m Header k made failed framed = fails_write o g n m 0 (header_of o.geometry) k.told.0 (λ e. omega (arith, e)) failed framed

@@ -62,7 +62,7 @@ slot_of b = blocks_of b.slot
 abbrev pub tables_of : Booting → Tables
 tables_of b = tables_in b.p (slot_of b)
 
--- what a step tells that left the boot so far
+-- what a step answers that left the boot so far
 abbrev pub answer_at : Stage → Booting → BootStep
 answer_at (Refusing bad) b = Refused bad
 answer_at (Loading issue) b = IsLoading

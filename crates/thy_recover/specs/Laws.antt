@@ -1,5 +1,5 @@
 -- What holds of every boot of a run.
-use Rattle.std.specs.Prelude.{◌≡◌, ◌≢◌, ℕ, ◌+◌, ◌≤◌, false, [], length, Some, None}
+use Rattle.std.specs.Prelude.{◌≡◌, ◌≢◌, ℕ, ◌+◌, ◌≤◌, false, [], length, Option, Some, None}
 use Rattle.thy_base.specs.declared.mark.Mark.{Mark}
 use Rattle.thy_base.specs.Device.{Device, drained, IsFramed}
 use Rattle.thy_base.specs.Places.{image_blocks}
@@ -20,7 +20,7 @@ use Rattle.thy_view.specs.Views.{doubt_of}
 use Rattle.thy_protocol.specs.Keeps.{Keeps, Tells}
 use Rattle.thy_protocol.specs.Layout.{reading}
 use Rattle.thy_protocol.specs.Moves.{Standing, standing, Move}
-use Rattle.thy_protocol.specs.VersionOne.{version_one}
+use Rattle.thy_protocol.specs.VersionOne.{version_one, layout_of}
 use Rattle.thy_recover.specs.declared.stage.Stage.{Stage}
 use Rattle.thy_recover.specs.declared.stage.Stage.TheVariants.{Refusing, Loading, Restored, Loaded}
 use Rattle.thy_recover.specs.declared.stage.Issue.TheVariants.{Commit, Confirm}
@@ -30,14 +30,14 @@ use Rattle.thy_recover.specs.Boot.{Booting, IsBoot, new_boot, slot_of, answer_of
 use Rattle.thy_recover.specs.Left.{boot_left}
 use Rattle.thy_recover.specs.Recovers.{CanRecover}
 use Rattle.thy_recover.specs.Shows.{seen_at, did_of}
-use Rattle.thy_recover.specs.Sound.{Checkpoints, layout_of, start_mark, standing_at, checkpoints_after, IsBooted, IsSound}
+use Rattle.thy_recover.specs.Sound.{BootImages, start_mark, standing_in_boot, images_after, IsBooted, IsSound}
 use Rattle.thy_recover.specs.Start.{IsStartFor}
 use Rattle.thy_recover.specs.Steps.{CanStep, Steps, Fails}
 
 -- a new boot, over a device with nothing queued whose image means the mark that is kept, is one of a run
 abbrev pub NewIsSound : Type 0
 NewIsSound =
-    (o : Origin) (g : Checkpoints) (n : Device) (dram : Contents)
+    (o : Origin) (g : BootImages) (n : Device) (dram : Contents)
     → g.before ≡ n.image → length n.image ≡ image_blocks o.geometry → n.queue ≡ [] → Tells o (layout_of o) n.image g.kept
     → IsSound o g n (new_boot o.geometry) (new_state o.geometry dram)
 
@@ -50,13 +50,13 @@ IsGoing stage = Unit {0}
 -- it may take a step then
 abbrev pub SoundMayStep : Type 0
 SoundMayStep =
-    (o : Origin) (g : Checkpoints) (n : Device) (b : Booting) (c : State)
+    (o : Origin) (g : BootImages) (n : Device) (b : Booting) (c : State)
     → IsOrigin o → IsSound o g n b c → IsGoing b.stage → n.down ≡ false → CanStep o.start n b c
 
 -- whatever a cut leaves then is the mark that is done, whole, or, once loading's commit block was written, the start's
 abbrev pub SoundIsSafe : Type 0
 SoundIsSafe =
-    (o : Origin) (g : Checkpoints) (n : Device) (b : Booting) (c : State)
+    (o : Origin) (g : BootImages) (n : Device) (b : Booting) (c : State)
     → IsSound o g n b c → Safe (reading version_one) o (seen_at o g.kept b.stage).done (doubt_of (seen_at o g.kept b.stage)) n
 
 -- whoever has taken a step may take the next, until the boot is over
@@ -67,29 +67,29 @@ MayGoOn =
     → (d.p ≡ b.p) × (m.down ≡ false) × CanStep s m d e
 
 -- a step is a move of the run's checkpoints
-pub record IsMoved (o : Origin) (g : Checkpoints) (n : Device) (b : Booting) (m : Device) (d : Booting) (e : State) : Type 0 where
-  pub move : Move o (layout_of o) (standing_at o b.stage g n) (standing_at o d.stage (checkpoints_after b.stage n g) m)
-  pub sound : IsSound o (checkpoints_after b.stage n g) m d e
+pub record IsMoved (o : Origin) (g : BootImages) (n : Device) (b : Booting) (m : Device) (d : Booting) (e : State) : Type 0 where
+  pub move : Move o (layout_of o) (standing_in_boot o b.stage g n) (standing_in_boot o d.stage (images_after b.stage n g) m)
+  pub sound : IsSound o (images_after b.stage n g) m d e
   pub shows : CoreStep o (seen_at o g.kept b.stage) (did_of (answer_of d)) (seen_at o g.kept d.stage)
 
 -- every step of a run's boot is one, and the boot is one of the run afterwards
 abbrev pub StepsMove : Type 0
 StepsMove =
-    (o : Origin) (g : Checkpoints) (n : Device) (b : Booting) (c : State) (m : Device) (d : Booting) (e : State)
+    (o : Origin) (g : BootImages) (n : Device) (b : Booting) (c : State) (m : Device) (d : Booting) (e : State)
     → IsOrigin o → IsBoot b → AreSoundTables c → IsSound o g n b c → Steps o.start n b c m d e → IsMoved o g n b m d e
 
 -- and so is a step that failed: the write of the commit block leaves the two in doubt, and every other one what was
-abbrev pub standing_failed : Origin → Stage → Checkpoints → Device → Standing
-standing_failed o (Loading Commit) g n = standing n (InDoubt g.before g.next) None (Some (start_mark o))
-standing_failed o stage g n = standing_at o stage g n
+abbrev pub standing_after_fault : Origin → Stage → BootImages → Device → Standing
+standing_after_fault o (Loading Commit) g n = standing n (InDoubt g.before g.next) None (Some (start_mark o))
+standing_after_fault o stage g n = standing_in_boot o stage g n
 
-pub record IsFailed (o : Origin) (g : Checkpoints) (n : Device) (b : Booting) (m : Device) : Type 0 where
-  pub move : Move o (layout_of o) (standing_at o b.stage g n) (standing_failed o b.stage g m)
+pub record IsFailed (o : Origin) (g : BootImages) (n : Device) (b : Booting) (m : Device) : Type 0 where
+  pub move : Move o (layout_of o) (standing_in_boot o b.stage g n) (standing_after_fault o b.stage g m)
   pub safe : Safe (reading version_one) o (seen_at o g.kept b.stage).done (seen_at o g.kept b.stage).sealed m
 
 abbrev pub FailuresMove : Type 0
 FailuresMove =
-    (o : Origin) (g : Checkpoints) (n : Device) (b : Booting) (c : State) (m : Device)
+    (o : Origin) (g : BootImages) (n : Device) (b : Booting) (c : State) (m : Device)
     → IsSound o g n b c → IsGoing b.stage → Fails o.start b n m → IsFramed n m → IsFailed o g n b m
 
 -- ---- where it ends
@@ -97,7 +97,7 @@ FailuresMove =
 -- a restart has the kept mark's state, and its checkpoint is kept
 abbrev pub RestoredIsBooted : Type 0
 RestoredIsBooted =
-    (o : Origin) (g : Checkpoints) (n : Device) (b : Booting) (c : State) (epoch : ℕ)
+    (o : Origin) (g : BootImages) (n : Device) (b : Booting) (c : State) (epoch : ℕ)
     → IsOrigin o → AreSoundTables c → IsSound o g n b c → b.stage ≡ Restored epoch
     → (m : Mark) × (g.kept ≡ Some m) × (m.epoch ≡ epoch) × Keeps o (layout_of o) n (Kept g.before) (Some m) None
     × IsBooted o m (cpu_of_record (slot_of b)) g.before n c
@@ -105,28 +105,28 @@ RestoredIsBooted =
 -- the boot of a run is never refused
 abbrev pub NeverRefused : Type 0
 NeverRefused =
-    (o : Origin) (g : Checkpoints) (n : Device) (b : Booting) (c : State) (bad : BadImage)
+    (o : Origin) (g : BootImages) (n : Device) (b : Booting) (c : State) (bad : BadImage)
     → IsSound o g n b c → b.stage ≢ Refusing bad
 
 -- ---- drains
 
 abbrev pub DrainsKeepBoot : Type 0
 DrainsKeepBoot =
-    (o : Origin) (g : Checkpoints) (n : Device) (b : Booting) (c : State)
+    (o : Origin) (g : BootImages) (n : Device) (b : Booting) (c : State)
     → IsSound o g n b c → IsSound o g (drained n) b c × IsSound o g n b (after_drain c)
 
 -- a drain of the NVM is a move
 abbrev pub DrainsMove : Type 0
 DrainsMove =
-    (o : Origin) (g : Checkpoints) (n : Device) (b : Booting)
-    → Move o (layout_of o) (standing_at o b.stage g n) (standing_at o b.stage g (drained n))
+    (o : Origin) (g : BootImages) (n : Device) (b : Booting)
+    → Move o (layout_of o) (standing_in_boot o b.stage g n) (standing_in_boot o b.stage g (drained n))
 
 -- ---- what is seen
 
 -- a boot that reads shows what the image means
 abbrev pub ShowsImage : Type 0
 ShowsImage =
-    (o : Origin) (g : Checkpoints) (n : Device) (b : Booting) (c : State)
+    (o : Origin) (g : BootImages) (n : Device) (b : Booting) (c : State)
     → IsSound o g n b c → CanRecover b.stage
     → seen_at o g.kept b.stage ≡ view_of_image o.start.count (decode_image o.geometry ceiling n.image)
 
@@ -138,7 +138,13 @@ StepsAct =
     (s : Plain) (n : Device) (b : Booting) (c : State) (m : Device) (d : Booting) (e : State)
     → Steps s n b c m d e → Acts (did_of (answer_of d)) n m
 
--- what a step that failed was to tell: that the program is loaded, where it was loading's last, else that the boot goes on
+-- where a checkpoint was found, a step leaves the NVM as it was
+abbrev pub FoundStays : Type 0
+FoundStays =
+    (o : Origin) (kept : Option Mark) (mark : Mark) (n : Device) (b : Booting) (c : State) (m : Device) (d : Booting) (e : State)
+    → (seen_at o kept b.stage).done ≡ Some mark → Steps o.start n b c m d e → m ≡ n
+
+-- what a step that failed was to answer: that the program is loaded, where it was loading's last, else that the boot goes on
 abbrev pub failed_answer : Stage → BootStep
 failed_answer (Loading Confirm) = HasLoaded
 failed_answer (Loading issue) = IsLoading

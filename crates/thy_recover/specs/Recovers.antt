@@ -25,8 +25,6 @@ use Rattle.thy_view.specs.Safe.{ceiling}
 use Rattle.thy_recover.specs.declared.stage.Stage.{Stage}
 use Rattle.thy_recover.specs.declared.stage.Stage.TheVariants.{Unread, Header, Slot, Frames, Refusing, Loading, Restored, Loaded}
 use Rattle.thy_recover.specs.declared.stage.Issue.TheVariants.{Home}
-use Rattle.thy_recover.specs.declared.stage.BootStep.{BootStep}
-use Rattle.thy_recover.specs.declared.stage.BootStep.TheVariants.{Reading, Loading as IsLoading, Loaded as HasLoaded, Restarted, Refused}
 use Rattle.thy_recover.specs.Boot.{Booting, new_boot}
 use Rattle.thy_recover.specs.Left.{boot_left}
 
@@ -91,20 +89,12 @@ pub record HasRead (n : Device) (b : Booting) (c : State) : Type 0 where
   pub settled : n.queue ≡ []
   pub so_far : HasReadAt b.stage n b.p b.slot c
 
--- it reads on, or tells again that the image is refused
+-- it reads on, or answers again that the image is refused
 abbrev pub CanRecover : Stage → Type 0
 CanRecover (Loading issue) = ⊥
 CanRecover (Restored epoch) = ⊥
 CanRecover Loaded = ⊥
 CanRecover _ = Unit {0}
-
--- what an answer says of an image: a restart is that of its checkpoint, with memory as the controller loads it
-abbrev pub Tells : BootStep → Parameters → Device → State → Type 0
-Tells Reading p n c = Unit {0}
-Tells IsLoading p n c = decode_image p ceiling n.image ≡ Nothing
-Tells HasLoaded p n c = ⊥
-Tells (Restarted cpu epoch) p n c = (decode_image p ceiling n.image ≡ At epoch (state_from p cpu (loads c n))) × HoldAll c n
-Tells (Refused bad) p n c = decode_image p ceiling n.image ≡ IsRefused bad
 
 -- a step of the recovery is an action nearer to the boot's end; a refusal comes again
 abbrev pub IsNearer : Parameters → Stage → Stage → Type 0

@@ -23,7 +23,7 @@ use Rattle.thy_view.specs.Origin.{Origin, at}
 use Rattle.thy_view.specs.Safe.{ceiling}
 use Rattle.thy_protocol.specs.Layout.{Layout}
 use Rattle.thy_protocol.specs.Moves.{Standing, standing, IsKeeping}
-use Rattle.thy_protocol.specs.VersionOne.{version_one}
+use Rattle.thy_protocol.specs.VersionOne.{layout_of}
 use Rattle.thy_recover.specs.declared.stage.Stage.{Stage}
 use Rattle.thy_recover.specs.declared.stage.Stage.TheVariants.{Loading, Loaded}
 use Rattle.thy_recover.specs.declared.stage.Issue.{Issue}
@@ -32,15 +32,12 @@ use Rattle.thy_recover.specs.Boot.{Booting}
 use Rattle.thy_recover.specs.Recovers.{IsFresh, HasRead, loads}
 use Rattle.thy_recover.specs.Start.{start_block, start_blocks, start_slot, no_tables}
 
-abbrev pub layout_of : Origin → Layout
-layout_of o = version_one o.geometry ceiling
-
 -- the mark of the start's checkpoint
 abbrev pub start_mark : Origin → Mark
 start_mark o = mark 0 o.start.count
 
 -- the image that the boot finds, with its mark, if it is a checkpoint, and the image that loading makes
-pub record Checkpoints : Type 0 where
+pub record BootImages : Type 0 where
   pub before : List Block
   pub kept : Option Mark
   pub next : List Block
@@ -52,21 +49,21 @@ sealed_by o (Some m) = None
 
 -- before an action of loading: until the first barrier one image is kept, behind it the next one is ready, and with its
 -- commit block in doubt
-abbrev pub saved_at : Issue → Checkpoints → Saved
-saved_at Commit g = Ready g.before g.next
-saved_at Confirm g = InDoubt g.before g.next
-saved_at issue g = Kept g.before
+abbrev pub saved_loading : Issue → BootImages → Saved
+saved_loading Commit g = Ready g.before g.next
+saved_loading Confirm g = InDoubt g.before g.next
+saved_loading issue g = Kept g.before
 
 -- by the stage, which images a cut may leave
-abbrev pub standing_at : Origin → Stage → Checkpoints → Device → Standing
-standing_at o (Loading issue) g n = standing n (saved_at issue g) None (Some (start_mark o))
-standing_at o Loaded g n = standing n (Kept g.next) (Some (start_mark o)) None
-standing_at o stage g n = standing n (Kept g.before) g.kept (sealed_by o g.kept)
+abbrev pub standing_in_boot : Origin → Stage → BootImages → Device → Standing
+standing_in_boot o (Loading issue) g n = standing n (saved_loading issue g) None (Some (start_mark o))
+standing_in_boot o Loaded g n = standing n (Kept g.next) (Some (start_mark o)) None
+standing_in_boot o stage g n = standing n (Kept g.before) g.kept (sealed_by o g.kept)
 
 -- with the first barrier the next image is that of all that was written, with the commit block
-abbrev pub checkpoints_after : Stage → Device → Checkpoints → Checkpoints
-checkpoints_after (Loading Settle) n g = record g { next = next_image n (commit_of 0) }
-checkpoints_after stage n g = g
+abbrev pub images_after : Stage → Device → BootImages → BootImages
+images_after (Loading Settle) n g = record g { next = next_image n (commit_of 0) }
+images_after stage n g = g
 
 -- ---- what was written
 
@@ -104,12 +101,12 @@ IsMade o issue next = Unit {0}
 -- ---- the boot
 
 -- while it reads, nothing is written
-pub record IsRecovering (g : Checkpoints) (n : Device) (b : Booting) (c : State) : Type 0 where
+pub record IsRecovering (g : BootImages) (n : Device) (b : Booting) (c : State) : Type 0 where
   pub before_is : g.before ≡ n.image
   pub read : HasRead n b c
 
 -- while it loads, there is no checkpoint, and the controller lists nothing
-pub record IsLoading (o : Origin) (issue : Issue) (g : Checkpoints) (n : Device) (c : State) : Type 0 where
+pub record IsLoading (o : Origin) (issue : Issue) (g : BootImages) (n : Device) (c : State) : Type 0 where
   pub none : g.kept ≡ None
   pub fresh : IsFresh c
   pub made : IsMade o issue g.next
@@ -128,20 +125,20 @@ pub record IsBooted (o : Origin) (m : Mark) (cpu : CpuState) (image : List Block
   pub recordable : IsRecordable o.geometry ceiling cpu
 
 -- behind loading these are the start's, with tables that list nothing
-pub record IsLoaded (o : Origin) (g : Checkpoints) (n : Device) (c : State) : Type 0 where
+pub record IsLoaded (o : Origin) (g : BootImages) (n : Device) (c : State) : Type 0 where
   pub over : IsBooted o (start_mark o) (cpu_of o.start) g.next n c
   pub tables : tables0 c ≡ no_tables o.geometry
   pub memory : loads c n ≡ start_blocks o.geometry o.start
   pub start : state_from o.geometry (cpu_of o.start) (loads c n) ≡ o.start
 
-abbrev pub IsSoundAt : Origin → Stage → Checkpoints → Device → Booting → State → Type 0
+abbrev pub IsSoundAt : Origin → Stage → BootImages → Device → Booting → State → Type 0
 IsSoundAt o (Loading issue) g n b c = IsLoading o issue g n c
 IsSoundAt o Loaded g n b c = IsLoaded o g n c
 IsSoundAt o stage g n b c = IsRecovering g n b c
 
 -- a boot of a run, with the images of its checkpoints
-pub record IsSound (o : Origin) (g : Checkpoints) (n : Device) (b : Booting) (c : State) : Type 0 where
+pub record IsSound (o : Origin) (g : BootImages) (n : Device) (b : Booting) (c : State) : Type 0 where
   pub geometry : b.p ≡ o.geometry
   pub same_p : c.p ≡ o.geometry
-  pub keeps : IsKeeping o (layout_of o) (standing_at o b.stage g n)
+  pub keeps : IsKeeping o (layout_of o) (standing_in_boot o b.stage g n)
   pub so_far : IsSoundAt o b.stage g n b c

@@ -6,10 +6,10 @@ use Rattle.thy_isa.specs.Step.{State as Plain}
 use Rattle.thy_control.specs.State.{State}
 use Rattle.thy_view.specs.Action.{after, FailsTo}
 use Rattle.thy_recover.specs.declared.stage.Issue.{Issue}
-use Rattle.thy_recover.specs.Boot.{Booting, at_stage, issue_at, answer_of}
+use Rattle.thy_recover.specs.Boot.{Booting, at_stage, issue_at}
 use Rattle.thy_recover.specs.Loads.{CanLoad, after_issue, issue_action}
 use Rattle.thy_recover.specs.Reads.{read_action, read_on, Fills}
-use Rattle.thy_recover.specs.Recovers.{CanRecover, HasRead, Tells, IsNearer}
+use Rattle.thy_recover.specs.Recovers.{CanRecover, HasRead, IsNearer}
 
 -- a boot that reads goes on from what it has read
 pub record CanRead (n : Device) (b : Booting) (c : State) : Type 0 where
@@ -25,15 +25,13 @@ CanStepBy None s n b c = CanRead n b c
 abbrev pub CanStep : Plain → Device → Booting → State → Type 0
 CanStep s n b c = CanStepBy (issue_at b.stage) s n b c
 
--- the NVM is as it was, and one block more was read, or the refusal comes again; so far as it tells, that is what the image
--- decodes to
+-- the NVM is as it was, and one block more was read, or the refusal comes again; what was read is what the image means
 pub record ReadsOn (n : Device) (b : Booting) (c : State) (m : Device) (d : Booting) (e : State) : Type 0 where
   pub same_p : d.p ≡ b.p
   pub device : m ≡ n
   pub boot : d ≡ read_on b.stage n b
   pub control : Fills b.stage n b c e
   pub read : HasRead m d e
-  pub tells : Tells (answer_of d) d.p m e
   pub nearer : IsNearer b.p b.stage d.stage
 
 -- the action of loading was taken

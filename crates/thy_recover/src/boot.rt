@@ -80,7 +80,7 @@ impl Boot {
         }
     }
 
-    /// What a step tells that left the boot so far.
+    /// What a step answers that left the boot so far.
     pub(crate) fn answer(&self) -> BootStep
         ensures { result ≡ answer_of self.now }
     {

@@ -1,7 +1,7 @@
 //! Laws of the boot, each the contract of a function that does nothing.
 ghost use Rattle.thy_recover.specs.Laws.{NewIsSound, SoundMayStep, SoundIsSafe, MayGoOn, StepsMove, FailuresMove};
 ghost use Rattle.thy_recover.specs.Laws.{RestoredIsBooted, NeverRefused, DrainsKeepBoot, DrainsMove, ShowsImage};
-ghost use Rattle.thy_recover.specs.Laws.{StepsAct, FailuresAct, StepsFill, StepsComeNearer};
+ghost use Rattle.thy_recover.specs.Laws.{StepsAct, FoundStays, FailuresAct, StepsFill, StepsComeNearer};
 ghost use Rattle.thy_recover.specs.Recovers.{NewHasRead};
 
 /// A new boot, with a new controller, has read nothing of the image that stands in the NVM.
@@ -53,9 +53,11 @@ pub fn a_boot_shows_the_image()
     ensures { ShowsImage }
 {}
 
-/// A step acts once on the NVM, as what it tells asks for; one that failed did so in the one action of its stage.
+/// A step acts once on the NVM, as its answer asks for; where a checkpoint was found it only reads. One that failed did so
+/// in the one action of its stage.
 pub fn steps_act_once()
     ensures acts { StepsAct }
+    ensures found { FoundStays }
     ensures failed { FailuresAct }
 {}
 

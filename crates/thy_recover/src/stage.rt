@@ -1,4 +1,4 @@
-//! How far a boot is, and what its steps tell.
+//! How far a boot is, and what its steps answer.
 use thy_isa::CpuState;
 use thy_record::BadImage;
 
@@ -40,7 +40,7 @@ pub enum Stage {
     Loaded,
 }
 
-/// What a step of a boot tells.
+/// What a step of a boot answers.
 #[derive(Clone, Copy, Debug, PartialEq, Eq)]
 pub enum BootStep {
     /// A block was read, and more are to be read.

@@ -1,4 +1,4 @@
-use Rattle.thy_recover.proofs.StepLawLemmas.{sound_may_step, may_go_on}
+use Rattle.thy_recover.proofs.GoOnLemmas.{sound_may_step, may_go_on}
 use Rattle.thy_recover.proofs.laws.a_boot_may_go_on.Goals as goal
 
 pub returns-clause-may : goal.returns-clause-may

@@ -1,4 +1,4 @@
-use Rattle.thy_recover.proofs.StepLawLemmas.{steps_move}
+use Rattle.thy_recover.proofs.StepMoveLemmas.{steps_move}
 use Rattle.thy_recover.proofs.laws.steps_are_moves.Goals as goal
 
 pub returns : goal.returns

@@ -1,4 +1,4 @@
-use Rattle.thy_recover.proofs.StepLawLemmas.{steps_come_nearer}
+use Rattle.thy_recover.proofs.ActLemmas.{steps_come_nearer}
 use Rattle.thy_recover.proofs.laws.steps_come_nearer.Goals as goal
 
 pub returns : goal.returns

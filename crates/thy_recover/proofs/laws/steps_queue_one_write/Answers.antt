@@ -1,4 +1,4 @@
-use Rattle.thy_recover.proofs.StepLawLemmas.{steps_fill}
+use Rattle.thy_recover.proofs.ActLemmas.{steps_fill}
 use Rattle.thy_recover.proofs.laws.steps_queue_one_write.Goals as goal
 
 pub returns : goal.returns

@@ -41,8 +41,8 @@ returns-clause-ok g c = λ o begins booting.
     let e = c.step-result.ensures in
     let booting_v : IsBooting dual_scheme o v n = subst (λ (s : Dual). IsBooting dual_scheme o s n) (sym c.self.view_is) booting in
     let took : TakesStep r o.start n v.boot v.control new d t = took-for o c.args.start.now begins r n v.boot v.control new d t e.step in
-    subst (λ (s : Dual). IfOk c.tell_all.result (λ step. BootsOn dual_scheme o step s n (record v { control = t; boot = d }) new)) c.self.view_is
-    (subst (λ (x : Result SchemeStep NvmError). IfOk x (λ step. BootsOn dual_scheme o step v n (record v { control = t; boot = d }) new)) (sym c.tell_all.ensures)
+    subst (λ (s : Dual). IfOk c.scheme_result.result (λ step. BootsOn dual_scheme o step s n (record v { control = t; boot = d }) new)) c.self.view_is
+    (subst (λ (x : Result SchemeStep NvmError). IfOk x (λ step. BootsOn dual_scheme o step v n (record v { control = t; boot = d }) new)) (sym c.scheme_result.ensures)
     (boots-by o v n booting_v new d t c.fits.ensures c.tables.ensures r e.answer took))
 
 pub returns-clause-err : goal.returns-clause-err
@@ -55,13 +55,13 @@ returns-clause-err g c = λ o begins booting.
     let r : Result BootStep NvmError = c.step-result.result in
     let booting_v : IsBooting dual_scheme o v n = subst (λ (s : Dual). IsBooting dual_scheme o s n) (sym c.self.view_is) booting in
     let took : TakesStep r o.start n v.boot v.control new d t = took-for o c.args.start.now begins r n v.boot v.control new d t c.step-result.ensures.step in
-    subst (λ (s : Dual). OnErr c.tell_all.result (BootFails dual_scheme o s n new)) c.self.view_is
-    (subst (λ (x : Result SchemeStep NvmError). OnErr x (BootFails dual_scheme o v n new)) (sym c.tell_all.ensures)
+    subst (λ (s : Dual). OnErr c.scheme_result.result (BootFails dual_scheme o s n new)) c.self.view_is
+    (subst (λ (x : Result SchemeStep NvmError). OnErr x (BootFails dual_scheme o v n new)) (sym c.scheme_result.ensures)
     (fails-by o v n booting_v new d t c.fits.ensures c.tables.ensures r took))
 
 pub returns-clause-cause : goal.returns-clause-cause
 returns-clause-cause g c =
     let n : Device = g.N.Nvm.device c.args.nvm.now in
     let new : Device = g.N.Nvm.device c.step-result.new.nvm in
-    subst (λ (x : Result SchemeStep NvmError). CountsFault x n.faults new.faults) (sym c.tell_all.ensures)
+    subst (λ (x : Result SchemeStep NvmError). CountsFault x n.faults new.faults) (sym c.scheme_result.ensures)
     (cause-by c.step-result.result n.faults new.faults c.step-result.ensures.step.cause)

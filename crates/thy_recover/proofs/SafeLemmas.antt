@@ -1,0 +1,139 @@
+-- Whatever a cut leaves of a boot is safe, behind a step that failed too.
+use Rattle.std.proofs.Common.{◌≡◌, ◌≢◌, ℕ, ◌+◌, ◌%◌, ◌<◌, ◌≤◌, if◌then◌else◌, Option, Some, None, refl, ◌∙◌, ap, subst}
+use Rattle.thy_base.specs.declared.config.Parameters.{Parameters}
+use Rattle.thy_base.specs.declared.mark.Mark.{Mark}
+use Rattle.thy_base.specs.Device.{Device, IsFramed, HasFailed}
+use Rattle.thy_base.specs.Places.{number_of, slot_place}
+use Rattle.thy_base.specs.declared.place.Place.TheVariants.{AlternatePage}
+use Rattle.thy_crash.specs.Saved.{Kept, guarded, InDoubt, Saved}
+use Rattle.thy_crash.proofs.SparesLemmas.{Spares-failed}
+use Rattle.thy_view.specs.Action.{Action, ReadAt, FailsTo}
+use Rattle.thy_view.specs.Origin.{Origin}
+use Rattle.thy_view.specs.Safe.{Safe}
+use Rattle.thy_view.specs.Views.{doubt_of}
+use Rattle.thy_protocol.specs.Keeps.{doubt_in, finding_view}
+use Rattle.thy_protocol.specs.Layout.{looked_by, reading}
+use Rattle.thy_protocol.specs.Moves.{Standing, standing, IsKeeping, Move, Goes}
+use Rattle.thy_protocol.specs.VersionOne.{version_one, layout_of}
+use Rattle.thy_protocol.proofs.KeepsLemmas.{IsKeeping-move, Safe-kept, Safe-sealed}
+use Rattle.thy_recover.specs.declared.stage.Stage.{Stage}
+use Rattle.thy_recover.specs.declared.stage.Stage.TheVariants.{Unread, Header as ReadsHeader, Slot as ReadsSlot, Frames, Refusing, Loading, Restored, Loaded}
+use Rattle.thy_recover.specs.declared.stage.Issue.{Issue}
+use Rattle.thy_recover.specs.declared.stage.Issue.TheVariants.{Home, Slot, Header, Settle, Commit, Confirm}
+use Rattle.thy_recover.specs.Boot.{issue_at}
+use Rattle.thy_recover.specs.Loads.{issue_action}
+use Rattle.thy_recover.specs.Reads.{read_action}
+use Rattle.thy_recover.specs.Shows.{restored_view, seen_at}
+use Rattle.thy_recover.specs.Sound.{BootImages, start_mark, sealed_by, saved_loading, standing_in_boot, IsMade, IsSoundAt}
+use Rattle.thy_recover.specs.Steps.{FailsBy}
+use Rattle.thy_recover.specs.Laws.{SoundIsSafe, IsGoing, standing_after_fault, FailuresMove}
+use Rattle.thy_recover.proofs.SoundLemmas.{load_fails}
+use Rattle.thy_recover.proofs.FoundLemmas.{reading_of}
+
+-- ---- what is safe
+
+module _ (o : Origin) (g : BootImages) (n : Device) where
+  abbrev IsSafe : Option Mark → Option Mark → Type 0
+  IsSafe done doubt = Safe (reading version_one) o done doubt n
+
+  reads : (kept : Option Mark) → IsSafe kept None → IsSafe (finding_view o.start.count kept).done (doubt_of (finding_view o.start.count kept))
+  reads None safe = safe
+  reads (Some m) safe = safe
+
+  restored : (epoch : ℕ) (kept : Option Mark) → IsSafe kept None → IsSafe (restored_view o epoch kept).done (doubt_of (restored_view o epoch kept))
+  restored epoch None safe = safe
+  restored epoch (Some m) safe = safe
+
+  kept : IsKeeping o (layout_of o) (reading_of o g n) → IsSafe g.kept None
+  kept k = Safe-kept version_one o n (Kept g.before) g.kept (sealed_by o g.kept) k
+
+  loading : (issue : Issue) → IsKeeping o (layout_of o) (standing_in_boot o (Loading issue) g n) → IsSafe None (doubt_in (saved_loading issue g) (Some (start_mark o)))
+  loading issue k = Safe-kept version_one o n (saved_loading issue g) None (Some (start_mark o)) k
+
+  safe_at : (q : Stage) → IsKeeping o (layout_of o) (standing_in_boot o q g n) → IsSafe (seen_at o g.kept q).done (doubt_of (seen_at o g.kept q))
+  safe_at (Loading (Home b)) k = loading (Home b) k
+  safe_at (Loading (Slot j)) k = loading (Slot j) k
+  safe_at (Loading Header) k = loading Header k
+  safe_at (Loading Settle) k = loading Settle k
+  safe_at (Loading Commit) k = loading Commit k
+  safe_at (Loading Confirm) k = loading Confirm k
+  safe_at Loaded k = Safe-kept version_one o n (Kept g.next) (Some (start_mark o)) None k
+  safe_at Unread k = reads g.kept (kept k)
+  safe_at (ReadsHeader epoch fault) k = reads g.kept (kept k)
+  safe_at (ReadsSlot epoch next) k = reads g.kept (kept k)
+  safe_at (Frames epoch page next) k = reads g.kept (kept k)
+  safe_at (Refusing bad) k = reads g.kept (kept k)
+  safe_at (Restored epoch) k = restored epoch g.kept (kept k)
+
+pub sound_is_safe : SoundIsSafe
+sound_is_safe o g n b c sound = safe_at o g n b.stage sound.keeps
+
+-- ---- steps that failed
+
+fails_read : (o : Origin) (g : BootImages) (n m : Device) → HasFailed n m → IsFramed n m → Move o (layout_of o) (reading_of o g n) (reading_of o g m)
+fails_read o g n m failed framed =
+    Goes (Kept g.before) g.kept (sealed_by o g.kept) n m (Spares-failed (guarded (looked_by (layout_of o)) (Kept g.before)) n m failed framed)
+
+-- what is kept is safe for the marks that are seen
+seen_safe : (o : Origin) (m : Device) (kept : Option Mark) → Safe (reading version_one) o kept (sealed_by o kept) m
+    → Safe (reading version_one) o (finding_view o.start.count kept).done (finding_view o.start.count kept).sealed m
+seen_safe o m None safe = safe
+seen_safe o m (Some k) safe = safe
+
+abbrev Failure : Origin → BootImages → Device → Stage → Device → Type 0
+Failure o g n q m =
+    Move o (layout_of o) (standing_in_boot o q g n) (standing_after_fault o q g m)
+    × Safe (reading version_one) o (seen_at o g.kept q).done (seen_at o g.kept q).sealed m
+
+read_failure : (o : Origin) (g : BootImages) (n m : Device) → IsKeeping o (layout_of o) (reading_of o g n) → HasFailed n m → IsFramed n m
+    → Move o (layout_of o) (reading_of o g n) (reading_of o g m)
+    × Safe (reading version_one) o (finding_view o.start.count g.kept).done (finding_view o.start.count g.kept).sealed m
+read_failure o g n m k failed framed =
+    let move = fails_read o g n m failed framed in (
+      move,
+      seen_safe o m g.kept (Safe-sealed version_one o m (Kept g.before) g.kept (sealed_by o g.kept)
+          (IsKeeping-move o (layout_of o) (reading_of o g n) (reading_of o g m) move k)),
+    )
+
+-- by how far loading is, the images that a cut may leave behind a failure
+abbrev failed_saved : Issue → BootImages → Saved
+failed_saved Commit g = InDoubt g.before g.next
+failed_saved issue g = saved_loading issue g
+
+failed_is : (o : Origin) (g : BootImages) (m : Device) (issue : Issue) → standing_after_fault o (Loading issue) g m ≡ standing m (failed_saved issue g) None (Some (start_mark o))
+failed_is o g m (Home b) = refl
+failed_is o g m (Slot k) = refl
+failed_is o g m Header = refl
+failed_is o g m Settle = refl
+failed_is o g m Commit = refl
+failed_is o g m Confirm = refl
+
+load_failure : (o : Origin) (g : BootImages) (n m : Device) (issue : Issue) → IsKeeping o (layout_of o) (standing_in_boot o (Loading issue) g n) → IsMade o issue g.next
+    → FailsTo (issue_action o.geometry o.start issue) n m → IsFramed n m → Failure o g n (Loading issue) m
+load_failure o g n m issue k made failed framed =
+    let move = load_fails o g n m issue k made failed framed in
+    let kept : IsKeeping o (layout_of o) (standing_after_fault o (Loading issue) g m)
+    = IsKeeping-move o (layout_of o) (standing_in_boot o (Loading issue) g n) (standing_after_fault o (Loading issue) g m) move k in
+    (move, Safe-sealed version_one o m (failed_saved issue g) None (Some (start_mark o)) (subst (λ (a : Standing). IsKeeping o (layout_of o) a) (failed_is o g m issue) kept))
+
+pub failures_move : FailuresMove
+failures_move o g n b c m sound going fails framed =
+    let r = by_stage b.stage refl sound.so_far sound.keeps going fails in
+    record { move = r.0; safe = r.1 }
+  where
+    read_at : (q : Stage) (x : ℕ) → b.stage ≡ q → read_action b.p q ≡ ReadAt x → FailsTo (read_action b.p b.stage) n m → HasFailed n m
+    read_at q x is act f = subst (λ (a : Action). FailsTo a n m) (ap (read_action b.p) is ∙ act) f
+
+    by_stage : (q : Stage) → b.stage ≡ q → IsSoundAt o q g n b c → IsKeeping o (layout_of o) (standing_in_boot o q g n) → IsGoing q
+        → FailsBy (issue_at q) o.start b n m → Failure o g n q m
+    by_stage (Loading issue) is there k going f =
+        load_failure o g n m issue k there.made (subst (λ (p : Parameters). FailsTo (issue_action p o.start issue) n m) sound.geometry f) framed
+    by_stage Unread is there k going f = read_failure o g n m k (read_at Unread 1 is refl f) framed
+    by_stage (ReadsHeader epoch fault) is there k going f = read_failure o g n m k (read_at (ReadsHeader epoch fault) 0 is refl f) framed
+    by_stage (ReadsSlot epoch next) is there k going f =
+        read_failure o g n m k (read_at (ReadsSlot epoch next) (slot_place b.p (epoch % 2) + next) is refl f) framed
+    by_stage (Frames epoch page next) is there k going f =
+        read_failure o g n m k (read_at (Frames epoch page next) (number_of b.p (AlternatePage page next)) is refl f) framed
+    by_stage (Refusing bad) is there k going f = absurd (subst (λ (s : Stage). FailsTo (read_action b.p s) n m) is f)
+    by_stage (Restored epoch) is there k going f = absurd going
+    by_stage Loaded is there k going f = absurd going
