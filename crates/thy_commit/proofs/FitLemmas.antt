@@ -87,7 +87,7 @@ module _ (e : Progress) (s : State) (m : Device) (same : s.p ≡ e.p) where
 pub items_fit : ItemsFit
 items_fit e s m fits = fits-next e s m fits.same_p e.next fits.past fits.way
 
--- it still has the registers, and the slot the block that is next
+-- the engine still has the registers, and the slot the block that is next
 slot-next : (p : Parameters) (j : ℕ) (more : Bool) → nat_lt (j + 1) (slot_blocks p) ≡ more → (k : ℕ) → (if more then Slot (j + 1) else Settle) ≡ Slot k → k < slot_blocks p
 slot-next p j true h k is =
     let below : j + 1 < slot_blocks p = ltb-true (j + 1) (slot_blocks p) h in
@@ -110,7 +110,7 @@ sound_after e i sound = record { regs = sound.regs; inside = λ k is. inside-nex
 pub items_sound : ItemsSound
 items_sound e s sound = sound_after e (item_of e s) sound
 
--- so it is of the engine that an item leaves
+-- engine and controller belong together where the engine is the one that an item leaves
 pub fits_on : (e f : Progress) (s t : State) (m n : Device) (d : Done) → Fits e s → IsTaken (item_of e s) e s m d t n → f ≡ record e { next = d.next } → Fits f t
 fits_on e f s t m n d fits taken is =
     subst (λ (x : State). Fits f x) (sym taken.controller)

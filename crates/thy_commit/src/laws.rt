@@ -49,9 +49,9 @@ pub fn every_item_takes_a_cycle()
     ensures most { CyclesAreFew }
 {}
 
-/// Engine and controller belong together where no checkpoint is under way in either. They do so after every item, which leaves the engine sound, after a seal
-/// with which a checkpoint begins, and after every call of the controller in between, whether or not it failed: what was
-/// done stays so.
+/// Engine and controller belong together where no checkpoint is under way in either. They do so after every item, which leaves
+/// the engine sound, after a seal with which a checkpoint begins, and after every call of the controller in between, whether or
+/// not it failed: what was done stays so.
 pub fn engine_and_controller_fit()
     ensures idle { IdleFits }
     ensures items { ItemsFit }
