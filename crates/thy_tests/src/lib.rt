@@ -1,4 +1,4 @@
-//! Tests of the crates and of whole runs, by public calls.
+//! Tests of the crates, by their calls.
 #![tactic(auto)]
 
 #[cfg(test)]
@@ -36,17 +36,11 @@ mod flat;
 #[cfg(test)]
 mod geometry;
 #[cfg(test)]
-mod hart;
-#[cfg(test)]
 mod image;
 #[cfg(test)]
 mod isa;
 #[cfg(test)]
 mod isa_rows;
-#[cfg(test)]
-mod machine;
-#[cfg(test)]
-mod made;
 #[cfg(test)]
 mod memory;
 #[cfg(test)]
@@ -58,11 +52,7 @@ mod out_reader;
 #[cfg(test)]
 mod out_sink;
 #[cfg(test)]
-mod plain;
-#[cfg(test)]
 mod record;
-#[cfg(test)]
-mod runs;
 #[cfg(test)]
 mod starting;
 #[cfg(test)]
