@@ -1,4 +1,3 @@
 mod DrivenLemmas
 mod MemoryLemmas
-mod PoweredLemmas
 mod StartingLemmas

@@ -21,11 +21,11 @@ struct Copying {
 }
 
 impl BlockStore<()> for Copying {
-    ghost use Rattle.std.specs.Prelude.{◌≡◌, ◌≤◌, ◌-◌, ◌^◌, not, true, None, List, ℕ};
+    ghost use Rattle.std.specs.Prelude.{◌≡◌, ◌≤◌, not};
     ghost use Rattle.std.proofs.Common.{arith};
-    ghost use Rattle.thy_base.specs.Store.{Holding};
+    ghost use Rattle.thy_tests.specs.Copying.{copying};
 
-    ghost holding = { λ s n. record { blocks = s.blocks.items; faults = s.faults; free = 2 ^ 64 - 1; ready = true; open_page = None; owed = s.copies } };
+    ghost holding = { λ s n. copying s.blocks.items s.copies s.faults };
 
     ghost once = { λ a m b n. (b.turn ≡ not a.turn) × (a.faults ≤ b.faults) };
 

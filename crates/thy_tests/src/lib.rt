@@ -1,8 +1,8 @@
-//! Tests of the crates and of whole runs, by public calls. They promise nothing that is proved; they show what no
-//! contract says: tables from outside, printed text, and whole runs with their cuts.
+//! Tests of single crates, by their calls. They promise nothing that is proved; they show what no contract says: tables
+//! from outside, printed text, and rows worked out by hand.
 //!
-//! Open src/runs.rt first, then src/cuts.rt. specs/ has what is asked of the values that tests pass on. It stands on
-//! all crates but thy_ring, thy_core_model, thy_dual_model, thy_run and thynvm; nothing stands on it.
+//! Open src/lib.rt's list of files first, then the file of the crate in question. specs/ has what is asked of the values
+//! that tests pass on. It stands on the crates that it tests; nothing stands on it.
 #![tactic(auto)]
 
 #[cfg(test)]
@@ -40,17 +40,11 @@ mod flat;
 #[cfg(test)]
 mod geometry;
 #[cfg(test)]
-mod hart;
-#[cfg(test)]
 mod image;
 #[cfg(test)]
 mod isa;
 #[cfg(test)]
 mod isa_rows;
-#[cfg(test)]
-mod machine;
-#[cfg(test)]
-mod made;
 #[cfg(test)]
 mod memory;
 #[cfg(test)]
@@ -62,11 +56,7 @@ mod out_reader;
 #[cfg(test)]
 mod out_sink;
 #[cfg(test)]
-mod plain;
-#[cfg(test)]
 mod record;
-#[cfg(test)]
-mod runs;
 #[cfg(test)]
 mod starting;
 #[cfg(test)]

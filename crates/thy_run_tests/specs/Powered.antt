@@ -1,5 +1,5 @@
 -- A machine of a test whose power is on, with its device.
-use Rattle.std.specs.Prelude.{ℕ, ◌<◌, ◌^◌}
+use Rattle.std.specs.Prelude.{ℕ, ◌+◌, ◌≤◌, ◌<◌, ◌^◌, length}
 use Rattle.thy_base.specs.declared.config.Parameters.{Parameters}
 use Rattle.thy_base.specs.Bytes.{bytes_of}
 use Rattle.thy_base.specs.Device.{Device}
@@ -7,7 +7,6 @@ use Rattle.thy_isa.specs.Step.{state_of}
 use Rattle.thy_record.specs.declared.start.Start.{Start}
 use Rattle.thy_view.specs.Kind.{KindOf}
 use Rattle.thy_view.specs.Origin.{Origin}
-use Rattle.thy_tests.specs.Memory.{HasRoom}
 
 -- what a run from a start is about
 abbrev pub origin_from : Parameters → Start → Origin
@@ -24,6 +23,10 @@ pub record Powered (M : Type 0) : Type 0 where
 
 abbrev pub powered : {M : Type 0} → Parameters → Start → M → Device → ℕ → ℕ → Powered M
 powered p start m n cycles cuts = record { origin = origin_from p start; machine = m; nvm = n; cycles = cycles; cuts = cuts }
+
+-- the NVM has room for so many cuts
+abbrev pub HasRoom : Device → ℕ → Type 0
+HasRoom n cuts = length n.left + cuts ≤ n.left_room
 
 -- machine and device are at a moment of the run
 pub record IsPowered {M : Type 0} (K : KindOf M) (m : Powered M) : Type 0 where

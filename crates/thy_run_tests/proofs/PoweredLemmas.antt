@@ -1,5 +1,6 @@
 -- What the calls of a machine leave, with its device.
-use Rattle.std.proofs.Common.{◌≡◌, ℕ, ◌+◌, ◌-◌, ◌^◌, ◌<◌, None, [], sym, ◌∙◌, ap, subst, arith}
+use Rattle.std.proofs.Common.{◌≡◌, ℕ, ◌+◌, ◌-◌, ◌^◌, ◌≤◌, ◌<◌, None, List, [], ◌∷◌, ◌++◌, length, sym, ◌∙◌, ap, subst, arith}
+use Rattle.std.proofs.lemmas.List.{length-append}
 use Rattle.thy_base.specs.declared.config.Parameters.{Parameters}
 use Rattle.thy_base.specs.declared.mix.Pick.{Pick}
 use Rattle.thy_base.specs.declared.nvm.Shape.{Shape}
@@ -9,9 +10,18 @@ use Rattle.thy_view.specs.declared.did.Stepped.{Stepped}
 use Rattle.thy_view.specs.Booting.{found_first}
 use Rattle.thy_view.specs.Kind.{KindOf, IsLawful, IsStep, IsFittedFor}
 use Rattle.thy_view.specs.Origin.{Origin, IsOrigin}
-use Rattle.thy_tests.specs.Powered.{origin_from, powered, IsPowered}
-use Rattle.thy_tests.proofs.MemoryLemmas.{HasRoom-framed}
-use Rattle.thy_tests.proofs.StartingLemmas.{room-cut}
+use Rattle.thy_run_tests.specs.Powered.{HasRoom, origin_from, powered, IsPowered}
+
+-- the room for cuts stays but for a cut
+HasRoom-framed : (m n : Device) (cuts : ℕ) → HasRoom m cuts → IsFramed m n → HasRoom n cuts
+HasRoom-framed m n cuts room frame =
+    subst (λ (k : ℕ). length n.left + cuts ≤ k) (sym frame.left_room)
+    (subst (λ l. length l + cuts ≤ m.left_room) (sym frame.left) room)
+
+-- one image more is kept
+room-cut : {A : Type 0} (left : List A) (image : A) (room cuts : ℕ) → length left + cuts ≤ room → 0 < cuts
+    → length (left ++ image ∷ []) + (cuts - 1) ≤ room
+room-cut left image room cuts h some = grind (arith, h, some, length-append left (image ∷ []))
 
 -- a device of zeros is fitted for a start that was made from a file
 fits : {M : Type 0} (K : KindOf M) (laws : IsLawful K) → (o : Origin) (shape : Shape) (n : Device) → o.kept ≡ None → shape.blocks ≡ K.blocks o.geometry

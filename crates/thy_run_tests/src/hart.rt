@@ -30,10 +30,10 @@ struct Scarce {
 }
 
 impl BlockStore<()> for Scarce {
-    ghost use Rattle.std.specs.Prelude.{◌≡◌, not, true, None};
-    ghost use Rattle.thy_base.specs.Store.{Holding};
+    ghost use Rattle.std.specs.Prelude.{◌≡◌, not};
+    ghost use Rattle.thy_run_tests.specs.Scarce.{scarce};
 
-    ghost holding = { λ s n. record { blocks = s.blocks.items; faults = 0; free = s.free; ready = true; open_page = None; owed = s.copies } };
+    ghost holding = { λ s n. scarce s.blocks.items s.free s.copies };
 
     ghost once = { λ a m b n. b.turn ≡ not a.turn };
 
