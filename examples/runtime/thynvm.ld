@@ -15,6 +15,7 @@ SECTIONS
     .rodata : { *(.rodata .rodata.* .srodata .srodata.*) } :code
     . = ALIGN(4096);
     .data : { *(.data .data.*) } :data
+    . = ALIGN(16);
     .tdata : { __thread_pointer = .; *(.tdata .tdata.*) } :data
     .tbss (NOLOAD) : { *(.tbss .tbss.*) } :data
     . = . + SIZEOF(.tbss);

@@ -27,8 +27,11 @@ static int flush_out(FILE *file) {
 }
 
 static int put(char c, FILE *file) {
+    if (waiting == (int)sizeof out && flush_out(file) != 0) {
+        return EOF;
+    }
     out[waiting++] = c;
-    return waiting == (int)sizeof out && flush_out(file) != 0 ? -1 : (unsigned char)c;
+    return (unsigned char)c;
 }
 
 static int get(FILE *file) {
@@ -117,6 +120,5 @@ int main(void) {
         printf("%4u %s\n", sorted[i]->times, sorted[i]->text);
     }
     printf("%lu words\n", (unsigned long)count);
-    fflush(stdout);
-    return 0;
+    return fflush(stdout) == 0 ? 0 : 1;
 }
