@@ -17,7 +17,7 @@ TookPart-take old new bytes n grew rose =
 pub Took-append : (a b c : Stream) (first then : List ℕ) → Took a b first → Took b c then → Took a c (first ++ then)
 Took-append a b c first then one two = record {
   taken = λ had e. two.taken (had ++ first) (one.taken had e) ∙ ap Some (append_assoc had first then);
-  calm = cc;
+  faults = cc;
 }
 
 -- first these bytes, then some of those
@@ -27,7 +27,7 @@ TookPart-append a b c first then one two = record {
   rest = two.rest;
   split = ap (λ l. first ++ l) two.split ∙ sym (append_assoc first two.part two.rest);
   taken = λ had e. two.taken (had ++ first) (one.taken had e) ∙ ap Some (append_assoc had first two.part);
-  rose = record { no_less = omega (arith, one.calm, two.rose.no_less); more = omega (arith, one.calm, two.rose.more) };
+  rose = record { no_less = omega (arith, one.faults, two.rose.no_less); more = omega (arith, one.faults, two.rose.more) };
 }
 
 -- some of these bytes, and none of those that were to follow

@@ -19,7 +19,7 @@ Grew old new bytes = (had : List ℕ) → old ≡ Some had → new ≡ Some (had
 -- the sink took all of these bytes, with no fault
 pub record Took (old new : Stream) (bytes : List ℕ) : Type 0 where
   pub taken : Grew old.taken new.taken bytes
-  pub calm : new.faults ≡ old.faults
+  pub faults : new.faults ≡ old.faults
 
 -- the sink took the first of these bytes, then failed
 pub record TookPart (old new : Stream) (bytes : List ℕ) : Type 0 where

@@ -56,7 +56,7 @@ not_risen old new s r = absurd (omega (arith, s.same, s.counts, r.more))
 not_failed : {A : Type 0} (short failed : Bool) (settled text : List ℕ) (old new : Stream) → Stayed old.faults new.faults → Delivered short failed settled text old new
     → failed ≡ true → A
 not_failed {A} short true settled text old new s d e =
-    let first : d.middle.faults ≡ old.faults = d.took.calm in
+    let first : d.middle.faults ≡ old.faults = d.took.faults in
     not_risen old.faults new.faults s (subst (λ f. Rose f new.faults) first d.sent.0.rose)
 not_failed short false settled text old new s d e = absurd (cc)
 
@@ -133,34 +133,34 @@ begins_same source job stock s f =
 -- what is held is had, unless memory is short
 fetch_due : (old new : Stock) (files : Files) (name bytes : List ℕ) (text : _) (e : FetchError) → old.held ≡ Some files → IsHeld old name bytes → Stayed old.faults new.faults → FetchDue old new name e
     → refused_status (Fetch text e) ≡ 9
-fetch_due old new files name bytes text FetchFailed tells held calm due = not_risen old.faults new.faults calm due
-fetch_due old new files name bytes text NotThere tells held calm due =
+fetch_due old new files name bytes text FetchFailed tells held faults due = not_risen old.faults new.faults faults due
+fetch_due old new files name bytes text NotThere tells held faults due =
     let none : (files name ≡ None) × (new.faults ≡ old.faults) = subst (λ h. MatchOption h (Rose old.faults new.faults) (λ known. (known name ≡ None) × (new.faults ≡ old.faults))) tells due in
     let missing : files name ≡ None = none.0 in
     absurd (let there : files name ≡ Some bytes = held.1 files tells in cc)
-fetch_due old new files name bytes text TooLong tells held calm due =
+fetch_due old new files name bytes text TooLong tells held faults due =
     let long : IsTooLong (files name) =
     (subst (λ h. MatchOption h (Rose old.faults new.faults) (λ known. IsTooLong (known name) × (new.faults ≡ old.faults))) tells due).0 in
     let there : files name ≡ Some bytes = held.1 files tells in
     let same : long.0 ≡ bytes = (let found : files name ≡ Some long.0 = long.1 in cc) in
     absurd (omega (arith, held.0, long.2, ap length same))
-fetch_due old new files name bytes text (FetchMemory e) tells held calm due = refl
+fetch_due old new files name bytes text (FetchMemory e) tells held faults due = refl
 
 named_due : (source : Source) (job : Job) (old new : Stock) (text : _) (name : List ℕ) (e : FetchError) → Stands source job old → Stayed old.faults new.faults → name_of source ≡ Some name → FetchDue old new name e
     → refused_status (Fetch text e) ≡ 9
-named_due (file own) job old new text name e s calm is due =
+named_due (file own) job old new text name e s faults is due =
     let same : name ≡ own = (cc) in
-    fetch_due old new s.files own s.program.bytes text e s.tells s.program.had.had calm (subst (λ n. FetchDue old new n e) same due)
-named_due (image own) job old new text name e s calm is due =
+    fetch_due old new s.files own s.program.bytes text e s.tells s.program.had.had faults (subst (λ n. FetchDue old new n e) same due)
+named_due (image own) job old new text name e s faults is due =
     let same : name ≡ own = (cc) in
-    fetch_due old new s.files own s.program.bytes text e s.tells s.program.had.had calm (subst (λ n. FetchDue old new n e) same due)
-named_due (made n) job old new text name e s calm is due = absurd (cc)
+    fetch_due old new s.files own s.program.bytes text e s.tells s.program.had.had faults (subst (λ n. FetchDue old new n e) same due)
+named_due (made n) job old new text name e s faults is due = absurd (cc)
 
 wanted_due : (source : Source) (job : Job) (old new : Stock) (text : _) (name : List ℕ) (e : FetchError) → Stands source job old → Stayed old.faults new.faults → IsWanted source job old name → FetchDue old new name e
     → refused_status (Fetch text e) ≡ 9
-wanted_due source job old new text name e s calm (inl is) due = named_due source job old new text name e s calm is due
-wanted_due source job old new text name e s calm (inr had) due =
-    fetch_due old new s.files name s.program.input text e s.tells (subst (λ n. IsInput old n s.program.input) had.0 s.program.had.is_input) calm due
+wanted_due source job old new text name e s faults (inl is) due = named_due source job old new text name e s faults is due
+wanted_due source job old new text name e s faults (inr had) due =
+    fetch_due old new s.files name s.program.input text e s.tells (subst (λ n. IsInput old n s.program.input) had.0 s.program.had.is_input) faults due
 
 -- what means a program is not refused
 means_none : {A : Type 0} (source : Source) (job : Job) (stock : Stock) (r : Refusal) → Stands source job stock → IsMeant source job stock r → A
@@ -169,8 +169,8 @@ means_none source job stock r s (bytes, had, input, reads, means) =
     absurd (cc)
 
 device_due : (e : FitError) (n m : Device) → Stayed n.faults m.faults → HasFailedToFit e n m → refused_status (DeviceRefusal e) ≡ 9
-device_due FitFailed n m calm due = not_risen n.faults m.faults calm due.2
-device_due (FitMemory e) n m calm due = refl
+device_due FitFailed n m faults due = not_risen n.faults m.faults faults due.2
+device_due (FitMemory e) n m faults due = refl
 
 -- only for want of memory
 program_due : (source : Source) (job : Job) (old new : Stock) (r : Refusal) → Stands source job old → Stayed old.faults new.faults → ProgramDue source job old new r → refused_status r ≡ 9
@@ -184,8 +184,8 @@ program_due source job old new (DeviceRefusal e) s shelf due = absurd due
 program_due source job old new (MemoryRefusal e) s shelf due = refl
 
 run_due : (source : Source) (job : Job) (before after : Outside) (r : Refusal) → Stands source job before.shelf → IsCalm before after → RunDue source job before after r → refused_status r ≡ 9
-run_due source job before after (DeviceRefusal e) s calm due = device_due e before.device after.device calm.device due.2
-run_due source job before after r s calm due = program_due source job before.shelf after.shelf r s calm.shelf due.0
+run_due source job before after (DeviceRefusal e) s faults due = device_due e before.device after.device faults.device due.2
+run_due source job before after r s faults due = program_due source job before.shelf after.shelf r s faults.shelf due.0
 
 words_due : (words : List (List ℕ)) (order : Order) (e : WordsError) → settings_of words ≡ Ok order → WordsDue words e → refused_status (Words e) ≡ 9
 words_due words order Usage is due = absurd (cc)
@@ -200,13 +200,13 @@ order_same words a b e f = cc
 
 -- a shelf that did not fail took what was put on it, unless memory was short
 put_calm : {A : Type 0} (old new : Stock) → Stayed old.faults new.faults → PutCounted old new (Some PutFailed) → A
-put_calm old new calm rose = not_risen old.faults new.faults calm rose
+put_calm old new faults rose = not_risen old.faults new.faults faults rose
 
 save_calm : {A : Type 0} (name : Option (List ℕ)) (due : Bool) (c : Config) (n m : Device) (old new : Stock) → Stayed old.faults new.faults → SavesUnder name due c n m old new (Some PutFailed) → A
-save_calm (Some name) true c n m old new calm h = put_calm old new calm h.1.counted
-save_calm None true c n m old new calm h = absurd (let none : Some PutFailed ≡ None = h.2 in cc)
-save_calm None false c n m old new calm h = absurd (let none : Some PutFailed ≡ None = h.2 in cc)
-save_calm (Some name) false c n m old new calm h = absurd (let none : Some PutFailed ≡ None = h.2 in cc)
+save_calm (Some name) true c n m old new faults h = put_calm old new faults h.1.counted
+save_calm None true c n m old new faults h = absurd (let none : Some PutFailed ≡ None = h.2 in cc)
+save_calm None false c n m old new faults h = absurd (let none : Some PutFailed ≡ None = h.2 in cc)
+save_calm (Some name) false c n m old new faults h = absurd (let none : Some PutFailed ≡ None = h.2 in cc)
 
 -- the device's count after a save
 save_counts : (name : Option (List ℕ)) (due : Bool) (c : Config) (n m : Device) (old new : Stock) (why : Option PutError) → SavesUnder name due c n m old new why → m.faults ≡ n.faults
@@ -218,7 +218,7 @@ save_counts (Some name) false c n m old new why h = ap (λ (d : Device). d.fault
 -- ---- runs
 
 module _ {M : Type 0} (K : KindOf M) (source : Source) (job : Job) (k : ℕ) (before after : Outside) (a : Answer) (s : Stands source job before.shelf)
-    (calm : IsCalm before after) (over : is_running (left_alone s.program k).status ≡ false)
+    (faults : IsCalm before after) (over : is_running (left_alone s.program k).status ≡ false)
     (limit : cycles_for K (parameters_of job.config) job.config.cuts k ≤ job.config.limit) (h : IsRunOf K source job before after a) where
   abbrev o : Origin
   o = origin_for job h.program.begins h.program.input
@@ -273,14 +273,14 @@ module _ {M : Type 0} (K : KindOf M) (source : Source) (job : Job) (k : ℕ) (be
   by_stop (Ended status) is saved =
       inl (h.status ∙ ap (run_status h.ending.stop) saved ∙ ap stop_status is ∙ ap (λ x. stop_status (Ended x)) (told_end status (fits (Ended status) is).0))
   by_stop Memory is saved = inr (h.status ∙ ap (run_status h.ending.stop) saved ∙ ap stop_status is)
-  by_stop Terminal is saved = not_failed (is_memory h.ending.stop) h.ending.mute _ _ before.terminal after.terminal calm.terminal h.ran.shown_all (fits Terminal is).0
+  by_stop Terminal is saved = not_failed (is_memory h.ending.stop) h.ending.terminal_failed _ _ before.terminal after.terminal faults.terminal h.ran.shown_all (fits Terminal is).0
   by_stop Report is saved =
-      let deaf : h.ending.deaf ≡ true = (fits Report is).0 in
-      let closed : after.report ≡ h.told = subst (λ b. ClosesRun b lines h.told after.report) deaf h.closes in
-      not_failed false h.ending.deaf _ _ before.report h.told (subst (λ (x : Stream). Stayed before.report.faults x.faults) closed calm.report) h.ran.read_all deaf
+      let report_failed : h.ending.report_failed ≡ true = (fits Report is).0 in
+      let closed : after.report ≡ h.told = subst (λ b. ClosesRun b lines h.told after.report) report_failed h.closes in
+      not_failed false h.ending.report_failed _ _ before.report h.told (subst (λ (x : Stream). Stayed before.report.faults x.faults) closed faults.report) h.ran.read_all report_failed
   by_stop Nvm is saved =
       let same : after.device.faults ≡ h.stood.faults = save_counts job.save (saves h.ending.stop) job.config h.stood after.device before.shelf after.shelf h.why h.saved in
-      not_risen before.device.faults h.stood.faults (subst (Stayed before.device.faults) same calm.device) (fits Nvm is).0
+      not_risen before.device.faults h.stood.faults (subst (Stayed before.device.faults) same faults.device) (fits Nvm is).0
   by_stop Limit is saved =
       let reached : h.ending.cycles ≡ job.config.limit = (fits Limit is).0 in
       absurd (omega (arith, few, reached, h.cycles))
@@ -288,7 +288,7 @@ module _ {M : Type 0} (K : KindOf M) (source : Source) (job : Job) (k : ℕ) (be
   by_save : (why : Option PutError) → h.why ≡ why → TellsEnd last a
   by_save None is = by_stop h.ending.stop refl is
   by_save (Some PutFailed) is =
-      save_calm job.save (saves h.ending.stop) job.config h.stood after.device before.shelf after.shelf calm.shelf
+      save_calm job.save (saves h.ending.stop) job.config h.stood after.device before.shelf after.shelf faults.shelf
       (subst (SavesUnder job.save (saves h.ending.stop) job.config h.stood after.device before.shelf after.shelf) is h.saved)
   by_save (Some (PutMemory e)) is = inr (h.status ∙ ap (run_status h.ending.stop) is)
 
@@ -300,7 +300,7 @@ begun_count p (Ok contents) b is = let same : from_entry p contents ≡ b = (cc)
 begun_count p (Err e) b is = absurd (cc)
 
 module _ (name : List ℕ) (job : Job) (k : ℕ) (before after : Outside) (a : Answer) (s : Stands (file name) job before.shelf)
-    (calm : IsCalm before after) (over : is_running (left_alone s.program k).status ≡ false) (limit : k ≤ job.config.limit)
+    (faults : IsCalm before after) (over : is_running (left_alone s.program k).status ≡ false) (limit : k ≤ job.config.limit)
     (h : IsPlainOf name job before after a) where
   abbrev plain_at : Origin
   plain_at = origin_for job h.program.begins h.program.input
@@ -347,17 +347,17 @@ module _ (name : List ℕ) (job : Job) (k : ℕ) (before after : Outside) (a : A
   ended_stop (Exited v) e = refl
   ended_stop (Trapped v) e = refl
 
-  by_faults : (mute deaf : Bool) → h.mute ≡ mute → h.deaf ≡ deaf → TellsEnd (left_alone s.program k) a
-  by_faults mute true is_mute is_deaf =
-      let closed : after.report ≡ h.told = subst (λ b. ClosesRun b (stop_line job.config.limit (plain_stop h.mute h.deaf h.last.status)) h.told after.report) is_deaf h.closes in
+  by_faults : (terminal_failed report_failed : Bool) → h.terminal_failed ≡ terminal_failed → h.report_failed ≡ report_failed → TellsEnd (left_alone s.program k) a
+  by_faults terminal_failed true is_mute is_deaf =
+      let closed : after.report ≡ h.told = subst (λ b. ClosesRun b (stop_line job.config.limit (plain_stop h.terminal_failed h.report_failed h.last.status)) h.told after.report) is_deaf h.closes in
       let sent : Sent true before.report h.told (end_lines job h.last) = subst (λ b. Sent b before.report h.told (end_lines job h.last)) is_deaf h.read_all in
-      not_risen before.report.faults h.told.faults (subst (λ (x : Stream). Stayed before.report.faults x.faults) closed calm.report) sent.0.rose
+      not_risen before.report.faults h.told.faults (subst (λ (x : Stream). Stayed before.report.faults x.faults) closed faults.report) sent.0.rose
   by_faults true false is_mute is_deaf =
       let sent : Sent true before.terminal after.terminal h.last.console = subst (λ b. Sent b before.terminal after.terminal h.last.console) is_mute h.shown_all in
-      not_risen before.terminal.faults after.terminal.faults calm.terminal sent.0.rose
+      not_risen before.terminal.faults after.terminal.faults faults.terminal sent.0.rose
   by_faults false false is_mute is_deaf =
-      let stop : plain_stop h.mute h.deaf h.last.status ≡ Ended h.last.status =
-      ap (λ b. plain_stop b h.deaf h.last.status) is_mute ∙ ap (λ b. plain_stop false b h.last.status) is_deaf
+      let stop : plain_stop h.terminal_failed h.report_failed h.last.status ≡ Ended h.last.status =
+      ap (λ b. plain_stop b h.report_failed h.last.status) is_mute ∙ ap (λ b. plain_stop false b h.last.status) is_deaf
       ∙ ended_stop h.last.status (ap is_running last_status ∙ over) in
       inl (h.status ∙ ap stop_status stop ∙ ap (λ x. stop_status (Ended x)) last_status)
 
@@ -368,8 +368,8 @@ stands_of i = record { files = i.files; tells = i.tells; program = i.program }
 
 run_completes : {M : Type 0} (K : KindOf M) (words : List (List ℕ)) (before after : Outside) (a : Answer) (source : Source) (job : Job) (i : IsAsked (run_of source job) source job words before.shelf) (k : ℕ) → IsCalm before after
     → is_running (left_alone i.program k).status ≡ false → cycles_for K (parameters_of job.config) job.config.cuts k ≤ job.config.limit → RunAnswered K source job before after a → TellsEnd (left_alone i.program k) a
-run_completes K words before after a source job i k calm over limit (inl (r, due, refused)) = inr (refused.status ∙ run_due source job before after r (stands_of i) calm due)
-run_completes K words before after a source job i k calm over limit (inr ran) = by_save K source job k before after a (stands_of i) calm over limit ran ran.why refl
+run_completes K words before after a source job i k faults over limit (inl (r, due, refused)) = inr (refused.status ∙ run_due source job before after r (stands_of i) faults due)
+run_completes K words before after a source job i k faults over limit (inr ran) = by_save K source job k before after a (stands_of i) faults over limit ran ran.why refl
 
 -- the answer to the order of a run is that of its source
 order_answered : {M : Type 0} (K : KindOf M) (before after : Outside) (a : Answer) (source : Source) (job : Job) → OrderAnswered K (run_of source job) before after a → RunAnswered K source job before after a
@@ -379,38 +379,38 @@ order_answered K before after a (image name) job h = h
 
 -- an answer completes the run that is asked for
 pub Completes-run : {M : Type 0} (K : KindOf M) (words : List (List ℕ)) (before after : Outside) (a : Answer) → Answered K words before after a → RunCompletes K words before after a
-Completes-run K words before after a (inl (e, due, shelf, device, refused)) source job i k calm over limit = inr (refused.status ∙ words_due words (run_of source job) e i.asked due)
-Completes-run K words before after a (inr (order, asked, h)) source job i k calm over limit =
-    run_completes K words before after a source job i k calm over limit
+Completes-run K words before after a (inl (e, due, shelf, device, refused)) source job i k faults over limit = inr (refused.status ∙ words_due words (run_of source job) e i.asked due)
+Completes-run K words before after a (inr (order, asked, h)) source job i k faults over limit =
+    run_completes K words before after a source job i k faults over limit
     (order_answered K before after a source job (subst (λ x. OrderAnswered K x before after a) (order_same words (run_of source job) order i.asked asked) h))
 
 plain_completes : (words : List (List ℕ)) (before after : Outside) (a : Answer) (name : List ℕ) (job : Job) (i : IsAsked (plain name job) (file name) job words before.shelf) (k : ℕ) → IsCalm before after
     → is_running (left_alone i.program k).status ≡ false → k ≤ job.config.limit → PlainAnswered name job before after a → TellsEnd (left_alone i.program k) a
-plain_completes words before after a name job i k calm over limit (device, inl (r, due, refused)) =
-    inr (refused.status ∙ program_due (file name) job before.shelf after.shelf r (stands_of i) calm.shelf due)
-plain_completes words before after a name job i k calm over limit (device, inr ran) = by_faults name job k before after a (stands_of i) calm over limit ran ran.mute ran.deaf refl refl
+plain_completes words before after a name job i k faults over limit (device, inl (r, due, refused)) =
+    inr (refused.status ∙ program_due (file name) job before.shelf after.shelf r (stands_of i) faults.shelf due)
+plain_completes words before after a name job i k faults over limit (device, inr ran) = by_faults name job k before after a (stands_of i) faults over limit ran ran.terminal_failed ran.report_failed refl refl
 
 -- and the one on the plain machine
 pub Completes-plain : {M : Type 0} (K : KindOf M) (words : List (List ℕ)) (before after : Outside) (a : Answer) → Answered K words before after a → PlainCompletes words before after a
-Completes-plain K words before after a (inl (e, due, shelf, device, refused)) name job i k calm over limit = inr (refused.status ∙ words_due words (plain name job) e i.asked due)
-Completes-plain K words before after a (inr (order, asked, h)) name job i k calm over limit =
-    plain_completes words before after a name job i k calm over limit
+Completes-plain K words before after a (inl (e, due, shelf, device, refused)) name job i k faults over limit = inr (refused.status ∙ words_due words (plain name job) e i.asked due)
+Completes-plain K words before after a (inr (order, asked, h)) name job i k faults over limit =
+    plain_completes words before after a name job i k faults over limit
     (subst (λ x. OrderAnswered K x before after a) (order_same words (plain name job) order i.asked asked) h)
 
 -- a made program is put, unless memory was short
 make_told : (n : ℕ) (name : List ℕ) (before after : Outside) (a : Answer) (why : Option PutError) → IsCalm before after → a.status ≡ (made_told n name why).0 → PutCounted before.shelf after.shelf why
     → (a.status ≡ 0) ⊎ (a.status ≡ 9)
-make_told n name before after a None calm is counted = inl is
-make_told n name before after a (Some PutFailed) calm is counted = put_calm before.shelf after.shelf calm.shelf counted
-make_told n name before after a (Some (PutMemory e)) calm is counted = inr is
+make_told n name before after a None faults is counted = inl is
+make_told n name before after a (Some PutFailed) faults is counted = put_calm before.shelf after.shelf faults.shelf counted
+make_told n name before after a (Some (PutMemory e)) faults is counted = inr is
 
 make_completes : (n : ℕ) (name : List ℕ) (before after : Outside) (a : Answer) → IsCalm before after → MakeAnswered n name before after a → (a.status ≡ 0) ⊎ (a.status ≡ 9)
-make_completes n name before after a calm h = make_told n name before after a h.why calm h.status h.put.counted
+make_completes n name before after a faults h = make_told n name before after a h.why faults h.status h.put.counted
 
 pub Completes-make : {M : Type 0} (K : KindOf M) (words : List (List ℕ)) (before after : Outside) (a : Answer) → Answered K words before after a → MakeCompletes words before after a
-Completes-make K words before after a (inl (e, due, shelf, device, refused)) n name asked calm = inr (refused.status ∙ words_due words (make n name) e asked due)
-Completes-make K words before after a (inr (order, is, h)) n name asked calm =
-    make_completes n name before after a calm (subst (λ x. OrderAnswered K x before after a) (order_same words (make n name) order asked is) h)
+Completes-make K words before after a (inl (e, due, shelf, device, refused)) n name asked faults = inr (refused.status ∙ words_due words (make n name) e asked due)
+Completes-make K words before after a (inr (order, is, h)) n name asked faults =
+    make_completes n name before after a faults (subst (λ x. OrderAnswered K x before after a) (order_same words (make n name) order asked is) h)
 
 -- so what is claimed of a call follows from what its answer is
 pub Claim-answered : {M : Type 0} (K : KindOf M) (words : List (List ℕ)) (before after : Outside) (a : Answer) → Answered K words before after a → Claim K words before after a

@@ -46,11 +46,11 @@ stops_at job b contents input limit k is s = record {
     runs_is j = ap (λ (s : State). is_running s.status) (begun_steps job b input (start_state (parameters_of job.config) contents) j is refl)
 
 -- a program's run on the plain machine is that of its job
-pub IsPlainOf-ran : (name : List ℕ) (job : Job) (before after : Outside) (p : Program) (first last : Machine) (s : MachState) (limit k : ℕ) (mute deaf : Bool) (stop : Stop) (a : Answer) (told : Stream) → IsProgramOf (file name) job before.shelf p
+pub IsPlainOf-ran : (name : List ℕ) (job : Job) (before after : Outside) (p : Program) (first last : Machine) (s : MachState) (limit k : ℕ) (terminal_failed report_failed : Bool) (stop : Stop) (a : Answer) (told : Stream) → IsProgramOf (file name) job before.shelf p
     → after.shelf ≡ before.shelf → first ≡ loaded p.geometry (contents_of p.image) (bytes_of p.input) → limit ≡ p.geometry.limit → MachineStops first limit k → last ≡ after_steps k first → state_of s ≡ last.state
-    → Sent mute before.terminal after.terminal (bytes_of s.console) → Sent deaf before.report told (ended_lines job.digest s.status s.count (bytes_of s.memory)) → stop ≡ plain_stop mute deaf s.status
-    → ClosesRun deaf (stop_line limit stop) told after.report → a.events ≡ [] → a.cycles ≡ k → a.status ≡ stop_status stop → IsPlainOf name job before after a
-IsPlainOf-ran name job before after p first last s limit k mute deaf stop a told program calm is bound stops done state shown read why closes events cycles status =
+    → Sent terminal_failed before.terminal after.terminal (bytes_of s.console) → Sent report_failed before.report told (ended_lines job.digest s.status s.count (bytes_of s.memory)) → stop ≡ plain_stop terminal_failed report_failed s.status
+    → ClosesRun report_failed (stop_line limit stop) told after.report → a.events ≡ [] → a.cycles ≡ k → a.status ≡ stop_status stop → IsPlainOf name job before after a
+IsPlainOf-ran name job before after p first last s limit k terminal_failed report_failed stop a told program faults is bound stops done state shown read why closes events cycles status =
     let contents : Contents = contents_of p.image in
     let input : List ℕ = program.program.input in
     let plain_start : Machine = loaded (parameters_of job.config) contents input in
@@ -59,18 +59,18 @@ IsPlainOf-ran name job before after p first last s limit k mute deaf stop a told
     let most : limit ≡ job.config.limit = bound ∙ ap (λ (q : Parameters). q.limit) program.geometry in
     record {
       program = program.program;
-      shelf = calm;
+      shelf = faults;
       stops = subst (StopsAt (origin_for job program.program.begins input) job.config.limit) (sym cycles)
           (stops_at job program.program.begins contents input job.config.limit k begins (subst (λ l. MachineStops plain_start l k) most (subst (λ m. MachineStops m limit k) start stops)));
       last = state_of s;
       is_last = state ∙ ap (λ (m : Machine). m.state) (done ∙ ap (after_steps k) start ∙ ap (λ j. after_steps j plain_start) (sym cycles))
           ∙ sym (begun_steps job program.program.begins input (start_state (parameters_of job.config) contents) a.cycles begins refl);
-      mute = mute;
-      deaf = deaf;
+      terminal_failed = terminal_failed;
+      report_failed = report_failed;
       shown_all = shown;
       told = told;
       read_all = read;
-      closes = subst (λ l. ClosesRun deaf (stop_line l (plain_stop mute deaf s.status)) told after.report) most (subst (λ x. ClosesRun deaf (stop_line limit x) told after.report) why closes);
+      closes = subst (λ l. ClosesRun report_failed (stop_line l (plain_stop terminal_failed report_failed s.status)) told after.report) most (subst (λ x. ClosesRun report_failed (stop_line limit x) told after.report) why closes);
       status = status ∙ ap stop_status why;
       events = events;
     }

@@ -117,13 +117,13 @@ finished_by K o given k last events n Nvm ran (inl failed) = record { last = las
 finished_by K o given k last events n Nvm ran (inr f) = record {
   last = last;
   ran = ran;
-  ends = inr (inr (record { next = f.next; steps = f.steps; part = f.part; rest = f.rest; told = f.told; split = f.split; unended = f.unended; why = inr f.why }));
+  ends = inr (inr (record { next = f.next; steps = f.steps; part = f.part; rest = f.rest; grew = f.grew; split = f.split; unended = f.unended; why = inr f.why }));
 }
 finished_by K o given k last events n Memory ran (inl none) = record { last = last; ran = ran; ends = inl none.1 }
 finished_by K o given k last events n Memory ran (inr f) = record {
   last = last;
   ran = ran;
-  ends = inr (inr (record { next = f.next; steps = f.steps; part = f.part; rest = f.rest; told = f.told; split = f.split; unended = f.unended; why = inl f.why.0 }));
+  ends = inr (inr (record { next = f.next; steps = f.steps; part = f.part; rest = f.rest; grew = f.grew; split = f.split; unended = f.unended; why = inl f.why.0 }));
 }
 finished_by K o given k last events n Terminal ran ends = record { last = last; ran = ran; ends = inl ends }
 finished_by K o given k last events n Report ran ends = record { last = last; ran = ran; ends = inl ends }
@@ -201,7 +201,7 @@ pub IsRunOf-ran : {M : Type 0} (K : KindOf M) (laws : IsLawful K) → (source : 
     → d ≡ fitted shape blocks before.device → shape.blocks ≡ K.blocks plan.geometry → shape.queue ≡ plan.geometry.nvmq → shape.cuts ≡ length plan.config.cuts
     → RunEnds K plan d stood e before.terminal after.terminal before.report told
     → SavesUnder save (saves e.stop) plan.config stood after.device before.shelf after.shelf why
-    → ClosesRun e.deaf (summary_for source e.stop e.events ++ run_line plan.geometry.limit save e.stop why) told after.report
+    → ClosesRun e.report_failed (summary_for source e.stop e.events ++ run_line plan.geometry.limit save e.stop why) told after.report
     → a.events ≡ e.events → a.cycles ≡ e.cycles → a.status ≡ run_status e.stop why → IsRunOf K source job before after a
 IsRunOf-ran K laws source job save before after plan blocks d stood shape e a told why can p names fit many queue cuts ends saved closes events cycles status =
     let o : Origin = origin_for job p.program.begins p.program.input in
@@ -225,9 +225,9 @@ IsRunOf-ran K laws source job save before after plan blocks d stood shape e a to
       why = why;
       saved = put;
       closes =
-          subst (λ l. ClosesRun e.deaf (summary_for source e.stop e.events ++ run_line l job.save e.stop why) told after.report)
+          subst (λ l. ClosesRun e.report_failed (summary_for source e.stop e.events ++ run_line l job.save e.stop why) told after.report)
           (ap (λ (x : Parameters). x.limit) (planned_numbers source job before.shelf plan blocks p))
-          (subst (λ n. ClosesRun e.deaf (summary_for source e.stop e.events ++ run_line plan.geometry.limit n e.stop why) told after.report) (sym names) closes);
+          (subst (λ n. ClosesRun e.report_failed (summary_for source e.stop e.events ++ run_line plan.geometry.limit n e.stop why) told after.report) (sym names) closes);
       events = events;
       cycles = cycles;
       status = status;

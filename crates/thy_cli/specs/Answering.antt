@@ -157,7 +157,7 @@ summary_for (made n) (Ended (Exited value)) events = summary_of events
 summary_for source stop events = []
 
 -- the report takes the last lines, or fails in them; one that failed before gets no more
-abbrev pub ClosesRun : (deaf : Bool) → List ℕ → Stream → Stream → Type 0
+abbrev pub ClosesRun : (report_failed : Bool) → List ℕ → Stream → Stream → Type 0
 ClosesRun false lines old new = Closes lines old new
 ClosesRun true lines old new = new ≡ old
 
@@ -178,7 +178,7 @@ pub record IsRunOf {M : Type 0} (K : KindOf M) (source : Source) (job : Job) (be
   -- why it was not saved, if it was to be and was not
   pub why : Option PutError
   pub saved : SavesUnder job.save (saves ending.stop) job.config stood after.device before.shelf after.shelf why
-  pub closes : ClosesRun ending.deaf
+  pub closes : ClosesRun ending.report_failed
       (summary_for source ending.stop ending.events ++ run_line job.config.limit job.save ending.stop why) told after.report
   pub events : a.events ≡ ending.events
   pub cycles : a.cycles ≡ ending.cycles
@@ -190,8 +190,8 @@ pub record IsRunOf {M : Type 0} (K : KindOf M) (source : Source) (job : Job) (be
 -- ---- the plain machine
 
 -- why the plain machine stopped: for a sink that failed, else by its status
-abbrev pub plain_stop : (mute deaf : Bool) → Status → Stop
-plain_stop mute true status = Report
+abbrev pub plain_stop : (terminal_failed report_failed : Bool) → Status → Stop
+plain_stop terminal_failed true status = Report
 plain_stop true false status = Terminal
 plain_stop false false Running = Limit
 plain_stop false false status = Ended status
@@ -214,13 +214,13 @@ pub record IsPlainOf (name : List ℕ) (job : Job) (before after : Outside) (a :
   pub stops : StopsAt (origin_for job program.begins program.input) job.config.limit a.cycles
   pub last : State
   pub is_last : last ≡ at (origin_for job program.begins program.input) a.cycles
-  pub mute : Bool
-  pub deaf : Bool
-  pub shown_all : Sent mute before.terminal after.terminal last.console
+  pub terminal_failed : Bool
+  pub report_failed : Bool
+  pub shown_all : Sent terminal_failed before.terminal after.terminal last.console
   pub told : Stream
-  pub read_all : Sent deaf before.report told (end_lines job last)
-  pub closes : ClosesRun deaf (stop_line job.config.limit (plain_stop mute deaf last.status)) told after.report
-  pub status : a.status ≡ stop_status (plain_stop mute deaf last.status)
+  pub read_all : Sent report_failed before.report told (end_lines job last)
+  pub closes : ClosesRun report_failed (stop_line job.config.limit (plain_stop terminal_failed report_failed last.status)) told after.report
+  pub status : a.status ≡ stop_status (plain_stop terminal_failed report_failed last.status)
   pub events : a.events ≡ []
 
 -- ---- the made program

@@ -102,7 +102,7 @@ pub fn answer<R: Sink>(
     limit: u64,
     report: &mut R,
 ) -> Answer
-    ensures closes { ClosesRun ending.deaf
+    ensures closes { ClosesRun ending.report_failed
         (summary_for (named source.entry) ending.stop ending.events
         ++ run_line limit (option_map (λ n. n.now) save.entry) ending.stop why)
         (R.stream report.old) (R.stream report.new) }
@@ -110,7 +110,7 @@ pub fn answer<R: Sink>(
     ensures cycles { result.cycles ≡ ending.cycles }
     ensures status { result.status ≡ run_status ending.stop why }
 {
-    if !ending.deaf {
+    if !ending.report_failed {
         close_run(source, save, &ending, why, limit, report);
     }
     Answer {

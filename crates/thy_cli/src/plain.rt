@@ -33,13 +33,13 @@ fn write_end<R: Sink>(state: &MachState, digest: bool, report: &mut R) -> bool
 }
 
 /// Why the plain machine stopped: for a sink that failed, else by its status.
-fn plain_stop(mute: bool, deaf: bool, status: Status) -> Stop
-    ensures { result ≡ plain_stop mute deaf status }
+fn plain_stop(terminal_failed: bool, report_failed: bool, status: Status) -> Stop
+    ensures { result ≡ plain_stop terminal_failed report_failed status }
 {
-    if deaf {
+    if report_failed {
         return Stop::Report;
     }
-    if mute {
+    if terminal_failed {
         return Stop::Terminal;
     }
     match status {
@@ -60,7 +60,7 @@ fn plain_program<'a, H: Shelf>(
     ensures refusal { (job : JobValue) → IsPlannedFor job geometry (option_map (λ n. n.now) input.entry)
         → IfErr result (ProgramDue (file name.now) job (H.stock shelf.old) (H.stock shelf.new)) }
     ensures held { (H.stock shelf.new).held ≡ (H.stock shelf.old).held }
-    ensures calm { OnOk result ((H.stock shelf.new).faults ≡ (H.stock shelf.old).faults) }
+    ensures faults { OnOk result ((H.stock shelf.new).faults ≡ (H.stock shelf.old).faults) }
     ensures program { (job : JobValue) → IsPlannedFor job geometry (option_map (λ n. n.now) input.entry)
         → IfOk result (λ p. IsProgramOf (file name.now) job (H.stock shelf.old) p) }
     ensures size { IfOk result (λ p. length (bytes_of p.image.memory) ≡ program_size p.geometry) }
@@ -108,14 +108,14 @@ fn run_plain<'a, H: Shelf, T: Sink, R: Sink>(
         Ok(mut machine) => {
             let cycles = machine.run(limit);
             let state = machine.state();
-            let mute = write_bytes(state.console.as_slice(), terminal);
-            let deaf = write_end(state, digest, report);
+            let terminal_failed = write_bytes(state.console.as_slice(), terminal);
+            let report_failed = write_end(state, digest, report);
             let ending = Ending {
-                stop: plain_stop(mute, deaf, state.status),
+                stop: plain_stop(terminal_failed, report_failed, state.status),
                 events: Events::new(alloc),
                 cycles,
-                mute,
-                deaf,
+                terminal_failed,
+                report_failed,
             };
             answer(Source::File(name), None, ending, None, limit, report)
         }

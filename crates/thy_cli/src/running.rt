@@ -34,7 +34,7 @@ fn prepare<'a, H: Shelf>(
     ensures refusal { (job : JobValue) → IsPlannedFor job geometry (option_map (λ n. n.now) input.entry)
         → IfErr result (ProgramDue (named source.entry) job (H.stock shelf.old) (H.stock shelf.new)) }
     ensures held { (H.stock shelf.new).held ≡ (H.stock shelf.old).held }
-    ensures calm { OnOk result ((H.stock shelf.new).faults ≡ (H.stock shelf.old).faults) }
+    ensures faults { OnOk result ((H.stock shelf.new).faults ≡ (H.stock shelf.old).faults) }
     ensures begins { (job : JobValue) → IsPlannedFor job geometry (option_map (λ n. n.now) input.entry)
         → IfOk result (λ b. Begins (named source.entry) job (H.stock shelf.old) b) }
 {

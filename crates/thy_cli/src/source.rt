@@ -45,7 +45,7 @@ pub struct Program {
 fn fetch<'a, H: Shelf>(alloc: Global, name: &'a str, shelf: &mut H) -> Result<Bytes, Refusal<'a>>
     ensures refusal { IfErr result (IsNotHad name.now (H.stock shelf.old) (H.stock shelf.new)) }
     ensures held { (H.stock shelf.new).held ≡ (H.stock shelf.old).held }
-    ensures calm { OnOk result ((H.stock shelf.new).faults ≡ (H.stock shelf.old).faults) }
+    ensures faults { OnOk result ((H.stock shelf.new).faults ≡ (H.stock shelf.old).faults) }
     ensures bytes { IfOk result (λ b. IsHeld (H.stock shelf.old) name.now (bytes_of b)) }
 {
     match shelf.fetch(alloc, name, MOST_BYTES) {
@@ -63,7 +63,7 @@ fn source_bytes<'a, H: Shelf>(
     ensures refusal { (job : Job) →
         IfErr result (ProgramDue (named source.entry) job (H.stock shelf.old) (H.stock shelf.new)) }
     ensures held { (H.stock shelf.new).held ≡ (H.stock shelf.old).held }
-    ensures calm { OnOk result ((H.stock shelf.new).faults ≡ (H.stock shelf.old).faults) }
+    ensures faults { OnOk result ((H.stock shelf.new).faults ≡ (H.stock shelf.old).faults) }
     ensures bytes { IfOk result (λ b.
         AreBytesOf (named source.entry) (H.stock shelf.old) (bytes_of b)) }
 {
@@ -86,7 +86,7 @@ fn input_bytes<'a, H: Shelf>(
         → job.input ≡ option_map (λ n. n.now) name.entry → AreBytesOf source (H.stock shelf.old) bytes
         → IfErr result (ProgramDue source job (H.stock shelf.old) (H.stock shelf.new)) }
     ensures held { (H.stock shelf.new).held ≡ (H.stock shelf.old).held }
-    ensures calm { OnOk result ((H.stock shelf.new).faults ≡ (H.stock shelf.old).faults) }
+    ensures faults { OnOk result ((H.stock shelf.new).faults ≡ (H.stock shelf.old).faults) }
     ensures input { IfOk result (λ b.
         IsInput (H.stock shelf.old) (option_map (λ n. n.now) name.entry) (bytes_of b)) }
 {
@@ -106,7 +106,7 @@ pub fn fetch_both<'a, H: Shelf>(
     ensures refusal { (job : Job) → job.input ≡ option_map (λ n. n.now) input.entry
         → IfErr result (ProgramDue (named source.entry) job (H.stock shelf.old) (H.stock shelf.new)) }
     ensures held { (H.stock shelf.new).held ≡ (H.stock shelf.old).held }
-    ensures calm { OnOk result ((H.stock shelf.new).faults ≡ (H.stock shelf.old).faults) }
+    ensures faults { OnOk result ((H.stock shelf.new).faults ≡ (H.stock shelf.old).faults) }
     ensures had { (job : Job) → job.input ≡ option_map (λ n. n.now) input.entry
         → IfOk result (λ h. IsHad (named source.entry) job (H.stock shelf.old) (bytes_of h.bytes) (bytes_of h.input)) }
 {

@@ -24,7 +24,7 @@ use Rattle.thy_run.specs.Laws.{released_of}
 use Rattle.thy_run.specs.Cuts.{is_end}
 use Rattle.thy_run.specs.Due.{due_of, is_told, shows_console, IsQuiet, IsTold}
 use Rattle.thy_run.specs.Unfinished.{TellingFailed, ReadFailed, LeftAlone}
-use Rattle.thy_run.specs.World.{World, seen, told, reload_told, end_told, events_of, stepped, Steps, is_due, IsCutOff, tear}
+use Rattle.thy_run.specs.World.{World, seen, did_told, reload_told, end_told, events_of, after_step, TakesStep, is_due, IsCutOff, tear}
 use Rattle.thy_run.proofs.ConsoleLaws.{released-cut, released-stepped, released-part, length-released}
 use Rattle.thy_run.proofs.GatherLemmas.{due_hidden}
 use Rattle.thy_run.proofs.NoteLemmas.{events_due, told_or_halts}
@@ -37,11 +37,11 @@ use Rattle.thy_run.specs.Going.{origin_of, given_of, world_at, IsPlanned, GoesOn
 use Rattle.thy_run.specs.Endings.{EndsWith}
 use Rattle.thy_run.specs.Stopping.{stop_of}
 use Rattle.thy_base.proofs.RangeLemmas.{epoch_least}
-use Rattle.thy_run.proofs.StepFrames.{Steps-framed}
+use Rattle.thy_run.proofs.StepFrames.{TakesStep-framed}
 
 -- the progress after a step of the machine
 pub progress_stepped : {M : Type 0} → (p : Progress M) (m : M) (mix : Mix) → mix ≡ mix_next p.mix
-    → record { machine = m; mix = mix; events = p.events; passed = p.passed; released = p.released; fresh = p.fresh; mute = p.mute; deaf = p.deaf } ≡ record p { machine = m; mix = mix_next p.mix }
+    → record { machine = m; mix = mix; events = p.events; passed = p.passed; released = p.released; fresh = p.fresh; terminal_failed = p.terminal_failed; report_failed = p.report_failed } ≡ record p { machine = m; mix = mix_next p.mix }
 progress_stepped p m mix is = ap (λ x. record p { machine = m; mix = x }) is
 
 -- what holds of a run that goes on
@@ -107,11 +107,11 @@ module _ {M : Type 0} (K : KindOf M) (laws : IsLawful K) (plan : Plan) (p q : Pr
     };
     released = noted.released;
     releases = noted.releases;
-    told = (_, told_all);
-    room = (Steps-framed K (origin_of plan) _ _ noted.steps).left_room;
-    calm = noted.calm;
-    spoken = noted.spoken;
-    heard = noted.heard;
+    grew = (_, told_all);
+    room = (TakesStep-framed K (origin_of plan) _ _ noted.steps).left_room;
+    faults = noted.faults;
+    on_terminal = noted.on_terminal;
+    on_report = noted.on_report;
   }
 
   -- the step ended the run
@@ -122,7 +122,7 @@ module _ {M : Type 0} (K : KindOf M) (laws : IsLawful K) (plan : Plan) (p q : Pr
       let next : View = seen K (origin_of plan) (world_at q m (k + 1)) in
       let end : IsEnd (origin_of plan) v next (Some status) = subst (IsEnd (origin_of plan) v next) is noted.is_end in
       let halt : is_halt next.phase ≡ true = halted_next (is_halt v.phase) (is_halt next.phase) end.0 in
-      let first : List Event = reload_told p.fresh next ++ told (origin_of plan) noted.steps.r.did (k + 1) in
+      let first : List Event = reload_told p.fresh next ++ did_told (origin_of plan) noted.steps.r.did (k + 1) in
       let told_last : end_told (origin_of plan) v next (k + 1) ≡ EndedEvent status next.count (k + 1) (at (origin_of plan) next.count) ∷ [] =
       end_told-halted (origin_of plan) v next (k + 1) end.0 ∙ ap (λ x. EndedEvent x next.count (k + 1) (at (origin_of plan) next.count) ∷ []) (sym end.1) in
       let ends : EndsWith q.events status = record {
@@ -190,11 +190,11 @@ module _ {M : Type 0} (K : KindOf M) (laws : IsLawful K) (plan : Plan) (p q : Pr
           };
           released = ap (λ (y : Progress M). y.released) cut.same ∙ noted.released ∙ ap length (sym releases);
           releases = releases ∙ noted.releases;
-          told = (_, events ∙ ap (λ (l : List Event). l ++ Cut (q.passed + 1) cycle ∷ []) told_all ∙ append_assoc p.events _ (Cut (q.passed + 1) cycle ∷ []));
-          room = ap (λ (d : Device). d.left_room) device ∙ (Steps-framed K (origin_of plan) _ _ noted.steps).left_room;
-          calm = ap (λ (d : Device). d.faults) device ∙ noted.calm;
-          spoken = ap (λ (y : Progress M). y.mute) cut.same ∙ noted.spoken;
-          heard = ap (λ (y : Progress M). y.deaf) cut.same ∙ noted.heard;
+          grew = (_, events ∙ ap (λ (l : List Event). l ++ Cut (q.passed + 1) cycle ∷ []) told_all ∙ append_assoc p.events _ (Cut (q.passed + 1) cycle ∷ []));
+          room = ap (λ (d : Device). d.left_room) device ∙ (TakesStep-framed K (origin_of plan) _ _ noted.steps).left_room;
+          faults = ap (λ (d : Device). d.faults) device ∙ noted.faults;
+          on_terminal = ap (λ (y : Progress M). y.terminal_failed) cut.same ∙ noted.on_terminal;
+          on_report = ap (λ (y : Progress M). y.report_failed) cut.same ∙ noted.on_report;
         },
         ap (λ v. is_halt v.phase) found ∙ image_going (origin_of plan).start.count (K.decode (origin_of plan).geometry ceiling m'.image),
       )
@@ -211,7 +211,7 @@ module _ {M : Type 0} (K : KindOf M) (laws : IsLawful K) (plan : Plan) (p q : Pr
         steps = noted.steps;
         part = _;
         rest = [];
-        told = told_all;
+        grew = told_all;
         split = sym (append-nil q.events);
         unended = events_end (origin_of plan) p.fresh v noted.steps.r.did next (k + 1) ∙ end;
         why = (refl, inr (due_both (is_halt next.phase) _ (going_on is) due));
@@ -219,11 +219,11 @@ module _ {M : Type 0} (K : KindOf M) (laws : IsLawful K) (plan : Plan) (p q : Pr
       let broken : IsBroken K plan p q n m k bytes = record {
         rest = [];
         releases = noted.releases ∙ sym (append-nil (released_of (origin_of plan) p.events ++ bytes));
-        told = (_, told_all);
-        spoken = noted.spoken;
-        heard = noted.heard;
+        grew = (_, told_all);
+        on_terminal = noted.on_terminal;
+        on_report = noted.on_report;
       } in
-      let here : IsBroken K plan p q n m k bytes × Breaks K plan p q n m k bytes Memory = (broken, (telling, noted.calm)) in
+      let here : IsBroken K plan p q n m k bytes × Breaks K plan p q n m k bytes Memory = (broken, (telling, noted.faults)) in
       subst (λ (y : Progress M). IsBroken K plan p y n m' k bytes × Breaks K plan p y n m' k bytes Memory) (sym same)
       (subst (λ (d : Device). IsBroken K plan p q n d k bytes × Breaks K plan p q n d k bytes Memory) (sym device) here)
 
@@ -232,8 +232,8 @@ module _ {M : Type 0} (K : KindOf M) (laws : IsLawful K) (plan : Plan) (p q : Pr
       → (nat_lt q.passed (length plan.config.cuts) && slice_index plan.config.cuts q.passed == cycle) ≡ true → CanCut K plan q m
   can_cut fitted cycle planned g due =
       let few : q.passed < length plan.config.cuts = ltb-true q.passed (length plan.config.cuts) (and_parts (nat_lt q.passed (length plan.config.cuts)) _ due).0 in
-      let left : length m.left ≡ q.passed = ap length (Steps-framed K (origin_of plan) _ _ noted.steps).left ∙ (good_of K plan fitted p n k planned g).stands.left ∙ sym passed_same in
-      let room : m.left_room ≡ length plan.config.cuts + 1 = (Steps-framed K (origin_of plan) _ _ noted.steps).left_room ∙ g.room in
+      let left : length m.left ≡ q.passed = ap length (TakesStep-framed K (origin_of plan) _ _ noted.steps).left ∙ (good_of K plan fitted p n k planned g).stands.left ∙ sym passed_same in
+      let room : m.left_room ≡ length plan.config.cuts + 1 = (TakesStep-framed K (origin_of plan) _ _ noted.steps).left_room ∙ g.room in
       record { cycles = k + 1; at_moment = noted.steps.is_step.at_next; room = omega (arith, left, room, few); few = few }
 
 -- ---- a step and its events
@@ -266,7 +266,7 @@ IsNoted-made {M = M} K laws plan fitted p q t n m k r ended bytes planned g s ma
     let events_q : q.events ≡ p.events = ap (λ (y : Progress M). y.events) s.same in
     let fresh_q : q.fresh ≡ p.fresh = ap (λ (y : Progress M). y.fresh) s.same in
     let machine_t : t.machine ≡ q.machine = ap (λ (y : Progress M). y.machine) same in
-    let steps : Steps K o (world_at p n k) (world_at (record q { events = t.events; released = t.released; fresh = false }) m (k + 1)) = record {
+    let steps : TakesStep K o (world_at p n k) (world_at (record q { events = t.events; released = t.released; fresh = false }) m (k + 1)) = record {
       r = r;
       going = g.going;
       is_step = s.is_step;
@@ -285,9 +285,9 @@ IsNoted-made {M = M} K laws plan fitted p q t n m k r ended bytes planned g s ma
       released = released ∙ ap (λ c. c + length bytes) (ap (λ (y : Progress M). y.released) s.same ∙ g.released)
           ∙ sym (length-append (released_of o p.events) bytes) ∙ ap length (sym releases);
       releases = releases;
-      calm = s.calm;
-      spoken = ap (λ (y : Progress M). y.mute) s.same;
-      heard = ap (λ (y : Progress M). y.deaf) s.same;
+      faults = s.faults;
+      on_terminal = ap (λ (y : Progress M). y.terminal_failed) s.same;
+      on_report = ap (λ (y : Progress M). y.report_failed) s.same;
     } in
     subst (λ (y : Progress M). IsNoted K plan p y n m k ended bytes) (sym same) now
 
@@ -303,28 +303,28 @@ IsBroken-made {M = M} K laws plan fitted p q t n m k r planned g s some same =
     let fresh_q : q.fresh ≡ p.fresh = ap (λ (y : Progress M). y.fresh) s.same in
     let all : List Event = events_of o p.fresh v r.did (K.view o q.machine m) (k + 1) in
     let split : all ≡ some.part ++ some.rest = ap (λ b. events_of o b v r.did (K.view o q.machine m) (k + 1)) (sym fresh_q) ∙ some.split in
-    let next : World M = stepped K o (world_at p n k) q.machine m r.did in
-    let steps : Steps K o (world_at p n k) next = record { r = r; going = g.going; is_step = s.is_step; next_is = refl } in
-    let told : t.events ≡ p.events ++ some.part = some.told ∙ ap (λ (l : List Event). l ++ some.part) events_q in
+    let next : World M = after_step K o (world_at p n k) q.machine m r.did in
+    let steps : TakesStep K o (world_at p n k) next = record { r = r; going = g.going; is_step = s.is_step; next_is = refl } in
+    let did_told : t.events ≡ p.events ++ some.part = some.grew ∙ ap (λ (l : List Event). l ++ some.part) events_q in
     let more = released-part K o (world_at p n k) next (epoch_least (origin_of plan).geometry planned.origin.geometry) good.stands steps some.part some.rest (sym split) in
     let telling : TellingFailed K o (world_at p n k) t.events (LeftAlone K o plan.config.cuts m) = record {
       next = next;
       steps = steps;
       part = some.part;
       rest = some.rest;
-      told = told;
-      split = ap (λ (l : List Event). p.events ++ l) split ∙ sym (append_assoc p.events some.part some.rest) ∙ ap (λ (l : List Event). l ++ some.rest) (sym told);
+      grew = did_told;
+      split = ap (λ (l : List Event). p.events ++ l) split ∙ sym (append_assoc p.events some.part some.rest) ∙ ap (λ (l : List Event). l ++ some.rest) (sym did_told);
       unended = some.unended;
       why = (refl, inl some.some);
     } in
     let broken : IsBroken K plan p t n m k [] = record {
       rest = more.0;
-      releases = ap (released_of o) told ∙ more.1 ∙ ap (λ (l : List ℕ). l ++ more.0) (sym (append-nil (released_of o p.events)));
-      told = (some.part, told);
-      spoken = ap (λ (y : Progress M). y.mute) same ∙ ap (λ (y : Progress M). y.mute) s.same;
-      heard = ap (λ (y : Progress M). y.deaf) same ∙ ap (λ (y : Progress M). y.deaf) s.same;
+      releases = ap (released_of o) did_told ∙ more.1 ∙ ap (λ (l : List ℕ). l ++ more.0) (sym (append-nil (released_of o p.events)));
+      grew = (some.part, did_told);
+      on_terminal = ap (λ (y : Progress M). y.terminal_failed) same ∙ ap (λ (y : Progress M). y.terminal_failed) s.same;
+      on_report = ap (λ (y : Progress M). y.report_failed) same ∙ ap (λ (y : Progress M). y.report_failed) s.same;
     } in
-    (broken, (telling, s.calm))
+    (broken, (telling, s.faults))
 
 -- a read failed before any event was made
 pub IsBroken-read : {M : Type 0} (K : KindOf M) (laws : IsLawful K) → (plan : Plan) (fitted : Device) (p q : Progress M) (n m m' : Device) (k : ℕ) (r : Stepped) (e : CoreError) → IsPlanned plan → GoesOn K plan fitted p n k → IsStepped K plan p q n m k r
@@ -333,8 +333,8 @@ IsBroken-read {M = M} K laws plan fitted p q n m m' k r e planned g s failed fra
     let o : Origin = origin_of plan in
     let v : View = seen K o (world_at p n k) in
     let events_q : q.events ≡ p.events = ap (λ (y : Progress M). y.events) s.same in
-    let next : World M = stepped K o (world_at p n k) q.machine m r.did in
-    let steps : Steps K o (world_at p n k) next = record { r = r; going = g.going; is_step = s.is_step; next_is = refl } in
+    let next : World M = after_step K o (world_at p n k) q.machine m r.did in
+    let steps : TakesStep K o (world_at p n k) next = record { r = r; going = g.going; is_step = s.is_step; next_is = refl } in
     let all : List Event = events_of o p.fresh v r.did (K.view o q.machine m) (k + 1) in
     let some : all ≢ [] = events_due o p.fresh v (K.view o q.machine m) r.did (k + 1) (told_or_halts r (halts v (K.view o q.machine m)) s.is_step.ended due) in
     let telling : (Why : World M → List Event → Type 0) → Why next all → TellingFailed K o (world_at p n k) q.events Why = λ Why why. record {
@@ -342,7 +342,7 @@ IsBroken-read {M = M} K laws plan fitted p q n m m' k r e planned g s failed fra
       steps = steps;
       part = [];
       rest = events_of o p.fresh v r.did (K.view o q.machine m) (k + 1);
-      told = events_q ∙ sym (append-nil p.events);
+      grew = events_q ∙ sym (append-nil p.events);
       split = ap (λ (l : List Event). l ++ events_of o p.fresh v r.did (K.view o q.machine m) (k + 1)) (sym events_q);
       unended = refl;
       why = why;
@@ -350,22 +350,22 @@ IsBroken-read {M = M} K laws plan fitted p q n m m' k r e planned g s failed fra
     let broken : IsBroken K plan p q n m' k [] = record {
       rest = [];
       releases = ap (released_of o) events_q ∙ sym (append-nil (released_of o p.events)) ∙ sym (append-nil (released_of o p.events ++ []));
-      told = ([], events_q ∙ sym (append-nil p.events));
-      spoken = ap (λ (y : Progress M). y.mute) s.same;
-      heard = ap (λ (y : Progress M). y.deaf) s.same;
+      grew = ([], events_q ∙ sym (append-nil p.events));
+      on_terminal = ap (λ (y : Progress M). y.terminal_failed) s.same;
+      on_report = ap (λ (y : Progress M). y.report_failed) s.same;
     } in
     by_error e failed broken all some telling events_q
   where
     by_error : (e : CoreError) → HasFailedToRead e m m' → IsBroken K plan p q n m' k []
         → (all : List Event) → all ≢ []
-        → ((Why : World M → List Event → Type 0) → Why (stepped K (origin_of plan) (world_at p n k) q.machine m r.did) all → TellingFailed K (origin_of plan) (world_at p n k) q.events Why)
+        → ((Why : World M → List Event → Type 0) → Why (after_step K (origin_of plan) (world_at p n k) q.machine m r.did) all → TellingFailed K (origin_of plan) (world_at p n k) q.events Why)
         → q.events ≡ p.events
         → IsBroken K plan p q n m' k [] × Breaks K plan p q n m' k [] (stop_of e)
     by_error NvmFailed f broken all some telling events = (
       broken,
-      (inr (telling (ReadFailed (world_at p n k) q.events m') (record { due = some; nothing_told = events; failed = f.0; framed = framed; rose = f.1 })), record { events = events; none = refl; rose = subst (λ c. Rose c m'.faults) s.calm f.1 }),
+      (inr (telling (ReadFailed (world_at p n k) q.events m') (record { due = some; nothing_told = events; failed = f.0; framed = framed; rose = f.1 })), record { events = events; none = refl; rose = subst (λ c. Rose c m'.faults) s.faults f.1 }),
     )
-    by_error (NoMemory x) f broken all some telling events = (broken, (telling (LeftAlone K (origin_of plan) plan.config.cuts m') (f, inl some), ap (λ (d : Device). d.faults) f ∙ s.calm))
+    by_error (NoMemory x) f broken all some telling events = (broken, (telling (LeftAlone K (origin_of plan) plan.config.cuts m') (f, inl some), ap (λ (d : Device). d.faults) f ∙ s.faults))
 
 -- the step itself failed
 pub IsBroken-stuck : {M : Type 0} (K : KindOf M) (laws : IsLawful K) → (plan : Plan) (fitted : Device) (p q : Progress M) (n m : Device) (k : ℕ) → GoesOn K plan fitted p n k → IsStuck K plan p q n m
@@ -376,9 +376,9 @@ IsBroken-stuck {M = M} K laws plan fitted p q n m k g s =
       record {
         rest = [];
         releases = ap (released_of o) events_q ∙ sym (append-nil (released_of o p.events)) ∙ sym (append-nil (released_of o p.events ++ []));
-        told = ([], events_q ∙ sym (append-nil p.events));
-        spoken = ap (λ (y : Progress M). y.mute) s.same;
-        heard = ap (λ (y : Progress M). y.deaf) s.same;
+        grew = ([], events_q ∙ sym (append-nil p.events));
+        on_terminal = ap (λ (y : Progress M). y.terminal_failed) s.same;
+        on_report = ap (λ (y : Progress M). y.report_failed) s.same;
       },
       (inl (record { going = g.going; safe = s.leaves.safe; acted = s.leaves.acted; framed = s.framed; rose = s.rose; nothing_told = events_q }), record { events = events_q; none = refl; rose = s.rose }),
     )
@@ -392,8 +392,8 @@ few_released {M = M} K laws plan fitted p q n m k r bytes planned g s due =
     let o : Origin = origin_of plan in
     let good = good_of K plan fitted p n k planned g in
     let events_q : q.events ≡ p.events = ap (λ (y : Progress M). y.events) s.same in
-    let next : World M = stepped K o (world_at p n k) q.machine m r.did in
-    let steps : Steps K o (world_at p n k) next = record { r = r; going = g.going; is_step = s.is_step; next_is = refl } in
+    let next : World M = after_step K o (world_at p n k) q.machine m r.did in
+    let steps : TakesStep K o (world_at p n k) next = record { r = r; going = g.going; is_step = s.is_step; next_is = refl } in
     let releases : released_of o next.events ≡ released_of o p.events ++ bytes =
     released-stepped K o (world_at p n k) next (epoch_least (origin_of plan).geometry planned.origin.geometry) good.stands steps
     ∙ ap (λ (l : List ℕ). released_of o p.events ++ l) (ap (λ (e : List Event). due_of o e r.did (K.view o q.machine m)) (sym events_q) ∙ sym due) in
@@ -455,7 +455,7 @@ broken_none {M = M} K plan p q n m k bytes stop is none same h =
 -- ---- a quiet cycle
 
 -- what has no event of its own tells none
-told_none : (o : Origin) (did : Did) (cycle : ℕ) → is_told did ≡ false → told o did cycle ≡ []
+told_none : (o : Origin) (did : Did) (cycle : ℕ) → is_told did ≡ false → did_told o did cycle ≡ []
 told_none o Loaded cycle h = absurd (cc)
 told_none o (Restarted epoch count) cycle h = absurd (cc)
 told_none o (Sealed epoch count cause) cycle h = absurd (cc)
@@ -482,7 +482,7 @@ quiet_goes {M = M} K laws plan fitted p q n m k r planned g s quiet =
     let end : end_told o v next (k + 1) ≡ [] =
     ap (λ b. if b then EndedEvent (at o next.count).status next.count (k + 1) (at o next.count) ∷ [] else []) going in
     let none : events_of o q.fresh v r.did next (k + 1) ≡ [] =
-    ap (λ (l : List Event). (l ++ told o r.did (k + 1)) ++ end_told o v next (k + 1)) reload
+    ap (λ (l : List Event). (l ++ did_told o r.did (k + 1)) ++ end_told o v next (k + 1)) reload
     ∙ ap (λ (l : List Event). l ++ end_told o v next (k + 1)) (told_none o r.did (k + 1) quiet.untold) ∙ end in
     let noted : IsNoted K plan p q n m k None [] =
     IsNoted-made K laws plan fitted p q q n m k r None [] planned g s

@@ -14,7 +14,7 @@ use Rattle.thy_view.specs.Origin.{Origin}
 use Rattle.thy_view.specs.Pace.{is_drained}
 use Rattle.thy_view.specs.Views.{is_boot, is_halt}
 use Rattle.thy_run.specs.Progress.{last_of, cycles_for, Tally, nothing_done, one_if, counted, tally_of, RunIsBusy, RunNeverRests}
-use Rattle.thy_run.specs.World.{World, Given, seen, Steps, is_due, IsCutOff, tear, Ran}
+use Rattle.thy_run.specs.World.{World, Given, seen, TakesStep, is_due, IsCutOff, tear, Ran}
 use Rattle.thy_run.proofs.StepKinds.{kind_of, stays_up}
 use Rattle.thy_run.proofs.WorldLaws.{cycles-ran}
 
@@ -71,13 +71,13 @@ module _ {M : Type 0} (K : KindOf M) (laws : IsLawful K) (o : Origin) (cuts : Li
       }
 
   -- a step behind the boot is none of its cycles, and the boot does not come again
-  behind : (w next : World M) (step : Steps K o w next) (t : Tally) → Works K o cuts w t → is_boot (seen K o w).phase ≡ false → IsBooting next (t.boots + 0)
+  behind : (w next : World M) (step : TakesStep K o w next) (t : Tally) → Works K o cuts w t → is_boot (seen K o w).phase ≡ false → IsBooting next (t.boots + 0)
   behind w next step t h up =
       let kind = kind_of o (seen K o w) (seen K o next) step.r.did step.is_step.step in
       let still : is_boot (seen K o next).phase ≡ false = stays_up o (seen K o w) (seen K o next) step.r.did kind up in
       (omega (arith, h.boots), λ e. absurd (let boot : is_boot (seen K o next).phase ≡ true = ap is_boot e in cc))
 
-  phases : (w next : World M) (step : Steps K o w next) (t : Tally) → Works K o cuts w t → (p : Phase) → (seen K o w).phase ≡ p
+  phases : (w next : World M) (step : TakesStep K o w next) (t : Tally) → Works K o cuts w t → (p : Phase) → (seen K o w).phase ≡ p
       → IsBooting next (t.boots + one_if (is_boot p && not (is_drained step.r.did)))
   phases w next step t h BootPhase is =
       let kept = boots_kept (is_drained step.r.did) t.boots (K.most_booting o.geometry) _ _ (step.is_step.pace.boots is) (h.boot is) in
@@ -86,7 +86,7 @@ module _ {M : Type 0} (K : KindOf M) (laws : IsLawful K) (o : Origin) (cuts : Li
   phases w next step t h Halt is = behind w next step t h (ap is_boot is)
 
   -- one more step
-  step_works : (w next : World M) (step : Steps K o w next) (t : Tally) → Works K o cuts w t
+  step_works : (w next : World M) (step : TakesStep K o w next) (t : Tally) → Works K o cuts w t
       → Works K o cuts next (counted t (is_boot (seen K o w).phase) step.r.did)
   step_works w next step t h =
       let cycles : next.cycles ≡ w.cycles + 1 = ap (λ (y : World M). y.cycles) step.next_is in
@@ -110,7 +110,7 @@ module _ {M : Type 0} (K : KindOf M) (laws : IsLawful K) (o : Origin) (cuts : Li
       powered next (subst (λ k. K.is_at o k next.machine next.device) (sym cycles) cut.at_moment) cut.powered
       (ap (λ (n : Device). n.queue) cut.cut.device) (omega (arith, at, most, cycles))
 
-  by_due : (w x next : World M) (step : Steps K o w x) (t : Tally) → Works K o cuts w t → (pick : ℕ) (b : Bool) → is_due K o cuts x ≡ b
+  by_due : (w x next : World M) (step : TakesStep K o w x) (t : Tally) → Works K o cuts w t → (pick : ℕ) (b : Bool) → is_due K o cuts x ≡ b
       → MatchBool b (IsCutOff K o pick x next) (next ≡ x) → Works K o cuts next (if b then nothing_done else counted t (is_boot (seen K o w).phase) step.r.did)
   by_due w x next step t h pick true due cut = cut_works pick x next due cut
   by_due w x next step t h pick false due is = subst (λ (y : World M). Works K o cuts y (counted t (is_boot (seen K o w).phase) step.r.did)) (sym is) (step_works w x step t h)
@@ -132,7 +132,7 @@ image_spent count NothingLeft = refl
 image_spent count (RefusedImage bad) = refl
 image_spent count (At epoch state) = refl
 
-spent_by : {M : Type 0} (K : KindOf M) (o : Origin) (w x next : World M) → Steps K o w x → (pick : ℕ) (b : Bool) → MatchBool b (IsCutOff K o pick x next) (next ≡ x)
+spent_by : {M : Type 0} (K : KindOf M) (o : Origin) (w x next : World M) → TakesStep K o w x → (pick : ℕ) (b : Bool) → MatchBool b (IsCutOff K o pick x next) (next ≡ x)
     → (seen K o next).spent < K.most_spent o.geometry
 spent_by {M = M} K o w x next step pick true cut =
     let none : (seen K o next).spent ≡ 0 = ap (λ v. v.spent) cut.found ∙ image_spent o.start.count _ in

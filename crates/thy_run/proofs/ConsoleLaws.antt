@@ -22,7 +22,7 @@ use Rattle.thy_view.specs.CoreStep.{CoreStep}
 use Rattle.thy_view.specs.Origin.{Origin, at, setting_of, IsOrigin}
 use Rattle.thy_run.specs.Due.{console_at, shows_console, due_of}
 use Rattle.thy_run.specs.Laws.{first_marks, marks_of, released_of}
-use Rattle.thy_run.specs.World.{World, seen, told, reload_told, end_told, events_of, Steps}
+use Rattle.thy_run.specs.World.{World, seen, did_told, reload_told, end_told, events_of, TakesStep}
 use Rattle.thy_run.proofs.CoverLaws.{Covers-sealed, marks-part}
 use Rattle.thy_run.proofs.Fitting.{BootFits, RunFits, FitsIn, Fits}
 use Rattle.thy_run.proofs.EventLaws.{marks-events}
@@ -68,7 +68,7 @@ grown o (Some k) b g =
 
 module _ (o : Origin) (v next : View) (m : Marks) (h : Fits o v m) where
   -- the marks that a step's event leaves keep the committed one, or a later one
-  pub Grows-told : (did : Did) (cycle : ℕ) → CoreStep o v did next → Grows m.kept (marks_from o.start.count m (told o did cycle)).kept
+  pub Grows-told : (did : Did) (cycle : ℕ) → CoreStep o v did next → Grows m.kept (marks_from o.start.count m (did_told o did cycle)).kept
   Grows-told Boot cycle s = grows_same m.kept m.kept refl
   Grows-told Loaded cycle s = grows_none m.kept m.sealed ((Covers-sealed o v m h).nothing s.none)
   Grows-told (Restarted epoch count) cycle s = λ k kept.
@@ -101,7 +101,7 @@ module _ (o : Origin) (v next : View) (m : Marks) (h : Fits o v m) where
       ]
 
   -- after what shows a console the committed mark is the view's, after anything else it is the one before
-  pub kept-told : (did : Did) (cycle : ℕ) → CoreStep o v did next → (marks_from o.start.count m (told o did cycle)).kept ≡ (if shows_console did then next.done else m.kept)
+  pub kept-told : (did : Did) (cycle : ℕ) → CoreStep o v did next → (marks_from o.start.count m (did_told o did cycle)).kept ≡ (if shows_console did then next.done else m.kept)
   kept-told Boot cycle s = refl
   kept-told Loaded cycle s = loading_sealed s.none s.phase ∙ sym (ap (λ w. w.done) s.becomes)
   kept-told (Restarted epoch count) cycle s = sym s.done ∙ sym (ap (λ w. w.done) s.becomes)
@@ -146,7 +146,7 @@ shown_on : (o : Origin) (vs ws : List Event) → list_any shows vs ≡ true → 
 shown_on o vs ws is = list_any-append shows vs ws ∙ ap (λ b. b || list_any shows ws) is
 
 -- which events of a step show a console
-told_shows : (o : Origin) (did : Did) (cycle : ℕ) → list_any shows (told o did cycle) ≡ shows_console did
+told_shows : (o : Origin) (did : Did) (cycle : ℕ) → list_any shows (did_told o did cycle) ≡ shows_console did
 told_shows o Boot cycle = refl
 told_shows o Loaded cycle = refl
 told_shows o (Restarted epoch count) cycle = refl
@@ -178,11 +178,11 @@ or_false false = refl
 
 events_show : (o : Origin) (fresh : Bool) (v : View) (did : Did) (next : View) (cycle : ℕ) → list_any shows (events_of o fresh v did next cycle) ≡ shows_console did
 events_show o fresh v did next cycle =
-    list_any-append shows (reload_told fresh next ++ told o did cycle) (end_told o v next cycle)
-    ∙ ap (λ b. list_any shows (reload_told fresh next ++ told o did cycle) || b) (end_shows o next cycle (halts v next))
-    ∙ or_false (list_any shows (reload_told fresh next ++ told o did cycle))
-    ∙ list_any-append shows (reload_told fresh next) (told o did cycle)
-    ∙ ap (λ b. b || list_any shows (told o did cycle)) (reload_shows (fresh && loads next))
+    list_any-append shows (reload_told fresh next ++ did_told o did cycle) (end_told o v next cycle)
+    ∙ ap (λ b. list_any shows (reload_told fresh next ++ did_told o did cycle) || b) (end_shows o next cycle (halts v next))
+    ∙ or_false (list_any shows (reload_told fresh next ++ did_told o did cycle))
+    ∙ list_any-append shows (reload_told fresh next) (did_told o did cycle)
+    ∙ ap (λ b. b || list_any shows (did_told o did cycle)) (reload_shows (fresh && loads next))
     ∙ told_shows o did cycle
 
 -- the mark that is shown after a step
@@ -195,17 +195,17 @@ mark_next w es true found before later shown is = ap (λ b. mark_if (w || b) lat
     or_true false = refl
 mark_next w es false found before later shown is = ap (λ b. mark_if (w || b) later) shown ∙ ap (λ b. mark_if b later) (or_false w) ∙ ap (mark_if w) is
 
-module _ {M : Type 0} (K : KindOf M) (o : Origin) (w next : World M) (least : 1 ≤ o.geometry.epoch) (h : Coheres K o w) (step : Steps K o w next) where
+module _ {M : Type 0} (K : KindOf M) (o : Origin) (w next : World M) (least : 1 ≤ o.geometry.epoch) (h : Coheres K o w) (step : TakesStep K o w next) where
   abbrev marks_now : Marks
   marks_now = marks_of o w.events
 
   abbrev marks_told : Marks
-  marks_told = marks_from o.start.count (marks_of o w.events) (told o step.r.did (w.cycles + 1))
+  marks_told = marks_from o.start.count (marks_of o w.events) (did_told o step.r.did (w.cycles + 1))
 
   marks_more : (part : List Event) → marks_of o (w.events ++ part) ≡ marks_from o.start.count (marks_of o w.events) part
   marks_more part = marks_from-append o.start.count (first_marks o) w.events part
 
-  told_grows : Grows (marks_of o w.events).kept (marks_from o.start.count (marks_of o w.events) (told o step.r.did (w.cycles + 1))).kept
+  told_grows : Grows (marks_of o w.events).kept (marks_from o.start.count (marks_of o w.events) (did_told o step.r.did (w.cycles + 1))).kept
   told_grows = Grows-told o (seen K o w) (seen K o next) (marks_of o w.events) h.fits step.r.did (w.cycles + 1) step.is_step.step
 
   part_grows : (part rest : List Event) → part ++ rest ≡ events_of o w.fresh (seen K o w) step.r.did (seen K o next) (w.cycles + 1)

@@ -18,7 +18,7 @@ use Rattle.thy_view.specs.Views.{loads, halts, doubt_of}
 use Rattle.thy_view.specs.CoreStep.{CoreStep}
 use Rattle.thy_view.specs.Origin.{Origin, at}
 use Rattle.thy_view.specs.Safe.{ceiling, Safe, IsOneOf}
-use Rattle.thy_run.specs.World.{told, reload_told, end_told, events_of}
+use Rattle.thy_run.specs.World.{did_told, reload_told, end_told, events_of}
 use Rattle.thy_run.proofs.Fitting.{IsEither, BootFits, Follows, RunFits, HaltFits, FitsIn, Fits, Covers}
 use Rattle.thy_run.proofs.FittingLaws.{Fits-told}
 use Rattle.thy_run.proofs.EventLaws.{Reloads-told}
@@ -170,7 +170,7 @@ part_of_short : (part rest vs : List Event) → IsShort vs → part ++ rest ≡ 
 part_of_short part rest vs (inl none) e = inl (part_of_none part rest (e ∙ none))
 part_of_short part rest vs (inr (v, one)) e = elim (part_of_one part rest v (e ∙ one)) as (λ _. (part ≡ []) ⊎ (part ≡ vs)) [ inl a ↦ inl a | inr b ↦ inr (b ∙ sym one) ]
 
-pub told_short : (o : Origin) (did : Did) (cycle : ℕ) → IsShort (told o did cycle)
+pub told_short : (o : Origin) (did : Did) (cycle : ℕ) → IsShort (did_told o did cycle)
 told_short o Boot cycle = inl refl
 told_short o Loaded cycle = inr (_, refl)
 told_short o (Restarted epoch count) cycle = inr (_, refl)
@@ -201,7 +201,7 @@ end_kept o m next cycle part false (inr none) = ap (marks_from o.start.count m) 
 module _ (o : Origin) (v next : View) (m : Marks) (did : Did) (fresh : Bool) (cycle : ℕ) (least : 1 ≤ o.geometry.epoch) (h : Fits o v m) (s : CoreStep o v did next) where
   -- some events leave the marks that stood, or those that what was done leaves
   abbrev pub LeavesEither : List Event → Type 0
-  LeavesEither part = (marks_from o.start.count m part ≡ m) ⊎ (marks_from o.start.count m part ≡ marks_from o.start.count m (told o did cycle))
+  LeavesEither part = (marks_from o.start.count m part ≡ m) ⊎ (marks_from o.start.count m part ≡ marks_from o.start.count m (did_told o did cycle))
 
   reload_kept : marks_from o.start.count m (reload_told fresh next) ≡ m
   reload_kept = (Reloads-told o v next m did fresh least h s).marks
@@ -215,29 +215,29 @@ module _ (o : Origin) (v next : View) (m : Marks) (did : Did) (fresh : Bool) (cy
     | inr all ↦ inl (ap (marks_from o.start.count m) all ∙ reload_kept)
   ]
 
-  of_told : (part more rest : List Event) → part ≡ reload_told fresh next ++ more → more ++ rest ≡ told o did cycle → LeavesEither part
-  of_told part more rest is e = elim (part_of_short more rest (told o did cycle) (told_short o did cycle) e) as (λ _. LeavesEither part) [
+  of_told : (part more rest : List Event) → part ≡ reload_told fresh next ++ more → more ++ rest ≡ did_told o did cycle → LeavesEither part
+  of_told part more rest is e = elim (part_of_short more rest (did_told o did cycle) (told_short o did cycle) e) as (λ _. LeavesEither part) [
     | inl none ↦ inl (ap (marks_from o.start.count m) is ∙ after_reload more ∙ ap (marks_from o.start.count m) none)
     | inr all ↦ inr (ap (marks_from o.start.count m) is ∙ after_reload more ∙ ap (marks_from o.start.count m) all)
   ]
 
-  of_both : (part rest : List Event) → part ++ rest ≡ reload_told fresh next ++ told o did cycle → LeavesEither part
-  of_both part rest e = elim (cutting part rest (reload_told fresh next) (told o did cycle) e) as (λ _. LeavesEither part) [
+  of_both : (part rest : List Event) → part ++ rest ≡ reload_told fresh next ++ did_told o did cycle → LeavesEither part
+  of_both part rest e = elim (cutting part rest (reload_told fresh next) (did_told o did cycle) e) as (λ _. LeavesEither part) [
     | within r f ↦ of_reload part r f
     | beyond more r is f ↦ of_told part more r is f
   ]
 
-  of_end : (part more rest : List Event) → part ≡ reload_told fresh next ++ told o did cycle ++ more → more ++ rest ≡ end_told o v next cycle → LeavesEither part
+  of_end : (part more rest : List Event) → part ≡ reload_told fresh next ++ did_told o did cycle ++ more → more ++ rest ≡ end_told o v next cycle → LeavesEither part
   of_end part more rest is e =
       inr (
-      ap (marks_from o.start.count m) is ∙ marks_from-append o.start.count m (reload_told fresh next ++ told o did cycle) more
-      ∙ end_kept o (marks_from o.start.count m (reload_told fresh next ++ told o did cycle)) next cycle more (halts v next)
+      ap (marks_from o.start.count m) is ∙ marks_from-append o.start.count m (reload_told fresh next ++ did_told o did cycle) more
+      ∙ end_kept o (marks_from o.start.count m (reload_told fresh next ++ did_told o did cycle)) next cycle more (halts v next)
       (part_of_short more rest (end_told o v next cycle) (if_short (halts v next) _) e)
-      ∙ after_reload (told o did cycle))
+      ∙ after_reload (did_told o did cycle))
 
   -- so the first of a cycle's events do
   pub marks-part : (part rest : List Event) → part ++ rest ≡ events_of o fresh v did next cycle → LeavesEither part
-  marks-part part rest e = elim (cutting part rest (reload_told fresh next ++ told o did cycle) (end_told o v next cycle) e) as (λ _. LeavesEither part) [
+  marks-part part rest e = elim (cutting part rest (reload_told fresh next ++ did_told o did cycle) (end_told o v next cycle) e) as (λ _. LeavesEither part) [
     | within r f ↦ of_both part r f
     | beyond more r is f ↦ of_end part more r is f
   ]
@@ -250,7 +250,7 @@ module _ (o : Origin) (v next : View) (m : Marks) (did : Did) (fresh : Bool) (cy
       → Covers (marks_from o.start.count m part).kept (marks_from o.start.count m part).sealed next.done (doubt_of next)
   Covers-part part rest e = elim (marks-part part rest e) as (λ _. Covers (marks_from o.start.count m part).kept (marks_from o.start.count m part).sealed next.done (doubt_of next)) [
     | inl stood ↦ covered_by m (marks_from o.start.count m part) stood (Covers-before o v next m least h did s)
-    | inr done ↦ covered_by (marks_from o.start.count m (told o did cycle)) (marks_from o.start.count m part) done
+    | inr done ↦ covered_by (marks_from o.start.count m (did_told o did cycle)) (marks_from o.start.count m part) done
         (Covers-fits o next _ (Fits-told o v next m least h did cycle s).0)
   ]
 

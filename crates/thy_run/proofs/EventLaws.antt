@@ -14,7 +14,7 @@ use Rattle.thy_view.specs.Views.{is_boot, is_halt, loads, halts}
 use Rattle.thy_view.specs.CoreStep.{CoreStep}
 use Rattle.thy_view.specs.Origin.{Origin, runs_at, at}
 use Rattle.thy_run.specs.Laws.{course_of}
-use Rattle.thy_run.specs.World.{told, reload_told, end_told, events_of}
+use Rattle.thy_run.specs.World.{did_told, reload_told, end_told, events_of}
 use Rattle.thy_run.proofs.Fitting.{BootFits, HaltFits, FitsIn, Fits}
 use Rattle.thy_run.proofs.FittingLaws.{Fits-told}
 
@@ -24,7 +24,7 @@ not_boot true e = absurd (cc)
 not_boot false e = absurd (cc)
 
 -- a boot that goes on tells nothing but a reload
-pub told-booting : (o : Origin) (v next : View) (did : Did) (cycle : ℕ) → CoreStep o v did next → next.phase ≡ BootPhase → told o did cycle ≡ []
+pub told-booting : (o : Origin) (v next : View) (did : Did) (cycle : ℕ) → CoreStep o v did next → next.phase ≡ BootPhase → did_told o did cycle ≡ []
 told-booting o v next Boot cycle s boot = refl
 told-booting o v next Loaded cycle s boot = absurd (let e : next.phase ≡ Run = ap (λ w. w.phase) s.becomes in cc)
 told-booting o v next (Restarted epoch count) cycle s boot = not_boot (runs_at o count) (sym (ap (λ w. w.phase) s.becomes) ∙ boot)
@@ -103,17 +103,17 @@ Reloads-told o v next m did fresh least h s = by_test (fresh && loads next) refl
     by_test false is = record { lawful = tt; marks = refl }
     by_test true is =
         let view = loads-view next (and_parts fresh (loads next) is).1 in
-        let after : Fits o next (marks_from o.start.count m (told o did 0)) = (Fits-told o v next m least h did 0 s).0 in
+        let after : Fits o next (marks_from o.start.count m (did_told o did 0)) = (Fits-told o v next m least h did 0 s).0 in
         let now : Fits o next m = subst (λ vs. Fits o next (marks_from o.start.count m vs)) (told-booting o v next did 0 s view.0) after in
         let marks : m ≡ loading_marks o.start.count = loading_marks_of o next m now view.0 view.1 in
         record { lawful = (ap (λ n. n.kept) marks, tt); marks = sym marks }
 
 -- all events of a cycle leave the marks that what was done leaves
 pub marks-events : (o : Origin) (v next : View) (m : Marks) (did : Did) (fresh : Bool) (cycle : ℕ) → 1 ≤ o.geometry.epoch → Fits o v m → CoreStep o v did next
-    → marks_from o.start.count m (events_of o fresh v did next cycle) ≡ marks_from o.start.count m (told o did cycle)
+    → marks_from o.start.count m (events_of o fresh v did next cycle) ≡ marks_from o.start.count m (did_told o did cycle)
 marks-events o v next m did fresh cycle least h s =
     let reload : List Event = reload_told fresh next in
-    let step : List Event = told o did cycle in
+    let step : List Event = did_told o did cycle in
     let start : ℕ = o.start.count in
     marks_from-append start m (reload ++ step) (end_told o v next cycle)
     ∙ end_marks o (marks_from start m (reload ++ step)) next cycle (halts v next)
@@ -124,7 +124,7 @@ pub Fits-events : (o : Origin) (v next : View) (m : Marks) (did : Did) (fresh : 
     → Fits o next (marks_from o.start.count m (events_of o fresh v did next cycle)) × AllLawful (course_of o) m (events_of o fresh v did next cycle)
 Fits-events o v next m did fresh cycle least h s =
     let reload : List Event = reload_told fresh next in
-    let step : List Event = told o did cycle in
+    let step : List Event = did_told o did cycle in
     let end : List Event = end_told o v next cycle in
     let reloads = Reloads-told o v next m did fresh least h s in
     let tells = Fits-told o v next m least h did cycle s in

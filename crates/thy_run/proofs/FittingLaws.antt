@@ -16,7 +16,7 @@ use Rattle.thy_view.specs.CoreStep.{busier, BootsTo, MovesTo, EngineTo, CoreStep
 use Rattle.thy_view.specs.Origin.{Origin, runs_at}
 use Rattle.thy_view.proofs.Choices.{if_equal}
 use Rattle.thy_run.specs.Laws.{course_of}
-use Rattle.thy_run.specs.World.{told}
+use Rattle.thy_run.specs.World.{did_told}
 use Rattle.thy_run.proofs.Fitting.{OverFits, IsEither, Rises, Loading, Recovering, BootFits, Follows, RunFits, FitsIn, Fits}
 
 some_is : (a b : Mark) → Some a ≡ Some b → a ≡ b
@@ -131,7 +131,7 @@ module _ (o : Origin) (v next : View) (m : Marks) (least : 1 ≤ o.geometry.epoc
   -- the program is loaded: its checkpoint is committed
   loads : (cycle : ℕ) → v.phase ≡ BootPhase → v.done ≡ None → v.sealed ≡ Some (mark 0 o.start.count)
       → next ≡ record v { phase = Run; done = v.sealed; sealed = None; epoch = 1; count = o.start.count; written = false }
-      → Fits o next (marks_from o.start.count m (told o Loaded cycle)) × AllLawful (course_of o) m (told o Loaded cycle)
+      → Fits o next (marks_from o.start.count m (did_told o Loaded cycle)) × AllLawful (course_of o) m (did_told o Loaded cycle)
   loads cycle phase none sealed e =
       let f : BootFits o v m = of_phase o v m BootPhase phase h in
       let is : m ≡ loading_marks o.start.count = elim f.boots as (λ _. m ≡ loading_marks o.start.count) [
@@ -140,7 +140,7 @@ module _ (o : Origin) (v next : View) (m : Marks) (least : 1 ≤ o.geometry.epoc
       ] in
       let w : View = record v { phase = Run; done = v.sealed; sealed = None; epoch = 1; count = o.start.count; written = false } in
       let retired : v.retired ≡ 0 = f.retired in
-      let now : RunFits o w (marks_from o.start.count m (told o Loaded cycle)) = record {
+      let now : RunFits o w (marks_from o.start.count m (did_told o Loaded cycle)) = record {
         mark = mark 0 o.start.count;
         done = sealed;
         kept = ap (λ n. n.sealed) is;
@@ -149,12 +149,12 @@ module _ (o : Origin) (v next : View) (m : Marks) (least : 1 ≤ o.geometry.epoc
         few = omega (arith, retired);
         over = subst (OverFits o v.retired o.start.count) (sym f.over) (omega (arith, retired, least));
       } in
-      (subst (λ w. Fits o w (marks_from o.start.count m (told o Loaded cycle))) (sym e) now, ((o.start.count, ap (λ n. n.sealed) is), tt))
+      (subst (λ w. Fits o w (marks_from o.start.count m (did_told o Loaded cycle))) (sym e) now, ((o.start.count, ap (λ n. n.sealed) is), tt))
 
   -- an epoch was restored
   restarts : (epoch count cycle : ℕ) → v.phase ≡ BootPhase → v.done ≡ Some (mark epoch count) → v.sealed ≡ None → v.written ≡ false
       → next ≡ record v { phase = phase_at o count; epoch = epoch + 1; count = count; retired = 0; spent = 0; lap = 0 }
-      → Fits o next (marks_from o.start.count m (told o (Restarted epoch count) cycle)) × AllLawful (course_of o) m (told o (Restarted epoch count) cycle)
+      → Fits o next (marks_from o.start.count m (did_told o (Restarted epoch count) cycle)) × AllLawful (course_of o) m (did_told o (Restarted epoch count) cycle)
   restarts epoch count cycle phase done none written e =
       let f : BootFits o v m = of_phase o v m BootPhase phase h in
       let either : IsEither m.kept m.sealed (mark epoch count) = elim f.boots as (λ _. IsEither m.kept m.sealed (mark epoch count)) [
@@ -162,12 +162,12 @@ module _ (o : Origin) (v next : View) (m : Marks) (least : 1 ≤ o.geometry.epoc
         | inr r ↦ subst (IsEither m.kept m.sealed) (some_is r.mark (mark epoch count) (sym r.done ∙ done)) r.either
       ] in
       let retired : v.retired ≡ 0 = f.retired in
-      let now : Marks = marks_from o.start.count m (told o (Restarted epoch count) cycle) in
+      let now : Marks = marks_from o.start.count m (did_told o (Restarted epoch count) cycle) in
       let by_run : (b : Bool) → runs_at o count ≡ b → Fits o (record v { phase = if b then Run else Halt; epoch = epoch + 1; count = count; retired = 0; spent = 0; lap = 0 }) now = λ b runs. begun f b runs in
       (subst (λ w. Fits o w now) (sym e) (by_run (runs_at o count) refl), ((record { marked = either; whole = refl }), tt))
     where
       begun : BootFits o v m → (b : Bool) → runs_at o count ≡ b
-          → Fits o (record v { phase = if b then Run else Halt; epoch = epoch + 1; count = count; retired = 0; spent = 0; lap = 0 }) (marks_from o.start.count m (told o (Restarted epoch count) cycle))
+          → Fits o (record v { phase = if b then Run else Halt; epoch = epoch + 1; count = count; retired = 0; spent = 0; lap = 0 }) (marks_from o.start.count m (did_told o (Restarted epoch count) cycle))
       begun f true runs = record {
         mark = mark epoch count;
         done = done;
@@ -182,13 +182,13 @@ module _ (o : Origin) (v next : View) (m : Marks) (least : 1 ≤ o.geometry.epoc
   -- an epoch is sealed: it ends lawfully
   seals : (epoch count cycle : ℕ) (cause : EndCause) → v.phase ≡ Run → v.sealed ≡ None → epoch ≡ v.epoch → count ≡ v.count → v.over ≡ Some cause
       → next ≡ record v { sealed = Some (mark epoch count); epoch = v.epoch + 1; retired = 0; spent = 0; lap = 0; over = None }
-      → Fits o next (marks_from o.start.count m (told o (Sealed epoch count cause) cycle)) × AllLawful (course_of o) m (told o (Sealed epoch count cause) cycle)
+      → Fits o next (marks_from o.start.count m (did_told o (Sealed epoch count cause) cycle)) × AllLawful (course_of o) m (did_told o (Sealed epoch count cause) cycle)
   seals epoch count cycle cause phase none of at_count over e =
       let f : RunFits o v m = of_phase o v m Run phase h in
       let g : Follows o v f.mark None = subst (Follows o v f.mark) none f.follows in
       let w : View = record v { sealed = Some (mark epoch count); epoch = v.epoch + 1; retired = 0; spent = 0; lap = 0; over = None } in
       let fits : OverFits o v.retired v.count (Some cause) = subst (OverFits o v.retired v.count) over f.over in
-      let now : RunFits o w (marks_from o.start.count m (told o (Sealed epoch count cause) cycle)) = record {
+      let now : RunFits o w (marks_from o.start.count m (did_told o (Sealed epoch count cause) cycle)) = record {
         mark = f.mark;
         done = f.done;
         kept = f.kept;
@@ -207,7 +207,7 @@ module _ (o : Origin) (v next : View) (m : Marks) (least : 1 ≤ o.geometry.epoc
         to = omega (arith, g.2, at_count, f.few);
         fits = for_cause f.mark cause g.2 fits;
       } in
-      (subst (λ w. Fits o w (marks_from o.start.count m (told o (Sealed epoch count cause) cycle))) (sym e) (in_phase o w _ Run phase now), (ends, tt))
+      (subst (λ w. Fits o w (marks_from o.start.count m (did_told o (Sealed epoch count cause) cycle))) (sym e) (in_phase o w _ Run phase now), (ends, tt))
     where
       for_cause : (d : Mark) (c : EndCause) → v.count ≡ d.count + v.retired → OverFits o v.retired v.count (Some c) → FitsCause (course_of o) d.count count c
       for_cause d EndedCause from fits = ap (runs_at o) at_count ∙ fits
@@ -218,15 +218,15 @@ module _ (o : Origin) (v next : View) (m : Marks) (least : 1 ≤ o.geometry.epoc
   -- a checkpoint is committed
   commits : (epoch overlapped cycle count : ℕ) → v.phase ≡ Run → v.sealed ≡ Some (mark epoch count)
       → next ≡ record (busier v) { phase = phase_at o count; done = v.sealed; sealed = None; written = false }
-      → Fits o next (marks_from o.start.count m (told o (Committed epoch overlapped) cycle)) × AllLawful (course_of o) m (told o (Committed epoch overlapped) cycle)
+      → Fits o next (marks_from o.start.count m (did_told o (Committed epoch overlapped) cycle)) × AllLawful (course_of o) m (did_told o (Committed epoch overlapped) cycle)
   commits epoch overlapped cycle count phase sealed e =
       let f : RunFits o v m = of_phase o v m Run phase h in
       let g : Follows o v f.mark (Some (mark epoch count)) = subst (Follows o v f.mark) sealed f.follows in
-      let now : Marks = marks_from o.start.count m (told o (Committed epoch overlapped) cycle) in
+      let now : Marks = marks_from o.start.count m (did_told o (Committed epoch overlapped) cycle) in
       (subst (λ w. Fits o w now) (sym e) (goes_on f g (runs_at o count) refl), ((count, f.sealed ∙ sealed), tt))
     where
       goes_on : (f : RunFits o v m) → Follows o v f.mark (Some (mark epoch count)) → (b : Bool) → runs_at o count ≡ b
-          → Fits o (record (busier v) { phase = if b then Run else Halt; done = v.sealed; sealed = None; written = false }) (marks_from o.start.count m (told o (Committed epoch overlapped) cycle))
+          → Fits o (record (busier v) { phase = if b then Run else Halt; done = v.sealed; sealed = None; written = false }) (marks_from o.start.count m (did_told o (Committed epoch overlapped) cycle))
       goes_on f g true runs = record {
         mark = mark epoch count;
         done = sealed;
@@ -241,13 +241,13 @@ module _ (o : Origin) (v next : View) (m : Marks) (least : 1 ≤ o.geometry.epoc
           record { mark = mark epoch count; done = sealed; sealed = refl; written = refl; kept = f.sealed ∙ sealed; none = refl; count = still; over = ap (runs_at o) still ∙ runs }
 
   -- a step that tells nothing
-  quiet : (did : Did) (cycle : ℕ) → told o did cycle ≡ [] → Fits o next m → Fits o next (marks_from o.start.count m (told o did cycle)) × AllLawful (course_of o) m (told o did cycle)
+  quiet : (did : Did) (cycle : ℕ) → did_told o did cycle ≡ [] → Fits o next m → Fits o next (marks_from o.start.count m (did_told o did cycle)) × AllLawful (course_of o) m (did_told o did cycle)
   quiet did cycle none fits =
       (subst (λ vs. Fits o next (marks_from o.start.count m vs)) (sym none) fits, subst (AllLawful (course_of o) m) (sym none) tt)
 
   -- a step keeps view and marks fitting, and what it tells is lawful
   pub Fits-told : (did : Did) (cycle : ℕ) → CoreStep o v did next
-      → Fits o next (marks_from o.start.count m (told o did cycle)) × AllLawful (course_of o) m (told o did cycle)
+      → Fits o next (marks_from o.start.count m (did_told o did cycle)) × AllLawful (course_of o) m (did_told o did cycle)
   Fits-told Boot cycle s = quiet Boot cycle refl (boots s.0 s.1)
   Fits-told Loaded cycle s = loads cycle s.phase s.none s.sealed s.becomes
   Fits-told (Restarted epoch count) cycle s = restarts epoch count cycle s.phase s.done s.unsealed s.unwritten s.becomes

@@ -31,8 +31,8 @@ pub restores_some : (o : Origin) (v next : View) (did : Did) (epoch count : ℕ)
     → (is_between next ≡ true → IsSnapshot o next state.value) → Restores o did (Some state)
 restores_some o v next did epoch count state is step shot =
     let s = subst (λ d. CoreStep o v d next) is step in
-    let calm : is_between next ≡ true = ap is_between s.becomes ∙ between_if (runs_at o count) in
-    subst (λ d. Restores o d (Some state)) (sym is) ((shot calm).state ∙ ap (λ w. at o w.count) s.becomes)
+    let faults : is_between next ≡ true = ap is_between s.becomes ∙ between_if (runs_at o count) in
+    subst (λ d. Restores o d (Some state)) (sym is) ((shot faults).state ∙ ap (λ w. at o w.count) s.becomes)
 
 -- what shows a console is behind the boot, with a committed mark
 pub record Shows (next : View) : Type 0 where

@@ -18,5 +18,5 @@ pub mod GatherLemmas
 pub mod NoteLemmas
 pub mod TellLemmas
 pub mod AdvanceLemmas
-pub mod TurnLemmas
+pub mod RoundLemmas
 pub mod StartLemmas

@@ -4,8 +4,8 @@ use Rattle.thy_base.specs.Device.{Device, IsFramed, cut_to}
 use Rattle.thy_view.specs.Kind.{KindOf}
 use Rattle.thy_view.specs.Origin.{Origin}
 use Rattle.thy_run.specs.Laws.{torn}
-use Rattle.thy_run.specs.World.{World, Given, Steps, is_due, IsCutOff, tear, Ran}
-use Rattle.thy_run.proofs.StepFrames.{Steps-framed}
+use Rattle.thy_run.specs.World.{World, Given, TakesStep, is_due, IsCutOff, tear, Ran}
+use Rattle.thy_run.proofs.StepFrames.{TakesStep-framed}
 
 -- the device keeps the picks of the first cuts, and what it was fitted with
 pub record StaysFitted (given : Given) (passed : ℕ) (n : Device) : Type 0 where
@@ -22,12 +22,12 @@ StaysFitted-framed given passed old new f h = record {
   room = f.left_room ∙ h.room;
 }
 
-pub StaysFitted-step : {M : Type 0} (K : KindOf M) (o : Origin) (given : Given) (w x : World M) → Steps K o w x → StaysFitted given w.passed w.device → StaysFitted given x.passed x.device
+pub StaysFitted-step : {M : Type 0} (K : KindOf M) (o : Origin) (given : Given) (w x : World M) → TakesStep K o w x → StaysFitted given w.passed w.device → StaysFitted given x.passed x.device
 StaysFitted-step {M = M} K o given w x step h =
     subst (λ k. StaysFitted given k x.device) (sym (ap (λ (y : World M). y.passed) step.next_is))
-    (StaysFitted-framed given w.passed w.device x.device (Steps-framed K o w x step) h)
+    (StaysFitted-framed given w.passed w.device x.device (TakesStep-framed K o w x step) h)
 
-keeps_by : {M : Type 0} (K : KindOf M) (o : Origin) (given : Given) (w x next : World M) → Steps K o w x → StaysFitted given w.passed w.device
+keeps_by : {M : Type 0} (K : KindOf M) (o : Origin) (given : Given) (w x next : World M) → TakesStep K o w x → StaysFitted given w.passed w.device
     → (b : Bool) → MatchBool b (IsCutOff K o (tear given.config.tears x.passed) x next) (next ≡ x) → StaysFitted given next.passed next.device
 keeps_by {M = M} K o given w x next step h true cut =
     let here = StaysFitted-step K o given w x step h in

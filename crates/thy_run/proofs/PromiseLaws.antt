@@ -18,7 +18,7 @@ use Rattle.thy_run.specs.Images.{Found, HasLeft, AllFit}
 use Rattle.thy_run.specs.Laws.{course_of, first_marks, marks_of, first_found, torn, LeavesRoom, Promise, RunKeepsPromise}
 use Rattle.thy_run.specs.Progress.{IsSoonOver}
 use Rattle.thy_run.specs.Unfinished.{StepFailed, ReadFailed, Ends}
-use Rattle.thy_run.specs.World.{World, Given, seen, events_of, Steps}
+use Rattle.thy_run.specs.World.{World, Given, seen, events_of, TakesStep}
 use Rattle.thy_run.proofs.CoverLaws.{Covers-sealed, Covers-part, Safe-covered}
 use Rattle.thy_run.proofs.ImageLaws.{ImagesFit, AllFit-events}
 use Rattle.thy_run.proofs.ImageLemmas.{AllFit-append, AllFit-ends, AllFit-part}
@@ -27,7 +27,7 @@ use Rattle.thy_run.proofs.PickLaws.{StaysFitted, StaysFitted-framed, StaysFitted
 use Rattle.thy_run.proofs.SoonLaws.{SoonOver-ran}
 use Rattle.thy_run.proofs.WorldLaws.{Coheres, Listed, Good, listed_going, events_uncut, Coheres-stepped, Good-ran, cycles-ran}
 use Rattle.thy_base.proofs.RangeLemmas.{epoch_least}
-use Rattle.thy_run.proofs.StepFrames.{Steps-framed}
+use Rattle.thy_run.proofs.StepFrames.{TakesStep-framed}
 
 -- ---- lists
 
@@ -114,7 +114,7 @@ module _ {M : Type 0} (K : KindOf M) (o : Origin) (given : Given) (w : World M) 
       }
 
   -- of the step's events only a part was made
-  telling_promise : (part rest : List Event) (next : World M) (events : List Event) (n : Device) → Steps K o w next → next.events ≡ w.events ++ part ++ rest → has_ended part ≡ false
+  telling_promise : (part rest : List Event) (next : World M) (events : List Event) (n : Device) → TakesStep K o w next → next.events ≡ w.events ++ part ++ rest → has_ended part ≡ false
       → (n ≡ next.device) ⊎ ReadFailed w events n next rest → Promise K o given w.cycles (w.events ++ part) n
   telling_promise part rest next events n step split unended device =
       let m : Marks = marks_of o w.events in
@@ -123,9 +123,9 @@ module _ {M : Type 0} (K : KindOf M) (o : Origin) (given : Given) (w : World M) 
       let whole : es ≡ part ++ rest = behind_same w.events es (part ++ rest) (sym (ap (λ (x : World M). x.events) step.next_is) ∙ split ∙ append_assoc w.events part rest) in
       let uncut : cuts_among part ≡ [] =
       first_none (cuts_among part) (cuts_among rest) (sym (cuts_among-append part rest) ∙ ap cuts_among (sym whole) ∙ events_uncut o w.fresh (seen K o w) step.r.did (seen K o next) (w.cycles + 1)) in
-      let left_next : next.device.left ≡ w.device.left = (Steps-framed K o w next step).left in
+      let left_next : next.device.left ≡ w.device.left = (TakesStep-framed K o w next step).left in
       let left : n.left ≡ next.device.left = elim device as (λ _. n.left ≡ next.device.left) [ inl e ↦ ap (λ (x : Device). x.left) e | inr f ↦ f.framed.left ] in
-      let at_next : StaysFitted given w.passed next.device = StaysFitted-framed given w.passed w.device next.device (Steps-framed K o w next step) keeps in
+      let at_next : StaysFitted given w.passed next.device = StaysFitted-framed given w.passed w.device next.device (TakesStep-framed K o w next step) keeps in
       let kept : StaysFitted given w.passed n = elim device as (λ _. StaysFitted given w.passed n) [
         | inl e ↦ subst (StaysFitted given w.passed) (sym e) at_next
         | inr f ↦ StaysFitted-framed given w.passed next.device n f.framed at_next
@@ -166,8 +166,8 @@ module _ {M : Type 0} (K : KindOf M) (o : Origin) (given : Given) (w : World M) 
       subst (λ (vs : List Event). Promise K o given w.cycles vs n) (sym f.nothing_told)
       (failed_promise n (subst (λ (vs : List Event). StepFailed K o w vs n) f.nothing_told f))
   ends_promise events n (inr (inr t)) =
-      subst (λ (vs : List Event). Promise K o given w.cycles vs n) (sym t.told)
-      (telling_promise t.part t.rest t.next events n t.steps (t.split ∙ ap (λ (vs : List Event). vs ++ t.rest) t.told) t.unended t.why)
+      subst (λ (vs : List Event). Promise K o given w.cycles vs n) (sym t.grew)
+      (telling_promise t.part t.rest t.next events n t.steps (t.split ∙ ap (λ (vs : List Event). vs ++ t.rest) t.grew) t.unended t.why)
 
 -- every run keeps its promise
 pub Promise-finished : {M : Type 0} (K : KindOf M) → IsLawful K → RunKeepsPromise K

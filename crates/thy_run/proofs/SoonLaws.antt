@@ -14,7 +14,7 @@ use Rattle.thy_view.specs.Safe.{IsOneOf}
 use Rattle.thy_base.specs.Marks.{mark}
 use Rattle.thy_view.specs.Views.{is_boot, doubt_of}
 use Rattle.thy_run.specs.Progress.{RunIsSoonOver, Tally, nothing_done, counted, tally_of}
-use Rattle.thy_run.specs.World.{World, Given, seen, Steps, is_due, IsCutOff, tear, Ran}
+use Rattle.thy_run.specs.World.{World, Given, seen, TakesStep, is_due, IsCutOff, tear, Ran}
 use Rattle.thy_run.proofs.StepKinds.{Kind, keeps, loads, restores, advances, seals, commits, kind_of}
 use Rattle.thy_run.proofs.BusyLaws.{Busy-ran}
 
@@ -142,7 +142,7 @@ counts_image o end done v (At epoch state) some h one =
 -- ---- runs
 
 module _ {M : Type 0} (K : KindOf M) (o : Origin) (given : Given) (end : ℕ) (some : o.start.count ≤ end) (over : runs_at o end ≡ false) where
-  by_due : (w x next : World M) (step : Steps K o w x) (t : Tally) → Counts o end t.retired (seen K o w) → (pick : ℕ) (b : Bool)
+  by_due : (w x next : World M) (step : TakesStep K o w x) (t : Tally) → Counts o end t.retired (seen K o w) → (pick : ℕ) (b : Bool)
       → MatchBool b (IsCutOff K o pick x next) (next ≡ x)
       → Counts o end (if b then nothing_done else counted t (is_boot (seen K o w).phase) step.r.did).retired (seen K o next)
   by_due w x next step t h pick true cut =

@@ -19,9 +19,9 @@ use Rattle.thy_run.specs.declared.plan.Plan.{Plan}
 use Rattle.thy_run.specs.declared.progress.Progress.{Progress}
 use Rattle.thy_run.specs.Going.{origin_of, given_of, world_at, IsPlanned}
 use Rattle.thy_run.specs.Sending.{Delivered}
-use Rattle.thy_run.specs.Turning.{IsFitted, Running, RunEnds, first_progress}
+use Rattle.thy_run.specs.Rounds.{IsFitted, Running, RunEnds, first_progress}
 use Rattle.thy_run.proofs.AdvanceLemmas.{good_of}
-use Rattle.thy_run.proofs.TurnLemmas.{Took-none, delivered_all}
+use Rattle.thy_run.proofs.RoundLemmas.{Took-none, delivered_all}
 use Rattle.thy_base.proofs.RangeLemmas.{limit_least}
 
 -- the view with which a run begins has nothing in doubt
@@ -58,7 +58,7 @@ first_going : (o : Origin) (kept : Option Mark) → is_halt (view_of_image o.sta
 first_going o None = refl
 first_going o (Some m) = refl
 
--- the loop before its first turn
+-- the loop before its first round
 pub Running-first : {M : Type 0} (K : KindOf M) (laws : IsLawful K) → (plan : Plan) (p : Progress M) (m : M) (n : Device) (t r : Stream) → IsPlanned plan → K.powered plan.geometry m → IsFitted K plan n
     → p ≡ first_progress plan m → Running K plan n p n 0 t t r r
 Running-first {M = M} K laws plan p m n t r planned powered f is =
@@ -70,9 +70,9 @@ Running-first {M = M} K laws plan p m n t r planned powered f is =
         going = ap (λ v. is_halt v.phase) first.found ∙ first_going o o.kept;
         released = refl;
         room = ap (λ (d : Device). d.left_room) f.is_fitted ∙ ap (λ c. c + 1) f.cuts;
-        calm = refl;
-        spoken = refl;
-        heard = refl;
+        faults = refl;
+        on_terminal = refl;
+        on_report = refl;
       };
       shown_all = Took-none t;
       read_all = Took-none r;
@@ -81,7 +81,7 @@ Running-first {M = M} K laws plan p m n t r planned powered f is =
 
 -- no memory was found for a machine
 pub RunEnds-unpowered : {M : Type 0} (K : KindOf M) (laws : IsLawful K) → (plan : Plan) (events : List Event) (n : Device) (t r : Stream) → IsPlanned plan → IsFitted K plan n → events ≡ []
-    → RunEnds K plan n n (record { stop = Memory; events = events; cycles = 0; mute = false; deaf = false }) t t r r
+    → RunEnds K plan n n (record { stop = Memory; events = events; cycles = 0; terminal_failed = false; report_failed = false }) t t r r
 RunEnds-unpowered K laws plan events n t r planned f none = record {
   last = world_at (first_progress plan (laws.powers plan.geometry).0) n 0;
   ran = first_of K laws plan (laws.powers plan.geometry).0 n planned (laws.powers plan.geometry).1 f;
@@ -96,19 +96,19 @@ RunEnds-unpowered K laws plan events n t r planned f none = record {
 
 -- as many cycles as the limit allows are done
 pub RunEnds-limit : {M : Type 0} (K : KindOf M) → (plan : Plan) (fit : Device) (p : Progress M) (n : Device) (k limit : ℕ) (t0 t r0 r : Stream) → IsPlanned plan → Running K plan fit p n k t0 t r0 r → k ≡ limit
-    → limit ≡ plan.geometry.limit → RunEnds K plan fit n (record { stop = Limit; events = p.events; cycles = limit; mute = p.mute; deaf = p.deaf }) t0 t r0 r
+    → limit ≡ plan.geometry.limit → RunEnds K plan fit n (record { stop = Limit; events = p.events; cycles = limit; terminal_failed = p.terminal_failed; report_failed = p.report_failed }) t0 t r0 r
 RunEnds-limit {M = M} K plan fit p n k limit t0 t r0 r planned running same limit_is =
     let o : Origin = origin_of plan in
     let going : has_ended p.events ≡ false = (good_of K plan fit p n k planned running.goes).stands.ended ∙ running.goes.going in
-    let here : RunEnds K plan fit n (record { stop = Limit; events = p.events; cycles = k; mute = p.mute; deaf = p.deaf }) t0 t r0 r = record {
+    let here : RunEnds K plan fit n (record { stop = Limit; events = p.events; cycles = k; terminal_failed = p.terminal_failed; report_failed = p.report_failed }) t0 t r0 r = record {
       last = world_at p n k;
       ran = running.goes.ran;
       ends = (refl, refl);
       few = omega (arith, same, limit_is);
       settled = p.events;
       is_settled = refl;
-      shown_all = delivered_all p.mute (released_of o p.events) t0 t running.goes.spoken running.shown_all;
-      read_all = delivered_all p.deaf (report_of plan.digest p.events) r0 r running.goes.heard running.read_all;
-      stop_fits = (same ∙ limit_is, going, (running.goes.spoken, running.goes.heard), running.goes.calm);
+      shown_all = delivered_all p.terminal_failed (released_of o p.events) t0 t running.goes.on_terminal running.shown_all;
+      read_all = delivered_all p.report_failed (report_of plan.digest p.events) r0 r running.goes.on_report running.read_all;
+      stop_fits = (same ∙ limit_is, going, (running.goes.on_terminal, running.goes.on_report), running.goes.faults);
     } in
-    subst (λ c. RunEnds K plan fit n (record { stop = Limit; events = p.events; cycles = c; mute = p.mute; deaf = p.deaf }) t0 t r0 r) same here
+    subst (λ c. RunEnds K plan fit n (record { stop = Limit; events = p.events; cycles = c; terminal_failed = p.terminal_failed; report_failed = p.report_failed }) t0 t r0 r) same here

@@ -6,7 +6,7 @@ use Rattle.thy_view.specs.Action.{Action, Rest, ReadAt, WriteAt, Barrier, Drain,
 use Rattle.thy_view.specs.declared.did.Did.{Did}
 use Rattle.thy_view.specs.Kind.{KindOf}
 use Rattle.thy_view.specs.Origin.{Origin}
-use Rattle.thy_run.specs.World.{World, Steps}
+use Rattle.thy_run.specs.World.{World, TakesStep}
 
 framed_after : (a : Action) (n : Device) → IsFramed n (after a n)
 framed_after Rest n = record { blocks = refl; left = refl; picks = refl; queue_room = refl; left_room = refl; fits = refl }
@@ -19,5 +19,5 @@ IsFramed-acts : (did : Did) (n new : Device) → Acts did n new → IsFramed n n
 IsFramed-acts did n new a = subst (IsFramed n) (sym a.left) (framed_after a.action n)
 
 -- it changes nothing that only a fit and a cut change
-pub Steps-framed : {M : Type 0} (K : KindOf M) (o : Origin) (w next : World M) → Steps K o w next → IsFramed w.device next.device
-Steps-framed K o w next step = IsFramed-acts step.r.did w.device next.device step.is_step.acts
+pub TakesStep-framed : {M : Type 0} (K : KindOf M) (o : Origin) (w next : World M) → TakesStep K o w next → IsFramed w.device next.device
+TakesStep-framed K o w next step = IsFramed-acts step.r.did w.device next.device step.is_step.acts

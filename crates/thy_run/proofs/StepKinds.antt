@@ -12,7 +12,7 @@ use Rattle.thy_view.specs.Origin.{Origin, runs_at}
 use Rattle.thy_view.specs.Pace.{retires, Strides}
 use Rattle.thy_base.specs.Marks.{mark}
 use Rattle.thy_view.specs.Views.{is_boot}
-use Rattle.thy_run.specs.World.{told}
+use Rattle.thy_run.specs.World.{did_told}
 
 -- the step leaves phase, marks and counts, tells nothing, and no epoch ends with it
 pub record Keeps (o : Origin) (v next : View) (did : Did) : Type 0 where
@@ -22,7 +22,7 @@ pub record Keeps (o : Origin) (v next : View) (did : Did) : Type 0 where
   pub count : next.count ≡ v.count
   pub retired : next.retired ≡ v.retired
   pub none : retires did ≡ 0
-  pub nothing_told : (cycle : ℕ) → told o did cycle ≡ []
+  pub nothing_told : (cycle : ℕ) → did_told o did cycle ≡ []
   pub idle : (retired : ℕ) (old new : Bool) → Strides did retired old new → new ≡ old
 
 pub record Loads (o : Origin) (v next : View) (did : Did) : Type 0 where

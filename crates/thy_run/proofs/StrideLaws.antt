@@ -14,7 +14,7 @@ use Rattle.thy_view.specs.Pace.{Strides as KeepsIdle}
 use Rattle.thy_view.specs.Views.{is_boot, loads as is_loading, halts}
 use Rattle.thy_run.specs.Strides.{Epoch, first_epoch, epoch_after, AllStride, RunStrides}
 use Rattle.thy_run.specs.Unfinished.{Ends}
-use Rattle.thy_run.specs.World.{World, Given, seen, told, reload_told, end_told, events_of, Steps, is_due, IsCutOff, tear, Ran}
+use Rattle.thy_run.specs.World.{World, Given, seen, did_told, reload_told, end_told, events_of, TakesStep, is_due, IsCutOff, tear, Ran}
 use Rattle.thy_run.proofs.StepKinds.{Kind, keeps, loads, restores, advances, seals, commits, kind_of}
 
 -- ---- epochs and events
@@ -55,11 +55,11 @@ leaves_end o start e next cycle true = ((tt, tt), refl)
 leaves_end o start e next cycle false = (tt, refl)
 
 -- all the events of a cycle leave what that of its deed leaves
-leaves_all : (o : Origin) (start : ℕ) (e f : Epoch) (fresh : Bool) (v : View) (did : Did) (next : View) (cycle : ℕ) → Leaves start e (told o did cycle) f
+leaves_all : (o : Origin) (start : ℕ) (e f : Epoch) (fresh : Bool) (v : View) (did : Did) (next : View) (cycle : ℕ) → Leaves start e (did_told o did cycle) f
     → Leaves start e (events_of o fresh v did next cycle) f
 leaves_all o start e f fresh v did next cycle l =
-    leaves_append start e f f (reload_told fresh next ++ told o did cycle) (end_told o v next cycle)
-    (leaves_append start e e f (reload_told fresh next) (told o did cycle) (leaves_reload start e (fresh && is_loading next)) l)
+    leaves_append start e f f (reload_told fresh next ++ did_told o did cycle) (end_told o v next cycle)
+    (leaves_append start e e f (reload_told fresh next) (did_told o did cycle) (leaves_reload start e (fresh && is_loading next)) l)
     (leaves_end o start f next cycle (halts v next))
 
 -- ---- between two cycles
@@ -74,14 +74,14 @@ pub record Tells (o : Origin) (e : Epoch) (v : View) (known : Bool) : Type 0 whe
 -- what a step leaves
 record TellsOn (o : Origin) (e : Epoch) (next : View) (did : Did) (cycle : ℕ) (known : Bool) : Type 0 where
   after : Epoch
-  leaves : Leaves o.start.count e (told o did cycle) after
+  leaves : Leaves o.start.count e (did_told o did cycle) after
   tells : Tells o after next known
 
 not_both : {A : Type 0} (b : Bool) → b ≡ true → b ≡ false → A
 not_both b e f = absurd (cc)
 
 -- events that say nothing of epochs
-tells_same : (o : Origin) (e : Epoch) (next : View) (did : Did) (cycle : ℕ) (known : Bool) → Leaves o.start.count e (told o did cycle) e → Tells o e next known
+tells_same : (o : Origin) (e : Epoch) (next : View) (did : Did) (cycle : ℕ) (known : Bool) → Leaves o.start.count e (did_told o did cycle) e → Tells o e next known
     → TellsOn o e next did cycle known
 tells_same o e next did cycle known l t = record { after = e; leaves = l; tells = t }
 
@@ -98,7 +98,7 @@ tells_step o e v next did cycle old new (keeps k) step h =
 tells_step o e v next did cycle old new (loads k) step h =
     let here = h.boot (ap is_boot k.boot) in
     let same : new ≡ old = subst (λ d. KeepsIdle d v.retired old new) k.did_is step in
-    tells_same o e next did cycle new (subst (λ d. Leaves o.start.count e (told o d cycle) e) (sym k.did_is) ((tt, tt), refl))
+    tells_same o e next did cycle new (subst (λ d. Leaves o.start.count e (did_told o d cycle) e) (sym k.did_is) ((tt, tt), refl))
     (record {
       idle = λ i. same ∙ h.idle i;
       boot = λ b. not_both _ b k.up;
@@ -107,7 +107,7 @@ tells_step o e v next did cycle old new (loads k) step h =
 tells_step o e v next did cycle old new (restores k) step h =
     record {
       after = first_epoch k.to;
-      leaves = subst (λ d. Leaves o.start.count e (told o d cycle) (first_epoch k.to)) (sym k.did_is) ((tt, tt), refl);
+      leaves = subst (λ d. Leaves o.start.count e (did_told o d cycle) (first_epoch k.to)) (sym k.did_is) ((tt, tt), refl);
       tells = record {
         idle = λ i. absurd (cc);
         boot = λ b. not_both _ b k.up;
@@ -117,7 +117,7 @@ tells_step o e v next did cycle old new (restores k) step h =
 tells_step o e v next did cycle old new (advances k) step h =
     let here = h.up (ap is_boot k.runs) in
     let same : new ≡ old = subst (λ d. KeepsIdle d v.retired old new) k.did_is step in
-    tells_same o e next did cycle new (subst (λ d. Leaves o.start.count e (told o d cycle) e) (sym k.did_is) (tt, refl))
+    tells_same o e next did cycle new (subst (λ d. Leaves o.start.count e (did_told o d cycle) e) (sym k.did_is) (tt, refl))
     (record {
       idle = λ i. same ∙ h.idle i;
       boot = λ b. not_both _ b k.up;
@@ -130,7 +130,7 @@ tells_step o e v next did cycle old new (seals k) step h =
     let strides : e.idle ≡ true → e.began < v.count = λ i. (let some : 1 ≤ v.retired = known.0 (h.idle i) in omega (arith, some, here)) in
     record {
       after = after;
-      leaves = subst (λ d. Leaves o.start.count e (told o d cycle) after) (sym k.did_is) ((strides, tt), refl);
+      leaves = subst (λ d. Leaves o.start.count e (did_told o d cycle) after) (sym k.did_is) ((strides, tt), refl);
       tells = record {
         idle = λ i.
             let same : v.count ≡ e.began = eqb-true v.count e.began i in
@@ -142,7 +142,7 @@ tells_step o e v next did cycle old new (seals k) step h =
 tells_step o e v next did cycle old new (commits k) step h =
     let here = h.up (ap is_boot k.runs) in
     let same : new ≡ old = subst (λ d. KeepsIdle d v.retired old new) k.did_is step in
-    tells_same o e next did cycle new (subst (λ d. Leaves o.start.count e (told o d cycle) e) (sym k.did_is) ((tt, tt), refl))
+    tells_same o e next did cycle new (subst (λ d. Leaves o.start.count e (did_told o d cycle) e) (sym k.did_is) ((tt, tt), refl))
     (record {
       idle = λ i. same ∙ h.idle i;
       boot = λ b. not_both _ b k.up;
@@ -170,7 +170,7 @@ module _ {M : Type 0} (K : KindOf M) (o : Origin) where
   first = first_epoch o.start.count
 
   -- one more step
-  pub strode_step : (w x : World M) → Steps K o w x → Strode K o w → Strode K o x
+  pub strode_step : (w x : World M) → TakesStep K o w x → Strode K o w → Strode K o x
   strode_step w x step h =
       let v : View = seen K o w in
       let next : View = seen K o x in
@@ -182,26 +182,26 @@ module _ {M : Type 0} (K : KindOf M) (o : Origin) where
       let l : Leaves o.start.count e es on.after = leaves_all o o.start.count e on.after w.fresh v did next (w.cycles + 1) on.leaves in
       let all : AllStride o.start.count first (w.events ++ es) = AllStride-append o.start.count first w.events es h.all l.0 in
       let here : epoch_from o.start.count first (w.events ++ es) ≡ on.after = epoch_from-append o.start.count first w.events es ∙ l.1 in
-      let told : x.events ≡ w.events ++ es = ap (λ (y : World M). y.events) step.next_is in
+      let did_told : x.events ≡ w.events ++ es = ap (λ (y : World M). y.events) step.next_is in
       record {
-        all = subst (AllStride o.start.count first) (sym told) all;
-        tells = subst (λ t. Tells o t next (K.gauge x.machine x.device).idle) (sym (ap (epoch_from o.start.count first) told ∙ here)) on.tells;
+        all = subst (AllStride o.start.count first) (sym did_told) all;
+        tells = subst (λ t. Tells o t next (K.gauge x.machine x.device).idle) (sym (ap (epoch_from o.start.count first) did_told ∙ here)) on.tells;
       }
 
   -- a cut
   strode_cut : (pick : ℕ) (x next : World M) → IsCutOff K o pick x next → Strode K o x → Strode K o next
   strode_cut pick x next cut h =
       let es : List Event = Cut (x.passed + 1) x.cycles ∷ [] in
-      let told : next.events ≡ x.events ++ es = ap (λ (y : World M). y.events) cut.next_is in
+      let did_told : next.events ≡ x.events ++ es = ap (λ (y : World M). y.events) cut.next_is in
       let here : epoch_from o.start.count first (x.events ++ es) ≡ first = epoch_from-append o.start.count first x.events es in
       let boot = image_boot o.start.count _ in
       record {
-        all = subst (AllStride o.start.count first) (sym told) (AllStride-append o.start.count first x.events es h.all (tt, tt));
-        tells = subst (λ e. Tells o e (seen K o next) (K.gauge next.machine next.device).idle) (sym (ap (epoch_from o.start.count first) told ∙ here))
+        all = subst (AllStride o.start.count first) (sym did_told) (AllStride-append o.start.count first x.events es h.all (tt, tt));
+        tells = subst (λ e. Tells o e (seen K o next) (K.gauge next.machine next.device).idle) (sym (ap (epoch_from o.start.count first) did_told ∙ here))
             (tells_boot o (seen K o next) _ (ap (λ v. is_boot v.phase) cut.found ∙ boot.0) (ap (λ v. v.retired) cut.found ∙ boot.1));
       }
 
-  by_due : (w x next : World M) → Steps K o w x → Strode K o w → (pick : ℕ) (b : Bool) → MatchBool b (IsCutOff K o pick x next) (next ≡ x) → Strode K o next
+  by_due : (w x next : World M) → TakesStep K o w x → Strode K o w → (pick : ℕ) (b : Bool) → MatchBool b (IsCutOff K o pick x next) (next ≡ x) → Strode K o next
   by_due w x next step h pick true cut = strode_cut pick x next cut (strode_step w x step h)
   by_due w x next step h pick false is = subst (Strode K o) (sym is) (strode_step w x step h)
 

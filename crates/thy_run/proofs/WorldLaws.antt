@@ -29,18 +29,18 @@ use Rattle.thy_view.proofs.SafeLemmas.{Safe-doubt}
 use Rattle.thy_run.specs.Cuts.{is_end, has_ended, cuts_among, numbered, last_cuttable, cuts_up_to}
 use Rattle.thy_run.specs.Images.{Found, found, AllFit}
 use Rattle.thy_run.specs.Laws.{course_of, marks_at, first_marks, marks_of, first_found}
-use Rattle.thy_run.specs.World.{World, seen, told, reload_told, end_told, events_of, stepped, Steps, is_due, cut_off, IsCutOff, tear, Cycle, Given, IsFirst, Ran}
+use Rattle.thy_run.specs.World.{World, seen, did_told, reload_told, end_told, events_of, after_step, TakesStep, is_due, cut_off, IsCutOff, tear, Cycle, Given, IsFirst, Ran}
 use Rattle.thy_run.proofs.Fitting.{IsEither, Rises, Follows, FitsIn, Fits}
 use Rattle.thy_run.proofs.CoverLaws.{Covers-fits, Safe-covered}
 use Rattle.thy_run.proofs.EventLaws.{Fits-events}
 use Rattle.thy_run.proofs.ImageLaws.{IsFound, ImagesFit, AllFit-events}
 use Rattle.thy_run.proofs.ImageLemmas.{AllFit-append}
 use Rattle.thy_run.proofs.ListedLemmas.{next_cut, cuts_among-append, numbered-take, up_none}
-use Rattle.thy_run.proofs.StepFrames.{Steps-framed}
+use Rattle.thy_run.proofs.StepFrames.{TakesStep-framed}
 
 -- ---- the events of a step are neither cuts nor, unless it halts, an end
 
-pub told_uncut : (o : Origin) (did : Did) (cycle : ℕ) → (cuts_among (told o did cycle) ≡ []) × (has_ended (told o did cycle) ≡ false)
+pub told_uncut : (o : Origin) (did : Did) (cycle : ℕ) → (cuts_among (did_told o did cycle) ≡ []) × (has_ended (did_told o did cycle) ≡ false)
 told_uncut o Boot cycle = (refl, refl)
 told_uncut o Loaded cycle = (refl, refl)
 told_uncut o (Restarted epoch count) cycle = (refl, refl)
@@ -69,17 +69,17 @@ end_uncut o next cycle false = (refl, refl)
 
 pub events_uncut : (o : Origin) (fresh : Bool) (v : View) (did : Did) (next : View) (cycle : ℕ) → cuts_among (events_of o fresh v did next cycle) ≡ []
 events_uncut o fresh v did next cycle =
-    cuts_among-append (reload_told fresh next ++ told o did cycle) (end_told o v next cycle)
-    ∙ ap (λ (l : List Event). l ++ cuts_among (end_told o v next cycle)) (cuts_among-append (reload_told fresh next) (told o did cycle)
-    ∙ ap (λ (l : List Event). l ++ cuts_among (told o did cycle)) (reload_uncut (fresh && loads next)).0
+    cuts_among-append (reload_told fresh next ++ did_told o did cycle) (end_told o v next cycle)
+    ∙ ap (λ (l : List Event). l ++ cuts_among (end_told o v next cycle)) (cuts_among-append (reload_told fresh next) (did_told o did cycle)
+    ∙ ap (λ (l : List Event). l ++ cuts_among (did_told o did cycle)) (reload_uncut (fresh && loads next)).0
     ∙ (told_uncut o did cycle).0)
     ∙ (end_uncut o next cycle (halts v next)).0
 
 pub events_end : (o : Origin) (fresh : Bool) (v : View) (did : Did) (next : View) (cycle : ℕ) → has_ended (events_of o fresh v did next cycle) ≡ halts v next
 events_end o fresh v did next cycle =
-    list_any-append is_end (reload_told fresh next ++ told o did cycle) (end_told o v next cycle)
-    ∙ ap (λ b. b || has_ended (end_told o v next cycle)) (list_any-append is_end (reload_told fresh next) (told o did cycle)
-    ∙ or_from (has_ended (reload_told fresh next)) (has_ended (told o did cycle)) (reload_uncut (fresh && loads next)).1 (told_uncut o did cycle).1)
+    list_any-append is_end (reload_told fresh next ++ did_told o did cycle) (end_told o v next cycle)
+    ∙ ap (λ b. b || has_ended (end_told o v next cycle)) (list_any-append is_end (reload_told fresh next) (did_told o did cycle)
+    ∙ or_from (has_ended (reload_told fresh next)) (has_ended (did_told o did cycle)) (reload_uncut (fresh && loads next)).1 (told_uncut o did cycle).1)
     ∙ (end_uncut o next cycle (halts v next)).1
 
 -- ---- between two cycles
@@ -113,7 +113,7 @@ and_true false = refl
 
 module _ {M : Type 0} (K : KindOf M) (o : Origin) (w : World M) (least : 1 ≤ o.geometry.epoch) (h : Coheres K o w) where
   -- the world after a step, given as the definition has it
-  stepped_coheres : (x : World M) (step : Steps K o w x) → Coheres K o (stepped K o w x.machine x.device step.r.did)
+  stepped_coheres : (x : World M) (step : TakesStep K o w x) → Coheres K o (after_step K o w x.machine x.device step.r.did)
   stepped_coheres x step =
       let next : View = seen K o x in
       let v : View = seen K o w in
@@ -126,7 +126,7 @@ module _ {M : Type 0} (K : KindOf M) (o : Origin) (w : World M) (least : 1 ≤ o
       let fits : Fits o next (marks_of o (w.events ++ e)) = subst (Fits o next) (sym marks) events.0 in
       let read : List Block → Decoded = K.decode o.geometry ceiling in
       let now : Found → Type 0 = ImagesFit o (w.cycles + 1) false next in
-      let left : x.device.left ≡ w.device.left = (Steps-framed K o w x step).left in
+      let left : x.device.left ≡ w.device.left = (TakesStep-framed K o w x step).left in
       record {
         at_moment = step.is_step.at_next;
         fits = fits;
@@ -143,15 +143,15 @@ module _ {M : Type 0} (K : KindOf M) (o : Origin) (w : World M) (least : 1 ≤ o
       }
 
   -- a step
-  pub Coheres-stepped : (x : World M) (step : Steps K o w x) → Coheres K o x
+  pub Coheres-stepped : (x : World M) (step : TakesStep K o w x) → Coheres K o x
   Coheres-stepped x step = subst (Coheres K o) (sym step.next_is) (stepped_coheres x step)
 
 -- ---- the cuts that are listed
 
-listed_stepped : {M : Type 0} (K : KindOf M) → (o : Origin) (cuts : List ℕ) (w x : World M) (cycle : ℕ) → Steps K o w x → Listed cuts cycle w → Listed cuts cycle x
+listed_stepped : {M : Type 0} (K : KindOf M) → (o : Origin) (cuts : List ℕ) (w x : World M) (cycle : ℕ) → TakesStep K o w x → Listed cuts cycle w → Listed cuts cycle x
 listed_stepped {M = M} K o cuts w x cycle step l =
     let e : List Event = events_of o w.fresh (seen K o w) step.r.did (seen K o x) (w.cycles + 1) in
-    let now : Listed cuts cycle (stepped K o w x.machine x.device step.r.did) = record {
+    let now : Listed cuts cycle (after_step K o w x.machine x.device step.r.did) = record {
       few = l.few;
       up_to = l.up_to;
       among = cuts_among-append w.events e ∙ ap (λ (c : List Event). cuts_among w.events ++ c) (events_uncut o w.fresh (seen K o w) step.r.did (seen K o x) (w.cycles + 1))
@@ -159,7 +159,7 @@ listed_stepped {M = M} K o cuts w x cycle step l =
     } in
     subst (Listed cuts cycle) (sym step.next_is) now
 
-stepped_cycles : {M : Type 0} (K : KindOf M) → (o : Origin) (w x : World M) → Steps K o w x → x.cycles ≡ w.cycles + 1
+stepped_cycles : {M : Type 0} (K : KindOf M) → (o : Origin) (w x : World M) → TakesStep K o w x → x.cycles ≡ w.cycles + 1
 stepped_cycles {M = M} K o w x step = ap (λ (y : World M). y.cycles) step.next_is
 
 -- a run that goes on: the cuts up to its cycle
@@ -186,7 +186,7 @@ not_due {M = M} K o cuts x c cycles l rising due going = elim (next_cut c 0 cuts
 ]
 
 -- no cut is due after the step
-good_stepped : {M : Type 0} (K : KindOf M) → (o : Origin) (cuts : List ℕ) (w x : World M) → IsRising 0 cuts → Steps K o w x → Listed cuts w.cycles w → Coheres K o x → is_due K o cuts x ≡ false
+good_stepped : {M : Type 0} (K : KindOf M) → (o : Origin) (cuts : List ℕ) (w x : World M) → IsRising 0 cuts → TakesStep K o w x → Listed cuts w.cycles w → Coheres K o x → is_due K o cuts x ≡ false
     → Listed cuts (last_cuttable x.events x.cycles) x
 good_stepped {M = M} K o cuts w x rising step l stands due = by_end (is_halt (seen K o x).phase) refl
   where
@@ -335,7 +335,7 @@ module _ {M : Type 0} (K : KindOf M) (o : Origin) (x next : World M) (h : Cohere
 
 -- ---- cycles
 
-by_due : {M : Type 0} (K : KindOf M) → (o : Origin) (cuts : List ℕ) (w x next : World M) → IsRising 0 cuts → Steps K o w x → Listed cuts w.cycles w → Coheres K o x
+by_due : {M : Type 0} (K : KindOf M) → (o : Origin) (cuts : List ℕ) (w x next : World M) → IsRising 0 cuts → TakesStep K o w x → Listed cuts w.cycles w → Coheres K o x
     → (pick : ℕ) (b : Bool) → is_due K o cuts x ≡ b → MatchBool b (IsCutOff K o pick x next) (next ≡ x) → Good K o cuts next
 by_due {M = M} K o cuts w x next rising step l stands pick false due is =
     subst (Good K o cuts) (sym is) (record { stands = stands; listed = good_stepped K o cuts w x rising step l stands due })
@@ -423,7 +423,7 @@ Good-ran {M = M} K o given zero w least rising first = Good-first K o given w ri
 Good-ran {M = M} K o given (suc k) w least rising (before, ran, cycle) =
     Good-cycle K o given.config.cuts given.config.tears before w least rising (Good-ran K o given k before least rising ran) cycle
 
-cycle_counts : {M : Type 0} (K : KindOf M) → (o : Origin) (cuts : List ℕ) (w x next : World M) → Steps K o w x → (pick : ℕ) (b : Bool) → MatchBool b (IsCutOff K o pick x next) (next ≡ x) → next.cycles ≡ w.cycles + 1
+cycle_counts : {M : Type 0} (K : KindOf M) → (o : Origin) (cuts : List ℕ) (w x next : World M) → TakesStep K o w x → (pick : ℕ) (b : Bool) → MatchBool b (IsCutOff K o pick x next) (next ≡ x) → next.cycles ≡ w.cycles + 1
 cycle_counts {M = M} K o cuts w x next step pick true cut = ap (λ (y : World M). y.cycles) cut.next_is ∙ stepped_cycles K o w x step
 cycle_counts {M = M} K o cuts w x next step pick false is = ap (λ (y : World M). y.cycles) is ∙ stepped_cycles K o w x step
 

@@ -51,15 +51,15 @@ pub record EndsWith (events : List Event) (status : Status) : Type 0 where
 
 -- neither sink failed
 abbrev pub IsHeard : Ending → Type 0
-IsHeard e = (e.mute ≡ false) × (e.deaf ≡ false)
+IsHeard e = (e.terminal_failed ≡ false) × (e.report_failed ≡ false)
 
 -- what a stop says of a run that may have so many cycles, between the device as it was fitted and the one that is left
 abbrev pub StopFits : ℕ → Device → Device → Ending → Stop → Type 0
 StopFits limit old new e (Ended status) = EndsWith e.events status × IsHeard e × (new.faults ≡ old.faults)
 StopFits limit old new e Nvm = Rose old.faults new.faults × (e.cycles < limit) × IsHeard e
 StopFits limit old new e Memory = (e.cycles < limit) × (new.faults ≡ old.faults)
-StopFits limit old new e Terminal = (e.mute ≡ true) × (e.deaf ≡ false) × (new.faults ≡ old.faults)
-StopFits limit old new e Report = (e.deaf ≡ true) × (new.faults ≡ old.faults)
+StopFits limit old new e Terminal = (e.terminal_failed ≡ true) × (e.report_failed ≡ false) × (new.faults ≡ old.faults)
+StopFits limit old new e Report = (e.report_failed ≡ true) × (new.faults ≡ old.faults)
 StopFits limit old new e Limit =
     (e.cycles ≡ limit) × (has_ended e.events ≡ false) × IsHeard e × (new.faults ≡ old.faults)
 
@@ -72,6 +72,6 @@ pub record HasRun {M : Type 0} (K : KindOf M) (o : Origin) (given : Given) (new 
   pub few : e.cycles ≤ o.geometry.limit
   pub settled : List Event
   pub is_settled : IsSettled K o given last settled e.stop
-  pub shown_all : Delivered (is_memory e.stop) e.mute (released_of o settled) (released_of o e.events) terminal shown
-  pub read_all : Delivered false e.deaf (report_of given.digest settled) (report_of given.digest e.events) report read
+  pub shown_all : Delivered (is_memory e.stop) e.terminal_failed (released_of o settled) (released_of o e.events) terminal shown
+  pub read_all : Delivered false e.report_failed (report_of given.digest settled) (report_of given.digest e.events) report read
   pub stop_fits : StopFits o.geometry.limit given.fitted new e e.stop

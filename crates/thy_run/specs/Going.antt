@@ -23,7 +23,7 @@ use Rattle.thy_run.specs.Due.{due_of}
 use Rattle.thy_run.specs.Endings.{EndsWith}
 use Rattle.thy_run.specs.Laws.{released_of}
 use Rattle.thy_run.specs.Unfinished.{StepFailed, TellingFailed, ReadFailed, LeftAlone}
-use Rattle.thy_run.specs.World.{World, Given, seen, Steps, Ran, Cycle, tear}
+use Rattle.thy_run.specs.World.{World, Given, seen, TakesStep, Ran, Cycle, tear}
 use Rattle.thy_run.specs.declared.ending.Stop.{Stop}
 use Rattle.thy_run.specs.declared.ending.Stop.TheVariants.{Nvm, Memory}
 use Rattle.thy_run.specs.declared.advance.Outcome.{Outcome}
@@ -63,9 +63,9 @@ pub record GoesOn {M : Type 0} (K : KindOf M) (plan : Plan) (fitted : Device) (p
   pub going : is_halt (seen K (origin_of plan) (world_at p n cycles)).phase ≡ false
   pub released : p.released ≡ length (released_of (origin_of plan) p.events)
   pub room : n.left_room ≡ length plan.config.cuts + 1
-  pub calm : n.faults ≡ fitted.faults
-  pub spoken : p.mute ≡ false
-  pub heard : p.deaf ≡ false
+  pub faults : n.faults ≡ fitted.faults
+  pub on_terminal : p.terminal_failed ≡ false
+  pub on_report : p.report_failed ≡ false
 
 -- ---- a step, and what is read for its events
 
@@ -73,7 +73,7 @@ pub record GoesOn {M : Type 0} (K : KindOf M) (plan : Plan) (fitted : Device) (p
 pub record IsStepped {M : Type 0} (K : KindOf M) (plan : Plan) (p next : Progress M) (n new : Device) (cycles : ℕ) (r : Stepped) : Type 0 where
   pub is_step : IsStep K (origin_of plan) cycles (mix_pick p.mix) p.machine next.machine n new r
   pub framed : IsFramed n new
-  pub calm : new.faults ≡ n.faults
+  pub faults : new.faults ≡ n.faults
   pub same : next ≡ record p { machine = next.machine; mix = mix_next p.mix }
 
 -- what reading for a step's events stands on
@@ -111,7 +111,7 @@ IsEnd o v next (Some status) = (halts v next ≡ true) × (status ≡ (at o next
 pub record MadeSome (made : List Event) (all : List Event) (before : List Event) : Type 0 where
   pub part : List Event
   pub rest : List Event
-  pub told : made ≡ before ++ part
+  pub grew : made ≡ before ++ part
   pub split : all ≡ part ++ rest
   pub some : rest ≢ []
   pub unended : has_ended part ≡ false
@@ -127,32 +127,32 @@ pub record IsStuck {M : Type 0} (K : KindOf M) (plan : Plan) (p next : Progress 
 
 -- the step and all its events were made, and these bytes are due to the terminal
 pub record IsNoted {M : Type 0} (K : KindOf M) (plan : Plan) (p next : Progress M) (n new : Device) (cycles : ℕ) (ended : Option Status) (bytes : List ℕ) : Type 0 where
-  pub steps : Steps K (origin_of plan) (world_at p n cycles) (world_at next new (cycles + 1))
+  pub steps : TakesStep K (origin_of plan) (world_at p n cycles) (world_at next new (cycles + 1))
   pub is_end : IsEnd (origin_of plan) (seen K (origin_of plan) (world_at p n cycles)) (seen K (origin_of plan) (world_at next new (cycles + 1))) ended
   pub released : next.released ≡ length (released_of (origin_of plan) next.events)
   pub releases : released_of (origin_of plan) next.events ≡ released_of (origin_of plan) p.events ++ bytes
-  pub calm : new.faults ≡ n.faults
-  pub spoken : next.mute ≡ p.mute
-  pub heard : next.deaf ≡ p.deaf
+  pub faults : new.faults ≡ n.faults
+  pub on_terminal : next.terminal_failed ≡ p.terminal_failed
+  pub on_report : next.report_failed ≡ p.report_failed
 
 -- a cycle is done
 pub record IsDone {M : Type 0} (K : KindOf M) (plan : Plan) (p next : Progress M) (n new : Device) (cycles : ℕ) (bytes : List ℕ) : Type 0 where
   pub cycle : Cycle K (origin_of plan) plan.config.cuts plan.config.tears (world_at p n cycles) (world_at next new (cycles + 1))
   pub released : next.released ≡ length (released_of (origin_of plan) next.events)
   pub releases : released_of (origin_of plan) next.events ≡ released_of (origin_of plan) p.events ++ bytes
-  pub told : (more : List Event) × (next.events ≡ p.events ++ more)
+  pub grew : (more : List Event) × (next.events ≡ p.events ++ more)
   pub room : new.left_room ≡ n.left_room
-  pub calm : new.faults ≡ n.faults
-  pub spoken : next.mute ≡ p.mute
-  pub heard : next.deaf ≡ p.deaf
+  pub faults : new.faults ≡ n.faults
+  pub on_terminal : next.terminal_failed ≡ p.terminal_failed
+  pub on_report : next.report_failed ≡ p.report_failed
 
 -- a cycle was begun and is not done; where memory was not short, the bytes are all that is due
 pub record IsBroken {M : Type 0} (K : KindOf M) (plan : Plan) (p next : Progress M) (n new : Device) (cycles : ℕ) (bytes : List ℕ) : Type 0 where
   pub rest : List ℕ
   pub releases : released_of (origin_of plan) next.events ≡ released_of (origin_of plan) p.events ++ bytes ++ rest
-  pub told : (more : List Event) × (next.events ≡ p.events ++ more)
-  pub spoken : next.mute ≡ p.mute
-  pub heard : next.deaf ≡ p.deaf
+  pub grew : (more : List Event) × (next.events ≡ p.events ++ more)
+  pub on_terminal : next.terminal_failed ≡ p.terminal_failed
+  pub on_report : next.report_failed ≡ p.report_failed
 
 -- a device's fault broke it: its count rose
 pub record IsFault {M : Type 0} (p next : Progress M) (n new : Device) (bytes : List ℕ) : Type 0 where

@@ -10,5 +10,5 @@ pub mod Sending
 pub mod Endings
 pub mod Going
 pub mod Stopping
-pub mod Turning
+pub mod Rounds
 pub mod Promises

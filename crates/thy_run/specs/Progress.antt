@@ -7,7 +7,7 @@ use Rattle.thy_view.specs.Kind.{KindOf}
 use Rattle.thy_view.specs.Origin.{Origin, runs_at}
 use Rattle.thy_view.specs.Pace.{is_drained, retires}
 use Rattle.thy_view.specs.Views.{is_boot}
-use Rattle.thy_run.specs.World.{World, Given, seen, Steps, is_due, Ran}
+use Rattle.thy_run.specs.World.{World, Given, seen, TakesStep, is_due, Ran}
 
 -- the greatest of some cycles, 0 where there is none
 abbrev pub last_of : List ℕ → ℕ
@@ -93,4 +93,4 @@ RunIsBusy {M = M} K =
 -- no cycle of a run does nothing: only a machine that has halted rests
 abbrev pub RunNeverRests : {M : Type 0} → KindOf M → Type 0
 RunNeverRests {M = M} K =
-    (o : Origin) (w next : World M) (step : Steps K o w next) → step.r.did ≢ Nothing
+    (o : Origin) (w next : World M) (step : TakesStep K o w next) → step.r.did ≢ Nothing

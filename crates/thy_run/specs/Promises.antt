@@ -20,15 +20,15 @@ use Rattle.thy_view.specs.Views.{is_between, loads}
 use Rattle.thy_run.specs.Due.{bytes_due, due_of, outcome_of}
 use Rattle.thy_run.specs.declared.advance.Advance.{Advance}
 use Rattle.thy_run.specs.declared.advance.Outcome.{Outcome}
-use Rattle.thy_run.specs.declared.cycles.Turned.{Turned}
+use Rattle.thy_run.specs.declared.cycles.Round.{Round}
 use Rattle.thy_run.specs.declared.ending.Ending.{Ending}
 use Rattle.thy_run.specs.declared.gather.Readings.{Readings}
 use Rattle.thy_run.specs.declared.plan.Plan.{Plan}
 use Rattle.thy_run.specs.declared.progress.Progress.{Progress}
 use Rattle.thy_run.specs.Going.{origin_of, world_at, GoesOn, IsStepped, IsStuck, CanGather, MadeSome, Restores, IsEnding, IsEnd, IsGathered, IsNoted, AwaitsCut, ComesTo}
 use Rattle.thy_run.specs.Sending.{Sinks}
-use Rattle.thy_run.specs.Turning.{Running, IsTurned, RunEnds}
-use Rattle.thy_run.specs.World.{seen, told, end_told, events_of}
+use Rattle.thy_run.specs.Rounds.{Running, IsRound, RunEnds}
+use Rattle.thy_run.specs.World.{seen, did_told, end_told, events_of}
 
 -- ---- a step
 
@@ -81,12 +81,12 @@ GathersAll K p n stepped result =
 -- the event of a restart is made
 abbrev pub NotesRestart : {T E : Type 0} → ℕ → ℕ → Option (Box MachState Global) → List Event → List Event → Result T E → Type 0
 NotesRestart epoch count restored old new result =
-    (o : Origin) → Restores o (Restarted epoch count) restored → OnOk result (new ≡ old ++ told o (Restarted epoch count) 0)
+    (o : Origin) → Restores o (Restarted epoch count) restored → OnOk result (new ≡ old ++ did_told o (Restarted epoch count) 0)
 
 -- so is that of what a step did
 abbrev pub NotesDid : {T E : Type 0} → Did → Option (Box MachState Global) → ℕ → List Event → List Event → Result T E → Type 0
 NotesDid did restored cycle old new result =
-    (o : Origin) → Restores o did restored → OnOk result (new ≡ old ++ told o did cycle)
+    (o : Origin) → Restores o did restored → OnOk result (new ≡ old ++ did_told o did cycle)
 
 -- and that of the end
 abbrev pub NotesEnd : {T E : Type 0} → Option (Box MachState Global) → ℕ → List Event → List Event → Result T E → Type 0
@@ -143,18 +143,18 @@ abbrev pub TakesCycle : {M : Type 0} → KindOf M → Plan → Progress M → Pr
 TakesCycle K plan p next n new done advance =
     (fitted : Device) → GoesOn K plan fitted p n done → ComesTo K plan p next n new done (bytes_due advance) (outcome_of advance)
 
--- ---- a turn of the loop
+-- ---- a round of the loop
 
 -- the run goes on, from where its sinks were at its start
 abbrev pub IsRunning : {M : Type 0} → KindOf M → Plan → Progress M → Device → ℕ → Sinks → Type 0
 IsRunning K plan p n done now =
     (fitted : Device) × (t : Stream) × (r : Stream) × Running K plan fitted p n done t now.terminal r now.report
 
--- and a turn comes to this
-abbrev pub TurnsTo : {M : Type 0} → KindOf M → Plan → Progress M → Progress M → Device → Device → ℕ → Sinks → Sinks → Turned → Type 0
-TurnsTo K plan p next n new done before after turned =
+-- and a round comes to this
+abbrev pub MakesRound : {M : Type 0} → KindOf M → Plan → Progress M → Progress M → Device → Device → ℕ → Sinks → Sinks → Round → Type 0
+MakesRound K plan p next n new done before after round =
     (fitted : Device) (t r : Stream) → Running K plan fitted p n done t before.terminal r before.report
-    → IsTurned K plan fitted p next n new done t before.terminal after.terminal r before.report after.report turned
+    → IsRound K plan fitted p next n new done t before.terminal after.terminal r before.report after.report round
 
 -- a run that went on awaits a cut, with these bytes due to the terminal
 abbrev pub IsAwaiting : {M : Type 0} → KindOf M → Plan → Progress M → Device → ℕ → List ℕ → ℕ → Sinks → Type 0

@@ -9,7 +9,7 @@ use Rattle.thy_view.specs.Views.{is_halt}
 use Rattle.thy_view.specs.Origin.{Origin}
 use Rattle.thy_view.specs.Safe.{Safe}
 use Rattle.thy_run.specs.Cuts.{has_ended}
-use Rattle.thy_run.specs.World.{World, Given, seen, is_due, Steps, Ran}
+use Rattle.thy_run.specs.World.{World, Given, seen, is_due, TakesStep, Ran}
 
 -- the machine's step failed with a fault of the device
 pub record StepFailed {M : Type 0} (K : KindOf M) (o : Origin) (w : World M) (events : List Event) (n : Device) : Type 0 where
@@ -36,10 +36,10 @@ LeftAlone K o cuts n next rest = (n ≡ next.device) × ((rest ≢ []) ⊎ (is_d
 -- these says what the step's device has become, and what was still to be done.
 pub record TellingFailed {M : Type 0} (K : KindOf M) (o : Origin) (w : World M) (events : List Event) (Why : World M → List Event → Type 0) : Type 0 where
   pub next : World M
-  pub steps : Steps K o w next
+  pub steps : TakesStep K o w next
   pub part : List Event
   pub rest : List Event
-  pub told : events ≡ w.events ++ part
+  pub grew : events ≡ w.events ++ part
   pub split : next.events ≡ events ++ rest
   pub unended : has_ended part ≡ false
   pub why : Why next rest

@@ -36,12 +36,12 @@ seen K o w = K.view o w.machine w.device
 -- ---- events
 
 -- the event of what a cycle did
-abbrev pub told : Origin → Did → ℕ → List Event
-told o Loaded cycle = Commit 0 cycle 0 ∷ []
-told o (Restarted epoch count) cycle = Restart epoch count (at o count) ∷ []
-told o (Sealed epoch count cause) cycle = EpochEnd epoch count cause ∷ []
-told o (Committed epoch overlapped) cycle = Commit epoch cycle overlapped ∷ []
-told o did cycle = []
+abbrev pub did_told : Origin → Did → ℕ → List Event
+did_told o Loaded cycle = Commit 0 cycle 0 ∷ []
+did_told o (Restarted epoch count) cycle = Restart epoch count (at o count) ∷ []
+did_told o (Sealed epoch count cause) cycle = EpochEnd epoch count cause ∷ []
+did_told o (Committed epoch overlapped) cycle = Commit epoch cycle overlapped ∷ []
+did_told o did cycle = []
 
 -- the first cycle after a cut tells that the file is loaded again
 abbrev pub reload_told : Bool → View → List Event
@@ -53,13 +53,13 @@ end_told o v next cycle = if halts v next then Ended (at o next.count).status ne
 
 -- the events of a cycle
 abbrev pub events_of : Origin → Bool → View → Did → View → ℕ → List Event
-events_of o fresh v did next cycle = reload_told fresh next ++ told o did cycle ++ end_told o v next cycle
+events_of o fresh v did next cycle = reload_told fresh next ++ did_told o did cycle ++ end_told o v next cycle
 
 -- ---- cycles
 
 -- the world after a step
-abbrev pub stepped : {M : Type 0} → KindOf M → Origin → World M → M → Device → Did → World M
-stepped K o w m n did = record w {
+abbrev pub after_step : {M : Type 0} → KindOf M → Origin → World M → M → Device → Did → World M
+after_step K o w m n did = record w {
   machine = m;
   device = n;
   mix = mix_next w.mix;
@@ -69,11 +69,11 @@ stepped K o w m n did = record w {
 }
 
 -- the machine takes the schedule's next step
-pub record Steps {M : Type 0} (K : KindOf M) (o : Origin) (w next : World M) : Type 0 where
+pub record TakesStep {M : Type 0} (K : KindOf M) (o : Origin) (w next : World M) : Type 0 where
   pub r : Stepped
   pub going : is_halt (seen K o w).phase ≡ false
   pub is_step : IsStep K o w.cycles (mix_pick w.mix) w.machine next.machine w.device next.device r
-  pub next_is : next ≡ stepped K o w next.machine next.device r.did
+  pub next_is : next ≡ after_step K o w next.machine next.device r.did
 
 -- a cut is due: the next one that is listed falls after this cycle, and the run has not ended
 abbrev pub is_due : {M : Type 0} → KindOf M → Origin → List ℕ → World M → Bool
@@ -105,7 +105,7 @@ tear tears i = slice_index_or tears i 0
 -- one cycle: a step, and the cut that is due after it
 pub record Cycle {M : Type 0} (K : KindOf M) (o : Origin) (cuts tears : List ℕ) (w next : World M) : Type 0 where
   pub between : World M
-  pub steps : Steps K o w between
+  pub steps : TakesStep K o w between
   pub cut : MatchBool (is_due K o cuts between) (IsCutOff K o (tear tears between.passed) between next) (next ≡ between)
 
 -- What a run is given besides its program: its configuration, which lists the cuts and their picks and has the schedule's

@@ -47,7 +47,7 @@ pub enum Advance {
     Noted(Noted),
 }
 
-/// Steps the machine by the schedule's next pick.
+/// TakesStep the machine by the schedule's next pick.
 fn step<M: Computer, N: Nvm>(
     progress: &mut Progress<M>,
     plan: &Plan,
@@ -128,8 +128,8 @@ pub fn cut<M: Computer, N: Nvm>(
         passed,
         released,
         fresh: _,
-        mute,
-        deaf,
+        terminal_failed,
+        report_failed,
     } = progress;
     let pick = tear(&plan.config, passed);
     let Ok(machine) = M::power_on(alloc, &plan.geometry, machine.cut(pick)) else {
@@ -149,8 +149,8 @@ pub fn cut<M: Computer, N: Nvm>(
         passed: passed + 1,
         released,
         fresh: true,
-        mute,
-        deaf,
+        terminal_failed,
+        report_failed,
     })
 }
 

@@ -3,9 +3,9 @@ ghost use Rattle.std.specs.Prelude.{◌≡◌, ◌<◌, ◌+◌, length, IfOk};
 ghost use Rattle.thy_base.specs.Bytes.{bytes_of};
 ghost use Rattle.thy_view.specs.Kind.{IsDramOf};
 ghost use Rattle.thy_run.specs.Going.{IsPlanned};
-ghost use Rattle.thy_run.specs.Promises.{IsRunning, TurnsTo, IsAwaiting, RunsTo, CutsOn, CutsShort};
+ghost use Rattle.thy_run.specs.Promises.{IsRunning, MakesRound, IsAwaiting, RunsTo, CutsOn, CutsShort};
 ghost use Rattle.thy_run.specs.Sending.{sinks};
-ghost use Rattle.thy_run.specs.Turning.{ending_of, first_progress, stopped_for, turned_of, IsFitted};
+ghost use Rattle.thy_run.specs.Rounds.{ending_of, first_progress, stopped_for, round_of, IsFitted};
 
 use crate::advance::{Advance, Noted, Outcome, cut, take_cycle};
 use crate::ending::{Ending, Stop};
@@ -18,9 +18,9 @@ use thy_dram::Dram;
 use thy_text::Events;
 use thy_view::Computer;
 
-/// What a turn of the loop comes to.
+/// What a round of the loop comes to.
 #[derive(Drop)]
-pub enum Turned {
+pub enum Round {
     /// The cycle is done, and the run goes on.
     GoesOn,
     /// A cut is due after the cycle, and the terminal is due these bytes.
@@ -32,32 +32,32 @@ pub enum Turned {
 }
 
 /// What a cycle comes to once it was told: a sink that failed stops the run.
-fn come_to(outcome: Outcome, failures: Failures) -> Turned
-    ensures { result ≡ turned_of outcome failures.terminal failures.report }
+fn come_to(outcome: Outcome, failures: Failures) -> Round
+    ensures { result ≡ round_of outcome failures.terminal failures.report }
 {
     match outcome {
-        Outcome::Fails(stop) => Turned::Breaks(stop),
-        Outcome::Goes | Outcome::Cuts => stopped_for(failures, Turned::GoesOn),
-        Outcome::Ends(status) => stopped_for(failures, Turned::Stops(Stop::Ended(status))),
+        Outcome::Fails(stop) => Round::Breaks(stop),
+        Outcome::Goes | Outcome::Cuts => stopped_for(failures, Round::GoesOn),
+        Outcome::Ends(status) => stopped_for(failures, Round::Stops(Stop::Ended(status))),
     }
 }
 
 /// A stop for a sink that failed, else what the cycle came to.
-fn stopped_for(failures: Failures, turned: Turned) -> Turned
-    ensures { result ≡ stopped_for failures.terminal failures.report turned }
+fn stopped_for(failures: Failures, round: Round) -> Round
+    ensures { result ≡ stopped_for failures.terminal failures.report round }
 {
     if failures.report {
-        return Turned::Stops(Stop::Report);
+        return Round::Stops(Stop::Report);
     }
     if failures.terminal {
-        return Turned::Stops(Stop::Terminal);
+        return Round::Stops(Stop::Terminal);
     }
-    turned
+    round
 }
 
 /// One cycle, and then what the sinks are due for it, if no cut is due first. `first` is the number of the events
 /// before it.
-fn turn<M: Computer, T: Sink, R: Sink, N: Nvm>(
+fn take_round<M: Computer, T: Sink, R: Sink, N: Nvm>(
     alloc: Global,
     progress: &mut Progress<M>,
     plan: &Plan,
@@ -66,7 +66,7 @@ fn turn<M: Computer, T: Sink, R: Sink, N: Nvm>(
     terminal: &mut T,
     report: &mut R,
     nvm: &mut N,
-) -> Turned
+) -> Round
     requires planned { IsPlanned plan.now }
     requires running { let before = sinks (T.stream terminal.old) (R.stream report.old) in
         IsRunning M.kind plan.now progress.old (N.device nvm.old) done before }
@@ -76,14 +76,14 @@ fn turn<M: Computer, T: Sink, R: Sink, N: Nvm>(
         let after = sinks (T.stream terminal.new) (R.stream report.new) in
         let n = N.device nvm.old in
         let new = N.device nvm.new in
-        TurnsTo M.kind plan.now progress.old progress.new n new done before after result }
+        MakesRound M.kind plan.now progress.old progress.new n new done before after result }
 {
     let Noted { bytes, outcome } = match take_cycle(alloc, progress, plan, done, nvm) {
-        Advance::Quiet => return Turned::GoesOn,
+        Advance::Quiet => return Round::GoesOn,
         Advance::Noted(noted) => noted,
     };
     if let Outcome::Cuts = outcome {
-        return Turned::Cuts(bytes);
+        return Round::Cuts(bytes);
     }
     let failures = tell(
         bytes.as_slice(),
@@ -93,8 +93,8 @@ fn turn<M: Computer, T: Sink, R: Sink, N: Nvm>(
         terminal,
         report,
     );
-    progress.mute = failures.terminal;
-    progress.deaf = failures.report;
+    progress.terminal_failed = failures.terminal;
+    progress.report_failed = failures.report;
     come_to(outcome, failures)
 }
 
@@ -102,7 +102,7 @@ fn turn<M: Computer, T: Sink, R: Sink, N: Nvm>(
 ///
 /// # Errors
 /// How the run ends: where a sink failed, or memory was short. Then nothing was cut, and the cycle is not done.
-fn turn_off<M: Computer, T: Sink, R: Sink, N: Nvm>(
+fn cut_power<M: Computer, T: Sink, R: Sink, N: Nvm>(
     alloc: Global,
     progress: Progress<M>,
     bytes: Bytes,
@@ -143,8 +143,8 @@ fn turn_off<M: Computer, T: Sink, R: Sink, N: Nvm>(
                 stop: Stop::Memory,
                 events,
                 cycles: done,
-                mute: failures.terminal,
-                deaf: failures.report,
+                terminal_failed: failures.terminal,
+                report_failed: failures.report,
             });
         }
     };
@@ -156,8 +156,8 @@ fn turn_off<M: Computer, T: Sink, R: Sink, N: Nvm>(
         terminal,
         report,
     );
-    next.mute = failures.terminal;
-    next.deaf = failures.report;
+    next.terminal_failed = failures.terminal;
+    next.report_failed = failures.report;
     if failures.report {
         return Err(ended_by(Stop::Report, next, done + 1));
     }
@@ -178,8 +178,8 @@ fn started<M: Computer>(alloc: Global, plan: &Plan, machine: M) -> Progress<M>
         passed: 0,
         released: 0,
         fresh: false,
-        mute: false,
-        deaf: false,
+        terminal_failed: false,
+        report_failed: false,
     }
 }
 
@@ -219,15 +219,15 @@ pub fn run<M: Computer, T: Sink, R: Sink, N: Nvm>(
             stop: Stop::Memory,
             events: Events::new(alloc),
             cycles: 0,
-            mute: false,
-            deaf: false,
+            terminal_failed: false,
+            report_failed: false,
         };
     };
     let mut progress = started(alloc, plan, machine);
     let limit = plan.geometry.numbers().limit;
     for done in 0..limit {
         let first = progress.events.len();
-        match turn(
+        match take_round(
             alloc,
             &mut progress,
             plan,
@@ -237,17 +237,17 @@ pub fn run<M: Computer, T: Sink, R: Sink, N: Nvm>(
             report,
             nvm,
         ) {
-            Turned::GoesOn => {}
-            Turned::Cuts(bytes) => {
-                match turn_off(
+            Round::GoesOn => {}
+            Round::Cuts(bytes) => {
+                match cut_power(
                     alloc, progress, bytes, plan, done, first, terminal, report, nvm,
                 ) {
                     Ok(next) => progress = next,
                     Err(ending) => return ending,
                 }
             }
-            Turned::Stops(stop) => return ended_by(stop, progress, done + 1),
-            Turned::Breaks(stop) => return ended_by(stop, progress, done),
+            Round::Stops(stop) => return ended_by(stop, progress, done + 1),
+            Round::Breaks(stop) => return ended_by(stop, progress, done),
         }
     }
     ended_by(Stop::Limit, progress, limit)
@@ -260,7 +260,7 @@ fn ended_by<M: Computer>(stop: Stop, progress: Progress<M>, cycles: u64) -> Endi
         stop,
         events: progress.events,
         cycles,
-        mute: progress.mute,
-        deaf: progress.deaf,
+        terminal_failed: progress.terminal_failed,
+        report_failed: progress.report_failed,
     }
 }

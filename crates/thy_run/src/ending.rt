@@ -43,7 +43,7 @@ pub struct Ending {
     /// How many cycles are done.
     pub cycles: u64,
     /// The terminal has failed.
-    pub mute: bool,
+    pub terminal_failed: bool,
     /// The report has failed.
-    pub deaf: bool,
+    pub report_failed: bool,
 }

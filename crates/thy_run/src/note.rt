@@ -1,7 +1,7 @@
 //! The events of a step. Each is made in a function of its own, so that a cycle without one makes none.
 ghost use Rattle.std.specs.Prelude.{◌≡◌, ◌≢◌, ◌++◌, ◌∷◌, [], ◌&&◌, true, is_some, if◌then◌else◌, OnOk, OnErr, IfOk};
 ghost use Rattle.thy_view.specs.Origin.{Origin};
-ghost use Rattle.thy_run.specs.World.{told};
+ghost use Rattle.thy_run.specs.World.{did_told};
 ghost use Rattle.thy_isa.specs.Step.{state_of};
 ghost use Rattle.thy_text.specs.Event.{Reload, Commit, EpochEnd, Ended};
 ghost use Rattle.thy_run.specs.Promises.{NotesRestart, NotesDid, NotesEnd, AnswersEnd, NotesAll, NotesSome};
@@ -90,7 +90,7 @@ fn note_did(
 ) -> Result<(), AllocError>
     ensures ok { NotesDid did restored cycle events.old events.new result }
     ensures err { OnErr result (events.new ≡ events.old) }
-    ensures due { (o : Origin) → OnErr result (told o did cycle ≢ []) }
+    ensures due { (o : Origin) → OnErr result (did_told o did cycle ≢ []) }
 {
     match did {
         Did::Loaded => note_commit(events, 0, cycle, 0),

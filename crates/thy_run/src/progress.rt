@@ -17,7 +17,7 @@ pub struct Progress<M> {
     /// No cycle was done since the last cut.
     pub fresh: bool,
     /// The terminal has failed.
-    pub mute: bool,
+    pub terminal_failed: bool,
     /// The report has failed.
-    pub deaf: bool,
+    pub report_failed: bool,
 }

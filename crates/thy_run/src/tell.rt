@@ -55,8 +55,8 @@ pub fn tell<T: Sink, R: Sink>(
     ensures terminal { Sent result.terminal (T.stream terminal.old) (T.stream terminal.new) bytes.now }
     ensures report { TellsLines digest first events.now result.report
         (R.stream report.old) (R.stream report.new) }
-    ensures spoken { bytes.now ≡ [] → result.terminal ≡ false }
-    ensures heard { first ≡ length events.now → result.report ≡ false }
+    ensures on_terminal { bytes.now ≡ [] → result.terminal ≡ false }
+    ensures on_report { first ≡ length events.now → result.report ≡ false }
 {
     let terminal = write_bytes(bytes, terminal);
     let report = write_lines(events, first, digest, report);

@@ -50,6 +50,6 @@ returns-in-Ok g c = λ job names p.
     inr (IsRunOf-ran g.M.Computer.kind g.met.M.Computer.lawful (named c.args.source) job (option_map (λ n. n.now) c.args.save) before after c.args.plan.now c.args.blocks.now
     (g.N.Nvm.device c.fit.new.self) (g.N.Nvm.device c.run-ending.new.nvm) _ e c.answer.result (g.R.Sink.stream c.run-ending.new.report) c.save_run-why.result c.requires.can p names
     c.in-Ok.ensures.ok c.nvm_blocks.ensures (ap (λ (x : Parameters). x.nvmq) c.numbers.ensures.same) c.len.ensures c.run-ending.ensures c.save_run-why.ensures
-    (subst (λ (l : ℕ). ClosesRun e.deaf (summary_for (named c.args.source) e.stop e.events ++ run_line l (option_map (λ n. n.now) c.args.save) e.stop c.save_run-why.result) (g.R.Sink.stream c.run-ending.new.report) (g.R.Sink.stream c.answer.new.report))
+    (subst (λ (l : ℕ). ClosesRun e.report_failed (summary_for (named c.args.source) e.stop e.events ++ run_line l (option_map (λ n. n.now) c.args.save) e.stop c.save_run-why.result) (g.R.Sink.stream c.run-ending.new.report) (g.R.Sink.stream c.answer.new.report))
     (ap (λ (x : Parameters). x.limit) c.numbers-limit.ensures.same) c.answer.ensures.closes)
     c.answer.ensures.events c.answer.ensures.cycles c.answer.ensures.status)

@@ -26,6 +26,6 @@ returns-clause-stepped g c = λ k at_moment few.
           let P : Pick → Type 0 = λ pick. IsStep g.M.Computer.kind o k pick c.args.progress.now.machine c.step.new.self (g.N.Nvm.device c.args.nvm.now) (g.N.Nvm.device c.step.new.nvm) c.in_ok-stepped.stepped in
           subst P c.next-pick.ensures.pick (c.in_ok-stepped.ensures.steps o k (begins_of c.args.plan.now) at_moment few);
       framed = c.step.ensures.frame;
-      calm = c.in_ok-stepped.ensures.cause;
+      faults = c.in_ok-stepped.ensures.cause;
       same = progress_stepped c.args.progress.now c.step.new.self c.next-pick.new.self c.next-pick.ensures.after;
     }

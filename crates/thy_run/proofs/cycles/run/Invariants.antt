@@ -1,4 +1,4 @@
-use Rattle.thy_run.specs.Turning.{Running}
+use Rattle.thy_run.specs.Rounds.{Running}
 use Rattle.thy_run.proofs.cycles.run.Given as goal
 
 abbrev pub invariant-loop-done : goal.invariant-loop-done

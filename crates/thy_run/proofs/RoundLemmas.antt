@@ -1,4 +1,4 @@
--- A cycle that was told is a turn of the loop.
+-- A cycle that was told is a round of the loop.
 use Rattle.std.proofs.Common.{◌≡◌, ℕ, suc, ◌+◌, ◌<◌, ◌≤◌, Bool, true, false, None, Some, List, [], ◌∷◌, ◌++◌, length, take, refl, sym, ◌∙◌, ap, subst, inr, append-nil, length-append, arith}
 use Rattle.thy_base.specs.Counts.{Rose}
 use Rattle.thy_base.specs.Device.{Device}
@@ -21,7 +21,7 @@ use Rattle.thy_run.specs.Going.{origin_of, given_of, world_at, IsDone, IsBroken,
 use Rattle.thy_run.specs.Sending.{Sent, Sends, Delivered}
 use Rattle.thy_run.proofs.AdvanceLemmas.{done_cut, broken_cut}
 use Rattle.thy_run.specs.Endings.{is_memory, EndsBy, IsSettled, StopFits}
-use Rattle.thy_run.specs.Turning.{turned_of, Running, RunEnds, IsTurned}
+use Rattle.thy_run.specs.Rounds.{round_of, Running, RunEnds, IsRound}
 
 -- ---- lines
 
@@ -54,10 +54,10 @@ took_on before after x y z one two = subst (Took x z) (sym two.grew) (Took-appen
 
 -- what was told grew
 pub told_of : {M : Type 0} (K : KindOf M) → (plan : Plan) (p q : Progress M) (n m : Device) (k : ℕ) (bytes : List ℕ) (outcome : Outcome) → ComesTo K plan p q n m k bytes outcome → (more : List Event) × (q.events ≡ p.events ++ more)
-told_of {M = M} K plan p q n m k bytes Goes c = c.0.told
+told_of {M = M} K plan p q n m k bytes Goes c = c.0.grew
 told_of {M = M} K plan p q n m k bytes Cuts c = (_, ap (λ (w : World M). w.events) c.noted.steps.next_is)
-told_of {M = M} K plan p q n m k bytes (Ends status) c = c.0.told
-told_of {M = M} K plan p q n m k bytes (Fails stop) c = c.0.told
+told_of {M = M} K plan p q n m k bytes (Ends status) c = c.0.grew
+told_of {M = M} K plan p q n m k bytes (Fails stop) c = c.0.grew
 
 pub told_more : {M : Type 0} (K : KindOf M) → (plan : Plan) (p q : Progress M) (n m : Device) (k : ℕ) (bytes : List ℕ) (outcome : Outcome) → ComesTo K plan p q n m k bytes outcome → length p.events ≤ length q.events
 told_more {M = M} K plan p q n m k bytes outcome c =
@@ -65,7 +65,7 @@ told_more {M = M} K plan p q n m k bytes outcome c =
     let e : length q.events ≡ length p.events + length t.0 = ap length t.1 ∙ length-append p.events t.0 in
     omega (arith, e)
 
--- ---- turns
+-- ---- rounds
 
 -- a sink failed
 abbrev IsSinks : Stop → Type 0
@@ -78,41 +78,41 @@ IsSinks Limit = ⊥
 
 -- a sink that took nothing
 pub Took-none : (s : Stream) → Took s s []
-Took-none s = record { taken = λ had e. e ∙ ap Some (sym (append-nil had)); calm = refl }
+Took-none s = record { taken = λ had e. e ∙ ap Some (sym (append-nil had)); faults = refl }
 
 -- all of a text was settled, and taken
 pub delivered_all : (failed : Bool) (text : List ℕ) (x z : Stream) → failed ≡ false → Took x z text → Delivered false failed text text x z
-delivered_all failed text x z calm took = record {
+delivered_all failed text x z faults took = record {
   more = [];
   unsent = [];
   is_text = sym (append-nil (text ++ []) ∙ append-nil text);
   whole = λ _. refl;
   middle = z;
   took = took;
-  sent = subst (λ b. Sent b z z []) (sym calm) (Took-none z);
+  sent = subst (λ b. Sent b z z []) (sym faults) (Took-none z);
 }
 
-module _ {M : Type 0} (K : KindOf M) (plan : Plan) (fitted : Device) (p q : Progress M) (n m : Device) (k : ℕ) (bytes : List ℕ) (mute deaf : Bool) (t0 t1 t2 r0 r1 r2 : Stream)
-    (running : Running K plan fitted p n k t0 t1 r0 r1) (few : k < plan.geometry.limit) (sent : Sent mute t1 t2 bytes)
-    (lines : Sends (report_of plan.digest (take (length p.events) q.events)) (report_of plan.digest q.events) deaf r1 r2) where
+module _ {M : Type 0} (K : KindOf M) (plan : Plan) (fitted : Device) (p q : Progress M) (n m : Device) (k : ℕ) (bytes : List ℕ) (terminal_failed report_failed : Bool) (t0 t1 t2 r0 r1 r2 : Stream)
+    (running : Running K plan fitted p n k t0 t1 r0 r1) (few : k < plan.geometry.limit) (sent : Sent terminal_failed t1 t2 bytes)
+    (lines : Sends (report_of plan.digest (take (length p.events) q.events)) (report_of plan.digest q.events) report_failed r1 r2) where
   abbrev told_progress : Progress M
-  told_progress = record q { mute = mute; deaf = deaf }
+  told_progress = record q { terminal_failed = terminal_failed; report_failed = report_failed }
 
   ran_on : IsDone K plan p q n m k bytes → Ran K (origin_of plan) (given_of plan fitted) (k + 1) (world_at q m (k + 1))
   ran_on d =
       let e : suc k ≡ k + 1 = omega arith in
       subst (λ (j : ℕ). Ran K (origin_of plan) (given_of plan fitted) j (world_at q m (k + 1))) e (world_at p n k, running.goes.ran, d.cycle)
 
-  shown_on : IsDone K plan p q n m k bytes → Sends (released_of (origin_of plan) p.events) (released_of (origin_of plan) q.events) mute t1 t2
+  shown_on : IsDone K plan p q n m k bytes → Sends (released_of (origin_of plan) p.events) (released_of (origin_of plan) q.events) terminal_failed t1 t2
   shown_on d = record { more = bytes; grew = d.releases; sent = sent }
 
-  lines_on : ((more : List Event) × (q.events ≡ p.events ++ more)) → Sends (report_of plan.digest p.events) (report_of plan.digest q.events) deaf r1 r2
-  lines_on t = read_on plan.digest deaf p.events q.events t.0 r1 r2 t.1 lines
+  lines_on : ((more : List Event) × (q.events ≡ p.events ++ more)) → Sends (report_of plan.digest p.events) (report_of plan.digest q.events) report_failed r1 r2
+  lines_on t = read_on plan.digest report_failed p.events q.events t.0 r1 r2 t.1 lines
 
   -- the cycle is done, and a sink failed
   done_stops : (stop : Stop) → IsDone K plan p q n m k bytes → IsSinks stop
-      → StopFits plan.geometry.limit fitted m (record { stop = stop; events = q.events; cycles = k + 1; mute = mute; deaf = deaf }) stop
-      → RunEnds K plan fitted m (record { stop = stop; events = q.events; cycles = k + 1; mute = mute; deaf = deaf }) t0 t2 r0 r2
+      → StopFits plan.geometry.limit fitted m (record { stop = stop; events = q.events; cycles = k + 1; terminal_failed = terminal_failed; report_failed = report_failed }) stop
+      → RunEnds K plan fitted m (record { stop = stop; events = q.events; cycles = k + 1; terminal_failed = terminal_failed; report_failed = report_failed }) t0 t2 r0 r2
   done_stops stop d sinks fits = record {
     last = world_at q m (k + 1);
     ran = ran_on d;
@@ -120,9 +120,9 @@ module _ {M : Type 0} (K : KindOf M) (plan : Plan) (fitted : Device) (p q : Prog
     few = omega arith;
     settled = p.events;
     is_settled = settled_at stop sinks d;
-    shown_all = subst (λ b. Delivered b mute (released_of (origin_of plan) p.events) (released_of (origin_of plan) q.events) t0 t2) (sym (long stop sinks))
-        (delivered_on mute (released_of (origin_of plan) p.events) (released_of (origin_of plan) q.events) t0 t1 t2 running.shown_all (shown_on d));
-    read_all = delivered_on deaf (report_of plan.digest p.events) (report_of plan.digest q.events) r0 r1 r2 running.read_all (lines_on d.told);
+    shown_all = subst (λ b. Delivered b terminal_failed (released_of (origin_of plan) p.events) (released_of (origin_of plan) q.events) t0 t2) (sym (long stop sinks))
+        (delivered_on terminal_failed (released_of (origin_of plan) p.events) (released_of (origin_of plan) q.events) t0 t1 t2 running.shown_all (shown_on d));
+    read_all = delivered_on report_failed (report_of plan.digest p.events) (report_of plan.digest q.events) r0 r1 r2 running.read_all (lines_on d.grew);
     stop_fits = fits;
   }
     where
@@ -151,30 +151,30 @@ module _ {M : Type 0} (K : KindOf M) (plan : Plan) (fitted : Device) (p q : Prog
       settled_at Limit sinks d = absurd sinks
 
   -- the cycle is done, and the program has ended
-  done_ends : (status : Status) → IsDone K plan p q n m k bytes → mute ≡ false → deaf ≡ false
-      → StopFits plan.geometry.limit fitted m (record { stop = Ended status; events = q.events; cycles = k + 1; mute = mute; deaf = deaf }) (Ended status)
-      → RunEnds K plan fitted m (record { stop = Ended status; events = q.events; cycles = k + 1; mute = mute; deaf = deaf }) t0 t2 r0 r2
-  done_ends status d spoken heard fits = record {
+  done_ends : (status : Status) → IsDone K plan p q n m k bytes → terminal_failed ≡ false → report_failed ≡ false
+      → StopFits plan.geometry.limit fitted m (record { stop = Ended status; events = q.events; cycles = k + 1; terminal_failed = terminal_failed; report_failed = report_failed }) (Ended status)
+      → RunEnds K plan fitted m (record { stop = Ended status; events = q.events; cycles = k + 1; terminal_failed = terminal_failed; report_failed = report_failed }) t0 t2 r0 r2
+  done_ends status d on_terminal on_report fits = record {
     last = world_at q m (k + 1);
     ran = ran_on d;
     ends = (refl, refl);
     few = omega arith;
     settled = q.events;
     is_settled = refl;
-    shown_all = delivered_all mute (released_of (origin_of plan) q.events) t0 t2 spoken
+    shown_all = delivered_all terminal_failed (released_of (origin_of plan) q.events) t0 t2 on_terminal
         (took_on (released_of (origin_of plan) p.events) (released_of (origin_of plan) q.events) t0 t1 t2 running.shown_all
-        (subst (λ b. Sends (released_of (origin_of plan) p.events) (released_of (origin_of plan) q.events) b t1 t2) spoken (shown_on d)));
-    read_all = delivered_all deaf (report_of plan.digest q.events) r0 r2 heard
+        (subst (λ b. Sends (released_of (origin_of plan) p.events) (released_of (origin_of plan) q.events) b t1 t2) on_terminal (shown_on d)));
+    read_all = delivered_all report_failed (report_of plan.digest q.events) r0 r2 on_report
         (took_on (report_of plan.digest p.events) (report_of plan.digest q.events) r0 r1 r2 running.read_all
-        (subst (λ b. Sends (report_of plan.digest p.events) (report_of plan.digest q.events) b r1 r2) heard (lines_on d.told)));
+        (subst (λ b. Sends (report_of plan.digest p.events) (report_of plan.digest q.events) b r1 r2) on_report (lines_on d.grew)));
     stop_fits = fits;
   }
 
   -- the cycle is not done
   broken_stops : (stop : Stop) → IsBroken K plan p q n m k bytes → Breaks K plan p q n m k bytes stop
-      → (bytes ≡ [] → mute ≡ false) → (q.events ≡ p.events → deaf ≡ false)
-      → RunEnds K plan fitted m (record { stop = stop; events = q.events; cycles = k; mute = mute; deaf = deaf }) t0 t2 r0 r2
-  broken_stops stop b why spoken heard = record {
+      → (bytes ≡ [] → terminal_failed ≡ false) → (q.events ≡ p.events → report_failed ≡ false)
+      → RunEnds K plan fitted m (record { stop = stop; events = q.events; cycles = k; terminal_failed = terminal_failed; report_failed = report_failed }) t0 t2 r0 r2
+  broken_stops stop b why on_terminal on_report = record {
     last = world_at p n k;
     ran = running.goes.ran;
     ends = begun stop why;
@@ -182,7 +182,7 @@ module _ {M : Type 0} (K : KindOf M) (plan : Plan) (fitted : Device) (p q : Prog
     settled = p.events;
     is_settled = settled_at stop why;
     shown_all = shown stop why;
-    read_all = delivered_on deaf (report_of plan.digest p.events) (report_of plan.digest q.events) r0 r1 r2 running.read_all (lines_on b.told);
+    read_all = delivered_on report_failed (report_of plan.digest p.events) (report_of plan.digest q.events) r0 r1 r2 running.read_all (lines_on b.grew);
     stop_fits = because stop why;
   }
     where
@@ -203,8 +203,8 @@ module _ {M : Type 0} (K : KindOf M) (plan : Plan) (fitted : Device) (p q : Prog
       settled_at Limit f = absurd f
 
       shown : (stop : Stop) → Breaks K plan p q n m k bytes stop
-          → Delivered (is_memory stop) mute (released_of (origin_of plan) p.events) (released_of (origin_of plan) q.events) t0 t2
-      shown Nvm f = delivered_on mute (released_of (origin_of plan) p.events) (released_of (origin_of plan) q.events) t0 t1 t2 running.shown_all
+          → Delivered (is_memory stop) terminal_failed (released_of (origin_of plan) p.events) (released_of (origin_of plan) q.events) t0 t2
+      shown Nvm f = delivered_on terminal_failed (released_of (origin_of plan) p.events) (released_of (origin_of plan) q.events) t0 t1 t2 running.shown_all
           (record { more = bytes; grew = ap (released_of (origin_of plan)) f.1.events ∙ sym (append-nil (released_of (origin_of plan) p.events)) ∙ ap (λ (l : List ℕ). released_of (origin_of plan) p.events ++ l) (sym f.1.none); sent = sent })
       shown Memory f = record { more = bytes; unsent = b.rest; is_text = b.releases; whole = λ no. absurd (cc); middle = t1; took = running.shown_all; sent = sent }
       shown (Ended status) f = absurd f
@@ -212,51 +212,51 @@ module _ {M : Type 0} (K : KindOf M) (plan : Plan) (fitted : Device) (p q : Prog
       shown Report f = absurd f
       shown Limit f = absurd f
 
-      because : (stop : Stop) → Breaks K plan p q n m k bytes stop → StopFits plan.geometry.limit fitted m (record { stop = stop; events = q.events; cycles = k; mute = mute; deaf = deaf }) stop
-      because Nvm f = (subst (λ c. Rose c m.faults) running.goes.calm f.1.rose, few, (spoken f.1.none, heard f.1.events))
-      because Memory f = (few, f.1 ∙ running.goes.calm)
+      because : (stop : Stop) → Breaks K plan p q n m k bytes stop → StopFits plan.geometry.limit fitted m (record { stop = stop; events = q.events; cycles = k; terminal_failed = terminal_failed; report_failed = report_failed }) stop
+      because Nvm f = (subst (λ c. Rose c m.faults) running.goes.faults f.1.rose, few, (on_terminal f.1.none, on_report f.1.events))
+      because Memory f = (few, f.1 ∙ running.goes.faults)
       because (Ended status) f = absurd f
       because Terminal f = absurd f
       because Report f = absurd f
       because Limit f = absurd f
 
 -- a sink that failed stops a run that has a done cycle
-goes_turned : {M : Type 0} (K : KindOf M) → (plan : Plan) (fitted : Device) (p q : Progress M) (n m : Device) (k : ℕ) (bytes : List ℕ) (mute deaf : Bool) (t0 t1 t2 r0 r1 r2 : Stream)
-    → Running K plan fitted p n k t0 t1 r0 r1 → k < plan.geometry.limit → Sent mute t1 t2 bytes
-    → Sends (report_of plan.digest (take (length p.events) q.events)) (report_of plan.digest q.events) deaf r1 r2
+goes_round : {M : Type 0} (K : KindOf M) → (plan : Plan) (fitted : Device) (p q : Progress M) (n m : Device) (k : ℕ) (bytes : List ℕ) (terminal_failed report_failed : Bool) (t0 t1 t2 r0 r1 r2 : Stream)
+    → Running K plan fitted p n k t0 t1 r0 r1 → k < plan.geometry.limit → Sent terminal_failed t1 t2 bytes
+    → Sends (report_of plan.digest (take (length p.events) q.events)) (report_of plan.digest q.events) report_failed r1 r2
     → IsDone K plan p q n m k bytes × (is_halt (seen K (origin_of plan) (world_at q m (k + 1))).phase ≡ false)
-    → IsTurned K plan fitted p (record q { mute = mute; deaf = deaf }) n m k t0 t1 t2 r0 r1 r2 (turned_of Goes mute deaf)
-goes_turned {M = M} K plan fitted p q n m k bytes mute true t0 t1 t2 r0 r1 r2 running few sent lines c =
-    done_stops K plan fitted p q n m k bytes mute true t0 t1 t2 r0 r1 r2 running few sent lines Report c.0 tt (refl, c.0.calm ∙ running.goes.calm)
-goes_turned {M = M} K plan fitted p q n m k bytes true false t0 t1 t2 r0 r1 r2 running few sent lines c =
-    done_stops K plan fitted p q n m k bytes true false t0 t1 t2 r0 r1 r2 running few sent lines Terminal c.0 tt (refl, refl, c.0.calm ∙ running.goes.calm)
-goes_turned {M = M} K plan fitted p q n m k bytes false false t0 t1 t2 r0 r1 r2 running few sent lines c = record {
+    → IsRound K plan fitted p (record q { terminal_failed = terminal_failed; report_failed = report_failed }) n m k t0 t1 t2 r0 r1 r2 (round_of Goes terminal_failed report_failed)
+goes_round {M = M} K plan fitted p q n m k bytes terminal_failed true t0 t1 t2 r0 r1 r2 running few sent lines c =
+    done_stops K plan fitted p q n m k bytes terminal_failed true t0 t1 t2 r0 r1 r2 running few sent lines Report c.0 tt (refl, c.0.faults ∙ running.goes.faults)
+goes_round {M = M} K plan fitted p q n m k bytes true false t0 t1 t2 r0 r1 r2 running few sent lines c =
+    done_stops K plan fitted p q n m k bytes true false t0 t1 t2 r0 r1 r2 running few sent lines Terminal c.0 tt (refl, refl, c.0.faults ∙ running.goes.faults)
+goes_round {M = M} K plan fitted p q n m k bytes false false t0 t1 t2 r0 r1 r2 running few sent lines c = record {
   goes = record {
     ran = ran_on K plan fitted p q n m k bytes false false t0 t1 t2 r0 r1 r2 running few sent lines c.0;
     going = c.1;
     released = c.0.released;
     room = c.0.room ∙ running.goes.room;
-    calm = c.0.calm ∙ running.goes.calm;
-    spoken = refl;
-    heard = refl;
+    faults = c.0.faults ∙ running.goes.faults;
+    on_terminal = refl;
+    on_report = refl;
   };
   shown_all = took_on (released_of (origin_of plan) p.events) (released_of (origin_of plan) q.events) t0 t1 t2 running.shown_all
       (shown_on K plan fitted p q n m k bytes false false t0 t1 t2 r0 r1 r2 running few sent lines c.0);
   read_all = took_on (report_of plan.digest p.events) (report_of plan.digest q.events) r0 r1 r2 running.read_all
-      (lines_on K plan fitted p q n m k bytes false false t0 t1 t2 r0 r1 r2 running few sent lines c.0.told);
+      (lines_on K plan fitted p q n m k bytes false false t0 t1 t2 r0 r1 r2 running few sent lines c.0.grew);
 }
 
-ends_turned : {M : Type 0} (K : KindOf M) → (plan : Plan) (fitted : Device) (p q : Progress M) (n m : Device) (k : ℕ) (bytes : List ℕ) (status : Status) (mute deaf : Bool) (t0 t1 t2 r0 r1 r2 : Stream)
-    → Running K plan fitted p n k t0 t1 r0 r1 → k < plan.geometry.limit → Sent mute t1 t2 bytes
-    → Sends (report_of plan.digest (take (length p.events) q.events)) (report_of plan.digest q.events) deaf r1 r2
+ends_round : {M : Type 0} (K : KindOf M) → (plan : Plan) (fitted : Device) (p q : Progress M) (n m : Device) (k : ℕ) (bytes : List ℕ) (status : Status) (terminal_failed report_failed : Bool) (t0 t1 t2 r0 r1 r2 : Stream)
+    → Running K plan fitted p n k t0 t1 r0 r1 → k < plan.geometry.limit → Sent terminal_failed t1 t2 bytes
+    → Sends (report_of plan.digest (take (length p.events) q.events)) (report_of plan.digest q.events) report_failed r1 r2
     → ComesTo K plan p q n m k bytes (Ends status)
-    → IsTurned K plan fitted p (record q { mute = mute; deaf = deaf }) n m k t0 t1 t2 r0 r1 r2 (turned_of (Ends status) mute deaf)
-ends_turned {M = M} K plan fitted p q n m k bytes status mute true t0 t1 t2 r0 r1 r2 running few sent lines c =
-    done_stops K plan fitted p q n m k bytes mute true t0 t1 t2 r0 r1 r2 running few sent lines Report c.0 tt (refl, c.0.calm ∙ running.goes.calm)
-ends_turned {M = M} K plan fitted p q n m k bytes status true false t0 t1 t2 r0 r1 r2 running few sent lines c =
-    done_stops K plan fitted p q n m k bytes true false t0 t1 t2 r0 r1 r2 running few sent lines Terminal c.0 tt (refl, refl, c.0.calm ∙ running.goes.calm)
-ends_turned {M = M} K plan fitted p q n m k bytes status false false t0 t1 t2 r0 r1 r2 running few sent lines c =
-    done_ends K plan fitted p q n m k bytes false false t0 t1 t2 r0 r1 r2 running few sent lines status c.0 refl refl (c.2, (refl, refl), c.0.calm ∙ running.goes.calm)
+    → IsRound K plan fitted p (record q { terminal_failed = terminal_failed; report_failed = report_failed }) n m k t0 t1 t2 r0 r1 r2 (round_of (Ends status) terminal_failed report_failed)
+ends_round {M = M} K plan fitted p q n m k bytes status terminal_failed true t0 t1 t2 r0 r1 r2 running few sent lines c =
+    done_stops K plan fitted p q n m k bytes terminal_failed true t0 t1 t2 r0 r1 r2 running few sent lines Report c.0 tt (refl, c.0.faults ∙ running.goes.faults)
+ends_round {M = M} K plan fitted p q n m k bytes status true false t0 t1 t2 r0 r1 r2 running few sent lines c =
+    done_stops K plan fitted p q n m k bytes true false t0 t1 t2 r0 r1 r2 running few sent lines Terminal c.0 tt (refl, refl, c.0.faults ∙ running.goes.faults)
+ends_round {M = M} K plan fitted p q n m k bytes status false false t0 t1 t2 r0 r1 r2 running few sent lines c =
+    done_ends K plan fitted p q n m k bytes false false t0 t1 t2 r0 r1 r2 running few sent lines status c.0 refl refl (c.2, (refl, refl), c.0.faults ∙ running.goes.faults)
 
 -- the outcome is not that a cut is due
 abbrev pub IsTold : Outcome → Type 0
@@ -265,19 +265,19 @@ IsTold Cuts = ⊥
 IsTold (Ends status) = Unit {0}
 IsTold (Fails stop) = Unit {0}
 
--- a cycle that was told is a turn
-pub IsTurned-told : {M : Type 0} (K : KindOf M) → (plan : Plan) (fitted : Device) (p q : Progress M) (n m : Device) (k : ℕ) (bytes : List ℕ) (outcome : Outcome) (mute deaf : Bool) (t0 t1 t2 r0 r1 r2 : Stream)
-    → Running K plan fitted p n k t0 t1 r0 r1 → k < plan.geometry.limit → Sent mute t1 t2 bytes
-    → Sends (report_of plan.digest (take (length p.events) q.events)) (report_of plan.digest q.events) deaf r1 r2
-    → IsTold outcome → (bytes ≡ [] → mute ≡ false) → (q.events ≡ p.events → deaf ≡ false) → ComesTo K plan p q n m k bytes outcome
-    → IsTurned K plan fitted p (record q { mute = mute; deaf = deaf }) n m k t0 t1 t2 r0 r1 r2 (turned_of outcome mute deaf)
-IsTurned-told {M = M} K plan fitted p q n m k bytes Goes mute deaf t0 t1 t2 r0 r1 r2 running few sent lines told spoken heard c =
-    goes_turned K plan fitted p q n m k bytes mute deaf t0 t1 t2 r0 r1 r2 running few sent lines c
-IsTurned-told {M = M} K plan fitted p q n m k bytes (Ends status) mute deaf t0 t1 t2 r0 r1 r2 running few sent lines told spoken heard c =
-    ends_turned K plan fitted p q n m k bytes status mute deaf t0 t1 t2 r0 r1 r2 running few sent lines c
-IsTurned-told {M = M} K plan fitted p q n m k bytes (Fails stop) mute deaf t0 t1 t2 r0 r1 r2 running few sent lines told spoken heard c =
-    broken_stops K plan fitted p q n m k bytes mute deaf t0 t1 t2 r0 r1 r2 running few sent lines stop c.0 c.1 spoken heard
-IsTurned-told {M = M} K plan fitted p q n m k bytes Cuts mute deaf t0 t1 t2 r0 r1 r2 running few sent lines told spoken heard c = absurd told
+-- a cycle that was told is a round
+pub IsRound-told : {M : Type 0} (K : KindOf M) → (plan : Plan) (fitted : Device) (p q : Progress M) (n m : Device) (k : ℕ) (bytes : List ℕ) (outcome : Outcome) (terminal_failed report_failed : Bool) (t0 t1 t2 r0 r1 r2 : Stream)
+    → Running K plan fitted p n k t0 t1 r0 r1 → k < plan.geometry.limit → Sent terminal_failed t1 t2 bytes
+    → Sends (report_of plan.digest (take (length p.events) q.events)) (report_of plan.digest q.events) report_failed r1 r2
+    → IsTold outcome → (bytes ≡ [] → terminal_failed ≡ false) → (q.events ≡ p.events → report_failed ≡ false) → ComesTo K plan p q n m k bytes outcome
+    → IsRound K plan fitted p (record q { terminal_failed = terminal_failed; report_failed = report_failed }) n m k t0 t1 t2 r0 r1 r2 (round_of outcome terminal_failed report_failed)
+IsRound-told {M = M} K plan fitted p q n m k bytes Goes terminal_failed report_failed t0 t1 t2 r0 r1 r2 running few sent lines did_told on_terminal on_report c =
+    goes_round K plan fitted p q n m k bytes terminal_failed report_failed t0 t1 t2 r0 r1 r2 running few sent lines c
+IsRound-told {M = M} K plan fitted p q n m k bytes (Ends status) terminal_failed report_failed t0 t1 t2 r0 r1 r2 running few sent lines did_told on_terminal on_report c =
+    ends_round K plan fitted p q n m k bytes status terminal_failed report_failed t0 t1 t2 r0 r1 r2 running few sent lines c
+IsRound-told {M = M} K plan fitted p q n m k bytes (Fails stop) terminal_failed report_failed t0 t1 t2 r0 r1 r2 running few sent lines did_told on_terminal on_report c =
+    broken_stops K plan fitted p q n m k bytes terminal_failed report_failed t0 t1 t2 r0 r1 r2 running few sent lines stop c.0 c.1 on_terminal on_report
+IsRound-told {M = M} K plan fitted p q n m k bytes Cuts terminal_failed report_failed t0 t1 t2 r0 r1 r2 running few sent lines did_told on_terminal on_report c = absurd did_told
 
 -- an outcome but that
 pub IsTold-not : (outcome : Outcome) → (outcome ≡ Cuts → ⊥) → IsTold outcome
@@ -297,9 +297,9 @@ Running-quiet {M = M} K plan fitted p q n m k t0 t1 r0 r1 running same c = recor
     going = c.1;
     released = c.0.released;
     room = c.0.room ∙ running.goes.room;
-    calm = c.0.calm ∙ running.goes.calm;
-    spoken = c.0.spoken ∙ running.goes.spoken;
-    heard = c.0.heard ∙ running.goes.heard;
+    faults = c.0.faults ∙ running.goes.faults;
+    on_terminal = c.0.on_terminal ∙ running.goes.on_terminal;
+    on_report = c.0.on_report ∙ running.goes.on_report;
   };
   shown_all = subst (λ (l : List Event). Took t0 t1 (released_of (origin_of plan) l)) (sym same) running.shown_all;
   read_all = subst (λ (l : List Event). Took r0 r1 (report_of plan.digest l)) (sym same) running.read_all;
@@ -307,23 +307,23 @@ Running-quiet {M = M} K plan fitted p q n m k t0 t1 r0 r1 running same c = recor
 
 -- ---- a cut behind a cycle
 
-module _ {M : Type 0} (K : KindOf M) (laws : IsLawful K) (plan : Plan) (fitted : Device) (p q : Progress M) (n m : Device) (k : ℕ) (bytes : List ℕ) (mute deaf : Bool) (t0 t1 t2 r0 r1 r2 : Stream)
-    (running : Running K plan fitted p n k t0 t1 r0 r1) (few : k < plan.geometry.limit) (sent : Sent mute t1 t2 bytes) (awaits : AwaitsCut K plan p q n m k bytes) where
+module _ {M : Type 0} (K : KindOf M) (laws : IsLawful K) (plan : Plan) (fitted : Device) (p q : Progress M) (n m : Device) (k : ℕ) (bytes : List ℕ) (terminal_failed report_failed : Bool) (t0 t1 t2 r0 r1 r2 : Stream)
+    (running : Running K plan fitted p n k t0 t1 r0 r1) (few : k < plan.geometry.limit) (sent : Sent terminal_failed t1 t2 bytes) (awaits : AwaitsCut K plan p q n m k bytes) where
   -- power was cut, and the cycle was told
-  pub IsTurned-cut : (q' : Progress M) (m' : Device) → IsCutOffTo K plan q q' m m' (k + 1)
-      → Sends (report_of plan.digest (take (length p.events) q'.events)) (report_of plan.digest q'.events) deaf r1 r2
-      → IsTurned K plan fitted p (record q' { mute = mute; deaf = deaf }) n m' k t0 t1 t2 r0 r1 r2 (turned_of Goes mute deaf)
-  IsTurned-cut q' m' cut lines =
-      goes_turned K plan fitted p q' n m' k bytes mute deaf t0 t1 t2 r0 r1 r2 running few sent lines
+  pub IsRound-cut : (q' : Progress M) (m' : Device) → IsCutOffTo K plan q q' m m' (k + 1)
+      → Sends (report_of plan.digest (take (length p.events) q'.events)) (report_of plan.digest q'.events) report_failed r1 r2
+      → IsRound K plan fitted p (record q' { terminal_failed = terminal_failed; report_failed = report_failed }) n m' k t0 t1 t2 r0 r1 r2 (round_of Goes terminal_failed report_failed)
+  IsRound-cut q' m' cut lines =
+      goes_round K plan fitted p q' n m' k bytes terminal_failed report_failed t0 t1 t2 r0 r1 r2 running few sent lines
       (done_cut K laws plan p q n m k None bytes awaits.noted q' m' refl (k + 1) refl awaits.due cut)
 
   -- memory was short, and what was made of the cycle was told
-  pub RunEnds-uncut : (bytes ≡ [] → mute ≡ false) → (q.events ≡ p.events → deaf ≡ false)
-      → Sends (report_of plan.digest (take (length p.events) q.events)) (report_of plan.digest q.events) deaf r1 r2
-      → RunEnds K plan fitted m (record { stop = Memory; events = q.events; cycles = k; mute = mute; deaf = deaf }) t0 t2 r0 r2
-  RunEnds-uncut spoken heard lines =
+  pub RunEnds-uncut : (bytes ≡ [] → terminal_failed ≡ false) → (q.events ≡ p.events → report_failed ≡ false)
+      → Sends (report_of plan.digest (take (length p.events) q.events)) (report_of plan.digest q.events) report_failed r1 r2
+      → RunEnds K plan fitted m (record { stop = Memory; events = q.events; cycles = k; terminal_failed = terminal_failed; report_failed = report_failed }) t0 t2 r0 r2
+  RunEnds-uncut on_terminal on_report lines =
       let broken = broken_cut K laws plan p q n m k None bytes awaits.noted q m refl awaits.due refl refl in
-      broken_stops K plan fitted p q n m k bytes mute deaf t0 t1 t2 r0 r1 r2 running few sent lines Memory broken.0 broken.1 spoken heard
+      broken_stops K plan fitted p q n m k bytes terminal_failed report_failed t0 t1 t2 r0 r1 r2 running few sent lines Memory broken.0 broken.1 on_terminal on_report
 
   -- there are no fewer events than before
   pub told_awaiting : length p.events ≤ length q.events

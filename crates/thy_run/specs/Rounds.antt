@@ -13,8 +13,8 @@ use Rattle.thy_run.specs.declared.advance.Outcome.TheVariants.{Goes, Cuts, Ends,
 use Rattle.thy_run.specs.declared.ending.Stop.{Stop}
 use Rattle.thy_run.specs.declared.ending.Stop.TheVariants.{Ended, Terminal, Report}
 use Rattle.thy_run.specs.declared.ending.Ending.{Ending}
-use Rattle.thy_run.specs.declared.cycles.Turned.{Turned}
-use Rattle.thy_run.specs.declared.cycles.Turned.TheVariants.{GoesOn as TurnedOn, Cuts as CutsOff, Stops, Breaks as BreaksOff}
+use Rattle.thy_run.specs.declared.cycles.Round.{Round}
+use Rattle.thy_run.specs.declared.cycles.Round.TheVariants.{GoesOn as RoundGoesOn, Cuts as CutsOff, Stops, Breaks as BreaksOff}
 use Rattle.thy_run.specs.declared.plan.Plan.{Plan}
 use Rattle.thy_run.specs.declared.progress.Progress.{Progress}
 use Rattle.thy_base.specs.Bytes.{bytes_of}
@@ -22,17 +22,17 @@ use Rattle.thy_run.specs.Going.{origin_of, given_of, GoesOn, AwaitsCut}
 use Rattle.thy_run.specs.Endings.{HasRun}
 
 -- a stop for a sink that failed comes before the others of a cycle that is done
-abbrev pub stopped_for : (terminal report : Bool) → Turned → Turned
-stopped_for terminal true turned = Stops Report
-stopped_for true false turned = Stops Terminal
-stopped_for false false turned = turned
+abbrev pub stopped_for : (terminal report : Bool) → Round → Round
+stopped_for terminal true round = Stops Report
+stopped_for true false round = Stops Terminal
+stopped_for false false round = round
 
 -- what a cycle comes to once it was told
-abbrev pub turned_of : Outcome → (terminal report : Bool) → Turned
-turned_of (Fails stop) terminal report = BreaksOff stop
-turned_of Goes terminal report = stopped_for terminal report TurnedOn
-turned_of Cuts terminal report = stopped_for terminal report TurnedOn
-turned_of (Ends status) terminal report = stopped_for terminal report (Stops (Ended status))
+abbrev pub round_of : Outcome → (terminal report : Bool) → Round
+round_of (Fails stop) terminal report = BreaksOff stop
+round_of Goes terminal report = stopped_for terminal report RoundGoesOn
+round_of Cuts terminal report = stopped_for terminal report RoundGoesOn
+round_of (Ends status) terminal report = stopped_for terminal report (Stops (Ended status))
 
 -- a device that was fitted for a plan
 pub record IsFitted {M : Type 0} (K : KindOf M) (plan : Plan) (n : Device) : Type 0 where
@@ -57,17 +57,17 @@ RunEnds K plan fitted new e terminal shown report read =
 
 -- the ending of a run that stops there
 abbrev pub ending_of : {M : Type 0} → Stop → Progress M → ℕ → Ending
-ending_of stop p cycles = record { stop = stop; events = p.events; cycles = cycles; mute = p.mute; deaf = p.deaf }
+ending_of stop p cycles = record { stop = stop; events = p.events; cycles = cycles; terminal_failed = p.terminal_failed; report_failed = p.report_failed }
 
--- what a turn of the loop comes to
-abbrev pub IsTurned : {M : Type 0} → KindOf M → Plan → Device → Progress M → Progress M → Device → Device → ℕ → Stream → Stream → Stream → Stream → Stream → Stream → Turned → Type 0
-IsTurned K plan fitted p next n new cycles terminal showing shown report reading read TurnedOn =
+-- what a round of the loop comes to
+abbrev pub IsRound : {M : Type 0} → KindOf M → Plan → Device → Progress M → Progress M → Device → Device → ℕ → Stream → Stream → Stream → Stream → Stream → Stream → Round → Type 0
+IsRound K plan fitted p next n new cycles terminal showing shown report reading read RoundGoesOn =
     Running K plan fitted next new (cycles + 1) terminal shown report read
-IsTurned K plan fitted p next n new cycles terminal showing shown report reading read (CutsOff bytes) =
+IsRound K plan fitted p next n new cycles terminal showing shown report reading read (CutsOff bytes) =
     AwaitsCut K plan p next n new cycles (bytes_of bytes) × (shown ≡ showing) × (read ≡ reading)
-IsTurned K plan fitted p next n new cycles terminal showing shown report reading read (Stops stop) =
+IsRound K plan fitted p next n new cycles terminal showing shown report reading read (Stops stop) =
     RunEnds K plan fitted new (ending_of stop next (cycles + 1)) terminal shown report read
-IsTurned K plan fitted p next n new cycles terminal showing shown report reading read (BreaksOff stop) =
+IsRound K plan fitted p next n new cycles terminal showing shown report reading read (BreaksOff stop) =
     RunEnds K plan fitted new (ending_of stop next cycles) terminal shown report read
 
 -- a run before its first cycle
@@ -79,6 +79,6 @@ first_progress plan machine = record {
   passed = 0;
   released = 0;
   fresh = false;
-  mute = false;
-  deaf = false;
+  terminal_failed = false;
+  report_failed = false;
 }

@@ -1,13 +1,13 @@
 use Rattle.std.proofs.Common.{◌∙◌, ap, length, sym, subst, take, ℕ, refl}
 use Rattle.thy_base.specs.Bytes.{bytes_of}
 use Rattle.thy_text.specs.Lines.{report_of}
-use Rattle.thy_run.specs.declared.cycles.Turned.{Turned}
+use Rattle.thy_run.specs.declared.cycles.Round.{Round}
 use Rattle.thy_run.specs.Sending.{Sent, Sends}
 use Rattle.thy_run.specs.declared.advance.Outcome.{Outcome}
 use Rattle.thy_run.specs.Going.{ComesTo}
-use Rattle.thy_run.specs.Turning.{IsTurned}
-use Rattle.thy_run.proofs.TurnLemmas.{IsTold-not, IsTurned-told, Running-quiet}
-use Rattle.thy_run.proofs.cycles.turn.Goals as goal
+use Rattle.thy_run.specs.Rounds.{IsRound}
+use Rattle.thy_run.proofs.RoundLemmas.{IsTold-not, IsRound-told, Running-quiet}
+use Rattle.thy_run.proofs.cycles.take_round.Goals as goal
 
 pub returns-in-Quiet : goal.returns-in-Quiet
 returns-in-Quiet g c = λ fitted t r running.
@@ -38,15 +38,15 @@ returns g c = λ fitted t r running.
     let t2 = g.T.Sink.stream c.tell-failures.new.terminal in
     let r1 = g.R.Sink.stream c.args.report.now in
     let r2 = g.R.Sink.stream c.tell-failures.new.report in
-    let mute = c.tell-failures.result.terminal in
-    let deaf = c.tell-failures.result.report in
-    let P : Turned → Type 0 = λ x. IsTurned K plan fitted p (record q { mute = mute; deaf = deaf }) n m c.args.done t t1 t2 r r1 r2 x in
-    let L : ℕ → Type 0 = λ k. Sends (report_of plan.digest (take k q.events)) (report_of plan.digest q.events) deaf r1 r2 in
+    let terminal_failed = c.tell-failures.result.terminal in
+    let report_failed = c.tell-failures.result.report in
+    let P : Round → Type 0 = λ x. IsRound K plan fitted p (record q { terminal_failed = terminal_failed; report_failed = report_failed }) n m c.args.done t t1 t2 r r1 r2 x in
+    let L : ℕ → Type 0 = λ k. Sends (report_of plan.digest (take k q.events)) (report_of plan.digest q.events) report_failed r1 r2 in
     subst P (sym c.come_to.ensures)
-    (IsTurned-told K plan fitted p q n m c.args.done (bytes_of c.in-Noted.noted.bytes) c.in-Noted.noted.outcome mute deaf t t1 t2 r r1 r2 running c.requires.few
-    (subst (Sent mute t1 t2) c.as_slice.ensures c.tell-failures.ensures.terminal)
+    (IsRound-told K plan fitted p q n m c.args.done (bytes_of c.in-Noted.noted.bytes) c.in-Noted.noted.outcome terminal_failed report_failed t t1 t2 r r1 r2 running c.requires.few
+    (subst (Sent terminal_failed t1 t2) c.as_slice.ensures c.tell-failures.ensures.terminal)
     (subst L c.requires.first c.tell-failures.ensures.report)
     (IsTold-not c.in-Noted.noted.outcome c.in_default.not-Cuts)
-    (λ none. c.tell-failures.ensures.spoken (c.as_slice.ensures ∙ none))
-    (λ same. c.tell-failures.ensures.heard (c.requires.first ∙ ap length (sym same)))
+    (λ none. c.tell-failures.ensures.on_terminal (c.as_slice.ensures ∙ none))
+    (λ same. c.tell-failures.ensures.on_report (c.requires.first ∙ ap length (sym same)))
     (c.in-Noted.ensures.cycle fitted running.goes))

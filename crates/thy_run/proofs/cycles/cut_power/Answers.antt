@@ -1,0 +1,102 @@
+use Rattle.std.proofs.Common.{◌∙◌, sym, ap, subst, ◌+◌, ℕ, Bool, false, take, length, List}
+use Rattle.thy_base.specs.Bytes.{bytes_of}
+use Rattle.thy_base.specs.Device.{Device}
+use Rattle.thy_text.specs.Event.{Event}
+use Rattle.thy_text.specs.Lines.{report_of}
+use Rattle.thy_run.specs.declared.advance.Outcome.TheVariants.{Goes}
+use Rattle.thy_run.specs.declared.ending.Ending.{Ending}
+use Rattle.thy_run.specs.declared.ending.Stop.TheVariants.{Memory}
+use Rattle.thy_run.specs.Sending.{Sent, Sends}
+use Rattle.thy_run.specs.Rounds.{round_of, RunEnds, IsRound}
+use Rattle.thy_run.proofs.AdvanceLemmas.{can_cut}
+use Rattle.thy_run.proofs.RoundLemmas.{IsRound-cut, RunEnds-uncut}
+use Rattle.thy_run.proofs.cycles.cut_power.Goals as goal
+
+pub cut-requires : goal.cut-requires
+cut-requires g c =
+    let h = c.requires.awaits in
+    can_cut g.M.Computer.kind g.met.M.Computer.lawful c.args.plan.now h.1 c.args.progress h.2 (g.N.Nvm.device c.args.nvm.now) c.args.done _ (bytes_of c.args.bytes) h.6.noted
+    h.0 (c.args.done + 1) c.requires.planned h.5.goes h.6.due
+
+pub returns-in-Err-clause-err : goal.returns-in-Err-clause-err
+returns-in-Err-clause-err g c = λ fitted p n t r running awaits first.
+    let K = g.M.Computer.kind in
+    let plan = c.args.plan.now in
+    let q = c.args.progress in
+    let m = g.N.Nvm.device c.args.nvm.now in
+    let t1 = g.T.Sink.stream c.args.terminal.now in
+    let t2 = g.T.Sink.stream c.tell-failures.new.terminal in
+    let r1 = g.R.Sink.stream c.args.report.now in
+    let r2 = g.R.Sink.stream c.tell-failures.new.report in
+    let terminal_failed = c.tell-failures.result.terminal in
+    let report_failed = c.tell-failures.result.report in
+    let L : ℕ → Type 0 = λ k. Sends (report_of plan.digest (take k c.in-Err.events)) (report_of plan.digest c.in-Err.events) report_failed r1 r2 in
+    let Q : List Event → Type 0 = λ vs. Sends (report_of plan.digest (take (length p.events) vs)) (report_of plan.digest vs) report_failed r1 r2 in
+    let E : List Event → Type 0 = λ vs. RunEnds K plan fitted m (record { stop = Memory; events = vs; cycles = c.args.done; terminal_failed = terminal_failed; report_failed = report_failed }) t t2 r r2 in
+    let D : Device → Type 0 = λ d. RunEnds K plan fitted d (record { stop = Memory; events = c.in-Err.events; cycles = c.args.done; terminal_failed = terminal_failed; report_failed = report_failed }) t t2 r r2 in
+    subst D (sym c.in-Err.ensures.same)
+    (subst E (sym c.in-Err.ensures.events)
+    (RunEnds-uncut K g.met.M.Computer.lawful plan fitted p q n m c.args.done (bytes_of c.args.bytes) terminal_failed report_failed t t1 t2 r r1 r2 running c.requires.few
+    (subst (Sent terminal_failed t1 t2) c.as_slice.ensures c.tell-failures.ensures.terminal) awaits
+    (λ none. c.tell-failures.ensures.on_terminal (c.as_slice.ensures ∙ none))
+    (λ same. c.tell-failures.ensures.on_report (first ∙ ap length (sym (c.in-Err.ensures.events ∙ same))))
+    (subst Q c.in-Err.ensures.events (subst L first c.tell-failures.ensures.report))))
+
+pub returns-then-failures-clause-err : goal.returns-then-failures-clause-err
+returns-then-failures-clause-err g c = λ fitted p n t r running awaits first.
+    let K = g.M.Computer.kind in
+    let plan = c.args.plan.now in
+    let q = c.in-Ok.next in
+    let m = g.N.Nvm.device c.args.nvm.now in
+    let m2 = g.N.Nvm.device c.cut.new.nvm in
+    let t1 = g.T.Sink.stream c.args.terminal.now in
+    let t2 = g.T.Sink.stream c.tell-failures-2.new.terminal in
+    let r1 = g.R.Sink.stream c.args.report.now in
+    let r2 = g.R.Sink.stream c.tell-failures-2.new.report in
+    let terminal_failed = c.tell-failures-2.result.terminal in
+    let report_failed = c.tell-failures-2.result.report in
+    let L : ℕ → Type 0 = λ k. Sends (report_of plan.digest (take k q.events)) (report_of plan.digest q.events) report_failed r1 r2 in
+    let round = IsRound-cut K g.met.M.Computer.lawful plan fitted p c.args.progress n m c.args.done (bytes_of c.args.bytes) terminal_failed report_failed t t1 t2 r r1 r2 running c.requires.few
+    (subst (Sent terminal_failed t1 t2) c.as_slice-2.ensures c.tell-failures-2.ensures.terminal) awaits q m2 c.in-Ok.ensures.ok (subst L first c.tell-failures-2.ensures.report) in
+    let P : Bool → Type 0 = λ b. IsRound K plan fitted p (record q { terminal_failed = terminal_failed; report_failed = report_failed }) n m2 c.args.done t t1 t2 r r1 r2 (round_of Goes terminal_failed b) in
+    let E : Ending → Type 0 = λ e. RunEnds K plan fitted m2 e t t2 r r2 in
+    subst E (sym c.ended_by.ensures) (subst P c.if-failures.true round)
+
+pub returns-then-failures-2-clause-err : goal.returns-then-failures-2-clause-err
+returns-then-failures-2-clause-err g c = λ fitted p n t r running awaits first.
+    let K = g.M.Computer.kind in
+    let plan = c.args.plan.now in
+    let q = c.in-Ok.next in
+    let m = g.N.Nvm.device c.args.nvm.now in
+    let m2 = g.N.Nvm.device c.cut.new.nvm in
+    let t1 = g.T.Sink.stream c.args.terminal.now in
+    let t2 = g.T.Sink.stream c.tell-failures-2.new.terminal in
+    let r1 = g.R.Sink.stream c.args.report.now in
+    let r2 = g.R.Sink.stream c.tell-failures-2.new.report in
+    let terminal_failed = c.tell-failures-2.result.terminal in
+    let report_failed = c.tell-failures-2.result.report in
+    let L : ℕ → Type 0 = λ k. Sends (report_of plan.digest (take k q.events)) (report_of plan.digest q.events) report_failed r1 r2 in
+    let round = IsRound-cut K g.met.M.Computer.lawful plan fitted p c.args.progress n m c.args.done (bytes_of c.args.bytes) terminal_failed report_failed t t1 t2 r r1 r2 running c.requires.few
+    (subst (Sent terminal_failed t1 t2) c.as_slice-2.ensures c.tell-failures-2.ensures.terminal) awaits q m2 c.in-Ok.ensures.ok (subst L first c.tell-failures-2.ensures.report) in
+    let P : Bool → Bool → Type 0 = λ a b. IsRound K plan fitted p (record q { terminal_failed = terminal_failed; report_failed = report_failed }) n m2 c.args.done t t1 t2 r r1 r2 (round_of Goes a b) in
+    let E : Ending → Type 0 = λ e. RunEnds K plan fitted m2 e t t2 r r2 in
+    subst E (sym c.ended_by-then-failures-2.ensures) (subst (λ a. P a false) c.if-failures-2.true (subst (P terminal_failed) c.if-failures.false round))
+
+pub returns-clause-ok : goal.returns-clause-ok
+returns-clause-ok g c = λ fitted p n t r running awaits first.
+    let K = g.M.Computer.kind in
+    let plan = c.args.plan.now in
+    let q = c.in-Ok.next in
+    let m = g.N.Nvm.device c.args.nvm.now in
+    let m2 = g.N.Nvm.device c.cut.new.nvm in
+    let t1 = g.T.Sink.stream c.args.terminal.now in
+    let t2 = g.T.Sink.stream c.tell-failures-2.new.terminal in
+    let r1 = g.R.Sink.stream c.args.report.now in
+    let r2 = g.R.Sink.stream c.tell-failures-2.new.report in
+    let terminal_failed = c.tell-failures-2.result.terminal in
+    let report_failed = c.tell-failures-2.result.report in
+    let L : ℕ → Type 0 = λ k. Sends (report_of plan.digest (take k q.events)) (report_of plan.digest q.events) report_failed r1 r2 in
+    let round = IsRound-cut K g.met.M.Computer.lawful plan fitted p c.args.progress n m c.args.done (bytes_of c.args.bytes) terminal_failed report_failed t t1 t2 r r1 r2 running c.requires.few
+    (subst (Sent terminal_failed t1 t2) c.as_slice-2.ensures c.tell-failures-2.ensures.terminal) awaits q m2 c.in-Ok.ensures.ok (subst L first c.tell-failures-2.ensures.report) in
+    let P : Bool → Bool → Type 0 = λ a b. IsRound K plan fitted p (record q { terminal_failed = terminal_failed; report_failed = report_failed }) n m2 c.args.done t t1 t2 r r1 r2 (round_of Goes a b) in
+    subst (λ a. P a false) c.if-failures-2.false (subst (P terminal_failed) c.if-failures.false round)
