@@ -1,5 +1,5 @@
 -- Drains lead on, in each phase, and so do cycles that do nothing.
-use Rattle.std.proofs.Common.{◌≡◌, ◌≢◌, ℕ, ◌+◌, ◌<◌, ◌≤◌, Bool, true, false, List, [], ◌∷◌, drop, length, refl, ap, inr, arith}
+use Rattle.std.proofs.Common.{◌≡◌, ◌≢◌, ℕ, ◌+◌, ◌<◌, Bool, true, false, List, [], ◌∷◌, drop, length, refl, ap, inr, arith}
 use Rattle.thy_base.specs.declared.nvm.Write.{Write}
 use Rattle.thy_base.specs.Device.{Device, drained}
 use Rattle.thy_view.specs.declared.did.Did.TheVariants.{NvmDrained, DramDrained, Nothing}
