@@ -5,6 +5,8 @@
 #[cfg(test)]
 mod expect;
 #[cfg(test)]
+mod faulty;
+#[cfg(test)]
 mod geometry;
 #[cfg(test)]
 mod hart;
