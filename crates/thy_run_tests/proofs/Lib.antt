@@ -1,1 +1,2 @@
+mod FaultyLemmas
 mod PoweredLemmas

@@ -1,2 +1,3 @@
+pub mod Faulty
 pub mod Powered
 pub mod Scarce

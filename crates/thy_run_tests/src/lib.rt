@@ -9,6 +9,8 @@
 #[cfg(test)]
 mod expect;
 #[cfg(test)]
+mod faulty;
+#[cfg(test)]
 mod geometry;
 #[cfg(test)]
 mod hart;

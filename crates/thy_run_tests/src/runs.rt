@@ -2,6 +2,7 @@
 mod console;
 mod cuts;
 mod epochs;
+mod faults;
 mod inputs;
 mod made;
 mod programs;
@@ -14,6 +15,7 @@ use programs::file_of;
 use std::alloc::{AllocError, Global};
 use std::process::Abort;
 use std::test::Fail;
+use thy_base::Nvm;
 use thy_cli::thynvm;
 use thy_nvm::MemNvm;
 use thy_out::{MemShelf, MemSink};
@@ -99,14 +101,26 @@ fn called_on(
     unseen: &[u64],
     untold: &[u64],
 ) -> Result<Given, AllocError> {
+    let mut nvm = MemNvm::new(alloc);
+    called_over(alloc, line, shelf, unseen, untold, &mut nvm)
+}
+
+/// The same over this device.
+fn called_over<N: Nvm>(
+    alloc: Global,
+    line: &str,
+    shelf: &mut MemShelf,
+    unseen: &[u64],
+    untold: &[u64],
+    nvm: &mut N,
+) -> Result<Given, AllocError> {
     let mut words = Vec::new(alloc);
     for word in line.split(' ') {
         words.push(String::from_str(alloc, word)?)?;
     }
     let mut terminal = MemSink::new(alloc, 4096, Vec::from_slice(alloc, unseen)?)?;
     let mut report = MemSink::new(alloc, 4096, Vec::from_slice(alloc, untold)?)?;
-    let mut nvm = MemNvm::new(alloc);
-    let answer = thynvm(alloc, &words, shelf, &mut terminal, &mut report, &mut nvm);
+    let answer = thynvm(alloc, &words, shelf, &mut terminal, &mut report, nvm);
     Ok(Given {
         status: answer.status,
         cycles: answer.cycles,
