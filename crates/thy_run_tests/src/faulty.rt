@@ -114,7 +114,6 @@ impl Nvm for FaultyNvm {
         }
     }
 
-    #[tactic(auto, using(crate::proofs::FaultyLemmas::failed_once_written))]
     fn write(&mut self, at: u64, block: &Block) -> Result<(), NvmError> {
         let fault = self.called();
         if let Some(Fault::Undone) = fault {
@@ -132,7 +131,6 @@ impl Nvm for FaultyNvm {
         Ok(())
     }
 
-    #[tactic(auto, using(crate::proofs::FaultyLemmas::failed_once_drained))]
     fn drain(&mut self) -> Result<(), NvmError> {
         let fault = self.called();
         if let Some(Fault::Undone) = fault {
@@ -150,7 +148,6 @@ impl Nvm for FaultyNvm {
         Ok(())
     }
 
-    #[tactic(auto, using(crate::proofs::FaultyLemmas::failed_once_settled))]
     fn barrier(&mut self) -> Result<(), NvmError> {
         let fault = self.called();
         if let Some(Fault::Undone) = fault {
