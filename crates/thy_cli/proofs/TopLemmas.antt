@@ -60,7 +60,7 @@ use Rattle.thy_cli.specs.declared.source.Program.{Program}
 use Rattle.thy_cli.proofs.RestoringLaws.{AllLong-blocks_of, length-saved_blocks, decode-restored, IsOrigin-restored}
 use Rattle.thy_run.specs.Going.{origin_of, given_of, IsPlanned}
 use Rattle.thy_run.specs.Endings.{EndsBy, HasRun}
-use Rattle.thy_run.specs.Turning.{RunEnds}
+use Rattle.thy_run.specs.Rounds.{RunEnds}
 
 -- ---- configurations
 
