@@ -79,13 +79,6 @@ impl Cache {
         }
     }
 
-    /// Whether the cache has a line of block `b`.
-    pub fn hit(&self, b: u64) -> bool
-        ensures { result ≡ hits self.now b }
-    {
-        self.find(b).is_some()
-    }
-
     /// What the line of block `b` holds, where there is one. It does not count as a use.
     pub fn peek(&self, b: u64) -> Option<Block>
         ensures block { result ≡ peeked self.now b }
@@ -137,20 +130,6 @@ impl Cache {
         }
     }
 
-    /// Block `b`, which hits. Its line is now the most recently used of its set.
-    pub fn read(&mut self, b: u64) -> Block
-        requires { hits self.old b ≡ true }
-        ensures block { peeked self.old b ≡ Some result }
-        ensures reads { ReadsAs self.old b result }
-        ensures cache { self.new ≡ read_from b self.old }
-        ensures lines { KeepsLines self.old self.new }
-    {
-        match self.find(b) {
-            Some(place) => self.read_at(b, place),
-            None => unreachable!(),
-        }
-    }
-
     /// Block `b`, whose line is at this place. It is now the most recently used of its set.
     pub fn read_at(&mut self, b: u64, place: Place) -> Block
         requires { place_of self.old b ≡ Some place }
@@ -162,20 +141,6 @@ impl Cache {
         let block = self.line_in(b, place).block;
         self.touch(b, place);
         block
-    }
-
-    /// Writes bytes over block `b`, which hits, from byte `at` on. Its line is dirty then, and the
-    /// most recently used of its set.
-    pub fn write(&mut self, b: u64, at: u64, bytes: &[u8])
-        requires hit { hits self.old b ≡ true }
-        requires within { at + length bytes.now ≤ 64 }
-        ensures cache { self.new ≡ written_at b at bytes.now self.old }
-        ensures lines { IsWritten b at bytes.now self.old self.new }
-    {
-        match self.find(b) {
-            Some(place) => self.write_at(b, place, at, bytes),
-            None => unreachable!(),
-        }
     }
 
     /// Writes bytes over block `b`, whose line is at this place, from byte `at` on. It is dirty then, and

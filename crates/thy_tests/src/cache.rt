@@ -122,7 +122,7 @@ fn byte_of(block: &Block, at: usize) -> Answer {
 
 fn ask(cache: &Cache, call: Call) -> Answer {
     match call {
-        Call::Hit(b) => Answer::Is(cache.hit(b)),
+        Call::Hit(b) => Answer::Is(cache.find(b).is_some()),
         Call::Victim(b) => match cache.victim(b) {
             Victim::Room => Answer::Room,
             Victim::Dirty(block) => Answer::Must(block),
@@ -142,7 +142,7 @@ fn fill<S: BlockStore<()>>(cache: &mut Cache, store: &mut S, b: u64) -> Result<A
     ensures eight { OnOk result (length (S.holding store.new tt).blocks ≡ 8) }
     ensures agree { OnOk result (Agrees cache.new (S.holding store.new tt).blocks) }
 {
-    if b >= 8 || cache.hit(b) || cache.victim(b) != Victim::Room {
+    if b >= 8 || cache.find(b).is_some() || cache.victim(b) != Victim::Room {
         return Ok(Answer::Refused);
     }
     cache.fill(b, store, &mut ())?;
@@ -185,11 +185,17 @@ fn use_line(cache: &mut Cache, call: Call) -> Answer
     ensures { AgreesStill cache.old cache.new }
 {
     match call {
-        Call::Read(b, at) if cache.hit(b) => byte_of(&cache.read(b), at),
-        Call::Write(b, at, byte) if cache.hit(b) && at < 64 => {
-            cache.write(b, at, &[byte]);
-            Answer::Done
-        }
+        Call::Read(b, at) => match cache.find(b) {
+            Some(place) => byte_of(&cache.read_at(b, place), at),
+            None => Answer::Refused,
+        },
+        Call::Write(b, at, byte) if at < 64 => match cache.find(b) {
+            Some(place) => {
+                cache.write_at(b, place, at, &[byte]);
+                Answer::Done
+            }
+            None => Answer::Refused,
+        },
         _ => ask(cache, call),
     }
 }
@@ -371,6 +377,6 @@ fn a_store_that_fails_changes_no_line(rt: HostRuntime) {
     };
     let filled = fill(&mut cache, &mut store, 3);
     assert!(rt; filled == Err(NvmError::Failed));
-    expect(&rt, cache.hit(3), false);
+    expect(&rt, cache.find(3).is_some(), false);
     expect(&rt, store.faults, 1);
 }
