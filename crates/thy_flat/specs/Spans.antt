@@ -1,7 +1,7 @@
 -- Spans of at most 64 bytes of a list of blocks: one lies in at most two blocks.
 use Rattle.std.specs.Prelude.{ℕ, ◌+◌, ◌-◌, ◌*◌, ◌/◌, ◌%◌, ◌≤◌, ◌==◌, if◌then◌else◌, min, List, ◌++◌, take, drop}
 use Rattle.thy_base.specs.declared.block.Block.{Block}
-use Rattle.thy_base.specs.Blocks.{block_bytes, overwritten, block_written}
+use Rattle.thy_base.specs.Blocks.{block_bytes, block_written}
 use Rattle.thy_base.specs.Device.{block_at}
 use Rattle.thy_flat.specs.declared.span.Span.{Span}
 
@@ -43,10 +43,6 @@ unfoldable pub gathered : List Block → Span → List ℕ
 gathered blocks s = head_read blocks s ++ head_read blocks (rest_of s)
 
 -- ---- writing
-
--- the first block of a span with the bytes that fall into it
-abbrev pub head_over : Block → Span → List ℕ → Block
-head_over block s bytes = overwritten (first_byte s) (take (head_len s) bytes) block
 
 -- the blocks with the bytes that fall into the first block of a span
 abbrev pub head_put : List Block → Span → List ℕ → List Block

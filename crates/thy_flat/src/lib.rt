@@ -1,6 +1,6 @@
-//! A list of blocks as a list of bytes, and the spans of it that one instruction or call moves. Callers rest on
-//! `take_head` and `Span`'s calls, which are exact, and on `spans_are_bytes`: what is gathered of a span are the bytes
-//! that stand there, and what is scattered over one changes those and no other.
+//! A list of blocks as a list of bytes, and the spans of it that one instruction or call moves, a block at a time.
+//! Callers rest on `take_head` and `Span`'s calls, which are exact, and on `spans_are_bytes`: what is gathered of a
+//! span, block by block, are the bytes that stand there, and what is scattered over one changes those and no other.
 //!
 //! Open specs/Spans.antt and src/piece.rt first. It stands on thy_base; on it stand thy_isa, thy_hart, thy_record and
 //! what is above them.
@@ -11,5 +11,5 @@ mod piece;
 mod span;
 
 pub use laws::spans_are_bytes;
-pub use piece::{Piece, extend, gather, put_head, scatter, take_head};
+pub use piece::{Piece, extend, take_head};
 pub use span::Span;

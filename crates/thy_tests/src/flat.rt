@@ -2,16 +2,24 @@
 
 use crate::expect::expect;
 use thy_base::Block;
-use thy_flat::{Piece, Span, gather, scatter};
+use thy_flat::{Piece, Span, take_head};
 
 #[test]
-fn a_span_over_two_blocks_is_put_and_read_again(rt: HostRuntime) {
-    let mut blocks = [Block::ZERO, Block::ZERO];
+fn a_span_over_two_blocks_is_read_block_by_block(rt: HostRuntime) {
+    let mut first = Block::ZERO;
+    first.put(61, &[9, 1, 2]);
+    let mut second = Block::ZERO;
+    second.put(0, &[3, 4, 5, 9]);
     let span = Span { at: 62, len: 5 };
-    scatter(&mut blocks, span, &[1, 2, 3, 4, 5]);
-    expect(&rt, &blocks[0].bytes()[61..], [0, 1, 2].as_slice());
-    expect(&rt, &blocks[1].bytes()[..4], [3, 4, 5, 0].as_slice());
+    expect(&rt, span.first_block(), 0);
+    expect(&rt, span.first_byte(), 62);
+    expect(&rt, span.head_len(), 2);
+    let rest = span.rest();
+    expect(&rt, rest, Span { at: 64, len: 3 });
+    expect(&rt, rest.first_block(), 1);
+    expect(&rt, rest.rest().is_empty(), true);
     let mut piece = Piece::new();
-    gather(&mut piece, &blocks, span);
+    take_head(&mut piece, &first, span);
+    take_head(&mut piece, &second, rest);
     expect(&rt, piece.as_slice(), [1, 2, 3, 4, 5].as_slice());
 }
