@@ -26,7 +26,7 @@ pub use environment::call;
 pub use instr::{Alu, Cond, Extend, Instr, Reg, Width};
 pub use laws::{blocks_make_the_step, what_a_step_keeps};
 pub use moving::{brought, moves, number_in};
-pub use numbers::{extended, number, put_number, word};
+pub use numbers::{extended, number, word};
 pub use regs::Regs;
 pub use state::{Call, CallState, Cause, CpuState, Effect, MachState, Moves, Status};
 pub use step::{cause_number, fetch_fault, finish, within};

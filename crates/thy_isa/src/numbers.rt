@@ -1,13 +1,11 @@
 //! Numbers in memory, the lowest byte first.
-#![tactic(auto, unfolding(thy_base::specs::LittleEndian::number_at, thy_base::specs::LittleEndian::number_bytes, crate::specs::Extending::extended))]
+#![tactic(auto, unfolding(thy_base::specs::LittleEndian::number_at, crate::specs::Extending::extended))]
 
 ghost use Rattle.std.specs.Prelude.{◌≡◌, ◌+◌, ◌≤◌, length};
-ghost use Rattle.thy_base.specs.Bytes.{written};
-ghost use Rattle.thy_base.specs.LittleEndian.{number_at, number_bytes};
+ghost use Rattle.thy_base.specs.LittleEndian.{number_at};
 ghost use Rattle.thy_isa.specs.Effects.{size_of};
 ghost use Rattle.thy_isa.specs.Extending.{extended};
 
-use crate::effects::bytes_in;
 use crate::instr::{Extend, Width};
 
 /// The number of `width` bytes from index `at` on.
@@ -36,16 +34,6 @@ fn double(bytes: &[u8], at: usize) -> u64
     ensures { result ≡ number_at 8 bytes.now at }
 {
     u64::from(word(bytes, at)) + (u64::from(word(bytes, at + 4)) << 32)
-}
-
-/// Writes the low bytes of a number from index `at` on.
-pub fn put_number(bytes: &mut [u8], at: usize, width: Width, value: u64)
-    requires { at + size_of width ≤ length bytes.old }
-    ensures { bytes.new ≡ written bytes.old at (number_bytes (size_of width) value) }
-{
-    let size = bytes_in(width) as usize;
-    let piece = value.to_le_bytes();
-    bytes[at..at + size].copy_from_slice(&piece[..size]);
 }
 
 /// The low bytes of a number, extended to 64 bits.

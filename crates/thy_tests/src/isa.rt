@@ -9,7 +9,7 @@ use crate::expect::expect;
 use crate::isa_rows::{ANSWERS, BREAKS, EXITS, VECTORS};
 use thy_isa::{
     Alu, Call, CallState, Cause, Effect, Reg, Regs, Width, alu, bytes_in, call, decode, extended,
-    number, put_number, word_effect,
+    number, word_effect,
 };
 
 const PC: u64 = 65536;
@@ -38,9 +38,9 @@ fn outcome(word: u32, a: u64, b: u64) -> Option<u64> {
             first(&b.to_le_bytes(), width),
         )),
         Effect::Write { width, value, .. } => {
+            let size = bytes_in(width) as usize;
             let mut bytes = [0xaa; 8];
-            let _size = bytes_in(width);
-            put_number(&mut bytes, 0, width, value);
+            bytes[..size].copy_from_slice(&value.to_le_bytes()[..size]);
             Some(first(&bytes, Width::Double))
         }
         _ => None,
