@@ -99,11 +99,4 @@ impl Plain {
     {
         &self.state
     }
-
-    /// The state as it stands. Takes no memory.
-    pub fn into_state(self) -> MachState
-        ensures { state_of result ≡ self.state }
-    {
-        self.state
-    }
 }

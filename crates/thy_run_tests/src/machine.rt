@@ -19,7 +19,7 @@ use thy_dram::Dram;
 use thy_dual::DualScheme;
 use thy_isa::{CpuState, MachState, Status};
 use thy_nvm::MemNvm;
-use thy_plain::{are_bytes, start_of};
+use thy_plain::{Plain, are_bytes, start_of};
 use thy_record::{EngineStep, Start};
 use thy_view::{Computer, Did, Stepped};
 
@@ -360,18 +360,17 @@ fn finished<M: Computer>(rt: &impl Abort, on: &mut Powered<M>, story: &mut Story
     panic!(rt; "no end")
 }
 
-/// The plain machine's states of a row's program, from its start to its end.
-fn plain_states(rt: &impl Abort, alloc: Global, row: &Row) -> Vec<MachState> {
-    let mut states = Vec::new(alloc);
+/// The plain machine at each state of a row's program, from its start to its end.
+fn plain_machines(rt: &impl Abort, alloc: Global, row: &Row) -> Vec<Plain> {
+    let mut plains = Vec::new(alloc);
     for count in 0..100 {
         let mut plain = start_with(rt, alloc, row.words, b"");
         expect(rt, plain.run(count), count);
-        let state = plain.into_state();
-        let status = state.status;
-        states.push(state).expect(rt, "memory");
+        let status = plain.state().status;
+        plains.push(plain).expect(rt, "memory");
         if status != Status::Running {
             expect(rt, status, row.status);
-            return states;
+            return plains;
         }
     }
     panic!(rt; "no end")
@@ -396,13 +395,13 @@ fn stands<M: Computer>(
     rt: &impl Abort,
     alloc: Global,
     on: &mut Powered<M>,
-    states: &[MachState],
+    plains: &[Plain],
     count: u64,
     at: u64,
 ) {
-    let inside = (count as usize) < states.len();
+    let inside = (count as usize) < plains.len();
     assert!(rt; inside);
-    let want = &states[count as usize];
+    let want = plains[count as usize].state();
     let got = on.snapshot(rt, alloc);
     expect_at(rt, cpu_of(&got), cpu_of(want), at);
     let same_memory = got.memory.as_slice() == want.memory.as_slice();
@@ -412,8 +411,8 @@ fn stands<M: Computer>(
 }
 
 /// The count at which a program ends.
-fn last(states: &[MachState]) -> u64 {
-    (states.len() as u64).saturating_sub(1)
+fn last(plains: &[Plain]) -> u64 {
+    (plains.len() as u64).saturating_sub(1)
 }
 
 /// A run without cuts: how many cycles it has, and its checkpoints.
@@ -429,7 +428,7 @@ fn uncut<M: Computer>(
     alloc: Global,
     row: &Row,
     seed: u64,
-    states: &[MachState],
+    plains: &[Plain],
 ) -> Whole {
     let mut on = Powered::<M>::new(rt, alloc, row, seed);
     let booted = boot(rt, &mut on);
@@ -441,7 +440,7 @@ fn uncut<M: Computer>(
     if seed == 0 {
         expect_at(rt, story.overlapped.as_slice(), row.overlapped, seed);
     }
-    stands(rt, alloc, &mut on, states, last(states), seed);
+    stands(rt, alloc, &mut on, plains, last(plains), seed);
     Whole {
         cycles: on.cycles,
         checkpoints: story.checkpoints,
@@ -487,7 +486,7 @@ fn cut<M: Computer>(
     alloc: Global,
     row: &Row,
     seed: u64,
-    states: &[MachState],
+    plains: &[Plain],
     whole: &Whole,
     at: u64,
     pick: u64,
@@ -500,26 +499,26 @@ fn cut<M: Computer>(
     let booted = boot(rt, &mut on);
     expect_at(rt, whole.may_leave(booted.found, at, pick), true, at);
     let mark = booted.found.unwrap_or(Mark { epoch: 0, count: 0 });
-    stands(rt, alloc, &mut on, states, mark.count, at);
+    stands(rt, alloc, &mut on, plains, mark.count, at);
     let mut story = Story::from(alloc, mark.epoch);
     finished(rt, &mut on, &mut story, booted.ended);
     let epoch = mark.epoch as usize;
     let inside = epoch <= row.ends.len();
     assert!(rt; inside);
     expect_at(rt, story.ends.as_slice(), &row.ends[epoch..], at);
-    stands(rt, alloc, &mut on, states, last(states), at);
+    stands(rt, alloc, &mut on, plains, last(plains), at);
 }
 
 /// Runs a row's program by the schedule of a seed, without cuts and then with a cut behind each cycle but the last, with
 /// three picks for what it leaves of the queued writes: none, all, and a draw. Each seed has a test of its own, since all of
 /// them would be too long for one.
 fn survives<M: Computer>(rt: &impl Abort, alloc: Global, row: &Row, seed: u64) {
-    let states = plain_states(rt, alloc, row);
-    let whole = uncut::<M>(rt, alloc, row, seed, &states);
+    let plains = plain_machines(rt, alloc, row);
+    let whole = uncut::<M>(rt, alloc, row, seed, &plains);
     let mut draws = Lcg::new(seed);
     for at in 0..whole.cycles {
         for pick in [0, 1, draws.next()] {
-            cut::<M>(rt, alloc, row, seed, &states, &whole, at, pick);
+            cut::<M>(rt, alloc, row, seed, &plains, &whole, at, pick);
         }
     }
 }

@@ -94,7 +94,7 @@ static EXIT_SEVEN: [u32; 3] = [0x05d00893, 0x00700513, 0x00000073];
 fn a_program_exits_with_seven(rt: HostRuntime) {
     let mut plain = start(&rt, rt.alloc(), &EXIT_SEVEN);
     expect(&rt, plain.run(100), 3);
-    stands(&rt, &plain.into_state(), Status::Exited(7), 3, 65544);
+    stands(&rt, plain.state(), Status::Exited(7), 3, 65544);
 }
 
 #[test]
@@ -152,7 +152,7 @@ fn a_write_of_a_hundred_bytes_takes_two_calls(rt: HostRuntime) {
     let mut plain = start(&rt, rt.alloc(), &WRITES);
     expect(&rt, plain.run(9), 9);
     holds(&rt, plain.state(), 10, 36);
-    let state = plain.into_state();
+    let state = plain.state();
     let first = state.memory.as_slice();
     expect(&rt, first.len(), 28672);
     expect(
@@ -178,7 +178,7 @@ fn a_read_past_the_end_of_memory_keeps_the_cursor(rt: HostRuntime) {
     let mut plain = start_with(&rt, rt.alloc(), &READS, b"abcd");
     expect(&rt, plain.run(9), 9);
     holds(&rt, plain.state(), 10, 4);
-    let state = plain.into_state();
+    let state = plain.state();
     expect(&rt, state.cursor, 4);
     let end = state.memory.as_slice();
     expect(&rt, &end[end.len().saturating_sub(4)..], b"abcd".as_slice());
@@ -192,5 +192,5 @@ fn a_break_that_is_refused_answers_the_old_one(rt: HostRuntime) {
     let mut plain = start(&rt, rt.alloc(), &BREAKS);
     expect(&rt, plain.run(3), 3);
     holds(&rt, plain.state(), 10, 65552);
-    stands(&rt, &plain.into_state(), Status::Running, 3, 65548);
+    stands(&rt, plain.state(), Status::Running, 3, 65548);
 }
