@@ -187,8 +187,7 @@ fn started<M: Computer>(alloc: Global, plan: &Plan, machine: M) -> Progress<M>
 fn first_dram(alloc: Global, geometry: &Geometry) -> Result<Dram, AllocError>
     ensures { IfOk result (λ d. IsDramOf geometry.now d) }
 {
-    let numbers = geometry.numbers();
-    Dram::new(alloc, numbers.btt + 64 * numbers.ptt, numbers.dramq)
+    Dram::new(alloc, geometry.dram_blocks(), geometry.numbers().dramq)
 }
 
 /// A machine whose power comes on for the first time.

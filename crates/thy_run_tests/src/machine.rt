@@ -128,8 +128,7 @@ fn start_for(rt: &impl Abort, alloc: Global, geometry: &Geometry, words: &[u32])
 fn new_dram(rt: &impl Abort, alloc: Global, geometry: &Geometry) -> Dram
     ensures { IsDramOf geometry.now result }
 {
-    let numbers = geometry.numbers();
-    Dram::new(alloc, numbers.btt + 64 * numbers.ptt, numbers.dramq).expect(rt, "memory")
+    Dram::new(alloc, geometry.dram_blocks(), geometry.numbers().dramq).expect(rt, "memory")
 }
 
 /// A machine whose power is on, between two cycles.
