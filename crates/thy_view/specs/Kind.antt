@@ -10,6 +10,7 @@ use Rattle.thy_base.specs.declared.nvm.NvmError.{NvmError}
 use Rattle.thy_base.specs.Bytes.{bytes_of}
 use Rattle.thy_base.specs.Counts.{Rose}
 use Rattle.thy_base.specs.Device.{Device, Crash, HasFailed, cut_to, fitted}
+use Rattle.thy_base.specs.Places.{dram_blocks}
 use Rattle.thy_dram.specs.Contents.{Contents}
 use Rattle.thy_isa.specs.declared.state.MachState.{MachState}
 use Rattle.thy_isa.specs.Step.{state_of}
@@ -59,10 +60,6 @@ pub record KindOf (M : Type 0) : Type 1 where
   pub most_each : Parameters → ℕ
 
 -- ---- the calls
-
--- how many blocks the DRAM has: a buffer for each entry of the block table, 64 for each of the page table
-abbrev pub dram_blocks : Parameters → ℕ
-dram_blocks p = p.btt + 64 * p.ptt
 
 -- a DRAM of a geometry, whatever it holds, with nothing queued
 pub record IsDramOf (p : Parameters) (d : Contents) : Type 0 where
