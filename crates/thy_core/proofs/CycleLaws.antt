@@ -9,10 +9,10 @@ use Rattle.thy_base.specs.Geometry.{memory_blocks}
 use Rattle.thy_cache.specs.declared.line.Flushed.{Flushed}
 use Rattle.thy_cache.specs.Contents.{Contents, dirty_count}
 use Rattle.thy_hart.specs.declared.hand.HartStep.{HartStep}
-use Rattle.thy_hart.specs.Acts.{given}
+use Rattle.thy_hart.specs.Outcomes.{given}
 use Rattle.thy_hart.specs.Core.{Core}
 use Rattle.thy_hart.specs.Moments.{moment, brings_line, IsReady}
-use Rattle.thy_hart.specs.Steps.{IsStep}
+use Rattle.thy_hart.specs.OneStep.{IsStep}
 use Rattle.thy_isa.specs.declared.state.Status.{Status}
 use Rattle.thy_isa.specs.declared.state.Status.TheVariants.{Running, Exited, Trapped}
 use Rattle.thy_isa.specs.Step.{is_running}

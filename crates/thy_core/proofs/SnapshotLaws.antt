@@ -15,7 +15,7 @@ use Rattle.thy_flat.proofs.MemoryLaws.{room_inside}
 use Rattle.thy_hart.specs.declared.hand.Hand.TheVariants.{Nothing}
 use Rattle.thy_hart.specs.Core.{Core, has_written}
 use Rattle.thy_hart.specs.Laws.{IsSized}
-use Rattle.thy_hart.specs.Steps.{current}
+use Rattle.thy_hart.specs.OneStep.{current}
 use Rattle.thy_isa.specs.declared.state.CpuState.{CpuState}
 use Rattle.thy_isa.specs.declared.state.MachState.{MachState}
 use Rattle.thy_isa.specs.OnBlocks.{state_from}

@@ -2,7 +2,7 @@
 ghost use Rattle.std.specs.Prelude.{◌≡◌, IfOk, IfErr, OnOk};
 ghost use Rattle.thy_base.specs.Device.{IsFramed};
 ghost use Rattle.thy_hart.specs.Laws.{IsSized};
-ghost use Rattle.thy_hart.specs.Steps.{current};
+ghost use Rattle.thy_hart.specs.OneStep.{current};
 ghost use Rattle.thy_isa.specs.Step.{state_of, state_with};
 ghost use Rattle.thy_base.specs.Bytes.{bytes_of};
 ghost use Rattle.thy_scheme.specs.Scheme.{CanRun};

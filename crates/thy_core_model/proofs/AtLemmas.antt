@@ -6,7 +6,7 @@ use Rattle.thy_isa.specs.OnBlocks.{state_from}
 use Rattle.thy_isa.specs.Step.{step, steps}
 use Rattle.thy_isa.proofs.StepLaws.{step-count}
 use Rattle.thy_hart.specs.Core.{Core}
-use Rattle.thy_hart.specs.Steps.{current}
+use Rattle.thy_hart.specs.OneStep.{current}
 use Rattle.thy_view.specs.Origin.{Origin, setting_of, at, runs_at}
 
 -- one instruction on

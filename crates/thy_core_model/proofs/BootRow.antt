@@ -11,7 +11,7 @@ use Rattle.thy_flat.proofs.MemoryLaws.{length-console_bytes}
 use Rattle.thy_hart.specs.Core.{new_hart, next_block, reserved}
 use Rattle.thy_hart.specs.Laws.{IsSized, Follows}
 use Rattle.thy_hart.specs.Moments.{IsOpenFor, moment}
-use Rattle.thy_hart.specs.Steps.{current}
+use Rattle.thy_hart.specs.OneStep.{current}
 use Rattle.thy_hart.proofs.FollowLaws.{next-coming}
 use Rattle.thy_isa.specs.declared.state.CpuState.{CpuState}
 use Rattle.thy_isa.specs.declared.state.Status.{Status}

@@ -14,9 +14,9 @@ use Rattle.thy_hart.specs.declared.hand.Hand.TheVariants.{Nothing, Reading, Rese
 use Rattle.thy_hart.specs.declared.hand.HartStep.{HartStep}
 use Rattle.thy_hart.specs.declared.hand.HartStep.TheVariants.{Moved, Retired, Waiting, Over}
 use Rattle.thy_hart.specs.Core.{Core, reserved, blocks_of}
-use Rattle.thy_hart.specs.Acts.{Given, given}
+use Rattle.thy_hart.specs.Outcomes.{Given, given}
 use Rattle.thy_hart.specs.Moments.{Moment, moment, brings_line, moves_left}
-use Rattle.thy_hart.specs.Steps.{current, ComesNearer, HasCome, answer_to}
+use Rattle.thy_hart.specs.OneStep.{current, ComesNearer, HasCome, answer_to}
 use Rattle.thy_hart.specs.Laws.{Follows, state_after}
 use Rattle.thy_hart.proofs.FollowLaws.{follows-on}
 use Rattle.thy_view.specs.declared.did.Did.TheVariants.{Moved as DidMove, Retired as DidRetire}

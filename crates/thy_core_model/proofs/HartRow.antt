@@ -6,7 +6,7 @@ use Rattle.thy_epoch.specs.Epoch.{HasRetired}
 use Rattle.thy_hart.specs.declared.hand.Hand.TheVariants.{Nothing}
 use Rattle.thy_hart.specs.declared.hand.HartStep.{HartStep}
 use Rattle.thy_hart.specs.Core.{Core, reserved}
-use Rattle.thy_hart.specs.Acts.{given}
+use Rattle.thy_hart.specs.Outcomes.{given}
 use Rattle.thy_hart.specs.Laws.{Follows}
 use Rattle.thy_view.specs.declared.did.Did.{Did}
 use Rattle.thy_view.specs.declared.did.Did.TheVariants.{Moved as DidMove, Retired as DidRetire}

@@ -17,7 +17,7 @@ use Rattle.thy_hart.specs.declared.hand.Hand.TheVariants.{Nothing, Reading, Rese
 use Rattle.thy_hart.specs.Core.{Core, next_block, has_written}
 use Rattle.thy_hart.specs.Laws.{Follows}
 use Rattle.thy_hart.specs.Moments.{IsOpenFor}
-use Rattle.thy_hart.specs.Steps.{current, coming, coming_by}
+use Rattle.thy_hart.specs.OneStep.{current, coming, coming_by}
 use Rattle.thy_isa.specs.OnBlocks.{state_from}
 use Rattle.thy_isa.specs.Step.{State}
 use Rattle.thy_isa.specs.Storable.{IsStorable}

@@ -16,9 +16,9 @@ use Rattle.thy_hart.specs.declared.hand.Hand.TheVariants.{Nothing, Reading, Rese
 use Rattle.thy_hart.specs.declared.hand.HartStep.{HartStep}
 use Rattle.thy_hart.specs.declared.hand.HartStep.TheVariants.{Moved, Retired, Waiting, Over}
 use Rattle.thy_hart.specs.Core.{Core, block_for, blocks_of, reserved}
-use Rattle.thy_hart.specs.Acts.{Given, begun, written_on, fetched, is_short, room_reserved, room_answer, cpu_retired, retired, over_or_retired, acted_by, answer_by}
+use Rattle.thy_hart.specs.Outcomes.{Given, begun, written_on, fetched, is_short, room_reserved, room_answer, cpu_retired, retired, over_or_retired, acted_by, answer_by}
 use Rattle.thy_hart.specs.Moments.{Moment, memory_of, is_missing, brings_line}
-use Rattle.thy_hart.specs.Steps.{hart_after, answer_to}
+use Rattle.thy_hart.specs.OneStep.{hart_after, answer_to}
 use Rattle.thy_cache.specs.Contents.{dirty_count}
 use Rattle.thy_view.specs.CoreStep.{IsShort}
 use Rattle.thy_view.specs.Turn.{Shortage}

@@ -11,10 +11,10 @@ use Rattle.thy_cache.specs.Flat.{flat, Agrees}
 use Rattle.thy_epoch.specs.Epoch.{next_epoch}
 use Rattle.thy_hart.specs.declared.hand.HartStep.{HartStep}
 use Rattle.thy_hart.specs.declared.hand.HartStep.TheVariants.{Moved, Retired, Waiting, Over}
-use Rattle.thy_hart.specs.Acts.{Given}
+use Rattle.thy_hart.specs.Outcomes.{Given}
 use Rattle.thy_hart.specs.Core.{Core, new_hart, reserved}
 use Rattle.thy_hart.specs.Moments.{moment, brings_line}
-use Rattle.thy_hart.specs.Steps.{IsStep}
+use Rattle.thy_hart.specs.OneStep.{IsStep}
 use Rattle.thy_isa.specs.declared.state.CpuState.{CpuState}
 use Rattle.thy_isa.specs.Step.{cpu_of, is_running}
 use Rattle.thy_record.specs.declared.engine_step.EngineStep.{EngineStep}

@@ -5,7 +5,7 @@ use Rattle.thy_base.specs.Device.{Device, drained}
 use Rattle.thy_cache.specs.declared.line.Flushed.{Flushed}
 use Rattle.thy_cache.specs.Contents.{Contents, dirty_count}
 use Rattle.thy_hart.specs.declared.hand.HartStep.{HartStep}
-use Rattle.thy_hart.specs.Acts.{given}
+use Rattle.thy_hart.specs.Outcomes.{given}
 use Rattle.thy_hart.specs.Core.{Core}
 use Rattle.thy_record.specs.declared.engine_step.EngineStep.{EngineStep}
 use Rattle.thy_view.specs.declared.did.Did.{Did}

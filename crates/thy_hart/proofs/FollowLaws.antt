@@ -13,9 +13,9 @@ use Rattle.thy_hart.specs.declared.hand.Hand.TheVariants.{Nothing}
 use Rattle.thy_hart.specs.declared.hand.HartStep.{HartStep}
 use Rattle.thy_hart.specs.declared.hand.HartStep.TheVariants.{Moved, Retired, Waiting, Over}
 use Rattle.thy_hart.specs.Core.{Core, has_written}
-use Rattle.thy_hart.specs.Acts.{Given}
+use Rattle.thy_hart.specs.Outcomes.{Given}
 use Rattle.thy_hart.specs.Moments.{Moment, memory_of}
-use Rattle.thy_hart.specs.Steps.{current, coming_by, coming, IsOnTheWay, HasCome, IsDropped, IsUnmoved, Leads, LeadsOver, StaysWritten, IsStep}
+use Rattle.thy_hart.specs.OneStep.{current, coming_by, coming, IsOnTheWay, HasCome, IsDropped, IsUnmoved, Leads, LeadsOver, StaysWritten, IsStep}
 use Rattle.thy_hart.specs.Laws.{IsSized, Follows, state_after, state_over}
 
 -- with nothing in hand the next state is to come

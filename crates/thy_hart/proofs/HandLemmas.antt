@@ -22,7 +22,7 @@ use Rattle.thy_isa.proofs.MoveLaws.{moves_of-spans, moves_of-enough}
 use Rattle.thy_hart.specs.declared.hand.Hand.{Hand}
 use Rattle.thy_hart.specs.declared.hand.Hand.TheVariants.{Reading, Reserving, Writing, Retiring}
 use Rattle.thy_hart.specs.Core.{Core, blocks_of, reserved, read_len, IsReading, IsWriting, IsInHand, IsSound}
-use Rattle.thy_hart.specs.Acts.{begun, written_on, room_reserved}
+use Rattle.thy_hart.specs.Outcomes.{begun, written_on, room_reserved}
 
 -- ---- choices
 

@@ -1,6 +1,6 @@
 pub mod HandLemmas
 pub mod FetchLemmas
-pub mod ActLemmas
+pub mod MicroStepLemmas
 pub mod StepLemmas
 pub mod StepLaws
 pub mod FollowLaws

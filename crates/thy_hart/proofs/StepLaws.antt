@@ -16,11 +16,11 @@ use Rattle.thy_hart.specs.declared.hand.Hand.TheVariants.{Nothing, Reading, Rese
 use Rattle.thy_hart.specs.declared.hand.HartStep.{HartStep}
 use Rattle.thy_hart.specs.declared.hand.HartStep.TheVariants.{Moved, Retired, Waiting, Over}
 use Rattle.thy_hart.specs.Core.{Core, fetched_block, block_for, next_block, reserved, IsInHand, IsSound}
-use Rattle.thy_hart.specs.Acts.{Given, acted_by, answer_by, memory_by}
+use Rattle.thy_hart.specs.Outcomes.{Given, acted_by, answer_by, memory_by}
 use Rattle.thy_hart.specs.Bring.{IsNearer, BringsLine, IsBrought}
 use Rattle.thy_hart.specs.Moments.{Moment, moment, is_missing, IsOpenInTheWay, IsOpenFor, IsReady, touch_left}
-use Rattle.thy_hart.specs.MicroSteps.{HitsNext, Acts}
-use Rattle.thy_hart.specs.Steps.{coming, ComesNearer, Nears, Closes, IsStep}
+use Rattle.thy_hart.specs.MicroSteps.{HitsNext, IsMicroStep}
+use Rattle.thy_hart.specs.OneStep.{coming, ComesNearer, Nears, Closes, IsStep}
 use Rattle.thy_hart.proofs.FetchLemmas.{fetched_inside, word_inside, unless_some}
 use Rattle.thy_hart.proofs.HandLemmas.{first_block-inside}
 use Rattle.thy_hart.proofs.StepLemmas.{FallsAt, left_at, IsDone, done_by}
@@ -138,7 +138,7 @@ nears_by Waiting old new h = tt
 nears_by (Over cause) old new h = tt
 
 pub IsStep-acted : (g : Given) (h k : Core) (c d : Contents) (held : Holding) (step : HartStep) → g.free ≡ held.free → IsSound h → IsReady (moment h c held)
-    → HitsNext c (next_block h) → Acts g c d h k step → IsStep g (moment h c held) (moment k d held) step
+    → HitsNext c (next_block h) → IsMicroStep g c d h k step → IsStep g (moment h c held) (moment k d held) step
 IsStep-acted g h k c d held step free s r hit a =
     let before = flat c held.blocks in
     let missing : is_missing c (next_block h) ≡ false = hit_not_missing c (next_block h) hit in

@@ -27,10 +27,10 @@ use Rattle.thy_hart.specs.declared.hand.Hand.TheVariants.{Nothing, Reading, Rese
 use Rattle.thy_hart.specs.declared.hand.HartStep.{HartStep}
 use Rattle.thy_hart.specs.declared.hand.HartStep.TheVariants.{Moved, Retired, Waiting, Over}
 use Rattle.thy_hart.specs.Core.{Core, unless_fault, fetched_block, block_for, next_block, blocks_of, reserved, has_written, IsWriting, IsInHand}
-use Rattle.thy_hart.specs.Acts.{Given, begun, written_on, fetched, block_read, dropped, room_reserved, room_answer, block_written, epoch_retired, retired, over_or_retired, acted_by, answer_by, memory_by}
+use Rattle.thy_hart.specs.Outcomes.{Given, begun, written_on, fetched, block_read, dropped, room_reserved, room_answer, block_written, epoch_retired, retired, over_or_retired, acted_by, answer_by, memory_by}
 use Rattle.thy_hart.specs.Moments.{touch_steps, touch_left, left_behind}
 use Rattle.thy_hart.specs.MicroSteps.{HitsNext}
-use Rattle.thy_hart.specs.Steps.{current, led, coming_by, coming, HasCome, Leads, StaysWritten}
+use Rattle.thy_hart.specs.OneStep.{current, led, coming_by, coming, HasCome, Leads, StaysWritten}
 use Rattle.thy_hart.proofs.HandLemmas.{begun_by, written_by, head_len-some, blocks_of-most, blocks_of-least, blocks_of-two, blocks_of-rest}
 
 -- how many steps are left, before and after

@@ -12,9 +12,9 @@ use Rattle.thy_hart.specs.declared.hand.Hand.TheVariants.{Nothing}
 use Rattle.thy_hart.specs.declared.hand.HartStep.{HartStep}
 use Rattle.thy_hart.specs.declared.hand.HartStep.TheVariants.{Moved, Retired, Waiting, Over}
 use Rattle.thy_hart.specs.Core.{Core, reserved, has_written}
-use Rattle.thy_hart.specs.Acts.{Given}
+use Rattle.thy_hart.specs.Outcomes.{Given}
 use Rattle.thy_hart.specs.Moments.{Moment, memory_of, IsReady, moves_left}
-use Rattle.thy_hart.specs.Steps.{current, coming, IsStep}
+use Rattle.thy_hart.specs.OneStep.{current, coming, IsStep}
 
 -- with no page open, a hart is ready where cache and store agree and there is room
 abbrev pub ReadyWithNoPageOpen : Type 0

@@ -1,7 +1,7 @@
 pub mod Core
-pub mod Acts
+pub mod Outcomes
 pub mod Moments
 pub mod Bring
 pub mod MicroSteps
-pub mod Steps
+pub mod OneStep
 pub mod Laws

@@ -17,7 +17,7 @@ use Rattle.thy_hart.specs.declared.hand.Next.{Next}
 use Rattle.thy_hart.specs.declared.hand.Next.TheVariants.{Bring, Act}
 use Rattle.thy_hart.specs.declared.micro_steps.Parts.{Parts}
 use Rattle.thy_hart.specs.Core.{Core, next_block, reserved}
-use Rattle.thy_hart.specs.Acts.{Given, fetched, block_read, acted_by, answer_by, memory_by, cache_by}
+use Rattle.thy_hart.specs.Outcomes.{Given, fetched, block_read, acted_by, answer_by, memory_by, cache_by}
 
 abbrev pub core_of : Parts → Core
 core_of h = record { geometry = h.geometry; cpu = h.cpu; epoch = h.epoch; hand = h.hand; bytes = h.bytes.items }
@@ -63,7 +63,7 @@ abbrev pub WritesIn : ℕ → Contents → Contents → Span → List ℕ → Ty
 WritesIn n c d to bytes = (blocks : List Block) → length blocks ≡ n → flat d blocks ≡ head_put (flat c blocks) to bytes
 
 -- what a micro-step makes of cache and hart
-pub record Acts (g : Given) (c d : Contents) (old new : Core) (step : HartStep) : Type 0 where
+pub record IsMicroStep (g : Given) (c d : Contents) (old new : Core) (step : HartStep) : Type 0 where
   pub hart : (blocks : List Block) → length blocks ≡ memory_blocks old.geometry
       → new ≡ acted_by g (dirty_count c) (flat c blocks) old old.hand
   pub says : step ≡ answer_by g (dirty_count c) old old.hand

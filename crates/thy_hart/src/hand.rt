@@ -1,8 +1,8 @@
 //! The instruction in hand, and how a step ends.
-#![tactic(auto, unfolding(crate::specs::Acts::begun, crate::specs::Acts::written_on))]
+#![tactic(auto, unfolding(crate::specs::Outcomes::begun, crate::specs::Outcomes::written_on))]
 
 ghost use Rattle.std.specs.Prelude.{◌≡◌};
-ghost use Rattle.thy_hart.specs.Acts.{begun, written_on};
+ghost use Rattle.thy_hart.specs.Outcomes.{begun, written_on};
 ghost use Rattle.thy_hart.specs.Core.{blocks_of};
 
 use thy_base::EndCause;

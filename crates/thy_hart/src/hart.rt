@@ -5,9 +5,9 @@ ghost use Rattle.thy_cache.specs.Contents.{dirty_count};
 ghost use Rattle.thy_isa.specs.declared.state.Status.TheVariants.{Running};
 ghost use Rattle.thy_epoch.specs.Epoch.{next_epoch};
 ghost use Rattle.thy_hart.specs.Core.{new_hart, to_reserve};
-ghost use Rattle.thy_hart.specs.Acts.{given};
+ghost use Rattle.thy_hart.specs.Outcomes.{given};
 ghost use Rattle.thy_hart.specs.Moments.{moment, brings_line, IsReady};
-ghost use Rattle.thy_hart.specs.Steps.{IsStep};
+ghost use Rattle.thy_hart.specs.OneStep.{IsStep};
 
 use crate::bring::bring;
 use crate::hand::{Hand, HartStep, Next};

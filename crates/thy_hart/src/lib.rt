@@ -2,7 +2,7 @@
 //! `Hart::step`, which is exact, and on `a_step_follows_on`: the step that retires an instruction makes the plain
 //! machine's next state.
 //!
-//! Open specs/Moments.antt first, then specs/Steps.antt, and src/hart.rt. It stands on thy_base, thy_flat, thy_isa,
+//! Open specs/Moments.antt first, then specs/OneStep.antt, and src/hart.rt. It stands on thy_base, thy_flat, thy_isa,
 //! thy_cache and thy_epoch; on it stand thy_core_model and thy_core.
 #![tactic(auto)]
 

@@ -1,5 +1,5 @@
 //! The micro-steps of an instruction whose block is in the cache.
-#![tactic(auto, unfolding(crate::specs::Core::fetched_block, crate::specs::Acts::fetched, crate::specs::Acts::room_reserved, crate::specs::Acts::room_answer, thy_isa::specs::OnBlocks::effect_in, thy_isa::specs::OnBlocks::cpu_after))]
+#![tactic(auto, unfolding(crate::specs::Core::fetched_block, crate::specs::Outcomes::fetched, crate::specs::Outcomes::room_reserved, crate::specs::Outcomes::room_answer, thy_isa::specs::OnBlocks::effect_in, thy_isa::specs::OnBlocks::cpu_after))]
 
 ghost use Rattle.std.specs.Prelude.{◌≡◌, true, None, Some, ◌+◌, ◌*◌, ◌<◌, ◌≤◌, ◌^◌, [], length, drop};
 ghost use Rattle.arrayvec.specs.ArrayVec.{array_vec_len};
@@ -12,8 +12,8 @@ ghost use Rattle.thy_isa.specs.Moves.{brings};
 ghost use Rattle.thy_isa.specs.OnBlocks.{calls_in};
 ghost use Rattle.thy_isa.specs.Step.{AreCallsOf, is_running};
 ghost use Rattle.thy_hart.specs.Core.{IsReading, IsWriting, IsSound, fetched_block, next_block, blocks_of, read_len, reserved, to_reserve};
-ghost use Rattle.thy_hart.specs.Acts.{touched, written_by, block_written, room_reserved, room_answer, retired, over_or_retired, epoch_retired, given};
-ghost use Rattle.thy_hart.specs.MicroSteps.{core_of, IsFound, IsNext, ReadsWord, FetchesEffect, FetchesIn, ReadsIn, WritesIn, Acts};
+ghost use Rattle.thy_hart.specs.Outcomes.{touched, written_by, block_written, room_reserved, room_answer, retired, over_or_retired, epoch_retired, given};
+ghost use Rattle.thy_hart.specs.MicroSteps.{core_of, IsFound, IsNext, ReadsWord, FetchesEffect, FetchesIn, ReadsIn, WritesIn, IsMicroStep};
 
 use crate::hand::{Hand, HartStep, Next, begun, written_on};
 use thy_base::{EndCause, Geometry};
@@ -333,7 +333,8 @@ impl Parts {
         requires found { IsFound cache.old (next_block (core_of self.old)) place }
         requires count { self.old.cpu.count + 1 < 2 ^ 64 }
         requires going { self.old.epoch.over ≡ None }
-        ensures acts { Acts (given input.now free under_way) cache.old cache.new (core_of self.old) (core_of self.new) result }
+        ensures acts { IsMicroStep (given input.now free under_way)
+            cache.old cache.new (core_of self.old) (core_of self.new) result }
         ensures sound { IsSound (core_of self.new) }
     {
         match self.hand {

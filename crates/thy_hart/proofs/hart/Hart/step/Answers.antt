@@ -1,7 +1,7 @@
 use Rattle.std.proofs.Common.{subst, arith}
-use Rattle.thy_hart.specs.Acts.{given}
+use Rattle.thy_hart.specs.Outcomes.{given}
 use Rattle.thy_hart.specs.Core.{Core, next_block, IsSound}
-use Rattle.thy_hart.specs.MicroSteps.{core_of, IsNext, Acts}
+use Rattle.thy_hart.specs.MicroSteps.{core_of, IsNext, IsMicroStep}
 use Rattle.thy_hart.proofs.StepLaws.{next_block-inside, IsStep-brought, IsStep-acted}
 use Rattle.thy_hart.proofs.hart.Hart.step.Goals as goal
 use Rattle.thy_hart.proofs.hart.Hart.step.Goals.{in-Ok, in-Err}
@@ -39,4 +39,4 @@ returns-in-Act-clause-step g c =
     let found = rw c.in-Act.is at next in
     IsStep-acted t h k c.args.cache.now c.act.new.cache (g.S.BlockStore.holding c.args.store.now c.args.nvm.now) c.act.result
     c.requires.free sound c.requires.ready found.0
-    (subst (λ x. Acts t c.args.cache.now c.act.new.cache x k c.act.result) c.self.view_is c.act.ensures.acts)
+    (subst (λ x. IsMicroStep t c.args.cache.now c.act.new.cache x k c.act.result) c.self.view_is c.act.ensures.acts)

@@ -1,19 +1,19 @@
 use Rattle.std.proofs.Common.{length, subst}
-use Rattle.thy_hart.specs.Acts.{given}
+use Rattle.thy_hart.specs.Outcomes.{given}
 use Rattle.thy_hart.specs.Core.{IsInHand}
 use Rattle.thy_hart.specs.MicroSteps.{core_of}
-use Rattle.thy_hart.proofs.ActLemmas.{Acts-fetch, Acts-read, Acts-write}
+use Rattle.thy_hart.proofs.MicroStepLemmas.{IsMicroStep-fetch, IsMicroStep-read, IsMicroStep-write}
 use Rattle.thy_hart.proofs.HandLemmas.{room_reserved-sound}
 use Rattle.thy_hart.proofs.micro_steps.Parts.act.Goals as goal
 
 pub returns-in-Nothing-clause-acts : goal.returns-in-Nothing-clause-acts
 returns-in-Nothing-clause-acts c =
-    Acts-fetch (given c.args.input.now c.args.free c.args.under_way) c.args.cache.now c.fetch.new.cache (core_of c.args.self.now) (core_of c.fetch.new.self)
+    IsMicroStep-fetch (given c.args.input.now c.args.free c.args.under_way) c.args.cache.now c.fetch.new.cache (core_of c.args.self.now) (core_of c.fetch.new.self)
     c.in-Nothing.is c.fetch.ensures.hart c.fetch.ensures.unreserved c.fetch.ensures.lines c.fetch.ensures.cache
 
 pub returns-in-Reading-clause-acts : goal.returns-in-Reading-clause-acts
 returns-in-Reading-clause-acts c =
-    Acts-read (given c.args.input.now c.args.free c.args.under_way) c.args.cache.now c.read.new.cache (core_of c.args.self.now) (core_of c.read.new.self)
+    IsMicroStep-read (given c.args.input.now c.args.free c.args.under_way) c.args.cache.now c.read.new.cache (core_of c.args.self.now) (core_of c.read.new.self)
     c.in-Reading.effect c.in-Reading.from c.in-Reading.to c.in-Reading.is c.read.ensures.hart c.read.ensures.unreserved c.read.ensures.lines c.read.ensures.cache
 
 pub returns-in-Reserving-clause-sound : goal.returns-in-Reserving-clause-sound
@@ -24,5 +24,5 @@ returns-in-Reserving-clause-sound c =
 pub returns-in-Writing-clause-acts : goal.returns-in-Writing-clause-acts
 returns-in-Writing-clause-acts c =
     let written = subst (λ hand. IsInHand c.args.self.now.geometry hand (length c.args.self.now.bytes.items)) c.in-Writing.is c.requires.sound.in_hand in
-    Acts-write (given c.args.input.now c.args.free c.args.under_way) c.args.cache.now c.write.new.cache (core_of c.args.self.now) (core_of c.write.new.self)
+    IsMicroStep-write (given c.args.input.now c.args.free c.args.under_way) c.args.cache.now c.write.new.cache (core_of c.args.self.now) (core_of c.write.new.self)
     c.in-Writing.effect c.in-Writing.to c.in-Writing.done c.in-Writing.is written c.write.ensures.hart c.write.ensures.memory c.write.ensures.agree c.write.ensures.room c.write.ensures.sized c.write.ensures.cache

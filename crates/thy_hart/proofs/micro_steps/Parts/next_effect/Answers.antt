@@ -1,5 +1,5 @@
 use Rattle.std.proofs.Common.{◌∙◌, sym, ap, subst}
-use Rattle.thy_hart.specs.Acts.{touched}
+use Rattle.thy_hart.specs.Outcomes.{touched}
 use Rattle.thy_hart.specs.MicroSteps.{IsFound}
 use Rattle.thy_hart.proofs.FetchLemmas.{fetched_low, fetched_whole, fetched_some, fetched_not, effect_read, tested}
 use Rattle.thy_hart.proofs.micro_steps.Parts.next_effect.Goals as goal

@@ -1,6 +1,6 @@
 use Rattle.std.proofs.Common.{◌∙◌, ap}
 use Rattle.thy_flat.specs.declared.span.Span.{Span}
-use Rattle.thy_hart.specs.Acts.{begun}
+use Rattle.thy_hart.specs.Outcomes.{begun}
 use Rattle.thy_hart.specs.Core.{reserved}
 use Rattle.thy_hart.proofs.HandLemmas.{read-sound, begun-unreserved}
 use Rattle.thy_hart.proofs.micro_steps.Parts.read.Goals as goal

@@ -3,7 +3,7 @@ use Rattle.std.proofs.lemmas.List.{length-drop, take_all}
 use Rattle.thy_cache.specs.Contents.{written_at}
 use Rattle.thy_flat.specs.declared.span.Span.{Span}
 use Rattle.thy_flat.specs.Spans.{first_block, first_byte, rest_of}
-use Rattle.thy_hart.specs.Acts.{written_on}
+use Rattle.thy_hart.specs.Outcomes.{written_on}
 use Rattle.thy_hart.proofs.HandLemmas.{write-sound}
 use Rattle.thy_hart.proofs.micro_steps.Parts.write.Goals as goal
 

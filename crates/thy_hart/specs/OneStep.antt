@@ -17,7 +17,7 @@ use Rattle.thy_hart.specs.declared.hand.Hand.TheVariants.{Nothing, Reading, Rese
 use Rattle.thy_hart.specs.declared.hand.HartStep.{HartStep}
 use Rattle.thy_hart.specs.declared.hand.HartStep.TheVariants.{Moved, Retired, Waiting, Over}
 use Rattle.thy_hart.specs.Core.{Core, next_block, reserved, has_written}
-use Rattle.thy_hart.specs.Acts.{Given, acted_by, answer_by, memory_by, cache_by}
+use Rattle.thy_hart.specs.Outcomes.{Given, acted_by, answer_by, memory_by, cache_by}
 use Rattle.thy_hart.specs.Bring.{BringsLine}
 use Rattle.thy_hart.specs.Moments.{Moment, memory_of, brings_line, IsReady, moves_left}
 

@@ -9,13 +9,13 @@ use Rattle.thy_isa.specs.declared.state.Effect.{Effect}
 use Rattle.thy_hart.specs.declared.hand.Hand.TheVariants.{Nothing, Reading, Writing}
 use Rattle.thy_hart.specs.declared.hand.HartStep.TheVariants.{Moved}
 use Rattle.thy_hart.specs.Core.{Core, block_for, fetched_block, reserved, IsWriting}
-use Rattle.thy_hart.specs.Acts.{Given, block_written, acted_by, answer_by, memory_by, touched, written_by, cache_by}
-use Rattle.thy_hart.specs.MicroSteps.{FetchesIn, ReadsIn, WritesIn, Acts}
+use Rattle.thy_hart.specs.Outcomes.{Given, block_written, acted_by, answer_by, memory_by, touched, written_by, cache_by}
+use Rattle.thy_hart.specs.MicroSteps.{FetchesIn, ReadsIn, WritesIn, IsMicroStep}
 use Rattle.thy_hart.proofs.HandLemmas.{blocks_of-least, written_on-reserved}
 
-pub Acts-fetch : (g : Given) (c d : Contents) (old new : Core) → old.hand ≡ Nothing → FetchesIn g.input c old new → reserved new.hand ≡ 0 → KeepsLines c d
-    → d ≡ touched c (fetched_block old.geometry old.cpu) → Acts g c d old new Moved
-Acts-fetch g c d old new is fetches unreserved lines cache = record {
+pub IsMicroStep-fetch : (g : Given) (c d : Contents) (old new : Core) → old.hand ≡ Nothing → FetchesIn g.input c old new → reserved new.hand ≡ 0 → KeepsLines c d
+    → d ≡ touched c (fetched_block old.geometry old.cpu) → IsMicroStep g c d old new Moved
+IsMicroStep-fetch g c d old new is fetches unreserved lines cache = record {
   hart = λ blocks whole. fetches blocks whole ∙ ap (acted_by g (dirty_count c) (flat c blocks) old) (sym is);
   says = ap (answer_by g (dirty_count c) old) (sym is);
   memory = λ blocks whole. lines.flat blocks ∙ ap (memory_by old.bytes (flat c blocks)) (sym is);
@@ -27,9 +27,9 @@ Acts-fetch g c d old new is fetches unreserved lines cache = record {
   sized = lines.sized;
 }
 
-pub Acts-read : (g : Given) (c d : Contents) (old new : Core) (e : Effect) (from to : Span) → old.hand ≡ Reading e from to → ReadsIn c e from to old new
-    → reserved new.hand ≡ 0 → KeepsLines c d → d ≡ read_from (first_block from) c → Acts g c d old new Moved
-Acts-read g c d old new e from to is reads unreserved lines cache = record {
+pub IsMicroStep-read : (g : Given) (c d : Contents) (old new : Core) (e : Effect) (from to : Span) → old.hand ≡ Reading e from to → ReadsIn c e from to old new
+    → reserved new.hand ≡ 0 → KeepsLines c d → d ≡ read_from (first_block from) c → IsMicroStep g c d old new Moved
+IsMicroStep-read g c d old new e from to is reads unreserved lines cache = record {
   hart = λ blocks whole. reads blocks whole ∙ ap (acted_by g (dirty_count c) (flat c blocks) old) (sym is);
   says = ap (answer_by g (dirty_count c) old) (sym is);
   memory = λ blocks whole. lines.flat blocks ∙ ap (memory_by old.bytes (flat c blocks)) (sym is);
@@ -41,11 +41,11 @@ Acts-read g c d old new e from to is reads unreserved lines cache = record {
   sized = lines.sized;
 }
 
-pub Acts-write : (g : Given) (c d : Contents) (old new : Core) (e : Effect) (to : Span) (done : ℕ) → old.hand ≡ Writing e to done
+pub IsMicroStep-write : (g : Given) (c d : Contents) (old new : Core) (e : Effect) (to : Span) (done : ℕ) → old.hand ≡ Writing e to done
     → IsWriting old.geometry e to done (length old.bytes) → new ≡ block_written e to done old
     → WritesIn (memory_blocks old.geometry) c d to (drop done old.bytes) → AgreesStill c d → dirty_count d ≤ dirty_count c + 1 → KeepsSize c d
-    → d ≡ written_by c to (drop done old.bytes) → Acts g c d old new Moved
-Acts-write g c d old new e to done is writing hart memory agree dirty sized cache = record {
+    → d ≡ written_by c to (drop done old.bytes) → IsMicroStep g c d old new Moved
+IsMicroStep-write g c d old new e to done is writing hart memory agree dirty sized cache = record {
   hart = λ blocks whole. hart ∙ ap (acted_by g (dirty_count c) (flat c blocks) old) (sym is);
   says = ap (answer_by g (dirty_count c) old) (sym is);
   memory = λ blocks whole. memory blocks whole ∙ ap (memory_by old.bytes (flat c blocks)) (sym is);

@@ -1,4 +1,4 @@
--- What a step makes of the hart whose block is in the cache, or that touches none.
+-- What each micro-step makes of hart, memory and cache, and what it answers. Its block is in the cache, or it touches none.
 use Rattle.std.specs.Prelude.{ℕ, ◌+◌, ◌==◌, Bool, true, false, if◌then◌else◌, nat_lt, List, [], ◌++◌, length, take, drop, Option, Some, None}
 use Rattle.thy_base.specs.declared.block.Block.{Block}
 use Rattle.thy_base.specs.declared.cause.EndCause.{EndCause}
