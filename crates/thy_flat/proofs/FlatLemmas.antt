@@ -1,5 +1,5 @@
 -- The bytes of a list of blocks: how many there are, and where those of a block stand.
-use Rattle.std.proofs.Common.{◌≡◌, ℕ, zero, suc, ◌+◌, ◌*◌, ◌<◌, ◌≤◌, List, [], ◌∷◌, ◌++◌, length, take, drop, get_or, slice_index, slice_set, refl, sym, ◌∙◌, ap, arith, append_assoc}
+use Rattle.std.proofs.Common.{◌≡◌, ℕ, zero, suc, ◌+◌, ◌*◌, ◌<◌, ◌≤◌, List, [], ◌∷◌, ◌++◌, length, take, drop, get_or, slice_index, refl, sym, ◌∙◌, ap, arith, append_assoc}
 use Rattle.std.proofs.lemmas.List.{append-nil, length-append, length-drop, length-take-le, take-append-drop, take_at, take_more, get_or_append_left, get_or-append-add, take-append-le, drop-append-le, drop-drop, drop_at}
 use Rattle.thy_base.specs.declared.block.Block.{Block}
 use Rattle.thy_base.specs.Blocks.{block_bytes, block_written}
@@ -12,10 +12,6 @@ use Rattle.thy_flat.specs.Flat.{flat}
 pub flat-nil : flat [] ≡ []
 unfolding flat
 flat-nil = refl
-
-pub flat-cons : (b : Block) (bs : List Block) → flat (b ∷ bs) ≡ block_bytes b ++ flat bs
-unfolding flat
-flat-cons b bs = refl
 
 -- how many bytes blocks have
 pub length-flat : (blocks : List Block) → length (flat blocks) ≡ 64 * length blocks
@@ -78,22 +74,6 @@ flat_part (b ∷ bs) (suc k) j n l small =
     ap (λ x. take n (drop x (block_bytes b ++ flat bs))) e
     ∙ ap (take n) (sym (drop-drop (64 * k + j) 64 (block_bytes b ++ flat bs)) ∙ ap (drop (64 * k + j)) (drop_at (block_bytes b) (flat bs) 64 (length-block_bytes b)))
     ∙ flat_part bs k j n (omega arith) small
-
--- another block in place of block k: its bytes stand there, and the others stay
-pub flat-set : (blocks : List Block) (k : ℕ) (b : Block) → k < length blocks
-    → flat (slice_set blocks k b) ≡ written (flat blocks) (64 * k) (block_bytes b)
-unfolding flat
-flat-set [] k b l = absurd (omega arith)
-flat-set (a ∷ bs) zero b l =
-    let e : 0 + length (block_bytes b) ≡ 64 = omega (arith, length-block_bytes b) in
-    let z : 64 * zero ≡ 0 = omega arith in
-    ap (λ t. block_bytes b ++ t) (sym (drop_at (block_bytes a) (flat bs) 64 (length-block_bytes a)) ∙ ap (λ x. drop x (block_bytes a ++ flat bs)) (sym e))
-    ∙ ap (λ x. written (block_bytes a ++ flat bs) x (block_bytes b)) (sym z)
-flat-set (a ∷ bs) (suc k) b l =
-    let e : 64 + 64 * k ≡ 64 * suc k = omega arith in
-    ap (λ t. block_bytes a ++ t) (flat-set bs k b (omega arith))
-    ∙ sym (written-right (block_bytes a) (flat bs) (block_bytes b) 64 (64 * k) (length-block_bytes a))
-    ∙ ap (λ x. written (block_bytes a ++ flat bs) x (block_bytes b)) e
 
 -- ---- the first blocks, and the rest
 

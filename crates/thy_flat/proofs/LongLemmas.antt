@@ -1,18 +1,14 @@
 -- Blocks that have 64 bytes of their own.
-use Rattle.std.proofs.Common.{◌≡◌, ℕ, ◌+◌, ◌<◌, ◌≤◌, ◌==◌, Bool, true, false, if◌then◌else◌, List, length, take, drop, replicate, slice_set, ◌∙◌, ap, inl, inr, arith}
+use Rattle.std.proofs.Common.{◌≡◌, ℕ, ◌+◌, ◌<◌, ◌≤◌, ◌==◌, Bool, true, false, if◌then◌else◌, List, length, take, slice_set, ◌∙◌, ap, inl, inr, arith}
 use Rattle.std.proofs.lemmas.Bool.{cases_eq}
-use Rattle.std.proofs.lemmas.List.{length-set, length-take, length-replicate, get_or-replicate, get_or-set_same, get_or-set_other}
+use Rattle.std.proofs.lemmas.List.{length-set, length-take, get_or-set_same, get_or-set_other}
 use Rattle.thy_base.specs.declared.block.Block.{Block}
 use Rattle.thy_base.specs.Blocks.{overwritten}
 use Rattle.thy_base.specs.Device.{zero_block, block_at}
 use Rattle.thy_base.proofs.BlockLemmas.{length-overwritten}
 use Rattle.thy_flat.specs.declared.span.Span.{Span}
 use Rattle.thy_flat.specs.Flat.{AllLong}
-use Rattle.thy_flat.specs.Spans.{first_block, first_byte, head_len, rest_of, head_put, scattered}
-
-pub length-zero_block : length zero_block.0 ≡ 64
-unfolding zero_block
-length-zero_block = length-replicate {A = ℕ} 64 0
+use Rattle.thy_flat.specs.Spans.{first_block, first_byte, head_len, head_put}
 
 pub AllLong-set : (blocks : List Block) (i : ℕ) (b : Block) → AllLong blocks → length b.0 ≡ 64 → AllLong (slice_set blocks i b)
 AllLong-set blocks i b h e = record {
@@ -23,11 +19,6 @@ AllLong-set blocks i b h e = record {
             ap (λ (c : Block). length c.0) (ap (block_at (slice_set blocks i b)) here ∙ get_or-set_same blocks i b zero_block there) ∙ e
         | inr other ↦ ap (λ (c : Block). length c.0) (get_or-set_other blocks i k b zero_block other) ∙ h.each k inside
       ];
-}
-
-pub AllLong-zeros : (n : ℕ) → AllLong (replicate n zero_block)
-AllLong-zeros n = record {
-  each = λ k l. ap (λ (c : Block). length c.0) (get_or-replicate n k zero_block zero_block (omega (arith, length-replicate n zero_block))) ∙ length-zero_block;
 }
 
 if_long : (b : Bool) (old new : List Block) → AllLong old → AllLong new → AllLong (if b then old else new)
@@ -41,8 +32,3 @@ AllLong-head_put blocks s bytes h =
     let l : first_byte s + length piece ≤ 64 = omega (arith, length-take (head_len s) bytes) in
     if_long (s.len == 0) blocks (slice_set blocks (first_block s) b) h
     (AllLong-set blocks (first_block s) b h (length-overwritten (first_byte s) piece (block_at blocks (first_block s)) l))
-
--- bytes over a span leave every block 64
-pub AllLong-scattered : (blocks : List Block) (s : Span) (bytes : List ℕ) → AllLong blocks → AllLong (scattered blocks s bytes)
-unfolding scattered
-AllLong-scattered blocks s bytes h = AllLong-head_put (head_put blocks s bytes) (rest_of s) (drop (head_len s) bytes) (AllLong-head_put blocks s bytes h)

@@ -123,11 +123,6 @@ length-head_put blocks s bytes =
     let b = overwritten (first_byte s) (take (head_len s) bytes) (block_at blocks (first_block s)) in
     if_put (λ new. length new ≡ length blocks) (s.len == 0) blocks (slice_set blocks (first_block s) b) (λ _. refl) (λ _. length-set blocks (first_block s) b)
 
-pub length-scattered : (blocks : List Block) (s : Span) (bytes : List ℕ) → length (scattered blocks s bytes) ≡ length blocks
-unfolding scattered
-length-scattered blocks s bytes =
-    length-head_put (head_put blocks s bytes) (rest_of s) (drop (head_len s) bytes) ∙ length-head_put blocks s bytes
-
 head_put-none : (blocks : List Block) (s : Span) (bytes : List ℕ) → s.len ≡ 0 → head_put blocks s bytes ≡ blocks
 head_put-none blocks s bytes h =
     if_put (λ new. new ≡ blocks) (s.len == 0) blocks (block_written blocks (first_block s) (first_byte s) (take (head_len s) bytes))
@@ -181,11 +176,3 @@ head_put-others blocks s bytes b other =
     if_put (λ new. block_at new b ≡ block_at blocks b) (s.len == 0) blocks (slice_set blocks (first_block s) c)
     (λ _. refl)
     (λ e. get_or-set_other blocks (first_block s) b c zero_block (other (test_some s.len e)))
-
--- and one in which it has none
-pub scattered-others : (blocks : List Block) (s : Span) (bytes : List ℕ) (b : ℕ)
-    → (0 < s.len → b ≡ first_block s → ⊥) → (0 < (rest_of s).len → b ≡ first_block (rest_of s) → ⊥)
-    → block_at (scattered blocks s bytes) b ≡ block_at blocks b
-unfolding scattered
-scattered-others blocks s bytes b one two =
-    head_put-others (head_put blocks s bytes) (rest_of s) (drop (head_len s) bytes) b two ∙ head_put-others blocks s bytes b one
