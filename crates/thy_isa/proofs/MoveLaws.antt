@@ -1,11 +1,9 @@
 -- What an effect moves are spans of the blocks of memory, and it has as many bytes as it writes.
-use Rattle.std.proofs.Common.{◌≡◌, ℕ, ◌+◌, ◌-◌, ◌<◌, ◌≤◌, ◌^◌, refl, List, [], ◌++◌, length, take, drop, arith}
+use Rattle.std.proofs.Common.{◌≡◌, ℕ, ◌+◌, ◌-◌, ◌≤◌, List, [], length, take, drop, arith}
 use Rattle.std.proofs.lemmas.List.{length-take-le, length-drop}
-use Rattle.thy_base.specs.declared.block.Block.{Block}
 use Rattle.thy_base.specs.declared.config.Parameters.{Parameters}
 use Rattle.thy_base.specs.Geometry.{IsInRange, memory_blocks, program_size}
-use Rattle.thy_flat.specs.Spans.{span, IsSpanOf, gathered}
-use Rattle.thy_flat.proofs.SpanLaws.{length-gathered}
+use Rattle.thy_flat.specs.Spans.{span, IsSpanOf}
 use Rattle.thy_isa.specs.declared.instr.Width.{Width}
 use Rattle.thy_isa.specs.declared.instr.Width.TheVariants.{Byte, Half, Word, Double}
 use Rattle.thy_isa.specs.declared.state.Call.{Call}
@@ -15,15 +13,14 @@ use Rattle.thy_isa.specs.declared.state.CpuState.{CpuState}
 use Rattle.thy_isa.specs.declared.state.Effect.{Effect}
 use Rattle.thy_isa.specs.declared.state.Effect.TheVariants.{Next, Set, Read, Write, Environment, Trap}
 use Rattle.thy_isa.specs.declared.state.Moves.{Moves}
-use Rattle.thy_isa.specs.Access.{IsWithin, HasRead}
+use Rattle.thy_isa.specs.Access.{IsWithin}
 use Rattle.thy_isa.specs.Calls.{IsFit, call_of}
 use Rattle.thy_isa.specs.Effects.{size_of}
 use Rattle.thy_isa.specs.Moves.{no_moves, call_moves, moves_of, call_brings, brings}
 use Rattle.thy_isa.specs.OnBlocks.{calls_in}
-use Rattle.thy_isa.specs.Step.{AreCallsOf}
 use Rattle.thy_isa.proofs.CallLaws.{call_of-fit}
 use Rattle.thy_isa.proofs.MemoryBounds.{length-number_bytes}
-use Rattle.thy_base.proofs.RangeLemmas.{console_below, console_most}
+use Rattle.thy_base.proofs.RangeLemmas.{console_below}
 
 -- what is moved are spans of so many blocks
 pub record AreSpans (blocks : ℕ) (m : Moves) : Type 0 where
@@ -69,10 +66,6 @@ module _ (p : Parameters) (cpu : CpuState) (n : ℕ) (r : IsInRange p) where
   moves_of-spans x Environment h = call_moves-spans (call_of x (calls_in p cpu n)) (call_of-fit x (calls_in p cpu n))
   moves_of-spans x (Trap cause) h = none (memory_blocks p)
 
--- what a call is decided by is its processor's
-pub calls_in-of : (p : Parameters) (cpu : CpuState) (n : ℕ) → IsInRange p → cpu.console_len < 2 ^ 64 → AreCallsOf cpu (calls_in p cpu n)
-calls_in-of p cpu n r l = record { cursor = refl; room = omega (arith, console_most p r) }
-
 -- ---- how many bytes
 
 -- what is brought along and what is read are at most 64 bytes, and at least those that are written
@@ -104,14 +97,3 @@ module _ (input : List ℕ) (c : CallState) (same : c.input_len ≡ length input
       record { most = omega (arith, l, size_of-most width); least = omega (arith, l) }
   moves_of-enough x Environment = call_enough (call_of x c) (call_of-fit x c)
   moves_of-enough x (Trap cause) = enough_none
-
-  -- an effect that reads a number has its bytes
-  pub HasRead-moved : (x : List ℕ) (blocks : List Block) (e : Effect) → HasRead e (brings input x c e ++ gathered blocks (moves_of x c e).from)
-  unfolding brings moves_of
-  HasRead-moved x blocks (Next pc) = tt
-  HasRead-moved x blocks (Set pc rd v) = tt
-  HasRead-moved x blocks (Read pc at width extend rd) =
-      omega (arith, length-gathered blocks (span (at - c.base) (size_of width)) (omega (arith, size_of-most width)))
-  HasRead-moved x blocks (Write pc at width v) = tt
-  HasRead-moved x blocks Environment = tt
-  HasRead-moved x blocks (Trap cause) = tt

@@ -23,10 +23,6 @@ pub steps-zero : (g : Setting) (s : State) → steps g 0 s ≡ s
 unfolding steps
 steps-zero g s = refl
 
-pub steps-suc : (g : Setting) (k : ℕ) (s : State) → steps g (suc k) s ≡ step g (steps g k s)
-unfolding steps
-steps-suc g k s = refl
-
 pub steps-one_more : (g : Setting) (k : ℕ) (s : State) → steps g (k + 1) s ≡ step g (steps g k s)
 unfolding steps
 steps-one_more g k s = ap (λ n. steps g n s) (add-one k)

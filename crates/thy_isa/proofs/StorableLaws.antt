@@ -331,26 +331,6 @@ console_by-grows g s (Trap c) = IsGrown-same s.console
 pub length-given : (base at len : ℕ) (memory : List ℕ) → base ≤ at → at + len ≤ base + length memory → length (take len (drop (at - base) memory)) ≡ len
 length-given base at len memory low high = length-take-le len (drop (at - base) memory) (omega (arith, length-drop (at - base) memory))
 
--- so much of the console is there after a call as the rest of the state says
-length-console_served : (g : Setting) (s : State) (k : Call) → IsFit (call_state_of g s) k → length (console_served g s k) ≡ (served (cpu_of s) k).console_len
-unfolding console_served served
-length-console_served g s (Answer v) f = refl
-length-console_served g s (Exit v) f = refl
-length-console_served g s (Break at) f = refl
-length-console_served g s (Take at len) f = refl
-length-console_served g s (Give at len) f =
-    length-append s.console (take len (drop (at - g.base) s.memory)) ∙ ap (λ n. length s.console + n) (length-given g.base at len s.memory f.0.low f.0.high)
-
--- and after an effect
-pub length-console_by : (g : Setting) (s : State) (e : Effect) (n : ℕ) → length (console_by g s e) ≡ (finished (cpu_of s) e n (call_state_of g s)).console_len
-unfolding console_by finished
-length-console_by g s (Next pc) n = refl
-length-console_by g s (Set pc rd v) n = refl
-length-console_by g s (Read pc at width extend rd) n = refl
-length-console_by g s (Write pc at width v) n = refl
-length-console_by g s Environment n = length-console_served g s (call_at g s) (call_of-fit s.regs (call_state_of g s))
-length-console_by g s (Trap c) n = refl
-
 console_served-room : (g : Setting) (s : State) (k : Call) → IsFit (call_state_of g s) k → length s.console ≤ g.room → length (console_served g s k) ≤ g.room
 unfolding console_served
 console_served-room g s (Answer v) f h = h
@@ -496,21 +476,3 @@ advanced-cursor g s h =
 pub step-cursor : (g : Setting) (s : State) → s.cursor ≤ length g.input → (step g s).cursor ≤ length g.input
 unfolding step
 step-cursor g s h = if_state (λ t. t.cursor ≤ length g.input) (is_running s.status) (advanced g s) s (advanced-cursor g s h) h
-
-pub steps-cursor : (g : Setting) (k : ℕ) (s : State) → s.cursor ≤ length g.input → (steps g k s).cursor ≤ length g.input
-unfolding steps
-steps-cursor g zero s h = h
-steps-cursor g (suc k) s h = step-cursor g (steps g k s) (steps-cursor g k s h)
-
-advanced-memory_size : (g : Setting) (s : State) → length (advanced g s).memory ≡ length s.memory
-unfolding advanced performed
-advanced-memory_size g s = length-memory_by g s (effect_at g.base s) (effect_at-within g.base s)
-
-pub step-memory_size : (g : Setting) (s : State) → length (step g s).memory ≡ length s.memory
-unfolding step
-step-memory_size g s = elim (is_running s.status) as (λ b. length (if b then advanced g s else s).memory ≡ length s.memory) [ true ↦ advanced-memory_size g s | false ↦ refl ]
-
-pub steps-memory_size : (g : Setting) (k : ℕ) (s : State) → length (steps g k s).memory ≡ length s.memory
-unfolding steps
-steps-memory_size g zero s = refl
-steps-memory_size g (suc k) s = step-memory_size g (steps g k s) ∙ steps-memory_size g k s
