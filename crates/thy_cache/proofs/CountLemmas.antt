@@ -1,7 +1,6 @@
 -- How many lines are dirty after a change.
-use Rattle.std.proofs.Common.{◌≡◌, ℕ, ◌+◌, ◌^◌, ◌<◌, ◌≤◌, cond, length, slice_set, Option, None, arith}
+use Rattle.std.proofs.Common.{◌≡◌, ℕ, ◌+◌, ◌^◌, ◌<◌, ◌≤◌, cond, length, Option, None, arith}
 use Rattle.std.specs.Prelude.{sum_by}
-use Rattle.std.proofs.lemmas.List.{length-set}
 use Rattle.std.proofs.lemmas.List.Sums.{sum_by-set, sum_by-le-sum_by, count_by-le-length}
 use Rattle.thy_cache.specs.declared.line.Line.{Line}
 use Rattle.thy_cache.specs.Ways.{Ways, line_at, is_dirty, dirty_lines}
@@ -36,15 +35,6 @@ way_count-with_set c s set inside same = omega (arith, sum_by-set width c.sets s
 pub dirty_count-le : (c : Contents) → dirty_count c ≤ way_count c
 dirty_count-le c = sum_by-le-sum_by dirty_lines width c.sets (λ set. count_by-le-length is_dirty set.lines)
 
--- the parts are sound with the new number
-pub IsSound-with_set : (c : Contents) (s : ℕ) (set : Ways) (dirty now : ℕ) → IsSound c.sets dirty → s < length c.sets → width set ≡ width (set_at c s)
-    → now ≡ dirty_count (with_set s set c) → IsSound (slice_set c.sets s set) now
-IsSound-with_set c s set dirty now sound inside same e = record {
-  some_set = omega (arith, sound.some_set, length-set c.sets s set);
-  counted = e;
-  fits = omega (arith, sound.fits, way_count-with_set c s set inside same);
-}
-
--- and so it fits
+-- and so their number fits
 pub dirty-fits : (c : Contents) (s : ℕ) (set : Ways) (dirty : ℕ) → IsSound c.sets dirty → s < length c.sets → width set ≡ width (set_at c s) → dirty_count (with_set s set c) < 2 ^ 64
 dirty-fits c s set dirty sound inside same = omega (arith, sound.fits, way_count-with_set c s set inside same, dirty_count-le (with_set s set c))

@@ -1,5 +1,5 @@
 -- Where no line is dirty, and what a cache reads as then.
-use Rattle.std.proofs.Common.{◌≡◌, ℕ, ◌*◌, ◌^◌, ◌<◌, ◌≤◌, Bool, true, false, cond, nat_lt, List, length, get_or, replicate, sum_by, All, Option, Some, None, option_and_then, unwrap_or, refl, sym, ◌∙◌, ap, inl, inr, arith}
+use Rattle.std.proofs.Common.{◌≡◌, ℕ, ◌*◌, ◌<◌, ◌≤◌, Bool, true, false, cond, nat_lt, List, length, get_or, replicate, All, Option, Some, None, option_and_then, unwrap_or, refl, sym, ◌∙◌, ap, inl, inr, arith}
 use Rattle.std.specs.List.{position, position_or_len}
 use Rattle.std.specs.Option.{option_map, is_some}
 use Rattle.std.proofs.lemmas.Bool.{cases_Bool, cases_lt, ltb-false}
@@ -12,12 +12,12 @@ use Rattle.thy_base.specs.declared.block.Block.{Block}
 use Rattle.thy_base.specs.Device.{block_at}
 use Rattle.thy_cache.specs.declared.line.Line.{Line}
 use Rattle.thy_cache.specs.Ways.{Ways, line_at, is_dirty, has_dirty, dirty_lines, empty_ways}
-use Rattle.thy_cache.specs.Contents.{Contents, IsSound, empty_cache, no_ways, set_at, set_of, index_of, line_of, dirty_line_in, HasNoneDirty, dirty_count}
+use Rattle.thy_cache.specs.Contents.{Contents, empty_cache, no_ways, set_at, set_of, index_of, line_of, dirty_line_in, HasNoneDirty, dirty_count}
 use Rattle.thy_cache.specs.Flat.{flat, Agrees}
 use Rattle.thy_cache.proofs.LineLemmas.{passed_over, line_in-found}
 use Rattle.thy_cache.proofs.AgreeLemmas.{none_is_none}
 use Rattle.thy_cache.proofs.FlatLemmas.{flat-none}
-use Rattle.thy_cache.proofs.CountLemmas.{dirt, width}
+use Rattle.thy_cache.proofs.CountLemmas.{dirt}
 use Rattle.thy_cache.proofs.StoreLaws.{no_line}
 use Rattle.thy_cache.proofs.WriteLaws.{true_is_not_false}
 
@@ -124,18 +124,6 @@ empty-count sets ways =
     let none : dirty_lines (empty_ways ways) ≡ 0 = omega (arith, sum_by-replicate dirt ways None) in
     let all : dirty_count (empty_cache sets ways) ≡ sets * 0 = sum_by-replicate dirty_lines sets (empty_ways ways) ∙ ap (λ k. sets * k) none in
     omega (arith, all)
-
--- it has as many ways as it was made with
-pub empty-ways : (sets ways : ℕ) → sum_by width (empty_cache sets ways).sets ≡ sets * ways
-empty-ways sets ways = sum_by-replicate width sets (empty_ways ways) ∙ ap (λ k. sets * k) (length-replicate {A = Option Line} ways None)
-
--- and is sound where their number fits
-pub empty-sound : (sets ways : ℕ) (all : List Ways) → 0 < sets → sets * ways < 2 ^ 64 → all ≡ (empty_cache sets ways).sets → IsSound all 0
-empty-sound sets ways all some fits e = record {
-  some_set = omega (arith, ap length e, length-replicate sets (empty_ways ways), some);
-  counted = rw e (sym (empty-count sets ways));
-  fits = omega (arith, ap (sum_by width) e, empty-ways sets ways, fits);
-}
 
 -- over any store it reads as the store
 pub empty-flat : (sets ways : ℕ) (blocks : List Block) → flat (empty_cache sets ways) blocks ≡ blocks

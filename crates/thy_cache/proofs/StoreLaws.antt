@@ -1,5 +1,5 @@
 -- What a fill and a store of a line leave.
-use Rattle.std.proofs.Common.{◌≡◌, ◌≢◌, ℕ, ◌+◌, ◌%◌, ◌<◌, true, false, cond, nat_lt, List, length, slice_index, slice_set, Option, Some, None, unwrap_or, refl, sym, ◌∙◌, ap, inl, inr, arith}
+use Rattle.std.proofs.Common.{◌≡◌, ◌≢◌, ℕ, ◌%◌, ◌<◌, true, false, cond, nat_lt, List, length, slice_index, slice_set, Option, Some, None, unwrap_or, refl, sym, ◌∙◌, ap, inl, inr, arith}
 use Rattle.std.specs.List.{position_or_len}
 use Rattle.std.specs.Option.{option_map, is_some, is_none}
 use Rattle.std.proofs.lemmas.Bool.{cases_Bool, cases_eq}
@@ -13,14 +13,13 @@ use Rattle.thy_base.specs.Store.{Holding, HasStored}
 use Rattle.thy_cache.specs.declared.line.Line.{Line}
 use Rattle.thy_cache.specs.declared.line.Victim.TheVariants.{Room, Dirty}
 use Rattle.thy_cache.specs.Ways.{Ways, line_at, line_in, is_dirty, over_line, clean, fresh_line, filled, victim_way, victim_line, used}
-use Rattle.thy_cache.specs.Contents.{Contents, set_at, set_of, index_of, line_of, peeked, hits, filled_with, cleaned_at, victim_line_of, victim_of, is_dirty_victim, dirty_count, stored_at, CountsStored}
-use Rattle.thy_cache.specs.Flat.{flat_at, flat, SetAgrees, Agrees, PeeksSame, HitsSame}
+use Rattle.thy_cache.specs.Contents.{Contents, set_at, set_of, index_of, line_of, peeked, hits, filled_with, cleaned_at, victim_line_of, victim_of, stored_at}
+use Rattle.thy_cache.specs.Flat.{flat_at, flat, SetAgrees, Agrees, PeeksSame}
 use Rattle.thy_cache.proofs.LineLemmas.{KeepsBlock, line_at-inside, line_in-kept}
 use Rattle.thy_cache.proofs.AgreeLemmas.{SetAgrees-same, SetAgrees-over_line, SetAgrees-stored, line_in-single, some_is}
 use Rattle.thy_cache.proofs.FillLemmas.{Filling, SetAgrees-filled, line_in-filled, seen, seen-filled}
 use Rattle.thy_cache.proofs.FlatLemmas.{flat-same, set_of-same, set_of-other, line_of-kept, Agrees-with_set}
-use Rattle.thy_cache.proofs.CountLemmas.{dirt, dirty_lines-rewritten, dirty_count-with_set}
-use Rattle.thy_cache.proofs.WriteLaws.{true_is_not_false, is_some-map}
+use Rattle.thy_cache.proofs.WriteLaws.{true_is_not_false}
 
 -- what a fill of a block asks for
 pub record CanFill (c : Contents) (blocks : List Block) (b : ℕ) (block : Block) : Type 0 where
@@ -83,18 +82,6 @@ filled-flat c d blocks held b block can now same = rw (now, same) (fill-flat c b
 pub filled-agrees : (c d : Contents) (blocks held : List Block) (b : ℕ) (block : Block) → CanFill c blocks b block → d ≡ filled_with b block c → held ≡ blocks → Agrees d held
 filled-agrees c d blocks held b block can now same = rw (now, same) (fill-agrees c blocks b block can)
 
--- a line that is put where a clean one or none was is clean
-pub fill-count : (c : Contents) (b : ℕ) (block : Block) → index_of c b < length c.sets → victim_way (set_of c b) < length (set_of c b).lines
-    → is_dirty (victim_line_of c b) ≡ false → dirty_count (filled_with b block c) ≡ dirty_count c
-fill-count c b block inside way room =
-    let none : dirt (victim_line_of c b) ≡ 0 = ap (λ t. cond t 1 0) room in
-    omega (
-      arith,
-      none,
-      dirty_count-with_set c (index_of c b) (filled b block (set_of c b)) inside,
-      dirty_lines-rewritten (used (victim_way (set_of c b)) (set_of c b)) (victim_way (set_of c b)) (Some (fresh_line b block)) way,
-    )
-
 -- what a store of a line asks for
 pub record CanStore (c : Contents) (blocks : List Block) (s w : ℕ) (line : Line) : Type 0 where
   pub set : s < length c.sets
@@ -115,11 +102,6 @@ pub clean-peeks : (c : Contents) (s w : ℕ) (line : Line) → s < length c.sets
 clean-peeks c s w line inside stands x =
     line_of-kept (option_map (λ (line : Line). line.block)) c s (over_line clean w (set_at c s)) x inside
     (line_in-kept (option_map (λ (line : Line). line.block)) clean clean-keeps clean-same (set_at c s) w x (line_at-inside (set_at c s) w line stands))
-
-pub clean-hits : (c : Contents) (s w : ℕ) (line : Line) → s < length c.sets → line_at (set_at c s) w ≡ Some line → HitsSame c (cleaned_at s w c)
-clean-hits c s w line inside stands x =
-    line_of-kept is_some c s (over_line clean w (set_at c s)) x inside
-    (line_in-kept is_some clean clean-keeps (is_some-map clean) (set_at c s) w x (line_at-inside (set_at c s) w line stands))
 
 -- the line's block hits, and what it holds is the line's
 pub stands-line_of : (c : Contents) (blocks : List Block) (s w : ℕ) (line : Line) → CanStore c blocks s w line → line_of c line.at ≡ Some line
@@ -178,34 +160,12 @@ store-agrees c blocks s w line can =
     (SetAgrees-over_line (length c.sets) (slice_set blocks line.at line.block) s clean w (set_at c s) clean-keeps (stored_clean_now c blocks s w line can) old)
     (λ t other. SetAgrees-stored (length c.sets) blocks t (set_at c t) line.at line.block (stored_there c blocks s w line can t other) (can.agrees.sets t))
 
--- one line less is dirty
-pub store-count : (c : Contents) (s w : ℕ) (line : Line) → s < length c.sets → line_at (set_at c s) w ≡ Some line → line.dirty ≡ true
-    → dirty_count (cleaned_at s w c) + 1 ≡ dirty_count c
-store-count c s w line inside stands dirty =
-    let was : dirt (line_at (set_at c s) w) ≡ 1 = ap dirt stands ∙ ap (λ t. cond t 1 0) dirty in
-    let now : dirt (option_map clean (line_at (set_at c s) w)) ≡ 0 = ap (λ o. dirt (option_map clean o)) stands in
-    omega (
-      arith,
-      was,
-      now,
-      dirty_count-with_set c s (over_line clean w (set_at c s)) inside,
-      dirty_lines-rewritten (set_at c s) w (option_map clean (line_at (set_at c s) w)) (line_at-inside (set_at c s) w line stands),
-    )
-
 -- where there is room the line that goes is not dirty
 pub room-clean : (o : Option Line) → victim_line o ≡ Room → is_dirty o ≡ false
 room-clean None e = refl
 room-clean (Some line) e = elim (cases_Bool line.dirty) as (λ _. line.dirty ≡ false) [
   | inl is_so ↦ let wrong : Dirty line.at ≡ Room = sym (ap (λ t. cond t (Dirty line.at) Room) is_so) ∙ e in cc
   | inr not_so ↦ not_so
-]
-
--- where the victim is dirty its line is
-pub victim-dirty : (o : Option Line) → is_dirty_victim (victim_line o) ≡ true → is_dirty o ≡ true
-victim-dirty None e = e
-victim-dirty (Some line) e = elim (cases_Bool line.dirty) as (λ _. line.dirty ≡ true) [
-  | inl is_so ↦ is_so
-  | inr not_so ↦ let wrong : true ≡ false = sym e ∙ ap (λ t. is_dirty_victim (cond t (Dirty line.at) Room)) not_so in cc
 ]
 
 -- what a store of a line leaves, by the store's answer
@@ -218,19 +178,6 @@ pub after-agrees : (stored : Stored) (c : Contents) (s w : ℕ) (line : Line) (o
     → Agrees (stored_at stored s w c) new.blocks
 after-agrees Done c s w line old new can has = rw has.blocks (store-agrees c old.blocks s w line can)
 after-agrees CopyFirst c s w line old new can has = rw has.blocks can.agrees
-
-pub after-peeks : (stored : Stored) (c : Contents) (s w : ℕ) (line : Line) → s < length c.sets → line_at (set_at c s) w ≡ Some line → PeeksSame c (stored_at stored s w c)
-after-peeks Done c s w line inside stands = clean-peeks c s w line inside stands
-after-peeks CopyFirst c s w line inside stands = λ x. refl
-
-pub after-hits : (stored : Stored) (c : Contents) (s w : ℕ) (line : Line) → s < length c.sets → line_at (set_at c s) w ≡ Some line → HitsSame c (stored_at stored s w c)
-after-hits Done c s w line inside stands = clean-hits c s w line inside stands
-after-hits CopyFirst c s w line inside stands = λ x. refl
-
-pub after-count : (stored : Stored) (c : Contents) (s w : ℕ) (line : Line) → s < length c.sets → line_at (set_at c s) w ≡ Some line → line.dirty ≡ true
-    → CountsStored stored (dirty_count c) (dirty_count (stored_at stored s w c))
-after-count Done c s w line inside stands dirty = store-count c s w line inside stands dirty
-after-count CopyFirst c s w line inside stands dirty = refl
 
 -- a clean line makes room
 pub clean-room : (o : Option Line) → victim_line (option_map clean o) ≡ Room

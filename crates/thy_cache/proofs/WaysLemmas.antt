@@ -1,7 +1,7 @@
 -- The parts of a set after each change.
-use Rattle.std.proofs.Common.{◌≡◌, ℕ, suc, ◌+◌, ◌<◌, ◌==◌, List, [], ◌∷◌, ◌++◌, length, slice_set, Option, Some, None, All, sym, ◌∙◌, ap, arith}
+use Rattle.std.proofs.Common.{◌≡◌, ℕ, suc, ◌+◌, ◌<◌, ◌==◌, List, [], ◌∷◌, ◌++◌, length, Option, Some, None, All, sym, ◌∙◌, ap, arith}
 use Rattle.std.specs.List.{remove, position, range_with_len}
-use Rattle.std.proofs.lemmas.List.{map-id, length-set, length-replicate, length_push}
+use Rattle.std.proofs.lemmas.List.{map-id, length-replicate, length_push}
 use Rattle.std.proofs.lemmas.List.Edits.{length-remove}
 use Rattle.std.proofs.lemmas.List.FromFn.{map-range_with_len_more, length-range_with_len, get_or-range_with_len}
 use Rattle.std.proofs.lemmas.List.Elements.{All-append, All-take, All-drop, All-push, All-from_get_or}
@@ -44,15 +44,4 @@ IsSound-used lines order moved at way sound found here e =
       all_ordered = ap length e ∙ length_push (remove order at) way ∙ length-remove order at there.0 ∙ sound.all_ordered;
       ordered = rw e (All-push Below (remove order at) way left here);
       once = rw e (StandOnce-moved order at way sound.once there.0 there.1);
-    }
-
--- and after a line was put in
-pub IsSound-with_line : (lines : List (Option Line)) (order : List ℕ) (way : ℕ) (line : Option Line) → IsSound lines order → IsSound (slice_set lines way line) order
-IsSound-with_line lines order way line sound =
-    let same : length (slice_set lines way line) ≡ length lines = length-set lines way line in
-    record {
-      some_way = omega (arith, same, sound.some_way);
-      all_ordered = sound.all_ordered ∙ sym same;
-      ordered = rw same sound.ordered;
-      once = sound.once;
     }
