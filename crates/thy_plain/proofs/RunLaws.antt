@@ -1,10 +1,9 @@
 -- Steps one after another, while the program runs.
-use Rattle.std.proofs.Common.{◌≡◌, ℕ, ◌+◌, ◌<◌, ◌≤◌, true, false, inl, inr, ap, sym, ◌∙◌, arith}
-use Rattle.std.proofs.lemmas.Bool.{cases_order}
+use Rattle.std.proofs.Common.{◌≡◌, ℕ, ◌+◌, ◌<◌, true, ap, sym, ◌∙◌, arith}
 use borrow.Author.Count.{below_more}
 use Rattle.thy_isa.specs.Step.{State, is_running, steps}
 use Rattle.thy_isa.proofs.StepLaws.{steps-zero, steps-one_more, steps-count}
-use Rattle.thy_plain.specs.Machine.{Machine, after_steps, stepped, StopsAt}
+use Rattle.thy_plain.specs.Machine.{Machine, after_steps, stepped}
 
 -- the program runs at every count of steps below k
 pub record Ran (m : Machine) (k : ℕ) : Type 0 where
@@ -29,28 +28,3 @@ pub count_below : (m now : Machine) (k bound : ℕ) → now ≡ after_steps k m 
 count_below m now k bound is runs below =
     let still : is_running (steps m.setting k m.state).status ≡ true = ap (λ (n : Machine). is_running n.state.status) (sym is) ∙ runs in
     omega (arith, ap (λ (n : Machine). n.state.count) is, steps-count m.setting k m.state still)
-
--- it stopped before the limit, since the program runs no more
-pub StopsAt-ended : (m now : Machine) (limit k : ℕ) → k ≤ limit → Ran m k → now ≡ after_steps k m → is_running now.state.status ≡ false → StopsAt m limit k
-StopsAt-ended m now limit k h ran is over =
-    record { within = h; ran = ran.each; over = λ _. ap (λ (n : Machine). is_running n.state.status) (sym is) ∙ over }
-
--- it stopped at the limit
-pub StopsAt-limit : (m : Machine) (limit : ℕ) → Ran m limit → StopsAt m limit limit
-StopsAt-limit m limit ran = record { within = omega arith; ran = ran.each; over = λ h. absurd (omega arith) }
-
-earlier_runs : (m : Machine) (limit j k : ℕ) → StopsAt m limit j → StopsAt m limit k → j < k → ⊥
-earlier_runs m limit j k a b less =
-    let bound : k ≤ limit = b.within in
-    let below : j < limit = omega arith in
-    let runs : is_running (steps m.setting j m.state).status ≡ true = b.ran j less in
-    let over : is_running (steps m.setting j m.state).status ≡ false = a.over below in
-    let both : true ≡ false = sym runs ∙ over in
-    cc
-
--- a run has one number of steps
-pub StopsAt-unique : (m : Machine) (limit j k : ℕ) → StopsAt m limit j → StopsAt m limit k → j ≡ k
-StopsAt-unique m limit j k a b = elim (cases_order j k) [
-  | inl same ↦ same
-  | inr other ↦ absurd (elim other [ inl less ↦ earlier_runs m limit j k a b less | inr more ↦ earlier_runs m limit k j b a more ])
-]

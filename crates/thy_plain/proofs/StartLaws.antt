@@ -1,12 +1,11 @@
 -- What holds of the state at which a program starts: it has 32 registers, register 0 is 0, and it can be stored.
-use Rattle.std.proofs.Common.{◌≡◌, ℕ, ◌<◌, ◌^◌, length, replicate, slice_index, refl, arith}
+use Rattle.std.proofs.Common.{◌≡◌, length, replicate, slice_index, refl, arith}
 use Rattle.std.specs.List.{All}
 use Rattle.std.proofs.lemmas.List.Elements.{All-set, All-nil, All-replicate}
 use Rattle.thy_base.specs.declared.config.Parameters.{Parameters}
-use Rattle.thy_base.specs.Geometry.{IsInRange, stack_top}
+use Rattle.thy_base.specs.Geometry.{stack_top}
 use Rattle.thy_elf.specs.Image.{Contents}
 use Rattle.thy_isa.specs.Storable.{IsNumber, IsByte, IsStorable}
-use Rattle.thy_isa.proofs.MemoryBounds.{anywhere}
 use Rattle.thy_plain.specs.Start.{start_regs, start_state}
 
 -- what an image says fits a machine of 64 bits
@@ -23,17 +22,9 @@ pub start_regs-zero : (p : Parameters) → slice_index (start_regs p) 0 ≡ 0
 unfolding start_regs
 start_regs-zero p = refl
 
--- the stack pointer of numbers in range
-pub stack_top-number : (p : Parameters) → IsInRange p → IsNumber (stack_top p)
-stack_top-number p r = omega arith
-
 pub start_regs-numbers : (p : Parameters) → IsNumber (stack_top p) → All IsNumber (start_regs p)
 unfolding start_regs
 start_regs-numbers p top = All-set IsNumber (replicate 32 0) 2 (stack_top p) top (All-replicate IsNumber 32 0 (omega arith))
-
--- each register is a number of 64 bits, wherever it is read
-pub start_regs-below : (p : Parameters) → IsNumber (stack_top p) → (i : ℕ) → slice_index (start_regs p) i < 2 ^ 64
-start_regs-below p top i = anywhere IsNumber (omega arith) (start_regs p) (start_regs-numbers p top) i
 
 -- the start can be stored
 pub start_state-storable : (p : Parameters) (image : Contents) → IsNumber (stack_top p) → Fits image → IsStorable (length image.memory) (start_state p image)
