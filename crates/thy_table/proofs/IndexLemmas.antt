@@ -1,9 +1,9 @@
 -- The parts of a table after each change.
-use Rattle.std.proofs.Common.{◌≡◌, ◌≢◌, ℕ, ◌+◌, ◌-◌, ◌<◌, ◌≤◌, ◌^◌, Bool, true, false, cond, List, length, get_or, slice_set, Option, Some, None, is_none, is_some, IsSome, All, ◌↔◌, min, refl, sym, ◌∙◌, ap, inl, inr, arith}
+use Rattle.std.proofs.Common.{◌≡◌, ◌≢◌, ℕ, ◌+◌, ◌-◌, ◌<◌, ◌≤◌, Bool, true, false, cond, List, length, get_or, slice_set, Option, Some, None, is_none, is_some, IsSome, All, ◌↔◌, min, refl, sym, ◌∙◌, ap, inl, inr, arith}
 use Rattle.std.specs.List.{position, count_by}
 use Rattle.std.proofs.lemmas.Bool.{cases_Bool, cases_eq, cases_lt, eqb-true, eq-eqb}
 use Rattle.std.proofs.lemmas.List.{length-set, get_or-set_same, get_or-set_other, get_or_past, get_or_default}
-use Rattle.std.proofs.lemmas.List.Sums.{sum_by-set, sum_by-le, get_or-le-sum_by, count_by-le-length}
+use Rattle.std.proofs.lemmas.List.Sums.{sum_by-set, sum_by-le, get_or-le-sum_by}
 use Rattle.std.proofs.lemmas.List.Quantifiers.{position-Some}
 use Rattle.thy_table.specs.Listing.{listing, lists, indexed_at, IsSound, IsListing}
 use Rattle.thy_table.proofs.FirstLemmas.{position-first, position-none, none-position}
@@ -212,7 +212,3 @@ module _ {E : Type 0} (key : E → ℕ) where
           counted = omega (arith, sound.counted, sum_by-set free_one es i None None inside, ap free_one was);
           few = omega (arith, sound.few, length-set es i None);
         }
-
-    -- the count fits
-    pub free-fits : free ≤ 2 ^ 32
-    free-fits = omega (arith, sound.counted, sound.few, count_by-le-length is_none es)

@@ -1,9 +1,9 @@
 -- Where numbers are listed after each change of a table, for those that stand on it.
-use Rattle.std.proofs.Common.{◌≡◌, ◌≢◌, ℕ, ◌+◌, ◌<◌, ◌≤◌, true, false, eqb, List, [], ◌∷◌, length, map, Option, Some, None, option_and_then, refl, sym, ◌∙◌, ap, inl, inr, arith}
+use Rattle.std.proofs.Common.{◌≡◌, ◌≢◌, ℕ, ◌<◌, ◌≤◌, true, false, eqb, List, [], ◌∷◌, length, map, Option, Some, None, option_and_then, refl, sym, ◌∙◌, ap, inl, inr, arith}
 use Rattle.std.specs.List.{sum_by}
 use Rattle.std.proofs.lemmas.Bool.{cases_Bool, cases_eq, cases_lt, ne_eqb}
 use Rattle.std.proofs.lemmas.List.{length-map, get_or-set_same, get_or-set_other, get_or_past, get_or-map}
-use Rattle.std.proofs.lemmas.List.Sums.{sum_by-set, sum_by-cons}
+use Rattle.std.proofs.lemmas.List.Sums.{sum_by-cons}
 use Rattle.std.proofs.lemmas.List.Quantifiers.{position-Some}
 use Rattle.thy_table.specs.Listing.{Listing, entry_at, lists, place_of, free_count, with_entry, mapped, IsListing}
 use Rattle.thy_table.proofs.FirstLemmas.{position-first, position-none, none-position}
@@ -25,11 +25,6 @@ module _ {E : Type 0} where
         let past : length (map (option_and_then rule) t.entries) ≤ i = omega (arith, l, length-map t.entries (option_and_then rule)) in
         get_or_past (map (option_and_then rule) t.entries) i None past ∙ sym (ap (option_and_then rule) (get_or_past t.entries i None l))
   ]
-
--- how many entries are free after one was written
-pub free_count-with : {E : Type 0} (t : Listing E) (i : ℕ) (o : Option E) → i < length t.entries
-    → free_count (with_entry i o t) + free_one (entry_at t i) ≡ free_count t + free_one o
-free_count-with t i o inside = sum_by-set free_one t.entries i o None inside
 
 free-map : {E : Type 0} (rule : E → Option E) (es : List (Option E)) → sum_by free_one es ≤ sum_by free_one (map (option_and_then rule) es)
 free-map rule [] = omega arith
