@@ -1,5 +1,5 @@
 -- The fetch reads one block.
-use Rattle.std.proofs.Common.{◌≡◌, ℕ, ◌+◌, ◌-◌, ◌%◌, ◌^◌, ◌<◌, ◌≤◌, ◌==◌, Bool, true, false, if◌then◌else◌, List, ◌++◌, length, Option, Some, None, refl, sym, ◌∙◌, ap, subst, drop, append-nil, arith}
+use Rattle.std.proofs.Common.{◌≡◌, ℕ, ◌+◌, ◌-◌, ◌%◌, ◌<◌, ◌≤◌, ◌==◌, Bool, true, false, if◌then◌else◌, List, ◌++◌, length, Option, Some, None, refl, sym, ◌∙◌, ap, subst, drop, append-nil, arith}
 use Rattle.std.proofs.lemmas.Bool.Decides.{nat_tests}
 use Rattle.thy_base.specs.declared.block.Block.{Block}
 use Rattle.thy_base.specs.declared.config.Parameters.{Parameters}
@@ -8,20 +8,19 @@ use Rattle.thy_base.specs.Inside.{is_inside}
 use Rattle.thy_base.specs.Blocks.{block_bytes}
 use Rattle.thy_base.specs.LittleEndian.{number_at}
 use Rattle.thy_base.proofs.LittleEndianLemmas.{number_at-take, number_at-drop}
-use Rattle.thy_base.proofs.RangeLemmas.{base_aligned, console_most, pages_most}
+use Rattle.thy_base.proofs.RangeLemmas.{base_aligned}
 use Rattle.thy_cache.specs.Contents.{Contents}
 use Rattle.thy_cache.specs.Flat.{flat, ReadsAs}
 use Rattle.thy_flat.specs.declared.span.Span.{Span}
 use Rattle.thy_flat.specs.Spans.{span, first_block, first_byte, head_len, rest_of, head_in, head_read, gathered}
 use Rattle.thy_flat.proofs.SpanLaws.{gathered-none, gathered-rest, rest_of-none}
-use Rattle.thy_isa.specs.declared.state.CallState.{CallState}
 use Rattle.thy_isa.specs.declared.state.Cause.{Cause}
 use Rattle.thy_isa.specs.declared.state.Cause.TheVariants.{FetchMisaligned, FetchAccess}
 use Rattle.thy_isa.specs.declared.state.CpuState.{CpuState}
 use Rattle.thy_isa.specs.declared.state.Effect.{Effect}
 use Rattle.thy_isa.specs.Access.{IsWithin}
 use Rattle.thy_isa.specs.Effects.{word_effect}
-use Rattle.thy_isa.specs.OnBlocks.{calls_in, effect_in}
+use Rattle.thy_isa.specs.OnBlocks.{effect_in}
 use Rattle.thy_isa.specs.Step.{fetch_fault, fetched as unless_trapped, within}
 use Rattle.thy_isa.proofs.AccessLaws.{within-is}
 use Rattle.thy_isa.proofs.BlockLaws.{fetch_inside}
@@ -128,13 +127,6 @@ tested p q size e now same size_is is =
     let by_base : within q.base size e ≡ within p.base size e = ap (λ (g : Parameters). within g.base size e) same in
     let by_size : within p.base size e ≡ within p.base (program_size p) e = ap (λ (n : ℕ). within p.base n e) size_is in
     subst (IsWithin p.base (program_size p)) (sym (is ∙ by_base ∙ by_size)) (within-is p.base (program_size p) e)
-
--- the blocks have room for what a call gives where there is any
-pub room_fits : (p : Parameters) (cpu : CpuState) (n : ℕ) (calls : CallState) → IsInRange p → calls ≡ calls_in p cpu n
-    → 1 ≤ calls.room → calls.size + calls.console_len < 2 ^ 64
-room_fits p cpu n calls r is =
-    let P : CallState → Type 0 = λ k. 1 ≤ k.room → k.size + k.console_len < 2 ^ 64 in
-    subst P (sym is) (λ some. omega (arith, pages_most p r, console_most p r))
 
 -- ---- the block of a fetch
 
