@@ -37,10 +37,6 @@ block_at-applied image (w ∷ ws) x l =
     let inside : x < length (slice_set image w.at w.block) = omega (arith, length-set image w.at w.block) in
     block_at-applied (slice_set image w.at w.block) ws x inside ∙ ap (λ b. newest_over b ws x) (block_at-set image w.at w.block x l)
 
--- a place past the end of an image stays there
-pub block_at-past : (image : List Block) (x : ℕ) → length image ≤ x → block_at image x ≡ zero_block
-block_at-past image x l = get_or_past image x zero_block l
-
 -- what a list of one block holds
 pub same_as_only : (only b : Block) → Contains (only ∷ []) b → only ≡ b
 same_as_only only b h = elim (Contains-push_cases [] only b h) as (λ _. only ≡ b) [ inl none ↦ absurd (omega (arith, none.1)) | inr e ↦ e ]

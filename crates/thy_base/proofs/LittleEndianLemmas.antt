@@ -4,18 +4,6 @@ use Rattle.std.proofs.lemmas.List.{get_or-take, get_or-drop}
 use Rattle.byteorder.specs.Endian.{little_from}
 use Rattle.thy_base.specs.LittleEndian.{number_at}
 
--- no bytes are the number 0
-pub number_at-zero : (bytes : List ℕ) (i : ℕ) → number_at 0 bytes i ≡ 0
-unfolding number_at
-number_at-zero bytes i = refl
-
--- one byte, and the number of those behind it
-pub number_at-suc : (n : ℕ) (bytes : List ℕ) (i : ℕ) → number_at (suc n) bytes i ≡ slice_index bytes i + 256 * number_at n bytes (i + 1)
-unfolding number_at
-number_at-suc n bytes i =
-    let next : suc i ≡ i + 1 = omega arith in
-    ap (λ k. slice_index bytes i + 256 * little_from k n bytes) next
-
 from_below : (n : ℕ) (bytes : List ℕ) (i : ℕ) → ((k : ℕ) → slice_index bytes k < 256) → little_from i n bytes < 256 ^ n
 from_below zero bytes i h = omega arith
 from_below (suc n) bytes i h =

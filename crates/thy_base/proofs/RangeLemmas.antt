@@ -117,12 +117,6 @@ IsRising-rows c h =
 pub base_aligned : (p : Parameters) → IsInRange p → p.base % 4096 ≡ 0
 base_aligned p r = r.0.0
 
-pub pages_least : (p : Parameters) → IsInRange p → 8 ≤ p.pages
-pages_least p r = r.1.0.0
-
-pub pages_most : (p : Parameters) → IsInRange p → p.pages ≤ 4096
-pages_most p r = r.1.0.1
-
 pub console_most : (p : Parameters) → IsInRange p → p.console ≤ 16
 console_most p r = r.1.1.0.0.1
 
