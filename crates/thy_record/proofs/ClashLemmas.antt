@@ -5,7 +5,7 @@ use Rattle.std.proofs.lemmas.List.FromFn.{length-map-range_with_len, get_or-map-
 use Rattle.std.specs.Option.{option_or}
 use Rattle.thy_base.specs.LittleEndian.{number_at}
 use Rattle.thy_base.proofs.LittleEndianLemmas.{number_at-take}
-use Rattle.thy_record.specs.declared.image.BadImage.{BadImage}
+use Rattle.thy_record.specs.declared.bad_image.BadImage.{BadImage}
 use Rattle.thy_record.specs.Files.{table_in}
 use Rattle.thy_record.specs.Tables.{entry_at}
 use Rattle.thy_record.specs.TableBlocks.{entry_from}

@@ -3,8 +3,8 @@
 ghost use Rattle.std.specs.Prelude.{◌≡◌, ◌<◌, ◌∷◌, length, slice_index};
 ghost use Rattle.thy_record.specs.Cpu.{cpu_words, cpu_block_of, cpu_of_record, record_word, record_words, record_fault as fault_of_record, status_tag, status_value, status_of, is_status as is_status_of};
 
+use crate::bad_image::BadImage;
 use crate::block_words::{block_with, word};
-use crate::image::BadImage;
 use thy_base::{Block, Geometry};
 use thy_isa::{CpuState, Reg, Regs, Status};
 

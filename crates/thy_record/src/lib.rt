@@ -7,13 +7,13 @@
 //! thy_isa; on it stand thy_text and all from thy_control on.
 #![tactic(auto)]
 
+mod bad_image;
 mod block_words;
 mod commit;
 mod cpu;
 mod engine_step;
 mod file;
 mod header;
-mod image;
 mod laws;
 mod restored;
 mod slot;
@@ -21,13 +21,13 @@ mod start;
 mod table_faults;
 mod tables;
 
+pub use bad_image::BadImage;
 pub use block_words::{block_with, word};
 pub use commit::{COMMIT_MAGIC, commit_block, commit_fault, is_zero};
 pub use cpu::{cpu_block, cpu_state, record_fault};
 pub use engine_step::EngineStep;
 pub use file::{Found, check};
 pub use header::{HEADER_MAGIC, VERSION, header_block, header_fault};
-pub use image::BadImage;
 pub use laws::{
     ceiling_grows, decoded_is_whole, each_block_has_its_place, faultless_tables, file_decodes,
     free_is_not_looked_at, header_and_commit_read_back, issued_decodes, issuing_goes_on,
