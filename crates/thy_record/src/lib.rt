@@ -22,7 +22,7 @@ mod table_faults;
 mod tables;
 
 pub use bad_image::BadImage;
-pub use block_words::{block_with, word};
+pub use block_words::{block_in, block_with, word};
 pub use commit::{COMMIT_MAGIC, commit_block, commit_fault, is_zero};
 pub use cpu::{cpu_block, cpu_state, record_fault};
 pub use engine_step::EngineStep;
