@@ -24,7 +24,7 @@ mod tables;
 pub use bad_image::BadImage;
 pub use block_words::{block_in, block_with, word};
 pub use commit::{COMMIT_MAGIC, commit_block, commit_fault, is_zero};
-pub use cpu::{cpu_block, cpu_state, record_fault};
+pub use cpu::{cpu_block, cpu_state};
 pub use engine_step::EngineStep;
 pub use file::{Found, check};
 pub use header::{HEADER_MAGIC, VERSION, header_block, header_fault};
@@ -38,4 +38,4 @@ pub use laws::{
 pub use restored::state;
 pub use slot::{cpu_in, listed_block, listed_page, slot_fault};
 pub use start::Start;
-pub use tables::{table_block, table_entry};
+pub use tables::table_block;
