@@ -21,7 +21,7 @@ use Rattle.thy_cell.specs.declared.cell.Cell.{Cell}
 use Rattle.thy_cell.specs.Cells.{Seat, seat_of, placed, target, last}
 use Rattle.thy_cell.specs.Sound.{IsSoundCell}
 use Rattle.thy_cell.specs.Rules.{after_copy}
-use Rattle.thy_cell.specs.Steps.{CopyKeeps, Keeps}
+use Rattle.thy_cell.specs.BetweenCheckpoints.{CopyKeeps, Keeps}
 use Rattle.thy_cell.proofs.StoreLemmas.{IsSoundCell-after_copy}
 use Rattle.thy_control.specs.Find.{entry_for}
 use Rattle.thy_control.specs.Keys.{block_key}

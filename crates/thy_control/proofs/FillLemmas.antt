@@ -29,7 +29,7 @@ use Rattle.thy_cell.specs.declared.cell.Cell.{Cell}
 use Rattle.thy_cell.specs.Cells.{seat_of, frame_at, penult, target, last, work}
 use Rattle.thy_cell.specs.Sound.{IsSoundCell, IsWithin, Holds, Puts}
 use Rattle.thy_cell.specs.Checkpoint.{with_filled}
-use Rattle.thy_cell.specs.Steps.{PromotionKeeps, PromotionKeepsOthers, Keeps, ReadsSame}
+use Rattle.thy_cell.specs.BetweenCheckpoints.{PromotionKeeps, PromotionKeepsOthers, Keeps, ReadsSame}
 use Rattle.thy_control.specs.CheckpointTables.{tables0, tables1, page_lists}
 use Rattle.thy_control.specs.Find.{entry_for}
 use Rattle.thy_control.specs.Keys.{page_key, block_key}

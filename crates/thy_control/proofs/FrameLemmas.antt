@@ -24,7 +24,7 @@ use Rattle.thy_tables.specs.PageEntry.{no_page, listed_page, is_framed}
 use Rattle.thy_cell.specs.declared.cell.Cell.{Cell}
 use Rattle.thy_cell.specs.Cells.{seat_of, frame_at, placed, penult}
 use Rattle.thy_cell.specs.Sound.{IsSoundCell, Holds}
-use Rattle.thy_cell.specs.Steps.{FrameLoads, Loads, Keeps}
+use Rattle.thy_cell.specs.BetweenCheckpoints.{FrameLoads, Loads, Keeps}
 use Rattle.thy_control.specs.Find.{entry_for}
 use Rattle.thy_control.specs.Keys.{block_key, page_key}
 use Rattle.thy_control.specs.State.{State, AreSoundTables, IsSized, cell_of, penult_of, last_of, work_of, reads}

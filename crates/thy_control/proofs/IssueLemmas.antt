@@ -27,7 +27,7 @@ use Rattle.thy_cell.specs.declared.cell.Cell.{Cell}
 use Rattle.thy_cell.specs.Cells.{Seat, seat_of, placed, frame_at, worked_at, penult, target, last, work}
 use Rattle.thy_cell.specs.Sound.{IsSoundPage, IsSoundCell, IsWithin, Holds, Puts}
 use Rattle.thy_cell.specs.Checkpoint.{page_issued, with_issued}
-use Rattle.thy_cell.specs.Steps.{PageWriteKeeps, PageWriteKeepsOthers, Keeps, ReadsSame}
+use Rattle.thy_cell.specs.BetweenCheckpoints.{PageWriteKeeps, PageWriteKeepsOthers, Keeps, ReadsSame}
 use Rattle.thy_control.specs.CheckpointTables.{tables0, tables1, page_lists}
 use Rattle.thy_control.specs.Find.{entry_for}
 use Rattle.thy_control.specs.Guarded.{LeavesGuarded}

@@ -34,7 +34,7 @@ use Rattle.thy_cell.specs.declared.cell.Cell.{Cell}
 use Rattle.thy_cell.specs.Cells.{Seat, placed, seat_of, frame_at, buffer_at, worked_at, last, work}
 use Rattle.thy_cell.specs.Sound.{IsSoundCell, IsWithin, Puts}
 use Rattle.thy_cell.specs.Checkpoint.{merged, with_dirty}
-use Rattle.thy_cell.specs.Steps.{MergeKeeps, DirtyKeeps, Keeps}
+use Rattle.thy_cell.specs.BetweenCheckpoints.{MergeKeeps, DirtyKeeps, Keeps}
 use Rattle.thy_control.specs.Find.{entry_for}
 use Rattle.thy_control.specs.Keys.{block_key, page_key}
 use Rattle.thy_control.specs.State.{State, AreSoundTables, IsSized, cell_of, reads}
