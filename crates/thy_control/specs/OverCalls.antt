@@ -78,9 +78,9 @@ pub stays_on : (s : State) (m : Device) (t : State) (n : Device) (u : State) (o 
 stays_on s m t n u o first second =
     let p : t.p ≡ s.p = first.same_p in
     let in_t : (b : ℕ) → b < memory_blocks s.p → b < memory_blocks t.p =
-        λ b l. subst (λ (q : Parameters). b < memory_blocks q) (sym p) l in
+    λ b l. subst (λ (q : Parameters). b < memory_blocks q) (sym p) l in
     let low_t : (x : ℕ) → x < first_home s.p → x < first_home t.p =
-        λ x l. subst (λ (q : Parameters). x < first_home q) (sym p) l in
+    λ x l. subst (λ (q : Parameters). x < first_home q) (sym p) l in
     record {
       as_long = second.as_long ∙ first.as_long;
       same_p = second.same_p ∙ p;
@@ -93,14 +93,14 @@ stays_on s m t n u o first second =
         low = λ x l. no_more_on x x m n o refl (first.guarded.low x l) (second.guarded.low x (low_t x l));
         old = λ b l.
             let same =
-                ap (λ (q : Parameters). number_of q (penult (cell_of t b))) p
-                ∙ ap (number_of s.p) (first.cells b l).penult_same in
+            ap (λ (q : Parameters). number_of q (penult (cell_of t b))) p
+            ∙ ap (number_of s.p) (first.cells b l).penult_same in
             no_more_on (number_of s.p (penult (cell_of s b))) (number_of t.p (penult (cell_of t b))) m n o same
             (first.guarded.old b l) (second.guarded.old b (in_t b l));
         next = λ b l placed.
             let same =
-                ap (λ (q : Parameters). number_of q (target (cell_of t b))) p
-                ∙ ap (number_of s.p) (first.cells b l).target_same in
+            ap (λ (q : Parameters). number_of q (target (cell_of t b))) p
+            ∙ ap (number_of s.p) (first.cells b l).target_same in
             no_more_on (number_of s.p (target (cell_of s b))) (number_of t.p (target (cell_of t b))) m n o same
             (first.guarded.next b l placed)
             (second.guarded.next b (in_t b l) (placed_on b (cell_of s b) (cell_of t b) (first.cells b l) placed));

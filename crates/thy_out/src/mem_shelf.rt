@@ -142,7 +142,8 @@ impl Shelf for MemShelf {
         ensures faults { PutCounts (stock_of self.old) (stock_of self.new) result }
         ensures failed { (result ≡ Err PutError.Failed) ↔ IsTrue (is_listed self.old.failing self.old.calls) }
         ensures after { self.new ≡ record (called self.old) {
-            files = if is_ok result then (name.now, bytes.now) ∷ self.old.files else self.old.files } }
+          files = if is_ok result then (name.now, bytes.now) ∷ self.old.files else self.old.files;
+        } }
     {
         if self.fails() {
             return Err(PutError::Failed);
