@@ -33,7 +33,8 @@ sealed_entry framed few e = sealed_by framed e.work few e.v1 e
 -- of a framed page: with few stores, whether it was written since it was last, and where it stands
 abbrev pub page_sealed_by : Bool → Bool → Site → PttEntry → Option PttEntry
 page_sealed_by true false AtHome page = None
-page_sealed_by true written AtAlternate page = Some (record page { target = AtHome; busy = true; leaving = true; dirty = false; fresh = false })
+page_sealed_by true written AtAlternate page =
+    Some (record page { target = AtHome; busy = true; leaving = true; dirty = false; fresh = false })
 page_sealed_by low true place page = Some (record page { target = other_site place; busy = true; dirty = false; fresh = false })
 page_sealed_by low false place page = Some (record page { target = place; dirty = false; fresh = false })
 

@@ -3,4 +3,4 @@ pub mod Sound
 pub mod Rules
 pub mod Store
 pub mod Checkpoint
-pub mod Steps
+pub mod BetweenCheckpoints

@@ -1,7 +1,7 @@
 //! Laws of the rules, each the contract of a function that does nothing.
 ghost use Rattle.thy_cell.specs.Store.{StoreKeepsSound, StoreGoesElsewhere, StoreLeavesTarget, StoreKeepsPlaces, StoreReads, StoreHolds};
 ghost use Rattle.thy_cell.specs.Checkpoint.{SealKeepsSound, SealMoves, SealTakesWork, ListingKeeps, CommitKeepsSound, CommitMoves};
-ghost use Rattle.thy_cell.specs.Steps.{NewCellsAreSound, ListedCellsAreSound, FrameLoads, MergeKeeps, DirtyKeeps, PromotionKeeps, PromotionKeepsOthers, CopyKeeps, PageWriteKeeps, PageWriteKeepsOthers, OthersKeep};
+ghost use Rattle.thy_cell.specs.BetweenCheckpoints.{NewCellsAreSound, ListedCellsAreSound, FrameLoads, MergeKeeps, DirtyKeeps, PromotionKeeps, PromotionKeepsOthers, CopyKeeps, PageWriteKeeps, PageWriteKeepsOthers, OthersKeep};
 
 /// A store leaves the entries of its block sound.
 pub fn a_store_keeps_entries_sound()

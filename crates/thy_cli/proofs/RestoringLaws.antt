@@ -25,8 +25,8 @@ use Rattle.thy_isa.specs.OnBlocks.{state_from}
 use Rattle.thy_isa.specs.Step.{State, cpu_of}
 use Rattle.thy_isa.specs.Storable.{IsNumber, IsByte, IsStatus, IsStorable, IsReadable}
 use Rattle.thy_isa.proofs.MemoryBounds.{anywhere, number_at-number}
-use Rattle.thy_record.specs.declared.image.BadImage.{BadImage}
-use Rattle.thy_record.specs.declared.image.BadImage.TheVariants.{Commit, Status as BadStatus, ConsoleLength}
+use Rattle.thy_record.specs.declared.bad_image.BadImage.{BadImage}
+use Rattle.thy_record.specs.declared.bad_image.BadImage.TheVariants.{Commit, Status as BadStatus, ConsoleLength}
 use Rattle.thy_record.specs.Commit.{commit_magic, epoch_of, has_zero_rest, commit_fault}
 use Rattle.thy_record.specs.Cpu.{status_tag, status_value, status_of, is_status, record_word, record_words, cpu_of_record, IsRecordable}
 use Rattle.thy_record.specs.declared.file.Found.TheVariants.{Nothing as FoundNothing, At as FoundAt}

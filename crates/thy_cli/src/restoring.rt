@@ -1,28 +1,18 @@
 //! With what a run begins that goes on from a saved image.
-ghost use Rattle.std.specs.Prelude.{◌≡◌, ◌/◌, ◌<◌, length, IfOk};
+ghost use Rattle.std.specs.Prelude.{◌≡◌, IfOk};
 ghost use Rattle.thy_base.specs.Bytes.{bytes_of};
-ghost use Rattle.thy_record.specs.Files.{block_in as block_of_bytes, blocks_of};
+ghost use Rattle.thy_record.specs.Files.{blocks_of};
 ghost use Rattle.thy_cli.specs.Restoring.{IsFoundAt, IsRestored};
 
 use std::alloc::{AllocError, Global};
 use thy_base::{BLOCK_SIZE, Block, Bytes, Geometry, Mark};
-use thy_record::{Start, state};
+use thy_record::{Start, block_in, state};
 
 /// With what a run begins: a start, and the first blocks of its device.
 #[derive(Drop)]
 pub struct Beginning {
     pub start: Start,
     pub blocks: Vec<Block>,
-}
-
-// Block k of bytes.
-fn block_in(bytes: &[u8], k: usize) -> Block
-    requires { k < length bytes.now / 64 }
-    ensures { result ≡ block_of_bytes bytes.now k }
-{
-    let mut block = [0; BLOCK_SIZE];
-    block.copy_from_slice(&bytes[BLOCK_SIZE * k..BLOCK_SIZE * k + BLOCK_SIZE]);
-    Block(block)
 }
 
 /// The whole blocks of bytes.

@@ -13,7 +13,7 @@ use Rattle.thy_record.specs.Commit.{commit_of}
 use Rattle.thy_cell.specs.declared.cell.Cell.{Cell}
 use Rattle.thy_cell.specs.Cells.{seat_of, frame_at, penult, target, last, work}
 use Rattle.thy_cell.specs.Checkpoint.{CommitMoves}
-use Rattle.thy_cell.specs.Steps.{CopyKeeps, PageWriteKeeps, PageWriteKeepsOthers}
+use Rattle.thy_cell.specs.BetweenCheckpoints.{CopyKeeps, PageWriteKeeps, PageWriteKeepsOthers}
 use Rattle.thy_control.specs.State.{State, AreSoundTables, IsSized, cell_of, reads}
 use Rattle.thy_control.specs.Commit.{committed_state, Commits}
 use Rattle.thy_control.specs.Copies.{next_copy, devices_after_copy, after_next_copy}

@@ -17,7 +17,7 @@ use Rattle.thy_record.specs.Commit.{commit_of}
 use Rattle.thy_record.specs.Header.{header_fault}
 use Rattle.thy_cell.specs.Cells.{seat_of, frame_at, target, last}
 use Rattle.thy_cell.specs.Checkpoint.{CommitMoves}
-use Rattle.thy_cell.specs.Steps.{CopyKeeps, PageWriteKeeps, PageWriteKeepsOthers}
+use Rattle.thy_cell.specs.BetweenCheckpoints.{CopyKeeps, PageWriteKeeps, PageWriteKeepsOthers}
 use Rattle.thy_view.specs.Origin.{Origin, at}
 use Rattle.thy_control.specs.State.{State, IsSized, cell_of, reads, last_of, work_of}
 use Rattle.thy_control.specs.Copies.{next_copy, block_listed, devices_copied}

@@ -22,7 +22,7 @@ use Rattle.thy_record.proofs.ReadBackLemmas.{epoch_of-commit_of}
 use Rattle.thy_crash.proofs.SavedLemmas.{next_image-reads, next_image-commit}
 use Rattle.thy_view.specs.Origin.{Origin, at}
 use Rattle.thy_view.specs.Safe.{ceiling}
-use Rattle.thy_cell.specs.Steps.{CopyKeeps, PageWriteKeeps, PageWriteKeepsOthers}
+use Rattle.thy_cell.specs.BetweenCheckpoints.{CopyKeeps, PageWriteKeeps, PageWriteKeepsOthers}
 use Rattle.thy_control.specs.State.{State, AreSoundTables, IsSized}
 use Rattle.thy_control.specs.CheckpointTables.{tables0, tables1}
 use Rattle.thy_control.specs.Copies.{next_copy, block_listed, devices_after_copy, after_next_copy}

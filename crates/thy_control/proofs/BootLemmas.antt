@@ -17,7 +17,7 @@ use Rattle.thy_tables.specs.BlockEntry.{new_entry, listed_entry}
 use Rattle.thy_tables.specs.PageEntry.{no_page, listed_page}
 use Rattle.thy_cell.specs.declared.cell.Cell.{Cell}
 use Rattle.thy_cell.specs.Sound.{IsSoundCell}
-use Rattle.thy_cell.specs.Steps.{ListedCellsAreSound}
+use Rattle.thy_cell.specs.BetweenCheckpoints.{ListedCellsAreSound}
 use Rattle.thy_control.specs.Find.{entry_for, index_for}
 use Rattle.thy_control.specs.Keys.{block_key, page_key}
 use Rattle.thy_control.specs.State.{State, AreSoundTables, cell_of, new_state}

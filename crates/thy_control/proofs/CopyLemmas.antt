@@ -10,7 +10,7 @@ use Rattle.thy_base.specs.Geometry.{memory_blocks}
 use Rattle.thy_base.specs.Places.{IsPlace}
 use Rattle.thy_place.specs.Devices.{Devices, devices_of}
 use Rattle.thy_place.proofs.PlaceLemmas.{AreSized-written_at}
-use Rattle.thy_table.specs.Listing.{Listing, IsListing, entry_at, lists, passes, next_from, place_of, with_entry}
+use Rattle.thy_table.specs.Listing.{Listing, IsListing, entry_at, lists, passes, place_of, with_entry}
 use Rattle.thy_table.proofs.IndexLemmas.{lists-key}
 use Rattle.thy_table.proofs.FirstLemmas.{first_from-first, none-first_from}
 use Rattle.thy_tables.specs.declared.block_entry.BttEntry.{BttEntry}
@@ -21,7 +21,7 @@ use Rattle.thy_cell.specs.declared.cell.Cell.{Cell}
 use Rattle.thy_cell.specs.Cells.{Seat, seat_of, placed, target, last}
 use Rattle.thy_cell.specs.Sound.{IsSoundCell}
 use Rattle.thy_cell.specs.Rules.{after_copy}
-use Rattle.thy_cell.specs.Steps.{CopyKeeps, Keeps}
+use Rattle.thy_cell.specs.BetweenCheckpoints.{CopyKeeps, Keeps}
 use Rattle.thy_cell.proofs.StoreLemmas.{IsSoundCell-after_copy}
 use Rattle.thy_control.specs.Find.{entry_for}
 use Rattle.thy_control.specs.Keys.{block_key}
@@ -65,12 +65,6 @@ pending-under_way false c s h = absurd (s.pending_moves h (s.one refl))
 module _ (b : ℕ) (s : State) (pending : (cell_of s b).entry.pend ≢ Settled) where
   pub listed-pending : place_of block_key b s.btt ≡ Some (cell_of s b).i
   listed-pending = place_of-index block_key new_entry s.btt b (λ e. pending (ap (λ (x : BttEntry). x.pend) e))
-
-  -- its entry may be set
-  pub lists-pending : lists block_key (cell_of s b).entry.block (entry_at s.btt (cell_of s b).i) ≡ true
-  lists-pending =
-      let there = found_entry block_key new_entry s.btt b (cell_of s b).i listed-pending in
-      lists-key block_key (cell_of s b).entry.block (entry_at s.btt (cell_of s b).i) there.0 there.1 (there.2 ∙ sym (block-cell_of s b))
 
   module _ (m : Device) where
     pub cell-copied_same : cell_of (copied b s m) b ≡ after_copy (cell_of s b)
@@ -208,12 +202,6 @@ left_after s m t tables (Err x) e f = tt
 
 -- the parts of the code's way: the state as its fields have it
 module _ (s w : State) (view : w ≡ s) where
-  pub next_is : (o : Option ℕ) (i : ℕ) → o ≡ next_from needs_copy 0 w.btt → o ≡ Some i → next_copy s ≡ Some i
-  next_is o i found is = sym (ap next_copy view) ∙ sym found ∙ is
-
-  pub block_is : (b i : ℕ) (e : Option BttEntry) → b ≡ block_in e → e ≡ entry_at w.btt i → b ≡ block_listed i s
-  block_is b i e is there = is ∙ ap block_in there ∙ ap (block_listed i) view
-
   pub devices_are : (b : ℕ) (m : Device) (found : Cell) (from to : Place) (d : Devices) → found ≡ cell_of s b → from ≡ last found → to ≡ target found
       → d ≡ moved w.p from to (devices_of m w.dram) → d ≡ devices_copied b s m
   unfolding devices_copied

@@ -8,8 +8,7 @@ use Rattle.thy_base.specs.Store.{page_of}
 use Rattle.thy_table.specs.Listing.{Listing, entry_at, place_of, free_place, passes, with_entry, added_at, next_from}
 use Rattle.thy_table.proofs.FirstLemmas.{first_from-first, none-first_from, first_from-position}
 use Rattle.thy_tables.specs.declared.block_entry.BttEntry.{BttEntry}
-use Rattle.thy_tables.specs.declared.block_entry.Working.{Working}
-use Rattle.thy_tables.specs.declared.block_entry.Working.TheVariants.{NoWork, InNvm, InBuffer}
+use Rattle.thy_tables.specs.declared.block_entry.Working.TheVariants.{InBuffer}
 use Rattle.thy_tables.specs.declared.block_entry.Pending.TheVariants.{Settled}
 use Rattle.thy_tables.specs.declared.page_entry.PttEntry.{PttEntry}
 use Rattle.thy_tables.specs.BlockEntry.{new_entry, listed_entry}
@@ -77,11 +76,6 @@ module _ {E : Type 0} (test : E → Bool) (t : Listing E) (i : ℕ) (x : Option 
     | inr ne ↦ ap (passes test) (get_or-set_other t.entries i k x None ne) ∙ below k (omega (arith, l, less))
   ]
 
--- and another test that no entry passes anew
-NoneBelow-as : {E : Type 0} (now old : E → Bool) (t : Listing E) (place : ℕ) → ((k : ℕ) → passes now (entry_at t k) ≡ passes old (entry_at t k))
-    → NoneBelow old place t → NoneBelow now place t
-NoneBelow-as now old t place same below k l = same k ∙ below k l
-
 -- the test for overlays asks of the page table only which pages are framed
 overlaid_as : (now old : Listing PttEntry) → ((b : ℕ) → block_is_framed now b ≡ block_is_framed old b) → (o : Option BttEntry)
     → passes (is_overlaid now) o ≡ passes (is_overlaid old) o
@@ -114,15 +108,6 @@ module _ (s : State) (b : ℕ) where
       let there = page_there listed in
       NoneBelow-set test s.ptt (cell_of s b).j (Some e) there.1 place place (omega arith) below
       (λ l was. keeps (sym (ap (passes test) there.0) ∙ was))
-
--- At the start of a table nothing is below
-pub AreCursors-start : (pages : Listing PttEntry) (blocks : Listing BttEntry) (k : Cursors) → k.copies ≡ 0 → k.writes ≡ 0 → k.merges ≡ 0 → k.promotions ≡ 0 → AreCursors pages blocks k
-AreCursors-start pages blocks k copies writes merges promotions = record {
-  copies = λ n l. absurd (omega (arith, l, copies));
-  writes = λ n l. absurd (omega (arith, l, writes));
-  merges = λ n l. absurd (omega (arith, l, merges));
-  promotions = λ n l. absurd (omega (arith, l, promotions));
-}
 
 -- A store first gives its block an entry, which passes no test
 none-added : (test : BttEntry → Bool) (t : Listing BttEntry) (b place : ℕ) (o : Option ℕ) → test (new_entry b) ≡ false → free_place t ≡ o → NoneBelow test place t
@@ -157,12 +142,6 @@ pub record AreLowered (r : StoreRule) (c : Cell) (old new : Cursors) : Type 0 wh
   pub promotions : new.promotions ≡ old.promotions
   pub merges : new.merges ≤ old.merges
   pub buffer : r ≡ ToBuffer → is_framed c.page ≡ true → new.merges ≤ c.i
-
--- a buffer over no frame is not merged
-not_over : (work : Working) (framed : Bool) → framed ≡ false → (is_buffered work && framed) ≡ false
-not_over NoWork framed f = refl
-not_over InNvm framed f = refl
-not_over InBuffer framed f = f
 
 AreCursors-cell : (r : StoreRule) (b : ℕ) (t : State) (k : Cursors) → IsListed r b t → AreCursors t.ptt t.btt k → (merges : ℕ) → merges ≤ k.merges
     → (r ≡ ToBuffer → is_framed (cell_of t b).page ≡ true → merges ≤ (cell_of t b).i)

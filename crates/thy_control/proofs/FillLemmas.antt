@@ -18,7 +18,7 @@ use Rattle.thy_base.specs.Places.{IsPlace, number_of}
 use Rattle.thy_base.specs.Store.{page_of}
 use Rattle.thy_place.specs.Devices.{Devices, devices_of}
 use Rattle.thy_place.proofs.PlaceLemmas.{AreSized-written_at}
-use Rattle.thy_table.specs.Listing.{Listing, IsListing, entry_at, lists, passes, next_from, place_of, with_entry}
+use Rattle.thy_table.specs.Listing.{Listing, IsListing, entry_at, lists, passes, place_of, with_entry}
 use Rattle.thy_table.proofs.IndexLemmas.{lists-key, one_if}
 use Rattle.thy_table.proofs.FirstLemmas.{first_from-first, none-first_from}
 use Rattle.thy_tables.specs.declared.block_entry.Working.{Working}
@@ -29,7 +29,7 @@ use Rattle.thy_cell.specs.declared.cell.Cell.{Cell}
 use Rattle.thy_cell.specs.Cells.{seat_of, frame_at, penult, target, last, work}
 use Rattle.thy_cell.specs.Sound.{IsSoundCell, IsWithin, Holds, Puts}
 use Rattle.thy_cell.specs.Checkpoint.{with_filled}
-use Rattle.thy_cell.specs.Steps.{PromotionKeeps, PromotionKeepsOthers, Keeps, ReadsSame}
+use Rattle.thy_cell.specs.BetweenCheckpoints.{PromotionKeeps, PromotionKeepsOthers, Keeps, ReadsSame}
 use Rattle.thy_control.specs.CheckpointTables.{tables0, tables1, page_lists}
 use Rattle.thy_control.specs.Find.{entry_for}
 use Rattle.thy_control.specs.Keys.{page_key, block_key}
@@ -401,12 +401,6 @@ stays_by law other s m t n (Err x) tables sized some e f k g framed =
 
 -- the parts of the code's way: the state as its fields have it
 module _ (s w : State) (view : w ≡ s) where
-  pub next_is : (o : Option ℕ) (j : ℕ) → o ≡ next_from is_promoted 0 w.ptt → o ≡ Some j → next_promotion s ≡ Some j
-  next_is o j place is = sym (ap next_promotion view) ∙ sym place ∙ is
-
-  pub block_is : (b j : ℕ) (e : Option PttEntry) → b ≡ block_after (λ e. e.filled) e → e ≡ entry_at w.ptt j → b ≡ block_to_fill j s
-  block_is b j e is there = is ∙ ap (block_after (λ e. e.filled)) there ∙ ap (block_to_fill j) view
-
   pub devices_are : (b : ℕ) (m : Device) (cell : Cell) (from to : Place) (d : Devices) → cell ≡ cell_of s b → from ≡ work cell → to ≡ frame_at (seat_of cell)
       → d ≡ moved w.p from to (devices_of m w.dram) → d ≡ devices_filled b s m
   unfolding devices_filled

@@ -64,9 +64,6 @@ module _ {E : Type 0} (key : E → ℕ) (new : ℕ → E) where
     pub place_of-set : (n : ℕ) → place_of key n (with_entry i (Some e) t) ≡ place_of key n t
     place_of-set n = position-pointwise (lists key n) None t.entries (slice_set t.entries i (Some e)) (length-set t.entries i (Some e)) (lists-set n)
 
-    pub index_for-set : (n : ℕ) → index_for key new n (with_entry i (Some e) t) ≡ index_for key new n t
-    index_for-set n = ap (λ o. unwrap_or o 0) (place_of-set n)
-
     pub entry_for-set_same : (n : ℕ) → place_of key n t ≡ Some i → entry_for key new n (with_entry i (Some e) t) ≡ e
     entry_for-set_same n h =
         entry_for-some (with_entry i (Some e) t) n i e (place_of-set n ∙ h) (get_or-set_same t.entries i (Some e) None inside)

@@ -1,7 +1,6 @@
 -- The load of a listed page's block into its frame.
 use Rattle.std.proofs.Common.{◌≡◌, ◌≢◌, ℕ, ◌+◌, ◌*◌, ◌%◌, ◌<◌, Bool, true, false, refl, sym, ◌∙◌, ap, subst, inl, inr, arith, Option, Some, None, is_some, unwrap_or, Result, Ok, Err, OnOk, OnErr}
 use Rattle.std.proofs.lemmas.Bool.{cases_eq}
-use Rattle.std.proofs.lemmas.List.{length-set}
 use Rattle.thy_base.specs.declared.block.Block.{Block}
 use Rattle.thy_base.specs.declared.place.Place.{Place}
 use Rattle.thy_base.specs.declared.place.Place.TheVariants.{AlternatePage, Frame}
@@ -24,7 +23,7 @@ use Rattle.thy_tables.specs.PageEntry.{no_page, listed_page, is_framed}
 use Rattle.thy_cell.specs.declared.cell.Cell.{Cell}
 use Rattle.thy_cell.specs.Cells.{seat_of, frame_at, placed, penult}
 use Rattle.thy_cell.specs.Sound.{IsSoundCell, Holds}
-use Rattle.thy_cell.specs.Steps.{FrameLoads, Loads, Keeps}
+use Rattle.thy_cell.specs.BetweenCheckpoints.{FrameLoads, Loads, Keeps}
 use Rattle.thy_control.specs.Find.{entry_for}
 use Rattle.thy_control.specs.Keys.{block_key, page_key}
 use Rattle.thy_control.specs.State.{State, AreSoundTables, IsSized, cell_of, penult_of, last_of, work_of, reads}
@@ -45,24 +44,6 @@ live (Some e) h = (e, refl)
 pub IsBooting-frame : (j k : ℕ) (s : State) (n : Device) → IsBooting s → IsBooting (with_frame j k s n)
 unfolding with_frame
 IsBooting-frame j k s n boot = record { idle = boot.idle; blocks = boot.blocks; pages = boot.pages }
-
-pub AreSoundTables-frame : (j k : ℕ) (s : State) (n : Device) → AreSoundTables s → AreSoundTables (with_frame j k s n)
-unfolding with_frame
-AreSoundTables-frame j k s n t = record {
-  range = t.range;
-  btt_size = t.btt_size;
-  btt_numbers = t.btt_numbers;
-  btt_once = t.btt_once;
-  ptt_size = t.ptt_size;
-  ptt_numbers = t.ptt_numbers;
-  ptt_once = t.ptt_once;
-  live_pages = t.live_pages;
-  counts_size = t.counts_size;
-  counts_high = t.counts_high;
-  counts_low = t.counts_low;
-  dram_size = length-set s.dram.blocks (number_of s.p (Frame j k)) (newest n (number_of s.p (AlternatePage j k))) ∙ t.dram_size;
-  cells = t.cells;
-}
 
 module _ (j k : ℕ) (s : State) (t : AreSoundTables s) (boot : IsBooting s) (may : MayFrame j k s) where
   found : (e : PttEntry) × (entry_at s.ptt j ≡ Some e)

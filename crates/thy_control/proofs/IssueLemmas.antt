@@ -12,7 +12,7 @@ use Rattle.thy_base.specs.Places.{IsPlace}
 use Rattle.thy_base.specs.Store.{page_of}
 use Rattle.thy_place.specs.Devices.{Devices, devices_of}
 use Rattle.thy_place.proofs.PlaceLemmas.{AreSized-written_at}
-use Rattle.thy_table.specs.Listing.{Listing, IsListing, entry_at, lists, passes, next_from, place_of, with_entry}
+use Rattle.thy_table.specs.Listing.{Listing, IsListing, entry_at, lists, passes, place_of, with_entry}
 use Rattle.thy_table.proofs.IndexLemmas.{lists-key}
 use Rattle.thy_table.proofs.FirstLemmas.{first_from-first, none-first_from}
 use Rattle.thy_tables.specs.declared.block_entry.Version.{Version}
@@ -27,7 +27,7 @@ use Rattle.thy_cell.specs.declared.cell.Cell.{Cell}
 use Rattle.thy_cell.specs.Cells.{Seat, seat_of, placed, frame_at, worked_at, penult, target, last, work}
 use Rattle.thy_cell.specs.Sound.{IsSoundPage, IsSoundCell, IsWithin, Holds, Puts}
 use Rattle.thy_cell.specs.Checkpoint.{page_issued, with_issued}
-use Rattle.thy_cell.specs.Steps.{PageWriteKeeps, PageWriteKeepsOthers, Keeps, ReadsSame}
+use Rattle.thy_cell.specs.BetweenCheckpoints.{PageWriteKeeps, PageWriteKeepsOthers, Keeps, ReadsSame}
 use Rattle.thy_control.specs.CheckpointTables.{tables0, tables1, page_lists}
 use Rattle.thy_control.specs.Find.{entry_for}
 use Rattle.thy_control.specs.Guarded.{LeavesGuarded}
@@ -39,7 +39,7 @@ use Rattle.thy_control.specs.Stays.{CellStays, HoldAll, StaysHeld, Stays}
 use Rattle.thy_control.specs.Versions.{KeepsCommitted, KeepsWork}
 use Rattle.thy_control.specs.Pages.{needs_write, next_page, issues_left, writes_left, page_in, block_after, block_to_write, devices_issued, issued, devices_after_write, after_next_write, FailsWriteOf, FailsNextWrite}
 use Rattle.thy_control.proofs.FindLemmas.{found_entry, entry_for-some}
-use Rattle.thy_control.proofs.CellLemmas.{block-cell_of, page-cell_of, IsPlace-target, IsWithin-cell_of}
+use Rattle.thy_control.proofs.CellLemmas.{block-cell_of, IsPlace-target, IsWithin-cell_of}
 use Rattle.thy_control.proofs.OwnLemmas.{owner, Owns-cell_of, owned-target}
 use Rattle.thy_control.proofs.PageLemmas.{cell-page, same_page, live-set}
 use Rattle.thy_control.proofs.StateLemmas.{place_of-index}
@@ -84,11 +84,6 @@ module _ (b : ℕ) (s : State) (busy : (cell_of s b).page.busy ≡ true) where
 
   pub listed-busy : place_of page_key (page_of b) s.ptt ≡ Some (cell_of s b).j
   listed-busy = place_of-index page_key no_page s.ptt (page_of b) has_page
-
-  pub lists-busy : lists page_key (cell_of s b).page.page (entry_at s.ptt (cell_of s b).j) ≡ true
-  lists-busy =
-      let there = found_entry page_key no_page s.ptt (page_of b) (cell_of s b).j listed-busy in
-      lists-key page_key (cell_of s b).page.page (entry_at s.ptt (cell_of s b).j) there.0 there.1 (there.2 ∙ sym (page-cell_of s b))
 
   busy-same : (k : ℕ) → page_of k ≡ page_of b → (cell_of s k).page.busy ≡ true
   busy-same k q = ap (λ (x : PttEntry). x.busy) (same_page s k b q) ∙ busy
@@ -228,9 +223,6 @@ module _ (law : PageWriteKeeps) (other : PageWriteKeepsOthers) (b : ℕ) (s : St
             ap new (worked-framed c.entry.work (is_framed c.page) (last (with_issued c)) (last c) c.entry.v0 (seat_of c) framed) ∙ (left_as k h ne).work_same
       ])
       (λ o. (left_as k h (λ e. o (ap page_of e))).work_same)
-
-  moving_now : s.under_way ≡ true
-  moving_now = busy-under_way s.under_way (cell_of s b).page (t.cells b l).of_page busy
 
   pub held-issued : HoldAll s m → StaysHeld s m (issued b s m) (devices_issued b s m).nvm
   unfolding issued
@@ -415,12 +407,6 @@ stays_by law other s m t n (Err x) tables sized up e f k g framed =
 
 -- the parts of the code's way: the state as its fields have it
 module _ (s w : State) (view : w ≡ s) where
-  pub next_is : (o : Option ℕ) (j : ℕ) → o ≡ next_from needs_write 0 w.ptt → o ≡ Some j → next_page s ≡ Some j
-  next_is o j found is = sym (ap next_page view) ∙ sym found ∙ is
-
-  pub block_is : (b j : ℕ) (e : Option PttEntry) → b ≡ block_after (λ e. e.issued) e → e ≡ entry_at w.ptt j → b ≡ block_to_write j s
-  block_is b j e is there = is ∙ ap (block_after (λ e. e.issued)) there ∙ ap (block_to_write j) view
-
   pub devices_are : (b : ℕ) (m : Device) (found : Cell) (from to : Place) (d : Devices) → found ≡ cell_of s b → from ≡ frame_at (seat_of found) → to ≡ target found
       → d ≡ moved w.p from to (devices_of m w.dram) → d ≡ devices_issued b s m
   unfolding devices_issued

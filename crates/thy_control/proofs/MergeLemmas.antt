@@ -34,7 +34,7 @@ use Rattle.thy_cell.specs.declared.cell.Cell.{Cell}
 use Rattle.thy_cell.specs.Cells.{Seat, placed, seat_of, frame_at, buffer_at, worked_at, last, work}
 use Rattle.thy_cell.specs.Sound.{IsSoundCell, IsWithin, Puts}
 use Rattle.thy_cell.specs.Checkpoint.{merged, with_dirty}
-use Rattle.thy_cell.specs.Steps.{MergeKeeps, DirtyKeeps, Keeps}
+use Rattle.thy_cell.specs.BetweenCheckpoints.{MergeKeeps, DirtyKeeps, Keeps}
 use Rattle.thy_control.specs.Find.{entry_for}
 use Rattle.thy_control.specs.Keys.{block_key, page_key}
 use Rattle.thy_control.specs.State.{State, AreSoundTables, IsSized, cell_of, reads}
@@ -228,10 +228,6 @@ module _ (s w : State) (view : w ≡ s) (b : ℕ) (found : Cell) (is : found ≡
       ∙ ap (λ (x : Listing PttEntry). record s { btt = with_entry (cell_of s b).i None s.btt; ptt = x; dram = dram })
       (ptt_e ∙ ap (λ (x : State). with_entry found.j (Some (dirty found.page)) x.ptt) view ∙ ap (λ (c : Cell). with_entry c.j (Some (dirty c.page)) s.ptt) is)
       ∙ ap (λ (x : Contents). record s { btt = with_entry (cell_of s b).i None s.btt; ptt = with_entry (cell_of s b).j (Some (dirty (cell_of s b).page)) s.ptt; dram = x }) dram_e
-
--- the block of the next overlay, as the code finds it
-pub overlay_block : (s w : State) → w ≡ s → (b i : ℕ) (e : Option BttEntry) → b ≡ block_in e → e ≡ entry_at w.btt i → b ≡ block_listed i s
-overlay_block s w view b i e is there = is ∙ ap block_in there ∙ ap (block_listed i) view
 
 -- what the next merge leaves, with any NVM
 pub record MergesAll (s t : State) : Type 0 where

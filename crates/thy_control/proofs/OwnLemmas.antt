@@ -67,9 +67,6 @@ owned-placed t m c o Alt s e p = o.of_entry (e refl)
 owned-placed t m c o Out AtAlternate e p = o.of_page (p refl)
 owned-placed t m c o Out AtHome e p = ap Some o.of_block
 
-entry_not_new : (c : Cell) (m : ℕ) → (c.entry ≡ new_entry m → ⊥) → c.entry ≢ new_entry m
-entry_not_new c m h = h
-
 pub owned-penult : (t : State) (m : ℕ) (c : Cell) → Owns t m c → owner t (penult c) ≡ Some m
 owned-penult t m c o = owned-placed t m c o c.entry.v0 c.page.place
     (λ v e. let w : c.entry.v0 ≡ Out = ap (λ (x : BttEntry). x.v0) e in cc)

@@ -17,7 +17,7 @@ use Rattle.thy_tables.specs.PageEntry.{no_page, is_framed}
 use Rattle.thy_cell.specs.declared.cell.Cell.{Cell}
 use Rattle.thy_cell.specs.Cells.{seat_of, frame_at, penult, target, last, work}
 use Rattle.thy_cell.specs.Sound.{IsSoundCell, Puts}
-use Rattle.thy_cell.specs.Steps.{Keeps, ReadsSame}
+use Rattle.thy_cell.specs.BetweenCheckpoints.{Keeps, ReadsSame}
 use Rattle.thy_control.specs.State.{State, AreSoundTables, IsSized, cell_of, reads}
 use Rattle.thy_control.specs.Moves.{moved}
 use Rattle.thy_control.specs.Stays.{HoldAll}

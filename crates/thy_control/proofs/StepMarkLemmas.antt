@@ -13,7 +13,7 @@ use Rattle.thy_tables.specs.PageEntry.{no_page, is_framed}
 use Rattle.thy_cell.specs.declared.cell.Cell.{Cell}
 use Rattle.thy_cell.specs.Rules.{after_copy}
 use Rattle.thy_cell.specs.Checkpoint.{page_issued}
-use Rattle.thy_cell.specs.Steps.{MergeKeeps, DirtyKeeps}
+use Rattle.thy_cell.specs.BetweenCheckpoints.{MergeKeeps, DirtyKeeps}
 use Rattle.thy_control.specs.declared.overlay.Marks.{Marks}
 use Rattle.thy_control.specs.Keys.{block_key, page_key}
 use Rattle.thy_control.specs.State.{State, AreSoundTables, cell_of}

@@ -1,33 +1,12 @@
 -- The entries of a block of tables, one by one.
-use Rattle.std.proofs.Common.{◌≡◌, ℕ, ◌+◌, ◌-◌, ◌*◌, ◌^◌, ◌<◌, ◌≤◌, List, ◌++◌, drop, length, map, get_or, Option, Some, None, option_and_then, sym, ◌∙◌, ap, inl, inr, arith}
-use Rattle.std.proofs.Math.ListN.{get_or-map}
+use Rattle.std.proofs.Common.{◌≡◌, ℕ, ◌+◌, ◌-◌, ◌*◌, ◌^◌, ◌<◌, ◌≤◌, List, ◌++◌, drop, length, Option, Some, None, sym, ◌∙◌, ap, inl, inr, arith}
 use Rattle.std.proofs.lemmas.Bool.{cases_lt}
-use Rattle.std.proofs.lemmas.List.{length-map, length-append, length-drop, length-take-le, length-take, get_or_past, get_or-take, get_or-drop, get_or_append_left, get_or-append-add, get_or-append_right, ext_get_or}
+use Rattle.std.proofs.lemmas.List.{length-append, length-drop, length-take-le, length-take, get_or_past, get_or-take, get_or-drop, get_or_append_left, get_or-append-add, ext_get_or}
 use Rattle.thy_base.specs.declared.config.Parameters.{Parameters}
 use Rattle.thy_base.specs.Geometry.{IsInRange}
 use Rattle.thy_record.specs.Tables.{Tables, entry_at, Lists, IsTables}
 use Rattle.thy_record.specs.TableBlocks.{HaveWords}
-use Rattle.thy_tables.specs.declared.block_entry.BttEntry.{BttEntry}
-use Rattle.thy_tables.specs.declared.page_entry.PttEntry.{PttEntry}
-use Rattle.thy_control.specs.TableBlocks.{block_due, page_due, entries_of}
-
--- an entry of both tables, one behind the other
-module _ (btt : List (Option BttEntry)) (ptt : List (Option PttEntry)) where
-  abbrev blocks_due : List (Option ℕ)
-  blocks_due = map (option_and_then block_due) btt
-
-  abbrev pages_due : List (Option ℕ)
-  pages_due = map (option_and_then page_due) ptt
-
-  pub due-block : (n : ℕ) → n < length btt → option_and_then block_due (get_or btt n None) ≡ entry_at (blocks_due ++ pages_due) n
-  due-block n l =
-      sym (get_or-map (option_and_then block_due) btt n None)
-      ∙ sym (get_or_append_left blocks_due pages_due None n (omega (arith, length-map btt (option_and_then block_due))))
-
-  pub due-page : (n : ℕ) → length btt ≤ n → option_and_then page_due (get_or ptt (n - length btt) None) ≡ entry_at (blocks_due ++ pages_due) n
-  due-page n l =
-      sym (get_or-map (option_and_then page_due) ptt (n - length btt) None)
-      ∙ sym (get_or-append_right blocks_due pages_due (length btt) n None (length-map btt (option_and_then block_due)) l)
+use Rattle.thy_control.specs.TableBlocks.{entries_of}
 
 -- the entries of a block of tables are eight
 pub entries-eight : (t : Tables) (k : ℕ) → 8 * k + 8 ≤ length t.btt + length t.ptt → length (entries_of t k) ≡ 8

@@ -13,7 +13,13 @@ use Rattle.thy_control.specs.State.{State, cell_of}
 use Rattle.thy_control.specs.Stays.{AreCopied, CellStays, StaysHeld, StaysUp, Stays}
 
 pub cell_same : (c : Cell) → CellStays c c
-cell_same c = record { penult_same = refl; target_same = refl; settled = λ e. e; busy_before = λ e. e; issued = omega arith }
+cell_same c = record {
+  penult_same = refl;
+  target_same = refl;
+  settled = λ e. e;
+  busy_before = λ e. e;
+  issued = omega arith;
+}
 
 pub cell_on : (c d e : Cell) → CellStays c d → CellStays d e → CellStays c e
 cell_on c d e first second = record {
@@ -55,7 +61,9 @@ stays_same s m = record {
 
 -- places that hold no more over two calls
 no_more_on : (x y : ℕ) (m n o : Device) → y ≡ x → NoMoreAt x m n → NoMoreAt y n o → NoMoreAt x m o
-no_more_on x y m n o e first second = record { no_more = λ b h. first.no_more b ((subst (λ (z : ℕ). NoMoreAt z n o) e second).no_more b h) }
+no_more_on x y m n o e first second = record {
+  no_more = λ b h. first.no_more b ((subst (λ (z : ℕ). NoMoreAt z n o) e second).no_more b h);
+}
 
 -- a device that is up after two calls was so between them
 up_between : (a b c : Bool) → (b ≡ true → c ≡ true) → c ≡ false → b ≡ false
@@ -65,11 +73,14 @@ up_between a true c h e = let d : c ≡ true = h refl in absurd (false_is_not_tr
   false_is_not_true c e d = cc
 
 -- and over two calls one after the other
-pub stays_on : (s : State) (m : Device) (t : State) (n : Device) (u : State) (o : Device) → Stays s m t n → Stays t n u o → Stays s m u o
+pub stays_on : (s : State) (m : Device) (t : State) (n : Device) (u : State) (o : Device)
+    → Stays s m t n → Stays t n u o → Stays s m u o
 stays_on s m t n u o first second =
     let p : t.p ≡ s.p = first.same_p in
-    let in_t : (b : ℕ) → b < memory_blocks s.p → b < memory_blocks t.p = λ b l. subst (λ (q : Parameters). b < memory_blocks q) (sym p) l in
-    let low_t : (x : ℕ) → x < first_home s.p → x < first_home t.p = λ x l. subst (λ (q : Parameters). x < first_home q) (sym p) l in
+    let in_t : (b : ℕ) → b < memory_blocks s.p → b < memory_blocks t.p =
+    λ b l. subst (λ (q : Parameters). b < memory_blocks q) (sym p) l in
+    let low_t : (x : ℕ) → x < first_home s.p → x < first_home t.p =
+    λ x l. subst (λ (q : Parameters). x < first_home q) (sym p) l in
     record {
       as_long = second.as_long ∙ first.as_long;
       same_p = second.same_p ∙ p;
@@ -81,13 +92,18 @@ stays_on s m t n u o first second =
       guarded = record {
         low = λ x l. no_more_on x x m n o refl (first.guarded.low x l) (second.guarded.low x (low_t x l));
         old = λ b l.
-            let same = ap (λ (q : Parameters). number_of q (penult (cell_of t b))) p ∙ ap (number_of s.p) (first.cells b l).penult_same in
+            let same =
+            ap (λ (q : Parameters). number_of q (penult (cell_of t b))) p
+            ∙ ap (number_of s.p) (first.cells b l).penult_same in
             no_more_on (number_of s.p (penult (cell_of s b))) (number_of t.p (penult (cell_of t b))) m n o same
             (first.guarded.old b l) (second.guarded.old b (in_t b l));
         next = λ b l placed.
-            let same = ap (λ (q : Parameters). number_of q (target (cell_of t b))) p ∙ ap (number_of s.p) (first.cells b l).target_same in
+            let same =
+            ap (λ (q : Parameters). number_of q (target (cell_of t b))) p
+            ∙ ap (number_of s.p) (first.cells b l).target_same in
             no_more_on (number_of s.p (target (cell_of s b))) (number_of t.p (target (cell_of t b))) m n o same
-            (first.guarded.next b l placed) (second.guarded.next b (in_t b l) (placed_on b (cell_of s b) (cell_of t b) (first.cells b l) placed));
+            (first.guarded.next b l placed)
+            (second.guarded.next b (in_t b l) (placed_on b (cell_of s b) (cell_of t b) (first.cells b l) placed));
       };
       up = λ d.
           let before : n.down ≡ false = up_between m.down n.down o.down second.down d in
@@ -106,7 +122,8 @@ stays_on s m t n u o first second =
 abbrev pub StaysOverCalls : Type 0
 StaysOverCalls =
     ((s : State) (m : Device) → Stays s m s m)
-    × ((s : State) (m : Device) (t : State) (n : Device) (u : State) (o : Device) → Stays s m t n → Stays t n u o → Stays s m u o)
+    × ((s : State) (m : Device) (t : State) (n : Device) (u : State) (o : Device)
+    → Stays s m t n → Stays t n u o → Stays s m u o)
 
 abbrev pub CopiedStays : Type 0
 CopiedStays = (s : State) (m : Device) (t : State) (n : Device) → Stays s m t n → AreCopied s → AreCopied t

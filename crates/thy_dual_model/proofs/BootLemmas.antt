@@ -44,7 +44,7 @@ use Rattle.thy_recover.proofs.BootDrainLemmas.{drains_keep_boot}
 use Rattle.thy_recover.proofs.GoOnLemmas.{new_is_sound}
 use Rattle.thy_recover.proofs.EndLemmas.{never_refused}
 use Rattle.thy_recover.specs.Recovers.{HasReadAt}
-use Rattle.thy_record.specs.declared.image.BadImage.{BadImage}
+use Rattle.thy_record.specs.declared.bad_image.BadImage.{BadImage}
 use Rattle.thy_protocol.proofs.LayoutLemmas.{decode_by-nothing_back}
 use Rattle.thy_protocol.specs.VersionOne.{layout_of}
 use Rattle.thy_scheme.specs.Boots.{IsBootView, BootStays, BootDrains}

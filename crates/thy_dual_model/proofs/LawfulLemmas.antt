@@ -4,7 +4,7 @@ use Rattle.std.proofs.lemmas.List.{length-replicate}
 use Rattle.thy_base.specs.declared.config.Parameters.{Parameters}
 use Rattle.thy_base.specs.Device.{zero_block}
 use Rattle.thy_base.specs.Places.{dram_blocks}
-use Rattle.thy_cell.specs.Steps.{NewIsSound}
+use Rattle.thy_cell.specs.BetweenCheckpoints.{NewIsSound}
 use Rattle.thy_dram.specs.Contents.{Contents, fresh}
 use Rattle.thy_isa.specs.declared.state.CpuState.{CpuState}
 use Rattle.thy_isa.specs.declared.state.Status.TheVariants.{Running}

@@ -44,7 +44,8 @@ impl MemShelf {
 
 /// The bytes of the first file of this name.
 fn find<'a>(files: &'a [(String, Vec<u8>)], name: &str) -> Option<&'a [u8]>
-    ensures { MatchOption result (found (entries files.now) name.now ≡ None) (λ bytes. found (entries files.now) name.now ≡ Some bytes.now) }
+    ensures { MatchOption result (found (entries files.now) name.now ≡ None)
+        (λ bytes. found (entries files.now) name.now ≡ Some bytes.now) }
 {
     for file in files {
         if file.0.as_str() == name {
@@ -140,7 +141,9 @@ impl Shelf for MemShelf {
         ensures others { KeepsOthers (stock_of self.old) (stock_of self.new) name.now }
         ensures faults { PutCounts (stock_of self.old) (stock_of self.new) result }
         ensures failed { (result ≡ Err PutError.Failed) ↔ IsTrue (is_listed self.old.failing self.old.calls) }
-        ensures after { self.new ≡ record (called self.old) { files = if is_ok result then (name.now, bytes.now) ∷ self.old.files else self.old.files } }
+        ensures after { self.new ≡ record (called self.old) {
+          files = if is_ok result then (name.now, bytes.now) ∷ self.old.files else self.old.files;
+        } }
     {
         if self.fails() {
             return Err(PutError::Failed);

@@ -69,8 +69,10 @@ impl<W: Write> Sink for StdSink<W> {
     ghost stream = { λ s. stream_with (W.contents s.to) s.faults };
 
     fn write(&mut self, piece: &[u8]) -> Result<(), SinkError>
-        ensures whole { OnOk result (Took (stream_with (W.contents self.old.to) self.old.faults) (stream_with (W.contents self.new.to) self.new.faults) piece.now) }
-        ensures failed { OnErr result (TookPart (stream_with (W.contents self.old.to) self.old.faults) (stream_with (W.contents self.new.to) self.new.faults) piece.now) }
+        ensures whole { OnOk result (Took (stream_with (W.contents self.old.to) self.old.faults)
+            (stream_with (W.contents self.new.to) self.new.faults) piece.now) }
+        ensures failed { OnErr result (TookPart (stream_with (W.contents self.old.to) self.old.faults)
+            (stream_with (W.contents self.new.to) self.new.faults) piece.now) }
         ensures after { self.new.faults ≡ (if is_ok result then self.old.faults else next self.old.faults) }
     {
         let taken = write_on(&mut self.to, piece);

@@ -13,8 +13,8 @@ use Rattle.thy_base.specs.Geometry.{IsInRange, memory_blocks, console_room}
 use Rattle.thy_base.proofs.DeviceLemmas.{same_as_only, length-settled}
 use Rattle.thy_base.proofs.CrashLemmas.{Contains-stands}
 use Rattle.thy_isa.specs.declared.state.CpuState.{CpuState}
-use Rattle.thy_record.specs.declared.image.BadImage.{BadImage}
-use Rattle.thy_record.specs.declared.image.BadImage.TheVariants.{Header}
+use Rattle.thy_record.specs.declared.bad_image.BadImage.{BadImage}
+use Rattle.thy_record.specs.declared.bad_image.BadImage.TheVariants.{Header}
 use Rattle.thy_record.specs.Commit.{is_zero, epoch_of, commit_of, commit_fault}
 use Rattle.thy_record.specs.Cpu.{IsRecordOf, IsRecordable, record_of, record_fault}
 use Rattle.thy_record.specs.Decoded.{At}

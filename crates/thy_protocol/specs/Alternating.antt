@@ -6,7 +6,7 @@ use Rattle.thy_base.specs.declared.config.Parameters.{Parameters}
 use Rattle.thy_base.specs.Device.{Device, block_at, zero_block}
 use Rattle.thy_base.specs.Geometry.{IsInRange, memory_blocks}
 use Rattle.thy_isa.specs.declared.state.CpuState.{CpuState}
-use Rattle.thy_record.specs.declared.image.BadImage.TheVariants.{Header}
+use Rattle.thy_record.specs.declared.bad_image.BadImage.TheVariants.{Header}
 use Rattle.thy_record.specs.Commit.{is_zero, epoch_of, commit_of, commit_fault}
 use Rattle.thy_record.specs.Cpu.{IsRecordOf, IsRecordable, cpu_of_record, record_fault}
 use Rattle.thy_record.specs.Decoded.{At}

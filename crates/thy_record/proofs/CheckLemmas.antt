@@ -9,8 +9,8 @@ use Rattle.thy_base.specs.Places.{image_blocks}
 use Rattle.thy_isa.specs.Step.{State}
 use Rattle.thy_record.specs.declared.file.Found.{Found}
 use Rattle.thy_record.specs.declared.file.Found.TheVariants.{Nothing as FoundNothing, At as FoundAt}
-use Rattle.thy_record.specs.declared.image.BadImage.{BadImage}
-use Rattle.thy_record.specs.declared.image.BadImage.TheVariants.{Commit, Empty}
+use Rattle.thy_record.specs.declared.bad_image.BadImage.{BadImage}
+use Rattle.thy_record.specs.declared.bad_image.BadImage.TheVariants.{Commit, Empty}
 use Rattle.thy_record.specs.Commit.{is_zero, epoch_of, commit_fault}
 use Rattle.thy_record.specs.Cpu.{record_word}
 use Rattle.thy_record.specs.Decoded.{Nothing, Refused}

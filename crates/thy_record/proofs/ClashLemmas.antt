@@ -1,34 +1,16 @@
 -- The first fault of a table's entries, entry by entry; and entries in the bytes of a table.
-use Rattle.std.proofs.Common.{◌≡◌, ℕ, ◌+◌, ◌*◌, ◌/◌, ◌<◌, ◌≤◌, List, length, take, drop, Option, Some, None, sym, ◌∙◌, ap, arith}
-use Rattle.std.proofs.lemmas.List.{at_drop_more, at_drop_all, ext_get_or, get_or-take, length-take-le}
+use Rattle.std.proofs.Common.{◌≡◌, ℕ, ◌*◌, ◌/◌, ◌<◌, ◌≤◌, List, length, take, drop, Option, None, sym, ◌∙◌, ap, arith}
+use Rattle.std.proofs.lemmas.List.{at_drop_all, ext_get_or, get_or-take, length-take-le}
 use Rattle.std.proofs.lemmas.List.FromFn.{length-map-range_with_len, get_or-map-range_with_len}
-use Rattle.std.specs.Option.{option_or}
 use Rattle.thy_base.specs.LittleEndian.{number_at}
 use Rattle.thy_base.proofs.LittleEndianLemmas.{number_at-take}
-use Rattle.thy_record.specs.declared.image.BadImage.{BadImage}
+use Rattle.thy_record.specs.declared.bad_image.BadImage.{BadImage}
 use Rattle.thy_record.specs.Files.{table_in}
 use Rattle.thy_record.specs.Tables.{entry_at}
 use Rattle.thy_record.specs.TableBlocks.{entry_from}
-use Rattle.thy_record.specs.TableFaults.{entry_fault, first_clash}
+use Rattle.thy_record.specs.TableFaults.{first_clash}
 
--- ---- a search through the entries, of which the first i have no fault
-
--- the first fault is that of entry i, or else that of the entries behind it
-clash_step : (rule : ℕ → ℕ → Option BadImage) (table : List (Option ℕ)) (i : ℕ) → i < length table
-    → first_clash rule i (drop i table) ≡ option_or (entry_fault rule i (entry_at table i)) (first_clash rule (i + 1) (drop (i + 1) table))
-clash_step rule table i l = at_drop_more (first_clash rule i) table i None l
-
-pub clash_found : (rule : ℕ → ℕ → Option BadImage) (table : List (Option ℕ)) (i : ℕ) (bad : BadImage) → i < length table
-    → first_clash rule 0 table ≡ first_clash rule i (drop i table) → entry_fault rule i (entry_at table i) ≡ Some bad
-    → Some bad ≡ first_clash rule 0 table
-clash_found rule table i bad l before here =
-    sym (before ∙ clash_step rule table i l ∙ ap (λ x. option_or x (first_clash rule (i + 1) (drop (i + 1) table))) here)
-
-pub clash_passed : (rule : ℕ → ℕ → Option BadImage) (table : List (Option ℕ)) (i : ℕ) → i < length table
-    → first_clash rule 0 table ≡ first_clash rule i (drop i table) → entry_fault rule i (entry_at table i) ≡ None
-    → first_clash rule 0 table ≡ first_clash rule (i + 1) (drop (i + 1) table)
-clash_passed rule table i l before here =
-    before ∙ clash_step rule table i l ∙ ap (λ x. option_or x (first_clash rule (i + 1) (drop (i + 1) table))) here
+-- ---- a search that has come past the last entry
 
 pub clash_none : (rule : ℕ → ℕ → Option BadImage) (table : List (Option ℕ)) (i : ℕ) → length table ≤ i
     → first_clash rule 0 table ≡ first_clash rule i (drop i table) → None ≡ first_clash rule 0 table

@@ -8,7 +8,6 @@ use Rattle.thy_isa.specs.Regs.{reg_at, regs_with}
 use Rattle.thy_isa.specs.declared.state.CpuState.{CpuState}
 use Rattle.thy_record.specs.Words.{block_of}
 use Rattle.thy_record.specs.Cpu.{status_tag, status_value, cpu_words, cpu_block_of, record_word, record_words}
-use Rattle.thy_record.proofs.WordLemmas.{length-block_of}
 
 -- ---- the forty words
 
@@ -71,11 +70,6 @@ unfolding cpu_block_of
 same_block_words c epoch k ws h l eight each =
     ap block_of (ext_get_or 0 ws (take 8 (drop (8 * k) (cpu_words c epoch))) (eight ∙ sym (length-block_words c epoch k h l))
     (λ j below. let small : j < 8 = omega arith in each j small ∙ sym (block_words c epoch k j small)))
-
--- a block of the record has 64 bytes
-pub length-cpu_block_of : (c : CpuState) (epoch k : ℕ) → length c.regs ≡ 32 → k < 5 → length (cpu_block_of c epoch k).0 ≡ 64
-unfolding cpu_block_of
-length-cpu_block_of c epoch k h l = length-block_of (take 8 (drop (8 * k) (cpu_words c epoch))) (length-block_words c epoch k h l)
 
 -- ---- words of a record in order
 

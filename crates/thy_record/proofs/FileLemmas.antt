@@ -14,7 +14,7 @@ use Rattle.thy_base.proofs.BlockLemmas.{length-block_bytes, block_bytes-long}
 use Rattle.thy_base.proofs.LittleEndianLemmas.{number_at-take, number_at-drop}
 use Rattle.thy_flat.specs.Flat.{flat, AllLong}
 use Rattle.thy_flat.proofs.FlatLemmas.{length-flat, flat_part}
-use Rattle.thy_record.specs.declared.image.BadImage.TheVariants.{Empty}
+use Rattle.thy_record.specs.declared.bad_image.BadImage.TheVariants.{Empty}
 use Rattle.thy_record.specs.Decoded.{Refused}
 use Rattle.thy_record.specs.Words.{word_of}
 use Rattle.thy_record.specs.Commit.{epoch_of}

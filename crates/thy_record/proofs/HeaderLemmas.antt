@@ -4,7 +4,7 @@ use Rattle.std.proofs.lemmas.Bool.{eq-eqb}
 use Rattle.thy_base.specs.declared.block.Block.{Block}
 use Rattle.thy_base.specs.declared.config.Parameters.{Parameters}
 use Rattle.thy_base.specs.Geometry.{IsInRange}
-use Rattle.thy_record.specs.declared.image.BadImage.TheVariants.{Header, Version, Geometry}
+use Rattle.thy_record.specs.declared.bad_image.BadImage.TheVariants.{Header, Version, Geometry}
 use Rattle.thy_record.specs.Words.{word_of}
 use Rattle.thy_record.specs.Header.{header_magic, header_words, header_of, is_of_geometry, header_fault}
 use Rattle.thy_record.proofs.WordLemmas.{word_of-block_of}

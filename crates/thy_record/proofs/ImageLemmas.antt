@@ -13,8 +13,8 @@ use Rattle.thy_base.specs.Geometry.{IsInRange, console_room}
 use Rattle.thy_base.specs.Places.{slot_blocks, slot_place, image_blocks}
 use Rattle.thy_isa.specs.declared.state.CpuState.{CpuState}
 use Rattle.thy_isa.specs.Step.{State}
-use Rattle.thy_record.specs.declared.image.BadImage.{BadImage}
-use Rattle.thy_record.specs.declared.image.BadImage.TheVariants.{Commit, Status, ConsoleLength}
+use Rattle.thy_record.specs.declared.bad_image.BadImage.{BadImage}
+use Rattle.thy_record.specs.declared.bad_image.BadImage.TheVariants.{Commit, Status, ConsoleLength}
 use Rattle.thy_record.specs.Words.{word_of}
 use Rattle.thy_record.specs.Commit.{commit_magic, is_zero, epoch_of, has_zero_rest, commit_fault}
 use Rattle.thy_record.specs.Cpu.{cpu_of_record, record_word, is_status, IsRecordable}

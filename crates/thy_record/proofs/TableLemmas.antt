@@ -1,6 +1,6 @@
 -- Entries of tables as words.
 use Rattle.std.proofs.Common.{◌≡◌, ℕ, ◌-◌, ◌^◌, ◌<◌, List, length, map, slice_index, Option, Some, None, refl, sym, ◌∙◌, arith, ◌*◌, ◌++◌, take, drop, ap, subst}
-use Rattle.std.proofs.lemmas.List.{take-map, drop-map, length-map, get_or-map, ext_get_or}
+use Rattle.std.proofs.lemmas.List.{take-map, drop-map, length-map, get_or-map}
 use Rattle.thy_record.specs.Tables.{Tables, entry_at}
 use Rattle.thy_record.specs.TableBlocks.{entry_word, entry_from, HaveWords, table_block_of}
 use Rattle.thy_record.specs.Words.{word_of, block_of}
@@ -29,13 +29,6 @@ entry_back entries i have l =
     (subst (λ x. x < 2 ^ 64) (sym here) (entry_word-fits entries i have))
     ∙ here)
     ∙ entry_from-entry_word (entry_at entries i)
-
--- words that are those of the entries, one by one
-pub same_words : (ws : List ℕ) (entries : List (Option ℕ)) → length ws ≡ length entries
-    → ((j : ℕ) → j < length ws → slice_index ws j ≡ entry_word (entry_at entries j)) → ws ≡ map entry_word entries
-same_words ws entries same each =
-    ext_get_or 0 ws (map entry_word entries) (same ∙ sym (length-map entries entry_word))
-    (λ j l. each j l ∙ sym (get_or-map entry_word entries j None 0 (omega (arith, same))))
 
 -- eight entries of the tables are a block of them
 pub table_block_of-entries : (t : Tables) (k : ℕ) (entries : List (Option ℕ)) → entries ≡ take 8 (drop (8 * k) (t.btt ++ t.ptt))

@@ -6,8 +6,8 @@ use Rattle.std.specs.Option.{option_or, option_map}
 use Rattle.thy_base.specs.declared.config.Parameters.{Parameters}
 use Rattle.thy_base.specs.Geometry.{memory_blocks}
 use Rattle.thy_base.specs.Store.{page_of}
-use Rattle.thy_record.specs.declared.image.BadImage.{BadImage}
-use Rattle.thy_record.specs.declared.image.BadImage.TheVariants.{Empty, Header, Version, Geometry, Commit, TableIndex, TableTwice, BlockUnderPage, Status, ConsoleLength}
+use Rattle.thy_record.specs.declared.bad_image.BadImage.{BadImage}
+use Rattle.thy_record.specs.declared.bad_image.BadImage.TheVariants.{Empty, Header, Version, Geometry, Commit, TableIndex, TableTwice, BlockUnderPage, Status, ConsoleLength}
 use Rattle.thy_record.specs.Tables.{Tables, Lists, entry_of}
 use Rattle.thy_record.specs.TableFaults.{entry_fault, first_clash, index_rule, twice_rule, under_rule, index_fault, twice_fault, under_fault, tables_fault}
 use Rattle.thy_record.specs.TableRefusals.{ListsBeyond, BlockBeyond, PageBeyond, ListTwice, BlockTwice, PageTwice, IsFirstBeyond, IsFirstTwice, IsFirstUnder, Says}

@@ -26,13 +26,3 @@ word_of-block_of ws i l fits =
     sym (little_from-drop 8 (8 * i) (flat_map (little_bytes 8) ws))
     ∙ ap (little_number 8) (drop-words ws i l)
     ∙ little_number-reads_back 8 (slice_index ws i) (flat_map (little_bytes 8) (drop (suc i) ws)) fits
-
--- how many bytes words have
-length-words : (ws : List ℕ) → length (flat_map (little_bytes 8) ws) ≡ 8 * length ws
-length-words [] = refl
-length-words (w ∷ ws) = let e = length-words ws in omega (arith, e)
-
--- a block of eight words has 64 bytes
-pub length-block_of : (ws : List ℕ) → length ws ≡ 8 → length (block_of ws).0 ≡ 64
-unfolding block_of number_bytes
-length-block_of ws l = length-words ws ∙ ap (λ n. 8 * n) l

@@ -8,8 +8,8 @@ use Rattle.thy_base.specs.Places.{image_blocks}
 use Rattle.thy_flat.specs.Flat.{flat}
 use Rattle.thy_record.specs.declared.file.Found.{Found}
 use Rattle.thy_record.specs.declared.file.Found.TheVariants.{Nothing as FoundNothing, At as FoundAt}
-use Rattle.thy_record.specs.declared.image.BadImage.{BadImage}
-use Rattle.thy_record.specs.declared.image.BadImage.TheVariants.{Empty}
+use Rattle.thy_record.specs.declared.bad_image.BadImage.{BadImage}
+use Rattle.thy_record.specs.declared.bad_image.BadImage.TheVariants.{Empty}
 use Rattle.thy_record.specs.Decoded.{Decoded, Nothing, Refused, At}
 use Rattle.thy_record.specs.Images.{memory_in, image_fault, decode_with}
 use Rattle.thy_record.specs.Slots.{tables_in}

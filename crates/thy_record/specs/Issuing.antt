@@ -140,7 +140,8 @@ DrainKeepsIssuing =
     → IsIssuing p old cpu t epoch memory k → new ≡ drained old → IsIssuing p new cpu t epoch memory k
 
 -- the next image, with the commit block of this epoch, is the checkpoint, tells its tables, and lacks no other write
-pub record IsIssuedCheckpoint (p : Parameters) (ceiling : ℕ) (n : Device) (cpu : CpuState) (t : Tables) (epoch : ℕ) (memory : List Block) : Type 0 where
+pub record IsIssuedCheckpoint (p : Parameters) (ceiling : ℕ) (n : Device) (cpu : CpuState) (t : Tables) (epoch : ℕ)
+    (memory : List Block) : Type 0 where
   pub told : IsToldBy p (next_image n (commit_of epoch)) epoch t
   pub decodes : decode_image p ceiling (next_image n (commit_of epoch)) ≡ At epoch (state_from p cpu memory)
   pub issued : IsIssued (looked p) n (next_image n (commit_of epoch))

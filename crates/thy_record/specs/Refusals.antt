@@ -1,7 +1,7 @@
 -- What the refusals of an image are called.
 use Rattle.std.specs.Prelude.{ℕ, List, codes}
-use Rattle.thy_record.specs.declared.image.BadImage.{BadImage}
-use Rattle.thy_record.specs.declared.image.BadImage.TheVariants.{Empty, Header, Version, Geometry, Commit, TableIndex, TableTwice, BlockUnderPage, Status, ConsoleLength}
+use Rattle.thy_record.specs.declared.bad_image.BadImage.{BadImage}
+use Rattle.thy_record.specs.declared.bad_image.BadImage.TheVariants.{Empty, Header, Version, Geometry, Commit, TableIndex, TableTwice, BlockUnderPage, Status, ConsoleLength}
 
 -- the number and the name of each
 abbrev pub called : BadImage → ℕ × List ℕ

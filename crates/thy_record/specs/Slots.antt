@@ -8,7 +8,7 @@ use Rattle.thy_base.specs.Demands.{first_fault}
 use Rattle.thy_base.specs.Device.{block_at}
 use Rattle.thy_base.specs.Places.{slot_blocks}
 use Rattle.thy_isa.specs.declared.state.CpuState.{CpuState}
-use Rattle.thy_record.specs.declared.image.BadImage.{BadImage}
+use Rattle.thy_record.specs.declared.bad_image.BadImage.{BadImage}
 use Rattle.thy_record.specs.Cpu.{cpu_block_of, record_word, epoch_demand, status_demands}
 use Rattle.thy_record.specs.Tables.{Tables}
 use Rattle.thy_record.specs.TableBlocks.{entry_from, table_block_of}

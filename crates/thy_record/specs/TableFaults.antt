@@ -4,8 +4,8 @@ use Rattle.std.specs.Option.{option_or, option_map}
 use Rattle.thy_base.specs.declared.config.Parameters.{Parameters}
 use Rattle.thy_base.specs.Geometry.{memory_blocks}
 use Rattle.thy_base.specs.Store.{page_of}
-use Rattle.thy_record.specs.declared.image.BadImage.{BadImage}
-use Rattle.thy_record.specs.declared.image.BadImage.TheVariants.{TableIndex, TableTwice, BlockUnderPage}
+use Rattle.thy_record.specs.declared.bad_image.BadImage.{BadImage}
+use Rattle.thy_record.specs.declared.bad_image.BadImage.TheVariants.{TableIndex, TableTwice, BlockUnderPage}
 use Rattle.thy_record.specs.Tables.{Tables, entry_of}
 
 -- the fault of an entry that lists a number, by a rule for entry k that lists n

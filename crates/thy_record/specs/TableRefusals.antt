@@ -3,8 +3,8 @@ use Rattle.std.specs.Prelude.{◌≡◌, ℕ, ◌+◌, ◌<◌, ◌≤◌, lengt
 use Rattle.thy_base.specs.declared.config.Parameters.{Parameters}
 use Rattle.thy_base.specs.Geometry.{memory_blocks}
 use Rattle.thy_base.specs.Store.{page_of}
-use Rattle.thy_record.specs.declared.image.BadImage.{BadImage}
-use Rattle.thy_record.specs.declared.image.BadImage.TheVariants.{TableIndex, TableTwice, BlockUnderPage}
+use Rattle.thy_record.specs.declared.bad_image.BadImage.{BadImage}
+use Rattle.thy_record.specs.declared.bad_image.BadImage.TheVariants.{TableIndex, TableTwice, BlockUnderPage}
 use Rattle.thy_record.specs.Tables.{Tables, Lists}
 use Rattle.thy_record.specs.TableFaults.{tables_fault}
 

@@ -1,9 +1,20 @@
-//! Blocks as eight numbers of 64 bits, the lowest byte of each first.
-ghost use Rattle.std.specs.Prelude.{◌≡◌, ◌<◌};
+//! Blocks as parts of bytes, and as eight numbers of 64 bits, the lowest byte of each first.
+ghost use Rattle.std.specs.Prelude.{◌≡◌, ◌/◌, ◌<◌, length};
+ghost use Rattle.thy_record.specs.Files.{block_in as block_of_bytes};
 ghost use Rattle.thy_record.specs.Words.{word_of, block_of};
 
 use byteorder::{ByteOrder, LittleEndian};
-use thy_base::Block;
+use thy_base::{BLOCK_SIZE, Block};
+
+/// Block `k` of bytes, 64 a block.
+pub fn block_in(bytes: &[u8], k: usize) -> Block
+    requires { k < length bytes.now / 64 }
+    ensures { result ≡ block_of_bytes bytes.now k }
+{
+    let mut block = [0; BLOCK_SIZE];
+    block.copy_from_slice(&bytes[BLOCK_SIZE * k..BLOCK_SIZE * k + BLOCK_SIZE]);
+    Block(block)
+}
 
 /// Word `i` of a block, 0 to 7.
 #[tactic(auto, unfolding(crate::specs::Words::word_of))]

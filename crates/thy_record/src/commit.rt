@@ -2,8 +2,8 @@
 ghost use Rattle.std.specs.Prelude.{◌≡◌};
 ghost use Rattle.thy_record.specs.Commit.{commit_of, commit_fault as fault_of_commit, is_zero as has_zeros, has_zero_rest as zero_rest};
 
+use crate::bad_image::BadImage;
 use crate::block_words::{block_with, word};
-use crate::image::BadImage;
 use thy_base::Block;
 
 /// The bytes `THYNCMT1`, with which a commit block begins, as a number.

@@ -1,11 +1,10 @@
 //! The record of the processor, the first five blocks of a slot: forty words, pc, x1 to x31, count,
 //! cursor, console length, break, the status's tag and value, epoch, floor.
 ghost use Rattle.std.specs.Prelude.{◌≡◌, ◌<◌, ◌∷◌, length, slice_index};
-ghost use Rattle.thy_record.specs.Cpu.{cpu_words, cpu_block_of, cpu_of_record, record_word, record_words, record_fault as fault_of_record, status_tag, status_value, status_of, is_status as is_status_of};
+ghost use Rattle.thy_record.specs.Cpu.{cpu_words, cpu_block_of, cpu_of_record, record_word, record_words, status_tag, status_value, status_of, is_status as is_status_of};
 
 use crate::block_words::{block_with, word};
-use crate::image::BadImage;
-use thy_base::{Block, Geometry};
+use thy_base::Block;
 use thy_isa::{CpuState, Reg, Regs, Status};
 
 // A status as two words.
@@ -120,30 +119,5 @@ pub fn cpu_state(blocks: &[Block; 5]) -> CpuState
         floor: word_at(blocks, 39),
         count: word_at(blocks, 32),
         status: status_from(word_at(blocks, 36), word_at(blocks, 37)),
-    }
-}
-
-/// The first fault of a record under a commit block of this epoch, if it has one: of another epoch, a
-/// status without meaning or a count that is not below the ceiling, a console longer than its pages.
-#[tactic(auto, unfolding(crate::specs::Cpu::record_fault))]
-pub fn record_fault(
-    blocks: &[Block; 5],
-    epoch: u64,
-    geometry: &Geometry,
-    ceiling: u64,
-) -> Option<BadImage>
-    ensures { result ≡ fault_of_record blocks.now epoch geometry.now ceiling }
-{
-    if word_at(blocks, 38) != epoch {
-        return Some(BadImage::Commit);
-    }
-    let stands = is_status(word_at(blocks, 36), word_at(blocks, 37))
-        && word_at(blocks, 32) < ceiling;
-    if !stands {
-        Some(BadImage::Status)
-    } else if word_at(blocks, 34) <= geometry.console_room() {
-        None
-    } else {
-        Some(BadImage::ConsoleLength)
     }
 }

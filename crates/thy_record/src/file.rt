@@ -5,11 +5,11 @@ ghost use Rattle.thy_base.specs.Places.{slot_blocks, image_blocks};
 ghost use Rattle.thy_record.specs.Files.{blocks_of, file_fault, decode_file, found_in};
 ghost use Rattle.thy_record.specs.Images.{slot_in as slot_of_image};
 
-use crate::block_words::word;
+use crate::bad_image::BadImage;
+use crate::block_words::{block_in, word};
 use crate::commit::{commit_fault, is_zero};
 use crate::header::header_fault;
-use crate::image::BadImage;
-use crate::slot::{block_in, slot_fault};
+use crate::slot::slot_fault;
 use thy_base::{BLOCK_SIZE, Block, Geometry};
 
 /// What an image without a fault has.

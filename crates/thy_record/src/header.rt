@@ -2,8 +2,8 @@
 ghost use Rattle.std.specs.Prelude.{◌≡◌};
 ghost use Rattle.thy_record.specs.Header.{header_of, header_fault as fault_of_header, is_of_geometry as of_geometry};
 
+use crate::bad_image::BadImage;
 use crate::block_words::{block_with, word};
-use crate::image::BadImage;
 use thy_base::{Block, Geometry};
 
 /// The bytes `THYNHDR1`, with which a header begins, as a number.

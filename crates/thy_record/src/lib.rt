@@ -7,13 +7,13 @@
 //! thy_isa; on it stand thy_text and all from thy_control on.
 #![tactic(auto)]
 
+mod bad_image;
 mod block_words;
 mod commit;
 mod cpu;
 mod engine_step;
 mod file;
 mod header;
-mod image;
 mod laws;
 mod restored;
 mod slot;
@@ -21,13 +21,13 @@ mod start;
 mod table_faults;
 mod tables;
 
-pub use block_words::{block_with, word};
+pub use bad_image::BadImage;
+pub use block_words::{block_in, block_with, word};
 pub use commit::{COMMIT_MAGIC, commit_block, commit_fault, is_zero};
-pub use cpu::{cpu_block, cpu_state, record_fault};
+pub use cpu::{cpu_block, cpu_state};
 pub use engine_step::EngineStep;
 pub use file::{Found, check};
 pub use header::{HEADER_MAGIC, VERSION, header_block, header_fault};
-pub use image::BadImage;
 pub use laws::{
     ceiling_grows, decoded_is_whole, each_block_has_its_place, faultless_tables, file_decodes,
     free_is_not_looked_at, header_and_commit_read_back, issued_decodes, issuing_goes_on,
@@ -38,4 +38,4 @@ pub use laws::{
 pub use restored::state;
 pub use slot::{cpu_in, listed_block, listed_page, slot_fault};
 pub use start::Start;
-pub use tables::{table_block, table_entry};
+pub use tables::table_block;

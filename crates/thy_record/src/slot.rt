@@ -2,29 +2,20 @@
 ghost use Rattle.std.specs.Prelude.{◌≡◌, ◌*◌, ◌/◌, ◌<◌, ◌≤◌, length};
 ghost use Rattle.thy_base.specs.Places.{slot_blocks};
 ghost use Rattle.thy_record.specs.Cpu.{record_word, cpu_of_record};
-ghost use Rattle.thy_record.specs.Files.{block_in as block_of_bytes, blocks_of, table_in};
+ghost use Rattle.thy_record.specs.Files.{blocks_of, table_in};
 ghost use Rattle.thy_record.specs.Tables.{entry_at};
 ghost use Rattle.thy_record.specs.Slots.{tables_in, status_fault as fault_of_status, slot_fault as fault_of_slot};
 
+use crate::bad_image::BadImage;
+use crate::block_words::block_in;
 use crate::cpu::{cpu_state, is_status};
-use crate::image::BadImage;
 use crate::table_faults::{entry, tables_fault};
 use byteorder::{ByteOrder, LittleEndian};
-use thy_base::{BLOCK_SIZE, Block, Geometry};
+use thy_base::{BLOCK_SIZE, Geometry};
 use thy_isa::CpuState;
 
 /// How many bytes the processor's record has.
 const RECORD_SIZE: usize = 5 * BLOCK_SIZE;
-
-// Block k of bytes.
-pub(crate) fn block_in(bytes: &[u8], k: usize) -> Block
-    requires { k < length bytes.now / 64 }
-    ensures { result ≡ block_of_bytes bytes.now k }
-{
-    let mut block = [0; BLOCK_SIZE];
-    block.copy_from_slice(&bytes[BLOCK_SIZE * k..BLOCK_SIZE * k + BLOCK_SIZE]);
-    Block(block)
-}
 
 // Word i of a slot.
 fn word_in(slot: &[u8], i: usize) -> u64

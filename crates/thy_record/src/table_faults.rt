@@ -4,7 +4,7 @@ ghost use Rattle.thy_record.specs.Files.{table_in, tables_from};
 ghost use Rattle.thy_record.specs.Tables.{entry_at, entry_of as entry_that_lists};
 ghost use Rattle.thy_record.specs.TableFaults.{first_clash, index_rule, twin_of, twice_rule, under_rule, tables_fault as fault_of_tables};
 
-use crate::image::BadImage;
+use crate::bad_image::BadImage;
 use crate::tables::entry_from_word;
 use byteorder::{ByteOrder, LittleEndian};
 use thy_base::Geometry;

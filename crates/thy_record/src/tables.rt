@@ -1,9 +1,9 @@
 //! The blocks of the tables, eight entries each.
 ghost use Rattle.std.specs.Prelude.{◌≡◌, ◌^◌, ◌<◌, map};
 ghost use Rattle.thy_record.specs.TableBlocks.{entry_word as word_of_entry, entry_from, HaveWords};
-ghost use Rattle.thy_record.specs.Words.{word_of, block_of};
+ghost use Rattle.thy_record.specs.Words.{block_of};
 
-use crate::block_words::{block_with, word};
+use crate::block_words::block_with;
 use thy_base::Block;
 
 // An entry as a word: 0 where it is empty, else one more than its number.
@@ -38,12 +38,4 @@ pub(crate) fn entry_from_word(word: u64) -> Option<u64>
         0 => None,
         listed => Some(listed - 1),
     }
-}
-
-/// Entry `i` of a block of a table, 0 to 7.
-pub fn table_entry(block: &Block, i: u64) -> Option<u64>
-    requires { i < 8 }
-    ensures { result ≡ entry_from (word_of block.now i) }
-{
-    entry_from_word(word(block, i))
 }

@@ -7,7 +7,7 @@ use Rattle.thy_base.specs.Geometry.{memory_blocks}
 use Rattle.thy_base.specs.Places.{number_of, slot_place, slot_blocks}
 use Rattle.thy_base.specs.declared.place.Place.TheVariants.{AlternatePage}
 use Rattle.thy_isa.specs.Step.{State as Plain}
-use Rattle.thy_record.specs.declared.image.BadImage.{BadImage}
+use Rattle.thy_record.specs.declared.bad_image.BadImage.{BadImage}
 use Rattle.thy_record.specs.Slots.{slot_fault}
 use Rattle.thy_control.specs.State.{State}
 use Rattle.thy_control.specs.Boot.{with_frame}

@@ -11,7 +11,7 @@ use Rattle.thy_base.specs.Bytes.{written}
 use Rattle.thy_base.specs.Device.{Device, block_at, newest, newest_over, zero_block}
 use Rattle.thy_base.specs.declared.nvm.Write.{Write}
 use Rattle.thy_base.specs.Places.{slot_blocks, slot_place, image_blocks}
-use Rattle.thy_record.specs.declared.image.BadImage.{BadImage}
+use Rattle.thy_record.specs.declared.bad_image.BadImage.{BadImage}
 use Rattle.thy_record.specs.Commit.{is_zero, epoch_of, commit_fault}
 use Rattle.thy_record.specs.Decoded.{Nothing, Refused}
 use Rattle.thy_record.specs.Files.{block_in, blocks_of}

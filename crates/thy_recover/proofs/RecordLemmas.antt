@@ -13,8 +13,8 @@ use Rattle.thy_isa.specs.OnBlocks.{state_from}
 use Rattle.thy_isa.specs.Step.{cpu_of}
 use Rattle.thy_isa.specs.Storable.{IsStatus, IsStorable}
 use Rattle.thy_isa.proofs.StorableLaws.{steps-storable}
-use Rattle.thy_record.specs.declared.image.BadImage.{BadImage}
-use Rattle.thy_record.specs.declared.image.BadImage.TheVariants.{Status as BadStatus, ConsoleLength}
+use Rattle.thy_record.specs.declared.bad_image.BadImage.{BadImage}
+use Rattle.thy_record.specs.declared.bad_image.BadImage.TheVariants.{Status as BadStatus, ConsoleLength}
 use Rattle.thy_record.specs.Cpu.{status_tag, status_value, is_status, record_word, cpu_of_record, IsRecordable}
 use Rattle.thy_record.specs.Slots.{tables_in, epoch_fault, status_fault, slot_fault}
 use Rattle.thy_record.specs.TableFaults.{tables_fault}

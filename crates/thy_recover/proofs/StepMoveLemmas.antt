@@ -7,7 +7,7 @@ use Rattle.thy_base.specs.Geometry.{memory_blocks}
 use Rattle.thy_base.specs.Places.{slot_blocks}
 use Rattle.thy_crash.specs.Saved.{Kept, guarded}
 use Rattle.thy_crash.proofs.SparesLemmas.{Spares-same}
-use Rattle.thy_record.specs.declared.image.BadImage.{BadImage}
+use Rattle.thy_record.specs.declared.bad_image.BadImage.{BadImage}
 use Rattle.thy_control.specs.State.{State, AreSoundTables}
 use Rattle.thy_view.specs.Action.{after}
 use Rattle.thy_view.specs.CoreStep.{CoreStep}

@@ -6,7 +6,7 @@ use Rattle.thy_base.specs.Places.{image_blocks}
 use Rattle.thy_crash.specs.Saved.{Kept, InDoubt}
 use Rattle.thy_dram.specs.Contents.{Contents}
 use Rattle.thy_isa.specs.Step.{State as Plain}
-use Rattle.thy_record.specs.declared.image.BadImage.{BadImage}
+use Rattle.thy_record.specs.declared.bad_image.BadImage.{BadImage}
 use Rattle.thy_record.specs.Cpu.{cpu_of_record}
 use Rattle.thy_record.specs.Images.{decode_image}
 use Rattle.thy_control.specs.State.{State, AreSoundTables, new_state}

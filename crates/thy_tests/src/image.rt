@@ -6,9 +6,9 @@ use crate::geometry::geometry_of;
 use std::alloc::{AllocError, Global};
 use std::process::Abort;
 use std::test::Fail;
-use thy_base::{BLOCK_SIZE, Block, Geometry, Parameters};
+use thy_base::{BLOCK_SIZE, Geometry, Parameters};
 use thy_isa::{MachState, Status};
-use thy_record::{BadImage, Found, check, header_block, state, table_block, table_entry};
+use thy_record::{BadImage, Found, check, header_block, state, table_block};
 
 /// The smallest machine: 8 pages, one of them the console's, and 8 entries in each table. Its image has the header,
 /// the commit block, slots of 7 blocks from block 2 and block 9 on, 512 homes from block 16 on, 8 alternate blocks
@@ -147,14 +147,11 @@ fn a_header_and_a_table_are_their_bytes(rt: HostRuntime) -> Result<(), Fail> {
     let block = table_block(&entries);
     expect(&rt, starts(&block.0, &[6, 0, 0, 0, 0, 0, 0, 0]), true);
     expect(&rt, starts(&block.0[56..], &[1, 0, 0, 0, 0, 0, 0, 0]), true);
-    expect(&rt, table_entry(&block, 0), Some(5));
-    expect(&rt, table_entry(&block, 1), None);
-    expect(&rt, table_entry(&Block([0xff; 64]), 7), Some(u64::MAX - 1));
     Ok(())
 }
 
 /// Two words of the image with other values, and what it is refused for then; the second may be the first.
-static REFUSALS: [(usize, u64, usize, u64, BadImage); 32] = [
+static REFUSALS: [(usize, u64, usize, u64, BadImage); 33] = [
     (0, 0, 0, 0, BadImage::Header),
     (1, 0, 1, 0, BadImage::Version),
     (1, 2, 2, 0, BadImage::Version),
@@ -170,6 +167,7 @@ static REFUSALS: [(usize, u64, usize, u64, BadImage); 32] = [
     (10, 1, 10, 1, BadImage::Commit),
     (15, 1, SLOT + 40, 999, BadImage::Commit),
     (SLOT + 38, 2, SLOT + 40, 999, BadImage::Commit),
+    (SLOT + 38, 2, SLOT + 32, CEILING, BadImage::Commit),
     (SLOT + 41, 513, SLOT + 43, 6, BadImage::TableIndex(1)),
     (SLOT + 50, 9, SLOT + 43, 6, BadImage::TableIndex(10)),
     (SLOT + 50, 9, SLOT + 41, 513, BadImage::TableIndex(1)),
@@ -203,6 +201,26 @@ fn an_image_is_refused_for_its_first_fault(rt: HostRuntime) -> Result<(), Fail> 
         put(image.as_mut_slice(), *i, *value);
         put(image.as_mut_slice(), *j, *other);
         expect_at(&rt, check(&image, &geometry, CEILING), Err(*bad), row);
+    }
+    Ok(())
+}
+
+/// Two words of the image with other values, with which it is accepted: statuses and a record at their bounds.
+static BOUNDS: [(usize, u64, usize, u64); 3] = [
+    (SLOT + 36, 1, SLOT + 37, 255),
+    (SLOT + 36, 2, SLOT + 37, 7),
+    (SLOT + 32, CEILING - 1, SLOT + 34, 4096),
+];
+
+#[test]
+fn a_record_at_its_bounds_is_accepted(rt: HostRuntime) -> Result<(), Fail> {
+    let geometry = geometry(&rt, rt.alloc());
+    for (row, (i, value, j, other)) in BOUNDS.iter().enumerate() {
+        let mut image = image(rt.alloc())?;
+        put(image.as_mut_slice(), *i, *value);
+        put(image.as_mut_slice(), *j, *other);
+        let found = check(&image, &geometry, CEILING);
+        expect_at(&rt, found, Ok(Found::At(3)), row);
     }
     Ok(())
 }

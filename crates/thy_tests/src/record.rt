@@ -9,7 +9,7 @@ use thy_base::{Block, Geometry, Parameters};
 use thy_isa::{CpuState, Reg, Regs, Status};
 use thy_record::{
     BadImage, commit_block, commit_fault, cpu_block, cpu_state, header_block, header_fault,
-    is_zero, record_fault, word,
+    is_zero, word,
 };
 
 /// Numbers of a machine with 256 pages, one of them the console's.
@@ -59,13 +59,6 @@ fn sample() -> CpuState
         count: 11,
         status: Status::Exited(7),
     }
-}
-
-/// The fault of a record of zeros but for two words.
-fn fault(geometry: &Geometry, i: usize, value: u64, j: usize, other: u64) -> Option<BadImage> {
-    let last = with_word(with_word(Block::ZERO, i, value), j, other);
-    let blocks = [Block::ZERO, Block::ZERO, Block::ZERO, Block::ZERO, last];
-    record_fault(&blocks, 0, geometry, 5)
 }
 
 /// The header of that machine.
@@ -175,29 +168,5 @@ fn a_commit_block_at_the_ceiling_is_refused(rt: HostRuntime) {
     for i in 2..8 {
         let other = with_word(commit, i, 1);
         expect_at(&rt, commit_fault(&other, 6), Some(BadImage::Commit), i);
-    }
-}
-
-/// Two words of a record's last block, each with its value, and the fault of the record.
-static RECORDS: [(usize, u64, usize, u64, Option<BadImage>); 11] = [
-    (4, 0, 5, 0, None),
-    (4, 0, 5, 1, Some(BadImage::Status)),
-    (4, 1, 5, 255, None),
-    (4, 1, 5, 256, Some(BadImage::Status)),
-    (4, 2, 5, 7, None),
-    (4, 2, 5, 8, Some(BadImage::Status)),
-    (4, 3, 5, 0, Some(BadImage::Status)),
-    (0, 4, 2, 4096, None),
-    (0, 5, 2, 4097, Some(BadImage::Status)),
-    (0, 4, 2, 4097, Some(BadImage::ConsoleLength)),
-    (0, 5, 6, 1, Some(BadImage::Commit)),
-];
-
-#[test]
-fn a_record_is_refused_for_its_first_fault(rt: HostRuntime) {
-    let geometry = geometry(&rt, rt.alloc());
-    for (row, (i, value, j, other, want)) in RECORDS.iter().enumerate() {
-        let got = fault(&geometry, *i, *value, *j, *other);
-        expect_at(&rt, got, *want, row);
     }
 }
