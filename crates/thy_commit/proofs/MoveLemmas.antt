@@ -40,7 +40,7 @@ use Rattle.thy_commit.specs.declared.next.Next.TheVariants.{Nothing, Copies, Pag
 use Rattle.thy_commit.specs.Items.{Item, SlotItem, item, is_under_way, copy_or, page_or_slot, page_item, next_after}
 use Rattle.thy_commit.specs.Progress.{Progress, IsDone, IsPast, slot_number, slot_block, device_after, FailsItem}
 use Rattle.thy_commit.specs.Versions.{lasts}
-use Rattle.thy_commit.specs.Written.{HasWritten, HasStood}
+use Rattle.thy_commit.specs.Written.{HasWrittenSlot, HasWrittenBefore}
 use Rattle.thy_commit.specs.Moves.{Checkpoints, saved_at, standing_at, checkpoints_after, standing_failed, is_settled, HasNext, IsKeptBy, IsMadeFor, IsNextBy, ItemsMove, NextIsTold, StaysMove, FailedItemsMove}
 use Rattle.thy_commit.proofs.GuardLemmas.{Spares-stays, Spares-stays_next, Spares-two}
 use Rattle.thy_commit.proofs.DoneLemmas.{AreCopied-done}
@@ -109,7 +109,7 @@ module _ (copy : CopyKeeps) (write : PageWriteKeeps) (others : PageWriteKeepsOth
 
 -- the next image is that of the sealed mark, and lacks its commit block alone
 module _ (o : Origin) (e : Progress) (s : State) (m : Device) (c : Checkpoints) (tables : AreSoundTables s) (same : s.p ≡ e.p) (geometry : e.p ≡ o.geometry)
-    (made : IsMadeFor o e s m c) (written : HasWritten e s m (slot_blocks e.p)) where
+    (made : IsMadeFor o e s m c) (written : HasWrittenSlot e s m (slot_blocks e.p)) where
   abbrev made_image : List Block
   made_image = next_image m (commit_of e.epoch)
 
@@ -142,7 +142,7 @@ module _ (copy : CopyKeeps) (write : PageWriteKeeps) (others : PageWriteKeepsOth
   sealed-move old new n move =
       subst (λ (x : Option Mark). Move o (layout_of o) (standing m old c.kept x) (standing n new c.kept x)) (sym made.sealed) move
 
-  moves-next : (q : Next) → ((k : ℕ) → q ≡ Slot k → k < slot_blocks e.p) → HasStood q e s m → is_under_way q ≡ true
+  moves-next : (q : Next) → ((k : ℕ) → q ≡ Slot k → k < slot_blocks e.p) → HasWrittenBefore q e s m → is_under_way q ≡ true
       → IsFramed m (device_after e (item q s) s m) → (is_settled q ≡ true → block_at c.next 1 ≡ commit_of e.epoch)
       → Move o (layout_of o) (standing m (saved_at q c) c.kept c.sealed)
       (standing_at (record e { next = next_after e.p (item q s) }) (device_after e (item q s) s m) (checkpoints_after (item q s) e m c))
@@ -170,7 +170,7 @@ items_move copy write others o e s m c sound tables sized fits hold h way up fra
 
 pub next_is_told : NextIsTold
 next_is_told o e s m c tables fits h settle geometry made = by_next e.next settle h where
-  told : HasWritten e s m (slot_blocks e.p) → IsNextBy o e s (next_image m (commit_of e.epoch))
+  told : HasWrittenSlot e s m (slot_blocks e.p) → IsNextBy o e s (next_image m (commit_of e.epoch))
   told written =
       let p : Parameters = o.geometry in
       let image : List Block = next_image m (commit_of e.epoch) in
@@ -192,7 +192,7 @@ next_is_told o e s m c tables fits h settle geometry made = by_next e.next settl
         whole = issuing.tables;
       }
 
-  by_next : (q : Next) → q ≡ Settle → HasStood q e s m → IsNextBy o e s (next_image m (commit_of e.epoch))
+  by_next : (q : Next) → q ≡ Settle → HasWrittenBefore q e s m → IsNextBy o e s (next_image m (commit_of e.epoch))
   by_next Settle is stood = told stood
   by_next Nothing is stood = cc
   by_next Copies is stood = cc

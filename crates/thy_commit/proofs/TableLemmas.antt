@@ -31,7 +31,7 @@ use Rattle.thy_commit.specs.declared.next.Next.TheVariants.{Nothing, Copies, Pag
 use Rattle.thy_commit.specs.Items.{Item, SlotItem, item, is_under_way, copy_or, page_or_slot, page_item, next_after}
 use Rattle.thy_commit.specs.Progress.{Progress, Fits, begun, state_after}
 use Rattle.thy_commit.specs.Tables.{KeepsTables, MovesTables, ItemsMoveTables}
-use Rattle.thy_commit.specs.Written.{HasStood}
+use Rattle.thy_commit.specs.Written.{HasWrittenBefore}
 use Rattle.thy_commit.specs.Moves.{Checkpoints, is_settled, saved_at, standing_at, checkpoints_after, IsKeptBy, IsNextBy, AreTold, IsMadeFor}
 use Rattle.thy_commit.specs.Chain.{ItemsTell, StaysTell, IsNextSeal, sealing, SealMoves}
 use Rattle.thy_commit.proofs.MoveLemmas.{next_is_told}
@@ -129,7 +129,7 @@ module _ (o : Origin) (e : Progress) (s : State) (m : Device) (c : Checkpoints) 
   tells-copy tables None h = tells-page tables (next_page s) refl
   tells-copy tables (Some i) h = tells-before (state_after (copy_or (Some i) (page_item s)) s m) Copies refl (tables-copy s m tables (Some i) h)
 
-  tells-next : (q : Next) → q ≡ e.next → AreSoundTables s → Fits e s → HasStood e.next e s m → IsMadeFor o e s m c → Telling (item q s)
+  tells-next : (q : Next) → q ≡ e.next → AreSoundTables s → Fits e s → HasWrittenBefore e.next e s m → IsMadeFor o e s m c → Telling (item q s)
   unfolding committed_state
   tells-next Nothing is tables fits stood made = absurd (not_both (ap is_under_way is ∙ way)) where
     not_both : false ≡ true → ⊥

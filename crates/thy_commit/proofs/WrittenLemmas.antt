@@ -24,14 +24,14 @@ use Rattle.thy_commit.specs.declared.next.Next.TheVariants.{Nothing, Copies, Pag
 use Rattle.thy_commit.specs.Items.{Item, SlotItem, item, copy_or, page_or_slot, page_item, next_after}
 use Rattle.thy_commit.specs.Progress.{Progress, IsDone, IsPast, slot_number, slot_block, state_after, device_after}
 use Rattle.thy_commit.specs.Versions.{KeepsVersions, lasts}
-use Rattle.thy_commit.specs.Written.{HasWritten, HasStood, ItemsWrite, StaysWritten}
+use Rattle.thy_commit.specs.Written.{HasWrittenSlot, HasWrittenBefore, ItemsWrite, StaysWritten}
 use Rattle.thy_commit.proofs.MemoryLemmas.{memory_is_last}
 use Rattle.thy_commit.proofs.ItemLemmas.{reads-low, reads-settled, KeepsVersions-reads, slot-low}
 
 -- the blocks of the slot are read, and all else follows from what the places hold
-pub HasWritten-by : (e : Progress) (s : State) (n : Device) (k : ℕ) → s.p ≡ e.p → AreSoundTables s → IsSized s n → HoldAll s n → IsDone s
-    → ReadsFirst n (slot_place e.p (e.epoch % 2)) (slot_block_of e.cpu (tables1 s) e.epoch) k → HasWritten e s n k
-HasWritten-by e s n k same t sized hold done slot = record {
+pub HasWrittenSlot-by : (e : Progress) (s : State) (n : Device) (k : ℕ) → s.p ≡ e.p → AreSoundTables s → IsSized s n → HoldAll s n → IsDone s
+    → ReadsFirst n (slot_place e.p (e.epoch % 2)) (slot_block_of e.cpu (tables1 s) e.epoch) k → HasWrittenSlot e s n k
+HasWrittenSlot-by e s n k same t sized hold done slot = record {
   sized = sized.nvm ∙ ap image_blocks same;
   tables = subst (λ (p : Parameters). IsTables p (tables1 s)) same (AreTablesOf-under_way s t).valid;
   memory_is = subst (λ (p : Parameters). memory_read p (tables1 s) n ≡ lasts s n) same (memory_is_last s n t hold done);
@@ -40,36 +40,36 @@ HasWritten-by e s n k same t sized hold done slot = record {
 
 module _ (e : Progress) (s : State) (m : Device) (t : AreSoundTables s) (sized : IsSized s m) (same : s.p ≡ e.p) (hold : HoldAll s m) where
   abbrev After : Item → Type 0
-  After i = HasStood (next_after e.p i) e (state_after i s m) (device_after e i s m)
+  After i = HasWrittenBefore (next_after e.p i) e (state_after i s m) (device_after e i s m)
 
-  after_slot : (k : ℕ) → k < slot_blocks e.p → HasWritten e s (device_after e (SlotItem k) s m) (k + 1) → After (SlotItem k)
+  after_slot : (k : ℕ) → k < slot_blocks e.p → HasWrittenSlot e s (device_after e (SlotItem k) s m) (k + 1) → After (SlotItem k)
   after_slot k l h = by_more (nat_lt (k + 1) (slot_blocks e.p)) refl where
     by_more : (more : Bool) → nat_lt (k + 1) (slot_blocks e.p) ≡ more
-        → HasStood (if more then Slot (k + 1) else Settle) e s (device_after e (SlotItem k) s m)
+        → HasWrittenBefore (if more then Slot (k + 1) else Settle) e s (device_after e (SlotItem k) s m)
     by_more true q = h
     by_more false q =
         let all : k + 1 ≡ slot_blocks e.p = omega (arith, l, ltb-false (k + 1) (slot_blocks e.p) q) in
-        subst (λ (j : ℕ). HasWritten e s (device_after e (SlotItem k) s m) j) all h
+        subst (λ (j : ℕ). HasWrittenSlot e s (device_after e (SlotItem k) s m) j) all h
 
-  wrote-slot : (k : ℕ) → k < slot_blocks e.p → IsDone s → HasWritten e s m k → After (SlotItem k)
+  wrote-slot : (k : ℕ) → k < slot_blocks e.p → IsDone s → HasWrittenSlot e s m k → After (SlotItem k)
   wrote-slot k l done h =
       let n : Device = device_after e (SlotItem k) s m in
       let kept : KeepsVersions s m s n = KeepsVersions-reads s m n t hold (reads-low s m (slot_number e k) (slot_block e s k) sized (slot-low e s k same l)) in
       let more = slot_goes_on e.p m n e.cpu (tables1 s) e.epoch (lasts s m) k h l refl in
       let long : IsSized s n = record { nvm = length-written_to m (slot_number e k) (slot_block e s k) ∙ sized.nvm } in
-      after_slot k l (HasWritten-by e s n (k + 1) same t long kept.holds done more.slot)
+      after_slot k l (HasWrittenSlot-by e s n (k + 1) same t long kept.holds done more.slot)
 
   wrote-page : next_copy s ≡ None → (o : Option ℕ) → next_page s ≡ o → After (page_or_slot o)
   wrote-page copies None h =
       let done : IsDone s = record { copies = copies; pages = h } in
-      wrote-slot 0 (omega arith) done (HasWritten-by e s m 0 same t sized hold done (record { each = λ i l. absurd (omega arith) }))
+      wrote-slot 0 (omega arith) done (HasWrittenSlot-by e s m 0 same t sized hold done (record { each = λ i l. absurd (omega arith) }))
   wrote-page copies (Some j) h = tt
 
   wrote-copy : (o : Option ℕ) → next_copy s ≡ o → After (copy_or o (page_item s))
   wrote-copy None h = wrote-page h (next_page s) refl
   wrote-copy (Some i) h = tt
 
-  wrote-next : (q : Next) → IsPast q s → ((k : ℕ) → q ≡ Slot k → k < slot_blocks e.p) → HasStood q e s m → After (item q s)
+  wrote-next : (q : Next) → IsPast q s → ((k : ℕ) → q ≡ Slot k → k < slot_blocks e.p) → HasWrittenBefore q e s m → After (item q s)
   wrote-next Nothing past inside h = tt
   wrote-next Copies past inside h = wrote-copy (next_copy s) refl
   wrote-next Pages past inside h = wrote-page past (next_page s) refl
@@ -77,7 +77,7 @@ module _ (e : Progress) (s : State) (m : Device) (t : AreSoundTables s) (sized :
   wrote-next Settle past inside h =
       let kept : KeepsVersions s m s (settled m) = KeepsVersions-reads s m (settled m) t hold (reads-settled s m t sized) in
       let long : IsSized s (settled m) = record { nvm = length-settled m ∙ sized.nvm } in
-      HasWritten-by e s (settled m) (slot_blocks e.p) same t long kept.holds past (record {
+      HasWrittenSlot-by e s (settled m) (slot_blocks e.p) same t long kept.holds past (record {
         each = λ i l. Reads-settled (slot_place e.p (e.epoch % 2) + i) (slot_block_of e.cpu (tables1 s) e.epoch i) m (settled m) (h.slot.each i l) refl;
       })
   wrote-next Commit past inside h =
@@ -86,14 +86,14 @@ module _ (e : Progress) (s : State) (m : Device) (t : AreSoundTables s) (sized :
       let kept : KeepsVersions s m s n = KeepsVersions-reads s m n t hold (reads-low s m 1 block sized (omega arith)) in
       let long : IsSized s n = record { nvm = length-written_to m 1 block ∙ sized.nvm } in
       let there : 1 < length m.image = omega (arith, sized.nvm) in (
-        HasWritten-by e s n (slot_blocks e.p) same t long kept.holds past
+        HasWrittenSlot-by e s n (slot_blocks e.p) same t long kept.holds past
             (ReadsFirst-elsewhere (slot_place e.p (e.epoch % 2)) (slot_block_of e.cpu (tables1 s) e.epoch) (slot_blocks e.p) 1 block m n h.slot (λ i l q. omega arith) refl),
         Reads-written 1 block m n there refl,
       )
   wrote-next Confirm past inside h = tt
 
 -- what stands is told by what is next alone
-stood : (q r : Next) (e : Progress) (s : State) (n : Device) → HasStood q e s n → HasStood q (record e { next = r }) s n
+stood : (q r : Next) (e : Progress) (s : State) (n : Device) → HasWrittenBefore q e s n → HasWrittenBefore q (record e { next = r }) s n
 stood Nothing r e s n h = tt
 stood Copies r e s n h = tt
 stood Pages r e s n h = tt
@@ -118,15 +118,15 @@ module _ (e : Progress) (s : State) (m : Device) (t : State) (n : Device) (table
   stayed-read : (x : ℕ) (b : Block) → x < first_home s.p → Reads m x b → Reads n x b
   stayed-read x b low r = record { inside = omega (arith, r.inside, stays.as_long); newest_is = between.low_reads x low ∙ r.newest_is }
 
-  stayed : (k : ℕ) → k ≤ slot_blocks e.p → IsDone t → HasWritten e s m k → HasWritten e t n k
-  stayed k l done h = HasWritten-by e t n k same_t tables sized (between.held hold).holds done (record {
+  stayed : (k : ℕ) → k ≤ slot_blocks e.p → IsDone t → HasWrittenSlot e s m k → HasWrittenSlot e t n k
+  stayed k l done h = HasWrittenSlot-by e t n k same_t tables sized (between.held hold).holds done (record {
     each = λ i inside.
         let low : slot_number e i < first_home s.p = slot-low e s i same_s (omega (arith, l, inside)) in
         let read : Reads n (slot_number e i) (slot_block_of e.cpu (tables1 s) e.epoch i) = stayed-read (slot_number e i) (slot_block_of e.cpu (tables1 s) e.epoch i) low (h.slot.each i inside) in
         subst (λ (u : Tables). Reads n (slot_number e i) (slot_block_of e.cpu u e.epoch i)) (sym stays.tables1_same) read;
   })
 
-  stayed-next : (q : Next) → IsPast q t → ((k : ℕ) → q ≡ Slot k → k < slot_blocks e.p) → HasStood q e s m → HasStood q e t n
+  stayed-next : (q : Next) → IsPast q t → ((k : ℕ) → q ≡ Slot k → k < slot_blocks e.p) → HasWrittenBefore q e s m → HasWrittenBefore q e t n
   stayed-next Nothing past inside h = tt
   stayed-next Copies past inside h = tt
   stayed-next Pages past inside h = tt

@@ -14,7 +14,6 @@ use Rattle.thy_view.specs.Safe.{ceiling}
 use Rattle.thy_control.specs.State.{State, AreSoundTables, IsSized}
 use Rattle.thy_control.specs.CheckpointTables.{tables0, tables1}
 use Rattle.thy_control.specs.Stays.{HoldAll, Stays}
-use Rattle.thy_protocol.specs.Layout.{Layout}
 use Rattle.thy_protocol.specs.Moves.{Standing, standing, Move}
 use Rattle.thy_protocol.specs.VersionOne.{layout_of}
 use Rattle.thy_commit.specs.declared.next.Next.{Next}

@@ -14,21 +14,21 @@ use Rattle.thy_commit.specs.Progress.{Progress, IsSoundProgress, Fits, engine_ne
 use Rattle.thy_commit.specs.Versions.{lasts}
 
 -- the first k blocks of the slot are read, and memory where the tables have it: the last version of every block
-abbrev pub HasWritten : Progress → State → Device → ℕ → Type 0
-HasWritten e s n k = IsIssuing e.p n e.cpu (tables1 s) e.epoch (lasts s n) k
+abbrev pub HasWrittenSlot : Progress → State → Device → ℕ → Type 0
+HasWrittenSlot e s n k = IsIssuing e.p n e.cpu (tables1 s) e.epoch (lasts s n) k
 
--- by what comes next: the blocks of the slot before it, then all of them, and at last the commit block too
-abbrev pub HasStood : Next → Progress → State → Device → Type 0
-HasStood Nothing e s n = Unit {0}
-HasStood Copies e s n = Unit {0}
-HasStood Pages e s n = Unit {0}
-HasStood (Slot k) e s n = HasWritten e s n k
-HasStood Settle e s n = HasWritten e s n (slot_blocks e.p)
-HasStood Commit e s n = HasWritten e s n (slot_blocks e.p)
-HasStood Confirm e s n = HasWritten e s n (slot_blocks e.p) × Reads n 1 (commit_of e.epoch)
+-- what is written before an item: the blocks of the slot before it, then all of them, and at last the commit block too
+abbrev pub HasWrittenBefore : Next → Progress → State → Device → Type 0
+HasWrittenBefore Nothing e s n = Unit {0}
+HasWrittenBefore Copies e s n = Unit {0}
+HasWrittenBefore Pages e s n = Unit {0}
+HasWrittenBefore (Slot k) e s n = HasWrittenSlot e s n k
+HasWrittenBefore Settle e s n = HasWrittenSlot e s n (slot_blocks e.p)
+HasWrittenBefore Commit e s n = HasWrittenSlot e s n (slot_blocks e.p)
+HasWrittenBefore Confirm e s n = HasWrittenSlot e s n (slot_blocks e.p) × Reads n 1 (commit_of e.epoch)
 
 abbrev pub Stands : Progress → State → Device → Type 0
-Stands e s n = HasStood e.next e s n
+Stands e s n = HasWrittenBefore e.next e s n
 
 -- every item leaves what has to stand before the next one
 abbrev pub ItemsWrite : Type 0

@@ -40,7 +40,7 @@ use Rattle.thy_commit.specs.declared.next.Next.TheVariants.{Nothing, Copies, Pag
 use Rattle.thy_commit.specs.Items.{is_under_way}
 use Rattle.thy_commit.specs.Moves.{Checkpoints, is_settled, saved_at}
 use Rattle.thy_commit.specs.Progress.{Progress, Fits}
-use Rattle.thy_commit.specs.Written.{HasStood}
+use Rattle.thy_commit.specs.Written.{HasWrittenBefore}
 use Rattle.thy_commit.proofs.FitLemmas.{idle_fits}
 use Rattle.thy_recover.specs.Recovers.{loads}
 use Rattle.thy_recover.specs.Sound.{IsBooted}
@@ -113,7 +113,7 @@ idle-kept Settle c h = cc
 idle-kept Commit c h = cc
 idle-kept Confirm c h = cc
 
-idle-stands : (q : Next) (e : Progress) (s : State) (n : Device) → is_under_way q ≡ false → HasStood q e s n
+idle-stands : (q : Next) (e : Progress) (s : State) (n : Device) → is_under_way q ≡ false → HasWrittenBefore q e s n
 idle-stands Nothing e s n h = tt
 idle-stands Copies e s n h = cc
 idle-stands Pages e s n h = cc

@@ -1,5 +1,5 @@
 -- A boot that reads: what it finds, and what it shows.
-use Rattle.std.proofs.Common.{◌≡◌, ◌≢◌, ℕ, ◌+◌, ◌%◌, ◌<◌, ◌≤◌, if◌then◌else◌, List, Option, Some, None, refl, sym, ◌∙◌, ap, subst, inl, arith}
+use Rattle.std.proofs.Common.{◌≡◌, ℕ, List, Option, Some, None, refl, sym, ◌∙◌, ap, subst, inl, arith}
 use Rattle.thy_base.specs.declared.block.Block.{Block}
 use Rattle.thy_base.specs.declared.config.Parameters.{Parameters}
 use Rattle.thy_base.specs.declared.mark.Mark.{Mark}
@@ -34,7 +34,7 @@ use Rattle.thy_recover.specs.declared.stage.Issue.TheVariants.{Home}
 use Rattle.thy_recover.specs.Boot.{Booting, answer_at}
 use Rattle.thy_recover.specs.Recovers.{CanRecover, HasReadAt, HasRead, IsRestored, loads}
 use Rattle.thy_recover.specs.Shows.{is_written, restored_view, seen_at, did_of}
-use Rattle.thy_recover.specs.Sound.{BootImages, start_mark, sealed_by, saved_loading, standing_in_boot, HasStood, IsMade, IsRecovering, IsSoundAt}
+use Rattle.thy_recover.specs.Sound.{BootImages, start_mark, sealed_by, saved_loading, standing_in_boot, HasLoadedBefore, IsMade, IsRecovering, IsSoundAt}
 use Rattle.thy_recover.specs.Laws.{ShowsImage}
 
 -- ---- what an image means to a run
@@ -103,7 +103,7 @@ module _ (o : Origin) (g : BootImages) (m : Device) (d : Booting) (e : State) (b
   recovering : IsRecovering g m d e
   recovering = record { before_is = before_is; read = read }
 
-  first : HasStood o (Home 0) m
+  first : HasLoadedBefore o (Home 0) m
   first = record {
     sized = read.sized ∙ ap image_blocks same;
     homes = record { each = λ i l. absurd (omega arith) };
@@ -121,7 +121,7 @@ module _ (o : Origin) (g : BootImages) (m : Device) (d : Booting) (e : State) (b
     none = none_kept f.1;
     fresh = f.0;
     made = subst (λ (i : Issue). IsMade o i g.next) (sym f.2) tt;
-    stood = subst (λ (i : Issue). HasStood o i m) (sym f.2) first;
+    stood = subst (λ (i : Issue). HasLoadedBefore o i m) (sym f.2) first;
   }
   found-sound Loaded f = absurd f
 

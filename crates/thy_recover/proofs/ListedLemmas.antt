@@ -7,7 +7,7 @@ use Rattle.thy_base.specs.Store.{page_of}
 use Rattle.thy_record.specs.Tables.{Tables, Lists, IsTables, entry_at}
 use Rattle.thy_control.specs.State.{State, AreSoundTables}
 use Rattle.thy_control.specs.CheckpointTables.{tables0}
-use Rattle.thy_control.specs.Boot.{IsBooting, HaveTables, MayListBlock, MayListPage, TablesMayListBlock, TablesMayListPage, with_block, with_page, with_listed_block, with_listed_page}
+use Rattle.thy_control.specs.Boot.{MayListBlock, MayListPage, TablesMayListBlock, TablesMayListPage, with_block, with_page}
 use Rattle.thy_recover.specs.Listed.{HaveFirst, ListsUpTo, AsListed}
 
 -- a list that has the first entries of another, and none behind them, lists no more
@@ -35,34 +35,18 @@ IsTables-first p i j t u v h = record {
   page k n l = lists_first t.ptt u.ptt j h.pages h.no_pages k n l
 
 -- one entry more of a list
-module _ (xs ys : List (Option ℕ)) (i : ℕ) (before : (k : ℕ) → k < i → entry_at ys k ≡ entry_at xs k) (behind : (k : ℕ) → i ≤ k → entry_at ys k ≡ None) where
-  before_none : entry_at xs i ≡ None → (k : ℕ) → k < i + 1 → entry_at ys k ≡ entry_at xs k
-  before_none none k l = elim (cases_eq k i) as (λ _. entry_at ys k ≡ entry_at xs k) [
-    | inl e ↦ subst (λ (m : ℕ). entry_at ys m ≡ entry_at xs m) (sym e) (behind i (omega arith) ∙ sym none)
-    | inr ne ↦ before k (omega arith)
+module _ (xs ys : List (Option ℕ)) (i : ℕ) (before : (k : ℕ) → k < i → entry_at ys k ≡ entry_at xs k) (behind : (k : ℕ) → i ≤ k → entry_at ys k ≡ None)
+    (n : ℕ) (inside : i < length ys) (is : entry_at xs i ≡ Some n) where
+  before_some : (k : ℕ) → k < i + 1 → entry_at (slice_set ys i (Some n)) k ≡ entry_at xs k
+  before_some k l = elim (cases_eq k i) as (λ _. entry_at (slice_set ys i (Some n)) k ≡ entry_at xs k) [
+    | inl e ↦ subst (λ (m : ℕ). entry_at (slice_set ys i (Some n)) m ≡ entry_at xs m) (sym e) (get_or-set_same ys i (Some n) None inside ∙ sym is)
+    | inr ne ↦ get_or-set_other ys i k (Some n) None ne ∙ before k (omega arith)
   ]
 
-  module _ (n : ℕ) (inside : i < length ys) (is : entry_at xs i ≡ Some n) where
-    before_some : (k : ℕ) → k < i + 1 → entry_at (slice_set ys i (Some n)) k ≡ entry_at xs k
-    before_some k l = elim (cases_eq k i) as (λ _. entry_at (slice_set ys i (Some n)) k ≡ entry_at xs k) [
-      | inl e ↦ subst (λ (m : ℕ). entry_at (slice_set ys i (Some n)) m ≡ entry_at xs m) (sym e) (get_or-set_same ys i (Some n) None inside ∙ sym is)
-      | inr ne ↦ get_or-set_other ys i k (Some n) None ne ∙ before k (omega arith)
-    ]
-
-    behind_some : (k : ℕ) → i + 1 ≤ k → entry_at (slice_set ys i (Some n)) k ≡ None
-    behind_some k l = get_or-set_other ys i k (Some n) None (λ e. absurd (omega arith)) ∙ behind k (omega arith)
+  behind_some : (k : ℕ) → i + 1 ≤ k → entry_at (slice_set ys i (Some n)) k ≡ None
+  behind_some k l = get_or-set_other ys i k (Some n) None (λ e. absurd (omega arith)) ∙ behind k (omega arith)
 
 module _ (i j : ℕ) (t u : Tables) (h : HaveFirst i j t u) where
-  no_block_more : entry_at t.btt i ≡ None → HaveFirst (i + 1) j t u
-  no_block_more none = record {
-    btt_length = h.btt_length;
-    ptt_length = h.ptt_length;
-    blocks = before_none t.btt u.btt i h.blocks h.no_blocks none;
-    no_blocks = λ k l. h.no_blocks k (omega arith);
-    pages = h.pages;
-    no_pages = h.no_pages;
-  }
-
   block_more : (b : ℕ) → i < length t.btt → entry_at t.btt i ≡ Some b → HaveFirst (i + 1) j t (with_block i b u)
   block_more b inside is =
       let there : i < length u.btt = omega (arith, inside, h.btt_length) in
@@ -74,16 +58,6 @@ module _ (i j : ℕ) (t u : Tables) (h : HaveFirst i j t u) where
         pages = h.pages;
         no_pages = h.no_pages;
       }
-
-  no_page_more : entry_at t.ptt j ≡ None → HaveFirst i (j + 1) t u
-  no_page_more none = record {
-    btt_length = h.btt_length;
-    ptt_length = h.ptt_length;
-    blocks = h.blocks;
-    no_blocks = h.no_blocks;
-    pages = before_none t.ptt u.ptt j h.pages h.no_pages none;
-    no_pages = λ k l. h.no_pages k (omega arith);
-  }
 
   page_more : (n : ℕ) → j < length t.ptt → entry_at t.ptt j ≡ Some n → HaveFirst i (j + 1) t (with_page j n u)
   page_more n inside is =
@@ -112,32 +86,6 @@ module _ (p : Parameters) (i j : ℕ) (t : Tables) (c : State) (same : c.p ≡ p
   may_page law n inside is =
       law j n c sound l.booting (subst (λ (q : Parameters). j < q.ptt) (sym same) inside) (l.have.no_pages j (omega arith))
       (valid_in (with_page j n (tables0 c)) i (j + 1) (page_more i j t (tables0 c) l.have n (omega (arith, inside, v.ptt_length)) is))
-
-  pub block_listed : (b : ℕ) (d : State) → i < p.btt → entry_at t.btt i ≡ Some b → IsBooting d → HaveTables d (with_block i b (tables0 c)) → d ≡ with_listed_block i b c
-      → AsListed (i + 1) j t c d
-  block_listed b d inside is boot have state = record {
-    lists = record {
-      booting = boot;
-      have = subst (λ (u : Tables). HaveFirst (i + 1) j t u) (sym have.tables0_is) (block_more i j t (tables0 c) l.have b (omega (arith, inside, v.btt_length)) is);
-    };
-    same = ap (λ (x : State). record x { btt = c.btt; ptt = c.ptt }) state;
-  }
-
-  pub page_listed : (n : ℕ) (d : State) → j < p.ptt → entry_at t.ptt j ≡ Some n → IsBooting d → HaveTables d (with_page j n (tables0 c)) → d ≡ with_listed_page j n c
-      → AsListed i (j + 1) t c d
-  page_listed n d inside is boot have state = record {
-    lists = record {
-      booting = boot;
-      have = subst (λ (u : Tables). HaveFirst i (j + 1) t u) (sym have.tables0_is) (page_more i j t (tables0 c) l.have n (omega (arith, inside, v.ptt_length)) is);
-    };
-    same = ap (λ (x : State). record x { btt = c.btt; ptt = c.ptt }) state;
-  }
-
-  pub no_block_listed : entry_at t.btt i ≡ None → AsListed (i + 1) j t c c
-  no_block_listed none = record { lists = record { booting = l.booting; have = no_block_more i j t (tables0 c) l.have none }; same = refl }
-
-  pub no_page_listed : entry_at t.ptt j ≡ None → AsListed i (j + 1) t c c
-  no_page_listed none = record { lists = record { booting = l.booting; have = no_page_more i j t (tables0 c) l.have none }; same = refl }
 
 -- where none was gone through, and over one call after another
 pub AsListed-start : (i j : ℕ) (t : Tables) (c : State) → ListsUpTo i j t c → AsListed i j t c c

@@ -35,7 +35,7 @@ use Rattle.thy_control.proofs.NewLemmas.{entry_at-empty}
 use Rattle.thy_control.proofs.FrameLemmas.{IsBooting-frame}
 use Rattle.thy_view.specs.Safe.{ceiling}
 use Rattle.thy_recover.specs.declared.stage.Stage.{Stage}
-use Rattle.thy_recover.specs.declared.stage.Stage.TheVariants.{Unread, Header, Slot, Frames, Refusing, Loading, Restored, Loaded}
+use Rattle.thy_recover.specs.declared.stage.Stage.TheVariants.{Unread, Header, Slot, Frames, Loading}
 use Rattle.thy_recover.specs.declared.stage.Issue.TheVariants.{Home}
 use Rattle.thy_recover.specs.Boot.{Booting, new_boot, at_stage, slot_of, tables_of, refusing_or, after_commit, after_header, frames_of, next_page, after_slot, after_frame, with_slot_block, gone_on, IsJudged, JudgesUnless, GoesOn}
 use Rattle.thy_recover.specs.Listed.{HaveFirst, ListsUpTo, AsListed}
@@ -64,9 +64,6 @@ pub read_header-found : (n : Device) (b : Booting) (c : State) (epoch : ℕ) (fa
 read_header-found n b c epoch fault is h = record { same_p = h.same_p; sized = h.sized; settled = h.settled; so_far = found } where
   had : IsFresh c × HasCommit n.image epoch × (fault ≡ commit_fault (block_at n.image 1) ceiling)
   had = subst (λ (s : Stage). HasReadAt s n b.p b.slot c) is h.so_far
-
-  header : Option BadImage
-  header = header_fault (block_at n.image 0) b.p true
 
   stage : (o : Option BadImage) → option_or (header_fault (block_at n.image 0) b.p true) (commit_fault (block_at n.image 1) ceiling) ≡ o → HasReadAt (refusing_or o (Slot epoch 0)) n b.p b.slot c
   stage None e =

@@ -45,7 +45,7 @@ use Rattle.thy_recover.specs.declared.stage.Issue.TheVariants.{Home, Slot, Heade
 use Rattle.thy_recover.specs.Boot.{Booting}
 use Rattle.thy_recover.specs.Loads.{after_issue, issue_action}
 use Rattle.thy_recover.specs.Recovers.{IsFresh, loads}
-use Rattle.thy_recover.specs.Sound.{BootImages, start_mark, standing_in_boot, images_after, HasWrittenAll, HasStood, IsStartImage, IsMade, IsLoaded, IsSoundAt}
+use Rattle.thy_recover.specs.Sound.{BootImages, start_mark, standing_in_boot, images_after, HasWrittenWholeStart, HasLoadedBefore, IsStartImage, IsMade, IsLoaded, IsSoundAt}
 use Rattle.thy_recover.specs.Start.{start_block, start_blocks, start_slot, no_tables}
 use Rattle.thy_recover.specs.Laws.{standing_after_fault}
 use Rattle.thy_recover.proofs.RecordLemmas.{start-recordable}
@@ -81,7 +81,7 @@ fails_write o g n m x block nothing other failed framed =
 
 -- ---- the start's image
 
-module _ (o : Origin) (origin : IsOrigin o) (n : Device) (w : HasWrittenAll o n) where
+module _ (o : Origin) (origin : IsOrigin o) (n : Device) (w : HasWrittenWholeStart o n) where
   abbrev image : List Block
   image = next_image n (commit_of 0)
 
@@ -131,7 +131,7 @@ Loads o g issue n =
     (standing_in_boot o (after_issue o.geometry issue) (images_after (Loading issue) n g) (after (issue_action o.geometry o.start issue) n))
 
 module _ (o : Origin) (g : BootImages) (n : Device) (origin : IsOrigin o) where
-  pub load_moves : (issue : Issue) → IsKeeping o (layout_of o) (standing_in_boot o (Loading issue) g n) → IsMade o issue g.next → HasStood o issue n → Loads o g issue n
+  pub load_moves : (issue : Issue) → IsKeeping o (layout_of o) (standing_in_boot o (Loading issue) g n) → IsMade o issue g.next → HasLoadedBefore o issue n → Loads o g issue n
   load_moves (Home b) k made w = by_more (nat_lt (b + 1) (memory_blocks o.geometry)) where
     by_more : (t : Bool) → Move o (layout_of o) (before_of o g n)
         (standing_in_boot o (if t then Loading (Home (b + 1)) else Loading (Slot 0)) g (after (issue_action o.geometry o.start (Home b)) n))
@@ -155,7 +155,7 @@ module _ (o : Origin) (g : BootImages) (n : Device) (origin : IsOrigin o) where
   MadeAt (Loading issue) next = IsMade o issue next
   MadeAt stage next = IsStartImage o next
 
-  pub made_on : (issue : Issue) → IsMade o issue g.next → HasStood o issue n → MadeAt (after_issue o.geometry issue) (images_after (Loading issue) n g).next
+  pub made_on : (issue : Issue) → IsMade o issue g.next → HasLoadedBefore o issue n → MadeAt (after_issue o.geometry issue) (images_after (Loading issue) n g).next
   made_on (Home b) made w = by_more (nat_lt (b + 1) (memory_blocks o.geometry)) where
     by_more : (t : Bool) → MadeAt (if t then Loading (Home (b + 1)) else Loading (Slot 0)) g.next
     by_more true = tt
@@ -172,7 +172,7 @@ module _ (o : Origin) (g : BootImages) (n : Device) (origin : IsOrigin o) where
 -- ---- behind loading
 
 module _ (o : Origin) (origin : IsOrigin o) (g : BootImages) (n : Device) (c : State) (t : AreSoundTables c) (same : c.p ≡ o.geometry) (fresh : IsFresh c)
-    (w : HasWrittenAll o n) (settled_is : n.queue ≡ []) (made : IsStartImage o g.next) where
+    (w : HasWrittenWholeStart o n) (settled_is : n.queue ≡ []) (made : IsStartImage o g.next) where
   none_listed : tables0 c ≡ no_tables o.geometry
   none_listed =
       let p : Parameters = o.geometry in

@@ -1,9 +1,8 @@
 -- What a step that reads does at the NVM, and what it makes of boot and controller.
-use Rattle.std.specs.Prelude.{◌≡◌, ℕ, ◌+◌, ◌%◌, OnOk, OnErr, Result}
+use Rattle.std.specs.Prelude.{◌≡◌, ℕ, ◌+◌, ◌%◌}
 use Rattle.thy_base.specs.declared.config.Parameters.{Parameters}
-use Rattle.thy_base.specs.declared.nvm.NvmError.{NvmError}
 use Rattle.thy_base.specs.declared.place.Place.TheVariants.{AlternatePage}
-use Rattle.thy_base.specs.Device.{Device, newest, HasFailed, IsFramed, CountsFault}
+use Rattle.thy_base.specs.Device.{Device, newest}
 use Rattle.thy_base.specs.Places.{number_of, slot_place}
 use Rattle.thy_control.specs.State.{State}
 use Rattle.thy_control.specs.Boot.{with_frame}
@@ -11,13 +10,6 @@ use Rattle.thy_view.specs.Action.{Action, Rest, ReadAt}
 use Rattle.thy_recover.specs.declared.stage.Stage.{Stage}
 use Rattle.thy_recover.specs.declared.stage.Stage.TheVariants.{Unread, Header, Slot, Frames}
 use Rattle.thy_recover.specs.Boot.{Booting, at_stage, after_commit, after_header, after_frame, with_slot_block, gone_on, GoesOn}
-
--- one read at most: it leaves the device as it was, or failed
-pub record IsRead {T : Type 0} (result : Result T NvmError) (old new : Device) : Type 0 where
-  pub same : OnOk result (new ≡ old)
-  pub err : OnErr result (HasFailed old new)
-  pub frame : IsFramed old new
-  pub cause : CountsFault result old.faults new.faults
 
 -- one block is read, by the stage; for a refusal that comes again none is
 abbrev pub read_action : Parameters → Stage → Action

@@ -21,7 +21,6 @@ use Rattle.thy_control.specs.CheckpointTables.{tables0}
 use Rattle.thy_control.specs.Stays.{HoldAll}
 use Rattle.thy_view.specs.Origin.{Origin, at}
 use Rattle.thy_view.specs.Safe.{ceiling}
-use Rattle.thy_protocol.specs.Layout.{Layout}
 use Rattle.thy_protocol.specs.Moves.{Standing, standing, IsKeeping}
 use Rattle.thy_protocol.specs.VersionOne.{layout_of}
 use Rattle.thy_recover.specs.declared.stage.Stage.{Stage}
@@ -68,24 +67,24 @@ images_after stage n g = g
 -- ---- what was written
 
 -- the first h homes and the first k blocks of slot 0 read as the start's
-pub record HasWritten (o : Origin) (h k : ℕ) (n : Device) : Type 0 where
+pub record HasWrittenStart (o : Origin) (h k : ℕ) (n : Device) : Type 0 where
   pub sized : length n.image ≡ image_blocks o.geometry
   pub homes : ReadsFirst n (first_home o.geometry) (start_block o.geometry o.start) h
   pub slot : ReadsFirst n (slot_place o.geometry 0) (start_slot o.geometry o.start) k
 
 -- all of them, and the header
-pub record HasWrittenAll (o : Origin) (n : Device) : Type 0 where
-  pub parts : HasWritten o (memory_blocks o.geometry) (slot_blocks o.geometry) n
+pub record HasWrittenWholeStart (o : Origin) (n : Device) : Type 0 where
+  pub parts : HasWrittenStart o (memory_blocks o.geometry) (slot_blocks o.geometry) n
   pub header : Reads n 0 (header_of o.geometry)
 
--- by what comes next
-abbrev pub HasStood : Origin → Issue → Device → Type 0
-HasStood o (Home b) n = HasWritten o b 0 n
-HasStood o (Slot k) n = HasWritten o (memory_blocks o.geometry) k n
-HasStood o Header n = HasWritten o (memory_blocks o.geometry) (slot_blocks o.geometry) n
-HasStood o Settle n = HasWrittenAll o n
-HasStood o Commit n = HasWrittenAll o n
-HasStood o Confirm n = HasWrittenAll o n × Reads n 1 (commit_of 0)
+-- what is written before an action of loading
+abbrev pub HasLoadedBefore : Origin → Issue → Device → Type 0
+HasLoadedBefore o (Home b) n = HasWrittenStart o b 0 n
+HasLoadedBefore o (Slot k) n = HasWrittenStart o (memory_blocks o.geometry) k n
+HasLoadedBefore o Header n = HasWrittenStart o (memory_blocks o.geometry) (slot_blocks o.geometry) n
+HasLoadedBefore o Settle n = HasWrittenWholeStart o n
+HasLoadedBefore o Commit n = HasWrittenWholeStart o n
+HasLoadedBefore o Confirm n = HasWrittenWholeStart o n × Reads n 1 (commit_of 0)
 
 -- an image is the start's checkpoint
 pub record IsStartImage (o : Origin) (image : List Block) : Type 0 where
@@ -110,7 +109,7 @@ pub record IsLoading (o : Origin) (issue : Issue) (g : BootImages) (n : Device) 
   pub none : g.kept ≡ None
   pub fresh : IsFresh c
   pub made : IsMade o issue g.next
-  pub stood : HasStood o issue n
+  pub stood : HasLoadedBefore o issue n
 
 -- A boot that is over: the image of a mark is kept, the controller has its tables, memory as it loads it and this
 -- processor make the state of the mark, and the next checkpoint's record can hold the processor.

@@ -1,13 +1,14 @@
 //! The recovery: each step reads one block of the NVM, up to the last that tells what the image means.
-ghost use Rattle.std.specs.Prelude.{◌≡◌, ◌%◌, ◌+◌, ◌<◌, [], length, IfOk, OnOk, OnErr};
-ghost use Rattle.thy_base.specs.Device.{newest, IsFramed, CountsFault, HasFailed};
+ghost use Rattle.std.specs.Prelude.{◌≡◌, ◌%◌, ◌+◌, ◌<◌, length, OnOk, OnErr};
+ghost use Rattle.thy_base.specs.Device.{newest};
 ghost use Rattle.thy_base.specs.Places.{slot_blocks, slot_place, image_blocks};
 ghost use Rattle.thy_recover.specs.Boot.{after_commit, after_header, after_slot, after_frame, frames_of, next_page};
 ghost use Rattle.thy_recover.specs.Boot.{at_stage, with_slot_block, gone_on, tables_of, slot_of, IsJudged, GoesOn};
 ghost use Rattle.thy_record.specs.Slots.{slot_fault as fault_of_slot};
+ghost use Rattle.thy_view.specs.Action.{ReadAt};
 ghost use Rattle.thy_view.specs.Safe.{ceiling};
 ghost use Rattle.thy_recover.specs.Listed.{ListsUpTo};
-ghost use Rattle.thy_recover.specs.Reads.{IsRead};
+ghost use Rattle.thy_recover.specs.Loads.{Takes};
 
 use crate::boot::{Boot, keep_block};
 use crate::listing::{list_all, next_listed};
@@ -54,7 +55,7 @@ impl Boot {
         requires { length (N.device nvm.old).image ≡ image_blocks self.old.p }
         ensures state { OnOk result (self.new ≡ at_stage (after_commit (newest (N.device nvm.old) 1)) self.old) }
         ensures kept { OnErr result (self.new ≡ self.old) }
-        ensures reads { IsRead result (N.device nvm.old) (N.device nvm.new) }
+        ensures reads { Takes (ReadAt 1) result (N.device nvm.old) (N.device nvm.new) }
     {
         let _blocks = self.geometry.blocks();
         let commit = nvm.read(1)?;
@@ -72,7 +73,7 @@ impl Boot {
         requires { length (N.device nvm.old).image ≡ image_blocks self.old.p }
         ensures state { OnOk result (self.new ≡ at_stage (after_header self.old.p epoch fault (newest (N.device nvm.old) 0)) self.old) }
         ensures kept { OnErr result (self.new ≡ self.old) }
-        ensures reads { IsRead result (N.device nvm.old) (N.device nvm.new) }
+        ensures reads { Takes (ReadAt 0) result (N.device nvm.old) (N.device nvm.new) }
     {
         let header = nvm.read(0)?;
         self.stage = match header_fault(&header, &self.geometry, true).or(fault) {
@@ -96,7 +97,8 @@ impl Boot {
         ensures long { let at = slot_place self.old.p (epoch % 2) + next in
             OnOk result (length (newest (N.device nvm.old) at).0 ≡ 64) }
         ensures kept { OnErr result (self.new ≡ self.old) }
-        ensures reads { IsRead result (N.device nvm.old) (N.device nvm.new) }
+        ensures reads { let at = slot_place self.old.p (epoch % 2) + next in
+            Takes (ReadAt at) result (N.device nvm.old) (N.device nvm.new) }
     {
         let block = nvm.read(self.geometry.slot(epoch % 2) + next)?;
         keep_block(&mut self.slot, next as usize, &block);

@@ -12,7 +12,7 @@ pub returns-clause-read : goal.returns-clause-read
 returns-clause-read g c =
     let n : Device = g.N.Nvm.device c.args.nvm.now in
     at_ok (λ m d. HasRead m d c.args.control.now) c.read_commit.result (g.N.Nvm.device c.read_commit.new.nvm) n c.read_commit.new.self (record c.args.self.now { stage = after_commit (newest n 1) })
-    c.read_commit.ensures.state c.read_commit.ensures.reads.same (read_commit-found n c.args.self.now c.args.control.now c.requires.stage c.requires.read)
+    c.read_commit.ensures.state c.read_commit.ensures.reads.ok (read_commit-found n c.args.self.now c.args.control.now c.requires.stage c.requires.read)
 
 pub returns-clause-fewer : goal.returns-clause-fewer
 returns-clause-fewer g c =

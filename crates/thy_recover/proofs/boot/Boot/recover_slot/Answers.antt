@@ -22,7 +22,7 @@ returns-clause-read g c =
     let n : Device = g.N.Nvm.device c.args.nvm.now in
     slot_step n c.args.self.now c.args.control.now c.args.epoch c.args.next c.requires.stage c.requires.read
     (g.N.Nvm.device c.read_block.new.nvm) c.read_block.new.self c.go_on.new.self c.go_on.new.control c.fits.ensures c.in_ok-read_block.ensures.long
-    c.in_ok-read_block.ensures.state c.go_on.ensures.boot c.go_on.ensures.control c.in_ok-read_block.ensures.reads.same
+    c.in_ok-read_block.ensures.state c.go_on.ensures.boot c.go_on.ensures.control c.in_ok-read_block.ensures.reads.ok
     c.tables-2.ensures c.loaded_frames_hold_all.ensures c.checkpoints_have_tables.ensures.committed
 
 pub returns-clause-fewer : goal.returns-clause-fewer
