@@ -1,30 +1,10 @@
--- No closing line is empty, and what a report takes of lines behind one another.
+-- What a report takes of lines behind one another.
 use Rattle.std.proofs.Common.{◌≡◌, ℕ, Bool, true, false, List, [], ◌∷◌, ◌++◌, refl}
 use Rattle.std.specs.Prelude.{◌≢◌}
 use Rattle.thy_base.specs.Outside.{Stream, Took}
 use Rattle.thy_base.proofs.Streams.{Took-append, TookPart-append, TookPart-more}
 use Rattle.thy_run.specs.Sending.{Sent}
 use Rattle.thy_cli.specs.Answering.{Closes}
-use Rattle.thy_text.specs.declared.closing.Closing.{Closing}
-use Rattle.thy_text.specs.declared.closing.Closing.TheVariants.{Usage, Word, Value, Fetch, Put, File, FileAt, Image, Input, Terminal, Nvm, Limit, Memory}
-use Rattle.thy_text.specs.Closings.{closing_of}
-
-pub closing_due : (c : Closing) → closing_of c ≢ []
-closing_due Usage = λ e. absurd (cc)
-closing_due (Word field) = λ e. absurd (cc)
-closing_due (Value field value) = λ e. absurd (cc)
-closing_due (Fetch name fault) = λ e. absurd (cc)
-closing_due (Put name) = λ e. absurd (cc)
-closing_due (Image bad) = λ e. absurd (cc)
-closing_due (Input cursor length) = λ e. absurd (cc)
-closing_due (File number name) = λ e. absurd (cc)
-closing_due (FileAt number name k) = λ e. absurd (cc)
-closing_due Terminal = λ e. absurd (cc)
-closing_due Nvm = λ e. absurd (cc)
-closing_due (Limit limit) = λ e. absurd (cc)
-closing_due Memory = λ e. absurd (cc)
-
--- ---- lines behind one another
 
 nothing_due : (a b : List ℕ) → a ≢ [] → (a ++ b) ≢ []
 nothing_due [] b some = λ e. some refl

@@ -21,7 +21,6 @@ use Rattle.thy_isa.specs.declared.state.Status.TheVariants.{Running, Exited, Tra
 use Rattle.thy_isa.specs.Step.{State, Setting, is_running, steps}
 use Rattle.thy_isa.proofs.StepLaws.{steps-add, steps-ended}
 use Rattle.thy_elf.specs.Image.{Contents, read_of}
-use Rattle.thy_plain.specs.Start.{start_state}
 use Rattle.thy_text.specs.Event.{Event, Ended as EndedEvent}
 use Rattle.thy_text.specs.Marks.{Course, Marks, marks_after, AllLawful}
 use Rattle.thy_words.specs.declared.words.WordsError.{WordsError}

@@ -16,7 +16,7 @@ use Rattle.thy_isa.specs.declared.state.Status.TheVariants.{Running}
 use Rattle.thy_isa.specs.Storable.{IsNumber, IsStorable, IsReadable}
 use Rattle.thy_base.specs.Bytes.{bytes_of}
 use Rattle.thy_base.specs.Marks.{mark}
-use Rattle.thy_record.specs.Decoded.{Decoded, At}
+use Rattle.thy_record.specs.Decoded.{At}
 use Rattle.thy_record.specs.Files.{blocks_of, decode_file}
 use Rattle.thy_isa.specs.Step.{State, state_of}
 use Rattle.thy_isa.proofs.MemoryBounds.{anywhere}
@@ -52,7 +52,7 @@ use Rattle.thy_cli.specs.Answering.{Outside, outside, RunAnswered, WordsDue, Run
 use Rattle.thy_cli.specs.Planning.{Begins, begun_with, CanRun, Fits, FitsKept, HasRoom, IsElf, IsHadFor, IsPlanOf, IsProgramOf}
 use Rattle.thy_cli.specs.Restoring.{IsRestored, ReadsFiles}
 use Rattle.thy_cli.specs.Saving.{SavesUnder, save_pick, saves}
-use Rattle.thy_cli.specs.Sources.{Source, file, made, image, Beginning, begun, from_entry, restored, IsInput, IsMeant, meaning_of, origin_for, ProgramDue}
+use Rattle.thy_cli.specs.Sources.{Source, file, made, image, Beginning, begun, from_entry, restored, IsInput, meaning_of, origin_for, ProgramDue}
 use Rattle.thy_cli.specs.declared.refusal.Refusal.TheVariants.{Input}
 use Rattle.thy_cli.specs.declared.restoring.Beginning.{Beginning as BeginningValue}
 use Rattle.thy_cli.specs.declared.source.Had.{Had}
@@ -332,17 +332,6 @@ Begins-image name job stock p had epoch b h r within =
         decodes = decode-restored (parameters_of job.config) bytes epoch s decodes;
       };
     }
-
--- why there is no beginning
-pub meant_refusal : (name : List ℕ) (job : Job) (stock : Stock) (p : Parameters) (had : Had) (r : Refusal) (d : Decoded) → IsHadFor (image name) job stock p had
-    → decode_file p (2 ^ 62) (bytes_of had.bytes) ≡ d → restored (bytes_of had.bytes) (bytes_of had.input) d ≡ Err r → IsMeant (image name) job stock r
-meant_refusal name job stock p had r d h decodes refused = (
-  bytes_of had.bytes,
-  h.both.had,
-  bytes_of had.input,
-  h.both.is_input,
-  ap (restored (bytes_of had.bytes) (bytes_of had.input)) (ap (λ q. decode_file q (2 ^ 62) (bytes_of had.bytes)) (sym h.numbers) ∙ decodes) ∙ refused,
-)
 
 -- a program is what was read of the bytes of a program file
 pub IsProgramOf-read : (source : Source) (job : Job) (stock : Stock) (p : Parameters) (had : Had) (i : Image) → IsElf source → IsHadFor source job stock p had

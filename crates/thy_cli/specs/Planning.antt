@@ -20,7 +20,7 @@ use Rattle.thy_run.specs.Going.{origin_of, IsPlanned}
 use Rattle.thy_run.specs.declared.plan.Plan.{Plan}
 use Rattle.thy_text.specs.Event.{Event}
 use Rattle.thy_view.specs.Kind.{KindOf}
-use Rattle.thy_view.specs.Origin.{Origin, IsOrigin}
+use Rattle.thy_view.specs.Origin.{IsOrigin}
 use Rattle.thy_view.specs.Safe.{ceiling}
 use Rattle.thy_words.specs.Settings.{Job}
 use Rattle.thy_cli.specs.declared.answer.Answer.{Answer}
@@ -155,6 +155,7 @@ pub record IsPlanOf (source : Source) (job : Job) (stock : Stock) (p : Plan) (bl
   pub over : blocks ≡ program.begins.blocks
 
 -- what a run of a plan is to a job that it is the plan of
-abbrev pub RunsPlan : {M : Type 0} → KindOf M → Source → Option (List ℕ) → Plan → List Block → Outside → Outside → Answer → Type 0
+abbrev pub RunsPlan : {M : Type 0} → KindOf M → Source → Option (List ℕ) → Plan → List Block → Outside → Outside
+    → Answer → Type 0
 RunsPlan K source save p blocks before after a =
     (job : Job) → job.save ≡ save → IsPlanOf source job before.shelf p blocks → RunAnswered K source job before after a

@@ -1,7 +1,7 @@
 //! Why a call begins no run.
-ghost use Rattle.std.specs.Prelude.{◌≡◌, [], OnOk, OnErr};
+ghost use Rattle.std.specs.Prelude.{◌≡◌, []};
 ghost use Rattle.thy_text.specs.Closings.{closing_of};
-ghost use Rattle.thy_cli.specs.Answering.{file_line, Closes, IsRefused};
+ghost use Rattle.thy_cli.specs.Answering.{file_line, Closes};
 ghost use Rattle.thy_cli.specs.Planning.{refused_status, refused_line};
 
 use crate::answer::Answer;
@@ -37,56 +37,10 @@ pub enum Refusal<'a> {
     Memory(AllocError),
 }
 
-/// The exit status.
-fn status(refusal: &Refusal) -> u8
-    ensures { result ≡ refused_status refusal.now }
-{
-    match refusal {
-        Refusal::Words(WordsError::Memory(_))
-        | Refusal::Fetch(_, FetchError::Memory(_))
-        | Refusal::File(ElfError::Memory(_))
-        | Refusal::Device(FitError::Memory(_))
-        | Refusal::Memory(_) => 9,
-        Refusal::Words(_) => 2,
-        Refusal::Fetch(..) => 3,
-        Refusal::File(_) => 4,
-        Refusal::Image(_) => 5,
-        Refusal::Input { .. } => 10,
-        Refusal::Device(FitError::Failed) => 7,
-    }
-}
-
-/// The closing line of words.
-fn words_closing(error: WordsError) -> Closing<'static>
-    ensures { closing_of result ≡ refused_line (Refusal.Words error) }
-{
-    match error {
-        WordsError::Usage => Closing::Usage,
-        WordsError::Word(field) => Closing::Word(field),
-        WordsError::Value(field, value) => Closing::Value(field, value),
-        WordsError::Memory(_) => Closing::Memory,
-    }
-}
-
-/// The closing line of a file that was not had.
-fn fetch_closing(name: &str, error: FetchError) -> Closing<'_>
-    ensures { closing_of result ≡ refused_line (Refusal.Fetch name.entry error) }
-{
-    match error {
-        FetchError::Failed => Closing::Fetch(name, FetchFault::Failed),
-        FetchError::NotThere => Closing::Fetch(name, FetchFault::Missing),
-        FetchError::TooLong => Closing::Fetch(name, FetchFault::TooLong),
-        FetchError::Memory(_) => Closing::Memory,
-    }
-}
-
 /// The closing line of a file that is refused.
 fn file_closing(error: ElfError) -> Closing<'static>
-    ensures { closing_of result ≡ refused_line (Refusal.File error) }
+    ensures { closing_of result ≡ file_line error }
 {
-    if let ElfError::Memory(_) = error {
-        return Closing::Memory;
-    }
     let number = u64::from(error.number());
     match error.index() {
         Some(k) => Closing::FileAt(number, error.name(), k),
@@ -94,13 +48,32 @@ fn file_closing(error: ElfError) -> Closing<'static>
     }
 }
 
-/// The closing line of a device that could not be fitted.
-fn device_closing(error: FitError) -> Closing<'static>
-    ensures { closing_of result ≡ refused_line (Refusal.Device error) }
+/// What is told of a refusal: the exit status and the closing line.
+fn told_of(refusal: Refusal<'_>) -> (u8, Closing<'_>)
+    ensures status { result.0 ≡ refused_status refusal.entry }
+    ensures line { closing_of result.1 ≡ refused_line refusal.entry }
 {
-    match error {
-        FitError::Failed => Closing::Nvm,
-        FitError::Memory(_) => Closing::Memory,
+    match refusal {
+        Refusal::Words(WordsError::Memory(_))
+        | Refusal::Fetch(_, FetchError::Memory(_))
+        | Refusal::Device(FitError::Memory(_))
+        | Refusal::Memory(_) => (9, Closing::Memory),
+        Refusal::Words(WordsError::Usage) => (2, Closing::Usage),
+        Refusal::Words(WordsError::Word(field)) => (2, Closing::Word(field)),
+        Refusal::Words(WordsError::Value(field, value)) => (2, Closing::Value(field, value)),
+        Refusal::Fetch(name, FetchError::Failed) => (3, Closing::Fetch(name, FetchFault::Failed)),
+        Refusal::Fetch(name, FetchError::NotThere) => (
+            3,
+            Closing::Fetch(name, FetchFault::Missing),
+        ),
+        Refusal::Fetch(name, FetchError::TooLong) => (3, Closing::Fetch(name, FetchFault::TooLong)),
+        Refusal::File(error) => match error {
+            ElfError::Memory(_) => (9, Closing::Memory),
+            _ => (4, file_closing(error)),
+        },
+        Refusal::Image(bad) => (5, Closing::Image(bad)),
+        Refusal::Input { cursor, length } => (10, Closing::Input { cursor, length }),
+        Refusal::Device(FitError::Failed) => (7, Closing::Nvm),
     }
 }
 
@@ -112,16 +85,7 @@ pub fn refuse<R: Sink>(alloc: Global, refusal: Refusal, report: &mut R) -> Answe
     ensures closes { Closes (refused_line refusal.entry)
         (R.stream report.old) (R.stream report.new) }
 {
-    let status = status(&refusal);
-    let closing = match refusal {
-        Refusal::Words(error) => words_closing(error),
-        Refusal::Fetch(name, error) => fetch_closing(name, error),
-        Refusal::File(error) => file_closing(error),
-        Refusal::Image(bad) => Closing::Image(bad),
-        Refusal::Input { cursor, length } => Closing::Input { cursor, length },
-        Refusal::Device(error) => device_closing(error),
-        Refusal::Memory(_) => Closing::Memory,
-    };
+    let (status, closing) = told_of(refusal);
     close(closing, report);
     Answer {
         status,

@@ -57,7 +57,8 @@ fn save_run<H: Shelf, N: Nvm>(
     requires { HasRoom (N.device nvm.old) ending.now.events blocks }
     ensures { let n = N.device nvm.old in
         let new = N.device nvm.new in
-        SavesUnder (option_map (λ n. n.now) name.entry) (saves ending.now.stop) plan.now.config n new (H.stock shelf.old) (H.stock shelf.new) result }
+        SavesUnder (option_map (λ n. n.now) name.entry) (saves ending.now.stop) plan.now.config
+        n new (H.stock shelf.old) (H.stock shelf.new) result }
 {
     match name {
         Some(name) if is_saved(ending.stop) => {

@@ -17,14 +17,10 @@ use Rattle.thy_view.specs.Origin.{Origin, runs_at}
 use Rattle.thy_view.proofs.Choices.{if_equal}
 use Rattle.thy_run.specs.Laws.{course_of}
 use Rattle.thy_run.specs.World.{did_told}
-use Rattle.thy_run.proofs.Fitting.{OverFits, IsEither, Rises, Loading, Recovering, BootFits, Follows, RunFits, FitsIn, Fits}
+use Rattle.thy_run.proofs.Fitting.{OverFits, IsEither, Loading, Recovering, BootFits, Follows, RunFits, FitsIn, Fits}
 
 some_is : (a b : Mark) → Some a ≡ Some b → a ≡ b
 some_is a b e = cc
-
--- marks of which one is missing do not go back
-rises_unsealed : (m : Marks) → m.sealed ≡ None → Rises m
-rises_unsealed m none = λ k s kept sealed. absurd (cc)
 
 -- the fitting of a view by its phase
 in_phase : (o : Origin) (v : View) (m : Marks) (p : Phase) → v.phase ≡ p → FitsIn o v m p → Fits o v m

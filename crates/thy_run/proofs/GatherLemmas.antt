@@ -84,9 +84,6 @@ halt_between false b e = never (e)
 pub halts_between : (v next : View) → halts v next ≡ true → is_between next ≡ true
 halts_between v next e = halt_between (is_halt next.phase) _ (and_parts (not (is_halt v.phase)) (is_halt next.phase) e).1
 
-pub and_false : (b c : Bool) → b ≡ false → (b && c) ≡ false
-and_false b c e = ap (λ x. x && c) e
-
 -- the first step after a cut has read
 pub reload_is : (fresh read loads result : Bool) → (fresh ≡ true → read ≡ true) → result ≡ (read && loads) → fresh ≡ true → result ≡ (fresh && loads)
 reload_is fresh read loads result h is yes_fresh = is ∙ ap (λ x. x && loads) (h yes_fresh ∙ sym yes_fresh)

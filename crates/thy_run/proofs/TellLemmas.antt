@@ -1,7 +1,7 @@
 -- The lines of events, one after another.
 use Rattle.std.proofs.Common.{◌≡◌, ℕ, ◌+◌, ◌<◌, Bool, true, false, List, [], ◌∷◌, ◌++◌, take, drop, length, refl, sym, ◌∙◌, ap, append_assoc, Some}
 use Rattle.std.specs.Prelude.{◌≢◌, slice_get}
-use Rattle.std.specs.Prelude.{Result, Ok, Err, OnErr}
+use Rattle.std.specs.Prelude.{Result, Ok, Err, OnOk, OnErr, is_err}
 use Rattle.std.proofs.lemmas.List.{take_more, take-append-drop}
 use Rattle.std.proofs.lemmas.Option.{get_or_from_slice_get, slice_get_within}
 use Rattle.thy_base.specs.Outside.{Stream, Took, TookPart}
@@ -51,6 +51,15 @@ lines_failed digest events i v before a b c is so_far took due =
         λ none. due (first_none (line_of digest v) rest (last_none so_far.more (line_of digest v ++ rest) (sym (append_assoc so_far.more (line_of digest v) rest) ∙ none))),
       );
     }
+
+-- what is said of a result, where it is an error, and where it is none
+pub at_err : {T E : Type 0} (r : Result T E) (P : Type 0) → OnErr r P → is_err r ≡ true → P
+at_err (Ok x) P h is = absurd (cc)
+at_err (Err e) P h is = h
+
+pub at_ok : {T E : Type 0} (r : Result T E) (P : Type 0) → OnOk r P → is_err r ≡ false → P
+at_ok (Ok x) P h is = h
+at_ok (Err e) P h is = absurd (cc)
 
 -- what holds anyway holds of an error
 pub OnErr-any : {T E : Type 0} (r : Result T E) (P : Type 0) → P → OnErr r P

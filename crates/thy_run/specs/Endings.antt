@@ -33,7 +33,8 @@ EndsBy K o cuts w events n stop = IsLast w events n
 -- these events were told before the last cycle
 abbrev pub ToldBefore : {M : Type 0} → KindOf M → Origin → Given → World M → List Event → Type 0
 ToldBefore {M = M} K o given last settled =
-    (k : ℕ) × (before : World M) × Ran K o given k before × Cycle K o given.config.cuts given.config.tears before last × (settled ≡ before.events)
+    (k : ℕ) × (before : World M) × Ran K o given k before
+    × Cycle K o given.config.cuts given.config.tears before last × (settled ≡ before.events)
 
 -- the events that were told before the last cycle that was begun; a sink that failed did so in that cycle
 abbrev pub IsSettled : {M : Type 0} → KindOf M → Origin → Given → World M → List Event → Stop → Type 0
@@ -65,7 +66,8 @@ StopFits limit old new e Limit =
 
 -- A run had the cycles of an ending, and left this device; and its terminal and report, which were these, took what its
 -- events say.
-pub record HasRun {M : Type 0} (K : KindOf M) (o : Origin) (given : Given) (new : Device) (e : Ending) (terminal shown report read : Stream) : Type 0 where
+pub record HasRun {M : Type 0} (K : KindOf M) (o : Origin) (given : Given) (new : Device) (e : Ending)
+    (terminal shown report read : Stream) : Type 0 where
   pub last : World M
   pub ran : Ran K o given e.cycles last
   pub ends : EndsBy K o given.config.cuts last e.events new e.stop

@@ -34,7 +34,12 @@ use Rattle.thy_run.specs.declared.progress.Progress.{Progress}
 
 -- what the run is about
 abbrev pub origin_of : Plan → Origin
-origin_of plan = record { geometry = plan.geometry; start = state_of plan.start.state; input = bytes_of plan.start.input; kept = plan.start.kept }
+origin_of plan = record {
+  geometry = plan.geometry;
+  start = state_of plan.start.state;
+  input = bytes_of plan.start.input;
+  kept = plan.start.kept;
+}
 
 -- what it is given besides, over a device that was fitted
 abbrev pub given_of : Plan → Device → Given
@@ -58,7 +63,8 @@ world_at p n cycles = record {
 }
 
 -- the run goes on: so many cycles were done since the device was fitted
-pub record GoesOn {M : Type 0} (K : KindOf M) (plan : Plan) (fitted : Device) (p : Progress M) (n : Device) (cycles : ℕ) : Type 0 where
+pub record GoesOn {M : Type 0} (K : KindOf M) (plan : Plan) (fitted : Device) (p : Progress M) (n : Device) (cycles : ℕ)
+    : Type 0 where
   pub ran : Ran K (origin_of plan) (given_of plan fitted) cycles (world_at p n cycles)
   pub going : is_halt (seen K (origin_of plan) (world_at p n cycles)).phase ≡ false
   pub released : p.released ≡ length (released_of (origin_of plan) p.events)
@@ -70,14 +76,16 @@ pub record GoesOn {M : Type 0} (K : KindOf M) (plan : Plan) (fitted : Device) (p
 -- ---- a step, and what is read for its events
 
 -- the machine took the schedule's next step
-pub record IsStepped {M : Type 0} (K : KindOf M) (plan : Plan) (p next : Progress M) (n new : Device) (cycles : ℕ) (r : Stepped) : Type 0 where
+pub record IsStepped {M : Type 0} (K : KindOf M) (plan : Plan) (p next : Progress M) (n new : Device) (cycles : ℕ) (r : Stepped)
+    : Type 0 where
   pub is_step : IsStep K (origin_of plan) cycles (mix_pick p.mix) p.machine next.machine n new r
   pub framed : IsFramed n new
   pub faults : new.faults ≡ n.faults
   pub same : next ≡ record p { machine = next.machine; mix = mix_next p.mix }
 
 -- what reading for a step's events stands on
-pub record CanGather {M : Type 0} (K : KindOf M) (o : Origin) (cycles : ℕ) (v : View) (p : Progress M) (n : Device) (r : Stepped) : Type 0 where
+pub record CanGather {M : Type 0} (K : KindOf M) (o : Origin) (cycles : ℕ) (v : View) (p : Progress M) (n : Device) (r : Stepped)
+    : Type 0 where
   pub at_next : K.is_at o cycles p.machine n
   pub step : CoreStep o v r.did (K.view o p.machine n)
   pub ended : r.ended ≡ halts v (K.view o p.machine n)
@@ -126,9 +134,11 @@ pub record IsStuck {M : Type 0} (K : KindOf M) (plan : Plan) (p next : Progress 
   pub same : next ≡ record p { machine = next.machine; mix = mix_next p.mix }
 
 -- the step and all its events were made, and these bytes are due to the terminal
-pub record IsNoted {M : Type 0} (K : KindOf M) (plan : Plan) (p next : Progress M) (n new : Device) (cycles : ℕ) (ended : Option Status) (bytes : List ℕ) : Type 0 where
+pub record IsNoted {M : Type 0} (K : KindOf M) (plan : Plan) (p next : Progress M) (n new : Device) (cycles : ℕ)
+    (ended : Option Status) (bytes : List ℕ) : Type 0 where
   pub steps : TakesStep K (origin_of plan) (world_at p n cycles) (world_at next new (cycles + 1))
-  pub is_end : IsEnd (origin_of plan) (seen K (origin_of plan) (world_at p n cycles)) (seen K (origin_of plan) (world_at next new (cycles + 1))) ended
+  pub is_end : IsEnd (origin_of plan) (seen K (origin_of plan) (world_at p n cycles))
+      (seen K (origin_of plan) (world_at next new (cycles + 1))) ended
   pub released : next.released ≡ length (released_of (origin_of plan) next.events)
   pub releases : released_of (origin_of plan) next.events ≡ released_of (origin_of plan) p.events ++ bytes
   pub faults : new.faults ≡ n.faults
@@ -136,8 +146,10 @@ pub record IsNoted {M : Type 0} (K : KindOf M) (plan : Plan) (p next : Progress 
   pub on_report : next.report_failed ≡ p.report_failed
 
 -- a cycle is done
-pub record IsDone {M : Type 0} (K : KindOf M) (plan : Plan) (p next : Progress M) (n new : Device) (cycles : ℕ) (bytes : List ℕ) : Type 0 where
-  pub cycle : Cycle K (origin_of plan) plan.config.cuts plan.config.tears (world_at p n cycles) (world_at next new (cycles + 1))
+pub record IsDone {M : Type 0} (K : KindOf M) (plan : Plan) (p next : Progress M) (n new : Device) (cycles : ℕ) (bytes : List ℕ)
+    : Type 0 where
+  pub cycle : Cycle K (origin_of plan) plan.config.cuts plan.config.tears (world_at p n cycles)
+      (world_at next new (cycles + 1))
   pub released : next.released ≡ length (released_of (origin_of plan) next.events)
   pub releases : released_of (origin_of plan) next.events ≡ released_of (origin_of plan) p.events ++ bytes
   pub grew : (more : List Event) × (next.events ≡ p.events ++ more)
@@ -147,7 +159,8 @@ pub record IsDone {M : Type 0} (K : KindOf M) (plan : Plan) (p next : Progress M
   pub on_report : next.report_failed ≡ p.report_failed
 
 -- a cycle was begun and is not done; where memory was not short, the bytes are all that is due
-pub record IsBroken {M : Type 0} (K : KindOf M) (plan : Plan) (p next : Progress M) (n new : Device) (cycles : ℕ) (bytes : List ℕ) : Type 0 where
+pub record IsBroken {M : Type 0} (K : KindOf M) (plan : Plan) (p next : Progress M) (n new : Device) (cycles : ℕ) (bytes : List ℕ)
+    : Type 0 where
   pub rest : List ℕ
   pub releases : released_of (origin_of plan) next.events ≡ released_of (origin_of plan) p.events ++ bytes ++ rest
   pub grew : (more : List Event) × (next.events ≡ p.events ++ more)
@@ -161,29 +174,37 @@ pub record IsFault {M : Type 0} (p next : Progress M) (n new : Device) (bytes : 
   pub rose : Rose n.faults new.faults
 
 -- why a cycle is not done: a device's fault or want of memory
-abbrev pub Breaks : {M : Type 0} → KindOf M → Plan → Progress M → Progress M → Device → Device → ℕ → List ℕ → Stop → Type 0
+abbrev pub Breaks : {M : Type 0} → KindOf M → Plan → Progress M → Progress M → Device → Device → ℕ → List ℕ
+    → Stop → Type 0
 Breaks K plan p next n new cycles bytes Nvm =
-    (StepFailed K (origin_of plan) (world_at p n cycles) next.events new ⊎ TellingFailed K (origin_of plan) (world_at p n cycles) next.events (ReadFailed (world_at p n cycles) next.events new))
+    (StepFailed K (origin_of plan) (world_at p n cycles) next.events new
+    ⊎ TellingFailed K (origin_of plan) (world_at p n cycles) next.events
+    (ReadFailed (world_at p n cycles) next.events new))
     × IsFault p next n new bytes
 Breaks K plan p next n new cycles bytes Memory =
-    TellingFailed K (origin_of plan) (world_at p n cycles) next.events (LeftAlone K (origin_of plan) plan.config.cuts new) × (new.faults ≡ n.faults)
+    TellingFailed K (origin_of plan) (world_at p n cycles) next.events (LeftAlone K (origin_of plan) plan.config.cuts new)
+    × (new.faults ≡ n.faults)
 Breaks K plan p next n new cycles bytes stop = ⊥
 
 -- a cut is due after a cycle whose events were made: the next one that is listed
-pub record AwaitsCut {M : Type 0} (K : KindOf M) (plan : Plan) (p next : Progress M) (n new : Device) (cycles : ℕ) (bytes : List ℕ) : Type 0 where
+pub record AwaitsCut {M : Type 0} (K : KindOf M) (plan : Plan) (p next : Progress M) (n new : Device) (cycles : ℕ) (bytes : List ℕ)
+    : Type 0 where
   pub noted : IsNoted K plan p next n new cycles None bytes
   pub due : (nat_lt next.passed (length plan.config.cuts) && slice_index plan.config.cuts next.passed == cycles + 1) ≡ true
 
 -- what a cycle came to
-abbrev pub ComesTo : {M : Type 0} → KindOf M → Plan → Progress M → Progress M → Device → Device → ℕ → List ℕ → Outcome → Type 0
+abbrev pub ComesTo : {M : Type 0} → KindOf M → Plan → Progress M → Progress M → Device → Device → ℕ → List ℕ
+    → Outcome → Type 0
 ComesTo K plan p next n new cycles bytes Goes =
-    IsDone K plan p next n new cycles bytes × (is_halt (seen K (origin_of plan) (world_at next new (cycles + 1))).phase ≡ false)
+    IsDone K plan p next n new cycles bytes
+    × (is_halt (seen K (origin_of plan) (world_at next new (cycles + 1))).phase ≡ false)
 ComesTo K plan p next n new cycles bytes Cuts = AwaitsCut K plan p next n new cycles bytes
 ComesTo K plan p next n new cycles bytes (Ends status) =
     IsDone K plan p next n new cycles bytes
     × (is_halt (seen K (origin_of plan) (world_at next new (cycles + 1))).phase ≡ true)
     × EndsWith next.events status
-ComesTo K plan p next n new cycles bytes (Fails stop) = IsBroken K plan p next n new cycles bytes × Breaks K plan p next n new cycles bytes stop
+ComesTo K plan p next n new cycles bytes (Fails stop) =
+    IsBroken K plan p next n new cycles bytes × Breaks K plan p next n new cycles bytes stop
 
 -- power may be cut: the machine is at a moment of the run, and another cut is listed
 pub record CanCut {M : Type 0} (K : KindOf M) (plan : Plan) (p : Progress M) (n : Device) : Type 0 where
@@ -193,7 +214,13 @@ pub record CanCut {M : Type 0} (K : KindOf M) (plan : Plan) (p : Progress M) (n 
   pub few : p.passed < length plan.config.cuts
 
 -- power was cut, with a new machine
-pub record IsCutOffTo {M : Type 0} (K : KindOf M) (plan : Plan) (p next : Progress M) (n new : Device) (cycle : ℕ) : Type 0 where
+pub record IsCutOffTo {M : Type 0} (K : KindOf M) (plan : Plan) (p next : Progress M) (n new : Device) (cycle : ℕ)
+    : Type 0 where
   pub cut : IsCut (tear plan.config.tears p.passed) n new
   pub powered : K.powered plan.geometry next.machine
-  pub same : next ≡ record p { machine = next.machine; passed = p.passed + 1; fresh = true; events = p.events ++ Cut (p.passed + 1) cycle ∷ [] }
+  pub same : next ≡ record p {
+    machine = next.machine;
+    passed = p.passed + 1;
+    fresh = true;
+    events = p.events ++ Cut (p.passed + 1) cycle ∷ [];
+  }

@@ -33,13 +33,15 @@ use Rattle.thy_run.specs.World.{seen, did_told, end_told, events_of}
 -- ---- a step
 
 -- a step that succeeded is the schedule's next
-abbrev pub StepsOn : {M : Type 0} → KindOf M → Plan → Progress M → Progress M → Device → Device → Result Stepped NvmError → Type 0
+abbrev pub StepsOn : {M : Type 0} → KindOf M → Plan → Progress M → Progress M → Device → Device
+    → Result Stepped NvmError → Type 0
 StepsOn K plan p next n new result =
     (k : ℕ) → K.is_at (origin_of plan) k p.machine n → k < 2 ^ 62
     → IfOk result (λ r. IsStepped K plan p next n new k r)
 
 -- and one that failed leaves what its action may leave
-abbrev pub GetsStuck : {M : Type 0} → KindOf M → Plan → Progress M → Progress M → Device → Device → Result Stepped NvmError → Type 0
+abbrev pub GetsStuck : {M : Type 0} → KindOf M → Plan → Progress M → Progress M → Device → Device
+    → Result Stepped NvmError → Type 0
 GetsStuck K plan p next n new result =
     (k : ℕ) → K.is_at (origin_of plan) k p.machine n → OnErr result (IsStuck K plan p next n new)
 
@@ -51,7 +53,8 @@ BoxesSnapshot K m n result =
     (o : Origin) (k : ℕ) → K.is_at o k m n → is_between (K.view o m n) ≡ true
     → IfOk result (λ s. IsSnapshot o (K.view o m n) s.value)
 
-abbrev pub ReadsRestart : {M : Type 0} → KindOf M → Progress M → Device → Did → Result (Option (Box MachState Global)) CoreError → Type 0
+abbrev pub ReadsRestart : {M : Type 0} → KindOf M → Progress M → Device → Did
+    → Result (Option (Box MachState Global)) CoreError → Type 0
 ReadsRestart K p n did result =
     (o : Origin) (k : ℕ) (v : View) (r : Stepped) → r.did ≡ did → CanGather K o k v p n r
     → IfOk result (λ s. Restores o did s)
@@ -61,7 +64,8 @@ ReadsDue K p n did result =
     (o : Origin) (k : ℕ) (v : View) (r : Stepped) → r.did ≡ did → CanGather K o k v p n r
     → IfOk result (λ b. bytes_of b ≡ due_of o p.events did (K.view o p.machine n))
 
-abbrev pub ReadsEnd : {M : Type 0} → KindOf M → Progress M → Device → Bool → Result (Option (Box MachState Global)) CoreError → Type 0
+abbrev pub ReadsEnd : {M : Type 0} → KindOf M → Progress M → Device → Bool
+    → Result (Option (Box MachState Global)) CoreError → Type 0
 ReadsEnd K p n ended result =
     (o : Origin) (k : ℕ) (v : View) (r : Stepped) → r.ended ≡ ended → CanGather K o k v p n r
     → IfOk result (λ s. IsEnding o v (K.view o p.machine n) s)
@@ -79,12 +83,15 @@ GathersAll K p n stepped result =
 -- ---- a step's events
 
 -- the event of a restart is made
-abbrev pub NotesRestart : {T E : Type 0} → ℕ → ℕ → Option (Box MachState Global) → List Event → List Event → Result T E → Type 0
+abbrev pub NotesRestart : {T E : Type 0} → ℕ → ℕ → Option (Box MachState Global) → List Event → List Event
+    → Result T E → Type 0
 NotesRestart epoch count restored old new result =
-    (o : Origin) → Restores o (Restarted epoch count) restored → OnOk result (new ≡ old ++ did_told o (Restarted epoch count) 0)
+    (o : Origin) → Restores o (Restarted epoch count) restored
+    → OnOk result (new ≡ old ++ did_told o (Restarted epoch count) 0)
 
 -- so is that of what a step did
-abbrev pub NotesDid : {T E : Type 0} → Did → Option (Box MachState Global) → ℕ → List Event → List Event → Result T E → Type 0
+abbrev pub NotesDid : {T E : Type 0} → Did → Option (Box MachState Global) → ℕ → List Event → List Event
+    → Result T E → Type 0
 NotesDid did restored cycle old new result =
     (o : Origin) → Restores o did restored → OnOk result (new ≡ old ++ did_told o did cycle)
 
@@ -99,15 +106,19 @@ AnswersEnd ended result =
     (o : Origin) (v next : View) → IsEnding o v next ended → IfOk result (λ s. IsEnd o v next s)
 
 -- all events of a step are made
-abbrev pub NotesAll : {T E : Type 0} → Did → Bool → Option (Box MachState Global) → Option (Box MachState Global) → ℕ → List Event → List Event → Result T E → Type 0
+abbrev pub NotesAll : {T E : Type 0} → Did → Bool → Option (Box MachState Global) → Option (Box MachState Global) → ℕ
+    → List Event → List Event → Result T E → Type 0
 NotesAll did reload restored ended cycle old new result =
-    (o : Origin) (fresh : Bool) (v next : View) → reload ≡ (fresh && loads next) → Restores o did restored → IsEnding o v next ended
+    (o : Origin) (fresh : Bool) (v next : View) → reload ≡ (fresh && loads next) → Restores o did restored
+    → IsEnding o v next ended
     → OnOk result (new ≡ old ++ events_of o fresh v did next cycle)
 
 -- or the first ones, where memory was short
-abbrev pub NotesSome : {T E : Type 0} → Did → Bool → Option (Box MachState Global) → Option (Box MachState Global) → ℕ → List Event → List Event → Result T E → Type 0
+abbrev pub NotesSome : {T E : Type 0} → Did → Bool → Option (Box MachState Global) → Option (Box MachState Global) → ℕ
+    → List Event → List Event → Result T E → Type 0
 NotesSome did reload restored ended cycle old new result =
-    (o : Origin) (fresh : Bool) (v next : View) → reload ≡ (fresh && loads next) → Restores o did restored → IsEnding o v next ended
+    (o : Origin) (fresh : Bool) (v next : View) → reload ≡ (fresh && loads next) → Restores o did restored
+    → IsEnding o v next ended
     → OnErr result (MadeSome new (events_of o fresh v did next cycle) old)
 
 -- ---- a cycle
@@ -120,9 +131,11 @@ ConcludesNoted {M = M} K plan next ended cycle outcome =
     → ComesTo K plan p next n m k bytes outcome
 
 -- what was read for the events of a step from p to q
-abbrev pub IsGatheredFor : {M : Type 0} → KindOf M → Plan → Progress M → Progress M → Device → Device → ℕ → Did → Readings → Type 0
+abbrev pub IsGatheredFor : {M : Type 0} → KindOf M → Plan → Progress M → Progress M → Device → Device → ℕ
+    → Did → Readings → Type 0
 IsGatheredFor K plan p q n m k did readings =
-    IsGathered (origin_of plan) (seen K (origin_of plan) (world_at p n k)) (K.view (origin_of plan) q.machine m) q did readings
+    IsGathered (origin_of plan) (seen K (origin_of plan) (world_at p n k)) (K.view (origin_of plan) q.machine m)
+    q did readings
 
 -- a step was taken, and all was read for its events
 abbrev pub CanConclude : {M : Type 0} → KindOf M → Plan → Progress M → Did → Readings → ℕ → Type 0
@@ -132,16 +145,19 @@ CanConclude {M = M} K plan q did readings cycle =
     × (r.did ≡ did) × (cycle ≡ k + 1)
 
 -- and then its cycle comes to this
-abbrev pub Concludes : {M : Type 0} → KindOf M → Plan → Progress M → Progress M → Did → Readings → ℕ → List ℕ → Outcome → Type 0
+abbrev pub Concludes : {M : Type 0} → KindOf M → Plan → Progress M → Progress M → Did → Readings → ℕ → List ℕ
+    → Outcome → Type 0
 Concludes {M = M} K plan q next did readings cycle bytes outcome =
     (fitted : Device) (p : Progress M) (n m : Device) (k : ℕ) (r : Stepped)
     → GoesOn K plan fitted p n k → IsStepped K plan p q n m k r → IsGatheredFor K plan p q n m k did readings
     → r.did ≡ did → cycle ≡ k + 1 → ComesTo K plan p next n m k bytes outcome
 
 -- from where a run goes on, a cycle comes to this
-abbrev pub TakesCycle : {M : Type 0} → KindOf M → Plan → Progress M → Progress M → Device → Device → ℕ → Advance → Type 0
+abbrev pub TakesCycle : {M : Type 0} → KindOf M → Plan → Progress M → Progress M → Device → Device → ℕ
+    → Advance → Type 0
 TakesCycle K plan p next n new done advance =
-    (fitted : Device) → GoesOn K plan fitted p n done → ComesTo K plan p next n new done (bytes_due advance) (outcome_of advance)
+    (fitted : Device) → GoesOn K plan fitted p n done
+    → ComesTo K plan p next n new done (bytes_due advance) (outcome_of advance)
 
 -- ---- a round of the loop
 
@@ -151,7 +167,8 @@ IsRunning K plan p n done now =
     (fitted : Device) × (t : Stream) × (r : Stream) × Running K plan fitted p n done t now.terminal r now.report
 
 -- and a round comes to this
-abbrev pub MakesRound : {M : Type 0} → KindOf M → Plan → Progress M → Progress M → Device → Device → ℕ → Sinks → Sinks → Round → Type 0
+abbrev pub MakesRound : {M : Type 0} → KindOf M → Plan → Progress M → Progress M → Device → Device → ℕ
+    → Sinks → Sinks → Round → Type 0
 MakesRound K plan p next n new done before after round =
     (fitted : Device) (t r : Stream) → Running K plan fitted p n done t before.terminal r before.report
     → IsRound K plan fitted p next n new done t before.terminal after.terminal r before.report after.report round
@@ -169,7 +186,8 @@ RunsTo K plan fitted new e before after =
     RunEnds K plan fitted new e before.terminal after.terminal before.report after.report
 
 -- after the cut it goes on
-abbrev pub CutsOn : {M : Type 0} → KindOf M → Plan → Progress M → Device → Device → ℕ → List ℕ → ℕ → Sinks → Sinks → Result (Progress M) Ending → Type 0
+abbrev pub CutsOn : {M : Type 0} → KindOf M → Plan → Progress M → Device → Device → ℕ → List ℕ → ℕ → Sinks → Sinks
+    → Result (Progress M) Ending → Type 0
 CutsOn {M = M} K plan next m new done bytes first before after result =
     (fitted : Device) (p : Progress M) (n : Device) (t r : Stream)
     → Running K plan fitted p n done t before.terminal r before.report
@@ -177,7 +195,8 @@ CutsOn {M = M} K plan next m new done bytes first before after result =
     → IfOk result (λ q. Running K plan fitted q new (done + 1) t after.terminal r after.report)
 
 -- or it ends there
-abbrev pub CutsShort : {M : Type 0} → KindOf M → Plan → Progress M → Device → Device → ℕ → List ℕ → ℕ → Sinks → Sinks → Result (Progress M) Ending → Type 0
+abbrev pub CutsShort : {M : Type 0} → KindOf M → Plan → Progress M → Device → Device → ℕ → List ℕ → ℕ → Sinks → Sinks
+    → Result (Progress M) Ending → Type 0
 CutsShort {M = M} K plan next m new done bytes first before after result =
     (fitted : Device) (p : Progress M) (n : Device) (t r : Stream)
     → Running K plan fitted p n done t before.terminal r before.report

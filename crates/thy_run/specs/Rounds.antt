@@ -45,22 +45,31 @@ pub record IsFitted {M : Type 0} (K : KindOf M) (plan : Plan) (n : Device) : Typ
   pub is_fitted : n ≡ fitted shape start before
 
 -- the run goes on, and the sinks took all that was due so far
-pub record Running {M : Type 0} (K : KindOf M) (plan : Plan) (fitted : Device) (p : Progress M) (n : Device) (cycles : ℕ) (terminal shown report read : Stream) : Type 0 where
+pub record Running {M : Type 0} (K : KindOf M) (plan : Plan) (fitted : Device) (p : Progress M) (n : Device) (cycles : ℕ)
+    (terminal shown report read : Stream) : Type 0 where
   pub goes : GoesOn K plan fitted p n cycles
   pub shown_all : Took terminal shown (released_of (origin_of plan) p.events)
   pub read_all : Took report read (report_of plan.digest p.events)
 
 -- what a run of a plan leaves
-abbrev pub RunEnds : {M : Type 0} → KindOf M → Plan → Device → Device → Ending → Stream → Stream → Stream → Stream → Type 0
+abbrev pub RunEnds : {M : Type 0} → KindOf M → Plan → Device → Device → Ending
+    → Stream → Stream → Stream → Stream → Type 0
 RunEnds K plan fitted new e terminal shown report read =
     HasRun K (origin_of plan) (given_of plan fitted) new e terminal shown report read
 
 -- the ending of a run that stops there
 abbrev pub ending_of : {M : Type 0} → Stop → Progress M → ℕ → Ending
-ending_of stop p cycles = record { stop = stop; events = p.events; cycles = cycles; terminal_failed = p.terminal_failed; report_failed = p.report_failed }
+ending_of stop p cycles = record {
+  stop = stop;
+  events = p.events;
+  cycles = cycles;
+  terminal_failed = p.terminal_failed;
+  report_failed = p.report_failed;
+}
 
 -- what a round of the loop comes to
-abbrev pub IsRound : {M : Type 0} → KindOf M → Plan → Device → Progress M → Progress M → Device → Device → ℕ → Stream → Stream → Stream → Stream → Stream → Stream → Round → Type 0
+abbrev pub IsRound : {M : Type 0} → KindOf M → Plan → Device → Progress M → Progress M → Device → Device → ℕ
+    → Stream → Stream → Stream → Stream → Stream → Stream → Round → Type 0
 IsRound K plan fitted p next n new cycles terminal showing shown report reading read RoundGoesOn =
     Running K plan fitted next new (cycles + 1) terminal shown report read
 IsRound K plan fitted p next n new cycles terminal showing shown report reading read (CutsOff bytes) =

@@ -34,7 +34,8 @@ LeftAlone K o cuts n next rest = (n ≡ next.device) × ((rest ≢ []) ⊎ (is_d
 
 -- The step was done, but of its events only the first were made: a read for the others failed, or memory was short; which of
 -- these says what the step's device has become, and what was still to be done.
-pub record TellingFailed {M : Type 0} (K : KindOf M) (o : Origin) (w : World M) (events : List Event) (Why : World M → List Event → Type 0) : Type 0 where
+pub record TellingFailed {M : Type 0} (K : KindOf M) (o : Origin) (w : World M) (events : List Event)
+    (Why : World M → List Event → Type 0) : Type 0 where
   pub next : World M
   pub steps : TakesStep K o w next
   pub part : List Event
@@ -51,10 +52,12 @@ IsLast w events n = (events ≡ w.events) × (n ≡ w.device)
 -- what stands at the end: the last cycle is done, or one more was begun
 abbrev pub Ends : {M : Type 0} → KindOf M → Origin → World M → List Event → Device → Type 0
 Ends K o w events n =
-    IsLast w events n ⊎ (StepFailed K o w events n ⊎ TellingFailed K o w events (λ next rest. (n ≡ next.device) ⊎ ReadFailed w events n next rest))
+    IsLast w events n
+    ⊎ (StepFailed K o w events n ⊎ TellingFailed K o w events (λ next rest. (n ≡ next.device) ⊎ ReadFailed w events n next rest))
 
 -- a run of so many cycles has given these events and left this device
-pub record Finished {M : Type 0} (K : KindOf M) (o : Origin) (given : Given) (cycles : ℕ) (events : List Event) (n : Device) : Type 0 where
+pub record Finished {M : Type 0} (K : KindOf M) (o : Origin) (given : Given) (cycles : ℕ) (events : List Event) (n : Device)
+    : Type 0 where
   pub last : World M
   pub ran : Ran K o given cycles last
   pub ends : Ends K o last events n

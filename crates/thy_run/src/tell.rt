@@ -1,5 +1,5 @@
 //! Telling what happened: bytes to the terminal, lines to the report.
-ghost use Rattle.std.specs.Prelude.{◌≡◌, ◌≤◌, false, length, [], ◌++◌};
+ghost use Rattle.std.specs.Prelude.{◌≡◌, ◌≤◌, false, length, []};
 ghost use Rattle.thy_run.specs.Sending.{Sent, TellsLines};
 
 use thy_base::Sink;
@@ -12,9 +12,8 @@ fn write_lines<R: Sink>(events: &Events, first: usize, digest: bool, report: &mu
     ensures none { first ≡ length events.now → result ≡ false }
 {
     for i in first..events.len() {
-        match write_event(events.get(i), digest, report) {
-            Ok(()) => {}
-            Err(_) => return true,
+        if write_event(events.get(i), digest, report).is_err() {
+            return true;
         }
     }
     false
@@ -28,10 +27,7 @@ pub fn write_bytes<T: Sink>(bytes: &[u8], terminal: &mut T) -> bool
     if bytes.is_empty() {
         return false;
     }
-    match terminal.write(bytes) {
-        Ok(()) => false,
-        Err(_) => true,
-    }
+    terminal.write(bytes).is_err()
 }
 
 /// Which of the two sinks failed.

@@ -1,7 +1,6 @@
-use Rattle.std.proofs.Common.{◌≡◌, sym, ap, subst}
+use Rattle.std.proofs.Common.{sym, subst}
 use Rattle.thy_cli.specs.declared.source.Source.{Source}
-use Rattle.thy_cli.specs.declared.source.Source.TheVariants.{Image}
-use Rattle.thy_cli.specs.Planning.{BeginsAs, RefusesAs, named}
+use Rattle.thy_cli.specs.Planning.{RefusesAs, named}
 use Rattle.thy_cli.proofs.beginning.begin.Goals as goal
 
 pub returns-in-Image-clause-refusal : goal.returns-in-Image-clause-refusal

@@ -1,4 +1,4 @@
-use Rattle.std.proofs.Common.{◌≡◌, ap, sym, subst, refl, inl}
+use Rattle.std.proofs.Common.{◌≡◌, sym, subst, refl, inl}
 use Rattle.thy_base.specs.Geometry.{parameters_of}
 use Rattle.thy_base.specs.Outside.{Stock}
 use Rattle.thy_words.specs.Settings.{Job, job_of}

@@ -3,7 +3,7 @@ use Rattle.std.specs.Prelude.{Result}
 use Rattle.std.specs.String.{string_bytes}
 use Rattle.thy_words.specs.declared.words.Command.{Command}
 use Rattle.thy_words.specs.declared.words.WordsError.{WordsError}
-use Rattle.thy_words.specs.Settings.{Job, Order, run, resume, bench, plain, make, job_of, order_of}
+use Rattle.thy_words.specs.Settings.{Order, run, resume, bench, plain, make, job_of, order_of}
 use Rattle.thy_cli.specs.Answering.{Outside, outside, PlainAnswered, MakeAnswered}
 use Rattle.thy_cli.proofs.CompleteLaws.{Claim-answered}
 use Rattle.thy_cli.proofs.TopLemmas.{RunAnswered-file, RunAnswered-image, WordsDue-shown}
