@@ -51,7 +51,8 @@ impl<S: Scheme> Machine<S> {
         dram: Dram,
     ) -> Result<Machine<S>, AllocError>
         requires { IsDramOf geometry.now dram }
-        ensures { IfOk result (λ m. IsPowered S.scheme geometry.now m) }
+        ensures powered { IfOk result (λ m. IsPowered S.scheme geometry.now m) }
+        ensures dram { IfOk result (λ m. S.scheme.dram m.scheme ≡ dram) }
     {
         let parts = power::power_on(alloc, geometry, dram)?;
         Ok(Machine { parts })

@@ -25,7 +25,8 @@ pub(crate) fn power_on<S: Scheme>(
     dram: Dram,
 ) -> Result<Parts<S>, AllocError>
     requires { IsDramOf geometry.now dram }
-    ensures { IfOk result (λ m. IsPowered S.scheme geometry.now (machine_of m)) }
+    ensures powered { IfOk result (λ m. IsPowered S.scheme geometry.now (machine_of m)) }
+    ensures dram { IfOk result (λ m. S.scheme.dram m.behind.scheme ≡ dram) }
 {
     let numbers = geometry.numbers();
     let cache = Cache::new(alloc, numbers.sets, numbers.ways)?;

@@ -175,6 +175,7 @@ module _ {M : Type 0} (K : KindOf M) (laws : IsLawful K) (plan : Plan) (p q : Pr
       let off : IsCutOff K (origin_of plan) (tear plan.config.tears q.passed) (world_at q m (k + 1)) (world_at q' m' (k + 1)) = record {
         cut = cut.cut;
         powered = cut.powered;
+        dram = cut.dram;
         at_moment = subst (λ d. K.is_at (origin_of plan) (k + 1) q'.machine d) (sym device) law.0;
         found = found;
         next_is = ap (λ (y : Progress M). world_at y m' (k + 1)) cut.same

@@ -6,6 +6,7 @@ use Rattle.thy_base.specs.Config.{IsRising}
 use Rattle.thy_base.specs.Counts.{Rose}
 use Rattle.thy_base.specs.Device.{Device, IsFramed, IsCut}
 use Rattle.thy_base.specs.Mix.{mix_pick, mix_next}
+use Rattle.thy_dram.specs.Contents.{lost}
 use Rattle.thy_isa.specs.declared.state.MachState.{MachState}
 use Rattle.thy_isa.specs.declared.state.Status.{Status}
 use Rattle.thy_isa.specs.Step.{state_of}
@@ -213,11 +214,12 @@ pub record CanCut {M : Type 0} (K : KindOf M) (plan : Plan) (p : Progress M) (n 
   pub room : length n.left < n.left_room
   pub few : p.passed < length plan.config.cuts
 
--- power was cut, with a new machine
+-- power was cut, with a new machine over the DRAM that is left of the old one's
 pub record IsCutOffTo {M : Type 0} (K : KindOf M) (plan : Plan) (p next : Progress M) (n new : Device) (cycle : ℕ)
     : Type 0 where
   pub cut : IsCut (tear plan.config.tears p.passed) n new
   pub powered : K.powered plan.geometry next.machine
+  pub dram : K.dram next.machine ≡ lost (K.dram p.machine) (tear plan.config.tears p.passed)
   pub same : next ≡ record p {
     machine = next.machine;
     passed = p.passed + 1;

@@ -4,6 +4,7 @@ use Rattle.thy_base.specs.declared.config.Config.{Config}
 use Rattle.thy_base.specs.declared.mix.Mix.{Mix}
 use Rattle.thy_base.specs.Device.{Device, IsCut}
 use Rattle.thy_base.specs.Mix.{mix_start, mix_pick, mix_next}
+use Rattle.thy_dram.specs.Contents.{lost}
 use Rattle.thy_view.specs.Kind.{KindOf, IsStep}
 use Rattle.thy_text.specs.Event.{Event, EpochEnd, Commit, Cut, Restart, Reload, Ended}
 use Rattle.thy_view.specs.declared.did.Did.{Did}
@@ -89,11 +90,12 @@ cut_off w m n = record w {
   events = w.events ++ Cut (w.passed + 1) w.cycles ∷ [];
 }
 
--- Power is cut, and comes on again: a new machine, which has read nothing, and will find what the device's image decodes
--- to.
+-- Power is cut, and comes on again: a new machine over the DRAM that the pick leaves of the old one's. It has read
+-- nothing, and will find what the device's image decodes to.
 pub record IsCutOff {M : Type 0} (K : KindOf M) (o : Origin) (pick : ℕ) (w next : World M) : Type 0 where
   pub cut : IsCut pick w.device next.device
   pub powered : K.powered o.geometry next.machine
+  pub dram : K.dram next.machine ≡ lost (K.dram w.machine) pick
   pub at_moment : K.is_at o w.cycles next.machine next.device
   pub found : seen K o next ≡ view_of_image o.start.count (K.decode o.geometry ceiling next.device.image)
   pub next_is : next ≡ cut_off w next.machine next.device

@@ -35,7 +35,8 @@ pub trait Scheme: Drop {
     /// A scheme whose power has just come on, over a DRAM of any content. On a refusal the DRAM is given up.
     fn new(alloc: Global, geometry: &Geometry, dram: Dram) -> Result<Self, AllocError>
         requires { IsDramOf geometry.now dram }
-        ensures { IfOk result (λ s. scheme.powered geometry.now s) };
+        ensures powered { IfOk result (λ s. scheme.powered geometry.now s) }
+        ensures dram { IfOk result (λ s. scheme.dram s ≡ dram) };
 
     /// Loses power: all is gone but the DRAM, whose bytes are those that the pick draws.
     fn cut(self, pick: u64) -> Dram

@@ -28,7 +28,8 @@ pub trait Computer: Drop {
     /// A machine whose power has just come on, over a DRAM of any content. On a refusal the DRAM is given up.
     fn power_on(alloc: Global, geometry: &Geometry, dram: Dram) -> Result<Self, AllocError>
         requires { IsDramOf geometry.now dram }
-        ensures { IfOk result (λ m. kind.powered geometry.now m) };
+        ensures powered { IfOk result (λ m. kind.powered geometry.now m) }
+        ensures dram { IfOk result (λ m. kind.dram m ≡ dram) };
 
     /// One cycle: the pick's, or where its actor has nothing to do the hart's. Takes no memory.
     ///
