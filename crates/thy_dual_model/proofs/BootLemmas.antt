@@ -203,6 +203,7 @@ module _ (o : Origin) (s : Dual) (n : Device) (t : State) (boots : Boots o s n) 
   boot-drains =
       subst (λ (x : State). BootDrains dual_scheme o s n (record s { control = x })) (sym is) (record {
         stays = record { boots = boots-after (subst (λ (x : State). AreSoundTables x) is tables); view = refl; left = refl; read = refl };
+        dram = refl;
         queue = omega (arith, takes_one s.control some);
       })
 

@@ -1,13 +1,14 @@
 -- A step of the boot.
-use Rattle.std.proofs.Common.{◌≡◌, ◌≢◌, ℕ, ◌+◌, ◌≤◌, Bool, true, false, List, length, refl, sym, ◌∙◌, ap, subst, arith, Option, Some, None, Result, Ok, Err, IfOk, OnErr}
+use Rattle.std.proofs.Common.{◌≡◌, ◌≢◌, ℕ, ◌+◌, ◌≤◌, Bool, true, false, List, length, refl, sym, ◌∙◌, ap, subst, inl, inr, arith, nat_lt, Option, Some, None, Result, Ok, Err, IfOk, OnErr}
 use Rattle.std.proofs.lemmas.List.{length-drop}
 use Rattle.thy_base.specs.declared.block.Block.{Block}
 use Rattle.thy_base.specs.declared.config.Parameters.{Parameters}
 use Rattle.thy_base.specs.declared.mark.Mark.{Mark}
 use Rattle.thy_base.specs.declared.nvm.NvmError.{NvmError}
-use Rattle.thy_base.specs.Device.{Device, IsFramed, CountsFault}
+use Rattle.thy_base.specs.declared.place.Place.TheVariants.{AlternatePage, Frame}
+use Rattle.thy_base.specs.Device.{Device, IsFramed, CountsFault, newest}
 use Rattle.thy_base.specs.Marks.{mark}
-use Rattle.thy_base.specs.Places.{image_blocks}
+use Rattle.thy_base.specs.Places.{image_blocks, number_of, slot_blocks}
 use Rattle.thy_crash.specs.Saved.{Kept}
 use Rattle.thy_isa.specs.declared.state.CpuState.{CpuState}
 use Rattle.thy_isa.specs.OnBlocks.{state_from}
@@ -16,6 +17,8 @@ use Rattle.thy_record.specs.declared.image.BadImage.{BadImage}
 use Rattle.thy_record.specs.declared.start.Start.{Start}
 use Rattle.thy_record.specs.Cpu.{cpu_of_record}
 use Rattle.thy_record.specs.Images.{decode_image}
+use Rattle.thy_record.specs.Slots.{slot_fault}
+use Rattle.thy_control.specs.Boot.{with_frame}
 use Rattle.thy_control.specs.State.{State, AreSoundTables, IsSized}
 use Rattle.thy_control.proofs.HoldingLemmas.{works-sized}
 use Rattle.thy_protocol.specs.Keeps.{Keeps, finding_view}
@@ -26,6 +29,7 @@ use Rattle.thy_view.specs.declared.view.View.{View}
 use Rattle.thy_view.specs.Action.{Action, Rest, ReadAt, WriteAt, Barrier, Drain, after, Acts, ActionFailed}
 use Rattle.thy_view.specs.Booting.{boot_view, loading_view}
 use Rattle.thy_view.specs.CoreStep.{BootsTo, CoreStep}
+use Rattle.thy_view.specs.Dram.{ActsOnDram}
 use Rattle.thy_view.specs.Origin.{Origin, Begins}
 use Rattle.thy_view.specs.Safe.{ceiling, Safe}
 use Rattle.thy_commit.specs.Progress.{Fits}
@@ -36,10 +40,11 @@ use Rattle.thy_recover.specs.declared.stage.Issue.{Issue}
 use Rattle.thy_recover.specs.declared.stage.Issue.TheVariants.{Home, Slot, Header, Settle, Commit, Confirm}
 use Rattle.thy_recover.specs.declared.stage.BootStep.{BootStep}
 use Rattle.thy_recover.specs.declared.stage.BootStep.TheVariants.{Reading, Loading as IsLoading, Loaded as HasLoaded, Restarted, Refused}
-use Rattle.thy_recover.specs.Boot.{Booting, IsBoot, slot_of, issue_at, answer_at, answer_of}
+use Rattle.thy_recover.specs.Boot.{Booting, IsBoot, slot_of, issue_at, answer_at, answer_of, JudgesUnless}
 use Rattle.thy_recover.specs.Left.{boot_left}
 use Rattle.thy_recover.specs.Laws.{IsGoing, IsMoved, IsFilled, failed_answer}
 use Rattle.thy_recover.specs.Loads.{issue_action}
+use Rattle.thy_recover.specs.Reads.{slot_read, Fills}
 use Rattle.thy_recover.specs.Recovers.{HasReadAt, loads}
 use Rattle.thy_recover.specs.Shows.{seen_at, did_of}
 use Rattle.thy_recover.specs.Sound.{BootImages, start_mark, standing_in_boot, images_after, IsSoundAt, IsLoaded, IsBooted as IsBootedAt}
@@ -92,6 +97,32 @@ after-queue (ReadAt place) n = omega arith
 after-queue (WriteAt place block) n = queue-written n place block
 after-queue Barrier n = omega arith
 after-queue Drain n = omega (arith, length-drop 1 n.queue)
+
+-- ---- the DRAM
+
+-- a slot that was judged leaves it as it was
+judged-dram : (z : Bool) (f : Option BadImage) (b : Booting) (c e : State) → JudgesUnless z f b c e → e.dram ≡ c.dram
+judged-dram true f b c e h = ap (λ (x : State). x.dram) h
+judged-dram false None b c e h = ap (λ (x : State). x.dram) h.same
+judged-dram false (Some bad) b c e h = ap (λ (x : State). x.dram) h
+
+frame-acts : (page next : ℕ) (c : State) (n : Device) → ActsOnDram n n c.dram (with_frame page next c n).dram
+unfolding with_frame
+frame-acts page next c n =
+    inr (record { at = number_of c.p (Frame page next); block = newest n (number_of c.p (AlternatePage page next)); left = refl; nvm = refl })
+
+-- a step that reads copies a page's block into its frame, or leaves it as it was
+fills-act : (q : Stage) (n : Device) (b : Booting) (c e : State) → Fills q n b c e → ActsOnDram n n c.dram e.dram
+fills-act Unread n b c e f = inl (ap (λ (x : State). x.dram) f)
+fills-act (ReadsHeader epoch fault) n b c e f = inl (ap (λ (x : State). x.dram) f)
+fills-act (ReadsSlot epoch next) n b c e f =
+    let b1 : Booting = slot_read epoch next n b in
+    inl (judged-dram (nat_lt (next + 1) (slot_blocks b1.p)) (slot_fault b1.p ceiling epoch (slot_of b1)) b1 c e f)
+fills-act (Frames epoch page next) n b c e f = subst (λ (x : State). ActsOnDram n n c.dram x.dram) (sym f) (frame-acts page next c n)
+fills-act (Refusing bad) n b c e f = inl (ap (λ (x : State). x.dram) f)
+fills-act (Loading issue) n b c e f = inl (ap (λ (x : State). x.dram) f)
+fills-act (Restored epoch) n b c e f = inl (ap (λ (x : State). x.dram) f)
+fills-act Loaded n b c e f = inl (ap (λ (x : State). x.dram) f)
 
 -- ---- how far it is
 
@@ -351,10 +382,15 @@ module _ (o : Origin) (s : Dual) (n : Device) (booting : IsBooting dual_scheme o
         ap (λ (x : State). x.dram.queued) l.control,
       )
 
+  dram-by : (i : Option Issue) → StepsBy i o.start n b s.control new d e → ActsOnDram n new s.control.dram e.dram
+  dram-by None r = subst (λ (x : Device). ActsOnDram n x s.control.dram e.dram) (sym r.device) (fills-act b.stage n b s.control e r.control)
+  dram-by (Some issue) l = inl (ap (λ (x : State). x.dram) l.control)
+
   boots_on : BootsOn dual_scheme o (step_of (answer_of d)) s n t new
   boots_on = record {
     answers = answers-at d.stage refl moved.shows;
     acts = subst (λ (x : Did). Acts x n new) (sym (did-answered (answer_of d))) acts;
+    dram = dram-by (issue_at b.stage) steps;
     queue = queue-by (issue_at b.stage) steps;
     nearer = subst (λ (p : Parameters). boot_left p d.stage + 1 ≤ boot_left b.p b.stage) (sym same) nearer;
     read = read;

@@ -1,5 +1,5 @@
 -- What an item of the engine leaves alone.
-use Rattle.std.proofs.Common.{◌≡◌, ◌≢◌, ℕ, ◌+◌, ◌<◌, ◌≤◌, nat_lt, Bool, true, false, if◌then◌else◌, length, refl, sym, ◌∙◌, ap, arith, Option, Some, None, option_and_then, length-append, length-drop}
+use Rattle.std.proofs.Common.{◌≡◌, ◌≢◌, ℕ, ◌+◌, ◌<◌, ◌≤◌, nat_lt, Bool, true, false, if◌then◌else◌, length, refl, sym, ◌∙◌, ap, inl, inr, arith, Option, Some, None, option_and_then, length-append, length-drop}
 use Rattle.std.proofs.lemmas.Bool.{ltb-true}
 use Rattle.thy_base.specs.declared.block.Block.{Block}
 use Rattle.thy_base.specs.declared.config.Parameters.{Parameters}
@@ -30,6 +30,7 @@ use Rattle.thy_control.specs.Promotions.{fills_left, unfilled}
 use Rattle.thy_control.specs.State.{State, AreSoundTables, cell_of}
 use Rattle.thy_control.proofs.FindLemmas.{found_entry, entry_for-some}
 use Rattle.thy_control.proofs.IssueLemmas.{IsDue-entry, listed-busy}
+use Rattle.thy_view.specs.Dram.{ActsOnDram}
 use Rattle.thy_commit.specs.declared.next.Next.{Next}
 use Rattle.thy_commit.specs.declared.next.Next.TheVariants.{Nothing, Copies, Pages, Slot, Settle, Commit, Confirm}
 use Rattle.thy_commit.specs.Frees.{IsButCopied}
@@ -40,8 +41,9 @@ use Rattle.thy_dual_model.specs.Sound.{is_confirming}
 -- ---- one write
 
 -- a write leaves the room of the DRAM's queue, as many blocks in the NVM, that as up as it was, its header, and one write more
--- in both queues at most
+-- in both queues at most; one of the DRAM leaves the NVM alone
 pub record IsWrite (old new : Devices) : Type 0 where
+  pub dram : ActsOnDram old.nvm new.nvm old.dram new.dram
   pub room : new.dram.room ≡ old.dram.room
   pub as_long : length new.nvm.image ≡ length old.nvm.image
   pub down : new.nvm.down ≡ old.nvm.down
@@ -53,6 +55,7 @@ queue-written n at block = simp (length-append, length-drop) (omega arith)
 
 pub IsWrite-nvm : (n : Device) (at : ℕ) (block : Block) (d : Devices) → d.nvm ≡ n → at ≢ 0 → IsWrite d (record d { nvm = written_to d.nvm at block })
 IsWrite-nvm n at block d is ne = record {
+  dram = inl refl;
   room = refl;
   as_long = length-written_to d.nvm at block;
   down = refl;
@@ -61,7 +64,14 @@ IsWrite-nvm n at block d is ne = record {
 }
 
 IsWrite-dram : (x : ℕ) (block : Block) (d : Devices) → IsWrite d (record d { dram = written d.dram x block })
-IsWrite-dram x block d = record { room = refl; as_long = refl; down = refl; header = λ l. refl; queue = omega arith }
+IsWrite-dram x block d = record {
+  dram = inr (record { at = x; block = block; left = refl; nvm = refl });
+  room = refl;
+  as_long = refl;
+  down = refl;
+  header = λ l. refl;
+  queue = omega arith;
+}
 
 -- the places of the NVM lie behind the header
 behind : (p : Parameters) (x : Place) → in_dram x ≡ false → number_of p x ≢ 0
@@ -79,10 +89,11 @@ IsWrite-at p x block d = by_side (in_dram x) refl where
   by_side false h = IsWrite-nvm d.nvm (number_of p x) block d refl (behind p x h)
 
 IsWrite-none : (d : Devices) → IsWrite d d
-IsWrite-none d = record { room = refl; as_long = refl; down = refl; header = λ l. refl; queue = omega arith }
+IsWrite-none d = record { dram = inl refl; room = refl; as_long = refl; down = refl; header = λ l. refl; queue = omega arith }
 
 IsWrite-settled : (n : Device) (s : State) → IsWrite (devices_of n s.dram) (devices_of (settled n) s.dram)
 IsWrite-settled n s = record {
+  dram = inl refl;
   room = refl;
   as_long = length-settled n;
   down = refl;

@@ -107,6 +107,8 @@ pub record IsLawful {S : Type 0} (K : SchemeOf S) : Type 0 where
   pub ready_up : (s : S) (n : Device) → (K.holding s n).ready ≡ true → n.down ≡ false
   pub ready_whole : (s : S) (n : Device) → (K.holding s n).ready ≡ true → K.promoting s ≡ false
   pub free_is : (s : S) (n : Device) → (K.holding s n).free ≡ K.free s
+  -- the writes that are queued in the DRAM are those that it says are
+  pub queued_is : (s : S) → K.queued s ≡ (K.dram s).queued
   -- what loads and stores keep
   pub stays_same : (s : S) (n : Device) → K.stays s n s n
   pub stays_on : (a : S) (m : Device) (b : S) (n : Device) (c : S) (o : Device)
