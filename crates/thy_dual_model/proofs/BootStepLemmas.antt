@@ -6,7 +6,7 @@ use Rattle.thy_base.specs.declared.config.Parameters.{Parameters}
 use Rattle.thy_base.specs.declared.mark.Mark.{Mark}
 use Rattle.thy_base.specs.declared.nvm.NvmError.{NvmError}
 use Rattle.thy_base.specs.declared.place.Place.TheVariants.{AlternatePage, Frame}
-use Rattle.thy_base.specs.Device.{Device, IsFramed, CountsFault, newest}
+use Rattle.thy_base.specs.Device.{Device, HasFailed, IsFramed, CountsFault, newest}
 use Rattle.thy_base.specs.Marks.{mark}
 use Rattle.thy_base.specs.Places.{image_blocks, number_of, slot_blocks}
 use Rattle.thy_crash.specs.Saved.{Kept}
@@ -26,7 +26,7 @@ use Rattle.thy_protocol.specs.Moves.{IsKeeping}
 use Rattle.thy_protocol.specs.VersionOne.{layout_of}
 use Rattle.thy_view.specs.declared.did.Did.{Did}
 use Rattle.thy_view.specs.declared.view.View.{View}
-use Rattle.thy_view.specs.Action.{Action, Rest, ReadAt, WriteAt, Barrier, Drain, after, Acts, ActionFailed}
+use Rattle.thy_view.specs.Action.{Action, Rest, ReadAt, WriteAt, Barrier, Drain, after, FailsTo, Acts, ActionFailed}
 use Rattle.thy_view.specs.Booting.{boot_view, loading_view}
 use Rattle.thy_view.specs.CoreStep.{BootsTo, CoreStep}
 use Rattle.thy_view.specs.Dram.{ActsOnDram}
@@ -44,17 +44,17 @@ use Rattle.thy_recover.specs.Boot.{Booting, IsBoot, slot_of, issue_at, answer_at
 use Rattle.thy_recover.specs.Left.{boot_left}
 use Rattle.thy_recover.specs.Laws.{IsGoing, IsMoved, IsFilled, failed_answer}
 use Rattle.thy_recover.specs.Loads.{issue_action}
-use Rattle.thy_recover.specs.Reads.{slot_read, Fills}
+use Rattle.thy_recover.specs.Reads.{read_action, slot_read, Fills}
 use Rattle.thy_recover.specs.Recovers.{HasReadAt, loads}
 use Rattle.thy_recover.specs.Shows.{seen_at, did_of}
 use Rattle.thy_recover.specs.Sound.{BootImages, start_mark, standing_in_boot, images_after, IsSoundAt, IsLoaded, IsBooted as IsBootedAt}
-use Rattle.thy_recover.specs.Steps.{CanStep, Steps, StepsBy, Fails, TakesStep}
+use Rattle.thy_recover.specs.Steps.{CanStep, Steps, StepsBy, FailsBy, Fails, TakesStep}
 use Rattle.thy_recover.proofs.StepMoveLemmas.{steps_move}
 use Rattle.thy_recover.proofs.SafeLemmas.{failures_move}
 use Rattle.thy_recover.proofs.EndLemmas.{restored_is_booted, never_refused}
 use Rattle.thy_recover.proofs.FoundLemmas.{count-state_from}
 use Rattle.thy_recover.proofs.SoundLemmas.{kept_after}
-use Rattle.thy_recover.proofs.ActLemmas.{steps_act, steps_fill, failures_act, steps_come_nearer}
+use Rattle.thy_recover.proofs.ActLemmas.{steps_act, found_stays, steps_fill, failures_act, steps_come_nearer}
 use Rattle.thy_recover.proofs.GoOnLemmas.{sound_may_step}
 use Rattle.thy_scheme.specs.Boots.{boot_did, IsBooted, Loads, Restarts, Answers, BootsOn, BootFails}
 use Rattle.thy_scheme.specs.Scheme.{IsBooting, CanBoot}
@@ -394,9 +394,33 @@ module _ (o : Origin) (s : Dual) (n : Device) (booting : IsBooting dual_scheme o
     queue = queue-by (issue_at b.stage) steps;
     nearer = subst (λ (p : Parameters). boot_left p d.stage + 1 ≤ boot_left b.p b.stage) (sym same) nearer;
     read = read;
+    still = λ m found. found_stays o g.kept m n b s.control new d e (sym (ap (λ (x : View). x.done) before) ∙ found) steps;
   }
 
 -- ---- one that failed
+
+-- a read that failed wrote nothing
+read-failed : (p : Parameters) (q : Stage) (n m : Device) → FailsTo (read_action p q) n m → HasFailed n m
+read-failed p Unread n m f = f
+read-failed p (ReadsHeader epoch fault) n m f = f
+read-failed p (ReadsSlot epoch next) n m f = f
+read-failed p (Frames epoch page next) n m f = f
+read-failed p (Refusing bad) n m f = absurd f
+read-failed p (Loading issue) n m f = absurd f
+read-failed p (Restored epoch) n m f = absurd f
+read-failed p Loaded n m f = absurd f
+
+-- where a checkpoint was found a step reads
+found-reads : (o : Origin) (kept : Option Mark) (m : Mark) (b : Booting) (n new : Device) (q : Stage) → (seen_at o kept q).done ≡ Some m → FailsBy (issue_at q) o.start b n new
+    → FailsTo (read_action b.p b.stage) n new
+found-reads o kept m b n new (Loading issue) done f = let both : None ≡ Some m = done in absurd (cc)
+found-reads o kept m b n new Unread done f = f
+found-reads o kept m b n new (ReadsHeader epoch fault) done f = f
+found-reads o kept m b n new (ReadsSlot epoch next) done f = f
+found-reads o kept m b n new (Frames epoch page next) done f = f
+found-reads o kept m b n new (Refusing bad) done f = f
+found-reads o kept m b n new (Restored epoch) done f = f
+found-reads o kept m b n new Loaded done f = f
 
 module _ (o : Origin) (s : Dual) (n : Device) (booting : IsBooting dual_scheme o s n) (new : Device) where
   boot_fails : Fails o.start s.boot n new → IsFramed n new → BootFails dual_scheme o s n new
@@ -410,6 +434,9 @@ module _ (o : Origin) (s : Dual) (n : Device) (booting : IsBooting dual_scheme o
         step = step_of answer;
         acted = subst (λ (x : Did). ActionFailed x n new) (sym (did-answered answer)) (failures_act o.start s.boot n new fails);
         safe = subst (λ (x : View). Safe decode_image o x.done x.sealed new) (sym (view-is o s n boots)) safe;
+        still = λ m found.
+            read-failed s.boot.p s.boot.stage n new
+            (found-reads o boots.images.kept m s.boot n new s.boot.stage (sym (ap (λ (x : View). x.done) (view-is o s n boots)) ∙ found) fails);
       }
 
 -- ---- by the boot's answer
