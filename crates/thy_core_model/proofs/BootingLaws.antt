@@ -1,5 +1,6 @@
 -- While the scheme boots: what a cycle keeps of the machine that leaves it there.
 use Rattle.std.proofs.Common.{◌≡◌, ◌≢◌, ℕ, ◌+◌, ◌≤◌, true, false, [], length, Some, None, refl, sym, ◌∙◌, ap, subst, arith, inl, inr}
+use Rattle.thy_base.specs.declared.mark.Mark.{Mark}
 use Rattle.thy_base.specs.Device.{Device}
 use Rattle.thy_cache.specs.Contents.{dirty_count}
 use Rattle.thy_hart.specs.Core.{reserved}
@@ -63,8 +64,9 @@ pub leads-booting : {S : Type 0} (K : SchemeOf S) (o : Origin) (cycles : ℕ) (d
     → LeavesDram did n new (K.dram m.scheme) (K.dram t)
     → Queues did (length n.queue + K.queued m.scheme) (length new.queue + K.queued t) → Boots did (K.boot_left m.scheme) (K.boot_left t)
     → Strides did (K.boot_view o m.scheme n).retired m.idle m.idle → (n.queue ≡ [] → K.has_read t ≡ true)
+    → ((found : Mark) → (K.boot_view o m.scheme n).done ≡ Some found → new ≡ n)
     → Leads K o cycles did m n (after_drain t m) new
-leads-booting {S} K o cycles did m n t new at-m phase other up boots small step acts dram queues left strides read =
+leads-booting {S} K o cycles did m n t new at-m phase other up boots small step acts dram queues left strides read still =
     let old-view = view-boot K o m n phase in
     let new-view = view-boot K o (after_drain t m) new phase in
     let blank = (sound-boot K o cycles m n at-m.sound phase).blank in
@@ -94,4 +96,5 @@ leads-booting {S} K o cycles did m n t new at-m phase other up boots small step 
       };
       exhausts = λ e. absurd (other e);
       read = λ e. ap (λ x. has_read_in K x (after_drain t m)) phase ∙ read e;
+      still = λ found boot done. still found (sym (ap (λ (v : View). v.done) old-view) ∙ done);
     }

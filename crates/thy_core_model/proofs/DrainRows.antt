@@ -109,12 +109,14 @@ nothing_leads {S} K = λ o cycles m n at phase.
 nvm_booting : {S : Type 0} (K : SchemeOf S) (o : Origin) (cycles : ℕ) (m : Machine S) (n : Device) → At K o cycles m n → m.phase ≡ Boot
     → 0 < length n.queue → Leads K o cycles NvmDrained m n m (drained n)
 nvm_booting K o cycles m n at phase some =
-    let stays = (holds-boot K at.lawful o cycles m n at.sound phase).drains some in
+    let holds = holds-boot K at.lawful o cycles m n at.sound phase in
+    let stays = holds.drains some in
     let small = small-boot K o cycles m n at.sound phase in
     leads-booting K o cycles NvmDrained m n m.scheme (drained n) at phase (λ e. absurd (cc)) at.sound.up stays.boots
     (small_step o cycles (K.boot_view o m.scheme n) (K.boot_view o m.scheme (drained n)) small NvmDrained stays.view)
     stays.view (record { action = Drain; asked = refl; left = refl }) (inl refl) (omega (arith, drained_queue n some)) (omega arith) refl
     (λ e. absurd (omega (arith, some, ap (λ (q : List Write). length q) e)))
+    (λ found done. absurd (omega (arith, some, ap (λ (q : List Write). length q) (holds.settled found done))))
 
 reads_on : (a b : Bool) (queued : ℕ) → b ≡ a → (a ≡ false → queued ≡ 0) → 0 < queued → b ≡ true
 reads_on true b queued e none some = e
@@ -130,7 +132,7 @@ boot_drain_leads {S} K = λ o cycles m n t at phase some drains.
     leads-booting K o cycles DramDrained m n t n at phase (λ e. absurd (cc)) at.sound.up stays.boots
     (small_step o cycles (K.boot_view o m.scheme n) (K.boot_view o t n) small DramDrained stays.view)
     stays.view (record { action = Rest; asked = refl; left = refl }) drains.dram (omega (arith, queue)) (omega (arith, left)) refl
-    (λ e. reads_on (K.has_read m.scheme) (K.has_read t) (K.queued m.scheme) stays.read unread some)
+    (λ e. reads_on (K.has_read m.scheme) (K.has_read t) (K.queued m.scheme) stays.read unread some) (λ found done. refl)
 
 -- ---- in each phase
 

@@ -11,7 +11,8 @@ use Rattle.thy_hart.specs.Acts.{given}
 use Rattle.thy_hart.specs.Laws.{Follows}
 use Rattle.thy_view.specs.declared.did.Did.{Did}
 use Rattle.thy_view.specs.declared.did.Did.TheVariants.{Moved as DidMove, Retired as DidRetire}
-use Rattle.thy_view.specs.declared.view.Phase.TheVariants.{Run}
+use Rattle.thy_view.specs.declared.view.Phase.TheVariants.{Boot, Run}
+use Rattle.thy_view.specs.declared.view.View.{View}
 use Rattle.thy_view.specs.Action.{Acts}
 use Rattle.thy_view.specs.CoreStep.{CoreStep}
 use Rattle.thy_view.specs.Dram.{ActsOnDram, LeavesDram}
@@ -193,4 +194,5 @@ leads-next K o cycles m n lap did h c t new s at turn hs harts x =
           (next-pace K o cycles m n lap did h c t new turn.phase harts on run'.paced));
       exhausts = λ e. ap (λ v. v.over) new-view ∙ x.exhausts e;
       read = λ e. ap (λ phase. has_read_in K phase (hart_on lap h c t m)) turn.phase;
+      still = λ found boots done. absurd (let both : Run ≡ Boot = sym turn.phase ∙ sym (ap (λ (v : View). v.phase) old-view) ∙ boots in cc);
     }

@@ -126,6 +126,7 @@ module _ {S : Type 0} (K : SchemeOf S) (o : Origin) (cycles : ℕ) (did : Did)
         };
         exhausts = λ is. ap (λ (v : View). v.over) now ∙ g.exhausts is;
         read = λ nothing. has_read_is K o next.phase next g.behind;
+        still = λ found boots done. absurd (behind (sym (ap (λ (v : View). v.phase) old) ∙ boots));
       }
 
 -- ---- what stays over a call of the scheme

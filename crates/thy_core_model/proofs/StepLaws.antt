@@ -46,8 +46,9 @@ leading_is_step K o cycles pick m next n new r at leads turn ended = record {
   ended = ended;
   safe = moment_is_safe K o (cycles + 1) next new at.lawful leads.at_next;
   read = leads.read;
+  still = leads.still;
 }
 
 pub failing_is_safe : {S : Type 0} (K : SchemeOf S) → FailingIsSafe K
 failing_is_safe K o pick m n new did stall fails turn =
-    record { safe = fails.safe; acted = record { did = did; stall = stall; turn = turn; failed = fails.failed } }
+    record { safe = fails.safe; acted = record { did = did; stall = stall; turn = turn; failed = fails.failed; still = fails.still } }

@@ -22,6 +22,7 @@ use Rattle.thy_view.specs.declared.did.Stall.{Stall}
 use Rattle.thy_view.specs.declared.did.Stepped.{Stepped}
 use Rattle.thy_view.specs.declared.error.CoreError.{CoreError}
 use Rattle.thy_view.specs.declared.error.CoreError.TheVariants.{Nvm, Memory}
+use Rattle.thy_view.specs.declared.view.Phase.TheVariants.{Boot}
 use Rattle.thy_view.specs.declared.view.View.{View}
 use Rattle.thy_view.specs.Booting.{view_of_image, found_first, first_view}
 use Rattle.thy_view.specs.CoreStep.{CoreStep}
@@ -88,7 +89,8 @@ pub record CanRead {M : Type 0} (K : KindOf M) (m : M) (n : Device) : Type 0 whe
 -- A step that succeeded leads to the next moment of the run, by a step of the view, and was its pick's turn. Whatever
 -- a power cut then leaves is the committed checkpoint, whole, or the one in doubt. A step that finds an empty queue, as
 -- the boot's first does, reads the commit block where that is still to be read. It acts on the device once, or reads it
--- and writes one block of the DRAM, keeps within the bounds, and is a cycle nearer to the next instruction.
+-- and writes one block of the DRAM, keeps within the bounds, and is a cycle nearer to the next instruction. In a boot that
+-- found a checkpoint it leaves the device as it was.
 pub record IsStep {M : Type 0} (K : KindOf M) (o : Origin) (k : ℕ) (pick : Pick) (m next : M) (n new : Device) (r : Stepped) : Type 0 where
   pub at_next : K.is_at o (k + 1) next new
   pub step : CoreStep o (K.view o m n) r.did (K.view o next new)
@@ -101,14 +103,17 @@ pub record IsStep {M : Type 0} (K : KindOf M) (o : Origin) (k : ℕ) (pick : Pic
   pub ended : r.ended ≡ halts (K.view o m n) (K.view o next new)
   pub safe : Safe K.decode o (K.view o next new).done (doubt_of (K.view o next new)) new
   pub read : n.queue ≡ [] → K.has_read next ≡ true
+  pub still : (found : Mark) → (K.view o m n).phase ≡ Boot → (K.view o m n).done ≡ Some found → new ≡ n
 
--- a cycle failed in its action, which fits what the actor whose turn it was may do
+-- a cycle failed in its action, which fits what the actor whose turn it was may do; in a boot that found a checkpoint it wrote
+-- nothing
 pub record CycleFailed {M : Type 0} (K : KindOf M) (o : Origin) (pick : Pick) (m : M) (n new : Device) : Type 0 where
   -- what the cycle would have done, and the stall that it would have told
   pub did : Did
   pub stall : Option Stall
   pub turn : Turn o pick (length n.queue) (K.view o m n) (K.pressure m) did stall
   pub failed : ActionFailed did n new
+  pub still : (found : Mark) → (K.view o m n).phase ≡ Boot → (K.view o m n).done ≡ Some found → HasFailed n new
 
 -- a step that failed leaves what the action of its turn may leave: the committed checkpoint, whole, or the sealed one
 pub record LeavesSafe {M : Type 0} (K : KindOf M) (o : Origin) (pick : Pick) (m : M) (n new : Device) : Type 0 where
