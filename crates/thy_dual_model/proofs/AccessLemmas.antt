@@ -14,11 +14,11 @@ use Rattle.thy_base.specs.Places.{in_dram, number_of, first_home}
 use Rattle.thy_dram.specs.Contents.{written}
 use Rattle.thy_cell.specs.Rules.{store_place}
 use Rattle.thy_cell.specs.Store.{put_by}
-use Rattle.thy_base.specs.Store.{HasStored, IsKeptByLoad}
+use Rattle.thy_base.specs.Store.{HasStored}
 use Rattle.thy_place.specs.Devices.{Devices, devices_of, written_at}
 use Rattle.thy_control.specs.Holding.{promoted, holding_of}
 use Rattle.thy_control.specs.Once.{IsOneAction, Once, AccessesNvm, FailsOnNvm, IsOneOfNvm}
-use Rattle.thy_control.specs.Rules.{with_block, rule_for, cell_before, devices_after, state_after, FailsStore}
+use Rattle.thy_control.specs.Rules.{with_block, rule_for, cell_before, devices_after, state_after}
 use Rattle.thy_control.specs.State.{State, AreSoundTables, reads, penult_of}
 use Rattle.thy_control.specs.Stays.{Stays}
 use Rattle.thy_control.proofs.OnceLemmas.{one_of_nvm}
@@ -106,22 +106,6 @@ module _ (s : Dual) (m : Device) (t : Dual) (n : Device) (once : Once s.control 
     by_either (inl x) = accessed x
     by_either (inr x) = failed-access x
 
--- ---- a load
-
-pub load-stays : (s : Dual) (m n : Device) → Stays s.control m s.control n → StaysDual s m s n
-load-stays s m n stays = record {
-  control = stays;
-  engine = refl;
-  lean = refl;
-  room = refl;
-  tables = λ t. t;
-  rests = λ r. record { before = r; blocks = refl };
-  promotes = λ p. record { before = p; rested = refl };
-}
-
-pub kept-by_load : (s : State) (m n : Device) → IsKeptByLoad (holding_of s m) (holding_of s n)
-kept-by_load s m n = record { free = refl; open_page = refl; owed = refl }
-
 -- ---- a store
 
 -- a write leaves the room of the DRAM's queue, and the NVM as up as it was
@@ -150,10 +134,6 @@ module _ (b : ℕ) (block : Block) (s : State) (m : Device) (t : State) (n : Dev
   store-up (Ok x) up ok = ap (λ (u : Device). u.down) ok
       ∙ down-written s.p (store_place (rule_for b s) (cell_before b s)) (put_by (rule_for b s) block (reads s m) (cell_before b s)) (devices_of m s.dram) ∙ up
   store-up (Err x) up ok = tt
-
-  pub store-down : (r : Result Stored NvmError) → OnErr r (FailsStore b block s m n) → OnErr r (n.down ≡ true)
-  store-down (Ok x) err = tt
-  store-down (Err x) err = err.failed.down
 
   ready-stored : (x : Stored) → HasStored x b block (holding_of s m) (holding_of t n) → (holding_of t n).ready ≡ (holding_of s m).ready
   ready-stored Done h = h.ready
