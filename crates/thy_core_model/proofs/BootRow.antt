@@ -26,6 +26,7 @@ use Rattle.thy_view.specs.declared.view.View.{View}
 use Rattle.thy_view.specs.Action.{Acts}
 use Rattle.thy_view.specs.Booting.{loading_view}
 use Rattle.thy_view.specs.CoreStep.{phase_at, CoreStep}
+use Rattle.thy_view.specs.Dram.{LeavesDram}
 use Rattle.thy_view.specs.Pace.{Queues, Boots as Ends, Strides as StridesOn}
 use Rattle.thy_view.specs.Origin.{Origin, StartsFrom, IsOrigin, at, runs_at}
 use Rattle.thy_scheme.specs.declared.boot_step.BootStep.{BootStep}
@@ -227,6 +228,7 @@ module _ {S : Type 0} (K : SchemeOf S) (o : Origin) (cycles : ℕ) (m : Machine 
         };
         step = step;
         acts = b.acts;
+        dram = b.dram;
         pace = record {
           spent = omega (arith, none);
           queues = b.queue;
@@ -236,14 +238,16 @@ module _ {S : Type 0} (K : SchemeOf S) (o : Origin) (cycles : ℕ) (m : Machine 
         };
         exhausts = λ moved. absurd (cc);
         read = λ empty. b.read;
+        still = λ found boot done. b.still found done;
       }
 
   -- its last step, by what the cycle is told to have done
   boots_up : (did : Did) (cpu : CpuState) (epoch : ℕ) → IsBooted K o (mark epoch cpu.count) cpu t new
-      → Acts did n new → CoreStep o (K.boot_view o m.scheme n) did (run_view (running_from cpu epoch t (in_boot o m)))
+      → Acts did n new → LeavesDram did n new (K.dram m.scheme) (K.dram t) → CoreStep o (K.boot_view o m.scheme n) did (run_view (running_from cpu epoch t (in_boot o m)))
       → Queues did (queued_in K m.scheme n) (queued_in K t new) → Ends did (K.boot_left m.scheme) 0 → StridesOn did (K.boot_view o m.scheme n).retired m.idle m.idle → did ≢ Moved
+      → ((found : Mark) → (K.boot_view o m.scheme n).done ≡ Some found → new ≡ n)
       → Leads K o cycles did (in_boot o m) n (running_from cpu epoch t (in_boot o m)) new
-  boots_up did cpu epoch booted acts step queues ends strides still =
+  boots_up did cpu epoch booted acts dram step queues ends strides other still =
       let next : Machine S = running_from cpu epoch t (in_boot o m) in
       let runs : Bool = is_running cpu.status in
       let up = up_after did n new at.sound.up acts in
@@ -265,6 +269,7 @@ module _ {S : Type 0} (K : SchemeOf S) (o : Origin) (cycles : ℕ) (m : Machine 
         };
         step = stepped;
         acts = acts;
+        dram = dram;
         pace = record {
           spent = omega (arith, spent, none);
           queues = queues;
@@ -272,8 +277,9 @@ module _ {S : Type 0} (K : SchemeOf S) (o : Origin) (cycles : ℕ) (m : Machine 
           strides = strides;
           entries = no_entries (is_barred K next) (dirty_count m.cache + 0) (K.free t) (omega (arith, clean));
         };
-        exhausts = λ moved. absurd (still moved);
+        exhausts = λ moved. absurd (other moved);
         read = λ empty. read_in K o next new runs;
+        still = λ found boot done. still found done;
       }
 
   -- the view behind it
@@ -309,7 +315,7 @@ module _ {S : Type 0} (K : SchemeOf S) (o : Origin) (cycles : ℕ) (m : Machine 
       let v : View = K.boot_view o m.scheme n in
       let written : View = record (loading_view o.start.count) { written = true } in
       let runs : (if is_running o.start.status then Run else Halt) ≡ Run = ap (λ (s : Status). if is_running s then Run else Halt) (starts_running o.kept at.sound.origin.starts l.fresh) in
-      boots_up DidLoad (cpu_of o.start) 0 l.booted b.acts
+      boots_up DidLoad (cpu_of o.start) 0 l.booted b.acts b.dram
       (record {
         phase = ap (λ (w : View). w.phase) l.view;
         none = ap (λ (w : View). w.done) l.view;
@@ -318,7 +324,7 @@ module _ {S : Type 0} (K : SchemeOf S) (o : Origin) (cycles : ℕ) (m : Machine 
         becomes = begins (cpu_of o.start) 0 Run runs
             ∙ ap (λ (w : View). record w { phase = Run; done = w.sealed; sealed = None; epoch = 1; count = o.start.count; written = false }) (sym l.view);
       })
-      b.queue (let left = b.nearer in omega arith) refl (λ moved. absurd (cc))
+      b.queue (let left = b.nearer in omega arith) refl (λ moved. absurd (cc)) b.still
 
   restarts : (cpu : CpuState) (epoch : ℕ) → BootsOn K o (Restarted cpu epoch) m.scheme n t new
       → Leads K o cycles (DidRestart epoch cpu.count) (in_boot o m) n (after_boot o (Restarted cpu epoch) t (in_boot o m)) new
@@ -328,7 +334,7 @@ module _ {S : Type 0} (K : SchemeOf S) (o : Origin) (cycles : ℕ) (m : Machine 
       let holds = at.lawful.run_holds o (only (mark epoch cpu.count)) t new (record { sound = r.booted.sound; up = up }) in
       let runs : (if is_running cpu.status then Run else Halt) ≡ phase_at o cpu.count =
       ap (λ (b : Bool). if b then Run else Halt) (runs_here K o m cpu epoch t new at.sound.origin blank_on r.booted holds) in
-      boots_up (DidRestart epoch cpu.count) cpu epoch r.booted b.acts
+      boots_up (DidRestart epoch cpu.count) cpu epoch r.booted b.acts b.dram
       (record {
         phase = ap (λ (w : View). w.phase) r.view;
         done = ap (λ (w : View). w.done) r.view;
@@ -337,7 +343,7 @@ module _ {S : Type 0} (K : SchemeOf S) (o : Origin) (cycles : ℕ) (m : Machine 
         becomes = begins cpu epoch (phase_at o cpu.count) runs
             ∙ ap (λ (w : View). record w { phase = phase_at o cpu.count; epoch = epoch + 1; count = cpu.count; retired = 0; spent = 0; lap = 0 }) (sym r.view);
       })
-      b.queue (let left = b.nearer in omega arith) refl (λ moved. absurd (cc))
+      b.queue (let left = b.nearer in omega arith) refl (λ moved. absurd (cc)) b.still
 
   boots_in : (step : BootStep) → BootsOn K o step m.scheme n t new → Leads K o cycles (boot_did step) (in_boot o m) n (after_boot o step t (in_boot o m)) new
   boots_in GoesOn b = goes_on b

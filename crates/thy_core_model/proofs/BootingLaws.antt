@@ -1,5 +1,6 @@
 -- While the scheme boots: what a cycle keeps of the machine that leaves it there.
 use Rattle.std.proofs.Common.{◌≡◌, ◌≢◌, ℕ, ◌+◌, ◌≤◌, true, false, [], length, Some, None, refl, sym, ◌∙◌, ap, subst, arith, inl, inr}
+use Rattle.thy_base.specs.declared.mark.Mark.{Mark}
 use Rattle.thy_base.specs.Device.{Device}
 use Rattle.thy_cache.specs.Contents.{dirty_count}
 use Rattle.thy_hart.specs.Core.{reserved}
@@ -10,6 +11,7 @@ use Rattle.thy_view.specs.declared.view.View.{View}
 use Rattle.thy_view.specs.Action.{Acts}
 use Rattle.thy_view.specs.Booting.{boot_view, loading_view}
 use Rattle.thy_view.specs.CoreStep.{CoreStep}
+use Rattle.thy_view.specs.Dram.{LeavesDram}
 use Rattle.thy_view.specs.Origin.{Origin}
 use Rattle.thy_view.specs.Pace.{Queues, Boots, Strides}
 use Rattle.thy_scheme.specs.Scheme.{SchemeOf}
@@ -59,10 +61,12 @@ uncounted o v shown = elim shown as (λ _. IsUncounted v) [
 pub leads-booting : {S : Type 0} (K : SchemeOf S) (o : Origin) (cycles : ℕ) (did : Did) (m : Machine S) (n : Device) (t : S) (new : Device)
     → At K o cycles m n → m.phase ≡ Boot → did ≢ Moved → new.down ≡ false → K.boots o t new
     → IsSmall (cycles + 1) (K.boot_view o t new) → CoreStep o (K.boot_view o m.scheme n) did (K.boot_view o t new) → Acts did n new
+    → LeavesDram did n new (K.dram m.scheme) (K.dram t)
     → Queues did (length n.queue + K.queued m.scheme) (length new.queue + K.queued t) → Boots did (K.boot_left m.scheme) (K.boot_left t)
     → Strides did (K.boot_view o m.scheme n).retired m.idle m.idle → (n.queue ≡ [] → K.has_read t ≡ true)
+    → ((found : Mark) → (K.boot_view o m.scheme n).done ≡ Some found → new ≡ n)
     → Leads K o cycles did m n (after_drain t m) new
-leads-booting {S} K o cycles did m n t new at-m phase other up boots small step acts queues left strides read =
+leads-booting {S} K o cycles did m n t new at-m phase other up boots small step acts dram queues left strides read still =
     let old-view = view-boot K o m n phase in
     let new-view = view-boot K o (after_drain t m) new phase in
     let blank = (sound-boot K o cycles m n at-m.sound phase).blank in
@@ -82,6 +86,7 @@ leads-booting {S} K o cycles did m n t new at-m phase other up boots small step 
       };
       step = subst (λ v. CoreStep o v did (view_of K o (after_drain t m) new)) (sym old-view) (subst (CoreStep o (K.boot_view o m.scheme n) did) (sym new-view) step);
       acts = acts;
+      dram = dram;
       pace = record {
         spent = omega (arith, ap (λ (v : View). v.spent) new-view, none.spent);
         queues = queues;
@@ -91,4 +96,5 @@ leads-booting {S} K o cycles did m n t new at-m phase other up boots small step 
       };
       exhausts = λ e. absurd (other e);
       read = λ e. ap (λ x. has_read_in K x (after_drain t m)) phase ∙ read e;
+      still = λ found boot done. still found (sym (ap (λ (v : View). v.done) old-view) ∙ done);
     }

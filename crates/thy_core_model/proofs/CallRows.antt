@@ -33,6 +33,7 @@ promotion_leads {S} K = λ o cycles m n t new at sealing whole p.
           (omega (arith, spent, hart_left, owed, engine, nearer));
       step = (sealing.phase, refl);
       acts = p.acts;
+      dram = p.dram;
       queues = p.queue;
       strides = refl;
       exhausts = λ is. absurd (cc);
@@ -68,6 +69,7 @@ merge_leads {S} K = λ o cycles m n t at sealing whole clean p.
           (omega (arith, spent, hart_left, owed, engine, promotions));
       step = (sealing.phase, refl);
       acts = record { action = Rest; asked = refl; left = refl };
+      dram = p.dram;
       queues = omega (arith, queue);
       strides = refl;
       exhausts = λ is. absurd (cc);

@@ -1,5 +1,5 @@
 -- Drains lead on, in each phase, and so do cycles that do nothing.
-use Rattle.std.proofs.Common.{◌≡◌, ◌≢◌, ℕ, ◌+◌, ◌<◌, Bool, true, false, List, [], ◌∷◌, drop, length, refl, ap, inr, arith}
+use Rattle.std.proofs.Common.{◌≡◌, ◌≢◌, ℕ, ◌+◌, ◌<◌, Bool, true, false, List, [], ◌∷◌, drop, length, refl, ap, inl, inr, arith}
 use Rattle.thy_base.specs.declared.nvm.Write.{Write}
 use Rattle.thy_base.specs.Device.{Device, drained}
 use Rattle.thy_view.specs.declared.did.Did.TheVariants.{NvmDrained, DramDrained, Nothing}
@@ -52,6 +52,7 @@ module _ {S : Type 0} (K : SchemeOf S) (o : Origin) (cycles : ℕ) (m : Machine 
         moment = sound_drained m.scheme (drained n) (holds.drained_sound some) (holds.drained_keeps some);
         step = refl;
         acts = record { action = Drain; asked = refl; left = refl };
+        dram = inl refl;
         queues = omega (arith, drained_queue n some);
         strides = refl;
         exhausts = λ is. absurd (cc);
@@ -69,6 +70,7 @@ dram_drain_leads {S} K = λ o cycles m n t at behind some drains.
       moment = sound_drained K o cycles m n at behind t n drains.sound drains.keeps;
       step = refl;
       acts = record { action = Rest; asked = refl; left = refl };
+      dram = drains.dram;
       queues = omega (arith, queue);
       strides = refl;
       exhausts = λ is. absurd (cc);
@@ -96,6 +98,7 @@ nothing_leads {S} K = λ o cycles m n at phase.
       moment = sound_drained K o cycles m n at behind m.scheme n sound (keeps_itself K m.scheme n);
       step = (phase, refl);
       acts = record { action = Rest; asked = refl; left = refl };
+      dram = inl refl;
       queues = omega arith;
       strides = refl;
       exhausts = λ is. absurd (cc);
@@ -106,12 +109,14 @@ nothing_leads {S} K = λ o cycles m n at phase.
 nvm_booting : {S : Type 0} (K : SchemeOf S) (o : Origin) (cycles : ℕ) (m : Machine S) (n : Device) → At K o cycles m n → m.phase ≡ Boot
     → 0 < length n.queue → Leads K o cycles NvmDrained m n m (drained n)
 nvm_booting K o cycles m n at phase some =
-    let stays = (holds-boot K at.lawful o cycles m n at.sound phase).drains some in
+    let holds = holds-boot K at.lawful o cycles m n at.sound phase in
+    let stays = holds.drains some in
     let small = small-boot K o cycles m n at.sound phase in
     leads-booting K o cycles NvmDrained m n m.scheme (drained n) at phase (λ e. absurd (cc)) at.sound.up stays.boots
     (small_step o cycles (K.boot_view o m.scheme n) (K.boot_view o m.scheme (drained n)) small NvmDrained stays.view)
-    stays.view (record { action = Drain; asked = refl; left = refl }) (omega (arith, drained_queue n some)) (omega arith) refl
+    stays.view (record { action = Drain; asked = refl; left = refl }) (inl refl) (omega (arith, drained_queue n some)) (omega arith) refl
     (λ e. absurd (omega (arith, some, ap (λ (q : List Write). length q) e)))
+    (λ found done. absurd (omega (arith, some, ap (λ (q : List Write). length q) (holds.settled found done))))
 
 reads_on : (a b : Bool) (queued : ℕ) → b ≡ a → (a ≡ false → queued ≡ 0) → 0 < queued → b ≡ true
 reads_on true b queued e none some = e
@@ -126,8 +131,8 @@ boot_drain_leads {S} K = λ o cycles m n t at phase some drains.
     let small = small-boot K o cycles m n at.sound phase in
     leads-booting K o cycles DramDrained m n t n at phase (λ e. absurd (cc)) at.sound.up stays.boots
     (small_step o cycles (K.boot_view o m.scheme n) (K.boot_view o t n) small DramDrained stays.view)
-    stays.view (record { action = Rest; asked = refl; left = refl }) (omega (arith, queue)) (omega (arith, left)) refl
-    (λ e. reads_on (K.has_read m.scheme) (K.has_read t) (K.queued m.scheme) stays.read unread some)
+    stays.view (record { action = Rest; asked = refl; left = refl }) drains.dram (omega (arith, queue)) (omega (arith, left)) refl
+    (λ e. reads_on (K.has_read m.scheme) (K.has_read t) (K.queued m.scheme) stays.read unread some) (λ found done. refl)
 
 -- ---- in each phase
 

@@ -10,6 +10,7 @@ use Rattle.thy_view.specs.declared.did.Did.TheVariants.{Engine, Committed as Did
 use Rattle.thy_view.specs.declared.view.Phase.TheVariants.{Boot, Run, Halt}
 use Rattle.thy_view.specs.Action.{Acts}
 use Rattle.thy_view.specs.CoreStep.{phase_at, busier, CoreStep}
+use Rattle.thy_view.specs.Dram.{ActsOnDram}
 use Rattle.thy_view.specs.Origin.{Origin, at, runs_at}
 use Rattle.thy_view.specs.Turn.{has_stopped}
 use Rattle.thy_scheme.specs.Scheme.{SchemeOf}
@@ -65,10 +66,11 @@ module _ {S : Type 0} (K : SchemeOf S) (o : Origin) (cycles : ℕ) (m : Machine 
       omega (arith, spent, least, owed, promotions, nearer)
 
   -- an item of the checkpoint leaves its marks
-  item : (step : EngineStep) → K.is_sound o m.marks t new → Keeps K m.scheme n t new → Acts (Engine step) n new → queued_in K t new ≤ queued_in K m.scheme n + 1
+  item : (step : EngineStep) → K.is_sound o m.marks t new → Keeps K m.scheme n t new → Acts (Engine step) n new → ActsOnDram n new (K.dram m.scheme) (K.dram t)
+      → queued_in K t new ≤ queued_in K m.scheme n + 1
       → m.spent + 1 + cycles_left K o.geometry (after_call t m) new < most_spent K o.geometry
       → CoreStep o (run_view m) (Engine step) (busier (run_view m)) → Leads K o cycles (Engine step) m n (after_call t m) new
-  item step sound keeps acts queue below moves =
+  item step sound keeps acts dram queue below moves =
       leads_on K o cycles (Engine step) m n (after_call t m) new here behind
       (record {
         behind = behind;
@@ -78,6 +80,7 @@ module _ {S : Type 0} (K : SchemeOf S) (o : Origin) (cycles : ℕ) (m : Machine 
         moment = sound_kept K o m n t (m.spent + 1) new here.lawful run sound keeps (λ none. absurd (omega (arith, none))) below;
         step = moves;
         acts = acts;
+        dram = dram;
         queues = queue;
         strides = refl;
         exhausts = λ is. absurd (cc);
@@ -114,6 +117,7 @@ module _ {S : Type 0} (K : SchemeOf S) (o : Origin) (cycles : ℕ) (m : Machine 
         };
         step = (phase, ((s, is), refl));
         acts = e.acts m.lap;
+        dram = e.dram;
         queues = e.queue;
         strides = refl;
         exhausts = λ moved. absurd (cc);
@@ -171,6 +175,7 @@ module _ {S : Type 0} (K : SchemeOf S) (o : Origin) (cycles : ℕ) (m : Machine 
               ∙ ap (λ x. record (busier (run_view m)) { phase = phase_at o s.count; done = x; sealed = None; written = false }) (ap Some done ∙ sym is);
         };
         acts = e.acts m.lap;
+        dram = e.dram;
         queues = e.queue;
         strides = refl;
         exhausts = λ moved. absurd (cc);
@@ -179,11 +184,11 @@ module _ {S : Type 0} (K : SchemeOf S) (o : Origin) (cycles : ℕ) (m : Machine 
   engine_in : (step : EngineStep) → K.under_way m.scheme ≡ true → Engines K o m.marks step m.scheme n t new
       → Leads K o cycles (engine_did m.lap step) m n (after_engine step t m) new
   engine_in Idle way e = absurd e.due
-  engine_in Copied way e = item Copied e.sound e.keeps (e.acts m.lap) e.queue (spends Copied e) (phase, refl)
-  engine_in PageBlock way e = item PageBlock e.sound e.keeps (e.acts m.lap) e.queue (spends PageBlock e) (phase, refl)
-  engine_in StateBlock way e = item StateBlock e.sound e.keeps (e.acts m.lap) e.queue (spends StateBlock e) (phase, refl)
-  engine_in TableBlock way e = item TableBlock e.sound e.keeps (e.acts m.lap) e.queue (spends TableBlock e) (phase, refl)
-  engine_in Barrier way e = item Barrier e.sound e.keeps (e.acts m.lap) e.queue (spends Barrier e) (phase, refl)
+  engine_in Copied way e = item Copied e.sound e.keeps (e.acts m.lap) e.dram e.queue (spends Copied e) (phase, refl)
+  engine_in PageBlock way e = item PageBlock e.sound e.keeps (e.acts m.lap) e.dram e.queue (spends PageBlock e) (phase, refl)
+  engine_in StateBlock way e = item StateBlock e.sound e.keeps (e.acts m.lap) e.dram e.queue (spends StateBlock e) (phase, refl)
+  engine_in TableBlock way e = item TableBlock e.sound e.keeps (e.acts m.lap) e.dram e.queue (spends TableBlock e) (phase, refl)
+  engine_in Barrier way e = item Barrier e.sound e.keeps (e.acts m.lap) e.dram e.queue (spends Barrier e) (phase, refl)
   engine_in CommitWritten way e = let s = sealed_mark way in commit_written s.0 s.1 e
   engine_in (Committed epoch) way e = let d = e.due in committed epoch d.1.0 d.1.1 d.1.2 d.0 e
 

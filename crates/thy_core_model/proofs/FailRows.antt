@@ -1,5 +1,5 @@
 -- A cycle that fails does so in its action, and leaves the committed checkpoint, whole, or the sealed one.
-use Rattle.std.proofs.Common.{◌≡◌, Bool, true, false, ◌&&◌, ◌||◌, not, ℕ, if◌then◌else◌, Option, Some, None, is_some, refl, sym, ap, subst}
+use Rattle.std.proofs.Common.{◌≡◌, Bool, true, false, ◌&&◌, ◌||◌, not, ℕ, if◌then◌else◌, Option, Some, None, is_some, refl, sym, ◌∙◌, ap, subst}
 use Rattle.thy_base.specs.declared.mark.Mark.{Mark}
 use Rattle.thy_base.specs.Device.{Device}
 use Rattle.thy_record.specs.Decoded.{Reading}
@@ -7,7 +7,7 @@ use Rattle.thy_view.specs.declared.did.Did.{Did}
 use Rattle.thy_view.specs.declared.did.Did.TheVariants.{Moved, Flushed}
 use Rattle.thy_view.specs.declared.did.Stall.{Stall}
 use Rattle.thy_view.specs.declared.did.Stall.TheVariants.{Sealing, Waiting}
-use Rattle.thy_view.specs.declared.view.Phase.TheVariants.{Run}
+use Rattle.thy_view.specs.declared.view.Phase.TheVariants.{Boot, Run}
 use Rattle.thy_view.specs.declared.view.View.{View}
 use Rattle.thy_view.specs.Action.{Action, ReadAt, Drain, Asks, IsAccess}
 use Rattle.thy_view.specs.Origin.{Origin}
@@ -63,6 +63,9 @@ module _ {S : Type 0} (K : SchemeOf S) (o : Origin) (cycles : ℕ) (m : Machine 
   view_is : view_of K o m n ≡ run_view m
   view_is = ap (λ p. view_in K o p m n) phase
 
+  not_booting : (view_of K o m n).phase ≡ Boot → ⊥
+  not_booting boots = let both : Run ≡ Boot = sym phase ∙ sym (ap (λ (v : View). v.phase) view_is) ∙ boots in cc
+
   stands : Stands K o m.marks m.scheme n
   stands = record { sound = run_is.checkpoints; up = at.sound.up }
 
@@ -84,6 +87,7 @@ module _ {S : Type 0} (K : SchemeOf S) (o : Origin) (cycles : ℕ) (m : Machine 
       record {
         safe = safe_for_view (doubt_sealed K.decode o (Some m.marks.done) m.marks.sealed m.marks.written new stays.safe);
         failed = record { action = access.action; asked = asks access.action access.access; failed = access.fails down };
+        still = λ found boots done. absurd (not_booting boots);
       }
 
 pub hart_fails : {S : Type 0} (K : SchemeOf S) → HartFails K
@@ -107,15 +111,21 @@ promotion_leaves K o cycles m n new at phase fails =
     record {
       safe = safe_for_view K o cycles m n new at phase (doubt_sealed K.decode o (Some m.marks.done) m.marks.sealed m.marks.written new safe);
       failed = record { action = ReadAt 0; asked = tt; failed = fails.failed };
+      still = λ found boots done. fails.failed;
     }
 
 pub engine_leaves : {S : Type 0} (K : SchemeOf S) → EngineLeaves K
-engine_leaves K o cycles m n new at phase e = record { safe = safe_for_view K o cycles m n new at phase e.safe; failed = e.acted m.lap }
+engine_leaves K o cycles m n new at phase e = record {
+  safe = safe_for_view K o cycles m n new at phase e.safe;
+  failed = e.acted m.lap;
+  still = λ found boots done. absurd (not_booting K o cycles m n new at phase boots);
+}
 
 pub boot_leaves : {S : Type 0} (K : SchemeOf S) → BootLeaves K
 boot_leaves K o cycles m n new at phase b = record {
   safe = subst (λ (v : View). Safe K.decode o v.done v.sealed new) (sym (ap (λ p. view_in K o p m n) phase)) b.safe;
   failed = b.acted;
+  still = λ found boots done. b.still found (sym (ap (λ p. (view_in K o p m n).done) phase) ∙ done);
 }
 
 pub drain_fails : {S : Type 0} (K : SchemeOf S) → DrainFails K
@@ -125,4 +135,5 @@ drain_fails K o cycles m n new at failed frame =
     record {
       safe = doubt_sealed K.decode o v.done v.sealed v.written new safe;
       failed = record { action = Drain; asked = refl; failed = failed };
+      still = λ found boots done. failed;
     }

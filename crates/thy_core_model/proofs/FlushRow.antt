@@ -178,6 +178,7 @@ flush_leads {S} K = λ o cycles m n c t new flushed at sealing whole f.
       };
       step = (sealing.phase, refl);
       acts = record { action = f.access.action; asked = f.access.access; left = done.left };
+      dram = done.dram;
       queues = done.queue;
       strides = refl;
       exhausts = λ is. absurd (cc);

@@ -2,6 +2,7 @@
 use Rattle.std.proofs.Common.{◌≡◌, ◌≢◌, ◌⊎◌, ℕ, ◌+◌, ◌<◌, ◌≤◌, ◌&&◌, not, true, false, if◌then◌else◌, length, None, refl, sym, ◌∙◌, ap, subst, arith, inl, inr}
 use Rattle.thy_base.specs.Device.{Device}
 use Rattle.thy_cache.specs.Contents.{Contents, dirty_count}
+use Rattle.thy_dram.specs.Contents.{Contents as DramContents}
 use Rattle.thy_epoch.specs.Epoch.{HasRetired}
 use Rattle.thy_hart.specs.declared.hand.Hand.TheVariants.{Nothing}
 use Rattle.thy_hart.specs.declared.hand.HartStep.{HartStep}
@@ -10,9 +11,11 @@ use Rattle.thy_hart.specs.Outcomes.{given}
 use Rattle.thy_hart.specs.Laws.{Follows}
 use Rattle.thy_view.specs.declared.did.Did.{Did}
 use Rattle.thy_view.specs.declared.did.Did.TheVariants.{Moved as DidMove, Retired as DidRetire}
-use Rattle.thy_view.specs.declared.view.Phase.TheVariants.{Run}
+use Rattle.thy_view.specs.declared.view.Phase.TheVariants.{Boot, Run}
+use Rattle.thy_view.specs.declared.view.View.{View}
 use Rattle.thy_view.specs.Action.{Acts}
 use Rattle.thy_view.specs.CoreStep.{CoreStep}
+use Rattle.thy_view.specs.Dram.{ActsOnDram, LeavesDram}
 use Rattle.thy_view.specs.Origin.{Origin, at, runs_at}
 use Rattle.thy_view.specs.Pace.{KeepsPace}
 use Rattle.thy_view.specs.Turn.{has_stopped, over_by}
@@ -42,7 +45,14 @@ pub record IsOn {S : Type 0} (K : SchemeOf S) (o : Origin) (m : Machine S) (n : 
   pub room : dirty_count c + reserved h.hand ≤ K.free t
   pub geometry : h.geometry ≡ o.geometry
   pub unbarred : is_barred K (record m { scheme = t }) ≡ false
+  pub dram : ActsOnDram n new (K.dram m.scheme) (K.dram t)
   pub queue : queued_in K t new ≤ queued_in K m.scheme n + 1
+
+dram-asked : {S : Type 0} (K : SchemeOf S) (s : S) (n : Device) (t : S) (new : Device) → IsAsked K s n t new → new.down ≡ false → ActsOnDram n new (K.dram s) (K.dram t)
+dram-asked K s n t new asked up = elim asked as (λ _. ActsOnDram n new (K.dram s) (K.dram t)) [
+  | inl same ↦ inl (ap K.dram same.0)
+  | inr access ↦ (access.succeeds up).dram
+]
 
 queue-asked : {S : Type 0} (K : SchemeOf S) (s : S) (n : Device) (t : S) (new : Device) → IsAsked K s n t new → new.down ≡ false → queued_in K t new ≤ queued_in K s n + 1
 queue-asked K s n t new asked up = elim asked as (λ _. queued_in K t new ≤ queued_in K s n + 1) [
@@ -69,6 +79,7 @@ is-on K o cycles m n h c t new s at turn hs =
       room = omega (arith, w.ready.room, l.free_is t new);
       geometry = w.fixed ∙ at.sound.geometry;
       unbarred = ap (λ way. way && not K.overlaps) stays.way ∙ going.unbarred;
+      dram = dram-asked K m.scheme n t new hs.asked up;
       queue = queue-asked K m.scheme n t new hs.asked up;
     }
 
@@ -94,6 +105,12 @@ pub record IsNext {S : Type 0} (K : SchemeOf S) (o : Origin) (cycles : ℕ) (m :
 -- a hart's step is told as one
 abbrev pub IsHarts : Did → Type 0
 IsHarts did = (did ≡ DidMove) ⊎ (did ≡ DidRetire)
+
+harts-dram : (did : Did) (n new : Device) (old now : DramContents) → IsHarts did → ActsOnDram n new old now → LeavesDram did n new old now
+harts-dram did n new old now harts acts = elim harts as (λ _. LeavesDram did n new old now) [
+  | inl e ↦ subst (λ d. LeavesDram d n new old now) (sym e) acts
+  | inr e ↦ subst (λ d. LeavesDram d n new old now) (sym e) acts
+]
 
 next-run : {S : Type 0} (K : SchemeOf S) (o : Origin) (cycles : ℕ) (m : Machine S) (n : Device) (lap : ℕ) (did : Did) (h : Core) (c : Contents) (t : S) (new : Device) (s : HartStep)
     → At K o cycles m n → HartGoes K o m n → HartCall K (given o.input (K.free m.scheme) (K.under_way m.scheme)) m n h c t new s
@@ -171,9 +188,11 @@ leads-next K o cycles m n lap did h c t new s at turn hs harts x =
       step = subst (λ v. CoreStep o v did (view_of K o (hart_on lap h c t m) new)) (sym old-view)
           (subst (CoreStep o (run_view m) did) (sym new-view) x.step);
       acts = x.acts;
+      dram = harts-dram did n new (K.dram m.scheme) (K.dram t) harts on.dram;
       pace = subst (λ v. KeepsPace (most_spent K o.geometry) v (view_of K o (hart_on lap h c t m) new) did (gauge_of K m n) (gauge_of K (hart_on lap h c t m) new)) (sym old-view)
           (subst (λ v. KeepsPace (most_spent K o.geometry) (run_view m) v did (gauge_of K m n) (gauge_of K (hart_on lap h c t m) new)) (sym new-view)
           (next-pace K o cycles m n lap did h c t new turn.phase harts on run'.paced));
       exhausts = λ e. ap (λ v. v.over) new-view ∙ x.exhausts e;
       read = λ e. ap (λ phase. has_read_in K phase (hart_on lap h c t m)) turn.phase;
+      still = λ found boots done. absurd (let both : Run ≡ Boot = sym turn.phase ∙ sym (ap (λ (v : View). v.phase) old-view) ∙ boots in cc);
     }

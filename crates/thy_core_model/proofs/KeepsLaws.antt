@@ -18,6 +18,7 @@ use Rattle.thy_view.specs.declared.view.Phase.TheVariants.{Boot, Run, Halt}
 use Rattle.thy_view.specs.declared.view.View.{View}
 use Rattle.thy_view.specs.Action.{Action, Rest, ReadAt, WriteAt, Barrier, Drain, after, Acts}
 use Rattle.thy_view.specs.CoreStep.{CoreStep}
+use Rattle.thy_view.specs.Dram.{LeavesDram}
 use Rattle.thy_view.specs.Origin.{Origin, at, runs_at}
 use Rattle.thy_view.specs.Pace.{Queues, Strides as StridesOn}
 use Rattle.thy_view.specs.Turn.{over_by}
@@ -85,6 +86,7 @@ pub record GoesOn {S : Type 0} (K : SchemeOf S) (o : Origin) (did : Did) (m : Ma
   pub moment : SoundRun K o next new
   pub step : CoreStep o (run_view m) did (run_view next)
   pub acts : Acts did n new
+  pub dram : LeavesDram did n new (K.dram m.scheme) (K.dram next.scheme)
   pub queues : Queues did (queued_in K m.scheme n) (queued_in K next.scheme new)
   pub strides : StridesOn did m.hart.epoch.retired m.idle next.idle
   pub exhausts : did ≡ Moved → next.hart.epoch.over ≡ over_by (pressure_of K m).short
@@ -114,6 +116,7 @@ module _ {S : Type 0} (K : SchemeOf S) (o : Origin) (cycles : ℕ) (did : Did)
         };
         step = subst (λ v. CoreStep o v did (view_of K o next new)) (sym old) (subst (λ v. CoreStep o (run_view m) did v) (sym now) g.step);
         acts = g.acts;
+        dram = g.dram;
         pace = record {
           spent = omega (arith, spends, spent_is);
           queues = g.queues;
@@ -123,6 +126,7 @@ module _ {S : Type 0} (K : SchemeOf S) (o : Origin) (cycles : ℕ) (did : Did)
         };
         exhausts = λ is. ap (λ (v : View). v.over) now ∙ g.exhausts is;
         read = λ nothing. has_read_is K o next.phase next g.behind;
+        still = λ found boots done. absurd (behind (sym (ap (λ (v : View). v.phase) old) ∙ boots));
       }
 
 -- ---- what stays over a call of the scheme

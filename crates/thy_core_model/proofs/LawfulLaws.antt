@@ -129,6 +129,7 @@ machine_is_lawful K l = record {
   powered_on = powered_on K l;
   some_ahead = λ o k m n at. omega arith;
   counts_queues = λ m n. refl;
+  counts_dram = λ m. l.queued_is m.scheme;
   short_of = λ m n s. short_barred (is_barred K m) (K.free m.scheme) (dirty_count m.cache) m.hart.hand s;
   is_safe = λ o k m n. moment_is_safe K o k m n l;
 }

@@ -223,6 +223,7 @@ seal_leads {S} K = λ o cycles m n t cause at sealing whole bare clean over_is p
         becomes = refl;
       };
       acts = record { action = Rest; asked = refl; left = refl };
+      dram = inl p.dram;
       queues = omega (arith, queue);
       strides = (λ idle. s.paced.strides idle (λ none. absurd (cc)), refl);
       exhausts = λ is. absurd (cc);

@@ -38,6 +38,7 @@ leading_is_step K o cycles pick m next n new r at leads turn ended = record {
   step = leads.step;
   turn = turn;
   acts = leads.acts;
+  dram = leads.dram;
   pace = leads.pace;
   nears = cycles_come_nearer (most_spent K o.geometry) o (view_of K o m n) (view_of K o next new) r.did (gauge_of K m n) (gauge_of K next new)
       (fresh_in K at.lawful o cycles m n at.sound m.phase refl) leads.step leads.pace;
@@ -45,8 +46,9 @@ leading_is_step K o cycles pick m next n new r at leads turn ended = record {
   ended = ended;
   safe = moment_is_safe K o (cycles + 1) next new at.lawful leads.at_next;
   read = leads.read;
+  still = leads.still;
 }
 
 pub failing_is_safe : {S : Type 0} (K : SchemeOf S) → FailingIsSafe K
 failing_is_safe K o pick m n new did stall fails turn =
-    record { safe = fails.safe; acted = record { did = did; stall = stall; turn = turn; failed = fails.failed } }
+    record { safe = fails.safe; acted = record { did = did; stall = stall; turn = turn; failed = fails.failed; still = fails.still } }

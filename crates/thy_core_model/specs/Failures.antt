@@ -1,5 +1,6 @@
 -- What a cycle leaves that failed, by what it was to do: over any scheme, from what the call left.
-use Rattle.std.specs.Prelude.{◌≡◌, ℕ, true}
+use Rattle.std.specs.Prelude.{◌≡◌, ℕ, true, Some}
+use Rattle.thy_base.specs.declared.mark.Mark.{Mark}
 use Rattle.thy_base.specs.Device.{Device, HasFailed, IsFramed}
 use Rattle.thy_view.specs.declared.did.Did.{Did}
 use Rattle.thy_view.specs.declared.did.Did.TheVariants.{Moved, Flushed, Promoted, NvmDrained}
@@ -13,10 +14,12 @@ use Rattle.thy_scheme.specs.Boots.{BootFails, boot_did}
 use Rattle.thy_core_model.specs.Machine.{Machine, view_of}
 use Rattle.thy_core_model.specs.Rows.{IsMoment, HartGoes, IsSealing}
 
--- a cycle that was to do this failed in its action, and leaves the committed checkpoint, whole, or the sealed one
+-- a cycle that was to do this failed in its action, and leaves the committed checkpoint, whole, or the sealed one; in a boot that
+-- found a checkpoint it wrote nothing
 pub record Fails {S : Type 0} (K : SchemeOf S) (o : Origin) (did : Did) (m : Machine S) (n new : Device) : Type 0 where
   pub safe : Safe K.decode o (view_of K o m n).done (view_of K o m n).sealed new
   pub failed : ActionFailed did n new
+  pub still : (found : Mark) → (view_of K o m n).phase ≡ Boot → (view_of K o m n).done ≡ Some found → HasFailed n new
 
 -- a load or a store of the hart
 abbrev pub HartFails : {S : Type 0} → SchemeOf S → Type 0

@@ -1,5 +1,5 @@
 -- What a load and a store leave: one action, and the checkpoints.
-use Rattle.std.proofs.Common.{◌≡◌, ◌⊎◌, ℕ, ◌<◌, ◌≤◌, ◌==◌, ◌&&◌, not, nat_lt, Bool, true, false, if◌then◌else◌, length, refl, sym, ◌∙◌, ap, inl, inr, arith, Result, Ok, Err, OnOk, OnErr, IfOk}
+use Rattle.std.proofs.Common.{◌≡◌, ◌⊎◌, ℕ, ◌<◌, ◌≤◌, ◌==◌, ◌&&◌, not, nat_lt, Bool, true, false, if◌then◌else◌, length, refl, sym, ◌∙◌, ap, subst, inl, inr, arith, Result, Ok, Err, OnOk, OnErr, IfOk}
 use Rattle.std.proofs.lemmas.Bool.{and_parts, eqb-true}
 use Rattle.thy_base.specs.declared.block.Block.{Block}
 use Rattle.thy_base.specs.declared.nvm.NvmError.{NvmError}
@@ -14,15 +14,16 @@ use Rattle.thy_base.specs.Places.{in_dram, number_of, first_home}
 use Rattle.thy_dram.specs.Contents.{written}
 use Rattle.thy_cell.specs.Rules.{store_place}
 use Rattle.thy_cell.specs.Store.{put_by}
-use Rattle.thy_base.specs.Store.{HasStored, IsKeptByLoad}
+use Rattle.thy_base.specs.Store.{HasStored}
 use Rattle.thy_place.specs.Devices.{Devices, devices_of, written_at}
 use Rattle.thy_control.specs.Holding.{promoted, holding_of}
-use Rattle.thy_control.specs.Once.{Once, AccessesNvm, FailsOnNvm, IsOneOfNvm}
-use Rattle.thy_control.specs.Rules.{with_block, rule_for, cell_before, devices_after, state_after, FailsStore}
+use Rattle.thy_control.specs.Once.{IsOneAction, Once, AccessesNvm, FailsOnNvm, IsOneOfNvm}
+use Rattle.thy_control.specs.Rules.{with_block, rule_for, cell_before, devices_after, state_after}
 use Rattle.thy_control.specs.State.{State, AreSoundTables, reads, penult_of}
 use Rattle.thy_control.specs.Stays.{Stays}
 use Rattle.thy_control.proofs.OnceLemmas.{one_of_nvm}
 use Rattle.thy_view.specs.Action.{Rest, ReadAt, WriteAt}
+use Rattle.thy_view.specs.Dram.{ActsOnDram}
 use Rattle.thy_scheme.specs.Calls.{IsOneAccess}
 use Rattle.thy_dual_model.specs.Dual.{Dual, penults}
 use Rattle.thy_dual_model.specs.Scheme.{dual_scheme}
@@ -33,9 +34,28 @@ use Rattle.thy_dual_model.specs.Stays.{StaysDual}
 not_up : (d : Bool) → d ≡ false → d ≡ true → ⊥
 not_up d e f = let both : false ≡ true = sym e ∙ f in cc
 
+-- of both devices: a write is one of the DRAM, or leaves it alone
+abbrev BothAct : Devices → Devices → Type 0
+BothAct d e = ActsOnDram d.nvm e.nvm d.dram e.dram
+
+written-acts : (p : Parameters) (x : Place) (block : Block) (d : Devices) → BothAct d (written_at p x block d)
+written-acts p x block d = by_side (in_dram x) where
+  by_side : (side : Bool) → BothAct d (if side then record d { dram = written d.dram (number_of p x) block } else record d { nvm = written_to d.nvm (number_of p x) block })
+  by_side true = inr (record { at = number_of p x; block = block; left = refl; nvm = refl })
+  by_side false = inl refl
+
+action-acts : (s : State) (old new : Devices) → IsOneAction s old new → BothAct old new
+action-acts s old new (inl same) = inl (ap (λ (d : Devices). d.dram) same)
+action-acts s old new (inr (inl w)) = subst (λ (d : Devices). BothAct old d) (sym w.written) (written-acts s.p w.place w.block old)
+action-acts s old new (inr (inr (inl f))) = inl f.dram
+action-acts s old new (inr (inr (inr f))) = inl f.dram
+
 module _ (s : Dual) (m : Device) (t : Dual) (n : Device) (once : Once s.control m t.control n) (up : m.down ≡ false) (stays : StaysDual s m t n) where
   one : IsOneOfNvm s.control (devices_of m s.control.dram) (devices_of n t.control.dram)
   one = one_of_nvm s.control (devices_of m s.control.dram) (devices_of n t.control.dram) once.action
+
+  acts : ActsOnDram m n s.control.dram t.control.dram
+  acts = action-acts s.control (devices_of m s.control.dram) (devices_of n t.control.dram) once.action
 
   accessed : AccessesNvm s.control m n → IsOneAccess dual_scheme s m t n
   accessed (inl same) =
@@ -43,7 +63,7 @@ module _ (s : Dual) (m : Device) (t : Dual) (n : Device) (once : Once s.control 
       record {
         action = Rest;
         access = tt;
-        succeeds = λ u. record { left = same; queue = one.queue u };
+        succeeds = λ u. record { left = same; dram = acts; queue = one.queue u };
         fails = λ d. absurd (not_up n.down down d);
         frame = once.frame;
         stays = stays;
@@ -54,7 +74,7 @@ module _ (s : Dual) (m : Device) (t : Dual) (n : Device) (once : Once s.control 
       record {
         action = WriteAt x.0.at x.0.block;
         access = λ e. absurd (omega (arith, e, behind));
-        succeeds = λ u. record { left = x.1; queue = one.queue u };
+        succeeds = λ u. record { left = x.1; dram = acts; queue = one.queue u };
         fails = λ d. absurd (not_up n.down down d);
         frame = once.frame;
         stays = stays;
@@ -86,22 +106,6 @@ module _ (s : Dual) (m : Device) (t : Dual) (n : Device) (once : Once s.control 
     by_either (inl x) = accessed x
     by_either (inr x) = failed-access x
 
--- ---- a load
-
-pub load-stays : (s : Dual) (m n : Device) → Stays s.control m s.control n → StaysDual s m s n
-load-stays s m n stays = record {
-  control = stays;
-  engine = refl;
-  lean = refl;
-  room = refl;
-  tables = λ t. t;
-  rests = λ r. record { before = r; blocks = refl };
-  promotes = λ p. record { before = p; rested = refl };
-}
-
-pub kept-by_load : (s : State) (m n : Device) → IsKeptByLoad (holding_of s m) (holding_of s n)
-kept-by_load s m n = record { free = refl; open_page = refl; owed = refl }
-
 -- ---- a store
 
 -- a write leaves the room of the DRAM's queue, and the NVM as up as it was
@@ -130,10 +134,6 @@ module _ (b : ℕ) (block : Block) (s : State) (m : Device) (t : State) (n : Dev
   store-up (Ok x) up ok = ap (λ (u : Device). u.down) ok
       ∙ down-written s.p (store_place (rule_for b s) (cell_before b s)) (put_by (rule_for b s) block (reads s m) (cell_before b s)) (devices_of m s.dram) ∙ up
   store-up (Err x) up ok = tt
-
-  pub store-down : (r : Result Stored NvmError) → OnErr r (FailsStore b block s m n) → OnErr r (n.down ≡ true)
-  store-down (Ok x) err = tt
-  store-down (Err x) err = err.failed.down
 
   ready-stored : (x : Stored) → HasStored x b block (holding_of s m) (holding_of t n) → (holding_of t n).ready ≡ (holding_of s m).ready
   ready-stored Done h = h.ready

@@ -107,6 +107,20 @@ module _ (o : Origin) (g : BootImages) (n : Device) (b : Booting) (c : State) wh
   shown-at (Restored epoch) going keeps = absurd going
   shown-at Loaded going keeps = absurd going
 
+  none-done : (m : Mark) → None ≡ Some m → ⊥
+  none-done m d = cc
+
+  -- where a checkpoint was found nothing is queued
+  settled-at : (q : Stage) (m : Mark) → IsGoing q → (seen_at o g.kept q).done ≡ Some m → IsSoundAt o q g n b c → n.queue ≡ []
+  settled-at Unread m going found far = far.read.settled
+  settled-at (ReadsHeader epoch fault) m going found far = far.read.settled
+  settled-at (ReadsSlot epoch next) m going found far = far.read.settled
+  settled-at (Frames epoch page next) m going found far = far.read.settled
+  settled-at (Refusing bad) m going found far = far.read.settled
+  settled-at (Loading issue) m going found far = absurd (none-done m found)
+  settled-at (Restored epoch) m going found far = absurd going
+  settled-at Loaded m going found far = absurd going
+
   sized-at : (q : Stage) → IsGoing q → IsKeeping o (layout_of o) (standing_in_boot o q g n) → length n.image ≡ image_blocks o.geometry
   sized-at Unread going keeps = keeps.sized
   sized-at (ReadsHeader epoch fault) going keeps = keeps.sized
@@ -168,6 +182,9 @@ module _ (o : Origin) (s : Dual) (n : Device) (boots : Boots o s n) where
         (shown-at o boots.images n s.boot s.control s.boot.stage boots.going boots.sound.keeps);
     unread = λ h. boots.unread (unread-at s.boot.stage h);
     drains = λ some. drained-stays;
+    settled = λ m found.
+        settled-at o boots.images n s.boot s.control s.boot.stage m boots.going (sym (ap (λ (v : View). v.done) (view-is o s n boots)) ∙ found)
+        boots.sound.so_far;
   }
 
 pub boot_is_sound : BootIsSound
@@ -203,6 +220,7 @@ module _ (o : Origin) (s : Dual) (n : Device) (t : State) (boots : Boots o s n) 
   boot-drains =
       subst (λ (x : State). BootDrains dual_scheme o s n (record s { control = x })) (sym is) (record {
         stays = record { boots = boots-after (subst (λ (x : State). AreSoundTables x) is tables); view = refl; left = refl; read = refl };
+        dram = refl;
         queue = omega (arith, takes_one s.control some);
       })
 

@@ -1,13 +1,14 @@
 -- A step of the boot.
-use Rattle.std.proofs.Common.{◌≡◌, ◌≢◌, ℕ, ◌+◌, ◌≤◌, Bool, true, false, List, length, refl, sym, ◌∙◌, ap, subst, arith, Option, Some, None, Result, Ok, Err, IfOk, OnErr}
+use Rattle.std.proofs.Common.{◌≡◌, ◌≢◌, ℕ, ◌+◌, ◌≤◌, Bool, true, false, List, length, refl, sym, ◌∙◌, ap, subst, inl, inr, arith, nat_lt, Option, Some, None, Result, Ok, Err, IfOk, OnErr}
 use Rattle.std.proofs.lemmas.List.{length-drop}
 use Rattle.thy_base.specs.declared.block.Block.{Block}
 use Rattle.thy_base.specs.declared.config.Parameters.{Parameters}
 use Rattle.thy_base.specs.declared.mark.Mark.{Mark}
 use Rattle.thy_base.specs.declared.nvm.NvmError.{NvmError}
-use Rattle.thy_base.specs.Device.{Device, IsFramed, CountsFault}
+use Rattle.thy_base.specs.declared.place.Place.TheVariants.{AlternatePage, Frame}
+use Rattle.thy_base.specs.Device.{Device, HasFailed, IsFramed, CountsFault, newest}
 use Rattle.thy_base.specs.Marks.{mark}
-use Rattle.thy_base.specs.Places.{image_blocks}
+use Rattle.thy_base.specs.Places.{image_blocks, number_of, slot_blocks}
 use Rattle.thy_crash.specs.Saved.{Kept}
 use Rattle.thy_isa.specs.declared.state.CpuState.{CpuState}
 use Rattle.thy_isa.specs.OnBlocks.{state_from}
@@ -16,6 +17,8 @@ use Rattle.thy_record.specs.declared.bad_image.BadImage.{BadImage}
 use Rattle.thy_record.specs.declared.start.Start.{Start}
 use Rattle.thy_record.specs.Cpu.{cpu_of_record}
 use Rattle.thy_record.specs.Images.{decode_image}
+use Rattle.thy_record.specs.Slots.{slot_fault}
+use Rattle.thy_control.specs.Boot.{with_frame}
 use Rattle.thy_control.specs.State.{State, AreSoundTables, IsSized}
 use Rattle.thy_control.proofs.HoldingLemmas.{works-sized}
 use Rattle.thy_protocol.specs.Keeps.{Keeps, finding_view}
@@ -23,9 +26,10 @@ use Rattle.thy_protocol.specs.Moves.{IsKeeping}
 use Rattle.thy_protocol.specs.VersionOne.{layout_of}
 use Rattle.thy_view.specs.declared.did.Did.{Did}
 use Rattle.thy_view.specs.declared.view.View.{View}
-use Rattle.thy_view.specs.Action.{Action, Rest, ReadAt, WriteAt, Barrier, Drain, after, Acts, ActionFailed}
+use Rattle.thy_view.specs.Action.{Action, Rest, ReadAt, WriteAt, Barrier, Drain, after, FailsTo, Acts, ActionFailed}
 use Rattle.thy_view.specs.Booting.{boot_view, loading_view}
 use Rattle.thy_view.specs.CoreStep.{BootsTo, CoreStep}
+use Rattle.thy_view.specs.Dram.{ActsOnDram}
 use Rattle.thy_view.specs.Origin.{Origin, Begins}
 use Rattle.thy_view.specs.Safe.{ceiling, Safe}
 use Rattle.thy_commit.specs.Progress.{Fits}
@@ -36,20 +40,21 @@ use Rattle.thy_recover.specs.declared.stage.Issue.{Issue}
 use Rattle.thy_recover.specs.declared.stage.Issue.TheVariants.{Home, Slot, Header, Settle, Commit, Confirm}
 use Rattle.thy_recover.specs.declared.stage.BootStep.{BootStep}
 use Rattle.thy_recover.specs.declared.stage.BootStep.TheVariants.{Reading, Loading as IsLoading, Loaded as HasLoaded, Restarted, Refused}
-use Rattle.thy_recover.specs.Boot.{Booting, IsBoot, slot_of, issue_at, answer_at, answer_of}
+use Rattle.thy_recover.specs.Boot.{Booting, IsBoot, slot_of, issue_at, answer_at, answer_of, JudgesUnless}
 use Rattle.thy_recover.specs.Left.{boot_left}
 use Rattle.thy_recover.specs.Laws.{IsGoing, IsMoved, IsFilled, failed_answer}
 use Rattle.thy_recover.specs.Loads.{issue_action}
+use Rattle.thy_recover.specs.Reads.{read_action, slot_read, Fills}
 use Rattle.thy_recover.specs.Recovers.{HasReadAt, loads}
 use Rattle.thy_recover.specs.Shows.{seen_at, did_of}
 use Rattle.thy_recover.specs.Sound.{BootImages, start_mark, standing_in_boot, images_after, IsSoundAt, IsLoaded, IsBooted as IsBootedAt}
-use Rattle.thy_recover.specs.Steps.{CanStep, Steps, StepsBy, Fails, TakesStep}
+use Rattle.thy_recover.specs.Steps.{CanStep, Steps, StepsBy, FailsBy, Fails, TakesStep}
 use Rattle.thy_recover.proofs.StepMoveLemmas.{steps_move}
 use Rattle.thy_recover.proofs.SafeLemmas.{failures_move}
 use Rattle.thy_recover.proofs.EndLemmas.{restored_is_booted, never_refused}
 use Rattle.thy_recover.proofs.FoundLemmas.{count-state_from}
 use Rattle.thy_recover.proofs.SoundLemmas.{kept_after}
-use Rattle.thy_recover.proofs.ActLemmas.{steps_act, steps_fill, failures_act, steps_come_nearer}
+use Rattle.thy_recover.proofs.ActLemmas.{steps_act, found_stays, steps_fill, failures_act, steps_come_nearer}
 use Rattle.thy_recover.proofs.GoOnLemmas.{sound_may_step}
 use Rattle.thy_scheme.specs.Boots.{boot_did, IsBooted, Loads, Restarts, Answers, BootsOn, BootFails}
 use Rattle.thy_scheme.specs.Scheme.{IsBooting, CanBoot}
@@ -92,6 +97,32 @@ after-queue (ReadAt place) n = omega arith
 after-queue (WriteAt place block) n = queue-written n place block
 after-queue Barrier n = omega arith
 after-queue Drain n = omega (arith, length-drop 1 n.queue)
+
+-- ---- the DRAM
+
+-- a slot that was judged leaves it as it was
+judged-dram : (z : Bool) (f : Option BadImage) (b : Booting) (c e : State) → JudgesUnless z f b c e → e.dram ≡ c.dram
+judged-dram true f b c e h = ap (λ (x : State). x.dram) h
+judged-dram false None b c e h = ap (λ (x : State). x.dram) h.same
+judged-dram false (Some bad) b c e h = ap (λ (x : State). x.dram) h
+
+frame-acts : (page next : ℕ) (c : State) (n : Device) → ActsOnDram n n c.dram (with_frame page next c n).dram
+unfolding with_frame
+frame-acts page next c n =
+    inr (record { at = number_of c.p (Frame page next); block = newest n (number_of c.p (AlternatePage page next)); left = refl; nvm = refl })
+
+-- a step that reads copies a page's block into its frame, or leaves it as it was
+fills-act : (q : Stage) (n : Device) (b : Booting) (c e : State) → Fills q n b c e → ActsOnDram n n c.dram e.dram
+fills-act Unread n b c e f = inl (ap (λ (x : State). x.dram) f)
+fills-act (ReadsHeader epoch fault) n b c e f = inl (ap (λ (x : State). x.dram) f)
+fills-act (ReadsSlot epoch next) n b c e f =
+    let b1 : Booting = slot_read epoch next n b in
+    inl (judged-dram (nat_lt (next + 1) (slot_blocks b1.p)) (slot_fault b1.p ceiling epoch (slot_of b1)) b1 c e f)
+fills-act (Frames epoch page next) n b c e f = subst (λ (x : State). ActsOnDram n n c.dram x.dram) (sym f) (frame-acts page next c n)
+fills-act (Refusing bad) n b c e f = inl (ap (λ (x : State). x.dram) f)
+fills-act (Loading issue) n b c e f = inl (ap (λ (x : State). x.dram) f)
+fills-act (Restored epoch) n b c e f = inl (ap (λ (x : State). x.dram) f)
+fills-act Loaded n b c e f = inl (ap (λ (x : State). x.dram) f)
 
 -- ---- how far it is
 
@@ -351,16 +382,45 @@ module _ (o : Origin) (s : Dual) (n : Device) (booting : IsBooting dual_scheme o
         ap (λ (x : State). x.dram.queued) l.control,
       )
 
+  dram-by : (i : Option Issue) → StepsBy i o.start n b s.control new d e → ActsOnDram n new s.control.dram e.dram
+  dram-by None r = subst (λ (x : Device). ActsOnDram n x s.control.dram e.dram) (sym r.device) (fills-act b.stage n b s.control e r.control)
+  dram-by (Some issue) l = inl (ap (λ (x : State). x.dram) l.control)
+
   boots_on : BootsOn dual_scheme o (step_of (answer_of d)) s n t new
   boots_on = record {
     answers = answers-at d.stage refl moved.shows;
     acts = subst (λ (x : Did). Acts x n new) (sym (did-answered (answer_of d))) acts;
+    dram = dram-by (issue_at b.stage) steps;
     queue = queue-by (issue_at b.stage) steps;
     nearer = subst (λ (p : Parameters). boot_left p d.stage + 1 ≤ boot_left b.p b.stage) (sym same) nearer;
     read = read;
+    still = λ m found. found_stays o g.kept m n b s.control new d e (sym (ap (λ (x : View). x.done) before) ∙ found) steps;
   }
 
 -- ---- one that failed
+
+-- a read that failed wrote nothing
+read-failed : (p : Parameters) (q : Stage) (n m : Device) → FailsTo (read_action p q) n m → HasFailed n m
+read-failed p Unread n m f = f
+read-failed p (ReadsHeader epoch fault) n m f = f
+read-failed p (ReadsSlot epoch next) n m f = f
+read-failed p (Frames epoch page next) n m f = f
+read-failed p (Refusing bad) n m f = absurd f
+read-failed p (Loading issue) n m f = absurd f
+read-failed p (Restored epoch) n m f = absurd f
+read-failed p Loaded n m f = absurd f
+
+-- where a checkpoint was found a step reads
+found-reads : (o : Origin) (kept : Option Mark) (m : Mark) (b : Booting) (n new : Device) (q : Stage) → (seen_at o kept q).done ≡ Some m → FailsBy (issue_at q) o.start b n new
+    → FailsTo (read_action b.p b.stage) n new
+found-reads o kept m b n new (Loading issue) done f = let both : None ≡ Some m = done in absurd (cc)
+found-reads o kept m b n new Unread done f = f
+found-reads o kept m b n new (ReadsHeader epoch fault) done f = f
+found-reads o kept m b n new (ReadsSlot epoch next) done f = f
+found-reads o kept m b n new (Frames epoch page next) done f = f
+found-reads o kept m b n new (Refusing bad) done f = f
+found-reads o kept m b n new (Restored epoch) done f = f
+found-reads o kept m b n new Loaded done f = f
 
 module _ (o : Origin) (s : Dual) (n : Device) (booting : IsBooting dual_scheme o s n) (new : Device) where
   boot_fails : Fails o.start s.boot n new → IsFramed n new → BootFails dual_scheme o s n new
@@ -374,6 +434,9 @@ module _ (o : Origin) (s : Dual) (n : Device) (booting : IsBooting dual_scheme o
         step = step_of answer;
         acted = subst (λ (x : Did). ActionFailed x n new) (sym (did-answered answer)) (failures_act o.start s.boot n new fails);
         safe = subst (λ (x : View). Safe decode_image o x.done x.sealed new) (sym (view-is o s n boots)) safe;
+        still = λ m found.
+            read-failed s.boot.p s.boot.stage n new
+            (found-reads o boots.images.kept m s.boot n new s.boot.stage (sym (ap (λ (x : View). x.done) (view-is o s n boots)) ∙ found) fails);
       }
 
 -- ---- by the boot's answer

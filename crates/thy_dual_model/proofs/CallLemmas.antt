@@ -19,6 +19,7 @@ use Rattle.thy_control.proofs.DrainLemmas.{IsUnseen-drained, takes_one}
 use Rattle.thy_control.proofs.MarkLemmas.{counted-some}
 use Rattle.thy_commit.proofs.CycleLemmas.{stays_count}
 use Rattle.thy_view.specs.Action.{Rest}
+use Rattle.thy_view.specs.Dram.{ActsOnDram}
 use Rattle.thy_view.specs.Origin.{Origin}
 use Rattle.thy_scheme.specs.Marks.{Marks}
 use Rattle.thy_scheme.specs.Scheme.{Stands}
@@ -76,6 +77,7 @@ module _ (o : Origin) (k : Marks) (s : Dual) (n : Device) (t : State) (stands : 
       rested = refl;
       lean = refl;
     };
+    dram = refl;
     queue = omega (arith, takes_one s.control some);
   }
 
@@ -133,6 +135,7 @@ module _ (o : Origin) (k : Marks) (s : Dual) (n : Device) (t : State) (stands : 
   merges = record {
     sound = sound-on o k s n merged n stands.sound merge-stays stands.up;
     keeps = merge-keeps;
+    dram = made.dram n;
     queue = made.queue;
     nearer = omega (arith, left);
   }
@@ -197,6 +200,7 @@ module _ (o : Origin) (k : Marks) (s : Dual) (n : Device) (t : State) (new : Dev
     sound = sound-on o k s n filled new stands.sound fill-stays (ap (λ (x : Device). x.down) same ∙ stands.up);
     keeps = fill-keeps;
     acts = record { action = Rest; asked = tt; left = same };
+    dram = subst (λ (x : Device). ActsOnDram n x s.control.dram t.dram) (sym same) (one.dram n);
     queue = let long = ap (λ (x : Device). length x.queue) same in omega (arith, one.queue, long);
     nearer = omega (arith, left);
   }

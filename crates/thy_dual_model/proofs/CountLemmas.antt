@@ -1,8 +1,8 @@
 -- How many entries there are of each kind, at the most, and what is left of the pages in promotion.
-use Rattle.std.proofs.Common.{is_none, ◌≡◌, ℕ, ◌-◌, ◌*◌, ◌<◌, ◌≤◌, ◌==◌, ◌&&◌, not, nat_lt, Bool, true, false, if◌then◌else◌, List, [], ◌∷◌, All, length, get_or, map, slice_set, refl, ◌∙◌, ap, arith, Option, Some, None, option_and_then}
+use Rattle.std.proofs.Common.{is_none, ◌≡◌, ℕ, ◌-◌, ◌*◌, ◌≤◌, ◌==◌, ◌&&◌, not, nat_lt, Bool, true, false, if◌then◌else◌, List, [], ◌∷◌, All, get_or, refl, ◌∙◌, ap, arith, Option, Some, None}
 use Rattle.std.specs.List.{count_by, sum_by}
-use Rattle.std.proofs.lemmas.Bool.{ltb-false, ltb-true, not_from_false}
-use Rattle.std.proofs.lemmas.List.Sums.{sum_by-set, sum_by-cons, sum_by-le, count_by-le-length}
+use Rattle.std.proofs.lemmas.Bool.{ltb-false, not_from_false}
+use Rattle.std.proofs.lemmas.List.Sums.{sum_by-cons, sum_by-le, count_by-le-length}
 use Rattle.thy_base.specs.declared.config.Parameters.{Parameters}
 use Rattle.thy_base.specs.Geometry.{IsInRange}
 use Rattle.thy_table.specs.Listing.{free_count, passes}
@@ -10,7 +10,6 @@ use Rattle.thy_table.proofs.IndexLemmas.{one_if}
 use Rattle.thy_tables.specs.declared.block_entry.BttEntry.{BttEntry}
 use Rattle.thy_tables.specs.declared.page_entry.PttEntry.{PttEntry}
 use Rattle.thy_tables.specs.PageEntry.{page_blocks}
-use Rattle.thy_cell.specs.Checkpoint.{page_committed_by, committed_page}
 use Rattle.thy_control.specs.Holding.{waits, is_promoted, waiting, promoted}
 use Rattle.thy_control.specs.Merges.{overlays}
 use Rattle.thy_control.specs.Overlay.{is_overlaid as lies_over}
@@ -20,9 +19,6 @@ use Rattle.thy_control.specs.State.{State, AreSoundTables}
 -- none is counted where the test says so
 pub none-left : (n : ℕ) → nat_lt 0 n ≡ false → n ≡ 0
 none-left n h = let few : n ≤ 0 = ltb-false 0 n h in omega (arith, few)
-
-pub some-left : (n : ℕ) → nat_lt 0 n ≡ true → 0 < n
-some-left n h = ltb-true 0 n h
 
 -- a controller is ready where no page is being promoted and the NVM is up
 pub ready-of : (n : ℕ) (down : Bool) → n ≡ 0 → down ≡ false → (n == 0 && not down) ≡ true

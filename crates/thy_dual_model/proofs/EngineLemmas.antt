@@ -353,6 +353,7 @@ module _ (o : Origin) (k : Marks) (s : Dual) (n : Device) (stands : Stands dual_
         sound = sound-after (item_of e c) refl a;
         keeps = keeps-after (item_of e c) a count;
         acts = acts-as;
+        dram = (IsWrite-after e (item_of e c) c n).dram;
         queue = (IsWrite-after e (item_of e c) c n).queue;
         nearer = omega (arith, count);
       }

@@ -1,47 +1,33 @@
 -- What an item of the engine leaves alone.
-use Rattle.std.proofs.Common.{◌≡◌, ◌≢◌, ℕ, ◌+◌, ◌<◌, ◌≤◌, nat_lt, Bool, true, false, if◌then◌else◌, length, refl, sym, ◌∙◌, ap, arith, Option, Some, None, option_and_then, length-append, length-drop}
-use Rattle.std.proofs.lemmas.Bool.{ltb-true}
+use Rattle.std.proofs.Common.{◌≡◌, ◌≢◌, ℕ, ◌+◌, ◌<◌, ◌≤◌, Bool, true, false, if◌then◌else◌, length, refl, sym, inl, inr, arith, Option, Some, None, length-append, length-drop}
 use Rattle.thy_base.specs.declared.block.Block.{Block}
 use Rattle.thy_base.specs.declared.config.Parameters.{Parameters}
 use Rattle.thy_base.specs.declared.place.Place.{Place}
 use Rattle.thy_base.specs.declared.place.Place.TheVariants.{Home, AlternateBlock, AlternatePage, Buffer, Frame}
 use Rattle.thy_base.specs.Device.{Device, newest, written_to, settled}
-use Rattle.thy_base.specs.Places.{in_dram, number_of, slot_blocks}
-use Rattle.thy_base.specs.Store.{page_of}
+use Rattle.thy_base.specs.Places.{in_dram, number_of}
 use Rattle.thy_base.proofs.DeviceLemmas.{newest-written_to_other, newest-settled, length-written_to, length-settled}
 use Rattle.thy_dram.specs.Contents.{written}
 use Rattle.thy_place.specs.Devices.{Devices, devices_of, read_at, written_at}
-use Rattle.thy_table.specs.Listing.{Listing, entry_at}
-use Rattle.thy_table.proofs.ListingLaws.{entry_at-mapped}
-use Rattle.thy_tables.specs.declared.block_entry.BttEntry.{BttEntry}
-use Rattle.thy_tables.specs.declared.block_entry.Working.TheVariants.{NoWork}
-use Rattle.thy_tables.specs.declared.page_entry.PttEntry.{PttEntry}
-use Rattle.thy_tables.specs.PageEntry.{no_page}
 use Rattle.thy_cell.specs.Cells.{seat_of, frame_at, target, last}
-use Rattle.thy_cell.specs.Checkpoint.{page_issued}
-use Rattle.thy_tables.specs.declared.block_entry.Pending.TheVariants.{Settled}
 use Rattle.thy_record.specs.Commit.{commit_of}
 use Rattle.thy_control.specs.Commit.{committed_state}
 use Rattle.thy_control.specs.Copies.{next_copy, block_listed, copied, devices_copied}
-use Rattle.thy_control.specs.Frees.{HasNoWork, settled as settled_entry}
-use Rattle.thy_control.specs.Keys.{page_key}
 use Rattle.thy_control.specs.Pages.{next_page, block_to_write, issued, devices_issued}
-use Rattle.thy_control.specs.Promotions.{fills_left, unfilled}
-use Rattle.thy_control.specs.State.{State, AreSoundTables, cell_of}
-use Rattle.thy_control.proofs.FindLemmas.{found_entry, entry_for-some}
-use Rattle.thy_control.proofs.IssueLemmas.{IsDue-entry, listed-busy}
+use Rattle.thy_control.specs.State.{State, cell_of}
+use Rattle.thy_view.specs.Dram.{ActsOnDram}
 use Rattle.thy_commit.specs.declared.next.Next.{Next}
 use Rattle.thy_commit.specs.declared.next.Next.TheVariants.{Nothing, Copies, Pages, Slot, Settle, Commit, Confirm}
-use Rattle.thy_commit.specs.Frees.{IsButCopied}
-use Rattle.thy_commit.specs.Items.{Item, NoItem, CopyItem, PageItem, SlotItem, SettleItem, CommitItem, ConfirmItem, item, copy_or, page_or_slot, page_item, next_after}
-use Rattle.thy_commit.specs.Progress.{Progress, IsSoundProgress, slot_number, slot_block, state_after, device_after}
+use Rattle.thy_commit.specs.Items.{Item, NoItem, CopyItem, PageItem, SlotItem, SettleItem, CommitItem, ConfirmItem, item, copy_or, page_or_slot, page_item}
+use Rattle.thy_commit.specs.Progress.{Progress, slot_number, slot_block, state_after, device_after}
 use Rattle.thy_dual_model.specs.Sound.{is_confirming}
 
 -- ---- one write
 
 -- a write leaves the room of the DRAM's queue, as many blocks in the NVM, that as up as it was, its header, and one write more
--- in both queues at most
+-- in both queues at most; one of the DRAM leaves the NVM alone
 pub record IsWrite (old new : Devices) : Type 0 where
+  pub dram : ActsOnDram old.nvm new.nvm old.dram new.dram
   pub room : new.dram.room ≡ old.dram.room
   pub as_long : length new.nvm.image ≡ length old.nvm.image
   pub down : new.nvm.down ≡ old.nvm.down
@@ -53,6 +39,7 @@ queue-written n at block = simp (length-append, length-drop) (omega arith)
 
 pub IsWrite-nvm : (n : Device) (at : ℕ) (block : Block) (d : Devices) → d.nvm ≡ n → at ≢ 0 → IsWrite d (record d { nvm = written_to d.nvm at block })
 IsWrite-nvm n at block d is ne = record {
+  dram = inl refl;
   room = refl;
   as_long = length-written_to d.nvm at block;
   down = refl;
@@ -61,7 +48,14 @@ IsWrite-nvm n at block d is ne = record {
 }
 
 IsWrite-dram : (x : ℕ) (block : Block) (d : Devices) → IsWrite d (record d { dram = written d.dram x block })
-IsWrite-dram x block d = record { room = refl; as_long = refl; down = refl; header = λ l. refl; queue = omega arith }
+IsWrite-dram x block d = record {
+  dram = inr (record { at = x; block = block; left = refl; nvm = refl });
+  room = refl;
+  as_long = refl;
+  down = refl;
+  header = λ l. refl;
+  queue = omega arith;
+}
 
 -- the places of the NVM lie behind the header
 behind : (p : Parameters) (x : Place) → in_dram x ≡ false → number_of p x ≢ 0
@@ -79,10 +73,11 @@ IsWrite-at p x block d = by_side (in_dram x) refl where
   by_side false h = IsWrite-nvm d.nvm (number_of p x) block d refl (behind p x h)
 
 IsWrite-none : (d : Devices) → IsWrite d d
-IsWrite-none d = record { room = refl; as_long = refl; down = refl; header = λ l. refl; queue = omega arith }
+IsWrite-none d = record { dram = inl refl; room = refl; as_long = refl; down = refl; header = λ l. refl; queue = omega arith }
 
 IsWrite-settled : (n : Device) (s : State) → IsWrite (devices_of n s.dram) (devices_of (settled n) s.dram)
 IsWrite-settled n s = record {
+  dram = inl refl;
   room = refl;
   as_long = length-settled n;
   down = refl;

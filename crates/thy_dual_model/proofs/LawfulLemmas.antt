@@ -74,6 +74,7 @@ lawful = record {
   ready_up = λ s n ready. (ready_is_whole s n ready).0;
   ready_whole = λ s n ready. (ready_is_whole s n ready).1;
   free_is = λ s n. refl;
+  queued_is = λ s. refl;
   stays_same = same-stays;
   stays_on = on-stays;
   stays_sound = λ o k s n t new stands free stays. stays_keep o k s n t new stands stays;

@@ -1,8 +1,10 @@
 -- What a merge, a promotion and a drain of the DRAM make of the counts, and of the DRAM's queue.
-use Rattle.std.proofs.Common.{◌≡◌, ℕ, ◌+◌, ◌<◌, ◌≤◌, Bool, true, false, length, is_none, refl, ◌∙◌, ap, arith, Option, Some, None}
+use Rattle.std.proofs.Common.{◌≡◌, ℕ, ◌+◌, ◌<◌, ◌≤◌, Bool, true, false, length, is_none, refl, ◌∙◌, ap, inl, inr, arith, Option, Some, None}
 use Rattle.std.proofs.lemmas.List.Sums.{sum_by-set}
-use Rattle.thy_base.specs.Device.{Device}
+use Rattle.thy_base.specs.Device.{Device, block_at}
+use Rattle.thy_base.specs.Places.{number_of}
 use Rattle.thy_base.specs.Store.{page_of}
+use Rattle.thy_place.specs.Devices.{devices_of, read_at}
 use Rattle.thy_table.specs.Listing.{Listing, entry_at, free_count, passes, with_entry}
 use Rattle.thy_table.proofs.IndexLemmas.{one_if}
 use Rattle.thy_tables.specs.declared.block_entry.BttEntry.{BttEntry}
@@ -10,16 +12,18 @@ use Rattle.thy_tables.specs.declared.page_entry.PttEntry.{PttEntry}
 use Rattle.thy_tables.specs.BlockEntry.{new_entry}
 use Rattle.thy_tables.specs.PageEntry.{no_page}
 use Rattle.thy_cell.specs.declared.cell.Cell.{Cell}
+use Rattle.thy_cell.specs.Cells.{seat_of, frame_at, buffer_at, work}
 use Rattle.thy_cell.specs.Checkpoint.{merged}
 use Rattle.thy_control.specs.Copies.{block_listed}
 use Rattle.thy_control.specs.Holding.{waits, waiting, promoted}
 use Rattle.thy_control.specs.Keys.{block_key, page_key}
 use Rattle.thy_control.specs.Merges.{next_merge, dram_merged, merged_block, after_merge}
-use Rattle.thy_control.specs.Promotions.{fills_left, unfilled, devices_filled, block_filled, after_promotion}
+use Rattle.thy_control.specs.Promotions.{fills_left, unfilled, block_to_fill, devices_filled, block_filled, after_promotion}
 use Rattle.thy_control.specs.State.{State, AreSoundTables, cell_of}
 use Rattle.thy_control.proofs.FindLemmas.{found_entry, entry_for-some}
 use Rattle.thy_control.proofs.MergeLemmas.{listed-merge, listed_page-merge, IsOverlay, IsOverlay-entry, same_p-merge}
 use Rattle.thy_control.proofs.StepMarkLemmas.{promoted-set}
+use Rattle.thy_view.specs.Dram.{ActsOnDram}
 use Rattle.thy_commit.specs.declared.next.Next.{Next}
 use Rattle.thy_commit.specs.declared.next.Next.TheVariants.{Nothing, Copies, Pages, Slot, Settle, Commit, Confirm}
 use Rattle.thy_commit.specs.Items.{is_under_way}
@@ -28,8 +32,9 @@ use Rattle.thy_commit.proofs.HeldLemmas.{unfilled-set}
 
 -- ---- a merge
 
--- no fewer entries are free, no more buffers wait, the promotions are as they were, and the DRAM has one write more queued at most
+-- no fewer entries are free, no more buffers wait, the promotions are as they were, and the DRAM was written once at most
 pub record IsMerged (s t : State) : Type 0 where
+  pub dram : (n : Device) → ActsOnDram n n s.dram t.dram
   pub room : t.dram.room ≡ s.dram.room
   pub queue : t.dram.queued ≤ s.dram.queued + 1
   pub free : free_count s.btt ≤ free_count t.btt
@@ -67,6 +72,12 @@ module _ (s : State) (b : ℕ) (over : IsOverlay s b) where
   is-merged : IsMerged s (merged_block b s)
   unfolding merged_block dram_merged
   is-merged = record {
+    dram = λ n. inr (record {
+      at = number_of s.p (frame_at (seat_of (cell_of s b)));
+      block = block_at s.dram.blocks (number_of s.p (buffer_at (seat_of (cell_of s b))));
+      left = refl;
+      nvm = refl;
+    });
     room = refl;
     queue = omega arith;
     free = free-cleared s.btt c.i block-there;
@@ -77,6 +88,7 @@ module _ (s : State) (b : ℕ) (over : IsOverlay s b) where
 
 pub IsMerged-next : (s : State) → AreSoundTables s → (o : Option ℕ) → next_merge s ≡ o → IsMerged s (after_merge o s)
 IsMerged-next s tables None h = record {
+  dram = λ n. inl refl;
   room = refl;
   queue = omega arith;
   free = omega arith;
@@ -110,14 +122,26 @@ Fits-merged e s t fits idle is = record {
 
 -- ---- a promotion
 
--- the block table is as it was, and the DRAM has one write more queued at most
+-- the block table is as it was, and the DRAM was written once at most
 pub record IsPromoted (s t : State) : Type 0 where
   pub same_p : t.p ≡ s.p
   pub blocks : t.btt ≡ s.btt
+  pub dram : (n : Device) → ActsOnDram n n s.dram t.dram
   pub room : t.dram.room ≡ s.dram.room
   pub queue : t.dram.queued ≤ s.dram.queued + 1
 
 pub IsPromoted-next : (s : State) (m : Device) (o : Option ℕ) → IsPromoted s (after_promotion o s m)
 unfolding block_filled devices_filled
-IsPromoted-next s m None = record { same_p = refl; blocks = refl; room = refl; queue = omega arith }
-IsPromoted-next s m (Some j) = record { same_p = refl; blocks = refl; room = refl; queue = omega arith }
+IsPromoted-next s m None = record { same_p = refl; blocks = refl; dram = λ n. inl refl; room = refl; queue = omega arith }
+IsPromoted-next s m (Some j) = record {
+  same_p = refl;
+  blocks = refl;
+  dram = λ n. inr (record {
+    at = number_of s.p (frame_at (seat_of (cell_of s (block_to_fill j s))));
+    block = read_at s.p (devices_of m s.dram) (work (cell_of s (block_to_fill j s)));
+    left = refl;
+    nvm = refl;
+  });
+  room = refl;
+  queue = omega arith;
+}

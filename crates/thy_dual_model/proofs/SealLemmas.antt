@@ -170,6 +170,7 @@ module _ (o : Origin) (k : Marks) (s : Dual) (n : Device) (stands : Stands dual_
       free = omega (arith, done.free);
       opened = inl refl;
     };
+    dram = same_dram;
     queue = ap (λ (d : Contents). d.queued) same_dram;
     rested = refl;
     lean = refl;

@@ -1,5 +1,5 @@
 -- A load acts on the NVM once, and its failure is counted.
-use Rattle.std.proofs.Common.{◌≡◌, ℕ, ◌<◌, Bool, true, false, length, Result, Ok, Err, OnOk, OnErr, ap, ◌∙◌, arith, if◌then◌else◌}
+use Rattle.std.proofs.Common.{◌≡◌, ℕ, ◌<◌, Bool, true, false, length, Result, Ok, Err, OnOk, OnErr, refl, ap, ◌∙◌, inl, arith, if◌then◌else◌}
 use Rattle.thy_base.specs.declared.block.Block.{Block}
 use Rattle.thy_base.specs.declared.nvm.NvmError.{NvmError}
 use Rattle.thy_base.specs.Counts.{Rose}
@@ -18,7 +18,7 @@ load_once K l s n new b (Ok block) inside stays frame same failed =
     record {
       action = ReadAt b;
       access = tt;
-      succeeds = λ alive. record { left = same; queue = omega (arith, ap (λ (d : Device). length d.queue) same) };
+      succeeds = λ alive. record { left = same; dram = inl refl; queue = omega (arith, ap (λ (d : Device). length d.queue) same) };
       fails = λ dead. absurd (cc);
       frame = frame;
       stays = stays;

@@ -1,8 +1,9 @@
 -- What the calls of a scheme promise in the boot.
 use Rattle.std.specs.Prelude.{◌≡◌, ◌⊎◌, ℕ, ◌+◌, ◌≤◌, true, false, Some, None}
 use Rattle.thy_base.specs.declared.mark.Mark.{Mark}
-use Rattle.thy_base.specs.Device.{Device}
+use Rattle.thy_base.specs.Device.{Device, HasFailed}
 use Rattle.thy_base.specs.Marks.{mark}
+use Rattle.thy_dram.specs.Contents.{drained}
 use Rattle.thy_isa.specs.declared.state.CpuState.{CpuState}
 use Rattle.thy_isa.specs.OnBlocks.{state_from}
 use Rattle.thy_isa.specs.Step.{cpu_of}
@@ -13,6 +14,7 @@ use Rattle.thy_view.specs.declared.view.View.{View}
 use Rattle.thy_view.specs.Action.{Acts, ActionFailed}
 use Rattle.thy_view.specs.Booting.{boot_view, loading_view}
 use Rattle.thy_view.specs.CoreStep.{BootsTo}
+use Rattle.thy_view.specs.Dram.{ActsOnDram}
 use Rattle.thy_view.specs.Origin.{Origin, at}
 use Rattle.thy_view.specs.Safe.{ceiling, Safe}
 use Rattle.thy_scheme.specs.declared.boot_step.BootStep.{BootStep}
@@ -62,19 +64,23 @@ Answers K o IsLoaded s n t new = Loads K o s n t new
 Answers K o (IsRestarted cpu epoch) s n t new = Restarts K o cpu epoch s n t new
 Answers K o (IsRefused bad) s n t new = ⊥
 
--- a step of the boot, whose first one reads the commit block
+-- a step of the boot, whose first one reads the commit block; where a checkpoint was found it leaves the NVM as it was
 pub record BootsOn {S : Type 0} (K : SchemeOf S) (o : Origin) (step : BootStep) (s : S) (n : Device) (t : S) (new : Device) : Type 0 where
   pub answers : Answers K o step s n t new
   pub acts : Acts (boot_did step) n new
+  pub dram : ActsOnDram n new (K.dram s) (K.dram t)
   pub queue : queued_in K t new ≤ queued_in K s n + 1
   pub nearer : K.boot_left t + 1 ≤ K.boot_left s
   pub read : K.has_read t ≡ true
+  pub still : (m : Mark) → (K.boot_view o s n).done ≡ Some m → new ≡ n
 
--- that failed in its action, and leaves what the boot found, whole, or what is loaded
+-- that failed in its action, and leaves what the boot found, whole, or what is loaded; where a checkpoint was found it wrote
+-- nothing
 pub record BootFails {S : Type 0} (K : SchemeOf S) (o : Origin) (s : S) (n new : Device) : Type 0 where
   pub step : BootStep
   pub acted : ActionFailed (boot_did step) n new
   pub safe : Safe K.decode o (K.boot_view o s n).done (K.boot_view o s n).sealed new
+  pub still : (m : Mark) → (K.boot_view o s n).done ≡ Some m → HasFailed n new
 
 -- the boot and what is seen of it are as before
 pub record BootStays {S : Type 0} (K : SchemeOf S) (o : Origin) (s : S) (n : Device) (t : S) (new : Device) : Type 0 where
@@ -86,4 +92,5 @@ pub record BootStays {S : Type 0} (K : SchemeOf S) (o : Origin) (s : S) (n : Dev
 -- one write of the DRAM lands while it boots
 pub record BootDrains {S : Type 0} (K : SchemeOf S) (o : Origin) (s : S) (n : Device) (t : S) : Type 0 where
   pub stays : BootStays K o s n t n
+  pub dram : K.dram t ≡ drained (K.dram s)
   pub queue : K.queued t + 1 ≡ K.queued s

@@ -5,6 +5,7 @@ use Rattle.thy_base.specs.Device.{Device, IsFramed, HasFailed}
 use Rattle.thy_base.specs.Store.{Holding, HasStored}
 use Rattle.thy_base.specs.declared.store.Stored.{Stored}
 use Rattle.thy_base.specs.declared.block.Block.{Block}
+use Rattle.thy_dram.specs.Contents.{drained}
 use Rattle.thy_isa.specs.declared.state.CpuState.{CpuState}
 use Rattle.thy_isa.specs.OnBlocks.{state_from}
 use Rattle.thy_record.specs.Cpu.{IsRecordable}
@@ -13,6 +14,7 @@ use Rattle.thy_record.specs.declared.engine_step.EngineStep.TheVariants.{Idle, C
 use Rattle.thy_view.specs.declared.did.Did.{Did}
 use Rattle.thy_view.specs.declared.did.Did.TheVariants.{Engine, Promoted, Committed as DidCommit}
 use Rattle.thy_view.specs.Action.{Action, IsAccess, after, FailsTo, Acts, ActionFailed}
+use Rattle.thy_view.specs.Dram.{ActsOnDram}
 use Rattle.thy_view.specs.Origin.{Origin, at}
 use Rattle.thy_view.specs.Safe.{ceiling, Safe}
 use Rattle.thy_scheme.specs.Marks.{Marks, marks_after}
@@ -27,6 +29,7 @@ queued_in K s n = length n.queue + K.queued s
 -- after an action that succeeded, which queued one write at most
 pub record Succeeds {S : Type 0} (K : SchemeOf S) (action : Action) (s : S) (n : Device) (t : S) (new : Device) : Type 0 where
   pub left : new ≡ after action n
+  pub dram : ActsOnDram n new (K.dram s) (K.dram t)
   pub queue : queued_in K t new ≤ queued_in K s n + 1
 
 -- one load or store acts on the NVM once
@@ -75,6 +78,7 @@ pub record Keeps {S : Type 0} (K : SchemeOf S) (s : S) (n : Device) (t : S) (new
 pub record Merges {S : Type 0} (K : SchemeOf S) (o : Origin) (k : Marks) (s : S) (n : Device) (t : S) : Type 0 where
   pub sound : K.is_sound o k t n
   pub keeps : Keeps K s n t n
+  pub dram : ActsOnDram n n (K.dram s) (K.dram t)
   pub queue : K.queued t ≤ K.queued s + 1
   pub nearer : K.merges_left t + 1 ≡ K.merges_left s
 
@@ -83,6 +87,7 @@ pub record Promotes {S : Type 0} (K : SchemeOf S) (o : Origin) (k : Marks) (s : 
   pub sound : K.is_sound o k t new
   pub keeps : Keeps K s n t new
   pub acts : Acts Promoted n new
+  pub dram : ActsOnDram n new (K.dram s) (K.dram t)
   pub queue : queued_in K t new ≤ queued_in K s n + 1
   pub nearer : K.promotions_left t + 1 ≡ K.promotions_left s
 
@@ -95,6 +100,7 @@ pub record PromotionFails (n new : Device) : Type 0 where
 pub record Drains {S : Type 0} (K : SchemeOf S) (o : Origin) (k : Marks) (s : S) (n : Device) (t : S) : Type 0 where
   pub sound : K.is_sound o k t n
   pub keeps : Keeps K s n t n
+  pub dram : K.dram t ≡ drained (K.dram s)
   pub queue : K.queued t + 1 ≡ K.queued s
 
 -- the machine is at a mark, whose checkpoint comes next
@@ -112,6 +118,7 @@ pub record IsTaken (o : Origin) (k : Marks) (cpu : CpuState) (epoch : ℕ) (m : 
 pub record Seals {S : Type 0} (K : SchemeOf S) (o : Origin) (k : Marks) (cpu : CpuState) (epoch : ℕ) (s : S) (n : Device) (t : S) : Type 0 where
   pub sound : (m : Mark) → IsTaken o k cpu epoch m (K.holding s n) → K.is_sound o (record k { sealed = Some m }) t n
   pub held : HoldsSame (K.holding s n) (K.holding t n)
+  pub dram : K.dram t ≡ K.dram s
   pub queue : K.queued t ≡ K.queued s
   pub rested : K.rested t ≡ true
   pub lean : K.lean t ≡ K.rested s
@@ -133,6 +140,7 @@ pub record Engines {S : Type 0} (K : SchemeOf S) (o : Origin) (k : Marks) (step 
   pub sound : K.is_sound o (marks_after step k) t new
   pub keeps : Keeps K s n t new
   pub acts : (lap : ℕ) → Acts (engine_did lap step) n new
+  pub dram : ActsOnDram n new (K.dram s) (K.dram t)
   pub queue : queued_in K t new ≤ queued_in K s n + 1
   pub nearer : K.engine_left t + 1 ≤ K.engine_left s
 

@@ -1,6 +1,7 @@
 -- What holds of every scheme.
 use Rattle.std.specs.Prelude.{◌≡◌, ℕ, ◌<◌, ◌≤◌, ◌||◌, not, true, false, is_some, Bool, [], length, Some, None}
 use Rattle.thy_base.specs.declared.config.Parameters.{Parameters}
+use Rattle.thy_base.specs.declared.mark.Mark.{Mark}
 use Rattle.thy_base.specs.declared.nvm.Shape.{Shape}
 use Rattle.thy_base.specs.Device.{Device, drained, fitted}
 use Rattle.thy_base.specs.Geometry.{memory_blocks}
@@ -39,13 +40,15 @@ pub record BootsFound {S : Type 0} (K : SchemeOf S) (o : Origin) (s : S) (n : De
   pub boots : K.boots o s n
   pub view : K.boot_view o s n ≡ view_of_image o.start.count (K.decode o.geometry ceiling n.image)
 
--- what holds in the boot: a cut leaves what is seen, and a drain of the NVM changes nothing of it
+-- what holds in the boot: a cut leaves what is seen, a drain of the NVM changes nothing of it, and where a checkpoint was found
+-- nothing is queued there
 pub record BootHolds {S : Type 0} (K : SchemeOf S) (o : Origin) (s : S) (n : Device) : Type 0 where
   pub sized : length n.image ≡ K.blocks o.geometry
   pub safe : Safe K.decode o (K.boot_view o s n).done (doubt_of (K.boot_view o s n)) n
   pub shown : IsBootView o (K.boot_view o s n)
   pub unread : K.has_read s ≡ false → K.queued s ≡ 0
   pub drains : 0 < length n.queue → BootStays K o s n s (drained n)
+  pub settled : (m : Mark) → (K.boot_view o s n).done ≡ Some m → n.queue ≡ []
 
 -- no number is above its most
 pub record IsBounded {S : Type 0} (K : SchemeOf S) (p : Parameters) (s : S) (n : Device) : Type 0 where
@@ -107,6 +110,8 @@ pub record IsLawful {S : Type 0} (K : SchemeOf S) : Type 0 where
   pub ready_up : (s : S) (n : Device) → (K.holding s n).ready ≡ true → n.down ≡ false
   pub ready_whole : (s : S) (n : Device) → (K.holding s n).ready ≡ true → K.promoting s ≡ false
   pub free_is : (s : S) (n : Device) → (K.holding s n).free ≡ K.free s
+  -- the writes that are queued in the DRAM are those that it says are
+  pub queued_is : (s : S) → K.queued s ≡ (K.dram s).queued
   -- what loads and stores keep
   pub stays_same : (s : S) (n : Device) → K.stays s n s n
   pub stays_on : (a : S) (m : Device) (b : S) (n : Device) (c : S) (o : Device)

@@ -1,12 +1,6 @@
 -- What holds of both answers of a test holds of the test.
-use Rattle.std.proofs.Common.{◌≡◌, ◌≢◌, ℕ, ◌<◌, ◌≤◌, nat_lt, ◌==◌, if◌then◌else◌, sym, subst, inl, inr}
-use Rattle.std.proofs.lemmas.Bool.{cases_eq, cases_lt, lt-ltb, le-ltb, eq-eqb, ne_eqb}
-
-pub if_less : {A : Type 0} (P : A → Type 0) (a b : ℕ) (x y : A) → (a < b → P x) → (b ≤ a → P y) → P (if nat_lt a b then x else y)
-if_less P a b x y f g = elim (cases_lt a b) as (λ _. P (if nat_lt a b then x else y)) [
-  | inl l ↦ subst (λ t. P (if t then x else y)) (sym (lt-ltb a b l)) (f l)
-  | inr l ↦ subst (λ t. P (if t then x else y)) (sym (le-ltb a b l)) (g l)
-]
+use Rattle.std.proofs.Common.{◌≡◌, ◌≢◌, ℕ, ◌==◌, if◌then◌else◌, sym, subst, inl, inr}
+use Rattle.std.proofs.lemmas.Bool.{cases_eq, eq-eqb, ne_eqb}
 
 pub if_equal : {A : Type 0} (P : A → Type 0) (a b : ℕ) (x y : A) → (a ≡ b → P x) → (a ≢ b → P y) → P (if a == b then x else y)
 if_equal P a b x y f g = elim (cases_eq a b) as (λ _. P (if a == b then x else y)) [

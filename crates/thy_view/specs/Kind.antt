@@ -23,12 +23,14 @@ use Rattle.thy_view.specs.declared.did.Stall.{Stall}
 use Rattle.thy_view.specs.declared.did.Stepped.{Stepped}
 use Rattle.thy_view.specs.declared.error.CoreError.{CoreError}
 use Rattle.thy_view.specs.declared.error.CoreError.TheVariants.{Nvm, Memory}
+use Rattle.thy_view.specs.declared.view.Phase.TheVariants.{Boot}
 use Rattle.thy_view.specs.declared.view.View.{View}
 use Rattle.thy_view.specs.Booting.{view_of_image, found_first, first_view}
 use Rattle.thy_view.specs.CoreStep.{CoreStep}
 use Rattle.thy_view.specs.Origin.{Origin, IsOrigin, Begins, at}
 use Rattle.thy_view.specs.Safe.{ceiling, Safe}
 use Rattle.thy_view.specs.Action.{Acts, ActionFailed}
+use Rattle.thy_view.specs.Dram.{LeavesDram}
 use Rattle.thy_view.specs.Pace.{Gauge, retires, KeepsPace}
 use Rattle.thy_view.specs.Turn.{Turn, Shortage, Pressure, over_by}
 use Rattle.thy_view.specs.Views.{is_boot, is_between, is_halt, halts, loads, doubt_of}
@@ -83,27 +85,32 @@ pub record CanRead {M : Type 0} (K : KindOf M) (m : M) (n : Device) : Type 0 whe
 
 -- A step that succeeded leads to the next moment of the run, by a step of the view, and was its pick's turn. Whatever
 -- a power cut then leaves is the committed checkpoint, whole, or the one in doubt. A step that finds an empty queue, as
--- the boot's first does, reads the commit block where that is still to be read. It acts on the device once, keeps within
--- the bounds, and is a cycle nearer to the next instruction.
+-- the boot's first does, reads the commit block where that is still to be read. It acts on the device once, or reads it
+-- and writes one block of the DRAM, keeps within the bounds, and is a cycle nearer to the next instruction. In a boot that
+-- found a checkpoint it leaves the device as it was.
 pub record IsStep {M : Type 0} (K : KindOf M) (o : Origin) (k : ℕ) (pick : Pick) (m next : M) (n new : Device) (r : Stepped) : Type 0 where
   pub at_next : K.is_at o (k + 1) next new
   pub step : CoreStep o (K.view o m n) r.did (K.view o next new)
   pub turn : Turn o pick (length n.queue) (K.view o m n) (K.pressure m) r.did r.stall
   pub acts : Acts r.did n new
+  pub dram : LeavesDram r.did n new (K.dram m) (K.dram next)
   pub pace : KeepsPace (K.most_spent o.geometry) (K.view o m n) (K.view o next new) r.did (K.gauge m n) (K.gauge next new)
   pub nears : is_halt (K.view o m n).phase ≡ false → K.ahead o next new + 1 ≤ K.ahead o m n + K.most_each o.geometry * retires r.did
   pub exhausts : r.did ≡ Moved → (K.view o next new).over ≡ over_by (K.pressure m).short
   pub ended : r.ended ≡ halts (K.view o m n) (K.view o next new)
   pub safe : Safe K.decode o (K.view o next new).done (doubt_of (K.view o next new)) new
   pub read : n.queue ≡ [] → K.has_read next ≡ true
+  pub still : (found : Mark) → (K.view o m n).phase ≡ Boot → (K.view o m n).done ≡ Some found → new ≡ n
 
--- a cycle failed in its action, which fits what the actor whose turn it was may do
+-- a cycle failed in its action, which fits what the actor whose turn it was may do; in a boot that found a checkpoint it wrote
+-- nothing
 pub record CycleFailed {M : Type 0} (K : KindOf M) (o : Origin) (pick : Pick) (m : M) (n new : Device) : Type 0 where
   -- what the cycle would have done, and the stall that it would have told
   pub did : Did
   pub stall : Option Stall
   pub turn : Turn o pick (length n.queue) (K.view o m n) (K.pressure m) did stall
   pub failed : ActionFailed did n new
+  pub still : (found : Mark) → (K.view o m n).phase ≡ Boot → (K.view o m n).done ≡ Some found → HasFailed n new
 
 -- a step that failed leaves what the action of its turn may leave: the committed checkpoint, whole, or the sealed one
 pub record LeavesSafe {M : Type 0} (K : KindOf M) (o : Origin) (pick : Pick) (m : M) (n new : Device) : Type 0 where
@@ -185,6 +192,7 @@ pub record IsLawful {M : Type 0} (K : KindOf M) : Type 0 where
   pub some_ahead : (o : Origin) (k : ℕ) (m : M) (n : Device) → K.is_at o k m n → 1 ≤ K.ahead o m n
   -- the gauge counts what is queued in the NVM and in the DRAM
   pub counts_queues : (m : M) (n : Device) → (K.gauge m n).queued ≡ length n.queue + (K.pressure m).dram
+  pub counts_dram : (m : M) → (K.pressure m).dram ≡ (K.dram m).queued
   -- an instruction that is short of entries is short of those that the gauge tells
   pub short_of : (m : M) (n : Device) (s : Shortage)
       → (K.pressure m).short ≡ Some s → (s.free ≡ (K.gauge m n).free) × (s.dirty ≡ (K.gauge m n).dirty)

@@ -4,6 +4,7 @@ pub mod CoreStep
 pub mod Turn
 pub mod Safe
 pub mod Action
+pub mod Dram
 pub mod Pace
 pub mod Booting
 pub mod Kind
