@@ -1,4 +1,5 @@
 //! Whole runs over memory: what is reported, and with which status.
+mod boots;
 mod console;
 mod cuts;
 mod epochs;
