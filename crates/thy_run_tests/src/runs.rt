@@ -1,4 +1,5 @@
 //! Whole runs over memory: what is reported, and with which status.
+mod boots;
 mod console;
 mod cuts;
 mod epochs;
@@ -299,7 +300,13 @@ fn a_report_that_fails_has_taken_the_pieces_before(rt: HostRuntime) -> Result<()
 static DIGESTS: [(&str, &str); 2] = [
     (
         "thynvm run F --pages 8 --btt 8 --ptt 8 --cuts 717 --tears 1 --digest",
-        "commit 0 overlapped 0\nepoch 1 ends at 3 by end\ncut 1 at cycle 717\nrestart 1 at 3\nmemory 6deb2f4354900ff2a9411931cbbb227b278920c0a05d7246af55f9487e46505f\nexit 7 at 3\nmemory 6deb2f4354900ff2a9411931cbbb227b278920c0a05d7246af55f9487e46505f\n",
+        "commit 0 overlapped 0\n\
+         epoch 1 ends at 3 by end\n\
+         cut 1 at cycle 717\n\
+         restart 1 at 3\n\
+         memory 6deb2f4354900ff2a9411931cbbb227b278920c0a05d7246af55f9487e46505f\n\
+         exit 7 at 3\n\
+         memory 6deb2f4354900ff2a9411931cbbb227b278920c0a05d7246af55f9487e46505f\n",
     ),
     (
         "thynvm plain F --pages 8 --digest",
@@ -328,8 +335,14 @@ fn a_program_that_modifies_itself_over_an_epochs_end_exits_with_9(
     rt: HostRuntime,
 ) -> Result<(), Fail> {
     let alloc = rt.alloc();
-    let report =
-        "commit 0\nepoch 1 ends at 3 by length\ncommit 1\nepoch 2 ends at 6 by length\ncommit 2\nepoch 3 ends at 8 by end\ncommit 3\nexit 9 at 8\n";
+    let report = "commit 0\n\
+         epoch 1 ends at 3 by length\n\
+         commit 1\n\
+         epoch 2 ends at 6 by length\n\
+         commit 2\n\
+         epoch 3 ends at 8 by end\n\
+         commit 3\n\
+         exit 9 at 8\n";
     for line in &MODIFYING {
         let given = ran(alloc, line)?;
         assert!(rt; given.status == 0 && tells(&given.report, report), "{line}");

@@ -1,5 +1,5 @@
 //! The lines of events.
-ghost use Rattle.std.specs.Prelude.{◌∷◌, [], ◌≢◌, OnOk, OnErr};
+ghost use Rattle.std.specs.Prelude.{◌∷◌, [], ◌≢◌, OnErr};
 ghost use Rattle.std.specs.Fmt.{decimal};
 ghost use Rattle.thy_base.specs.Bytes.{bytes_of};
 ghost use Rattle.thy_text.specs.Lines.{joined, line_feed, line_of, state_lines, ended_lines, epoch_end_parts, made_of};

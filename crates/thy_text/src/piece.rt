@@ -1,5 +1,5 @@
 //! The parts that lines are written in.
-ghost use Rattle.std.specs.Prelude.{map, OnOk, OnErr};
+ghost use Rattle.std.specs.Prelude.{map};
 ghost use Rattle.thy_text.specs.Lines.{joined};
 ghost use Rattle.thy_text.specs.Pieces.{bytes_of_piece};
 ghost use Rattle.thy_text.specs.Writing.{Wrote};

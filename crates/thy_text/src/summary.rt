@@ -1,5 +1,5 @@
 //! The line that sums a run up.
-ghost use Rattle.std.specs.Prelude.{◌≡◌, OnOk, OnErr, cond, count_by, sum_by};
+ghost use Rattle.std.specs.Prelude.{◌≡◌, cond, count_by, sum_by};
 ghost use Rattle.thy_text.specs.Seen.{event_of};
 ghost use Rattle.thy_text.specs.Summary.{ends_early, ends_epoch, overlapped_by, summary_of};
 ghost use Rattle.thy_text.specs.Writing.{Wrote};

@@ -39,8 +39,16 @@ pub(crate) static GREET: [u32; 125] = [
 ];
 
 /// What `greet` prints of the input `World`, also under `qemu-riscv64`.
-const GREETING: &str =
-    "0 Hello, World!\n1 Hello, World!\n2 Hello, World!\n3 Hello, World!\n4 Hello, World!\n5 Hello, World!\n6 Hello, World!\n7 Hello, World!\n8 Hello, World!\n9 Hello, World!\n";
+const GREETING: &str = "0 Hello, World!\n\
+     1 Hello, World!\n\
+     2 Hello, World!\n\
+     3 Hello, World!\n\
+     4 Hello, World!\n\
+     5 Hello, World!\n\
+     6 Hello, World!\n\
+     7 Hello, World!\n\
+     8 Hello, World!\n\
+     9 Hello, World!\n";
 
 /// The three programs under H, R and G, and as inputs `abcd` under A, nothing under N, `World` and a line feed
 /// under W.
@@ -106,7 +114,11 @@ static PRINTED: [(&str, u8, &str, &str); 10] = [
         "thynvm run H --pages 8 --btt 8 --ptt 8 --epoch 6 --limit 740",
         8,
         "Hi\n",
-        "commit 0 overlapped 0\nepoch 1 ends at 6 by length\ncommit 1 overlapped 2\nepoch 2 ends at 8 by end\nlimit 740\n",
+        "commit 0 overlapped 0\n\
+         epoch 1 ends at 6 by length\n\
+         commit 1 overlapped 2\n\
+         epoch 2 ends at 8 by end\n\
+         limit 740\n",
     ),
     ("thynvm plain H", 0, "Hi\n", "exit 3 at 8\n"),
     ("thynvm plain H --limit 5", 8, "", "limit 5\n"),
@@ -164,11 +176,29 @@ fn an_input_is_read_also_through_cuts(rt: HostRuntime) -> Result<(), Fail> {
 static READ_AND_CUT: [(&str, &str); 2] = [
     (
         "thynvm run R --input A --pages 8 --btt 8 --ptt 8 --digest --epoch 4 --cuts 729 --tears 0",
-        "commit 0 overlapped 0\nepoch 1 ends at 4 by length\ncut 1 at cycle 729\nrestart 0 at 0\nmemory 20d3aa3a6487303d74badebb39b24850e7259a141f087ba621dfb205afc9af6a\nepoch 1 ends at 4 by length\ncommit 1 overlapped 2\nepoch 2 ends at 6 by end\ncommit 2 overlapped 0\nexit 4 at 6\nmemory f5d1994aecdd1db5eb815e0e77ab69b7b00a1de9be36087d0d3beb9e74c815c6\n",
+        "commit 0 overlapped 0\n\
+         epoch 1 ends at 4 by length\n\
+         cut 1 at cycle 729\n\
+         restart 0 at 0\n\
+         memory 20d3aa3a6487303d74badebb39b24850e7259a141f087ba621dfb205afc9af6a\n\
+         epoch 1 ends at 4 by length\n\
+         commit 1 overlapped 2\n\
+         epoch 2 ends at 6 by end\n\
+         commit 2 overlapped 0\n\
+         exit 4 at 6\n\
+         memory f5d1994aecdd1db5eb815e0e77ab69b7b00a1de9be36087d0d3beb9e74c815c6\n",
     ),
     (
         "thynvm run R --input A --pages 8 --btt 8 --ptt 8 --digest --epoch 4 --cuts 729 --tears 1",
-        "commit 0 overlapped 0\nepoch 1 ends at 4 by length\ncut 1 at cycle 729\nrestart 1 at 4\nmemory f5d1994aecdd1db5eb815e0e77ab69b7b00a1de9be36087d0d3beb9e74c815c6\nepoch 2 ends at 6 by end\ncommit 2 overlapped 0\nexit 4 at 6\nmemory f5d1994aecdd1db5eb815e0e77ab69b7b00a1de9be36087d0d3beb9e74c815c6\n",
+        "commit 0 overlapped 0\n\
+         epoch 1 ends at 4 by length\n\
+         cut 1 at cycle 729\n\
+         restart 1 at 4\n\
+         memory f5d1994aecdd1db5eb815e0e77ab69b7b00a1de9be36087d0d3beb9e74c815c6\n\
+         epoch 2 ends at 6 by end\n\
+         commit 2 overlapped 0\n\
+         exit 4 at 6\n\
+         memory f5d1994aecdd1db5eb815e0e77ab69b7b00a1de9be36087d0d3beb9e74c815c6\n",
     ),
 ];
 

@@ -8,11 +8,21 @@ use std::test::Fail;
 static CUT_RUNS: [(&str, &str); 6] = [
     (
         "thynvm run F --pages 8 --btt 8 --ptt 8 --cuts 1",
-        "cut 1 at cycle 1\nreload\ncommit 0 overlapped 0\nepoch 1 ends at 3 by end\ncommit 1 overlapped 0\nexit 7 at 3\n",
+        "cut 1 at cycle 1\n\
+         reload\n\
+         commit 0 overlapped 0\n\
+         epoch 1 ends at 3 by end\n\
+         commit 1 overlapped 0\n\
+         exit 7 at 3\n",
     ),
     (
         "thynvm run F --pages 8 --btt 8 --ptt 8 --cuts 697 --tears 0",
-        "cut 1 at cycle 697\nreload\ncommit 0 overlapped 0\nepoch 1 ends at 3 by end\ncommit 1 overlapped 0\nexit 7 at 3\n",
+        "cut 1 at cycle 697\n\
+         reload\n\
+         commit 0 overlapped 0\n\
+         epoch 1 ends at 3 by end\n\
+         commit 1 overlapped 0\n\
+         exit 7 at 3\n",
     ),
     (
         "thynvm run F --pages 8 --btt 8 --ptt 8 --cuts 697 --tears 1",
@@ -20,7 +30,13 @@ static CUT_RUNS: [(&str, &str); 6] = [
     ),
     (
         "thynvm run F --pages 8 --btt 8 --ptt 8 --cuts 717 --tears 0",
-        "commit 0 overlapped 0\nepoch 1 ends at 3 by end\ncut 1 at cycle 717\nrestart 0 at 0\nepoch 1 ends at 3 by end\ncommit 1 overlapped 0\nexit 7 at 3\n",
+        "commit 0 overlapped 0\n\
+         epoch 1 ends at 3 by end\n\
+         cut 1 at cycle 717\n\
+         restart 0 at 0\n\
+         epoch 1 ends at 3 by end\n\
+         commit 1 overlapped 0\n\
+         exit 7 at 3\n",
     ),
     (
         "thynvm run F --pages 8 --btt 8 --ptt 8 --cuts 717 --tears 1",
@@ -28,7 +44,13 @@ static CUT_RUNS: [(&str, &str); 6] = [
     ),
     (
         "thynvm run F --pages 8 --btt 8 --ptt 8 --cuts 698,700",
-        "commit 0 overlapped 0\ncut 1 at cycle 698\ncut 2 at cycle 700\nrestart 0 at 0\nepoch 1 ends at 3 by end\ncommit 1 overlapped 0\nexit 7 at 3\n",
+        "commit 0 overlapped 0\n\
+         cut 1 at cycle 698\n\
+         cut 2 at cycle 700\n\
+         restart 0 at 0\n\
+         epoch 1 ends at 3 by end\n\
+         commit 1 overlapped 0\n\
+         exit 7 at 3\n",
     ),
 ];
 

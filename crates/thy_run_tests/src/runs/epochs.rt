@@ -22,8 +22,14 @@ pub(crate) static NINE_STORES_TWICE: [u32; 20] = [
 
 /// What is reported of nine stores where the block table has eight entries and the cache a line for each block:
 /// the ninth store finds eight dirty lines and then, with those stored, no free entry.
-const EXHAUSTED: &str =
-    "commit 0 overlapped 0\nepoch 1 ends at 8 by exhausted 8 8 1\ncommit 1 overlapped 0\nepoch 2 ends at 8 by exhausted 0 0 1\ncommit 2 overlapped 0\nepoch 3 ends at 11 by end\ncommit 3 overlapped 0\nexit 0 at 11\n";
+const EXHAUSTED: &str = "commit 0 overlapped 0\n\
+     epoch 1 ends at 8 by exhausted 8 8 1\n\
+     commit 1 overlapped 0\n\
+     epoch 2 ends at 8 by exhausted 0 0 1\n\
+     commit 2 overlapped 0\n\
+     epoch 3 ends at 11 by end\n\
+     commit 3 overlapped 0\n\
+     exit 0 at 11\n";
 
 /// Runs that exit, with the report: four instructions in as many epochs, each of which ends while the checkpoint
 /// before it is written; nine stores, with entries for all of them, and in caches of a line and of four; and
@@ -31,7 +37,16 @@ const EXHAUSTED: &str =
 static REPORTS: [(&str, &str); 7] = [
     (
         "thynvm run E --pages 8 --btt 8 --ptt 8 --epoch 1",
-        "commit 0 overlapped 0\nepoch 1 ends at 1 by length\ncommit 1 overlapped 1\nepoch 2 ends at 2 by length\ncommit 2 overlapped 1\nepoch 3 ends at 3 by length\ncommit 3 overlapped 1\nepoch 4 ends at 4 by end\ncommit 4 overlapped 0\nexit 6 at 4\n",
+        "commit 0 overlapped 0\n\
+         epoch 1 ends at 1 by length\n\
+         commit 1 overlapped 1\n\
+         epoch 2 ends at 2 by length\n\
+         commit 2 overlapped 1\n\
+         epoch 3 ends at 3 by length\n\
+         commit 3 overlapped 1\n\
+         epoch 4 ends at 4 by end\n\
+         commit 4 overlapped 0\n\
+         exit 6 at 4\n",
     ),
     ("thynvm run N --pages 8 --btt 8 --ptt 8", EXHAUSTED),
     (
@@ -40,19 +55,51 @@ static REPORTS: [(&str, &str); 7] = [
     ),
     (
         "thynvm run N --pages 8 --btt 8 --ptt 8 --sets 1 --ways 1",
-        "commit 0 overlapped 0\nepoch 1 ends at 8 by exhausted 0 0 1\ncommit 1 overlapped 0\nepoch 2 ends at 8 by exhausted 0 0 1\ncommit 2 overlapped 0\nepoch 3 ends at 11 by end\ncommit 3 overlapped 0\nexit 0 at 11\n",
+        "commit 0 overlapped 0\n\
+         epoch 1 ends at 8 by exhausted 0 0 1\n\
+         commit 1 overlapped 0\n\
+         epoch 2 ends at 8 by exhausted 0 0 1\n\
+         commit 2 overlapped 0\n\
+         epoch 3 ends at 11 by end\n\
+         commit 3 overlapped 0\n\
+         exit 0 at 11\n",
     ),
     (
         "thynvm run N --pages 8 --btt 8 --ptt 8 --sets 1 --ways 4",
-        "commit 0 overlapped 0\nepoch 1 ends at 8 by exhausted 3 3 1\ncommit 1 overlapped 0\nepoch 2 ends at 8 by exhausted 0 0 1\ncommit 2 overlapped 0\nepoch 3 ends at 11 by end\ncommit 3 overlapped 0\nexit 0 at 11\n",
+        "commit 0 overlapped 0\n\
+         epoch 1 ends at 8 by exhausted 3 3 1\n\
+         commit 1 overlapped 0\n\
+         epoch 2 ends at 8 by exhausted 0 0 1\n\
+         commit 2 overlapped 0\n\
+         epoch 3 ends at 11 by end\n\
+         commit 3 overlapped 0\n\
+         exit 0 at 11\n",
     ),
     (
         "thynvm run D --pages 8 --btt 8 --ptt 8 --sets 1 --ways 1 --high 0 --low 0",
-        "commit 0 overlapped 0\nepoch 1 ends at 8 by exhausted 0 0 1\ncommit 1 overlapped 0\nepoch 2 ends at 8 by exhausted 0 0 1\ncommit 2 overlapped 0\nepoch 3 ends at 20 by end\ncommit 3 overlapped 0\nexit 0 at 20\n",
+        "commit 0 overlapped 0\n\
+         epoch 1 ends at 8 by exhausted 0 0 1\n\
+         commit 1 overlapped 0\n\
+         epoch 2 ends at 8 by exhausted 0 0 1\n\
+         commit 2 overlapped 0\n\
+         epoch 3 ends at 20 by end\n\
+         commit 3 overlapped 0\n\
+         exit 0 at 20\n",
     ),
     (
         "thynvm run D --pages 8 --btt 8 --ptt 8 --sets 1 --ways 1",
-        "commit 0 overlapped 0\nepoch 1 ends at 8 by exhausted 0 0 1\ncommit 1 overlapped 0\nepoch 2 ends at 8 by exhausted 0 0 1\ncommit 2 overlapped 0\nepoch 3 ends at 16 by exhausted 0 0 1\ncommit 3 overlapped 0\nepoch 4 ends at 16 by exhausted 0 0 1\ncommit 4 overlapped 0\nepoch 5 ends at 20 by end\ncommit 5 overlapped 0\nexit 0 at 20\n",
+        "commit 0 overlapped 0\n\
+         epoch 1 ends at 8 by exhausted 0 0 1\n\
+         commit 1 overlapped 0\n\
+         epoch 2 ends at 8 by exhausted 0 0 1\n\
+         commit 2 overlapped 0\n\
+         epoch 3 ends at 16 by exhausted 0 0 1\n\
+         commit 3 overlapped 0\n\
+         epoch 4 ends at 16 by exhausted 0 0 1\n\
+         commit 4 overlapped 0\n\
+         epoch 5 ends at 20 by end\n\
+         commit 5 overlapped 0\n\
+         exit 0 at 20\n",
     ),
 ];
 
@@ -70,15 +117,38 @@ fn each_epoch_ends_for_its_cause(rt: HostRuntime) -> Result<(), Fail> {
 static SCHEDULED: [(&str, &str); 3] = [
     (
         "thynvm run F --epoch 1",
-        "commit 0\nepoch 1 ends at 1 by length\ncommit 1\nepoch 2 ends at 2 by length\ncommit 2\nepoch 3 ends at 3 by end\ncommit 3\nexit 7 at 3\n",
+        "commit 0\n\
+         epoch 1 ends at 1 by length\n\
+         commit 1\n\
+         epoch 2 ends at 2 by length\n\
+         commit 2\n\
+         epoch 3 ends at 3 by end\n\
+         commit 3\n\
+         exit 7 at 3\n",
     ),
     (
         "thynvm run E --epoch 1",
-        "commit 0\nepoch 1 ends at 1 by length\ncommit 1\nepoch 2 ends at 2 by length\ncommit 2\nepoch 3 ends at 3 by length\ncommit 3\nepoch 4 ends at 4 by end\ncommit 4\nexit 6 at 4\n",
+        "commit 0\n\
+         epoch 1 ends at 1 by length\n\
+         commit 1\n\
+         epoch 2 ends at 2 by length\n\
+         commit 2\n\
+         epoch 3 ends at 3 by length\n\
+         commit 3\n\
+         epoch 4 ends at 4 by end\n\
+         commit 4\n\
+         exit 6 at 4\n",
     ),
     (
         "thynvm run N",
-        "commit 0\nepoch 1 ends at 8 by exhausted 8 8 1\ncommit 1\nepoch 2 ends at 8 by exhausted 0 0 1\ncommit 2\nepoch 3 ends at 11 by end\ncommit 3\nexit 0 at 11\n",
+        "commit 0\n\
+         epoch 1 ends at 8 by exhausted 8 8 1\n\
+         commit 1\n\
+         epoch 2 ends at 8 by exhausted 0 0 1\n\
+         commit 2\n\
+         epoch 3 ends at 11 by end\n\
+         commit 3\n\
+         exit 0 at 11\n",
     ),
 ];
 

@@ -30,7 +30,15 @@ static RESTARTS: Case = Case {
     options: "",
     once: " --cuts 717 --digest",
     tears: "0,",
-    report: "commit 0 overlapped 0\nepoch 1 ends at 3 by end\ncut 1 at cycle 717\nrestart 0 at 0\nmemory 6deb2f4354900ff2a9411931cbbb227b278920c0a05d7246af55f9487e46505f\nepoch 1 ends at 3 by end\ncommit 1 overlapped 0\nexit 7 at 3\nmemory 6deb2f4354900ff2a9411931cbbb227b278920c0a05d7246af55f9487e46505f\n",
+    report: "commit 0 overlapped 0\n\
+             epoch 1 ends at 3 by end\n\
+             cut 1 at cycle 717\n\
+             restart 0 at 0\n\
+             memory 6deb2f4354900ff2a9411931cbbb227b278920c0a05d7246af55f9487e46505f\n\
+             epoch 1 ends at 3 by end\n\
+             commit 1 overlapped 0\n\
+             exit 7 at 3\n\
+             memory 6deb2f4354900ff2a9411931cbbb227b278920c0a05d7246af55f9487e46505f\n",
 };
 
 static PRINTS_IN_TWO_EPOCHS: Case = Case {
@@ -38,7 +46,12 @@ static PRINTS_IN_TWO_EPOCHS: Case = Case {
     options: " --epoch 6",
     once: "",
     tears: "",
-    report: "commit 0 overlapped 0\nepoch 1 ends at 6 by length\ncommit 1 overlapped 2\nepoch 2 ends at 8 by end\ncommit 2 overlapped 0\nexit 3 at 8\n",
+    report: "commit 0 overlapped 0\n\
+             epoch 1 ends at 6 by length\n\
+             commit 1 overlapped 2\n\
+             epoch 2 ends at 8 by end\n\
+             commit 2 overlapped 0\n\
+             exit 3 at 8\n",
 };
 
 /// Two of its epochs end for want of entries, and a page of it is copied to the DRAM and written back whole.
@@ -47,7 +60,14 @@ static KEEPS_A_PAGE: Case = Case {
     options: " --sets 1 --ways 1 --high 0 --low 0",
     once: "",
     tears: "",
-    report: "commit 0 overlapped 0\nepoch 1 ends at 8 by exhausted 0 0 1\ncommit 1 overlapped 0\nepoch 2 ends at 8 by exhausted 0 0 1\ncommit 2 overlapped 0\nepoch 3 ends at 20 by end\ncommit 3 overlapped 0\nexit 0 at 20\n",
+    report: "commit 0 overlapped 0\n\
+             epoch 1 ends at 8 by exhausted 0 0 1\n\
+             commit 1 overlapped 0\n\
+             epoch 2 ends at 8 by exhausted 0 0 1\n\
+             commit 2 overlapped 0\n\
+             epoch 3 ends at 20 by end\n\
+             commit 3 overlapped 0\n\
+             exit 0 at 20\n",
 };
 
 /// What a report tells before it says that the NVM failed, if it ends so.

@@ -39,7 +39,11 @@ static BENCHES: [(&str, u8, &str); 6] = [
     (
         "thynvm bench 0 --btt 4096 --epoch 1000000",
         0,
-        "commit 0 overlapped 0\nepoch 1 ends at 48027 by end\ncommit 1 overlapped 0\nexit 128 at 48027\nsummary epochs 1 early 0 overlapped 0\n",
+        "commit 0 overlapped 0\n\
+         epoch 1 ends at 48027 by end\n\
+         commit 1 overlapped 0\n\
+         exit 128 at 48027\n\
+         summary epochs 1 early 0 overlapped 0\n",
     ),
     ("thynvm bench 4294967296", 2, "value n 4294967296\n"),
     ("thynvm bench x", 2, "word n\n"),

@@ -56,8 +56,14 @@ static ENTRY: [u8; 8] = [0xb5, 0x01, 0, 0, 0, 0, 0, 0];
 fn a_saved_run_stands_on_the_shelf_and_is_resumed(rt: HostRuntime) -> Result<(), Fail> {
     let alloc = rt.alloc();
     let mut shelf = programs(alloc)?;
-    let told =
-        "commit 0 overlapped 0\nepoch 1 ends at 8 by exhausted 8 8 1\ncommit 1 overlapped 0\nepoch 2 ends at 8 by exhausted 0 0 1\ncommit 2 overlapped 0\nepoch 3 ends at 11 by end\ncommit 3 overlapped 0\nexit 0 at 11\n";
+    let told = "commit 0 overlapped 0\n\
+         epoch 1 ends at 8 by exhausted 8 8 1\n\
+         commit 1 overlapped 0\n\
+         epoch 2 ends at 8 by exhausted 0 0 1\n\
+         commit 2 overlapped 0\n\
+         epoch 3 ends at 11 by end\n\
+         commit 3 overlapped 0\n\
+         exit 0 at 11\n";
     let line = "thynvm run N --pages 8 --btt 8 --ptt 8 --save D";
     expect_on(&rt, alloc, &mut shelf, line, 0, "", told)?;
     let mut image = held(&rt, alloc, &mut shelf, "D");
