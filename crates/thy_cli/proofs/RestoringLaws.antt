@@ -1,16 +1,15 @@
 -- What the bytes of a saved image decode to can begin a run, and their blocks are an image of the same meaning.
-use Rattle.std.proofs.Common.{◌≡◌, ℕ, ◌+◌, ◌-◌, ◌*◌, ◌/◌, ◌%◌, ◌^◌, ◌<◌, ◌≤◌, ◌==◌, ◌&&◌, Bool, true, false, nat_le, nat_lt, if◌then◌else◌, List, [], ◌∷◌, ◌++◌, length, take, drop, slice_index, map, replicate, Option, Some, None, Ok, Err, refl, sym, ◌∙◌, ap, subst, inl, inr, lit<, arith}
+use Rattle.std.proofs.Common.{◌≡◌, ℕ, ◌+◌, ◌-◌, ◌*◌, ◌/◌, ◌%◌, ◌^◌, ◌<◌, ◌≤◌, ◌==◌, ◌&&◌, Bool, true, false, nat_le, nat_lt, if◌then◌else◌, List, [], ◌∷◌, ◌++◌, length, take, drop, slice_index, map, replicate, Option, Some, None, Ok, refl, sym, ◌∙◌, ap, subst, inl, inr, lit<, arith}
 use Rattle.std.specs.List.{All}
 use Rattle.std.specs.Option.{option_or}
 use Rattle.std.proofs.lemmas.Bool.{cases_lt, le-leb, leb-true, ltb-true, and_parts}
-use Rattle.std.proofs.lemmas.List.{append-nil, length-take, length-take-le, length-drop, length-map, take_all, take_more, get_or_past, get_or-take, get_or-drop, get_or-map, ext_get_or}
+use Rattle.std.proofs.lemmas.List.{length-take, length-take-le, length-drop, length-map, take_all, take_more, get_or_past, get_or-take, get_or-drop, get_or-map, ext_get_or}
 use Rattle.std.proofs.lemmas.List.Elements.{All-cons, All-append, All-replicate, All-take, All-drop, All-from_get_or}
 use Rattle.thy_base.specs.declared.block.Block.{Block}
 use Rattle.thy_base.specs.declared.config.Parameters.{Parameters}
 use Rattle.thy_base.specs.declared.mark.Mark.{Mark}
-use Rattle.thy_base.specs.declared.nvm.Shape.{Shape}
 use Rattle.thy_base.specs.Blocks.{block_bytes}
-use Rattle.thy_base.specs.Device.{Device, zero_block, block_at, fitted}
+use Rattle.thy_base.specs.Device.{zero_block, block_at}
 use Rattle.thy_base.specs.Geometry.{IsInRange, program_size, console_room}
 use Rattle.thy_base.specs.Marks.{mark}
 use Rattle.thy_base.specs.Places.{image_blocks}
@@ -25,11 +24,10 @@ use Rattle.thy_isa.specs.OnBlocks.{state_from}
 use Rattle.thy_isa.specs.Step.{State, cpu_of}
 use Rattle.thy_isa.specs.Storable.{IsNumber, IsByte, IsStatus, IsStorable, IsReadable}
 use Rattle.thy_isa.proofs.MemoryBounds.{anywhere, number_at-number}
-use Rattle.thy_record.specs.declared.bad_image.BadImage.{BadImage}
 use Rattle.thy_record.specs.declared.bad_image.BadImage.TheVariants.{Commit, Status as BadStatus, ConsoleLength}
 use Rattle.thy_record.specs.Commit.{commit_magic, epoch_of, has_zero_rest, commit_fault}
 use Rattle.thy_record.specs.Cpu.{status_tag, status_value, status_of, is_status, record_word, record_words, cpu_of_record, IsRecordable}
-use Rattle.thy_record.specs.declared.file.Found.TheVariants.{Nothing as FoundNothing, At as FoundAt}
+use Rattle.thy_record.specs.declared.file.Found.TheVariants.{At as FoundAt}
 use Rattle.thy_record.specs.Decoded.{Decoded, Nothing, Refused, At}
 use Rattle.thy_record.specs.Files.{block_in, blocks_of, decode_file, found_in}
 use Rattle.thy_record.specs.Images.{slot_numbers, slot_in, memory_numbers, memory_in, state_in, decode_image}
@@ -41,11 +39,9 @@ use Rattle.thy_record.proofs.FileLemmas.{length-blocks_of, block_at-blocks_of, d
 use Rattle.thy_record.proofs.ImageLemmas.{IsDecoded-at, decode-higher}
 use Rattle.thy_record.proofs.RestoredLemmas.{IsWholeFile-found, length-memory_in}
 use Rattle.thy_record.proofs.TableFaultLemmas.{neither}
-use Rattle.thy_view.specs.Booting.{found_first}
-use Rattle.thy_view.specs.Kind.{KindOf, IsFittedFor}
 use Rattle.thy_view.specs.Origin.{Origin, IsOrigin, StartsFrom, setting_of}
 use Rattle.thy_view.specs.Safe.{ceiling}
-use Rattle.thy_cli.specs.Restoring.{IsFoundAt, ReadsFiles}
+use Rattle.thy_cli.specs.Restoring.{IsFoundAt}
 
 -- ---- the blocks of bytes
 
@@ -121,17 +117,7 @@ pub decode-restored : (p : Parameters) (bytes : List ℕ) (epoch : ℕ) (s : Sta
     → decode_image p ceiling (blocks_of bytes) ≡ At epoch s
 decode-restored p bytes epoch s h = decode-higher p (2 ^ 62) ceiling (blocks_of bytes) epoch s (omega arith) (decode-saved p bytes epoch s h)
 
--- ---- what a check has found: nothing, a refusal, or a checkpoint
-
-pub found_nothing : (d : Decoded) → found_in d ≡ Ok FoundNothing → d ≡ Nothing
-found_nothing Nothing h = refl
-found_nothing (Refused bad) h = cc
-found_nothing (At e s) h = cc
-
-pub found_bad : (d : Decoded) (bad : BadImage) → found_in d ≡ Err bad → d ≡ Refused bad
-found_bad Nothing bad h = cc
-found_bad (Refused other) bad h = let same : other ≡ bad = cc in ap Refused same
-found_bad (At e s) bad h = cc
+-- ---- what a check has found: a checkpoint
 
 pub found_at : (d : Decoded) (epoch : ℕ) → found_in d ≡ Ok (FoundAt epoch) → (s : State) × (d ≡ At epoch s)
 found_at Nothing epoch h = cc
