@@ -19,10 +19,11 @@ use Rattle.thy_control.specs.Commit.{committed_state, Commits}
 use Rattle.thy_control.specs.Copies.{next_copy, devices_after_copy, after_next_copy}
 use Rattle.thy_control.specs.Pages.{next_page, devices_after_write, after_next_write}
 use Rattle.thy_control.specs.Stays.{HoldAll, StaysHeld}
+use Rattle.thy_control.specs.Versions.{KeepsAll}
 use Rattle.thy_control.proofs.CellLemmas.{IsPlace-penult, IsPlace-target, IsPlace-last, IsPlace-work, IsWithin-cell_of}
 use Rattle.thy_control.proofs.HoldLemmas.{IsPlace-frame_of}
 use Rattle.thy_control.proofs.StepLemmas.{KeepsEach, Keeps-untouched, checkpoints-each, work-each, holds-each}
-use Rattle.thy_control.proofs.CopyLemmas.{KeepsAll, KeepsAll-next}
+use Rattle.thy_control.proofs.CopyLemmas.{KeepsAll-next}
 use Rattle.thy_control.proofs.IssueLemmas.{KeepsNext, KeepsNext-write}
 use Rattle.thy_control.proofs.CommitLemmas.{Commits-committed}
 use Rattle.thy_commit.specs.declared.next.Next.{Next}

@@ -28,14 +28,13 @@ use Rattle.thy_control.specs.Keys.{block_key}
 use Rattle.thy_control.specs.State.{State, AreSoundTables, IsSized, cell_of, reads}
 use Rattle.thy_control.specs.Copies.{is_pending, needs_copy, next_copy, copies_left, block_in, block_listed, devices_copied, copied, devices_after_copy, after_next_copy, FailsCopy, FailsNextCopy}
 use Rattle.thy_control.specs.Moves.{moved, IsOneLess}
-use Rattle.thy_control.specs.Stays.{HoldAll}
-use Rattle.thy_control.specs.Versions.{KeepsCheckpoints, KeepsWork}
+use Rattle.thy_control.specs.Versions.{KeepsAll}
 use Rattle.thy_control.proofs.FindLemmas.{found_entry, entry_for-some}
 use Rattle.thy_control.proofs.CellLemmas.{block-cell_of, IsPlace-target, IsWithin-cell_of}
 use Rattle.thy_control.proofs.CountLemmas.{count-set_less}
 use Rattle.thy_control.proofs.StateLemmas.{place_of-index, cell-set_block_same, cell-set_block_other}
 use Rattle.thy_control.proofs.OwnLemmas.{owner, Owns-cell_of, owned-target}
-use Rattle.thy_control.proofs.StepLemmas.{KeepsEach, Keeps-untouched, reads_after, puts, untouched, moved-is, none-passes, KeepsEach-same, checkpoints-each, work-each, holds-each}
+use Rattle.thy_control.proofs.StepLemmas.{KeepsEach, Keeps-untouched, reads_after, puts, untouched, moved-is, none-passes, KeepsEach-same, holds-each, KeepsAll-each}
 use Rattle.thy_tables.specs.declared.block_entry.Version.{Version}
 use Rattle.thy_tables.specs.declared.block_entry.Version.TheVariants.{Out, Alt}
 use Rattle.thy_tables.specs.declared.page_entry.Site.{Site}
@@ -171,22 +170,11 @@ same_p-next s m None = refl
 same_p-next s m (Some i) = refl
 
 -- and so it keeps both checkpoints, what a load gives, and what the places hold
-pub record KeepsAll (s : State) (m : Device) (t : State) (n : Device) : Type 0 where
-  pub checkpoints : KeepsCheckpoints s m t n
-  pub work : KeepsWork s m t n
-  pub holds : HoldAll s m → HoldAll t n
-
 pub KeepsAll-next : CopyKeeps → (s : State) (m : Device) → AreSoundTables s → IsSized s m
     → KeepsAll s m (after_next_copy (next_copy s) s m) (devices_after_copy (next_copy s) s m)
 KeepsAll-next law s m t sized =
-    let u : State = after_next_copy (next_copy s) s m in
-    let k : Device = devices_after_copy (next_copy s) s m in
-    let each : KeepsEach s m u k = KeepsEach-next law s m t sized (next_copy s) refl in
-    record {
-      checkpoints = checkpoints-each s m u k each;
-      work = work-each s m u k each;
-      holds = holds-each s m u k (same_p-next s m (next_copy s)) each;
-    }
+    KeepsAll-each s m (after_next_copy (next_copy s) s m) (devices_after_copy (next_copy s) s m) (same_p-next s m (next_copy s))
+    (KeepsEach-next law s m t sized (next_copy s) refl)
 
 -- one copy less is left
 left_by : (s : State) (m : Device) → AreSoundTables s → (o : Option ℕ) → next_copy s ≡ o → IsOneLess (is_some o) (copies_left s) (copies_left (after_next_copy o s m))

@@ -362,16 +362,16 @@ module _ (b : ℕ) (s : State) (fresh : (cell_of s b).page.fresh ≡ true) (m : 
       (λ hold. record { holds = (held-filled law other b s fresh m t sized l due hold).holds; last_same = checkpoints.last_same })
 
 -- what the copy of the next block leaves
-pub record FillsNext (s : State) (m : Device) (t : State) (n : Device) : Type 0 where
+pub record KeepsNext (s : State) (m : Device) (t : State) (n : Device) : Type 0 where
   pub left : unfilled t + 1 ≡ unfilled s
   pub checkpoints : KeepsCheckpoints s m t n
   pub held : HoldAll s m → HoldsWork s m t n
   pub stays : Stays s m t n
 
-pub FillsNext-promotion : PromotionKeeps → PromotionKeepsOthers → (s : State) (m : Device) → AreSoundTables s → IsSized s m → 0 < promoted s.ptt
-    → FillsNext s m (after_promotion (next_promotion s) s m) m
-FillsNext-promotion law other s m t sized some = by_next (next_promotion s) refl where
-  by_next : (o : Option ℕ) → next_promotion s ≡ o → FillsNext s m (after_promotion o s m) m
+pub KeepsNext-promotion : PromotionKeeps → PromotionKeepsOthers → (s : State) (m : Device) → AreSoundTables s → IsSized s m → 0 < promoted s.ptt
+    → KeepsNext s m (after_promotion (next_promotion s) s m) m
+KeepsNext-promotion law other s m t sized some = by_next (next_promotion s) refl where
+  by_next : (o : Option ℕ) → next_promotion s ≡ o → KeepsNext s m (after_promotion o s m) m
   by_next None h =
       let none : promoted s.ptt ≡ 0 = none-passes (passes is_promoted) s.ptt.entries None (λ k l. none-first_from (passes is_promoted) None s.ptt.entries 0 h k (omega arith) l) in
       absurd (omega (arith, some, none))
@@ -390,7 +390,7 @@ pub stays_by : PromotionKeeps → PromotionKeepsOthers → (s : State) (m : Devi
     → OnOk r (t ≡ after_promotion (next_promotion s) s m) → OnOk r (n ≡ m) → OnErr r (t ≡ s) → OnErr r (HasFailed m n) → IsFramed m n → Stays s m t n
 stays_by law other s m t n (Ok x) tables sized some e f k g framed =
     subst (λ (y : State). Stays s m y n) (sym e) (subst (λ (y : Device). Stays s m (after_promotion (next_promotion s) s m) y) (sym f)
-    (FillsNext-promotion law other s m tables sized some).stays)
+    (KeepsNext-promotion law other s m tables sized some).stays)
 stays_by law other s m t n (Err x) tables sized some e f k g framed =
     subst (λ (y : State). Stays s m y n) (sym k)
     (Stays-failed_step s m n framed g.down (record {

@@ -21,7 +21,7 @@ use Rattle.thy_cell.specs.BetweenCheckpoints.{Keeps, ReadsSame}
 use Rattle.thy_control.specs.State.{State, AreSoundTables, IsSized, cell_of, reads}
 use Rattle.thy_control.specs.Moves.{moved}
 use Rattle.thy_control.specs.Stays.{HoldAll}
-use Rattle.thy_control.specs.Versions.{KeepsCheckpoints, KeepsWork}
+use Rattle.thy_control.specs.Versions.{KeepsCheckpoints, KeepsWork, KeepsAll}
 use Rattle.thy_control.proofs.CellLemmas.{IsPlace-penult, IsPlace-target, IsPlace-last, IsPlace-work, IsWithin-cell_of}
 use Rattle.thy_control.proofs.HoldLemmas.{hold_same, IsPlace-frame_of}
 use Rattle.thy_control.proofs.OwnLemmas.{owner, Owns, Owns-cell_of, owned-penult, owned-target, owned-last, owned-work, owned-apart}
@@ -102,6 +102,13 @@ pub holds-each : (s : State) (m : Device) (t : State) (n : Device) → t.p ≡ s
 holds-each s m t n same each hold b l =
     let inside : b < memory_blocks s.p = omega (arith, l, ap memory_blocks same) in
     (each b inside).holds (hold b inside)
+
+pub KeepsAll-each : (s : State) (m : Device) (t : State) (n : Device) → t.p ≡ s.p → KeepsEach s m t n → KeepsAll s m t n
+KeepsAll-each s m t n same each = record {
+  checkpoints = checkpoints-each s m t n each;
+  work = work-each s m t n each;
+  holds = holds-each s m t n same each;
+}
 
 -- a move between two places that the code found
 pub moved-is : (s w : State) → w ≡ s → (m : Device) (from to a b : Place) (d : Devices) → from ≡ a → to ≡ b

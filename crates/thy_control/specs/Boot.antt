@@ -1,9 +1,10 @@
 -- What the calls of a boot make of the controller: it lists what the committed checkpoint lists, and loads the frames of
 -- the listed pages.
-use Rattle.std.specs.Prelude.{◌≡◌, ℕ, ◌+◌, ◌*◌, ◌<◌, true, false, slice_set, Option, Some, None, is_some}
+use Rattle.std.specs.Prelude.{◌≡◌, ℕ, ◌+◌, ◌*◌, ◌<◌, true, false, slice_set, Option, Some, None, Result, is_some}
 use Rattle.thy_base.specs.declared.config.Parameters.{Parameters}
 use Rattle.thy_base.specs.declared.place.Place.TheVariants.{AlternatePage, Frame}
-use Rattle.thy_base.specs.Device.{Device, newest}
+use Rattle.thy_base.specs.declared.nvm.NvmError.{NvmError}
+use Rattle.thy_base.specs.Device.{Device, HasFailed, newest}
 use Rattle.thy_base.specs.Geometry.{memory_blocks}
 use Rattle.thy_base.specs.Places.{number_of}
 use Rattle.thy_base.specs.Store.{page_of}
@@ -19,6 +20,7 @@ use Rattle.thy_control.specs.Keys.{block_key, page_key}
 use Rattle.thy_control.specs.State.{State, AreSoundTables, cell_of, penult_of, work_of, reads, new_state}
 use Rattle.thy_control.specs.CheckpointTables.{tables0, tables1}
 use Rattle.thy_control.specs.Drains.{after_drain}
+use Rattle.thy_control.specs.Outcomes.{MakesOrFails}
 use Rattle.thy_control.specs.Stays.{HoldAll}
 
 -- the controller as a boot has it: no checkpoint is under way, and each live entry is one that the committed one lists
@@ -80,6 +82,10 @@ unfoldable pub with_frame : ℕ → ℕ → State → Device → State
 with_frame j k s n = record s {
   dram = written s.dram (number_of s.p (Frame j k)) (newest n (number_of s.p (AlternatePage j k)));
 }
+
+-- how that copy ends: the NVM is not written, and a read of it may fail
+abbrev pub CopiesFrame : {T : Type 0} → ℕ → ℕ → State → Device → Result T NvmError → State → Device → Type 0
+CopiesFrame j k s m result t n = MakesOrFails (with_frame j k s m) m (HasFailed m n) s m result t n
 
 -- the places of that block hold what they have to, and a load gives the committed version of it; every other block whose
 -- places held what they had to is as it was

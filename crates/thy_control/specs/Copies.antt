@@ -1,5 +1,6 @@
 -- The copies that the checkpoint under way still needs, and what the next of them makes of the controller.
-use Rattle.std.specs.Prelude.{◌≡◌, ℕ, Bool, true, false, Option, Some, None, count_by}
+use Rattle.std.specs.Prelude.{◌≡◌, ℕ, Bool, true, false, Option, Some, None, Result, count_by}
+use Rattle.thy_base.specs.declared.nvm.NvmError.{NvmError}
 use Rattle.thy_base.specs.Device.{Device}
 use Rattle.thy_place.specs.Devices.{Devices, devices_of}
 use Rattle.thy_table.specs.Listing.{entry_at, with_entry, passes, next_from}
@@ -9,6 +10,7 @@ use Rattle.thy_tables.specs.declared.block_entry.Pending.TheVariants.{Settled, F
 use Rattle.thy_cell.specs.Cells.{target, last}
 use Rattle.thy_cell.specs.Rules.{after_copy}
 use Rattle.thy_control.specs.Moves.{moved, FailsMove}
+use Rattle.thy_control.specs.Outcomes.{MakesOrFails}
 use Rattle.thy_control.specs.State.{State, cell_of}
 
 -- a version has still to be copied to its place
@@ -63,3 +65,11 @@ pub record FailsNextCopy (s : State) (m n : Device) : Type 0 where
   pub entry : ℕ
   pub next : next_copy s ≡ Some entry
   pub fails : FailsCopy (block_listed entry s) s m n
+
+-- how the copy of a block ends, and the next copy, or none where nothing is left
+abbrev pub CopiesBlock : {T : Type 0} → ℕ → State → Device → Result T NvmError → State → Device → Type 0
+CopiesBlock b s m result t n = MakesOrFails (copied b s m) (devices_copied b s m).nvm (FailsCopy b s m n) s m result t n
+
+abbrev pub CopiesNext : State → Device → Result Bool NvmError → State → Device → Type 0
+CopiesNext s m result t n =
+    MakesOrFails (after_next_copy (next_copy s) s m) (devices_after_copy (next_copy s) s m) (FailsNextCopy s m n) s m result t n

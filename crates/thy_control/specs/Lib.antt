@@ -16,6 +16,7 @@ pub mod CommitKeys
 pub mod Overlay
 pub mod Frees
 pub mod Moves
+pub mod Outcomes
 pub mod Drains
 pub mod Copies
 pub mod Merges

@@ -1,6 +1,7 @@
 -- The pages that the checkpoint under way has still to write, and what the write of the next block makes of the controller.
-use Rattle.std.specs.Prelude.{◌≡◌, ℕ, ◌+◌, ◌-◌, ◌*◌, Bool, ◌&&◌, nat_lt, if◌then◌else◌, Option, Some, None}
+use Rattle.std.specs.Prelude.{◌≡◌, ℕ, ◌+◌, ◌-◌, ◌*◌, Bool, ◌&&◌, nat_lt, if◌then◌else◌, Option, Some, None, Result}
 use Rattle.std.specs.List.{sum_by}
+use Rattle.thy_base.specs.declared.nvm.NvmError.{NvmError}
 use Rattle.thy_base.specs.Device.{Device}
 use Rattle.thy_place.specs.Devices.{Devices, devices_of}
 use Rattle.thy_table.specs.Listing.{entry_at, with_entry, next_from}
@@ -9,6 +10,7 @@ use Rattle.thy_tables.specs.PageEntry.{page_blocks}
 use Rattle.thy_cell.specs.Cells.{seat_of, frame_at, target}
 use Rattle.thy_cell.specs.Checkpoint.{page_issued}
 use Rattle.thy_control.specs.Moves.{moved, FailsMove}
+use Rattle.thy_control.specs.Outcomes.{MakesOrFails}
 use Rattle.thy_control.specs.State.{State, cell_of}
 
 -- a page's blocks are not all issued
@@ -69,3 +71,11 @@ pub record FailsNextWrite (s : State) (m n : Device) : Type 0 where
   pub entry : ℕ
   pub next : next_page s ≡ Some entry
   pub fails : FailsWriteOf (block_to_write entry s) s m n
+
+-- how the write of a block ends, and the next write, or none where nothing is left
+abbrev pub WritesBlock : {T : Type 0} → ℕ → State → Device → Result T NvmError → State → Device → Type 0
+WritesBlock b s m result t n = MakesOrFails (issued b s m) (devices_issued b s m).nvm (FailsWriteOf b s m n) s m result t n
+
+abbrev pub WritesNext : State → Device → Result Bool NvmError → State → Device → Type 0
+WritesNext s m result t n =
+    MakesOrFails (after_next_write (next_page s) s m) (devices_after_write (next_page s) s m) (FailsNextWrite s m n) s m result t n

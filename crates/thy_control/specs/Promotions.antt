@@ -1,7 +1,8 @@
 -- The pages that are being promoted, and what the copy of the next block into its frame makes of the controller.
-use Rattle.std.specs.Prelude.{◌≡◌, ℕ, false, ◌-◌, if◌then◌else◌, Option, Some, None}
+use Rattle.std.specs.Prelude.{◌≡◌, ℕ, false, ◌-◌, if◌then◌else◌, Option, Some, None, Result}
 use Rattle.std.specs.List.{sum_by}
-use Rattle.thy_base.specs.Device.{Device}
+use Rattle.thy_base.specs.declared.nvm.NvmError.{NvmError}
+use Rattle.thy_base.specs.Device.{Device, HasFailed}
 use Rattle.thy_base.specs.Places.{in_dram}
 use Rattle.thy_place.specs.Devices.{Devices, devices_of}
 use Rattle.thy_table.specs.Listing.{entry_at, with_entry, next_from}
@@ -11,6 +12,7 @@ use Rattle.thy_cell.specs.Cells.{seat_of, frame_at, work}
 use Rattle.thy_cell.specs.Checkpoint.{with_filled}
 use Rattle.thy_control.specs.Holding.{is_promoted}
 use Rattle.thy_control.specs.Moves.{moved}
+use Rattle.thy_control.specs.Outcomes.{MakesOrFails}
 use Rattle.thy_control.specs.Pages.{block_after}
 use Rattle.thy_control.specs.State.{State, cell_of}
 use Rattle.thy_control.specs.Stays.{HoldAll}
@@ -56,3 +58,10 @@ ReadsNvm (Some j) s = in_dram (work (cell_of s (block_to_fill j s))) ≡ false
 pub record HoldsWork (s : State) (m : Device) (t : State) (n : Device) : Type 0 where
   pub holds : HoldAll t n
   pub work : KeepsWork s m t n
+
+-- how the copy of a block into its frame ends, and the next such copy: the NVM is not written, and a read of it may fail
+abbrev pub FillsBlock : {T : Type 0} → ℕ → State → Device → Result T NvmError → State → Device → Type 0
+FillsBlock b s m result t n = MakesOrFails (block_filled b s m) m (HasFailed m n) s m result t n
+
+abbrev pub FillsNext : {T : Type 0} → State → Device → Result T NvmError → State → Device → Type 0
+FillsNext s m result t n = MakesOrFails (after_promotion (next_promotion s) s m) m (HasFailed m n) s m result t n

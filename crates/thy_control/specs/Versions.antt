@@ -6,6 +6,7 @@ use Rattle.thy_base.specs.declared.store.Stored.TheVariants.{Done, CopyFirst}
 use Rattle.thy_base.specs.Device.{Device}
 use Rattle.thy_base.specs.Geometry.{memory_blocks}
 use Rattle.thy_control.specs.State.{State, penult_of, last_of, work_of}
+use Rattle.thy_control.specs.Stays.{HoldAll}
 
 -- both checkpoints have every block as before
 pub record KeepsCheckpoints (s : State) (m : Device) (t : State) (n : Device) : Type 0 where
@@ -19,6 +20,12 @@ pub record KeepsCommitted (s : State) (m : Device) (t : State) (n : Device) : Ty
 -- a load of every block gives what it gave
 pub record KeepsWork (s : State) (m : Device) (t : State) (n : Device) : Type 0 where
   pub work_same : (b : ℕ) → b < memory_blocks s.p → work_of t n b ≡ work_of s m b
+
+-- both have, and so does a load; the frames and targets hold what they have to, if they did
+pub record KeepsAll (s : State) (m : Device) (t : State) (n : Device) : Type 0 where
+  pub checkpoints : KeepsCheckpoints s m t n
+  pub work : KeepsWork s m t n
+  pub holds : HoldAll s m → HoldAll t n
 
 -- what a load of block b gives after its store: the block that was stored, or as before where a copy went first
 abbrev pub work_given : Stored → Block → Block → Block

@@ -1,6 +1,5 @@
 //! What a boot does: it lists what the committed checkpoint lists, and loads the frames of the listed pages.
-ghost use Rattle.std.specs.Prelude.{◌≡◌, ◌<◌, OnOk, OnErr};
-ghost use Rattle.thy_base.specs.Device.{HasFailed, IsFramed, CountsFault};
+ghost use Rattle.std.specs.Prelude.{◌≡◌, ◌<◌, OnOk};
 
 use super::Control;
 use thy_base::{Nvm, NvmError, Place};
@@ -8,7 +7,7 @@ use thy_cell::{a_frame_is_loaded, listed_cells_are_sound};
 use thy_tables::{BttEntry, PttEntry};
 
 impl Control {
-    ghost use Rattle.thy_control.specs.Boot.{IsBooting, MayListBlock, MayListPage, MayFrame, HaveTables, LoadsFrame, with_listed_block, with_listed_page, with_block, with_page, with_frame};
+    ghost use Rattle.thy_control.specs.Boot.{IsBooting, MayListBlock, MayListPage, MayFrame, HaveTables, LoadsFrame, CopiesFrame, with_listed_block, with_listed_page, with_block, with_page};
     ghost use Rattle.thy_control.specs.CheckpointTables.{tables0};
     ghost use Rattle.thy_control.specs.State.{IsSized};
     ghost use Rattle.thy_control.specs.Versions.{KeepsCheckpoints};
@@ -69,18 +68,12 @@ impl Control {
         requires booting { IsBooting self.old }
         requires may { MayFrame j k self.old }
         requires sized { IsSized self.old (N.device nvm.old) }
-        ensures state { OnOk result (self.new ≡ with_frame j k self.old (N.device nvm.old)) }
-        ensures same { OnOk result (N.device nvm.new ≡ N.device nvm.old) }
+        ensures copies { CopiesFrame j k self.old (N.device nvm.old) result self.new (N.device nvm.new) }
         ensures booting { IsBooting self.new }
 
         // Both checkpoints have every block as before, and the places of this one hold what they have to.
         ensures keeps { OnOk result (KeepsCheckpoints self.old (N.device nvm.old) self.new (N.device nvm.new)) }
         ensures loads { OnOk result (LoadsFrame j k self.old (N.device nvm.old) self.new (N.device nvm.new)) }
-
-        ensures kept { OnErr result (self.new ≡ self.old) }
-        ensures err { OnErr result (HasFailed (N.device nvm.old) (N.device nvm.new)) }
-        ensures frame { IsFramed (N.device nvm.old) (N.device nvm.new) }
-        ensures cause { CountsFault result (N.device nvm.old).faults (N.device nvm.new).faults }
     {
         a_frame_is_loaded();
         self.tables();
@@ -92,12 +85,7 @@ impl Control {
         requires entry { j < self.old.p.ptt }
         requires block { k < 64 }
         requires sized { IsSized self.old (N.device nvm.old) }
-        ensures state { OnOk result (self.new ≡ with_frame j k self.old (N.device nvm.old)) }
-        ensures same { OnOk result (N.device nvm.new ≡ N.device nvm.old) }
-        ensures kept { OnErr result (self.new ≡ self.old) }
-        ensures err { OnErr result (HasFailed (N.device nvm.old) (N.device nvm.new)) }
-        ensures frame { IsFramed (N.device nvm.old) (N.device nvm.new) }
-        ensures cause { CountsFault result (N.device nvm.old).faults (N.device nvm.new).faults }
+        ensures { CopiesFrame j k self.old (N.device nvm.old) result self.new (N.device nvm.new) }
     {
         self.tables();
         let from = Place::AlternatePage { entry: j, block: k };

@@ -1,6 +1,5 @@
 //! The copies that the checkpoint under way still needs.
-ghost use Rattle.std.specs.Prelude.{◌≡◌, ◌≢◌, ◌<◌, false, length, is_some, IfOk, IfSome, OnOk, OnErr};
-ghost use Rattle.thy_base.specs.Device.{IsFramed, CountsFault};
+ghost use Rattle.std.specs.Prelude.{◌≡◌, ◌≢◌, ◌<◌, false, length, is_some, IfOk, IfSome, OnOk};
 ghost use Rattle.thy_base.specs.Geometry.{memory_blocks};
 ghost use Rattle.thy_tables.specs.declared.block_entry.Pending.TheVariants.{Settled as IsSettled};
 ghost use Rattle.thy_control.specs.Copies.{block_in};
@@ -43,9 +42,9 @@ fn block_in(entry: Option<BttEntry>) -> u64
 impl Control {
     ghost use Rattle.thy_control.specs.State.{IsSized, cell_of};
     ghost use Rattle.thy_control.specs.Moves.{IsOneLess};
-    ghost use Rattle.thy_control.specs.Stays.{HoldAll, Stays};
-    ghost use Rattle.thy_control.specs.Versions.{KeepsCheckpoints, KeepsWork};
-    ghost use Rattle.thy_control.specs.Copies.{next_copy, block_listed, copies_left, copied, devices_copied, devices_after_copy, after_next_copy, FailsCopy, FailsNextCopy};
+    ghost use Rattle.thy_control.specs.Stays.{Stays};
+    ghost use Rattle.thy_control.specs.Versions.{KeepsAll};
+    ghost use Rattle.thy_control.specs.Copies.{next_copy, block_listed, copies_left, CopiesBlock, CopiesNext};
 
     /// Issues the next copy that the checkpoint under way still needs: one write at one place. It tells whether there was
     /// one; where none is left it touches nothing. Where the NVM failed, the place may hold the version or not.
@@ -56,20 +55,13 @@ impl Control {
         ensures left { IfOk result (λ more. IsOneLess more (copies_left self.old) (copies_left self.new)) }
 
         // Both checkpoints have every block as before, and so does a load; the frames and targets hold what they have to.
-        ensures keeps { OnOk result (KeepsCheckpoints self.old (N.device nvm.old) self.new (N.device nvm.new)) }
-        ensures work { OnOk result (KeepsWork self.old (N.device nvm.old) self.new (N.device nvm.new)) }
-        ensures holds { OnOk result (HoldAll self.old (N.device nvm.old) → HoldAll self.new (N.device nvm.new)) }
+        ensures keeps { OnOk result (KeepsAll self.old (N.device nvm.old) self.new (N.device nvm.new)) }
 
         // So it is by this table and this one write.
-        ensures state { OnOk result (self.new ≡ after_next_copy (next_copy self.old) self.old (N.device nvm.old)) }
-        ensures nvm { OnOk result (N.device nvm.new ≡ devices_after_copy (next_copy self.old) self.old (N.device nvm.old)) }
+        ensures copies { CopiesNext self.old (N.device nvm.old) result self.new (N.device nvm.new) }
 
         // Whether or not it failed, nothing new is possible at the checkpoints' places, and both tables are as they were.
         ensures stays { Stays self.old (N.device nvm.old) self.new (N.device nvm.new) }
-        ensures kept { OnErr result (self.new ≡ self.old) }
-        ensures err { OnErr result (FailsNextCopy self.old (N.device nvm.old) (N.device nvm.new)) }
-        ensures frame { IsFramed (N.device nvm.old) (N.device nvm.new) }
-        ensures cause { CountsFault result (N.device nvm.old).faults (N.device nvm.new).faults }
     {
         a_copy_keeps_versions();
         self.tables();
@@ -101,12 +93,7 @@ impl Control {
         requires sized { IsSized self.old (N.device nvm.old) }
         requires up { (N.device nvm.old).down ≡ false }
         ensures more { IfOk result (λ more. more ≡ is_some (next_copy self.old)) }
-        ensures state { OnOk result (self.new ≡ after_next_copy (next_copy self.old) self.old (N.device nvm.old)) }
-        ensures nvm { OnOk result (N.device nvm.new ≡ devices_after_copy (next_copy self.old) self.old (N.device nvm.old)) }
-        ensures kept { OnErr result (self.new ≡ self.old) }
-        ensures err { OnErr result (FailsNextCopy self.old (N.device nvm.old) (N.device nvm.new)) }
-        ensures frame { IsFramed (N.device nvm.old) (N.device nvm.new) }
-        ensures cause { CountsFault result (N.device nvm.old).faults (N.device nvm.new).faults }
+        ensures copies { CopiesNext self.old (N.device nvm.old) result self.new (N.device nvm.new) }
     {
         self.tables();
         match self.seek_copy() {
@@ -125,12 +112,7 @@ impl Control {
         requires pending { (cell_of self.old b).entry.pend ≢ IsSettled }
         requires sized { IsSized self.old (N.device nvm.old) }
         requires up { (N.device nvm.old).down ≡ false }
-        ensures state { OnOk result (self.new ≡ copied b self.old (N.device nvm.old)) }
-        ensures nvm { OnOk result (N.device nvm.new ≡ (devices_copied b self.old (N.device nvm.old)).nvm) }
-        ensures kept { OnErr result (self.new ≡ self.old) }
-        ensures err { OnErr result (FailsCopy b self.old (N.device nvm.old) (N.device nvm.new)) }
-        ensures frame { IsFramed (N.device nvm.old) (N.device nvm.new) }
-        ensures cause { CountsFault result (N.device nvm.old).faults (N.device nvm.new).faults }
+        ensures { CopiesBlock b self.old (N.device nvm.old) result self.new (N.device nvm.new) }
     {
         self.tables();
         let cell = self.cell(b);

@@ -33,8 +33,8 @@ impl<'a> Test<BttEntry> for LiesOver<'a> {
 
 impl Control {
     ghost use Rattle.thy_control.specs.State.{IsSized, cell_of};
-    ghost use Rattle.thy_control.specs.Stays.{HoldAll, Stays};
-    ghost use Rattle.thy_control.specs.Versions.{KeepsCheckpoints, KeepsWork};
+    ghost use Rattle.thy_control.specs.Stays.{Stays};
+    ghost use Rattle.thy_control.specs.Versions.{KeepsAll};
     ghost use Rattle.thy_control.specs.Merges.{next_merge, overlays, merged_block, after_merge};
 
     /// The entry of lowest number whose buffer lies over a frame. The next search goes on there.
@@ -61,9 +61,7 @@ impl Control {
         ensures left { overlays self.new + 1 ≡ overlays self.old }
 
         // Both checkpoints have every block as before, and so does a load; the frames and targets hold what they have to.
-        ensures keeps { (nvm : Device) → IsSized self.old nvm → KeepsCheckpoints self.old nvm self.new nvm }
-        ensures work { (nvm : Device) → IsSized self.old nvm → KeepsWork self.old nvm self.new nvm }
-        ensures holds { (nvm : Device) → IsSized self.old nvm → HoldAll self.old nvm → HoldAll self.new nvm }
+        ensures keeps { (nvm : Device) → IsSized self.old nvm → KeepsAll self.old nvm self.new nvm }
         ensures state { self.new ≡ after_merge (next_merge self.old) self.old }
         ensures stays { (nvm : Device) → IsSized self.old nvm → Stays self.old nvm self.new nvm }
     {

@@ -1,6 +1,5 @@
 //! The pages that are being promoted.
 ghost use Rattle.std.specs.Prelude.{◌≡◌, ◌+◌, ◌<◌, ◌*◌, ◌^◌, ◌%◌, true, false, if◌then◌else◌, length, is_some, IfOk, IfSome, OnOk, OnErr};
-ghost use Rattle.thy_base.specs.Device.{HasFailed, IsFramed, CountsFault};
 ghost use Rattle.thy_base.specs.Geometry.{memory_blocks};
 ghost use Rattle.thy_base.specs.Places.{in_dram};
 ghost use Rattle.thy_cell.specs.Cells.{work as work_place};
@@ -62,7 +61,7 @@ impl Control {
     ghost use Rattle.thy_control.specs.Holding.{promoted};
     ghost use Rattle.thy_control.specs.Stays.{WhereHeld, Stays};
     ghost use Rattle.thy_control.specs.Versions.{KeepsCheckpoints};
-    ghost use Rattle.thy_control.specs.Promotions.{next_promotion, block_to_fill as block_filled_next, unfilled, HoldsWork, block_filled, devices_filled, after_promotion, ReadsNvm};
+    ghost use Rattle.thy_control.specs.Promotions.{next_promotion, block_to_fill as block_filled_next, unfilled, HoldsWork, ReadsNvm, FillsBlock, FillsNext};
 
     /// Copies the next block of the lowest page in promotion, as a load gives it, into its frame; with the last block the page
     /// is framed. Some page must be in promotion. Only the DRAM is written. It fails only where the block is read from the
@@ -78,16 +77,11 @@ impl Control {
         // and so a load of every block gives what it gave.
         ensures keeps { OnOk result (KeepsCheckpoints self.old (N.device nvm.old) self.new (N.device nvm.new)) }
         ensures held { OnOk result (WhereHeld HoldsWork self.old (N.device nvm.old) self.new (N.device nvm.new)) }
-        ensures state { OnOk result (self.new ≡ after_promotion (next_promotion self.old) self.old (N.device nvm.old)) }
-        ensures same { OnOk result (N.device nvm.new ≡ N.device nvm.old) }
+        ensures fills { FillsNext self.old (N.device nvm.old) result self.new (N.device nvm.new) }
+        ensures side { OnErr result (ReadsNvm (next_promotion self.old) self.old) }
 
         // Whether or not it failed, nothing new is possible at the checkpoints' places, and both tables are as they were.
         ensures stays { Stays self.old (N.device nvm.old) self.new (N.device nvm.new) }
-        ensures kept { OnErr result (self.new ≡ self.old) }
-        ensures err { OnErr result (HasFailed (N.device nvm.old) (N.device nvm.new)) }
-        ensures side { OnErr result (ReadsNvm (next_promotion self.old) self.old) }
-        ensures frame { IsFramed (N.device nvm.old) (N.device nvm.new) }
-        ensures cause { CountsFault result (N.device nvm.old).faults (N.device nvm.new).faults }
     {
         a_promotion_keeps_versions();
         a_promotion_keeps_others();
@@ -120,13 +114,8 @@ impl Control {
     fn fill_lowest<N: Nvm>(&mut self, nvm: &mut N) -> Result<(), NvmError>
         requires sized { IsSized self.old (N.device nvm.old) }
         requires promoting { 0 < promoted self.old.ptt }
-        ensures state { OnOk result (self.new ≡ after_promotion (next_promotion self.old) self.old (N.device nvm.old)) }
-        ensures same { OnOk result (N.device nvm.new ≡ N.device nvm.old) }
-        ensures kept { OnErr result (self.new ≡ self.old) }
-        ensures err { OnErr result (HasFailed (N.device nvm.old) (N.device nvm.new)) }
+        ensures fills { FillsNext self.old (N.device nvm.old) result self.new (N.device nvm.new) }
         ensures side { OnErr result (ReadsNvm (next_promotion self.old) self.old) }
-        ensures frame { IsFramed (N.device nvm.old) (N.device nvm.new) }
-        ensures cause { CountsFault result (N.device nvm.old).faults (N.device nvm.new).faults }
     {
         self.tables();
         match self.seek_promotion() {
@@ -145,13 +134,8 @@ impl Control {
         requires unframed { IsFramedPage (cell_of self.old b).page ≡ false }
         requires due { (cell_of self.old b).page.filled ≡ b % 64 }
         requires sized { IsSized self.old (N.device nvm.old) }
-        ensures state { OnOk result (self.new ≡ block_filled b self.old (N.device nvm.old)) }
-        ensures same { OnOk result (N.device nvm.new ≡ N.device nvm.old) }
-        ensures kept { OnErr result (self.new ≡ self.old) }
-        ensures err { OnErr result (HasFailed (N.device nvm.old) (N.device nvm.new)) }
+        ensures fills { FillsBlock b self.old (N.device nvm.old) result self.new (N.device nvm.new) }
         ensures side { OnErr result (in_dram (work_place (cell_of self.old b)) ≡ false) }
-        ensures frame { IsFramed (N.device nvm.old) (N.device nvm.new) }
-        ensures cause { CountsFault result (N.device nvm.old).faults (N.device nvm.new).faults }
     {
         a_promotion_keeps_versions();
         a_promotion_keeps_others();

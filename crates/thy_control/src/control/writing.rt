@@ -1,6 +1,5 @@
 //! The pages that the checkpoint under way has still to write.
-ghost use Rattle.std.specs.Prelude.{◌≡◌, ◌<◌, ◌*◌, ◌^◌, ◌%◌, true, false, length, is_some, IfOk, IfSome, OnOk, OnErr};
-ghost use Rattle.thy_base.specs.Device.{IsFramed, CountsFault};
+ghost use Rattle.std.specs.Prelude.{◌≡◌, ◌<◌, ◌*◌, ◌^◌, ◌%◌, true, false, length, is_some, IfOk, IfSome, OnOk};
 ghost use Rattle.thy_base.specs.Geometry.{memory_blocks};
 ghost use Rattle.thy_control.specs.Pages.{page_in, block_after};
 
@@ -42,7 +41,7 @@ impl Control {
     ghost use Rattle.thy_control.specs.Moves.{IsOneLess};
     ghost use Rattle.thy_control.specs.Stays.{StaysHeld, WhereHeld, Stays};
     ghost use Rattle.thy_control.specs.Versions.{KeepsCommitted, KeepsWork};
-    ghost use Rattle.thy_control.specs.Pages.{next_page, block_to_write as block_written_next, writes_left, issued, devices_issued, devices_after_write, after_next_write, FailsWriteOf, FailsNextWrite};
+    ghost use Rattle.thy_control.specs.Pages.{next_page, block_to_write as block_written_next, writes_left, WritesBlock, WritesNext};
 
     /// Issues the next block of a page that the checkpoint under way has still to write, from the page's frame: one write at one
     /// place. It tells whether there was one; where none is left it touches nothing. With its last block a page that does
@@ -60,15 +59,10 @@ impl Control {
         ensures held { OnOk result (WhereHeld StaysHeld self.old (N.device nvm.old) self.new (N.device nvm.new)) }
 
         // So it is by this table and this one write.
-        ensures state { OnOk result (self.new ≡ after_next_write (next_page self.old) self.old (N.device nvm.old)) }
-        ensures nvm { OnOk result (N.device nvm.new ≡ devices_after_write (next_page self.old) self.old (N.device nvm.old)) }
+        ensures writes { WritesNext self.old (N.device nvm.old) result self.new (N.device nvm.new) }
 
         // Whether or not it failed, nothing new is possible at the checkpoints' places, and both tables are as they were.
         ensures stays { Stays self.old (N.device nvm.old) self.new (N.device nvm.new) }
-        ensures kept { OnErr result (self.new ≡ self.old) }
-        ensures err { OnErr result (FailsNextWrite self.old (N.device nvm.old) (N.device nvm.new)) }
-        ensures frame { IsFramed (N.device nvm.old) (N.device nvm.new) }
-        ensures cause { CountsFault result (N.device nvm.old).faults (N.device nvm.new).faults }
     {
         a_page_write_keeps_versions();
         a_page_write_keeps_others();
@@ -102,12 +96,7 @@ impl Control {
         requires sized { IsSized self.old (N.device nvm.old) }
         requires up { (N.device nvm.old).down ≡ false }
         ensures more { IfOk result (λ more. more ≡ is_some (next_page self.old)) }
-        ensures state { OnOk result (self.new ≡ after_next_write (next_page self.old) self.old (N.device nvm.old)) }
-        ensures nvm { OnOk result (N.device nvm.new ≡ devices_after_write (next_page self.old) self.old (N.device nvm.old)) }
-        ensures kept { OnErr result (self.new ≡ self.old) }
-        ensures err { OnErr result (FailsNextWrite self.old (N.device nvm.old) (N.device nvm.new)) }
-        ensures frame { IsFramed (N.device nvm.old) (N.device nvm.new) }
-        ensures cause { CountsFault result (N.device nvm.old).faults (N.device nvm.new).faults }
+        ensures writes { WritesNext self.old (N.device nvm.old) result self.new (N.device nvm.new) }
     {
         self.tables();
         match self.seek_page() {
@@ -127,12 +116,7 @@ impl Control {
         requires due { (cell_of self.old b).page.issued ≡ b % 64 }
         requires sized { IsSized self.old (N.device nvm.old) }
         requires up { (N.device nvm.old).down ≡ false }
-        ensures state { OnOk result (self.new ≡ issued b self.old (N.device nvm.old)) }
-        ensures nvm { OnOk result (N.device nvm.new ≡ (devices_issued b self.old (N.device nvm.old)).nvm) }
-        ensures kept { OnErr result (self.new ≡ self.old) }
-        ensures err { OnErr result (FailsWriteOf b self.old (N.device nvm.old) (N.device nvm.new)) }
-        ensures frame { IsFramed (N.device nvm.old) (N.device nvm.new) }
-        ensures cause { CountsFault result (N.device nvm.old).faults (N.device nvm.new).faults }
+        ensures { WritesBlock b self.old (N.device nvm.old) result self.new (N.device nvm.new) }
     {
         a_page_write_keeps_versions();
         a_page_write_keeps_others();

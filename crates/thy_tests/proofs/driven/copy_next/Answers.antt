@@ -11,6 +11,6 @@ returns-clause-drives g c =
     let m : Device = g.N.Nvm.device c.args.nvm.now in
     let n : Device = g.N.Nvm.device c.copy_next.new.nvm in
     let after : Device = devices_after_copy (next_copy s) s m in
-    let is : n ≡ after = subst (λ r. OnOk r (n ≡ after)) c.expect.ensures c.copy_next.ensures.nvm in
+    let is : n ≡ after = subst (λ r. OnOk r (n ≡ after)) c.expect.ensures c.copy_next.ensures.copies.nvm in
     Drives-stays s c.copy_next.new.self m n c.requires c.copy_next.ensures.stays
     (ap (λ (d : Device). d.down) is ∙ down-copy (next_copy s) s m)

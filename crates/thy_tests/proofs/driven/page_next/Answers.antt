@@ -11,6 +11,6 @@ returns-clause-drives g c =
     let m : Device = g.N.Nvm.device c.args.nvm.now in
     let n : Device = g.N.Nvm.device c.page_next.new.nvm in
     let after : Device = devices_after_write (next_page s) s m in
-    let is : n ≡ after = subst (λ r. OnOk r (n ≡ after)) c.expect.ensures c.page_next.ensures.nvm in
+    let is : n ≡ after = subst (λ r. OnOk r (n ≡ after)) c.expect.ensures c.page_next.ensures.writes.nvm in
     Drives-stays s c.page_next.new.self m n c.requires c.page_next.ensures.stays
     (ap (λ (d : Device). d.down) is ∙ down-write (next_page s) s m)

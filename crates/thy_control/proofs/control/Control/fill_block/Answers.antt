@@ -57,13 +57,19 @@ invariant_of-self-2 g c =
           (AreCursors-filled c.args.b s m c.self.inside.cursors c.requires.fresh c.requires.unframed c.tables.ensures cursors);
     }
 
-pub returns-clause-state : goal.returns-clause-state
-returns-clause-state g c =
+pub returns-clause-fills : goal.returns-clause-fills
+returns-clause-fills g c =
     let s : State = c.args.self.now in
     let w : State = record { p = c.self.inside.geometry; btt = c.self.inside.btt; ptt = c.self.inside.ptt; counts = c.self.inside.counts; under_way = c.self.inside.under_way; dram = c.self.inside.dram } in
     let m : Device = g.N.Nvm.device c.args.nvm.now in
     let d : Devices = devices_of (g.N.Nvm.device c.move_to_dram.new.nvm) c.move_to_dram.new.dram in
     let d_is : d ≡ devices_filled c.args.b s m
     = devices_are s w c.self.view_is c.args.b m c.cell-cell.result c.work.result c.frame.result d c.cell-cell.ensures c.work.ensures c.frame.ensures c.in_ok-move_to_dram.ensures.ok in
-    let e = state_is s w c.self.view_is c.args.b m c.cell-cell.result c.with_filled-filled.result c.set.new.self d c.cell-cell.ensures c.with_filled-filled.ensures c.set.ensures d_is in
-    e
+    record {
+      state = state_is s w c.self.view_is c.args.b m c.cell-cell.result c.with_filled-filled.result c.set.new.self d c.cell-cell.ensures c.with_filled-filled.ensures c.set.ensures d_is;
+      nvm = c.in_ok-move_to_dram.ensures.same;
+      kept = tt;
+      err = tt;
+      frame = c.in_ok-move_to_dram.ensures.frame;
+      cause = c.in_ok-move_to_dram.ensures.cause;
+    }

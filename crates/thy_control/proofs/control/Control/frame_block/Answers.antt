@@ -19,7 +19,7 @@ returns-clause-keeps g c =
     let s : State = c.args.self.now in
     let m : Device = g.N.Nvm.device c.args.nvm.now in
     at_result (λ t n. KeepsCheckpoints s m t n) c.load_frame.result c.load_frame.new.self (with_frame c.args.j c.args.k s m) (g.N.Nvm.device c.load_frame.new.nvm) m
-    c.load_frame.ensures.state c.load_frame.ensures.same
+    c.load_frame.ensures.state c.load_frame.ensures.nvm
     (KeepsCheckpoints-frame c.args.j c.args.k s c.tables.ensures c.requires.booting c.requires.may m c.requires.sized c.a_frame_is_loaded.ensures)
 
 pub returns-clause-loads : goal.returns-clause-loads
@@ -27,5 +27,5 @@ returns-clause-loads g c =
     let s : State = c.args.self.now in
     let m : Device = g.N.Nvm.device c.args.nvm.now in
     at_result (λ t n. LoadsFrame c.args.j c.args.k s m t n) c.load_frame.result c.load_frame.new.self (with_frame c.args.j c.args.k s m) (g.N.Nvm.device c.load_frame.new.nvm) m
-    c.load_frame.ensures.state c.load_frame.ensures.same
+    c.load_frame.ensures.state c.load_frame.ensures.nvm
     (LoadsFrame-frame c.args.j c.args.k s c.tables.ensures c.requires.booting c.requires.may m c.requires.sized c.a_frame_is_loaded.ensures)

@@ -2,9 +2,9 @@ use Rattle.std.proofs.Common.{◌≡◌, ◌+◌, refl, sym, subst}
 use Rattle.thy_base.specs.Device.{Device}
 use Rattle.thy_control.specs.State.{State, IsSized}
 use Rattle.thy_control.specs.Merges.{next_merge, overlays, after_merge}
-use Rattle.thy_control.specs.Stays.{HoldAll, Stays}
-use Rattle.thy_control.specs.Versions.{KeepsCheckpoints, KeepsWork}
-use Rattle.thy_control.proofs.StepLemmas.{checkpoints-each, work-each, holds-each}
+use Rattle.thy_control.specs.Stays.{Stays}
+use Rattle.thy_control.specs.Versions.{KeepsAll}
+use Rattle.thy_control.proofs.StepLemmas.{KeepsAll-each}
 use Rattle.thy_control.proofs.MergeLemmas.{MergesAll-next, same_p-merge, Stays-merge}
 use Rattle.thy_control.proofs.control.Control.merge_one.Goals as goal
 
@@ -18,22 +18,8 @@ pub returns-clause-keeps : goal.returns-clause-keeps
 returns-clause-keeps c =
     let s : State = c.args.self.now in
     let all = MergesAll-next c.a_merge_keeps_versions.ensures c.a_dirty_page_keeps_others.ensures s c.tables.ensures c.requires.idle c.requires.overlay in
-    subst (λ (t : State). (n : Device) → IsSized s n → KeepsCheckpoints s n t n) (sym c.merge_lowest.ensures)
-    (λ n sized. checkpoints-each s n (after_merge (next_merge s) s) n (all.each n sized))
-
-pub returns-clause-work : goal.returns-clause-work
-returns-clause-work c =
-    let s : State = c.args.self.now in
-    let all = MergesAll-next c.a_merge_keeps_versions.ensures c.a_dirty_page_keeps_others.ensures s c.tables.ensures c.requires.idle c.requires.overlay in
-    subst (λ (t : State). (n : Device) → IsSized s n → KeepsWork s n t n) (sym c.merge_lowest.ensures)
-    (λ n sized. work-each s n (after_merge (next_merge s) s) n (all.each n sized))
-
-pub returns-clause-holds : goal.returns-clause-holds
-returns-clause-holds c =
-    let s : State = c.args.self.now in
-    let all = MergesAll-next c.a_merge_keeps_versions.ensures c.a_dirty_page_keeps_others.ensures s c.tables.ensures c.requires.idle c.requires.overlay in
-    subst (λ (t : State). (n : Device) → IsSized s n → HoldAll s n → HoldAll t n) (sym c.merge_lowest.ensures)
-    (λ n sized. holds-each s n (after_merge (next_merge s) s) n (same_p-merge s (next_merge s)) (all.each n sized))
+    subst (λ (t : State). (n : Device) → IsSized s n → KeepsAll s n t n) (sym c.merge_lowest.ensures)
+    (λ n sized. KeepsAll-each s n (after_merge (next_merge s) s) n (same_p-merge s (next_merge s)) (all.each n sized))
 
 pub returns-clause-stays : goal.returns-clause-stays
 returns-clause-stays c =

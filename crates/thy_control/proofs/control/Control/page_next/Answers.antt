@@ -9,7 +9,7 @@ use Rattle.thy_control.proofs.control.Control.page_next.Goals as goal
 
 pub returns-clause-left : goal.returns-clause-left
 returns-clause-left g c =
-    left_after c.args.self.now (g.N.Nvm.device c.args.nvm.now) c.write_lowest.new.self c.tables.ensures c.write_lowest.result c.write_lowest.ensures.state c.write_lowest.ensures.more
+    left_after c.args.self.now (g.N.Nvm.device c.args.nvm.now) c.write_lowest.new.self c.tables.ensures c.write_lowest.result c.write_lowest.ensures.writes.state c.write_lowest.ensures.more
 
 pub returns-clause-committed : goal.returns-clause-committed
 returns-clause-committed g c =
@@ -17,7 +17,7 @@ returns-clause-committed g c =
     let m : Device = g.N.Nvm.device c.args.nvm.now in
     let all = KeepsNext-write c.a_page_write_keeps_versions.ensures c.a_page_write_keeps_others.ensures s m c.tables.ensures c.requires.sized in
     at_result (λ t n. KeepsCommitted s m t n) c.write_lowest.result c.write_lowest.new.self (after_next_write (next_page s) s m) (g.N.Nvm.device c.write_lowest.new.nvm) (devices_after_write (next_page s) s m)
-    c.write_lowest.ensures.state c.write_lowest.ensures.nvm all.committed
+    c.write_lowest.ensures.writes.state c.write_lowest.ensures.writes.nvm all.committed
 
 pub returns-clause-work : goal.returns-clause-work
 returns-clause-work g c =
@@ -25,7 +25,7 @@ returns-clause-work g c =
     let m : Device = g.N.Nvm.device c.args.nvm.now in
     let all = KeepsNext-write c.a_page_write_keeps_versions.ensures c.a_page_write_keeps_others.ensures s m c.tables.ensures c.requires.sized in
     at_result (λ t n. KeepsWork s m t n) c.write_lowest.result c.write_lowest.new.self (after_next_write (next_page s) s m) (g.N.Nvm.device c.write_lowest.new.nvm) (devices_after_write (next_page s) s m)
-    c.write_lowest.ensures.state c.write_lowest.ensures.nvm all.work
+    c.write_lowest.ensures.writes.state c.write_lowest.ensures.writes.nvm all.work
 
 pub returns-clause-held : goal.returns-clause-held
 returns-clause-held g c =
@@ -33,9 +33,9 @@ returns-clause-held g c =
     let m : Device = g.N.Nvm.device c.args.nvm.now in
     let all = KeepsNext-write c.a_page_write_keeps_versions.ensures c.a_page_write_keeps_others.ensures s m c.tables.ensures c.requires.sized in
     at_result (λ t n. HoldAll s m → StaysHeld s m t n) c.write_lowest.result c.write_lowest.new.self (after_next_write (next_page s) s m) (g.N.Nvm.device c.write_lowest.new.nvm) (devices_after_write (next_page s) s m)
-    c.write_lowest.ensures.state c.write_lowest.ensures.nvm all.held
+    c.write_lowest.ensures.writes.state c.write_lowest.ensures.writes.nvm all.held
 
 pub returns-clause-stays : goal.returns-clause-stays
 returns-clause-stays g c =
     stays_by c.a_page_write_keeps_versions.ensures c.a_page_write_keeps_others.ensures c.args.self.now (g.N.Nvm.device c.args.nvm.now) c.write_lowest.new.self (g.N.Nvm.device c.write_lowest.new.nvm) c.write_lowest.result
-    c.tables.ensures c.requires.sized c.requires.up c.write_lowest.ensures.state c.write_lowest.ensures.nvm c.write_lowest.ensures.kept c.write_lowest.ensures.err c.write_lowest.ensures.frame
+    c.tables.ensures c.requires.sized c.requires.up c.write_lowest.ensures.writes.state c.write_lowest.ensures.writes.nvm c.write_lowest.ensures.writes.kept c.write_lowest.ensures.writes.err c.write_lowest.ensures.writes.frame

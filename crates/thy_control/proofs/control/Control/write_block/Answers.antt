@@ -43,21 +43,19 @@ invariant_of-self-2 g c =
           (AreCursors-issued c.args.b s m c.self.inside.cursors c.requires.busy (omega (arith, c.requires.due)) cursors);
     }
 
-pub returns-clause-state : goal.returns-clause-state
-returns-clause-state g c =
+pub returns : goal.returns
+returns g c =
     let s : State = c.args.self.now in
     let w : State = record { p = c.self.inside.geometry; btt = c.self.inside.btt; ptt = c.self.inside.ptt; counts = c.self.inside.counts; under_way = c.self.inside.under_way; dram = c.self.inside.dram } in
     let m : Device = g.N.Nvm.device c.args.nvm.now in
     let d : Devices = devices_of (g.N.Nvm.device c.move_block.new.nvm) c.move_block.new.dram in
     let d_is : d ≡ devices_issued c.args.b s m
     = devices_are s w c.self.view_is c.args.b m c.cell-cell.result c.frame.result c.target.result d c.cell-cell.ensures c.frame.ensures c.target.ensures c.in_ok-move_block.ensures.ok in
-    state_is s w c.self.view_is c.args.b m c.cell-cell.result c.with_issued-written.result c.set.new.self d c.cell-cell.ensures c.with_issued-written.ensures c.set.ensures d_is
-
-pub returns-clause-nvm : goal.returns-clause-nvm
-returns-clause-nvm g c =
-    let s : State = c.args.self.now in
-    let w : State = record { p = c.self.inside.geometry; btt = c.self.inside.btt; ptt = c.self.inside.ptt; counts = c.self.inside.counts; under_way = c.self.inside.under_way; dram = c.self.inside.dram } in
-    let m : Device = g.N.Nvm.device c.args.nvm.now in
-    let d : Devices = devices_of (g.N.Nvm.device c.move_block.new.nvm) c.move_block.new.dram in
-    ap (λ (x : Devices). x.nvm)
-    (devices_are s w c.self.view_is c.args.b m c.cell-cell.result c.frame.result c.target.result d c.cell-cell.ensures c.frame.ensures c.target.ensures c.in_ok-move_block.ensures.ok)
+    record {
+      state = state_is s w c.self.view_is c.args.b m c.cell-cell.result c.with_issued-written.result c.set.new.self d c.cell-cell.ensures c.with_issued-written.ensures c.set.ensures d_is;
+      nvm = ap (λ (x : Devices). x.nvm) d_is;
+      kept = tt;
+      err = tt;
+      frame = c.in_ok-move_block.ensures.frame;
+      cause = c.in_ok-move_block.ensures.cause;
+    }

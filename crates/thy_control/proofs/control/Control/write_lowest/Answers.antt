@@ -1,4 +1,4 @@
-use Rattle.std.proofs.Common.{◌≡◌, ◌<◌, ◌%◌, ℕ, true, Some, sym, ◌∙◌, ap, subst}
+use Rattle.std.proofs.Common.{◌≡◌, ◌<◌, ◌%◌, ℕ, true, Some, sym, ◌∙◌, ap, subst, rules}
 use Rattle.thy_base.specs.Device.{Device}
 use Rattle.thy_base.specs.Geometry.{memory_blocks}
 use Rattle.thy_control.specs.State.{State, IsSized, cell_of}
@@ -35,16 +35,24 @@ pub write_block-requires-clause-sized : goal.write_block-requires-clause-sized
 write_block-requires-clause-sized g c =
     subst (λ (t : State). IsSized t (g.N.Nvm.device c.args.nvm.now)) (sym c.seek_page.ensures.same) c.requires.sized
 
-pub returns-in_err-write_block-in-Some-clause-err : goal.returns-in_err-write_block-in-Some-clause-err
-returns-in_err-write_block-in-Some-clause-err g c =
+pub returns-in_err-write_block-in-Some-clause-writes : goal.returns-in_err-write_block-in-Some-clause-writes
+returns-in_err-write_block-in-Some-clause-writes g c =
     let s : State = c.args.self.now in
     let m : Device = g.N.Nvm.device c.args.nvm.now in
     let n : Device = g.N.Nvm.device c.write_block.new.nvm in
     let next : next_page s ≡ Some c.in-Some.j = sym c.seek_page.ensures.place ∙ c.in-Some.is in
     let block : c.block_due-b.result ≡ block_to_write c.in-Some.j s = c.block_due-b.ensures ∙ ap (block_to_write c.in-Some.j) c.seek_page.ensures.same in
-    OnErr-of c.from_residual.result (record {
-      entry = c.in-Some.j;
-      next = next;
-      fails = subst (λ (b : ℕ). FailsWriteOf b s m n) block
-          (subst (λ (t : State). FailsWriteOf c.block_due-b.result t m n) c.seek_page.ensures.same c.in_err-write_block-in-Some.ensures.err);
-    })
+    let ends = c.in_err-write_block-in-Some.ensures in
+    record {
+      state = search rules;
+      nvm = search rules;
+      kept = OnErr-of c.from_residual.result (ends.kept ∙ c.seek_page.ensures.same);
+      err = OnErr-of c.from_residual.result (record {
+        entry = c.in-Some.j;
+        next = next;
+        fails = subst (λ (b : ℕ). FailsWriteOf b s m n) block
+            (subst (λ (t : State). FailsWriteOf c.block_due-b.result t m n) c.seek_page.ensures.same ends.err);
+      });
+      frame = ends.frame;
+      cause = search rules;
+    }

@@ -19,4 +19,4 @@ returns c = λ o k n stands.
     let stands_v : Stands dual_scheme o k v n = subst (λ (s : Dual). Stands dual_scheme o k s n) (sym c.self.view_is) stands in
     let m = c.merge_one.ensures in
     subst (λ (s : Dual). Merges dual_scheme o k s n (record v { control = c.merge_one.new.self })) c.self.view_is
-    (merges o k v n c.merge_one.new.self stands_v m.left (m.work n stands_v.sound.held.sized) (m.stays n stands_v.sound.held.sized) m.state c.tables.ensures)
+    (merges o k v n c.merge_one.new.self stands_v m.left (m.keeps n stands_v.sound.held.sized).work (m.stays n stands_v.sound.held.sized) m.state c.tables.ensures)

@@ -22,4 +22,4 @@ returns-clause-ok g c = λ o k stands.
     let some : is_promoting v.control ≡ true = subst (λ (s : Dual). is_promoting s.control ≡ true) (sym c.self.view_is) c.requires.promoting in
     let p = c.in_ok-promote_one.ensures in
     subst (λ (s : Dual). Promotes dual_scheme o k s n (record v { control = c.promote_one.new.self }) new) c.self.view_is
-    (promotes o k v n c.promote_one.new.self new stands_v some p.left p.held p.state p.same p.stays c.tables.ensures)
+    (promotes o k v n c.promote_one.new.self new stands_v some p.left p.held p.fills.state p.fills.nvm p.stays c.tables.ensures)
