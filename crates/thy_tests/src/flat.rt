@@ -4,6 +4,13 @@ use crate::expect::expect;
 use thy_base::Block;
 use thy_flat::{Piece, Span, take_head};
 
+/// The bytes of a span that lie in its first block, which is this one.
+fn head(block: &Block, span: Span) -> Piece {
+    let mut piece = Piece::new();
+    take_head(&mut piece, block, span);
+    piece
+}
+
 #[test]
 fn a_span_over_two_blocks_is_read_block_by_block(rt: HostRuntime) {
     let mut first = Block::ZERO;
@@ -18,8 +25,8 @@ fn a_span_over_two_blocks_is_read_block_by_block(rt: HostRuntime) {
     expect(&rt, rest, Span { at: 64, len: 3 });
     expect(&rt, rest.first_block(), 1);
     expect(&rt, rest.rest().is_empty(), true);
-    let mut piece = Piece::new();
-    take_head(&mut piece, &first, span);
-    take_head(&mut piece, &second, rest);
-    expect(&rt, piece.as_slice(), [1, 2, 3, 4, 5].as_slice());
+    let piece = head(&first, span);
+    expect(&rt, piece.as_slice(), [1, 2].as_slice());
+    let piece = head(&second, rest);
+    expect(&rt, piece.as_slice(), [3, 4, 5].as_slice());
 }
