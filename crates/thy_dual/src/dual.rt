@@ -19,7 +19,9 @@ use thy_scheme::{BootStep, Scheme};
 pub struct DualScheme {
     control: Control,
     engine: Engine,
+    /// No block was stored since the last seal. Contracts speak of it; no code reads it but to set `lean`.
     rested: bool,
+    /// No block was stored in the epoch that was sealed last. Contracts speak of it; no code reads it.
     lean: bool,
     boot: Boot,
 }
