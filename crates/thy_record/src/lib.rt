@@ -30,8 +30,7 @@ pub use file::{Found, check};
 pub use header::{HEADER_MAGIC, VERSION, header_block, header_fault};
 pub use laws::{
     ceiling_grows, decoded_is_whole, each_block_has_its_place, faultless_tables, file_decodes,
-    free_is_not_looked_at, header_and_commit_read_back, issued_decodes, issuing_goes_on,
-    looked_decides, memory_is_read_at_its_places, record_reads_back,
+    free_is_not_looked_at, header_and_commit_read_back, looked_decides, memory_is_read_at_its_places, record_reads_back,
     refusals_name_the_first_entries, slot_reads_back, tables_read_back, unused_places,
     written_decodes,
 };
