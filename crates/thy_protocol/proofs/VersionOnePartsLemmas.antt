@@ -1,5 +1,5 @@
 -- A checkpoint in version 1 of images: where its parts go, and that it is one once they were issued.
-use Rattle.std.proofs.Common.{◌≡◌, ℕ, ◌+◌, ◌%◌, ◌^◌, ◌<◌, ◌≤◌, true, List, Option, None, refl, ◌∙◌, ap, arith}
+use Rattle.std.proofs.Common.{◌≡◌, ℕ, zero, suc, ◌+◌, ◌%◌, ◌^◌, ◌<◌, ◌≤◌, true, List, Option, None, refl, ◌∙◌, ap, arith}
 use Rattle.std.specs.Option.{option_or}
 use Rattle.std.proofs.lemmas.List.FromFn.{get_or-map-range_with_len}
 use Rattle.thy_base.specs.declared.block.Block.{Block}
@@ -30,10 +30,15 @@ use Rattle.thy_protocol.proofs.IssuingLemmas.{slot_goes_on, issued_is_checkpoint
 
 -- ---- where the parts go
 
+slot_fits : (p : Parameters) (s : ℕ) → s < 2 → slot_place p s + slot_blocks p ≤ image_blocks p
+slot_fits p zero l = omega arith
+slot_fits p (suc zero) l = omega arith
+slot_fits p (suc (suc s)) l = absurd (omega arith)
+
 pub ArePlaced-parts : (p : Parameters) (cpu : CpuState) (t : Tables) (epoch : ℕ) → IsTables p t → ArePlaced (image_blocks p) (parts_by p cpu t epoch)
 ArePlaced-parts p cpu t epoch tables = record {
   slot_behind = omega arith;
-  slot_inside = omega (arith, half epoch);
+  slot_inside = slot_fits p (epoch % 2) (half epoch);
   memory_behind = λ x inside. let behind = (memory_behind p t x tables inside).0 in omega (arith, behind);
   memory_inside = λ x inside. (memory_behind p t x tables inside).1;
   apart = λ k l inside. slot_of_memory p t (epoch % 2) k tables (half epoch) l inside;
