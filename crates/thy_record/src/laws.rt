@@ -1,4 +1,4 @@
-//! Laws of the tables, of images and of how they are written, each the contract of a function that does nothing.
+//! Laws of the tables, of images and of what leaves them alone, each the contract of a function that does nothing.
 ghost use Rattle.thy_record.specs.BackLaws.{HeaderReadsBack, CommitReadsBack, RecordReadsBack, EntriesReadBack, TablesReadBack};
 ghost use Rattle.thy_record.specs.ImageLaws.{FaultlessTables, BlocksHavePlaces, PlacesAreOwn, EntriesAreBlock, SlotReadsBack, FileDecodes, WrittenDecodes, DecodedIsWhole, LookedDecides, CeilingGrows};
 ghost use Rattle.thy_record.specs.Issuing.{ListedHomeIsUnused, PagedHomeIsUnused, EmptyEntryIsUnused, EmptyPageIsUnused, FreeIsNotLooked, NothingIsLooked, PlacedIsMemory, MemoryIsPlaced};
