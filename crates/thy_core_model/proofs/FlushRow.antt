@@ -153,7 +153,7 @@ flush_leads {S} K = λ o cycles m n c t new flushed at sealing whole f.
           opened = subst (λ x. OpenNow x c m.hart (K.holding t new).open_page) (sym g.over.over_is) (f.opened g.opened);
         };
         follows = subst (Follows o.input (at_count o m.hart.cpu.count) m.hart) (sym f.reads) s.follows;
-        counted = record { start = s.counted.start; count = s.counted.count; running = s.counted.running };
+        counted = record { start = s.counted.start; count = s.counted.count; processor = s.counted.processor; running = s.counted.running };
         epoch = record {
           began = λ none. absurd (omega (arith, none));
           span = s.epoch.span;

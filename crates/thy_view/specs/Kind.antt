@@ -160,10 +160,11 @@ Snapshots K m n result =
 abbrev pub without_memory : State → State
 without_memory s = record s { memory = []; console = [] }
 
--- a state has the processor's part alone; where the view before was between two instructions, the plain machine's at its count
+-- a state is a processor's part alone: once the boot is over the plain machine's at the view's count, also while an
+-- instruction is in hand
 pub record IsProcessor (o : Origin) (before : View) (s : MachState) : Type 0 where
   pub bare : state_of s ≡ without_memory (state_of s)
-  pub processor : is_between before ≡ true → state_of s ≡ without_memory (at o before.count)
+  pub processor : is_boot before.phase ≡ false → state_of s ≡ without_memory (at o before.count)
 
 -- after a step that failed, what is answered is such a state
 abbrev pub SnapshotsStopped : {M : Type 0} → KindOf M → M → Result MachState CoreError → Type 0
