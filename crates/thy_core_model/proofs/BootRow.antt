@@ -42,7 +42,7 @@ use Rattle.thy_core_model.specs.Machine.{Machine, run_view, view_in, view_of, ga
 use Rattle.thy_core_model.specs.Sound.{IsHeld, IsPaced, IsBlank, SoundRun, SoundIn}
 use Rattle.thy_core_model.specs.Calls.{running_from, after_boot}
 use Rattle.thy_core_model.specs.Rows.{Leads, At, BootLeads}
-use Rattle.thy_core_model.proofs.AtLemmas.{at-late}
+use Rattle.thy_core_model.proofs.AtLemmas.{at-late, processor-from}
 use Rattle.thy_core_model.proofs.EpochLemmas.{few-moves}
 use Rattle.thy_core_model.proofs.KeepsLaws.{up_after}
 use Rattle.thy_core_model.proofs.LawfulLaws.{boots_phase}
@@ -173,7 +173,12 @@ module _ {S : Type 0} (K : SchemeOf S) (o : Origin) (m : Machine S) (cpu : CpuSt
     held = held_here;
     follows = subst (Follows o.input (at o cpu.count) (new_hart o.geometry cpu (epoch + 1))) (sym (blank.reads blocks)) follows_blocks;
     writes = tt;
-    counted = record { start = at-late o cpu.count count_here; count = count_here; running = runs_here };
+    counted = record {
+      start = at-late o cpu.count count_here;
+      count = count_here;
+      processor = processor-from o.geometry cpu blocks (at o cpu.count) booted.state;
+      running = runs_here;
+    };
     epoch = record { began = λ none. refl; span = refl; retired = epoch_least o.geometry origin.geometry; hand = λ over. refl };
     numbered = record { epoch = refl; sealed = λ s e. absurd (cc); unwritten = λ e. refl };
     shown = record { done = console_here; sealed = λ s e. absurd (cc); ends = λ s e. absurd (cc) };

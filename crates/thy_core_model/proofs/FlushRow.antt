@@ -155,7 +155,7 @@ flush_leads {S} K = λ o cycles m n c t new flushed at sealing whole f.
         };
         follows = subst (Follows o.input (at_count o m.hart.cpu.count) m.hart) (sym f.reads) s.follows;
         writes = s.writes;
-        counted = record { start = s.counted.start; count = s.counted.count; running = s.counted.running };
+        counted = record { start = s.counted.start; count = s.counted.count; processor = s.counted.processor; running = s.counted.running };
         epoch = record {
           began = λ none. absurd (omega (arith, none));
           span = s.epoch.span;

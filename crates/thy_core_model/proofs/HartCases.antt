@@ -1,5 +1,5 @@
 -- What the hart's step makes of the machine, by its answer.
-use Rattle.std.proofs.Common.{◌≡◌, ℕ, ◌+◌, ◌-◌, ◌==◌, ◌<◌, ◌≤◌, Bool, true, false, if◌then◌else◌, nat_lt, Option, Some, None, is_some, refl, sym, ◌∙◌, ap, ap₂, subst, arith, inl, inr, add-zero}
+use Rattle.std.proofs.Common.{◌≡◌, ℕ, ◌+◌, ◌-◌, ◌==◌, ◌<◌, ◌≤◌, Bool, true, false, if◌then◌else◌, nat_lt, Option, Some, None, is_some, refl, sym, ◌∙◌, ap, ap₂, subst, arith, inl, inr, add-zero, []}
 use Rattle.std.proofs.lemmas.Bool.{cases_eq}
 use Rattle.thy_base.specs.declared.cause.EndCause.{EndCause}
 use Rattle.thy_base.specs.declared.cause.EndCause.TheVariants.{Length, Exhausted, Ended}
@@ -8,7 +8,7 @@ use Rattle.thy_base.specs.Device.{Device}
 use Rattle.thy_cache.specs.Contents.{Contents, dirty_count}
 use Rattle.thy_epoch.specs.Epoch.{Epoch, over_after, retired_once, exhausted, HasRetired}
 use Rattle.thy_isa.specs.OnBlocks.{setting_for}
-use Rattle.thy_isa.specs.Step.{is_running, step}
+use Rattle.thy_isa.specs.Step.{state_with, is_running, step}
 use Rattle.thy_hart.specs.declared.hand.Hand.{Hand}
 use Rattle.thy_hart.specs.declared.hand.Hand.TheVariants.{Nothing, Reading, Reserving, Writing, Retiring}
 use Rattle.thy_hart.specs.declared.hand.HartStep.{HartStep}
@@ -25,6 +25,7 @@ use Rattle.thy_view.specs.declared.view.View.{View}
 use Rattle.thy_view.specs.Action.{Rest, Acts}
 use Rattle.thy_view.specs.CoreStep.{busier, over_at}
 use Rattle.thy_view.specs.Dram.{WritesBlock}
+use Rattle.thy_view.specs.Kind.{without_memory}
 use Rattle.thy_view.specs.Origin.{Origin, at, runs_at}
 use Rattle.thy_view.specs.Pace.{Gauge}
 use Rattle.thy_view.specs.Stores.{stored_by}
@@ -38,7 +39,7 @@ use Rattle.thy_core_model.specs.Pace.{instructions_left, flushes_left, hart_left
 use Rattle.thy_core_model.specs.Sound.{OpenNow, IsToWrite, IsFresh, StartsFresh}
 use Rattle.thy_core_model.specs.Calls.{IsAsked, HartCall}
 use Rattle.thy_core_model.specs.Rows.{At, HartGoes, HartLeads}
-use Rattle.thy_core_model.proofs.AtLemmas.{at-next, at-count, count-current, status-current}
+use Rattle.thy_core_model.proofs.AtLemmas.{at-next, at-count, count-current, status-current, processor-current}
 use Rattle.thy_core_model.proofs.EpochLemmas.{retired-on, few-moves}
 use Rattle.thy_core_model.proofs.HandLaws.{hand_writes}
 use Rattle.thy_core_model.proofs.WorkLaws.{moves_over}
@@ -213,6 +214,7 @@ moved-next K o cycles m n h c t new at-m turn hs mv =
       counted = record {
         start = subst (λ x. o.start.count ≤ x.count) (sym cpu) run.counted.start;
         count = subst (λ x. (at o x.count).count ≡ x.count) (sym cpu) run.counted.count;
+        processor = subst (λ x. state_with x [] [] ≡ without_memory (at o x.count)) (sym cpu) run.counted.processor;
         running = subst (λ x. is_running x.status ≡ runs_at o x.count) (sym cpu) run.counted.running;
       };
       follows = subst (λ x. Follows o.input (at o x.count) h (memory_of K (hart_on (m.lap + 0) h c t m) new)) (sym cpu) f;
@@ -287,6 +289,7 @@ exhausted-next K o cycles m n h c t new free dd need at-m turn hs ex =
       counted = record {
         start = subst (λ x. o.start.count ≤ x.count) (sym cpu) run.counted.start;
         count = subst (λ x. (at o x.count).count ≡ x.count) (sym cpu) run.counted.count;
+        processor = subst (λ x. state_with x [] [] ≡ without_memory (at o x.count)) (sym cpu) run.counted.processor;
         running = subst (λ x. is_running x.status ≡ runs_at o x.count) (sym cpu) run.counted.running;
       };
       follows = subst (λ x. Follows o.input (at o x.count) h (memory_of K (hart_on (m.lap + 0) h c t m) new)) (sym cpu) f;
@@ -363,6 +366,7 @@ retired-next K o cycles m n h c t new s over at-m turn hs rt come closed f =
       counted = record {
         start = omega (arith, run.counted.start, count);
         count = subst (λ x. (at o x).count ≡ x) (sym count) count-at;
+        processor = processor-current h memory (at o (k + 1)) is ∙ ap (λ x. without_memory (at o x)) (sym count);
         running = running ∙ ap (runs_at o) (sym count);
       };
       follows = subst (λ x. Follows o.input (at o x) h memory) (sym count) (subst (λ x. Follows o.input x h memory) next f);

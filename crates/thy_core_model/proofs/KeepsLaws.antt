@@ -1,5 +1,5 @@
 -- What stays of the machine over a call of the scheme, and what makes a cycle behind the boot lead on.
-use Rattle.std.proofs.Common.{◌≡◌, ◌≢◌, ℕ, ◌+◌, ◌==◌, ◌<◌, ◌≤◌, Bool, true, false, if◌then◌else◌, Option, Some, None, refl, sym, ◌∙◌, ap, ap₂, subst, inl, inr, arith}
+use Rattle.std.proofs.Common.{◌≡◌, ◌≢◌, ℕ, ◌+◌, ◌==◌, ◌<◌, ◌≤◌, Bool, true, false, if◌then◌else◌, [], Option, Some, None, refl, sym, ◌∙◌, ap, ap₂, subst, inl, inr, arith}
 use Rattle.thy_base.specs.declared.cause.EndCause.{EndCause}
 use Rattle.thy_base.specs.declared.config.Parameters.{Parameters}
 use Rattle.thy_base.specs.Device.{Device}
@@ -10,7 +10,7 @@ use Rattle.thy_hart.specs.declared.hand.Hand.TheVariants.{Nothing}
 use Rattle.thy_hart.specs.Core.{Core, next_block, reserved}
 use Rattle.thy_hart.specs.Laws.{Follows}
 use Rattle.thy_hart.specs.Moments.{IsOpenFor, moment}
-use Rattle.thy_isa.specs.Step.{is_running}
+use Rattle.thy_isa.specs.Step.{state_with, is_running}
 use Rattle.thy_view.specs.declared.did.Did.{Did}
 use Rattle.thy_view.specs.declared.did.Did.TheVariants.{Moved}
 use Rattle.thy_view.specs.declared.view.Phase.{Phase}
@@ -19,6 +19,7 @@ use Rattle.thy_view.specs.declared.view.View.{View}
 use Rattle.thy_view.specs.Action.{Action, Rest, ReadAt, WriteAt, Barrier, Drain, after, Acts}
 use Rattle.thy_view.specs.CoreStep.{CoreStep}
 use Rattle.thy_view.specs.Dram.{LeavesDram, WritesBlock}
+use Rattle.thy_view.specs.Kind.{without_memory}
 use Rattle.thy_view.specs.Origin.{Origin, at, runs_at}
 use Rattle.thy_view.specs.Pace.{Queues, Strides as StridesOn}
 use Rattle.thy_view.specs.Turn.{over_by}
@@ -196,6 +197,7 @@ module _ {S : Type 0} (K : SchemeOf S) (m next : Machine S) (n new : Device)
   counted_kept o c = record {
     start = subst (λ (x : Core). o.start.count ≤ x.cpu.count) (sym hart) c.start;
     count = subst (λ (x : Core). (at o x.cpu.count).count ≡ x.cpu.count) (sym hart) c.count;
+    processor = subst (λ (x : Core). state_with x.cpu [] [] ≡ without_memory (at o x.cpu.count)) (sym hart) c.processor;
     running = subst (λ (x : Core). is_running x.cpu.status ≡ runs_at o x.cpu.count) (sym hart) c.running;
   }
 

@@ -188,7 +188,7 @@ seal_leads {S} K = λ o cycles m n t cause at sealing whole bare clean over_is p
         follows = subst (Follows o.input (at_count o m.hart.cpu.count) next.hart) (ap (flat m.cache) (sym p.held.blocks))
             (follows-epoch o.input (at_count o m.hart.cpu.count) m.hart (memory_of K m n) (next_epoch m.hart.epoch) s.follows);
         writes = s.writes;
-        counted = record { start = s.counted.start; count = s.counted.count; running = s.counted.running };
+        counted = record { start = s.counted.start; count = s.counted.count; processor = s.counted.processor; running = s.counted.running };
         epoch = record {
           began = λ none. g.hand;
           span = span;

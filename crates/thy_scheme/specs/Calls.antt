@@ -17,7 +17,7 @@ use Rattle.thy_view.specs.Action.{Action, IsAccess, after, FailsTo, Acts, Action
 use Rattle.thy_view.specs.Dram.{ActsOnDram, WritesBlock}
 use Rattle.thy_view.specs.Origin.{Origin, at}
 use Rattle.thy_view.specs.Safe.{ceiling, Safe}
-use Rattle.thy_scheme.specs.Marks.{Marks, marks_after}
+use Rattle.thy_scheme.specs.Marks.{Marks, doubt_in, marks_after, marks_after_fault}
 use Rattle.thy_scheme.specs.Scheme.{SchemeOf}
 
 -- ---- loads and stores
@@ -165,8 +165,9 @@ pub record Engines {S : Type 0} (K : SchemeOf S) (o : Origin) (k : Marks) (step 
   pub queue : queued_in K t new ≤ queued_in K s n + 1
   pub nearer : K.engine_left t + 1 ≤ K.engine_left s
 
--- that failed in its action, and leaves the committed checkpoint, whole, or the sealed one
+-- that failed in its action, and leaves the committed checkpoint, whole, or the sealed one, if its commit block was written
+-- before or this was its write
 pub record EngineFails {S : Type 0} (K : SchemeOf S) (o : Origin) (k : Marks) (n new : Device) : Type 0 where
   pub step : EngineStep
   pub acted : (lap : ℕ) → ActionFailed (engine_did lap step) n new
-  pub safe : Safe K.decode o (Some k.done) k.sealed new
+  pub safe : Safe K.decode o (Some k.done) (doubt_in (marks_after_fault step k)) new

@@ -13,7 +13,7 @@ use Rattle.thy_view.specs.Origin.{Origin, IsOrigin, at}
 use Rattle.thy_view.specs.Safe.{ceiling, Safe}
 use Rattle.thy_view.specs.Views.{doubt_of}
 use Rattle.thy_scheme.specs.Marks.{Marks, doubt_in}
-use Rattle.thy_scheme.specs.Scheme.{SchemeOf, Stands, IsBooting}
+use Rattle.thy_scheme.specs.Scheme.{SchemeOf, Stands, IsBooting, StaysOf}
 use Rattle.thy_scheme.specs.Calls.{owed_in, Keeps, OwesNoMore}
 use Rattle.thy_scheme.specs.Boots.{IsBootView, BootStays}
 
@@ -43,6 +43,7 @@ pub record BootsFound {S : Type 0} (K : SchemeOf S) (o : Origin) (s : S) (n : De
 -- what holds in the boot: a cut leaves what is seen, a drain of the NVM changes nothing of it, and where a checkpoint was found
 -- nothing is queued there
 pub record BootHolds {S : Type 0} (K : SchemeOf S) (o : Origin) (s : S) (n : Device) : Type 0 where
+  pub of_geometry : K.is_of o.geometry s
   pub sized : length n.image ≡ K.blocks o.geometry
   pub safe : Safe K.decode o (K.boot_view o s n).done (doubt_of (K.boot_view o s n)) n
   pub shown : IsBootView o (K.boot_view o s n)
@@ -66,6 +67,7 @@ pub record IsCommitted {S : Type 0} (K : SchemeOf S) (o : Origin) (count : ℕ) 
 
 -- what holds behind the boot, while the NVM is up
 pub record RunHolds {S : Type 0} (K : SchemeOf S) (o : Origin) (k : Marks) (s : S) (n : Device) : Type 0 where
+  pub of_geometry : K.is_of o.geometry s
   pub sized : length n.image ≡ K.blocks o.geometry
   pub safe : Safe K.decode o (Some k.done) (doubt_in k) n
   -- a checkpoint is under way while an epoch is sealed, or while what it has written is applied, and never both
@@ -120,5 +122,6 @@ pub record IsLawful {S : Type 0} (K : SchemeOf S) : Type 0 where
   pub stays_same : (s : S) (n : Device) → K.stays s n s n
   pub stays_on : (a : S) (m : Device) (b : S) (n : Device) (c : S) (o : Device)
       → K.stays a m b n → K.stays b n c o → K.stays a m c o
+  pub stays_of : (s : S) (n : Device) (t : S) (new : Device) → K.stays s n t new → StaysOf K s t
   pub stays_sound : (o : Origin) (k : Marks) (s : S) (n : Device) (t : S) (new : Device)
       → Stands K o k s n → is_free_to_run K s ≡ true → K.stays s n t new → StaysSound K o k s t new

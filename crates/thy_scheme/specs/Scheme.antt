@@ -39,8 +39,9 @@ pub record SchemeOf (S : Type 0) : Type 1 where
   pub lean : S → Bool
   -- the hart may run while a checkpoint is under way
   pub overlaps : Bool
-  -- what the DRAM holds
+  -- what the DRAM holds, and the scheme is of a geometry, whatever failed: the DRAM has its size
   pub dram : S → Contents
+  pub is_of : Parameters → S → Type 0
   -- how many writes are queued in it, and how many table entries are free
   pub queued : S → ℕ
   pub free : S → ℕ
@@ -65,6 +66,10 @@ pub record SchemeOf (S : Type 0) : Type 1 where
   -- the most copies that may be owed, with those that a commit may add, and the most entries
   pub most_owed : Parameters → ℕ
   pub most_free : Parameters → ℕ
+
+-- it stays one of its geometry
+abbrev pub StaysOf : {S : Type 0} → SchemeOf S → S → S → Type 0
+StaysOf K s t = (p : Parameters) → K.is_of p s → K.is_of p t
 
 -- behind the boot, over an NVM that is up
 pub record Stands {S : Type 0} (K : SchemeOf S) (o : Origin) (k : Marks) (s : S) (n : Device) : Type 0 where

@@ -1,5 +1,5 @@
 -- What a machine is to the layers above: what is seen of it, what its calls promise, and the laws that hold of it.
-use Rattle.std.specs.Prelude.{◌≡◌, ℕ, ◌+◌, ◌*◌, ◌^◌, ◌<◌, ◌≤◌, ◌&&◌, ◌||◌, not, is_some, Bool, true, false, List, [], length, drop, Option, Some, None, Result, IfOk, OnErr}
+use Rattle.std.specs.Prelude.{◌≡◌, ℕ, ◌+◌, ◌*◌, ◌^◌, ◌<◌, ◌≤◌, ◌&&◌, ◌||◌, not, is_some, Bool, true, false, List, [], length, drop, Option, Some, None, Result, IfOk, OnErr, ◌⊎◌, Err}
 use Rattle.thy_base.specs.declared.block.Block.{Block}
 use Rattle.thy_base.specs.declared.config.Parameters.{Parameters}
 use Rattle.thy_base.specs.declared.mix.Pick.{Pick}
@@ -13,7 +13,7 @@ use Rattle.thy_base.specs.Device.{Device, Crash, HasFailed, cut_to, fitted}
 use Rattle.thy_base.specs.Places.{dram_blocks}
 use Rattle.thy_dram.specs.Contents.{Contents}
 use Rattle.thy_isa.specs.declared.state.MachState.{MachState}
-use Rattle.thy_isa.specs.Step.{state_of}
+use Rattle.thy_isa.specs.Step.{State, state_of}
 use Rattle.thy_flat.specs.Flat.{AllLong}
 use Rattle.thy_record.specs.Decoded.{Reading, Nothing}
 use Rattle.thy_record.specs.declared.start.Start.{Start}
@@ -29,7 +29,7 @@ use Rattle.thy_view.specs.Booting.{view_of_image, found_first, first_view}
 use Rattle.thy_view.specs.CoreStep.{CoreStep}
 use Rattle.thy_view.specs.Origin.{Origin, IsOrigin, Begins, at}
 use Rattle.thy_view.specs.Safe.{ceiling, Safe}
-use Rattle.thy_view.specs.Action.{Acts, ActionFailed}
+use Rattle.thy_view.specs.Action.{Acts, ActionFailed, doubt_after_fault}
 use Rattle.thy_view.specs.Dram.{LeavesDram}
 use Rattle.thy_view.specs.Pace.{Gauge, retires, KeepsPace}
 use Rattle.thy_view.specs.Stores.{needs_at}
@@ -48,6 +48,10 @@ pub record KindOf (M : Type 0) : Type 1 where
   -- after so many cycles of a run, cuts of power among them, machine and device are at one of its moments
   pub is_at : Origin → ℕ → M → Device → Type 0
   pub view : Origin → M → Device → View
+  -- after a step of a run that failed, before which this was the view
+  pub has_failed : Origin → View → M → Type 0
+  -- a step has failed since power came on
+  pub failed : M → Bool
   -- the boot has read the commit block
   pub has_read : M → Bool
   -- what the DRAM holds
@@ -90,6 +94,16 @@ pub record CanRead {M : Type 0} (K : KindOf M) (m : M) (n : Device) : Type 0 whe
   pub cycles : ℕ
   pub at_moment : K.is_at o cycles m n
 
+-- a step of it has failed
+pub record HasStopped {M : Type 0} (K : KindOf M) (m : M) : Type 0 where
+  pub o : Origin
+  pub before : View
+  pub failed : K.has_failed o before m
+
+-- a snapshot of it may be taken: at a moment of a run, or after a step that failed, whatever the device is then
+abbrev pub CanSnapshot : {M : Type 0} → KindOf M → M → Device → Type 0
+CanSnapshot K m n = CanRead K m n ⊎ HasStopped K m
+
 -- A step that succeeded leads to the next moment of the run, by a step of the view, and was its pick's turn. Whatever
 -- a power cut then leaves is the committed checkpoint, whole, or the one in doubt. A step that finds an empty queue, as
 -- the boot's first does, reads the commit block where that is still to be read. It acts on the device once, or reads it
@@ -120,10 +134,13 @@ pub record CycleFailed {M : Type 0} (K : KindOf M) (o : Origin) (pick : Pick) (m
   pub failed : ActionFailed did n new
   pub still : (found : Mark) → (K.view o m n).phase ≡ Boot → (K.view o m n).done ≡ Some found → HasFailed n new
 
--- a step that failed leaves what the action of its turn may leave: the committed checkpoint, whole, or the sealed one
-pub record LeavesSafe {M : Type 0} (K : KindOf M) (o : Origin) (pick : Pick) (m : M) (n new : Device) : Type 0 where
-  pub safe : Safe K.decode o (K.view o m n).done (K.view o m n).sealed new
+-- A step that failed leaves what the action of its turn may leave: the committed checkpoint, whole, or the one in doubt. The
+-- sealed one is in doubt only if the action was the commit block's write, or that block was written before.
+pub record LeavesSafe {M : Type 0} (K : KindOf M) (o : Origin) (pick : Pick) (m next : M) (n new : Device) : Type 0 where
   pub acted : CycleFailed K o pick m n new
+  pub safe : Safe K.decode o (K.view o m n).done (doubt_after_fault acted.failed.action (K.view o m n)) new
+  -- and a machine of which power can be cut, and a snapshot taken
+  pub stopped : K.has_failed o (K.view o m n) next
 
 -- from any moment of any run with this start, a step that succeeded is one
 abbrev pub LeadsOn : {M : Type 0} → KindOf M → Start → Pick → M → M → Device → Device → Result Stepped NvmError → Type 0
@@ -132,9 +149,9 @@ LeadsOn K start pick m next n new result =
     → IfOk result (λ r. IsStep K o k pick m next n new r)
 
 -- and one that failed leaves what its action may leave
-abbrev pub FailsSafe : {M : Type 0} → KindOf M → Start → Pick → M → Device → Device → Result Stepped NvmError → Type 0
-FailsSafe K start pick m n new result =
-    (o : Origin) (k : ℕ) → Begins o start → K.is_at o k m n → OnErr result (LeavesSafe K o pick m n new)
+abbrev pub FailsSafe : {M : Type 0} → KindOf M → Start → Pick → M → M → Device → Device → Result Stepped NvmError → Type 0
+FailsSafe K start pick m next n new result =
+    (o : Origin) (k : ℕ) → Begins o start → K.is_at o k m n → OnErr result (LeavesSafe K o pick m next n new)
 
 -- a state is the plain machine's at a view's count
 pub record IsSnapshot (o : Origin) (v : View) (s : MachState) : Type 0 where
@@ -147,11 +164,31 @@ Snapshots K m n result =
     (o : Origin) (k : ℕ) → K.is_at o k m n → is_between (K.view o m n) ≡ true
     → IfOk result (λ s. IsSnapshot o (K.view o m n) s)
 
+-- a state without its memory and its console: the processor's part
+abbrev pub without_memory : State → State
+without_memory s = record s { memory = []; console = [] }
+
+-- a state is a processor's part alone: once the boot is over the plain machine's at the view's count, also while an
+-- instruction is in hand
+pub record IsProcessor (o : Origin) (before : View) (s : MachState) : Type 0 where
+  pub bare : state_of s ≡ without_memory (state_of s)
+  pub processor : is_boot before.phase ≡ false → state_of s ≡ without_memory (at o before.count)
+
+-- after a step that failed, what is answered is such a state
+abbrev pub SnapshotsStopped : {M : Type 0} → KindOf M → M → Result MachState CoreError → Type 0
+SnapshotsStopped K m result = (o : Origin) (before : View) → K.has_failed o before m → IfOk result (IsProcessor o before)
+
 -- at a moment behind the boot, what was read is the console of the committed checkpoint from a byte on
 abbrev pub ShowsConsole : {M : Type 0} → KindOf M → ℕ → M → Device → Result Bytes CoreError → Type 0
 ShowsConsole K from m n result =
     (o : Origin) (k : ℕ) (done : Mark) → K.is_at o k m n → is_boot (K.view o m n).phase ≡ false
     → (K.view o m n).done ≡ Some done → IfOk result (λ b. bytes_of b ≡ drop from (at o done.count).console)
+
+-- at a moment behind the boot, where that console has no byte from there on, the device is left alone, and no fault of it is told
+abbrev pub LeavesAlonePast : {M : Type 0} → KindOf M → ℕ → M → Device → Device → Result Bytes CoreError → Type 0
+LeavesAlonePast K from m n new result =
+    (o : Origin) (k : ℕ) (done : Mark) → K.is_at o k m n → is_boot (K.view o m n).phase ≡ false
+    → (K.view o m n).done ≡ Some done → length (at o done.count).console ≤ from → (new ≡ n) × (result ≡ Err Nvm → ⊥)
 
 -- at a moment, whether the boot goes on and has found no checkpoint
 abbrev pub TellsLoading : {M : Type 0} → KindOf M → M → Bool → Type 0
@@ -209,6 +246,10 @@ pub record IsLawful {M : Type 0} (K : KindOf M) : Type 0 where
   -- when power comes on nothing is queued, and what lies ahead is bounded
   pub powered_on : (o : Origin) (k : ℕ) (m : M) (n : Device)
       → K.is_at o k m n → K.powered o.geometry m → n.queue ≡ [] → IsPoweredOn K o m n
+  -- at a moment no step has failed
+  pub unfailed : (o : Origin) (k : ℕ) (m : M) (n : Device) → K.is_at o k m n → K.failed m ≡ false
+  -- after a step that failed one has
+  pub tells_failure : (o : Origin) (before : View) (m : M) → K.has_failed o before m → K.failed m ≡ true
   -- something lies ahead at every moment
   pub some_ahead : (o : Origin) (k : ℕ) (m : M) (n : Device) → K.is_at o k m n → 1 ≤ K.ahead o m n
   -- the gauge counts what is queued in the NVM and in the DRAM
