@@ -7,4 +7,5 @@ pub mod LittleEndianLemmas
 pub mod PlaceLemmas
 pub mod RangeLemmas
 pub mod Streams
+pub mod WordLemmas
 pub mod WrittenLemmas
