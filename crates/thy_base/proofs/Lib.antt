@@ -4,6 +4,7 @@ pub mod DemandLemmas
 pub mod DeviceLemmas
 pub mod InsideLemmas
 pub mod LittleEndianLemmas
+pub mod LoanLemmas
 pub mod PlaceLemmas
 pub mod RangeLemmas
 pub mod Streams

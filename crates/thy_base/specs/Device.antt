@@ -30,7 +30,7 @@ pub record Device : Type 0 where
   pub down : Bool
   -- how many calls have failed
   pub faults : ℕ
-  -- how many times it was fitted, where memory was not refused, or was and it was counted; it stands at its last value
+  -- how many times it was fitted, whatever came of it, but that one which was refused memory may not count; it stands at its last value
   pub fits : ℕ
   -- the names of the loans through which it is reached, the outermost first
   pub lent : List GName
