@@ -7,6 +7,11 @@ use Rattle.thy_core.specs.Parts.{machine_of, actor_seen}
 use Rattle.thy_core.proofs.TakenLaws.{at_run, moment_of, turned, step_taken, step_failed}
 use Rattle.thy_core.proofs.step.take_step.Goals as goal
 
+pub queued-requires : goal.queued-requires
+queued-requires g c =
+    let run = c.requires in
+    (at_run g.S.Scheme.scheme g.met.S.Scheme.lawful run.o run.cycles (machine_of c.args.m.now) (g.N.Nvm.device c.args.nvm.now) run.at_moment run.few).sound.up
+
 pub cycle-requires : goal.cycle-requires
 cycle-requires g c =
     let K = g.S.Scheme.scheme in

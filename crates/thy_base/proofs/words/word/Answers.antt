@@ -1,7 +1,7 @@
 use Rattle.std.proofs.Common.{◌*◌, ◌∙◌, arith}
 use Rattle.thy_base.proofs.LittleEndianLemmas.{little_from-part}
-use Rattle.thy_record.specs.Words.{word_of}
-use Rattle.thy_record.proofs.block_words.word.Goals as goal
+use Rattle.thy_base.specs.Words.{word_of}
+use Rattle.thy_base.proofs.words.word.Goals as goal
 
 pub returns : goal.returns
 unfolding word_of

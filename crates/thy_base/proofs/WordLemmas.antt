@@ -6,7 +6,7 @@ use Rattle.byteorder.specs.Endian.{little_bytes, little_number}
 use Rattle.byteorder.specs.Numbers.{little_number-reads_back}
 use Rattle.thy_base.specs.LittleEndian.{number_bytes}
 use Rattle.thy_base.proofs.LittleEndianLemmas.{little_from-drop}
-use Rattle.thy_record.specs.Words.{word_of, block_of}
+use Rattle.thy_base.specs.Words.{word_of, block_of}
 
 -- the bytes of words from word i on
 drop-words : (ws : List ℕ) (i : ℕ) → i < length ws
