@@ -90,6 +90,7 @@ module _ (o : Origin) (k : Marks) (s : Dual) (n : Device) (sound : IsSound o k s
   run-holds =
       let p : s.control.p ≡ o.geometry = sound.held.geometry in
       record {
+        of_geometry = record { same_p = p; tables = sound.held.tables; room = sound.held.room };
         sized = sound.held.sized.nvm ∙ ap image_blocks p;
         safe = Safe-doubt o k s.engine n sound.images sound.checkpoints.kept sound.checkpoints.sealed sound.checkpoints.keeping sound.written;
         way = sound.way ∙ sym (or_false (is_some k.sealed));

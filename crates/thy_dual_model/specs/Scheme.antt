@@ -12,7 +12,7 @@ use Rattle.thy_commit.specs.Cycles.{cycles_left, most_cycles}
 use Rattle.thy_commit.specs.Items.{is_under_way}
 use Rattle.thy_scheme.specs.Scheme.{SchemeOf}
 use Rattle.thy_dual_model.specs.Boots.{Boots, IsPowered, view_at, has_read_at}
-use Rattle.thy_dual_model.specs.Dual.{Dual, is_overlaid, is_promoting, penults}
+use Rattle.thy_dual_model.specs.Dual.{Dual, IsOf, is_overlaid, is_promoting, penults}
 use Rattle.thy_dual_model.specs.Sound.{IsSound}
 use Rattle.thy_dual_model.specs.Stays.{StaysDual}
 
@@ -32,6 +32,7 @@ dual_scheme = record {
   lean = λ s. s.lean;
   overlaps = true;
   dram = λ s. s.control.dram;
+  is_of = IsOf;
   queued = λ s. s.control.dram.queued;
   free = λ s. free_count s.control.btt;
   is_sound = IsSound;

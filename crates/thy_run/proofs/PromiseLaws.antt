@@ -4,6 +4,7 @@ use Rattle.std.proofs.lemmas.Bool.{or_from}
 use Rattle.std.proofs.lemmas.List.Folds.{list_any-append}
 use Rattle.thy_base.specs.declared.block.Block.{Block}
 use Rattle.thy_base.specs.Device.{Device}
+use Rattle.thy_view.specs.Action.{doubt_after_fault}
 use Rattle.thy_view.specs.Kind.{KindOf, IsLawful}
 use Rattle.thy_text.specs.Event.{Event}
 use Rattle.thy_text.specs.Marks.{Marks, Course, marks_from, marks_after, AllLawful}
@@ -19,7 +20,7 @@ use Rattle.thy_run.specs.Laws.{course_of, first_marks, marks_of, first_found, to
 use Rattle.thy_run.specs.Progress.{IsSoonOver}
 use Rattle.thy_run.specs.Unfinished.{StepFailed, ReadFailed, Ends}
 use Rattle.thy_run.specs.World.{World, Given, seen, events_of, TakesStep}
-use Rattle.thy_run.proofs.CoverLaws.{Covers-sealed, Covers-part, Safe-covered}
+use Rattle.thy_run.proofs.CoverLaws.{Covers-fault, Covers-part, Safe-covered}
 use Rattle.thy_run.proofs.ImageLaws.{ImagesFit, AllFit-events}
 use Rattle.thy_run.proofs.ImageLemmas.{AllFit-append, AllFit-ends, AllFit-part}
 use Rattle.thy_run.proofs.ListedLemmas.{cuts_among-append}
@@ -109,7 +110,9 @@ module _ {M : Type 0} (K : KindOf M) (o : Origin) (given : Given) (w : World M) 
         picks_listed = f.framed.picks ∙ p.picks_listed;
         fits_stay = f.framed.fits ∙ keeps.fits;
         room = leaves_room given w.passed w.events n (StaysFitted-framed given w.passed w.device n f.framed keeps) g.listed.few (ap length left ∙ g.stands.left) fit.1;
-        safe_at_return = Safe-covered K o m.kept m.sealed (seen K o w).done (seen K o w).sealed n (Covers-sealed o (seen K o w) m g.stands.fits) f.safe;
+        safe_at_return =
+            let action = f.acted.failed.action in
+            Safe-covered K o m.kept m.sealed (seen K o w).done (doubt_after_fault action (seen K o w)) n (Covers-fault o (seen K o w) m action g.stands.fits) f.safe;
         soon = soon;
       }
 

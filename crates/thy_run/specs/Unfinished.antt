@@ -3,6 +3,7 @@ use Rattle.std.specs.Prelude.{◌≡◌, ◌≢◌, ◌⊎◌, ℕ, true, false,
 use Rattle.thy_base.specs.Counts.{Rose}
 use Rattle.thy_base.specs.Device.{Device, HasFailed, IsFramed}
 use Rattle.thy_base.specs.Mix.{mix_pick}
+use Rattle.thy_view.specs.Action.{doubt_after_fault}
 use Rattle.thy_view.specs.Kind.{CycleFailed, KindOf}
 use Rattle.thy_text.specs.Event.{Event}
 use Rattle.thy_view.specs.Views.{is_halt}
@@ -11,11 +12,12 @@ use Rattle.thy_view.specs.Safe.{Safe}
 use Rattle.thy_run.specs.Cuts.{has_ended}
 use Rattle.thy_run.specs.World.{World, Given, seen, is_due, TakesStep, Ran}
 
--- the machine's step failed with a fault of the device
+-- the machine's step failed with a fault of the device, whose sealed checkpoint is in doubt only if its commit block was written
+-- before, or this was its write
 pub record StepFailed {M : Type 0} (K : KindOf M) (o : Origin) (w : World M) (events : List Event) (n : Device) : Type 0 where
   pub going : is_halt (seen K o w).phase ≡ false
-  pub safe : Safe K.decode o (seen K o w).done (seen K o w).sealed n
   pub acted : CycleFailed K o (mix_pick w.mix) w.machine w.device n
+  pub safe : Safe K.decode o (seen K o w).done (doubt_after_fault acted.failed.action (seen K o w)) n
   pub framed : IsFramed w.device n
   pub rose : Rose w.device.faults n.faults
   pub nothing_told : events ≡ w.events
