@@ -55,7 +55,10 @@ fn loaded(word: u32, at: u64) -> Option<u64> {
     regs.set(Reg::new(5), at);
     match word_effect(word, PC, &regs) {
         Effect::Read {
-            at, width, extend, ..
+            at,
+            width,
+            extend,
+            ..
         } => {
             let _size = bytes_in(width);
             let from = place(at)?;
@@ -72,7 +75,10 @@ fn stored(word: u32, at: u64) -> Option<(u64, u64)> {
     regs.set(Reg::new(6), SOURCE);
     match word_effect(word, PC, &regs) {
         Effect::Write {
-            at, width, value, ..
+            at,
+            width,
+            value,
+            ..
         } => {
             let size = bytes_in(width) as usize;
             let from = place(at)?;

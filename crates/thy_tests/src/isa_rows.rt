@@ -20,9 +20,7 @@ pub(crate) const ANSWERS: [(u32, u64, u64, u64); 2] = [
 ];
 
 /// Breakpoints.
-pub(crate) const BREAKS: [u32; 1] = [
-    0x00100073,
-];
+pub(crate) const BREAKS: [u32; 1] = [0x00100073];
 
 /// What is loaded from.
 pub(crate) const MEMORY: [u8; 16] = [

@@ -184,11 +184,15 @@ ShowsConsole K from m n result =
     (o : Origin) (k : ℕ) (done : Mark) → K.is_at o k m n → is_boot (K.view o m n).phase ≡ false
     → (K.view o m n).done ≡ Some done → IfOk result (λ b. bytes_of b ≡ drop from (at o done.count).console)
 
--- at a moment behind the boot, where that console has no byte from there on, the device is left alone, and no fault of it is told
+-- the device was left alone, and no fault of it is told
+abbrev pub ReadsNothing : {T : Type 0} → Device → Device → Result T CoreError → Type 0
+ReadsNothing n new result = (new ≡ n) × (result ≡ Err Nvm → ⊥)
+
+-- at a moment behind the boot, where that console has no byte from there on
 abbrev pub LeavesAlonePast : {M : Type 0} → KindOf M → ℕ → M → Device → Device → Result Bytes CoreError → Type 0
 LeavesAlonePast K from m n new result =
     (o : Origin) (k : ℕ) (done : Mark) → K.is_at o k m n → is_boot (K.view o m n).phase ≡ false
-    → (K.view o m n).done ≡ Some done → length (at o done.count).console ≤ from → (new ≡ n) × (result ≡ Err Nvm → ⊥)
+    → (K.view o m n).done ≡ Some done → length (at o done.count).console ≤ from → ReadsNothing n new result
 
 -- at a moment, whether the boot goes on and has found no checkpoint
 abbrev pub TellsLoading : {M : Type 0} → KindOf M → M → Bool → Type 0

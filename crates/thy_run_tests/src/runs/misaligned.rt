@@ -141,7 +141,8 @@ fn put(memory: &mut [u8], at: usize, size: usize, value: u64)
     }
 }
 
-/// The number that these bytes are, the lowest first, extended by its sign where that is asked.
+/// The number that these bytes are, the lowest first, extended by its sign where that is asked: then `2^(8 * len)` is
+/// taken away from one whose highest bit is set. All of this is modulo `2^64`.
 fn number(bytes: &[u8], signed: bool) -> u64 {
     let mut value = 0;
     let mut weight = 1;
@@ -153,7 +154,11 @@ fn number(bytes: &[u8], signed: bool) -> u64 {
         Some(top) => signed && *top >= 128,
         None => false,
     };
-    if negative { value.wrapping_sub(weight) } else { value }
+    if negative {
+        value.wrapping_sub(weight)
+    } else {
+        value
+    }
 }
 
 /// A program with an access, and how it ends.
@@ -203,7 +208,10 @@ fn run_on(memory: &mut [u8], at: usize, size: usize, kind: Kind)
             put(memory, at, size, STORED);
             0
         }
-        kind => number(memory.get(at..at + size).unwrap_or(&[]), kind == Kind::Signed),
+        kind => number(
+            memory.get(at..at + size).unwrap_or(&[]),
+            kind == Kind::Signed,
+        ),
     };
     put(memory, SP + 64, 8, loaded);
 }
@@ -249,7 +257,8 @@ fn run_row(rt: &impl Abort, alloc: Global, row: &Row) -> Result<(), AllocError> 
     let line = "thynvm plain F --pages 8 --digest";
     expect_of(rt, alloc, line, file, row.status, end)?;
     let report = format!(in alloc;
-        "commit 0 overlapped 0\nepoch 1 ends at {count} by end\ncommit 1 overlapped 0\n{end}")?;
+        "commit 0 overlapped 0\nepoch 1 ends at {count} by end\ncommit 1 overlapped 0\n{end}"
+    )?;
     for cache in &CACHES {
         let line = format!(in alloc; "thynvm run F --pages 8 --btt 8 --ptt 8 --digest {cache}")?;
         expect_of(rt, alloc, line.as_str(), file, row.status, report.as_str())?;
