@@ -5,6 +5,8 @@
 //! those beside the rows of the table that riscv64-linux-gnu-objdump knows no instruction of RV64IM with
 //! FENCE.I for.
 
+ghost use Rattle.std.specs.Prelude.{◌≤◌, IfSome};
+
 use crate::expect::expect;
 use crate::isa_rows::{ANSWERS, BREAKS, EXITS, LOADS, MEMORY, SOURCE, STORES, VECTORS};
 use thy_isa::{
@@ -44,7 +46,9 @@ fn each_instruction_gives_what_an_emulator_gives(rt: HostRuntime) {
 }
 
 /// How many of the 16 bytes stand before an address, or None where fewer than eight come from it on.
-fn place(at: u64) -> Option<usize> {
+fn place(at: u64) -> Option<usize>
+    ensures { IfSome result (λ from. from ≤ 8) }
+{
     let from = at.wrapping_sub(PC);
     if from <= 8 { Some(from as usize) } else { None }
 }
