@@ -1,4 +1,4 @@
-use Rattle.std.proofs.Common.{Result, IfOk, OnErr, subst}
+use Rattle.std.proofs.Common.{Result, IfOk, OnErr, refl, subst}
 use Rattle.thy_base.specs.declared.nvm.NvmError.{NvmError}
 use Rattle.thy_view.specs.declared.did.Did.{Did}
 use Rattle.thy_core_model.specs.Rows.{IsMoment}
@@ -6,6 +6,7 @@ use Rattle.thy_core.specs.Cycles.{IsCycle, HasFailedAs}
 use Rattle.thy_core.specs.Parts.{machine_of, actor_seen}
 use Rattle.thy_core.proofs.TakenLaws.{at_run, moment_of, turned, step_taken, step_failed}
 use Rattle.thy_core.proofs.step.take_step.Goals as goal
+use Rattle.thy_core.proofs.step.take_step.Goals.{in-Ok, in-Err}
 
 pub queued-requires : goal.queued-requires
 queued-requires g c =
@@ -27,8 +28,8 @@ cycle-requires g c =
       turn = turned K run.o run.cycles c.args.pick c.queued.result (actor_seen c.turn_now-actor.result) m n (moment_of K run.o run.cycles m n at) c.queued.ensures c.turn_now-actor.ensures;
     }
 
-pub returns-in-Ok-clause-steps : goal.returns-in-Ok-clause-steps
-returns-in-Ok-clause-steps g c = λ o k begins sound few.
+pub returns-clause-steps : goal.returns-clause-steps
+returns-clause-steps g c = λ o k begins sound few.
     let K = g.S.Scheme.scheme in
     let m = machine_of c.args.m.now in
     let n = g.N.Nvm.device c.args.nvm.now in
@@ -37,14 +38,41 @@ returns-in-Ok-clause-steps g c = λ o k begins sound few.
     let actor = actor_seen c.turn_now-actor.result in
     let at = at_run K g.met.S.Scheme.lawful o k m n sound few in
     let turn = turned K o k c.args.pick c.queued.result actor m n (moment_of K o k m n at) c.queued.ensures c.turn_now-actor.ensures in
-    let led : IsCycle K o k actor c.in-Ok.did m n next new =
-    subst (λ (r : Result Did NvmError). IfOk r (λ did. IsCycle K o k actor did m n next new)) c.in-Ok.is (c.cycle.ensures.leads o k begins at turn) in
-    step_taken K o k c.args.pick c.queued.result actor m next n new
-    (record { did = c.in-Ok.did; stall = c.told_stall.result; ended = c.has_halted.result })
-    at c.queued.ensures c.turn_now-actor.ensures led c.told_stall.ensures c.has_halted.ensures
+    let leads = c.cycle.ensures.leads o k begins at turn in
+    elim c.match-cycle.branch [
+      | in-Ok w ↦
+          let led : IsCycle K o k actor w.in-Ok.did m n next new =
+          subst (λ (r : Result Did NvmError). IfOk r (λ did. IsCycle K o k actor did m n next new)) w.in-Ok.is leads in
+          rw w.result-is
+          (rw w.m-is
+          (step_taken K o k c.args.pick c.queued.result actor m next n new
+          (record { did = w.in-Ok.did; stall = w.told_stall.result; ended = w.has_halted.result })
+          at c.queued.ensures c.turn_now-actor.ensures led w.told_stall.ensures w.has_halted.ensures))
+      | in-Err w ↦ rw w.result-is tt
+    ]
 
-pub returns-in-Ok-clause-failed : goal.returns-in-Ok-clause-failed
-returns-in-Ok-clause-failed g c =
+pub returns-clause-safe : goal.returns-clause-safe
+returns-clause-safe g c = λ o k begins sound.
+    let K = g.S.Scheme.scheme in
+    let m = machine_of c.args.m.now in
+    let n = g.N.Nvm.device c.args.nvm.now in
+    let next = machine_of c.cycle.new.m in
+    let new = g.N.Nvm.device c.cycle.new.nvm in
+    let actor = actor_seen c.turn_now-actor.result in
+    let at : IsMoment K o k m n = record { lawful = g.met.S.Scheme.lawful; sound = sound } in
+    let turn = turned K o k c.args.pick c.queued.result actor m n at c.queued.ensures c.turn_now-actor.ensures in
+    let fails = c.cycle.ensures.fails o k begins at turn in
+    elim c.match-cycle.branch [
+      | in-Ok w ↦ rw w.result-is tt
+      | in-Err w ↦
+          let failed : HasFailedAs K o actor m next n new =
+          subst (λ (r : Result Did NvmError). OnErr r (HasFailedAs K o actor m next n new)) w.in-Err.is fails in
+          rw w.result-is
+          (rw w.m-is (step_failed K o k c.args.pick c.queued.result actor m next n new at c.queued.ensures c.turn_now-actor.ensures failed))
+    ]
+
+pub returns-clause-failed : goal.returns-clause-failed
+returns-clause-failed g c =
     let K = g.S.Scheme.scheme in
     let m = machine_of c.args.m.now in
     let n = g.N.Nvm.device c.args.nvm.now in
@@ -54,20 +82,11 @@ returns-in-Ok-clause-failed g c =
     let actor = actor_seen c.turn_now-actor.result in
     let at = at_run K g.met.S.Scheme.lawful run.o run.cycles m n run.at_moment run.few in
     let turn = turned K run.o run.cycles c.args.pick c.queued.result actor m n (moment_of K run.o run.cycles m n at) c.queued.ensures c.turn_now-actor.ensures in
-    let led : IsCycle K run.o run.cycles actor c.in-Ok.did m n next new =
-    subst (λ (r : Result Did NvmError). IfOk r (λ did. IsCycle K run.o run.cycles actor did m n next new)) c.in-Ok.is (c.cycle.ensures.leads run.o run.cycles run.begins at turn) in
-    led.leads.at_next.unfailed
-
-pub returns-in-Err-clause-safe : goal.returns-in-Err-clause-safe
-returns-in-Err-clause-safe g c = λ o k begins sound.
-    let K = g.S.Scheme.scheme in
-    let m = machine_of c.args.m.now in
-    let n = g.N.Nvm.device c.args.nvm.now in
-    let next = machine_of c.cycle.new.m in
-    let new = g.N.Nvm.device c.cycle.new.nvm in
-    let actor = actor_seen c.turn_now-actor.result in
-    let at : IsMoment K o k m n = record { lawful = g.met.S.Scheme.lawful; sound = sound } in
-    let turn = turned K o k c.args.pick c.queued.result actor m n at c.queued.ensures c.turn_now-actor.ensures in
-    let failed : HasFailedAs K o actor m next n new =
-    subst (λ (r : Result Did NvmError). OnErr r (HasFailedAs K o actor m next n new)) c.in-Err.is (c.cycle.ensures.fails o k begins at turn) in
-    step_failed K o k c.args.pick c.queued.result actor m next n new at c.queued.ensures c.turn_now-actor.ensures failed
+    let leads = c.cycle.ensures.leads run.o run.cycles run.begins at turn in
+    elim c.match-cycle.branch [
+      | in-Ok w ↦
+          let led : IsCycle K run.o run.cycles actor w.in-Ok.did m n next new =
+          subst (λ (r : Result Did NvmError). IfOk r (λ did. IsCycle K run.o run.cycles actor did m n next new)) w.in-Ok.is leads in
+          rw w.result-is (rw w.m-is led.leads.at_next.unfailed)
+      | in-Err w ↦ rw w.result-is (rw w.m-is refl)
+    ]
