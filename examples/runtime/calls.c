@@ -21,7 +21,7 @@ unsigned long move_break(unsigned long to) {
     return (unsigned long)call(214, (long)to, 0, 0);
 }
 
-void exit(int code) {
+void _exit(int code) {
     call(93, code, 0, 0);
     __builtin_unreachable();
 }

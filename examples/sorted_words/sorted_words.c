@@ -1,69 +1,8 @@
 // Reads words from the input, one a line, keeps them on the heap and prints them sorted, each with how often it
-// came. Built against picolibc: printf, malloc, qsort and strcmp are its own; what it asks of a system stands below.
-#include <errno.h>
+// came. The exit code is 1 where the heap or the console is too small. Built against picolibc.
 #include <stdio.h>
 #include <stdlib.h>
 #include <string.h>
-#include <unistd.h>
-#include "../runtime/calls.h"
-
-// ---- what picolibc asks of the system
-
-static char out[64];
-static int waiting;
-
-static int flush_out(FILE *file) {
-    (void)file;
-    int done = 0;
-    while (done < waiting) {
-        long taken = write_some(1, out + done, (unsigned long)(waiting - done));
-        if (taken < 0) {
-            return -1;
-        }
-        done += (int)taken;
-    }
-    waiting = 0;
-    return 0;
-}
-
-static int put(char c, FILE *file) {
-    if (waiting == (int)sizeof out && flush_out(file) != 0) {
-        return EOF;
-    }
-    out[waiting++] = c;
-    return (unsigned char)c;
-}
-
-static int get(FILE *file) {
-    (void)file;
-    static char in[64];
-    static long held, next;
-    if (next == held) {
-        held = read_some(0, in, sizeof in);
-        next = 0;
-        if (held <= 0) {
-            held = 0;
-            return EOF;
-        }
-    }
-    return (unsigned char)in[next++];
-}
-
-static FILE console = FDEV_SETUP_STREAM(put, get, flush_out, _FDEV_SETUP_RW);
-FILE *const stdin = &console;
-FILE *const stdout = &console;
-FILE *const stderr = &console;
-
-void *sbrk(ptrdiff_t more) {
-    unsigned long end = move_break(0);
-    if (move_break(end + (unsigned long)more) != end + (unsigned long)more) {
-        errno = ENOMEM;
-        return (void *)-1;
-    }
-    return (void *)end;
-}
-
-// ---- the program
 
 struct word {
     struct word *next;
@@ -120,5 +59,5 @@ int main(void) {
         printf("%4u %s\n", sorted[i]->times, sorted[i]->text);
     }
     printf("%lu words\n", (unsigned long)count);
-    return fflush(stdout) == 0 ? 0 : 1;
+    return fflush(stdout) == 0 && !ferror(stdout) ? 0 : 1;
 }
