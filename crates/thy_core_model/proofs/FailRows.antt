@@ -15,15 +15,15 @@ use Rattle.thy_view.specs.declared.view.View.{View}
 use Rattle.thy_view.specs.Action.{Action, Rest, ReadAt, WriteAt, Barrier as ActBarrier, Drain, Asks, IsAccess, is_commit_write, doubt_after_fault}
 use Rattle.thy_view.specs.Origin.{Origin}
 use Rattle.thy_view.specs.Safe.{Safe}
-use Rattle.thy_view.specs.Turn.{Shortage, has_stopped, waits}
+use Rattle.thy_view.specs.Turn.{has_stopped, waits}
 use Rattle.thy_view.specs.Views.{doubt_of}
 use Rattle.thy_view.proofs.SafeLemmas.{Safe-failed}
 use Rattle.thy_scheme.specs.Marks.{Marks, doubt_in, marks_after_fault}
 use Rattle.thy_scheme.specs.Scheme.{SchemeOf, Stands}
 use Rattle.thy_scheme.specs.Calls.{IsOneAccess, engine_did}
 use Rattle.thy_scheme.specs.Laws.{is_free_to_run, IsLawful}
+use Rattle.thy_core_model.specs.Machine.{Machine, run_view, view_in, view_of, shortage_of, pressure_of, short_of}
 use Rattle.thy_cache.specs.Contents.{dirty_count}
-use Rattle.thy_core_model.specs.Machine.{Machine, run_view, view_in, view_of, short_of, pressure_of}
 use Rattle.thy_core_model.specs.Sound.{SoundRun, SoundIn}
 use Rattle.thy_core_model.specs.Rows.{IsMoment}
 use Rattle.thy_core_model.specs.Failures.{Fails, HartFails, FlushFails, PromotionLeaves, EngineLeaves, BootLeaves, DrainFails}
@@ -63,16 +63,12 @@ doubt-engine lap (Committed epoch) k a h = doubt-is a ActBarrier k h
 
 -- ---- who doesn't wait may store
 
--- a hart that the checkpoint bars is short of entries, so it waits
-not_barred : (way sealed overlaps over stopped promotes : Bool) (short : Option Shortage) → way ≡ sealed
-    → (sealed && (over || is_some (if way && not overlaps then Some (record { free = 0; dirty = 0; need = 1 }) else short) || (stopped && not promotes))) ≡ false
-    → (overlaps || not way) ≡ true
-not_barred false sealed true over stopped promotes short same e = refl
-not_barred false sealed false over stopped promotes short same e = refl
-not_barred true sealed true over stopped promotes short same e = refl
-not_barred true false false over stopped promotes short same e = absurd (cc)
-not_barred true true false true stopped promotes short same e = absurd (cc)
-not_barred true true false false stopped promotes short same e = absurd (cc)
+-- a hart that the checkpoint bars waits
+not_barred : (way overlaps over short ends : Bool) → (way && ((way && not overlaps) || over || short || ends)) ≡ false → (overlaps || not way) ≡ true
+not_barred false true over short ends e = refl
+not_barred false false over short ends e = refl
+not_barred true true over short ends e = refl
+not_barred true false over short ends e = absurd (cc)
 
 goes_on : (waiting : Bool) (rest : Option Stall) → (if waiting then Some Waiting else rest) ≡ None → waiting ≡ false
 goes_on true rest e = absurd (cc)
@@ -101,8 +97,7 @@ module _ {S : Type 0} (K : SchemeOf S) (o : Origin) (cycles : ℕ) (m : Machine 
   free_to_run : waits o (view_of K o m n) (pressure_of K m) ≡ false → is_free_to_run K m.scheme ≡ true
   free_to_run calm =
       let plain : waits o (run_view m) (pressure_of K m) ≡ false = subst (λ v. waits o v (pressure_of K m) ≡ false) view_is calm in
-      not_barred (K.under_way m.scheme) (is_some m.marks.sealed) K.overlaps (is_some m.hart.epoch.over) (has_stopped o m.marks.sealed) (K.promoting m.scheme)
-      (short_of (K.free m.scheme) (dirty_count m.cache) m.hart.hand) (at.lawful.run_holds o m.marks m.scheme n stands).way plain
+      not_barred (K.under_way m.scheme) K.overlaps (is_some m.hart.epoch.over) (is_some (shortage_of K m)) (has_stopped o m.marks.sealed && not (K.promoting m.scheme)) plain
 
   -- what is safe for the marks is so for the view
   safe_for_view : (a : Action) → Safe K.decode o (Some m.marks.done) (doubt_by a m.marks) new

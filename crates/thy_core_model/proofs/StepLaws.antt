@@ -45,6 +45,7 @@ leading_is_step K o cycles pick m next n new r at leads turn ended = record {
   acts = leads.acts;
   dram = leads.dram;
   pace = leads.pace;
+  works = leads.works;
   nears = cycles_come_nearer (most_spent K o.geometry) o (view_of K o m n) (view_of K o next new) r.did (gauge_of K m n) (gauge_of K next new)
       (fresh_in K at.lawful o cycles m n at.sound m.phase refl) leads.step leads.pace;
   exhausts = leads.exhausts;

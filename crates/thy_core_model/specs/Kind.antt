@@ -48,11 +48,14 @@ kind_over K = record {
   failed = λ m. m.failed;
   has_read = has_read_of K;
   dram = λ m. K.dram m.scheme;
+  overlaps = K.overlaps;
   pressure = pressure_of K;
   gauge = gauge_of K;
   ahead = ahead_of K;
   most_spent = most_spent K;
   most_booting = K.most_booting;
+  most_owed = K.most_owed;
+  most_promotions = K.most_promotions;
   most_boot = most_ahead K;
   most_each = most_each_of K;
 }

@@ -1,11 +1,12 @@
 -- What holds of the machine at every moment of a run.
-use Rattle.std.specs.Prelude.{◌≡◌, ◌≢◌, ℕ, ◌+◌, ◌^◌, ◌<◌, ◌≤◌, not, true, false, Bool, [], length, Option, Some, None}
+use Rattle.std.specs.Prelude.{◌≡◌, ◌≢◌, ℕ, ◌+◌, ◌^◌, ◌<◌, ◌≤◌, ◌==◌, not, true, false, Bool, length, Option, Some, None, []}
 use Rattle.thy_base.specs.declared.cause.EndCause.{EndCause}
 use Rattle.thy_base.specs.declared.config.Parameters.{Parameters}
 use Rattle.thy_base.specs.declared.mark.Mark.{Mark}
 use Rattle.thy_base.specs.Device.{Device}
 use Rattle.thy_cache.specs.Contents.{Contents, dirty_count, IsOpenForFlush}
 use Rattle.thy_cache.specs.Flat.{Agrees, AgreesWithAll, ReadsAsStore}
+use Rattle.thy_flat.specs.declared.span.Span.{Span}
 use Rattle.thy_epoch.specs.Epoch.{HasRetired}
 use Rattle.thy_hart.specs.declared.hand.Hand.{Hand}
 use Rattle.thy_hart.specs.declared.hand.Hand.TheVariants.{Nothing, Reading, Reserving, Writing, Retiring}
@@ -18,6 +19,7 @@ use Rattle.thy_view.specs.declared.view.Phase.TheVariants.{Boot, Run, Halt}
 use Rattle.thy_view.specs.declared.view.View.{View}
 use Rattle.thy_view.specs.Kind.{without_memory}
 use Rattle.thy_view.specs.Origin.{Origin, IsOrigin, at, runs_at}
+use Rattle.thy_view.specs.Stores.{stored_by}
 use Rattle.thy_view.specs.Turn.{has_stopped}
 use Rattle.thy_view.specs.Views.{is_boot}
 use Rattle.thy_scheme.specs.Scheme.{SchemeOf}
@@ -51,6 +53,14 @@ pub record IsHeld {S : Type 0} (K : SchemeOf S) (m : Machine S) (n : Device) : T
   pub agree : Agrees m.cache (K.holding m.scheme n).blocks
   pub room : dirty_count m.cache + reserved m.hart.hand ≤ K.free m.scheme
   pub opened : OpenNow m.hart.epoch.over m.cache m.hart (K.holding m.scheme n).open_page
+
+-- before room is reserved, what the instruction in hand is to write is what the plain machine's writes
+abbrev pub IsToWrite : Span → Hand → Type 0
+IsToWrite stored Nothing = Unit {0}
+IsToWrite stored (Reading e from to) = to ≡ stored
+IsToWrite stored (Reserving e to) = (to ≡ stored) × ((to.len == 0) ≡ false)
+IsToWrite stored (Writing e to done) = Unit {0}
+IsToWrite stored (Retiring e wrote) = Unit {0}
 
 -- the hart is where the plain machine is that has retired as many instructions
 pub record IsCounted {S : Type 0} (o : Origin) (m : Machine S) : Type 0 where
@@ -125,6 +135,7 @@ pub record SoundRun {S : Type 0} (K : SchemeOf S) (o : Origin) (m : Machine S) (
   pub checkpoints : K.is_sound o m.marks m.scheme n
   pub held : IsHeld K m n
   pub follows : Follows o.input (at o m.hart.cpu.count) m.hart (memory_of K m n)
+  pub writes : IsToWrite (stored_by o (at o m.hart.cpu.count)) m.hart.hand
   pub counted : IsCounted o m
   pub epoch : IsEpoch o m
   pub numbered : IsNumbered o m

@@ -49,7 +49,7 @@ use Rattle.thy_commit.proofs.TableLemmas.{items_move_tables, items_tell}
 use Rattle.thy_commit.proofs.WrittenLemmas.{items_write}
 use Rattle.thy_scheme.specs.Marks.{Marks, only, doubt_in, marks_after, marks_after_fault}
 use Rattle.thy_scheme.specs.Scheme.{Stands}
-use Rattle.thy_scheme.specs.Calls.{IsDue, engine_did, Keeps, Engines, EngineFails}
+use Rattle.thy_scheme.specs.Calls.{IsDue, engine_did, Keeps, OwesNoMore, OwesAfter, Engines, EngineFails}
 use Rattle.thy_view.specs.declared.did.Did.{Did}
 use Rattle.thy_dual_model.specs.Dual.{Dual, is_promoting}
 use Rattle.thy_dual_model.specs.Scheme.{dual_scheme}
@@ -102,6 +102,17 @@ fewer-overlays (SlotItem j) s t h = omega (arith, h)
 fewer-overlays SettleItem s t h = omega (arith, h)
 fewer-overlays CommitItem s t h = omega (arith, h)
 fewer-overlays ConfirmItem s t h = h
+
+-- no step lets copies be owed that were not
+owes-after : (step : EngineStep) (s : Dual) (n : Device) (t : Dual) (new : Device) → OwesNoMore dual_scheme s n t new → OwesAfter step dual_scheme s n t new
+owes-after Idle s n t new l = l
+owes-after Copied s n t new l = l
+owes-after PageBlock s n t new l = l
+owes-after StateBlock s n t new l = l
+owes-after TableBlock s n t new l = l
+owes-after Barrier s n t new l = l
+owes-after CommitWritten s n t new l = l
+owes-after (Committed epoch) s n t new l = tt
 
 -- ---- a step
 
@@ -336,7 +347,7 @@ module _ (o : Origin) (k : Marks) (s : Dual) (n : Device) (stands : Stands dual_
   due (PageItem j) is = tt
   due (SlotItem j) is = due-slot k (nat_lt j 5)
   due SettleItem is = tt
-  due CommitItem is = tt
+  due CommitItem is = (made.mark, sym sound.checkpoints.sealed ∙ made.sealed)
   due ConfirmItem is =
       let confirm : e.next ≡ Confirm = back-item e.next c Confirm (ap back is) in
       (sound.written ∙ ap is_confirming confirm, (made.mark, sym sound.checkpoints.sealed ∙ made.sealed, made.of_epoch))
@@ -346,7 +357,7 @@ module _ (o : Origin) (k : Marks) (s : Dual) (n : Device) (stands : Stands dual_
   keeps-after i a count = record {
     held = record { blocks = a.store.holding.blocks; free = a.store.holding.free; opened = inl refl };
     left = record {
-      owed = a.store.holding.owed;
+      owed = omega (arith, a.store.holding.owed);
       engine = omega (arith, count);
       merges = fewer-overlays i c (state_after i c n) a.store.overlays_are;
       promotions = omega (arith, a.store.unfilled_same);
@@ -368,6 +379,7 @@ module _ (o : Origin) (k : Marks) (s : Dual) (n : Device) (stands : Stands dual_
         due = due (item_of e c) refl;
         sound = sound-after (item_of e c) refl a;
         keeps = keeps-after (item_of e c) a count;
+        owes = owes-after (answer e.epoch (item_of e c)) s n (record s { control = state_next e c n; engine = engine_next e c }) (device_next e c n) a.store.holding.owed;
         acts = acts-as;
         dram = (IsWrite-after e (item_of e c) c n).dram;
         queue = (IsWrite-after e (item_of e c) c n).queue;

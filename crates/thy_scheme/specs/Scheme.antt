@@ -25,8 +25,10 @@ pub record SchemeOf (S : Type 0) : Type 1 where
   pub committed : S → Device → List Block
   -- what loads and stores keep, those that fail too, over any number of them
   pub stays : S → Device → S → Device → Type 0
-  -- a checkpoint is under way
+  -- a checkpoint is under way: an epoch is sealed, or what its checkpoint has written is applied
   pub under_way : S → Bool
+  -- what a committed checkpoint has written is still to be applied
+  pub applies : S → Bool
   -- a block has still to be merged into its page before a seal
   pub overlaid : S → Bool
   -- a block of a page has still to be promoted before a store
@@ -43,6 +45,8 @@ pub record SchemeOf (S : Type 0) : Type 1 where
   -- how many writes are queued in it, and how many table entries are free
   pub queued : S → ℕ
   pub free : S → ℕ
+  -- copies that the next commit may add to those that are owed
+  pub owed_later : S → ℕ
   -- behind the boot: scheme and NVM have the checkpoints of these marks
   pub is_sound : Origin → Marks → S → Device → Type 0
   -- in the boot: scheme and NVM have the checkpoint that is found, or load the program
@@ -59,7 +63,7 @@ pub record SchemeOf (S : Type 0) : Type 1 where
   pub most_engine : Parameters → ℕ
   pub most_merges : Parameters → ℕ
   pub most_promotions : Parameters → ℕ
-  -- the most copies that may be owed, and the most entries
+  -- the most copies that may be owed, with those that a commit may add, and the most entries
   pub most_owed : Parameters → ℕ
   pub most_free : Parameters → ℕ
 

@@ -88,7 +88,7 @@ pub trait Scheme: Drop {
     fn promoting(&self) -> bool
         ensures { result ≡ scheme.promoting self.now };
 
-    /// Whether a checkpoint is under way.
+    /// Whether a checkpoint is under way: an epoch is sealed, or what its checkpoint has written is applied.
     fn under_way(&self) -> bool
         ensures { result ≡ scheme.under_way self.now };
 

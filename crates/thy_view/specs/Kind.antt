@@ -1,5 +1,5 @@
 -- What a machine is to the layers above: what is seen of it, what its calls promise, and the laws that hold of it.
-use Rattle.std.specs.Prelude.{◌≡◌, ℕ, ◌+◌, ◌*◌, ◌^◌, ◌<◌, ◌≤◌, ◌⊎◌, ◌&&◌, Bool, true, false, List, [], length, drop, Option, Some, Result, Err, IfOk, OnErr}
+use Rattle.std.specs.Prelude.{◌≡◌, ℕ, ◌+◌, ◌*◌, ◌^◌, ◌<◌, ◌≤◌, ◌&&◌, ◌||◌, not, is_some, Bool, true, false, List, [], length, drop, Option, Some, None, Result, IfOk, OnErr, ◌⊎◌, Err}
 use Rattle.thy_base.specs.declared.block.Block.{Block}
 use Rattle.thy_base.specs.declared.config.Parameters.{Parameters}
 use Rattle.thy_base.specs.declared.mix.Pick.{Pick}
@@ -32,8 +32,10 @@ use Rattle.thy_view.specs.Safe.{ceiling, Safe}
 use Rattle.thy_view.specs.Action.{Acts, ActionFailed, doubt_after_fault}
 use Rattle.thy_view.specs.Dram.{LeavesDram}
 use Rattle.thy_view.specs.Pace.{Gauge, retires, KeepsPace}
+use Rattle.thy_view.specs.Stores.{needs_at}
 use Rattle.thy_view.specs.Turn.{Turn, Shortage, Pressure, over_by}
 use Rattle.thy_view.specs.Views.{is_boot, is_between, is_halt, halts, loads, doubt_of}
+use Rattle.thy_view.specs.Work.{Works, IsWithin}
 
 -- what is seen of machines of a type
 pub record KindOf (M : Type 0) : Type 1 where
@@ -54,6 +56,8 @@ pub record KindOf (M : Type 0) : Type 1 where
   pub has_read : M → Bool
   -- what the DRAM holds
   pub dram : M → Contents
+  -- the hart may run while a checkpoint is under way
+  pub overlaps : Bool
   pub pressure : M → Pressure
   pub gauge : M → Device → Gauge
   -- cycles that are left until the next instruction, or the end, at the most
@@ -61,6 +65,9 @@ pub record KindOf (M : Type 0) : Type 1 where
   -- an epoch spends less than this many cycles of hart and engine, and a boot has at most so many actions
   pub most_spent : Parameters → ℕ
   pub most_booting : Parameters → ℕ
+  -- the most copies that may be owed, and blocks that may have to be promoted
+  pub most_owed : Parameters → ℕ
+  pub most_promotions : Parameters → ℕ
   -- what lies ahead when power comes on, and what an instruction adds, at the most
   pub most_boot : Parameters → ℕ
   pub most_each : Parameters → ℕ
@@ -100,8 +107,8 @@ CanSnapshot K m n = CanRead K m n ⊎ HasStopped K m
 -- A step that succeeded leads to the next moment of the run, by a step of the view, and was its pick's turn. Whatever
 -- a power cut then leaves is the committed checkpoint, whole, or the one in doubt. A step that finds an empty queue, as
 -- the boot's first does, reads the commit block where that is still to be read. It acts on the device once, or reads it
--- and writes one block of the DRAM, keeps within the bounds, and is a cycle nearer to the next instruction. In a boot that
--- found a checkpoint it leaves the device as it was.
+-- and writes one block of the DRAM, keeps within the bounds, is a cycle nearer to the next instruction, and gets done what it
+-- says that it did. In a boot that found a checkpoint it leaves the device as it was.
 pub record IsStep {M : Type 0} (K : KindOf M) (o : Origin) (k : ℕ) (pick : Pick) (m next : M) (n new : Device) (r : Stepped) : Type 0 where
   pub at_next : K.is_at o (k + 1) next new
   pub step : CoreStep o (K.view o m n) r.did (K.view o next new)
@@ -109,6 +116,7 @@ pub record IsStep {M : Type 0} (K : KindOf M) (o : Origin) (k : ℕ) (pick : Pic
   pub acts : Acts r.did n new
   pub dram : LeavesDram r.did n new (K.dram m) (K.dram next)
   pub pace : KeepsPace (K.most_spent o.geometry) (K.view o m n) (K.view o next new) r.did (K.gauge m n) (K.gauge next new)
+  pub works : Works r.did (K.gauge m n) (K.gauge next new) n new (K.dram m) (K.dram next)
   pub nears : is_halt (K.view o m n).phase ≡ false → K.ahead o next new + 1 ≤ K.ahead o m n + K.most_each o.geometry * retires r.did
   pub exhausts : r.did ≡ Moved → (K.view o next new).over ≡ over_by (K.pressure m).short
   pub ended : r.ended ≡ halts (K.view o m n) (K.view o next new)
@@ -211,6 +219,19 @@ pub record IsPoweredOn {M : Type 0} (K : KindOf M) (o : Origin) (m : M) (n : Dev
   pub boot_left : (K.gauge m n).boot_left ≤ K.most_booting o.geometry
   pub ahead : K.ahead o m n ≤ K.most_boot o.geometry
 
+-- a checkpoint is under way while a mark is sealed, or while the scheme applies what one has written, and never both
+pub record IsUnderWay (sealed : Option Mark) (p : Pressure) : Type 0 where
+  pub way : p.under_way ≡ (is_some sealed || p.applies)
+  pub apart : p.applies ≡ true → sealed ≡ None
+
+-- a shortage is real: fewer entries are free than the dirty lines and the blocks need that the plain machine's next instruction
+-- stores to
+pub record IsShortage (o : Origin) (v : View) (g : Gauge) (s : Shortage) : Type 0 where
+  pub free : s.free ≡ g.free
+  pub dirty : s.dirty ≡ g.dirty
+  pub need : s.need ≡ needs_at o v.count
+  pub short : s.free < s.dirty + s.need
+
 -- what holds of every machine of a type
 pub record IsLawful {M : Type 0} (K : KindOf M) : Type 0 where
   -- power can come on
@@ -238,9 +259,17 @@ pub record IsLawful {M : Type 0} (K : KindOf M) : Type 0 where
   -- the gauge counts what is queued in the NVM and in the DRAM
   pub counts_queues : (m : M) (n : Device) → (K.gauge m n).queued ≡ length n.queue + (K.pressure m).dram
   pub counts_dram : (m : M) → (K.pressure m).dram ≡ (K.dram m).queued
-  -- an instruction that is short of entries is short of those that the gauge tells
-  pub short_of : (m : M) (n : Device) (s : Shortage)
-      → (K.pressure m).short ≡ Some s → (s.free ≡ (K.gauge m n).free) × (s.dirty ≡ (K.gauge m n).dirty)
+  -- a shortage is a real one
+  pub short_of : (o : Origin) (k : ℕ) (m : M) (n : Device) (s : Shortage)
+      → K.is_at o k m n → (K.pressure m).short ≡ Some s → IsShortage o (K.view o m n) (K.gauge m n) s
+  -- after the boot, a checkpoint is under way exactly while a mark is sealed or what one has written is applied
+  pub under_way : (o : Origin) (k : ℕ) (m : M) (n : Device)
+      → K.is_at o k m n → is_boot (K.view o m n).phase ≡ false → IsUnderWay (K.view o m n).sealed (K.pressure m)
+  -- the hart is barred exactly while one is under way and may not run beside it
+  pub barred : (m : M) → (K.pressure m).barred ≡ ((K.pressure m).under_way && not K.overlaps)
+  -- little is left of an instruction, to be copied and to be promoted
+  pub few_left : (o : Origin) (k : ℕ) (m : M) (n : Device)
+      → K.is_at o k m n → IsWithin (K.most_owed o.geometry) (K.most_promotions o.geometry) (K.gauge m n)
   -- whatever a power cut leaves at a moment is the committed checkpoint, whole, or the one in doubt
   pub is_safe : (o : Origin) (k : ℕ) (m : M) (n : Device)
       → K.is_at o k m n → Safe K.decode o (K.view o m n).done (doubt_of (K.view o m n)) n
