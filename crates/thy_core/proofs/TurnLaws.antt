@@ -15,7 +15,7 @@ use Rattle.thy_scheme.specs.Scheme.{SchemeOf}
 use Rattle.thy_core_model.specs.Machine.{Machine, view_in, view_of, shortage_of, pressure_of}
 use Rattle.thy_core_model.specs.Rows.{IsMoment}
 use Rattle.thy_core.specs.Turns.{stopped_now, waits_now, stall_now, hart_now, engine_now, turn_now}
-use Rattle.thy_core.specs.Cycles.{IsEngineDue, IsHartsTurn, IsTurnOf}
+use Rattle.thy_core.specs.Cycles.{IsHartsTurn, IsTurnOf}
 use Rattle.thy_core_model.proofs.Facts.{view-run, sound-run}
 use Rattle.thy_core_model.proofs.BootingLaws.{view-boot, holds-boot, uncounted}
 

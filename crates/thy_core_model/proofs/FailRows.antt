@@ -22,8 +22,7 @@ use Rattle.thy_scheme.specs.Marks.{Marks, doubt_in, marks_after_fault}
 use Rattle.thy_scheme.specs.Scheme.{SchemeOf, Stands}
 use Rattle.thy_scheme.specs.Calls.{IsOneAccess, engine_did}
 use Rattle.thy_scheme.specs.Laws.{is_free_to_run, IsLawful}
-use Rattle.thy_core_model.specs.Machine.{Machine, run_view, view_in, view_of, shortage_of, pressure_of, short_of}
-use Rattle.thy_cache.specs.Contents.{dirty_count}
+use Rattle.thy_core_model.specs.Machine.{Machine, run_view, view_in, view_of, shortage_of, pressure_of}
 use Rattle.thy_core_model.specs.Sound.{SoundRun, SoundIn}
 use Rattle.thy_core_model.specs.Rows.{IsMoment}
 use Rattle.thy_core_model.specs.Failures.{Fails, HartFails, FlushFails, PromotionLeaves, EngineLeaves, BootLeaves, DrainFails}

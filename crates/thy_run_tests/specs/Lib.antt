@@ -1,3 +1,4 @@
 pub mod Faulty
 pub mod Powered
 pub mod Scarce
+pub mod Stopping

@@ -22,3 +22,5 @@ mod made;
 mod plain;
 #[cfg(test)]
 mod runs;
+#[cfg(test)]
+mod stopping;

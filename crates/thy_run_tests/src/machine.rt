@@ -24,10 +24,10 @@ use thy_record::{EngineStep, Start};
 use thy_view::{Computer, Did, Stepped};
 
 /// A program, and what its run without cuts comes to.
-struct Row {
-    words: &'static [u32],
+pub(crate) struct Row {
+    pub words: &'static [u32],
     /// How many instructions an epoch has.
-    epoch: u64,
+    pub epoch: u64,
     /// The count at the end of each epoch, and why it ends there.
     ends: &'static [(u64, EndCause)],
     /// How many instructions are retired while each checkpoint is under way, by the schedule of seed 0.
@@ -38,7 +38,7 @@ struct Row {
 
 /// `addi a0,zero,5; addi a0,a0,1; addi a7,zero,93; ecall`, in epochs of one instruction. While the checkpoint of one is
 /// written the next instruction is executed.
-static EPOCH_OF_ONE: Row = Row {
+pub(crate) static EPOCH_OF_ONE: Row = Row {
     words: &[0x00500513, 0x00150513, 0x05d00893, 0x00000073],
     epoch: 1,
     ends: &[
@@ -83,10 +83,10 @@ static NINE_STORES: Row = Row {
 };
 
 /// A run has fewer cycles than this between two cuts.
-const MOST: u64 = 5000;
+pub(crate) const MOST: u64 = 5000;
 
 /// The least memory, with the least tables.
-fn numbers_of(epoch: u64, mix: u64) -> Parameters
+pub(crate) fn numbers_of(epoch: u64, mix: u64) -> Parameters
     ensures pages { result.pages ≡ 8 }
     ensures console { result.console ≡ 1 }
 {
@@ -109,7 +109,7 @@ fn numbers_of(epoch: u64, mix: u64) -> Parameters
 }
 
 /// The start of a program of these words, with no input.
-fn start_for(rt: &impl Abort, alloc: Global, geometry: &Geometry, words: &[u32]) -> Start
+pub(crate) fn start_for(rt: &impl Abort, alloc: Global, geometry: &Geometry, words: &[u32]) -> Start
     requires { program_size geometry.now ≡ 28672 }
     ensures origin { IsOrigin (origin_from geometry.now result) }
     ensures made { result.kept ≡ None }
@@ -125,7 +125,7 @@ fn start_for(rt: &impl Abort, alloc: Global, geometry: &Geometry, words: &[u32])
 }
 
 /// A DRAM that was never on.
-fn new_dram(rt: &impl Abort, alloc: Global, geometry: &Geometry) -> Dram
+pub(crate) fn new_dram(rt: &impl Abort, alloc: Global, geometry: &Geometry) -> Dram
     ensures { IsDramOf geometry.now result }
 {
     Dram::new(alloc, geometry.dram_blocks(), geometry.numbers().dramq).expect(rt, "memory")
@@ -361,7 +361,7 @@ fn finished<M: Computer>(rt: &impl Abort, on: &mut Powered<M>, story: &mut Story
 }
 
 /// The plain machine at each state of a row's program, from its start to its end.
-fn plain_machines(rt: &impl Abort, alloc: Global, row: &Row) -> Vec<Plain> {
+pub(crate) fn plain_machines(rt: &impl Abort, alloc: Global, row: &Row) -> Vec<Plain> {
     let mut plains = Vec::new(alloc);
     for count in 0..100 {
         let mut plain = start_with(rt, alloc, row.words, b"");
@@ -377,7 +377,7 @@ fn plain_machines(rt: &impl Abort, alloc: Global, row: &Row) -> Vec<Plain> {
 }
 
 /// A state without its memory.
-fn cpu_of(state: &MachState) -> CpuState {
+pub(crate) fn cpu_of(state: &MachState) -> CpuState {
     CpuState {
         pc: state.pc,
         regs: state.regs,
