@@ -12,6 +12,8 @@ use Rattle.thy_control.proofs.StoreLemmas.{ready-whole, stored_by, once_stored}
 use Rattle.thy_commit.proofs.FitLemmas.{stays_fit}
 use Rattle.thy_scheme.specs.Calls.{IsOneAccess}
 use Rattle.thy_dual_model.proofs.AccessLemmas.{one-access, store-room, store-up, store-whole, store-stays}
+use Rattle.thy_dual.specs.Calls.{StoresByRule}
+use Rattle.thy_dual.proofs.CallLemmas.{stores_by_rule}
 use Rattle.thy_dual.proofs.dual.DualSchemeScheme.store.Goals as goal
 
 pub invariant_of-self : goal.invariant_of-self
@@ -57,3 +59,14 @@ returns-clause-once g c =
     let stays = store-stays v m t n e.stays (store-room c.args.b c.args.block.now v.control m t n r e.state e.kept) c.tables-2.ensures whole in
     subst (λ (d : Dual). IsOneAccess dual_scheme d m (record v { control = t; rested = false }) n) c.self.view_is
     (one-access v m (record v { control = t; rested = false }) n once works.up stays)
+
+pub returns-clause-made : goal.returns-clause-made
+returns-clause-made g c =
+    let v : Dual = record { control = c.self.inside.control; engine = c.self.inside.engine; rested = c.self.inside.rested; lean = c.self.inside.lean; boot = c.self.inside.boot } in
+    let t : State = c.store-result.new.self in
+    let m : Device = g.N.Nvm.device c.args.nvm.now in
+    let n : Device = g.N.Nvm.device c.store-result.new.nvm in
+    let r : Result Stored NvmError = c.store-result.result in
+    let e = c.store-result.ensures in
+    subst (λ (d : Dual). StoresByRule c.args.b c.args.block.now d m r (record v { control = t; rested = false }) n) c.self.view_is
+    (stores_by_rule c.args.b c.args.block.now v m r t n e.answer e.state e.nvm e.kept e.err)
