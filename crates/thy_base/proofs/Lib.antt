@@ -4,7 +4,9 @@ pub mod DemandLemmas
 pub mod DeviceLemmas
 pub mod InsideLemmas
 pub mod LittleEndianLemmas
+pub mod LoanLemmas
 pub mod PlaceLemmas
 pub mod RangeLemmas
 pub mod Streams
+pub mod WordLemmas
 pub mod WrittenLemmas

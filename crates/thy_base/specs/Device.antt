@@ -1,5 +1,6 @@
 -- What a block device holds, what each call makes of it, and what a power cut may leave.
 use Rattle.std.specs.Prelude.{◌≡◌, ◌⊎◌, ℕ, ◌+◌, ◌-◌, ◌==◌, nat_lt, if◌then◌else◌, Bool, true, false, List, [], ◌∷◌, ◌++◌, length, take, drop, replicate, slice_index_or, slice_set, Contains, Result, MatchResult}
+use Rattle.std.specs.Borrow.{GName}
 use Rattle.thy_base.specs.declared.block.Block.{Block}
 use Rattle.thy_base.specs.declared.nvm.Shape.{Shape}
 use Rattle.thy_base.specs.declared.nvm.Write.{Write}
@@ -29,8 +30,10 @@ pub record Device : Type 0 where
   pub down : Bool
   -- how many calls have failed
   pub faults : ℕ
-  -- how many times it was fitted, whatever came of it; it stands at its last value
+  -- how many times it was fitted, whatever came of it, but that one which was refused memory may not count; it stands at its last value
   pub fits : ℕ
+  -- the names of the loans through which it is reached, the outermost first
+  pub lent : List GName
 
 -- a queued write
 abbrev pub write_of : ℕ → Block → Write
@@ -113,14 +116,19 @@ fitted shape start n = record {
   down = false;
   faults = n.faults;
   fits = next n.fits;
+  lent = n.lent;
 }
+
+-- a device as it is reached through one more loan
+abbrev pub lent_by : GName → Device → Device
+lent_by name n = record n { lent = name ∷ n.lent }
 
 -- a cut leaves an image that it may leave, and keeps it and the pick
 pub record IsCut (pick : ℕ) (old new : Device) : Type 0 where
   pub crash : Crash old new.image
   pub device : new ≡ cut_to old pick new.image
 
--- what only a fit and a cut change
+-- what only a fit and a cut change, or nothing does
 pub record IsFramed (old new : Device) : Type 0 where
   pub blocks : length new.image ≡ length old.image
   pub left : new.left ≡ old.left
@@ -128,6 +136,7 @@ pub record IsFramed (old new : Device) : Type 0 where
   pub queue_room : new.queue_room ≡ old.queue_room
   pub left_room : new.left_room ≡ old.left_room
   pub fits : new.fits ≡ old.fits
+  pub lent : new.lent ≡ old.lent
 
 -- no place may hold after a cut what it could not hold before
 abbrev pub HoldsNoMore : Device → Device → Type 0
@@ -152,8 +161,12 @@ pub record HasFailedToWrite (at : ℕ) (block : Block) (old new : Device) : Type
 abbrev pub CountsFault : {T E : Type 0} → Result T E → ℕ → ℕ → Type 0
 CountsFault result old new = MatchResult result (λ _. new ≡ old) (λ _. Rose old new)
 
--- after a fit that failed: it was counted, and for want of memory nothing else has changed
+-- the count of writes has one more where a write succeeds, and stays where it fails
+abbrev pub CountsWrite : {T E : Type 0} → Result T E → ℕ → ℕ → Type 0
+CountsWrite result old new = MatchResult result (λ _. new ≡ next old) (λ _. new ≡ old)
+
+-- after a fit that failed: it was counted; where memory was refused nothing has changed, but that it may have been counted
 abbrev pub HasFailedToFit : FitError → Device → Device → Type 0
 HasFailedToFit Failed old new =
     HasFailed old new × IsFramed (record old { fits = next old.fits }) new × Rose old.faults new.faults
-HasFailedToFit (Memory e) old new = new ≡ record old { fits = next old.fits }
+HasFailedToFit (Memory e) old new = (new ≡ old) ⊎ (new ≡ record old { fits = next old.fits })

@@ -15,3 +15,4 @@ pub mod Outside
 pub mod Ranges
 pub mod Places
 pub mod Store
+pub mod Words

@@ -24,6 +24,7 @@ mod place;
 mod places;
 mod ranges;
 mod store;
+mod words;
 
 pub use block::{BLOCK_SIZE, Block};
 pub use bytes::Bytes;
@@ -42,3 +43,4 @@ pub use places::{
     numbers_tell_places, places_are_behind_slots, places_are_in_dram, slots_are_apart,
 };
 pub use store::{BlockStore, Stored};
+pub use words::{block_with, word};

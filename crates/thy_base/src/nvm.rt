@@ -1,6 +1,6 @@
 //! The non-volatile memory: a block device with a queue of writes, whose power can be cut.
-ghost use Rattle.std.specs.Prelude.{◌≡◌, ◌<◌, ◌≤◌, false, length, IfOk, OnOk, OnErr, IfErr, slice_index_or, []};
-ghost use Rattle.thy_base.specs.Device.{Device, newest, block_at, written_to, drained, settled, fitted, IsCut, IsFramed, HasFailed, HasFailedToWrite, HasFailedToFit, CountsFault};
+ghost use Rattle.std.specs.Prelude.{◌≡◌, ◌<◌, ◌≤◌, false, ℕ, length, IfOk, OnOk, OnErr, IfErr, slice_index_or, []};
+ghost use Rattle.thy_base.specs.Device.{Device, newest, block_at, written_to, drained, settled, fitted, IsCut, IsFramed, HasFailed, HasFailedToWrite, HasFailedToFit, CountsFault, CountsWrite};
 
 use crate::Block;
 use std::alloc::{AllocError, Global};
@@ -36,7 +36,7 @@ pub enum NvmError {
 pub enum FitError {
     /// The device failed.
     Failed,
-    /// There was not enough memory. The device is as it was, but that the call was counted.
+    /// There was not enough memory. The device is as it was, but that the call may have been counted.
     Memory(AllocError),
 }
 
@@ -44,24 +44,36 @@ pub enum FitError {
 /// the queue was full. A cut of power leaves at each place the block that stood there or any one
 /// that was queued for it, each place by itself.
 ///
-/// Only `fit` takes memory, also for what the cuts to come keep. Every `fit` counts, whatever it
-/// answers. A call that fails counts a fault, unless it only wanted memory, and leaves the device down
-/// until it is fitted again or its power is cut. Both counts stand still at the last value of a `u64`.
+/// Only `fit` takes memory, also for what the cuts to come keep. Every `fit` counts, but that one which is
+/// refused memory may not. A call that fails counts a fault, unless it was refused memory, and leaves the device
+/// down until it is fitted again or its power is cut. Writes that succeed are counted since the last fit. All these
+/// counts stand still at the last value of a `u64`.
 pub trait Nvm {
     /// What the device holds.
     ghost device: { Self → Device };
 
+    /// How many writes it has taken since it was fitted.
+    ghost writes: { Self → ℕ };
+
     /// Makes the device anew: the blocks of `start` and then zeros, an empty queue, no kept images and
-    /// picks. The call is counted, also where it fails.
+    /// picks, and no writes. The call is counted, also where it fails.
     fn fit(&mut self, alloc: Global, shape: &Shape, start: &[Block]) -> Result<(), FitError>
+        requires blocks { 0 < shape.now.blocks }
         requires queue { 0 < shape.now.queue }
         requires start { length start.now ≤ shape.now.blocks }
         ensures ok { OnOk result (device self.new ≡ fitted shape.now start.now (device self.old)) }
-        ensures err { IfErr result (λ e. HasFailedToFit e (device self.old) (device self.new)) };
+        ensures err { IfErr result (λ e. HasFailedToFit e (device self.old) (device self.new)) }
+        ensures no_writes { OnOk result (writes self.new ≡ 0) }
+        ensures same_writes { OnErr result (writes self.new ≡ writes self.old) };
 
     /// How many writes are queued.
     fn queued(&self) -> u64
+        requires { (device self.now).down ≡ false }
         ensures { result ≡ length (device self.now).queue };
+
+    /// How many writes have succeeded since the last fit, those that a barrier made too.
+    fn writes(&self) -> u64
+        ensures { result ≡ writes self.now };
 
     /// The newest block queued for a place, else the one that stands there.
     fn read(&mut self, at: u64) -> Result<Block, NvmError>
@@ -70,7 +82,8 @@ pub trait Nvm {
         ensures same { OnOk result (device self.new ≡ device self.old) }
         ensures err { OnErr result (HasFailed (device self.old) (device self.new)) }
         ensures frame { IsFramed (device self.old) (device self.new) }
-        ensures cause { CountsFault result (device self.old).faults (device self.new).faults };
+        ensures cause { CountsFault result (device self.old).faults (device self.new).faults }
+        ensures same_writes { writes self.new ≡ writes self.old };
 
     /// Queues a block for a place. Where the queue is full, its oldest write lands first.
     fn write(&mut self, at: u64, block: &Block) -> Result<(), NvmError>
@@ -79,7 +92,8 @@ pub trait Nvm {
         ensures ok { OnOk result (device self.new ≡ written_to (device self.old) at block.now) }
         ensures err { OnErr result (HasFailedToWrite at block.now (device self.old) (device self.new)) }
         ensures frame { IsFramed (device self.old) (device self.new) }
-        ensures cause { CountsFault result (device self.old).faults (device self.new).faults };
+        ensures cause { CountsFault result (device self.old).faults (device self.new).faults }
+        ensures counted { CountsWrite result (writes self.old) (writes self.new) };
 
     /// Lets the oldest queued write land.
     fn drain(&mut self) -> Result<(), NvmError>
@@ -88,25 +102,74 @@ pub trait Nvm {
         ensures ok { OnOk result (device self.new ≡ drained (device self.old)) }
         ensures err { OnErr result (HasFailed (device self.old) (device self.new)) }
         ensures frame { IsFramed (device self.old) (device self.new) }
-        ensures cause { CountsFault result (device self.old).faults (device self.new).faults };
+        ensures cause { CountsFault result (device self.old).faults (device self.new).faults }
+        ensures same_writes { writes self.new ≡ writes self.old };
 
-    /// Lets every queued write land, in order.
+    /// Lets every queued write land, in order. A device may write more of its own accord, and counts that.
     fn barrier(&mut self) -> Result<(), NvmError>
         requires { (device self.old).down ≡ false }
         ensures ok { OnOk result (device self.new ≡ settled (device self.old)) }
         ensures err { OnErr result (HasFailed (device self.old) (device self.new)) }
         ensures frame { IsFramed (device self.old) (device self.new) }
-        ensures cause { CountsFault result (device self.old).faults (device self.new).faults };
+        ensures cause { CountsFault result (device self.old).faults (device self.new).faults }
+        ensures no_fewer_writes { writes self.old ≤ writes self.new };
 
     /// Cuts the power. The pick chooses what is left. A copy of that is kept, and so is the pick; the
     /// device is up again.
     fn cut(&mut self, pick: u64)
         requires { length (device self.old).left < (device self.old).left_room }
-        ensures { IsCut pick (device self.old) (device self.new) };
+        ensures cut { IsCut pick (device self.old) (device self.new) }
+        ensures same_writes { writes self.new ≡ writes self.old };
 
     /// The block at a place of the kept image `i`.
     fn kept(&self, i: u64, at: u64) -> Block
         requires image { i < length (device self.now).left }
         requires place { at < length (device self.now).image }
         ensures { result ≡ block_at (slice_index_or (device self.now).left i []) at };
+}
+
+/// A device that is lent. What it holds has the name of the loan, which every call keeps: so whoever lends it
+/// knows after any calls that what they left stands in the device that was lent.
+impl<N: Nvm> Nvm for &mut N {
+    ghost use Rattle.thy_base.specs.Device.{lent_by};
+
+    ghost device = { λ loan. lent_by loan.ghost_name (N.device loan.now) };
+
+    ghost writes = { λ loan. N.writes loan.now };
+
+    fn fit(&mut self, alloc: Global, shape: &Shape, start: &[Block]) -> Result<(), FitError> {
+        (**self).fit(alloc, shape, start)
+    }
+
+    fn queued(&self) -> u64 {
+        (**self).queued()
+    }
+
+    fn writes(&self) -> u64 {
+        (**self).writes()
+    }
+
+    fn read(&mut self, at: u64) -> Result<Block, NvmError> {
+        (**self).read(at)
+    }
+
+    fn write(&mut self, at: u64, block: &Block) -> Result<(), NvmError> {
+        (**self).write(at, block)
+    }
+
+    fn drain(&mut self) -> Result<(), NvmError> {
+        (**self).drain()
+    }
+
+    fn barrier(&mut self) -> Result<(), NvmError> {
+        (**self).barrier()
+    }
+
+    fn cut(&mut self, pick: u64) {
+        (**self).cut(pick)
+    }
+
+    fn kept(&self, i: u64, at: u64) -> Block {
+        (**self).kept(i, at)
+    }
 }

@@ -242,17 +242,17 @@ module _ {M : Type 0} (K : KindOf M) (source : Source) (job : Job) (k : ℕ) (be
 
   few : a.cycles < job.config.limit
   few =
-      let soon : a.cycles < cycles_for K (parameters_of job.config) job.config.cuts k = h.promise.soon k over_here in
+      let soon : a.cycles < cycles_for K (parameters_of job.config) job.config.cuts k = h.run.promise.soon k over_here in
       omega (arith, soon, limit)
 
-  fits : (stop : Stop) → h.ending.stop ≡ stop → StopFits (parameters_of job.config).limit given.fitted h.stood h.ending stop
-  fits stop is = subst (StopFits (parameters_of job.config).limit given.fitted h.stood h.ending) is h.ran.stop_fits
+  fits : (stop : Stop) → h.run.ending.stop ≡ stop → StopFits (parameters_of job.config).limit given.fitted h.run.stood h.run.ending stop
+  fits stop is = subst (StopFits (parameters_of job.config).limit given.fitted h.run.stood h.run.ending) is h.run.ran.stop_fits
 
   -- at an end the status is the program's
-  told_end : (status : Status) → EndsWith h.ending.events status → status ≡ (left_alone s.program k).status
+  told_end : (status : Status) → EndsWith h.run.ending.events status → status ≡ (left_alone s.program k).status
   told_end status e =
       let lawful : AllLawful (course_of o) (first_marks o) (e.before ++ EndedEvent status e.count e.cycle e.state ∷ []) =
-      subst (AllLawful (course_of o) (first_marks o)) (h.events ∙ e.last) h.promise.events_lawful in
+      subst (AllLawful (course_of o) (first_marks o)) (h.run.events ∙ e.last) h.run.promise.events_lawful in
       let end : IsEndOf (course_of o) status = end_lawful (course_of o) (first_marks o) e.before status e.count e.cycle e.state lawful in
       let j : ℕ = end.count - o.start.count in
       let there : at o end.count ≡ steps (setting_of o) j o.start = at_is o end.count in
@@ -265,31 +265,31 @@ module _ {M : Type 0} (K : KindOf M) (source : Source) (job : Job) (k : ℕ) (be
   last = left_alone s.program k
 
   abbrev lines : List ℕ
-  lines = summary_for source h.ending.stop h.ending.events ++ run_line job.config.limit job.save h.ending.stop h.why
+  lines = summary_for source h.run.ending.stop h.run.ending.events ++ run_line job.config.limit job.save h.run.ending.stop h.run.why
 
   -- where it was saved, or was not to be, the stop tells
-  by_stop : (stop : Stop) → h.ending.stop ≡ stop → h.why ≡ None → TellsEnd last a
+  by_stop : (stop : Stop) → h.run.ending.stop ≡ stop → h.run.why ≡ None → TellsEnd last a
   by_stop (Ended status) is saved =
-      inl (h.status ∙ ap (run_status h.ending.stop) saved ∙ ap stop_status is ∙ ap (λ x. stop_status (Ended x)) (told_end status (fits (Ended status) is).0))
-  by_stop Memory is saved = inr (h.status ∙ ap (run_status h.ending.stop) saved ∙ ap stop_status is)
-  by_stop Terminal is saved = not_failed (is_memory h.ending.stop) h.ending.terminal_failed _ _ before.terminal after.terminal faults.terminal h.ran.shown_all (fits Terminal is).0
+      inl (h.run.status ∙ ap (run_status h.run.ending.stop) saved ∙ ap stop_status is ∙ ap (λ x. stop_status (Ended x)) (told_end status (fits (Ended status) is).0))
+  by_stop Memory is saved = inr (h.run.status ∙ ap (run_status h.run.ending.stop) saved ∙ ap stop_status is)
+  by_stop Terminal is saved = not_failed (is_memory h.run.ending.stop) h.run.ending.terminal_failed _ _ before.terminal after.terminal faults.terminal h.run.ran.shown_all (fits Terminal is).0
   by_stop Report is saved =
-      let report_failed : h.ending.report_failed ≡ true = (fits Report is).0 in
-      let closed : after.report ≡ h.told = subst (λ b. ClosesRun b lines h.told after.report) report_failed h.closes in
-      not_failed false h.ending.report_failed _ _ before.report h.told (subst (λ (x : Stream). Stayed before.report.faults x.faults) closed faults.report) h.ran.read_all report_failed
+      let report_failed : h.run.ending.report_failed ≡ true = (fits Report is).0 in
+      let closed : after.report ≡ h.run.told = subst (λ b. ClosesRun b lines h.run.told after.report) report_failed h.run.closes in
+      not_failed false h.run.ending.report_failed _ _ before.report h.run.told (subst (λ (x : Stream). Stayed before.report.faults x.faults) closed faults.report) h.run.ran.read_all report_failed
   by_stop Nvm is saved =
-      let same : after.device.faults ≡ h.stood.faults = save_counts job.save (saves h.ending.stop) job.config h.stood after.device before.shelf after.shelf h.why h.saved in
-      not_risen before.device.faults h.stood.faults (subst (Stayed before.device.faults) same faults.device) (fits Nvm is).0
+      let same : after.device.faults ≡ h.run.stood.faults = save_counts job.save (saves h.run.ending.stop) job.config h.run.stood after.device before.shelf after.shelf h.run.why h.run.saved in
+      not_risen before.device.faults h.run.stood.faults (subst (Stayed before.device.faults) same faults.device) (fits Nvm is).0
   by_stop Limit is saved =
-      let reached : h.ending.cycles ≡ job.config.limit = (fits Limit is).0 in
-      absurd (omega (arith, few, reached, h.cycles))
+      let reached : h.run.ending.cycles ≡ job.config.limit = (fits Limit is).0 in
+      absurd (omega (arith, few, reached, h.run.cycles))
 
-  by_save : (why : Option PutError) → h.why ≡ why → TellsEnd last a
-  by_save None is = by_stop h.ending.stop refl is
+  by_save : (why : Option PutError) → h.run.why ≡ why → TellsEnd last a
+  by_save None is = by_stop h.run.ending.stop refl is
   by_save (Some PutFailed) is =
-      save_calm job.save (saves h.ending.stop) job.config h.stood after.device before.shelf after.shelf faults.shelf
-      (subst (SavesUnder job.save (saves h.ending.stop) job.config h.stood after.device before.shelf after.shelf) is h.saved)
-  by_save (Some (PutMemory e)) is = inr (h.status ∙ ap (run_status h.ending.stop) is)
+      save_calm job.save (saves h.run.ending.stop) job.config h.run.stood after.device before.shelf after.shelf faults.shelf
+      (subst (SavesUnder job.save (saves h.run.ending.stop) job.config h.run.stood after.device before.shelf after.shelf) is h.run.saved)
+  by_save (Some (PutMemory e)) is = inr (h.run.status ∙ ap (run_status h.run.ending.stop) is)
 
 -- ---- the plain machine
 
@@ -368,7 +368,7 @@ stands_of i = record { files = i.files; tells = i.tells; program = i.program }
 run_completes : {M : Type 0} (K : KindOf M) (words : List (List ℕ)) (before after : Outside) (a : Answer) (source : Source) (job : Job) (i : IsAsked (run_of source job) source job words before.shelf) (k : ℕ) → IsCalm before after
     → is_running (left_alone i.program k).status ≡ false → cycles_for K (parameters_of job.config) job.config.cuts k ≤ job.config.limit → RunAnswered K source job before after a → TellsEnd (left_alone i.program k) a
 run_completes K words before after a source job i k faults over limit (inl (r, due, refused)) = inr (refused.status ∙ run_due source job before after r (stands_of i) faults due)
-run_completes K words before after a source job i k faults over limit (inr ran) = by_save K source job k before after a (stands_of i) faults over limit ran ran.why refl
+run_completes K words before after a source job i k faults over limit (inr ran) = by_save K source job k before after a (stands_of i) faults over limit ran ran.run.why refl
 
 -- the answer to the order of a run is that of its source
 order_answered : {M : Type 0} (K : KindOf M) (before after : Outside) (a : Answer) (source : Source) (job : Job) → OrderAnswered K (run_of source job) before after a → RunAnswered K source job before after a

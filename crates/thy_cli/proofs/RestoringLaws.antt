@@ -33,7 +33,7 @@ use Rattle.thy_record.specs.Files.{block_in, blocks_of, decode_file, found_in}
 use Rattle.thy_record.specs.Images.{slot_numbers, slot_in, memory_numbers, memory_in, state_in, decode_image}
 use Rattle.thy_record.specs.Slots.{tables_in, epoch_fault, status_fault, slot_fault}
 use Rattle.thy_record.specs.TableFaults.{tables_fault}
-use Rattle.thy_record.specs.Words.{word_of}
+use Rattle.thy_base.specs.Words.{word_of}
 use Rattle.thy_record.proofs.CpuLemmas.{record_words-at, length-record_words}
 use Rattle.thy_record.proofs.FileLemmas.{length-blocks_of, block_at-blocks_of, decode_file-flat}
 use Rattle.thy_record.proofs.ImageLemmas.{IsDecoded-at, decode-higher}

@@ -1,5 +1,5 @@
 -- What the top call makes of a job.
-use Rattle.std.proofs.Common.{◌≡◌, ℕ, ◌+◌, ◌-◌, Bool, true, false, Option, Some, None, List, [], ◌++◌, length, replicate, refl, sym, ◌∙◌, ap, append-nil, subst, inl, inr, lit<, arith, ◌<◌, ◌≤◌, ◌^◌, if◌then◌else◌}
+use Rattle.std.proofs.Common.{◌≡◌, ℕ, ◌+◌, ◌-◌, Bool, true, false, Option, Some, None, List, [], ◌++◌, length, replicate, refl, sym, ◌∙◌, ap, append-nil, subst, lit<, arith, ◌<◌, ◌≤◌, ◌^◌, if◌then◌else◌}
 use Rattle.std.specs.Prelude.{Result, Ok, Err}
 use Rattle.std.proofs.lemmas.Bool.{le-leb}
 use Rattle.std.proofs.lemmas.List.{length-append, length-replicate}
@@ -36,19 +36,16 @@ use Rattle.thy_base.proofs.RangeLemmas.{AreIn-none, IsRising-rows}
 use Rattle.thy_view.specs.Origin.{Origin, IsOrigin, StartsFrom, setting_of}
 use Rattle.thy_view.specs.Safe.{ceiling}
 use Rattle.thy_run.specs.Laws.{Promise, marks_of}
-use Rattle.thy_run.specs.Unfinished.{Finished}
-use Rattle.thy_run.specs.World.{Given, World, Ran}
-use Rattle.thy_run.proofs.PromiseLaws.{Promise-finished}
+use Rattle.thy_run.specs.World.{Given}
+use Rattle.thy_run.proofs.PromiseLaws.{Promise-stopped}
 use Rattle.thy_run.proofs.WorldLaws.{Safe-cut}
 use Rattle.thy_text.specs.Event.{Event}
-use Rattle.thy_run.specs.declared.ending.Stop.{Stop}
-use Rattle.thy_run.specs.declared.ending.Stop.TheVariants.{Ended, Nvm, Memory, Terminal, Report, Limit}
 use Rattle.thy_cli.specs.declared.answer.Answer.{Answer}
 use Rattle.thy_run.specs.declared.ending.Ending.{Ending}
 use Rattle.thy_run.specs.declared.plan.Plan.{Plan}
 use Rattle.thy_cli.specs.declared.refusal.Refusal.{Refusal}
 use Rattle.thy_cli.specs.declared.refusal.Refusal.TheVariants.{Device as DeviceRefusal}
-use Rattle.thy_cli.specs.Answering.{Outside, outside, RunAnswered, WordsDue, RunDue, given_for, shape_for, IsRunOf, IsSafeFor, ClosesRun, run_line, run_status, summary_for}
+use Rattle.thy_cli.specs.Answering.{Outside, outside, RunAnswered, WordsDue, RunDue, given_for, shape_for, IsRunFrom, IsRunOf, IsSafeFor, ClosesRun, run_line, run_status, summary_for}
 use Rattle.thy_cli.specs.Planning.{Begins, begun_with, CanRun, Fits, FitsKept, HasRoom, IsElf, IsHadFor, IsPlanOf, IsProgramOf}
 use Rattle.thy_cli.specs.Restoring.{IsRestored, ReadsFiles}
 use Rattle.thy_cli.specs.Saving.{SavesUnder, save_pick, saves}
@@ -59,7 +56,6 @@ use Rattle.thy_cli.specs.declared.source.Had.{Had}
 use Rattle.thy_cli.specs.declared.source.Program.{Program}
 use Rattle.thy_cli.proofs.RestoringLaws.{AllLong-blocks_of, length-saved_blocks, decode-restored, IsOrigin-restored}
 use Rattle.thy_run.specs.Going.{origin_of, given_of, IsPlanned}
-use Rattle.thy_run.specs.Endings.{EndsBy, HasRun}
 use Rattle.thy_run.specs.Rounds.{RunEnds}
 
 -- ---- configurations
@@ -109,25 +105,6 @@ IsOrigin-start o contents range is storable readable fresh =
     }
 
 -- ---- answers
-
--- whatever stopped it, a run is finished
-finished_by : {M : Type 0} (K : KindOf M) → (o : Origin) (given : Given) (k : ℕ) (last : World M) (events : List Event) (n : Device) (stop : Stop) → Ran K o given k last → EndsBy K o given.config.cuts last events n stop → Finished K o given k events n
-finished_by K o given k last events n (Ended status) ran ends = record { last = last; ran = ran; ends = inl ends }
-finished_by K o given k last events n Nvm ran (inl failed) = record { last = last; ran = ran; ends = inr (inl failed) }
-finished_by K o given k last events n Nvm ran (inr f) = record {
-  last = last;
-  ran = ran;
-  ends = inr (inr (record { next = f.next; steps = f.steps; part = f.part; rest = f.rest; grew = f.grew; split = f.split; unended = f.unended; why = inr f.why }));
-}
-finished_by K o given k last events n Memory ran (inl none) = record { last = last; ran = ran; ends = inl none.1 }
-finished_by K o given k last events n Memory ran (inr f) = record {
-  last = last;
-  ran = ran;
-  ends = inr (inr (record { next = f.next; steps = f.steps; part = f.part; rest = f.rest; grew = f.grew; split = f.split; unended = f.unended; why = inl f.why.0 }));
-}
-finished_by K o given k last events n Terminal ran ends = record { last = last; ran = ran; ends = inl ends }
-finished_by K o given k last events n Report ran ends = record { last = last; ran = ran; ends = inl ends }
-finished_by K o given k last events n Limit ran ends = record { last = last; ran = ran; ends = inl ends }
 
 -- a device that begins with an image, or with nothing, is fitted for what that means
 fitted_by : {M : Type 0} (K : KindOf M) (laws : IsLawful K) (reads : ReadsFiles K) → (o : Origin) (blocks : List Block) (shape : Shape) (n : Device) (kept : Option Mark) → o.kept ≡ kept
@@ -184,8 +161,7 @@ planned_given K source job stock plan blocks shape d n p fit many queue cuts =
 pub planned_promise : {M : Type 0} (K : KindOf M) (laws : IsLawful K) → (plan : Plan) (d stood : Device) (e : Ending) (terminal shown report read : Stream) → IsPlanned plan → RunEnds K plan d stood e terminal shown report read
     → Promise K (origin_of plan) (given_of plan d) e.cycles e.events stood
 planned_promise K laws plan d stood e terminal shown report read planned ends =
-    Promise-finished K laws (origin_of plan) (given_of plan d) e.cycles e.events stood planned.origin planned.rising
-    (finished_by K (origin_of plan) (given_of plan d) e.cycles ends.last e.events stood e.stop ends.ran ends.ends)
+    Promise-stopped K laws (origin_of plan) (given_of plan d) e.cycles e.events stood e.stop planned.origin planned.rising ends.stopped
 
 -- a save leaves a device that is as safe
 safe_saved : {M : Type 0} (K : KindOf M) (o : Origin) (events : List Event) (name : Option (List ℕ)) (due : Bool) (c : Config) (n m : Device) (old new : Stock) (why : Option PutError)
@@ -206,22 +182,15 @@ pub IsRunOf-ran : {M : Type 0} (K : KindOf M) (laws : IsLawful K) → (source : 
 IsRunOf-ran K laws source job save before after plan blocks d stood shape e a told why can p names fit many queue cuts ends saved closes events cycles status =
     let o : Origin = origin_for job p.program.begins p.program.input in
     let given : Given = given_for K job p.program.begins before.device in
-    let about : origin_of plan ≡ o = p.origin in
-    let besides = planned_given K source job before.shelf plan blocks shape d before.device p fit many queue cuts in
-    let kept = planned_promise K laws plan d stood e before.terminal after.terminal before.report told can.planned ends in
-    let promise : Promise K o given e.cycles e.events stood =
-    subst (λ x. Promise K o x e.cycles e.events stood) besides (subst (λ x. Promise K x (given_of plan d) e.cycles e.events stood) about kept) in
+    let promise = planned_promise K laws plan d stood e before.terminal after.terminal before.report told can.planned ends in
     let put : SavesUnder job.save (saves e.stop) job.config stood after.device before.shelf after.shelf why =
     subst (λ c. SavesUnder job.save (saves e.stop) c stood after.device before.shelf after.shelf why) p.config
     (subst (λ n. SavesUnder n (saves e.stop) plan.config stood after.device before.shelf after.shelf why) (sym names) saved) in
-    record {
-      program = p.program;
+    let run : IsRunFrom K (origin_of plan) (given_of plan d) source job before after a = record {
       ending = e;
       stood = stood;
       told = told;
-      ran =
-          subst (λ x. HasRun K o x stood e before.terminal after.terminal before.report told) besides
-          (subst (λ x. HasRun K x (given_of plan d) stood e before.terminal after.terminal before.report told) about ends);
+      ran = ends;
       why = why;
       saved = put;
       closes =
@@ -232,10 +201,16 @@ IsRunOf-ran K laws source job save before after plan blocks d stood shape e a to
       cycles = cycles;
       status = status;
       promise =
-          subst (λ k. Promise K o given k a.events stood) (sym cycles)
-          (subst (λ vs. Promise K o given e.cycles vs stood) (sym events) promise);
-      safe = safe_saved K o a.events job.save (saves e.stop) job.config stood after.device before.shelf after.shelf why put
-          (subst (λ vs. IsSafeFor K o vs stood) (sym events) promise.safe_at_return);
+          subst (λ k. Promise K (origin_of plan) (given_of plan d) k a.events stood) (sym cycles)
+          (subst (λ vs. Promise K (origin_of plan) (given_of plan d) e.cycles vs stood) (sym events) promise);
+      safe = safe_saved K (origin_of plan) a.events job.save (saves e.stop) job.config stood after.device before.shelf after.shelf why put
+          (subst (λ vs. IsSafeFor K (origin_of plan) vs stood) (sym events) promise.safe_at_return);
+    } in
+    record {
+      program = p.program;
+      run =
+          subst (λ x. IsRunFrom K o x source job before after a) (planned_given K source job before.shelf plan blocks shape d before.device p fit many queue cuts)
+          (subst (λ x. IsRunFrom K x (given_of plan d) source job before after a) p.origin run);
     }
 
 -- where there is no program, a job is not run

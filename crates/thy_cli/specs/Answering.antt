@@ -1,10 +1,10 @@
 -- What the top call answers.
 use Rattle.std.specs.Prelude.{◌≡◌, ◌⊎◌, ℕ, ◌<◌, ◌≤◌, Bool, true, false, List, [], ◌∷◌, ◌++◌, length, codes, Option, Some, None, Ok, Err}
 use Rattle.std.specs.Fmt.{decimal}
-use Rattle.thy_base.specs.declared.outside.FetchError.TheVariants.{Failed as FetchFailed, NotThere, TooLong}
+use Rattle.thy_base.specs.declared.outside.FetchError.TheVariants.{Failed as FetchFailed, NotThere, TooLong, Memory as FetchMemory}
 use Rattle.thy_base.specs.declared.outside.PutError.{PutError}
 use Rattle.thy_base.specs.declared.outside.PutError.TheVariants.{Failed as PutFailed, Memory as PutMemory}
-use Rattle.thy_base.specs.declared.nvm.FitError.TheVariants.{Failed as FitFailed}
+use Rattle.thy_base.specs.declared.nvm.FitError.TheVariants.{Failed as FitFailed, Memory as FitMemory}
 use Rattle.thy_base.specs.declared.config.Config.{Config}
 use Rattle.thy_base.specs.declared.nvm.Shape.{Shape}
 use Rattle.thy_base.specs.Device.{Device, HasFailedToFit, fitted}
@@ -38,7 +38,7 @@ use Rattle.thy_run.specs.Sending.{Sent}
 use Rattle.thy_run.specs.World.{Given}
 use Rattle.thy_cli.specs.declared.answer.Answer.{Answer}
 use Rattle.thy_cli.specs.declared.refusal.Refusal.{Refusal}
-use Rattle.thy_cli.specs.declared.refusal.Refusal.TheVariants.{Words, Fetch, File, Image, Input, Device as DeviceRefusal}
+use Rattle.thy_cli.specs.declared.refusal.Refusal.TheVariants.{Words, Fetch, File, Image, Input, Device as DeviceRefusal, Memory as MemoryRefusal}
 use Rattle.thy_cli.specs.Saving.{IsPut, SavesUnder, saves}
 use Rattle.thy_cli.specs.Sources.{Source, file, made, image, Beginning, IsProgram, origin_for, ProgramDue}
 
@@ -78,11 +78,13 @@ abbrev pub file_line : ElfError → List ℕ
 file_line e =
     joined (codes "file " ∷ decimal (called e).0 ∷ codes " " ∷ (called e).1 ∷ index_parts (index_of e))
 
--- What is told of a refusal: the exit status and the closing line. The others are want of memory.
+-- what is told of a refusal: the exit status and the closing line
 abbrev pub told_of : Refusal → ℕ × List ℕ
+told_of (Words (WordsMemory e)) = (9, closing_of closing.Memory)
 told_of (Words Usage) = (2, closing_of closing.Usage)
 told_of (Words (Word field)) = (2, closing_of (closing.Word field))
 told_of (Words (Value field value)) = (2, closing_of (closing.Value field value))
+told_of (Fetch name (FetchMemory e)) = (9, closing_of closing.Memory)
 told_of (Fetch name FetchFailed) = (3, closing_of (closing.Fetch name fault.Failed))
 told_of (Fetch name NotThere) = (3, closing_of (closing.Fetch name fault.Missing))
 told_of (Fetch name TooLong) = (3, closing_of (closing.Fetch name fault.TooLong))
@@ -90,8 +92,9 @@ told_of (File (ElfMemory e)) = (9, closing_of closing.Memory)
 told_of (File e) = (4, file_line e)
 told_of (Image bad) = (5, closing_of (closing.Image bad))
 told_of (Input cursor length) = (10, closing_of (closing.Input cursor length))
+told_of (DeviceRefusal (FitMemory e)) = (9, closing_of closing.Memory)
 told_of (DeviceRefusal FitFailed) = (7, closing_of closing.Nvm)
-told_of other = (9, closing_of closing.Memory)
+told_of (MemoryRefusal e) = (9, closing_of closing.Memory)
 
 -- a line was written, or the report failed in it
 abbrev pub Closes : List ℕ → Stream → Stream → Type 0
@@ -165,16 +168,16 @@ ClosesRun true lines old new = new ≡ old
 abbrev pub IsSafeFor : {M : Type 0} → KindOf M → Origin → List Event → Device → Type 0
 IsSafeFor K o events n = Safe K.decode o (marks_of o events).kept (marks_of o events).sealed n
 
--- A run was begun over a device that was fitted, and stopped. Its cycles are those of a run, and keep what is promised
--- of every run; the sinks took what its events say. It was saved, where that was asked for, and its device is safe also then.
-pub record IsRunOf {M : Type 0} (K : KindOf M) (source : Source) (job : Job) (before after : Outside) (a : Answer) : Type 0 where
-  pub program : IsProgram source job before.shelf
+-- A run that is about this, and was given this, was begun and stopped. Its cycles are those of a run, and keep what is
+-- promised of every run; the sinks took what its events say. It was saved, where that was asked for, and its device is safe
+-- also then.
+pub record IsRunFrom {M : Type 0} (K : KindOf M) (o : Origin) (given : Given) (source : Source) (job : Job) (before after : Outside)
+    (a : Answer) : Type 0 where
   pub ending : Ending
   -- the device where the run stopped, and the report with the lines of its events
   pub stood : Device
   pub told : Stream
-  pub ran : HasRun K (origin_for job program.begins program.input) (given_for K job program.begins before.device) stood ending
-      before.terminal after.terminal before.report told
+  pub ran : HasRun K o given stood ending before.terminal after.terminal before.report told
   -- why it was not saved, if it was to be and was not
   pub why : Option PutError
   pub saved : SavesUnder job.save (saves ending.stop) job.config stood after.device before.shelf after.shelf why
@@ -183,9 +186,14 @@ pub record IsRunOf {M : Type 0} (K : KindOf M) (source : Source) (job : Job) (be
   pub events : a.events ≡ ending.events
   pub cycles : a.cycles ≡ ending.cycles
   pub status : a.status ≡ run_status ending.stop why
-  pub promise : Promise K (origin_for job program.begins program.input) (given_for K job program.begins before.device)
-      a.cycles a.events stood
-  pub safe : IsSafeFor K (origin_for job program.begins program.input) a.events after.device
+  pub promise : Promise K o given a.cycles a.events stood
+  pub safe : IsSafeFor K o a.events after.device
+
+-- a run of what a source means was begun, over a device that was fitted for it, and stopped
+pub record IsRunOf {M : Type 0} (K : KindOf M) (source : Source) (job : Job) (before after : Outside) (a : Answer) : Type 0 where
+  pub program : IsProgram source job before.shelf
+  pub run : IsRunFrom K (origin_for job program.begins program.input) (given_for K job program.begins before.device)
+      source job before after a
 
 -- ---- the plain machine
 

@@ -10,14 +10,16 @@ use Rattle.thy_base.specs.Outside.{Stock, Holds, KeepsOthers}
 use Rattle.thy_flat.specs.Flat.{flat}
 use Rattle.thy_run.specs.World.{tear}
 use Rattle.thy_run.specs.declared.ending.Stop.{Stop}
-use Rattle.thy_run.specs.declared.ending.Stop.TheVariants.{Ended, Limit, Nvm}
+use Rattle.thy_run.specs.declared.ending.Stop.TheVariants.{Ended, Limit, Nvm, Memory, Terminal, Report}
 
 -- behind these stops a run is saved: the program has ended, the limit is reached, or the device failed
 abbrev pub saves : Stop → Bool
 saves (Ended status) = true
 saves Limit = true
 saves Nvm = true
-saves stop = false
+saves Memory = false
+saves Terminal = false
+saves Report = false
 
 -- the pick of a save's cut: the entry of the tears behind those of all listed cuts
 abbrev pub save_pick : Config → ℕ

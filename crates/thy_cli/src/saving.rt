@@ -16,7 +16,10 @@ use thy_text::{Event, Events};
 pub fn is_saved(stop: Stop) -> bool
     ensures { result ≡ saves stop }
 {
-    matches!(stop, Stop::Ended(_) | Stop::Limit | Stop::Nvm)
+    match stop {
+        Stop::Ended(_) | Stop::Limit | Stop::Nvm => true,
+        Stop::Memory | Stop::Terminal | Stop::Report => false,
+    }
 }
 
 /// The pick of a save's cut: the tear behind those of the listed cuts, or 0 where none is given.

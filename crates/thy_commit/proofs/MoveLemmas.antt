@@ -15,8 +15,10 @@ use Rattle.thy_record.specs.Decoded.{At}
 use Rattle.thy_record.specs.Images.{looked, slot_in}
 use Rattle.thy_record.specs.Slots.{IsSlotOf}
 use Rattle.thy_record.proofs.SlotLemmas.{tables_in-back}
-use Rattle.thy_record.specs.Issuing.{SlotBlock, IsToldBy, IsIssuing, IsIssuedCheckpoint}
-use Rattle.thy_record.proofs.IssuingLemmas.{free_not_looked, issued_decodes}
+use Rattle.thy_record.specs.Issuing.{SlotBlock, IsToldBy}
+use Rattle.thy_protocol.specs.VersionOneParts.{IsIssuing, IsIssuedCheckpoint}
+use Rattle.thy_record.proofs.IssuingLemmas.{free_not_looked}
+use Rattle.thy_protocol.proofs.VersionOnePartsLemmas.{issued_decodes}
 use Rattle.thy_record.proofs.ImageLemmas.{block_at-slot_in}
 use Rattle.thy_record.proofs.ReadBackLemmas.{epoch_of-commit_of}
 use Rattle.thy_crash.proofs.SavedLemmas.{next_image-reads, next_image-commit}
@@ -33,7 +35,7 @@ use Rattle.thy_control.proofs.IssueLemmas.{IsDue-entry, Stays-issued, Stays-not_
 use Rattle.thy_protocol.specs.Keeps.{IsOf}
 use Rattle.thy_protocol.specs.Layout.{looked_by}
 use Rattle.thy_protocol.specs.Moves.{standing, Move, Goes, Readies, Commits, Confirms}
-use Rattle.thy_protocol.proofs.VersionOneLemmas.{decode_by-version_one, looked_by-version_one}
+use Rattle.thy_protocol.proofs.VersionOneLemmas.{looked_by-version_one}
 use Rattle.thy_protocol.specs.VersionOne.{layout_of}
 use Rattle.thy_commit.specs.declared.next.Next.{Next}
 use Rattle.thy_commit.specs.declared.next.Next.TheVariants.{Nothing, Copies, Pages, Slot, Settle, Commit, Confirm}
@@ -120,15 +122,12 @@ module _ (o : Origin) (e : Progress) (s : State) (m : Device) (c : Checkpoints) 
       (subst (λ (q : Parameters). IsIssuing q m e.cpu (tables1 s) e.epoch (lasts s m) (slot_blocks q)) geometry written) made.header
 
   made-issued : IsIssued (looked_by (layout_of o)) m made_image
-  made-issued = record {
-    as_long = decoded.issued.as_long;
-    each = λ x inside. decoded.issued.each x (subst (λ (xs : List ℕ). Contains xs x) (looked_by-version_one o.geometry ceiling made_image) inside);
-  }
+  made-issued = decoded.issued
 
   made-of : IsOf o (layout_of o) made_image made.mark
   made-of = record {
     decodes =
-        decode_by-version_one o.geometry ceiling made_image ∙ decoded.decodes
+        decoded.decodes
         ∙ ap (At e.epoch) made.state_is ∙ ap (λ (n : ℕ). At n (at o made.mark.count)) (sym made.of_epoch);
     counted = made.counted;
   }
@@ -177,12 +176,12 @@ next_is_told o e s m c tables fits h settle geometry made = by_next e.next settl
       let issuing : IsIssuing o.geometry m e.cpu (tables1 s) e.epoch (lasts s m) (slot_blocks o.geometry) =
       subst (λ (q : Parameters). IsIssuing q m e.cpu (tables1 s) e.epoch (lasts s m) (slot_blocks q)) geometry written in
       let range : IsInRange o.geometry = subst (λ (q : Parameters). IsInRange q) (fits.same_p ∙ geometry) tables.range in
-      let commit : block_at image 1 ≡ commit_of e.epoch = next_image-commit (commit_of e.epoch) m (let long = issuing.sized in omega (arith, long)) in
+      let commit : block_at image 1 ≡ commit_of e.epoch = next_image-commit (commit_of e.epoch) m (let long = issuing.parts.sized in omega (arith, long)) in
       let small : e.epoch < 2 ^ 64 = let l = made.small in omega (arith, l) in
       let of_epoch : epoch_of (block_at image 1) ≡ e.epoch = ap epoch_of commit ∙ epoch_of-commit_of e.epoch small in
       let slot : IsSlotOf o.geometry e.cpu (tables1 s) e.epoch (slot_in o.geometry image) = record {
         each = λ k l.
-            let read = issuing.slot.each k l in
+            let read = issuing.parts.slot.each k l in
             block_at-slot_in o.geometry image k l ∙ ap (λ (r : ℕ). block_at image (slot_place o.geometry (r % 2) + k)) of_epoch
             ∙ next_image-reads (commit_of e.epoch) m (slot_place o.geometry (e.epoch % 2) + k) read.inside (λ q. omega arith) ∙ read.newest_is;
       } in

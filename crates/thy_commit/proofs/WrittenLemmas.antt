@@ -12,7 +12,7 @@ use Rattle.thy_record.specs.Commit.{commit_of}
 use Rattle.thy_record.specs.Issuing.{memory_read}
 use Rattle.thy_record.specs.Slots.{slot_block_of}
 use Rattle.thy_record.specs.Tables.{Tables, IsTables}
-use Rattle.thy_record.proofs.IssuingLemmas.{slot_goes_on}
+use Rattle.thy_protocol.proofs.VersionOnePartsLemmas.{slot_grows}
 use Rattle.thy_control.specs.State.{State, AreSoundTables, IsSized}
 use Rattle.thy_control.specs.CheckpointTables.{tables1}
 use Rattle.thy_control.specs.Copies.{next_copy}
@@ -32,10 +32,12 @@ use Rattle.thy_commit.proofs.ItemLemmas.{reads-low, reads-settled, KeepsVersions
 pub HasWrittenSlot-by : (e : Progress) (s : State) (n : Device) (k : ℕ) → s.p ≡ e.p → AreSoundTables s → IsSized s n → HoldAll s n → IsDone s
     → ReadsFirst n (slot_place e.p (e.epoch % 2)) (slot_block_of e.cpu (tables1 s) e.epoch) k → HasWrittenSlot e s n k
 HasWrittenSlot-by e s n k same t sized hold done slot = record {
-  sized = sized.nvm ∙ ap image_blocks same;
   tables = subst (λ (p : Parameters). IsTables p (tables1 s)) same (AreTablesOf-under_way s t).valid;
-  memory_is = subst (λ (p : Parameters). memory_read p (tables1 s) n ≡ lasts s n) same (memory_is_last s n t hold done);
-  slot = slot;
+  parts = record {
+    sized = sized.nvm ∙ ap image_blocks same;
+    memory_is = subst (λ (p : Parameters). memory_read p (tables1 s) n ≡ lasts s n) same (memory_is_last s n t hold done);
+    slot = slot;
+  };
 }
 
 module _ (e : Progress) (s : State) (m : Device) (t : AreSoundTables s) (sized : IsSized s m) (same : s.p ≡ e.p) (hold : HoldAll s m) where
@@ -55,9 +57,9 @@ module _ (e : Progress) (s : State) (m : Device) (t : AreSoundTables s) (sized :
   wrote-slot k l done h =
       let n : Device = device_after e (SlotItem k) s m in
       let kept : KeepsVersions s m s n = KeepsVersions-reads s m n t hold (reads-low s m (slot_number e k) (slot_block e s k) sized (slot-low e s k same l)) in
-      let more = slot_goes_on e.p m n e.cpu (tables1 s) e.epoch (lasts s m) k h l refl in
+      let more = slot_grows e.p m n e.cpu (tables1 s) e.epoch (lasts s m) k h l refl in
       let long : IsSized s n = record { nvm = length-written_to m (slot_number e k) (slot_block e s k) ∙ sized.nvm } in
-      after_slot k l (HasWrittenSlot-by e s n (k + 1) same t long kept.holds done more.slot)
+      after_slot k l (HasWrittenSlot-by e s n (k + 1) same t long kept.holds done more.parts.slot)
 
   wrote-page : next_copy s ≡ None → (o : Option ℕ) → next_page s ≡ o → After (page_or_slot o)
   wrote-page copies None h =
@@ -78,7 +80,7 @@ module _ (e : Progress) (s : State) (m : Device) (t : AreSoundTables s) (sized :
       let kept : KeepsVersions s m s (settled m) = KeepsVersions-reads s m (settled m) t hold (reads-settled s m t sized) in
       let long : IsSized s (settled m) = record { nvm = length-settled m ∙ sized.nvm } in
       HasWrittenSlot-by e s (settled m) (slot_blocks e.p) same t long kept.holds past (record {
-        each = λ i l. Reads-settled (slot_place e.p (e.epoch % 2) + i) (slot_block_of e.cpu (tables1 s) e.epoch i) m (settled m) (h.slot.each i l) refl;
+        each = λ i l. Reads-settled (slot_place e.p (e.epoch % 2) + i) (slot_block_of e.cpu (tables1 s) e.epoch i) m (settled m) (h.parts.slot.each i l) refl;
       })
   wrote-next Commit past inside h =
       let block : Block = commit_of e.epoch in
@@ -87,7 +89,7 @@ module _ (e : Progress) (s : State) (m : Device) (t : AreSoundTables s) (sized :
       let long : IsSized s n = record { nvm = length-written_to m 1 block ∙ sized.nvm } in
       let there : 1 < length m.image = omega (arith, sized.nvm) in (
         HasWrittenSlot-by e s n (slot_blocks e.p) same t long kept.holds past
-            (ReadsFirst-elsewhere (slot_place e.p (e.epoch % 2)) (slot_block_of e.cpu (tables1 s) e.epoch) (slot_blocks e.p) 1 block m n h.slot (λ i l q. omega arith) refl),
+            (ReadsFirst-elsewhere (slot_place e.p (e.epoch % 2)) (slot_block_of e.cpu (tables1 s) e.epoch) (slot_blocks e.p) 1 block m n h.parts.slot (λ i l q. omega arith) refl),
         Reads-written 1 block m n there refl,
       )
   wrote-next Confirm past inside h = tt
@@ -122,7 +124,7 @@ module _ (e : Progress) (s : State) (m : Device) (t : State) (n : Device) (table
   stayed k l done h = HasWrittenSlot-by e t n k same_t tables sized (between.held hold).holds done (record {
     each = λ i inside.
         let low : slot_number e i < first_home s.p = slot-low e s i same_s (omega (arith, l, inside)) in
-        let read : Reads n (slot_number e i) (slot_block_of e.cpu (tables1 s) e.epoch i) = stayed-read (slot_number e i) (slot_block_of e.cpu (tables1 s) e.epoch i) low (h.slot.each i inside) in
+        let read : Reads n (slot_number e i) (slot_block_of e.cpu (tables1 s) e.epoch i) = stayed-read (slot_number e i) (slot_block_of e.cpu (tables1 s) e.epoch i) low (h.parts.slot.each i inside) in
         subst (λ (u : Tables). Reads n (slot_number e i) (slot_block_of e.cpu u e.epoch i)) (sym stays.tables1_same) read;
   })
 

@@ -4,7 +4,7 @@ use Rattle.thy_base.specs.Device.{Device}
 use Rattle.thy_base.specs.Places.{slot_blocks}
 use Rattle.thy_crash.specs.Fixed.{Reads}
 use Rattle.thy_record.specs.Commit.{commit_of}
-use Rattle.thy_record.specs.Issuing.{IsIssuing}
+use Rattle.thy_protocol.specs.VersionOneParts.{IsIssuing}
 use Rattle.thy_control.specs.State.{State, AreSoundTables, IsSized}
 use Rattle.thy_control.specs.CheckpointTables.{tables1}
 use Rattle.thy_control.specs.Stays.{HoldAll, Stays}

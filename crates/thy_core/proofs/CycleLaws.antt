@@ -29,7 +29,7 @@ use Rattle.thy_view.specs.Turn.{Actor, Nvm, Dram, Checkpoint, TheHart, Pressure,
 use Rattle.thy_scheme.specs.declared.behind.Behind.{Behind}
 use Rattle.thy_scheme.specs.Behind.{failed_calls, held_behind, IsOneCall}
 use Rattle.thy_scheme.specs.Marks.{Marks}
-use Rattle.thy_scheme.specs.Scheme.{SchemeOf, Stands, IsBooting}
+use Rattle.thy_scheme.specs.Scheme.{SchemeOf, StaysOf, Stands, IsBooting}
 use Rattle.thy_scheme.specs.Calls.{IsOneAccess, Merges, Promotes, PromotionFails, Drains, Seals, Engines, EngineFails, engine_did}
 use Rattle.thy_scheme.specs.Boots.{BootsOn, BootFails, BootDrains, boot_did}
 use Rattle.thy_scheme.specs.declared.boot_step.BootStep.{BootStep}
@@ -104,37 +104,54 @@ due_engine lap (Committed epoch) p = tt
 -- ---- a cycle that failed
 
 module _ {S : Type 0} (K : SchemeOf S) (o : Origin) (cycles : ℕ) (m : Machine S) (n : Device) (at : IsMoment K o cycles m n) where
-  pub engine_failed : (new : Device) → IsEngineDue K m → EngineFails K o m.marks n new → HasFailedAs K o Checkpoint m n new
-  engine_failed new due e = record {
+  pub engine_failed : (next : Machine S) (new : Device) → IsEngineDue K m → EngineFails K o m.marks n new → StaysOf K m.scheme next.scheme → next.hart ≡ m.hart
+      → HasFailedAs K o Checkpoint m next n new
+  engine_failed next new due e left hart = record {
     did = engine_did m.lap e.step;
     does = does_engine m.lap e.step;
     due = due_engine m.lap e.step (pressure_of K m);
-    fails = engine_leaves K o cycles m n new at due.0 e;
+    fails = engine_leaves K o cycles m n next.scheme new at due.0 e left;
+    hart = hart;
   }
 
-  pub promotion_failed : (new : Device) → IsSealing K o m n → K.promoting m.scheme ≡ true → PromotionFails n new
-      → HasFailedAs K o (TheHart (Some Sealing)) m n new
-  promotion_failed new sealing promoting f =
-      record { did = Promoted; does = refl; due = promoting; fails = promotion_leaves K o cycles m n new at sealing.phase f }
+  pub promotion_failed : (next : Machine S) (new : Device) → IsSealing K o m n → K.promoting m.scheme ≡ true → PromotionFails n new → StaysOf K m.scheme next.scheme
+      → next.hart ≡ m.hart → HasFailedAs K o (TheHart (Some Sealing)) m next n new
+  promotion_failed next new sealing promoting f left hart = record {
+    did = Promoted;
+    does = refl;
+    due = promoting;
+    fails = promotion_leaves K o cycles m n next.scheme new at sealing.phase f left;
+    hart = hart;
+  }
 
-  pub hart_failed : (t : S) (new : Device) → HartGoes K o m n → IsOneAccess K m.scheme n t new → new.down ≡ true → HasFailedAs K o (TheHart None) m n new
-  hart_failed t new goes access down = record { did = Moved; does = refl; due = tt; fails = hart_fails K o cycles m n t new at goes access down }
+  pub hart_failed : (next : Machine S) (new : Device) → HartGoes K o m n → IsOneAccess K m.scheme n next.scheme new → new.down ≡ true → next.hart ≡ m.hart
+      → HasFailedAs K o (TheHart None) m next n new
+  hart_failed next new goes access down hart =
+      record { did = Moved; does = refl; due = tt; fails = hart_fails K o cycles m n next.scheme new at goes access down; hart = hart }
 
-  pub flush_failed : (t : S) (new : Device) → IsSealing K o m n → K.promoting m.scheme ≡ false → dirty_count m.cache ≢ 0 → IsOneAccess K m.scheme n t new → new.down ≡ true
-      → HasFailedAs K o (TheHart (Some Sealing)) m n new
-  flush_failed t new sealing whole dirty access down =
-      record { did = DidFlush; does = refl; due = (whole, dirty); fails = flush_fails K o cycles m n t new at sealing access down }
+  pub flush_failed : (next : Machine S) (new : Device) → IsSealing K o m n → K.promoting m.scheme ≡ false → dirty_count m.cache ≢ 0
+      → IsOneAccess K m.scheme n next.scheme new → new.down ≡ true → next.hart ≡ m.hart → HasFailedAs K o (TheHart (Some Sealing)) m next n new
+  flush_failed next new sealing whole dirty access down hart = record {
+    did = DidFlush;
+    does = refl;
+    due = (whole, dirty);
+    fails = flush_fails K o cycles m n next.scheme new at sealing access down;
+    hart = hart;
+  }
 
-  pub boot_failed : (new : Device) → m.phase ≡ Boot → BootFails K o m.scheme n new → HasFailedAs K o (TheHart (Some Booting)) m n new
-  boot_failed new e b = record {
+  pub boot_failed : (next : Machine S) (new : Device) → m.phase ≡ Boot → BootFails K o m.scheme n new → StaysOf K m.scheme next.scheme → next.hart ≡ m.hart
+      → HasFailedAs K o (TheHart (Some Booting)) m next n new
+  boot_failed next new e b left hart = record {
     did = boot_did b.step;
     does = does_boot b.step;
     due = due_boot b.step (pressure_of K m);
-    fails = boot_leaves K o cycles m n new at e b;
+    fails = boot_leaves K o cycles m n next.scheme new at e b left;
+    hart = hart;
   }
 
-  pub land_failed : (new : Device) → HasFailed n new → IsFramed n new → HasFailedAs K o Nvm m n new
-  land_failed new failed frame = record { did = NvmDrained; does = refl; due = tt; fails = drain_fails K o cycles m n new at failed frame }
+  pub land_failed : (new : Device) → HasFailed n new → IsFramed n new → HasFailedAs K o Nvm m m n new
+  land_failed new failed frame =
+      record { did = NvmDrained; does = refl; due = tt; fails = drain_fails K o cycles m n new at failed frame; hart = refl }
 
 -- ---- one that leads on
 
@@ -295,9 +312,9 @@ pub waits_cycle : {S : Type 0} (K : SchemeOf S) (o : Origin) (cycles : ℕ) (did
     → IsCycle K o cycles Checkpoint did m n next new → IsCycle K o cycles (TheHart (Some Waiting)) did m n next new
 waits_cycle K o cycles did m next n new c = record { does = waits_does did c.does; due = c.due; leads = c.leads }
 
-pub waits_failed : {S : Type 0} (K : SchemeOf S) (o : Origin) (m : Machine S) (n new : Device)
-    → HasFailedAs K o Checkpoint m n new → HasFailedAs K o (TheHart (Some Waiting)) m n new
-waits_failed K o m n new f = record { did = f.did; does = waits_does f.did f.does; due = f.due; fails = f.fails }
+pub waits_failed : {S : Type 0} (K : SchemeOf S) (o : Origin) (m next : Machine S) (n new : Device)
+    → HasFailedAs K o Checkpoint m next n new → HasFailedAs K o (TheHart (Some Waiting)) m next n new
+waits_failed K o m next n new f = record { did = f.did; does = waits_does f.did f.does; due = f.due; fails = f.fails; hart = f.hart }
 
 -- so it is by a result
 pub waits_leads : {S : Type 0} (K : SchemeOf S) (o : Origin) (cycles : ℕ) (m next : Machine S) (n new : Device) (r : Result Did NvmError)
@@ -305,10 +322,10 @@ pub waits_leads : {S : Type 0} (K : SchemeOf S) (o : Origin) (cycles : ℕ) (m n
 waits_leads K o cycles m next n new (Ok did) c = waits_cycle K o cycles did m next n new c
 waits_leads K o cycles m next n new (Err e) c = tt
 
-pub waits_fails : {S : Type 0} (K : SchemeOf S) (o : Origin) (m : Machine S) (n new : Device) (r : Result Did NvmError)
-    → OnErr r (HasFailedAs K o Checkpoint m n new) → OnErr r (HasFailedAs K o (TheHart (Some Waiting)) m n new)
-waits_fails K o m n new (Ok did) f = tt
-waits_fails K o m n new (Err e) f = waits_failed K o m n new f
+pub waits_fails : {S : Type 0} (K : SchemeOf S) (o : Origin) (m next : Machine S) (n new : Device) (r : Result Did NvmError)
+    → OnErr r (HasFailedAs K o Checkpoint m next n new) → OnErr r (HasFailedAs K o (TheHart (Some Waiting)) m next n new)
+waits_fails K o m next n new (Ok did) f = tt
+waits_fails K o m next n new (Err e) f = waits_failed K o m next n new f
 
 -- ---- a call through the store of blocks
 
@@ -322,7 +339,7 @@ asked_once K device a b x y (inl same) = inl (ap (λ s. s.scheme) same.0, ap dev
 asked_once K device a b x y (inr once) = inr once.access
 
 framed_same : (n : Device) → IsFramed n n
-framed_same n = record { blocks = refl; left = refl; picks = refl; queue_room = refl; left_room = refl; fits = refl }
+framed_same n = record { blocks = refl; left = refl; picks = refl; queue_room = refl; left_room = refl; fits = refl; lent = refl }
 
 pub framed_once : {S N : Type 0} (K : SchemeOf S) (device : N → Device) (a b : Behind S) (x y : N) → CalledOnce K device a x b y
     → IsFramed (device x) (device y)
@@ -405,8 +422,8 @@ leads_is K P Q a b m next n new r e kind leads = λ o cycles q at turn.
     subst (λ x. IfOk r (λ did. IsCycle K o cycles x did m n next new)) (sym e)
     (leads o cycles (kind o q) at (subst (IsTurnOf K o m n) e turn))
 
-pub fails_is : {S : Type 0} (K : SchemeOf S) (P Q : Origin → Type 0) (a b : Actor) (m : Machine S) (n new : Device) (r : Result Did NvmError)
-    → b ≡ a → ((o : Origin) → Q o → P o) → FailsAs K P a m n new r → FailsAs K Q b m n new r
-fails_is K P Q a b m n new r e kind fails = λ o cycles q at turn.
-    subst (λ x. OnErr r (HasFailedAs K o x m n new)) (sym e)
+pub fails_is : {S : Type 0} (K : SchemeOf S) (P Q : Origin → Type 0) (a b : Actor) (m next : Machine S) (n new : Device) (r : Result Did NvmError)
+    → b ≡ a → ((o : Origin) → Q o → P o) → FailsAs K P a m n next new r → FailsAs K Q b m n next new r
+fails_is K P Q a b m next n new r e kind fails = λ o cycles q at turn.
+    subst (λ x. OnErr r (HasFailedAs K o x m next n new)) (sym e)
     (fails o cycles (kind o q) at (subst (IsTurnOf K o m n) e turn))

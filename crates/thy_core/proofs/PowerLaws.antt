@@ -1,28 +1,24 @@
 -- What a machine tells in the boot, and what a power cut leaves of it.
 use Rattle.std.proofs.Common.{◌≡◌, ◌⊎◌, ℕ, ◌&&◌, Bool, true, false, inl, inr, Some, is_none, refl, sym, ◌∙◌, ap, subst}
 use Rattle.thy_base.specs.Device.{Device}
-use Rattle.thy_dram.specs.Contents.{Contents}
 use Rattle.thy_view.specs.declared.view.Phase.{Phase}
 use Rattle.thy_view.specs.declared.view.Phase.TheVariants.{Boot, Run, Halt}
-use Rattle.thy_view.specs.Kind.{IsDramOf}
 use Rattle.thy_view.specs.Origin.{Origin}
 use Rattle.thy_view.specs.Views.{is_boot, loads}
-use Rattle.thy_scheme.specs.Marks.{Marks}
+use Rattle.thy_scheme.specs.Laws.{IsLawful}
 use Rattle.thy_scheme.specs.Scheme.{SchemeOf}
 use Rattle.thy_core_model.specs.Machine.{Machine, run_view, view_in, view_of, has_read_in, has_read_of}
 use Rattle.thy_core_model.specs.Sound.{SoundIn, Sound}
 
-cut_in : {S : Type 0} (K : SchemeOf S) (o : Origin) (m : Machine S) (n : Device) (phase : Phase) (d : Contents) → SoundIn K o phase m n
-    → ((p : Origin) (k : Marks) (v : Device) → K.is_sound p k m.scheme v → IsDramOf p.geometry d)
-    → ((p : Origin) (v : Device) → K.boots p m.scheme v → IsDramOf p.geometry d) → IsDramOf o.geometry d
-cut_in K o m n Boot d s running booting = booting o n s.boots
-cut_in K o m n Run d s running booting = running o m.marks n s.checkpoints
-cut_in K o m n Halt d s running booting = running o m.marks n s.checkpoints
+-- at a moment the scheme is one of the run's geometry
+geometry_in : {S : Type 0} (K : SchemeOf S) (l : IsLawful K) (o : Origin) (m : Machine S) (n : Device) (phase : Phase) → n.down ≡ false → SoundIn K o phase m n
+    → K.is_of o.geometry m.scheme
+geometry_in K l o m n Boot up s = (l.boot_holds o m.scheme n (record { boots = s.boots; up = up })).of_geometry
+geometry_in K l o m n Run up s = (l.run_holds o m.marks m.scheme n (record { sound = s.checkpoints; up = up })).of_geometry
+geometry_in K l o m n Halt up s = (l.run_holds o m.marks m.scheme n (record { sound = s.checkpoints; up = up })).of_geometry
 
-pub cut_leaves : {S : Type 0} (K : SchemeOf S) (o : Origin) (k : ℕ) (m : Machine S) (n : Device) (d : Contents) → Sound K o k m n
-    → ((p : Origin) (k : Marks) (v : Device) → K.is_sound p k m.scheme v → IsDramOf p.geometry d)
-    → ((p : Origin) (v : Device) → K.boots p m.scheme v → IsDramOf p.geometry d) → IsDramOf o.geometry d
-cut_leaves K o k m n d s running booting = cut_in K o m n m.phase d s.moment running booting
+pub geometry_is : {S : Type 0} (K : SchemeOf S) (l : IsLawful K) (o : Origin) (k : ℕ) (m : Machine S) (n : Device) → Sound K o k m n → K.is_of o.geometry m.scheme
+geometry_is K l o k m n s = geometry_in K l o m n m.phase s.up s.moment
 
 pub loading_boot : {S : Type 0} (K : SchemeOf S) (o : Origin) (k : ℕ) (m : Machine S) (n : Device) (loading : Bool) → m.phase ≡ Boot → Sound K o k m n
     → ((p : Origin) (v : Device) → K.boots p m.scheme v → loading ≡ (K.has_read m.scheme && loads (K.boot_view p m.scheme v)))

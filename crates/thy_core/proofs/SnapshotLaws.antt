@@ -1,5 +1,5 @@
 -- What is read behind the boot: the plain machine's state, and the console of the committed checkpoint.
-use Rattle.std.proofs.Common.{◌≡◌, ◌⊎◌, ℕ, ◌*◌, ◌-◌, ◌≤◌, ◌||◌, ◌&&◌, ◌==◌, not, true, false, Some, Result, Ok, Err, IfOk, List, length, take, drop, inl, inr, refl, sym, ◌∙◌, ap, subst, arith}
+use Rattle.std.proofs.Common.{◌≡◌, ◌⊎◌, ℕ, ◌*◌, ◌-◌, ◌≤◌, ◌||◌, ◌&&◌, ◌==◌, not, true, false, Some, Result, Ok, Err, IfOk, List, [], length, take, drop, inl, inr, refl, sym, ◌∙◌, ap, subst, arith}
 use Rattle.std.proofs.lemmas.Bool.{eqb-true}
 use Rattle.std.proofs.lemmas.List.{length-take, length-drop, take_min}
 use Rattle.thy_base.specs.declared.block.Block.{Block}
@@ -24,14 +24,14 @@ use Rattle.thy_view.specs.declared.error.CoreError.{CoreError}
 use Rattle.thy_view.specs.declared.view.Phase.{Phase}
 use Rattle.thy_view.specs.declared.view.Phase.TheVariants.{Boot, Run, Halt}
 use Rattle.thy_view.specs.declared.view.View.{View}
-use Rattle.thy_view.specs.Kind.{IsSnapshot, Snapshots}
+use Rattle.thy_view.specs.Kind.{CanRead, CanSnapshot, IsSnapshot, Snapshots, without_memory, IsProcessor}
 use Rattle.thy_view.specs.Origin.{Origin, at}
 use Rattle.thy_view.specs.Views.{is_boot, is_halt, is_between}
 use Rattle.thy_scheme.specs.Scheme.{SchemeOf, CanRun}
 use Rattle.thy_scheme.specs.Laws.{IsLawful, IsCommitted}
 use Rattle.thy_core_model.specs.Kind.{kind_over}
 use Rattle.thy_core_model.specs.Machine.{Machine, memory_of, run_view, view_in, view_of}
-use Rattle.thy_core_model.specs.Sound.{SoundRun, SoundIn, Sound}
+use Rattle.thy_core_model.specs.Sound.{SoundRun, SoundIn, Sound, SoundStopped}
 use Rattle.thy_core.specs.Reading.{IsRoomy, IsUnwritten, ReadsState}
 use Rattle.thy_core.proofs.TakenLaws.{phase_in}
 
@@ -46,6 +46,27 @@ state_read h blocks s n memory console sized n_is is memory_is console_is =
     is
     ∙ ap (λ (bytes : List ℕ). state_with h.cpu bytes console) (memory_is ∙ flat-take n blocks inside ∙ ap (λ k. take k (flat blocks)) size)
     ∙ ap (λ (bytes : List ℕ). state_with h.cpu (take (program_size h.geometry) (flat blocks)) bytes) console_is
+
+-- ---- after a step that failed
+
+-- a machine of which none has is at a moment
+pub at_moment : {S : Type 0} (K : SchemeOf S) (m : Machine S) (n : Device) → m.failed ≡ false → CanSnapshot (kind_over K) m n → CanRead (kind_over K) m n
+at_moment K m n unfailed (inl run) = run
+at_moment K m n unfailed (inr stopped) = let is = stopped.failed.failed in absurd (cc)
+
+pub not_stopped : {S : Type 0} (K : SchemeOf S) (o : Origin) (before : View) (m : Machine S) → m.failed ≡ false → SoundStopped K o before m → ⊥
+not_stopped K o before m unfailed stopped = let is = stopped.failed in cc
+
+pub not_failed : {S : Type 0} (K : SchemeOf S) (o : Origin) (k : ℕ) (m : Machine S) (n : Device) → m.failed ≡ true → Sound K o k m n → ⊥
+not_failed K o k m n failed sound = let is = sound.unfailed in cc
+
+-- what is read of it is the processor's part
+pub processor_is : {S : Type 0} (K : SchemeOf S) (o : Origin) (before : View) (m : Machine S) (s : MachState) → state_of s ≡ state_with m.hart.cpu [] []
+    → SoundStopped K o before m → IsProcessor o before s
+processor_is K o before m s is stopped = record {
+  bare = is ∙ sym (ap without_memory is);
+  processor = λ over. is ∙ stopped.processor over;
+}
 
 -- ---- behind the boot
 
@@ -179,6 +200,15 @@ console_is K l o k m n done from bytes s e seen is =
     ∙ ap (λ len. drop from (console_bytes o.geometry (K.committed m.scheme n) len)) run.shown.done
     ∙ ap (drop from) (sym (console_whole o.geometry found.cpu (K.committed m.scheme n) (at o m.marks.done.count) found.state))
     ∙ ap (λ (d : Mark). drop from (at o d.count).console) same
+
+-- it has no byte from there on where the committed checkpoint's has none
+pub console_past : {S : Type 0} (K : SchemeOf S) (o : Origin) (k : ℕ) (m : Machine S) (n : Device) (done : Mark) (from : ℕ)
+    → Sound K o k m n → ((m.phase ≡ Run) ⊎ (m.phase ≡ Halt)) → (view_of K o m n).done ≡ Some done → length (at o done.count).console ≤ from → m.consoles.done ≤ from
+console_past K o k m n done from s e seen past =
+    let run = sound-behind K o k m n s e in
+    let marked : Some m.marks.done ≡ Some done = sym (ap (λ (v : View). v.done) (view-behind K o m n e)) ∙ seen in
+    let same : m.marks.done ≡ done = cc in
+    omega (arith, run.shown.done, ap (λ (d : Mark). length (at o d.count).console) same)
 
 pub console_when : {S : Type 0} (K : SchemeOf S) (l : IsLawful K) (o : Origin) (k : ℕ) (m : Machine S) (n : Device) (done : Mark) (from : ℕ) (r : Result Bytes CoreError)
     → Sound K o k m n → ((m.phase ≡ Run) ⊎ (m.phase ≡ Halt)) → (view_of K o m n).done ≡ Some done

@@ -1,5 +1,5 @@
 -- A cycle of the actor whose turn it is, is a step of a machine.
-use Rattle.std.proofs.Common.{◌≡◌, ℕ, ◌+◌, ◌<◌, ◌^◌, ◌&&◌, not, length, refl, sym, ◌∙◌, ap, subst}
+use Rattle.std.proofs.Common.{◌≡◌, ℕ, ◌+◌, ◌<◌, ◌^◌, ◌&&◌, not, true, length, refl, sym, ◌∙◌, ap, subst}
 use Rattle.thy_base.specs.declared.mix.Pick.{Pick}
 use Rattle.thy_base.specs.Device.{Device}
 use Rattle.thy_view.specs.declared.did.Stepped.{Stepped}
@@ -58,9 +58,10 @@ step_taken K o cycles pick nvm actor m next n new r at queued is c stall ended =
     (ended ∙ ap (λ x. not (is_halt x) && is_halt next.phase) (sym before)
     ∙ ap (λ x. not (is_halt (view_of K o m n).phase) && is_halt x) (sym behind))
 
-pub step_failed : {S : Type 0} (K : SchemeOf S) (o : Origin) (cycles : ℕ) (pick : Pick) (nvm : ℕ) (actor : Actor) (m : Machine S) (n new : Device)
-    → IsMoment K o cycles m n → nvm ≡ length n.queue → actor ≡ turn_now K pick nvm m → HasFailedAs K o actor m n new
-    → LeavesSafe (kind_over K) o pick m n new
-step_failed K o cycles pick nvm actor m n new at queued is f =
+pub step_failed : {S : Type 0} (K : SchemeOf S) (o : Origin) (cycles : ℕ) (pick : Pick) (nvm : ℕ) (actor : Actor) (m next : Machine S) (n new : Device)
+    → IsMoment K o cycles m n → nvm ≡ length n.queue → actor ≡ turn_now K pick nvm m → HasFailedAs K o actor m next n new
+    → LeavesSafe (kind_over K) o pick m (record next { failed = true }) n new
+step_failed K o cycles pick nvm actor m next n new at queued is f =
     let turn = actor_is K o cycles pick nvm actor m n at queued is in
-    failing_is_safe K o pick m n new f.did (told_at actor) f.fails (subst (Does f.did) turn f.does, ap told_at turn, f.due)
+    failing_is_safe K o cycles pick m (record next { failed = true }) n new f.did (told_at actor) at f.fails f.hart refl
+    (subst (Does f.did) turn f.does, ap told_at turn, f.due)

@@ -10,20 +10,26 @@ use Rattle.thy_view.specs.declared.did.Stall.TheVariants.{Booting, Sealing, Wait
 use Rattle.thy_view.specs.declared.view.Phase.{Phase}
 use Rattle.thy_view.specs.declared.view.Phase.TheVariants.{Boot, Run, Halt}
 use Rattle.thy_view.specs.Origin.{Origin, runs_at}
-use Rattle.thy_view.specs.Turn.{Nvm, Dram, Checkpoint, TheHart, has_stopped, is_under_way, stall_in, engine_turn, turn_of}
+use Rattle.thy_view.specs.Turn.{Nvm, Dram, Checkpoint, TheHart, has_stopped, stall_in, engine_turn, turn_of}
 use Rattle.thy_scheme.specs.Scheme.{SchemeOf}
 use Rattle.thy_core_model.specs.Machine.{Machine, view_in, view_of, shortage_of, pressure_of}
 use Rattle.thy_core_model.specs.Rows.{IsMoment}
-use Rattle.thy_core.specs.Turns.{waits_now, stall_now, hart_now, engine_now, turn_now}
+use Rattle.thy_core.specs.Turns.{stopped_now, waits_now, stall_now, hart_now, engine_now, turn_now}
 use Rattle.thy_core.specs.Cycles.{IsEngineDue, IsHartsTurn, IsTurnOf}
-use Rattle.thy_core_model.proofs.Facts.{view-run, sound-run, holds-run}
+use Rattle.thy_core_model.proofs.Facts.{view-run, sound-run}
 use Rattle.thy_core_model.proofs.BootingLaws.{view-boot, holds-boot, uncounted}
 
 -- the sealed state has ended, by the note of it
-ended_is : (o : Origin) (sealed : Option Mark) (ends short over whole : Bool) → ((s : Mark) → sealed ≡ Some s → ends ≡ not (runs_at o s.count))
-    → (is_some sealed && (over || short || (ends && whole))) ≡ (is_some sealed && (over || short || (has_stopped o sealed && whole)))
-ended_is o None ends short over whole f = refl
-ended_is o (Some s) ends short over whole f = ap (λ e. over || short || (e && whole)) (f s refl)
+ended_is : (o : Origin) (sealed : Option Mark) (ends whole : Bool) → ((s : Mark) → sealed ≡ Some s → ends ≡ not (runs_at o s.count))
+    → (is_some sealed && ends && whole) ≡ (has_stopped o sealed && whole)
+ended_is o None ends whole f = refl
+ended_is o (Some s) ends whole f = ap (λ e. e && whole) (f s refl)
+
+-- a hart is barred only while a checkpoint is under way
+barred_is : (way overlaps over short stopped ends : Bool) → stopped ≡ ends
+    → (way && (not overlaps || over || short || stopped)) ≡ (way && ((way && not overlaps) || over || short || ends))
+barred_is false overlaps over short stopped ends same = refl
+barred_is true overlaps over short stopped ends same = ap (λ s. not overlaps || over || short || s) same
 
 -- behind the boot a stall is one of two
 no_other : (waits seals : Bool) (stall : Stall) → (Waiting ≡ stall → ⊥) → (Sealing ≡ stall → ⊥)
@@ -36,7 +42,9 @@ module _ {S : Type 0} (K : SchemeOf S) (o : Origin) (cycles : ℕ) (m : Machine 
   stall_run : m.phase ≡ Run → stall_now K Run m ≡ stall_in o Run (view_of K o m n) (pressure_of K m)
   stall_run e =
       let run = sound-run K o cycles m n at.sound e in
-      let same = ended_is o m.marks.sealed m.ends (is_some (shortage_of K m)) (is_some m.hart.epoch.over) (not (K.promoting m.scheme)) run.shown.ends in
+      let whole : Bool = not (K.promoting m.scheme) in
+      let same = barred_is (K.under_way m.scheme) K.overlaps (is_some m.hart.epoch.over) (is_some (shortage_of K m)) (stopped_now K m) (has_stopped o m.marks.sealed && whole)
+      (ended_is o m.marks.sealed m.ends whole run.shown.ends) in
       ap (λ w. if w then Some Waiting else (if is_some m.hart.epoch.over || K.promoting m.scheme then Some Sealing else None)) same
       ∙ ap (λ v. stall_in o Run v (pressure_of K m)) (sym (view-run K o m n e))
 
@@ -60,8 +68,7 @@ module _ {S : Type 0} (K : SchemeOf S) (o : Origin) (cycles : ℕ) (m : Machine 
   engine_is Boot e = hart_is
   engine_is Halt e = hart_is
   engine_is Run e =
-      ap (λ h. if is_some m.marks.sealed then Checkpoint else h) hart_is
-      ∙ ap (λ v. if is_under_way v then Checkpoint else TheHart (stall_in o (view_of K o m n).phase (view_of K o m n) (pressure_of K m))) (sym (view-run K o m n e))
+      ap (λ h. if K.under_way m.scheme then Checkpoint else h) hart_is
 
   pub turn_is : (pick : Pick) (nvm : ℕ) → turn_now K pick nvm m ≡ turn_of o pick nvm (view_of K o m n) (pressure_of K m)
   turn_is Hart nvm = hart_is
@@ -72,9 +79,6 @@ module _ {S : Type 0} (K : SchemeOf S) (o : Origin) (cycles : ℕ) (m : Machine 
   turn_is DramDrain nvm = ap (λ h. if K.queued m.scheme == 0 then h else Dram) hart_is
 
   -- ---- what holds at the turn
-
-  way_is : (sealed : Option Mark) → m.phase ≡ Run → m.marks.sealed ≡ sealed → is_some sealed ≡ true → IsEngineDue K m
-  way_is sealed e s some = (e, (holds-run K at.lawful o cycles m n at.sound e).way ∙ ap is_some s ∙ some)
 
   waiting_by : (waits : Bool) (rest : Option Stall) → waits_now K m ≡ waits → rest ≢ Some Waiting → (if waits then Some Waiting else rest) ≡ Some Waiting → waits_now K m ≡ true
   waiting_by true rest e other is = e
@@ -94,8 +98,7 @@ module _ {S : Type 0} (K : SchemeOf S) (o : Origin) (cycles : ℕ) (m : Machine 
   harts_turn (Some Waiting) Run e is =
       let waits = waiting_by (waits_now K m) (if is_some m.hart.epoch.over || K.promoting m.scheme then Some Sealing else None) refl
       (seals_not (is_some m.hart.epoch.over || K.promoting m.scheme)) is in
-      way_is m.marks.sealed e refl
-      (both (is_some m.marks.sealed) (is_some m.hart.epoch.over || is_some (shortage_of K m) || (m.ends && not (K.promoting m.scheme))) waits)
+      (e, both (K.under_way m.scheme) (not K.overlaps || is_some m.hart.epoch.over || is_some (shortage_of K m) || stopped_now K m) waits)
   harts_turn (Some Booting) Boot e is = e
   harts_turn (Some Halted) Halt e is = e
   harts_turn None Boot e is = absurd (cc)
@@ -112,14 +115,14 @@ module _ {S : Type 0} (K : SchemeOf S) (o : Origin) (cycles : ℕ) (m : Machine 
   at_hart : IsTurnOf K o m n (hart_now K m)
   at_hart = harts_turn (stall_now K m.phase m) m.phase refl refl
 
-  by_engine : (sealed : Option Mark) → m.phase ≡ Run → m.marks.sealed ≡ sealed → IsTurnOf K o m n (if is_some sealed then Checkpoint else hart_now K m)
-  by_engine None e s = at_hart
-  by_engine (Some k) e s = way_is (Some k) e s refl
+  by_engine : (way : Bool) → m.phase ≡ Run → K.under_way m.scheme ≡ way → IsTurnOf K o m n (if way then Checkpoint else hart_now K m)
+  by_engine false e way = at_hart
+  by_engine true e way = (e, way)
 
   at_engine : (phase : Phase) → m.phase ≡ phase → IsTurnOf K o m n (engine_now K phase m)
   at_engine Boot e = at_hart
   at_engine Halt e = at_hart
-  at_engine Run e = by_engine m.marks.sealed e refl
+  at_engine Run e = by_engine (K.under_way m.scheme) e refl
 
   by_nvm : (nvm : ℕ) → nvm ≡ length n.queue → IsTurnOf K o m n (if nvm == 0 then hart_now K m else Nvm)
   by_nvm zero e = at_hart

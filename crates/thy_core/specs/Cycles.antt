@@ -57,12 +57,13 @@ pub record IsCycle {S : Type 0} (K : SchemeOf S) (o : Origin) (cycles : ℕ) (ac
   pub due : Prepares did (pressure_of K m)
   pub leads : Leads K o cycles did m n next new
 
--- a cycle of the actor's failed, and leaves what is safe
-pub record HasFailedAs {S : Type 0} (K : SchemeOf S) (o : Origin) (actor : Actor) (m : Machine S) (n new : Device) : Type 0 where
+-- a cycle of the actor's failed, and leaves what is safe, and the hart as it was
+pub record HasFailedAs {S : Type 0} (K : SchemeOf S) (o : Origin) (actor : Actor) (m next : Machine S) (n new : Device) : Type 0 where
   pub did : Did
   pub does : Does did actor
   pub due : Prepares did (pressure_of K m)
-  pub fails : Fails K o did m n new
+  pub fails : Fails K o did m next.scheme n new
+  pub hart : next.hart ≡ m.hart
 
 -- so it is in whatever run of this kind
 abbrev pub LeadsAs : {S : Type 0} → SchemeOf S → (Origin → Type 0) → Actor → Machine S → Device → Machine S → Device → Result Did NvmError → Type 0
@@ -70,6 +71,6 @@ LeadsAs K P actor m n next new result =
     (o : Origin) (cycles : ℕ) → P o → At K o cycles m n → IsTurnOf K o m n actor
     → IfOk result (λ did. IsCycle K o cycles actor did m n next new)
 
-abbrev pub FailsAs : {S : Type 0} → SchemeOf S → (Origin → Type 0) → Actor → Machine S → Device → Device → Result Did NvmError → Type 0
-FailsAs K P actor m n new result =
-    (o : Origin) (cycles : ℕ) → P o → IsMoment K o cycles m n → IsTurnOf K o m n actor → OnErr result (HasFailedAs K o actor m n new)
+abbrev pub FailsAs : {S : Type 0} → SchemeOf S → (Origin → Type 0) → Actor → Machine S → Device → Machine S → Device → Result Did NvmError → Type 0
+FailsAs K P actor m n next new result =
+    (o : Origin) (cycles : ℕ) → P o → IsMoment K o cycles m n → IsTurnOf K o m n actor → OnErr result (HasFailedAs K o actor m next n new)

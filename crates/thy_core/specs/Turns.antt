@@ -15,10 +15,14 @@ abbrev pub lacks : ℕ → ℕ → Option ℕ → Bool
 lacks free dirty None = false
 lacks free dirty (Some need) = nat_lt free (dirty + need)
 
+-- the sealed state has ended, and nothing is left to be promoted
+abbrev pub stopped_now : {S : Type 0} → SchemeOf S → Machine S → Bool
+stopped_now K m = is_some m.marks.sealed && m.ends && not (K.promoting m.scheme)
+
 -- the hart waits for the checkpoint under way
 abbrev pub waits_now : {S : Type 0} → SchemeOf S → Machine S → Bool
 waits_now K m =
-    is_some m.marks.sealed && (is_some m.hart.epoch.over || is_some (shortage_of K m) || (m.ends && not (K.promoting m.scheme)))
+    K.under_way m.scheme && (not K.overlaps || is_some m.hart.epoch.over || is_some (shortage_of K m) || stopped_now K m)
 
 -- the hart's stall in this phase
 abbrev pub stall_now : {S : Type 0} → SchemeOf S → Phase → Machine S → Option Stall
@@ -35,7 +39,7 @@ hart_now K m = TheHart (stall_now K m.phase m)
 abbrev pub engine_now : {S : Type 0} → SchemeOf S → Phase → Machine S → Actor
 engine_now K Boot m = hart_now K m
 engine_now K Halt m = hart_now K m
-engine_now K Run m = if is_some m.marks.sealed then Checkpoint else hart_now K m
+engine_now K Run m = if K.under_way m.scheme then Checkpoint else hart_now K m
 
 -- whose turn a pick is
 abbrev pub turn_now : {S : Type 0} → SchemeOf S → Pick → ℕ → Machine S → Actor

@@ -29,7 +29,7 @@ pub(crate) fn boot<N: Nvm, S: Scheme>(
     ensures leads { LeadsAs S.scheme (HasStart start.now) (TheHart (Some Booting))
         (machine_of m.old) (N.device nvm.old) (machine_of m.new) (N.device nvm.new) result }
     ensures fails { FailsAs S.scheme (HasStart start.now) (TheHart (Some Booting))
-        (machine_of m.old) (N.device nvm.old) (N.device nvm.new) result }
+        (machine_of m.old) (N.device nvm.old) (machine_of m.new) (N.device nvm.new) result }
     ensures frame { IsFramed (N.device nvm.old) (N.device nvm.new) }
     ensures cause { CountsFault result (N.device nvm.old).faults (N.device nvm.new).faults }
 {

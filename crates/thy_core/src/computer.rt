@@ -34,6 +34,10 @@ impl<S: Scheme> Computer for Machine<S> {
         self.step(pick, start, nvm)
     }
 
+    fn failed(&self) -> bool {
+        self.failed()
+    }
+
     fn snapshot<N: Nvm>(&self, alloc: Global, nvm: &mut N) -> Result<MachState, CoreError> {
         self.snapshot(alloc, nvm)
     }

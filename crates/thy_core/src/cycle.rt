@@ -28,7 +28,7 @@ pub(crate) fn cycle<N: Nvm, S: Scheme>(
     ensures leads { LeadsAs S.scheme (HasStart start.now) (actor_seen actor)
         (machine_of m.old) (N.device nvm.old) (machine_of m.new) (N.device nvm.new) result }
     ensures fails { FailsAs S.scheme (HasStart start.now) (actor_seen actor)
-        (machine_of m.old) (N.device nvm.old) (N.device nvm.new) result }
+        (machine_of m.old) (N.device nvm.old) (machine_of m.new) (N.device nvm.new) result }
     ensures frame { IsFramed (N.device nvm.old) (N.device nvm.new) }
     ensures cause { CountsFault result (N.device nvm.old).faults (N.device nvm.new).faults }
 {
@@ -51,7 +51,7 @@ fn at_hart<N: Nvm, S: Scheme>(
     ensures leads { LeadsAs S.scheme (HasStart start.now) (TheHart stall)
         (machine_of m.old) (N.device nvm.old) (machine_of m.new) (N.device nvm.new) result }
     ensures fails { FailsAs S.scheme (HasStart start.now) (TheHart stall)
-        (machine_of m.old) (N.device nvm.old) (N.device nvm.new) result }
+        (machine_of m.old) (N.device nvm.old) (machine_of m.new) (N.device nvm.new) result }
     ensures frame { IsFramed (N.device nvm.old) (N.device nvm.new) }
     ensures cause { CountsFault result (N.device nvm.old).faults (N.device nvm.new).faults }
 {
@@ -72,7 +72,7 @@ fn stalled<N: Nvm, S: Scheme>(
     ensures leads { LeadsAs S.scheme (HasStart start.now) (TheHart (Some why))
         (machine_of m.old) (N.device nvm.old) (machine_of m.new) (N.device nvm.new) result }
     ensures fails { FailsAs S.scheme (HasStart start.now) (TheHart (Some why))
-        (machine_of m.old) (N.device nvm.old) (N.device nvm.new) result }
+        (machine_of m.old) (N.device nvm.old) (machine_of m.new) (N.device nvm.new) result }
     ensures frame { IsFramed (N.device nvm.old) (N.device nvm.new) }
     ensures cause { CountsFault result (N.device nvm.old).faults (N.device nvm.new).faults }
 {
@@ -89,7 +89,8 @@ fn land<N: Nvm, S: Scheme>(m: &Parts<S>, nvm: &mut N) -> Result<Did, NvmError>
     requires { CanTake S.scheme IsAnyRun Nvm (machine_of m.now) (N.device nvm.old) }
     ensures leads { LeadsAs S.scheme IsAnyRun Nvm
         (machine_of m.now) (N.device nvm.old) (machine_of m.now) (N.device nvm.new) result }
-    ensures fails { FailsAs S.scheme IsAnyRun Nvm (machine_of m.now) (N.device nvm.old) (N.device nvm.new) result }
+    ensures fails { FailsAs S.scheme IsAnyRun Nvm
+        (machine_of m.now) (N.device nvm.old) (machine_of m.now) (N.device nvm.new) result }
     ensures frame { IsFramed (N.device nvm.old) (N.device nvm.new) }
     ensures cause { CountsFault result (N.device nvm.old).faults (N.device nvm.new).faults }
 {
@@ -103,7 +104,7 @@ fn wait<N: Nvm, S: Scheme>(m: &mut Parts<S>, nvm: &mut N) -> Result<Did, NvmErro
     ensures leads { LeadsAs S.scheme IsAnyRun (TheHart (Some Waiting))
         (machine_of m.old) (N.device nvm.old) (machine_of m.new) (N.device nvm.new) result }
     ensures fails { FailsAs S.scheme IsAnyRun (TheHart (Some Waiting))
-        (machine_of m.old) (N.device nvm.old) (N.device nvm.new) result }
+        (machine_of m.old) (N.device nvm.old) (machine_of m.new) (N.device nvm.new) result }
     ensures frame { IsFramed (N.device nvm.old) (N.device nvm.new) }
     ensures cause { CountsFault result (N.device nvm.old).faults (N.device nvm.new).faults }
 {

@@ -18,7 +18,8 @@ pub(crate) fn checkpoint<N: Nvm, S: Scheme>(m: &mut Parts<S>, nvm: &mut N) -> Re
     requires { CanTake S.scheme IsAnyRun Checkpoint (machine_of m.old) (N.device nvm.old) }
     ensures leads { LeadsAs S.scheme IsAnyRun Checkpoint
         (machine_of m.old) (N.device nvm.old) (machine_of m.new) (N.device nvm.new) result }
-    ensures fails { FailsAs S.scheme IsAnyRun Checkpoint (machine_of m.old) (N.device nvm.old) (N.device nvm.new) result }
+    ensures fails { FailsAs S.scheme IsAnyRun Checkpoint
+        (machine_of m.old) (N.device nvm.old) (machine_of m.new) (N.device nvm.new) result }
     ensures frame { IsFramed (N.device nvm.old) (N.device nvm.new) }
     ensures cause { CountsFault result (N.device nvm.old).faults (N.device nvm.new).faults }
 {

@@ -22,7 +22,7 @@ pub(crate) fn execute<N: Nvm, S: Scheme>(
     ensures leads { LeadsAs S.scheme (HasInput input.now) (TheHart None)
         (machine_of m.old) (N.device nvm.old) (machine_of m.new) (N.device nvm.new) result }
     ensures fails { FailsAs S.scheme (HasInput input.now) (TheHart None)
-        (machine_of m.old) (N.device nvm.old) (N.device nvm.new) result }
+        (machine_of m.old) (N.device nvm.old) (machine_of m.new) (N.device nvm.new) result }
     ensures frame { IsFramed (N.device nvm.old) (N.device nvm.new) }
     ensures cause { CountsFault result (N.device nvm.old).faults (N.device nvm.new).faults }
 {

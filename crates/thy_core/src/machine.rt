@@ -2,10 +2,11 @@
 ghost use Rattle.std.specs.Prelude.{◌≡◌, ℕ, IfOk, IfErr, OnOk, is_err};
 ghost use Rattle.thy_base.specs.Device.{Device, IsFramed, CountsFault};
 ghost use Rattle.thy_dram.specs.Contents.{lost};
-ghost use Rattle.thy_view.specs.Kind.{CanStep, CanRead, LeadsOn, FailsSafe, IsDramOf, ShowsConsole, TellsLoading, HasFailedToRead};
+ghost use Rattle.thy_view.specs.declared.view.View.{View};
+ghost use Rattle.thy_view.specs.Kind.{CanStep, CanRead, CanSnapshot, LeadsOn, FailsSafe, IsDramOf, SnapshotsStopped, ShowsConsole, LeavesAlonePast, TellsLoading, HasFailedToRead};
 ghost use Rattle.thy_view.specs.Origin.{Origin};
 ghost use Rattle.thy_core_model.specs.Kind.{kind_over};
-ghost use Rattle.thy_core_model.specs.Sound.{Sound, IsPowered};
+ghost use Rattle.thy_core_model.specs.Sound.{Sound, SoundStopped, IsPowered};
 ghost use Rattle.thy_core.specs.Reading.{ReadsState};
 
 use crate::parts::Parts;
@@ -58,10 +59,12 @@ impl<S: Scheme> Machine<S> {
         Ok(Machine { parts })
     }
 
-    /// Loses power: all is gone but the DRAM, whose bytes are those that the pick draws.
+    /// Loses power: all is gone but the DRAM, whose bytes are those that the pick draws. Power can come on over it
+    /// again, after a step that failed too.
     pub fn cut(self, pick: u64) -> Dram
         ensures drawn { result ≡ lost (S.scheme.dram self.scheme) pick }
         ensures sized { (o : Origin) (k : ℕ) (n : Device) → Sound S.scheme o k self n → IsDramOf o.geometry result }
+        ensures stopped { (o : Origin) (before : View) → SoundStopped S.scheme o before self → IsDramOf o.geometry result }
     {
         power::cut(self.parts, pick)
     }
@@ -82,8 +85,8 @@ impl<S: Scheme> Machine<S> {
 
     /// One cycle: the pick's, or where its actor has nothing to do the hart's. Takes no memory.
     ///
-    /// After an error the NVM may hold what the failed call left, and nothing but `failed` and `cut` is to be asked of
-    /// the machine.
+    /// After an error the NVM may hold what the failed call left, and nothing but `failed`, `snapshot` and `cut` is to be
+    /// asked of the machine.
     pub fn step<N: Nvm>(
         &mut self,
         pick: Pick,
@@ -92,7 +95,7 @@ impl<S: Scheme> Machine<S> {
     ) -> Result<Stepped, NvmError>
         requires { CanStep (kind_over S.scheme) start.now self.old (N.device nvm.old) }
         ensures steps { LeadsOn (kind_over S.scheme) start.now pick self.old self.new (N.device nvm.old) (N.device nvm.new) result }
-        ensures safe { FailsSafe (kind_over S.scheme) start.now pick self.old (N.device nvm.old) (N.device nvm.new) result }
+        ensures safe { FailsSafe (kind_over S.scheme) start.now pick self.old self.new (N.device nvm.old) (N.device nvm.new) result }
         ensures frame { IsFramed (N.device nvm.old) (N.device nvm.new) }
         ensures cause { CountsFault result (N.device nvm.old).faults (N.device nvm.new).faults }
         ensures failed { self.new.failed ≡ is_err result }
@@ -101,13 +104,15 @@ impl<S: Scheme> Machine<S> {
     }
 
     /// Once the boot is over, the state that the machine executes, where no instruction that is under way has written a
-    /// block: it is that from before this instruction. Not to be asked after a step that failed.
+    /// block: it is that from before this instruction. After a step that failed, the processor's part of the state before
+    /// the instruction under way, with no memory and no console, and the NVM is not read.
     ///
     /// # Errors
     /// `Nvm` where the NVM fails, `Memory` for want of memory.
     pub fn snapshot<N: Nvm>(&self, alloc: Global, nvm: &mut N) -> Result<MachState, CoreError>
-        requires { CanRead (kind_over S.scheme) self.now (N.device nvm.old) }
+        requires { CanSnapshot (kind_over S.scheme) self.now (N.device nvm.old) }
         ensures state { ReadsState S.scheme self.now (N.device nvm.old) result }
+        ensures stopped { SnapshotsStopped (kind_over S.scheme) self.now result }
         ensures same { OnOk result (N.device nvm.new ≡ N.device nvm.old) }
         ensures err { IfErr result (λ e. HasFailedToRead e (N.device nvm.old) (N.device nvm.new)) }
         ensures frame { IsFramed (N.device nvm.old) (N.device nvm.new) }
@@ -116,13 +121,14 @@ impl<S: Scheme> Machine<S> {
     }
 
     /// Once the boot is over, the console of the committed checkpoint from byte `from` on. It is this also when the
-    /// hart has gone on. Not to be asked after a step that failed.
+    /// hart has gone on. Where there is no such byte, the NVM is not read. Not to be asked after a step that failed.
     ///
     /// # Errors
     /// `Nvm` where the NVM fails, `Memory` for want of memory.
     pub fn console<N: Nvm>(&self, alloc: Global, from: u64, nvm: &mut N) -> Result<Bytes, CoreError>
         requires { CanRead (kind_over S.scheme) self.now (N.device nvm.old) }
         ensures console { ShowsConsole (kind_over S.scheme) from self.now (N.device nvm.old) result }
+        ensures past { LeavesAlonePast (kind_over S.scheme) from self.now (N.device nvm.old) (N.device nvm.new) result }
         ensures same { OnOk result (N.device nvm.new ≡ N.device nvm.old) }
         ensures err { IfErr result (λ e. HasFailedToRead e (N.device nvm.old) (N.device nvm.new)) }
         ensures frame { IsFramed (N.device nvm.old) (N.device nvm.new) }

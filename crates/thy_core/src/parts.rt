@@ -37,11 +37,11 @@ pub(crate) struct Parts<S> {
     pub consoles: Consoles,
     /// The state that was sealed last has ended.
     pub ends: bool,
-    /// The cycles of hart and engine since the latest seal.
+    /// The cycles of hart and engine since the latest seal. Contracts speak of it; no code reads it.
     pub spent: u64,
     /// The instructions retired since then.
     pub lap: u64,
-    /// The epoch that was sealed last had retired nothing.
+    /// The epoch that was sealed last had retired nothing. Contracts speak of it; no code reads it.
     pub idle: bool,
     /// A step failed since power came on.
     pub failed: bool,

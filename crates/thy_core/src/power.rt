@@ -2,11 +2,12 @@
 ghost use Rattle.std.specs.Prelude.{◌≡◌, ℕ, ◌<◌, IfOk, length};
 ghost use Rattle.thy_base.specs.Device.{Device};
 ghost use Rattle.thy_dram.specs.Contents.{lost};
+ghost use Rattle.thy_view.specs.declared.view.View.{View};
 ghost use Rattle.thy_view.specs.Kind.{IsDramOf, TellsLoading};
 ghost use Rattle.thy_view.specs.Origin.{Origin};
 ghost use Rattle.thy_core_model.specs.Kind.{kind_over};
 ghost use Rattle.thy_core.specs.Parts.{machine_of};
-ghost use Rattle.thy_core_model.specs.Sound.{Sound, IsPowered};
+ghost use Rattle.thy_core_model.specs.Sound.{Sound, SoundStopped, IsPowered};
 
 use crate::parts::{Checkpoints, Consoles, Parts};
 use std::alloc::{AllocError, Global};
@@ -78,6 +79,7 @@ pub(crate) fn is_loading<S: Scheme>(m: &Parts<S>) -> bool
 pub(crate) fn cut<S: Scheme>(m: Parts<S>, pick: u64) -> Dram
     ensures drawn { result ≡ lost (S.scheme.dram m.behind.scheme) pick }
     ensures sized { (o : Origin) (k : ℕ) (n : Device) → Sound S.scheme o k (machine_of m) n → IsDramOf o.geometry result }
+    ensures stopped { (o : Origin) (before : View) → SoundStopped S.scheme o before (machine_of m) → IsDramOf o.geometry result }
 {
     m.behind.scheme.cut(pick)
 }

@@ -4,7 +4,7 @@ ghost use Rattle.thy_base.specs.Blocks.{block_bytes};
 ghost use Rattle.thy_base.specs.Bytes.{bytes_of};
 ghost use Rattle.thy_base.specs.Device.{block_at, HasFailed, IsFramed, CountsFault};
 ghost use Rattle.thy_flat.specs.Flat.{flat, console_bytes};
-ghost use Rattle.thy_view.specs.Kind.{HasFailedToRead};
+ghost use Rattle.thy_view.specs.Kind.{ReadsNothing, HasFailedToRead};
 ghost use Rattle.thy_scheme.specs.Scheme.{CanRun};
 ghost use Rattle.thy_core_model.specs.Machine.{memory_of};
 ghost use Rattle.thy_core.specs.Parts.{machine_of};
@@ -116,7 +116,7 @@ fn part(bytes: &[u8], from: usize, count: usize) -> &[u8]
     &rest[..count.min(rest.len())]
 }
 
-/// The console of a version, of so many bytes, from byte `from` on.
+/// The console of a version, of so many bytes, from byte `from` on. Where it has no such byte, nothing is read.
 pub(crate) fn read_console<N: Nvm, S: Scheme>(
     alloc: Global,
     m: &Parts<S>,
@@ -129,6 +129,7 @@ pub(crate) fn read_console<N: Nvm, S: Scheme>(
     requires roomy { IsRoomy m.now.hart.geometry len (blocks_in S.scheme version (machine_of m.now) (N.device nvm.old)) }
     ensures console { IfOk result (λ b. bytes_of b ≡ drop from
         (console_bytes m.now.hart.geometry (blocks_in S.scheme version (machine_of m.now) (N.device nvm.old)) len)) }
+    ensures past { len ≤ from → ReadsNothing (N.device nvm.old) (N.device nvm.new) result }
     ensures same { OnOk result (N.device nvm.new ≡ N.device nvm.old) }
     ensures err { IfErr result (λ e. HasFailedToRead e (N.device nvm.old) (N.device nvm.new)) }
     ensures frame { IsFramed (N.device nvm.old) (N.device nvm.new) }

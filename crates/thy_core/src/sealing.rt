@@ -21,7 +21,7 @@ pub(crate) fn prepare<N: Nvm, S: Scheme>(m: &mut Parts<S>, nvm: &mut N) -> Resul
     ensures leads { LeadsAs S.scheme IsAnyRun (TheHart (Some Sealing))
         (machine_of m.old) (N.device nvm.old) (machine_of m.new) (N.device nvm.new) result }
     ensures fails { FailsAs S.scheme IsAnyRun (TheHart (Some Sealing))
-        (machine_of m.old) (N.device nvm.old) (N.device nvm.new) result }
+        (machine_of m.old) (N.device nvm.old) (machine_of m.new) (N.device nvm.new) result }
     ensures frame { IsFramed (N.device nvm.old) (N.device nvm.new) }
     ensures cause { CountsFault result (N.device nvm.old).faults (N.device nvm.new).faults }
 {
@@ -43,7 +43,7 @@ fn promote<N: Nvm, S: Scheme>(m: &mut Parts<S>, nvm: &mut N) -> Result<Did, NvmE
     ensures leads { LeadsAs S.scheme IsAnyRun (TheHart (Some Sealing))
         (machine_of m.old) (N.device nvm.old) (machine_of m.new) (N.device nvm.new) result }
     ensures fails { FailsAs S.scheme IsAnyRun (TheHart (Some Sealing))
-        (machine_of m.old) (N.device nvm.old) (N.device nvm.new) result }
+        (machine_of m.old) (N.device nvm.old) (machine_of m.new) (N.device nvm.new) result }
     ensures frame { IsFramed (N.device nvm.old) (N.device nvm.new) }
     ensures cause { CountsFault result (N.device nvm.old).faults (N.device nvm.new).faults }
 {
@@ -60,7 +60,7 @@ fn flush<N: Nvm, S: Scheme>(m: &mut Parts<S>, nvm: &mut N) -> Result<Did, NvmErr
     ensures leads { LeadsAs S.scheme IsAnyRun (TheHart (Some Sealing))
         (machine_of m.old) (N.device nvm.old) (machine_of m.new) (N.device nvm.new) result }
     ensures fails { FailsAs S.scheme IsAnyRun (TheHart (Some Sealing))
-        (machine_of m.old) (N.device nvm.old) (N.device nvm.new) result }
+        (machine_of m.old) (N.device nvm.old) (machine_of m.new) (N.device nvm.new) result }
     ensures frame { IsFramed (N.device nvm.old) (N.device nvm.new) }
     ensures cause { CountsFault result (N.device nvm.old).faults (N.device nvm.new).faults }
 {

@@ -1,12 +1,12 @@
 //! What a machine is read for: the state that it executes, and the console of its committed checkpoint.
-ghost use Rattle.std.specs.Prelude.{◌≡◌, IfOk, IfErr, OnOk};
+ghost use Rattle.std.specs.Prelude.{◌≡◌, [], IfOk, IfErr, OnOk};
 ghost use Rattle.thy_base.specs.Device.{IsFramed};
 ghost use Rattle.thy_hart.specs.Laws.{IsSized};
 ghost use Rattle.thy_hart.specs.OneStep.{current};
 ghost use Rattle.thy_isa.specs.Step.{state_of, state_with};
 ghost use Rattle.thy_base.specs.Bytes.{bytes_of};
 ghost use Rattle.thy_scheme.specs.Scheme.{CanRun};
-ghost use Rattle.thy_view.specs.Kind.{CanRead, ShowsConsole, HasFailedToRead};
+ghost use Rattle.thy_view.specs.Kind.{CanRead, CanSnapshot, SnapshotsStopped, ShowsConsole, LeavesAlonePast, HasFailedToRead};
 ghost use Rattle.thy_core_model.specs.Kind.{kind_over};
 ghost use Rattle.thy_core_model.specs.Machine.{memory_of};
 ghost use Rattle.thy_core.specs.Parts.{machine_of};
@@ -37,6 +37,13 @@ fn state_with(cpu: &CpuState, memory: Bytes, console: Bytes) -> MachState
     }
 }
 
+/// The state of a processor without memory and console.
+fn bare(alloc: Global, cpu: &CpuState) -> MachState
+    ensures { state_of result ≡ state_with cpu.now [] [] }
+{
+    state_with(cpu, Bytes::new(alloc), Bytes::new(alloc))
+}
+
 /// The state of processor and memory, behind the boot.
 fn executing<N: Nvm, S: Scheme>(
     alloc: Global,
@@ -58,21 +65,25 @@ fn executing<N: Nvm, S: Scheme>(
     Ok(state_with(cpu, memory, console))
 }
 
-/// The state that a machine executes, where no instruction that is under way has written a block. In the boot it has no
-/// memory, and nothing is read.
+/// The state that a machine executes, where no instruction that is under way has written a block. In the boot, and after
+/// a step that failed, it has no memory, and nothing is read.
 pub(crate) fn snapshot<N: Nvm, S: Scheme>(
     alloc: Global,
     m: &Parts<S>,
     nvm: &mut N,
 ) -> Result<MachState, CoreError>
-    requires { CanRead (kind_over S.scheme) (machine_of m.now) (N.device nvm.old) }
+    requires { CanSnapshot (kind_over S.scheme) (machine_of m.now) (N.device nvm.old) }
     ensures state { ReadsState S.scheme (machine_of m.now) (N.device nvm.old) result }
+    ensures stopped { SnapshotsStopped (kind_over S.scheme) (machine_of m.now) result }
     ensures same { OnOk result (N.device nvm.new ≡ N.device nvm.old) }
     ensures err { IfErr result (λ e. HasFailedToRead e (N.device nvm.old) (N.device nvm.new)) }
     ensures frame { IsFramed (N.device nvm.old) (N.device nvm.new) }
 {
+    if m.failed {
+        return Ok(bare(alloc, m.hart.cpu()));
+    }
     match m.phase {
-        Phase::Boot => Ok(state_with(m.hart.cpu(), Bytes::new(alloc), Bytes::new(alloc))),
+        Phase::Boot => Ok(bare(alloc, m.hart.cpu())),
         Phase::Run | Phase::Halt => executing(alloc, m, nvm),
     }
 }
@@ -86,6 +97,8 @@ pub(crate) fn console<N: Nvm, S: Scheme>(
 ) -> Result<Bytes, CoreError>
     requires { CanRead (kind_over S.scheme) (machine_of m.now) (N.device nvm.old) }
     ensures console { ShowsConsole (kind_over S.scheme) from (machine_of m.now) (N.device nvm.old) result }
+    ensures past { LeavesAlonePast (kind_over S.scheme) from (machine_of m.now)
+        (N.device nvm.old) (N.device nvm.new) result }
     ensures same { OnOk result (N.device nvm.new ≡ N.device nvm.old) }
     ensures err { IfErr result (λ e. HasFailedToRead e (N.device nvm.old) (N.device nvm.new)) }
     ensures frame { IsFramed (N.device nvm.old) (N.device nvm.new) }

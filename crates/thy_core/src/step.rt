@@ -25,7 +25,8 @@ pub(crate) fn take_step<N: Nvm, S: Scheme>(
     requires { CanStep (kind_over S.scheme) start.now (machine_of m.old) (N.device nvm.old) }
     ensures steps { LeadsOn (kind_over S.scheme) start.now pick
         (machine_of m.old) (machine_of m.new) (N.device nvm.old) (N.device nvm.new) result }
-    ensures safe { FailsSafe (kind_over S.scheme) start.now pick (machine_of m.old) (N.device nvm.old) (N.device nvm.new) result }
+    ensures safe { FailsSafe (kind_over S.scheme) start.now pick
+        (machine_of m.old) (machine_of m.new) (N.device nvm.old) (N.device nvm.new) result }
     ensures frame { IsFramed (N.device nvm.old) (N.device nvm.new) }
     ensures cause { CountsFault result (N.device nvm.old).faults (N.device nvm.new).faults }
     ensures failed { m.new.failed ≡ is_err result }

@@ -2,7 +2,7 @@
 ghost use Rattle.std.specs.Prelude.{◌≡◌, is_some};
 ghost use Rattle.thy_core_model.specs.Machine.{shortage_of};
 ghost use Rattle.thy_core.specs.Parts.{machine_of, actor_seen};
-ghost use Rattle.thy_core.specs.Turns.{lacks, waits_now, stall_now, engine_now, turn_now};
+ghost use Rattle.thy_core.specs.Turns.{lacks, stopped_now, waits_now, stall_now, engine_now, turn_now};
 ghost use Rattle.thy_view.specs.Turn.{TheHart};
 
 use crate::parts::Parts;
@@ -33,24 +33,26 @@ fn lacks(free: u64, dirty: u64, need: Option<u64>) -> bool
     }
 }
 
-/// Whether the hart can't reserve room: no checkpoint lets it, or entries are short.
+/// Whether entries are short for the room that the hart is to reserve.
 fn is_short<S: Scheme>(m: &Parts<S>) -> bool
     ensures { result ≡ is_some (shortage_of S.scheme (machine_of m.now)) }
 {
-    if m.behind.scheme.under_way() && !S::overlaps() {
-        return true;
-    }
     lacks(m.behind.scheme.free(), m.cache.dirty(), m.hart.to_reserve())
+}
+
+/// Whether the sealed state has ended, and nothing is left to be promoted.
+fn has_stopped<S: Scheme>(m: &Parts<S>) -> bool
+    ensures { result ≡ stopped_now S.scheme (machine_of m.now) }
+{
+    m.checkpoints.sealed.is_some() && m.ends && !m.behind.scheme.promoting()
 }
 
 /// Whether the hart waits for the checkpoint that is under way.
 fn waits<S: Scheme>(m: &Parts<S>) -> bool
     ensures { result ≡ waits_now S.scheme (machine_of m.now) }
 {
-    m.checkpoints.sealed.is_some()
-        && (m.hart.epoch().over().is_some()
-            || is_short(m)
-            || m.ends && !m.behind.scheme.promoting())
+    m.behind.scheme.under_way()
+        && (!S::overlaps() || m.hart.epoch().over().is_some() || is_short(m) || has_stopped(m))
 }
 
 /// Why the hart advances no instruction at its turn.
@@ -100,7 +102,7 @@ fn engine_turn<S: Scheme>(m: &Parts<S>, hart: Actor) -> Actor
     ensures { actor_seen result ≡ engine_now S.scheme m.now.phase (machine_of m.now) }
 {
     match m.phase {
-        Phase::Run => if m.checkpoints.sealed.is_some() {
+        Phase::Run => if m.behind.scheme.under_way() {
             Actor::Engine
         } else {
             hart

@@ -1,12 +1,15 @@
 -- The plain machine at a count, and the processor's part of a state.
-use Rattle.std.proofs.Common.{◌≡◌, ℕ, suc, ◌+◌, ◌-◌, ◌≤◌, true, List, refl, sym, ◌∙◌, ap, arith, inl, inr}
+use Rattle.std.proofs.Common.{◌≡◌, ℕ, suc, ◌+◌, ◌-◌, ◌≤◌, true, List, [], refl, sym, ◌∙◌, ap, arith, inl, inr}
 use Rattle.std.proofs.lemmas.Bool.{cases_lt}
 use Rattle.thy_base.specs.declared.block.Block.{Block}
+use Rattle.thy_base.specs.declared.config.Parameters.{Parameters}
+use Rattle.thy_isa.specs.declared.state.CpuState.{CpuState}
 use Rattle.thy_isa.specs.OnBlocks.{state_from}
-use Rattle.thy_isa.specs.Step.{step, steps}
+use Rattle.thy_isa.specs.Step.{State, state_with, step, steps}
 use Rattle.thy_isa.proofs.StepLaws.{step-count}
 use Rattle.thy_hart.specs.Core.{Core}
 use Rattle.thy_hart.specs.OneStep.{current}
+use Rattle.thy_view.specs.Kind.{without_memory}
 use Rattle.thy_view.specs.Origin.{Origin, setting_of, at, runs_at}
 
 -- one instruction on
@@ -45,3 +48,11 @@ count-current h memory = refl
 pub status-current : (h : Core) (memory : List Block) → (current h memory).status ≡ h.cpu.status
 unfolding current state_from
 status-current h memory = refl
+
+pub processor-current : (h : Core) (memory : List Block) (s : State) → current h memory ≡ s → state_with h.cpu [] [] ≡ without_memory s
+unfolding current state_from
+processor-current h memory s is = ap without_memory is
+
+pub processor-from : (p : Parameters) (cpu : CpuState) (blocks : List Block) (s : State) → state_from p cpu blocks ≡ s → state_with cpu [] [] ≡ without_memory s
+unfolding state_from
+processor-from p cpu blocks s is = ap without_memory is

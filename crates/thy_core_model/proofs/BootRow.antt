@@ -1,12 +1,12 @@
 -- A step of the boot leads to the next moment: in the boot, or behind it with the hart at the checkpoint that was found.
-use Rattle.std.proofs.Common.{◌≡◌, ◌≢◌, ℕ, ◌+◌, ◌≤◌, Bool, true, false, if◌then◌else◌, List, length, Option, Some, None, refl, sym, ◌∙◌, ap, subst, arith, inl, inr}
+use Rattle.std.proofs.Common.{◌≡◌, ◌≢◌, ℕ, ◌+◌, Bool, true, false, if◌then◌else◌, List, length, Option, Some, None, refl, sym, ◌∙◌, ap, subst, arith, inl, inr}
 use Rattle.thy_base.specs.declared.block.Block.{Block}
 use Rattle.thy_base.specs.declared.config.Parameters.{Parameters}
 use Rattle.thy_base.specs.declared.mark.Mark.{Mark}
 use Rattle.thy_base.specs.Device.{Device}
 use Rattle.thy_base.specs.Marks.{mark}
 use Rattle.thy_base.proofs.RangeLemmas.{epoch_least}
-use Rattle.thy_cache.specs.Contents.{Contents, dirty_count}
+use Rattle.thy_cache.specs.Contents.{Contents}
 use Rattle.thy_flat.proofs.MemoryLaws.{length-console_bytes}
 use Rattle.thy_hart.specs.Core.{new_hart, next_block, reserved}
 use Rattle.thy_hart.specs.Laws.{IsSized, Follows}
@@ -29,6 +29,7 @@ use Rattle.thy_view.specs.CoreStep.{phase_at, CoreStep}
 use Rattle.thy_view.specs.Dram.{LeavesDram}
 use Rattle.thy_view.specs.Pace.{Queues, Boots as Ends, Strides as StridesOn}
 use Rattle.thy_view.specs.Origin.{Origin, StartsFrom, IsOrigin, at, runs_at}
+use Rattle.thy_view.specs.Work.{Works}
 use Rattle.thy_scheme.specs.declared.boot_step.BootStep.{BootStep}
 use Rattle.thy_scheme.specs.declared.boot_step.BootStep.TheVariants.{GoesOn, Loaded, Restarted, Refused}
 use Rattle.thy_scheme.specs.Behind.{held_behind}
@@ -37,15 +38,16 @@ use Rattle.thy_scheme.specs.Marks.{only}
 use Rattle.thy_scheme.specs.Scheme.{SchemeOf, IsBooting}
 use Rattle.thy_scheme.specs.Calls.{queued_in}
 use Rattle.thy_scheme.specs.Laws.{RunHolds}
-use Rattle.thy_core_model.specs.Machine.{Machine, run_view, view_in, view_of, is_barred, has_read_in, boot_left_in}
+use Rattle.thy_core_model.specs.Machine.{Machine, run_view, view_in, view_of, gauge_of, has_read_in, boot_left_in}
 use Rattle.thy_core_model.specs.Sound.{IsHeld, IsPaced, IsBlank, SoundRun, SoundIn}
 use Rattle.thy_core_model.specs.Calls.{running_from, after_boot}
 use Rattle.thy_core_model.specs.Rows.{Leads, At, BootLeads}
-use Rattle.thy_core_model.proofs.AtLemmas.{at-late}
+use Rattle.thy_core_model.proofs.AtLemmas.{at-late, processor-from}
 use Rattle.thy_core_model.proofs.EpochLemmas.{few-moves}
 use Rattle.thy_core_model.proofs.KeepsLaws.{up_after}
 use Rattle.thy_core_model.proofs.LawfulLaws.{boots_phase}
 use Rattle.thy_core_model.proofs.SmallLaws.{small_step}
+use Rattle.thy_core_model.proofs.WorkLaws.{booting_no_more}
 
 -- ---- the view of a boot
 
@@ -57,10 +59,6 @@ boots_spent o v shown = elim shown as (λ _. v.spent ≡ 0) [
     | inr e ↦ ap (λ (w : View). w.spent) e
   ]
 ]
-
-no_entries : (barred : Bool) (dirty free : ℕ) → dirty ≡ 0 → (if barred then 0 else dirty) ≤ (if barred then 0 else free)
-no_entries true dirty free none = omega arith
-no_entries false dirty free none = omega (arith, none)
 
 -- ---- the phase behind a boot
 
@@ -174,7 +172,13 @@ module _ {S : Type 0} (K : SchemeOf S) (o : Origin) (m : Machine S) (cpu : CpuSt
     checkpoints = booted.sound;
     held = held_here;
     follows = subst (Follows o.input (at o cpu.count) (new_hart o.geometry cpu (epoch + 1))) (sym (blank.reads blocks)) follows_blocks;
-    counted = record { start = at-late o cpu.count count_here; count = count_here; running = runs_here };
+    writes = tt;
+    counted = record {
+      start = at-late o cpu.count count_here;
+      count = count_here;
+      processor = processor-from o.geometry cpu blocks (at o cpu.count) booted.state;
+      running = runs_here;
+    };
     epoch = record { began = λ none. refl; span = refl; retired = epoch_least o.geometry origin.geometry; hand = λ over. refl };
     numbered = record { epoch = refl; sealed = λ s e. absurd (cc); unwritten = λ e. refl };
     shown = record { done = console_here; sealed = λ s e. absurd (cc); ends = λ s e. absurd (cc) };
@@ -234,8 +238,9 @@ module _ {S : Type 0} (K : SchemeOf S) (o : Origin) (cycles : ℕ) (m : Machine 
           queues = b.queue;
           boots = λ boot. b.nearer;
           strides = refl;
-          entries = no_entries (is_barred K (after_boot o GoesOn t (in_boot o m))) (dirty_count m.cache + reserved m.hart.hand) (K.free t) (omega (arith, unreserved, clean));
+          entries = omega (arith, unreserved, clean);
         };
+        works = record { done = tt; left = booting_no_more K DidBoot (in_boot o m) (after_boot o GoesOn t (in_boot o m)) n new };
         exhausts = λ moved. absurd (cc);
         read = λ empty. b.read;
         still = λ found boot done. b.still found done;
@@ -244,10 +249,11 @@ module _ {S : Type 0} (K : SchemeOf S) (o : Origin) (cycles : ℕ) (m : Machine 
   -- its last step, by what the cycle is told to have done
   boots_up : (did : Did) (cpu : CpuState) (epoch : ℕ) → IsBooted K o (mark epoch cpu.count) cpu t new
       → Acts did n new → LeavesDram did n new (K.dram m.scheme) (K.dram t) → CoreStep o (K.boot_view o m.scheme n) did (run_view (running_from cpu epoch t (in_boot o m)))
-      → Queues did (queued_in K m.scheme n) (queued_in K t new) → Ends did (K.boot_left m.scheme) 0 → StridesOn did (K.boot_view o m.scheme n).retired m.idle m.idle → did ≢ Moved
+      → Queues did (queued_in K m.scheme n) (queued_in K t new) → Ends did (K.boot_left m.scheme) 0 → StridesOn did (K.boot_view o m.scheme n).retired m.idle m.idle
+      → Works did (gauge_of K (in_boot o m) n) (gauge_of K (running_from cpu epoch t (in_boot o m)) new) n new (K.dram m.scheme) (K.dram t) → did ≢ Moved
       → ((found : Mark) → (K.boot_view o m.scheme n).done ≡ Some found → new ≡ n)
       → Leads K o cycles did (in_boot o m) n (running_from cpu epoch t (in_boot o m)) new
-  boots_up did cpu epoch booted acts dram step queues ends strides other still =
+  boots_up did cpu epoch booted acts dram step queues ends strides works other still =
       let next : Machine S = running_from cpu epoch t (in_boot o m) in
       let runs : Bool = is_running cpu.status in
       let up = up_after did n new at.sound.up acts in
@@ -275,8 +281,9 @@ module _ {S : Type 0} (K : SchemeOf S) (o : Origin) (cycles : ℕ) (m : Machine 
           queues = queues;
           boots = λ boot. subst (Ends did (K.boot_left m.scheme)) (sym (left_in K o next new runs)) ends;
           strides = strides;
-          entries = no_entries (is_barred K next) (dirty_count m.cache + 0) (K.free t) (omega (arith, clean));
+          entries = omega (arith, clean);
         };
+        works = works;
         exhausts = λ moved. absurd (other moved);
         read = λ empty. read_in K o next new runs;
         still = λ found boot done. still found done;
@@ -324,7 +331,7 @@ module _ {S : Type 0} (K : SchemeOf S) (o : Origin) (cycles : ℕ) (m : Machine 
         becomes = begins (cpu_of o.start) 0 Run runs
             ∙ ap (λ (w : View). record w { phase = Run; done = w.sealed; sealed = None; epoch = 1; count = o.start.count; written = false }) (sym l.view);
       })
-      b.queue (let left = b.nearer in omega arith) refl (λ moved. absurd (cc)) b.still
+      b.queue (let left = b.nearer in omega arith) refl (record { done = tt; left = record { moves = λ e. absurd (cc); owed = λ e. absurd (cc); owed_in_all = λ e. absurd (cc); promotions = λ e. absurd (cc) } }) (λ moved. absurd (cc)) b.still
 
   restarts : (cpu : CpuState) (epoch : ℕ) → BootsOn K o (Restarted cpu epoch) m.scheme n t new
       → Leads K o cycles (DidRestart epoch cpu.count) (in_boot o m) n (after_boot o (Restarted cpu epoch) t (in_boot o m)) new
@@ -343,7 +350,7 @@ module _ {S : Type 0} (K : SchemeOf S) (o : Origin) (cycles : ℕ) (m : Machine 
         becomes = begins cpu epoch (phase_at o cpu.count) runs
             ∙ ap (λ (w : View). record w { phase = phase_at o cpu.count; epoch = epoch + 1; count = cpu.count; retired = 0; spent = 0; lap = 0 }) (sym r.view);
       })
-      b.queue (let left = b.nearer in omega arith) refl (λ moved. absurd (cc)) b.still
+      b.queue (let left = b.nearer in omega arith) refl (record { done = tt; left = record { moves = λ e. absurd (cc); owed = λ e. absurd (cc); owed_in_all = λ e. absurd (cc); promotions = λ e. absurd (cc) } }) (λ moved. absurd (cc)) b.still
 
   boots_in : (step : BootStep) → BootsOn K o step m.scheme n t new → Leads K o cycles (boot_did step) (in_boot o m) n (after_boot o step t (in_boot o m)) new
   boots_in GoesOn b = goes_on b

@@ -11,17 +11,18 @@ use Rattle.thy_view.specs.declared.view.View.{View}
 use Rattle.thy_view.specs.Action.{Acts}
 use Rattle.thy_view.specs.Booting.{boot_view, loading_view}
 use Rattle.thy_view.specs.CoreStep.{CoreStep}
-use Rattle.thy_view.specs.Dram.{LeavesDram}
+use Rattle.thy_view.specs.Dram.{LeavesDram, WritesBlock}
 use Rattle.thy_view.specs.Origin.{Origin}
 use Rattle.thy_view.specs.Pace.{Queues, Boots, Strides}
+use Rattle.thy_view.specs.Work.{GetsDone, Works}
 use Rattle.thy_scheme.specs.Scheme.{SchemeOf}
 use Rattle.thy_scheme.specs.Boots.{IsBootView}
 use Rattle.thy_scheme.specs.Laws.{IsLawful, BootHolds}
-use Rattle.thy_core_model.specs.Machine.{Machine, view_in, view_of, is_barred, boot_left_in, has_read_in}
+use Rattle.thy_core_model.specs.Machine.{Machine, view_in, view_of, gauge_in, boot_left_in, has_read_in}
 use Rattle.thy_core_model.specs.Sound.{IsSmall, SoundBoot, SoundIn, Sound}
 use Rattle.thy_core_model.specs.Calls.{after_drain}
 use Rattle.thy_core_model.specs.Rows.{Leads, At}
-use Rattle.thy_core_model.proofs.KeepsLaws.{entries_in}
+use Rattle.thy_core_model.proofs.WorkLaws.{booting_no_more}
 
 pub view-boot : {S : Type 0} (K : SchemeOf S) (o : Origin) (m : Machine S) (n : Device) → m.phase ≡ Boot → view_of K o m n ≡ K.boot_view o m.scheme n
 view-boot K o m n e = ap (λ phase. view_in K o phase m n) e
@@ -63,10 +64,12 @@ pub leads-booting : {S : Type 0} (K : SchemeOf S) (o : Origin) (cycles : ℕ) (d
     → IsSmall (cycles + 1) (K.boot_view o t new) → CoreStep o (K.boot_view o m.scheme n) did (K.boot_view o t new) → Acts did n new
     → LeavesDram did n new (K.dram m.scheme) (K.dram t)
     → Queues did (length n.queue + K.queued m.scheme) (length new.queue + K.queued t) → Boots did (K.boot_left m.scheme) (K.boot_left t)
-    → Strides did (K.boot_view o m.scheme n).retired m.idle m.idle → (n.queue ≡ [] → K.has_read t ≡ true)
+    → Strides did (K.boot_view o m.scheme n).retired m.idle m.idle
+    → GetsDone did (gauge_in K Boot m n) (gauge_in K Boot (after_drain t m) new) (WritesBlock n new (K.dram m.scheme) (K.dram t))
+    → (n.queue ≡ [] → K.has_read t ≡ true)
     → ((found : Mark) → (K.boot_view o m.scheme n).done ≡ Some found → new ≡ n)
     → Leads K o cycles did m n (after_drain t m) new
-leads-booting {S} K o cycles did m n t new at-m phase other up boots small step acts dram queues left strides read still =
+leads-booting {S} K o cycles did m n t new at-m phase other up boots small step acts dram queues left strides done read still =
     let old-view = view-boot K o m n phase in
     let new-view = view-boot K o (after_drain t m) new phase in
     let blank = (sound-boot K o cycles m n at-m.sound phase).blank in
@@ -92,8 +95,10 @@ leads-booting {S} K o cycles did m n t new at-m phase other up boots small step 
         queues = queues;
         boots = λ _. subst (λ x. Boots did (boot_left_in K x m) (boot_left_in K x (after_drain t m))) (sym phase) left;
         strides = subst (λ (v : View). Strides did v.retired m.idle m.idle) (sym old-view) strides;
-        entries = entries_in (is_barred K (after_drain t m)) (dirty_count m.cache + reserved m.hart.hand) (K.free t) clean;
+        entries = clean;
       };
+      works = subst (λ x. Works did (gauge_in K x m n) (gauge_in K x (after_drain t m) new) n new (K.dram m.scheme) (K.dram t)) (sym phase)
+          (record { done = done; left = booting_no_more K did m (after_drain t m) n new });
       exhausts = λ e. absurd (other e);
       read = λ e. ap (λ x. has_read_in K x (after_drain t m)) phase ∙ read e;
       still = λ found boot done. still found (sym (ap (λ (v : View). v.done) old-view) ∙ done);

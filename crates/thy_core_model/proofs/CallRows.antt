@@ -11,7 +11,8 @@ use Rattle.thy_core_model.specs.Pace.{flushes_left, hart_left, cycles_left, most
 use Rattle.thy_core_model.specs.Rows.{MergeLeads, PromotionLeads}
 use Rattle.thy_core_model.specs.Sound.{SoundRun}
 use Rattle.thy_core_model.proofs.SealingLaws.{IsOver, over_at}
-use Rattle.thy_core_model.proofs.KeepsLaws.{run_of, runs_behind, leads_on, hart_left_kept, sound_kept, up_after}
+use Rattle.thy_core_model.proofs.KeepsLaws.{run_of, runs_behind, leads_on, left_on, hart_left_kept, sound_kept, up_after}
+use Rattle.thy_core_model.proofs.WorkLaws.{number_behind}
 
 pub promotion_leads : {S : Type 0} (K : SchemeOf S) → PromotionLeads K
 promotion_leads {S} K = λ o cycles m n t new at sealing whole p.
@@ -36,6 +37,10 @@ promotion_leads {S} K = λ o cycles m n t new at sealing whole p.
       dram = p.dram;
       queues = p.queue;
       strides = refl;
+      done = let promoted_was = number_behind m.phase (K.promotions_left m.scheme) behind in
+          let promoted_is = number_behind m.phase (K.promotions_left t) behind in
+          (omega (arith, promoted_was, promoted_is, nearer), p.writes);
+      left = left_on K Promoted m n t (m.spent + 1) new p.keeps (λ e. p.owes);
       exhausts = λ is. absurd (cc);
     })
 
@@ -48,7 +53,7 @@ pub merge_leads : {S : Type 0} (K : SchemeOf S) → MergeLeads K
 merge_leads {S} K = λ o cycles m n t at sealing whole clean p.
     let behind : m.phase ≢ Boot = runs_behind m.phase sealing.phase in
     let s : SoundRun K o m n = run_of K o cycles m n at.sound behind in
-    let over : IsOver m.hart.epoch.over m.marks.sealed = over_at K o m n sealing whole in
+    let over : IsOver m.hart.epoch.over (K.under_way m.scheme) = over_at K o m n sealing whole in
     let next : Machine S = after_call t m in
     let spent : m.spent + cycles_left K o.geometry m n < most_spent K o.geometry = s.paced.spent in
     let one = p.nearer in
@@ -72,5 +77,7 @@ merge_leads {S} K = λ o cycles m n t at sealing whole clean p.
       dram = p.dram;
       queues = omega (arith, queue);
       strides = refl;
+      done = tt;
+      left = left_on K Merged m n t (m.spent + 1) n p.keeps (λ e. p.owes);
       exhausts = λ is. absurd (cc);
     })

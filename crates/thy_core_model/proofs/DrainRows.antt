@@ -15,7 +15,7 @@ use Rattle.thy_core_model.specs.Machine.{Machine}
 use Rattle.thy_core_model.specs.Rows.{Leads, At, NvmDrainLeads, DramDrainLeads, BootDrainLeads, NothingLeads}
 use Rattle.thy_core_model.specs.Sound.{SoundRun}
 use Rattle.thy_core_model.proofs.BootingLaws.{holds-boot, small-boot, leads-booting}
-use Rattle.thy_core_model.proofs.KeepsLaws.{run_of, stands, left_kept, leads_on, sound_kept}
+use Rattle.thy_core_model.proofs.KeepsLaws.{run_of, stands, left_kept, left_on, leads_on, sound_kept}
 use Rattle.thy_core_model.proofs.SmallLaws.{small_step}
 
 -- of a queue that is not empty one write lands
@@ -55,6 +55,8 @@ module _ {S : Type 0} (K : SchemeOf S) (o : Origin) (cycles : ℕ) (m : Machine 
         dram = inl refl;
         queues = omega (arith, drained_queue n some);
         strides = refl;
+        done = tt;
+        left = left_on K NvmDrained m n m.scheme m.spent (drained n) (holds.drained_keeps some) (λ e. holds.drained_owes some);
         exhausts = λ is. absurd (cc);
       })
 
@@ -73,6 +75,8 @@ dram_drain_leads {S} K = λ o cycles m n t at behind some drains.
       dram = drains.dram;
       queues = omega (arith, queue);
       strides = refl;
+      done = tt;
+      left = left_on K DramDrained m n t m.spent n drains.keeps (λ e. drains.owes);
       exhausts = λ is. absurd (cc);
     })
 
@@ -101,6 +105,8 @@ nothing_leads {S} K = λ o cycles m n at phase.
       dram = inl refl;
       queues = omega arith;
       strides = refl;
+      done = tt;
+      left = left_on K Nothing m n m.scheme m.spent n (keeps_itself K m.scheme n) (λ e. omega arith);
       exhausts = λ is. absurd (cc);
     })
 
@@ -115,6 +121,7 @@ nvm_booting K o cycles m n at phase some =
     leads-booting K o cycles NvmDrained m n m.scheme (drained n) at phase (λ e. absurd (cc)) at.sound.up stays.boots
     (small_step o cycles (K.boot_view o m.scheme n) (K.boot_view o m.scheme (drained n)) small NvmDrained stays.view)
     stays.view (record { action = Drain; asked = refl; left = refl }) (inl refl) (omega (arith, drained_queue n some)) (omega arith) refl
+    tt
     (λ e. absurd (omega (arith, some, ap (λ (q : List Write). length q) e)))
     (λ found done. absurd (omega (arith, some, ap (λ (q : List Write). length q) (holds.settled found done))))
 
@@ -132,6 +139,7 @@ boot_drain_leads {S} K = λ o cycles m n t at phase some drains.
     leads-booting K o cycles DramDrained m n t n at phase (λ e. absurd (cc)) at.sound.up stays.boots
     (small_step o cycles (K.boot_view o m.scheme n) (K.boot_view o t n) small DramDrained stays.view)
     stays.view (record { action = Rest; asked = refl; left = refl }) drains.dram (omega (arith, queue)) (omega (arith, left)) refl
+    tt
     (λ e. reads_on (K.has_read m.scheme) (K.has_read t) (K.queued m.scheme) stays.read unread some) (λ found done. refl)
 
 -- ---- in each phase

@@ -1,8 +1,12 @@
 -- A step of the engine leads on: with the last one the sealed checkpoint is the committed one.
-use Rattle.std.proofs.Common.{◌≡◌, ◌≢◌, ℕ, ◌+◌, ◌<◌, ◌≤◌, Bool, true, false, not, if◌then◌else◌, is_some, length, unwrap_or, Option, Some, None, refl, sym, ◌∙◌, ap, subst, arith}
+use Rattle.std.proofs.Common.{◌≡◌, ◌≢◌, ℕ, ◌+◌, ◌<◌, ◌≤◌, Bool, true, false, not, if◌then◌else◌, length, unwrap_or, Option, Some, None, refl, sym, ◌∙◌, ap, ap₂, subst, arith}
+use Rattle.thy_base.specs.declared.cause.EndCause.{EndCause}
 use Rattle.thy_base.specs.declared.mark.Mark.{Mark}
 use Rattle.thy_base.specs.Device.{Device}
 use Rattle.thy_base.specs.Marks.{mark}
+use Rattle.thy_cache.specs.Contents.{Contents}
+use Rattle.thy_hart.specs.Core.{Core}
+use Rattle.thy_hart.specs.Moments.{moment, moves_left}
 use Rattle.thy_record.specs.declared.engine_step.EngineStep.{EngineStep}
 use Rattle.thy_record.specs.declared.engine_step.EngineStep.TheVariants.{Idle, Copied, PageBlock, StateBlock, TableBlock, Barrier, CommitWritten, Committed}
 use Rattle.thy_view.specs.declared.did.Did.{Did}
@@ -13,14 +17,17 @@ use Rattle.thy_view.specs.CoreStep.{phase_at, busier, CoreStep}
 use Rattle.thy_view.specs.Dram.{ActsOnDram}
 use Rattle.thy_view.specs.Origin.{Origin, at, runs_at}
 use Rattle.thy_view.specs.Turn.{has_stopped}
+use Rattle.thy_view.specs.Work.{adds_copies}
+use Rattle.thy_scheme.specs.Behind.{held_behind}
 use Rattle.thy_scheme.specs.Scheme.{SchemeOf}
-use Rattle.thy_scheme.specs.Calls.{queued_in, Keeps, Engines, engine_did}
+use Rattle.thy_scheme.specs.Calls.{queued_in, Keeps, OwesNoMore, Engines, engine_did}
 use Rattle.thy_core_model.specs.Calls.{after_call, phase_after, after_engine}
-use Rattle.thy_core_model.specs.Machine.{Machine, run_view}
+use Rattle.thy_core_model.specs.Machine.{Machine, run_view, moment_of, moves_in}
 use Rattle.thy_core_model.specs.Pace.{cycles_left, most_spent}
 use Rattle.thy_core_model.specs.Rows.{Leads, At, EngineLeads}
 use Rattle.thy_core_model.specs.Sound.{epochs_ahead, SoundRun}
-use Rattle.thy_core_model.proofs.KeepsLaws.{run_of, runs_behind, stands, leads_on, held_kept, follows_kept, counted_kept, epoch_kept, hart_left_kept, paced_kept, sound_kept, up_after}
+use Rattle.thy_core_model.proofs.KeepsLaws.{run_of, runs_behind, leads_on, left_on, held_kept, follows_kept, counted_kept, epoch_kept, hart_left_kept, paced_kept, sound_kept, up_after}
+use Rattle.thy_core_model.proofs.WorkLaws.{NoMore, moves_fewer}
 
 -- ---- the phase behind a commit
 
@@ -42,11 +49,6 @@ goes_where : (ends runs : Bool) → ends ≡ not runs → (if ends then Halt els
 goes_where ends true e goes = refl
 goes_where ends false e goes = absurd (let halted : (if ends then Halt else Run) ≡ Halt = ap (λ (b : Bool). if b then Halt else Run) e in cc)
 
--- a checkpoint that is under way has a mark
-some_mark : (sealed : Option Mark) → is_some sealed ≡ true → (s : Mark) × (sealed ≡ Some s)
-some_mark None e = absurd (cc)
-some_mark (Some s) e = (s, refl)
-
 module _ {S : Type 0} (K : SchemeOf S) (o : Origin) (cycles : ℕ) (m : Machine S) (n : Device) (t : S) (new : Device) (here : At K o cycles m n) (phase : m.phase ≡ Run) where
   behind : m.phase ≢ Boot
   behind = runs_behind m.phase phase
@@ -66,11 +68,11 @@ module _ {S : Type 0} (K : SchemeOf S) (o : Origin) (cycles : ℕ) (m : Machine 
       omega (arith, spent, least, owed, promotions, nearer)
 
   -- an item of the checkpoint leaves its marks
-  item : (step : EngineStep) → K.is_sound o m.marks t new → Keeps K m.scheme n t new → Acts (Engine step) n new → ActsOnDram n new (K.dram m.scheme) (K.dram t)
+  item : (step : EngineStep) → K.is_sound o m.marks t new → Keeps K m.scheme n t new → OwesNoMore K m.scheme n t new → Acts (Engine step) n new → ActsOnDram n new (K.dram m.scheme) (K.dram t)
       → queued_in K t new ≤ queued_in K m.scheme n + 1
       → m.spent + 1 + cycles_left K o.geometry (after_call t m) new < most_spent K o.geometry
       → CoreStep o (run_view m) (Engine step) (busier (run_view m)) → Leads K o cycles (Engine step) m n (after_call t m) new
-  item step sound keeps acts dram queue below moves =
+  item step sound keeps owes acts dram queue below moves =
       leads_on K o cycles (Engine step) m n (after_call t m) new here behind
       (record {
         behind = behind;
@@ -83,11 +85,25 @@ module _ {S : Type 0} (K : SchemeOf S) (o : Origin) (cycles : ℕ) (m : Machine 
         dram = dram;
         queues = queue;
         strides = refl;
+        done = tt;
+        left = left_on K (Engine step) m n t (m.spent + 1) new keeps (λ e. owes);
         exhausts = λ is. absurd (cc);
       })
 
-  sealed_mark : K.under_way m.scheme ≡ true → (s : Mark) × (m.marks.sealed ≡ Some s)
-  sealed_mark way = some_mark m.marks.sealed (sym (here.lawful.run_holds o m.marks m.scheme n (stands K o cycles m n here.sound behind)).way ∙ way)
+  -- behind a step that changes marks or phase too no more is left
+  left_behind : (next : Machine S) (did : Did) → Keeps K m.scheme n next.scheme new → (adds_copies did ≡ false → OwesNoMore K m.scheme n next.scheme new)
+      → next.hart ≡ m.hart → next.cache ≡ m.cache → NoMore K did m n next new
+  left_behind next did keeps owes hart cache = record {
+    moves = λ e.
+        let over : Option EndCause = m.hart.epoch.over in
+        let same = ap₂ (λ (h : Core) (c : Contents). moves_left (moment h c (held_behind K next.scheme new))) hart cache in
+        let fewer : moves_in next.phase over (moment_of K next new) ≤ moves_in m.phase over (moment_of K m n) =
+        moves_fewer m.phase next.phase over (moment_of K m n) (moment_of K next new) phase same in
+        subst (λ (h : Core). moves_in next.phase h.epoch.over (moment_of K next new) ≤ moves_in m.phase over (moment_of K m n)) (sym hart) fewer;
+    owed = owes;
+    owed_in_all = λ e. keeps.left.owed;
+    promotions = λ e. keeps.left.promotions;
+  }
 
   -- the commit block
   commit_written : (s : Mark) → m.marks.sealed ≡ Some s → Engines K o m.marks CommitWritten m.scheme n t new
@@ -104,6 +120,7 @@ module _ {S : Type 0} (K : SchemeOf S) (o : Origin) (cycles : ℕ) (m : Machine 
           checkpoints = e.sound;
           held = held_kept K m next n new refl refl here.lawful e.keeps.held run.held;
           follows = follows_kept K m next n new refl refl o e.keeps.held.blocks run.follows;
+          writes = run.writes;
           counted = counted_kept K m next n new refl refl o run.counted;
           epoch = epoch_kept K m next n new refl refl o (λ none. absurd (omega (arith, none))) run.epoch;
           numbered = record { epoch = run.numbered.epoch; sealed = run.numbered.sealed; unwritten = λ none. absurd (cc) };
@@ -120,6 +137,8 @@ module _ {S : Type 0} (K : SchemeOf S) (o : Origin) (cycles : ℕ) (m : Machine 
         dram = e.dram;
         queues = e.queue;
         strides = refl;
+        done = tt;
+        left = left_behind next (Engine CommitWritten) e.keeps (λ none. e.owes) refl refl;
         exhausts = λ moved. absurd (cc);
       })
 
@@ -142,6 +161,7 @@ module _ {S : Type 0} (K : SchemeOf S) (o : Origin) (cycles : ℕ) (m : Machine 
           checkpoints = e.sound;
           held = held_kept K m next n new refl refl here.lawful e.keeps.held run.held;
           follows = follows_kept K m next n new refl refl o e.keeps.held.blocks run.follows;
+          writes = run.writes;
           counted = counted_kept K m next n new refl refl o run.counted;
           epoch = epoch_kept K m next n new refl refl o (λ none. absurd (omega (arith, none))) run.epoch;
           numbered = record {
@@ -178,18 +198,20 @@ module _ {S : Type 0} (K : SchemeOf S) (o : Origin) (cycles : ℕ) (m : Machine 
         dram = e.dram;
         queues = e.queue;
         strides = refl;
+        done = tt;
+        left = left_behind next did e.keeps (λ none. absurd (cc)) refl refl;
         exhausts = λ moved. absurd (cc);
       })
 
   engine_in : (step : EngineStep) → K.under_way m.scheme ≡ true → Engines K o m.marks step m.scheme n t new
       → Leads K o cycles (engine_did m.lap step) m n (after_engine step t m) new
   engine_in Idle way e = absurd e.due
-  engine_in Copied way e = item Copied e.sound e.keeps (e.acts m.lap) e.dram e.queue (spends Copied e) (phase, refl)
-  engine_in PageBlock way e = item PageBlock e.sound e.keeps (e.acts m.lap) e.dram e.queue (spends PageBlock e) (phase, refl)
-  engine_in StateBlock way e = item StateBlock e.sound e.keeps (e.acts m.lap) e.dram e.queue (spends StateBlock e) (phase, refl)
-  engine_in TableBlock way e = item TableBlock e.sound e.keeps (e.acts m.lap) e.dram e.queue (spends TableBlock e) (phase, refl)
-  engine_in Barrier way e = item Barrier e.sound e.keeps (e.acts m.lap) e.dram e.queue (spends Barrier e) (phase, refl)
-  engine_in CommitWritten way e = let s = sealed_mark way in commit_written s.0 s.1 e
+  engine_in Copied way e = item Copied e.sound e.keeps e.owes (e.acts m.lap) e.dram e.queue (spends Copied e) (phase, refl)
+  engine_in PageBlock way e = item PageBlock e.sound e.keeps e.owes (e.acts m.lap) e.dram e.queue (spends PageBlock e) (phase, refl)
+  engine_in StateBlock way e = item StateBlock e.sound e.keeps e.owes (e.acts m.lap) e.dram e.queue (spends StateBlock e) (phase, refl)
+  engine_in TableBlock way e = item TableBlock e.sound e.keeps e.owes (e.acts m.lap) e.dram e.queue (spends TableBlock e) (phase, refl)
+  engine_in Barrier way e = item Barrier e.sound e.keeps e.owes (e.acts m.lap) e.dram e.queue (spends Barrier e) (phase, refl)
+  engine_in CommitWritten way e = let s = e.due in commit_written s.0 s.1 e
   engine_in (Committed epoch) way e = let d = e.due in committed epoch d.1.0 d.1.1 d.1.2 d.0 e
 
 pub engine_leads : {S : Type 0} (K : SchemeOf S) → EngineLeads K

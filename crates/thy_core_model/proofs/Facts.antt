@@ -1,14 +1,13 @@
 -- What a moment behind the boot gives, and what the hart's turn does.
-use Rattle.std.proofs.Common.{◌≡◌, ℕ, ◌&&◌, ◌||◌, not, Bool, true, false, if◌then◌else◌, Option, Some, None, is_some, refl, sym, ◌∙◌, ap, subst}
+use Rattle.std.proofs.Common.{◌≡◌, ℕ, ◌&&◌, ◌||◌, not, Bool, true, false, Option, Some, None, is_some, refl, ◌∙◌, ap, subst}
 use Rattle.thy_base.specs.declared.mark.Mark.{Mark}
 use Rattle.thy_base.specs.Device.{Device}
-use Rattle.thy_cache.specs.Contents.{dirty_count}
 use Rattle.thy_view.specs.declared.view.Phase.TheVariants.{Run}
 use Rattle.thy_view.specs.Origin.{Origin, runs_at}
-use Rattle.thy_view.specs.Turn.{Shortage, stall_in, has_stopped}
+use Rattle.thy_view.specs.Turn.{stall_in, has_stopped}
 use Rattle.thy_scheme.specs.Scheme.{SchemeOf}
 use Rattle.thy_scheme.specs.Laws.{IsLawful, RunHolds, is_free_to_run}
-use Rattle.thy_core_model.specs.Machine.{Machine, run_view, view_in, view_of, is_barred, short_of, shortage_of, pressure_of}
+use Rattle.thy_core_model.specs.Machine.{Machine, run_view, view_in, view_of, is_barred, shortage_of, pressure_of}
 use Rattle.thy_core_model.specs.Sound.{SoundRun, SoundIn, Sound}
 use Rattle.thy_core_model.specs.Rows.{At, HartGoes}
 use Rattle.thy_core_model.proofs.StallLemmas.{IsClear, clear, none_is}
@@ -34,17 +33,15 @@ pub record IsGoing {S : Type 0} (K : SchemeOf S) (o : Origin) (m : Machine S) : 
   pub lively : has_stopped o m.marks.sealed ≡ false
   pub runs : runs_at o m.hart.cpu.count ≡ true
   pub free : is_free_to_run K m.scheme ≡ true
-  pub unbarred : is_barred K m ≡ false
   pub enough : K.under_way m.scheme ≡ true → shortage_of K m ≡ None
 
 stops : (o : Origin) (sealed : Option Mark) → (is_some sealed ≡ true → has_stopped o sealed ≡ false) → has_stopped o sealed ≡ false
 stops o None f = refl
 stops o (Some m) f = f refl
 
-no_bar : (way overlaps : Bool) (rest : Option Shortage) (s : Shortage) → (way ≡ true → is_some (if way && not overlaps then Some s else rest) ≡ false) → (way && not overlaps) ≡ false
-no_bar false overlaps rest s f = refl
-no_bar true true rest s f = refl
-no_bar true false rest s f = absurd (let e = f refl in cc)
+no_bar : (way overlaps : Bool) → (way ≡ true → (way && not overlaps) ≡ false) → (way && not overlaps) ≡ false
+no_bar false overlaps f = refl
+no_bar true overlaps f = f refl
 
 frees : (way overlaps : Bool) → (way && not overlaps) ≡ false → (overlaps || not way) ≡ true
 frees false true e = refl
@@ -56,20 +53,17 @@ pub is-going : {S : Type 0} (K : SchemeOf S) (o : Origin) (cycles : ℕ) (m : Ma
 is-going K o cycles m n at turn =
     let run = sound-run K o cycles m n at.sound turn.phase in
     let way = (holds-run K at.lawful o cycles m n at.sound turn.phase).way in
-    let c : IsClear (is_some m.marks.sealed) (is_some m.hart.epoch.over) (is_some (shortage_of K m)) (has_stopped o m.marks.sealed) (K.promoting m.scheme)
-    = clear (is_some m.marks.sealed) (is_some m.hart.epoch.over) (is_some (shortage_of K m)) (has_stopped o m.marks.sealed) (K.promoting m.scheme)
+    let c : IsClear (K.under_way m.scheme) (is_barred K m) (is_some m.hart.epoch.over) (is_some (shortage_of K m)) (has_stopped o m.marks.sealed) (K.promoting m.scheme)
+    = clear (K.under_way m.scheme) (is_barred K m) (is_some m.hart.epoch.over) (is_some (shortage_of K m)) (has_stopped o m.marks.sealed) (K.promoting m.scheme)
     (subst (λ v. stall_in o Run v (pressure_of K m) ≡ None) (view-run K o m n turn.phase) turn.free) in
     let going = none_is m.hart.epoch.over c.going in
-    let lively = stops o m.marks.sealed c.lively in
-    let unbarred : is_barred K m ≡ false
-    = no_bar (K.under_way m.scheme) K.overlaps (short_of (K.free m.scheme) (dirty_count m.cache) m.hart.hand) (record { free = 0; dirty = 0; need = 1 })
-    (λ t. c.enough (sym way ∙ t)) in
+    let lively = stops o m.marks.sealed (λ t. c.lively (way ∙ ap (λ b. b || K.applies m.scheme) t)) in
+    let unbarred : is_barred K m ≡ false = no_bar (K.under_way m.scheme) K.overlaps c.free in
     record {
       going = going;
       whole = c.whole;
       lively = lively;
       runs = run.ended.live turn.phase going lively;
       free = frees (K.under_way m.scheme) K.overlaps unbarred;
-      unbarred = unbarred;
-      enough = λ t. none_is (shortage_of K m) (c.enough (sym way ∙ t));
+      enough = λ t. none_is (shortage_of K m) (c.enough t);
     }

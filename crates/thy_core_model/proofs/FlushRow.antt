@@ -1,5 +1,5 @@
 -- A step of a flush leads on.
-use Rattle.std.proofs.Common.{◌≡◌, ◌≢◌, ℕ, ◌+◌, ◌<◌, ◌≤◌, ◌==◌, not, Bool, false, true, Some, is_some, refl, sym, ◌∙◌, ap, subst, if◌then◌else◌, ◌||◌, arith}
+use Rattle.std.proofs.Common.{◌≡◌, ◌≢◌, ℕ, ◌+◌, ◌<◌, ◌≤◌, ◌==◌, not, Bool, false, true, Some, refl, sym, ◌∙◌, ap, subst, if◌then◌else◌, ◌||◌, arith}
 use Rattle.std.proofs.lemmas.Bool.{ne_eqb}
 use Rattle.thy_base.specs.Device.{Device}
 use Rattle.thy_base.specs.Store.{Holding}
@@ -14,13 +14,14 @@ use Rattle.thy_scheme.specs.Scheme.{SchemeOf, Stands}
 use Rattle.thy_scheme.specs.Calls.{Succeeds}
 use Rattle.thy_scheme.specs.Laws.{RunHolds, StaysSound}
 use Rattle.thy_core_model.specs.Calls.{FlushCall, after_flush}
-use Rattle.thy_core_model.specs.Machine.{Machine}
+use Rattle.thy_core_model.specs.Machine.{Machine, moment_of}
 use Rattle.thy_core_model.specs.Pace.{flushes_left, hart_left, cycles_left, most_spent}
 use Rattle.thy_core_model.specs.Rows.{At, IsSealing, FlushLeads}
 use Rattle.thy_core_model.specs.Sound.{OpenNow, StartsFresh, SoundRun}
 use Rattle.thy_core_model.proofs.CacheLemmas.{line_counted, open_for_line}
 use Rattle.thy_core_model.proofs.SealingLaws.{IsOver, over_at}
 use Rattle.thy_core_model.proofs.KeepsLaws.{run_of, stands, runs_behind, leads_on}
+use Rattle.thy_core_model.proofs.WorkLaws.{moves_over}
 
 -- what a step of a flush that was not the last does to the numbers: a dirty line less, or a copy less is owed
 pub record Lessens (old new : Holding) (before dirty : ℕ) : Type 0 where
@@ -72,7 +73,7 @@ flushes_most most dirty merges l = first (dirty == 0)
 -- what is known over a step of a flush
 pub record IsFlushing {S : Type 0} (K : SchemeOf S) (o : Origin) (m : Machine S) (n : Device) (c : Contents) (t : S) (new : Device)
     : Type 0 where
-  pub over : IsOver m.hart.epoch.over m.marks.sealed
+  pub over : IsOver m.hart.epoch.over (K.under_way m.scheme)
   pub less : Lessens (held_behind K m.scheme n) (held_behind K t new) (dirty_count m.cache) (dirty_count c)
   pub opened : IsOpenForFlush m.cache (K.holding m.scheme n).open_page
   pub up : new.down ≡ false
@@ -93,16 +94,15 @@ flushing K o cycles m n flushed c t new at sealing whole f =
     let s : SoundRun K o m n = run_of K o cycles m n at.sound behind in
     let there : Stands K o m.marks m.scheme n = stands K o cycles m n at.sound behind in
     let holds : RunHolds K o m.marks m.scheme n = at.lawful.run_holds o m.marks m.scheme n there in
-    let over : IsOver m.hart.epoch.over m.marks.sealed = over_at K o m n sealing whole in
+    let over : IsOver m.hart.epoch.over (K.under_way m.scheme) = over_at K o m n sealing whole in
     let opened : IsOpenForFlush m.cache (K.holding m.scheme n).open_page =
     subst (λ x. OpenNow x m.cache m.hart (K.holding m.scheme n).open_page) over.over_is s.held.opened in
     let less : Lessens (held_behind K m.scheme n) (held_behind K t new) (dirty_count m.cache) (dirty_count c) =
     lessens flushed m.cache (held_behind K m.scheme n) (held_behind K t new) (dirty_count c) f.more opened f.store f.dirty in
     let ready : (K.holding t new).ready ≡ true = less.ready ∙ holds.ready whole in
     let up : new.down ≡ false = at.lawful.ready_up t new ready in
-    let idle : K.under_way m.scheme ≡ false = holds.way ∙ ap is_some over.unsealed in
     let stays : StaysSound K o m.marks m.scheme t new =
-    at.lawful.stays_sound o m.marks m.scheme n t new there (free_behind K.overlaps (K.under_way m.scheme) idle) f.access.stays in
+    at.lawful.stays_sound o m.marks m.scheme n t new there (free_behind K.overlaps (K.under_way m.scheme) over.idle) f.access.stays in
     record {
       over = over;
       less = less;
@@ -124,6 +124,7 @@ flush_leads {S} K = λ o cycles m n c t new flushed at sealing whole f.
     let owed = g.less.owed in
     let nearer = g.less.nearer in
     let engine = g.stays.engine in
+    let later = g.stays.owed_later in
     let promotions = g.holds.promotions g.whole in
     let merges = g.holds.bounded.merges in
     let spent : m.spent + cycles_left K o.geometry m n < most_spent K o.geometry = s.paced.spent in
@@ -153,7 +154,8 @@ flush_leads {S} K = λ o cycles m n c t new flushed at sealing whole f.
           opened = subst (λ x. OpenNow x c m.hart (K.holding t new).open_page) (sym g.over.over_is) (f.opened g.opened);
         };
         follows = subst (Follows o.input (at_count o m.hart.cpu.count) m.hart) (sym f.reads) s.follows;
-        counted = record { start = s.counted.start; count = s.counted.count; running = s.counted.running };
+        writes = s.writes;
+        counted = record { start = s.counted.start; count = s.counted.count; processor = s.counted.processor; running = s.counted.running };
         epoch = record {
           began = λ none. absurd (omega (arith, none));
           span = s.epoch.span;
@@ -168,7 +170,7 @@ flush_leads {S} K = λ o cycles m n c t new flushed at sealing whole f.
           live = s.ended.live;
         };
         paced = record {
-          spent = omega (arith, spent, was, is, promotions, engine, nearer);
+          spent = omega (arith, spent, was, is, promotions, engine, nearer, later);
           fresh = subst (λ x. StartsFresh x m.hart.epoch.retired m.hart.hand (dirty_count c) (K.rested t)) (sym g.over.over_is)
               (λ zero. let clean = (started zero).0 in absurd (omega (arith, clean, some)));
           lean = λ idle. g.stays.lean ∙ s.paced.lean idle;
@@ -181,5 +183,12 @@ flush_leads {S} K = λ o cycles m n c t new flushed at sealing whole f.
       dram = done.dram;
       queues = done.queue;
       strides = refl;
+      done = tt;
+      left = record {
+        moves = λ e. omega (arith, moves_over m.phase m.hart.epoch.over g.over.cause (moment_of K next new) g.over.over_is);
+        owed = λ e. owed;
+        owed_in_all = λ e. omega (arith, owed, later);
+        promotions = λ e. omega (arith, promotions);
+      };
       exhausts = λ is. absurd (cc);
     })

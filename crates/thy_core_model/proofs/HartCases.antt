@@ -1,5 +1,5 @@
 -- What the hart's step makes of the machine, by its answer.
-use Rattle.std.proofs.Common.{◌≡◌, ℕ, ◌+◌, ◌-◌, ◌==◌, ◌<◌, ◌≤◌, Bool, true, false, if◌then◌else◌, nat_lt, Option, Some, None, is_some, refl, sym, ◌∙◌, ap, subst, arith, inl, inr, add-zero}
+use Rattle.std.proofs.Common.{◌≡◌, ℕ, ◌+◌, ◌-◌, ◌==◌, ◌<◌, ◌≤◌, Bool, true, false, if◌then◌else◌, nat_lt, Option, Some, None, is_some, refl, sym, ◌∙◌, ap, ap₂, subst, arith, inl, inr, add-zero, []}
 use Rattle.std.proofs.lemmas.Bool.{cases_eq}
 use Rattle.thy_base.specs.declared.cause.EndCause.{EndCause}
 use Rattle.thy_base.specs.declared.cause.EndCause.TheVariants.{Length, Exhausted, Ended}
@@ -8,32 +8,41 @@ use Rattle.thy_base.specs.Device.{Device}
 use Rattle.thy_cache.specs.Contents.{Contents, dirty_count}
 use Rattle.thy_epoch.specs.Epoch.{Epoch, over_after, retired_once, exhausted, HasRetired}
 use Rattle.thy_isa.specs.OnBlocks.{setting_for}
-use Rattle.thy_isa.specs.Step.{is_running, step}
+use Rattle.thy_isa.specs.Step.{state_with, is_running, step}
 use Rattle.thy_hart.specs.declared.hand.Hand.{Hand}
 use Rattle.thy_hart.specs.declared.hand.Hand.TheVariants.{Nothing, Reading, Reserving, Writing, Retiring}
 use Rattle.thy_hart.specs.declared.hand.HartStep.{HartStep}
 use Rattle.thy_hart.specs.declared.hand.HartStep.TheVariants.{Moved, Retired, Waiting, Over}
 use Rattle.thy_hart.specs.Core.{Core, reserved, blocks_of}
 use Rattle.thy_hart.specs.Outcomes.{Given, given}
-use Rattle.thy_hart.specs.Moments.{Moment, moment, brings_line, moves_left}
+use Rattle.thy_hart.specs.Moments.{Moment, moment, brings_line, left_behind, moves_left}
 use Rattle.thy_hart.specs.OneStep.{current, ComesNearer, HasCome, answer_to}
 use Rattle.thy_hart.specs.Laws.{Follows, state_after}
 use Rattle.thy_hart.proofs.FollowLaws.{follows-on}
 use Rattle.thy_view.specs.declared.did.Did.TheVariants.{Moved as DidMove, Retired as DidRetire}
+use Rattle.thy_view.specs.declared.view.Phase.TheVariants.{Run}
 use Rattle.thy_view.specs.declared.view.View.{View}
 use Rattle.thy_view.specs.Action.{Rest, Acts}
 use Rattle.thy_view.specs.CoreStep.{busier, over_at}
+use Rattle.thy_view.specs.Dram.{WritesBlock}
+use Rattle.thy_view.specs.Kind.{without_memory}
 use Rattle.thy_view.specs.Origin.{Origin, at, runs_at}
+use Rattle.thy_view.specs.Pace.{Gauge}
+use Rattle.thy_view.specs.Stores.{stored_by}
 use Rattle.thy_view.specs.Turn.{Shortage, over_by}
+use Rattle.thy_view.specs.Work.{MovesOn}
 use Rattle.thy_scheme.specs.Scheme.{SchemeOf}
+use Rattle.thy_scheme.specs.Calls.{owed_in}
 use Rattle.thy_scheme.specs.Behind.{held_behind}
-use Rattle.thy_core_model.specs.Machine.{Machine, run_view, moment_of, memory_of, is_barred, short_of, shortage_of}
+use Rattle.thy_core_model.specs.Machine.{Machine, run_view, moment_of, memory_of, short_of, moves_while, gauge_in}
 use Rattle.thy_core_model.specs.Pace.{instructions_left, flushes_left, hart_left, cycles_left}
-use Rattle.thy_core_model.specs.Sound.{OpenNow, IsFresh, StartsFresh}
+use Rattle.thy_core_model.specs.Sound.{OpenNow, IsToWrite, IsFresh, StartsFresh}
 use Rattle.thy_core_model.specs.Calls.{IsAsked, HartCall}
 use Rattle.thy_core_model.specs.Rows.{At, HartGoes, HartLeads}
-use Rattle.thy_core_model.proofs.AtLemmas.{at-next, at-count, count-current, status-current}
+use Rattle.thy_core_model.proofs.AtLemmas.{at-next, at-count, count-current, status-current, processor-current}
 use Rattle.thy_core_model.proofs.EpochLemmas.{retired-on, few-moves}
+use Rattle.thy_core_model.proofs.HandLaws.{hand_writes}
+use Rattle.thy_core_model.proofs.WorkLaws.{moves_over}
 use Rattle.thy_core_model.proofs.Facts.{sound-run, holds-run, is-going}
 use Rattle.thy_core_model.proofs.ToldLemmas.{shortage, IsRetired, IsMoved, IsExhausted, IsWaiting, Told, told}
 use Rattle.thy_core_model.proofs.HartRow.{hart_on, IsOn, is-on, IsNext, leads-next}
@@ -49,12 +58,12 @@ view-is m e f i j a b se si sa = ap (λ x. view_by m x i a) se ∙ ap (λ x. vie
 -- ---- cycles that are left
 
 left-going : {S : Type 0} (K : SchemeOf S) (p : Parameters) (m : Machine S) (n : Device) → m.hart.epoch.over ≡ None
-    → cycles_left K p m n ≡ K.engine_left m.scheme + K.promotions_left m.scheme + (K.holding m.scheme n).owed + (instructions_left (moment_of K m n) + K.most_free p + K.most_merges p)
-left-going K p m n e = ap (λ x. K.engine_left m.scheme + K.promotions_left m.scheme + (K.holding m.scheme n).owed + hart_left K p x m n) e
+    → cycles_left K p m n ≡ K.engine_left m.scheme + K.promotions_left m.scheme + owed_in K m.scheme n + (instructions_left (moment_of K m n) + K.most_free p + K.most_merges p)
+left-going K p m n e = ap (λ x. K.engine_left m.scheme + K.promotions_left m.scheme + owed_in K m.scheme n + hart_left K p x m n) e
 
 left-over : {S : Type 0} (K : SchemeOf S) (p : Parameters) (m : Machine S) (n : Device) (cause : EndCause) → m.hart.epoch.over ≡ Some cause
-    → cycles_left K p m n ≡ K.engine_left m.scheme + K.promotions_left m.scheme + (K.holding m.scheme n).owed + flushes_left (K.most_merges p) (dirty_count m.cache) (K.merges_left m.scheme)
-left-over K p m n cause e = ap (λ x. K.engine_left m.scheme + K.promotions_left m.scheme + (K.holding m.scheme n).owed + hart_left K p x m n) e
+    → cycles_left K p m n ≡ K.engine_left m.scheme + K.promotions_left m.scheme + owed_in K m.scheme n + flushes_left (K.most_merges p) (dirty_count m.cache) (K.merges_left m.scheme)
+left-over K p m n cause e = ap (λ x. K.engine_left m.scheme + K.promotions_left m.scheme + owed_in K m.scheme n + hart_left K p x m n) e
 
 -- flushes and merges are within their most
 few-flushes : (most dirty merges : ℕ) → merges ≤ most → flushes_left most dirty merges ≤ dirty + most
@@ -111,8 +120,13 @@ short-reserved free dirty (Reserving x to) s e = refl
 short-reserved free dirty (Writing x to done) s e = absurd (cc)
 short-reserved free dirty (Retiring x wrote) s e = refl
 
-short-is : {S : Type 0} (K : SchemeOf S) (m : Machine S) (s : Option Shortage) → is_barred K m ≡ false → short_of (K.free m.scheme) (dirty_count m.cache) m.hart.hand ≡ s → shortage_of K m ≡ s
-short-is K m s bar e = ap (λ b. if b then Some (shortage 0 0 1) else short_of (K.free m.scheme) (dirty_count m.cache) m.hart.hand) bar ∙ e
+-- and has a move left
+short-moves : (free dirty : ℕ) (h : Hand) (s : Shortage) → short_of free dirty h ≡ Some s → 1 ≤ left_behind h
+short-moves free dirty Nothing s e = absurd (cc)
+short-moves free dirty (Reading x from to) s e = absurd (cc)
+short-moves free dirty (Reserving x to) s e = omega arith
+short-moves free dirty (Writing x to done) s e = absurd (cc)
+short-moves free dirty (Retiring x wrote) s e = absurd (cc)
 
 -- ---- Moved
 
@@ -124,16 +138,57 @@ moved-acts K s n t new asked up = elim asked as (λ _. Acts DidMove n new) [
 
 moved-spent : {S : Type 0} (K : SchemeOf S) (p : Parameters) (m : Machine S) (n : Device) (lap : ℕ) (h : Core) (c : Contents) (t : S) (new : Device)
     → m.hart.epoch.over ≡ None → h.epoch ≡ m.hart.epoch → K.engine_left t ≤ K.engine_left m.scheme → K.promotions_left t ≡ 0
-    → (K.holding t new).owed ≤ (K.holding m.scheme n).owed → ComesNearer (moment_of K m n) (moment h c (held_behind K t new))
+    → (K.holding t new).owed ≤ (K.holding m.scheme n).owed → K.owed_later t ≤ K.owed_later m.scheme
+    → ComesNearer (moment_of K m n) (moment h c (held_behind K t new))
     → cycles_left K p (hart_on lap h c t m) new + 1 ≤ cycles_left K p m n
-moved-spent K p m n lap h c t new going e engine promotions owed nearer = elim nearer as (λ _. cycles_left K p (hart_on lap h c t m) new + 1 ≤ cycles_left K p m n) [
+moved-spent K p m n lap h c t new going e engine promotions owed later nearer = elim nearer as (λ _. cycles_left K p (hart_on lap h c t m) new + 1 ≤ cycles_left K p m n) [
   | inl less ↦
       let i = instructions-moved (moment_of K m n) (moment h c (held_behind K t new)) e less in
-      omega (arith, left-going K p m n going, left-going K p (hart_on lap h c t m) new (ap (λ (x : Epoch). x.over) e ∙ going), engine, promotions, owed, i)
+      omega (arith, left-going K p m n going, left-going K p (hart_on lap h c t m) new (ap (λ (x : Epoch). x.over) e ∙ going), engine, promotions, owed, later, i)
   | inr same ↦
       let i = instructions-same (moment_of K m n) (moment h c (held_behind K t new)) e same.0 in
-      omega (arith, left-going K p m n going, left-going K p (hart_on lap h c t m) new (ap (λ (x : Epoch). x.over) e ∙ going), engine, promotions, same.1, i)
+      omega (arith, left-going K p m n going, left-going K p (hart_on lap h c t m) new (ap (λ (x : Epoch). x.over) e ∙ going), engine, promotions, same.1, later, i)
 ]
+
+-- while the epoch goes on its moves are those of the instruction
+going-moves : (over : Option EndCause) (x : Moment) → over ≡ None → moves_while over x ≡ moves_left x
+going-moves over x going = ap (λ o. moves_while o x) going
+
+-- a copy that is owed no more was written
+copy-wrote : {S : Type 0} (K : SchemeOf S) (s : S) (n : Device) (t : S) (new : Device) → IsAsked K s n t new → new.down ≡ false
+    → (K.holding t new).owed + 1 ≤ (K.holding s n).owed → WritesBlock n new (K.dram s) (K.dram t)
+copy-wrote K s n t new asked up less = elim asked as (λ _. WritesBlock n new (K.dram s) (K.dram t)) [
+  | inl same ↦ absurd (let kept : (K.holding t new).owed ≡ (K.holding s n).owed = ap₂ (λ x (d : Device). (K.holding x d).owed) same.0 same.1 in omega (arith, less, kept))
+  | inr access ↦ (access.succeeds up).copies less
+]
+
+-- so the hart that moved got something done
+moved-done : {S : Type 0} (K : SchemeOf S) (m : Machine S) (n : Device) (lap : ℕ) (h : Core) (c : Contents) (t : S) (new : Device)
+    → m.hart.epoch.over ≡ None → h.epoch.over ≡ None → IsAsked K m.scheme n t new → new.down ≡ false
+    → ComesNearer (moment_of K m n) (moment h c (held_behind K t new))
+    → MovesOn (gauge_in K Run m n) (gauge_in K Run (hart_on lap h c t m) new) (WritesBlock n new (K.dram m.scheme) (K.dram t))
+moved-done K m n lap h c t new going over asked up nearer =
+    let was = going-moves m.hart.epoch.over (moment_of K m n) going in
+    let now = going-moves h.epoch.over (moment h c (held_behind K t new)) over in
+    elim nearer as (λ _. MovesOn (gauge_in K Run m n) (gauge_in K Run (hart_on lap h c t m) new) (WritesBlock n new (K.dram m.scheme) (K.dram t))) [
+      | inl less ↦ inl (omega (arith, was, now, less))
+      | inr same ↦ inr (now ∙ same.0 ∙ sym was, same.1, copy-wrote K m.scheme n t new asked up same.1)
+    ]
+
+moves-on : (old new : Gauge) (W : Type 0) → MovesOn old new W → new.moves ≤ old.moves
+moves-on old new W on = elim on as (λ _. new.moves ≤ old.moves) [
+  | inl less ↦ omega (arith, less)
+  | inr same ↦ omega (arith, same.0)
+]
+
+-- what the step leaves in hand is to write what it was to write
+step-writes : {S : Type 0} (K : SchemeOf S) (o : Origin) (cycles : ℕ) (m : Machine S) (n : Device) (h : Core) (c : Contents) (t : S) (new : Device) (s : HartStep)
+    → At K o cycles m n → HartGoes K o m n → HartCall K (given o.input (K.free m.scheme) (K.under_way m.scheme)) m n h c t new s
+    → IsToWrite (stored_by o (at o m.hart.cpu.count)) h.hand
+step-writes K o cycles m n h c t new s at-m turn hs =
+    let run = sound-run K o cycles m n at-m.sound turn.phase in
+    subst (λ (x : Core). IsToWrite (stored_by o (at o m.hart.cpu.count)) x.hand) (sym hs.is_step.hart)
+    (hand_writes o (given o.input (K.free m.scheme) (K.under_way m.scheme)) (moment_of K m n) (at o m.hart.cpu.count) (sym at-m.sound.geometry) refl run.follows run.writes)
 
 moved-next : {S : Type 0} (K : SchemeOf S) (o : Origin) (cycles : ℕ) (m : Machine S) (n : Device) (h : Core) (c : Contents) (t : S) (new : Device)
     → At K o cycles m n → HartGoes K o m n → HartCall K (given o.input (K.free m.scheme) (K.under_way m.scheme)) m n h c t new Moved
@@ -146,6 +201,8 @@ moved-next K o cycles m n h c t new at-m turn hs mv =
     let on = is-on K o cycles m n h c t new Moved at-m turn hs in
     let cpu = w.leads.cpu in
     let over : h.epoch.over ≡ None = ap (λ (x : Epoch). x.over) mv.epoch ∙ going.going in
+    let writes = step-writes K o cycles m n h c t new Moved at-m turn hs in
+    let done = moved-done K m n (m.lap + 0) h c t new going.going over hs.asked on.up w.nears in
     let f = follows-on (given o.input (K.free m.scheme) (K.under_way m.scheme)) (moment_of K m n) (moment h c (held_behind K t new)) Moved (at o m.hart.cpu.count)
     (run.counted.running ∙ going.runs) w run.follows in
     record {
@@ -157,6 +214,7 @@ moved-next K o cycles m n h c t new at-m turn hs mv =
       counted = record {
         start = subst (λ x. o.start.count ≤ x.count) (sym cpu) run.counted.start;
         count = subst (λ x. (at o x.count).count ≡ x.count) (sym cpu) run.counted.count;
+        processor = subst (λ x. state_with x [] [] ≡ without_memory (at o x.count)) (sym cpu) run.counted.processor;
         running = subst (λ x. is_running x.status ≡ runs_at o x.count) (sym cpu) run.counted.running;
       };
       follows = subst (λ x. Follows o.input (at o x.count) h (memory_of K (hart_on (m.lap + 0) h c t m) new)) (sym cpu) f;
@@ -167,10 +225,14 @@ moved-next K o cycles m n h c t new at-m turn hs mv =
           subst (λ x. StartsFresh x h.epoch.retired h.hand (dirty_count c) (K.rested t)) (sym over)
           (λ zero. mv.fresh (dirty_count m.cache) (dirty_count c) (K.rested m.scheme) (K.rested t) (old (sym (ap (λ (x : Epoch). x.retired) mv.epoch) ∙ zero)) hs.tidy hs.rests);
       strides = λ idle ends. absurd (ends over);
-      spent = moved-spent K o.geometry m n (m.lap + 0) h c t new going.going mv.epoch on.engine (on.holds.promotions on.whole) w.owed w.nears;
+      writes = subst (λ x. IsToWrite (stored_by o (at o x.count)) h.hand) (sym cpu) writes;
+      spent = moved-spent K o.geometry m n (m.lap + 0) h c t new going.going mv.epoch on.engine (on.holds.promotions on.whole) w.owed on.owed_later w.nears;
+      done = done;
+      moves = λ e. moves-on (gauge_in K Run m n) (gauge_in K Run (hart_on (m.lap + 0) h c t m) new) (WritesBlock n new (K.dram m.scheme) (K.dram t)) done;
+      owed = w.owed;
       step = (turn.phase, going.going, going.runs, inl (view-is m h.epoch m.hart.epoch h.cpu.count m.hart.cpu.count (m.lap + 0) m.lap mv.epoch (ap (λ x. x.count) cpu) (add-zero m.lap)));
       acts = moved-acts K m.scheme n t new hs.asked on.up;
-      exhausts = λ _. over ∙ sym (ap over_by (short-is K m None going.unbarred mv.enough));
+      exhausts = λ _. over ∙ sym (ap over_by mv.enough);
     }
 
 -- ---- the epoch is exhausted
@@ -196,7 +258,7 @@ over-spent : {S : Type 0} (K : SchemeOf S) (o : Origin) (m : Machine S) (n : Dev
     → cycles_left K o.geometry (hart_on lap h c t m) new + 1 ≤ cycles_left K o.geometry m n
 over-spent K o m n lap h c t new cause going over on owed =
     let flushes = few-flushes (K.most_merges o.geometry) (dirty_count c) (K.merges_left t) on.holds.bounded.merges in
-    omega (arith, left-going K o.geometry m n going, left-over K o.geometry (hart_on lap h c t m) new cause over, flushes, on.engine, on.holds.promotions on.whole, owed, on.room, on.holds.bounded.free)
+    omega (arith, left-going K o.geometry m n going, left-over K o.geometry (hart_on lap h c t m) new cause over, flushes, on.engine, on.holds.promotions on.whole, owed, on.owed_later, on.room, on.holds.bounded.free)
 
 exhausted-next : {S : Type 0} (K : SchemeOf S) (o : Origin) (cycles : ℕ) (m : Machine S) (n : Device) (h : Core) (c : Contents) (t : S) (new : Device) (free dd need : ℕ)
     → At K o cycles m n → HartGoes K o m n → HartCall K (given o.input (K.free m.scheme) (K.under_way m.scheme)) m n h c t new (Over (Exhausted free dd need))
@@ -209,6 +271,11 @@ exhausted-next K o cycles m n h c t new free dd need at-m turn hs ex =
     let on = is-on K o cycles m n h c t new (Over (Exhausted free dd need)) at-m turn hs in
     let cpu = w.leads.cpu in
     let over : h.epoch.over ≡ Some (Exhausted free dd need) = ap (λ (x : Epoch). x.over) ex.epoch in
+    let was = going-moves m.hart.epoch.over (moment_of K m n) going.going in
+    let now : moves_while h.epoch.over (moment_of K (hart_on (m.lap + 0) h c t m) new) ≡ 0 = moves_over Run h.epoch.over (Exhausted free dd need) (moment_of K (hart_on (m.lap + 0) h c t m) new) over in
+    let some = short-moves (K.free m.scheme) (dirty_count m.cache) m.hart.hand (shortage free dd need) ex.short in
+    let done : MovesOn (gauge_in K Run m n) (gauge_in K Run (hart_on (m.lap + 0) h c t m) new) (WritesBlock n new (K.dram m.scheme) (K.dram t)) =
+    inl (omega (arith, was, now, some)) in
     let within : m.hart.epoch.retired < m.hart.epoch.span = subst (HasRetired m.hart.epoch.span m.hart.epoch.retired) going.going run.epoch.retired in
     let f = follows-on (given o.input (K.free m.scheme) (K.under_way m.scheme)) (moment_of K m n) (moment h c (held_behind K t new)) (Over (Exhausted free dd need)) (at o m.hart.cpu.count)
     (run.counted.running ∙ going.runs) w run.follows in
@@ -222,6 +289,7 @@ exhausted-next K o cycles m n h c t new free dd need at-m turn hs ex =
       counted = record {
         start = subst (λ x. o.start.count ≤ x.count) (sym cpu) run.counted.start;
         count = subst (λ x. (at o x.count).count ≡ x.count) (sym cpu) run.counted.count;
+        processor = subst (λ x. state_with x [] [] ≡ without_memory (at o x.count)) (sym cpu) run.counted.processor;
         running = subst (λ x. is_running x.status ≡ runs_at o x.count) (sym cpu) run.counted.running;
       };
       follows = subst (λ x. Follows o.input (at o x.count) h (memory_of K (hart_on (m.lap + 0) h c t m) new)) (sym cpu) f;
@@ -238,10 +306,14 @@ exhausted-next K o cycles m n h c t new free dd need at-m turn hs ex =
       strides = λ idle ends.
           (let some = exhausted-once K o cycles m n (dirty_count m.cache) free dd need at-m turn ex.idle ex.short ex.is_short.short ex.is_short.most refl idle in
           omega (arith, some, ap (λ (x : Epoch). x.retired) ex.epoch));
+      writes = subst (IsToWrite (stored_by o (at o h.cpu.count))) (sym w.leads.hand) tt;
       spent = over-spent K o m n (m.lap + 0) h c t new (Exhausted free dd need) going.going over on w.owed;
+      done = done;
+      moves = λ e. moves-on (gauge_in K Run m n) (gauge_in K Run (hart_on (m.lap + 0) h c t m) new) (WritesBlock n new (K.dram m.scheme) (K.dram t)) done;
+      owed = w.owed;
       step = (turn.phase, going.going, going.runs, inr (free, dd, need, ex.is_short, view-is m h.epoch (exhausted free dd need m.hart.epoch) h.cpu.count m.hart.cpu.count (m.lap + 0) m.lap ex.epoch (ap (λ x. x.count) cpu) (add-zero m.lap)));
       acts = moved-acts K m.scheme n t new hs.asked on.up;
-      exhausts = λ _. over ∙ sym (ap over_by (short-is K m (Some (shortage free dd need)) going.unbarred ex.short));
+      exhausts = λ _. over ∙ sym (ap over_by ex.short);
     }
 
 -- ---- an instruction retires
@@ -294,13 +366,18 @@ retired-next K o cycles m n h c t new s over at-m turn hs rt come closed f =
       counted = record {
         start = omega (arith, run.counted.start, count);
         count = subst (λ x. (at o x).count ≡ x) (sym count) count-at;
+        processor = processor-current h memory (at o (k + 1)) is ∙ ap (λ x. without_memory (at o x)) (sym count);
         running = running ∙ ap (runs_at o) (sym count);
       };
       follows = subst (λ x. Follows o.input (at o x) h memory) (sym count) (subst (λ x. Follows o.input x h memory) next f);
       live = λ none. ap (runs_at o) count ∙ sym running ∙ runs-on (is_running h.cpu.status) m.hart.epoch.span (m.hart.epoch.retired + 1) (sym over-after ∙ none);
       fresh = fresh-retired h.epoch.over h.epoch.retired h.hand (dirty_count c) (K.rested t) (omega (arith, ap (λ (x : Epoch). x.retired) rt.epoch));
       strides = λ idle ends. omega (arith, ap (λ (x : Epoch). x.retired) rt.epoch);
+      writes = subst (IsToWrite (stored_by o (at o h.cpu.count))) (sym come.hand) tt;
       spent = retired-spent over rt has going.going on w.owed;
+      done = tt;
+      moves = λ e. absurd (cc);
+      owed = w.owed;
       step = record {
         phase = turn.phase;
         over = going.going;
@@ -321,7 +398,7 @@ retired-next K o cycles m n h c t new s over at-m turn hs rt come closed f =
         let less : h.epoch.retired < h.epoch.span = subst (HasRetired h.epoch.span h.epoch.retired) rt.over_is has in
         let i = instructions-retired (moment_of K m n) (moment h c (held_behind K t new)) (is_running h.cpu.status) rt.epoch
         (omega (arith, less, ap (λ (x : Epoch). x.retired) rt.epoch, ap (λ (x : Epoch). x.span) rt.epoch)) in
-        omega (arith, left-going K o.geometry m n going, left-going K o.geometry (hart_on (m.lap + 1) h c t m) new rt.over_is, on.engine, on.holds.promotions on.whole, owed, i)
+        omega (arith, left-going K o.geometry m n going, left-going K o.geometry (hart_on (m.lap + 1) h c t m) new rt.over_is, on.engine, on.holds.promotions on.whole, owed, on.owed_later, i)
     retired-spent (Some cause) rt has going on owed = over-spent K o m n (m.lap + 1) h c t new cause going rt.over_is on owed
 
 -- ---- by the answer
@@ -345,10 +422,7 @@ no-wait : {S : Type 0} (K : SchemeOf S) (o : Origin) (cycles : ℕ) (m : Machine
     → IsWaiting (given o.input (K.free m.scheme) (K.under_way m.scheme)) (dirty_count m.cache) m.hart → ⊥
 no-wait K o cycles m n at-m turn wait =
     let going = is-going K o cycles m n at-m turn in
-    let none : shortage_of K m ≡ None = going.enough wait.way in
-    let same : shortage_of K m ≡ short_of (K.free m.scheme) (dirty_count m.cache) m.hart.hand
-    = short-is K m (short_of (K.free m.scheme) (dirty_count m.cache) m.hart.hand) going.unbarred refl in
-    let no : is_some (short_of (K.free m.scheme) (dirty_count m.cache) m.hart.hand) ≡ false = ap is_some (sym same ∙ none) in
+    let no : is_some (short_of (K.free m.scheme) (dirty_count m.cache) m.hart.hand) ≡ false = ap is_some (going.enough wait.way) in
     let yes = wait.short in
     cc
 

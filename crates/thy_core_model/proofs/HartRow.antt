@@ -1,5 +1,5 @@
 -- A step of the hart leads to the next moment.
-use Rattle.std.proofs.Common.{◌≡◌, ◌≢◌, ◌⊎◌, ℕ, ◌+◌, ◌<◌, ◌≤◌, ◌&&◌, not, true, false, if◌then◌else◌, length, None, refl, sym, ◌∙◌, ap, subst, arith, inl, inr}
+use Rattle.std.proofs.Common.{◌≡◌, ◌≢◌, ◌⊎◌, ℕ, ◌+◌, ◌<◌, ◌≤◌, not, true, false, length, None, refl, sym, ◌∙◌, ap, subst, arith, inl, inr}
 use Rattle.thy_base.specs.Device.{Device}
 use Rattle.thy_cache.specs.Contents.{Contents, dirty_count}
 use Rattle.thy_dram.specs.Contents.{Contents as DramContents}
@@ -15,16 +15,18 @@ use Rattle.thy_view.specs.declared.view.Phase.TheVariants.{Boot, Run}
 use Rattle.thy_view.specs.declared.view.View.{View}
 use Rattle.thy_view.specs.Action.{Acts}
 use Rattle.thy_view.specs.CoreStep.{CoreStep}
-use Rattle.thy_view.specs.Dram.{ActsOnDram, LeavesDram}
+use Rattle.thy_view.specs.Dram.{ActsOnDram, LeavesDram, WritesBlock}
 use Rattle.thy_view.specs.Origin.{Origin, at, runs_at}
 use Rattle.thy_view.specs.Pace.{KeepsPace}
+use Rattle.thy_view.specs.Stores.{stored_by}
 use Rattle.thy_view.specs.Turn.{has_stopped, over_by}
+use Rattle.thy_view.specs.Work.{begins_instruction, GetsDone, Works}
 use Rattle.thy_scheme.specs.Scheme.{SchemeOf}
-use Rattle.thy_scheme.specs.Calls.{queued_in}
+use Rattle.thy_scheme.specs.Calls.{queued_in, OwesNoMore}
 use Rattle.thy_scheme.specs.Laws.{RunHolds}
-use Rattle.thy_core_model.specs.Machine.{Machine, run_view, view_of, memory_of, is_barred, shortage_of, gauge_of, has_read_in}
+use Rattle.thy_core_model.specs.Machine.{Machine, run_view, view_of, moment_of, memory_of, shortage_of, moves_while, gauge_in, gauge_of, has_read_in}
 use Rattle.thy_core_model.specs.Pace.{cycles_left, most_spent}
-use Rattle.thy_core_model.specs.Sound.{IsSmall, OpenNow, IsCounted, StartsFresh, IsPaced, SoundRun, SoundIn}
+use Rattle.thy_core_model.specs.Sound.{IsSmall, OpenNow, IsToWrite, IsCounted, StartsFresh, IsPaced, SoundRun, SoundIn}
 use Rattle.thy_core_model.specs.Calls.{IsAsked, HartCall}
 use Rattle.thy_core_model.specs.Rows.{Leads, At, HartGoes}
 use Rattle.thy_core_model.proofs.Facts.{view-run, sound-run, is-going}
@@ -44,7 +46,7 @@ pub record IsOn {S : Type 0} (K : SchemeOf S) (o : Origin) (m : Machine S) (n : 
   pub lean : K.lean t ≡ K.lean m.scheme
   pub room : dirty_count c + reserved h.hand ≤ K.free t
   pub geometry : h.geometry ≡ o.geometry
-  pub unbarred : is_barred K (record m { scheme = t }) ≡ false
+  pub owed_later : K.owed_later t ≤ K.owed_later m.scheme
   pub dram : ActsOnDram n new (K.dram m.scheme) (K.dram t)
   pub queue : queued_in K t new ≤ queued_in K m.scheme n + 1
 
@@ -78,7 +80,7 @@ is-on K o cycles m n h c t new s at turn hs =
       lean = stays.lean;
       room = omega (arith, w.ready.room, l.free_is t new);
       geometry = w.fixed ∙ at.sound.geometry;
-      unbarred = ap (λ way. way && not K.overlaps) stays.way ∙ going.unbarred;
+      owed_later = stays.owed_later;
       dram = dram-asked K m.scheme n t new hs.asked up;
       queue = queue-asked K m.scheme n t new hs.asked up;
     }
@@ -94,12 +96,17 @@ pub record IsNext {S : Type 0} (K : SchemeOf S) (o : Origin) (cycles : ℕ) (m :
   pub opened : OpenNow h.epoch.over c h (K.holding t new).open_page
   pub counted : IsCounted o (hart_on lap h c t m)
   pub follows : Follows o.input (at o h.cpu.count) h (memory_of K (hart_on lap h c t m) new)
+  pub writes : IsToWrite (stored_by o (at o h.cpu.count)) h.hand
   pub live : h.epoch.over ≡ None → runs_at o h.cpu.count ≡ true
   pub fresh : StartsFresh h.epoch.over h.epoch.retired h.hand (dirty_count c) (K.rested t)
   pub strides : m.idle ≡ true → h.epoch.over ≢ None → 1 ≤ h.epoch.retired
   pub spent : cycles_left K o.geometry (hart_on lap h c t m) new + 1 ≤ cycles_left K o.geometry m n
   pub step : CoreStep o (run_view m) did (run_view (hart_on lap h c t m))
   pub acts : Acts did n new
+  pub done : GetsDone did (gauge_in K Run m n) (gauge_in K Run (hart_on lap h c t m) new) (WritesBlock n new (K.dram m.scheme) (K.dram t))
+  pub moves : begins_instruction did ≡ false
+      → moves_while h.epoch.over (moment_of K (hart_on lap h c t m) new) ≤ moves_while m.hart.epoch.over (moment_of K m n)
+  pub owed : OwesNoMore K m.scheme n t new
   pub exhausts : did ≡ DidMove → h.epoch.over ≡ over_by (shortage_of K m)
 
 -- a hart's step is told as one
@@ -123,6 +130,7 @@ next-run K o cycles m n lap did h c t new s at turn hs x =
       checkpoints = on.sound;
       held = record { agree = hs.is_step.ready.agree; room = on.room; opened = x.opened };
       follows = x.follows;
+      writes = x.writes;
       counted = x.counted;
       epoch = record { began = λ e. absurd (omega (arith, e)); span = x.span ∙ run.epoch.span; retired = x.retired; hand = x.hand };
       numbered = record { epoch = x.number ∙ run.numbered.epoch; sealed = run.numbered.sealed; unwritten = run.numbered.unwritten };
@@ -150,22 +158,36 @@ next-pace K o cycles m n lap did h c t new phase harts on paced = elim harts as 
     queues = on.queue;
     boots = λ e. absurd (cc);
     strides = refl;
-    entries = entries;
+    entries = on.room;
   })
   | inr e ↦ subst (λ d. KeepsPace (most_spent K o.geometry) (run_view m) (run_view (hart_on lap h c t m)) d (gauge_of K m n) (gauge_of K (hart_on lap h c t m) new)) (sym e) (record {
     spent = spent;
     queues = on.queue;
     boots = λ e. absurd (cc);
     strides = refl;
-    entries = entries;
+    entries = on.room;
   })
 ]
   where
     spent : m.spent + 1 < most_spent K o.geometry
     spent = omega (arith, paced.spent)
 
-    entries : (if is_barred K (record m { scheme = t }) then 0 else dirty_count c + reserved h.hand) ≤ (if is_barred K (record m { scheme = t }) then 0 else K.free t)
-    entries = subst (λ b. (if b then 0 else dirty_count c + reserved h.hand) ≤ (if b then 0 else K.free t)) (sym on.unbarred) on.room
+next-works : {S : Type 0} (K : SchemeOf S) (o : Origin) (cycles : ℕ) (m : Machine S) (n : Device) (lap : ℕ) (did : Did) (h : Core) (c : Contents) (t : S) (new : Device)
+    → IsOn K o m n h c t new → IsNext K o cycles m n lap did h c t new
+    → Works did (gauge_in K Run m n) (gauge_in K Run (hart_on lap h c t m) new) n new (K.dram m.scheme) (K.dram t)
+next-works K o cycles m n lap did h c t new on x =
+    let owed = x.owed in
+    let later = on.owed_later in
+    let promotions = on.holds.promotions on.whole in
+    record {
+      done = x.done;
+      left = record {
+        moves = x.moves;
+        owed = λ e. owed;
+        owed_in_all = λ e. omega (arith, owed, later);
+        promotions = λ e. omega (arith, promotions);
+      };
+    }
 
 pub leads-next : {S : Type 0} (K : SchemeOf S) (o : Origin) (cycles : ℕ) (m : Machine S) (n : Device) (lap : ℕ) (did : Did) (h : Core) (c : Contents) (t : S) (new : Device) (s : HartStep)
     → At K o cycles m n → HartGoes K o m n → HartCall K (given o.input (K.free m.scheme) (K.under_way m.scheme)) m n h c t new s
@@ -192,6 +214,8 @@ leads-next K o cycles m n lap did h c t new s at turn hs harts x =
       pace = subst (λ v. KeepsPace (most_spent K o.geometry) v (view_of K o (hart_on lap h c t m) new) did (gauge_of K m n) (gauge_of K (hart_on lap h c t m) new)) (sym old-view)
           (subst (λ v. KeepsPace (most_spent K o.geometry) (run_view m) v did (gauge_of K m n) (gauge_of K (hart_on lap h c t m) new)) (sym new-view)
           (next-pace K o cycles m n lap did h c t new turn.phase harts on run'.paced));
+      works = subst (λ p. Works did (gauge_in K p m n) (gauge_in K p (hart_on lap h c t m) new) n new (K.dram m.scheme) (K.dram t)) (sym turn.phase)
+          (next-works K o cycles m n lap did h c t new on x);
       exhausts = λ e. ap (λ v. v.over) new-view ∙ x.exhausts e;
       read = λ e. ap (λ phase. has_read_in K phase (hart_on lap h c t m)) turn.phase;
       still = λ found boots done. absurd (let both : Run ≡ Boot = sym turn.phase ∙ sym (ap (λ (v : View). v.phase) old-view) ∙ boots in cc);

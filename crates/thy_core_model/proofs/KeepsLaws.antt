@@ -1,5 +1,5 @@
 -- What stays of the machine over a call of the scheme, and what makes a cycle behind the boot lead on.
-use Rattle.std.proofs.Common.{◌≡◌, ◌≢◌, ℕ, ◌+◌, ◌==◌, ◌<◌, ◌≤◌, Bool, true, false, if◌then◌else◌, Option, Some, None, refl, sym, ◌∙◌, ap, ap₂, subst, inl, inr, arith}
+use Rattle.std.proofs.Common.{◌≡◌, ◌≢◌, ℕ, ◌+◌, ◌==◌, ◌<◌, ◌≤◌, Bool, true, false, if◌then◌else◌, [], Option, Some, None, refl, sym, ◌∙◌, ap, ap₂, subst, inl, inr, arith}
 use Rattle.thy_base.specs.declared.cause.EndCause.{EndCause}
 use Rattle.thy_base.specs.declared.config.Parameters.{Parameters}
 use Rattle.thy_base.specs.Device.{Device}
@@ -10,7 +10,7 @@ use Rattle.thy_hart.specs.declared.hand.Hand.TheVariants.{Nothing}
 use Rattle.thy_hart.specs.Core.{Core, next_block, reserved}
 use Rattle.thy_hart.specs.Laws.{Follows}
 use Rattle.thy_hart.specs.Moments.{IsOpenFor, moment}
-use Rattle.thy_isa.specs.Step.{is_running}
+use Rattle.thy_isa.specs.Step.{state_with, is_running}
 use Rattle.thy_view.specs.declared.did.Did.{Did}
 use Rattle.thy_view.specs.declared.did.Did.TheVariants.{Moved}
 use Rattle.thy_view.specs.declared.view.Phase.{Phase}
@@ -18,19 +18,22 @@ use Rattle.thy_view.specs.declared.view.Phase.TheVariants.{Boot, Run, Halt}
 use Rattle.thy_view.specs.declared.view.View.{View}
 use Rattle.thy_view.specs.Action.{Action, Rest, ReadAt, WriteAt, Barrier, Drain, after, Acts}
 use Rattle.thy_view.specs.CoreStep.{CoreStep}
-use Rattle.thy_view.specs.Dram.{LeavesDram}
+use Rattle.thy_view.specs.Dram.{LeavesDram, WritesBlock}
+use Rattle.thy_view.specs.Kind.{without_memory}
 use Rattle.thy_view.specs.Origin.{Origin, at, runs_at}
 use Rattle.thy_view.specs.Pace.{Queues, Strides as StridesOn}
 use Rattle.thy_view.specs.Turn.{over_by}
+use Rattle.thy_view.specs.Work.{adds_copies, GetsDone}
 use Rattle.thy_scheme.specs.Behind.{held_behind}
 use Rattle.thy_scheme.specs.Scheme.{SchemeOf, Stands}
-use Rattle.thy_scheme.specs.Calls.{queued_in, OpensNone, HoldsSame, KeepsLeft, Keeps}
+use Rattle.thy_scheme.specs.Calls.{queued_in, OpensNone, HoldsSame, KeepsLeft, Keeps, OwesNoMore}
 use Rattle.thy_scheme.specs.Laws.{IsLawful}
-use Rattle.thy_core_model.specs.Machine.{Machine, moment_of, memory_of, run_view, view_in, view_of, is_barred, pressure_of, has_read_in}
+use Rattle.thy_core_model.specs.Machine.{Machine, moment_of, memory_of, run_view, view_in, view_of, pressure_of, gauge_of, has_read_in}
 use Rattle.thy_core_model.specs.Pace.{instructions_left, flushes_left, hart_left, cycles_left, most_spent}
 use Rattle.thy_core_model.specs.Sound.{OpenNow, IsHeld, IsCounted, IsEpoch, StartsFresh, IsPaced, IsSmall, SoundRun, SoundIn, Sound}
 use Rattle.thy_core_model.specs.Rows.{Leads, At}
 use Rattle.thy_core_model.proofs.SmallLaws.{small_step}
+use Rattle.thy_core_model.proofs.WorkLaws.{NoMore, moves_same, leaves_no_more}
 
 -- ---- behind the boot
 
@@ -72,10 +75,6 @@ runs_behind phase is = λ boots. absurd (cc)
 
 -- ---- what makes a cycle lead on
 
-pub entries_in : (barred : Bool) (dirty free : ℕ) → dirty ≤ free → (if barred then 0 else dirty) ≤ (if barred then 0 else free)
-entries_in true dirty free l = omega arith
-entries_in false dirty free l = l
-
 -- what a cycle behind the boot has to show of it
 pub record GoesOn {S : Type 0} (K : SchemeOf S) (o : Origin) (did : Did) (m : Machine S) (n : Device) (next : Machine S) (new : Device)
     : Type 0 where
@@ -89,6 +88,8 @@ pub record GoesOn {S : Type 0} (K : SchemeOf S) (o : Origin) (did : Did) (m : Ma
   pub dram : LeavesDram did n new (K.dram m.scheme) (K.dram next.scheme)
   pub queues : Queues did (queued_in K m.scheme n) (queued_in K next.scheme new)
   pub strides : StridesOn did m.hart.epoch.retired m.idle next.idle
+  pub done : GetsDone did (gauge_of K m n) (gauge_of K next new) (WritesBlock n new (K.dram m.scheme) (K.dram next.scheme))
+  pub left : NoMore K did m n next new
   pub exhausts : did ≡ Moved → next.hart.epoch.over ≡ over_by (pressure_of K m).short
 
 module _ {S : Type 0} (K : SchemeOf S) (o : Origin) (cycles : ℕ) (did : Did)
@@ -104,7 +105,6 @@ module _ {S : Type 0} (K : SchemeOf S) (o : Origin) (cycles : ℕ) (did : Did)
       let now : view_of K o next new ≡ run_view next = view_run K o next new g.behind in
       let spends : next.spent + cycles_left K o.geometry next new < most_spent K o.geometry = g.moment.paced.spent in
       let spent_is : (view_of K o next new).spent ≡ next.spent = ap (λ (v : View). v.spent) now in
-      let dirty : ℕ = dirty_count next.cache + reserved next.hart.hand in
       record {
         at_next = record {
           origin = at.sound.origin;
@@ -122,8 +122,9 @@ module _ {S : Type 0} (K : SchemeOf S) (o : Origin) (cycles : ℕ) (did : Did)
           queues = g.queues;
           boots = λ boots. absurd (behind (sym (ap (λ (v : View). v.phase) old) ∙ boots));
           strides = subst (λ (v : View). StridesOn did v.retired m.idle next.idle) (sym old) g.strides;
-          entries = entries_in (is_barred K next) dirty (K.free next.scheme) g.moment.held.room;
+          entries = g.moment.held.room;
         };
+        works = record { done = g.done; left = leaves_no_more K did m n next new behind g.behind g.left };
         exhausts = λ is. ap (λ (v : View). v.over) now ∙ g.exhausts is;
         read = λ nothing. has_read_is K o next.phase next g.behind;
         still = λ found boots done. absurd (behind (sym (ap (λ (v : View). v.phase) old) ∙ boots));
@@ -196,6 +197,7 @@ module _ {S : Type 0} (K : SchemeOf S) (m next : Machine S) (n new : Device)
   counted_kept o c = record {
     start = subst (λ (x : Core). o.start.count ≤ x.cpu.count) (sym hart) c.start;
     count = subst (λ (x : Core). (at o x.cpu.count).count ≡ x.cpu.count) (sym hart) c.count;
+    processor = subst (λ (x : Core). state_with x.cpu [] [] ≡ without_memory (at o x.cpu.count)) (sym hart) c.processor;
     running = subst (λ (x : Core). is_running x.cpu.status ≡ runs_at o x.cpu.count) (sym hart) c.running;
   }
 
@@ -266,6 +268,7 @@ sound_kept K o m n t spent new l s sound keeps began below =
       checkpoints = sound;
       held = held_kept K m next n new refl refl l keeps.held s.held;
       follows = follows_kept K m next n new refl refl o keeps.held.blocks s.follows;
+      writes = s.writes;
       counted = counted_kept K m next n new refl refl o s.counted;
       epoch = epoch_kept K m next n new refl refl o began s.epoch;
       numbered = record { epoch = s.numbered.epoch; sealed = s.numbered.sealed; unwritten = s.numbered.unwritten };
@@ -277,6 +280,18 @@ sound_kept K o m n t spent new l s sound keeps began below =
       };
       paced = paced_kept K m next n new refl refl o.geometry refl keeps s.paced below;
     }
+
+-- and no more than was is left of what it has to do
+pub left_on : {S : Type 0} (K : SchemeOf S) (did : Did) (m : Machine S) (n : Device) (t : S) (spent : ℕ) (new : Device)
+    → Keeps K m.scheme n t new → (adds_copies did ≡ false → OwesNoMore K m.scheme n t new) → NoMore K did m n (with_scheme t spent m) new
+left_on K did m n t spent new keeps owes = record {
+  moves = λ e.
+      let same = moves_same m.phase m.hart.epoch.over (moment_of K m n) (moment_of K (with_scheme t spent m) new) refl in
+      omega (arith, same);
+  owed = owes;
+  owed_in_all = λ e. keeps.left.owed;
+  promotions = λ e. keeps.left.promotions;
+}
 
 -- ---- the device
 

@@ -1,30 +1,40 @@
 -- The machine over a lawful scheme keeps the laws of machines.
-use Rattle.std.proofs.Common.{◌≡◌, ℕ, ◌+◌, ◌*◌, Bool, true, false, if◌then◌else◌, nat_lt, [], length, replicate, Some, None, refl, sym, ◌∙◌, ap, subst, arith, inl, inr}
+use Rattle.std.proofs.Common.{◌≡◌, ◌≢◌, ℕ, ◌+◌, ◌*◌, ◌<◌, ◌≤◌, Bool, true, false, if◌then◌else◌, nat_lt, [], length, replicate, Option, Some, None, refl, sym, ◌∙◌, ap, subst, arith, inl, inr}
+use Rattle.std.proofs.lemmas.Bool.{ltb-true}
+use Rattle.thy_base.specs.declared.cause.EndCause.{EndCause}
 use Rattle.thy_base.specs.declared.config.Parameters.{Parameters}
 use Rattle.thy_base.specs.Device.{Device}
 use Rattle.thy_base.specs.Marks.{mark}
 use Rattle.thy_cache.specs.Contents.{dirty_count, empty_cache}
 use Rattle.thy_cache.proofs.FlushLaws.{empty-agrees, empty-count, empty-flat}
+use Rattle.thy_flat.specs.declared.span.Span.{Span}
 use Rattle.thy_hart.specs.declared.hand.Hand.{Hand}
 use Rattle.thy_hart.specs.declared.hand.Hand.TheVariants.{Nothing, Reading, Reserving, Writing, Retiring}
 use Rattle.thy_hart.specs.Core.{new_hart, blocks_of, reserved}
+use Rattle.thy_hart.specs.Moments.{Moment}
 use Rattle.thy_isa.specs.declared.state.CpuState.{CpuState}
 use Rattle.thy_isa.specs.declared.state.Status.TheVariants.{Running}
-use Rattle.thy_view.specs.declared.view.Phase.TheVariants.{Boot}
+use Rattle.thy_view.specs.declared.view.Phase.{Phase}
+use Rattle.thy_view.specs.declared.view.Phase.TheVariants.{Boot, Run, Halt}
 use Rattle.thy_view.specs.declared.view.View.{View}
-use Rattle.thy_view.specs.Kind.{IsPoweredOn}
-use Rattle.thy_view.specs.Origin.{Origin}
+use Rattle.thy_view.specs.Kind.{IsPoweredOn, IsUnderWay, IsShortage}
+use Rattle.thy_view.specs.Origin.{Origin, at}
+use Rattle.thy_view.specs.Stores.{blocks_in, stored_by}
 use Rattle.thy_view.specs.Turn.{Shortage}
+use Rattle.thy_view.specs.Views.{is_boot}
+use Rattle.thy_view.specs.Work.{IsWithin}
 use Rattle.thy_scheme.specs.Boots.{IsBootView}
 use Rattle.thy_scheme.specs.Marks.{only}
 use Rattle.thy_scheme.specs.Scheme.{SchemeOf}
-use Rattle.thy_scheme.specs.Laws.{IsLawful as IsLawfulScheme}
+use Rattle.thy_scheme.specs.Laws.{RunHolds, IsLawful as IsLawfulScheme}
 use Rattle.thy_core_model.specs.Kind.{kind_over, own_left}
-use Rattle.thy_core_model.specs.Machine.{Machine, short_of, is_barred, boot_left_in, gauge_of, view_in, view_of}
+use Rattle.thy_core_model.specs.Machine.{Machine, moment_of, short_of, shortage_of, pressure_of, boot_left_in, moves_in, gauge_in, gauge_of, run_view, view_in, view_of}
 use Rattle.thy_core_model.specs.Pace.{most_spent}
-use Rattle.thy_core_model.specs.Sound.{SoundBoot, SoundIn, Sound, IsPowered}
+use Rattle.thy_core_model.specs.Sound.{IsToWrite, SoundRun, SoundBoot, SoundIn, Sound, IsPowered}
 use Rattle.thy_core_model.specs.Runs.{MachineIsLawful}
+use Rattle.thy_core_model.proofs.EpochLemmas.{few-moves}
 use Rattle.thy_core_model.proofs.RunLaws.{moment_is_safe, fresh_leads, cut_leads}
+use Rattle.thy_core_model.proofs.WorkLaws.{number_behind}
 
 -- a processor of zeros
 no_cpu : CpuState
@@ -97,28 +107,89 @@ powered_on K l o k m n s on empty =
       ahead = omega (arith, none, queued, left, boots, own);
     }
 
--- what an instruction is short of is what the gauge tells
-short_free : (free dirty : ℕ) (hand : Hand) (s : Shortage) → short_of free dirty hand ≡ Some s → (s.free ≡ free) × (s.dirty ≡ dirty + reserved hand)
-short_free free dirty Nothing s e = absurd (cc)
-short_free free dirty (Reading effect from to) s e = absurd (cc)
-short_free free dirty (Reserving effect to) s e = told (nat_lt free (dirty + blocks_of to)) e
-  where
-    told : (less : Bool) → (if less then Some (record { free = free; dirty = dirty; need = blocks_of to }) else None) ≡ Some s
-        → (s.free ≡ free) × (s.dirty ≡ dirty + 0)
-    told true e =
-        let same : record { free = free; dirty = dirty; need = blocks_of to } ≡ s = cc in
-        (ap (λ (x : Shortage). x.free) (sym same), omega (arith, ap (λ (x : Shortage). x.dirty) (sym same)))
-    told false e = absurd (cc)
-short_free free dirty (Writing effect to done) s e = absurd (cc)
-short_free free dirty (Retiring effect wrote) s e = absurd (cc)
+-- what an instruction is short of, where it is to write this
+record IsShortOf (entries lines : ℕ) (stored : Span) (s : Shortage) : Type 0 where
+  free : s.free ≡ entries
+  dirty : s.dirty ≡ lines
+  need : s.need ≡ blocks_in stored
+  short : s.free < s.dirty + s.need
 
-short_barred : (barred : Bool) (free dirty : ℕ) (hand : Hand) (s : Shortage)
-    → (if barred then Some (record { free = 0; dirty = 0; need = 1 }) else short_of free dirty hand) ≡ Some s
-    → (s.free ≡ (if barred then 0 else free)) × (s.dirty ≡ (if barred then 0 else dirty + reserved hand))
-short_barred true free dirty hand s e =
-    let same : record { free = 0; dirty = 0; need = 1 } ≡ s = cc in
-    (ap (λ (x : Shortage). x.free) (sym same), ap (λ (x : Shortage). x.dirty) (sym same))
-short_barred false free dirty hand s e = short_free free dirty hand s e
+short_free : (free dirty : ℕ) (stored : Span) (hand : Hand) (s : Shortage) → IsToWrite stored hand → short_of free dirty hand ≡ Some s
+    → IsShortOf free (dirty + reserved hand) stored s
+short_free free dirty stored Nothing s w e = absurd (cc)
+short_free free dirty stored (Reading effect from to) s w e = absurd (cc)
+short_free free dirty stored (Reserving effect to) s w e = told (nat_lt free (dirty + blocks_of to)) refl e
+  where
+    some : blocks_of to ≡ blocks_in stored
+    some = sym (ap (λ (b : Bool). if b then 0 else blocks_of to) w.1) ∙ ap blocks_in w.0
+
+    told : (less : Bool) → nat_lt free (dirty + blocks_of to) ≡ less
+        → (if less then Some (record { free = free; dirty = dirty; need = blocks_of to }) else None) ≡ Some s
+        → IsShortOf free (dirty + 0) stored s
+    told true less e =
+        let same : record { free = free; dirty = dirty; need = blocks_of to } ≡ s = cc in
+        let below : free < dirty + blocks_of to = ltb-true free (dirty + blocks_of to) less in
+        subst (IsShortOf free (dirty + 0) stored) same
+        (record { free = refl; dirty = omega arith; need = some; short = below })
+    told false less e = absurd (cc)
+short_free free dirty stored (Writing effect to done) s w e = absurd (cc)
+short_free free dirty stored (Retiring effect wrote) s w e = absurd (cc)
+
+-- ---- what stands behind the boot
+
+module _ {S : Type 0} (K : SchemeOf S) (o : Origin) (m : Machine S) (n : Device) (l : IsLawfulScheme K) (up : n.down ≡ false) where
+  -- a shortage is real
+  short_run : (s : Shortage) → SoundRun K o m n → shortage_of K m ≡ Some s → IsShortage o (run_view m) (gauge_of K m n) s
+  short_run s run e =
+      let short = short_free (K.free m.scheme) (dirty_count m.cache) (stored_by o (at o m.hart.cpu.count)) m.hart.hand s run.writes e in
+      record { free = short.free; dirty = short.dirty; need = short.need; short = short.short }
+
+  holds : SoundRun K o m n → RunHolds K o m.marks m.scheme n
+  holds run = l.run_holds o m.marks m.scheme n (record { sound = run.checkpoints; up = up })
+
+  way_run : SoundRun K o m n → IsUnderWay m.marks.sealed (pressure_of K m)
+  way_run run = let h = holds run in record { way = h.way; apart = h.apart }
+
+  moves_few : (phase : Phase) (over : Option EndCause) (x : Moment) → moves_in phase over x ≤ 16
+  moves_few Boot over x = omega arith
+  moves_few Run None x = few-moves x
+  moves_few Run (Some cause) x = omega arith
+  moves_few Halt over x = omega arith
+
+  few_run : (phase : Phase) → phase ≢ Boot → SoundRun K o m n → IsWithin (K.most_owed o.geometry) (K.most_promotions o.geometry) (gauge_in K phase m n)
+  few_run phase behind run =
+      let b = (holds run).bounded in
+      let owed = number_behind phase (K.holding m.scheme n).owed behind in
+      let later = number_behind phase (K.owed_later m.scheme) behind in
+      let promotions = number_behind phase (K.promotions_left m.scheme) behind in
+      let most_owed = b.owed in
+      let most_promotions = b.promotions in
+      record {
+        moves = moves_few phase m.hart.epoch.over (moment_of K m n);
+        owed = omega (arith, owed, later, most_owed);
+        promotions = omega (arith, promotions, most_promotions);
+      }
+
+  -- ---- in each phase
+
+  short_in : (phase : Phase) (s : Shortage) → SoundIn K o phase m n → shortage_of K m ≡ Some s
+      → IsShortage o (view_in K o phase m n) (gauge_of K m n) s
+  short_in Boot s booting e = absurd (let none : shortage_of K m ≡ None = ap (short_of (K.free m.scheme) (dirty_count m.cache)) booting.blank.hand in cc)
+  short_in Run s run e = short_run s run e
+  short_in Halt s run e = short_run s run e
+
+  way_in : (phase : Phase) → SoundIn K o phase m n → is_boot (view_in K o phase m n).phase ≡ false
+      → IsUnderWay (view_in K o phase m n).sealed (pressure_of K m)
+  way_in Boot booting e =
+      let shown = (l.boot_holds o m.scheme n (record { boots = booting.boots; up = up })).shown in
+      absurd (let boots : is_boot (K.boot_view o m.scheme n).phase ≡ true = ap is_boot (boots_phase o (K.boot_view o m.scheme n) shown) in cc)
+  way_in Run run e = way_run run
+  way_in Halt run e = way_run run
+
+  few_in : (phase : Phase) → SoundIn K o phase m n → IsWithin (K.most_owed o.geometry) (K.most_promotions o.geometry) (gauge_in K phase m n)
+  few_in Boot booting = record { moves = omega arith; owed = omega arith; promotions = omega arith }
+  few_in Run run = few_run Run (λ e. absurd (cc)) run
+  few_in Halt run = few_run Halt (λ e. absurd (cc)) run
 
 pub machine_is_lawful : {S : Type 0} (K : SchemeOf S) → MachineIsLawful K
 machine_is_lawful K l = record {
@@ -127,9 +198,14 @@ machine_is_lawful K l = record {
   begins = λ o m shape start n. fresh_leads K o m shape start n l;
   recovers = λ o k m next n pick g. cut_leads K o k m next n pick g l;
   powered_on = powered_on K l;
+  unfailed = λ o k m n at. at.unfailed;
+  tells_failure = λ o before m stopped. stopped.failed;
   some_ahead = λ o k m n at. omega arith;
   counts_queues = λ m n. refl;
   counts_dram = λ m. l.queued_is m.scheme;
-  short_of = λ m n s. short_barred (is_barred K m) (K.free m.scheme) (dirty_count m.cache) m.hart.hand s;
+  short_of = λ o k m n s sound. short_in K o m n l sound.up m.phase s sound.moment;
+  under_way = λ o k m n sound. way_in K o m n l sound.up m.phase sound.moment;
+  barred = λ m. refl;
+  few_left = λ o k m n sound. few_in K o m n l sound.up m.phase sound.moment;
   is_safe = λ o k m n. moment_is_safe K o k m n l;
 }

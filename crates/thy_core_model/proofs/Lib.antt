@@ -6,6 +6,8 @@ pub mod Facts
 pub mod HartRow
 pub mod HartCases
 pub mod SmallLaws
+pub mod WorkLaws
+pub mod HandLaws
 pub mod KeepsLaws
 pub mod SealingLaws
 pub mod CallRows

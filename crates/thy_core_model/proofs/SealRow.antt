@@ -34,9 +34,9 @@ use Rattle.thy_core_model.specs.Rows.{At, IsSealing, SealLeads}
 use Rattle.thy_core_model.specs.Sound.{OpenNow, epochs_ahead, IsFresh, StartsFresh, IsSmall, SoundRun}
 use Rattle.thy_core_model.proofs.CacheLemmas.{none_for_flush}
 use Rattle.thy_core_model.proofs.EpochLemmas.{few-moves}
-use Rattle.thy_core_model.proofs.KeepsLaws.{run_of, view_run, runs_behind, none_for, leads_on}
+use Rattle.thy_core_model.proofs.KeepsLaws.{run_of, view_run, stands, runs_behind, none_for, leads_on}
 use Rattle.thy_scheme.proofs.RecordLemmas.{at-storable, state-recordable, state-console}
-use Rattle.thy_core_model.proofs.SealingLaws.{IsOver, over_at}
+use Rattle.thy_core_model.proofs.SealingLaws.{IsOver, over_at, unsealed_at}
 
 -- ---- a hart whose next epoch begins is where it was
 
@@ -83,7 +83,8 @@ fresh_with hand dirty rested none clean rests = subst (λ h. IsFresh h dirty res
 
 -- before a seal: the state that is sealed is the plain machine's, all of memory is behind the cache, and no page is open
 pub record IsStanding {S : Type 0} (K : SchemeOf S) (o : Origin) (m : Machine S) (n : Device) : Type 0 where
-  pub over : IsOver m.hart.epoch.over m.marks.sealed
+  pub over : IsOver m.hart.epoch.over (K.under_way m.scheme)
+  pub unsealed : m.marks.sealed ≡ None
   pub hand : m.hart.hand ≡ Nothing
   pub state : state_from o.geometry m.hart.cpu (K.holding m.scheme n).blocks ≡ at_count o m.hart.cpu.count
   pub console : m.hart.cpu.console_len ≡ length (at_count o m.hart.cpu.count).console
@@ -96,7 +97,8 @@ pub standing : {S : Type 0} (K : SchemeOf S) (o : Origin) (cycles : ℕ) (m : Ma
 standing K o cycles m n cause at sealing whole clean over_is =
     let behind = runs_behind m.phase sealing.phase in
     let s : SoundRun K o m n = run_of K o cycles m n at.sound behind in
-    let over : IsOver m.hart.epoch.over m.marks.sealed = over_at K o m n sealing whole in
+    let over : IsOver m.hart.epoch.over (K.under_way m.scheme) = over_at K o m n sealing whole in
+    let unsealed : m.marks.sealed ≡ None = unsealed_at K o m n (at.lawful.run_holds o m.marks m.scheme n (stands K o cycles m n at.sound behind)) over.idle in
     let p = o.geometry in
     let cpu = m.hart.cpu in
     let blocks : List Block = (K.holding m.scheme n).blocks in
@@ -122,14 +124,15 @@ standing K o cycles m n cause at sealing whole clean over_is =
     subst (λ x. OpenNow x m.cache m.hart (K.holding m.scheme n).open_page) over_is s.held.opened in
     record {
       over = over;
+      unsealed = unsealed;
       hand = hand;
       state = state;
       console = sym (state-console p cpu blocks range memory room) ∙ ap (λ (x : State). length x.console) state;
       closed = none_for_flush m.cache (K.holding m.scheme n).open_page clean open_for;
       taken = record {
-        unsealed = over.unsealed;
-        unwritten = s.numbered.unwritten over.unsealed;
-        next = s.numbered.epoch ∙ ap (λ x. m.marks.done.epoch + epochs_ahead x) over.unsealed;
+        unsealed = unsealed;
+        unwritten = s.numbered.unwritten unsealed;
+        next = s.numbered.epoch ∙ ap (λ x. m.marks.done.epoch + epochs_ahead x) unsealed;
         of_epoch = refl;
         small = omega (arith, epoch, few);
         recordable = state-recordable p cpu blocks (program_size p) (at_count o cpu.count) state storable room below;
@@ -184,7 +187,8 @@ seal_leads {S} K = λ o cycles m n t cause at sealing whole bare clean over_is p
         };
         follows = subst (Follows o.input (at_count o m.hart.cpu.count) next.hart) (ap (flat m.cache) (sym p.held.blocks))
             (follows-epoch o.input (at_count o m.hart.cpu.count) m.hart (memory_of K m n) (next_epoch m.hart.epoch) s.follows);
-        counted = record { start = s.counted.start; count = s.counted.count; running = s.counted.running };
+        writes = s.writes;
+        counted = record { start = s.counted.start; count = s.counted.count; processor = s.counted.processor; running = s.counted.running };
         epoch = record {
           began = λ none. g.hand;
           span = span;
@@ -216,7 +220,7 @@ seal_leads {S} K = λ o cycles m n t cause at sealing whole bare clean over_is p
       };
       step = record {
         phase = sealing.phase;
-        unsealed = g.over.unsealed;
+        unsealed = g.unsealed;
         of_epoch = refl;
         at_count = refl;
         over = over_is;
@@ -225,6 +229,8 @@ seal_leads {S} K = λ o cycles m n t cause at sealing whole bare clean over_is p
       acts = record { action = Rest; asked = refl; left = refl };
       dram = inl p.dram;
       queues = omega (arith, queue);
+      done = tt;
+      left = record { moves = λ e. absurd (cc); owed = λ e. absurd (cc); owed_in_all = λ e. absurd (cc); promotions = λ e. absurd (cc) };
       strides = (λ idle. s.paced.strides idle (λ none. absurd (cc)), refl);
       exhausts = λ is. absurd (cc);
     })

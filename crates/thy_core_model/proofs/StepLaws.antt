@@ -1,10 +1,14 @@
 -- A cycle that leads on, at the turn of its pick, is a step of a machine, and one that failed is a cycle that failed.
-use Rattle.std.proofs.Common.{◌≡◌, ℕ, ◌+◌, sym, ◌∙◌, ap, inl, inr, subst, refl}
+use Rattle.std.proofs.Common.{◌≡◌, ℕ, ◌+◌, true, false, [], sym, ◌∙◌, ap, inl, inr, subst, refl}
 use Rattle.thy_base.specs.Device.{Device}
+use Rattle.thy_isa.specs.Step.{state_with}
+use Rattle.thy_hart.specs.Core.{Core}
 use Rattle.thy_view.specs.declared.view.Phase.{Phase}
 use Rattle.thy_view.specs.declared.view.Phase.TheVariants.{Boot, Run, Halt}
 use Rattle.thy_view.specs.declared.view.View.{View}
-use Rattle.thy_view.specs.Origin.{Origin}
+use Rattle.thy_view.specs.Kind.{without_memory}
+use Rattle.thy_view.specs.Origin.{Origin, at}
+use Rattle.thy_view.specs.Views.{is_boot}
 use Rattle.thy_scheme.specs.Boots.{IsBootView}
 use Rattle.thy_scheme.specs.Laws.{IsLawful}
 use Rattle.thy_scheme.specs.Scheme.{SchemeOf}
@@ -12,6 +16,7 @@ use Rattle.thy_core_model.specs.Machine.{Machine, view_in, view_of, gauge_of}
 use Rattle.thy_core_model.specs.Pace.{most_spent}
 use Rattle.thy_core_model.specs.Runs.{LeadingIsStep, FailingIsSafe}
 use Rattle.thy_core_model.specs.Sound.{SoundIn, Sound}
+use Rattle.thy_core_model.proofs.LawfulLaws.{boots_phase}
 use Rattle.thy_core_model.proofs.NearLaws.{cycles_come_nearer}
 use Rattle.thy_core_model.proofs.RunLaws.{moment_is_safe}
 
@@ -40,6 +45,7 @@ leading_is_step K o cycles pick m next n new r at leads turn ended = record {
   acts = leads.acts;
   dram = leads.dram;
   pace = leads.pace;
+  works = leads.works;
   nears = cycles_come_nearer (most_spent K o.geometry) o (view_of K o m n) (view_of K o next new) r.did (gauge_of K m n) (gauge_of K next new)
       (fresh_in K at.lawful o cycles m n at.sound m.phase refl) leads.step leads.pace;
   exhausts = leads.exhausts;
@@ -49,6 +55,24 @@ leading_is_step K o cycles pick m next n new r at leads turn ended = record {
   still = leads.still;
 }
 
+-- once the boot is over, the processor is the plain machine's at the view's count
+processor_in : {S : Type 0} (K : SchemeOf S) (l : IsLawful K) (o : Origin) (m : Machine S) (n : Device) (phase : Phase) → n.down ≡ false → SoundIn K o phase m n
+    → is_boot (view_in K o phase m n).phase ≡ false → state_with m.hart.cpu [] [] ≡ without_memory (at o (view_in K o phase m n).count)
+processor_in K l o m n Boot up s over =
+    let shown = (l.boot_holds o m.scheme n (record { boots = s.boots; up = up })).shown in
+    let both : true ≡ false = sym (ap is_boot (boots_phase o (K.boot_view o m.scheme n) shown)) ∙ over in
+    absurd (cc)
+processor_in K l o m n Run up s over = s.counted.processor
+processor_in K l o m n Halt up s over = s.counted.processor
+
 pub failing_is_safe : {S : Type 0} (K : SchemeOf S) → FailingIsSafe K
-failing_is_safe K o pick m n new did stall fails turn =
-    record { safe = fails.safe; acted = record { did = did; stall = stall; turn = turn; failed = fails.failed; still = fails.still } }
+failing_is_safe K o cycles pick m next n new did stall moment fails hart failed turn = record {
+  acted = record { did = did; stall = stall; turn = turn; failed = fails.failed; still = fails.still };
+  safe = fails.safe;
+  stopped = record {
+    failed = failed;
+    of_geometry = fails.of_geometry;
+    processor = λ over. ap (λ (h : Core). state_with h.cpu [] []) hart
+        ∙ processor_in K moment.lawful o m n m.phase moment.sound.up moment.sound.moment over;
+  };
+}

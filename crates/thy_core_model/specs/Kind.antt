@@ -11,7 +11,7 @@ use Rattle.thy_view.specs.Pace.{Gauge}
 use Rattle.thy_scheme.specs.Scheme.{SchemeOf}
 use Rattle.thy_core_model.specs.Machine.{Machine, view_of, pressure_of, gauge_of, has_read_of}
 use Rattle.thy_core_model.specs.Pace.{most_spent}
-use Rattle.thy_core_model.specs.Sound.{Sound, IsPowered}
+use Rattle.thy_core_model.specs.Sound.{Sound, SoundStopped, IsPowered}
 
 -- epochs that may still go by without an instruction, in cycles: two behind one that retired some, one more unless the
 -- epoch before was idle
@@ -44,13 +44,18 @@ kind_over K = record {
   powered = IsPowered K;
   is_at = Sound K;
   view = view_of K;
+  has_failed = SoundStopped K;
+  failed = λ m. m.failed;
   has_read = has_read_of K;
   dram = λ m. K.dram m.scheme;
+  overlaps = K.overlaps;
   pressure = pressure_of K;
   gauge = gauge_of K;
   ahead = ahead_of K;
   most_spent = most_spent K;
   most_booting = K.most_booting;
+  most_owed = K.most_owed;
+  most_promotions = K.most_promotions;
   most_boot = most_ahead K;
   most_each = most_each_of K;
 }

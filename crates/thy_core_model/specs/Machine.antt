@@ -2,12 +2,13 @@
 use Rattle.std.specs.Prelude.{ℕ, ◌+◌, ◌&&◌, not, Bool, true, nat_lt, if◌then◌else◌, List, length, Option, Some, None}
 use Rattle.thy_base.specs.declared.block.Block.{Block}
 use Rattle.thy_base.specs.Device.{Device}
+use Rattle.thy_base.specs.declared.cause.EndCause.{EndCause}
 use Rattle.thy_cache.specs.Contents.{Contents, dirty_count}
 use Rattle.thy_cache.specs.Flat.{flat}
 use Rattle.thy_hart.specs.declared.hand.Hand.{Hand}
 use Rattle.thy_hart.specs.declared.hand.Hand.TheVariants.{Nothing, Reading, Reserving, Writing, Retiring}
 use Rattle.thy_hart.specs.Core.{Core, blocks_of, reserved}
-use Rattle.thy_hart.specs.Moments.{Moment, moment}
+use Rattle.thy_hart.specs.Moments.{Moment, moment, moves_left}
 use Rattle.thy_view.specs.declared.view.Phase.{Phase}
 use Rattle.thy_view.specs.declared.view.Phase.TheVariants.{Boot, Run, Halt}
 use Rattle.thy_view.specs.declared.view.View.{View}
@@ -86,15 +87,15 @@ short_of free dirty (Reserving e to) =
 short_of free dirty (Writing e to done) = None
 short_of free dirty (Retiring e wrote) = None
 
--- while it is barred, any is
 abbrev pub shortage_of : {S : Type 0} → SchemeOf S → Machine S → Option Shortage
-shortage_of K m =
-    if is_barred K m then Some (record { free = 0; dirty = 0; need = 1 })
-    else short_of (K.free m.scheme) (dirty_count m.cache) m.hart.hand
+shortage_of K m = short_of (K.free m.scheme) (dirty_count m.cache) m.hart.hand
 
 abbrev pub pressure_of : {S : Type 0} → SchemeOf S → Machine S → Pressure
 pressure_of K m = record {
   dram = K.queued m.scheme;
+  under_way = K.under_way m.scheme;
+  applies = K.applies m.scheme;
+  barred = is_barred K m;
   short = shortage_of K m;
   promotes = K.promoting m.scheme;
   dirty = dirty_count m.cache;
@@ -106,14 +107,37 @@ boot_left_in K Boot m = K.boot_left m.scheme
 boot_left_in K Run m = 0
 boot_left_in K Halt m = 0
 
-abbrev pub gauge_of : {S : Type 0} → SchemeOf S → Machine S → Device → Gauge
-gauge_of K m n = record {
-  boot_left = boot_left_in K m.phase m;
+-- moves are left while the hart runs and its epoch is not over
+abbrev pub moves_while : Option EndCause → Moment → ℕ
+moves_while None m = moves_left m
+moves_while (Some cause) m = 0
+
+abbrev pub moves_in : Phase → Option EndCause → Moment → ℕ
+moves_in Boot over m = 0
+moves_in Run over m = moves_while over m
+moves_in Halt over m = 0
+
+-- in the boot nothing is owed and nothing is to be promoted
+abbrev pub after_boot_only : Phase → ℕ → ℕ
+after_boot_only Boot number = 0
+after_boot_only Run number = number
+after_boot_only Halt number = number
+
+abbrev pub gauge_in : {S : Type 0} → SchemeOf S → Phase → Machine S → Device → Gauge
+gauge_in K phase m n = record {
+  boot_left = boot_left_in K phase m;
   idle = m.idle;
   queued = length n.queue + K.queued m.scheme;
-  free = if is_barred K m then 0 else K.free m.scheme;
-  dirty = if is_barred K m then 0 else dirty_count m.cache + reserved m.hart.hand;
+  free = K.free m.scheme;
+  dirty = dirty_count m.cache + reserved m.hart.hand;
+  moves = moves_in phase m.hart.epoch.over (moment_of K m n);
+  owed = after_boot_only phase (K.holding m.scheme n).owed;
+  owed_later = after_boot_only phase (K.owed_later m.scheme);
+  promotions = after_boot_only phase (K.promotions_left m.scheme);
 }
+
+abbrev pub gauge_of : {S : Type 0} → SchemeOf S → Machine S → Device → Gauge
+gauge_of K m n = gauge_in K m.phase m n
 
 abbrev pub has_read_in : {S : Type 0} → SchemeOf S → Phase → Machine S → Bool
 has_read_in K Boot m = K.has_read m.scheme

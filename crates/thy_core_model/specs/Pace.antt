@@ -6,6 +6,7 @@ use Rattle.thy_base.specs.Device.{Device}
 use Rattle.thy_cache.specs.Contents.{dirty_count}
 use Rattle.thy_hart.specs.Moments.{Moment, moves_left}
 use Rattle.thy_scheme.specs.Scheme.{SchemeOf}
+use Rattle.thy_scheme.specs.Calls.{owed_in}
 use Rattle.thy_core_model.specs.Machine.{Machine, moment_of}
 
 -- of the instruction in hand, or the next one, and of those that the epoch has behind it: each has 16 moves at the most
@@ -24,7 +25,7 @@ hart_left K p (Some cause) m n = flushes_left (K.most_merges p) (dirty_count m.c
 -- of the epoch, besides its seal
 abbrev pub cycles_left : {S : Type 0} → SchemeOf S → Parameters → Machine S → Device → ℕ
 cycles_left K p m n =
-    K.engine_left m.scheme + K.promotions_left m.scheme + (K.holding m.scheme n).owed + hart_left K p m.hart.epoch.over m n
+    K.engine_left m.scheme + K.promotions_left m.scheme + owed_in K m.scheme n + hart_left K p m.hart.epoch.over m n
 
 -- an epoch spends less than this
 abbrev pub most_spent : {S : Type 0} → SchemeOf S → Parameters → ℕ

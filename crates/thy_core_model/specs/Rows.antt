@@ -19,6 +19,7 @@ use Rattle.thy_view.specs.Dram.{LeavesDram}
 use Rattle.thy_view.specs.Origin.{Origin}
 use Rattle.thy_view.specs.Pace.{KeepsPace}
 use Rattle.thy_view.specs.Turn.{stall_in, over_by}
+use Rattle.thy_view.specs.Work.{Works}
 use Rattle.thy_scheme.specs.declared.boot_step.BootStep.{BootStep}
 use Rattle.thy_scheme.specs.Scheme.{SchemeOf}
 use Rattle.thy_scheme.specs.Calls.{Merges, Promotes, Drains, Seals, Engines, engine_did}
@@ -29,14 +30,15 @@ use Rattle.thy_core_model.specs.Pace.{most_spent}
 use Rattle.thy_core_model.specs.Sound.{Sound}
 use Rattle.thy_core_model.specs.Calls.{HartCall, FlushCall, hart_did, after_hart, after_flush, after_call, after_drain, after_seal, after_engine, after_boot}
 
--- a cycle that did this leads to the next moment: by a step of the view, one action of both devices, and within bounds; in a
--- boot that found a checkpoint it leaves the NVM as it was
+-- a cycle that did this leads to the next moment: by a step of the view, one action of both devices, and within bounds, and gets
+-- done what it says; in a boot that found a checkpoint it leaves the NVM as it was
 pub record Leads {S : Type 0} (K : SchemeOf S) (o : Origin) (cycles : ℕ) (did : Did) (m : Machine S) (n : Device) (next : Machine S) (new : Device) : Type 0 where
   pub at_next : Sound K o (cycles + 1) next new
   pub step : CoreStep o (view_of K o m n) did (view_of K o next new)
   pub acts : Acts did n new
   pub dram : LeavesDram did n new (K.dram m.scheme) (K.dram next.scheme)
   pub pace : KeepsPace (most_spent K o.geometry) (view_of K o m n) (view_of K o next new) did (gauge_of K m n) (gauge_of K next new)
+  pub works : Works did (gauge_of K m n) (gauge_of K next new) n new (K.dram m.scheme) (K.dram next.scheme)
   pub exhausts : did ≡ Moved → (view_of K o next new).over ≡ over_by (pressure_of K m).short
   pub read : n.queue ≡ [] → has_read_of K next ≡ true
   pub still : (found : Mark) → (view_of K o m n).phase ≡ Boot → (view_of K o m n).done ≡ Some found → new ≡ n

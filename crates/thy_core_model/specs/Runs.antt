@@ -1,5 +1,5 @@
 -- How a run of the machine begins, what a power cut leads to, and that every cycle comes nearer to its end.
-use Rattle.std.specs.Prelude.{◌≡◌, ℕ, ◌+◌, ◌*◌, ◌≤◌, false, List, length, Option}
+use Rattle.std.specs.Prelude.{◌≡◌, ℕ, ◌+◌, ◌*◌, ◌≤◌, true, false, List, length, Option}
 use Rattle.thy_base.specs.declared.block.Block.{Block}
 use Rattle.thy_base.specs.declared.nvm.Shape.{Shape}
 use Rattle.thy_base.specs.Device.{Device, Crash, cut_to, fitted}
@@ -22,7 +22,7 @@ use Rattle.thy_scheme.specs.Laws.{IsLawful as IsLawfulScheme}
 use Rattle.thy_core_model.specs.Kind.{kind_over, left_ahead}
 use Rattle.thy_core_model.specs.Machine.{Machine, view_of, pressure_of}
 use Rattle.thy_core_model.specs.Failures.{Fails}
-use Rattle.thy_core_model.specs.Rows.{At, Leads}
+use Rattle.thy_core_model.specs.Rows.{IsMoment, At, Leads}
 use Rattle.thy_core_model.specs.Sound.{Sound, IsPowered}
 
 -- whatever a cut leaves at a moment is the committed checkpoint, whole, or the one in doubt
@@ -61,12 +61,13 @@ LeadingIsStep {S} K =
     → Turn o pick (length n.queue) (view_of K o m n) (pressure_of K m) r.did r.stall
     → r.ended ≡ halts (view_of K o m n) (view_of K o next new) → IsStep (kind_over K) o cycles pick m next n new r
 
--- and one that failed so is a cycle that failed
+-- and one that failed so is a cycle that failed, where the hart stands as it did
 abbrev pub FailingIsSafe : {S : Type 0} → SchemeOf S → Type 0
 FailingIsSafe {S} K =
-    (o : Origin) (pick : Pick) (m : Machine S) (n new : Device) (did : Did) (stall : Option Stall)
-    → Fails K o did m n new → Turn o pick (length n.queue) (view_of K o m n) (pressure_of K m) did stall
-    → LeavesSafe (kind_over K) o pick m n new
+    (o : Origin) (cycles : ℕ) (pick : Pick) (m next : Machine S) (n new : Device) (did : Did) (stall : Option Stall)
+    → IsMoment K o cycles m n → Fails K o did m next.scheme n new → next.hart ≡ m.hart → next.failed ≡ true
+    → Turn o pick (length n.queue) (view_of K o m n) (pressure_of K m) did stall
+    → LeavesSafe (kind_over K) o pick m next n new
 
 -- so the machine keeps the laws of machines
 abbrev pub MachineIsLawful : {S : Type 0} → SchemeOf S → Type 0

@@ -1,23 +1,27 @@
 -- What holds of the machine at every moment of a run.
-use Rattle.std.specs.Prelude.{◌≡◌, ◌≢◌, ℕ, ◌+◌, ◌^◌, ◌<◌, ◌≤◌, not, true, false, Bool, length, Option, Some, None}
+use Rattle.std.specs.Prelude.{◌≡◌, ◌≢◌, ℕ, ◌+◌, ◌^◌, ◌<◌, ◌≤◌, ◌==◌, not, true, false, Bool, length, Option, Some, None, []}
 use Rattle.thy_base.specs.declared.cause.EndCause.{EndCause}
 use Rattle.thy_base.specs.declared.config.Parameters.{Parameters}
 use Rattle.thy_base.specs.declared.mark.Mark.{Mark}
 use Rattle.thy_base.specs.Device.{Device}
 use Rattle.thy_cache.specs.Contents.{Contents, dirty_count, IsOpenForFlush}
 use Rattle.thy_cache.specs.Flat.{Agrees, AgreesWithAll, ReadsAsStore}
+use Rattle.thy_flat.specs.declared.span.Span.{Span}
 use Rattle.thy_epoch.specs.Epoch.{HasRetired}
 use Rattle.thy_hart.specs.declared.hand.Hand.{Hand}
 use Rattle.thy_hart.specs.declared.hand.Hand.TheVariants.{Nothing, Reading, Reserving, Writing, Retiring}
 use Rattle.thy_hart.specs.Core.{Core, next_block, reserved}
 use Rattle.thy_hart.specs.Moments.{IsOpenFor}
 use Rattle.thy_hart.specs.Laws.{Follows}
-use Rattle.thy_isa.specs.Step.{is_running}
+use Rattle.thy_isa.specs.Step.{state_with, is_running}
 use Rattle.thy_view.specs.declared.view.Phase.{Phase}
 use Rattle.thy_view.specs.declared.view.Phase.TheVariants.{Boot, Run, Halt}
 use Rattle.thy_view.specs.declared.view.View.{View}
+use Rattle.thy_view.specs.Kind.{without_memory}
 use Rattle.thy_view.specs.Origin.{Origin, IsOrigin, at, runs_at}
+use Rattle.thy_view.specs.Stores.{stored_by}
 use Rattle.thy_view.specs.Turn.{has_stopped}
+use Rattle.thy_view.specs.Views.{is_boot}
 use Rattle.thy_scheme.specs.Scheme.{SchemeOf}
 use Rattle.thy_core_model.specs.Machine.{Machine, memory_of, view_of}
 use Rattle.thy_core_model.specs.Pace.{cycles_left, most_spent}
@@ -50,10 +54,19 @@ pub record IsHeld {S : Type 0} (K : SchemeOf S) (m : Machine S) (n : Device) : T
   pub room : dirty_count m.cache + reserved m.hart.hand ≤ K.free m.scheme
   pub opened : OpenNow m.hart.epoch.over m.cache m.hart (K.holding m.scheme n).open_page
 
+-- before room is reserved, what the instruction in hand is to write is what the plain machine's writes
+abbrev pub IsToWrite : Span → Hand → Type 0
+IsToWrite stored Nothing = Unit {0}
+IsToWrite stored (Reading e from to) = to ≡ stored
+IsToWrite stored (Reserving e to) = (to ≡ stored) × ((to.len == 0) ≡ false)
+IsToWrite stored (Writing e to done) = Unit {0}
+IsToWrite stored (Retiring e wrote) = Unit {0}
+
 -- the hart is where the plain machine is that has retired as many instructions
 pub record IsCounted {S : Type 0} (o : Origin) (m : Machine S) : Type 0 where
   pub start : o.start.count ≤ m.hart.cpu.count
   pub count : (at o m.hart.cpu.count).count ≡ m.hart.cpu.count
+  pub processor : state_with m.hart.cpu [] [] ≡ without_memory (at o m.hart.cpu.count)
   pub running : is_running m.hart.cpu.status ≡ runs_at o m.hart.cpu.count
 
 -- its epoch is one of this length, and no instruction is in hand before anything was spent, or once it is over
@@ -122,6 +135,7 @@ pub record SoundRun {S : Type 0} (K : SchemeOf S) (o : Origin) (m : Machine S) (
   pub checkpoints : K.is_sound o m.marks m.scheme n
   pub held : IsHeld K m n
   pub follows : Follows o.input (at o m.hart.cpu.count) m.hart (memory_of K m n)
+  pub writes : IsToWrite (stored_by o (at o m.hart.cpu.count)) m.hart.hand
   pub counted : IsCounted o m
   pub epoch : IsEpoch o m
   pub numbered : IsNumbered o m
@@ -167,3 +181,10 @@ pub record IsPowered {S : Type 0} (K : SchemeOf S) (p : Parameters) (m : Machine
   pub scheme : K.powered p m.scheme
   pub blank : IsBlank m
   pub unfailed : m.failed ≡ false
+
+-- after a step that failed, before which this was the view: the scheme is one of the run's geometry still, and the processor
+-- stands where it was
+pub record SoundStopped {S : Type 0} (K : SchemeOf S) (o : Origin) (before : View) (m : Machine S) : Type 0 where
+  pub failed : m.failed ≡ true
+  pub of_geometry : K.is_of o.geometry m.scheme
+  pub processor : is_boot before.phase ≡ false → state_with m.hart.cpu [] [] ≡ without_memory (at o before.count)

@@ -50,7 +50,8 @@ pub fn the_machine_is_lawful<S: Scheme>()
     ensures { MachineIsLawful S.scheme }
 {}
 
-/// A load or a store of the hart that fails leaves the committed checkpoint, whole, or the sealed one.
+/// A load or a store of the hart that fails leaves the committed checkpoint, whole, or the sealed one, if that one's commit
+/// block was written before.
 pub fn the_hart_fails_safely<S: Scheme>()
     ensures { HartFails S.scheme }
 {}
@@ -65,12 +66,12 @@ pub fn a_promotion_fails_safely<S: Scheme>()
     ensures { PromotionLeaves S.scheme }
 {}
 
-/// So does a step of the engine.
+/// So does a step of the engine; the commit block's write that fails leaves it in doubt too.
 pub fn the_engine_fails_safely<S: Scheme>()
     ensures { EngineLeaves S.scheme }
 {}
 
-/// So does a step of the boot.
+/// So does a step of the boot, of which one may write loading's commit block.
 pub fn the_boot_fails_safely<S: Scheme>()
     ensures { BootLeaves S.scheme }
 {}
@@ -120,7 +121,8 @@ pub fn a_cycle_that_leads_on_is_a_step<S: Scheme>()
     ensures { LeadingIsStep S.scheme }
 {}
 
-/// A cycle that fails in its action, at the turn of its pick, leaves the committed checkpoint, whole, or the sealed one.
+/// A cycle that fails in its action, at the turn of its pick, leaves the committed checkpoint, whole, or the one in doubt, and a
+/// machine of which power can be cut, with the processor where it was.
 pub fn a_cycle_that_fails_is_safe<S: Scheme>()
     ensures { FailingIsSafe S.scheme }
 {}

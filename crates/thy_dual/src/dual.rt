@@ -1,5 +1,6 @@
 //! The scheme.
 ghost use Rattle.std.specs.Prelude.{◌≡◌, ◌&&◌, ◌<◌, true, false, length, IfOk, OnOk, OnErr};
+ghost use Rattle.thy_base.specs.declared.config.Parameters.{Parameters};
 ghost use Rattle.thy_base.specs.Device.{Device, HasFailed, IsFramed, CountsFault, block_at};
 ghost use Rattle.thy_base.specs.Places.{image_blocks};
 ghost use Rattle.thy_base.specs.Store.{IsKeptByLoad};
@@ -11,13 +12,12 @@ ghost use Rattle.thy_view.specs.Kind.{IsDramOf};
 ghost use Rattle.thy_view.specs.Origin.{Origin, Begins};
 ghost use Rattle.thy_view.specs.Views.{loads};
 ghost use Rattle.thy_scheme.specs.Marks.{Marks};
-ghost use Rattle.thy_scheme.specs.Scheme.{Stands, CanRun, IsBooting, CanBoot};
+ghost use Rattle.thy_scheme.specs.Scheme.{StaysOf, Stands, CanRun, IsBooting, CanBoot};
 ghost use Rattle.thy_scheme.specs.Calls.{IsOneAccess, Stores, Merges, Promotes, PromotionFails, Drains, Seals, Engines, EngineFails};
 ghost use Rattle.thy_scheme.specs.Boots.{BootsOn, BootFails, BootDrains};
 ghost use Rattle.thy_dual_model.specs.Boots.{Boots, IsPowered, has_read_at, loads_at, step_of, result_of, view_at};
-ghost use Rattle.thy_dual_model.specs.Dual.{is_overlaid, is_promoting, penults};
+ghost use Rattle.thy_dual_model.specs.Dual.{IsOf, is_overlaid, is_promoting, penults};
 ghost use Rattle.thy_dual_model.specs.Scheme.{dual_scheme};
-ghost use Rattle.thy_dual_model.specs.Sound.{IsSound};
 ghost use Rattle.thy_dual_model.specs.Stays.{StaysDual};
 ghost use Rattle.thy_dual.specs.Calls.{IsNew, IsSized, LoadsWork, LoadsCommitted, StoresByRule};
 ghost use Rattle.thy_dual.specs.Calls.{drained, merged, PromotesNext, sealed, TakesItem, TakesBootStep};
@@ -39,7 +39,9 @@ use thy_scheme::{BootStep, Scheme};
 pub struct DualScheme {
     control: Control,
     engine: Engine,
+    /// No block was stored since the last seal. Contracts speak of it; no code reads it but to set `lean`.
     rested: bool,
+    /// No block was stored in the epoch that was sealed last. Contracts speak of it; no code reads it.
     lean: bool,
     boot: Boot,
 }
@@ -154,7 +156,8 @@ impl Scheme for DualScheme {
             IfOk result (λ stored. Stores dual_scheme stored b block.now self.old n self.new new) }
         ensures up { OnOk result ((N.device nvm.new).down ≡ false) }
         ensures err { OnErr result ((N.device nvm.new).down ≡ true) }
-        ensures once { IsOneAccess dual_scheme self.old (N.device nvm.old) self.new (N.device nvm.new) }
+        ensures once { let n = N.device nvm.old in let new = N.device nvm.new in
+            IsOneAccess dual_scheme self.old n self.new new }
         ensures cause { CountsFault result (N.device nvm.old).faults (N.device nvm.new).faults }
     {
         blocks_are_works();
@@ -242,9 +245,11 @@ impl Scheme for DualScheme {
         requires promoting { is_promoting self.old.control ≡ true }
         requires stands { CanRun dual_scheme self.old (N.device nvm.old) }
         ensures made { PromotesNext self.old (N.device nvm.old) result self.new (N.device nvm.new) }
-        ensures ok { let n = N.device nvm.old in (o : Origin) (k : Marks) → Stands dual_scheme o k self.old n
-            → OnOk result (Promotes dual_scheme o k self.old n self.new (N.device nvm.new)) }
+        ensures ok { let n = N.device nvm.old in let new = N.device nvm.new in
+            (o : Origin) (k : Marks) → Stands dual_scheme o k self.old n
+            → OnOk result (Promotes dual_scheme o k self.old n self.new new) }
         ensures err { OnErr result (PromotionFails (N.device nvm.old) (N.device nvm.new)) }
+        ensures left { OnErr result (StaysOf dual_scheme self.old self.new) }
         ensures frame { IsFramed (N.device nvm.old) (N.device nvm.new) }
         ensures cause { CountsFault result (N.device nvm.old).faults (N.device nvm.new).faults }
     {
@@ -275,10 +280,13 @@ impl Scheme for DualScheme {
         requires way { is_under_way self.old.engine.next ≡ true }
         requires stands { CanRun dual_scheme self.old (N.device nvm.old) }
         ensures made { TakesItem self.old (N.device nvm.old) result self.new (N.device nvm.new) }
-        ensures ok { let n = N.device nvm.old in (o : Origin) (k : Marks) → Stands dual_scheme o k self.old n
-            → IfOk result (λ step. Engines dual_scheme o k step self.old n self.new (N.device nvm.new)) }
-        ensures err { let n = N.device nvm.old in (o : Origin) (k : Marks) → Stands dual_scheme o k self.old n
-            → OnErr result (EngineFails dual_scheme o k n (N.device nvm.new)) }
+        ensures ok { let n = N.device nvm.old in let new = N.device nvm.new in
+            (o : Origin) (k : Marks) → Stands dual_scheme o k self.old n
+            → IfOk result (λ step. Engines dual_scheme o k step self.old n self.new new) }
+        ensures err { let n = N.device nvm.old in let new = N.device nvm.new in
+            (o : Origin) (k : Marks) → Stands dual_scheme o k self.old n
+            → OnErr result (EngineFails dual_scheme o k n new) }
+        ensures left { OnErr result (StaysOf dual_scheme self.old self.new) }
         ensures frame { IsFramed (N.device nvm.old) (N.device nvm.new) }
         ensures cause { CountsFault result (N.device nvm.old).faults (N.device nvm.new).faults }
     {
@@ -292,13 +300,15 @@ impl Scheme for DualScheme {
 
     fn boot_step<N: Nvm>(&mut self, start: &Start, nvm: &mut N) -> Result<BootStep, NvmError>
         requires boots { CanBoot dual_scheme start.now self.old (N.device nvm.old) }
-        ensures made { TakesBootStep start.now self.old (N.device nvm.old) result self.new (N.device nvm.new) }
+        ensures made { let n = N.device nvm.old in let new = N.device nvm.new in
+            TakesBootStep start.now self.old n result self.new new }
         ensures ok { let n = N.device nvm.old in let new = N.device nvm.new in
             (o : Origin) → Begins o start.now → IsBooting dual_scheme o self.old n
             → IfOk result (λ step. BootsOn dual_scheme o step self.old n self.new new) }
         ensures err { let n = N.device nvm.old in let new = N.device nvm.new in
             (o : Origin) → Begins o start.now → IsBooting dual_scheme o self.old n
             → OnErr result (BootFails dual_scheme o self.old n new) }
+        ensures left { OnErr result (StaysOf dual_scheme self.old self.new) }
         ensures frame { IsFramed (N.device nvm.old) (N.device nvm.new) }
         ensures cause { CountsFault result (N.device nvm.old).faults (N.device nvm.new).faults }
     {
@@ -310,16 +320,15 @@ impl Scheme for DualScheme {
 
     fn loading(&self) -> bool
         ensures stage { result ≡ loads_at self.now.boot.stage }
-        ensures found { (o : Origin) (n : Device) → Boots o self.now n
-            → result ≡ (has_read_at self.now.boot.stage && loads (view_at o self.now.boot.stage n)) }
+        ensures found { let stage = self.now.boot.stage in (o : Origin) (n : Device) → Boots o self.now n
+            → result ≡ (has_read_at stage && loads (view_at o stage n)) }
     {
         is_loading(self.boot.stage())
     }
 
     fn cut(self, pick: u64) -> Dram
         ensures drawn { result ≡ lost self.control.dram pick }
-        ensures running { (o : Origin) (k : Marks) (n : Device) → IsSound o k self n → IsDramOf o.geometry result }
-        ensures booting { (o : Origin) (n : Device) → Boots o self n → IsDramOf o.geometry result }
+        ensures sized { (p : Parameters) → IsOf p self → IsDramOf p result }
     {
         self.control.cut(pick)
     }

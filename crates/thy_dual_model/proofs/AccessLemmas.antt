@@ -18,12 +18,12 @@ use Rattle.thy_base.specs.Store.{HasStored}
 use Rattle.thy_place.specs.Devices.{Devices, devices_of, written_at}
 use Rattle.thy_control.specs.Holding.{promoted, holding_of}
 use Rattle.thy_control.specs.Once.{IsOneAction, Once, AccessesNvm, FailsOnNvm, IsOneOfNvm}
-use Rattle.thy_control.specs.Rules.{with_block, rule_for, cell_before, devices_after, state_after}
+use Rattle.thy_control.specs.Rules.{with_block, rule_for, cell_before, devices_after, state_after, FailsStore}
 use Rattle.thy_control.specs.State.{State, AreSoundTables, reads, penult_of}
 use Rattle.thy_control.specs.Stays.{Stays}
 use Rattle.thy_control.proofs.OnceLemmas.{one_of_nvm}
 use Rattle.thy_view.specs.Action.{Rest, ReadAt, WriteAt}
-use Rattle.thy_view.specs.Dram.{ActsOnDram}
+use Rattle.thy_view.specs.Dram.{ActsOnDram, WritesBlock}
 use Rattle.thy_scheme.specs.Calls.{IsOneAccess}
 use Rattle.thy_dual_model.specs.Dual.{Dual, penults}
 use Rattle.thy_dual_model.specs.Scheme.{dual_scheme}
@@ -44,13 +44,23 @@ written-acts p x block d = by_side (in_dram x) where
   by_side true = inr (record { at = number_of p x; block = block; left = refl; nvm = refl })
   by_side false = inl refl
 
+-- and it writes a block
+written-writes : (p : Parameters) (x : Place) (block : Block) (d : Devices) → WritesBlock d.nvm (written_at p x block d).nvm d.dram (written_at p x block d).dram
+written-writes p x block d = by_side (in_dram x) where
+  by_side : (side : Bool)
+      → WritesBlock d.nvm (if side then record d { dram = written d.dram (number_of p x) block } else record d { nvm = written_to d.nvm (number_of p x) block }).nvm
+      d.dram (if side then record d { dram = written d.dram (number_of p x) block } else record d { nvm = written_to d.nvm (number_of p x) block }).dram
+  by_side true = inr (record { at = number_of p x; block = block; left = refl; nvm = refl })
+  by_side false = inl (record { at = number_of p x; block = block; left = refl })
+
 action-acts : (s : State) (old new : Devices) → IsOneAction s old new → BothAct old new
 action-acts s old new (inl same) = inl (ap (λ (d : Devices). d.dram) same)
 action-acts s old new (inr (inl w)) = subst (λ (d : Devices). BothAct old d) (sym w.written) (written-acts s.p w.place w.block old)
 action-acts s old new (inr (inr (inl f))) = inl f.dram
 action-acts s old new (inr (inr (inr f))) = inl f.dram
 
-module _ (s : Dual) (m : Device) (t : Dual) (n : Device) (once : Once s.control m t.control n) (up : m.down ≡ false) (stays : StaysDual s m t n) where
+module _ (s : Dual) (m : Device) (t : Dual) (n : Device) (once : Once s.control m t.control n) (up : m.down ≡ false) (stays : StaysDual s m t n)
+    (writes : n.down ≡ false → WritesBlock m n s.control.dram t.control.dram) where
   one : IsOneOfNvm s.control (devices_of m s.control.dram) (devices_of n t.control.dram)
   one = one_of_nvm s.control (devices_of m s.control.dram) (devices_of n t.control.dram) once.action
 
@@ -63,7 +73,7 @@ module _ (s : Dual) (m : Device) (t : Dual) (n : Device) (once : Once s.control 
       record {
         action = Rest;
         access = tt;
-        succeeds = λ u. record { left = same; dram = acts; queue = one.queue u };
+        succeeds = λ u. record { left = same; dram = acts; queue = one.queue u; copies = λ less. writes u };
         fails = λ d. absurd (not_up n.down down d);
         frame = once.frame;
         stays = stays;
@@ -74,7 +84,7 @@ module _ (s : Dual) (m : Device) (t : Dual) (n : Device) (once : Once s.control 
       record {
         action = WriteAt x.0.at x.0.block;
         access = λ e. absurd (omega (arith, e, behind));
-        succeeds = λ u. record { left = x.1; dram = acts; queue = one.queue u };
+        succeeds = λ u. record { left = x.1; dram = acts; queue = one.queue u; copies = λ less. writes u };
         fails = λ d. absurd (not_up n.down down d);
         frame = once.frame;
         stays = stays;
@@ -134,6 +144,18 @@ module _ (b : ℕ) (block : Block) (s : State) (m : Device) (t : State) (n : Dev
   store-up (Ok x) up ok = ap (λ (u : Device). u.down) ok
       ∙ down-written s.p (store_place (rule_for b s) (cell_before b s)) (put_by (rule_for b s) block (reads s m) (cell_before b s)) (devices_of m s.dram) ∙ up
   store-up (Err x) up ok = tt
+
+  -- where it did not fail it has written a block
+  pub store-writes : (r : Result Stored NvmError) → OnOk r (t ≡ state_after b block s m) → OnOk r (n ≡ (devices_after b block s m).nvm) → OnErr r (FailsStore b block s m n)
+      → n.down ≡ false → WritesBlock m n s.dram t.dram
+  unfolding state_after devices_after cell_before
+  store-writes (Ok x) state nvm err up =
+      let there : Place = store_place (rule_for b s) (cell_before b s) in
+      let put : Block = put_by (rule_for b s) block (reads s m) (cell_before b s) in
+      let d : Devices = written_at s.p there put (devices_of m s.dram) in
+      subst (λ (u : State). WritesBlock m n s.dram u.dram) (sym state)
+      (subst (λ (u : Device). WritesBlock m u s.dram d.dram) (sym nvm) (written-writes s.p there put (devices_of m s.dram)))
+  store-writes (Err x) state nvm err up = absurd (not_up n.down up err.failed.down)
 
   ready-stored : (x : Stored) → HasStored x b block (holding_of s m) (holding_of t n) → (holding_of t n).ready ≡ (holding_of s m).ready
   ready-stored Done h = h.ready

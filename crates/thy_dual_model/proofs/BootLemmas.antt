@@ -176,6 +176,7 @@ module _ (o : Origin) (s : Dual) (n : Device) (boots : Boots o s n) where
 
   pub boot-holds : BootHolds dual_scheme o s n
   boot-holds = record {
+    of_geometry = record { same_p = boots.unused.controller; tables = boots.unused.tables; room = boots.unused.room };
     sized = sized-at o boots.images n s.boot s.control s.boot.stage boots.going boots.sound.keeps;
     safe = safe-seen;
     shown = subst (λ (v : View). IsBootView o v) (sym (view-is o s n boots))

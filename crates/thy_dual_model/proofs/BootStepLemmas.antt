@@ -26,7 +26,7 @@ use Rattle.thy_protocol.specs.Moves.{IsKeeping}
 use Rattle.thy_protocol.specs.VersionOne.{layout_of}
 use Rattle.thy_view.specs.declared.did.Did.{Did}
 use Rattle.thy_view.specs.declared.view.View.{View}
-use Rattle.thy_view.specs.Action.{Action, Rest, ReadAt, WriteAt, Barrier, Drain, after, FailsTo, Acts, ActionFailed}
+use Rattle.thy_view.specs.Action.{Action, Rest, ReadAt, WriteAt, Barrier, Drain, after, FailsTo, Asks, Acts, doubt_after_fault}
 use Rattle.thy_view.specs.Booting.{boot_view, loading_view}
 use Rattle.thy_view.specs.CoreStep.{BootsTo, CoreStep}
 use Rattle.thy_view.specs.Dram.{ActsOnDram}
@@ -48,16 +48,17 @@ use Rattle.thy_recover.specs.Reads.{read_action, slot_read, Fills}
 use Rattle.thy_recover.specs.Recovers.{HasReadAt, loads}
 use Rattle.thy_recover.specs.Shows.{seen_at, did_of}
 use Rattle.thy_recover.specs.Sound.{BootImages, start_mark, standing_in_boot, images_after, IsSoundAt, IsLoaded, IsBooted as IsBootedAt}
-use Rattle.thy_recover.specs.Steps.{CanStep, Steps, StepsBy, FailsBy, Fails, TakesStep}
+use Rattle.thy_recover.specs.Steps.{CanStep, Steps, StepsBy, action_of, FailsBy, Fails, TakesStep}
 use Rattle.thy_recover.proofs.StepMoveLemmas.{steps_move}
 use Rattle.thy_recover.proofs.SafeLemmas.{failures_move}
+use Rattle.thy_dual_model.proofs.StoreLemmas.{of-same}
 use Rattle.thy_recover.proofs.EndLemmas.{restored_is_booted, never_refused}
 use Rattle.thy_recover.proofs.FoundLemmas.{count-state_from}
 use Rattle.thy_recover.proofs.SoundLemmas.{kept_after}
 use Rattle.thy_recover.proofs.ActLemmas.{steps_act, found_stays, steps_fill, failures_act, steps_come_nearer}
 use Rattle.thy_recover.proofs.GoOnLemmas.{sound_may_step}
 use Rattle.thy_scheme.specs.Boots.{boot_did, IsBooted, Loads, Restarts, Answers, BootsOn, BootFails}
-use Rattle.thy_scheme.specs.Scheme.{IsBooting, CanBoot}
+use Rattle.thy_scheme.specs.Scheme.{StaysOf, IsBooting, CanBoot}
 use Rattle.thy_dual_model.specs.Boots.{Boots, step_of, result_of, view_at, has_read_at}
 use Rattle.thy_dual_model.specs.Booted.{IsUnused}
 use Rattle.thy_dual_model.specs.Dual.{Dual, is_promoting}
@@ -427,13 +428,18 @@ module _ (o : Origin) (s : Dual) (n : Device) (booting : IsBooting dual_scheme o
   boot_fails fails framed =
       let boots : Boots o s n = booting.boots in
       let seen : View = seen_at o boots.images.kept s.boot.stage in
-      let safe : Safe decode_image o seen.done seen.sealed new
-      = Safe-read o seen.done seen.sealed new (failures_move o boots.images n s.boot s.control new boots.sound boots.going fails framed).safe in
+      let action : Action = action_of o.start s.boot in
+      let safe : Safe decode_image o seen.done (doubt_after_fault action seen) new
+      = Safe-read o seen.done (doubt_after_fault action seen) new (failures_move o boots.images n s.boot s.control new boots.sound boots.going fails framed).safe in
       let answer : BootStep = failed_answer s.boot.stage in
       record {
         step = step_of answer;
-        acted = subst (λ (x : Did). ActionFailed x n new) (sym (did-answered answer)) (failures_act o.start s.boot n new fails);
-        safe = subst (λ (x : View). Safe decode_image o x.done x.sealed new) (sym (view-is o s n boots)) safe;
+        acted = record {
+          action = action;
+          asked = subst (λ (x : Did). Asks x action) (sym (did-answered answer)) (failures_act o.start s.boot n new fails);
+          failed = fails;
+        };
+        safe = subst (λ (x : View). Safe decode_image o x.done (doubt_after_fault action x) new) (sym (view-is o s n boots)) safe;
         still = λ m found.
             read-failed s.boot.p s.boot.stage n new
             (found-reads o boots.images.kept m s.boot n new s.boot.stage (sym (ap (λ (x : View). x.done) (view-is o s n boots)) ∙ found) fails);
@@ -463,6 +469,10 @@ module _ (o : Origin) (s : Dual) (n : Device) (booting : IsBooting dual_scheme o
 pub cause-by : (r : Result BootStep NvmError) (old new : ℕ) → CountsFault r old new → CountsFault (result_of r) old new
 cause-by (Ok a) old new h = h
 cause-by (Err x) old new h = h
+
+pub of-by : (r : Result BootStep NvmError) (s t : Dual) → OnErr r (t.control ≡ s.control) → OnErr (result_of r) (StaysOf dual_scheme s t)
+of-by (Ok a) s t as_was = tt
+of-by (Err x) s t as_was = of-same s t as_was
 
 -- with the start of a run
 pub took-for : (o : Origin) (start : Start) → Begins o start → (r : Result BootStep NvmError) (n : Device) (b : Booting) (c : State) (new : Device) (d : Booting) (e : State)

@@ -1,5 +1,5 @@
 -- What a drain of the DRAM, a merge and a promotion keep of the checkpoints.
-use Rattle.std.proofs.Common.{◌≡◌, ℕ, ◌+◌, ◌<◌, ◌≤◌, nat_lt, ◌&&◌, true, false, length, refl, sym, ◌∙◌, ap, subst, inl, arith, zero, suc, Option, Some, None}
+use Rattle.std.proofs.Common.{◌≡◌, ℕ, ◌+◌, ◌<◌, ◌≤◌, nat_lt, ◌&&◌, true, false, length, refl, sym, ◌∙◌, ap, subst, inl, inr, arith, zero, suc, Option, Some, None}
 use Rattle.thy_base.specs.Places.{image_blocks}
 use Rattle.thy_base.specs.Device.{Device}
 use Rattle.thy_table.specs.Listing.{Listing, entry_at, passes, free_count}
@@ -19,7 +19,7 @@ use Rattle.thy_control.proofs.DrainLemmas.{IsUnseen-drained, takes_one}
 use Rattle.thy_control.proofs.MarkLemmas.{counted-some}
 use Rattle.thy_commit.proofs.CycleLemmas.{stays_count}
 use Rattle.thy_view.specs.Action.{Rest}
-use Rattle.thy_view.specs.Dram.{ActsOnDram}
+use Rattle.thy_view.specs.Dram.{ActsOnDram, WritesDram}
 use Rattle.thy_view.specs.Origin.{Origin}
 use Rattle.thy_scheme.specs.Marks.{Marks}
 use Rattle.thy_scheme.specs.Scheme.{Stands}
@@ -28,7 +28,7 @@ use Rattle.thy_dual_model.specs.Dual.{Dual, is_promoting}
 use Rattle.thy_dual_model.specs.Scheme.{dual_scheme}
 use Rattle.thy_dual_model.specs.Stays.{StaysDual}
 use Rattle.thy_dual_model.proofs.HoldsLemmas.{works-agree}
-use Rattle.thy_dual_model.proofs.MergeLemmas.{IsMerged, IsMerged-next, IsPromoted, IsPromoted-next}
+use Rattle.thy_dual_model.proofs.MergeLemmas.{IsMerged, IsMerged-next, IsPromoted, IsPromoted-next, WritesDram-filled}
 use Rattle.thy_dual_model.proofs.StaysLemmas.{sound-on}
 
 -- without work no buffer lies over a frame
@@ -77,6 +77,7 @@ module _ (o : Origin) (k : Marks) (s : Dual) (n : Device) (t : State) (stands : 
       rested = refl;
       lean = refl;
     };
+    owes = omega arith;
     dram = refl;
     queue = omega (arith, takes_one s.control some);
   }
@@ -121,7 +122,7 @@ module _ (o : Origin) (k : Marks) (s : Dual) (n : Device) (t : State) (stands : 
           opened = inl refl;
         };
         left = record {
-          owed = made.owed;
+          owed = omega (arith, made.owed);
           engine = stays_count s.engine s.control n t n sound.held.tables tables stays;
           merges = omega (arith, left);
           promotions = omega (arith, made.unfilled_same);
@@ -135,6 +136,7 @@ module _ (o : Origin) (k : Marks) (s : Dual) (n : Device) (t : State) (stands : 
   merges = record {
     sound = sound-on o k s n merged n stands.sound merge-stays stands.up;
     keeps = merge-keeps;
+    owes = made.owed;
     dram = made.dram n;
     queue = made.queue;
     nearer = omega (arith, left);
@@ -195,12 +197,24 @@ module _ (o : Origin) (k : Marks) (s : Dual) (n : Device) (t : State) (new : Dev
         lean = refl;
       }
 
+  -- a block is left, so one was written
+  fill-writes : (at : Option ℕ) → next_promotion s.control ≡ at → WritesDram n new s.control.dram t.dram
+  fill-writes None e =
+      let kept : t ≡ s.control = is ∙ ap (λ (x : Option ℕ). after_promotion x s.control n) e in
+      absurd (omega (arith, left, ap unfilled kept))
+  fill-writes (Some j) e =
+      let filled_is : t ≡ after_promotion (Some j) s.control n = is ∙ ap (λ (x : Option ℕ). after_promotion x s.control n) e in
+      subst (λ (x : State). WritesDram n new s.control.dram x.dram) (sym filled_is)
+      (subst (λ (x : Device). WritesDram n x s.control.dram (after_promotion (Some j) s.control n).dram) (sym same) (WritesDram-filled s.control n j))
+
   pub promotes : Promotes dual_scheme o k s n filled new
   promotes = record {
     sound = sound-on o k s n filled new stands.sound fill-stays (ap (λ (x : Device). x.down) same ∙ stands.up);
     keeps = fill-keeps;
+    owes = omega (arith, ap waiting one.blocks);
     acts = record { action = Rest; asked = tt; left = same };
     dram = subst (λ (x : Device). ActsOnDram n x s.control.dram t.dram) (sym same) (one.dram n);
+    writes = inr (fill-writes (next_promotion s.control) refl);
     queue = let long = ap (λ (x : Device). length x.queue) same in omega (arith, one.queue, long);
     nearer = omega (arith, left);
   }

@@ -1,5 +1,5 @@
 -- What a step of the engine makes of the checkpoints.
-use Rattle.std.proofs.Common.{◌≡◌, ◌≢◌, ℕ, ◌+◌, ◌≤◌, nat_lt, Bool, true, false, if◌then◌else◌, refl, sym, ◌∙◌, ap, subst, inl, arith, unwrap_or, Option, None, Result, Ok, Err, OnOk, OnErr, IfOk}
+use Rattle.std.proofs.Common.{◌≡◌, ◌≢◌, ℕ, ◌+◌, ◌≤◌, nat_lt, Bool, true, false, if◌then◌else◌, refl, sym, ◌∙◌, ap, subst, inl, arith, unwrap_or, Option, Some, None, Result, Ok, Err, OnOk, OnErr, IfOk}
 use Rattle.thy_base.specs.declared.nvm.NvmError.{NvmError}
 use Rattle.thy_base.specs.declared.block.Block.{Block}
 use Rattle.thy_base.specs.declared.mark.Mark.{Mark}
@@ -14,14 +14,15 @@ use Rattle.thy_record.specs.Images.{decode_image}
 use Rattle.thy_record.specs.declared.engine_step.EngineStep.{EngineStep}
 use Rattle.thy_record.specs.declared.engine_step.EngineStep.TheVariants.{Idle, Copied, PageBlock, StateBlock, TableBlock, Barrier, CommitWritten, Committed}
 use Rattle.thy_table.specs.Listing.{free_count}
+use Rattle.thy_control.specs.Copies.{next_copy}
 use Rattle.thy_control.specs.Frees.{HasNoWork}
 use Rattle.thy_control.specs.Merges.{overlays}
+use Rattle.thy_control.specs.Pages.{next_page}
 use Rattle.thy_control.specs.State.{State, AreSoundTables, penult_of, last_of}
 use Rattle.thy_control.specs.Stays.{HoldAll}
-use Rattle.thy_protocol.specs.Layout.{reading}
-use Rattle.thy_protocol.specs.Moves.{IsKeeping, Move}
+use Rattle.thy_protocol.specs.Moves.{standing, IsKeeping, Move}
 use Rattle.thy_protocol.specs.VersionOne.{version_one, layout_of}
-use Rattle.thy_protocol.proofs.KeepsLemmas.{IsKeeping-move, Safe-sealed}
+use Rattle.thy_protocol.proofs.KeepsLemmas.{IsKeeping-move, Safe-kept}
 use Rattle.thy_crash.specs.Saved.{InDoubt}
 use Rattle.thy_view.specs.Action.{Acts, ActionFailed}
 use Rattle.thy_view.specs.Origin.{Origin}
@@ -32,7 +33,7 @@ use Rattle.thy_commit.specs.Actions.{did_by}
 use Rattle.thy_commit.specs.Cycles.{cycles_left}
 use Rattle.thy_commit.specs.Frees.{IsButCopied}
 use Rattle.thy_commit.specs.Held.{MovesOverlays, KeepsStore, ItemsKeepStore}
-use Rattle.thy_commit.specs.Items.{Item, NoItem, CopyItem, PageItem, SlotItem, SettleItem, CommitItem, ConfirmItem, is_under_way, item, next_after, answer}
+use Rattle.thy_commit.specs.Items.{Item, NoItem, CopyItem, PageItem, SlotItem, SettleItem, CommitItem, ConfirmItem, is_under_way, item, next_after, answer, copy_or, page_or_slot, page_item}
 use Rattle.thy_commit.specs.Moves.{Checkpoints, is_settled, saved_at, standing_at, checkpoints_after, standing_failed, HasNext, AreTold, IsMadeFor, ItemsMove}
 use Rattle.thy_commit.specs.Progress.{Progress, Fits, state_after, device_after, item_of, engine_next, state_next, device_next, FailsNext}
 use Rattle.thy_commit.specs.Tables.{MovesTables}
@@ -46,9 +47,9 @@ use Rattle.thy_commit.proofs.HeldLemmas.{same_p-after}
 use Rattle.thy_commit.proofs.MoveLemmas.{failed_items_move}
 use Rattle.thy_commit.proofs.TableLemmas.{items_move_tables, items_tell}
 use Rattle.thy_commit.proofs.WrittenLemmas.{items_write}
-use Rattle.thy_scheme.specs.Marks.{Marks, only, marks_after}
+use Rattle.thy_scheme.specs.Marks.{Marks, only, doubt_in, marks_after, marks_after_fault}
 use Rattle.thy_scheme.specs.Scheme.{Stands}
-use Rattle.thy_scheme.specs.Calls.{IsDue, engine_did, Keeps, Engines, EngineFails}
+use Rattle.thy_scheme.specs.Calls.{IsDue, engine_did, Keeps, OwesNoMore, OwesAfter, Engines, EngineFails}
 use Rattle.thy_view.specs.declared.did.Did.{Did}
 use Rattle.thy_dual_model.specs.Dual.{Dual, is_promoting}
 use Rattle.thy_dual_model.specs.Scheme.{dual_scheme}
@@ -56,7 +57,7 @@ use Rattle.thy_dual_model.specs.Sound.{is_confirming, IsHeld, IsOfRest, HasRoom,
 use Rattle.thy_dual_model.proofs.BlocksLemmas.{blocks-agree}
 use Rattle.thy_dual_model.proofs.CountLemmas.{btt_least}
 use Rattle.thy_dual_model.proofs.ItemLemmas.{IsWrite, IsWrite-after, back, back-item, not-confirming}
-use Rattle.thy_dual_model.proofs.SafeLemmas.{Safe-read}
+use Rattle.thy_dual_model.proofs.SafeLemmas.{Safe-read, Safe-doubt}
 
 -- ---- how steps are told
 
@@ -102,7 +103,33 @@ fewer-overlays SettleItem s t h = omega (arith, h)
 fewer-overlays CommitItem s t h = omega (arith, h)
 fewer-overlays ConfirmItem s t h = h
 
+-- no step lets copies be owed that were not
+owes-after : (step : EngineStep) (s : Dual) (n : Device) (t : Dual) (new : Device) → OwesNoMore dual_scheme s n t new → OwesAfter step dual_scheme s n t new
+owes-after Idle s n t new l = l
+owes-after Copied s n t new l = l
+owes-after PageBlock s n t new l = l
+owes-after StateBlock s n t new l = l
+owes-after TableBlock s n t new l = l
+owes-after Barrier s n t new l = l
+owes-after CommitWritten s n t new l = l
+owes-after (Committed epoch) s n t new l = tt
+
 -- ---- a step
+
+-- a step that fails leaves the marks, but for the commit block's write
+slot-marks : (epoch j : ℕ) (m : Marks) → marks_after_fault (answer epoch (SlotItem j)) m ≡ m
+slot-marks epoch j m = by_place (nat_lt j 5) where
+  by_place : (t : Bool) → marks_after_fault (if t then StateBlock else TableBlock) m ≡ m
+  by_place true = refl
+  by_place false = refl
+
+page-marks : (epoch : ℕ) (left : Option ℕ) (m : Marks) → marks_after_fault (answer epoch (page_or_slot left)) m ≡ m
+page-marks epoch (Some j) m = refl
+page-marks epoch None m = slot-marks epoch 0 m
+
+copy-marks : (epoch : ℕ) (left : Option ℕ) (c : State) (m : Marks) → marks_after_fault (answer epoch (copy_or left (page_item c))) m ≡ m
+copy-marks epoch (Some i) c m = refl
+copy-marks epoch None c m = page-marks epoch (next_page c) m
 
 module _ (o : Origin) (k : Marks) (s : Dual) (n : Device) (stands : Stands dual_scheme o k s n) (on : is_under_way s.engine.next ≡ true) where
   abbrev e : Progress
@@ -320,7 +347,7 @@ module _ (o : Origin) (k : Marks) (s : Dual) (n : Device) (stands : Stands dual_
   due (PageItem j) is = tt
   due (SlotItem j) is = due-slot k (nat_lt j 5)
   due SettleItem is = tt
-  due CommitItem is = tt
+  due CommitItem is = (made.mark, sym sound.checkpoints.sealed ∙ made.sealed)
   due ConfirmItem is =
       let confirm : e.next ≡ Confirm = back-item e.next c Confirm (ap back is) in
       (sound.written ∙ ap is_confirming confirm, (made.mark, sym sound.checkpoints.sealed ∙ made.sealed, made.of_epoch))
@@ -330,7 +357,7 @@ module _ (o : Origin) (k : Marks) (s : Dual) (n : Device) (stands : Stands dual_
   keeps-after i a count = record {
     held = record { blocks = a.store.holding.blocks; free = a.store.holding.free; opened = inl refl };
     left = record {
-      owed = a.store.holding.owed;
+      owed = omega (arith, a.store.holding.owed);
       engine = omega (arith, count);
       merges = fewer-overlays i c (state_after i c n) a.store.overlays_are;
       promotions = omega (arith, a.store.unfilled_same);
@@ -352,6 +379,7 @@ module _ (o : Origin) (k : Marks) (s : Dual) (n : Device) (stands : Stands dual_
         due = due (item_of e c) refl;
         sound = sound-after (item_of e c) refl a;
         keeps = keeps-after (item_of e c) a count;
+        owes = owes-after (answer e.epoch (item_of e c)) s n (record s { control = state_next e c n; engine = engine_next e c }) (device_next e c n) a.store.holding.owed;
         acts = acts-as;
         dram = (IsWrite-after e (item_of e c) c n).dram;
         queue = (IsWrite-after e (item_of e c) c n).queue;
@@ -360,14 +388,28 @@ module _ (o : Origin) (k : Marks) (s : Dual) (n : Device) (stands : Stands dual_
 
   -- ---- one that failed
 
-  failed-safe : (q : Next) (new : Device) → IsKeeping o (layout_of o) (standing_failed q new images) → Safe (reading version_one) o images.kept images.sealed new
-  failed-safe Nothing new keeps = Safe-sealed version_one o new (saved_at Nothing images) images.kept images.sealed keeps
-  failed-safe Copies new keeps = Safe-sealed version_one o new (saved_at Copies images) images.kept images.sealed keeps
-  failed-safe Pages new keeps = Safe-sealed version_one o new (saved_at Pages images) images.kept images.sealed keeps
-  failed-safe (Slot j) new keeps = Safe-sealed version_one o new (saved_at (Slot j) images) images.kept images.sealed keeps
-  failed-safe Settle new keeps = Safe-sealed version_one o new (saved_at Settle images) images.kept images.sealed keeps
-  failed-safe Commit new keeps = Safe-sealed version_one o new (InDoubt images.before images.next) images.kept images.sealed keeps
-  failed-safe Confirm new keeps = Safe-sealed version_one o new (saved_at Confirm images) images.kept images.sealed keeps
+  -- what is kept where the item was not the commit block's write, is safe for the marks as they are
+  safe-other : (q : Next) (new : Device) → e.next ≡ q → IsKeeping o (layout_of o) (standing new (saved_at q images) images.kept images.sealed)
+      → marks_after_fault (answer e.epoch (item q c)) k ≡ k → Safe decode_image o (Some k.done) (doubt_in (marks_after_fault (answer e.epoch (item q c)) k)) new
+  safe-other q new is keeps same =
+      let kept : IsKeeping o (layout_of o) (standing_at e new images)
+      = subst (λ (x : Next). IsKeeping o (layout_of o) (standing new (saved_at x images) images.kept images.sealed)) (sym is) keeps in
+      subst (λ (m : Marks). Safe decode_image o (Some k.done) (doubt_in m) new) (sym same)
+      (Safe-doubt o k e new images sound.checkpoints.kept sound.checkpoints.sealed kept sound.written)
+
+  failed-safe : (q : Next) (new : Device) → e.next ≡ q → IsKeeping o (layout_of o) (standing_failed q new images)
+      → Safe decode_image o (Some k.done) (doubt_in (marks_after_fault (answer e.epoch (item q c)) k)) new
+  failed-safe Nothing new is keeps = safe-other Nothing new is keeps refl
+  failed-safe Copies new is keeps = safe-other Copies new is keeps (copy-marks e.epoch (next_copy c) c k)
+  failed-safe Pages new is keeps = safe-other Pages new is keeps (page-marks e.epoch (next_page c) k)
+  failed-safe (Slot j) new is keeps = safe-other (Slot j) new is keeps (slot-marks e.epoch j k)
+  failed-safe Settle new is keeps = safe-other Settle new is keeps refl
+  failed-safe Confirm new is keeps = safe-other Confirm new is keeps refl
+  failed-safe Commit new is keeps =
+      let safe : Safe decode_image o images.kept images.sealed new
+      = Safe-read o images.kept images.sealed new (Safe-kept version_one o new (InDoubt images.before images.next) images.kept images.sealed keeps) in
+      subst (λ (m : Option Mark). Safe decode_image o m k.sealed new) sound.checkpoints.kept
+      (subst (λ (m : Option Mark). Safe decode_image o images.kept m new) sound.checkpoints.sealed safe)
 
   pub engine-fails : (new : Device) → FailsNext e c n new → IsFramed n new → EngineFails dual_scheme o k n new
   engine-fails new failed framed =
@@ -375,12 +417,10 @@ module _ (o : Origin) (k : Marks) (s : Dual) (n : Device) (stands : Stands dual_
       let next : is_settled e.next ≡ true → HasNext e images = λ w. record { mark = made.mark; sealed = made.sealed; commit = made.commit w } in
       let move = failed_items_move o e c n new images h.progress h.tables h.sized h.fits failed framed sound.checkpoints.told.kept next in
       let keeps = IsKeeping-move o (layout_of o) (standing_at e n images) (standing_failed e.next new images) move sound.checkpoints.keeping in
-      let safe : Safe decode_image o images.kept images.sealed new = Safe-read o images.kept images.sealed new (failed-safe e.next new keeps) in
       record {
         step = answer e.epoch (item_of e c);
         acted = λ lap. subst (λ (d : Did). ActionFailed d n new) (did-same lap (answer e.epoch (item_of e c))) (failed_items_act lap e c n new failed);
-        safe = subst (λ (m : Option Mark). Safe decode_image o m k.sealed new) sound.checkpoints.kept
-            (subst (λ (m : Option Mark). Safe decode_image o images.kept m new) sound.checkpoints.sealed safe);
+        safe = failed-safe e.next new refl keeps;
       }
 
   -- ---- by the engine's answer

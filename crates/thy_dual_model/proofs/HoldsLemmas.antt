@@ -1,5 +1,5 @@
 -- What holds behind the boot.
-use Rattle.std.proofs.Common.{◌≡◌, ℕ, ◌<◌, ◌≤◌, Bool, false, refl, sym, ◌∙◌, ap, subst, inl, arith}
+use Rattle.std.proofs.Common.{◌≡◌, ℕ, ◌<◌, ◌≤◌, ◌||◌, Bool, true, false, is_some, refl, sym, ◌∙◌, ap, subst, inl, arith}
 use Rattle.std.proofs.lemmas.List.FromFn.{length-map-range_with_len}
 use Rattle.thy_base.specs.declared.config.Parameters.{Parameters}
 use Rattle.thy_base.specs.Device.{Device, drained}
@@ -66,6 +66,10 @@ module _ (s : Dual) (n : Device) (tables : AreSoundTables s.control) (sized : Is
     lean = refl;
   }
 
+or_false : (b : Bool) → (b || false) ≡ b
+or_false true = refl
+or_false false = refl
+
 module _ (o : Origin) (k : Marks) (s : Dual) (n : Device) (sound : IsSound o k s n) (up : n.down ≡ false) where
   bounded : IsBounded dual_scheme o.geometry s n
   bounded =
@@ -86,9 +90,11 @@ module _ (o : Origin) (k : Marks) (s : Dual) (n : Device) (sound : IsSound o k s
   run-holds =
       let p : s.control.p ≡ o.geometry = sound.held.geometry in
       record {
+        of_geometry = record { same_p = p; tables = sound.held.tables; room = sound.held.room };
         sized = sound.held.sized.nvm ∙ ap image_blocks p;
         safe = Safe-doubt o k s.engine n sound.images sound.checkpoints.kept sound.checkpoints.sealed sound.checkpoints.keeping sound.written;
-        way = sound.way;
+        way = sound.way ∙ sym (or_false (is_some k.sealed));
+        apart = λ applies. absurd (cc);
         memory = length-works s.control n sound.held.sized up ∙ ap memory_blocks p;
         ready = λ whole. ready-of (promoted s.control.ptt) n.down (none-left (promoted s.control.ptt) whole) up;
         overlays = λ bare. none-left (overlays s.control) bare;
@@ -103,6 +109,7 @@ module _ (o : Origin) (k : Marks) (s : Dual) (n : Device) (sound : IsSound o k s
         };
         drained_sound = λ some. sound-on o k s n s (drained n) sound (drained-stays s n sound.held.tables sound.held.sized) up;
         drained_keeps = λ some. drained-keeps s n sound.held.tables sound.held.sized up;
+        drained_owes = λ some. omega arith;
       }
 
 pub run_is_sound : RunIsSound

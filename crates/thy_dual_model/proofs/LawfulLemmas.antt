@@ -19,7 +19,7 @@ use Rattle.thy_dual_model.specs.Scheme.{dual_scheme}
 use Rattle.thy_dual_model.proofs.BootLemmas.{boot_is_sound, power_finds, power_is_new, zeros_are_nothing}
 use Rattle.thy_dual_model.proofs.HoldsLemmas.{run_is_sound}
 use Rattle.thy_dual_model.proofs.StaysLemmas.{stays_keep}
-use Rattle.thy_dual_model.proofs.StoreLemmas.{held_is_up, ready_is_whole, same-stays, on-stays}
+use Rattle.thy_dual_model.proofs.StoreLemmas.{held_is_up, ready_is_whole, same-stays, on-stays, of-stays}
 
 -- ---- power can come on
 
@@ -77,5 +77,6 @@ lawful = record {
   queued_is = λ s. refl;
   stays_same = same-stays;
   stays_on = on-stays;
+  stays_of = of-stays;
   stays_sound = λ o k s n t new stands free stays. stays_keep o k s n t new stands stays;
 }

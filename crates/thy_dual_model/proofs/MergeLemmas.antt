@@ -23,7 +23,7 @@ use Rattle.thy_control.specs.State.{State, AreSoundTables, cell_of}
 use Rattle.thy_control.proofs.FindLemmas.{found_entry, entry_for-some}
 use Rattle.thy_control.proofs.MergeLemmas.{listed-merge, listed_page-merge, IsOverlay, IsOverlay-entry, same_p-merge}
 use Rattle.thy_control.proofs.StepMarkLemmas.{promoted-set}
-use Rattle.thy_view.specs.Dram.{ActsOnDram}
+use Rattle.thy_view.specs.Dram.{ActsOnDram, WritesDram}
 use Rattle.thy_commit.specs.declared.next.Next.{Next}
 use Rattle.thy_commit.specs.declared.next.Next.TheVariants.{Nothing, Copies, Pages, Slot, Settle, Commit, Confirm}
 use Rattle.thy_commit.specs.Items.{is_under_way}
@@ -130,18 +130,23 @@ pub record IsPromoted (s t : State) : Type 0 where
   pub room : t.dram.room ≡ s.dram.room
   pub queue : t.dram.queued ≤ s.dram.queued + 1
 
+-- a block that is copied into its frame is written there
+pub WritesDram-filled : (s : State) (m : Device) (j : ℕ) → WritesDram m m s.dram (after_promotion (Some j) s m).dram
+unfolding block_filled devices_filled
+WritesDram-filled s m j = record {
+  at = number_of s.p (frame_at (seat_of (cell_of s (block_to_fill j s))));
+  block = read_at s.p (devices_of m s.dram) (work (cell_of s (block_to_fill j s)));
+  left = refl;
+  nvm = refl;
+}
+
 pub IsPromoted-next : (s : State) (m : Device) (o : Option ℕ) → IsPromoted s (after_promotion o s m)
 unfolding block_filled devices_filled
 IsPromoted-next s m None = record { same_p = refl; blocks = refl; dram = λ n. inl refl; room = refl; queue = omega arith }
 IsPromoted-next s m (Some j) = record {
   same_p = refl;
   blocks = refl;
-  dram = λ n. inr (record {
-    at = number_of s.p (frame_at (seat_of (cell_of s (block_to_fill j s))));
-    block = read_at s.p (devices_of m s.dram) (work (cell_of s (block_to_fill j s)));
-    left = refl;
-    nvm = refl;
-  });
+  dram = λ n. inr (let w = WritesDram-filled s m j in record { at = w.at; block = w.block; left = w.left; nvm = refl });
   room = refl;
   queue = omega arith;
 }

@@ -173,5 +173,6 @@ stays_keep o k s n t new stands stays = record {
   safe = safe-on o k s n t new stands.sound stays;
   way = ap (λ (e : Progress). is_under_way e.next) stays.engine;
   engine = engine-on o k s n t new stands.sound stays;
+  owed_later = omega arith;
   lean = stays.lean;
 }

@@ -1,12 +1,17 @@
 -- The scheme as a store of blocks: when it holds blocks and is ready, and what stays over any number of loads and stores.
-use Rattle.std.proofs.Common.{ℕ, ◌==◌, not, nat_lt, refl, ◌∙◌, ap}
+use Rattle.std.proofs.Common.{◌≡◌, ℕ, ◌==◌, not, nat_lt, refl, sym, ◌∙◌, ap, subst, Result, Ok, Err, OnErr}
 use Rattle.std.proofs.lemmas.Bool.{and_parts, eqb-true}
+use Rattle.thy_base.specs.declared.config.Parameters.{Parameters}
+use Rattle.thy_base.specs.declared.nvm.NvmError.{NvmError}
 use Rattle.thy_base.specs.Device.{Device}
 use Rattle.thy_control.specs.Holding.{promoted}
+use Rattle.thy_control.specs.State.{State, AreSoundTables}
 use Rattle.thy_control.specs.OverCalls.{stays_same, stays_on}
 use Rattle.thy_control.proofs.HoldingLemmas.{AreWorks-holding, not-of}
-use Rattle.thy_dual_model.specs.Dual.{Dual}
+use Rattle.thy_scheme.specs.Scheme.{StaysOf}
+use Rattle.thy_dual_model.specs.Dual.{Dual, IsOf}
 use Rattle.thy_dual_model.specs.Laws.{HeldIsUp, ReadyIsWhole, StaysOver}
+use Rattle.thy_dual_model.specs.Scheme.{dual_scheme}
 use Rattle.thy_dual_model.specs.Stays.{RestsOn, PromotesOn, StaysDual}
 
 pub held_is_up : HeldIsUp
@@ -44,6 +49,29 @@ on-stays a m b n c o first second = record {
       let then : PromotesOn a b = first.promotes now.before in
       record { before = then.before; rested = now.rested ∙ then.rested };
 }
+
+pub of-stays : (s : Dual) (n : Device) (t : Dual) (new : Device) → StaysDual s n t new → (p : Parameters) → IsOf p s → IsOf p t
+of-stays s n t new stays p is_of = record {
+  same_p = stays.control.same_p ∙ is_of.same_p;
+  tables = stays.tables is_of.tables;
+  room = stays.room ∙ is_of.room;
+}
+
+-- a call that failed and left the controller does so too
+pub of-same : (s t : Dual) → t.control ≡ s.control → (p : Parameters) → IsOf p s → IsOf p t
+of-same s t same p is_of = record {
+  same_p = ap (λ (c : State). c.p) same ∙ is_of.same_p;
+  tables = subst (λ (c : State). AreSoundTables c) (sym same) is_of.tables;
+  room = ap (λ (c : State). c.dram.room) same ∙ is_of.room;
+}
+
+pub of-failed : {T : Type 0} (r : Result T NvmError) (s t : Dual) → OnErr r (t.control ≡ s.control) → OnErr r (StaysOf dual_scheme s t)
+of-failed (Ok x) s t same = tt
+of-failed (Err e) s t same = of-same s t same
+
+pub of-kept : {T : Type 0} (r : Result T NvmError) (s t : Dual) → t.control ≡ s.control → OnErr r (StaysOf dual_scheme s t)
+of-kept (Ok x) s t same = tt
+of-kept (Err e) s t same = of-same s t same
 
 pub stays_over : StaysOver
 stays_over = (same-stays, on-stays)

@@ -1,5 +1,5 @@
 -- What is seen of the scheme.
-use Rattle.std.specs.Prelude.{◌*◌, true}
+use Rattle.std.specs.Prelude.{◌*◌, true, false}
 use Rattle.thy_base.specs.Places.{image_blocks}
 use Rattle.thy_record.specs.Images.{decode_image}
 use Rattle.thy_table.specs.Listing.{free_count}
@@ -12,7 +12,7 @@ use Rattle.thy_commit.specs.Cycles.{cycles_left, most_cycles}
 use Rattle.thy_commit.specs.Items.{is_under_way}
 use Rattle.thy_scheme.specs.Scheme.{SchemeOf}
 use Rattle.thy_dual_model.specs.Boots.{Boots, IsPowered, view_at, has_read_at}
-use Rattle.thy_dual_model.specs.Dual.{Dual, is_overlaid, is_promoting, penults}
+use Rattle.thy_dual_model.specs.Dual.{Dual, IsOf, is_overlaid, is_promoting, penults}
 use Rattle.thy_dual_model.specs.Sound.{IsSound}
 use Rattle.thy_dual_model.specs.Stays.{StaysDual}
 
@@ -25,12 +25,14 @@ dual_scheme = record {
   committed = λ s n. penults s.control n;
   stays = StaysDual;
   under_way = λ s. is_under_way s.engine.next;
+  applies = λ s. false;
   overlaid = λ s. is_overlaid s.control;
   promoting = λ s. is_promoting s.control;
   rested = λ s. s.rested;
   lean = λ s. s.lean;
   overlaps = true;
   dram = λ s. s.control.dram;
+  is_of = IsOf;
   queued = λ s. s.control.dram.queued;
   free = λ s. free_count s.control.btt;
   is_sound = IsSound;
@@ -41,6 +43,7 @@ dual_scheme = record {
   engine_left = λ s. cycles_left s.engine s.control;
   merges_left = λ s. overlays s.control;
   promotions_left = λ s. unfilled s.control;
+  owed_later = λ s. 0;
   most_booting = λ p. boot_left p Unread;
   most_engine = most_cycles;
   most_merges = λ p. p.btt;

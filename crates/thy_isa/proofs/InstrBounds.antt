@@ -7,12 +7,12 @@ use Rattle.thy_isa.specs.declared.instr.Instr.{Instr}
 use Rattle.thy_isa.specs.declared.instr.Instr.TheVariants.{Lui, Auipc, Jal, Jalr, Branch, Load, Store, OpImm, Op, Fence, FenceI, Ecall, Ebreak}
 use Rattle.thy_isa.specs.declared.state.Effect.{Effect}
 use Rattle.thy_isa.specs.declared.state.Effect.TheVariants.{Next, Set, Read, Write, Environment, Trap}
-use Rattle.thy_isa.specs.declared.state.Cause.TheVariants.{FetchMisaligned, Illegal, LoadMisaligned, StoreMisaligned}
+use Rattle.thy_isa.specs.declared.state.Cause.TheVariants.{FetchMisaligned, Illegal}
 use Rattle.thy_isa.specs.Words.{bits_of, imm_i, imm_u, shamt_of, shamt_w_of}
 use Rattle.thy_isa.specs.Table.{Row, has_row, table, first_row, instr_of}
 use Rattle.thy_isa.specs.Arith.{low64}
 use Rattle.thy_isa.specs.Regs.{reg_at}
-use Rattle.thy_isa.specs.Effects.{size_of, after, even, linked, branched, holds, effect_of, word_effect}
+use Rattle.thy_isa.specs.Effects.{after, even, linked, branched, holds, effect_of, word_effect}
 use Rattle.thy_isa.specs.Storable.{IsNumber}
 use Rattle.thy_isa.proofs.NumberBounds.{if_number, low64_number, alu_of-number}
 use Rattle.thy_isa.proofs.MemoryBounds.{anywhere}
@@ -90,12 +90,8 @@ effect_of-numbers (Jalr rd rs1 imm) pc x h q =
     linked-numbers (even (low64 (reg_at x rs1 + imm))) rd pc (omega (arith, low64_number (reg_at x rs1 + imm)))
 effect_of-numbers (Branch cond rs1 rs2 imm) pc x h q =
     branched-numbers (holds cond (reg_at x rs1) (reg_at x rs2)) (low64 (pc + imm)) pc (low64_number (pc + imm))
-effect_of-numbers (Load width extend rd rs1 imm) pc x h q =
-    let at = low64 (reg_at x rs1 + imm) in
-    if_effect (at % size_of width == 0) (Read (after pc) at width extend rd) (Trap LoadMisaligned) (low64_number (pc + 4)) tt
-effect_of-numbers (Store width rs1 rs2 imm) pc x h q =
-    let at = low64 (reg_at x rs1 + imm) in
-    if_effect (at % size_of width == 0) (Write (after pc) at width (reg_at x rs2)) (Trap StoreMisaligned) (low64_number (pc + 4)) tt
+effect_of-numbers (Load width extend rd rs1 imm) pc x h q = low64_number (pc + 4)
+effect_of-numbers (Store width rs1 rs2 imm) pc x h q = low64_number (pc + 4)
 effect_of-numbers (OpImm op rd rs1 imm) pc x h q =
     (low64_number (pc + 4), alu_of-number op (reg_at x rs1) imm (reg_at-number x rs1 q) h)
 effect_of-numbers (Op op rd rs1 rs2) pc x h q =

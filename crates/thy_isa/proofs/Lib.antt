@@ -8,3 +8,4 @@ pub mod AccessLaws
 pub mod StorableLaws
 pub mod BlockLaws
 pub mod MoveLaws
+pub mod TrapLaws

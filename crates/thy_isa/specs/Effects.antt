@@ -10,8 +10,7 @@ use Rattle.thy_isa.specs.declared.instr.Width.{Width}
 use Rattle.thy_isa.specs.declared.instr.Width.TheVariants.{Byte, Half, Word, Double}
 use Rattle.thy_isa.specs.declared.state.Effect.{Effect}
 use Rattle.thy_isa.specs.declared.state.Effect.TheVariants.{Next, Set, Read, Write, Environment, Trap}
-use Rattle.thy_isa.specs.declared.state.Cause.{Cause}
-use Rattle.thy_isa.specs.declared.state.Cause.TheVariants.{FetchMisaligned, Illegal, Breakpoint, LoadMisaligned, StoreMisaligned}
+use Rattle.thy_isa.specs.declared.state.Cause.TheVariants.{FetchMisaligned, Illegal, Breakpoint}
 use Rattle.thy_isa.specs.Arith.{low64, alu_of}
 use Rattle.thy_isa.specs.Regs.{reg_at}
 use Rattle.thy_isa.specs.Table.{instr_of}
@@ -49,20 +48,15 @@ abbrev pub branched : Bool → ℕ → ℕ → Effect
 branched taken target pc =
     if taken then (if target % 4 == 0 then Next target else Trap FetchMisaligned) else Next (after pc)
 
--- a load or a store of an address that is no multiple of its width traps
-abbrev pub aligned : Width → ℕ → Cause → Effect → Effect
-aligned width at cause e = if at % size_of width == 0 then e else Trap cause
-
+-- what an instruction does at pc; a load or a store may have any address
 unfoldable pub effect_of : Instr → ℕ → List ℕ → Effect
 effect_of (Lui rd imm) pc x = Set (after pc) rd imm
 effect_of (Auipc rd imm) pc x = Set (after pc) rd (low64 (pc + imm))
 effect_of (Jal rd imm) pc x = linked (low64 (pc + imm)) rd pc
 effect_of (Jalr rd rs1 imm) pc x = linked (even (low64 (reg_at x rs1 + imm))) rd pc
 effect_of (Branch cond rs1 rs2 imm) pc x = branched (holds cond (reg_at x rs1) (reg_at x rs2)) (low64 (pc + imm)) pc
-effect_of (Load width extend rd rs1 imm) pc x =
-    let at = low64 (reg_at x rs1 + imm) in aligned width at LoadMisaligned (Read (after pc) at width extend rd)
-effect_of (Store width rs1 rs2 imm) pc x =
-    let at = low64 (reg_at x rs1 + imm) in aligned width at StoreMisaligned (Write (after pc) at width (reg_at x rs2))
+effect_of (Load width extend rd rs1 imm) pc x = Read (after pc) (low64 (reg_at x rs1 + imm)) width extend rd
+effect_of (Store width rs1 rs2 imm) pc x = Write (after pc) (low64 (reg_at x rs1 + imm)) width (reg_at x rs2)
 effect_of (OpImm op rd rs1 imm) pc x = Set (after pc) rd (alu_of op (reg_at x rs1) imm)
 effect_of (Op op rd rs1 rs2) pc x = Set (after pc) rd (alu_of op (reg_at x rs1) (reg_at x rs2))
 effect_of Fence pc x = Next (after pc)

@@ -1,9 +1,11 @@
 -- What a step is, and what every step keeps.
-use Rattle.std.specs.Prelude.{◌≡◌, ℕ, ◌≤◌, true, List, length}
+use Rattle.std.specs.Prelude.{◌≡◌, ◌≢◌, ℕ, ◌≤◌, true, List, length}
 use Rattle.thy_base.specs.declared.block.Block.{Block}
 use Rattle.thy_base.specs.declared.config.Parameters.{Parameters}
 use Rattle.thy_base.specs.Geometry.{IsInRange, memory_blocks, console_room}
 use Rattle.thy_isa.specs.declared.state.CpuState.{CpuState}
+use Rattle.thy_isa.specs.declared.state.Status.{Status}
+use Rattle.thy_isa.specs.declared.state.Status.TheVariants.{Trapped}
 use Rattle.thy_isa.specs.Console.{IsGrown}
 use Rattle.thy_isa.specs.OnBlocks.{setting_for, state_from, effect_in, bytes_in, cpu_after, blocks_after}
 use Rattle.thy_isa.specs.Step.{State, Setting, is_running, step}
@@ -41,3 +43,11 @@ ConsoleKeepsRoom =
 abbrev pub CursorStaysInside : Type 0
 CursorStaysInside =
     (g : Setting) (s : State) → s.cursor ≤ length g.input → (step g s).cursor ≤ length g.input
+
+-- a status that is neither the trap of a misaligned load, 4, nor that of a misaligned store, 6
+abbrev pub IsNotMisaligned : Status → Type 0
+IsNotMisaligned status = (status ≢ Trapped 4) × (status ≢ Trapped 6)
+
+-- a load or a store may be misaligned: no step ends with such a trap
+abbrev pub MisalignedIsServed : Type 0
+MisalignedIsServed = (g : Setting) (s : State) → is_running s.status ≡ true → IsNotMisaligned (step g s).status

@@ -10,8 +10,8 @@ use crate::instr::{Cond, Instr, Reg, Width};
 use crate::regs::Regs;
 use crate::state::{Cause, Effect};
 
-/// What an instruction at `pc` does with these registers. An address is not tested against the
-/// bounds of memory here; `within` does that.
+/// What an instruction at `pc` does with these registers. A load or a store may have any address: it is
+/// not tested against the bounds of memory here; `within` does that.
 pub fn effect(instr: &Instr, pc: u64, regs: &Regs) -> Effect
     ensures { result ≡ effect_of instr.now pc regs.now }
 {
@@ -48,38 +48,24 @@ pub fn effect(instr: &Instr, pc: u64, regs: &Regs) -> Effect
             rd,
             rs1,
             imm,
-        } => {
-            let at = regs.get(rs1).wrapping_add(imm);
-            if at % bytes_in(width) == 0 {
-                Effect::Read {
-                    pc: next,
-                    at,
-                    width,
-                    extend,
-                    rd,
-                }
-            } else {
-                Effect::Trap(Cause::LoadMisaligned)
-            }
-        }
+        } => Effect::Read {
+            pc: next,
+            at: regs.get(rs1).wrapping_add(imm),
+            width,
+            extend,
+            rd,
+        },
         Instr::Store {
             width,
             rs1,
             rs2,
             imm,
-        } => {
-            let at = regs.get(rs1).wrapping_add(imm);
-            if at % bytes_in(width) == 0 {
-                Effect::Write {
-                    pc: next,
-                    at,
-                    width,
-                    value: regs.get(rs2),
-                }
-            } else {
-                Effect::Trap(Cause::StoreMisaligned)
-            }
-        }
+        } => Effect::Write {
+            pc: next,
+            at: regs.get(rs1).wrapping_add(imm),
+            width,
+            value: regs.get(rs2),
+        },
         Instr::OpImm { op, rd, rs1, imm } => Effect::Set {
             pc: next,
             rd,

@@ -1,5 +1,5 @@
 //! Laws, each the contract of a function that does nothing.
-ghost use Rattle.thy_isa.specs.Laws.{BlocksMakeTheStep, StepKeepsStorable, ConsoleGrows, ConsoleKeepsRoom, CursorStaysInside};
+ghost use Rattle.thy_isa.specs.Laws.{BlocksMakeTheStep, MisalignedIsServed, StepKeepsStorable, ConsoleGrows, ConsoleKeepsRoom, CursorStaysInside};
 
 /// An instruction that is done over the blocks of memory is a step of the plain machine, whose memory is one flat list of
 /// bytes.
@@ -14,4 +14,10 @@ pub fn what_a_step_keeps()
     ensures console { ConsoleGrows }
     ensures room { ConsoleKeepsRoom }
     ensures cursor { CursorStaysInside }
+{}
+
+/// No step ends with the trap of a misaligned load or of a misaligned store: such accesses are carried out wherever their
+/// bytes lie in program memory.
+pub fn misaligned_accesses_are_served()
+    ensures { MisalignedIsServed }
 {}

@@ -24,7 +24,7 @@ pub use decoding::{decode, is_legal};
 pub use effects::{after, bytes_in, effect, word_effect};
 pub use environment::call;
 pub use instr::{Alu, Cond, Extend, Instr, Reg, Width};
-pub use laws::{blocks_make_the_step, what_a_step_keeps};
+pub use laws::{blocks_make_the_step, misaligned_accesses_are_served, what_a_step_keeps};
 pub use moving::{brought, moves, number_in};
 pub use numbers::{extended, number, word};
 pub use regs::Regs;

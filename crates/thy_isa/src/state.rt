@@ -16,7 +16,8 @@ pub enum Status {
 }
 
 /// Why an instruction traps. The variants stand in the order of their numbers, 0 to 7, which are the
-/// exception codes of the RISC-V privileged architecture.
+/// exception codes of the RISC-V privileged architecture. No load or store traps for being misaligned, so
+/// no instruction gives `LoadMisaligned` or `StoreMisaligned`; their numbers are kept.
 #[derive(Clone, Copy, Debug, PartialEq, Eq)]
 pub enum Cause {
     FetchMisaligned,
@@ -99,7 +100,7 @@ pub enum Effect {
         rd: Reg,
         value: u64,
     },
-    /// The number at an address that is a multiple of the width, extended, becomes that of rd.
+    /// The number of `width` bytes at any address, extended, becomes that of rd.
     Read {
         pc: u64,
         at: u64,
@@ -107,7 +108,7 @@ pub enum Effect {
         extend: Extend,
         rd: Reg,
     },
-    /// The low bytes of the value go to an address that is a multiple of the width.
+    /// The low `width` bytes of the value go to any address.
     Write {
         pc: u64,
         at: u64,

@@ -12,4 +12,5 @@ IsFramed-settled n = record {
   queue_room = refl;
   left_room = refl;
   fits = refl;
+  lent = refl;
 }

@@ -1,6 +1,8 @@
 pub mod Layout
+pub mod Issuing
 pub mod Keeps
 pub mod Moves
 pub mod Alternating
 pub mod Laws
 pub mod VersionOne
+pub mod VersionOneParts

@@ -1,7 +1,9 @@
 //! The laws, each the contract of a function that does nothing.
 ghost use Rattle.thy_protocol.specs.Alternating.{WrittenDecodes, StartIsCommitted};
+ghost use Rattle.thy_protocol.specs.Issuing.{IssuingBegins, SlotGoesOn, ElsewhereKeepsIssued, DrainKeepsIssued, IssuedIsCheckpoint};
 ghost use Rattle.thy_protocol.specs.Laws.{LookedDecides, CopiesLookAlike, ZeroIsNothing, NothingIsZero, WholeDecodes, DecodedIsWhole, KeptIsSafe, KeptIsSafeForBoth, FirstIsTold, BootShows, MovesAreSafe, CutKeeps, EmptyKeeps, ActionSpares, FailedActionSpares};
 ghost use Rattle.thy_protocol.specs.VersionOne.{DecodesSame, LooksSame};
+ghost use Rattle.thy_protocol.specs.VersionOneParts.{IssuedDecodes};
 
 /// A copy of an image, at all places that tell what it means, means the same, and the same places tell it.
 pub fn copies_mean_the_same()
@@ -49,6 +51,21 @@ pub fn actions_spare()
     ensures failed { FailedActionSpares }
 {}
 
+/// What of a checkpoint's parts was issued: none at first, a block of the slot more with each write of the next one; and
+/// it stays so over writes elsewhere and drains.
+pub fn issuing_goes_on()
+    ensures begins { IssuingBegins }
+    ensures slot { SlotGoesOn }
+    ensures elsewhere { ElsewhereKeepsIssued }
+    ensures drain { DrainKeepsIssued }
+{}
+
+/// With the whole slot issued, and no fault in header, commit block and slot, the next image is the checkpoint: it
+/// decodes to it, and all that tells it but the commit block was issued.
+pub fn what_is_issued_is_a_checkpoint()
+    ensures { IssuedIsCheckpoint }
+{}
+
 /// There is such a layout, of two copies in turn: what is written into one decodes to what was written, and from a
 /// device of zeros moves lead to the checkpoint of the start.
 pub fn a_layout_of_two_copies_serves()
@@ -60,4 +77,10 @@ pub fn a_layout_of_two_copies_serves()
 pub fn version_one_is_a_layout()
     ensures decodes { DecodesSame }
     ensures looks { LooksSame }
+{}
+
+/// In version 1, with the whole slot issued, and behind a header without a fault, whoever wrote it, the next image decodes
+/// to the checkpoint and tells its tables, and all that tells it was issued.
+pub fn version_one_is_issued()
+    ensures { IssuedDecodes }
 {}

@@ -6,7 +6,7 @@ use Rattle.thy_base.specs.declared.block.Block.{Block}
 use Rattle.std.proofs.Math.Nat.{add-zero}
 use Rattle.thy_isa.specs.Regs.{reg_at, regs_with}
 use Rattle.thy_isa.specs.declared.state.CpuState.{CpuState}
-use Rattle.thy_record.specs.Words.{block_of}
+use Rattle.thy_base.specs.Words.{block_of}
 use Rattle.thy_record.specs.Cpu.{status_tag, status_value, cpu_words, cpu_block_of, record_word, record_words}
 
 -- ---- the forty words

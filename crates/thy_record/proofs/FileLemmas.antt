@@ -16,7 +16,7 @@ use Rattle.thy_flat.specs.Flat.{flat, AllLong}
 use Rattle.thy_flat.proofs.FlatLemmas.{length-flat, flat_part}
 use Rattle.thy_record.specs.declared.bad_image.BadImage.TheVariants.{Empty}
 use Rattle.thy_record.specs.Decoded.{Refused}
-use Rattle.thy_record.specs.Words.{word_of}
+use Rattle.thy_base.specs.Words.{word_of}
 use Rattle.thy_record.specs.Commit.{epoch_of}
 use Rattle.thy_record.specs.Cpu.{record_word}
 use Rattle.thy_record.specs.TableBlocks.{entry_from}

@@ -5,9 +5,9 @@ use Rattle.thy_base.specs.declared.block.Block.{Block}
 use Rattle.thy_base.specs.declared.config.Parameters.{Parameters}
 use Rattle.thy_base.specs.Geometry.{IsInRange}
 use Rattle.thy_record.specs.declared.bad_image.BadImage.TheVariants.{Header, Version, Geometry}
-use Rattle.thy_record.specs.Words.{word_of}
+use Rattle.thy_base.specs.Words.{word_of}
 use Rattle.thy_record.specs.Header.{header_magic, header_words, header_of, is_of_geometry, header_fault}
-use Rattle.thy_record.proofs.WordLemmas.{word_of-block_of}
+use Rattle.thy_base.proofs.WordLemmas.{word_of-block_of}
 use Rattle.thy_record.proofs.ReadBackLemmas.{taken, both, three}
 
 header_word : (p : Parameters) (i w : ℕ) → i < 8 → slice_index (header_words p) i ≡ w → w < 2 ^ 64 → word_of (header_of p) i ≡ w

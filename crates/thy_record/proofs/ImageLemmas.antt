@@ -15,7 +15,7 @@ use Rattle.thy_isa.specs.declared.state.CpuState.{CpuState}
 use Rattle.thy_isa.specs.Step.{State}
 use Rattle.thy_record.specs.declared.bad_image.BadImage.{BadImage}
 use Rattle.thy_record.specs.declared.bad_image.BadImage.TheVariants.{Commit, Status, ConsoleLength}
-use Rattle.thy_record.specs.Words.{word_of}
+use Rattle.thy_base.specs.Words.{word_of}
 use Rattle.thy_record.specs.Commit.{commit_magic, is_zero, epoch_of, has_zero_rest, commit_fault}
 use Rattle.thy_record.specs.Cpu.{cpu_of_record, record_word, is_status, IsRecordable}
 use Rattle.thy_record.specs.Decoded.{Nothing, At}

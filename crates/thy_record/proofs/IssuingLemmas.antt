@@ -1,7 +1,6 @@
--- Which writes leave a checkpoint alone, and what reads give while one is written.
-use Rattle.std.proofs.Common.{◌≡◌, ◌≢◌, ℕ, zero, suc, ◌+◌, ◌%◌, ◌^◌, ◌<◌, ◌≤◌, Bool, true, false, if◌then◌else◌, List, [], ◌∷◌, ◌++◌, length, get_or, Contains, Option, Some, None, refl, sym, ◌∙◌, ap, subst, inl, inr, arith}
-use Rattle.std.proofs.lemmas.Bool.{cases_lt}
-use Rattle.std.proofs.lemmas.List.{length-map, length-set, get_or-map, ext_get_or}
+-- Which writes leave a checkpoint alone, and where memory is read.
+use Rattle.std.proofs.Common.{◌≡◌, ◌≢◌, ℕ, zero, suc, ◌+◌, ◌%◌, ◌<◌, ◌≤◌, Bool, true, false, if◌then◌else◌, List, [], ◌∷◌, ◌++◌, length, get_or, Contains, Option, Some, None, refl, sym, ◌∙◌, ap, subst, inl, inr, arith}
+use Rattle.std.proofs.lemmas.List.{length-map, get_or-map, ext_get_or}
 use Rattle.std.proofs.lemmas.List.Elements.{Contains-append_cases}
 use Rattle.std.proofs.lemmas.List.FromFn.{length-range_with_len, get_or-range_with_len}
 use Rattle.std.specs.List.{range_with_len}
@@ -9,30 +8,17 @@ use Rattle.thy_base.specs.declared.block.Block.{Block}
 use Rattle.thy_base.specs.declared.config.Parameters.{Parameters}
 use Rattle.thy_base.specs.declared.place.Place.{Place}
 use Rattle.thy_base.specs.declared.place.Place.TheVariants.{Home, AlternateBlock, AlternatePage}
-use Rattle.thy_base.specs.Device.{Device, zero_block, block_at, applied, newest, drained, written_to}
-use Rattle.thy_base.specs.Geometry.{IsInRange, memory_blocks}
+use Rattle.thy_base.specs.Device.{Device, zero_block, block_at, newest}
+use Rattle.thy_base.specs.Geometry.{memory_blocks}
 use Rattle.thy_base.specs.Places.{in_dram, number_of, IsPlace, slot_blocks, slot_place, first_home, image_blocks}
 use Rattle.thy_base.specs.Store.{page_of}
-use Rattle.thy_base.proofs.DeviceLemmas.{length-applied, length-drained, length-written_to, newest-drained, newest-written_to_other}
 use Rattle.thy_base.proofs.PlaceLemmas.{numbers_tell, behind_slots}
-use Rattle.thy_crash.specs.Saved.{next_image}
-use Rattle.thy_crash.proofs.FixedLemmas.{ReadsFirst-elsewhere, ReadsFirst-drained, ReadsFirst-more}
-use Rattle.thy_crash.proofs.SavedLemmas.{next_image-reads, next_image-commit, IsIssued-next_image}
-use Rattle.thy_isa.specs.declared.state.CpuState.{CpuState}
-use Rattle.thy_record.specs.Commit.{commit_of, is_zero, epoch_of}
-use Rattle.thy_record.specs.Cpu.{IsRecordable}
-use Rattle.thy_record.specs.Decoded.{At}
-use Rattle.thy_isa.specs.OnBlocks.{state_from}
-use Rattle.thy_record.specs.Header.{header_fault}
-use Rattle.thy_record.specs.Images.{slot_numbers, slot_in, memory_numbers, memory_in, looked}
-use Rattle.thy_record.specs.ImageLaws.{HasCheckpoint}
-use Rattle.thy_record.specs.Issuing.{Target, SlotBlock, PlaceBlock, target_number, IsTarget, IsUnused, IsFree, IsToldBy, memory_read, HasMemory, IsIssuing, IsIssuedCheckpoint}
-use Rattle.thy_record.specs.Slots.{slot_block_of, tables_in}
+use Rattle.thy_record.specs.Commit.{is_zero, epoch_of}
+use Rattle.thy_record.specs.Images.{slot_numbers, slot_in, memory_numbers, looked}
+use Rattle.thy_record.specs.Issuing.{Target, SlotBlock, PlaceBlock, target_number, IsTarget, IsUnused, IsFree, IsToldBy, memory_read, HasMemory}
+use Rattle.thy_record.specs.Slots.{tables_in}
 use Rattle.thy_record.specs.Tables.{Tables, entry_at, Lists, entry_of, place_by_entries, place_of, IsTables}
 use Rattle.thy_record.proofs.EntryLemmas.{entry_of-Some, entry_of-None, IsPlace-place_of, in_dram-place_of}
-use Rattle.thy_record.proofs.ImageLemmas.{map-alike, IsSlotOf-written, decode-written}
-use Rattle.thy_record.proofs.ReadBackLemmas.{epoch_of-commit_of}
-use Rattle.thy_record.proofs.SlotLemmas.{tables_in-back}
 
 -- ---- the numbers in which memory stands
 
@@ -57,7 +43,7 @@ memory_number_of p t x (k, l, is) =
     (k, inside, sym (memory_number p t k x inside) ∙ is)
 
 -- which lies behind the slots, within the image
-memory_behind : (p : Parameters) (t : Tables) (x : ℕ) → IsTables p t → Contains (memory_numbers p t) x → (first_home p ≤ x) × (x < image_blocks p)
+pub memory_behind : (p : Parameters) (t : Tables) (x : ℕ) → IsTables p t → Contains (memory_numbers p t) x → (first_home p ≤ x) × (x < image_blocks p)
 memory_behind p t x s inside =
     let of = memory_number_of p t x inside in
     let behind = behind_slots p (place_of t of.0) (IsPlace-place_of p t of.0 s of.1) (in_dram-place_of t of.0) in
@@ -79,7 +65,7 @@ slot_number_of first n x (k, l, is) =
     let inside : k < n = omega (arith, length-range_with_len first n) in
     (k, inside, sym (get_or-range_with_len first n k x inside) ∙ is)
 
-slot_behind : (p : Parameters) (s k : ℕ) → s < 2 → k < slot_blocks p → (2 ≤ slot_place p s + k) × (slot_place p s + k < first_home p)
+pub slot_behind : (p : Parameters) (s k : ℕ) → s < 2 → k < slot_blocks p → (2 ≤ slot_place p s + k) × (slot_place p s + k < first_home p)
 slot_behind p zero k l m = (omega arith, omega arith)
 slot_behind p (suc zero) k l m = (omega arith, omega arith)
 slot_behind p (suc (suc s)) k l m = absurd (omega arith)
@@ -140,7 +126,7 @@ IsUnused-empty_page p t j k empty = record {
 
 -- ---- what is free is not looked at
 
-half : (epoch : ℕ) → epoch % 2 < 2
+pub half : (epoch : ℕ) → epoch % 2 < 2
 half epoch = omega arith
 
 target_behind : (p : Parameters) (x : Target) → IsTarget p x → 2 ≤ target_number p x
@@ -205,7 +191,7 @@ nothing_looked p image x z other inside =
     = subst (λ b. Contains (1 ∷ (if b then 1 ∷ [] else 0 ∷ 1 ∷ (slot_numbers p (block_at image 1) ++ memory_numbers p (tables_in p (slot_in p image))))) x) z inside in
     not_in_none x (not_first x 1 [] one (not_first x 1 (1 ∷ []) one only))
 
--- ---- what reads give meanwhile
+-- ---- where memory is read
 
 length-memory_read : (p : Parameters) (t : Tables) (n : Device) → length (memory_read p t n) ≡ memory_blocks p
 length-memory_read p t n = length-map (memory_numbers p t) (newest n) ∙ length-memory_numbers p t
@@ -231,159 +217,9 @@ places_of_memory p t n memory is = record {
   each = λ b l. sym (memory_read-at p t n b l) ∙ ap (λ m. block_at m b) is;
 }
 
-memory_elsewhere : (p : Parameters) (t : Tables) (old new : Device) (at : ℕ) (block : Block) → length old.image ≡ image_blocks p → IsTables p t
-    → (Contains (memory_numbers p t) at → ⊥) → new ≡ written_to old at block → memory_read p t new ≡ memory_read p t old
-memory_elsewhere p t old new at block sized tables other is =
-    ap (memory_read p t) is
-    ∙ map-alike (newest (written_to old at block)) (newest old) (memory_numbers p t)
-    (λ x inside.
-    let l = (memory_behind p t x tables inside).1 in
-    newest-written_to_other old at block x (λ e. other (subst (Contains (memory_numbers p t)) e inside)) (omega (arith, l, sized)))
-
--- a write that is neither among memory's blocks nor among the slot's
-issuing_elsewhere : (p : Parameters) (old new : Device) (cpu : CpuState) (t : Tables) (epoch : ℕ) (memory : List Block) (k at : ℕ) (block : Block)
-    → IsIssuing p old cpu t epoch memory k → (Contains (memory_numbers p t) at → ⊥) → ((i : ℕ) → i < k → slot_place p (epoch % 2) + i ≢ at)
-    → new ≡ written_to old at block → IsIssuing p new cpu t epoch memory k
-issuing_elsewhere p old new cpu t epoch memory k at block h apart other is = record {
-  sized = ap (λ (n : Device). length n.image) is ∙ length-written_to old at block ∙ h.sized;
-  tables = h.tables;
-  memory_is = memory_elsewhere p t old new at block h.sized h.tables apart is ∙ h.memory_is;
-  slot = ReadsFirst-elsewhere (slot_place p (epoch % 2)) (slot_block_of cpu t epoch) k at block old new h.slot other is;
-}
-
-slot_of_memory : (p : Parameters) (t : Tables) (s k : ℕ) → IsTables p t → s < 2 → k < slot_blocks p → Contains (memory_numbers p t) (slot_place p s + k) → ⊥
+-- no block of a slot is one of memory
+pub slot_of_memory : (p : Parameters) (t : Tables) (s k : ℕ) → IsTables p t → s < 2 → k < slot_blocks p → Contains (memory_numbers p t) (slot_place p s + k) → ⊥
 slot_of_memory p t s k tables l m inside =
     let before = (slot_behind p s k l m).1 in
     let behind = (memory_behind p t (slot_place p s + k) tables inside).0 in
     omega (arith, before, behind)
-
-pub issuing_begins : (p : Parameters) (n : Device) (cpu : CpuState) (t : Tables) (epoch : ℕ)
-    → length n.image ≡ image_blocks p → IsTables p t → IsIssuing p n cpu t epoch (memory_read p t n) 0
-issuing_begins p n cpu t epoch sized tables = record {
-  sized = sized;
-  tables = tables;
-  memory_is = refl;
-  slot = record { each = λ i l. absurd (omega arith) };
-}
-
-pub slot_goes_on : (p : Parameters) (old new : Device) (cpu : CpuState) (t : Tables) (epoch : ℕ) (memory : List Block) (k : ℕ)
-    → IsIssuing p old cpu t epoch memory k → k < slot_blocks p
-    → new ≡ written_to old (slot_place p (epoch % 2) + k) (slot_block_of cpu t epoch k) → IsIssuing p new cpu t epoch memory (k + 1)
-slot_goes_on p old new cpu t epoch memory k h l is =
-    let before = (slot_behind p (epoch % 2) k (half epoch) l).1 in
-    let inside : slot_place p (epoch % 2) + k < length old.image = omega (arith, before, h.sized) in
-    record {
-      sized = ap (λ (n : Device). length n.image) is ∙ length-written_to old (slot_place p (epoch % 2) + k) (slot_block_of cpu t epoch k) ∙ h.sized;
-      tables = h.tables;
-      memory_is = memory_elsewhere p t old new (slot_place p (epoch % 2) + k) (slot_block_of cpu t epoch k) h.sized h.tables
-          (slot_of_memory p t (epoch % 2) k h.tables (half epoch) l) is ∙ h.memory_is;
-      slot = ReadsFirst-more (slot_place p (epoch % 2)) (slot_block_of cpu t epoch) k old new h.slot inside is;
-    }
-
-pub free_keeps_issuing : (p : Parameters) (old new : Device) (cpu : CpuState) (t : Tables) (epoch : ℕ) (memory : List Block) (k : ℕ) (x : Target) (block : Block)
-    → IsIssuing p old cpu t epoch memory k → k ≤ slot_blocks p → IsTarget p x → IsFree p epoch t x
-    → new ≡ written_to old (target_number p x) block → IsIssuing p new cpu t epoch memory k
-free_keeps_issuing p old new cpu t epoch memory k x block h most there free is =
-    issuing_elsewhere p old new cpu t epoch memory k (target_number p x) block h (free_of_memory p epoch t x h.tables there free)
-    (λ i l. free_of_slot p epoch t x there free i (omega arith)) is
-
-pub header_keeps_issuing : (p : Parameters) (old new : Device) (cpu : CpuState) (t : Tables) (epoch : ℕ) (memory : List Block) (k : ℕ) (block : Block)
-    → IsIssuing p old cpu t epoch memory k → new ≡ written_to old 0 block → IsIssuing p new cpu t epoch memory k
-header_keeps_issuing p old new cpu t epoch memory k block h is =
-    issuing_elsewhere p old new cpu t epoch memory k 0 block h
-    (λ inside. let behind = (memory_behind p t 0 h.tables inside).0 in omega (arith, behind))
-    (λ i l e. omega arith) is
-
-pub drain_keeps_issuing : (p : Parameters) (old new : Device) (cpu : CpuState) (t : Tables) (epoch : ℕ) (memory : List Block) (k : ℕ)
-    → IsIssuing p old cpu t epoch memory k → new ≡ drained old → IsIssuing p new cpu t epoch memory k
-drain_keeps_issuing p old new cpu t epoch memory k h is = record {
-  sized = ap (λ (n : Device). length n.image) is ∙ length-drained old ∙ h.sized;
-  tables = h.tables;
-  memory_is = ap (memory_read p t) is
-      ∙ map-alike (newest (drained old)) (newest old) (memory_numbers p t)
-      (λ x inside. let l = (memory_behind p t x h.tables inside).1 in newest-drained old x (omega (arith, l, h.sized)))
-      ∙ h.memory_is;
-  slot = ReadsFirst-drained (slot_place p (epoch % 2)) (slot_block_of cpu t epoch) k old new h.slot is;
-}
-
--- ---- the whole checkpoint
-
--- the blocks that tell what an image means are on the device, where its tables are those that a checkpoint may have
-looked_cases : (p : Parameters) (image : List Block) (x : ℕ) (zeros : Bool) → IsTables p (tables_in p (slot_in p image))
-    → Contains (if zeros then 1 ∷ [] else 0 ∷ 1 ∷ (slot_numbers p (block_at image 1) ++ memory_numbers p (tables_in p (slot_in p image)))) x
-    → x < image_blocks p
-looked_cases p image x true tables inside = elim (cases_lt x 2) as (λ _. x < image_blocks p) [
-  | inl low ↦ omega arith
-  | inr high ↦ absurd (not_in_none x (not_first x 1 [] (λ e. omega arith) inside))
-]
-looked_cases p image x false tables inside = elim (cases_lt x 2) as (λ _. x < image_blocks p) [
-  | inl low ↦ omega arith
-  | inr high ↦
-      let rest = slot_numbers p (block_at image 1) ++ memory_numbers p (tables_in p (slot_in p image)) in
-      let none : 0 ≢ x = λ e. omega arith in
-      let one : 1 ≢ x = λ e. omega arith in
-      elim (Contains-append_cases (slot_numbers p (block_at image 1)) (memory_numbers p (tables_in p (slot_in p image))) x
-      (not_first x 1 rest one (not_first x 0 (1 ∷ rest) none inside))) as (λ _. x < image_blocks p) [
-        | inl a ↦
-            let of = slot_number_of (slot_place p (epoch_of (block_at image 1) % 2)) (slot_blocks p) x a in
-            let before = (slot_behind p (epoch_of (block_at image 1) % 2) of.0 (half (epoch_of (block_at image 1))) of.1).1 in
-            let e = of.2 in
-            let inside : slot_place p (epoch_of (block_at image 1) % 2) + of.0 < image_blocks p = omega (arith, before) in
-            subst (λ y. y < image_blocks p) e inside
-        | inr b ↦ (memory_behind p (tables_in p (slot_in p image)) x tables b).1
-      ]
-]
-
-length-next_image : (n : Device) (commit : Block) → length (next_image n commit) ≡ length n.image
-length-next_image n commit = length-set (applied n.image n.queue) 1 commit ∙ length-applied n.image n.queue
-
-next_has : (p : Parameters) (n : Device) (cpu : CpuState) (t : Tables) (epoch : ℕ) (memory : List Block)
-    → IsIssuing p n cpu t epoch memory (slot_blocks p) → header_fault (newest n 0) p true ≡ None
-    → HasCheckpoint p (next_image n (commit_of epoch)) cpu t epoch
-next_has p n cpu t epoch memory h header = record {
-  long = length-next_image n (commit_of epoch) ∙ h.sized;
-  header_fits = ap (λ b. header_fault b p true) (next_image-reads (commit_of epoch) n 0 (omega (arith, h.sized)) (λ e. omega arith)) ∙ header;
-  commit = next_image-commit (commit_of epoch) n (omega (arith, h.sized));
-  slot = λ k l.
-      let read = h.slot.each k l in
-      let behind = (slot_behind p (epoch % 2) k (half epoch) l).0 in
-      next_image-reads (commit_of epoch) n (slot_place p (epoch % 2) + k) read.inside (λ e. omega (arith, behind, e)) ∙ read.newest_is;
-}
-
--- an image tells the epoch and the tables that were written
-told_by_written : (p : Parameters) (cpu : CpuState) (t : Tables) (epoch : ℕ) (image : List Block)
-    → IsInRange p → IsTables p t → epoch < 2 ^ 64 → HasCheckpoint p image cpu t epoch → IsToldBy p image epoch t
-told_by_written p cpu t epoch image r s fits has = record {
-  of_epoch = ap epoch_of has.commit ∙ epoch_of-commit_of epoch fits;
-  tables = tables_in-back p cpu t epoch (slot_in p image) r s (IsSlotOf-written p cpu t epoch image fits has);
-  whole = s;
-}
-
-next_memory : (p : Parameters) (n : Device) (cpu : CpuState) (t : Tables) (epoch k : ℕ) (memory : List Block)
-    → IsIssuing p n cpu t epoch memory k → memory_in p t (next_image n (commit_of epoch)) ≡ memory
-next_memory p n cpu t epoch k memory h =
-    map-alike (block_at (next_image n (commit_of epoch))) (newest n) (memory_numbers p t)
-    (λ x inside.
-    let behind = memory_behind p t x h.tables inside in
-    let low = behind.0 in
-    let high = behind.1 in
-    next_image-reads (commit_of epoch) n x (omega (arith, high, h.sized)) (λ e. omega (arith, low, e)))
-    ∙ h.memory_is
-
-pub issued_decodes : (p : Parameters) (ceiling : ℕ) (n : Device) (cpu : CpuState) (t : Tables) (epoch : ℕ) (memory : List Block)
-    → IsInRange p → IsRecordable p ceiling cpu → ceiling ≤ 2 ^ 64 → epoch < ceiling
-    → IsIssuing p n cpu t epoch memory (slot_blocks p) → header_fault (newest n 0) p true ≡ None
-    → IsIssuedCheckpoint p ceiling n cpu t epoch memory
-issued_decodes p ceiling n cpu t epoch memory r recordable most below h header =
-    let has = next_has p n cpu t epoch memory h header in
-    let told = told_by_written p cpu t epoch (next_image n (commit_of epoch)) r h.tables (omega arith) has in
-    let tables = subst (IsTables p) (sym told.tables) h.tables in
-    record {
-      told = told;
-      decodes = decode-written p ceiling cpu t epoch (next_image n (commit_of epoch)) r recordable h.tables most below has
-          ∙ ap (λ m. At epoch (state_from p cpu m)) (next_memory p n cpu t epoch (slot_blocks p) memory h);
-      issued = IsIssued-next_image (looked p) (commit_of epoch) n
-          (λ x inside.
-          let l = looked_cases p (next_image n (commit_of epoch)) x (is_zero (block_at (next_image n (commit_of epoch)) 1)) tables inside in
-          omega (arith, l, h.sized));
-    }

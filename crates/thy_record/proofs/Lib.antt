@@ -1,4 +1,3 @@
-pub mod WordLemmas
 pub mod CpuLemmas
 pub mod ReadBackLemmas
 pub mod TableLemmas

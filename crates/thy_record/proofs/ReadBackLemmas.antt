@@ -11,10 +11,10 @@ use Rattle.thy_isa.specs.declared.state.CpuState.{CpuState}
 use Rattle.thy_isa.specs.declared.state.Status.{Status}
 use Rattle.thy_isa.specs.declared.state.Status.TheVariants.{Running, Exited, Trapped}
 use Rattle.thy_record.specs.declared.bad_image.BadImage.TheVariants.{Commit, Status as BadStatus, ConsoleLength}
-use Rattle.thy_record.specs.Words.{word_of, block_of}
+use Rattle.thy_base.specs.Words.{word_of, block_of}
 use Rattle.thy_record.specs.Commit.{commit_magic, commit_words, commit_of, is_zero, epoch_of, has_zero_rest, commit_fault}
 use Rattle.thy_record.specs.Cpu.{status_tag, status_value, status_of, is_status, cpu_words, cpu_block_of, record_word, record_words, record_of, IsRecordOf, BeginsWithRecord, FitsRecord, cpu_of_record, epoch_of_record, record_fault, IsRecordable}
-use Rattle.thy_record.proofs.WordLemmas.{word_of-block_of}
+use Rattle.thy_base.proofs.WordLemmas.{word_of-block_of}
 use Rattle.thy_record.proofs.CpuLemmas.{rest_words, cpu_words-reg, cpu_words-rest, block_words, length-block_words, record_words-at, length-record_words}
 
 -- a choice whose test holds

@@ -19,7 +19,7 @@ use Rattle.thy_isa.specs.OnBlocks.{state_from}
 use Rattle.thy_isa.specs.Step.{State, state_with}
 use Rattle.thy_record.specs.declared.file.Found.TheVariants.{At as FoundAt}
 use Rattle.thy_record.specs.declared.bad_image.BadImage.TheVariants.{Empty}
-use Rattle.thy_record.specs.Words.{word_of}
+use Rattle.thy_base.specs.Words.{word_of}
 use Rattle.thy_record.specs.Commit.{is_zero, epoch_of}
 use Rattle.thy_record.specs.Cpu.{status_of, cpu_of_record, record_word, record_words}
 use Rattle.thy_record.specs.Decoded.{Decoded, Nothing, Refused, At}

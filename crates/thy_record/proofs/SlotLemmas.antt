@@ -9,13 +9,13 @@ use Rattle.thy_base.specs.Device.{block_at}
 use Rattle.thy_base.specs.Geometry.{IsInRange, console_room}
 use Rattle.thy_isa.specs.declared.state.CpuState.{CpuState}
 use Rattle.thy_record.specs.ImageLaws.{ReadsBack}
-use Rattle.thy_record.specs.Words.{word_of}
+use Rattle.thy_base.specs.Words.{word_of}
 use Rattle.thy_record.specs.Cpu.{status_tag, cpu_block_of, is_status, record_word, BeginsWithRecord, FitsRecord, IsRecordable}
 use Rattle.thy_record.specs.Tables.{Tables, entry_at, Lists, IsTables}
 use Rattle.thy_record.specs.TableBlocks.{entry_word, entry_from, FitBlocks, table_words, table_block_of}
 use Rattle.thy_record.specs.TableFaults.{tables_fault}
 use Rattle.thy_record.specs.Slots.{slot_block_of, IsSlotOf, HasTableBlocks, entries_in, tables_in, epoch_fault, status_fault, slot_fault}
-use Rattle.thy_record.proofs.WordLemmas.{word_of-block_of}
+use Rattle.thy_base.proofs.WordLemmas.{word_of-block_of}
 use Rattle.thy_record.proofs.ReadBackLemmas.{taken, both, FitsRecord-recordable, rest_back, cpu_back, epoch_back}
 use Rattle.thy_record.proofs.TableLemmas.{entry_from-entry_word, entry_word-fits}
 use Rattle.thy_record.proofs.TableFaultLemmas.{both_none, IsFaultless-tables}

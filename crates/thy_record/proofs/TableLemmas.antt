@@ -3,8 +3,8 @@ use Rattle.std.proofs.Common.{◌≡◌, ℕ, ◌-◌, ◌^◌, ◌<◌, List, l
 use Rattle.std.proofs.lemmas.List.{take-map, drop-map, length-map, get_or-map}
 use Rattle.thy_record.specs.Tables.{Tables, entry_at}
 use Rattle.thy_record.specs.TableBlocks.{entry_word, entry_from, HaveWords, table_block_of}
-use Rattle.thy_record.specs.Words.{word_of, block_of}
-use Rattle.thy_record.proofs.WordLemmas.{word_of-block_of}
+use Rattle.thy_base.specs.Words.{word_of, block_of}
+use Rattle.thy_base.proofs.WordLemmas.{word_of-block_of}
 
 -- a word that was made of an entry
 word_fits : (e : Option ℕ) → ((n : ℕ) → e ≡ Some n → n < 2 ^ 64 - 1) → entry_word e < 2 ^ 64

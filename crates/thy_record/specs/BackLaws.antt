@@ -10,7 +10,7 @@ use Rattle.thy_record.specs.Header.{header_of, header_fault}
 use Rattle.thy_record.specs.Slots.{HasTableBlocks, tables_in}
 use Rattle.thy_record.specs.TableBlocks.{entry_word, entry_from, HaveWords, FitBlocks}
 use Rattle.thy_record.specs.Tables.{Tables, entry_at}
-use Rattle.thy_record.specs.Words.{word_of, block_of}
+use Rattle.thy_base.specs.Words.{word_of, block_of}
 
 -- a header has no fault in an image of its length
 abbrev pub HeaderReadsBack : Type 0

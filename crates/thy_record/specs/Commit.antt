@@ -6,7 +6,7 @@ use Rattle.thy_base.specs.declared.block.Block.{Block}
 use Rattle.thy_base.specs.Demands.{asked, first_fault}
 use Rattle.thy_record.specs.declared.bad_image.BadImage.{BadImage}
 use Rattle.thy_record.specs.declared.bad_image.BadImage.TheVariants.{Commit}
-use Rattle.thy_record.specs.Words.{word_of, block_of}
+use Rattle.thy_base.specs.Words.{word_of, block_of}
 
 -- the bytes THYNCMT1 as a number
 abbrev pub commit_magic : ℕ

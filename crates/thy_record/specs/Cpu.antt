@@ -10,7 +10,7 @@ use Rattle.thy_isa.specs.declared.state.Status.{Status}
 use Rattle.thy_isa.specs.declared.state.Status.TheVariants.{Running, Exited, Trapped}
 use Rattle.thy_record.specs.declared.bad_image.BadImage.{BadImage}
 use Rattle.thy_record.specs.declared.bad_image.BadImage.TheVariants.{Commit, Status as BadStatus, ConsoleLength}
-use Rattle.thy_record.specs.Words.{word_of, block_of}
+use Rattle.thy_base.specs.Words.{word_of, block_of}
 
 -- a status as two words, a tag and a value
 abbrev pub status_tag : Status → ℕ

@@ -6,7 +6,7 @@ use Rattle.thy_base.specs.declared.config.Parameters.{Parameters}
 use Rattle.thy_base.specs.Demands.{asked, first_fault}
 use Rattle.thy_record.specs.declared.bad_image.BadImage.{BadImage}
 use Rattle.thy_record.specs.declared.bad_image.BadImage.TheVariants.{Header, Version, Geometry}
-use Rattle.thy_record.specs.Words.{word_of, block_of}
+use Rattle.thy_base.specs.Words.{word_of, block_of}
 
 -- the bytes THYNHDR1 as a number
 abbrev pub header_magic : ℕ

@@ -18,7 +18,7 @@ use Rattle.thy_record.specs.Images.{slot_in, memory_in, decode_image, looked, Is
 use Rattle.thy_record.specs.Slots.{slot_block_of, IsSlotOf, tables_in, slot_fault}
 use Rattle.thy_record.specs.TableBlocks.{entry_word, table_block_of}
 use Rattle.thy_record.specs.Tables.{Tables, place_of, IsTables}
-use Rattle.thy_record.specs.Words.{block_of}
+use Rattle.thy_base.specs.Words.{block_of}
 use Rattle.thy_record.specs.TableFaults.{tables_fault}
 
 -- tables are those that a checkpoint may have exactly where no fault is found in them

@@ -1,23 +1,16 @@
--- How a checkpoint is written while another one stands: which writes leave that alone, and what was written so far.
-use Rattle.std.specs.Prelude.{◌≡◌, ◌≢◌, ℕ, ◌+◌, ◌%◌, ◌^◌, ◌<◌, ◌≤◌, true, false, List, ◌∷◌, length, map, Contains, None}
+-- Which writes leave a checkpoint alone, and where memory is read.
+use Rattle.std.specs.Prelude.{◌≡◌, ◌≢◌, ℕ, ◌+◌, ◌%◌, ◌<◌, true, false, List, ◌∷◌, length, map, Contains, None}
 use Rattle.thy_base.specs.declared.block.Block.{Block}
 use Rattle.thy_base.specs.declared.config.Parameters.{Parameters}
 use Rattle.thy_base.specs.declared.place.Place.{Place}
 use Rattle.thy_base.specs.declared.place.Place.TheVariants.{Home, AlternateBlock, AlternatePage}
-use Rattle.thy_base.specs.Device.{Device, block_at, newest, drained, written_to}
-use Rattle.thy_base.specs.Geometry.{IsInRange, memory_blocks}
-use Rattle.thy_base.specs.Places.{in_dram, number_of, IsPlace, slot_blocks, slot_place, image_blocks}
+use Rattle.thy_base.specs.Device.{Device, block_at, newest}
+use Rattle.thy_base.specs.Geometry.{memory_blocks}
+use Rattle.thy_base.specs.Places.{in_dram, number_of, IsPlace, slot_blocks, slot_place}
 use Rattle.thy_base.specs.Store.{page_of}
-use Rattle.thy_crash.specs.Fixed.{ReadsFirst}
-use Rattle.thy_crash.specs.Saved.{IsIssued, next_image}
-use Rattle.thy_isa.specs.declared.state.CpuState.{CpuState}
-use Rattle.thy_record.specs.Commit.{commit_of, is_zero, epoch_of}
-use Rattle.thy_record.specs.Cpu.{IsRecordable}
-use Rattle.thy_record.specs.Decoded.{At}
-use Rattle.thy_isa.specs.OnBlocks.{state_from}
-use Rattle.thy_record.specs.Header.{header_fault}
-use Rattle.thy_record.specs.Images.{slot_in, memory_numbers, decode_image, looked}
-use Rattle.thy_record.specs.Slots.{slot_block_of, tables_in}
+use Rattle.thy_record.specs.Commit.{is_zero, epoch_of}
+use Rattle.thy_record.specs.Images.{slot_in, memory_numbers, looked}
+use Rattle.thy_record.specs.Slots.{tables_in}
 use Rattle.thy_record.specs.Tables.{Tables, entry_at, Lists, place_of, IsTables}
 
 -- ---- which writes leave a checkpoint alone
@@ -78,7 +71,7 @@ NothingIsLooked =
     (p : Parameters) (image : List Block) (x : ℕ) → is_zero (block_at image 1) ≡ true → x ≢ 1
     → ¬ Contains (1 ∷ looked p image) x
 
--- ---- what was written so far
+-- ---- where memory is read
 
 -- memory's blocks as a device's reads give them, where tables have them
 abbrev pub memory_read : Parameters → Tables → Device → List Block
@@ -98,58 +91,3 @@ PlacedIsMemory =
 abbrev pub MemoryIsPlaced : Type 0
 MemoryIsPlaced =
     (p : Parameters) (t : Tables) (n : Device) (memory : List Block) → memory_read p t n ≡ memory → HasMemory p t n memory
-
--- the first k blocks of a checkpoint's slot were written, and memory is to be these blocks
-pub record IsIssuing (p : Parameters) (n : Device) (cpu : CpuState) (t : Tables) (epoch : ℕ) (memory : List Block) (k : ℕ) : Type 0 where
-  pub sized : length n.image ≡ image_blocks p
-  pub tables : IsTables p t
-  pub memory_is : memory_read p t n ≡ memory
-  pub slot : ReadsFirst n (slot_place p (epoch % 2)) (slot_block_of cpu t epoch) k
-
--- none at first
-abbrev pub IssuingBegins : Type 0
-IssuingBegins =
-    (p : Parameters) (n : Device) (cpu : CpuState) (t : Tables) (epoch : ℕ)
-    → length n.image ≡ image_blocks p → IsTables p t → IsIssuing p n cpu t epoch (memory_read p t n) 0
-
--- and one more after the write of the next
-abbrev pub SlotGoesOn : Type 0
-SlotGoesOn =
-    (p : Parameters) (old new : Device) (cpu : CpuState) (t : Tables) (epoch : ℕ) (memory : List Block) (k : ℕ)
-    → IsIssuing p old cpu t epoch memory k → k < slot_blocks p
-    → new ≡ written_to old (slot_place p (epoch % 2) + k) (slot_block_of cpu t epoch k)
-    → IsIssuing p new cpu t epoch memory (k + 1)
-
--- a write to what is free for this checkpoint keeps it
-abbrev pub FreeKeepsIssuing : Type 0
-FreeKeepsIssuing =
-    (p : Parameters) (old new : Device) (cpu : CpuState) (t : Tables) (epoch : ℕ) (memory : List Block) (k : ℕ)
-    (x : Target) (block : Block)
-    → IsIssuing p old cpu t epoch memory k → k ≤ slot_blocks p → IsTarget p x → IsFree p epoch t x
-    → new ≡ written_to old (target_number p x) block → IsIssuing p new cpu t epoch memory k
-
--- and so does the header's, and a drain
-abbrev pub HeaderKeepsIssuing : Type 0
-HeaderKeepsIssuing =
-    (p : Parameters) (old new : Device) (cpu : CpuState) (t : Tables) (epoch : ℕ) (memory : List Block) (k : ℕ) (block : Block)
-    → IsIssuing p old cpu t epoch memory k → new ≡ written_to old 0 block → IsIssuing p new cpu t epoch memory k
-
-abbrev pub DrainKeepsIssuing : Type 0
-DrainKeepsIssuing =
-    (p : Parameters) (old new : Device) (cpu : CpuState) (t : Tables) (epoch : ℕ) (memory : List Block) (k : ℕ)
-    → IsIssuing p old cpu t epoch memory k → new ≡ drained old → IsIssuing p new cpu t epoch memory k
-
--- the next image, with the commit block of this epoch, is the checkpoint, tells its tables, and lacks no other write
-pub record IsIssuedCheckpoint (p : Parameters) (ceiling : ℕ) (n : Device) (cpu : CpuState) (t : Tables) (epoch : ℕ)
-    (memory : List Block) : Type 0 where
-  pub told : IsToldBy p (next_image n (commit_of epoch)) epoch t
-  pub decodes : decode_image p ceiling (next_image n (commit_of epoch)) ≡ At epoch (state_from p cpu memory)
-  pub issued : IsIssued (looked p) n (next_image n (commit_of epoch))
-
--- with the whole slot written, and any header there that has no fault
-abbrev pub IssuedDecodes : Type 0
-IssuedDecodes =
-    (p : Parameters) (ceiling : ℕ) (n : Device) (cpu : CpuState) (t : Tables) (epoch : ℕ) (memory : List Block)
-    → IsInRange p → IsRecordable p ceiling cpu → ceiling ≤ 2 ^ 64 → epoch < ceiling
-    → IsIssuing p n cpu t epoch memory (slot_blocks p) → header_fault (newest n 0) p true ≡ None
-    → IsIssuedCheckpoint p ceiling n cpu t epoch memory

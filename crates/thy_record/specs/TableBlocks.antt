@@ -3,7 +3,7 @@ use Rattle.std.specs.Prelude.{◌≡◌, ℕ, ◌+◌, ◌-◌, ◌*◌, ◌^◌
 use Rattle.thy_base.specs.declared.block.Block.{Block}
 use Rattle.thy_base.specs.declared.config.Parameters.{Parameters}
 use Rattle.thy_record.specs.Tables.{Tables, Lists}
-use Rattle.thy_record.specs.Words.{block_of}
+use Rattle.thy_base.specs.Words.{block_of}
 
 -- an entry as a word: 0 where it is empty, else one more than the number that it lists
 abbrev pub entry_word : Option ℕ → ℕ

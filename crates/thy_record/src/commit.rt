@@ -3,8 +3,7 @@ ghost use Rattle.std.specs.Prelude.{◌≡◌};
 ghost use Rattle.thy_record.specs.Commit.{commit_of, commit_fault as fault_of_commit, is_zero as has_zeros, has_zero_rest as zero_rest};
 
 use crate::bad_image::BadImage;
-use crate::block_words::{block_with, word};
-use thy_base::Block;
+use thy_base::{Block, block_with, word};
 
 /// The bytes `THYNCMT1`, with which a commit block begins, as a number.
 pub const COMMIT_MAGIC: u64 = 0x3154_4d43_4e59_4854;

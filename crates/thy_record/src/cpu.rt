@@ -3,8 +3,7 @@
 ghost use Rattle.std.specs.Prelude.{◌≡◌, ◌<◌, ◌∷◌, length, slice_index};
 ghost use Rattle.thy_record.specs.Cpu.{cpu_words, cpu_block_of, cpu_of_record, record_word, record_words, status_tag, status_value, status_of, is_status as is_status_of};
 
-use crate::block_words::{block_with, word};
-use thy_base::Block;
+use thy_base::{Block, block_with, word};
 use thy_isa::{CpuState, Reg, Regs, Status};
 
 // A status as two words.

@@ -6,11 +6,11 @@ ghost use Rattle.thy_record.specs.Files.{blocks_of, file_fault, decode_file, fou
 ghost use Rattle.thy_record.specs.Images.{slot_in as slot_of_image};
 
 use crate::bad_image::BadImage;
-use crate::block_words::{block_in, word};
 use crate::commit::{commit_fault, is_zero};
+use crate::file_blocks::block_in;
 use crate::header::header_fault;
 use crate::slot::slot_fault;
-use thy_base::{BLOCK_SIZE, Block, Geometry};
+use thy_base::{BLOCK_SIZE, Block, Geometry, word};
 
 /// What an image without a fault has.
 #[derive(Clone, Copy, Debug, PartialEq, Eq)]

@@ -3,8 +3,7 @@ ghost use Rattle.std.specs.Prelude.{◌≡◌};
 ghost use Rattle.thy_record.specs.Header.{header_of, header_fault as fault_of_header, is_of_geometry as of_geometry};
 
 use crate::bad_image::BadImage;
-use crate::block_words::{block_with, word};
-use thy_base::{Block, Geometry};
+use thy_base::{Block, Geometry, block_with, word};
 
 /// The bytes `THYNHDR1`, with which a header begins, as a number.
 pub const HEADER_MAGIC: u64 = 0x3152_4448_4e59_4854;

@@ -1,7 +1,7 @@
-//! Laws of the tables, of images and of how they are written, each the contract of a function that does nothing.
+//! Laws of the tables, of images and of what leaves them alone, each the contract of a function that does nothing.
 ghost use Rattle.thy_record.specs.BackLaws.{HeaderReadsBack, CommitReadsBack, RecordReadsBack, EntriesReadBack, TablesReadBack};
 ghost use Rattle.thy_record.specs.ImageLaws.{FaultlessTables, BlocksHavePlaces, PlacesAreOwn, EntriesAreBlock, SlotReadsBack, FileDecodes, WrittenDecodes, DecodedIsWhole, LookedDecides, CeilingGrows};
-ghost use Rattle.thy_record.specs.Issuing.{ListedHomeIsUnused, PagedHomeIsUnused, EmptyEntryIsUnused, EmptyPageIsUnused, FreeIsNotLooked, NothingIsLooked, PlacedIsMemory, MemoryIsPlaced, IssuingBegins, SlotGoesOn, FreeKeepsIssuing, HeaderKeepsIssuing, DrainKeepsIssuing, IssuedDecodes};
+ghost use Rattle.thy_record.specs.Issuing.{ListedHomeIsUnused, PagedHomeIsUnused, EmptyEntryIsUnused, EmptyPageIsUnused, FreeIsNotLooked, NothingIsLooked, PlacedIsMemory, MemoryIsPlaced};
 ghost use Rattle.thy_record.specs.TableRefusals.{FoundIsSo, SoIsFound};
 
 /// Tables are those that a checkpoint may have exactly where no fault is found in them.
@@ -92,20 +92,4 @@ pub fn free_is_not_looked_at()
 pub fn memory_is_read_at_its_places()
     ensures blocks { PlacedIsMemory }
     ensures memory { MemoryIsPlaced }
-{}
-
-/// The blocks of a slot that were written in turn are read, and memory is read where the tables have it; that stays so
-/// over writes to what is free, the header's write and drains.
-pub fn issuing_goes_on()
-    ensures begins { IssuingBegins }
-    ensures slot { SlotGoesOn }
-    ensures free { FreeKeepsIssuing }
-    ensures header { HeaderKeepsIssuing }
-    ensures drain { DrainKeepsIssuing }
-{}
-
-/// With the whole slot written, and behind a header without a fault, whoever wrote it, the next image decodes to the
-/// checkpoint and tells its tables, and all that tells it was written.
-pub fn issued_decodes()
-    ensures { IssuedDecodes }
 {}

@@ -1,6 +1,6 @@
-//! Checkpoints in the NVM, of layout version 1. What every layout has: words, the commit block, the processor's record,
-//! and the refusals of an image. And what is this layout's own: header, tables, slots, images in files, and laws of how
-//! a checkpoint is written. Callers rest on `check` and `state`, exactly what the bytes of a file mean, and on
+//! Checkpoints in the NVM, of layout version 1. What every layout has: the commit block, the processor's record, and
+//! the refusals of an image. And what is this layout's own: header, tables, slots, images in files, and laws of which
+//! writes leave a checkpoint alone. Callers rest on `check` and `state`, exactly what the bytes of a file mean, and on
 //! `written_decodes` and `decoded_is_whole`: what was written decodes, and what decodes is whole.
 //!
 //! Open specs/Images.antt first, then specs/Files.antt, and src/file.rt. It stands on thy_base, thy_crash, thy_flat and
@@ -8,11 +8,11 @@
 #![tactic(auto)]
 
 mod bad_image;
-mod block_words;
 mod commit;
 mod cpu;
 mod engine_step;
 mod file;
+mod file_blocks;
 mod header;
 mod laws;
 mod restored;
@@ -22,16 +22,15 @@ mod table_faults;
 mod tables;
 
 pub use bad_image::BadImage;
-pub use block_words::{block_in, block_with, word};
 pub use commit::{COMMIT_MAGIC, commit_block, commit_fault, is_zero};
 pub use cpu::{cpu_block, cpu_state};
 pub use engine_step::EngineStep;
 pub use file::{Found, check};
+pub use file_blocks::block_in;
 pub use header::{HEADER_MAGIC, VERSION, header_block, header_fault};
 pub use laws::{
     ceiling_grows, decoded_is_whole, each_block_has_its_place, faultless_tables, file_decodes,
-    free_is_not_looked_at, header_and_commit_read_back, issued_decodes, issuing_goes_on,
-    looked_decides, memory_is_read_at_its_places, record_reads_back,
+    free_is_not_looked_at, header_and_commit_read_back, looked_decides, memory_is_read_at_its_places, record_reads_back,
     refusals_name_the_first_entries, slot_reads_back, tables_read_back, unused_places,
     written_decodes,
 };

@@ -8,8 +8,8 @@ ghost use Rattle.thy_record.specs.Images.{state_in};
 ghost use Rattle.thy_record.specs.Slots.{tables_in};
 ghost use Rattle.thy_record.specs.Tables.{place_of as place_by_tables, IsTables};
 
-use crate::block_words::block_in;
 use crate::file::slot_in;
+use crate::file_blocks::block_in;
 use crate::slot::{btt_in, cpu_in, ptt_in};
 use crate::table_faults::entry_of;
 use std::alloc::{AllocError, Global};

@@ -7,8 +7,8 @@ ghost use Rattle.thy_record.specs.Tables.{entry_at};
 ghost use Rattle.thy_record.specs.Slots.{tables_in, status_fault as fault_of_status, slot_fault as fault_of_slot};
 
 use crate::bad_image::BadImage;
-use crate::block_words::block_in;
 use crate::cpu::{cpu_state, is_status};
+use crate::file_blocks::block_in;
 use crate::table_faults::{entry, tables_fault};
 use byteorder::{ByteOrder, LittleEndian};
 use thy_base::{BLOCK_SIZE, Geometry};

@@ -1,16 +1,15 @@
 -- A step acts once on the NVM, queues one write of the DRAM at most, and comes nearer.
-use Rattle.std.proofs.Common.{◌≡◌, ◌≢◌, ℕ, ◌+◌, ◌%◌, ◌<◌, ◌≤◌, nat_lt, Bool, true, false, if◌then◌else◌, Option, Some, None, refl, sym, ap, subst, arith}
+use Rattle.std.proofs.Common.{◌≡◌, ◌≢◌, ℕ, ◌+◌, ◌<◌, ◌≤◌, nat_lt, Bool, true, false, if◌then◌else◌, Option, Some, None, refl, sym, ◌∙◌, ap, subst, arith}
 use Rattle.thy_base.specs.declared.config.Parameters.{Parameters}
 use Rattle.thy_base.specs.Device.{Device}
 use Rattle.thy_base.specs.Geometry.{memory_blocks}
-use Rattle.thy_base.specs.Places.{number_of, slot_place, slot_blocks}
-use Rattle.thy_base.specs.declared.place.Place.TheVariants.{AlternatePage}
+use Rattle.thy_base.specs.Places.{slot_blocks}
 use Rattle.thy_isa.specs.Step.{State as Plain}
 use Rattle.thy_record.specs.declared.bad_image.BadImage.{BadImage}
 use Rattle.thy_record.specs.Slots.{slot_fault}
 use Rattle.thy_control.specs.State.{State}
 use Rattle.thy_control.specs.Boot.{with_frame}
-use Rattle.thy_view.specs.Action.{Rest, ReadAt, FailsTo, Asks, Acts, ActionFailed}
+use Rattle.thy_view.specs.Action.{Action, Rest, FailsTo, IsBootAction, Asks, Acts}
 use Rattle.thy_view.specs.Safe.{ceiling}
 use Rattle.thy_recover.specs.declared.stage.Stage.{Stage}
 use Rattle.thy_recover.specs.declared.stage.Stage.TheVariants.{Unread, Header as ReadsHeader, Slot as ReadsSlot, Frames, Refusing, Loading, Restored, Loaded}
@@ -22,7 +21,7 @@ use Rattle.thy_recover.specs.Loads.{after_issue, issue_action}
 use Rattle.thy_recover.specs.Reads.{read_action, slot_read, Fills}
 use Rattle.thy_recover.specs.Recovers.{HasReadAt, IsNearer}
 use Rattle.thy_recover.specs.Shows.{seen_at, did_of}
-use Rattle.thy_recover.specs.Steps.{ReadsOn, StepsBy, FailsBy}
+use Rattle.thy_recover.specs.Steps.{ReadsOn, StepsBy, action_by, FailsBy}
 use Rattle.thy_recover.specs.Laws.{StepsAct, FoundStays, failed_answer, FailuresAct, IsFilled, StepsFill, StepsComeNearer}
 
 load_acts : (p : Parameters) (s : Plain) (issue : Issue) (d : Booting) → Asks (did_of (answer_at (after_issue p issue) d)) (issue_action p s issue)
@@ -81,20 +80,21 @@ load_asks p s Confirm = refl
 
 pub failures_act : FailuresAct
 failures_act s b n m fails = by_stage b.stage refl fails where
-  read_at : (q : Stage) → b.stage ≡ q → FailsTo (read_action b.p b.stage) n m → FailsTo (read_action b.p q) n m
-  read_at q is f = subst (λ (x : Stage). FailsTo (read_action b.p x) n m) is f
+  none : (q : Stage) → b.stage ≡ q → read_action b.p q ≡ Rest → FailsTo (read_action b.p b.stage) n m → ⊥
+  none q is rest f = subst (λ (a : Action). FailsTo a n m) (ap (read_action b.p) is ∙ rest) f
 
-  by_stage : (q : Stage) → b.stage ≡ q → FailsBy (issue_at q) s b n m → ActionFailed (did_of (failed_answer q)) n m
-  by_stage (Loading issue) is f = record { action = issue_action b.p s issue; asked = load_asks b.p s issue; failed = f }
-  by_stage Unread is f = record { action = ReadAt 1; asked = tt; failed = read_at Unread is f }
-  by_stage (ReadsHeader epoch fault) is f = record { action = ReadAt 0; asked = tt; failed = read_at (ReadsHeader epoch fault) is f }
-  by_stage (ReadsSlot epoch next) is f =
-      record { action = ReadAt (slot_place b.p (epoch % 2) + next); asked = tt; failed = read_at (ReadsSlot epoch next) is f }
-  by_stage (Frames epoch page next) is f =
-      record { action = ReadAt (number_of b.p (AlternatePage page next)); asked = tt; failed = read_at (Frames epoch page next) is f }
-  by_stage (Refusing bad) is f = absurd (read_at (Refusing bad) is f)
-  by_stage (Restored epoch) is f = absurd (read_at (Restored epoch) is f)
-  by_stage Loaded is f = absurd (read_at Loaded is f)
+  read_asks : (q : Stage) → b.stage ≡ q → IsBootAction (read_action b.p q) → IsBootAction (read_action b.p b.stage)
+  read_asks q is asks = subst (λ (x : Stage). IsBootAction (read_action b.p x)) (sym is) asks
+
+  by_stage : (q : Stage) → b.stage ≡ q → FailsBy (issue_at q) s b n m → Asks (did_of (failed_answer q)) (action_by (issue_at q) s b)
+  by_stage (Loading issue) is f = load_asks b.p s issue
+  by_stage Unread is f = read_asks Unread is tt
+  by_stage (ReadsHeader epoch fault) is f = read_asks (ReadsHeader epoch fault) is tt
+  by_stage (ReadsSlot epoch next) is f = read_asks (ReadsSlot epoch next) is tt
+  by_stage (Frames epoch page next) is f = read_asks (Frames epoch page next) is tt
+  by_stage (Refusing bad) is f = absurd (none (Refusing bad) is refl f)
+  by_stage (Restored epoch) is f = absurd (none (Restored epoch) is refl f)
+  by_stage Loaded is f = absurd (none Loaded is refl f)
 
 -- what is as it was has no write more
 same_fills : (c e : State) → e ≡ c → IsFilled c e

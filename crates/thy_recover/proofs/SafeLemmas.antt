@@ -1,13 +1,15 @@
 -- Whatever a cut leaves of a boot is safe, behind a step that failed too.
-use Rattle.std.proofs.Common.{◌≡◌, ℕ, ◌+◌, ◌%◌, Option, Some, None, refl, ◌∙◌, ap, subst}
+use Rattle.std.proofs.Common.{◌≡◌, ◌≢◌, ℕ, ◌+◌, ◌%◌, ◌==◌, ◌||◌, Bool, false, if◌then◌else◌, Option, Some, None, refl, sym, ◌∙◌, ap, subst, arith}
+use Rattle.std.proofs.lemmas.Bool.{ne_eqb}
 use Rattle.thy_base.specs.declared.config.Parameters.{Parameters}
 use Rattle.thy_base.specs.declared.mark.Mark.{Mark}
 use Rattle.thy_base.specs.Device.{Device, IsFramed, HasFailed}
 use Rattle.thy_base.specs.Places.{number_of, slot_place}
-use Rattle.thy_base.specs.declared.place.Place.TheVariants.{AlternatePage}
+use Rattle.thy_base.specs.declared.place.Place.TheVariants.{Home as AtHome, AlternatePage}
 use Rattle.thy_crash.specs.Saved.{Kept, guarded, InDoubt, Saved}
 use Rattle.thy_crash.proofs.SparesLemmas.{Spares-failed}
-use Rattle.thy_view.specs.Action.{Action, ReadAt, FailsTo}
+use Rattle.thy_view.specs.Action.{Action, ReadAt, FailsTo, is_commit_write, doubt_after_fault}
+use Rattle.thy_view.specs.Booting.{loading_view}
 use Rattle.thy_view.specs.Origin.{Origin}
 use Rattle.thy_view.specs.Safe.{Safe}
 use Rattle.thy_view.specs.Views.{doubt_of}
@@ -15,7 +17,7 @@ use Rattle.thy_protocol.specs.Keeps.{doubt_in, finding_view}
 use Rattle.thy_protocol.specs.Layout.{looked_by, reading}
 use Rattle.thy_protocol.specs.Moves.{Standing, standing, IsKeeping, Move, Goes}
 use Rattle.thy_protocol.specs.VersionOne.{version_one, layout_of}
-use Rattle.thy_protocol.proofs.KeepsLemmas.{IsKeeping-move, Safe-kept, Safe-sealed}
+use Rattle.thy_protocol.proofs.KeepsLemmas.{IsKeeping-move, Safe-kept}
 use Rattle.thy_recover.specs.declared.stage.Stage.{Stage}
 use Rattle.thy_recover.specs.declared.stage.Stage.TheVariants.{Unread, Header as ReadsHeader, Slot as ReadsSlot, Frames, Refusing, Loading, Restored, Loaded}
 use Rattle.thy_recover.specs.declared.stage.Issue.{Issue}
@@ -23,9 +25,9 @@ use Rattle.thy_recover.specs.declared.stage.Issue.TheVariants.{Home, Slot, Heade
 use Rattle.thy_recover.specs.Boot.{issue_at}
 use Rattle.thy_recover.specs.Loads.{issue_action}
 use Rattle.thy_recover.specs.Reads.{read_action}
-use Rattle.thy_recover.specs.Shows.{restored_view, seen_at}
+use Rattle.thy_recover.specs.Shows.{is_written, restored_view, seen_at}
 use Rattle.thy_recover.specs.Sound.{BootImages, start_mark, sealed_by, saved_loading, standing_in_boot, IsMade, IsSoundAt}
-use Rattle.thy_recover.specs.Steps.{FailsBy}
+use Rattle.thy_recover.specs.Steps.{action_by, FailsBy}
 use Rattle.thy_recover.specs.Laws.{SoundIsSafe, IsGoing, standing_after_fault, FailuresMove}
 use Rattle.thy_recover.proofs.SoundLemmas.{load_fails}
 use Rattle.thy_recover.proofs.FoundLemmas.{reading_of}
@@ -74,25 +76,37 @@ fails_read : (o : Origin) (g : BootImages) (n m : Device) → HasFailed n m → 
 fails_read o g n m failed framed =
     Goes (Kept g.before) g.kept (sealed_by o g.kept) n m (Spares-failed (guarded (looked_by (layout_of o)) (Kept g.before)) n m failed framed)
 
--- what is kept is safe for the marks that are seen
-seen_safe : (o : Origin) (m : Device) (kept : Option Mark) → Safe (reading version_one) o kept (sealed_by o kept) m
-    → Safe (reading version_one) o (finding_view o.start.count kept).done (finding_view o.start.count kept).sealed m
-seen_safe o m None safe = safe
-seen_safe o m (Some k) safe = safe
+-- a read is no commit block's write
+reads_no_commit : (p : Parameters) (q : Stage) → is_commit_write (read_action p q) ≡ false
+reads_no_commit p Unread = refl
+reads_no_commit p (ReadsHeader epoch fault) = refl
+reads_no_commit p (ReadsSlot epoch next) = refl
+reads_no_commit p (Frames epoch page next) = refl
+reads_no_commit p (Refusing bad) = refl
+reads_no_commit p (Loading issue) = refl
+reads_no_commit p (Restored epoch) = refl
+reads_no_commit p Loaded = refl
 
-abbrev Failure : Origin → BootImages → Device → Stage → Device → Type 0
-Failure o g n q m =
+-- so behind one what is kept is safe
+seen_safe : (o : Origin) (m : Device) (a : Action) (kept : Option Mark) → is_commit_write a ≡ false → Safe (reading version_one) o kept None m
+    → Safe (reading version_one) o (finding_view o.start.count kept).done (doubt_after_fault a (finding_view o.start.count kept)) m
+seen_safe o m a None spared safe =
+    subst (λ (b : Bool). Safe (reading version_one) o None (if b || false then Some (start_mark o) else None) m) (sym spared) safe
+seen_safe o m a (Some k) spared safe =
+    subst (λ (b : Bool). Safe (reading version_one) o (Some k) (if b || false then None else None) m) (sym spared) safe
+
+abbrev Failure : Origin → BootImages → Device → Stage → Action → Device → Type 0
+Failure o g n q a m =
     Move o (layout_of o) (standing_in_boot o q g n) (standing_after_fault o q g m)
-    × Safe (reading version_one) o (seen_at o g.kept q).done (seen_at o g.kept q).sealed m
+    × Safe (reading version_one) o (seen_at o g.kept q).done (doubt_after_fault a (seen_at o g.kept q)) m
 
-read_failure : (o : Origin) (g : BootImages) (n m : Device) → IsKeeping o (layout_of o) (reading_of o g n) → HasFailed n m → IsFramed n m
+read_failure : (o : Origin) (g : BootImages) (n m : Device) (a : Action) → is_commit_write a ≡ false → IsKeeping o (layout_of o) (reading_of o g n) → HasFailed n m → IsFramed n m
     → Move o (layout_of o) (reading_of o g n) (reading_of o g m)
-    × Safe (reading version_one) o (finding_view o.start.count g.kept).done (finding_view o.start.count g.kept).sealed m
-read_failure o g n m k failed framed =
+    × Safe (reading version_one) o (finding_view o.start.count g.kept).done (doubt_after_fault a (finding_view o.start.count g.kept)) m
+read_failure o g n m a spared k failed framed =
     let move = fails_read o g n m failed framed in (
       move,
-      seen_safe o m g.kept (Safe-sealed version_one o m (Kept g.before) g.kept (sealed_by o g.kept)
-          (IsKeeping-move o (layout_of o) (reading_of o g n) (reading_of o g m) move k)),
+      seen_safe o m a g.kept spared (kept o g m (IsKeeping-move o (layout_of o) (reading_of o g n) (reading_of o g m) move k)),
     )
 
 -- by how far loading is, the images that a cut may leave behind a failure
@@ -108,13 +122,28 @@ failed_is o g m Settle = refl
 failed_is o g m Commit = refl
 failed_is o g m Confirm = refl
 
-load_failure : (o : Origin) (g : BootImages) (n m : Device) (issue : Issue) → IsKeeping o (layout_of o) (standing_in_boot o (Loading issue) g n) → IsMade o issue g.next
-    → FailsTo (issue_action o.geometry o.start issue) n m → IsFramed n m → Failure o g n (Loading issue) m
-load_failure o g n m issue k made failed framed =
+-- a write elsewhere is no commit block's
+elsewhere : (o : Origin) (x : ℕ) → x ≢ 1 → None ≡ (if (x == 1) || false then Some (start_mark o) else None)
+elsewhere o x other = sym (ap (λ (b : Bool). if b || false then Some (start_mark o) else None) (ne_eqb x 1 other))
+
+-- the mark in doubt then is the start's where the action was its commit block's write, or came after it
+loading_doubt : (o : Origin) (g : BootImages) (p : Parameters) (issue : Issue) → doubt_in (failed_saved issue g) (Some (start_mark o))
+    ≡ doubt_after_fault (issue_action p o.start issue) (record (loading_view o.start.count) { written = is_written issue })
+loading_doubt o g p (Home b) = elsewhere o (number_of p (AtHome b)) (λ e. omega (arith, e))
+loading_doubt o g p (Slot k) = elsewhere o (slot_place p 0 + k) (λ e. omega (arith, e))
+loading_doubt o g p Header = refl
+loading_doubt o g p Settle = refl
+loading_doubt o g p Commit = refl
+loading_doubt o g p Confirm = refl
+
+load_failure : (o : Origin) (g : BootImages) (n m : Device) (p : Parameters) (issue : Issue) → IsKeeping o (layout_of o) (standing_in_boot o (Loading issue) g n) → IsMade o issue g.next
+    → FailsTo (issue_action o.geometry o.start issue) n m → IsFramed n m → Failure o g n (Loading issue) (issue_action p o.start issue) m
+load_failure o g n m p issue k made failed framed =
     let move = load_fails o g n m issue k made failed framed in
     let kept : IsKeeping o (layout_of o) (standing_after_fault o (Loading issue) g m)
     = IsKeeping-move o (layout_of o) (standing_in_boot o (Loading issue) g n) (standing_after_fault o (Loading issue) g m) move k in
-    (move, Safe-sealed version_one o m (failed_saved issue g) None (Some (start_mark o)) (subst (λ (a : Standing). IsKeeping o (layout_of o) a) (failed_is o g m issue) kept))
+    let safe = Safe-kept version_one o m (failed_saved issue g) None (Some (start_mark o)) (subst (λ (a : Standing). IsKeeping o (layout_of o) a) (failed_is o g m issue) kept) in
+    (move, subst (λ (d : Option Mark). Safe (reading version_one) o None d m) (loading_doubt o g p issue) safe)
 
 pub failures_move : FailuresMove
 failures_move o g n b c m sound going fails framed =
@@ -124,16 +153,19 @@ failures_move o g n b c m sound going fails framed =
     read_at : (q : Stage) (x : ℕ) → b.stage ≡ q → read_action b.p q ≡ ReadAt x → FailsTo (read_action b.p b.stage) n m → HasFailed n m
     read_at q x is act f = subst (λ (a : Action). FailsTo a n m) (ap (read_action b.p) is ∙ act) f
 
+    by_read : IsKeeping o (layout_of o) (reading_of o g n) → HasFailed n m → Failure o g n Unread (read_action b.p b.stage) m
+    by_read k f = read_failure o g n m (read_action b.p b.stage) (reads_no_commit b.p b.stage) k f framed
+
     by_stage : (q : Stage) → b.stage ≡ q → IsSoundAt o q g n b c → IsKeeping o (layout_of o) (standing_in_boot o q g n) → IsGoing q
-        → FailsBy (issue_at q) o.start b n m → Failure o g n q m
+        → FailsBy (issue_at q) o.start b n m → Failure o g n q (action_by (issue_at q) o.start b) m
     by_stage (Loading issue) is there k going f =
-        load_failure o g n m issue k there.made (subst (λ (p : Parameters). FailsTo (issue_action p o.start issue) n m) sound.geometry f) framed
-    by_stage Unread is there k going f = read_failure o g n m k (read_at Unread 1 is refl f) framed
-    by_stage (ReadsHeader epoch fault) is there k going f = read_failure o g n m k (read_at (ReadsHeader epoch fault) 0 is refl f) framed
+        load_failure o g n m b.p issue k there.made (subst (λ (p : Parameters). FailsTo (issue_action p o.start issue) n m) sound.geometry f) framed
+    by_stage Unread is there k going f = by_read k (read_at Unread 1 is refl f)
+    by_stage (ReadsHeader epoch fault) is there k going f = by_read k (read_at (ReadsHeader epoch fault) 0 is refl f)
     by_stage (ReadsSlot epoch next) is there k going f =
-        read_failure o g n m k (read_at (ReadsSlot epoch next) (slot_place b.p (epoch % 2) + next) is refl f) framed
+        by_read k (read_at (ReadsSlot epoch next) (slot_place b.p (epoch % 2) + next) is refl f)
     by_stage (Frames epoch page next) is there k going f =
-        read_failure o g n m k (read_at (Frames epoch page next) (number_of b.p (AlternatePage page next)) is refl f) framed
+        by_read k (read_at (Frames epoch page next) (number_of b.p (AlternatePage page next)) is refl f)
     by_stage (Refusing bad) is there k going f = absurd (subst (λ (s : Stage). FailsTo (read_action b.p s) n m) is f)
     by_stage (Restored epoch) is there k going f = absurd going
     by_stage Loaded is there k going f = absurd going

@@ -17,11 +17,13 @@ use Rattle.thy_record.specs.Commit.{commit_of}
 use Rattle.thy_record.specs.Decoded.{Nothing, At}
 use Rattle.thy_record.specs.Header.{header_of, header_fault}
 use Rattle.thy_record.specs.Images.{memory_in, memory_numbers}
-use Rattle.thy_record.specs.Issuing.{IsToldBy, IsIssuedCheckpoint}
+use Rattle.thy_record.specs.Issuing.{IsToldBy}
+use Rattle.thy_protocol.specs.VersionOneParts.{IsIssuedCheckpoint}
 use Rattle.thy_record.specs.Tables.{Tables}
 use Rattle.thy_record.proofs.HeaderLemmas.{header_fault-header_of}
 use Rattle.thy_record.proofs.ImageLemmas.{map-alike}
-use Rattle.thy_record.proofs.IssuingLemmas.{nothing_looked, issued_decodes}
+use Rattle.thy_record.proofs.IssuingLemmas.{nothing_looked}
+use Rattle.thy_protocol.proofs.VersionOnePartsLemmas.{issued_decodes}
 use Rattle.thy_table.specs.Listing.{entry_at as live_at}
 use Rattle.thy_control.specs.State.{State, AreSoundTables}
 use Rattle.thy_control.specs.CheckpointTables.{tables0}
@@ -36,7 +38,7 @@ use Rattle.thy_protocol.specs.Layout.{decode_by, looked_by}
 use Rattle.thy_protocol.specs.Moves.{Standing, standing, IsKeeping, Move, Goes, Readies, Commits, Confirms}
 use Rattle.thy_protocol.proofs.KeepsLemmas.{at-start}
 use Rattle.thy_protocol.proofs.LayoutLemmas.{decode_by-nothing_back}
-use Rattle.thy_protocol.proofs.VersionOneLemmas.{decode_by-version_one, looked_by-version_one}
+use Rattle.thy_protocol.proofs.VersionOneLemmas.{looked_by-version_one}
 use Rattle.thy_protocol.specs.VersionOne.{layout_of}
 use Rattle.thy_recover.specs.declared.stage.Stage.{Stage}
 use Rattle.thy_recover.specs.declared.stage.Stage.TheVariants.{Unread, Header as ReadsHeader, Slot as ReadsSlot, Frames, Refusing, Loading, Restored, Loaded}
@@ -112,14 +114,11 @@ module _ (o : Origin) (origin : IsOrigin o) (n : Device) (w : HasWrittenWholeSta
   }
 
   IsIssued-written : IsIssued (looked_by (layout_of o)) n image
-  IsIssued-written = record {
-    as_long = issued.issued.as_long;
-    each = λ x inside. issued.issued.each x (subst (λ (xs : List ℕ). Contains xs x) (looked_by-version_one o.geometry ceiling image) inside);
-  }
+  IsIssued-written = issued.issued
 
   IsOf-written : IsOf o (layout_of o) image (start_mark o)
   IsOf-written = record {
-    decodes = decode_by-version_one o.geometry ceiling image ∙ issued.decodes ∙ ap (At 0) (state_from-start o origin ∙ sym (at-start o));
+    decodes = issued.decodes ∙ ap (At 0) (state_from-start o origin ∙ sym (at-start o));
     counted = ap (λ s. s.count) (at-start o);
   }
 
@@ -197,7 +196,7 @@ module _ (o : Origin) (origin : IsOrigin o) (g : BootImages) (n : Device) (c : S
       ∙ ap (λ (q : Parameters). memory_in q (tables0 c) n.image) same
       ∙ ap (λ (u : Tables). memory_in o.geometry u n.image) none_listed
       ∙ map-alike (block_at n.image) (newest n) (memory_numbers o.geometry (no_tables o.geometry)) (λ x inside. sym (newest-settled n x settled_is))
-      ∙ (IsIssuing-written o n w).memory_is
+      ∙ (IsIssuing-written o n w).parts.memory_is
 
   IsLoaded-written : IsLoaded o g n c
   IsLoaded-written =

@@ -19,7 +19,7 @@ use Rattle.thy_isa.specs.OnBlocks.{state_from}
 use Rattle.thy_isa.specs.Step.{State, cpu_of, state_with}
 use Rattle.thy_record.specs.Tables.{Lists, IsTables, entry_of, place_by_entries, place_of}
 use Rattle.thy_record.specs.TableBlocks.{table_block_of}
-use Rattle.thy_record.specs.Words.{block_of}
+use Rattle.thy_base.specs.Words.{block_of}
 use Rattle.thy_record.proofs.EntryLemmas.{entry_of-absent}
 use Rattle.thy_record.proofs.TableLemmas.{table_block_of-entries}
 use Rattle.thy_view.specs.Origin.{Origin, IsOrigin}

@@ -13,7 +13,7 @@ use Rattle.thy_crash.proofs.FixedLemmas.{Reads-written, Reads-elsewhere, Reads-s
 use Rattle.thy_isa.specs.Step.{cpu_of}
 use Rattle.thy_record.specs.Commit.{commit_of}
 use Rattle.thy_record.specs.Header.{header_of}
-use Rattle.thy_record.specs.Issuing.{IsIssuing}
+use Rattle.thy_protocol.specs.VersionOneParts.{IsIssuing}
 use Rattle.thy_record.proofs.IssuingLemmas.{memory_of_places}
 use Rattle.thy_view.specs.Action.{after}
 use Rattle.thy_view.specs.Origin.{Origin}
@@ -158,11 +158,13 @@ pub IsIssuing-written : (o : Origin) (n : Device) → HasWrittenWholeStart o n
 IsIssuing-written o n w =
     let p : Parameters = o.geometry in
     record {
-      sized = w.parts.sized;
       tables = IsTables-none p;
-      memory_is = memory_of_places p (no_tables p) n (start_blocks p o.start) (record {
-        as_long = length-start_blocks p o.start;
-        each = λ b l. ap (λ (x : Place). newest n (number_of p x)) (place_of-none p b) ∙ (w.parts.homes.each b l).newest_is ∙ sym (block_at-start_blocks p o.start b l);
-      });
-      slot = w.parts.slot;
+      parts = record {
+        sized = w.parts.sized;
+        memory_is = memory_of_places p (no_tables p) n (start_blocks p o.start) (record {
+          as_long = length-start_blocks p o.start;
+          each = λ b l. ap (λ (x : Place). newest n (number_of p x)) (place_of-none p b) ∙ (w.parts.homes.each b l).newest_is ∙ sym (block_at-start_blocks p o.start b l);
+        });
+        slot = w.parts.slot;
+      };
     }

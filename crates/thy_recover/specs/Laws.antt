@@ -11,7 +11,7 @@ use Rattle.thy_record.specs.Cpu.{cpu_of_record}
 use Rattle.thy_record.specs.Images.{decode_image}
 use Rattle.thy_control.specs.State.{State, AreSoundTables, new_state}
 use Rattle.thy_control.specs.Drains.{after_drain}
-use Rattle.thy_view.specs.Action.{Acts, ActionFailed}
+use Rattle.thy_view.specs.Action.{Asks, Acts, doubt_after_fault}
 use Rattle.thy_view.specs.Booting.{view_of_image}
 use Rattle.thy_view.specs.CoreStep.{CoreStep}
 use Rattle.thy_view.specs.Origin.{Origin, IsOrigin}
@@ -32,7 +32,7 @@ use Rattle.thy_recover.specs.Recovers.{CanRecover}
 use Rattle.thy_recover.specs.Shows.{seen_at, did_of}
 use Rattle.thy_recover.specs.Sound.{BootImages, start_mark, standing_in_boot, images_after, IsBooted, IsSound}
 use Rattle.thy_recover.specs.Start.{IsStartFor}
-use Rattle.thy_recover.specs.Steps.{CanStep, Steps, Fails}
+use Rattle.thy_recover.specs.Steps.{CanStep, Steps, action_of, Fails}
 
 -- a new boot, over a device with nothing queued whose image means the mark that is kept, is one of a run
 abbrev pub NewIsSound : Type 0
@@ -78,14 +78,15 @@ StepsMove =
     (o : Origin) (g : BootImages) (n : Device) (b : Booting) (c : State) (m : Device) (d : Booting) (e : State)
     → IsOrigin o → IsBoot b → AreSoundTables c → IsSound o g n b c → Steps o.start n b c m d e → IsMoved o g n b m d e
 
--- and so is a step that failed: the write of the commit block leaves the two in doubt, and every other one what was
+-- and so is a step that failed: the write of the commit block leaves the two in doubt, and every other one what was. So a cut
+-- leaves the mark that is done, whole, or the start's, if its commit block was written before or that was its write
 abbrev pub standing_after_fault : Origin → Stage → BootImages → Device → Standing
 standing_after_fault o (Loading Commit) g n = standing n (InDoubt g.before g.next) None (Some (start_mark o))
 standing_after_fault o stage g n = standing_in_boot o stage g n
 
 pub record IsFailed (o : Origin) (g : BootImages) (n : Device) (b : Booting) (m : Device) : Type 0 where
   pub move : Move o (layout_of o) (standing_in_boot o b.stage g n) (standing_after_fault o b.stage g m)
-  pub safe : Safe (reading version_one) o (seen_at o g.kept b.stage).done (seen_at o g.kept b.stage).sealed m
+  pub safe : Safe (reading version_one) o (seen_at o g.kept b.stage).done (doubt_after_fault (action_of o.start b) (seen_at o g.kept b.stage)) m
 
 abbrev pub FailuresMove : Type 0
 FailuresMove =
@@ -150,11 +151,11 @@ failed_answer (Loading Confirm) = HasLoaded
 failed_answer (Loading issue) = IsLoading
 failed_answer stage = Reading
 
--- it failed in its one action
+-- it failed in its one action, which was asked for by that
 abbrev pub FailuresAct : Type 0
 FailuresAct =
     (s : Plain) (b : Booting) (n m : Device)
-    → Fails s b n m → ActionFailed (did_of (failed_answer b.stage)) n m
+    → Fails s b n m → Asks (did_of (failed_answer b.stage)) (action_of s b)
 
 -- the controller's DRAM has one write more at most, and the counts of stores are as they were
 pub record IsFilled (c e : State) : Type 0 where

@@ -4,7 +4,7 @@ use Rattle.thy_base.specs.declared.nvm.NvmError.{NvmError}
 use Rattle.thy_base.specs.Device.{Device, IsFramed, CountsFault}
 use Rattle.thy_isa.specs.Step.{State as Plain}
 use Rattle.thy_control.specs.State.{State}
-use Rattle.thy_view.specs.Action.{after, FailsTo}
+use Rattle.thy_view.specs.Action.{Action, after, FailsTo}
 use Rattle.thy_recover.specs.declared.stage.Issue.{Issue}
 use Rattle.thy_recover.specs.Boot.{Booting, at_stage, issue_at}
 use Rattle.thy_recover.specs.Loads.{CanLoad, after_issue, issue_action}
@@ -49,13 +49,20 @@ StepsBy None s n b c m d e = ReadsOn n b c m d e
 abbrev pub Steps : Plain → Device → Booting → State → Device → Booting → State → Type 0
 Steps s n b c m d e = StepsBy (issue_at b.stage) s n b c m d e
 
+-- the action of a step, where it has to read or to write
+abbrev pub action_by : Option Issue → Plain → Booting → Action
+action_by (Some issue) s b = issue_action b.p s issue
+action_by None s b = read_action b.p b.stage
+
+abbrev pub action_of : Plain → Booting → Action
+action_of s b = action_by (issue_at b.stage) s b
+
 -- what one that failed leaves; a refusal that comes again does not fail
 abbrev pub FailsBy : Option Issue → Plain → Booting → Device → Device → Type 0
-FailsBy (Some issue) s b n m = FailsTo (issue_action b.p s issue) n m
-FailsBy None s b n m = FailsTo (read_action b.p b.stage) n m
+FailsBy i s b n m = FailsTo (action_by i s b) n m
 
 abbrev pub Fails : Plain → Booting → Device → Device → Type 0
-Fails s b n m = FailsBy (issue_at b.stage) s b n m
+Fails s b n m = FailsTo (action_of s b) n m
 
 -- the one or the other; one that failed leaves boot and controller as they were
 pub record TakesStep {T : Type 0} (result : Result T NvmError) (s : Plain) (n : Device) (b : Booting) (c : State) (m : Device)

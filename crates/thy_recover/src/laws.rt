@@ -31,7 +31,8 @@ pub fn steps_are_moves()
     ensures { StepsMove }
 {}
 
-/// A step that failed is a move too, and leaves what is safe.
+/// A step that failed is a move too, and leaves what is safe: with the start's mark in doubt only where loading's commit block was
+/// written before, or that write failed.
 pub fn failed_steps_are_moves()
     ensures { FailuresMove }
 {}

@@ -13,11 +13,9 @@ ghost use Rattle.thy_recover.specs.Loads.{Takes};
 use crate::boot::{Boot, keep_block};
 use crate::listing::{list_all, next_listed};
 use crate::stage::{Issue, Stage};
-use thy_base::{Block, Nvm, NvmError};
+use thy_base::{Block, Nvm, NvmError, word};
 use thy_control::Control;
-use thy_record::{
-    BadImage, commit_fault, faultless_tables, header_fault, is_zero, slot_fault, word,
-};
+use thy_record::{BadImage, commit_fault, faultless_tables, header_fault, is_zero, slot_fault};
 
 /// Epochs and counts of a run's own images are below this.
 const CEILING: u64 = 9_223_372_036_854_775_808;

@@ -5,9 +5,9 @@ ghost use Rattle.thy_base.specs.Places.{slot_blocks};
 ghost use Rattle.thy_isa.specs.Step.{state_of, cpu_of};
 ghost use Rattle.thy_recover.specs.Start.{IsStartFor, start_block, start_slot};
 
-use thy_base::{Block, Geometry};
+use thy_base::{Block, Geometry, block_with};
 use thy_isa::{CpuState, MachState};
-use thy_record::{block_with, cpu_block};
+use thy_record::cpu_block;
 
 /// Block `b` of a start: its memory, and behind that its console filled up with zeros.
 pub fn start_block(geometry: &Geometry, state: &MachState, b: u64) -> Block

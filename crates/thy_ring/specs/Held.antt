@@ -29,6 +29,7 @@ device_of r = record {
   down = false;
   faults = 0;
   fits = 0;
+  lent = [];
 }
 
 -- what a device holds of them

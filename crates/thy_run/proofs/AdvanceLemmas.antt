@@ -381,7 +381,7 @@ IsBroken-stuck {M = M} K laws plan fitted p q n m k g s =
         on_terminal = ap (λ (y : Progress M). y.terminal_failed) s.same;
         on_report = ap (λ (y : Progress M). y.report_failed) s.same;
       },
-      (inl (record { going = g.going; safe = s.leaves.safe; acted = s.leaves.acted; framed = s.framed; rose = s.rose; nothing_told = events_q }), record { events = events_q; none = refl; rose = s.rose }),
+      (inl (record { going = g.going; next = q.machine; leaves = s.leaves; framed = s.framed; rose = s.rose; nothing_told = events_q }), record { events = events_q; none = refl; rose = s.rose }),
     )
 
 -- ---- what the calls ask for

@@ -1,9 +1,10 @@
 -- What a view has committed or in doubt is among the marks that the events tell of, also in the midst of a cycle's events.
-use Rattle.std.proofs.Common.{◌≡◌, ◌⊎◌, ℕ, ◌≤◌, Bool, true, false, ◌&&◌, if◌then◌else◌, Option, Some, None, List, [], ◌∷◌, ◌++◌, refl, sym, ◌∙◌, ap, subst, inl, inr}
+use Rattle.std.proofs.Common.{◌≡◌, ◌⊎◌, ℕ, ◌≤◌, Bool, true, false, ◌&&◌, ◌||◌, if◌then◌else◌, Option, Some, None, List, [], ◌∷◌, ◌++◌, refl, sym, ◌∙◌, ap, subst, inl, inr}
 use Rattle.thy_base.specs.declared.cause.EndCause.{EndCause}
 use Rattle.thy_base.specs.declared.mark.Mark.{Mark}
 use Rattle.thy_base.specs.Device.{Device}
 use Rattle.thy_record.specs.Decoded.{Decoded, Nothing as NothingLeft, Refused as RefusedImage, At}
+use Rattle.thy_view.specs.Action.{Action, is_commit_write, doubt_after_fault}
 use Rattle.thy_view.specs.Kind.{KindOf}
 use Rattle.thy_text.specs.Event.{Event, Reload, Ended}
 use Rattle.thy_text.specs.Marks.{Marks, marks_from}
@@ -74,6 +75,10 @@ unsealed kept sealed last doubt written c = record { nothing = c.nothing; of_don
 
 pub Covers-fits : (o : Origin) (v : View) (m : Marks) → Fits o v m → Covers m.kept m.sealed v.done (doubt_of v)
 Covers-fits o v m f = unsealed m.kept m.sealed v.done v.sealed v.written (Covers-sealed o v m f)
+
+-- and what an action that failed leaves in doubt
+pub Covers-fault : (o : Origin) (v : View) (m : Marks) (a : Action) → Fits o v m → Covers m.kept m.sealed v.done (doubt_after_fault a v)
+Covers-fault o v m a f = unsealed m.kept m.sealed v.done v.sealed (is_commit_write a || v.written) (Covers-sealed o v m f)
 
 -- a step's view, before its event is told
 before_commit : (o : Origin) (v next : View) (m : Marks) (s : Mark) → RunFits o v m → v.sealed ≡ Some s → next.done ≡ v.sealed → next.sealed ≡ None

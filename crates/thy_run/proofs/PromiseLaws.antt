@@ -4,6 +4,7 @@ use Rattle.std.proofs.lemmas.Bool.{or_from}
 use Rattle.std.proofs.lemmas.List.Folds.{list_any-append}
 use Rattle.thy_base.specs.declared.block.Block.{Block}
 use Rattle.thy_base.specs.Device.{Device}
+use Rattle.thy_view.specs.Action.{doubt_after_fault}
 use Rattle.thy_view.specs.Kind.{KindOf, IsLawful}
 use Rattle.thy_text.specs.Event.{Event}
 use Rattle.thy_text.specs.Marks.{Marks, Course, marks_from, marks_after, AllLawful}
@@ -15,16 +16,20 @@ use Rattle.thy_view.specs.Views.{doubt_of}
 use Rattle.thy_view.proofs.SafeLemmas.{Safe-failed}
 use Rattle.thy_run.specs.Cuts.{is_end, has_ended, cuts_among, numbered, last_cuttable, cuts_up_to}
 use Rattle.thy_run.specs.Images.{Found, HasLeft, AllFit}
-use Rattle.thy_run.specs.Laws.{course_of, first_marks, marks_of, first_found, torn, LeavesRoom, Promise, RunKeepsPromise}
+use Rattle.thy_run.specs.Laws.{course_of, first_marks, marks_of, found_at_start, torn, LeavesRoom, Promise, RunKeepsPromise}
 use Rattle.thy_run.specs.Progress.{IsSoonOver}
-use Rattle.thy_run.specs.Unfinished.{StepFailed, ReadFailed, Ends}
+use Rattle.thy_run.specs.Strides.{first_epoch, AllStride}
+use Rattle.thy_run.specs.Unfinished.{StepFailed, ReadFailed, TellingFailed, IsLast, AtStop}
 use Rattle.thy_run.specs.World.{World, Given, seen, events_of, TakesStep}
-use Rattle.thy_run.proofs.CoverLaws.{Covers-sealed, Covers-part, Safe-covered}
+use Rattle.thy_run.specs.declared.ending.Stop.{Stop}
+use Rattle.thy_run.specs.declared.ending.Stop.TheVariants.{Ended, Nvm, Memory, Terminal, Report, Limit}
+use Rattle.thy_run.proofs.CoverLaws.{Covers-fault, Covers-part, Safe-covered}
 use Rattle.thy_run.proofs.ImageLaws.{ImagesFit, AllFit-events}
 use Rattle.thy_run.proofs.ImageLemmas.{AllFit-append, AllFit-ends, AllFit-part}
 use Rattle.thy_run.proofs.ListedLemmas.{cuts_among-append}
 use Rattle.thy_run.proofs.PickLaws.{StaysFitted, StaysFitted-framed, StaysFitted-ran}
 use Rattle.thy_run.proofs.SoonLaws.{SoonOver-ran}
+use Rattle.thy_run.proofs.StrideLaws.{AllStride-part, Strode, strode_step, strode_ran}
 use Rattle.thy_run.proofs.WorldLaws.{Coheres, Listed, Good, listed_going, events_uncut, Coheres-stepped, Good-ran, cycles-ran}
 use Rattle.thy_base.proofs.RangeLemmas.{epoch_least}
 use Rattle.thy_run.proofs.StepFrames.{TakesStep-framed}
@@ -73,7 +78,7 @@ leaves_room given passed events n stays few left cuts = record {
 }
 
 module _ {M : Type 0} (K : KindOf M) (o : Origin) (given : Given) (w : World M) (least : 1 ≤ o.geometry.epoch) (g : Good K o given.config.cuts w) (keeps : StaysFitted given w.passed w.device)
-    (soon : IsSoonOver K o given.config.cuts w.cycles) where
+    (soon : IsSoonOver K o given.config.cuts w.cycles) (strode : Strode K o w) where
   abbrev read : List Block → Decoded
   read = K.decode o.geometry ceiling
 
@@ -86,13 +91,14 @@ module _ {M : Type 0} (K : KindOf M) (o : Origin) (given : Given) (w : World M) 
       let fit = cuts_fit given.config.cuts (last_cuttable w.events w.cycles) w g.listed in
       record {
         events_lawful = g.stands.lawful;
-        restarts_decode = AllFit-ends read stood (HasLeft w.cycles) (first_found o) w.events w.device.left (λ t p. p.last) g.stands.each;
+        restarts_decode = AllFit-ends read stood (HasLeft w.cycles) (found_at_start o) w.events w.device.left (λ t p. p.last) g.stands.each;
         cuts_listed = fit.0;
         picks_listed = keeps.picks ∙ sym (ap (torn given.config.tears) fit.1);
         fits_stay = keeps.fits;
         room = leaves_room given w.passed w.events w.device keeps g.listed.few g.stands.left fit.1;
         safe_at_return = g.stands.safe;
         soon = soon;
+        strides = strode.all;
       }
 
   -- the step failed: events stay, and the device is safe for what was sealed
@@ -104,13 +110,16 @@ module _ {M : Type 0} (K : KindOf M) (o : Origin) (given : Given) (w : World M) 
       let fit = cuts_fit given.config.cuts (last_cuttable w.events w.cycles) w g.listed in
       record {
         events_lawful = p.events_lawful;
-        restarts_decode = subst (AllFit read (HasLeft w.cycles) (first_found o) w.events) (sym left) p.restarts_decode;
+        restarts_decode = subst (AllFit read (HasLeft w.cycles) (found_at_start o) w.events) (sym left) p.restarts_decode;
         cuts_listed = p.cuts_listed;
         picks_listed = f.framed.picks ∙ p.picks_listed;
         fits_stay = f.framed.fits ∙ keeps.fits;
         room = leaves_room given w.passed w.events n (StaysFitted-framed given w.passed w.device n f.framed keeps) g.listed.few (ap length left ∙ g.stands.left) fit.1;
-        safe_at_return = Safe-covered K o m.kept m.sealed (seen K o w).done (seen K o w).sealed n (Covers-sealed o (seen K o w) m g.stands.fits) f.safe;
+        safe_at_return =
+            let action = f.leaves.acted.failed.action in
+            Safe-covered K o m.kept m.sealed (seen K o w).done (doubt_after_fault action (seen K o w)) n (Covers-fault o (seen K o w) m action g.stands.fits) f.leaves.safe;
         soon = soon;
+        strides = p.strides;
       }
 
   -- of the step's events only a part was made
@@ -145,8 +154,8 @@ module _ {M : Type 0} (K : KindOf M) (o : Origin) (given : Given) (w : World M) 
       ] in
       record {
         events_lawful = AllLawful-part (course_of o) (first_marks o) (w.events ++ part) rest (subst (AllLawful (course_of o) (first_marks o)) split after.lawful);
-        restarts_decode = subst (AllFit read (HasLeft w.cycles) (first_found o) (w.events ++ part)) (append-nil w.device.left ∙ sym (left ∙ left_next))
-            (AllFit-append read stood (HasLeft w.cycles) (first_found o) w.events part w.device.left []
+        restarts_decode = subst (AllFit read (HasLeft w.cycles) (found_at_start o) (w.events ++ part)) (append-nil w.device.left ∙ sym (left ∙ left_next))
+            (AllFit-append read stood (HasLeft w.cycles) (found_at_start o) w.events part w.device.left []
             (λ t p. AllFit-part read (ImagesFit o (w.cycles + 1) false (seen K o next)) w.cycles t part rest []
             (subst (λ vs. AllFit read (ImagesFit o (w.cycles + 1) false (seen K o next)) t vs []) whole
             (AllFit-events read o w.cycles w.fresh (seen K o w) (seen K o next) t p step.r.did (w.cycles + 1) step.is_step.step)) uncut p.last)
@@ -157,23 +166,39 @@ module _ {M : Type 0} (K : KindOf M) (o : Origin) (given : Given) (w : World M) 
         room = leaves_room given w.passed (w.events ++ part) n kept g.listed.few (ap length (left ∙ left_next) ∙ g.stands.left) (ap length same_cuts ∙ fit.1);
         safe_at_return = subst (λ (x : Marks). Safe K.decode o x.kept x.sealed n) (sym marks) safe;
         soon = soon;
+        strides = AllStride-part o.start.count (first_epoch o.start.count) (w.events ++ part) rest
+            (subst (AllStride o.start.count (first_epoch o.start.count)) split (strode_step K o w next step strode).all);
       }
 
-  pub ends_promise : (events : List Event) (n : Device) → Ends K o w events n → Promise K o given w.cycles events n
-  ends_promise events n (inl (same, device)) =
+  -- the last cycle is done
+  last_promise : (events : List Event) (n : Device) → IsLast w events n → Promise K o given w.cycles events n
+  last_promise events n (same, device) =
       subst (λ (vs : List Event). Promise K o given w.cycles vs n) (sym same) (subst (Promise K o given w.cycles w.events) (sym device) done_promise)
-  ends_promise events n (inr (inl f)) =
+
+  -- one more was begun, whose step was done
+  begun_promise : (events : List Event) (n : Device) (Why : World M → List Event → Type 0) → (t : TellingFailed K o w events Why) → (n ≡ t.next.device) ⊎ ReadFailed w events n t.next t.rest → Promise K o given w.cycles events n
+  begun_promise events n Why t device =
+      subst (λ (vs : List Event). Promise K o given w.cycles vs n) (sym t.grew)
+      (telling_promise t.part t.rest t.next events n t.steps (t.split ∙ ap (λ (vs : List Event). vs ++ t.rest) t.grew) t.unended device)
+
+  pub stop_promise : (events : List Event) (n : Device) (stop : Stop) → AtStop K o given.config.cuts w events n stop → Promise K o given w.cycles events n
+  stop_promise events n (Ended status) is = last_promise events n is
+  stop_promise events n Nvm (inl f) =
       subst (λ (vs : List Event). Promise K o given w.cycles vs n) (sym f.nothing_told)
       (failed_promise n (subst (λ (vs : List Event). StepFailed K o w vs n) f.nothing_told f))
-  ends_promise events n (inr (inr t)) =
-      subst (λ (vs : List Event). Promise K o given w.cycles vs n) (sym t.grew)
-      (telling_promise t.part t.rest t.next events n t.steps (t.split ∙ ap (λ (vs : List Event). vs ++ t.rest) t.grew) t.unended t.why)
+  stop_promise events n Nvm (inr t) = begun_promise events n _ t (inr t.why)
+  stop_promise events n Memory (inl none) = last_promise events n none.1
+  stop_promise events n Memory (inr t) = begun_promise events n _ t (inl t.why.0)
+  stop_promise events n Terminal is = last_promise events n is
+  stop_promise events n Report is = last_promise events n is
+  stop_promise events n Limit is = last_promise events n is
 
 -- every run keeps its promise
-pub Promise-finished : {M : Type 0} (K : KindOf M) → IsLawful K → RunKeepsPromise K
-Promise-finished K laws o given cycles events n origin rising f =
+pub Promise-stopped : {M : Type 0} (K : KindOf M) → IsLawful K → RunKeepsPromise K
+Promise-stopped K laws o given cycles events n stop origin rising s =
     let least : 1 ≤ o.geometry.epoch = epoch_least o.geometry origin.geometry in
-    let good = Good-ran K o given cycles f.last least rising f.ran in
-    let same : f.last.cycles ≡ cycles = cycles-ran K o given cycles f.last f.ran in
-    let soon : IsSoonOver K o given.config.cuts f.last.cycles = subst (IsSoonOver K o given.config.cuts) (sym same) (SoonOver-ran K laws o given cycles f.last f.ran) in
-    subst (λ k. Promise K o given k events n) same (ends_promise K o given f.last least good (StaysFitted-ran K o given cycles f.last f.ran) soon events n f.ends)
+    let good = Good-ran K o given cycles s.last least rising s.ran in
+    let same : s.last.cycles ≡ cycles = cycles-ran K o given cycles s.last s.ran in
+    let soon : IsSoonOver K o given.config.cuts s.last.cycles = subst (IsSoonOver K o given.config.cuts) (sym same) (SoonOver-ran K laws o given cycles s.last s.ran) in
+    subst (λ k. Promise K o given k events n) same
+    (stop_promise K o given s.last least good (StaysFitted-ran K o given cycles s.last s.ran) soon (strode_ran K o given cycles s.last s.ran) events n stop s.at_stop)

@@ -20,7 +20,8 @@ use Rattle.thy_run.specs.declared.progress.Progress.{Progress}
 use Rattle.thy_run.specs.Going.{origin_of, given_of, world_at, IsDone, IsBroken, Breaks, AwaitsCut, IsCutOffTo, ComesTo}
 use Rattle.thy_run.specs.Sending.{Sent, Sends, Delivered}
 use Rattle.thy_run.proofs.AdvanceLemmas.{done_cut, broken_cut}
-use Rattle.thy_run.specs.Endings.{is_memory, EndsBy, IsSettled, StopFits}
+use Rattle.thy_run.specs.Endings.{is_memory, IsSettled, StopFits}
+use Rattle.thy_run.specs.Unfinished.{AtStop}
 use Rattle.thy_run.specs.Rounds.{round_of, Running, RunEnds, IsRound}
 
 -- ---- lines
@@ -114,9 +115,7 @@ module _ {M : Type 0} (K : KindOf M) (plan : Plan) (fitted : Device) (p q : Prog
       → StopFits plan.geometry.limit fitted m (record { stop = stop; events = q.events; cycles = k + 1; terminal_failed = terminal_failed; report_failed = report_failed }) stop
       → RunEnds K plan fitted m (record { stop = stop; events = q.events; cycles = k + 1; terminal_failed = terminal_failed; report_failed = report_failed }) t0 t2 r0 r2
   done_stops stop d sinks fits = record {
-    last = world_at q m (k + 1);
-    ran = ran_on d;
-    ends = last_done stop sinks;
+    stopped = record { last = world_at q m (k + 1); ran = ran_on d; at_stop = last_done stop sinks };
     few = omega arith;
     settled = p.events;
     is_settled = settled_at stop sinks d;
@@ -134,7 +133,7 @@ module _ {M : Type 0} (K : KindOf M) (plan : Plan) (fitted : Device) (p q : Prog
       long Memory sinks = absurd sinks
       long Limit sinks = absurd sinks
 
-      last_done : (stop : Stop) → IsSinks stop → EndsBy K (origin_of plan) plan.config.cuts (world_at q m (k + 1)) q.events m stop
+      last_done : (stop : Stop) → IsSinks stop → AtStop K (origin_of plan) plan.config.cuts (world_at q m (k + 1)) q.events m stop
       last_done Terminal sinks = (refl, refl)
       last_done Report sinks = (refl, refl)
       last_done (Ended status) sinks = absurd sinks
@@ -155,9 +154,7 @@ module _ {M : Type 0} (K : KindOf M) (plan : Plan) (fitted : Device) (p q : Prog
       → StopFits plan.geometry.limit fitted m (record { stop = Ended status; events = q.events; cycles = k + 1; terminal_failed = terminal_failed; report_failed = report_failed }) (Ended status)
       → RunEnds K plan fitted m (record { stop = Ended status; events = q.events; cycles = k + 1; terminal_failed = terminal_failed; report_failed = report_failed }) t0 t2 r0 r2
   done_ends status d on_terminal on_report fits = record {
-    last = world_at q m (k + 1);
-    ran = ran_on d;
-    ends = (refl, refl);
+    stopped = record { last = world_at q m (k + 1); ran = ran_on d; at_stop = (refl, refl) };
     few = omega arith;
     settled = q.events;
     is_settled = refl;
@@ -175,9 +172,7 @@ module _ {M : Type 0} (K : KindOf M) (plan : Plan) (fitted : Device) (p q : Prog
       → (bytes ≡ [] → terminal_failed ≡ false) → (q.events ≡ p.events → report_failed ≡ false)
       → RunEnds K plan fitted m (record { stop = stop; events = q.events; cycles = k; terminal_failed = terminal_failed; report_failed = report_failed }) t0 t2 r0 r2
   broken_stops stop b why on_terminal on_report = record {
-    last = world_at p n k;
-    ran = running.goes.ran;
-    ends = begun stop why;
+    stopped = record { last = world_at p n k; ran = running.goes.ran; at_stop = begun stop why };
     few = omega arith;
     settled = p.events;
     is_settled = settled_at stop why;
@@ -186,7 +181,7 @@ module _ {M : Type 0} (K : KindOf M) (plan : Plan) (fitted : Device) (p q : Prog
     stop_fits = because stop why;
   }
     where
-      begun : (stop : Stop) → Breaks K plan p q n m k bytes stop → EndsBy K (origin_of plan) plan.config.cuts (world_at p n k) q.events m stop
+      begun : (stop : Stop) → Breaks K plan p q n m k bytes stop → AtStop K (origin_of plan) plan.config.cuts (world_at p n k) q.events m stop
       begun Nvm f = f.0
       begun Memory f = inr f.0
       begun (Ended status) f = absurd f

@@ -83,9 +83,11 @@ Running-first {M = M} K laws plan p m n t r planned powered f is =
 pub RunEnds-unpowered : {M : Type 0} (K : KindOf M) (laws : IsLawful K) → (plan : Plan) (events : List Event) (n : Device) (t r : Stream) → IsPlanned plan → IsFitted K plan n → events ≡ []
     → RunEnds K plan n n (record { stop = Memory; events = events; cycles = 0; terminal_failed = false; report_failed = false }) t t r r
 RunEnds-unpowered K laws plan events n t r planned f none = record {
-  last = world_at (first_progress plan (laws.powers plan.geometry).0) n 0;
-  ran = first_of K laws plan (laws.powers plan.geometry).0 n planned (laws.powers plan.geometry).1 f;
-  ends = inl (refl, (none, refl));
+  stopped = record {
+    last = world_at (first_progress plan (laws.powers plan.geometry).0) n 0;
+    ran = first_of K laws plan (laws.powers plan.geometry).0 n planned (laws.powers plan.geometry).1 f;
+    at_stop = inl (refl, (none, refl));
+  };
   few = omega arith;
   settled = [];
   is_settled = refl;
@@ -101,9 +103,7 @@ RunEnds-limit {M = M} K plan fit p n k limit t0 t r0 r planned running same limi
     let o : Origin = origin_of plan in
     let going : has_ended p.events ≡ false = (good_of K plan fit p n k planned running.goes).stands.ended ∙ running.goes.going in
     let here : RunEnds K plan fit n (record { stop = Limit; events = p.events; cycles = k; terminal_failed = p.terminal_failed; report_failed = p.report_failed }) t0 t r0 r = record {
-      last = world_at p n k;
-      ran = running.goes.ran;
-      ends = (refl, refl);
+      stopped = record { last = world_at p n k; ran = running.goes.ran; at_stop = (refl, refl) };
       few = omega (arith, same, limit_is);
       settled = p.events;
       is_settled = refl;

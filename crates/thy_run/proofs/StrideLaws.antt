@@ -12,9 +12,11 @@ use Rattle.thy_view.specs.Kind.{KindOf}
 use Rattle.thy_view.specs.Origin.{Origin, at}
 use Rattle.thy_view.specs.Pace.{Strides as KeepsIdle}
 use Rattle.thy_view.specs.Views.{is_boot, loads as is_loading, halts}
-use Rattle.thy_run.specs.Strides.{Epoch, first_epoch, epoch_after, AllStride, RunStrides}
-use Rattle.thy_run.specs.Unfinished.{Ends}
+use Rattle.thy_run.specs.Strides.{Epoch, first_epoch, epoch_after, AllStride, IsStriding, RunStrides}
+use Rattle.thy_run.specs.Unfinished.{TellingFailed, AtStop, Stopped}
 use Rattle.thy_run.specs.World.{World, Given, seen, did_told, reload_told, end_told, events_of, TakesStep, is_due, IsCutOff, tear, Ran}
+use Rattle.thy_run.specs.declared.ending.Stop.{Stop}
+use Rattle.thy_run.specs.declared.ending.Stop.TheVariants.{Ended as EndedStop, Nvm, Memory, Terminal, Report, Limit}
 use Rattle.thy_run.proofs.StepKinds.{Kind, keeps, loads, restores, advances, seals, commits, kind_of}
 
 -- ---- epochs and events
@@ -31,7 +33,7 @@ AllStride-append : (start : ℕ) (e : Epoch) (vs ws : List Event) → AllStride 
 AllStride-append start e [] ws all more = more
 AllStride-append start e (v ∷ vs) ws all more = (all.0, AllStride-append start (epoch_after start e v) vs ws all.1 more)
 
-AllStride-part : (start : ℕ) (e : Epoch) (vs ws : List Event) → AllStride start e (vs ++ ws) → AllStride start e vs
+pub AllStride-part : (start : ℕ) (e : Epoch) (vs ws : List Event) → AllStride start e (vs ++ ws) → AllStride start e vs
 AllStride-part start e [] ws all = tt
 AllStride-part start e (v ∷ vs) ws all = (all.0, AllStride-part start (epoch_after start e v) vs ws all.1)
 
@@ -205,7 +207,7 @@ module _ {M : Type 0} (K : KindOf M) (o : Origin) where
   by_due w x next step h pick true cut = strode_cut pick x next cut (strode_step w x step h)
   by_due w x next step h pick false is = subst (Strode K o) (sym is) (strode_step w x step h)
 
-  strode_ran : (given : Given) (k : ℕ) (w : World M) → Ran K o given k w → Strode K o w
+  pub strode_ran : (given : Given) (k : ℕ) (w : World M) → Ran K o given k w → Strode K o w
   strode_ran given zero w start = let boot = image_boot o.start.count (found_first o o.kept) in record {
     all = subst (AllStride o.start.count first) (sym start.events) tt;
     tells = subst (λ e. Tells o e (seen K o w) (K.gauge w.machine w.device).idle) (sym (ap (epoch_from o.start.count first) start.events))
@@ -214,12 +216,24 @@ module _ {M : Type 0} (K : KindOf M) (o : Origin) where
   strode_ran given (suc k) w (before, ran, cycle) =
       by_due before cycle.between w cycle.steps (strode_ran given k before ran) (tear given.config.tears cycle.between.passed) (is_due K o given.config.cuts cycle.between) cycle.cut
 
-  strode_ends : (w : World M) (events : List Event) (n : Device) → Strode K o w → Ends K o w events n → AllStride o.start.count first events
-  strode_ends w events n h (inl (same, device)) = subst (AllStride o.start.count first) (sym same) h.all
-  strode_ends w events n h (inr (inl f)) = subst (AllStride o.start.count first) (sym f.nothing_told) h.all
-  strode_ends w events n h (inr (inr t)) =
+  -- of a step only the first events were made
+  strode_telling : (w : World M) (events : List Event) (Why : World M → List Event → Type 0) → Strode K o w → TellingFailed K o w events Why → IsStriding o.start.count events
+  strode_telling w events Why h t =
       AllStride-part o.start.count first events t.rest (subst (AllStride o.start.count first) t.split (strode_step w t.next t.steps h).all)
 
+  strode_last : (w : World M) (events : List Event) → Strode K o w → events ≡ w.events → IsStriding o.start.count events
+  strode_last w events h same = subst (AllStride o.start.count first) (sym same) h.all
+
+  strode_stop : (cuts : List ℕ) (w : World M) (events : List Event) (n : Device) (stop : Stop) → Strode K o w → AtStop K o cuts w events n stop → IsStriding o.start.count events
+  strode_stop cuts w events n (EndedStop status) h is = strode_last w events h is.0
+  strode_stop cuts w events n Nvm h (inl f) = strode_last w events h f.nothing_told
+  strode_stop cuts w events n Nvm h (inr t) = strode_telling w events _ h t
+  strode_stop cuts w events n Memory h (inl none) = strode_last w events h none.1.0
+  strode_stop cuts w events n Memory h (inr t) = strode_telling w events _ h t
+  strode_stop cuts w events n Terminal h is = strode_last w events h is.0
+  strode_stop cuts w events n Report h is = strode_last w events h is.0
+  strode_stop cuts w events n Limit h is = strode_last w events h is.0
+
 -- every run strides
-pub Strides-finished : {M : Type 0} (K : KindOf M) → RunStrides K
-Strides-finished K o given cycles events n f = strode_ends K o f.last events n (strode_ran K o given cycles f.last f.ran) f.ends
+pub Strides-stopped : {M : Type 0} (K : KindOf M) → RunStrides K
+Strides-stopped K o given cycles events n stop s = strode_stop K o given.config.cuts s.last events n stop (strode_ran K o given cycles s.last s.ran) s.at_stop

@@ -28,7 +28,7 @@ use Rattle.thy_view.specs.Safe.{ceiling, Safe, IsOneOf}
 use Rattle.thy_view.proofs.SafeLemmas.{Safe-doubt}
 use Rattle.thy_run.specs.Cuts.{is_end, has_ended, cuts_among, numbered, last_cuttable, cuts_up_to}
 use Rattle.thy_run.specs.Images.{Found, found, AllFit}
-use Rattle.thy_run.specs.Laws.{course_of, marks_at, first_marks, marks_of, first_found}
+use Rattle.thy_run.specs.Laws.{course_of, marks_at, first_marks, marks_of, found_at_start}
 use Rattle.thy_run.specs.World.{World, seen, did_told, reload_told, end_told, events_of, after_step, TakesStep, is_due, cut_off, IsCutOff, tear, Cycle, Given, IsFirst, Ran}
 use Rattle.thy_run.proofs.Fitting.{IsEither, Rises, Follows, FitsIn, Fits}
 use Rattle.thy_run.proofs.CoverLaws.{Covers-fits, Safe-covered}
@@ -90,7 +90,7 @@ pub record Coheres {M : Type 0} (K : KindOf M) (o : Origin) (w : World M) : Type
   pub fits : Fits o (seen K o w) (marks_of o w.events)
   pub lawful : AllLawful (course_of o) (first_marks o) w.events
   pub safe : Safe K.decode o (marks_of o w.events).kept (marks_of o w.events).sealed w.device
-  pub each : AllFit (K.decode o.geometry ceiling) (ImagesFit o w.cycles w.fresh (seen K o w)) (first_found o) w.events w.device.left
+  pub each : AllFit (K.decode o.geometry ceiling) (ImagesFit o w.cycles w.fresh (seen K o w)) (found_at_start o) w.events w.device.left
   pub left : length w.device.left ≡ w.passed
   pub ended : has_ended w.events ≡ is_halt (seen K o w).phase
   pub queue : w.fresh ≡ true → w.device.queue ≡ []
@@ -133,8 +133,8 @@ module _ {M : Type 0} (K : KindOf M) (o : Origin) (w : World M) (least : 1 ≤ o
         lawful = AllLawful-append (course_of o) (first_marks o) w.events e h.lawful events.1;
         safe = Safe-covered K o (marks_of o (w.events ++ e)).kept (marks_of o (w.events ++ e)).sealed next.done (doubt_of next) x.device
             (Covers-fits o next (marks_of o (w.events ++ e)) fits) step.is_step.safe;
-        each = subst (AllFit read now (first_found o) (w.events ++ e)) (append-nil w.device.left ∙ sym left)
-            (AllFit-append read (ImagesFit o w.cycles w.fresh v) now (first_found o) w.events e w.device.left []
+        each = subst (AllFit read now (found_at_start o) (w.events ++ e)) (append-nil w.device.left ∙ sym left)
+            (AllFit-append read (ImagesFit o w.cycles w.fresh v) now (found_at_start o) w.events e w.device.left []
             (λ t p. AllFit-events read o w.cycles w.fresh v next t p did (w.cycles + 1) core) h.each);
         left = ap length left ∙ h.left;
         ended = list_any-append is_end w.events e ∙ ap (λ b. b || has_ended e) (h.ended ∙ step.going) ∙ events_end o w.fresh v did next (w.cycles + 1)
@@ -288,9 +288,9 @@ module _ {M : Type 0} (K : KindOf M) (o : Origin) (x next : World M) (h : Cohere
     up = λ e. absurd (let boots : is_boot (view_of_image o.start.count left_image).phase ≡ true = ap is_boot (image_phase o.start.count left_image).0 in cc);
   }
 
-  cut_each : AllFit (K.decode o.geometry ceiling) (ImagesFit o x.cycles true (seen K o next)) (first_found o) (x.events ++ Cut (x.passed + 1) x.cycles ∷ []) (x.device.left ++ next.device.image ∷ [])
+  cut_each : AllFit (K.decode o.geometry ceiling) (ImagesFit o x.cycles true (seen K o next)) (found_at_start o) (x.events ++ Cut (x.passed + 1) x.cycles ∷ []) (x.device.left ++ next.device.image ∷ [])
   cut_each =
-      AllFit-append (K.decode o.geometry ceiling) (ImagesFit o x.cycles x.fresh (seen K o x)) (ImagesFit o x.cycles true (seen K o next)) (first_found o) x.events (Cut (x.passed + 1) x.cycles ∷ [])
+      AllFit-append (K.decode o.geometry ceiling) (ImagesFit o x.cycles x.fresh (seen K o x)) (ImagesFit o x.cycles true (seen K o next)) (found_at_start o) x.events (Cut (x.passed + 1) x.cycles ∷ [])
       x.device.left (next.device.image ∷ [])
       (λ t p. (p.last, (refl, subst (λ v. ImagesFit o x.cycles true v (found left_image (Some x.cycles))) (sym cut.found) cut_images))) h.each
 
@@ -301,7 +301,7 @@ module _ {M : Type 0} (K : KindOf M) (o : Origin) (x next : World M) (h : Cohere
         (subst (Fits o (view_of_image o.start.count left_image)) (sym cut_marks) (fits_cut o (seen K o x) (marks_of o x.events) left_image h.fits one_of));
     lawful = AllLawful-append (course_of o) (first_marks o) x.events (Cut (x.passed + 1) x.cycles ∷ []) h.lawful (tt, tt);
     safe = subst (λ (m : Marks). Safe K.decode o m.kept m.sealed next.device) (sym cut_marks) (Safe-cut K o (marks_of o x.events).kept (marks_of o x.events).sealed pick x.device next.device cut.cut h.safe);
-    each = subst (AllFit (K.decode o.geometry ceiling) (ImagesFit o x.cycles true (seen K o next)) (first_found o) (x.events ++ Cut (x.passed + 1) x.cycles ∷ [])) (sym lefts) cut_each;
+    each = subst (AllFit (K.decode o.geometry ceiling) (ImagesFit o x.cycles true (seen K o next)) (found_at_start o) (x.events ++ Cut (x.passed + 1) x.cycles ∷ [])) (sym lefts) cut_each;
     left = ap length lefts ∙ length-append x.device.left (next.device.image ∷ []) ∙ ap (λ c. c + 1) h.left;
     ended = list_any-append is_end x.events (Cut (x.passed + 1) x.cycles ∷ []) ∙ or_from (has_ended x.events) false (h.ended ∙ going) refl
         ∙ sym (ap is_halt (ap (λ v. v.phase) cut.found ∙ (image_phase o.start.count left_image).0));
@@ -383,7 +383,7 @@ Good-first {M = M} K o given w rising f =
     let none : w.events ≡ [] = f.events in
     let marks : marks_of o w.events ≡ first_marks o = ap (marks_of o) none in
     let boots = first_boot o o.kept in
-    let images : ImagesFit o w.cycles false (first_view o) (first_found o) = record {
+    let images : ImagesFit o w.cycles false (first_view o) (found_at_start o) = record {
       last = λ cycle e. absurd (cc);
       just = λ cycle e. absurd (cc);
       fresh_boot = λ e. absurd (cc);
@@ -401,10 +401,10 @@ Good-first {M = M} K o given w rising f =
         fits = subst (λ v. Fits o v (marks_of o w.events)) (sym f.found) (subst (Fits o (first_view o)) (sym marks) (first_fits o o.kept));
         lawful = subst (AllLawful (course_of o) (first_marks o)) (sym none) tt;
         safe = subst (λ (m : Marks). Safe K.decode o m.kept m.sealed w.device) (sym marks) (Safe-doubt K.decode o (first_marks o).kept (first_marks o).sealed w.device kept);
-        each = subst (λ vs. AllFit (K.decode o.geometry ceiling) (ImagesFit o w.cycles w.fresh (seen K o w)) (first_found o) vs w.device.left) (sym none) (
+        each = subst (λ vs. AllFit (K.decode o.geometry ceiling) (ImagesFit o w.cycles w.fresh (seen K o w)) (found_at_start o) vs w.device.left) (sym none) (
           f.left,
-          subst (λ b. ImagesFit o w.cycles b (seen K o w) (first_found o)) (sym f.fresh)
-              (subst (λ v. ImagesFit o w.cycles false v (first_found o)) (sym f.found) images),
+          subst (λ b. ImagesFit o w.cycles b (seen K o w) (found_at_start o)) (sym f.fresh)
+              (subst (λ v. ImagesFit o w.cycles false v (found_at_start o)) (sym f.found) images),
         );
         left = ap length f.left ∙ sym passed;
         ended = ended ∙ sym (ap is_halt (ap (λ v. v.phase) f.found ∙ boots.0));

@@ -1,5 +1,5 @@
 -- What a run leaves at its end: where it stood, what its sinks took, and why it stopped.
-use Rattle.std.specs.Prelude.{◌≡◌, ◌⊎◌, ℕ, ◌<◌, ◌≤◌, Bool, true, false, List, [], ◌∷◌, ◌++◌}
+use Rattle.std.specs.Prelude.{◌≡◌, ℕ, ◌<◌, ◌≤◌, Bool, true, false, List, [], ◌∷◌, ◌++◌}
 use Rattle.thy_base.specs.Counts.{Rose}
 use Rattle.thy_base.specs.Device.{Device}
 use Rattle.thy_base.specs.Outside.{Stream}
@@ -12,7 +12,7 @@ use Rattle.thy_view.specs.Origin.{Origin}
 use Rattle.thy_run.specs.Cuts.{has_ended}
 use Rattle.thy_run.specs.Laws.{released_of}
 use Rattle.thy_run.specs.Sending.{Delivered}
-use Rattle.thy_run.specs.Unfinished.{IsLast, StepFailed, TellingFailed, ReadFailed, LeftAlone}
+use Rattle.thy_run.specs.Unfinished.{Stopped}
 use Rattle.thy_run.specs.World.{World, Given, Cycle, Ran}
 use Rattle.thy_run.specs.declared.ending.Stop.{Stop}
 use Rattle.thy_run.specs.declared.ending.Stop.TheVariants.{Ended, Nvm, Memory, Terminal, Report, Limit}
@@ -22,13 +22,6 @@ use Rattle.thy_run.specs.declared.ending.Ending.{Ending}
 abbrev pub is_memory : Stop → Bool
 is_memory Memory = true
 is_memory stop = false
-
--- What stands at the end, by the stop: only for a device's fault or want of memory one more cycle was begun. Where memory was
--- short before the first one, none was.
-abbrev pub EndsBy : {M : Type 0} → KindOf M → Origin → List ℕ → World M → List Event → Device → Stop → Type 0
-EndsBy K o cuts w events n Nvm = StepFailed K o w events n ⊎ TellingFailed K o w events (ReadFailed w events n)
-EndsBy K o cuts w events n Memory = ((w.cycles ≡ 0) × IsLast w events n) ⊎ TellingFailed K o w events (LeftAlone K o cuts n)
-EndsBy K o cuts w events n stop = IsLast w events n
 
 -- these events were told before the last cycle
 abbrev pub ToldBefore : {M : Type 0} → KindOf M → Origin → Given → World M → List Event → Type 0
@@ -40,7 +33,10 @@ ToldBefore {M = M} K o given last settled =
 abbrev pub IsSettled : {M : Type 0} → KindOf M → Origin → Given → World M → List Event → Stop → Type 0
 IsSettled K o given last settled Terminal = ToldBefore K o given last settled
 IsSettled K o given last settled Report = ToldBefore K o given last settled
-IsSettled K o given last settled stop = settled ≡ last.events
+IsSettled K o given last settled (Ended status) = settled ≡ last.events
+IsSettled K o given last settled Nvm = settled ≡ last.events
+IsSettled K o given last settled Memory = settled ≡ last.events
+IsSettled K o given last settled Limit = settled ≡ last.events
 
 -- the last event is the end, with this status
 pub record EndsWith (events : List Event) (status : Status) : Type 0 where
@@ -68,12 +64,10 @@ StopFits limit old new e Limit =
 -- events say.
 pub record HasRun {M : Type 0} (K : KindOf M) (o : Origin) (given : Given) (new : Device) (e : Ending)
     (terminal shown report read : Stream) : Type 0 where
-  pub last : World M
-  pub ran : Ran K o given e.cycles last
-  pub ends : EndsBy K o given.config.cuts last e.events new e.stop
+  pub stopped : Stopped K o given e.cycles e.events new e.stop
   pub few : e.cycles ≤ o.geometry.limit
   pub settled : List Event
-  pub is_settled : IsSettled K o given last settled e.stop
+  pub is_settled : IsSettled K o given stopped.last settled e.stop
   pub shown_all : Delivered (is_memory e.stop) e.terminal_failed (released_of o settled) (released_of o e.events) terminal shown
   pub read_all : Delivered false e.report_failed (report_of given.digest settled) (report_of given.digest e.events) report read
   pub stop_fits : StopFits o.geometry.limit given.fitted new e e.stop

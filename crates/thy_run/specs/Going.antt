@@ -129,7 +129,7 @@ pub record MadeSome (made : List Event) (all : List Event) (before : List Event)
 
 -- the machine's step failed with a fault of the device
 pub record IsStuck {M : Type 0} (K : KindOf M) (plan : Plan) (p next : Progress M) (n new : Device) : Type 0 where
-  pub leaves : LeavesSafe K (origin_of plan) (mix_pick p.mix) p.machine n new
+  pub leaves : LeavesSafe K (origin_of plan) (mix_pick p.mix) p.machine next.machine n new
   pub framed : IsFramed n new
   pub rose : Rose n.faults new.faults
   pub same : next ≡ record p { machine = next.machine; mix = mix_next p.mix }

@@ -14,8 +14,10 @@ use Rattle.thy_view.specs.Safe.{ceiling, Safe}
 use Rattle.thy_run.specs.Cuts.{cuts_among, numbered, cuts_up_to, last_cuttable}
 use Rattle.thy_run.specs.Images.{Found, found, HasLeft, AllFit}
 use Rattle.thy_run.specs.Progress.{IsSoonOver}
-use Rattle.thy_run.specs.Unfinished.{Finished}
+use Rattle.thy_run.specs.Strides.{IsStriding}
+use Rattle.thy_run.specs.Unfinished.{Stopped}
 use Rattle.thy_run.specs.World.{Given, tear}
+use Rattle.thy_run.specs.declared.ending.Stop.{Stop}
 
 -- what the events of a run are held against
 abbrev pub course_of : Origin → Course
@@ -34,8 +36,8 @@ abbrev pub marks_of : Origin → List Event → Marks
 marks_of o events = marks_from o.start.count (first_marks o) events
 
 -- what there is to be found before any event
-abbrev pub first_found : Origin → Found
-first_found o = found (found_first o o.kept) None
+abbrev pub found_at_start : Origin → Found
+found_at_start o = found (found_first o o.kept) None
 
 -- what the terminal has of the console once events were told: that of the committed checkpoint
 abbrev pub released_of : Origin → List Event → List ℕ
@@ -56,22 +58,23 @@ pub record LeavesRoom (given : Given) (events : List Event) (n : Device) : Type 
 
 -- What is promised of a run: its events are lawful, its restarts are what the cuts left, of which each left one image, its
 -- cuts are the listed ones and have the listed picks, the device was fitted no second time, has room for one more cut and is
--- safe for the marks that the events leave, and the run is soon over.
+-- safe for the marks that the events leave, the run is soon over, and of two epochs in a row one retired an instruction.
 pub record Promise {M : Type 0} (K : KindOf M) (o : Origin) (given : Given) (cycles : ℕ) (events : List Event) (n : Device) : Type 0 where
   pub events_lawful : AllLawful (course_of o) (first_marks o) events
-  pub restarts_decode : AllFit (K.decode o.geometry ceiling) (HasLeft cycles) (first_found o) events n.left
+  pub restarts_decode : AllFit (K.decode o.geometry ceiling) (HasLeft cycles) (found_at_start o) events n.left
   pub cuts_listed : cuts_among events ≡ numbered 1 (cuts_up_to (last_cuttable events cycles) given.config.cuts)
   pub picks_listed : n.picks ≡ torn given.config.tears (length (cuts_among events))
   pub fits_stay : n.fits ≡ given.fitted.fits
   pub room : LeavesRoom given events n
   pub safe_at_return : Safe K.decode o (marks_of o events).kept (marks_of o events).sealed n
   pub soon : IsSoonOver K o given.config.cuts cycles
+  pub strides : IsStriding o.start.count events
 
 -- every run keeps it
 abbrev pub RunKeepsPromise : {M : Type 0} → KindOf M → Type 0
 RunKeepsPromise K =
-    (o : Origin) (given : Given) (cycles : ℕ) (events : List Event) (n : Device)
-    → IsOrigin o → IsRising 0 given.config.cuts → Finished K o given cycles events n → Promise K o given cycles events n
+    (o : Origin) (given : Given) (cycles : ℕ) (events : List Event) (n : Device) (stop : Stop)
+    → IsOrigin o → IsRising 0 given.config.cuts → Stopped K o given cycles events n stop → Promise K o given cycles events n
 
 -- What one more cut leaves of a device, whatever its pick, is safe for the marks for which the device was safe. So is an image
 -- that is taken behind a run.

@@ -4,8 +4,9 @@ use Rattle.thy_base.specs.Device.{Device}
 use Rattle.thy_text.specs.Event.{Event, EpochEnd, Commit, Cut, Restart, Reload, Ended}
 use Rattle.thy_view.specs.Kind.{KindOf}
 use Rattle.thy_view.specs.Origin.{Origin}
-use Rattle.thy_run.specs.Unfinished.{Finished}
+use Rattle.thy_run.specs.Unfinished.{Stopped}
 use Rattle.thy_run.specs.World.{Given}
+use Rattle.thy_run.specs.declared.ending.Stop.{Stop}
 
 -- the epoch that executes
 pub record Epoch : Type 0 where
@@ -48,5 +49,5 @@ IsStriding start events = AllStride start (first_epoch start) events
 -- every run strides
 abbrev pub RunStrides : {M : Type 0} → KindOf M → Type 0
 RunStrides K =
-    (o : Origin) (given : Given) (cycles : ℕ) (events : List Event) (n : Device)
-    → Finished K o given cycles events n → IsStriding o.start.count events
+    (o : Origin) (given : Given) (cycles : ℕ) (events : List Event) (n : Device) (stop : Stop)
+    → Stopped K o given cycles events n stop → IsStriding o.start.count events

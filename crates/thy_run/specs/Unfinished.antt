@@ -1,21 +1,24 @@
--- A cycle that was begun and is not done, and what a run leaves at its end.
+-- A cycle that was begun and is not done, and what stands where a run stopped.
 use Rattle.std.specs.Prelude.{◌≡◌, ◌≢◌, ◌⊎◌, ℕ, true, false, List, [], ◌++◌}
 use Rattle.thy_base.specs.Counts.{Rose}
 use Rattle.thy_base.specs.Device.{Device, HasFailed, IsFramed}
 use Rattle.thy_base.specs.Mix.{mix_pick}
-use Rattle.thy_view.specs.Kind.{CycleFailed, KindOf}
+use Rattle.thy_view.specs.Kind.{KindOf, LeavesSafe}
 use Rattle.thy_text.specs.Event.{Event}
 use Rattle.thy_view.specs.Views.{is_halt}
 use Rattle.thy_view.specs.Origin.{Origin}
-use Rattle.thy_view.specs.Safe.{Safe}
 use Rattle.thy_run.specs.Cuts.{has_ended}
 use Rattle.thy_run.specs.World.{World, Given, seen, is_due, TakesStep, Ran}
+use Rattle.thy_run.specs.declared.ending.Stop.{Stop}
+use Rattle.thy_run.specs.declared.ending.Stop.TheVariants.{Ended, Nvm, Memory, Terminal, Report, Limit}
 
--- the machine's step failed with a fault of the device
+-- the machine's step failed with a fault of the device, whose sealed checkpoint is in doubt only if its commit block was written
+-- before, or this was its write
 pub record StepFailed {M : Type 0} (K : KindOf M) (o : Origin) (w : World M) (events : List Event) (n : Device) : Type 0 where
   pub going : is_halt (seen K o w).phase ≡ false
-  pub safe : Safe K.decode o (seen K o w).done (seen K o w).sealed n
-  pub acted : CycleFailed K o (mix_pick w.mix) w.machine w.device n
+  -- the machine that it left
+  pub next : M
+  pub leaves : LeavesSafe K o (mix_pick w.mix) w.machine next w.device n
   pub framed : IsFramed w.device n
   pub rose : Rose w.device.faults n.faults
   pub nothing_told : events ≡ w.events
@@ -49,15 +52,19 @@ pub record TellingFailed {M : Type 0} (K : KindOf M) (o : Origin) (w : World M) 
 abbrev pub IsLast : {M : Type 0} → World M → List Event → Device → Type 0
 IsLast w events n = (events ≡ w.events) × (n ≡ w.device)
 
--- what stands at the end: the last cycle is done, or one more was begun
-abbrev pub Ends : {M : Type 0} → KindOf M → Origin → World M → List Event → Device → Type 0
-Ends K o w events n =
-    IsLast w events n
-    ⊎ (StepFailed K o w events n ⊎ TellingFailed K o w events (λ next rest. (n ≡ next.device) ⊎ ReadFailed w events n next rest))
+-- What stands where a run stopped, by why it did: only for a device's fault or want of memory one more cycle was begun. Where
+-- memory was short before the first one, none was.
+abbrev pub AtStop : {M : Type 0} → KindOf M → Origin → List ℕ → World M → List Event → Device → Stop → Type 0
+AtStop K o cuts w events n (Ended status) = IsLast w events n
+AtStop K o cuts w events n Nvm = StepFailed K o w events n ⊎ TellingFailed K o w events (ReadFailed w events n)
+AtStop K o cuts w events n Memory = ((w.cycles ≡ 0) × IsLast w events n) ⊎ TellingFailed K o w events (LeftAlone K o cuts n)
+AtStop K o cuts w events n Terminal = IsLast w events n
+AtStop K o cuts w events n Report = IsLast w events n
+AtStop K o cuts w events n Limit = IsLast w events n
 
--- a run of so many cycles has given these events and left this device
-pub record Finished {M : Type 0} (K : KindOf M) (o : Origin) (given : Given) (cycles : ℕ) (events : List Event) (n : Device)
+-- a run of so many cycles has given these events and left this device, and stopped for this
+pub record Stopped {M : Type 0} (K : KindOf M) (o : Origin) (given : Given) (cycles : ℕ) (events : List Event) (n : Device) (stop : Stop)
     : Type 0 where
   pub last : World M
   pub ran : Ran K o given cycles last
-  pub ends : Ends K o last events n
+  pub at_stop : AtStop K o given.config.cuts last events n stop

@@ -47,7 +47,7 @@ pub enum Advance {
     Noted(Noted),
 }
 
-/// TakesStep the machine by the schedule's next pick.
+/// Steps the machine by the schedule's next pick.
 fn step<M: Computer, N: Nvm>(
     progress: &mut Progress<M>,
     plan: &Plan,

@@ -45,6 +45,6 @@ module _ (n t m : Device) (down : Bool) (faults fits more again : ℕ) (same : t
   failed_to_fit_within counted h rose =
       let f = subst (λ (d : Device). IsFramed (record d { fits = next d.fits }) m) same h.1 in (
         failed_within h.0,
-        record { blocks = f.blocks; left = f.left; picks = f.picks; queue_room = f.queue_room; left_room = f.left_room; fits = counted },
+        record { blocks = f.blocks; left = f.left; picks = f.picks; queue_room = f.queue_room; left_room = f.left_room; fits = counted; lent = f.lent },
         rose,
       )

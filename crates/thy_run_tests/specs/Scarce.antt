@@ -1,8 +1,8 @@
--- A store of blocks that makes some copies before it stores, and has little room.
-use Rattle.std.specs.Prelude.{ℕ, true, List, None}
+-- A store of blocks that makes some copies before it stores, a page open meanwhile, and has little room.
+use Rattle.std.specs.Prelude.{ℕ, true, List, Option}
 use Rattle.thy_base.specs.declared.block.Block.{Block}
 use Rattle.thy_base.specs.Store.{Holding}
 
--- it holds these blocks, has room for so many stores, and owes so many copies
-abbrev pub scarce : List Block → ℕ → ℕ → Holding
-scarce blocks free copies = record { blocks = blocks; faults = 0; free = free; ready = true; open_page = None; owed = copies }
+-- it holds these blocks, has room for so many stores, owes so many copies, and copies this page, if any
+abbrev pub scarce : List Block → ℕ → ℕ → Option ℕ → Holding
+scarce blocks free copies page = record { blocks = blocks; faults = 0; free = free; ready = true; open_page = page; owed = copies }

@@ -28,6 +28,8 @@ pub(crate) struct FaultyNvm {
     down: bool,
     faults: u64,
     fits: u64,
+    /// How many writes it has taken since it was fitted. Those that failed do not count, also where they were done.
+    writes: u64,
 }
 
 impl FaultyNvm {
@@ -41,6 +43,7 @@ impl FaultyNvm {
             down: false,
             faults: 0,
             fits: 0,
+            writes: 0,
         }
     }
 
@@ -74,7 +77,9 @@ impl FaultyNvm {
 impl Nvm for FaultyNvm {
     ghost use Rattle.thy_run_tests.specs.Faulty.{faulty};
 
-    ghost device = { λ n. faulty n.nvm n.down n.faults n.fits };
+    ghost device = { λ n. faulty n.nvm.device n.down n.faults n.fits };
+
+    ghost writes = { λ n. n.writes };
 
     /// Does nothing where it fails.
     fn fit(&mut self, alloc: Global, shape: &Shape, start: &[Block]) -> Result<(), FitError> {
@@ -86,6 +91,7 @@ impl Nvm for FaultyNvm {
         match self.nvm.fit(alloc, shape, start) {
             Ok(()) => {
                 self.down = false;
+                self.writes = 0;
                 Ok(())
             }
             Err(FitError::Memory(error)) => Err(FitError::Memory(error)),
@@ -98,6 +104,10 @@ impl Nvm for FaultyNvm {
 
     fn queued(&self) -> u64 {
         self.nvm.queued()
+    }
+
+    fn writes(&self) -> u64 {
+        self.writes
     }
 
     fn read(&mut self, at: u64) -> Result<Block, NvmError> {
@@ -128,6 +138,7 @@ impl Nvm for FaultyNvm {
             self.fails();
             return Err(NvmError::Failed);
         }
+        self.writes = self.writes.saturating_add(1);
         Ok(())
     }
 

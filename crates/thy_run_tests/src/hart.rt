@@ -19,12 +19,18 @@ const BLOCKS: usize = 512;
 
 const PROGRAM_BLOCKS: usize = 448;
 
-/// A list of blocks that makes some copies before it stores, and has little room.
+/// The page of the block at the start's sp, which is the fourth from the end of program memory.
+const STACK_PAGE: u64 = 6;
+
+/// A list of blocks that makes some copies before it stores, and has little room. From the first copy for a block until that
+/// is stored, the block's page is open.
 #[derive(Drop)]
 struct Scarce {
     blocks: Vec<Block>,
     copies: u64,
     free: u64,
+    /// The page that is open, if one is.
+    page: Option<u64>,
     /// Changes with each call.
     turn: bool,
 }
@@ -33,11 +39,11 @@ impl BlockStore<()> for Scarce {
     ghost use Rattle.std.specs.Prelude.{◌≡◌, not};
     ghost use Rattle.thy_run_tests.specs.Scarce.{scarce};
 
-    ghost holding = { λ s n. scarce s.blocks.items s.free s.copies };
+    ghost holding = { λ s n. scarce s.blocks.items s.free s.copies s.page };
 
     ghost once = { λ a m b n. b.turn ≡ not a.turn };
 
-    ghost loads = { λ a m b n. (b.blocks.items ≡ a.blocks.items) × (b.copies ≡ a.copies) };
+    ghost loads = { λ a m b n. (b.blocks.items ≡ a.blocks.items) × (b.copies ≡ a.copies) × (b.page ≡ a.page) };
 
     ghost stays = { λ a m b n. Unit {0} };
 
@@ -50,9 +56,11 @@ impl BlockStore<()> for Scarce {
         self.turn = !self.turn;
         if self.copies > 0 {
             self.copies -= 1;
+            self.page = Some(b / 64);
             return Ok(Stored::CopyFirst);
         }
         self.blocks[b as usize] = *block;
+        self.page = None;
         Ok(Stored::Done)
     }
 
@@ -223,7 +231,8 @@ static ACROSS: [u32; 13] = [
 ];
 
 /// The hart's answers over a store with so much room, that makes so many copies first, with one line in the cache: to each
-/// step, while a checkpoint is under way or not.
+/// step, while a checkpoint is under way or not. After the steps of these numbers, and no others, a page is open: that of
+/// the block at the start's sp.
 fn answers(
     rt: &impl Abort,
     alloc: Global,
@@ -231,12 +240,14 @@ fn answers(
     free: u64,
     copies: u64,
     steps: &[(bool, Option<HartStep>)],
+    open: &[usize],
 ) {
     let plain = start_with(rt, alloc, words, b"");
     let mut store = Scarce {
         blocks: memory_of(rt, alloc, plain.state().memory.as_slice()),
         copies,
         free,
+        page: None,
         turn: false,
     };
     let mut cache = Cache::new(alloc, 1, 1).expect(rt, "memory");
@@ -246,6 +257,8 @@ fn answers(
         let room = store.free;
         let done = step(rt, &mut hart, &mut cache, &mut store, room, *under_way, b"");
         expect_at(rt, done, *want, i);
+        let page = open.contains(&i).then_some(STACK_PAGE);
+        expect_at(rt, store.page, page, i);
     }
 }
 
@@ -311,10 +324,10 @@ fn calls_move_bytes_across_blocks(rt: HostRuntime) {
 
 #[test]
 fn a_store_without_room_waits_or_ends_its_epoch(rt: HostRuntime) {
-    answers(&rt, rt.alloc(), &STORE, 0, 0, &WITHOUT_ROOM);
+    answers(&rt, rt.alloc(), &STORE, 0, 0, &WITHOUT_ROOM, &[]);
 }
 
 #[test]
-fn copies_go_before_a_dirty_line_is_stored(rt: HostRuntime) {
-    answers(&rt, rt.alloc(), &STORE, 1, 2, &WITH_ROOM);
+fn copies_go_before_a_dirty_line_is_stored_and_leave_its_page_open(rt: HostRuntime) {
+    answers(&rt, rt.alloc(), &STORE, 1, 2, &WITH_ROOM, &[6, 7]);
 }

@@ -151,9 +151,9 @@ impl<M: Computer> Model for Powered<M> {
 
     ghost Value = { IsValue M };
 
-    ghost view = { λ m. powered m.geometry m.start m.machine m.nvm m.cycles m.cuts };
+    ghost view = { λ m. powered m.geometry m.start m.machine m.nvm.device m.cycles m.cuts };
 
-    ghost invariant = { λ m. IsPowered M.kind (powered m.geometry m.start m.machine m.nvm m.cycles m.cuts) };
+    ghost invariant = { λ m. IsPowered M.kind (powered m.geometry m.start m.machine m.nvm.device m.cycles m.cuts) };
 }
 
 impl<M: Computer> Powered<M> {
@@ -166,6 +166,7 @@ impl<M: Computer> Powered<M> {
             queue: geometry.numbers().nvmq,
             cuts: 1,
         };
+        assert!(rt; shape.blocks > 0);
         let mut nvm = MemNvm::new(alloc);
         nvm.fit(alloc, &shape, &[]).expect(rt, "a device");
         let dram = new_dram(rt, alloc, &geometry);

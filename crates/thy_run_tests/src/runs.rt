@@ -6,6 +6,7 @@ mod epochs;
 mod faults;
 mod inputs;
 mod made;
+mod misaligned;
 mod programs;
 mod saved;
 

@@ -18,7 +18,12 @@ load_once K l s n new b (Ok block) inside stays frame same failed =
     record {
       action = ReadAt b;
       access = tt;
-      succeeds = λ alive. record { left = same; dram = inl refl; queue = omega (arith, ap (λ (d : Device). length d.queue) same) };
+      succeeds = λ alive. record {
+        left = same;
+        dram = inl refl;
+        queue = omega (arith, ap (λ (d : Device). length d.queue) same);
+        copies = λ less. absurd (let kept : (K.holding s new).owed ≡ (K.holding s n).owed = ap (λ (d : Device). (K.holding s d).owed) same in omega (arith, less, kept));
+      };
       fails = λ dead. absurd (cc);
       frame = frame;
       stays = stays;

@@ -11,7 +11,7 @@ use Rattle.thy_record.specs.Cpu.{IsRecordable}
 use Rattle.thy_view.specs.declared.did.Did.{Did}
 use Rattle.thy_view.specs.declared.did.Did.TheVariants.{Boot, Loaded, Restarted, Refused}
 use Rattle.thy_view.specs.declared.view.View.{View}
-use Rattle.thy_view.specs.Action.{Acts, ActionFailed}
+use Rattle.thy_view.specs.Action.{Acts, ActionFailed, doubt_after_fault}
 use Rattle.thy_view.specs.Booting.{boot_view, loading_view}
 use Rattle.thy_view.specs.CoreStep.{BootsTo}
 use Rattle.thy_view.specs.Dram.{ActsOnDram}
@@ -74,12 +74,12 @@ pub record BootsOn {S : Type 0} (K : SchemeOf S) (o : Origin) (step : BootStep) 
   pub read : K.has_read t ≡ true
   pub still : (m : Mark) → (K.boot_view o s n).done ≡ Some m → new ≡ n
 
--- that failed in its action, and leaves what the boot found, whole, or what is loaded; where a checkpoint was found it wrote
--- nothing
+-- that failed in its action, and leaves what the boot found, whole, or what is loaded, if loading's commit block was written
+-- before or this was its write; where a checkpoint was found it wrote nothing
 pub record BootFails {S : Type 0} (K : SchemeOf S) (o : Origin) (s : S) (n new : Device) : Type 0 where
   pub step : BootStep
   pub acted : ActionFailed (boot_did step) n new
-  pub safe : Safe K.decode o (K.boot_view o s n).done (K.boot_view o s n).sealed new
+  pub safe : Safe K.decode o (K.boot_view o s n).done (doubt_after_fault acted.action (K.boot_view o s n)) new
   pub still : (m : Mark) → (K.boot_view o s n).done ≡ Some m → HasFailed n new
 
 -- the boot and what is seen of it are as before

@@ -10,14 +10,14 @@ use Rattle.thy_isa.specs.declared.state.CpuState.{CpuState}
 use Rattle.thy_isa.specs.OnBlocks.{state_from}
 use Rattle.thy_record.specs.Cpu.{IsRecordable}
 use Rattle.thy_record.specs.declared.engine_step.EngineStep.{EngineStep}
-use Rattle.thy_record.specs.declared.engine_step.EngineStep.TheVariants.{Idle, Committed}
+use Rattle.thy_record.specs.declared.engine_step.EngineStep.TheVariants.{Idle, CommitWritten, Committed}
 use Rattle.thy_view.specs.declared.did.Did.{Did}
 use Rattle.thy_view.specs.declared.did.Did.TheVariants.{Engine, Promoted, Committed as DidCommit}
 use Rattle.thy_view.specs.Action.{Action, IsAccess, after, FailsTo, Acts, ActionFailed}
-use Rattle.thy_view.specs.Dram.{ActsOnDram}
+use Rattle.thy_view.specs.Dram.{ActsOnDram, WritesBlock}
 use Rattle.thy_view.specs.Origin.{Origin, at}
 use Rattle.thy_view.specs.Safe.{ceiling, Safe}
-use Rattle.thy_scheme.specs.Marks.{Marks, marks_after}
+use Rattle.thy_scheme.specs.Marks.{Marks, doubt_in, marks_after, marks_after_fault}
 use Rattle.thy_scheme.specs.Scheme.{SchemeOf}
 
 -- ---- loads and stores
@@ -26,11 +26,12 @@ use Rattle.thy_scheme.specs.Scheme.{SchemeOf}
 abbrev pub queued_in : {S : Type 0} → SchemeOf S → S → Device → ℕ
 queued_in K s n = length n.queue + K.queued s
 
--- after an action that succeeded, which queued one write at most
+-- after an action that succeeded, which queued one write at most; a copy that is owed no more was written
 pub record Succeeds {S : Type 0} (K : SchemeOf S) (action : Action) (s : S) (n : Device) (t : S) (new : Device) : Type 0 where
   pub left : new ≡ after action n
   pub dram : ActsOnDram n new (K.dram s) (K.dram t)
   pub queue : queued_in K t new ≤ queued_in K s n + 1
+  pub copies : (K.holding t new).owed + 1 ≤ (K.holding s n).owed → WritesBlock n new (K.dram s) (K.dram t)
 
 -- one load or store acts on the NVM once
 pub record IsOneAccess {S : Type 0} (K : SchemeOf S) (s : S) (n : Device) (t : S) (new : Device) : Type 0 where
@@ -57,9 +58,13 @@ pub record HoldsSame (old new : Holding) : Type 0 where
   pub free : old.free ≤ new.free
   pub opened : OpensNone old.open_page new.open_page
 
+-- the copies that are owed, with those that the next commit may add
+abbrev pub owed_in : {S : Type 0} → SchemeOf S → S → Device → ℕ
+owed_in K s n = (K.holding s n).owed + K.owed_later s
+
 -- nothing that is still to be done became more
 pub record KeepsLeft {S : Type 0} (K : SchemeOf S) (s : S) (n : Device) (t : S) (new : Device) : Type 0 where
-  pub owed : (K.holding t new).owed ≤ (K.holding s n).owed
+  pub owed : owed_in K t new ≤ owed_in K s n
   pub engine : K.engine_left t ≤ K.engine_left s
   pub merges : K.merges_left t ≤ K.merges_left s
   pub promotions : K.promotions_left t ≤ K.promotions_left s
@@ -72,22 +77,29 @@ pub record Keeps {S : Type 0} (K : SchemeOf S) (s : S) (n : Device) (t : S) (new
   pub rested : K.rested t ≡ K.rested s
   pub lean : K.lean t ≡ K.lean s
 
+-- no copy is owed that was not
+abbrev pub OwesNoMore : {S : Type 0} → SchemeOf S → S → Device → S → Device → Type 0
+OwesNoMore K s n t new = (K.holding t new).owed ≤ (K.holding s n).owed
+
 -- ---- the calls
 
 -- one block is merged into its page
 pub record Merges {S : Type 0} (K : SchemeOf S) (o : Origin) (k : Marks) (s : S) (n : Device) (t : S) : Type 0 where
   pub sound : K.is_sound o k t n
   pub keeps : Keeps K s n t n
+  pub owes : OwesNoMore K s n t n
   pub dram : ActsOnDram n n (K.dram s) (K.dram t)
   pub queue : K.queued t ≤ K.queued s + 1
   pub nearer : K.merges_left t + 1 ≡ K.merges_left s
 
--- one block of a page is promoted
+-- one block of a page is promoted: it is written
 pub record Promotes {S : Type 0} (K : SchemeOf S) (o : Origin) (k : Marks) (s : S) (n : Device) (t : S) (new : Device) : Type 0 where
   pub sound : K.is_sound o k t new
   pub keeps : Keeps K s n t new
+  pub owes : OwesNoMore K s n t new
   pub acts : Acts Promoted n new
   pub dram : ActsOnDram n new (K.dram s) (K.dram t)
+  pub writes : WritesBlock n new (K.dram s) (K.dram t)
   pub queue : queued_in K t new ≤ queued_in K s n + 1
   pub nearer : K.promotions_left t + 1 ≡ K.promotions_left s
 
@@ -100,6 +112,7 @@ pub record PromotionFails (n new : Device) : Type 0 where
 pub record Drains {S : Type 0} (K : SchemeOf S) (o : Origin) (k : Marks) (s : S) (n : Device) (t : S) : Type 0 where
   pub sound : K.is_sound o k t n
   pub keeps : Keeps K s n t n
+  pub owes : OwesNoMore K s n t n
   pub dram : K.dram t ≡ drained (K.dram s)
   pub queue : K.queued t + 1 ≡ K.queued s
 
@@ -123,9 +136,11 @@ pub record Seals {S : Type 0} (K : SchemeOf S) (o : Origin) (k : Marks) (cpu : C
   pub rested : K.rested t ≡ true
   pub lean : K.lean t ≡ K.rested s
 
--- a step of the engine is due: a checkpoint is under way, whose commit block was written before it is committed
+-- a step of the engine is due: only an epoch that is sealed has a commit block written, and is committed after that; the other
+-- steps apply too what a committed checkpoint has written
 abbrev pub IsDue : EngineStep → Marks → Type 0
 IsDue Idle k = ⊥
+IsDue CommitWritten k = (m : Mark) × (k.sealed ≡ Some m)
 IsDue (Committed epoch) k = (k.written ≡ true) × ((m : Mark) × (k.sealed ≡ Some m) × (m.epoch ≡ epoch))
 IsDue step k = Unit {0}
 
@@ -134,18 +149,25 @@ abbrev pub engine_did : ℕ → EngineStep → Did
 engine_did lap (Committed epoch) = DidCommit epoch lap
 engine_did lap step = Engine step
 
+-- only a commit may let copies be owed that were to come
+abbrev pub OwesAfter : {S : Type 0} → EngineStep → SchemeOf S → S → Device → S → Device → Type 0
+OwesAfter (Committed epoch) K s n t new = Unit {0}
+OwesAfter step K s n t new = OwesNoMore K s n t new
+
 -- a step of the engine
 pub record Engines {S : Type 0} (K : SchemeOf S) (o : Origin) (k : Marks) (step : EngineStep) (s : S) (n : Device) (t : S) (new : Device) : Type 0 where
   pub due : IsDue step k
   pub sound : K.is_sound o (marks_after step k) t new
   pub keeps : Keeps K s n t new
+  pub owes : OwesAfter step K s n t new
   pub acts : (lap : ℕ) → Acts (engine_did lap step) n new
   pub dram : ActsOnDram n new (K.dram s) (K.dram t)
   pub queue : queued_in K t new ≤ queued_in K s n + 1
   pub nearer : K.engine_left t + 1 ≤ K.engine_left s
 
--- that failed in its action, and leaves the committed checkpoint, whole, or the sealed one
+-- that failed in its action, and leaves the committed checkpoint, whole, or the sealed one, if its commit block was written
+-- before or this was its write
 pub record EngineFails {S : Type 0} (K : SchemeOf S) (o : Origin) (k : Marks) (n new : Device) : Type 0 where
   pub step : EngineStep
   pub acted : (lap : ℕ) → ActionFailed (engine_did lap step) n new
-  pub safe : Safe K.decode o (Some k.done) k.sealed new
+  pub safe : Safe K.decode o (Some k.done) (doubt_in (marks_after_fault step k)) new

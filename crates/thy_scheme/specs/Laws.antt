@@ -13,8 +13,8 @@ use Rattle.thy_view.specs.Origin.{Origin, IsOrigin, at}
 use Rattle.thy_view.specs.Safe.{ceiling, Safe}
 use Rattle.thy_view.specs.Views.{doubt_of}
 use Rattle.thy_scheme.specs.Marks.{Marks, doubt_in}
-use Rattle.thy_scheme.specs.Scheme.{SchemeOf, Stands, IsBooting}
-use Rattle.thy_scheme.specs.Calls.{Keeps}
+use Rattle.thy_scheme.specs.Scheme.{SchemeOf, Stands, IsBooting, StaysOf}
+use Rattle.thy_scheme.specs.Calls.{owed_in, Keeps, OwesNoMore}
 use Rattle.thy_scheme.specs.Boots.{IsBootView, BootStays}
 
 -- an image is the run's own: it means nothing, where the run began so, or a state of the plain machine
@@ -43,6 +43,7 @@ pub record BootsFound {S : Type 0} (K : SchemeOf S) (o : Origin) (s : S) (n : De
 -- what holds in the boot: a cut leaves what is seen, a drain of the NVM changes nothing of it, and where a checkpoint was found
 -- nothing is queued there
 pub record BootHolds {S : Type 0} (K : SchemeOf S) (o : Origin) (s : S) (n : Device) : Type 0 where
+  pub of_geometry : K.is_of o.geometry s
   pub sized : length n.image ≡ K.blocks o.geometry
   pub safe : Safe K.decode o (K.boot_view o s n).done (doubt_of (K.boot_view o s n)) n
   pub shown : IsBootView o (K.boot_view o s n)
@@ -55,7 +56,7 @@ pub record IsBounded {S : Type 0} (K : SchemeOf S) (p : Parameters) (s : S) (n :
   pub engine : K.engine_left s ≤ K.most_engine p
   pub merges : K.merges_left s ≤ K.most_merges p
   pub promotions : K.promotions_left s ≤ K.most_promotions p
-  pub owed : (K.holding s n).owed ≤ K.most_owed p
+  pub owed : owed_in K s n ≤ K.most_owed p
   pub free : K.free s ≤ K.most_free p
 
 -- memory as the committed checkpoint has it makes its state
@@ -66,9 +67,12 @@ pub record IsCommitted {S : Type 0} (K : SchemeOf S) (o : Origin) (count : ℕ) 
 
 -- what holds behind the boot, while the NVM is up
 pub record RunHolds {S : Type 0} (K : SchemeOf S) (o : Origin) (k : Marks) (s : S) (n : Device) : Type 0 where
+  pub of_geometry : K.is_of o.geometry s
   pub sized : length n.image ≡ K.blocks o.geometry
   pub safe : Safe K.decode o (Some k.done) (doubt_in k) n
-  pub way : K.under_way s ≡ is_some k.sealed
+  -- a checkpoint is under way while an epoch is sealed, or while what it has written is applied, and never both
+  pub way : K.under_way s ≡ (is_some k.sealed || K.applies s)
+  pub apart : K.applies s ≡ true → k.sealed ≡ None
   pub memory : length (K.holding s n).blocks ≡ memory_blocks o.geometry
   pub ready : K.promoting s ≡ false → (K.holding s n).ready ≡ true
   pub overlays : K.overlaid s ≡ false → K.merges_left s ≡ 0
@@ -80,17 +84,19 @@ pub record RunHolds {S : Type 0} (K : SchemeOf S) (o : Origin) (k : Marks) (s : 
   -- a write of the NVM lands
   pub drained_sound : 0 < length n.queue → K.is_sound o k s (drained n)
   pub drained_keeps : 0 < length n.queue → Keeps K s n s (drained n)
+  pub drained_owes : 0 < length n.queue → OwesNoMore K s n s (drained n)
 
 -- the hart may store: no checkpoint is under way, or it may run beside it
 abbrev pub is_free_to_run : {S : Type 0} → SchemeOf S → S → Bool
 is_free_to_run K s = K.overlaps || not (K.under_way s)
 
--- loads and stores keep the checkpoints, and bring the engine no more to do
+-- loads and stores keep the checkpoints, and bring the engine no more to do and the next commit no more to add
 pub record StaysSound {S : Type 0} (K : SchemeOf S) (o : Origin) (k : Marks) (s : S) (t : S) (new : Device) : Type 0 where
   pub sound : new.down ≡ false → K.is_sound o k t new
   pub safe : Safe K.decode o (Some k.done) (doubt_in k) new
   pub way : K.under_way t ≡ K.under_way s
   pub engine : K.engine_left t ≤ K.engine_left s
+  pub owed_later : K.owed_later t ≤ K.owed_later s
   pub lean : K.lean t ≡ K.lean s
 
 pub record IsLawful {S : Type 0} (K : SchemeOf S) : Type 0 where
@@ -116,5 +122,6 @@ pub record IsLawful {S : Type 0} (K : SchemeOf S) : Type 0 where
   pub stays_same : (s : S) (n : Device) → K.stays s n s n
   pub stays_on : (a : S) (m : Device) (b : S) (n : Device) (c : S) (o : Device)
       → K.stays a m b n → K.stays b n c o → K.stays a m c o
+  pub stays_of : (s : S) (n : Device) (t : S) (new : Device) → K.stays s n t new → StaysOf K s t
   pub stays_sound : (o : Origin) (k : Marks) (s : S) (n : Device) (t : S) (new : Device)
       → Stands K o k s n → is_free_to_run K s ≡ true → K.stays s n t new → StaysSound K o k s t new

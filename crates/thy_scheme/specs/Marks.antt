@@ -25,3 +25,8 @@ abbrev pub marks_after : EngineStep → Marks → Marks
 marks_after CommitWritten k = record k { written = true }
 marks_after (Committed epoch) k = only (unwrap_or k.sealed k.done)
 marks_after step k = k
+
+-- after one that failed, what a cut may leave is as if the commit block's write was made
+abbrev pub marks_after_fault : EngineStep → Marks → Marks
+marks_after_fault CommitWritten k = record k { written = true }
+marks_after_fault step k = k

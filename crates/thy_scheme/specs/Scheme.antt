@@ -25,8 +25,10 @@ pub record SchemeOf (S : Type 0) : Type 1 where
   pub committed : S → Device → List Block
   -- what loads and stores keep, those that fail too, over any number of them
   pub stays : S → Device → S → Device → Type 0
-  -- a checkpoint is under way
+  -- a checkpoint is under way: an epoch is sealed, or what its checkpoint has written is applied
   pub under_way : S → Bool
+  -- what a committed checkpoint has written is still to be applied
+  pub applies : S → Bool
   -- a block has still to be merged into its page before a seal
   pub overlaid : S → Bool
   -- a block of a page has still to be promoted before a store
@@ -37,11 +39,14 @@ pub record SchemeOf (S : Type 0) : Type 1 where
   pub lean : S → Bool
   -- the hart may run while a checkpoint is under way
   pub overlaps : Bool
-  -- what the DRAM holds
+  -- what the DRAM holds, and the scheme is of a geometry, whatever failed: the DRAM has its size
   pub dram : S → Contents
+  pub is_of : Parameters → S → Type 0
   -- how many writes are queued in it, and how many table entries are free
   pub queued : S → ℕ
   pub free : S → ℕ
+  -- copies that the next commit may add to those that are owed
+  pub owed_later : S → ℕ
   -- behind the boot: scheme and NVM have the checkpoints of these marks
   pub is_sound : Origin → Marks → S → Device → Type 0
   -- in the boot: scheme and NVM have the checkpoint that is found, or load the program
@@ -58,9 +63,13 @@ pub record SchemeOf (S : Type 0) : Type 1 where
   pub most_engine : Parameters → ℕ
   pub most_merges : Parameters → ℕ
   pub most_promotions : Parameters → ℕ
-  -- the most copies that may be owed, and the most entries
+  -- the most copies that may be owed, with those that a commit may add, and the most entries
   pub most_owed : Parameters → ℕ
   pub most_free : Parameters → ℕ
+
+-- it stays one of its geometry
+abbrev pub StaysOf : {S : Type 0} → SchemeOf S → S → S → Type 0
+StaysOf K s t = (p : Parameters) → K.is_of p s → K.is_of p t
 
 -- behind the boot, over an NVM that is up
 pub record Stands {S : Type 0} (K : SchemeOf S) (o : Origin) (k : Marks) (s : S) (n : Device) : Type 0 where

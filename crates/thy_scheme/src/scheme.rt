@@ -1,5 +1,6 @@
 //! What a scheme of checkpoints is to the machine above it.
 ghost use Rattle.std.specs.Prelude.{◌≡◌, ◌&&◌, ◌<◌, true, false, length, IfOk, OnOk, OnErr};
+ghost use Rattle.thy_base.specs.declared.config.Parameters.{Parameters};
 ghost use Rattle.thy_base.specs.Device.{Device, HasFailed, IsFramed, CountsFault, block_at};
 ghost use Rattle.thy_base.specs.Store.{IsKeptByLoad};
 ghost use Rattle.thy_dram.specs.Contents.{lost};
@@ -7,7 +8,7 @@ ghost use Rattle.thy_view.specs.Kind.{IsDramOf};
 ghost use Rattle.thy_view.specs.Origin.{Origin, Begins};
 ghost use Rattle.thy_view.specs.Views.{loads};
 ghost use Rattle.thy_scheme.specs.Marks.{Marks};
-ghost use Rattle.thy_scheme.specs.Scheme.{SchemeOf, Stands, CanRun, IsBooting, CanBoot};
+ghost use Rattle.thy_scheme.specs.Scheme.{SchemeOf, StaysOf, Stands, CanRun, IsBooting, CanBoot};
 ghost use Rattle.thy_scheme.specs.Calls.{IsOneAccess, Stores, Merges, Promotes, PromotionFails, Drains, Seals, Engines, EngineFails};
 ghost use Rattle.thy_scheme.specs.Boots.{BootsOn, BootFails, BootDrains};
 ghost use Rattle.thy_scheme.specs.Laws.{IsLawful};
@@ -41,8 +42,7 @@ pub trait Scheme: Drop {
     /// Loses power: all is gone but the DRAM, whose bytes are those that the pick draws.
     fn cut(self, pick: u64) -> Dram
         ensures drawn { result ≡ lost (scheme.dram self) pick }
-        ensures running { (o : Origin) (k : Marks) (n : Device) → scheme.is_sound o k self n → IsDramOf o.geometry result }
-        ensures booting { (o : Origin) (n : Device) → scheme.boots o self n → IsDramOf o.geometry result };
+        ensures sized { (p : Parameters) → scheme.is_of p self → IsDramOf p result };
 
     /// Block `b` of memory. Nothing changes.
     fn load<N: Nvm>(&self, b: u64, nvm: &mut N) -> Result<Block, NvmError>
@@ -88,7 +88,7 @@ pub trait Scheme: Drop {
     fn promoting(&self) -> bool
         ensures { result ≡ scheme.promoting self.now };
 
-    /// Whether a checkpoint is under way.
+    /// Whether a checkpoint is under way: an epoch is sealed, or what its checkpoint has written is applied.
     fn under_way(&self) -> bool
         ensures { result ≡ scheme.under_way self.now };
 
@@ -119,6 +119,7 @@ pub trait Scheme: Drop {
         ensures ok { (o : Origin) (k : Marks) → Stands scheme o k self.old (N.device nvm.old)
             → OnOk result (Promotes scheme o k self.old (N.device nvm.old) self.new (N.device nvm.new)) }
         ensures err { OnErr result (PromotionFails (N.device nvm.old) (N.device nvm.new)) }
+        ensures left { OnErr result (StaysOf scheme self.old self.new) }
         ensures frame { IsFramed (N.device nvm.old) (N.device nvm.new) }
         ensures cause { CountsFault result (N.device nvm.old).faults (N.device nvm.new).faults };
 
@@ -139,6 +140,7 @@ pub trait Scheme: Drop {
             → IfOk result (λ step. Engines scheme o k step self.old (N.device nvm.old) self.new (N.device nvm.new)) }
         ensures err { (o : Origin) (k : Marks) → Stands scheme o k self.old (N.device nvm.old)
             → OnErr result (EngineFails scheme o k (N.device nvm.old) (N.device nvm.new)) }
+        ensures left { OnErr result (StaysOf scheme self.old self.new) }
         ensures frame { IsFramed (N.device nvm.old) (N.device nvm.new) }
         ensures cause { CountsFault result (N.device nvm.old).faults (N.device nvm.new).faults };
 
@@ -149,6 +151,7 @@ pub trait Scheme: Drop {
             → IfOk result (λ step. BootsOn scheme o step self.old (N.device nvm.old) self.new (N.device nvm.new)) }
         ensures err { (o : Origin) → Begins o start.now → IsBooting scheme o self.old (N.device nvm.old)
             → OnErr result (BootFails scheme o self.old (N.device nvm.old) (N.device nvm.new)) }
+        ensures left { OnErr result (StaysOf scheme self.old self.new) }
         ensures frame { IsFramed (N.device nvm.old) (N.device nvm.new) }
         ensures cause { CountsFault result (N.device nvm.old).faults (N.device nvm.new).faults };
 

@@ -205,9 +205,12 @@ fn an_image_is_refused_for_its_first_fault(rt: HostRuntime) -> Result<(), Fail> 
     Ok(())
 }
 
-/// Two words of the image with other values, with which it is accepted: statuses and a record at their bounds.
-static BOUNDS: [(usize, u64, usize, u64); 3] = [
+/// Two words of the image with other values, with which it is accepted: statuses, also of traps that no step
+/// takes, and a record at their bounds.
+static BOUNDS: [(usize, u64, usize, u64); 5] = [
     (SLOT + 36, 1, SLOT + 37, 255),
+    (SLOT + 36, 2, SLOT + 37, 4),
+    (SLOT + 36, 2, SLOT + 37, 6),
     (SLOT + 36, 2, SLOT + 37, 7),
     (SLOT + 32, CEILING - 1, SLOT + 34, 4096),
 ];

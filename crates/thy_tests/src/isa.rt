@@ -1,12 +1,12 @@
 //! What instructions do, against an assembler and an emulator that are not this project's.
 //!
-//! The tables are the output of `docs/vectors/instructions.py`: the words are from
-//! riscv64-unknown-elf-as, and what is expected is what qemu-riscv64 did. Its head says what a row
-//! means. The reserved words are those beside the rows of the table that
-//! riscv64-unknown-elf-objdump knows no instruction of RV64IM with FENCE.I for.
+//! The tables are the output of `tools/instructions`: the words are from riscv64-linux-gnu-as, and what
+//! is expected is what qemu-riscv64 did. Its help page says what a row means. The reserved words are
+//! those beside the rows of the table that riscv64-linux-gnu-objdump knows no instruction of RV64IM with
+//! FENCE.I for.
 
 use crate::expect::expect;
-use crate::isa_rows::{ANSWERS, BREAKS, EXITS, VECTORS};
+use crate::isa_rows::{ANSWERS, BREAKS, EXITS, LOADS, MEMORY, SOURCE, STORES, VECTORS};
 use thy_isa::{
     Alu, Call, CallState, Cause, Effect, Reg, Regs, Width, alu, bytes_in, call, decode, extended,
     number, word_effect,
@@ -32,30 +32,74 @@ fn outcome(word: u32, a: u64, b: u64) -> Option<u64> {
                 None
             }
         }
-        Effect::Read { width, extend, .. } => Some(extended(
-            width,
-            extend,
-            first(&b.to_le_bytes(), width),
-        )),
-        Effect::Write { width, value, .. } => {
-            let size = bytes_in(width) as usize;
-            let mut bytes = [0xaa; 8];
-            bytes[..size].copy_from_slice(&value.to_le_bytes()[..size]);
-            Some(first(&bytes, Width::Double))
-        }
         _ => None,
     }
-}
-
-fn first(bytes: &[u8; 8], width: Width) -> u64 {
-    let _size = bytes_in(width);
-    number(bytes, 0, width)
 }
 
 #[test]
 fn each_instruction_gives_what_an_emulator_gives(rt: HostRuntime) {
     for (word, a, b, expected) in &VECTORS {
         expect(&rt, outcome(*word, *a, *b), Some(*expected));
+    }
+}
+
+/// How many of the 16 bytes stand before an address, or None where fewer than eight come from it on.
+fn place(at: u64) -> Option<usize> {
+    let from = at.wrapping_sub(PC);
+    if from <= 8 { Some(from as usize) } else { None }
+}
+
+/// What a load gives at an address.
+fn loaded(word: u32, at: u64) -> Option<u64> {
+    let mut regs = Regs::new();
+    regs.set(Reg::new(5), at);
+    match word_effect(word, PC, &regs) {
+        Effect::Read {
+            at,
+            width,
+            extend,
+            ..
+        } => {
+            let _size = bytes_in(width);
+            let from = place(at)?;
+            Some(extended(width, extend, number(&MEMORY, from, width)))
+        }
+        _ => None,
+    }
+}
+
+/// What a store at an address leaves of 16 bytes which were all 0xaa, as two numbers.
+fn stored(word: u32, at: u64) -> Option<(u64, u64)> {
+    let mut regs = Regs::new();
+    regs.set(Reg::new(5), at);
+    regs.set(Reg::new(6), SOURCE);
+    match word_effect(word, PC, &regs) {
+        Effect::Write {
+            at,
+            width,
+            value,
+            ..
+        } => {
+            let size = bytes_in(width) as usize;
+            let from = place(at)?;
+            let mut bytes = [0xaa; 16];
+            bytes[from..from + size].copy_from_slice(&value.to_le_bytes()[..size]);
+            Some((
+                number(&bytes, 0, Width::Double),
+                number(&bytes, 8, Width::Double),
+            ))
+        }
+        _ => None,
+    }
+}
+
+#[test]
+fn loads_and_stores_at_any_address_move_what_an_emulator_moves(rt: HostRuntime) {
+    for (word, at, expected) in &LOADS {
+        expect(&rt, loaded(*word, PC + *at % 16), Some(*expected));
+    }
+    for (word, at, low, high) in &STORES {
+        expect(&rt, stored(*word, PC + *at % 16), Some((*low, *high)));
     }
 }
 

@@ -33,9 +33,9 @@ impl Model for Memory {
 
     ghost Value = { Parts };
 
-    ghost view = { λ m. record { p = m.geometry; control = m.control; engine = m.engine; nvm = m.nvm; cuts = m.cuts } };
+    ghost view = { λ m. record { p = m.geometry; control = m.control; engine = m.engine; nvm = m.nvm.device; cuts = m.cuts } };
 
-    ghost invariant = { λ m. IsMemory (record { p = m.geometry; control = m.control; engine = m.engine; nvm = m.nvm; cuts = m.cuts }) };
+    ghost invariant = { λ m. IsMemory (record { p = m.geometry; control = m.control; engine = m.engine; nvm = m.nvm.device; cuts = m.cuts }) };
 }
 
 /// Epochs and counts are below this.
@@ -60,9 +60,9 @@ pub(crate) fn cpu_at(count: u64) -> CpuState
 /// An NVM that holds the header of a geometry, and else zeros.
 fn with_header(rt: &impl Abort, alloc: Global, geometry: &Geometry, cuts: u64) -> MemNvm
     requires least { geometry.now.pages ≡ 8 }
-    ensures sized { length result.image ≡ image_blocks geometry.now }
-    ensures up { result.down ≡ false }
-    ensures room { HasRoom result cuts }
+    ensures sized { length result.device.image ≡ image_blocks geometry.now }
+    ensures up { result.device.down ≡ false }
+    ensures room { HasRoom result.device cuts }
 {
     let shape = Shape {
         blocks: geometry.blocks(),
@@ -98,9 +98,9 @@ impl Memory {
     /// A boot has filled this controller: an engine with no checkpoint under way stands beside it.
     pub(crate) fn booted(geometry: Geometry, control: Control, nvm: MemNvm, cuts: u64) -> Memory
         requires same_p { control.p ≡ geometry }
-        requires drives { Drives control nvm }
+        requires drives { Drives control nvm.device }
         requires idle { control.under_way ≡ false }
-        requires room { HasRoom nvm cuts }
+        requires room { HasRoom nvm.device cuts }
     {
         let engine = Engine::new(&geometry);
         engine_and_controller_fit();

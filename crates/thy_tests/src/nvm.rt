@@ -1,5 +1,9 @@
-//! The simulated NVM, and what a cut leaves of its queue.
+//! The simulated NVM, what a cut leaves of its queue, and a device that is lent.
+ghost use Rattle.std.specs.Prelude.{◌≡◌, ◌<◌, false, length};
+ghost use Rattle.thy_base.specs.Device.{IsFramed};
+
 use crate::expect::expect;
+use std::process::Abort;
 use thy_base::{Block, Nvm, Shape};
 use thy_nvm::MemNvm;
 
@@ -24,4 +28,33 @@ fn a_pick_leaves_its_image(rt: HostRuntime) {
     expect(&rt, nvm.kept(0, 0), Block([3; 64]));
     expect(&rt, nvm.kept(0, 1), Block::ZERO);
     expect(&rt, nvm.kept(0, 2), Block([5; 64]));
+}
+
+/// Writes a block of ones at place 0 of any device, and lets it land.
+fn write_first<N: Nvm>(rt: &impl Abort, nvm: &mut N)
+    requires some { 0 < length (N.device nvm.old).image }
+    requires up { (N.device nvm.old).down ≡ false }
+    ensures up { (N.device nvm.new).down ≡ false }
+    ensures frame { IsFramed (N.device nvm.old) (N.device nvm.new) }
+{
+    nvm.write(0, &Block([1; 64])).expect(rt, "a write");
+    nvm.barrier().expect(rt, "a barrier");
+}
+
+// That the device can be read afterwards follows from the name of the loan, which the call keeps.
+#[test]
+#[tactic(auto, using(thy_base::proofs::LoanLemmas::same_loan, thy_base::proofs::LoanLemmas::framed_within))]
+fn what_is_written_through_a_loan_stands_in_the_device(rt: HostRuntime) {
+    let shape = Shape {
+        blocks: 3,
+        queue: 4,
+        cuts: 0,
+    };
+    let mut nvm = MemNvm::new(rt.alloc());
+    nvm.fit(rt.alloc(), &shape, &[]).expect(&rt, "memory");
+    let mut loan = &mut nvm;
+    write_first(&rt, &mut loan);
+    expect(&rt, nvm.queued(), 0);
+    expect(&rt, nvm.writes(), 1);
+    expect(&rt, nvm.read(0).expect(&rt, "a read"), Block([1; 64]));
 }

@@ -5,11 +5,10 @@ use crate::expect::{expect, expect_at};
 use crate::geometry::geometry_of;
 use std::alloc::Global;
 use std::process::Abort;
-use thy_base::{Block, Geometry, Parameters};
+use thy_base::{Block, Geometry, Parameters, word};
 use thy_isa::{CpuState, Reg, Regs, Status};
 use thy_record::{
-    BadImage, commit_block, commit_fault, cpu_block, cpu_state, header_block, header_fault,
-    is_zero, word,
+    BadImage, commit_block, commit_fault, cpu_block, cpu_state, header_block, header_fault, is_zero,
 };
 
 /// Numbers of a machine with 256 pages, one of them the console's.

@@ -33,9 +33,9 @@ impl Model for Off {
 
     ghost Value = { IsValue };
 
-    ghost view = { λ m. record { p = m.geometry; dram = m.dram; nvm = m.nvm; cuts = m.cuts } };
+    ghost view = { λ m. record { p = m.geometry; dram = m.dram; nvm = m.nvm.device; cuts = m.cuts } };
 
-    ghost invariant = { λ m. IsOff (record { p = m.geometry; dram = m.dram; nvm = m.nvm; cuts = m.cuts }) };
+    ghost invariant = { λ m. IsOff (record { p = m.geometry; dram = m.dram; nvm = m.nvm.device; cuts = m.cuts }) };
 }
 
 /// Stops the test unless a geometry is of seven pages of a program and one of the console.
@@ -124,9 +124,9 @@ impl Model for Starting {
 
     ghost Value = { IsValue };
 
-    ghost view = { λ m. starting m.geometry (state_of m.start.state) m.boot m.control m.nvm m.cuts };
+    ghost view = { λ m. starting m.geometry (state_of m.start.state) m.boot m.control m.nvm.device m.cuts };
 
-    ghost invariant = { λ m. IsStarting (starting m.geometry (state_of m.start.state) m.boot m.control m.nvm m.cuts) };
+    ghost invariant = { λ m. IsStarting (starting m.geometry (state_of m.start.state) m.boot m.control m.nvm.device m.cuts) };
 }
 
 /// What a step of a boot makes of the machine.

@@ -1,9 +1,11 @@
 -- What a cycle asks of the device, and what that leaves.
-use Rattle.std.specs.Prelude.{◌≡◌, ◌≢◌, ℕ}
+use Rattle.std.specs.Prelude.{◌≡◌, ◌≢◌, ℕ, ◌==◌, ◌||◌, Bool, false, if◌then◌else◌, Option, None}
 use Rattle.thy_base.specs.declared.block.Block.{Block}
+use Rattle.thy_base.specs.declared.mark.Mark.{Mark}
 use Rattle.thy_record.specs.declared.engine_step.EngineStep.TheVariants.{Barrier as EngineBarrier, CommitWritten}
 use Rattle.thy_view.specs.declared.did.Did.{Did}
 use Rattle.thy_view.specs.declared.did.Did.TheVariants.{Boot, Loaded, Restarted, Refused, Moved, Flushed, Promoted, Engine, Committed, NvmDrained}
+use Rattle.thy_view.specs.declared.view.View.{View}
 use Rattle.thy_base.specs.Device.{Device, written_to, settled, drained, HasFailed, HasFailedToWrite}
 
 pub data Action : Type 0 where
@@ -73,3 +75,13 @@ pub record ActionFailed (did : Did) (n new : Device) : Type 0 where
   pub action : Action
   pub asked : Asks did action
   pub failed : FailsTo action n new
+
+-- it writes the commit block
+abbrev pub is_commit_write : Action → Bool
+is_commit_write (WriteAt place block) = place == 1
+is_commit_write action = false
+
+-- The mark that a cut may leave besides the one done, after an action that failed: the sealed one, if the action was the
+-- commit block's write, or that block was written before and no barrier has come since.
+abbrev pub doubt_after_fault : Action → View → Option Mark
+doubt_after_fault action v = if is_commit_write action || v.written then v.sealed else None

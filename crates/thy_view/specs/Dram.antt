@@ -1,7 +1,7 @@
--- What a cycle makes of the DRAM.
+-- What a cycle makes of the DRAM, and which block it writes, of either device.
 use Rattle.std.specs.Prelude.{◌≡◌, ◌⊎◌, ℕ}
 use Rattle.thy_base.specs.declared.block.Block.{Block}
-use Rattle.thy_base.specs.Device.{Device}
+use Rattle.thy_base.specs.Device.{Device, written_to}
 use Rattle.thy_dram.specs.Contents.{Contents, written, drained}
 use Rattle.thy_view.specs.declared.did.Did.{Did}
 use Rattle.thy_view.specs.declared.did.Did.TheVariants.{DramDrained}
@@ -12,6 +12,16 @@ pub record WritesDram (n new : Device) (old now : Contents) : Type 0 where
   pub block : Block
   pub left : now ≡ written old at block
   pub nvm : new ≡ n
+
+-- one block of the NVM was written
+pub record WritesNvm (n new : Device) : Type 0 where
+  pub at : ℕ
+  pub block : Block
+  pub left : new ≡ written_to n at block
+
+-- one block was written, of the NVM or of the DRAM
+abbrev pub WritesBlock : Device → Device → Contents → Contents → Type 0
+WritesBlock n new old now = WritesNvm n new ⊎ WritesDram n new old now
 
 -- it is as before, or so: of both devices one has one write more at most
 abbrev pub ActsOnDram : Device → Device → Contents → Contents → Type 0

@@ -1,5 +1,5 @@
 -- What a machine is to the layers above: what is seen of it, what its calls promise, and the laws that hold of it.
-use Rattle.std.specs.Prelude.{◌≡◌, ℕ, ◌+◌, ◌*◌, ◌^◌, ◌<◌, ◌≤◌, ◌&&◌, Bool, true, false, List, [], length, drop, Option, Some, Result, IfOk, OnErr}
+use Rattle.std.specs.Prelude.{◌≡◌, ℕ, ◌+◌, ◌*◌, ◌^◌, ◌<◌, ◌≤◌, ◌&&◌, ◌||◌, not, is_some, Bool, true, false, List, [], length, drop, Option, Some, None, Result, IfOk, OnErr, ◌⊎◌, Err}
 use Rattle.thy_base.specs.declared.block.Block.{Block}
 use Rattle.thy_base.specs.declared.config.Parameters.{Parameters}
 use Rattle.thy_base.specs.declared.mix.Pick.{Pick}
@@ -13,7 +13,7 @@ use Rattle.thy_base.specs.Device.{Device, Crash, HasFailed, cut_to, fitted}
 use Rattle.thy_base.specs.Places.{dram_blocks}
 use Rattle.thy_dram.specs.Contents.{Contents}
 use Rattle.thy_isa.specs.declared.state.MachState.{MachState}
-use Rattle.thy_isa.specs.Step.{state_of}
+use Rattle.thy_isa.specs.Step.{State, state_of}
 use Rattle.thy_flat.specs.Flat.{AllLong}
 use Rattle.thy_record.specs.Decoded.{Reading, Nothing}
 use Rattle.thy_record.specs.declared.start.Start.{Start}
@@ -29,11 +29,13 @@ use Rattle.thy_view.specs.Booting.{view_of_image, found_first, first_view}
 use Rattle.thy_view.specs.CoreStep.{CoreStep}
 use Rattle.thy_view.specs.Origin.{Origin, IsOrigin, Begins, at}
 use Rattle.thy_view.specs.Safe.{ceiling, Safe}
-use Rattle.thy_view.specs.Action.{Acts, ActionFailed}
+use Rattle.thy_view.specs.Action.{Acts, ActionFailed, doubt_after_fault}
 use Rattle.thy_view.specs.Dram.{LeavesDram}
 use Rattle.thy_view.specs.Pace.{Gauge, retires, KeepsPace}
+use Rattle.thy_view.specs.Stores.{needs_at}
 use Rattle.thy_view.specs.Turn.{Turn, Shortage, Pressure, over_by}
 use Rattle.thy_view.specs.Views.{is_boot, is_between, is_halt, halts, loads, doubt_of}
+use Rattle.thy_view.specs.Work.{Works, IsWithin}
 
 -- what is seen of machines of a type
 pub record KindOf (M : Type 0) : Type 1 where
@@ -46,10 +48,16 @@ pub record KindOf (M : Type 0) : Type 1 where
   -- after so many cycles of a run, cuts of power among them, machine and device are at one of its moments
   pub is_at : Origin → ℕ → M → Device → Type 0
   pub view : Origin → M → Device → View
+  -- after a step of a run that failed, before which this was the view
+  pub has_failed : Origin → View → M → Type 0
+  -- a step has failed since power came on
+  pub failed : M → Bool
   -- the boot has read the commit block
   pub has_read : M → Bool
   -- what the DRAM holds
   pub dram : M → Contents
+  -- the hart may run while a checkpoint is under way
+  pub overlaps : Bool
   pub pressure : M → Pressure
   pub gauge : M → Device → Gauge
   -- cycles that are left until the next instruction, or the end, at the most
@@ -57,6 +65,9 @@ pub record KindOf (M : Type 0) : Type 1 where
   -- an epoch spends less than this many cycles of hart and engine, and a boot has at most so many actions
   pub most_spent : Parameters → ℕ
   pub most_booting : Parameters → ℕ
+  -- the most copies that may be owed, and blocks that may have to be promoted
+  pub most_owed : Parameters → ℕ
+  pub most_promotions : Parameters → ℕ
   -- what lies ahead when power comes on, and what an instruction adds, at the most
   pub most_boot : Parameters → ℕ
   pub most_each : Parameters → ℕ
@@ -83,11 +94,21 @@ pub record CanRead {M : Type 0} (K : KindOf M) (m : M) (n : Device) : Type 0 whe
   pub cycles : ℕ
   pub at_moment : K.is_at o cycles m n
 
+-- a step of it has failed
+pub record HasStopped {M : Type 0} (K : KindOf M) (m : M) : Type 0 where
+  pub o : Origin
+  pub before : View
+  pub failed : K.has_failed o before m
+
+-- a snapshot of it may be taken: at a moment of a run, or after a step that failed, whatever the device is then
+abbrev pub CanSnapshot : {M : Type 0} → KindOf M → M → Device → Type 0
+CanSnapshot K m n = CanRead K m n ⊎ HasStopped K m
+
 -- A step that succeeded leads to the next moment of the run, by a step of the view, and was its pick's turn. Whatever
 -- a power cut then leaves is the committed checkpoint, whole, or the one in doubt. A step that finds an empty queue, as
 -- the boot's first does, reads the commit block where that is still to be read. It acts on the device once, or reads it
--- and writes one block of the DRAM, keeps within the bounds, and is a cycle nearer to the next instruction. In a boot that
--- found a checkpoint it leaves the device as it was.
+-- and writes one block of the DRAM, keeps within the bounds, is a cycle nearer to the next instruction, and gets done what it
+-- says that it did. In a boot that found a checkpoint it leaves the device as it was.
 pub record IsStep {M : Type 0} (K : KindOf M) (o : Origin) (k : ℕ) (pick : Pick) (m next : M) (n new : Device) (r : Stepped) : Type 0 where
   pub at_next : K.is_at o (k + 1) next new
   pub step : CoreStep o (K.view o m n) r.did (K.view o next new)
@@ -95,6 +116,7 @@ pub record IsStep {M : Type 0} (K : KindOf M) (o : Origin) (k : ℕ) (pick : Pic
   pub acts : Acts r.did n new
   pub dram : LeavesDram r.did n new (K.dram m) (K.dram next)
   pub pace : KeepsPace (K.most_spent o.geometry) (K.view o m n) (K.view o next new) r.did (K.gauge m n) (K.gauge next new)
+  pub works : Works r.did (K.gauge m n) (K.gauge next new) n new (K.dram m) (K.dram next)
   pub nears : is_halt (K.view o m n).phase ≡ false → K.ahead o next new + 1 ≤ K.ahead o m n + K.most_each o.geometry * retires r.did
   pub exhausts : r.did ≡ Moved → (K.view o next new).over ≡ over_by (K.pressure m).short
   pub ended : r.ended ≡ halts (K.view o m n) (K.view o next new)
@@ -112,10 +134,13 @@ pub record CycleFailed {M : Type 0} (K : KindOf M) (o : Origin) (pick : Pick) (m
   pub failed : ActionFailed did n new
   pub still : (found : Mark) → (K.view o m n).phase ≡ Boot → (K.view o m n).done ≡ Some found → HasFailed n new
 
--- a step that failed leaves what the action of its turn may leave: the committed checkpoint, whole, or the sealed one
-pub record LeavesSafe {M : Type 0} (K : KindOf M) (o : Origin) (pick : Pick) (m : M) (n new : Device) : Type 0 where
-  pub safe : Safe K.decode o (K.view o m n).done (K.view o m n).sealed new
+-- A step that failed leaves what the action of its turn may leave: the committed checkpoint, whole, or the one in doubt. The
+-- sealed one is in doubt only if the action was the commit block's write, or that block was written before.
+pub record LeavesSafe {M : Type 0} (K : KindOf M) (o : Origin) (pick : Pick) (m next : M) (n new : Device) : Type 0 where
   pub acted : CycleFailed K o pick m n new
+  pub safe : Safe K.decode o (K.view o m n).done (doubt_after_fault acted.failed.action (K.view o m n)) new
+  -- and a machine of which power can be cut, and a snapshot taken
+  pub stopped : K.has_failed o (K.view o m n) next
 
 -- from any moment of any run with this start, a step that succeeded is one
 abbrev pub LeadsOn : {M : Type 0} → KindOf M → Start → Pick → M → M → Device → Device → Result Stepped NvmError → Type 0
@@ -124,9 +149,9 @@ LeadsOn K start pick m next n new result =
     → IfOk result (λ r. IsStep K o k pick m next n new r)
 
 -- and one that failed leaves what its action may leave
-abbrev pub FailsSafe : {M : Type 0} → KindOf M → Start → Pick → M → Device → Device → Result Stepped NvmError → Type 0
-FailsSafe K start pick m n new result =
-    (o : Origin) (k : ℕ) → Begins o start → K.is_at o k m n → OnErr result (LeavesSafe K o pick m n new)
+abbrev pub FailsSafe : {M : Type 0} → KindOf M → Start → Pick → M → M → Device → Device → Result Stepped NvmError → Type 0
+FailsSafe K start pick m next n new result =
+    (o : Origin) (k : ℕ) → Begins o start → K.is_at o k m n → OnErr result (LeavesSafe K o pick m next n new)
 
 -- a state is the plain machine's at a view's count
 pub record IsSnapshot (o : Origin) (v : View) (s : MachState) : Type 0 where
@@ -139,11 +164,35 @@ Snapshots K m n result =
     (o : Origin) (k : ℕ) → K.is_at o k m n → is_between (K.view o m n) ≡ true
     → IfOk result (λ s. IsSnapshot o (K.view o m n) s)
 
+-- a state without its memory and its console: the processor's part
+abbrev pub without_memory : State → State
+without_memory s = record s { memory = []; console = [] }
+
+-- a state is a processor's part alone: once the boot is over the plain machine's at the view's count, also while an
+-- instruction is in hand
+pub record IsProcessor (o : Origin) (before : View) (s : MachState) : Type 0 where
+  pub bare : state_of s ≡ without_memory (state_of s)
+  pub processor : is_boot before.phase ≡ false → state_of s ≡ without_memory (at o before.count)
+
+-- after a step that failed, what is answered is such a state
+abbrev pub SnapshotsStopped : {M : Type 0} → KindOf M → M → Result MachState CoreError → Type 0
+SnapshotsStopped K m result = (o : Origin) (before : View) → K.has_failed o before m → IfOk result (IsProcessor o before)
+
 -- at a moment behind the boot, what was read is the console of the committed checkpoint from a byte on
 abbrev pub ShowsConsole : {M : Type 0} → KindOf M → ℕ → M → Device → Result Bytes CoreError → Type 0
 ShowsConsole K from m n result =
     (o : Origin) (k : ℕ) (done : Mark) → K.is_at o k m n → is_boot (K.view o m n).phase ≡ false
     → (K.view o m n).done ≡ Some done → IfOk result (λ b. bytes_of b ≡ drop from (at o done.count).console)
+
+-- the device was left alone, and no fault of it is told
+abbrev pub ReadsNothing : {T : Type 0} → Device → Device → Result T CoreError → Type 0
+ReadsNothing n new result = (new ≡ n) × (result ≡ Err Nvm → ⊥)
+
+-- at a moment behind the boot, where that console has no byte from there on
+abbrev pub LeavesAlonePast : {M : Type 0} → KindOf M → ℕ → M → Device → Device → Result Bytes CoreError → Type 0
+LeavesAlonePast K from m n new result =
+    (o : Origin) (k : ℕ) (done : Mark) → K.is_at o k m n → is_boot (K.view o m n).phase ≡ false
+    → (K.view o m n).done ≡ Some done → length (at o done.count).console ≤ from → ReadsNothing n new result
 
 -- at a moment, whether the boot goes on and has found no checkpoint
 abbrev pub TellsLoading : {M : Type 0} → KindOf M → M → Bool → Type 0
@@ -170,6 +219,19 @@ pub record IsPoweredOn {M : Type 0} (K : KindOf M) (o : Origin) (m : M) (n : Dev
   pub boot_left : (K.gauge m n).boot_left ≤ K.most_booting o.geometry
   pub ahead : K.ahead o m n ≤ K.most_boot o.geometry
 
+-- a checkpoint is under way while a mark is sealed, or while the scheme applies what one has written, and never both
+pub record IsUnderWay (sealed : Option Mark) (p : Pressure) : Type 0 where
+  pub way : p.under_way ≡ (is_some sealed || p.applies)
+  pub apart : p.applies ≡ true → sealed ≡ None
+
+-- a shortage is real: fewer entries are free than the dirty lines and the blocks need that the plain machine's next instruction
+-- stores to
+pub record IsShortage (o : Origin) (v : View) (g : Gauge) (s : Shortage) : Type 0 where
+  pub free : s.free ≡ g.free
+  pub dirty : s.dirty ≡ g.dirty
+  pub need : s.need ≡ needs_at o v.count
+  pub short : s.free < s.dirty + s.need
+
 -- what holds of every machine of a type
 pub record IsLawful {M : Type 0} (K : KindOf M) : Type 0 where
   -- power can come on
@@ -188,14 +250,26 @@ pub record IsLawful {M : Type 0} (K : KindOf M) : Type 0 where
   -- when power comes on nothing is queued, and what lies ahead is bounded
   pub powered_on : (o : Origin) (k : ℕ) (m : M) (n : Device)
       → K.is_at o k m n → K.powered o.geometry m → n.queue ≡ [] → IsPoweredOn K o m n
+  -- at a moment no step has failed
+  pub unfailed : (o : Origin) (k : ℕ) (m : M) (n : Device) → K.is_at o k m n → K.failed m ≡ false
+  -- after a step that failed one has
+  pub tells_failure : (o : Origin) (before : View) (m : M) → K.has_failed o before m → K.failed m ≡ true
   -- something lies ahead at every moment
   pub some_ahead : (o : Origin) (k : ℕ) (m : M) (n : Device) → K.is_at o k m n → 1 ≤ K.ahead o m n
   -- the gauge counts what is queued in the NVM and in the DRAM
   pub counts_queues : (m : M) (n : Device) → (K.gauge m n).queued ≡ length n.queue + (K.pressure m).dram
   pub counts_dram : (m : M) → (K.pressure m).dram ≡ (K.dram m).queued
-  -- an instruction that is short of entries is short of those that the gauge tells
-  pub short_of : (m : M) (n : Device) (s : Shortage)
-      → (K.pressure m).short ≡ Some s → (s.free ≡ (K.gauge m n).free) × (s.dirty ≡ (K.gauge m n).dirty)
+  -- a shortage is a real one
+  pub short_of : (o : Origin) (k : ℕ) (m : M) (n : Device) (s : Shortage)
+      → K.is_at o k m n → (K.pressure m).short ≡ Some s → IsShortage o (K.view o m n) (K.gauge m n) s
+  -- after the boot, a checkpoint is under way exactly while a mark is sealed or what one has written is applied
+  pub under_way : (o : Origin) (k : ℕ) (m : M) (n : Device)
+      → K.is_at o k m n → is_boot (K.view o m n).phase ≡ false → IsUnderWay (K.view o m n).sealed (K.pressure m)
+  -- the hart is barred exactly while one is under way and may not run beside it
+  pub barred : (m : M) → (K.pressure m).barred ≡ ((K.pressure m).under_way && not K.overlaps)
+  -- little is left of an instruction, to be copied and to be promoted
+  pub few_left : (o : Origin) (k : ℕ) (m : M) (n : Device)
+      → K.is_at o k m n → IsWithin (K.most_owed o.geometry) (K.most_promotions o.geometry) (K.gauge m n)
   -- whatever a power cut leaves at a moment is the committed checkpoint, whole, or the one in doubt
   pub is_safe : (o : Origin) (k : ℕ) (m : M) (n : Device)
       → K.is_at o k m n → Safe K.decode o (K.view o m n).done (doubt_of (K.view o m n)) n

@@ -6,5 +6,7 @@ pub mod Safe
 pub mod Action
 pub mod Dram
 pub mod Pace
+pub mod Work
+pub mod Stores
 pub mod Booting
 pub mod Kind

@@ -16,6 +16,12 @@ pub record Gauge : Type 0 where
   pub free : ℕ
   -- lines of the cache that are dirty, and entries that the instruction in hand has reserved
   pub dirty : ℕ
+  -- moves that the instruction in hand, or else the next one, has left in the epoch that executes
+  pub moves : ℕ
+  -- copies that may have to go before stores, those that the next commit may add, and blocks that are to be promoted
+  pub owed : ℕ
+  pub owed_later : ℕ
+  pub promotions : ℕ
 
 -- a cycle drained a queue
 abbrev pub is_drained : Did → Bool

@@ -35,6 +35,11 @@ pub record Shortage : Type 0 where
 pub record Pressure : Type 0 where
   -- writes queued in the DRAM
   pub dram : ℕ
+  -- the engine has something to do: a checkpoint is sealed, or the scheme applies what one has written
+  pub under_way : Bool
+  pub applies : Bool
+  -- and meanwhile the hart may not run
+  pub barred : Bool
   -- what the instruction in hand is short of, if it is
   pub short : Option Shortage
   -- a block of a page is still to be promoted
@@ -44,19 +49,15 @@ pub record Pressure : Type 0 where
   -- a block is still to be merged into its page
   pub overlaid : Bool
 
--- a checkpoint is under way
-abbrev pub is_under_way : View → Bool
-is_under_way v = is_some v.sealed
-
 -- the state at a mark has ended
 abbrev pub has_stopped : Origin → Option Mark → Bool
 has_stopped o None = false
 has_stopped o (Some m) = not (runs_at o m.count)
 
--- The hart waits for a checkpoint under way: its own epoch is over, or it is short of entries, or the program has ended
--- and there is nothing to promote.
+-- The hart waits for a checkpoint under way: it may not run beside it, or its own epoch is over, or it is short of entries, or
+-- the program has ended and there is nothing to promote. So an epoch is sealed only while none is under way.
 abbrev pub waits : Origin → View → Pressure → Bool
-waits o v p = is_under_way v && (is_some v.over || is_some p.short || (has_stopped o v.sealed && not p.promotes))
+waits o v p = p.under_way && (p.barred || is_some v.over || is_some p.short || (has_stopped o v.sealed && not p.promotes))
 
 -- the first stall that holds
 abbrev pub stall_in : Origin → Phase → View → Pressure → Option Stall
@@ -70,7 +71,7 @@ hart_turn o v p = TheHart (stall_in o v.phase v p)
 
 -- the engine acts where a checkpoint is under way
 abbrev pub engine_turn : Origin → Phase → View → Pressure → Actor
-engine_turn o Run v p = if is_under_way v then Checkpoint else hart_turn o v p
+engine_turn o Run v p = if p.under_way then Checkpoint else hart_turn o v p
 engine_turn o phase v p = hart_turn o v p
 
 -- whose turn a pick is, where so many writes are queued in the NVM

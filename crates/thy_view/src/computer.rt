@@ -2,8 +2,9 @@
 ghost use Rattle.std.specs.Prelude.{◌≡◌, ◌<◌, ℕ, IfOk, IfErr, OnOk};
 ghost use Rattle.thy_base.specs.Device.{Device, IsFramed, CountsFault};
 ghost use Rattle.thy_dram.specs.Contents.{lost};
-ghost use Rattle.thy_view.specs.Kind.{KindOf, IsLawful, CanStep, CanRead, IsDramOf, LeadsOn, FailsSafe, Snapshots, ShowsConsole, TellsLoading, HasFailedToRead};
+ghost use Rattle.thy_view.specs.Kind.{KindOf, IsLawful, CanStep, CanRead, CanSnapshot, IsDramOf, LeadsOn, FailsSafe, Snapshots, SnapshotsStopped, ShowsConsole, LeavesAlonePast, TellsLoading, HasFailedToRead};
 ghost use Rattle.thy_view.specs.Origin.{Origin};
+ghost use Rattle.thy_view.specs.declared.view.View.{View};
 
 use crate::{CoreError, Stepped};
 use std::alloc::{AllocError, Global};
@@ -33,34 +34,41 @@ pub trait Computer: Drop {
 
     /// One cycle: the pick's, or where its actor has nothing to do the hart's. Takes no memory.
     ///
-    /// After an error the device may hold what the failed call left, and the machine is asked for nothing more but
-    /// its DRAM.
+    /// After an error the device may hold what the failed call left, and the machine is asked for `failed`, `snapshot`
+    /// and `cut` alone.
     fn step<N: Nvm>(&mut self, pick: Pick, start: &Start, nvm: &mut N) -> Result<Stepped, NvmError>
         requires { CanStep kind start.now self.old (N.device nvm.old) }
         ensures steps { LeadsOn kind start.now pick self.old self.new (N.device nvm.old) (N.device nvm.new) result }
-        ensures safe { FailsSafe kind start.now pick self.old (N.device nvm.old) (N.device nvm.new) result }
+        ensures safe { FailsSafe kind start.now pick self.old self.new (N.device nvm.old) (N.device nvm.new) result }
         ensures frame { IsFramed (N.device nvm.old) (N.device nvm.new) }
         ensures cause { CountsFault result (N.device nvm.old).faults (N.device nvm.new).faults };
 
-    /// The state that the machine executes, where no instruction is under way.
+    /// Whether a step has failed since power came on.
+    fn failed(&self) -> bool
+        ensures { result ≡ kind.failed self.now };
+
+    /// The state that the machine executes, where no instruction is under way. After a step that failed, the processor's
+    /// part of the state before the instruction under way, with no memory and no console, whatever the device is.
     ///
     /// # Errors
     /// `Nvm` where the device fails, `Memory` for want of memory.
     fn snapshot<N: Nvm>(&self, alloc: Global, nvm: &mut N) -> Result<MachState, CoreError>
-        requires { CanRead kind self.now (N.device nvm.old) }
+        requires { CanSnapshot kind self.now (N.device nvm.old) }
         ensures state { Snapshots kind self.now (N.device nvm.old) result }
+        ensures stopped { SnapshotsStopped kind self.now result }
         ensures same { OnOk result (N.device nvm.new ≡ N.device nvm.old) }
         ensures err { IfErr result (λ e. HasFailedToRead e (N.device nvm.old) (N.device nvm.new)) }
         ensures frame { IsFramed (N.device nvm.old) (N.device nvm.new) };
 
     /// Once the boot is over, the console of the committed checkpoint from byte `from` on. It is this also when the
-    /// hart has gone on.
+    /// hart has gone on. Where there is no such byte, the device is left alone.
     ///
     /// # Errors
     /// `Nvm` where the device fails, `Memory` for want of memory.
     fn console<N: Nvm>(&self, alloc: Global, from: u64, nvm: &mut N) -> Result<Bytes, CoreError>
         requires { CanRead kind self.now (N.device nvm.old) }
         ensures console { ShowsConsole kind from self.now (N.device nvm.old) result }
+        ensures past { LeavesAlonePast kind from self.now (N.device nvm.old) (N.device nvm.new) result }
         ensures same { OnOk result (N.device nvm.new ≡ N.device nvm.old) }
         ensures err { IfErr result (λ e. HasFailedToRead e (N.device nvm.old) (N.device nvm.new)) }
         ensures frame { IsFramed (N.device nvm.old) (N.device nvm.new) };
@@ -69,10 +77,12 @@ pub trait Computer: Drop {
     fn loading(&self) -> bool
         ensures { TellsLoading kind self.now result };
 
-    /// Loses power: all is gone but the DRAM, whose bytes are those that the pick draws.
+    /// Loses power: all is gone but the DRAM, whose bytes are those that the pick draws. Power can come on over it
+    /// again, after a step that failed too.
     fn cut(self, pick: u64) -> Dram
         ensures drawn { result ≡ lost (kind.dram self) pick }
-        ensures sized { (o : Origin) (k : ℕ) (n : Device) → kind.is_at o k self n → IsDramOf o.geometry result };
+        ensures sized { (o : Origin) (k : ℕ) (n : Device) → kind.is_at o k self n → IsDramOf o.geometry result }
+        ensures stopped { (o : Origin) (before : View) → kind.has_failed o before self → IsDramOf o.geometry result };
 
     /// What holds of every such machine.
     ghost lawful: { IsLawful kind };

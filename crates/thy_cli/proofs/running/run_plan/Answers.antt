@@ -1,4 +1,4 @@
-use Rattle.std.proofs.Common.{ap, subst, refl, inl, inr, ◌++◌, ℕ}
+use Rattle.std.proofs.Common.{ap, subst, refl, inl, inr, ◌∙◌, ◌++◌, ℕ, arith}
 use Rattle.thy_base.specs.declared.config.Parameters.{Parameters}
 use Rattle.thy_base.specs.declared.nvm.Shape.{Shape}
 use Rattle.std.specs.Prelude.{option_map}
@@ -21,6 +21,9 @@ returns-in-Err g c = λ job names p. inl (
     closes = c.refuse.ensures.closes;
   },
 )
+
+pub fit-requires-clause-blocks : goal.fit-requires-clause-blocks
+fit-requires-clause-blocks g c = omega (arith, c.nvm_blocks.ensures ∙ c.requires.reads.blocks c.args.plan.now.geometry)
 
 pub run-ending-requires-clause-fitted : goal.run-ending-requires-clause-fitted
 run-ending-requires-clause-fitted g c = record {

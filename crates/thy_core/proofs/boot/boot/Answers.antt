@@ -1,4 +1,4 @@
-use Rattle.std.proofs.Common.{◌∙◌}
+use Rattle.std.proofs.Common.{refl, ◌∙◌}
 use Rattle.thy_core.specs.Parts.{machine_of}
 use Rattle.thy_core_model.proofs.BootingLaws.{sound-boot}
 use Rattle.thy_core.proofs.CycleLaws.{on_err, boot_over, boot_cycle, boot_failed}
@@ -11,7 +11,8 @@ returns-in_err-step-clause-fails g c = λ o cycles begins at booting.
     let n = g.N.Nvm.device c.args.nvm.now in
     let boots = (sound-boot K o cycles m n at.sound booting).boots in
     on_err c.from_residual.result
-    (boot_failed K o cycles m n at (g.N.Nvm.device c.boot_step.new.nvm) booting (c.in_err-step.ensures.err o begins (record { boots = boots; up = at.sound.up })))
+    (boot_failed K o cycles m n at (record m { scheme = c.boot_step.new.self }) (g.N.Nvm.device c.boot_step.new.nvm) booting
+    (c.in_err-step.ensures.err o begins (record { boots = boots; up = at.sound.up })) c.in_err-step.ensures.left refl)
 
 pub returns-clause-leads : goal.returns-clause-leads
 returns-clause-leads g c = λ o cycles begins at booting.

@@ -12,7 +12,7 @@ returns-in-None-clause-leads g c =
 
 pub returns-in-None-clause-fails : goal.returns-in-None-clause-fails
 returns-in-None-clause-fails g c =
-    fails_is g.S.Scheme.scheme (HasInput c.as_slice.result.now) (HasStart c.args.start.now) (TheHart None) (TheHart c.args.stall) (machine_of c.args.m.now) (g.N.Nvm.device c.args.nvm.now) (g.N.Nvm.device c.execute.new.nvm)
+    fails_is g.S.Scheme.scheme (HasInput c.as_slice.result.now) (HasStart c.args.start.now) (TheHart None) (TheHart c.args.stall) (machine_of c.args.m.now) (machine_of c.execute.new.m) (g.N.Nvm.device c.args.nvm.now) (g.N.Nvm.device c.execute.new.nvm)
     c.execute.result (ap TheHart c.in-None.is) (λ o begins. begins.input ∙ sym c.as_slice.ensures) c.execute.ensures.fails
 
 pub returns-in-Some-clause-leads : goal.returns-in-Some-clause-leads
@@ -22,5 +22,5 @@ returns-in-Some-clause-leads g c =
 
 pub returns-in-Some-clause-fails : goal.returns-in-Some-clause-fails
 returns-in-Some-clause-fails g c =
-    fails_is g.S.Scheme.scheme (HasStart c.args.start.now) (HasStart c.args.start.now) (TheHart (Some c.in-Some.why)) (TheHart c.args.stall) (machine_of c.args.m.now) (g.N.Nvm.device c.args.nvm.now) (g.N.Nvm.device c.stalled.new.nvm)
+    fails_is g.S.Scheme.scheme (HasStart c.args.start.now) (HasStart c.args.start.now) (TheHart (Some c.in-Some.why)) (TheHart c.args.stall) (machine_of c.args.m.now) (machine_of c.stalled.new.m) (g.N.Nvm.device c.args.nvm.now) (g.N.Nvm.device c.stalled.new.nvm)
     c.stalled.result (ap TheHart c.in-Some.is) (λ o begins. begins) c.stalled.ensures.fails

@@ -12,7 +12,7 @@ returns-in-Nvm-clause-leads g c =
 
 pub returns-in-Nvm-clause-fails : goal.returns-in-Nvm-clause-fails
 returns-in-Nvm-clause-fails g c =
-    fails_is g.S.Scheme.scheme IsAnyRun (HasStart c.args.start.now) Nvm (actor_seen c.args.actor) (machine_of c.args.m.now) (g.N.Nvm.device c.args.nvm.now) (g.N.Nvm.device c.land.new.nvm)
+    fails_is g.S.Scheme.scheme IsAnyRun (HasStart c.args.start.now) Nvm (actor_seen c.args.actor) (machine_of c.args.m.now) (machine_of c.args.m.now) (g.N.Nvm.device c.args.nvm.now) (g.N.Nvm.device c.land.new.nvm)
     c.land.result (ap actor_seen c.in-Nvm.is) (λ o begins. tt) c.land.ensures.fails
 
 pub returns-in-Dram-clause-leads : goal.returns-in-Dram-clause-leads
@@ -27,7 +27,7 @@ returns-in-Engine-clause-leads g c =
 
 pub returns-in-Engine-clause-fails : goal.returns-in-Engine-clause-fails
 returns-in-Engine-clause-fails g c =
-    fails_is g.S.Scheme.scheme IsAnyRun (HasStart c.args.start.now) Checkpoint (actor_seen c.args.actor) (machine_of c.args.m.now) (g.N.Nvm.device c.args.nvm.now) (g.N.Nvm.device c.checkpoint.new.nvm)
+    fails_is g.S.Scheme.scheme IsAnyRun (HasStart c.args.start.now) Checkpoint (actor_seen c.args.actor) (machine_of c.args.m.now) (machine_of c.checkpoint.new.m) (g.N.Nvm.device c.args.nvm.now) (g.N.Nvm.device c.checkpoint.new.nvm)
     c.checkpoint.result (ap actor_seen c.in-Engine.is) (λ o begins. tt) c.checkpoint.ensures.fails
 
 pub returns-in-Hart-clause-leads : goal.returns-in-Hart-clause-leads
@@ -37,5 +37,5 @@ returns-in-Hart-clause-leads g c =
 
 pub returns-in-Hart-clause-fails : goal.returns-in-Hart-clause-fails
 returns-in-Hart-clause-fails g c =
-    fails_is g.S.Scheme.scheme (HasStart c.args.start.now) (HasStart c.args.start.now) (TheHart c.in-Hart.stall) (actor_seen c.args.actor) (machine_of c.args.m.now) (g.N.Nvm.device c.args.nvm.now) (g.N.Nvm.device c.at_hart.new.nvm)
+    fails_is g.S.Scheme.scheme (HasStart c.args.start.now) (HasStart c.args.start.now) (TheHart c.in-Hart.stall) (actor_seen c.args.actor) (machine_of c.args.m.now) (machine_of c.at_hart.new.m) (g.N.Nvm.device c.args.nvm.now) (g.N.Nvm.device c.at_hart.new.nvm)
     c.at_hart.result (ap actor_seen c.in-Hart.is) (λ o begins. begins) c.at_hart.ensures.fails

@@ -13,7 +13,7 @@ returns-in-Booting-clause-leads g c =
 
 pub returns-in-Booting-clause-fails : goal.returns-in-Booting-clause-fails
 returns-in-Booting-clause-fails g c =
-    fails_is g.S.Scheme.scheme (HasStart c.args.start.now) (HasStart c.args.start.now) (TheHart (Some Booting)) (TheHart (Some c.args.why)) (machine_of c.args.m.now) (g.N.Nvm.device c.args.nvm.now) (g.N.Nvm.device c.boot.new.nvm)
+    fails_is g.S.Scheme.scheme (HasStart c.args.start.now) (HasStart c.args.start.now) (TheHart (Some Booting)) (TheHart (Some c.args.why)) (machine_of c.args.m.now) (machine_of c.boot.new.m) (g.N.Nvm.device c.args.nvm.now) (g.N.Nvm.device c.boot.new.nvm)
     c.boot.result (ap (λ s. TheHart (Some s)) c.in-Booting.is) (λ o begins. begins) c.boot.ensures.fails
 
 pub returns-in-Sealing-clause-leads : goal.returns-in-Sealing-clause-leads
@@ -23,7 +23,7 @@ returns-in-Sealing-clause-leads g c =
 
 pub returns-in-Sealing-clause-fails : goal.returns-in-Sealing-clause-fails
 returns-in-Sealing-clause-fails g c =
-    fails_is g.S.Scheme.scheme IsAnyRun (HasStart c.args.start.now) (TheHart (Some Sealing)) (TheHart (Some c.args.why)) (machine_of c.args.m.now) (g.N.Nvm.device c.args.nvm.now) (g.N.Nvm.device c.prepare.new.nvm)
+    fails_is g.S.Scheme.scheme IsAnyRun (HasStart c.args.start.now) (TheHart (Some Sealing)) (TheHart (Some c.args.why)) (machine_of c.args.m.now) (machine_of c.prepare.new.m) (g.N.Nvm.device c.args.nvm.now) (g.N.Nvm.device c.prepare.new.nvm)
     c.prepare.result (ap (λ s. TheHart (Some s)) c.in-Sealing.is) (λ o begins. tt) c.prepare.ensures.fails
 
 pub returns-in-Waiting-clause-leads : goal.returns-in-Waiting-clause-leads
@@ -33,7 +33,7 @@ returns-in-Waiting-clause-leads g c =
 
 pub returns-in-Waiting-clause-fails : goal.returns-in-Waiting-clause-fails
 returns-in-Waiting-clause-fails g c =
-    fails_is g.S.Scheme.scheme IsAnyRun (HasStart c.args.start.now) (TheHart (Some Waiting)) (TheHart (Some c.args.why)) (machine_of c.args.m.now) (g.N.Nvm.device c.args.nvm.now) (g.N.Nvm.device c.wait.new.nvm)
+    fails_is g.S.Scheme.scheme IsAnyRun (HasStart c.args.start.now) (TheHart (Some Waiting)) (TheHart (Some c.args.why)) (machine_of c.args.m.now) (machine_of c.wait.new.m) (g.N.Nvm.device c.args.nvm.now) (g.N.Nvm.device c.wait.new.nvm)
     c.wait.result (ap (λ s. TheHart (Some s)) c.in-Waiting.is) (λ o begins. tt) c.wait.ensures.fails
 
 pub returns-in-Halted-clause-leads : goal.returns-in-Halted-clause-leads

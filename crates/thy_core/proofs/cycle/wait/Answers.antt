@@ -9,5 +9,5 @@ returns-clause-leads g c = λ o cycles _ at due.
 
 pub returns-clause-fails : goal.returns-clause-fails
 returns-clause-fails g c = λ o cycles _ at due.
-    waits_fails g.S.Scheme.scheme o (machine_of c.args.m.now) (g.N.Nvm.device c.args.nvm.now)
+    waits_fails g.S.Scheme.scheme o (machine_of c.args.m.now) (machine_of c.checkpoint.new.m) (g.N.Nvm.device c.args.nvm.now)
     (g.N.Nvm.device c.checkpoint.new.nvm) c.checkpoint.result (c.checkpoint.ensures.fails o cycles tt at due)

@@ -18,8 +18,9 @@ returns-in_err-step-clause-fails g c = λ o cycles _ at goes.
     let new = g.N.Nvm.device c.step.new.nvm in
     let failed = failed_once K g.N.Nvm.device c.args.m.now.behind c.step.new.store c.args.nvm.now c.step.new.nvm at.sound.up
     c.in_err-step.ensures.once c.in_err-step.ensures.cause in
+    let next = record (machine_of c.args.m.now) { hart = c.step.new.self; cache = c.step.new.cache; scheme = c.step.new.store.scheme } in
     on_err c.from_residual.result
-    (hart_failed K o cycles (machine_of c.args.m.now) (g.N.Nvm.device c.args.nvm.now) at c.step.new.store.scheme new goes failed.0.access failed.1)
+    (hart_failed K o cycles (machine_of c.args.m.now) (g.N.Nvm.device c.args.nvm.now) at next new goes failed.0.access failed.1 c.in_err-step.ensures.hart)
 
 pub returns-clause-leads : goal.returns-clause-leads
 returns-clause-leads g c = λ o cycles input at goes.

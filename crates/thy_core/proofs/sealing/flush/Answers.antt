@@ -1,4 +1,4 @@
-use Rattle.std.proofs.Common.{Ok, ap, inr}
+use Rattle.std.proofs.Common.{Ok, refl, ap, inr}
 use Rattle.thy_core.specs.Parts.{machine_of}
 use Rattle.thy_core.proofs.CycleLaws.{on_err, framed_once, failed_once, kept_once, flush_cycle, flush_failed}
 use Rattle.thy_core.proofs.sealing.flush.Goals as goal
@@ -10,9 +10,10 @@ returns-in_err-_flushed-clause-fails g c = λ o cycles _ at sealing.
     let once = c.in_err-_flushed.ensures.once (λ is. absurd (cc)) in
     let failed = failed_once K g.N.Nvm.device c.args.m.now.behind c.flush_one.new.store c.args.nvm.now c.flush_one.new.nvm at.sound.up
     (inr once) c.in_err-_flushed.ensures.cause in
+    let next = record (machine_of c.args.m.now) { cache = c.flush_one.new.self; scheme = c.flush_one.new.store.scheme } in
     on_err c.from_residual.result
-    (flush_failed K o cycles (machine_of c.args.m.now) (g.N.Nvm.device c.args.nvm.now) at c.flush_one.new.store.scheme new sealing c.requires.whole c.requires.dirty
-    failed.0.access failed.1)
+    (flush_failed K o cycles (machine_of c.args.m.now) (g.N.Nvm.device c.args.nvm.now) at next new sealing c.requires.whole c.requires.dirty
+    failed.0.access failed.1 refl)
 
 pub returns-clause-leads : goal.returns-clause-leads
 returns-clause-leads g c = λ o cycles _ at sealing.

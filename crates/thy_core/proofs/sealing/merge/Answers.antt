@@ -1,6 +1,12 @@
 use Rattle.thy_core.specs.Parts.{machine_of}
 use Rattle.thy_core.proofs.CycleLaws.{stands_run, merge_cycle}
 use Rattle.thy_core.proofs.sealing.merge.Goals as goal
+use Rattle.thy_core_model.proofs.SealingLaws.{over_at}
+
+pub merge_one-requires-clause-idle : goal.merge_one-requires-clause-idle
+merge_one-requires-clause-idle g c =
+    let turn = c.requires.turn in
+    (over_at g.S.Scheme.scheme turn.o (machine_of c.args.m.now) (g.N.Nvm.device c.args.nvm.now) turn.turn c.requires.whole).idle
 
 pub returns : goal.returns
 returns g c = λ o cycles _ at sealing.

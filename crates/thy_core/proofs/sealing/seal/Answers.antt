@@ -5,6 +5,12 @@ use Rattle.thy_scheme.specs.Calls.{Seals}
 use Rattle.thy_core.specs.Parts.{machine_of}
 use Rattle.thy_core.proofs.CycleLaws.{stands_run, sealed_regs, seal_cycle}
 use Rattle.thy_core.proofs.sealing.seal.Goals as goal
+use Rattle.thy_core_model.proofs.SealingLaws.{over_at}
+
+pub seal-requires-clause-idle : goal.seal-requires-clause-idle
+seal-requires-clause-idle g c =
+    let turn = c.requires.turn in
+    (over_at g.S.Scheme.scheme turn.o (machine_of c.args.m.now) (g.N.Nvm.device c.args.nvm.now) turn.turn c.requires.whole).idle
 
 pub seal-requires-clause-regs : goal.seal-requires-clause-regs
 seal-requires-clause-regs g c =

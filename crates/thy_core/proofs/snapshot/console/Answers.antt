@@ -1,5 +1,5 @@
 use Rattle.thy_core.specs.Parts.{machine_of}
-use Rattle.thy_core.proofs.SnapshotLaws.{can_run, committed_room, boot_shown, console_when}
+use Rattle.thy_core.proofs.SnapshotLaws.{can_run, committed_room, boot_shown, console_past, console_when}
 use Rattle.thy_core.proofs.snapshot.console.Goals as goal
 
 pub read_console-requires-clause-stands : goal.read_console-requires-clause-stands
@@ -20,3 +20,12 @@ pub returns-in-Run-clause-console : goal.returns-in-Run-clause-console
 returns-in-Run-clause-console g c = λ o k done sound behind shown.
     console_when g.S.Scheme.scheme g.met.S.Scheme.lawful o k (machine_of c.args.m.now) (g.N.Nvm.device c.args.nvm.now) done c.args.from c.read_console.result
     sound c.in-Run.is shown c.read_console.ensures.console
+
+pub returns-in-Boot-clause-past : goal.returns-in-Boot-clause-past
+returns-in-Boot-clause-past g c = λ o k done sound behind shown past.
+    absurd (boot_shown g.S.Scheme.scheme g.met.S.Scheme.lawful o k (machine_of c.args.m.now) (g.N.Nvm.device c.args.nvm.now) sound c.in-Boot.is behind)
+
+pub returns-in-Run-clause-past : goal.returns-in-Run-clause-past
+returns-in-Run-clause-past g c = λ o k done sound behind shown past.
+    c.read_console.ensures.past
+    (console_past g.S.Scheme.scheme o k (machine_of c.args.m.now) (g.N.Nvm.device c.args.nvm.now) done c.args.from sound c.in-Run.is shown past)

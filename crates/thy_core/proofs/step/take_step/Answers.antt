@@ -7,6 +7,11 @@ use Rattle.thy_core.specs.Parts.{machine_of, actor_seen}
 use Rattle.thy_core.proofs.TakenLaws.{at_run, moment_of, turned, step_taken, step_failed}
 use Rattle.thy_core.proofs.step.take_step.Goals as goal
 
+pub queued-requires : goal.queued-requires
+queued-requires g c =
+    let run = c.requires in
+    (at_run g.S.Scheme.scheme g.met.S.Scheme.lawful run.o run.cycles (machine_of c.args.m.now) (g.N.Nvm.device c.args.nvm.now) run.at_moment run.few).sound.up
+
 pub cycle-requires : goal.cycle-requires
 cycle-requires g c =
     let K = g.S.Scheme.scheme in
@@ -58,10 +63,11 @@ returns-in-Err-clause-safe g c = λ o k begins sound.
     let K = g.S.Scheme.scheme in
     let m = machine_of c.args.m.now in
     let n = g.N.Nvm.device c.args.nvm.now in
+    let next = machine_of c.cycle.new.m in
     let new = g.N.Nvm.device c.cycle.new.nvm in
     let actor = actor_seen c.turn_now-actor.result in
     let at : IsMoment K o k m n = record { lawful = g.met.S.Scheme.lawful; sound = sound } in
     let turn = turned K o k c.args.pick c.queued.result actor m n at c.queued.ensures c.turn_now-actor.ensures in
-    let failed : HasFailedAs K o actor m n new =
-    subst (λ (r : Result Did NvmError). OnErr r (HasFailedAs K o actor m n new)) c.in-Err.is (c.cycle.ensures.fails o k begins at turn) in
-    step_failed K o k c.args.pick c.queued.result actor m n new at c.queued.ensures c.turn_now-actor.ensures failed
+    let failed : HasFailedAs K o actor m next n new =
+    subst (λ (r : Result Did NvmError). OnErr r (HasFailedAs K o actor m next n new)) c.in-Err.is (c.cycle.ensures.fails o k begins at turn) in
+    step_failed K o k c.args.pick c.queued.result actor m next n new at c.queued.ensures c.turn_now-actor.ensures failed

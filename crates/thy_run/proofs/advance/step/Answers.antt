@@ -11,7 +11,7 @@ returns-in_err-stepped-clause-stuck g c = λ k at_moment.
     OnErr-any c.from_residual.result _
     (record {
       leaves =
-          let P : Pick → Type 0 = λ pick. LeavesSafe g.M.Computer.kind (origin_of c.args.plan.now) pick c.args.progress.now.machine (g.N.Nvm.device c.args.nvm.now) (g.N.Nvm.device c.step.new.nvm) in
+          let P : Pick → Type 0 = λ pick. LeavesSafe g.M.Computer.kind (origin_of c.args.plan.now) pick c.args.progress.now.machine c.step.new.self (g.N.Nvm.device c.args.nvm.now) (g.N.Nvm.device c.step.new.nvm) in
           subst P c.next-pick.ensures.pick (c.in_err-stepped.ensures.safe (origin_of c.args.plan.now) k (begins_of c.args.plan.now) at_moment);
       framed = c.step.ensures.frame;
       rose = c.in_err-stepped.ensures.cause;

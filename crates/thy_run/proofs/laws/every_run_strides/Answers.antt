@@ -1,5 +1,5 @@
-use Rattle.thy_run.proofs.StrideLaws.{Strides-finished}
+use Rattle.thy_run.proofs.StrideLaws.{Strides-stopped}
 use Rattle.thy_run.proofs.laws.every_run_strides.Goals as goal
 
 pub returns : goal.returns
-returns g c = Strides-finished g.M.Computer.kind
+returns g c = Strides-stopped g.M.Computer.kind

@@ -1,7 +1,7 @@
 use Rattle.std.proofs.Common.{subst, sym, ◌∙◌, ap}
 use Rattle.thy_dram.specs.Contents.{lost}
 use Rattle.thy_core_model.specs.Machine.{Machine}
-use Rattle.thy_core_model.specs.Sound.{Sound}
+use Rattle.thy_core_model.specs.Sound.{Sound, SoundStopped}
 use Rattle.thy_core.proofs.machine.Machine.cut.Goals as goal
 
 pub returns-clause-drawn : goal.returns-clause-drawn
@@ -11,3 +11,7 @@ returns-clause-drawn g c =
 pub returns-clause-sized : goal.returns-clause-sized
 returns-clause-sized g c = λ o k n sound.
     c.cut.ensures.sized o k n (subst (λ (m : Machine g.row.S.Denot). Sound g.S.Scheme.scheme o k m n) (sym c.self.view_is) sound)
+
+pub returns-clause-stopped : goal.returns-clause-stopped
+returns-clause-stopped g c = λ o before stopped.
+    c.cut.ensures.stopped o before (subst (λ (m : Machine g.row.S.Denot). SoundStopped g.S.Scheme.scheme o before m) (sym c.self.view_is) stopped)

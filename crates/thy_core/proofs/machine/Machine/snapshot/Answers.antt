@@ -1,4 +1,6 @@
 use Rattle.std.proofs.Common.{subst}
+use Rattle.thy_view.specs.Kind.{SnapshotsStopped}
+use Rattle.thy_core_model.specs.Kind.{kind_over}
 use Rattle.thy_core_model.specs.Machine.{Machine}
 use Rattle.thy_core.specs.Reading.{ReadsState}
 use Rattle.thy_core.proofs.machine.Machine.snapshot.Goals as goal
@@ -7,3 +9,7 @@ pub returns-clause-state : goal.returns-clause-state
 returns-clause-state g c =
     subst (λ (m : Machine g.row.S.Denot). ReadsState g.S.Scheme.scheme m (g.N.Nvm.device c.args.nvm.now) c.snapshot.result)
     c.self.view_is c.snapshot.ensures.state
+
+pub returns-clause-stopped : goal.returns-clause-stopped
+returns-clause-stopped g c =
+    subst (λ (m : Machine g.row.S.Denot). SnapshotsStopped (kind_over g.S.Scheme.scheme) m c.snapshot.result) c.self.view_is c.snapshot.ensures.stopped

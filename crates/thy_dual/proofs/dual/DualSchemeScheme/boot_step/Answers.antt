@@ -7,10 +7,10 @@ use Rattle.thy_recover.specs.Steps.{TakesStep}
 use Rattle.thy_control.specs.State.{State}
 use Rattle.thy_scheme.specs.declared.boot_step.BootStep.{BootStep as SchemeStep}
 use Rattle.thy_scheme.specs.Boots.{BootsOn, BootFails}
-use Rattle.thy_scheme.specs.Scheme.{IsBooting, CanBoot}
+use Rattle.thy_scheme.specs.Scheme.{StaysOf, IsBooting, CanBoot}
 use Rattle.thy_dual_model.specs.Dual.{Dual}
 use Rattle.thy_dual_model.specs.Scheme.{dual_scheme}
-use Rattle.thy_dual_model.proofs.BootStepLemmas.{boots-by, fails-by, fits-by, cause-by, took-for, may-step}
+use Rattle.thy_dual_model.proofs.BootStepLemmas.{boots-by, fails-by, fits-by, cause-by, of-by, took-for, may-step}
 use Rattle.thy_dual.specs.Calls.{TakesBootStep}
 use Rattle.thy_dual.proofs.CallLemmas.{takes_boot_step}
 use Rattle.thy_dual.proofs.dual.DualSchemeScheme.boot_step.Goals as goal
@@ -59,6 +59,14 @@ returns-clause-err g c = λ o begins booting.
     subst (λ (s : Dual). OnErr c.scheme_result.result (BootFails dual_scheme o s n new)) c.self.view_is
     (subst (λ (x : Result SchemeStep NvmError). OnErr x (BootFails dual_scheme o v n new)) (sym c.scheme_result.ensures)
     (fails-by o v n booting_v new d t c.fits.ensures c.tables.ensures r took))
+
+pub returns-clause-left : goal.returns-clause-left
+returns-clause-left g c =
+    let v : Dual = record { control = c.self.inside.control; engine = c.self.inside.engine; rested = c.self.inside.rested; lean = c.self.inside.lean; boot = c.self.inside.boot } in
+    let next : Dual = record v { control = c.step-result.new.control; boot = c.step-result.new.self } in
+    subst (λ (s : Dual). OnErr c.scheme_result.result (StaysOf dual_scheme s next)) c.self.view_is
+    (subst (λ (x : Result SchemeStep NvmError). OnErr x (StaysOf dual_scheme v next)) (sym c.scheme_result.ensures)
+    (of-by c.step-result.result v next c.step-result.ensures.step.control))
 
 pub returns-clause-cause : goal.returns-clause-cause
 returns-clause-cause g c =

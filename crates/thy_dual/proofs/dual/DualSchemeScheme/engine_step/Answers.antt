@@ -1,12 +1,13 @@
-use Rattle.std.proofs.Common.{◌≡◌, true, sym, subst, IfOk, Result}
+use Rattle.std.proofs.Common.{◌≡◌, true, sym, subst, IfOk, OnErr, Result}
 use Rattle.thy_base.specs.declared.nvm.NvmError.{NvmError}
 use Rattle.thy_base.specs.Device.{Device}
 use Rattle.thy_record.specs.declared.engine_step.EngineStep.{EngineStep}
 use Rattle.thy_commit.specs.Items.{is_under_way}
-use Rattle.thy_scheme.specs.Scheme.{Stands}
+use Rattle.thy_scheme.specs.Scheme.{StaysOf, Stands}
 use Rattle.thy_scheme.specs.Calls.{Engines}
 use Rattle.thy_dual_model.specs.Dual.{Dual}
 use Rattle.thy_dual_model.specs.Scheme.{dual_scheme}
+use Rattle.thy_dual_model.proofs.StoreLemmas.{of-failed}
 use Rattle.thy_dual_model.proofs.EngineLemmas.{engines-by, fails-by, fits-by}
 use Rattle.thy_dual.specs.Calls.{TakesItem}
 use Rattle.thy_dual.proofs.CallLemmas.{takes_item}
@@ -52,3 +53,10 @@ returns-clause-made g c =
     let e = c.step-result.ensures in
     subst (λ (s : Dual). TakesItem s n r (record v { control = t; engine = f }) new) c.self.view_is
     (takes_item v n r t f new e.answer e.engine e.control e.device e.kept e.kept_control e.err)
+
+pub returns-clause-left : goal.returns-clause-left
+returns-clause-left g c =
+    let v : Dual = record { control = c.self.inside.control; engine = c.self.inside.engine; rested = c.self.inside.rested; lean = c.self.inside.lean; boot = c.self.inside.boot } in
+    let next : Dual = record v { control = c.step-result.new.control; engine = c.step-result.new.self } in
+    subst (λ (s : Dual). OnErr c.step-result.result (StaysOf dual_scheme s next)) c.self.view_is
+    (of-failed c.step-result.result v next c.step-result.ensures.kept_control)

@@ -1,10 +1,11 @@
-use Rattle.std.proofs.Common.{◌≡◌, true, sym, subst, Ok}
+use Rattle.std.proofs.Common.{◌≡◌, true, sym, subst, Ok, OnErr}
 use Rattle.thy_base.specs.Device.{Device}
-use Rattle.thy_scheme.specs.Scheme.{Stands}
+use Rattle.thy_scheme.specs.Scheme.{StaysOf, Stands}
 use Rattle.thy_dual_model.specs.Dual.{Dual, is_promoting}
 use Rattle.thy_dual_model.specs.Scheme.{dual_scheme}
 use Rattle.thy_commit.proofs.FitLemmas.{stays_fit}
 use Rattle.thy_scheme.specs.Calls.{Promotes}
+use Rattle.thy_dual_model.proofs.StoreLemmas.{of-kept}
 use Rattle.thy_dual_model.proofs.CallLemmas.{promotes}
 use Rattle.thy_dual.specs.Calls.{PromotesNext}
 use Rattle.thy_dual.proofs.CallLemmas.{promotes_next}
@@ -34,3 +35,10 @@ returns-clause-made g c =
     let p = c.in_ok-promote_one.ensures in
     subst (λ (s : Dual). PromotesNext s n (Ok tt) (record v { control = c.promote_one.new.self }) new) c.self.view_is
     (promotes_next v n (Ok tt) c.promote_one.new.self new p.fills p.side)
+
+pub returns-in_err-promote_one-clause-left : goal.returns-in_err-promote_one-clause-left
+returns-in_err-promote_one-clause-left g c =
+    let v : Dual = record { control = c.self.inside.control; engine = c.self.inside.engine; rested = c.self.inside.rested; lean = c.self.inside.lean; boot = c.self.inside.boot } in
+    let next : Dual = record v { control = c.promote_one.new.self } in
+    subst (λ (s : Dual). OnErr c.from_residual.result (StaysOf dual_scheme s next)) c.self.view_is
+    (of-kept c.from_residual.result v next c.in_err-promote_one.ensures.fills.kept)

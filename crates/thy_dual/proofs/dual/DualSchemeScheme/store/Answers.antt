@@ -11,7 +11,8 @@ use Rattle.thy_control.specs.Once.{Once}
 use Rattle.thy_control.proofs.StoreLemmas.{ready-whole, stored_by, once_stored}
 use Rattle.thy_commit.proofs.FitLemmas.{stays_fit}
 use Rattle.thy_scheme.specs.Calls.{IsOneAccess}
-use Rattle.thy_dual_model.proofs.AccessLemmas.{one-access, store-room, store-up, store-whole, store-stays}
+use Rattle.thy_view.specs.Dram.{WritesBlock}
+use Rattle.thy_dual_model.proofs.AccessLemmas.{one-access, store-room, store-up, store-writes, store-whole, store-stays}
 use Rattle.thy_dual.specs.Calls.{StoresByRule}
 use Rattle.thy_dual.proofs.CallLemmas.{stores_by_rule}
 use Rattle.thy_dual.proofs.dual.DualSchemeScheme.store.Goals as goal
@@ -57,8 +58,9 @@ returns-clause-once g c =
     = stored_by c.args.b c.args.block.now v.control m t n r e.state e.nvm e.answer e.work works.sized works.up room e.stays in
     let whole : promoted t.ptt ≡ 0 = store-whole c.args.b c.args.block.now v.control m t n r ready stored e.kept in
     let stays = store-stays v m t n e.stays (store-room c.args.b c.args.block.now v.control m t n r e.state e.kept) c.tables-2.ensures whole in
+    let writes : n.down ≡ false → WritesBlock m n v.control.dram t.dram = store-writes c.args.b c.args.block.now v.control m t n r e.state e.nvm e.err in
     subst (λ (d : Dual). IsOneAccess dual_scheme d m (record v { control = t; rested = false }) n) c.self.view_is
-    (one-access v m (record v { control = t; rested = false }) n once works.up stays)
+    (one-access v m (record v { control = t; rested = false }) n once works.up stays writes)
 
 pub returns-clause-made : goal.returns-clause-made
 returns-clause-made g c =

@@ -10,8 +10,8 @@ use Rattle.thy_run_tests.proofs.faulty.FaultyNvmNvm.fit.Goals as goal
 
 pub returns-in-Err-Failed-clause-err : goal.returns-in-Err-Failed-clause-err
 returns-in-Err-Failed-clause-err c =
-    subst (λ (x : FaultyNvm). HasFailedToFit Failed (faulty c.args.self.now.nvm c.args.self.now.down c.args.self.now.faults c.args.self.now.fits) (faulty x.nvm x.down x.faults x.fits)) (sym c.fails-in-Err-Failed.ensures.down)
-    (failed_to_fit_within c.args.self.now.nvm c.called.new.self.nvm c.fit.new.self c.args.self.now.down c.args.self.now.faults c.args.self.now.fits c.fails-in-Err-Failed.new.self.faults c.called.new.self.fits
-    (ap (λ (x : FaultyNvm). x.nvm) c.called.ensures) (ap (λ (x : FaultyNvm). x.fits) c.called.ensures ∙ c.saturating_add-self.ensures)
-    (subst (λ (e : FitError). HasFailedToFit e c.called.new.self.nvm c.fit.new.self) c.in-Err-Failed.field-0-is c.in-Err-Failed.ensures.err)
+    subst (λ (x : FaultyNvm). HasFailedToFit Failed (faulty c.args.self.now.nvm.device c.args.self.now.down c.args.self.now.faults c.args.self.now.fits) (faulty x.nvm.device x.down x.faults x.fits)) (sym c.fails-in-Err-Failed.ensures.down)
+    (failed_to_fit_within c.args.self.now.nvm.device c.called.new.self.nvm.device c.fit.new.self.device c.args.self.now.down c.args.self.now.faults c.args.self.now.fits c.fails-in-Err-Failed.new.self.faults c.called.new.self.fits
+    (ap (λ (x : FaultyNvm). x.nvm.device) c.called.ensures) (ap (λ (x : FaultyNvm). x.fits) c.called.ensures ∙ c.saturating_add-self.ensures)
+    (subst (λ (e : FitError). HasFailedToFit e c.called.new.self.nvm.device c.fit.new.self.device) c.in-Err-Failed.field-0-is c.in-Err-Failed.ensures.err)
     (subst (λ n. Rose n c.fails-in-Err-Failed.new.self.faults) (ap (λ (x : FaultyNvm). x.faults) c.called.ensures) c.fails-in-Err-Failed.ensures.rose))

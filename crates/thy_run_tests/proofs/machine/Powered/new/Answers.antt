@@ -9,8 +9,8 @@ pub invariant_of-result : goal.invariant_of-result
 invariant_of-result g c =
     let p : Parameters = c.geometry_of-geometry.result in
     let shape : Shape = record { blocks = c.nvm_blocks.result; queue = c.numbers.result.nvmq; cuts = 1 } in
-    let before : Device = c.new-nvm.result in
-    let n : Device = c.fit.new.self in
+    let before : Device = c.new-nvm.result.device in
+    let n : Device = c.fit.new.self.device in
     IsPowered-first g.M.Computer.kind g.met.M.Computer.lawful p c.start_for-start.result c.expect-machine.result shape before n
     c.start_for-start.ensures.origin c.start_for-start.ensures.made
     (subst (λ r. IfOk r (λ m. g.M.Computer.kind.powered p m)) c.expect-machine.ensures c.power_on.ensures.powered)

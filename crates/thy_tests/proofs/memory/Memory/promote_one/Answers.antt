@@ -10,8 +10,8 @@ invariant_of-self g c =
     let s : State = c.self.inside.control in
     let e : Progress = c.self.inside.engine in
     let t : State = c.promote_one.new.self in
-    let m : Device = c.self.inside.nvm in
-    let n : Device = c.promote_one.new.nvm in
+    let m : Device = c.self.inside.nvm.device in
+    let n : Device = c.promote_one.new.nvm.device in
     let is : n ≡ m = subst (λ r. OnOk r (n ≡ m)) c.expect.ensures c.promote_one.ensures.fills.nvm in
     IsMemory-stays c.self.inside.geometry e s t m n c.self.inside.cuts c.self.invariant
     (c.engine_and_controller_fit.ensures.stays e s m t n c.tables.ensures c.self.invariant.fits c.promote_one.ensures.stays)

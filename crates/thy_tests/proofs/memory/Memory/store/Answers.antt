@@ -12,8 +12,8 @@ invariant_of-self g c =
     let s : State = c.self.inside.control in
     let e : Progress = c.self.inside.engine in
     let t : State = c.store.new.self in
-    let m : Device = c.self.inside.nvm in
-    let n : Device = c.store.new.nvm in
+    let m : Device = c.self.inside.nvm.device in
+    let n : Device = c.store.new.nvm.device in
     let after : Device = (devices_after c.args.b c.args.block.now s m).nvm in
     let is : n ≡ after = subst (λ r. OnOk r (n ≡ after)) c.expect-stored.ensures c.store.ensures.nvm in
     IsMemory-stays c.self.inside.geometry e s t m n c.self.inside.cuts c.self.invariant

@@ -5,7 +5,7 @@ use Rattle.thy_tests.proofs.starting.Off.boot.Goals as goal
 pub invariant_of-result : goal.invariant_of-result
 invariant_of-result g c =
     let s : Plain = state_of c.args.start.state in
-    IsStarting-new c.self.inside.geometry s c.self.inside.dram c.self.inside.nvm c.new_boot-boot.result c.new_controller-control.result
+    IsStarting-new c.self.inside.geometry s c.self.inside.dram c.self.inside.nvm.device c.new_boot-boot.result c.new_controller-control.result
     c.self.inside.cuts c.self.invariant
     (IsStartFor-least c.self.inside.geometry s c.has_least_memory.ensures.pages c.has_least_memory.ensures.console
     c.requires.regs c.requires.memory c.requires.console)
