@@ -12,6 +12,7 @@ use Rattle.thy_table.specs.Listing.{Listing, IsListing, entry_at, lists, place_o
 use Rattle.thy_table.proofs.IndexLemmas.{lists-some}
 use Rattle.thy_table.proofs.ListingLaws.{entry_at-with_same, entry_at-with_other, place_of-none, IsListing-put, place_of-put, place_of-put_other}
 use Rattle.thy_tables.specs.declared.block_entry.BttEntry.{BttEntry}
+use Rattle.thy_tables.specs.declared.block_entry.Version.TheVariants.{Out, Alt}
 use Rattle.thy_tables.specs.declared.page_entry.PttEntry.{PttEntry}
 use Rattle.thy_tables.specs.BlockEntry.{new_entry, listed_entry}
 use Rattle.thy_tables.specs.PageEntry.{no_page, listed_page}
@@ -26,6 +27,7 @@ use Rattle.thy_control.specs.Boot.{IsBooting, MayListBlock, MayListPage, HaveTab
 use Rattle.thy_control.proofs.FindLemmas.{found_entry, entry_for-some, entry_for-none}
 use Rattle.thy_control.proofs.NewLemmas.{entry_at-empty}
 use Rattle.thy_control.proofs.PageLemmas.{live-set}
+use Rattle.thy_control.proofs.LiveLemmas.{used-set}
 
 -- one entry more, of a number that was not listed: what the table has for each number
 module _ {E : Type 0} (key : E → ℕ) (new : ℕ → E) (t : Listing E) (once : IsListing key t) (i : ℕ) (e : E)
@@ -141,6 +143,7 @@ module _ (i b : ℕ) (s : State) (t : AreSoundTables s) (boot : IsBooting s) (ma
     btt_size = length-set s.btt.entries i (Some (listed_entry b)) ∙ t.btt_size;
     btt_numbers = t.btt_numbers;
     btt_once = once-block;
+    live_blocks = used-set s.btt i (listed_entry b) inside (λ v0 v1. let no : Alt ≡ Out = v0 in absurd (cc)) t.live_blocks;
     ptt_size = t.ptt_size;
     ptt_numbers = t.ptt_numbers;
     ptt_once = t.ptt_once;
@@ -205,6 +208,7 @@ module _ (j n : ℕ) (s : State) (t : AreSoundTables s) (boot : IsBooting s) (ma
     btt_size = t.btt_size;
     btt_numbers = t.btt_numbers;
     btt_once = t.btt_once;
+    live_blocks = t.live_blocks;
     ptt_size = length-set s.ptt.entries j (Some (listed_page n)) ∙ t.ptt_size;
     ptt_numbers = t.ptt_numbers;
     ptt_once = once-page;

@@ -22,6 +22,7 @@ use Rattle.thy_control.specs.Commit.{committed_state, Commits}
 use Rattle.thy_control.specs.CommitKeys.{committed_entry-block, committed_page-page}
 use Rattle.thy_control.proofs.CellLemmas.{block-cell_of, page-cell_of}
 use Rattle.thy_control.proofs.MappedLemmas.{index_for-mapped, entry_for-mapped}
+use Rattle.thy_control.proofs.LiveLemmas.{used-mapped, used-committed}
 
 -- cells with the same parts
 pub same_cell : (c d : Cell) → c.i ≡ d.i → c.entry ≡ d.entry → c.j ≡ d.j → c.page ≡ d.page → c ≡ d
@@ -82,6 +83,7 @@ module _ (s : State) (t : AreSoundTables s) (way : s.under_way ≡ true) (copied
     ptt_size = length-map s.ptt.entries (option_and_then committed_page) ∙ t.ptt_size;
     ptt_numbers = t.ptt_numbers;
     ptt_once = IsListing-mapped page_key s.ptt t.ptt_once committed_page committed_page-page;
+    live_blocks = used-mapped committed_entry s.btt (λ i e f was h. used-committed e.v1 e.work e f refl h);
     live_pages = live-mapped committed_page (λ e f. committed_by-live e.leaving e f) s.ptt t.live_pages;
     counts_size = t.counts_size;
     counts_high = t.counts_high;

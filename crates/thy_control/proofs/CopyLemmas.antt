@@ -45,6 +45,7 @@ use Rattle.thy_control.specs.OverCalls.{cell_same, stays_same}
 use Rattle.thy_control.specs.Stays.{CellStays, Stays}
 use Rattle.thy_control.proofs.StayLemmas.{map-block}
 use Rattle.thy_control.proofs.StepStayLemmas.{StaysTables, Outcome, LeavesGuarded-step, Stays-step, Stays-failed_step, Outcome-failed}
+use Rattle.thy_control.proofs.LiveLemmas.{used-set}
 
 is_pending-not : (q : Pending) → q ≢ Settled → is_pending q ≡ true
 is_pending-not Settled h = absurd (h refl)
@@ -95,6 +96,8 @@ module _ (b : ℕ) (s : State) (pending : (cell_of s b).entry.pend ≢ Settled) 
             ptt_size = t.ptt_size;
             ptt_numbers = t.ptt_numbers;
             ptt_once = t.ptt_once;
+            live_blocks = used-set s.btt (cell_of s b).i (after_copy (cell_of s b)).entry (found_entry block_key new_entry s.btt b (cell_of s b).i listed-pending).3
+                (λ v0 v1. absurd ((t.cells b l).pending_moves pending (v0 ∙ sym v1))) t.live_blocks;
             live_pages = t.live_pages;
             counts_size = t.counts_size;
             counts_high = t.counts_high;

@@ -131,6 +131,7 @@ module _ (b : ℕ) (s : State) (fresh : (cell_of s b).page.fresh ≡ true) where
             ptt_size = length-set s.ptt.entries (cell_of s b).j (Some (page_filled (cell_of s b).page)) ∙ t.ptt_size;
             ptt_numbers = t.ptt_numbers;
             ptt_once = once;
+            live_blocks = t.live_blocks;
             live_pages = live-set s.ptt (cell_of s b).j (page_filled (cell_of s b).page) found.3 (λ bare. fresh) t.live_pages;
             counts_size = t.counts_size;
             counts_high = t.counts_high;

@@ -159,6 +159,7 @@ module _ (b : ℕ) (s : State) (busy : (cell_of s b).page.busy ≡ true) where
             ptt_size = length-set s.ptt.entries (cell_of s b).j (Some (page_issued (cell_of s b).page)) ∙ t.ptt_size;
             ptt_numbers = t.ptt_numbers;
             ptt_once = once;
+            live_blocks = t.live_blocks;
             live_pages = live-set s.ptt (cell_of s b).j (page_issued (cell_of s b).page) found.3
                 (λ bare. absurd (no_both (busy-framed s.under_way (cell_of s b).page (t.cells b l).of_page busy) bare)) t.live_pages;
             counts_size = t.counts_size;

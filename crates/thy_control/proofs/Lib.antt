@@ -1,5 +1,6 @@
 pub mod FindLemmas
 pub mod CellLemmas
+pub mod LiveLemmas
 pub mod NewLemmas
 pub mod StateLemmas
 pub mod PutLemmas

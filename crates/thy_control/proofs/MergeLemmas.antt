@@ -50,6 +50,7 @@ use Rattle.thy_control.proofs.StateLemmas.{place_of-index}
 use Rattle.thy_control.proofs.OwnLemmas.{owner, Owns-cell_of}
 use Rattle.thy_control.proofs.PageLemmas.{count-same, block_cleared, cell-cleared_same, cell-cleared_other, cell-page_same, cell-page_other, same_page, live-set}
 use Rattle.thy_control.proofs.StepLemmas.{KeepsEach, Keeps-untouched, ReadsSame-of, reads_after, puts, untouched, holds-each, none-passes}
+use Rattle.thy_control.proofs.LiveLemmas.{used-cleared}
 
 -- a page that was written to
 abbrev dirty : PttEntry → PttEntry
@@ -123,6 +124,7 @@ module _ (b : ℕ) (s : State) (framed : is_framed (cell_of s b).page ≡ true) 
     unfolding merged_block dram_merged
     AreSoundTables-merged btt_once ptt_once =
         let there = found_entry page_key no_page s.ptt (page_of b) (cell_of s b).j listed_page-merge in
+        let block_there = found_entry block_key new_entry s.btt b (cell_of s b).i listed-merge in
         record {
           range = t.range;
           btt_size = length-set s.btt.entries (cell_of s b).i None ∙ t.btt_size;
@@ -131,6 +133,7 @@ module _ (b : ℕ) (s : State) (framed : is_framed (cell_of s b).page ≡ true) 
           ptt_size = length-set s.ptt.entries (cell_of s b).j (Some (dirty (cell_of s b).page)) ∙ t.ptt_size;
           ptt_numbers = t.ptt_numbers;
           ptt_once = ptt_once;
+          live_blocks = used-cleared s.btt (cell_of s b).i block_there.3 t.live_blocks;
           live_pages = live-set s.ptt (cell_of s b).j (dirty (cell_of s b).page) there.3 (λ bare. let no : true ≡ false = sym framed ∙ bare in cc) t.live_pages;
           counts_size = t.counts_size;
           counts_high = t.counts_high;

@@ -42,6 +42,7 @@ AreSoundTables-new new_sound p dram range size = record {
   ptt_size = grind (arith, common_steps);
   ptt_numbers = refl;
   ptt_once = IsListing-empty page_key p.ptt p.pages;
+  live_blocks = λ i e h. let none : None ≡ Some e = sym (entry_at-empty block_key p.btt (memory_blocks p) i) ∙ h in absurd (cc);
   live_pages = λ j e h. let none : None ≡ Some e = sym (entry_at-empty page_key p.ptt p.pages j) ∙ h in absurd (cc);
   counts_size = grind (arith, common_steps);
   counts_high = refl;

@@ -14,6 +14,7 @@ use Rattle.thy_place.proofs.PlaceLemmas.{AreSized-written_at}
 use Rattle.thy_table.specs.Listing.{Listing, IsListing, entry_at, lists, free_place, free_count}
 use Rattle.thy_table.proofs.IndexLemmas.{count-none, lists-key}
 use Rattle.thy_tables.specs.declared.block_entry.BttEntry.{BttEntry}
+use Rattle.thy_tables.specs.declared.block_entry.Pending.TheVariants.{Settled, FromBuffer}
 use Rattle.thy_tables.specs.declared.page_entry.PttEntry.{PttEntry}
 use Rattle.thy_tables.specs.BlockEntry.{new_entry}
 use Rattle.thy_tables.specs.PageEntry.{no_page, is_framed}
@@ -32,7 +33,8 @@ use Rattle.thy_control.specs.State.{State, AreSoundTables, IsSized, cell_of, rea
 use Rattle.thy_control.specs.Rules.{with_block, with_cell, rule_for, cell_before, devices_after, state_after, IsWholeState}
 use Rattle.thy_control.proofs.FindLemmas.{found_entry, index_for-inside, length-with, numbers-with}
 use Rattle.thy_control.proofs.CellLemmas.{btt_least, block-cell_of, page-cell_of, IsWithin-cell_of}
-use Rattle.thy_control.proofs.StateLemmas.{IsListed, IsListed-with_block, cell-with_block_same, sound-with_block, sound-with_cell, rule-with_block, frame_is_framed}
+use Rattle.thy_control.proofs.StateLemmas.{first_is_pending, IsListed, IsListed-with_block, cell-with_block_same, sound-with_block, sound-with_cell, rule-with_block, frame_is_framed}
+use Rattle.thy_control.proofs.LiveLemmas.{used-stored}
 
 -- what holds whatever a result is
 pub OnErr-of : {T E P : Type 0} (r : Result T E) → P → OnErr r P
@@ -119,25 +121,6 @@ pages_after ToFrame c t framed inside before j e h bare = elim (cases_eq j c.j) 
 pages_after ToBuffer c t framed inside before j e h bare = before j e h bare
 pages_after ToNvm c t framed inside before j e h bare = before j e h bare
 pages_after PendingFirst c t framed inside before j e h bare = before j e h bare
-
--- the tables with an entry more are sound
-pub AreSoundTables-with_block : (rule : StoreRule) (b : ℕ) (s : State) → AreSoundTables s → IsListing block_key (btt_with rule b s.btt)
-    → AreSoundTables (with_block rule b s)
-AreSoundTables-with_block rule b s t once = record {
-  range = t.range;
-  btt_size = length-btt_with rule b s.btt ∙ t.btt_size;
-  btt_numbers = numbers-btt_with rule b s.btt ∙ t.btt_numbers;
-  btt_once = once;
-  ptt_size = t.ptt_size;
-  ptt_numbers = t.ptt_numbers;
-  ptt_once = t.ptt_once;
-  live_pages = t.live_pages;
-  counts_size = t.counts_size;
-  counts_high = t.counts_high;
-  counts_low = t.counts_low;
-  dram_size = t.dram_size;
-  cells = λ m l. sound-with_block rule b s m (t.cells m l);
-}
 
 -- the cell that the code makes is that of the block with its entry
 pub cell_made : (s : State) (b i : ℕ) (rule : StoreRule) → rule ≡ rule_for b s → i ≡ index_for block_key new_entry b (btt_with rule b s.btt)
@@ -253,12 +236,14 @@ AreSoundTables-after b block s n t sized whole l room btt_once ptt_once =
     let place : Place = store_place rule (cell_of u b) in
     let put : Block = put_by rule block (reads s n) (cell_of u b) in
     let sizes = AreSized-written_at s.p (devices_of n s.dram) place put (record { nvm = sized.nvm; dram = t.dram_size }) in
+    let entry_there : (cell_of u b).i < length (btt_with rule b s.btt).entries = omega (arith, (IsWithin-before s b t l).entry, t.btt_size, length-btt_with rule b s.btt) in
     let page_there : after.j < length s.ptt.entries = omega (arith, (IsWithin-cell_of s b t l).page, t.ptt_size, after-j rule (cell_of u b)) in
     record {
       range = t.range;
       btt_size = length-btt_after rule after (btt_with rule b s.btt) ∙ length-btt_with rule b s.btt ∙ t.btt_size;
       btt_numbers = numbers-btt_after rule after (btt_with rule b s.btt) ∙ numbers-btt_with rule b s.btt ∙ t.btt_numbers;
       btt_once = btt_once;
+      live_blocks = used-stored rule (cell_of u b) b s.btt t.live_blocks refl entry_there (λ first. (sound b l).pending_moves (λ e. let no : FromBuffer ≡ Settled = sym (first_is_pending (cell_of u b) (same ∙ first)) ∙ e in cc));
       ptt_size = length-ptt_after rule after s.ptt ∙ t.ptt_size;
       ptt_numbers = numbers-ptt_after rule after s.ptt ∙ t.ptt_numbers;
       ptt_once = ptt_once;
@@ -341,12 +326,9 @@ module _ (s v : State) (b : ℕ) (found : Cell) (r : StoreRule) (btt : Listing B
   way_state block n btt' ptt' counts' d a =
       ap (λ (t : State). state_of t btt' ptt' counts' d.dram) w.view ∙ state_after-is b block s n btt' ptt' counts' d a
 
-  -- where it failed, an entry more is there
-  pub way_failed : (dram : Contents) → dram ≡ v.dram → state_of v btt v.ptt v.counts dram ≡ with_block (rule_for b s) b s
-  way_failed dram e =
-      ap (λ (t : State). state_of t btt t.ptt t.counts dram) w.view
-      ∙ ap (λ (t : Listing BttEntry). state_of s t s.ptt s.counts dram) way_table
-      ∙ ap (λ (d : Contents). state_of s (btt_with (rule_for b s) b s.btt) s.ptt s.counts d) (e ∙ ap (λ (t : State). t.dram) w.view)
+  -- where it failed, the state is as it was
+  pub way_failed : (dram : Contents) → dram ≡ v.dram → record v { dram = dram } ≡ s
+  way_failed dram e = ap (λ (d : Contents). record v { dram = d }) e ∙ w.view
 
 -- the code's entries may be put in their places
 pub may_set_block : (s : State) (b : ℕ) (after : Cell) (btt : Listing BttEntry) → 0 < free_count s.btt

@@ -1,5 +1,5 @@
 -- A seal leaves the tables sound, and moves the versions of every block.
-use Rattle.std.proofs.Common.{◌≡◌, ℕ, ◌<◌, Bool, true, false, length, refl, sym, ◌∙◌, ap, subst, inl, inr, arith, Option, unwrap_or}
+use Rattle.std.proofs.Common.{◌≡◌, ℕ, ◌<◌, Bool, true, false, length, refl, sym, ◌∙◌, ap, subst, inl, inr, arith, Option, Some, unwrap_or}
 use Rattle.std.proofs.lemmas.List.{length-map, length-replicate}
 use Rattle.std.specs.Option.{option_and_then}
 use Rattle.thy_base.specs.declared.block.Block.{Block}
@@ -7,25 +7,28 @@ use Rattle.thy_base.specs.declared.place.Place.{Place}
 use Rattle.thy_base.specs.Device.{Device}
 use Rattle.thy_base.specs.Geometry.{memory_blocks}
 use Rattle.thy_base.specs.Store.{page_of}
-use Rattle.thy_table.specs.Listing.{Listing, mapped}
+use Rattle.thy_table.specs.Listing.{Listing, entry_at, lists, mapped}
+use Rattle.thy_table.proofs.IndexLemmas.{lists-key}
 use Rattle.thy_table.proofs.ListingLaws.{IsListing-mapped}
 use Rattle.thy_tables.specs.declared.block_entry.BttEntry.{BttEntry}
 use Rattle.thy_tables.specs.declared.page_entry.PttEntry.{PttEntry}
+use Rattle.thy_tables.specs.BlockEntry.{new_entry}
 use Rattle.thy_tables.specs.PageEntry.{no_page, promoted_page}
 use Rattle.thy_switch.specs.Counts.{Tally, is_low, reset}
 use Rattle.thy_cell.specs.declared.cell.Cell.{Cell}
 use Rattle.thy_cell.specs.Cells.{penult, work}
 use Rattle.thy_cell.specs.Sound.{IsSoundCell, Holds}
-use Rattle.thy_cell.specs.Checkpoint.{with_listed, Moves, ListsPage, SealKeepsSound, SealMoves, SealTakesWork, ListingKeeps}
+use Rattle.thy_cell.specs.Checkpoint.{sealed_by, with_listed, Moves, ListsPage, SealKeepsSound, SealMoves, SealTakesWork, ListingKeeps}
 use Rattle.thy_control.specs.Keys.{block_key, page_key}
-use Rattle.thy_control.specs.State.{State, AreSoundTables, cell_of, reads}
+use Rattle.thy_control.specs.State.{State, IsUsed, AreSoundTables, cell_of, reads}
 use Rattle.thy_control.specs.Rules.{IsWholeState}
 use Rattle.thy_control.specs.Stays.{HoldAll}
-use Rattle.thy_control.specs.Seal.{is_few, sealed_in, sealed_as_counted, dense_below, sealed_ptt, sealed_state, IsBareState, OrListed, sealed_cell, Seals}
-use Rattle.thy_control.proofs.FindLemmas.{entry_for-none}
+use Rattle.thy_control.specs.Seal.{is_few, block_is_framed, sealed_in, sealed_as_counted, dense_below, sealed_ptt, sealed_state, IsBareState, OrListed, sealed_cell, Seals}
+use Rattle.thy_control.proofs.FindLemmas.{entry_for-some, entry_for-none}
 use Rattle.thy_control.proofs.CommitLemmas.{same_cell, live-mapped}
 use Rattle.thy_control.proofs.ListPageLemmas.{Lists, lists_all, dense-below}
 use Rattle.thy_control.proofs.SealLemmas.{sealed_in-block, sealed_as_counted-page, live_left, mapped_state, cell-mapped}
+use Rattle.thy_control.proofs.LiveLemmas.{used-mapped, used-sealed}
 
 pub lists_sealed : (s : State) → AreSoundTables s → Lists (mapped_state s).ptt (sealed_ptt s.counts s.ptt)
 lists_sealed s t = lists_all (dense_below s.counts (length s.counts.counts)) (mapped_state s).ptt
@@ -69,6 +72,16 @@ module _ (s : State) (t : AreSoundTables s) (idle : s.under_way ≡ false) (whol
         | inr x ↦ subst (IsSoundCell true) (sym x.1.1) (listed takes keeps b x.1.0 l now x.0).sound
       ]
 
+  -- the entry of a block of memory, in which both checkpoints are one
+  used_after : (i : ℕ) (e f : BttEntry) → entry_at s.btt i ≡ Some e → sealed_in (is_few s) s.ptt e ≡ Some f → IsUsed f
+  used_after i e f was h =
+      let lists_it : lists block_key e.block (entry_at s.btt i) ≡ true = lists-key block_key e.block (entry_at s.btt i) e was refl in
+      let inside : e.block < memory_blocks s.p = omega (arith, t.btt_once.inside i e.block lists_it, t.btt_numbers) in
+      let is : (cell_of s e.block).entry ≡ e = entry_for-some block_key new_entry s.btt e.block i e (t.btt_once.found i e.block lists_it) was in
+      let one : e.v0 ≡ e.v1 = subst (λ (x : BttEntry). x.v0 ≡ x.v1) is ((sound e.block inside).one refl) in
+      let same : sealed_by (block_is_framed s.ptt e.block) e.work (is_few s) e.v1 e ≡ f = cc in
+      subst IsUsed same (used-sealed (block_is_framed s.ptt e.block) (is_few s) e.work e.v1 e refl refl one (t.live_blocks i e was))
+
   pub AreSoundTables-sealed : SealKeepsSound → SealTakesWork → ListingKeeps → AreSoundTables (sealed_state s)
   unfolding sealed_state
   AreSoundTables-sealed law takes keeps =
@@ -82,6 +95,7 @@ module _ (s : State) (t : AreSoundTables s) (idle : s.under_way ≡ false) (whol
         ptt_size = lists.size ∙ length-map s.ptt.entries (option_and_then rule) ∙ t.ptt_size;
         ptt_numbers = lists.numbers ∙ t.ptt_numbers;
         ptt_once = lists.once (IsListing-mapped page_key s.ptt t.ptt_once rule (sealed_as_counted-page s.counts));
+        live_blocks = used-mapped (sealed_in (is_few s) s.ptt) s.btt used_after;
         live_pages = lists.live (live-mapped rule (live_left s.counts) s.ptt t.live_pages);
         counts_size = length-replicate (length s.counts.counts) 0 ∙ t.counts_size;
         counts_high = t.counts_high;

@@ -100,7 +100,7 @@ module _ {E : Type 0} (key : E → ℕ) (new : ℕ → E) (t : Listing E) (n : �
 pub frame_is_framed : (c : Cell) → store_rule c ≡ ToFrame → is_framed c.page ≡ true
 frame_is_framed c e = grind arith
 
-first_is_pending : (c : Cell) → store_rule c ≡ PendingFirst → c.entry.pend ≡ FromBuffer
+pub first_is_pending : (c : Cell) → store_rule c ≡ PendingFirst → c.entry.pend ≡ FromBuffer
 first_is_pending c e = grind arith
 
 pub IsListed-with_block : (rule : StoreRule) (b : ℕ) (s : State) → rule_for b s ≡ rule → (free_place s.btt ≡ None → ⊥) → IsListed rule b (with_block rule b s)

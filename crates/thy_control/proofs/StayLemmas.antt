@@ -186,21 +186,19 @@ Stays-done b block s m t sized room up framed guarded keeps holds =
     }
 
 -- or it failed
-pub Stays-failed : (b : ℕ) (block : Block) (s : State) (m n : Device) → AreSoundTables s → 0 < free_count s.btt → FailsStore b block s m n
-    → IsFramed m n → LeavesGuarded s m n → Stays s m (with_block (rule_for b s) b s) n
-Stays-failed b block s m n t room failed framed guarded =
-    let r : StoreRule = rule_for b s in
-    record {
-      as_long = framed.blocks;
-      same_p = refl;
-      same_way = refl;
-      down = λ d. failed.failed.down;
-      tables0_same = tables0-with r b s;
-      tables1_same = tables1-with r b s;
-      cells = λ k l. stays-with r b s k;
-      guarded = guarded;
-      up = λ d. let no : true ≡ false = sym failed.failed.down ∙ d in absurd (not_both no);
-    }
+pub Stays-failed : (b : ℕ) (block : Block) (s : State) (m n : Device) → FailsStore b block s m n
+    → IsFramed m n → LeavesGuarded s m n → Stays s m s n
+Stays-failed b block s m n failed framed guarded = record {
+  as_long = framed.blocks;
+  same_p = refl;
+  same_way = refl;
+  down = λ d. failed.failed.down;
+  tables0_same = refl;
+  tables1_same = refl;
+  cells = λ k l. cell_same (cell_of s k);
+  guarded = guarded;
+  up = λ d. let no : true ≡ false = sym failed.failed.down ∙ d in absurd (not_both no);
+}
   where
     not_both : true ≡ false → ⊥
     not_both e = cc
@@ -208,7 +206,7 @@ Stays-failed b block s m n t room failed framed guarded =
 -- whichever way a call ended
 pub stays_by : (b : ℕ) (block : Block) (s : State) (m : Device) (t : State) (n : Device) (r : Result Stored NvmError)
     → OnOk r (t ≡ state_after b block s m) → OnOk r (n ≡ (devices_after b block s m).nvm)
-    → OnErr r (t ≡ with_block (rule_for b s) b s) → OnErr r (FailsStore b block s m n)
+    → OnErr r (t ≡ s) → OnErr r (FailsStore b block s m n)
     → OnOk r (KeepsCheckpoints s m t n) → OnOk r (HoldAll s m → HoldAll t n)
     → AreSoundTables s → IsSized s m → 0 < free_count s.btt → m.down ≡ false → IsFramed m n → LeavesGuarded s m n → Stays s m t n
 stays_by b block s m t n (Ok x) e f k g keeps holds tables sized room up framed guarded =
@@ -217,7 +215,7 @@ stays_by b block s m t n (Ok x) e f k g keeps holds tables sized room up framed 
     (subst (λ (y : Device). KeepsCheckpoints s m (state_after b block s m) y) f (subst (λ (y : State). KeepsCheckpoints s m y n) e keeps))
     (subst (λ (y : Device). HoldAll s m → HoldAll (state_after b block s m) y) f (subst (λ (y : State). HoldAll s m → HoldAll y n) e holds))))
 stays_by b block s m t n (Err x) e f k g keeps holds tables sized room up framed guarded =
-    subst (λ (y : State). Stays s m y n) (sym k) (Stays-failed b block s m n tables room g framed guarded)
+    subst (λ (y : State). Stays s m y n) (sym k) (Stays-failed b block s m n g framed guarded)
 
 -- a read leaves the controller as it is, and the NVM too unless it failed
 pub stays_read : (s : State) (m n : Device) (r : Result Block NvmError) → OnOk r (n ≡ m) → OnErr r (HasFailed m n) → IsFramed m n → Stays s m s n

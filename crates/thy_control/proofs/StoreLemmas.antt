@@ -199,7 +199,7 @@ Writes-after b block s m t l free = record {
 
 pub once_stored : (b : ℕ) (block : Block) (s : State) (m : Device) (t : State) (n : Device) (r : Result Stored NvmError)
     → OnOk r (t ≡ state_after b block s m) → OnOk r (n ≡ (devices_after b block s m).nvm)
-    → OnErr r (t ≡ with_block (rule_for b s) b s) → OnErr r (FailsStore b block s m n)
+    → OnErr r (t ≡ s) → OnErr r (FailsStore b block s m n)
     → AreSoundTables s → b < memory_blocks s.p → 0 < free_count s.btt → StoresFree b s → IsFramed m n → Stays s m t n → Once s m t n
 once_stored b block s m t n (Ok x) e f k g tables l room free framed stays =
     let both : devices_of n t.dram ≡ devices_after b block s m
@@ -224,7 +224,7 @@ once_stored b block s m t n (Err x) e f k g tables l room free framed stays = re
   })));
   frame = framed;
   stays = stays;
-  work = λ j h. subst (λ (y : State). KeepsCheckpointWork (cell_of s j) (cell_of y j)) (sym k) (work-with (rule_for b s) b s j);
+  work = λ j h. subst (λ (y : State). KeepsCheckpointWork (cell_of s j) (cell_of y j)) (sym k) (work_same (cell_of s j));
 }
 
 pub once_loaded : (s : State) (m n : Device) (r : Result Block NvmError)

@@ -1,5 +1,5 @@
 -- The state of the controller, the versions of each block, and what the tables have to be.
-use Rattle.std.specs.Prelude.{◌≡◌, ℕ, ◌<◌, Bool, true, false, length, Some}
+use Rattle.std.specs.Prelude.{◌≡◌, ◌≢◌, ℕ, ◌<◌, Bool, true, false, length, Some}
 use Rattle.thy_base.specs.declared.block.Block.{Block}
 use Rattle.thy_base.specs.declared.config.Parameters.{Parameters}
 use Rattle.thy_base.specs.declared.place.Place.{Place}
@@ -11,6 +11,8 @@ use Rattle.thy_dram.specs.Contents.{Contents}
 use Rattle.thy_place.specs.Devices.{devices_of, read_at}
 use Rattle.thy_table.specs.Listing.{Listing, IsListing, entry_at, empty_table}
 use Rattle.thy_tables.specs.declared.block_entry.BttEntry.{BttEntry}
+use Rattle.thy_tables.specs.declared.block_entry.Version.TheVariants.{Out}
+use Rattle.thy_tables.specs.declared.block_entry.Working.TheVariants.{NoWork}
 use Rattle.thy_tables.specs.declared.page_entry.PttEntry.{PttEntry}
 use Rattle.thy_tables.specs.BlockEntry.{new_entry}
 use Rattle.thy_tables.specs.PageEntry.{no_page, is_framed}
@@ -58,12 +60,21 @@ last_of s n b = reads s n (last (cell_of s b))
 abbrev pub work_of : State → Device → ℕ → Block
 work_of s n b = reads s n (work (cell_of s b))
 
+-- an entry whose place neither checkpoint has, has work; and so it is with every live one
+abbrev pub IsUsed : BttEntry → Type 0
+IsUsed e = e.v0 ≡ Out → e.v1 ≡ Out → e.work ≢ NoWork
+
+abbrev pub AreUsed : Listing BttEntry → Type 0
+AreUsed t = (i : ℕ) (e : BttEntry) → entry_at t i ≡ Some e → IsUsed e
+
 -- the tables list blocks and pages of memory, none twice; every block is sound under them; and the sizes fit
 pub record AreSoundTables (s : State) : Type 0 where
   pub range : IsInRange s.p
   pub btt_size : length s.btt.entries ≡ s.p.btt
   pub btt_numbers : s.btt.numbers ≡ memory_blocks s.p
   pub btt_once : IsListing block_key s.btt
+  -- an entry is live only while a checkpoint has the block in its place, or it has work
+  pub live_blocks : AreUsed s.btt
   pub ptt_size : length s.ptt.entries ≡ s.p.ptt
   pub ptt_numbers : s.ptt.numbers ≡ s.p.pages
   pub ptt_once : IsListing page_key s.ptt

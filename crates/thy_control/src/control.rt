@@ -91,34 +91,53 @@ fn page_entry(ptt: &Ptt, page: u64) -> (usize, PttEntry)
     }
 }
 
-/// Gives a block an entry where the rule of its store names one, and tells the entry's place.
-fn entry_for_rule(btt: &mut Btt, b: u64, rule: StoreRule) -> usize
-    requires room { 0 < free_count btt.old }
-    requires number { b < btt.old.numbers }
-    ensures table { btt.new ≡ btt_with rule b btt.old }
-    ensures place { result ≡ index_for block_key new_entry b btt.new }
+/// The place of a block's entry; where it has none, that of the one which the rule of its store adds.
+fn place_for_rule(btt: &Btt, b: u64, rule: StoreRule) -> usize
+    requires { 0 < free_count btt.now }
+    ensures { result ≡ index_for block_key new_entry b (btt_with rule b btt.now) }
 {
     match btt.find(b) {
         Some(i) => i,
         None => match rule {
-            StoreRule::ToBuffer | StoreRule::ToNvm => add_entry(btt, b),
+            StoreRule::ToBuffer | StoreRule::ToNvm => place_to_add(btt, b),
             StoreRule::ToFrame | StoreRule::PendingFirst => 0,
         },
     }
 }
 
-/// Gives a block without an entry one, and tells its place.
-fn add_entry(btt: &mut Btt, b: u64) -> usize
-    requires room { 0 < free_count btt.old }
-    requires number { b < btt.old.numbers }
-    requires unlisted { place_of block_key b btt.old ≡ None }
-    ensures table { btt.new ≡ with_entry_for block_key new_entry b btt.old }
-    ensures place { result ≡ index_for block_key new_entry b btt.new }
+/// The place that an entry of a block without one takes.
+fn place_to_add(btt: &Btt, b: u64) -> usize
+    requires room { 0 < free_count btt.now }
+    requires unlisted { place_of block_key b btt.now ≡ None }
+    ensures { result ≡ index_for block_key new_entry b (with_entry_for block_key new_entry b btt.now) }
 {
-    match btt.add(BttEntry::new(b)) {
+    match btt.lowest_free() {
         Some(i) => i,
         None => unreachable!(),
     }
+}
+
+/// Adds an entry of a block without one, where the rule of its store names one.
+fn add_for_rule(btt: &mut Btt, b: u64, rule: StoreRule)
+    requires { b < btt.old.numbers }
+    ensures { btt.new ≡ btt_with rule b btt.old }
+{
+    match btt.find(b) {
+        Some(_) => {}
+        None => match rule {
+            StoreRule::ToBuffer | StoreRule::ToNvm => add_entry(btt, b),
+            StoreRule::ToFrame | StoreRule::PendingFirst => {}
+        },
+    }
+}
+
+/// Adds an entry of a block without one, where one is free.
+fn add_entry(btt: &mut Btt, b: u64)
+    requires number { b < btt.old.numbers }
+    requires unlisted { place_of block_key b btt.old ≡ None }
+    ensures { btt.new ≡ with_entry_for block_key new_entry b btt.old }
+{
+    let _place = btt.add(BttEntry::new(b));
 }
 
 /// What a rule puts at its place: the block that is stored, or what the buffer holds.
@@ -184,7 +203,7 @@ impl Control {
     ghost use Rattle.thy_control.specs.Seal.{is_few, sealed_state, IsBareState, Seals};
     ghost use Rattle.thy_control.specs.Commit.{committed_state, Commits, CommitsTables, CommitsTargets};
     ghost use Rattle.thy_control.specs.Stays.{AreCopied};
-    ghost use Rattle.thy_control.specs.Rules.{with_block, rule_for, devices_after, state_after, IsWholeState, StoresFree, FailsStore};
+    ghost use Rattle.thy_control.specs.Rules.{rule_for, devices_after, state_after, IsWholeState, StoresFree, FailsStore};
     ghost use Rattle.thy_control.specs.State.{AreSoundTables, IsSized, cell_of, penult_of, work_of, reads, new_state};
     ghost use Rattle.thy_control.specs.Stays.{HoldAll, Stays};
     ghost use Rattle.thy_control.specs.Versions.{KeepsCheckpoints, KeepsCommitted, PutsWork};
@@ -304,8 +323,8 @@ impl Control {
     }
 
     /// Stores block `b`, or makes the copy that has to go first: one write at one place. Both checkpoints of every
-    /// block stay. Where the NVM failed, the place, which no checkpoint has, may hold the block or not; an
-    /// entry without work may have come.
+    /// block stay. Where the NVM failed, the tables are as they were, and the place, which no checkpoint has, may
+    /// hold the block or not.
     pub fn store<N: Nvm>(&mut self, b: u64, block: &Block, nvm: &mut N) -> Result<Stored, NvmError>
         requires block { b < memory_blocks self.old.p }
         requires sized { IsSized self.old (N.device nvm.old) }
@@ -331,7 +350,7 @@ impl Control {
         // Whether or not it failed, nothing new is possible at the checkpoints' places, and both tables are as they were.
         ensures stays { Stays self.old (N.device nvm.old) self.new (N.device nvm.new) }
 
-        ensures kept { OnErr result (self.new ≡ with_block (rule_for b self.old) b self.old) }
+        ensures kept { OnErr result (self.new ≡ self.old) }
         ensures err { OnErr result (FailsStore b block.now self.old (N.device nvm.old) (N.device nvm.new)) }
         ensures frame { IsFramed (N.device nvm.old) (N.device nvm.new) }
         ensures cause { CountsFault result (N.device nvm.old).faults (N.device nvm.new).faults }
@@ -418,7 +437,7 @@ impl Control {
         ensures state { OnOk result (self.new ≡ state_after b block.now self.old (N.device nvm.old)) }
         ensures nvm { OnOk result (N.device nvm.new ≡ (devices_after b block.now self.old (N.device nvm.old)).nvm) }
         ensures answer { IfOk result (λ stored. stored ≡ answer_of (rule_for b self.old)) }
-        ensures kept { OnErr result (self.new ≡ with_block (rule_for b self.old) b self.old) }
+        ensures kept { OnErr result (self.new ≡ self.old) }
         ensures err { OnErr result (FailsStore b block.now self.old (N.device nvm.old) (N.device nvm.new)) }
         ensures frame { IsFramed (N.device nvm.old) (N.device nvm.new) }
         ensures cause { CountsFault result (N.device nvm.old).faults (N.device nvm.new).faults }
@@ -426,8 +445,7 @@ impl Control {
         self.tables();
         let found = self.cell(b);
         let rule = found.store_rule();
-        let i = entry_for_rule(&mut self.btt, b, rule);
-        self.btt.lists_once();
+        let i = place_for_rule(&self.btt, b, rule);
         let cell = Cell { i, ..found };
         let put = block_to_put(rule, &cell, block, &self.geometry, &self.dram);
         write_place(
@@ -437,6 +455,7 @@ impl Control {
             nvm,
             &mut self.dram,
         )?;
+        add_for_rule(&mut self.btt, b, rule);
         set_cell(rule, &cell.after(rule), &mut self.btt, &mut self.ptt);
         self.btt.lists_once();
         self.ptt.lists_once();

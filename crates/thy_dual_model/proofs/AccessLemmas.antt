@@ -133,7 +133,7 @@ down-written p x block d = by_side (in_dram x) where
 
 module _ (b : ℕ) (block : Block) (s : State) (m : Device) (t : State) (n : Device) where
   -- where it was ready it is so, or failed, and then no page is being promoted
-  pub store-room : (r : Result Stored NvmError) → OnOk r (t ≡ state_after b block s m) → OnErr r (t ≡ with_block (rule_for b s) b s) → t.dram.room ≡ s.dram.room
+  pub store-room : (r : Result Stored NvmError) → OnOk r (t ≡ state_after b block s m) → OnErr r (t ≡ s) → t.dram.room ≡ s.dram.room
   unfolding state_after devices_after cell_before
   store-room (Ok x) ok err = ap (λ (u : State). u.dram.room) ok
       ∙ room-written s.p (store_place (rule_for b s) (cell_before b s)) (put_by (rule_for b s) block (reads s m) (cell_before b s)) (devices_of m s.dram)
@@ -165,7 +165,7 @@ module _ (b : ℕ) (block : Block) (s : State) (m : Device) (t : State) (n : Dev
   none-promoted k d h = eqb-true k 0 (and_parts (k == 0) (not d) h).0
 
   pub store-whole : (r : Result Stored NvmError) → (holding_of s m).ready ≡ true → IfOk r (λ x. HasStored x b block (holding_of s m) (holding_of t n))
-      → OnErr r (t ≡ with_block (rule_for b s) b s) → promoted t.ptt ≡ 0
+      → OnErr r (t ≡ s) → promoted t.ptt ≡ 0
   store-whole (Ok x) ready ok err = none-promoted (promoted t.ptt) n.down (ready-stored x ok ∙ ready)
   store-whole (Err x) ready ok err = ap (λ (u : State). promoted u.ptt) err ∙ none-promoted (promoted s.ptt) m.down ready
 

@@ -141,8 +141,8 @@ impl<E: Keyed> Table<E> {
         }
     }
 
-    /// The lowest free place.
-    fn lowest_free(&self) -> Option<usize>
+    /// The lowest free place, which the next entry that is added takes.
+    pub fn lowest_free(&self) -> Option<usize>
         ensures place { result ≡ free_place self.now }
         ensures room { IsSome result ↔ (0 < free_count self.now) }
     {
