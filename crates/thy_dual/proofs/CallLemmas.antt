@@ -8,7 +8,7 @@ use Rattle.thy_isa.specs.Step.{State as Plain, state_of}
 use Rattle.thy_record.specs.declared.engine_step.EngineStep.{EngineStep}
 use Rattle.thy_record.specs.declared.start.Start.{Start}
 use Rattle.thy_control.specs.Promotions.{next_promotion, ReadsNvm, FillsNext}
-use Rattle.thy_control.specs.Rules.{with_block, rule_for, state_after, devices_after, FailsStore}
+use Rattle.thy_control.specs.Rules.{rule_for, state_after, devices_after, FailsStore}
 use Rattle.thy_control.specs.State.{State}
 use Rattle.thy_control.specs.StoredTables.{answer_of as answer_by}
 use Rattle.thy_commit.specs.Items.{answer}
@@ -24,7 +24,7 @@ use Rattle.thy_dual.specs.Calls.{stored_since, StoresByRule, with_control, Promo
 pub stores_by_rule : (b : ℕ) (block : Block) (s : Dual) (n : Device) (r : Result Stored NvmError) (t : State) (new : Device)
     → IfOk r (λ stored. stored ≡ answer_by (rule_for b s.control)) → OnOk r (t ≡ state_after b block s.control n)
     → OnOk r (new ≡ (devices_after b block s.control n).nvm)
-    → OnErr r (t ≡ with_block (rule_for b s.control) b s.control) → OnErr r (FailsStore b block s.control n new)
+    → OnErr r (t ≡ s.control) → OnErr r (FailsStore b block s.control n new)
     → StoresByRule b block s n r (stored_since t s) new
 stores_by_rule b block s n (Ok x) t new said state nvm kept err = record {
   answer = said;

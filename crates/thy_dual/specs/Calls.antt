@@ -1,4 +1,5 @@
--- What each call makes of the scheme and of the NVM, and what it answers: one call of its controller, its engine or its boot.
+-- What each call makes of the scheme and of the NVM, and what it answers: that of one call of
+-- its controller, its engine or its boot.
 use Rattle.std.specs.Prelude.{◌≡◌, ℕ, true, false, length, Result, IfOk, OnOk, OnErr}
 use Rattle.thy_base.specs.declared.block.Block.{Block}
 use Rattle.thy_base.specs.declared.config.Parameters.{Parameters}
@@ -15,7 +16,7 @@ use Rattle.thy_cell.specs.Cells.{work}
 use Rattle.thy_control.specs.Drains.{after_drain}
 use Rattle.thy_control.specs.Merges.{next_merge, after_merge}
 use Rattle.thy_control.specs.Promotions.{next_promotion, after_promotion, ReadsNvm}
-use Rattle.thy_control.specs.Rules.{with_block, rule_for, state_after, devices_after, FailsStore}
+use Rattle.thy_control.specs.Rules.{rule_for, state_after, devices_after, FailsStore}
 use Rattle.thy_control.specs.Seal.{sealed_state}
 use Rattle.thy_control.specs.State.{State, cell_of, work_of, penult_of, new_state}
 use Rattle.thy_control.specs.StoredTables.{answer_of as answer_by}
@@ -49,7 +50,8 @@ pub record IsSized (p : Parameters) (s : Dual) : Type 0 where
 -- ---- how a call that acts once on the NVM ends
 
 -- it makes this scheme and this NVM; or it fails, which leaves this scheme, and this of the NVM
-pub record MakesOrFails {T : Type 0} (made : Dual) (nvm_made : Device) (left : Dual) (fails : Type 0)
+pub record MakesOrFails {T : Type 0} (made : Dual) (nvm_made : Device)
+    (left : Dual) (fails : Type 0)
     (result : Result T NvmError) (t : Dual) (new : Device) : Type 0 where
   pub scheme : OnOk result (t ≡ made)
   pub nvm : OnOk result (new ≡ nvm_made)
@@ -64,7 +66,8 @@ pub record LoadsWork (b : ℕ) (s : Dual) (n : Device) (result : Result Block Nv
   pub side : OnErr result (in_dram (work (cell_of s.control b)) ≡ false)
 
 -- the block that the committed checkpoint has
-pub record LoadsCommitted (b : ℕ) (s : Dual) (n : Device) (result : Result Block NvmError) : Type 0 where
+pub record LoadsCommitted (b : ℕ) (s : Dual) (n : Device) (result : Result Block NvmError)
+    : Type 0 where
   pub block : IfOk result (λ block. block ≡ penult_of s.control n b)
 
 -- ---- a store
@@ -73,12 +76,16 @@ pub record LoadsCommitted (b : ℕ) (s : Dual) (n : Device) (result : Result Blo
 abbrev pub stored_since : State → Dual → Dual
 stored_since control s = record s { control = control; rested = false }
 
--- the one write that the block's rule names: a copy goes first exactly where that rule says so
-pub record StoresByRule (b : ℕ) (block : Block) (s : Dual) (n : Device) (result : Result Stored NvmError)
-    (t : Dual) (new : Device) : Type 0 where
+-- with the one write that the rule of the block names
+abbrev pub block_stored : ℕ → Block → Dual → Device → Dual
+block_stored b block s n = stored_since (state_after b block s.control n) s
+
+-- a copy goes first exactly where the rule says so; a write that failed leaves the tables
+pub record StoresByRule (b : ℕ) (block : Block) (s : Dual) (n : Device)
+    (result : Result Stored NvmError) (t : Dual) (new : Device) : Type 0 where
   pub answer : IfOk result (λ stored. stored ≡ answer_by (rule_for b s.control))
-  pub made : MakesOrFails (stored_since (state_after b block s.control n) s) (devices_after b block s.control n).nvm
-      (stored_since (with_block (rule_for b s.control) b s.control) s) (FailsStore b block s.control n new) result t new
+  pub made : MakesOrFails (block_stored b block s n) (devices_after b block s.control n).nvm
+      (stored_since s.control s) (FailsStore b block s.control n new) result t new
 
 -- ---- before a seal, and the seal
 
@@ -99,7 +106,8 @@ abbrev pub promoted : Dual → Device → Dual
 promoted s n = with_control (after_promotion (next_promotion s.control) s.control n) s
 
 -- the NVM is not written, and only a read of it fails
-pub record PromotesNext {T : Type 0} (s : Dual) (n : Device) (result : Result T NvmError) (t : Dual) (new : Device) : Type 0 where
+pub record PromotesNext {T : Type 0} (s : Dual) (n : Device)
+    (result : Result T NvmError) (t : Dual) (new : Device) : Type 0 where
   pub made : MakesOrFails (promoted s n) n s (HasFailed n new) result t new
   pub side : OnErr result (ReadsNvm (next_promotion s.control) s.control)
 
@@ -116,10 +124,14 @@ sealed cpu epoch s = record s {
 
 -- with controller and engine after the item that is due
 abbrev pub item_taken : Dual → Device → Dual
-item_taken s n = record s { control = state_next s.engine s.control n; engine = engine_next s.engine s.control }
+item_taken s n = record s {
+  control = state_next s.engine s.control n;
+  engine = engine_next s.engine s.control;
+}
 
--- the item that is due, and no other: copies, then pages, then the slot, a barrier, the commit block and a barrier
-pub record TakesItem (s : Dual) (n : Device) (result : Result EngineStep NvmError) (t : Dual) (new : Device) : Type 0 where
+-- the item that is due, and no other: a copy, a page, the slot, a barrier, the commit block
+pub record TakesItem (s : Dual) (n : Device)
+    (result : Result EngineStep NvmError) (t : Dual) (new : Device) : Type 0 where
   pub answer : IfOk result (λ step. step ≡ answer s.engine.epoch (item_of s.engine s.control))
   pub made : MakesOrFails (item_taken s n) (device_next s.engine s.control n) s
       (FailsNext s.engine s.control n new) result t new
@@ -127,8 +139,8 @@ pub record TakesItem (s : Dual) (n : Device) (result : Result EngineStep NvmErro
 -- ---- a step of the boot
 
 -- what it answers is by how far the boot is then; engine and marks are as they were
-pub record TakesBootStep (start : Start) (s : Dual) (n : Device) (result : Result BootStep NvmError)
-    (t : Dual) (new : Device) : Type 0 where
+pub record TakesBootStep (start : Start) (s : Dual) (n : Device)
+    (result : Result BootStep NvmError) (t : Dual) (new : Device) : Type 0 where
   pub answer : IfOk result (λ step. step ≡ step_of (answer_of t.boot))
   pub steps : TakesStep result (state_of start.state) n s.boot s.control new t.boot t.control
   pub others : t ≡ record s { control = t.control; boot = t.boot }
