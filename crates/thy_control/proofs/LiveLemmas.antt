@@ -2,7 +2,7 @@
 use Rattle.std.proofs.Common.{◌≡◌, ◌≢◌, ℕ, ◌<◌, Bool, true, false, length, refl, sym, ◌∙◌, ap, subst, inl, inr, Option, Some, None, option_and_then}
 use Rattle.std.proofs.lemmas.Bool.{cases_eq}
 use Rattle.std.proofs.lemmas.List.{get_or-set_same, get_or-set_other}
-use Rattle.thy_table.specs.Listing.{Listing, entry_at, free_place, place_of, with_entry, mapped, added, added_at}
+use Rattle.thy_table.specs.Listing.{Listing, entry_at, free_place, place_of, with_entry, mapped, added_at}
 use Rattle.thy_tables.specs.declared.block_entry.BttEntry.{BttEntry}
 use Rattle.thy_tables.specs.declared.block_entry.Version.{Version}
 use Rattle.thy_tables.specs.declared.block_entry.Version.TheVariants.{Out, Alt}
@@ -12,7 +12,7 @@ use Rattle.thy_tables.specs.BlockEntry.{new_entry}
 use Rattle.thy_cell.specs.declared.cell.Cell.{Cell}
 use Rattle.thy_cell.specs.declared.cell.StoreRule.{StoreRule}
 use Rattle.thy_cell.specs.declared.cell.StoreRule.TheVariants.{ToFrame, ToBuffer, ToNvm, PendingFirst}
-use Rattle.thy_cell.specs.Checkpoint.{sealed_by, committed_by, committed_entry}
+use Rattle.thy_cell.specs.Checkpoint.{sealed_by, committed_by}
 use Rattle.thy_cell.specs.Rules.{after_store}
 use Rattle.thy_control.specs.Find.{with_found, with_entry_for, index_for}
 use Rattle.thy_control.specs.Keys.{block_key}

@@ -38,7 +38,7 @@ use Rattle.thy_control.proofs.CellLemmas.{IsPlace-store}
 use Rattle.thy_control.proofs.StateLemmas.{IsListed, IsListed-with_block}
 use Rattle.thy_control.proofs.PutLemmas.{has_free, IsWithin-before}
 use Rattle.thy_control.proofs.CountLemmas.{free-with, free-cell, waiting-with, waiting-cell, waiting-copied, promoted-cell, none-counted}
-use Rattle.thy_control.proofs.CheckpointWorkLemmas.{first_waits, work_same, work-with, work-stored}
+use Rattle.thy_control.proofs.CheckpointWorkLemmas.{first_waits, work_same, work-stored}
 
 -- what is ready has no promotion unfinished, and the NVM is up
 unpromoted : (framed fresh : Bool) → (not framed && fresh) ≡ false → framed ≡ false → fresh ≡ false

@@ -222,6 +222,7 @@ module _ {S : Type 0} (K : SchemeOf S) (o : Origin) (cycles : ℕ) (m : Machine 
         at_next = record {
           origin = at.sound.origin;
           geometry = refl;
+          sized = at.sound.sized;
           up = up;
           unfailed = at.sound.unfailed;
           small = small_step o cycles (K.boot_view o m.scheme n) (K.boot_view o t new) at.sound.small DidBoot step;
@@ -268,6 +269,7 @@ module _ {S : Type 0} (K : SchemeOf S) (o : Origin) (cycles : ℕ) (m : Machine 
         at_next = record {
           origin = at.sound.origin;
           geometry = refl;
+          sized = at.sound.sized;
           up = up;
           unfailed = at.sound.unfailed;
           small = small_step o cycles (K.boot_view o m.scheme n) (view_of K o next new) at.sound.small did stepped;

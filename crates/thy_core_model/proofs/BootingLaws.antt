@@ -79,6 +79,7 @@ leads-booting {S} K o cycles did m n t new at-m phase other up boots small step 
       at_next = record {
         origin = at-m.sound.origin;
         geometry = at-m.sound.geometry;
+        sized = at-m.sound.sized;
         up = up;
         unfailed = at-m.sound.unfailed;
         small = subst (IsSmall (cycles + 1)) (sym new-view) small;

@@ -28,6 +28,7 @@ promotion_leads {S} K = λ o cycles m n t new at sealing whole p.
     (record {
       behind = behind;
       geometry = refl;
+      sized = λ sets ways size. size;
       up = up_after Promoted n new at.sound.up p.acts;
       unfailed = refl;
       moment = sound_kept K o m n t (m.spent + 1) new at.lawful s p.sound p.keeps (λ none. absurd (omega (arith, none)))
@@ -68,6 +69,7 @@ merge_leads {S} K = λ o cycles m n t at sealing whole clean p.
     (record {
       behind = behind;
       geometry = refl;
+      sized = λ sets ways size. size;
       up = at.sound.up;
       unfailed = refl;
       moment = sound_kept K o m n t (m.spent + 1) n at.lawful s p.sound p.keeps (λ none. absurd (omega (arith, none)))

@@ -47,6 +47,7 @@ module _ {S : Type 0} (K : SchemeOf S) (o : Origin) (cycles : ℕ) (m : Machine 
       (record {
         behind = behind;
         geometry = refl;
+        sized = λ sets ways size. size;
         up = at.sound.up;
         unfailed = refl;
         moment = sound_drained m.scheme (drained n) (holds.drained_sound some) (holds.drained_keeps some);
@@ -67,6 +68,7 @@ dram_drain_leads {S} K = λ o cycles m n t at behind some drains.
     (record {
       behind = behind;
       geometry = refl;
+      sized = λ sets ways size. size;
       up = at.sound.up;
       unfailed = refl;
       moment = sound_drained K o cycles m n at behind t n drains.sound drains.keeps;
@@ -97,6 +99,7 @@ nothing_leads {S} K = λ o cycles m n at phase.
     (record {
       behind = behind;
       geometry = refl;
+      sized = λ sets ways size. size;
       up = at.sound.up;
       unfailed = refl;
       moment = sound_drained K o cycles m n at behind m.scheme n sound (keeps_itself K m.scheme n);

@@ -77,6 +77,7 @@ module _ {S : Type 0} (K : SchemeOf S) (o : Origin) (cycles : ℕ) (m : Machine 
       (record {
         behind = behind;
         geometry = refl;
+        sized = λ sets ways size. size;
         up = up_after (Engine step) n new here.sound.up acts;
         unfailed = refl;
         moment = sound_kept K o m n t (m.spent + 1) new here.lawful run sound keeps (λ none. absurd (omega (arith, none))) below;
@@ -114,6 +115,7 @@ module _ {S : Type 0} (K : SchemeOf S) (o : Origin) (cycles : ℕ) (m : Machine 
       (record {
         behind = behind;
         geometry = refl;
+        sized = λ sets ways size. size;
         up = up_after (Engine CommitWritten) n new here.sound.up (e.acts m.lap);
         unfailed = refl;
         moment = record {
@@ -155,6 +157,7 @@ module _ {S : Type 0} (K : SchemeOf S) (o : Origin) (cycles : ℕ) (m : Machine 
       (record {
         behind = subst (λ p. phase_after (Committed epoch) m.ends p ≢ Boot) (sym phase) (ended_behind m.ends);
         geometry = refl;
+        sized = λ sets ways size. size;
         up = up_after did n new here.sound.up (e.acts m.lap);
         unfailed = refl;
         moment = record {

@@ -144,6 +144,7 @@ flush_leads {S} K = λ o cycles m n c t new flushed at sealing whole f.
     (record {
       behind = behind;
       geometry = refl;
+      sized = f.sized;
       up = g.up;
       unfailed = refl;
       moment = record {

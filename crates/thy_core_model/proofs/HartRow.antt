@@ -201,6 +201,7 @@ leads-next K o cycles m n lap did h c t new s at turn hs harts x =
       at_next = record {
         origin = at.sound.origin;
         geometry = on.geometry;
+        sized = hs.is_step.sized o.geometry.sets o.geometry.ways at.sound.sized;
         up = on.up;
         unfailed = at.sound.unfailed;
         small = subst (IsSmall (cycles + 1)) (sym new-view)

@@ -3,7 +3,7 @@ use Rattle.std.proofs.Common.{◌≡◌, ◌≢◌, ℕ, ◌+◌, ◌==◌, ◌<
 use Rattle.thy_base.specs.declared.cause.EndCause.{EndCause}
 use Rattle.thy_base.specs.declared.config.Parameters.{Parameters}
 use Rattle.thy_base.specs.Device.{Device}
-use Rattle.thy_cache.specs.Contents.{Contents, dirty_count}
+use Rattle.thy_cache.specs.Contents.{Contents, dirty_count, KeepsSize}
 use Rattle.thy_cache.specs.Flat.{flat, Agrees}
 use Rattle.thy_epoch.specs.Epoch.{HasRetired}
 use Rattle.thy_hart.specs.declared.hand.Hand.TheVariants.{Nothing}
@@ -80,6 +80,7 @@ pub record GoesOn {S : Type 0} (K : SchemeOf S) (o : Origin) (did : Did) (m : Ma
     : Type 0 where
   pub behind : next.phase ≢ Boot
   pub geometry : next.hart.geometry ≡ m.hart.geometry
+  pub sized : KeepsSize m.cache next.cache
   pub up : new.down ≡ false
   pub unfailed : next.failed ≡ m.failed
   pub moment : SoundRun K o next new
@@ -109,6 +110,7 @@ module _ {S : Type 0} (K : SchemeOf S) (o : Origin) (cycles : ℕ) (did : Did)
         at_next = record {
           origin = at.sound.origin;
           geometry = g.geometry ∙ at.sound.geometry;
+          sized = g.sized o.geometry.sets o.geometry.ways at.sound.sized;
           up = g.up;
           unfailed = g.unfailed ∙ at.sound.unfailed;
           small = small_on at.sound.small behind g;

@@ -7,6 +7,7 @@ use Rattle.thy_base.specs.Device.{Device}
 use Rattle.thy_base.specs.Marks.{mark}
 use Rattle.thy_cache.specs.Contents.{dirty_count, empty_cache}
 use Rattle.thy_cache.proofs.FlushLaws.{empty-agrees, empty-count, empty-flat}
+use Rattle.thy_cache.proofs.SizeLaws.{IsSized-empty}
 use Rattle.thy_flat.specs.declared.span.Span.{Span}
 use Rattle.thy_hart.specs.declared.hand.Hand.{Hand}
 use Rattle.thy_hart.specs.declared.hand.Hand.TheVariants.{Nothing, Reading, Reserving, Writing, Retiring}
@@ -44,7 +45,7 @@ no_cpu = record { pc = 0; regs = replicate 32 0; console_len = 0; cursor = 0; br
 over_scheme : {S : Type 0} → Parameters → S → Machine S
 over_scheme p s = record {
   hart = new_hart p no_cpu 0;
-  cache = empty_cache 0 0;
+  cache = empty_cache p.sets p.ways;
   scheme = s;
   phase = Boot;
   marks = only (mark 0 0);
@@ -64,11 +65,13 @@ powers K l p =
       record {
         phase = refl;
         geometry = refl;
+        sized = IsSized-empty p.sets p.ways;
+        span = refl;
         scheme = s.1;
         blank = record {
-          agree = empty-agrees 0 0;
-          reads = empty-flat 0 0;
-          clean = empty-count 0 0;
+          agree = empty-agrees p.sets p.ways;
+          reads = empty-flat p.sets p.ways;
+          clean = empty-count p.sets p.ways;
           hand = refl;
           spent = refl;
           lap = refl;

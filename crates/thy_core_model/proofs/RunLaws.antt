@@ -77,6 +77,7 @@ module _ {S : Type 0} (K : SchemeOf S) (o : Origin) (cycles : ℕ) (m : Machine 
   sound_found small = record {
     origin = origin;
     geometry = on.geometry;
+    sized = on.sized;
     up = found.up;
     unfailed = on.unfailed;
     small = subst (IsSmall cycles) (sym view_found) small;

@@ -176,6 +176,7 @@ seal_leads {S} K = λ o cycles m n t cause at sealing whole bare clean over_is p
     (record {
       behind = behind;
       geometry = refl;
+      sized = λ sets ways size. size;
       up = at.sound.up;
       unfailed = refl;
       moment = record {

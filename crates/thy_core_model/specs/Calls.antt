@@ -6,7 +6,7 @@ use Rattle.thy_base.specs.Device.{Device}
 use Rattle.thy_base.specs.Marks.{mark}
 use Rattle.thy_cache.specs.declared.line.Flushed.{Flushed}
 use Rattle.thy_cache.specs.declared.line.Flushed.TheVariants.{Clean}
-use Rattle.thy_cache.specs.Contents.{Contents, dirty_count, flushed_from, HasFlushed, CountsFlushed, KeepsOpen}
+use Rattle.thy_cache.specs.Contents.{Contents, dirty_count, flushed_from, HasFlushed, CountsFlushed, KeepsSize, KeepsOpen}
 use Rattle.thy_cache.specs.Flat.{flat, Agrees}
 use Rattle.thy_epoch.specs.Epoch.{next_epoch}
 use Rattle.thy_hart.specs.declared.hand.HartStep.{HartStep}
@@ -57,6 +57,7 @@ pub record FlushCall {S : Type 0} (K : SchemeOf S) (m : Machine S) (n : Device) 
   pub agree : Agrees c (held_behind K t new).blocks
   pub dirty : CountsFlushed flushed (dirty_count m.cache) (dirty_count c)
   pub opened : KeepsOpen m.cache (held_behind K m.scheme n) c (held_behind K t new)
+  pub sized : KeepsSize m.cache c
   pub access : IsOneAccess K m.scheme n t new
 
 -- ---- the machine after a cycle

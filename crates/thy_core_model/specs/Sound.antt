@@ -4,7 +4,7 @@ use Rattle.thy_base.specs.declared.cause.EndCause.{EndCause}
 use Rattle.thy_base.specs.declared.config.Parameters.{Parameters}
 use Rattle.thy_base.specs.declared.mark.Mark.{Mark}
 use Rattle.thy_base.specs.Device.{Device}
-use Rattle.thy_cache.specs.Contents.{Contents, dirty_count, IsOpenForFlush}
+use Rattle.thy_cache.specs.Contents.{Contents, dirty_count, IsSized, IsOpenForFlush}
 use Rattle.thy_cache.specs.Flat.{Agrees, AgreesWithAll, ReadsAsStore}
 use Rattle.thy_flat.specs.declared.span.Span.{Span}
 use Rattle.thy_epoch.specs.Epoch.{HasRetired}
@@ -169,6 +169,8 @@ SoundIn K o Halt m n = SoundRun K o m n
 pub record Sound {S : Type 0} (K : SchemeOf S) (o : Origin) (cycles : ℕ) (m : Machine S) (n : Device) : Type 0 where
   pub origin : IsOrigin o
   pub geometry : m.hart.geometry ≡ o.geometry
+  -- the cache has the geometry's sets and ways
+  pub sized : IsSized o.geometry.sets o.geometry.ways m.cache
   pub up : n.down ≡ false
   pub unfailed : m.failed ≡ false
   pub small : IsSmall cycles (view_of K o m n)
@@ -178,6 +180,9 @@ pub record Sound {S : Type 0} (K : SchemeOf S) (o : Origin) (cycles : ℕ) (m : 
 pub record IsPowered {S : Type 0} (K : SchemeOf S) (p : Parameters) (m : Machine S) : Type 0 where
   pub phase : m.phase ≡ Boot
   pub geometry : m.hart.geometry ≡ p
+  -- the cache has the geometry's sets and ways, and an epoch of the hart is as long as it says
+  pub sized : IsSized p.sets p.ways m.cache
+  pub span : m.hart.epoch.span ≡ p.epoch
   pub scheme : K.powered p m.scheme
   pub blank : IsBlank m
   pub unfailed : m.failed ≡ false

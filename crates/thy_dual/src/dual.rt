@@ -1,6 +1,26 @@
 //! The scheme.
-ghost use Rattle.std.specs.Prelude.{◌≡◌};
-ghost use Rattle.thy_dual_model.specs.Boots.{loads_at, step_of, result_of};
+ghost use Rattle.std.specs.Prelude.{◌≡◌, ◌&&◌, ◌<◌, true, false, length, IfOk, OnOk, OnErr};
+ghost use Rattle.thy_base.specs.declared.config.Parameters.{Parameters};
+ghost use Rattle.thy_base.specs.Device.{Device, HasFailed, IsFramed, CountsFault, block_at};
+ghost use Rattle.thy_base.specs.Places.{image_blocks};
+ghost use Rattle.thy_base.specs.Store.{IsKeptByLoad};
+ghost use Rattle.thy_dram.specs.Contents.{lost};
+ghost use Rattle.thy_table.specs.Listing.{free_count};
+ghost use Rattle.thy_commit.specs.Items.{is_under_way};
+ghost use Rattle.thy_control.specs.Holding.{holding_of};
+ghost use Rattle.thy_view.specs.Kind.{IsDramOf};
+ghost use Rattle.thy_view.specs.Origin.{Origin, Begins};
+ghost use Rattle.thy_view.specs.Views.{loads};
+ghost use Rattle.thy_scheme.specs.Marks.{Marks};
+ghost use Rattle.thy_scheme.specs.Scheme.{StaysOf, Stands, CanRun, IsBooting, CanBoot};
+ghost use Rattle.thy_scheme.specs.Calls.{IsOneAccess, Stores, Merges, Promotes, PromotionFails, Drains, Seals, Engines, EngineFails};
+ghost use Rattle.thy_scheme.specs.Boots.{BootsOn, BootFails, BootDrains};
+ghost use Rattle.thy_dual_model.specs.Boots.{Boots, IsPowered, has_read_at, loads_at, step_of, result_of, view_at};
+ghost use Rattle.thy_dual_model.specs.Dual.{IsOf, is_overlaid, is_promoting, penults};
+ghost use Rattle.thy_dual_model.specs.Scheme.{dual_scheme};
+ghost use Rattle.thy_dual_model.specs.Stays.{StaysDual};
+ghost use Rattle.thy_dual.specs.Calls.{IsNew, IsSized, LoadsWork, LoadsCommitted, StoresByRule};
+ghost use Rattle.thy_dual.specs.Calls.{drained, merged, PromotesNext, sealed, TakesItem, TakesBootStep};
 
 use std::alloc::{AllocError, Global};
 use std::marker::Model;
@@ -75,17 +95,26 @@ fn scheme_result(answer: Result<Recovered, NvmError>) -> Result<BootStep, NvmErr
     }
 }
 
+// Each call has the trait's clauses, with what the trait leaves open filled in, and beside them what it makes of controller,
+// engine and boot: those of the one call below.
 impl Scheme for DualScheme {
-    ghost use Rattle.thy_dual_model.specs.Scheme.{dual_scheme};
     ghost use Rattle.thy_dual_model.proofs.LawfulLemmas.{lawful as laws_of_parts};
 
     ghost scheme = { dual_scheme };
 
-    fn nvm_blocks(geometry: &Geometry) -> u64 {
+    fn nvm_blocks(geometry: &Geometry) -> u64
+        ensures { result ≡ image_blocks geometry.now }
+    {
         geometry.blocks()
     }
 
-    fn new(alloc: Global, geometry: &Geometry, dram: Dram) -> Result<DualScheme, AllocError> {
+    fn new(alloc: Global, geometry: &Geometry, dram: Dram) -> Result<DualScheme, AllocError>
+        requires { IsDramOf geometry.now dram }
+        ensures made { IfOk result (λ s. IsNew geometry.now dram s) }
+        ensures sized { IfOk result (λ s. IsSized geometry.now s) }
+        ensures powered { IfOk result (λ s. IsPowered geometry.now s) }
+        ensures dram { IfOk result (λ s. s.control.dram ≡ dram) }
+    {
         let boot = Boot::new(alloc, geometry)?;
         let engine = Engine::new(geometry);
         engine.sound();
@@ -100,12 +129,37 @@ impl Scheme for DualScheme {
         })
     }
 
-    fn load<N: Nvm>(&self, b: u64, nvm: &mut N) -> Result<Block, NvmError> {
+    fn load<N: Nvm>(&self, b: u64, nvm: &mut N) -> Result<Block, NvmError>
+        requires { b < length (holding_of self.now.control (N.device nvm.old)).blocks }
+        ensures made { LoadsWork b self.now (N.device nvm.old) result }
+        ensures ok { let blocks = (holding_of self.now.control (N.device nvm.old)).blocks in
+            IfOk result (λ block. block ≡ block_at blocks b) }
+        ensures same { OnOk result (N.device nvm.new ≡ N.device nvm.old) }
+        ensures err { OnErr result (HasFailed (N.device nvm.old) (N.device nvm.new)) }
+        ensures kept { let holding = holding_of self.now.control in
+            IsKeptByLoad (holding (N.device nvm.old)) (holding (N.device nvm.new)) }
+        ensures stays { StaysDual self.now (N.device nvm.old) self.now (N.device nvm.new) }
+        ensures frame { IsFramed (N.device nvm.old) (N.device nvm.new) }
+        ensures cause { CountsFault result (N.device nvm.old).faults (N.device nvm.new).faults }
+    {
         blocks_are_works();
         self.control.load(b, nvm)
     }
 
-    fn store<N: Nvm>(&mut self, b: u64, block: &Block, nvm: &mut N) -> Result<Stored, NvmError> {
+    fn store<N: Nvm>(&mut self, b: u64, block: &Block, nvm: &mut N) -> Result<Stored, NvmError>
+        requires inside { b < length (holding_of self.old.control (N.device nvm.old)).blocks }
+        requires ready { (holding_of self.old.control (N.device nvm.old)).ready ≡ true }
+        requires room { 0 < (holding_of self.old.control (N.device nvm.old)).free }
+        ensures made { let n = N.device nvm.old in let new = N.device nvm.new in
+            StoresByRule b block.now self.old n result self.new new }
+        ensures ok { let n = N.device nvm.old in let new = N.device nvm.new in
+            IfOk result (λ stored. Stores dual_scheme stored b block.now self.old n self.new new) }
+        ensures up { OnOk result ((N.device nvm.new).down ≡ false) }
+        ensures err { OnErr result ((N.device nvm.new).down ≡ true) }
+        ensures once { let n = N.device nvm.old in let new = N.device nvm.new in
+            IsOneAccess dual_scheme self.old n self.new new }
+        ensures cause { CountsFault result (N.device nvm.old).faults (N.device nvm.new).faults }
+    {
         blocks_are_works();
         self.control.tables();
         self.rested = false;
@@ -114,51 +168,105 @@ impl Scheme for DualScheme {
         result
     }
 
-    fn committed<N: Nvm>(&self, b: u64, nvm: &mut N) -> Result<Block, NvmError> {
+    fn committed<N: Nvm>(&self, b: u64, nvm: &mut N) -> Result<Block, NvmError>
+        requires block { b < length (penults self.now.control (N.device nvm.old)) }
+        requires stands { CanRun dual_scheme self.now (N.device nvm.old) }
+        ensures made { LoadsCommitted b self.now (N.device nvm.old) result }
+        ensures ok { let blocks = penults self.now.control (N.device nvm.old) in
+            IfOk result (λ block. block ≡ block_at blocks b) }
+        ensures same { OnOk result (N.device nvm.new ≡ N.device nvm.old) }
+        ensures err { OnErr result (HasFailed (N.device nvm.old) (N.device nvm.new)) }
+        ensures frame { IsFramed (N.device nvm.old) (N.device nvm.new) }
+        ensures cause { CountsFault result (N.device nvm.old).faults (N.device nvm.new).faults }
+    {
         self.control.committed(b, nvm)
     }
 
-    fn free(&self) -> u64 {
+    fn free(&self) -> u64
+        ensures { result ≡ free_count self.now.control.btt }
+    {
         self.control.free()
     }
 
-    fn overlay(&self) -> bool {
+    fn overlay(&self) -> bool
+        ensures { result ≡ is_overlaid self.now.control }
+    {
         self.control.overlay()
     }
 
-    fn promoting(&self) -> bool {
+    fn promoting(&self) -> bool
+        ensures { result ≡ is_promoting self.now.control }
+    {
         self.control.promoting()
     }
 
-    fn under_way(&self) -> bool {
+    fn under_way(&self) -> bool
+        ensures { result ≡ is_under_way self.now.engine.next }
+    {
         self.engine.under_way()
     }
 
-    fn overlaps() -> bool {
+    fn overlaps() -> bool
+        ensures { result ≡ true }
+    {
         true
     }
 
-    fn queued(&self) -> u64 {
+    fn queued(&self) -> u64
+        ensures { result ≡ self.now.control.dram.queued }
+    {
         self.control.queued()
     }
 
-    fn drain(&mut self) {
+    fn drain(&mut self)
+        requires { 0 < self.old.control.dram.queued }
+        ensures state { self.new ≡ drained self.old }
+        ensures running { (o : Origin) (k : Marks) (n : Device) → Stands dual_scheme o k self.old n
+            → Drains dual_scheme o k self.old n self.new }
+        ensures booting { (o : Origin) (n : Device) → IsBooting dual_scheme o self.old n
+            → BootDrains dual_scheme o self.old n self.new }
+    {
         self.control.drain();
         self.control.tables();
     }
 
-    fn merge_one(&mut self) {
+    fn merge_one(&mut self)
+        requires overlaid { is_overlaid self.old.control ≡ true }
+        requires idle { is_under_way self.old.engine.next ≡ false }
+        ensures state { self.new ≡ merged self.old }
+        ensures merges { (o : Origin) (k : Marks) (n : Device) → Stands dual_scheme o k self.old n
+            → Merges dual_scheme o k self.old n self.new }
+    {
         self.control.merge_one();
         self.control.tables();
     }
 
-    fn promote_one<N: Nvm>(&mut self, nvm: &mut N) -> Result<(), NvmError> {
+    fn promote_one<N: Nvm>(&mut self, nvm: &mut N) -> Result<(), NvmError>
+        requires promoting { is_promoting self.old.control ≡ true }
+        requires stands { CanRun dual_scheme self.old (N.device nvm.old) }
+        ensures made { PromotesNext self.old (N.device nvm.old) result self.new (N.device nvm.new) }
+        ensures ok { let n = N.device nvm.old in let new = N.device nvm.new in
+            (o : Origin) (k : Marks) → Stands dual_scheme o k self.old n
+            → OnOk result (Promotes dual_scheme o k self.old n self.new new) }
+        ensures err { OnErr result (PromotionFails (N.device nvm.old) (N.device nvm.new)) }
+        ensures left { OnErr result (StaysOf dual_scheme self.old self.new) }
+        ensures frame { IsFramed (N.device nvm.old) (N.device nvm.new) }
+        ensures cause { CountsFault result (N.device nvm.old).faults (N.device nvm.new).faults }
+    {
         self.control.promote_one(nvm)?;
         self.control.tables();
         Ok(())
     }
 
-    fn seal(&mut self, cpu: &CpuState, epoch: u64) {
+    fn seal(&mut self, cpu: &CpuState, epoch: u64)
+        requires idle { is_under_way self.old.engine.next ≡ false }
+        requires whole { is_promoting self.old.control ≡ false }
+        requires bare { is_overlaid self.old.control ≡ false }
+        requires regs { length cpu.now.regs ≡ 32 }
+        ensures state { self.new ≡ sealed cpu.now epoch self.old }
+        ensures seals { (o : Origin) (k : Marks) (n : Device) → Stands dual_scheme o k self.old n
+            → Seals dual_scheme o k cpu.now epoch self.old n self.new }
+    {
         let _whole = self.control.promoting();
         let _bare = self.control.overlay();
         self.lean = self.rested;
@@ -168,7 +276,20 @@ impl Scheme for DualScheme {
         self.engine.begin(cpu, epoch);
     }
 
-    fn engine_step<N: Nvm>(&mut self, nvm: &mut N) -> Result<EngineStep, NvmError> {
+    fn engine_step<N: Nvm>(&mut self, nvm: &mut N) -> Result<EngineStep, NvmError>
+        requires way { is_under_way self.old.engine.next ≡ true }
+        requires stands { CanRun dual_scheme self.old (N.device nvm.old) }
+        ensures made { TakesItem self.old (N.device nvm.old) result self.new (N.device nvm.new) }
+        ensures ok { let n = N.device nvm.old in let new = N.device nvm.new in
+            (o : Origin) (k : Marks) → Stands dual_scheme o k self.old n
+            → IfOk result (λ step. Engines dual_scheme o k step self.old n self.new new) }
+        ensures err { let n = N.device nvm.old in let new = N.device nvm.new in
+            (o : Origin) (k : Marks) → Stands dual_scheme o k self.old n
+            → OnErr result (EngineFails dual_scheme o k n new) }
+        ensures left { OnErr result (StaysOf dual_scheme self.old self.new) }
+        ensures frame { IsFramed (N.device nvm.old) (N.device nvm.new) }
+        ensures cause { CountsFault result (N.device nvm.old).faults (N.device nvm.new).faults }
+    {
         items_are_moves();
         items_keep_the_store();
         items_move_versions();
@@ -177,18 +298,38 @@ impl Scheme for DualScheme {
         result
     }
 
-    fn boot_step<N: Nvm>(&mut self, start: &Start, nvm: &mut N) -> Result<BootStep, NvmError> {
+    fn boot_step<N: Nvm>(&mut self, start: &Start, nvm: &mut N) -> Result<BootStep, NvmError>
+        requires boots { CanBoot dual_scheme start.now self.old (N.device nvm.old) }
+        ensures made { let n = N.device nvm.old in let new = N.device nvm.new in
+            TakesBootStep start.now self.old n result self.new new }
+        ensures ok { let n = N.device nvm.old in let new = N.device nvm.new in
+            (o : Origin) → Begins o start.now → IsBooting dual_scheme o self.old n
+            → IfOk result (λ step. BootsOn dual_scheme o step self.old n self.new new) }
+        ensures err { let n = N.device nvm.old in let new = N.device nvm.new in
+            (o : Origin) → Begins o start.now → IsBooting dual_scheme o self.old n
+            → OnErr result (BootFails dual_scheme o self.old n new) }
+        ensures left { OnErr result (StaysOf dual_scheme self.old self.new) }
+        ensures frame { IsFramed (N.device nvm.old) (N.device nvm.new) }
+        ensures cause { CountsFault result (N.device nvm.old).faults (N.device nvm.new).faults }
+    {
         let result = self.boot.step(&mut self.control, start, nvm);
         self.boot.fits();
         self.control.tables();
         scheme_result(result)
     }
 
-    fn loading(&self) -> bool {
+    fn loading(&self) -> bool
+        ensures stage { result ≡ loads_at self.now.boot.stage }
+        ensures found { let stage = self.now.boot.stage in (o : Origin) (n : Device) → Boots o self.now n
+            → result ≡ (has_read_at stage && loads (view_at o stage n)) }
+    {
         is_loading(self.boot.stage())
     }
 
-    fn cut(self, pick: u64) -> Dram {
+    fn cut(self, pick: u64) -> Dram
+        ensures drawn { result ≡ lost self.control.dram pick }
+        ensures sized { (p : Parameters) → IsOf p self → IsDramOf p result }
+    {
         self.control.cut(pick)
     }
 

@@ -18,7 +18,7 @@ use Rattle.thy_base.specs.Store.{HasStored}
 use Rattle.thy_place.specs.Devices.{Devices, devices_of, written_at}
 use Rattle.thy_control.specs.Holding.{promoted, holding_of}
 use Rattle.thy_control.specs.Once.{IsOneAction, Once, AccessesNvm, FailsOnNvm, IsOneOfNvm}
-use Rattle.thy_control.specs.Rules.{with_block, rule_for, cell_before, devices_after, state_after, FailsStore}
+use Rattle.thy_control.specs.Rules.{rule_for, cell_before, devices_after, state_after, FailsStore}
 use Rattle.thy_control.specs.State.{State, AreSoundTables, reads, penult_of}
 use Rattle.thy_control.specs.Stays.{Stays}
 use Rattle.thy_control.proofs.OnceLemmas.{one_of_nvm}

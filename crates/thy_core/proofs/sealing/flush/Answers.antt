@@ -30,6 +30,7 @@ returns-clause-leads g c = λ o cycles _ at sealing.
       agree = done.agree;
       dirty = done.dirty;
       opened = done.open;
+      sized = done.sized;
       access = once.access;
     })
 

@@ -11,6 +11,8 @@ use Rattle.thy_scheme.specs.Scheme.{StaysOf, IsBooting, CanBoot}
 use Rattle.thy_dual_model.specs.Dual.{Dual}
 use Rattle.thy_dual_model.specs.Scheme.{dual_scheme}
 use Rattle.thy_dual_model.proofs.BootStepLemmas.{boots-by, fails-by, fits-by, cause-by, of-by, took-for, may-step}
+use Rattle.thy_dual.specs.Calls.{TakesBootStep}
+use Rattle.thy_dual.proofs.CallLemmas.{takes_boot_step}
 use Rattle.thy_dual.proofs.dual.DualSchemeScheme.boot_step.Goals as goal
 
 pub step-result-requires : goal.step-result-requires
@@ -72,3 +74,15 @@ returns-clause-cause g c =
     let new : Device = g.N.Nvm.device c.step-result.new.nvm in
     subst (λ (x : Result SchemeStep NvmError). CountsFault x n.faults new.faults) (sym c.scheme_result.ensures)
     (cause-by c.step-result.result n.faults new.faults c.step-result.ensures.step.cause)
+
+pub returns-clause-made : goal.returns-clause-made
+returns-clause-made g c =
+    let v : Dual = record { control = c.self.inside.control; engine = c.self.inside.engine; rested = c.self.inside.rested; lean = c.self.inside.lean; boot = c.self.inside.boot } in
+    let n : Device = g.N.Nvm.device c.args.nvm.now in
+    let new : Device = g.N.Nvm.device c.step-result.new.nvm in
+    let d : Booting = c.step-result.new.self in
+    let t : State = c.step-result.new.control in
+    let e = c.step-result.ensures in
+    subst (λ (s : Dual). TakesBootStep c.args.start.now s n c.scheme_result.result (record v { control = t; boot = d }) new) c.self.view_is
+    (subst (λ (x : Result SchemeStep NvmError). TakesBootStep c.args.start.now v n x (record v { control = t; boot = d }) new) (sym c.scheme_result.ensures)
+    (takes_boot_step c.args.start.now v n c.step-result.result t d new e.answer e.step))

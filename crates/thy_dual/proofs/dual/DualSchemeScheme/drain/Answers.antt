@@ -1,4 +1,4 @@
-use Rattle.std.proofs.Common.{◌<◌, sym, subst}
+use Rattle.std.proofs.Common.{◌≡◌, ◌<◌, sym, ap, subst}
 use Rattle.thy_scheme.specs.Scheme.{Stands}
 use Rattle.thy_dual_model.specs.Dual.{Dual}
 use Rattle.thy_dual_model.specs.Scheme.{dual_scheme}
@@ -7,6 +7,8 @@ use Rattle.thy_scheme.specs.Boots.{BootDrains}
 use Rattle.thy_dual_model.specs.Boots.{Boots}
 use Rattle.thy_dual_model.proofs.BootLemmas.{boot-drains}
 use Rattle.thy_dual_model.proofs.CallLemmas.{drains}
+use Rattle.thy_control.specs.State.{State}
+use Rattle.thy_dual.specs.Calls.{drained}
 use Rattle.thy_dual.proofs.dual.DualSchemeScheme.drain.Goals as goal
 
 pub returns-clause-running : goal.returns-clause-running
@@ -23,3 +25,9 @@ returns-clause-booting c = λ o n booting.
     let boots : Boots o v n = subst (λ (s : Dual). Boots o s n) (sym c.self.view_is) booting.boots in
     subst (λ (s : Dual). BootDrains dual_scheme o s n (record v { control = c.drain.new.self })) c.self.view_is
     (boot-drains o v n c.drain.new.self boots c.drain.ensures.state some c.tables.ensures)
+
+pub returns-clause-state : goal.returns-clause-state
+returns-clause-state c =
+    let v : Dual = record { control = c.self.inside.control; engine = c.self.inside.engine; rested = c.self.inside.rested; lean = c.self.inside.lean; boot = c.self.inside.boot } in
+    subst (λ (s : Dual). record v { control = c.drain.new.self } ≡ drained s) c.self.view_is
+    (ap (λ (x : State). record v { control = x }) c.drain.ensures.state)

@@ -9,6 +9,8 @@ use Rattle.thy_dual_model.specs.Dual.{Dual}
 use Rattle.thy_dual_model.specs.Scheme.{dual_scheme}
 use Rattle.thy_dual_model.proofs.StoreLemmas.{of-failed}
 use Rattle.thy_dual_model.proofs.EngineLemmas.{engines-by, fails-by, fits-by}
+use Rattle.thy_dual.specs.Calls.{TakesItem}
+use Rattle.thy_dual.proofs.CallLemmas.{takes_item}
 use Rattle.thy_dual.proofs.dual.DualSchemeScheme.engine_step.Goals as goal
 
 pub invariant_of-self : goal.invariant_of-self
@@ -39,6 +41,18 @@ returns-clause-err g c = λ o k stands.
     let on : is_under_way v.engine.next ≡ true = subst (λ (s : Dual). is_under_way s.engine.next ≡ true) (sym c.self.view_is) c.requires.way in
     let stands_v : Stands dual_scheme o k v n = subst (λ (s : Dual). Stands dual_scheme o k s n) (sym c.self.view_is) stands in
     fails-by o k v n stands_v on new r c.step-result.ensures.err c.step-result.ensures.frame
+
+pub returns-clause-made : goal.returns-clause-made
+returns-clause-made g c =
+    let v : Dual = record { control = c.self.inside.control; engine = c.self.inside.engine; rested = c.self.inside.rested; lean = c.self.inside.lean; boot = c.self.inside.boot } in
+    let n : Device = g.N.Nvm.device c.args.nvm.now in
+    let new : Device = g.N.Nvm.device c.step-result.new.nvm in
+    let r : Result EngineStep NvmError = c.step-result.result in
+    let t = c.step-result.new.control in
+    let f = c.step-result.new.self in
+    let e = c.step-result.ensures in
+    subst (λ (s : Dual). TakesItem s n r (record v { control = t; engine = f }) new) c.self.view_is
+    (takes_item v n r t f new e.answer e.engine e.control e.device e.kept e.kept_control e.err)
 
 pub returns-clause-left : goal.returns-clause-left
 returns-clause-left g c =

@@ -1,4 +1,4 @@
-use Rattle.std.proofs.Common.{◌≡◌, false, sym, subst}
+use Rattle.std.proofs.Common.{◌≡◌, false, sym, ap, subst}
 use Rattle.thy_scheme.specs.Scheme.{Stands}
 use Rattle.thy_dual_model.specs.Dual.{Dual}
 use Rattle.thy_dual_model.specs.Scheme.{dual_scheme}
@@ -6,6 +6,8 @@ use Rattle.thy_commit.specs.Items.{is_under_way}
 use Rattle.thy_scheme.specs.Calls.{Merges}
 use Rattle.thy_dual_model.proofs.CallLemmas.{merges}
 use Rattle.thy_dual_model.proofs.MergeLemmas.{Fits-merged}
+use Rattle.thy_control.specs.State.{State}
+use Rattle.thy_dual.specs.Calls.{merged}
 use Rattle.thy_dual.proofs.dual.DualSchemeScheme.merge_one.Goals as goal
 
 pub invariant_of-self : goal.invariant_of-self
@@ -13,10 +15,16 @@ invariant_of-self c =
     let idle : is_under_way c.self.inside.engine.next ≡ false = subst (λ (s : Dual). is_under_way s.engine.next ≡ false) (sym c.self.view_is) c.requires.idle in
     Fits-merged c.self.inside.engine c.self.inside.control c.merge_one.new.self c.self.invariant idle c.merge_one.ensures.state
 
-pub returns : goal.returns
-returns c = λ o k n stands.
+pub returns-clause-merges : goal.returns-clause-merges
+returns-clause-merges c = λ o k n stands.
     let v : Dual = record { control = c.self.inside.control; engine = c.self.inside.engine; rested = c.self.inside.rested; lean = c.self.inside.lean; boot = c.self.inside.boot } in
     let stands_v : Stands dual_scheme o k v n = subst (λ (s : Dual). Stands dual_scheme o k s n) (sym c.self.view_is) stands in
     let m = c.merge_one.ensures in
     subst (λ (s : Dual). Merges dual_scheme o k s n (record v { control = c.merge_one.new.self })) c.self.view_is
     (merges o k v n c.merge_one.new.self stands_v m.left (m.keeps n stands_v.sound.held.sized).work (m.stays n stands_v.sound.held.sized) m.state c.tables.ensures)
+
+pub returns-clause-state : goal.returns-clause-state
+returns-clause-state c =
+    let v : Dual = record { control = c.self.inside.control; engine = c.self.inside.engine; rested = c.self.inside.rested; lean = c.self.inside.lean; boot = c.self.inside.boot } in
+    subst (λ (s : Dual). record v { control = c.merge_one.new.self } ≡ merged s) c.self.view_is
+    (ap (λ (x : State). record v { control = x }) c.merge_one.ensures.state)

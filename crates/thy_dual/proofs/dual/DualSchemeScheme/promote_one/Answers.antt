@@ -1,4 +1,4 @@
-use Rattle.std.proofs.Common.{◌≡◌, true, sym, subst, OnErr}
+use Rattle.std.proofs.Common.{◌≡◌, true, sym, subst, Ok, OnErr}
 use Rattle.thy_base.specs.Device.{Device}
 use Rattle.thy_scheme.specs.Scheme.{StaysOf, Stands}
 use Rattle.thy_dual_model.specs.Dual.{Dual, is_promoting}
@@ -7,6 +7,8 @@ use Rattle.thy_commit.proofs.FitLemmas.{stays_fit}
 use Rattle.thy_scheme.specs.Calls.{Promotes}
 use Rattle.thy_dual_model.proofs.StoreLemmas.{of-kept}
 use Rattle.thy_dual_model.proofs.CallLemmas.{promotes}
+use Rattle.thy_dual.specs.Calls.{PromotesNext}
+use Rattle.thy_dual.proofs.CallLemmas.{promotes_next}
 use Rattle.thy_dual.proofs.dual.DualSchemeScheme.promote_one.Goals as goal
 
 pub invariant_of-self-2 : goal.invariant_of-self-2
@@ -24,6 +26,15 @@ returns-clause-ok g c = λ o k stands.
     let p = c.in_ok-promote_one.ensures in
     subst (λ (s : Dual). Promotes dual_scheme o k s n (record v { control = c.promote_one.new.self }) new) c.self.view_is
     (promotes o k v n c.promote_one.new.self new stands_v some p.left p.held p.fills.state p.fills.nvm p.stays c.tables.ensures)
+
+pub returns-clause-made : goal.returns-clause-made
+returns-clause-made g c =
+    let v : Dual = record { control = c.self.inside.control; engine = c.self.inside.engine; rested = c.self.inside.rested; lean = c.self.inside.lean; boot = c.self.inside.boot } in
+    let n : Device = g.N.Nvm.device c.args.nvm.now in
+    let new : Device = g.N.Nvm.device c.promote_one.new.nvm in
+    let p = c.in_ok-promote_one.ensures in
+    subst (λ (s : Dual). PromotesNext s n (Ok tt) (record v { control = c.promote_one.new.self }) new) c.self.view_is
+    (promotes_next v n (Ok tt) c.promote_one.new.self new p.fills p.side)
 
 pub returns-in_err-promote_one-clause-left : goal.returns-in_err-promote_one-clause-left
 returns-in_err-promote_one-clause-left g c =

@@ -13,6 +13,8 @@ use Rattle.thy_commit.proofs.FitLemmas.{stays_fit}
 use Rattle.thy_scheme.specs.Calls.{IsOneAccess}
 use Rattle.thy_view.specs.Dram.{WritesBlock}
 use Rattle.thy_dual_model.proofs.AccessLemmas.{one-access, store-room, store-up, store-writes, store-whole, store-stays}
+use Rattle.thy_dual.specs.Calls.{StoresByRule}
+use Rattle.thy_dual.proofs.CallLemmas.{stores_by_rule}
 use Rattle.thy_dual.proofs.dual.DualSchemeScheme.store.Goals as goal
 
 pub invariant_of-self : goal.invariant_of-self
@@ -59,3 +61,14 @@ returns-clause-once g c =
     let writes : n.down ≡ false → WritesBlock m n v.control.dram t.dram = store-writes c.args.b c.args.block.now v.control m t n r e.state e.nvm e.err in
     subst (λ (d : Dual). IsOneAccess dual_scheme d m (record v { control = t; rested = false }) n) c.self.view_is
     (one-access v m (record v { control = t; rested = false }) n once works.up stays writes)
+
+pub returns-clause-made : goal.returns-clause-made
+returns-clause-made g c =
+    let v : Dual = record { control = c.self.inside.control; engine = c.self.inside.engine; rested = c.self.inside.rested; lean = c.self.inside.lean; boot = c.self.inside.boot } in
+    let t : State = c.store-result.new.self in
+    let m : Device = g.N.Nvm.device c.args.nvm.now in
+    let n : Device = g.N.Nvm.device c.store-result.new.nvm in
+    let r : Result Stored NvmError = c.store-result.result in
+    let e = c.store-result.ensures in
+    subst (λ (d : Dual). StoresByRule c.args.b c.args.block.now d m r (record v { control = t; rested = false }) n) c.self.view_is
+    (stores_by_rule c.args.b c.args.block.now v m r t n e.answer e.state e.nvm e.kept e.err)
