@@ -95,8 +95,8 @@ fn scheme_result(answer: Result<Recovered, NvmError>) -> Result<BootStep, NvmErr
     }
 }
 
-// Each call has the trait's clauses, with what the trait leaves open filled in, and beside them what it makes of controller,
-// engine and boot: those of the one call below.
+// Each call has the trait's clauses, of this scheme. Those named `made` and `state` stand beside them: they say what the call
+// makes of controller, engine, boot and NVM, which is what the one call below does (specs/Calls.antt).
 impl Scheme for DualScheme {
     ghost use Rattle.thy_dual_model.proofs.LawfulLemmas.{lawful as laws_of_parts};
 
@@ -320,7 +320,8 @@ impl Scheme for DualScheme {
 
     fn loading(&self) -> bool
         ensures stage { result ≡ loads_at self.now.boot.stage }
-        ensures found { let stage = self.now.boot.stage in (o : Origin) (n : Device) → Boots o self.now n
+        ensures found { let stage = self.now.boot.stage in
+            (o : Origin) (n : Device) → Boots o self.now n
             → result ≡ (has_read_at stage && loads (view_at o stage n)) }
     {
         is_loading(self.boot.stage())
