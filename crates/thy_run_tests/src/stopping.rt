@@ -5,7 +5,9 @@ ghost use Rattle.std.specs.Prelude.{◌≡◌};
 use crate::expect::{expect, expect_at};
 use crate::faulty::{Fault, FaultyNvm};
 use crate::geometry::geometry_of;
-use crate::machine::{EPOCH_OF_ONE, MOST, Row, cpu_of, new_dram, numbers_of, plain_machines, start_for};
+use crate::machine::{
+    EPOCH_OF_ONE, MOST, Row, cpu_of, new_dram, numbers_of, plain_machines, start_for,
+};
 use std::alloc::Global;
 use std::marker::Model;
 use std::process::Abort;
@@ -89,7 +91,9 @@ impl<M: Computer> Stopping<M> {
     /// Loses power, which comes on again over the DRAM.
     fn cut(self, rt: &impl Abort, alloc: Global, pick: u64) -> M {
         let Stopping {
-            geometry, machine, ..
+            geometry,
+            machine,
+            ..
         } = self;
         M::power_on(alloc, &geometry, machine.cut(pick)).expect(rt, "memory")
     }
@@ -109,7 +113,12 @@ fn stops<M: Computer>(rt: &impl Abort, alloc: Global, row: &Row, plains: &[Plain
     if got.pc != 0 {
         let inside = (got.count as usize) < plains.len();
         assert!(rt; inside);
-        expect_at(rt, cpu_of(&got), cpu_of(plains[got.count as usize].state()), failing);
+        expect_at(
+            rt,
+            cpu_of(&got),
+            cpu_of(plains[got.count as usize].state()),
+            failing,
+        );
     }
     let machine = on.cut(rt, alloc, failing);
     expect_at(rt, machine.failed(), false, failing);
