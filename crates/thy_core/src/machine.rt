@@ -104,8 +104,8 @@ impl<S: Scheme> Machine<S> {
     }
 
     /// Once the boot is over, the state that the machine executes, where no instruction that is under way has written a
-    /// block: it is that from before this instruction. After a step that failed, the processor's part of the state before
-    /// the instruction under way, with no memory and no console, and the NVM is not read.
+    /// block: it is that from before this instruction. After a step that failed, once the boot is over, the processor's
+    /// part of the state before the instruction under way, with no memory and no console, and the NVM is not read.
     ///
     /// # Errors
     /// `Nvm` where the NVM fails, `Memory` for want of memory.

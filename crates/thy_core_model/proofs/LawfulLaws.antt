@@ -18,7 +18,7 @@ use Rattle.thy_isa.specs.declared.state.Status.TheVariants.{Running}
 use Rattle.thy_view.specs.declared.view.Phase.{Phase}
 use Rattle.thy_view.specs.declared.view.Phase.TheVariants.{Boot, Run, Halt}
 use Rattle.thy_view.specs.declared.view.View.{View}
-use Rattle.thy_view.specs.Kind.{IsPoweredOn, IsUnderWay, IsShortage}
+use Rattle.thy_view.specs.Kind.{IsPoweredOn, IsUnderWay, IsShortage, IsPressed}
 use Rattle.thy_view.specs.Origin.{Origin, at}
 use Rattle.thy_view.specs.Stores.{blocks_in, stored_by}
 use Rattle.thy_view.specs.Turn.{Shortage}
@@ -194,6 +194,16 @@ module _ {S : Type 0} (K : SchemeOf S) (o : Origin) (m : Machine S) (n : Device)
   few_in Run run = few_run Run (λ e. absurd (cc)) run
   few_in Halt run = few_run Halt (λ e. absurd (cc)) run
 
+-- what presses on the machine at a moment is as it says
+pub pressed_at : {S : Type 0} (K : SchemeOf S) (l : IsLawfulScheme K) (o : Origin) (k : ℕ) (m : Machine S) (n : Device) → Sound K o k m n
+    → IsPressed (kind_over K) o m n
+pressed_at K l o k m n sound = record {
+  under_way = way_in K o m n l sound.up m.phase sound.moment;
+  barred = refl;
+  short = λ s. short_in K o m n l sound.up m.phase s sound.moment;
+  few = few_in K o m n l sound.up m.phase sound.moment;
+}
+
 pub machine_is_lawful : {S : Type 0} (K : SchemeOf S) → MachineIsLawful K
 machine_is_lawful K l = record {
   powers = powers K l;
@@ -206,9 +216,6 @@ machine_is_lawful K l = record {
   some_ahead = λ o k m n at. omega arith;
   counts_queues = λ m n. refl;
   counts_dram = λ m. l.queued_is m.scheme;
-  short_of = λ o k m n s sound. short_in K o m n l sound.up m.phase s sound.moment;
-  under_way = λ o k m n sound. way_in K o m n l sound.up m.phase sound.moment;
-  barred = λ m. refl;
-  few_left = λ o k m n sound. few_in K o m n l sound.up m.phase sound.moment;
+  pressed = pressed_at K l;
   is_safe = λ o k m n. moment_is_safe K o k m n l;
 }

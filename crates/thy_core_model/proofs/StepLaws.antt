@@ -16,7 +16,7 @@ use Rattle.thy_core_model.specs.Machine.{Machine, view_in, view_of, gauge_of}
 use Rattle.thy_core_model.specs.Pace.{most_spent}
 use Rattle.thy_core_model.specs.Runs.{LeadingIsStep, FailingIsSafe}
 use Rattle.thy_core_model.specs.Sound.{SoundIn, Sound}
-use Rattle.thy_core_model.proofs.LawfulLaws.{boots_phase}
+use Rattle.thy_core_model.proofs.LawfulLaws.{boots_phase, pressed_at}
 use Rattle.thy_core_model.proofs.NearLaws.{cycles_come_nearer}
 use Rattle.thy_core_model.proofs.RunLaws.{moment_is_safe}
 
@@ -41,6 +41,7 @@ pub leading_is_step : {S : Type 0} (K : SchemeOf S) → LeadingIsStep K
 leading_is_step K o cycles pick m next n new r at leads turn ended = record {
   at_next = leads.at_next;
   step = leads.step;
+  pressed = pressed_at K at.lawful o cycles m n at.sound;
   turn = turn;
   acts = leads.acts;
   dram = leads.dram;
@@ -67,7 +68,7 @@ processor_in K l o m n Halt up s over = s.counted.processor
 
 pub failing_is_safe : {S : Type 0} (K : SchemeOf S) → FailingIsSafe K
 failing_is_safe K o cycles pick m next n new did stall moment fails hart failed turn = record {
-  acted = record { did = did; stall = stall; turn = turn; failed = fails.failed; still = fails.still };
+  acted = record { did = did; stall = stall; pressed = pressed_at K moment.lawful o cycles m n moment.sound; turn = turn; failed = fails.failed; still = fails.still };
   safe = fails.safe;
   stopped = record {
     failed = failed;

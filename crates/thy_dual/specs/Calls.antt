@@ -1,5 +1,5 @@
 -- What each call makes of the scheme and of the NVM, and what it answers: that of one call of
--- its controller, its engine or its boot.
+-- each part that takes part in it, of controller, engine and boot.
 use Rattle.std.specs.Prelude.{◌≡◌, ℕ, true, false, length, Result, IfOk, OnOk, OnErr}
 use Rattle.thy_base.specs.declared.block.Block.{Block}
 use Rattle.thy_base.specs.declared.config.Parameters.{Parameters}

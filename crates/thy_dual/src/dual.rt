@@ -96,7 +96,7 @@ fn scheme_result(answer: Result<Recovered, NvmError>) -> Result<BootStep, NvmErr
 }
 
 // Each call has the trait's clauses, of this scheme. Those named `made` and `state` stand beside them: they say what the call
-// makes of controller, engine, boot and NVM, which is what the one call below does (specs/Calls.antt).
+// makes of controller, engine, boot and NVM, which is what the calls below do (specs/Calls.antt).
 impl Scheme for DualScheme {
     ghost use Rattle.thy_dual_model.proofs.LawfulLemmas.{lawful as laws_of_parts};
 

@@ -45,7 +45,7 @@ StaysKeep =
 abbrev pub RunIsSound : Type 0
 RunIsSound = (o : Origin) (k : Marks) (s : Dual) (n : Device) → Stands dual_scheme o k s n → RunHolds dual_scheme o k s n
 
--- nothing is barred while a checkpoint is under way: an instruction is short only of entries
+-- nothing is barred while a checkpoint is under way
 abbrev pub NothingIsBarred : Type 0
 NothingIsBarred = (m : Machine Dual) → is_barred dual_scheme m ≡ false
 

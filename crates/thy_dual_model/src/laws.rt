@@ -15,7 +15,7 @@ pub fn a_run_is_sound()
     ensures { RunIsSound }
 {}
 
-/// The hart may run on beside every checkpoint: an instruction is short only where entries of the block table are.
+/// The hart may run on beside every checkpoint.
 pub fn a_checkpoint_bars_nothing()
     ensures { NothingIsBarred }
 {}

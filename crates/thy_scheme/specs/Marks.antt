@@ -7,12 +7,12 @@ use Rattle.thy_record.specs.declared.engine_step.EngineStep.TheVariants.{CommitW
 pub record Marks : Type 0 where
   -- the committed checkpoint
   pub done : Mark
-  -- the checkpoint that is under way
+  -- the checkpoint that is sealed and not yet committed
   pub sealed : Option Mark
   -- its commit block was written, and no barrier has come since
   pub written : Bool
 
--- one committed checkpoint, and none under way
+-- one committed checkpoint, and none sealed
 abbrev pub only : Mark → Marks
 only m = record { done = m; sealed = None; written = false }
 

@@ -104,14 +104,40 @@ pub record HasStopped {M : Type 0} (K : KindOf M) (m : M) : Type 0 where
 abbrev pub CanSnapshot : {M : Type 0} → KindOf M → M → Device → Type 0
 CanSnapshot K m n = CanRead K m n ⊎ HasStopped K m
 
+-- a checkpoint is under way while a mark is sealed, or while the scheme applies what one has written, and never both
+pub record IsUnderWay (sealed : Option Mark) (p : Pressure) : Type 0 where
+  pub way : p.under_way ≡ (is_some sealed || p.applies)
+  pub apart : p.applies ≡ true → sealed ≡ None
+
+-- A shortage is real: fewer entries are free than are needed by the lines that are dirty, with the entries that are reserved,
+-- and by the blocks of memory and console that the plain machine's next instruction stores to.
+pub record IsShortage (o : Origin) (v : View) (g : Gauge) (s : Shortage) : Type 0 where
+  pub free : s.free ≡ g.free
+  pub dirty : s.dirty ≡ g.dirty
+  pub need : s.need ≡ needs_at o v.count
+  pub short : s.free < s.dirty + s.need
+
+-- what presses on a machine at a moment is as it says
+pub record IsPressed {M : Type 0} (K : KindOf M) (o : Origin) (m : M) (n : Device) : Type 0 where
+  -- after the boot, a checkpoint is under way exactly while a mark is sealed or what one has written is applied
+  pub under_way : is_boot (K.view o m n).phase ≡ false → IsUnderWay (K.view o m n).sealed (K.pressure m)
+  -- the hart is barred exactly while one is under way and may not run beside it
+  pub barred : (K.pressure m).barred ≡ ((K.pressure m).under_way && not K.overlaps)
+  -- a shortage is a real one
+  pub short : (s : Shortage) → (K.pressure m).short ≡ Some s → IsShortage o (K.view o m n) (K.gauge m n) s
+  -- little is left of an instruction, to be copied and to be promoted
+  pub few : IsWithin (K.most_owed o.geometry) (K.most_promotions o.geometry) (K.gauge m n)
+
 -- A step that succeeded leads to the next moment of the run, by a step of the view, and was its pick's turn. Whatever
 -- a power cut then leaves is the committed checkpoint, whole, or the one in doubt. A step that finds an empty queue, as
 -- the boot's first does, reads the commit block where that is still to be read. It acts on the device once, or reads it
 -- and writes one block of the DRAM, keeps within the bounds, is a cycle nearer to the next instruction, and gets done what it
--- says that it did. In a boot that found a checkpoint it leaves the device as it was.
+-- says that it did. What presses on the machine before it, by which its turn goes, is as it says. In a boot that found a
+-- checkpoint it leaves the device as it was.
 pub record IsStep {M : Type 0} (K : KindOf M) (o : Origin) (k : ℕ) (pick : Pick) (m next : M) (n new : Device) (r : Stepped) : Type 0 where
   pub at_next : K.is_at o (k + 1) next new
   pub step : CoreStep o (K.view o m n) r.did (K.view o next new)
+  pub pressed : IsPressed K o m n
   pub turn : Turn o pick (length n.queue) (K.view o m n) (K.pressure m) r.did r.stall
   pub acts : Acts r.did n new
   pub dram : LeavesDram r.did n new (K.dram m) (K.dram next)
@@ -130,6 +156,7 @@ pub record CycleFailed {M : Type 0} (K : KindOf M) (o : Origin) (pick : Pick) (m
   -- what the cycle would have done, and the stall that it would have told
   pub did : Did
   pub stall : Option Stall
+  pub pressed : IsPressed K o m n
   pub turn : Turn o pick (length n.queue) (K.view o m n) (K.pressure m) did stall
   pub failed : ActionFailed did n new
   pub still : (found : Mark) → (K.view o m n).phase ≡ Boot → (K.view o m n).done ≡ Some found → HasFailed n new
@@ -219,19 +246,6 @@ pub record IsPoweredOn {M : Type 0} (K : KindOf M) (o : Origin) (m : M) (n : Dev
   pub boot_left : (K.gauge m n).boot_left ≤ K.most_booting o.geometry
   pub ahead : K.ahead o m n ≤ K.most_boot o.geometry
 
--- a checkpoint is under way while a mark is sealed, or while the scheme applies what one has written, and never both
-pub record IsUnderWay (sealed : Option Mark) (p : Pressure) : Type 0 where
-  pub way : p.under_way ≡ (is_some sealed || p.applies)
-  pub apart : p.applies ≡ true → sealed ≡ None
-
--- a shortage is real: fewer entries are free than the dirty lines and the blocks need that the plain machine's next instruction
--- stores to
-pub record IsShortage (o : Origin) (v : View) (g : Gauge) (s : Shortage) : Type 0 where
-  pub free : s.free ≡ g.free
-  pub dirty : s.dirty ≡ g.dirty
-  pub need : s.need ≡ needs_at o v.count
-  pub short : s.free < s.dirty + s.need
-
 -- what holds of every machine of a type
 pub record IsLawful {M : Type 0} (K : KindOf M) : Type 0 where
   -- power can come on
@@ -259,17 +273,8 @@ pub record IsLawful {M : Type 0} (K : KindOf M) : Type 0 where
   -- the gauge counts what is queued in the NVM and in the DRAM
   pub counts_queues : (m : M) (n : Device) → (K.gauge m n).queued ≡ length n.queue + (K.pressure m).dram
   pub counts_dram : (m : M) → (K.pressure m).dram ≡ (K.dram m).queued
-  -- a shortage is a real one
-  pub short_of : (o : Origin) (k : ℕ) (m : M) (n : Device) (s : Shortage)
-      → K.is_at o k m n → (K.pressure m).short ≡ Some s → IsShortage o (K.view o m n) (K.gauge m n) s
-  -- after the boot, a checkpoint is under way exactly while a mark is sealed or what one has written is applied
-  pub under_way : (o : Origin) (k : ℕ) (m : M) (n : Device)
-      → K.is_at o k m n → is_boot (K.view o m n).phase ≡ false → IsUnderWay (K.view o m n).sealed (K.pressure m)
-  -- the hart is barred exactly while one is under way and may not run beside it
-  pub barred : (m : M) → (K.pressure m).barred ≡ ((K.pressure m).under_way && not K.overlaps)
-  -- little is left of an instruction, to be copied and to be promoted
-  pub few_left : (o : Origin) (k : ℕ) (m : M) (n : Device)
-      → K.is_at o k m n → IsWithin (K.most_owed o.geometry) (K.most_promotions o.geometry) (K.gauge m n)
+  -- what presses on a machine is as it says
+  pub pressed : (o : Origin) (k : ℕ) (m : M) (n : Device) → K.is_at o k m n → IsPressed K o m n
   -- whatever a power cut leaves at a moment is the committed checkpoint, whole, or the one in doubt
   pub is_safe : (o : Origin) (k : ℕ) (m : M) (n : Device)
       → K.is_at o k m n → Safe K.decode o (K.view o m n).done (doubt_of (K.view o m n)) n

@@ -47,8 +47,9 @@ pub trait Computer: Drop {
     fn failed(&self) -> bool
         ensures { result ≡ kind.failed self.now };
 
-    /// The state that the machine executes, where no instruction is under way. After a step that failed, the processor's
-    /// part of the state before the instruction under way, with no memory and no console, whatever the device is.
+    /// The state that the machine executes, where no instruction is under way. After a step that failed, once
+    /// the boot is over, the processor's part of the state before the instruction under way, with no memory and no console,
+    /// whatever the device is.
     ///
     /// # Errors
     /// `Nvm` where the device fails, `Memory` for want of memory.

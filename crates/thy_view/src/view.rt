@@ -19,7 +19,7 @@ pub struct View {
     pub phase: Phase,
     /// The committed checkpoint.
     pub done: Option<Mark>,
-    /// The checkpoint that is under way.
+    /// The checkpoint that is sealed and not yet committed.
     pub sealed: Option<Mark>,
     /// The epoch that executes.
     pub epoch: u64,
