@@ -1,4 +1,4 @@
-# The least that starts a program in C: gp is set, `main` is called, and its value is the exit code. It gives main no
+# The least that starts a program in C: gp and tp are set, `main` is called, and its value is the exit code. It gives main no
 # words and calls no constructors, as ../runtime/crt0.s does. sp is set already, and memory is zero.
     .section .text.start
     .globl _start

@@ -1,7 +1,7 @@
 # The first instructions of a program in C. The machine starts with sp (x2) at the top of the stack and with zeros
 # in all of memory outside the file's segments, so no memory has to be cleared. gp and tp are set, constructors are
-# called in their order, and main gets one word: argc is 1, argv[0] is "program", behind it stands a null pointer,
-# which is also the end of an empty environment.
+# called in their order, and main gets one word: argc is 1, argv[0] is "program", and after it comes a null
+# pointer, which is also the end of an empty environment.
     .section .text.start
     .globl _start
 _start:

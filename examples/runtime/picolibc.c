@@ -102,7 +102,7 @@ FILE *const stdin = &input.xfile.cfile.file;
 FILE *const stdout = &output.xfile.cfile.file;
 FILE *const stderr = &errors.xfile.cfile.file;
 
-// `exit` calls this behind the functions that the program gave to `atexit`, and behind all other destructors.
+// `exit` calls this after the functions that the program gave to `atexit`, and after all other destructors.
 __attribute__((destructor(101))) static void flush_output(void) {
     fflush(stdout);
 }
@@ -138,7 +138,7 @@ int rename(const char *from, const char *to) {
     return fail(ENOENT);
 }
 
-// What is behind the three descriptors is a stream of bytes.
+// Each of the three descriptors is a stream of bytes.
 int fstat(int descriptor, struct stat *to) {
     if (!is_open(descriptor)) {
         return fail(EBADF);
