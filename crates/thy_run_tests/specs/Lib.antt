@@ -1,4 +1,3 @@
 pub mod Faulty
 pub mod Powered
 pub mod Scarce
-pub mod Stopping

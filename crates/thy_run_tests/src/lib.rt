@@ -22,5 +22,3 @@ mod made;
 mod plain;
 #[cfg(test)]
 mod runs;
-#[cfg(test)]
-mod stopping;

@@ -24,10 +24,10 @@ use thy_record::{EngineStep, Start};
 use thy_view::{Computer, Did, Stepped};
 
 /// A program, and what its run without cuts comes to.
-pub(crate) struct Row {
-    pub words: &'static [u32],
+struct Row {
+    words: &'static [u32],
     /// How many instructions an epoch has.
-    pub epoch: u64,
+    epoch: u64,
     /// The count at the end of each epoch, and why it ends there.
     ends: &'static [(u64, EndCause)],
     /// How many instructions are retired while each checkpoint is under way, by the schedule of seed 0.
@@ -38,7 +38,7 @@ pub(crate) struct Row {
 
 /// `addi a0,zero,5; addi a0,a0,1; addi a7,zero,93; ecall`, in epochs of one instruction. While the checkpoint of one is
 /// written the next instruction is executed.
-pub(crate) static EPOCH_OF_ONE: Row = Row {
+static EPOCH_OF_ONE: Row = Row {
     words: &[0x00500513, 0x00150513, 0x05d00893, 0x00000073],
     epoch: 1,
     ends: &[
@@ -83,10 +83,10 @@ static NINE_STORES: Row = Row {
 };
 
 /// A run has fewer cycles than this between two cuts.
-pub(crate) const MOST: u64 = 5000;
+const MOST: u64 = 5000;
 
 /// The least memory, with the least tables.
-pub(crate) fn numbers_of(epoch: u64, mix: u64) -> Parameters
+fn numbers_of(epoch: u64, mix: u64) -> Parameters
     ensures pages { result.pages ≡ 8 }
     ensures console { result.console ≡ 1 }
 {
@@ -109,7 +109,7 @@ pub(crate) fn numbers_of(epoch: u64, mix: u64) -> Parameters
 }
 
 /// The start of a program of these words, with no input.
-pub(crate) fn start_for(rt: &impl Abort, alloc: Global, geometry: &Geometry, words: &[u32]) -> Start
+fn start_for(rt: &impl Abort, alloc: Global, geometry: &Geometry, words: &[u32]) -> Start
     requires { program_size geometry.now ≡ 28672 }
     ensures origin { IsOrigin (origin_from geometry.now result) }
     ensures made { result.kept ≡ None }
@@ -125,7 +125,7 @@ pub(crate) fn start_for(rt: &impl Abort, alloc: Global, geometry: &Geometry, wor
 }
 
 /// A DRAM that was never on.
-pub(crate) fn new_dram(rt: &impl Abort, alloc: Global, geometry: &Geometry) -> Dram
+fn new_dram(rt: &impl Abort, alloc: Global, geometry: &Geometry) -> Dram
     ensures { IsDramOf geometry.now result }
 {
     Dram::new(alloc, geometry.dram_blocks(), geometry.numbers().dramq).expect(rt, "memory")
@@ -361,7 +361,7 @@ fn finished<M: Computer>(rt: &impl Abort, on: &mut Powered<M>, story: &mut Story
 }
 
 /// The plain machine at each state of a row's program, from its start to its end.
-pub(crate) fn plain_machines(rt: &impl Abort, alloc: Global, row: &Row) -> Vec<Plain> {
+fn plain_machines(rt: &impl Abort, alloc: Global, row: &Row) -> Vec<Plain> {
     let mut plains = Vec::new(alloc);
     for count in 0..100 {
         let mut plain = start_with(rt, alloc, row.words, b"");
@@ -377,7 +377,7 @@ pub(crate) fn plain_machines(rt: &impl Abort, alloc: Global, row: &Row) -> Vec<P
 }
 
 /// A state without its memory.
-pub(crate) fn cpu_of(state: &MachState) -> CpuState {
+fn cpu_of(state: &MachState) -> CpuState {
     CpuState {
         pc: state.pc,
         regs: state.regs,
