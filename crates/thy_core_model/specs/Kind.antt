@@ -56,6 +56,6 @@ kind_over K = record {
   most_booting = K.most_booting;
   most_owed = K.most_owed;
   most_promotions = K.most_promotions;
-  most_boot = most_ahead K;
+  most_ahead = most_ahead K;
   most_each = most_each_of K;
 }
