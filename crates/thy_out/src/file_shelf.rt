@@ -13,7 +13,8 @@ use std::io::{ErrorKind, Read};
 use thy_base::{FetchError, PutError, Shelf};
 
 /// The files that the runtime reaches; a name is a path. What it holds it does not tell, since
-/// others change it too, so it counts a fault with every answer but bytes and want of memory.
+/// others change it too, so it counts a fault with every answer but bytes and want of memory. It
+/// does not tell under which names calls failed.
 #[derive(Drop)]
 pub struct FileShelf<R> {
     rt: R,
@@ -87,7 +88,7 @@ impl<R: Files> Shelf for FileShelf<R> {
 
     fn fetch(&mut self, alloc: Global, name: &str, limit: u64) -> Result<Vec<u8>, FetchError>
         ensures within { IfOk result (λ bytes. length bytes.items ≤ limit) }
-        ensures faults { FetchCounts (untold self.old.faults) (untold self.new.faults) result }
+        ensures faults { FetchCounts name.now (untold self.old.faults) (untold self.new.faults) result }
         ensures after { self.new.faults ≡ fetch_faults self.old.faults result }
     {
         match read_file(&self.rt, alloc, name, limit) {
@@ -101,7 +102,7 @@ impl<R: Files> Shelf for FileShelf<R> {
     }
 
     fn put(&mut self, _alloc: Global, name: &str, bytes: &[u8]) -> Result<(), PutError>
-        ensures faults { PutCounts (untold self.old.faults) (untold self.new.faults) result }
+        ensures faults { PutCounts name.now (untold self.old.faults) (untold self.new.faults) result }
         ensures after { self.new.faults ≡ put_faults self.old.faults result }
     {
         match fs::write(&self.rt, name, bytes) {
