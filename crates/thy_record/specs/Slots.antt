@@ -1,3 +1,4 @@
+-- Part of the claim.
 -- A slot: the processor's record, and behind it the two tables.
 use Rattle.std.specs.Prelude.{◌≡◌, ℕ, ◌+◌, ◌-◌, ◌<◌, nat_lt, if◌then◌else◌, List, [], ◌∷◌, map, Option}
 use Rattle.std.specs.List.{range_with_len}
