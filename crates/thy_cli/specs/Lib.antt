@@ -3,4 +3,5 @@ pub mod Saving
 pub mod Restoring
 pub mod Answering
 pub mod Completing
+pub mod Machines
 pub mod Planning
