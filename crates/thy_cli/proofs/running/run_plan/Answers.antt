@@ -11,7 +11,7 @@ use Rattle.thy_cli.proofs.running.run_plan.Goals as goal
 pub returns-in-Err : goal.returns-in-Err
 returns-in-Err g c = λ job names p. inl (
   DeviceRefusal c.in-Err.error,
-  (p.program, refl, c.in-Err.ensures.err),
+  (p.program, record { faults = refl; failed = refl }, c.in-Err.ensures.err),
   record {
     status = c.refuse.ensures.status;
     events = c.refuse.ensures.events;
