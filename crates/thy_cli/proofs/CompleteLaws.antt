@@ -13,7 +13,7 @@ use Rattle.thy_base.specs.declared.config.Config.{Config}
 use Rattle.thy_base.specs.Counts.{Rose}
 use Rattle.thy_base.specs.Device.{Device, HasFailedToFit}
 use Rattle.thy_base.specs.Geometry.{parameters_of, program_size}
-use Rattle.thy_base.specs.Outside.{Stock, Files, Stream}
+use Rattle.thy_base.specs.Outside.{Stock, Files, Stream, HasNotFailed, HasFailedUnder}
 use Rattle.thy_elf.specs.declared.error.ElfError.{ElfError}
 use Rattle.thy_elf.specs.declared.error.ElfError.TheVariants.{Memory as ElfMemory}
 use Rattle.thy_isa.specs.declared.state.Status.{Status}
@@ -133,14 +133,14 @@ begins_same source job stock s f =
 -- what is held is had, unless memory is short
 fetch_due : (old new : Stock) (files : Files) (name bytes : List ℕ) (text : _) (e : FetchError) → old.held ≡ Some files → IsHeld old name bytes → Stayed old.faults new.faults → FetchDue old new name e
     → refused_status (Fetch text e) ≡ 9
-fetch_due old new files name bytes text FetchFailed tells held faults due = not_risen old.faults new.faults faults due
+fetch_due old new files name bytes text FetchFailed tells held faults due = not_risen old.faults new.faults faults due.rose
 fetch_due old new files name bytes text NotThere tells held faults due =
-    let none : (files name ≡ None) × (new.faults ≡ old.faults) = subst (λ h. MatchOption h (Rose old.faults new.faults) (λ known. (known name ≡ None) × (new.faults ≡ old.faults))) tells due in
+    let none : (files name ≡ None) × HasNotFailed old new = subst (λ h. MatchOption h (HasFailedUnder name old new) (λ known. (known name ≡ None) × HasNotFailed old new)) tells due in
     let missing : files name ≡ None = none.0 in
     absurd (let there : files name ≡ Some bytes = held.1 files tells in cc)
 fetch_due old new files name bytes text TooLong tells held faults due =
     let long : IsTooLong (files name) =
-    (subst (λ h. MatchOption h (Rose old.faults new.faults) (λ known. IsTooLong (known name) × (new.faults ≡ old.faults))) tells due).0 in
+    (subst (λ h. MatchOption h (HasFailedUnder name old new) (λ known. IsTooLong (known name) × HasNotFailed old new)) tells due).0 in
     let there : files name ≡ Some bytes = held.1 files tells in
     let same : long.0 ≡ bytes = (let found : files name ≡ Some long.0 = long.1 in cc) in
     absurd (omega (arith, held.0, long.2, ap length same))
@@ -199,11 +199,11 @@ order_same words a b e f = cc
 -- ---- saves
 
 -- a shelf that did not fail took what was put on it, unless memory was short
-put_calm : {A : Type 0} (old new : Stock) → Stayed old.faults new.faults → PutCounted old new (Some PutFailed) → A
-put_calm old new faults rose = not_risen old.faults new.faults faults rose
+put_calm : {A : Type 0} (name : List ℕ) (old new : Stock) → Stayed old.faults new.faults → PutCounted name old new (Some PutFailed) → A
+put_calm name old new faults failed = not_risen old.faults new.faults faults failed.rose
 
 save_calm : {A : Type 0} (name : Option (List ℕ)) (due : Bool) (c : Config) (n m : Device) (old new : Stock) → Stayed old.faults new.faults → SavesUnder name due c n m old new (Some PutFailed) → A
-save_calm (Some name) true c n m old new faults h = put_calm old new faults h.1.counted
+save_calm (Some name) true c n m old new faults h = put_calm name old new faults h.1.counted
 save_calm None true c n m old new faults h = absurd (let none : Some PutFailed ≡ None = h.2 in cc)
 save_calm None false c n m old new faults h = absurd (let none : Some PutFailed ≡ None = h.2 in cc)
 save_calm (Some name) false c n m old new faults h = absurd (let none : Some PutFailed ≡ None = h.2 in cc)
@@ -398,10 +398,10 @@ Completes-plain c words before after a (inr (order, asked, h)) name job i k faul
     (subst (λ x. OrderAnswered c x before after a) (order_same words (plain name job) order i.asked asked) h)
 
 -- a made program is put, unless memory was short
-make_told : (n : ℕ) (name : List ℕ) (before after : Outside) (a : Answer) (why : Option PutError) → IsCalm before after → a.status ≡ (made_told n name why).0 → PutCounted before.shelf after.shelf why
+make_told : (n : ℕ) (name : List ℕ) (before after : Outside) (a : Answer) (why : Option PutError) → IsCalm before after → a.status ≡ (made_told n name why).0 → PutCounted name before.shelf after.shelf why
     → (a.status ≡ 0) ⊎ (a.status ≡ 9)
 make_told n name before after a None faults is counted = inl is
-make_told n name before after a (Some PutFailed) faults is counted = put_calm before.shelf after.shelf faults.shelf counted
+make_told n name before after a (Some PutFailed) faults is counted = put_calm name before.shelf after.shelf faults.shelf counted
 make_told n name before after a (Some (PutMemory e)) faults is counted = inr is
 
 make_completes : (n : ℕ) (name : List ℕ) (before after : Outside) (a : Answer) → IsCalm before after → MakeAnswered n name before after a → (a.status ≡ 0) ⊎ (a.status ≡ 9)

@@ -11,7 +11,7 @@ use Rattle.thy_base.specs.declared.block.Block.{Block}
 use Rattle.thy_base.specs.declared.outside.PutError.{PutError}
 use Rattle.thy_base.specs.Device.{Device, fitted, zero_block}
 use Rattle.thy_base.specs.Geometry.{IsInRange, parameters_of, program_size}
-use Rattle.thy_base.specs.Outside.{Stock, Stream}
+use Rattle.thy_base.specs.Outside.{Stock, Stream, HasNotFailed}
 use Rattle.thy_isa.specs.declared.state.Status.TheVariants.{Running}
 use Rattle.thy_isa.specs.Storable.{IsNumber, IsStorable, IsReadable}
 use Rattle.thy_base.specs.Bytes.{bytes_of}
@@ -218,9 +218,12 @@ pub RunDue-program : (source : Source) (job : Job) (before after : Outside) (r :
 RunDue-program source job before after (DeviceRefusal e) due device = absurd due
 RunDue-program source job before after r due device = (due, device)
 
--- a shelf whose count and whose files stayed is the one before
-pub stock_same : (old new : Stock) → new.held ≡ old.held → new.faults ≡ old.faults → new ≡ old
-stock_same old new held faults = ap (λ h. record { held = h; faults = new.faults }) held ∙ ap (λ f. record { held = old.held; faults = f }) faults
+-- a shelf that has not failed, and whose files stayed, is the one before
+pub stock_same : (old new : Stock) → new.held ≡ old.held → HasNotFailed old new → new ≡ old
+stock_same old new held calm =
+    ap (λ h. record { held = h; failed = new.failed; faults = new.faults }) held
+    ∙ ap (λ names. record { held = old.held; failed = names; faults = new.faults }) calm.failed
+    ∙ ap (λ count. record { held = old.held; failed = old.failed; faults = count }) calm.faults
 
 -- why words are refused
 pub WordsDue-shown : (words : List (List ℕ)) (e : WordsError) → ShowsOrMemory order_of (settings_of words) (Err e) → WordsDue words e

@@ -10,7 +10,7 @@ use Rattle.thy_base.specs.declared.config.Config.{Config}
 use Rattle.thy_base.specs.declared.nvm.Shape.{Shape}
 use Rattle.thy_base.specs.Device.{Device, HasFailedToFit, fitted}
 use Rattle.thy_base.specs.Geometry.{parameters_of}
-use Rattle.thy_base.specs.Outside.{Stock, Stream}
+use Rattle.thy_base.specs.Outside.{Stock, Stream, HasNotFailed}
 use Rattle.thy_elf.specs.declared.error.ElfError.{ElfError}
 use Rattle.thy_elf.specs.declared.error.ElfError.TheVariants.{Memory as ElfMemory}
 use Rattle.thy_elf.specs.Refusal.{called, index_of}
@@ -65,7 +65,7 @@ WordsDue words e = settings_of words ≡ Err e
 -- why a job is not run: a program's device was not fitted, or there is no program, and the device is left alone
 abbrev pub RunDue : Source → Job → Outside → Outside → Refusal → Type 0
 RunDue source job before after (DeviceRefusal e) =
-    IsProgram source job before.shelf × (after.shelf.faults ≡ before.shelf.faults) × HasFailedToFit e before.device after.device
+    IsProgram source job before.shelf × HasNotFailed before.shelf after.shelf × HasFailedToFit e before.device after.device
 RunDue source job before after r = ProgramDue source job before.shelf after.shelf r × (after.device ≡ before.device)
 
 -- ---- what is told of a refusal

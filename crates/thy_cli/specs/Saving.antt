@@ -1,13 +1,12 @@
 -- Part of the claim.
 -- What a save leaves: one more cut of power, and its image on the shelf.
-use Rattle.std.specs.Prelude.{◌≡◌, ℕ, ◌≤◌, Bool, true, false, List, [], length, Option, Some, None, slice_index_or}
+use Rattle.std.specs.Prelude.{◌≡◌, ℕ, Bool, true, false, List, [], length, Option, Some, None, slice_index_or}
 use Rattle.thy_base.specs.declared.block.Block.{Block}
 use Rattle.thy_base.specs.declared.config.Config.{Config}
 use Rattle.thy_base.specs.declared.outside.PutError.{PutError}
 use Rattle.thy_base.specs.declared.outside.PutError.TheVariants.{Failed as PutFailed, Memory as PutMemory}
-use Rattle.thy_base.specs.Counts.{Rose}
 use Rattle.thy_base.specs.Device.{Device, IsCut}
-use Rattle.thy_base.specs.Outside.{Stock, Holds, KeepsOthers}
+use Rattle.thy_base.specs.Outside.{Stock, Holds, KeepsOthers, HasNotFailed, HasFailedUnder, MayHaveFailed}
 use Rattle.thy_flat.specs.Flat.{flat}
 use Rattle.thy_run.specs.World.{tear}
 use Rattle.thy_run.specs.declared.ending.Stop.{Stop}
@@ -30,17 +29,17 @@ save_pick c = tear c.tears (length c.cuts)
 abbrev pub image_left : Device → ℕ → List Block
 image_left n i = slice_index_or n.left i []
 
--- the count of a shelf by why bytes were not put, if they were not
-abbrev pub PutCounted : Stock → Stock → Option PutError → Type 0
-PutCounted old new None = new.faults ≡ old.faults
-PutCounted old new (Some PutFailed) = Rose old.faults new.faults
-PutCounted old new (Some (PutMemory e)) = old.faults ≤ new.faults
+-- whether a shelf failed under a name, by why bytes were not put there, if they were not
+abbrev pub PutCounted : List ℕ → Stock → Stock → Option PutError → Type 0
+PutCounted name old new None = HasNotFailed old new
+PutCounted name old new (Some PutFailed) = HasFailedUnder name old new
+PutCounted name old new (Some (PutMemory e)) = MayHaveFailed name old new
 
 -- bytes were put under a name, or were not; where memory was short they may not even have been handed over
 pub record IsPut (name bytes : List ℕ) (old new : Stock) (why : Option PutError) : Type 0 where
   pub holds : why ≡ None → Holds new name bytes
   pub others : KeepsOthers old new name
-  pub counted : PutCounted old new why
+  pub counted : PutCounted name old new why
 
 -- What a save leaves, where a run has a name for it and stops so that it is saved: the power is cut once more, and the
 -- bytes of what this cut left are put under the name. Else device and shelf are left alone.

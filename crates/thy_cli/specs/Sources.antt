@@ -7,10 +7,9 @@ use Rattle.thy_base.specs.declared.config.Parameters.{Parameters}
 use Rattle.thy_base.specs.declared.mark.Mark.{Mark}
 use Rattle.thy_base.specs.declared.outside.FetchError.{FetchError}
 use Rattle.thy_base.specs.declared.outside.FetchError.TheVariants.{Failed as FetchFailed, NotThere, TooLong, Memory as FetchMemory}
-use Rattle.thy_base.specs.Counts.{Rose}
 use Rattle.thy_base.specs.Geometry.{parameters_of, program_size}
 use Rattle.thy_base.specs.Marks.{mark}
-use Rattle.thy_base.specs.Outside.{Stock, Files}
+use Rattle.thy_base.specs.Outside.{Stock, Files, HasNotFailed, HasFailedUnder, MayHaveFailed}
 use Rattle.thy_elf.specs.declared.error.ElfError.{ElfError}
 use Rattle.thy_elf.specs.declared.error.ElfError.TheVariants.{Memory as ElfMemory}
 use Rattle.thy_elf.specs.Image.{Contents, read_of}
@@ -41,15 +40,15 @@ IsHeld stock name bytes =
 abbrev pub IsTooLong : Option (List ℕ) → Type 0
 IsTooLong there = (bytes : List ℕ) × (there ≡ Some bytes) × (most_bytes < length bytes)
 
--- why a file was not had: the shelf's count rose, or a shelf that tells has nothing there, or too much; want of memory may
--- raise the count
+-- why a file was not had: the shelf failed under its name, or one that tells has nothing there, or too much; where memory
+-- was short it may have failed under it
 abbrev pub FetchDue : Stock → Stock → List ℕ → FetchError → Type 0
-FetchDue old new name FetchFailed = Rose old.faults new.faults
+FetchDue old new name FetchFailed = HasFailedUnder name old new
 FetchDue old new name NotThere =
-    MatchOption old.held (Rose old.faults new.faults) (λ files. (files name ≡ None) × (new.faults ≡ old.faults))
+    MatchOption old.held (HasFailedUnder name old new) (λ files. (files name ≡ None) × HasNotFailed old new)
 FetchDue old new name TooLong =
-    MatchOption old.held (Rose old.faults new.faults) (λ files. IsTooLong (files name) × (new.faults ≡ old.faults))
-FetchDue old new name (FetchMemory e) = old.faults ≤ new.faults
+    MatchOption old.held (HasFailedUnder name old new) (λ files. IsTooLong (files name) × HasNotFailed old new)
+FetchDue old new name (FetchMemory e) = MayHaveFailed name old new
 
 -- the bytes of an input: those under its name, or none where there is no name
 abbrev pub IsInput : Stock → Option (List ℕ) → List ℕ → Type 0
@@ -145,11 +144,11 @@ IsMeant source job stock r =
     × (meaning_of source job bytes input ≡ Err r)
 
 -- Why a run has no program: bytes or input were not had, or both were and mean none. Want of memory is free, but that the
--- shelf's count stays.
+-- shelf has not failed.
 abbrev pub ProgramDue : Source → Job → Stock → Stock → Refusal → Type 0
 ProgramDue source job old new (Fetch name e) = IsWanted source job old name.now × FetchDue old new name.now e
-ProgramDue source job old new (File (ElfMemory e)) = new.faults ≡ old.faults
-ProgramDue source job old new (MemoryRefusal e) = new.faults ≡ old.faults
+ProgramDue source job old new (File (ElfMemory e)) = HasNotFailed old new
+ProgramDue source job old new (MemoryRefusal e) = HasNotFailed old new
 ProgramDue source job old new (Words e) = ⊥
 ProgramDue source job old new (DeviceRefusal e) = ⊥
-ProgramDue source job old new r = (new.faults ≡ old.faults) × IsMeant source job old r
+ProgramDue source job old new r = HasNotFailed old new × IsMeant source job old r

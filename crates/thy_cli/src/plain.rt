@@ -4,6 +4,7 @@ ghost use Rattle.thy_base.specs.Bytes.{bytes_of};
 ghost use Rattle.thy_base.specs.Config.{fault_of as range_fault};
 ghost use Rattle.thy_base.specs.Device.{Device as DeviceValue};
 ghost use Rattle.thy_base.specs.Geometry.{IsInRange, program_size};
+ghost use Rattle.thy_base.specs.Outside.{HasNotFailed};
 ghost use Rattle.thy_text.specs.Lines.{ended_lines};
 ghost use Rattle.thy_words.specs.Settings.{Job as JobValue, job_of};
 ghost use Rattle.thy_cli.specs.Answering.{outside, PlainAnswered, plain_stop};
@@ -60,7 +61,7 @@ fn plain_program<'a, H: Shelf>(
     ensures refusal { (job : JobValue) → IsPlannedFor job geometry (option_map (λ n. n.now) input.entry)
         → IfErr result (ProgramDue (file name.now) job (H.stock shelf.old) (H.stock shelf.new)) }
     ensures held { (H.stock shelf.new).held ≡ (H.stock shelf.old).held }
-    ensures faults { OnOk result ((H.stock shelf.new).faults ≡ (H.stock shelf.old).faults) }
+    ensures calm { OnOk result (HasNotFailed (H.stock shelf.old) (H.stock shelf.new)) }
     ensures program { (job : JobValue) → IsPlannedFor job geometry (option_map (λ n. n.now) input.entry)
         → IfOk result (λ p. IsProgramOf (file name.now) job (H.stock shelf.old) p) }
     ensures size { IfOk result (λ p. length (bytes_of p.image.memory) ≡ program_size p.geometry) }

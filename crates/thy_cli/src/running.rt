@@ -2,6 +2,7 @@
 ghost use Rattle.std.specs.Prelude.{◌≡◌, None, IfOk, IfErr, OnOk, option_map};
 ghost use Rattle.thy_base.specs.Config.{fault_of as range_fault};
 ghost use Rattle.thy_base.specs.Geometry.{IsInRange, parameters_of};
+ghost use Rattle.thy_base.specs.Outside.{HasNotFailed};
 ghost use Rattle.thy_base.specs.declared.config.Parameters.{Parameters as Numbers};
 ghost use Rattle.thy_words.specs.Settings.{Job as JobValue, job_of};
 ghost use Rattle.thy_cli.specs.Answering.{outside, RunAnswered};
@@ -36,7 +37,7 @@ fn prepare<'a, H: Shelf>(
     ensures refusal { (job : JobValue) → IsPlannedFor job geometry (option_map (λ n. n.now) input.entry)
         → IfErr result (ProgramDue (named source.entry) job (H.stock shelf.old) (H.stock shelf.new)) }
     ensures held { (H.stock shelf.new).held ≡ (H.stock shelf.old).held }
-    ensures faults { OnOk result ((H.stock shelf.new).faults ≡ (H.stock shelf.old).faults) }
+    ensures calm { OnOk result (HasNotFailed (H.stock shelf.old) (H.stock shelf.new)) }
     ensures begins { (job : JobValue) → IsPlannedFor job geometry (option_map (λ n. n.now) input.entry)
         → IfOk result (λ b. Begins (named source.entry) job (H.stock shelf.old) b) }
 {

@@ -2,6 +2,7 @@
 ghost use Rattle.std.specs.Prelude.{◌≡◌, ℕ, List, length, IfOk, IfErr, OnOk, option_map};
 ghost use Rattle.thy_base.specs.Bytes.{bytes_of};
 ghost use Rattle.thy_base.specs.Geometry.{IsInRange, program_size};
+ghost use Rattle.thy_base.specs.Outside.{HasNotFailed};
 ghost use Rattle.thy_words.specs.Settings.{Job};
 ghost use Rattle.thy_cli.specs.Sources.{AreBytesOf, IsHad, IsHeld, IsInput, ProgramDue, Source as SourceValue};
 ghost use Rattle.thy_cli.specs.Planning.{IsNotHad, ReadsProgram, RefusesProgram, named};
@@ -45,7 +46,7 @@ pub struct Program {
 fn fetch<'a, H: Shelf>(alloc: Global, name: &'a str, shelf: &mut H) -> Result<Bytes, Refusal<'a>>
     ensures refusal { IfErr result (IsNotHad name.now (H.stock shelf.old) (H.stock shelf.new)) }
     ensures held { (H.stock shelf.new).held ≡ (H.stock shelf.old).held }
-    ensures faults { OnOk result ((H.stock shelf.new).faults ≡ (H.stock shelf.old).faults) }
+    ensures calm { OnOk result (HasNotFailed (H.stock shelf.old) (H.stock shelf.new)) }
     ensures bytes { IfOk result (λ b. IsHeld (H.stock shelf.old) name.now (bytes_of b)) }
 {
     match shelf.fetch(alloc, name, MOST_BYTES) {
@@ -63,7 +64,7 @@ fn source_bytes<'a, H: Shelf>(
     ensures refusal { (job : Job) →
         IfErr result (ProgramDue (named source.entry) job (H.stock shelf.old) (H.stock shelf.new)) }
     ensures held { (H.stock shelf.new).held ≡ (H.stock shelf.old).held }
-    ensures faults { OnOk result ((H.stock shelf.new).faults ≡ (H.stock shelf.old).faults) }
+    ensures calm { OnOk result (HasNotFailed (H.stock shelf.old) (H.stock shelf.new)) }
     ensures bytes { IfOk result (λ b.
         AreBytesOf (named source.entry) (H.stock shelf.old) (bytes_of b)) }
 {
@@ -86,7 +87,7 @@ fn input_bytes<'a, H: Shelf>(
         → job.input ≡ option_map (λ n. n.now) name.entry → AreBytesOf source (H.stock shelf.old) bytes
         → IfErr result (ProgramDue source job (H.stock shelf.old) (H.stock shelf.new)) }
     ensures held { (H.stock shelf.new).held ≡ (H.stock shelf.old).held }
-    ensures faults { OnOk result ((H.stock shelf.new).faults ≡ (H.stock shelf.old).faults) }
+    ensures calm { OnOk result (HasNotFailed (H.stock shelf.old) (H.stock shelf.new)) }
     ensures input { IfOk result (λ b.
         IsInput (H.stock shelf.old) (option_map (λ n. n.now) name.entry) (bytes_of b)) }
 {
@@ -106,7 +107,7 @@ pub fn fetch_both<'a, H: Shelf>(
     ensures refusal { (job : Job) → job.input ≡ option_map (λ n. n.now) input.entry
         → IfErr result (ProgramDue (named source.entry) job (H.stock shelf.old) (H.stock shelf.new)) }
     ensures held { (H.stock shelf.new).held ≡ (H.stock shelf.old).held }
-    ensures faults { OnOk result ((H.stock shelf.new).faults ≡ (H.stock shelf.old).faults) }
+    ensures calm { OnOk result (HasNotFailed (H.stock shelf.old) (H.stock shelf.new)) }
     ensures had { (job : Job) → job.input ≡ option_map (λ n. n.now) input.entry
         → IfOk result (λ h. IsHad (named source.entry) job (H.stock shelf.old) (bytes_of h.bytes) (bytes_of h.input)) }
 {

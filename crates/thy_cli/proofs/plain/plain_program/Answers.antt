@@ -12,7 +12,7 @@ pub returns-in-Ok-clause-refusal : goal.returns-in-Ok-clause-refusal
 returns-in-Ok-clause-refusal g c = λ job h.
     let old : Stock = g.H.Shelf.stock c.args.shelf.now in
     let new : Stock = g.H.Shelf.stock c.fetch_both.new.shelf in
-    let same : new ≡ old = stock_same old new c.in-Ok.ensures.held c.in-Ok.ensures.faults in
+    let same : new ≡ old = stock_same old new c.in-Ok.ensures.held c.in-Ok.ensures.calm in
     subst (λ s. IfErr c.program_of.result (ProgramDue (file c.args.name.now) job old s)) (sym same)
     (c.program_of.ensures.refusal (file c.args.name.now) job old tt
     (record { numbers = h.numbers; in_range = c.requires; both = c.in-Ok.ensures.had job h.reads }))

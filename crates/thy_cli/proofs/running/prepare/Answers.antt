@@ -13,7 +13,7 @@ pub returns-in-Ok-clause-refusal : goal.returns-in-Ok-clause-refusal
 returns-in-Ok-clause-refusal g c = λ job h.
     let old : Stock = g.H.Shelf.stock c.args.shelf.now in
     let new : Stock = g.H.Shelf.stock c.fetch_both.new.shelf in
-    let same : new ≡ old = stock_same old new c.in-Ok.ensures.held c.in-Ok.ensures.faults in
+    let same : new ≡ old = stock_same old new c.in-Ok.ensures.held c.in-Ok.ensures.calm in
     subst (λ s. IfErr c.begin.result (ProgramDue (named c.args.source) job old s)) (sym same)
     (c.begin.ensures.refusal job old
     (record { numbers = h.numbers; in_range = c.requires; both = c.in-Ok.ensures.had job h.reads }))

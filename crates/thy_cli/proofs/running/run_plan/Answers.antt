@@ -11,7 +11,7 @@ use Rattle.thy_cli.proofs.running.run_plan.Goals as goal
 pub returns-in-Err : goal.returns-in-Err
 returns-in-Err g c = λ job names p. inl (
   DeviceRefusal c.in-Err.error,
-  (p.program, refl, c.in-Err.ensures.err),
+  (p.program, record { faults = refl; failed = refl }, c.in-Err.ensures.err),
   record {
     status = c.refuse.ensures.status;
     events = c.refuse.ensures.events;
@@ -23,7 +23,7 @@ returns-in-Err g c = λ job names p. inl (
 )
 
 pub fit-requires-clause-blocks : goal.fit-requires-clause-blocks
-fit-requires-clause-blocks g c = omega (arith, c.nvm_blocks.ensures ∙ c.requires.reads.blocks c.args.plan.now.geometry)
+fit-requires-clause-blocks g c = omega (arith, c.nvm_blocks.ensures ∙ c.requires.reads.blocks)
 
 pub run-ending-requires-clause-fitted : goal.run-ending-requires-clause-fitted
 run-ending-requires-clause-fitted g c = record {

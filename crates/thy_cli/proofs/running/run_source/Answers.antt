@@ -40,7 +40,7 @@ returns g c =
     let job : Job = job_of c.args.job in
     let old : Stock = g.H.Shelf.stock c.args.shelf.now in
     let middle : Stock = g.H.Shelf.stock c.prepare.new.shelf in
-    let same : middle ≡ old = stock_same old middle c.in-Ok-prepare.ensures.held c.in-Ok-prepare.ensures.faults in
+    let same : middle ≡ old = stock_same old middle c.in-Ok-prepare.ensures.held c.in-Ok-prepare.ensures.calm in
     let numbers : c.in-Ok.geometry ≡ parameters_of job.config = geometry_is job.config c.in-Ok.geometry c.requires.range c.in-Ok.ensures.geometry in
     let begun : IsBegun (named c.args.source) job middle (plan_with job.config c.in-Ok.geometry c.in-Ok-prepare.beginning.start job.digest) c.in-Ok-prepare.beginning.blocks.items =
     IsBegun-begins (named c.args.source) job middle c.in-Ok-prepare.beginning c.in-Ok.geometry c.requires.range numbers
