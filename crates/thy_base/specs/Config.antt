@@ -1,3 +1,4 @@
+-- Part of the claim.
 -- A configuration's fields with their ranges, in the order in which they are tested, and the first out of its range.
 use Rattle.std.specs.Prelude.{ℕ, ◌+◌, ◌*◌, List, [], ◌∷◌, ◌++◌, length, map, Option, Some, None, Result, Ok, Err}
 use Rattle.thy_base.specs.declared.config.Config.{Config}

@@ -1,3 +1,4 @@
+-- Part of the claim.
 -- What the fields of a configuration are called.
 use Rattle.std.specs.Prelude.{ℕ, List, codes}
 use Rattle.thy_base.specs.declared.config.Field.{Field}

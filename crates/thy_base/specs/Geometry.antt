@@ -1,3 +1,4 @@
+-- Part of the claim.
 -- The numbers of a configuration, their ranges, and the sizes that follow from them.
 use Rattle.std.specs.Prelude.{ℕ, ◌+◌, ◌-◌, ◌*◌, ◌^◌, List, [], ◌∷◌, ◌++◌}
 use Rattle.thy_base.specs.declared.config.Config.{Config}

@@ -1,3 +1,4 @@
+-- Part of the claim.
 -- What shelves hold, under which names they failed, what sinks take, and their counts of faults.
 use Rattle.std.specs.Prelude.{◌≡◌, ◌≢◌, ◌⊎◌, ℕ, ◌<◌, ◌≤◌, List, [], ◌∷◌, ◌++◌, length, Option, Some, None, Result, Ok, Err, Vec, MatchOption}
 use Rattle.std.specs.declared.alloc.Global.{Global}

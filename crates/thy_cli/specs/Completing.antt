@@ -1,3 +1,4 @@
+-- Part of the claim.
 -- What the answer is where nothing is amiss: that of the program's own end.
 use Rattle.std.specs.Prelude.{◌≡◌, ◌⊎◌, ℕ, ◌+◌, ◌-◌, ◌^◌, ◌<◌, ◌≤◌, false, List, Some, Ok}
 use Rattle.thy_base.specs.Geometry.{parameters_of}

@@ -1,3 +1,4 @@
+-- Part of the claim.
 -- Which machine runs a configuration: that of its scheme.
 use Rattle.thy_base.specs.declared.config.SchemeName.{SchemeName}
 use Rattle.thy_base.specs.declared.config.SchemeName.TheVariants.{Thynvm}

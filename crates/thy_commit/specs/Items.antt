@@ -1,3 +1,4 @@
+-- Part of the claim.
 -- The order of a checkpoint: what is done next, by how far the engine is and by what the controller has still to copy and
 -- to write.
 use Rattle.std.specs.Prelude.{ℕ, ◌+◌, nat_lt, Bool, true, false, if◌then◌else◌, Option, Some, None}

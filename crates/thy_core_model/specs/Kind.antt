@@ -1,3 +1,4 @@
+-- Part of the claim.
 -- The machine as the layers above see it.
 use Rattle.std.specs.Prelude.{ℕ, ◌+◌, ◌-◌, ◌*◌, ◌==◌, if◌then◌else◌, Bool}
 use Rattle.thy_base.specs.declared.config.Parameters.{Parameters}

@@ -1,3 +1,4 @@
+-- Part of the claim.
 -- What follows for every run, whatever the cuts left.
 use Rattle.std.specs.Prelude.{◌≡◌, ℕ, ◌≤◌, zero, suc, List, [], ◌∷◌, ◌++◌, length, None, Option, Some}
 use Rattle.thy_base.specs.Config.{IsRising}

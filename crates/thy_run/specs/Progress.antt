@@ -1,3 +1,4 @@
+-- Part of the claim.
 -- How a run gets on: it is soon over, it is busy on the way, and no cycle of it rests.
 use Rattle.std.specs.Prelude.{◌≡◌, ◌≢◌, ℕ, zero, suc, ◌+◌, ◌*◌, ◌<◌, ◌≤◌, max, Bool, false, ◌&&◌, not, if◌then◌else◌, List, [], ◌∷◌}
 use Rattle.thy_base.specs.declared.config.Parameters.{Parameters}

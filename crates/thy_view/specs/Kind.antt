@@ -1,3 +1,4 @@
+-- Part of the claim.
 -- What a machine is to the layers above: what is seen of it, what its calls promise, and the laws that hold of it.
 use Rattle.std.specs.Prelude.{◌≡◌, ℕ, ◌+◌, ◌*◌, ◌^◌, ◌<◌, ◌≤◌, ◌&&◌, ◌||◌, not, is_some, Bool, true, false, List, [], length, drop, Option, Some, None, Result, IfOk, OnErr, ◌⊎◌, Err}
 use Rattle.thy_base.specs.declared.block.Block.{Block}

@@ -1,3 +1,4 @@
+-- Part of the claim.
 -- The fields of a configuration as the words give them.
 use Rattle.std.specs.Prelude.{ℕ, Bool, true, false, if◌then◌else◌, List, [], ◌∷◌, Option, find}
 use Rattle.std.specs.Prelude.{not, option_and_then, unwrap_or}
