@@ -257,42 +257,24 @@ fn a_file_that_is_not_had_has_its_line(rt: HostRuntime) -> Result<(), Fail> {
     Ok(())
 }
 
-/// The report of the program that exits with 7, in the pieces in which it is written.
-static PIECES: [&str; 22] = [
-    "commit ",
-    "0",
-    " overlapped ",
-    "0",
-    "\n",
-    "epoch ",
-    "1",
-    " ends at ",
-    "3",
-    " by ",
-    "end",
-    "\n",
-    "commit ",
-    "1",
-    " overlapped ",
-    "0",
-    "\n",
-    "exit ",
-    "7",
-    " at ",
-    "3",
-    "\n",
+/// The report of the program that exits with 7. Each line is written at once.
+static LINES: [&str; 4] = [
+    "commit 0 overlapped 0\n",
+    "epoch 1 ends at 3 by end\n",
+    "commit 1 overlapped 0\n",
+    "exit 7 at 3\n",
 ];
 
 #[test]
-fn a_report_that_fails_has_taken_the_pieces_before(rt: HostRuntime) -> Result<(), Fail> {
+fn a_report_that_fails_has_taken_the_lines_before(rt: HostRuntime) -> Result<(), Fail> {
     let alloc = rt.alloc();
     let mut before = Vec::new(alloc);
-    for (k, piece) in PIECES.iter().enumerate() {
+    for (k, text) in LINES.iter().enumerate() {
         let shelf = MemShelf::new(files(alloc)?, Vec::new(alloc));
         let line = "thynvm run F --pages 8";
         let given = called(alloc, line, shelf, &[], &[k as u64 + 1])?;
         compare(&rt, line, &given, 6, "", before.as_slice());
-        before.extend_from_slice(piece.as_bytes())?;
+        before.extend_from_slice(text.as_bytes())?;
     }
     Ok(())
 }

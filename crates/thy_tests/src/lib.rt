@@ -52,6 +52,8 @@ mod nvm;
 #[cfg(test)]
 mod out;
 #[cfg(test)]
+mod out_files;
+#[cfg(test)]
 mod out_reader;
 #[cfg(test)]
 mod out_sink;

@@ -14,6 +14,7 @@ use thy_text::{
 #[derive(Drop)]
 struct Page {
     bytes: Vec<u8>,
+    writes: u64,
     faults: u64,
 }
 
@@ -23,6 +24,7 @@ impl Sink for Page {
     ghost stream = { λ p. record { taken = None; faults = p.faults } };
 
     fn write(&mut self, piece: &[u8]) -> Result<(), SinkError> {
+        self.writes = self.writes.saturating_add(1);
         if piece.is_empty() || self.bytes.extend_from_slice(piece).is_err() {
             self.faults = self.faults.saturating_add(1);
             return Err(SinkError::Failed);
@@ -35,6 +37,7 @@ impl Sink for Page {
 fn blank(alloc: Global) -> Page {
     Page {
         bytes: Vec::new(alloc),
+        writes: 0,
         faults: 0,
     }
 }
@@ -73,6 +76,27 @@ fn events_have_their_lines(rt: HostRuntime) {
     let text =
         b"commit 0 overlapped 0\nepoch 1 ends at 8 by exhausted 8 9 1\ncut 1 at cycle 1391\nreload\n";
     expect(&rt, page.bytes.as_slice(), text.as_slice());
+}
+
+#[test]
+fn the_longest_line_of_an_event_is_written_at_once(rt: HostRuntime) {
+    let most = u64::MAX;
+    let cause = EndCause::Exhausted {
+        free: most,
+        dirty: most,
+        need: most,
+    };
+    let event = Event::EpochEnd {
+        epoch: most,
+        count: most,
+        cause,
+    };
+    let mut page = blank(rt.alloc());
+    expect(&rt, write_event(&event, false, &mut page), Ok(()));
+    let digits = 5 * 20;
+    let words = b"epoch  ends at  by exhausted   \n".len();
+    expect(&rt, page.bytes.len(), words + digits);
+    expect(&rt, page.writes, 1);
 }
 
 /// The closings that tell a field, a name or a number.

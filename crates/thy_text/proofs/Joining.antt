@@ -1,5 +1,5 @@
 -- Parts that are taken one after another.
-use Rattle.std.proofs.Common.{◌≡◌, ℕ, ◌+◌, ◌<◌, List, [], ◌∷◌, ◌++◌, map, take, drop, length, get_or, refl, sym, ap, ◌∙◌, append_assoc, append-nil}
+use Rattle.std.proofs.Common.{◌≡◌, ℕ, ◌+◌, ◌<◌, List, [], ◌∷◌, ◌++◌, map, take, drop, length, length-append, get_or, refl, sym, ap, arith, ◌∙◌, append_assoc, append-nil}
 use Rattle.std.proofs.lemmas.List.{take-append-drop, take_more, map-append}
 use Rattle.thy_text.specs.Lines.{joined}
 
@@ -22,3 +22,16 @@ joined-split f xs i =
     ap (λ l. joined (map f l)) (sym (take-append-drop i xs))
     ∙ ap joined (map-append f (take i xs) (drop i xs))
     ∙ joined-append (map f (take i xs)) (map f (drop i xs))
+
+-- where one more is longer than n, so are all of them
+pub joined-longer : {X : Type 0} (f : X → List ℕ) (xs : List X) (i n : ℕ) (d : X) (before : List ℕ) → i < length xs
+    → before ≡ joined (map f (take i xs)) → n < length before + length (f (get_or xs i d)) → n < length (joined (map f xs))
+joined-longer f xs i n d before h is long =
+    let now = joined (map f (take (i + 1) xs)) in
+    let rest = joined (map f (drop (i + 1) xs)) in
+    let all : length (joined (map f xs)) ≡ length now + length rest =
+    ap length (joined-split f xs (i + 1)) ∙ length-append now rest in
+    let here : length now ≡ length before + length (f (get_or xs i d)) =
+    ap length (joined-take-more f xs i d h) ∙ length-append (joined (map f (take i xs))) (f (get_or xs i d))
+    ∙ ap (λ l. length l + length (f (get_or xs i d))) (sym is) in
+    omega (arith, long, all, here)

@@ -12,8 +12,8 @@ use crate::piece::{Piece, write_pieces};
 use thy_base::{EndCause, Sink, SinkError};
 use thy_isa::{MachState, Status};
 
-/// Writes the line of an event in pieces, none of them empty. With `digest`, the line of a restart and
-/// that of an end are followed by the line of memory's digest. On an error the sink has taken only the
+/// Writes the line of an event at once. With `digest`, the line of a restart and that of an end are
+/// followed by the line of memory's digest, at once too. On an error the sink has taken only the
 /// first part of these lines. Takes no memory.
 pub fn write_event<R: Sink>(event: &Event, digest: bool, report: &mut R) -> Result<(), SinkError>
     ensures wrote { Wrote result (R.stream report.old) (R.stream report.new)

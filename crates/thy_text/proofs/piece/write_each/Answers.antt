@@ -1,6 +1,6 @@
 use Rattle.std.proofs.Common.{rules}
 use Rattle.thy_text.proofs.Taking.{Took-more, TookPart-at}
-use Rattle.thy_text.proofs.piece.write_pieces.Goals as goal
+use Rattle.thy_text.proofs.piece.write_each.Goals as goal
 
 pub loop-piece-preserved : goal.loop-piece-preserved
 loop-piece-preserved g c =

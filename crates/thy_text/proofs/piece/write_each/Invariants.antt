@@ -2,7 +2,7 @@ use Rattle.std.proofs.Common.{map, take}
 use Rattle.thy_base.specs.Outside.{Took}
 use Rattle.thy_text.specs.Lines.{joined}
 use Rattle.thy_text.specs.Pieces.{bytes_of_piece}
-use Rattle.thy_text.proofs.piece.write_pieces.Given as goal
+use Rattle.thy_text.proofs.piece.write_each.Given as goal
 
 abbrev pub invariant-loop-piece : goal.invariant-loop-piece
 invariant-loop-piece g l =
