@@ -7,7 +7,7 @@ use Rattle.thy_base.specs.declared.config.ConfigError.{ConfigError}
 use Rattle.thy_base.specs.declared.config.Field.TheVariants.{Cuts}
 use Rattle.thy_base.specs.declared.config.Parameters.{Parameters}
 use Rattle.thy_base.specs.Config.{fault_in, fault_of, rising_rows, cut_rows, end_rows, rows_of, IsRising}
-use Rattle.thy_base.specs.Geometry.{IsInRange, parameters_of, memory_rows, table_rows, queue_rows, threshold_rows, number_rows, limit_row}
+use Rattle.thy_base.specs.Geometry.{IsInRange, parameters_of, memory_rows, table_rows, queue_rows, threshold_rows, number_rows, limit_row, harts_row}
 use Rattle.thy_base.specs.Ranges.{Range, row, above, below, at_most, between, multiple_of, divisor_of, both, IsIn, is_in, Row, AreIn}
 
 both_true : (a b : Bool) → (a && b) ≡ true → (a ≡ true) × (b ≡ true)
@@ -103,7 +103,7 @@ pub IsInRange-rows : (c : Config) → AreIn (rows_of c) → IsInRange (parameter
 IsInRange-rows c h =
     let numbers = AreIn-parts (number_rows (parameters_of c)) (cut_rows c ++ end_rows c) h in
     let lists = AreIn-parts (cut_rows c) (end_rows c) numbers.1 in
-    AreIn-whole (number_rows (parameters_of c)) (limit_row (parameters_of c) ∷ []) numbers.0 lists.1.1
+    AreIn-whole (number_rows (parameters_of c)) (limit_row (parameters_of c) ∷ harts_row (parameters_of c) ∷ []) numbers.0 lists.1.1
 
 -- and its cuts rise
 pub IsRising-rows : (c : Config) → AreIn (rows_of c) → IsRising 0 c.cuts

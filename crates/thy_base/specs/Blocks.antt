@@ -1,3 +1,4 @@
+-- Part of the claim.
 -- The bytes of blocks, and bytes written into blocks.
 use Rattle.std.specs.Prelude.{ℕ, List, ◌++◌, take, replicate, slice_set}
 use Rattle.thy_base.specs.declared.block.Block.{Block}

@@ -1,3 +1,4 @@
+-- Part of the claim.
 -- Bytes as a list.
 use Rattle.std.specs.Prelude.{ℕ, ◌+◌, List, ◌++◌, length, take, drop, vec_capacity}
 use Rattle.thy_base.specs.declared.bytes.Bytes.{Bytes}

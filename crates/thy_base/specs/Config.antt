@@ -1,3 +1,4 @@
+-- Part of the claim.
 -- A configuration's fields with their ranges, in the order in which they are tested, and the first out of its range.
 use Rattle.std.specs.Prelude.{ℕ, ◌+◌, ◌*◌, List, [], ◌∷◌, ◌++◌, length, map, Option, Some, None, Result, Ok, Err}
 use Rattle.thy_base.specs.declared.config.Config.{Config}
@@ -5,7 +6,7 @@ use Rattle.thy_base.specs.declared.config.ConfigError.{ConfigError}
 use Rattle.thy_base.specs.declared.config.Parameters.{Parameters}
 use Rattle.thy_base.specs.declared.config.Field.TheVariants.{Cuts, Tears}
 use Rattle.thy_base.specs.Demands.{first_fault}
-use Rattle.thy_base.specs.Geometry.{parameters_of, number_rows, limit_row}
+use Rattle.thy_base.specs.Geometry.{parameters_of, number_rows, limit_row, harts_row}
 use Rattle.thy_base.specs.Ranges.{Row, row, AreIn, above, at_most, demand_of}
 
 -- each of these cuts is above the one before it
@@ -24,9 +25,13 @@ cut_rows c =
     ∷ rising_rows 0 c.cuts
     ++ row Cuts (c.pages * (length c.cuts + 1)) (at_most 65536) ∷ []
 
--- at most one pick more than cuts, and a limit
+-- at most one pick more than cuts, a limit, and the harts
 abbrev pub end_rows : Config → List Row
-end_rows c = row Tears (length c.tears) (at_most (length c.cuts + 1)) ∷ limit_row (parameters_of c) ∷ []
+end_rows c =
+    row Tears (length c.tears) (at_most (length c.cuts + 1))
+    ∷ limit_row (parameters_of c)
+    ∷ harts_row (parameters_of c)
+    ∷ []
 
 -- all fields, in the order in which they are tested
 abbrev pub rows_of : Config → List Row

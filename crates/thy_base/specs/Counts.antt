@@ -1,3 +1,4 @@
+-- Part of the claim.
 -- Counts of faults, which stop at the last value of a 64-bit number.
 use Rattle.std.specs.Prelude.{ℕ, ◌+◌, ◌-◌, ◌^◌, ◌≤◌, min}
 

@@ -1,3 +1,4 @@
+-- Part of the claim.
 -- What is asked of something, in order, and the first fault that it has.
 use Rattle.std.specs.Prelude.{Bool, List, [], ◌∷◌, Option, Some, None, if◌then◌else◌}
 

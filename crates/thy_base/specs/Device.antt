@@ -1,3 +1,4 @@
+-- Part of the claim.
 -- What a block device holds, what each call makes of it, and what a power cut may leave.
 use Rattle.std.specs.Prelude.{◌≡◌, ◌⊎◌, ℕ, ◌+◌, ◌-◌, ◌==◌, nat_lt, if◌then◌else◌, Bool, true, false, List, [], ◌∷◌, ◌++◌, length, take, drop, replicate, slice_index_or, slice_set, Contains, Result, MatchResult}
 use Rattle.std.specs.Borrow.{GName}

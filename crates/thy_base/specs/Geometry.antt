@@ -1,8 +1,9 @@
+-- Part of the claim.
 -- The numbers of a configuration, their ranges, and the sizes that follow from them.
 use Rattle.std.specs.Prelude.{ℕ, ◌+◌, ◌-◌, ◌*◌, ◌^◌, List, [], ◌∷◌, ◌++◌}
 use Rattle.thy_base.specs.declared.config.Config.{Config}
 use Rattle.thy_base.specs.declared.config.Parameters.{Parameters}
-use Rattle.thy_base.specs.declared.config.Field.TheVariants.{Base, Pages, Console, Epoch, Btt, Ptt, Sets, Ways, Nvmq, Dramq, High, Low, Limit}
+use Rattle.thy_base.specs.declared.config.Field.TheVariants.{Base, Pages, Console, Epoch, Btt, Ptt, Sets, Ways, Nvmq, Dramq, High, Low, Limit, Harts}
 use Rattle.thy_base.specs.Ranges.{Row, row, AreIn, below, at_most, between, multiple_of, divisor_of, both}
 
 -- a configuration without its lists
@@ -22,6 +23,8 @@ parameters_of c = record {
   low = c.low;
   mix = c.mix;
   limit = c.limit;
+  scheme = c.scheme;
+  harts = c.harts;
 }
 
 -- memory: where it is, and how many pages
@@ -56,13 +59,17 @@ threshold_rows p = row High p.high (at_most 63) ∷ row Low p.low (at_most p.hig
 abbrev pub limit_row : Parameters → Row
 limit_row p = row Limit p.limit (between 1 (10 ^ 12))
 
+-- one hart so far
+abbrev pub harts_row : Parameters → Row
+harts_row p = row Harts p.harts (between 1 1)
+
 -- The numbers that stand before the lists, each with its range. The seed of the schedule may be any.
 abbrev pub number_rows : Parameters → List Row
 number_rows p = memory_rows p ++ table_rows p ++ queue_rows p ++ threshold_rows p
 
 -- each number is in its range
 abbrev pub IsInRange : Parameters → Type 0
-IsInRange p = AreIn (number_rows p ++ limit_row p ∷ [])
+IsInRange p = AreIn (number_rows p ++ limit_row p ∷ harts_row p ∷ [])
 
 -- how many blocks memory has
 abbrev pub memory_blocks : Parameters → ℕ

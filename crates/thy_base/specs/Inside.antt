@@ -1,3 +1,4 @@
+-- Part of the claim.
 -- A range of addresses inside another.
 use Rattle.std.specs.Prelude.{ℕ, ◌+◌, Bool, ◌&&◌, nat_le}
 

@@ -1,3 +1,4 @@
+-- Part of the claim.
 -- The draws of a seed.
 use Rattle.std.specs.Prelude.{ℕ, ◌+◌, ◌*◌, ◌/◌, ◌%◌, ◌^◌}
 

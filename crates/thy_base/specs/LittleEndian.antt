@@ -1,3 +1,4 @@
+-- Part of the claim.
 -- Numbers in a list of bytes, the lowest byte first.
 use Rattle.std.specs.Prelude.{ℕ, List}
 use Rattle.byteorder.specs.Endian.{little_from, little_bytes}

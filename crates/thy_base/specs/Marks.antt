@@ -1,3 +1,4 @@
+-- Part of the claim.
 -- Checkpoints, as they are told of.
 use Rattle.std.specs.Prelude.{ℕ}
 use Rattle.thy_base.specs.declared.mark.Mark.{Mark}

@@ -1,3 +1,4 @@
+-- Part of the claim.
 -- The picks of a schedule.
 use Rattle.std.specs.Prelude.{ℕ, ◌%◌, ◌==◌, if◌then◌else◌}
 use Rattle.thy_base.specs.declared.mix.Mix.{Mix}

@@ -1,5 +1,6 @@
--- What shelves hold, what sinks take, and their counts of faults.
-use Rattle.std.specs.Prelude.{◌≡◌, ◌≢◌, ℕ, ◌<◌, ◌≤◌, List, ◌++◌, length, Option, Some, None, Result, Ok, Err, Vec, MatchOption}
+-- Part of the claim.
+-- What shelves hold, under which names they failed, what sinks take, and their counts of faults.
+use Rattle.std.specs.Prelude.{◌≡◌, ◌≢◌, ◌⊎◌, ℕ, ◌<◌, ◌≤◌, List, [], ◌∷◌, ◌++◌, length, Option, Some, None, Result, Ok, Err, Vec, MatchOption}
 use Rattle.std.specs.declared.alloc.Global.{Global}
 use Rattle.thy_base.specs.declared.outside.FetchError.{FetchError}
 use Rattle.thy_base.specs.declared.outside.FetchError.TheVariants.{Failed, NotThere, TooLong, Memory}
@@ -33,10 +34,30 @@ pub record TookPart (old new : Stream) (bytes : List ℕ) : Type 0 where
 abbrev pub Files : Type 0
 Files = List ℕ → Option (List ℕ)
 
--- A shelf: what stands on it, where it tells, and its count of faults.
+-- A shelf: what stands on it, and the names under which calls failed, in order, where it tells these; and its count of
+-- faults.
 pub record Stock : Type 0 where
   pub held : Option Files
+  pub failed : Option (List (List ℕ))
   pub faults : ℕ
+
+-- no call failed: the count stays, and the names with it
+pub record HasNotFailed (old new : Stock) : Type 0 where
+  pub faults : new.faults ≡ old.faults
+  pub failed : new.failed ≡ old.failed
+
+-- where a shelf tells under which names calls failed, this name came behind those that it had
+abbrev pub Noted : List ℕ → Option (List (List ℕ)) → Option (List (List ℕ)) → Type 0
+Noted name old new = (names : List (List ℕ)) → old ≡ Some names → new ≡ Some (names ++ name ∷ [])
+
+-- one call failed, under this name
+pub record HasFailedUnder (name : List ℕ) (old new : Stock) : Type 0 where
+  pub rose : Rose old.faults new.faults
+  pub noted : Noted name old.failed new.failed
+
+-- a call under this name may have failed, or not
+abbrev pub MayHaveFailed : List ℕ → Stock → Stock → Type 0
+MayHaveFailed name old new = HasNotFailed old new ⊎ HasFailedUnder name old new
 
 -- A fetch by what stands under the name: these bytes within the limit, or nothing, or bytes past the limit.
 abbrev pub Fetched : Option (List ℕ) → ℕ → Result (Vec ℕ Global) FetchError → Type 0
@@ -46,14 +67,15 @@ Fetched there limit (Err TooLong) = (bytes : List ℕ) × (there ≡ Some bytes)
 Fetched there limit (Err Failed) = Unit {0}
 Fetched there limit (Err (Memory e)) = Unit {0}
 
--- A fetch and the count: Failed raises it, and with bytes it stays. A shelf that tells leaves it also where nothing is
--- there or too much, and one that does not tell raises it then. Want of memory may raise it.
-abbrev pub FetchCounts : Stock → Stock → Result (Vec ℕ Global) FetchError → Type 0
-FetchCounts old new (Ok bytes) = new.faults ≡ old.faults
-FetchCounts old new (Err Failed) = Rose old.faults new.faults
-FetchCounts old new (Err NotThere) = MatchOption old.held (Rose old.faults new.faults) (λ _. new.faults ≡ old.faults)
-FetchCounts old new (Err TooLong) = MatchOption old.held (Rose old.faults new.faults) (λ _. new.faults ≡ old.faults)
-FetchCounts old new (Err (Memory e)) = old.faults ≤ new.faults
+-- Whether a fetch under this name failed: where the answer is Failed, and not where it gave bytes. Where nothing is there
+-- or too much, it failed on a shelf that does not tell what it holds, and not on one that does. Where memory was short it
+-- may have failed.
+abbrev pub FetchCounts : List ℕ → Stock → Stock → Result (Vec ℕ Global) FetchError → Type 0
+FetchCounts name old new (Ok bytes) = HasNotFailed old new
+FetchCounts name old new (Err Failed) = HasFailedUnder name old new
+FetchCounts name old new (Err NotThere) = MatchOption old.held (HasFailedUnder name old new) (λ _. HasNotFailed old new)
+FetchCounts name old new (Err TooLong) = MatchOption old.held (HasFailedUnder name old new) (λ _. HasNotFailed old new)
+FetchCounts name old new (Err (Memory e)) = MayHaveFailed name old new
 
 -- where a shelf tells, it goes on telling, and every other name has what it had
 abbrev pub KeepsOthers : Stock → Stock → List ℕ → Type 0
@@ -64,8 +86,8 @@ KeepsOthers old new name = (files : Files) → old.held ≡ Some files
 abbrev pub Holds : Stock → List ℕ → List ℕ → Type 0
 Holds stock name bytes = (files : Files) → stock.held ≡ Some files → files name ≡ Some bytes
 
--- a put and the count
-abbrev pub PutCounts : Stock → Stock → Result Unit PutError → Type 0
-PutCounts old new (Ok done) = new.faults ≡ old.faults
-PutCounts old new (Err PutFailed) = Rose old.faults new.faults
-PutCounts old new (Err (PutMemory e)) = old.faults ≤ new.faults
+-- whether a put under this name failed
+abbrev pub PutCounts : List ℕ → Stock → Stock → Result Unit PutError → Type 0
+PutCounts name old new (Ok done) = HasNotFailed old new
+PutCounts name old new (Err PutFailed) = HasFailedUnder name old new
+PutCounts name old new (Err (PutMemory e)) = MayHaveFailed name old new

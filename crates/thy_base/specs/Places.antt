@@ -1,3 +1,4 @@
+-- Part of the claim.
 -- The places of both devices, and the numbers of the blocks that they have. The NVM has the header (block 0), the
 -- commit block (block 1), two slots, and behind them the places of memory's blocks.
 use Rattle.std.specs.Prelude.{◌≡◌, ℕ, ◌+◌, ◌*◌, ◌/◌, ◌<◌, ◌≤◌, Bool, true, false}
@@ -6,9 +7,13 @@ use Rattle.thy_base.specs.declared.place.Place.{Place}
 use Rattle.thy_base.specs.declared.place.Place.TheVariants.{Home, AlternateBlock, AlternatePage, Buffer, Frame}
 use Rattle.thy_base.specs.Geometry.{memory_blocks}
 
--- how many blocks a slot has: the processor's record of 5, the block table and the page table, eight entries a block
+-- how many blocks the processor's record has
+abbrev pub record_blocks : Parameters → ℕ
+record_blocks p = 5
+
+-- how many blocks a slot has: the processor's record, the block table and the page table, eight entries a block
 abbrev pub slot_blocks : Parameters → ℕ
-slot_blocks p = 5 + p.btt / 8 + p.ptt / 8
+slot_blocks p = record_blocks p + p.btt / 8 + p.ptt / 8
 
 -- the first block of a slot
 abbrev pub slot_place : Parameters → ℕ → ℕ

@@ -1,3 +1,4 @@
+-- Part of the claim.
 -- Ranges of numbers: each reads as a fact about a number, and as a test of it. Rows of fields with their ranges.
 use Rattle.std.specs.Prelude.{◌≡◌, ◌<◌, ◌≤◌, ℕ, ◌%◌, Bool, ◌&&◌, ◌==◌, nat_lt, nat_le, List, [], ◌∷◌}
 use Rattle.thy_base.specs.declared.config.ConfigError.{ConfigError}

@@ -1,3 +1,4 @@
+-- Part of the claim.
 -- What a store of blocks and the device behind it are together, and what a store of a block makes of them.
 use Rattle.std.specs.Prelude.{◌≡◌, ◌⊎◌, ℕ, ◌+◌, ◌-◌, ◌/◌, ◌^◌, ◌≤◌, Bool, true, List, slice_set, Option, Some, None}
 use Rattle.thy_base.specs.declared.block.Block.{Block}

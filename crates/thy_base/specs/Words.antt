@@ -1,3 +1,4 @@
+-- Part of the claim.
 -- Blocks as eight numbers of 64 bits, the lowest byte of each first.
 use Rattle.std.specs.Prelude.{ℕ, ◌*◌, List}
 use Rattle.std.specs.List.{flat_map}

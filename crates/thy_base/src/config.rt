@@ -38,6 +38,17 @@ pub struct Config {
     pub tears: Numbers,
     /// The cycles (or, for the plain machine, instructions) after which the run stops: 1 to `10^12`.
     pub limit: u64,
+    /// The scheme of checkpoints.
+    pub scheme: SchemeName,
+    /// The harts: 1.
+    pub harts: u64,
+}
+
+/// The name of a scheme of checkpoints. With the sizes it decides what an image of the NVM means.
+#[derive(Clone, Copy, Debug, PartialEq, Eq)]
+pub enum SchemeName {
+    /// Block remapping for sparse writes and page writeback for dense ones, as in ThyNVM.
+    Thynvm,
 }
 
 /// A field of the configuration, or the number of a made program.
@@ -59,6 +70,7 @@ pub enum Field {
     Cuts,
     Tears,
     Limit,
+    Harts,
     N,
 }
 
@@ -87,4 +99,6 @@ pub struct Parameters {
     pub low: u64,
     pub mix: u64,
     pub limit: u64,
+    pub scheme: SchemeName,
+    pub harts: u64,
 }

@@ -26,6 +26,7 @@ impl Field {
             Field::Cuts => "cuts",
             Field::Tears => "tears",
             Field::Limit => "limit",
+            Field::Harts => "harts",
             Field::N => "n",
         }
     }

@@ -29,7 +29,7 @@ mod words;
 pub use block::{BLOCK_SIZE, Block};
 pub use bytes::Bytes;
 pub use cause::EndCause;
-pub use config::{Config, ConfigError, Field, Parameters};
+pub use config::{Config, ConfigError, Field, Parameters, SchemeName};
 pub use geometry::Geometry;
 pub use inside::is_inside;
 pub use lcg::Lcg;

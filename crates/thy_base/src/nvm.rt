@@ -56,7 +56,7 @@ pub trait Nvm {
     ghost writes: { Self → ℕ };
 
     /// Makes the device anew: the blocks of `start` and then zeros, an empty queue, no kept images and
-    /// picks, and no writes. The call is counted, also where it fails.
+    /// picks, and no writes. The call is counted, also if it fails; only one that is refused memory may go uncounted.
     fn fit(&mut self, alloc: Global, shape: &Shape, start: &[Block]) -> Result<(), FitError>
         requires blocks { 0 < shape.now.blocks }
         requires queue { 0 < shape.now.queue }

@@ -1,7 +1,8 @@
 //! The outside of the machine: shelves that files stand on, and sinks that bytes go to.
 //!
 //! Each has a count of faults, which never falls. A call that succeeds leaves it, and a call answers
-//! `Failed` only where the count rose in that call, or stands at the last value of a `u64`.
+//! `Failed` only where the count rose in that call, or stands at the last value of a `u64`. A shelf may
+//! tell also under which names calls failed; then a call that fails adds its name to these, and no other does.
 
 use std::alloc::{AllocError, Global};
 
@@ -34,12 +35,13 @@ pub enum SinkError {
     Failed,
 }
 
-/// Named files. A shelf may tell what it holds; then its answers are tied to that.
+/// Named files. A shelf may tell what it holds; then its answers are tied to that. It may tell under which
+/// names calls failed, too; then a call that fails is tied to its name.
 pub trait Shelf {
     ghost use Rattle.std.specs.Prelude.{◌≡◌, ◌≤◌, length, IfOk, OnOk, Some};
     ghost use Rattle.thy_base.specs.Outside.{Stock, Files, Fetched, FetchCounts, KeepsOthers, Holds, PutCounts};
 
-    /// What the shelf holds, where it tells, and its count of faults.
+    /// What the shelf holds, and under which names calls failed, where it tells these; and its count of faults.
     ghost stock: { Self → Stock };
 
     /// The bytes under `name`, if they are at most `limit`. A shelf that tells answers `NotThere`
@@ -49,13 +51,13 @@ pub trait Shelf {
         ensures keeps { (stock self.new).held ≡ (stock self.old).held }
         ensures answer { (files : Files) → (stock self.old).held ≡ Some files → Fetched (files name.now) limit result }
         ensures within { IfOk result (λ bytes. length bytes.items ≤ limit) }
-        ensures faults { FetchCounts (stock self.old) (stock self.new) result };
+        ensures faults { FetchCounts name.now (stock self.old) (stock self.new) result };
 
     /// Makes `name` hold these bytes. No other name changes, whatever the answer.
     fn put(&mut self, alloc: Global, name: &str, bytes: &[u8]) -> Result<(), PutError>
         ensures ok { OnOk result (Holds (stock self.new) name.now bytes.now) }
         ensures others { KeepsOthers (stock self.old) (stock self.new) name.now }
-        ensures faults { PutCounts (stock self.old) (stock self.new) result };
+        ensures faults { PutCounts name.now (stock self.old) (stock self.new) result };
 }
 
 /// Where bytes go, as to a terminal or a report. A sink may tell what it has taken.

@@ -7,7 +7,7 @@ use crate::{Geometry, Place};
 impl Geometry {
     ghost use Rattle.thy_base.specs.declared.place.Place.TheVariants.{Home as AtHome, AlternateBlock as AtAlternateBlock, AlternatePage as AtAlternatePage, Buffer as AtBuffer, Frame as AtFrame};
     ghost use Rattle.thy_base.specs.Geometry.{IsInRange, memory_blocks};
-    ghost use Rattle.thy_base.specs.Places.{slot_blocks, slot_place, image_blocks, dram_blocks, number_of, IsPlace};
+    ghost use Rattle.thy_base.specs.Places.{record_blocks, slot_blocks, slot_place, image_blocks, dram_blocks, number_of, IsPlace};
 
     /// How many blocks an image of the NVM has.
     pub fn blocks(&self) -> u64
@@ -27,13 +27,20 @@ impl Geometry {
         p.btt + 64 * p.ptt
     }
 
+    /// How many blocks the processor's record has.
+    pub fn record_blocks(&self) -> u64
+        ensures blocks { result ≡ record_blocks self.now }
+    {
+        5
+    }
+
     /// How many blocks each of the two slots has: the processor's record and both tables.
     pub fn slot_blocks(&self) -> u64
         ensures blocks { result ≡ slot_blocks self.now }
         ensures in_range { IsInRange self.now }
     {
         let p = self.numbers();
-        5 + p.btt / 8 + p.ptt / 8
+        self.record_blocks() + p.btt / 8 + p.ptt / 8
     }
 
     /// The first block of slot `s`, 0 or 1.

@@ -25,6 +25,8 @@ pub(crate) fn parameters(c: &Config) -> Parameters
         low: c.low,
         mix: c.mix,
         limit: c.limit,
+        scheme: c.scheme,
+        harts: c.harts,
     }
 }
 
@@ -157,7 +159,8 @@ fn end(c: &Config) -> Option<ConfigError>
 {
     let count = c.tears.len();
     let limit = is_within(1, 1_000_000_000_000, c.limit);
-    let rest = or_else(limit, Field::Limit, c.limit, None);
+    let harts = or_else(c.harts == 1, Field::Harts, c.harts, None);
+    let rest = or_else(limit, Field::Limit, c.limit, harts);
     or_else(
         count.saturating_sub(1) <= c.cuts.len(),
         Field::Tears,

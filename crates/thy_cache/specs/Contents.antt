@@ -1,3 +1,4 @@
+-- Part of the claim.
 -- A cache: its sets, and what each call makes of them.
 use Rattle.std.specs.Prelude.{◌≡◌, ◌⊎◌, ℕ, ◌+◌, ◌*◌, ◌≤◌, ◌%◌, ◌^◌, ◌<◌, Bool, true, false, List, [], length, replicate, slice_index_or, slice_set, sum_by, position, All, Option, Some, None, is_some, unwrap_or, option_and_then}
 use Rattle.std.specs.Option.{option_map}

@@ -1,3 +1,4 @@
+-- Part of the claim.
 -- A cache over a store, read as one flat list of blocks.
 use Rattle.std.specs.Prelude.{◌≡◌, ℕ, ◌+◌, ◌<◌, ◌%◌, if◌then◌else◌, List, length, map, false, Some, unwrap_or}
 use Rattle.std.specs.List.{range_with_len}

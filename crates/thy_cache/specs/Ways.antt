@@ -1,3 +1,4 @@
+-- Part of the claim.
 -- One set of a cache: the lines in its ways, and the order in which the ways were used.
 use Rattle.std.specs.Prelude.{ℕ, ◌<◌, ◌==◌, ◌≡◌, ◌++◌, if◌then◌else◌, Bool, true, false, List, [], ◌∷◌, length, replicate, slice_index, slice_index_or, slice_set, remove, position, count_by, Option, Some, None, is_none, is_some, unwrap_or, option_and_then, All}
 use Rattle.std.specs.List.{range_with_len}

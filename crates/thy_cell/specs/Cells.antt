@@ -1,3 +1,4 @@
+-- Part of the claim.
 -- A block as both tables have it, and the places of its versions.
 use Rattle.std.specs.Prelude.{ℕ, ◌%◌, Bool, true, false, if◌then◌else◌}
 use Rattle.thy_base.specs.declared.place.Place.{Place}

@@ -1,3 +1,4 @@
+-- Part of the claim.
 -- What holds of a block in both tables at every moment, and what its places hold.
 use Rattle.std.specs.Prelude.{◌≡◌, ◌≢◌, ◌%◌, ◌<◌, ◌≤◌, Bool, true, false}
 use Rattle.thy_base.specs.declared.block.Block.{Block}

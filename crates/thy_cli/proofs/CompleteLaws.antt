@@ -39,6 +39,7 @@ use Rattle.thy_cli.specs.declared.answer.Answer.{Answer}
 use Rattle.thy_cli.specs.declared.refusal.Refusal.{Refusal}
 use Rattle.thy_cli.specs.declared.refusal.Refusal.TheVariants.{Words, Fetch, File, Image, Input, Device as DeviceRefusal, Memory as MemoryRefusal}
 use Rattle.thy_cli.specs.Answering.{Outside, WordsDue, RunDue, given_for, ClosesRun, IsRunOf, IsPlainOf, MakeAnswered, made_told, plain_stop, end_lines, stop_line, stop_status, run_line, run_status, summary_for, RunAnswered, PlainAnswered, OrderAnswered, Answered}
+use Rattle.thy_cli.specs.Machines.{Choice}
 use Rattle.thy_cli.specs.Completing.{IsAsked, Stayed, IsCalm, left_alone, run_of, TellsEnd, RunCompletes, PlainCompletes, MakeCompletes, Claim}
 use Rattle.thy_cli.specs.Planning.{refused_status}
 use Rattle.thy_cli.specs.Saving.{PutCounted, SavesUnder, saves}
@@ -371,17 +372,17 @@ run_completes K words before after a source job i k faults over limit (inl (r, d
 run_completes K words before after a source job i k faults over limit (inr ran) = by_save K source job k before after a (stands_of i) faults over limit ran ran.run.why refl
 
 -- the answer to the order of a run is that of its source
-order_answered : {M : Type 0} (K : KindOf M) (before after : Outside) (a : Answer) (source : Source) (job : Job) → OrderAnswered K (run_of source job) before after a → RunAnswered K source job before after a
-order_answered K before after a (file name) job h = h
-order_answered K before after a (made n) job h = h
-order_answered K before after a (image name) job h = h
+order_answered : (c : Choice) (before after : Outside) (a : Answer) (source : Source) (job : Job) → OrderAnswered c (run_of source job) before after a → RunAnswered (c job.config.scheme).kind source job before after a
+order_answered c before after a (file name) job h = h
+order_answered c before after a (made n) job h = h
+order_answered c before after a (image name) job h = h
 
 -- an answer completes the run that is asked for
-pub Completes-run : {M : Type 0} (K : KindOf M) (words : List (List ℕ)) (before after : Outside) (a : Answer) → Answered K words before after a → RunCompletes K words before after a
-Completes-run K words before after a (inl (e, due, shelf, device, refused)) source job i k faults over limit = inr (refused.status ∙ words_due words (run_of source job) e i.asked due)
-Completes-run K words before after a (inr (order, asked, h)) source job i k faults over limit =
-    run_completes K words before after a source job i k faults over limit
-    (order_answered K before after a source job (subst (λ x. OrderAnswered K x before after a) (order_same words (run_of source job) order i.asked asked) h))
+pub Completes-run : (c : Choice) (words : List (List ℕ)) (before after : Outside) (a : Answer) → Answered c words before after a → RunCompletes c words before after a
+Completes-run c words before after a (inl (e, due, shelf, device, refused)) source job i k faults over limit = inr (refused.status ∙ words_due words (run_of source job) e i.asked due)
+Completes-run c words before after a (inr (order, asked, h)) source job i k faults over limit =
+    run_completes (c job.config.scheme).kind words before after a source job i k faults over limit
+    (order_answered c before after a source job (subst (λ x. OrderAnswered c x before after a) (order_same words (run_of source job) order i.asked asked) h))
 
 plain_completes : (words : List (List ℕ)) (before after : Outside) (a : Answer) (name : List ℕ) (job : Job) (i : IsAsked (plain name job) (file name) job words before.shelf) (k : ℕ) → IsCalm before after
     → is_running (left_alone i.program k).status ≡ false → k ≤ job.config.limit → PlainAnswered name job before after a → TellsEnd (left_alone i.program k) a
@@ -390,11 +391,11 @@ plain_completes words before after a name job i k faults over limit (device, inl
 plain_completes words before after a name job i k faults over limit (device, inr ran) = by_faults name job k before after a (stands_of i) faults over limit ran ran.terminal_failed ran.report_failed refl refl
 
 -- and the one on the plain machine
-pub Completes-plain : {M : Type 0} (K : KindOf M) (words : List (List ℕ)) (before after : Outside) (a : Answer) → Answered K words before after a → PlainCompletes words before after a
-Completes-plain K words before after a (inl (e, due, shelf, device, refused)) name job i k faults over limit = inr (refused.status ∙ words_due words (plain name job) e i.asked due)
-Completes-plain K words before after a (inr (order, asked, h)) name job i k faults over limit =
+pub Completes-plain : (c : Choice) (words : List (List ℕ)) (before after : Outside) (a : Answer) → Answered c words before after a → PlainCompletes words before after a
+Completes-plain c words before after a (inl (e, due, shelf, device, refused)) name job i k faults over limit = inr (refused.status ∙ words_due words (plain name job) e i.asked due)
+Completes-plain c words before after a (inr (order, asked, h)) name job i k faults over limit =
     plain_completes words before after a name job i k faults over limit
-    (subst (λ x. OrderAnswered K x before after a) (order_same words (plain name job) order i.asked asked) h)
+    (subst (λ x. OrderAnswered c x before after a) (order_same words (plain name job) order i.asked asked) h)
 
 -- a made program is put, unless memory was short
 make_told : (n : ℕ) (name : List ℕ) (before after : Outside) (a : Answer) (why : Option PutError) → IsCalm before after → a.status ≡ (made_told n name why).0 → PutCounted before.shelf after.shelf why
@@ -406,16 +407,16 @@ make_told n name before after a (Some (PutMemory e)) faults is counted = inr is
 make_completes : (n : ℕ) (name : List ℕ) (before after : Outside) (a : Answer) → IsCalm before after → MakeAnswered n name before after a → (a.status ≡ 0) ⊎ (a.status ≡ 9)
 make_completes n name before after a faults h = make_told n name before after a h.why faults h.status h.put.counted
 
-pub Completes-make : {M : Type 0} (K : KindOf M) (words : List (List ℕ)) (before after : Outside) (a : Answer) → Answered K words before after a → MakeCompletes words before after a
-Completes-make K words before after a (inl (e, due, shelf, device, refused)) n name asked faults = inr (refused.status ∙ words_due words (make n name) e asked due)
-Completes-make K words before after a (inr (order, is, h)) n name asked faults =
-    make_completes n name before after a faults (subst (λ x. OrderAnswered K x before after a) (order_same words (make n name) order asked is) h)
+pub Completes-make : (c : Choice) (words : List (List ℕ)) (before after : Outside) (a : Answer) → Answered c words before after a → MakeCompletes words before after a
+Completes-make c words before after a (inl (e, due, shelf, device, refused)) n name asked faults = inr (refused.status ∙ words_due words (make n name) e asked due)
+Completes-make c words before after a (inr (order, is, h)) n name asked faults =
+    make_completes n name before after a faults (subst (λ x. OrderAnswered c x before after a) (order_same words (make n name) order asked is) h)
 
 -- so what is claimed of a call follows from what its answer is
-pub Claim-answered : {M : Type 0} (K : KindOf M) (words : List (List ℕ)) (before after : Outside) (a : Answer) → Answered K words before after a → Claim K words before after a
-Claim-answered K words before after a h = record {
+pub Claim-answered : (c : Choice) (words : List (List ℕ)) (before after : Outside) (a : Answer) → Answered c words before after a → Claim c words before after a
+Claim-answered c words before after a h = record {
   answered = h;
-  complete_run = Completes-run K words before after a h;
-  complete_plain = Completes-plain K words before after a h;
-  complete_make = Completes-make K words before after a h;
+  complete_run = Completes-run c words before after a h;
+  complete_plain = Completes-plain c words before after a h;
+  complete_make = Completes-make c words before after a h;
 }

@@ -107,29 +107,29 @@ IsOrigin-start o contents range is storable readable fresh =
 -- ---- answers
 
 -- a device that begins with an image, or with nothing, is fitted for what that means
-fitted_by : {M : Type 0} (K : KindOf M) (laws : IsLawful K) (reads : ReadsFiles K) → (o : Origin) (blocks : List Block) (shape : Shape) (n : Device) (kept : Option Mark) → o.kept ≡ kept
+fitted_by : {M : Type 0} (K : KindOf M) (laws : IsLawful K) (o : Origin) (reads : ReadsFiles K o.geometry) → (blocks : List Block) (shape : Shape) (n : Device) (kept : Option Mark) → o.kept ≡ kept
     → FitsKept o.geometry (record { start = o.start; kept = o.kept; blocks = blocks }) kept → shape.blocks ≡ K.blocks o.geometry → IsFittedFor K o shape blocks n
-fitted_by K laws reads o blocks shape n None is none many =
+fitted_by K laws o reads blocks shape n None is none many =
     subst (λ bs. IsFittedFor K o shape bs n) (sym none) (record {
       blocks = many;
       fits = omega arith;
       long = record { each = λ i l. absurd (omega arith) };
       found = laws.finds_nothing o.geometry shape n many ∙ ap (found_first o) (sym is);
     })
-fitted_by K laws reads o blocks shape n (Some m) is of many =
-    let all : length blocks ≡ shape.blocks = of.many ∙ sym (many ∙ reads.blocks o.geometry) in
+fitted_by K laws o reads blocks shape n (Some m) is of many =
+    let all : length blocks ≡ shape.blocks = of.many ∙ sym (many ∙ reads.blocks) in
     let rest : replicate (shape.blocks - length blocks) zero_block ≡ [] = ap (λ k. replicate k zero_block) (let e : shape.blocks - length blocks ≡ 0 = omega (arith, all) in e) in
     let whole : (fitted shape blocks n).image ≡ blocks = ap (λ bs. blocks ++ bs) rest ∙ append-nil blocks in
     record {
       blocks = many;
       fits = omega (arith, all);
       long = of.long;
-      found = ap (K.decode o.geometry ceiling) whole ∙ reads.decode o.geometry ceiling blocks ∙ of.decodes ∙ ap (found_first o) (sym is);
+      found = ap (K.decode o.geometry ceiling) whole ∙ reads.decode ceiling blocks ∙ of.decodes ∙ ap (found_first o) (sym is);
     }
 
-pub fitted_for_plan : {M : Type 0} (K : KindOf M) (laws : IsLawful K) (reads : ReadsFiles K) → (plan : Plan) (blocks : List Block) (shape : Shape) (n : Device) → CanRun plan blocks → shape.blocks ≡ K.blocks plan.geometry
+pub fitted_for_plan : {M : Type 0} (K : KindOf M) (laws : IsLawful K) (plan : Plan) (reads : ReadsFiles K plan.geometry) → (blocks : List Block) (shape : Shape) (n : Device) → CanRun plan blocks → shape.blocks ≡ K.blocks plan.geometry
     → IsFittedFor K (origin_of plan) shape blocks n
-fitted_for_plan K laws reads plan blocks shape n can many = fitted_by K laws reads (origin_of plan) blocks shape n plan.start.kept refl can.fits many
+fitted_for_plan K laws plan reads blocks shape n can many = fitted_by K laws (origin_of plan) reads blocks shape n plan.start.kept refl can.fits many
 
 abbrev shape_at : ℕ → ℕ → ℕ → Shape
 shape_at blocks queue cuts = record { blocks = blocks; queue = queue; cuts = cuts }

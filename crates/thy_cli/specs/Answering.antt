@@ -1,3 +1,4 @@
+-- Part of the claim.
 -- What the top call answers.
 use Rattle.std.specs.Prelude.{◌≡◌, ◌⊎◌, ℕ, ◌<◌, ◌≤◌, Bool, true, false, List, [], ◌∷◌, ◌++◌, length, codes, Option, Some, None, Ok, Err}
 use Rattle.std.specs.Fmt.{decimal}
@@ -39,6 +40,7 @@ use Rattle.thy_run.specs.World.{Given}
 use Rattle.thy_cli.specs.declared.answer.Answer.{Answer}
 use Rattle.thy_cli.specs.declared.refusal.Refusal.{Refusal}
 use Rattle.thy_cli.specs.declared.refusal.Refusal.TheVariants.{Words, Fetch, File, Image, Input, Device as DeviceRefusal, Memory as MemoryRefusal}
+use Rattle.thy_cli.specs.Machines.{Choice}
 use Rattle.thy_cli.specs.Saving.{IsPut, SavesUnder, saves}
 use Rattle.thy_cli.specs.Sources.{Source, file, made, image, Beginning, IsProgram, origin_for, ProgramDue}
 
@@ -271,16 +273,17 @@ WordsRefused words before after a =
     (e : WordsError) × WordsDue words e × (after.shelf ≡ before.shelf) × (after.device ≡ before.device)
     × IsRefused (Words e) before after a
 
--- what the answer to an order is: a run of a source, one on the plain machine, or a made program
-abbrev pub OrderAnswered : {M : Type 0} → KindOf M → Order → Outside → Outside → Answer → Type 0
-OrderAnswered K (run name job) before after a = RunAnswered K (file name) job before after a
-OrderAnswered K (bench n job) before after a = RunAnswered K (made n) job before after a
-OrderAnswered K (resume name job) before after a = RunAnswered K (image name) job before after a
-OrderAnswered K (plain name job) before after a = PlainAnswered name job before after a
-OrderAnswered K (make n name) before after a = MakeAnswered n name before after a
+-- what the answer to an order is: a run of a source on the machine of the job's scheme, one on the plain machine, or a made
+-- program
+abbrev pub OrderAnswered : Choice → Order → Outside → Outside → Answer → Type 0
+OrderAnswered c (run name job) before after a = RunAnswered (c job.config.scheme).kind (file name) job before after a
+OrderAnswered c (bench n job) before after a = RunAnswered (c job.config.scheme).kind (made n) job before after a
+OrderAnswered c (resume name job) before after a = RunAnswered (c job.config.scheme).kind (image name) job before after a
+OrderAnswered c (plain name job) before after a = PlainAnswered name job before after a
+OrderAnswered c (make n name) before after a = MakeAnswered n name before after a
 
 -- What the answer to a call is: the words are refused, or they give an order, and this is answered.
-abbrev pub Answered : {M : Type 0} → KindOf M → List (List ℕ) → Outside → Outside → Answer → Type 0
-Answered K words before after a =
+abbrev pub Answered : Choice → List (List ℕ) → Outside → Outside → Answer → Type 0
+Answered c words before after a =
     WordsRefused words before after a
-    ⊎ ((order : Order) × (settings_of words ≡ Ok order) × OrderAnswered K order before after a)
+    ⊎ ((order : Order) × (settings_of words ≡ Ok order) × OrderAnswered c order before after a)

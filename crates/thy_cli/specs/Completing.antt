@@ -1,3 +1,4 @@
+-- Part of the claim.
 -- What the answer is where nothing is amiss: that of the program's own end.
 use Rattle.std.specs.Prelude.{◌≡◌, ◌⊎◌, ℕ, ◌+◌, ◌-◌, ◌^◌, ◌<◌, ◌≤◌, false, List, Some, Ok}
 use Rattle.thy_base.specs.Geometry.{parameters_of}
@@ -5,10 +6,10 @@ use Rattle.thy_base.specs.Outside.{Stock, Files}
 use Rattle.thy_isa.specs.Step.{State, is_running}
 use Rattle.thy_run.specs.Progress.{cycles_for}
 use Rattle.thy_run.specs.declared.ending.Stop.TheVariants.{Ended}
-use Rattle.thy_view.specs.Kind.{KindOf}
 use Rattle.thy_view.specs.Origin.{at}
 use Rattle.thy_words.specs.Settings.{Job, Order, run, resume, bench, plain, make, settings_of}
 use Rattle.thy_cli.specs.Answering.{Outside, stop_status, Answered}
+use Rattle.thy_cli.specs.Machines.{Choice}
 use Rattle.thy_cli.specs.Sources.{Source, file, made, image, IsProgram, origin_for}
 use Rattle.thy_cli.specs.declared.answer.Answer.{Answer}
 
@@ -48,12 +49,12 @@ TellsEnd s a = (a.status ≡ stop_status (Ended s.status)) ⊎ (a.status ≡ 9)
 
 -- A program that ends within k instructions ends so on the machine, in spite of all power cuts, where the limit is not
 -- below the cycles that the machine promises for as many.
-abbrev pub RunCompletes : {M : Type 0} → KindOf M → List (List ℕ) → Outside → Outside → Answer → Type 0
-RunCompletes K words before after a =
+abbrev pub RunCompletes : Choice → List (List ℕ) → Outside → Outside → Answer → Type 0
+RunCompletes c words before after a =
     (source : Source) (job : Job) (i : IsAsked (run_of source job) source job words before.shelf) (k : ℕ)
     → IsCalm before after
     → is_running (left_alone i.program k).status ≡ false
-    → cycles_for K (parameters_of job.config) job.config.cuts k ≤ job.config.limit
+    → cycles_for (c job.config.scheme).kind (parameters_of job.config) job.config.cuts k ≤ job.config.limit
     → TellsEnd (left_alone i.program k) a
 
 -- and on the plain machine, where the limit is not below k
@@ -72,9 +73,8 @@ MakeCompletes words before after a =
     → (a.status ≡ 0) ⊎ (a.status ≡ 9)
 
 -- What is claimed of a call: what its answer is, and that this is complete.
-pub record Claim {M : Type 0} (K : KindOf M) (words : List (List ℕ)) (before after : Outside) (a : Answer)
-    : Type 0 where
-  pub answered : Answered K words before after a
-  pub complete_run : RunCompletes K words before after a
+pub record Claim (c : Choice) (words : List (List ℕ)) (before after : Outside) (a : Answer) : Type 0 where
+  pub answered : Answered c words before after a
+  pub complete_run : RunCompletes c words before after a
   pub complete_plain : PlainCompletes words before after a
   pub complete_make : MakeCompletes words before after a

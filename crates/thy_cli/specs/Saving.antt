@@ -1,3 +1,4 @@
+-- Part of the claim.
 -- What a save leaves: one more cut of power, and its image on the shelf.
 use Rattle.std.specs.Prelude.{◌≡◌, ℕ, ◌≤◌, Bool, true, false, List, [], length, Option, Some, None, slice_index_or}
 use Rattle.thy_base.specs.declared.block.Block.{Block}

@@ -1,3 +1,4 @@
+-- Part of the claim.
 -- Where the program of a run comes from, and what its bytes mean.
 use Rattle.std.specs.Prelude.{◌≡◌, ◌⊎◌, ℕ, ◌<◌, ◌≤◌, ◌^◌, nat_le, if◌then◌else◌, List, [], length, Option, Some, None, Result, Ok, Err, MatchOption}
 use Rattle.std.specs.List.{All}

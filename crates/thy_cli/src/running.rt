@@ -1,9 +1,11 @@
 //! A run on the machine.
 ghost use Rattle.std.specs.Prelude.{◌≡◌, None, IfOk, IfErr, OnOk, option_map};
 ghost use Rattle.thy_base.specs.Config.{fault_of as range_fault};
-ghost use Rattle.thy_base.specs.Geometry.{IsInRange};
+ghost use Rattle.thy_base.specs.Geometry.{IsInRange, parameters_of};
+ghost use Rattle.thy_base.specs.declared.config.Parameters.{Parameters as Numbers};
 ghost use Rattle.thy_words.specs.Settings.{Job as JobValue, job_of};
 ghost use Rattle.thy_cli.specs.Answering.{outside, RunAnswered};
+ghost use Rattle.thy_cli.specs.Machines.{by_scheme};
 ghost use Rattle.thy_cli.specs.Sources.{ProgramDue};
 ghost use Rattle.thy_cli.specs.Saving.{SavesUnder, saves};
 ghost use Rattle.thy_cli.specs.Planning.{Begins, CanRun, HasRoom, IsPlannedFor, RunsPlan, named};
@@ -17,7 +19,7 @@ use crate::restoring::Beginning;
 use crate::saving::{cuts_in, is_saved, save, save_pick};
 use crate::source::{Source, fetch_both};
 use std::alloc::Global;
-use thy_base::{Block, Geometry, Nvm, PutError, Shape, Shelf, Sink};
+use thy_base::{Block, Geometry, Nvm, PutError, SchemeName, Shape, Shelf, Sink};
 use thy_run::{Ending, Plan, run};
 use thy_view::Computer;
 use thy_words::{Job, WordsError};
@@ -90,7 +92,7 @@ fn run_plan<M: Computer, H: Shelf, T: Sink, R: Sink, N: Nvm>(
     nvm: &mut N,
 ) -> Answer
     requires can { CanRun plan.now blocks.now }
-    requires reads { ReadsFiles M.kind }
+    requires reads { ReadsFiles M.kind plan.now.geometry }
     ensures { let before = outside (H.stock shelf.old) (N.device nvm.old)
         (T.stream terminal.old) (R.stream report.old) in
         let after = outside (H.stock shelf.new) (N.device nvm.new)
@@ -113,8 +115,8 @@ fn run_plan<M: Computer, H: Shelf, T: Sink, R: Sink, N: Nvm>(
     }
 }
 
-/// Runs a job on the machine, from where its program comes.
-pub fn run_source<M: Computer, H: Shelf, T: Sink, R: Sink, N: Nvm>(
+/// Runs a job on a machine, from where its program comes.
+fn run_source<M: Computer, H: Shelf, T: Sink, R: Sink, N: Nvm>(
     alloc: Global,
     source: Source,
     job: Job,
@@ -124,7 +126,7 @@ pub fn run_source<M: Computer, H: Shelf, T: Sink, R: Sink, N: Nvm>(
     nvm: &mut N,
 ) -> Answer
     requires range { range_fault job.config ≡ None }
-    requires reads { ReadsFiles M.kind }
+    requires reads { ReadsFiles M.kind (parameters_of job.config) }
     ensures { let before = outside (H.stock shelf.old) (N.device nvm.old)
         (T.stream terminal.old) (R.stream report.old) in
         let after = outside (H.stock shelf.new) (N.device nvm.new)
@@ -171,4 +173,29 @@ pub fn run_source<M: Computer, H: Shelf, T: Sink, R: Sink, N: Nvm>(
         report,
         nvm,
     )
+}
+
+/// Runs a job on the machine of its scheme: `M` for `SchemeName::Thynvm`.
+pub fn run_by_scheme<M: Computer, H: Shelf, T: Sink, R: Sink, N: Nvm>(
+    alloc: Global,
+    source: Source,
+    job: Job,
+    shelf: &mut H,
+    terminal: &mut T,
+    report: &mut R,
+    nvm: &mut N,
+) -> Answer
+    requires range { range_fault job.config ≡ None }
+    requires reads { (p : Numbers) → ReadsFiles M.kind p }
+    ensures { let before = outside (H.stock shelf.old) (N.device nvm.old)
+        (T.stream terminal.old) (R.stream report.old) in
+        let after = outside (H.stock shelf.new) (N.device nvm.new)
+        (T.stream terminal.new) (R.stream report.new) in
+        RunAnswered (by_scheme M.kind job.config.scheme).kind (named source.entry) (job_of job) before after result }
+{
+    match job.config.scheme {
+        SchemeName::Thynvm => {
+            run_source::<M, H, T, R, N>(alloc, source, job, shelf, terminal, report, nvm)
+        }
+    }
 }

@@ -3,12 +3,13 @@ ghost use Rattle.std.specs.Prelude.{map};
 ghost use Rattle.std.specs.String.{string_bytes};
 ghost use Rattle.thy_cli.specs.Completing.{Claim};
 ghost use Rattle.thy_cli.specs.Answering.{outside};
+ghost use Rattle.thy_cli.specs.Machines.{by_scheme};
 
 use crate::answer::Answer;
 use crate::making::make;
 use crate::plain::plain_file;
 use crate::refusal::{Refusal, refuse};
-use crate::running::run_source;
+use crate::running::run_by_scheme;
 use crate::source::Source;
 use std::alloc::Global;
 use thy_base::{Nvm, Shelf, Sink};
@@ -48,24 +49,25 @@ pub fn thynvm<H: Shelf, T: Sink, R: Sink, N: Nvm>(
         (T.stream terminal.old) (R.stream report.old) in
         let after = outside (H.stock shelf.new) (N.device nvm.new)
         (T.stream terminal.new) (R.stream report.new) in
-        Claim ⟦<Machine<DualScheme> as Computer>⟧.kind (map string_bytes words.now) before after result }
+        let machines = by_scheme ⟦<Machine<DualScheme> as Computer>⟧.kind in
+        Claim machines (map string_bytes words.now) before after result }
 {
     match settings(alloc, words) {
         Ok(Command::Run { file, job }) => {
             let source = Source::File(file.as_str());
-            run_source::<Machine<DualScheme>, H, T, R, N>(
+            run_by_scheme::<Machine<DualScheme>, H, T, R, N>(
                 alloc, source, job, shelf, terminal, report, nvm,
             )
         }
         Ok(Command::Resume { image, job }) => {
             let source = Source::Image(image.as_str());
-            run_source::<Machine<DualScheme>, H, T, R, N>(
+            run_by_scheme::<Machine<DualScheme>, H, T, R, N>(
                 alloc, source, job, shelf, terminal, report, nvm,
             )
         }
         Ok(Command::Bench { number, job }) => {
             let source = Source::Made(number);
-            run_source::<Machine<DualScheme>, H, T, R, N>(
+            run_by_scheme::<Machine<DualScheme>, H, T, R, N>(
                 alloc, source, job, shelf, terminal, report, nvm,
             )
         }

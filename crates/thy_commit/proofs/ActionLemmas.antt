@@ -51,7 +51,7 @@ slot-did overlapped false = refl
 
 module _ (overlapped : ℕ) (e : Progress) (s : State) (m : Device) where
   abbrev Acting : Item → Type 0
-  Acting i = Acts (did_by overlapped (answer e.epoch i)) m (device_after e i s m)
+  Acting i = Acts (did_by overlapped (answer e.p e.epoch i)) m (device_after e i s m)
 
   acts-slot : (k : ℕ) → Acting (SlotItem k)
   acts-slot k = subst (λ (d : Did). Acts d m (written_to m (slot_number e k) (slot_block e s k))) (sym (slot-did overlapped (nat_lt k 5)))
@@ -104,7 +104,7 @@ slot-fails overlapped false at block m n other failed = record { action = WriteA
 
 module _ (overlapped : ℕ) (e : Progress) (s : State) (m n : Device) where
   abbrev Failing : Item → Type 0
-  Failing i = FailsItem e i s m n → ActionFailed (did_by overlapped (answer e.epoch i)) m n
+  Failing i = FailsItem e i s m n → ActionFailed (did_by overlapped (answer e.p e.epoch i)) m n
 
   fails-slot : (k : ℕ) → Failing (SlotItem k)
   fails-slot k failed = slot-fails overlapped (nat_lt k 5) (slot_number e k) (slot_block e s k) m n (slot-not_one e k) failed

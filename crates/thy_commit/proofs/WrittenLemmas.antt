@@ -30,7 +30,7 @@ use Rattle.thy_commit.proofs.ItemLemmas.{reads-low, reads-settled, KeepsVersions
 
 -- the blocks of the slot are read, and all else follows from what the places hold
 pub HasWrittenSlot-by : (e : Progress) (s : State) (n : Device) (k : ℕ) → s.p ≡ e.p → AreSoundTables s → IsSized s n → HoldAll s n → IsDone s
-    → ReadsFirst n (slot_place e.p (e.epoch % 2)) (slot_block_of e.cpu (tables1 s) e.epoch) k → HasWrittenSlot e s n k
+    → ReadsFirst n (slot_place e.p (e.epoch % 2)) (slot_block_of e.p e.cpu (tables1 s) e.epoch) k → HasWrittenSlot e s n k
 HasWrittenSlot-by e s n k same t sized hold done slot = record {
   tables = subst (λ (p : Parameters). IsTables p (tables1 s)) same (AreTablesOf-under_way s t).valid;
   parts = record {
@@ -80,7 +80,7 @@ module _ (e : Progress) (s : State) (m : Device) (t : AreSoundTables s) (sized :
       let kept : KeepsVersions s m s (settled m) = KeepsVersions-reads s m (settled m) t hold (reads-settled s m t sized) in
       let long : IsSized s (settled m) = record { nvm = length-settled m ∙ sized.nvm } in
       HasWrittenSlot-by e s (settled m) (slot_blocks e.p) same t long kept.holds past (record {
-        each = λ i l. Reads-settled (slot_place e.p (e.epoch % 2) + i) (slot_block_of e.cpu (tables1 s) e.epoch i) m (settled m) (h.parts.slot.each i l) refl;
+        each = λ i l. Reads-settled (slot_place e.p (e.epoch % 2) + i) (slot_block_of e.p e.cpu (tables1 s) e.epoch i) m (settled m) (h.parts.slot.each i l) refl;
       })
   wrote-next Commit past inside h =
       let block : Block = commit_of e.epoch in
@@ -89,7 +89,7 @@ module _ (e : Progress) (s : State) (m : Device) (t : AreSoundTables s) (sized :
       let long : IsSized s n = record { nvm = length-written_to m 1 block ∙ sized.nvm } in
       let there : 1 < length m.image = omega (arith, sized.nvm) in (
         HasWrittenSlot-by e s n (slot_blocks e.p) same t long kept.holds past
-            (ReadsFirst-elsewhere (slot_place e.p (e.epoch % 2)) (slot_block_of e.cpu (tables1 s) e.epoch) (slot_blocks e.p) 1 block m n h.parts.slot (λ i l q. omega arith) refl),
+            (ReadsFirst-elsewhere (slot_place e.p (e.epoch % 2)) (slot_block_of e.p e.cpu (tables1 s) e.epoch) (slot_blocks e.p) 1 block m n h.parts.slot (λ i l q. omega arith) refl),
         Reads-written 1 block m n there refl,
       )
   wrote-next Confirm past inside h = tt
@@ -124,8 +124,8 @@ module _ (e : Progress) (s : State) (m : Device) (t : State) (n : Device) (table
   stayed k l done h = HasWrittenSlot-by e t n k same_t tables sized (between.held hold).holds done (record {
     each = λ i inside.
         let low : slot_number e i < first_home s.p = slot-low e s i same_s (omega (arith, l, inside)) in
-        let read : Reads n (slot_number e i) (slot_block_of e.cpu (tables1 s) e.epoch i) = stayed-read (slot_number e i) (slot_block_of e.cpu (tables1 s) e.epoch i) low (h.parts.slot.each i inside) in
-        subst (λ (u : Tables). Reads n (slot_number e i) (slot_block_of e.cpu u e.epoch i)) (sym stays.tables1_same) read;
+        let read : Reads n (slot_number e i) (slot_block_of e.p e.cpu (tables1 s) e.epoch i) = stayed-read (slot_number e i) (slot_block_of e.p e.cpu (tables1 s) e.epoch i) low (h.parts.slot.each i inside) in
+        subst (λ (u : Tables). Reads n (slot_number e i) (slot_block_of e.p e.cpu u e.epoch i)) (sym stays.tables1_same) read;
   })
 
   stayed-next : (q : Next) → IsPast q t → ((k : ℕ) → q ≡ Slot k → k < slot_blocks e.p) → HasWrittenBefore q e s m → HasWrittenBefore q e t n

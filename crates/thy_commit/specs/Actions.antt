@@ -17,7 +17,7 @@ did_by overlapped step = Engine step
 
 -- what a cycle with the next item did
 abbrev pub did_next : ℕ → Progress → State → Did
-did_next overlapped e s = did_by overlapped (answer e.epoch (item_of e s))
+did_next overlapped e s = did_by overlapped (answer e.p e.epoch (item_of e s))
 
 -- nothing, a write that leaves the commit block alone, the commit block's write, or a barrier
 abbrev pub ItemsAct : Type 0

@@ -1,8 +1,9 @@
+-- Part of the claim.
 -- The order of a checkpoint: what is done next, by how far the engine is and by what the controller has still to copy and
 -- to write.
 use Rattle.std.specs.Prelude.{ℕ, ◌+◌, nat_lt, Bool, true, false, if◌then◌else◌, Option, Some, None}
 use Rattle.thy_base.specs.declared.config.Parameters.{Parameters}
-use Rattle.thy_base.specs.Places.{slot_blocks}
+use Rattle.thy_base.specs.Places.{record_blocks, slot_blocks}
 use Rattle.thy_record.specs.declared.engine_step.EngineStep.{EngineStep}
 use Rattle.thy_record.specs.declared.engine_step.EngineStep.TheVariants.{Idle, Copied, PageBlock, StateBlock, TableBlock, Barrier, CommitWritten, Committed}
 use Rattle.thy_control.specs.State.{State}
@@ -64,14 +65,14 @@ next_after p SettleItem = Commit
 next_after p CommitItem = Confirm
 next_after p ConfirmItem = Nothing
 
--- what the engine answers for it; the first five blocks of a slot are the processor's record. A copy, a block of a page, one of
+-- what the engine answers for it; a slot begins with the processor's record. A copy, a block of a page, one of
 -- the record and one of the tables are told apart by this definition alone: to all above they are a write that leaves the
 -- commit block alone
-abbrev pub answer : ℕ → Item → EngineStep
-answer epoch NoItem = Idle
-answer epoch (CopyItem i) = Copied
-answer epoch (PageItem j) = PageBlock
-answer epoch (SlotItem k) = if nat_lt k 5 then StateBlock else TableBlock
-answer epoch SettleItem = Barrier
-answer epoch CommitItem = CommitWritten
-answer epoch ConfirmItem = Committed epoch
+abbrev pub answer : Parameters → ℕ → Item → EngineStep
+answer p epoch NoItem = Idle
+answer p epoch (CopyItem i) = Copied
+answer p epoch (PageItem j) = PageBlock
+answer p epoch (SlotItem k) = if nat_lt k (record_blocks p) then StateBlock else TableBlock
+answer p epoch SettleItem = Barrier
+answer p epoch CommitItem = CommitWritten
+answer p epoch ConfirmItem = Committed epoch

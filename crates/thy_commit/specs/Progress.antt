@@ -1,3 +1,4 @@
+-- Part of the claim.
 -- The engine's progress, and what one cycle of it makes of the controller and of the NVM.
 use Rattle.std.specs.Prelude.{◌≡◌, ℕ, ◌+◌, ◌%◌, ◌<◌, length, Some, None, Result, IfOk, OnErr}
 use Rattle.thy_base.specs.declared.block.Block.{Block}
@@ -60,7 +61,7 @@ abbrev pub slot_number : Progress → ℕ → ℕ
 slot_number e k = slot_place e.p (e.epoch % 2) + k
 
 abbrev pub slot_block : Progress → State → ℕ → Block
-slot_block e s k = slot_block_of e.cpu (tables1 s) e.epoch k
+slot_block e s k = slot_block_of e.p e.cpu (tables1 s) e.epoch k
 
 -- the controller after an item
 abbrev pub state_after : Item → State → Device → State
@@ -94,7 +95,7 @@ FailsItem e ConfirmItem s m n = HasFailed m n
 
 -- an item was taken: what is answered, what comes after it, and what it makes of controller and NVM
 pub record IsTaken (i : Item) (e : Progress) (s : State) (m : Device) (d : Done) (t : State) (n : Device) : Type 0 where
-  pub step : d.step ≡ answer e.epoch i
+  pub step : d.step ≡ answer e.p e.epoch i
   pub next : d.next ≡ next_after e.p i
   pub controller : t ≡ state_after i s m
   pub device : n ≡ device_after e i s m

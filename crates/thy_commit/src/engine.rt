@@ -1,6 +1,7 @@
 //! The checkpoint engine.
 ghost use Rattle.std.specs.Prelude.{◌≡◌, ◌<◌, false, true, length, nat_lt, if◌then◌else◌, IfOk, OnOk, OnErr};
 ghost use Rattle.thy_base.specs.Device.{IsFramed, CountsFault, HasFailed, HasFailedToWrite, settled, written_to};
+ghost use Rattle.thy_base.specs.Places.{record_blocks};
 ghost use Rattle.thy_record.specs.Commit.{commit_of};
 ghost use Rattle.thy_record.specs.declared.engine_step.EngineStep.TheVariants.{StateBlock as IsStateBlock, TableBlock as IsTableBlock};
 ghost use Rattle.thy_control.specs.Seal.{sealed_state};
@@ -40,10 +41,10 @@ struct Done {
 }
 
 /// What the engine answers for the write of block `k` of a slot.
-fn slot_step(k: u64) -> EngineStep
-    ensures { result ≡ (if nat_lt k 5 then IsStateBlock else IsTableBlock) }
+fn slot_step(geometry: &Geometry, k: u64) -> EngineStep
+    ensures { result ≡ (if nat_lt k (record_blocks geometry.now) then IsStateBlock else IsTableBlock) }
 {
-    if k < 5 {
+    if k < geometry.record_blocks() {
         EngineStep::StateBlock
     } else {
         EngineStep::TableBlock
@@ -126,7 +127,7 @@ impl Engine {
         requires fits { Fits self.old control.old }
         requires sized { IsSized control.old (N.device nvm.old) }
         requires up { (N.device nvm.old).down ≡ false }
-        ensures answer { IfOk result (λ step. step ≡ answer self.old.epoch (item_of self.old control.old)) }
+        ensures answer { IfOk result (λ step. step ≡ answer self.old.p self.old.epoch (item_of self.old control.old)) }
 
         // So it is by this item, the next one by how far the checkpoint is.
         ensures engine { OnOk result (self.new ≡ engine_next self.old control.old) }
@@ -213,7 +214,7 @@ impl Engine {
         let at = self.geometry.slot(self.epoch % 2) + k;
         nvm.write(at, &self.slot_block(k, control))?;
         Ok(Done {
-            step: slot_step(k),
+            step: slot_step(&self.geometry, k),
             next: self.after_slot(k),
         })
     }
@@ -224,10 +225,11 @@ impl Engine {
         requires geometry { control.now.p ≡ self.now.p }
         ensures { result ≡ slot_block self.now control.now k }
     {
-        if k < 5 {
+        let record = self.geometry.record_blocks();
+        if k < record {
             cpu_block(&self.cpu, self.epoch, k)
         } else {
-            control.table(k - 5)
+            control.table(k - record)
         }
     }
 
@@ -247,7 +249,7 @@ impl Engine {
     /// The barrier behind all that comes before the commit block.
     fn settle<N: Nvm>(&self, nvm: &mut N) -> Result<Done, NvmError>
         requires up { (N.device nvm.old).down ≡ false }
-        ensures answer { IfOk result (λ done. done.step ≡ answer self.now.epoch SettleItem) }
+        ensures answer { IfOk result (λ done. done.step ≡ answer self.now.p self.now.epoch SettleItem) }
         ensures next { IfOk result (λ done. done.next ≡ next_after self.now.p SettleItem) }
         ensures device { OnOk result (N.device nvm.new ≡ settled (N.device nvm.old)) }
         ensures err { OnErr result (HasFailed (N.device nvm.old) (N.device nvm.new)) }
@@ -265,7 +267,7 @@ impl Engine {
     fn write_commit<N: Nvm>(&self, nvm: &mut N) -> Result<Done, NvmError>
         requires place { 1 < length (N.device nvm.old).image }
         requires up { (N.device nvm.old).down ≡ false }
-        ensures answer { IfOk result (λ done. done.step ≡ answer self.now.epoch CommitItem) }
+        ensures answer { IfOk result (λ done. done.step ≡ answer self.now.p self.now.epoch CommitItem) }
         ensures next { IfOk result (λ done. done.next ≡ next_after self.now.p CommitItem) }
         ensures device { OnOk result (N.device nvm.new ≡ written_to (N.device nvm.old) 1 (commit_of self.now.epoch)) }
         ensures err { OnErr result (HasFailedToWrite 1 (commit_of self.now.epoch) (N.device nvm.old) (N.device nvm.new)) }

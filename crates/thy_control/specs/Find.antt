@@ -1,3 +1,4 @@
+-- Part of the claim.
 -- What a table has for a number, whether or not it lists it.
 use Rattle.std.specs.Prelude.{ℕ, Option, Some, None, unwrap_or}
 use Rattle.thy_table.specs.Listing.{Listing, entry_at, place_of, added}

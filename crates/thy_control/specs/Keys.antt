@@ -1,3 +1,4 @@
+-- Part of the claim.
 -- The numbers that the entries of the tables list.
 use Rattle.std.specs.Prelude.{ℕ}
 use Rattle.thy_tables.specs.declared.block_entry.BttEntry.{BttEntry}

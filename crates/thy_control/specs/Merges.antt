@@ -1,3 +1,4 @@
+-- Part of the claim.
 -- Buffers that lie over the frames of their pages, and what the merge of one makes of the controller.
 use Rattle.std.specs.Prelude.{ℕ, Option, Some, None}
 use Rattle.thy_base.specs.Device.{block_at}

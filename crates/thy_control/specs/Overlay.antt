@@ -1,3 +1,4 @@
+-- Part of the claim.
 -- Work in buffers over the frames of pages, and pages in promotion: the controller counts both.
 use Rattle.std.specs.Prelude.{◌≡◌, ℕ, ◌<◌, Bool, true, false, ◌&&◌, not, if◌then◌else◌, count_by}
 use Rattle.thy_base.specs.Geometry.{memory_blocks}

@@ -1,3 +1,4 @@
+-- Part of the claim.
 -- The pages that are being promoted, and what the copy of the next block into its frame makes of the controller.
 use Rattle.std.specs.Prelude.{◌≡◌, ℕ, false, ◌-◌, if◌then◌else◌, Option, Some, None, Result}
 use Rattle.std.specs.List.{sum_by}

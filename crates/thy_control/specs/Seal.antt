@@ -1,3 +1,4 @@
+-- Part of the claim.
 -- What a seal makes of the controller: what the program stored since the last one goes to the next checkpoint.
 use Rattle.std.specs.Prelude.{◌≡◌, ◌⊎◌, ℕ, ◌*◌, ◌<◌, nat_lt, Bool, true, List, [], ◌∷◌, length, filter, if◌then◌else◌, Option, Some}
 use Rattle.std.specs.List.{range_with_len}

@@ -1,3 +1,4 @@
+-- Part of the claim.
 -- The state of the controller, the versions of each block, and what the tables have to be.
 use Rattle.std.specs.Prelude.{◌≡◌, ◌≢◌, ℕ, ◌<◌, Bool, true, false, length, Some}
 use Rattle.thy_base.specs.declared.block.Block.{Block}

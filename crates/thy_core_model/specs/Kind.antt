@@ -1,3 +1,4 @@
+-- Part of the claim.
 -- The machine as the layers above see it.
 use Rattle.std.specs.Prelude.{ℕ, ◌+◌, ◌-◌, ◌*◌, ◌==◌, if◌then◌else◌, Bool}
 use Rattle.thy_base.specs.declared.config.Parameters.{Parameters}
@@ -56,6 +57,6 @@ kind_over K = record {
   most_booting = K.most_booting;
   most_owed = K.most_owed;
   most_promotions = K.most_promotions;
-  most_boot = most_ahead K;
+  most_ahead = most_ahead K;
   most_each = most_each_of K;
 }

@@ -1,3 +1,4 @@
+-- Part of the claim.
 -- The machine: hart, cache and a scheme of checkpoints, and what is seen of it.
 use Rattle.std.specs.Prelude.{ℕ, ◌+◌, ◌&&◌, not, Bool, true, nat_lt, if◌then◌else◌, List, length, Option, Some, None}
 use Rattle.thy_base.specs.declared.block.Block.{Block}

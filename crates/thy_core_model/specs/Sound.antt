@@ -1,3 +1,4 @@
+-- Part of the claim.
 -- What holds of the machine at every moment of a run.
 use Rattle.std.specs.Prelude.{◌≡◌, ◌≢◌, ℕ, ◌+◌, ◌^◌, ◌<◌, ◌≤◌, ◌==◌, not, true, false, Bool, length, Option, Some, None, []}
 use Rattle.thy_base.specs.declared.cause.EndCause.{EndCause}

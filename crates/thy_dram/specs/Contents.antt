@@ -1,3 +1,4 @@
+-- Part of the claim.
 -- What a DRAM is to its callers: a list of blocks, and how many writes are on their way.
 use Rattle.std.specs.Prelude.{ℕ, ◌+◌, ◌-◌, min, List, length, replicate, slice_set}
 use Rattle.thy_base.specs.declared.block.Block.{Block}

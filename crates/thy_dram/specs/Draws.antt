@@ -1,3 +1,4 @@
+-- Part of the claim.
 -- What a loss of power leaves in memory that forgets: bytes drawn from a seed.
 use Rattle.std.specs.Prelude.{ℕ, ◌%◌, List, [], ◌∷◌, replicate}
 use Rattle.thy_base.specs.declared.block.Block.{Block}

@@ -54,7 +54,7 @@ both t f s = record s { control = t; engine = f }
 
 -- a step of the engine
 pub takes_item : (s : Dual) (n : Device) (r : Result EngineStep NvmError) (t : State) (f : Progress) (new : Device)
-    → IfOk r (λ step. step ≡ answer s.engine.epoch (item_of s.engine s.control))
+    → IfOk r (λ step. step ≡ answer s.engine.p s.engine.epoch (item_of s.engine s.control))
     → OnOk r (f ≡ engine_next s.engine s.control) → OnOk r (t ≡ state_next s.engine s.control n)
     → OnOk r (new ≡ device_next s.engine s.control n)
     → OnErr r (f ≡ s.engine) → OnErr r (t ≡ s.control) → OnErr r (FailsNext s.engine s.control n new)

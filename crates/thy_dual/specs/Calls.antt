@@ -132,7 +132,7 @@ item_taken s n = record s {
 -- the item that is due, and no other: a copy, a page, the slot, a barrier, the commit block
 pub record TakesItem (s : Dual) (n : Device)
     (result : Result EngineStep NvmError) (t : Dual) (new : Device) : Type 0 where
-  pub answer : IfOk result (λ step. step ≡ answer s.engine.epoch (item_of s.engine s.control))
+  pub answer : IfOk result (λ step. step ≡ answer s.engine.p s.engine.epoch (item_of s.engine s.control))
   pub made : MakesOrFails (item_taken s n) (device_next s.engine s.control n) s
       (FailsNext s.engine s.control n new) result t new
 

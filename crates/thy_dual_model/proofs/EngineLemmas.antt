@@ -3,6 +3,7 @@ use Rattle.std.proofs.Common.{◌≡◌, ◌≢◌, ℕ, ◌+◌, ◌≤◌, nat
 use Rattle.thy_base.specs.declared.nvm.NvmError.{NvmError}
 use Rattle.thy_base.specs.declared.block.Block.{Block}
 use Rattle.thy_base.specs.declared.mark.Mark.{Mark}
+use Rattle.thy_base.specs.declared.config.Parameters.{Parameters}
 use Rattle.thy_base.specs.Device.{Device, block_at, newest, IsFramed}
 use Rattle.thy_base.specs.Places.{slot_blocks, image_blocks}
 use Rattle.thy_crash.proofs.SavedLemmas.{next_image-commit}
@@ -117,19 +118,19 @@ owes-after (Committed epoch) s n t new l = tt
 -- ---- a step
 
 -- a step that fails leaves the marks, but for the commit block's write
-slot-marks : (epoch j : ℕ) (m : Marks) → marks_after_fault (answer epoch (SlotItem j)) m ≡ m
-slot-marks epoch j m = by_place (nat_lt j 5) where
+slot-marks : (p : Parameters) (epoch j : ℕ) (m : Marks) → marks_after_fault (answer p epoch (SlotItem j)) m ≡ m
+slot-marks p epoch j m = by_place (nat_lt j 5) where
   by_place : (t : Bool) → marks_after_fault (if t then StateBlock else TableBlock) m ≡ m
   by_place true = refl
   by_place false = refl
 
-page-marks : (epoch : ℕ) (left : Option ℕ) (m : Marks) → marks_after_fault (answer epoch (page_or_slot left)) m ≡ m
-page-marks epoch (Some j) m = refl
-page-marks epoch None m = slot-marks epoch 0 m
+page-marks : (p : Parameters) (epoch : ℕ) (left : Option ℕ) (m : Marks) → marks_after_fault (answer p epoch (page_or_slot left)) m ≡ m
+page-marks p epoch (Some j) m = refl
+page-marks p epoch None m = slot-marks p epoch 0 m
 
-copy-marks : (epoch : ℕ) (left : Option ℕ) (c : State) (m : Marks) → marks_after_fault (answer epoch (copy_or left (page_item c))) m ≡ m
-copy-marks epoch (Some i) c m = refl
-copy-marks epoch None c m = page-marks epoch (next_page c) m
+copy-marks : (p : Parameters) (epoch : ℕ) (left : Option ℕ) (c : State) (m : Marks) → marks_after_fault (answer p epoch (copy_or left (page_item c))) m ≡ m
+copy-marks p epoch (Some i) c m = refl
+copy-marks p epoch None c m = page-marks p epoch (next_page c) m
 
 module _ (o : Origin) (k : Marks) (s : Dual) (n : Device) (stands : Stands dual_scheme o k s n) (on : is_under_way s.engine.next ≡ true) where
   abbrev e : Progress
@@ -322,7 +323,7 @@ module _ (o : Origin) (k : Marks) (s : Dual) (n : Device) (stands : Stands dual_
   done-mark : unwrap_or k.sealed k.done ≡ made.mark
   done-mark = ap (λ (x : Option Mark). unwrap_or x k.done) (sym sound.checkpoints.sealed ∙ made.sealed)
 
-  sound-after : (i : Item) → item_of e c ≡ i → After i → IsSound o (marks_after (answer e.epoch i) k) (dual_after i) (nvm_after i)
+  sound-after : (i : Item) → item_of e c ≡ i → After i → IsSound o (marks_after (answer e.p e.epoch i) k) (dual_after i) (nvm_after i)
   sound-after NoItem is a =
       let idle : e.next ≡ Nothing = back-item e.next c Nothing (ap back is) in absurd (not_both (is_under_way e.next) (ap is_under_way idle) on)
   sound-after (CopyItem j) is a = sound-same (CopyItem j) a (λ h. cc) a.versions a.tables.way_same refl (λ h. absurd (not_both false refl h)) refl refl refl
@@ -340,7 +341,7 @@ module _ (o : Origin) (k : Marks) (s : Dual) (n : Device) (stands : Stands dual_
   sound-after ConfirmItem is a =
       subst (λ (m : Mark). IsSound o (only m) (dual_after ConfirmItem) (nvm_after ConfirmItem)) (sym done-mark) (sound-confirmed a)
 
-  due : (i : Item) → item_of e c ≡ i → IsDue (answer e.epoch i) k
+  due : (i : Item) → item_of e c ≡ i → IsDue (answer e.p e.epoch i) k
   due NoItem is =
       let idle : e.next ≡ Nothing = back-item e.next c Nothing (ap back is) in absurd (not_both (is_under_way e.next) (ap is_under_way idle) on)
   due (CopyItem j) is = tt
@@ -367,11 +368,11 @@ module _ (o : Origin) (k : Marks) (s : Dual) (n : Device) (stands : Stands dual_
     lean = refl;
   }
 
-  acts-as : (lap : ℕ) → Acts (engine_did lap (answer e.epoch (item_of e c))) n (device_next e c n)
-  acts-as lap = subst (λ (d : Did). Acts d n (device_next e c n)) (did-same lap (answer e.epoch (item_of e c))) (items_act lap e c n)
+  acts-as : (lap : ℕ) → Acts (engine_did lap (answer e.p e.epoch (item_of e c))) n (device_next e c n)
+  acts-as lap = subst (λ (d : Did). Acts d n (device_next e c n)) (did-same lap (answer e.p e.epoch (item_of e c))) (items_act lap e c n)
 
   pub engines : (moves : ItemsMove) (store : ItemsKeepStore) (versions : ItemsMoveVersions) → IsFramed n (device_next e c n) → AreSoundTables (state_next e c n)
-      → Engines dual_scheme o k (answer e.epoch (item_of e c)) s n (record s { control = state_next e c n; engine = engine_next e c }) (device_next e c n)
+      → Engines dual_scheme o k (answer e.p e.epoch (item_of e c)) s n (record s { control = state_next e c n; engine = engine_next e c }) (device_next e c n)
   engines moves store versions framed now =
       let a : After (item_of e c) = after moves store versions framed now in
       let count = items_count e c n sound.held.progress sound.held.tables sound.held.fits on in
@@ -379,7 +380,7 @@ module _ (o : Origin) (k : Marks) (s : Dual) (n : Device) (stands : Stands dual_
         due = due (item_of e c) refl;
         sound = sound-after (item_of e c) refl a;
         keeps = keeps-after (item_of e c) a count;
-        owes = owes-after (answer e.epoch (item_of e c)) s n (record s { control = state_next e c n; engine = engine_next e c }) (device_next e c n) a.store.holding.owed;
+        owes = owes-after (answer e.p e.epoch (item_of e c)) s n (record s { control = state_next e c n; engine = engine_next e c }) (device_next e c n) a.store.holding.owed;
         acts = acts-as;
         dram = (IsWrite-after e (item_of e c) c n).dram;
         queue = (IsWrite-after e (item_of e c) c n).queue;
@@ -390,7 +391,7 @@ module _ (o : Origin) (k : Marks) (s : Dual) (n : Device) (stands : Stands dual_
 
   -- what is kept where the item was not the commit block's write, is safe for the marks as they are
   safe-other : (q : Next) (new : Device) → e.next ≡ q → IsKeeping o (layout_of o) (standing new (saved_at q images) images.kept images.sealed)
-      → marks_after_fault (answer e.epoch (item q c)) k ≡ k → Safe decode_image o (Some k.done) (doubt_in (marks_after_fault (answer e.epoch (item q c)) k)) new
+      → marks_after_fault (answer e.p e.epoch (item q c)) k ≡ k → Safe decode_image o (Some k.done) (doubt_in (marks_after_fault (answer e.p e.epoch (item q c)) k)) new
   safe-other q new is keeps same =
       let kept : IsKeeping o (layout_of o) (standing_at e new images)
       = subst (λ (x : Next). IsKeeping o (layout_of o) (standing new (saved_at x images) images.kept images.sealed)) (sym is) keeps in
@@ -398,11 +399,11 @@ module _ (o : Origin) (k : Marks) (s : Dual) (n : Device) (stands : Stands dual_
       (Safe-doubt o k e new images sound.checkpoints.kept sound.checkpoints.sealed kept sound.written)
 
   failed-safe : (q : Next) (new : Device) → e.next ≡ q → IsKeeping o (layout_of o) (standing_failed q new images)
-      → Safe decode_image o (Some k.done) (doubt_in (marks_after_fault (answer e.epoch (item q c)) k)) new
+      → Safe decode_image o (Some k.done) (doubt_in (marks_after_fault (answer e.p e.epoch (item q c)) k)) new
   failed-safe Nothing new is keeps = safe-other Nothing new is keeps refl
-  failed-safe Copies new is keeps = safe-other Copies new is keeps (copy-marks e.epoch (next_copy c) c k)
-  failed-safe Pages new is keeps = safe-other Pages new is keeps (page-marks e.epoch (next_page c) k)
-  failed-safe (Slot j) new is keeps = safe-other (Slot j) new is keeps (slot-marks e.epoch j k)
+  failed-safe Copies new is keeps = safe-other Copies new is keeps (copy-marks e.p e.epoch (next_copy c) c k)
+  failed-safe Pages new is keeps = safe-other Pages new is keeps (page-marks e.p e.epoch (next_page c) k)
+  failed-safe (Slot j) new is keeps = safe-other (Slot j) new is keeps (slot-marks e.p e.epoch j k)
   failed-safe Settle new is keeps = safe-other Settle new is keeps refl
   failed-safe Confirm new is keeps = safe-other Confirm new is keeps refl
   failed-safe Commit new is keeps =
@@ -418,22 +419,22 @@ module _ (o : Origin) (k : Marks) (s : Dual) (n : Device) (stands : Stands dual_
       let move = failed_items_move o e c n new images h.progress h.tables h.sized h.fits failed framed sound.checkpoints.told.kept next in
       let keeps = IsKeeping-move o (layout_of o) (standing_at e n images) (standing_failed e.next new images) move sound.checkpoints.keeping in
       record {
-        step = answer e.epoch (item_of e c);
-        acted = λ lap. subst (λ (d : Did). ActionFailed d n new) (did-same lap (answer e.epoch (item_of e c))) (failed_items_act lap e c n new failed);
+        step = answer e.p e.epoch (item_of e c);
+        acted = λ lap. subst (λ (d : Did). ActionFailed d n new) (did-same lap (answer e.p e.epoch (item_of e c))) (failed_items_act lap e c n new failed);
         safe = failed-safe e.next new refl keeps;
       }
 
   -- ---- by the engine's answer
 
   pub engines-by : (moves : ItemsMove) (store : ItemsKeepStore) (versions : ItemsMoveVersions) (f : Progress) (t : State) (new : Device) (r : Result EngineStep NvmError)
-      → IfOk r (λ step. step ≡ answer e.epoch (item_of e c)) → OnOk r (f ≡ engine_next e c) → OnOk r (t ≡ state_next e c n) → OnOk r (new ≡ device_next e c n)
+      → IfOk r (λ step. step ≡ answer e.p e.epoch (item_of e c)) → OnOk r (f ≡ engine_next e c) → OnOk r (t ≡ state_next e c n) → OnOk r (new ≡ device_next e c n)
       → IsFramed n new → AreSoundTables t → IfOk r (λ step. Engines dual_scheme o k step s n (record s { control = t; engine = f }) new)
   engines-by moves store versions f t new (Ok step) told engine control device framed now =
       let all = engines moves store versions (subst (λ (x : Device). IsFramed n x) device framed) (subst (λ (x : State). AreSoundTables x) control now) in
       subst (λ (x : EngineStep). Engines dual_scheme o k x s n (record s { control = t; engine = f }) new) (sym told)
-      (subst (λ (x : Progress). Engines dual_scheme o k (answer e.epoch (item_of e c)) s n (record s { control = t; engine = x }) new) (sym engine)
-      (subst (λ (x : State). Engines dual_scheme o k (answer e.epoch (item_of e c)) s n (record s { control = x; engine = engine_next e c }) new) (sym control)
-      (subst (λ (x : Device). Engines dual_scheme o k (answer e.epoch (item_of e c)) s n (record s { control = state_next e c n; engine = engine_next e c }) x) (sym device) all)))
+      (subst (λ (x : Progress). Engines dual_scheme o k (answer e.p e.epoch (item_of e c)) s n (record s { control = t; engine = x }) new) (sym engine)
+      (subst (λ (x : State). Engines dual_scheme o k (answer e.p e.epoch (item_of e c)) s n (record s { control = x; engine = engine_next e c }) new) (sym control)
+      (subst (λ (x : Device). Engines dual_scheme o k (answer e.p e.epoch (item_of e c)) s n (record s { control = state_next e c n; engine = engine_next e c }) x) (sym device) all)))
   engines-by moves store versions f t new (Err x) told engine control device framed now = tt
 
   pub fails-by : (new : Device) (r : Result EngineStep NvmError) → OnErr r (FailsNext e c n new) → IsFramed n new → OnErr r (EngineFails dual_scheme o k n new)

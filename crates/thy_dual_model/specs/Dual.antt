@@ -1,3 +1,4 @@
+-- Part of the claim.
 -- The scheme of both tables: the controller, its checkpoint engine, its boot, and whether blocks were stored.
 use Rattle.std.specs.Prelude.{◌≡◌, nat_lt, Bool, List, map}
 use Rattle.std.specs.List.{range_with_len}

@@ -1,3 +1,4 @@
+-- Part of the claim.
 -- What is seen of the scheme.
 use Rattle.std.specs.Prelude.{◌*◌, true, false}
 use Rattle.thy_base.specs.Places.{image_blocks}

@@ -1,3 +1,4 @@
+-- Part of the claim.
 -- The header of an ELF-64 file, and what is asked of it.
 use Rattle.std.specs.Prelude.{ℕ, ◌+◌, ◌*◌, Bool, not, ◌&&◌, ◌||◌, List, [], ◌∷◌, length, slice_index, nat_eq, nat_le, ◌==◌, bit_and}
 use Rattle.std.specs.List.{starts_with}

@@ -1,3 +1,4 @@
+-- Part of the claim.
 -- The program headers of a file, and what is asked of each.
 use Rattle.std.specs.Prelude.{ℕ, ◌+◌, ◌*◌, ◌<◌, ◌≤◌, Bool, not, ◌&&◌, ◌||◌, List, [], ◌∷◌, length, nat_le, ◌==◌}
 use Rattle.std.specs.List.{range_with_len}

@@ -1,3 +1,4 @@
+-- Part of the claim.
 -- The refusals of a file, and what reports call them.
 use Rattle.std.specs.Prelude.{ℕ, List, Option, Some, None}
 use lib.Chars.{codes}

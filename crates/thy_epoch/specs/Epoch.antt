@@ -1,3 +1,4 @@
+-- Part of the claim.
 -- An epoch: how far it is, and why it is over.
 use Rattle.std.specs.Prelude.{◌≡◌, ◌==◌, ◌<◌, ◌≤◌, ℕ, ◌+◌, Bool, Option, Some, None, if◌then◌else◌}
 use Rattle.thy_base.specs.declared.cause.EndCause.{EndCause}

@@ -1,3 +1,4 @@
+-- Part of the claim.
 -- A list of blocks as a list of bytes.
 use Rattle.std.specs.Prelude.{◌≡◌, ℕ, ◌<◌, List, take, drop, length}
 use Rattle.std.specs.List.{flat_map}

@@ -1,3 +1,4 @@
+-- Part of the claim.
 -- Spans of at most 64 bytes of a list of blocks: one lies in at most two blocks.
 use Rattle.std.specs.Prelude.{ℕ, ◌+◌, ◌-◌, ◌*◌, ◌/◌, ◌%◌, ◌≤◌, ◌==◌, if◌then◌else◌, min, List, ◌++◌, take, drop}
 use Rattle.thy_base.specs.declared.block.Block.{Block}

@@ -1,3 +1,4 @@
+-- Part of the claim.
 -- The hart: processor, epoch, and the instruction in hand.
 use Rattle.std.specs.Prelude.{◌≡◌, ℕ, ◌+◌, ◌-◌, ◌<◌, ◌≤◌, ◌==◌, Bool, true, false, if◌then◌else◌, List, [], length, Option, Some, None}
 use Rattle.thy_base.specs.declared.config.Parameters.{Parameters}

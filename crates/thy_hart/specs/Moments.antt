@@ -1,3 +1,4 @@
+-- Part of the claim.
 -- A hart with its cache and what the store behind that holds, between two steps.
 use Rattle.std.specs.Prelude.{◌≡◌, ◌⊎◌, ℕ, ◌+◌, ◌-◌, ◌*◌, ◌≤◌, Bool, true, false, not, if◌then◌else◌, List, length, Option, Some, None}
 use Rattle.thy_base.specs.declared.block.Block.{Block}

@@ -1,3 +1,4 @@
+-- Part of the claim.
 -- What the operations compute. A number of 64 bits in two's complement is a number below 2 ^ 64; it is
 -- converted to the signed number that it stands for only where an operation is one of signed numbers.
 use Rattle.std.specs.Prelude.{ℕ, ℤ, ◌+◌, ◌-◌, ◌*◌, ◌/◌, ◌%◌, ◌^◌, ◌==◌, nat_lt, if◌then◌else◌, pos, ◌*ℤ◌, bit_and, bit_or, bit_xor, int_lt, int_div, int_rem}

@@ -1,3 +1,4 @@
+-- Part of the claim.
 -- The environment calls: a7 names the call, a0 to a2 are its arguments, and its answer goes into a0. All numbers are
 -- whole: no address or length wraps.
 use Rattle.std.specs.Prelude.{ℕ, ◌+◌, ◌-◌, ◌%◌, ◌^◌, ◌<◌, ◌≤◌, ◌==◌, ◌&&◌, ◌||◌, not, nat_le, min, if◌then◌else◌, List}

@@ -1,3 +1,4 @@
+-- Part of the claim.
 -- What an instruction does, given the program counter and the registers.
 use Rattle.std.specs.Prelude.{ℕ, ◌+◌, ◌-◌, ◌%◌, Bool, not, ◌==◌, nat_lt, int_lt, if◌then◌else◌, List}
 use Rattle.std.specs.Option.{option_map_or}

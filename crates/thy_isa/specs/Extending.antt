@@ -1,3 +1,4 @@
+-- Part of the claim.
 -- What a load makes of the number that it read.
 use Rattle.std.specs.Prelude.{ℕ, ◌%◌, ◌^◌}
 use Rattle.thy_isa.specs.declared.instr.Width.{Width}

@@ -1,3 +1,4 @@
+-- Part of the claim.
 -- What an instruction or an environment call moves, as spans of the blocks of memory: the bytes that it reads, and those
 -- that it writes. The blocks of the console follow those of program memory.
 use Rattle.std.specs.Prelude.{ℕ, ◌+◌, ◌-◌, List, [], take, drop}

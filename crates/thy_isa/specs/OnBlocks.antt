@@ -1,3 +1,4 @@
+-- Part of the claim.
 -- One step over the blocks of memory: what an effect reads and writes are spans of them, each of at most two blocks.
 use Rattle.std.specs.Prelude.{ℕ, ◌-◌, List, ◌++◌, length}
 use Rattle.thy_base.specs.declared.block.Block.{Block}

@@ -1,3 +1,4 @@
+-- Part of the claim.
 -- The integer registers, as a list of 32 numbers.
 use Rattle.std.specs.Prelude.{ℕ, List, ◌==◌, if◌then◌else◌, slice_index, slice_set}
 

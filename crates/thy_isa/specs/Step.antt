@@ -1,3 +1,4 @@
+-- Part of the claim.
 -- One step of the plain machine, whose memory is one flat list of bytes, and k of them.
 use Rattle.std.specs.Prelude.{◌≡◌, ℕ, zero, suc, ◌+◌, ◌-◌, ◌%◌, ◌^◌, ◌<◌, ◌==◌, Bool, true, false, if◌then◌else◌, List, ◌++◌, take, drop, length, Option, Some, None}
 use Rattle.thy_base.specs.Bytes.{bytes_of, written}

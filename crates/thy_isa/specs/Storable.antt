@@ -1,3 +1,4 @@
+-- Part of the claim.
 -- What every state keeps that a machine can store: the number of registers, the ranges of numbers and bytes.
 use Rattle.std.specs.Prelude.{ℕ, ◌≡◌, ◌<◌, ◌^◌, length, slice_index}
 use Rattle.std.specs.List.{All}

@@ -1,3 +1,4 @@
+-- Part of the claim.
 -- The instructions of RV64I 2.1, M 2.0 and Zifencei 2.0, in the order of the RISC-V unprivileged ISA manual's listings.
 use Rattle.std.specs.Prelude.{ℕ, suc, Bool, true, ◌==◌, ◌&&◌, if◌then◌else◌, List, [], ◌∷◌, Option, Some, None}
 use Rattle.thy_isa.specs.declared.instr.Instr.{Instr}

@@ -1,3 +1,4 @@
+-- Part of the claim.
 -- The fields of a word of 32 bits and its immediates, as the RISC-V unprivileged ISA manual lays them out.
 use Rattle.std.specs.Prelude.{ℕ, ◌+◌, ◌-◌, ◌*◌, ◌/◌, ◌%◌, ◌^◌, nat_lt, if◌then◌else◌}
 

@@ -16,8 +16,8 @@ pub fn what_a_step_keeps()
     ensures cursor { CursorStaysInside }
 {}
 
-/// No step ends with the trap of a misaligned load or of a misaligned store: such accesses are carried out wherever their
-/// bytes lie in program memory.
+/// No step of a running state ends with the trap of a misaligned load or of a misaligned store. That such accesses are
+/// carried out is part of what a step is.
 pub fn misaligned_accesses_are_served()
     ensures { MisalignedIsServed }
 {}

@@ -1,3 +1,4 @@
+-- Part of the claim.
 -- Instructions as words of 32 bits, field by field, as the RISC-V unprivileged ISA manual lays them out.
 use Rattle.std.specs.Prelude.{ℕ, ◌+◌, ◌*◌, ◌^◌}
 use Rattle.thy_isa.specs.declared.instr.Alu.TheVariants.{Add}

@@ -1,3 +1,4 @@
+-- Part of the claim.
 -- Program files of one segment, and the file of the made program.
 use Rattle.std.specs.Prelude.{ℕ, ◌*◌, List, [], ◌∷◌, ◌++◌, length}
 use Rattle.std.specs.List.{flat_map}

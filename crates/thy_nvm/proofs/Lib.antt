@@ -1,3 +1,3 @@
-pub mod BarrierLemmas
+pub mod CallLemmas
 pub mod KeptLemmas
 pub mod PickLemmas

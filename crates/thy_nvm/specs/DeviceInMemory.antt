@@ -1,32 +1,93 @@
--- How a device lies in memory.
-use Rattle.std.specs.Prelude.{ℕ}
-use Rattle.thy_base.specs.Device.{Device}
-use Rattle.thy_ring.specs.Held.{Held, nothing, device_of}
+-- How a device lies in memory, and what its calls leave.
+use Rattle.std.specs.Prelude.{◌≡◌, ℕ, ◌+◌, ◌/◌, Bool, true, false, List, length, Option, Some, None, is_some, Result, is_err, MatchResult, ⊤}
+use Rattle.thy_base.specs.declared.block.Block.{Block}
+use Rattle.thy_base.specs.declared.nvm.FitError.{FitError}
+use Rattle.thy_base.specs.declared.nvm.NvmError.{NvmError}
+use Rattle.thy_base.specs.declared.nvm.Shape.{Shape}
+use Rattle.thy_base.specs.Counts.{next}
+use Rattle.thy_base.specs.Device.{Device, landed, written_to, fitted}
+use Rattle.thy_ring.specs.Held.{Held, nothing, made, device_of}
+use Rattle.thy_nvm.specs.declared.call_faults.Fault.{Fault}
+use Rattle.thy_nvm.specs.declared.call_faults.Fault.TheVariants.{Undone, Late}
+use Rattle.thy_nvm.specs.Calls.{Calls, no_calls, counted, next_fault}
 use Rattle.thy_nvm.specs.Kept.{Cuts, no_cuts}
 
--- the device that lies in these parts and was fitted so many times
-abbrev pub device_in : Held → Cuts → ℕ → Device
-device_in held cuts fits = record (device_of held) {
+-- the device that lies in these parts, is up or down, and has these counts of faults and fits
+abbrev pub device_in : Held → Cuts → Bool → ℕ → ℕ → Device
+device_in held cuts down faults fits = record (device_of held) {
   left = cuts.left;
   picks = cuts.picks;
   left_room = cuts.room;
+  down = down;
+  faults = faults;
   fits = fits;
 }
 
--- a device in memory, with the count of its writes
+-- a device in memory, with its counts of writes and calls, and which of the calls fail
 pub record InMemory : Type 0 where
   pub device : Device
   -- how many writes it has taken since it was fitted; it stands at its last value
   pub writes : ℕ
+  pub calls : Calls
 
--- the device in memory that lies in these parts
-abbrev pub in_memory : Held → Cuts → ℕ → ℕ → InMemory
-in_memory held cuts fits writes = record { device = device_in held cuts fits; writes = writes }
+abbrev pub in_memory : Device → ℕ → Calls → InMemory
+in_memory device writes calls = record { device = device; writes = writes; calls = calls }
 
--- a device before it is fitted
-abbrev pub fresh_device : InMemory
-fresh_device = in_memory nothing (no_cuts 0 0) 0 0
+-- a device before it is fitted, whose calls of these numbers will do nothing, and of those fail late
+abbrev pub fresh_device : List ℕ → List ℕ → InMemory
+fresh_device failing late = in_memory (device_in nothing (no_cuts 0 0) false 0 0) 0 (no_calls failing late)
 
 -- the same device after a call that writes nothing
 abbrev pub with_device : InMemory → Device → InMemory
 with_device m n = record m { device = n }
+
+-- and after one that changes the device so
+abbrev pub on_device : (Device → Device) → InMemory → InMemory
+on_device call m = with_device m (call m.device)
+
+-- after a fit
+abbrev pub refitted : Shape → List Block → InMemory → InMemory
+refitted shape start m = record m { device = fitted shape start m.device; writes = 0 }
+
+-- after a fit for which there was not enough memory
+abbrev pub fit_refused : InMemory → InMemory
+fit_refused m = with_device m (record m.device { fits = next m.device.fits })
+
+-- a fit leaves the one or the other
+abbrev pub IsFit : Shape → List Block → InMemory → Result ⊤ FitError → InMemory → Type 0
+IsFit shape start old result new = MatchResult result (λ _. new ≡ refitted shape start old) (λ _. new ≡ fit_refused old)
+
+-- the parts of a device of a shape that begins with these blocks
+pub record IsFresh (shape : Shape) (start : List Block) (held : Held) (cuts : Cuts) : Type 0 where
+  pub blocks : held ≡ made shape.blocks shape.queue start
+  pub cuts_to_come : cuts ≡ no_cuts shape.blocks (shape.cuts + 1)
+
+-- after a write
+abbrev pub written : ℕ → Block → InMemory → InMemory
+written at block m = record m { device = written_to m.device at block; writes = next m.writes }
+
+-- the same of the device alone
+abbrev pub with_write : ℕ → Block → Device → Device
+with_write at block n = written_to n at block
+
+-- after the older half of a queue, rounded down, has landed
+abbrev pub half_settled : Device → Device
+half_settled n = landed (length n.queue / 2) n
+
+-- after a call that failed
+abbrev pub failed : Device → Device
+failed n = record n { down = true; faults = next n.faults }
+
+-- what a call with this fault leaves, where this is done if it has none, and that if it fails late
+abbrev pub left_after : Option Fault → (InMemory → InMemory) → (Device → Device) → InMemory → InMemory
+left_after None done late m = done m
+left_after (Some Undone) done late m = with_device m (failed m.device)
+left_after (Some Late) done late m = with_device m (failed (late m.device))
+
+-- A call that does this, and that if it fails late.
+pub record IsCall {T : Type 0} (done : InMemory → InMemory) (late : Device → Device)
+    (old : InMemory) (result : Result T NvmError) (new : InMemory) : Type 0 where
+  -- it fails exactly where its number is listed
+  pub fails : is_err result ≡ is_some (next_fault old.calls)
+  -- and counts in any case
+  pub leaves : new ≡ left_after (next_fault old.calls) done late (record old { calls = counted old.calls })

@@ -1,3 +1,4 @@
+pub mod Calls
 pub mod Kept
 pub mod DeviceInMemory
 pub mod Pick

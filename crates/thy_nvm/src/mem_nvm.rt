@@ -1,9 +1,12 @@
 //! A device that lies in the memory of the host.
-ghost use Rattle.std.specs.Prelude.{◌≡◌, ◌<◌, ◌≤◌, false, length, IfOk, OnOk, OnErr, IfErr, slice_index_or, []};
-ghost use Rattle.thy_base.specs.Device.{Device, newest, block_at, written_to, drained, settled, fitted, cut_to, IsCut, IsFramed, HasFailed, HasFailedToWrite, HasFailedToFit, CountsFault, CountsWrite};
-ghost use Rattle.thy_nvm.specs.DeviceInMemory.{fresh_device, with_device};
-ghost use Rattle.thy_nvm.specs.Pick.{picked};
+ghost use Rattle.std.specs.Prelude.{◌≡◌, ◌<◌, ◌≤◌, false, length, is_err, is_some, IfOk, OnOk, OnErr, IfErr, slice_index_or, []};
+ghost use Rattle.thy_base.specs.Counts.{Rose};
+ghost use Rattle.thy_base.specs.Device.{Device, newest, block_at, written_to, drained, settled, fitted, IsCut, IsFramed, HasFailed, HasFailedToWrite, HasFailedToFit, CountsFault, CountsWrite};
+ghost use Rattle.thy_nvm.specs.DeviceInMemory.{InMemory, fresh_device, with_device, on_device, IsFit, IsFresh, written, with_write, half_settled, failed, left_after, IsCall};
+ghost use Rattle.thy_nvm.specs.Pick.{cut_by};
+ghost use Rattle.thy_ring.specs.Held.{as_device};
 
+use crate::call_faults::{CallFaults, Fault};
 use crate::kept::Kept;
 use crate::pick::leave;
 use std::alloc::{AllocError, Global};
@@ -11,11 +14,17 @@ use std::marker::Model;
 use thy_base::{Block, FitError, Nvm, NvmError, Shape};
 use thy_ring::Ring;
 
-/// A non-volatile memory that never fails. It is empty until it is fitted.
+/// A non-volatile memory. It is empty until it is fitted. Its reads, writes, drains and barriers are numbered from 1 on,
+/// through fits and cuts; after 2^64 - 1 of them each has this last number. One fails exactly if its number is listed.
 #[derive(Drop)]
 pub struct MemNvm {
     ring: Ring,
     kept: Kept,
+    calls: CallFaults,
+    // A call has failed since the last fit or cut.
+    down: bool,
+    // How many calls have failed. Stands at the last value.
+    faults: u64,
     // How many times it was fitted. Stands at the last value.
     fits: u64,
     // How many writes it has taken since it was fitted. Stands at the last value.
@@ -24,46 +33,167 @@ pub struct MemNvm {
 
 impl Model for MemNvm {
     ghost use Rattle.std.specs.Prelude.{◌≡◌, length};
-    ghost use Rattle.thy_nvm.specs.DeviceInMemory.{InMemory, in_memory};
+    ghost use Rattle.thy_nvm.specs.DeviceInMemory.{InMemory, in_memory, device_in};
 
     ghost Value = { InMemory };
 
-    ghost view = { λ m. in_memory m.ring m.kept m.fits m.writes };
+    ghost view = { λ m. in_memory (device_in m.ring m.kept m.down m.faults m.fits) m.writes m.calls };
 
     ghost invariant = { λ m. m.kept.size ≡ length m.ring.image };
 }
 
 impl MemNvm {
-    /// A device without blocks. Takes no memory.
+    /// A device without blocks that never fails. Takes no memory.
     pub fn new(alloc: Global) -> MemNvm
-        ensures { result ≡ fresh_device }
+        ensures { result ≡ fresh_device [] [] }
+    {
+        MemNvm::with_calls(alloc, CallFaults::none(alloc))
+    }
+
+    /// A device without blocks whose calls of these numbers fail and do nothing.
+    pub fn failing(alloc: Global, calls: &[u64]) -> Result<MemNvm, AllocError>
+        ensures { IfOk result (λ m. m ≡ fresh_device calls.now []) }
+    {
+        let calls = CallFaults::failing(alloc, calls)?;
+        Ok(MemNvm::with_calls(alloc, calls))
+    }
+
+    /// A device without blocks whose calls of these numbers fail late: a write is queued as usual, a drain lets its write
+    /// land, a barrier lets the older half of the queue land, rounded down; then each fails. A read just fails.
+    pub fn late(alloc: Global, calls: &[u64]) -> Result<MemNvm, AllocError>
+        ensures { IfOk result (λ m. m ≡ fresh_device [] calls.now) }
+    {
+        let calls = CallFaults::late(alloc, calls)?;
+        Ok(MemNvm::with_calls(alloc, calls))
+    }
+
+    /// How many reads, writes, drains and barriers were called. Stands at the last value.
+    pub fn calls(&self) -> u64
+        ensures { result ≡ self.now.calls.made }
+    {
+        self.calls.made()
+    }
+
+    /// A device without blocks whose calls fail so.
+    fn with_calls(alloc: Global, calls: CallFaults) -> MemNvm
+        ensures { result ≡ record (fresh_device [] []) { calls = calls } }
     {
         MemNvm {
             ring: Ring::new(alloc),
             kept: Kept::new(alloc),
+            calls,
+            down: false,
+            faults: 0,
             fits: 0,
             writes: 0,
         }
     }
+
+    /// A call has failed.
+    fn fail(&mut self) -> NvmError
+        ensures failed { self.new ≡ with_device self.old (failed self.old.device) }
+        ensures rose { Rose self.old.device.faults self.new.device.faults }
+    {
+        self.down = true;
+        self.faults = self.faults.saturating_add(1);
+        NvmError::Failed
+    }
+
+    /// Reads, unless the call has this fault.
+    fn read_unless(&mut self, fault: Option<Fault>, at: u64) -> Result<Block, NvmError>
+        requires { at < length self.old.device.image }
+        ensures ok { IfOk result (λ block. block ≡ newest self.old.device at) }
+        ensures fails { is_err result ≡ is_some fault }
+        ensures leaves { self.new ≡ left_after fault (λ m. m) (λ n. n) self.old }
+        ensures cause { CountsFault result self.old.device.faults self.new.device.faults }
+    {
+        match fault {
+            None => Ok(self.ring.read(at)),
+            Some(Fault::Undone) | Some(Fault::Late) => Err(self.fail()),
+        }
+    }
+
+    /// Queues a block, unless the call has a fault.
+    fn write_unless(&mut self, fault: Option<Fault>, at: u64, block: &Block) -> Result<(), NvmError>
+        requires { at < length self.old.device.image }
+        ensures fails { is_err result ≡ is_some fault }
+        ensures leaves { self.new ≡ left_after fault (written at block.now) (with_write at block.now) self.old }
+        ensures cause { CountsFault result self.old.device.faults self.new.device.faults }
+    {
+        match fault {
+            None => {
+                self.ring.write(at, block);
+                self.writes = self.writes.saturating_add(1);
+                Ok(())
+            }
+            Some(Fault::Undone) => Err(self.fail()),
+            Some(Fault::Late) => {
+                self.ring.write(at, block);
+                Err(self.fail())
+            }
+        }
+    }
+
+    /// Lets the oldest write land, unless the call has a fault.
+    fn drain_unless(&mut self, fault: Option<Fault>) -> Result<(), NvmError>
+        ensures fails { is_err result ≡ is_some fault }
+        ensures leaves { self.new ≡ left_after fault (on_device drained) drained self.old }
+        ensures cause { CountsFault result self.old.device.faults self.new.device.faults }
+    {
+        match fault {
+            None => {
+                self.ring.drain();
+                Ok(())
+            }
+            Some(Fault::Undone) => Err(self.fail()),
+            Some(Fault::Late) => {
+                self.ring.drain();
+                Err(self.fail())
+            }
+        }
+    }
+
+    /// Lets every write land, unless the call has a fault.
+    fn barrier_unless(&mut self, fault: Option<Fault>) -> Result<(), NvmError>
+        ensures fails { is_err result ≡ is_some fault }
+        ensures leaves { self.new ≡ left_after fault (on_device settled) half_settled self.old }
+        ensures cause { CountsFault result self.old.device.faults self.new.device.faults }
+    {
+        match fault {
+            None => {
+                self.ring.settle();
+                Ok(())
+            }
+            Some(Fault::Undone) => Err(self.fail()),
+            Some(Fault::Late) => {
+                settle_half(&mut self.ring);
+                Err(self.fail())
+            }
+        }
+    }
 }
 
-/// A device of a shape, whose image begins with these blocks, and which was fitted so many times.
-fn fresh(alloc: Global, shape: &Shape, start: &[Block], fits: u64) -> Result<MemNvm, AllocError>
+/// Lets the older half of the queued writes land, rounded down.
+fn settle_half(ring: &mut Ring)
+    ensures { ring.new ≡ as_device half_settled ring.old }
+{
+    for _ in 0..ring.queued() / 2 {
+        ring.drain();
+    }
+}
+
+/// The parts of a device of a shape, whose image begins with these blocks.
+fn fresh(alloc: Global, shape: &Shape, start: &[Block]) -> Result<(Ring, Kept), AllocError>
     requires queue { 0 < shape.now.queue }
     requires start { length start.now ≤ shape.now.blocks }
-    ensures { IfOk result (λ m. m ≡ with_device fresh_device (record (fitted shape.now start.now fresh_device.device) { fits = fits })) }
+    ensures { IfOk result (λ parts. IsFresh shape.now start.now parts.0 parts.1) }
 {
     let Some(room) = shape.cuts.checked_add(1) else {
         return Err(AllocError);
     };
     let ring = Ring::with_blocks(alloc, shape.blocks, shape.queue, start)?;
     let kept = Kept::with_room(alloc, shape.blocks, room)?;
-    Ok(MemNvm {
-        ring,
-        kept,
-        fits,
-        writes: 0,
-    })
+    Ok((ring, kept))
 }
 
 impl Nvm for MemNvm {
@@ -71,11 +201,24 @@ impl Nvm for MemNvm {
 
     ghost writes = { λ m. m.writes };
 
-    fn fit(&mut self, alloc: Global, shape: &Shape, start: &[Block]) -> Result<(), FitError> {
+    /// Never fails but for want of memory, and is none of the calls that are numbered.
+    fn fit(&mut self, alloc: Global, shape: &Shape, start: &[Block]) -> Result<(), FitError>
+        requires blocks { 0 < shape.now.blocks }
+        requires queue { 0 < shape.now.queue }
+        requires start { length start.now ≤ shape.now.blocks }
+        ensures exact { IsFit shape.now start.now self.old result self.new }
+        ensures ok { OnOk result (self.new.device ≡ fitted shape.now start.now self.old.device) }
+        ensures err { IfErr result (λ e. HasFailedToFit e self.old.device self.new.device) }
+        ensures no_writes { OnOk result (self.new.writes ≡ 0) }
+        ensures same_writes { OnErr result (self.new.writes ≡ self.old.writes) }
+    {
         self.fits = self.fits.saturating_add(1);
-        match fresh(alloc, shape, start, self.fits) {
-            Ok(device) => {
-                *self = device;
+        match fresh(alloc, shape, start) {
+            Ok((ring, kept)) => {
+                self.ring = ring;
+                self.kept = kept;
+                self.down = false;
+                self.writes = 0;
                 Ok(())
             }
             Err(error) => Err(FitError::Memory(error)),
@@ -90,43 +233,71 @@ impl Nvm for MemNvm {
         self.writes
     }
 
-    fn read(&mut self, at: u64) -> Result<Block, NvmError> {
-        Ok(self.ring.read(at))
+    fn read(&mut self, at: u64) -> Result<Block, NvmError>
+        requires { at < length self.old.device.image }
+        ensures exact { IsCall (λ m. m) (λ n. n) self.old result self.new }
+        ensures ok { IfOk result (λ block. block ≡ newest self.old.device at) }
+        ensures same { OnOk result (self.new.device ≡ self.old.device) }
+        ensures err { OnErr result (HasFailed self.old.device self.new.device) }
+        ensures frame { IsFramed self.old.device self.new.device }
+        ensures cause { CountsFault result self.old.device.faults self.new.device.faults }
+        ensures same_writes { self.new.writes ≡ self.old.writes }
+    {
+        let fault = self.calls.next();
+        self.read_unless(fault, at)
     }
 
-    fn write(&mut self, at: u64, block: &Block) -> Result<(), NvmError> {
-        self.ring.write(at, block);
-        self.writes = self.writes.saturating_add(1);
-        Ok(())
+    fn write(&mut self, at: u64, block: &Block) -> Result<(), NvmError>
+        requires place { at < length self.old.device.image }
+        requires up { self.old.device.down ≡ false }
+        ensures exact { IsCall (written at block.now) (with_write at block.now) self.old result self.new }
+        ensures ok { OnOk result (self.new.device ≡ written_to self.old.device at block.now) }
+        ensures err { OnErr result (HasFailedToWrite at block.now self.old.device self.new.device) }
+        ensures frame { IsFramed self.old.device self.new.device }
+        ensures cause { CountsFault result self.old.device.faults self.new.device.faults }
+        ensures counted { CountsWrite result self.old.writes self.new.writes }
+    {
+        let fault = self.calls.next();
+        self.write_unless(fault, at, block)
     }
 
-    fn drain(&mut self) -> Result<(), NvmError> {
-        self.ring.drain();
-        Ok(())
+    fn drain(&mut self) -> Result<(), NvmError>
+        requires queued { 0 < length self.old.device.queue }
+        requires up { self.old.device.down ≡ false }
+        ensures exact { IsCall (on_device drained) drained self.old result self.new }
+        ensures ok { OnOk result (self.new.device ≡ drained self.old.device) }
+        ensures err { OnErr result (HasFailed self.old.device self.new.device) }
+        ensures frame { IsFramed self.old.device self.new.device }
+        ensures cause { CountsFault result self.old.device.faults self.new.device.faults }
+        ensures same_writes { self.new.writes ≡ self.old.writes }
+    {
+        let fault = self.calls.next();
+        self.drain_unless(fault)
     }
 
     /// Writes nothing of its own accord.
     fn barrier(&mut self) -> Result<(), NvmError>
         requires { self.old.device.down ≡ false }
-        ensures exact { self.new ≡ with_device self.old (settled self.old.device) }
+        ensures exact { IsCall (on_device settled) half_settled self.old result self.new }
         ensures ok { OnOk result (self.new.device ≡ settled self.old.device) }
         ensures err { OnErr result (HasFailed self.old.device self.new.device) }
         ensures frame { IsFramed self.old.device self.new.device }
         ensures cause { CountsFault result self.old.device.faults self.new.device.faults }
         ensures no_fewer_writes { self.old.writes ≤ self.new.writes }
     {
-        self.ring.settle();
-        Ok(())
+        let fault = self.calls.next();
+        self.barrier_unless(fault)
     }
 
     fn cut(&mut self, pick: u64)
         requires { length self.old.device.left < self.old.device.left_room }
+        ensures exact { self.new ≡ cut_by pick self.old }
         ensures cut { IsCut pick self.old.device self.new.device }
-        ensures image { self.new.device ≡ cut_to self.old.device pick (picked pick self.old.device.image self.old.device.queue) }
         ensures same_writes { self.new.writes ≡ self.old.writes }
     {
         leave(&mut self.ring, pick);
         self.kept.keep(self.ring.image(), pick);
+        self.down = false;
     }
 
     fn kept(&self, i: u64, at: u64) -> Block {

@@ -1,9 +1,10 @@
 -- What a writer of std holds, as what a sink has taken.
-use Rattle.std.proofs.Common.{◌≡◌, ℕ, ◌+◌, ◌<◌, ◌≤◌, Err, IfSome, length-append, refl, List, ◌++◌, take, drop, length, ◌-◌, arith, Option, Some, None, ap, subst, sym, ◌∙◌, append_assoc}
+use Rattle.std.proofs.Common.{◌≡◌, ℕ, ◌+◌, ◌<◌, ◌≤◌, Result, Ok, Err, OnErr, IfSome, length-append, refl, List, [], ◌++◌, take, drop, length, ◌-◌, arith, Option, Some, None, ap, subst, sym, ◌∙◌, append_assoc}
 use Rattle.std.proofs.Math.Seq.{take-add}
-use Rattle.std.proofs.lemmas.List.{take_rest}
+use Rattle.std.proofs.lemmas.List.{take_rest, append-nil}
 use Rattle.std.specs.Io.KnownBytes.{Keeps, Appends, Consumes}
-use Rattle.thy_base.specs.Outside.{Grew, Fetched}
+use Rattle.thy_base.specs.Device.{CountsFault}
+use Rattle.thy_base.specs.Outside.{Stream, Grew, Took, TookPart, Fetched}
 use Rattle.thy_base.specs.declared.outside.FetchError.TheVariants.{TooLong}
 use Rattle.thy_out.specs.Spring.{LosesAtMost}
 
@@ -65,3 +66,15 @@ LosesAtMost-append n a b c some more one two few =
 
 pub LosesAtMost-keeps : (n : ℕ) (a b c : Option (List ℕ)) (some : List ℕ) → Consumes a b some → Keeps b c → length some ≤ n → LosesAtMost n a c
 LosesAtMost-keeps n a b c some one two few = record { bytes = some; read = Consumes-keeps a b c some one two; few = few }
+
+-- a sink took all of these bytes, and what was asked of it then failed or did not
+pub TookPart-behind : {E : Type 0} (last : Result Unit E) (a b c : Stream) (bytes : List ℕ) → Took a b bytes → c.taken ≡ b.taken
+    → CountsFault last b.faults c.faults → OnErr last (TookPart a c bytes)
+TookPart-behind (Ok done) a b c bytes took same count = tt
+TookPart-behind (Err e) a b c bytes took same count = record {
+  part = bytes;
+  rest = [];
+  split = sym (append-nil bytes);
+  taken = λ had e. same ∙ took.taken had e;
+  rose = record { no_less = omega (arith, took.faults, count.no_less); more = omega (arith, took.faults, count.more) };
+}

@@ -1,6 +1,7 @@
 pub mod Counts
-pub mod Tape
 pub mod Rack
+pub mod Replacing
 pub mod Spring
+pub mod Tape
 pub mod Untold
 pub mod Writers

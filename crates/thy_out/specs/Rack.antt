@@ -17,9 +17,9 @@ abbrev pub found : List (List ℕ × List ℕ) → List ℕ → Option (List ℕ
 found [] name = None
 found (file ∷ files) name = if bytes_eq file.0 name then Some file.1 else found files name
 
--- a rack tells what it holds
+-- a rack tells what it holds, and not under which names calls failed, since to note a name may want memory
 abbrev pub stock_of : Rack → Stock
-stock_of rack = record { held = Some (found rack.files); faults = rack.faults }
+stock_of rack = record { held = Some (found rack.files); failed = None; faults = rack.faults }
 
 -- the rack after a call
 abbrev pub called : Rack → Rack

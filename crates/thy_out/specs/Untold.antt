@@ -8,9 +8,9 @@ use Rattle.thy_base.specs.declared.outside.FetchError.TheVariants.{Memory}
 use Rattle.thy_base.specs.declared.outside.PutError.{PutError}
 use Rattle.thy_base.specs.declared.outside.PutError.TheVariants.{Memory as PutMemory}
 
--- it does not tell what it holds, since others change it too
+-- it does not tell what it holds, since others change it too, nor under which names calls failed
 abbrev pub untold : ℕ → Stock
-untold faults = record { held = None; faults = faults }
+untold faults = record { held = None; failed = None; faults = faults }
 
 -- the count after a fetch: one more with every answer but bytes and want of memory
 abbrev pub fetch_faults : ℕ → Result (Vec ℕ Global) FetchError → ℕ

@@ -2,21 +2,23 @@
 ghost use Rattle.std.specs.Prelude.{◌≡◌, ◌≢◌, ◌+◌, ◌≤◌, length, Some, Err, IfOk, OnOk, IfSome};
 ghost use Rattle.std.specs.Io.KnownBytes.{IsAtEnd};
 ghost use Rattle.thy_base.specs.Outside.{Fetched, FetchCounts, PutCounts};
+ghost use Rattle.thy_out.specs.Replacing.{counted};
 ghost use Rattle.thy_out.specs.Spring.{LosesAtMost, HasCause};
 ghost use Rattle.thy_out.specs.Untold.{untold, fetch_faults, put_faults};
 
+use crate::disk::Disk;
 use crate::source::Source;
 use std::alloc::Global;
-use std::fs;
 use std::fs::Files;
 use std::io::{ErrorKind, Read};
 use thy_base::{FetchError, PutError, Shelf};
 
 /// The files that the runtime reaches; a name is a path. What it holds it does not tell, since
-/// others change it too, so it counts a fault with every answer but bytes and want of memory.
+/// others change it too, so it counts a fault with every answer but bytes and want of memory. It
+/// does not tell under which names calls failed.
 #[derive(Drop)]
 pub struct FileShelf<R> {
-    rt: R,
+    disk: Disk<R>,
     faults: u64,
 }
 
@@ -25,7 +27,10 @@ impl<R: Files> FileShelf<R> {
     pub fn new(rt: R) -> FileShelf<R>
         ensures { ⟦<FileShelf<R> as Shelf>⟧.stock result ≡ untold 0 }
     {
-        FileShelf { rt, faults: 0 }
+        FileShelf {
+            disk: Disk::over(rt),
+            faults: 0,
+        }
     }
 }
 
@@ -67,10 +72,15 @@ pub fn read_within<F: Read>(
 }
 
 /// What stands at a path, if it is at most `limit` bytes.
-fn read_file<R: Files>(rt: &R, alloc: Global, path: &str, limit: u64) -> Result<Vec<u8>, FetchError>
+fn read_file<R: Files>(
+    disk: &Disk<R>,
+    alloc: Global,
+    path: &str,
+    limit: u64,
+) -> Result<Vec<u8>, FetchError>
     ensures { IfOk result (λ bytes. length bytes.items ≤ limit) }
 {
-    match fs::open(rt, path) {
+    match disk.open(path) {
         Ok(file) => read_within(&mut Source::over(file), alloc, limit),
         Err(error) => {
             if error.kind() == ErrorKind::NotFound {
@@ -87,10 +97,10 @@ impl<R: Files> Shelf for FileShelf<R> {
 
     fn fetch(&mut self, alloc: Global, name: &str, limit: u64) -> Result<Vec<u8>, FetchError>
         ensures within { IfOk result (λ bytes. length bytes.items ≤ limit) }
-        ensures faults { FetchCounts (untold self.old.faults) (untold self.new.faults) result }
+        ensures faults { FetchCounts name.now (untold self.old.faults) (untold self.new.faults) result }
         ensures after { self.new.faults ≡ fetch_faults self.old.faults result }
     {
-        match read_file(&self.rt, alloc, name, limit) {
+        match read_file(&self.disk, alloc, name, limit) {
             Ok(bytes) => Ok(bytes),
             Err(FetchError::Memory(error)) => Err(FetchError::Memory(error)),
             Err(error) => {
@@ -100,11 +110,14 @@ impl<R: Files> Shelf for FileShelf<R> {
         }
     }
 
+    /// By a new file beside the name, which is synced and renamed over it, if nothing stands under the name or
+    /// a file with no other name, and the system lets a file be made there; otherwise by writing over what stands there.
     fn put(&mut self, _alloc: Global, name: &str, bytes: &[u8]) -> Result<(), PutError>
-        ensures faults { PutCounts (untold self.old.faults) (untold self.new.faults) result }
+        ensures faults { PutCounts name.now (untold self.old.faults) (untold self.new.faults) result }
         ensures after { self.new.faults ≡ put_faults self.old.faults result }
+        ensures done { self.new.disk ≡ counted self.old.disk result }
     {
-        match fs::write(&self.rt, name, bytes) {
+        match self.disk.put(name, bytes) {
             Ok(()) => Ok(()),
             Err(_) => {
                 self.faults = self.faults.saturating_add(1);

@@ -5,14 +5,18 @@
 //! tests use it; no other crate does, since the top call is proved for every shelf and sink.
 #![tactic(auto)]
 
+mod disk;
 mod file_shelf;
 mod mem_shelf;
 mod mem_sink;
 mod source;
 mod std_sink;
+mod target;
 
+pub use disk::{Disk, Replaced};
 pub use file_shelf::{FileShelf, read_within};
 pub use mem_shelf::MemShelf;
 pub use mem_sink::MemSink;
 pub use source::Source;
 pub use std_sink::StdSink;
+pub use target::Target;

@@ -10,7 +10,8 @@ use std::alloc::{AllocError, Global};
 use std::marker::Model;
 use thy_base::{FetchError, PutError, Shelf};
 
-/// Named files in memory, of which it tells. Of files with one name only the first is seen.
+/// Named files in memory, of which it tells; under which names calls failed it does not tell. Of files
+/// with one name only the first is seen.
 #[derive(Debug, Drop)]
 pub struct MemShelf {
     files: Vec<(String, Vec<u8>)>,
@@ -125,7 +126,7 @@ impl Shelf for MemShelf {
     fn fetch(&mut self, alloc: Global, name: &str, limit: u64) -> Result<Vec<u8>, FetchError>
         ensures keeps { (stock_of self.new).held ≡ (stock_of self.old).held }
         ensures answer { (files : Files) → (stock_of self.old).held ≡ Some files → Fetched (files name.now) limit result }
-        ensures faults { FetchCounts (stock_of self.old) (stock_of self.new) result }
+        ensures faults { FetchCounts name.now (stock_of self.old) (stock_of self.new) result }
         ensures failed { (result ≡ Err FetchError.Failed) ↔ IsTrue (is_listed self.old.failing self.old.calls) }
         ensures after { self.new ≡ called self.old }
     {
@@ -139,7 +140,7 @@ impl Shelf for MemShelf {
     fn put(&mut self, alloc: Global, name: &str, bytes: &[u8]) -> Result<(), PutError>
         ensures ok { OnOk result (Holds (stock_of self.new) name.now bytes.now) }
         ensures others { KeepsOthers (stock_of self.old) (stock_of self.new) name.now }
-        ensures faults { PutCounts (stock_of self.old) (stock_of self.new) result }
+        ensures faults { PutCounts name.now (stock_of self.old) (stock_of self.new) result }
         ensures failed { (result ≡ Err PutError.Failed) ↔ IsTrue (is_listed self.old.failing self.old.calls) }
         ensures after { self.new ≡ record (called self.old) {
           files = if is_ok result then (name.now, bytes.now) ∷ self.old.files else self.old.files;

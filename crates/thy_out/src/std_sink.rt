@@ -43,7 +43,7 @@ impl StdSink<Stderr> {
 }
 
 /// Writes until the piece is taken or the writer fails. Answers how many bytes were taken.
-fn write_on<W: Write>(to: &mut W, piece: &[u8]) -> usize
+pub(crate) fn write_on<W: Write>(to: &mut W, piece: &[u8]) -> usize
     ensures within { result ≤ length piece.now }
     ensures taken { Grew (W.contents to.old) (W.contents to.new) (take result piece.now) }
 {

@@ -1,3 +1,4 @@
+-- Part of the claim.
 -- What stands at the places of both devices, and what a write at one makes of them.
 use Rattle.std.specs.Prelude.{◌≡◌, ℕ, if◌then◌else◌, length, Contains}
 use Rattle.thy_base.specs.declared.block.Block.{Block}

@@ -1,3 +1,4 @@
+-- Part of the claim.
 -- The state at which a program starts.
 use Rattle.std.specs.Prelude.{ℕ, List, [], replicate}
 use Rattle.thy_base.specs.declared.config.Parameters.{Parameters}

@@ -47,7 +47,7 @@ ArePlaced-parts p cpu t epoch tables = record {
 -- one more after the write of the next
 pub slot_grows : (p : Parameters) (old new : Device) (cpu : CpuState) (t : Tables) (epoch : ℕ) (memory : List Block) (k : ℕ)
     → IsIssuing p old cpu t epoch memory k → k < slot_blocks p
-    → new ≡ written_to old (slot_place p (epoch % 2) + k) (slot_block_of cpu t epoch k) → IsIssuing p new cpu t epoch memory (k + 1)
+    → new ≡ written_to old (slot_place p (epoch % 2) + k) (slot_block_of p cpu t epoch k) → IsIssuing p new cpu t epoch memory (k + 1)
 slot_grows p old new cpu t epoch memory k h l is = record {
   tables = h.tables;
   parts = slot_goes_on (image_blocks p) (parts_by p cpu t epoch) old new memory k (ArePlaced-parts p cpu t epoch h.tables) h.parts l is;
@@ -71,7 +71,7 @@ module _ (p : Parameters) (ceiling : ℕ) (cpu : CpuState) (t : Tables) (epoch :
 
   slot_is : IsSlotOf p cpu t epoch slot
   slot_is = record {
-    each = λ k l. get_or-map-range_with_len (slot_block_of cpu t epoch) 0 (slot_blocks p) k k zero_block l (omega arith);
+    each = λ k l. get_or-map-range_with_len (slot_block_of p cpu t epoch) 0 (slot_blocks p) k k zero_block l (omega arith);
   }
 
   tables_are : tables_in p slot ≡ t

@@ -5,6 +5,7 @@ use Rattle.thy_base.specs.declared.block.Block.{Block}
 use Rattle.thy_base.specs.declared.config.Parameters.{Parameters}
 use Rattle.thy_base.specs.Device.{Device, block_at, zero_block}
 use Rattle.thy_base.specs.Geometry.{IsInRange, memory_blocks}
+use Rattle.thy_base.specs.Places.{record_blocks}
 use Rattle.thy_isa.specs.declared.state.CpuState.{CpuState}
 use Rattle.thy_record.specs.declared.bad_image.BadImage.TheVariants.{Header}
 use Rattle.thy_record.specs.Commit.{is_zero, epoch_of, commit_of, commit_fault}
@@ -20,7 +21,7 @@ use Rattle.thy_protocol.specs.Moves.{standing, IsKeeping, Moves}
 
 -- how many blocks a copy has
 abbrev pub copy_blocks : Parameters → ℕ
-copy_blocks p = 5 + memory_blocks p
+copy_blocks p = record_blocks p + memory_blocks p
 
 -- where the copy of an epoch begins
 abbrev pub copy_place : Parameters → ℕ → ℕ
@@ -32,8 +33,8 @@ alternating p ceiling = record {
   image_blocks = 2 + 2 * copy_blocks p;
   memory_blocks = memory_blocks p;
   slot_place = λ commit. copy_place p (epoch_of commit);
-  slot_blocks = λ commit. 5;
-  place = λ commit slot i. copy_place p (epoch_of commit) + 5 + i;
+  slot_blocks = λ commit. record_blocks p;
+  place = λ commit slot i. copy_place p (epoch_of commit) + record_blocks p + i;
   header_bad = λ header sized. if is_zero header && sized then None else Some Header;
   commit_bad = λ header commit. commit_fault commit ceiling;
   slot_bad = λ commit slot. record_fault slot (epoch_of commit) p ceiling;

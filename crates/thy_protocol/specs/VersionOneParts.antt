@@ -25,7 +25,7 @@ abbrev pub parts_by : Parameters → CpuState → Tables → ℕ → Parts
 parts_by p cpu t epoch = record {
   slot_place = slot_place p (epoch % 2);
   slot_blocks = slot_blocks p;
-  slot = slot_block_of cpu t epoch;
+  slot = slot_block_of p cpu t epoch;
   memory = memory_numbers p t;
 }
 

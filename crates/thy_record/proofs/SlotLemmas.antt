@@ -23,16 +23,16 @@ use Rattle.thy_base.proofs.RangeLemmas.{btt_eights, ptt_eights}
 
 -- ---- which block is which
 
-pub slot_block_of-record : (cpu : CpuState) (t : Tables) (epoch k : ℕ) → k < 5 → slot_block_of cpu t epoch k ≡ cpu_block_of cpu epoch k
-slot_block_of-record cpu t epoch k l = ap (λ b. if b then cpu_block_of cpu epoch k else table_block_of t (k - 5)) (lt-ltb k 5 l)
+pub slot_block_of-record : (p : Parameters) (cpu : CpuState) (t : Tables) (epoch k : ℕ) → k < 5 → slot_block_of p cpu t epoch k ≡ cpu_block_of cpu epoch k
+slot_block_of-record p cpu t epoch k l = ap (λ b. if b then cpu_block_of cpu epoch k else table_block_of t (k - 5)) (lt-ltb k 5 l)
 
-pub slot_block_of-table : (cpu : CpuState) (t : Tables) (epoch k : ℕ) → slot_block_of cpu t epoch (5 + k) ≡ table_block_of t k
-slot_block_of-table cpu t epoch k = grind arith
+pub slot_block_of-table : (p : Parameters) (cpu : CpuState) (t : Tables) (epoch k : ℕ) → slot_block_of p cpu t epoch (5 + k) ≡ table_block_of t k
+slot_block_of-table p cpu t epoch k = grind arith
 
 pub BeginsWithRecord-slot : (p : Parameters) (cpu : CpuState) (t : Tables) (epoch : ℕ) (slot : List Block)
     → IsSlotOf p cpu t epoch slot → BeginsWithRecord cpu epoch slot
 BeginsWithRecord-slot p cpu t epoch slot s = record {
-  each = λ k l. s.each k (omega arith) ∙ slot_block_of-record cpu t epoch k l;
+  each = λ k l. s.each k (omega arith) ∙ slot_block_of-record p cpu t epoch k l;
 }
 
 -- ---- the tables
@@ -128,7 +128,7 @@ FitBlocks-tables p t r s = record {
 pub tables_in-back : (p : Parameters) (cpu : CpuState) (t : Tables) (epoch : ℕ) (slot : List Block)
     → IsInRange p → IsTables p t → IsSlotOf p cpu t epoch slot → tables_in p slot ≡ t
 tables_in-back p cpu t epoch slot r s of =
-    tables_back p t slot r (FitBlocks-tables p t r s) (record { each = λ k l. of.each (5 + k) l ∙ slot_block_of-table cpu t epoch k })
+    tables_back p t slot r (FitBlocks-tables p t r s) (record { each = λ k l. of.each (5 + k) l ∙ slot_block_of-table p cpu t epoch k })
 
 -- ---- its faults
 

@@ -1,3 +1,4 @@
+-- Part of the claim.
 -- The commit block, block 1 of an image: the epoch of the committed checkpoint.
 use Rattle.std.specs.Prelude.{ℕ, Bool, ◌&&◌, ◌==◌, nat_lt, List, [], ◌∷◌, Option, codes}
 use Rattle.std.specs.List.{list_all}

@@ -1,3 +1,4 @@
+-- Part of the claim.
 -- The record of the processor, the first five blocks of a slot.
 use Rattle.std.specs.Prelude.{◌≡◌, ℕ, zero, suc, ◌+◌, ◌*◌, ◌/◌, ◌%◌, ◌^◌, ◌<◌, ◌≤◌, true, Bool, ◌&&◌, ◌==◌, nat_lt, nat_le, if◌then◌else◌, List, [], ◌∷◌, ◌++◌, take, drop, length, slice_index, Option}
 use Rattle.thy_base.specs.declared.block.Block.{Block}

@@ -1,3 +1,4 @@
+-- Part of the claim.
 -- What an image means: nothing, a refusal, or the epoch of its checkpoint and a state.
 use Rattle.std.specs.Prelude.{ℕ, List}
 use Rattle.thy_base.specs.declared.block.Block.{Block}

@@ -1,3 +1,4 @@
+-- Part of the claim.
 -- Files that hold an image, block after block.
 use Rattle.std.specs.Prelude.{◌≡◌, ℕ, ◌*◌, ◌/◌, ◌==◌, nat_lt, if◌then◌else◌, List, length, map, take, drop, Option, Result, Ok, Err}
 use Rattle.std.specs.List.{range_with_len}

@@ -1,3 +1,4 @@
+-- Part of the claim.
 -- The header, block 0 of an image: what the image is, and the geometry that it was made for.
 use Rattle.std.specs.Prelude.{ℕ, Bool, ◌&&◌, ◌==◌, List, [], ◌∷◌, Option, codes}
 use Rattle.byteorder.specs.Endian.{little_number}

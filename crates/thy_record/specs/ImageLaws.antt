@@ -69,7 +69,7 @@ pub record HasCheckpoint (p : Parameters) (image : List Block) (cpu : CpuState) 
   pub long : length image ≡ image_blocks p
   pub header_fits : header_fault (block_at image 0) p true ≡ None
   pub commit : block_at image 1 ≡ commit_of epoch
-  pub slot : (k : ℕ) → k < slot_blocks p → block_at image (slot_place p (epoch % 2) + k) ≡ slot_block_of cpu t epoch k
+  pub slot : (k : ℕ) → k < slot_blocks p → block_at image (slot_place p (epoch % 2) + k) ≡ slot_block_of p cpu t epoch k
 
 -- it decodes to that epoch, that processor and the blocks at the places of those tables
 abbrev pub WrittenDecodes : Type 0

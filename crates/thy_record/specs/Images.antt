@@ -1,3 +1,4 @@
+-- Part of the claim.
 -- What an image means: nothing, a refusal, or the epoch of its checkpoint and a state.
 use Rattle.std.specs.Prelude.{◌≡◌, ℕ, ◌%◌, ◌==◌, Bool, false, true, if◌then◌else◌, List, [], ◌∷◌, ◌++◌, length, map, Option, Some, None}
 use Rattle.std.specs.List.{range_with_len}

@@ -1,3 +1,4 @@
+-- Part of the claim.
 -- What the refusals of an image are called.
 use Rattle.std.specs.Prelude.{ℕ, List, codes}
 use Rattle.thy_record.specs.declared.bad_image.BadImage.{BadImage}

@@ -1,12 +1,13 @@
+-- Part of the claim.
 -- A slot: the processor's record, and behind it the two tables.
-use Rattle.std.specs.Prelude.{◌≡◌, ℕ, ◌+◌, ◌-◌, ◌<◌, nat_lt, if◌then◌else◌, List, [], ◌∷◌, map, Option}
+use Rattle.std.specs.Prelude.{◌≡◌, ℕ, ◌+◌, ◌-◌, ◌*◌, ◌<◌, nat_lt, if◌then◌else◌, List, [], ◌∷◌, map, Option}
 use Rattle.std.specs.List.{range_with_len}
 use Rattle.std.specs.Option.{option_or}
 use Rattle.thy_base.specs.declared.block.Block.{Block}
 use Rattle.thy_base.specs.declared.config.Parameters.{Parameters}
 use Rattle.thy_base.specs.Demands.{first_fault}
 use Rattle.thy_base.specs.Device.{block_at}
-use Rattle.thy_base.specs.Places.{slot_blocks}
+use Rattle.thy_base.specs.Places.{record_blocks, slot_blocks}
 use Rattle.thy_isa.specs.declared.state.CpuState.{CpuState}
 use Rattle.thy_record.specs.declared.bad_image.BadImage.{BadImage}
 use Rattle.thy_record.specs.Cpu.{cpu_block_of, record_word, epoch_demand, status_demands}
@@ -15,24 +16,28 @@ use Rattle.thy_record.specs.TableBlocks.{entry_from, table_block_of}
 use Rattle.thy_record.specs.TableFaults.{tables_fault}
 
 -- block k of the slot of a checkpoint
-abbrev pub slot_block_of : CpuState → Tables → ℕ → ℕ → Block
-slot_block_of cpu t epoch k = if nat_lt k 5 then cpu_block_of cpu epoch k else table_block_of t (k - 5)
+abbrev pub slot_block_of : Parameters → CpuState → Tables → ℕ → ℕ → Block
+slot_block_of p cpu t epoch k =
+    if nat_lt k (record_blocks p) then cpu_block_of cpu epoch k else table_block_of t (k - record_blocks p)
 
 -- these blocks are the slot of a checkpoint
 pub record IsSlotOf (p : Parameters) (cpu : CpuState) (t : Tables) (epoch : ℕ) (slot : List Block) : Type 0 where
-  pub each : (k : ℕ) → k < slot_blocks p → block_at slot k ≡ slot_block_of cpu t epoch k
+  pub each : (k : ℕ) → k < slot_blocks p → block_at slot k ≡ slot_block_of p cpu t epoch k
 
--- these blocks have those of tables behind the record's five
+-- these blocks have those of tables behind the record
 pub record HasTableBlocks (p : Parameters) (t : Tables) (slot : List Block) : Type 0 where
-  pub each : (k : ℕ) → 5 + k < slot_blocks p → block_at slot (5 + k) ≡ table_block_of t k
+  pub each : (k : ℕ) → record_blocks p + k < slot_blocks p → block_at slot (record_blocks p + k) ≡ table_block_of t k
 
 -- n entries of a slot, of which the first stands in word `first`
 abbrev pub entries_in : List Block → ℕ → ℕ → List (Option ℕ)
 entries_in slot first n = map (λ i. entry_from (record_word slot (first + i))) (range_with_len 0 n)
 
--- the tables of a slot: eight words a block, the block table behind the record's 40, the page table behind that
+-- the tables of a slot, eight words a block: the block table behind the record, the page table behind that
 abbrev pub tables_in : Parameters → List Block → Tables
-tables_in p slot = record { btt = entries_in slot 40 p.btt; ptt = entries_in slot (40 + p.btt) p.ptt }
+tables_in p slot = record {
+  btt = entries_in slot (8 * record_blocks p) p.btt;
+  ptt = entries_in slot (8 * record_blocks p + p.btt) p.ptt;
+}
 
 -- the record is of another epoch than the commit block
 abbrev pub epoch_fault : ℕ → List Block → Option BadImage

@@ -1,3 +1,4 @@
+-- Part of the claim.
 -- The faults of tables, in the order in which they are looked for.
 use Rattle.std.specs.Prelude.{ℕ, ◌+◌, nat_lt, if◌then◌else◌, List, [], ◌∷◌, take, Option, Some, None}
 use Rattle.std.specs.Option.{option_or, option_map}

@@ -1,3 +1,4 @@
+-- Part of the claim.
 -- The two tables of a checkpoint, and where it has each block of memory.
 use Rattle.std.specs.Prelude.{◌≡◌, ℕ, ◌%◌, ◌==◌, ◌<◌, Bool, false, List, length, slice_index_or, Option, Some, None}
 use Rattle.std.specs.List.{position}

@@ -1,3 +1,4 @@
+-- Part of the claim.
 -- The boot: how far it is, and what each block that it reads makes of it.
 use Rattle.std.specs.Prelude.{◌≡◌, ℕ, ◌+◌, ◌*◌, ◌<◌, nat_lt, Bool, true, false, if◌then◌else◌, List, length, replicate, is_some, Option, Some, None}
 use Rattle.std.specs.Option.{option_or}

@@ -1,3 +1,4 @@
+-- Part of the claim.
 -- How many actions a boot has left, at most.
 use Rattle.std.specs.Prelude.{ℕ, ◌+◌, ◌*◌, ◌-◌, max}
 use Rattle.thy_base.specs.declared.config.Parameters.{Parameters}

@@ -1,3 +1,4 @@
+-- Part of the claim.
 -- What is seen of a boot.
 use Rattle.std.specs.Prelude.{ℕ, ◌+◌, true, false, Bool, Option, Some, None}
 use Rattle.thy_base.specs.declared.mark.Mark.{Mark}

@@ -31,4 +31,4 @@ no_tables p = record { btt = replicate p.btt None; ptt = replicate p.ptt None }
 
 -- block k of the slot
 abbrev pub start_slot : Parameters → State → ℕ → Block
-start_slot p s k = slot_block_of (cpu_of s) (no_tables p) 0 k
+start_slot p s k = slot_block_of p (cpu_of s) (no_tables p) 0 k

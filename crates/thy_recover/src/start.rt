@@ -60,7 +60,7 @@ pub fn start_slot_block(geometry: &Geometry, state: &MachState, k: u64) -> Block
     ensures { result ≡ start_slot geometry.now (state_of state.now) k }
 {
     let _numbers = geometry.numbers();
-    if k < 5 {
+    if k < geometry.record_blocks() {
         cpu_block(&start_cpu(state), 0, k)
     } else {
         block_with(&[0; 8])

@@ -13,6 +13,8 @@ pub record StaysFitted (given : Given) (passed : ℕ) (n : Device) : Type 0 wher
   pub fits : n.fits ≡ given.fitted.fits
   pub blocks : length n.image ≡ length given.fitted.image
   pub room : n.left_room ≡ given.fitted.left_room
+  pub queue_room : n.queue_room ≡ given.fitted.queue_room
+  pub lent : n.lent ≡ given.fitted.lent
 
 pub StaysFitted-framed : (given : Given) (passed : ℕ) (old new : Device) → IsFramed old new → StaysFitted given passed old → StaysFitted given passed new
 StaysFitted-framed given passed old new f h = record {
@@ -20,6 +22,8 @@ StaysFitted-framed given passed old new f h = record {
   fits = f.fits ∙ h.fits;
   blocks = f.blocks ∙ h.blocks;
   room = f.left_room ∙ h.room;
+  queue_room = f.queue_room ∙ h.queue_room;
+  lent = f.lent ∙ h.lent;
 }
 
 pub StaysFitted-step : {M : Type 0} (K : KindOf M) (o : Origin) (given : Given) (w x : World M) → TakesStep K o w x → StaysFitted given w.passed w.device → StaysFitted given x.passed x.device
@@ -38,6 +42,8 @@ keeps_by {M = M} K o given w x next step h true cut =
       fits = ap (λ (n : Device). n.fits) device ∙ here.fits;
       blocks = cut.cut.crash.same_length ∙ here.blocks;
       room = ap (λ (n : Device). n.left_room) device ∙ here.room;
+      queue_room = ap (λ (n : Device). n.queue_room) device ∙ here.queue_room;
+      lent = ap (λ (n : Device). n.lent) device ∙ here.lent;
     }
 keeps_by {M = M} K o given w x next step h false is =
     subst (λ (y : World M). StaysFitted given y.passed y.device) (sym is) (StaysFitted-step K o given w x step h)
@@ -49,6 +55,8 @@ StaysFitted-ran {M = M} K o given zero w first = record {
   fits = ap (λ (n : Device). n.fits) first.device;
   blocks = ap (λ (n : Device). length n.image) first.device;
   room = ap (λ (n : Device). n.left_room) first.device;
+  queue_room = ap (λ (n : Device). n.queue_room) first.device;
+  lent = ap (λ (n : Device). n.lent) first.device;
 }
 StaysFitted-ran {M = M} K o given (suc k) w (before, ran, cycle) =
     keeps_by K o given before cycle.between w cycle.steps (StaysFitted-ran K o given k before ran) (is_due K o given.config.cuts cycle.between) cycle.cut

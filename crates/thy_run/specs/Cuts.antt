@@ -1,3 +1,4 @@
+-- Part of the claim.
 -- The listed cuts as events.
 use Rattle.std.specs.Prelude.{ℕ, ◌+◌, ◌-◌, Bool, true, false, nat_le, if◌then◌else◌, List, [], ◌∷◌, filter, take_while}
 use Rattle.std.specs.List.{list_any}

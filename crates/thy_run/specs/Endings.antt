@@ -1,3 +1,4 @@
+-- Part of the claim.
 -- What a run leaves at its end: where it stood, what its sinks took, and why it stopped.
 use Rattle.std.specs.Prelude.{◌≡◌, ℕ, ◌<◌, ◌≤◌, Bool, true, false, List, [], ◌∷◌, ◌++◌}
 use Rattle.thy_base.specs.Counts.{Rose}

@@ -1,3 +1,4 @@
+-- Part of the claim.
 -- What the images that the cuts left have to do with the restarts after them.
 use Rattle.std.specs.Prelude.{◌≡◌, ◌≢◌, ℕ, ◌<◌, List, [], ◌∷◌, Option, Some, None}
 use Rattle.thy_base.specs.declared.block.Block.{Block}

@@ -1,3 +1,4 @@
+-- Part of the claim.
 -- What follows for every run, whatever the cuts left.
 use Rattle.std.specs.Prelude.{◌≡◌, ℕ, ◌≤◌, zero, suc, List, [], ◌∷◌, ◌++◌, length, None, Option, Some}
 use Rattle.thy_base.specs.Config.{IsRising}
@@ -48,13 +49,16 @@ abbrev pub torn : List ℕ → ℕ → List ℕ
 torn tears zero = []
 torn tears (suc k) = torn tears k ++ tear tears k ∷ []
 
--- The device that a run leaves has as many blocks as it was fitted with. It has kept an image for each cut, of which there are
--- no more than are listed, and room for as many as it was fitted with.
+-- The device that a run leaves has as many blocks, and as much room in its queue, as it was fitted with, and is reached by the
+-- same loans. It has kept an image for each cut, of which there are no more than are listed, and room for as many as it was
+-- fitted with.
 pub record LeavesRoom (given : Given) (events : List Event) (n : Device) : Type 0 where
   pub blocks : length n.image ≡ length given.fitted.image
   pub kept : length n.left ≡ length (cuts_among events)
   pub few : length n.left ≤ length given.config.cuts
   pub room : n.left_room ≡ given.fitted.left_room
+  pub queue_room : n.queue_room ≡ given.fitted.queue_room
+  pub lent : n.lent ≡ given.fitted.lent
 
 -- What is promised of a run: its events are lawful, its restarts are what the cuts left, of which each left one image, its
 -- cuts are the listed ones and have the listed picks, the device was fitted no second time, has room for one more cut and is

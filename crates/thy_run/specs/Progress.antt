@@ -1,3 +1,4 @@
+-- Part of the claim.
 -- How a run gets on: it is soon over, it is busy on the way, and no cycle of it rests.
 use Rattle.std.specs.Prelude.{◌≡◌, ◌≢◌, ℕ, zero, suc, ◌+◌, ◌*◌, ◌<◌, ◌≤◌, max, Bool, false, ◌&&◌, not, if◌then◌else◌, List, [], ◌∷◌}
 use Rattle.thy_base.specs.declared.config.Parameters.{Parameters}
@@ -17,7 +18,7 @@ last_of (cycle ∷ cycles) = max cycle (last_of cycles)
 -- A run in which k instructions were retired since its power came on has fewer cycles than these: those up to the last
 -- cut, those of the boot behind it, and those of the instructions.
 abbrev pub cycles_for : {M : Type 0} → KindOf M → Parameters → List ℕ → ℕ → ℕ
-cycles_for K p cuts k = last_of cuts + K.most_boot p + K.most_each p * k
+cycles_for K p cuts k = last_of cuts + K.most_ahead p + K.most_each p * k
 
 -- ---- soon over
 

@@ -1,3 +1,4 @@
+-- Part of the claim.
 -- What a sink took of a text that grows.
 use Rattle.std.specs.Prelude.{◌≡◌, ◌≢◌, Bool, true, false, ℕ, List, [], ◌++◌, take}
 use Rattle.thy_base.specs.Outside.{Stream, Took, TookPart}

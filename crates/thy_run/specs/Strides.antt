@@ -1,3 +1,4 @@
+-- Part of the claim.
 -- Of two epochs in a row one retires an instruction.
 use Rattle.std.specs.Prelude.{◌≡◌, ℕ, ◌<◌, ◌==◌, Bool, true, false, List, [], ◌∷◌}
 use Rattle.thy_base.specs.Device.{Device}

@@ -1,3 +1,4 @@
+-- Part of the claim.
 -- A cycle that was begun and is not done, and what stands where a run stopped.
 use Rattle.std.specs.Prelude.{◌≡◌, ◌≢◌, ◌⊎◌, ℕ, true, false, List, [], ◌++◌}
 use Rattle.thy_base.specs.Counts.{Rose}

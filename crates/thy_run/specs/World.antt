@@ -1,3 +1,4 @@
+-- Part of the claim.
 -- A run: its cycles, the power cuts between them, and the events that they give.
 use Rattle.std.specs.Prelude.{◌≡◌, ℕ, zero, suc, ◌+◌, ◌==◌, Bool, true, false, ◌&&◌, not, nat_lt, if◌then◌else◌, MatchBool, List, [], ◌∷◌, ◌++◌, length, slice_index, slice_index_or, None}
 use Rattle.thy_base.specs.declared.config.Config.{Config}

@@ -13,7 +13,7 @@ use crate::plain::{image_of, start_with};
 use std::alloc::Global;
 use std::marker::Model;
 use std::process::Abort;
-use thy_base::{Bytes, EndCause, Geometry, Lcg, Mark, Mix, Nvm, Parameters, Shape};
+use thy_base::{Bytes, EndCause, Geometry, Lcg, Mark, Mix, Nvm, Parameters, SchemeName, Shape};
 use thy_core::Machine;
 use thy_dram::Dram;
 use thy_dual::DualScheme;
@@ -105,6 +105,8 @@ fn numbers_of(epoch: u64, mix: u64) -> Parameters
         low: 16,
         mix,
         limit: 1_000_000_000,
+        scheme: SchemeName::Thynvm,
+        harts: 1,
     }
 }
 

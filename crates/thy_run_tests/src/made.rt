@@ -7,7 +7,7 @@ use crate::expect::{expect, expect_at};
 use crate::geometry::geometry_of;
 use std::alloc::Global;
 use std::process::Abort;
-use thy_base::{Bytes, Geometry, Lcg, Parameters};
+use thy_base::{Bytes, Geometry, Lcg, Parameters, SchemeName};
 use thy_elf::read;
 use thy_isa::{Status, word};
 use thy_make::file;
@@ -29,6 +29,8 @@ static ENOUGH: Parameters = Parameters {
     low: 16,
     mix: 0,
     limit: 1000,
+    scheme: SchemeName::Thynvm,
+    harts: 1,
 };
 
 fn enough(rt: &impl Abort, alloc: Global) -> Geometry

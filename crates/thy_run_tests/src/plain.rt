@@ -7,7 +7,7 @@ use crate::expect::expect;
 use crate::geometry::geometry_of;
 use std::alloc::Global;
 use std::process::Abort;
-use thy_base::{Bytes, Geometry, Parameters};
+use thy_base::{Bytes, Geometry, Parameters, SchemeName};
 use thy_elf::Image;
 use thy_isa::{MachState, Reg, Status};
 use thy_plain::{Plain, start_of};
@@ -28,6 +28,8 @@ static SMALLEST: Parameters = Parameters {
     low: 16,
     mix: 0,
     limit: 1000,
+    scheme: SchemeName::Thynvm,
+    harts: 1,
 };
 
 pub(crate) fn smallest(rt: &impl Abort, alloc: Global) -> Geometry

@@ -1,3 +1,4 @@
+-- Part of the claim.
 -- A scheme as a store of blocks.
 use Rattle.std.specs.Prelude.{◌≡◌, ℕ, true, if◌then◌else◌}
 use Rattle.thy_base.specs.Counts.{Rose}

@@ -1,3 +1,4 @@
+-- Part of the claim.
 -- The checkpoints of a machine whose boot is over.
 use Rattle.std.specs.Prelude.{true, false, if◌then◌else◌, Bool, Option, None, unwrap_or}
 use Rattle.thy_base.specs.declared.mark.Mark.{Mark}

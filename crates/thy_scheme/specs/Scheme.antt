@@ -1,3 +1,4 @@
+-- Part of the claim.
 -- What a scheme of checkpoints is to the machine above it.
 use Rattle.std.specs.Prelude.{◌≡◌, ℕ, false, Bool, List}
 use Rattle.thy_base.specs.declared.block.Block.{Block}

@@ -1,3 +1,4 @@
+-- Part of the claim.
 -- How often each page was stored to, and which pages are counted above or below a threshold.
 use Rattle.std.specs.Prelude.{ℕ, ◌+◌, ◌≤◌, nat_lt, min, Bool, List, length, replicate, slice_index, slice_set, All}
 

@@ -1,3 +1,4 @@
+-- Part of the claim.
 -- A table: what its entries list, and what each call makes of it.
 use Rattle.std.specs.Prelude.{◌≡◌, ℕ, ◌+◌, ◌≤◌, ◌<◌, ◌^◌, ◌==◌, Bool, true, false, List, length, replicate, map, drop, slice_index_or, slice_set, position, count_by, Option, Some, None, is_none, is_some, option_and_then, refl}
 use Rattle.std.specs.Option.{option_map}

@@ -1,3 +1,4 @@
+-- Part of the claim.
 -- Entries of the block translation table, as they are made.
 use Rattle.std.specs.Prelude.{ℕ}
 use Rattle.thy_tables.specs.declared.block_entry.Version.{Version}

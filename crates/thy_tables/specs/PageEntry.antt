@@ -1,3 +1,4 @@
+-- Part of the claim.
 -- Entries of the page translation table, as they are made.
 use Rattle.std.specs.Prelude.{ℕ, Bool, true, false, ◌==◌}
 use Rattle.thy_tables.specs.declared.page_entry.Site.{Site}

@@ -8,7 +8,7 @@ use crate::expect::expect;
 use crate::geometry::geometry_of;
 use std::alloc::Global;
 use std::process::Abort;
-use thy_base::{Block, Bytes, Geometry, Nvm, Parameters, Shape};
+use thy_base::{Block, Bytes, Geometry, Nvm, Parameters, SchemeName, Shape};
 use thy_control::Control;
 use thy_dram::Dram;
 use thy_isa::{CpuState, MachState, Regs, Status};
@@ -38,6 +38,8 @@ fn least() -> Parameters
         low: 16,
         mix: 0,
         limit: 1,
+        scheme: SchemeName::Thynvm,
+        harts: 1,
     }
 }
 

@@ -8,7 +8,7 @@ use crate::expect::expect;
 use crate::geometry::geometry_of;
 use std::alloc::Global;
 use std::process::Abort;
-use thy_base::{Block, BlockStore, Geometry, Lcg, Nvm, Parameters, Shape, Stored};
+use thy_base::{Block, BlockStore, Geometry, Lcg, Nvm, Parameters, SchemeName, Shape, Stored};
 use thy_control::{Control, a_new_controller_is_ready, blocks_are_works};
 use thy_dram::Dram;
 use thy_nvm::MemNvm;
@@ -29,6 +29,8 @@ static LEAST: Parameters = Parameters {
     low: 0,
     mix: 0,
     limit: 1,
+    scheme: SchemeName::Thynvm,
+    harts: 1,
 };
 
 /// What memory has to hold, block by block.

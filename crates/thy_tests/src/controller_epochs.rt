@@ -11,7 +11,7 @@ use crate::expect::expect;
 use crate::geometry::geometry_of;
 use std::alloc::Global;
 use std::process::Abort;
-use thy_base::{Block, Geometry, Lcg, Nvm, Parameters, Stored};
+use thy_base::{Block, Geometry, Lcg, Nvm, Parameters, SchemeName, Stored};
 use thy_control::Control;
 use thy_nvm::MemNvm;
 
@@ -35,6 +35,8 @@ static LEAST: Parameters = Parameters {
     low: 3,
     mix: 0,
     limit: 1,
+    scheme: SchemeName::Thynvm,
+    harts: 1,
 };
 
 /// What memory has to hold, block by block, in each version.

@@ -9,7 +9,7 @@ use crate::expect::expect;
 use crate::geometry::geometry_of;
 use std::alloc::Global;
 use std::process::Abort;
-use thy_base::{Block, Nvm, Parameters, Stored};
+use thy_base::{Block, Nvm, Parameters, SchemeName, Stored};
 use thy_control::Control;
 use thy_nvm::MemNvm;
 
@@ -33,6 +33,8 @@ fn least(btt: u64) -> Parameters
         low: 16,
         mix: 0,
         limit: 1,
+        scheme: SchemeName::Thynvm,
+        harts: 1,
     }
 }
 

@@ -9,7 +9,7 @@ use crate::memory::{Memory, block_of};
 use crate::starting::{Off, Starting, Taken};
 use std::alloc::Global;
 use std::process::Abort;
-use thy_base::{Block, Bytes, Parameters, Stored};
+use thy_base::{Block, Bytes, Parameters, SchemeName, Stored};
 use thy_isa::{MachState, Regs, Status};
 use thy_record::{EngineStep, Start};
 use thy_recover::BootStep;
@@ -32,6 +32,8 @@ fn least() -> Parameters {
         low: 16,
         mix: 0,
         limit: 1,
+        scheme: SchemeName::Thynvm,
+        harts: 1,
     }
 }
 

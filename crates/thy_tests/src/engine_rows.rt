@@ -6,7 +6,7 @@ use crate::expect::{expect, expect_at};
 use crate::memory::Memory;
 use std::alloc::Global;
 use std::process::Abort;
-use thy_base::{Block, Parameters, Stored};
+use thy_base::{Block, Parameters, SchemeName, Stored};
 use thy_record::EngineStep;
 
 /// The least memory, with a block table of so many entries. A page is stored to densely by more than 22 stores of an
@@ -29,6 +29,8 @@ fn least(btt: u64) -> Parameters
         low: 16,
         mix: 0,
         limit: 1,
+        scheme: SchemeName::Thynvm,
+        harts: 1,
     }
 }
 

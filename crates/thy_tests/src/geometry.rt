@@ -35,5 +35,7 @@ fn without_cuts(alloc: Global, numbers: &Parameters) -> Config
         cuts: Numbers::from_vec(Vec::new(alloc)),
         tears: Numbers::from_vec(Vec::new(alloc)),
         limit: numbers.limit,
+        scheme: numbers.scheme,
+        harts: numbers.harts,
     }
 }

@@ -6,7 +6,7 @@ use crate::geometry::geometry_of;
 use std::alloc::{AllocError, Global};
 use std::process::Abort;
 use std::test::Fail;
-use thy_base::{BLOCK_SIZE, Geometry, Parameters};
+use thy_base::{BLOCK_SIZE, Geometry, Parameters, SchemeName};
 use thy_isa::{MachState, Status};
 use thy_record::{BadImage, Found, check, header_block, state, table_block};
 
@@ -28,6 +28,8 @@ static NUMBERS: Parameters = Parameters {
     low: 2,
     mix: 0,
     limit: 1000,
+    scheme: SchemeName::Thynvm,
+    harts: 1,
 };
 
 const BLOCKS: usize = 1048;

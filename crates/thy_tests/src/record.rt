@@ -5,7 +5,7 @@ use crate::expect::{expect, expect_at};
 use crate::geometry::geometry_of;
 use std::alloc::Global;
 use std::process::Abort;
-use thy_base::{Block, Geometry, Parameters, word};
+use thy_base::{Block, Geometry, Parameters, SchemeName, word};
 use thy_isa::{CpuState, Reg, Regs, Status};
 use thy_record::{
     BadImage, commit_block, commit_fault, cpu_block, cpu_state, header_block, header_fault, is_zero,
@@ -27,6 +27,8 @@ static NUMBERS: Parameters = Parameters {
     low: 2,
     mix: 0,
     limit: 1000,
+    scheme: SchemeName::Thynvm,
+    harts: 1,
 };
 
 fn geometry(rt: &impl Abort, alloc: Global) -> Geometry {

@@ -1,3 +1,4 @@
+-- Part of the claim.
 -- The closing lines of a report, as bytes.
 use Rattle.std.specs.Prelude.{ℕ, List, [], ◌∷◌, codes}
 use Rattle.std.specs.Fmt.{decimal}

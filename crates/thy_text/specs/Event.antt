@@ -1,3 +1,4 @@
+-- Part of the claim.
 -- The events of a run, with the states of the plain machine.
 use Rattle.std.specs.Prelude.{ℕ}
 use Rattle.thy_base.specs.declared.cause.EndCause.{EndCause}

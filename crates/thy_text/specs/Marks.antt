@@ -1,3 +1,4 @@
+-- Part of the claim.
 -- The checkpoints that events tell of, and the events that may come after others.
 use Rattle.std.specs.Prelude.{◌≡◌, ◌≢◌, ◌⊎◌, ℕ, ◌+◌, ◌<◌, ◌≤◌, true, false, List, [], ◌∷◌, Option, Some, None}
 use Rattle.thy_base.specs.declared.cause.EndCause.{EndCause}

@@ -1,3 +1,4 @@
+-- Part of the claim.
 -- What the terminal has of the console.
 use Rattle.std.specs.Prelude.{ℕ, Bool, true, false, if◌then◌else◌, List, [], Option, Some, None}
 use Rattle.std.specs.List.{list_any}

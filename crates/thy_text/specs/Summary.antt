@@ -1,3 +1,4 @@
+-- Part of the claim.
 -- The line that sums a run up, as bytes.
 use Rattle.std.specs.Prelude.{ℕ, Bool, true, false, List, [], ◌∷◌, codes, count_by, sum_by}
 use Rattle.std.specs.Fmt.{decimal}

@@ -1,3 +1,4 @@
+-- Part of the claim.
 -- What a cycle asks of the device, and what that leaves.
 use Rattle.std.specs.Prelude.{◌≡◌, ◌≢◌, ℕ, ◌==◌, ◌||◌, Bool, false, if◌then◌else◌, Option, None}
 use Rattle.thy_base.specs.declared.block.Block.{Block}

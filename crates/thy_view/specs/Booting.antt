@@ -1,3 +1,4 @@
+-- Part of the claim.
 -- What is seen of a machine that boots.
 use Rattle.std.specs.Prelude.{ℕ, false, Option, Some, None}
 use Rattle.thy_base.specs.declared.mark.Mark.{Mark}

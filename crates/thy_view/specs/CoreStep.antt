@@ -1,3 +1,4 @@
+-- Part of the claim.
 -- How a cycle changes the view.
 use Rattle.std.specs.Prelude.{◌≡◌, ◌⊎◌, ℕ, ◌+◌, ◌<◌, ◌≤◌, ◌==◌, true, false, if◌then◌else◌, Option, Some, None}
 use Rattle.thy_base.specs.declared.cause.EndCause.{EndCause}

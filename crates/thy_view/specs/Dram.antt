@@ -1,3 +1,4 @@
+-- Part of the claim.
 -- What a cycle makes of the DRAM, and which block it writes, of either device.
 use Rattle.std.specs.Prelude.{◌≡◌, ◌⊎◌, ℕ}
 use Rattle.thy_base.specs.declared.block.Block.{Block}

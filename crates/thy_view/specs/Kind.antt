@@ -1,3 +1,4 @@
+-- Part of the claim.
 -- What a machine is to the layers above: what is seen of it, what its calls promise, and the laws that hold of it.
 use Rattle.std.specs.Prelude.{◌≡◌, ℕ, ◌+◌, ◌*◌, ◌^◌, ◌<◌, ◌≤◌, ◌&&◌, ◌||◌, not, is_some, Bool, true, false, List, [], length, drop, Option, Some, None, Result, IfOk, OnErr, ◌⊎◌, Err}
 use Rattle.thy_base.specs.declared.block.Block.{Block}
@@ -69,7 +70,7 @@ pub record KindOf (M : Type 0) : Type 1 where
   pub most_owed : Parameters → ℕ
   pub most_promotions : Parameters → ℕ
   -- what lies ahead when power comes on, and what an instruction adds, at the most
-  pub most_boot : Parameters → ℕ
+  pub most_ahead : Parameters → ℕ
   pub most_each : Parameters → ℕ
 
 -- ---- the calls
@@ -244,7 +245,7 @@ pub record IsFittedFor {M : Type 0} (K : KindOf M) (o : Origin) (shape : Shape) 
 pub record IsPoweredOn {M : Type 0} (K : KindOf M) (o : Origin) (m : M) (n : Device) : Type 0 where
   pub queued : (K.gauge m n).queued ≡ 0
   pub boot_left : (K.gauge m n).boot_left ≤ K.most_booting o.geometry
-  pub ahead : K.ahead o m n ≤ K.most_boot o.geometry
+  pub ahead : K.ahead o m n ≤ K.most_ahead o.geometry
 
 -- what holds of every machine of a type
 pub record IsLawful {M : Type 0} (K : KindOf M) : Type 0 where

@@ -1,3 +1,4 @@
+-- Part of the claim.
 -- Where a run starts, and the plain machine from there on.
 use Rattle.std.specs.Prelude.{◌≡◌, ℕ, ◌-◌, ◌^◌, ◌<◌, List, length, Bool, Option, Some, None}
 use Rattle.thy_base.specs.declared.config.Parameters.{Parameters}

@@ -1,3 +1,4 @@
+-- Part of the claim.
 -- How far a machine is from what it is about, in numbers that it keeps to itself, and how each cycle changes them.
 use Rattle.std.specs.Prelude.{◌≡◌, ℕ, ◌+◌, ◌<◌, ◌≤◌, ◌==◌, Bool, true, false, MatchBool}
 use Rattle.thy_view.specs.declared.did.Did.{Did}

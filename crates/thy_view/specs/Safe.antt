@@ -1,3 +1,4 @@
+-- Part of the claim.
 -- What a power cut may leave: an image that decodes to a mark, whole.
 use Rattle.std.specs.Prelude.{◌≡◌, ◌⊎◌, ℕ, ◌^◌, List, Option, Some, None}
 use Rattle.thy_base.specs.declared.block.Block.{Block}

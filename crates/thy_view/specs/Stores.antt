@@ -1,3 +1,4 @@
+-- Part of the claim.
 -- How many blocks the plain machine's next instruction stores to.
 use Rattle.std.specs.Prelude.{ℕ, ◌==◌, if◌then◌else◌}
 use Rattle.thy_flat.specs.declared.span.Span.{Span}

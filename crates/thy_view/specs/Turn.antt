@@ -1,3 +1,4 @@
+-- Part of the claim.
 -- Who takes a cycle.
 use Rattle.std.specs.Prelude.{◌≡◌, ◌≢◌, ◌⊎◌, ℕ, ◌==◌, Bool, true, false, ◌&&◌, ◌||◌, not, is_some, option_map, if◌then◌else◌, Option, Some, None}
 use Rattle.thy_base.specs.declared.cause.EndCause.{EndCause}

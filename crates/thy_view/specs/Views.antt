@@ -1,3 +1,4 @@
+-- Part of the claim.
 -- What a view says at a glance.
 use Rattle.std.specs.Prelude.{Bool, true, false, ◌&&◌, ◌||◌, ◌==◌, not, is_none, if◌then◌else◌, Option, None}
 use Rattle.thy_base.specs.declared.mark.Mark.{Mark}

@@ -1,3 +1,4 @@
+-- Part of the claim.
 -- What is left of an instruction, of copies and of promotions, and what each cycle gets done of it.
 use Rattle.std.specs.Prelude.{◌≡◌, ◌⊎◌, ℕ, ◌+◌, ◌≤◌, Bool, true, false}
 use Rattle.thy_base.specs.Device.{Device}

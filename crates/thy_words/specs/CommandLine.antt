@@ -1,3 +1,4 @@
+-- Part of the claim.
 -- The program's command line, as data: what `clap` is told of it.
 use Rattle.std.specs.Prelude.{◌≡◌, ◌++◌, Some, true, false, List, [], ◌∷◌, codes, fold, map}
 use Rattle.clap.specs.Walk.{Rule, Text, rule_of}

@@ -1,3 +1,4 @@
+-- Part of the claim.
 -- The fields of a configuration as the words give them.
 use Rattle.std.specs.Prelude.{ℕ, Bool, true, false, if◌then◌else◌, List, [], ◌∷◌, Option, find}
 use Rattle.std.specs.Prelude.{not, option_and_then, unwrap_or}
@@ -6,6 +7,7 @@ use Rattle.clap.specs.Walk.{Row, Text, first_of}
 use Rattle.thy_base.specs.declared.config.Config.{Config}
 use Rattle.thy_base.specs.declared.config.Field.{Field}
 use Rattle.thy_base.specs.declared.config.Field.TheVariants.{Base, Pages, Console, Epoch, Btt, Ptt, Sets, Ways, Nvmq, Dramq, High, Low, Mix, Cuts, Tears, Limit, N}
+use Rattle.thy_base.specs.declared.config.SchemeName.TheVariants.{Thynvm}
 use Rattle.thy_base.specs.Fields.{field_name}
 use Rattle.thy_words.specs.Numbers.{is_list, is_number, number_in, numbers_in}
 
@@ -52,7 +54,7 @@ number_at rows f otherwise = unwrap_or (option_and_then number_in (text_of rows 
 abbrev pub list_at : List Row → Field → List ℕ
 list_at rows f = option_map_or numbers_in (text_of rows f) []
 
--- the configuration of rows in which each field is readable
+-- the configuration of rows in which each field is readable; no option sets the scheme or the number of harts so far
 abbrev pub config_at : List Row → Config
 config_at rows = record {
   base = number_at rows Base 65536;
@@ -71,4 +73,6 @@ config_at rows = record {
   cuts = list_at rows Cuts;
   tears = list_at rows Tears;
   limit = number_at rows Limit 1000000000;
+  scheme = Thynvm;
+  harts = 1;
 }

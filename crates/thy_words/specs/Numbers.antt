@@ -1,3 +1,4 @@
+-- Part of the claim.
 -- Numbers and lists of numbers as words write them.
 use Rattle.std.specs.Prelude.{◌==◌, ◌&&◌, ℕ, Bool, List, Option, Some, None, if◌then◌else◌}
 use Rattle.std.specs.Prelude.{length, nat_le, nat_lt, map, unwrap_or}

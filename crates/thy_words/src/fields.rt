@@ -8,7 +8,7 @@ ghost use Rattle.thy_words.specs.Fields.{config_at, is_readable, list_at, number
 use crate::numbers::{is_list, is_number, number, numbers};
 use clap::ArgMatches;
 use std::alloc::{AllocError, Global};
-use thy_base::{Config, Field, Numbers};
+use thy_base::{Config, Field, Numbers, SchemeName};
 
 /// The fields, in the order in which they are read.
 static FIELDS: [Field; 17] = [
@@ -125,5 +125,7 @@ pub(crate) fn config_at(alloc: Global, matches: &ArgMatches<'_>) -> Result<Confi
         cuts,
         tears,
         limit: number_at(matches, Field::Limit, 1_000_000_000),
+        scheme: SchemeName::Thynvm,
+        harts: 1,
     })
 }

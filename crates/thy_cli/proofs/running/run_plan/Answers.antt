@@ -30,7 +30,7 @@ run-ending-requires-clause-fitted g c = record {
   shape = _;
   start = c.args.blocks.now;
   before = g.N.Nvm.device c.args.nvm.now;
-  fits = fitted_for_plan g.M.Computer.kind g.met.M.Computer.lawful c.requires.reads c.args.plan.now c.args.blocks.now _ (g.N.Nvm.device c.args.nvm.now) c.requires.can c.nvm_blocks.ensures;
+  fits = fitted_for_plan g.M.Computer.kind g.met.M.Computer.lawful c.args.plan.now c.requires.reads c.args.blocks.now _ (g.N.Nvm.device c.args.nvm.now) c.requires.can c.nvm_blocks.ensures;
   queue = ap (λ (x : Parameters). x.nvmq) c.numbers.ensures.same;
   cuts = c.len.ensures;
   is_fitted = c.in-Ok.ensures.ok;
@@ -42,7 +42,7 @@ save_run-why-requires g c =
     HasRoom-ran g.M.Computer.kind g.met.M.Computer.lawful c.args.plan.now c.args.blocks.now shape (g.N.Nvm.device c.args.nvm.now) (g.N.Nvm.device c.fit.new.self) (g.N.Nvm.device c.run-ending.new.nvm) c.run-ending.result
     (g.T.Sink.stream c.args.terminal.now) (g.T.Sink.stream c.run-ending.new.terminal) (g.R.Sink.stream c.args.report.now) (g.R.Sink.stream c.run-ending.new.report)
     c.requires.can.planned c.in-Ok.ensures.ok
-    (fitted_for_plan g.M.Computer.kind g.met.M.Computer.lawful c.requires.reads c.args.plan.now c.args.blocks.now shape (g.N.Nvm.device c.args.nvm.now) c.requires.can c.nvm_blocks.ensures).fits
+    (fitted_for_plan g.M.Computer.kind g.met.M.Computer.lawful c.args.plan.now c.requires.reads c.args.blocks.now shape (g.N.Nvm.device c.args.nvm.now) c.requires.can c.nvm_blocks.ensures).fits
     c.len.ensures c.run-ending.ensures
 
 pub returns-in-Ok : goal.returns-in-Ok

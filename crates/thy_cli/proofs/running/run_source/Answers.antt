@@ -3,6 +3,7 @@ use Rattle.thy_base.specs.Geometry.{parameters_of}
 use Rattle.thy_base.specs.Outside.{Stock}
 use Rattle.thy_words.specs.Settings.{Job, job_of}
 use Rattle.thy_cli.specs.Answering.{Outside, outside}
+use Rattle.thy_cli.specs.Restoring.{ReadsFiles}
 use Rattle.thy_cli.specs.Planning.{Begins, CanRun, IsPlanOf, IsPlannedFor, named}
 use Rattle.thy_cli.proofs.TopLemmas.{IsBegun, IsBegun-begins, plan_with, RunAnswered-same, RunDue-program, geometry_is, stock_same}
 use Rattle.thy_cli.proofs.running.run_source.Goals as goal
@@ -47,3 +48,7 @@ returns g c =
     RunAnswered-same g.M.Computer.kind (named c.args.source) job old middle (g.H.Shelf.stock c.run_plan.new.shelf) (g.N.Nvm.device c.args.nvm.now) (g.N.Nvm.device c.run_plan.new.nvm)
     (g.T.Sink.stream c.args.terminal.now) (g.T.Sink.stream c.run_plan.new.terminal) (g.R.Sink.stream c.args.report.now) (g.R.Sink.stream c.run_plan.new.report) c.run_plan.result same
     (c.run_plan.ensures job (sym c.as_deref-2.ensures.value) (subst (IsPlanOf (named c.args.source) job middle (plan_with job.config c.in-Ok.geometry c.in-Ok-prepare.beginning.start job.digest)) (sym c.as_slice.ensures.value) begun.is_plan))
+
+pub run_plan-requires-clause-reads : goal.run_plan-requires-clause-reads
+run_plan-requires-clause-reads g c =
+    subst (ReadsFiles g.M.Computer.kind) (sym (geometry_is (job_of c.args.job).config c.in-Ok.geometry c.requires.range c.in-Ok.ensures.geometry)) c.requires.reads

@@ -13,33 +13,33 @@ pub returns-in-Ok-Run : goal.returns-in-Ok-Run
 returns-in-Ok-Run g c =
     let shown : Command → Result Order WordsError = λ x. Ok (order_of x) in
     let before : Outside = outside (g.H.Shelf.stock c.args.shelf.now) (g.N.Nvm.device c.args.nvm.now) (g.T.Sink.stream c.args.terminal.now) (g.R.Sink.stream c.args.report.now) in
-    let after : Outside = outside (g.H.Shelf.stock c.run_source.new.shelf) (g.N.Nvm.device c.run_source.new.nvm) (g.T.Sink.stream c.run_source.new.terminal) (g.R.Sink.stream c.run_source.new.report) in
+    let after : Outside = outside (g.H.Shelf.stock c.run_by_scheme.new.shelf) (g.N.Nvm.device c.run_by_scheme.new.nvm) (g.T.Sink.stream c.run_by_scheme.new.terminal) (g.R.Sink.stream c.run_by_scheme.new.report) in
     Claim-answered _ _ before after _ (inr (
       run (string_bytes c.in-Ok-Run.file) (job_of c.in-Ok-Run.job),
       c.in-Ok-Run.ensures.exact ∙ ap shown c.in-Ok-Run.field-0-is,
-      RunAnswered-file _ c.as_str.result.now (string_bytes c.in-Ok-Run.file) (job_of c.in-Ok-Run.job) before after c.run_source.result c.as_str.ensures.value c.run_source.ensures,
+      RunAnswered-file _ c.as_str.result.now (string_bytes c.in-Ok-Run.file) (job_of c.in-Ok-Run.job) before after c.run_by_scheme.result c.as_str.ensures.value c.run_by_scheme.ensures,
     ))
 
 pub returns-in-Ok-Resume : goal.returns-in-Ok-Resume
 returns-in-Ok-Resume g c =
     let shown : Command → Result Order WordsError = λ x. Ok (order_of x) in
     let before : Outside = outside (g.H.Shelf.stock c.args.shelf.now) (g.N.Nvm.device c.args.nvm.now) (g.T.Sink.stream c.args.terminal.now) (g.R.Sink.stream c.args.report.now) in
-    let after : Outside = outside (g.H.Shelf.stock c.run_source-in-Ok-Resume.new.shelf) (g.N.Nvm.device c.run_source-in-Ok-Resume.new.nvm) (g.T.Sink.stream c.run_source-in-Ok-Resume.new.terminal) (g.R.Sink.stream c.run_source-in-Ok-Resume.new.report) in
+    let after : Outside = outside (g.H.Shelf.stock c.run_by_scheme-in-Ok-Resume.new.shelf) (g.N.Nvm.device c.run_by_scheme-in-Ok-Resume.new.nvm) (g.T.Sink.stream c.run_by_scheme-in-Ok-Resume.new.terminal) (g.R.Sink.stream c.run_by_scheme-in-Ok-Resume.new.report) in
     Claim-answered _ _ before after _ (inr (
       resume (string_bytes c.in-Ok-Resume.image) (job_of c.in-Ok-Resume.job),
       c.in-Ok-Resume.ensures.exact ∙ ap shown c.in-Ok-Resume.field-0-is,
-      RunAnswered-image _ c.as_str-in-Ok-Resume.result.now (string_bytes c.in-Ok-Resume.image) (job_of c.in-Ok-Resume.job) before after c.run_source-in-Ok-Resume.result c.as_str-in-Ok-Resume.ensures.value c.run_source-in-Ok-Resume.ensures,
+      RunAnswered-image _ c.as_str-in-Ok-Resume.result.now (string_bytes c.in-Ok-Resume.image) (job_of c.in-Ok-Resume.job) before after c.run_by_scheme-in-Ok-Resume.result c.as_str-in-Ok-Resume.ensures.value c.run_by_scheme-in-Ok-Resume.ensures,
     ))
 
 pub returns-in-Ok-Bench : goal.returns-in-Ok-Bench
 returns-in-Ok-Bench g c =
     let shown : Command → Result Order WordsError = λ x. Ok (order_of x) in
     let before : Outside = outside (g.H.Shelf.stock c.args.shelf.now) (g.N.Nvm.device c.args.nvm.now) (g.T.Sink.stream c.args.terminal.now) (g.R.Sink.stream c.args.report.now) in
-    let after : Outside = outside (g.H.Shelf.stock c.run_source-in-Ok-Bench.new.shelf) (g.N.Nvm.device c.run_source-in-Ok-Bench.new.nvm) (g.T.Sink.stream c.run_source-in-Ok-Bench.new.terminal) (g.R.Sink.stream c.run_source-in-Ok-Bench.new.report) in
+    let after : Outside = outside (g.H.Shelf.stock c.run_by_scheme-in-Ok-Bench.new.shelf) (g.N.Nvm.device c.run_by_scheme-in-Ok-Bench.new.nvm) (g.T.Sink.stream c.run_by_scheme-in-Ok-Bench.new.terminal) (g.R.Sink.stream c.run_by_scheme-in-Ok-Bench.new.report) in
     Claim-answered _ _ before after _ (inr (
       bench c.in-Ok-Bench.number (job_of c.in-Ok-Bench.job),
       c.in-Ok-Bench.ensures.exact ∙ ap shown c.in-Ok-Bench.field-0-is,
-      c.run_source-in-Ok-Bench.ensures,
+      c.run_by_scheme-in-Ok-Bench.ensures,
     ))
 
 pub returns-in-Ok-Plain : goal.returns-in-Ok-Plain

@@ -1,9 +1,8 @@
-use Rattle.std.proofs.Common.{length, sym, ap, ◌∙◌}
-use Rattle.thy_base.specs.Device.{cut_to}
+use Rattle.std.proofs.Common.{length, false, sym, ap, ◌∙◌}
 use Rattle.thy_ring.specs.Held.{device_of}
 use Rattle.thy_nvm.specs.Kept.{with_cut}
-use Rattle.thy_nvm.specs.DeviceInMemory.{InMemory, device_in}
-use Rattle.thy_nvm.specs.Pick.{picked}
+use Rattle.thy_nvm.specs.DeviceInMemory.{InMemory, in_memory, device_in}
+use Rattle.thy_nvm.specs.Pick.{cut_by}
 use Rattle.thy_nvm.proofs.PickLemmas.{Crash-picked, IsCut-picked}
 use Rattle.thy_nvm.proofs.mem_nvm.MemNvmNvm.cut.Goals as goal
 
@@ -21,12 +20,13 @@ invariant_of-self c =
     ∙ sym (Crash-picked c.args.pick (device_of c.self.inside.ring)).same_length
     ∙ ap (λ r. length r.image) (sym c.leave.ensures)
 
-pub returns-clause-image : goal.returns-clause-image
-returns-clause-image c =
-    ap (λ cuts. device_in c.leave.new.ring cuts c.self.inside.fits)
+pub returns-clause-exact : goal.returns-clause-exact
+returns-clause-exact c =
+    ap (λ cuts. in_memory (device_in c.leave.new.ring cuts false c.self.inside.faults c.self.inside.fits) c.self.inside.writes c.self.inside.calls)
     (c.keep.ensures ∙ ap (λ image. with_cut c.self.inside.kept c.args.pick image) c.image.ensures)
-    ∙ ap (λ r. device_in r (with_cut c.self.inside.kept c.args.pick r.image) c.self.inside.fits) c.leave.ensures
-    ∙ ap (λ (m : InMemory). cut_to m.device c.args.pick (picked c.args.pick m.device.image m.device.queue)) c.self.view_is
+    ∙ ap (λ r. in_memory (device_in r (with_cut c.self.inside.kept c.args.pick r.image) false c.self.inside.faults c.self.inside.fits)
+    c.self.inside.writes c.self.inside.calls) c.leave.ensures
+    ∙ ap (λ (m : InMemory). cut_by c.args.pick m) c.self.view_is
 
 pub returns-clause-cut : goal.returns-clause-cut
-returns-clause-cut c = IsCut-picked c.args.pick _ _ (returns-clause-image c)
+returns-clause-cut c = IsCut-picked c.args.pick _ _ (ap (λ (m : InMemory). m.device) (returns-clause-exact c))

@@ -1,0 +1,18 @@
+-- Part of the claim.
+-- Which machine runs a configuration: that of its scheme.
+use Rattle.thy_base.specs.declared.config.SchemeName.{SchemeName}
+use Rattle.thy_base.specs.declared.config.SchemeName.TheVariants.{Thynvm}
+use Rattle.thy_view.specs.Kind.{KindOf}
+
+-- machines of some type, with what is seen of them
+pub record Machines : Type 1 where
+  pub Machine : Type 0
+  pub kind : KindOf Machine
+
+-- a machine for each scheme
+abbrev pub Choice : Type 1
+Choice = SchemeName → Machines
+
+-- each scheme has its own
+abbrev pub by_scheme : {M : Type 0} → KindOf M → Choice
+by_scheme {M = M} thynvm Thynvm = record { Machine = M; kind = thynvm }

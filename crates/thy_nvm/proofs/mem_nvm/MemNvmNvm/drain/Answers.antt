@@ -1,0 +1,11 @@
+use Rattle.std.proofs.Common.{ap}
+use Rattle.thy_base.specs.Device.{drained}
+use Rattle.thy_base.proofs.DeviceLemmas.{no_more-drained}
+use Rattle.thy_nvm.specs.DeviceInMemory.{InMemory, on_device}
+use Rattle.thy_nvm.proofs.CallLemmas.{HasFailed-left}
+use Rattle.thy_nvm.proofs.mem_nvm.MemNvmNvm.drain.Goals as goal
+
+pub returns-clause-err : goal.returns-clause-err
+returns-clause-err c =
+    HasFailed-left (on_device drained) drained _ _ _ _ _ (ap (λ (m : InMemory). m.device) c.self.view_is) no_more-drained c.drain_unless.ensures.fails
+    c.drain_unless.ensures.leaves

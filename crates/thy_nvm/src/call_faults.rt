@@ -1,0 +1,98 @@
+//! Which calls of a device fail, and how.
+ghost use Rattle.std.specs.Prelude.{◌≡◌, [], IfOk};
+ghost use Rattle.thy_nvm.specs.Calls.{no_calls, counted, next_fault, is_listed};
+
+use std::alloc::{AllocError, Global};
+use std::marker::Model;
+
+/// How a call fails.
+#[derive(Clone, Copy, Debug, PartialEq, Eq)]
+pub(crate) enum Fault {
+    /// It does nothing.
+    Undone,
+    /// It is done, a barrier by half.
+    Late,
+}
+
+/// How many calls were made, and the numbers of those that fail.
+#[derive(Drop)]
+pub(crate) struct CallFaults {
+    // Stands at the last value.
+    made: u64,
+    failing: Vec<u64>,
+    late: Vec<u64>,
+}
+
+impl Model for CallFaults {
+    ghost use Rattle.thy_nvm.specs.Calls.{Calls, calls_in};
+
+    ghost Value = { Calls };
+
+    ghost view = { λ c. calls_in c.made c.failing.items c.late.items };
+}
+
+impl CallFaults {
+    /// No call is made yet, and none will fail. Takes no memory.
+    pub(crate) fn none(alloc: Global) -> CallFaults
+        ensures { result ≡ no_calls [] [] }
+    {
+        CallFaults {
+            made: 0,
+            failing: Vec::new(alloc),
+            late: Vec::new(alloc),
+        }
+    }
+
+    /// The calls of these numbers will do nothing.
+    pub(crate) fn failing(alloc: Global, numbers: &[u64]) -> Result<CallFaults, AllocError>
+        ensures { IfOk result (λ c. c ≡ no_calls numbers.now []) }
+    {
+        let failing = Vec::from_slice(alloc, numbers)?;
+        Ok(CallFaults {
+            made: 0,
+            failing,
+            late: Vec::new(alloc),
+        })
+    }
+
+    /// The calls of these numbers will fail late.
+    pub(crate) fn late(alloc: Global, numbers: &[u64]) -> Result<CallFaults, AllocError>
+        ensures { IfOk result (λ c. c ≡ no_calls [] numbers.now) }
+    {
+        let late = Vec::from_slice(alloc, numbers)?;
+        Ok(CallFaults {
+            made: 0,
+            failing: Vec::new(alloc),
+            late,
+        })
+    }
+
+    /// How many calls were made.
+    pub(crate) fn made(&self) -> u64
+        ensures { result ≡ self.now.made }
+    {
+        self.made
+    }
+
+    /// Counts a call, and answers how it fails, if it does.
+    pub(crate) fn next(&mut self) -> Option<Fault>
+        ensures fault { result ≡ next_fault self.old }
+        ensures counted { self.new ≡ counted self.old }
+    {
+        self.made = self.made.saturating_add(1);
+        if lists(&self.failing, self.made) {
+            Some(Fault::Undone)
+        } else if lists(&self.late, self.made) {
+            Some(Fault::Late)
+        } else {
+            None
+        }
+    }
+}
+
+/// Whether a number is listed.
+fn lists(numbers: &[u64], number: u64) -> bool
+    ensures { result ≡ is_listed number numbers.now }
+{
+    !numbers.is_empty() && numbers.contains(&number)
+}

@@ -1,0 +1,301 @@
+//! The files of the system, and how a put makes a name hold bytes. Where it can, it makes a new file beside the name
+//! and then renames that over it, so that the name has its old bytes or all of the new ones at each moment.
+ghost use Rattle.std.specs.Prelude.{◌≡◌, ◌≢◌, ◌++◌, codes, IfSome, IfOk, OnOk, OnErr, true};
+ghost use Rattle.thy_out.specs.Replacing.{one_done, one_failed, counted, counted_as};
+
+use crate::target::Target;
+use arrayvec::ArrayString;
+use std::fs::{Files, Metadata, OpenFile, OpenOptions};
+use std::io::{Error, ErrorKind};
+use std::marker::Model;
+use std::os::unix::fs::{MetadataExt, OpenOptionsExt, lchown};
+use std::{fs, io};
+use thy_base::SinkError;
+
+/// What follows a name in the name of the file that is made beside it.
+const SUFFIX: &str = ".thynvm-new";
+
+/// The longest path that the system takes, in bytes.
+const LONGEST: usize = 4096;
+
+/// The files that the runtime reaches, and two counts: of the puts that were done, and of those that failed at a
+/// call. A name is a path.
+#[derive(Drop)]
+pub struct Disk<R> {
+    rt: R,
+    puts: u64,
+    failures: u64,
+}
+
+impl<R> Model for Disk<R> {
+    ghost use Rattle.thy_out.specs.Replacing.{Tally};
+
+    ghost Value = { Tally };
+
+    ghost view = { λ s. record { puts = s.puts; failures = s.failures } };
+}
+
+/// What came of a put by a new file.
+#[derive(Clone, Copy, PartialEq, Eq)]
+pub enum Replaced {
+    /// The name has the new file.
+    Done,
+    /// The system lets no file be made beside the name, or none take its place. The name has what it had.
+    Refused,
+    /// A call failed. The name has what it had.
+    Failed,
+}
+
+/// What stands under a name.
+#[derive(Drop)]
+enum Standing {
+    /// Nothing.
+    Nothing,
+    /// A file that has no other name and may be written.
+    Alone(Metadata),
+    /// A folder, a link, a pipe, a device, a file with several names or one that may not be written.
+    Other,
+}
+
+/// The name of the file that is made beside a name, unless it is too long.
+fn side_name(name: &str) -> Option<ArrayString<LONGEST>>
+    ensures { IfSome result (λ side. side.bytes ≡ name.now ++ codes ".thynvm-new") }
+{
+    let mut side = ArrayString::new();
+    if side.try_push_str(name).is_err() || side.try_push_str(SUFFIX).is_err() {
+        return None;
+    }
+    Some(side)
+}
+
+/// Whether this error says that the system does not let a file be made, or renamed, in this place.
+fn is_refusal(error: &Error) -> bool {
+    matches!(
+        error.kind(),
+        ErrorKind::PermissionDenied
+            | ErrorKind::ReadOnlyFilesystem
+            | ErrorKind::InvalidFilename
+            | ErrorKind::AlreadyExists
+            | ErrorKind::ResourceBusy
+            | ErrorKind::Unsupported
+    )
+}
+
+impl<R: Files> Disk<R> {
+    /// The files of this runtime, before any put.
+    pub fn over(rt: R) -> Disk<R>
+        ensures { result ≡ record { puts = 0; failures = 0 } }
+    {
+        Disk {
+            rt,
+            puts: 0,
+            failures: 0,
+        }
+    }
+
+    /// Opens the file of this name to be read.
+    pub fn open(&self, name: &str) -> io::Result<R::File> {
+        fs::open(&self.rt, name)
+    }
+
+    /// Counts a put that was done by this file, since none of its calls has failed.
+    fn succeed(&mut self, file: &Target<R::File>)
+        requires clean { file.now.failures ≡ 0 }
+        ensures { self.new ≡ one_done self.old }
+    {
+        self.puts = self.puts.saturating_add(1);
+    }
+
+    /// Counts a put that failed because a call of this file has failed.
+    fn fail_at(&mut self, file: &Target<R::File>)
+        requires failed { file.now.failures ≢ 0 }
+        ensures { self.new ≡ one_failed self.old }
+    {
+        self.failures = self.failures.saturating_add(1);
+    }
+
+    /// Counts a put that failed with this error.
+    fn fail_with(&mut self, _error: &Error)
+        ensures { self.new ≡ one_failed self.old }
+    {
+        self.failures = self.failures.saturating_add(1);
+    }
+
+    /// What stands under a name. Whether a file may be written is tried by opening it, because a rename would
+    /// replace it in any case.
+    fn standing(&self, name: &str) -> Standing {
+        match fs::symlink_metadata(&self.rt, name) {
+            Ok(there) => {
+                let alone = there.is_file() && there.nlink() < 2;
+                if alone && OpenOptions::new().write(true).open(&self.rt, name).is_ok() {
+                    Standing::Alone(there)
+                } else {
+                    Standing::Other
+                }
+            }
+            Err(error) => {
+                if error.kind() == ErrorKind::NotFound {
+                    Standing::Nothing
+                } else {
+                    Standing::Other
+                }
+            }
+        }
+    }
+
+    /// Removes a file that was made beside a name. If it can't be, it stays and is replaced by the next put.
+    fn remove(&self, side: &str) {
+        let _removed = fs::remove_file(&self.rt, side);
+    }
+
+    /// Makes an empty file, in place of one that a put before was stopped at.
+    fn make(&self, side: &str, options: &OpenOptions) -> io::Result<R::File> {
+        if let Ok(there) = fs::symlink_metadata(&self.rt, side) {
+            if there.is_file() {
+                self.remove(side);
+            }
+        }
+        options.open(&self.rt, side)
+    }
+
+    /// Gives a new file the owner, the group and the mode of another.
+    fn make_alike(&self, file: &R::File, side: &str, other: &Metadata) -> io::Result<()> {
+        let made = file.metadata()?;
+        if made.uid() != other.uid() || made.gid() != other.gid() {
+            lchown(&self.rt, side, Some(other.uid()), Some(other.gid()))?;
+        }
+        file.set_permissions(other.permissions())
+    }
+
+    /// Makes an empty file that can take the place of another.
+    fn make_like(
+        &self,
+        side: &str,
+        options: &OpenOptions,
+        other: &Metadata,
+    ) -> io::Result<R::File> {
+        let file = self.make(side, options)?;
+        match self.make_alike(&file, side, other) {
+            Ok(()) => Ok(file),
+            Err(error) => {
+                self.remove(side);
+                Err(error)
+            }
+        }
+    }
+
+    /// What an error makes of a put by a new file.
+    fn not_done(&mut self, error: &Error) -> Replaced
+        ensures done { result ≢ Replaced.Done }
+        ensures counts { self.new ≡ counted_as self.old result }
+    {
+        if is_refusal(error) {
+            return Replaced::Refused;
+        }
+        self.fail_with(error);
+        Replaced::Failed
+    }
+
+    /// Renames a file over the name. It has to be synced, so that no crash leaves the name with a part of it.
+    fn rename(&mut self, file: &Target<R::File>, side: &str, name: &str) -> Replaced
+        requires synced { file.now.synced ≡ true }
+        requires clean { file.now.failures ≡ 0 }
+        ensures { self.new ≡ counted_as self.old result }
+    {
+        match fs::rename(&self.rt, side, name) {
+            Ok(()) => {
+                self.succeed(file);
+                Replaced::Done
+            }
+            Err(error) => self.not_done(&error),
+        }
+    }
+
+    /// Writes bytes to a new file and has it take the place of the name.
+    fn take_place(&mut self, file: R::File, side: &str, name: &str, bytes: &[u8]) -> Replaced
+        ensures { self.new ≡ counted_as self.old result }
+    {
+        let mut file = Target::over(file);
+        match file.fill(bytes) {
+            Ok(()) => self.rename(&file, side, name),
+            Err(_) => {
+                self.fail_at(&file);
+                Replaced::Failed
+            }
+        }
+    }
+
+    /// Makes a file beside a name, if nothing stands under the name or a file that can be replaced.
+    fn make_beside(&self, name: &str, side: &str) -> io::Result<R::File> {
+        let mut options = OpenOptions::new();
+        options.write(true).create_new(true);
+        match self.standing(name) {
+            Standing::Nothing => self.make(side, &options),
+            Standing::Alone(other) => self.make_like(side, options.mode(0o600), &other),
+            Standing::Other => Err(Error::from(ErrorKind::Unsupported)),
+        }
+    }
+
+    /// Puts bytes under a name by a new file, if that can be.
+    fn replace(&mut self, name: &str, bytes: &[u8]) -> Replaced
+        ensures { self.new ≡ counted_as self.old result }
+    {
+        let Some(side) = side_name(name) else {
+            return Replaced::Refused;
+        };
+        match self.make_beside(name, side.as_str()) {
+            Ok(file) => {
+                let replaced = self.take_place(file, side.as_str(), name, bytes);
+                if replaced != Replaced::Done {
+                    self.remove(side.as_str());
+                }
+                replaced
+            }
+            Err(error) => self.not_done(&error),
+        }
+    }
+
+    /// Opens the file of this name to be written, with nothing in it.
+    fn create(&mut self, name: &str) -> Result<Target<R::File>, SinkError>
+        ensures clean { IfOk result (λ file. file.failures ≡ 0) }
+        ensures ok { OnOk result (self.new ≡ self.old) }
+        ensures err { OnErr result (self.new ≡ one_failed self.old) }
+    {
+        match fs::create(&self.rt, name) {
+            Ok(file) => Ok(Target::over(file)),
+            Err(error) => {
+                self.fail_with(&error);
+                Err(SinkError::Failed)
+            }
+        }
+    }
+
+    /// Writes bytes into what stands under the name itself.
+    fn write_over(&mut self, name: &str, bytes: &[u8]) -> Result<(), SinkError>
+        ensures { self.new ≡ counted self.old result }
+    {
+        let mut file = self.create(name)?;
+        match file.write(bytes) {
+            Ok(()) => {
+                self.succeed(&file);
+                Ok(())
+            }
+            Err(error) => {
+                self.fail_at(&file);
+                Err(error)
+            }
+        }
+    }
+
+    /// Makes the name hold these bytes: by a new file, or, if the system lets none take its place, by writing over
+    /// what stands there.
+    pub fn put(&mut self, name: &str, bytes: &[u8]) -> Result<(), SinkError>
+        ensures { self.new ≡ counted self.old result }
+    {
+        match self.replace(name, bytes) {
+            Replaced::Done => Ok(()),
+            Replaced::Refused => self.write_over(name, bytes),
+            Replaced::Failed => Err(SinkError::Failed),
+        }
+    }
+}
