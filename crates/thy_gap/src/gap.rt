@@ -2,6 +2,7 @@
 ghost use Rattle.std.specs.Prelude.{◌≡◌, ◌+◌, ◌^◌, ◌<◌, ◌≤◌, false, length, IfOk, OnOk, OnErr, IfErr, slice_index_or, []};
 ghost use Rattle.thy_base.specs.Device.{newest, block_at, written_to, drained, settled, fitted, IsCut, IsFramed, HasFailed, HasFailedToWrite, HasFailedToFit, CountsFault, CountsWrite};
 ghost use Rattle.thy_gap.specs.Levelled.{over as levelled_over, shown, first_image, inner_fitted, IsOver, HasFitted, HasWritten, HasMovedIfDue, settled_and_moved, HasCut};
+ghost use Rattle.thy_gap.specs.Lines.{place as place_of_line};
 ghost use Rattle.thy_gap.specs.Meaning.{ImageMeansSeen, CrashMeansSeen, LeftMeansSeen};
 
 use crate::Registers;
@@ -55,6 +56,21 @@ impl<N: Nvm> Gap<N> {
         ensures { result ≡ self.now.registers }
     {
         self.registers
+    }
+
+    /// The place of a line in the inner device.
+    pub fn place(&self, line: u64) -> u64
+        requires { line < length (shown N.device self.now).image }
+        ensures { result ≡ place_of_line self.now.registers line }
+    {
+        self.registers.place(line)
+    }
+
+    /// The inner device.
+    pub fn into_inner(self) -> N
+        ensures { result ≡ self.inner }
+    {
+        self.inner
     }
 
     /// What an inner image means by its own registers is what is seen, after a call that failed too: of the image that
