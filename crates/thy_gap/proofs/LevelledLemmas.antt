@@ -1,0 +1,144 @@
+-- What holds of a levelled device, after calls on its lines.
+use Rattle.std.proofs.Common.{◌≡◌, ◌⊎◌, ℕ, ◌+◌, ◌<◌, ◌==◌, if◌then◌else◌, true, false, List, [], length, drop, map, Contains, is_some, refl, sym, ◌∙◌, ap, subst, inl, inr, arith}
+use Rattle.std.specs.List.{All}
+use Rattle.std.proofs.lemmas.Bool.{cases_lt, true≢false}
+use Rattle.std.proofs.lemmas.List.Elements.{All-drop, All-push, All-nil}
+use Rattle.thy_base.specs.declared.block.Block.{Block}
+use Rattle.thy_base.specs.declared.nvm.Write.{Write}
+use Rattle.thy_base.specs.Device.{Device, IsFramed, HasFailed, HasFailedToWrite, HoldsNoMore, HoldsNoMoreBut, write_of, possible, landed, settled, surplus, written_to}
+use Rattle.thy_base.proofs.DeviceLemmas.{no_more-landed, no_more-settled, no_more-written_to_other}
+use Rattle.thy_gap.specs.declared.registers.Registers.{Registers}
+use Rattle.thy_gap.specs.Lines.{IsWhole, place, line_at, source, registers_block}
+use Rattle.thy_gap.specs.Seen.{unmapped, seen}
+use Rattle.thy_gap.specs.Levelled.{Tells, IsQuiet, IsLeft, IsLevelled}
+use Rattle.thy_gap.proofs.LineLemmas.{place-within, line_at-place, place-one_to_one}
+use Rattle.thy_gap.proofs.RegisterLemmas.{Tells-in_hand, IsCopied-no_more}
+use Rattle.thy_gap.proofs.SeenLemmas.{length-unmap, possible-seen, possible-seen_past, no_more-seen}
+
+-- ---- while the device is up
+
+pub IsQuiet-landed : (r : Registers) (n : Device) (k : ℕ) → IsQuiet r n → IsQuiet r (landed k n)
+IsQuiet-landed r n k q = record {
+  lines = All-drop (λ (w : Write). is_some (line_at r w.at) ≡ true) k n.queue q.lines;
+  in_hand = λ b h. q.in_hand b (no_more-landed k n (r.lines + 1) b h);
+}
+
+pub IsQuiet-settled : (r : Registers) (n : Device) → IsQuiet r n → IsQuiet r (settled n)
+IsQuiet-settled r n q = record {
+  lines = All-nil (λ (w : Write). is_some (line_at r w.at) ≡ true);
+  in_hand = λ b h. q.in_hand b (no_more-settled n (r.lines + 1) b h);
+}
+
+pub IsQuiet-written : (r : Registers) (n : Device) (x : ℕ) (block : Block) → IsWhole r → x < r.lines → IsQuiet r n → IsQuiet r (written_to n (place r x) block)
+IsQuiet-written r n x block w l q = record {
+  lines =
+      All-push (λ (w : Write). is_some (line_at r w.at) ≡ true) (drop (surplus n) n.queue) (write_of (place r x) block)
+      (All-drop (λ (w : Write). is_some (line_at r w.at) ≡ true) (surplus n) n.queue q.lines) (ap is_some (line_at-place r x w l));
+  in_hand = λ b h. q.in_hand b (no_more-written_to_other n (place r x) block (r.lines + 1) b (λ e. omega (arith, e, place-within r x w l)) h);
+}
+
+-- a device of which nothing else has changed stays levelled
+pub IsLevelled-quiet : (r : Registers) (cuts : ℕ) (old new : Device) → IsLevelled r cuts old → IsFramed old new → IsQuiet r new → IsLevelled r cuts new
+IsLevelled-quiet r cuts old new i f q = record {
+  whole = i.whole;
+  blocks = f.blocks ∙ i.blocks;
+  registers = λ b h. Tells-in_hand r new b i.whole (q.in_hand b h);
+  quiet = λ _. q;
+  left = subst (λ (l : List (List Block)). All (IsLeft r.lines) l) (sym f.left) i.left;
+  cuts_are = ap length f.left ∙ i.cuts_are;
+  room = omega (arith, i.room, f.left_room);
+}
+
+-- ---- where a call failed
+
+pub Tells-no_more : (r : Registers) (old new : Device) (b : Block) → Tells r old b → HoldsNoMore old new → Tells r new b
+Tells-no_more r old new b t no_more = record {
+  in_hand = t.in_hand;
+  moved_on = t.moved_on;
+  copied = λ ne. IsCopied-no_more r old new (t.copied ne) (no_more r.gap) (no_more (source r));
+}
+
+-- a device that is down stays levelled where its registers tell the same
+pub IsLevelled-parts : (r : Registers) (cuts : ℕ) (old new : Device) → IsLevelled r cuts old → length new.image ≡ length old.image → new.left ≡ old.left → new.left_room ≡ old.left_room
+    → new.down ≡ true → ((b : Block) → Contains (possible new (r.lines + 1)) b → Tells r new b) → IsLevelled r cuts new
+IsLevelled-parts r cuts old new i blocks left room down tells = record {
+  whole = i.whole;
+  blocks = blocks ∙ i.blocks;
+  registers = tells;
+  quiet = λ up. absurd (true≢false (sym down ∙ up));
+  left = subst (λ (l : List (List Block)). All (IsLeft r.lines) l) (sym left) i.left;
+  cuts_are = ap length left ∙ i.cuts_are;
+  room = omega (arith, i.room, room);
+}
+
+pub IsLevelled-down : (r : Registers) (cuts : ℕ) (old new : Device) → IsLevelled r cuts old → IsFramed old new → new.down ≡ true
+    → ((b : Block) → Contains (possible new (r.lines + 1)) b → Tells r new b) → IsLevelled r cuts new
+IsLevelled-down r cuts old new i f down tells = IsLevelled-parts r cuts old new i f.blocks f.left f.left_room down tells
+
+-- of a fit only the count of fits need be kept
+pub IsLevelled-failed_to_fit : (r : Registers) (cuts k : ℕ) (old new : Device) → IsLevelled r cuts old → IsFramed (record old { fits = k }) new → HasFailed old new → IsLevelled r cuts new
+IsLevelled-failed_to_fit r cuts k old new i f failed =
+    IsLevelled-parts r cuts old new i f.blocks f.left f.left_room failed.down
+    (λ b h. Tells-no_more r old new b (i.registers b (failed.no_more (r.lines + 1) b h)) failed.no_more)
+
+pub IsLevelled-counted : (r : Registers) (cuts k : ℕ) (old : Device) → IsLevelled r cuts old → IsLevelled r cuts (record old { fits = k })
+IsLevelled-counted r cuts k old i = record {
+  whole = i.whole;
+  blocks = i.blocks;
+  registers = λ b h. Tells-no_more r old (record old { fits = k }) b (i.registers b h) (λ x c h. h);
+  quiet = λ up. record { lines = (i.quiet up).lines; in_hand = (i.quiet up).in_hand };
+  left = i.left;
+  cuts_are = i.cuts_are;
+  room = i.room;
+}
+
+pub IsLevelled-failed : (r : Registers) (cuts : ℕ) (old new : Device) → IsLevelled r cuts old → IsFramed old new → HasFailed old new → IsLevelled r cuts new
+IsLevelled-failed r cuts old new i f failed =
+    IsLevelled-down r cuts old new i f failed.down (λ b h. Tells-no_more r old new b (i.registers b (failed.no_more (r.lines + 1) b h)) failed.no_more)
+
+pub IsLevelled-failed_to_write : (r : Registers) (cuts : ℕ) (old new : Device) (x : ℕ) (block : Block)
+    → IsLevelled r cuts old → x < r.lines → old.down ≡ false → IsFramed old new → HasFailedToWrite (place r x) block old new → IsLevelled r cuts new
+IsLevelled-failed_to_write r cuts old new x block i l up f failed =
+    IsLevelled-down r cuts old new i f failed.down
+    (λ b h. Tells-in_hand r new b i.whole
+    (elim (failed.no_more (r.lines + 1) b h) as (λ _. b ≡ registers_block r) [
+      | inl before ↦ (i.quiet up).in_hand b before
+      | inr here ↦ absurd (omega (arith, here.0, place-within r x i.whole l))
+    ]))
+
+-- ---- what is seen
+
+pub no_more_but-seen : (r : Registers) (old new : Device) (x : ℕ) (block : Block) → IsWhole r → x < r.lines
+    → HoldsNoMoreBut (place r x) block old new → HoldsNoMoreBut x block (seen r old) (seen r new)
+no_more_but-seen r old new x block w l no_more y b h = elim (cases_lt y r.lines) as (λ _. Contains (possible (seen r old) y) b ⊎ ((y ≡ x) × (b ≡ block))) [
+  | inl ly ↦
+      elim (no_more (place r y) b (subst (λ (q : List Block). Contains q b) (possible-seen r new y w ly) h))
+      as (λ _. Contains (possible (seen r old) y) b ⊎ ((y ≡ x) × (b ≡ block))) [
+        | inl before ↦ inl (subst (λ (q : List Block). Contains q b) (sym (possible-seen r old y w ly)) before)
+        | inr here ↦ inr (place-one_to_one r y x w ly l here.0, here.1)
+      ]
+  | inr ly ↦ inl (subst (λ (q : List Block). Contains q b) (possible-seen_past r new y w ly ∙ sym (possible-seen_past r old y w ly)) h)
+]
+
+-- what only a fit and a cut change is seen to stay, also where registers have moved
+pub IsFramed-moved : (r s : Registers) (old new : Device) → s.lines ≡ r.lines → IsFramed old new → IsFramed (seen r old) (seen s new)
+IsFramed-moved r s old new e f = record {
+  blocks = length-unmap s new.image ∙ e ∙ sym (length-unmap r old.image);
+  left = ap (λ n. if n == 0 then [] else map unmapped new.left) e ∙ ap (λ (l : List (List Block)). if r.lines == 0 then [] else map unmapped l) f.left;
+  picks = ap (λ n. if n == 0 then [] else new.picks) e ∙ ap (λ (l : List ℕ). if r.lines == 0 then [] else l) f.picks;
+  queue_room = f.queue_room;
+  left_room = ap (λ n. if n == 0 then 0 else new.left_room) e ∙ ap (λ (l : ℕ). if r.lines == 0 then 0 else l) f.left_room;
+  fits = f.fits;
+  lent = f.lent;
+}
+
+pub IsFramed-seen : (r : Registers) (old new : Device) → IsFramed old new → IsFramed (seen r old) (seen r new)
+IsFramed-seen r old new f = IsFramed-moved r r old new refl f
+
+-- a call that failed is seen to fail; before a fit there are no lines
+pub HasFailed-seen : (r : Registers) (old new : Device) → IsWhole r → HasFailed old new → HasFailed (seen r old) (seen r new)
+HasFailed-seen r old new w failed = record { down = failed.down; no_more = no_more-seen r old new w (λ x b _. failed.no_more (place r x) b) }
+
+pub HasFailedToWrite-seen : (r : Registers) (old new : Device) (x : ℕ) (block : Block) → IsWhole r → x < r.lines
+    → HasFailedToWrite (place r x) block old new → HasFailedToWrite x block (seen r old) (seen r new)
+HasFailedToWrite-seen r old new x block w l failed = record { down = failed.down; no_more = no_more_but-seen r old new x block w l failed.no_more }

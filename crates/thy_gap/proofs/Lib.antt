@@ -1,0 +1,9 @@
+pub mod CutLemmas
+pub mod FitLemmas
+pub mod LevelledLemmas
+pub mod LineLemmas
+pub mod MovingLemmas
+pub mod RegisterLemmas
+pub mod RoundLemmas
+pub mod SeenLemmas
+pub mod SoundLemmas

@@ -1,0 +1,206 @@
+-- A move of one line.
+use Rattle.std.proofs.Common.{◌≡◌, ◌≢◌, ℕ, ◌+◌, ◌<◌, ◌≤◌, true, false, List, [], ◌∷◌, length, Contains, refl, sym, ◌∙◌, ap, subst, inl, inr, arith}
+use Rattle.std.proofs.lemmas.Bool.{cases_eq}
+use Rattle.std.proofs.lemmas.List.Elements.{All-nil}
+use Rattle.std.specs.Prelude.{is_some, Result, Ok, Err, OnErr}
+use Rattle.thy_base.specs.declared.block.Block.{Block}
+use Rattle.thy_base.specs.declared.nvm.Write.{Write}
+use Rattle.thy_base.specs.Device.{Device, IsFramed, HasFailed, HasFailedToWrite, block_at, queued_for, newest_over, possible, newest, settled, written_to}
+use Rattle.thy_base.proofs.DeviceLemmas.{same_as_only, no_more-settled, no_more_but-written_to, no_more-written_to_other, newest-settled, newest-written_to, newest-written_to_other, length-settled, length-written_to}
+use Rattle.thy_gap.specs.declared.registers.Registers.{Registers}
+use Rattle.thy_gap.specs.Lines.{IsWhole, place, line_at, source, moved, registers_block}
+use Rattle.thy_gap.specs.Seen.{unmap, unmap_queue, seen}
+use Rattle.thy_gap.specs.Levelled.{IsCopied, Tells, IsQuiet, IsLevelled}
+use Rattle.thy_gap.specs.Moving.{put_down, line_moved}
+use Rattle.thy_gap.specs.Failing.{IsAtRest, HasFailedToMove}
+use Rattle.thy_gap.proofs.LineLemmas.{place-within, place-past_gap, source-within, whole-moved, place-moved_line, place-other_line}
+use Rattle.thy_gap.proofs.RegisterLemmas.{Tells-in_hand, Tells-moved}
+use Rattle.thy_gap.proofs.LevelledLemmas.{IsLevelled-down}
+use Rattle.thy_base.proofs.CrashLemmas.{Contains-stands}
+use Rattle.std.specs.List.{All}
+use Rattle.thy_gap.proofs.SeenLemmas.{no_more-seen, length-unmap, block_at-unmap, unmap-is}
+
+-- with nothing queued a read gives the block that stands
+pub newest-empty : (n : Device) (x : ℕ) → n.queue ≡ [] → newest n x ≡ block_at n.image x
+newest-empty n x e = ap (λ (q : List Write). newest_over (block_at n.image x) q x) e
+
+-- at the exit of a call that failed
+pub on_err : {T E P : Type 0} (r : Result T E) → P → OnErr r P
+on_err (Ok x) p = tt
+on_err (Err e) p = p
+
+-- ---- a write and a barrier
+
+pub put_down-here : (n : Device) (at : ℕ) (block : Block) → at < length n.image → block_at (put_down at block n).image at ≡ block
+put_down-here n at block l = newest-settled (written_to n at block) at (omega (arith, l, length-written_to n at block)) ∙ newest-written_to n at block
+
+pub put_down-other : (n : Device) (at : ℕ) (block : Block) (x : ℕ) → n.queue ≡ [] → x ≢ at → x < length n.image
+    → block_at (put_down at block n).image x ≡ block_at n.image x
+put_down-other n at block x e other l =
+    newest-settled (written_to n at block) x (omega (arith, l, length-written_to n at block))
+    ∙ newest-written_to_other n at block x other l
+    ∙ newest-empty n x e
+
+-- one that failed at its barrier
+pub failed_to_put : (at : ℕ) (block : Block) (old mid new : Device) → mid ≡ written_to old at block → HasFailed mid new → HasFailedToWrite at block old new
+failed_to_put at block old mid new e failed = record {
+  down = failed.down;
+  no_more = λ x b h. no_more_but-written_to old at block x b (subst (λ (n : Device). Contains (possible n x) b) e (failed.no_more x b h));
+}
+
+-- ---- a device at rest holds one block at each place
+
+pub rest-possible : (n : Device) (x : ℕ) (b : Block) → n.queue ≡ [] → Contains (possible n x) b → block_at n.image x ≡ b
+rest-possible n x b e h = same_as_only (block_at n.image x) b (subst (λ (q : List Write). Contains (block_at n.image x ∷ queued_for q x) b) e h)
+
+-- so a cut leaves the registers in hand
+pub rest-quiet : (r : Registers) (n : Device) → n.queue ≡ [] → block_at n.image (r.lines + 1) ≡ registers_block r → IsQuiet r n
+rest-quiet r n e here = record {
+  lines = subst (λ (q : List Write). All (λ (w : Write). is_some (line_at r w.at) ≡ true) q) (sym e) (All-nil (λ (w : Write). is_some (line_at r w.at) ≡ true));
+  in_hand = λ b h. sym (rest-possible n (r.lines + 1) b e h) ∙ here;
+}
+
+pub rest-settled : (r : Registers) (cuts : ℕ) (n : Device) → IsLevelled r cuts n → n.down ≡ false → IsAtRest r (settled n)
+rest-settled r cuts n i up = record {
+  whole = i.whole;
+  blocks = length-settled n ∙ i.blocks;
+  up = up;
+  empty = refl;
+  in_hand = (i.quiet up).in_hand (block_at (settled n).image (r.lines + 1)) (no_more-settled n (r.lines + 1) _ (Contains-stands (settled n) (r.lines + 1)));
+}
+
+-- ---- a move that failed
+
+-- at the copy's read
+pub failed_at_read : (r : Registers) (old new : Device) → IsAtRest r old → HasFailed old new → HasFailedToMove r old new
+failed_at_read r old new rest failed = record {
+  down = failed.down;
+  elsewhere = λ x b _ _ h. failed.no_more x b h;
+  registers = λ b h. Tells-in_hand r new b rest.whole ((rest-quiet r old rest.empty rest.in_hand).in_hand b (failed.no_more (r.lines + 1) b h));
+}
+
+-- at the copy's write or barrier
+pub failed_at_copy : (r : Registers) (old new : Device) (c : Block) → IsAtRest r old → HasFailedToWrite r.gap c old new → HasFailedToMove r old new
+failed_at_copy r old new c rest failed = record {
+  down = failed.down;
+  elsewhere = λ x b not_gap _ h. elim (failed.no_more x b h) as (λ _. Contains (possible old x) b) [ inl before ↦ before | inr here ↦ absurd (not_gap here.0) ];
+  registers = λ b h. Tells-in_hand r new b rest.whole
+      (elim (failed.no_more (r.lines + 1) b h) as (λ _. b ≡ registers_block r) [
+        | inl before ↦ (rest-quiet r old rest.empty rest.in_hand).in_hand b before
+        | inr here ↦ absurd (omega (arith, here.0, rest.whole.gap))
+      ]);
+}
+
+-- at the write or the barrier of the registers: the line was copied before
+pub failed_at_registers : (r : Registers) (old mid new : Device) (c : Block) → IsAtRest r old → c ≡ newest old (source r) → mid ≡ put_down r.gap c old
+    → HasFailedToWrite (r.lines + 1) (registers_block (moved r)) mid new → HasFailedToMove r old new
+failed_at_registers r old mid new c rest is e failed =
+    let w = rest.whole in
+    let s = source-within r w in
+    -- elsewhere the copy left what was there
+    let before : (x : ℕ) (b : Block) → x ≢ r.gap → x ≢ r.lines + 1 → Contains (possible new x) b → Contains (possible old x) b =
+    λ x b not_gap not_registers h. elim (failed.no_more x b h) as (λ _. Contains (possible old x) b) [
+      | inl h2 ↦
+          no_more-written_to_other old r.gap c x b not_gap
+          (no_more-settled (written_to old r.gap c) x b (subst (λ (n : Device). Contains (possible n x) b) e h2))
+      | inr here ↦ absurd (not_registers here.0)
+    ] in
+    let at_gap : (b : Block) → Contains (possible new r.gap) b → b ≡ c =
+    λ b h. elim (failed.no_more r.gap b h) as (λ _. b ≡ c) [
+      | inl h2 ↦
+          sym (rest-possible (put_down r.gap c old) r.gap b refl (subst (λ (n : Device). Contains (possible n r.gap) b) e h2))
+          ∙ put_down-here old r.gap c (omega (arith, w.gap, rest.blocks))
+      | inr here ↦ absurd (omega (arith, here.0, w.gap))
+    ] in
+    let at_source : (b : Block) → Contains (possible new (source r)) b → b ≡ c =
+    λ b h.
+    sym (rest-possible old (source r) b rest.empty (before (source r) b s.1 (λ x. omega (arith, x, s.0)) h))
+    ∙ sym (newest-empty old (source r) rest.empty) ∙ sym is in
+    let copied : IsCopied r new = record { same = λ b d hb hd. at_gap b hb ∙ sym (at_source d hd) } in
+    record {
+      down = failed.down;
+      elsewhere = before;
+      registers = λ b h. elim (failed.no_more (r.lines + 1) b h) as (λ _. Tells r new b) [
+        | inl h2 ↦ Tells-in_hand r new b w
+            ((rest-quiet r old rest.empty rest.in_hand).in_hand b
+            (no_more-written_to_other old r.gap c (r.lines + 1) b (λ x. omega (arith, x, w.gap))
+            (no_more-settled (written_to old r.gap c) (r.lines + 1) b (subst (λ (n : Device). Contains (possible n (r.lines + 1)) b) e h2))))
+        | inr here ↦ Tells-moved r new b w here.1 copied
+      ];
+    }
+
+-- ---- a move that is done
+
+-- what stands where
+pub moved-at_gap : (r : Registers) (n : Device) → IsAtRest r n → block_at (line_moved r n).image r.gap ≡ newest n (source r)
+moved-at_gap r n rest =
+    let m : Device = put_down r.gap (newest n (source r)) n in
+    let len : length m.image ≡ length n.image = length-settled (written_to n r.gap (newest n (source r))) ∙ length-written_to n r.gap (newest n (source r)) in
+    put_down-other m (r.lines + 1) (registers_block (moved r)) r.gap refl (λ e. omega (arith, e, rest.whole.gap)) (omega (arith, len, rest.blocks, rest.whole.gap))
+    ∙ put_down-here n r.gap (newest n (source r)) (omega (arith, rest.blocks, rest.whole.gap))
+
+pub moved-elsewhere : (r : Registers) (n : Device) (x : ℕ) → IsAtRest r n → x ≤ r.lines → x ≢ r.gap → block_at (line_moved r n).image x ≡ block_at n.image x
+moved-elsewhere r n x rest l other =
+    let m : Device = put_down r.gap (newest n (source r)) n in
+    let len : length m.image ≡ length n.image = length-settled (written_to n r.gap (newest n (source r))) ∙ length-written_to n r.gap (newest n (source r)) in
+    put_down-other m (r.lines + 1) (registers_block (moved r)) x refl (λ e. omega (arith, e, l)) (omega (arith, len, rest.blocks, l))
+    ∙ put_down-other n r.gap (newest n (source r)) x rest.empty other (omega (arith, rest.blocks, l))
+
+pub length-line_moved : (r : Registers) (n : Device) → length (line_moved r n).image ≡ length n.image
+length-line_moved r n =
+    let m : Device = put_down r.gap (newest n (source r)) n in
+    length-settled (written_to m (r.lines + 1) (registers_block (moved r))) ∙ length-written_to m (r.lines + 1) (registers_block (moved r))
+    ∙ length-settled (written_to n r.gap (newest n (source r))) ∙ length-written_to n r.gap (newest n (source r))
+
+pub moved-registers : (r : Registers) (n : Device) → IsAtRest r n → block_at (line_moved r n).image (r.lines + 1) ≡ registers_block (moved r)
+moved-registers r n rest =
+    let m : Device = put_down r.gap (newest n (source r)) n in
+    let len : length m.image ≡ length n.image = length-settled (written_to n r.gap (newest n (source r))) ∙ length-written_to n r.gap (newest n (source r)) in
+    put_down-here m (r.lines + 1) (registers_block (moved r)) (omega (arith, len, rest.blocks))
+
+-- every line is seen as before
+pub seen-moved : (r : Registers) (n : Device) → IsAtRest r n → seen (moved r) (line_moved r n) ≡ seen r n
+seen-moved r n rest =
+    let image : unmap (moved r) (line_moved r n).image ≡ unmap r n.image =
+    unmap-is (moved r) (line_moved r n).image (unmap r n.image) (length-unmap r n.image)
+    (λ x l.
+    elim (cases_eq (place r x) (source r)) as (λ _. block_at (line_moved r n).image (place (moved r) x) ≡ block_at (unmap r n.image) x) [
+      | inl here ↦
+          ap (block_at (line_moved r n).image) (place-moved_line r x rest.whole l here)
+          ∙ moved-at_gap r n rest
+          ∙ newest-empty n (source r) rest.empty
+          ∙ ap (block_at n.image) (sym here)
+          ∙ sym (block_at-unmap r n.image x l)
+      | inr other ↦
+          ap (block_at (line_moved r n).image) (place-other_line r x rest.whole l other)
+          ∙ moved-elsewhere r n (place r x) rest (place-within r x rest.whole l) (place-past_gap r x)
+          ∙ sym (block_at-unmap r n.image x l)
+    ]) in
+    ap (λ (g : List Block). record (seen r n) { image = g; queue = [] }) image
+    ∙ ap (λ (q : List Write). record (seen r n) { queue = unmap_queue r q }) (sym rest.empty)
+
+pub IsLevelled-moved : (r : Registers) (cuts : ℕ) (n : Device) → IsAtRest r n → IsLevelled r cuts n → IsLevelled (moved r) cuts (line_moved r n)
+IsLevelled-moved r cuts n rest i =
+    let q : IsQuiet (moved r) (line_moved r n) = rest-quiet (moved r) (line_moved r n) refl (moved-registers r n rest) in
+    record {
+      whole = whole-moved r i.whole;
+      blocks = length-line_moved r n ∙ i.blocks;
+      registers = λ b h. Tells-in_hand (moved r) (line_moved r n) b (whole-moved r i.whole) (q.in_hand b h);
+      quiet = λ _. q;
+      left = i.left;
+      cuts_are = i.cuts_are;
+      room = i.room;
+    }
+
+-- a move that failed leaves it levelled by the registers in hand
+pub IsLevelled-failed_to_move : (r : Registers) (cuts : ℕ) (old new : Device) → IsLevelled r cuts old → IsFramed old new → HasFailedToMove r old new → IsLevelled r cuts new
+IsLevelled-failed_to_move r cuts old new i f failed = IsLevelled-down r cuts old new i f failed.down failed.registers
+
+-- and no line may hold more
+pub HasFailed-moving : (r : Registers) (old new : Device) → IsWhole r → HasFailedToMove r old new → HasFailed (seen r old) (seen r new)
+HasFailed-moving r old new w failed = record {
+  down = failed.down;
+  no_more =
+      no_more-seen r old new w
+      (λ x b l. failed.elsewhere (place r x) b (place-past_gap r x) (λ e. omega (arith, e, place-within r x w l)));
+}

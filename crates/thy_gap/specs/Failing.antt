@@ -1,0 +1,22 @@
+-- Before and after a move that fails.
+use Rattle.std.specs.Prelude.{◌≡◌, ◌≢◌, ℕ, ◌+◌, true, false, [], length, Contains}
+use Rattle.thy_base.specs.declared.block.Block.{Block}
+use Rattle.thy_base.specs.Device.{Device, block_at, possible}
+use Rattle.thy_gap.specs.declared.registers.Registers.{Registers}
+use Rattle.thy_gap.specs.Lines.{IsWhole, registers_block}
+use Rattle.thy_gap.specs.Levelled.{Tells}
+
+-- a device after a barrier, with the registers in hand
+pub record IsAtRest (r : Registers) (n : Device) : Type 0 where
+  pub whole : IsWhole r
+  pub blocks : length n.image ≡ r.lines + 2
+  pub up : n.down ≡ false
+  pub empty : n.queue ≡ []
+  pub in_hand : block_at n.image (r.lines + 1) ≡ registers_block r
+
+-- after a move that failed: no line may hold more, and registers that have moved tell of a line that was copied
+pub record HasFailedToMove (r : Registers) (old new : Device) : Type 0 where
+  pub down : new.down ≡ true
+  pub elsewhere : (x : ℕ) (b : Block) → x ≢ r.gap → x ≢ r.lines + 1
+      → Contains (possible new x) b → Contains (possible old x) b
+  pub registers : (b : Block) → Contains (possible new (r.lines + 1)) b → Tells r new b

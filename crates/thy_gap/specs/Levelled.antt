@@ -1,0 +1,112 @@
+-- A levelled device, and what holds of it.
+use Rattle.std.specs.Prelude.{◌≡◌, ◌≢◌, ℕ, ◌+◌, ◌-◌, ◌<◌, ◌≤◌, ◌^◌, nat_lt, if◌then◌else◌, true, false, List, [], ◌∷◌, ◌++◌, length, replicate, All, Contains, is_some}
+use Rattle.thy_base.specs.declared.block.Block.{Block}
+use Rattle.thy_base.specs.declared.nvm.Shape.{Shape}
+use Rattle.thy_base.specs.declared.nvm.Write.{Write}
+use Rattle.thy_base.specs.Device.{Device, zero_block, possible, settled, fitted}
+use Rattle.thy_base.specs.Words.{word_of}
+use Rattle.thy_gap.specs.declared.registers.Registers.{Registers}
+use Rattle.thy_gap.specs.Lines.{IsWhole, line_at, source, moved, no_lines, unmoved, registers_block, registers_in}
+use Rattle.thy_gap.specs.Seen.{seen}
+use Rattle.thy_gap.specs.Moving.{line_moved}
+
+-- a device over an inner one
+pub record Levelled (N : Type 0) : Type 0 where
+  pub inner : N
+  -- after how many writes a barrier moves a line
+  pub every : ℕ
+  -- the registers in hand
+  pub registers : Registers
+  -- how many writes succeeded since the last move or fit; it stands at its last value
+  pub since : ℕ
+  -- how many cuts there were since the last fit
+  pub cuts : ℕ
+
+-- before it is fitted
+abbrev pub over : {N : Type 0} → N → ℕ → Levelled N
+over inner every = record { inner = inner; every = every; registers = no_lines; since = 0; cuts = 0 }
+
+-- what is seen of it
+abbrev pub shown : {N : Type 0} → (N → Device) → Levelled N → Device
+shown device g = seen g.registers (device g.inner)
+
+-- ---- what calls make of it
+
+-- the inner shape: two blocks more
+abbrev pub inner_shape : Shape → Shape
+inner_shape shape = record shape { blocks = shape.blocks + 2 }
+
+-- the inner image of a fit: the start and zeros, one of them at the gap, and the registers
+abbrev pub first_image : ℕ → List Block → List Block
+first_image n start = start ++ (replicate (n + 1 - length start) zero_block ++ registers_block (unmoved n) ∷ [])
+
+-- the inner device after a fit
+abbrev pub inner_fitted : Shape → List Block → Device → Device
+inner_fitted shape start n = fitted (inner_shape shape) (first_image shape.blocks start) n
+
+-- after a call that leaves registers and counts alone
+abbrev pub IsOver : {N : Type 0} → Levelled N → Levelled N → Type 0
+IsOver old new = new ≡ record old { inner = new.inner }
+
+-- after a fit: every line is at its own place
+abbrev pub HasFitted : {N : Type 0} → ℕ → Levelled N → Levelled N → Type 0
+HasFitted n old new = new ≡ record old { inner = new.inner; registers = unmoved n; since = 0; cuts = 0 }
+
+-- after a write
+abbrev pub HasWritten : {N : Type 0} → ℕ → Levelled N → Levelled N → Type 0
+HasWritten since old new = new ≡ record old { inner = new.inner; since = since }
+
+-- after a barrier: one line has moved, exactly where a move was due
+abbrev pub HasMovedIfDue : {N : Type 0} → Levelled N → Levelled N → Type 0
+HasMovedIfDue old new = new ≡ record old {
+  inner = new.inner;
+  registers = if nat_lt old.since old.every then old.registers else moved old.registers;
+  since = if nat_lt old.since old.every then old.since else 0;
+}
+
+-- and what that makes of the inner device
+abbrev pub settled_and_moved : {N : Type 0} → Levelled N → Device → Device
+settled_and_moved g n = if nat_lt g.since g.every then settled n else line_moved g.registers (settled n)
+
+-- after a cut that left this inner image: the registers are those of the image, and the writes since the last move count
+abbrev pub HasCut : {N : Type 0} → List Block → Levelled N → Levelled N → Type 0
+HasCut image old new = new ≡ record old { inner = new.inner; registers = registers_in image; cuts = old.cuts + 1 }
+
+-- ---- the invariant
+
+-- gap and source can hold one block only, the same
+pub record IsCopied (r : Registers) (n : Device) : Type 0 where
+  pub same : (b c : Block) → Contains (possible n r.gap) b → Contains (possible n (source r)) c → b ≡ c
+
+-- a block of the registers is of those in hand, or of those after the next move, and then its line was copied
+pub record Tells (r : Registers) (n : Device) (b : Block) : Type 0 where
+  pub in_hand : word_of b 2 ≡ r.gap → b ≡ registers_block r
+  pub moved_on : word_of b 2 ≢ r.gap → b ≡ registers_block (moved r)
+  pub copied : word_of b 2 ≢ r.gap → IsCopied r n
+
+-- the writes queued are of lines, and a cut leaves the registers in hand
+pub record IsQuiet (r : Registers) (n : Device) : Type 0 where
+  pub lines : All (λ (w : Write). is_some (line_at r w.at) ≡ true) n.queue
+  pub in_hand : (b : Block) → Contains (possible n (r.lines + 1)) b → b ≡ registers_block r
+
+-- an image that a cut left, with registers in range
+pub record IsLeft (lines : ℕ) (g : List Block) : Type 0 where
+  pub blocks : length g ≡ lines + 2
+  pub whole : IsWhole (registers_in g)
+
+-- an inner device with its registers, after a fit
+pub record IsLevelled (r : Registers) (cuts : ℕ) (n : Device) : Type 0 where
+  pub whole : IsWhole r
+  pub blocks : length n.image ≡ r.lines + 2
+  pub registers : (b : Block) → Contains (possible n (r.lines + 1)) b → Tells r n b
+  pub quiet : n.down ≡ false → IsQuiet r n
+  pub left : All (IsLeft r.lines) n.left
+  pub cuts_are : length n.left ≡ cuts
+  pub room : n.left_room ≤ 2 ^ 64 - 1
+
+-- what holds of every levelled device
+pub record IsSound (every : ℕ) (r : Registers) (since cuts : ℕ) (n : Device) : Type 0 where
+  pub some : 0 < every
+  pub fitted : 0 < r.lines → IsLevelled r cuts n
+  pub no_registers : r.lines ≡ 0 → r ≡ no_lines
+  pub no_writes : r.lines ≡ 0 → since ≡ 0

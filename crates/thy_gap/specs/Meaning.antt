@@ -1,0 +1,17 @@
+-- What inner images mean by their own registers, and what is seen.
+use Rattle.std.specs.Prelude.{◌≡◌, ◌<◌, List, map, length}
+use Rattle.thy_base.specs.declared.block.Block.{Block}
+use Rattle.thy_base.specs.Device.{Device, Crash}
+use Rattle.thy_gap.specs.Seen.{unmapped}
+
+-- the inner image means the image that is seen, where one is
+abbrev pub ImageMeansSeen : Device → Device → Type 0
+ImageMeansSeen inner shown = 0 < length shown.image → unmapped inner.image ≡ shown.image
+
+-- what a cut may leave of it means what a cut may leave of what is seen
+abbrev pub CrashMeansSeen : Device → Device → Type 0
+CrashMeansSeen inner shown = 0 < length shown.image → (g : List Block) → Crash inner g → Crash shown (unmapped g)
+
+-- the images kept mean those that are seen to be kept
+abbrev pub LeftMeansSeen : Device → Device → Type 0
+LeftMeansSeen inner shown = 0 < length shown.image → map unmapped inner.left ≡ shown.left

@@ -1,0 +1,14 @@
+-- A move of one line, on the inner device.
+use Rattle.std.specs.Prelude.{ℕ, ◌+◌}
+use Rattle.thy_base.specs.declared.block.Block.{Block}
+use Rattle.thy_base.specs.Device.{Device, newest, settled, written_to}
+use Rattle.thy_gap.specs.declared.registers.Registers.{Registers}
+use Rattle.thy_gap.specs.Lines.{source, moved, registers_block}
+
+-- after a write and a barrier
+abbrev pub put_down : ℕ → Block → Device → Device
+put_down at block n = settled (written_to n at block)
+
+-- after a move: the line was copied to the gap first, then the registers were written
+abbrev pub line_moved : Registers → Device → Device
+line_moved r n = put_down (r.lines + 1) (registers_block (moved r)) (put_down r.gap (newest n (source r)) n)

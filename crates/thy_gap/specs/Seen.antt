@@ -1,0 +1,36 @@
+-- What is seen of an inner device through registers.
+use Rattle.std.specs.Prelude.{ℕ, ◌==◌, if◌then◌else◌, List, [], ◌∷◌, ◌++◌, map, Option, Some, None}
+use Rattle.std.specs.List.{range_with_len}
+use Rattle.thy_base.specs.declared.block.Block.{Block}
+use Rattle.thy_base.specs.declared.nvm.Write.{Write}
+use Rattle.thy_base.specs.Device.{Device, block_at, write_of}
+use Rattle.thy_gap.specs.declared.registers.Registers.{Registers}
+use Rattle.thy_gap.specs.Lines.{place, line_at, registers_in}
+
+-- the blocks at the places of the lines
+abbrev pub unmap : Registers → List Block → List Block
+unmap r image = map (λ x. block_at image (place r x)) (range_with_len 0 r.lines)
+
+-- what an image means by its own registers
+abbrev pub unmapped : List Block → List Block
+unmapped g = unmap (registers_in g) g
+
+-- a write of a line, where there is one
+abbrev pub write_to : Option ℕ → Block → List Write
+write_to None block = []
+write_to (Some x) block = write_of x block ∷ []
+
+-- the writes of lines, without those to the gap and of the registers
+abbrev pub unmap_queue : Registers → List Write → List Write
+unmap_queue r [] = []
+unmap_queue r (w ∷ ws) = write_to (line_at r w.at) w.block ++ unmap_queue r ws
+
+-- what is seen of an inner device; before a fit it is an empty device
+abbrev pub seen : Registers → Device → Device
+seen r n = record n {
+  image = unmap r n.image;
+  queue = unmap_queue r n.queue;
+  left = if r.lines == 0 then [] else map unmapped n.left;
+  picks = if r.lines == 0 then [] else n.picks;
+  left_room = if r.lines == 0 then 0 else n.left_room;
+}

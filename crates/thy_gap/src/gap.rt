@@ -1,0 +1,238 @@
+//! A device whose lines wander over an inner one.
+ghost use Rattle.std.specs.Prelude.{◌≡◌, ◌+◌, ◌^◌, ◌<◌, ◌≤◌, false, length, IfOk, OnOk, OnErr, IfErr, slice_index_or, []};
+ghost use Rattle.thy_base.specs.Device.{newest, block_at, written_to, drained, settled, fitted, IsCut, IsFramed, HasFailed, HasFailedToWrite, HasFailedToFit, CountsFault, CountsWrite};
+ghost use Rattle.thy_gap.specs.Levelled.{over as levelled_over, shown, first_image, inner_fitted, IsOver, HasFitted, HasWritten, HasMovedIfDue, settled_and_moved, HasCut};
+ghost use Rattle.thy_gap.specs.Lines.{place as place_of_line};
+ghost use Rattle.thy_gap.specs.Meaning.{ImageMeansSeen, CrashMeansSeen, LeftMeansSeen};
+
+use crate::Registers;
+use crate::moving::{move_line, registers_kept};
+use std::alloc::{AllocError, Global};
+use std::marker::Model;
+use thy_base::{Block, FitError, Nvm, NvmError, Shape};
+
+/// A device of n blocks, its lines, over an inner device of n + 2. Whenever a number of writes were made, the next barrier
+/// moves one line by one place, so that no place is written much more often than the others.
+#[derive(Drop)]
+pub struct Gap<N: Nvm> {
+    inner: N,
+    // After how many writes a barrier moves a line.
+    every: u64,
+    registers: Registers,
+    // How many writes succeeded since the last move or fit. Stands at the last value.
+    since: u64,
+    // How many cuts there were since the last fit.
+    cuts: u64,
+}
+
+impl<N: Nvm> Model for Gap<N> {
+    ghost use Rattle.thy_gap.specs.Levelled.{Levelled, IsSound};
+
+    ghost Value = { Levelled N };
+
+    ghost view = { λ g. record { inner = g.inner; every = g.every; registers = g.registers; since = g.since; cuts = g.cuts } };
+
+    ghost invariant = { λ g. IsSound g.every g.registers g.since g.cuts (N.device g.inner) };
+}
+
+impl<N: Nvm> Gap<N> {
+    /// Levels the wear of a device: where `every` writes were made, the next barrier moves a line. It has no blocks until
+    /// it is fitted.
+    pub fn over(inner: N, every: u64) -> Gap<N>
+        requires { 0 < every }
+        ensures { result ≡ levelled_over inner every }
+    {
+        Gap {
+            inner,
+            every,
+            registers: Registers::none(),
+            since: 0,
+            cuts: 0,
+        }
+    }
+
+    /// The registers in hand.
+    pub fn registers(&self) -> Registers
+        ensures { result ≡ self.now.registers }
+    {
+        self.registers
+    }
+
+    /// The place of a line in the inner device.
+    pub fn place(&self, line: u64) -> u64
+        requires { line < length (shown N.device self.now).image }
+        ensures { result ≡ place_of_line self.now.registers line }
+    {
+        self.registers.place(line)
+    }
+
+    /// The inner device.
+    pub fn into_inner(self) -> N
+        ensures { result ≡ self.inner }
+    {
+        self.inner
+    }
+
+    /// What an inner image means by its own registers is what is seen, after a call that failed too: of the image that
+    /// stands, of each that a cut may leave, and of each that was kept.
+    pub fn means_what_is_seen(&self)
+        ensures image { ImageMeansSeen (N.device self.now.inner) (shown N.device self.now) }
+        ensures crash { CrashMeansSeen (N.device self.now.inner) (shown N.device self.now) }
+        ensures left { LeftMeansSeen (N.device self.now.inner) (shown N.device self.now) }
+    {
+        let _ = &self.cuts;
+    }
+}
+
+/// The inner image of a fit: the start and zeros, one of them at the gap, and the registers.
+#[tactic(auto, unfolding(thy_base::specs::Device::zero_block))]
+fn first_blocks(alloc: Global, lines: u64, start: &[Block]) -> Result<Vec<Block>, AllocError>
+    requires start { length start.now ≤ lines }
+    requires room { lines + 2 < 2 ^ 64 }
+    ensures { IfOk result (λ v. v.items ≡ first_image lines start.now) }
+{
+    let mut image = Vec::with_capacity(alloc, lines as usize + 2)?;
+    image.extend_from_slice(start)?;
+    image.resize(lines as usize + 1, Block::ZERO)?;
+    image.push(Registers::unmoved(lines).block())?;
+    Ok(image)
+}
+
+impl<N: Nvm> Nvm for Gap<N> {
+    ghost use Rattle.thy_gap.specs.Levelled.{shown};
+
+    ghost device = { shown N.device };
+
+    /// The inner device's, which counts the moves too.
+    ghost writes = { λ g. N.writes g.inner };
+
+    fn fit(&mut self, alloc: Global, shape: &Shape, start: &[Block]) -> Result<(), FitError>
+        requires blocks { 0 < shape.now.blocks }
+        requires queue { 0 < shape.now.queue }
+        requires start { length start.now ≤ shape.now.blocks }
+        ensures ok { OnOk result (shown N.device self.new ≡ fitted shape.now start.now (shown N.device self.old)) }
+        ensures inner { OnOk result (N.device self.new.inner ≡ inner_fitted shape.now start.now (N.device self.old.inner)) }
+        ensures fitted { OnOk result (HasFitted shape.now.blocks self.old self.new) }
+        ensures stays { OnErr result (IsOver self.old self.new) }
+        ensures err { IfErr result (λ e. HasFailedToFit e (shown N.device self.old) (shown N.device self.new)) }
+        ensures no_writes { OnOk result (N.writes self.new.inner ≡ 0) }
+        ensures same_writes { OnErr result (N.writes self.new.inner ≡ N.writes self.old.inner) }
+    {
+        let Some(blocks) = shape.blocks.checked_add(2) else {
+            return Err(FitError::Memory(AllocError));
+        };
+        if shape.cuts.checked_add(1).is_none() {
+            return Err(FitError::Memory(AllocError));
+        }
+        let image = match first_blocks(alloc, shape.blocks, start) {
+            Ok(image) => image,
+            Err(error) => return Err(FitError::Memory(error)),
+        };
+        let inner_shape = Shape {
+            blocks,
+            queue: shape.queue,
+            cuts: shape.cuts,
+        };
+        if let Err(error) = self.inner.fit(alloc, &inner_shape, &image) {
+            return Err(error);
+        }
+        self.registers = Registers::unmoved(shape.blocks);
+        self.since = 0;
+        self.cuts = 0;
+        Ok(())
+    }
+
+    fn queued(&self) -> u64 {
+        if self.registers.lines == 0 {
+            0
+        } else {
+            self.inner.queued()
+        }
+    }
+
+    fn writes(&self) -> u64 {
+        self.inner.writes()
+    }
+
+    fn read(&mut self, at: u64) -> Result<Block, NvmError>
+        requires { at < length (shown N.device self.old).image }
+        ensures ok { IfOk result (λ block. block ≡ newest (shown N.device self.old) at) }
+        ensures same { OnOk result (shown N.device self.new ≡ shown N.device self.old) }
+        ensures err { OnErr result (HasFailed (shown N.device self.old) (shown N.device self.new)) }
+        ensures frame { IsFramed (shown N.device self.old) (shown N.device self.new) }
+        ensures cause { CountsFault result (shown N.device self.old).faults (shown N.device self.new).faults }
+        ensures same_writes { N.writes self.new.inner ≡ N.writes self.old.inner }
+        ensures stays { IsOver self.old self.new }
+    {
+        self.inner.read(self.registers.place(at))
+    }
+
+    fn write(&mut self, at: u64, block: &Block) -> Result<(), NvmError>
+        requires place { at < length (shown N.device self.old).image }
+        requires up { (shown N.device self.old).down ≡ false }
+        ensures ok { OnOk result (shown N.device self.new ≡ written_to (shown N.device self.old) at block.now) }
+        ensures err { OnErr result (HasFailedToWrite at block.now (shown N.device self.old) (shown N.device self.new)) }
+        ensures frame { IsFramed (shown N.device self.old) (shown N.device self.new) }
+        ensures cause { CountsFault result (shown N.device self.old).faults (shown N.device self.new).faults }
+        ensures counted { CountsWrite result (N.writes self.old.inner) (N.writes self.new.inner) }
+        ensures since { CountsWrite result self.old.since self.new.since }
+        ensures registers { HasWritten self.new.since self.old self.new }
+    {
+        self.inner.write(self.registers.place(at), block)?;
+        self.since = self.since.saturating_add(1);
+        Ok(())
+    }
+
+    fn drain(&mut self) -> Result<(), NvmError>
+        requires queued { 0 < length (shown N.device self.old).queue }
+        requires up { (shown N.device self.old).down ≡ false }
+        ensures ok { OnOk result (shown N.device self.new ≡ drained (shown N.device self.old)) }
+        ensures err { OnErr result (HasFailed (shown N.device self.old) (shown N.device self.new)) }
+        ensures frame { IsFramed (shown N.device self.old) (shown N.device self.new) }
+        ensures cause { CountsFault result (shown N.device self.old).faults (shown N.device self.new).faults }
+        ensures same_writes { N.writes self.new.inner ≡ N.writes self.old.inner }
+        ensures stays { IsOver self.old self.new }
+    {
+        self.inner.drain()
+    }
+
+    /// Then moves a line, exactly where `every` writes were made since the last move or fit.
+    fn barrier(&mut self) -> Result<(), NvmError>
+        requires { (shown N.device self.old).down ≡ false }
+        ensures ok { OnOk result (shown N.device self.new ≡ settled (shown N.device self.old)) }
+        ensures err { OnErr result (HasFailed (shown N.device self.old) (shown N.device self.new)) }
+        ensures frame { IsFramed (shown N.device self.old) (shown N.device self.new) }
+        ensures cause { CountsFault result (shown N.device self.old).faults (shown N.device self.new).faults }
+        ensures no_fewer_writes { N.writes self.old.inner ≤ N.writes self.new.inner }
+        ensures moves { OnOk result (HasMovedIfDue self.old self.new) }
+        ensures inner { OnOk result (N.device self.new.inner ≡ settled_and_moved self.old (N.device self.old.inner)) }
+        ensures stays { OnErr result (IsOver self.old self.new) }
+    {
+        self.inner.barrier()?;
+        if self.since < self.every {
+            return Ok(());
+        }
+        move_line(&mut self.inner, &self.registers)?;
+        self.registers = self.registers.moved();
+        self.since = 0;
+        Ok(())
+    }
+
+    /// The registers are those of the image that is left: those in hand, or those of a move that it completes.
+    fn cut(&mut self, pick: u64)
+        requires { length (shown N.device self.old).left < (shown N.device self.old).left_room }
+        ensures cut { IsCut pick (shown N.device self.old) (shown N.device self.new) }
+        ensures inner { IsCut pick (N.device self.old.inner) (N.device self.new.inner) }
+        ensures registers { HasCut (N.device self.new.inner).image self.old self.new }
+        ensures same_writes { N.writes self.new.inner ≡ N.writes self.old.inner }
+    {
+        self.inner.cut(pick);
+        self.registers = registers_kept(&self.inner, self.registers.lines, self.cuts);
+        self.cuts += 1;
+    }
+
+    fn kept(&self, i: u64, at: u64) -> Block {
+        let registers = registers_kept(&self.inner, self.registers.lines, i);
+        self.inner.kept(i, registers.place(at))
+    }
+}

@@ -1,0 +1,52 @@
+//! A move of one line, on the inner device.
+ghost use Rattle.std.specs.Prelude.{◌≡◌, ◌<◌, ◌≤◌, ◌+◌, ◌^◌, length, false, OnOk, OnErr, slice_index_or, []};
+ghost use Rattle.thy_base.specs.Device.{IsFramed, HasFailedToWrite, CountsFault, block_at};
+ghost use Rattle.thy_gap.specs.Lines.{registers_of};
+ghost use Rattle.thy_gap.specs.Moving.{put_down, line_moved};
+ghost use Rattle.thy_gap.specs.Failing.{IsAtRest, HasFailedToMove};
+
+use crate::Registers;
+use thy_base::{Block, Nvm, NvmError};
+
+/// Writes a block and waits until it has landed.
+fn put<N: Nvm>(inner: &mut N, at: u64, block: &Block) -> Result<(), NvmError>
+    requires place { at < length (N.device inner.old).image }
+    requires up { (N.device inner.old).down ≡ false }
+    ensures ok { OnOk result (N.device inner.new ≡ put_down at block.now (N.device inner.old)) }
+    ensures err { OnErr result (HasFailedToWrite at block.now (N.device inner.old) (N.device inner.new)) }
+    ensures frame { IsFramed (N.device inner.old) (N.device inner.new) }
+    ensures cause { CountsFault result (N.device inner.old).faults (N.device inner.new).faults }
+    ensures no_fewer_writes { N.writes inner.old ≤ N.writes inner.new }
+{
+    // A count that can be read fits its type, so that one more is no less.
+    let _ = inner.writes();
+    inner.write(at, block)?;
+    inner.barrier()
+}
+
+/// Moves one line of a device at rest to the gap. The registers land after its copy.
+///
+/// # Errors
+/// `Failed` where the device fails. Then a cut leaves the registers as they were, or moved with the line copied.
+pub(crate) fn move_line<N: Nvm>(inner: &mut N, registers: &Registers) -> Result<(), NvmError>
+    requires { IsAtRest registers.now (N.device inner.old) }
+    ensures ok { OnOk result (N.device inner.new ≡ line_moved registers.now (N.device inner.old)) }
+    ensures err { OnErr result (HasFailedToMove registers.now (N.device inner.old) (N.device inner.new)) }
+    ensures frame { IsFramed (N.device inner.old) (N.device inner.new) }
+    ensures cause { CountsFault result (N.device inner.old).faults (N.device inner.new).faults }
+    ensures no_fewer_writes { N.writes inner.old ≤ N.writes inner.new }
+{
+    let line = inner.read(registers.source())?;
+    put(inner, registers.gap, &line)?;
+    put(inner, registers.lines + 1, &registers.moved().block())
+}
+
+/// The registers of the kept image `i`.
+pub(crate) fn registers_kept<N: Nvm>(inner: &N, lines: u64, i: u64) -> Registers
+    requires image { i < length (N.device inner.now).left }
+    requires place { lines + 1 < length (N.device inner.now).image }
+    requires room { lines + 1 < 2 ^ 64 }
+    ensures { result ≡ registers_of lines (block_at (slice_index_or (N.device inner.now).left i []) (lines + 1)) }
+{
+    Registers::of_block(lines, &inner.kept(i, lines + 1))
+}

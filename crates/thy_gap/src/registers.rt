@@ -1,0 +1,118 @@
+//! The registers: where the lines of a levelled device lie.
+ghost use Rattle.std.specs.Prelude.{◌≡◌, ◌<◌, ◌≤◌};
+ghost use Rattle.thy_gap.specs.Lines.{IsWhole, place as place_of_line, source as source_of, moved as moved_on, unmoved, no_lines, registers_block, registers_of};
+
+use thy_base::{Block, block_with, word};
+
+/// The bytes `THYNGAP1`, with which the block of the registers begins, as a number.
+pub const GAP_MAGIC: u64 = 0x3150_4147_4e59_4854;
+
+/// Where the lines of a levelled device lie. A line is a block that is seen; a place is a block of the inner device.
+#[derive(Clone, Copy, Debug, PartialEq, Eq)]
+pub struct Registers {
+    /// How many lines there are. The inner device has two blocks more.
+    pub lines: u64,
+    /// By how many places the lines are rotated, below `lines`.
+    pub start: u64,
+    /// The place without a line, at most `lines`.
+    pub gap: u64,
+}
+
+impl Registers {
+    /// No lines, as before a fit.
+    pub fn none() -> Registers
+        ensures { result ≡ no_lines }
+    {
+        Registers {
+            lines: 0,
+            start: 0,
+            gap: 0,
+        }
+    }
+
+    /// So many lines, each at its own place, as after a fit.
+    pub fn unmoved(lines: u64) -> Registers
+        ensures { result ≡ unmoved lines }
+    {
+        Registers {
+            lines,
+            start: 0,
+            gap: lines,
+        }
+    }
+
+    /// The place of a line.
+    #[tactic(auto, unfolding(crate::specs::Lines::place))]
+    pub fn place(&self, line: u64) -> u64
+        requires whole { IsWhole self.now }
+        requires line { line < self.now.lines }
+        ensures { result ≡ place_of_line self.now line }
+    {
+        let before_end = self.lines - self.start;
+        let turned = if line < before_end {
+            line + self.start
+        } else {
+            line - before_end
+        };
+        if turned < self.gap {
+            turned
+        } else {
+            turned + 1
+        }
+    }
+
+    /// The place whose line moves next.
+    pub fn source(&self) -> u64
+        ensures { result ≡ source_of self.now }
+    {
+        if self.gap == 0 {
+            self.lines
+        } else {
+            self.gap - 1
+        }
+    }
+
+    /// After one move.
+    pub fn moved(&self) -> Registers
+        requires { IsWhole self.now }
+        ensures { result ≡ moved_on self.now }
+    {
+        Registers {
+            lines: self.lines,
+            start: self.start_moved(),
+            gap: self.source(),
+        }
+    }
+
+    // By how many places the lines are rotated after one move.
+    fn start_moved(&self) -> u64
+        requires { IsWhole self.now }
+        ensures { result ≡ (moved_on self.now).start }
+    {
+        if self.gap > 0 {
+            self.start
+        } else if self.start + 1 < self.lines {
+            self.start + 1
+        } else {
+            0
+        }
+    }
+
+    /// The block that holds them.
+    pub fn block(&self) -> Block
+        ensures { result ≡ registers_block self.now }
+    {
+        block_with(&[GAP_MAGIC, self.start, self.gap, 0, 0, 0, 0, 0])
+    }
+
+    /// The registers in a block, for so many lines.
+    pub fn of_block(lines: u64, block: &Block) -> Registers
+        ensures { result ≡ registers_of lines block.now }
+    {
+        Registers {
+            lines,
+            start: word(block, 1),
+            gap: word(block, 2),
+        }
+    }
+}

@@ -1,0 +1,14 @@
+//! Tests of wear levelling over the simulated NVM: where the lines are after each move, and what cuts leave where each call
+//! of the inner device has failed in turn. They promise nothing that is proved.
+//!
+//! Open src/lines.rt first. It stands on thy_gap and thy_nvm; nothing stands on it.
+#![tactic(auto)]
+
+#[cfg(test)]
+mod cuts;
+#[cfg(test)]
+mod expect;
+#[cfg(test)]
+mod lines;
+#[cfg(test)]
+mod steps;
