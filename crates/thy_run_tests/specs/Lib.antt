@@ -1,3 +1,4 @@
 pub mod Faulty
+pub mod Naming
 pub mod Powered
 pub mod Scarce

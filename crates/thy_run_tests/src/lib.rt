@@ -19,6 +19,8 @@ mod machine;
 #[cfg(test)]
 mod made;
 #[cfg(test)]
+mod naming;
+#[cfg(test)]
 mod plain;
 #[cfg(test)]
 mod runs;

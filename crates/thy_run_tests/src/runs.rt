@@ -7,6 +7,7 @@ mod faults;
 mod inputs;
 mod made;
 mod misaligned;
+mod noted;
 mod programs;
 mod saved;
 
@@ -17,7 +18,7 @@ use programs::file_of;
 use std::alloc::{AllocError, Global};
 use std::process::Abort;
 use std::test::Fail;
-use thy_base::Nvm;
+use thy_base::{Nvm, Shelf};
 use thy_cli::thynvm;
 use thy_nvm::MemNvm;
 use thy_out::{MemShelf, MemSink};
@@ -107,11 +108,11 @@ fn called_on(
     called_over(alloc, line, shelf, unseen, untold, &mut nvm)
 }
 
-/// The same over this device.
-fn called_over<N: Nvm>(
+/// The same over any shelf, and over this device.
+fn called_over<H: Shelf, N: Nvm>(
     alloc: Global,
     line: &str,
-    shelf: &mut MemShelf,
+    shelf: &mut H,
     unseen: &[u64],
     untold: &[u64],
     nvm: &mut N,
