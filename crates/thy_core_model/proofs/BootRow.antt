@@ -23,7 +23,7 @@ use Rattle.thy_view.specs.declared.did.Did.TheVariants.{Boot as DidBoot, Loaded 
 use Rattle.thy_view.specs.declared.view.Phase.{Phase}
 use Rattle.thy_view.specs.declared.view.Phase.TheVariants.{Boot, Run, Halt}
 use Rattle.thy_view.specs.declared.view.View.{View}
-use Rattle.thy_view.specs.Action.{Acts}
+use Rattle.thy_view.specs.Action.{ActsBy}
 use Rattle.thy_view.specs.Booting.{loading_view}
 use Rattle.thy_view.specs.CoreStep.{phase_at, CoreStep}
 use Rattle.thy_view.specs.Dram.{LeavesDram}
@@ -244,15 +244,15 @@ module _ {S : Type 0} (K : SchemeOf S) (o : Origin) (cycles : ℕ) (m : Machine 
         works = record { done = tt; left = booting_no_more K DidBoot (in_boot o m) (after_boot o GoesOn t (in_boot o m)) n new };
         exhausts = λ moved. absurd (cc);
         read = λ empty. b.read;
-        still = λ found boot done. b.still found done;
+        still = λ found r current. b.still found r.done current;
       }
 
   -- its last step, by what the cycle is told to have done
   boots_up : (did : Did) (cpu : CpuState) (epoch : ℕ) → IsBooted K o (mark epoch cpu.count) cpu t new
-      → Acts did n new → LeavesDram did n new (K.dram m.scheme) (K.dram t) → CoreStep o (K.boot_view o m.scheme n) did (run_view (running_from cpu epoch t (in_boot o m)))
+      → ActsBy (K.migrates m.scheme) did n new → LeavesDram did n new (K.dram m.scheme) (K.dram t) → CoreStep o (K.boot_view o m.scheme n) did (run_view (running_from cpu epoch t (in_boot o m)))
       → Queues did (queued_in K m.scheme n) (queued_in K t new) → Ends did (K.boot_left m.scheme) 0 → StridesOn did (K.boot_view o m.scheme n).retired m.idle m.idle
       → Works did (gauge_of K (in_boot o m) n) (gauge_of K (running_from cpu epoch t (in_boot o m)) new) n new (K.dram m.scheme) (K.dram t) → did ≢ Moved
-      → ((found : Mark) → (K.boot_view o m.scheme n).done ≡ Some found → new ≡ n)
+      → ((found : Mark) → (K.boot_view o m.scheme n).done ≡ Some found → K.migrates m.scheme ≡ false → new ≡ n)
       → Leads K o cycles did (in_boot o m) n (running_from cpu epoch t (in_boot o m)) new
   boots_up did cpu epoch booted acts dram step queues ends strides works other still =
       let next : Machine S = running_from cpu epoch t (in_boot o m) in
@@ -288,7 +288,7 @@ module _ {S : Type 0} (K : SchemeOf S) (o : Origin) (cycles : ℕ) (m : Machine 
         works = works;
         exhausts = λ moved. absurd (other moved);
         read = λ empty. read_in K o next new runs;
-        still = λ found boot done. still found done;
+        still = λ found r current. still found r.done current;
       }
 
   -- the view behind it

@@ -15,6 +15,7 @@ use Rattle.thy_view.specs.Dram.{LeavesDram, WritesBlock}
 use Rattle.thy_view.specs.Origin.{Origin}
 use Rattle.thy_view.specs.Pace.{Queues, Boots, Strides}
 use Rattle.thy_view.specs.Work.{GetsDone, Works}
+use Rattle.thy_view.proofs.ActionLemmas.{acts_by}
 use Rattle.thy_scheme.specs.Scheme.{SchemeOf}
 use Rattle.thy_scheme.specs.Boots.{IsBootView}
 use Rattle.thy_scheme.specs.Laws.{IsLawful, BootHolds}
@@ -67,7 +68,7 @@ pub leads-booting : {S : Type 0} (K : SchemeOf S) (o : Origin) (cycles : ℕ) (d
     → Strides did (K.boot_view o m.scheme n).retired m.idle m.idle
     → GetsDone did (gauge_in K Boot m n) (gauge_in K Boot (after_drain t m) new) (WritesBlock n new (K.dram m.scheme) (K.dram t))
     → (n.queue ≡ [] → K.has_read t ≡ true)
-    → ((found : Mark) → (K.boot_view o m.scheme n).done ≡ Some found → new ≡ n)
+    → ((found : Mark) → (K.boot_view o m.scheme n).done ≡ Some found → K.migrates m.scheme ≡ false → new ≡ n)
     → Leads K o cycles did m n (after_drain t m) new
 leads-booting {S} K o cycles did m n t new at-m phase other up boots small step acts dram queues left strides done read still =
     let old-view = view-boot K o m n phase in
@@ -89,7 +90,7 @@ leads-booting {S} K o cycles did m n t new at-m phase other up boots small step 
         });
       };
       step = subst (λ v. CoreStep o v did (view_of K o (after_drain t m) new)) (sym old-view) (subst (CoreStep o (K.boot_view o m.scheme n) did) (sym new-view) step);
-      acts = acts;
+      acts = acts_by (K.migrates m.scheme) did n new acts;
       dram = dram;
       pace = record {
         spent = omega (arith, ap (λ (v : View). v.spent) new-view, none.spent);
@@ -102,5 +103,5 @@ leads-booting {S} K o cycles did m n t new at-m phase other up boots small step 
           (record { done = done; left = booting_no_more K did m (after_drain t m) n new });
       exhausts = λ e. absurd (other e);
       read = λ e. ap (λ x. has_read_in K x (after_drain t m)) phase ∙ read e;
-      still = λ found boot done. still found (sym (ap (λ (v : View). v.done) old-view) ∙ done);
+      still = λ found r current. still found (sym (ap (λ (v : View). v.done) old-view) ∙ r.done) current;
     }

@@ -126,7 +126,7 @@ nvm_booting K o cycles m n at phase some =
     stays.view (record { action = Drain; asked = refl; left = refl }) (inl refl) (omega (arith, drained_queue n some)) (omega arith) refl
     tt
     (λ e. absurd (omega (arith, some, ap (λ (q : List Write). length q) e)))
-    (λ found done. absurd (omega (arith, some, ap (λ (q : List Write). length q) (holds.settled found done))))
+    (λ found done current. absurd (omega (arith, some, ap (λ (q : List Write). length q) (holds.settled found done current))))
 
 reads_on : (a b : Bool) (queued : ℕ) → b ≡ a → (a ≡ false → queued ≡ 0) → 0 < queued → b ≡ true
 reads_on true b queued e none some = e
@@ -143,7 +143,7 @@ boot_drain_leads {S} K = λ o cycles m n t at phase some drains.
     (small_step o cycles (K.boot_view o m.scheme n) (K.boot_view o t n) small DramDrained stays.view)
     stays.view (record { action = Rest; asked = refl; left = refl }) drains.dram (omega (arith, queue)) (omega (arith, left)) refl
     tt
-    (λ e. reads_on (K.has_read m.scheme) (K.has_read t) (K.queued m.scheme) stays.read unread some) (λ found done. refl)
+    (λ e. reads_on (K.has_read m.scheme) (K.has_read t) (K.queued m.scheme) stays.read unread some) (λ found done current. refl)
 
 -- ---- in each phase
 

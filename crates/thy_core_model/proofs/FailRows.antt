@@ -17,6 +17,7 @@ use Rattle.thy_view.specs.Origin.{Origin}
 use Rattle.thy_view.specs.Safe.{Safe}
 use Rattle.thy_view.specs.Turn.{has_stopped, waits}
 use Rattle.thy_view.specs.Views.{doubt_of}
+use Rattle.thy_view.proofs.ActionLemmas.{asks_by}
 use Rattle.thy_view.proofs.SafeLemmas.{Safe-failed}
 use Rattle.thy_scheme.specs.Marks.{Marks, doubt_in, marks_after_fault}
 use Rattle.thy_scheme.specs.Scheme.{SchemeOf, Stands}
@@ -113,10 +114,10 @@ module _ {S : Type 0} (K : SchemeOf S) (o : Origin) (cycles : ℕ) (m : Machine 
   access_fails did t calm asks access down =
       let stays = at.lawful.stays_sound o m.marks m.scheme n t new stands (free_to_run calm) access.stays in
       record {
-        failed = record { action = access.action; asked = asks access.action access.access; failed = access.fails down };
+        failed = record { action = access.action; asked = asks_by (K.migrates m.scheme) did access.action (asks access.action access.access); failed = access.fails down };
         safe = safe_after_other access.action (not-commit access.action access.access) stays.safe;
         of_geometry = at.lawful.stays_of m.scheme n t new access.stays o.geometry (at.lawful.run_holds o m.marks m.scheme n stands).of_geometry;
-        still = λ found boots done. absurd (not_booting boots);
+        still = λ found r current. absurd (not_booting r.phase);
       }
 
 pub hart_fails : {S : Type 0} (K : SchemeOf S) → HartFails K
@@ -141,7 +142,7 @@ promotion_leaves K o cycles m n t new at phase fails left =
       failed = record { action = ReadAt 0; asked = tt; failed = fails.failed };
       safe = safe_after_other K o cycles m n new at phase (ReadAt 0) refl safe;
       of_geometry = left o.geometry holds.of_geometry;
-      still = λ found boots done. fails.failed;
+      still = λ found r current. fails.failed;
     }
 
 pub engine_leaves : {S : Type 0} (K : SchemeOf S) → EngineLeaves K
@@ -149,11 +150,11 @@ engine_leaves K o cycles m n t new at phase e left =
     let holds = at.lawful.run_holds o m.marks m.scheme n (stands K o cycles m n new at phase) in
     let acted = e.acted m.lap in
     record {
-      failed = acted;
+      failed = record { action = acted.action; asked = asks_by (K.migrates m.scheme) (engine_did m.lap e.step) acted.action acted.asked; failed = acted.failed };
       safe = safe_for_view K o cycles m n new at phase acted.action
           (subst (λ (d : Option Mark). Safe K.decode o (Some m.marks.done) d new) (sym (doubt-engine m.lap e.step m.marks acted.action acted.asked)) e.safe);
       of_geometry = left o.geometry holds.of_geometry;
-      still = λ found boots done. absurd (not_booting K o cycles m n new at phase boots);
+      still = λ found r current. absurd (not_booting K o cycles m n new at phase r.phase);
     }
 
 pub boot_leaves : {S : Type 0} (K : SchemeOf S) → BootLeaves K
@@ -161,7 +162,7 @@ boot_leaves K o cycles m n t new at phase b left = record {
   failed = b.acted;
   safe = subst (λ (v : View). Safe K.decode o v.done (doubt_after_fault b.acted.action v) new) (sym (view-boot K o m n phase)) b.safe;
   of_geometry = left o.geometry (holds-boot K at.lawful o cycles m n at.sound phase).of_geometry;
-  still = λ found boots done. b.still found (sym (ap (λ (v : View). v.done) (view-boot K o m n phase)) ∙ done);
+  still = λ found r current. b.still found (sym (ap (λ (v : View). v.done) (view-boot K o m n phase)) ∙ r.done) current;
 }
 
 -- a scheme is of the run's geometry in each phase
@@ -178,5 +179,5 @@ drain_fails K o cycles m n new at failed frame =
       failed = record { action = Drain; asked = refl; failed = failed };
       safe = Safe-failed K.decode o v.done (doubt_of v) n new (moment_is_safe K o cycles m n at.lawful at.sound) failed frame;
       of_geometry = geometry_in K o m n m.phase at.lawful at.sound.up at.sound.moment;
-      still = λ found boots done. failed;
+      still = λ found r current. failed;
     }

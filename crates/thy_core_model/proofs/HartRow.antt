@@ -21,6 +21,7 @@ use Rattle.thy_view.specs.Pace.{KeepsPace}
 use Rattle.thy_view.specs.Stores.{stored_by}
 use Rattle.thy_view.specs.Turn.{has_stopped, over_by}
 use Rattle.thy_view.specs.Work.{begins_instruction, GetsDone, Works}
+use Rattle.thy_view.proofs.ActionLemmas.{acts_by}
 use Rattle.thy_scheme.specs.Scheme.{SchemeOf}
 use Rattle.thy_scheme.specs.Calls.{queued_in, OwesNoMore}
 use Rattle.thy_scheme.specs.Laws.{RunHolds}
@@ -210,7 +211,7 @@ leads-next K o cycles m n lap did h c t new s at turn hs harts x =
       };
       step = subst (λ v. CoreStep o v did (view_of K o (hart_on lap h c t m) new)) (sym old-view)
           (subst (CoreStep o (run_view m) did) (sym new-view) x.step);
-      acts = x.acts;
+      acts = acts_by (K.migrates m.scheme) did n new x.acts;
       dram = harts-dram did n new (K.dram m.scheme) (K.dram t) harts on.dram;
       pace = subst (λ v. KeepsPace (most_spent K o.geometry) v (view_of K o (hart_on lap h c t m) new) did (gauge_of K m n) (gauge_of K (hart_on lap h c t m) new)) (sym old-view)
           (subst (λ v. KeepsPace (most_spent K o.geometry) (run_view m) v did (gauge_of K m n) (gauge_of K (hart_on lap h c t m) new)) (sym new-view)
@@ -219,5 +220,5 @@ leads-next K o cycles m n lap did h c t new s at turn hs harts x =
           (next-works K o cycles m n lap did h c t new on x);
       exhausts = λ e. ap (λ v. v.over) new-view ∙ x.exhausts e;
       read = λ e. ap (λ phase. has_read_in K phase (hart_on lap h c t m)) turn.phase;
-      still = λ found boots done. absurd (let both : Run ≡ Boot = sym turn.phase ∙ sym (ap (λ (v : View). v.phase) old-view) ∙ boots in cc);
+      still = λ found r current. absurd (let both : Run ≡ Boot = sym turn.phase ∙ sym (ap (λ (v : View). v.phase) old-view) ∙ r.phase in cc);
     }

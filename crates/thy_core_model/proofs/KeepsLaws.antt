@@ -16,7 +16,7 @@ use Rattle.thy_view.specs.declared.did.Did.TheVariants.{Moved}
 use Rattle.thy_view.specs.declared.view.Phase.{Phase}
 use Rattle.thy_view.specs.declared.view.Phase.TheVariants.{Boot, Run, Halt}
 use Rattle.thy_view.specs.declared.view.View.{View}
-use Rattle.thy_view.specs.Action.{Action, Rest, ReadAt, WriteAt, Barrier, Drain, after, Acts}
+use Rattle.thy_view.specs.Action.{Action, Rest, ReadAt, WriteAt, Barrier, Drain, after, ActsBy, Acts}
 use Rattle.thy_view.specs.CoreStep.{CoreStep}
 use Rattle.thy_view.specs.Dram.{LeavesDram, WritesBlock}
 use Rattle.thy_view.specs.Kind.{without_memory}
@@ -24,6 +24,7 @@ use Rattle.thy_view.specs.Origin.{Origin, at, runs_at}
 use Rattle.thy_view.specs.Pace.{Queues, Strides as StridesOn}
 use Rattle.thy_view.specs.Turn.{over_by}
 use Rattle.thy_view.specs.Work.{adds_copies, GetsDone}
+use Rattle.thy_view.proofs.ActionLemmas.{acts_by}
 use Rattle.thy_scheme.specs.Behind.{held_behind}
 use Rattle.thy_scheme.specs.Scheme.{SchemeOf, Stands}
 use Rattle.thy_scheme.specs.Calls.{queued_in, OpensNone, HoldsSame, KeepsLeft, Keeps, OwesNoMore}
@@ -117,7 +118,7 @@ module _ {S : Type 0} (K : SchemeOf S) (o : Origin) (cycles : ℕ) (did : Did)
           moment = in_run K o next.phase next new g.behind g.moment;
         };
         step = subst (λ v. CoreStep o v did (view_of K o next new)) (sym old) (subst (λ v. CoreStep o (run_view m) did v) (sym now) g.step);
-        acts = g.acts;
+        acts = acts_by (K.migrates m.scheme) did n new g.acts;
         dram = g.dram;
         pace = record {
           spent = omega (arith, spends, spent_is);
@@ -129,7 +130,7 @@ module _ {S : Type 0} (K : SchemeOf S) (o : Origin) (cycles : ℕ) (did : Did)
         works = record { done = g.done; left = leaves_no_more K did m n next new behind g.behind g.left };
         exhausts = λ is. ap (λ (v : View). v.over) now ∙ g.exhausts is;
         read = λ nothing. has_read_is K o next.phase next g.behind;
-        still = λ found boots done. absurd (behind (sym (ap (λ (v : View). v.phase) old) ∙ boots));
+        still = λ found r current. absurd (behind (sym (ap (λ (v : View). v.phase) old) ∙ r.phase));
       }
 
 -- ---- what stays over a call of the scheme
@@ -305,5 +306,5 @@ up_by Barrier n up = up
 up_by Drain n up = up
 
 -- an action that succeeded leaves it up
-pub up_after : (did : Did) (n new : Device) → n.down ≡ false → Acts did n new → new.down ≡ false
+pub up_after : {migrates : Bool} (did : Did) (n new : Device) → n.down ≡ false → ActsBy migrates did n new → new.down ≡ false
 up_after did n new up acts = ap (λ (d : Device). d.down) acts.left ∙ up_by acts.action n up

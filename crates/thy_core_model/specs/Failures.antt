@@ -1,13 +1,14 @@
 -- What a cycle leaves that failed, by what it was to do: over any scheme, from what the call left.
-use Rattle.std.specs.Prelude.{◌≡◌, ℕ, true, Some}
+use Rattle.std.specs.Prelude.{◌≡◌, ℕ, true, false}
 use Rattle.thy_base.specs.declared.mark.Mark.{Mark}
 use Rattle.thy_base.specs.Device.{Device, HasFailed, IsFramed}
 use Rattle.thy_view.specs.declared.did.Did.{Did}
 use Rattle.thy_view.specs.declared.did.Did.TheVariants.{Moved, Flushed, Promoted, NvmDrained}
 use Rattle.thy_view.specs.declared.view.Phase.TheVariants.{Boot, Run}
-use Rattle.thy_view.specs.Action.{ActionFailed, doubt_after_fault}
+use Rattle.thy_view.specs.Action.{ActionFailedBy, doubt_after_fault}
 use Rattle.thy_view.specs.Origin.{Origin}
 use Rattle.thy_view.specs.Safe.{Safe}
+use Rattle.thy_view.specs.Views.{IsRestarting}
 use Rattle.thy_scheme.specs.Scheme.{SchemeOf, StaysOf}
 use Rattle.thy_scheme.specs.Calls.{IsOneAccess, PromotionFails, EngineFails, engine_did}
 use Rattle.thy_scheme.specs.Boots.{BootFails, boot_did}
@@ -15,12 +16,13 @@ use Rattle.thy_core_model.specs.Machine.{Machine, view_of}
 use Rattle.thy_core_model.specs.Rows.{IsMoment, HartGoes, IsSealing}
 
 -- a cycle that was to do this failed in its action, and leaves the committed checkpoint, whole, or the one in doubt, as the
--- action decides, and a scheme of the run's geometry; in a boot that found a checkpoint it wrote nothing
+-- action decides, and a scheme of the run's geometry; in a boot that found a checkpoint it wrote nothing, unless the scheme
+-- migrates
 pub record Fails {S : Type 0} (K : SchemeOf S) (o : Origin) (did : Did) (m : Machine S) (t : S) (n new : Device) : Type 0 where
-  pub failed : ActionFailed did n new
+  pub failed : ActionFailedBy (K.migrates m.scheme) did n new
   pub safe : Safe K.decode o (view_of K o m n).done (doubt_after_fault failed.action (view_of K o m n)) new
   pub of_geometry : K.is_of o.geometry t
-  pub still : (found : Mark) → (view_of K o m n).phase ≡ Boot → (view_of K o m n).done ≡ Some found → HasFailed n new
+  pub still : (found : Mark) → IsRestarting (view_of K o m n) found → K.migrates m.scheme ≡ false → HasFailed n new
 
 -- a load or a store of the hart
 abbrev pub HartFails : {S : Type 0} → SchemeOf S → Type 0

@@ -48,6 +48,7 @@ kind_over K = record {
   has_failed = SoundStopped K;
   failed = λ m. m.failed;
   has_read = has_read_of K;
+  migrates = λ m. K.migrates m.scheme;
   dram = λ m. K.dram m.scheme;
   overlaps = K.overlaps;
   pressure = pressure_of K;

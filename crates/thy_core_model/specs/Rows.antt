@@ -13,12 +13,13 @@ use Rattle.thy_view.specs.declared.did.Did.{Did}
 use Rattle.thy_view.specs.declared.did.Did.TheVariants.{Moved, Flushed as DidFlush, Merged, Promoted, Sealed, NvmDrained, DramDrained, Nothing}
 use Rattle.thy_view.specs.declared.did.Stall.TheVariants.{Sealing}
 use Rattle.thy_view.specs.declared.view.Phase.TheVariants.{Boot, Run, Halt}
-use Rattle.thy_view.specs.Action.{Acts}
+use Rattle.thy_view.specs.Action.{ActsBy}
 use Rattle.thy_view.specs.CoreStep.{CoreStep}
 use Rattle.thy_view.specs.Dram.{LeavesDram}
 use Rattle.thy_view.specs.Origin.{Origin}
 use Rattle.thy_view.specs.Pace.{KeepsPace}
 use Rattle.thy_view.specs.Turn.{stall_in, over_by}
+use Rattle.thy_view.specs.Views.{IsRestarting}
 use Rattle.thy_view.specs.Work.{Works}
 use Rattle.thy_scheme.specs.declared.boot_step.BootStep.{BootStep}
 use Rattle.thy_scheme.specs.Scheme.{SchemeOf}
@@ -31,17 +32,17 @@ use Rattle.thy_core_model.specs.Sound.{Sound}
 use Rattle.thy_core_model.specs.Calls.{HartCall, FlushCall, hart_did, after_hart, after_flush, after_call, after_drain, after_seal, after_engine, after_boot}
 
 -- a cycle that did this leads to the next moment: by a step of the view, one action of both devices, and within bounds, and gets
--- done what it says; in a boot that found a checkpoint it leaves the NVM as it was
+-- done what it says; in a boot that found a checkpoint it leaves the NVM as it was, unless the scheme migrates
 pub record Leads {S : Type 0} (K : SchemeOf S) (o : Origin) (cycles : ℕ) (did : Did) (m : Machine S) (n : Device) (next : Machine S) (new : Device) : Type 0 where
   pub at_next : Sound K o (cycles + 1) next new
   pub step : CoreStep o (view_of K o m n) did (view_of K o next new)
-  pub acts : Acts did n new
+  pub acts : ActsBy (K.migrates m.scheme) did n new
   pub dram : LeavesDram did n new (K.dram m.scheme) (K.dram next.scheme)
   pub pace : KeepsPace (most_spent K o.geometry) (view_of K o m n) (view_of K o next new) did (gauge_of K m n) (gauge_of K next new)
   pub works : Works did (gauge_of K m n) (gauge_of K next new) n new (K.dram m.scheme) (K.dram next.scheme)
   pub exhausts : did ≡ Moved → (view_of K o next new).over ≡ over_by (pressure_of K m).short
   pub read : n.queue ≡ [] → has_read_of K next ≡ true
-  pub still : (found : Mark) → (view_of K o m n).phase ≡ Boot → (view_of K o m n).done ≡ Some found → new ≡ n
+  pub still : (found : Mark) → IsRestarting (view_of K o m n) found → K.migrates m.scheme ≡ false → new ≡ n
 
 -- a moment of a run, over a lawful scheme
 pub record IsMoment {S : Type 0} (K : SchemeOf S) (o : Origin) (cycles : ℕ) (m : Machine S) (n : Device) : Type 0 where

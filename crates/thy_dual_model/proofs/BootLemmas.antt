@@ -183,7 +183,7 @@ module _ (o : Origin) (s : Dual) (n : Device) (boots : Boots o s n) where
         (shown-at o boots.images n s.boot s.control s.boot.stage boots.going boots.sound.keeps);
     unread = λ h. boots.unread (unread-at s.boot.stage h);
     drains = λ some. drained-stays;
-    settled = λ m found.
+    settled = λ m found current.
         settled-at o boots.images n s.boot s.control s.boot.stage m boots.going (sym (ap (λ (v : View). v.done) (view-is o s n boots)) ∙ found)
         boots.sound.so_far;
   }

@@ -395,7 +395,7 @@ module _ (o : Origin) (s : Dual) (n : Device) (booting : IsBooting dual_scheme o
     queue = queue-by (issue_at b.stage) steps;
     nearer = subst (λ (p : Parameters). boot_left p d.stage + 1 ≤ boot_left b.p b.stage) (sym same) nearer;
     read = read;
-    still = λ m found. found_stays o g.kept m n b s.control new d e (sym (ap (λ (x : View). x.done) before) ∙ found) steps;
+    still = λ m found current. found_stays o g.kept m n b s.control new d e (sym (ap (λ (x : View). x.done) before) ∙ found) steps;
   }
 
 -- ---- one that failed
@@ -440,7 +440,7 @@ module _ (o : Origin) (s : Dual) (n : Device) (booting : IsBooting dual_scheme o
           failed = fails;
         };
         safe = subst (λ (x : View). Safe decode_image o x.done (doubt_after_fault action x) new) (sym (view-is o s n boots)) safe;
-        still = λ m found.
+        still = λ m found current.
             read-failed s.boot.p s.boot.stage n new
             (found-reads o boots.images.kept m s.boot n new s.boot.stage (sym (ap (λ (x : View). x.done) (view-is o s n boots)) ∙ found) fails);
       }

@@ -16,3 +16,4 @@ pub mod BootStepLemmas
 pub mod LawfulLemmas
 pub mod BoundLemmas
 pub mod BarLemmas
+pub mod RecoveryLemmas

@@ -6,3 +6,4 @@ pub mod Boots
 pub mod Scheme
 pub mod Laws
 pub mod Bounds
+pub mod Recovery

@@ -40,6 +40,7 @@ dual_scheme = record {
   boots = Boots;
   boot_view = λ o s n. view_at o s.boot.stage n;
   has_read = λ s. has_read_at s.boot.stage;
+  migrates = λ s. false;
   boot_left = λ s. boot_left s.boot.p s.boot.stage;
   engine_left = λ s. cycles_left s.engine s.control;
   merges_left = λ s. overlays s.control;

@@ -3,6 +3,7 @@ ghost use Rattle.thy_dual_model.specs.Booted.{BootedIsSound};
 ghost use Rattle.thy_dual_model.specs.Bounds.{BootsAreShort, EpochsAreShort};
 ghost use Rattle.thy_dual_model.specs.Laws.{BootIsSound, PowerFinds, PowerIsNew, ZerosAreNothing};
 ghost use Rattle.thy_dual_model.specs.Laws.{HeldIsUp, NothingIsBarred, ReadyIsWhole, RunIsSound, StaysKeep, StaysOver};
+ghost use Rattle.thy_dual_model.specs.Recovery.{FailuresWriteNothing, StepsLeaveNvm};
 
 /// Loads and stores keep the checkpoints, those that fail too, and bring the engine no more to do.
 pub fn stays_keep_the_checkpoints()
@@ -54,4 +55,11 @@ pub fn what_is_held_stays()
 pub fn epochs_and_boots_are_short()
     ensures epochs { EpochsAreShort }
     ensures boots { BootsAreShort }
+{}
+
+/// While a machine over the scheme restores a checkpoint, each step leaves the NVM as it was, and one that failed wrote
+/// nothing; the last one reads. So the scheme makes no use of the leave to migrate an image.
+pub fn a_recovery_writes_nothing()
+    ensures steps { StepsLeaveNvm }
+    ensures failures { FailuresWriteNothing }
 {}

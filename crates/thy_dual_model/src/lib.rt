@@ -8,7 +8,7 @@
 mod laws;
 
 pub use laws::{
-    a_boot_finds_the_image, a_boot_is_sound, a_checkpoint_bars_nothing, a_run_is_sound,
-    epochs_and_boots_are_short, stays_keep_the_checkpoints, what_is_held_stays,
+    a_boot_finds_the_image, a_boot_is_sound, a_checkpoint_bars_nothing, a_recovery_writes_nothing,
+    a_run_is_sound, epochs_and_boots_are_short, stays_keep_the_checkpoints, what_is_held_stays,
     where_a_boot_ends_is_sound,
 };

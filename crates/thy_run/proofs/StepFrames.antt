@@ -1,8 +1,8 @@
 -- What a step leaves of the device, by the one action that it took.
-use Rattle.std.proofs.Common.{refl, sym, subst}
+use Rattle.std.proofs.Common.{Bool, refl, sym, subst}
 use Rattle.thy_base.specs.Device.{Device, IsFramed}
 use Rattle.thy_base.proofs.DeviceLemmas.{length-written_to, length-settled, length-drained}
-use Rattle.thy_view.specs.Action.{Action, Rest, ReadAt, WriteAt, Barrier, Drain, after, Acts}
+use Rattle.thy_view.specs.Action.{Action, Rest, ReadAt, WriteAt, Barrier, Drain, after, ActsBy}
 use Rattle.thy_view.specs.declared.did.Did.{Did}
 use Rattle.thy_view.specs.Kind.{KindOf}
 use Rattle.thy_view.specs.Origin.{Origin}
@@ -15,9 +15,9 @@ framed_after (WriteAt place block) n = record { blocks = length-written_to n pla
 framed_after Barrier n = record { blocks = length-settled n; left = refl; picks = refl; queue_room = refl; left_room = refl; fits = refl; lent = refl }
 framed_after Drain n = record { blocks = length-drained n; left = refl; picks = refl; queue_room = refl; left_room = refl; fits = refl; lent = refl }
 
-IsFramed-acts : (did : Did) (n new : Device) → Acts did n new → IsFramed n new
-IsFramed-acts did n new a = subst (IsFramed n) (sym a.left) (framed_after a.action n)
+IsFramed-acts : (migrates : Bool) (did : Did) (n new : Device) → ActsBy migrates did n new → IsFramed n new
+IsFramed-acts migrates did n new a = subst (IsFramed n) (sym a.left) (framed_after a.action n)
 
 -- it changes nothing that only a fit and a cut change
 pub TakesStep-framed : {M : Type 0} (K : KindOf M) (o : Origin) (w next : World M) → TakesStep K o w next → IsFramed w.device next.device
-TakesStep-framed K o w next step = IsFramed-acts step.r.did w.device next.device step.is_step.acts
+TakesStep-framed K o w next step = IsFramed-acts (K.migrates w.machine) step.r.did w.device next.device step.is_step.acts

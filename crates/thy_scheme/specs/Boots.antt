@@ -11,7 +11,7 @@ use Rattle.thy_record.specs.Cpu.{IsRecordable}
 use Rattle.thy_view.specs.declared.did.Did.{Did}
 use Rattle.thy_view.specs.declared.did.Did.TheVariants.{Boot, Loaded, Restarted, Refused}
 use Rattle.thy_view.specs.declared.view.View.{View}
-use Rattle.thy_view.specs.Action.{Acts, ActionFailed, doubt_after_fault}
+use Rattle.thy_view.specs.Action.{ActsBy, ActionFailedBy, doubt_after_fault}
 use Rattle.thy_view.specs.Booting.{boot_view, loading_view}
 use Rattle.thy_view.specs.CoreStep.{BootsTo}
 use Rattle.thy_view.specs.Dram.{ActsOnDram}
@@ -64,23 +64,24 @@ Answers K o IsLoaded s n t new = Loads K o s n t new
 Answers K o (IsRestarted cpu epoch) s n t new = Restarts K o cpu epoch s n t new
 Answers K o (IsRefused bad) s n t new = ⊥
 
--- a step of the boot, whose first one reads the commit block; where a checkpoint was found it leaves the NVM as it was
+-- a step of the boot, whose first one reads the commit block; if a checkpoint was found it leaves the NVM as it was, unless
+-- the boot migrates
 pub record BootsOn {S : Type 0} (K : SchemeOf S) (o : Origin) (step : BootStep) (s : S) (n : Device) (t : S) (new : Device) : Type 0 where
   pub answers : Answers K o step s n t new
-  pub acts : Acts (boot_did step) n new
+  pub acts : ActsBy (K.migrates s) (boot_did step) n new
   pub dram : ActsOnDram n new (K.dram s) (K.dram t)
   pub queue : queued_in K t new ≤ queued_in K s n + 1
   pub nearer : K.boot_left t + 1 ≤ K.boot_left s
   pub read : K.has_read t ≡ true
-  pub still : (m : Mark) → (K.boot_view o s n).done ≡ Some m → new ≡ n
+  pub still : (m : Mark) → (K.boot_view o s n).done ≡ Some m → K.migrates s ≡ false → new ≡ n
 
 -- that failed in its action, and leaves what the boot found, whole, or what is loaded, if loading's commit block was written
--- before or this was its write; where a checkpoint was found it wrote nothing
+-- before or this was its write; if a checkpoint was found it wrote nothing, unless the boot migrates
 pub record BootFails {S : Type 0} (K : SchemeOf S) (o : Origin) (s : S) (n new : Device) : Type 0 where
   pub step : BootStep
-  pub acted : ActionFailed (boot_did step) n new
+  pub acted : ActionFailedBy (K.migrates s) (boot_did step) n new
   pub safe : Safe K.decode o (K.boot_view o s n).done (doubt_after_fault acted.action (K.boot_view o s n)) new
-  pub still : (m : Mark) → (K.boot_view o s n).done ≡ Some m → HasFailed n new
+  pub still : (m : Mark) → (K.boot_view o s n).done ≡ Some m → K.migrates s ≡ false → HasFailed n new
 
 -- the boot and what is seen of it are as before
 pub record BootStays {S : Type 0} (K : SchemeOf S) (o : Origin) (s : S) (n : Device) (t : S) (new : Device) : Type 0 where

@@ -40,8 +40,8 @@ pub record BootsFound {S : Type 0} (K : SchemeOf S) (o : Origin) (s : S) (n : De
   pub boots : K.boots o s n
   pub view : K.boot_view o s n ≡ view_of_image o.start.count (K.decode o.geometry ceiling n.image)
 
--- what holds in the boot: a cut leaves what is seen, a drain of the NVM changes nothing of it, and where a checkpoint was found
--- nothing is queued there
+-- what holds in the boot: a cut leaves what is seen, a drain of the NVM changes nothing of it, and if a checkpoint was found
+-- nothing is queued there, unless the boot migrates
 pub record BootHolds {S : Type 0} (K : SchemeOf S) (o : Origin) (s : S) (n : Device) : Type 0 where
   pub of_geometry : K.is_of o.geometry s
   pub sized : length n.image ≡ K.blocks o.geometry
@@ -49,7 +49,7 @@ pub record BootHolds {S : Type 0} (K : SchemeOf S) (o : Origin) (s : S) (n : Dev
   pub shown : IsBootView o (K.boot_view o s n)
   pub unread : K.has_read s ≡ false → K.queued s ≡ 0
   pub drains : 0 < length n.queue → BootStays K o s n s (drained n)
-  pub settled : (m : Mark) → (K.boot_view o s n).done ≡ Some m → n.queue ≡ []
+  pub settled : (m : Mark) → (K.boot_view o s n).done ≡ Some m → K.migrates s ≡ false → n.queue ≡ []
 
 -- no number is above its most
 pub record IsBounded {S : Type 0} (K : SchemeOf S) (p : Parameters) (s : S) (n : Device) : Type 0 where

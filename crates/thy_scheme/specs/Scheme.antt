@@ -55,6 +55,8 @@ pub record SchemeOf (S : Type 0) : Type 1 where
   -- what is then seen of it, and whether the commit block was read
   pub boot_view : Origin → S → Device → View
   pub has_read : S → Bool
+  -- the image that it found has an older form, and the boot writes that checkpoint anew in the form of today
+  pub migrates : S → Bool
   -- actions that the boot has left, cycles of the engine, merges and promotions, and the most of each
   pub boot_left : S → ℕ
   pub engine_left : S → ℕ

@@ -1,2 +1,4 @@
 pub mod Choices
 pub mod SafeLemmas
+pub mod ActionLemmas
+pub mod RestartLemmas

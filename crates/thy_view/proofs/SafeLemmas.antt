@@ -6,7 +6,7 @@ use Rattle.thy_base.proofs.CrashLemmas.{Crash-failed}
 use Rattle.thy_record.specs.Decoded.{Decoded, Nothing as NothingFound, Refused as RefusedImage, At, Reading}
 use Rattle.thy_base.specs.Marks.{mark}
 use Rattle.thy_view.specs.Origin.{Origin}
-use Rattle.thy_view.specs.Safe.{ceiling, Safe, IsOneOf}
+use Rattle.thy_view.specs.Safe.{ceiling, Safe, IsOneOf, SameIsNoDoubt}
 
 -- a call that failed makes nothing more possible, unless it was a write
 pub Safe-failed : (read : Reading) (o : Origin) (kept doubt : Option Mark) (old new : Device) → Safe read o kept doubt old → HasFailed old new → IsFramed old new → Safe read o kept doubt new
@@ -20,3 +20,12 @@ Safe-doubt read o kept doubt n safe = λ g c. more (read o.geometry ceiling g) (
     more NothingFound h = h
     more (RefusedImage bad) h = h
     more (At epoch state) h = (elim h.0 as (λ _. (kept ≡ Some (mark epoch state.count)) ⊎ (doubt ≡ Some (mark epoch state.count))) [ inl e ↦ inl e | inr e ↦ absurd (cc) ], h.1)
+
+-- doubt between a mark and itself is none
+pub Safe-same : SameIsNoDoubt
+Safe-same read o m n safe = λ g c. less (read o.geometry ceiling g) (safe g c)
+  where
+    less : (d : Decoded) → IsOneOf o (Some m) (Some m) d → IsOneOf o (Some m) None d
+    less NothingFound h = h
+    less (RefusedImage bad) h = h
+    less (At epoch state) h = (elim h.0 as (λ _. (Some m ≡ Some (mark epoch state.count)) ⊎ (None ≡ Some (mark epoch state.count))) [ inl e ↦ inl e | inr e ↦ inl e ], h.1)

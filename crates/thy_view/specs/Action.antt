@@ -1,6 +1,6 @@
 -- Part of the claim.
 -- What a cycle asks of the device, and what that leaves.
-use Rattle.std.specs.Prelude.{◌≡◌, ◌≢◌, ℕ, ◌==◌, ◌||◌, Bool, false, if◌then◌else◌, Option, None}
+use Rattle.std.specs.Prelude.{◌≡◌, ◌≢◌, ℕ, ◌==◌, ◌||◌, Bool, true, false, if◌then◌else◌, Option, None}
 use Rattle.thy_base.specs.declared.block.Block.{Block}
 use Rattle.thy_base.specs.declared.mark.Mark.{Mark}
 use Rattle.thy_record.specs.declared.engine_step.EngineStep.TheVariants.{Barrier as EngineBarrier, CommitWritten}
@@ -49,33 +49,49 @@ abbrev pub IsBootAction : Action → Type 0
 IsBootAction Drain = ⊥
 IsBootAction action = Unit {0}
 
--- what a cycle that did this asks: at most one write, which a read may come before; the commit block is written by the engine
+-- the end of a restart: it reads, or, if the machine migrates, may let all that its boot wrote land
+abbrev pub EndsRestart : Bool → Action → Type 0
+EndsRestart true Barrier = Unit {0}
+EndsRestart migrates action = IsRead action
+
+-- What a cycle that did this asks, of a machine that migrates or does not: at most one write, which a read may come before. The
+-- commit block is written by the engine, and in a boot.
+abbrev pub AsksBy : Bool → Did → Action → Type 0
+AsksBy migrates NvmDrained action = action ≡ Drain
+AsksBy migrates Loaded action = action ≡ Barrier
+AsksBy migrates (Committed epoch overlapped) action = action ≡ Barrier
+AsksBy migrates (Engine EngineBarrier) action = action ≡ Barrier
+AsksBy migrates (Engine CommitWritten) action = (block : Block) × (action ≡ WriteAt 1 block)
+AsksBy migrates (Engine step) action = IsAccess action
+AsksBy migrates Moved action = IsAccess action
+AsksBy migrates Flushed action = IsAccess action
+AsksBy migrates Promoted action = IsAccess action
+AsksBy migrates Boot action = IsBootAction action
+AsksBy migrates (Restarted epoch count) action = EndsRestart migrates action
+AsksBy migrates (Refused bad) action = IsRead action
+AsksBy migrates did action = action ≡ Rest
+
+-- of one that does not
 abbrev pub Asks : Did → Action → Type 0
-Asks NvmDrained action = action ≡ Drain
-Asks Loaded action = action ≡ Barrier
-Asks (Committed epoch overlapped) action = action ≡ Barrier
-Asks (Engine EngineBarrier) action = action ≡ Barrier
-Asks (Engine CommitWritten) action = (block : Block) × (action ≡ WriteAt 1 block)
-Asks (Engine step) action = IsAccess action
-Asks Moved action = IsAccess action
-Asks Flushed action = IsAccess action
-Asks Promoted action = IsAccess action
-Asks Boot action = IsBootAction action
-Asks (Restarted epoch count) action = IsRead action
-Asks (Refused bad) action = IsRead action
-Asks did action = action ≡ Rest
+Asks did action = AsksBy false did action
 
 -- a cycle that did this acted on the device once
-pub record Acts (did : Did) (n new : Device) : Type 0 where
+pub record ActsBy (migrates : Bool) (did : Did) (n new : Device) : Type 0 where
   pub action : Action
-  pub asked : Asks did action
+  pub asked : AsksBy migrates did action
   pub left : new ≡ after action n
 
+abbrev pub Acts : Did → Device → Device → Type 0
+Acts did n new = ActsBy false did n new
+
 -- a cycle that was to do this failed in its action
-pub record ActionFailed (did : Did) (n new : Device) : Type 0 where
+pub record ActionFailedBy (migrates : Bool) (did : Did) (n new : Device) : Type 0 where
   pub action : Action
-  pub asked : Asks did action
+  pub asked : AsksBy migrates did action
   pub failed : FailsTo action n new
+
+abbrev pub ActionFailed : Did → Device → Device → Type 0
+ActionFailed did n new = ActionFailedBy false did n new
 
 -- it writes the commit block
 abbrev pub is_commit_write : Action → Bool

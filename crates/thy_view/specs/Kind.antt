@@ -24,18 +24,17 @@ use Rattle.thy_view.specs.declared.did.Stall.{Stall}
 use Rattle.thy_view.specs.declared.did.Stepped.{Stepped}
 use Rattle.thy_view.specs.declared.error.CoreError.{CoreError}
 use Rattle.thy_view.specs.declared.error.CoreError.TheVariants.{Nvm, Memory}
-use Rattle.thy_view.specs.declared.view.Phase.TheVariants.{Boot}
 use Rattle.thy_view.specs.declared.view.View.{View}
 use Rattle.thy_view.specs.Booting.{view_of_image, found_first, first_view}
 use Rattle.thy_view.specs.CoreStep.{CoreStep}
 use Rattle.thy_view.specs.Origin.{Origin, IsOrigin, Begins, at}
 use Rattle.thy_view.specs.Safe.{ceiling, Safe}
-use Rattle.thy_view.specs.Action.{Acts, ActionFailed, doubt_after_fault}
+use Rattle.thy_view.specs.Action.{ActsBy, ActionFailedBy, doubt_after_fault}
 use Rattle.thy_view.specs.Dram.{LeavesDram}
 use Rattle.thy_view.specs.Pace.{Gauge, retires, KeepsPace}
 use Rattle.thy_view.specs.Stores.{needs_at}
 use Rattle.thy_view.specs.Turn.{Turn, Shortage, Pressure, over_by}
-use Rattle.thy_view.specs.Views.{is_boot, is_between, is_halt, halts, loads, doubt_of}
+use Rattle.thy_view.specs.Views.{IsRestarting, is_boot, is_between, is_halt, halts, loads, doubt_of}
 use Rattle.thy_view.specs.Work.{Works, IsWithin}
 
 -- what is seen of machines of a type
@@ -55,6 +54,8 @@ pub record KindOf (M : Type 0) : Type 1 where
   pub failed : M → Bool
   -- the boot has read the commit block
   pub has_read : M → Bool
+  -- in its boot: the image that it found has an older form, and it writes that checkpoint anew in the form of today
+  pub migrates : M → Bool
   -- what the DRAM holds
   pub dram : M → Contents
   -- the hart may run while a checkpoint is under way
@@ -134,13 +135,13 @@ pub record IsPressed {M : Type 0} (K : KindOf M) (o : Origin) (m : M) (n : Devic
 -- the boot's first does, reads the commit block where that is still to be read. It acts on the device once, or reads it
 -- and writes one block of the DRAM, keeps within the bounds, is a cycle nearer to the next instruction, and gets done what it
 -- says that it did. What presses on the machine before it, by which its turn goes, is as it says. In a boot that found a
--- checkpoint it leaves the device as it was.
+-- checkpoint it leaves the device as it was, unless the machine migrates; and whatever a cut then leaves is that checkpoint.
 pub record IsStep {M : Type 0} (K : KindOf M) (o : Origin) (k : ℕ) (pick : Pick) (m next : M) (n new : Device) (r : Stepped) : Type 0 where
   pub at_next : K.is_at o (k + 1) next new
   pub step : CoreStep o (K.view o m n) r.did (K.view o next new)
   pub pressed : IsPressed K o m n
   pub turn : Turn o pick (length n.queue) (K.view o m n) (K.pressure m) r.did r.stall
-  pub acts : Acts r.did n new
+  pub acts : ActsBy (K.migrates m) r.did n new
   pub dram : LeavesDram r.did n new (K.dram m) (K.dram next)
   pub pace : KeepsPace (K.most_spent o.geometry) (K.view o m n) (K.view o next new) r.did (K.gauge m n) (K.gauge next new)
   pub works : Works r.did (K.gauge m n) (K.gauge next new) n new (K.dram m) (K.dram next)
@@ -149,24 +150,27 @@ pub record IsStep {M : Type 0} (K : KindOf M) (o : Origin) (k : ℕ) (pick : Pic
   pub ended : r.ended ≡ halts (K.view o m n) (K.view o next new)
   pub safe : Safe K.decode o (K.view o next new).done (doubt_of (K.view o next new)) new
   pub read : n.queue ≡ [] → K.has_read next ≡ true
-  pub still : (found : Mark) → (K.view o m n).phase ≡ Boot → (K.view o m n).done ≡ Some found → new ≡ n
+  pub still : (found : Mark) → IsRestarting (K.view o m n) found → K.migrates m ≡ false → new ≡ n
+  pub spares : (found : Mark) → IsRestarting (K.view o m n) found → Safe K.decode o (Some found) None new
 
 -- a cycle failed in its action, which fits what the actor whose turn it was may do; in a boot that found a checkpoint it wrote
--- nothing
+-- nothing, unless the machine migrates
 pub record CycleFailed {M : Type 0} (K : KindOf M) (o : Origin) (pick : Pick) (m : M) (n new : Device) : Type 0 where
   -- what the cycle would have done, and the stall that it would have told
   pub did : Did
   pub stall : Option Stall
   pub pressed : IsPressed K o m n
   pub turn : Turn o pick (length n.queue) (K.view o m n) (K.pressure m) did stall
-  pub failed : ActionFailed did n new
-  pub still : (found : Mark) → (K.view o m n).phase ≡ Boot → (K.view o m n).done ≡ Some found → HasFailed n new
+  pub failed : ActionFailedBy (K.migrates m) did n new
+  pub still : (found : Mark) → IsRestarting (K.view o m n) found → K.migrates m ≡ false → HasFailed n new
 
 -- A step that failed leaves what the action of its turn may leave: the committed checkpoint, whole, or the one in doubt. The
--- sealed one is in doubt only if the action was the commit block's write, or that block was written before.
+-- sealed one is in doubt only if the action was the commit block's write, or that block was written before. In a boot that
+-- found a checkpoint none is in doubt.
 pub record LeavesSafe {M : Type 0} (K : KindOf M) (o : Origin) (pick : Pick) (m next : M) (n new : Device) : Type 0 where
   pub acted : CycleFailed K o pick m n new
   pub safe : Safe K.decode o (K.view o m n).done (doubt_after_fault acted.failed.action (K.view o m n)) new
+  pub spares : (found : Mark) → IsRestarting (K.view o m n) found → Safe K.decode o (Some found) None new
   -- and a machine of which power can be cut, and a snapshot taken
   pub stopped : K.has_failed o (K.view o m n) next
 

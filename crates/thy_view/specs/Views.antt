@@ -1,6 +1,6 @@
 -- Part of the claim.
 -- What a view says at a glance.
-use Rattle.std.specs.Prelude.{Bool, true, false, ◌&&◌, ◌||◌, ◌==◌, not, is_none, if◌then◌else◌, Option, None}
+use Rattle.std.specs.Prelude.{◌≡◌, Bool, true, false, ◌&&◌, ◌||◌, ◌==◌, not, is_none, if◌then◌else◌, Option, Some, None}
 use Rattle.thy_base.specs.declared.mark.Mark.{Mark}
 use Rattle.thy_view.specs.declared.view.Phase.{Phase}
 use Rattle.thy_view.specs.declared.view.Phase.TheVariants.{Boot, Halt}
@@ -17,6 +17,11 @@ is_halt phase = false
 -- a view whose boot found no checkpoint
 abbrev pub loads : View → Bool
 loads v = is_boot v.phase && is_none v.done
+
+-- a view whose boot found this checkpoint, and restores it
+pub record IsRestarting (v : View) (found : Mark) : Type 0 where
+  pub phase : v.phase ≡ Boot
+  pub done : v.done ≡ Some found
 
 -- a cycle is the one that halts
 abbrev pub halts : View → View → Bool

@@ -9,9 +9,11 @@
 mod computer;
 mod did;
 mod error;
+mod laws;
 mod view;
 
 pub use computer::Computer;
 pub use did::{Did, Stall, Stepped};
 pub use error::CoreError;
+pub use laws::a_kept_mark_is_never_in_doubt;
 pub use view::{Phase, View};
