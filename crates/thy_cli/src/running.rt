@@ -176,7 +176,8 @@ fn run_source<M: Computer, H: Shelf, T: Sink, R: Sink, N: Nvm>(
     )
 }
 
-/// Runs a job on the machine of its scheme: `M` for `SchemeName::Thynvm`.
+/// Runs a job on the machine of its scheme: `M` for `SchemeName::Thynvm`. A machine has to read the files of its own
+/// scheme alone.
 pub fn run_by_scheme<M: Computer, H: Shelf, T: Sink, R: Sink, N: Nvm>(
     alloc: Global,
     source: Source,
@@ -187,7 +188,7 @@ pub fn run_by_scheme<M: Computer, H: Shelf, T: Sink, R: Sink, N: Nvm>(
     nvm: &mut N,
 ) -> Answer
     requires range { range_fault job.config ≡ None }
-    requires reads { (p : Numbers) → ReadsFiles M.kind p }
+    requires reads { (p : Numbers) → p.scheme ≡ SchemeName.Thynvm → ReadsFiles M.kind p }
     ensures { let before = outside (H.stock shelf.old) (N.device nvm.old)
         (T.stream terminal.old) (R.stream report.old) in
         let after = outside (H.stock shelf.new) (N.device nvm.new)

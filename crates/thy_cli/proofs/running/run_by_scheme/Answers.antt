@@ -10,11 +10,14 @@ use Rattle.thy_cli.specs.Planning.{named}
 use Rattle.thy_cli.proofs.running.run_by_scheme.Goals as goal
 
 -- there is one scheme so far
+is_thynvm : (scheme : SchemeName) → scheme ≡ Thynvm
+is_thynvm Thynvm = refl
+
 thynvm_is : {M : Type 0} (K : KindOf M) (scheme : SchemeName) → by_scheme K scheme ≡ record { Machine = M; kind = K }
 thynvm_is K Thynvm = refl
 
 pub run_source-requires-clause-reads : goal.run_source-requires-clause-reads
-run_source-requires-clause-reads g c = c.requires.reads (parameters_of c.args.job.config)
+run_source-requires-clause-reads g c = c.requires.reads (parameters_of c.args.job.config) (is_thynvm c.args.job.config.scheme)
 
 pub returns : goal.returns
 returns g c =
