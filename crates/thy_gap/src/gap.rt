@@ -209,7 +209,8 @@ impl<N: Nvm> Nvm for Gap<N> {
         ensures stays { OnErr result (IsOver self.old self.new) }
     {
         self.inner.barrier()?;
-        if self.since < self.every {
+        let due = self.since >= self.every;
+        if !due {
             return Ok(());
         }
         move_line(&mut self.inner, &self.registers)?;

@@ -89,13 +89,13 @@ impl Registers {
         requires { IsWhole self.now }
         ensures { result ≡ (moved_on self.now).start }
     {
-        if self.gap > 0 {
-            self.start
-        } else if self.start + 1 < self.lines {
+        let around = self.gap == 0;
+        let next = if self.start + 1 < self.lines {
             self.start + 1
         } else {
             0
-        }
+        };
+        if around { next } else { self.start }
     }
 
     /// The block that holds them.

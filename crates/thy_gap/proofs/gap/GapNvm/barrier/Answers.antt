@@ -1,4 +1,5 @@
-use Rattle.std.proofs.Common.{◌∙◌, ap, sym}
+use Rattle.std.proofs.lemmas.Grind.{common_steps}
+use Rattle.std.proofs.Common.{arith, refl, ◌∙◌, ap, sym}
 use Rattle.thy_gap.specs.declared.registers.Registers.{Registers}
 use Rattle.thy_gap.specs.Seen.{seen}
 use Rattle.thy_gap.proofs.MovingLemmas.{on_err}
@@ -12,17 +13,17 @@ pub returns-in_err-barrier-clause-err : goal.returns-in_err-barrier-clause-err
 returns-in_err-barrier-clause-err g c =
     rw (sym c.self.view_is) (on_err _ (failed_seen c.self.invariant (g.N.Nvm.device c.barrier.new.self) c.in_err-barrier.ensures.err))
 
-pub invariant_of-self-then-self : goal.invariant_of-self-then-self
-invariant_of-self-then-self g c =
+pub invariant_of-self-then-not-due : goal.invariant_of-self-then-not-due
+invariant_of-self-then-not-due g c =
     sound_settled c.self.invariant (g.N.Nvm.device c.barrier.new.self) (rw (sym c.self.view_is) at c.requires) c.in_ok-barrier.ensures.ok c.barrier.ensures.frame
 
-pub returns-then-self-clause-ok : goal.returns-then-self-clause-ok
-returns-then-self-clause-ok g c =
+pub returns-then-not-due-clause-ok : goal.returns-then-not-due-clause-ok
+returns-then-not-due-clause-ok g c =
     rw (sym c.self.view_is) (ap (seen c.self.inside.registers) c.in_ok-barrier.ensures.ok ∙ barrier_seen c.self.invariant)
 
 pub move_line-requires : goal.move_line-requires
 move_line-requires g c =
-    rest_before_move c.self.invariant (g.N.Nvm.device c.barrier.new.self) c.if-self.false (rw (sym c.self.view_is) at c.requires) c.in_ok-barrier.ensures.ok
+    rest_before_move c.self.invariant (g.N.Nvm.device c.barrier.new.self) c.if-not-due.false (rw (sym c.self.view_is) at c.requires) c.in_ok-barrier.ensures.ok
 
 pub invariant_of-self-in_err-move_line : goal.invariant_of-self-in_err-move_line
 invariant_of-self-in_err-move_line g c =
@@ -33,18 +34,27 @@ pub returns-in_err-move_line-clause-err : goal.returns-in_err-move_line-clause-e
 returns-in_err-move_line-clause-err g c =
     rw (sym c.self.view_is)
     (on_err _
-    (failed_move_seen c.self.invariant (g.N.Nvm.device c.barrier.new.self) (g.N.Nvm.device c.move_line.new.inner) c.if-self.false c.in_ok-barrier.ensures.ok
+    (failed_move_seen c.self.invariant (g.N.Nvm.device c.barrier.new.self) (g.N.Nvm.device c.move_line.new.inner) c.if-not-due.false c.in_ok-barrier.ensures.ok
     c.in_err-move_line.ensures.err))
 
 pub invariant_of-self-2 : goal.invariant_of-self-2
 invariant_of-self-2 g c =
     rw c.moved-self-inside.ensures
-    (sound_moved c.self.invariant (g.N.Nvm.device c.barrier.new.self) (g.N.Nvm.device c.move_line.new.inner) c.if-self.false (rw (sym c.self.view_is) at c.requires)
+    (sound_moved c.self.invariant (g.N.Nvm.device c.barrier.new.self) (g.N.Nvm.device c.move_line.new.inner) c.if-not-due.false (rw (sym c.self.view_is) at c.requires)
     c.in_ok-barrier.ensures.ok c.barrier.ensures.frame c.in_ok-move_line.ensures.ok)
 
 pub returns-clause-ok : goal.returns-clause-ok
 returns-clause-ok g c =
     rw (sym c.self.view_is)
     (ap (λ (r : Registers). seen r (g.N.Nvm.device c.move_line.new.inner)) c.moved-self-inside.ensures
-    ∙ move_seen c.self.invariant (g.N.Nvm.device c.barrier.new.self) (g.N.Nvm.device c.move_line.new.inner) c.if-self.false (rw (sym c.self.view_is) at c.requires)
+    ∙ move_seen c.self.invariant (g.N.Nvm.device c.barrier.new.self) (g.N.Nvm.device c.move_line.new.inner) c.if-not-due.false (rw (sym c.self.view_is) at c.requires)
     c.in_ok-barrier.ensures.ok c.in_ok-move_line.ensures.ok)
+
+pub returns-then-not-due-clause-moves : goal.returns-then-not-due-clause-moves
+returns-then-not-due-clause-moves g c = grind (arith, common_steps)
+
+pub returns-clause-moves : goal.returns-clause-moves
+returns-clause-moves g c = grind (arith, common_steps)
+
+pub returns-in_err-move_line-clause-stays : goal.returns-in_err-move_line-clause-stays
+returns-in_err-move_line-clause-stays g c = rw (sym c.self.view_is) (on_err _ refl)

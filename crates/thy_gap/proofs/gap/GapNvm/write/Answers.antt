@@ -1,3 +1,4 @@
+use Rattle.std.proofs.lemmas.Grind.{common_steps}
 use Rattle.std.proofs.Common.{◌∙◌, ap, sym, arith}
 use Rattle.thy_base.specs.Device.{written_to}
 use Rattle.thy_gap.specs.Seen.{seen}
@@ -37,3 +38,6 @@ returns-clause-ok g c =
     rw (sym c.self.view_is)
     (ap (seen c.self.inside.registers) (c.in_ok-write.ensures.ok ∙ ap (λ x. written_to (g.N.Nvm.device c.self.inside.inner) x c.args.block.now) c.place.ensures)
     ∙ write_seen c.self.invariant c.args.at c.args.block.now l (rw (sym c.self.view_is) at c.requires.up))
+
+pub returns-clause-since : goal.returns-clause-since
+returns-clause-since g c = grind (arith, common_steps)
