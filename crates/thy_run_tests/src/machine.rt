@@ -7,6 +7,8 @@ ghost use Rattle.thy_view.specs.Origin.{IsOrigin};
 ghost use Rattle.thy_view.specs.Kind.{IsDramOf};
 ghost use Rattle.thy_run_tests.specs.Powered.{origin_from};
 
+mod waiting;
+
 use crate::expect::{expect, expect_at};
 use crate::geometry::geometry_of;
 use crate::plain::{image_of, start_with};

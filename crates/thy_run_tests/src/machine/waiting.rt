@@ -1,0 +1,147 @@
+//! The machine over the scheme that waits: a program of two epochs, cut behind every cycle, and how many barriers come
+//! before the hart goes on.
+use crate::expect::{expect, expect_at};
+use crate::machine::{Booted, MOST, Powered, Row, boot, cut, plain_machines, uncut};
+use std::alloc::Global;
+use std::process::Abort;
+use thy_base::EndCause;
+use thy_core::Machine;
+use thy_isa::Status;
+use thy_record::EngineStep;
+use thy_view::Did;
+use thy_waiting::WaitingScheme;
+
+/// `auipc a1,0; addi a1,a1,32; addi a0,zero,1; addi a2,zero,3; addi a7,zero,64; ecall`, which prints three bytes;
+/// `addi a7,zero,93; ecall`; and the bytes, `Hi` and a line feed. It prints in its first epoch, and ends in its second.
+static TWO_EPOCHS: Row = Row {
+    words: &[
+        0x00000597, 0x02058593, 0x00100513, 0x00300613, 0x04000893, 0x00000073, 0x05d00893,
+        0x00000073, 0x000a6948,
+    ],
+    epoch: 6,
+    ends: &[(6, EndCause::Length), (8, EndCause::Ended)],
+    overlapped: &[0, 0],
+    status: Status::Exited(3),
+};
+
+/// What a machine told of the barriers behind commits and restarts.
+#[derive(Drop)]
+struct Waits {
+    /// An epoch is sealed, and not committed.
+    sealed: bool,
+    /// The barriers so far behind a commit or a restart, until the hart goes on.
+    behind: Option<u64>,
+    /// How many there were each time that it went on.
+    counts: Vec<u64>,
+}
+
+impl Waits {
+    /// Behind a boot that came to this.
+    fn from(alloc: Global, booted: Booted) -> Waits {
+        Waits {
+            sealed: false,
+            behind: if booted.found.is_some() {
+                Some(0)
+            } else {
+                None
+            },
+            counts: Vec::new(alloc),
+        }
+    }
+
+    /// The engine took a step: one of a checkpoint, or a barrier behind one.
+    fn engine(&mut self, rt: &impl Abort, step: EngineStep) {
+        match self.behind {
+            Some(count) => {
+                expect(rt, step, EngineStep::Barrier);
+                self.behind = Some(count.saturating_add(1));
+            }
+            None => expect(rt, self.sealed, true),
+        }
+    }
+
+    /// The hart goes on, with no checkpoint under way.
+    fn goes_on(&mut self, rt: &impl Abort) {
+        expect(rt, self.sealed, false);
+        if let Some(count) = self.behind {
+            self.counts.push(count).expect(rt, "memory");
+            self.behind = None;
+        }
+    }
+
+    /// A cycle did this.
+    fn note(&mut self, rt: &impl Abort, did: Did) {
+        match did {
+            Did::NvmDrained | Did::DramDrained => {}
+            Did::Engine(step) => self.engine(rt, step),
+            Did::Committed { overlapped, .. } => {
+                expect(rt, overlapped, 0);
+                self.sealed = false;
+                self.behind = Some(0);
+            }
+            Did::Sealed(_, _, _) => {
+                self.goes_on(rt);
+                self.sealed = true;
+            }
+            _ => self.goes_on(rt),
+        }
+    }
+}
+
+/// Takes cycles until the machine halts, and counts the barriers before the hart goes on behind the boot and each commit.
+fn barriers(rt: &impl Abort, alloc: Global, on: &mut Powered<Machine<WaitingScheme>>) -> Vec<u64> {
+    let booted = boot(rt, on);
+    let mut waits = Waits::from(alloc, booted);
+    for _ in 0..MOST {
+        let stepped = on.step(rt);
+        waits.note(rt, stepped.did);
+        if stepped.ended {
+            return waits.counts;
+        }
+    }
+    panic!(rt; "no end")
+}
+
+/// Counts them in a run without cuts by the schedule of a seed, and behind a cut in each of its epochs.
+fn three_each(rt: &impl Abort, alloc: Global, seed: u64) {
+    let plains = plain_machines(rt, alloc, &TWO_EPOCHS);
+    let whole = uncut::<Machine<WaitingScheme>>(rt, alloc, &TWO_EPOCHS, seed, &plains);
+    let mut on = Powered::new(rt, alloc, &TWO_EPOCHS, seed);
+    let counts = barriers(rt, alloc, &mut on);
+    expect_at(rt, counts.as_slice(), &[3], seed);
+    for (epoch, want) in [(0, [3, 3].as_slice()), (1, [3].as_slice())] {
+        let mut before = Powered::new(rt, alloc, &TWO_EPOCHS, seed);
+        for _ in 0..whole.checkpoints[epoch].committed {
+            before.step(rt);
+        }
+        let mut on = before.cut(rt, alloc, 1);
+        let counts = barriers(rt, alloc, &mut on);
+        expect_at(rt, counts.as_slice(), want, seed);
+    }
+}
+
+/// Runs the program by the schedule of a seed, without cuts and then with a cut behind each cycle of its epochs but the last,
+/// with three picks.
+fn survives_each_cut(rt: &impl Abort, alloc: Global, seed: u64) {
+    let plains = plain_machines(rt, alloc, &TWO_EPOCHS);
+    let whole = uncut::<Machine<WaitingScheme>>(rt, alloc, &TWO_EPOCHS, seed, &plains);
+    for at in whole.checkpoints[0].committed..whole.cycles {
+        for pick in [0, 1, 7] {
+            cut::<Machine<WaitingScheme>>(rt, alloc, &TWO_EPOCHS, seed, &plains, &whole, at, pick);
+        }
+    }
+}
+
+#[test]
+fn three_barriers_come_behind_each_commit_and_restart(rt: HostRuntime) {
+    for seed in 0..8 {
+        three_each(&rt, rt.alloc(), seed);
+    }
+}
+
+#[test]
+fn two_epochs_over_the_scheme_that_waits_survive_every_cut(rt: HostRuntime) {
+    for seed in 0..8 {
+        survives_each_cut(&rt, rt.alloc(), seed);
+    }
+}

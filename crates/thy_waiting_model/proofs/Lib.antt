@@ -1,0 +1,5 @@
+pub mod BarrierLemmas
+pub mod RunLemmas
+pub mod CallLemmas
+pub mod BootLemmas
+pub mod LawfulLemmas

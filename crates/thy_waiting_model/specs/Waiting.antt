@@ -1,0 +1,29 @@
+-- A scheme that waits: one below it, and the barriers that are left of those behind a commit or a restart.
+use Rattle.std.specs.Prelude.{ℕ, nat_lt, Bool}
+use Rattle.thy_record.specs.declared.engine_step.EngineStep.{EngineStep}
+use Rattle.thy_record.specs.declared.engine_step.EngineStep.TheVariants.{Committed}
+use Rattle.thy_scheme.specs.declared.boot_step.BootStep.{BootStep}
+use Rattle.thy_scheme.specs.declared.boot_step.BootStep.TheVariants.{Restarted}
+
+pub record Waiting (S : Type 0) : Type 0 where
+  pub below : S
+  -- the barriers that are left
+  pub left : ℕ
+
+-- how many come behind a commit, and behind a restart
+abbrev pub barriers : ℕ
+barriers = 3
+
+-- some are left
+abbrev pub is_waiting : {S : Type 0} → Waiting S → Bool
+is_waiting w = nat_lt 0 w.left
+
+-- how many are left behind a step of the engine below
+abbrev pub left_after : EngineStep → ℕ
+left_after (Committed epoch) = barriers
+left_after step = 0
+
+-- and behind a step of the boot: none behind a load, since the start of a run has no checkpoint before it
+abbrev pub left_booted : BootStep → ℕ
+left_booted (Restarted cpu epoch) = barriers
+left_booted step = 0

@@ -1,0 +1,10 @@
+//! What a scheme that waits is to its contracts: a scheme below, and the barriers that its engine makes behind each commit
+//! and each restart, while the hart may not run. The law is that it is lawful if the scheme below is.
+//!
+//! Open specs/Waiting.antt first, then specs/Scheme.antt, and src/laws.rt. It stands on thy_scheme and on what that stands
+//! on; on it stands thy_waiting.
+#![tactic(auto)]
+
+mod laws;
+
+pub use laws::a_scheme_that_waits_is_lawful;
