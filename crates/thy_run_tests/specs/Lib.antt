@@ -1,3 +1,3 @@
-pub mod Faulty
+pub mod Broken
 pub mod Powered
 pub mod Scarce

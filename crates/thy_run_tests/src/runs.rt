@@ -3,12 +3,15 @@ mod boots;
 mod console;
 mod cuts;
 mod epochs;
+mod fault_rows;
 mod faults;
+mod hostile;
 mod inputs;
 mod made;
 mod misaligned;
 mod programs;
 mod saved;
+mod second_cuts;
 
 pub(crate) use console::GREET;
 use console::HELLO;
