@@ -1,2 +1,1 @@
-mod FaultyLemmas
 mod PoweredLemmas

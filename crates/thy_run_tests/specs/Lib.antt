@@ -1,4 +1,4 @@
-pub mod Faulty
+pub mod Broken
 pub mod Naming
 pub mod Powered
 pub mod Scarce

@@ -7,9 +7,9 @@
 #![tactic(auto)]
 
 #[cfg(test)]
-mod expect;
+mod broken;
 #[cfg(test)]
-mod faulty;
+mod expect;
 #[cfg(test)]
 mod geometry;
 #[cfg(test)]

@@ -3,13 +3,16 @@ mod boots;
 mod console;
 mod cuts;
 mod epochs;
+mod fault_rows;
 mod faults;
+mod hostile;
 mod inputs;
 mod made;
 mod misaligned;
 mod noted;
 mod programs;
 mod saved;
+mod second_cuts;
 
 pub(crate) use console::GREET;
 use console::HELLO;

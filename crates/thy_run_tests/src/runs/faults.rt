@@ -1,9 +1,10 @@
 //! Runs whose NVM fails at one call: they stop there, are saved, and go on over a device that does not fail.
-use crate::faulty::{Fault, FaultyNvm};
+use crate::broken::BrokenNvm;
 use crate::runs::{Given, called_on, called_over, compare, files, ran};
 use std::alloc::{AllocError, Global};
 use std::process::Abort;
 use std::test::Fail;
+use thy_nvm::MemNvm;
 use thy_out::MemShelf;
 
 /// A run in the smallest memory that exits: its options, those that a run which goes on does not have, what is left by
@@ -115,6 +116,23 @@ fn goes_on(
     )
 }
 
+/// How a call fails.
+#[derive(Clone, Copy, Debug, PartialEq, Eq)]
+enum Fault {
+    /// It does nothing.
+    Undone,
+    /// It is done, a barrier by half.
+    Late,
+}
+
+/// A device that fails at one call.
+fn failing_at(alloc: Global, call: u64, fault: Fault) -> Result<MemNvm, AllocError> {
+    match fault {
+        Fault::Undone => MemNvm::failing(alloc, &[call]),
+        Fault::Late => MemNvm::late(alloc, &[call]),
+    }
+}
+
 /// Runs a line whose device fails at one call, which must tell and show a first part of what the case does, and resumes
 /// what it saved.
 fn fail_at(
@@ -127,7 +145,7 @@ fn fail_at(
     fault: Fault,
 ) -> Result<(), AllocError> {
     let mut shelf = MemShelf::new(files(alloc)?, Vec::new(alloc));
-    let mut nvm = FaultyNvm::new(alloc, failing, fault);
+    let mut nvm = failing_at(alloc, failing, fault)?;
     let given = called_over(alloc, line, &mut shelf, &[], &[], &mut nvm)?;
     let Some(told) = told_before(given.report.as_slice()) else {
         panic!(rt; "{line}, call {failing}: no fault");
@@ -144,11 +162,6 @@ fn fail_at(
     let options = case.options;
     let again = format!(in alloc; "thynvm resume I --pages 8 --btt 8 --ptt 8{options} --digest")?;
     let resumed = called_on(alloc, again.as_str(), &mut shelf, &[], &[])?;
-    if failing == 1 {
-        // The device could not be made: no run was begun, and nothing saved.
-        compare(rt, line, &resumed, 3, "", b"fetch I missing\n");
-        return Ok(());
-    }
     let goes_on = goes_on(alloc, &resumed, plain, commits_in(told))?;
     assert!(rt; goes_on, "{again}, behind call {failing} of {line}");
     Ok(())
@@ -177,7 +190,7 @@ fn fail_everywhere(
         "thynvm run {program} --pages 8 --btt 8 --ptt 8{options}{once} --save I --tears {tears}{pick}"
     )?;
     let mut shelf = MemShelf::new(files(alloc)?, Vec::new(alloc));
-    let mut nvm = FaultyNvm::new(alloc, 0, fault);
+    let mut nvm = MemNvm::new(alloc);
     let given = called_over(alloc, line.as_str(), &mut shelf, &[], &[], &mut nvm)?;
     let is_whole = given.status == 0
         && given.printed == plain.printed
@@ -196,8 +209,8 @@ fn each_call_of_a_run_may_fail(rt: HostRuntime) -> Result<(), Fail> {
 }
 
 #[test]
-fn each_call_of_a_run_may_fail_once_it_is_done(rt: HostRuntime) -> Result<(), Fail> {
-    fail_everywhere(&rt, rt.alloc(), &EXITS_WITH_SEVEN, Fault::Done, 1)?;
+fn each_call_of_a_run_may_fail_late(rt: HostRuntime) -> Result<(), Fail> {
+    fail_everywhere(&rt, rt.alloc(), &EXITS_WITH_SEVEN, Fault::Late, 1)?;
     Ok(())
 }
 
@@ -222,8 +235,8 @@ fn each_call_of_two_epochs_may_fail_and_all_that_was_queued_lands(
 }
 
 #[test]
-fn each_call_of_two_epochs_may_fail_once_it_is_done(rt: HostRuntime) -> Result<(), Fail> {
-    fail_everywhere(&rt, rt.alloc(), &PRINTS_IN_TWO_EPOCHS, Fault::Done, 7)?;
+fn each_call_of_two_epochs_may_fail_late(rt: HostRuntime) -> Result<(), Fail> {
+    fail_everywhere(&rt, rt.alloc(), &PRINTS_IN_TWO_EPOCHS, Fault::Late, 7)?;
     Ok(())
 }
 
@@ -234,9 +247,20 @@ fn each_call_of_a_run_with_a_page_in_the_dram_may_fail(rt: HostRuntime) -> Resul
 }
 
 #[test]
-fn each_call_of_a_run_with_a_page_in_the_dram_may_fail_once_it_is_done(
-    rt: HostRuntime,
-) -> Result<(), Fail> {
-    fail_everywhere(&rt, rt.alloc(), &KEEPS_A_PAGE, Fault::Done, 0)?;
+fn each_call_of_a_run_with_a_page_in_the_dram_may_fail_late(rt: HostRuntime) -> Result<(), Fail> {
+    fail_everywhere(&rt, rt.alloc(), &KEEPS_A_PAGE, Fault::Late, 0)?;
+    Ok(())
+}
+
+#[test]
+fn a_device_that_is_not_fitted_saves_nothing(rt: HostRuntime) -> Result<(), Fail> {
+    let alloc = rt.alloc();
+    let mut shelf = MemShelf::new(files(alloc)?, Vec::new(alloc));
+    let line = "thynvm run F --pages 8 --btt 8 --ptt 8 --save I";
+    let given = called_over(alloc, line, &mut shelf, &[], &[], &mut BrokenNvm::new())?;
+    compare(&rt, line, &given, 7, "", b"nvm failed\n");
+    let line = "thynvm resume I --pages 8 --btt 8 --ptt 8";
+    let given = called_on(alloc, line, &mut shelf, &[], &[])?;
+    compare(&rt, line, &given, 3, "", b"fetch I missing\n");
     Ok(())
 }
