@@ -61,6 +61,7 @@ waits_over K = record {
   boots = Boots K;
   boot_view = λ o w n. K.boot_view o w.below n;
   has_read = λ w. K.has_read w.below;
+  migrates = λ w. K.migrates w.below;
   boot_left = λ w. K.boot_left w.below;
   engine_left = λ w. K.engine_left w.below + to_come K w;
   merges_left = λ w. K.merges_left w.below;
