@@ -1,6 +1,6 @@
-//! The whole machine over the simulated NVM, by its steps: two programs by the schedules of eight seeds, and cuts of power
-//! behind every cycle of each run. What a restart finds is compared with the checkpoints that were committed, and the
-//! state there and at the end with that of the plain machine.
+//! The whole machine over the simulated NVM, by its steps: two programs by the schedules of the seeds 0 to 8 and 0 to 7,
+//! and cuts of power behind every cycle of each run. What a restart finds is compared with the checkpoints that were
+//! committed, and the state there and at the end with that of the plain machine.
 ghost use Rattle.std.specs.Prelude.{◌≡◌, None};
 ghost use Rattle.thy_base.specs.Geometry.{program_size};
 ghost use Rattle.thy_view.specs.Origin.{IsOrigin};
@@ -565,6 +565,11 @@ fn epochs_of_one_survive_every_cut_by_schedule_6(rt: HostRuntime) {
 #[test]
 fn epochs_of_one_survive_every_cut_by_schedule_7(rt: HostRuntime) {
     survives::<Machine<DualScheme>>(&rt, rt.alloc(), &EPOCH_OF_ONE, 7);
+}
+
+#[test]
+fn epochs_of_one_survive_every_cut_by_schedule_8(rt: HostRuntime) {
+    survives::<Machine<DualScheme>>(&rt, rt.alloc(), &EPOCH_OF_ONE, 8);
 }
 
 #[test]
