@@ -7,7 +7,7 @@ use crate::runs::{EXIT_SEVEN, called, called_on, compare, files};
 use std::alloc::{AllocError, Global};
 use std::process::Abort;
 use std::test::Fail;
-use thy_base::{Parameters, Shelf};
+use thy_base::{Parameters, SchemeName, Shelf};
 use thy_out::MemShelf;
 use thy_record::{BadImage, check};
 
@@ -98,6 +98,8 @@ static NUMBERS: Parameters = Parameters {
     low: 16,
     mix: 0,
     limit: 1_000_000_000,
+    scheme: SchemeName::Thynvm,
+    harts: 1,
 };
 
 /// An image has 1048 blocks of 64 bytes: header, commit block, two slots of 7, 512 homes, 8 alternate blocks and 8
