@@ -1,7 +1,7 @@
 //! The machine over the scheme that waits: a program of two epochs, cut behind every cycle, and how many barriers come
 //! before the hart goes on.
 use crate::expect::{expect, expect_at};
-use crate::machine::{Booted, MOST, Powered, Row, boot, cut, plain_machines, uncut};
+use crate::machine::{Booted, MOST, Powered, Row, Whole, boot, cut, plain_machines, uncut};
 use std::alloc::Global;
 use std::process::Abort;
 use thy_base::EndCause;
@@ -102,6 +102,14 @@ fn barriers(rt: &impl Abort, alloc: Global, on: &mut Powered<Machine<WaitingSche
     panic!(rt; "no end")
 }
 
+/// The cycle in which the checkpoint of this epoch was committed in a run without cuts.
+fn committed_in(rt: &impl Abort, whole: &Whole, epoch: usize) -> u64 {
+    match whole.checkpoints.get(epoch) {
+        Some(checkpoint) => checkpoint.committed,
+        None => panic!(rt; "no checkpoint"),
+    }
+}
+
 /// Counts them in a run without cuts by the schedule of a seed, and behind a cut in each of its epochs.
 fn three_each(rt: &impl Abort, alloc: Global, seed: u64) {
     let plains = plain_machines(rt, alloc, &TWO_EPOCHS);
@@ -111,7 +119,7 @@ fn three_each(rt: &impl Abort, alloc: Global, seed: u64) {
     expect_at(rt, counts.as_slice(), &[3], seed);
     for (epoch, want) in [(0, [3, 3].as_slice()), (1, [3].as_slice())] {
         let mut before = Powered::new(rt, alloc, &TWO_EPOCHS, seed);
-        for _ in 0..whole.checkpoints[epoch].committed {
+        for _ in 0..committed_in(rt, &whole, epoch) {
             before.step(rt);
         }
         let mut on = before.cut(rt, alloc, 1);
@@ -125,7 +133,7 @@ fn three_each(rt: &impl Abort, alloc: Global, seed: u64) {
 fn survives_each_cut(rt: &impl Abort, alloc: Global, seed: u64) {
     let plains = plain_machines(rt, alloc, &TWO_EPOCHS);
     let whole = uncut::<Machine<WaitingScheme>>(rt, alloc, &TWO_EPOCHS, seed, &plains);
-    for at in whole.checkpoints[0].committed..whole.cycles {
+    for at in committed_in(rt, &whole, 0)..whole.cycles {
         for pick in [0, 1, 7] {
             cut::<Machine<WaitingScheme>>(rt, alloc, &TWO_EPOCHS, seed, &plains, &whole, at, pick);
         }
