@@ -1,4 +1,3 @@
-pub mod Broken
 pub mod Naming
 pub mod Powered
 pub mod Scarce

@@ -7,8 +7,6 @@
 #![tactic(auto)]
 
 #[cfg(test)]
-mod broken;
-#[cfg(test)]
 mod expect;
 #[cfg(test)]
 mod geometry;

@@ -1,6 +1,5 @@
 //! Runs whose NVM fails at one call: they stop there, are saved, and go on over a device that does not fail.
-use crate::broken::BrokenNvm;
-use crate::runs::{Given, called_on, called_over, compare, files, ran};
+use crate::runs::{Given, called_on, called_over, files, ran};
 use std::alloc::{AllocError, Global};
 use std::process::Abort;
 use std::test::Fail;
@@ -249,18 +248,5 @@ fn each_call_of_a_run_with_a_page_in_the_dram_may_fail(rt: HostRuntime) -> Resul
 #[test]
 fn each_call_of_a_run_with_a_page_in_the_dram_may_fail_late(rt: HostRuntime) -> Result<(), Fail> {
     fail_everywhere(&rt, rt.alloc(), &KEEPS_A_PAGE, Fault::Late, 0)?;
-    Ok(())
-}
-
-#[test]
-fn a_device_that_is_not_fitted_saves_nothing(rt: HostRuntime) -> Result<(), Fail> {
-    let alloc = rt.alloc();
-    let mut shelf = MemShelf::new(files(alloc)?, Vec::new(alloc));
-    let line = "thynvm run F --pages 8 --btt 8 --ptt 8 --save I";
-    let given = called_over(alloc, line, &mut shelf, &[], &[], &mut BrokenNvm::new())?;
-    compare(&rt, line, &given, 7, "", b"nvm failed\n");
-    let line = "thynvm resume I --pages 8 --btt 8 --ptt 8";
-    let given = called_on(alloc, line, &mut shelf, &[], &[])?;
-    compare(&rt, line, &given, 3, "", b"fetch I missing\n");
     Ok(())
 }
