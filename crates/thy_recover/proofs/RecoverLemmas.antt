@@ -35,7 +35,8 @@ use Rattle.thy_control.proofs.NewLemmas.{entry_at-empty}
 use Rattle.thy_control.proofs.FrameLemmas.{IsBooting-frame}
 use Rattle.thy_view.specs.Safe.{ceiling}
 use Rattle.thy_recover.specs.declared.stage.Stage.{Stage}
-use Rattle.thy_recover.specs.declared.stage.Stage.TheVariants.{Unread, Header, Slot, Frames, Loading}
+use Rattle.thy_recover.specs.declared.stage.Stage.TheVariants.{Reads, Loads}
+use Rattle.thy_recover.specs.declared.stage.ReadStage.TheVariants.{Unread, Header, Slot, Frames}
 use Rattle.thy_recover.specs.declared.stage.Issue.TheVariants.{Home}
 use Rattle.thy_recover.specs.Boot.{Booting, new_boot, at_stage, slot_of, tables_of, refusing_or, after_commit, after_header, frames_of, next_page, after_slot, after_frame, with_slot_block, gone_on, IsJudged, JudgesUnless, GoesOn}
 use Rattle.thy_recover.specs.Listed.{HaveFirst, ListsUpTo, AsListed}
@@ -46,26 +47,26 @@ use Rattle.thy_recover.proofs.WorkLemmas.{loads-are}
 
 -- ---- commit block and header
 
-pub read_commit-found : (n : Device) (b : Booting) (c : State) → b.stage ≡ Unread → HasRead n b c → HasRead n (at_stage (after_commit (newest n 1)) b) c
+pub read_commit-found : (n : Device) (b : Booting) (c : State) → b.stage ≡ Reads Unread → HasRead n b c → HasRead n (at_stage (after_commit (newest n 1)) b) c
 read_commit-found n b c is h = record { same_p = h.same_p; sized = h.sized; settled = h.settled; so_far = found } where
   fresh : IsFresh c
   fresh = subst (λ (s : Stage). HasReadAt s n b.p b.slot c) is h.so_far
 
   stage : (z : Bool) → is_zero (block_at n.image 1) ≡ z
-      → HasReadAt (if z then Loading (Home 0) else Header (epoch_of (block_at n.image 1)) (commit_fault (block_at n.image 1) ceiling)) n b.p b.slot c
+      → HasReadAt (if z then Loads (Home 0) else Reads (Header (epoch_of (block_at n.image 1)) (commit_fault (block_at n.image 1) ceiling))) n b.p b.slot c
   stage true e = (fresh, decode-zero b.p n.image e, refl)
   stage false e = (fresh, record { committed = e; of_epoch = refl }, refl)
 
   found : HasReadAt (after_commit (newest n 1)) n b.p b.slot c
   found = subst (λ (x : Block). HasReadAt (after_commit x) n b.p b.slot c) (sym (newest-settled n 1 h.settled)) (stage (is_zero (block_at n.image 1)) refl)
 
-pub read_header-found : (n : Device) (b : Booting) (c : State) (epoch : ℕ) (fault : Option BadImage) → b.stage ≡ Header epoch fault → HasRead n b c
+pub read_header-found : (n : Device) (b : Booting) (c : State) (epoch : ℕ) (fault : Option BadImage) → b.stage ≡ Reads (Header epoch fault) → HasRead n b c
     → HasRead n (at_stage (after_header b.p epoch fault (newest n 0)) b) c
 read_header-found n b c epoch fault is h = record { same_p = h.same_p; sized = h.sized; settled = h.settled; so_far = found } where
   had : IsFresh c × HasCommit n.image epoch × (fault ≡ commit_fault (block_at n.image 1) ceiling)
   had = subst (λ (s : Stage). HasReadAt s n b.p b.slot c) is h.so_far
 
-  stage : (o : Option BadImage) → option_or (header_fault (block_at n.image 0) b.p true) (commit_fault (block_at n.image 1) ceiling) ≡ o → HasReadAt (refusing_or o (Slot epoch 0)) n b.p b.slot c
+  stage : (o : Option BadImage) → option_or (header_fault (block_at n.image 0) b.p true) (commit_fault (block_at n.image 1) ceiling) ≡ o → HasReadAt (refusing_or o (Reads (Slot epoch 0))) n b.p b.slot c
   stage None e =
       let both = none_of_two (header_fault (block_at n.image 0) b.p true) (commit_fault (block_at n.image 1) ceiling) e in
       (had.0, record { commit = had.1; header_fits = both.0; commit_fits = both.1 }, record { each = λ k l. absurd (omega arith) })
@@ -189,7 +190,7 @@ module _ (n : Device) (epoch : ℕ) (b : Booting) (c : State) (h : HasTables b.p
 
 -- ---- a block of the slot
 
-pub keep_block-found : (n : Device) (b : Booting) (c : State) (epoch k : ℕ) (block : Block) → b.stage ≡ Slot epoch k → HasRead n b c → 64 * k + 64 ≤ length b.slot
+pub keep_block-found : (n : Device) (b : Booting) (c : State) (epoch k : ℕ) (block : Block) → b.stage ≡ Reads (Slot epoch k) → HasRead n b c → 64 * k + 64 ≤ length b.slot
     → length block.0 ≡ 64 → block ≡ newest n (slot_place b.p (epoch % 2) + k) → HasSlot b.p n.image epoch (k + 1) (with_slot_block k block b).slot
 keep_block-found n b c epoch k block is h room size here =
     let had : IsFresh c × HasHead b.p n.image epoch × HasSlot b.p n.image epoch k b.slot = subst (λ (s : Stage). HasReadAt s n b.p b.slot c) is h.so_far in
@@ -208,8 +209,8 @@ module _ (n : Device) (b : Booting) (c d : State) (epoch k : ℕ) (same : c.p �
       go_to_page-found n epoch b d tables t (ap (λ (x : State). x.p) j.same ∙ same) sized settled all law 0 (record { each = λ i m may l. absurd (omega arith) })
 
   go_on-found : (z : Bool) → nat_lt (k + 1) (slot_blocks b.p) ≡ z → JudgesUnless z (slot_fault b.p ceiling epoch (slot_of b)) b c d
-      → HasReadAt (if z then Slot epoch (k + 1) else after_slot epoch b) n b.p b.slot d
-  go_on-found true e j = subst (λ (x : State). HasReadAt (Slot epoch (k + 1)) n b.p b.slot x) (sym j) (fresh, head, had)
+      → HasReadAt (if z then Reads (Slot epoch (k + 1)) else after_slot epoch b) n b.p b.slot d
+  go_on-found true e j = subst (λ (x : State). HasReadAt (Reads (Slot epoch (k + 1))) n b.p b.slot x) (sym j) (fresh, head, had)
   go_on-found false e j = judged_as (omega (arith, inside, not_below (k + 1) (slot_blocks b.p) e)) (slot_fault b.p ceiling epoch (slot_of b)) refl j where
     not_below : (x y : ℕ) → nat_lt x y ≡ false → y ≤ x
     not_below x y h = ltb-false x y h
@@ -234,7 +235,7 @@ module _ (n : Device) (b : Booting) (c d : State) (epoch k : ℕ) (same : c.p �
 
 -- ---- a block of a frame
 
-module _ (n : Device) (b : Booting) (c : State) (epoch j k : ℕ) (is : b.stage ≡ Frames epoch j k) (h : HasRead n b c) (t : AreSoundTables c)
+module _ (n : Device) (b : Booting) (c : State) (epoch j k : ℕ) (is : b.stage ≡ Reads (Frames epoch j k)) (h : HasRead n b c) (t : AreSoundTables c)
     (u : AreSoundTables (with_frame j k c n)) (l : LoadsFrame j k c n (with_frame j k c n) n) (all : FramedHoldsAll) (law : CommittedTables) where
   had : HasTables b.p n.image epoch b.slot c × AreFramed c n j k × MayFrame j k c
   had = subst (λ (s : Stage). HasReadAt s n b.p b.slot c) is h.so_far
@@ -281,7 +282,7 @@ module _ (n : Device) (b : Booting) (c : State) (epoch j k : ℕ) (is : b.stage 
         ]);
   }
 
-  frame_stage : (z : Bool) → nat_lt (k + 1) 64 ≡ z → HasReadAt (if z then Frames epoch j (k + 1) else frames_of epoch (next_page (j + 1) (tables_of b))) n b.p b.slot d
+  frame_stage : (z : Bool) → nat_lt (k + 1) 64 ≡ z → HasReadAt (if z then Reads (Frames epoch j (k + 1)) else frames_of epoch (next_page (j + 1) (tables_of b))) n b.p b.slot d
   frame_stage true e = (tables_then, framed_then, after j (k + 1) (record { listed = had.2.listed; inside = ltb-true (k + 1) 64 e }))
   frame_stage false e =
       go_to_page-found n epoch b d tables_then u same_p_then h.sized h.settled all law (j + 1)

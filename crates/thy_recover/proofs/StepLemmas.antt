@@ -8,7 +8,8 @@ use Rattle.thy_control.specs.State.{State, AreSoundTables}
 use Rattle.thy_control.specs.CheckpointTables.{CommittedTables}
 use Rattle.thy_control.specs.Boot.{LoadsFrame, with_frame, FramedHoldsAll}
 use Rattle.thy_recover.specs.declared.stage.Stage.{Stage}
-use Rattle.thy_recover.specs.declared.stage.Stage.TheVariants.{Slot, Frames}
+use Rattle.thy_recover.specs.declared.stage.Stage.TheVariants.{Reads}
+use Rattle.thy_recover.specs.declared.stage.ReadStage.TheVariants.{Slot, Frames}
 use Rattle.thy_recover.specs.Boot.{Booting, IsBoot, IsThere, tables_of, after_frame, with_slot_block, gone_on, GoesOn}
 use Rattle.thy_recover.specs.Listed.{ListsUpTo}
 use Rattle.thy_recover.specs.Recovers.{IsFresh, HasHead, HasSlot, HasReadAt, HasRead}
@@ -19,7 +20,7 @@ pub at_ok : {T E : Type 0} (P : Device → Booting → Type 0) (r : Result T E) 
 at_ok P (Ok x) m n d e f g h = subst (λ (y : Booting). P m y) (sym f) (subst (λ (y : Device). P y e) (sym g) h)
 at_ok P (Err x) m n d e f g h = tt
 
-module _ (n : Device) (b : Booting) (c : State) (epoch k : ℕ) (is : b.stage ≡ Slot epoch k) (h : HasRead n b c) where
+module _ (n : Device) (b : Booting) (c : State) (epoch k : ℕ) (is : b.stage ≡ Reads (Slot epoch k)) (h : HasRead n b c) where
   had : IsFresh c × HasHead b.p n.image epoch × HasSlot b.p n.image epoch k b.slot
   had = subst (λ (s : Stage). HasReadAt s n b.p b.slot c) is h.so_far
 
@@ -41,7 +42,7 @@ module _ (n : Device) (b : Booting) (c : State) (epoch k : ℕ) (is : b.stage �
       subst (λ (x : Device). HasRead x b2 d) (sym same)
       (subst (λ (x : Booting). HasRead n x d) (sym (e2 ∙ ap (gone_on epoch k) e1)) read)
 
-pub frame_step : (n : Device) (b : Booting) (c : State) (epoch j k : ℕ) → b.stage ≡ Frames epoch j k → HasRead n b c → AreSoundTables c
+pub frame_step : (n : Device) (b : Booting) (c : State) (epoch j k : ℕ) → b.stage ≡ Reads (Frames epoch j k) → HasRead n b c → AreSoundTables c
     → (m : Device) (b1 : Booting) (d : State) → d ≡ with_frame j k c n → m ≡ n → LoadsFrame j k c n d m → b1 ≡ record b { stage = after_frame epoch j k b }
     → AreSoundTables d → FramedHoldsAll → CommittedTables → HasRead m b1 d
 frame_step n b c epoch j k is h t m b1 d e same l f u all law =

@@ -19,7 +19,9 @@ use Rattle.thy_control.specs.State.{State}
 use Rattle.thy_recover.specs.Listed.{AsListed}
 use Rattle.thy_view.specs.Safe.{ceiling}
 use Rattle.thy_recover.specs.declared.stage.Stage.{Stage}
-use Rattle.thy_recover.specs.declared.stage.Stage.TheVariants.{Unread, Header, Slot, Frames, Refusing, Loading, Restored, Loaded}
+use Rattle.thy_recover.specs.declared.stage.Stage.TheVariants.{Reads, Loads, Over}
+use Rattle.thy_recover.specs.declared.stage.ReadStage.TheVariants.{Unread, Header, Slot, Frames, Refusing}
+use Rattle.thy_recover.specs.declared.stage.End.TheVariants.{Restored, Loaded}
 use Rattle.thy_recover.specs.declared.stage.Issue.{Issue}
 use Rattle.thy_recover.specs.declared.stage.Issue.TheVariants.{Home, Slot as SlotBlock}
 use Rattle.thy_recover.specs.declared.stage.BootStep.{BootStep}
@@ -32,7 +34,7 @@ pub record Booting : Type 0 where
   pub stage : Stage
 
 abbrev pub new_boot : Parameters → Booting
-new_boot p = record { p = p; slot = replicate (64 * slot_blocks p) 0; stage = Unread }
+new_boot p = record { p = p; slot = replicate (64 * slot_blocks p) 0; stage = Reads Unread }
 
 -- what is written next is there
 abbrev pub IsIssue : Parameters → Issue → Type 0
@@ -40,16 +42,11 @@ IsIssue p (Home b) = b < memory_blocks p
 IsIssue p (SlotBlock k) = k < slot_blocks p
 IsIssue p issue = Unit {0}
 
--- what loading does next, at a stage of it
-abbrev pub issue_at : Stage → Option Issue
-issue_at (Loading issue) = Some issue
-issue_at _ = None
-
 -- what is read or written next is there
 abbrev pub IsThere : Parameters → Stage → Type 0
-IsThere p (Slot epoch next) = next < slot_blocks p
-IsThere p (Frames epoch page next) = (page < p.ptt) × (next < 64)
-IsThere p (Loading issue) = IsIssue p issue
+IsThere p (Reads (Slot epoch next)) = next < slot_blocks p
+IsThere p (Reads (Frames epoch page next)) = (page < p.ptt) × (next < 64)
+IsThere p (Loads issue) = IsIssue p issue
 IsThere p _ = Unit {0}
 
 pub record IsBoot (b : Booting) : Type 0 where
@@ -65,11 +62,11 @@ tables_of b = tables_in b.p (slot_of b)
 
 -- what a step answers that left the boot so far
 abbrev pub answer_at : Stage → Booting → BootStep
-answer_at (Refusing bad) b = Refused bad
-answer_at (Loading issue) b = IsLoading
-answer_at Loaded b = HasLoaded
-answer_at (Restored epoch) b = Restarted (cpu_of_record (slot_of b)) epoch
-answer_at _ b = Reading
+answer_at (Reads (Refusing bad)) b = Refused bad
+answer_at (Reads r) b = Reading
+answer_at (Loads issue) b = IsLoading
+answer_at (Over (Restored epoch)) b = Restarted (cpu_of_record (slot_of b)) epoch
+answer_at (Over Loaded) b = HasLoaded
 
 abbrev pub answer_of : Booting → BootStep
 answer_of b = answer_at b.stage b
@@ -79,20 +76,20 @@ answer_of b = answer_at b.stage b
 -- a refusal where there is a fault, else the next stage
 abbrev pub refusing_or : Option BadImage → Stage → Stage
 refusing_or None next = next
-refusing_or (Some bad) next = Refusing bad
+refusing_or (Some bad) next = Reads (Refusing bad)
 
 -- the commit block; where it is zero, the program is loaded from its first block on
 abbrev pub after_commit : Block → Stage
-after_commit block = if is_zero block then Loading (Home 0) else Header (epoch_of block) (commit_fault block ceiling)
+after_commit block = if is_zero block then Loads (Home 0) else Reads (Header (epoch_of block) (commit_fault block ceiling))
 
 -- the header, behind a commit block with this fault
 abbrev pub after_header : Parameters → ℕ → Option BadImage → Block → Stage
-after_header p epoch fault block = refusing_or (option_or (header_fault block p true) fault) (Slot epoch 0)
+after_header p epoch fault block = refusing_or (option_or (header_fault block p true) fault) (Reads (Slot epoch 0))
 
 -- the frames of the page that this entry lists are loaded; where there is none, all is restored
 abbrev pub frames_of : ℕ → Option ℕ → Stage
-frames_of epoch None = Restored epoch
-frames_of epoch (Some page) = Frames epoch page 0
+frames_of epoch None = Over (Restored epoch)
+frames_of epoch (Some page) = Reads (Frames epoch page 0)
 
 -- the next listed page
 abbrev pub next_page : ℕ → Tables → Option ℕ
@@ -105,7 +102,7 @@ after_slot epoch b = refusing_or (slot_fault b.p ceiling epoch (slot_of b)) (fra
 -- a block of a frame
 abbrev pub after_frame : ℕ → ℕ → ℕ → Booting → Stage
 after_frame epoch page next b =
-    if nat_lt (next + 1) 64 then Frames epoch page (next + 1) else frames_of epoch (next_page (page + 1) (tables_of b))
+    if nat_lt (next + 1) 64 then Reads (Frames epoch page (next + 1)) else frames_of epoch (next_page (page + 1) (tables_of b))
 
 -- the boot at another stage
 abbrev pub at_stage : Stage → Booting → Booting
@@ -118,7 +115,7 @@ with_slot_block k block b = record b { slot = written b.slot (64 * k) block.0 }
 -- the boot after block `next` of the slot was kept, and the last of them was judged
 abbrev pub gone_on : ℕ → ℕ → Booting → Booting
 gone_on epoch next b =
-    record b { stage = if nat_lt (next + 1) (slot_blocks b.p) then Slot epoch (next + 1) else after_slot epoch b }
+    record b { stage = if nat_lt (next + 1) (slot_blocks b.p) then Reads (Slot epoch (next + 1)) else after_slot epoch b }
 
 -- where the slot has no fault the controller lists its tables, else it is as before
 abbrev pub IsJudged : Option BadImage → Booting → State → State → Type 0

@@ -23,10 +23,13 @@ use Rattle.thy_control.specs.CheckpointTables.{tables0}
 use Rattle.thy_control.specs.Boot.{IsBooting, MayFrame, framed_block}
 use Rattle.thy_view.specs.Safe.{ceiling}
 use Rattle.thy_recover.specs.declared.stage.Stage.{Stage}
-use Rattle.thy_recover.specs.declared.stage.Stage.TheVariants.{Unread, Header, Slot, Frames, Refusing, Loading, Restored, Loaded}
+use Rattle.thy_recover.specs.declared.stage.Stage.TheVariants.{Reads, Loads, Over}
+use Rattle.thy_recover.specs.declared.stage.ReadStage.{ReadStage}
+use Rattle.thy_recover.specs.declared.stage.ReadStage.TheVariants.{Unread, Header, Slot, Frames, Refusing}
+use Rattle.thy_recover.specs.declared.stage.End.TheVariants.{Restored, Loaded}
 use Rattle.thy_recover.specs.declared.stage.Issue.TheVariants.{Home}
 use Rattle.thy_recover.specs.Boot.{Booting, new_boot}
-use Rattle.thy_recover.specs.Left.{boot_left}
+use Rattle.thy_recover.specs.Left.{reads_left, boot_left}
 
 -- the controller lists nothing yet
 pub record IsFresh (c : State) : Type 0 where
@@ -73,14 +76,14 @@ pub record IsRestored (p : Parameters) (n : Device) (epoch : ℕ) (slot : List �
 
 -- by the stage, what was read of the image that stands
 abbrev pub HasReadAt : Stage → Device → Parameters → List ℕ → State → Type 0
-HasReadAt Unread n p slot c = IsFresh c
-HasReadAt (Header epoch fault) n p slot c = IsFresh c × HasCommit n.image epoch × (fault ≡ commit_fault (block_at n.image 1) ceiling)
-HasReadAt (Slot epoch next) n p slot c = IsFresh c × HasHead p n.image epoch × HasSlot p n.image epoch next slot
-HasReadAt (Frames epoch page next) n p slot c = HasTables p n.image epoch slot c × AreFramed c n page next × MayFrame page next c
-HasReadAt (Refusing bad) n p slot c = decode_image p ceiling n.image ≡ IsRefused bad
-HasReadAt (Loading issue) n p slot c = IsFresh c × (decode_image p ceiling n.image ≡ Nothing) × (issue ≡ Home 0)
-HasReadAt (Restored epoch) n p slot c = IsRestored p n epoch slot c
-HasReadAt Loaded n p slot c = ⊥
+HasReadAt (Reads Unread) n p slot c = IsFresh c
+HasReadAt (Reads (Header epoch fault)) n p slot c = IsFresh c × HasCommit n.image epoch × (fault ≡ commit_fault (block_at n.image 1) ceiling)
+HasReadAt (Reads (Slot epoch next)) n p slot c = IsFresh c × HasHead p n.image epoch × HasSlot p n.image epoch next slot
+HasReadAt (Reads (Frames epoch page next)) n p slot c = HasTables p n.image epoch slot c × AreFramed c n page next × MayFrame page next c
+HasReadAt (Reads (Refusing bad)) n p slot c = decode_image p ceiling n.image ≡ IsRefused bad
+HasReadAt (Loads issue) n p slot c = IsFresh c × (decode_image p ceiling n.image ≡ Nothing) × (issue ≡ Home 0)
+HasReadAt (Over (Restored epoch)) n p slot c = IsRestored p n epoch slot c
+HasReadAt (Over Loaded) n p slot c = ⊥
 
 -- a boot that reads, and the controller that it fills, over a device with nothing queued
 pub record HasRead (n : Device) (b : Booting) (c : State) : Type 0 where
@@ -89,17 +92,10 @@ pub record HasRead (n : Device) (b : Booting) (c : State) : Type 0 where
   pub settled : n.queue ≡ []
   pub so_far : HasReadAt b.stage n b.p b.slot c
 
--- it reads on, or answers again that the image is refused
-abbrev pub CanRecover : Stage → Type 0
-CanRecover (Loading issue) = ⊥
-CanRecover (Restored epoch) = ⊥
-CanRecover Loaded = ⊥
-CanRecover _ = Unit {0}
-
 -- a step of the recovery is an action nearer to the boot's end; a refusal comes again
-abbrev pub IsNearer : Parameters → Stage → Stage → Type 0
-IsNearer p (Refusing bad) next = next ≡ Refusing bad
-IsNearer p old next = boot_left p next < boot_left p old
+abbrev pub IsNearer : Parameters → ReadStage → Stage → Type 0
+IsNearer p (Refusing bad) next = next ≡ Reads (Refusing bad)
+IsNearer p r next = boot_left p next < reads_left p r
 
 -- a new boot with a new controller
 abbrev pub NewHasRead : Type 0

@@ -12,7 +12,8 @@ use Rattle.thy_view.specs.CoreStep.{phase_at}
 use Rattle.thy_view.specs.Origin.{Origin}
 use Rattle.thy_protocol.specs.Keeps.{finding_view}
 use Rattle.thy_recover.specs.declared.stage.Stage.{Stage}
-use Rattle.thy_recover.specs.declared.stage.Stage.TheVariants.{Loading, Restored, Loaded}
+use Rattle.thy_recover.specs.declared.stage.Stage.TheVariants.{Reads, Loads, Over}
+use Rattle.thy_recover.specs.declared.stage.End.TheVariants.{Restored, Loaded}
 use Rattle.thy_recover.specs.declared.stage.Issue.{Issue}
 use Rattle.thy_recover.specs.declared.stage.Issue.TheVariants.{Confirm}
 use Rattle.thy_recover.specs.declared.stage.BootStep.{BootStep}
@@ -35,10 +36,10 @@ loaded_view o = record (boot_view (Some (mark 0 o.start.count)) None) { phase = 
 
 -- by the stage, and by the mark that is kept
 abbrev pub seen_at : Origin → Option Mark → Stage → View
-seen_at o kept (Loading issue) = record (loading_view o.start.count) { written = is_written issue }
-seen_at o kept (Restored epoch) = restored_view o epoch kept
-seen_at o kept Loaded = loaded_view o
-seen_at o kept stage = finding_view o.start.count kept
+seen_at o kept (Reads r) = finding_view o.start.count kept
+seen_at o kept (Loads issue) = record (loading_view o.start.count) { written = is_written issue }
+seen_at o kept (Over (Restored epoch)) = restored_view o epoch kept
+seen_at o kept (Over Loaded) = loaded_view o
 
 -- what a cycle did that was a step of the boot
 abbrev pub did_of : BootStep → Did

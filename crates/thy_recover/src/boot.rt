@@ -1,9 +1,9 @@
 //! The boot.
 ghost use Rattle.std.specs.Prelude.{◌≡◌, ◌+◌, ◌*◌, ◌≤◌, length, IfOk};
 ghost use Rattle.thy_base.specs.Bytes.{written};
-ghost use Rattle.thy_recover.specs.Boot.{new_boot, answer_of, issue_at, IsBoot};
+ghost use Rattle.thy_recover.specs.Boot.{new_boot, answer_of, IsBoot};
 
-use crate::stage::{BootStep, Issue, Stage};
+use crate::stage::{BootStep, End, ReadStage, Stage};
 use std::alloc::{AllocError, Global};
 use std::marker::Model;
 use thy_base::{BLOCK_SIZE, Block, Geometry};
@@ -46,7 +46,7 @@ impl Boot {
         Ok(Boot {
             geometry: *geometry,
             slot,
-            stage: Stage::Unread,
+            stage: Stage::Reads(ReadStage::Unread),
         })
     }
 
@@ -64,34 +64,16 @@ impl Boot {
         self.stage
     }
 
-    /// What loading does next, where it has begun.
-    pub(crate) fn issue(&self) -> Option<Issue>
-        ensures { result ≡ issue_at self.now.stage }
-    {
-        match self.stage {
-            Stage::Loading(issue) => Some(issue),
-            Stage::Unread
-            | Stage::Header { .. }
-            | Stage::Slot { .. }
-            | Stage::Frames { .. }
-            | Stage::Refusing(_)
-            | Stage::Restored(_)
-            | Stage::Loaded => None,
-        }
-    }
-
     /// What a step answers that left the boot so far.
     pub(crate) fn answer(&self) -> BootStep
         ensures { result ≡ answer_of self.now }
     {
         match self.stage {
-            Stage::Unread | Stage::Header { .. } | Stage::Slot { .. } | Stage::Frames { .. } => {
-                BootStep::Reading
-            }
-            Stage::Refusing(bad) => BootStep::Refused(bad),
-            Stage::Loading(_) => BootStep::Loading,
-            Stage::Loaded => BootStep::Loaded,
-            Stage::Restored(epoch) => BootStep::Restarted(cpu_in(&self.slot), epoch),
+            Stage::Reads(ReadStage::Refusing(bad)) => BootStep::Refused(bad),
+            Stage::Reads(_) => BootStep::Reading,
+            Stage::Loads(_) => BootStep::Loading,
+            Stage::Over(End::Restored(epoch)) => { BootStep::Restarted(cpu_in(&self.slot), epoch) }
+            Stage::Over(End::Loaded) => BootStep::Loaded,
         }
     }
 }

@@ -12,7 +12,7 @@ ghost use Rattle.thy_recover.specs.Loads.{Takes};
 
 use crate::boot::{Boot, keep_block};
 use crate::listing::{list_all, next_listed};
-use crate::stage::{Issue, Stage};
+use crate::stage::{End, Issue, ReadStage, Stage};
 use thy_base::{Block, Nvm, NvmError, word};
 use thy_control::Control;
 use thy_record::{BadImage, commit_fault, faultless_tables, header_fault, is_zero, slot_fault};
@@ -25,12 +25,12 @@ fn stage_of_commit(commit: &Block) -> Stage
     ensures { result ≡ after_commit commit.now }
 {
     if is_zero(commit) {
-        return Stage::Loading(Issue::Home(0));
+        return Stage::Loads(Issue::Home(0));
     }
-    Stage::Header {
+    Stage::Reads(ReadStage::Header {
         epoch: word(commit, 1),
         fault: commit_fault(commit, CEILING),
-    }
+    })
 }
 
 /// The frames of the page that this entry lists are loaded; where there is none, all is restored.
@@ -38,12 +38,12 @@ fn stage_of_page(epoch: u64, page: Option<usize>) -> Stage
     ensures { result ≡ frames_of epoch page }
 {
     match page {
-        Some(page) => Stage::Frames {
+        Some(page) => Stage::Reads(ReadStage::Frames {
             epoch,
             page,
             next: 0,
-        },
-        None => Stage::Restored(epoch),
+        }),
+        None => Stage::Over(End::Restored(epoch)),
     }
 }
 
@@ -75,8 +75,8 @@ impl Boot {
     {
         let header = nvm.read(0)?;
         self.stage = match header_fault(&header, &self.geometry, true).or(fault) {
-            Some(bad) => Stage::Refusing(bad),
-            None => Stage::Slot { epoch, next: 0 },
+            Some(bad) => Stage::Reads(ReadStage::Refusing(bad)),
+            None => Stage::Reads(ReadStage::Slot { epoch, next: 0 }),
         };
         Ok(())
     }
@@ -113,10 +113,10 @@ impl Boot {
     {
         let blocks = self.geometry.slot_blocks();
         if next + 1 < blocks {
-            self.stage = Stage::Slot {
+            self.stage = Stage::Reads(ReadStage::Slot {
                 epoch,
                 next: next + 1,
-            };
+            });
         } else {
             self.judge(epoch, control);
         }
@@ -131,7 +131,7 @@ impl Boot {
     {
         faultless_tables();
         match slot_fault(&self.slot, epoch, &self.geometry, CEILING) {
-            Some(bad) => self.stage = Stage::Refusing(bad),
+            Some(bad) => self.stage = Stage::Reads(ReadStage::Refusing(bad)),
             None => {
                 list_all(&self.slot, &self.geometry, control);
                 self.go_to_page(epoch, 0);
@@ -147,11 +147,11 @@ impl Boot {
     {
         let _pages = self.geometry.numbers().ptt;
         if next + 1 < 64 {
-            self.stage = Stage::Frames {
+            self.stage = Stage::Reads(ReadStage::Frames {
                 epoch,
                 page,
                 next: next + 1,
-            };
+            });
         } else {
             self.go_to_page(epoch, page + 1);
         }

@@ -19,9 +19,9 @@ pub enum Issue {
     Confirm,
 }
 
-/// How far a boot is.
+/// How far a boot is that reads.
 #[derive(Clone, Copy, Debug, PartialEq, Eq)]
-pub enum Stage {
+pub enum ReadStage {
     /// Nothing was read yet.
     Unread,
     /// The commit block was read: it names this epoch, and has this fault, if any.
@@ -32,12 +32,26 @@ pub enum Stage {
     Frames { epoch: u64, page: usize, next: u64 },
     /// The image is refused.
     Refusing(BadImage),
-    /// There is no checkpoint: the program is loaded, and this comes next.
-    Loading(Issue),
+}
+
+/// How a boot ended.
+#[derive(Clone, Copy, Debug, PartialEq, Eq)]
+pub enum End {
     /// The checkpoint of this epoch is restored.
     Restored(u64),
     /// The program is loaded, as the checkpoint of epoch 0.
     Loaded,
+}
+
+/// How far a boot is.
+#[derive(Clone, Copy, Debug, PartialEq, Eq)]
+pub enum Stage {
+    /// It reads, and is so far.
+    Reads(ReadStage),
+    /// There is no checkpoint: the program is loaded, and this comes next.
+    Loads(Issue),
+    /// It is over.
+    Over(End),
 }
 
 /// What a step of a boot answers.

@@ -1,5 +1,5 @@
 use Rattle.std.proofs.Common.{refl}
-use Rattle.thy_recover.specs.declared.stage.Stage.TheVariants.{Unread as IsUnread}
+use Rattle.thy_recover.specs.declared.stage.ReadStage.TheVariants.{Unread}
 use Rattle.thy_recover.proofs.NearerLemmas.{nearer_ok, nearer_commit}
 use Rattle.thy_base.specs.Device.{Device, newest}
 use Rattle.thy_recover.specs.Boot.{after_commit}
@@ -17,5 +17,5 @@ returns-clause-read g c =
 pub returns-clause-fewer : goal.returns-clause-fewer
 returns-clause-fewer g c =
     let n : Device = g.N.Nvm.device c.args.nvm.now in
-    nearer_ok c.read_commit.result c.args.self.now.p IsUnread (after_commit (newest n 1)) c.args.self.now c.read_commit.new.self (record c.args.self.now { stage = after_commit (newest n 1) })
-    c.requires.stage c.read_commit.ensures.state refl (nearer_commit c.args.self.now.p (newest n 1))
+    nearer_ok c.read_commit.result c.args.self.now.p Unread (after_commit (newest n 1)) c.read_commit.new.self (record c.args.self.now { stage = after_commit (newest n 1) })
+    c.read_commit.ensures.state refl (nearer_commit c.args.self.now.p (newest n 1))

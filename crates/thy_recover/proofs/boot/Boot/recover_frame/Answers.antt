@@ -1,6 +1,6 @@
 use Rattle.std.proofs.Common.{sym, subst}
 use Rattle.thy_recover.specs.declared.stage.Stage.{Stage}
-use Rattle.thy_recover.specs.declared.stage.Stage.TheVariants.{Frames as IsFrames}
+use Rattle.thy_recover.specs.declared.stage.ReadStage.TheVariants.{Frames}
 use Rattle.thy_recover.specs.Boot.{Booting, IsThere}
 use Rattle.thy_recover.specs.Recovers.{IsNearer}
 use Rattle.thy_recover.proofs.NearerLemmas.{nearer_frame}
@@ -19,6 +19,5 @@ pub returns-clause-fewer : goal.returns-clause-fewer
 returns-clause-fewer g c =
     let b : Booting = c.args.self.now in
     let there = subst (λ (s : Stage). IsThere b.p s) c.requires.stage c.fits.ensures.there in
-    subst (λ (s : Stage). IsNearer b.p s c.go_on_framing.new.self.stage) (sym c.requires.stage)
-    (subst (λ (x : Booting). IsNearer b.p (IsFrames c.args.epoch c.args.page c.args.next) x.stage) (sym c.go_on_framing.ensures)
-    (nearer_frame b c.args.epoch c.args.page c.args.next there.0 there.1))
+    subst (λ (x : Booting). IsNearer b.p (Frames c.args.epoch c.args.page c.args.next) x.stage) (sym c.go_on_framing.ensures)
+    (nearer_frame b c.args.epoch c.args.page c.args.next there.0 there.1)

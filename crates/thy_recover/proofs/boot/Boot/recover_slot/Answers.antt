@@ -1,7 +1,7 @@
 use Rattle.std.proofs.Common.{◌≡◌, ◌+◌, ◌%◌, ◌<◌, sym, ap, subst}
 use Rattle.thy_base.specs.declared.config.Parameters.{Parameters}
 use Rattle.thy_recover.specs.declared.stage.Stage.{Stage}
-use Rattle.thy_recover.specs.declared.stage.Stage.TheVariants.{Slot as IsSlot}
+use Rattle.thy_recover.specs.declared.stage.ReadStage.TheVariants.{Slot}
 use Rattle.thy_recover.specs.Recovers.{IsNearer}
 use Rattle.thy_recover.proofs.NearerLemmas.{nearer_slot}
 use Rattle.thy_base.specs.Device.{Device, newest}
@@ -31,8 +31,7 @@ returns-clause-fewer g c =
     let b1 : Booting = c.read_block.new.self in
     let same : b1.p ≡ b.p = ap (λ (x : Booting). x.p) c.in_ok-read_block.ensures.state in
     let inside : c.args.next < slot_blocks b.p = subst (λ (s : Stage). IsThere b.p s) c.requires.stage c.fits.ensures.there in
-    let near : IsNearer b1.p (IsSlot c.args.epoch c.args.next) (gone_on c.args.epoch c.args.next b1).stage
+    let near : IsNearer b1.p (Slot c.args.epoch c.args.next) (gone_on c.args.epoch c.args.next b1).stage
     = nearer_slot b1 c.args.epoch c.args.next (subst (λ (p : Parameters). c.args.next < slot_blocks p) (sym same) inside) in
-    subst (λ (s : Stage). IsNearer b.p s c.go_on.new.self.stage) (sym c.requires.stage)
-    (subst (λ (x : Booting). IsNearer b.p (IsSlot c.args.epoch c.args.next) x.stage) (sym c.go_on.ensures.boot)
-    (subst (λ (p : Parameters). IsNearer p (IsSlot c.args.epoch c.args.next) (gone_on c.args.epoch c.args.next b1).stage) same near))
+    subst (λ (x : Booting). IsNearer b.p (Slot c.args.epoch c.args.next) x.stage) (sym c.go_on.ensures.boot)
+    (subst (λ (p : Parameters). IsNearer p (Slot c.args.epoch c.args.next) (gone_on c.args.epoch c.args.next b1).stage) same near)
