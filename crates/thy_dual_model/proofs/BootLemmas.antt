@@ -40,7 +40,7 @@ use Rattle.thy_recover.specs.Left.{boot_left}
 use Rattle.thy_recover.specs.Laws.{IsGoing}
 use Rattle.thy_recover.specs.Shows.{is_written, seen_at}
 use Rattle.thy_recover.specs.Sound.{BootImages, start_mark, saved_loading, standing_in_boot, IsRecovering, IsSoundAt, IsSound as IsBootOf}
-use Rattle.thy_recover.proofs.DecodeLemmas.{decode-zero}
+use Rattle.thy_recover.proofs.DecodeLemmas.{decode-zero, committed-in}
 use Rattle.thy_recover.proofs.SafeLemmas.{sound_is_safe}
 use Rattle.thy_recover.proofs.BootDrainLemmas.{drains_keep_boot}
 use Rattle.thy_recover.proofs.GoOnLemmas.{new_is_sound}
@@ -119,9 +119,9 @@ view-is o s n boots = view-at o boots.images n s.boot s.control s.boot.stage boo
 
 unread-at : (q : Stage) → has_read_at q ≡ false → q ≡ Reads Unread
 unread-at (Reads Unread) h = refl
-unread-at (Reads (ReadsHeader epoch fault)) h = cc
-unread-at (Reads (ReadsSlot epoch next)) h = cc
-unread-at (Reads (Frames epoch page next)) h = cc
+unread-at (Reads ReadsHeader) h = cc
+unread-at (Reads (ReadsSlot next)) h = cc
+unread-at (Reads (Frames page next)) h = cc
 unread-at (Reads (Refusing bad)) h = cc
 unread-at (Loads issue) h = cc
 unread-at (Over end) h = cc
@@ -284,17 +284,17 @@ kept-some o g n None before tells committed =
 
 -- behind the commit block it is not zero
 abbrev HasCommitAt : ReadStage → Device → Type 0
-HasCommitAt (ReadsHeader epoch fault) n = is_zero (block_at n.image 1) ≡ false
-HasCommitAt (ReadsSlot epoch next) n = is_zero (block_at n.image 1) ≡ false
-HasCommitAt (Frames epoch page next) n = is_zero (block_at n.image 1) ≡ false
+HasCommitAt ReadsHeader n = is_zero (block_at n.image 1) ≡ false
+HasCommitAt (ReadsSlot next) n = is_zero (block_at n.image 1) ≡ false
+HasCommitAt (Frames page next) n = is_zero (block_at n.image 1) ≡ false
 HasCommitAt _ n = Unit {0}
 
-has-commit : (r : ReadStage) (n : Device) (p : Parameters) (slot : List ℕ) (c : State) → HasReadAt (Reads r) n p slot c → HasCommitAt r n
-has-commit Unread n p slot c h = tt
-has-commit (ReadsHeader epoch fault) n p slot c h = h.1.committed
-has-commit (ReadsSlot epoch next) n p slot c h = h.1.commit.committed
-has-commit (Frames epoch page next) n p slot c h = h.0.head.commit.committed
-has-commit (Refusing bad) n p slot c h = tt
+has-commit : (r : ReadStage) (n : Device) (p : Parameters) (commit : Block) (slot : List ℕ) (c : State) → HasReadAt (Reads r) n p commit slot c → HasCommitAt r n
+has-commit Unread n p commit slot c h = tt
+has-commit ReadsHeader n p commit slot c h = committed-in n.image commit h.1
+has-commit (ReadsSlot next) n p commit slot c h = committed-in n.image commit h.1.commit_is
+has-commit (Frames page next) n p commit slot c h = committed-in n.image commit h.0.head.commit_is
+has-commit (Refusing bad) n p commit slot c h = tt
 
 module _ (o : Origin) (g : BootImages) (n : Device) (b : Booting) (c : State) where
   not-loading : IsRecovering g n b c → Tells o (layout_of o) g.before g.kept → is_zero (block_at n.image 1) ≡ false
@@ -305,15 +305,15 @@ module _ (o : Origin) (g : BootImages) (n : Device) (b : Booting) (c : State) wh
   reading-at : (r : ReadStage) → ((bad : BadImage) → Reads r ≢ Reads (Refusing bad)) → Tells o (layout_of o) g.before g.kept → IsRecovering g n b c
       → HasCommitAt r n → false ≡ (has_read_at (Reads r) && loads (view_at o (Reads r) n))
   reading-at Unread good tells far read = refl
-  reading-at (ReadsHeader epoch fault) good tells far read = sym (not-loading far tells read)
-  reading-at (ReadsSlot epoch next) good tells far read = sym (not-loading far tells read)
-  reading-at (Frames epoch page next) good tells far read = sym (not-loading far tells read)
+  reading-at ReadsHeader good tells far read = sym (not-loading far tells read)
+  reading-at (ReadsSlot next) good tells far read = sym (not-loading far tells read)
+  reading-at (Frames page next) good tells far read = sym (not-loading far tells read)
   reading-at (Refusing bad) good tells far read = absurd (good bad refl)
 
   loading-at : (q : Stage) → b.stage ≡ q → IsGoing q → ((bad : BadImage) → q ≢ Reads (Refusing bad)) → IsKeeping o (layout_of o) (standing_in_boot o q g n)
       → IsSoundAt o q g n b c → loads_at q ≡ (has_read_at q && loads (view_at o q n))
   loading-at (Reads r) is going good keeps far =
-      reading-at r good keeps.told far (has-commit r n b.p b.slot c (subst (λ (q : Stage). HasReadAt q n b.p b.slot c) is far.read.so_far))
+      reading-at r good keeps.told far (has-commit r n b.p b.commit b.slot c (subst (λ (q : Stage). HasReadAt q n b.p b.commit b.slot c) is far.read.so_far))
   loading-at (Loads issue) is going good keeps far = refl
   loading-at (Over end) is going good keeps far = absurd going
 

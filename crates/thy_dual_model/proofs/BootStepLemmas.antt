@@ -15,6 +15,7 @@ use Rattle.thy_isa.specs.OnBlocks.{state_from}
 use Rattle.thy_isa.specs.Step.{State as Plain, cpu_of, state_of}
 use Rattle.thy_record.specs.declared.bad_image.BadImage.{BadImage}
 use Rattle.thy_record.specs.declared.start.Start.{Start}
+use Rattle.thy_record.specs.Commit.{epoch_of}
 use Rattle.thy_record.specs.Cpu.{cpu_of_record}
 use Rattle.thy_record.specs.Images.{decode_image}
 use Rattle.thy_record.specs.Slots.{slot_fault}
@@ -118,11 +119,11 @@ frame-acts page next c n =
 -- a step that reads copies a page's block into its frame, or leaves it as it was
 fills-act : (r : ReadStage) (n : Device) (b : Booting) (c e : State) → Fills r n b c e → ActsOnDram n n c.dram e.dram
 fills-act Unread n b c e f = inl (ap (λ (x : State). x.dram) f)
-fills-act (ReadsHeader epoch fault) n b c e f = inl (ap (λ (x : State). x.dram) f)
-fills-act (ReadsSlot epoch next) n b c e f =
-    let b1 : Booting = slot_read epoch next n b in
-    inl (judged-dram (nat_lt (next + 1) (slot_blocks b1.p)) (slot_fault b1.p ceiling epoch (slot_of b1)) b1 c e f)
-fills-act (Frames epoch page next) n b c e f = subst (λ (x : State). ActsOnDram n n c.dram x.dram) (sym f) (frame-acts page next c n)
+fills-act ReadsHeader n b c e f = inl (ap (λ (x : State). x.dram) f)
+fills-act (ReadsSlot next) n b c e f =
+    let b1 : Booting = slot_read next n b in
+    inl (judged-dram (nat_lt (next + 1) (slot_blocks b1.p)) (slot_fault b1.p ceiling (epoch_of b1.commit) (slot_of b1)) b1 c e f)
+fills-act (Frames page next) n b c e f = subst (λ (x : State). ActsOnDram n n c.dram x.dram) (sym f) (frame-acts page next c n)
 fills-act (Refusing bad) n b c e f = inl (ap (λ (x : State). x.dram) f)
 
 -- ---- how far it is
@@ -138,9 +139,9 @@ loads-most p Confirm = omega arith
 
 reads-most : (p : Parameters) (r : ReadStage) → reads_left p r ≤ reads_left p Unread
 reads-most p Unread = omega arith
-reads-most p (ReadsHeader epoch fault) = omega arith
-reads-most p (ReadsSlot epoch next) = omega arith
-reads-most p (Frames epoch page next) = omega arith
+reads-most p ReadsHeader = omega arith
+reads-most p (ReadsSlot next) = omega arith
+reads-most p (Frames page next) = omega arith
 reads-most p (Refusing bad) = omega arith
 
 left-most : (p : Parameters) (q : Stage) → boot_left p q ≤ boot_left p (Reads Unread)
@@ -151,9 +152,9 @@ left-most p (Over end) = omega arith
 -- so behind a step the commit block was read
 read-on : (p : Parameters) (q r : Stage) → boot_left p r + 1 ≤ boot_left p q → has_read_at r ≡ true
 read-on p q (Reads Unread) less = let most : boot_left p q ≤ boot_left p (Reads Unread) = left-most p q in absurd (omega (arith, less, most))
-read-on p q (Reads (ReadsHeader epoch fault)) less = refl
-read-on p q (Reads (ReadsSlot epoch next)) less = refl
-read-on p q (Reads (Frames epoch page next)) less = refl
+read-on p q (Reads ReadsHeader) less = refl
+read-on p q (Reads (ReadsSlot next)) less = refl
+read-on p q (Reads (Frames page next)) less = refl
 read-on p q (Reads (Refusing bad)) less = refl
 read-on p q (Loading issue) less = refl
 read-on p q (Over end) less = refl
@@ -170,17 +171,17 @@ kept-on (Over end) n g = refl
 -- ---- the controller has no checkpoint under way
 
 module _ (o : Origin) (g : BootImages) (n : Device) (b : Booting) (c : State) where
-  idle-read : (r : ReadStage) → ((bad : BadImage) → Reads r ≢ Reads (Refusing bad)) → HasReadAt (Reads r) n b.p b.slot c → c.under_way ≡ false
+  idle-read : (r : ReadStage) → ((bad : BadImage) → Reads r ≢ Reads (Refusing bad)) → HasReadAt (Reads r) n b.p b.commit b.slot c → c.under_way ≡ false
   idle-read Unread good h = h.booting.idle
-  idle-read (ReadsHeader epoch fault) good h = h.0.booting.idle
-  idle-read (ReadsSlot epoch next) good h = h.0.booting.idle
-  idle-read (Frames epoch page next) good h = h.0.booting.idle
+  idle-read ReadsHeader good h = h.0.booting.idle
+  idle-read (ReadsSlot next) good h = h.0.booting.idle
+  idle-read (Frames page next) good h = h.0.booting.idle
   idle-read (Refusing bad) good h = absurd (good bad refl)
 
   idle-at : (q : Stage) → b.stage ≡ q → ((bad : BadImage) → q ≢ Reads (Refusing bad)) → IsSoundAt o q g n b c → c.under_way ≡ false
-  idle-at (Reads r) is good far = idle-read r good (subst (λ (x : Stage). HasReadAt x n b.p b.slot c) is far.read.so_far)
+  idle-at (Reads r) is good far = idle-read r good (subst (λ (x : Stage). HasReadAt x n b.p b.commit b.slot c) is far.read.so_far)
   idle-at (Loading issue) is good far = far.fresh.booting.idle
-  idle-at (Over (Restored epoch)) is good far = (subst (λ (x : Stage). HasReadAt x n b.p b.slot c) is far.read.so_far).tables.booting.idle
+  idle-at (Over Restored) is good far = (subst (λ (x : Stage). HasReadAt x n b.p b.commit b.slot c) is far.read.so_far).tables.booting.idle
   idle-at (Over Loaded) is good far = far.over.booting.idle
 
   -- ---- what was seen before the boot was over
@@ -333,11 +334,12 @@ module _ (o : Origin) (s : Dual) (n : Device) (booting : IsBooting dual_scheme o
         booted = booted (start_mark o) (cpu_of o.start) h.next keeps far.over refl;
       }
 
-  restarted : (epoch : ℕ) → d.stage ≡ Over (Restored epoch) → Restarts dual_scheme o (cpu_of_record (slot_of d)) epoch s n t new
-  restarted epoch is =
+  restarted : d.stage ≡ Over Restored → Restarts dual_scheme o (cpu_of_record (slot_of d)) (epoch_of d.commit) s n t new
+  restarted is =
+      let epoch : ℕ = epoch_of d.commit in
       let cpu : CpuState = cpu_of_record (slot_of d) in
       let shows = subst (λ (x : Stage). CoreStep o v (did_of (answer_at x d)) (seen_at o g.kept x)) is moved.shows in
-      let r = restored_is_booted o h new d e epoch boots.origin tables moved.sound is in
+      let r = restored_is_booted o h new d e boots.origin tables moved.sound is in
       let m : Mark = r.0 in
       let over : IsBootedAt o m cpu h.before new e = r.4 in
       let count : cpu.count ≡ m.count
@@ -354,12 +356,12 @@ module _ (o : Origin) (s : Dual) (n : Device) (booting : IsBooting dual_scheme o
   answers-at : (q : Stage) → d.stage ≡ q → CoreStep o v (did_of (answer_at q d)) (seen_at o g.kept q)
       → Answers dual_scheme o (step_of (answer_at q d)) s n t new
   answers-at (Reads Unread) is shows = goes-on (Reads Unread) is tt shows.1
-  answers-at (Reads (ReadsHeader epoch fault)) is shows = goes-on (Reads (ReadsHeader epoch fault)) is tt shows.1
-  answers-at (Reads (ReadsSlot epoch next)) is shows = goes-on (Reads (ReadsSlot epoch next)) is tt shows.1
-  answers-at (Reads (Frames epoch page next)) is shows = goes-on (Reads (Frames epoch page next)) is tt shows.1
+  answers-at (Reads ReadsHeader) is shows = goes-on (Reads ReadsHeader) is tt shows.1
+  answers-at (Reads (ReadsSlot next)) is shows = goes-on (Reads (ReadsSlot next)) is tt shows.1
+  answers-at (Reads (Frames page next)) is shows = goes-on (Reads (Frames page next)) is tt shows.1
   answers-at (Reads (Refusing bad)) is shows = absurd (never bad is)
   answers-at (Loading issue) is shows = goes-on (Loading issue) is tt shows.1
-  answers-at (Over (Restored epoch)) is shows = restarted epoch is
+  answers-at (Over Restored) is shows = restarted is
   answers-at (Over Loaded) is shows = loaded is
 
   queue-by : (q : Stage) → StepsAt q o.start n b s.control new d e → length new.queue + e.dram.queued ≤ length n.queue + s.control.dram.queued + 1
@@ -394,7 +396,7 @@ module _ (o : Origin) (s : Dual) (n : Device) (booting : IsBooting dual_scheme o
 -- where a checkpoint was found a step reads, and one that failed wrote nothing
 found-reads : (o : Origin) (kept : Option Mark) (m : Mark) (b : Booting) (n new : Device) (q : Stage) → (seen_at o kept q).done ≡ Some m
     → FailsTo (action_at q o.start b) n new → HasFailed n new
-found-reads o kept m b n new (Reads r) done f = read_failed b.p r n new f
+found-reads o kept m b n new (Reads r) done f = read_failed b r n new f
 found-reads o kept m b n new (Loading issue) done f = let both : None ≡ Some m = done in absurd (cc)
 found-reads o kept m b n new (Over end) done f = absurd f
 

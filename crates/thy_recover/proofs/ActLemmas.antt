@@ -6,6 +6,7 @@ use Rattle.thy_base.specs.Geometry.{memory_blocks}
 use Rattle.thy_base.specs.Places.{slot_blocks}
 use Rattle.thy_isa.specs.Step.{State as Plain}
 use Rattle.thy_record.specs.declared.bad_image.BadImage.{BadImage}
+use Rattle.thy_record.specs.Commit.{epoch_of}
 use Rattle.thy_record.specs.Slots.{slot_fault}
 use Rattle.thy_control.specs.State.{State}
 use Rattle.thy_control.specs.Boot.{with_frame}
@@ -41,14 +42,14 @@ load_acts p s Settle d = tt
 load_acts p s Commit d = tt
 load_acts p s Confirm d = refl
 
-read_acts : (q : Stage) (m : Device) (d : Booting) (e : State) → HasReadAt q m d.p d.slot e → Asks (did_of (answer_at q d)) Rest
+read_acts : (q : Stage) (m : Device) (d : Booting) (e : State) → HasReadAt q m d.p d.commit d.slot e → Asks (did_of (answer_at q d)) Rest
 read_acts (Reads Unread) m d e f = tt
-read_acts (Reads (ReadsHeader epoch fault)) m d e f = tt
-read_acts (Reads (ReadsSlot epoch next)) m d e f = tt
-read_acts (Reads (Frames epoch page next)) m d e f = tt
+read_acts (Reads ReadsHeader) m d e f = tt
+read_acts (Reads (ReadsSlot next)) m d e f = tt
+read_acts (Reads (Frames page next)) m d e f = tt
 read_acts (Reads (Refusing bad)) m d e f = tt
 read_acts (Loads issue) m d e f = tt
-read_acts (Over (Restored epoch)) m d e f = tt
+read_acts (Over Restored) m d e f = tt
 read_acts (Over Loaded) m d e f = absurd f
 
 pub steps_act : StepsAct
@@ -78,17 +79,17 @@ load_asks p s Commit = tt
 load_asks p s Confirm = refl
 
 -- a read is asked for by a step of the boot; a refusal that comes again is no read, and does not fail
-read_asks : (p : Parameters) (r : ReadStage) (n m : Device) → FailsTo (read_action p r) n m → IsBootAction (read_action p r)
-read_asks p Unread n m f = tt
-read_asks p (ReadsHeader epoch fault) n m f = tt
-read_asks p (ReadsSlot epoch next) n m f = tt
-read_asks p (Frames epoch page next) n m f = tt
-read_asks p (Refusing bad) n m f = absurd f
+read_asks : (b : Booting) (r : ReadStage) (n m : Device) → FailsTo (read_action b r) n m → IsBootAction (read_action b r)
+read_asks b Unread n m f = tt
+read_asks b ReadsHeader n m f = tt
+read_asks b (ReadsSlot next) n m f = tt
+read_asks b (Frames page next) n m f = tt
+read_asks b (Refusing bad) n m f = absurd f
 
 pub failures_act : FailuresAct
 failures_act s b n m fails = by_stage b.stage fails where
   by_stage : (q : Stage) → FailsTo (action_at q s b) n m → Asks (did_of (failed_answer q)) (action_at q s b)
-  by_stage (Reads r) f = read_asks b.p r n m f
+  by_stage (Reads r) f = read_asks b r n m f
   by_stage (Loads issue) f = load_asks b.p s issue
   by_stage (Over end) f = absurd f
 
@@ -114,11 +115,11 @@ pub steps_fill : StepsFill
 steps_fill s n b c m d e steps = by_stage b.stage steps where
   reads : (r : ReadStage) → Fills r n b c e → IsFilled c e
   reads Unread f = same_fills c e f
-  reads (ReadsHeader epoch fault) f = same_fills c e f
-  reads (ReadsSlot epoch next) f =
-      let b1 : Booting = slot_read epoch next n b in
-      judged_fills (nat_lt (next + 1) (slot_blocks b1.p)) (slot_fault b1.p ceiling epoch (slot_of b1)) b1 c e f
-  reads (Frames epoch page next) f = subst (λ (x : State). IsFilled c x) (sym f) (frame_fills page next c n)
+  reads ReadsHeader f = same_fills c e f
+  reads (ReadsSlot next) f =
+      let b1 : Booting = slot_read next n b in
+      judged_fills (nat_lt (next + 1) (slot_blocks b1.p)) (slot_fault b1.p ceiling (epoch_of b1.commit) (slot_of b1)) b1 c e f
+  reads (Frames page next) f = subst (λ (x : State). IsFilled c x) (sym f) (frame_fills page next c n)
   reads (Refusing bad) f = same_fills c e f
 
   by_stage : (q : Stage) → StepsAt q s n b c m d e → IsFilled c e
@@ -143,9 +144,9 @@ load_nearer p Confirm inside = omega arith
 read_nearer : (p : Parameters) (r : ReadStage) (next : Stage) → IsNearer p r next → ((bad : BadImage) → Reads r ≢ Reads (Refusing bad))
     → boot_left p next + 1 ≤ reads_left p r
 read_nearer p Unread next near other = omega (arith, near)
-read_nearer p (ReadsHeader epoch fault) next near other = omega (arith, near)
-read_nearer p (ReadsSlot epoch k) next near other = omega (arith, near)
-read_nearer p (Frames epoch page k) next near other = omega (arith, near)
+read_nearer p ReadsHeader next near other = omega (arith, near)
+read_nearer p (ReadsSlot k) next near other = omega (arith, near)
+read_nearer p (Frames page k) next near other = omega (arith, near)
 read_nearer p (Refusing bad) next near other = absurd (other bad refl)
 
 pub steps_come_nearer : StepsComeNearer

@@ -32,7 +32,7 @@ drains_move o g n b = by_stage b.stage where
   by_stage : (q : Stage) → Move o (layout_of o) (standing_in_boot o q g n) (standing_in_boot o q g (drained n))
   by_stage (Reads r) = goes (Kept g.before) g.kept (sealed_by o g.kept)
   by_stage (Loads issue) = goes (saved_loading issue g) None (Some (start_mark o))
-  by_stage (Over (Restored epoch)) = goes (Kept g.before) g.kept (sealed_by o g.kept)
+  by_stage (Over Restored) = goes (Kept g.before) g.kept (sealed_by o g.kept)
   by_stage (Over Loaded) = goes (Kept g.next) (Some (start_mark o)) None
 
 -- with nothing queued a drain leaves the device as it is
@@ -54,7 +54,7 @@ nvm_drained o g n b c sound = record {
   by_stage : (q : Stage) → IsSoundAt o q g n b c → IsSoundAt o q g (drained n) b c
   by_stage (Reads r) at = still (Reads r) at.read.settled at
   by_stage (Loads issue) at = record { none = at.none; fresh = at.fresh; made = at.made; stood = stood-drained o issue n at.stood }
-  by_stage (Over (Restored epoch)) at = still (Over (Restored epoch)) at.read.settled at
+  by_stage (Over Restored) at = still (Over Restored) at.read.settled at
   by_stage (Over Loaded) at = still (Over Loaded) at.over.settled at
 
 -- a drain of the DRAM leaves all reads alike
@@ -65,8 +65,8 @@ fresh-drained c h = record {
   no_pages = h.no_pages;
 }
 
-tables-drained : (p : Parameters) (g : List Block) (epoch : ℕ) (slot : List ℕ) (c : State) → HasTables p g epoch slot c → HasTables p g epoch slot (after_drain c)
-tables-drained p g epoch slot c h = record {
+tables-drained : (p : Parameters) (g : List Block) (commit : Block) (slot : List ℕ) (c : State) → HasTables p g commit slot c → HasTables p g commit slot (after_drain c)
+tables-drained p g commit slot c h = record {
   head = h.head;
   slot_is = h.slot_is;
   slot_fits = h.slot_fits;
@@ -74,23 +74,23 @@ tables-drained p g epoch slot c h = record {
   tables_are = h.tables_are;
 }
 
-read-drained : (q : Stage) (n : Device) (p : Parameters) (slot : List ℕ) (c : State) → HasReadAt q n p slot c → HasReadAt q n p slot (after_drain c)
-read-drained (Reads Unread) n p slot c h = fresh-drained c h
-read-drained (Reads (ReadsHeader epoch fault)) n p slot c h = (fresh-drained c h.0, h.1, h.2)
-read-drained (Reads (ReadsSlot epoch next)) n p slot c h = (fresh-drained c h.0, h.1, h.2)
-read-drained (Reads (Frames epoch page next)) n p slot c h = (
-  tables-drained p n.image epoch slot c h.0,
+read-drained : (q : Stage) (n : Device) (p : Parameters) (commit : Block) (slot : List ℕ) (c : State) → HasReadAt q n p commit slot c → HasReadAt q n p commit slot (after_drain c)
+read-drained (Reads Unread) n p commit slot c h = fresh-drained c h
+read-drained (Reads ReadsHeader) n p commit slot c h = (fresh-drained c h.0, h.1)
+read-drained (Reads (ReadsSlot next)) n p commit slot c h = (fresh-drained c h.0, h.1, h.2)
+read-drained (Reads (Frames page next)) n p commit slot c h = (
+  tables-drained p n.image commit slot c h.0,
   record { each = λ i m may l. h.1.each i m (record { listed = may.listed; inside = may.inside }) l },
   record { listed = h.2.listed; inside = h.2.inside },
 )
-read-drained (Reads (Refusing bad)) n p slot c h = h
-read-drained (Loads issue) n p slot c h = (fresh-drained c h.0, h.1, h.2)
-read-drained (Over (Restored epoch)) n p slot c h = record {
-  tables = tables-drained p n.image epoch slot c h.tables;
+read-drained (Reads (Refusing bad)) n p commit slot c h = h
+read-drained (Loads issue) n p commit slot c h = (fresh-drained c h.0, h.1, h.2)
+read-drained (Over Restored) n p commit slot c h = record {
+  tables = tables-drained p n.image commit slot c h.tables;
   holds = h.holds;
   found = h.found;
 }
-read-drained (Over Loaded) n p slot c h = absurd h
+read-drained (Over Loaded) n p commit slot c h = absurd h
 
 dram_drained : (o : Origin) (g : BootImages) (n : Device) (b : Booting) (c : State) → IsSound o g n b c → IsSound o g n b (after_drain c)
 dram_drained o g n b c sound = record {
@@ -106,14 +106,14 @@ dram_drained o g n b c sound = record {
       same_p = at.read.same_p;
       sized = at.read.sized;
       settled = at.read.settled;
-      so_far = read-drained b.stage n b.p b.slot c at.read.so_far;
+      so_far = read-drained b.stage n b.p b.commit b.slot c at.read.so_far;
     };
   }
 
   by_stage : (q : Stage) → IsSoundAt o q g n b c → IsSoundAt o q g n b (after_drain c)
   by_stage (Reads r) at = reads at
   by_stage (Loads issue) at = record { none = at.none; fresh = fresh-drained c at.fresh; made = at.made; stood = at.stood }
-  by_stage (Over (Restored epoch)) at = reads at
+  by_stage (Over Restored) at = reads at
   by_stage (Over Loaded) at = record {
     over = record {
       settled = at.over.settled;

@@ -10,6 +10,7 @@ use Rattle.thy_isa.specs.declared.state.CpuState.{CpuState}
 use Rattle.thy_isa.specs.Step.{State as Plain}
 use Rattle.thy_isa.specs.OnBlocks.{state_from}
 use Rattle.thy_record.specs.declared.bad_image.BadImage.{BadImage}
+use Rattle.thy_record.specs.Commit.{epoch_of}
 use Rattle.thy_record.specs.Cpu.{cpu_of_record}
 use Rattle.thy_record.specs.Decoded.{Decoded, Nothing, Refused as IsRefused, At}
 use Rattle.thy_record.specs.Files.{blocks_of}
@@ -77,7 +78,7 @@ boots : (count : ℕ) (kept : Option Mark) → (finding_view count kept).phase �
 boots count None = refl
 boots count (Some m) = refl
 
-restores : (o : Origin) (m : Mark) → CoreStep o (boot_view (Some m) None) (HasRestarted m.epoch m.count) (restored_view o m.epoch (Some m))
+restores : (o : Origin) (m : Mark) → CoreStep o (boot_view (Some m) None) (HasRestarted m.epoch m.count) (restored_view o (Some m))
 restores o m = record { phase = refl; done = refl; unsealed = refl; unwritten = refl; becomes = refl }
 
 module _ (o : Origin) (g : BootImages) (m : Device) (d : Booting) (e : State) (before_is : g.before ≡ m.image) (same : d.p ≡ o.geometry)
@@ -90,9 +91,9 @@ module _ (o : Origin) (g : BootImages) (m : Device) (d : Booting) (e : State) (b
   none_kept : decode_image d.p ceiling m.image ≡ Nothing → g.kept ≡ None
   none_kept h = found-none o g.before g.kept told (decoded Nothing h)
 
-  pub stands : (q : Stage) → HasReadAt q m d.p d.slot e → reading_of o g m ≡ standing_in_boot o q g m
+  pub stands : (q : Stage) → HasReadAt q m d.p d.commit d.slot e → reading_of o g m ≡ standing_in_boot o q g m
   stands (Reads r) f = refl
-  stands (Over (Restored epoch)) f = refl
+  stands (Over Restored) f = refl
   stands (Loads issue) f =
       ap (λ (k : Option Mark). standing m (Kept g.before) k (sealed_by o k)) (none_kept f.1)
       ∙ ap (λ (i : Issue). standing m (saved_loading i g) None (Some (start_mark o))) (sym f.2)
@@ -108,9 +109,9 @@ module _ (o : Origin) (g : BootImages) (m : Device) (d : Booting) (e : State) (b
     slot = record { each = λ i l. absurd (omega arith) };
   }
 
-  pub found-sound : (q : Stage) → HasReadAt q m d.p d.slot e → IsSoundAt o q g m d e
+  pub found-sound : (q : Stage) → HasReadAt q m d.p d.commit d.slot e → IsSoundAt o q g m d e
   found-sound (Reads r) f = recovering
-  found-sound (Over (Restored epoch)) f = recovering
+  found-sound (Over Restored) f = recovering
   found-sound (Loads issue) f = record {
     none = none_kept f.1;
     fresh = f.0;
@@ -120,32 +121,33 @@ module _ (o : Origin) (g : BootImages) (m : Device) (d : Booting) (e : State) (b
   found-sound (Over Loaded) f = absurd f
 
   -- what was found at a restart
-  pub found-restored : (epoch : ℕ) → IsRestored d.p m epoch d.slot e → IsFoundAt o g.kept epoch (state_from d.p (cpu_of_record (blocks_of d.slot)) (loads e m))
-  found-restored epoch f =
-      found-mark o g.before g.kept epoch (state_from d.p (cpu_of_record (blocks_of d.slot)) (loads e m)) told
-      (decoded (At epoch (state_from d.p (cpu_of_record (blocks_of d.slot)) (loads e m))) f.found)
+  pub found-restored : IsRestored d.p m d.commit d.slot e → IsFoundAt o g.kept (epoch_of d.commit) (state_from d.p (cpu_of_record (blocks_of d.slot)) (loads e m))
+  found-restored f =
+      found-mark o g.before g.kept (epoch_of d.commit) (state_from d.p (cpu_of_record (blocks_of d.slot)) (loads e m)) told
+      (decoded (At (epoch_of d.commit) (state_from d.p (cpu_of_record (blocks_of d.slot)) (loads e m))) f.found)
 
   abbrev Shows : Stage → Type 0
   Shows q = CoreStep o (finding_view o.start.count g.kept) (did_of (answer_at q d)) (seen_at o g.kept q)
 
-  pub shows : (q : Stage) → HasReadAt q m d.p d.slot e → Shows q
+  pub shows : (q : Stage) → HasReadAt q m d.p d.commit d.slot e → Shows q
   shows (Reads Unread) f = (boots o.start.count g.kept, inl refl)
-  shows (Reads (ReadsHeader epoch fault)) f = (boots o.start.count g.kept, inl refl)
-  shows (Reads (ReadsSlot epoch next)) f = (boots o.start.count g.kept, inl refl)
-  shows (Reads (Frames epoch page next)) f = (boots o.start.count g.kept, inl refl)
+  shows (Reads ReadsHeader) f = (boots o.start.count g.kept, inl refl)
+  shows (Reads (ReadsSlot next)) f = (boots o.start.count g.kept, inl refl)
+  shows (Reads (Frames page next)) f = (boots o.start.count g.kept, inl refl)
   shows (Loads issue) f =
       let same_view : record (loading_view o.start.count) { written = is_written issue } ≡ finding_view o.start.count g.kept
       = ap (λ (i : Issue). record (loading_view o.start.count) { written = is_written i }) f.2 ∙ ap (finding_view o.start.count) (sym (none_kept f.1)) in
       (boots o.start.count g.kept, inl same_view)
   shows (Over Loaded) f = absurd f
   shows (Reads (Refusing bad)) f = absurd (never-bad o g.before g.kept bad told (decoded (IsRefused bad) f))
-  shows (Over (Restored epoch)) f =
-      let found = found-restored epoch f in
+  shows (Over Restored) f =
+      let found = found-restored f in
+      let epoch : ℕ = epoch_of d.commit in
       let count : found.m.count ≡ (cpu_of_record (blocks_of d.slot)).count
       = sym (ap (λ (s : Plain). s.count) found.state_is ∙ found.counted) ∙ count-state_from d.p (cpu_of_record (blocks_of d.slot)) (loads e m) in
-      subst (λ (k : Option Mark). CoreStep o (finding_view o.start.count k) (HasRestarted epoch (cpu_of_record (blocks_of d.slot)).count) (restored_view o epoch k)) (sym found.kept_is)
-      (subst (λ (c : ℕ). CoreStep o (boot_view (Some found.m) None) (HasRestarted epoch c) (restored_view o epoch (Some found.m))) count
-      (subst (λ (x : ℕ). CoreStep o (boot_view (Some found.m) None) (HasRestarted x found.m.count) (restored_view o x (Some found.m))) found.epoch_is (restores o found.m)))
+      subst (λ (k : Option Mark). CoreStep o (finding_view o.start.count k) (HasRestarted epoch (cpu_of_record (blocks_of d.slot)).count) (restored_view o k)) (sym found.kept_is)
+      (subst (λ (c : ℕ). CoreStep o (boot_view (Some found.m) None) (HasRestarted epoch c) (restored_view o (Some found.m))) count
+      (subst (λ (x : ℕ). CoreStep o (boot_view (Some found.m) None) (HasRestarted x found.m.count) (restored_view o (Some found.m))) found.epoch_is (restores o found.m)))
 
 -- ---- what is seen
 

@@ -25,6 +25,7 @@ use Rattle.thy_recover.specs.declared.stage.ReadStage.TheVariants.{Unread, Heade
 use Rattle.thy_recover.specs.declared.stage.End.TheVariants.{Restored, Loaded}
 use Rattle.thy_recover.specs.declared.stage.Issue.{Issue}
 use Rattle.thy_recover.specs.declared.stage.Issue.TheVariants.{Home, Slot, Header, Settle, Commit, Confirm}
+use Rattle.thy_recover.specs.Boot.{Booting}
 use Rattle.thy_recover.specs.Loads.{issue_action}
 use Rattle.thy_recover.specs.Reads.{read_action}
 use Rattle.thy_recover.specs.Shows.{is_written, restored_view, seen_at}
@@ -44,9 +45,9 @@ module _ (o : Origin) (g : BootImages) (n : Device) where
   reads None safe = safe
   reads (Some m) safe = safe
 
-  restored : (epoch : ℕ) (kept : Option Mark) → IsSafe kept None → IsSafe (restored_view o epoch kept).done (doubt_of (restored_view o epoch kept))
-  restored epoch None safe = safe
-  restored epoch (Some m) safe = safe
+  restored : (kept : Option Mark) → IsSafe kept None → IsSafe (restored_view o kept).done (doubt_of (restored_view o kept))
+  restored None safe = safe
+  restored (Some m) safe = safe
 
   kept : IsKeeping o (layout_of o) (reading_of o g n) → IsSafe g.kept None
   kept k = Safe-kept version_one o n (Kept g.before) g.kept (sealed_by o g.kept) k
@@ -62,7 +63,7 @@ module _ (o : Origin) (g : BootImages) (n : Device) where
   safe_at (Loads Commit) k = loading Commit k
   safe_at (Loads Confirm) k = loading Confirm k
   safe_at (Reads r) k = reads g.kept (kept k)
-  safe_at (Over (Restored epoch)) k = restored epoch g.kept (kept k)
+  safe_at (Over Restored) k = restored g.kept (kept k)
   safe_at (Over Loaded) k = Safe-kept version_one o n (Kept g.next) (Some (start_mark o)) None k
 
 pub sound_is_safe : SoundIsSafe
@@ -75,20 +76,20 @@ fails_read o g n m failed framed =
     Goes (Kept g.before) g.kept (sealed_by o g.kept) n m (Spares-failed (guarded (looked_by (layout_of o)) (Kept g.before)) n m failed framed)
 
 -- a read is no commit block's write
-reads_no_commit : (p : Parameters) (r : ReadStage) → is_commit_write (read_action p r) ≡ false
-reads_no_commit p Unread = refl
-reads_no_commit p (ReadsHeader epoch fault) = refl
-reads_no_commit p (ReadsSlot epoch next) = refl
-reads_no_commit p (Frames epoch page next) = refl
-reads_no_commit p (Refusing bad) = refl
+reads_no_commit : (b : Booting) (r : ReadStage) → is_commit_write (read_action b r) ≡ false
+reads_no_commit b Unread = refl
+reads_no_commit b ReadsHeader = refl
+reads_no_commit b (ReadsSlot next) = refl
+reads_no_commit b (Frames page next) = refl
+reads_no_commit b (Refusing bad) = refl
 
 -- one that failed wrote nothing
-pub read_failed : (p : Parameters) (r : ReadStage) (n m : Device) → FailsTo (read_action p r) n m → HasFailed n m
-read_failed p Unread n m f = f
-read_failed p (ReadsHeader epoch fault) n m f = f
-read_failed p (ReadsSlot epoch next) n m f = f
-read_failed p (Frames epoch page next) n m f = f
-read_failed p (Refusing bad) n m f = absurd f
+pub read_failed : (b : Booting) (r : ReadStage) (n m : Device) → FailsTo (read_action b r) n m → HasFailed n m
+read_failed b Unread n m f = f
+read_failed b ReadsHeader n m f = f
+read_failed b (ReadsSlot next) n m f = f
+read_failed b (Frames page next) n m f = f
+read_failed b (Refusing bad) n m f = absurd f
 
 -- so behind one what is kept is safe
 seen_safe : (o : Origin) (m : Device) (a : Action) (kept : Option Mark) → is_commit_write a ≡ false → Safe (reading version_one) o kept None m
@@ -155,7 +156,7 @@ failures_move o g n b c m sound going fails framed =
   where
     by_stage : (q : Stage) → IsSoundAt o q g n b c → IsKeeping o (layout_of o) (standing_in_boot o q g n) → IsGoing q
         → FailsTo (action_at q o.start b) n m → Failure o g n q (action_at q o.start b) m
-    by_stage (Reads r) there k going f = read_failure o g n m (read_action b.p r) (reads_no_commit b.p r) k (read_failed b.p r n m f) framed
+    by_stage (Reads r) there k going f = read_failure o g n m (read_action b r) (reads_no_commit b r) k (read_failed b r n m f) framed
     by_stage (Loads issue) there k going f =
         load_failure o g n m b.p issue k there.made (subst (λ (p : Parameters). FailsTo (issue_action p o.start issue) n m) sound.geometry f) framed
     by_stage (Over end) there k going f = absurd going

@@ -225,7 +225,7 @@ pub sound_at : (o : Origin) (origin : IsOrigin o) (g : BootImages) (n : Device) 
     → (m : Device) (q : Stage) → StandsAt o q m → MadeAt o g n origin q h.next → IsSoundAt o q h m b c
 sound_at o origin g n b c t same fresh none h still m (Reading r) stands made = absurd stands
 sound_at o origin g n b c t same fresh none h still m (Loads issue) stands made = record { none = still; fresh = fresh; made = made; stood = stands }
-sound_at o origin g n b c t same fresh none h still m (Over (Restored epoch)) stands made = absurd stands
+sound_at o origin g n b c t same fresh none h still m (Over Restored) stands made = absurd stands
 sound_at o origin g n b c t same fresh none h still m (Over Loaded) stands made = IsLoaded-written o origin h m c t same fresh stands.0 stands.1 made
 
 -- the mark that is kept stays

@@ -7,6 +7,7 @@ use Rattle.thy_crash.specs.Saved.{Kept, InDoubt}
 use Rattle.thy_dram.specs.Contents.{Contents}
 use Rattle.thy_isa.specs.Step.{State as Plain}
 use Rattle.thy_record.specs.declared.bad_image.BadImage.{BadImage}
+use Rattle.thy_record.specs.Commit.{epoch_of}
 use Rattle.thy_record.specs.Cpu.{cpu_of_record}
 use Rattle.thy_record.specs.Images.{decode_image}
 use Rattle.thy_control.specs.State.{State, AreSoundTables, new_state}
@@ -100,9 +101,9 @@ FailuresMove =
 -- a restart has the kept mark's state, and its checkpoint is kept
 abbrev pub RestoredIsBooted : Type 0
 RestoredIsBooted =
-    (o : Origin) (g : BootImages) (n : Device) (b : Booting) (c : State) (epoch : ℕ)
-    → IsOrigin o → AreSoundTables c → IsSound o g n b c → b.stage ≡ Over (Restored epoch)
-    → (m : Mark) × (g.kept ≡ Some m) × (m.epoch ≡ epoch) × Keeps o (layout_of o) n (Kept g.before) (Some m) None
+    (o : Origin) (g : BootImages) (n : Device) (b : Booting) (c : State)
+    → IsOrigin o → AreSoundTables c → IsSound o g n b c → b.stage ≡ Over Restored
+    → (m : Mark) × (g.kept ≡ Some m) × (m.epoch ≡ epoch_of b.commit) × Keeps o (layout_of o) n (Kept g.before) (Some m) None
     × IsBooted o m (cpu_of_record (slot_of b)) g.before n c
 
 -- the boot of a run is never refused

@@ -24,9 +24,9 @@ loads_left p Confirm = 1
 -- header, the slot and the frames of as many pages as the table can list
 abbrev pub reads_left : Parameters → ReadStage → ℕ
 reads_left p Unread = 1 + max (loads_left p (Home 0)) (1 + slot_blocks p + 64 * p.ptt)
-reads_left p (Header epoch fault) = 1 + slot_blocks p + 64 * p.ptt
-reads_left p (Slot epoch next) = slot_blocks p - next + 64 * p.ptt
-reads_left p (Frames epoch page next) = 64 * (p.ptt - page) - next
+reads_left p Header = 1 + slot_blocks p + 64 * p.ptt
+reads_left p (Slot next) = slot_blocks p - next + 64 * p.ptt
+reads_left p (Frames page next) = 64 * (p.ptt - page) - next
 reads_left p (Refusing bad) = 0
 
 -- how many actions the boot has left, at most

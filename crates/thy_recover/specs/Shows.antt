@@ -1,6 +1,6 @@
 -- Part of the claim.
 -- What is seen of a boot.
-use Rattle.std.specs.Prelude.{ℕ, ◌+◌, true, false, Bool, Option, Some, None}
+use Rattle.std.specs.Prelude.{◌+◌, true, false, Bool, Option, Some, None}
 use Rattle.thy_base.specs.declared.mark.Mark.{Mark}
 use Rattle.thy_base.specs.Marks.{mark}
 use Rattle.thy_view.specs.declared.did.Did.{Did}
@@ -25,10 +25,10 @@ is_written Confirm = true
 is_written issue = false
 
 -- the view behind a restart
-abbrev pub restored_view : Origin → ℕ → Option Mark → View
-restored_view o epoch None = boot_view None None
-restored_view o epoch (Some m) =
-    record (boot_view (Some m) None) { phase = phase_at o m.count; epoch = epoch + 1; count = m.count }
+abbrev pub restored_view : Origin → Option Mark → View
+restored_view o None = boot_view None None
+restored_view o (Some m) =
+    record (boot_view (Some m) None) { phase = phase_at o m.count; epoch = m.epoch + 1; count = m.count }
 
 -- and behind loading
 abbrev pub loaded_view : Origin → View
@@ -38,7 +38,7 @@ loaded_view o = record (boot_view (Some (mark 0 o.start.count)) None) { phase = 
 abbrev pub seen_at : Origin → Option Mark → Stage → View
 seen_at o kept (Reads r) = finding_view o.start.count kept
 seen_at o kept (Loads issue) = record (loading_view o.start.count) { written = is_written issue }
-seen_at o kept (Over (Restored epoch)) = restored_view o epoch kept
+seen_at o kept (Over Restored) = restored_view o kept
 seen_at o kept (Over Loaded) = loaded_view o
 
 -- what a cycle did that was a step of the boot

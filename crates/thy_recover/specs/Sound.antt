@@ -58,7 +58,7 @@ saved_loading issue g = Kept g.before
 abbrev pub standing_in_boot : Origin → Stage → BootImages → Device → Standing
 standing_in_boot o (Reading r) g n = standing n (Kept g.before) g.kept (sealed_by o g.kept)
 standing_in_boot o (Loads issue) g n = standing n (saved_loading issue g) None (Some (start_mark o))
-standing_in_boot o (Over (Restored epoch)) g n = standing n (Kept g.before) g.kept (sealed_by o g.kept)
+standing_in_boot o (Over Restored) g n = standing n (Kept g.before) g.kept (sealed_by o g.kept)
 standing_in_boot o (Over Loaded) g n = standing n (Kept g.next) (Some (start_mark o)) None
 
 -- with the first barrier the next image is that of all that was written, with the commit block
@@ -135,7 +135,7 @@ pub record IsLoaded (o : Origin) (g : BootImages) (n : Device) (c : State) : Typ
 abbrev pub IsSoundAt : Origin → Stage → BootImages → Device → Booting → State → Type 0
 IsSoundAt o (Reading r) g n b c = IsRecovering g n b c
 IsSoundAt o (Loads issue) g n b c = IsLoading o issue g n c
-IsSoundAt o (Over (Restored epoch)) g n b c = IsRecovering g n b c
+IsSoundAt o (Over Restored) g n b c = IsRecovering g n b c
 IsSoundAt o (Over Loaded) g n b c = IsLoaded o g n c
 
 -- a boot of a run, with the images of its checkpoints

@@ -51,7 +51,7 @@ Steps s n b c m d e = StepsAt b.stage s n b c m d e
 
 -- the action of a step, where it has to read or to write
 abbrev pub action_at : Stage → Plain → Booting → Action
-action_at (Reads r) s b = read_action b.p r
+action_at (Reads r) s b = read_action b r
 action_at (Loads issue) s b = issue_action b.p s issue
 action_at (Over end) s b = Rest
 

@@ -8,7 +8,6 @@ use crate::boot::Boot;
 use crate::stage::ReadStage;
 use thy_base::{Nvm, NvmError};
 use thy_control::{Control, checkpoints_have_tables, loaded_frames_hold_all};
-use thy_record::BadImage;
 
 impl Boot {
     ghost use Rattle.thy_recover.specs.declared.stage.Stage.TheVariants.{Reads};
@@ -31,15 +30,13 @@ impl Boot {
         ensures geometry { OnOk result (self.new.p ≡ self.old.p) }
         ensures boot { OnErr result (self.new ≡ self.old) }
         ensures control { OnErr result (control.new ≡ control.old) }
-        ensures nvm { Takes (read_action self.old.p at) result (N.device nvm.old) (N.device nvm.new) }
+        ensures nvm { Takes (read_action self.old at) result (N.device nvm.old) (N.device nvm.new) }
     {
         match at {
             ReadStage::Unread => self.recover_commit(control, nvm),
-            ReadStage::Header { epoch, fault } => self.recover_header(epoch, fault, control, nvm),
-            ReadStage::Slot { epoch, next } => self.recover_slot(epoch, next, control, nvm),
-            ReadStage::Frames { epoch, page, next } => {
-                self.recover_frame(epoch, page, next, control, nvm)
-            }
+            ReadStage::Header => self.recover_header(control, nvm),
+            ReadStage::Slot(next) => self.recover_slot(next, control, nvm),
+            ReadStage::Frames { page, next } => self.recover_frame(page, next, control, nvm),
             ReadStage::Refusing(_) => Ok(()),
         }
     }
@@ -54,59 +51,52 @@ impl Boot {
         ensures fewer { OnOk result (IsNearer self.old.p Unread self.new.stage) }
         ensures geometry { OnOk result (self.new.p ≡ self.old.p) }
         ensures boot { OnErr result (self.new ≡ self.old) }
-        ensures nvm { Takes (read_action self.old.p Unread) result (N.device nvm.old) (N.device nvm.new) }
+        ensures nvm { Takes (read_action self.old Unread) result (N.device nvm.old) (N.device nvm.new) }
     {
         let _control = control;
         self.read_commit(nvm)
     }
 
     /// Reads the header.
-    fn recover_header<N: Nvm>(
-        &mut self,
-        epoch: u64,
-        fault: Option<BadImage>,
-        control: &Control,
-        nvm: &mut N,
-    ) -> Result<(), NvmError>
-        requires stage { self.old.stage ≡ Reads (Header epoch fault) }
+    fn recover_header<N: Nvm>(&mut self, control: &Control, nvm: &mut N) -> Result<(), NvmError>
+        requires stage { self.old.stage ≡ Reads Header }
         requires read { HasRead (N.device nvm.old) self.old control.now }
-        ensures goes { OnOk result (self.new ≡ read_on (Header epoch fault) (N.device nvm.old) self.old) }
-        ensures fills { OnOk result (Fills (Header epoch fault) (N.device nvm.old) self.old control.now control.now) }
+        ensures goes { OnOk result (self.new ≡ read_on Header (N.device nvm.old) self.old) }
+        ensures fills { OnOk result (Fills Header (N.device nvm.old) self.old control.now control.now) }
         ensures read { OnOk result (HasRead (N.device nvm.new) self.new control.now) }
-        ensures fewer { OnOk result (IsNearer self.old.p (Header epoch fault) self.new.stage) }
+        ensures fewer { OnOk result (IsNearer self.old.p Header self.new.stage) }
         ensures geometry { OnOk result (self.new.p ≡ self.old.p) }
         ensures boot { OnErr result (self.new ≡ self.old) }
-        ensures nvm { Takes (read_action self.old.p (Header epoch fault)) result (N.device nvm.old) (N.device nvm.new) }
+        ensures nvm { Takes (read_action self.old Header) result (N.device nvm.old) (N.device nvm.new) }
     {
         let _control = control;
-        self.read_header(epoch, fault, nvm)
+        self.read_header(nvm)
     }
 
     /// Reads block `next` of the slot; with the last, the slot is judged.
     fn recover_slot<N: Nvm>(
         &mut self,
-        epoch: u64,
         next: u64,
         control: &mut Control,
         nvm: &mut N,
     ) -> Result<(), NvmError>
-        requires stage { self.old.stage ≡ Reads (Slot epoch next) }
+        requires stage { self.old.stage ≡ Reads (Slot next) }
         requires read { HasRead (N.device nvm.old) self.old control.old }
-        ensures goes { OnOk result (self.new ≡ read_on (Slot epoch next) (N.device nvm.old) self.old) }
-        ensures fills { OnOk result (Fills (Slot epoch next) (N.device nvm.old) self.old control.old control.new) }
+        ensures goes { OnOk result (self.new ≡ read_on (Slot next) (N.device nvm.old) self.old) }
+        ensures fills { OnOk result (Fills (Slot next) (N.device nvm.old) self.old control.old control.new) }
         ensures read { OnOk result (HasRead (N.device nvm.new) self.new control.new) }
-        ensures fewer { OnOk result (IsNearer self.old.p (Slot epoch next) self.new.stage) }
+        ensures fewer { OnOk result (IsNearer self.old.p (Slot next) self.new.stage) }
         ensures geometry { OnOk result (self.new.p ≡ self.old.p) }
         ensures boot { OnErr result (self.new ≡ self.old) }
         ensures control { OnErr result (control.new ≡ control.old) }
-        ensures nvm { Takes (read_action self.old.p (Slot epoch next)) result (N.device nvm.old) (N.device nvm.new) }
+        ensures nvm { Takes (read_action self.old (Slot next)) result (N.device nvm.old) (N.device nvm.new) }
     {
         loaded_frames_hold_all();
         checkpoints_have_tables();
         self.fits();
         control.tables();
-        self.read_block(epoch, next, nvm)?;
-        self.go_on(epoch, next, control);
+        self.read_block(next, nvm)?;
+        self.go_on(next, control);
         control.tables();
         Ok(())
     }
@@ -114,29 +104,28 @@ impl Boot {
     /// Loads block `next` of the page that entry `page` lists into its frame.
     fn recover_frame<N: Nvm>(
         &mut self,
-        epoch: u64,
         page: usize,
         next: u64,
         control: &mut Control,
         nvm: &mut N,
     ) -> Result<(), NvmError>
-        requires stage { self.old.stage ≡ Reads (Frames epoch page next) }
+        requires stage { self.old.stage ≡ Reads (Frames page next) }
         requires read { HasRead (N.device nvm.old) self.old control.old }
-        ensures goes { OnOk result (self.new ≡ read_on (Frames epoch page next) (N.device nvm.old) self.old) }
-        ensures fills { OnOk result (Fills (Frames epoch page next) (N.device nvm.old) self.old control.old control.new) }
+        ensures goes { OnOk result (self.new ≡ read_on (Frames page next) (N.device nvm.old) self.old) }
+        ensures fills { OnOk result (Fills (Frames page next) (N.device nvm.old) self.old control.old control.new) }
         ensures read { OnOk result (HasRead (N.device nvm.new) self.new control.new) }
-        ensures fewer { OnOk result (IsNearer self.old.p (Frames epoch page next) self.new.stage) }
+        ensures fewer { OnOk result (IsNearer self.old.p (Frames page next) self.new.stage) }
         ensures geometry { OnOk result (self.new.p ≡ self.old.p) }
         ensures boot { OnErr result (self.new ≡ self.old) }
         ensures control { OnErr result (control.new ≡ control.old) }
-        ensures nvm { Takes (read_action self.old.p (Frames epoch page next)) result (N.device nvm.old) (N.device nvm.new) }
+        ensures nvm { Takes (read_action self.old (Frames page next)) result (N.device nvm.old) (N.device nvm.new) }
     {
         loaded_frames_hold_all();
         checkpoints_have_tables();
         self.fits();
         control.tables();
         control.frame_block(page, next, nvm)?;
-        self.go_on_framing(epoch, page, next);
+        self.go_on_framing(page, next);
         control.tables();
         Ok(())
     }

@@ -24,12 +24,12 @@ pub enum Issue {
 pub enum ReadStage {
     /// Nothing was read yet.
     Unread,
-    /// The commit block was read: it names this epoch, and has this fault, if any.
-    Header { epoch: u64, fault: Option<BadImage> },
+    /// The commit block was read.
+    Header,
     /// Header and commit block have no fault, and so many blocks of the slot were read.
-    Slot { epoch: u64, next: u64 },
+    Slot(u64),
     /// The slot has no fault, and its tables are listed. Block `next` of the page that entry `page` lists is loaded next.
-    Frames { epoch: u64, page: usize, next: u64 },
+    Frames { page: usize, next: u64 },
     /// The image is refused.
     Refusing(BadImage),
 }
@@ -37,8 +37,8 @@ pub enum ReadStage {
 /// How a boot ended.
 #[derive(Clone, Copy, Debug, PartialEq, Eq)]
 pub enum End {
-    /// The checkpoint of this epoch is restored.
-    Restored(u64),
+    /// The checkpoint that was found is restored.
+    Restored,
     /// The program is loaded, as the checkpoint of epoch 0.
     Loaded,
 }

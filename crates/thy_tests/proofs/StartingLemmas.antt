@@ -27,23 +27,23 @@ use Rattle.thy_tests.specs.Starting.{Off, IsOff, starting, IsStarting, is_refuse
 -- ---- steps
 
 -- unless it refused, a boot that reads has a controller with no checkpoint under way
-idle-at : (stage : Stage) (n : Device) (p : Parameters) (slot : List ℕ) (b : Booting) (c : State)
-    → is_refused (answer_at stage b) ≡ false → HasReadAt stage n p slot c → c.under_way ≡ false
-idle-at (Reads Unread) n p slot b c told read = read.booting.idle
-idle-at (Reads (Header epoch fault)) n p slot b c told read = read.0.booting.idle
-idle-at (Reads (Slot epoch next)) n p slot b c told read = read.0.booting.idle
-idle-at (Reads (Frames epoch page next)) n p slot b c told read = read.0.booting.idle
-idle-at (Reads (Refusing bad)) n p slot b c told read = cc
-idle-at (Loads issue) n p slot b c told read = read.0.booting.idle
-idle-at (Over (Restored epoch)) n p slot b c told read = read.tables.booting.idle
-idle-at (Over Loaded) n p slot b c told read = absurd read
+idle-at : (stage : Stage) (n : Device) (p : Parameters) (commit : Block) (slot : List ℕ) (b : Booting) (c : State)
+    → is_refused (answer_at stage b) ≡ false → HasReadAt stage n p commit slot c → c.under_way ≡ false
+idle-at (Reads Unread) n p commit slot b c told read = read.booting.idle
+idle-at (Reads Header) n p commit slot b c told read = read.0.booting.idle
+idle-at (Reads (Slot next)) n p commit slot b c told read = read.0.booting.idle
+idle-at (Reads (Frames page next)) n p commit slot b c told read = read.0.booting.idle
+idle-at (Reads (Refusing bad)) n p commit slot b c told read = cc
+idle-at (Loads issue) n p commit slot b c told read = read.0.booting.idle
+idle-at (Over Restored) n p commit slot b c told read = read.tables.booting.idle
+idle-at (Over Loaded) n p commit slot b c told read = absurd read
 
 -- so it has after every step
 pub idle-step : (s : Plain) (n : Device) (b : Booting) (c : State) (m : Device) (d : Booting) (e : State)
     → c.under_way ≡ false → Steps s n b c m d e → is_refused (answer_of d) ≡ false → e.under_way ≡ false
 idle-step s n b c m d e idle steps told = by_stage b.stage steps where
   by_stage : (q : Stage) → StepsAt q s n b c m d e → e.under_way ≡ false
-  by_stage (Reads r) on = idle-at d.stage m d.p d.slot d e told on.read.so_far
+  by_stage (Reads r) on = idle-at d.stage m d.p d.commit d.slot d e told on.read.so_far
   by_stage (Loads issue) on = ap (λ (t : State). t.under_way) on.control ∙ idle
   by_stage (Over end) on = absurd on
 
