@@ -62,14 +62,8 @@ fn is_loading(stage: Stage) -> bool
     ensures { result ≡ loads_at stage }
 {
     match stage {
-        Stage::Loading(_) => true,
-        Stage::Unread
-        | Stage::Header { .. }
-        | Stage::Slot { .. }
-        | Stage::Frames { .. }
-        | Stage::Refusing(_)
-        | Stage::Restored(_)
-        | Stage::Loaded => false,
+        Stage::Loads(_) => true,
+        Stage::Reads(_) | Stage::Over(_) => false,
     }
 }
 

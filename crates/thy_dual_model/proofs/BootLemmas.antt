@@ -30,7 +30,9 @@ use Rattle.thy_view.specs.Origin.{Origin, IsOrigin}
 use Rattle.thy_view.specs.Safe.{ceiling, Safe}
 use Rattle.thy_view.specs.Views.{doubt_of, loads}
 use Rattle.thy_recover.specs.declared.stage.Stage.{Stage}
-use Rattle.thy_recover.specs.declared.stage.Stage.TheVariants.{Unread, Header as ReadsHeader, Slot as ReadsSlot, Frames, Refusing, Loading, Restored, Loaded}
+use Rattle.thy_recover.specs.declared.stage.Stage.TheVariants.{Reads, Loads, Over}
+use Rattle.thy_recover.specs.declared.stage.ReadStage.{ReadStage}
+use Rattle.thy_recover.specs.declared.stage.ReadStage.TheVariants.{Unread, Header as ReadsHeader, Slot as ReadsSlot, Frames, Refusing}
 use Rattle.thy_recover.specs.declared.stage.Issue.{Issue}
 use Rattle.thy_recover.specs.declared.stage.Issue.TheVariants.{Home, Slot, Header, Settle, Commit, Confirm}
 use Rattle.thy_recover.specs.Boot.{Booting, IsBoot, new_boot}
@@ -38,7 +40,7 @@ use Rattle.thy_recover.specs.Left.{boot_left}
 use Rattle.thy_recover.specs.Laws.{IsGoing}
 use Rattle.thy_recover.specs.Shows.{is_written, seen_at}
 use Rattle.thy_recover.specs.Sound.{BootImages, start_mark, saved_loading, standing_in_boot, IsRecovering, IsSoundAt, IsSound as IsBootOf}
-use Rattle.thy_recover.proofs.DecodeLemmas.{decode-zero}
+use Rattle.thy_recover.proofs.DecodeLemmas.{decode-zero, committed-in}
 use Rattle.thy_recover.proofs.SafeLemmas.{sound_is_safe}
 use Rattle.thy_recover.proofs.BootDrainLemmas.{drains_keep_boot}
 use Rattle.thy_recover.proofs.GoOnLemmas.{new_is_sound}
@@ -67,14 +69,9 @@ module _ (o : Origin) (g : BootImages) (n : Device) (b : Booting) (c : State) wh
       ∙ finding_view-told o (layout_of o) g.before g.kept o.start.count tells
 
   view-at : (q : Stage) → IsGoing q → IsKeeping o (layout_of o) (standing_in_boot o q g n) → IsSoundAt o q g n b c → view_at o q n ≡ seen_at o g.kept q
-  view-at Unread going keeps far = view-reading far keeps.told
-  view-at (ReadsHeader epoch fault) going keeps far = view-reading far keeps.told
-  view-at (ReadsSlot epoch next) going keeps far = view-reading far keeps.told
-  view-at (Frames epoch page next) going keeps far = view-reading far keeps.told
-  view-at (Refusing bad) going keeps far = view-reading far keeps.told
-  view-at (Loading issue) going keeps far = refl
-  view-at (Restored epoch) going keeps far = absurd going
-  view-at Loaded going keeps far = absurd going
+  view-at (Reads r) going keeps far = view-reading far keeps.told
+  view-at (Loads issue) going keeps far = refl
+  view-at (Over end) going keeps far = absurd going
 
   shown-finding : (kept : Option Mark) → Tells o (layout_of o) g.before kept → IsBootView o (finding_view o.start.count kept)
   shown-finding None tells = inr (tells.1, inl refl)
@@ -98,52 +95,36 @@ module _ (o : Origin) (g : BootImages) (n : Device) (b : Booting) (c : State) wh
   loads-first Confirm told = told.0.1
 
   shown-at : (q : Stage) → IsGoing q → IsKeeping o (layout_of o) (standing_in_boot o q g n) → IsBootView o (seen_at o g.kept q)
-  shown-at Unread going keeps = shown-finding g.kept keeps.told
-  shown-at (ReadsHeader epoch fault) going keeps = shown-finding g.kept keeps.told
-  shown-at (ReadsSlot epoch next) going keeps = shown-finding g.kept keeps.told
-  shown-at (Frames epoch page next) going keeps = shown-finding g.kept keeps.told
-  shown-at (Refusing bad) going keeps = shown-finding g.kept keeps.told
-  shown-at (Loading issue) going keeps = shown-loading issue (loads-first issue keeps.told)
-  shown-at (Restored epoch) going keeps = absurd going
-  shown-at Loaded going keeps = absurd going
+  shown-at (Reads r) going keeps = shown-finding g.kept keeps.told
+  shown-at (Loads issue) going keeps = shown-loading issue (loads-first issue keeps.told)
+  shown-at (Over end) going keeps = absurd going
 
   none-done : (m : Mark) → None ≡ Some m → ⊥
   none-done m d = cc
 
   -- where a checkpoint was found nothing is queued
   settled-at : (q : Stage) (m : Mark) → IsGoing q → (seen_at o g.kept q).done ≡ Some m → IsSoundAt o q g n b c → n.queue ≡ []
-  settled-at Unread m going found far = far.read.settled
-  settled-at (ReadsHeader epoch fault) m going found far = far.read.settled
-  settled-at (ReadsSlot epoch next) m going found far = far.read.settled
-  settled-at (Frames epoch page next) m going found far = far.read.settled
-  settled-at (Refusing bad) m going found far = far.read.settled
-  settled-at (Loading issue) m going found far = absurd (none-done m found)
-  settled-at (Restored epoch) m going found far = absurd going
-  settled-at Loaded m going found far = absurd going
+  settled-at (Reads r) m going found far = far.read.settled
+  settled-at (Loads issue) m going found far = absurd (none-done m found)
+  settled-at (Over end) m going found far = absurd going
 
   sized-at : (q : Stage) → IsGoing q → IsKeeping o (layout_of o) (standing_in_boot o q g n) → length n.image ≡ image_blocks o.geometry
-  sized-at Unread going keeps = keeps.sized
-  sized-at (ReadsHeader epoch fault) going keeps = keeps.sized
-  sized-at (ReadsSlot epoch next) going keeps = keeps.sized
-  sized-at (Frames epoch page next) going keeps = keeps.sized
-  sized-at (Refusing bad) going keeps = keeps.sized
-  sized-at (Loading issue) going keeps = keeps.sized
-  sized-at (Restored epoch) going keeps = absurd going
-  sized-at Loaded going keeps = absurd going
+  sized-at (Reads r) going keeps = keeps.sized
+  sized-at (Loads issue) going keeps = keeps.sized
+  sized-at (Over end) going keeps = absurd going
 
 -- the view of a boot
 pub view-is : (o : Origin) (s : Dual) (n : Device) (boots : Boots o s n) → view_at o s.boot.stage n ≡ seen_at o boots.images.kept s.boot.stage
 view-is o s n boots = view-at o boots.images n s.boot s.control s.boot.stage boots.going boots.sound.keeps boots.sound.so_far
 
-unread-at : (q : Stage) → has_read_at q ≡ false → q ≡ Unread
-unread-at Unread h = refl
-unread-at (ReadsHeader epoch fault) h = cc
-unread-at (ReadsSlot epoch next) h = cc
-unread-at (Frames epoch page next) h = cc
-unread-at (Refusing bad) h = cc
-unread-at (Loading issue) h = cc
-unread-at (Restored epoch) h = cc
-unread-at Loaded h = cc
+unread-at : (q : Stage) → has_read_at q ≡ false → q ≡ Reads Unread
+unread-at (Reads Unread) h = refl
+unread-at (Reads ReadsHeader) h = cc
+unread-at (Reads (ReadsSlot next)) h = cc
+unread-at (Reads (Frames page next)) h = cc
+unread-at (Reads (Refusing bad)) h = cc
+unread-at (Loads issue) h = cc
+unread-at (Over end) h = cc
 
 -- ---- drains of the NVM
 
@@ -282,7 +263,7 @@ power_finds o s n origin powered found = boots-found o s n origin powered found
 pub power_is_new : PowerIsNew
 power_is_new p s powered = record {
   queued = ap (λ (c : State). c.dram.queued) powered.controller ∙ powered.is_dram.empty;
-  boot_left = subst (λ (b : Booting). boot_left b.p b.stage ≤ boot_left p Unread) (sym powered.boot) (omega arith);
+  boot_left = subst (λ (b : Booting). boot_left b.p b.stage ≤ boot_left p (Reads Unread)) (sym powered.boot) (omega arith);
 }
 
 pub zeros_are_nothing : ZerosAreNothing
@@ -302,21 +283,18 @@ kept-some o g n None before tells committed =
     cc
 
 -- behind the commit block it is not zero
-abbrev HasCommitAt : Stage → Device → Type 0
-HasCommitAt (ReadsHeader epoch fault) n = is_zero (block_at n.image 1) ≡ false
-HasCommitAt (ReadsSlot epoch next) n = is_zero (block_at n.image 1) ≡ false
-HasCommitAt (Frames epoch page next) n = is_zero (block_at n.image 1) ≡ false
-HasCommitAt stage n = Unit {0}
+abbrev HasCommitAt : ReadStage → Device → Type 0
+HasCommitAt ReadsHeader n = is_zero (block_at n.image 1) ≡ false
+HasCommitAt (ReadsSlot next) n = is_zero (block_at n.image 1) ≡ false
+HasCommitAt (Frames page next) n = is_zero (block_at n.image 1) ≡ false
+HasCommitAt _ n = Unit {0}
 
-has-commit : (q : Stage) (n : Device) (p : Parameters) (slot : List ℕ) (c : State) → HasReadAt q n p slot c → HasCommitAt q n
-has-commit Unread n p slot c h = tt
-has-commit (ReadsHeader epoch fault) n p slot c h = h.1.committed
-has-commit (ReadsSlot epoch next) n p slot c h = h.1.commit.committed
-has-commit (Frames epoch page next) n p slot c h = h.0.head.commit.committed
-has-commit (Refusing bad) n p slot c h = tt
-has-commit (Loading issue) n p slot c h = tt
-has-commit (Restored epoch) n p slot c h = tt
-has-commit Loaded n p slot c h = tt
+has-commit : (r : ReadStage) (n : Device) (p : Parameters) (commit : Block) (slot : List ℕ) (c : State) → HasReadAt (Reads r) n p commit slot c → HasCommitAt r n
+has-commit Unread n p commit slot c h = tt
+has-commit ReadsHeader n p commit slot c h = committed-in n.image commit h.1
+has-commit (ReadsSlot next) n p commit slot c h = committed-in n.image commit h.1.commit_is
+has-commit (Frames page next) n p commit slot c h = committed-in n.image commit h.0.head.commit_is
+has-commit (Refusing bad) n p commit slot c h = tt
 
 module _ (o : Origin) (g : BootImages) (n : Device) (b : Booting) (c : State) where
   not-loading : IsRecovering g n b c → Tells o (layout_of o) g.before g.kept → is_zero (block_at n.image 1) ≡ false
@@ -324,34 +302,26 @@ module _ (o : Origin) (g : BootImages) (n : Device) (b : Booting) (c : State) wh
   not-loading reading tells committed =
       ap loads (view-reading o g n b c reading tells) ∙ kept-some o g n g.kept reading.before_is tells committed
 
-  -- a boot that reads has read what its stage says
-  commit-at : (q : Stage) → q ≡ b.stage → IsSoundAt o q g n b c → HasCommitAt q n
-  commit-at (ReadsHeader epoch fault) is far = has-commit (ReadsHeader epoch fault) n b.p b.slot c (subst (λ (x : Stage). HasReadAt x n b.p b.slot c) (sym is) far.read.so_far)
-  commit-at (ReadsSlot epoch next) is far = has-commit (ReadsSlot epoch next) n b.p b.slot c (subst (λ (x : Stage). HasReadAt x n b.p b.slot c) (sym is) far.read.so_far)
-  commit-at (Frames epoch page next) is far = has-commit (Frames epoch page next) n b.p b.slot c (subst (λ (x : Stage). HasReadAt x n b.p b.slot c) (sym is) far.read.so_far)
-  commit-at Unread is far = tt
-  commit-at (Refusing bad) is far = tt
-  commit-at (Loading issue) is far = tt
-  commit-at (Restored epoch) is far = tt
-  commit-at Loaded is far = tt
+  reading-at : (r : ReadStage) → ((bad : BadImage) → Reads r ≢ Reads (Refusing bad)) → Tells o (layout_of o) g.before g.kept → IsRecovering g n b c
+      → HasCommitAt r n → false ≡ (has_read_at (Reads r) && loads (view_at o (Reads r) n))
+  reading-at Unread good tells far read = refl
+  reading-at ReadsHeader good tells far read = sym (not-loading far tells read)
+  reading-at (ReadsSlot next) good tells far read = sym (not-loading far tells read)
+  reading-at (Frames page next) good tells far read = sym (not-loading far tells read)
+  reading-at (Refusing bad) good tells far read = absurd (good bad refl)
 
-  loading-at : (q : Stage) → IsGoing q → ((bad : BadImage) → q ≢ Refusing bad) → IsKeeping o (layout_of o) (standing_in_boot o q g n) → IsSoundAt o q g n b c
-      → HasCommitAt q n → loads_at q ≡ (has_read_at q && loads (view_at o q n))
-  loading-at Unread going good keeps far read = refl
-  loading-at (ReadsHeader epoch fault) going good keeps far read = sym (not-loading far keeps.told read)
-  loading-at (ReadsSlot epoch next) going good keeps far read = sym (not-loading far keeps.told read)
-  loading-at (Frames epoch page next) going good keeps far read = sym (not-loading far keeps.told read)
-  loading-at (Refusing bad) going good keeps far read = absurd (good bad refl)
-  loading-at (Loading issue) going good keeps far read = refl
-  loading-at (Restored epoch) going good keeps far read = absurd going
-  loading-at Loaded going good keeps far read = absurd going
+  loading-at : (q : Stage) → b.stage ≡ q → IsGoing q → ((bad : BadImage) → q ≢ Reads (Refusing bad)) → IsKeeping o (layout_of o) (standing_in_boot o q g n)
+      → IsSoundAt o q g n b c → loads_at q ≡ (has_read_at q && loads (view_at o q n))
+  loading-at (Reads r) is going good keeps far =
+      reading-at r good keeps.told far (has-commit r n b.p b.commit b.slot c (subst (λ (q : Stage). HasReadAt q n b.p b.commit b.slot c) is far.read.so_far))
+  loading-at (Loads issue) is going good keeps far = refl
+  loading-at (Over end) is going good keeps far = absurd going
 
 pub loading-is : (o : Origin) (s : Dual) (n : Device) → Boots o s n
     → loads_at s.boot.stage ≡ (has_read_at s.boot.stage && loads (view_at o s.boot.stage n))
 loading-is o s n boots =
-    loading-at o boots.images n s.boot s.control s.boot.stage boots.going
+    loading-at o boots.images n s.boot s.control s.boot.stage refl boots.going
     (λ bad. never_refused o boots.images n s.boot s.control bad boots.sound) boots.sound.keeps boots.sound.so_far
-    (commit-at o boots.images n s.boot s.control s.boot.stage refl boots.sound.so_far)
 
 -- ---- a loss of power
 

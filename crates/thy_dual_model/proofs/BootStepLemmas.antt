@@ -15,6 +15,7 @@ use Rattle.thy_isa.specs.OnBlocks.{state_from}
 use Rattle.thy_isa.specs.Step.{State as Plain, cpu_of, state_of}
 use Rattle.thy_record.specs.declared.bad_image.BadImage.{BadImage}
 use Rattle.thy_record.specs.declared.start.Start.{Start}
+use Rattle.thy_record.specs.Commit.{epoch_of}
 use Rattle.thy_record.specs.Cpu.{cpu_of_record}
 use Rattle.thy_record.specs.Images.{decode_image}
 use Rattle.thy_record.specs.Slots.{slot_fault}
@@ -35,22 +36,25 @@ use Rattle.thy_view.specs.Safe.{ceiling, Safe}
 use Rattle.thy_commit.specs.Progress.{Fits}
 use Rattle.thy_commit.proofs.FitLemmas.{idle_fits}
 use Rattle.thy_recover.specs.declared.stage.Stage.{Stage}
-use Rattle.thy_recover.specs.declared.stage.Stage.TheVariants.{Unread, Header as ReadsHeader, Slot as ReadsSlot, Frames, Refusing, Loading, Restored, Loaded}
+use Rattle.thy_recover.specs.declared.stage.Stage.TheVariants.{Reads, Loads as Loading, Over}
+use Rattle.thy_recover.specs.declared.stage.ReadStage.{ReadStage}
+use Rattle.thy_recover.specs.declared.stage.ReadStage.TheVariants.{Unread, Header as ReadsHeader, Slot as ReadsSlot, Frames, Refusing}
+use Rattle.thy_recover.specs.declared.stage.End.TheVariants.{Restored, Loaded}
 use Rattle.thy_recover.specs.declared.stage.Issue.{Issue}
 use Rattle.thy_recover.specs.declared.stage.Issue.TheVariants.{Home, Slot, Header, Settle, Commit, Confirm}
 use Rattle.thy_recover.specs.declared.stage.BootStep.{BootStep}
 use Rattle.thy_recover.specs.declared.stage.BootStep.TheVariants.{Reading, Loading as IsLoading, Loaded as HasLoaded, Restarted, Refused}
-use Rattle.thy_recover.specs.Boot.{Booting, IsBoot, slot_of, issue_at, answer_at, answer_of, JudgesUnless}
-use Rattle.thy_recover.specs.Left.{boot_left}
+use Rattle.thy_recover.specs.Boot.{Booting, IsBoot, slot_of, answer_at, answer_of, JudgesUnless}
+use Rattle.thy_recover.specs.Left.{reads_left, boot_left}
 use Rattle.thy_recover.specs.Laws.{IsGoing, IsMoved, IsFilled, failed_answer}
 use Rattle.thy_recover.specs.Loads.{issue_action}
-use Rattle.thy_recover.specs.Reads.{read_action, slot_read, Fills}
+use Rattle.thy_recover.specs.Reads.{slot_read, Fills}
 use Rattle.thy_recover.specs.Recovers.{HasReadAt, loads}
 use Rattle.thy_recover.specs.Shows.{seen_at, did_of}
 use Rattle.thy_recover.specs.Sound.{BootImages, start_mark, standing_in_boot, images_after, IsSoundAt, IsLoaded, IsBooted as IsBootedAt}
-use Rattle.thy_recover.specs.Steps.{CanStep, Steps, StepsBy, action_of, FailsBy, Fails, TakesStep}
+use Rattle.thy_recover.specs.Steps.{CanStep, Steps, StepsAt, action_at, action_of, Fails, TakesStep}
 use Rattle.thy_recover.proofs.StepMoveLemmas.{steps_move}
-use Rattle.thy_recover.proofs.SafeLemmas.{failures_move}
+use Rattle.thy_recover.proofs.SafeLemmas.{failures_move, read_failed}
 use Rattle.thy_dual_model.proofs.StoreLemmas.{of-same}
 use Rattle.thy_recover.proofs.EndLemmas.{restored_is_booted, never_refused}
 use Rattle.thy_recover.proofs.FoundLemmas.{count-state_from}
@@ -113,22 +117,19 @@ frame-acts page next c n =
     inr (record { at = number_of c.p (Frame page next); block = newest n (number_of c.p (AlternatePage page next)); left = refl; nvm = refl })
 
 -- a step that reads copies a page's block into its frame, or leaves it as it was
-fills-act : (q : Stage) (n : Device) (b : Booting) (c e : State) → Fills q n b c e → ActsOnDram n n c.dram e.dram
+fills-act : (r : ReadStage) (n : Device) (b : Booting) (c e : State) → Fills r n b c e → ActsOnDram n n c.dram e.dram
 fills-act Unread n b c e f = inl (ap (λ (x : State). x.dram) f)
-fills-act (ReadsHeader epoch fault) n b c e f = inl (ap (λ (x : State). x.dram) f)
-fills-act (ReadsSlot epoch next) n b c e f =
-    let b1 : Booting = slot_read epoch next n b in
-    inl (judged-dram (nat_lt (next + 1) (slot_blocks b1.p)) (slot_fault b1.p ceiling epoch (slot_of b1)) b1 c e f)
-fills-act (Frames epoch page next) n b c e f = subst (λ (x : State). ActsOnDram n n c.dram x.dram) (sym f) (frame-acts page next c n)
+fills-act ReadsHeader n b c e f = inl (ap (λ (x : State). x.dram) f)
+fills-act (ReadsSlot next) n b c e f =
+    let b1 : Booting = slot_read next n b in
+    inl (judged-dram (nat_lt (next + 1) (slot_blocks b1.p)) (slot_fault b1.p ceiling (epoch_of b1.commit) (slot_of b1)) b1 c e f)
+fills-act (Frames page next) n b c e f = subst (λ (x : State). ActsOnDram n n c.dram x.dram) (sym f) (frame-acts page next c n)
 fills-act (Refusing bad) n b c e f = inl (ap (λ (x : State). x.dram) f)
-fills-act (Loading issue) n b c e f = inl (ap (λ (x : State). x.dram) f)
-fills-act (Restored epoch) n b c e f = inl (ap (λ (x : State). x.dram) f)
-fills-act Loaded n b c e f = inl (ap (λ (x : State). x.dram) f)
 
 -- ---- how far it is
 
 -- no stage has more left than the first
-loads-most : (p : Parameters) (issue : Issue) → boot_left p (Loading issue) ≤ boot_left p Unread
+loads-most : (p : Parameters) (issue : Issue) → boot_left p (Loading issue) ≤ boot_left p (Reads Unread)
 loads-most p (Home b) = omega arith
 loads-most p (Slot k) = omega arith
 loads-most p Header = omega arith
@@ -136,53 +137,52 @@ loads-most p Settle = omega arith
 loads-most p Commit = omega arith
 loads-most p Confirm = omega arith
 
-left-most : (p : Parameters) (q : Stage) → boot_left p q ≤ boot_left p Unread
-left-most p Unread = omega arith
-left-most p (ReadsHeader epoch fault) = omega arith
-left-most p (ReadsSlot epoch next) = omega arith
-left-most p (Frames epoch page next) = omega arith
-left-most p (Refusing bad) = omega arith
+reads-most : (p : Parameters) (r : ReadStage) → reads_left p r ≤ reads_left p Unread
+reads-most p Unread = omega arith
+reads-most p ReadsHeader = omega arith
+reads-most p (ReadsSlot next) = omega arith
+reads-most p (Frames page next) = omega arith
+reads-most p (Refusing bad) = omega arith
+
+left-most : (p : Parameters) (q : Stage) → boot_left p q ≤ boot_left p (Reads Unread)
+left-most p (Reads r) = reads-most p r
 left-most p (Loading issue) = loads-most p issue
-left-most p (Restored epoch) = omega arith
-left-most p Loaded = omega arith
+left-most p (Over end) = omega arith
 
 -- so behind a step the commit block was read
 read-on : (p : Parameters) (q r : Stage) → boot_left p r + 1 ≤ boot_left p q → has_read_at r ≡ true
-read-on p q Unread less = let most : boot_left p q ≤ boot_left p Unread = left-most p q in absurd (omega (arith, less, most))
-read-on p q (ReadsHeader epoch fault) less = refl
-read-on p q (ReadsSlot epoch next) less = refl
-read-on p q (Frames epoch page next) less = refl
-read-on p q (Refusing bad) less = refl
+read-on p q (Reads Unread) less = let most : boot_left p q ≤ boot_left p (Reads Unread) = left-most p q in absurd (omega (arith, less, most))
+read-on p q (Reads ReadsHeader) less = refl
+read-on p q (Reads (ReadsSlot next)) less = refl
+read-on p q (Reads (Frames page next)) less = refl
+read-on p q (Reads (Refusing bad)) less = refl
 read-on p q (Loading issue) less = refl
-read-on p q (Restored epoch) less = refl
-read-on p q Loaded less = refl
+read-on p q (Over end) less = refl
 
-not-unread : (q : Stage) → has_read_at q ≡ true → q ≡ Unread → ⊥
+not-unread : (q : Stage) → has_read_at q ≡ true → q ≡ Reads Unread → ⊥
 not-unread q read is = no-false (sym (ap has_read_at is) ∙ read)
 
 -- the mark that is kept stays
 kept-on : (q : Stage) (n : Device) (g : BootImages) → (images_after q n g).kept ≡ g.kept
-kept-on Unread n g = refl
-kept-on (ReadsHeader epoch fault) n g = refl
-kept-on (ReadsSlot epoch next) n g = refl
-kept-on (Frames epoch page next) n g = refl
-kept-on (Refusing bad) n g = refl
+kept-on (Reads r) n g = refl
 kept-on (Loading issue) n g = kept_after issue n g
-kept-on (Restored epoch) n g = refl
-kept-on Loaded n g = refl
+kept-on (Over end) n g = refl
 
 -- ---- the controller has no checkpoint under way
 
 module _ (o : Origin) (g : BootImages) (n : Device) (b : Booting) (c : State) where
-  idle-at : (q : Stage) → b.stage ≡ q → ((bad : BadImage) → q ≢ Refusing bad) → IsSoundAt o q g n b c → c.under_way ≡ false
-  idle-at Unread is good far = (subst (λ (x : Stage). HasReadAt x n b.p b.slot c) is far.read.so_far).booting.idle
-  idle-at (ReadsHeader epoch fault) is good far = (subst (λ (x : Stage). HasReadAt x n b.p b.slot c) is far.read.so_far).0.booting.idle
-  idle-at (ReadsSlot epoch next) is good far = (subst (λ (x : Stage). HasReadAt x n b.p b.slot c) is far.read.so_far).0.booting.idle
-  idle-at (Frames epoch page next) is good far = (subst (λ (x : Stage). HasReadAt x n b.p b.slot c) is far.read.so_far).0.booting.idle
-  idle-at (Refusing bad) is good far = absurd (good bad refl)
+  idle-read : (r : ReadStage) → ((bad : BadImage) → Reads r ≢ Reads (Refusing bad)) → HasReadAt (Reads r) n b.p b.commit b.slot c → c.under_way ≡ false
+  idle-read Unread good h = h.booting.idle
+  idle-read ReadsHeader good h = h.0.booting.idle
+  idle-read (ReadsSlot next) good h = h.0.booting.idle
+  idle-read (Frames page next) good h = h.0.booting.idle
+  idle-read (Refusing bad) good h = absurd (good bad refl)
+
+  idle-at : (q : Stage) → b.stage ≡ q → ((bad : BadImage) → q ≢ Reads (Refusing bad)) → IsSoundAt o q g n b c → c.under_way ≡ false
+  idle-at (Reads r) is good far = idle-read r good (subst (λ (x : Stage). HasReadAt x n b.p b.commit b.slot c) is far.read.so_far)
   idle-at (Loading issue) is good far = far.fresh.booting.idle
-  idle-at (Restored epoch) is good far = (subst (λ (x : Stage). HasReadAt x n b.p b.slot c) is far.read.so_far).tables.booting.idle
-  idle-at Loaded is good far = far.over.booting.idle
+  idle-at (Over Restored) is good far = (subst (λ (x : Stage). HasReadAt x n b.p b.commit b.slot c) is far.read.so_far).tables.booting.idle
+  idle-at (Over Loaded) is good far = far.over.booting.idle
 
   -- ---- what was seen before the boot was over
 
@@ -195,15 +195,10 @@ module _ (o : Origin) (g : BootImages) (n : Device) (b : Booting) (c : State) wh
   WasLoading q = (o.kept ≡ None) × (seen_at o g.kept q ≡ record (loading_view o.start.count) { written = true })
 
   was-loading : (q : Stage) → IsGoing q → (seen_at o g.kept q).written ≡ true → IsKeeping o (layout_of o) (standing_in_boot o q g n) → WasLoading q
-  was-loading Unread going w keeps = absurd (unwritten g.kept w)
-  was-loading (ReadsHeader epoch fault) going w keeps = absurd (unwritten g.kept w)
-  was-loading (ReadsSlot epoch next) going w keeps = absurd (unwritten g.kept w)
-  was-loading (Frames epoch page next) going w keeps = absurd (unwritten g.kept w)
-  was-loading (Refusing bad) going w keeps = absurd (unwritten g.kept w)
+  was-loading (Reads r) going w keeps = absurd (unwritten g.kept w)
   was-loading (Loading issue) going w keeps =
       (loads-first o g n b c issue keeps.told, ap (λ (t : Bool). record (loading_view o.start.count) { written = t }) w)
-  was-loading (Restored epoch) going w keeps = absurd going
-  was-loading Loaded going w keeps = absurd going
+  was-loading (Over end) going w keeps = absurd going
 
   found-mark : (kept : Option Mark) (m : Mark) → (finding_view o.start.count kept).done ≡ Some m → finding_view o.start.count kept ≡ boot_view (Some m) None
   found-mark None m d = cc
@@ -214,14 +209,9 @@ module _ (o : Origin) (g : BootImages) (n : Device) (b : Booting) (c : State) wh
 
   -- where a checkpoint was found, that is all that was seen
   was-found : (q : Stage) (m : Mark) → IsGoing q → (seen_at o g.kept q).done ≡ Some m → seen_at o g.kept q ≡ boot_view (Some m) None
-  was-found Unread m going d = found-mark g.kept m d
-  was-found (ReadsHeader epoch fault) m going d = found-mark g.kept m d
-  was-found (ReadsSlot epoch next) m going d = found-mark g.kept m d
-  was-found (Frames epoch page next) m going d = found-mark g.kept m d
-  was-found (Refusing bad) m going d = found-mark g.kept m d
+  was-found (Reads r) m going d = found-mark g.kept m d
   was-found (Loading issue) m going d = absurd (none-done m d)
-  was-found (Restored epoch) m going d = absurd going
-  was-found Loaded m going d = absurd going
+  was-found (Over end) m going d = absurd going
 
 -- ---- a step that was taken
 
@@ -254,7 +244,7 @@ module _ (o : Origin) (s : Dual) (n : Device) (booting : IsBooting dual_scheme o
   kept : h.kept ≡ g.kept
   kept = kept-on b.stage n g
 
-  never : (bad : BadImage) → d.stage ≢ Refusing bad
+  never : (bad : BadImage) → d.stage ≢ Reads (Refusing bad)
   never bad = never_refused o h new d e bad moved.sound
 
   nearer : boot_left b.p d.stage + 1 ≤ boot_left b.p b.stage
@@ -332,11 +322,11 @@ module _ (o : Origin) (s : Dual) (n : Device) (booting : IsBooting dual_scheme o
         rested = boots.rested;
       }
 
-  loaded : d.stage ≡ Loaded → Loads dual_scheme o s n t new
+  loaded : d.stage ≡ Over Loaded → Loads dual_scheme o s n t new
   loaded is =
       let shows = subst (λ (x : Stage). CoreStep o v (did_of (answer_at x d)) (seen_at o g.kept x)) is moved.shows in
       let was : WasLoading o g n b s.control b.stage = was-loading o g n b s.control b.stage boots.going shows.written boots.sound.keeps in
-      let keeps : IsKeeping o (layout_of o) (standing_in_boot o Loaded h new) = subst (λ (x : Stage). IsKeeping o (layout_of o) (standing_in_boot o x h new)) is moved.sound.keeps in
+      let keeps : IsKeeping o (layout_of o) (standing_in_boot o (Over Loaded) h new) = subst (λ (x : Stage). IsKeeping o (layout_of o) (standing_in_boot o x h new)) is moved.sound.keeps in
       let far : IsLoaded o h new e = subst (λ (x : Stage). IsSoundAt o x h new d e) is moved.sound.so_far in
       record {
         fresh = was.0;
@@ -344,11 +334,12 @@ module _ (o : Origin) (s : Dual) (n : Device) (booting : IsBooting dual_scheme o
         booted = booted (start_mark o) (cpu_of o.start) h.next keeps far.over refl;
       }
 
-  restarted : (epoch : ℕ) → d.stage ≡ Restored epoch → Restarts dual_scheme o (cpu_of_record (slot_of d)) epoch s n t new
-  restarted epoch is =
+  restarted : d.stage ≡ Over Restored → Restarts dual_scheme o (cpu_of_record (slot_of d)) (epoch_of d.commit) s n t new
+  restarted is =
+      let epoch : ℕ = epoch_of d.commit in
       let cpu : CpuState = cpu_of_record (slot_of d) in
       let shows = subst (λ (x : Stage). CoreStep o v (did_of (answer_at x d)) (seen_at o g.kept x)) is moved.shows in
-      let r = restored_is_booted o h new d e epoch boots.origin tables moved.sound is in
+      let r = restored_is_booted o h new d e boots.origin tables moved.sound is in
       let m : Mark = r.0 in
       let over : IsBootedAt o m cpu h.before new e = r.4 in
       let count : cpu.count ≡ m.count
@@ -364,35 +355,37 @@ module _ (o : Origin) (s : Dual) (n : Device) (booting : IsBooting dual_scheme o
 
   answers-at : (q : Stage) → d.stage ≡ q → CoreStep o v (did_of (answer_at q d)) (seen_at o g.kept q)
       → Answers dual_scheme o (step_of (answer_at q d)) s n t new
-  answers-at Unread is shows = goes-on Unread is tt shows.1
-  answers-at (ReadsHeader epoch fault) is shows = goes-on (ReadsHeader epoch fault) is tt shows.1
-  answers-at (ReadsSlot epoch next) is shows = goes-on (ReadsSlot epoch next) is tt shows.1
-  answers-at (Frames epoch page next) is shows = goes-on (Frames epoch page next) is tt shows.1
-  answers-at (Refusing bad) is shows = absurd (never bad is)
+  answers-at (Reads Unread) is shows = goes-on (Reads Unread) is tt shows.1
+  answers-at (Reads ReadsHeader) is shows = goes-on (Reads ReadsHeader) is tt shows.1
+  answers-at (Reads (ReadsSlot next)) is shows = goes-on (Reads (ReadsSlot next)) is tt shows.1
+  answers-at (Reads (Frames page next)) is shows = goes-on (Reads (Frames page next)) is tt shows.1
+  answers-at (Reads (Refusing bad)) is shows = absurd (never bad is)
   answers-at (Loading issue) is shows = goes-on (Loading issue) is tt shows.1
-  answers-at (Restored epoch) is shows = restarted epoch is
-  answers-at Loaded is shows = loaded is
+  answers-at (Over Restored) is shows = restarted is
+  answers-at (Over Loaded) is shows = loaded is
 
-  queue-by : (i : Option Issue) → StepsBy i o.start n b s.control new d e → length new.queue + e.dram.queued ≤ length n.queue + s.control.dram.queued + 1
-  queue-by None r = omega (arith, filled.most, ap (λ (x : Device). length x.queue) r.device)
-  queue-by (Some issue) l =
+  queue-by : (q : Stage) → StepsAt q o.start n b s.control new d e → length new.queue + e.dram.queued ≤ length n.queue + s.control.dram.queued + 1
+  queue-by (Reads r) on = omega (arith, filled.most, ap (λ (x : Device). length x.queue) on.device)
+  queue-by (Loading issue) l =
       omega (
         arith,
         after-queue (issue_action b.p o.start issue) n,
         ap (λ (x : Device). length x.queue) l.device,
         ap (λ (x : State). x.dram.queued) l.control,
       )
+  queue-by (Over end) l = absurd l
 
-  dram-by : (i : Option Issue) → StepsBy i o.start n b s.control new d e → ActsOnDram n new s.control.dram e.dram
-  dram-by None r = subst (λ (x : Device). ActsOnDram n x s.control.dram e.dram) (sym r.device) (fills-act b.stage n b s.control e r.control)
-  dram-by (Some issue) l = inl (ap (λ (x : State). x.dram) l.control)
+  dram-by : (q : Stage) → StepsAt q o.start n b s.control new d e → ActsOnDram n new s.control.dram e.dram
+  dram-by (Reads r) on = subst (λ (x : Device). ActsOnDram n x s.control.dram e.dram) (sym on.device) (fills-act r n b s.control e on.control)
+  dram-by (Loading issue) l = inl (ap (λ (x : State). x.dram) l.control)
+  dram-by (Over end) l = absurd l
 
   boots_on : BootsOn dual_scheme o (step_of (answer_of d)) s n t new
   boots_on = record {
     answers = answers-at d.stage refl moved.shows;
     acts = subst (λ (x : Did). Acts x n new) (sym (did-answered (answer_of d))) acts;
-    dram = dram-by (issue_at b.stage) steps;
-    queue = queue-by (issue_at b.stage) steps;
+    dram = dram-by b.stage steps;
+    queue = queue-by b.stage steps;
     nearer = subst (λ (p : Parameters). boot_left p d.stage + 1 ≤ boot_left b.p b.stage) (sym same) nearer;
     read = read;
     still = λ m found current. found_stays o g.kept m n b s.control new d e (sym (ap (λ (x : View). x.done) before) ∙ found) steps;
@@ -400,28 +393,12 @@ module _ (o : Origin) (s : Dual) (n : Device) (booting : IsBooting dual_scheme o
 
 -- ---- one that failed
 
--- a read that failed wrote nothing
-read-failed : (p : Parameters) (q : Stage) (n m : Device) → FailsTo (read_action p q) n m → HasFailed n m
-read-failed p Unread n m f = f
-read-failed p (ReadsHeader epoch fault) n m f = f
-read-failed p (ReadsSlot epoch next) n m f = f
-read-failed p (Frames epoch page next) n m f = f
-read-failed p (Refusing bad) n m f = absurd f
-read-failed p (Loading issue) n m f = absurd f
-read-failed p (Restored epoch) n m f = absurd f
-read-failed p Loaded n m f = absurd f
-
--- where a checkpoint was found a step reads
-found-reads : (o : Origin) (kept : Option Mark) (m : Mark) (b : Booting) (n new : Device) (q : Stage) → (seen_at o kept q).done ≡ Some m → FailsBy (issue_at q) o.start b n new
-    → FailsTo (read_action b.p b.stage) n new
+-- where a checkpoint was found a step reads, and one that failed wrote nothing
+found-reads : (o : Origin) (kept : Option Mark) (m : Mark) (b : Booting) (n new : Device) (q : Stage) → (seen_at o kept q).done ≡ Some m
+    → FailsTo (action_at q o.start b) n new → HasFailed n new
+found-reads o kept m b n new (Reads r) done f = read_failed b r n new f
 found-reads o kept m b n new (Loading issue) done f = let both : None ≡ Some m = done in absurd (cc)
-found-reads o kept m b n new Unread done f = f
-found-reads o kept m b n new (ReadsHeader epoch fault) done f = f
-found-reads o kept m b n new (ReadsSlot epoch next) done f = f
-found-reads o kept m b n new (Frames epoch page next) done f = f
-found-reads o kept m b n new (Refusing bad) done f = f
-found-reads o kept m b n new (Restored epoch) done f = f
-found-reads o kept m b n new Loaded done f = f
+found-reads o kept m b n new (Over end) done f = absurd f
 
 module _ (o : Origin) (s : Dual) (n : Device) (booting : IsBooting dual_scheme o s n) (new : Device) where
   boot_fails : Fails o.start s.boot n new → IsFramed n new → BootFails dual_scheme o s n new
@@ -441,8 +418,7 @@ module _ (o : Origin) (s : Dual) (n : Device) (booting : IsBooting dual_scheme o
         };
         safe = subst (λ (x : View). Safe decode_image o x.done (doubt_after_fault action x) new) (sym (view-is o s n boots)) safe;
         still = λ m found current.
-            read-failed s.boot.p s.boot.stage n new
-            (found-reads o boots.images.kept m s.boot n new s.boot.stage (sym (ap (λ (x : View). x.done) (view-is o s n boots)) ∙ found) fails);
+            found-reads o boots.images.kept m s.boot n new s.boot.stage (sym (ap (λ (x : View). x.done) (view-is o s n boots)) ∙ found) fails;
       }
 
 -- ---- by the boot's answer

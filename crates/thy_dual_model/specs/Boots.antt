@@ -18,7 +18,8 @@ use Rattle.thy_commit.specs.Progress.{IsSoundProgress}
 use Rattle.thy_recover.specs.declared.stage.BootStep.{BootStep}
 use Rattle.thy_recover.specs.declared.stage.BootStep.TheVariants.{Reading, Loading as IsLoading, Loaded as HasLoaded, Restarted, Refused}
 use Rattle.thy_recover.specs.declared.stage.Stage.{Stage}
-use Rattle.thy_recover.specs.declared.stage.Stage.TheVariants.{Unread, Loading}
+use Rattle.thy_recover.specs.declared.stage.Stage.TheVariants.{Reads, Loads}
+use Rattle.thy_recover.specs.declared.stage.ReadStage.TheVariants.{Unread}
 use Rattle.thy_recover.specs.Boot.{IsBoot, new_boot}
 use Rattle.thy_recover.specs.Laws.{IsGoing}
 use Rattle.thy_recover.specs.Shows.{is_written}
@@ -37,22 +38,22 @@ pub record Boots (o : Origin) (s : Dual) (n : Device) : Type 0 where
   pub going : IsGoing s.boot.stage
   pub boot : IsBoot s.boot
   pub unused : IsUnused o s
-  pub unread : s.boot.stage ≡ Unread → s.control.dram.queued ≡ 0
+  pub unread : s.boot.stage ≡ Reads Unread → s.control.dram.queued ≡ 0
   pub rested : s.rested ≡ true
 
 -- what is seen: while it loads, whether the commit block was written, and before what the image means
 abbrev pub view_at : Origin → Stage → Device → View
-view_at o (Loading issue) n = record (loading_view o.start.count) { written = is_written issue }
+view_at o (Loads issue) n = record (loading_view o.start.count) { written = is_written issue }
 view_at o stage n = view_of_image o.start.count (decode_image o.geometry ceiling n.image)
 
 -- the commit block was read
 abbrev pub has_read_at : Stage → Bool
-has_read_at Unread = false
+has_read_at (Reads Unread) = false
 has_read_at stage = true
 
 -- there is no checkpoint
 abbrev pub loads_at : Stage → Bool
-loads_at (Loading issue) = true
+loads_at (Loads issue) = true
 loads_at stage = false
 
 -- what a step of the boot answers, as a scheme answers it; and so where the NVM may have failed

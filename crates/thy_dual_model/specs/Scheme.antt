@@ -4,7 +4,8 @@ use Rattle.std.specs.Prelude.{◌*◌, true, false}
 use Rattle.thy_base.specs.Places.{image_blocks}
 use Rattle.thy_record.specs.Images.{decode_image}
 use Rattle.thy_table.specs.Listing.{free_count}
-use Rattle.thy_recover.specs.declared.stage.Stage.TheVariants.{Unread}
+use Rattle.thy_recover.specs.declared.stage.Stage.TheVariants.{Reads}
+use Rattle.thy_recover.specs.declared.stage.ReadStage.TheVariants.{Unread}
 use Rattle.thy_recover.specs.Left.{boot_left}
 use Rattle.thy_control.specs.Holding.{holding_of}
 use Rattle.thy_control.specs.Merges.{overlays}
@@ -46,7 +47,7 @@ dual_scheme = record {
   merges_left = λ s. overlays s.control;
   promotions_left = λ s. unfilled s.control;
   owed_later = λ s. 0;
-  most_booting = λ p. boot_left p Unread;
+  most_booting = λ p. boot_left p (Reads Unread);
   most_engine = most_cycles;
   most_merges = λ p. p.btt;
   most_promotions = λ p. 64 * p.ptt;

@@ -15,7 +15,9 @@ use Rattle.thy_protocol.specs.Moves.{standing, Move, Goes}
 use Rattle.thy_protocol.specs.VersionOne.{layout_of}
 use Rattle.thy_protocol.proofs.KeepsLemmas.{IsKeeping-move}
 use Rattle.thy_recover.specs.declared.stage.Stage.{Stage}
-use Rattle.thy_recover.specs.declared.stage.Stage.TheVariants.{Unread, Header as ReadsHeader, Slot as ReadsSlot, Frames, Refusing, Loading, Restored, Loaded}
+use Rattle.thy_recover.specs.declared.stage.Stage.TheVariants.{Reads, Loads, Over}
+use Rattle.thy_recover.specs.declared.stage.ReadStage.TheVariants.{Unread, Header as ReadsHeader, Slot as ReadsSlot, Frames, Refusing}
+use Rattle.thy_recover.specs.declared.stage.End.TheVariants.{Restored, Loaded}
 use Rattle.thy_recover.specs.Boot.{Booting}
 use Rattle.thy_recover.specs.Recovers.{IsFresh, HasTables, HasReadAt}
 use Rattle.thy_recover.specs.Sound.{BootImages, start_mark, sealed_by, saved_loading, standing_in_boot, IsRecovering, IsSoundAt, IsSound}
@@ -28,14 +30,10 @@ drains_move o g n b = by_stage b.stage where
   goes s kept sealed = Goes s kept sealed n (drained n) (Spares-drained (guarded (looked_by (layout_of o)) s) n (drained n) refl)
 
   by_stage : (q : Stage) → Move o (layout_of o) (standing_in_boot o q g n) (standing_in_boot o q g (drained n))
-  by_stage (Loading issue) = goes (saved_loading issue g) None (Some (start_mark o))
-  by_stage Loaded = goes (Kept g.next) (Some (start_mark o)) None
-  by_stage Unread = goes (Kept g.before) g.kept (sealed_by o g.kept)
-  by_stage (ReadsHeader epoch fault) = goes (Kept g.before) g.kept (sealed_by o g.kept)
-  by_stage (ReadsSlot epoch next) = goes (Kept g.before) g.kept (sealed_by o g.kept)
-  by_stage (Frames epoch page next) = goes (Kept g.before) g.kept (sealed_by o g.kept)
-  by_stage (Refusing bad) = goes (Kept g.before) g.kept (sealed_by o g.kept)
-  by_stage (Restored epoch) = goes (Kept g.before) g.kept (sealed_by o g.kept)
+  by_stage (Reads r) = goes (Kept g.before) g.kept (sealed_by o g.kept)
+  by_stage (Loads issue) = goes (saved_loading issue g) None (Some (start_mark o))
+  by_stage (Over Restored) = goes (Kept g.before) g.kept (sealed_by o g.kept)
+  by_stage (Over Loaded) = goes (Kept g.next) (Some (start_mark o)) None
 
 -- with nothing queued a drain leaves the device as it is
 drained-settled : (n : Device) → n.queue ≡ [] → drained n ≡ n
@@ -54,14 +52,10 @@ nvm_drained o g n b c sound = record {
   still q settled h = subst (λ (m : Device). IsSoundAt o q g m b c) (sym (drained-settled n settled)) h
 
   by_stage : (q : Stage) → IsSoundAt o q g n b c → IsSoundAt o q g (drained n) b c
-  by_stage (Loading issue) at = record { none = at.none; fresh = at.fresh; made = at.made; stood = stood-drained o issue n at.stood }
-  by_stage Loaded at = still Loaded at.over.settled at
-  by_stage Unread at = still Unread at.read.settled at
-  by_stage (ReadsHeader epoch fault) at = still (ReadsHeader epoch fault) at.read.settled at
-  by_stage (ReadsSlot epoch next) at = still (ReadsSlot epoch next) at.read.settled at
-  by_stage (Frames epoch page next) at = still (Frames epoch page next) at.read.settled at
-  by_stage (Refusing bad) at = still (Refusing bad) at.read.settled at
-  by_stage (Restored epoch) at = still (Restored epoch) at.read.settled at
+  by_stage (Reads r) at = still (Reads r) at.read.settled at
+  by_stage (Loads issue) at = record { none = at.none; fresh = at.fresh; made = at.made; stood = stood-drained o issue n at.stood }
+  by_stage (Over Restored) at = still (Over Restored) at.read.settled at
+  by_stage (Over Loaded) at = still (Over Loaded) at.over.settled at
 
 -- a drain of the DRAM leaves all reads alike
 fresh-drained : (c : State) → IsFresh c → IsFresh (after_drain c)
@@ -71,8 +65,8 @@ fresh-drained c h = record {
   no_pages = h.no_pages;
 }
 
-tables-drained : (p : Parameters) (g : List Block) (epoch : ℕ) (slot : List ℕ) (c : State) → HasTables p g epoch slot c → HasTables p g epoch slot (after_drain c)
-tables-drained p g epoch slot c h = record {
+tables-drained : (p : Parameters) (g : List Block) (commit : Block) (slot : List ℕ) (c : State) → HasTables p g commit slot c → HasTables p g commit slot (after_drain c)
+tables-drained p g commit slot c h = record {
   head = h.head;
   slot_is = h.slot_is;
   slot_fits = h.slot_fits;
@@ -80,23 +74,23 @@ tables-drained p g epoch slot c h = record {
   tables_are = h.tables_are;
 }
 
-read-drained : (q : Stage) (n : Device) (p : Parameters) (slot : List ℕ) (c : State) → HasReadAt q n p slot c → HasReadAt q n p slot (after_drain c)
-read-drained Unread n p slot c h = fresh-drained c h
-read-drained (ReadsHeader epoch fault) n p slot c h = (fresh-drained c h.0, h.1, h.2)
-read-drained (ReadsSlot epoch next) n p slot c h = (fresh-drained c h.0, h.1, h.2)
-read-drained (Frames epoch page next) n p slot c h = (
-  tables-drained p n.image epoch slot c h.0,
+read-drained : (q : Stage) (n : Device) (p : Parameters) (commit : Block) (slot : List ℕ) (c : State) → HasReadAt q n p commit slot c → HasReadAt q n p commit slot (after_drain c)
+read-drained (Reads Unread) n p commit slot c h = fresh-drained c h
+read-drained (Reads ReadsHeader) n p commit slot c h = (fresh-drained c h.0, h.1)
+read-drained (Reads (ReadsSlot next)) n p commit slot c h = (fresh-drained c h.0, h.1, h.2)
+read-drained (Reads (Frames page next)) n p commit slot c h = (
+  tables-drained p n.image commit slot c h.0,
   record { each = λ i m may l. h.1.each i m (record { listed = may.listed; inside = may.inside }) l },
   record { listed = h.2.listed; inside = h.2.inside },
 )
-read-drained (Refusing bad) n p slot c h = h
-read-drained (Loading issue) n p slot c h = (fresh-drained c h.0, h.1, h.2)
-read-drained (Restored epoch) n p slot c h = record {
-  tables = tables-drained p n.image epoch slot c h.tables;
+read-drained (Reads (Refusing bad)) n p commit slot c h = h
+read-drained (Loads issue) n p commit slot c h = (fresh-drained c h.0, h.1, h.2)
+read-drained (Over Restored) n p commit slot c h = record {
+  tables = tables-drained p n.image commit slot c h.tables;
   holds = h.holds;
   found = h.found;
 }
-read-drained Loaded n p slot c h = absurd h
+read-drained (Over Loaded) n p commit slot c h = absurd h
 
 dram_drained : (o : Origin) (g : BootImages) (n : Device) (b : Booting) (c : State) → IsSound o g n b c → IsSound o g n b (after_drain c)
 dram_drained o g n b c sound = record {
@@ -112,13 +106,15 @@ dram_drained o g n b c sound = record {
       same_p = at.read.same_p;
       sized = at.read.sized;
       settled = at.read.settled;
-      so_far = read-drained b.stage n b.p b.slot c at.read.so_far;
+      so_far = read-drained b.stage n b.p b.commit b.slot c at.read.so_far;
     };
   }
 
   by_stage : (q : Stage) → IsSoundAt o q g n b c → IsSoundAt o q g n b (after_drain c)
-  by_stage (Loading issue) at = record { none = at.none; fresh = fresh-drained c at.fresh; made = at.made; stood = at.stood }
-  by_stage Loaded at = record {
+  by_stage (Reads r) at = reads at
+  by_stage (Loads issue) at = record { none = at.none; fresh = fresh-drained c at.fresh; made = at.made; stood = at.stood }
+  by_stage (Over Restored) at = reads at
+  by_stage (Over Loaded) at = record {
     over = record {
       settled = at.over.settled;
       booting = record { idle = at.over.booting.idle; blocks = at.over.booting.blocks; pages = at.over.booting.pages };
@@ -133,12 +129,6 @@ dram_drained o g n b c sound = record {
     memory = at.memory;
     start = at.start;
   }
-  by_stage Unread at = reads at
-  by_stage (ReadsHeader epoch fault) at = reads at
-  by_stage (ReadsSlot epoch next) at = reads at
-  by_stage (Frames epoch page next) at = reads at
-  by_stage (Refusing bad) at = reads at
-  by_stage (Restored epoch) at = reads at
 
 pub drains_keep_boot : DrainsKeepBoot
 drains_keep_boot o g n b c sound = (nvm_drained o g n b c sound, dram_drained o g n b c sound)

@@ -39,6 +39,10 @@ decode-fault p g o z long h =
     ∙ ap (λ (l : Bool). refused_or_at (image_fault p ceiling l g) (epoch_of (block_at g 1)) (state_in p g)) (eq-eqb (length g) (image_blocks p) long)
     ∙ ap (λ (f : Option BadImage). refused_or_at f (epoch_of (block_at g 1)) (state_in p g)) h
 
+-- the commit block that was read is the image's
+pub committed-in : (g : List Block) (commit : Block) → HasCommit g commit → is_zero (block_at g 1) ≡ false
+committed-in g commit c = ap is_zero c.is ∙ c.committed
+
 -- the first of three faults
 first_two : {X : Type 0} (a b c : Option X) (x : X) → option_or a b ≡ Some x → option_or a (option_or b c) ≡ Some x
 first_two None b c x h = ap (λ o. option_or o c) h
@@ -48,21 +52,22 @@ last_one : {X : Type 0} (a b c o : Option X) → a ≡ None → b ≡ None → c
 last_one a b c o ha hb hc = ap (λ z. option_or z (option_or b c)) ha ∙ ap (λ z. option_or z c) hb ∙ hc
 
 -- a fault of header or commit block
-pub refused-head : (p : Parameters) (g : List Block) (epoch : ℕ) (bad : BadImage) → HasCommit g epoch → length g ≡ image_blocks p
-    → option_or (header_fault (block_at g 0) p true) (commit_fault (block_at g 1) ceiling) ≡ Some bad → decode_image p ceiling g ≡ Refused bad
-refused-head p g epoch bad c long h =
-    decode-fault p g (Some bad) c.committed long
-    (first_two (header_fault (block_at g 0) p true) (commit_fault (block_at g 1) ceiling) (slot_fault p ceiling (epoch_of (block_at g 1)) (slot_in p g)) bad h)
+pub refused-head : (p : Parameters) (g : List Block) (commit : Block) (bad : BadImage) → HasCommit g commit → length g ≡ image_blocks p
+    → option_or (header_fault (block_at g 0) p true) (commit_fault commit ceiling) ≡ Some bad → decode_image p ceiling g ≡ Refused bad
+refused-head p g commit bad c long h =
+    decode-fault p g (Some bad) (committed-in g commit c) long
+    (first_two (header_fault (block_at g 0) p true) (commit_fault (block_at g 1) ceiling) (slot_fault p ceiling (epoch_of (block_at g 1)) (slot_in p g)) bad
+    (ap (λ (b : Block). option_or (header_fault (block_at g 0) p true) (commit_fault b ceiling)) c.is ∙ h))
 
 -- where these have none, what the slot's says
-pub by_slot : (p : Parameters) (g : List Block) (epoch : ℕ) (slot : List Block) (o : Option BadImage) → HasHead p g epoch → length g ≡ image_blocks p
-    → slot ≡ slot_in p g → slot_fault p ceiling epoch slot ≡ o → decode_image p ceiling g ≡ refused_or_at o epoch (state_in p g)
-by_slot p g epoch slot o head long same h =
-    decode-fault p g o head.commit.committed long
+pub by_slot : (p : Parameters) (g : List Block) (commit : Block) (slot : List Block) (o : Option BadImage) → HasHead p g commit → length g ≡ image_blocks p
+    → slot ≡ slot_in p g → slot_fault p ceiling (epoch_of commit) slot ≡ o → decode_image p ceiling g ≡ refused_or_at o (epoch_of commit) (state_in p g)
+by_slot p g commit slot o head long same h =
+    decode-fault p g o (committed-in g commit head.commit_is) long
     (last_one (header_fault (block_at g 0) p true) (commit_fault (block_at g 1) ceiling) (slot_fault p ceiling (epoch_of (block_at g 1)) (slot_in p g)) o
-    head.header_fits head.commit_fits
-    (ap (λ (e : ℕ). slot_fault p ceiling e (slot_in p g)) head.commit.of_epoch ∙ ap (slot_fault p ceiling epoch) (sym same) ∙ h))
-    ∙ ap (λ (e : ℕ). refused_or_at o e (state_in p g)) head.commit.of_epoch
+    head.header_fits (ap (λ (b : Block). commit_fault b ceiling) head.commit_is.is ∙ head.commit_fits)
+    (ap (λ (b : Block). slot_fault p ceiling (epoch_of b) (slot_in p g)) head.commit_is.is ∙ ap (slot_fault p ceiling (epoch_of commit)) (sym same) ∙ h))
+    ∙ ap (λ (b : Block). refused_or_at o (epoch_of b) (state_in p g)) head.commit_is.is
 
 -- ---- blocks of bytes
 
@@ -84,12 +89,12 @@ take_here xs ys zs b n inside size =
     ap (take n) (drop_at (take b xs) (ys ++ zs) b long) ∙ take_at ys zs n size
 
 -- the blocks that were kept, with one more
-pub HasSlot-more : (p : Parameters) (g : List Block) (epoch k : ℕ) (slot : List ℕ) (block : Block) → 64 * k + 64 ≤ length slot → length block.0 ≡ 64
-    → block ≡ block_at g (slot_place p (epoch % 2) + k) → HasSlot p g epoch k slot → HasSlot p g epoch (k + 1) (written slot (64 * k) block.0)
-HasSlot-more p g epoch k slot block room size is h = record {
-  each = λ m l. elim (cases_eq m k) as (λ _. block_in (written slot (64 * k) block.0) m ≡ block_at g (slot_place p (epoch % 2) + m)) [
+pub HasSlot-more : (p : Parameters) (g : List Block) (commit : Block) (k : ℕ) (slot : List ℕ) (block : Block) → 64 * k + 64 ≤ length slot → length block.0 ≡ 64
+    → block ≡ block_at g (slot_place p (epoch_of commit % 2) + k) → HasSlot p g commit k slot → HasSlot p g commit (k + 1) (written slot (64 * k) block.0)
+HasSlot-more p g commit k slot block room size is h = record {
+  each = λ m l. elim (cases_eq m k) as (λ _. block_in (written slot (64 * k) block.0) m ≡ block_at g (slot_place p (epoch_of commit % 2) + m)) [
     | inl e ↦
-        subst (λ (i : ℕ). block_in (written slot (64 * k) block.0) i ≡ block_at g (slot_place p (epoch % 2) + i)) (sym e)
+        subst (λ (i : ℕ). block_in (written slot (64 * k) block.0) i ≡ block_at g (slot_place p (epoch_of commit % 2) + i)) (sym e)
         (ap (λ (bytes : List ℕ). record { 0 = bytes }) (take_here slot block.0 (drop (64 * k + length block.0) slot) (64 * k) 64 (omega (arith, room)) size) ∙ is)
     | inr ne ↦
         ap (λ (bytes : List ℕ). record { 0 = bytes }) (take_below slot (block.0 ++ drop (64 * k + length block.0) slot) (64 * m) 64 (64 * k) (omega arith) (omega (arith, room)))
@@ -98,13 +103,13 @@ HasSlot-more p g epoch k slot block room size is h = record {
 }
 
 -- all of them are the slot
-pub slot_is_whole : (p : Parameters) (g : List Block) (epoch k : ℕ) (slot : List ℕ) → HasCommit g epoch → length slot ≡ 64 * slot_blocks p → k ≡ slot_blocks p
-    → HasSlot p g epoch k slot → blocks_of slot ≡ slot_in p g
-slot_is_whole p g epoch k slot commit room all h =
+pub slot_is_whole : (p : Parameters) (g : List Block) (commit : Block) (k : ℕ) (slot : List ℕ) → HasCommit g commit → length slot ≡ 64 * slot_blocks p → k ≡ slot_blocks p
+    → HasSlot p g commit k slot → blocks_of slot ≡ slot_in p g
+slot_is_whole p g commit k slot c room all h =
     let z : ℕ = slot_blocks p in
     let count : length slot / 64 ≡ z = omega (arith, room) in
     let first : ℕ = slot_place p (epoch_of (block_at g 1) % 2) in
-    let same : first ≡ slot_place p (epoch % 2) = ap (λ (e : ℕ). slot_place p (e % 2)) commit.of_epoch in
+    let same : first ≡ slot_place p (epoch_of commit % 2) = ap (λ (b : Block). slot_place p (epoch_of b % 2)) c.is in
     let size_a : length (blocks_of slot) ≡ length slot / 64 = length-map (range_with_len 0 (length slot / 64)) (block_in slot) ∙ length-range_with_len 0 (length slot / 64) in
     let size_b : length (slot_in p g) ≡ z = length-map (slot_numbers p (block_at g 1)) (block_at g) ∙ length-range_with_len first z in
     ext_get_or zero_block (blocks_of slot) (slot_in p g) (size_a ∙ count ∙ sym size_b)

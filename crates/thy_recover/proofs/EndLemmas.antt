@@ -7,6 +7,7 @@ use Rattle.thy_base.specs.Device.{block_at, newest}
 use Rattle.thy_crash.specs.Saved.{Kept}
 use Rattle.thy_isa.specs.declared.state.CpuState.{CpuState}
 use Rattle.thy_isa.specs.OnBlocks.{state_from}
+use Rattle.thy_record.specs.Commit.{epoch_of}
 use Rattle.thy_record.specs.Cpu.{cpu_of_record}
 use Rattle.thy_record.specs.Decoded.{Refused as IsRefused}
 use Rattle.thy_record.specs.Header.{header_fault}
@@ -31,14 +32,15 @@ use Rattle.thy_recover.proofs.RecordLemmas.{restored-recordable}
 use Rattle.thy_recover.proofs.FoundLemmas.{never-bad, reading_of, decoded, found-restored}
 
 pub restored_is_booted : RestoredIsBooted
-restored_is_booted o g n b c epoch origin t sound is =
+restored_is_booted o g n b c origin t sound is =
+    let epoch : ℕ = epoch_of b.commit in
     let rec : IsRecovering g n b c = subst (λ (s : Stage). IsSoundAt o s g n b c) is sound.so_far in
     let k : IsKeeping o (layout_of o) (reading_of o g n) = subst (λ (s : Stage). IsKeeping o (layout_of o) (standing_in_boot o s g n)) is sound.keeps in
-    let f : IsRestored b.p n epoch b.slot c = subst (λ (s : Stage). HasReadAt s n b.p b.slot c) is rec.read.so_far in
-    let found = found-restored o g n b c rec.before_is sound.geometry k.told rec.read epoch f in
+    let f : IsRestored b.p n b.commit b.slot c = subst (λ (s : Stage). HasReadAt s n b.p b.commit b.slot c) is rec.read.so_far in
+    let found = found-restored o g n b c rec.before_is sound.geometry k.told rec.read f in
     let cpu : CpuState = cpu_of_record (slot_of b) in
     let told : IsToldBy b.p n.image epoch (tables0 c) = record {
-      of_epoch = f.tables.head.commit.of_epoch;
+      of_epoch = ap epoch_of f.tables.head.commit_is.is;
       tables = ap (tables_in b.p) (sym f.tables.slot_is) ∙ sym f.tables.tables_are;
       whole = subst (λ (p : Parameters). IsTables p (tables0 c)) rec.read.same_p (AreTablesOf-committed c t).valid;
     } in
@@ -75,5 +77,5 @@ pub never_refused : NeverRefused
 never_refused o g n b c bad sound is =
     let at : IsRecovering g n b c = subst (λ (s : Stage). IsSoundAt o s g n b c) is sound.so_far in
     let k : IsKeeping o (layout_of o) (reading_of o g n) = subst (λ (s : Stage). IsKeeping o (layout_of o) (standing_in_boot o s g n)) is sound.keeps in
-    let f : decode_image b.p ceiling n.image ≡ IsRefused bad = subst (λ (s : Stage). HasReadAt s n b.p b.slot c) is at.read.so_far in
+    let f : decode_image b.p ceiling n.image ≡ IsRefused bad = subst (λ (s : Stage). HasReadAt s n b.p b.commit b.slot c) is at.read.so_far in
     never-bad o g.before g.kept bad k.told (decoded o g n b c at.before_is sound.geometry k.told at.read (IsRefused bad) f)

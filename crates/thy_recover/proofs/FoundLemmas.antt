@@ -10,6 +10,7 @@ use Rattle.thy_isa.specs.declared.state.CpuState.{CpuState}
 use Rattle.thy_isa.specs.Step.{State as Plain}
 use Rattle.thy_isa.specs.OnBlocks.{state_from}
 use Rattle.thy_record.specs.declared.bad_image.BadImage.{BadImage}
+use Rattle.thy_record.specs.Commit.{epoch_of}
 use Rattle.thy_record.specs.Cpu.{cpu_of_record}
 use Rattle.thy_record.specs.Decoded.{Decoded, Nothing, Refused as IsRefused, At}
 use Rattle.thy_record.specs.Files.{blocks_of}
@@ -28,11 +29,13 @@ use Rattle.thy_protocol.specs.VersionOne.{layout_of}
 use Rattle.thy_protocol.proofs.KeepsLemmas.{finding_view-told}
 use Rattle.thy_protocol.proofs.VersionOneLemmas.{decode_by-version_one}
 use Rattle.thy_recover.specs.declared.stage.Stage.{Stage}
-use Rattle.thy_recover.specs.declared.stage.Stage.TheVariants.{Unread, Header as ReadsHeader, Slot as ReadsSlot, Frames, Refusing, Loading, Restored, Loaded}
+use Rattle.thy_recover.specs.declared.stage.Stage.TheVariants.{Reads, Loads, Over}
+use Rattle.thy_recover.specs.declared.stage.ReadStage.TheVariants.{Unread, Header as ReadsHeader, Slot as ReadsSlot, Frames, Refusing}
+use Rattle.thy_recover.specs.declared.stage.End.TheVariants.{Restored, Loaded}
 use Rattle.thy_recover.specs.declared.stage.Issue.{Issue}
 use Rattle.thy_recover.specs.declared.stage.Issue.TheVariants.{Home}
 use Rattle.thy_recover.specs.Boot.{Booting, answer_at}
-use Rattle.thy_recover.specs.Recovers.{CanRecover, HasReadAt, HasRead, IsRestored, loads}
+use Rattle.thy_recover.specs.Recovers.{HasReadAt, HasRead, IsRestored, loads}
 use Rattle.thy_recover.specs.Shows.{is_written, restored_view, seen_at, did_of}
 use Rattle.thy_recover.specs.Sound.{BootImages, start_mark, sealed_by, saved_loading, standing_in_boot, HasLoadedBefore, IsMade, IsRecovering, IsSoundAt}
 use Rattle.thy_recover.specs.Laws.{ShowsImage}
@@ -75,7 +78,7 @@ boots : (count : ℕ) (kept : Option Mark) → (finding_view count kept).phase �
 boots count None = refl
 boots count (Some m) = refl
 
-restores : (o : Origin) (m : Mark) → CoreStep o (boot_view (Some m) None) (HasRestarted m.epoch m.count) (restored_view o m.epoch (Some m))
+restores : (o : Origin) (m : Mark) → CoreStep o (boot_view (Some m) None) (HasRestarted m.epoch m.count) (restored_view o (Some m))
 restores o m = record { phase = refl; done = refl; unsealed = refl; unwritten = refl; becomes = refl }
 
 module _ (o : Origin) (g : BootImages) (m : Device) (d : Booting) (e : State) (before_is : g.before ≡ m.image) (same : d.p ≡ o.geometry)
@@ -88,17 +91,13 @@ module _ (o : Origin) (g : BootImages) (m : Device) (d : Booting) (e : State) (b
   none_kept : decode_image d.p ceiling m.image ≡ Nothing → g.kept ≡ None
   none_kept h = found-none o g.before g.kept told (decoded Nothing h)
 
-  pub stands : (r : Stage) → HasReadAt r m d.p d.slot e → reading_of o g m ≡ standing_in_boot o r g m
-  stands Unread f = refl
-  stands (ReadsHeader epoch fault) f = refl
-  stands (ReadsSlot epoch next) f = refl
-  stands (Frames epoch page next) f = refl
-  stands (Refusing bad) f = refl
-  stands (Restored epoch) f = refl
-  stands (Loading issue) f =
+  pub stands : (q : Stage) → HasReadAt q m d.p d.commit d.slot e → reading_of o g m ≡ standing_in_boot o q g m
+  stands (Reads r) f = refl
+  stands (Over Restored) f = refl
+  stands (Loads issue) f =
       ap (λ (k : Option Mark). standing m (Kept g.before) k (sealed_by o k)) (none_kept f.1)
       ∙ ap (λ (i : Issue). standing m (saved_loading i g) None (Some (start_mark o))) (sym f.2)
-  stands Loaded f = absurd f
+  stands (Over Loaded) f = absurd f
 
   recovering : IsRecovering g m d e
   recovering = record { before_is = before_is; read = read }
@@ -110,67 +109,53 @@ module _ (o : Origin) (g : BootImages) (m : Device) (d : Booting) (e : State) (b
     slot = record { each = λ i l. absurd (omega arith) };
   }
 
-  pub found-sound : (r : Stage) → HasReadAt r m d.p d.slot e → IsSoundAt o r g m d e
-  found-sound Unread f = recovering
-  found-sound (ReadsHeader epoch fault) f = recovering
-  found-sound (ReadsSlot epoch next) f = recovering
-  found-sound (Frames epoch page next) f = recovering
-  found-sound (Refusing bad) f = recovering
-  found-sound (Restored epoch) f = recovering
-  found-sound (Loading issue) f = record {
+  pub found-sound : (q : Stage) → HasReadAt q m d.p d.commit d.slot e → IsSoundAt o q g m d e
+  found-sound (Reads r) f = recovering
+  found-sound (Over Restored) f = recovering
+  found-sound (Loads issue) f = record {
     none = none_kept f.1;
     fresh = f.0;
     made = subst (λ (i : Issue). IsMade o i g.next) (sym f.2) tt;
     stood = subst (λ (i : Issue). HasLoadedBefore o i m) (sym f.2) first;
   }
-  found-sound Loaded f = absurd f
+  found-sound (Over Loaded) f = absurd f
 
   -- what was found at a restart
-  pub found-restored : (epoch : ℕ) → IsRestored d.p m epoch d.slot e → IsFoundAt o g.kept epoch (state_from d.p (cpu_of_record (blocks_of d.slot)) (loads e m))
-  found-restored epoch f =
-      found-mark o g.before g.kept epoch (state_from d.p (cpu_of_record (blocks_of d.slot)) (loads e m)) told
-      (decoded (At epoch (state_from d.p (cpu_of_record (blocks_of d.slot)) (loads e m))) f.found)
+  pub found-restored : IsRestored d.p m d.commit d.slot e → IsFoundAt o g.kept (epoch_of d.commit) (state_from d.p (cpu_of_record (blocks_of d.slot)) (loads e m))
+  found-restored f =
+      found-mark o g.before g.kept (epoch_of d.commit) (state_from d.p (cpu_of_record (blocks_of d.slot)) (loads e m)) told
+      (decoded (At (epoch_of d.commit) (state_from d.p (cpu_of_record (blocks_of d.slot)) (loads e m))) f.found)
 
   abbrev Shows : Stage → Type 0
-  Shows r = CoreStep o (finding_view o.start.count g.kept) (did_of (answer_at r d)) (seen_at o g.kept r)
+  Shows q = CoreStep o (finding_view o.start.count g.kept) (did_of (answer_at q d)) (seen_at o g.kept q)
 
-  pub shows : (r : Stage) → HasReadAt r m d.p d.slot e → Shows r
-  shows Unread f = (boots o.start.count g.kept, inl refl)
-  shows (ReadsHeader epoch fault) f = (boots o.start.count g.kept, inl refl)
-  shows (ReadsSlot epoch next) f = (boots o.start.count g.kept, inl refl)
-  shows (Frames epoch page next) f = (boots o.start.count g.kept, inl refl)
-  shows (Loading issue) f =
+  pub shows : (q : Stage) → HasReadAt q m d.p d.commit d.slot e → Shows q
+  shows (Reads Unread) f = (boots o.start.count g.kept, inl refl)
+  shows (Reads ReadsHeader) f = (boots o.start.count g.kept, inl refl)
+  shows (Reads (ReadsSlot next)) f = (boots o.start.count g.kept, inl refl)
+  shows (Reads (Frames page next)) f = (boots o.start.count g.kept, inl refl)
+  shows (Loads issue) f =
       let same_view : record (loading_view o.start.count) { written = is_written issue } ≡ finding_view o.start.count g.kept
       = ap (λ (i : Issue). record (loading_view o.start.count) { written = is_written i }) f.2 ∙ ap (finding_view o.start.count) (sym (none_kept f.1)) in
       (boots o.start.count g.kept, inl same_view)
-  shows Loaded f = absurd f
-  shows (Refusing bad) f = absurd (never-bad o g.before g.kept bad told (decoded (IsRefused bad) f))
-  shows (Restored epoch) f =
-      let found = found-restored epoch f in
+  shows (Over Loaded) f = absurd f
+  shows (Reads (Refusing bad)) f = absurd (never-bad o g.before g.kept bad told (decoded (IsRefused bad) f))
+  shows (Over Restored) f =
+      let found = found-restored f in
+      let epoch : ℕ = epoch_of d.commit in
       let count : found.m.count ≡ (cpu_of_record (blocks_of d.slot)).count
       = sym (ap (λ (s : Plain). s.count) found.state_is ∙ found.counted) ∙ count-state_from d.p (cpu_of_record (blocks_of d.slot)) (loads e m) in
-      subst (λ (k : Option Mark). CoreStep o (finding_view o.start.count k) (HasRestarted epoch (cpu_of_record (blocks_of d.slot)).count) (restored_view o epoch k)) (sym found.kept_is)
-      (subst (λ (c : ℕ). CoreStep o (boot_view (Some found.m) None) (HasRestarted epoch c) (restored_view o epoch (Some found.m))) count
-      (subst (λ (x : ℕ). CoreStep o (boot_view (Some found.m) None) (HasRestarted x found.m.count) (restored_view o x (Some found.m))) found.epoch_is (restores o found.m)))
+      subst (λ (k : Option Mark). CoreStep o (finding_view o.start.count k) (HasRestarted epoch (cpu_of_record (blocks_of d.slot)).count) (restored_view o k)) (sym found.kept_is)
+      (subst (λ (c : ℕ). CoreStep o (boot_view (Some found.m) None) (HasRestarted epoch c) (restored_view o (Some found.m))) count
+      (subst (λ (x : ℕ). CoreStep o (boot_view (Some found.m) None) (HasRestarted x found.m.count) (restored_view o (Some found.m))) found.epoch_is (restores o found.m)))
 
 -- ---- what is seen
 
 pub shows_image : ShowsImage
-shows_image o g n b c sound can = by_stage b.stage can sound.so_far sound.keeps where
-  reads : IsRecovering g n b c → IsKeeping o (layout_of o) (reading_of o g n)
-      → finding_view o.start.count g.kept ≡ view_of_image o.start.count (decode_image o.geometry ceiling n.image)
-  reads rec k =
-      sym (finding_view-told o (layout_of o) g.before g.kept o.start.count k.told)
-      ∙ ap (λ (h : List Block). view_of_image o.start.count (decode_by (layout_of o) h)) rec.before_is
-      ∙ ap (view_of_image o.start.count) (decode_by-version_one o.geometry ceiling n.image)
-
-  by_stage : (q : Stage) → CanRecover q → IsSoundAt o q g n b c → IsKeeping o (layout_of o) (standing_in_boot o q g n)
-      → seen_at o g.kept q ≡ view_of_image o.start.count (decode_image o.geometry ceiling n.image)
-  by_stage Unread can rec k = reads rec k
-  by_stage (ReadsHeader epoch fault) can rec k = reads rec k
-  by_stage (ReadsSlot epoch next) can rec k = reads rec k
-  by_stage (Frames epoch page next) can rec k = reads rec k
-  by_stage (Refusing bad) can rec k = reads rec k
-  by_stage (Loading issue) can rec k = absurd can
-  by_stage (Restored epoch) can rec k = absurd can
-  by_stage Loaded can rec k = absurd can
+shows_image o g n b c r sound is =
+    let rec : IsRecovering g n b c = subst (λ (q : Stage). IsSoundAt o q g n b c) is sound.so_far in
+    let k : IsKeeping o (layout_of o) (reading_of o g n) = subst (λ (q : Stage). IsKeeping o (layout_of o) (standing_in_boot o q g n)) is sound.keeps in
+    ap (seen_at o g.kept) is
+    ∙ sym (finding_view-told o (layout_of o) g.before g.kept o.start.count k.told)
+    ∙ ap (λ (h : List Block). view_of_image o.start.count (decode_by (layout_of o) h)) rec.before_is
+    ∙ ap (view_of_image o.start.count) (decode_by-version_one o.geometry ceiling n.image)

@@ -1,5 +1,5 @@
 -- A boot of a run begins, and goes on step by step.
-use Rattle.std.proofs.Common.{◌≡◌, ◌+◌, nat_lt, Bool, true, false, if◌then◌else◌, List, length, Option, Some, None, refl, sym, ◌∙◌, ap, subst}
+use Rattle.std.proofs.Common.{◌≡◌, ◌+◌, nat_lt, Bool, true, false, if◌then◌else◌, List, length, refl, sym, ◌∙◌, ap, subst}
 use Rattle.thy_base.specs.declared.block.Block.{Block}
 use Rattle.thy_base.specs.declared.config.Parameters.{Parameters}
 use Rattle.thy_base.specs.Device.{Device}
@@ -19,15 +19,15 @@ use Rattle.thy_protocol.specs.Moves.{IsKeeping}
 use Rattle.thy_protocol.specs.VersionOne.{layout_of}
 use Rattle.thy_protocol.proofs.KeepsLemmas.{Keeps-empty}
 use Rattle.thy_recover.specs.declared.stage.Stage.{Stage}
-use Rattle.thy_recover.specs.declared.stage.Stage.TheVariants.{Unread, Header as ReadsHeader, Slot as ReadsSlot, Frames, Refusing, Loading, Restored, Loaded}
+use Rattle.thy_recover.specs.declared.stage.Stage.TheVariants.{Reads, Loads, Over}
 use Rattle.thy_recover.specs.declared.stage.Issue.{Issue}
 use Rattle.thy_recover.specs.declared.stage.Issue.TheVariants.{Home, Slot, Header, Settle, Commit, Confirm}
-use Rattle.thy_recover.specs.Boot.{Booting, at_stage, issue_at}
+use Rattle.thy_recover.specs.Boot.{Booting, at_stage}
 use Rattle.thy_recover.specs.Loads.{after_issue, issue_action}
 use Rattle.thy_recover.specs.Start.{IsStartFor, start_block, start_slot}
-use Rattle.thy_recover.specs.Recovers.{CanRecover, HasReadAt, HasRead, loads}
-use Rattle.thy_recover.specs.Sound.{sealed_by, standing_in_boot, IsRecovering, IsSoundAt}
-use Rattle.thy_recover.specs.Steps.{CanStepBy, CanRead, StepsBy}
+use Rattle.thy_recover.specs.Recovers.{HasRead}
+use Rattle.thy_recover.specs.Sound.{sealed_by, standing_in_boot, IsSoundAt}
+use Rattle.thy_recover.specs.Steps.{CanStepAt, StepsAt}
 use Rattle.thy_recover.specs.Laws.{NewIsSound, SoundMayStep, MayGoOn, IsGoing}
 use Rattle.thy_recover.proofs.RecoverLemmas.{HasRead-new}
 use Rattle.thy_recover.proofs.StartLemmas.{IsStartFor-origin}
@@ -42,23 +42,15 @@ new_is_sound o g n dram before_is sized settled told = record {
 }
 
 pub sound_may_step : SoundMayStep
-sound_may_step o g n b c origin sound going up = by_stage b.stage refl sound.so_far sound.keeps going where
-  reads : (q : Stage) → b.stage ≡ q → CanRecover q → IsRecovering g n b c → CanRead n b c
-  reads q is can rec = record { going = subst (λ (s : Stage). CanRecover s) (sym is) can; read = rec.read }
-
-  by_stage : (q : Stage) → b.stage ≡ q → IsSoundAt o q g n b c → IsKeeping o (layout_of o) (standing_in_boot o q g n) → IsGoing q → CanStepBy (issue_at q) o.start n b c
-  by_stage (Loading issue) is at k going = record {
+sound_may_step o g n b c origin sound going up = by_stage b.stage sound.so_far sound.keeps going where
+  by_stage : (q : Stage) → IsSoundAt o q g n b c → IsKeeping o (layout_of o) (standing_in_boot o q g n) → IsGoing q → CanStepAt q o.start n b c
+  by_stage (Reads r) at k going = at.read
+  by_stage (Loads issue) at k going = record {
     start = subst (λ (p : Parameters). IsStartFor p o.start) (sym sound.geometry) (IsStartFor-origin o origin);
     sized = k.sized ∙ ap image_blocks (sym sound.geometry);
     up = up;
   }
-  by_stage Unread is at k going = reads Unread is tt at
-  by_stage (ReadsHeader epoch fault) is at k going = reads (ReadsHeader epoch fault) is tt at
-  by_stage (ReadsSlot epoch next) is at k going = reads (ReadsSlot epoch next) is tt at
-  by_stage (Frames epoch page next) is at k going = reads (Frames epoch page next) is tt at
-  by_stage (Refusing bad) is at k going = reads (Refusing bad) is tt at
-  by_stage (Restored epoch) is at k going = absurd going
-  by_stage Loaded is at k going = absurd going
+  by_stage (Over end) at k going = absurd going
 
 -- an action of loading leaves the device up and as long as it was
 down-after : (p : Parameters) (s : Plain) (issue : Issue) (n : Device) → (after (issue_action p s issue) n).down ≡ n.down
@@ -79,17 +71,17 @@ length-after p s Confirm n = length-settled n
 
 -- loading leads to its next action, or is over
 abbrev IsLoads : Stage → Type 0
-IsLoads (Loading issue) = Unit {0}
-IsLoads Loaded = Unit {0}
-IsLoads stage = ⊥
+IsLoads (Reads r) = ⊥
+IsLoads (Loads issue) = Unit {0}
+IsLoads (Over end) = Unit {0}
 
 loads-after : (p : Parameters) (issue : Issue) → IsLoads (after_issue p issue)
 loads-after p (Home b) = by_more (nat_lt (b + 1) (memory_blocks p)) where
-  by_more : (t : Bool) → IsLoads (if t then Loading (Home (b + 1)) else Loading (Slot 0))
+  by_more : (t : Bool) → IsLoads (if t then Loads (Home (b + 1)) else Loads (Slot 0))
   by_more true = tt
   by_more false = tt
 loads-after p (Slot k) = by_more (nat_lt (k + 1) (slot_blocks p)) where
-  by_more : (t : Bool) → IsLoads (if t then Loading (Slot (k + 1)) else Loading Header)
+  by_more : (t : Bool) → IsLoads (if t then Loads (Slot (k + 1)) else Loads Header)
   by_more true = tt
   by_more false = tt
 loads-after p Header = tt
@@ -99,42 +91,33 @@ loads-after p Confirm = tt
 
 -- a step behind a step
 pub may_go_on : MayGoOn
-may_go_on s n b c m d e start up can steps going = by_issue (issue_at b.stage) can steps where
+may_go_on s n b c m d e start up can steps going = by_stage b.stage can steps where
   -- what may be read or loaded next, by the stage
-  next_read : (q : Stage) → d.stage ≡ q → HasReadAt q m d.p d.slot e → IsGoing q → IsStartFor d.p s → HasRead m d e → m.down ≡ false → CanStepBy (issue_at q) s m d e
-  next_read (Loading issue) is f going start read up = record { start = start; sized = read.sized; up = up }
-  next_read Unread is f going start read up = record { going = subst (λ (x : Stage). CanRecover x) (sym is) tt; read = read }
-  next_read (ReadsHeader epoch fault) is f going start read up = record { going = subst (λ (x : Stage). CanRecover x) (sym is) tt; read = read }
-  next_read (ReadsSlot epoch next) is f going start read up = record { going = subst (λ (x : Stage). CanRecover x) (sym is) tt; read = read }
-  next_read (Frames epoch page next) is f going start read up = record { going = subst (λ (x : Stage). CanRecover x) (sym is) tt; read = read }
-  next_read (Refusing bad) is f going start read up = record { going = subst (λ (x : Stage). CanRecover x) (sym is) tt; read = read }
-  next_read (Restored epoch) is f going start read up = absurd going
-  next_read Loaded is f going start read up = absurd going
+  next_read : (q : Stage) → IsGoing q → IsStartFor d.p s → HasRead m d e → m.down ≡ false → CanStepAt q s m d e
+  next_read (Reads r) going start read up = read
+  next_read (Loads issue) going start read up = record { start = start; sized = read.sized; up = up }
+  next_read (Over end) going start read up = absurd going
 
-  next_load : (q : Stage) → IsLoads q → (x : Device) → length x.image ≡ image_blocks b.p → x.down ≡ false → IsGoing q → CanStepBy (issue_at q) s x (at_stage q b) c
-  next_load (Loading issue) loads x sized up going = record { start = start; sized = sized; up = up }
-  next_load Loaded loads x sized up going = absurd going
-  next_load Unread loads x sized up going = absurd loads
-  next_load (ReadsHeader epoch fault) loads x sized up going = absurd loads
-  next_load (ReadsSlot epoch next) loads x sized up going = absurd loads
-  next_load (Frames epoch page next) loads x sized up going = absurd loads
-  next_load (Refusing bad) loads x sized up going = absurd loads
-  next_load (Restored epoch) loads x sized up going = absurd loads
+  next_load : (q : Stage) → IsLoads q → (x : Device) → length x.image ≡ image_blocks b.p → x.down ≡ false → IsGoing q → CanStepAt q s x (at_stage q b) c
+  next_load (Reads r) loads x sized up going = absurd loads
+  next_load (Loads issue) loads x sized up going = record { start = start; sized = sized; up = up }
+  next_load (Over end) loads x sized up going = absurd going
 
-  by_issue : (i : Option Issue) → CanStepBy i s n b c → StepsBy i s n b c m d e → (d.p ≡ b.p) × (m.down ≡ false) × CanStepBy (issue_at d.stage) s m d e
-  by_issue None can r =
-      let still : m.down ≡ false = ap (λ (x : Device). x.down) r.device ∙ up in
-      let fits : IsStartFor d.p s = subst (λ (p : Parameters). IsStartFor p s) (sym r.same_p) start in
-      (r.same_p, still, next_read d.stage refl r.read.so_far going fits r.read still)
-  by_issue (Some issue) can l =
+  by_stage : (q : Stage) → CanStepAt q s n b c → StepsAt q s n b c m d e → (d.p ≡ b.p) × (m.down ≡ false) × CanStepAt d.stage s m d e
+  by_stage (Reads r) can on =
+      let still : m.down ≡ false = ap (λ (x : Device). x.down) on.device ∙ up in
+      let fits : IsStartFor d.p s = subst (λ (p : Parameters). IsStartFor p s) (sym on.same_p) start in
+      (on.same_p, still, next_read d.stage going fits on.read still)
+  by_stage (Loads issue) can l =
       let q : Stage = after_issue b.p issue in
       let x : Device = after (issue_action b.p s issue) n in
       let still : x.down ≡ false = down-after b.p s issue n ∙ up in
       let going_q : IsGoing q = subst (λ (y : Booting). IsGoing y.stage) l.boot going in
-      let next : CanStepBy (issue_at q) s x (at_stage q b) c = next_load q (loads-after b.p issue) x (length-after b.p s issue n ∙ can.sized) still going_q in (
+      let next : CanStepAt q s x (at_stage q b) c = next_load q (loads-after b.p issue) x (length-after b.p s issue n ∙ can.sized) still going_q in (
         ap (λ (y : Booting). y.p) l.boot,
         ap (λ (y : Device). y.down) l.device ∙ still,
-        subst (λ (y : Device). CanStepBy (issue_at d.stage) s y d e) (sym l.device)
-            (subst (λ (y : State). CanStepBy (issue_at d.stage) s x d y) (sym l.control)
-            (subst (λ (y : Booting). CanStepBy (issue_at y.stage) s x y c) (sym l.boot) next)),
+        subst (λ (y : Device). CanStepAt d.stage s y d e) (sym l.device)
+            (subst (λ (y : State). CanStepAt d.stage s x d y) (sym l.control)
+            (subst (λ (y : Booting). CanStepAt y.stage s x y c) (sym l.boot) next)),
       )
+  by_stage (Over end) can l = absurd can

@@ -35,9 +35,10 @@ use Rattle.thy_control.proofs.NewLemmas.{entry_at-empty}
 use Rattle.thy_control.proofs.FrameLemmas.{IsBooting-frame}
 use Rattle.thy_view.specs.Safe.{ceiling}
 use Rattle.thy_recover.specs.declared.stage.Stage.{Stage}
-use Rattle.thy_recover.specs.declared.stage.Stage.TheVariants.{Unread, Header, Slot, Frames, Loading}
+use Rattle.thy_recover.specs.declared.stage.Stage.TheVariants.{Reads, Loads}
+use Rattle.thy_recover.specs.declared.stage.ReadStage.TheVariants.{Unread, Header, Slot, Frames}
 use Rattle.thy_recover.specs.declared.stage.Issue.TheVariants.{Home}
-use Rattle.thy_recover.specs.Boot.{Booting, new_boot, at_stage, slot_of, tables_of, refusing_or, after_commit, after_header, frames_of, next_page, after_slot, after_frame, with_slot_block, gone_on, IsJudged, JudgesUnless, GoesOn}
+use Rattle.thy_recover.specs.Boot.{Booting, new_boot, at_stage, slot_of, tables_of, refusing_or, stage_of_commit, after_commit, after_header, frames_of, next_page, after_slot, after_frame, with_slot_block, gone_on, IsJudged, JudgesUnless, GoesOn}
 use Rattle.thy_recover.specs.Listed.{HaveFirst, ListsUpTo, AsListed}
 use Rattle.thy_recover.specs.Recovers.{IsFresh, HasCommit, HasHead, HasSlot, HasTables, AreFramed, IsRestored, HasReadAt, HasRead, loads}
 use Rattle.thy_recover.proofs.StageLemmas.{none_of_two, size_of_btt, size_of_ptt}
@@ -46,36 +47,34 @@ use Rattle.thy_recover.proofs.WorkLemmas.{loads-are}
 
 -- ---- commit block and header
 
-pub read_commit-found : (n : Device) (b : Booting) (c : State) → b.stage ≡ Unread → HasRead n b c → HasRead n (at_stage (after_commit (newest n 1)) b) c
+pub read_commit-found : (n : Device) (b : Booting) (c : State) → b.stage ≡ Reads Unread → HasRead n b c → HasRead n (after_commit (newest n 1) b) c
 read_commit-found n b c is h = record { same_p = h.same_p; sized = h.sized; settled = h.settled; so_far = found } where
   fresh : IsFresh c
-  fresh = subst (λ (s : Stage). HasReadAt s n b.p b.slot c) is h.so_far
+  fresh = subst (λ (s : Stage). HasReadAt s n b.p b.commit b.slot c) is h.so_far
 
-  stage : (z : Bool) → is_zero (block_at n.image 1) ≡ z
-      → HasReadAt (if z then Loading (Home 0) else Header (epoch_of (block_at n.image 1)) (commit_fault (block_at n.image 1) ceiling)) n b.p b.slot c
+  stage : (z : Bool) → is_zero (block_at n.image 1) ≡ z → HasReadAt (if z then Loads (Home 0) else Reads Header) n b.p (block_at n.image 1) b.slot c
   stage true e = (fresh, decode-zero b.p n.image e, refl)
-  stage false e = (fresh, record { committed = e; of_epoch = refl }, refl)
+  stage false e = (fresh, record { committed = e; is = refl })
 
-  found : HasReadAt (after_commit (newest n 1)) n b.p b.slot c
-  found = subst (λ (x : Block). HasReadAt (after_commit x) n b.p b.slot c) (sym (newest-settled n 1 h.settled)) (stage (is_zero (block_at n.image 1)) refl)
+  found : HasReadAt (stage_of_commit (newest n 1)) n b.p (newest n 1) b.slot c
+  found = subst (λ (x : Block). HasReadAt (stage_of_commit x) n b.p x b.slot c) (sym (newest-settled n 1 h.settled)) (stage (is_zero (block_at n.image 1)) refl)
 
-pub read_header-found : (n : Device) (b : Booting) (c : State) (epoch : ℕ) (fault : Option BadImage) → b.stage ≡ Header epoch fault → HasRead n b c
-    → HasRead n (at_stage (after_header b.p epoch fault (newest n 0)) b) c
-read_header-found n b c epoch fault is h = record { same_p = h.same_p; sized = h.sized; settled = h.settled; so_far = found } where
-  had : IsFresh c × HasCommit n.image epoch × (fault ≡ commit_fault (block_at n.image 1) ceiling)
-  had = subst (λ (s : Stage). HasReadAt s n b.p b.slot c) is h.so_far
+pub read_header-found : (n : Device) (b : Booting) (c : State) → b.stage ≡ Reads Header → HasRead n b c → HasRead n (at_stage (after_header b (newest n 0)) b) c
+read_header-found n b c is h = record { same_p = h.same_p; sized = h.sized; settled = h.settled; so_far = found } where
+  had : IsFresh c × HasCommit n.image b.commit
+  had = subst (λ (s : Stage). HasReadAt s n b.p b.commit b.slot c) is h.so_far
 
-  stage : (o : Option BadImage) → option_or (header_fault (block_at n.image 0) b.p true) (commit_fault (block_at n.image 1) ceiling) ≡ o → HasReadAt (refusing_or o (Slot epoch 0)) n b.p b.slot c
+  stage : (o : Option BadImage) → option_or (header_fault (block_at n.image 0) b.p true) (commit_fault b.commit ceiling) ≡ o
+      → HasReadAt (refusing_or o (Reads (Slot 0))) n b.p b.commit b.slot c
   stage None e =
-      let both = none_of_two (header_fault (block_at n.image 0) b.p true) (commit_fault (block_at n.image 1) ceiling) e in
-      (had.0, record { commit = had.1; header_fits = both.0; commit_fits = both.1 }, record { each = λ k l. absurd (omega arith) })
-  stage (Some bad) e = refused-head b.p n.image epoch bad had.1 h.sized e
+      let both = none_of_two (header_fault (block_at n.image 0) b.p true) (commit_fault b.commit ceiling) e in
+      (had.0, record { commit_is = had.1; header_fits = both.0; commit_fits = both.1 }, record { each = λ k l. absurd (omega arith) })
+  stage (Some bad) e = refused-head b.p n.image b.commit bad had.1 h.sized e
 
-  found : HasReadAt (after_header b.p epoch fault (newest n 0)) n b.p b.slot c
+  found : HasReadAt (after_header b (newest n 0)) n b.p b.commit b.slot c
   found =
-      subst (λ (x : Block). HasReadAt (after_header b.p epoch fault x) n b.p b.slot c) (sym (newest-settled n 0 h.settled))
-      (subst (λ (f : Option BadImage). HasReadAt (after_header b.p epoch f (block_at n.image 0)) n b.p b.slot c) (sym had.2)
-      (stage (option_or (header_fault (block_at n.image 0) b.p true) (commit_fault (block_at n.image 1) ceiling)) refl))
+      subst (λ (x : Block). HasReadAt (after_header b x) n b.p b.commit b.slot c) (sym (newest-settled n 0 h.settled))
+      (stage (option_or (header_fault (block_at n.image 0) b.p true) (commit_fault b.commit ceiling)) refl)
 
 -- ---- the slot
 
@@ -100,9 +99,9 @@ all_listed i j t u bi pj h =
     ∙ ap (λ (x : List (Option ℕ)). record t { ptt = x }) (ext_get_or None u.ptt t.ptt h.ptt_length (λ k l. h.pages k (omega (arith, l, h.ptt_length, pj))))
 
 -- the whole slot, with the controller that lists its tables
-tables_had : (n : Device) (epoch : ℕ) (b : Booting) (c d : State) → HasHead b.p n.image epoch → slot_of b ≡ slot_in b.p n.image
-    → slot_fault b.p ceiling epoch (slot_of b) ≡ None → AsListed b.p.btt b.p.ptt (tables_of b) c d → HasTables b.p n.image epoch b.slot d
-tables_had n epoch b c d head whole fits l = record {
+tables_had : (n : Device) (b : Booting) (c d : State) → HasHead b.p n.image b.commit → slot_of b ≡ slot_in b.p n.image
+    → slot_fault b.p ceiling (epoch_of b.commit) (slot_of b) ≡ None → AsListed b.p.btt b.p.ptt (tables_of b) c d → HasTables b.p n.image b.commit b.slot d
+tables_had n b c d head whole fits l = record {
   head = head;
   slot_is = whole;
   slot_fits = fits;
@@ -141,13 +140,13 @@ live_in_tables c booting j =
         ap is_some s ∙ sym (ap is_some (ap (λ (q : PttEntry). page_lists q.place q.page) (booting.pages j e s))) ∙ sym (ap (λ (x : Option PttEntry). is_some (option_and_then (λ (q : PttEntry). page_lists q.place q.page) x)) s)
 
 -- a page may be framed exactly where the tables list it
-module _ (n : Device) (epoch : ℕ) (b : Booting) (c : State) (h : HasTables b.p n.image epoch b.slot c) where
+module _ (n : Device) (b : Booting) (c : State) (h : HasTables b.p n.image b.commit b.slot c) where
   live_listed : (j : ℕ) → is_some (live_at c.ptt j) ≡ is_some (entry_at (tables_of b).ptt j)
   live_listed j = live_in_tables c h.booting j ∙ ap (λ (t : Tables). is_some (entry_at t.ptt j)) h.tables_are
 
   -- with all frames loaded, the checkpoint is restored
   module _ (t : AreSoundTables c) (same : c.p ≡ b.p) (sized : length n.image ≡ image_blocks b.p) (settled : n.queue ≡ []) (all : FramedHoldsAll) (law : CommittedTables) where
-    restored : ((i m : ℕ) → MayFrame i m c → Holds (reads c n) (cell_of c (framed_block i m c))) → IsRestored b.p n epoch b.slot c
+    restored : ((i m : ℕ) → MayFrame i m c → Holds (reads c n) (cell_of c (framed_block i m c))) → IsRestored b.p n b.commit b.slot c
     restored frames =
         let holds : HoldAll c n = all c n t h.booting frames in
         let memory : memory_in b.p (tables_in b.p (slot_in b.p n.image)) n.image ≡ loads c n
@@ -158,15 +157,15 @@ module _ (n : Device) (epoch : ℕ) (b : Booting) (c : State) (h : HasTables b.p
         record {
           tables = h;
           holds = holds;
-          found = by_slot b.p n.image epoch (slot_of b) None h.head sized h.slot_is h.slot_fits
-              ∙ ap (λ (s : List Block). At epoch (state_from b.p (cpu_of_record s) (memory_in b.p (tables_in b.p (slot_in b.p n.image)) n.image))) (sym h.slot_is)
-              ∙ ap (λ (m : List Block). At epoch (state_from b.p (cpu_of_record (slot_of b)) m)) memory;
+          found = by_slot b.p n.image b.commit (slot_of b) None h.head sized h.slot_is h.slot_fits
+              ∙ ap (λ (s : List Block). At (epoch_of b.commit) (state_from b.p (cpu_of_record s) (memory_in b.p (tables_in b.p (slot_in b.p n.image)) n.image))) (sym h.slot_is)
+              ∙ ap (λ (m : List Block). At (epoch_of b.commit) (state_from b.p (cpu_of_record (slot_of b)) m)) memory;
         }
 
     -- behind the pages below `from`
-    go_to_page-found : (from : ℕ) → AreFramed c n from 0 → HasReadAt (frames_of epoch (next_page from (tables_of b))) n b.p b.slot c
+    go_to_page-found : (from : ℕ) → AreFramed c n from 0 → HasReadAt (frames_of (next_page from (tables_of b))) n b.p b.commit b.slot c
     go_to_page-found from framed = by_page (next_page from (tables_of b)) refl where
-      by_page : (o : Option ℕ) → next_page from (tables_of b) ≡ o → HasReadAt (frames_of epoch o) n b.p b.slot c
+      by_page : (o : Option ℕ) → next_page from (tables_of b) ≡ o → HasReadAt (frames_of o) n b.p b.commit b.slot c
       by_page None e = restored (λ i m may. elim (cases_lt i from) as (λ _. Holds (reads c n) (cell_of c (framed_block i m c))) [
         | inl l ↦ framed.each i m may (omega (arith, l, may.inside))
         | inr l ↦
@@ -189,42 +188,42 @@ module _ (n : Device) (epoch : ℕ) (b : Booting) (c : State) (h : HasTables b.p
 
 -- ---- a block of the slot
 
-pub keep_block-found : (n : Device) (b : Booting) (c : State) (epoch k : ℕ) (block : Block) → b.stage ≡ Slot epoch k → HasRead n b c → 64 * k + 64 ≤ length b.slot
-    → length block.0 ≡ 64 → block ≡ newest n (slot_place b.p (epoch % 2) + k) → HasSlot b.p n.image epoch (k + 1) (with_slot_block k block b).slot
-keep_block-found n b c epoch k block is h room size here =
-    let had : IsFresh c × HasHead b.p n.image epoch × HasSlot b.p n.image epoch k b.slot = subst (λ (s : Stage). HasReadAt s n b.p b.slot c) is h.so_far in
-    HasSlot-more b.p n.image epoch k b.slot block room size (here ∙ newest-settled n (slot_place b.p (epoch % 2) + k) h.settled) had.2
+pub keep_block-found : (n : Device) (b : Booting) (c : State) (k : ℕ) (block : Block) → b.stage ≡ Reads (Slot k) → HasRead n b c → 64 * k + 64 ≤ length b.slot
+    → length block.0 ≡ 64 → block ≡ newest n (slot_place b.p (epoch_of b.commit % 2) + k) → HasSlot b.p n.image b.commit (k + 1) (with_slot_block k block b).slot
+keep_block-found n b c k block is h room size here =
+    let had : IsFresh c × HasHead b.p n.image b.commit × HasSlot b.p n.image b.commit k b.slot = subst (λ (s : Stage). HasReadAt s n b.p b.commit b.slot c) is h.so_far in
+    HasSlot-more b.p n.image b.commit k b.slot block room size (here ∙ newest-settled n (slot_place b.p (epoch_of b.commit % 2) + k) h.settled) had.2
 
 -- the slot goes on, or is judged
-module _ (n : Device) (b : Booting) (c d : State) (epoch k : ℕ) (same : c.p ≡ b.p) (sized : length n.image ≡ image_blocks b.p) (settled : n.queue ≡ [])
-    (fresh : IsFresh c) (head : HasHead b.p n.image epoch) (room : length b.slot ≡ 64 * slot_blocks b.p) (inside : k < slot_blocks b.p)
-    (had : HasSlot b.p n.image epoch (k + 1) b.slot) (t : AreSoundTables d) (all : FramedHoldsAll) (law : CommittedTables) where
-  judged_as : k + 1 ≡ slot_blocks b.p → (o : Option BadImage) → slot_fault b.p ceiling epoch (slot_of b) ≡ o → IsJudged o b c d
-      → HasReadAt (refusing_or o (frames_of epoch (next_page 0 (tables_of b)))) n b.p b.slot d
-  judged_as last (Some bad) e j = by_slot b.p n.image epoch (slot_of b) (Some bad) head sized (slot_is_whole b.p n.image epoch (k + 1) b.slot head.commit room last had) e
+module _ (n : Device) (b : Booting) (c d : State) (k : ℕ) (same : c.p ≡ b.p) (sized : length n.image ≡ image_blocks b.p) (settled : n.queue ≡ [])
+    (fresh : IsFresh c) (head : HasHead b.p n.image b.commit) (room : length b.slot ≡ 64 * slot_blocks b.p) (inside : k < slot_blocks b.p)
+    (had : HasSlot b.p n.image b.commit (k + 1) b.slot) (t : AreSoundTables d) (all : FramedHoldsAll) (law : CommittedTables) where
+  judged_as : k + 1 ≡ slot_blocks b.p → (o : Option BadImage) → slot_fault b.p ceiling (epoch_of b.commit) (slot_of b) ≡ o → IsJudged o b c d
+      → HasReadAt (refusing_or o (frames_of (next_page 0 (tables_of b)))) n b.p b.commit b.slot d
+  judged_as last (Some bad) e j = by_slot b.p n.image b.commit (slot_of b) (Some bad) head sized (slot_is_whole b.p n.image b.commit (k + 1) b.slot head.commit_is room last had) e
   judged_as last None e j =
-      let whole = slot_is_whole b.p n.image epoch (k + 1) b.slot head.commit room last had in
-      let tables : HasTables b.p n.image epoch b.slot d = tables_had n epoch b c d head whole e j in
-      go_to_page-found n epoch b d tables t (ap (λ (x : State). x.p) j.same ∙ same) sized settled all law 0 (record { each = λ i m may l. absurd (omega arith) })
+      let whole = slot_is_whole b.p n.image b.commit (k + 1) b.slot head.commit_is room last had in
+      let tables : HasTables b.p n.image b.commit b.slot d = tables_had n b c d head whole e j in
+      go_to_page-found n b d tables t (ap (λ (x : State). x.p) j.same ∙ same) sized settled all law 0 (record { each = λ i m may l. absurd (omega arith) })
 
-  go_on-found : (z : Bool) → nat_lt (k + 1) (slot_blocks b.p) ≡ z → JudgesUnless z (slot_fault b.p ceiling epoch (slot_of b)) b c d
-      → HasReadAt (if z then Slot epoch (k + 1) else after_slot epoch b) n b.p b.slot d
-  go_on-found true e j = subst (λ (x : State). HasReadAt (Slot epoch (k + 1)) n b.p b.slot x) (sym j) (fresh, head, had)
-  go_on-found false e j = judged_as (omega (arith, inside, not_below (k + 1) (slot_blocks b.p) e)) (slot_fault b.p ceiling epoch (slot_of b)) refl j where
+  go_on-found : (z : Bool) → nat_lt (k + 1) (slot_blocks b.p) ≡ z → JudgesUnless z (slot_fault b.p ceiling (epoch_of b.commit) (slot_of b)) b c d
+      → HasReadAt (if z then Reads (Slot (k + 1)) else after_slot b) n b.p b.commit b.slot d
+  go_on-found true e j = subst (λ (x : State). HasReadAt (Reads (Slot (k + 1))) n b.p b.commit b.slot x) (sym j) (fresh, head, had)
+  go_on-found false e j = judged_as (omega (arith, inside, not_below (k + 1) (slot_blocks b.p) e)) (slot_fault b.p ceiling (epoch_of b.commit) (slot_of b)) refl j where
     not_below : (x y : ℕ) → nat_lt x y ≡ false → y ≤ x
     not_below x y h = ltb-false x y h
 
-  same_after : GoesOn epoch k b c d → d.p ≡ b.p
+  same_after : GoesOn k b c d → d.p ≡ b.p
   same_after j = by_test (nat_lt (k + 1) (slot_blocks b.p)) j where
     by_fault : (o : Option BadImage) → IsJudged o b c d → d.p ≡ b.p
     by_fault None j = ap (λ (x : State). x.p) j.same ∙ same
     by_fault (Some bad) j = ap (λ (x : State). x.p) j ∙ same
 
-    by_test : (z : Bool) → JudgesUnless z (slot_fault b.p ceiling epoch (slot_of b)) b c d → d.p ≡ b.p
+    by_test : (z : Bool) → JudgesUnless z (slot_fault b.p ceiling (epoch_of b.commit) (slot_of b)) b c d → d.p ≡ b.p
     by_test true j = ap (λ (x : State). x.p) j ∙ same
-    by_test false j = by_fault (slot_fault b.p ceiling epoch (slot_of b)) j
+    by_test false j = by_fault (slot_fault b.p ceiling (epoch_of b.commit) (slot_of b)) j
 
-  pub HasRead-gone_on : GoesOn epoch k b c d → HasRead n (gone_on epoch k b) d
+  pub HasRead-gone_on : GoesOn k b c d → HasRead n (gone_on k b) d
   HasRead-gone_on j = record {
     same_p = same_after j;
     sized = sized;
@@ -234,15 +233,15 @@ module _ (n : Device) (b : Booting) (c d : State) (epoch k : ℕ) (same : c.p �
 
 -- ---- a block of a frame
 
-module _ (n : Device) (b : Booting) (c : State) (epoch j k : ℕ) (is : b.stage ≡ Frames epoch j k) (h : HasRead n b c) (t : AreSoundTables c)
+module _ (n : Device) (b : Booting) (c : State) (j k : ℕ) (is : b.stage ≡ Reads (Frames j k)) (h : HasRead n b c) (t : AreSoundTables c)
     (u : AreSoundTables (with_frame j k c n)) (l : LoadsFrame j k c n (with_frame j k c n) n) (all : FramedHoldsAll) (law : CommittedTables) where
-  had : HasTables b.p n.image epoch b.slot c × AreFramed c n j k × MayFrame j k c
-  had = subst (λ (s : Stage). HasReadAt s n b.p b.slot c) is h.so_far
+  had : HasTables b.p n.image b.commit b.slot c × AreFramed c n j k × MayFrame j k c
+  had = subst (λ (s : Stage). HasReadAt s n b.p b.commit b.slot c) is h.so_far
 
   abbrev d : State
   d = with_frame j k c n
 
-  tables_then : HasTables b.p n.image epoch b.slot d
+  tables_then : HasTables b.p n.image b.commit b.slot d
   unfolding with_frame
   tables_then = record {
     head = had.0.head;
@@ -281,13 +280,13 @@ module _ (n : Device) (b : Booting) (c : State) (epoch j k : ℕ) (is : b.stage 
         ]);
   }
 
-  frame_stage : (z : Bool) → nat_lt (k + 1) 64 ≡ z → HasReadAt (if z then Frames epoch j (k + 1) else frames_of epoch (next_page (j + 1) (tables_of b))) n b.p b.slot d
+  frame_stage : (z : Bool) → nat_lt (k + 1) 64 ≡ z → HasReadAt (if z then Reads (Frames j (k + 1)) else frames_of (next_page (j + 1) (tables_of b))) n b.p b.commit b.slot d
   frame_stage true e = (tables_then, framed_then, after j (k + 1) (record { listed = had.2.listed; inside = ltb-true (k + 1) 64 e }))
   frame_stage false e =
-      go_to_page-found n epoch b d tables_then u same_p_then h.sized h.settled all law (j + 1)
+      go_to_page-found n b d tables_then u same_p_then h.sized h.settled all law (j + 1)
       (record { each = λ i m may below. framed_then.each i m may (omega (arith, below, ltb-false (k + 1) 64 e)) })
 
-  pub read_frame-found : HasRead n (at_stage (after_frame epoch j k b) b) d
+  pub read_frame-found : HasRead n (at_stage (after_frame j k b) b) d
   read_frame-found = record { same_p = same_p_then; sized = h.sized; settled = h.settled; so_far = frame_stage (nat_lt (k + 1) 64) refl }
 
 -- ---- a new boot

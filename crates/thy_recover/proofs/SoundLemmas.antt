@@ -41,7 +41,8 @@ use Rattle.thy_protocol.proofs.LayoutLemmas.{decode_by-nothing_back}
 use Rattle.thy_protocol.proofs.VersionOneLemmas.{looked_by-version_one}
 use Rattle.thy_protocol.specs.VersionOne.{layout_of}
 use Rattle.thy_recover.specs.declared.stage.Stage.{Stage}
-use Rattle.thy_recover.specs.declared.stage.Stage.TheVariants.{Unread, Header as ReadsHeader, Slot as ReadsSlot, Frames, Refusing, Loading, Restored, Loaded}
+use Rattle.thy_recover.specs.declared.stage.Stage.TheVariants.{Reads as Reading, Loads, Over}
+use Rattle.thy_recover.specs.declared.stage.End.TheVariants.{Restored, Loaded}
 use Rattle.thy_recover.specs.declared.stage.Issue.{Issue}
 use Rattle.thy_recover.specs.declared.stage.Issue.TheVariants.{Home, Slot, Header, Settle, Commit, Confirm}
 use Rattle.thy_recover.specs.Boot.{Booting}
@@ -124,21 +125,21 @@ module _ (o : Origin) (origin : IsOrigin o) (n : Device) (w : HasWrittenWholeSta
 
 -- ---- an action of loading
 
-abbrev Loads : Origin → BootImages → Issue → Device → Type 0
-Loads o g issue n =
-    Move o (layout_of o) (standing_in_boot o (Loading issue) g n)
-    (standing_in_boot o (after_issue o.geometry issue) (images_after (Loading issue) n g) (after (issue_action o.geometry o.start issue) n))
+abbrev LoadMoves : Origin → BootImages → Issue → Device → Type 0
+LoadMoves o g issue n =
+    Move o (layout_of o) (standing_in_boot o (Loads issue) g n)
+    (standing_in_boot o (after_issue o.geometry issue) (images_after (Loads issue) n g) (after (issue_action o.geometry o.start issue) n))
 
 module _ (o : Origin) (g : BootImages) (n : Device) (origin : IsOrigin o) where
-  pub load_moves : (issue : Issue) → IsKeeping o (layout_of o) (standing_in_boot o (Loading issue) g n) → IsMade o issue g.next → HasLoadedBefore o issue n → Loads o g issue n
+  pub load_moves : (issue : Issue) → IsKeeping o (layout_of o) (standing_in_boot o (Loads issue) g n) → IsMade o issue g.next → HasLoadedBefore o issue n → LoadMoves o g issue n
   load_moves (Home b) k made w = by_more (nat_lt (b + 1) (memory_blocks o.geometry)) where
     by_more : (t : Bool) → Move o (layout_of o) (before_of o g n)
-        (standing_in_boot o (if t then Loading (Home (b + 1)) else Loading (Slot 0)) g (after (issue_action o.geometry o.start (Home b)) n))
+        (standing_in_boot o (if t then Loads (Home (b + 1)) else Loads (Slot 0)) g (after (issue_action o.geometry o.start (Home b)) n))
     by_more true = writes o g n (number_of o.geometry (AtHome b)) (start_block o.geometry o.start b) k.told.0 (λ e. omega (arith, e))
     by_more false = writes o g n (number_of o.geometry (AtHome b)) (start_block o.geometry o.start b) k.told.0 (λ e. omega (arith, e))
   load_moves (Slot j) k made w = by_more (nat_lt (j + 1) (slot_blocks o.geometry)) where
     by_more : (t : Bool) → Move o (layout_of o) (before_of o g n)
-        (standing_in_boot o (if t then Loading (Slot (j + 1)) else Loading Header) g (after (issue_action o.geometry o.start (Slot j)) n))
+        (standing_in_boot o (if t then Loads (Slot (j + 1)) else Loads Header) g (after (issue_action o.geometry o.start (Slot j)) n))
     by_more true = writes o g n (slot_place o.geometry 0 + j) (start_slot o.geometry o.start j) k.told.0 (λ e. omega (arith, e))
     by_more false = writes o g n (slot_place o.geometry 0 + j) (start_slot o.geometry o.start j) k.told.0 (λ e. omega (arith, e))
   load_moves Header k made w = writes o g n 0 (header_of o.geometry) k.told.0 (λ e. omega (arith, e))
@@ -151,16 +152,16 @@ module _ (o : Origin) (g : BootImages) (n : Device) (origin : IsOrigin o) where
 
   -- what is made from the first barrier on
   abbrev pub MadeAt : Stage → List Block → Type 0
-  MadeAt (Loading issue) next = IsMade o issue next
+  MadeAt (Loads issue) next = IsMade o issue next
   MadeAt stage next = IsStartImage o next
 
-  pub made_on : (issue : Issue) → IsMade o issue g.next → HasLoadedBefore o issue n → MadeAt (after_issue o.geometry issue) (images_after (Loading issue) n g).next
+  pub made_on : (issue : Issue) → IsMade o issue g.next → HasLoadedBefore o issue n → MadeAt (after_issue o.geometry issue) (images_after (Loads issue) n g).next
   made_on (Home b) made w = by_more (nat_lt (b + 1) (memory_blocks o.geometry)) where
-    by_more : (t : Bool) → MadeAt (if t then Loading (Home (b + 1)) else Loading (Slot 0)) g.next
+    by_more : (t : Bool) → MadeAt (if t then Loads (Home (b + 1)) else Loads (Slot 0)) g.next
     by_more true = tt
     by_more false = tt
   made_on (Slot j) made w = by_more (nat_lt (j + 1) (slot_blocks o.geometry)) where
-    by_more : (t : Bool) → MadeAt (if t then Loading (Slot (j + 1)) else Loading Header) g.next
+    by_more : (t : Bool) → MadeAt (if t then Loads (Slot (j + 1)) else Loads Header) g.next
     by_more true = tt
     by_more false = tt
   made_on Header made w = tt
@@ -222,17 +223,13 @@ module _ (o : Origin) (origin : IsOrigin o) (g : BootImages) (n : Device) (c : S
 pub sound_at : (o : Origin) (origin : IsOrigin o) (g : BootImages) (n : Device) (b : Booting) (c : State) → AreSoundTables c → c.p ≡ o.geometry → IsFresh c → g.kept ≡ None
     → (h : BootImages) → h.kept ≡ None
     → (m : Device) (q : Stage) → StandsAt o q m → MadeAt o g n origin q h.next → IsSoundAt o q h m b c
-sound_at o origin g n b c t same fresh none h still m (Loading issue) stands made = record { none = still; fresh = fresh; made = made; stood = stands }
-sound_at o origin g n b c t same fresh none h still m Loaded stands made = IsLoaded-written o origin h m c t same fresh stands.0 stands.1 made
-sound_at o origin g n b c t same fresh none h still m Unread stands made = absurd stands
-sound_at o origin g n b c t same fresh none h still m (ReadsHeader epoch fault) stands made = absurd stands
-sound_at o origin g n b c t same fresh none h still m (ReadsSlot epoch next) stands made = absurd stands
-sound_at o origin g n b c t same fresh none h still m (Frames epoch page next) stands made = absurd stands
-sound_at o origin g n b c t same fresh none h still m (Refusing bad) stands made = absurd stands
-sound_at o origin g n b c t same fresh none h still m (Restored epoch) stands made = absurd stands
+sound_at o origin g n b c t same fresh none h still m (Reading r) stands made = absurd stands
+sound_at o origin g n b c t same fresh none h still m (Loads issue) stands made = record { none = still; fresh = fresh; made = made; stood = stands }
+sound_at o origin g n b c t same fresh none h still m (Over Restored) stands made = absurd stands
+sound_at o origin g n b c t same fresh none h still m (Over Loaded) stands made = IsLoaded-written o origin h m c t same fresh stands.0 stands.1 made
 
 -- the mark that is kept stays
-pub kept_after : (issue : Issue) (n : Device) (g : BootImages) → (images_after (Loading issue) n g).kept ≡ g.kept
+pub kept_after : (issue : Issue) (n : Device) (g : BootImages) → (images_after (Loads issue) n g).kept ≡ g.kept
 kept_after (Home b) n g = refl
 kept_after (Slot k) n g = refl
 kept_after Header n g = refl
@@ -242,8 +239,8 @@ kept_after Confirm n g = refl
 
 -- ---- an action of loading that failed
 
-pub load_fails : (o : Origin) (g : BootImages) (n m : Device) (issue : Issue) → IsKeeping o (layout_of o) (standing_in_boot o (Loading issue) g n) → IsMade o issue g.next
-    → FailsTo (issue_action o.geometry o.start issue) n m → IsFramed n m → Move o (layout_of o) (standing_in_boot o (Loading issue) g n) (standing_after_fault o (Loading issue) g m)
+pub load_fails : (o : Origin) (g : BootImages) (n m : Device) (issue : Issue) → IsKeeping o (layout_of o) (standing_in_boot o (Loads issue) g n) → IsMade o issue g.next
+    → FailsTo (issue_action o.geometry o.start issue) n m → IsFramed n m → Move o (layout_of o) (standing_in_boot o (Loads issue) g n) (standing_after_fault o (Loads issue) g m)
 load_fails o g n m (Home b) k made failed framed = fails_write o g n m (number_of o.geometry (AtHome b)) (start_block o.geometry o.start b) k.told.0 (λ e. omega (arith, e)) failed framed
 load_fails o g n m (Slot j) k made failed framed = fails_write o g n m (slot_place o.geometry 0 + j) (start_slot o.geometry o.start j) k.told.0 (λ e. omega (arith, e)) failed framed
 load_fails o g n m Header k made failed framed = fails_write o g n m 0 (header_of o.geometry) k.told.0 (λ e. omega (arith, e)) failed framed

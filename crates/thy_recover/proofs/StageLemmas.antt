@@ -37,9 +37,9 @@ tables_fit law p ceiling epoch bytes h =
     })
 
 -- a page that is found is there
-pub IsThere-frames : (p : Parameters) (epoch from : ℕ) (t : Tables) → length t.ptt ≡ p.ptt → IsThere p (frames_of epoch (next_page from t))
-IsThere-frames p epoch from t size = by_page (next_page from t) refl where
-  by_page : (o : Option ℕ) → next_page from t ≡ o → IsThere p (frames_of epoch o)
+pub IsThere-frames : (p : Parameters) (from : ℕ) (t : Tables) → length t.ptt ≡ p.ptt → IsThere p (frames_of (next_page from t))
+IsThere-frames p from t size = by_page (next_page from t) refl where
+  by_page : (o : Option ℕ) → next_page from t ≡ o → IsThere p (frames_of o)
   by_page None h = tt
   by_page (Some j) h =
       let first = first_from-first is_some None t.ptt from j h in

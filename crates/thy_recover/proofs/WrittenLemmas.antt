@@ -18,7 +18,8 @@ use Rattle.thy_record.proofs.IssuingLemmas.{memory_of_places}
 use Rattle.thy_view.specs.Action.{after}
 use Rattle.thy_view.specs.Origin.{Origin}
 use Rattle.thy_recover.specs.declared.stage.Stage.{Stage}
-use Rattle.thy_recover.specs.declared.stage.Stage.TheVariants.{Loading, Loaded}
+use Rattle.thy_recover.specs.declared.stage.Stage.TheVariants.{Loads, Over}
+use Rattle.thy_recover.specs.declared.stage.End.TheVariants.{Loaded}
 use Rattle.thy_recover.specs.declared.stage.Issue.{Issue}
 use Rattle.thy_recover.specs.declared.stage.Issue.TheVariants.{Home, Slot, Header, Settle, Commit, Confirm}
 use Rattle.thy_recover.specs.Boot.{IsIssue}
@@ -84,8 +85,8 @@ HasWrittenStart-slot o k n inside w =
 
 -- what stands at a stage of loading, or behind it
 abbrev pub StandsAt : Origin → Stage → Device → Type 0
-StandsAt o (Loading issue) n = HasLoadedBefore o issue n
-StandsAt o Loaded n = HasWrittenWholeStart o n × (n.queue ≡ [])
+StandsAt o (Loads issue) n = HasLoadedBefore o issue n
+StandsAt o (Over Loaded) n = HasWrittenWholeStart o n × (n.queue ≡ [])
 StandsAt o stage n = ⊥
 
 -- every action leaves what has to stand before the next one
@@ -96,7 +97,7 @@ stands_on o (Home b) n inside w = by_more (nat_lt (b + 1) (memory_blocks o.geome
   more = HasWrittenStart-home o b n inside w
 
   by_more : (t : Bool) → nat_lt (b + 1) (memory_blocks o.geometry) ≡ t
-      → StandsAt o (if t then Loading (Home (b + 1)) else Loading (Slot 0)) (after (issue_action o.geometry o.start (Home b)) n)
+      → StandsAt o (if t then Loads (Home (b + 1)) else Loads (Slot 0)) (after (issue_action o.geometry o.start (Home b)) n)
   by_more true e = more
   by_more false e =
       let all : b + 1 ≡ memory_blocks o.geometry = omega (arith, inside, ltb-false (b + 1) (memory_blocks o.geometry) e) in
@@ -106,7 +107,7 @@ stands_on o (Slot k) n inside w = by_more (nat_lt (k + 1) (slot_blocks o.geometr
   more = HasWrittenStart-slot o k n inside w
 
   by_more : (t : Bool) → nat_lt (k + 1) (slot_blocks o.geometry) ≡ t
-      → StandsAt o (if t then Loading (Slot (k + 1)) else Loading Header) (after (issue_action o.geometry o.start (Slot k)) n)
+      → StandsAt o (if t then Loads (Slot (k + 1)) else Loads Header) (after (issue_action o.geometry o.start (Slot k)) n)
   by_more true e = more
   by_more false e =
       let all : k + 1 ≡ slot_blocks o.geometry = omega (arith, inside, ltb-false (k + 1) (slot_blocks o.geometry) e) in

@@ -7,6 +7,7 @@ use Rattle.thy_crash.specs.Saved.{Kept, InDoubt}
 use Rattle.thy_dram.specs.Contents.{Contents}
 use Rattle.thy_isa.specs.Step.{State as Plain}
 use Rattle.thy_record.specs.declared.bad_image.BadImage.{BadImage}
+use Rattle.thy_record.specs.Commit.{epoch_of}
 use Rattle.thy_record.specs.Cpu.{cpu_of_record}
 use Rattle.thy_record.specs.Images.{decode_image}
 use Rattle.thy_control.specs.State.{State, AreSoundTables, new_state}
@@ -22,13 +23,15 @@ use Rattle.thy_protocol.specs.Layout.{reading}
 use Rattle.thy_protocol.specs.Moves.{Standing, standing, Move}
 use Rattle.thy_protocol.specs.VersionOne.{version_one, layout_of}
 use Rattle.thy_recover.specs.declared.stage.Stage.{Stage}
-use Rattle.thy_recover.specs.declared.stage.Stage.TheVariants.{Refusing, Loading, Restored, Loaded}
+use Rattle.thy_recover.specs.declared.stage.Stage.TheVariants.{Reads, Loads, Over}
+use Rattle.thy_recover.specs.declared.stage.ReadStage.{ReadStage}
+use Rattle.thy_recover.specs.declared.stage.ReadStage.TheVariants.{Refusing}
+use Rattle.thy_recover.specs.declared.stage.End.TheVariants.{Restored}
 use Rattle.thy_recover.specs.declared.stage.Issue.TheVariants.{Commit, Confirm}
 use Rattle.thy_recover.specs.declared.stage.BootStep.{BootStep}
 use Rattle.thy_recover.specs.declared.stage.BootStep.TheVariants.{Reading, Loading as IsLoading, Loaded as HasLoaded}
 use Rattle.thy_recover.specs.Boot.{Booting, IsBoot, new_boot, slot_of, answer_of}
 use Rattle.thy_recover.specs.Left.{boot_left}
-use Rattle.thy_recover.specs.Recovers.{CanRecover}
 use Rattle.thy_recover.specs.Shows.{seen_at, did_of}
 use Rattle.thy_recover.specs.Sound.{BootImages, start_mark, standing_in_boot, images_after, IsBooted, IsSound}
 use Rattle.thy_recover.specs.Start.{IsStartFor}
@@ -43,9 +46,9 @@ NewIsSound =
 
 -- the boot is not over
 abbrev pub IsGoing : Stage → Type 0
-IsGoing (Restored epoch) = ⊥
-IsGoing Loaded = ⊥
-IsGoing stage = Unit {0}
+IsGoing (Reads r) = Unit {0}
+IsGoing (Loads issue) = Unit {0}
+IsGoing (Over end) = ⊥
 
 -- it may take a step then
 abbrev pub SoundMayStep : Type 0
@@ -81,7 +84,7 @@ StepsMove =
 -- and so is a step that failed: the write of the commit block leaves the two in doubt, and every other one what was. So a cut
 -- leaves the mark that is done, whole, or the start's, if its commit block was written before or that was its write
 abbrev pub standing_after_fault : Origin → Stage → BootImages → Device → Standing
-standing_after_fault o (Loading Commit) g n = standing n (InDoubt g.before g.next) None (Some (start_mark o))
+standing_after_fault o (Loads Commit) g n = standing n (InDoubt g.before g.next) None (Some (start_mark o))
 standing_after_fault o stage g n = standing_in_boot o stage g n
 
 pub record IsFailed (o : Origin) (g : BootImages) (n : Device) (b : Booting) (m : Device) : Type 0 where
@@ -98,16 +101,16 @@ FailuresMove =
 -- a restart has the kept mark's state, and its checkpoint is kept
 abbrev pub RestoredIsBooted : Type 0
 RestoredIsBooted =
-    (o : Origin) (g : BootImages) (n : Device) (b : Booting) (c : State) (epoch : ℕ)
-    → IsOrigin o → AreSoundTables c → IsSound o g n b c → b.stage ≡ Restored epoch
-    → (m : Mark) × (g.kept ≡ Some m) × (m.epoch ≡ epoch) × Keeps o (layout_of o) n (Kept g.before) (Some m) None
+    (o : Origin) (g : BootImages) (n : Device) (b : Booting) (c : State)
+    → IsOrigin o → AreSoundTables c → IsSound o g n b c → b.stage ≡ Over Restored
+    → (m : Mark) × (g.kept ≡ Some m) × (m.epoch ≡ epoch_of b.commit) × Keeps o (layout_of o) n (Kept g.before) (Some m) None
     × IsBooted o m (cpu_of_record (slot_of b)) g.before n c
 
 -- the boot of a run is never refused
 abbrev pub NeverRefused : Type 0
 NeverRefused =
     (o : Origin) (g : BootImages) (n : Device) (b : Booting) (c : State) (bad : BadImage)
-    → IsSound o g n b c → b.stage ≢ Refusing bad
+    → IsSound o g n b c → b.stage ≢ Reads (Refusing bad)
 
 -- ---- drains
 
@@ -127,8 +130,8 @@ DrainsMove =
 -- a boot that reads shows what the image means
 abbrev pub ShowsImage : Type 0
 ShowsImage =
-    (o : Origin) (g : BootImages) (n : Device) (b : Booting) (c : State)
-    → IsSound o g n b c → CanRecover b.stage
+    (o : Origin) (g : BootImages) (n : Device) (b : Booting) (c : State) (r : ReadStage)
+    → IsSound o g n b c → b.stage ≡ Reads r
     → seen_at o g.kept b.stage ≡ view_of_image o.start.count (decode_image o.geometry ceiling n.image)
 
 -- ---- actions
@@ -147,8 +150,8 @@ FoundStays =
 
 -- what a step that failed was to answer: that the program is loaded, where it was loading's last, else that the boot goes on
 abbrev pub failed_answer : Stage → BootStep
-failed_answer (Loading Confirm) = HasLoaded
-failed_answer (Loading issue) = IsLoading
+failed_answer (Loads Confirm) = HasLoaded
+failed_answer (Loads issue) = IsLoading
 failed_answer stage = Reading
 
 -- it failed in its one action, which was asked for by that
@@ -172,5 +175,5 @@ StepsFill =
 abbrev pub StepsComeNearer : Type 0
 StepsComeNearer =
     (s : Plain) (n : Device) (b : Booting) (c : State) (m : Device) (d : Booting) (e : State)
-    → IsBoot b → Steps s n b c m d e → ((bad : BadImage) → b.stage ≢ Refusing bad)
+    → IsBoot b → Steps s n b c m d e → ((bad : BadImage) → b.stage ≢ Reads (Refusing bad))
     → boot_left b.p d.stage + 1 ≤ boot_left b.p b.stage

@@ -11,7 +11,8 @@ use Rattle.thy_record.specs.Commit.{commit_of}
 use Rattle.thy_record.specs.Header.{header_of}
 use Rattle.thy_view.specs.Action.{Action, WriteAt, Barrier, after, FailsTo}
 use Rattle.thy_recover.specs.declared.stage.Stage.{Stage}
-use Rattle.thy_recover.specs.declared.stage.Stage.TheVariants.{Loading, Loaded}
+use Rattle.thy_recover.specs.declared.stage.Stage.TheVariants.{Loads, Over}
+use Rattle.thy_recover.specs.declared.stage.End.TheVariants.{Loaded}
 use Rattle.thy_recover.specs.declared.stage.Issue.{Issue}
 use Rattle.thy_recover.specs.declared.stage.Issue.TheVariants.{Home, Slot, Header, Settle, Commit, Confirm}
 use Rattle.thy_recover.specs.Boot.{Booting}
@@ -28,12 +29,12 @@ issue_action p s Confirm = Barrier
 
 -- the stage behind it
 abbrev pub after_issue : Parameters → Issue → Stage
-after_issue p (Home b) = if nat_lt (b + 1) (memory_blocks p) then Loading (Home (b + 1)) else Loading (Slot 0)
-after_issue p (Slot k) = if nat_lt (k + 1) (slot_blocks p) then Loading (Slot (k + 1)) else Loading Header
-after_issue p Header = Loading Settle
-after_issue p Settle = Loading Commit
-after_issue p Commit = Loading Confirm
-after_issue p Confirm = Loaded
+after_issue p (Home b) = if nat_lt (b + 1) (memory_blocks p) then Loads (Home (b + 1)) else Loads (Slot 0)
+after_issue p (Slot k) = if nat_lt (k + 1) (slot_blocks p) then Loads (Slot (k + 1)) else Loads Header
+after_issue p Header = Loads Settle
+after_issue p Settle = Loads Commit
+after_issue p Commit = Loads Confirm
+after_issue p Confirm = Over Loaded
 
 -- loading may take an action: the start fits, and the device is that of the geometry, and up
 pub record CanLoad (s : State) (n : Device) (b : Booting) : Type 0 where

@@ -24,7 +24,8 @@ use Rattle.thy_view.specs.Safe.{ceiling}
 use Rattle.thy_protocol.specs.Moves.{Standing, standing, IsKeeping}
 use Rattle.thy_protocol.specs.VersionOne.{layout_of}
 use Rattle.thy_recover.specs.declared.stage.Stage.{Stage}
-use Rattle.thy_recover.specs.declared.stage.Stage.TheVariants.{Loading, Loaded}
+use Rattle.thy_recover.specs.declared.stage.Stage.TheVariants.{Reads as Reading, Loads, Over}
+use Rattle.thy_recover.specs.declared.stage.End.TheVariants.{Restored, Loaded}
 use Rattle.thy_recover.specs.declared.stage.Issue.{Issue}
 use Rattle.thy_recover.specs.declared.stage.Issue.TheVariants.{Home, Slot, Header, Settle, Commit, Confirm}
 use Rattle.thy_recover.specs.Boot.{Booting}
@@ -55,13 +56,14 @@ saved_loading issue g = Kept g.before
 
 -- by the stage, which images a cut may leave
 abbrev pub standing_in_boot : Origin → Stage → BootImages → Device → Standing
-standing_in_boot o (Loading issue) g n = standing n (saved_loading issue g) None (Some (start_mark o))
-standing_in_boot o Loaded g n = standing n (Kept g.next) (Some (start_mark o)) None
-standing_in_boot o stage g n = standing n (Kept g.before) g.kept (sealed_by o g.kept)
+standing_in_boot o (Reading r) g n = standing n (Kept g.before) g.kept (sealed_by o g.kept)
+standing_in_boot o (Loads issue) g n = standing n (saved_loading issue g) None (Some (start_mark o))
+standing_in_boot o (Over Restored) g n = standing n (Kept g.before) g.kept (sealed_by o g.kept)
+standing_in_boot o (Over Loaded) g n = standing n (Kept g.next) (Some (start_mark o)) None
 
 -- with the first barrier the next image is that of all that was written, with the commit block
 abbrev pub images_after : Stage → Device → BootImages → BootImages
-images_after (Loading Settle) n g = record g { next = next_image n (commit_of 0) }
+images_after (Loads Settle) n g = record g { next = next_image n (commit_of 0) }
 images_after stage n g = g
 
 -- ---- what was written
@@ -131,9 +133,10 @@ pub record IsLoaded (o : Origin) (g : BootImages) (n : Device) (c : State) : Typ
   pub start : state_from o.geometry (cpu_of o.start) (loads c n) ≡ o.start
 
 abbrev pub IsSoundAt : Origin → Stage → BootImages → Device → Booting → State → Type 0
-IsSoundAt o (Loading issue) g n b c = IsLoading o issue g n c
-IsSoundAt o Loaded g n b c = IsLoaded o g n c
-IsSoundAt o stage g n b c = IsRecovering g n b c
+IsSoundAt o (Reading r) g n b c = IsRecovering g n b c
+IsSoundAt o (Loads issue) g n b c = IsLoading o issue g n c
+IsSoundAt o (Over Restored) g n b c = IsRecovering g n b c
+IsSoundAt o (Over Loaded) g n b c = IsLoaded o g n c
 
 -- a boot of a run, with the images of its checkpoints
 pub record IsSound (o : Origin) (g : BootImages) (n : Device) (b : Booting) (c : State) : Type 0 where

@@ -1,18 +1,21 @@
 //! The boot.
 ghost use Rattle.std.specs.Prelude.{◌≡◌, ◌+◌, ◌*◌, ◌≤◌, length, IfOk};
 ghost use Rattle.thy_base.specs.Bytes.{written};
-ghost use Rattle.thy_recover.specs.Boot.{new_boot, answer_of, issue_at, IsBoot};
+ghost use Rattle.thy_record.specs.Commit.{epoch_of};
+ghost use Rattle.thy_recover.specs.Boot.{new_boot, answer_of, IsBoot};
 
-use crate::stage::{BootStep, Issue, Stage};
+use crate::stage::{BootStep, End, ReadStage, Stage};
 use std::alloc::{AllocError, Global};
 use std::marker::Model;
-use thy_base::{BLOCK_SIZE, Block, Geometry};
+use thy_base::{BLOCK_SIZE, Block, Geometry, word};
 use thy_record::cpu_in;
 
-/// A boot. Only `new` takes memory: room for the bytes of a slot.
+/// A boot, with the commit block and the bytes of the slot, as far as they were read. Only `new` takes memory: room for
+/// the slot.
 #[derive(Drop)]
 pub struct Boot {
     pub(crate) geometry: Geometry,
+    pub(crate) commit: Block,
     pub(crate) slot: Vec<u8>,
     pub(crate) stage: Stage,
 }
@@ -22,9 +25,9 @@ impl Model for Boot {
 
     ghost Value = { Booting };
 
-    ghost view = { λ b. record { p = b.geometry; slot = b.slot.items; stage = b.stage } };
+    ghost view = { λ b. record { p = b.geometry; commit = b.commit; slot = b.slot.items; stage = b.stage } };
 
-    ghost invariant = { λ b. IsBoot (record { p = b.geometry; slot = b.slot.items; stage = b.stage }) };
+    ghost invariant = { λ b. IsBoot (record { p = b.geometry; commit = b.commit; slot = b.slot.items; stage = b.stage }) };
 }
 
 /// Writes a block over the bytes of block `k`.
@@ -37,6 +40,7 @@ pub(crate) fn keep_block(bytes: &mut [u8], k: usize, block: &Block)
 
 impl Boot {
     /// The boot of a machine whose power came on.
+    #[tactic(auto, unfolding(thy_base::specs::Device::zero_block))]
     pub fn new(alloc: Global, geometry: &Geometry) -> Result<Boot, AllocError>
         ensures { IfOk result (λ boot. boot ≡ new_boot geometry.now) }
     {
@@ -45,8 +49,9 @@ impl Boot {
         slot.resize(size, 0)?;
         Ok(Boot {
             geometry: *geometry,
+            commit: Block::ZERO,
             slot,
-            stage: Stage::Unread,
+            stage: Stage::Reads(ReadStage::Unread),
         })
     }
 
@@ -64,20 +69,11 @@ impl Boot {
         self.stage
     }
 
-    /// What loading does next, where it has begun.
-    pub(crate) fn issue(&self) -> Option<Issue>
-        ensures { result ≡ issue_at self.now.stage }
+    /// The epoch that the commit block names.
+    pub(crate) fn epoch(&self) -> u64
+        ensures { result ≡ epoch_of self.now.commit }
     {
-        match self.stage {
-            Stage::Loading(issue) => Some(issue),
-            Stage::Unread
-            | Stage::Header { .. }
-            | Stage::Slot { .. }
-            | Stage::Frames { .. }
-            | Stage::Refusing(_)
-            | Stage::Restored(_)
-            | Stage::Loaded => None,
-        }
+        word(&self.commit, 1)
     }
 
     /// What a step answers that left the boot so far.
@@ -85,13 +81,11 @@ impl Boot {
         ensures { result ≡ answer_of self.now }
     {
         match self.stage {
-            Stage::Unread | Stage::Header { .. } | Stage::Slot { .. } | Stage::Frames { .. } => {
-                BootStep::Reading
-            }
-            Stage::Refusing(bad) => BootStep::Refused(bad),
-            Stage::Loading(_) => BootStep::Loading,
-            Stage::Loaded => BootStep::Loaded,
-            Stage::Restored(epoch) => BootStep::Restarted(cpu_in(&self.slot), epoch),
+            Stage::Reads(ReadStage::Refusing(bad)) => BootStep::Refused(bad),
+            Stage::Reads(_) => BootStep::Reading,
+            Stage::Loads(_) => BootStep::Loading,
+            Stage::Over(End::Restored) => BootStep::Restarted(cpu_in(&self.slot), self.epoch()),
+            Stage::Over(End::Loaded) => BootStep::Loaded,
         }
     }
 }

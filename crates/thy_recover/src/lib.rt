@@ -23,4 +23,4 @@ pub use laws::{
     failed_steps_are_moves, steps_act_once, steps_are_moves, steps_come_nearer,
     steps_queue_one_write,
 };
-pub use stage::{BootStep, Issue, Stage};
+pub use stage::{BootStep, End, Issue, ReadStage, Stage};

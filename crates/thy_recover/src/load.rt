@@ -7,7 +7,7 @@ ghost use Rattle.thy_recover.specs.Start.{IsStartFor};
 ghost use Rattle.thy_recover.specs.Loads.{CanLoad, Takes, after_issue, issue_action};
 
 use crate::boot::Boot;
-use crate::stage::{Issue, Stage};
+use crate::stage::{End, Issue, Stage};
 use crate::start::{start_block, start_slot_block};
 use thy_base::{Geometry, Nvm, NvmError};
 use thy_isa::MachState;
@@ -21,14 +21,14 @@ fn stage_after(geometry: &Geometry, issue: Issue) -> Stage
     let memory = geometry.memory_blocks();
     let slot = geometry.slot_blocks();
     match issue {
-        Issue::Home(b) if b + 1 < memory => Stage::Loading(Issue::Home(b + 1)),
-        Issue::Home(_) => Stage::Loading(Issue::Slot(0)),
-        Issue::Slot(k) if k + 1 < slot => Stage::Loading(Issue::Slot(k + 1)),
-        Issue::Slot(_) => Stage::Loading(Issue::Header),
-        Issue::Header => Stage::Loading(Issue::Settle),
-        Issue::Settle => Stage::Loading(Issue::Commit),
-        Issue::Commit => Stage::Loading(Issue::Confirm),
-        Issue::Confirm => Stage::Loaded,
+        Issue::Home(b) if b + 1 < memory => Stage::Loads(Issue::Home(b + 1)),
+        Issue::Home(_) => Stage::Loads(Issue::Slot(0)),
+        Issue::Slot(k) if k + 1 < slot => Stage::Loads(Issue::Slot(k + 1)),
+        Issue::Slot(_) => Stage::Loads(Issue::Header),
+        Issue::Header => Stage::Loads(Issue::Settle),
+        Issue::Settle => Stage::Loads(Issue::Commit),
+        Issue::Commit => Stage::Loads(Issue::Confirm),
+        Issue::Confirm => Stage::Over(End::Loaded),
     }
 }
 
@@ -56,7 +56,7 @@ fn take_issue<N: Nvm>(
 }
 
 impl Boot {
-    ghost use Rattle.thy_recover.specs.declared.stage.Stage.TheVariants.{Loading as IsLoading};
+    ghost use Rattle.thy_recover.specs.declared.stage.Stage.TheVariants.{Loads};
 
     /// Takes the next action of loading: memory's blocks go home, then the slot, the header, a barrier, the commit block of
     /// epoch 0, and a barrier. Where the NVM failed the boot is as before, and only the place of a write may hold more.
@@ -66,7 +66,7 @@ impl Boot {
         state: &MachState,
         nvm: &mut N,
     ) -> Result<(), NvmError>
-        requires stage { self.old.stage ≡ IsLoading issue }
+        requires stage { self.old.stage ≡ Loads issue }
         requires can { CanLoad (state_of state.now) (N.device nvm.old) self.old }
         ensures boot { OnOk result (self.new ≡ at_stage (after_issue self.old.p issue) self.old) }
         ensures kept { OnErr result (self.new ≡ self.old) }

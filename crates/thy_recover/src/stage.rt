@@ -19,25 +19,39 @@ pub enum Issue {
     Confirm,
 }
 
+/// How far a boot is that reads.
+#[derive(Clone, Copy, Debug, PartialEq, Eq)]
+pub enum ReadStage {
+    /// Nothing was read yet.
+    Unread,
+    /// The commit block was read.
+    Header,
+    /// Header and commit block have no fault, and so many blocks of the slot were read.
+    Slot(u64),
+    /// The slot has no fault, and its tables are listed. Block `next` of the page that entry `page` lists is loaded next.
+    Frames { page: usize, next: u64 },
+    /// The image is refused.
+    Refusing(BadImage),
+}
+
+/// How a boot ended.
+#[derive(Clone, Copy, Debug, PartialEq, Eq)]
+pub enum End {
+    /// The checkpoint that was found is restored.
+    Restored,
+    /// The program is loaded, as the checkpoint of epoch 0.
+    Loaded,
+}
+
 /// How far a boot is.
 #[derive(Clone, Copy, Debug, PartialEq, Eq)]
 pub enum Stage {
-    /// Nothing was read yet.
-    Unread,
-    /// The commit block was read: it names this epoch, and has this fault, if any.
-    Header { epoch: u64, fault: Option<BadImage> },
-    /// Header and commit block have no fault, and so many blocks of the slot were read.
-    Slot { epoch: u64, next: u64 },
-    /// The slot has no fault, and its tables are listed. Block `next` of the page that entry `page` lists is loaded next.
-    Frames { epoch: u64, page: usize, next: u64 },
-    /// The image is refused.
-    Refusing(BadImage),
+    /// It reads, and is so far.
+    Reads(ReadStage),
     /// There is no checkpoint: the program is loaded, and this comes next.
-    Loading(Issue),
-    /// The checkpoint of this epoch is restored.
-    Restored(u64),
-    /// The program is loaded, as the checkpoint of epoch 0.
-    Loaded,
+    Loads(Issue),
+    /// It is over.
+    Over(End),
 }
 
 /// What a step of a boot answers.

@@ -43,9 +43,10 @@ impl Boot {
         ensures { let s = state_of start.now.state in
             TakesStep result s (N.device nvm.old) self.old control.old (N.device nvm.new) self.new control.new }
     {
-        match self.issue() {
-            Some(issue) => self.load(issue, &start.state, nvm),
-            None => self.read_next(control, nvm),
+        match self.stage() {
+            Stage::Reads(at) => self.read_next(at, control, nvm),
+            Stage::Loads(issue) => self.load(issue, &start.state, nvm),
+            Stage::Over(_) => Ok(()),
         }
     }
 }

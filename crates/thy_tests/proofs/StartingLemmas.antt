@@ -1,5 +1,5 @@
 -- What boots and cuts of the least memory leave.
-use Rattle.std.proofs.Common.{◌≡◌, ℕ, suc, ◌+◌, ◌-◌, ◌≤◌, ◌<◌, false, List, [], ◌∷◌, ◌++◌, length, refl, sym, ◌∙◌, ap, subst, arith, Option, Some, None}
+use Rattle.std.proofs.Common.{◌≡◌, ℕ, suc, ◌+◌, ◌-◌, ◌≤◌, ◌<◌, false, List, [], ◌∷◌, ◌++◌, length, refl, sym, ◌∙◌, ap, subst, arith}
 use Rattle.std.proofs.lemmas.List.{length-append}
 use Rattle.thy_base.specs.declared.block.Block.{Block}
 use Rattle.thy_base.specs.declared.config.Parameters.{Parameters}
@@ -12,13 +12,14 @@ use Rattle.thy_dram.specs.Draws.{blocks_over, after_block}
 use Rattle.thy_isa.specs.Step.{State as Plain}
 use Rattle.thy_view.specs.Action.{Action, Rest, ReadAt, WriteAt, Barrier, Drain, after}
 use Rattle.thy_recover.specs.declared.stage.Stage.{Stage}
-use Rattle.thy_recover.specs.declared.stage.Stage.TheVariants.{Unread, Header, Slot, Frames, Refusing, Loading, Restored, Loaded}
-use Rattle.thy_recover.specs.declared.stage.Issue.{Issue}
-use Rattle.thy_recover.specs.Boot.{Booting, answer_at, answer_of, issue_at, new_boot}
+use Rattle.thy_recover.specs.declared.stage.Stage.TheVariants.{Reads, Loads, Over}
+use Rattle.thy_recover.specs.declared.stage.ReadStage.TheVariants.{Unread, Header, Slot, Frames, Refusing}
+use Rattle.thy_recover.specs.declared.stage.End.TheVariants.{Restored, Loaded}
+use Rattle.thy_recover.specs.Boot.{Booting, answer_at, answer_of, new_boot}
 use Rattle.thy_recover.specs.Loads.{issue_action}
 use Rattle.thy_recover.specs.Recovers.{HasReadAt, NewHasRead}
 use Rattle.thy_recover.specs.Start.{IsStartFor}
-use Rattle.thy_recover.specs.Steps.{Steps, StepsBy}
+use Rattle.thy_recover.specs.Steps.{Steps, StepsAt}
 use Rattle.thy_tests.specs.Beside.{all}
 use Rattle.thy_tests.specs.Memory.{HasRoom}
 use Rattle.thy_tests.specs.Starting.{Off, IsOff, starting, IsStarting, is_refused}
@@ -26,24 +27,25 @@ use Rattle.thy_tests.specs.Starting.{Off, IsOff, starting, IsStarting, is_refuse
 -- ---- steps
 
 -- unless it refused, a boot that reads has a controller with no checkpoint under way
-idle-at : (stage : Stage) (n : Device) (p : Parameters) (slot : List ℕ) (b : Booting) (c : State)
-    → is_refused (answer_at stage b) ≡ false → HasReadAt stage n p slot c → c.under_way ≡ false
-idle-at Unread n p slot b c told read = read.booting.idle
-idle-at (Header epoch fault) n p slot b c told read = read.0.booting.idle
-idle-at (Slot epoch next) n p slot b c told read = read.0.booting.idle
-idle-at (Frames epoch page next) n p slot b c told read = read.0.booting.idle
-idle-at (Refusing bad) n p slot b c told read = cc
-idle-at (Loading issue) n p slot b c told read = read.0.booting.idle
-idle-at (Restored epoch) n p slot b c told read = read.tables.booting.idle
-idle-at Loaded n p slot b c told read = absurd read
+idle-at : (stage : Stage) (n : Device) (p : Parameters) (commit : Block) (slot : List ℕ) (b : Booting) (c : State)
+    → is_refused (answer_at stage b) ≡ false → HasReadAt stage n p commit slot c → c.under_way ≡ false
+idle-at (Reads Unread) n p commit slot b c told read = read.booting.idle
+idle-at (Reads Header) n p commit slot b c told read = read.0.booting.idle
+idle-at (Reads (Slot next)) n p commit slot b c told read = read.0.booting.idle
+idle-at (Reads (Frames page next)) n p commit slot b c told read = read.0.booting.idle
+idle-at (Reads (Refusing bad)) n p commit slot b c told read = cc
+idle-at (Loads issue) n p commit slot b c told read = read.0.booting.idle
+idle-at (Over Restored) n p commit slot b c told read = read.tables.booting.idle
+idle-at (Over Loaded) n p commit slot b c told read = absurd read
 
 -- so it has after every step
 pub idle-step : (s : Plain) (n : Device) (b : Booting) (c : State) (m : Device) (d : Booting) (e : State)
     → c.under_way ≡ false → Steps s n b c m d e → is_refused (answer_of d) ≡ false → e.under_way ≡ false
-idle-step s n b c m d e idle steps told = by_issue (issue_at b.stage) steps where
-  by_issue : (o : Option Issue) → StepsBy o s n b c m d e → e.under_way ≡ false
-  by_issue None on = idle-at d.stage m d.p d.slot d e told on.read.so_far
-  by_issue (Some issue) on = ap (λ (t : State). t.under_way) on.control ∙ idle
+idle-step s n b c m d e idle steps told = by_stage b.stage steps where
+  by_stage : (q : Stage) → StepsAt q s n b c m d e → e.under_way ≡ false
+  by_stage (Reads r) on = idle-at d.stage m d.p d.commit d.slot d e told on.read.so_far
+  by_stage (Loads issue) on = ap (λ (t : State). t.under_way) on.control ∙ idle
+  by_stage (Over end) on = absurd on
 
 down-action : (a : Action) (n : Device) → (after a n).down ≡ n.down
 down-action Rest n = refl
@@ -55,17 +57,19 @@ down-action Drain n = refl
 -- a step leaves the NVM up or down as it was, and the geometry
 pub down-step : (s : Plain) (n : Device) (b : Booting) (c : State) (m : Device) (d : Booting) (e : State)
     → Steps s n b c m d e → m.down ≡ n.down
-down-step s n b c m d e steps = by_issue (issue_at b.stage) steps where
-  by_issue : (o : Option Issue) → StepsBy o s n b c m d e → m.down ≡ n.down
-  by_issue None on = ap (λ (x : Device). x.down) on.device
-  by_issue (Some issue) on = ap (λ (x : Device). x.down) on.device ∙ down-action (issue_action b.p s issue) n
+down-step s n b c m d e steps = by_stage b.stage steps where
+  by_stage : (q : Stage) → StepsAt q s n b c m d e → m.down ≡ n.down
+  by_stage (Reads r) on = ap (λ (x : Device). x.down) on.device
+  by_stage (Loads issue) on = ap (λ (x : Device). x.down) on.device ∙ down-action (issue_action b.p s issue) n
+  by_stage (Over end) on = absurd on
 
 pub same-step : (s : Plain) (n : Device) (b : Booting) (c : State) (m : Device) (d : Booting) (e : State)
     → Steps s n b c m d e → d.p ≡ b.p
-same-step s n b c m d e steps = by_issue (issue_at b.stage) steps where
-  by_issue : (o : Option Issue) → StepsBy o s n b c m d e → d.p ≡ b.p
-  by_issue None on = on.same_p
-  by_issue (Some issue) on = ap (λ (x : Booting). x.p) on.boot
+same-step s n b c m d e steps = by_stage b.stage steps where
+  by_stage : (q : Stage) → StepsAt q s n b c m d e → d.p ≡ b.p
+  by_stage (Reads r) on = on.same_p
+  by_stage (Loads issue) on = ap (λ (x : Booting). x.p) on.boot
+  by_stage (Over end) on = absurd on
 
 -- ---- where it begins
 
@@ -79,7 +83,7 @@ pub IsStarting-new : (p : Parameters) (s : Plain) (dram : Contents) (n : Device)
 IsStarting-new p s dram n b c cuts w start b_is c_is new =
     subst (λ (x : Booting). IsStarting (starting p s x c n cuts)) (sym b_is)
     (subst (λ (x : State). IsStarting (starting p s (new_boot p) x n cuts)) (sym c_is) (record {
-      boots = record { start = start; up = w.up; same_p = refl; may = record { going = tt; read = new p dram n w.sized w.settled } };
+      boots = record { start = start; up = w.up; same_p = refl; may = new p dram n w.sized w.settled };
       same_p = refl;
       blocks = w.blocks;
       sized = w.sized;

@@ -161,7 +161,7 @@ fn step<N: Nvm>(
 impl Starting {
     /// Whether the commit block of loading is written.
     pub(crate) fn is_in_doubt(&self) -> bool {
-        matches!(self.boot.stage(), Stage::Loading(Issue::Confirm))
+        matches!(self.boot.stage(), Stage::Loads(Issue::Confirm))
     }
 
     /// Takes a step, which must not refuse the image.

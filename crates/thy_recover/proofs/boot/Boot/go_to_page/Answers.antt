@@ -10,10 +10,10 @@ use Rattle.thy_recover.proofs.boot.Boot.go_to_page.Goals as goal
 pub invariant_of-self : goal.invariant_of-self
 invariant_of-self c =
     let p : Parameters = c.self.inside.geometry in
-    let stage : c.stage_of_page-self-inside.result ≡ frames_of c.args.epoch (next_page c.args.from (tables_in p (blocks_of c.deref.result.now)))
-    = c.stage_of_page-self-inside.ensures ∙ ap (frames_of c.args.epoch) c.next_listed.ensures in
+    let stage : c.stage_of_page-self-inside.result ≡ frames_of (next_page c.args.from (tables_in p (blocks_of c.deref.result.now)))
+    = c.stage_of_page-self-inside.ensures ∙ ap frames_of c.next_listed.ensures in
     record {
       room = c.self.invariant.room;
       there = subst (λ (s : Stage). IsThere p s) (sym stage)
-          (IsThere-frames p c.args.epoch c.args.from (tables_in p (blocks_of c.deref.result.now)) (size_of_ptt p c.deref.result.now));
+          (IsThere-frames p c.args.from (tables_in p (blocks_of c.deref.result.now)) (size_of_ptt p c.deref.result.now));
     }

@@ -10,6 +10,6 @@ use Rattle.thy_recover.proofs.boot.Boot.judge.Goals as goal
 pub list_all-requires-clause-tables : goal.list_all-requires-clause-tables
 list_all-requires-clause-tables c =
     let p : Parameters = c.self.inside.geometry in
-    let fits : slot_fault p ceiling c.args.epoch (blocks_of c.deref.result.now) ≡ None = sym c.slot_fault.ensures ∙ c.in-None.is in
+    let fits : slot_fault p ceiling c.epoch-epoch.result (blocks_of c.deref.result.now) ≡ None = sym c.slot_fault.ensures ∙ c.in-None.is in
     subst (λ (bytes : List ℕ). IsTables p (tables_in p (blocks_of bytes))) (c.deref.ensures.value ∙ sym c.deref-in-None.ensures.value)
-    (tables_fit c.faultless_tables.ensures p ceiling c.args.epoch c.deref.result.now fits)
+    (tables_fit c.faultless_tables.ensures p ceiling c.epoch-epoch.result c.deref.result.now fits)

@@ -1,5 +1,5 @@
 use Rattle.std.proofs.Common.{refl}
-use Rattle.thy_recover.specs.declared.stage.Stage.TheVariants.{Header as IsHeader}
+use Rattle.thy_recover.specs.declared.stage.ReadStage.TheVariants.{Header}
 use Rattle.thy_recover.proofs.NearerLemmas.{nearer_ok, nearer_header}
 use Rattle.thy_base.specs.Device.{Device, newest}
 use Rattle.thy_recover.specs.Boot.{Booting, after_header}
@@ -12,13 +12,13 @@ pub returns-clause-read : goal.returns-clause-read
 returns-clause-read g c =
     let n : Device = g.N.Nvm.device c.args.nvm.now in
     let b : Booting = c.args.self.now in
-    at_ok (λ m d. HasRead m d c.args.control.now) c.read_header.result (g.N.Nvm.device c.read_header.new.nvm) n c.read_header.new.self (record b { stage = after_header b.p c.args.epoch c.args.fault (newest n 0) })
-    c.read_header.ensures.state c.read_header.ensures.reads.ok (read_header-found n b c.args.control.now c.args.epoch c.args.fault c.requires.stage c.requires.read)
+    at_ok (λ m d. HasRead m d c.args.control.now) c.read_header.result (g.N.Nvm.device c.read_header.new.nvm) n c.read_header.new.self (record b { stage = after_header b (newest n 0) })
+    c.read_header.ensures.state c.read_header.ensures.reads.ok (read_header-found n b c.args.control.now c.requires.stage c.requires.read)
 
 pub returns-clause-fewer : goal.returns-clause-fewer
 returns-clause-fewer g c =
     let n : Device = g.N.Nvm.device c.args.nvm.now in
     let b : Booting = c.args.self.now in
-    let stage = after_header b.p c.args.epoch c.args.fault (newest n 0) in
-    nearer_ok c.read_header.result b.p (IsHeader c.args.epoch c.args.fault) stage b c.read_header.new.self (record b { stage = stage })
-    c.requires.stage c.read_header.ensures.state refl (nearer_header b.p c.args.epoch c.args.fault (newest n 0))
+    let stage = after_header b (newest n 0) in
+    nearer_ok c.read_header.result b.p Header stage c.read_header.new.self (record b { stage = stage })
+    c.read_header.ensures.state refl (nearer_header b (newest n 0))
