@@ -22,7 +22,10 @@ use Rattle.thy_isa.specs.Step.{State, Setting, is_running, steps}
 use Rattle.thy_isa.proofs.StepLaws.{steps-add, steps-ended}
 use Rattle.thy_elf.specs.Image.{Contents, read_of}
 use Rattle.thy_text.specs.Event.{Event, Ended as EndedEvent}
-use Rattle.thy_text.specs.Marks.{Course, Marks, marks_after, AllLawful}
+use Rattle.thy_text.specs.Marks.{Marks, marks_after, AllLawful}
+use Rattle.thy_text.specs.OneHart.{Counts, AllLawfulAt, counts_of}
+use Rattle.thy_text.proofs.OneHartLaws.{to-counts}
+use Rattle.thy_run.proofs.PromiseLaws.{first_untold}
 use Rattle.thy_words.specs.declared.words.WordsError.{WordsError}
 use Rattle.thy_words.specs.declared.words.WordsError.TheVariants.{Usage, Word, Value, Memory as WordsMemory}
 use Rattle.thy_words.specs.Settings.{Job, Order, plain, make, settings_of}
@@ -75,13 +78,13 @@ same_end g s j k a b = elim (cases_order j k) as (λ _. steps g j s ≡ steps g 
 ]
 
 -- the status of the end among lawful events is that of a state of the plain machine, which has ended
-record IsEndOf (c : Course) (status : Status) : Type 0 where
+record IsEndOf (c : Counts) (status : Status) : Type 0 where
   count : ℕ
   is_status : status ≡ (c.at count).status
   over : is_running (c.at count).status ≡ false
 
-end_lawful : (c : Course) (m : Marks) (vs : List Event) (status : Status) (count cycle : ℕ) (state : State)
-    → AllLawful c m (vs ++ EndedEvent status count cycle state ∷ []) → IsEndOf c status
+end_lawful : (c : Counts) (m : Marks) (vs : List Event) (status : Status) (count cycle : ℕ) (state : State)
+    → AllLawfulAt c m (vs ++ EndedEvent status count cycle state ∷ []) → IsEndOf c status
 end_lawful c m [] status count cycle state all =
     let whole : state ≡ c.at count = all.0.0.whole in
     record {
@@ -254,10 +257,12 @@ module _ {M : Type 0} (K : KindOf M) (source : Source) (job : Job) (k : ℕ) (be
   told_end status e =
       let lawful : AllLawful (course_of o) (first_marks o) (e.before ++ EndedEvent status e.count e.cycle e.state ∷ []) =
       subst (AllLawful (course_of o) (first_marks o)) (h.run.events ∙ e.last) h.run.promise.events_lawful in
-      let end : IsEndOf (course_of o) status = end_lawful (course_of o) (first_marks o) e.before status e.count e.cycle e.state lawful in
+      let by_counts : AllLawfulAt (counts_of (course_of o)) (first_marks o) (e.before ++ EndedEvent status e.count e.cycle e.state ∷ []) =
+      to-counts (course_of o) (first_marks o) (e.before ++ EndedEvent status e.count e.cycle e.state ∷ []) refl (first_untold o.start.count o.kept) lawful in
+      let end : IsEndOf (counts_of (course_of o)) status = end_lawful (counts_of (course_of o)) (first_marks o) e.before status e.count e.cycle e.state by_counts in
       let j : ℕ = end.count - o.start.count in
-      let there : at o end.count ≡ steps (setting_of o) j o.start = at_is o end.count in
-      let here : at o (o.start.count + k) ≡ steps (setting_of o) k o.start = at_is o (o.start.count + k) ∙ ap (λ i. steps (setting_of o) i o.start) (let e : o.start.count + k - o.start.count ≡ k = omega arith in e) in
+      let there : at o end.count ≡ steps (setting_of o) j o.start = at_is o end.count refl in
+      let here : at o (o.start.count + k) ≡ steps (setting_of o) k o.start = at_is o (o.start.count + k) refl ∙ ap (λ i. steps (setting_of o) i o.start) (let e : o.start.count + k - o.start.count ≡ k = omega arith in e) in
       let ended_there : is_running (steps (setting_of o) j o.start).status ≡ false = ap (λ (x : State). is_running x.status) (sym there) ∙ end.over in
       let ended_here : is_running (steps (setting_of o) k o.start).status ≡ false = ap (λ (x : State). is_running x.status) (sym here) ∙ over_here in
       end.is_status ∙ ap (λ (x : State). x.status) (there ∙ same_end (setting_of o) o.start j k ended_there ended_here ∙ sym here ∙ sym left_here)
@@ -316,7 +321,7 @@ module _ (name : List ℕ) (job : Job) (k : ℕ) (before after : Outside) (a : A
       ∙ ap (at plain_at) (let e : plain_at.start.count + k ≡ k = omega (arith, none_before) in e)
 
   by_steps : (j : ℕ) → at plain_at j ≡ steps (setting_of plain_at) j plain_at.start
-  by_steps j = at_is plain_at j ∙ ap (λ i. steps (setting_of plain_at) i plain_at.start) (let e : j - plain_at.start.count ≡ j = omega (arith, none_before) in e)
+  by_steps j = at_is plain_at j refl ∙ ap (λ i. steps (setting_of plain_at) i plain_at.start) (let e : j - plain_at.start.count ≡ j = omega (arith, none_before) in e)
 
   -- the program ends where the machine stopped
   over_there : is_running (steps (setting_of plain_at) k plain_at.start).status ≡ false

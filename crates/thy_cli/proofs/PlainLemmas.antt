@@ -16,20 +16,22 @@ use Rattle.thy_cli.specs.declared.answer.Answer.{Answer}
 use Rattle.thy_run.specs.declared.ending.Stop.{Stop}
 use Rattle.thy_cli.specs.declared.source.Program.{Program}
 use Rattle.thy_view.specs.Origin.{Origin, setting_of, at, runs_at}
+use Rattle.thy_view.specs.Told.{told}
+use Rattle.thy_view.proofs.TurnLaws.{at-untold}
 use Rattle.thy_cli.specs.Answering.{Outside, IsPlainOf, ClosesRun, StopsAt, plain_stop, stop_line, stop_status}
 use Rattle.thy_cli.specs.Planning.{IsProgramOf}
 use Rattle.thy_cli.specs.Sources.{Beginning, file, origin_for}
 use Rattle.thy_run.specs.Sending.{Sent}
 
-pub at_is : (o : Origin) (k : ℕ) → at o k ≡ steps (setting_of o) (k - o.start.count) o.start
-unfolding at
-at_is o k = refl
+-- with no turn told the plain machine takes one step after another
+pub at_is : (o : Origin) (k : ℕ) → o.turns ≡ [] → at o k ≡ steps (setting_of o) (k - o.start.count) o.start
+at_is o k none = ap (λ (turns : List ℕ). at (told o turns) k) none ∙ at-untold o k
 
 -- what a program file begins by its steps
 begun_steps : (job : Job) (b : Beginning) (input : List ℕ) (first : State) (k : ℕ) → b.start ≡ first → first.count ≡ 0
     → at (origin_for job b input) k ≡ steps (setting_for (parameters_of job.config) input) k first
 begun_steps job b input first k is none =
-    at_is (origin_for job b input) k
+    at_is (origin_for job b input) k refl
     ∙ ap (λ (s : State). steps (setting_for (parameters_of job.config) input) (k - s.count) s) is
     ∙ ap (λ j. steps (setting_for (parameters_of job.config) input) j first) (let e : k - first.count ≡ k = omega (arith, none) in e)
 

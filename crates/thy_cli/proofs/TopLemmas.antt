@@ -346,7 +346,7 @@ IsBegun-begins source job stock b numbers none same h =
     let plan : Plan = plan_with job.config numbers b.start job.digest in
     let input : List ℕ = bytes_of b.start.input in
     let about : origin_of plan ≡ origin_for job h.program.begins h.program.input =
-    ap (λ q. record { geometry = q; start = state_of b.start.state; input = input; kept = b.start.kept }) same
+    ap (λ q. record { geometry = q; start = state_of b.start.state; input = input; kept = b.start.kept; turns = [] }) same
     ∙ ap (λ x. origin_for job x input) h.begins
     ∙ ap (origin_for job h.program.begins) h.input in
     record {

@@ -124,10 +124,10 @@ pub record IsProgram (source : Source) (job : Job) (stock : Stock) : Type 0 wher
   pub begins : Beginning
   pub means : meaning_of source job bytes input ≡ Ok begins
 
--- what a run is about, that begins so
+-- what a run is about, that begins so; with one hart no turn is told
 abbrev pub origin_for : Job → Beginning → List ℕ → Origin
 origin_for job begins input =
-    record { geometry = parameters_of job.config; start = begins.start; input = input; kept = begins.kept }
+    record { geometry = parameters_of job.config; start = begins.start; input = input; kept = begins.kept; turns = [] }
 
 -- ---- why there is no program
 

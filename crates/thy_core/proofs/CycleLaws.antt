@@ -1,5 +1,5 @@
 -- Each actor's cycle, from what its call leaves.
-use Rattle.std.proofs.Common.{◌≡◌, ◌≢◌, ◌⊎◌, ℕ, ◌-◌, ◌<◌, ◌^◌, Bool, List, true, false, if◌then◌else◌, length, Some, None, Result, Ok, Err, IfOk, OnErr, refl, sym, ◌∙◌, ap, subst, inl, inr, arith}
+use Rattle.std.proofs.Common.{◌≡◌, ◌≢◌, ◌⊎◌, ℕ, ◌-◌, ◌<◌, ◌≤◌, ◌^◌, Bool, List, true, false, if◌then◌else◌, length, Some, None, Result, Ok, Err, IfOk, OnErr, refl, sym, ◌∙◌, ap, subst, inl, inr, arith}
 use Rattle.thy_base.specs.declared.cause.EndCause.{EndCause}
 use Rattle.thy_base.specs.declared.nvm.NvmError.{NvmError}
 use Rattle.thy_base.specs.Marks.{mark}
@@ -23,8 +23,10 @@ use Rattle.thy_view.specs.declared.did.Did.TheVariants.{Moved, Retired, Flushed 
 use Rattle.thy_view.specs.declared.did.Stall.TheVariants.{Booting, Sealing, Waiting, Halted}
 use Rattle.thy_view.specs.declared.view.Phase.{Phase}
 use Rattle.thy_view.specs.declared.view.Phase.TheVariants.{Boot, Run, Halt}
+use Rattle.thy_view.specs.declared.view.View.{View}
 use Rattle.thy_view.specs.Action.{Action, Rest, ReadAt, WriteAt, Barrier as ActBarrier, Drain, after}
 use Rattle.thy_view.specs.Origin.{Origin}
+use Rattle.thy_view.specs.Told.{IsThere}
 use Rattle.thy_view.specs.Turn.{Actor, Nvm, Dram, Checkpoint, TheHart, Pressure, Does, Prepares}
 use Rattle.thy_scheme.specs.declared.behind.Behind.{Behind}
 use Rattle.thy_scheme.specs.Behind.{failed_calls, held_behind, IsOneCall}
@@ -36,12 +38,12 @@ use Rattle.thy_scheme.specs.declared.boot_step.BootStep.{BootStep}
 use Rattle.thy_scheme.specs.declared.boot_step.BootStep.TheVariants.{GoesOn, Loaded, Restarted, Refused}
 use Rattle.thy_core.specs.declared.parts.Parts.{Parts}
 use Rattle.thy_core.specs.Parts.{machine_of, IsRestartBelow}
-use Rattle.thy_core_model.specs.Machine.{Machine, moment_of, pressure_of}
+use Rattle.thy_core_model.specs.Machine.{Machine, view_of, moment_of, pressure_of}
 use Rattle.thy_core_model.specs.Sound.{OpenNow, Sound}
 use Rattle.thy_core_model.specs.Calls.{IsAsked, HartCall, FlushCall, retires_by, hart_did, after_hart, after_flush, after_call, after_drain, after_seal, after_engine, after_boot}
 use Rattle.thy_core_model.specs.Rows.{IsMoment, At, HartGoes, IsSealing, Leads}
 use Rattle.thy_core.specs.Cycles.{IsEngineDue, IsTurnOf, IsCycle, HasFailedAs, LeadsAs, FailsAs}
-use Rattle.thy_core_model.proofs.Facts.{sound-run, holds-run, is-going}
+use Rattle.thy_core_model.proofs.Facts.{view-run, sound-run, holds-run, is-going}
 use Rattle.thy_core_model.proofs.KeepsLaws.{stands, runs_behind}
 use Rattle.thy_core_model.proofs.BootingLaws.{sound-boot, small-boot}
 use Rattle.thy_core_model.proofs.DrainRows.{nvm_drain_leads, nothing_leads, dram_drain_leads, boot_drain_leads}
@@ -100,6 +102,23 @@ due_engine lap TableBlock p = tt
 due_engine lap Barrier p = tt
 due_engine lap CommitWritten p = tt
 due_engine lap (Committed epoch) p = tt
+
+-- they retire no instruction
+there_boot : (o : Origin) (v : View) (step : BootStep) → IsThere o v (boot_did step)
+there_boot o v GoesOn = tt
+there_boot o v Loaded = tt
+there_boot o v (Restarted cpu epoch) = tt
+there_boot o v (Refused bad) = tt
+
+there_engine : (o : Origin) (v : View) (lap : ℕ) (step : EngineStep) → IsThere o v (engine_did lap step)
+there_engine o v lap Idle = tt
+there_engine o v lap Copied = tt
+there_engine o v lap PageBlock = tt
+there_engine o v lap StateBlock = tt
+there_engine o v lap TableBlock = tt
+there_engine o v lap Barrier = tt
+there_engine o v lap CommitWritten = tt
+there_engine o v lap (Committed epoch) = tt
 
 -- ---- a cycle that failed
 
@@ -175,7 +194,7 @@ module _ {S : Type 0} (K : SchemeOf S) (o : Origin) (cycles : ℕ) (m : Machine 
       → ((p : Origin) (k : Marks) (d : Device) → Stands K p k m.scheme d → Drains K p k m.scheme d t)
       → ((p : Origin) (d : Device) → IsBooting K p m.scheme d → BootDrains K p m.scheme d t)
       → IsCycle K o cycles Dram DramDrained m n (after_drain t m) n
-  drain_cycle t some running booting = record { does = refl; due = tt; leads = drains_in m.phase t refl some running booting }
+  drain_cycle t some running booting = record { does = refl; due = tt; there = tt; leads = λ mine. drains_in m.phase t refl some running booting }
 
   -- ---- the engine
 
@@ -185,17 +204,22 @@ module _ {S : Type 0} (K : SchemeOf S) (o : Origin) (cycles : ℕ) (m : Machine 
   engine_cycle t new step next did due e is says =
       subst (λ x. IsCycle K o cycles Checkpoint did m n x new) (sym is)
       (subst (λ d. IsCycle K o cycles Checkpoint d m n (after_engine step t m) new) (sym says)
-      (record { does = does_engine m.lap step; due = due_engine m.lap step (pressure_of K m); leads = engine_leads K o cycles m n t new step at due.0 due.1 e }))
+      (record {
+        does = does_engine m.lap step;
+        due = due_engine m.lap step (pressure_of K m);
+        there = there_engine o (view_of K o m n) m.lap step;
+        leads = λ mine. engine_leads K o cycles m n t new step at due.0 due.1 e;
+      }))
 
   -- ---- before a seal
 
   pub promotion_cycle : (t : S) (new : Device) → IsSealing K o m n → K.promoting m.scheme ≡ true → Promotes K o m.marks m.scheme n t new
       → IsCycle K o cycles (TheHart (Some Sealing)) Promoted m n (after_call t m) new
-  promotion_cycle t new sealing promoting p = record { does = refl; due = promoting; leads = promotion_leads K o cycles m n t new at sealing promoting p }
+  promotion_cycle t new sealing promoting p = record { does = refl; due = promoting; there = tt; leads = λ mine. promotion_leads K o cycles m n t new at sealing promoting p }
 
   pub merge_cycle : (t : S) → IsSealing K o m n → K.promoting m.scheme ≡ false → dirty_count m.cache ≡ 0 → K.overlaid m.scheme ≡ true → Merges K o m.marks m.scheme n t
       → IsCycle K o cycles (TheHart (Some Sealing)) Merged m n (after_call t m) n
-  merge_cycle t sealing whole clean overlaid p = record { does = refl; due = (whole, clean, overlaid); leads = merge_leads K o cycles m n t at sealing whole clean p }
+  merge_cycle t sealing whole clean overlaid p = record { does = refl; due = (whole, clean, overlaid); there = tt; leads = λ mine. merge_leads K o cycles m n t at sealing whole clean p }
 
   -- ---- the seal
 
@@ -211,7 +235,7 @@ module _ {S : Type 0} (K : SchemeOf S) (o : Origin) (cycles : ℕ) (m : Machine 
       subst (λ x. IsCycle K o cycles (TheHart (Some Sealing)) (Sealed epoch count cause) m n x n) (sym is)
       (subst (λ e. IsCycle K o cycles (TheHart (Some Sealing)) (Sealed e count cause) m n (after_seal t m) n) (sym number)
       (subst (λ i. IsCycle K o cycles (TheHart (Some Sealing)) (Sealed m.hart.epoch.number i cause) m n (after_seal t m) n) (sym at_count)
-      (record { does = refl; due = (whole, clean, bare); leads = seal_leads K o cycles m n t cause at sealing whole bare clean (sym over) p })))
+      (record { does = refl; due = (whole, clean, bare); there = tt; leads = λ mine. seal_leads K o cycles m n t cause at sealing whole bare clean (sym over) p })))
 
   -- ---- the hart
 
@@ -238,13 +262,24 @@ module _ {S : Type 0} (K : SchemeOf S) (o : Origin) (cycles : ℕ) (m : Machine 
         opened = subst (λ x. OpenNow x m.cache m.hart (K.holding m.scheme n).open_page) going.going run.held.opened;
       }
 
-  due_hart : (retired : Bool) (p : Pressure) → Prepares (if retired then Retired else Moved) p
+  due_hart : (retired : Bool) (p : Pressure) → Prepares (if retired then Retired 0 else Moved) p
   due_hart true p = tt
   due_hart false p = tt
 
-  does_hart : (retired : Bool) → Does (if retired then Retired else Moved) (TheHart None)
+  does_hart : (retired : Bool) → Does (if retired then Retired 0 else Moved) (TheHart None)
   does_hart true = refl
   does_hart false = refl
+
+  -- it is hart 0, which is there
+  there_hart : HartGoes K o m n → (retired : Bool) → IsThere o (view_of K o m n) (if retired then Retired 0 else Moved)
+  there_hart goes true =
+      let shown = view-run K o m n goes.phase in
+      record {
+        there = refl;
+        runs = ap (λ (v : View). v.phase) shown ∙ goes.phase;
+        late = subst (λ (v : View). o.start.count ≤ v.count) (sym shown) (sound-run K o cycles m n at.sound goes.phase).counted.start;
+      }
+  there_hart goes false = tt
 
   pub hart_cycle : (h : Core) (c : Contents) (t : S) (new : Device) (step : HartStep) (next : Machine S) (did : Did) → HartGoes K o m n
       → HartCall K (given o.input (K.free m.scheme) (K.under_way m.scheme)) m n h c t new step
@@ -252,13 +287,18 @@ module _ {S : Type 0} (K : SchemeOf S) (o : Origin) (cycles : ℕ) (m : Machine 
   hart_cycle h c t new step next did goes hs is says =
       subst (λ x. IsCycle K o cycles (TheHart None) did m n x new) (sym is)
       (subst (λ d. IsCycle K o cycles (TheHart None) d m n (after_hart step h c t m) new) (sym says)
-      (record { does = does_hart (retires_by step); due = due_hart (retires_by step) (pressure_of K m); leads = hart-leads K o cycles m n h c t new step at goes hs }))
+      (record {
+        does = does_hart (retires_by step);
+        due = due_hart (retires_by step) (pressure_of K m);
+        there = there_hart goes (retires_by step);
+        leads = hart-leads K o cycles m n h c t new step at goes hs;
+      }))
 
   -- ---- a flush
 
   pub flush_cycle : (c : Contents) (t : S) (new : Device) (flushed : Flushed) → IsSealing K o m n → K.promoting m.scheme ≡ false → dirty_count m.cache ≢ 0
       → FlushCall K m n flushed c t new → IsCycle K o cycles (TheHart (Some Sealing)) DidFlush m n (after_flush c t m) new
-  flush_cycle c t new flushed sealing whole dirty f = record { does = refl; due = (whole, dirty); leads = flush_leads K o cycles m n c t new flushed at sealing whole f }
+  flush_cycle c t new flushed sealing whole dirty f = record { does = refl; due = (whole, dirty); there = tt; leads = λ mine. flush_leads K o cycles m n c t new flushed at sealing whole f }
 
   -- ---- the boot
 
@@ -278,16 +318,21 @@ module _ {S : Type 0} (K : SchemeOf S) (o : Origin) (cycles : ℕ) (m : Machine 
   boot_cycle t new step next did e b is says =
       subst (λ x. IsCycle K o cycles (TheHart (Some Booting)) did m n x new) (sym is)
       (subst (λ d. IsCycle K o cycles (TheHart (Some Booting)) d m n (after_boot o step t m) new) (sym says)
-      (record { does = does_boot step; due = due_boot step (pressure_of K m); leads = boot_leads K o cycles m n t new step at e b }))
+      (record {
+        does = does_boot step;
+        due = due_boot step (pressure_of K m);
+        there = there_boot o (view_of K o m n) step;
+        leads = λ mine. boot_leads K o cycles m n t new step at e b;
+      }))
 
   -- ---- the NVM's queue, and nothing
 
   pub land_cycle : (new : Device) → 0 < length n.queue → new ≡ drained n → IsCycle K o cycles Nvm NvmDrained m n m new
   land_cycle new some is =
-      subst (λ d. IsCycle K o cycles Nvm NvmDrained m n m d) (sym is) (record { does = refl; due = tt; leads = nvm_drain_leads K o cycles m n at some })
+      subst (λ d. IsCycle K o cycles Nvm NvmDrained m n m d) (sym is) (record { does = refl; due = tt; there = tt; leads = λ mine. nvm_drain_leads K o cycles m n at some })
 
   pub rest_cycle : m.phase ≡ Halt → IsCycle K o cycles (TheHart (Some Halted)) Nothing m n m n
-  rest_cycle e = record { does = refl; due = tt; leads = nothing_leads K o cycles m n at e }
+  rest_cycle e = record { does = refl; due = tt; there = tt; leads = λ mine. nothing_leads K o cycles m n at e }
 
 -- ---- the engine works for a hart that waits
 
@@ -297,7 +342,7 @@ waits_does (DidCommit epoch overlapped) d = inr refl
 waits_does NvmDrained d = absurd (cc)
 waits_does DramDrained d = absurd (cc)
 waits_does Moved d = absurd (cc)
-waits_does Retired d = absurd (cc)
+waits_does (Retired hart) d = absurd (cc)
 waits_does DidFlush d = absurd (cc)
 waits_does Merged d = absurd (cc)
 waits_does (Sealed epoch count cause) d = absurd (cc)
@@ -310,7 +355,7 @@ waits_does (DidRefuse bad) d = absurd (cc)
 
 pub waits_cycle : {S : Type 0} (K : SchemeOf S) (o : Origin) (cycles : ℕ) (did : Did) (m next : Machine S) (n new : Device)
     → IsCycle K o cycles Checkpoint did m n next new → IsCycle K o cycles (TheHart (Some Waiting)) did m n next new
-waits_cycle K o cycles did m next n new c = record { does = waits_does did c.does; due = c.due; leads = c.leads }
+waits_cycle K o cycles did m next n new c = record { does = waits_does did c.does; due = c.due; there = c.there; leads = c.leads }
 
 pub waits_failed : {S : Type 0} (K : SchemeOf S) (o : Origin) (m next : Machine S) (n new : Device)
     → HasFailedAs K o Checkpoint m next n new → HasFailedAs K o (TheHart (Some Waiting)) m next n new

@@ -33,6 +33,7 @@ use Rattle.thy_core_model.specs.Kind.{kind_over}
 use Rattle.thy_core_model.specs.Machine.{Machine, memory_of, run_view, view_in, view_of}
 use Rattle.thy_core_model.specs.Sound.{SoundRun, SoundIn, Sound, SoundStopped}
 use Rattle.thy_core.specs.Reading.{IsRoomy, IsUnwritten, ReadsState}
+use Rattle.thy_core_model.proofs.MomentLaws.{sound-here}
 use Rattle.thy_core.proofs.TakenLaws.{phase_in}
 
 -- the bytes of memory and console make the state
@@ -130,7 +131,9 @@ unwritten_in K l o k m n Halt s e between = unwritten_behind K o k m n Halt s e 
 -- and what is read where none has, is the state there too
 pub reads_between : {S : Type 0} (K : SchemeOf S) (l : IsLawful K) (m : Machine S) (n : Device) (r : Result MachState CoreError) → ReadsState K m n r
     → Snapshots (kind_over K) m n r
-reads_between K l m n r reads = λ o k s between. reads o k s (unwritten_in K l o k m n m.phase s refl between)
+reads_between K l m n r reads = λ o k at between.
+    let s = sound-here K o k m n at in
+    reads o k s (unwritten_in K l o k m n m.phase s refl between)
 
 -- where none has written a block, what was read is the plain machine's state
 pub snapshot_is : {S : Type 0} (K : SchemeOf S) (o : Origin) (k : ℕ) (m : Machine S) (n : Device) (s : MachState) → Sound K o k m n

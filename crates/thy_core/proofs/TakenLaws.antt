@@ -1,23 +1,30 @@
 -- A cycle of the actor whose turn it is, is a step of a machine.
-use Rattle.std.proofs.Common.{◌≡◌, ℕ, ◌+◌, ◌<◌, ◌^◌, ◌&&◌, not, true, length, refl, sym, ◌∙◌, ap, subst}
+use Rattle.std.proofs.Common.{◌≡◌, ℕ, ◌+◌, ◌<◌, ◌^◌, ◌&&◌, not, true, false, length, refl, sym, ◌∙◌, ap, subst}
 use Rattle.thy_base.specs.declared.mix.Pick.{Pick}
 use Rattle.thy_base.specs.Device.{Device}
+use Rattle.thy_record.specs.declared.start.Start.{Start}
+use Rattle.thy_view.specs.declared.did.Did.{Did}
 use Rattle.thy_view.specs.declared.did.Stepped.{Stepped}
 use Rattle.thy_view.specs.declared.view.Phase.{Phase}
 use Rattle.thy_view.specs.declared.view.Phase.TheVariants.{Boot, Run, Halt}
+use Rattle.thy_view.specs.declared.view.View.{View}
 use Rattle.thy_view.specs.Kind.{IsStep, LeavesSafe}
-use Rattle.thy_view.specs.Origin.{Origin}
+use Rattle.thy_view.specs.Origin.{Origin, Begins}
+use Rattle.thy_view.specs.Told.{told, IsThere, HasTurn}
 use Rattle.thy_view.specs.Turn.{Actor, Does, told_at, turn_of}
 use Rattle.thy_view.specs.Views.{is_halt}
 use Rattle.thy_scheme.specs.Scheme.{SchemeOf}
 use Rattle.thy_scheme.specs.Laws.{IsLawful}
 use Rattle.thy_core_model.specs.Machine.{Machine, view_in, view_of, pressure_of}
-use Rattle.thy_core_model.specs.Sound.{Sound}
+use Rattle.thy_core_model.specs.Sound.{Sound, IsAt}
 use Rattle.thy_core_model.specs.Kind.{kind_over}
 use Rattle.thy_core_model.specs.Rows.{IsMoment, At}
 use Rattle.thy_core.specs.Turns.{turn_now}
 use Rattle.thy_core.specs.Cycles.{IsTurnOf, IsCycle, HasFailedAs}
+use Rattle.thy_view.proofs.TurnLaws.{Begins-told}
+use Rattle.thy_view.proofs.ReachLaws.{finds-turns}
 use Rattle.thy_core_model.proofs.Facts.{view-run}
+use Rattle.thy_core_model.proofs.MomentLaws.{sound-here, view-alike, leads_to_moment}
 use Rattle.thy_core_model.proofs.BootingLaws.{view-boot, holds-boot, uncounted}
 use Rattle.thy_core_model.proofs.StepLaws.{leading_is_step, failing_is_safe}
 use Rattle.thy_core.proofs.TurnLaws.{turn_is, at_turn}
@@ -48,15 +55,45 @@ actor_is K o cycles pick nvm actor m n at queued is =
 
 pub step_taken : {S : Type 0} (K : SchemeOf S) (o : Origin) (cycles : ℕ) (pick : Pick) (nvm : ℕ) (actor : Actor) (m next : Machine S) (n new : Device) (r : Stepped)
     → At K o cycles m n → nvm ≡ length n.queue → actor ≡ turn_now K pick nvm m → IsCycle K o cycles actor r.did m n next new
-    → r.stall ≡ told_at actor → r.ended ≡ (not (is_halt m.phase) && is_halt next.phase) → IsStep (kind_over K) o cycles pick m next n new r
-step_taken K o cycles pick nvm actor m next n new r at queued is c stall ended =
+    → HasTurn o (view_of K o m n) r.did → IsAt K o (cycles + 1) next new → r.stall ≡ told_at actor → r.ended ≡ (not (is_halt m.phase) && is_halt next.phase) → IsStep (kind_over K) o cycles pick m next n new r
+step_taken K o cycles pick nvm actor m next n new r at queued is c mine at_next stall ended =
     let turn = actor_is K o cycles pick nvm actor m n (moment_of K o cycles m n at) queued is in
     let before = phase_in K at.lawful o cycles m n m.phase at.sound refl in
-    let behind = phase_in K at.lawful o (cycles + 1) next new next.phase c.leads.at_next refl in
-    leading_is_step K o cycles pick m next n new r at c.leads
+    let leads = c.leads mine in
+    let behind = phase_in K at.lawful o (cycles + 1) next new next.phase leads.at_next refl in
+    leading_is_step K o cycles pick m next n new r at leads at_next
     (subst (Does r.did) turn c.does, stall ∙ ap told_at turn, c.due)
     (ended ∙ ap (λ x. not (is_halt x) && is_halt next.phase) (sym before)
     ∙ ap (λ x. not (is_halt (view_of K o m n).phase) && is_halt x) (sym behind))
+
+-- ---- whatever turns are to come
+
+-- a cycle that is the actor's along all turns that agree so far is a step of a machine
+pub steps_taken : {S : Type 0} (K : SchemeOf S) (l : IsLawful K) (o : Origin) (cycles : ℕ) (pick : Pick) (nvm : ℕ) (actor : Actor) (start : Start) (m next : Machine S) (n new : Device) (r : Stepped)
+    → cycles < 2 ^ 62 → Begins o start → IsAt K o cycles m n → nvm ≡ length n.queue → actor ≡ turn_now K pick nvm m
+    → ((p : Origin) → Begins p start → Sound K p cycles m n → IsCycle K p cycles actor r.did m n next new)
+    → r.stall ≡ told_at actor → r.ended ≡ (not (is_halt m.phase) && is_halt next.phase)
+    → IsThere o (view_of K o m n) r.did × (HasTurn o (view_of K o m n) r.did → IsStep (kind_over K) o cycles pick m next n new r)
+steps_taken K l o cycles pick nvm actor start m next n new r few begins at queued is cycle stall ended =
+    let here = sound-here K o cycles m n at in
+    let c = cycle o begins here in (
+      c.there,
+      λ mine.
+          step_taken K o cycles pick nvm actor m next n new r (at_run K l o cycles m n here few) queued is c mine
+          (leads_to_moment K o cycles r.did m next n new l
+          (λ turns agree theirs. (cycle (told o turns) (Begins-told o turns start begins) (at turns agree)).leads theirs) mine)
+          stall ended,
+    )
+
+-- and has failed in nothing
+pub unfailed_after : {S : Type 0} (K : SchemeOf S) (l : IsLawful K) (o : Origin) (cycles : ℕ) (actor : Actor) (start : Start) (m next : Machine S) (n new : Device) (did : Did)
+    → Begins o start → IsAt K o cycles m n → ((p : Origin) → Begins p start → Sound K p cycles m n → IsCycle K p cycles actor did m n next new)
+    → next.failed ≡ false
+unfailed_after K l o cycles actor start m next n new did begins at cycle =
+    let found = finds-turns o (view_of K o m n) did (cycle o begins (sound-here K o cycles m n at)).there in
+    let theirs : HasTurn (told o found.0) (view_of K (told o found.0) m n) did
+    = subst (λ (v : View). HasTurn (told o found.0) v did) (sym (view-alike K l o found.0 m n)) found.2 in
+    ((cycle (told o found.0) (Begins-told o found.0 start begins) (at found.0 found.1)).leads theirs).at_next.unfailed
 
 pub step_failed : {S : Type 0} (K : SchemeOf S) (o : Origin) (cycles : ℕ) (pick : Pick) (nvm : ℕ) (actor : Actor) (m next : Machine S) (n new : Device)
     → IsMoment K o cycles m n → nvm ≡ length n.queue → actor ≡ turn_now K pick nvm m → HasFailedAs K o actor m next n new

@@ -8,9 +8,10 @@ use Rattle.thy_view.specs.declared.did.Stall.{Stall}
 use Rattle.thy_view.specs.declared.did.Stall.TheVariants.{Booting, Sealing, Waiting, Halted}
 use Rattle.thy_view.specs.declared.view.Phase.TheVariants.{Boot, Run, Halt}
 use Rattle.thy_view.specs.Origin.{Origin, Begins}
+use Rattle.thy_view.specs.Told.{IsThere, HasTurn}
 use Rattle.thy_view.specs.Turn.{Actor, Nvm, Dram, Checkpoint, TheHart, Does, Prepares}
 use Rattle.thy_scheme.specs.Scheme.{SchemeOf}
-use Rattle.thy_core_model.specs.Machine.{Machine, pressure_of}
+use Rattle.thy_core_model.specs.Machine.{Machine, view_of, pressure_of}
 use Rattle.thy_core_model.specs.Rows.{IsMoment, At, HartGoes, IsSealing, Leads}
 use Rattle.thy_core_model.specs.Failures.{Fails}
 
@@ -51,11 +52,12 @@ pub record CanTake {S : Type 0} (K : SchemeOf S) (P : Origin → Type 0) (actor 
   pub at_moment : At K o cycles m n
   pub turn : IsTurnOf K o m n actor
 
--- a cycle that did this was the actor's, and leads on
+-- a cycle that did this was the actor's, and leads on where an instruction that it retired has its turn
 pub record IsCycle {S : Type 0} (K : SchemeOf S) (o : Origin) (cycles : ℕ) (actor : Actor) (did : Did) (m : Machine S) (n : Device) (next : Machine S) (new : Device) : Type 0 where
   pub does : Does did actor
   pub due : Prepares did (pressure_of K m)
-  pub leads : Leads K o cycles did m n next new
+  pub there : IsThere o (view_of K o m n) did
+  pub leads : HasTurn o (view_of K o m n) did → Leads K o cycles did m n next new
 
 -- a cycle of the actor's failed, and leaves what is safe, and the hart as it was
 pub record HasFailedAs {S : Type 0} (K : SchemeOf S) (o : Origin) (actor : Actor) (m next : Machine S) (n new : Device) : Type 0 where

@@ -34,7 +34,7 @@ pub(crate) fn execute<N: Nvm, S: Scheme>(
     Ok(count(m, step))
 }
 
-/// Counts a step of the hart.
+/// Counts a step of the hart, which is hart 0.
 fn count<S>(m: &mut Parts<S>, step: HartStep) -> Did
     requires spent { m.old.spent + 1 < 2 ^ 64 }
     requires lap { m.old.lap + 1 < 2 ^ 64 }
@@ -44,7 +44,7 @@ fn count<S>(m: &mut Parts<S>, step: HartStep) -> Did
     m.spent += 1;
     if retires(step) {
         m.lap += 1;
-        Did::Retired
+        Did::Retired(0)
     } else {
         Did::Moved
     }

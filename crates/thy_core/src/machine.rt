@@ -6,7 +6,7 @@ ghost use Rattle.thy_view.specs.declared.view.View.{View};
 ghost use Rattle.thy_view.specs.Kind.{CanStep, CanRead, CanSnapshot, LeadsOn, FailsSafe, IsDramOf, SnapshotsStopped, ShowsConsole, LeavesAlonePast, TellsLoading, HasFailedToRead};
 ghost use Rattle.thy_view.specs.Origin.{Origin};
 ghost use Rattle.thy_core_model.specs.Kind.{kind_over};
-ghost use Rattle.thy_core_model.specs.Sound.{Sound, SoundStopped, IsPowered};
+ghost use Rattle.thy_core_model.specs.Sound.{IsAt, SoundStopped, IsPowered};
 ghost use Rattle.thy_core.specs.Reading.{ReadsState};
 
 use crate::parts::Parts;
@@ -63,7 +63,7 @@ impl<S: Scheme> Machine<S> {
     /// again, after a step that failed too.
     pub fn cut(self, pick: u64) -> Dram
         ensures drawn { result ≡ lost (S.scheme.dram self.scheme) pick }
-        ensures sized { (o : Origin) (k : ℕ) (n : Device) → Sound S.scheme o k self n → IsDramOf o.geometry result }
+        ensures sized { (o : Origin) (k : ℕ) (n : Device) → IsAt S.scheme o k self n → IsDramOf o.geometry result }
         ensures stopped { (o : Origin) (before : View) → SoundStopped S.scheme o before self → IsDramOf o.geometry result }
     {
         power::cut(self.parts, pick)

@@ -7,7 +7,7 @@ ghost use Rattle.thy_view.specs.Kind.{IsDramOf, TellsLoading};
 ghost use Rattle.thy_view.specs.Origin.{Origin};
 ghost use Rattle.thy_core_model.specs.Kind.{kind_over};
 ghost use Rattle.thy_core.specs.Parts.{machine_of};
-ghost use Rattle.thy_core_model.specs.Sound.{Sound, SoundStopped, IsPowered};
+ghost use Rattle.thy_core_model.specs.Sound.{IsAt, SoundStopped, IsPowered};
 
 use crate::parts::{Checkpoints, Consoles, Parts};
 use std::alloc::{AllocError, Global};
@@ -78,7 +78,7 @@ pub(crate) fn is_loading<S: Scheme>(m: &Parts<S>) -> bool
 /// Loses power: all is gone but the DRAM, whose bytes are those that the pick draws.
 pub(crate) fn cut<S: Scheme>(m: Parts<S>, pick: u64) -> Dram
     ensures drawn { result ≡ lost (S.scheme.dram m.behind.scheme) pick }
-    ensures sized { (o : Origin) (k : ℕ) (n : Device) → Sound S.scheme o k (machine_of m) n → IsDramOf o.geometry result }
+    ensures sized { (o : Origin) (k : ℕ) (n : Device) → IsAt S.scheme o k (machine_of m) n → IsDramOf o.geometry result }
     ensures stopped { (o : Origin) (before : View) → SoundStopped S.scheme o before (machine_of m) → IsDramOf o.geometry result }
 {
     m.behind.scheme.cut(pick)

@@ -1,32 +1,19 @@
 -- The plain machine at a count, and the processor's part of a state.
-use Rattle.std.proofs.Common.{◌≡◌, ℕ, suc, ◌+◌, ◌-◌, ◌≤◌, true, List, [], refl, sym, ◌∙◌, ap, arith, inl, inr}
+use Rattle.std.proofs.Common.{◌≡◌, ℕ, ◌+◌, ◌≤◌, true, List, [], refl, sym, ◌∙◌, ap, arith, inl, inr}
 use Rattle.std.proofs.lemmas.Bool.{cases_lt}
 use Rattle.thy_base.specs.declared.block.Block.{Block}
 use Rattle.thy_base.specs.declared.config.Parameters.{Parameters}
 use Rattle.thy_isa.specs.declared.state.CpuState.{CpuState}
 use Rattle.thy_isa.specs.OnBlocks.{state_from}
-use Rattle.thy_isa.specs.Step.{State, state_with, step, steps}
+use Rattle.thy_isa.specs.Step.{State, state_with}
 use Rattle.thy_isa.proofs.StepLaws.{step-count}
 use Rattle.thy_hart.specs.Core.{Core}
 use Rattle.thy_hart.specs.OneStep.{current}
 use Rattle.thy_view.specs.Kind.{without_memory}
-use Rattle.thy_view.specs.Origin.{Origin, setting_of, at, runs_at}
+use Rattle.thy_view.specs.Origin.{Origin, setting_of, turn_at, at, runs_at}
+use Rattle.thy_view.proofs.TurnLaws.{at-step, at-early}
 
--- one instruction on
-pub at-next : (o : Origin) (k : ℕ) → o.start.count ≤ k → at o (k + 1) ≡ step (setting_of o) (at o k)
-unfolding at steps
-at-next o k l =
-    let e : k + 1 - o.start.count ≡ suc (k - o.start.count) = omega arith in
-    ap (λ i. steps (setting_of o) i o.start) e
-
--- before the start's count there is the start
-pub at-early : (o : Origin) (k : ℕ) → k ≤ o.start.count → at o k ≡ o.start
-unfolding at steps
-at-early o k l =
-    let e : k - o.start.count ≡ 0 = omega arith in
-    ap (λ i. steps (setting_of o) i o.start) e
-
--- so a state that has its count is not before the start
+-- a state that has its count is not before the start
 pub at-late : (o : Origin) (k : ℕ) → (at o k).count ≡ k → o.start.count ≤ k
 at-late o k h = elim (cases_lt k o.start.count) as (λ _. o.start.count ≤ k) [
   | inl l ↦
@@ -35,10 +22,10 @@ at-late o k h = elim (cases_lt k o.start.count) as (λ _. o.start.count ≤ k) [
   | inr l ↦ l
 ]
 
--- an instruction adds one to the count
-pub at-count : (o : Origin) (k : ℕ) → o.start.count ≤ k → (at o k).count ≡ k → runs_at o k ≡ true → (at o (k + 1)).count ≡ k + 1
-at-count o k late is runs =
-    ap (λ s. s.count) (at-next o k late) ∙ step-count (setting_of o) (at o k) runs ∙ ap (λ i. i + 1) is
+-- an instruction of hart 0 adds one to the count
+pub at-count : (o : Origin) (k : ℕ) → o.start.count ≤ k → turn_at o k ≡ 0 → (at o k).count ≡ k → runs_at o k ≡ true → (at o (k + 1)).count ≡ k + 1
+at-count o k late mine is runs =
+    ap (λ s. s.count) (at-step o k late mine) ∙ step-count (setting_of o) (at o k) runs ∙ ap (λ i. i + 1) is
 
 -- the processor's part of the state where the hart is
 pub count-current : (h : Core) (memory : List Block) → (current h memory).count ≡ h.cpu.count

@@ -26,7 +26,7 @@ use Rattle.thy_view.specs.Action.{Rest, Acts}
 use Rattle.thy_view.specs.CoreStep.{busier, over_at}
 use Rattle.thy_view.specs.Dram.{WritesBlock}
 use Rattle.thy_view.specs.Kind.{without_memory}
-use Rattle.thy_view.specs.Origin.{Origin, at, runs_at}
+use Rattle.thy_view.specs.Origin.{Origin, turn_at, at, runs_at}
 use Rattle.thy_view.specs.Pace.{Gauge}
 use Rattle.thy_view.specs.Stores.{stored_by}
 use Rattle.thy_view.specs.Turn.{Shortage, over_by}
@@ -34,16 +34,17 @@ use Rattle.thy_view.specs.Work.{MovesOn}
 use Rattle.thy_scheme.specs.Scheme.{SchemeOf}
 use Rattle.thy_scheme.specs.Calls.{owed_in}
 use Rattle.thy_scheme.specs.Behind.{held_behind}
-use Rattle.thy_core_model.specs.Machine.{Machine, run_view, moment_of, memory_of, short_of, moves_while, gauge_in}
+use Rattle.thy_core_model.specs.Machine.{Machine, run_view, view_of, moment_of, memory_of, short_of, moves_while, gauge_in}
 use Rattle.thy_core_model.specs.Pace.{instructions_left, flushes_left, hart_left, cycles_left}
 use Rattle.thy_core_model.specs.Sound.{OpenNow, IsToWrite, IsFresh, StartsFresh}
 use Rattle.thy_core_model.specs.Calls.{IsAsked, HartCall}
 use Rattle.thy_core_model.specs.Rows.{At, HartGoes, HartLeads}
-use Rattle.thy_core_model.proofs.AtLemmas.{at-next, at-count, count-current, status-current, processor-current}
+use Rattle.thy_view.proofs.TurnLaws.{at-step}
+use Rattle.thy_core_model.proofs.AtLemmas.{at-count, count-current, status-current, processor-current}
 use Rattle.thy_core_model.proofs.EpochLemmas.{retired-on, few-moves}
 use Rattle.thy_core_model.proofs.HandLaws.{hand_writes}
 use Rattle.thy_core_model.proofs.WorkLaws.{moves_over}
-use Rattle.thy_core_model.proofs.Facts.{sound-run, holds-run, is-going}
+use Rattle.thy_core_model.proofs.Facts.{view-run, sound-run, holds-run, is-going}
 use Rattle.thy_core_model.proofs.ToldLemmas.{shortage, IsRetired, IsMoved, IsExhausted, IsWaiting, Told, told}
 use Rattle.thy_core_model.proofs.HartRow.{hart_on, IsOn, is-on, IsNext, leads-next}
 
@@ -316,7 +317,7 @@ exhausted-next K o cycles m n h c t new free dd need at-m turn hs ex =
       exhausts = λ _. over ∙ sym (ap over_by ex.short);
     }
 
--- ---- an instruction retires
+-- ---- an instruction retires, of hart 0, whose turn it is
 
 runs-on : (running : Bool) (span retired : ℕ) → over_after running span retired ≡ None → running ≡ true
 runs-on true span retired e = refl
@@ -339,8 +340,8 @@ retired-next : {S : Type 0} (K : SchemeOf S) (o : Origin) (cycles : ℕ) (m : Ma
     → IsRetired (brings_line (moment_of K m n)) m.hart h over
     → HasCome o.input m.hart (memory_of K m n) h (memory_of K (hart_on (m.lap + 1) h c t m) new) → (K.holding t new).open_page ≡ None
     → Follows o.input (step (setting_for m.hart.geometry o.input) (at o m.hart.cpu.count)) h (memory_of K (hart_on (m.lap + 1) h c t m) new)
-    → IsNext K o cycles m n (m.lap + 1) DidRetire h c t new
-retired-next K o cycles m n h c t new s over at-m turn hs rt come closed f =
+    → turn_at o m.hart.cpu.count ≡ 0 → IsNext K o cycles m n (m.lap + 1) (DidRetire 0) h c t new
+retired-next K o cycles m n h c t new s over at-m turn hs rt come closed f mine =
     let w = hs.is_step in
     let run = sound-run K o cycles m n at-m.sound turn.phase in
     let going = is-going K o cycles m n at-m turn in
@@ -348,9 +349,9 @@ retired-next K o cycles m n h c t new s over at-m turn hs rt come closed f =
     let k = m.hart.cpu.count in
     let memory = memory_of K (hart_on (m.lap + 1) h c t m) new in
     let next : step (setting_for m.hart.geometry o.input) (at o k) ≡ at o (k + 1)
-    = ap (λ (p : Parameters). step (setting_for p o.input) (at o k)) at-m.sound.geometry ∙ sym (at-next o k run.counted.start) in
+    = ap (λ (p : Parameters). step (setting_for p o.input) (at o k)) at-m.sound.geometry ∙ sym (at-step o k run.counted.start mine) in
     let is : current h memory ≡ at o (k + 1) = come.current ∙ run.follows.coming (run.counted.running ∙ going.runs) ∙ next in
-    let count-at : (at o (k + 1)).count ≡ k + 1 = at-count o k run.counted.start run.counted.count going.runs in
+    let count-at : (at o (k + 1)).count ≡ k + 1 = at-count o k run.counted.start mine run.counted.count going.runs in
     let count : h.cpu.count ≡ k + 1 = sym (count-current h memory) ∙ ap (λ x. x.count) is ∙ count-at in
     let running : is_running h.cpu.status ≡ runs_at o (k + 1) = ap is_running (sym (status-current h memory)) ∙ ap (λ x. is_running x.status) is in
     let within : m.hart.epoch.retired < m.hart.epoch.span = subst (HasRetired m.hart.epoch.span m.hart.epoch.retired) going.going run.epoch.retired in
@@ -379,6 +380,7 @@ retired-next K o cycles m n h c t new s over at-m turn hs rt come closed f =
       moves = λ e. absurd (cc);
       owed = w.owed;
       step = record {
+        turn = mine;
         phase = turn.phase;
         over = going.going;
         runs = going.runs;
@@ -426,24 +428,32 @@ no-wait K o cycles m n at-m turn wait =
     let yes = wait.short in
     cc
 
+-- the turn at the view's count is that at the hart's
+turn-here : {S : Type 0} (K : SchemeOf S) (o : Origin) (m : Machine S) (n : Device) → m.phase ≡ Run → turn_at o (view_of K o m n).count ≡ 0
+    → turn_at o m.hart.cpu.count ≡ 0
+turn-here K o m n phase mine = subst (λ (v : View). turn_at o v.count ≡ 0) (view-run K o m n phase) mine
+
 pub hart-leads : {S : Type 0} (K : SchemeOf S) → HartLeads K
-hart-leads {S} K o cycles m n h c t new Moved at-m turn hs =
+hart-leads {S} K o cycles m n h c t new Moved at-m turn hs mine =
     leads-next K o cycles m n (m.lap + 0) DidMove h c t new Moved at-m turn hs (inl refl)
     (moved-next K o cycles m n h c t new at-m turn hs (told-step K (given o.input (K.free m.scheme) (K.under_way m.scheme)) m n h c t new Moved hs))
-hart-leads {S} K o cycles m n h c t new Retired at-m turn hs =
-    leads-next K o cycles m n (m.lap + 1) DidRetire h c t new Retired at-m turn hs (inr refl)
+hart-leads {S} K o cycles m n h c t new Retired at-m turn hs mine =
+    leads-next K o cycles m n (m.lap + 1) (DidRetire 0) h c t new Retired at-m turn hs (inr refl)
     (retired-next K o cycles m n h c t new Retired None at-m turn hs (told-step K (given o.input (K.free m.scheme) (K.under_way m.scheme)) m n h c t new Retired hs)
-    hs.is_step.leads hs.is_step.closed (follows-step K o cycles m n h c t new Retired at-m turn hs))
-hart-leads {S} K o cycles m n h c t new Waiting at-m turn hs =
+    hs.is_step.leads hs.is_step.closed (follows-step K o cycles m n h c t new Retired at-m turn hs)
+    (turn-here K o m n turn.phase mine))
+hart-leads {S} K o cycles m n h c t new Waiting at-m turn hs mine =
     absurd (no-wait K o cycles m n at-m turn (told-step K (given o.input (K.free m.scheme) (K.under_way m.scheme)) m n h c t new Waiting hs))
-hart-leads {S} K o cycles m n h c t new (Over Length) at-m turn hs =
-    leads-next K o cycles m n (m.lap + 1) DidRetire h c t new (Over Length) at-m turn hs (inr refl)
+hart-leads {S} K o cycles m n h c t new (Over Length) at-m turn hs mine =
+    leads-next K o cycles m n (m.lap + 1) (DidRetire 0) h c t new (Over Length) at-m turn hs (inr refl)
     (retired-next K o cycles m n h c t new (Over Length) (Some Length) at-m turn hs (told-step K (given o.input (K.free m.scheme) (K.under_way m.scheme)) m n h c t new (Over Length) hs)
-    hs.is_step.leads hs.is_step.closed (follows-step K o cycles m n h c t new (Over Length) at-m turn hs))
-hart-leads {S} K o cycles m n h c t new (Over (Exhausted free dd need)) at-m turn hs =
+    hs.is_step.leads hs.is_step.closed (follows-step K o cycles m n h c t new (Over Length) at-m turn hs)
+    (turn-here K o m n turn.phase mine))
+hart-leads {S} K o cycles m n h c t new (Over (Exhausted free dd need)) at-m turn hs mine =
     leads-next K o cycles m n (m.lap + 0) DidMove h c t new (Over (Exhausted free dd need)) at-m turn hs (inl refl)
     (exhausted-next K o cycles m n h c t new free dd need at-m turn hs (told-step K (given o.input (K.free m.scheme) (K.under_way m.scheme)) m n h c t new (Over (Exhausted free dd need)) hs))
-hart-leads {S} K o cycles m n h c t new (Over Ended) at-m turn hs =
-    leads-next K o cycles m n (m.lap + 1) DidRetire h c t new (Over Ended) at-m turn hs (inr refl)
+hart-leads {S} K o cycles m n h c t new (Over Ended) at-m turn hs mine =
+    leads-next K o cycles m n (m.lap + 1) (DidRetire 0) h c t new (Over Ended) at-m turn hs (inr refl)
     (retired-next K o cycles m n h c t new (Over Ended) (Some Ended) at-m turn hs (told-step K (given o.input (K.free m.scheme) (K.under_way m.scheme)) m n h c t new (Over Ended) hs)
-    hs.is_step.leads hs.is_step.closed (follows-step K o cycles m n h c t new (Over Ended) at-m turn hs))
+    hs.is_step.leads hs.is_step.closed (follows-step K o cycles m n h c t new (Over Ended) at-m turn hs)
+    (turn-here K o m n turn.phase mine))

@@ -112,7 +112,7 @@ pub record IsNext {S : Type 0} (K : SchemeOf S) (o : Origin) (cycles : ℕ) (m :
 
 -- a hart's step is told as one
 abbrev pub IsHarts : Did → Type 0
-IsHarts did = (did ≡ DidMove) ⊎ (did ≡ DidRetire)
+IsHarts did = (did ≡ DidMove) ⊎ (did ≡ DidRetire 0)
 
 harts-dram : (did : Did) (n new : Device) (old now : DramContents) → IsHarts did → ActsOnDram n new old now → LeavesDram did n new old now
 harts-dram did n new old now harts acts = elim harts as (λ _. LeavesDram did n new old now) [

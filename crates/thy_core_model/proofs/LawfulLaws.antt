@@ -34,6 +34,7 @@ use Rattle.thy_core_model.specs.Pace.{most_spent}
 use Rattle.thy_core_model.specs.Sound.{IsToWrite, SoundRun, SoundBoot, SoundIn, Sound, IsPowered}
 use Rattle.thy_core_model.specs.Runs.{MachineIsLawful}
 use Rattle.thy_core_model.proofs.EpochLemmas.{few-moves}
+use Rattle.thy_core_model.proofs.MomentLaws.{sound-here, seen-alike, is_at-agrees}
 use Rattle.thy_core_model.proofs.RunLaws.{moment_is_safe, fresh_leads, cut_leads}
 use Rattle.thy_core_model.proofs.WorkLaws.{number_behind}
 
@@ -209,13 +210,15 @@ machine_is_lawful K l = record {
   powers = powers K l;
   finds_nothing = l.finds_nothing;
   begins = λ o m shape start n. fresh_leads K o m shape start n l;
-  recovers = λ o k m next n pick g. cut_leads K o k m next n pick g l;
-  powered_on = powered_on K l;
-  unfailed = λ o k m n at. at.unfailed;
+  recovers = λ o k m next n pick g at. cut_leads K o k m next n pick g l (sound-here K o k m n at);
+  powered_on = λ o k m n at. powered_on K l o k m n (sound-here K o k m n at);
+  unfailed = λ o k m n at. (sound-here K o k m n at).unfailed;
   tells_failure = λ o before m stopped. stopped.failed;
   some_ahead = λ o k m n at. omega arith;
   counts_queues = λ m n. refl;
   counts_dram = λ m. l.queued_is m.scheme;
-  pressed = pressed_at K l;
-  is_safe = λ o k m n. moment_is_safe K o k m n l;
+  pressed = λ o k m n at. pressed_at K l o k m n (sound-here K o k m n at);
+  is_safe = λ o k m n at. moment_is_safe K o k m n l (sound-here K o k m n at);
+  agrees = is_at-agrees K l;
+  seen_alike = λ o turns k m n at agree. seen-alike K l o turns m n;
 }

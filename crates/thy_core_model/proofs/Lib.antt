@@ -13,6 +13,7 @@ pub mod SealingLaws
 pub mod CallRows
 pub mod CacheLemmas
 pub mod FlushRow
+pub mod MomentLaws
 pub mod RunLaws
 pub mod NearLaws
 pub mod LawfulLaws

@@ -157,7 +157,7 @@ module _ (most : ℕ) (o : Origin) (v next : View) (old new : Gauge) where
       (let l = boots_up most v next old new pace.spent (runs_at o count) s.phase (ap (λ (w : View). w.phase) s.becomes) (ap (λ (w : View). w.retired) s.becomes) (pace.boots s.phase) in omega arith)
   near (Refused bad) fresh s pace live = boots (Refused bad) pace s.0 (inl s.3) pace.queues (pace.boots s.0)
   near Moved fresh s pace live = moves Moved pace s.0 s.3 pace.queues pace.strides
-  near Retired fresh s pace live =
+  near (Retired hart) fresh s pace live =
       nearer most v next old new pace.spent 1 pace.queues
       (retires_one most v next old new pace.spent s.phase (ap (λ (w : View). w.phase) s.becomes ∙ s.phase) (ap (λ (w : View). w.spent) s.becomes))
   near Flushed fresh s pace live = busy Flushed pace s.0 s.1 pace.queues pace.strides

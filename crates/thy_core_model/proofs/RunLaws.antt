@@ -12,15 +12,16 @@ use Rattle.thy_view.specs.declared.view.Phase.TheVariants.{Boot, Run, Halt}
 use Rattle.thy_view.specs.declared.view.View.{View}
 use Rattle.thy_view.specs.Booting.{view_of_image, found_first, first_view}
 use Rattle.thy_view.specs.Origin.{Origin, StartsFrom, IsOrigin}
+use Rattle.thy_view.specs.Told.{told, AgreeBelow, reach}
 use Rattle.thy_view.specs.Safe.{ceiling, IsOneOf, Safe}
 use Rattle.thy_view.specs.Views.{doubt_of}
 use Rattle.thy_scheme.specs.Boots.{IsBootView}
 use Rattle.thy_scheme.specs.Scheme.{SchemeOf}
 use Rattle.thy_scheme.specs.Laws.{IsOwn, IsFound, IsLawful as IsLawfulScheme}
 use Rattle.thy_core_model.specs.Machine.{Machine, view_in, view_of}
-use Rattle.thy_core_model.specs.Sound.{IsSmallMark, IsSmall, SoundIn, Sound, IsPowered}
+use Rattle.thy_core_model.specs.Sound.{IsSmallMark, IsSmall, SoundIn, Sound, IsAt, IsPowered}
 use Rattle.thy_core_model.specs.Runs.{MomentIsSafe, FreshLeads, CutLeads}
-use Rattle.thy_core_model.proofs.AtLemmas.{at-early}
+use Rattle.thy_view.proofs.TurnLaws.{at-agrees, at-early, IsOrigin-told}
 
 -- ---- a moment is safe
 
@@ -84,6 +85,25 @@ module _ {S : Type 0} (K : SchemeOf S) (o : Origin) (cycles : ℕ) (m : Machine 
     moment = subst (λ p. SoundIn K o p m n) (sym on.phase) (record { boots = (lawful.finds o m.scheme n origin on.scheme found).boots; blank = on.blank });
   }
 
+-- ---- and so with all turns that agree as far as the image goes
+
+own_told : (o : Origin) (turns : List ℕ) (d : Decoded) → AgreeBelow o turns (reach (view_of_image o.start.count d)) → IsOwn o d → IsOwn (told o turns) d
+own_told o turns Nothing agree own = own
+own_told o turns (Refused bad) agree own = own
+own_told o turns (At epoch state) agree own = own ∙ sym (at-agrees o turns state.count agree)
+
+is_at-found : {S : Type 0} (K : SchemeOf S) (o : Origin) (cycles : ℕ) (m : Machine S) (n : Device) → IsLawfulScheme K → IsOrigin o
+    → IsPowered K o.geometry m → IsFound K o n → IsSmall cycles (view_of_image o.start.count (K.decode o.geometry ceiling n.image)) → IsAt K o cycles m n
+is_at-found K o cycles m n lawful origin on found small = λ turns agree.
+    sound_found K (told o turns) cycles m n lawful (IsOrigin-told o turns origin) on
+    (record {
+      up = found.up;
+      sized = found.sized;
+      settled = found.settled;
+      own = own_told o turns (K.decode o.geometry ceiling n.image)
+          (subst (λ (v : View). AgreeBelow o turns (reach v)) (view_found K o cycles m n lawful origin on found) agree) found.own;
+    }) small
+
 -- ---- a fresh start
 
 length-fitted : (shape : Shape) (start : List Block) (n : Device) → length start ≤ shape.blocks → length (fitted shape start n).image ≡ shape.blocks
@@ -110,7 +130,7 @@ fresh_leads K o m shape start n lawful origin on fit =
       own = subst (IsOwn o) (sym fit.found) (own_first o o.kept refl);
     } in
     let means : view_of_image o.start.count (K.decode o.geometry ceiling new.image) ≡ first_view o = ap (view_of_image o.start.count) fit.found in
-    (sound_found K o 0 m new lawful origin on found (subst (IsSmall 0) (sym means) (found_small o 0 (found_first o o.kept) origin (own_first o o.kept refl) (small_first o o.kept origin origin.starts))), view_found K o 0 m new lawful origin on found ∙ means)
+    (is_at-found K o 0 m new lawful origin on found (subst (IsSmall 0) (sym means) (found_small o 0 (found_first o o.kept) origin (own_first o o.kept refl) (small_first o o.kept origin origin.starts))), view_found K o 0 m new lawful origin on found ∙ means)
 
 -- ---- a power cut
 
@@ -161,4 +181,4 @@ cut_leads K o cycles m next n pick g lawful s on crash =
       own = own;
     } in
     let small = found_small o cycles (K.decode o.geometry ceiling g) s.origin own (small_cut o cycles (view_of K o m n) (K.decode o.geometry ceiling g) s.small one) in
-    (sound_found K o cycles next new lawful s.origin on found small, view_found K o cycles next new lawful s.origin on found)
+    (is_at-found K o cycles next new lawful s.origin on found small, view_found K o cycles next new lawful s.origin on found)

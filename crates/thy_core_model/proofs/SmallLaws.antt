@@ -98,7 +98,7 @@ module _ (o : Origin) (k : ℕ) (v next : View) (h : IsSmall k v) where
       }
   small_step (Refused bad) s = same s.3
   small_step Moved s = moves s.3
-  small_step Retired s =
+  small_step (Retired hart) s =
       let before = h.count in
       let epoch = h.epoch in
       record {

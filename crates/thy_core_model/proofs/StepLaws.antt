@@ -58,8 +58,8 @@ safe_for K o kept doubt found n is none safe =
     subst (λ (d : Option Mark). Safe K.decode o d None n) is (subst (λ (d : Option Mark). Safe K.decode o kept d n) none safe)
 
 pub leading_is_step : {S : Type 0} (K : SchemeOf S) → LeadingIsStep K
-leading_is_step K o cycles pick m next n new r at leads turn ended = record {
-  at_next = leads.at_next;
+leading_is_step K o cycles pick m next n new r at leads at_next turn ended = record {
+  at_next = at_next;
   step = leads.step;
   pressed = pressed_at K at.lawful o cycles m n at.sound;
   turn = turn;

@@ -74,8 +74,9 @@ retires_by Retired = true
 retires_by Waiting = false
 retires_by (Over cause) = retires_over cause
 
+-- it is hart 0's
 abbrev pub hart_did : HartStep → Did
-hart_did step = if retires_by step then DidRetire else DidMove
+hart_did step = if retires_by step then DidRetire 0 else DidMove
 
 abbrev pub after_hart : {S : Type 0} → HartStep → Core → Contents → S → Machine S → Machine S
 after_hart step h c t m = record m {

@@ -12,7 +12,7 @@ use Rattle.thy_view.specs.Pace.{Gauge}
 use Rattle.thy_scheme.specs.Scheme.{SchemeOf}
 use Rattle.thy_core_model.specs.Machine.{Machine, view_of, pressure_of, gauge_of, has_read_of}
 use Rattle.thy_core_model.specs.Pace.{most_spent}
-use Rattle.thy_core_model.specs.Sound.{Sound, SoundStopped, IsPowered}
+use Rattle.thy_core_model.specs.Sound.{IsAt, SoundStopped, IsPowered}
 
 -- epochs that may still go by without an instruction, in cycles: two behind one that retired some, one more unless the
 -- epoch before was idle
@@ -43,7 +43,7 @@ kind_over K = record {
   decode = K.decode;
   blocks = K.blocks;
   powered = IsPowered K;
-  is_at = Sound K;
+  is_at = IsAt K;
   view = view_of K;
   has_failed = SoundStopped K;
   failed = λ m. m.failed;

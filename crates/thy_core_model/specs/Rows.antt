@@ -18,6 +18,7 @@ use Rattle.thy_view.specs.CoreStep.{CoreStep}
 use Rattle.thy_view.specs.Dram.{LeavesDram}
 use Rattle.thy_view.specs.Origin.{Origin}
 use Rattle.thy_view.specs.Pace.{KeepsPace}
+use Rattle.thy_view.specs.Told.{HasTurn}
 use Rattle.thy_view.specs.Turn.{stall_in, over_by}
 use Rattle.thy_view.specs.Views.{IsRestarting}
 use Rattle.thy_view.specs.Work.{Works}
@@ -67,12 +68,13 @@ pub record IsSealing {S : Type 0} (K : SchemeOf S) (o : Origin) (m : Machine S) 
 
 -- ---- the hart
 
--- Moved, Retired, and the end of an epoch
+-- Moved, Retired, and the end of an epoch; an instruction that is retired has its turn
 abbrev pub HartLeads : {S : Type 0} → SchemeOf S → Type 0
 HartLeads {S} K =
     (o : Origin) (cycles : ℕ) (m : Machine S) (n : Device) (h : Core) (c : Contents) (t : S) (new : Device) (step : HartStep)
     → At K o cycles m n → HartGoes K o m n
     → HartCall K (given o.input (K.free m.scheme) (K.under_way m.scheme)) m n h c t new step
+    → HasTurn o (view_of K o m n) (hart_did step)
     → Leads K o cycles (hart_did step) m n (after_hart step h c t m) new
 
 -- ---- before a seal, and the seal

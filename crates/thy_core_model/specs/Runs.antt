@@ -15,6 +15,7 @@ use Rattle.thy_view.specs.Kind.{IsLawful, IsFittedFor, IsStep, LeavesSafe}
 use Rattle.thy_view.specs.Origin.{Origin, IsOrigin}
 use Rattle.thy_view.specs.Pace.{Gauge, KeepsPace, retires}
 use Rattle.thy_view.specs.Safe.{ceiling, Safe}
+use Rattle.thy_view.specs.Told.{told, AgreeBelow, reach, HasTurn}
 use Rattle.thy_view.specs.Turn.{Turn}
 use Rattle.thy_view.specs.Views.{is_halt, halts, doubt_of}
 use Rattle.thy_scheme.specs.Scheme.{SchemeOf}
@@ -23,7 +24,7 @@ use Rattle.thy_core_model.specs.Kind.{kind_over, left_ahead}
 use Rattle.thy_core_model.specs.Machine.{Machine, view_of, pressure_of}
 use Rattle.thy_core_model.specs.Failures.{Fails}
 use Rattle.thy_core_model.specs.Rows.{IsMoment, At, Leads}
-use Rattle.thy_core_model.specs.Sound.{Sound, IsPowered}
+use Rattle.thy_core_model.specs.Sound.{Sound, IsAt, IsPowered}
 
 -- whatever a cut leaves at a moment is the committed checkpoint, whole, or the one in doubt
 abbrev pub MomentIsSafe : {S : Type 0} → SchemeOf S → Type 0
@@ -36,14 +37,15 @@ abbrev pub FreshLeads : {S : Type 0} → SchemeOf S → Type 0
 FreshLeads {S} K =
     (o : Origin) (m : Machine S) (shape : Shape) (start : List Block) (n : Device)
     → IsLawfulScheme K → IsOrigin o → IsPowered K o.geometry m → IsFittedFor (kind_over K) o shape start n
-    → Sound K o 0 m (fitted shape start n) × (view_of K o m (fitted shape start n) ≡ first_view o)
+    → IsAt K o 0 m (fitted shape start n) × (view_of K o m (fitted shape start n) ≡ first_view o)
 
--- a power cut leads to a moment of the same run, whose view is what the image means that was left
+-- A power cut leads to a moment of the same run, whose view is what the image means that was left. The turns behind the
+-- checkpoint found are gone with it.
 abbrev pub CutLeads : {S : Type 0} → SchemeOf S → Type 0
 CutLeads {S} K =
     (o : Origin) (cycles : ℕ) (m next : Machine S) (n : Device) (pick : ℕ) (g : List Block)
     → IsLawfulScheme K → Sound K o cycles m n → IsPowered K o.geometry next → Crash n g
-    → Sound K o cycles next (cut_to n pick g)
+    → IsAt K o cycles next (cut_to n pick g)
     × (view_of K o next (cut_to n pick g) ≡ view_of_image o.start.count (K.decode o.geometry ceiling g))
 
 -- a cycle of a machine that has not halted is one nearer to the next instruction, by view and gauge alone
@@ -53,11 +55,20 @@ CyclesComeNearer =
     → (v.phase ≡ Boot → v.retired ≡ 0) → CoreStep o v did next → KeepsPace most v next did old new → is_halt v.phase ≡ false
     → left_ahead most next new + 1 ≤ left_ahead most v old + 4 * most * retires did
 
+-- a cycle that leads on along all turns that agree so far and have its hart's turn, leads to a moment
+abbrev pub LeadsToMoment : {S : Type 0} → SchemeOf S → Type 0
+LeadsToMoment {S} K =
+    (o : Origin) (cycles : ℕ) (did : Did) (m next : Machine S) (n new : Device)
+    → IsLawfulScheme K
+    → ((turns : List ℕ) → AgreeBelow o turns (reach (view_of K o m n)) → HasTurn (told o turns) (view_of K (told o turns) m n) did
+    → Leads K (told o turns) cycles did m n next new)
+    → HasTurn o (view_of K o m n) did → IsAt K o (cycles + 1) next new
+
 -- a cycle that leads to the next moment, at the turn of its pick, is a step of a machine
 abbrev pub LeadingIsStep : {S : Type 0} → SchemeOf S → Type 0
 LeadingIsStep {S} K =
     (o : Origin) (cycles : ℕ) (pick : Pick) (m next : Machine S) (n new : Device) (r : Stepped)
-    → At K o cycles m n → Leads K o cycles r.did m n next new
+    → At K o cycles m n → Leads K o cycles r.did m n next new → IsAt K o (cycles + 1) next new
     → Turn o pick (length n.queue) (view_of K o m n) (pressure_of K m) r.did r.stall
     → r.ended ≡ halts (view_of K o m n) (view_of K o next new) → IsStep (kind_over K) o cycles pick m next n new r
 

@@ -1,6 +1,6 @@
 -- Part of the claim.
 -- What holds of the machine at every moment of a run.
-use Rattle.std.specs.Prelude.{◌≡◌, ◌≢◌, ℕ, ◌+◌, ◌^◌, ◌<◌, ◌≤◌, ◌==◌, not, true, false, Bool, length, Option, Some, None, []}
+use Rattle.std.specs.Prelude.{◌≡◌, ◌≢◌, ℕ, ◌+◌, ◌^◌, ◌<◌, ◌≤◌, ◌==◌, not, true, false, Bool, List, length, Option, Some, None, []}
 use Rattle.thy_base.specs.declared.cause.EndCause.{EndCause}
 use Rattle.thy_base.specs.declared.config.Parameters.{Parameters}
 use Rattle.thy_base.specs.declared.mark.Mark.{Mark}
@@ -21,6 +21,7 @@ use Rattle.thy_view.specs.declared.view.View.{View}
 use Rattle.thy_view.specs.Kind.{without_memory}
 use Rattle.thy_view.specs.Origin.{Origin, IsOrigin, at, runs_at}
 use Rattle.thy_view.specs.Stores.{stored_by}
+use Rattle.thy_view.specs.Told.{told, AgreeBelow, reach}
 use Rattle.thy_view.specs.Turn.{has_stopped}
 use Rattle.thy_view.specs.Views.{is_boot}
 use Rattle.thy_scheme.specs.Scheme.{SchemeOf}
@@ -166,7 +167,7 @@ SoundIn K o Boot m n = SoundBoot K o m n
 SoundIn K o Run m n = SoundRun K o m n
 SoundIn K o Halt m n = SoundRun K o m n
 
--- after so many cycles of a run
+-- after so many cycles of a run, along its turns
 pub record Sound {S : Type 0} (K : SchemeOf S) (o : Origin) (cycles : ℕ) (m : Machine S) (n : Device) : Type 0 where
   pub origin : IsOrigin o
   pub geometry : m.hart.geometry ≡ o.geometry
@@ -176,6 +177,10 @@ pub record Sound {S : Type 0} (K : SchemeOf S) (o : Origin) (cycles : ℕ) (m : 
   pub unfailed : m.failed ≡ false
   pub small : IsSmall cycles (view_of K o m n)
   pub moment : SoundIn K o m.phase m n
+
+-- and so along all turns that agree so far: those to come don't matter
+abbrev pub IsAt : {S : Type 0} → SchemeOf S → Origin → ℕ → Machine S → Device → Type 0
+IsAt K o cycles m n = (turns : List ℕ) → AgreeBelow o turns (reach (view_of K o m n)) → Sound K (told o turns) cycles m n
 
 -- power has just come on
 pub record IsPowered {S : Type 0} (K : SchemeOf S) (p : Parameters) (m : Machine S) : Type 0 where

@@ -1,7 +1,7 @@
 //! Laws of the machine, for every scheme, each the contract of a function that does nothing.
 ghost use Rattle.thy_core_model.specs.Failures.{HartFails, FlushFails, PromotionLeaves, EngineLeaves, BootLeaves, DrainFails};
 ghost use Rattle.thy_core_model.specs.Rows.{HartLeads, FlushLeads, MergeLeads, PromotionLeads, BootLeads, SealLeads, EngineLeads, NvmDrainLeads, DramDrainLeads, BootDrainLeads, NothingLeads};
-ghost use Rattle.thy_core_model.specs.Runs.{MomentIsSafe, CyclesComeNearer, FreshLeads, CutLeads, MachineIsLawful, LeadingIsStep, FailingIsSafe};
+ghost use Rattle.thy_core_model.specs.Runs.{MomentIsSafe, CyclesComeNearer, FreshLeads, CutLeads, MachineIsLawful, LeadsToMoment, LeadingIsStep, FailingIsSafe};
 
 use thy_scheme::Scheme;
 
@@ -114,6 +114,11 @@ pub fn a_drain_of_the_boot_leads_on<S: Scheme>()
 /// A machine that has halted does nothing, and stays at a moment of the run.
 pub fn nothing_leads_on<S: Scheme>()
     ensures { NothingLeads S.scheme }
+{}
+
+/// A cycle that leads on along all turns that agree so far leads to a moment, whatever turns are to come.
+pub fn a_cycle_leads_to_a_moment<S: Scheme>()
+    ensures { LeadsToMoment S.scheme }
 {}
 
 /// A cycle that leads to the next moment, at the turn of its pick, is a step of a machine.

@@ -1,8 +1,8 @@
 -- The scheme is lawful.
-use Rattle.std.proofs.Common.{◌≡◌, ℕ, Bool, true, false, length, replicate, refl, arith}
+use Rattle.std.proofs.Common.{◌≡◌, ℕ, Bool, true, false, List, length, replicate, refl, arith}
 use Rattle.std.proofs.lemmas.List.{length-replicate}
 use Rattle.thy_base.specs.declared.config.Parameters.{Parameters}
-use Rattle.thy_base.specs.Device.{zero_block}
+use Rattle.thy_base.specs.Device.{Device, zero_block}
 use Rattle.thy_base.specs.Places.{dram_blocks}
 use Rattle.thy_cell.specs.BetweenCheckpoints.{NewIsSound}
 use Rattle.thy_dram.specs.Contents.{Contents, fresh}
@@ -10,10 +10,14 @@ use Rattle.thy_isa.specs.declared.state.CpuState.{CpuState}
 use Rattle.thy_isa.specs.declared.state.Status.TheVariants.{Running}
 use Rattle.thy_control.specs.State.{new_state}
 use Rattle.thy_control.proofs.NewLemmas.{AreSoundTables-new}
-use Rattle.thy_commit.specs.declared.next.Next.TheVariants.{Nothing, Slot}
+use Rattle.thy_commit.specs.declared.next.Next.TheVariants.{Nothing, Slot as SlotNext}
+use Rattle.thy_recover.specs.declared.stage.Stage.{Stage}
+use Rattle.thy_recover.specs.declared.stage.Stage.TheVariants.{Unread, Header, Slot, Frames, Refusing, Loading, Restored, Loaded}
 use Rattle.thy_recover.specs.Boot.{new_boot}
+use Rattle.thy_view.specs.Origin.{Origin}
+use Rattle.thy_view.specs.Told.{told}
 use Rattle.thy_scheme.specs.Laws.{IsLawful}
-use Rattle.thy_dual_model.specs.Boots.{IsPowered}
+use Rattle.thy_dual_model.specs.Boots.{IsPowered, view_at}
 use Rattle.thy_dual_model.specs.Dual.{Dual}
 use Rattle.thy_dual_model.specs.Scheme.{dual_scheme}
 use Rattle.thy_dual_model.proofs.BootLemmas.{boot_is_sound, power_finds, power_is_new, zeros_are_nothing}
@@ -41,7 +45,7 @@ first p = record {
 new-cells : (i j block page : ℕ) (under_way : Bool) → NewIsSound i j block page under_way
 new-cells i j block page under_way = grind arith
 
-no-slot : (k : ℕ) → Nothing ≡ Slot k → ⊥
+no-slot : (k : ℕ) → Nothing ≡ SlotNext k → ⊥
 no-slot k e = cc
 
 powered : (p : Parameters) → IsPowered p (first p)
@@ -60,6 +64,19 @@ powered p =
       lean = refl;
     }
 
+-- ---- what is seen of a boot
+
+-- it depends on the image, and on no turn
+alike_at : (o : Origin) (turns : List ℕ) (stage : Stage) (n : Device) → view_at (told o turns) stage n ≡ view_at o stage n
+alike_at o turns Unread n = refl
+alike_at o turns (Header epoch fault) n = refl
+alike_at o turns (Slot epoch next) n = refl
+alike_at o turns (Frames epoch page next) n = refl
+alike_at o turns (Refusing bad) n = refl
+alike_at o turns (Loading issue) n = refl
+alike_at o turns (Restored epoch) n = refl
+alike_at o turns Loaded n = refl
+
 -- ---- the laws
 
 pub lawful : IsLawful dual_scheme
@@ -69,6 +86,7 @@ lawful = record {
   finds_nothing = zeros_are_nothing;
   finds = power_finds;
   boot_holds = boot_is_sound;
+  boot_alike = λ o turns s n. alike_at o turns s.boot.stage n;
   run_holds = run_is_sound;
   up = held_is_up;
   ready_up = λ s n ready. (ready_is_whole s n ready).0;

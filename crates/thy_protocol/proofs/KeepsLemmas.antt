@@ -1,5 +1,5 @@
 -- Which checkpoints a device keeps, after each move and after a cut; and that they are all that a cut may leave.
-use Rattle.std.proofs.Common.{◌≡◌, ◌⊎◌, ℕ, ◌-◌, List, [], length, Option, Some, None, refl, sym, ◌∙◌, ap, subst, inl, inr, arith}
+use Rattle.std.proofs.Common.{◌≡◌, ◌⊎◌, ℕ, List, [], length, Option, Some, None, refl, sym, ◌∙◌, ap, subst, inl, inr, arith}
 use Rattle.thy_base.specs.declared.block.Block.{Block}
 use Rattle.thy_base.specs.declared.mark.Mark.{Mark}
 use Rattle.thy_base.specs.Device.{Device, Crash, IsCut, IsFramed, block_at, settled, written_to, drained}
@@ -11,10 +11,10 @@ use Rattle.thy_crash.specs.Spares.{Spares}
 use Rattle.thy_crash.proofs.SavedLemmas.{left_of_saved, IsKept-cut, IsKept-empty, IsSaved-spared, IsReady-settled, IsInDoubt-written, IsInDoubt-failed, IsKept-settled}
 use Rattle.thy_crash.proofs.SparesLemmas.{Spares-same, Spares-drained, Spares-settled, Spares-written, Spares-failed, Spares-failed_to_write}
 use Rattle.thy_view.specs.Action.{Action, Rest, ReadAt, WriteAt, Barrier, Drain, after, FailsTo}
-use Rattle.thy_isa.specs.Step.{steps}
 use Rattle.thy_view.proofs.SafeLemmas.{Safe-doubt}
+use Rattle.thy_view.proofs.TurnLaws.{at-early}
 use Rattle.thy_view.specs.Booting.{boot_view, found_first, view_of_image}
-use Rattle.thy_view.specs.Origin.{Origin, IsOrigin, StartsFrom, setting_of, at}
+use Rattle.thy_view.specs.Origin.{Origin, IsOrigin, StartsFrom, at}
 use Rattle.thy_view.specs.Safe.{ceiling, Safe, IsOneOf}
 use Rattle.thy_base.specs.Marks.{mark}
 use Rattle.thy_protocol.specs.Layout.{Layout, Layouts, decode_by, reading, looked_by}
@@ -88,10 +88,7 @@ Safe-sealed layouts o n s kept sealed k = safe_for_both layouts o n s kept seale
 -- ---- what a boot finds
 
 pub at-start : (o : Origin) → at o o.start.count ≡ o.start
-unfolding at steps
-at-start o =
-    let e : o.start.count - o.start.count ≡ 0 = omega arith in
-    ap (λ k. steps (setting_of o) k o.start) e
+at-start o = at-early o o.start.count (omega arith)
 
 IsOf-first : (o : Origin) (l : Layout) (g : List Block) (m : Mark) → m.count ≡ o.start.count → decode_by l g ≡ At m.epoch o.start → IsOf o l g m
 IsOf-first o l g m same decodes =

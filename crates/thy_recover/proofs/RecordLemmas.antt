@@ -1,5 +1,5 @@
 -- The processor that a boot ends with can be recorded.
-use Rattle.std.proofs.Common.{◌≡◌, ℕ, ◌-◌, ◌^◌, ◌<◌, ◌≤◌, Bool, true, false, ◌&&◌, nat_lt, nat_le, if◌then◌else◌, List, length, slice_index, refl, sym, subst, inl, inr, arith, Option, Some, None}
+use Rattle.std.proofs.Common.{◌≡◌, ℕ, ◌^◌, ◌<◌, ◌≤◌, Bool, true, false, ◌&&◌, nat_lt, nat_le, if◌then◌else◌, List, length, slice_index, refl, sym, subst, inl, inr, arith, Option, Some, None}
 use Rattle.std.proofs.lemmas.Bool.{cases_lt, le-leb, leb-true, ltb-true}
 use Rattle.std.proofs.lemmas.List.{get_or_past}
 use Rattle.std.specs.Option.{option_or}
@@ -12,7 +12,7 @@ use Rattle.thy_isa.specs.declared.state.Status.TheVariants.{Running, Exited, Tra
 use Rattle.thy_isa.specs.OnBlocks.{state_from}
 use Rattle.thy_isa.specs.Step.{cpu_of}
 use Rattle.thy_isa.specs.Storable.{IsStatus, IsStorable}
-use Rattle.thy_isa.proofs.StorableLaws.{steps-storable}
+use Rattle.thy_isa.proofs.StorableLaws.{step-storable}
 use Rattle.thy_record.specs.declared.bad_image.BadImage.{BadImage}
 use Rattle.thy_record.specs.declared.bad_image.BadImage.TheVariants.{Status as BadStatus, ConsoleLength}
 use Rattle.thy_record.specs.Cpu.{status_tag, status_value, is_status, record_word, cpu_of_record, IsRecordable}
@@ -20,11 +20,12 @@ use Rattle.thy_record.specs.Slots.{tables_in, epoch_fault, status_fault, slot_fa
 use Rattle.thy_record.specs.TableFaults.{tables_fault}
 use Rattle.thy_view.specs.Origin.{Origin, IsOrigin, setting_of, at}
 use Rattle.thy_view.specs.Safe.{ceiling}
+use Rattle.thy_view.proofs.TurnLaws.{at-holds}
 
 -- every state of a run can be stored
 at-storable : (o : Origin) (k : ℕ) → IsOrigin o → IsStorable (program_size o.geometry) (at o k)
-unfolding at
-at-storable o k h = steps-storable (setting_of o) (program_size o.geometry) (k - o.start.count) o.start h.readable h.storable
+at-storable o k h =
+    at-holds (IsStorable (program_size o.geometry)) o (λ s there. step-storable (setting_of o) (program_size o.geometry) s h.readable there) h.storable k
 
 status_fits : (status : Status) → IsStatus status → is_status (status_tag status) (status_value status) ≡ true
 status_fits Running h = refl

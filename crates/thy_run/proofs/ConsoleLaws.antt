@@ -1,12 +1,12 @@
 -- What the terminal has grows by what each cycle's end releases.
-use Rattle.std.proofs.Common.{◌≡◌, ℕ, ◌+◌, ◌-◌, ◌^◌, ◌<◌, ◌≤◌, Bool, true, false, if◌then◌else◌, Option, Some, None, List, [], ◌∷◌, ◌++◌, length, drop, refl, sym, ◌∙◌, ap, subst, inl, inr, append-nil, arith, ◌||◌, ◌&&◌}
+use Rattle.std.proofs.Common.{◌≡◌, ℕ, ◌+◌, ◌-◌, ◌^◌, ◌<◌, ◌≤◌, Bool, true, false, if◌then◌else◌, Option, Some, None, List, [], ◌∷◌, ◌++◌, length, drop, refl, sym, ◌∙◌, ap, subst, inl, inr, append_assoc, append-nil, arith, ◌||◌, ◌&&◌}
 use Rattle.std.specs.List.{list_any}
 use Rattle.std.proofs.lemmas.List.Folds.{list_any-append}
 use Rattle.std.proofs.Math.Seq.{drop-append_seam}
 use Rattle.thy_base.specs.declared.mark.Mark.{Mark}
-use Rattle.thy_isa.specs.Step.{State, steps}
-use Rattle.thy_isa.proofs.StepLaws.{steps-add}
-use Rattle.thy_isa.proofs.StorableLaws.{steps-console, steps-room}
+use Rattle.thy_isa.specs.Step.{State}
+use Rattle.thy_isa.proofs.StorableLaws.{step-console, step-room}
+use Rattle.thy_view.proofs.TurnLaws.{at-keeps, at-holds}
 use Rattle.thy_view.specs.Kind.{KindOf}
 use Rattle.thy_text.specs.Event.{Event, Cut, Reload, Ended}
 use Rattle.thy_text.specs.Marks.{Marks, marks_from}
@@ -33,13 +33,13 @@ use Rattle.thy_base.proofs.RangeLemmas.{console_most}
 
 -- it only grows
 pub console-grows : (o : Origin) (j k : ℕ) → j ≤ k → (more : List ℕ) × (console_at o k ≡ console_at o j ++ more)
-unfolding at
 console-grows o j k le =
-    let first : ℕ = j - o.start.count in
-    let later : ℕ = (k - o.start.count) - first in
-    let all : k - o.start.count ≡ first + later = omega arith in
-    let grown = steps-console (setting_of o) later (steps (setting_of o) first o.start) in
-    (grown.more, ap (λ (n : ℕ). (steps (setting_of o) n o.start).console) all ∙ ap (λ (s : State). s.console) (steps-add (setting_of o) first later o.start) ∙ grown.grown)
+    let Grown : State → Type 0 = λ t. (more : List ℕ) × (t.console ≡ console_at o j ++ more) in
+    at-keeps Grown o
+    (λ s p.
+    let grown = step-console (setting_of o) s in
+    (p.0 ++ grown.more, grown.grown ∙ ap (λ (l : List ℕ). l ++ grown.more) p.1 ∙ append_assoc (console_at o j) p.0 grown.more))
+    j k le ([], sym (append-nil (console_at o j)))
 
 -- a committed mark does not go back
 abbrev pub Grows : Option Mark → Option Mark → Type 0
@@ -78,7 +78,7 @@ module _ (o : Origin) (v next : View) (m : Marks) (h : Fits o v m) where
       ]
   Grows-told (Refused bad) cycle s = grows_same m.kept m.kept refl
   Grows-told Moved cycle s = grows_same m.kept m.kept refl
-  Grows-told Retired cycle s = grows_same m.kept m.kept refl
+  Grows-told (Retired hart) cycle s = grows_same m.kept m.kept refl
   Grows-told Flushed cycle s = grows_same m.kept m.kept refl
   Grows-told Merged cycle s = grows_same m.kept m.kept refl
   Grows-told Promoted cycle s = grows_same m.kept m.kept refl
@@ -107,7 +107,7 @@ module _ (o : Origin) (v next : View) (m : Marks) (h : Fits o v m) where
   kept-told (Restarted epoch count) cycle s = sym s.done ∙ sym (ap (λ w. w.done) s.becomes)
   kept-told (Refused bad) cycle s = refl
   kept-told Moved cycle s = refl
-  kept-told Retired cycle s = refl
+  kept-told (Retired hart) cycle s = refl
   kept-told Flushed cycle s = refl
   kept-told Merged cycle s = refl
   kept-told Promoted cycle s = refl
@@ -152,7 +152,7 @@ told_shows o Loaded cycle = refl
 told_shows o (Restarted epoch count) cycle = refl
 told_shows o (Refused bad) cycle = refl
 told_shows o Moved cycle = refl
-told_shows o Retired cycle = refl
+told_shows o (Retired hart) cycle = refl
 told_shows o Flushed cycle = refl
 told_shows o Merged cycle = refl
 told_shows o Promoted cycle = refl
@@ -280,9 +280,9 @@ released-cut o events index cycle =
 -- ---- how much the console can be
 
 console-few : (o : Origin) (k : ℕ) → IsOrigin o → length (console_at o k) < 2 ^ 64
-unfolding at
 console-few o k origin =
-    let room = steps-room (setting_of o) (k - o.start.count) o.start origin.recordable.console in
+    let Roomy : State → Type 0 = λ t. length t.console ≤ (setting_of o).room in
+    let room : length (console_at o k) ≤ (setting_of o).room = at-holds Roomy o (λ s h. step-room (setting_of o) s h) origin.recordable.console k in
     omega (arith, room, console_most o.geometry origin.geometry)
 
 kept_few : (o : Origin) (kept : Option Mark) → IsOrigin o → length (console_of (console_at o) kept) < 2 ^ 64

@@ -125,7 +125,7 @@ module _ (o : Origin) (v next : View) (m : Marks) (least : 1 ≤ o.geometry.epoc
       (record { nothing = λ none. c.nothing (sym done ∙ none); of_done = λ d some. c.of_done d (sym done ∙ some); of_doubt = λ d some. c.of_doubt d (sym sealed ∙ some) })
   Covers-before (Refused bad) s = Covers-fits o next m (Fits-told o v next m least h (Refused bad) 0 s).0
   Covers-before Moved s = Covers-fits o next m (Fits-told o v next m least h Moved 0 s).0
-  Covers-before Retired s = Covers-fits o next m (Fits-told o v next m least h Retired 0 s).0
+  Covers-before (Retired hart) s = Covers-fits o next m (Fits-told o v next m least h (Retired hart) 0 s).0
   Covers-before Flushed s = Covers-fits o next m (Fits-told o v next m least h Flushed 0 s).0
   Covers-before Merged s = Covers-fits o next m (Fits-told o v next m least h Merged 0 s).0
   Covers-before Promoted s = Covers-fits o next m (Fits-told o v next m least h Promoted 0 s).0
@@ -181,7 +181,7 @@ told_short o Loaded cycle = inr (_, refl)
 told_short o (Restarted epoch count) cycle = inr (_, refl)
 told_short o (Refused bad) cycle = inl refl
 told_short o Moved cycle = inl refl
-told_short o Retired cycle = inl refl
+told_short o (Retired hart) cycle = inl refl
 told_short o Flushed cycle = inl refl
 told_short o Merged cycle = inl refl
 told_short o Promoted cycle = inl refl

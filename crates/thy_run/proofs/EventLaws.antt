@@ -3,8 +3,10 @@ use Rattle.std.proofs.Common.{◌≡◌, ℕ, ◌≤◌, Bool, true, false, ◌&
 use Rattle.std.proofs.lemmas.Bool.{and_parts}
 use Rattle.thy_base.specs.declared.mark.Mark.{Mark}
 use Rattle.thy_text.specs.Event.{Event, Reload, Ended}
-use Rattle.thy_text.specs.Marks.{Marks, loading_marks, marks_from, AllLawful}
-use Rattle.thy_text.proofs.Histories.{marks_from-append, AllLawful-append}
+use Rattle.thy_text.specs.Marks.{Marks, loading_marks, marks_from}
+use Rattle.thy_text.specs.OneHart.{AllLawfulAt}
+use Rattle.thy_text.proofs.Histories.{marks_from-append}
+use Rattle.thy_text.proofs.OneHartLaws.{AllLawfulAt-append}
 use Rattle.thy_view.specs.declared.did.Did.{Did}
 use Rattle.thy_view.specs.declared.did.Did.TheVariants.{Boot, Loaded, Restarted, Refused, Moved, Retired, Flushed, Merged, Sealed, Promoted, Engine, Committed, NvmDrained, DramDrained, Nothing}
 use Rattle.thy_view.specs.declared.view.Phase.{Phase}
@@ -13,9 +15,8 @@ use Rattle.thy_view.specs.declared.view.View.{View}
 use Rattle.thy_view.specs.Views.{is_boot, is_halt, loads, halts}
 use Rattle.thy_view.specs.CoreStep.{CoreStep}
 use Rattle.thy_view.specs.Origin.{Origin, runs_at, at}
-use Rattle.thy_run.specs.Laws.{course_of}
 use Rattle.thy_run.specs.World.{did_told, reload_told, end_told, events_of}
-use Rattle.thy_run.proofs.Fitting.{BootFits, HaltFits, FitsIn, Fits}
+use Rattle.thy_run.proofs.Fitting.{counts_here, BootFits, HaltFits, FitsIn, Fits}
 use Rattle.thy_run.proofs.FittingLaws.{Fits-told}
 
 -- a phase that is none of a boot's
@@ -30,7 +31,7 @@ told-booting o v next Loaded cycle s boot = absurd (let e : next.phase ≡ Run =
 told-booting o v next (Restarted epoch count) cycle s boot = not_boot (runs_at o count) (sym (ap (λ w. w.phase) s.becomes) ∙ boot)
 told-booting o v next (Refused bad) cycle s boot = refl
 told-booting o v next Moved cycle s boot = refl
-told-booting o v next Retired cycle s boot = refl
+told-booting o v next (Retired hart) cycle s boot = refl
 told-booting o v next Flushed cycle s boot = refl
 told-booting o v next Merged cycle s boot = refl
 told-booting o v next Promoted cycle s boot = refl
@@ -76,7 +77,7 @@ loading_marks_of o v m h phase none =
 
 -- the end of a run is lawful
 end_lawful : (o : Origin) (v next : View) (m : Marks) (cycle : ℕ) → Fits o next m → (b : Bool) → halts v next ≡ b
-    → AllLawful (course_of o) m (if b then Ended (at o next.count).status next.count cycle (at o next.count) ∷ [] else [])
+    → AllLawfulAt (counts_here o) m (if b then Ended (at o next.count).status next.count cycle (at o next.count) ∷ [] else [])
 end_lawful o v next m cycle h false is = tt
 end_lawful o v next m cycle h true is =
     let f : HaltFits o next m = subst (FitsIn o next m) (halts-view v next is) h in
@@ -91,7 +92,7 @@ end_marks o m next cycle false = refl
 
 -- what follows a reload, or none
 pub record Reloads (o : Origin) (m : Marks) (reload : List Event) : Type 0 where
-  pub lawful : AllLawful (course_of o) m reload
+  pub lawful : AllLawfulAt (counts_here o) m reload
   pub marks : marks_from o.start.count m reload ≡ m
 
 -- the marks that a reload leaves are those that stood
@@ -121,7 +122,7 @@ marks-events o v next m did fresh cycle least h s =
 
 -- all events of a cycle
 pub Fits-events : (o : Origin) (v next : View) (m : Marks) (did : Did) (fresh : Bool) (cycle : ℕ) → 1 ≤ o.geometry.epoch → Fits o v m → CoreStep o v did next
-    → Fits o next (marks_from o.start.count m (events_of o fresh v did next cycle)) × AllLawful (course_of o) m (events_of o fresh v did next cycle)
+    → Fits o next (marks_from o.start.count m (events_of o fresh v did next cycle)) × AllLawfulAt (counts_here o) m (events_of o fresh v did next cycle)
 Fits-events o v next m did fresh cycle least h s =
     let reload : List Event = reload_told fresh next in
     let step : List Event = did_told o did cycle in
@@ -131,9 +132,9 @@ Fits-events o v next m did fresh cycle least h s =
     let start : ℕ = o.start.count in
     let after_step : marks_from start m (reload ++ step) ≡ marks_from start m step = marks_from-append start m reload step ∙ ap (λ n. marks_from start n step) reloads.marks in
     let after_all = marks-events o v next m did fresh cycle least h s in
-    let lawful_step : AllLawful (course_of o) m (reload ++ step)
-    = AllLawful-append (course_of o) m reload step reloads.lawful (subst (λ n. AllLawful (course_of o) n step) (sym reloads.marks) tells.1) in
+    let lawful_step : AllLawfulAt (counts_here o) m (reload ++ step)
+    = AllLawfulAt-append (counts_here o) m reload step reloads.lawful (subst (λ n. AllLawfulAt (counts_here o) n step) (sym reloads.marks) tells.1) in
     let fits_step : Fits o next (marks_from start m (reload ++ step)) = subst (Fits o next) (sym after_step) tells.0 in (
       subst (Fits o next) (sym after_all) tells.0,
-      AllLawful-append (course_of o) m (reload ++ step) end lawful_step (end_lawful o v next (marks_from start m (reload ++ step)) cycle fits_step (halts v next) refl),
+      AllLawfulAt-append (counts_here o) m (reload ++ step) end lawful_step (end_lawful o v next (marks_from start m (reload ++ step)) cycle fits_step (halts v next) refl),
     )

@@ -3,7 +3,8 @@ use Rattle.std.proofs.Common.{◌≡◌, ◌⊎◌, ℕ, ◌+◌, ◌<◌, ◌�
 use Rattle.thy_base.specs.declared.cause.EndCause.{EndCause}
 use Rattle.thy_base.specs.declared.cause.EndCause.TheVariants.{Length, Exhausted, Ended as EndedCause}
 use Rattle.thy_base.specs.declared.mark.Mark.{Mark}
-use Rattle.thy_text.specs.Marks.{Marks, loading_marks, marks_from, FitsCause, EndsEpoch, AllLawful}
+use Rattle.thy_text.specs.Marks.{Marks, loading_marks, marks_from}
+use Rattle.thy_text.specs.OneHart.{FitsCount, EndsAt, AllLawfulAt}
 use Rattle.thy_view.specs.declared.did.Did.{Did}
 use Rattle.thy_view.specs.declared.did.Did.TheVariants.{Boot, Loaded, Restarted, Refused, Moved, Retired, Flushed, Merged, Sealed, Promoted, Engine, Committed, NvmDrained, DramDrained, Nothing}
 use Rattle.thy_record.specs.declared.engine_step.EngineStep.{EngineStep}
@@ -15,9 +16,8 @@ use Rattle.thy_base.specs.Marks.{mark}
 use Rattle.thy_view.specs.CoreStep.{busier, BootsTo, MovesTo, EngineTo, CoreStep, over_at, phase_at}
 use Rattle.thy_view.specs.Origin.{Origin, runs_at}
 use Rattle.thy_view.proofs.Choices.{if_equal}
-use Rattle.thy_run.specs.Laws.{course_of}
 use Rattle.thy_run.specs.World.{did_told}
-use Rattle.thy_run.proofs.Fitting.{OverFits, IsEither, Loading, Recovering, BootFits, Follows, RunFits, FitsIn, Fits}
+use Rattle.thy_run.proofs.Fitting.{counts_here, OverFits, IsEither, Loading, Recovering, BootFits, Follows, RunFits, FitsIn, Fits}
 
 some_is : (a b : Mark) → Some a ≡ Some b → a ≡ b
 some_is a b e = cc
@@ -127,7 +127,7 @@ module _ (o : Origin) (v next : View) (m : Marks) (least : 1 ≤ o.geometry.epoc
   -- the program is loaded: its checkpoint is committed
   loads : (cycle : ℕ) → v.phase ≡ BootPhase → v.done ≡ None → v.sealed ≡ Some (mark 0 o.start.count)
       → next ≡ record v { phase = Run; done = v.sealed; sealed = None; epoch = 1; count = o.start.count; written = false }
-      → Fits o next (marks_from o.start.count m (did_told o Loaded cycle)) × AllLawful (course_of o) m (did_told o Loaded cycle)
+      → Fits o next (marks_from o.start.count m (did_told o Loaded cycle)) × AllLawfulAt (counts_here o) m (did_told o Loaded cycle)
   loads cycle phase none sealed e =
       let f : BootFits o v m = of_phase o v m BootPhase phase h in
       let is : m ≡ loading_marks o.start.count = elim f.boots as (λ _. m ≡ loading_marks o.start.count) [
@@ -150,7 +150,7 @@ module _ (o : Origin) (v next : View) (m : Marks) (least : 1 ≤ o.geometry.epoc
   -- an epoch was restored
   restarts : (epoch count cycle : ℕ) → v.phase ≡ BootPhase → v.done ≡ Some (mark epoch count) → v.sealed ≡ None → v.written ≡ false
       → next ≡ record v { phase = phase_at o count; epoch = epoch + 1; count = count; retired = 0; spent = 0; lap = 0 }
-      → Fits o next (marks_from o.start.count m (did_told o (Restarted epoch count) cycle)) × AllLawful (course_of o) m (did_told o (Restarted epoch count) cycle)
+      → Fits o next (marks_from o.start.count m (did_told o (Restarted epoch count) cycle)) × AllLawfulAt (counts_here o) m (did_told o (Restarted epoch count) cycle)
   restarts epoch count cycle phase done none written e =
       let f : BootFits o v m = of_phase o v m BootPhase phase h in
       let either : IsEither m.kept m.sealed (mark epoch count) = elim f.boots as (λ _. IsEither m.kept m.sealed (mark epoch count)) [
@@ -178,7 +178,7 @@ module _ (o : Origin) (v next : View) (m : Marks) (least : 1 ≤ o.geometry.epoc
   -- an epoch is sealed: it ends lawfully
   seals : (epoch count cycle : ℕ) (cause : EndCause) → v.phase ≡ Run → v.sealed ≡ None → epoch ≡ v.epoch → count ≡ v.count → v.over ≡ Some cause
       → next ≡ record v { sealed = Some (mark epoch count); epoch = v.epoch + 1; retired = 0; spent = 0; lap = 0; over = None }
-      → Fits o next (marks_from o.start.count m (did_told o (Sealed epoch count cause) cycle)) × AllLawful (course_of o) m (did_told o (Sealed epoch count cause) cycle)
+      → Fits o next (marks_from o.start.count m (did_told o (Sealed epoch count cause) cycle)) × AllLawfulAt (counts_here o) m (did_told o (Sealed epoch count cause) cycle)
   seals epoch count cycle cause phase none of at_count over e =
       let f : RunFits o v m = of_phase o v m Run phase h in
       let g : Follows o v f.mark None = subst (Follows o v f.mark) none f.follows in
@@ -193,7 +193,7 @@ module _ (o : Origin) (v next : View) (m : Marks) (least : 1 ≤ o.geometry.epoc
         few = omega arith;
         over = least;
       } in
-      let ends : EndsEpoch (course_of o) m epoch count cause = record {
+      let ends : EndsAt (counts_here o) m epoch count cause [] = record {
         before = f.mark.epoch;
         last = f.mark.count;
         follows = of ∙ g.1;
@@ -201,11 +201,12 @@ module _ (o : Origin) (v next : View) (m : Marks) (least : 1 ≤ o.geometry.epoc
         alone = f.sealed ∙ none;
         from = omega (arith, g.2, at_count);
         to = omega (arith, g.2, at_count, f.few);
+        untold = refl;
         fits = for_cause f.mark cause g.2 fits;
       } in
       (subst (λ w. Fits o w (marks_from o.start.count m (did_told o (Sealed epoch count cause) cycle))) (sym e) (in_phase o w _ Run phase now), (ends, tt))
     where
-      for_cause : (d : Mark) (c : EndCause) → v.count ≡ d.count + v.retired → OverFits o v.retired v.count (Some c) → FitsCause (course_of o) d.count count c
+      for_cause : (d : Mark) (c : EndCause) → v.count ≡ d.count + v.retired → OverFits o v.retired v.count (Some c) → FitsCount (counts_here o) d.count count c
       for_cause d EndedCause from fits = ap (runs_at o) at_count ∙ fits
       for_cause d Length from fits = (ap (runs_at o) at_count ∙ fits.0, omega (arith, from, at_count, fits.1))
       for_cause d (Exhausted free dirty need) from fits =
@@ -214,7 +215,7 @@ module _ (o : Origin) (v next : View) (m : Marks) (least : 1 ≤ o.geometry.epoc
   -- a checkpoint is committed
   commits : (epoch overlapped cycle count : ℕ) → v.phase ≡ Run → v.sealed ≡ Some (mark epoch count)
       → next ≡ record (busier v) { phase = phase_at o count; done = v.sealed; sealed = None; written = false }
-      → Fits o next (marks_from o.start.count m (did_told o (Committed epoch overlapped) cycle)) × AllLawful (course_of o) m (did_told o (Committed epoch overlapped) cycle)
+      → Fits o next (marks_from o.start.count m (did_told o (Committed epoch overlapped) cycle)) × AllLawfulAt (counts_here o) m (did_told o (Committed epoch overlapped) cycle)
   commits epoch overlapped cycle count phase sealed e =
       let f : RunFits o v m = of_phase o v m Run phase h in
       let g : Follows o v f.mark (Some (mark epoch count)) = subst (Follows o v f.mark) sealed f.follows in
@@ -237,19 +238,19 @@ module _ (o : Origin) (v next : View) (m : Marks) (least : 1 ≤ o.geometry.epoc
           record { mark = mark epoch count; done = sealed; sealed = refl; written = refl; kept = f.sealed ∙ sealed; none = refl; count = still; over = ap (runs_at o) still ∙ runs }
 
   -- a step that tells nothing
-  quiet : (did : Did) (cycle : ℕ) → did_told o did cycle ≡ [] → Fits o next m → Fits o next (marks_from o.start.count m (did_told o did cycle)) × AllLawful (course_of o) m (did_told o did cycle)
+  quiet : (did : Did) (cycle : ℕ) → did_told o did cycle ≡ [] → Fits o next m → Fits o next (marks_from o.start.count m (did_told o did cycle)) × AllLawfulAt (counts_here o) m (did_told o did cycle)
   quiet did cycle none fits =
-      (subst (λ vs. Fits o next (marks_from o.start.count m vs)) (sym none) fits, subst (AllLawful (course_of o) m) (sym none) tt)
+      (subst (λ vs. Fits o next (marks_from o.start.count m vs)) (sym none) fits, subst (AllLawfulAt (counts_here o) m) (sym none) tt)
 
   -- a step keeps view and marks fitting, and what it tells is lawful
   pub Fits-told : (did : Did) (cycle : ℕ) → CoreStep o v did next
-      → Fits o next (marks_from o.start.count m (did_told o did cycle)) × AllLawful (course_of o) m (did_told o did cycle)
+      → Fits o next (marks_from o.start.count m (did_told o did cycle)) × AllLawfulAt (counts_here o) m (did_told o did cycle)
   Fits-told Boot cycle s = quiet Boot cycle refl (boots s.0 s.1)
   Fits-told Loaded cycle s = loads cycle s.phase s.none s.sealed s.becomes
   Fits-told (Restarted epoch count) cycle s = restarts epoch count cycle s.phase s.done s.unsealed s.unwritten s.becomes
   Fits-told (Refused bad) cycle s = quiet (Refused bad) cycle refl (same s.3)
   Fits-told Moved cycle s = quiet Moved cycle refl (moves s.0 s.1 s.2 s.3)
-  Fits-told Retired cycle s = quiet Retired cycle refl (retires s.phase s.over s.runs s.becomes)
+  Fits-told (Retired hart) cycle s = quiet (Retired hart) cycle refl (retires s.phase s.over s.runs s.becomes)
   Fits-told Flushed cycle s = quiet Flushed cycle refl (busy s.0 s.1)
   Fits-told Merged cycle s = quiet Merged cycle refl (busy s.0 s.1)
   Fits-told Promoted cycle s = quiet Promoted cycle refl (busy s.0 s.1)

@@ -61,7 +61,7 @@ Stays-quiet o v next Loaded cycle s none = some_event _ none
 Stays-quiet o v next (Restarted epoch count) cycle s none = some_event _ none
 Stays-quiet o v next (Refused bad) cycle s none = stays_same v next s.3
 Stays-quiet o v next Moved cycle s none = stays_moved v next s.3
-Stays-quiet o v next Retired cycle s none = record { phase = ap (λ w. w.phase) s.becomes; done = ap (λ w. w.done) s.becomes }
+Stays-quiet o v next (Retired hart) cycle s none = record { phase = ap (λ w. w.phase) s.becomes; done = ap (λ w. w.done) s.becomes }
 Stays-quiet o v next Flushed cycle s none = stays_busy v next s.1
 Stays-quiet o v next Merged cycle s none = stays_busy v next s.1
 Stays-quiet o v next Promoted cycle s none = stays_busy v next s.1
@@ -179,7 +179,7 @@ module _ (read : List Block → Decoded) (o : Origin) (cycles : ℕ) (fresh : Bo
   told_fits (Restarted epoch count) cycle c = inr (is_at epoch count o s.means v c.done (f.boot c.phase), (refl, refl))
   told_fits (Refused bad) cycle c = inl refl
   told_fits Moved cycle c = inl refl
-  told_fits Retired cycle c = inl refl
+  told_fits (Retired hart) cycle c = inl refl
   told_fits Flushed cycle c = inl refl
   told_fits Merged cycle c = inl refl
   told_fits Promoted cycle c = inl refl

@@ -14,7 +14,7 @@ AllFit-append read P Q s [] ws (g ∷ left) more next (none, p) = absurd (cc)
 AllFit-append read P Q s (Cut index cycle ∷ vs) ws [] more next h = absurd h
 AllFit-append read P Q s (Cut index cycle ∷ vs) ws (g ∷ left) more next h =
     (h.0, AllFit-append read P Q (found (read g) (Some cycle)) vs ws left more next h.1)
-AllFit-append read P Q s (EpochEnd epoch count cause ∷ vs) ws left more next h = (h.0, AllFit-append read P Q (found s.means None) vs ws left more next h.1)
+AllFit-append read P Q s (EpochEnd epoch count cause turns ∷ vs) ws left more next h = (h.0, AllFit-append read P Q (found s.means None) vs ws left more next h.1)
 AllFit-append read P Q s (Commit epoch cycle overlapped ∷ vs) ws left more next h = (h.0, AllFit-append read P Q (found s.means None) vs ws left more next h.1)
 AllFit-append read P Q s (Restart epoch count state ∷ vs) ws left more next h = (h.0, AllFit-append read P Q (found s.means None) vs ws left more next h.1)
 AllFit-append read P Q s (Reload ∷ vs) ws left more next h = (h.0, AllFit-append read P Q (found s.means None) vs ws left more next h.1)
@@ -30,7 +30,7 @@ pub AllFit-ends : (read : List Block → Decoded) (P Q : Found → Type 0) (s : 
 AllFit-ends read P Q s [] left next (none, p) = (none, next s p)
 AllFit-ends read P Q s (Cut index cycle ∷ vs) [] next h = absurd h
 AllFit-ends read P Q s (Cut index cycle ∷ vs) (g ∷ left) next h = (h.0, AllFit-ends read P Q (found (read g) (Some cycle)) vs left next h.1)
-AllFit-ends read P Q s (EpochEnd epoch count cause ∷ vs) left next h = (h.0, AllFit-ends read P Q (found s.means None) vs left next h.1)
+AllFit-ends read P Q s (EpochEnd epoch count cause turns ∷ vs) left next h = (h.0, AllFit-ends read P Q (found s.means None) vs left next h.1)
 AllFit-ends read P Q s (Commit epoch cycle overlapped ∷ vs) left next h = (h.0, AllFit-ends read P Q (found s.means None) vs left next h.1)
 AllFit-ends read P Q s (Restart epoch count state ∷ vs) left next h = (h.0, AllFit-ends read P Q (found s.means None) vs left next h.1)
 AllFit-ends read P Q s (Reload ∷ vs) left next h = (h.0, AllFit-ends read P Q (found s.means None) vs left next h.1)
@@ -41,7 +41,7 @@ pub AllFit-part : (read : List Block → Decoded) (P : Found → Type 0) (cycles
     → HasLeft cycles s → AllFit read (HasLeft cycles) s vs []
 AllFit-part read P cycles s [] ws left h uncut last = (refl, last)
 AllFit-part read P cycles s (Cut index cycle ∷ vs) ws left h uncut last = absurd (cc)
-AllFit-part read P cycles s (EpochEnd epoch count cause ∷ vs) ws left h uncut last = (h.0, AllFit-part read P cycles (found s.means None) vs ws left h.1 uncut (has_left cycles s.means))
+AllFit-part read P cycles s (EpochEnd epoch count cause turns ∷ vs) ws left h uncut last = (h.0, AllFit-part read P cycles (found s.means None) vs ws left h.1 uncut (has_left cycles s.means))
 AllFit-part read P cycles s (Commit epoch cycle overlapped ∷ vs) ws left h uncut last = (h.0, AllFit-part read P cycles (found s.means None) vs ws left h.1 uncut (has_left cycles s.means))
 AllFit-part read P cycles s (Restart epoch count state ∷ vs) ws left h uncut last = (h.0, AllFit-part read P cycles (found s.means None) vs ws left h.1 uncut (has_left cycles s.means))
 AllFit-part read P cycles s (Reload ∷ vs) ws left h uncut last = (h.0, AllFit-part read P cycles (found s.means None) vs ws left h.1 uncut (has_left cycles s.means))
@@ -52,7 +52,7 @@ pub AllFit-many : (read : List Block → Decoded) (P : Found → Type 0) (s : Fo
 AllFit-many read P s [] left h = ap length h.0
 AllFit-many read P s (Cut index cycle ∷ vs) [] h = absurd h
 AllFit-many read P s (Cut index cycle ∷ vs) (g ∷ left) h = ap (λ n. suc n) (AllFit-many read P (found (read g) (Some cycle)) vs left h.1)
-AllFit-many read P s (EpochEnd epoch count cause ∷ vs) left h = AllFit-many read P (found s.means None) vs left h.1
+AllFit-many read P s (EpochEnd epoch count cause turns ∷ vs) left h = AllFit-many read P (found s.means None) vs left h.1
 AllFit-many read P s (Commit epoch cycle overlapped ∷ vs) left h = AllFit-many read P (found s.means None) vs left h.1
 AllFit-many read P s (Restart epoch count state ∷ vs) left h = AllFit-many read P (found s.means None) vs left h.1
 AllFit-many read P s (Reload ∷ vs) left h = AllFit-many read P (found s.means None) vs left h.1

@@ -1,28 +1,33 @@
 -- What follows for every run.
-use Rattle.std.proofs.Common.{◌≡◌, ◌⊎◌, ℕ, zero, suc, ◌+◌, ◌-◌, ◌≤◌, false, if◌then◌else◌, List, [], ◌∷◌, ◌++◌, length, take, refl, sym, ◌∙◌, ap, subst, inl, inr, append-nil, append_assoc, arith}
+use Rattle.std.proofs.Common.{◌≡◌, ◌⊎◌, ℕ, zero, suc, ◌+◌, ◌-◌, ◌≤◌, false, if◌then◌else◌, Option, Some, None, List, [], ◌∷◌, ◌++◌, length, take, refl, sym, ◌∙◌, ap, subst, inl, inr, append-nil, append_assoc, arith}
 use Rattle.std.proofs.lemmas.Bool.{or_from}
 use Rattle.std.proofs.lemmas.List.Folds.{list_any-append}
 use Rattle.thy_base.specs.declared.block.Block.{Block}
+use Rattle.thy_base.specs.declared.mark.Mark.{Mark}
 use Rattle.thy_base.specs.Device.{Device}
 use Rattle.thy_view.specs.Action.{doubt_after_fault}
 use Rattle.thy_view.specs.Kind.{KindOf, IsLawful}
 use Rattle.thy_text.specs.Event.{Event}
 use Rattle.thy_text.specs.Marks.{Marks, Course, marks_from, marks_after, AllLawful}
+use Rattle.thy_text.specs.OneHart.{AllLawfulAt, IsUntold}
 use Rattle.thy_text.proofs.Histories.{marks_from-append}
-use Rattle.thy_view.specs.Origin.{Origin}
+use Rattle.thy_text.proofs.OneHartLaws.{from-counts}
+use Rattle.thy_view.specs.Origin.{Origin, at}
+use Rattle.thy_view.specs.Told.{told}
 use Rattle.thy_record.specs.Decoded.{Decoded}
 use Rattle.thy_view.specs.Safe.{ceiling, Safe}
 use Rattle.thy_view.specs.Views.{doubt_of}
 use Rattle.thy_view.proofs.SafeLemmas.{Safe-failed}
 use Rattle.thy_run.specs.Cuts.{is_end, has_ended, cuts_among, numbered, last_cuttable, cuts_up_to}
 use Rattle.thy_run.specs.Images.{Found, HasLeft, AllFit}
-use Rattle.thy_run.specs.Laws.{course_of, first_marks, marks_of, found_at_start, torn, LeavesRoom, Promise, RunKeepsPromise}
+use Rattle.thy_run.specs.Laws.{course_of, marks_at, first_marks, marks_of, found_at_start, torn, LeavesRoom, Promise, RunKeepsPromise}
 use Rattle.thy_run.specs.Progress.{IsSoonOver}
 use Rattle.thy_run.specs.Strides.{first_epoch, AllStride}
 use Rattle.thy_run.specs.Unfinished.{StepFailed, ReadFailed, TellingFailed, IsLast, AtStop}
 use Rattle.thy_run.specs.World.{World, Given, seen, events_of, TakesStep}
 use Rattle.thy_run.specs.declared.ending.Stop.{Stop}
 use Rattle.thy_run.specs.declared.ending.Stop.TheVariants.{Ended, Nvm, Memory, Terminal, Report, Limit}
+use Rattle.thy_run.proofs.Fitting.{counts_here}
 use Rattle.thy_run.proofs.CoverLaws.{Covers-fault, Covers-part, Safe-covered}
 use Rattle.thy_run.proofs.ImageLaws.{ImagesFit, AllFit-events}
 use Rattle.thy_run.proofs.ImageLemmas.{AllFit-append, AllFit-ends, AllFit-part}
@@ -30,7 +35,7 @@ use Rattle.thy_run.proofs.ListedLemmas.{cuts_among-append}
 use Rattle.thy_run.proofs.PickLaws.{StaysFitted, StaysFitted-framed, StaysFitted-ran}
 use Rattle.thy_run.proofs.SoonLaws.{SoonOver-ran}
 use Rattle.thy_run.proofs.StrideLaws.{AllStride-part, Strode, strode_step, strode_ran}
-use Rattle.thy_run.proofs.WorldLaws.{Coheres, Listed, Good, listed_going, events_uncut, Coheres-stepped, Good-ran, cycles-ran}
+use Rattle.thy_run.proofs.WorldLaws.{Coheres, Listed, Good, listed_going, events_uncut, Coheres-stepped, Good-ran, cycles-ran, untold-ran}
 use Rattle.thy_base.proofs.RangeLemmas.{epoch_least}
 use Rattle.thy_run.proofs.StepFrames.{TakesStep-framed}
 
@@ -58,6 +63,19 @@ pub AllLawful-part : (c : Course) (m : Marks) (vs ws : List Event) → AllLawful
 AllLawful-part c m [] ws all = tt
 AllLawful-part c m (v ∷ vs) ws all = (all.0, AllLawful-part c (marks_after c.start m v) vs ws all.1)
 
+-- ---- with no turn told
+
+pub first_untold : (start : ℕ) (kept : Option Mark) → IsUntold (marks_at start kept)
+first_untold start None = record { kept = refl; sealed = refl }
+first_untold start (Some m) = record { kept = refl; sealed = refl }
+
+-- what is lawful by counts alone is lawful
+lawful_told : (o : Origin) (events : List Event) → o.turns ≡ [] → AllLawfulAt (counts_here o) (first_marks o) events → AllLawful (course_of o) (first_marks o) events
+lawful_told o events none lawful =
+    let by_counts : List ℕ → Type 0 =
+    λ turns. AllLawfulAt (record { at = λ k. at (told o turns) k; start = o.start.count; epoch = o.geometry.epoch }) (first_marks o) events in
+    from-counts (course_of o) (first_marks o) events refl (first_untold o.start.count o.kept) (subst by_counts none lawful)
+
 -- ---- the promise, from its parts
 
 -- what the listed cuts come to
@@ -80,7 +98,7 @@ leaves_room given passed events n stays few left cuts = record {
 }
 
 module _ {M : Type 0} (K : KindOf M) (o : Origin) (given : Given) (w : World M) (least : 1 ≤ o.geometry.epoch) (g : Good K o given.config.cuts w) (keeps : StaysFitted given w.passed w.device)
-    (soon : IsSoonOver K o given.config.cuts w.cycles) (strode : Strode K o w) where
+    (soon : IsSoonOver K o given.config.cuts w.cycles) (strode : Strode K o w) (none : o.turns ≡ []) where
   abbrev read : List Block → Decoded
   read = K.decode o.geometry ceiling
 
@@ -92,7 +110,7 @@ module _ {M : Type 0} (K : KindOf M) (o : Origin) (given : Given) (w : World M) 
   done_promise =
       let fit = cuts_fit given.config.cuts (last_cuttable w.events w.cycles) w g.listed in
       record {
-        events_lawful = g.stands.lawful;
+        events_lawful = lawful_told o w.events none g.stands.lawful;
         restarts_decode = AllFit-ends read stood (HasLeft w.cycles) (found_at_start o) w.events w.device.left (λ t p. p.last) g.stands.each;
         cuts_listed = fit.0;
         picks_listed = keeps.picks ∙ sym (ap (torn given.config.tears) fit.1);
@@ -155,7 +173,8 @@ module _ {M : Type 0} (K : KindOf M) (o : Origin) (given : Given) (w : World M) 
         | inr f ↦ Safe-failed K.decode o (marks_from o.start.count m part).kept (marks_from o.start.count m part).sealed next.device n safe_next f.failed f.framed
       ] in
       record {
-        events_lawful = AllLawful-part (course_of o) (first_marks o) (w.events ++ part) rest (subst (AllLawful (course_of o) (first_marks o)) split after.lawful);
+        events_lawful = AllLawful-part (course_of o) (first_marks o) (w.events ++ part) rest
+            (subst (AllLawful (course_of o) (first_marks o)) split (lawful_told o next.events none after.lawful));
         restarts_decode = subst (AllFit read (HasLeft w.cycles) (found_at_start o) (w.events ++ part)) (append-nil w.device.left ∙ sym (left ∙ left_next))
             (AllFit-append read stood (HasLeft w.cycles) (found_at_start o) w.events part w.device.left []
             (λ t p. AllFit-part read (ImagesFit o (w.cycles + 1) false (seen K o next)) w.cycles t part rest []
@@ -203,4 +222,4 @@ Promise-stopped K laws o given cycles events n stop origin rising s =
     let same : s.last.cycles ≡ cycles = cycles-ran K o given cycles s.last s.ran in
     let soon : IsSoonOver K o given.config.cuts s.last.cycles = subst (IsSoonOver K o given.config.cuts) (sym same) (SoonOver-ran K laws o given cycles s.last s.ran) in
     subst (λ k. Promise K o given k events n) same
-    (stop_promise K o given s.last least good (StaysFitted-ran K o given cycles s.last s.ran) soon (strode_ran K o given cycles s.last s.ran) events n stop s.at_stop)
+    (stop_promise K o given s.last least good (StaysFitted-ran K o given cycles s.last s.ran) soon (strode_ran K o given cycles s.last s.ran) (untold-ran K o given cycles s.last s.ran) events n stop s.at_stop)

@@ -39,6 +39,7 @@ first_of {M = M} K laws plan m n planned powered f =
     let view : K.view o m n ≡ first_view o = ap (K.view o m) f.is_fitted ∙ law.1 in
     let S : View → Type 0 = λ v. Safe K.decode o v.done (doubt_of v) n in
     record {
+      untold = refl;
       device = refl;
       powered = powered;
       at_moment = at_first;

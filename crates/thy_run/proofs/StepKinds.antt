@@ -47,7 +47,8 @@ pub record Restores (o : Origin) (v next : View) (did : Did) : Type 0 where
   pub retired : next.retired ≡ 0
 
 pub record Advances (o : Origin) (v next : View) (did : Did) : Type 0 where
-  pub did_is : did ≡ Retired
+  pub hart : ℕ
+  pub did_is : did ≡ Retired hart
   pub runs : v.phase ≡ Run
   pub going : runs_at o v.count ≡ true
   pub up : is_boot next.phase ≡ false
@@ -120,9 +121,9 @@ kind_of o v next (Restarted epoch count) s =
 kind_of o v next (Refused bad) s = keeps_to o v next v (Refused bad) s.3 (record { phase = refl; done = refl; sealed = refl; count = refl; retired = refl; none = refl; nothing_told = λ cycle. refl; idle = λ retired old new e. e })
 kind_of o v next Moved (run, over, runs, inl e) = keeps_to o v next _ Moved e (record { phase = refl; done = refl; sealed = refl; count = refl; retired = refl; none = refl; nothing_told = λ cycle. refl; idle = λ retired old new e. e })
 kind_of o v next Moved (run, over, runs, inr s) = keeps_to o v next _ Moved s.4 (record { phase = refl; done = refl; sealed = refl; count = refl; retired = refl; none = refl; nothing_told = λ cycle. refl; idle = λ retired old new e. e })
-kind_of o v next Retired s =
-    advances (subst (λ x. Advances o v x Retired) (sym s.becomes)
-    (record { did_is = refl; runs = s.phase; going = s.runs; up = ap is_boot s.phase; done = refl; sealed = refl; count = refl; retired = refl }))
+kind_of o v next (Retired hart) s =
+    advances (subst (λ x. Advances o v x (Retired hart)) (sym s.becomes)
+    (record { hart = hart; did_is = refl; runs = s.phase; going = s.runs; up = ap is_boot s.phase; done = refl; sealed = refl; count = refl; retired = refl }))
 kind_of o v next Flushed s = keeps_to o v next _ Flushed s.1 (record { phase = refl; done = refl; sealed = refl; count = refl; retired = refl; none = refl; nothing_told = λ cycle. refl; idle = λ retired old new e. e })
 kind_of o v next Merged s = keeps_to o v next _ Merged s.1 (record { phase = refl; done = refl; sealed = refl; count = refl; retired = refl; none = refl; nothing_told = λ cycle. refl; idle = λ retired old new e. e })
 kind_of o v next Promoted s = keeps_to o v next _ Promoted s.1 (record { phase = refl; done = refl; sealed = refl; count = refl; retired = refl; none = refl; nothing_told = λ cycle. refl; idle = λ retired old new e. e })

@@ -11,8 +11,10 @@ use Rattle.thy_base.proofs.CrashLemmas.{Crash-cut_to}
 use Rattle.thy_record.specs.Decoded.{Decoded, Nothing as NothingLeft, Refused as RefusedImage, At}
 use Rattle.thy_view.specs.Kind.{KindOf}
 use Rattle.thy_text.specs.Event.{Event, Cut, Reload, Ended}
-use Rattle.thy_text.specs.Marks.{Marks, loading_marks, marks_from, AllLawful}
-use Rattle.thy_text.proofs.Histories.{marks_from-append, AllLawful-append}
+use Rattle.thy_text.specs.Marks.{Marks, loading_marks, marks_from}
+use Rattle.thy_text.specs.OneHart.{AllLawfulAt}
+use Rattle.thy_text.proofs.Histories.{marks_from-append}
+use Rattle.thy_text.proofs.OneHartLaws.{AllLawfulAt-append}
 use Rattle.thy_view.specs.declared.did.Did.{Did}
 use Rattle.thy_view.specs.declared.did.Did.TheVariants.{Boot, Loaded, Restarted, Refused, Moved, Retired, Flushed, Merged, Sealed, Promoted, Engine, Committed, NvmDrained, DramDrained, Nothing}
 use Rattle.thy_view.specs.declared.view.Phase.{Phase}
@@ -22,15 +24,15 @@ use Rattle.thy_view.specs.Booting.{found_first, first_view, view_of_image}
 use Rattle.thy_base.specs.Marks.{mark}
 use Rattle.thy_view.specs.Views.{is_boot, is_halt, loads, halts, doubt_of}
 use Rattle.thy_view.specs.CoreStep.{CoreStep}
-use Rattle.thy_isa.specs.Step.{steps}
-use Rattle.thy_view.specs.Origin.{Origin, at, setting_of}
+use Rattle.thy_view.specs.Origin.{Origin, at}
 use Rattle.thy_view.specs.Safe.{ceiling, Safe, IsOneOf}
 use Rattle.thy_view.proofs.SafeLemmas.{Safe-doubt}
+use Rattle.thy_view.proofs.TurnLaws.{at-early}
 use Rattle.thy_run.specs.Cuts.{is_end, has_ended, cuts_among, numbered, last_cuttable, cuts_up_to}
 use Rattle.thy_run.specs.Images.{Found, found, AllFit}
-use Rattle.thy_run.specs.Laws.{course_of, marks_at, first_marks, marks_of, found_at_start}
+use Rattle.thy_run.specs.Laws.{marks_at, first_marks, marks_of, found_at_start}
 use Rattle.thy_run.specs.World.{World, seen, did_told, reload_told, end_told, events_of, after_step, TakesStep, is_due, cut_off, IsCutOff, tear, Cycle, Given, IsFirst, Ran}
-use Rattle.thy_run.proofs.Fitting.{IsEither, Rises, Follows, FitsIn, Fits}
+use Rattle.thy_run.proofs.Fitting.{counts_here, IsEither, Rises, Follows, FitsIn, Fits}
 use Rattle.thy_run.proofs.CoverLaws.{Covers-fits, Safe-covered}
 use Rattle.thy_run.proofs.EventLaws.{Fits-events}
 use Rattle.thy_run.proofs.ImageLaws.{IsFound, ImagesFit, AllFit-events}
@@ -46,7 +48,7 @@ told_uncut o Loaded cycle = (refl, refl)
 told_uncut o (Restarted epoch count) cycle = (refl, refl)
 told_uncut o (Refused bad) cycle = (refl, refl)
 told_uncut o Moved cycle = (refl, refl)
-told_uncut o Retired cycle = (refl, refl)
+told_uncut o (Retired hart) cycle = (refl, refl)
 told_uncut o Flushed cycle = (refl, refl)
 told_uncut o Merged cycle = (refl, refl)
 told_uncut o Promoted cycle = (refl, refl)
@@ -88,7 +90,7 @@ events_end o fresh v did next cycle =
 pub record Coheres {M : Type 0} (K : KindOf M) (o : Origin) (w : World M) : Type 0 where
   pub at_moment : K.is_at o w.cycles w.machine w.device
   pub fits : Fits o (seen K o w) (marks_of o w.events)
-  pub lawful : AllLawful (course_of o) (first_marks o) w.events
+  pub lawful : AllLawfulAt (counts_here o) (first_marks o) w.events
   pub safe : Safe K.decode o (marks_of o w.events).kept (marks_of o w.events).sealed w.device
   pub each : AllFit (K.decode o.geometry ceiling) (ImagesFit o w.cycles w.fresh (seen K o w)) (found_at_start o) w.events w.device.left
   pub left : length w.device.left ≡ w.passed
@@ -130,7 +132,7 @@ module _ {M : Type 0} (K : KindOf M) (o : Origin) (w : World M) (least : 1 ≤ o
       record {
         at_moment = step.is_step.at_next;
         fits = fits;
-        lawful = AllLawful-append (course_of o) (first_marks o) w.events e h.lawful events.1;
+        lawful = AllLawfulAt-append (counts_here o) (first_marks o) w.events e h.lawful events.1;
         safe = Safe-covered K o (marks_of o (w.events ++ e)).kept (marks_of o (w.events ++ e)).sealed next.done (doubt_of next) x.device
             (Covers-fits o next (marks_of o (w.events ++ e)) fits) step.is_step.safe;
         each = subst (AllFit read now (found_at_start o) (w.events ++ e)) (append-nil w.device.left ∙ sym left)
@@ -299,7 +301,7 @@ module _ {M : Type 0} (K : KindOf M) (o : Origin) (x next : World M) (h : Cohere
     at_moment = cut.at_moment;
     fits = subst (λ v. Fits o v (marks_of o (x.events ++ Cut (x.passed + 1) x.cycles ∷ []))) (sym cut.found)
         (subst (Fits o (view_of_image o.start.count left_image)) (sym cut_marks) (fits_cut o (seen K o x) (marks_of o x.events) left_image h.fits one_of));
-    lawful = AllLawful-append (course_of o) (first_marks o) x.events (Cut (x.passed + 1) x.cycles ∷ []) h.lawful (tt, tt);
+    lawful = AllLawfulAt-append (counts_here o) (first_marks o) x.events (Cut (x.passed + 1) x.cycles ∷ []) h.lawful (tt, tt);
     safe = subst (λ (m : Marks). Safe K.decode o m.kept m.sealed next.device) (sym cut_marks) (Safe-cut K o (marks_of o x.events).kept (marks_of o x.events).sealed pick x.device next.device cut.cut h.safe);
     each = subst (AllFit (K.decode o.geometry ceiling) (ImagesFit o x.cycles true (seen K o next)) (found_at_start o) (x.events ++ Cut (x.passed + 1) x.cycles ∷ [])) (sym lefts) cut_each;
     left = ap length lefts ∙ length-append x.device.left (next.device.image ∷ []) ∙ ap (λ c. c + 1) h.left;
@@ -356,8 +358,7 @@ Good-cycle {M = M} K o cuts tears w next least rising g c =
 
 -- the start is the plain machine's state at its count
 at-start : (o : Origin) → o.start ≡ at o o.start.count
-unfolding at steps
-at-start o = ap (λ (k : ℕ). steps (setting_of o) k o.start) (let none : 0 ≡ o.start.count - o.start.count = omega arith in none)
+at-start o = sym (at-early o o.start.count (omega arith))
 
 -- the view and the marks with which a run begins
 first_fits : (o : Origin) (kept : Option Mark) → Fits o (view_of_image o.start.count (found_first o kept)) (marks_at o.start.count kept)
@@ -399,7 +400,7 @@ Good-first {M = M} K o given w rising f =
       stands = record {
         at_moment = subst (λ k. K.is_at o k w.machine w.device) (sym cycles) f.at_moment;
         fits = subst (λ v. Fits o v (marks_of o w.events)) (sym f.found) (subst (Fits o (first_view o)) (sym marks) (first_fits o o.kept));
-        lawful = subst (AllLawful (course_of o) (first_marks o)) (sym none) tt;
+        lawful = subst (AllLawfulAt (counts_here o) (first_marks o)) (sym none) tt;
         safe = subst (λ (m : Marks). Safe K.decode o m.kept m.sealed w.device) (sym marks) (Safe-doubt K.decode o (first_marks o).kept (first_marks o).sealed w.device kept);
         each = subst (λ vs. AllFit (K.decode o.geometry ceiling) (ImagesFit o w.cycles w.fresh (seen K o w)) (found_at_start o) vs w.device.left) (sym none) (
           f.left,
@@ -434,3 +435,8 @@ cycles-ran {M = M} K o given (suc k) w (before, ran, cycle) =
     let e : before.cycles ≡ k = cycles-ran K o given k before ran in
     let f : w.cycles ≡ before.cycles + 1 = cycle_counts K o given.config.cuts before cycle.between w cycle.steps (tear given.config.tears cycle.between.passed) (is_due K o given.config.cuts cycle.between) cycle.cut in
     omega (arith, e, f)
+
+-- and no turn was told at its start
+pub untold-ran : {M : Type 0} (K : KindOf M) → (o : Origin) (given : Given) (k : ℕ) (w : World M) → Ran K o given k w → o.turns ≡ []
+untold-ran {M = M} K o given zero w first = first.untold
+untold-ran {M = M} K o given (suc k) w (before, ran, cycle) = untold-ran K o given k before ran

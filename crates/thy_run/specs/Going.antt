@@ -33,13 +33,14 @@ use Rattle.thy_run.specs.declared.gather.Readings.{Readings}
 use Rattle.thy_run.specs.declared.plan.Plan.{Plan}
 use Rattle.thy_run.specs.declared.progress.Progress.{Progress}
 
--- what the run is about
+-- what the run is about; with one hart no turn is told
 abbrev pub origin_of : Plan → Origin
 origin_of plan = record {
   geometry = plan.geometry;
   start = state_of plan.start.state;
   input = bytes_of plan.start.input;
   kept = plan.start.kept;
+  turns = [];
 }
 
 -- what it is given besides, over a device that was fitted

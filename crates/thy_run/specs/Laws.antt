@@ -10,6 +10,7 @@ use Rattle.thy_base.specs.Marks.{mark}
 use Rattle.thy_text.specs.Marks.{Marks, Course, loading_marks, marks_from, AllLawful}
 use Rattle.thy_text.specs.Released.{released}
 use Rattle.thy_view.specs.Origin.{Origin, at, IsOrigin}
+use Rattle.thy_view.specs.Told.{told}
 use Rattle.thy_view.specs.Booting.{found_first}
 use Rattle.thy_view.specs.Safe.{ceiling, Safe}
 use Rattle.thy_run.specs.Cuts.{cuts_among, numbered, cuts_up_to, last_cuttable}
@@ -20,14 +21,14 @@ use Rattle.thy_run.specs.Unfinished.{Stopped}
 use Rattle.thy_run.specs.World.{Given, tear}
 use Rattle.thy_run.specs.declared.ending.Stop.{Stop}
 
--- what the events of a run are held against
+-- what the events of a run are held against; there is one hart
 abbrev pub course_of : Origin → Course
-course_of o = record { at = at o; start = o.start.count; epoch = o.geometry.epoch }
+course_of o = record { at = λ k turns. at (told o turns) k; start = o.start.count; epoch = o.geometry.epoch; harts = 1 }
 
 -- the marks before any event, at this count: the checkpoint that the start was taken from is kept, or the start is sealed
 abbrev pub marks_at : ℕ → Option Mark → Marks
 marks_at start None = loading_marks start
-marks_at start (Some m) = record { kept = Some (mark m.epoch start); sealed = None }
+marks_at start (Some m) = record { kept = Some (mark m.epoch start); sealed = None; kept_turns = []; sealed_turns = [] }
 
 abbrev pub first_marks : Origin → Marks
 first_marks o = marks_at o.start.count o.kept

@@ -22,7 +22,7 @@ first_epoch start = record { began = start; idle = false }
 
 -- what an event makes of it; `start` is the count at which the run starts
 abbrev pub epoch_after : ℕ → Epoch → Event → Epoch
-epoch_after start e (EpochEnd epoch count cause) = record { began = count; idle = count == e.began }
+epoch_after start e (EpochEnd epoch count cause turns) = record { began = count; idle = count == e.began }
 epoch_after start e (Cut index cycle) = first_epoch start
 epoch_after start e (Restart epoch count state) = first_epoch count
 epoch_after start e (Commit epoch cycle overlapped) = e
@@ -31,7 +31,7 @@ epoch_after start e (Ended status count cycle state) = e
 
 -- behind an idle epoch none ends at the count at which it began
 abbrev pub Strides : Epoch → Event → Type 0
-Strides e (EpochEnd epoch count cause) = e.idle ≡ true → e.began < count
+Strides e (EpochEnd epoch count cause turns) = e.idle ≡ true → e.began < count
 Strides e (Cut index cycle) = Unit {0}
 Strides e (Restart epoch count state) = Unit {0}
 Strides e (Commit epoch cycle overlapped) = Unit {0}

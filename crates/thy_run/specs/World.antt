@@ -41,7 +41,7 @@ seen K o w = K.view o w.machine w.device
 abbrev pub did_told : Origin → Did → ℕ → List Event
 did_told o Loaded cycle = Commit 0 cycle 0 ∷ []
 did_told o (Restarted epoch count) cycle = Restart epoch count (at o count) ∷ []
-did_told o (Sealed epoch count cause) cycle = EpochEnd epoch count cause ∷ []
+did_told o (Sealed epoch count cause) cycle = EpochEnd epoch count cause [] ∷ []
 did_told o (Committed epoch overlapped) cycle = Commit epoch cycle overlapped ∷ []
 did_told o did cycle = []
 
@@ -118,8 +118,9 @@ pub record Given : Type 0 where
   pub digest : Bool
   pub fitted : Device
 
--- power comes on for the first time, over a device that was fitted
+-- power comes on for the first time, over a device that was fitted; with one hart no turn is told
 pub record IsFirst {M : Type 0} (K : KindOf M) (o : Origin) (given : Given) (w : World M) : Type 0 where
+  pub untold : o.turns ≡ []
   pub device : w.device ≡ given.fitted
   pub powered : K.powered o.geometry w.machine
   pub at_moment : K.is_at o 0 w.machine w.device

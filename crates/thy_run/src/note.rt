@@ -51,7 +51,7 @@ fn note_commit(
 
 /// Notes the end of an epoch.
 fn note_seal(events: &mut Events, epoch: u64, count: u64, cause: EndCause) -> Result<(), AllocError>
-    ensures ok { OnOk result (events.new ≡ events.old ++ EpochEnd epoch count cause ∷ []) }
+    ensures ok { OnOk result (events.new ≡ events.old ++ EpochEnd epoch count cause [] ∷ []) }
     ensures err { OnErr result (events.new ≡ events.old) }
 {
     events.push(Event::EpochEnd {

@@ -10,6 +10,8 @@ use Rattle.thy_view.specs.declared.did.Stepped.{Stepped}
 use Rattle.thy_view.specs.Booting.{found_first}
 use Rattle.thy_view.specs.Kind.{KindOf, IsLawful, IsStep, IsFittedFor}
 use Rattle.thy_view.specs.Origin.{Origin, IsOrigin}
+use Rattle.thy_view.specs.Told.{IsThere, HasTurn}
+use Rattle.thy_view.proofs.OneHartLaws.{has-turn}
 use Rattle.thy_run_tests.specs.Powered.{HasRoom, origin_from, powered, IsPowered}
 
 -- the room for cuts stays but for a cut
@@ -48,10 +50,12 @@ IsPowered-first K laws p start m shape before n origin file new blocks cuts is =
 
 -- a cycle is done
 pub IsPowered-stepped : {M : Type 0} (K : KindOf M) → (p : Parameters) (start : Start) (m next : M) (n new : Device) (k cuts : ℕ) (pick : Pick) (r : Stepped)
-    → IsPowered K (powered p start m n k cuts) → k + 1 < 2 ^ 62 → IsStep K (origin_from p start) k pick m next n new r → IsFramed n new
+    → IsPowered K (powered p start m n k cuts) → k + 1 < 2 ^ 62
+    → IsThere (origin_from p start) (K.view (origin_from p start) m n) r.did × (HasTurn (origin_from p start) (K.view (origin_from p start) m n) r.did → IsStep K (origin_from p start) k pick m next n new r)
+    → IsFramed n new
     → IsPowered K (powered p start next new (k + 1) cuts)
 IsPowered-stepped K p start m next n new k cuts pick r w few step frame = record {
-  at_moment = step.at_next;
+  at_moment = (step.1 (has-turn (origin_from p start) (K.view (origin_from p start) m n) r.did step.0)).at_next;
   few = few;
   room = HasRoom-framed n new cuts w.room frame;
 }

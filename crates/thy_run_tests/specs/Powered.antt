@@ -1,5 +1,5 @@
 -- A machine of a test whose power is on, with its device.
-use Rattle.std.specs.Prelude.{ℕ, ◌+◌, ◌≤◌, ◌<◌, ◌^◌, length}
+use Rattle.std.specs.Prelude.{ℕ, ◌+◌, ◌≤◌, ◌<◌, ◌^◌, [], length}
 use Rattle.thy_base.specs.declared.config.Parameters.{Parameters}
 use Rattle.thy_base.specs.Bytes.{bytes_of}
 use Rattle.thy_base.specs.Device.{Device}
@@ -10,7 +10,7 @@ use Rattle.thy_view.specs.Origin.{Origin}
 
 -- what a run from a start is about
 abbrev pub origin_from : Parameters → Start → Origin
-origin_from p start = record { geometry = p; start = state_of start.state; input = bytes_of start.input; kept = start.kept }
+origin_from p start = record { geometry = p; start = state_of start.state; input = bytes_of start.input; kept = start.kept; turns = [] }
 
 pub record Powered (M : Type 0) : Type 0 where
   pub origin : Origin

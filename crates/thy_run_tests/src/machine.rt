@@ -341,7 +341,7 @@ impl Story {
     /// A cycle did this.
     fn note(&mut self, rt: &impl Abort, did: Did, cycle: u64) {
         match did {
-            Did::Retired => self.retired = self.retired.saturating_add(1),
+            Did::Retired(_) => self.retired = self.retired.saturating_add(1),
             Did::Sealed(epoch, count, cause) => self.seal(rt, Mark { epoch, count }, cause),
             Did::Engine(EngineStep::CommitWritten) => self.written = cycle,
             Did::Committed { epoch, overlapped } => self.commit(rt, epoch, overlapped, cycle),

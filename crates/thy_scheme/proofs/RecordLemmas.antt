@@ -1,5 +1,5 @@
 -- A state of a run, as the processor has it: it can be recorded, and its console is as long as the processor counts.
-use Rattle.std.proofs.Common.{◌≡◌, ℕ, ◌+◌, ◌-◌, ◌^◌, ◌<◌, ◌≤◌, true, nat_le, List, length, slice_index, refl, sym, subst, inl, inr, arith}
+use Rattle.std.proofs.Common.{◌≡◌, ℕ, ◌+◌, ◌^◌, ◌<◌, ◌≤◌, true, nat_le, List, length, slice_index, refl, sym, subst, inl, inr, arith}
 use Rattle.std.proofs.lemmas.Bool.{cases_lt, le-leb}
 use Rattle.std.proofs.lemmas.List.{get_or_past}
 use Rattle.thy_base.specs.declared.block.Block.{Block}
@@ -12,15 +12,16 @@ use Rattle.thy_isa.specs.declared.state.Status.TheVariants.{Running, Exited, Tra
 use Rattle.thy_isa.specs.OnBlocks.{state_from}
 use Rattle.thy_isa.specs.Step.{State}
 use Rattle.thy_isa.specs.Storable.{IsStatus, IsStorable}
-use Rattle.thy_isa.proofs.StorableLaws.{steps-storable}
+use Rattle.thy_isa.proofs.StorableLaws.{step-storable}
 use Rattle.thy_record.specs.Cpu.{status_tag, status_value, is_status, IsRecordable}
 use Rattle.thy_view.specs.Origin.{Origin, IsOrigin, setting_of, at}
 use Rattle.thy_view.specs.Safe.{ceiling}
+use Rattle.thy_view.proofs.TurnLaws.{at-holds}
 
 -- every state of a run can be stored
 pub at-storable : (o : Origin) (k : ℕ) → IsOrigin o → IsStorable (program_size o.geometry) (at o k)
-unfolding at
-at-storable o k h = steps-storable (setting_of o) (program_size o.geometry) (k - o.start.count) o.start h.readable h.storable
+at-storable o k h =
+    at-holds (IsStorable (program_size o.geometry)) o (λ s there. step-storable (setting_of o) (program_size o.geometry) s h.readable there) h.storable k
 
 small : (n least : ℕ) → n < least + 1 → nat_le n least ≡ true
 small n least l = le-leb n least (omega arith)

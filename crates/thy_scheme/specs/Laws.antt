@@ -1,5 +1,5 @@
 -- What holds of every scheme.
-use Rattle.std.specs.Prelude.{◌≡◌, ℕ, ◌<◌, ◌≤◌, ◌||◌, not, true, false, is_some, Bool, [], length, Some, None}
+use Rattle.std.specs.Prelude.{◌≡◌, ℕ, ◌<◌, ◌≤◌, ◌||◌, not, true, false, is_some, Bool, List, [], length, Some, None}
 use Rattle.thy_base.specs.declared.config.Parameters.{Parameters}
 use Rattle.thy_base.specs.declared.mark.Mark.{Mark}
 use Rattle.thy_base.specs.declared.nvm.Shape.{Shape}
@@ -11,6 +11,7 @@ use Rattle.thy_record.specs.Decoded.{Decoded, Nothing, Refused, At}
 use Rattle.thy_view.specs.Booting.{view_of_image}
 use Rattle.thy_view.specs.Origin.{Origin, IsOrigin, at}
 use Rattle.thy_view.specs.Safe.{ceiling, Safe}
+use Rattle.thy_view.specs.Told.{told}
 use Rattle.thy_view.specs.Views.{doubt_of}
 use Rattle.thy_scheme.specs.Marks.{Marks, doubt_in}
 use Rattle.thy_scheme.specs.Scheme.{SchemeOf, Stands, IsBooting, StaysOf}
@@ -109,6 +110,8 @@ pub record IsLawful {S : Type 0} (K : SchemeOf S) : Type 0 where
   -- the boot
   pub finds : (o : Origin) (s : S) (n : Device) → IsOrigin o → K.powered o.geometry s → IsFound K o n → BootsFound K o s n
   pub boot_holds : (o : Origin) (s : S) (n : Device) → IsBooting K o s n → BootHolds K o s n
+  -- what is seen of it is the same with other turns
+  pub boot_alike : (o : Origin) (turns : List ℕ) (s : S) (n : Device) → K.boot_view (told o turns) s n ≡ K.boot_view o s n
   -- behind it
   pub run_holds : (o : Origin) (k : Marks) (s : S) (n : Device) → Stands K o k s n → RunHolds K o k s n
   -- blocks are held only while the NVM is up, and are stored only where no page is being promoted

@@ -1,4 +1,5 @@
 pub mod Joining
 pub mod Taking
 pub mod Histories
+pub mod OneHartLaws
 pub mod Rewording

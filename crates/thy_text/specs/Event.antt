@@ -1,13 +1,14 @@
 -- Part of the claim.
 -- The events of a run, with the states of the plain machine.
-use Rattle.std.specs.Prelude.{ℕ}
+use Rattle.std.specs.Prelude.{ℕ, List}
 use Rattle.thy_base.specs.declared.cause.EndCause.{EndCause}
 use Rattle.thy_isa.specs.declared.state.Status.{Status}
 use Rattle.thy_isa.specs.Step.{State}
 
 pub data Event : Type 0 where
-  -- this epoch was sealed at this count of instructions, for this cause
-  EpochEnd : (epoch count : ℕ) (cause : EndCause) → Event
+  -- this epoch was sealed at this count of instructions, for this cause; its instructions were retired by these harts, which are
+  -- told where there is more than one hart
+  EpochEnd : (epoch count : ℕ) (cause : EndCause) (turns : List ℕ) → Event
   -- the sealed checkpoint of this epoch was committed in this cycle; so many instructions retired meanwhile
   Commit : (epoch cycle overlapped : ℕ) → Event
   -- power was cut for this time, counted from 1, after this cycle

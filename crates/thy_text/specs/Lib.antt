@@ -2,6 +2,7 @@ pub mod Closings
 pub mod Event
 pub mod Lines
 pub mod Marks
+pub mod OneHart
 pub mod Pieces
 pub mod Released
 pub mod Seen

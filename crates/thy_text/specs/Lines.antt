@@ -53,7 +53,7 @@ epoch_end_parts epoch count cause =
 
 -- the line of what happened, and behind a restart and an end memory's digest, where digests are told
 abbrev pub line_of : Bool → Event → List ℕ
-line_of digest (EpochEnd epoch count cause) = joined (epoch_end_parts epoch count cause)
+line_of digest (EpochEnd epoch count cause turns) = joined (epoch_end_parts epoch count cause)
 line_of digest (Commit epoch cycle overlapped) =
     joined (codes "commit " ∷ decimal epoch ∷ codes " overlapped " ∷ decimal overlapped ∷ line_feed ∷ [])
 line_of digest (Cut index cycle) =

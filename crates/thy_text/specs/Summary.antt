@@ -8,12 +8,12 @@ use Rattle.thy_text.specs.Lines.{joined, line_feed}
 
 -- an epoch was sealed
 abbrev pub ends_epoch : Event → Bool
-ends_epoch (EpochEnd epoch count cause) = true
+ends_epoch (EpochEnd epoch count cause turns) = true
 ends_epoch event = false
 
 -- an epoch was sealed early, for want of free entries
 abbrev pub ends_early : Event → Bool
-ends_early (EpochEnd epoch count (Exhausted free dirty need)) = true
+ends_early (EpochEnd epoch count (Exhausted free dirty need) turns) = true
 ends_early event = false
 
 -- the instructions that retired while the checkpoint was under way that was committed

@@ -2,3 +2,6 @@ pub mod Choices
 pub mod SafeLemmas
 pub mod ActionLemmas
 pub mod RestartLemmas
+pub mod TurnLaws
+pub mod OneHartLaws
+pub mod ReachLaws

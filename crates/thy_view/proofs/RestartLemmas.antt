@@ -47,7 +47,7 @@ module _ (o : Origin) (v next : View) (found : Mark) (r : IsRestarting v found) 
   }
   spares (Refused bad) s = loads s.1
   spares Moved s = runs s.0
-  spares Retired s = runs s.phase
+  spares (Retired hart) s = runs s.phase
   spares Flushed s = runs s.0
   spares Merged s = runs s.0
   spares (Sealed epoch count cause) s = runs s.phase

@@ -11,7 +11,7 @@ use Rattle.thy_view.specs.declared.did.Did.{Did}
 use Rattle.thy_view.specs.declared.did.Did.TheVariants.{Boot, Loaded, Restarted, Refused, Moved, Retired, Sealed, Engine, Committed, NvmDrained, DramDrained, Nothing}
 use Rattle.thy_record.specs.declared.engine_step.EngineStep.{EngineStep}
 use Rattle.thy_record.specs.declared.engine_step.EngineStep.TheVariants.{Idle, CommitWritten, Committed as EngineCommitted}
-use Rattle.thy_view.specs.Origin.{Origin, runs_at}
+use Rattle.thy_view.specs.Origin.{Origin, runs_at, turn_at}
 use Rattle.thy_base.specs.Marks.{mark}
 
 -- the phase after a checkpoint of this count: the program's end is the machine's
@@ -66,8 +66,9 @@ pub record Restores (o : Origin) (epoch count : ℕ) (v next : View) : Type 0 wh
   pub unwritten : v.written ≡ false
   pub becomes : next ≡ record v { phase = phase_at o count; epoch = epoch + 1; count = count; retired = 0; spent = 0; lap = 0 }
 
--- an instruction is retired
-pub record Retires (o : Origin) (v next : View) : Type 0 where
+-- an instruction is retired, by the hart whose turn it is
+pub record Retires (o : Origin) (hart : ℕ) (v next : View) : Type 0 where
+  pub turn : turn_at o v.count ≡ hart
   pub phase : v.phase ≡ Run
   pub over : v.over ≡ None
   pub runs : runs_at o v.count ≡ true
@@ -103,7 +104,7 @@ CoreStep o v Loaded next = Loads o v next
 CoreStep o v (Restarted epoch count) next = Restores o epoch count v next
 CoreStep o v (Refused bad) next = (v.phase ≡ BootPhase) × (v.done ≡ None) × (v.sealed ≡ None) × (next ≡ v)
 CoreStep o v Moved next = (v.phase ≡ Run) × (v.over ≡ None) × (runs_at o v.count ≡ true) × MovesTo v next
-CoreStep o v Retired next = Retires o v next
+CoreStep o v (Retired hart) next = Retires o hart v next
 CoreStep o v (Sealed epoch count cause) next = Seals epoch count cause v next
 CoreStep o v (Engine step) next = (v.phase ≡ Run) × EngineTo step v next
 CoreStep o v (Committed epoch overlapped) next = Commits o epoch overlapped v next

@@ -33,6 +33,7 @@ use Rattle.thy_view.specs.Action.{ActsBy, ActionFailedBy, doubt_after_fault}
 use Rattle.thy_view.specs.Dram.{LeavesDram}
 use Rattle.thy_view.specs.Pace.{Gauge, retires, KeepsPace}
 use Rattle.thy_view.specs.Stores.{needs_at}
+use Rattle.thy_view.specs.Told.{told, AgreeBelow, reach, IsThere, HasTurn}
 use Rattle.thy_view.specs.Turn.{Turn, Shortage, Pressure, over_by}
 use Rattle.thy_view.specs.Views.{IsRestarting, is_boot, is_between, is_halt, halts, loads, doubt_of}
 use Rattle.thy_view.specs.Work.{Works, IsWithin}
@@ -174,11 +175,12 @@ pub record LeavesSafe {M : Type 0} (K : KindOf M) (o : Origin) (pick : Pick) (m 
   -- and a machine of which power can be cut, and a snapshot taken
   pub stopped : K.has_failed o (K.view o m n) next
 
--- from any moment of any run with this start, a step that succeeded is one
+-- From any moment of any run with this start, a step that succeeded is one. If it retired an instruction, that holds of the
+-- runs that give it to the hart that retired it: a machine can't know the turns to come.
 abbrev pub LeadsOn : {M : Type 0} → KindOf M → Start → Pick → M → M → Device → Device → Result Stepped NvmError → Type 0
 LeadsOn K start pick m next n new result =
     (o : Origin) (k : ℕ) → Begins o start → K.is_at o k m n → k < 2 ^ 62
-    → IfOk result (λ r. IsStep K o k pick m next n new r)
+    → IfOk result (λ r. IsThere o (K.view o m n) r.did × (HasTurn o (K.view o m n) r.did → IsStep K o k pick m next n new r))
 
 -- and one that failed leaves what its action may leave
 abbrev pub FailsSafe : {M : Type 0} → KindOf M → Start → Pick → M → M → Device → Device → Result Stepped NvmError → Type 0
@@ -251,6 +253,11 @@ pub record IsPoweredOn {M : Type 0} (K : KindOf M) (o : Origin) (m : M) (n : Dev
   pub boot_left : (K.gauge m n).boot_left ≤ K.most_booting o.geometry
   pub ahead : K.ahead o m n ≤ K.most_ahead o.geometry
 
+-- what is seen of a machine is the same with other turns
+pub record IsSeenAlike {M : Type 0} (K : KindOf M) (o : Origin) (turns : List ℕ) (m : M) (n : Device) : Type 0 where
+  pub view : K.view (told o turns) m n ≡ K.view o m n
+  pub ahead : K.ahead (told o turns) m n ≡ K.ahead o m n
+
 -- what holds of every machine of a type
 pub record IsLawful {M : Type 0} (K : KindOf M) : Type 0 where
   -- power can come on
@@ -283,3 +290,8 @@ pub record IsLawful {M : Type 0} (K : KindOf M) : Type 0 where
   -- whatever a power cut leaves at a moment is the committed checkpoint, whole, or the one in doubt
   pub is_safe : (o : Origin) (k : ℕ) (m : M) (n : Device)
       → K.is_at o k m n → Safe K.decode o (K.view o m n).done (doubt_of (K.view o m n)) n
+  -- a moment is one with all turns that agree so far, and is seen alike
+  pub agrees : (o : Origin) (turns : List ℕ) (k : ℕ) (m : M) (n : Device)
+      → K.is_at o k m n → AgreeBelow o turns (reach (K.view o m n)) → K.is_at (told o turns) k m n
+  pub seen_alike : (o : Origin) (turns : List ℕ) (k : ℕ) (m : M) (n : Device)
+      → K.is_at o k m n → AgreeBelow o turns (reach (K.view o m n)) → IsSeenAlike K o turns m n

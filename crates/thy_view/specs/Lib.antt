@@ -9,4 +9,7 @@ pub mod Pace
 pub mod Work
 pub mod Stores
 pub mod Booting
+pub mod Told
+pub mod OneHart
 pub mod Kind
+pub mod Laws

@@ -1,13 +1,13 @@
 -- Part of the claim.
 -- Where a run starts, and the plain machine from there on.
-use Rattle.std.specs.Prelude.{◌≡◌, ℕ, ◌-◌, ◌^◌, ◌<◌, List, length, Bool, Option, Some, None}
+use Rattle.std.specs.Prelude.{◌≡◌, ℕ, zero, suc, ◌-◌, ◌^◌, ◌<◌, nat_lt, if◌then◌else◌, List, length, get_or, Bool, Option, Some, None}
 use Rattle.thy_base.specs.declared.config.Parameters.{Parameters}
 use Rattle.thy_base.specs.declared.mark.Mark.{Mark}
 use Rattle.thy_base.specs.Bytes.{bytes_of}
 use Rattle.thy_base.specs.Geometry.{IsInRange, program_size}
 use Rattle.thy_isa.specs.declared.state.Status.TheVariants.{Running}
 use Rattle.thy_isa.specs.OnBlocks.{setting_for}
-use Rattle.thy_isa.specs.Step.{State, Setting, state_of, cpu_of, steps, is_running}
+use Rattle.thy_isa.specs.Step.{State, Setting, state_of, cpu_of, step, is_running}
 use Rattle.thy_isa.specs.Storable.{IsStorable, IsReadable}
 use Rattle.thy_record.specs.Cpu.{IsRecordable}
 use Rattle.thy_record.specs.declared.start.Start.{Start}
@@ -19,14 +19,30 @@ pub record Origin : Type 0 where
   pub input : List ℕ
   -- the checkpoint that the start was taken from; none where it was made from a file
   pub kept : Option Mark
+  -- the hart that retires each instruction from the start on; behind the last one told it is hart 0
+  pub turns : List ℕ
 
 -- what the plain machine needs besides a state
 abbrev pub setting_of : Origin → Setting
 setting_of o = setting_for o.geometry o.input
 
+-- the hart that retires the next instruction at a count; below the start's it is hart 0
+abbrev pub turn_at : Origin → ℕ → ℕ
+turn_at o k = if nat_lt k o.start.count then 0 else get_or o.turns (k - o.start.count) 0
+
+-- a step of a hart: the plain machine has hart 0 alone, and a hart that it has not does nothing
+unfoldable pub step_of : Setting → ℕ → State → State
+step_of g zero s = step g s
+step_of g (suc hart) s = s
+
+-- k steps, each by the hart whose turn it is
+unfoldable pub by_turns : Setting → List ℕ → ℕ → State → State
+by_turns g turns zero s = s
+by_turns g turns (suc k) s = step_of g (get_or turns k 0) (by_turns g turns k s)
+
 -- the plain machine when it has retired k instructions, counted from the program's start
 unfoldable pub at : Origin → ℕ → State
-at o k = steps (setting_of o) (k - o.start.count) o.start
+at o k = by_turns (setting_of o) o.turns (k - o.start.count) o.start
 
 -- it still runs then
 abbrev pub runs_at : Origin → ℕ → Bool

@@ -32,7 +32,7 @@ is_drained did = false
 
 -- instructions that a cycle retired
 abbrev pub retires : Did → ℕ
-retires Retired = 1
+retires (Retired hart) = 1
 retires did = 0
 
 -- a drain lets one write land, and every other cycle queues at most one, over the two devices together

@@ -12,7 +12,7 @@ use Rattle.thy_view.specs.Pace.{Gauge}
 abbrev pub begins_instruction : Did → Bool
 begins_instruction Loaded = true
 begins_instruction (Restarted epoch count) = true
-begins_instruction Retired = true
+begins_instruction (Retired hart) = true
 begins_instruction (Sealed epoch count cause) = true
 begins_instruction did = false
 

@@ -16,8 +16,8 @@ pub enum Did {
     Refused(BadImage),
     /// The hart moved on within an instruction.
     Moved,
-    /// An instruction was retired.
-    Retired,
+    /// An instruction was retired, by this hart. There is hart 0 alone.
+    Retired(u8),
     /// A dirty cache line was stored at the epoch's end.
     Flushed,
     /// A block was merged into its page at the epoch's end.

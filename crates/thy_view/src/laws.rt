@@ -1,8 +1,50 @@
-//! A law of what a power cut may leave, the contract of a function that does nothing.
+//! Laws of what a power cut may leave, and of the plain machine by turns, each the contract of a function that does nothing.
+ghost use Rattle.thy_view.specs.OneHart.{EachHasItsTurn};
+ghost use Rattle.thy_view.specs.Laws.{TurnsLeadTo, StaysSafe, HartZeroSteps, UntoldSteps, StepsReach, RetiresReach, FindsTurns};
 ghost use Rattle.thy_view.specs.Safe.{SameIsNoDoubt};
 
 /// If the kept checkpoint is also the one in doubt, a power cut leaves that checkpoint. So one that is written anew, in another
 /// form of the image, is never in doubt.
 pub fn a_kept_mark_is_never_in_doubt()
     ensures { SameIsNoDoubt }
+{}
+
+/// Turns that agree below a count lead to one state at it.
+pub fn turns_that_agree_lead_to_one_state()
+    ensures { TurnsLeadTo }
+{}
+
+/// With turns that agree below both marks' counts, what is safe is safe.
+pub fn what_is_safe_stays_safe_with_turns_that_agree()
+    ensures { StaysSafe }
+{}
+
+/// While each turn is hart 0's, the plain machine takes one step after another.
+pub fn hart_zero_takes_one_step_after_another()
+    ensures { HartZeroSteps }
+{}
+
+/// So it does with no turn told: with one hart nobody need think of turns.
+pub fn a_run_without_turns_is_hart_zeros()
+    ensures { UntoldSteps }
+{}
+
+/// With no turn told, whatever a cycle did has its turn.
+pub fn with_one_hart_each_cycle_has_its_turn()
+    ensures { EachHasItsTurn }
+{}
+
+/// A step reaches no less far than the view before it.
+pub fn a_step_reaches_no_less()
+    ensures { StepsReach }
+{}
+
+/// An instruction that is retired reaches beyond its own count.
+pub fn an_instruction_reaches_beyond_its_count()
+    ensures { RetiresReach }
+{}
+
+/// Whatever a cycle did, some turns that agree so far give it its hart.
+pub fn turns_are_found_for_each_cycle()
+    ensures { FindsTurns }
 {}

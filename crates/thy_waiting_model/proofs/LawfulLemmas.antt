@@ -13,6 +13,7 @@ lawful K laws never = record {
   finds_nothing = laws.finds_nothing;
   finds = power-finds K laws;
   boot_holds = boot-holds K laws;
+  boot_alike = λ o turns w n. laws.boot_alike o turns w.below n;
   run_holds = λ o k w n stands. run-holds K laws never o k w n stands;
   up = λ w n b inside. laws.up w.below n b inside;
   ready_up = λ w n ready. laws.ready_up w.below n ready;

@@ -2,6 +2,7 @@ use Rattle.std.proofs.Common.{[], ◌∙◌, ap}
 use Rattle.thy_isa.specs.declared.state.CpuState.{CpuState}
 use Rattle.thy_isa.specs.Step.{state_with}
 use Rattle.thy_core.specs.Parts.{machine_of}
+use Rattle.thy_core_model.proofs.MomentLaws.{sound-here}
 use Rattle.thy_core.proofs.SnapshotLaws.{at_moment, not_stopped, not_failed, processor_is, can_run, sound-behind, boot_unwritten, snapshot_when}
 use Rattle.thy_core.proofs.snapshot.snapshot.Goals as goal
 
@@ -10,14 +11,14 @@ executing-requires-clause-stands g c =
     let m = machine_of c.args.m.now in
     let n = g.N.Nvm.device c.args.nvm.now in
     let run = at_moment g.S.Scheme.scheme m n c.if-m.false c.requires in
-    can_run g.S.Scheme.scheme run.o run.cycles m n run.at_moment c.in-Run.is
+    can_run g.S.Scheme.scheme run.o run.cycles m n (sound-here g.S.Scheme.scheme run.o run.cycles m n run.at_moment) c.in-Run.is
 
 pub executing-requires-clause-sized : goal.executing-requires-clause-sized
 executing-requires-clause-sized g c =
     let m = machine_of c.args.m.now in
     let n = g.N.Nvm.device c.args.nvm.now in
     let run = at_moment g.S.Scheme.scheme m n c.if-m.false c.requires in
-    (sound-behind g.S.Scheme.scheme run.o run.cycles m n run.at_moment c.in-Run.is).follows.sized
+    (sound-behind g.S.Scheme.scheme run.o run.cycles m n (sound-here g.S.Scheme.scheme run.o run.cycles m n run.at_moment) c.in-Run.is).follows.sized
 
 pub returns-then-m-clause-state : goal.returns-then-m-clause-state
 returns-then-m-clause-state g c = λ o k sound unwritten.

@@ -1,17 +1,20 @@
 use Rattle.std.proofs.Common.{Result, IfOk, OnErr, refl, subst}
 use Rattle.thy_base.specs.declared.nvm.NvmError.{NvmError}
 use Rattle.thy_view.specs.declared.did.Did.{Did}
+use Rattle.thy_view.specs.Origin.{Origin, Begins}
 use Rattle.thy_core_model.specs.Rows.{IsMoment}
+use Rattle.thy_core_model.specs.Sound.{Sound}
+use Rattle.thy_core_model.proofs.MomentLaws.{sound-here}
 use Rattle.thy_core.specs.Cycles.{IsCycle, HasFailedAs}
 use Rattle.thy_core.specs.Parts.{machine_of, actor_seen}
-use Rattle.thy_core.proofs.TakenLaws.{at_run, moment_of, turned, step_taken, step_failed}
+use Rattle.thy_core.proofs.TakenLaws.{at_run, moment_of, turned, steps_taken, unfailed_after, step_failed}
 use Rattle.thy_core.proofs.step.take_step.Goals as goal
 use Rattle.thy_core.proofs.step.take_step.Goals.{in-Ok, in-Err}
 
 pub queued-requires : goal.queued-requires
 queued-requires g c =
     let run = c.requires in
-    (at_run g.S.Scheme.scheme g.met.S.Scheme.lawful run.o run.cycles (machine_of c.args.m.now) (g.N.Nvm.device c.args.nvm.now) run.at_moment run.few).sound.up
+    (sound-here g.S.Scheme.scheme run.o run.cycles (machine_of c.args.m.now) (g.N.Nvm.device c.args.nvm.now) run.at_moment).up
 
 pub cycle-requires : goal.cycle-requires
 cycle-requires g c =
@@ -19,7 +22,7 @@ cycle-requires g c =
     let m = machine_of c.args.m.now in
     let n = g.N.Nvm.device c.args.nvm.now in
     let run = c.requires in
-    let at = at_run K g.met.S.Scheme.lawful run.o run.cycles m n run.at_moment run.few in
+    let at = at_run K g.met.S.Scheme.lawful run.o run.cycles m n (sound-here K run.o run.cycles m n run.at_moment) run.few in
     record {
       o = run.o;
       cycles = run.cycles;
@@ -29,37 +32,37 @@ cycle-requires g c =
     }
 
 pub returns-clause-steps : goal.returns-clause-steps
-returns-clause-steps g c = λ o k begins sound few.
+returns-clause-steps g c = λ o k begins here few.
     let K = g.S.Scheme.scheme in
     let m = machine_of c.args.m.now in
     let n = g.N.Nvm.device c.args.nvm.now in
     let next = machine_of c.cycle.new.m in
     let new = g.N.Nvm.device c.cycle.new.nvm in
     let actor = actor_seen c.turn_now-actor.result in
-    let at = at_run K g.met.S.Scheme.lawful o k m n sound few in
-    let turn = turned K o k c.args.pick c.queued.result actor m n (moment_of K o k m n at) c.queued.ensures c.turn_now-actor.ensures in
-    let leads = c.cycle.ensures.leads o k begins at turn in
     elim c.match-cycle.branch [
       | in-Ok w ↦
-          let led : IsCycle K o k actor w.in-Ok.did m n next new =
-          subst (λ (r : Result Did NvmError). IfOk r (λ did. IsCycle K o k actor did m n next new)) w.in-Ok.is leads in
+          let cycle : (p : Origin) → Begins p c.args.start.now → Sound K p k m n → IsCycle K p k actor w.in-Ok.did m n next new =
+          λ p starts sound.
+          let at = at_run K g.met.S.Scheme.lawful p k m n sound few in
+          let turn = turned K p k c.args.pick c.queued.result actor m n (moment_of K p k m n at) c.queued.ensures c.turn_now-actor.ensures in
+          subst (λ (r : Result Did NvmError). IfOk r (λ did. IsCycle K p k actor did m n next new)) w.in-Ok.is (c.cycle.ensures.leads p k starts at turn) in
           rw w.result-is
           (rw w.m-is
-          (step_taken K o k c.args.pick c.queued.result actor m next n new
+          (steps_taken K g.met.S.Scheme.lawful o k c.args.pick c.queued.result actor c.args.start.now m next n new
           (record { did = w.in-Ok.did; stall = w.told_stall.result; ended = w.has_halted.result })
-          at c.queued.ensures c.turn_now-actor.ensures led w.told_stall.ensures w.has_halted.ensures))
+          few begins here c.queued.ensures c.turn_now-actor.ensures cycle w.told_stall.ensures w.has_halted.ensures))
       | in-Err w ↦ rw w.result-is tt
     ]
 
 pub returns-clause-safe : goal.returns-clause-safe
-returns-clause-safe g c = λ o k begins sound.
+returns-clause-safe g c = λ o k begins here.
     let K = g.S.Scheme.scheme in
     let m = machine_of c.args.m.now in
     let n = g.N.Nvm.device c.args.nvm.now in
     let next = machine_of c.cycle.new.m in
     let new = g.N.Nvm.device c.cycle.new.nvm in
     let actor = actor_seen c.turn_now-actor.result in
-    let at : IsMoment K o k m n = record { lawful = g.met.S.Scheme.lawful; sound = sound } in
+    let at : IsMoment K o k m n = record { lawful = g.met.S.Scheme.lawful; sound = sound-here K o k m n here } in
     let turn = turned K o k c.args.pick c.queued.result actor m n at c.queued.ensures c.turn_now-actor.ensures in
     let fails = c.cycle.ensures.fails o k begins at turn in
     elim c.match-cycle.branch [
@@ -80,13 +83,15 @@ returns-clause-failed g c =
     let new = g.N.Nvm.device c.cycle.new.nvm in
     let run = c.requires in
     let actor = actor_seen c.turn_now-actor.result in
-    let at = at_run K g.met.S.Scheme.lawful run.o run.cycles m n run.at_moment run.few in
-    let turn = turned K run.o run.cycles c.args.pick c.queued.result actor m n (moment_of K run.o run.cycles m n at) c.queued.ensures c.turn_now-actor.ensures in
-    let leads = c.cycle.ensures.leads run.o run.cycles run.begins at turn in
     elim c.match-cycle.branch [
       | in-Ok w ↦
-          let led : IsCycle K run.o run.cycles actor w.in-Ok.did m n next new =
-          subst (λ (r : Result Did NvmError). IfOk r (λ did. IsCycle K run.o run.cycles actor did m n next new)) w.in-Ok.is leads in
-          rw w.result-is (rw w.m-is led.leads.at_next.unfailed)
+          let cycle : (p : Origin) → Begins p c.args.start.now → Sound K p run.cycles m n → IsCycle K p run.cycles actor w.in-Ok.did m n next new =
+          λ p starts sound.
+          let at = at_run K g.met.S.Scheme.lawful p run.cycles m n sound run.few in
+          let turn = turned K p run.cycles c.args.pick c.queued.result actor m n (moment_of K p run.cycles m n at) c.queued.ensures c.turn_now-actor.ensures in
+          subst (λ (r : Result Did NvmError). IfOk r (λ did. IsCycle K p run.cycles actor did m n next new)) w.in-Ok.is (c.cycle.ensures.leads p run.cycles starts at turn) in
+          rw w.result-is
+          (rw w.m-is
+          (unfailed_after K g.met.S.Scheme.lawful run.o run.cycles actor c.args.start.now m next n new w.in-Ok.did run.begins run.at_moment cycle))
       | in-Err w ↦ rw w.result-is (rw w.m-is refl)
     ]

@@ -1,0 +1,159 @@
+-- A step reaches no less far than the view before it.
+use Rattle.std.proofs.Common.{◌≡◌, ◌≢◌, ℕ, ◌+◌, ◌<◌, ◌≤◌, Bool, true, false, List, if◌then◌else◌, Option, Some, None, refl, sym, ◌∙◌, ap, inl, inr, arith}
+use Rattle.thy_base.specs.declared.mark.Mark.{Mark}
+use Rattle.thy_base.specs.Marks.{mark}
+use Rattle.thy_record.specs.declared.engine_step.EngineStep.{EngineStep}
+use Rattle.thy_record.specs.declared.engine_step.EngineStep.TheVariants.{Idle, Copied, PageBlock, StateBlock, TableBlock, Barrier, CommitWritten, Committed as EngineCommitted}
+use Rattle.thy_view.specs.declared.did.Did.{Did}
+use Rattle.thy_view.specs.declared.did.Did.TheVariants.{Boot, Loaded, Restarted, Refused, Moved, Retired, Flushed, Merged, Sealed, Promoted, Engine, Committed, NvmDrained, DramDrained, Nothing}
+use Rattle.thy_view.specs.declared.view.Phase.{Phase}
+use Rattle.thy_view.specs.declared.view.Phase.TheVariants.{Boot as BootPhase, Run, Halt}
+use Rattle.thy_view.specs.declared.view.View.{View}
+use Rattle.thy_view.specs.CoreStep.{phase_at, busier, BootsTo, MovesTo, EngineTo, CoreStep}
+use Rattle.thy_view.specs.Laws.{StepsReach, RetiresReach, FindsTurns}
+use Rattle.thy_view.specs.Origin.{Origin, runs_at}
+use Rattle.thy_view.specs.Told.{told, AgreeBelow, count_of, reach_in, reach, HasTurn}
+use Rattle.thy_view.proofs.TurnLaws.{AgreeBelow-same, with_turn, with_turn-agrees, with_turn-gives}
+
+-- ---- phases
+
+runs_on : (p : Phase) → p ≡ Run → p ≢ BootPhase
+runs_on p is boots = let both : Run ≡ BootPhase = sym is ∙ boots in absurd (cc)
+
+runs_or_halts : (b : Bool) → (if b then Run else Halt) ≢ BootPhase
+runs_or_halts true boots = absurd (cc)
+runs_or_halts false boots = absurd (cc)
+
+reach_behind : (p : Phase) (v : View) → p ≢ BootPhase → reach_in p v ≡ v.count
+reach_behind BootPhase v behind = absurd (behind refl)
+reach_behind Run v behind = refl
+reach_behind Halt v behind = refl
+
+-- behind the boot it is the count
+pub reach-count : (v : View) → v.phase ≢ BootPhase → reach v ≡ v.count
+reach-count v behind = reach_behind v.phase v behind
+
+-- and in a boot that of the checkpoint found
+pub reach-boot : (v : View) → v.phase ≡ BootPhase → reach v ≡ count_of v.done
+reach-boot v boots = ap (λ (p : Phase). reach_in p v) boots
+
+-- ---- steps
+
+module _ (o : Origin) (v next : View) where
+  same : next ≡ v → reach v ≤ reach next
+  same e = let is : reach next ≡ reach v = ap reach e in omega (arith, is)
+
+  -- behind the boot a count that is no less
+  goes : v.phase ≡ Run → next.phase ≢ BootPhase → v.count ≤ next.count → reach v ≤ reach next
+  goes runs behind le = omega (arith, reach-count v (runs_on v.phase runs), reach-count next behind, le)
+
+  runs : v.phase ≡ Run → next.phase ≡ v.phase → next.count ≡ v.count → reach v ≤ reach next
+  runs is phase count = goes is (runs_on next.phase (phase ∙ is)) (omega (arith, count))
+
+  busy : v.phase ≡ Run → next ≡ busier v → reach v ≤ reach next
+  busy is e = runs is (ap (λ (w : View). w.phase) e) (ap (λ (w : View). w.count) e)
+
+  boots : v.phase ≡ BootPhase → BootsTo v next → reach v ≤ reach next
+  boots is to = elim to as (λ _. reach v ≤ reach next) [
+    | inl e ↦ same e
+    | inr e ↦
+        let there : reach next ≡ count_of next.done = reach-boot next (ap (λ (w : View). w.phase) e.1 ∙ is) in
+        let found : count_of next.done ≡ count_of v.done = ap (λ (w : View). count_of w.done) e.1 in
+        omega (arith, reach-boot v is, there, found)
+  ]
+
+  moves : v.phase ≡ Run → MovesTo v next → reach v ≤ reach next
+  moves is to = elim to as (λ _. reach v ≤ reach next) [
+    | inl e ↦ busy is e
+    | inr e ↦ runs is (ap (λ (w : View). w.phase) e.4) (ap (λ (w : View). w.count) e.4)
+  ]
+
+  engine : v.phase ≡ Run → (step : EngineStep) → EngineTo step v next → reach v ≤ reach next
+  engine is Idle e = absurd e
+  engine is Copied e = busy is e
+  engine is PageBlock e = busy is e
+  engine is StateBlock e = busy is e
+  engine is TableBlock e = busy is e
+  engine is Barrier e = busy is e
+  engine is CommitWritten e = runs is (ap (λ (w : View). w.phase) e.1) (ap (λ (w : View). w.count) e.1)
+  engine is (EngineCommitted epoch) e = absurd e
+
+  steps : (did : Did) → CoreStep o v did next → reach v ≤ reach next
+  steps Boot s = boots s.0 s.1
+  steps Loaded s =
+      let here : count_of v.done ≡ 0 = ap count_of s.none in
+      omega (arith, reach-boot v s.phase, here)
+  steps (Restarted epoch count) s =
+      let here : count_of v.done ≡ count = ap count_of s.done in
+      let phase : next.phase ≡ phase_at o count = ap (λ (w : View). w.phase) s.becomes in
+      let there : next.count ≡ count = ap (λ (w : View). w.count) s.becomes in
+      omega (arith, reach-boot v s.phase, here, reach-count next (λ b. runs_or_halts (runs_at o count) (sym phase ∙ b)), there)
+  steps (Refused bad) s = same s.3
+  steps Moved s = moves s.0 s.3
+  steps (Retired hart) s =
+      let phase : next.phase ≡ v.phase = ap (λ (w : View). w.phase) s.becomes in
+      let count : next.count ≡ v.count + 1 = ap (λ (w : View). w.count) s.becomes in
+      goes s.phase (runs_on next.phase (phase ∙ s.phase)) (omega (arith, count))
+  steps Flushed s = busy s.0 s.1
+  steps Merged s = busy s.0 s.1
+  steps Promoted s = busy s.0 s.1
+  steps (Sealed epoch count cause) s = runs s.phase (ap (λ (w : View). w.phase) s.becomes) (ap (λ (w : View). w.count) s.becomes)
+  steps (Engine step) s = engine s.0 step s.1
+  steps (Committed epoch overlapped) s =
+      let phase : next.phase ≡ phase_at o s.count = ap (λ (w : View). w.phase) s.becomes in
+      let count : next.count ≡ v.count = ap (λ (w : View). w.count) s.becomes in
+      goes s.phase (λ b. runs_or_halts (runs_at o s.count) (sym phase ∙ b)) (omega (arith, count))
+  steps NvmDrained s = same s
+  steps DramDrained s = same s
+  steps Nothing s = same s.1
+
+pub steps-reach : StepsReach
+steps-reach o v next did s = steps o v next did s
+
+-- and an instruction that is retired one further
+pub retires-reach : RetiresReach
+retires-reach o v next hart s =
+    let phase : next.phase ≡ v.phase = ap (λ (w : View). w.phase) s.becomes in
+    let count : next.count ≡ v.count + 1 = ap (λ (w : View). w.count) s.becomes in
+    omega (arith, reach-count next (runs_on next.phase (phase ∙ s.phase)), count)
+
+-- ---- turns to come
+
+pub finds-turns : FindsTurns
+finds-turns o v (Retired hart) h =
+    let agree : AgreeBelow o (with_turn o v.count hart) (reach v)
+    = with_turn-agrees o v.count hart (reach v) (let is = ap (λ (p : Phase). reach_in p v) h.runs in omega (arith, is)) in
+    (with_turn o v.count hart, agree, with_turn-gives o v.count hart h.late)
+finds-turns o v Boot h = (o.turns, AgreeBelow-same o (reach v), tt)
+finds-turns o v Loaded h = (o.turns, AgreeBelow-same o (reach v), tt)
+finds-turns o v (Restarted epoch count) h = (o.turns, AgreeBelow-same o (reach v), tt)
+finds-turns o v (Refused bad) h = (o.turns, AgreeBelow-same o (reach v), tt)
+finds-turns o v Moved h = (o.turns, AgreeBelow-same o (reach v), tt)
+finds-turns o v Flushed h = (o.turns, AgreeBelow-same o (reach v), tt)
+finds-turns o v Merged h = (o.turns, AgreeBelow-same o (reach v), tt)
+finds-turns o v (Sealed epoch count cause) h = (o.turns, AgreeBelow-same o (reach v), tt)
+finds-turns o v Promoted h = (o.turns, AgreeBelow-same o (reach v), tt)
+finds-turns o v (Engine step) h = (o.turns, AgreeBelow-same o (reach v), tt)
+finds-turns o v (Committed epoch overlapped) h = (o.turns, AgreeBelow-same o (reach v), tt)
+finds-turns o v NvmDrained h = (o.turns, AgreeBelow-same o (reach v), tt)
+finds-turns o v DramDrained h = (o.turns, AgreeBelow-same o (reach v), tt)
+finds-turns o v Nothing h = (o.turns, AgreeBelow-same o (reach v), tt)
+
+-- what a step did has its turn with all turns that agree as far as the step reaches
+pub HasTurn-agrees : (o : Origin) (turns : List ℕ) (v next : View) (did : Did)
+    → CoreStep o v did next → AgreeBelow o turns (reach next) → HasTurn o v did → HasTurn (told o turns) v did
+HasTurn-agrees o turns v next (Retired hart) s agree mine = agree v.count (retires-reach o v next hart s) ∙ mine
+HasTurn-agrees o turns v next Boot s agree mine = tt
+HasTurn-agrees o turns v next Loaded s agree mine = tt
+HasTurn-agrees o turns v next (Restarted epoch count) s agree mine = tt
+HasTurn-agrees o turns v next (Refused bad) s agree mine = tt
+HasTurn-agrees o turns v next Moved s agree mine = tt
+HasTurn-agrees o turns v next Flushed s agree mine = tt
+HasTurn-agrees o turns v next Merged s agree mine = tt
+HasTurn-agrees o turns v next (Sealed epoch count cause) s agree mine = tt
+HasTurn-agrees o turns v next Promoted s agree mine = tt
+HasTurn-agrees o turns v next (Engine step) s agree mine = tt
+HasTurn-agrees o turns v next (Committed epoch overlapped) s agree mine = tt
+HasTurn-agrees o turns v next NvmDrained s agree mine = tt
+HasTurn-agrees o turns v next DramDrained s agree mine = tt
+HasTurn-agrees o turns v next Nothing s agree mine = tt

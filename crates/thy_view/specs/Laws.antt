@@ -1,0 +1,45 @@
+-- What holds of the plain machine by turns, and of how far views reach.
+use Rattle.std.specs.Prelude.{◌≡◌, ℕ, ◌-◌, ◌<◌, ◌≤◌, List, [], Option}
+use Rattle.thy_base.specs.declared.mark.Mark.{Mark}
+use Rattle.thy_base.specs.Device.{Device}
+use Rattle.thy_isa.specs.Step.{steps}
+use Rattle.thy_record.specs.Decoded.{Reading}
+use Rattle.thy_view.specs.declared.did.Did.{Did}
+use Rattle.thy_view.specs.declared.view.View.{View}
+use Rattle.thy_view.specs.CoreStep.{Retires, CoreStep}
+use Rattle.thy_view.specs.Origin.{Origin, setting_of, turn_at, at}
+use Rattle.thy_view.specs.Safe.{Safe}
+use Rattle.thy_view.specs.Told.{told, AgreeBelow, count_of, reach, IsThere, HasTurn}
+
+-- turns that agree below a count lead to one state at it
+abbrev pub TurnsLeadTo : Type 0
+TurnsLeadTo = (o : Origin) (turns : List ℕ) (k : ℕ) → AgreeBelow o turns k → at (told o turns) k ≡ at o k
+
+-- with turns that agree below both marks' counts what is safe is safe
+abbrev pub StaysSafe : Type 0
+StaysSafe =
+    (read : Reading) (o : Origin) (turns : List ℕ) (k : ℕ) (kept sealed : Option Mark) (n : Device)
+    → count_of kept ≤ k → count_of sealed ≤ k → AgreeBelow o turns k → Safe read o kept sealed n → Safe read (told o turns) kept sealed n
+
+-- while each turn is hart 0's, the plain machine takes one step after another
+abbrev pub HartZeroSteps : Type 0
+HartZeroSteps =
+    (o : Origin) (k : ℕ) → ((j : ℕ) → j < k → turn_at o j ≡ 0) → at o k ≡ steps (setting_of o) (k - o.start.count) o.start
+
+-- and so with no turn told
+abbrev pub UntoldSteps : Type 0
+UntoldSteps = (o : Origin) (k : ℕ) → at (told o []) k ≡ steps (setting_of o) (k - o.start.count) o.start
+
+-- a step reaches no less far than the view before it
+abbrev pub StepsReach : Type 0
+StepsReach = (o : Origin) (v next : View) (did : Did) → CoreStep o v did next → reach v ≤ reach next
+
+-- and an instruction that is retired further than its own count
+abbrev pub RetiresReach : Type 0
+RetiresReach = (o : Origin) (v next : View) (hart : ℕ) → Retires o hart v next → v.count < reach next
+
+-- whatever a cycle did, some turns that agree so far give it its hart
+abbrev pub FindsTurns : Type 0
+FindsTurns =
+    (o : Origin) (v : View) (did : Did) → IsThere o v did
+    → (turns : List ℕ) × AgreeBelow o turns (reach v) × HasTurn (told o turns) v did
