@@ -38,7 +38,7 @@ use Rattle.thy_view.specs.Safe.{ceiling}
 use Rattle.thy_run.specs.Laws.{Promise, marks_of}
 use Rattle.thy_run.specs.World.{Given}
 use Rattle.thy_run.proofs.PromiseLaws.{Promise-stopped}
-use Rattle.thy_run.proofs.WorldLaws.{Safe-cut}
+use Rattle.thy_run.proofs.WorldLaws.{IsSafe-cut}
 use Rattle.thy_text.specs.Event.{Event}
 use Rattle.thy_cli.specs.declared.answer.Answer.{Answer}
 use Rattle.thy_run.specs.declared.ending.Ending.{Ending}
@@ -166,7 +166,7 @@ planned_promise K laws plan d stood e terminal shown report read planned ends =
 -- a save leaves a device that is as safe
 safe_saved : {M : Type 0} (K : KindOf M) (o : Origin) (events : List Event) (name : Option (List ℕ)) (due : Bool) (c : Config) (n m : Device) (old new : Stock) (why : Option PutError)
     → SavesUnder name due c n m old new why → IsSafeFor K o events n → IsSafeFor K o events m
-safe_saved K o events (Some name) true c n m old new why h safe = Safe-cut K o (marks_of o events).kept (marks_of o events).sealed (save_pick c) n m h.0 safe
+safe_saved K o events (Some name) true c n m old new why h safe = IsSafe-cut K o (marks_of o events) (save_pick c) n m h.0 safe
 safe_saved K o events (Some name) false c n m old new why h safe = subst (IsSafeFor K o events) (sym h.0) safe
 safe_saved K o events None true c n m old new why h safe = subst (IsSafeFor K o events) (sym h.0) safe
 safe_saved K o events None false c n m old new why h safe = subst (IsSafeFor K o events) (sym h.0) safe

@@ -29,12 +29,11 @@ use Rattle.thy_words.specs.declared.words.WordsError.TheVariants.{Usage, Word, V
 use Rattle.thy_words.specs.Settings.{Job, Order, run, resume, bench, plain, make, settings_of}
 use Rattle.thy_view.specs.Kind.{KindOf}
 use Rattle.thy_view.specs.Origin.{Origin, at, runs_at}
-use Rattle.thy_view.specs.Safe.{Safe}
 use Rattle.thy_run.specs.declared.ending.Ending.{Ending}
 use Rattle.thy_run.specs.declared.ending.Stop.{Stop}
 use Rattle.thy_run.specs.declared.ending.Stop.TheVariants.{Ended, Nvm, Memory, Terminal, Report, Limit}
 use Rattle.thy_run.specs.Endings.{HasRun}
-use Rattle.thy_run.specs.Laws.{Promise, marks_of}
+use Rattle.thy_run.specs.Laws.{Promise, IsSafe, marks_of}
 use Rattle.thy_run.specs.Sending.{Sent}
 use Rattle.thy_run.specs.World.{Given}
 use Rattle.thy_cli.specs.declared.answer.Answer.{Answer}
@@ -168,7 +167,7 @@ ClosesRun true lines old new = new ≡ old
 
 -- whatever a cut leaves of a device is safe for the marks of a run's events
 abbrev pub IsSafeFor : {M : Type 0} → KindOf M → Origin → List Event → Device → Type 0
-IsSafeFor K o events n = Safe K.decode o (marks_of o events).kept (marks_of o events).sealed n
+IsSafeFor K o events n = IsSafe K.decode o (marks_of o events) n
 
 -- A run that is about this, and was given this, was begun and stopped. Its cycles are those of a run, and keep what is
 -- promised of every run; the sinks took what its events say. It was saved, where that was asked for, and its device is safe

@@ -1,7 +1,8 @@
 -- One cycle of the program's loop is one of a run.
-use Rattle.std.proofs.Common.{◌≡◌, ◌≢◌, ℕ, ◌+◌, ◌<◌, Bool, true, false, ◌&&◌, not, nat_lt, ◌==◌, if◌then◌else◌, Option, Some, None, List, [], ◌∷◌, ◌++◌, length, refl, sym, ◌∙◌, ap, subst, inl, inr, append-nil, append_assoc, length-append, ◌^◌, arith}
+use Rattle.std.proofs.Common.{◌≡◌, ◌≢◌, ℕ, ◌+◌, ◌-◌, ◌<◌, Bool, true, false, ◌&&◌, not, nat_lt, ◌==◌, if◌then◌else◌, Option, Some, None, List, [], ◌∷◌, ◌++◌, length, refl, sym, ◌∙◌, ap, subst, inl, inr, append-nil, append_assoc, length-append, ◌^◌, arith}
 use Rattle.std.specs.Prelude.{MatchBool, slice_index}
 use Rattle.std.proofs.lemmas.Bool.{ltb-true, and_parts}
+use Rattle.std.proofs.lemmas.List.{take_all, drop_all}
 use Rattle.thy_base.specs.declared.mix.Mix.{Mix}
 use Rattle.thy_base.specs.Counts.{Rose}
 use Rattle.thy_base.specs.Device.{Device, IsFramed, cut_to}
@@ -15,6 +16,7 @@ use Rattle.thy_view.specs.declared.did.Stepped.{Stepped}
 use Rattle.thy_view.specs.declared.view.View.{View}
 use Rattle.thy_view.specs.Booting.{view_of_image}
 use Rattle.thy_view.specs.Origin.{Begins, Origin, at}
+use Rattle.thy_view.specs.Told.{count_of, reach}
 use Rattle.thy_view.specs.Views.{is_halt, halts}
 use Rattle.thy_view.specs.Safe.{ceiling}
 use Rattle.thy_view.specs.declared.error.CoreError.{CoreError}
@@ -24,7 +26,7 @@ use Rattle.thy_run.specs.Laws.{released_of}
 use Rattle.thy_run.specs.Cuts.{is_end}
 use Rattle.thy_run.specs.Due.{due_of, is_told, shows_console, IsQuiet, IsTold}
 use Rattle.thy_run.specs.Unfinished.{TellingFailed, ReadFailed, LeftAlone}
-use Rattle.thy_run.specs.World.{World, seen, did_told, reload_told, end_told, events_of, after_step, TakesStep, is_due, IsCutOff, tear}
+use Rattle.thy_run.specs.World.{World, seen, turns_behind, did_told, reload_told, end_told, events_of, after_step, TakesStep, is_due, IsCutOff, tear}
 use Rattle.thy_run.proofs.ConsoleLaws.{released-cut, released-stepped, released-part, length-released}
 use Rattle.thy_run.proofs.GatherLemmas.{due_hidden}
 use Rattle.thy_run.proofs.NoteLemmas.{events_due, told_or_halts}
@@ -38,6 +40,10 @@ use Rattle.thy_run.specs.Endings.{EndsWith}
 use Rattle.thy_run.specs.Stopping.{stop_of}
 use Rattle.thy_base.proofs.RangeLemmas.{epoch_least}
 use Rattle.thy_run.proofs.StepFrames.{TakesStep-framed}
+
+-- with one hart there is no turn to tell
+pub untold_of : (plan : Plan) (v : View) → turns_behind (origin_of plan) v.done ≡ []
+untold_of plan v = drop_all (count_of v.done - (origin_of plan).start.count) [] (omega arith)
 
 -- the progress after a step of the machine
 pub progress_stepped : {M : Type 0} → (p : Progress M) (m : M) (mix : Mix) → mix ≡ mix_next p.mix
@@ -122,7 +128,7 @@ module _ {M : Type 0} (K : KindOf M) (laws : IsLawful K) (plan : Plan) (p q : Pr
       let next : View = seen K (origin_of plan) (world_at q m (k + 1)) in
       let end : IsEnd (origin_of plan) v next (Some status) = subst (IsEnd (origin_of plan) v next) is noted.is_end in
       let halt : is_halt next.phase ≡ true = halted_next (is_halt v.phase) (is_halt next.phase) end.0 in
-      let first : List Event = reload_told p.fresh next ++ did_told (origin_of plan) noted.steps.r.did (k + 1) in
+      let first : List Event = reload_told p.fresh next ++ did_told (origin_of plan) v noted.steps.r.did (k + 1) in
       let told_last : end_told (origin_of plan) v next (k + 1) ≡ EndedEvent status next.count (k + 1) (at (origin_of plan) next.count) ∷ [] =
       end_told-halted (origin_of plan) v next (k + 1) end.0 ∙ ap (λ x. EndedEvent x next.count (k + 1) (at (origin_of plan) next.count) ∷ []) (sym end.1) in
       let ends : EndsWith q.events status = record {
@@ -176,6 +182,7 @@ module _ {M : Type 0} (K : KindOf M) (laws : IsLawful K) (plan : Plan) (p q : Pr
         cut = cut.cut;
         powered = cut.powered;
         dram = cut.dram;
+        kept = sym (take_all (reach (view_of_image (origin_of plan).start.count (K.decode (origin_of plan).geometry ceiling m'.image)) - (origin_of plan).start.count) [] (omega arith));
         at_moment = subst (λ d. K.is_at (origin_of plan) (k + 1) q'.machine d) (sym device) law.0;
         found = found;
         next_is = ap (λ (y : Progress M). world_at y m' (k + 1)) cut.same
@@ -270,6 +277,9 @@ IsNoted-made {M = M} K laws plan fitted p q t n m k r ended bytes planned g s ma
     let steps : TakesStep K o (world_at p n k) (world_at (record q { events = t.events; released = t.released; fresh = false }) m (k + 1)) = record {
       r = r;
       going = g.going;
+      turns_are = refl;
+      agree = λ j less. refl;
+      alike = refl;
       is_step = s.is_step;
       next_is =
           ap (λ (y : Progress M). world_at (record y { events = t.events; fresh = false }) m (k + 1)) s.same
@@ -304,8 +314,8 @@ IsBroken-made {M = M} K laws plan fitted p q t n m k r planned g s some same =
     let fresh_q : q.fresh ≡ p.fresh = ap (λ (y : Progress M). y.fresh) s.same in
     let all : List Event = events_of o p.fresh v r.did (K.view o q.machine m) (k + 1) in
     let split : all ≡ some.part ++ some.rest = ap (λ b. events_of o b v r.did (K.view o q.machine m) (k + 1)) (sym fresh_q) ∙ some.split in
-    let next : World M = after_step K o (world_at p n k) q.machine m r.did in
-    let steps : TakesStep K o (world_at p n k) next = record { r = r; going = g.going; is_step = s.is_step; next_is = refl } in
+    let next : World M = after_step K o (world_at p n k) q.machine m [] r.did in
+    let steps : TakesStep K o (world_at p n k) next = record { r = r; going = g.going; turns_are = refl; agree = λ j less. refl; alike = refl; is_step = s.is_step; next_is = refl } in
     let did_told : t.events ≡ p.events ++ some.part = some.grew ∙ ap (λ (l : List Event). l ++ some.part) events_q in
     let more = released-part K o (world_at p n k) next (epoch_least (origin_of plan).geometry planned.origin.geometry) good.stands steps some.part some.rest (sym split) in
     let telling : TellingFailed K o (world_at p n k) t.events (LeftAlone K o plan.config.cuts m) = record {
@@ -334,8 +344,8 @@ IsBroken-read {M = M} K laws plan fitted p q n m m' k r e planned g s failed fra
     let o : Origin = origin_of plan in
     let v : View = seen K o (world_at p n k) in
     let events_q : q.events ≡ p.events = ap (λ (y : Progress M). y.events) s.same in
-    let next : World M = after_step K o (world_at p n k) q.machine m r.did in
-    let steps : TakesStep K o (world_at p n k) next = record { r = r; going = g.going; is_step = s.is_step; next_is = refl } in
+    let next : World M = after_step K o (world_at p n k) q.machine m [] r.did in
+    let steps : TakesStep K o (world_at p n k) next = record { r = r; going = g.going; turns_are = refl; agree = λ j less. refl; alike = refl; is_step = s.is_step; next_is = refl } in
     let all : List Event = events_of o p.fresh v r.did (K.view o q.machine m) (k + 1) in
     let some : all ≢ [] = events_due o p.fresh v (K.view o q.machine m) r.did (k + 1) (told_or_halts r (halts v (K.view o q.machine m)) s.is_step.ended due) in
     let telling : (Why : World M → List Event → Type 0) → Why next all → TellingFailed K o (world_at p n k) q.events Why = λ Why why. record {
@@ -359,7 +369,7 @@ IsBroken-read {M = M} K laws plan fitted p q n m m' k r e planned g s failed fra
   where
     by_error : (e : CoreError) → HasFailedToRead e m m' → IsBroken K plan p q n m' k []
         → (all : List Event) → all ≢ []
-        → ((Why : World M → List Event → Type 0) → Why (after_step K (origin_of plan) (world_at p n k) q.machine m r.did) all → TellingFailed K (origin_of plan) (world_at p n k) q.events Why)
+        → ((Why : World M → List Event → Type 0) → Why (after_step K (origin_of plan) (world_at p n k) q.machine m [] r.did) all → TellingFailed K (origin_of plan) (world_at p n k) q.events Why)
         → q.events ≡ p.events
         → IsBroken K plan p q n m' k [] × Breaks K plan p q n m' k [] (stop_of e)
     by_error NvmFailed f broken all some telling events = (
@@ -393,8 +403,8 @@ few_released {M = M} K laws plan fitted p q n m k r bytes planned g s due =
     let o : Origin = origin_of plan in
     let good = good_of K plan fitted p n k planned g in
     let events_q : q.events ≡ p.events = ap (λ (y : Progress M). y.events) s.same in
-    let next : World M = after_step K o (world_at p n k) q.machine m r.did in
-    let steps : TakesStep K o (world_at p n k) next = record { r = r; going = g.going; is_step = s.is_step; next_is = refl } in
+    let next : World M = after_step K o (world_at p n k) q.machine m [] r.did in
+    let steps : TakesStep K o (world_at p n k) next = record { r = r; going = g.going; turns_are = refl; agree = λ j less. refl; alike = refl; is_step = s.is_step; next_is = refl } in
     let releases : released_of o next.events ≡ released_of o p.events ++ bytes =
     released-stepped K o (world_at p n k) next (epoch_least (origin_of plan).geometry planned.origin.geometry) good.stands steps
     ∙ ap (λ (l : List ℕ). released_of o p.events ++ l) (ap (λ (e : List Event). due_of o e r.did (K.view o q.machine m)) (sym events_q) ∙ sym due) in
@@ -456,12 +466,12 @@ broken_none {M = M} K plan p q n m k bytes stop is none same h =
 -- ---- a quiet cycle
 
 -- what has no event of its own tells none
-told_none : (o : Origin) (did : Did) (cycle : ℕ) → is_told did ≡ false → did_told o did cycle ≡ []
-told_none o Loaded cycle h = absurd (cc)
-told_none o (Restarted epoch count) cycle h = absurd (cc)
-told_none o (Sealed epoch count cause) cycle h = absurd (cc)
-told_none o (Committed epoch overlapped) cycle h = absurd (cc)
-told_none o did cycle h = refl
+told_none : (o : Origin) (v : View) (did : Did) (cycle : ℕ) → is_told did ≡ false → did_told o v did cycle ≡ []
+told_none o v Loaded cycle h = absurd (cc)
+told_none o v (Restarted epoch count) cycle h = absurd (cc)
+told_none o v (Sealed epoch count cause) cycle h = absurd (cc)
+told_none o v (Committed epoch overlapped) cycle h = absurd (cc)
+told_none o v did cycle h = refl
 
 -- and shows no console
 hidden_none : (did : Did) → is_told did ≡ false → shows_console did ≡ false
@@ -483,8 +493,8 @@ quiet_goes {M = M} K laws plan fitted p q n m k r planned g s quiet =
     let end : end_told o v next (k + 1) ≡ [] =
     ap (λ b. if b then EndedEvent (at o next.count).status next.count (k + 1) (at o next.count) ∷ [] else []) going in
     let none : events_of o q.fresh v r.did next (k + 1) ≡ [] =
-    ap (λ (l : List Event). (l ++ did_told o r.did (k + 1)) ++ end_told o v next (k + 1)) reload
-    ∙ ap (λ (l : List Event). l ++ end_told o v next (k + 1)) (told_none o r.did (k + 1) quiet.untold) ∙ end in
+    ap (λ (l : List Event). (l ++ did_told o v r.did (k + 1)) ++ end_told o v next (k + 1)) reload
+    ∙ ap (λ (l : List Event). l ++ end_told o v next (k + 1)) (told_none o v r.did (k + 1) quiet.untold) ∙ end in
     let noted : IsNoted K plan p q n m k None [] =
     IsNoted-made K laws plan fitted p q q n m k r None [] planned g s
     (sym (append-nil q.events) ∙ ap (λ (l : List Event). q.events ++ l) (sym none))

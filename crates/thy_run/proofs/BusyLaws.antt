@@ -7,6 +7,7 @@ use Rattle.thy_record.specs.Decoded.{Decoded, Nothing as NothingLeft, Refused as
 use Rattle.thy_view.specs.declared.did.Did.TheVariants.{Nothing}
 use Rattle.thy_view.specs.declared.view.Phase.{Phase}
 use Rattle.thy_view.specs.declared.view.Phase.TheVariants.{Boot as BootPhase, Run, Halt}
+use Rattle.thy_view.specs.declared.view.View.{View}
 use Rattle.thy_view.specs.Booting.{view_of_image}
 use Rattle.thy_view.specs.CoreStep.{CoreStep}
 use Rattle.thy_view.specs.Kind.{KindOf, IsLawful, IsPoweredOn}
@@ -14,7 +15,8 @@ use Rattle.thy_view.specs.Origin.{Origin}
 use Rattle.thy_view.specs.Pace.{is_drained}
 use Rattle.thy_view.specs.Views.{is_boot, is_halt}
 use Rattle.thy_run.specs.Progress.{last_of, cycles_for, Tally, nothing_done, one_if, counted, tally_of, RunIsBusy, RunNeverRests}
-use Rattle.thy_run.specs.World.{World, Given, seen, TakesStep, is_due, IsCutOff, tear, Ran}
+use Rattle.thy_run.specs.World.{World, Given, line, seen, TakesStep, is_due, IsCutOff, tear, Ran}
+use Rattle.thy_run.proofs.StepAlong.{core_of}
 use Rattle.thy_run.proofs.StepKinds.{kind_of, stays_up}
 use Rattle.thy_run.proofs.WorldLaws.{cycles-ran}
 
@@ -44,8 +46,8 @@ boots_kept false boots most old new step kept = omega (arith, step, kept)
 
 -- what was done, and what lies ahead
 pub record Works {M : Type 0} (K : KindOf M) (o : Origin) (cuts : List ℕ) (w : World M) (t : Tally) : Type 0 where
-  pub at_moment : K.is_at o w.cycles w.machine w.device
-  pub near : w.cycles + K.ahead o w.machine w.device ≤ cycles_for K o.geometry cuts t.retired
+  pub at_moment : K.is_at (line o w) w.cycles w.machine w.device
+  pub near : w.cycles + K.ahead (line o w) w.machine w.device ≤ cycles_for K o.geometry cuts t.retired
   pub boots : t.boots ≤ K.most_booting o.geometry
   pub boot : (seen K o w).phase ≡ BootPhase → t.boots + (K.gauge w.machine w.device).boot_left ≤ K.most_booting o.geometry
   pub queued : t.drains + (K.gauge w.machine w.device).queued ≤ t.others
@@ -58,10 +60,10 @@ module _ {M : Type 0} (K : KindOf M) (laws : IsLawful K) (o : Origin) (cuts : Li
       × ((seen K o w).phase ≡ BootPhase → boots + (K.gauge w.machine w.device).boot_left ≤ K.most_booting o.geometry)
 
   -- power came on after a listed cycle
-  powered : (w : World M) → K.is_at o w.cycles w.machine w.device → K.powered o.geometry w.machine → w.device.queue ≡ [] → w.cycles ≤ last_of cuts
+  powered : (w : World M) → K.is_at (line o w) w.cycles w.machine w.device → K.powered o.geometry w.machine → w.device.queue ≡ [] → w.cycles ≤ last_of cuts
       → Works K o cuts w nothing_done
   powered w at_moment on empty listed =
-      let p : IsPoweredOn K o w.machine w.device = laws.powered_on o w.cycles w.machine w.device at_moment on empty in
+      let p : IsPoweredOn K (line o w) w.machine w.device = laws.powered_on (line o w) w.cycles w.machine w.device at_moment on empty in
       record {
         at_moment = at_moment;
         near = omega (arith, listed, p.ahead);
@@ -73,14 +75,14 @@ module _ {M : Type 0} (K : KindOf M) (laws : IsLawful K) (o : Origin) (cuts : Li
   -- a step behind the boot is none of its cycles, and the boot does not come again
   behind : (w next : World M) (step : TakesStep K o w next) (t : Tally) → Works K o cuts w t → is_boot (seen K o w).phase ≡ false → IsBooting next (t.boots + 0)
   behind w next step t h up =
-      let kind = kind_of o (seen K o w) (seen K o next) step.r.did step.is_step.step in
-      let still : is_boot (seen K o next).phase ≡ false = stays_up o (seen K o w) (seen K o next) step.r.did kind up in
+      let kind = kind_of (line o next) (seen K o w) (seen K o next) step.r.did (core_of K o w next step) in
+      let still : is_boot (seen K o next).phase ≡ false = stays_up (line o next) (seen K o w) (seen K o next) step.r.did kind up in
       (omega (arith, h.boots), λ e. absurd (let boot : is_boot (seen K o next).phase ≡ true = ap is_boot e in cc))
 
   phases : (w next : World M) (step : TakesStep K o w next) (t : Tally) → Works K o cuts w t → (p : Phase) → (seen K o w).phase ≡ p
       → IsBooting next (t.boots + one_if (is_boot p && not (is_drained step.r.did)))
   phases w next step t h BootPhase is =
-      let kept = boots_kept (is_drained step.r.did) t.boots (K.most_booting o.geometry) _ _ (step.is_step.pace.boots is) (h.boot is) in
+      let kept = boots_kept (is_drained step.r.did) t.boots (K.most_booting o.geometry) _ _ (step.is_step.pace.boots (ap (λ (v : View). v.phase) step.alike ∙ is)) (h.boot is) in
       (omega (arith, kept), λ e. kept)
   phases w next step t h Run is = behind w next step t h (ap is_boot is)
   phases w next step t h Halt is = behind w next step t h (ap is_boot is)
@@ -92,8 +94,12 @@ module _ {M : Type 0} (K : KindOf M) (laws : IsLawful K) (o : Origin) (cuts : Li
       let cycles : next.cycles ≡ w.cycles + 1 = ap (λ (y : World M). y.cycles) step.next_is in
       let boots = phases w next step t h (seen K o w).phase refl in
       record {
-        at_moment = subst (λ k. K.is_at o k next.machine next.device) (sym cycles) step.is_step.at_next;
-        near = omega (arith, cycles, h.near, step.is_step.nears step.going);
+        at_moment = subst (λ k. K.is_at (line o next) k next.machine next.device) (sym cycles) step.is_step.at_next;
+        near =
+            let ahead : K.ahead (line o next) w.machine w.device ≡ K.ahead (line o w) w.machine w.device =
+            (laws.seen_alike (line o w) next.turns w.cycles w.machine w.device h.at_moment step.agree).ahead in
+            let nears = step.is_step.nears (ap (λ (v : View). is_halt v.phase) step.alike ∙ step.going) in
+            omega (arith, cycles, h.near, ahead, nears);
         boots = boots.0;
         boot = boots.1;
         queued = drains_kept (is_drained step.r.did) t.drains t.others _ _ step.is_step.pace.queues h.queued;
@@ -107,7 +113,7 @@ module _ {M : Type 0} (K : KindOf M) (laws : IsLawful K) (o : Origin) (cuts : Li
       let at : slice_index cuts x.passed ≡ x.cycles = eqb-true (slice_index cuts x.passed) x.cycles listed.1 in
       let most : slice_index cuts x.passed ≤ last_of cuts = listed-last_of cuts x.passed (ltb-true x.passed (length cuts) listed.0) in
       let cycles : next.cycles ≡ x.cycles = ap (λ (y : World M). y.cycles) cut.next_is in
-      powered next (subst (λ k. K.is_at o k next.machine next.device) (sym cycles) cut.at_moment) cut.powered
+      powered next (subst (λ k. K.is_at (line o next) k next.machine next.device) (sym cycles) cut.at_moment) cut.powered
       (ap (λ (n : Device). n.queue) cut.cut.device) (omega (arith, at, most, cycles))
 
   by_due : (w x next : World M) (step : TakesStep K o w x) (t : Tally) → Works K o cuts w t → (pick : ℕ) (b : Bool) → is_due K o cuts x ≡ b
@@ -119,7 +125,7 @@ module _ {M : Type 0} (K : KindOf M) (laws : IsLawful K) (o : Origin) (cuts : Li
 pub Works-ran : {M : Type 0} (K : KindOf M) (laws : IsLawful K) (o : Origin) (given : Given) (k : ℕ) (w : World M) (ran : Ran K o given k w)
     → Works K o given.config.cuts w (tally_of K o given k w ran)
 Works-ran {M = M} K laws o given zero w first =
-    powered K laws o given.config.cuts w (subst (λ k. K.is_at o k w.machine w.device) (sym first.cycles) first.at_moment) first.powered first.empty
+    powered K laws o given.config.cuts w (subst (λ k. K.is_at (line o w) k w.machine w.device) (sym first.cycles) first.at_moment) first.powered first.empty
     (let none : w.cycles ≡ 0 = first.cycles in omega (arith, none))
 Works-ran {M = M} K laws o given (suc k) w (before, ran, cycle) =
     by_due K laws o given.config.cuts before cycle.between w cycle.steps (tally_of K o given k before ran) (Works-ran K laws o given k before ran)
@@ -152,7 +158,7 @@ pub Busy-ran : {M : Type 0} (K : KindOf M) → IsLawful K → RunIsBusy K
 Busy-ran K laws o given k w ran =
     let h = Works-ran K laws o given k w ran in
     let cycles : w.cycles ≡ k = cycles-ran K o given k w ran in
-    let ahead : 1 ≤ K.ahead o w.machine w.device = laws.some_ahead o w.cycles w.machine w.device h.at_moment in
+    let ahead : 1 ≤ K.ahead (line o w) w.machine w.device = laws.some_ahead (line o w) w.cycles w.machine w.device h.at_moment in
     record {
       paced = omega (arith, h.near, cycles, ahead);
       boots = h.boots;
@@ -163,7 +169,7 @@ Busy-ran K laws o given k w ran =
 -- and none of its cycles rests
 pub NeverRests-ran : {M : Type 0} (K : KindOf M) → RunNeverRests K
 NeverRests-ran K o w next step is =
-    let core : CoreStep o (seen K o w) Nothing (seen K o next) = subst (λ d. CoreStep o (seen K o w) d (seen K o next)) is step.is_step.step in
+    let core : CoreStep (line o next) (seen K o w) Nothing (seen K o next) = subst (λ d. CoreStep (line o next) (seen K o w) d (seen K o next)) is (core_of K o w next step) in
     let halted : is_halt (seen K o w).phase ≡ true = ap is_halt core.0 in
     let going : is_halt (seen K o w).phase ≡ false = step.going in
     cc

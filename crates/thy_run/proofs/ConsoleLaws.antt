@@ -6,11 +6,12 @@ use Rattle.std.proofs.Math.Seq.{drop-append_seam}
 use Rattle.thy_base.specs.declared.mark.Mark.{Mark}
 use Rattle.thy_isa.specs.Step.{State}
 use Rattle.thy_isa.proofs.StorableLaws.{step-console, step-room}
-use Rattle.thy_view.proofs.TurnLaws.{at-keeps, at-holds}
+use Rattle.thy_view.specs.Told.{told}
+use Rattle.thy_view.proofs.TurnLaws.{at-keeps, at-holds, IsOrigin-told}
 use Rattle.thy_view.specs.Kind.{KindOf}
 use Rattle.thy_text.specs.Event.{Event, Cut, Reload, Ended}
 use Rattle.thy_text.specs.Marks.{Marks, marks_from}
-use Rattle.thy_text.specs.Released.{shows, console_of}
+use Rattle.thy_text.specs.Released.{shows, console_of, console_kept}
 use Rattle.thy_text.proofs.Histories.{marks_from-append}
 use Rattle.thy_view.specs.declared.did.Did.{Did}
 use Rattle.thy_view.specs.declared.did.Did.TheVariants.{Boot, Loaded, Restarted, Refused, Moved, Retired, Flushed, Merged, Sealed, Promoted, Engine, Committed, NvmDrained, DramDrained, Nothing}
@@ -20,13 +21,17 @@ use Rattle.thy_base.specs.Marks.{mark}
 use Rattle.thy_view.specs.Views.{loads, halts}
 use Rattle.thy_view.specs.CoreStep.{CoreStep}
 use Rattle.thy_view.specs.Origin.{Origin, at, setting_of, IsOrigin}
-use Rattle.thy_run.specs.Due.{console_at, shows_console, due_of}
+use Rattle.thy_run.specs.Due.{console_at, console_shown, shows_console, due_of}
 use Rattle.thy_run.specs.Laws.{first_marks, marks_of, released_of}
-use Rattle.thy_run.specs.World.{World, seen, did_told, reload_told, end_told, events_of, TakesStep}
+use Rattle.thy_run.specs.World.{World, line, seen, did_told, reload_told, end_told, events_of, TakesStep}
 use Rattle.thy_run.proofs.CoverLaws.{Covers-sealed, marks-part}
 use Rattle.thy_run.proofs.Fitting.{BootFits, RunFits, FitsIn, Fits}
 use Rattle.thy_run.proofs.EventLaws.{marks-events}
-use Rattle.thy_run.proofs.WorldLaws.{Coheres, Rises-fits}
+use Rattle.thy_run.proofs.CutLaws.{Rises-fits}
+use Rattle.thy_run.proofs.Leading.{LeadsTo, Leads, state_there}
+use Rattle.thy_run.proofs.LeadingLaws.{Leads-told}
+use Rattle.thy_run.proofs.StepAlong.{core_of, events_told}
+use Rattle.thy_run.proofs.WorldLaws.{Coheres, fits_before, leads_before, told_before, Coheres-stepped}
 use Rattle.thy_base.proofs.RangeLemmas.{console_most}
 
 -- ---- the console of the plain machine
@@ -56,19 +61,19 @@ grows_none a b none = λ k some. absurd (cc)
 
 -- so what is released grows
 pub grown : (o : Origin) (a b : Option Mark) → Grows a b
-    → console_of (console_at o) b ≡ console_of (console_at o) a ++ drop (length (console_of (console_at o) a)) (console_of (console_at o) b)
+    → console_shown o b ≡ console_shown o a ++ drop (length (console_shown o a)) (console_shown o b)
 grown o None b g = refl
 grown o (Some k) b g =
     let later = g k refl in
     let more = console-grows o k.count later.0.count later.2 in
-    let is : console_of (console_at o) b ≡ console_at o k.count ++ more.0 = ap (console_of (console_at o)) later.1 ∙ more.1 in
+    let is : console_shown o b ≡ console_at o k.count ++ more.0 = ap (console_shown o) later.1 ∙ more.1 in
     is ∙ ap (λ (l : List ℕ). console_at o k.count ++ l) (sym (ap (drop (length (console_at o k.count))) is ∙ drop-append_seam (console_at o k.count) more.0))
 
 -- ---- what was done
 
 module _ (o : Origin) (v next : View) (m : Marks) (h : Fits o v m) where
   -- the marks that a step's event leaves keep the committed one, or a later one
-  pub Grows-told : (did : Did) (cycle : ℕ) → CoreStep o v did next → Grows m.kept (marks_from o.start.count m (did_told o did cycle)).kept
+  pub Grows-told : (did : Did) (cycle : ℕ) → CoreStep o v did next → Grows m.kept (marks_from o.start.count m (did_told o v did cycle)).kept
   Grows-told Boot cycle s = grows_same m.kept m.kept refl
   Grows-told Loaded cycle s = grows_none m.kept m.sealed ((Covers-sealed o v m h).nothing s.none)
   Grows-told (Restarted epoch count) cycle s = λ k kept.
@@ -101,7 +106,7 @@ module _ (o : Origin) (v next : View) (m : Marks) (h : Fits o v m) where
       ]
 
   -- after what shows a console the committed mark is the view's, after anything else it is the one before
-  pub kept-told : (did : Did) (cycle : ℕ) → CoreStep o v did next → (marks_from o.start.count m (did_told o did cycle)).kept ≡ (if shows_console did then next.done else m.kept)
+  pub kept-told : (did : Did) (cycle : ℕ) → CoreStep o v did next → (marks_from o.start.count m (did_told o v did cycle)).kept ≡ (if shows_console did then next.done else m.kept)
   kept-told Boot cycle s = refl
   kept-told Loaded cycle s = loading_sealed s.none s.phase ∙ sym (ap (λ w. w.done) s.becomes)
   kept-told (Restarted epoch count) cycle s = sym s.done ∙ sym (ap (λ w. w.done) s.becomes)
@@ -129,12 +134,24 @@ mark_if shown kept = if shown then kept else None
 abbrev pub shown_of : Origin → List Event → Option Mark
 shown_of o events = mark_if (list_any shows events) (marks_of o events).kept
 
-released_if : (console_at : ℕ → List ℕ) (b : Bool) (kept : Option Mark) → (if b then console_of console_at kept else []) ≡ console_of console_at (mark_if b kept)
-released_if console_at true kept = refl
-released_if console_at false kept = refl
+-- the console at each count, to which turns lead
+abbrev console_by : Origin → ℕ → List ℕ → List ℕ
+console_by o k turns = (at (told o turns) k).console
 
-released_marks : (o : Origin) (events : List Event) → released_of o events ≡ console_of (console_at o) (shown_of o events)
-released_marks o events = released_if (console_at o) (list_any shows events) (marks_of o events).kept
+-- that of a mark is the run's own where its turns lead there
+of_mark : (o : Origin) (t turns : List ℕ) (kept : Option Mark) → ((k : Mark) → kept ≡ Some k → LeadsTo (told o t) turns k.count)
+    → console_of (console_by o) kept turns ≡ console_shown (told o t) kept
+of_mark o t turns None leads = refl
+of_mark o t turns (Some k) leads = ap (λ (x : State). x.console) (state_there (told o t) turns k.count (leads k refl))
+
+released_if : (o : Origin) (t : List ℕ) (b : Bool) (m : Marks) → ((k : Mark) → m.kept ≡ Some k → LeadsTo (told o t) m.kept_turns k.count)
+    → (if b then console_kept (console_by o) m else []) ≡ console_shown (told o t) (mark_if b m.kept)
+released_if o t true m leads = of_mark o t m.kept_turns m.kept leads
+released_if o t false m leads = refl
+
+released_marks : (o : Origin) (t : List ℕ) (events : List Event) → ((k : Mark) → (marks_of o events).kept ≡ Some k → LeadsTo (told o t) (marks_of o events).kept_turns k.count)
+    → released_of o events ≡ console_shown (told o t) (shown_of o events)
+released_marks o t events leads = released_if o t (list_any shows events) (marks_of o events) leads
 
 -- what was shown stays shown
 grows_if : (a b : Bool) (kept later : Option Mark) → (a ≡ true → b ≡ true) → Grows kept later → Grows (mark_if a kept) (mark_if b later)
@@ -146,22 +163,22 @@ shown_on : (o : Origin) (vs ws : List Event) → list_any shows vs ≡ true → 
 shown_on o vs ws is = list_any-append shows vs ws ∙ ap (λ b. b || list_any shows ws) is
 
 -- which events of a step show a console
-told_shows : (o : Origin) (did : Did) (cycle : ℕ) → list_any shows (did_told o did cycle) ≡ shows_console did
-told_shows o Boot cycle = refl
-told_shows o Loaded cycle = refl
-told_shows o (Restarted epoch count) cycle = refl
-told_shows o (Refused bad) cycle = refl
-told_shows o Moved cycle = refl
-told_shows o (Retired hart) cycle = refl
-told_shows o Flushed cycle = refl
-told_shows o Merged cycle = refl
-told_shows o Promoted cycle = refl
-told_shows o (Sealed epoch count cause) cycle = refl
-told_shows o (Engine step) cycle = refl
-told_shows o (Committed epoch overlapped) cycle = refl
-told_shows o NvmDrained cycle = refl
-told_shows o DramDrained cycle = refl
-told_shows o Nothing cycle = refl
+told_shows : (o : Origin) (v : View) (did : Did) (cycle : ℕ) → list_any shows (did_told o v did cycle) ≡ shows_console did
+told_shows o v Boot cycle = refl
+told_shows o v Loaded cycle = refl
+told_shows o v (Restarted epoch count) cycle = refl
+told_shows o v (Refused bad) cycle = refl
+told_shows o v Moved cycle = refl
+told_shows o v (Retired hart) cycle = refl
+told_shows o v Flushed cycle = refl
+told_shows o v Merged cycle = refl
+told_shows o v Promoted cycle = refl
+told_shows o v (Sealed epoch count cause) cycle = refl
+told_shows o v (Engine step) cycle = refl
+told_shows o v (Committed epoch overlapped) cycle = refl
+told_shows o v NvmDrained cycle = refl
+told_shows o v DramDrained cycle = refl
+told_shows o v Nothing cycle = refl
 
 reload_shows : (b : Bool) → list_any shows (if b then Reload ∷ [] else []) ≡ false
 reload_shows true = refl
@@ -178,12 +195,12 @@ or_false false = refl
 
 events_show : (o : Origin) (fresh : Bool) (v : View) (did : Did) (next : View) (cycle : ℕ) → list_any shows (events_of o fresh v did next cycle) ≡ shows_console did
 events_show o fresh v did next cycle =
-    list_any-append shows (reload_told fresh next ++ did_told o did cycle) (end_told o v next cycle)
-    ∙ ap (λ b. list_any shows (reload_told fresh next ++ did_told o did cycle) || b) (end_shows o next cycle (halts v next))
-    ∙ or_false (list_any shows (reload_told fresh next ++ did_told o did cycle))
-    ∙ list_any-append shows (reload_told fresh next) (did_told o did cycle)
-    ∙ ap (λ b. b || list_any shows (did_told o did cycle)) (reload_shows (fresh && loads next))
-    ∙ told_shows o did cycle
+    list_any-append shows (reload_told fresh next ++ did_told o v did cycle) (end_told o v next cycle)
+    ∙ ap (λ b. list_any shows (reload_told fresh next ++ did_told o v did cycle) || b) (end_shows o next cycle (halts v next))
+    ∙ or_false (list_any shows (reload_told fresh next ++ did_told o v did cycle))
+    ∙ list_any-append shows (reload_told fresh next) (did_told o v did cycle)
+    ∙ ap (λ b. b || list_any shows (did_told o v did cycle)) (reload_shows (fresh && loads next))
+    ∙ told_shows o v did cycle
 
 -- the mark that is shown after a step
 mark_next : (w es showing : Bool) (found before later : Option Mark) → es ≡ showing → later ≡ (if showing then found else before)
@@ -196,86 +213,108 @@ mark_next w es true found before later shown is = ap (λ b. mark_if (w || b) lat
 mark_next w es false found before later shown is = ap (λ b. mark_if (w || b) later) shown ∙ ap (λ b. mark_if b later) (or_false w) ∙ ap (mark_if w) is
 
 module _ {M : Type 0} (K : KindOf M) (o : Origin) (w next : World M) (least : 1 ≤ o.geometry.epoch) (h : Coheres K o w) (step : TakesStep K o w next) where
-  abbrev marks_now : Marks
-  marks_now = marks_of o w.events
+  core : CoreStep (line o next) (seen K o w) step.r.did (seen K o next)
+  core = core_of K o w next step
 
-  abbrev marks_told : Marks
-  marks_told = marks_from o.start.count (marks_of o w.events) (did_told o step.r.did (w.cycles + 1))
+  fits : Fits (line o next) (seen K o w) (marks_of o w.events)
+  fits = fits_before K o w least h next step
+
+  leads : Leads (line o next) (seen K o w) (marks_of o w.events)
+  leads = leads_before K o w least h next step
 
   marks_more : (part : List Event) → marks_of o (w.events ++ part) ≡ marks_from o.start.count (marks_of o w.events) part
   marks_more part = marks_from-append o.start.count (first_marks o) w.events part
 
-  told_grows : Grows (marks_of o w.events).kept (marks_from o.start.count (marks_of o w.events) (did_told o step.r.did (w.cycles + 1))).kept
-  told_grows = Grows-told o (seen K o w) (seen K o next) (marks_of o w.events) h.fits step.r.did (w.cycles + 1) step.is_step.step
-
-  part_grows : (part rest : List Event) → part ++ rest ≡ events_of o w.fresh (seen K o w) step.r.did (seen K o next) (w.cycles + 1)
-      → Grows (marks_of o w.events).kept (marks_of o (w.events ++ part)).kept
-  part_grows part rest e =
-      subst (λ (x : Marks). Grows (marks_of o w.events).kept x.kept) (sym (marks_more part))
-      (elim (marks-part o (seen K o w) (seen K o next) (marks_of o w.events) step.r.did w.fresh (w.cycles + 1) least h.fits step.is_step.step part rest e)
-      as (λ _. Grows (marks_of o w.events).kept (marks_from o.start.count (marks_of o w.events) part).kept) [
-        | inl stood ↦ grows_same (marks_of o w.events).kept (marks_from o.start.count (marks_of o w.events) part).kept (ap (λ (x : Marks). x.kept) stood)
-        | inr done ↦ subst (λ (x : Marks). Grows (marks_of o w.events).kept x.kept) (sym done) told_grows
+  -- the marks behind the first of a cycle's events are those before it, or those that what was done leaves
+  behind_part : (P : Marks → Type 0) → P (marks_of o w.events) → P (marks_from o.start.count (marks_of o w.events) (did_told (line o next) (seen K o w) step.r.did (w.cycles + 1)))
+      → (part rest : List Event) → part ++ rest ≡ events_of (line o next) w.fresh (seen K o w) step.r.did (seen K o next) (w.cycles + 1) → P (marks_of o (w.events ++ part))
+  behind_part P stood done part rest e =
+      subst P (sym (marks_more part))
+      (elim (marks-part (line o next) (seen K o w) (seen K o next) (marks_of o w.events) step.r.did w.fresh (w.cycles + 1) least fits core part rest e)
+      as (λ _. P (marks_from o.start.count (marks_of o w.events) part)) [
+        | inl same ↦ subst P (sym same) stood
+        | inr all ↦ subst P (sym all) done
       ])
 
-  shown_grows : (part rest : List Event) → part ++ rest ≡ events_of o w.fresh (seen K o w) step.r.did (seen K o next) (w.cycles + 1)
+  told_grows : Grows (marks_of o w.events).kept (marks_from o.start.count (marks_of o w.events) (did_told (line o next) (seen K o w) step.r.did (w.cycles + 1))).kept
+  told_grows = Grows-told (line o next) (seen K o w) (seen K o next) (marks_of o w.events) fits step.r.did (w.cycles + 1) core
+
+  part_grows : (part rest : List Event) → part ++ rest ≡ events_of (line o next) w.fresh (seen K o w) step.r.did (seen K o next) (w.cycles + 1)
+      → Grows (marks_of o w.events).kept (marks_of o (w.events ++ part)).kept
+  part_grows part rest e =
+      behind_part (λ (x : Marks). Grows (marks_of o w.events).kept x.kept) (grows_same (marks_of o w.events).kept (marks_of o w.events).kept refl) told_grows part rest e
+
+  part_leads : (part rest : List Event) → part ++ rest ≡ events_of (line o next) w.fresh (seen K o w) step.r.did (seen K o next) (w.cycles + 1)
+      → (k : Mark) → (marks_of o (w.events ++ part)).kept ≡ Some k → LeadsTo (line o next) (marks_of o (w.events ++ part)).kept_turns k.count
+  part_leads part rest e =
+      behind_part (λ (x : Marks). (k : Mark) → x.kept ≡ Some k → LeadsTo (line o next) x.kept_turns k.count) leads.kept
+      (Leads-told (line o next) (seen K o w) (seen K o next) (marks_of o w.events) fits leads step.r.did (w.cycles + 1) (told_before K o w least h next step) core).kept
+      part rest e
+
+  shown_grows : (part rest : List Event) → part ++ rest ≡ events_of (line o next) w.fresh (seen K o w) step.r.did (seen K o next) (w.cycles + 1)
       → Grows (shown_of o w.events) (shown_of o (w.events ++ part))
   shown_grows part rest e =
       grows_if (list_any shows w.events) (list_any shows (w.events ++ part)) (marks_of o w.events).kept (marks_of o (w.events ++ part)).kept
       (shown_on o w.events part) (part_grows part rest e)
 
+  -- what was released before is the console along the turns that are told behind the step
+  before : released_of o w.events ≡ console_shown (line o next) (shown_of o w.events)
+  before = released_marks o next.turns w.events leads.kept
+
   -- the first of a cycle's events release more, or nothing
-  pub released-part : (part rest : List Event) → part ++ rest ≡ events_of o w.fresh (seen K o w) step.r.did (seen K o next) (w.cycles + 1)
+  pub released-part : (part rest : List Event) → part ++ rest ≡ events_of (line o next) w.fresh (seen K o w) step.r.did (seen K o next) (w.cycles + 1)
       → (more : List ℕ) × (released_of o (w.events ++ part) ≡ released_of o w.events ++ more)
   released-part part rest e =
-      let more : List ℕ = drop (length (console_of (console_at o) (shown_of o w.events))) (console_of (console_at o) (shown_of o (w.events ++ part))) in (
+      let more : List ℕ = drop (length (console_shown (line o next) (shown_of o w.events))) (console_shown (line o next) (shown_of o (w.events ++ part))) in (
         more,
-        released_marks o (w.events ++ part) ∙ grown o (shown_of o w.events) (shown_of o (w.events ++ part)) (shown_grows part rest e)
-            ∙ ap (λ (l : List ℕ). l ++ more) (sym (released_marks o w.events)),
+        released_marks o next.turns (w.events ++ part) (part_leads part rest e)
+            ∙ grown (line o next) (shown_of o w.events) (shown_of o (w.events ++ part)) (shown_grows part rest e)
+            ∙ ap (λ (l : List ℕ). l ++ more) (sym before),
       )
+
+  all_events : next.events ≡ w.events ++ events_of (line o next) w.fresh (seen K o w) step.r.did (seen K o next) (w.cycles + 1)
+  all_events = events_told K o w next step
 
   all_kept : (marks_of o next.events).kept ≡ (if shows_console step.r.did then (seen K o next).done else (marks_of o w.events).kept)
   all_kept =
-      let es : List Event = events_of o w.fresh (seen K o w) step.r.did (seen K o next) (w.cycles + 1) in
-      ap (λ (x : World M). (marks_of o x.events).kept) step.next_is
-      ∙ ap (λ (x : Marks). x.kept) (marks_more es ∙ marks-events o (seen K o w) (seen K o next) (marks_of o w.events) step.r.did w.fresh (w.cycles + 1) least h.fits step.is_step.step)
-      ∙ kept-told o (seen K o w) (seen K o next) (marks_of o w.events) h.fits step.r.did (w.cycles + 1) step.is_step.step
+      ap (λ (l : List Event). (marks_of o l).kept) all_events
+      ∙ ap (λ (x : Marks). x.kept)
+      (marks_more (events_of (line o next) w.fresh (seen K o w) step.r.did (seen K o next) (w.cycles + 1))
+      ∙ marks-events (line o next) (seen K o w) (seen K o next) (marks_of o w.events) step.r.did w.fresh (w.cycles + 1) least fits core)
+      ∙ kept-told (line o next) (seen K o w) (seen K o next) (marks_of o w.events) fits step.r.did (w.cycles + 1) core
 
   all_shown : shown_of o next.events ≡ (if shows_console step.r.did then (seen K o next).done else shown_of o w.events)
   all_shown =
-      let es : List Event = events_of o w.fresh (seen K o w) step.r.did (seen K o next) (w.cycles + 1) in
-      let events : next.events ≡ w.events ++ es = ap (λ (x : World M). x.events) step.next_is in
-      ap (λ b. mark_if b (marks_of o next.events).kept) (ap (list_any shows) events ∙ list_any-append shows w.events es)
+      let es : List Event = events_of (line o next) w.fresh (seen K o w) step.r.did (seen K o next) (w.cycles + 1) in
+      ap (λ b. mark_if b (marks_of o next.events).kept) (ap (list_any shows) all_events ∙ list_any-append shows w.events es)
       ∙ mark_next (list_any shows w.events) (list_any shows es) (shows_console step.r.did) (seen K o next).done (marks_of o w.events).kept (marks_of o next.events).kept
-      (events_show o w.fresh (seen K o w) step.r.did (seen K o next) (w.cycles + 1)) all_kept
+      (events_show (line o next) w.fresh (seen K o w) step.r.did (seen K o next) (w.cycles + 1)) all_kept
+
+  all_released : released_of o next.events ≡ console_shown (line o next) (shown_of o next.events)
+  all_released = released_marks o next.turns next.events (Coheres-stepped K o w least h next step).leads.kept
 
   by_show : (b : Bool) → shows_console step.r.did ≡ b
-      → released_of o next.events ≡ released_of o w.events ++ (if b then drop (length (released_of o w.events)) (console_of (console_at o) (seen K o next).done) else [])
+      → released_of o next.events ≡ released_of o w.events ++ (if b then drop (length (released_of o w.events)) (console_shown (line o next) (seen K o next).done) else [])
   by_show true shows_it =
-      let before : Option Mark = shown_of o w.events in
-      let es : List Event = events_of o w.fresh (seen K o w) step.r.did (seen K o next) (w.cycles + 1) in
-      let events : next.events ≡ w.events ++ es = ap (λ (x : World M). x.events) step.next_is in
-      let shown : shown_of o next.events ≡ (seen K o next).done = all_shown ∙ ap (λ b. if b then (seen K o next).done else before) shows_it in
-      let grows : Grows before (seen K o next).done = subst (Grows before) (sym (ap (shown_of o) events) ∙ shown) (shown_grows es [] (append-nil es)) in
-      released_marks o next.events ∙ ap (console_of (console_at o)) shown ∙ grown o before (seen K o next).done grows
-      ∙ ap (λ (l : List ℕ). l ++ drop (length l) (console_of (console_at o) (seen K o next).done)) (sym (released_marks o w.events))
+      let es : List Event = events_of (line o next) w.fresh (seen K o w) step.r.did (seen K o next) (w.cycles + 1) in
+      let shown : shown_of o next.events ≡ (seen K o next).done = all_shown ∙ ap (λ b. if b then (seen K o next).done else shown_of o w.events) shows_it in
+      let grows : Grows (shown_of o w.events) (seen K o next).done = subst (Grows (shown_of o w.events)) (sym (ap (shown_of o) all_events) ∙ shown) (shown_grows es [] (append-nil es)) in
+      all_released ∙ ap (console_shown (line o next)) shown ∙ grown (line o next) (shown_of o w.events) (seen K o next).done grows
+      ∙ ap (λ (l : List ℕ). l ++ drop (length l) (console_shown (line o next) (seen K o next).done)) (sym before)
   by_show false hides =
-      let before : Option Mark = shown_of o w.events in
-      let shown : shown_of o next.events ≡ before = all_shown ∙ ap (λ b. if b then (seen K o next).done else before) hides in
-      released_marks o next.events ∙ ap (console_of (console_at o)) shown ∙ sym (released_marks o w.events) ∙ sym (append-nil (released_of o w.events))
+      let shown : shown_of o next.events ≡ shown_of o w.events = all_shown ∙ ap (λ b. if b then (seen K o next).done else shown_of o w.events) hides in
+      all_released ∙ ap (console_shown (line o next)) shown ∙ sym before ∙ sym (append-nil (released_of o w.events))
 
   -- a cycle's events release what is due
-  pub released-stepped : released_of o next.events ≡ released_of o w.events ++ due_of o w.events step.r.did (seen K o next)
+  pub released-stepped : released_of o next.events ≡ released_of o w.events ++ due_of (line o next) w.events step.r.did (seen K o next)
   released-stepped = by_show (shows_console step.r.did) refl
 
 -- a cut releases nothing
 pub released-cut : (o : Origin) (events : List Event) (index cycle : ℕ) → released_of o (events ++ Cut index cycle ∷ []) ≡ released_of o events
 released-cut o events index cycle =
-    released_marks o (events ++ Cut index cycle ∷ [])
-    ∙ ap (console_of (console_at o))
-    (ap (λ b. mark_if b (marks_of o (events ++ Cut index cycle ∷ [])).kept) (list_any-append shows events (Cut index cycle ∷ []) ∙ or_false (list_any shows events))
-    ∙ ap (λ (x : Marks). mark_if (list_any shows events) x.kept) (marks_from-append o.start.count (first_marks o) events (Cut index cycle ∷ [])))
-    ∙ sym (released_marks o events)
+    ap (λ b. if b then console_kept (console_by o) (marks_of o (events ++ Cut index cycle ∷ [])) else [])
+    (list_any-append shows events (Cut index cycle ∷ []) ∙ or_false (list_any shows events))
+    ∙ ap (λ (x : Marks). if list_any shows events then console_kept (console_by o) x else []) (marks_from-append o.start.count (first_marks o) events (Cut index cycle ∷ []))
 
 -- ---- how much the console can be
 
@@ -285,11 +324,14 @@ console-few o k origin =
     let room : length (console_at o k) ≤ (setting_of o).room = at-holds Roomy o (λ s h. step-room (setting_of o) s h) origin.recordable.console k in
     omega (arith, room, console_most o.geometry origin.geometry)
 
-kept_few : (o : Origin) (kept : Option Mark) → IsOrigin o → length (console_of (console_at o) kept) < 2 ^ 64
-kept_few o None origin = omega arith
-kept_few o (Some m) origin = console-few o m.count origin
+mark_few : (o : Origin) (turns : List ℕ) (kept : Option Mark) → IsOrigin o → length (console_of (console_by o) kept turns) < 2 ^ 64
+mark_few o turns None origin = omega arith
+mark_few o turns (Some m) origin = console-few (told o turns) m.count (IsOrigin-told o turns origin)
+
+few_if : (o : Origin) (b : Bool) (m : Marks) → IsOrigin o → length (if b then console_kept (console_by o) m else []) < 2 ^ 64
+few_if o true m origin = mark_few o m.kept_turns m.kept origin
+few_if o false m origin = omega arith
 
 -- what is released has a length of 64 bits
 pub length-released : (o : Origin) (events : List Event) → IsOrigin o → length (released_of o events) < 2 ^ 64
-length-released o events origin =
-    subst (λ (l : List ℕ). length l < 2 ^ 64) (sym (released_marks o events)) (kept_few o (shown_of o events) origin)
+length-released o events origin = few_if o (list_any shows events) (marks_of o events) origin

@@ -2,10 +2,7 @@
 use Rattle.std.proofs.Common.{◌≡◌, ◌⊎◌, ℕ, ◌≤◌, Bool, true, false, ◌&&◌, ◌||◌, if◌then◌else◌, Option, Some, None, List, [], ◌∷◌, ◌++◌, refl, sym, ◌∙◌, ap, subst, inl, inr}
 use Rattle.thy_base.specs.declared.cause.EndCause.{EndCause}
 use Rattle.thy_base.specs.declared.mark.Mark.{Mark}
-use Rattle.thy_base.specs.Device.{Device}
-use Rattle.thy_record.specs.Decoded.{Decoded, Nothing as NothingLeft, Refused as RefusedImage, At}
 use Rattle.thy_view.specs.Action.{Action, is_commit_write, doubt_after_fault}
-use Rattle.thy_view.specs.Kind.{KindOf}
 use Rattle.thy_text.specs.Event.{Event, Reload, Ended}
 use Rattle.thy_text.specs.Marks.{Marks, marks_from}
 use Rattle.thy_text.proofs.Histories.{marks_from-append}
@@ -18,7 +15,6 @@ use Rattle.thy_base.specs.Marks.{mark}
 use Rattle.thy_view.specs.Views.{loads, halts, doubt_of}
 use Rattle.thy_view.specs.CoreStep.{CoreStep}
 use Rattle.thy_view.specs.Origin.{Origin, at}
-use Rattle.thy_view.specs.Safe.{ceiling, Safe, IsOneOf}
 use Rattle.thy_run.specs.World.{did_told, reload_told, end_told, events_of}
 use Rattle.thy_run.proofs.Fitting.{IsEither, BootFits, Follows, RunFits, HaltFits, FitsIn, Fits, Covers}
 use Rattle.thy_run.proofs.FittingLaws.{Fits-told}
@@ -28,7 +24,7 @@ none_some : (o : Option Mark) (d : Mark) {A : Type 0} → o ≡ None → o ≡ S
 none_some o d none some = absurd (cc)
 
 -- what is in doubt is what is sealed
-doubt_sealed : (written : Bool) (sealed : Option Mark) (d : Mark) → (if written then sealed else None) ≡ Some d → sealed ≡ Some d
+pub doubt_sealed : (written : Bool) (sealed : Option Mark) (d : Mark) → (if written then sealed else None) ≡ Some d → sealed ≡ Some d
 doubt_sealed true sealed d e = e
 doubt_sealed false sealed d e = absurd (cc)
 
@@ -115,7 +111,7 @@ module _ (o : Origin) (v next : View) (m : Marks) (least : 1 ≤ o.geometry.epoc
 
   -- the marks before a step's event cover the view after it
   pub Covers-before : (did : Did) → CoreStep o v did next → Covers m.kept m.sealed next.done (doubt_of next)
-  Covers-before Boot s = Covers-fits o next m (Fits-told o v next m least h Boot 0 s).0
+  Covers-before Boot s = Covers-fits o next m (Fits-told o v next m least h Boot 0 s)
   Covers-before Loaded s = unsealed m.kept m.sealed next.done next.sealed next.written (before_loaded s)
   Covers-before (Restarted epoch count) s =
       let c = Covers-sealed o v m h in
@@ -123,21 +119,21 @@ module _ (o : Origin) (v next : View) (m : Marks) (least : 1 ≤ o.geometry.epoc
       let sealed : next.sealed ≡ v.sealed = ap (λ w. w.sealed) s.becomes in
       unsealed m.kept m.sealed next.done next.sealed next.written
       (record { nothing = λ none. c.nothing (sym done ∙ none); of_done = λ d some. c.of_done d (sym done ∙ some); of_doubt = λ d some. c.of_doubt d (sym sealed ∙ some) })
-  Covers-before (Refused bad) s = Covers-fits o next m (Fits-told o v next m least h (Refused bad) 0 s).0
-  Covers-before Moved s = Covers-fits o next m (Fits-told o v next m least h Moved 0 s).0
-  Covers-before (Retired hart) s = Covers-fits o next m (Fits-told o v next m least h (Retired hart) 0 s).0
-  Covers-before Flushed s = Covers-fits o next m (Fits-told o v next m least h Flushed 0 s).0
-  Covers-before Merged s = Covers-fits o next m (Fits-told o v next m least h Merged 0 s).0
-  Covers-before Promoted s = Covers-fits o next m (Fits-told o v next m least h Promoted 0 s).0
+  Covers-before (Refused bad) s = Covers-fits o next m (Fits-told o v next m least h (Refused bad) 0 s)
+  Covers-before Moved s = Covers-fits o next m (Fits-told o v next m least h Moved 0 s)
+  Covers-before (Retired hart) s = Covers-fits o next m (Fits-told o v next m least h (Retired hart) 0 s)
+  Covers-before Flushed s = Covers-fits o next m (Fits-told o v next m least h Flushed 0 s)
+  Covers-before Merged s = Covers-fits o next m (Fits-told o v next m least h Merged 0 s)
+  Covers-before Promoted s = Covers-fits o next m (Fits-told o v next m least h Promoted 0 s)
   Covers-before (Sealed epoch count cause) s = before_sealed epoch count cause s
-  Covers-before (Engine step) s = Covers-fits o next m (Fits-told o v next m least h (Engine step) 0 s).0
+  Covers-before (Engine step) s = Covers-fits o next m (Fits-told o v next m least h (Engine step) 0 s)
   Covers-before (Committed epoch overlapped) s =
       let f : RunFits o v m = subst (FitsIn o v m) s.phase h in
       unsealed m.kept m.sealed next.done next.sealed next.written
       (before_commit o v next m (mark epoch s.count) f s.sealed (ap (λ w. w.done) s.becomes) (ap (λ w. w.sealed) s.becomes))
-  Covers-before NvmDrained s = Covers-fits o next m (Fits-told o v next m least h NvmDrained 0 s).0
-  Covers-before DramDrained s = Covers-fits o next m (Fits-told o v next m least h DramDrained 0 s).0
-  Covers-before Nothing s = Covers-fits o next m (Fits-told o v next m least h Nothing 0 s).0
+  Covers-before NvmDrained s = Covers-fits o next m (Fits-told o v next m least h NvmDrained 0 s)
+  Covers-before DramDrained s = Covers-fits o next m (Fits-told o v next m least h DramDrained 0 s)
+  Covers-before Nothing s = Covers-fits o next m (Fits-told o v next m least h Nothing 0 s)
 
 -- ---- the first of a cycle's events
 
@@ -175,22 +171,22 @@ part_of_short : (part rest vs : List Event) → IsShort vs → part ++ rest ≡ 
 part_of_short part rest vs (inl none) e = inl (part_of_none part rest (e ∙ none))
 part_of_short part rest vs (inr (v, one)) e = elim (part_of_one part rest v (e ∙ one)) as (λ _. (part ≡ []) ⊎ (part ≡ vs)) [ inl a ↦ inl a | inr b ↦ inr (b ∙ sym one) ]
 
-pub told_short : (o : Origin) (did : Did) (cycle : ℕ) → IsShort (did_told o did cycle)
-told_short o Boot cycle = inl refl
-told_short o Loaded cycle = inr (_, refl)
-told_short o (Restarted epoch count) cycle = inr (_, refl)
-told_short o (Refused bad) cycle = inl refl
-told_short o Moved cycle = inl refl
-told_short o (Retired hart) cycle = inl refl
-told_short o Flushed cycle = inl refl
-told_short o Merged cycle = inl refl
-told_short o Promoted cycle = inl refl
-told_short o (Sealed epoch count cause) cycle = inr (_, refl)
-told_short o (Engine step) cycle = inl refl
-told_short o (Committed epoch overlapped) cycle = inr (_, refl)
-told_short o NvmDrained cycle = inl refl
-told_short o DramDrained cycle = inl refl
-told_short o Nothing cycle = inl refl
+pub told_short : (o : Origin) (v : View) (did : Did) (cycle : ℕ) → IsShort (did_told o v did cycle)
+told_short o v Boot cycle = inl refl
+told_short o v Loaded cycle = inr (_, refl)
+told_short o v (Restarted epoch count) cycle = inr (_, refl)
+told_short o v (Refused bad) cycle = inl refl
+told_short o v Moved cycle = inl refl
+told_short o v (Retired hart) cycle = inl refl
+told_short o v Flushed cycle = inl refl
+told_short o v Merged cycle = inl refl
+told_short o v Promoted cycle = inl refl
+told_short o v (Sealed epoch count cause) cycle = inr (_, refl)
+told_short o v (Engine step) cycle = inl refl
+told_short o v (Committed epoch overlapped) cycle = inr (_, refl)
+told_short o v NvmDrained cycle = inl refl
+told_short o v DramDrained cycle = inl refl
+told_short o v Nothing cycle = inl refl
 
 if_short : (b : Bool) (v : Event) → IsShort (if b then v ∷ [] else [])
 if_short true v = inr (v, refl)
@@ -206,7 +202,7 @@ end_kept o m next cycle part false (inr none) = ap (marks_from o.start.count m) 
 module _ (o : Origin) (v next : View) (m : Marks) (did : Did) (fresh : Bool) (cycle : ℕ) (least : 1 ≤ o.geometry.epoch) (h : Fits o v m) (s : CoreStep o v did next) where
   -- some events leave the marks that stood, or those that what was done leaves
   abbrev pub LeavesEither : List Event → Type 0
-  LeavesEither part = (marks_from o.start.count m part ≡ m) ⊎ (marks_from o.start.count m part ≡ marks_from o.start.count m (did_told o did cycle))
+  LeavesEither part = (marks_from o.start.count m part ≡ m) ⊎ (marks_from o.start.count m part ≡ marks_from o.start.count m (did_told o v did cycle))
 
   reload_kept : marks_from o.start.count m (reload_told fresh next) ≡ m
   reload_kept = (Reloads-told o v next m did fresh least h s).marks
@@ -220,58 +216,29 @@ module _ (o : Origin) (v next : View) (m : Marks) (did : Did) (fresh : Bool) (cy
     | inr all ↦ inl (ap (marks_from o.start.count m) all ∙ reload_kept)
   ]
 
-  of_told : (part more rest : List Event) → part ≡ reload_told fresh next ++ more → more ++ rest ≡ did_told o did cycle → LeavesEither part
-  of_told part more rest is e = elim (part_of_short more rest (did_told o did cycle) (told_short o did cycle) e) as (λ _. LeavesEither part) [
+  of_told : (part more rest : List Event) → part ≡ reload_told fresh next ++ more → more ++ rest ≡ did_told o v did cycle → LeavesEither part
+  of_told part more rest is e = elim (part_of_short more rest (did_told o v did cycle) (told_short o v did cycle) e) as (λ _. LeavesEither part) [
     | inl none ↦ inl (ap (marks_from o.start.count m) is ∙ after_reload more ∙ ap (marks_from o.start.count m) none)
     | inr all ↦ inr (ap (marks_from o.start.count m) is ∙ after_reload more ∙ ap (marks_from o.start.count m) all)
   ]
 
-  of_both : (part rest : List Event) → part ++ rest ≡ reload_told fresh next ++ did_told o did cycle → LeavesEither part
-  of_both part rest e = elim (cutting part rest (reload_told fresh next) (did_told o did cycle) e) as (λ _. LeavesEither part) [
+  of_both : (part rest : List Event) → part ++ rest ≡ reload_told fresh next ++ did_told o v did cycle → LeavesEither part
+  of_both part rest e = elim (cutting part rest (reload_told fresh next) (did_told o v did cycle) e) as (λ _. LeavesEither part) [
     | within r f ↦ of_reload part r f
     | beyond more r is f ↦ of_told part more r is f
   ]
 
-  of_end : (part more rest : List Event) → part ≡ reload_told fresh next ++ did_told o did cycle ++ more → more ++ rest ≡ end_told o v next cycle → LeavesEither part
+  of_end : (part more rest : List Event) → part ≡ reload_told fresh next ++ did_told o v did cycle ++ more → more ++ rest ≡ end_told o v next cycle → LeavesEither part
   of_end part more rest is e =
       inr (
-      ap (marks_from o.start.count m) is ∙ marks_from-append o.start.count m (reload_told fresh next ++ did_told o did cycle) more
-      ∙ end_kept o (marks_from o.start.count m (reload_told fresh next ++ did_told o did cycle)) next cycle more (halts v next)
+      ap (marks_from o.start.count m) is ∙ marks_from-append o.start.count m (reload_told fresh next ++ did_told o v did cycle) more
+      ∙ end_kept o (marks_from o.start.count m (reload_told fresh next ++ did_told o v did cycle)) next cycle more (halts v next)
       (part_of_short more rest (end_told o v next cycle) (if_short (halts v next) _) e)
-      ∙ after_reload (did_told o did cycle))
+      ∙ after_reload (did_told o v did cycle))
 
   -- so the first of a cycle's events do
   pub marks-part : (part rest : List Event) → part ++ rest ≡ events_of o fresh v did next cycle → LeavesEither part
-  marks-part part rest e = elim (cutting part rest (reload_told fresh next ++ did_told o did cycle) (end_told o v next cycle) e) as (λ _. LeavesEither part) [
+  marks-part part rest e = elim (cutting part rest (reload_told fresh next ++ did_told o v did cycle) (end_told o v next cycle) e) as (λ _. LeavesEither part) [
     | within r f ↦ of_both part r f
     | beyond more r is f ↦ of_end part more r is f
   ]
-
-  covered_by : (n x : Marks) → x ≡ n → Covers n.kept n.sealed next.done (doubt_of next) → Covers x.kept x.sealed next.done (doubt_of next)
-  covered_by n x is c = subst (λ (y : Marks). Covers y.kept y.sealed next.done (doubt_of next)) (sym is) c
-
-  -- the marks that the first of a cycle's events leave cover the view after it
-  pub Covers-part : (part rest : List Event) → part ++ rest ≡ events_of o fresh v did next cycle
-      → Covers (marks_from o.start.count m part).kept (marks_from o.start.count m part).sealed next.done (doubt_of next)
-  Covers-part part rest e = elim (marks-part part rest e) as (λ _. Covers (marks_from o.start.count m part).kept (marks_from o.start.count m part).sealed next.done (doubt_of next)) [
-    | inl stood ↦ covered_by m (marks_from o.start.count m part) stood (Covers-before o v next m least h did s)
-    | inr done ↦ covered_by (marks_from o.start.count m (did_told o did cycle)) (marks_from o.start.count m part) done
-        (Covers-fits o next _ (Fits-told o v next m least h did cycle s).0)
-  ]
-
--- ---- safety
-
--- what is safe for a view is safe for marks that cover it
-pub Safe-covered : {M : Type 0} (K : KindOf M) → (o : Origin) (kept sealed done doubt : Option Mark) (n : Device) → Covers kept sealed done doubt → Safe K.decode o done doubt n → Safe K.decode o kept sealed n
-Safe-covered K o kept sealed done doubt n c safe = λ g crash. weaker (K.decode o.geometry ceiling g) (safe g crash)
-  where
-    weaker : (d : Decoded) → IsOneOf o done doubt d → IsOneOf o kept sealed d
-    weaker NothingLeft h = c.nothing h
-    weaker (RefusedImage bad) h = h
-    weaker (At epoch state) h = (
-      elim h.0 as (λ _. IsEither kept sealed (mark epoch state.count)) [
-        | inl is ↦ c.of_done (mark epoch state.count) is
-        | inr is ↦ c.of_doubt (mark epoch state.count) is
-      ],
-      h.1,
-    )

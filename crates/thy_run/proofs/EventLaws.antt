@@ -1,12 +1,10 @@
--- All the events of a cycle are lawful, and leave marks that fit the view.
+-- All the events of a cycle leave marks that fit the view.
 use Rattle.std.proofs.Common.{◌≡◌, ℕ, ◌≤◌, Bool, true, false, ◌&&◌, not, is_none, if◌then◌else◌, Option, Some, None, List, [], ◌∷◌, ◌++◌, refl, sym, ◌∙◌, ap, subst, inl, inr}
 use Rattle.std.proofs.lemmas.Bool.{and_parts}
 use Rattle.thy_base.specs.declared.mark.Mark.{Mark}
 use Rattle.thy_text.specs.Event.{Event, Reload, Ended}
-use Rattle.thy_text.specs.Marks.{Marks, loading_marks, marks_from}
-use Rattle.thy_text.specs.OneHart.{AllLawfulAt}
+use Rattle.thy_text.specs.Marks.{Marks, loading_marks, marks_from, AllLawful}
 use Rattle.thy_text.proofs.Histories.{marks_from-append}
-use Rattle.thy_text.proofs.OneHartLaws.{AllLawfulAt-append}
 use Rattle.thy_view.specs.declared.did.Did.{Did}
 use Rattle.thy_view.specs.declared.did.Did.TheVariants.{Boot, Loaded, Restarted, Refused, Moved, Retired, Flushed, Merged, Sealed, Promoted, Engine, Committed, NvmDrained, DramDrained, Nothing}
 use Rattle.thy_view.specs.declared.view.Phase.{Phase}
@@ -15,8 +13,9 @@ use Rattle.thy_view.specs.declared.view.View.{View}
 use Rattle.thy_view.specs.Views.{is_boot, is_halt, loads, halts}
 use Rattle.thy_view.specs.CoreStep.{CoreStep}
 use Rattle.thy_view.specs.Origin.{Origin, runs_at, at}
+use Rattle.thy_run.specs.Laws.{course_of}
 use Rattle.thy_run.specs.World.{did_told, reload_told, end_told, events_of}
-use Rattle.thy_run.proofs.Fitting.{counts_here, BootFits, HaltFits, FitsIn, Fits}
+use Rattle.thy_run.proofs.Fitting.{BootFits, FitsIn, Fits}
 use Rattle.thy_run.proofs.FittingLaws.{Fits-told}
 
 -- a phase that is none of a boot's
@@ -25,7 +24,7 @@ not_boot true e = absurd (cc)
 not_boot false e = absurd (cc)
 
 -- a boot that goes on tells nothing but a reload
-pub told-booting : (o : Origin) (v next : View) (did : Did) (cycle : ℕ) → CoreStep o v did next → next.phase ≡ BootPhase → did_told o did cycle ≡ []
+pub told-booting : (o : Origin) (v next : View) (did : Did) (cycle : ℕ) → CoreStep o v did next → next.phase ≡ BootPhase → did_told o v did cycle ≡ []
 told-booting o v next Boot cycle s boot = refl
 told-booting o v next Loaded cycle s boot = absurd (let e : next.phase ≡ Run = ap (λ w. w.phase) s.becomes in cc)
 told-booting o v next (Restarted epoch count) cycle s boot = not_boot (runs_at o count) (sym (ap (λ w. w.phase) s.becomes) ∙ boot)
@@ -75,16 +74,7 @@ loading_marks_of o v m h phase none =
       | inr r ↦ absurd (let some : v.done ≡ Some r.mark = r.done in cc)
     ]
 
--- the end of a run is lawful
-end_lawful : (o : Origin) (v next : View) (m : Marks) (cycle : ℕ) → Fits o next m → (b : Bool) → halts v next ≡ b
-    → AllLawfulAt (counts_here o) m (if b then Ended (at o next.count).status next.count cycle (at o next.count) ∷ [] else [])
-end_lawful o v next m cycle h false is = tt
-end_lawful o v next m cycle h true is =
-    let f : HaltFits o next m = subst (FitsIn o next m) (halts-view v next is) h in
-    let kept : m.kept ≡ Some (record { epoch = f.mark.epoch; count = next.count }) = f.kept ∙ ap (λ c. Some (record { epoch = f.mark.epoch; count = c })) (sym f.count) in
-    ((record { epoch = f.mark.epoch; kept = kept; whole = refl; over = f.over }, refl), tt)
-
--- and leaves the marks
+-- the end of a run leaves the marks
 end_marks : (o : Origin) (m : Marks) (next : View) (cycle : ℕ) (b : Bool)
     → marks_from o.start.count m (if b then Ended (at o next.count).status next.count cycle (at o next.count) ∷ [] else []) ≡ m
 end_marks o m next cycle true = refl
@@ -92,7 +82,7 @@ end_marks o m next cycle false = refl
 
 -- what follows a reload, or none
 pub record Reloads (o : Origin) (m : Marks) (reload : List Event) : Type 0 where
-  pub lawful : AllLawfulAt (counts_here o) m reload
+  pub lawful : AllLawful (course_of o) m reload
   pub marks : marks_from o.start.count m reload ≡ m
 
 -- the marks that a reload leaves are those that stood
@@ -104,17 +94,17 @@ Reloads-told o v next m did fresh least h s = by_test (fresh && loads next) refl
     by_test false is = record { lawful = tt; marks = refl }
     by_test true is =
         let view = loads-view next (and_parts fresh (loads next) is).1 in
-        let after : Fits o next (marks_from o.start.count m (did_told o did 0)) = (Fits-told o v next m least h did 0 s).0 in
+        let after : Fits o next (marks_from o.start.count m (did_told o v did 0)) = Fits-told o v next m least h did 0 s in
         let now : Fits o next m = subst (λ vs. Fits o next (marks_from o.start.count m vs)) (told-booting o v next did 0 s view.0) after in
         let marks : m ≡ loading_marks o.start.count = loading_marks_of o next m now view.0 view.1 in
         record { lawful = (ap (λ n. n.kept) marks, tt); marks = sym marks }
 
 -- all events of a cycle leave the marks that what was done leaves
 pub marks-events : (o : Origin) (v next : View) (m : Marks) (did : Did) (fresh : Bool) (cycle : ℕ) → 1 ≤ o.geometry.epoch → Fits o v m → CoreStep o v did next
-    → marks_from o.start.count m (events_of o fresh v did next cycle) ≡ marks_from o.start.count m (did_told o did cycle)
+    → marks_from o.start.count m (events_of o fresh v did next cycle) ≡ marks_from o.start.count m (did_told o v did cycle)
 marks-events o v next m did fresh cycle least h s =
     let reload : List Event = reload_told fresh next in
-    let step : List Event = did_told o did cycle in
+    let step : List Event = did_told o v did cycle in
     let start : ℕ = o.start.count in
     marks_from-append start m (reload ++ step) (end_told o v next cycle)
     ∙ end_marks o (marks_from start m (reload ++ step)) next cycle (halts v next)
@@ -122,19 +112,6 @@ marks-events o v next m did fresh cycle least h s =
 
 -- all events of a cycle
 pub Fits-events : (o : Origin) (v next : View) (m : Marks) (did : Did) (fresh : Bool) (cycle : ℕ) → 1 ≤ o.geometry.epoch → Fits o v m → CoreStep o v did next
-    → Fits o next (marks_from o.start.count m (events_of o fresh v did next cycle)) × AllLawfulAt (counts_here o) m (events_of o fresh v did next cycle)
+    → Fits o next (marks_from o.start.count m (events_of o fresh v did next cycle))
 Fits-events o v next m did fresh cycle least h s =
-    let reload : List Event = reload_told fresh next in
-    let step : List Event = did_told o did cycle in
-    let end : List Event = end_told o v next cycle in
-    let reloads = Reloads-told o v next m did fresh least h s in
-    let tells = Fits-told o v next m least h did cycle s in
-    let start : ℕ = o.start.count in
-    let after_step : marks_from start m (reload ++ step) ≡ marks_from start m step = marks_from-append start m reload step ∙ ap (λ n. marks_from start n step) reloads.marks in
-    let after_all = marks-events o v next m did fresh cycle least h s in
-    let lawful_step : AllLawfulAt (counts_here o) m (reload ++ step)
-    = AllLawfulAt-append (counts_here o) m reload step reloads.lawful (subst (λ n. AllLawfulAt (counts_here o) n step) (sym reloads.marks) tells.1) in
-    let fits_step : Fits o next (marks_from start m (reload ++ step)) = subst (Fits o next) (sym after_step) tells.0 in (
-      subst (Fits o next) (sym after_all) tells.0,
-      AllLawfulAt-append (counts_here o) m (reload ++ step) end lawful_step (end_lawful o v next (marks_from start m (reload ++ step)) cycle fits_step (halts v next) refl),
-    )
+    subst (Fits o next) (sym (marks-events o v next m did fresh cycle least h s)) (Fits-told o v next m least h did cycle s)

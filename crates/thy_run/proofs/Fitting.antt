@@ -4,17 +4,12 @@ use Rattle.thy_base.specs.declared.cause.EndCause.{EndCause}
 use Rattle.thy_base.specs.declared.cause.EndCause.TheVariants.{Length, Exhausted, Ended as EndedCause}
 use Rattle.thy_base.specs.declared.mark.Mark.{Mark}
 use Rattle.thy_text.specs.Marks.{Marks, loading_marks}
-use Rattle.thy_text.specs.OneHart.{Counts}
 use Rattle.thy_view.specs.declared.view.Phase.{Phase}
 use Rattle.thy_view.specs.declared.view.Phase.TheVariants.{Boot as BootPhase, Run, Halt}
 use Rattle.thy_view.specs.declared.view.View.{View}
 use Rattle.thy_base.specs.Marks.{mark}
 use Rattle.thy_view.specs.CoreStep.{IsShort}
-use Rattle.thy_view.specs.Origin.{Origin, at, runs_at}
-
--- what the events of a run are held against where no turn is told
-abbrev pub counts_here : Origin → Counts
-counts_here o = record { at = at o; start = o.start.count; epoch = o.geometry.epoch }
+use Rattle.thy_view.specs.Origin.{Origin, runs_at}
 
 -- why the epoch is over fits the instructions that were retired in it
 abbrev pub OverFits : Origin → ℕ → ℕ → Option EndCause → Type 0

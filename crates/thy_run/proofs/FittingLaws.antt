@@ -1,10 +1,9 @@
--- A step keeps view and marks fitting, and its events are lawful.
+-- A step keeps view and marks fitting.
 use Rattle.std.proofs.Common.{◌≡◌, ◌⊎◌, ℕ, ◌+◌, ◌<◌, ◌≤◌, Bool, true, false, ◌==◌, if◌then◌else◌, Option, Some, None, [], refl, sym, ◌∙◌, ap, subst, inl, inr, arith}
 use Rattle.thy_base.specs.declared.cause.EndCause.{EndCause}
 use Rattle.thy_base.specs.declared.cause.EndCause.TheVariants.{Length, Exhausted, Ended as EndedCause}
 use Rattle.thy_base.specs.declared.mark.Mark.{Mark}
 use Rattle.thy_text.specs.Marks.{Marks, loading_marks, marks_from}
-use Rattle.thy_text.specs.OneHart.{FitsCount, EndsAt, AllLawfulAt}
 use Rattle.thy_view.specs.declared.did.Did.{Did}
 use Rattle.thy_view.specs.declared.did.Did.TheVariants.{Boot, Loaded, Restarted, Refused, Moved, Retired, Flushed, Merged, Sealed, Promoted, Engine, Committed, NvmDrained, DramDrained, Nothing}
 use Rattle.thy_record.specs.declared.engine_step.EngineStep.{EngineStep}
@@ -17,10 +16,7 @@ use Rattle.thy_view.specs.CoreStep.{busier, BootsTo, MovesTo, EngineTo, CoreStep
 use Rattle.thy_view.specs.Origin.{Origin, runs_at}
 use Rattle.thy_view.proofs.Choices.{if_equal}
 use Rattle.thy_run.specs.World.{did_told}
-use Rattle.thy_run.proofs.Fitting.{counts_here, OverFits, IsEither, Loading, Recovering, BootFits, Follows, RunFits, FitsIn, Fits}
-
-some_is : (a b : Mark) → Some a ≡ Some b → a ≡ b
-some_is a b e = cc
+use Rattle.thy_run.proofs.Fitting.{OverFits, Loading, Recovering, BootFits, Follows, RunFits, FitsIn, Fits}
 
 -- the fitting of a view by its phase
 in_phase : (o : Origin) (v : View) (m : Marks) (p : Phase) → v.phase ≡ p → FitsIn o v m p → Fits o v m
@@ -127,7 +123,7 @@ module _ (o : Origin) (v next : View) (m : Marks) (least : 1 ≤ o.geometry.epoc
   -- the program is loaded: its checkpoint is committed
   loads : (cycle : ℕ) → v.phase ≡ BootPhase → v.done ≡ None → v.sealed ≡ Some (mark 0 o.start.count)
       → next ≡ record v { phase = Run; done = v.sealed; sealed = None; epoch = 1; count = o.start.count; written = false }
-      → Fits o next (marks_from o.start.count m (did_told o Loaded cycle)) × AllLawfulAt (counts_here o) m (did_told o Loaded cycle)
+      → Fits o next (marks_from o.start.count m (did_told o v Loaded cycle))
   loads cycle phase none sealed e =
       let f : BootFits o v m = of_phase o v m BootPhase phase h in
       let is : m ≡ loading_marks o.start.count = elim f.boots as (λ _. m ≡ loading_marks o.start.count) [
@@ -136,7 +132,7 @@ module _ (o : Origin) (v next : View) (m : Marks) (least : 1 ≤ o.geometry.epoc
       ] in
       let w : View = record v { phase = Run; done = v.sealed; sealed = None; epoch = 1; count = o.start.count; written = false } in
       let retired : v.retired ≡ 0 = f.retired in
-      let now : RunFits o w (marks_from o.start.count m (did_told o Loaded cycle)) = record {
+      let now : RunFits o w (marks_from o.start.count m (did_told o v Loaded cycle)) = record {
         mark = mark 0 o.start.count;
         done = sealed;
         kept = ap (λ n. n.sealed) is;
@@ -145,25 +141,20 @@ module _ (o : Origin) (v next : View) (m : Marks) (least : 1 ≤ o.geometry.epoc
         few = omega (arith, retired);
         over = subst (OverFits o v.retired o.start.count) (sym f.over) (omega (arith, retired, least));
       } in
-      (subst (λ w. Fits o w (marks_from o.start.count m (did_told o Loaded cycle))) (sym e) now, ((o.start.count, ap (λ n. n.sealed) is), tt))
+      subst (λ w. Fits o w (marks_from o.start.count m (did_told o v Loaded cycle))) (sym e) now
 
   -- an epoch was restored
   restarts : (epoch count cycle : ℕ) → v.phase ≡ BootPhase → v.done ≡ Some (mark epoch count) → v.sealed ≡ None → v.written ≡ false
       → next ≡ record v { phase = phase_at o count; epoch = epoch + 1; count = count; retired = 0; spent = 0; lap = 0 }
-      → Fits o next (marks_from o.start.count m (did_told o (Restarted epoch count) cycle)) × AllLawfulAt (counts_here o) m (did_told o (Restarted epoch count) cycle)
+      → Fits o next (marks_from o.start.count m (did_told o v (Restarted epoch count) cycle))
   restarts epoch count cycle phase done none written e =
       let f : BootFits o v m = of_phase o v m BootPhase phase h in
-      let either : IsEither m.kept m.sealed (mark epoch count) = elim f.boots as (λ _. IsEither m.kept m.sealed (mark epoch count)) [
-        | inl l ↦ absurd (let missing : v.done ≡ None = l.done in cc)
-        | inr r ↦ subst (IsEither m.kept m.sealed) (some_is r.mark (mark epoch count) (sym r.done ∙ done)) r.either
-      ] in
-      let retired : v.retired ≡ 0 = f.retired in
-      let now : Marks = marks_from o.start.count m (did_told o (Restarted epoch count) cycle) in
+      let now : Marks = marks_from o.start.count m (did_told o v (Restarted epoch count) cycle) in
       let by_run : (b : Bool) → runs_at o count ≡ b → Fits o (record v { phase = if b then Run else Halt; epoch = epoch + 1; count = count; retired = 0; spent = 0; lap = 0 }) now = λ b runs. begun f b runs in
-      (subst (λ w. Fits o w now) (sym e) (by_run (runs_at o count) refl), ((record { marked = either; whole = refl }), tt))
+      subst (λ w. Fits o w now) (sym e) (by_run (runs_at o count) refl)
     where
       begun : BootFits o v m → (b : Bool) → runs_at o count ≡ b
-          → Fits o (record v { phase = if b then Run else Halt; epoch = epoch + 1; count = count; retired = 0; spent = 0; lap = 0 }) (marks_from o.start.count m (did_told o (Restarted epoch count) cycle))
+          → Fits o (record v { phase = if b then Run else Halt; epoch = epoch + 1; count = count; retired = 0; spent = 0; lap = 0 }) (marks_from o.start.count m (did_told o v (Restarted epoch count) cycle))
       begun f true runs = record {
         mark = mark epoch count;
         done = done;
@@ -175,16 +166,15 @@ module _ (o : Origin) (v next : View) (m : Marks) (least : 1 ≤ o.geometry.epoc
       }
       begun f false runs = record { mark = mark epoch count; done = done; sealed = none; written = written; kept = refl; none = refl; count = refl; over = runs }
 
-  -- an epoch is sealed: it ends lawfully
+  -- an epoch is sealed
   seals : (epoch count cycle : ℕ) (cause : EndCause) → v.phase ≡ Run → v.sealed ≡ None → epoch ≡ v.epoch → count ≡ v.count → v.over ≡ Some cause
       → next ≡ record v { sealed = Some (mark epoch count); epoch = v.epoch + 1; retired = 0; spent = 0; lap = 0; over = None }
-      → Fits o next (marks_from o.start.count m (did_told o (Sealed epoch count cause) cycle)) × AllLawfulAt (counts_here o) m (did_told o (Sealed epoch count cause) cycle)
+      → Fits o next (marks_from o.start.count m (did_told o v (Sealed epoch count cause) cycle))
   seals epoch count cycle cause phase none of at_count over e =
       let f : RunFits o v m = of_phase o v m Run phase h in
       let g : Follows o v f.mark None = subst (Follows o v f.mark) none f.follows in
       let w : View = record v { sealed = Some (mark epoch count); epoch = v.epoch + 1; retired = 0; spent = 0; lap = 0; over = None } in
-      let fits : OverFits o v.retired v.count (Some cause) = subst (OverFits o v.retired v.count) over f.over in
-      let now : RunFits o w (marks_from o.start.count m (did_told o (Sealed epoch count cause) cycle)) = record {
+      let now : RunFits o w (marks_from o.start.count m (did_told o v (Sealed epoch count cause) cycle)) = record {
         mark = f.mark;
         done = f.done;
         kept = f.kept;
@@ -193,37 +183,20 @@ module _ (o : Origin) (v next : View) (m : Marks) (least : 1 ≤ o.geometry.epoc
         few = omega arith;
         over = least;
       } in
-      let ends : EndsAt (counts_here o) m epoch count cause [] = record {
-        before = f.mark.epoch;
-        last = f.mark.count;
-        follows = of ∙ g.1;
-        kept = f.kept;
-        alone = f.sealed ∙ none;
-        from = omega (arith, g.2, at_count);
-        to = omega (arith, g.2, at_count, f.few);
-        untold = refl;
-        fits = for_cause f.mark cause g.2 fits;
-      } in
-      (subst (λ w. Fits o w (marks_from o.start.count m (did_told o (Sealed epoch count cause) cycle))) (sym e) (in_phase o w _ Run phase now), (ends, tt))
-    where
-      for_cause : (d : Mark) (c : EndCause) → v.count ≡ d.count + v.retired → OverFits o v.retired v.count (Some c) → FitsCount (counts_here o) d.count count c
-      for_cause d EndedCause from fits = ap (runs_at o) at_count ∙ fits
-      for_cause d Length from fits = (ap (runs_at o) at_count ∙ fits.0, omega (arith, from, at_count, fits.1))
-      for_cause d (Exhausted free dirty need) from fits =
-          (ap (runs_at o) at_count ∙ fits.0, λ same. absurd (omega (arith, from, at_count, fits.1, same)), fits.2.short, fits.2.some, fits.2.most)
+      subst (λ w. Fits o w (marks_from o.start.count m (did_told o v (Sealed epoch count cause) cycle))) (sym e) (in_phase o w _ Run phase now)
 
   -- a checkpoint is committed
   commits : (epoch overlapped cycle count : ℕ) → v.phase ≡ Run → v.sealed ≡ Some (mark epoch count)
       → next ≡ record (busier v) { phase = phase_at o count; done = v.sealed; sealed = None; written = false }
-      → Fits o next (marks_from o.start.count m (did_told o (Committed epoch overlapped) cycle)) × AllLawfulAt (counts_here o) m (did_told o (Committed epoch overlapped) cycle)
+      → Fits o next (marks_from o.start.count m (did_told o v (Committed epoch overlapped) cycle))
   commits epoch overlapped cycle count phase sealed e =
       let f : RunFits o v m = of_phase o v m Run phase h in
       let g : Follows o v f.mark (Some (mark epoch count)) = subst (Follows o v f.mark) sealed f.follows in
-      let now : Marks = marks_from o.start.count m (did_told o (Committed epoch overlapped) cycle) in
-      (subst (λ w. Fits o w now) (sym e) (goes_on f g (runs_at o count) refl), ((count, f.sealed ∙ sealed), tt))
+      let now : Marks = marks_from o.start.count m (did_told o v (Committed epoch overlapped) cycle) in
+      subst (λ w. Fits o w now) (sym e) (goes_on f g (runs_at o count) refl)
     where
       goes_on : (f : RunFits o v m) → Follows o v f.mark (Some (mark epoch count)) → (b : Bool) → runs_at o count ≡ b
-          → Fits o (record (busier v) { phase = if b then Run else Halt; done = v.sealed; sealed = None; written = false }) (marks_from o.start.count m (did_told o (Committed epoch overlapped) cycle))
+          → Fits o (record (busier v) { phase = if b then Run else Halt; done = v.sealed; sealed = None; written = false }) (marks_from o.start.count m (did_told o v (Committed epoch overlapped) cycle))
       goes_on f g true runs = record {
         mark = mark epoch count;
         done = sealed;
@@ -238,13 +211,13 @@ module _ (o : Origin) (v next : View) (m : Marks) (least : 1 ≤ o.geometry.epoc
           record { mark = mark epoch count; done = sealed; sealed = refl; written = refl; kept = f.sealed ∙ sealed; none = refl; count = still; over = ap (runs_at o) still ∙ runs }
 
   -- a step that tells nothing
-  quiet : (did : Did) (cycle : ℕ) → did_told o did cycle ≡ [] → Fits o next m → Fits o next (marks_from o.start.count m (did_told o did cycle)) × AllLawfulAt (counts_here o) m (did_told o did cycle)
+  quiet : (did : Did) (cycle : ℕ) → did_told o v did cycle ≡ [] → Fits o next m → Fits o next (marks_from o.start.count m (did_told o v did cycle))
   quiet did cycle none fits =
-      (subst (λ vs. Fits o next (marks_from o.start.count m vs)) (sym none) fits, subst (AllLawfulAt (counts_here o) m) (sym none) tt)
+      subst (λ vs. Fits o next (marks_from o.start.count m vs)) (sym none) fits
 
-  -- a step keeps view and marks fitting, and what it tells is lawful
+  -- a step keeps view and marks fitting
   pub Fits-told : (did : Did) (cycle : ℕ) → CoreStep o v did next
-      → Fits o next (marks_from o.start.count m (did_told o did cycle)) × AllLawfulAt (counts_here o) m (did_told o did cycle)
+      → Fits o next (marks_from o.start.count m (did_told o v did cycle))
   Fits-told Boot cycle s = quiet Boot cycle refl (boots s.0 s.1)
   Fits-told Loaded cycle s = loads cycle s.phase s.none s.sealed s.becomes
   Fits-told (Restarted epoch count) cycle s = restarts epoch count cycle s.phase s.done s.unsealed s.unwritten s.becomes

@@ -4,7 +4,6 @@ use Rattle.std.proofs.lemmas.Bool.{and_parts}
 use Rattle.thy_base.specs.declared.mark.Mark.{Mark}
 use Rattle.thy_isa.specs.declared.state.MachState.{MachState}
 use Rattle.thy_text.specs.Event.{Event}
-use Rattle.thy_text.specs.Released.{console_of}
 use Rattle.thy_view.specs.declared.did.Did.{Did}
 use Rattle.thy_view.specs.declared.did.Did.TheVariants.{Boot, Loaded, Restarted, Refused, Moved, Retired, Flushed, Merged, Sealed, Promoted, Engine, Committed, NvmDrained, DramDrained, Nothing}
 use Rattle.thy_view.specs.declared.view.Phase.TheVariants.{Run, Halt}
@@ -14,7 +13,7 @@ use Rattle.thy_view.specs.Views.{is_boot, is_halt, is_between, halts}
 use Rattle.thy_view.specs.CoreStep.{CoreStep}
 use Rattle.thy_view.specs.Origin.{Origin, at, runs_at}
 use Rattle.thy_view.specs.Kind.{IsSnapshot}
-use Rattle.thy_run.specs.Due.{console_at, shows_console, due_of}
+use Rattle.thy_run.specs.Due.{console_at, console_shown, shows_console, due_of}
 use Rattle.thy_run.specs.Laws.{released_of}
 use Rattle.thy_run.specs.Going.{Restores}
 
@@ -69,12 +68,12 @@ pub due_shown : (o : Origin) (v next : View) (did : Did) (events : List Event) (
 due_shown o v next did events from bytes step shown released console =
     let s = Shows-step o v next did step shown in
     console s.mark s.booted s.done ∙ ap (λ n. drop n (console_at o s.mark.count)) released
-    ∙ sym (ap (λ (d : Option Mark). drop (length (released_of o events)) (console_of (console_at o) d)) s.done)
-    ∙ sym (ap (λ b. if b then drop (length (released_of o events)) (console_of (console_at o) next.done) else []) shown)
+    ∙ sym (ap (λ (d : Option Mark). drop (length (released_of o events)) (console_shown o d)) s.done)
+    ∙ sym (ap (λ b. if b then drop (length (released_of o events)) (console_shown o next.done) else []) shown)
 
 pub due_hidden : (o : Origin) (next : View) (did : Did) (events : List Event) (bytes : List ℕ) → shows_console did ≡ false → bytes ≡ [] → bytes ≡ due_of o events did next
 due_hidden o next did events bytes hidden none =
-    none ∙ sym (ap (λ b. if b then drop (length (released_of o events)) (console_of (console_at o) next.done) else []) hidden)
+    none ∙ sym (ap (λ b. if b then drop (length (released_of o events)) (console_shown o next.done) else []) hidden)
 
 halt_between : (h b : Bool) → h ≡ true → (h || b) ≡ true
 halt_between true b e = refl

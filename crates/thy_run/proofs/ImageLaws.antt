@@ -55,7 +55,7 @@ stays_engine v next CommitWritten e = record { phase = ap (λ w. w.phase) e.1; d
 some_event : (v : Event) {A : Type 0} → v ∷ [] ≡ [] → A
 some_event v e = absurd (cc)
 
-pub Stays-quiet : (o : Origin) (v next : View) (did : Did) (cycle : ℕ) → CoreStep o v did next → did_told o did cycle ≡ [] → Stays v next
+pub Stays-quiet : (o : Origin) (v next : View) (did : Did) (cycle : ℕ) → CoreStep o v did next → did_told o v did cycle ≡ [] → Stays v next
 Stays-quiet o v next Boot cycle s none = stays_boot v next s.1
 Stays-quiet o v next Loaded cycle s none = some_event _ none
 Stays-quiet o v next (Restarted epoch count) cycle s none = some_event _ none
@@ -77,7 +77,7 @@ not_both true = refl
 not_both false = refl
 
 -- such a step does not halt
-halts-quiet : (o : Origin) (v next : View) (did : Did) (cycle : ℕ) → CoreStep o v did next → did_told o did cycle ≡ [] → halts v next ≡ false
+halts-quiet : (o : Origin) (v next : View) (did : Did) (cycle : ℕ) → CoreStep o v did next → did_told o v did cycle ≡ [] → halts v next ≡ false
 halts-quiet o v next did cycle s none =
     ap (λ p. not (is_halt v.phase) && is_halt p) (Stays-quiet o v next did cycle s none).phase ∙ not_both (is_halt v.phase)
 
@@ -128,19 +128,19 @@ data Shape (o : Origin) (v next : View) (did : Did) (fresh : Bool) (cycle : ℕ)
   -- the file is loaded again
   reloads : (fresh && loads next) ≡ true → events_of o fresh v did next cycle ≡ Reload ∷ [] → Shape o v next did fresh cycle Told
   -- nothing
-  nothing : (fresh && loads next) ≡ false → did_told o did cycle ≡ [] → events_of o fresh v did next cycle ≡ [] → Shape o v next did fresh cycle Told
+  nothing : (fresh && loads next) ≡ false → did_told o v did cycle ≡ [] → events_of o fresh v did next cycle ≡ [] → Shape o v next did fresh cycle Told
   -- something
-  something : Told → events_of o fresh v did next cycle ≡ did_told o did cycle ++ end_told o v next cycle → Shape o v next did fresh cycle Told
+  something : Told → events_of o fresh v did next cycle ≡ did_told o v did cycle ++ end_told o v next cycle → Shape o v next did fresh cycle Told
 
-shape_of : (o : Origin) (v next : View) (did : Did) (fresh : Bool) (cycle : ℕ) (Told : Type 0) → CoreStep o v did next → (did_told o did cycle ≡ []) ⊎ Told → Shape o v next did fresh cycle Told
+shape_of : (o : Origin) (v next : View) (did : Did) (fresh : Bool) (cycle : ℕ) (Told : Type 0) → CoreStep o v did next → (did_told o v did cycle ≡ []) ⊎ Told → Shape o v next did fresh cycle Told
 shape_of o v next did fresh cycle Told c tells = by_test (fresh && loads next) refl
   where
-    end_none : did_told o did cycle ≡ [] → end_told o v next cycle ≡ []
+    end_none : did_told o v did cycle ≡ [] → end_told o v next cycle ≡ []
     end_none none = if_none (halts v next) (Ended (at o next.count).status next.count cycle (at o next.count) ∷ []) (halts-quiet o v next did cycle c none)
 
-    all : (r t e : List Event) → reload_told fresh next ≡ r → did_told o did cycle ≡ t → end_told o v next cycle ≡ e → events_of o fresh v did next cycle ≡ r ++ t ++ e
+    all : (r t e : List Event) → reload_told fresh next ≡ r → did_told o v did cycle ≡ t → end_told o v next cycle ≡ e → events_of o fresh v did next cycle ≡ r ++ t ++ e
     all r t e is_r is_t is_e =
-        ap (λ (x : List Event). x ++ did_told o did cycle ++ end_told o v next cycle) is_r
+        ap (λ (x : List Event). x ++ did_told o v did cycle ++ end_told o v next cycle) is_r
         ∙ ap (λ (x : List Event). r ++ x ++ end_told o v next cycle) is_t
         ∙ ap (λ (x : List Event). r ++ t ++ x) is_e
 
@@ -150,7 +150,7 @@ shape_of o v next did fresh cycle Told c tells = by_test (fresh && loads next) r
         reloads is (all (Reload ∷ []) [] [] (ap (λ b. if b then Reload ∷ [] else []) is) none (end_none none))
     by_test false is = elim tells as (λ _. Shape o v next did fresh cycle Told) [
       | inl none ↦ nothing is none (all [] [] [] (if_none (fresh && loads next) (Reload ∷ []) is) none (end_none none))
-      | inr fits ↦ something fits (all [] (did_told o did cycle) (end_told o v next cycle) (if_none (fresh && loads next) (Reload ∷ []) is) refl refl)
+      | inr fits ↦ something fits (all [] (did_told o v did cycle) (end_told o v next cycle) (if_none (fresh && loads next) (Reload ∷ []) is) refl refl)
     ]
 
 module _ (read : List Block → Decoded) (o : Origin) (cycles : ℕ) (fresh : Bool) (v next : View) (s : Found) (f : ImagesFit o cycles fresh v s) where
@@ -168,9 +168,9 @@ module _ (read : List Block → Decoded) (o : Origin) (cycles : ℕ) (fresh : Bo
 
   -- what a step did tells nothing, or an event that fits
   abbrev ToldFits : Did → ℕ → Type 0
-  ToldFits did cycle = AllFit read (λ t. t ≡ settled) s (did_told o did cycle) []
+  ToldFits did cycle = AllFit read (λ t. t ≡ settled) s (did_told o v did cycle) []
 
-  told_fits : (did : Did) (cycle : ℕ) → CoreStep o v did next → (did_told o did cycle ≡ []) ⊎ ToldFits did cycle
+  told_fits : (did : Did) (cycle : ℕ) → CoreStep o v did next → (did_told o v did cycle ≡ []) ⊎ ToldFits did cycle
   told_fits Boot cycle c = inl refl
   told_fits Loaded cycle c = inr (
     told_since (λ is. let not_yet : v.written ≡ false = (f.fresh_boot is).1 in let written : v.written ≡ true = c.written in cc) (is_nothing o s.means v c.none (f.boot c.phase)) s.just refl,
@@ -207,7 +207,7 @@ module _ (read : List Block → Decoded) (o : Origin) (cycles : ℕ) (fresh : Bo
     }
 
     -- behind no event
-    quiet_images : (fresh && loads next) ≡ false → did_told o did cycle ≡ [] → ImagesFit o (cycles + 1) false next s
+    quiet_images : (fresh && loads next) ≡ false → did_told o v did cycle ≡ [] → ImagesFit o (cycles + 1) false next s
     quiet_images unless none = record {
       last = λ at_cycle e before. elim (f.just at_cycle e) as (λ _. s.means ≢ NothingLeft) [
         | inl now ↦ λ nothing_there.
@@ -243,7 +243,7 @@ module _ (read : List Block → Decoded) (o : Origin) (cycles : ℕ) (fresh : Bo
         subst Fits (sym is) ((is_nothing o s.means v (sym stays.done ∙ loading.1) (f.boot start.0), (cycles, start.2)), (refl, settled_images))
     by_shape (nothing unless none is) = subst Fits (sym is) (refl, quiet_images unless none)
     by_shape (something fits is) =
-        subst Fits (sym is) (AllFit-append read (λ t. t ≡ settled) (ImagesFit o (cycles + 1) false next) s (did_told o did cycle) (end_told o v next cycle) [] []
+        subst Fits (sym is) (AllFit-append read (λ t. t ≡ settled) (ImagesFit o (cycles + 1) false next) s (did_told o v did cycle) (end_told o v next cycle) [] []
         (λ t same. subst (λ x. AllFit read (ImagesFit o (cycles + 1) false next) x (end_told o v next cycle) []) (sym same) (end_fits (halts v next))) fits)
 
     -- a step's events fit what there is to be found, and so does what stands behind them

@@ -9,33 +9,33 @@ use Rattle.thy_view.specs.Action.{doubt_after_fault}
 use Rattle.thy_view.specs.Kind.{KindOf, IsLawful}
 use Rattle.thy_text.specs.Event.{Event}
 use Rattle.thy_text.specs.Marks.{Marks, Course, marks_from, marks_after, AllLawful}
-use Rattle.thy_text.specs.OneHart.{AllLawfulAt, IsUntold}
+use Rattle.thy_text.specs.OneHart.{IsUntold}
 use Rattle.thy_text.proofs.Histories.{marks_from-append}
-use Rattle.thy_text.proofs.OneHartLaws.{from-counts}
-use Rattle.thy_view.specs.Origin.{Origin, at}
-use Rattle.thy_view.specs.Told.{told}
+use Rattle.thy_view.specs.CoreStep.{CoreStep}
+use Rattle.thy_view.specs.Origin.{Origin}
 use Rattle.thy_record.specs.Decoded.{Decoded}
 use Rattle.thy_view.specs.Safe.{ceiling, Safe}
 use Rattle.thy_view.specs.Views.{doubt_of}
 use Rattle.thy_view.proofs.SafeLemmas.{Safe-failed}
 use Rattle.thy_run.specs.Cuts.{is_end, has_ended, cuts_among, numbered, last_cuttable, cuts_up_to}
 use Rattle.thy_run.specs.Images.{Found, HasLeft, AllFit}
-use Rattle.thy_run.specs.Laws.{course_of, marks_at, first_marks, marks_of, found_at_start, torn, LeavesRoom, Promise, RunKeepsPromise}
+use Rattle.thy_run.specs.Laws.{course_of, marks_at, first_marks, marks_of, found_at_start, torn, IsSafe, LeavesRoom, Promise, RunKeepsPromise}
 use Rattle.thy_run.specs.Progress.{IsSoonOver}
 use Rattle.thy_run.specs.Strides.{first_epoch, AllStride}
 use Rattle.thy_run.specs.Unfinished.{StepFailed, ReadFailed, TellingFailed, IsLast, AtStop}
-use Rattle.thy_run.specs.World.{World, Given, seen, events_of, TakesStep}
+use Rattle.thy_run.specs.World.{World, Given, line, seen, events_of, TakesStep}
 use Rattle.thy_run.specs.declared.ending.Stop.{Stop}
 use Rattle.thy_run.specs.declared.ending.Stop.TheVariants.{Ended, Nvm, Memory, Terminal, Report, Limit}
-use Rattle.thy_run.proofs.Fitting.{counts_here}
-use Rattle.thy_run.proofs.CoverLaws.{Covers-fault, Covers-part, Safe-covered}
 use Rattle.thy_run.proofs.ImageLaws.{ImagesFit, AllFit-events}
 use Rattle.thy_run.proofs.ImageLemmas.{AllFit-append, AllFit-ends, AllFit-part}
 use Rattle.thy_run.proofs.ListedLemmas.{cuts_among-append}
+use Rattle.thy_run.proofs.PartLaws.{IsSafe-fault, IsSafe-part}
+use Rattle.thy_run.proofs.RetellLaws.{images_told}
+use Rattle.thy_run.proofs.StepAlong.{core_of}
 use Rattle.thy_run.proofs.PickLaws.{StaysFitted, StaysFitted-framed, StaysFitted-ran}
 use Rattle.thy_run.proofs.SoonLaws.{SoonOver-ran}
 use Rattle.thy_run.proofs.StrideLaws.{AllStride-part, Strode, strode_step, strode_ran}
-use Rattle.thy_run.proofs.WorldLaws.{Coheres, Listed, Good, listed_going, events_uncut, Coheres-stepped, Good-ran, cycles-ran, untold-ran}
+use Rattle.thy_run.proofs.WorldLaws.{Coheres, Listed, Good, listed_going, events_uncut, fits_before, leads_before, told_before, Coheres-stepped, Good-ran, cycles-ran}
 use Rattle.thy_base.proofs.RangeLemmas.{epoch_least}
 use Rattle.thy_run.proofs.StepFrames.{TakesStep-framed}
 
@@ -63,18 +63,10 @@ pub AllLawful-part : (c : Course) (m : Marks) (vs ws : List Event) → AllLawful
 AllLawful-part c m [] ws all = tt
 AllLawful-part c m (v ∷ vs) ws all = (all.0, AllLawful-part c (marks_after c.start m v) vs ws all.1)
 
--- ---- with no turn told
-
+-- before any event no turn is told
 pub first_untold : (start : ℕ) (kept : Option Mark) → IsUntold (marks_at start kept)
 first_untold start None = record { kept = refl; sealed = refl }
 first_untold start (Some m) = record { kept = refl; sealed = refl }
-
--- what is lawful by counts alone is lawful
-lawful_told : (o : Origin) (events : List Event) → o.turns ≡ [] → AllLawfulAt (counts_here o) (first_marks o) events → AllLawful (course_of o) (first_marks o) events
-lawful_told o events none lawful =
-    let by_counts : List ℕ → Type 0 =
-    λ turns. AllLawfulAt (record { at = λ k. at (told o turns) k; start = o.start.count; epoch = o.geometry.epoch }) (first_marks o) events in
-    from-counts (course_of o) (first_marks o) events refl (first_untold o.start.count o.kept) (subst by_counts none lawful)
 
 -- ---- the promise, from its parts
 
@@ -98,19 +90,19 @@ leaves_room given passed events n stays few left cuts = record {
 }
 
 module _ {M : Type 0} (K : KindOf M) (o : Origin) (given : Given) (w : World M) (least : 1 ≤ o.geometry.epoch) (g : Good K o given.config.cuts w) (keeps : StaysFitted given w.passed w.device)
-    (soon : IsSoonOver K o given.config.cuts w.cycles) (strode : Strode K o w) (none : o.turns ≡ []) where
+    (soon : IsSoonOver K o given.config.cuts w.cycles) (strode : Strode K o w) where
   abbrev read : List Block → Decoded
   read = K.decode o.geometry ceiling
 
   -- what there is to be found stands so between two cycles
   abbrev stood : Found → Type 0
-  stood = ImagesFit o w.cycles w.fresh (seen K o w)
+  stood = ImagesFit (line o w) w.cycles w.fresh (seen K o w)
 
   done_promise : Promise K o given w.cycles w.events w.device
   done_promise =
       let fit = cuts_fit given.config.cuts (last_cuttable w.events w.cycles) w g.listed in
       record {
-        events_lawful = lawful_told o w.events none g.stands.lawful;
+        events_lawful = g.stands.lawful;
         restarts_decode = AllFit-ends read stood (HasLeft w.cycles) (found_at_start o) w.events w.device.left (λ t p. p.last) g.stands.each;
         cuts_listed = fit.0;
         picks_listed = keeps.picks ∙ sym (ap (torn given.config.tears) fit.1);
@@ -137,7 +129,7 @@ module _ {M : Type 0} (K : KindOf M) (o : Origin) (given : Given) (w : World M) 
         room = leaves_room given w.passed w.events n (StaysFitted-framed given w.passed w.device n f.framed keeps) g.listed.few (ap length left ∙ g.stands.left) fit.1;
         safe_at_return =
             let action = f.leaves.acted.failed.action in
-            Safe-covered K o m.kept m.sealed (seen K o w).done (doubt_after_fault action (seen K o w)) n (Covers-fault o (seen K o w) m action g.stands.fits) f.leaves.safe;
+            IsSafe-fault K.decode (line o w) (seen K o w) m action n g.stands.fits g.stands.leads f.leaves.safe;
         soon = soon;
         strides = p.strides;
       }
@@ -147,11 +139,12 @@ module _ {M : Type 0} (K : KindOf M) (o : Origin) (given : Given) (w : World M) 
       → (n ≡ next.device) ⊎ ReadFailed w events n next rest → Promise K o given w.cycles (w.events ++ part) n
   telling_promise part rest next events n step split unended device =
       let m : Marks = marks_of o w.events in
-      let es : List Event = events_of o w.fresh (seen K o w) step.r.did (seen K o next) (w.cycles + 1) in
+      let es : List Event = events_of (line o next) w.fresh (seen K o w) step.r.did (seen K o next) (w.cycles + 1) in
+      let core : CoreStep (line o next) (seen K o w) step.r.did (seen K o next) = core_of K o w next step in
       let after : Coheres K o next = Coheres-stepped K o w least g.stands next step in
       let whole : es ≡ part ++ rest = behind_same w.events es (part ++ rest) (sym (ap (λ (x : World M). x.events) step.next_is) ∙ split ∙ append_assoc w.events part rest) in
       let uncut : cuts_among part ≡ [] =
-      first_none (cuts_among part) (cuts_among rest) (sym (cuts_among-append part rest) ∙ ap cuts_among (sym whole) ∙ events_uncut o w.fresh (seen K o w) step.r.did (seen K o next) (w.cycles + 1)) in
+      first_none (cuts_among part) (cuts_among rest) (sym (cuts_among-append part rest) ∙ ap cuts_among (sym whole) ∙ events_uncut (line o next) w.fresh (seen K o w) step.r.did (seen K o next) (w.cycles + 1)) in
       let left_next : next.device.left ≡ w.device.left = (TakesStep-framed K o w next step).left in
       let left : n.left ≡ next.device.left = elim device as (λ _. n.left ≡ next.device.left) [ inl e ↦ ap (λ (x : Device). x.left) e | inr f ↦ f.framed.left ] in
       let at_next : StaysFitted given w.passed next.device = StaysFitted-framed given w.passed w.device next.device (TakesStep-framed K o w next step) keeps in
@@ -165,27 +158,28 @@ module _ {M : Type 0} (K : KindOf M) (o : Origin) (given : Given) (w : World M) 
       let going : has_ended (w.events ++ part) ≡ false =
       list_any-append is_end w.events part ∙ or_from (has_ended w.events) (has_ended part) (g.stands.ended ∙ step.going) unended in
       let marks : marks_of o (w.events ++ part) ≡ marks_from o.start.count m part = marks_from-append o.start.count (first_marks o) w.events part in
-      let covered = Covers-part o (seen K o w) (seen K o next) m step.r.did w.fresh (w.cycles + 1) least g.stands.fits step.is_step.step part rest (sym whole) in
-      let safe_next : Safe K.decode o (marks_from o.start.count m part).kept (marks_from o.start.count m part).sealed next.device =
-      Safe-covered K o _ _ (seen K o next).done (doubt_of (seen K o next)) next.device covered step.is_step.safe in
-      let safe : Safe K.decode o (marks_from o.start.count m part).kept (marks_from o.start.count m part).sealed n = elim device as (λ _. Safe K.decode o (marks_from o.start.count m part).kept (marks_from o.start.count m part).sealed n) [
-        | inl e ↦ subst (Safe K.decode o (marks_from o.start.count m part).kept (marks_from o.start.count m part).sealed) (sym e) safe_next
-        | inr f ↦ Safe-failed K.decode o (marks_from o.start.count m part).kept (marks_from o.start.count m part).sealed next.device n safe_next f.failed f.framed
+      let safe_view : Safe K.decode (line o next) (seen K o next).done (doubt_of (seen K o next)) n = elim device as (λ _. Safe K.decode (line o next) (seen K o next).done (doubt_of (seen K o next)) n) [
+        | inl e ↦ subst (Safe K.decode (line o next) (seen K o next).done (doubt_of (seen K o next))) (sym e) step.is_step.safe
+        | inr f ↦ Safe-failed K.decode (line o next) (seen K o next).done (doubt_of (seen K o next)) next.device n step.is_step.safe f.failed f.framed
       ] in
+      let safe : IsSafe K.decode o (marks_from o.start.count m part) n =
+      IsSafe-part K.decode (line o next) (seen K o w) (seen K o next) m step.r.did w.fresh (w.cycles + 1) n least (fits_before K o w least g.stands next step)
+      (leads_before K o w least g.stands next step) (told_before K o w least g.stands next step) core safe_view part rest (sym whole) in
       record {
         events_lawful = AllLawful-part (course_of o) (first_marks o) (w.events ++ part) rest
-            (subst (AllLawful (course_of o) (first_marks o)) split (lawful_told o next.events none after.lawful));
+            (subst (AllLawful (course_of o) (first_marks o)) split after.lawful);
         restarts_decode = subst (AllFit read (HasLeft w.cycles) (found_at_start o) (w.events ++ part)) (append-nil w.device.left ∙ sym (left ∙ left_next))
             (AllFit-append read stood (HasLeft w.cycles) (found_at_start o) w.events part w.device.left []
-            (λ t p. AllFit-part read (ImagesFit o (w.cycles + 1) false (seen K o next)) w.cycles t part rest []
-            (subst (λ vs. AllFit read (ImagesFit o (w.cycles + 1) false (seen K o next)) t vs []) whole
-            (AllFit-events read o w.cycles w.fresh (seen K o w) (seen K o next) t p step.r.did (w.cycles + 1) step.is_step.step)) uncut p.last)
+            (λ t f. AllFit-part read (ImagesFit (line o next) (w.cycles + 1) false (seen K o next)) w.cycles t part rest []
+            (subst (λ vs. AllFit read (ImagesFit (line o next) (w.cycles + 1) false (seen K o next)) t vs []) whole
+            (AllFit-events read (line o next) w.cycles w.fresh (seen K o w) (seen K o next) t
+            (images_told (line o w) next.turns w.cycles w.fresh (seen K o w) t step.agree f) step.r.did (w.cycles + 1) core)) uncut f.last)
             g.stands.each);
         cuts_listed = same_cuts ∙ fit.0 ∙ ap (λ k. numbered 1 (cuts_up_to k given.config.cuts)) (sym (ap (λ b. if b then w.cycles - 1 else w.cycles) going));
         picks_listed = kept.picks ∙ sym (ap (torn given.config.tears) (ap length same_cuts ∙ fit.1));
         fits_stay = kept.fits;
         room = leaves_room given w.passed (w.events ++ part) n kept g.listed.few (ap length (left ∙ left_next) ∙ g.stands.left) (ap length same_cuts ∙ fit.1);
-        safe_at_return = subst (λ (x : Marks). Safe K.decode o x.kept x.sealed n) (sym marks) safe;
+        safe_at_return = subst (λ (x : Marks). IsSafe K.decode o x n) (sym marks) safe;
         soon = soon;
         strides = AllStride-part o.start.count (first_epoch o.start.count) (w.events ++ part) rest
             (subst (AllStride o.start.count (first_epoch o.start.count)) split (strode_step K o w next step strode).all);
@@ -222,4 +216,4 @@ Promise-stopped K laws o given cycles events n stop origin rising s =
     let same : s.last.cycles ≡ cycles = cycles-ran K o given cycles s.last s.ran in
     let soon : IsSoonOver K o given.config.cuts s.last.cycles = subst (IsSoonOver K o given.config.cuts) (sym same) (SoonOver-ran K laws o given cycles s.last s.ran) in
     subst (λ k. Promise K o given k events n) same
-    (stop_promise K o given s.last least good (StaysFitted-ran K o given cycles s.last s.ran) soon (strode_ran K o given cycles s.last s.ran) (untold-ran K o given cycles s.last s.ran) events n stop s.at_stop)
+    (stop_promise K o given s.last least good (StaysFitted-ran K o given cycles s.last s.ran) soon (strode_ran K o given cycles s.last s.ran) events n stop s.at_stop)

@@ -22,7 +22,7 @@ pub record Keeps (o : Origin) (v next : View) (did : Did) : Type 0 where
   pub count : next.count ≡ v.count
   pub retired : next.retired ≡ v.retired
   pub none : retires did ≡ 0
-  pub nothing_told : (cycle : ℕ) → did_told o did cycle ≡ []
+  pub nothing_told : (cycle : ℕ) → did_told o v did cycle ≡ []
   pub idle : (retired : ℕ) (old new : Bool) → Strides did retired old new → new ≡ old
 
 pub record Loads (o : Origin) (v next : View) (did : Did) : Type 0 where

@@ -14,9 +14,10 @@ use Rattle.thy_view.specs.Pace.{Strides as KeepsIdle}
 use Rattle.thy_view.specs.Views.{is_boot, loads as is_loading, halts}
 use Rattle.thy_run.specs.Strides.{Epoch, first_epoch, epoch_after, AllStride, IsStriding, RunStrides}
 use Rattle.thy_run.specs.Unfinished.{TellingFailed, AtStop, Stopped}
-use Rattle.thy_run.specs.World.{World, Given, seen, did_told, reload_told, end_told, events_of, TakesStep, is_due, IsCutOff, tear, Ran}
+use Rattle.thy_run.specs.World.{World, Given, line, seen, did_told, reload_told, end_told, events_of, TakesStep, is_due, IsCutOff, tear, Ran}
 use Rattle.thy_run.specs.declared.ending.Stop.{Stop}
 use Rattle.thy_run.specs.declared.ending.Stop.TheVariants.{Ended as EndedStop, Nvm, Memory, Terminal, Report, Limit}
+use Rattle.thy_run.proofs.StepAlong.{core_of}
 use Rattle.thy_run.proofs.StepKinds.{Kind, keeps, loads, restores, advances, seals, commits, kind_of}
 
 -- ---- epochs and events
@@ -57,41 +58,41 @@ leaves_end o start e next cycle true = ((tt, tt), refl)
 leaves_end o start e next cycle false = (tt, refl)
 
 -- all the events of a cycle leave what that of its deed leaves
-leaves_all : (o : Origin) (start : ℕ) (e f : Epoch) (fresh : Bool) (v : View) (did : Did) (next : View) (cycle : ℕ) → Leaves start e (did_told o did cycle) f
+leaves_all : (o : Origin) (start : ℕ) (e f : Epoch) (fresh : Bool) (v : View) (did : Did) (next : View) (cycle : ℕ) → Leaves start e (did_told o v did cycle) f
     → Leaves start e (events_of o fresh v did next cycle) f
 leaves_all o start e f fresh v did next cycle l =
-    leaves_append start e f f (reload_told fresh next ++ did_told o did cycle) (end_told o v next cycle)
-    (leaves_append start e e f (reload_told fresh next) (did_told o did cycle) (leaves_reload start e (fresh && is_loading next)) l)
+    leaves_append start e f f (reload_told fresh next ++ did_told o v did cycle) (end_told o v next cycle)
+    (leaves_append start e e f (reload_told fresh next) (did_told o v did cycle) (leaves_reload start e (fresh && is_loading next)) l)
     (leaves_end o start f next cycle (halts v next))
 
 -- ---- between two cycles
 
 -- The epoch that events tell of is the one that a view has. Where they say that the one before it was idle, the machine
 -- knows it.
-pub record Tells (o : Origin) (e : Epoch) (v : View) (known : Bool) : Type 0 where
+pub record Tells (start : ℕ) (e : Epoch) (v : View) (known : Bool) : Type 0 where
   pub idle : e.idle ≡ true → known ≡ true
-  pub boot : is_boot v.phase ≡ true → (v.retired ≡ 0) × (e.began ≡ o.start.count)
+  pub boot : is_boot v.phase ≡ true → (v.retired ≡ 0) × (e.began ≡ start)
   pub up : is_boot v.phase ≡ false → e.began + v.retired ≡ v.count
 
 -- what a step leaves
-record TellsOn (o : Origin) (e : Epoch) (next : View) (did : Did) (cycle : ℕ) (known : Bool) : Type 0 where
+record TellsOn (o : Origin) (e : Epoch) (v next : View) (did : Did) (cycle : ℕ) (known : Bool) : Type 0 where
   after : Epoch
-  leaves : Leaves o.start.count e (did_told o did cycle) after
-  tells : Tells o after next known
+  leaves : Leaves o.start.count e (did_told o v did cycle) after
+  tells : Tells o.start.count after next known
 
 not_both : {A : Type 0} (b : Bool) → b ≡ true → b ≡ false → A
 not_both b e f = absurd (cc)
 
 -- events that say nothing of epochs
-tells_same : (o : Origin) (e : Epoch) (next : View) (did : Did) (cycle : ℕ) (known : Bool) → Leaves o.start.count e (did_told o did cycle) e → Tells o e next known
-    → TellsOn o e next did cycle known
-tells_same o e next did cycle known l t = record { after = e; leaves = l; tells = t }
+tells_same : (o : Origin) (e : Epoch) (v next : View) (did : Did) (cycle : ℕ) (known : Bool) → Leaves o.start.count e (did_told o v did cycle) e → Tells o.start.count e next known
+    → TellsOn o e v next did cycle known
+tells_same o e v next did cycle known l t = record { after = e; leaves = l; tells = t }
 
-tells_step : (o : Origin) (e : Epoch) (v next : View) (did : Did) (cycle : ℕ) (old new : Bool) → Kind o v next did → KeepsIdle did v.retired old new → Tells o e v old
-    → TellsOn o e next did cycle new
+tells_step : (o : Origin) (e : Epoch) (v next : View) (did : Did) (cycle : ℕ) (old new : Bool) → Kind o v next did → KeepsIdle did v.retired old new → Tells o.start.count e v old
+    → TellsOn o e v next did cycle new
 tells_step o e v next did cycle old new (keeps k) step h =
     let same : new ≡ old = k.idle v.retired old new step in
-    tells_same o e next did cycle new (subst (λ (l : List Event). Leaves o.start.count e l e) (sym (k.nothing_told cycle)) (tt, refl))
+    tells_same o e v next did cycle new (subst (λ (l : List Event). Leaves o.start.count e l e) (sym (k.nothing_told cycle)) (tt, refl))
     (record {
       idle = λ i. same ∙ h.idle i;
       boot = λ b. let here = h.boot (ap is_boot (sym k.phase) ∙ b) in (k.retired ∙ here.0, here.1);
@@ -100,7 +101,7 @@ tells_step o e v next did cycle old new (keeps k) step h =
 tells_step o e v next did cycle old new (loads k) step h =
     let here = h.boot (ap is_boot k.boot) in
     let same : new ≡ old = subst (λ d. KeepsIdle d v.retired old new) k.did_is step in
-    tells_same o e next did cycle new (subst (λ d. Leaves o.start.count e (did_told o d cycle) e) (sym k.did_is) ((tt, tt), refl))
+    tells_same o e v next did cycle new (subst (λ d. Leaves o.start.count e (did_told o v d cycle) e) (sym k.did_is) ((tt, tt), refl))
     (record {
       idle = λ i. same ∙ h.idle i;
       boot = λ b. not_both _ b k.up;
@@ -109,7 +110,7 @@ tells_step o e v next did cycle old new (loads k) step h =
 tells_step o e v next did cycle old new (restores k) step h =
     record {
       after = first_epoch k.to;
-      leaves = subst (λ d. Leaves o.start.count e (did_told o d cycle) (first_epoch k.to)) (sym k.did_is) ((tt, tt), refl);
+      leaves = subst (λ d. Leaves o.start.count e (did_told o v d cycle) (first_epoch k.to)) (sym k.did_is) ((tt, tt), refl);
       tells = record {
         idle = λ i. absurd (cc);
         boot = λ b. not_both _ b k.up;
@@ -119,7 +120,7 @@ tells_step o e v next did cycle old new (restores k) step h =
 tells_step o e v next did cycle old new (advances k) step h =
     let here = h.up (ap is_boot k.runs) in
     let same : new ≡ old = subst (λ d. KeepsIdle d v.retired old new) k.did_is step in
-    tells_same o e next did cycle new (subst (λ d. Leaves o.start.count e (did_told o d cycle) e) (sym k.did_is) (tt, refl))
+    tells_same o e v next did cycle new (subst (λ d. Leaves o.start.count e (did_told o v d cycle) e) (sym k.did_is) (tt, refl))
     (record {
       idle = λ i. same ∙ h.idle i;
       boot = λ b. not_both _ b k.up;
@@ -132,7 +133,7 @@ tells_step o e v next did cycle old new (seals k) step h =
     let strides : e.idle ≡ true → e.began < v.count = λ i. (let some : 1 ≤ v.retired = known.0 (h.idle i) in omega (arith, some, here)) in
     record {
       after = after;
-      leaves = subst (λ d. Leaves o.start.count e (did_told o d cycle) after) (sym k.did_is) ((strides, tt), refl);
+      leaves = subst (λ d. Leaves o.start.count e (did_told o v d cycle) after) (sym k.did_is) ((strides, tt), refl);
       tells = record {
         idle = λ i.
             let same : v.count ≡ e.began = eqb-true v.count e.began i in
@@ -144,7 +145,7 @@ tells_step o e v next did cycle old new (seals k) step h =
 tells_step o e v next did cycle old new (commits k) step h =
     let here = h.up (ap is_boot k.runs) in
     let same : new ≡ old = subst (λ d. KeepsIdle d v.retired old new) k.did_is step in
-    tells_same o e next did cycle new (subst (λ d. Leaves o.start.count e (did_told o d cycle) e) (sym k.did_is) ((tt, tt), refl))
+    tells_same o e v next did cycle new (subst (λ d. Leaves o.start.count e (did_told o v d cycle) e) (sym k.did_is) ((tt, tt), refl))
     (record {
       idle = λ i. same ∙ h.idle i;
       boot = λ b. not_both _ b k.up;
@@ -152,8 +153,8 @@ tells_step o e v next did cycle old new (commits k) step h =
     })
 
 -- a boot
-tells_boot : (o : Origin) (v : View) (known : Bool) → is_boot v.phase ≡ true → v.retired ≡ 0 → Tells o (first_epoch o.start.count) v known
-tells_boot o v known boot none = record { idle = λ i. absurd (cc); boot = λ b. (none, refl); up = λ b. not_both _ boot b }
+tells_boot : (start : ℕ) (v : View) (known : Bool) → is_boot v.phase ≡ true → v.retired ≡ 0 → Tells start (first_epoch start) v known
+tells_boot start v known boot none = record { idle = λ i. absurd (cc); boot = λ b. (none, refl); up = λ b. not_both _ boot b }
 
 image_boot : (count : ℕ) (d : Decoded) → (is_boot (view_of_image count d).phase ≡ true) × ((view_of_image count d).retired ≡ 0)
 image_boot count NothingLeft = (refl, refl)
@@ -165,7 +166,7 @@ image_boot count (At epoch state) = (refl, refl)
 -- the events of a run so far stride, and the machine is in the epoch that they tell of
 pub record Strode {M : Type 0} (K : KindOf M) (o : Origin) (w : World M) : Type 0 where
   pub all : AllStride o.start.count (first_epoch o.start.count) w.events
-  pub tells : Tells o (epoch_from o.start.count (first_epoch o.start.count) w.events) (seen K o w) (K.gauge w.machine w.device).idle
+  pub tells : Tells o.start.count (epoch_from o.start.count (first_epoch o.start.count) w.events) (seen K o w) (K.gauge w.machine w.device).idle
 
 module _ {M : Type 0} (K : KindOf M) (o : Origin) where
   abbrev first : Epoch
@@ -178,16 +179,18 @@ module _ {M : Type 0} (K : KindOf M) (o : Origin) where
       let next : View = seen K o x in
       let did : Did = step.r.did in
       let e : Epoch = epoch_from o.start.count first w.events in
-      let es : List Event = events_of o w.fresh v did next (w.cycles + 1) in
-      let on : TellsOn o e next did (w.cycles + 1) (K.gauge x.machine x.device).idle =
-      tells_step o e v next did (w.cycles + 1) _ _ (kind_of o v next did step.is_step.step) step.is_step.pace.strides h.tells in
-      let l : Leaves o.start.count e es on.after = leaves_all o o.start.count e on.after w.fresh v did next (w.cycles + 1) on.leaves in
+      let es : List Event = events_of (line o x) w.fresh v did next (w.cycles + 1) in
+      let idle : KeepsIdle did v.retired (K.gauge w.machine w.device).idle (K.gauge x.machine x.device).idle =
+      subst (λ (y : View). KeepsIdle did y.retired (K.gauge w.machine w.device).idle (K.gauge x.machine x.device).idle) step.alike step.is_step.pace.strides in
+      let on : TellsOn (line o x) e v next did (w.cycles + 1) (K.gauge x.machine x.device).idle =
+      tells_step (line o x) e v next did (w.cycles + 1) _ _ (kind_of (line o x) v next did (core_of K o w x step)) idle h.tells in
+      let l : Leaves o.start.count e es on.after = leaves_all (line o x) o.start.count e on.after w.fresh v did next (w.cycles + 1) on.leaves in
       let all : AllStride o.start.count first (w.events ++ es) = AllStride-append o.start.count first w.events es h.all l.0 in
       let here : epoch_from o.start.count first (w.events ++ es) ≡ on.after = epoch_from-append o.start.count first w.events es ∙ l.1 in
       let did_told : x.events ≡ w.events ++ es = ap (λ (y : World M). y.events) step.next_is in
       record {
         all = subst (AllStride o.start.count first) (sym did_told) all;
-        tells = subst (λ t. Tells o t next (K.gauge x.machine x.device).idle) (sym (ap (epoch_from o.start.count first) did_told ∙ here)) on.tells;
+        tells = subst (λ t. Tells o.start.count t next (K.gauge x.machine x.device).idle) (sym (ap (epoch_from o.start.count first) did_told ∙ here)) on.tells;
       }
 
   -- a cut
@@ -199,8 +202,8 @@ module _ {M : Type 0} (K : KindOf M) (o : Origin) where
       let boot = image_boot o.start.count _ in
       record {
         all = subst (AllStride o.start.count first) (sym did_told) (AllStride-append o.start.count first x.events es h.all (tt, tt));
-        tells = subst (λ e. Tells o e (seen K o next) (K.gauge next.machine next.device).idle) (sym (ap (epoch_from o.start.count first) did_told ∙ here))
-            (tells_boot o (seen K o next) _ (ap (λ v. is_boot v.phase) cut.found ∙ boot.0) (ap (λ v. v.retired) cut.found ∙ boot.1));
+        tells = subst (λ e. Tells o.start.count e (seen K o next) (K.gauge next.machine next.device).idle) (sym (ap (epoch_from o.start.count first) did_told ∙ here))
+            (tells_boot o.start.count (seen K o next) _ (ap (λ v. is_boot v.phase) cut.found ∙ boot.0) (ap (λ v. v.retired) cut.found ∙ boot.1));
       }
 
   by_due : (w x next : World M) → TakesStep K o w x → Strode K o w → (pick : ℕ) (b : Bool) → MatchBool b (IsCutOff K o pick x next) (next ≡ x) → Strode K o next
@@ -210,8 +213,8 @@ module _ {M : Type 0} (K : KindOf M) (o : Origin) where
   pub strode_ran : (given : Given) (k : ℕ) (w : World M) → Ran K o given k w → Strode K o w
   strode_ran given zero w start = let boot = image_boot o.start.count (found_first o o.kept) in record {
     all = subst (AllStride o.start.count first) (sym start.events) tt;
-    tells = subst (λ e. Tells o e (seen K o w) (K.gauge w.machine w.device).idle) (sym (ap (epoch_from o.start.count first) start.events))
-        (tells_boot o (seen K o w) _ (ap (λ v. is_boot v.phase) start.found ∙ boot.0) (ap (λ v. v.retired) start.found ∙ boot.1));
+    tells = subst (λ e. Tells o.start.count e (seen K o w) (K.gauge w.machine w.device).idle) (sym (ap (epoch_from o.start.count first) start.events))
+        (tells_boot o.start.count (seen K o w) _ (ap (λ v. is_boot v.phase) start.found ∙ boot.0) (ap (λ v. v.retired) start.found ∙ boot.1));
   }
   strode_ran given (suc k) w (before, ran, cycle) =
       by_due before cycle.between w cycle.steps (strode_ran given k before ran) (tear given.config.tears cycle.between.passed) (is_due K o given.config.cuts cycle.between) cycle.cut

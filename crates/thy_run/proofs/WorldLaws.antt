@@ -1,7 +1,8 @@
 -- What holds of a run between two cycles, and that one more cycle keeps it.
-use Rattle.std.proofs.Common.{◌≡◌, ℕ, zero, suc, ◌+◌, ◌-◌, ◌≤◌, Bool, true, false, ◌&&◌, ◌||◌, ◌==◌, not, nat_lt, if◌then◌else◌, Option, Some, None, List, [], ◌∷◌, ◌++◌, length, take, refl, sym, ◌∙◌, ap, subst, inl, inr, append-nil, length-append, arith}
+use Rattle.std.proofs.Common.{◌≡◌, ◌⊎◌, ℕ, zero, suc, ◌+◌, ◌-◌, ◌≤◌, Bool, true, false, ◌&&◌, ◌||◌, ◌==◌, not, nat_lt, if◌then◌else◌, Option, Some, None, List, [], ◌∷◌, ◌++◌, length, take, refl, sym, ◌∙◌, ap, subst, inl, inr, append-nil, length-append, arith}
 use Rattle.std.specs.Prelude.{slice_index, MatchBool}
 use Rattle.std.proofs.lemmas.Bool.{or_from, eq-eqb, eqb-true, ltb-true, lt-ltb}
+use Rattle.std.proofs.lemmas.List.{take_all}
 use Rattle.std.proofs.lemmas.List.Folds.{list_any-append}
 use Rattle.thy_base.specs.declared.block.Block.{Block}
 use Rattle.thy_base.specs.declared.mark.Mark.{Mark}
@@ -11,10 +12,8 @@ use Rattle.thy_base.proofs.CrashLemmas.{Crash-cut_to}
 use Rattle.thy_record.specs.Decoded.{Decoded, Nothing as NothingLeft, Refused as RefusedImage, At}
 use Rattle.thy_view.specs.Kind.{KindOf}
 use Rattle.thy_text.specs.Event.{Event, Cut, Reload, Ended}
-use Rattle.thy_text.specs.Marks.{Marks, loading_marks, marks_from}
-use Rattle.thy_text.specs.OneHart.{AllLawfulAt}
-use Rattle.thy_text.proofs.Histories.{marks_from-append}
-use Rattle.thy_text.proofs.OneHartLaws.{AllLawfulAt-append}
+use Rattle.thy_text.specs.Marks.{Marks, marks_from, AllLawful}
+use Rattle.thy_text.proofs.Histories.{marks_from-append, AllLawful-append}
 use Rattle.thy_view.specs.declared.did.Did.{Did}
 use Rattle.thy_view.specs.declared.did.Did.TheVariants.{Boot, Loaded, Restarted, Refused, Moved, Retired, Flushed, Merged, Sealed, Promoted, Engine, Committed, NvmDrained, DramDrained, Nothing}
 use Rattle.thy_view.specs.declared.view.Phase.{Phase}
@@ -25,39 +24,45 @@ use Rattle.thy_base.specs.Marks.{mark}
 use Rattle.thy_view.specs.Views.{is_boot, is_halt, loads, halts, doubt_of}
 use Rattle.thy_view.specs.CoreStep.{CoreStep}
 use Rattle.thy_view.specs.Origin.{Origin, at}
+use Rattle.thy_view.specs.Pace.{retires}
 use Rattle.thy_view.specs.Safe.{ceiling, Safe, IsOneOf}
-use Rattle.thy_view.proofs.SafeLemmas.{Safe-doubt}
+use Rattle.thy_view.specs.Told.{told, AgreeBelow, reach}
 use Rattle.thy_view.proofs.TurnLaws.{at-early}
 use Rattle.thy_run.specs.Cuts.{is_end, has_ended, cuts_among, numbered, last_cuttable, cuts_up_to}
 use Rattle.thy_run.specs.Images.{Found, found, AllFit}
-use Rattle.thy_run.specs.Laws.{marks_at, first_marks, marks_of, found_at_start}
-use Rattle.thy_run.specs.World.{World, seen, did_told, reload_told, end_told, events_of, after_step, TakesStep, is_due, cut_off, IsCutOff, tear, Cycle, Given, IsFirst, Ran}
-use Rattle.thy_run.proofs.Fitting.{counts_here, IsEither, Rises, Follows, FitsIn, Fits}
-use Rattle.thy_run.proofs.CoverLaws.{Covers-fits, Safe-covered}
+use Rattle.thy_run.specs.Laws.{course_of, marks_at, first_marks, marks_of, found_at_start, MayStand, IsSafe}
+use Rattle.thy_run.specs.World.{World, line, seen, hart_count, did_told, reload_told, end_told, events_of, after_step, TakesStep, is_due, cut_off, IsCutOff, tear, Cycle, Given, IsFirst, Ran}
+use Rattle.thy_run.proofs.Fitting.{Fits}
+use Rattle.thy_run.proofs.CutLaws.{leaves_one, IsSafe-by, IsSafe-fits, cut_below, fits_cut, leads_cut, found_cut}
 use Rattle.thy_run.proofs.EventLaws.{Fits-events}
 use Rattle.thy_run.proofs.ImageLaws.{IsFound, ImagesFit, AllFit-events}
+use Rattle.thy_run.proofs.Leading.{LeadsTo, AreTold, Leads, told_zero, start_leads}
+use Rattle.thy_run.proofs.LeadingLaws.{Leads-events, Lawful-events}
+use Rattle.thy_run.proofs.RetellLaws.{fits_told, leads_on, images_told}
+use Rattle.thy_run.proofs.StepAlong.{core_of, told_after}
+use Rattle.thy_run.proofs.TellLaws.{after_same, kept_agrees, kept_told}
 use Rattle.thy_run.proofs.ImageLemmas.{AllFit-append}
 use Rattle.thy_run.proofs.ListedLemmas.{next_cut, cuts_among-append, numbered-take, up_none}
 use Rattle.thy_run.proofs.StepFrames.{TakesStep-framed}
 
 -- ---- the events of a step are neither cuts nor, unless it halts, an end
 
-pub told_uncut : (o : Origin) (did : Did) (cycle : ℕ) → (cuts_among (did_told o did cycle) ≡ []) × (has_ended (did_told o did cycle) ≡ false)
-told_uncut o Boot cycle = (refl, refl)
-told_uncut o Loaded cycle = (refl, refl)
-told_uncut o (Restarted epoch count) cycle = (refl, refl)
-told_uncut o (Refused bad) cycle = (refl, refl)
-told_uncut o Moved cycle = (refl, refl)
-told_uncut o (Retired hart) cycle = (refl, refl)
-told_uncut o Flushed cycle = (refl, refl)
-told_uncut o Merged cycle = (refl, refl)
-told_uncut o Promoted cycle = (refl, refl)
-told_uncut o (Sealed epoch count cause) cycle = (refl, refl)
-told_uncut o (Engine step) cycle = (refl, refl)
-told_uncut o (Committed epoch overlapped) cycle = (refl, refl)
-told_uncut o NvmDrained cycle = (refl, refl)
-told_uncut o DramDrained cycle = (refl, refl)
-told_uncut o Nothing cycle = (refl, refl)
+pub told_uncut : (o : Origin) (v : View) (did : Did) (cycle : ℕ) → (cuts_among (did_told o v did cycle) ≡ []) × (has_ended (did_told o v did cycle) ≡ false)
+told_uncut o v Boot cycle = (refl, refl)
+told_uncut o v Loaded cycle = (refl, refl)
+told_uncut o v (Restarted epoch count) cycle = (refl, refl)
+told_uncut o v (Refused bad) cycle = (refl, refl)
+told_uncut o v Moved cycle = (refl, refl)
+told_uncut o v (Retired hart) cycle = (refl, refl)
+told_uncut o v Flushed cycle = (refl, refl)
+told_uncut o v Merged cycle = (refl, refl)
+told_uncut o v Promoted cycle = (refl, refl)
+told_uncut o v (Sealed epoch count cause) cycle = (refl, refl)
+told_uncut o v (Engine step) cycle = (refl, refl)
+told_uncut o v (Committed epoch overlapped) cycle = (refl, refl)
+told_uncut o v NvmDrained cycle = (refl, refl)
+told_uncut o v DramDrained cycle = (refl, refl)
+told_uncut o v Nothing cycle = (refl, refl)
 
 pub reload_uncut : (b : Bool) → (cuts_among (if b then Reload ∷ [] else []) ≡ []) × (has_ended (if b then Reload ∷ [] else []) ≡ false)
 reload_uncut true = (refl, refl)
@@ -71,28 +76,30 @@ end_uncut o next cycle false = (refl, refl)
 
 pub events_uncut : (o : Origin) (fresh : Bool) (v : View) (did : Did) (next : View) (cycle : ℕ) → cuts_among (events_of o fresh v did next cycle) ≡ []
 events_uncut o fresh v did next cycle =
-    cuts_among-append (reload_told fresh next ++ did_told o did cycle) (end_told o v next cycle)
-    ∙ ap (λ (l : List Event). l ++ cuts_among (end_told o v next cycle)) (cuts_among-append (reload_told fresh next) (did_told o did cycle)
-    ∙ ap (λ (l : List Event). l ++ cuts_among (did_told o did cycle)) (reload_uncut (fresh && loads next)).0
-    ∙ (told_uncut o did cycle).0)
+    cuts_among-append (reload_told fresh next ++ did_told o v did cycle) (end_told o v next cycle)
+    ∙ ap (λ (l : List Event). l ++ cuts_among (end_told o v next cycle)) (cuts_among-append (reload_told fresh next) (did_told o v did cycle)
+    ∙ ap (λ (l : List Event). l ++ cuts_among (did_told o v did cycle)) (reload_uncut (fresh && loads next)).0
+    ∙ (told_uncut o v did cycle).0)
     ∙ (end_uncut o next cycle (halts v next)).0
 
 pub events_end : (o : Origin) (fresh : Bool) (v : View) (did : Did) (next : View) (cycle : ℕ) → has_ended (events_of o fresh v did next cycle) ≡ halts v next
 events_end o fresh v did next cycle =
-    list_any-append is_end (reload_told fresh next ++ did_told o did cycle) (end_told o v next cycle)
-    ∙ ap (λ b. b || has_ended (end_told o v next cycle)) (list_any-append is_end (reload_told fresh next) (did_told o did cycle)
-    ∙ or_from (has_ended (reload_told fresh next)) (has_ended (did_told o did cycle)) (reload_uncut (fresh && loads next)).1 (told_uncut o did cycle).1)
+    list_any-append is_end (reload_told fresh next ++ did_told o v did cycle) (end_told o v next cycle)
+    ∙ ap (λ b. b || has_ended (end_told o v next cycle)) (list_any-append is_end (reload_told fresh next) (did_told o v did cycle)
+    ∙ or_from (has_ended (reload_told fresh next)) (has_ended (did_told o v did cycle)) (reload_uncut (fresh && loads next)).1 (told_uncut o v did cycle).1)
     ∙ (end_uncut o next cycle (halts v next)).1
 
 -- ---- between two cycles
 
 -- what holds whatever the cuts are
 pub record Coheres {M : Type 0} (K : KindOf M) (o : Origin) (w : World M) : Type 0 where
-  pub at_moment : K.is_at o w.cycles w.machine w.device
-  pub fits : Fits o (seen K o w) (marks_of o w.events)
-  pub lawful : AllLawfulAt (counts_here o) (first_marks o) w.events
-  pub safe : Safe K.decode o (marks_of o w.events).kept (marks_of o w.events).sealed w.device
-  pub each : AllFit (K.decode o.geometry ceiling) (ImagesFit o w.cycles w.fresh (seen K o w)) (found_at_start o) w.events w.device.left
+  pub at_moment : K.is_at (line o w) w.cycles w.machine w.device
+  pub told_all : AreTold (line o w) (seen K o w)
+  pub fits : Fits (line o w) (seen K o w) (marks_of o w.events)
+  pub leads : Leads (line o w) (seen K o w) (marks_of o w.events)
+  pub lawful : AllLawful (course_of o) (first_marks o) w.events
+  pub safe : IsSafe K.decode o (marks_of o w.events) w.device
+  pub each : AllFit (K.decode o.geometry ceiling) (ImagesFit (line o w) w.cycles w.fresh (seen K o w)) (found_at_start o) w.events w.device.left
   pub left : length w.device.left ≡ w.passed
   pub ended : has_ended w.events ≡ is_halt (seen K o w).phase
   pub queue : w.fresh ≡ true → w.device.queue ≡ []
@@ -114,32 +121,52 @@ and_true true = refl
 and_true false = refl
 
 module _ {M : Type 0} (K : KindOf M) (o : Origin) (w : World M) (least : 1 ≤ o.geometry.epoch) (h : Coheres K o w) where
+  -- what held before a step holds along the turns that are told once it is done
+  pub fits_before : (x : World M) → TakesStep K o w x → Fits (line o x) (seen K o w) (marks_of o w.events)
+  fits_before x step = fits_told (line o w) x.turns (seen K o w) (marks_of o w.events) step.agree h.fits
+
+  pub leads_before : (x : World M) → TakesStep K o w x → Leads (line o x) (seen K o w) (marks_of o w.events)
+  leads_before x step = leads_on (line o w) x.turns (seen K o w) (marks_of o w.events) step.agree h.fits h.leads
+
+  -- and a step that retires nothing leaves the turns
+  pub told_before : (x : World M) (step : TakesStep K o w x) → retires step.r.did ≡ 0 → AreTold (line o x) (seen K o w)
+  told_before x step none =
+      subst (λ (t : List ℕ). AreTold (told o t) (seen K o w)) (sym (step.turns_are ∙ after_same w.turns step.r.did none)) h.told_all
+
   -- the world after a step, given as the definition has it
-  stepped_coheres : (x : World M) (step : TakesStep K o w x) → Coheres K o (after_step K o w x.machine x.device step.r.did)
+  stepped_coheres : (x : World M) (step : TakesStep K o w x) → Coheres K o (after_step K o w x.machine x.device x.turns step.r.did)
   stepped_coheres x step =
       let next : View = seen K o x in
       let v : View = seen K o w in
       let did : Did = step.r.did in
       let m : Marks = marks_of o w.events in
-      let e : List Event = events_of o w.fresh v did next (w.cycles + 1) in
-      let core : CoreStep o v did next = step.is_step.step in
-      let events = Fits-events o v next m did w.fresh (w.cycles + 1) least h.fits core in
+      let e : List Event = events_of (line o x) w.fresh v did next (w.cycles + 1) in
+      let core : CoreStep (line o x) v did next = core_of K o w x step in
+      let before : Fits (line o x) v m = fits_before x step in
+      let leads : Leads (line o x) v m = leads_before x step in
       let marks : marks_of o (w.events ++ e) ≡ marks_from o.start.count m e = marks_from-append o.start.count (first_marks o) w.events e in
-      let fits : Fits o next (marks_of o (w.events ++ e)) = subst (Fits o next) (sym marks) events.0 in
+      let fits : Fits (line o x) next (marks_of o (w.events ++ e))
+      = subst (Fits (line o x) next) (sym marks) (Fits-events (line o x) v next m did w.fresh (w.cycles + 1) least before core) in
+      let on : Leads (line o x) next (marks_of o (w.events ++ e))
+      = subst (Leads (line o x) next) (sym marks)
+      (Leads-events (line o x) v next m did w.fresh (w.cycles + 1) least before leads (told_before x step) core) in
       let read : List Block → Decoded = K.decode o.geometry ceiling in
-      let now : Found → Type 0 = ImagesFit o (w.cycles + 1) false next in
+      let now : Found → Type 0 = ImagesFit (line o x) (w.cycles + 1) false next in
       let left : x.device.left ≡ w.device.left = (TakesStep-framed K o w x step).left in
       record {
         at_moment = step.is_step.at_next;
+        told_all = told_after K o w x step h.told_all;
         fits = fits;
-        lawful = AllLawfulAt-append (counts_here o) (first_marks o) w.events e h.lawful events.1;
-        safe = Safe-covered K o (marks_of o (w.events ++ e)).kept (marks_of o (w.events ++ e)).sealed next.done (doubt_of next) x.device
-            (Covers-fits o next (marks_of o (w.events ++ e)) fits) step.is_step.safe;
+        leads = on;
+        lawful = AllLawful-append (course_of o) (first_marks o) w.events e h.lawful
+            (Lawful-events (line o x) v next m did w.fresh (w.cycles + 1) least before leads (told_before x step) core);
+        safe = IsSafe-fits K.decode (line o x) next (marks_of o (w.events ++ e)) x.device fits on step.is_step.safe;
         each = subst (AllFit read now (found_at_start o) (w.events ++ e)) (append-nil w.device.left ∙ sym left)
-            (AllFit-append read (ImagesFit o w.cycles w.fresh v) now (found_at_start o) w.events e w.device.left []
-            (λ t p. AllFit-events read o w.cycles w.fresh v next t p did (w.cycles + 1) core) h.each);
+            (AllFit-append read (ImagesFit (line o w) w.cycles w.fresh v) now (found_at_start o) w.events e w.device.left []
+            (λ t f. AllFit-events read (line o x) w.cycles w.fresh v next t (images_told (line o w) x.turns w.cycles w.fresh v t step.agree f) did (w.cycles + 1) core)
+            h.each);
         left = ap length left ∙ h.left;
-        ended = list_any-append is_end w.events e ∙ ap (λ b. b || has_ended e) (h.ended ∙ step.going) ∙ events_end o w.fresh v did next (w.cycles + 1)
+        ended = list_any-append is_end w.events e ∙ ap (λ b. b || has_ended e) (h.ended ∙ step.going) ∙ events_end (line o x) w.fresh v did next (w.cycles + 1)
             ∙ ap (λ b. not b && is_halt next.phase) step.going ∙ and_true (is_halt next.phase);
         queue = λ fresh. absurd (cc);
       }
@@ -152,11 +179,11 @@ module _ {M : Type 0} (K : KindOf M) (o : Origin) (w : World M) (least : 1 ≤ o
 
 listed_stepped : {M : Type 0} (K : KindOf M) → (o : Origin) (cuts : List ℕ) (w x : World M) (cycle : ℕ) → TakesStep K o w x → Listed cuts cycle w → Listed cuts cycle x
 listed_stepped {M = M} K o cuts w x cycle step l =
-    let e : List Event = events_of o w.fresh (seen K o w) step.r.did (seen K o x) (w.cycles + 1) in
-    let now : Listed cuts cycle (after_step K o w x.machine x.device step.r.did) = record {
+    let e : List Event = events_of (line o x) w.fresh (seen K o w) step.r.did (seen K o x) (w.cycles + 1) in
+    let now : Listed cuts cycle (after_step K o w x.machine x.device x.turns step.r.did) = record {
       few = l.few;
       up_to = l.up_to;
-      among = cuts_among-append w.events e ∙ ap (λ (c : List Event). cuts_among w.events ++ c) (events_uncut o w.fresh (seen K o w) step.r.did (seen K o x) (w.cycles + 1))
+      among = cuts_among-append w.events e ∙ ap (λ (c : List Event). cuts_among w.events ++ c) (events_uncut (line o x) w.fresh (seen K o w) step.r.did (seen K o x) (w.cycles + 1))
           ∙ append-nil (cuts_among w.events) ∙ l.among;
     } in
     subst (Listed cuts cycle) (sym step.next_is) now
@@ -208,63 +235,19 @@ good_stepped {M = M} K o cuts w x rising step l stands due = by_end (is_halt (se
 
 -- ---- a cut
 
--- what the view behind a cut fits
-cut_found : (o : Origin) (d : Decoded) (left : List (List Block)) (k : ℕ) (v : View) → IsOneOf o v.done (doubt_of v) d → IsFound o (view_of_image o.start.count d) d
-cut_found o NothingLeft left k v one = refl
-cut_found o (RefusedImage bad) left k v one = absurd one
-cut_found o (At epoch state) left k v one = (refl, one.1)
-
-rises_in : (o : Origin) (v : View) (m : Marks) (p : Phase) → FitsIn o v m p → Rises m
-rises_in o v m BootPhase f = elim f.boots as (λ _. Rises m) [
-  | inl l ↦ λ k s kept sealed. absurd (let none : m.kept ≡ None = ap (λ n. n.kept) l.marks in cc)
-  | inr r ↦ r.rises
-]
-rises_in o v m Run f = λ k s kept sealed.
-    let of_sealed : v.sealed ≡ Some s = sym f.sealed ∙ sealed in
-    let follows : Follows o v f.mark (Some s) = subst (Follows o v f.mark) of_sealed f.follows in
-    let same : f.mark ≡ k = (let e : Some f.mark ≡ Some k = sym f.kept ∙ kept in cc) in
-    let counts : f.mark.count ≡ k.count = ap (λ (x : Mark). x.count) same in
-    omega (arith, follows.2, counts)
-rises_in o v m Halt f = λ k s kept sealed. absurd (let none : m.sealed ≡ None = f.none in cc)
-
--- marks do not go back
-pub Rises-fits : (o : Origin) (v : View) (m : Marks) → Fits o v m → Rises m
-Rises-fits o v m f = rises_in o v m v.phase f
-
-loading_in : (o : Origin) (v : View) (m : Marks) (p : Phase) → FitsIn o v m p → v.done ≡ None → m ≡ loading_marks o.start.count
-loading_in o v m BootPhase f none = elim f.boots as (λ _. m ≡ loading_marks o.start.count) [
-  | inl l ↦ l.marks
-  | inr r ↦ absurd (let some : v.done ≡ Some r.mark = r.done in cc)
-]
-loading_in o v m Run f none = absurd (let some : v.done ≡ Some f.mark = f.done in cc)
-loading_in o v m Halt f none = absurd (let some : v.done ≡ Some f.mark = f.done in cc)
-
--- the view of what a cut left fits the marks that stood
-fits_cut : (o : Origin) (v : View) (m : Marks) (d : Decoded) → Fits o v m → IsOneOf o v.done (doubt_of v) d → Fits o (view_of_image o.start.count d) m
-fits_cut o v m NothingLeft f one =
-    record { retired = refl; over = refl; boots = inl (record { done = refl; sealed = refl; marks = loading_in o v m v.phase f one }) }
-fits_cut o v m (RefusedImage bad) f one = absurd one
-fits_cut o v m (At epoch state) f one =
-    let c = Covers-fits o v m f in
-    let either : IsEither m.kept m.sealed (mark epoch state.count) = elim one.0 as (λ _. IsEither m.kept m.sealed (mark epoch state.count)) [
-      | inl done ↦ c.of_done (mark epoch state.count) done
-      | inr doubt ↦ c.of_doubt (mark epoch state.count) doubt
-    ] in
-    record { retired = refl; over = refl; boots = inr (record { mark = mark epoch state.count; done = refl; sealed = refl; written = refl; either = either; rises = Rises-fits o v m f }) }
-
 image_phase : (count : ℕ) (d : Decoded) → ((view_of_image count d).phase ≡ BootPhase) × ((view_of_image count d).written ≡ false)
 image_phase count NothingLeft = (refl, refl)
 image_phase count (RefusedImage bad) = (refl, refl)
 image_phase count (At epoch state) = (refl, refl)
 
 -- after a cut the device is safe for what it was safe for
-pub Safe-cut : {M : Type 0} (K : KindOf M) → (o : Origin) (kept sealed : Option Mark) (pick : ℕ) (old new : Device) → IsCut pick old new → Safe K.decode o kept sealed old → Safe K.decode o kept sealed new
-Safe-cut K o kept sealed pick old new cut safe = λ h crash.
+pub IsSafe-cut : {M : Type 0} (K : KindOf M) → (o : Origin) (m : Marks) (pick : ℕ) (old new : Device) → IsCut pick old new → IsSafe K.decode o m old → IsSafe K.decode o m new
+IsSafe-cut K o m pick old new cut safe = λ h crash.
     let at_cut : Crash (cut_to old pick new.image) h = subst (λ n. Crash n h) cut.device crash in
-    subst (λ g. IsOneOf o kept sealed (K.decode o.geometry ceiling g)) (sym (Crash-cut_to old pick new.image h at_cut)) (safe new.image cut.crash)
+    subst (λ g. MayStand (course_of o) m (K.decode o.geometry ceiling g)) (sym (Crash-cut_to old pick new.image h at_cut)) (safe new.image cut.crash)
 
 module _ {M : Type 0} (K : KindOf M) (o : Origin) (x next : World M) (h : Coheres K o x) (late : x.fresh ≡ false) (going : is_halt (seen K o x).phase ≡ false)
-    (safe : Safe K.decode o (seen K o x).done (doubt_of (seen K o x)) x.device) (pick : ℕ) (cut : IsCutOff K o pick x next) where
+    (safe : Safe K.decode (line o x) (seen K o x).done (doubt_of (seen K o x)) x.device) (pick : ℕ) (cut : IsCutOff K o pick x next) where
   cut_event : List Event
   cut_event = Cut (x.passed + 1) x.cycles ∷ []
 
@@ -272,7 +255,7 @@ module _ {M : Type 0} (K : KindOf M) (o : Origin) (x next : World M) (h : Cohere
   abbrev left_image : Decoded
   left_image = K.decode o.geometry ceiling next.device.image
 
-  one_of : IsOneOf o (seen K o x).done (doubt_of (seen K o x)) left_image
+  one_of : IsOneOf (line o x) (seen K o x).done (doubt_of (seen K o x)) left_image
   one_of = safe next.device.image cut.cut.crash
 
   lefts : next.device.left ≡ x.device.left ++ next.device.image ∷ []
@@ -281,29 +264,44 @@ module _ {M : Type 0} (K : KindOf M) (o : Origin) (x next : World M) (h : Cohere
   cut_marks : marks_of o (x.events ++ Cut (x.passed + 1) x.cycles ∷ []) ≡ marks_of o x.events
   cut_marks = marks_from-append o.start.count (first_marks o) x.events (Cut (x.passed + 1) x.cycles ∷ [])
 
-  cut_images : ImagesFit o x.cycles true (view_of_image o.start.count left_image) (found left_image (Some x.cycles))
+  -- the turns that are kept agree with those told up to the checkpoint that is found
+  kept : AgreeBelow (line o x) next.turns (reach (view_of_image o.start.count left_image))
+  kept = subst (λ (t : List ℕ). AgreeBelow (line o x) t (reach (view_of_image o.start.count left_image))) (sym cut.kept) (kept_agrees o x.turns left_image)
+
+  cut_told : AreTold (line o next) (seen K o next)
+  cut_told =
+      subst (λ (v : View). AreTold (line o next) v) (sym cut.found)
+      (subst (λ (t : List ℕ). AreTold (told o t) (view_of_image o.start.count left_image)) (sym cut.kept)
+      (kept_told o x.turns (seen K o x) left_image (cut_below (line o x) (seen K o x) (marks_of o x.events) left_image h.fits one_of) h.told_all))
+
+  cut_images : ImagesFit (line o next) x.cycles true (view_of_image o.start.count left_image) (found left_image (Some x.cycles))
   cut_images = record {
     last = λ cycle e before. absurd (let same : x.cycles ≡ cycle = cc in omega (arith, same, before));
     just = λ cycle e. inl (refl, (let same : x.cycles ≡ cycle = cc in sym same));
     fresh_boot = λ e. ((image_phase o.start.count left_image).0, (image_phase o.start.count left_image).1, refl);
-    boot = λ e. cut_found o left_image x.device.left 0 (seen K o x) one_of;
+    boot = λ e. found_cut (line o x) next.turns (seen K o x) left_image one_of kept;
     up = λ e. absurd (let boots : is_boot (view_of_image o.start.count left_image).phase ≡ true = ap is_boot (image_phase o.start.count left_image).0 in cc);
   }
 
-  cut_each : AllFit (K.decode o.geometry ceiling) (ImagesFit o x.cycles true (seen K o next)) (found_at_start o) (x.events ++ Cut (x.passed + 1) x.cycles ∷ []) (x.device.left ++ next.device.image ∷ [])
+  cut_each : AllFit (K.decode o.geometry ceiling) (ImagesFit (line o next) x.cycles true (seen K o next)) (found_at_start o) (x.events ++ Cut (x.passed + 1) x.cycles ∷ []) (x.device.left ++ next.device.image ∷ [])
   cut_each =
-      AllFit-append (K.decode o.geometry ceiling) (ImagesFit o x.cycles x.fresh (seen K o x)) (ImagesFit o x.cycles true (seen K o next)) (found_at_start o) x.events (Cut (x.passed + 1) x.cycles ∷ [])
+      AllFit-append (K.decode o.geometry ceiling) (ImagesFit (line o x) x.cycles x.fresh (seen K o x)) (ImagesFit (line o next) x.cycles true (seen K o next)) (found_at_start o) x.events (Cut (x.passed + 1) x.cycles ∷ [])
       x.device.left (next.device.image ∷ [])
-      (λ t p. (p.last, (refl, subst (λ v. ImagesFit o x.cycles true v (found left_image (Some x.cycles))) (sym cut.found) cut_images))) h.each
+      (λ t p. (p.last, (refl, subst (λ v. ImagesFit (line o next) x.cycles true v (found left_image (Some x.cycles))) (sym cut.found) cut_images))) h.each
 
-  cut_coheres : Coheres K o (cut_off x next.machine next.device)
+  cut_coheres : Coheres K o (cut_off x next.machine next.device next.turns)
   cut_coheres = record {
     at_moment = cut.at_moment;
-    fits = subst (λ v. Fits o v (marks_of o (x.events ++ Cut (x.passed + 1) x.cycles ∷ []))) (sym cut.found)
-        (subst (Fits o (view_of_image o.start.count left_image)) (sym cut_marks) (fits_cut o (seen K o x) (marks_of o x.events) left_image h.fits one_of));
-    lawful = AllLawfulAt-append (counts_here o) (first_marks o) x.events (Cut (x.passed + 1) x.cycles ∷ []) h.lawful (tt, tt);
-    safe = subst (λ (m : Marks). Safe K.decode o m.kept m.sealed next.device) (sym cut_marks) (Safe-cut K o (marks_of o x.events).kept (marks_of o x.events).sealed pick x.device next.device cut.cut h.safe);
-    each = subst (AllFit (K.decode o.geometry ceiling) (ImagesFit o x.cycles true (seen K o next)) (found_at_start o) (x.events ++ Cut (x.passed + 1) x.cycles ∷ [])) (sym lefts) cut_each;
+    told_all = cut_told;
+    fits = subst (λ v. Fits (line o next) v (marks_of o (x.events ++ Cut (x.passed + 1) x.cycles ∷ []))) (sym cut.found)
+        (subst (Fits (line o next) (view_of_image o.start.count left_image)) (sym cut_marks)
+        (fits_cut (line o x) next.turns (seen K o x) (marks_of o x.events) left_image h.fits one_of));
+    leads = subst (λ v. Leads (line o next) v (marks_of o (x.events ++ Cut (x.passed + 1) x.cycles ∷ []))) (sym cut.found)
+        (subst (Leads (line o next) (view_of_image o.start.count left_image)) (sym cut_marks)
+        (leads_cut (line o x) next.turns (seen K o x) (marks_of o x.events) left_image h.fits h.leads one_of kept));
+    lawful = AllLawful-append (course_of o) (first_marks o) x.events (Cut (x.passed + 1) x.cycles ∷ []) h.lawful (tt, tt);
+    safe = subst (λ (m : Marks). IsSafe K.decode o m next.device) (sym cut_marks) (IsSafe-cut K o (marks_of o x.events) pick x.device next.device cut.cut h.safe);
+    each = subst (AllFit (K.decode o.geometry ceiling) (ImagesFit (line o next) x.cycles true (seen K o next)) (found_at_start o) (x.events ++ Cut (x.passed + 1) x.cycles ∷ [])) (sym lefts) cut_each;
     left = ap length lefts ∙ length-append x.device.left (next.device.image ∷ []) ∙ ap (λ c. c + 1) h.left;
     ended = list_any-append is_end x.events (Cut (x.passed + 1) x.cycles ∷ []) ∙ or_from (has_ended x.events) false (h.ended ∙ going) refl
         ∙ sym (ap is_halt (ap (λ v. v.phase) cut.found ∙ (image_phase o.start.count left_image).0));
@@ -321,7 +319,7 @@ module _ {M : Type 0} (K : KindOf M) (o : Origin) (x next : World M) (h : Cohere
       let last : last_cuttable next.events next.cycles ≡ x.cycles =
       ap (λ b. if b then next.cycles - 1 else next.cycles) (Coheres-cut.ended ∙ ap is_halt (ap (λ v. v.phase) cut.found ∙ (image_phase o.start.count left_image).0))
       ∙ ap (λ (y : World M). y.cycles) cut.next_is in
-      let now : Listed cuts x.cycles (cut_off x next.machine next.device) = elim (next_cut c 0 cuts x.passed rising l.few l.up_to) as (λ _. Listed cuts x.cycles (cut_off x next.machine next.device)) [
+      let now : Listed cuts x.cycles (cut_off x next.machine next.device next.turns) = elim (next_cut c 0 cuts x.passed rising l.few l.up_to) as (λ _. Listed cuts x.cycles (cut_off x next.machine next.device next.turns)) [
         | inl comes ↦ record {
           few = omega (arith, comes.0);
           up_to = ap (λ k. cuts_up_to k cuts) cycles ∙ comes.2 ∙ ap (λ k. take k cuts) (let e : suc x.passed ≡ x.passed + 1 = omega arith in e);
@@ -333,7 +331,7 @@ module _ {M : Type 0} (K : KindOf M) (o : Origin) (x next : World M) (h : Cohere
         }
         | inr none ↦ absurd (none.0 (ltb-true x.passed (length cuts) some) (eqb-true (slice_index cuts x.passed) x.cycles due ∙ cycles))
       ] in
-      subst (Listed cuts (last_cuttable next.events next.cycles)) (sym cut.next_is) (subst (λ k. Listed cuts k (cut_off x next.machine next.device)) (sym last) now)
+      subst (Listed cuts (last_cuttable next.events next.cycles)) (sym cut.next_is) (subst (λ k. Listed cuts k (cut_off x next.machine next.device next.turns)) (sym last) now)
 
 -- ---- cycles
 
@@ -361,22 +359,33 @@ at-start : (o : Origin) → o.start ≡ at o o.start.count
 at-start o = sym (at-early o o.start.count (omega arith))
 
 -- the view and the marks with which a run begins
-first_fits : (o : Origin) (kept : Option Mark) → Fits o (view_of_image o.start.count (found_first o kept)) (marks_at o.start.count kept)
-first_fits o None = record { retired = refl; over = refl; boots = inl (record { done = refl; sealed = refl; marks = refl }) }
-first_fits o (Some m) = record {
+first_fits : (o : Origin) (t : List ℕ) (kept : Option Mark) → Fits (told o t) (view_of_image o.start.count (found_first o kept)) (marks_at o.start.count kept)
+first_fits o t None = record { retired = refl; over = refl; boots = inl (record { done = refl; sealed = refl; marks = refl }) }
+first_fits o t (Some m) = record {
   retired = refl;
   over = refl;
   boots = inr (record { mark = mark m.epoch o.start.count; done = refl; sealed = refl; written = refl; either = inl refl; rises = λ k s kept sealed. absurd (cc) });
 }
 
-finds_first : (o : Origin) (kept : Option Mark) → IsFound o (view_of_image o.start.count (found_first o kept)) (found_first o kept)
-finds_first o None = refl
-finds_first o (Some m) = (refl, at-start o)
+finds_first : (o : Origin) (t : List ℕ) (kept : Option Mark) → IsFound (told o t) (view_of_image o.start.count (found_first o kept)) (found_first o kept)
+finds_first o t None = refl
+finds_first o t (Some m) = (refl, at-start (told o t))
 
 first_boot : (o : Origin) (kept : Option Mark)
     → ((view_of_image o.start.count (found_first o kept)).phase ≡ BootPhase) × ((view_of_image o.start.count (found_first o kept)).done ≡ (marks_at o.start.count kept).kept)
 first_boot o None = (refl, refl)
 first_boot o (Some m) = (refl, refl)
+
+first_leads : (o : Origin) (t : List ℕ) (kept : Option Mark) → Leads (told o t) (view_of_image o.start.count (found_first o kept)) (marks_at o.start.count kept)
+first_leads o t None = record { kept = λ k is. absurd (cc); other = λ k is. absurd (cc) }
+first_leads o t (Some m) =
+    let there : (k : Mark) → Some (mark m.epoch o.start.count) ≡ Some k → LeadsTo (told o t) [] k.count = λ k is.
+    (let same : mark m.epoch o.start.count ≡ k = cc in subst (λ (x : Mark). LeadsTo (told o t) [] x.count) same (start_leads (told o t))) in
+    record { kept = there; other = there }
+
+first_reach : (o : Origin) (kept : Option Mark) → reach (view_of_image o.start.count (found_first o kept)) - o.start.count ≡ 0
+first_reach o None = omega arith
+first_reach o (Some m) = omega arith
 
 -- and it holds at first
 pub Good-first : {M : Type 0} (K : KindOf M) → (o : Origin) (given : Given) (w : World M) → IsRising 0 given.config.cuts → IsFirst K o given w → Good K o given.config.cuts w
@@ -384,28 +393,36 @@ Good-first {M = M} K o given w rising f =
     let none : w.events ≡ [] = f.events in
     let marks : marks_of o w.events ≡ first_marks o = ap (marks_of o) none in
     let boots = first_boot o o.kept in
-    let images : ImagesFit o w.cycles false (first_view o) (found_at_start o) = record {
+    let fits : Fits (line o w) (first_view o) (first_marks o) = first_fits o w.turns o.kept in
+    let leads : Leads (line o w) (first_view o) (first_marks o) = first_leads o w.turns o.kept in
+    let images : ImagesFit (line o w) w.cycles false (first_view o) (found_at_start o) = record {
       last = λ cycle e. absurd (cc);
       just = λ cycle e. absurd (cc);
       fresh_boot = λ e. absurd (cc);
-      boot = λ e. finds_first o o.kept;
+      boot = λ e. finds_first o w.turns o.kept;
       up = λ e. refl;
     } in
-    let kept : Safe K.decode o (first_marks o).kept None w.device = subst (λ (d : Option Mark). Safe K.decode o d None w.device) boots.1 f.safe in
+    let safe : IsSafe K.decode o (first_marks o) w.device =
+    IsSafe-by K.decode (line o w) (first_view o).done None (first_marks o) w.device (λ e. sym boots.1 ∙ e)
+    (λ k which. leaves_one (line o w) (first_view o) (first_marks o) fits leads k
+    (elim which as (λ _. ((first_view o).done ≡ Some k) ⊎ ((first_view o).sealed ≡ Some k)) [ inl done ↦ inl done | inr none ↦ absurd (cc) ])) f.safe in
     let ended : has_ended w.events ≡ false = ap has_ended none in
     let cycles : w.cycles ≡ 0 = f.cycles in
     let last : last_cuttable w.events w.cycles ≡ 0 = ap (λ b. if b then w.cycles - 1 else w.cycles) ended ∙ cycles in
     let passed : w.passed ≡ 0 = f.passed in
     record {
       stands = record {
-        at_moment = subst (λ k. K.is_at o k w.machine w.device) (sym cycles) f.at_moment;
-        fits = subst (λ v. Fits o v (marks_of o w.events)) (sym f.found) (subst (Fits o (first_view o)) (sym marks) (first_fits o o.kept));
-        lawful = subst (AllLawfulAt (counts_here o) (first_marks o)) (sym none) tt;
-        safe = subst (λ (m : Marks). Safe K.decode o m.kept m.sealed w.device) (sym marks) (Safe-doubt K.decode o (first_marks o).kept (first_marks o).sealed w.device kept);
-        each = subst (λ vs. AllFit (K.decode o.geometry ceiling) (ImagesFit o w.cycles w.fresh (seen K o w)) (found_at_start o) vs w.device.left) (sym none) (
+        at_moment = subst (λ k. K.is_at (line o w) k w.machine w.device) (sym cycles) f.at_moment;
+        told_all = ap (λ (t : List ℕ). length t) f.untold
+            ∙ sym (told_zero hart_count (reach (seen K o w) - o.start.count) (ap (λ v. reach v - o.start.count) f.found ∙ first_reach o o.kept));
+        fits = subst (λ v. Fits (line o w) v (marks_of o w.events)) (sym f.found) (subst (Fits (line o w) (first_view o)) (sym marks) fits);
+        leads = subst (λ v. Leads (line o w) v (marks_of o w.events)) (sym f.found) (subst (Leads (line o w) (first_view o)) (sym marks) leads);
+        lawful = subst (AllLawful (course_of o) (first_marks o)) (sym none) tt;
+        safe = subst (λ (m : Marks). IsSafe K.decode o m w.device) (sym marks) safe;
+        each = subst (λ vs. AllFit (K.decode o.geometry ceiling) (ImagesFit (line o w) w.cycles w.fresh (seen K o w)) (found_at_start o) vs w.device.left) (sym none) (
           f.left,
-          subst (λ b. ImagesFit o w.cycles b (seen K o w) (found_at_start o)) (sym f.fresh)
-              (subst (λ v. ImagesFit o w.cycles false v (found_at_start o)) (sym f.found) images),
+          subst (λ b. ImagesFit (line o w) w.cycles b (seen K o w) (found_at_start o)) (sym f.fresh)
+              (subst (λ v. ImagesFit (line o w) w.cycles false v (found_at_start o)) (sym f.found) images),
         );
         left = ap length f.left ∙ sym passed;
         ended = ended ∙ sym (ap is_halt (ap (λ v. v.phase) f.found ∙ boots.0));
@@ -436,7 +453,15 @@ cycles-ran {M = M} K o given (suc k) w (before, ran, cycle) =
     let f : w.cycles ≡ before.cycles + 1 = cycle_counts K o given.config.cuts before cycle.between w cycle.steps (tear given.config.tears cycle.between.passed) (is_due K o given.config.cuts cycle.between) cycle.cut in
     omega (arith, e, f)
 
--- and no turn was told at its start
-pub untold-ran : {M : Type 0} (K : KindOf M) → (o : Origin) (given : Given) (k : ℕ) (w : World M) → Ran K o given k w → o.turns ≡ []
+-- with one hart no turn is ever told
+none_due : {M : Type 0} (K : KindOf M) → (o : Origin) (x next : World M) → x.turns ≡ [] → (pick : ℕ) (b : Bool) → MatchBool b (IsCutOff K o pick x next) (next ≡ x) → next.turns ≡ []
+none_due {M = M} K o x next none pick true cut =
+    let n : ℕ = reach (view_of_image o.start.count (K.decode o.geometry ceiling next.device.image)) - o.start.count in
+    cut.kept ∙ ap (λ (t : List ℕ). take n t) none ∙ take_all n [] (omega arith)
+none_due {M = M} K o x next none pick false is = ap (λ (y : World M). y.turns) is ∙ none
+
+pub untold-ran : {M : Type 0} (K : KindOf M) → (o : Origin) (given : Given) (k : ℕ) (w : World M) → Ran K o given k w → w.turns ≡ []
 untold-ran {M = M} K o given zero w first = first.untold
-untold-ran {M = M} K o given (suc k) w (before, ran, cycle) = untold-ran K o given k before ran
+untold-ran {M = M} K o given (suc k) w (before, ran, cycle) =
+    none_due K o cycle.between w (cycle.steps.turns_are ∙ untold-ran K o given k before ran) (tear given.config.tears cycle.between.passed)
+    (is_due K o given.config.cuts cycle.between) cycle.cut

@@ -1,8 +1,8 @@
 -- What of the console a cycle's end releases to the terminal, and which cycles have nothing to tell.
-use Rattle.std.specs.Prelude.{◌≡◌, ◌⊎◌, ℕ, Bool, true, false, ◌&&◌, ◌==◌, nat_lt, if◌then◌else◌, List, [], length, drop, slice_index}
+use Rattle.std.specs.Prelude.{◌≡◌, ◌⊎◌, ℕ, Bool, true, false, ◌&&◌, ◌==◌, nat_lt, if◌then◌else◌, List, [], length, drop, slice_index, Option, Some, None}
 use Rattle.thy_base.specs.Bytes.{bytes_of}
 use Rattle.thy_text.specs.Event.{Event}
-use Rattle.thy_text.specs.Released.{console_of}
+use Rattle.thy_base.specs.declared.mark.Mark.{Mark}
 use Rattle.thy_view.specs.declared.did.Did.{Did}
 use Rattle.thy_view.specs.declared.did.Did.TheVariants.{Loaded, Restarted, Sealed, Committed}
 use Rattle.thy_view.specs.declared.did.Stepped.{Stepped}
@@ -30,10 +30,15 @@ IsTold r = (shows_console r.did ≡ true) ⊎ (r.ended ≡ true)
 abbrev pub console_at : Origin → ℕ → List ℕ
 console_at o k = (at o k).console
 
--- the bytes of the console that the terminal has not had yet
+-- that of a mark
+abbrev pub console_shown : Origin → Option Mark → List ℕ
+console_shown o None = []
+console_shown o (Some m) = console_at o m.count
+
+-- the bytes of the console that the terminal has not had yet, along a run's turns
 abbrev pub due_of : Origin → List Event → Did → View → List ℕ
 due_of o events did next =
-    if shows_console did then drop (length (released_of o events)) (console_of (console_at o) next.done) else []
+    if shows_console did then drop (length (released_of o events)) (console_shown o next.done) else []
 
 -- ---- quiet cycles
 

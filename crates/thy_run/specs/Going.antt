@@ -52,7 +52,7 @@ pub record IsPlanned (plan : Plan) : Type 0 where
   pub origin : IsOrigin (origin_of plan)
   pub rising : IsRising 0 plan.config.cuts
 
--- the run between two cycles, of which so many are done, with its device
+-- the run between two cycles, of which so many are done, with its device; with one hart no turn is told
 abbrev pub world_at : {M : Type 0} → Progress M → Device → ℕ → World M
 world_at p n cycles = record {
   machine = p.machine;
@@ -62,6 +62,7 @@ world_at p n cycles = record {
   cycles = cycles;
   fresh = p.fresh;
   events = p.events;
+  turns = [];
 }
 
 -- the run goes on: so many cycles were done since the device was fitted

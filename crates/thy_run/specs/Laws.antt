@@ -3,27 +3,29 @@
 use Rattle.std.specs.Prelude.{◌≡◌, ℕ, ◌≤◌, zero, suc, List, [], ◌∷◌, ◌++◌, length, None, Option, Some}
 use Rattle.thy_base.specs.Config.{IsRising}
 use Rattle.thy_base.specs.declared.mark.Mark.{Mark}
-use Rattle.thy_base.specs.Device.{Device, IsCut}
+use Rattle.thy_base.specs.declared.block.Block.{Block}
+use Rattle.thy_base.specs.Device.{Device, Crash, IsCut}
+use Rattle.thy_record.specs.Decoded.{Decoded, Nothing, Refused, At, Reading}
 use Rattle.thy_view.specs.Kind.{KindOf}
 use Rattle.thy_text.specs.Event.{Event}
 use Rattle.thy_base.specs.Marks.{mark}
-use Rattle.thy_text.specs.Marks.{Marks, Course, loading_marks, marks_from, AllLawful}
+use Rattle.thy_text.specs.Marks.{Marks, Course, loading_marks, marks_from, Restarts, AllLawful}
 use Rattle.thy_text.specs.Released.{released}
 use Rattle.thy_view.specs.Origin.{Origin, at, IsOrigin}
 use Rattle.thy_view.specs.Told.{told}
 use Rattle.thy_view.specs.Booting.{found_first}
-use Rattle.thy_view.specs.Safe.{ceiling, Safe}
+use Rattle.thy_view.specs.Safe.{ceiling}
 use Rattle.thy_run.specs.Cuts.{cuts_among, numbered, cuts_up_to, last_cuttable}
 use Rattle.thy_run.specs.Images.{Found, found, HasLeft, AllFit}
 use Rattle.thy_run.specs.Progress.{IsSoonOver}
 use Rattle.thy_run.specs.Strides.{IsStriding}
 use Rattle.thy_run.specs.Unfinished.{Stopped}
-use Rattle.thy_run.specs.World.{Given, tear}
+use Rattle.thy_run.specs.World.{Given, hart_count, tear}
 use Rattle.thy_run.specs.declared.ending.Stop.{Stop}
 
--- what the events of a run are held against; there is one hart
+-- what the events of a run are held against; it does not depend on the turns told so far
 abbrev pub course_of : Origin → Course
-course_of o = record { at = λ k turns. at (told o turns) k; start = o.start.count; epoch = o.geometry.epoch; harts = 1 }
+course_of o = record { at = λ k turns. at (told o turns) k; start = o.start.count; epoch = o.geometry.epoch; harts = hart_count }
 
 -- the marks before any event, at this count: the checkpoint that the start was taken from is kept, or the start is sealed
 abbrev pub marks_at : ℕ → Option Mark → Marks
@@ -43,7 +45,17 @@ found_at_start o = found (found_first o o.kept) None
 
 -- what the terminal has of the console once events were told: that of the committed checkpoint
 abbrev pub released_of : Origin → List Event → List ℕ
-released_of o events = released (λ k. (at o k).console) o.start.count (first_marks o) events
+released_of o events = released (λ k turns. (at (told o turns) k).console) o.start.count (first_marks o) events
+
+-- What an image means may stand where events left these marks: nothing, if none is kept, or what a restart may have.
+abbrev pub MayStand : Course → Marks → Decoded → Type 0
+MayStand c m Nothing = m.kept ≡ None
+MayStand c m (Refused bad) = ⊥
+MayStand c m (At epoch state) = Restarts c m epoch state.count state
+
+-- whatever a cut leaves of a device is safe for marks
+abbrev pub IsSafe : Reading → Origin → Marks → Device → Type 0
+IsSafe read o m n = (g : List Block) → Crash n g → MayStand (course_of o) m (read o.geometry ceiling g)
 
 -- the picks of the first k cuts
 abbrev pub torn : List ℕ → ℕ → List ℕ
@@ -71,7 +83,7 @@ pub record Promise {M : Type 0} (K : KindOf M) (o : Origin) (given : Given) (cyc
   pub picks_listed : n.picks ≡ torn given.config.tears (length (cuts_among events))
   pub fits_stay : n.fits ≡ given.fitted.fits
   pub room : LeavesRoom given events n
-  pub safe_at_return : Safe K.decode o (marks_of o events).kept (marks_of o events).sealed n
+  pub safe_at_return : IsSafe K.decode o (marks_of o events) n
   pub soon : IsSoonOver K o given.config.cuts cycles
   pub strides : IsStriding o.start.count events
 
@@ -85,5 +97,5 @@ RunKeepsPromise K =
 -- that is taken behind a run.
 abbrev pub OneMoreCutIsSafe : {M : Type 0} → KindOf M → Type 0
 OneMoreCutIsSafe K =
-    (o : Origin) (kept sealed : Option Mark) (pick : ℕ) (n new : Device)
-    → IsCut pick n new → Safe K.decode o kept sealed n → Safe K.decode o kept sealed new
+    (o : Origin) (m : Marks) (pick : ℕ) (n new : Device)
+    → IsCut pick n new → IsSafe K.decode o m n → IsSafe K.decode o m new

@@ -1,7 +1,8 @@
 -- What the functions of the loop promise each other: each from any moment of any run.
-use Rattle.std.specs.Prelude.{◌≡◌, ℕ, ◌+◌, ◌<◌, ◌^◌, ◌&&◌, true, Bool, List, length, Option, Result, IfOk, IfErr, OnOk, OnErr, ◌++◌, Box}
+use Rattle.std.specs.Prelude.{◌≡◌, ℕ, ◌+◌, ◌<◌, ◌^◌, ◌&&◌, true, Bool, List, [], length, Option, Result, IfOk, IfErr, OnOk, OnErr, ◌++◌, Box}
 use Rattle.std.specs.declared.alloc.Global.{Global}
 use Rattle.thy_base.specs.declared.bytes.Bytes.{Bytes}
+use Rattle.thy_base.specs.declared.cause.EndCause.{EndCause}
 use Rattle.thy_base.specs.declared.nvm.NvmError.{NvmError}
 use Rattle.thy_base.specs.Bytes.{bytes_of}
 use Rattle.thy_base.specs.Device.{Device}
@@ -10,7 +11,7 @@ use Rattle.thy_isa.specs.declared.state.MachState.{MachState}
 use Rattle.thy_isa.specs.declared.state.Status.{Status}
 use Rattle.thy_text.specs.Event.{Event}
 use Rattle.thy_view.specs.declared.did.Did.{Did}
-use Rattle.thy_view.specs.declared.did.Did.TheVariants.{Restarted}
+use Rattle.thy_view.specs.declared.did.Did.TheVariants.{Restarted, Sealed}
 use Rattle.thy_view.specs.declared.did.Stepped.{Stepped}
 use Rattle.thy_view.specs.declared.error.CoreError.{CoreError}
 use Rattle.thy_view.specs.declared.view.View.{View}
@@ -28,7 +29,7 @@ use Rattle.thy_run.specs.declared.progress.Progress.{Progress}
 use Rattle.thy_run.specs.Going.{origin_of, world_at, GoesOn, IsStepped, IsStuck, CanGather, MadeSome, Restores, IsEnding, IsEnd, IsGathered, IsNoted, AwaitsCut, ComesTo}
 use Rattle.thy_run.specs.Sending.{Sinks}
 use Rattle.thy_run.specs.Rounds.{Running, IsRound, RunEnds}
-use Rattle.thy_run.specs.World.{seen, did_told, end_told, events_of}
+use Rattle.thy_run.specs.World.{seen, turns_behind, did_told, end_told, events_of}
 
 -- ---- a step
 
@@ -86,14 +87,23 @@ GathersAll K p n stepped result =
 abbrev pub NotesRestart : {T E : Type 0} → ℕ → ℕ → Option (Box MachState Global) → List Event → List Event
     → Result T E → Type 0
 NotesRestart epoch count restored old new result =
-    (o : Origin) → Restores o (Restarted epoch count) restored
-    → OnOk result (new ≡ old ++ did_told o (Restarted epoch count) 0)
+    (o : Origin) (v : View) → Restores o (Restarted epoch count) restored
+    → OnOk result (new ≡ old ++ did_told o v (Restarted epoch count) 0)
+
+-- a run tells no turn behind the committed checkpoint: with one hart it has none to tell
+abbrev pub IsUntold : Origin → View → Type 0
+IsUntold o v = turns_behind o v.done ≡ []
+
+-- the event of an epoch's end is made
+abbrev pub NotesSeal : {T E : Type 0} → ℕ → ℕ → EndCause → List Event → List Event → Result T E → Type 0
+NotesSeal epoch count cause old new result =
+    (o : Origin) (v : View) → IsUntold o v → OnOk result (new ≡ old ++ did_told o v (Sealed epoch count cause) 0)
 
 -- so is that of what a step did
 abbrev pub NotesDid : {T E : Type 0} → Did → Option (Box MachState Global) → ℕ → List Event → List Event
     → Result T E → Type 0
 NotesDid did restored cycle old new result =
-    (o : Origin) → Restores o did restored → OnOk result (new ≡ old ++ did_told o did cycle)
+    (o : Origin) (v : View) → IsUntold o v → Restores o did restored → OnOk result (new ≡ old ++ did_told o v did cycle)
 
 -- and that of the end
 abbrev pub NotesEnd : {T E : Type 0} → Option (Box MachState Global) → ℕ → List Event → List Event → Result T E → Type 0
@@ -109,7 +119,7 @@ AnswersEnd ended result =
 abbrev pub NotesAll : {T E : Type 0} → Did → Bool → Option (Box MachState Global) → Option (Box MachState Global) → ℕ
     → List Event → List Event → Result T E → Type 0
 NotesAll did reload restored ended cycle old new result =
-    (o : Origin) (fresh : Bool) (v next : View) → reload ≡ (fresh && loads next) → Restores o did restored
+    (o : Origin) (fresh : Bool) (v next : View) → reload ≡ (fresh && loads next) → IsUntold o v → Restores o did restored
     → IsEnding o v next ended
     → OnOk result (new ≡ old ++ events_of o fresh v did next cycle)
 
@@ -117,7 +127,7 @@ NotesAll did reload restored ended cycle old new result =
 abbrev pub NotesSome : {T E : Type 0} → Did → Bool → Option (Box MachState Global) → Option (Box MachState Global) → ℕ
     → List Event → List Event → Result T E → Type 0
 NotesSome did reload restored ended cycle old new result =
-    (o : Origin) (fresh : Bool) (v next : View) → reload ≡ (fresh && loads next) → Restores o did restored
+    (o : Origin) (fresh : Bool) (v next : View) → reload ≡ (fresh && loads next) → IsUntold o v → Restores o did restored
     → IsEnding o v next ended
     → OnErr result (MadeSome new (events_of o fresh v did next cycle) old)
 

@@ -9,7 +9,7 @@ use Rattle.thy_text.specs.Event.{Event}
 use Rattle.thy_view.specs.Views.{is_halt}
 use Rattle.thy_view.specs.Origin.{Origin}
 use Rattle.thy_run.specs.Cuts.{has_ended}
-use Rattle.thy_run.specs.World.{World, Given, seen, is_due, TakesStep, Ran}
+use Rattle.thy_run.specs.World.{World, Given, line, seen, is_due, TakesStep, Ran}
 use Rattle.thy_run.specs.declared.ending.Stop.{Stop}
 use Rattle.thy_run.specs.declared.ending.Stop.TheVariants.{Ended, Nvm, Memory, Terminal, Report, Limit}
 
@@ -19,7 +19,7 @@ pub record StepFailed {M : Type 0} (K : KindOf M) (o : Origin) (w : World M) (ev
   pub going : is_halt (seen K o w).phase ≡ false
   -- the machine that it left
   pub next : M
-  pub leaves : LeavesSafe K o (mix_pick w.mix) w.machine next w.device n
+  pub leaves : LeavesSafe K (line o w) (mix_pick w.mix) w.machine next w.device n
   pub framed : IsFramed w.device n
   pub rose : Rose w.device.faults n.faults
   pub nothing_told : events ≡ w.events

@@ -1,11 +1,13 @@
 -- Part of the claim.
 -- A run: its cycles, the power cuts between them, and the events that they give.
-use Rattle.std.specs.Prelude.{◌≡◌, ℕ, zero, suc, ◌+◌, ◌==◌, Bool, true, false, ◌&&◌, not, nat_lt, if◌then◌else◌, MatchBool, List, [], ◌∷◌, ◌++◌, length, slice_index, slice_index_or, None}
+use Rattle.std.specs.Prelude.{◌≡◌, ℕ, zero, suc, ◌+◌, ◌-◌, ◌==◌, Bool, true, false, ◌&&◌, not, nat_lt, if◌then◌else◌, MatchBool, List, [], ◌∷◌, ◌++◌, length, slice_index, slice_index_or, take, drop, Option, None}
 use Rattle.thy_base.specs.declared.config.Config.{Config}
+use Rattle.thy_base.specs.declared.mark.Mark.{Mark}
 use Rattle.thy_base.specs.declared.mix.Mix.{Mix}
 use Rattle.thy_base.specs.Device.{Device, IsCut}
 use Rattle.thy_base.specs.Mix.{mix_start, mix_pick, mix_next}
 use Rattle.thy_dram.specs.Contents.{lost}
+use Rattle.thy_record.specs.Decoded.{Decoded}
 use Rattle.thy_view.specs.Kind.{KindOf, IsStep}
 use Rattle.thy_text.specs.Event.{Event, EpochEnd, Commit, Cut, Restart, Reload, Ended}
 use Rattle.thy_view.specs.declared.did.Did.{Did}
@@ -16,6 +18,7 @@ use Rattle.thy_view.specs.Booting.{first_view, view_of_image}
 use Rattle.thy_view.specs.Views.{loads, halts, is_halt}
 use Rattle.thy_view.specs.Origin.{Origin, at}
 use Rattle.thy_view.specs.Safe.{ceiling, Safe}
+use Rattle.thy_view.specs.Told.{told, AgreeBelow, count_of, reach}
 
 -- a run between two cycles
 pub record World (M : Type 0) : Type 0 where
@@ -30,20 +33,44 @@ pub record World (M : Type 0) : Type 0 where
   -- no cycle was done since the latest cut
   pub fresh : Bool
   pub events : List Event
+  -- the harts that retired the instructions up to where the machine is, where they are told
+  pub turns : List ℕ
+
+-- the run with the turns told so far
+abbrev pub line : {M : Type 0} → Origin → World M → Origin
+line o w = told o w.turns
 
 -- what is seen of the machine
 abbrev pub seen : {M : Type 0} → KindOf M → Origin → World M → View
-seen K o w = K.view o w.machine w.device
+seen K o w = K.view (line o w) w.machine w.device
+
+-- ---- turns
+
+-- how many harts there are
+abbrev pub hart_count : ℕ
+hart_count = 1
+
+-- the turns told once a cycle did this; with one hart none is told
+abbrev pub turns_after : List ℕ → Did → List ℕ
+turns_after turns did = turns
+
+-- those that a cut keeps that leaves what means this: those up to the checkpoint that is found
+abbrev pub turns_kept : Origin → List ℕ → Decoded → List ℕ
+turns_kept o turns d = take (reach (view_of_image o.start.count d) - o.start.count) turns
+
+-- a run's turns behind a committed checkpoint
+abbrev pub turns_behind : Origin → Option Mark → List ℕ
+turns_behind o done = drop (count_of done - o.start.count) o.turns
 
 -- ---- events
 
--- the event of what a cycle did
-abbrev pub did_told : Origin → Did → ℕ → List Event
-did_told o Loaded cycle = Commit 0 cycle 0 ∷ []
-did_told o (Restarted epoch count) cycle = Restart epoch count (at o count) ∷ []
-did_told o (Sealed epoch count cause) cycle = EpochEnd epoch count cause [] ∷ []
-did_told o (Committed epoch overlapped) cycle = Commit epoch cycle overlapped ∷ []
-did_told o did cycle = []
+-- the event of what a cycle did from this view; an epoch's end tells the turns behind the committed checkpoint
+abbrev pub did_told : Origin → View → Did → ℕ → List Event
+did_told o v Loaded cycle = Commit 0 cycle 0 ∷ []
+did_told o v (Restarted epoch count) cycle = Restart epoch count (at o count) ∷ []
+did_told o v (Sealed epoch count cause) cycle = EpochEnd epoch count cause (turns_behind o v.done) ∷ []
+did_told o v (Committed epoch overlapped) cycle = Commit epoch cycle overlapped ∷ []
+did_told o v did cycle = []
 
 -- the first cycle after a cut tells that the file is loaded again
 abbrev pub reload_told : Bool → View → List Event
@@ -55,51 +82,58 @@ end_told o v next cycle = if halts v next then Ended (at o next.count).status ne
 
 -- the events of a cycle
 abbrev pub events_of : Origin → Bool → View → Did → View → ℕ → List Event
-events_of o fresh v did next cycle = reload_told fresh next ++ did_told o did cycle ++ end_told o v next cycle
+events_of o fresh v did next cycle = reload_told fresh next ++ did_told o v did cycle ++ end_told o v next cycle
 
 -- ---- cycles
 
--- the world after a step
-abbrev pub after_step : {M : Type 0} → KindOf M → Origin → World M → M → Device → Did → World M
-after_step K o w m n did = record w {
+-- the world after a step, once these turns are told
+abbrev pub after_step : {M : Type 0} → KindOf M → Origin → World M → M → Device → List ℕ → Did → World M
+after_step K o w m n turns did = record w {
   machine = m;
   device = n;
   mix = mix_next w.mix;
   cycles = w.cycles + 1;
   fresh = false;
-  events = w.events ++ events_of o w.fresh (seen K o w) did (K.view o m n) (w.cycles + 1);
+  events = w.events ++ events_of (told o turns) w.fresh (seen K o w) did (K.view (told o turns) m n) (w.cycles + 1);
+  turns = turns;
 }
 
--- the machine takes the schedule's next step
+-- The machine takes the schedule's next step, along the turns that are told once it is done. They agree with those told before
+-- as far as the machine is, and what is seen of it is the same.
 pub record TakesStep {M : Type 0} (K : KindOf M) (o : Origin) (w next : World M) : Type 0 where
   pub r : Stepped
   pub going : is_halt (seen K o w).phase ≡ false
-  pub is_step : IsStep K o w.cycles (mix_pick w.mix) w.machine next.machine w.device next.device r
-  pub next_is : next ≡ after_step K o w next.machine next.device r.did
+  pub turns_are : next.turns ≡ turns_after w.turns r.did
+  pub agree : AgreeBelow (line o w) next.turns (reach (seen K o w))
+  pub alike : K.view (line o next) w.machine w.device ≡ seen K o w
+  pub is_step : IsStep K (line o next) w.cycles (mix_pick w.mix) w.machine next.machine w.device next.device r
+  pub next_is : next ≡ after_step K o w next.machine next.device next.turns r.did
 
 -- a cut is due: the next one that is listed falls after this cycle, and the run has not ended
 abbrev pub is_due : {M : Type 0} → KindOf M → Origin → List ℕ → World M → Bool
 is_due K o cuts w = not (is_halt (seen K o w).phase) && (nat_lt w.passed (length cuts) && slice_index cuts w.passed == w.cycles)
 
--- the world after a cut
-abbrev pub cut_off : {M : Type 0} → World M → M → Device → World M
-cut_off w m n = record w {
+-- the world after a cut that keeps these turns
+abbrev pub cut_off : {M : Type 0} → World M → M → Device → List ℕ → World M
+cut_off w m n turns = record w {
   machine = m;
   device = n;
   passed = w.passed + 1;
   fresh = true;
   events = w.events ++ Cut (w.passed + 1) w.cycles ∷ [];
+  turns = turns;
 }
 
 -- Power is cut, and comes on again: a new machine over the DRAM that the pick leaves of the old one's. It has read
--- nothing, and will find what the device's image decodes to.
+-- nothing, and will find what the device's image decodes to. The turns behind the checkpoint found are forgotten.
 pub record IsCutOff {M : Type 0} (K : KindOf M) (o : Origin) (pick : ℕ) (w next : World M) : Type 0 where
   pub cut : IsCut pick w.device next.device
   pub powered : K.powered o.geometry next.machine
   pub dram : K.dram next.machine ≡ lost (K.dram w.machine) pick
-  pub at_moment : K.is_at o w.cycles next.machine next.device
+  pub kept : next.turns ≡ turns_kept o w.turns (K.decode o.geometry ceiling next.device.image)
+  pub at_moment : K.is_at (line o next) w.cycles next.machine next.device
   pub found : seen K o next ≡ view_of_image o.start.count (K.decode o.geometry ceiling next.device.image)
-  pub next_is : next ≡ cut_off w next.machine next.device
+  pub next_is : next ≡ cut_off w next.machine next.device next.turns
 
 -- the pick of a cut: the listed one, or 0 where none is listed
 abbrev pub tear : List ℕ → ℕ → ℕ
@@ -118,14 +152,14 @@ pub record Given : Type 0 where
   pub digest : Bool
   pub fitted : Device
 
--- power comes on for the first time, over a device that was fitted; with one hart no turn is told
+-- power comes on for the first time, over a device that was fitted; no turn is told yet
 pub record IsFirst {M : Type 0} (K : KindOf M) (o : Origin) (given : Given) (w : World M) : Type 0 where
-  pub untold : o.turns ≡ []
+  pub untold : w.turns ≡ []
   pub device : w.device ≡ given.fitted
   pub powered : K.powered o.geometry w.machine
-  pub at_moment : K.is_at o 0 w.machine w.device
+  pub at_moment : K.is_at (line o w) 0 w.machine w.device
   pub found : seen K o w ≡ first_view o
-  pub safe : Safe K.decode o (first_view o).done None w.device
+  pub safe : Safe K.decode (line o w) (first_view o).done None w.device
   pub left : w.device.left ≡ []
   pub picks : w.device.picks ≡ []
   pub empty : w.device.queue ≡ []

@@ -1,10 +1,11 @@
 //! The events of a step. Each is made in a function of its own, so that a cycle without one makes none.
 ghost use Rattle.std.specs.Prelude.{◌≡◌, ◌≢◌, ◌++◌, ◌∷◌, [], true, is_some, if◌then◌else◌, OnOk, OnErr, IfOk};
 ghost use Rattle.thy_view.specs.Origin.{Origin};
+ghost use Rattle.thy_view.specs.declared.view.View.{View};
 ghost use Rattle.thy_run.specs.World.{did_told};
 ghost use Rattle.thy_isa.specs.Step.{state_of};
-ghost use Rattle.thy_text.specs.Event.{Reload, Commit, EpochEnd, Ended};
-ghost use Rattle.thy_run.specs.Promises.{NotesRestart, NotesDid, NotesEnd, AnswersEnd, NotesAll, NotesSome};
+ghost use Rattle.thy_text.specs.Event.{Reload, Commit, Ended};
+ghost use Rattle.thy_run.specs.Promises.{NotesRestart, NotesSeal, NotesDid, NotesEnd, AnswersEnd, NotesAll, NotesSome};
 
 use std::alloc::AllocError;
 use thy_base::EndCause;
@@ -51,7 +52,7 @@ fn note_commit(
 
 /// Notes the end of an epoch.
 fn note_seal(events: &mut Events, epoch: u64, count: u64, cause: EndCause) -> Result<(), AllocError>
-    ensures ok { OnOk result (events.new ≡ events.old ++ EpochEnd epoch count cause [] ∷ []) }
+    ensures ok { NotesSeal epoch count cause events.old events.new result }
     ensures err { OnErr result (events.new ≡ events.old) }
 {
     events.push(Event::EpochEnd {
@@ -90,7 +91,7 @@ fn note_did(
 ) -> Result<(), AllocError>
     ensures ok { NotesDid did restored cycle events.old events.new result }
     ensures err { OnErr result (events.new ≡ events.old) }
-    ensures due { (o : Origin) → OnErr result (did_told o did cycle ≢ []) }
+    ensures due { (o : Origin) (v : View) → OnErr result (did_told o v did cycle ≢ []) }
 {
     match did {
         Did::Loaded => note_commit(events, 0, cycle, 0),

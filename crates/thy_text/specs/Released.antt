@@ -12,12 +12,16 @@ shows (Commit epoch cycle overlapped) = true
 shows (Restart epoch count state) = true
 shows event = false
 
--- the console at a mark
-abbrev pub console_of : (ℕ → List ℕ) → Option Mark → List ℕ
-console_of console_at None = []
-console_of console_at (Some m) = console_at m.count
+-- the console at a mark, to which these turns lead
+abbrev pub console_of : (ℕ → List ℕ → List ℕ) → Option Mark → List ℕ → List ℕ
+console_of console_at None turns = []
+console_of console_at (Some m) turns = console_at m.count turns
+
+-- that of the committed mark
+abbrev pub console_kept : (ℕ → List ℕ → List ℕ) → Marks → List ℕ
+console_kept console_at m = console_of console_at m.kept m.kept_turns
 
 -- the console of the committed state, once an event has told of one
-abbrev pub released : (ℕ → List ℕ) → ℕ → Marks → List Event → List ℕ
+abbrev pub released : (ℕ → List ℕ → List ℕ) → ℕ → Marks → List Event → List ℕ
 released console_at start m vs =
-    if list_any shows vs then console_of console_at (marks_from start m vs).kept else []
+    if list_any shows vs then console_kept console_at (marks_from start m vs) else []

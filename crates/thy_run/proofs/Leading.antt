@@ -1,0 +1,129 @@
+-- The turns that events tell of a checkpoint lead to its state, along the run's own turns.
+use Rattle.std.proofs.Common.{◌≡◌, ◌⊎◌, ℕ, ◌-◌, ◌≤◌, ◌==◌, ◌&&◌, Bool, true, false, if◌then◌else◌, Option, Some, None, List, [], ◌++◌, length, drop, refl, sym, ◌∙◌, ap, ap₂, subst, inl, inr, arith}
+use Rattle.std.proofs.lemmas.Bool.{and_parts, eq-eqb, eqb-true}
+use Rattle.std.proofs.lemmas.List.{length-append, length-drop, drop_all, nil_from_length}
+use Rattle.thy_base.specs.declared.mark.Mark.{Mark}
+use Rattle.thy_base.specs.Marks.{mark}
+use Rattle.thy_text.specs.Marks.{Marks, loading_marks, is_mark, turns_of, turns_told}
+use Rattle.thy_view.specs.declared.view.Phase.{Phase}
+use Rattle.thy_view.specs.declared.view.Phase.TheVariants.{Boot as BootPhase, Run, Halt}
+use Rattle.thy_view.specs.declared.view.View.{View}
+use Rattle.thy_view.specs.Origin.{Origin, at}
+use Rattle.thy_view.specs.Told.{told, AgreeBelow, reach}
+use Rattle.thy_view.proofs.TurnLaws.{AgreeBelow-same, turn_early, joined-agrees, at-agrees}
+use Rattle.thy_run.specs.World.{hart_count}
+use Rattle.thy_run.proofs.Fitting.{IsEither}
+
+-- turns lead to a count: they are as many as are told, and agree with the run's
+pub record LeadsTo (p : Origin) (turns : List ℕ) (count : ℕ) : Type 0 where
+  pub late : p.start.count ≤ count
+  pub many : length turns ≡ turns_told hart_count (count - p.start.count)
+  pub agree : AgreeBelow p turns count
+
+-- the run's own are as many as lead to where a view is
+abbrev pub AreTold : Origin → View → Type 0
+AreTold p v = length p.turns ≡ turns_told hart_count (reach v - p.start.count)
+
+-- those of the checkpoint that a boot found; behind the boot those of the sealed one
+abbrev pub LeadsIn : Origin → View → Marks → Phase → Type 0
+LeadsIn p v m BootPhase = (k : Mark) → v.done ≡ Some k → LeadsTo p (turns_of m k.epoch k.count) k.count
+LeadsIn p v m Run = (s : Mark) → m.sealed ≡ Some s → LeadsTo p m.sealed_turns s.count
+LeadsIn p v m Halt = (s : Mark) → m.sealed ≡ Some s → LeadsTo p m.sealed_turns s.count
+
+pub record Leads (p : Origin) (v : View) (m : Marks) : Type 0 where
+  pub kept : (k : Mark) → m.kept ≡ Some k → LeadsTo p m.kept_turns k.count
+  pub other : LeadsIn p v m v.phase
+
+-- ---- how many are told
+
+either_zero : (b : Bool) (n : ℕ) → n ≡ 0 → (if b then 0 else n) ≡ 0
+either_zero true n e = refl
+either_zero false n e = e
+
+pub told_zero : (harts n : ℕ) → n ≡ 0 → turns_told harts n ≡ 0
+told_zero harts n e = either_zero (harts == 1) n e
+
+-- of an epoch's end, those behind the committed checkpoint
+many_behind : (b : Bool) (own : List ℕ) (start i k : ℕ) → start ≤ i → i ≤ k → length own ≡ (if b then 0 else k - start)
+    → length (drop (i - start) own) ≡ (if b then 0 else k - i)
+many_behind true own start i k late le many = omega (arith, length-drop (i - start) own, many)
+many_behind false own start i k late le many = omega (arith, length-drop (i - start) own, many, late, le)
+
+pub length-behind : (harts : ℕ) (own : List ℕ) (start i k : ℕ) → start ≤ i → i ≤ k → length own ≡ turns_told harts (k - start)
+    → length (drop (i - start) own) ≡ turns_told harts (k - i)
+length-behind harts own start i k late le many = many_behind (harts == 1) own start i k late le many
+
+many_joined : (b : Bool) (turns own : List ℕ) (start i k : ℕ) → start ≤ i → i ≤ k → length turns ≡ (if b then 0 else i - start)
+    → length own ≡ (if b then 0 else k - start) → length (turns ++ drop (i - start) own) ≡ (if b then 0 else k - start)
+many_joined true turns own start i k late le many all =
+    omega (arith, length-append turns (drop (i - start) own), length-drop (i - start) own, many, all)
+many_joined false turns own start i k late le many all =
+    omega (arith, length-append turns (drop (i - start) own), length-drop (i - start) own, many, all, late, le)
+
+-- with one hart none is told at all
+joined_none : (p : Origin) (turns : List ℕ) (n k : ℕ) → length turns ≡ 0 → length p.turns ≡ 0 → AgreeBelow p (turns ++ drop n p.turns) k
+joined_none p turns n k none all =
+    let same : turns ++ drop n p.turns ≡ p.turns =
+    ap (λ (l : List ℕ). l ++ drop n p.turns) (nil_from_length turns none) ∙ drop_all n p.turns (omega (arith, all)) ∙ sym (nil_from_length p.turns all) in
+    subst (λ (l : List ℕ). AgreeBelow p l k) (sym same) (AgreeBelow-same p k)
+
+joined_by : (b : Bool) (p : Origin) (turns : List ℕ) (i k : ℕ) → length turns ≡ (if b then 0 else i - p.start.count)
+    → length p.turns ≡ (if b then 0 else k - p.start.count) → AgreeBelow p turns i → AgreeBelow p (turns ++ drop (i - p.start.count) p.turns) k
+joined_by true p turns i k many all agree = joined_none p turns (i - p.start.count) k many all
+joined_by false p turns i k many all agree = joined-agrees p turns i k many agree
+
+-- ---- what leads where
+
+-- none lead to the start
+pub start_leads : (p : Origin) → LeadsTo p [] p.start.count
+start_leads p = record {
+  late = omega arith;
+  many = sym (told_zero hart_count (p.start.count - p.start.count) (omega arith));
+  agree = λ j less. turn_early (told p []) j less ∙ sym (turn_early p j less);
+}
+
+-- to the same state
+pub state_there : (p : Origin) (turns : List ℕ) (count : ℕ) → LeadsTo p turns count → at (told p turns) count ≡ at p count
+state_there p turns count l = at-agrees p turns count l.agree
+
+-- also along other turns that agree so far
+pub leads_told : (p : Origin) (t turns : List ℕ) (count : ℕ) → AgreeBelow p t count → LeadsTo p turns count → LeadsTo (told p t) turns count
+leads_told p t turns count agree l = record { late = l.late; many = l.many; agree = λ j less. l.agree j less ∙ sym (agree j less) }
+
+-- and with the run's own behind them, to where these lead
+pub leads_joined : (p : Origin) (turns : List ℕ) (i k : ℕ) → i ≤ k → length p.turns ≡ turns_told hart_count (k - p.start.count) → LeadsTo p turns i
+    → LeadsTo p (turns ++ drop (i - p.start.count) p.turns) k
+leads_joined p turns i k le all l = record {
+  late = let late = l.late in omega (arith, late, le);
+  many = many_joined (hart_count == 1) turns p.turns p.start.count i k l.late le l.many all;
+  agree = joined_by (hart_count == 1) p turns i k l.many all l.agree;
+}
+
+-- ---- the turns of one of two marks
+
+same_mark : (epoch count : ℕ) → (epoch == epoch && count == count) ≡ true
+same_mark epoch count = ap (λ b. b && count == count) (eq-eqb epoch epoch refl) ∙ eq-eqb count count refl
+
+pub turns_of-sealed : (m : Marks) (epoch count : ℕ) → m.sealed ≡ Some (mark epoch count) → turns_of m epoch count ≡ m.sealed_turns
+turns_of-sealed m epoch count sealed =
+    ap (λ b. if b then m.sealed_turns else m.kept_turns) (ap (λ (s : Option Mark). is_mark s epoch count) sealed ∙ same_mark epoch count)
+
+pub turns_of-kept : (m : Marks) (epoch count : ℕ) → m.sealed ≡ None → turns_of m epoch count ≡ m.kept_turns
+turns_of-kept m epoch count none = ap (λ (s : Option Mark). if is_mark s epoch count then m.sealed_turns else m.kept_turns) none
+
+is_mark-true : (s : Option Mark) (epoch count : ℕ) → is_mark s epoch count ≡ true → s ≡ Some (mark epoch count)
+is_mark-true None epoch count is = absurd (cc)
+is_mark-true (Some k) epoch count is =
+    let both = and_parts (k.epoch == epoch) (k.count == count) is in
+    ap₂ (λ (e c : ℕ). Some (mark e c)) (eqb-true k.epoch epoch both.0) (eqb-true k.count count both.1)
+
+-- where those of both lead to their counts, so do those of either
+pub either_leads : (p : Origin) (m : Marks) → ((k : Mark) → m.kept ≡ Some k → LeadsTo p m.kept_turns k.count)
+    → ((s : Mark) → m.sealed ≡ Some s → LeadsTo p m.sealed_turns s.count) → (k : Mark) → IsEither m.kept m.sealed k
+    → LeadsTo p (turns_of m k.epoch k.count) k.count
+either_leads p m kept sealed k (inr is) = subst (λ (l : List ℕ). LeadsTo p l k.count) (sym (turns_of-sealed m k.epoch k.count is)) (sealed k is)
+either_leads p m kept sealed k (inl is) = by_test (is_mark m.sealed k.epoch k.count) refl
+  where
+    by_test : (b : Bool) → is_mark m.sealed k.epoch k.count ≡ b → LeadsTo p (if b then m.sealed_turns else m.kept_turns) k.count
+    by_test true found = sealed k (is_mark-true m.sealed k.epoch k.count found)
+    by_test false other = kept k is
