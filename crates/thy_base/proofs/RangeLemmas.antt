@@ -103,7 +103,8 @@ pub IsInRange-rows : (c : Config) → AreIn (rows_of c) → IsInRange (parameter
 IsInRange-rows c h =
     let numbers = AreIn-parts (number_rows (parameters_of c)) (cut_rows c ++ end_rows c) h in
     let lists = AreIn-parts (cut_rows c) (end_rows c) numbers.1 in
-    AreIn-whole (number_rows (parameters_of c)) (limit_row (parameters_of c) ∷ harts_row (parameters_of c) ∷ []) numbers.0 lists.1.1
+    AreIn-whole (number_rows (parameters_of c)) (limit_row (parameters_of c) ∷ harts_row (parameters_of c) ∷ []) numbers.0
+    (lists.1.1.0, (lists.1.1.1.0, tt))
 
 -- and its cuts rise
 pub IsRising-rows : (c : Config) → AreIn (rows_of c) → IsRising 0 c.cuts

@@ -4,7 +4,7 @@ use Rattle.std.specs.Prelude.{ℕ, ◌+◌, ◌*◌, List, [], ◌∷◌, ◌++�
 use Rattle.thy_base.specs.declared.config.Config.{Config}
 use Rattle.thy_base.specs.declared.config.ConfigError.{ConfigError}
 use Rattle.thy_base.specs.declared.config.Parameters.{Parameters}
-use Rattle.thy_base.specs.declared.config.Field.TheVariants.{Cuts, Tears}
+use Rattle.thy_base.specs.declared.config.Field.TheVariants.{Cuts, Tears, Gap}
 use Rattle.thy_base.specs.Demands.{first_fault}
 use Rattle.thy_base.specs.Geometry.{parameters_of, number_rows, limit_row, harts_row}
 use Rattle.thy_base.specs.Ranges.{Row, row, AreIn, above, at_most, demand_of}
@@ -25,12 +25,17 @@ cut_rows c =
     ∷ rising_rows 0 c.cuts
     ++ row Cuts (c.pages * (length c.cuts + 1)) (at_most 65536) ∷ []
 
--- at most one pick more than cuts, a limit, and the harts
+-- every so many writes to the NVM a line of it moves; 0 is never
+abbrev pub gap_row : Config → Row
+gap_row c = row Gap c.gap (at_most 1000000)
+
+-- at most one pick more than cuts, a limit, the harts, and the gap
 abbrev pub end_rows : Config → List Row
 end_rows c =
     row Tears (length c.tears) (at_most (length c.cuts + 1))
     ∷ limit_row (parameters_of c)
     ∷ harts_row (parameters_of c)
+    ∷ gap_row c
     ∷ []
 
 -- all fields, in the order in which they are tested

@@ -6,7 +6,7 @@ use Rattle.thy_base.specs.declared.config.Parameters.{Parameters}
 use Rattle.thy_base.specs.declared.config.Field.TheVariants.{Base, Pages, Console, Epoch, Btt, Ptt, Sets, Ways, Nvmq, Dramq, High, Low, Limit, Harts}
 use Rattle.thy_base.specs.Ranges.{Row, row, AreIn, below, at_most, between, multiple_of, divisor_of, both}
 
--- a configuration without its lists
+-- a configuration without its lists, and without the gap, which is no number of the machine
 abbrev pub parameters_of : Config → Parameters
 parameters_of c = record {
   base = c.base;

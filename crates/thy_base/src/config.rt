@@ -42,6 +42,8 @@ pub struct Config {
     pub scheme: SchemeName,
     /// The harts: 1.
     pub harts: u64,
+    /// After how many writes of the NVM a barrier moves a line of it: at most 1,000,000. 0 is never.
+    pub gap: u64,
 }
 
 /// The name of a scheme of checkpoints. With the sizes it decides what an image of the NVM means.
@@ -71,6 +73,7 @@ pub enum Field {
     Tears,
     Limit,
     Harts,
+    Gap,
     N,
 }
 
@@ -81,8 +84,8 @@ pub struct ConfigError {
     pub value: u64,
 }
 
-/// The numbers of a configuration, without the lists of cuts and tears. Units and ranges are those
-/// of `Config`.
+/// The numbers of a configuration that the machine is made by: all but the lists of cuts and tears, and `gap`. Units and
+/// ranges are those of `Config`.
 #[derive(Clone, Copy, Debug, PartialEq, Eq)]
 pub struct Parameters {
     pub base: u64,

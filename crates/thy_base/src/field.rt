@@ -27,6 +27,7 @@ impl Field {
             Field::Tears => "tears",
             Field::Limit => "limit",
             Field::Harts => "harts",
+            Field::Gap => "gap",
             Field::N => "n",
         }
     }

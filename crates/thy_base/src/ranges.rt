@@ -6,7 +6,7 @@ ghost use Rattle.thy_base.specs.Ranges.{row, is_in, between, at_most};
 
 use crate::{Config, ConfigError, Field, Parameters};
 
-/// The numbers of a configuration, without its lists.
+/// The numbers of a configuration, without its lists and the gap.
 pub(crate) fn parameters(c: &Config) -> Parameters
     ensures { result ≡ parameters_of c.now }
 {
@@ -159,7 +159,8 @@ fn end(c: &Config) -> Option<ConfigError>
 {
     let count = c.tears.len();
     let limit = is_within(1, 1_000_000_000_000, c.limit);
-    let harts = or_else(c.harts == 1, Field::Harts, c.harts, None);
+    let gap = or_else(c.gap <= 1_000_000, Field::Gap, c.gap, None);
+    let harts = or_else(c.harts == 1, Field::Harts, c.harts, gap);
     let rest = or_else(limit, Field::Limit, c.limit, harts);
     or_else(
         count.saturating_sub(1) <= c.cuts.len(),

@@ -41,7 +41,8 @@ use Rattle.thy_run.specs.declared.ending.Stop.TheVariants.{Ended, Nvm, Memory, T
 use Rattle.thy_cli.specs.declared.answer.Answer.{Answer}
 use Rattle.thy_cli.specs.declared.refusal.Refusal.{Refusal}
 use Rattle.thy_cli.specs.declared.refusal.Refusal.TheVariants.{Words, Fetch, File, Image, Input, Device as DeviceRefusal, Memory as MemoryRefusal}
-use Rattle.thy_cli.specs.Answering.{Outside, WordsDue, RunDue, given_for, ClosesRun, IsRunOf, IsPlainOf, MakeAnswered, made_told, plain_stop, end_lines, stop_line, stop_status, run_line, run_status, summary_for, RunAnswered, PlainAnswered, OrderAnswered, Answered}
+use Rattle.thy_cli.specs.Answering.{Outside, WordsDue, RunDue, given_for, ClosesRun, IsRunOf, with_device, IsPlainOf, MakeAnswered, made_told, plain_stop, end_lines, stop_line, stop_status, run_line, run_status, summary_for, RunAnswered, PlainAnswered, OrderAnswered, Answered}
+use Rattle.thy_cli.specs.Levelling.{IsFoundAs, IsLeftAs}
 use Rattle.thy_cli.specs.Machines.{Choice}
 use Rattle.thy_cli.specs.Completing.{IsAsked, Stayed, IsCalm, left_alone, run_of, TellsEnd, RunCompletes, PlainCompletes, MakeCompletes, Claim}
 use Rattle.thy_cli.specs.Planning.{refused_status}
@@ -371,10 +372,24 @@ module _ (name : List ℕ) (job : Job) (k : ℕ) (before after : Outside) (a : A
 abbrev stands_of : {order : Order} {source : Source} {job : Job} {words : List (List ℕ)} {stock : Stock} → IsAsked order source job words stock → Stands source job stock
 stands_of i = record { files = i.files; tells = i.tells; program = i.program }
 
+-- where nothing failed, nothing did on the device that the run saw
+calm_seen : (gap : ℕ) (before after : Outside) (found left : Device) → IsFoundAs gap before.device found → IsLeftAs gap after.device left → IsCalm before after → IsCalm (with_device found before) (with_device left after)
+calm_seen gap before after found left is_found is_left faults = record {
+  shelf = faults.shelf;
+  device = record {
+    same = is_left.faults ∙ faults.device.same ∙ sym is_found.faults;
+    counts = omega (arith, is_found.faults, faults.device.counts);
+  };
+  terminal = faults.terminal;
+  report = faults.report;
+}
+
 run_completes : {M : Type 0} (K : KindOf M) (words : List (List ℕ)) (before after : Outside) (a : Answer) (source : Source) (job : Job) (i : IsAsked (run_of source job) source job words before.shelf) (k : ℕ) → IsCalm before after
     → is_running (left_alone i.program k).status ≡ false → cycles_for K (parameters_of job.config) job.config.cuts k ≤ job.config.limit → RunAnswered K source job before after a → TellsEnd (left_alone i.program k) a
 run_completes K words before after a source job i k faults over limit (inl (r, due, refused)) = inr (refused.status ∙ run_due source job before after r (stands_of i) faults due)
-run_completes K words before after a source job i k faults over limit (inr ran) = by_save K source job k before after a (stands_of i) faults over limit ran ran.run.why refl
+run_completes K words before after a source job i k faults over limit (inr ran) =
+    by_save K source job k (with_device ran.found before) (with_device ran.left after) a (stands_of i)
+    (calm_seen job.config.gap before after ran.found ran.left ran.is_found ran.is_left faults) over limit ran.seen ran.seen.run.why refl
 
 -- the answer to the order of a run is that of its source
 order_answered : (c : Choice) (before after : Outside) (a : Answer) (source : Source) (job : Job) → OrderAnswered c (run_of source job) before after a → RunAnswered (c job.config.scheme).kind source job before after a

@@ -46,7 +46,7 @@ use Rattle.thy_run.specs.declared.plan.Plan.{Plan}
 use Rattle.thy_cli.specs.declared.refusal.Refusal.{Refusal}
 use Rattle.thy_cli.specs.declared.refusal.Refusal.TheVariants.{Device as DeviceRefusal}
 use Rattle.thy_cli.specs.Answering.{Outside, outside, RunAnswered, WordsDue, RunDue, given_for, shape_for, IsRunFrom, IsRunOf, IsSafeFor, ClosesRun, run_line, run_status, summary_for}
-use Rattle.thy_cli.specs.Planning.{Begins, begun_with, CanRun, Fits, FitsKept, HasRoom, IsElf, IsHadFor, IsPlanOf, IsProgramOf}
+use Rattle.thy_cli.specs.Planning.{Begins, begun_with, CanRun, Fits, FitsKept, HasRoom, IsElf, IsHadFor, IsPlanOf, IsProgramOf, shape_of}
 use Rattle.thy_cli.specs.Restoring.{IsRestored, ReadsFiles}
 use Rattle.thy_cli.specs.Saving.{SavesUnder, save_pick, saves}
 use Rattle.thy_cli.specs.Sources.{Source, file, made, image, Beginning, begun, from_entry, restored, IsInput, meaning_of, origin_for, ProgramDue}
@@ -141,20 +141,20 @@ given_at c digest d = record { config = c; digest = digest; fitted = d }
 planned_numbers : (source : Source) (job : Job) (stock : Stock) (plan : Plan) (blocks : List Block) → IsPlanOf source job stock plan blocks → plan.geometry ≡ parameters_of job.config
 planned_numbers source job stock plan blocks p = ap (λ (o : Origin). o.geometry) p.origin
 
+-- the device of the plan's machine is that of the job's
+pub shape_planned : {M : Type 0} (K : KindOf M) (source : Source) (job : Job) (stock : Stock) (plan : Plan) (blocks : List Block) → IsPlanOf source job stock plan blocks → shape_of K plan ≡ shape_for K job.config
+shape_planned K source job stock plan blocks p =
+    let numbers : plan.geometry ≡ parameters_of job.config = planned_numbers source job stock plan blocks p in
+    ap (λ (x : Parameters). shape_at (K.blocks x) x.nvmq (length plan.config.cuts)) numbers
+    ∙ ap (λ (c : Config). shape_at (K.blocks (parameters_of job.config)) job.config.nvmq (length c.cuts)) p.config
+
 -- a run of the plan is given what the job's run is
-planned_given : {M : Type 0} (K : KindOf M) (source : Source) (job : Job) (stock : Stock) (plan : Plan) (blocks : List Block) (shape : Shape) (d n : Device) → (p : IsPlanOf source job stock plan blocks) → d ≡ fitted shape blocks n
-    → shape.blocks ≡ K.blocks plan.geometry → shape.queue ≡ plan.geometry.nvmq → shape.cuts ≡ length plan.config.cuts → given_of plan d ≡ given_for K job p.program.begins n
-planned_given K source job stock plan blocks shape d n p fit many queue cuts =
+planned_given : {M : Type 0} (K : KindOf M) (source : Source) (job : Job) (stock : Stock) (plan : Plan) (blocks : List Block) (d n : Device) → (p : IsPlanOf source job stock plan blocks)
+    → d ≡ fitted (shape_for K job.config) blocks n → given_of plan d ≡ given_for K job p.program.begins n
+planned_given K source job stock plan blocks d n p fit =
     let config : plan.config ≡ job.config = p.config in
     let digest : plan.digest ≡ job.digest = p.digest in
-    let numbers : plan.geometry ≡ parameters_of job.config = planned_numbers source job stock plan blocks p in
-    let as_many : shape.blocks ≡ K.blocks (parameters_of job.config) = many ∙ ap K.blocks numbers in
-    let long : shape.queue ≡ job.config.nvmq = queue ∙ ap (λ (x : Parameters). x.nvmq) numbers in
-    let room : shape.cuts ≡ length job.config.cuts = cuts ∙ ap (λ (c : Config). length c.cuts) config in
-    let same : shape ≡ shape_for K job.config =
-    ap (λ b. shape_at b shape.queue shape.cuts) as_many ∙ ap (λ q. shape_at (K.blocks (parameters_of job.config)) q shape.cuts) long
-    ∙ ap (shape_at (K.blocks (parameters_of job.config)) job.config.nvmq) room in
-    let device : d ≡ fitted (shape_for K job.config) p.program.begins.blocks n = fit ∙ ap (λ s. fitted s blocks n) same ∙ ap (λ bs. fitted (shape_for K job.config) bs n) p.over in
+    let device : d ≡ fitted (shape_for K job.config) p.program.begins.blocks n = fit ∙ ap (λ bs. fitted (shape_for K job.config) bs n) p.over in
     ap (λ (c : Config). given_at c plan.digest d) config ∙ ap (λ b. given_at job.config b d) digest ∙ ap (given_at job.config job.digest) device
 
 -- what a run of a plan keeps
@@ -172,17 +172,17 @@ safe_saved K o events None true c n m old new why h safe = subst (IsSafeFor K o 
 safe_saved K o events None false c n m old new why h safe = subst (IsSafeFor K o events) (sym h.0) safe
 
 -- a run that was begun keeps its promise
-pub IsRunOf-ran : {M : Type 0} (K : KindOf M) (laws : IsLawful K) → (source : Source) (job : Job) (save : Option (List ℕ)) (before after : Outside) (plan : Plan) (blocks : List Block) (d stood : Device) (shape : Shape) (e : Ending) (a : Answer) (told : Stream) (why : Option PutError)
-    → CanRun plan blocks → (p : IsPlanOf source job before.shelf plan blocks) → job.save ≡ save
-    → d ≡ fitted shape blocks before.device → shape.blocks ≡ K.blocks plan.geometry → shape.queue ≡ plan.geometry.nvmq → shape.cuts ≡ length plan.config.cuts
+pub IsRunOf-ran : {M : Type 0} (K : KindOf M) (laws : IsLawful K) → (source : Source) (job : Job) (save : Option (List ℕ)) (before after : Outside) (plan : Plan) (blocks : List Block) (d stood : Device) (e : Ending) (a : Answer) (told : Stream) (why : Option PutError)
+    → IsPlanned plan → (p : IsPlanOf source job before.shelf plan blocks) → job.save ≡ save
+    → d ≡ fitted (shape_for K job.config) blocks before.device
     → RunEnds K plan d stood e before.terminal after.terminal before.report told
     → SavesUnder save (saves e.stop) plan.config stood after.device before.shelf after.shelf why
     → ClosesRun e.report_failed (summary_for source e.stop e.events ++ run_line plan.geometry.limit save e.stop why) told after.report
     → a.events ≡ e.events → a.cycles ≡ e.cycles → a.status ≡ run_status e.stop why → IsRunOf K source job before after a
-IsRunOf-ran K laws source job save before after plan blocks d stood shape e a told why can p names fit many queue cuts ends saved closes events cycles status =
+IsRunOf-ran K laws source job save before after plan blocks d stood e a told why planned p names fit ends saved closes events cycles status =
     let o : Origin = origin_for job p.program.begins p.program.input in
     let given : Given = given_for K job p.program.begins before.device in
-    let promise = planned_promise K laws plan d stood e before.terminal after.terminal before.report told can.planned ends in
+    let promise = planned_promise K laws plan d stood e before.terminal after.terminal before.report told planned ends in
     let put : SavesUnder job.save (saves e.stop) job.config stood after.device before.shelf after.shelf why =
     subst (λ c. SavesUnder job.save (saves e.stop) c stood after.device before.shelf after.shelf why) p.config
     (subst (λ n. SavesUnder n (saves e.stop) plan.config stood after.device before.shelf after.shelf why) (sym names) saved) in
@@ -209,7 +209,7 @@ IsRunOf-ran K laws source job save before after plan blocks d stood shape e a to
     record {
       program = p.program;
       run =
-          subst (λ x. IsRunFrom K o x source job before after a) (planned_given K source job before.shelf plan blocks shape d before.device p fit many queue cuts)
+          subst (λ x. IsRunFrom K o x source job before after a) (planned_given K source job before.shelf plan blocks d before.device p fit)
           (subst (λ x. IsRunFrom K x (given_of plan d) source job before after a) p.origin run);
     }
 

@@ -39,6 +39,7 @@ use Rattle.thy_run.specs.World.{Given}
 use Rattle.thy_cli.specs.declared.answer.Answer.{Answer}
 use Rattle.thy_cli.specs.declared.refusal.Refusal.{Refusal}
 use Rattle.thy_cli.specs.declared.refusal.Refusal.TheVariants.{Words, Fetch, File, Image, Input, Device as DeviceRefusal, Memory as MemoryRefusal}
+use Rattle.thy_cli.specs.Levelling.{IsFoundAs, IsLeftAs, IsHandedBack, PutsThrough, images_of_save}
 use Rattle.thy_cli.specs.Machines.{Choice}
 use Rattle.thy_cli.specs.Saving.{IsPut, SavesUnder, saves}
 use Rattle.thy_cli.specs.Sources.{Source, file, made, image, Beginning, IsProgram, origin_for, ProgramDue}
@@ -53,6 +54,10 @@ pub record Outside : Type 0 where
 abbrev pub outside : Stock → Device → Stream → Stream → Outside
 outside shelf device terminal report =
     record { shelf = shelf; device = device; terminal = terminal; report = report }
+
+-- the same with another device
+abbrev pub with_device : Device → Outside → Outside
+with_device n o = record o { device = n }
 
 -- ---- refusals: what is due when
 
@@ -196,6 +201,18 @@ pub record IsRunOf {M : Type 0} (K : KindOf M) (source : Source) (job : Job) (be
   pub run : IsRunFrom K (origin_for job program.begins program.input) (given_for K job program.begins before.device)
       source job before after a
 
+-- The same over the device that the run sees, which with a gap is not the one that was handed in. Of this one its images are
+-- told by themselves.
+pub record IsRunOver {M : Type 0} (K : KindOf M) (source : Source) (job : Job) (before after : Outside) (a : Answer) : Type 0 where
+  pub found : Device
+  pub left : Device
+  pub is_found : IsFoundAs job.config.gap before.device found
+  pub is_left : IsLeftAs job.config.gap after.device left
+  pub seen : IsRunOf K source job (with_device found before) (with_device left after) a
+  pub back : IsHandedBack K (origin_for job seen.program.begins seen.program.input) job.config.gap a.cycles a.events
+      (images_of_save job.save (saves seen.run.ending.stop)) after.device
+  pub put : PutsThrough job.config.gap job.save (saves seen.run.ending.stop) after.device before.shelf after.shelf seen.run.why
+
 -- ---- the plain machine
 
 -- why the plain machine stopped: for a sink that failed, else by its status
@@ -257,7 +274,7 @@ pub record MakeAnswered (n : ℕ) (name : List ℕ) (before after : Outside) (a 
 abbrev pub RunAnswered : {M : Type 0} → KindOf M → Source → Job → Outside → Outside → Answer → Type 0
 RunAnswered K source job before after a =
     ((r : Refusal) × RunDue source job before after r × IsRefused r before after a)
-    ⊎ IsRunOf K source job before after a
+    ⊎ IsRunOver K source job before after a
 
 -- what it is on the plain machine, which leaves the device alone
 abbrev pub PlainAnswered : List ℕ → Job → Outside → Outside → Answer → Type 0

@@ -1,5 +1,6 @@
 pub mod Sources
 pub mod Saving
+pub mod Levelling
 pub mod Restoring
 pub mod Answering
 pub mod Completing

@@ -4,8 +4,9 @@ use Rattle.thy_base.specs.declared.block.Block.{Block}
 use Rattle.thy_base.specs.declared.config.Config.{Config}
 use Rattle.thy_base.specs.declared.config.Parameters.{Parameters}
 use Rattle.thy_base.specs.declared.mark.Mark.{Mark}
+use Rattle.thy_base.specs.declared.nvm.Shape.{Shape}
 use Rattle.thy_base.specs.Bytes.{bytes_of}
-use Rattle.thy_base.specs.Device.{Device}
+use Rattle.thy_base.specs.Device.{Device, fitted}
 use Rattle.thy_base.specs.Geometry.{IsInRange, parameters_of, program_size}
 use Rattle.thy_base.specs.Outside.{Stock}
 use Rattle.thy_base.specs.Places.{image_blocks}
@@ -31,7 +32,7 @@ use Rattle.thy_cli.specs.declared.source.Had.{Had}
 use Rattle.thy_cli.specs.declared.source.Program.{Program}
 use Rattle.thy_cli.specs.declared.source.Source.{Source as SourceValue}
 use Rattle.thy_cli.specs.declared.source.Source.TheVariants as value
-use Rattle.thy_cli.specs.Answering.{Outside, told_of, RunAnswered}
+use Rattle.thy_cli.specs.Answering.{Outside, told_of, with_device, shape_for, IsRunOf, RunAnswered}
 use Rattle.thy_cli.specs.Sources.{Source, file, made, image, Beginning, from_entry, FetchDue, IsHad, IsProgram, origin_for, ProgramDue}
 
 -- the exit status of a refusal, and its line
@@ -153,6 +154,21 @@ pub record IsPlanOf (source : Source) (job : Job) (stock : Stock) (p : Plan) (bl
   pub program : IsProgram source job stock
   pub origin : origin_of p ≡ origin_for job program.begins program.input
   pub over : blocks ≡ program.begins.blocks
+
+-- the device that a plan's machine is fitted with
+abbrev pub shape_of : {M : Type 0} → KindOf M → Plan → Shape
+shape_of K p = record { blocks = K.blocks p.geometry; queue = p.geometry.nvmq; cuts = length p.config.cuts }
+
+-- a device has as many blocks as before, and is reached by the same loans
+pub record HasStayed (old new : Device) : Type 0 where
+  pub blocks : length new.image ≡ length old.image
+  pub lent : new.lent ≡ old.lent
+
+-- what a run of a plan, over a device that was fitted, is to a job that it is the plan of, whatever device was fitted
+abbrev pub RunsFitted : {M : Type 0} → KindOf M → Source → Option (List ℕ) → Plan → Outside → Outside → Answer → Type 0
+RunsFitted K source save p before after a =
+    (job : Job) (blocks : List Block) (found : Device) → job.save ≡ save → IsPlanOf source job before.shelf p blocks
+    → before.device ≡ fitted (shape_for K job.config) blocks found → IsRunOf K source job (with_device found before) after a
 
 -- what a run of a plan is to a job that it is the plan of
 abbrev pub RunsPlan : {M : Type 0} → KindOf M → Source → Option (List ℕ) → Plan → List Block → Outside → Outside

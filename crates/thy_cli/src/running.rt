@@ -1,5 +1,5 @@
 //! A run on the machine.
-ghost use Rattle.std.specs.Prelude.{◌≡◌, None, IfOk, IfErr, OnOk, option_map};
+ghost use Rattle.std.specs.Prelude.{◌≡◌, ◌<◌, None, IfOk, IfErr, OnOk, option_map};
 ghost use Rattle.thy_base.specs.Config.{fault_of as range_fault};
 ghost use Rattle.thy_base.specs.Geometry.{IsInRange, parameters_of};
 ghost use Rattle.thy_base.specs.Outside.{HasNotFailed};
@@ -9,8 +9,10 @@ ghost use Rattle.thy_cli.specs.Answering.{outside, RunAnswered};
 ghost use Rattle.thy_cli.specs.Machines.{by_scheme};
 ghost use Rattle.thy_cli.specs.Sources.{ProgramDue};
 ghost use Rattle.thy_cli.specs.Saving.{SavesUnder, saves};
-ghost use Rattle.thy_cli.specs.Planning.{Begins, CanRun, HasRoom, IsPlannedFor, RunsPlan, named};
+ghost use Rattle.thy_cli.specs.Planning.{Begins, CanRun, HasRoom, HasStayed, IsPlannedFor, RunsFitted, RunsPlan, named, shape_of};
 ghost use Rattle.thy_cli.specs.Restoring.{ReadsFiles};
+ghost use Rattle.thy_run.specs.Going.{IsPlanned};
+ghost use Rattle.thy_run.specs.Rounds.{IsFitted};
 
 use crate::answer::Answer;
 use crate::beginning::begin;
@@ -21,6 +23,7 @@ use crate::saving::{cuts_in, is_saved, save, save_pick};
 use crate::source::{Source, fetch_both};
 use std::alloc::Global;
 use thy_base::{Block, Geometry, Nvm, PutError, SchemeName, Shape, Shelf, Sink};
+use thy_gap::Gap;
 use thy_run::{Ending, Plan, run};
 use thy_view::Computer;
 use thy_words::{Job, WordsError};
@@ -80,6 +83,114 @@ fn save_run<H: Shelf, N: Nvm>(
     }
 }
 
+/// The device that a plan's machine is fitted with.
+fn shape_of<M: Computer>(plan: &Plan) -> Shape
+    ensures shape { result ≡ shape_of M.kind plan.now }
+    ensures queue { 0 < result.queue }
+{
+    Shape {
+        blocks: M::nvm_blocks(&plan.geometry),
+        queue: plan.geometry.numbers().nvmq,
+        cuts: plan.config.cuts.len() as u64,
+    }
+}
+
+/// Runs a plan over a device that was fitted for it, and saves the run.
+fn run_fitted<M: Computer, H: Shelf, T: Sink, R: Sink, N: Nvm>(
+    alloc: Global,
+    source: Source,
+    save: Option<&str>,
+    plan: &Plan,
+    shelf: &mut H,
+    terminal: &mut T,
+    report: &mut R,
+    nvm: &mut N,
+) -> Answer
+    requires planned { IsPlanned plan.now }
+    requires fitted { IsFitted M.kind plan.now (N.device nvm.old) }
+    ensures runs { let before = outside (H.stock shelf.old) (N.device nvm.old)
+        (T.stream terminal.old) (R.stream report.old) in
+        let after = outside (H.stock shelf.new) (N.device nvm.new)
+        (T.stream terminal.new) (R.stream report.new) in
+        RunsFitted M.kind (named source.entry) (option_map (λ n. n.now) save.entry) plan.now before after result }
+    ensures stays { HasStayed (N.device nvm.old) (N.device nvm.new) }
+{
+    let ending = run::<M, T, R, N>(alloc, plan, terminal, report, nvm);
+    let blocks = M::nvm_blocks(&plan.geometry);
+    let why = save_run(alloc, save, plan, blocks, &ending, shelf, nvm);
+    let limit = plan.geometry.numbers().limit;
+    answer(source, save, ending, why, limit, report)
+}
+
+/// Runs a plan without levelling over a device that is made for it, with these first blocks, and saves the run.
+fn run_direct<M: Computer, H: Shelf, T: Sink, R: Sink, N: Nvm>(
+    alloc: Global,
+    source: Source,
+    save: Option<&str>,
+    plan: &Plan,
+    blocks: &[Block],
+    shelf: &mut H,
+    terminal: &mut T,
+    report: &mut R,
+    nvm: &mut N,
+) -> Answer
+    requires direct { plan.now.config.gap ≡ 0 }
+    requires can { CanRun plan.now blocks.now }
+    requires reads { ReadsFiles M.kind plan.now.geometry }
+    ensures { let before = outside (H.stock shelf.old) (N.device nvm.old)
+        (T.stream terminal.old) (R.stream report.old) in
+        let after = outside (H.stock shelf.new) (N.device nvm.new)
+        (T.stream terminal.new) (R.stream report.new) in
+        RunsPlan M.kind (named source.entry) (option_map (λ n. n.now) save.entry) plan.now blocks.now before after result }
+{
+    let shape = shape_of::<M>(plan);
+    match nvm.fit(alloc, &shape, blocks) {
+        Ok(()) => run_fitted::<M, H, T, R, N>(
+            alloc, source, save, plan, shelf, terminal, report, nvm,
+        ),
+        Err(error) => refuse(alloc, Refusal::Device(error), report),
+    }
+}
+
+/// Runs a plan over lines that wander over a device. They are made for it, with these first blocks. Saves the run.
+fn run_levelled<M: Computer, H: Shelf, T: Sink, R: Sink, N: Nvm>(
+    alloc: Global,
+    source: Source,
+    save: Option<&str>,
+    plan: &Plan,
+    blocks: &[Block],
+    shelf: &mut H,
+    terminal: &mut T,
+    report: &mut R,
+    nvm: &mut N,
+) -> Answer
+    requires levelled { 0 < plan.now.config.gap }
+    requires can { CanRun plan.now blocks.now }
+    requires reads { ReadsFiles M.kind plan.now.geometry }
+    ensures { let before = outside (H.stock shelf.old) (N.device nvm.old)
+        (T.stream terminal.old) (R.stream report.old) in
+        let after = outside (H.stock shelf.new) (N.device nvm.new)
+        (T.stream terminal.new) (R.stream report.new) in
+        RunsPlan M.kind (named source.entry) (option_map (λ n. n.now) save.entry) plan.now blocks.now before after result }
+{
+    let shape = shape_of::<M>(plan);
+    let mut lines = Gap::over(nvm, plan.config.gap);
+    match lines.fit(alloc, &shape, blocks) {
+        Ok(()) => {
+            let answer = run_fitted::<M, H, T, R, Gap<&mut N>>(
+                alloc, source, save, plan, shelf, terminal, report, &mut lines,
+            );
+            lines.means_what_is_seen();
+            let _loan = lines.into_inner();
+            answer
+        }
+        Err(error) => {
+            let _loan = lines.into_inner();
+            refuse(alloc, Refusal::Device(error), report)
+        }
+    }
+}
+
 /// Runs a plan over a device that is made for it, with these first blocks, and saves the run.
 fn run_plan<M: Computer, H: Shelf, T: Sink, R: Sink, N: Nvm>(
     alloc: Global,
@@ -100,19 +211,14 @@ fn run_plan<M: Computer, H: Shelf, T: Sink, R: Sink, N: Nvm>(
         (T.stream terminal.new) (R.stream report.new) in
         RunsPlan M.kind (named source.entry) (option_map (λ n. n.now) save.entry) plan.now blocks.now before after result }
 {
-    let shape = Shape {
-        blocks: M::nvm_blocks(&plan.geometry),
-        queue: plan.geometry.numbers().nvmq,
-        cuts: plan.config.cuts.len() as u64,
-    };
-    match nvm.fit(alloc, &shape, blocks) {
-        Ok(()) => {
-            let ending = run::<M, T, R, N>(alloc, plan, terminal, report, nvm);
-            let why = save_run(alloc, save, plan, shape.blocks, &ending, shelf, nvm);
-            let limit = plan.geometry.numbers().limit;
-            answer(source, save, ending, why, limit, report)
-        }
-        Err(error) => refuse(alloc, Refusal::Device(error), report),
+    if plan.config.gap == 0 {
+        run_direct::<M, H, T, R, N>(
+            alloc, source, save, plan, blocks, shelf, terminal, report, nvm,
+        )
+    } else {
+        run_levelled::<M, H, T, R, N>(
+            alloc, source, save, plan, blocks, shelf, terminal, report, nvm,
+        )
     }
 }
 

@@ -1,3 +1,4 @@
+-- Part of the claim.
 -- Where the lines of a levelled device lie in the inner one, after Start-Gap.
 use Rattle.std.specs.Prelude.{ℕ, zero, suc, ◌+◌, ◌-◌, ◌<◌, ◌≤◌, ◌^◌, ◌==◌, ◌||◌, nat_lt, if◌then◌else◌, List, [], ◌∷◌, Option, Some, None, codes, length}
 use Rattle.byteorder.specs.Endian.{little_number}

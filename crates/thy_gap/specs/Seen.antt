@@ -1,3 +1,4 @@
+-- Part of the claim.
 -- What is seen of an inner device through registers.
 use Rattle.std.specs.Prelude.{ℕ, ◌==◌, if◌then◌else◌, List, [], ◌∷◌, ◌++◌, map, Option, Some, None}
 use Rattle.std.specs.List.{range_with_len}

@@ -115,6 +115,7 @@ impl<N: Nvm> Nvm for Gap<N> {
         ensures fitted { OnOk result (HasFitted shape.now.blocks self.old self.new) }
         ensures stays { OnErr result (IsOver self.old self.new) }
         ensures err { IfErr result (λ e. HasFailedToFit e (shown N.device self.old) (shown N.device self.new)) }
+        ensures inner_err { IfErr result (λ e. HasFailedToFit e (N.device self.old.inner) (N.device self.new.inner)) }
         ensures no_writes { OnOk result (N.writes self.new.inner ≡ 0) }
         ensures same_writes { OnErr result (N.writes self.new.inner ≡ N.writes self.old.inner) }
     {

@@ -7,6 +7,7 @@ mod fault_rows;
 mod faults;
 mod hostile;
 mod inputs;
+mod levelled;
 mod made;
 mod misaligned;
 mod noted;

@@ -37,5 +37,6 @@ fn without_cuts(alloc: Global, numbers: &Parameters) -> Config
         limit: numbers.limit,
         scheme: numbers.scheme,
         harts: numbers.harts,
+        gap: 0,
     }
 }

@@ -6,7 +6,7 @@ use Rattle.std.specs.Option.{option_map_or}
 use Rattle.clap.specs.Walk.{Row, Text, first_of}
 use Rattle.thy_base.specs.declared.config.Config.{Config}
 use Rattle.thy_base.specs.declared.config.Field.{Field}
-use Rattle.thy_base.specs.declared.config.Field.TheVariants.{Base, Pages, Console, Epoch, Btt, Ptt, Sets, Ways, Nvmq, Dramq, High, Low, Mix, Cuts, Tears, Limit, N}
+use Rattle.thy_base.specs.declared.config.Field.TheVariants.{Base, Pages, Console, Epoch, Btt, Ptt, Sets, Ways, Nvmq, Dramq, High, Low, Mix, Cuts, Tears, Limit, Gap, N}
 use Rattle.thy_base.specs.declared.config.SchemeName.TheVariants.{Thynvm}
 use Rattle.thy_base.specs.Fields.{field_name}
 use Rattle.thy_words.specs.Numbers.{is_list, is_number, number_in, numbers_in}
@@ -14,7 +14,7 @@ use Rattle.thy_words.specs.Numbers.{is_list, is_number, number_in, numbers_in}
 -- those of a configuration, in the order in which they are read, and then tested
 abbrev pub fields : List Field
 fields = Base ∷ Pages ∷ Console ∷ Epoch ∷ Btt ∷ Ptt ∷ Sets ∷ Ways ∷ Nvmq ∷ Dramq ∷ High ∷ Low
-    ∷ Mix ∷ Cuts ∷ Tears ∷ Limit ∷ []
+    ∷ Mix ∷ Cuts ∷ Tears ∷ Limit ∷ Gap ∷ []
 
 -- those that words are read for: the number of a made program comes first
 abbrev pub all_fields : List Field
@@ -75,4 +75,5 @@ config_at rows = record {
   limit = number_at rows Limit 1000000000;
   scheme = Thynvm;
   harts = 1;
+  gap = number_at rows Gap 0;
 }

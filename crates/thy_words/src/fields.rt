@@ -11,7 +11,7 @@ use std::alloc::{AllocError, Global};
 use thy_base::{Config, Field, Numbers, SchemeName};
 
 /// The fields, in the order in which they are read.
-static FIELDS: [Field; 17] = [
+static FIELDS: [Field; 18] = [
     Field::N,
     Field::Base,
     Field::Pages,
@@ -29,6 +29,7 @@ static FIELDS: [Field; 17] = [
     Field::Cuts,
     Field::Tears,
     Field::Limit,
+    Field::Gap,
 ];
 
 /// The text of an argument, where the words have it.
@@ -127,5 +128,6 @@ pub(crate) fn config_at(alloc: Global, matches: &ArgMatches<'_>) -> Result<Confi
         limit: number_at(matches, Field::Limit, 1_000_000_000),
         scheme: SchemeName::Thynvm,
         harts: 1,
+        gap: number_at(matches, Field::Gap, 0),
     })
 }

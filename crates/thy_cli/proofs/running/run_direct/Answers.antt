@@ -1,0 +1,57 @@
+use Rattle.std.proofs.Common.{◌≡◌, ap, subst, sym, refl, inl, inr, ◌∙◌, arith}
+use Rattle.thy_base.specs.declared.config.Config.{Config}
+use Rattle.thy_base.specs.declared.nvm.Shape.{Shape}
+use Rattle.thy_base.specs.Device.{Device, fitted}
+use Rattle.thy_cli.specs.declared.refusal.Refusal.TheVariants.{Device as DeviceRefusal}
+use Rattle.thy_cli.specs.Answering.{Outside, outside, shape_for}
+use Rattle.thy_cli.specs.Planning.{named}
+use Rattle.thy_cli.proofs.LevellingLemmas.{IsFoundAs-direct, IsLeftAs-direct, IsRunOver-seen}
+use Rattle.thy_cli.proofs.TopLemmas.{fitted_for_plan, shape_planned}
+use Rattle.thy_cli.proofs.running.run_direct.Goals as goal
+
+pub fit-requires-clause-blocks : goal.fit-requires-clause-blocks
+fit-requires-clause-blocks g c = omega (arith, ap (λ (s : Shape). s.blocks) c.shape_of-shape.ensures.shape ∙ c.requires.reads.blocks)
+
+pub fit-requires-clause-start : goal.fit-requires-clause-start
+fit-requires-clause-start g c =
+    (fitted_for_plan g.M.Computer.kind g.met.M.Computer.lawful c.args.plan.now c.requires.reads c.args.blocks.now c.shape_of-shape.result (g.N.Nvm.device c.args.nvm.now) c.requires.can
+    (ap (λ (s : Shape). s.blocks) c.shape_of-shape.ensures.shape)).fits
+
+pub returns-in-Err : goal.returns-in-Err
+returns-in-Err g c = λ job names p. inl (
+  DeviceRefusal c.in-Err.error,
+  (p.program, record { faults = refl; failed = refl }, c.in-Err.ensures.err),
+  record {
+    status = c.refuse.ensures.status;
+    events = c.refuse.ensures.events;
+    cycles = c.refuse.ensures.cycles;
+    shown_none = refl;
+    held = refl;
+    closes = c.refuse.ensures.closes;
+  },
+)
+
+pub run_fitted-requires-clause-fitted : goal.run_fitted-requires-clause-fitted
+run_fitted-requires-clause-fitted g c = record {
+  shape = c.shape_of-shape.result;
+  start = c.args.blocks.now;
+  before = g.N.Nvm.device c.args.nvm.now;
+  fits =
+      fitted_for_plan g.M.Computer.kind g.met.M.Computer.lawful c.args.plan.now c.requires.reads c.args.blocks.now c.shape_of-shape.result (g.N.Nvm.device c.args.nvm.now) c.requires.can
+      (ap (λ (s : Shape). s.blocks) c.shape_of-shape.ensures.shape);
+  queue = ap (λ (s : Shape). s.queue) c.shape_of-shape.ensures.shape;
+  cuts = ap (λ (s : Shape). s.cuts) c.shape_of-shape.ensures.shape;
+  is_fitted = c.in-Ok.ensures.ok;
+}
+
+pub returns-in-Ok : goal.returns-in-Ok
+returns-in-Ok g c = λ job names p.
+    let K = g.M.Computer.kind in
+    let n : Device = g.N.Nvm.device c.args.nvm.now in
+    let before : Outside = outside (g.H.Shelf.stock c.args.shelf.now) n (g.T.Sink.stream c.args.terminal.now) (g.R.Sink.stream c.args.report.now) in
+    let after : Outside = outside (g.H.Shelf.stock c.run_fitted.new.shelf) (g.N.Nvm.device c.run_fitted.new.nvm) (g.T.Sink.stream c.run_fitted.new.terminal) (g.R.Sink.stream c.run_fitted.new.report) in
+    let none : job.config.gap ≡ 0 = ap (λ (x : Config). x.gap) (sym p.config) ∙ c.requires.direct in
+    let fit : g.N.Nvm.device c.fit.new.self ≡ fitted (shape_for K job.config) c.args.blocks.now n =
+    c.in-Ok.ensures.ok ∙ ap (λ s. fitted s c.args.blocks.now n) (c.shape_of-shape.ensures.shape ∙ shape_planned K (named c.args.source) job before.shelf c.args.plan.now c.args.blocks.now p) in
+    inr (IsRunOver-seen K (named c.args.source) job before after n after.device c.run_fitted.result (IsFoundAs-direct job.config.gap n) (IsLeftAs-direct job.config.gap after.device none)
+    (c.run_fitted.ensures.runs job c.args.blocks.now n names p fit))
