@@ -1,5 +1,5 @@
 -- What a boot lists, and the tables that the checkpoints have then.
-use Rattle.std.proofs.Common.{◌≡◌, ◌≢◌, ℕ, ◌<◌, Bool, true, false, List, length, get_or, map, slice_set, refl, sym, ◌∙◌, ap, subst, inl, inr, arith, Option, Some, None, option_and_then, unwrap_or}
+use Rattle.std.proofs.Common.{◌≡◌, ◌≢◌, ℕ, ◌<◌, ◌≤◌, Bool, true, false, List, length, get_or, map, slice_set, refl, sym, ◌∙◌, ap, subst, inl, inr, arith, Option, Some, None, option_and_then, unwrap_or}
 use Rattle.std.proofs.lemmas.Bool.{cases_eq, cases_Bool}
 use Rattle.std.proofs.lemmas.List.{length-set, length-map, map-set, ext_get_or}
 use Rattle.std.proofs.Math.ListN.{get_or-map}
@@ -16,6 +16,7 @@ use Rattle.thy_tables.specs.declared.block_entry.Version.TheVariants.{Out, Alt}
 use Rattle.thy_tables.specs.declared.page_entry.PttEntry.{PttEntry}
 use Rattle.thy_tables.specs.BlockEntry.{new_entry, listed_entry}
 use Rattle.thy_tables.specs.PageEntry.{no_page, listed_page}
+use Rattle.thy_switch.specs.Counts.{Tally, most, with_last}
 use Rattle.thy_cell.specs.declared.cell.Cell.{Cell}
 use Rattle.thy_cell.specs.Sound.{IsSoundCell}
 use Rattle.thy_cell.specs.BetweenCheckpoints.{ListedCellsAreSound}
@@ -23,7 +24,8 @@ use Rattle.thy_control.specs.Find.{entry_for, index_for}
 use Rattle.thy_control.specs.Keys.{block_key, page_key}
 use Rattle.thy_control.specs.State.{State, AreSoundTables, cell_of, new_state}
 use Rattle.thy_control.specs.CheckpointTables.{tables0, tables1, entry_lists, page_lists}
-use Rattle.thy_control.specs.Boot.{IsBooting, MayListBlock, MayListPage, HaveTables, with_listed_block, with_listed_page, with_block, with_page}
+use Rattle.thy_control.specs.Boot.{IsBooting, MayListBlock, MayListPage, MayListCount, HaveTables, with_listed_block, with_listed_page, with_listed_count, with_block, with_page}
+use Rattle.thy_control.proofs.CountsLemmas.{AreCountsOf-last}
 use Rattle.thy_control.proofs.FindLemmas.{found_entry, entry_for-some, entry_for-none}
 use Rattle.thy_control.proofs.NewLemmas.{entry_at-empty}
 use Rattle.thy_control.proofs.PageLemmas.{live-set}
@@ -148,9 +150,7 @@ module _ (i b : ℕ) (s : State) (t : AreSoundTables s) (boot : IsBooting s) (ma
     ptt_numbers = t.ptt_numbers;
     ptt_once = t.ptt_once;
     live_pages = t.live_pages;
-    counts_size = t.counts_size;
-    counts_high = t.counts_high;
-    counts_low = t.counts_low;
+    counts = t.counts;
     dram_size = t.dram_size;
     cells = sound-block law;
   }
@@ -213,9 +213,7 @@ module _ (j n : ℕ) (s : State) (t : AreSoundTables s) (boot : IsBooting s) (ma
     ptt_numbers = t.ptt_numbers;
     ptt_once = once-page;
     live_pages = live-set s.ptt j (listed_page n) inside_page (λ bare. let no : true ≡ false = bare in cc) t.live_pages;
-    counts_size = t.counts_size;
-    counts_high = t.counts_high;
-    counts_low = t.counts_low;
+    counts = t.counts;
     dram_size = t.dram_size;
     cells = sound-page law;
   }
@@ -231,6 +229,31 @@ module _ (j n : ℕ) (s : State) (t : AreSoundTables s) (boot : IsBooting s) (ma
   HaveTables-page =
       let new : tables0 v ≡ with_page j n (tables0 s) = ap (λ (x : List (Option ℕ)). record (tables0 s) { ptt = x }) (map-set (option_and_then pages0) s.ptt.entries j (Some (listed_page n))) in
       record { tables0_is = new; tables1_is = (HaveTables-boot v IsBooting-page).tables1_is ∙ new }
+
+-- ---- a page's count is listed
+
+module _ (n count : ℕ) (s : State) where
+  pub AreSoundTables-count : AreSoundTables s → count ≤ most → AreSoundTables (with_listed_count n count s)
+  AreSoundTables-count t within = record {
+    range = t.range;
+    btt_size = t.btt_size;
+    btt_numbers = t.btt_numbers;
+    btt_once = t.btt_once;
+    live_blocks = t.live_blocks;
+    ptt_size = t.ptt_size;
+    ptt_numbers = t.ptt_numbers;
+    ptt_once = t.ptt_once;
+    live_pages = t.live_pages;
+    counts = AreCountsOf-last n count s.p s.counts within t.counts;
+    dram_size = t.dram_size;
+    cells = t.cells;
+  }
+
+  pub IsBooting-count : IsBooting s → IsBooting (with_listed_count n count s)
+  IsBooting-count boot = record { idle = boot.idle; blocks = boot.blocks; pages = boot.pages }
+
+  pub HaveTables-count : IsBooting s → HaveTables (with_listed_count n count s) (tables0 s)
+  HaveTables-count boot = record { tables0_is = refl; tables1_is = (HaveTables-boot s boot).tables1_is }
 
 -- ---- what the tables say of a listing
 
@@ -304,6 +327,10 @@ MayListPage-by j n s t boot inside free tables =
     }
 
 -- ---- what the code puts
+
+pub count_put_is : (n count : ℕ) (s w : State) → w ≡ s → (c : Tally) → c ≡ with_last n count w.counts
+    → record w { counts = c } ≡ with_listed_count n count s
+count_put_is n count s w view c c_is = ap (λ (x : Tally). record w { counts = x }) c_is ∙ ap (with_listed_count n count) view
 
 pub block_put_is : (i b : ℕ) (s w : State) → w ≡ s → (e : BttEntry) (t : Listing BttEntry) → e ≡ listed_entry b → t ≡ with_entry i (Some e) w.btt
     → record w { btt = t } ≡ with_listed_block i b s

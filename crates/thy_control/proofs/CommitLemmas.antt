@@ -85,9 +85,7 @@ module _ (s : State) (t : AreSoundTables s) (way : s.under_way ≡ true) (copied
     ptt_once = IsListing-mapped page_key s.ptt t.ptt_once committed_page committed_page-page;
     live_blocks = used-mapped committed_entry s.btt (λ i e f was h. used-committed e.v1 e.work e f refl h);
     live_pages = live-mapped committed_page (λ e f. committed_by-live e.leaving e f) s.ptt t.live_pages;
-    counts_size = t.counts_size;
-    counts_high = t.counts_high;
-    counts_low = t.counts_low;
+    counts = t.counts;
     dram_size = t.dram_size;
     cells = λ b l. subst (IsSoundCell false) (sym (cell-committed s t.btt_once t.ptt_once b)) (law (cell_of s b) (sound b l) (copied b l));
   }

@@ -99,9 +99,7 @@ module _ (b : ℕ) (s : State) (pending : (cell_of s b).entry.pend ≢ Settled) 
             live_blocks = used-set s.btt (cell_of s b).i (after_copy (cell_of s b)).entry (found_entry block_key new_entry s.btt b (cell_of s b).i listed-pending).3
                 (λ v0 v1. absurd ((t.cells b l).pending_moves pending (v0 ∙ sym v1))) t.live_blocks;
             live_pages = t.live_pages;
-            counts_size = t.counts_size;
-            counts_high = t.counts_high;
-            counts_low = t.counts_low;
+            counts = t.counts;
             dram_size = sizes.dram;
             cells = λ k h. cell-copied (λ c d. IsSoundCell s.under_way c → IsSoundCell s.under_way d) k
                 (λ sound. IsSoundCell-after_copy s.under_way (cell_of s b) sound) (λ ne sound. sound) (t.cells k h);
@@ -230,6 +228,7 @@ module _ (b : ℕ) (s : State) (m : Device) (pending : (cell_of s b).entry.pend 
         (map-block (λ e. entry_lists e.v0 e.block) s b (after_copy (cell_of s b)).entry (listed-pending b s pending) refl);
     tables1_same = ap (λ (x : List (Option ℕ)). record (tables1 s) { btt = x })
         (map-block (λ e. entry_lists e.v1 e.block) s b (after_copy (cell_of s b)).entry (listed-pending b s pending) refl);
+    lasts_same = refl;
     cells = λ k l. cell-copied b s pending m CellStays k
         (record { penult_same = refl; target_same = refl; settled = λ h. refl; busy_before = λ h. h; issued = omega arith })
         (λ ne. cell_same (cell_of s k));

@@ -38,6 +38,7 @@ module _ (s : State) (m n : Device) (t : AreSoundTables s) (sized : IsSized s m)
     down = λ d. lands.same_down ∙ d;
     tables0_same = refl;
     tables1_same = refl;
+    lasts_same = refl;
     cells = λ b l. cell_same (cell_of s b);
     guarded = record {
       low = λ x l. record { no_more = lands.no_more x };
@@ -82,6 +83,7 @@ IsUnseen-drained s m =
         down = same.down;
         tables0_same = refl;
         tables1_same = refl;
+        lasts_same = refl;
         cells = same.cells;
         guarded = record { low = same.guarded.low; old = same.guarded.old; next = same.guarded.next };
         up = λ d. record {

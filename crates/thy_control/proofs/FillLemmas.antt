@@ -133,9 +133,7 @@ module _ (b : ℕ) (s : State) (fresh : (cell_of s b).page.fresh ≡ true) where
             ptt_once = once;
             live_blocks = t.live_blocks;
             live_pages = live-set s.ptt (cell_of s b).j (page_filled (cell_of s b).page) found.3 (λ bare. fresh) t.live_pages;
-            counts_size = t.counts_size;
-            counts_high = t.counts_high;
-            counts_low = t.counts_low;
+            counts = t.counts;
             dram_size = sizes.dram;
             cells = sound-filled;
           }
@@ -345,6 +343,7 @@ module _ (b : ℕ) (s : State) (fresh : (cell_of s b).page.fresh ≡ true) (m : 
         (map-page (λ e. page_lists e.place e.page) s b (page_filled (cell_of s b).page) (listed-fresh b s fresh) refl);
     tables1_same = ap (λ (x : List (Option ℕ)). record (tables1 s) { ptt = x })
         (map-page (λ e. page_lists e.target e.page) s b (page_filled (cell_of s b).page) (listed-fresh b s fresh) refl);
+    lasts_same = refl;
     cells = λ k l. cell-filled b s fresh m CellStays k
         (λ q. record { penult_same = refl; target_same = refl; settled = λ h. h; busy_before = λ h. h; issued = omega arith })
         (λ o. cell_same (cell_of s k));

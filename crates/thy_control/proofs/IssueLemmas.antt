@@ -162,9 +162,7 @@ module _ (b : ℕ) (s : State) (busy : (cell_of s b).page.busy ≡ true) where
             live_blocks = t.live_blocks;
             live_pages = live-set s.ptt (cell_of s b).j (page_issued (cell_of s b).page) found.3
                 (λ bare. absurd (no_both (busy-framed s.under_way (cell_of s b).page (t.cells b l).of_page busy) bare)) t.live_pages;
-            counts_size = t.counts_size;
-            counts_high = t.counts_high;
-            counts_low = t.counts_low;
+            counts = t.counts;
             dram_size = sizes.dram;
             cells = sound-issued;
           }
@@ -304,6 +302,7 @@ module _ (b : ℕ) (s : State) (busy : (cell_of s b).page.busy ≡ true) (m : De
         (map-page (λ e. page_lists e.place e.page) s b (page_issued (cell_of s b).page) (listed-busy b s busy) refl);
     tables1_same = ap (λ (x : List (Option ℕ)). record (tables1 s) { ptt = x })
         (map-page (λ e. page_lists e.target e.page) s b (page_issued (cell_of s b).page) (listed-busy b s busy) refl);
+    lasts_same = refl;
     cells = λ k l. cell-issued b s busy m CellStays k
         (λ q. record { penult_same = refl; target_same = refl; settled = λ h. h; busy_before = λ h. busy-same b s busy k q; issued = omega arith })
         (λ o. cell_same (cell_of s k));

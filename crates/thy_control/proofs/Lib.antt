@@ -1,6 +1,7 @@
 pub mod FindLemmas
 pub mod CellLemmas
 pub mod LiveLemmas
+pub mod CountsLemmas
 pub mod NewLemmas
 pub mod StateLemmas
 pub mod PutLemmas

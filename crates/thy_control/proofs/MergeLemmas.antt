@@ -135,9 +135,7 @@ module _ (b : ℕ) (s : State) (framed : is_framed (cell_of s b).page ≡ true) 
           ptt_once = ptt_once;
           live_blocks = used-cleared s.btt (cell_of s b).i block_there.3 t.live_blocks;
           live_pages = live-set s.ptt (cell_of s b).j (dirty (cell_of s b).page) there.3 (λ bare. let no : true ≡ false = sym framed ∙ bare in cc) t.live_pages;
-          counts_size = t.counts_size;
-          counts_high = t.counts_high;
-          counts_low = t.counts_low;
+          counts = t.counts;
           dram_size = length-set s.dram.blocks (number_of s.p (frame_at (seat_of (cell_of s b)))) (block_at s.dram.blocks (number_of s.p (buffer_at (seat_of (cell_of s b))))) ∙ t.dram_size;
           cells = sound-merged;
         }
@@ -305,6 +303,7 @@ module _ (b : ℕ) (s : State) (framed : is_framed (cell_of s b).page ≡ true) 
         tables1_same =
             ap (λ (x : List (Option ℕ)). record (tables1 (merged_block b s)) { btt = x }) (map-cleared (λ e. entry_lists e.v1 e.block) (ap (λ (v : Version). entry_lists v c.entry.block) out1))
             ∙ ap (λ (x : List (Option ℕ)). record (tables1 s) { ptt = x }) (page (λ e. page_lists e.target e.page) refl);
+        lasts_same = refl;
         cells = λ k h. cell-merged b s framed over t.btt_once CellStays k
             (record {
               penult_same = placed_out c.entry.v0 c.page.place (seat_of (merged c)) (seat_of c) out0 refl refl;

@@ -18,6 +18,7 @@ use Rattle.thy_cell.specs.BetweenCheckpoints.{NewCellsAreSound}
 use Rattle.thy_control.specs.Find.{entry_for, index_for}
 use Rattle.thy_control.specs.Keys.{block_key, page_key}
 use Rattle.thy_control.specs.State.{AreSoundTables, cell_of, new_state}
+use Rattle.thy_control.proofs.CountsLemmas.{AreCountsOf-new}
 use Rattle.thy_control.proofs.FindLemmas.{entry_for-none}
 
 module _ {E : Type 0} (key : E → ℕ) (size numbers : ℕ) where
@@ -44,9 +45,7 @@ AreSoundTables-new new_sound p dram range size = record {
   ptt_once = IsListing-empty page_key p.ptt p.pages;
   live_blocks = λ i e h. let none : None ≡ Some e = sym (entry_at-empty block_key p.btt (memory_blocks p) i) ∙ h in absurd (cc);
   live_pages = λ j e h. let none : None ≡ Some e = sym (entry_at-empty page_key p.ptt p.pages j) ∙ h in absurd (cc);
-  counts_size = grind (arith, common_steps);
-  counts_high = refl;
-  counts_low = refl;
+  counts = AreCountsOf-new p;
   dram_size = size;
   cells = λ b l.
       let s = new_state p dram in

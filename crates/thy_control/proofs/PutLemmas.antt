@@ -3,6 +3,7 @@ use Rattle.std.proofs.Common.{◌≡◌, ◌≢◌, ℕ, ◌<◌, Bool, true, fa
 use Rattle.std.proofs.lemmas.Bool.{cases_eq}
 use Rattle.std.proofs.lemmas.List.{length-set, get_or-set_same, get_or-set_other}
 use Rattle.thy_base.specs.declared.block.Block.{Block}
+use Rattle.thy_base.specs.declared.config.Parameters.{Parameters}
 use Rattle.thy_base.specs.declared.place.Place.{Place}
 use Rattle.thy_base.specs.Device.{Device, block_at}
 use Rattle.thy_base.specs.Geometry.{memory_blocks}
@@ -18,7 +19,7 @@ use Rattle.thy_tables.specs.declared.block_entry.Pending.TheVariants.{Settled, F
 use Rattle.thy_tables.specs.declared.page_entry.PttEntry.{PttEntry}
 use Rattle.thy_tables.specs.BlockEntry.{new_entry}
 use Rattle.thy_tables.specs.PageEntry.{no_page, is_framed}
-use Rattle.thy_switch.specs.Counts.{Tally, counted}
+use Rattle.thy_switch.specs.Counts.{Tally}
 use Rattle.thy_cell.specs.declared.cell.Cell.{Cell}
 use Rattle.thy_cell.specs.declared.cell.StoreRule.{StoreRule}
 use Rattle.thy_cell.specs.declared.cell.StoreRule.TheVariants.{ToFrame, ToBuffer, ToNvm, PendingFirst}
@@ -29,8 +30,9 @@ use Rattle.thy_cell.specs.Store.{put_by}
 use Rattle.thy_control.specs.Find.{index_for}
 use Rattle.thy_control.specs.Keys.{block_key, page_key}
 use Rattle.thy_control.specs.StoredTables.{btt_with, btt_after, ptt_after, counts_after}
-use Rattle.thy_control.specs.State.{State, AreSoundTables, IsSized, cell_of, reads}
+use Rattle.thy_control.specs.State.{State, AreCountsOf, AreSoundTables, IsSized, cell_of, reads}
 use Rattle.thy_control.specs.Rules.{with_block, with_cell, rule_for, cell_before, devices_after, state_after, IsWholeState}
+use Rattle.thy_control.proofs.CountsLemmas.{AreCountsOf-counted}
 use Rattle.thy_control.proofs.FindLemmas.{found_entry, index_for-inside, length-with, numbers-with}
 use Rattle.thy_control.proofs.CellLemmas.{btt_least, block-cell_of, page-cell_of, IsWithin-cell_of}
 use Rattle.thy_control.proofs.StateLemmas.{first_is_pending, IsListed, IsListed-with_block, cell-with_block_same, sound-with_block, sound-with_cell, rule-with_block, frame_is_framed}
@@ -82,26 +84,17 @@ numbers-ptt_after ToBuffer c t = refl
 numbers-ptt_after ToNvm c t = refl
 numbers-ptt_after PendingFirst c t = refl
 
-length-counted : (page : ℕ) (t : Tally) → length (counted page t).counts ≡ length t.counts
-length-counted page t = length-set t.counts page _
+counts-counts_after : (rule : StoreRule) (page : ℕ) (p : Parameters) (t : Tally) → AreCountsOf p t → AreCountsOf p (counts_after rule page t)
+counts-counts_after ToFrame page p t h = AreCountsOf-counted page p t h
+counts-counts_after ToBuffer page p t h = AreCountsOf-counted page p t h
+counts-counts_after ToNvm page p t h = AreCountsOf-counted page p t h
+counts-counts_after PendingFirst page p t h = h
 
-length-counts_after : (rule : StoreRule) (page : ℕ) (t : Tally) → length (counts_after rule page t).counts ≡ length t.counts
-length-counts_after ToFrame page t = length-counted page t
-length-counts_after ToBuffer page t = length-counted page t
-length-counts_after ToNvm page t = length-counted page t
-length-counts_after PendingFirst page t = refl
-
-high-counts_after : (rule : StoreRule) (page : ℕ) (t : Tally) → (counts_after rule page t).high ≡ t.high
-high-counts_after ToFrame page t = refl
-high-counts_after ToBuffer page t = refl
-high-counts_after ToNvm page t = refl
-high-counts_after PendingFirst page t = refl
-
-low-counts_after : (rule : StoreRule) (page : ℕ) (t : Tally) → (counts_after rule page t).low ≡ t.low
-low-counts_after ToFrame page t = refl
-low-counts_after ToBuffer page t = refl
-low-counts_after ToNvm page t = refl
-low-counts_after PendingFirst page t = refl
+pub lasts-counts_after : (rule : StoreRule) (page : ℕ) (t : Tally) → (counts_after rule page t).lasts ≡ t.lasts
+lasts-counts_after ToFrame page t = refl
+lasts-counts_after ToBuffer page t = refl
+lasts-counts_after ToNvm page t = refl
+lasts-counts_after PendingFirst page t = refl
 
 -- the page table's entries after a store: as before, or a framed one
 pages_after : (rule : StoreRule) (c : Cell) (t : Listing PttEntry) → (rule ≡ ToFrame → is_framed c.page ≡ true) → c.j < length t.entries
@@ -248,9 +241,7 @@ AreSoundTables-after b block s n t sized whole l room btt_once ptt_once =
       ptt_numbers = numbers-ptt_after rule after s.ptt ∙ t.ptt_numbers;
       ptt_once = ptt_once;
       live_pages = pages_after rule after s.ptt (λ frame. framed-after rule (cell_of u b) ∙ frame_is_framed (cell_of u b) (same ∙ frame)) page_there t.live_pages;
-      counts_size = length-counts_after rule (page_of b) s.counts ∙ t.counts_size;
-      counts_high = high-counts_after rule (page_of b) s.counts ∙ t.counts_high;
-      counts_low = low-counts_after rule (page_of b) s.counts ∙ t.counts_low;
+      counts = counts-counts_after rule (page_of b) s.p s.counts t.counts;
       dram_size = sizes.dram;
       cells = λ m k. subst (λ (r : StoreRule). IsSoundCell s.under_way (cell_of (with_cell r (after_store r (cell_of u b)) u) m)) same
           (sound-with_cell b u m listed whole_b (sound b l) (sound m k));

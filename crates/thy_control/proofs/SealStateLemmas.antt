@@ -1,6 +1,6 @@
 -- A seal leaves the tables sound, and moves the versions of every block.
 use Rattle.std.proofs.Common.{◌≡◌, ℕ, ◌<◌, Bool, true, false, length, refl, sym, ◌∙◌, ap, subst, inl, inr, arith, Option, Some, unwrap_or}
-use Rattle.std.proofs.lemmas.List.{length-map, length-replicate}
+use Rattle.std.proofs.lemmas.List.{length-map}
 use Rattle.std.specs.Option.{option_and_then}
 use Rattle.thy_base.specs.declared.block.Block.{Block}
 use Rattle.thy_base.specs.declared.place.Place.{Place}
@@ -24,6 +24,7 @@ use Rattle.thy_control.specs.State.{State, IsUsed, AreSoundTables, cell_of, read
 use Rattle.thy_control.specs.Rules.{IsWholeState}
 use Rattle.thy_control.specs.Stays.{HoldAll}
 use Rattle.thy_control.specs.Seal.{is_few, block_is_framed, sealed_in, sealed_as_counted, dense_below, sealed_ptt, sealed_state, IsBareState, OrListed, sealed_cell, Seals}
+use Rattle.thy_control.proofs.CountsLemmas.{AreCountsOf-reset}
 use Rattle.thy_control.proofs.FindLemmas.{entry_for-some, entry_for-none}
 use Rattle.thy_control.proofs.CommitLemmas.{same_cell, live-mapped}
 use Rattle.thy_control.proofs.ListPageLemmas.{Lists, lists_all, dense-below}
@@ -32,7 +33,7 @@ use Rattle.thy_control.proofs.LiveLemmas.{used-mapped, used-sealed}
 
 pub lists_sealed : (s : State) → AreSoundTables s → Lists (mapped_state s).ptt (sealed_ptt s.counts s.ptt)
 lists_sealed s t = lists_all (dense_below s.counts (length s.counts.counts)) (mapped_state s).ptt
-    (λ k d l. let inside = dense-below s.counts (length s.counts.counts) k d l in omega (arith, inside, t.counts_size, t.ptt_numbers))
+    (λ k d l. let inside = dense-below s.counts (length s.counts.counts) k d l in omega (arith, inside, t.counts.size, t.ptt_numbers))
 
 module _ (s : State) (t : AreSoundTables s) where
   or_listed : (b : ℕ) → OrListed (page_of b) (cell_of (mapped_state s) b) (cell_of (sealed_state s) b)
@@ -97,9 +98,7 @@ module _ (s : State) (t : AreSoundTables s) (idle : s.under_way ≡ false) (whol
         ptt_once = lists.once (IsListing-mapped page_key s.ptt t.ptt_once rule (sealed_as_counted-page s.counts));
         live_blocks = used-mapped (sealed_in (is_few s) s.ptt) s.btt used_after;
         live_pages = lists.live (live-mapped rule (live_left s.counts) s.ptt t.live_pages);
-        counts_size = length-replicate (length s.counts.counts) 0 ∙ t.counts_size;
-        counts_high = t.counts_high;
-        counts_low = t.counts_low;
+        counts = AreCountsOf-reset s.p s.counts t.counts;
         dram_size = t.dram_size;
         cells = sound_sealed law takes keeps;
       }

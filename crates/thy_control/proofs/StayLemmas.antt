@@ -37,7 +37,7 @@ use Rattle.thy_control.specs.CheckpointTables.{tables0, tables1, entry_lists, pa
 use Rattle.thy_control.specs.Guarded.{LeavesGuarded}
 use Rattle.thy_control.proofs.FindLemmas.{found_entry, entry_for-some}
 use Rattle.thy_control.proofs.StateLemmas.{IsListed, IsListed-with_block, OrDirty, cell-with_block_other, entry-with_block, cell-with_cell_same, cell-with_cell_other}
-use Rattle.thy_control.proofs.PutLemmas.{has_free}
+use Rattle.thy_control.proofs.PutLemmas.{has_free, lasts-counts_after}
 use Rattle.thy_control.proofs.KeepLemmas.{same_start, penult-new, target-new}
 use Rattle.thy_control.proofs.GuardLemmas.{behind_slots}
 
@@ -174,6 +174,7 @@ Stays-done b block s m t sized room up framed guarded keeps holds =
       down = λ d. let no : true ≡ false = sym d ∙ up in cc;
       tables0_same = tables0-cell r b u listed ∙ tables0-with r b s;
       tables1_same = tables1-cell r b u listed ∙ tables1-with r b s;
+      lasts_same = lasts-counts_after r (page_of b) s.counts;
       cells = λ k l. cell_on (cell_of s k) (cell_of u k) (cell_of (with_cell r (after_store r (cell_of u b)) u) k) (stays-with r b s k) (stays-cell r b u k listed);
       guarded = guarded;
       up = λ d. record {
@@ -195,6 +196,7 @@ Stays-failed b block s m n failed framed guarded = record {
   down = λ d. failed.failed.down;
   tables0_same = refl;
   tables1_same = refl;
+  lasts_same = refl;
   cells = λ k l. cell_same (cell_of s k);
   guarded = guarded;
   up = λ d. let no : true ≡ false = sym failed.failed.down ∙ d in absurd (not_both no);
@@ -227,6 +229,7 @@ stays_read s m n (Err x) same failed framed = record {
   down = λ d. failed.down;
   tables0_same = refl;
   tables1_same = refl;
+  lasts_same = refl;
   cells = λ b l. cell_same (cell_of s b);
   guarded = record {
     low = λ y l. record { no_more = λ b h. failed.no_more y b h };

@@ -26,6 +26,7 @@ pub record StaysTables (s u : State) : Type 0 where
   pub same_way : u.under_way ≡ s.under_way
   pub tables0_same : tables0 u ≡ tables0 s
   pub tables1_same : tables1 u ≡ tables1 s
+  pub lasts_same : u.counts.lasts ≡ s.counts.lasts
   pub cells : (b : ℕ) → b < memory_blocks s.p → CellStays (cell_of s b) (cell_of u b)
 
 -- one place was written, or a read or that write failed
@@ -96,6 +97,7 @@ Stays-step s y v m u sized tables down framed guarded penult_same held = record 
   down = down;
   tables0_same = tables.tables0_same;
   tables1_same = tables.tables1_same;
+  lasts_same = tables.lasts_same;
   cells = tables.cells;
   guarded = guarded;
   up = λ d. record {
@@ -116,6 +118,7 @@ Stays-failed_step s m n framed is_down guarded = record {
   down = λ d. is_down;
   tables0_same = refl;
   tables1_same = refl;
+  lasts_same = refl;
   cells = λ b l. cell_same (cell_of s b);
   guarded = guarded;
   up = λ d. let no : true ≡ false = sym is_down ∙ d in absurd (not_both no);

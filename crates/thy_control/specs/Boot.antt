@@ -1,6 +1,6 @@
 -- What the calls of a boot make of the controller: it lists what the committed checkpoint lists, and loads the frames of
 -- the listed pages.
-use Rattle.std.specs.Prelude.{◌≡◌, ℕ, ◌+◌, ◌*◌, ◌<◌, true, false, slice_set, Option, Some, None, Result, is_some}
+use Rattle.std.specs.Prelude.{◌≡◌, ℕ, ◌+◌, ◌*◌, ◌<◌, ◌≤◌, true, false, slice_set, Option, Some, None, Result, is_some}
 use Rattle.thy_base.specs.declared.config.Parameters.{Parameters}
 use Rattle.thy_base.specs.declared.place.Place.TheVariants.{AlternatePage, Frame}
 use Rattle.thy_base.specs.declared.nvm.NvmError.{NvmError}
@@ -15,6 +15,7 @@ use Rattle.thy_tables.specs.declared.block_entry.BttEntry.{BttEntry}
 use Rattle.thy_tables.specs.declared.page_entry.PttEntry.{PttEntry}
 use Rattle.thy_tables.specs.BlockEntry.{listed_entry}
 use Rattle.thy_tables.specs.PageEntry.{listed_page}
+use Rattle.thy_switch.specs.Counts.{most, with_last}
 use Rattle.thy_cell.specs.Sound.{Holds}
 use Rattle.thy_control.specs.Keys.{block_key, page_key}
 use Rattle.thy_control.specs.State.{State, AreSoundTables, cell_of, penult_of, work_of, reads, new_state}
@@ -51,6 +52,15 @@ with_listed_block i b s = record s { btt = with_entry i (Some (listed_entry b)) 
 
 abbrev pub with_listed_page : ℕ → ℕ → State → State
 with_listed_page j n s = record s { ptt = with_entry j (Some (listed_page n)) s.ptt }
+
+-- a page of memory may have had so many stores in the epoch before
+pub record MayListCount (n count : ℕ) (s : State) : Type 0 where
+  pub page : n < s.p.pages
+  pub within : count ≤ most
+
+-- the controller with that count
+abbrev pub with_listed_count : ℕ → ℕ → State → State
+with_listed_count n count s = record s { counts = with_last n count s.counts }
 
 -- tables with one entry more
 abbrev pub with_block : ℕ → ℕ → Tables → Tables

@@ -46,6 +46,7 @@ stays_same s m = record {
   down = λ d. d;
   tables0_same = refl;
   tables1_same = refl;
+  lasts_same = refl;
   cells = λ b l. cell_same (cell_of s b);
   guarded = record {
     low = λ x l. record { no_more = λ y h. h };
@@ -88,6 +89,7 @@ stays_on s m t n u o first second =
       down = λ d. second.down (first.down d);
       tables0_same = second.tables0_same ∙ first.tables0_same;
       tables1_same = second.tables1_same ∙ first.tables1_same;
+      lasts_same = second.lasts_same ∙ first.lasts_same;
       cells = λ b l. cell_on (cell_of s b) (cell_of t b) (cell_of u b) (first.cells b l) (second.cells b (in_t b l));
       guarded = record {
         low = λ x l. no_more_on x x m n o refl (first.guarded.low x l) (second.guarded.low x (low_t x l));

@@ -17,7 +17,7 @@ use Rattle.thy_tables.specs.declared.block_entry.Working.TheVariants.{NoWork}
 use Rattle.thy_tables.specs.declared.page_entry.PttEntry.{PttEntry}
 use Rattle.thy_tables.specs.BlockEntry.{new_entry}
 use Rattle.thy_tables.specs.PageEntry.{no_page, is_framed}
-use Rattle.thy_switch.specs.Counts.{Tally, uncounted}
+use Rattle.thy_switch.specs.Counts.{Tally, AreTallied, uncounted}
 use Rattle.thy_cell.specs.declared.cell.Cell.{Cell}
 use Rattle.thy_cell.specs.Cells.{penult, last, work}
 use Rattle.thy_cell.specs.Sound.{IsSoundCell}
@@ -28,7 +28,7 @@ pub record State : Type 0 where
   pub p : Parameters
   pub btt : Listing BttEntry
   pub ptt : Listing PttEntry
-  -- the stores of each page
+  -- the stores of each page, in this epoch and in the one before
   pub counts : Tally
   -- a checkpoint is under way
   pub under_way : Bool
@@ -68,6 +68,13 @@ IsUsed e = e.v0 ≡ Out → e.v1 ≡ Out → e.work ≢ NoWork
 abbrev pub AreUsed : Listing BttEntry → Type 0
 AreUsed t = (i : ℕ) (e : BttEntry) → entry_at t i ≡ Some e → IsUsed e
 
+-- each page of memory is counted, none too far, and the thresholds are the geometry's
+pub record AreCountsOf (p : Parameters) (c : Tally) : Type 0 where
+  pub size : length c.counts ≡ p.pages
+  pub tallied : AreTallied c.counts c.lasts
+  pub high : c.high ≡ p.high
+  pub low : c.low ≡ p.low
+
 -- the tables list blocks and pages of memory, none twice; every block is sound under them; and the sizes fit
 pub record AreSoundTables (s : State) : Type 0 where
   pub range : IsInRange s.p
@@ -81,9 +88,7 @@ pub record AreSoundTables (s : State) : Type 0 where
   pub ptt_once : IsListing page_key s.ptt
   -- a page that has an entry, and not yet all of its frame, is being promoted
   pub live_pages : (j : ℕ) (e : PttEntry) → entry_at s.ptt j ≡ Some e → is_framed e ≡ false → e.fresh ≡ true
-  pub counts_size : length s.counts.counts ≡ s.p.pages
-  pub counts_high : s.counts.high ≡ s.p.high
-  pub counts_low : s.counts.low ≡ s.p.low
+  pub counts : AreCountsOf s.p s.counts
   pub dram_size : length s.dram.blocks ≡ dram_blocks s.p
   pub cells : (b : ℕ) → b < memory_blocks s.p → IsSoundCell s.under_way (cell_of s b)
 

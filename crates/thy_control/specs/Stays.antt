@@ -1,5 +1,5 @@
--- What every call between two checkpoints keeps, one that fails too: what a cut may leave of both checkpoints, and both
--- tables.
+-- What every call between two checkpoints keeps, one that fails too: what a cut may leave of both checkpoints, both
+-- tables, and the counts of the epoch before.
 use Rattle.std.specs.Prelude.{◌≡◌, ℕ, ◌<◌, ◌≤◌, true, false, length}
 use Rattle.thy_base.specs.Device.{Device, newest}
 use Rattle.thy_base.specs.Geometry.{memory_blocks}
@@ -51,6 +51,8 @@ pub record Stays (s : State) (m : Device) (t : State) (n : Device) : Type 0 wher
   pub down : m.down ≡ true → n.down ≡ true
   pub tables0_same : tables0 t ≡ tables0 s
   pub tables1_same : tables1 t ≡ tables1 s
+  -- how many stores each page had in the epoch before
+  pub lasts_same : t.counts.lasts ≡ s.counts.lasts
   pub cells : (b : ℕ) → b < memory_blocks s.p → CellStays (cell_of s b) (cell_of t b)
   pub guarded : LeavesGuarded s m n
   pub up : n.down ≡ false → StaysUp s m t n

@@ -1,10 +1,12 @@
 -- Part of the claim.
--- How often each page was stored to, and which pages are counted above or below a threshold.
-use Rattle.std.specs.Prelude.{ℕ, ◌+◌, ◌≤◌, nat_lt, min, Bool, List, length, replicate, slice_index, slice_set, All}
+-- How often each page was stored to, in this epoch and in the one before, and which pages are above or below a threshold.
+use Rattle.std.specs.Prelude.{◌≡◌, ℕ, ◌+◌, ◌≤◌, nat_lt, min, Bool, ◌&&◌, List, length, replicate, slice_index, slice_set, All}
 
 pub record Tally : Type 0 where
-  -- the stores of each page, up to 63
+  -- the stores of each page since the last seal, up to 63
   pub counts : List ℕ
+  -- its count at that seal
+  pub lasts : List ℕ
   -- a page counted above this is stored to densely
   pub high : ℕ
   -- and one below this no longer
@@ -16,28 +18,42 @@ most = 63
 
 -- no stores to so many pages
 abbrev pub uncounted : ℕ → ℕ → ℕ → Tally
-uncounted pages high low = record { counts = replicate pages 0; high = high; low = low }
+uncounted pages high low = record { counts = replicate pages 0; lasts = replicate pages 0; high = high; low = low }
 
 -- the stores to a page
 abbrev pub count_at : Tally → ℕ → ℕ
 count_at c page = slice_index c.counts page
 
+-- and those of the epoch before
+abbrev pub last_at : Tally → ℕ → ℕ
+last_at c page = slice_index c.lasts page
+
 -- one store more to a page
 abbrev pub counted : ℕ → Tally → Tally
 counted page c = record c { counts = slice_set c.counts page (min (count_at c page + 1) most) }
 
--- as at the start
+-- the epoch before had so many stores to a page
+abbrev pub with_last : ℕ → ℕ → Tally → Tally
+with_last page n c = record c { lasts = slice_set c.lasts page n }
+
+-- a seal: each last takes the count, and all count from 0
 abbrev pub reset : Tally → Tally
-reset c = uncounted (length c.counts) c.high c.low
+reset c = record c { counts = replicate (length c.counts) 0; lasts = c.counts }
 
 -- a page is counted above the high threshold
 abbrev pub is_dense : Tally → ℕ → Bool
 is_dense c page = nat_lt c.high (count_at c page)
 
--- and below the low one
+-- and, in this epoch and in the one before, below the low one
 abbrev pub is_low : Tally → ℕ → Bool
-is_low c page = nat_lt (count_at c page) c.low
+is_low c page = nat_lt (count_at c page) c.low && nat_lt (last_at c page) c.low
 
 -- no count is past the last
 abbrev pub AreWithin : List ℕ → Type 0
 AreWithin counts = All (λ n. n ≤ most) counts
+
+-- each page has a count and a last, none past that
+pub record AreTallied (counts lasts : List ℕ) : Type 0 where
+  pub as_many : length lasts ≡ length counts
+  pub counts_within : AreWithin counts
+  pub lasts_within : AreWithin lasts

@@ -1,40 +1,51 @@
 //! The counts.
-ghost use Rattle.std.specs.Prelude.{◌≡◌, ◌<◌, ◌≤◌, ◌+◌, min, length, replicate, slice_set, false, IfOk};
-ghost use Rattle.thy_switch.specs.Counts.{most, uncounted, count_at, counted, reset, is_dense, is_low};
+ghost use Rattle.std.specs.Prelude.{◌≡◌, ◌<◌, ◌≤◌, ◌+◌, ◌*◌, ◌&&◌, nat_lt, min, length, replicate, slice_set, false, IfOk};
+ghost use Rattle.thy_base.specs.Blocks.{overwritten};
+ghost use Rattle.thy_base.specs.Device.{zero_block};
+ghost use Rattle.thy_switch.specs.Counts.{most, uncounted, count_at, last_at, counted, with_last, reset, is_dense, is_low};
+ghost use Rattle.thy_switch.specs.LastBlocks.{last_block_of};
 
 use std::alloc::{AllocError, Global};
 use std::marker::Model;
+use thy_base::Block;
 
 /// No page is counted further than this.
 pub const MOST: u8 = 63;
 
-/// How many stores each page had since the counts were last reset, up to 63, and two thresholds. Only
-/// `new` takes memory.
+/// How many stores each page had since the last seal, up to 63; how many it had had at that seal; and two thresholds.
+/// Only `new` takes memory.
 #[derive(Drop)]
 pub struct Counts {
     counts: Vec<u8>,
+    lasts: Vec<u8>,
     high: u64,
     low: u64,
 }
 
 impl Model for Counts {
-    ghost use Rattle.thy_switch.specs.Counts.{Tally, AreWithin};
+    ghost use Rattle.thy_switch.specs.Counts.{Tally, AreTallied};
 
     ghost Value = { Tally };
 
-    ghost view = { λ c. record { counts = c.counts.items; high = c.high; low = c.low } };
+    ghost view = { λ c. record { counts = c.counts.items; lasts = c.lasts.items; high = c.high; low = c.low } };
 
-    ghost invariant = { λ c. AreWithin c.counts.items };
+    ghost invariant = { λ c. AreTallied c.counts.items c.lasts.items };
 }
 
 impl Counts {
-    /// No stores to so many pages. A page is dense above `high` stores, and sparse below `low`.
+    /// No stores to so many pages, in this epoch and in the one before. A page is dense above `high` stores, and low below
+    /// `low`.
     pub fn new(alloc: Global, pages: u64, high: u64, low: u64) -> Result<Counts, AllocError>
         ensures { IfOk result (λ counts. counts ≡ uncounted pages high low) }
     {
-        let mut counts = Vec::with_capacity(alloc, pages as usize)?;
-        counts.resize(pages as usize, 0)?;
-        Ok(Counts { counts, high, low })
+        let counts = zeros(alloc, pages)?;
+        let lasts = zeros(alloc, pages)?;
+        Ok(Counts {
+            counts,
+            lasts,
+            high,
+            low,
+        })
     }
 
     /// How many pages are counted.
@@ -44,13 +55,22 @@ impl Counts {
         self.counts.len() as u64
     }
 
-    /// The stores to a page, at most 63.
+    /// The stores to a page since the last seal, at most 63.
     pub fn count_of(&self, page: u64) -> u64
         requires { page < length self.now.counts }
         ensures count { result ≡ count_at self.now page }
         ensures within { result ≤ most }
     {
         self.counts[page as usize] as u64
+    }
+
+    /// The stores that a page had had at the last seal, at most 63.
+    pub fn last(&self, page: u64) -> u64
+        requires { page < length self.now.counts }
+        ensures last { result ≡ last_at self.now page }
+        ensures within { result ≤ most }
+    {
+        self.lasts[page as usize] as u64
     }
 
     /// Counts one store more to a page, up to 63.
@@ -62,7 +82,7 @@ impl Counts {
         self.counts[page as usize] = if count < MOST { count + 1 } else { MOST };
     }
 
-    /// Whether a page was stored to more often than `high`.
+    /// Whether a page was stored to more often than `high` since the last seal.
     pub fn is_dense(&self, page: u64) -> bool
         requires { page < length self.now.counts }
         ensures dense { result ≡ is_dense self.now page }
@@ -71,18 +91,58 @@ impl Counts {
         self.high < self.count_of(page)
     }
 
-    /// Whether a page was stored to less often than `low`.
+    /// Whether a page was stored to less often than `low`, since the last seal and in the epoch before it.
     pub fn is_low(&self, page: u64) -> bool
         requires { page < length self.now.counts }
         ensures { result ≡ is_low self.now page }
     {
-        self.count_of(page) < self.low
+        self.count_of(page) < self.low && self.last(page) < self.low
     }
 
-    /// Counts anew from 0.
+    /// A seal: it keeps the counts as those of the epoch before, and counts anew from 0.
     pub fn reset(&mut self)
         ensures { self.new ≡ reset self.old }
     {
+        std::mem::swap(&mut self.counts, &mut self.lasts);
         self.counts.fill(0);
     }
+
+    /// Sets how many stores a page had had at the last seal, as a checkpoint has it, at most 63.
+    pub fn set_last(&mut self, page: u64, count: u64)
+        requires page { page < length self.old.counts }
+        requires count { count ≤ most }
+        ensures { self.new ≡ with_last page count self.old }
+    {
+        self.lasts[page as usize] = count as u8;
+    }
+
+    /// Block `k` of the counts of the epoch before: a byte a page, 64 pages a block. Past the last page it is zeros.
+    pub fn last_block(&self, k: u64) -> Block
+        requires { 64 * k < length self.now.counts }
+        ensures { result ≡ last_block_of self.now.lasts k }
+    {
+        let pages = self.pages() as usize;
+        let from = 64 * k as usize;
+        let count = (pages - from).min(64);
+        over_zeros(&self.lasts[from..from + count])
+    }
+}
+
+/// A block that begins with a piece, with zeros behind it.
+fn over_zeros(piece: &[u8]) -> Block
+    requires { length piece.now ≤ 64 }
+    ensures { result ≡ overwritten 0 piece.now zero_block }
+{
+    let mut block = Block::ZERO;
+    block.put(0, piece);
+    block
+}
+
+/// So many zeros.
+fn zeros(alloc: Global, count: u64) -> Result<Vec<u8>, AllocError>
+    ensures { IfOk result (λ zeros. zeros.items ≡ replicate count 0) }
+{
+    let mut zeros = Vec::with_capacity(alloc, count as usize)?;
+    zeros.resize(count as usize, 0)?;
+    Ok(zeros)
 }

@@ -1,5 +1,5 @@
-//! The store counts of pages, by which a page is given a frame or loses it. `Counts` counts up to 63, and tells exactly
-//! whether a page is above the one threshold, or below the other.
+//! The store counts of pages, by which a page is given a frame or loses it. `Counts` counts up to 63, keeps the counts of
+//! the epoch before, and tells exactly whether a page is above the one threshold, or below the other in both epochs.
 //!
 //! Open specs/Counts.antt first, and src/counts.rt. It stands on thy_base; on it stand thy_control, and the engine, the
 //! boot and the scheme above it.

@@ -1,4 +1,5 @@
-//! What a boot does: it lists what the committed checkpoint lists, and loads the frames of the listed pages.
+//! What a boot does: it lists what the committed checkpoint lists, the counts of pages too, and loads the frames of the
+//! listed pages.
 ghost use Rattle.std.specs.Prelude.{◌≡◌, ◌<◌, OnOk};
 
 use super::Control;
@@ -7,7 +8,7 @@ use thy_cell::{a_frame_is_loaded, listed_cells_are_sound};
 use thy_tables::{BttEntry, PttEntry};
 
 impl Control {
-    ghost use Rattle.thy_control.specs.Boot.{IsBooting, MayListBlock, MayListPage, MayFrame, HaveTables, LoadsFrame, CopiesFrame, with_listed_block, with_listed_page, with_block, with_page};
+    ghost use Rattle.thy_control.specs.Boot.{IsBooting, MayListBlock, MayListPage, MayListCount, MayFrame, HaveTables, LoadsFrame, CopiesFrame, with_listed_block, with_listed_page, with_listed_count, with_block, with_page};
     ghost use Rattle.thy_control.specs.CheckpointTables.{tables0};
     ghost use Rattle.thy_control.specs.State.{IsSized};
     ghost use Rattle.thy_control.specs.Versions.{KeepsCheckpoints};
@@ -60,6 +61,17 @@ impl Control {
         self.tables();
         self.ptt.put(j, PttEntry::listed(page));
         self.ptt.lists_once();
+    }
+
+    /// Sets how many stores a page had in the epoch before, at most 63, as the committed checkpoint has it. Touches no device.
+    pub fn list_count(&mut self, page: u64, count: u64)
+        requires booting { IsBooting self.old }
+        requires may { MayListCount page count self.old }
+        ensures state { self.new ≡ with_listed_count page count self.old }
+        ensures booting { IsBooting self.new }
+        ensures tables { HaveTables self.new (tables0 self.old) }
+    {
+        self.counts.set_last(page, count);
     }
 
     /// Copies block `k` of the alternate page of entry `j`, which lists a page, into the frame: one read of the NVM and one

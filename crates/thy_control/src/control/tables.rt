@@ -1,8 +1,9 @@
-//! The tables of the checkpoint under way, as blocks.
-ghost use Rattle.std.specs.Prelude.{◌≡◌, ◌+◌, ◌/◌, ◌<◌, ◌++◌, length, map, option_and_then};
+//! The tables of the checkpoint under way, and the counts of the epoch before, as blocks.
+ghost use Rattle.std.specs.Prelude.{◌≡◌, ◌+◌, ◌-◌, ◌<◌, ◌≤◌, ◌++◌, length, map, option_and_then};
 ghost use Rattle.thy_record.specs.TableBlocks.{table_block_of};
 ghost use Rattle.thy_record.specs.Tables.{entry_at as listed_at};
-ghost use Rattle.thy_control.specs.TableBlocks.{block_due, page_due};
+ghost use Rattle.thy_switch.specs.LastBlocks.{last_block_of};
+ghost use Rattle.thy_control.specs.TableBlocks.{table_blocks, count_blocks, block_due, page_due};
 
 use super::Control;
 use thy_base::Block;
@@ -52,10 +53,33 @@ impl Control {
     ghost use Rattle.thy_control.specs.CheckpointTables.{tables1};
     ghost use Rattle.thy_control.specs.TableBlocks.{entries_of};
 
-    /// Block `k` of the tables of the checkpoint under way, eight entries a block: the block table, and behind it the page
-    /// table.
+    /// Block `k` of what the slot of the checkpoint under way has behind the processor's record: the block table and behind it
+    /// the page table, eight entries a block, and behind them the counts of the epoch before, 64 pages a block.
     pub fn table(&self, k: u64) -> Block
-        requires { k < self.now.p.btt / 8 + self.now.p.ptt / 8 }
+        requires { k < table_blocks self.now.p + count_blocks self.now.p }
+        ensures tables { k < table_blocks self.now.p → result ≡ table_block_of (tables1 self.now) k }
+        ensures counts { let first = table_blocks self.now.p in
+            first ≤ k → result ≡ last_block_of self.now.counts.lasts (k - first) }
+    {
+        let tables = self.table_blocks();
+        if k < tables {
+            self.entries(k)
+        } else {
+            self.counts.last_block(k - tables)
+        }
+    }
+
+    /// How many blocks the tables have.
+    fn table_blocks(&self) -> u64
+        ensures { result ≡ table_blocks self.now.p }
+    {
+        let numbers = self.geometry.numbers();
+        numbers.btt / 8 + numbers.ptt / 8
+    }
+
+    /// Block `k` of the tables.
+    fn entries(&self, k: u64) -> Block
+        requires { k < table_blocks self.now.p }
         ensures { result ≡ table_block_of (tables1 self.now) k }
     {
         self.tables();
@@ -64,7 +88,7 @@ impl Control {
 
     /// The eight entries of a block of the tables.
     fn listed_in(&self, k: u64) -> [Option<u64>; 8]
-        requires { k < self.now.p.btt / 8 + self.now.p.ptt / 8 }
+        requires { k < table_blocks self.now.p }
         ensures { result ≡ entries_of (tables1 self.now) k }
     {
         self.tables();

@@ -137,7 +137,7 @@ set_cell-requires-clause-page g c =
 pub count_store-requires : goal.count_store-requires
 count_store-requires g c =
     let l : c.args.b < memory_blocks c.self.inside.geometry = subst (λ (t : State). c.args.b < memory_blocks t.p) (sym c.self.view_is) c.requires.block in
-    omega (arith, c.self.invariant.tables.counts_size)
+    omega (arith, c.self.invariant.tables.counts.size)
 
 pub invariant_of-self-2 : goal.invariant_of-self-2
 invariant_of-self-2 g c =

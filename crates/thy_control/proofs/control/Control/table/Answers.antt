@@ -1,22 +1,12 @@
-use Rattle.std.proofs.Common.{List, Option, ℕ, map, ap, subst, sym, ◌∙◌, refl}
-use Rattle.thy_record.specs.TableBlocks.{entry_word, HaveWords}
-use Rattle.thy_base.specs.Words.{block_of}
-use Rattle.thy_record.proofs.TableLemmas.{table_block_of-entries}
-use Rattle.thy_control.specs.CheckpointTables.{tables1}
-use Rattle.thy_control.specs.TableBlocks.{entries_of}
+use Rattle.std.proofs.Common.{◌≡◌, ℕ, ◌+◌, ◌<◌, ◌≤◌, sym, subst, arith}
 use Rattle.thy_control.specs.State.{State}
-use Rattle.thy_control.proofs.TablesLemmas.{AreTablesOf-under_way}
-use Rattle.thy_control.proofs.TableBlockLemmas.{HaveWords-entries}
+use Rattle.thy_control.specs.TableBlocks.{table_blocks, count_blocks}
 use Rattle.thy_control.proofs.control.Control.table.Goals as goal
 
-pub table_block-requires : goal.table_block-requires
-table_block-requires c =
-    let s : State = c.args.self.now in
-    subst (λ (es : List (Option ℕ)). HaveWords es) (sym c.listed_in.ensures)
-    (HaveWords-entries s.p (tables1 s) c.args.k c.tables.ensures.range (AreTablesOf-under_way s c.tables.ensures).valid)
-
-pub returns : goal.returns
-returns c =
-    let s : State = c.args.self.now in
-    c.table_block.ensures ∙ ap (λ es. block_of (map entry_word es)) c.listed_in.ensures
-    ∙ table_block_of-entries (tables1 s) c.args.k (entries_of (tables1 s) c.args.k) refl
+pub last_block-requires : goal.last_block-requires
+last_block-requires c =
+    let asked : c.args.k < table_blocks c.self.inside.geometry + count_blocks c.self.inside.geometry
+    = subst (λ (t : State). c.args.k < table_blocks t.p + count_blocks t.p) (sym c.self.view_is) c.requires in
+    let first : c.table_blocks-tables.result ≡ table_blocks c.self.inside.geometry
+    = subst (λ (t : State). c.table_blocks-tables.result ≡ table_blocks t.p) (sym c.self.view_is) c.table_blocks-tables.ensures in
+    omega (arith, asked, first, c.if-k-tables.false, c.self.invariant.tables.counts.size)
