@@ -167,6 +167,38 @@ fn a_page_comes_and_leaves_by_its_home(rt: HostRuntime) {
     no_frame_is_used(&rt, &mut memory);
 }
 
+/// Stores 20 blocks of the page that was framed in the first epoch, and commits: at the second seal it is not low.
+fn stay_dense(rt: &impl Abort, memory: &mut Memory) {
+    store_page(rt, memory);
+    memory.seal(rt, 1, 10);
+    promote_page(rt, memory);
+    commits(rt, memory, 13, 1);
+    for b in 0..20 {
+        done(rt, memory, b, b'B');
+    }
+    memory.seal(rt, 2, 20);
+    commits(rt, memory, 77, 2);
+}
+
+fn quiet_epochs(rt: &impl Abort, alloc: Global, memory: &mut Memory) {
+    stay_dense(rt, memory);
+    memory.seal(rt, 3, 30);
+    commits(rt, memory, 13, 3);
+    memory.seal(rt, 4, 40);
+    commits(rt, memory, 77, 4);
+    decodes(rt, alloc, memory, 4, 19, b'B');
+    decodes(rt, alloc, memory, 4, 20, b'A');
+}
+
+// With no store in the third epoch the page stays, because the second had 20: nothing but the slot is written. With none in the
+// fourth either it leaves by its home.
+#[test]
+fn a_page_stays_for_one_quiet_epoch(rt: HostRuntime) {
+    let mut memory = Memory::power_on(&rt, rt.alloc(), &least(32));
+    quiet_epochs(&rt, rt.alloc(), &mut memory);
+    no_frame_is_used(&rt, &mut memory);
+}
+
 /// Stores a block of the page behind so many of the 77 actions, and commits.
 fn store_behind(rt: &impl Abort, alloc: Global, memory: &mut Memory, many: u64, overlay: bool) {
     frame_page(rt, alloc, memory);
