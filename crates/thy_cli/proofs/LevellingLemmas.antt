@@ -125,7 +125,7 @@ AllFit-map f read cycles s [] [] h = (refl, h.1)
 AllFit-map f read cycles s [] (g ∷ left) h = absurd (let none : f g ∷ map f left ≡ [] = h.0 in cc)
 AllFit-map f read cycles s (Cut index cycle ∷ vs) [] h = h
 AllFit-map f read cycles s (Cut index cycle ∷ vs) (g ∷ left) h = (h.0, AllFit-map f read cycles (found (read (f g)) (Some cycle)) vs left h.1)
-AllFit-map f read cycles s (EpochEnd epoch count cause ∷ vs) left h = (h.0, AllFit-map f read cycles (found s.means None) vs left h.1)
+AllFit-map f read cycles s (EpochEnd epoch count cause turns ∷ vs) left h = (h.0, AllFit-map f read cycles (found s.means None) vs left h.1)
 AllFit-map f read cycles s (Commit epoch cycle overlapped ∷ vs) left h = (h.0, AllFit-map f read cycles (found s.means None) vs left h.1)
 AllFit-map f read cycles s (Restart epoch count state ∷ vs) left h = (h.0, AllFit-map f read cycles (found s.means None) vs left h.1)
 AllFit-map f read cycles s (Reload ∷ vs) left h = (h.0, AllFit-map f read cycles (found s.means None) vs left h.1)

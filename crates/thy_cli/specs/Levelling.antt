@@ -11,10 +11,10 @@ use Rattle.thy_record.specs.Decoded.{Reading}
 use Rattle.thy_text.specs.Event.{Event}
 use Rattle.thy_view.specs.Kind.{KindOf}
 use Rattle.thy_view.specs.Origin.{Origin}
-use Rattle.thy_view.specs.Safe.{ceiling, Safe}
+use Rattle.thy_view.specs.Safe.{ceiling}
 use Rattle.thy_run.specs.Cuts.{cuts_among}
 use Rattle.thy_run.specs.Images.{HasLeft, AllFit}
-use Rattle.thy_run.specs.Laws.{marks_of, found_at_start}
+use Rattle.thy_run.specs.Laws.{IsSafe, marks_of, found_at_start}
 use Rattle.thy_cli.specs.Saving.{IsPut}
 
 -- what an image of the device is to a run: itself; with a gap, the lines that it holds by its own registers
@@ -55,7 +55,7 @@ images_of_save name due = 0
 -- save's one more.
 pub record IsHandedBack {M : Type 0} (K : KindOf M) (o : Origin) (gap cycles : ℕ) (events : List Event) (saved : ℕ)
     (n : Device) : Type 0 where
-  pub safe_at_return : Safe (read_through gap K.decode) o (marks_of o events).kept (marks_of o events).sealed n
+  pub safe_at_return : IsSafe (read_through gap K.decode) o (marks_of o events) n
   pub restarts_decode : AllFit (read_through gap K.decode o.geometry ceiling) (HasLeft cycles) (found_at_start o) events
       (take (length (cuts_among events)) n.left)
   pub images : length n.left ≡ length (cuts_among events) + saved

@@ -12,7 +12,7 @@ use Rattle.thy_control.specs.State.{new_state}
 use Rattle.thy_control.proofs.NewLemmas.{AreSoundTables-new}
 use Rattle.thy_commit.specs.declared.next.Next.TheVariants.{Nothing, Slot as SlotNext}
 use Rattle.thy_recover.specs.declared.stage.Stage.{Stage}
-use Rattle.thy_recover.specs.declared.stage.Stage.TheVariants.{Unread, Header, Slot, Frames, Refusing, Loading, Restored, Loaded}
+use Rattle.thy_recover.specs.declared.stage.Stage.TheVariants.{Reads, Loads, Over}
 use Rattle.thy_recover.specs.Boot.{new_boot}
 use Rattle.thy_view.specs.Origin.{Origin}
 use Rattle.thy_view.specs.Told.{told}
@@ -68,14 +68,9 @@ powered p =
 
 -- it depends on the image, and on no turn
 alike_at : (o : Origin) (turns : List ℕ) (stage : Stage) (n : Device) → view_at (told o turns) stage n ≡ view_at o stage n
-alike_at o turns Unread n = refl
-alike_at o turns (Header epoch fault) n = refl
-alike_at o turns (Slot epoch next) n = refl
-alike_at o turns (Frames epoch page next) n = refl
-alike_at o turns (Refusing bad) n = refl
-alike_at o turns (Loading issue) n = refl
-alike_at o turns (Restored epoch) n = refl
-alike_at o turns Loaded n = refl
+alike_at o turns (Reads stage) n = refl
+alike_at o turns (Loads issue) n = refl
+alike_at o turns (Over end) n = refl
 
 -- ---- the laws
 
