@@ -1,3 +1,1 @@
 pub mod Naming
-pub mod Powered
-pub mod Scarce

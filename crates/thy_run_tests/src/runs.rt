@@ -15,7 +15,6 @@ mod programs;
 mod saved;
 mod second_cuts;
 
-pub(crate) use console::GREET;
 use console::HELLO;
 use epochs::{FOUR_INSTRUCTIONS, NINE_STORES, NINE_STORES_TWICE};
 use programs::file_of;
@@ -125,8 +124,8 @@ fn called_over<H: Shelf, N: Nvm>(
     for word in line.split(' ') {
         words.push(String::from_str(alloc, word)?)?;
     }
-    let mut terminal = MemSink::new(alloc, 4096, Vec::from_slice(alloc, unseen)?)?;
-    let mut report = MemSink::new(alloc, 4096, Vec::from_slice(alloc, untold)?)?;
+    let mut terminal = MemSink::new(alloc, 65_536, Vec::from_slice(alloc, unseen)?)?;
+    let mut report = MemSink::new(alloc, 65_536, Vec::from_slice(alloc, untold)?)?;
     let answer = thynvm(alloc, &words, shelf, &mut terminal, &mut report, nvm);
     Ok(Given {
         status: answer.status,

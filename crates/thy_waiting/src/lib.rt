@@ -3,7 +3,7 @@
 //! another kind than the first; no program runs on it, only tests.
 //!
 //! Open src/waiting.rt first, then specs/Calls.antt. It stands on thy_dual, thy_waiting_model, which has its laws, and on
-//! what those stand on; on it stands thy_run_tests.
+//! what those stand on; on it stands thy_machine_tests.
 #![tactic(auto)]
 
 mod waiting;

@@ -73,7 +73,7 @@ struct Saved {
 }
 
 /// Runs a line and saves it under I.
-fn saved(rt: &impl Abort, alloc: Global, line: &str, gap: u64) -> Result<Saved, AllocError> {
+fn run_and_save(rt: &impl Abort, alloc: Global, line: &str, gap: u64) -> Result<Saved, AllocError> {
     let mut shelf = MemShelf::new(files(alloc)?, Vec::new(alloc));
     let mut nvm = MemNvm::new(alloc);
     let whole = format!(in alloc; "{line} --save I --gap {gap}")?;
@@ -98,8 +98,8 @@ fn alike(one: &Given, other: &Given) -> bool {
 
 /// Compares a run with the same run without a gap: status, cycles, terminal, report and saved image.
 fn compare_runs(rt: &impl Abort, alloc: Global, line: &str, gap: u64) -> Result<(), AllocError> {
-    let bare = saved(rt, alloc, line, 0)?;
-    let levelled = saved(rt, alloc, line, gap)?;
+    let bare = run_and_save(rt, alloc, line, 0)?;
+    let levelled = run_and_save(rt, alloc, line, gap)?;
     assert!(rt; alike(&bare.given, &levelled.given), "{line}");
     assert!(rt;
         bare.image.as_slice() == levelled.image.as_slice(),
@@ -113,9 +113,9 @@ fn compare_runs(rt: &impl Abort, alloc: Global, line: &str, gap: u64) -> Result<
 fn each_barrier_moves_a_line_where_the_gap_is_one(rt: HostRuntime) -> Result<(), Fail> {
     let alloc = rt.alloc();
     let line = "thynvm run F --pages 8 --btt 8 --ptt 8";
-    let bare = saved(&rt, alloc, line, 0)?;
-    let levelled = saved(&rt, alloc, line, 1)?;
-    let rare = saved(&rt, alloc, line, 1_000_000)?;
+    let bare = run_and_save(&rt, alloc, line, 0)?;
+    let levelled = run_and_save(&rt, alloc, line, 1)?;
+    let rare = run_and_save(&rt, alloc, line, 1_000_000)?;
     assert!(rt; levelled.writes == bare.writes.saturating_add(8));
     assert!(rt; rare.writes == bare.writes);
     Ok(())

@@ -1,18 +1,27 @@
 -- What the calls of a machine leave, with its device.
-use Rattle.std.proofs.Common.{◌≡◌, ℕ, ◌+◌, ◌-◌, ◌^◌, ◌≤◌, ◌<◌, None, List, [], ◌∷◌, ◌++◌, length, sym, ◌∙◌, ap, subst, arith}
+use Rattle.std.proofs.Common.{◌≡◌, ℕ, ◌+◌, ◌-◌, ◌^◌, ◌≤◌, ◌<◌, Option, None, List, [], ◌∷◌, ◌++◌, length, sym, ◌∙◌, ap, subst, lit<, arith}
 use Rattle.std.proofs.lemmas.List.{length-append}
 use Rattle.thy_base.specs.declared.config.Parameters.{Parameters}
 use Rattle.thy_base.specs.declared.mix.Pick.{Pick}
 use Rattle.thy_base.specs.declared.nvm.Shape.{Shape}
+use Rattle.thy_base.specs.declared.mark.Mark.{Mark}
 use Rattle.thy_base.specs.Device.{Device, IsCut, IsFramed, fitted}
+use Rattle.thy_base.specs.Geometry.{IsInRange, program_size}
+use Rattle.thy_isa.specs.declared.state.Status.TheVariants.{Running}
+use Rattle.thy_isa.specs.Step.{State}
+use Rattle.thy_isa.specs.Storable.{IsNumber, IsStorable, IsReadable}
+use Rattle.thy_isa.proofs.MemoryBounds.{anywhere}
+use Rattle.thy_elf.specs.Image.{Contents}
+use Rattle.thy_plain.specs.Start.{start_state}
+use Rattle.thy_record.specs.Cpu.{is_status, status_tag, status_value}
 use Rattle.thy_record.specs.declared.start.Start.{Start}
 use Rattle.thy_view.specs.declared.did.Stepped.{Stepped}
 use Rattle.thy_view.specs.Booting.{found_first}
 use Rattle.thy_view.specs.Kind.{KindOf, IsLawful, IsStep, IsFittedFor}
-use Rattle.thy_view.specs.Origin.{Origin, IsOrigin}
+use Rattle.thy_view.specs.Origin.{Origin, IsOrigin, StartsFrom, setting_of}
 use Rattle.thy_view.specs.Told.{IsThere, HasTurn}
 use Rattle.thy_view.proofs.OneHartLaws.{has-turn}
-use Rattle.thy_run_tests.specs.Powered.{HasRoom, origin_from, powered, IsPowered}
+use Rattle.thy_machine_tests.specs.Powered.{HasRoom, origin_from, powered, IsPowered}
 
 -- the room for cuts stays but for a cut
 HasRoom-framed : (m n : Device) (cuts : ℕ) → HasRoom m cuts → IsFramed m n → HasRoom n cuts
@@ -24,6 +33,32 @@ HasRoom-framed m n cuts room frame =
 room-cut : {A : Type 0} (left : List A) (image : A) (room cuts : ℕ) → length left + cuts ≤ room → 0 < cuts
     → length (left ++ image ∷ []) + (cuts - 1) ≤ room
 room-cut left image room cuts h some = grind (arith, h, some, length-append left (image ∷ []))
+
+-- a run may start as a program is loaded
+pub IsOrigin-start : (o : Origin) (contents : Contents) → IsInRange o.geometry → o.start ≡ start_state o.geometry contents → IsStorable (program_size o.geometry) o.start → IsReadable (setting_of o) → o.kept ≡ None → IsOrigin o
+IsOrigin-start o contents range is storable readable fresh =
+    let console : length o.start.console ≡ 0 = ap (λ (s : State). length s.console) is in
+    let count : o.start.count ≡ 0 = ap (λ (s : State). s.count) is in
+    let status : o.start.status ≡ Running = ap (λ (s : State). s.status) is in
+    record {
+      geometry = range;
+      recordable = record {
+        pc = storable.pc;
+        regs_length = storable.registers;
+        regs_zero = storable.zero_register;
+        regs = anywhere IsNumber (lit< tt) o.start.regs storable.numbers;
+        console = omega (arith, console);
+        cursor = storable.cursor;
+        brk = storable.brk;
+        floor = storable.floor;
+        count = omega (arith, count);
+        status = ap (λ s. is_status (status_tag s) (status_value s)) status;
+      };
+      memory = storable.memory_size;
+      storable = storable;
+      readable = readable;
+      starts = subst (λ (kept : Option Mark). StartsFrom kept o.start) (sym fresh) status;
+    }
 
 -- a device of zeros is fitted for a start that was made from a file
 fits : {M : Type 0} (K : KindOf M) (laws : IsLawful K) → (o : Origin) (shape : Shape) (n : Device) → o.kept ≡ None → shape.blocks ≡ K.blocks o.geometry

@@ -2,8 +2,8 @@ use Rattle.std.proofs.Common.{◌≡◌, IfOk, OnOk, [], refl, subst}
 use Rattle.thy_base.specs.declared.config.Parameters.{Parameters}
 use Rattle.thy_base.specs.declared.nvm.Shape.{Shape}
 use Rattle.thy_base.specs.Device.{Device, fitted}
-use Rattle.thy_run_tests.proofs.PoweredLemmas.{IsPowered-first}
-use Rattle.thy_run_tests.proofs.machine.Powered.new.Goals as goal
+use Rattle.thy_machine_tests.proofs.PoweredLemmas.{IsPowered-first}
+use Rattle.thy_machine_tests.proofs.machine.Powered.new.Goals as goal
 
 pub invariant_of-result : goal.invariant_of-result
 invariant_of-result g c =

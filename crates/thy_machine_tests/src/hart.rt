@@ -4,8 +4,8 @@ ghost use Rattle.thy_base.specs.Geometry.{memory_blocks};
 ghost use Rattle.thy_hart.specs.Moments.{moment, IsReady};
 
 use crate::expect::{expect, expect_at};
+use crate::greet::GREET;
 use crate::plain::{smallest, start_with};
-use crate::runs::GREET;
 use std::alloc::Global;
 use std::process::Abort;
 use thy_base::{Block, BlockStore, EndCause, NvmError, Stored};
@@ -37,7 +37,7 @@ struct Scarce {
 
 impl BlockStore<()> for Scarce {
     ghost use Rattle.std.specs.Prelude.{◌≡◌, not};
-    ghost use Rattle.thy_run_tests.specs.Scarce.{scarce};
+    ghost use Rattle.thy_machine_tests.specs.Scarce.{scarce};
 
     ghost holding = { λ s n. scarce s.blocks.items s.free s.copies s.page };
 

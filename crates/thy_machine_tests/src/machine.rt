@@ -5,7 +5,7 @@ ghost use Rattle.std.specs.Prelude.{◌≡◌, None};
 ghost use Rattle.thy_base.specs.Geometry.{program_size};
 ghost use Rattle.thy_view.specs.Origin.{IsOrigin};
 ghost use Rattle.thy_view.specs.Kind.{IsDramOf};
-ghost use Rattle.thy_run_tests.specs.Powered.{origin_from};
+ghost use Rattle.thy_machine_tests.specs.Powered.{origin_from};
 
 mod waiting;
 
@@ -151,7 +151,7 @@ struct Powered<M: Computer> {
 }
 
 impl<M: Computer> Model for Powered<M> {
-    ghost use Rattle.thy_run_tests.specs.Powered.{Powered as IsValue, IsPowered, powered};
+    ghost use Rattle.thy_machine_tests.specs.Powered.{Powered as IsValue, IsPowered, powered};
 
     ghost Value = { IsValue M };
 

@@ -2,8 +2,8 @@ use Rattle.std.proofs.Common.{ap, length, refl, subst, arith}
 use Rattle.std.specs.List.{All}
 use Rattle.thy_isa.specs.Storable.{IsByte}
 use Rattle.thy_elf.specs.Image.{contents_of}
-use Rattle.thy_cli.proofs.TopLemmas.{IsOrigin-start}
-use Rattle.thy_run_tests.proofs.machine.start_for.Goals as goal
+use Rattle.thy_machine_tests.proofs.PoweredLemmas.{IsOrigin-start}
+use Rattle.thy_machine_tests.proofs.machine.start_for.Goals as goal
 
 pub returns-clause-origin : goal.returns-clause-origin
 returns-clause-origin g c =

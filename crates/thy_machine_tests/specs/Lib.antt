@@ -1,0 +1,2 @@
+pub mod Powered
+pub mod Scarce
