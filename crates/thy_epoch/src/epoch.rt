@@ -69,13 +69,11 @@ impl EpochState {
         ensures { self.new ≡ retired_once running self.old }
     {
         self.retired += 1;
-        self.over = if !running {
-            Some(EndCause::Ended)
+        if !running {
+            self.over = Some(EndCause::Ended);
         } else if self.retired == self.span {
-            Some(EndCause::Length)
-        } else {
-            None
-        };
+            self.over = Some(EndCause::Length);
+        }
     }
 
     /// Ends the epoch before an instruction that stores into `need` blocks, where `free` table entries

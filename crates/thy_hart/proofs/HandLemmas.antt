@@ -146,9 +146,9 @@ write-sound p e to done have hand h is =
 read_len-enough : (x input : List ℕ) (c : CallState) (e : Effect) → read_len e ≤ length (brings input x c e) + (moves_of x c e).from.len
 unfolding moves_of
 read_len-enough x input c (Next pc) = omega arith
-read_len-enough x input c (Set pc rd v) = omega arith
-read_len-enough x input c (Read pc at width extend rd) = omega arith
-read_len-enough x input c (Write pc at width v) = omega arith
+read_len-enough x input c (Set rd pc v) = omega arith
+read_len-enough x input c (Read rd width extend pc at) = omega arith
+read_len-enough x input c (Write width pc at v) = omega arith
 read_len-enough x input c Environment = omega arith
 read_len-enough x input c (Trap cause) = omega arith
 

@@ -85,9 +85,9 @@ has_written (Retiring e wrote) = wrote
 -- how many bytes an effect has to read for the number that it makes of them
 abbrev pub read_len : Effect → ℕ
 read_len (Next pc) = 0
-read_len (Set pc rd v) = 0
-read_len (Read pc at width extend rd) = size_of width
-read_len (Write pc at width v) = 0
+read_len (Set rd pc v) = 0
+read_len (Read rd width extend pc at) = size_of width
+read_len (Write width pc at v) = 0
 read_len Environment = 0
 read_len (Trap cause) = 0
 

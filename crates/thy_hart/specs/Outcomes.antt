@@ -40,13 +40,16 @@ written_on e to done = if to.len == 0 then Retiring e true else Writing e to don
 
 -- ---- each micro-step, over the memory that the cache and its store make
 
--- the instruction at the program counter is in hand
-unfoldable pub fetched : List ℕ → List Block → Core → Core
-fetched input memory h =
-    let e = effect_in h.geometry h.cpu memory in
+-- an instruction of this effect is in hand
+abbrev pub begun_with : List ℕ → Effect → Core → Core
+begun_with input e h =
     let calls = calls_in h.geometry h.cpu (length input) in
     let moves = moves_of h.cpu.regs calls e in
     record h { hand = begun e moves.from moves.to; bytes = brings input h.cpu.regs calls e }
+
+-- the instruction at the program counter is in hand
+unfoldable pub fetched : List ℕ → List Block → Core → Core
+fetched input memory h = begun_with input (effect_in h.geometry h.cpu memory) h
 
 -- the bytes of one block are read
 abbrev pub block_read : List Block → Effect → Span → Span → Core → Core

@@ -1,18 +1,19 @@
 //! The micro-steps of an instruction whose block is in the cache.
 #![tactic(auto, unfolding(crate::specs::Core::fetched_block, crate::specs::Outcomes::fetched, crate::specs::Outcomes::room_reserved, crate::specs::Outcomes::room_answer, thy_isa::specs::OnBlocks::effect_in, thy_isa::specs::OnBlocks::cpu_after))]
 
-ghost use Rattle.std.specs.Prelude.{◌≡◌, true, None, Some, ◌+◌, ◌*◌, ◌<◌, ◌≤◌, ◌^◌, [], length, drop};
+ghost use Rattle.std.specs.Prelude.{◌≡◌, true, None, Some, ◌+◌, ◌-◌, ◌*◌, ◌<◌, ◌≤◌, ◌^◌, length, drop};
 ghost use Rattle.arrayvec.specs.ArrayVec.{array_vec_len};
 ghost use Rattle.thy_base.specs.Geometry.{IsInRange, memory_blocks, program_size};
 ghost use Rattle.thy_cache.specs.Contents.{dirty_count, read_from, KeepsSize};
 ghost use Rattle.thy_cache.specs.Flat.{AgreesStill, KeepsLines};
-ghost use Rattle.thy_flat.specs.Spans.{first_block, first_byte};
+ghost use Rattle.thy_flat.specs.Spans.{span, first_block, first_byte};
 ghost use Rattle.thy_isa.specs.Access.{IsWithin};
-ghost use Rattle.thy_isa.specs.Moves.{brings};
+ghost use Rattle.thy_isa.specs.declared.state.Effect.TheVariants.{Environment};
+ghost use Rattle.thy_isa.specs.Effects.{size_of};
 ghost use Rattle.thy_isa.specs.OnBlocks.{calls_in};
 ghost use Rattle.thy_isa.specs.Step.{AreCallsOf, is_running};
 ghost use Rattle.thy_hart.specs.Core.{IsReading, IsWriting, IsSound, fetched_block, next_block, blocks_of, read_len, reserved, to_reserve};
-ghost use Rattle.thy_hart.specs.Outcomes.{touched, written_by, block_written, room_reserved, room_answer, retired, over_or_retired, epoch_retired, given};
+ghost use Rattle.thy_hart.specs.Outcomes.{begun_with, cpu_retired, touched, written_by, block_written, room_reserved, room_answer, retired, over_or_retired, epoch_retired, given};
 ghost use Rattle.thy_hart.specs.MicroSteps.{core_of, IsFound, IsNext, ReadsWord, FetchesEffect, FetchesIn, ReadsIn, WritesIn, IsMicroStep};
 
 use crate::hand::{Hand, HartStep, Next, begun, written_on};
@@ -21,8 +22,8 @@ use thy_cache::{Cache, Place};
 use thy_epoch::EpochState;
 use thy_flat::{Piece, Span, take_head};
 use thy_isa::{
-    CallState, CpuState, Effect, Regs, Status, brought, fetch_fault, finish, moves, number_in,
-    within, word, word_effect,
+    CallState, CpuState, Effect, Status, Width, add_number, brought, bytes_in, fetch_fault, finish,
+    finish_alone, moves, number_in, within, word, word_effect,
 };
 
 /// What a hart is made of.
@@ -54,20 +55,8 @@ fn fetch_word(cache: &mut Cache, at: Span, place: Option<Place>) -> u32
     }
 }
 
-/// Takes the bytes that an effect brings along into a piece that has none. Most effects bring none.
-#[tactic(auto, unfolding(thy_isa::specs::Moves::brings))]
-fn bring_along(bytes: &mut Piece, input: &[u8], regs: &Regs, calls: &CallState, effect: &Effect)
-    requires empty { bytes.old.items ≡ [] }
-    requires input { calls.now.input_len ≡ length input.now }
-    ensures { bytes.new.items ≡ brings input.now regs.now calls.now effect.now }
-{
-    match *effect {
-        Effect::Write { .. } | Effect::Environment => {
-            *bytes = brought(input, regs, calls, effect);
-        }
-        Effect::Next { .. } | Effect::Set { .. } | Effect::Read { .. } | Effect::Trap(_) => {}
-    }
-}
+/// No bytes.
+const NONE: Span = Span { at: 0, len: 0 };
 
 /// Whether a program of this status runs.
 fn runs(status: Status) -> bool
@@ -87,6 +76,8 @@ fn blocks_of(span: Span) -> u64
     if span.rest().is_empty() { 1 } else { 2 }
 }
 
+// The micro-steps take the device's type `N`, which none of them uses: so the compiler has a copy of them for each device,
+// called from one place, and makes it part of the loop over cycles.
 impl Parts {
     /// The block that the next micro-step reads or writes, if it does.
     fn next_block(&self) -> Option<u64>
@@ -142,7 +133,7 @@ impl Parts {
     }
 
     /// The effect of the instruction at the program counter. Where that can't be fetched no line is touched.
-    fn next_effect(&self, cache: &mut Cache, place: Option<Place>) -> Effect
+    fn next_effect<N>(&self, cache: &mut Cache, place: Option<Place>) -> Effect
         requires found { IsFound cache.old (fetched_block self.now.geometry self.now.cpu) place }
         ensures effect { FetchesEffect self.now.geometry self.now.cpu cache.old result }
         ensures inside { IsWithin self.now.geometry.base (program_size self.now.geometry) result }
@@ -185,7 +176,7 @@ impl Parts {
     }
 
     /// Fetches the instruction at the program counter.
-    fn fetch(&mut self, cache: &mut Cache, place: Option<Place>, input: &[u8])
+    fn fetch<N>(&mut self, cache: &mut Cache, place: Option<Place>, input: &[u8])
         requires range { IsInRange self.old.geometry }
         requires empty { array_vec_len self.old.bytes ≡ 0 }
         requires found { IsFound cache.old (fetched_block self.old.geometry self.old.cpu) place }
@@ -195,15 +186,63 @@ impl Parts {
         ensures cache { cache.new ≡ touched cache.old (fetched_block self.old.geometry self.old.cpu) }
         ensures lines { KeepsLines cache.old cache.new }
     {
-        let effect = self.next_effect(cache, place);
+        let effect = self.next_effect::<N>(cache, place);
+        self.begin::<N>(effect, input);
+    }
+
+    /// The bytes at an address of program memory that a load or a store moves.
+    fn span(&self, at: u64, width: Width) -> Span
+        requires { self.now.geometry.base ≤ at }
+        ensures { result ≡ span (at - self.now.geometry.base) (size_of width) }
+    {
+        Span {
+            at: at - self.geometry.numbers().base,
+            len: bytes_in(width),
+        }
+    }
+
+    /// Takes an effect in hand, and the bytes that it brings along. Only an environment call depends on what calls are
+    /// decided by.
+    #[tactic(auto, unfolding(thy_isa::specs::Moves::moves_of, thy_isa::specs::Moves::brings))]
+    fn begin<N>(&mut self, effect: Effect, input: &[u8])
+        requires range { IsInRange self.old.geometry }
+        requires empty { array_vec_len self.old.bytes ≡ 0 }
+        requires inside { IsWithin self.old.geometry.base (program_size self.old.geometry) effect }
+        ensures { core_of self.new ≡ begun_with input.now effect (core_of self.old) }
+    {
+        match effect {
+            Effect::Environment => self.begin_call(input),
+            Effect::Read { at, width, .. } => self.hand = begun(effect, self.span(at, width), NONE),
+            Effect::Write {
+                at,
+                width,
+                value,
+                ..
+            } => {
+                add_number(&mut self.bytes, width, value);
+                self.hand = begun(effect, NONE, self.span(at, width));
+            }
+            Effect::Next { .. } | Effect::Set { .. } | Effect::Trap(_) => {
+                self.hand = begun(effect, NONE, NONE);
+            }
+        }
+    }
+
+    /// Takes an environment call in hand, and what it takes of the input.
+    fn begin_call(&mut self, input: &[u8])
+        requires range { IsInRange self.old.geometry }
+        requires empty { array_vec_len self.old.bytes ≡ 0 }
+        ensures { core_of self.new ≡ begun_with input.now Environment (core_of self.old) }
+    {
+        let effect = Effect::Environment;
         let calls = self.calls(input.len() as u64);
         let moves = moves(&self.cpu.regs, &calls, &effect);
-        bring_along(&mut self.bytes, input, &self.cpu.regs, &calls, &effect);
+        self.bytes = brought(input, &self.cpu.regs, &calls, &effect);
         self.hand = begun(effect, moves.from, moves.to);
     }
 
     /// Reads the bytes of a span that lie in its first block, whose line is at this place.
-    fn read(
+    fn read<N>(
         &mut self,
         cache: &mut Cache,
         place: Option<Place>,
@@ -232,7 +271,7 @@ impl Parts {
 
     /// Reserves room for the blocks that will be written, or waits for it where a checkpoint is under way, or
     /// else ends the epoch and drops the instruction.
-    fn reserve(
+    fn reserve<N>(
         &mut self,
         dirty: u64,
         free: u64,
@@ -265,7 +304,7 @@ impl Parts {
     }
 
     /// Writes those bytes of a span that fall into its first block, whose line is at this place.
-    fn write(
+    fn write<N>(
         &mut self,
         cache: &mut Cache,
         place: Option<Place>,
@@ -300,20 +339,47 @@ impl Parts {
         }
     }
 
+    /// Takes an effect that has read and written. Only an environment call depends on what calls are decided by.
+    fn finish<N>(&mut self, effect: Effect, input: &[u8])
+        requires number { read_len effect ≤ array_vec_len self.old.bytes }
+        requires count { self.old.cpu.count + 1 < 2 ^ 64 }
+        ensures { core_of self.new ≡ record (core_of self.old) { cpu = cpu_retired input.now effect (core_of self.old) } }
+    {
+        match effect {
+            Effect::Environment => self.serve(input),
+            Effect::Next { .. }
+            | Effect::Set { .. }
+            | Effect::Read { .. }
+            | Effect::Write { .. }
+            | Effect::Trap(_) => {
+                let number = number_in(&effect, self.bytes.as_slice());
+                finish_alone(&mut self.cpu, &effect, number);
+            }
+        }
+    }
+
+    /// Serves the environment call in hand.
+    #[tactic(auto, unfolding(thy_isa::specs::Moves::number_in, thy_isa::specs::OnBlocks::cpu_after))]
+    fn serve(&mut self, input: &[u8])
+        requires { self.old.cpu.count + 1 < 2 ^ 64 }
+        ensures { core_of self.new ≡ record (core_of self.old) { cpu = cpu_retired input.now Environment (core_of self.old) } }
+    {
+        let calls = self.calls(input.len() as u64);
+        finish(&mut self.cpu, &Effect::Environment, 0, &calls);
+    }
+
     /// Retires the instruction, which has read and written.
-    fn retire(&mut self, effect: Effect, input: &[u8]) -> HartStep
+    fn retire<N>(&mut self, effect: Effect, input: &[u8]) -> HartStep
         requires number { read_len effect ≤ array_vec_len self.old.bytes }
         requires count { self.old.cpu.count + 1 < 2 ^ 64 }
         requires going { self.old.epoch.over ≡ None }
         ensures hart { core_of self.new ≡ retired input.now effect (core_of self.old) }
         ensures says { result ≡ over_or_retired (epoch_retired input.now effect (core_of self.old)).over }
     {
-        let calls = self.calls(input.len() as u64);
-        let number = number_in(&effect, self.bytes.as_slice());
-        finish(&mut self.cpu, &effect, number, &calls);
+        self.finish::<N>(effect, input);
         self.epoch.retired_once(runs(self.cpu.status));
         self.hand = Hand::Nothing;
-        self.bytes.clear();
+        self.bytes = Piece::new();
         match self.epoch.over() {
             None => HartStep::Retired,
             Some(cause) => HartStep::Over(cause),
@@ -321,7 +387,7 @@ impl Parts {
     }
 
     /// Takes the next micro-step. The line of the block that it touches, if it does, is at this place.
-    pub fn act(
+    pub fn act<N>(
         &mut self,
         cache: &mut Cache,
         place: Option<Place>,
@@ -339,21 +405,21 @@ impl Parts {
     {
         match self.hand {
             Hand::Nothing => {
-                self.fetch(cache, place, input);
+                self.fetch::<N>(cache, place, input);
                 HartStep::Moved
             }
             Hand::Reading { effect, from, to } => {
-                self.read(cache, place, effect, from, to);
+                self.read::<N>(cache, place, effect, from, to);
                 HartStep::Moved
             }
             Hand::Reserving { effect, to } => {
-                self.reserve(cache.dirty(), free, under_way, effect, to)
+                self.reserve::<N>(cache.dirty(), free, under_way, effect, to)
             }
             Hand::Writing { effect, to, done } => {
-                self.write(cache, place, effect, to, done);
+                self.write::<N>(cache, place, effect, to, done);
                 HartStep::Moved
             }
-            Hand::Retiring { effect, .. } => self.retire(effect, input),
+            Hand::Retiring { effect, .. } => self.retire::<N>(effect, input),
         }
     }
 }

@@ -17,11 +17,11 @@ if_within base size false e c h = tt
 pub within-is : (base size : ℕ) (e : Effect) → IsWithin base size (within base size e)
 unfolding within
 within-is base size (Next pc) = tt
-within-is base size (Set pc rd v) = tt
-within-is base size (Read pc at width extend rd) =
-    if_within base size (is_inside base size at (size_of width)) (Read pc at width extend rd) LoadAccess (is_inside-true base size at (size_of width))
-within-is base size (Write pc at width v) =
-    if_within base size (is_inside base size at (size_of width)) (Write pc at width v) StoreAccess (is_inside-true base size at (size_of width))
+within-is base size (Set rd pc v) = tt
+within-is base size (Read rd width extend pc at) =
+    if_within base size (is_inside base size at (size_of width)) (Read rd width extend pc at) LoadAccess (is_inside-true base size at (size_of width))
+within-is base size (Write width pc at v) =
+    if_within base size (is_inside base size at (size_of width)) (Write width pc at v) StoreAccess (is_inside-true base size at (size_of width))
 within-is base size Environment = tt
 within-is base size (Trap c) = tt
 

@@ -238,21 +238,21 @@ module _ (p : Parameters) (input : List ℕ) (cpu : CpuState) (blocks : List Blo
   effect-number : (e : Effect) → IsWithin p.base (program_size p) e → number_in e (moved e) ≡ read_by p.base (memory_bytes p blocks) e
   unfolding number_in read_by brings moves_of
   effect-number (Next pc) h = refl
-  effect-number (Set pc rd v) h = refl
-  effect-number (Read pc at width extend rd) h =
+  effect-number (Set rd pc v) h = refl
+  effect-number (Read rd width extend pc at) h =
       number-memory p blocks (at - p.base) (size_of width) whole (omega (arith, size_of-most width)) (omega (arith, h.0, h.1))
-  effect-number (Write pc at width v) h = refl
+  effect-number (Write width pc at v) h = refl
   effect-number Environment h = refl
   effect-number (Trap cause) h = refl
 
   -- the bytes of a number that is stored
-  Write-bytes : (pc at : ℕ) (width : Width) (v : ℕ) → moved (Write pc at width v) ≡ number_bytes (size_of width) v
+  Write-bytes : (pc at : ℕ) (width : Width) (v : ℕ) → moved (Write width pc at v) ≡ number_bytes (size_of width) v
   unfolding brings moves_of
   Write-bytes pc at width v =
       ap (λ bs. number_bytes (size_of width) v ++ bs) (gathered-none blocks (span 0 0) refl) ∙ append-nil (number_bytes (size_of width) v)
 
   Write-blocks : (pc at : ℕ) (width : Width) (v : ℕ)
-      → after (Write pc at width v) ≡ scattered blocks (span (at - p.base) (length (number_bytes (size_of width) v))) (number_bytes (size_of width) v)
+      → after (Write width pc at v) ≡ scattered blocks (span (at - p.base) (length (number_bytes (size_of width) v))) (number_bytes (size_of width) v)
   unfolding moves_of
   Write-blocks pc at width v =
       ap (scattered blocks (span (at - p.base) (size_of width))) (Write-bytes pc at width v)
@@ -275,9 +275,9 @@ module _ (p : Parameters) (input : List ℕ) (cpu : CpuState) (blocks : List Blo
   effect-memory : (e : Effect) → IsWithin p.base (program_size p) e → memory_bytes p (after e) ≡ memory_by g now e
   unfolding memory_by moves_of
   effect-memory (Next pc) h = ap (memory_bytes p) (effect_same (Next pc) refl)
-  effect-memory (Set pc rd v) h = ap (memory_bytes p) (effect_same (Set pc rd v) refl)
-  effect-memory (Read pc at width extend rd) h = ap (memory_bytes p) (effect_same (Read pc at width extend rd) refl)
-  effect-memory (Write pc at width v) h =
+  effect-memory (Set rd pc v) h = ap (memory_bytes p) (effect_same (Set rd pc v) refl)
+  effect-memory (Read rd width extend pc at) h = ap (memory_bytes p) (effect_same (Read rd width extend pc at) refl)
+  effect-memory (Write width pc at v) h =
       let l = length-number_bytes width v in
       ap (memory_bytes p) (Write-blocks pc at width v)
       ∙ memory-scattered p blocks (at - p.base) (number_bytes (size_of width) v) whole (omega (arith, l, size_of-most width)) (omega (arith, l, h.0, h.1))
@@ -287,9 +287,9 @@ module _ (p : Parameters) (input : List ℕ) (cpu : CpuState) (blocks : List Blo
   effect-console : (e : Effect) (n : ℕ) → IsWithin p.base (program_size p) e → console_bytes p (after e) (finished cpu e n calls).console_len ≡ console_by g now e
   unfolding console_by moves_of finished
   effect-console (Next pc) n h = ap (λ bs. console_bytes p bs cpu.console_len) (effect_same (Next pc) refl)
-  effect-console (Set pc rd v) n h = ap (λ bs. console_bytes p bs cpu.console_len) (effect_same (Set pc rd v) refl)
-  effect-console (Read pc at width extend rd) n h = ap (λ bs. console_bytes p bs cpu.console_len) (effect_same (Read pc at width extend rd) refl)
-  effect-console (Write pc at width v) n h =
+  effect-console (Set rd pc v) n h = ap (λ bs. console_bytes p bs cpu.console_len) (effect_same (Set rd pc v) refl)
+  effect-console (Read rd width extend pc at) n h = ap (λ bs. console_bytes p bs cpu.console_len) (effect_same (Read rd width extend pc at) refl)
+  effect-console (Write width pc at v) n h =
       let l = length-number_bytes width v in
       ap (λ bs. console_bytes p bs cpu.console_len) (Write-blocks pc at width v)
       ∙ console-scattered p blocks (at - p.base) (number_bytes (size_of width) v) cpu.console_len whole (omega (arith, l, size_of-most width)) (omega (arith, l, h.0, h.1))

@@ -61,9 +61,9 @@ instr_of-numbers w = first_row-numbers table w table-numbers
 -- the next program counter and the number written to a register are numbers of 64 bits
 abbrev pub EffectNumbers : Effect → Type 0
 EffectNumbers (Next pc) = IsNumber pc
-EffectNumbers (Set pc rd v) = IsNumber pc × IsNumber v
-EffectNumbers (Read pc at width extend rd) = IsNumber pc
-EffectNumbers (Write pc at width v) = IsNumber pc
+EffectNumbers (Set rd pc v) = IsNumber pc × IsNumber v
+EffectNumbers (Read rd width extend pc at) = IsNumber pc
+EffectNumbers (Write width pc at v) = IsNumber pc
 EffectNumbers Environment = Unit {0}
 EffectNumbers (Trap c) = Unit {0}
 
@@ -75,7 +75,7 @@ reg_at-number : (x : List ℕ) (r : ℕ) → All IsNumber x → IsNumber (reg_at
 reg_at-number x r h = if_number (r == 0) 0 (get_or x r 0) (lit< tt) (anywhere IsNumber (lit< tt) x h r)
 
 linked-numbers : (target rd pc : ℕ) → IsNumber target → EffectNumbers (linked target rd pc)
-linked-numbers target rd pc h = if_effect (target % 4 == 0) (Set target rd (after pc)) (Trap FetchMisaligned) (h, low64_number (pc + 4)) tt
+linked-numbers target rd pc h = if_effect (target % 4 == 0) (Set rd target (after pc)) (Trap FetchMisaligned) (h, low64_number (pc + 4)) tt
 
 branched-numbers : (taken : Bool) (target pc : ℕ) → IsNumber target → EffectNumbers (branched taken target pc)
 branched-numbers true target pc h = if_effect (target % 4 == 0) (Next target) (Trap FetchMisaligned) h tt

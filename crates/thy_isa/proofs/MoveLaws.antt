@@ -58,10 +58,10 @@ module _ (p : Parameters) (cpu : CpuState) (n : ℕ) (r : IsInRange p) where
   pub moves_of-spans : (x : List ℕ) (e : Effect) → IsWithin p.base (program_size p) e → AreSpans (memory_blocks p) (moves_of x (calls_in p cpu n) e)
   unfolding moves_of
   moves_of-spans x (Next pc) h = none (memory_blocks p)
-  moves_of-spans x (Set pc rd v) h = none (memory_blocks p)
-  moves_of-spans x (Read pc at width extend rd) h =
+  moves_of-spans x (Set rd pc v) h = none (memory_blocks p)
+  moves_of-spans x (Read rd width extend pc at) h =
       record { from = program at (size_of width) (omega (arith, size_of-most width)) h.0 h.1; to = no_span (memory_blocks p) }
-  moves_of-spans x (Write pc at width v) h =
+  moves_of-spans x (Write width pc at v) h =
       record { from = no_span (memory_blocks p); to = program at (size_of width) (omega (arith, size_of-most width)) h.0 h.1 }
   moves_of-spans x Environment h = call_moves-spans (call_of x (calls_in p cpu n)) (call_of-fit x (calls_in p cpu n))
   moves_of-spans x (Trap cause) h = none (memory_blocks p)
@@ -90,9 +90,9 @@ module _ (input : List ℕ) (c : CallState) (same : c.input_len ≡ length input
   pub moves_of-enough : (x : List ℕ) (e : Effect) → IsEnough (brings input x c e) (moves_of x c e)
   unfolding brings moves_of
   moves_of-enough x (Next pc) = enough_none
-  moves_of-enough x (Set pc rd v) = enough_none
-  moves_of-enough x (Read pc at width extend rd) = record { most = omega (arith, size_of-most width); least = omega arith }
-  moves_of-enough x (Write pc at width v) =
+  moves_of-enough x (Set rd pc v) = enough_none
+  moves_of-enough x (Read rd width extend pc at) = record { most = omega (arith, size_of-most width); least = omega arith }
+  moves_of-enough x (Write width pc at v) =
       let l = length-number_bytes width v in
       record { most = omega (arith, l, size_of-most width); least = omega (arith, l) }
   moves_of-enough x Environment = call_enough (call_of x c) (call_of-fit x c)

@@ -52,9 +52,9 @@ served-count c (Give at len) = refl
 pub finished-count : (c : CpuState) (e : Effect) (n : ℕ) (k : CallState) → (finished c e n k).count ≡ c.count + 1
 unfolding finished
 finished-count c (Next pc) n k = refl
-finished-count c (Set pc rd v) n k = refl
-finished-count c (Read pc at width extend rd) n k = refl
-finished-count c (Write pc at width v) n k = refl
+finished-count c (Set rd pc v) n k = refl
+finished-count c (Read rd width extend pc at) n k = refl
+finished-count c (Write width pc at v) n k = refl
 finished-count c Environment n k = served-count c (call_of c.regs k)
 finished-count c (Trap cause) n k = refl
 

@@ -199,9 +199,9 @@ cause_below StoreAccess = lit< tt
 pub finished-keeps : (c : CpuState) (e : Effect) (n : ℕ) (k : CallState) → IsCpu c → AreCallNumbers c k → EffectNumbers e → IsNumber n → IsCpu (finished c e n k)
 unfolding finished
 finished-keeps c (Next pc) n k h a p q = with_pc c pc h p
-finished-keeps c (Set pc rd v) n k h a p q = with_register c pc rd v h p.0 p.1
-finished-keeps c (Read pc at width extend rd) n k h a p q = with_register c pc rd _ h p (extended-number width extend n q)
-finished-keeps c (Write pc at width v) n k h a p q = with_pc c pc h p
+finished-keeps c (Set rd pc v) n k h a p q = with_register c pc rd v h p.0 p.1
+finished-keeps c (Read rd width extend pc at) n k h a p q = with_register c pc rd _ h p (extended-number width extend n q)
+finished-keeps c (Write width pc at v) n k h a p q = with_pc c pc h p
 finished-keeps c Environment n k h a p q = served-keeps c k (call_of c.regs k) a (call_of-fit c.regs k) (call_of-numbers c.regs k h.numbers a.brk) h
 finished-keeps c (Trap cause) n k h a p q = with_status c (Trapped (cause_number cause)) h (cause_below cause)
 
@@ -210,11 +210,11 @@ finished-keeps c (Trap cause) n k h a p q = with_status c (Trapped (cause_number
 within-numbers : (base size : ℕ) (e : Effect) → EffectNumbers e → EffectNumbers (within base size e)
 unfolding within
 within-numbers base size (Next pc) h = h
-within-numbers base size (Set pc rd v) h = h
-within-numbers base size (Read pc at width extend rd) h =
-    if_effect (is_inside base size at (size_of width)) (Read pc at width extend rd) (Trap LoadAccess) h tt
-within-numbers base size (Write pc at width v) h =
-    if_effect (is_inside base size at (size_of width)) (Write pc at width v) (Trap StoreAccess) h tt
+within-numbers base size (Set rd pc v) h = h
+within-numbers base size (Read rd width extend pc at) h =
+    if_effect (is_inside base size at (size_of width)) (Read rd width extend pc at) (Trap LoadAccess) h tt
+within-numbers base size (Write width pc at v) h =
+    if_effect (is_inside base size at (size_of width)) (Write width pc at v) (Trap StoreAccess) h tt
 within-numbers base size Environment h = tt
 within-numbers base size (Trap c) h = tt
 
@@ -233,9 +233,9 @@ effect_at-numbers base s h =
 read_by-number : (base : ℕ) (memory : List ℕ) (e : Effect) → All IsByte memory → IsNumber (read_by base memory e)
 unfolding read_by
 read_by-number base memory (Next pc) h = lit< tt
-read_by-number base memory (Set pc rd v) h = lit< tt
-read_by-number base memory (Read pc at width extend rd) h = number_at-number width memory (at - base) h
-read_by-number base memory (Write pc at width v) h = lit< tt
+read_by-number base memory (Set rd pc v) h = lit< tt
+read_by-number base memory (Read rd width extend pc at) h = number_at-number width memory (at - base) h
+read_by-number base memory (Write width pc at v) h = lit< tt
 read_by-number base memory Environment h = lit< tt
 read_by-number base memory (Trap c) h = lit< tt
 
@@ -251,9 +251,9 @@ memory_served-bytes g s (Give at len) i h = h
 memory_by-bytes : (g : Setting) (s : State) (e : Effect) → All IsByte g.input → All IsByte s.memory → All IsByte (memory_by g s e)
 unfolding memory_by
 memory_by-bytes g s (Next pc) i h = h
-memory_by-bytes g s (Set pc rd v) i h = h
-memory_by-bytes g s (Read pc at width extend rd) i h = h
-memory_by-bytes g s (Write pc at width v) i h =
+memory_by-bytes g s (Set rd pc v) i h = h
+memory_by-bytes g s (Read rd width extend pc at) i h = h
+memory_by-bytes g s (Write width pc at v) i h =
     written-bytes s.memory (at - g.base) (number_bytes (size_of width) v) h (number_bytes-bytes (size_of width) v)
 memory_by-bytes g s Environment i h = memory_served-bytes g s (call_at g s) i h
 memory_by-bytes g s (Trap c) i h = h
@@ -274,9 +274,9 @@ length-memory_served g s (Give at len) f = refl
 pub length-memory_by : (g : Setting) (s : State) (e : Effect) → IsWithin g.base (length s.memory) e → length (memory_by g s e) ≡ length s.memory
 unfolding memory_by
 length-memory_by g s (Next pc) h = refl
-length-memory_by g s (Set pc rd v) h = refl
-length-memory_by g s (Read pc at width extend rd) h = refl
-length-memory_by g s (Write pc at width v) h =
+length-memory_by g s (Set rd pc v) h = refl
+length-memory_by g s (Read rd width extend pc at) h = refl
+length-memory_by g s (Write width pc at v) h =
     length-written s.memory (at - g.base) (number_bytes (size_of width) v) (omega (arith, length-number_bytes width v, h.0, h.1))
 length-memory_by g s Environment h = length-memory_served g s (call_at g s) (call_of-fit s.regs (call_state_of g s))
 length-memory_by g s (Trap c) h = refl
@@ -295,9 +295,9 @@ console_served-bytes g s (Give at len) m h =
 console_by-bytes : (g : Setting) (s : State) (e : Effect) → All IsByte s.memory → All IsByte s.console → All IsByte (console_by g s e)
 unfolding console_by
 console_by-bytes g s (Next pc) m h = h
-console_by-bytes g s (Set pc rd v) m h = h
-console_by-bytes g s (Read pc at width extend rd) m h = h
-console_by-bytes g s (Write pc at width v) m h = h
+console_by-bytes g s (Set rd pc v) m h = h
+console_by-bytes g s (Read rd width extend pc at) m h = h
+console_by-bytes g s (Write width pc at v) m h = h
 console_by-bytes g s Environment m h = console_served-bytes g s (call_at g s) m h
 console_by-bytes g s (Trap c) m h = h
 
@@ -321,9 +321,9 @@ console_served-grows g s (Give at len) = record { more = take len (drop (at - g.
 console_by-grows : (g : Setting) (s : State) (e : Effect) → IsGrown s.console (console_by g s e)
 unfolding console_by
 console_by-grows g s (Next pc) = IsGrown-same s.console
-console_by-grows g s (Set pc rd v) = IsGrown-same s.console
-console_by-grows g s (Read pc at width extend rd) = IsGrown-same s.console
-console_by-grows g s (Write pc at width v) = IsGrown-same s.console
+console_by-grows g s (Set rd pc v) = IsGrown-same s.console
+console_by-grows g s (Read rd width extend pc at) = IsGrown-same s.console
+console_by-grows g s (Write width pc at v) = IsGrown-same s.console
 console_by-grows g s Environment = console_served-grows g s (call_at g s)
 console_by-grows g s (Trap c) = IsGrown-same s.console
 
@@ -343,9 +343,9 @@ console_served-room g s (Give at len) f h =
 console_by-room : (g : Setting) (s : State) (e : Effect) → length s.console ≤ g.room → length (console_by g s e) ≤ g.room
 unfolding console_by
 console_by-room g s (Next pc) h = h
-console_by-room g s (Set pc rd v) h = h
-console_by-room g s (Read pc at width extend rd) h = h
-console_by-room g s (Write pc at width v) h = h
+console_by-room g s (Set rd pc v) h = h
+console_by-room g s (Read rd width extend pc at) h = h
+console_by-room g s (Write width pc at v) h = h
 console_by-room g s Environment h = console_served-room g s (call_at g s) (call_of-fit s.regs (call_state_of g s)) h
 console_by-room g s (Trap c) h = h
 
@@ -361,9 +361,9 @@ served-room c calls (Give at len) most e f h = omega (arith, e, f.1)
 pub finished-room : (c : CpuState) (e : Effect) (n : ℕ) (k : CallState) (most : ℕ) → k.room ≡ most - c.console_len → c.console_len ≤ most → (finished c e n k).console_len ≤ most
 unfolding finished
 finished-room c (Next pc) n k most e h = h
-finished-room c (Set pc rd v) n k most e h = h
-finished-room c (Read pc at width extend rd) n k most e h = h
-finished-room c (Write pc at width v) n k most e h = h
+finished-room c (Set rd pc v) n k most e h = h
+finished-room c (Read rd width extend pc at) n k most e h = h
+finished-room c (Write width pc at v) n k most e h = h
 finished-room c Environment n k most e h = served-room c k (call_of c.regs k) most e (call_of-fit c.regs k) h
 finished-room c (Trap cause) n k most e h = h
 
@@ -380,9 +380,9 @@ served-cursor c calls (Give at len) e f h = h
 pub finished-cursor : (c : CpuState) (e : Effect) (n : ℕ) (k : CallState) → k.cursor ≡ c.cursor → c.cursor ≤ k.input_len → (finished c e n k).cursor ≤ k.input_len
 unfolding finished
 finished-cursor c (Next pc) n k e h = h
-finished-cursor c (Set pc rd v) n k e h = h
-finished-cursor c (Read pc at width extend rd) n k e h = h
-finished-cursor c (Write pc at width v) n k e h = h
+finished-cursor c (Set rd pc v) n k e h = h
+finished-cursor c (Read rd width extend pc at) n k e h = h
+finished-cursor c (Write width pc at v) n k e h = h
 finished-cursor c Environment n k e h = served-cursor c k (call_of c.regs k) e (call_of-fit c.regs k) h
 finished-cursor c (Trap cause) n k e h = h
 

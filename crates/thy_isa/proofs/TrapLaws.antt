@@ -25,9 +25,9 @@ use Rattle.thy_isa.proofs.StepLaws.{step-running}
 -- an effect does not trap with the number of a misaligned load or store
 abbrev Spares : Effect → Type 0
 Spares (Next pc) = Unit {0}
-Spares (Set pc rd v) = Unit {0}
-Spares (Read pc at width extend rd) = Unit {0}
-Spares (Write pc at width v) = Unit {0}
+Spares (Set rd pc v) = Unit {0}
+Spares (Read rd width extend pc at) = Unit {0}
+Spares (Write width pc at v) = Unit {0}
 Spares Environment = Unit {0}
 Spares (Trap cause) = IsNotMisaligned (Trapped (cause_number cause))
 
@@ -39,7 +39,7 @@ fetch-spares : Spares (Trap FetchMisaligned)
 fetch-spares = ((λ h. cc), (λ h. cc))
 
 linked-spares : (target rd pc : ℕ) → Spares (linked target rd pc)
-linked-spares target rd pc = if_spares (target % 4 == 0) (Set target rd (after pc)) (Trap FetchMisaligned) tt fetch-spares
+linked-spares target rd pc = if_spares (target % 4 == 0) (Set rd target (after pc)) (Trap FetchMisaligned) tt fetch-spares
 
 branched-spares : (taken : Bool) (target pc : ℕ) → Spares (branched taken target pc)
 branched-spares true target pc = if_spares (target % 4 == 0) (Next target) (Trap FetchMisaligned) tt fetch-spares
@@ -68,11 +68,11 @@ word-spares (Some i) pc x = effect_of-spares i pc x
 within-spares : (base size : ℕ) (e : Effect) → Spares e → Spares (within base size e)
 unfolding within
 within-spares base size (Next pc) h = tt
-within-spares base size (Set pc rd v) h = tt
-within-spares base size (Read pc at width extend rd) h =
-    if_spares (is_inside base size at (size_of width)) (Read pc at width extend rd) (Trap LoadAccess) tt ((λ h. cc), (λ h. cc))
-within-spares base size (Write pc at width v) h =
-    if_spares (is_inside base size at (size_of width)) (Write pc at width v) (Trap StoreAccess) tt ((λ h. cc), (λ h. cc))
+within-spares base size (Set rd pc v) h = tt
+within-spares base size (Read rd width extend pc at) h =
+    if_spares (is_inside base size at (size_of width)) (Read rd width extend pc at) (Trap LoadAccess) tt ((λ h. cc), (λ h. cc))
+within-spares base size (Write width pc at v) h =
+    if_spares (is_inside base size at (size_of width)) (Write width pc at v) (Trap StoreAccess) tt ((λ h. cc), (λ h. cc))
 within-spares base size Environment h = tt
 within-spares base size (Trap cause) h = h
 
@@ -101,9 +101,9 @@ served-spares c (Give at len) h = h
 finished-spares : (c : CpuState) (e : Effect) (n : ℕ) (k : CallState) → IsNotMisaligned c.status → Spares e → IsNotMisaligned (finished c e n k).status
 unfolding finished
 finished-spares c (Next pc) n k h p = h
-finished-spares c (Set pc rd v) n k h p = h
-finished-spares c (Read pc at width extend rd) n k h p = h
-finished-spares c (Write pc at width v) n k h p = h
+finished-spares c (Set rd pc v) n k h p = h
+finished-spares c (Read rd width extend pc at) n k h p = h
+finished-spares c (Write width pc at v) n k h p = h
 finished-spares c Environment n k h p = served-spares c (call_of c.regs k) h
 finished-spares c (Trap cause) n k h p = p
 

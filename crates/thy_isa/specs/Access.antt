@@ -7,17 +7,17 @@ use Rattle.thy_isa.specs.Effects.{size_of}
 -- a read or a write lies within a memory of that base and size
 abbrev pub IsWithin : ℕ → ℕ → Effect → Type 0
 IsWithin base size (Next pc) = Unit {0}
-IsWithin base size (Set pc rd v) = Unit {0}
-IsWithin base size (Read pc at width extend rd) = (base ≤ at) × (at + size_of width ≤ base + size)
-IsWithin base size (Write pc at width v) = (base ≤ at) × (at + size_of width ≤ base + size)
+IsWithin base size (Set rd pc v) = Unit {0}
+IsWithin base size (Read rd width extend pc at) = (base ≤ at) × (at + size_of width ≤ base + size)
+IsWithin base size (Write width pc at v) = (base ≤ at) × (at + size_of width ≤ base + size)
 IsWithin base size Environment = Unit {0}
 IsWithin base size (Trap c) = Unit {0}
 
 -- an effect that reads a number has read as many bytes as it has
 abbrev pub HasRead : Effect → List ℕ → Type 0
 HasRead (Next pc) bytes = Unit {0}
-HasRead (Set pc rd v) bytes = Unit {0}
-HasRead (Read pc at width extend rd) bytes = size_of width ≤ length bytes
-HasRead (Write pc at width v) bytes = Unit {0}
+HasRead (Set rd pc v) bytes = Unit {0}
+HasRead (Read rd width extend pc at) bytes = size_of width ≤ length bytes
+HasRead (Write width pc at v) bytes = Unit {0}
 HasRead Environment bytes = Unit {0}
 HasRead (Trap c) bytes = Unit {0}

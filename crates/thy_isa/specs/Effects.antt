@@ -42,24 +42,30 @@ even at = at - at % 2
 
 -- a jump that leaves the address after it in rd: to a target that is no multiple of four it traps, and rd stays
 abbrev pub linked : ℕ → ℕ → ℕ → Effect
-linked target rd pc = if target % 4 == 0 then Set target rd (after pc) else Trap FetchMisaligned
+linked target rd pc = if target % 4 == 0 then Set rd target (after pc) else Trap FetchMisaligned
 
 -- a branch: taken to a target that is no multiple of four it traps
 abbrev pub branched : Bool → ℕ → ℕ → Effect
 branched taken target pc =
     if taken then (if target % 4 == 0 then Next target else Trap FetchMisaligned) else Next (after pc)
 
+-- an operation on two registers, or on one and an immediate
+abbrev pub IsOperation : Instr → Type 0
+IsOperation (OpImm op rd rs1 imm) = Unit {0}
+IsOperation (Op op rd rs1 rs2) = Unit {0}
+IsOperation i = ⊥
+
 -- what an instruction does at pc; a load or a store may have any address
 unfoldable pub effect_of : Instr → ℕ → List ℕ → Effect
-effect_of (Lui rd imm) pc x = Set (after pc) rd imm
-effect_of (Auipc rd imm) pc x = Set (after pc) rd (low64 (pc + imm))
+effect_of (Lui rd imm) pc x = Set rd (after pc) imm
+effect_of (Auipc rd imm) pc x = Set rd (after pc) (low64 (pc + imm))
 effect_of (Jal rd imm) pc x = linked (low64 (pc + imm)) rd pc
 effect_of (Jalr rd rs1 imm) pc x = linked (even (low64 (reg_at x rs1 + imm))) rd pc
 effect_of (Branch cond rs1 rs2 imm) pc x = branched (holds cond (reg_at x rs1) (reg_at x rs2)) (low64 (pc + imm)) pc
-effect_of (Load width extend rd rs1 imm) pc x = Read (after pc) (low64 (reg_at x rs1 + imm)) width extend rd
-effect_of (Store width rs1 rs2 imm) pc x = Write (after pc) (low64 (reg_at x rs1 + imm)) width (reg_at x rs2)
-effect_of (OpImm op rd rs1 imm) pc x = Set (after pc) rd (alu_of op (reg_at x rs1) imm)
-effect_of (Op op rd rs1 rs2) pc x = Set (after pc) rd (alu_of op (reg_at x rs1) (reg_at x rs2))
+effect_of (Load width extend rd rs1 imm) pc x = Read rd width extend (after pc) (low64 (reg_at x rs1 + imm))
+effect_of (Store width rs1 rs2 imm) pc x = Write width (after pc) (low64 (reg_at x rs1 + imm)) (reg_at x rs2)
+effect_of (OpImm op rd rs1 imm) pc x = Set rd (after pc) (alu_of op (reg_at x rs1) imm)
+effect_of (Op op rd rs1 rs2) pc x = Set rd (after pc) (alu_of op (reg_at x rs1) (reg_at x rs2))
 effect_of Fence pc x = Next (after pc)
 effect_of FenceI pc x = Next (after pc)
 effect_of Ecall pc x = Environment

@@ -36,9 +36,9 @@ call_moves c (Give at len) = record { from = span (at - c.base) len; to = span (
 -- what an effect moves, with these registers
 unfoldable pub moves_of : List ℕ → CallState → Effect → Moves
 moves_of x c (Next pc) = no_moves
-moves_of x c (Set pc rd v) = no_moves
-moves_of x c (Read pc at width extend rd) = reads (at - c.base) (size_of width)
-moves_of x c (Write pc at width v) = writes (at - c.base) (size_of width)
+moves_of x c (Set rd pc v) = no_moves
+moves_of x c (Read rd width extend pc at) = reads (at - c.base) (size_of width)
+moves_of x c (Write width pc at v) = writes (at - c.base) (size_of width)
 moves_of x c Environment = call_moves c (call_of x c)
 moves_of x c (Trap cause) = no_moves
 
@@ -53,17 +53,17 @@ call_brings input c (Give at len) = []
 -- the bytes that an effect brings along: the low bytes of a number that is stored, or a call's
 unfoldable pub brings : List ℕ → List ℕ → CallState → Effect → List ℕ
 brings input x c (Next pc) = []
-brings input x c (Set pc rd v) = []
-brings input x c (Read pc at width extend rd) = []
-brings input x c (Write pc at width v) = number_bytes (size_of width) v
+brings input x c (Set rd pc v) = []
+brings input x c (Read rd width extend pc at) = []
+brings input x c (Write width pc at v) = number_bytes (size_of width) v
 brings input x c Environment = call_brings input c (call_of x c)
 brings input x c (Trap cause) = []
 
 -- the number that an effect reads, from the bytes that it has read
 unfoldable pub number_in : Effect → List ℕ → ℕ
 number_in (Next pc) bytes = 0
-number_in (Set pc rd v) bytes = 0
-number_in (Read pc at width extend rd) bytes = number_at (size_of width) bytes 0
-number_in (Write pc at width v) bytes = 0
+number_in (Set rd pc v) bytes = 0
+number_in (Read rd width extend pc at) bytes = number_at (size_of width) bytes 0
+number_in (Write width pc at v) bytes = 0
 number_in Environment bytes = 0
 number_in (Trap cause) bytes = 0

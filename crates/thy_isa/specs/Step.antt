@@ -113,10 +113,10 @@ fetch_fault base size pc =
 
 -- an effect, or the trap where it would read or write outside memory
 unfoldable pub within : ℕ → ℕ → Effect → Effect
-within base size (Read pc at width extend rd) =
-    if is_inside base size at (size_of width) then Read pc at width extend rd else Trap LoadAccess
-within base size (Write pc at width v) =
-    if is_inside base size at (size_of width) then Write pc at width v else Trap StoreAccess
+within base size (Read rd width extend pc at) =
+    if is_inside base size at (size_of width) then Read rd width extend pc at else Trap LoadAccess
+within base size (Write width pc at v) =
+    if is_inside base size at (size_of width) then Write width pc at v else Trap StoreAccess
 within base size e = e
 
 abbrev pub fetched : Option Cause → Effect → Effect
@@ -137,7 +137,7 @@ effect_at base s =
 
 -- the number that an effect reads
 unfoldable pub read_by : ℕ → List ℕ → Effect → ℕ
-read_by base memory (Read pc at width extend rd) = number_at (size_of width) memory (at - base)
+read_by base memory (Read rd width extend pc at) = number_at (size_of width) memory (at - base)
 read_by base memory e = 0
 
 -- the environment call that the registers name
@@ -156,7 +156,7 @@ console_served g s call = s.console
 
 -- memory after an effect
 unfoldable pub memory_by : Setting → State → Effect → List ℕ
-memory_by g s (Write pc at width v) = written s.memory (at - g.base) (number_bytes (size_of width) v)
+memory_by g s (Write width pc at v) = written s.memory (at - g.base) (number_bytes (size_of width) v)
 memory_by g s Environment = memory_served g s (call_at g s)
 memory_by g s e = s.memory
 
@@ -180,10 +180,10 @@ served c (Give at len) = record (answered c len) { console_len = c.console_len +
 -- the rest of the state after an effect, which has read this number
 unfoldable pub finished : CpuState → Effect → ℕ → CallState → CpuState
 finished c (Next pc) number calls = record c { pc = pc; count = c.count + 1 }
-finished c (Set pc rd v) number calls = record c { pc = pc; regs = regs_with c.regs rd v; count = c.count + 1 }
-finished c (Read pc at width extend rd) number calls =
+finished c (Set rd pc v) number calls = record c { pc = pc; regs = regs_with c.regs rd v; count = c.count + 1 }
+finished c (Read rd width extend pc at) number calls =
     record c { pc = pc; regs = regs_with c.regs rd (extended width extend number); count = c.count + 1 }
-finished c (Write pc at width v) number calls = record c { pc = pc; count = c.count + 1 }
+finished c (Write width pc at v) number calls = record c { pc = pc; count = c.count + 1 }
 finished c Environment number calls = served c (call_of c.regs calls)
 finished c (Trap cause) number calls = record c { count = c.count + 1; status = Trapped (cause_number cause) }
 

@@ -140,7 +140,7 @@ fn sign_extended(field: u32, sign: u64) -> u64
 fn i_immediate(word: u32) -> u64
     ensures { result ≡ imm_i word }
 {
-    sign_extended(bits(word, 20, 12), 1 << 11)
+    i64::from(word.cast_signed() >> 20).cast_unsigned()
 }
 
 fn s_immediate(word: u32) -> u64

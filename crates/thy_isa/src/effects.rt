@@ -2,7 +2,7 @@
 #![tactic(auto, unfolding(crate::specs::Effects::effect_of))]
 
 ghost use Rattle.std.specs.Prelude.{◌≡◌, ◌≤◌};
-ghost use Rattle.thy_isa.specs.Effects.{effect_of, size_of, holds, after, linked, branched, word_effect};
+ghost use Rattle.thy_isa.specs.Effects.{IsOperation, effect_of, size_of, holds, after, linked, branched, word_effect};
 
 use crate::arith::alu;
 use crate::decoding::decode;
@@ -66,19 +66,28 @@ pub fn effect(instr: &Instr, pc: u64, regs: &Regs) -> Effect
             width,
             value: regs.get(rs2),
         },
-        Instr::OpImm { op, rd, rs1, imm } => Effect::Set {
-            pc: next,
-            rd,
-            value: alu(op, regs.get(rs1), imm),
-        },
-        Instr::Op { op, rd, rs1, rs2 } => Effect::Set {
-            pc: next,
-            rd,
-            value: alu(op, regs.get(rs1), regs.get(rs2)),
-        },
+        Instr::OpImm { .. } | Instr::Op { .. } => operated(instr, pc, regs),
         Instr::Fence | Instr::FenceI => Effect::Next { pc: next },
         Instr::Ecall => Effect::Environment,
         Instr::Ebreak => Effect::Trap(Cause::Breakpoint),
+    }
+}
+
+/// What an operation at `pc` does. Both kinds share the one call of `alu`, so the compiler makes that a part of this
+/// function.
+fn operated(instr: &Instr, pc: u64, regs: &Regs) -> Effect
+    requires { IsOperation instr.now }
+    ensures { result ≡ effect_of instr.now pc regs.now }
+{
+    let (op, rd, a, b) = match *instr {
+        Instr::OpImm { op, rd, rs1, imm } => (op, rd, regs.get(rs1), imm),
+        Instr::Op { op, rd, rs1, rs2 } => (op, rd, regs.get(rs1), regs.get(rs2)),
+        _ => unreachable!(),
+    };
+    Effect::Set {
+        rd,
+        pc: after(pc),
+        value: alu(op, a, b),
     }
 }
 

@@ -94,7 +94,7 @@ pub fn brought(input: &[u8], regs: &Regs, calls: &CallState, effect: &Effect) ->
 }
 
 /// Adds the low bytes of a number.
-fn add_number(piece: &mut Piece, width: Width, value: u64)
+pub fn add_number(piece: &mut Piece, width: Width, value: u64)
     requires { piece.old.items ≡ [] }
     ensures { piece.new.items ≡ number_bytes (size_of width) value }
 {

@@ -96,23 +96,23 @@ pub enum Effect {
     },
     /// The value becomes that of rd.
     Set {
-        pc: u64,
         rd: Reg,
+        pc: u64,
         value: u64,
     },
     /// The number of `width` bytes at any address, extended, becomes that of rd.
     Read {
-        pc: u64,
-        at: u64,
+        rd: Reg,
         width: Width,
         extend: Extend,
-        rd: Reg,
+        pc: u64,
+        at: u64,
     },
     /// The low `width` bytes of the value go to any address.
     Write {
+        width: Width,
         pc: u64,
         at: u64,
-        width: Width,
         value: u64,
     },
     /// An environment call.

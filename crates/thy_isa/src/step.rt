@@ -1,7 +1,9 @@
 //! The parts of one step, shared by machines that keep their memory in different ways.
 #![tactic(auto, unfolding(crate::specs::Step::fetch_fault, crate::specs::Step::within, crate::specs::Step::served, crate::specs::Step::finished))]
 
-ghost use Rattle.std.specs.Prelude.{◌≡◌, ◌+◌, ◌<◌, ◌^◌};
+ghost use Rattle.std.specs.Prelude.{◌≡◌, ◌≢◌, ◌+◌, ◌<◌, ◌^◌};
+ghost use Rattle.thy_isa.specs.declared.state.CallState.{CallState};
+ghost use Rattle.thy_isa.specs.declared.state.Effect.TheVariants.{Environment};
 ghost use Rattle.thy_isa.specs.Calls.{call_of};
 ghost use Rattle.thy_isa.specs.Step.{fetch_fault, within, cause_number, AreCallsOf, answered, served, finished};
 
@@ -84,12 +86,11 @@ fn serve(cpu: &mut CpuState, calls: &CallState)
     }
 }
 
-/// Takes an effect, memory aside. `number` is what was read where the effect reads, and `calls` what an
-/// environment call is decided by.
-pub fn finish(cpu: &mut CpuState, effect: &Effect, number: u64, calls: &CallState)
+/// Takes an effect that is no environment call, memory aside. `number` is what was read where the effect reads.
+pub fn finish_alone(cpu: &mut CpuState, effect: &Effect, number: u64)
     requires count { cpu.old.count + 1 < 2 ^ 64 }
-    requires calls { AreCallsOf cpu.old calls.now }
-    ensures { cpu.new ≡ finished cpu.old effect.now number calls.now }
+    requires alone { effect.now ≢ Environment }
+    ensures { (calls : CallState) → cpu.new ≡ finished cpu.old effect.now number calls }
 {
     match *effect {
         Effect::Next { pc } | Effect::Write { pc, .. } => cpu.pc = pc,
@@ -107,10 +108,25 @@ pub fn finish(cpu: &mut CpuState, effect: &Effect, number: u64, calls: &CallStat
             cpu.pc = pc;
             cpu.regs.set(rd, extended(width, extend, number));
         }
-        Effect::Environment => {
-            return serve(cpu, calls);
-        }
+        Effect::Environment => unreachable!(),
         Effect::Trap(cause) => cpu.status = Status::Trapped(cause_number(cause)),
     }
     cpu.count += 1;
+}
+
+/// Takes an effect, memory aside. `number` is what was read where the effect reads, and `calls` what an
+/// environment call is decided by.
+pub fn finish(cpu: &mut CpuState, effect: &Effect, number: u64, calls: &CallState)
+    requires count { cpu.old.count + 1 < 2 ^ 64 }
+    requires calls { AreCallsOf cpu.old calls.now }
+    ensures { cpu.new ≡ finished cpu.old effect.now number calls.now }
+{
+    match *effect {
+        Effect::Environment => serve(cpu, calls),
+        Effect::Next { .. }
+        | Effect::Set { .. }
+        | Effect::Read { .. }
+        | Effect::Write { .. }
+        | Effect::Trap(_) => finish_alone(cpu, effect, number),
+    }
 }

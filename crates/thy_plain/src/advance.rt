@@ -14,8 +14,8 @@ ghost use Rattle.thy_plain.specs.Machine.{setting_of};
 use crate::setup::Setup;
 use thy_base::Bytes;
 use thy_isa::{
-    Call, CallState, Effect, MachState, Reg, Status, Width, after, bytes_in, call, cause_number,
-    extended, fetch_fault, number, within, word, word_effect,
+    Call, CallState, Effect, MachState, Reg, Status, Width, after, call, cause_number, extended,
+    fetch_fault, number, within, word, word_effect,
 };
 
 /// The register of an environment call's answer.
@@ -42,8 +42,13 @@ fn write_number(memory: &mut Bytes, at: usize, width: Width, value: u64)
     requires { at + size_of width ≤ length (bytes_of memory.old) }
     ensures { bytes_of memory.new ≡ written (bytes_of memory.old) at (number_bytes (size_of width) value) }
 {
-    let size = bytes_in(width) as usize;
-    memory.put(at, &value.to_le_bytes()[..size]);
+    let bytes = value.to_le_bytes();
+    match width {
+        Width::Byte => memory.put(at, &bytes[..1]),
+        Width::Half => memory.put(at, &bytes[..2]),
+        Width::Word => memory.put(at, &bytes[..4]),
+        Width::Double => memory.put(at, &bytes[..8]),
+    }
 }
 
 /// What an environment call is decided by.

@@ -7,22 +7,22 @@ use Rattle.thy_hart.proofs.HandLemmas.{room_reserved-sound}
 use Rattle.thy_hart.proofs.micro_steps.Parts.act.Goals as goal
 
 pub returns-in-Nothing-clause-acts : goal.returns-in-Nothing-clause-acts
-returns-in-Nothing-clause-acts c =
+returns-in-Nothing-clause-acts g c =
     IsMicroStep-fetch (given c.args.input.now c.args.free c.args.under_way) c.args.cache.now c.fetch.new.cache (core_of c.args.self.now) (core_of c.fetch.new.self)
     c.in-Nothing.is c.fetch.ensures.hart c.fetch.ensures.unreserved c.fetch.ensures.lines c.fetch.ensures.cache
 
 pub returns-in-Reading-clause-acts : goal.returns-in-Reading-clause-acts
-returns-in-Reading-clause-acts c =
+returns-in-Reading-clause-acts g c =
     IsMicroStep-read (given c.args.input.now c.args.free c.args.under_way) c.args.cache.now c.read.new.cache (core_of c.args.self.now) (core_of c.read.new.self)
     c.in-Reading.effect c.in-Reading.from c.in-Reading.to c.in-Reading.is c.read.ensures.hart c.read.ensures.unreserved c.read.ensures.lines c.read.ensures.cache
 
 pub returns-in-Reserving-clause-sound : goal.returns-in-Reserving-clause-sound
-returns-in-Reserving-clause-sound c =
+returns-in-Reserving-clause-sound g c =
     room_reserved-sound c.args.free c.dirty.result c.args.under_way c.in-Reserving.effect c.in-Reserving.to (core_of c.args.self.now) (core_of c.reserve.new.self)
     c.requires.sound (subst (λ hand. IsInHand c.args.self.now.geometry hand (length c.args.self.now.bytes.items)) c.in-Reserving.is c.requires.sound.in_hand) c.reserve.ensures.hart
 
 pub returns-in-Writing-clause-acts : goal.returns-in-Writing-clause-acts
-returns-in-Writing-clause-acts c =
+returns-in-Writing-clause-acts g c =
     let written = subst (λ hand. IsInHand c.args.self.now.geometry hand (length c.args.self.now.bytes.items)) c.in-Writing.is c.requires.sound.in_hand in
     IsMicroStep-write (given c.args.input.now c.args.free c.args.under_way) c.args.cache.now c.write.new.cache (core_of c.args.self.now) (core_of c.write.new.self)
     c.in-Writing.effect c.in-Writing.to c.in-Writing.done c.in-Writing.is written c.write.ensures.hart c.write.ensures.memory c.write.ensures.agree c.write.ensures.room c.write.ensures.sized c.write.ensures.cache

@@ -1,14 +1,32 @@
+use Rattle.std.proofs.Common.{length, refl, sym, ◌∙◌, ap, subst}
+use Rattle.thy_isa.specs.Moves.{moves_of, brings}
+use Rattle.thy_isa.specs.OnBlocks.{calls_in}
+use Rattle.thy_hart.specs.Core.{Core, reserved, IsSound}
+use Rattle.thy_hart.specs.MicroSteps.{core_of}
+use Rattle.thy_hart.specs.Outcomes.{begun, begun_with, fetched}
 use Rattle.thy_hart.proofs.HandLemmas.{fetch-sound, begun-unreserved}
-use Rattle.thy_hart.specs.Core.{reserved}
-use Rattle.std.proofs.Common.{◌∙◌, ap}
 use Rattle.thy_hart.proofs.micro_steps.Parts.fetch.Goals as goal
 
+pub returns-clause-hart : goal.returns-clause-hart
+unfolding fetched
+returns-clause-hart g c = λ blocks whole.
+    c.begin.ensures ∙ ap (λ e. begun_with c.args.input.now e (core_of c.args.self.now)) (c.next_effect-effect.ensures.effect blocks whole)
+
 pub returns-clause-sound : goal.returns-clause-sound
-returns-clause-sound c = record {
-  range = c.requires.range;
-  in_hand = fetch-sound c.args.self.now.geometry c.args.input.now c.args.self.now.cpu c.next_effect-effect.result c.calls-calls.result c.bring_along.new.bytes.items c.moves-moves.result c.begun-self.result
-      c.requires.range c.next_effect-effect.ensures.inside c.calls-calls.ensures.calls c.bring_along.ensures c.moves-moves.ensures c.begun-self.ensures;
-}
+returns-clause-sound g c =
+    let h : Core = core_of c.args.self.now in
+    let e = c.next_effect-effect.result in
+    let calls = calls_in h.geometry h.cpu (length c.args.input.now) in
+    let moves = moves_of h.cpu.regs calls e in
+    subst IsSound (sym c.begin.ensures) (record {
+      range = c.requires.range;
+      in_hand = fetch-sound h.geometry c.args.input.now h.cpu e calls (brings c.args.input.now h.cpu.regs calls e) moves (begun e moves.from moves.to)
+          c.requires.range c.next_effect-effect.ensures.inside refl refl refl refl;
+    })
 
 pub returns-clause-unreserved : goal.returns-clause-unreserved
-returns-clause-unreserved c = ap reserved c.begun-self.ensures ∙ begun-unreserved c.next_effect-effect.result c.moves-moves.result.from c.moves-moves.result.to
+returns-clause-unreserved g c =
+    let h : Core = core_of c.args.self.now in
+    let e = c.next_effect-effect.result in
+    let moves = moves_of h.cpu.regs (calls_in h.geometry h.cpu (length c.args.input.now)) e in
+    ap (λ (x : Core). reserved x.hand) c.begin.ensures ∙ begun-unreserved e moves.from moves.to

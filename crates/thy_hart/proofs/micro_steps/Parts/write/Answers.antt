@@ -8,7 +8,7 @@ use Rattle.thy_hart.proofs.HandLemmas.{write-sound}
 use Rattle.thy_hart.proofs.micro_steps.Parts.write.Goals as goal
 
 pub returns-clause-sound : goal.returns-clause-sound
-returns-clause-sound c = record {
+returns-clause-sound g c = record {
   range = c.requires.range;
   in_hand = write-sound c.args.self.now.geometry c.args.effect c.args.to c.args.done (length c.args.self.now.bytes.items) c.written_on-self.result
       c.requires.writing
@@ -18,7 +18,7 @@ returns-clause-sound c = record {
 }
 
 pub returns-clause-cache : goal.returns-clause-cache
-returns-clause-cache c =
+returns-clause-cache g c =
     let all : List ℕ = c.as_slice.result.now in
     let bytes : List ℕ = drop c.args.done c.args.self.now.bytes.items in
     let left : take (length all - c.args.done) (drop c.args.done all) ≡ bytes
