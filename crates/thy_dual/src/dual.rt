@@ -22,15 +22,16 @@ ghost use Rattle.thy_dual_model.specs.Stays.{StaysDual};
 ghost use Rattle.thy_dual.specs.Calls.{IsNew, IsSized, LoadsWork, LoadsCommitted, StoresByRule};
 ghost use Rattle.thy_dual.specs.Calls.{drained, merged, PromotesNext, sealed, TakesItem, TakesBootStep};
 
+use crate::fills::DualFills;
 use std::alloc::{AllocError, Global};
 use std::marker::Model;
 use thy_base::{Block, Geometry, Nvm, NvmError, Stored};
+use thy_boot::{Boot, BootStep as Recovered, Stage};
 use thy_commit::{Engine, items_are_moves, items_keep_the_store, items_move_versions};
 use thy_control::{Control, blocks_are_works};
 use thy_dram::Dram;
 use thy_isa::CpuState;
 use thy_record::{EngineStep, Start};
-use thy_recover::{Boot, BootStep as Recovered, Stage};
 use thy_scheme::{BootStep, Scheme};
 
 /// The scheme of both tables: its controller keeps two checkpoints of all blocks beside the work, and its engine writes
@@ -109,7 +110,7 @@ impl Scheme for DualScheme {
         ensures powered { IfOk result (λ s. IsPowered geometry.now s) }
         ensures dram { IfOk result (λ s. s.control.dram ≡ dram) }
     {
-        let boot = Boot::new(alloc, geometry)?;
+        let boot = Boot::new::<DualFills>(alloc, geometry)?;
         let engine = Engine::new(geometry);
         engine.sound();
         let control = Control::new(alloc, geometry, dram)?;
@@ -306,8 +307,9 @@ impl Scheme for DualScheme {
         ensures frame { IsFramed (N.device nvm.old) (N.device nvm.new) }
         ensures cause { CountsFault result (N.device nvm.old).faults (N.device nvm.new).faults }
     {
-        let result = self.boot.step(&mut self.control, start, nvm);
-        self.boot.fits();
+        let result = self
+            .boot
+            .step::<DualFills, N>(&mut self.control, start, nvm);
         self.control.tables();
         scheme_result(result)
     }

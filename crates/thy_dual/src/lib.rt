@@ -7,5 +7,7 @@
 #![tactic(auto)]
 
 mod dual;
+mod fills;
 
 pub use dual::DualScheme;
+pub use fills::DualFills;

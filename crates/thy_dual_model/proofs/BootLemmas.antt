@@ -14,7 +14,7 @@ use Rattle.thy_record.proofs.ReadBackLemmas.{is_zero-zero_block}
 use Rattle.thy_control.specs.Drains.{after_drain}
 use Rattle.thy_control.proofs.DrainLemmas.{takes_one}
 use Rattle.thy_isa.specs.Step.{State as Plain}
-use Rattle.thy_control.specs.State.{State, AreSoundTables}
+use Rattle.thy_control.specs.State.{State, AreSoundTables, new_state}
 use Rattle.thy_protocol.specs.Keeps.{Tells, TellsAll, finding_view}
 use Rattle.thy_protocol.specs.Layout.{reading}
 use Rattle.thy_protocol.specs.Moves.{IsKeeping}
@@ -29,46 +29,48 @@ use Rattle.thy_view.specs.Booting.{loading_view, view_of_image}
 use Rattle.thy_view.specs.Origin.{Origin, IsOrigin}
 use Rattle.thy_view.specs.Safe.{ceiling, Safe}
 use Rattle.thy_view.specs.Views.{doubt_of, loads}
-use Rattle.thy_recover.specs.declared.stage.Stage.{Stage}
-use Rattle.thy_recover.specs.declared.stage.Stage.TheVariants.{Reads, Loads, Over}
-use Rattle.thy_recover.specs.declared.stage.ReadStage.{ReadStage}
-use Rattle.thy_recover.specs.declared.stage.ReadStage.TheVariants.{Unread, Header as ReadsHeader, Slot as ReadsSlot, Frames, Refusing}
-use Rattle.thy_recover.specs.declared.stage.Issue.{Issue}
-use Rattle.thy_recover.specs.declared.stage.Issue.TheVariants.{Home, Slot, Header, Settle, Commit, Confirm}
-use Rattle.thy_recover.specs.Boot.{Booting, IsBoot, new_boot}
-use Rattle.thy_recover.specs.Left.{boot_left}
-use Rattle.thy_recover.specs.Laws.{IsGoing}
-use Rattle.thy_recover.specs.Shows.{is_written, seen_at}
-use Rattle.thy_recover.specs.Sound.{BootImages, start_mark, saved_loading, standing_in_boot, IsRecovering, IsSoundAt, IsSound as IsBootOf}
-use Rattle.thy_recover.proofs.DecodeLemmas.{decode-zero, committed-in}
-use Rattle.thy_recover.proofs.SafeLemmas.{sound_is_safe}
-use Rattle.thy_recover.proofs.BootDrainLemmas.{drains_keep_boot}
-use Rattle.thy_recover.proofs.GoOnLemmas.{new_is_sound}
-use Rattle.thy_recover.proofs.EndLemmas.{never_refused}
-use Rattle.thy_recover.specs.Recovers.{HasReadAt}
+use Rattle.thy_boot.specs.declared.stage.Stage.{Stage}
+use Rattle.thy_boot.specs.declared.stage.Stage.TheVariants.{Reads, Loads, Over}
+use Rattle.thy_boot.specs.declared.stage.ReadStage.{ReadStage}
+use Rattle.thy_boot.specs.declared.stage.ReadStage.TheVariants.{Unread, Header as ReadsHeader, Slot as ReadsSlot, Fills, Refusing}
+use Rattle.thy_boot.specs.declared.stage.Issue.{Issue}
+use Rattle.thy_boot.specs.declared.stage.Issue.TheVariants.{Home, Slot, Header, Settle, Commit, Confirm}
+use Rattle.thy_boot.specs.Boot.{Booting, IsBoot, new_boot}
+use Rattle.thy_boot.specs.Left.{stage_left}
+use Rattle.thy_boot.specs.Laws.{IsGoing}
+use Rattle.thy_boot.specs.Shows.{is_written, seen_at}
+use Rattle.thy_boot.specs.Sound.{BootImages, start_mark, saved_loading, standing_in_boot, IsRecovering, IsSoundAt, IsSound as IsBootOf}
+use Rattle.thy_boot.proofs.SafeLemmas.{sound_is_safe}
+use Rattle.thy_boot.proofs.BootDrainLemmas.{drains_keep_boot}
+use Rattle.thy_boot.proofs.GoOnLemmas.{new_is_sound}
+use Rattle.thy_boot.proofs.FoundLemmas.{never_refused}
+use Rattle.thy_boot.specs.Recovers.{HasCommit, HasReadAt}
+use Rattle.thy_recover.specs.Filling.{IsEmpty, filling_one}
+use Rattle.thy_recover.proofs.FillingLemmas.{filling_is_lawful}
+use Rattle.thy_recover.proofs.LiveLemmas.{IsFresh-new}
 use Rattle.thy_record.specs.declared.bad_image.BadImage.{BadImage}
-use Rattle.thy_protocol.proofs.LayoutLemmas.{decode_by-nothing_back}
-use Rattle.thy_protocol.specs.VersionOne.{layout_of}
+use Rattle.thy_protocol.proofs.LayoutLemmas.{decode_by-nothing_back, decode_by-zero}
+use Rattle.thy_protocol.specs.VersionOne.{layout_of, version_one}
 use Rattle.thy_scheme.specs.Boots.{IsBootView, BootStays, BootDrains}
 use Rattle.thy_scheme.specs.Laws.{IsOwn, IsFound, BootsFound, BootHolds}
 use Rattle.thy_dual_model.specs.Boots.{Boots, IsPowered, view_at, has_read_at, loads_at}
 use Rattle.thy_dual_model.specs.Dual.{Dual}
 use Rattle.thy_dual_model.specs.Laws.{BootIsSound, PowerFinds, PowerIsNew, ZerosAreNothing}
-use Rattle.thy_dual_model.specs.Scheme.{dual_scheme}
+use Rattle.thy_dual_model.specs.Scheme.{boot_numbers, dual_scheme}
 use Rattle.thy_dual_model.proofs.SafeLemmas.{Safe-read}
 
 -- ---- what is seen
 
 module _ (o : Origin) (g : BootImages) (n : Device) (b : Booting) (c : State) where
   -- while it reads, what the image means is the mark that is kept
-  view-reading : IsRecovering g n b c → Tells o (layout_of o) g.before g.kept
+  view-reading : IsRecovering filling_one g n b c → Tells o (layout_of o) g.before g.kept
       → view_of_image o.start.count (decode_image o.geometry ceiling n.image) ≡ finding_view o.start.count g.kept
   view-reading reading tells =
       ap (λ (x : List Block). view_of_image o.start.count (decode_image o.geometry ceiling x)) (sym reading.before_is)
       ∙ ap (view_of_image o.start.count) (sym (decode_by-version_one o.geometry ceiling g.before))
       ∙ finding_view-told o (layout_of o) g.before g.kept o.start.count tells
 
-  view-at : (q : Stage) → IsGoing q → IsKeeping o (layout_of o) (standing_in_boot o q g n) → IsSoundAt o q g n b c → view_at o q n ≡ seen_at o g.kept q
+  view-at : (q : Stage) → IsGoing q → IsKeeping o (layout_of o) (standing_in_boot o q g n) → IsSoundAt filling_one o q g n b c → view_at o q n ≡ seen_at o g.kept q
   view-at (Reads r) going keeps far = view-reading far keeps.told
   view-at (Loads issue) going keeps far = refl
   view-at (Over end) going keeps far = absurd going
@@ -103,7 +105,7 @@ module _ (o : Origin) (g : BootImages) (n : Device) (b : Booting) (c : State) wh
   none-done m d = cc
 
   -- where a checkpoint was found nothing is queued
-  settled-at : (q : Stage) (m : Mark) → IsGoing q → (seen_at o g.kept q).done ≡ Some m → IsSoundAt o q g n b c → n.queue ≡ []
+  settled-at : (q : Stage) (m : Mark) → IsGoing q → (seen_at o g.kept q).done ≡ Some m → IsSoundAt filling_one o q g n b c → n.queue ≡ []
   settled-at (Reads r) m going found far = far.read.settled
   settled-at (Loads issue) m going found far = absurd (none-done m found)
   settled-at (Over end) m going found far = absurd going
@@ -121,7 +123,7 @@ unread-at : (q : Stage) → has_read_at q ≡ false → q ≡ Reads Unread
 unread-at (Reads Unread) h = refl
 unread-at (Reads ReadsHeader) h = cc
 unread-at (Reads (ReadsSlot next)) h = cc
-unread-at (Reads (Frames page next)) h = cc
+unread-at (Reads (Fills k)) h = cc
 unread-at (Reads (Refusing bad)) h = cc
 unread-at (Loads issue) h = cc
 unread-at (Over end) h = cc
@@ -132,9 +134,9 @@ abbrev pub boots-drained : (o : Origin) (s : Dual) (n : Device) → Boots o s n 
 boots-drained o s n boots = record {
   origin = boots.origin;
   images = boots.images;
-  sound = (drains_keep_boot o boots.images n s.boot s.control boots.sound).0;
+  sound = (drains_keep_boot filling_one filling_is_lawful o boots.images n s.boot s.control boots.sound).0;
   going = boots.going;
-  boot = boots.boot;
+  boot_fits = boots.boot_fits;
   unused = boots.unused;
   unread = boots.unread;
   rested = boots.rested;
@@ -153,7 +155,7 @@ module _ (o : Origin) (s : Dual) (n : Device) (boots : Boots o s n) where
   safe-seen =
       let seen : View = seen_at o boots.images.kept s.boot.stage in
       subst (λ (v : View). Safe decode_image o v.done (doubt_of v) n) (sym (view-is o s n boots))
-      (Safe-read o seen.done (doubt_of seen) n (sound_is_safe o boots.images n s.boot s.control boots.sound))
+      (Safe-read o seen.done (doubt_of seen) n (sound_is_safe filling_one filling_is_lawful o boots.images n s.boot s.control boots.sound))
 
   pub boot-holds : BootHolds dual_scheme o s n
   boot-holds = record {
@@ -182,9 +184,9 @@ module _ (o : Origin) (s : Dual) (n : Device) (t : State) (boots : Boots o s n) 
   boots-after now = record {
     origin = boots.origin;
     images = boots.images;
-    sound = (drains_keep_boot o boots.images n s.boot s.control boots.sound).1;
+    sound = (drains_keep_boot filling_one filling_is_lawful o boots.images n s.boot s.control boots.sound).1;
     going = boots.going;
-    boot = boots.boot;
+    boot_fits = boots.boot_fits;
     unused = record {
       tables = now;
       controller = boots.unused.controller;
@@ -221,7 +223,7 @@ own-mark o n (At epoch state) is own = (
   },
 )
 
-new-is_boot : (p : Parameters) → IsBoot (new_boot p)
+new-is_boot : (p : Parameters) → IsBoot filling_one (new_boot filling_one p)
 new-is_boot p = record { room = length-replicate (64 * slot_blocks p) 0; there = tt }
 
 module _ (o : Origin) (s : Dual) (n : Device) (origin : IsOrigin o) (powered : IsPowered o.geometry s) (found : IsFound dual_scheme o n) where
@@ -231,16 +233,22 @@ module _ (o : Origin) (s : Dual) (n : Device) (origin : IsOrigin o) (powered : I
   abbrev first : BootImages
   first = record { before = n.image; kept = own.0; next = [] }
 
+  empty : IsEmpty (new_state o.geometry powered.dram)
+  empty = record {
+    tables = subst (λ (c : State). AreSoundTables c) powered.controller (powered.tables origin.geometry);
+    fresh = IsFresh-new o.geometry powered.dram;
+  }
+
   boots-first : Boots o s n
   boots-first = record {
     origin = origin;
     images = first;
     sound =
-        subst (λ (b : Booting). IsBootOf o first n b s.control) (sym powered.boot)
-        (subst (λ (c : State). IsBootOf o first n (new_boot o.geometry) c) (sym powered.controller)
-        (new_is_sound o first n powered.dram refl found.sized found.settled own.1));
-    going = subst (λ (b : Booting). IsGoing b.stage) (sym powered.boot) tt;
-    boot = subst (λ (b : Booting). IsBoot b) (sym powered.boot) (new-is_boot o.geometry);
+        subst (λ (b : Booting). IsBootOf filling_one o first n b s.control) (sym powered.boot_is)
+        (subst (λ (c : State). IsBootOf filling_one o first n (new_boot filling_one o.geometry) c) (sym powered.controller)
+        (new_is_sound filling_one filling_is_lawful o first n (new_state o.geometry powered.dram) empty refl refl found.sized found.settled own.1));
+    going = subst (λ (b : Booting). IsGoing b.stage) (sym powered.boot_is) tt;
+    boot_fits = subst (λ (b : Booting). IsBoot filling_one b) (sym powered.boot_is) (new-is_boot o.geometry);
     unused = record {
       tables = powered.tables origin.geometry;
       controller = ap (λ (c : State). c.p) powered.controller;
@@ -255,7 +263,7 @@ module _ (o : Origin) (s : Dual) (n : Device) (origin : IsOrigin o) (powered : I
   }
 
   boots-found : BootsFound dual_scheme o s n
-  boots-found = record { boots = boots-first; view = ap (λ (b : Booting). view_at o b.stage n) powered.boot }
+  boots-found = record { boots = boots-first; view = ap (λ (b : Booting). view_at o b.stage n) powered.boot_is }
 
 pub power_finds : PowerFinds
 power_finds o s n origin powered found = boots-found o s n origin powered found
@@ -263,13 +271,14 @@ power_finds o s n origin powered found = boots-found o s n origin powered found
 pub power_is_new : PowerIsNew
 power_is_new p s powered = record {
   queued = ap (λ (c : State). c.dram.queued) powered.controller ∙ powered.is_dram.empty;
-  boot_left = subst (λ (b : Booting). boot_left b.p b.stage ≤ boot_left p (Reads Unread)) (sym powered.boot) (omega arith);
+  boot_left = subst (λ (b : Booting). stage_left (boot_numbers b.p) b.stage ≤ dual_scheme.most_booting p) (sym powered.boot_is) (omega arith);
 }
 
 pub zeros_are_nothing : ZerosAreNothing
 zeros_are_nothing p shape n same =
     let some : 1 < shape.blocks - 0 = omega (arith, same) in
-    decode-zero p (fitted shape [] n).image (ap is_zero (get_or-replicate (shape.blocks - 0) 1 zero_block zero_block some) ∙ is_zero-zero_block)
+    sym (decode_by-version_one p ceiling (fitted shape [] n).image)
+    ∙ decode_by-zero (version_one p ceiling) (fitted shape [] n).image (ap is_zero (get_or-replicate (shape.blocks - 0) 1 zero_block zero_block some) ∙ is_zero-zero_block)
 
 -- ---- whether it loads
 
@@ -286,34 +295,37 @@ kept-some o g n None before tells committed =
 abbrev HasCommitAt : ReadStage → Device → Type 0
 HasCommitAt ReadsHeader n = is_zero (block_at n.image 1) ≡ false
 HasCommitAt (ReadsSlot next) n = is_zero (block_at n.image 1) ≡ false
-HasCommitAt (Frames page next) n = is_zero (block_at n.image 1) ≡ false
+HasCommitAt (Fills k) n = is_zero (block_at n.image 1) ≡ false
 HasCommitAt _ n = Unit {0}
 
-has-commit : (r : ReadStage) (n : Device) (p : Parameters) (commit : Block) (slot : List ℕ) (c : State) → HasReadAt (Reads r) n p commit slot c → HasCommitAt r n
-has-commit Unread n p commit slot c h = tt
-has-commit ReadsHeader n p commit slot c h = committed-in n.image commit h.1
-has-commit (ReadsSlot next) n p commit slot c h = committed-in n.image commit h.1.commit_is
-has-commit (Frames page next) n p commit slot c h = committed-in n.image commit h.0.head.commit_is
-has-commit (Refusing bad) n p commit slot c h = tt
+committed-in : (g : List Block) (commit : Block) → HasCommit g commit → is_zero (block_at g 1) ≡ false
+committed-in g commit h = ap is_zero h.is ∙ h.committed
+
+has-commit : (r : ReadStage) (n : Device) (b : Booting) (c : State) → HasReadAt filling_one (Reads r) n b c → HasCommitAt r n
+has-commit Unread n b c h = tt
+has-commit ReadsHeader n b c h = committed-in n.image b.commit h.1
+has-commit (ReadsSlot next) n b c h = committed-in n.image b.commit h.1.commit_is
+has-commit (Fills k) n b c h = committed-in n.image b.commit h.0.head.commit_is
+has-commit (Refusing bad) n b c h = tt
 
 module _ (o : Origin) (g : BootImages) (n : Device) (b : Booting) (c : State) where
-  not-loading : IsRecovering g n b c → Tells o (layout_of o) g.before g.kept → is_zero (block_at n.image 1) ≡ false
+  not-loading : IsRecovering filling_one g n b c → Tells o (layout_of o) g.before g.kept → is_zero (block_at n.image 1) ≡ false
       → loads (view_of_image o.start.count (decode_image o.geometry ceiling n.image)) ≡ false
   not-loading reading tells committed =
       ap loads (view-reading o g n b c reading tells) ∙ kept-some o g n g.kept reading.before_is tells committed
 
-  reading-at : (r : ReadStage) → ((bad : BadImage) → Reads r ≢ Reads (Refusing bad)) → Tells o (layout_of o) g.before g.kept → IsRecovering g n b c
+  reading-at : (r : ReadStage) → ((bad : BadImage) → Reads r ≢ Reads (Refusing bad)) → Tells o (layout_of o) g.before g.kept → IsRecovering filling_one g n b c
       → HasCommitAt r n → false ≡ (has_read_at (Reads r) && loads (view_at o (Reads r) n))
   reading-at Unread good tells far read = refl
   reading-at ReadsHeader good tells far read = sym (not-loading far tells read)
   reading-at (ReadsSlot next) good tells far read = sym (not-loading far tells read)
-  reading-at (Frames page next) good tells far read = sym (not-loading far tells read)
+  reading-at (Fills k) good tells far read = sym (not-loading far tells read)
   reading-at (Refusing bad) good tells far read = absurd (good bad refl)
 
   loading-at : (q : Stage) → b.stage ≡ q → IsGoing q → ((bad : BadImage) → q ≢ Reads (Refusing bad)) → IsKeeping o (layout_of o) (standing_in_boot o q g n)
-      → IsSoundAt o q g n b c → loads_at q ≡ (has_read_at q && loads (view_at o q n))
+      → IsSoundAt filling_one o q g n b c → loads_at q ≡ (has_read_at q && loads (view_at o q n))
   loading-at (Reads r) is going good keeps far =
-      reading-at r good keeps.told far (has-commit r n b.p b.commit b.slot c (subst (λ (q : Stage). HasReadAt q n b.p b.commit b.slot c) is far.read.so_far))
+      reading-at r good keeps.told far (has-commit r n b c (subst (λ (q : Stage). HasReadAt filling_one q n b c) is far.read.so_far))
   loading-at (Loads issue) is going good keeps far = refl
   loading-at (Over end) is going good keeps far = absurd going
 
@@ -321,7 +333,7 @@ pub loading-is : (o : Origin) (s : Dual) (n : Device) → Boots o s n
     → loads_at s.boot.stage ≡ (has_read_at s.boot.stage && loads (view_at o s.boot.stage n))
 loading-is o s n boots =
     loading-at o boots.images n s.boot s.control s.boot.stage refl boots.going
-    (λ bad. never_refused o boots.images n s.boot s.control bad boots.sound) boots.sound.keeps boots.sound.so_far
+    (λ bad. never_refused filling_one filling_is_lawful o boots.images n s.boot s.control bad boots.sound) boots.sound.keeps boots.sound.so_far
 
 -- ---- a loss of power
 

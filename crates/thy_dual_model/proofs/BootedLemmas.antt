@@ -42,9 +42,9 @@ use Rattle.thy_commit.specs.Moves.{Checkpoints, is_settled, saved_at}
 use Rattle.thy_commit.specs.Progress.{Progress, Fits}
 use Rattle.thy_commit.specs.Written.{HasWrittenBefore}
 use Rattle.thy_commit.proofs.FitLemmas.{idle_fits}
-use Rattle.thy_recover.specs.Recovers.{loads}
-use Rattle.thy_recover.specs.Sound.{IsBooted}
-use Rattle.thy_recover.proofs.DecodeLemmas.{newest-settled}
+use Rattle.thy_recover.specs.Filling.{loads}
+use Rattle.thy_recover.specs.Booted.{IsBooted}
+use Rattle.thy_boot.proofs.ReadLemmas.{newest-settled}
 use Rattle.thy_recover.proofs.WorkLemmas.{loads-are}
 use Rattle.thy_scheme.specs.Marks.{only}
 use Rattle.thy_dual_model.specs.Booted.{IsUnused, BootedIsSound}

@@ -11,9 +11,10 @@ use Rattle.thy_isa.specs.declared.state.Status.TheVariants.{Running}
 use Rattle.thy_control.specs.State.{new_state}
 use Rattle.thy_control.proofs.NewLemmas.{AreSoundTables-new}
 use Rattle.thy_commit.specs.declared.next.Next.TheVariants.{Nothing, Slot as SlotNext}
-use Rattle.thy_recover.specs.declared.stage.Stage.{Stage}
-use Rattle.thy_recover.specs.declared.stage.Stage.TheVariants.{Reads, Loads, Over}
-use Rattle.thy_recover.specs.Boot.{new_boot}
+use Rattle.thy_boot.specs.declared.stage.Stage.{Stage}
+use Rattle.thy_boot.specs.declared.stage.Stage.TheVariants.{Reads, Loads, Over}
+use Rattle.thy_boot.specs.Boot.{new_boot}
+use Rattle.thy_recover.specs.Filling.{filling_one}
 use Rattle.thy_view.specs.Origin.{Origin}
 use Rattle.thy_view.specs.Told.{told}
 use Rattle.thy_scheme.specs.Laws.{IsLawful}
@@ -39,7 +40,7 @@ first p = record {
   engine = record { p = p; next = Nothing; cpu = no_cpu; epoch = 0 };
   rested = true;
   lean = false;
-  boot = new_boot p;
+  boot = new_boot filling_one p;
 }
 
 new-cells : (i j block page : ℕ) (under_way : Bool) → NewIsSound i j block page under_way
@@ -56,7 +57,7 @@ powered p =
       is_dram = record { blocks = size; room = refl; empty = refl };
       controller = refl;
       tables = λ range. AreSoundTables-new new-cells p (no_dram p) range size;
-      boot = refl;
+      boot_is = refl;
       engine = refl;
       progress = record { regs = length-replicate {A = ℕ} 32 0; inside = λ k is. absurd (no-slot k is) };
       idle = refl;
@@ -68,7 +69,7 @@ powered p =
 
 -- it depends on the image, and on no turn
 alike_at : (o : Origin) (turns : List ℕ) (stage : Stage) (n : Device) → view_at (told o turns) stage n ≡ view_at o stage n
-alike_at o turns (Reads stage) n = refl
+alike_at o turns (Reads r) n = refl
 alike_at o turns (Loads issue) n = refl
 alike_at o turns (Over end) n = refl
 

@@ -11,7 +11,7 @@ use Rattle.thy_protocol.specs.Keeps.{Keeps}
 use Rattle.thy_protocol.specs.VersionOne.{layout_of}
 use Rattle.thy_commit.specs.Items.{is_under_way}
 use Rattle.thy_commit.specs.Progress.{IsSoundProgress}
-use Rattle.thy_recover.specs.Sound.{IsBooted}
+use Rattle.thy_recover.specs.Booted.{IsBooted}
 use Rattle.thy_scheme.specs.Marks.{only}
 use Rattle.thy_dual_model.specs.Dual.{Dual}
 use Rattle.thy_dual_model.specs.Sound.{IsSound}

@@ -5,6 +5,7 @@ use Rattle.thy_base.specs.declared.config.Parameters.{Parameters}
 use Rattle.thy_base.specs.declared.nvm.NvmError.{NvmError}
 use Rattle.thy_base.specs.Device.{Device}
 use Rattle.thy_base.specs.Geometry.{IsInRange}
+use Rattle.thy_base.specs.Places.{slot_blocks}
 use Rattle.thy_dram.specs.Contents.{Contents}
 use Rattle.thy_record.specs.Images.{decode_image}
 use Rattle.thy_view.specs.declared.view.View.{View}
@@ -15,15 +16,16 @@ use Rattle.thy_view.specs.Safe.{ceiling}
 use Rattle.thy_control.specs.State.{AreSoundTables, new_state}
 use Rattle.thy_commit.specs.Items.{is_under_way}
 use Rattle.thy_commit.specs.Progress.{IsSoundProgress}
-use Rattle.thy_recover.specs.declared.stage.BootStep.{BootStep}
-use Rattle.thy_recover.specs.declared.stage.BootStep.TheVariants.{Reading, Loading as IsLoading, Loaded as HasLoaded, Restarted, Refused}
-use Rattle.thy_recover.specs.declared.stage.Stage.{Stage}
-use Rattle.thy_recover.specs.declared.stage.Stage.TheVariants.{Reads, Loads}
-use Rattle.thy_recover.specs.declared.stage.ReadStage.TheVariants.{Unread}
-use Rattle.thy_recover.specs.Boot.{IsBoot, new_boot}
-use Rattle.thy_recover.specs.Laws.{IsGoing}
-use Rattle.thy_recover.specs.Shows.{is_written}
-use Rattle.thy_recover.specs.Sound.{BootImages, IsSound as IsBootOf}
+use Rattle.thy_boot.specs.declared.stage.BootStep.{BootStep}
+use Rattle.thy_boot.specs.declared.stage.BootStep.TheVariants.{Reading, Loading as IsLoading, Loaded as HasLoaded, Restarted, Refused}
+use Rattle.thy_boot.specs.declared.stage.Stage.{Stage}
+use Rattle.thy_boot.specs.declared.stage.Stage.TheVariants.{Reads, Loads}
+use Rattle.thy_boot.specs.declared.stage.ReadStage.TheVariants.{Unread}
+use Rattle.thy_boot.specs.Boot.{IsBoot, empty_boot}
+use Rattle.thy_boot.specs.Laws.{IsGoing}
+use Rattle.thy_boot.specs.Shows.{is_written}
+use Rattle.thy_boot.specs.Sound.{BootImages, IsSound as IsBootOf}
+use Rattle.thy_recover.specs.Filling.{filling_one}
 use Rattle.thy_scheme.specs.declared.boot_step.BootStep.{BootStep as SchemeStep}
 use Rattle.thy_scheme.specs.declared.boot_step.BootStep.TheVariants.{GoesOn, Loaded as SchemeLoaded, Restarted as SchemeRestarted, Refused as SchemeRefused}
 use Rattle.thy_dual_model.specs.Booted.{IsUnused}
@@ -34,9 +36,9 @@ use Rattle.thy_dual_model.specs.Dual.{Dual}
 pub record Boots (o : Origin) (s : Dual) (n : Device) : Type 0 where
   pub origin : IsOrigin o
   pub images : BootImages
-  pub sound : IsBootOf o images n s.boot s.control
+  pub sound : IsBootOf filling_one o images n s.boot s.control
   pub going : IsGoing s.boot.stage
-  pub boot : IsBoot s.boot
+  pub boot_fits : IsBoot filling_one s.boot
   pub unused : IsUnused o s
   pub unread : s.boot.stage ≡ Reads Unread → s.control.dram.queued ≡ 0
   pub rested : s.rested ≡ true
@@ -74,7 +76,7 @@ pub record IsPowered (p : Parameters) (s : Dual) : Type 0 where
   pub is_dram : IsDramOf p dram
   pub controller : s.control ≡ new_state p dram
   pub tables : IsInRange p → AreSoundTables s.control
-  pub boot : s.boot ≡ new_boot p
+  pub boot_is : s.boot ≡ empty_boot (slot_blocks p) p
   pub engine : s.engine.p ≡ p
   pub progress : IsSoundProgress s.engine
   pub idle : is_under_way s.engine.next ≡ false

@@ -10,7 +10,7 @@ use Rattle.thy_control.specs.Holding.{promoted}
 use Rattle.thy_control.specs.Merges.{overlays}
 use Rattle.thy_control.specs.State.{State, AreSoundTables, penult_of}
 use Rattle.thy_commit.specs.Progress.{Progress}
-use Rattle.thy_recover.specs.Boot.{Booting}
+use Rattle.thy_boot.specs.Boot.{Booting}
 
 pub record Dual : Type 0 where
   pub control : State

@@ -1,12 +1,14 @@
 -- Part of the claim.
 -- What is seen of the scheme.
 use Rattle.std.specs.Prelude.{◌*◌, true, false}
-use Rattle.thy_base.specs.Places.{image_blocks}
+use Rattle.thy_base.specs.Geometry.{memory_blocks}
+use Rattle.thy_base.specs.Places.{slot_blocks, image_blocks}
 use Rattle.thy_record.specs.Images.{decode_image}
 use Rattle.thy_table.specs.Listing.{free_count}
-use Rattle.thy_recover.specs.declared.stage.Stage.TheVariants.{Reads}
-use Rattle.thy_recover.specs.declared.stage.ReadStage.TheVariants.{Unread}
-use Rattle.thy_recover.specs.Left.{boot_left}
+use Rattle.thy_boot.specs.declared.stage.Stage.TheVariants.{Reads}
+use Rattle.thy_boot.specs.declared.stage.ReadStage.TheVariants.{Unread}
+use Rattle.thy_boot.specs.Left.{BootNumbers, stage_left}
+use Rattle.thy_base.specs.declared.config.Parameters.{Parameters}
 use Rattle.thy_control.specs.Holding.{holding_of}
 use Rattle.thy_control.specs.Merges.{overlays}
 use Rattle.thy_control.specs.Promotions.{unfilled}
@@ -17,6 +19,10 @@ use Rattle.thy_dual_model.specs.Boots.{Boots, IsPowered, view_at, has_read_at}
 use Rattle.thy_dual_model.specs.Dual.{Dual, IsOf, is_overlaid, is_promoting, penults}
 use Rattle.thy_dual_model.specs.Sound.{IsSound}
 use Rattle.thy_dual_model.specs.Stays.{StaysDual}
+
+-- the numbers of its boot
+abbrev pub boot_numbers : Parameters → BootNumbers
+boot_numbers p = record { memory = memory_blocks p; slot = slot_blocks p; most_slot = slot_blocks p; fills = 64 * p.ptt }
 
 abbrev pub dual_scheme : SchemeOf Dual
 dual_scheme = record {
@@ -42,12 +48,12 @@ dual_scheme = record {
   boot_view = λ o s n. view_at o s.boot.stage n;
   has_read = λ s. has_read_at s.boot.stage;
   migrates = λ s. false;
-  boot_left = λ s. boot_left s.boot.p s.boot.stage;
+  boot_left = λ s. stage_left (boot_numbers s.boot.p) s.boot.stage;
   engine_left = λ s. cycles_left s.engine s.control;
   merges_left = λ s. overlays s.control;
   promotions_left = λ s. unfilled s.control;
   owed_later = λ s. 0;
-  most_booting = λ p. boot_left p (Reads Unread);
+  most_booting = λ p. stage_left (boot_numbers p) (Reads Unread);
   most_engine = most_cycles;
   most_merges = λ p. p.btt;
   most_promotions = λ p. 64 * p.ptt;

@@ -74,15 +74,15 @@ module _ (p : Parameters) (ceiling : ℕ) (cpu : CpuState) (t : Tables) (epoch :
     each = λ k l. get_or-map-range_with_len (slot_block_of p cpu t epoch) 0 (slot_blocks p) k k zero_block l (omega arith);
   }
 
-  tables_are : tables_in p slot ≡ t
+  pub tables_are : tables_in p slot ≡ t
   tables_are = tables_in-back p cpu t epoch slot range tables slot_is
 
-  cpu_is : cpu_of_record slot ≡ cpu
+  pub cpu_is : cpu_of_record slot ≡ cpu
   cpu_is =
       let room : console_room p < 2 ^ 64 = omega arith in
       cpu_back cpu epoch slot (FitsRecord-recordable p ceiling cpu epoch recordable room most small) (BeginsWithRecord-slot p cpu t epoch slot slot_is)
 
-  parts_of : ArePartsOf (version_one p ceiling) (commit_of epoch) (parts_by p cpu t epoch)
+  pub parts_of : ArePartsOf (version_one p ceiling) (commit_of epoch) (parts_by p cpu t epoch)
   parts_of = record {
     placed = ArePlaced-parts p cpu t epoch tables;
     slot_place = ap (λ (e : ℕ). slot_place p (e % 2)) epoch_is;
@@ -90,7 +90,7 @@ module _ (p : Parameters) (ceiling : ℕ) (cpu : CpuState) (t : Tables) (epoch :
     memory = ap (memory_numbers p) tables_are;
   }
 
-  no_fault : (header : Block) → header_fault header p true ≡ None
+  pub no_fault : (header : Block) → header_fault header p true ≡ None
       → option_or (header_fault header p true) (option_or (commit_fault (commit_of epoch) ceiling) (slot_fault p ceiling (epoch_of (commit_of epoch)) slot)) ≡ None
   no_fault header fits =
       all_none (header_fault header p true) (commit_fault (commit_of epoch) ceiling) (slot_fault p ceiling (epoch_of (commit_of epoch)) slot) fits

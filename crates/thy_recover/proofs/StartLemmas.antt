@@ -23,7 +23,9 @@ use Rattle.thy_base.specs.Words.{block_of}
 use Rattle.thy_record.proofs.EntryLemmas.{entry_of-absent}
 use Rattle.thy_record.proofs.TableLemmas.{table_block_of-entries}
 use Rattle.thy_view.specs.Origin.{Origin, IsOrigin}
-use Rattle.thy_recover.specs.Start.{IsStartFor, start_bytes, start_block, start_blocks, no_tables}
+use Rattle.thy_recover.specs.Filling.{CanStart}
+use Rattle.thy_recover.specs.Start.{start_bytes, start_block, start_blocks, no_tables}
+use Rattle.thy_recover.proofs.RecordLemmas.{start-recordable}
 
 -- ---- tables that list nothing
 
@@ -90,17 +92,17 @@ flat-blocks (b ∷ blocks) bytes l each =
     ∙ ap (λ xs. take 64 bytes ++ xs) rest
     ∙ take-append-drop 64 bytes
 
-length-start_bytes : (o : Origin) → IsOrigin o → length (start_bytes o.geometry o.start) ≡ 64 * memory_blocks o.geometry
-length-start_bytes o h =
-    let room = h.recordable.console in
-    let least = console_below o.geometry h.geometry in
-    let size = h.memory in
-    let zeros : List ℕ = replicate (console_room o.geometry - length o.start.console) 0 in
+length-start_bytes : (p : Parameters) (s : State) → CanStart p s → length (start_bytes p s) ≡ 64 * memory_blocks p
+length-start_bytes p s h =
+    let room = h.start.console in
+    let least = console_below p h.geometry in
+    let size = h.start.memory in
+    let zeros : List ℕ = replicate (console_room p - length s.console) 0 in
     omega (
       arith,
-      length-append o.start.memory (o.start.console ++ zeros),
-      length-append o.start.console zeros,
-      length-replicate {A = ℕ} (console_room o.geometry - length o.start.console) 0,
+      length-append s.memory (s.console ++ zeros),
+      length-append s.console zeros,
+      length-replicate {A = ℕ} (console_room p - length s.console) 0,
     )
 
 start_parts : (s : State) (size : ℕ) (zeros : List ℕ) → length s.memory ≡ size
@@ -119,18 +121,21 @@ pub block_at-start_blocks : (p : Parameters) (s : State) (b : ℕ) → b < memor
 block_at-start_blocks p s b inside = get_or-map-range_with_len (start_block p s) 0 (memory_blocks p) b b zero_block inside (omega arith)
 
 -- the start's blocks and its processor make the start
-pub state_from-start : (o : Origin) → IsOrigin o → state_from o.geometry (cpu_of o.start) (start_blocks o.geometry o.start) ≡ o.start
+pub state_from-start : (p : Parameters) (s : State) → CanStart p s → state_from p (cpu_of s) (start_blocks p s) ≡ s
 unfolding state_from
-state_from-start o h =
-    let p : Parameters = o.geometry in
-    let bytes : List ℕ = start_bytes p o.start in
-    let long : length (start_blocks p o.start) ≡ memory_blocks p = length-start_blocks p o.start in
-    let all : flat (start_blocks p o.start) ≡ bytes
-    = flat-blocks (start_blocks p o.start) bytes (length-start_bytes o h ∙ ap (λ n. 64 * n) (sym long))
-    (λ i l. block_at-start_blocks p o.start i (omega (arith, l, long))) in
-    ap (λ bs. state_with (cpu_of o.start) (take (program_size p) bs) (take (length o.start.console) (drop (program_size p) bs))) all
-    ∙ start_parts o.start (program_size p) (replicate (console_room p - length o.start.console) 0) h.memory
+state_from-start p s h =
+    let bytes : List ℕ = start_bytes p s in
+    let long : length (start_blocks p s) ≡ memory_blocks p = length-start_blocks p s in
+    let all : flat (start_blocks p s) ≡ bytes
+    = flat-blocks (start_blocks p s) bytes (length-start_bytes p s h ∙ ap (λ n. 64 * n) (sym long))
+    (λ i l. block_at-start_blocks p s i (omega (arith, l, long))) in
+    ap (λ bs. state_with (cpu_of s) (take (program_size p) bs) (take (length s.console) (drop (program_size p) bs))) all
+    ∙ start_parts s (program_size p) (replicate (console_room p - length s.console) 0) h.start.memory
 
--- the start fits
-pub IsStartFor-origin : (o : Origin) → IsOrigin o → IsStartFor o.geometry o.start
-IsStartFor-origin o h = record { regs = h.recordable.regs_length; memory = h.memory; console = h.recordable.console }
+-- the start of a run can be recorded
+pub CanStart-origin : (o : Origin) → IsOrigin o → CanStart o.geometry o.start
+CanStart-origin o h = record {
+  geometry = h.geometry;
+  start = record { regs = h.recordable.regs_length; memory = h.memory; console = h.recordable.console };
+  recordable = start-recordable o h;
+}

@@ -34,8 +34,8 @@ use Rattle.thy_control.specs.Boot.{IsBooting}
 use Rattle.thy_control.specs.CheckpointTables.{tables0, CommittedTables}
 use Rattle.thy_control.specs.Stays.{HoldAll}
 use Rattle.thy_control.proofs.FindLemmas.{found_entry, entry_for-some, entry_for-none}
-use Rattle.thy_recover.specs.Recovers.{loads}
-use Rattle.thy_recover.proofs.DecodeLemmas.{newest-settled}
+use Rattle.thy_boot.proofs.ReadLemmas.{newest-settled}
+use Rattle.thy_recover.specs.Filling.{loads}
 
 -- entries with nothing under way
 record IsStill (e : BttEntry) : Type 0 where

@@ -1,11 +1,4 @@
 pub mod Listed
-pub mod Boot
-pub mod Left
-pub mod Reads
-pub mod Recovers
 pub mod Start
-pub mod Loads
-pub mod Steps
-pub mod Sound
-pub mod Shows
-pub mod Laws
+pub mod Filling
+pub mod Booted

@@ -1,18 +1,75 @@
-//! What the tables of a slot list, given to the controller.
-ghost use Rattle.std.specs.Prelude.{◌≡◌, ◌+◌, ◌*◌, ◌<◌, is_some, length};
+//! What a slot says: its fault, its processor, and what its tables list, given to the controller.
+ghost use Rattle.std.specs.Prelude.{◌≡◌, ◌+◌, ◌*◌, ◌<◌, is_some, length, None};
 ghost use Rattle.thy_base.specs.Places.{slot_blocks};
+ghost use Rattle.thy_boot.specs.Boot.{slot_bytes};
+ghost use Rattle.thy_boot.specs.Filling.{ListsOn};
+ghost use Rattle.thy_record.specs.Commit.{epoch_of};
+ghost use Rattle.thy_record.specs.Cpu.{cpu_of_record};
 ghost use Rattle.thy_record.specs.Files.{blocks_of};
-ghost use Rattle.thy_record.specs.Slots.{tables_in};
+ghost use Rattle.thy_record.specs.Slots.{tables_in, slot_fault as fault_of_slot};
 ghost use Rattle.thy_record.specs.Tables.{IsTables};
 ghost use Rattle.thy_table.specs.Listing.{first_from};
+ghost use Rattle.thy_view.specs.Safe.{ceiling};
+ghost use Rattle.thy_recover.specs.Filling.{IsEmpty, next_position, filling_one};
 ghost use Rattle.thy_recover.specs.Listed.{ListsUpTo, AsListed};
 
-use thy_base::Geometry;
+use thy_base::{Block, Geometry, word};
 use thy_control::{Control, tables_allow_listing};
-use thy_record::{listed_block, listed_page};
+use thy_isa::CpuState;
+use thy_record::{BadImage, cpu_in, faultless_tables, listed_block, listed_page, slot_fault};
+
+/// Epochs and counts of a run's own images are below this.
+pub const CEILING: u64 = 9_223_372_036_854_775_808;
+
+/// The fault of a slot.
+pub fn fault_of_slot(geometry: &Geometry, commit: &Block, slot: &[u8]) -> Option<BadImage>
+    requires { length slot.now ≡ 64 * slot_blocks geometry.now }
+    ensures { let blocks = slot_bytes filling_one geometry.now commit.now slot.now in
+        result ≡ fault_of_slot geometry.now ceiling (epoch_of commit.now) blocks }
+{
+    slot_fault(slot, word(commit, 1), geometry, CEILING)
+}
+
+/// The processor of a slot.
+pub fn cpu_of_slot(geometry: &Geometry, commit: &Block, slot: &[u8]) -> CpuState
+    requires { length slot.now ≡ 64 * slot_blocks geometry.now }
+    ensures { result ≡ cpu_of_record (slot_bytes filling_one geometry.now commit.now slot.now) }
+{
+    let _geometry = geometry;
+    let _commit = commit;
+    cpu_in(slot)
+}
+
+/// The first position from one on that has to be filled: a block of a page that is listed.
+pub fn next_fill(geometry: &Geometry, commit: &Block, slot: &[u8], from: u64) -> Option<u64>
+    requires { length slot.now ≡ 64 * slot_blocks geometry.now }
+    ensures { result ≡ next_position geometry.now (slot_bytes filling_one geometry.now commit.now slot.now) from }
+{
+    let _commit = commit;
+    let _numbers = geometry.numbers();
+    match next_listed(slot, (from / 64) as usize, geometry) {
+        Some(entry) => Some(from.max(64 * entry as u64)),
+        None => None,
+    }
+}
+
+/// A slot without a fault is listed by a controller that lists nothing.
+pub fn list_slot(geometry: &Geometry, commit: &Block, slot: &[u8], control: &mut Control)
+    requires room { length slot.now ≡ 64 * slot_blocks geometry.now }
+    requires geometry { control.old.p ≡ geometry.now }
+    requires fresh { IsEmpty control.old }
+    requires fits { let blocks = slot_bytes filling_one geometry.now commit.now slot.now in
+        fault_of_slot geometry.now ceiling (epoch_of commit.now) blocks ≡ None }
+    ensures { ListsOn filling_one commit.now (slot_bytes filling_one geometry.now commit.now slot.now) control.old control.new }
+{
+    let _commit = commit;
+    faultless_tables();
+    list_all(slot, geometry, control);
+    control.tables();
+}
 
 /// The first entry of the page table from one on that lists a page.
-pub fn next_listed(slot: &[u8], from: usize, geometry: &Geometry) -> Option<usize>
+fn next_listed(slot: &[u8], from: usize, geometry: &Geometry) -> Option<usize>
     requires { length slot.now ≡ 64 * slot_blocks geometry.now }
     ensures { result ≡ first_from is_some from (tables_in geometry.now (blocks_of slot.now)).ptt }
 {
@@ -26,7 +83,7 @@ pub fn next_listed(slot: &[u8], from: usize, geometry: &Geometry) -> Option<usiz
 }
 
 /// Lists in a controller that lists nothing what the tables of a slot list: the blocks, and then the pages.
-pub fn list_all(slot: &[u8], geometry: &Geometry, control: &mut Control)
+fn list_all(slot: &[u8], geometry: &Geometry, control: &mut Control)
     requires slot { length slot.now ≡ 64 * slot_blocks geometry.now }
     requires geometry { control.old.p ≡ geometry.now }
     requires tables { IsTables geometry.now (tables_in geometry.now (blocks_of slot.now)) }

@@ -1,49 +1,55 @@
 -- What boots and cuts of the least memory leave.
-use Rattle.std.proofs.Common.{◌≡◌, ℕ, suc, ◌+◌, ◌-◌, ◌≤◌, ◌<◌, false, List, [], ◌∷◌, ◌++◌, length, refl, sym, ◌∙◌, ap, subst, arith}
-use Rattle.std.proofs.lemmas.List.{length-append}
+use Rattle.std.proofs.Common.{◌≡◌, ℕ, suc, ◌+◌, ◌-◌, ◌*◌, ◌^◌, ◌≤◌, ◌<◌, false, inl, inr, replicate, slice_index, List, [], ◌∷◌, ◌++◌, length, refl, sym, ◌∙◌, ap, subst, arith}
+use Rattle.std.proofs.lemmas.Bool.{cases_lt}
+use Rattle.std.proofs.lemmas.List.{length-append, length-replicate, get_or-replicate, get_or_past}
 use Rattle.thy_base.specs.declared.block.Block.{Block}
 use Rattle.thy_base.specs.declared.config.Parameters.{Parameters}
 use Rattle.thy_base.specs.Device.{Device, IsCut}
-use Rattle.thy_base.specs.Geometry.{memory_blocks}
-use Rattle.thy_base.specs.Places.{image_blocks, dram_blocks}
+use Rattle.thy_base.specs.Geometry.{IsInRange, memory_blocks}
+use Rattle.thy_base.specs.Places.{slot_blocks, image_blocks, dram_blocks}
 use Rattle.thy_control.specs.State.{State, AreSoundTables, new_state}
 use Rattle.thy_dram.specs.Contents.{Contents, lost}
 use Rattle.thy_dram.specs.Draws.{blocks_over, after_block}
 use Rattle.thy_isa.specs.Step.{State as Plain}
 use Rattle.thy_view.specs.Action.{Action, Rest, ReadAt, WriteAt, Barrier, Drain, after}
-use Rattle.thy_recover.specs.declared.stage.Stage.{Stage}
-use Rattle.thy_recover.specs.declared.stage.Stage.TheVariants.{Reads, Loads, Over}
-use Rattle.thy_recover.specs.declared.stage.ReadStage.TheVariants.{Unread, Header, Slot, Frames, Refusing}
-use Rattle.thy_recover.specs.declared.stage.End.TheVariants.{Restored, Loaded}
-use Rattle.thy_recover.specs.Boot.{Booting, answer_at, answer_of, new_boot}
-use Rattle.thy_recover.specs.Loads.{issue_action}
-use Rattle.thy_recover.specs.Recovers.{HasReadAt, NewHasRead}
-use Rattle.thy_recover.specs.Start.{IsStartFor}
-use Rattle.thy_recover.specs.Steps.{Steps, StepsAt}
+use Rattle.thy_boot.specs.declared.stage.Stage.{Stage}
+use Rattle.thy_boot.specs.declared.stage.Stage.TheVariants.{Reads, Loads, Over}
+use Rattle.thy_boot.specs.declared.stage.ReadStage.TheVariants.{Unread, Header, Slot, Fills, Refusing}
+use Rattle.thy_boot.specs.declared.stage.End.TheVariants.{Restored, Loaded}
+use Rattle.thy_boot.specs.Boot.{Booting, answer_at, answer_of, new_boot}
+use Rattle.thy_boot.specs.Loads.{issue_action}
+use Rattle.thy_boot.specs.Recovers.{HasReadAt}
+use Rattle.thy_boot.specs.Steps.{Steps, StepsAt}
+use Rattle.thy_boot.proofs.ReadLemmas.{HasRead-new}
+use Rattle.thy_isa.specs.declared.state.Status.{Status}
+use Rattle.thy_record.specs.Cpu.{status_tag, status_value, is_status}
+use Rattle.thy_recover.specs.Filling.{CanStart, filling_one}
+use Rattle.thy_recover.proofs.LiveLemmas.{IsFresh-new}
 use Rattle.thy_tests.specs.Beside.{all}
+use Rattle.thy_tests.specs.Boots.{Boots, IsLeastStart}
 use Rattle.thy_tests.specs.Memory.{HasRoom}
 use Rattle.thy_tests.specs.Starting.{Off, IsOff, starting, IsStarting, is_refused}
 
 -- ---- steps
 
 -- unless it refused, a boot that reads has a controller with no checkpoint under way
-idle-at : (stage : Stage) (n : Device) (p : Parameters) (commit : Block) (slot : List ℕ) (b : Booting) (c : State)
-    → is_refused (answer_at stage b) ≡ false → HasReadAt stage n p commit slot c → c.under_way ≡ false
-idle-at (Reads Unread) n p commit slot b c told read = read.booting.idle
-idle-at (Reads Header) n p commit slot b c told read = read.0.booting.idle
-idle-at (Reads (Slot next)) n p commit slot b c told read = read.0.booting.idle
-idle-at (Reads (Frames page next)) n p commit slot b c told read = read.0.booting.idle
-idle-at (Reads (Refusing bad)) n p commit slot b c told read = cc
-idle-at (Loads issue) n p commit slot b c told read = read.0.booting.idle
-idle-at (Over Restored) n p commit slot b c told read = read.tables.booting.idle
-idle-at (Over Loaded) n p commit slot b c told read = absurd read
+idle-at : (stage : Stage) (n : Device) (b : Booting) (c : State)
+    → is_refused (answer_at filling_one stage b) ≡ false → HasReadAt filling_one stage n b c → c.under_way ≡ false
+idle-at (Reads Unread) n b c told read = read.fresh.booting.idle
+idle-at (Reads Header) n b c told read = read.0.fresh.booting.idle
+idle-at (Reads (Slot next)) n b c told read = read.0.fresh.booting.idle
+idle-at (Reads (Fills k)) n b c told read = read.0.lists.booting.idle
+idle-at (Reads (Refusing bad)) n b c told read = cc
+idle-at (Loads issue) n b c told read = read.0.fresh.booting.idle
+idle-at (Over Restored) n b c told read = read.lists.booting.idle
+idle-at (Over Loaded) n b c told read = absurd read
 
 -- so it has after every step
 pub idle-step : (s : Plain) (n : Device) (b : Booting) (c : State) (m : Device) (d : Booting) (e : State)
-    → c.under_way ≡ false → Steps s n b c m d e → is_refused (answer_of d) ≡ false → e.under_way ≡ false
+    → c.under_way ≡ false → Steps filling_one s n b c m d e → is_refused (answer_of filling_one d) ≡ false → e.under_way ≡ false
 idle-step s n b c m d e idle steps told = by_stage b.stage steps where
-  by_stage : (q : Stage) → StepsAt q s n b c m d e → e.under_way ≡ false
-  by_stage (Reads r) on = idle-at d.stage m d.p d.commit d.slot d e told on.read.so_far
+  by_stage : (q : Stage) → StepsAt filling_one q s n b c m d e → e.under_way ≡ false
+  by_stage (Reads r) on = idle-at d.stage m d e told on.read.so_far
   by_stage (Loads issue) on = ap (λ (t : State). t.under_way) on.control ∙ idle
   by_stage (Over end) on = absurd on
 
@@ -56,17 +62,17 @@ down-action Drain n = refl
 
 -- a step leaves the NVM up or down as it was, and the geometry
 pub down-step : (s : Plain) (n : Device) (b : Booting) (c : State) (m : Device) (d : Booting) (e : State)
-    → Steps s n b c m d e → m.down ≡ n.down
+    → Steps filling_one s n b c m d e → m.down ≡ n.down
 down-step s n b c m d e steps = by_stage b.stage steps where
-  by_stage : (q : Stage) → StepsAt q s n b c m d e → m.down ≡ n.down
+  by_stage : (q : Stage) → StepsAt filling_one q s n b c m d e → m.down ≡ n.down
   by_stage (Reads r) on = ap (λ (x : Device). x.down) on.device
-  by_stage (Loads issue) on = ap (λ (x : Device). x.down) on.device ∙ down-action (issue_action b.p s issue) n
+  by_stage (Loads issue) on = ap (λ (x : Device). x.down) on.device ∙ down-action (issue_action (filling_one.first b.p s) issue) n
   by_stage (Over end) on = absurd on
 
 pub same-step : (s : Plain) (n : Device) (b : Booting) (c : State) (m : Device) (d : Booting) (e : State)
-    → Steps s n b c m d e → d.p ≡ b.p
+    → Steps filling_one s n b c m d e → d.p ≡ b.p
 same-step s n b c m d e steps = by_stage b.stage steps where
-  by_stage : (q : Stage) → StepsAt q s n b c m d e → d.p ≡ b.p
+  by_stage : (q : Stage) → StepsAt filling_one q s n b c m d e → d.p ≡ b.p
   by_stage (Reads r) on = on.same_p
   by_stage (Loads issue) on = ap (λ (x : Booting). x.p) on.boot
   by_stage (Over end) on = absurd on
@@ -77,28 +83,64 @@ abbrev pub off : Parameters → Contents → Device → ℕ → Off
 off p dram n cuts = record { p = p; dram = dram; nvm = n; cuts = cuts }
 
 -- a machine whose power comes on boots
-pub IsStarting-new : (p : Parameters) (s : Plain) (dram : Contents) (n : Device) (b : Booting) (c : State) (cuts : ℕ)
-    → IsOff (off p dram n cuts) → IsStartFor p s → b ≡ new_boot p → c ≡ new_state p dram → NewHasRead
-    → IsStarting (starting p s b c n cuts)
-IsStarting-new p s dram n b c cuts w start b_is c_is new =
-    subst (λ (x : Booting). IsStarting (starting p s x c n cuts)) (sym b_is)
-    (subst (λ (x : State). IsStarting (starting p s (new_boot p) x n cuts)) (sym c_is) (record {
-      boots = record { start = start; up = w.up; same_p = refl; may = new p dram n w.sized w.settled };
-      same_p = refl;
-      blocks = w.blocks;
-      sized = w.sized;
-      idle = refl;
-      room = w.room;
-    }))
-
--- the start of a test fits the least memory
-pub IsStartFor-least : (p : Parameters) (s : Plain) → p.pages ≡ 8 → p.console ≡ 1
-    → length s.regs ≡ 32 → length s.memory ≡ 28672 → length s.console ≡ 70 → IsStartFor p s
-IsStartFor-least p s pages room regs memory console = record {
-  regs = regs;
-  memory = grind (arith, pages, room, memory);
-  console = grind (arith, room, console);
+pub Boots-new : (p : Parameters) (s : Plain) (dram : Contents) (n : Device) → CanStart p s → AreSoundTables (new_state p dram)
+    → length n.image ≡ image_blocks p → n.queue ≡ [] → n.down ≡ false → Boots s n (new_boot filling_one p) (new_state p dram)
+Boots-new p s dram n start tables sized settled up = record {
+  start = start;
+  up = up;
+  same_p = refl;
+  fits = record { room = length-replicate (64 * slot_blocks p) 0; there = tt };
+  may = HasRead-new filling_one p n (new_state p dram) (record { tables = tables; fresh = IsFresh-new p dram }) refl sized settled;
 }
+
+pub Boots-of : (p : Parameters) (s : Plain) (dram : Contents) (n : Device) (b : Booting) (c : State) → CanStart p s → b ≡ new_boot filling_one p
+    → c ≡ new_state p dram → AreSoundTables c → length n.image ≡ image_blocks p → n.queue ≡ [] → n.down ≡ false → Boots s n b c
+Boots-of p s dram n b c start b_is c_is tables sized settled up =
+    subst (λ (x : Booting). Boots s n x c) (sym b_is)
+    (subst (λ (x : State). Boots s n (new_boot filling_one p) x) (sym c_is)
+    (Boots-new p s dram n start (subst (λ (x : State). AreSoundTables x) c_is tables) sized settled up))
+
+pub IsStarting-new : (p : Parameters) (s : Plain) (dram : Contents) (n : Device) (b : Booting) (c : State) (cuts : ℕ)
+    → IsOff (off p dram n cuts) → CanStart p s → b ≡ new_boot filling_one p → c ≡ new_state p dram → AreSoundTables c
+    → IsStarting (starting p s b c n cuts)
+IsStarting-new p s dram n b c cuts w start b_is c_is tables = record {
+  boots = Boots-of p s dram n b c start b_is c_is tables w.sized w.settled w.up;
+  same_p = ap (λ (x : Booting). x.p) b_is;
+  blocks = w.blocks;
+  sized = w.sized;
+  idle = ap (λ (x : State). x.under_way) c_is;
+  room = w.room;
+}
+
+-- the start of a test fits the least memory, and can be recorded
+pub CanStart-least : (p : Parameters) (s : Plain) → IsInRange p → p.pages ≡ 8 → p.console ≡ 1 → IsLeastStart s → CanStart p s
+CanStart-least p s range pages room h = record {
+  geometry = range;
+  start = record {
+    regs = ap length h.regs ∙ length-replicate {A = ℕ} 32 0;
+    memory = (let size = h.memory in grind (arith, pages, room, size));
+    console = (let size = h.console in grind (arith, room, size));
+  };
+  recordable = record {
+    pc = (let e = h.pc in omega (arith, e));
+    regs_length = ap length h.regs ∙ length-replicate {A = ℕ} 32 0;
+    regs_zero = ap (λ (xs : List ℕ). slice_index xs 0) h.regs;
+    regs = λ i. subst (λ (xs : List ℕ). slice_index xs i < 2 ^ 64) (sym h.regs) (zero_below i);
+    console = (let size = h.console in grind (arith, room, size));
+    cursor = (let e = h.cursor in omega (arith, e));
+    brk = (let e = h.brk in omega (arith, e));
+    floor = (let e = h.floor in omega (arith, e));
+    count = (let e = h.count in omega (arith, e));
+    status = ap (λ (x : Status). is_status (status_tag x) (status_value x)) h.status;
+  };
+} where
+  zero_below : (i : ℕ) → slice_index (replicate 32 0) i < 2 ^ 64
+  zero_below i = elim (cases_lt i 32) as (λ _. slice_index (replicate 32 0) i < 2 ^ 64) [
+    | inl inside ↦ let e : slice_index (replicate 32 0) i ≡ 0 = get_or-replicate 32 i 0 0 inside in omega (arith, e)
+    | inr past ↦
+        let size : length (replicate {A = ℕ} 32 0) ≡ 32 = length-replicate {A = ℕ} 32 0 in
+        let e : slice_index (replicate 32 0) i ≡ 0 = get_or_past (replicate 32 0) i 0 (omega (arith, size, past)) in omega (arith, e)
+  ]
 
 -- ---- cuts
 

@@ -1,22 +1,36 @@
 -- A boot that a test drives over an NVM.
-use Rattle.std.specs.Prelude.{◌≡◌, Bool, true, false, [], length}
+use Rattle.std.specs.Prelude.{◌≡◌, Bool, true, false, [], length, replicate}
 use Rattle.thy_base.specs.declared.config.Parameters.{Parameters}
 use Rattle.thy_base.specs.Device.{Device}
 use Rattle.thy_dram.specs.Contents.{Contents}
 use Rattle.thy_isa.specs.Step.{State as Plain}
 use Rattle.thy_control.specs.State.{State, new_state}
-use Rattle.thy_recover.specs.declared.stage.BootStep.{BootStep}
-use Rattle.thy_recover.specs.declared.stage.BootStep.TheVariants.{Reading, Loading}
-use Rattle.thy_recover.specs.Boot.{Booting}
-use Rattle.thy_recover.specs.Start.{IsStartFor}
-use Rattle.thy_recover.specs.Steps.{CanStep}
+use Rattle.thy_boot.specs.declared.stage.BootStep.{BootStep}
+use Rattle.thy_boot.specs.declared.stage.BootStep.TheVariants.{Reading, Loading}
+use Rattle.thy_boot.specs.Boot.{Booting, IsBoot}
+use Rattle.thy_boot.specs.Steps.{CanStep}
+use Rattle.thy_isa.specs.declared.state.Status.TheVariants.{Running}
+use Rattle.thy_recover.specs.Filling.{CanStart, filling_one}
 
 -- it may take a step, with this start
 pub record Boots (s : Plain) (n : Device) (b : Booting) (c : State) : Type 0 where
-  pub start : IsStartFor b.p s
+  pub start : CanStart b.p s
   pub up : n.down ≡ false
   pub same_p : c.p ≡ b.p
-  pub may : CanStep s n b c
+  pub fits : IsBoot filling_one b
+  pub may : CanStep filling_one s n b c
+
+-- a start of the least memory, whose registers are zero
+pub record IsLeastStart (s : Plain) : Type 0 where
+  pub regs : s.regs ≡ replicate 32 0
+  pub memory : length s.memory ≡ 28672
+  pub console : length s.console ≡ 70
+  pub pc : s.pc ≡ 65540
+  pub cursor : s.cursor ≡ 3
+  pub brk : s.brk ≡ 65600
+  pub floor : s.floor ≡ 65600
+  pub count : s.count ≡ 5
+  pub status : s.status ≡ Running
 
 -- what was told says that it goes on
 abbrev pub goes_on : BootStep → Bool

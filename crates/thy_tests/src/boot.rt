@@ -2,19 +2,21 @@
 ghost use Rattle.std.specs.Prelude.{◌≡◌, ◌≤◌, true, length};
 ghost use Rattle.thy_base.specs.Device.{IsFramed};
 ghost use Rattle.thy_isa.specs.Step.{state_of};
-ghost use Rattle.thy_tests.specs.Boots.{Boots, IsNew, IsReady, goes_on};
+ghost use Rattle.thy_tests.specs.Boots.{Boots, IsLeastStart, IsNew, IsReady, goes_on};
 
 use crate::expect::expect;
 use crate::geometry::geometry_of;
+use crate::starting::{has_least_memory, new_boot};
 use std::alloc::Global;
 use std::process::Abort;
 use thy_base::{Block, Bytes, Geometry, Nvm, Parameters, SchemeName, Shape};
+use thy_boot::{Boot, BootStep, a_boot_may_go_on};
 use thy_control::Control;
 use thy_dram::Dram;
+use thy_dual::DualFills;
 use thy_isa::{CpuState, MachState, Regs, Status};
 use thy_nvm::MemNvm;
 use thy_record::Start;
-use thy_recover::{Boot, BootStep, a_boot_may_go_on, a_new_boot_has_read_nothing};
 
 /// The least memory: seven pages of the program and one of the console.
 fn least() -> Parameters
@@ -45,9 +47,7 @@ fn least() -> Parameters
 
 /// A start whose memory is full of sevens, and whose console has 70 exclamation marks.
 fn start_of(rt: &impl Abort, alloc: Global) -> Start
-    ensures regs { length (state_of result.state).regs ≡ 32 }
-    ensures memory { length (state_of result.state).memory ≡ 28672 }
-    ensures console { length (state_of result.state).console ≡ 70 }
+    ensures { IsLeastStart (state_of result.state) }
 {
     let memory = vec![in alloc; 7u8; 28672].expect(rt, "memory");
     let console = vec![in alloc; 33u8; 70].expect(rt, "memory");
@@ -90,8 +90,9 @@ fn step<N: Nvm>(
     ensures same_p { control.new.p ≡ control.old.p }
     ensures frame { IsFramed (N.device nvm.old) (N.device nvm.new) }
 {
-    a_boot_may_go_on();
-    boot.step(control, start, nvm).expect(rt, "a step")
+    a_boot_may_go_on::<DualFills>();
+    boot.step::<DualFills, N>(control, start, nvm)
+        .expect(rt, "a step")
 }
 
 /// Takes so many steps, or fewer where the boot is over before. Tells how many it took, and what the last one told.
@@ -129,9 +130,10 @@ fn boot<N: Nvm>(rt: &impl Abort, alloc: Global, nvm: &mut N, most: u64) -> Boote
 {
     let geometry = geometry_of(rt, alloc, &least());
     let start = start_of(rt, alloc);
-    let mut boot = Boot::new(alloc, &geometry).expect(rt, "memory");
+    has_least_memory(rt, &geometry);
+    let mut boot = new_boot(rt, alloc, &geometry);
     let mut control = controller(rt, alloc, &geometry);
-    a_new_boot_has_read_nothing();
+    control.tables();
     let (taken, told) = steps(rt, &mut boot, &mut control, &start, nvm, most);
     Booted {
         taken,

@@ -2,6 +2,7 @@
 //! restart is compared with what was stored.
 ghost use Rattle.std.specs.Prelude.{◌≡◌, length};
 ghost use Rattle.thy_isa.specs.Step.{state_of};
+ghost use Rattle.thy_tests.specs.Boots.{IsLeastStart};
 
 use crate::expect::{expect, expect_at};
 use crate::geometry::geometry_of;
@@ -10,9 +11,9 @@ use crate::starting::{Off, Starting, Taken};
 use std::alloc::Global;
 use std::process::Abort;
 use thy_base::{Block, Bytes, Parameters, SchemeName, Stored};
+use thy_boot::BootStep;
 use thy_isa::{MachState, Regs, Status};
 use thy_record::{EngineStep, Start};
-use thy_recover::BootStep;
 
 /// The least memory: seven pages of the program and one of the console. A page is stored to densely by more than 22 stores
 /// of an epoch, and seldom by fewer than 16.
@@ -56,9 +57,7 @@ fn number_blocks(memory: &mut [u8])
 }
 
 fn start_of(rt: &impl Abort, alloc: Global) -> Start
-    ensures regs { length (state_of result.state).regs ≡ 32 }
-    ensures memory { length (state_of result.state).memory ≡ 28672 }
-    ensures console { length (state_of result.state).console ≡ 70 }
+    ensures { IsLeastStart (state_of result.state) }
 {
     let mut memory = vec![in alloc; 0u8; 28672].expect(rt, "memory");
     number_blocks(&mut memory);
@@ -71,7 +70,7 @@ fn start_of(rt: &impl Abort, alloc: Global) -> Start
         cursor: 3,
         brk: 65600,
         floor: 65600,
-        count: count_of(0),
+        count: 5,
         status: Status::Running,
     };
     Start {

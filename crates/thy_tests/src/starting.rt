@@ -1,11 +1,13 @@
 //! A machine of the least memory whose power is off, and one that boots.
 ghost use Rattle.std.specs.Prelude.{◌≡◌, true, false, length};
 ghost use Rattle.thy_base.specs.Device.{IsFramed};
+ghost use Rattle.thy_base.specs.Geometry.{IsInRange};
 ghost use Rattle.thy_base.specs.Places.{dram_blocks};
+ghost use Rattle.thy_boot.specs.Boot.{new_boot};
 ghost use Rattle.thy_control.specs.State.{new_state};
 ghost use Rattle.thy_isa.specs.Step.{state_of};
-ghost use Rattle.thy_recover.specs.Boot.{new_boot};
-ghost use Rattle.thy_tests.specs.Boots.{Boots, goes_on};
+ghost use Rattle.thy_recover.specs.Filling.{filling_one};
+ghost use Rattle.thy_tests.specs.Boots.{Boots, IsLeastStart, goes_on};
 ghost use Rattle.thy_tests.specs.Starting.{is_refused};
 
 use crate::memory::Memory;
@@ -13,11 +15,12 @@ use std::alloc::Global;
 use std::marker::Model;
 use std::process::Abort;
 use thy_base::{Geometry, Nvm, Shape};
+use thy_boot::{Boot, BootStep, Issue, Stage, a_boot_may_go_on};
 use thy_control::Control;
 use thy_dram::Dram;
+use thy_dual::DualFills;
 use thy_nvm::MemNvm;
 use thy_record::Start;
-use thy_recover::{Boot, BootStep, Issue, Stage, a_boot_may_go_on, a_new_boot_has_read_nothing};
 
 /// A machine whose power is off: both devices, and how many cuts are to come at most.
 #[derive(Drop)]
@@ -39,19 +42,20 @@ impl Model for Off {
 }
 
 /// Stops the test unless a geometry is of seven pages of a program and one of the console.
-fn has_least_memory(rt: &impl Abort, geometry: &Geometry)
+pub(crate) fn has_least_memory(rt: &impl Abort, geometry: &Geometry)
     ensures pages { geometry.now.pages ≡ 8 }
     ensures console { geometry.now.console ≡ 1 }
+    ensures in_range { IsInRange geometry.now }
 {
     let numbers = geometry.numbers();
     assert!(rt; numbers.pages == 8);
     assert!(rt; numbers.console == 1);
 }
 
-fn new_boot(rt: &impl Abort, alloc: Global, geometry: &Geometry) -> Boot
-    ensures { result ≡ new_boot geometry.now }
+pub(crate) fn new_boot(rt: &impl Abort, alloc: Global, geometry: &Geometry) -> Boot
+    ensures { result ≡ new_boot filling_one geometry.now }
 {
-    Boot::new(alloc, geometry).expect(rt, "memory")
+    Boot::new::<DualFills>(alloc, geometry).expect(rt, "memory")
 }
 
 fn new_controller(rt: &impl Abort, alloc: Global, geometry: &Geometry, dram: Dram) -> Control
@@ -82,9 +86,7 @@ impl Off {
 
     /// Its power comes on.
     pub(crate) fn boot(self, rt: &impl Abort, alloc: Global, start: Start) -> Starting
-        requires regs { length (state_of start.state).regs ≡ 32 }
-        requires memory { length (state_of start.state).memory ≡ 28672 }
-        requires console { length (state_of start.state).console ≡ 70 }
+        requires { IsLeastStart (state_of start.state) }
     {
         let Off {
             geometry,
@@ -95,7 +97,7 @@ impl Off {
         has_least_memory(rt, &geometry);
         let boot = new_boot(rt, alloc, &geometry);
         let control = new_controller(rt, alloc, &geometry, dram);
-        a_new_boot_has_read_nothing();
+        control.tables();
         Starting {
             geometry,
             start,
@@ -154,8 +156,9 @@ fn step<N: Nvm>(
     ensures up { (N.device nvm.new).down ≡ false }
     ensures frame { IsFramed (N.device nvm.old) (N.device nvm.new) }
 {
-    a_boot_may_go_on();
-    boot.step(control, start, nvm).expect(rt, "a step")
+    a_boot_may_go_on::<DualFills>();
+    boot.step::<DualFills, N>(control, start, nvm)
+        .expect(rt, "a step")
 }
 
 impl Starting {

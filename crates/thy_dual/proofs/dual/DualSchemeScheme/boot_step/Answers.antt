@@ -1,25 +1,32 @@
 use Rattle.std.proofs.Common.{sym, subst, IfOk, OnErr, Result}
 use Rattle.thy_base.specs.declared.nvm.NvmError.{NvmError}
 use Rattle.thy_base.specs.Device.{Device, CountsFault}
-use Rattle.thy_recover.specs.declared.stage.BootStep.{BootStep}
-use Rattle.thy_recover.specs.Boot.{Booting}
-use Rattle.thy_recover.specs.Steps.{TakesStep}
+use Rattle.thy_boot.specs.declared.stage.BootStep.{BootStep}
+use Rattle.thy_boot.specs.Boot.{Booting}
+use Rattle.thy_boot.specs.Steps.{TakesStep}
+use Rattle.thy_recover.specs.Filling.{filling_one}
 use Rattle.thy_control.specs.State.{State}
 use Rattle.thy_scheme.specs.declared.boot_step.BootStep.{BootStep as SchemeStep}
 use Rattle.thy_scheme.specs.Boots.{BootsOn, BootFails}
 use Rattle.thy_scheme.specs.Scheme.{StaysOf, IsBooting, CanBoot}
 use Rattle.thy_dual_model.specs.Dual.{Dual}
 use Rattle.thy_dual_model.specs.Scheme.{dual_scheme}
-use Rattle.thy_dual_model.proofs.BootStepLemmas.{boots-by, fails-by, fits-by, cause-by, of-by, took-for, may-step}
+use Rattle.thy_dual_model.proofs.BootStepLemmas.{boots-by, fails-by, fits-by, cause-by, of-by, took-for, may-step, boot-fits}
 use Rattle.thy_dual.specs.Calls.{TakesBootStep}
 use Rattle.thy_dual.proofs.CallLemmas.{takes_boot_step}
 use Rattle.thy_dual.proofs.dual.DualSchemeScheme.boot_step.Goals as goal
 
-pub step-result-requires : goal.step-result-requires
-step-result-requires g c =
+pub step-result-requires-clause-can : goal.step-result-requires-clause-can
+step-result-requires-clause-can g c =
     let v : Dual = record { control = c.self.inside.control; engine = c.self.inside.engine; rested = c.self.inside.rested; lean = c.self.inside.lean; boot = c.self.inside.boot } in
     let n : Device = g.N.Nvm.device c.args.nvm.now in
     may-step c.args.start.now v n (subst (λ (s : Dual). CanBoot dual_scheme c.args.start.now s n) (sym c.self.view_is) c.requires.boots)
+
+pub step-result-requires-clause-fits : goal.step-result-requires-clause-fits
+step-result-requires-clause-fits g c =
+    let v : Dual = record { control = c.self.inside.control; engine = c.self.inside.engine; rested = c.self.inside.rested; lean = c.self.inside.lean; boot = c.self.inside.boot } in
+    let n : Device = g.N.Nvm.device c.args.nvm.now in
+    boot-fits c.args.start.now v n (subst (λ (s : Dual). CanBoot dual_scheme c.args.start.now s n) (sym c.self.view_is) c.requires.boots)
 
 pub invariant_of-self : goal.invariant_of-self
 invariant_of-self g c =
@@ -28,7 +35,7 @@ invariant_of-self g c =
     let new : Device = g.N.Nvm.device c.step-result.new.nvm in
     let can : CanBoot dual_scheme c.args.start.now v n = subst (λ (s : Dual). CanBoot dual_scheme c.args.start.now s n) (sym c.self.view_is) c.requires.boots in
     let e = c.step-result.ensures in
-    fits-by can.o v n can.booting new c.step-result.new.self c.step-result.new.control c.fits.ensures c.tables.ensures c.step-result.result
+    fits-by can.o v n can.booting new c.step-result.new.self c.step-result.new.control c.tables.ensures c.step-result.result
     (took-for can.o c.args.start.now can.begins c.step-result.result n v.boot v.control new c.step-result.new.self c.step-result.new.control e.step) c.self.invariant
 
 pub returns-clause-ok : goal.returns-clause-ok
@@ -41,10 +48,10 @@ returns-clause-ok g c = λ o begins booting.
     let r : Result BootStep NvmError = c.step-result.result in
     let e = c.step-result.ensures in
     let booting_v : IsBooting dual_scheme o v n = subst (λ (s : Dual). IsBooting dual_scheme o s n) (sym c.self.view_is) booting in
-    let took : TakesStep r o.start n v.boot v.control new d t = took-for o c.args.start.now begins r n v.boot v.control new d t e.step in
+    let took : TakesStep filling_one r o.start n v.boot v.control new d t = took-for o c.args.start.now begins r n v.boot v.control new d t e.step in
     subst (λ (s : Dual). IfOk c.scheme_result.result (λ step. BootsOn dual_scheme o step s n (record v { control = t; boot = d }) new)) c.self.view_is
     (subst (λ (x : Result SchemeStep NvmError). IfOk x (λ step. BootsOn dual_scheme o step v n (record v { control = t; boot = d }) new)) (sym c.scheme_result.ensures)
-    (boots-by o v n booting_v new d t c.fits.ensures c.tables.ensures r e.answer took))
+    (boots-by o v n booting_v new d t c.tables.ensures r e.answer took))
 
 pub returns-clause-err : goal.returns-clause-err
 returns-clause-err g c = λ o begins booting.
@@ -55,10 +62,10 @@ returns-clause-err g c = λ o begins booting.
     let t : State = c.step-result.new.control in
     let r : Result BootStep NvmError = c.step-result.result in
     let booting_v : IsBooting dual_scheme o v n = subst (λ (s : Dual). IsBooting dual_scheme o s n) (sym c.self.view_is) booting in
-    let took : TakesStep r o.start n v.boot v.control new d t = took-for o c.args.start.now begins r n v.boot v.control new d t c.step-result.ensures.step in
+    let took : TakesStep filling_one r o.start n v.boot v.control new d t = took-for o c.args.start.now begins r n v.boot v.control new d t c.step-result.ensures.step in
     subst (λ (s : Dual). OnErr c.scheme_result.result (BootFails dual_scheme o s n new)) c.self.view_is
     (subst (λ (x : Result SchemeStep NvmError). OnErr x (BootFails dual_scheme o v n new)) (sym c.scheme_result.ensures)
-    (fails-by o v n booting_v new d t c.fits.ensures c.tables.ensures r took))
+    (fails-by o v n booting_v new d t c.tables.ensures r took))
 
 pub returns-clause-left : goal.returns-clause-left
 returns-clause-left g c =

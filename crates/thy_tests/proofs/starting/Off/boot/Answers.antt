@@ -1,5 +1,5 @@
 use Rattle.thy_isa.specs.Step.{state_of, State as Plain}
-use Rattle.thy_tests.proofs.StartingLemmas.{IsStarting-new, IsStartFor-least}
+use Rattle.thy_tests.proofs.StartingLemmas.{IsStarting-new, CanStart-least}
 use Rattle.thy_tests.proofs.starting.Off.boot.Goals as goal
 
 pub invariant_of-result : goal.invariant_of-result
@@ -7,6 +7,6 @@ invariant_of-result g c =
     let s : Plain = state_of c.args.start.state in
     IsStarting-new c.self.inside.geometry s c.self.inside.dram c.self.inside.nvm.device c.new_boot-boot.result c.new_controller-control.result
     c.self.inside.cuts c.self.invariant
-    (IsStartFor-least c.self.inside.geometry s c.has_least_memory.ensures.pages c.has_least_memory.ensures.console
-    c.requires.regs c.requires.memory c.requires.console)
-    c.new_boot-boot.ensures c.new_controller-control.ensures c.a_new_boot_has_read_nothing.ensures
+    (CanStart-least c.self.inside.geometry s c.has_least_memory.ensures.in_range c.has_least_memory.ensures.pages c.has_least_memory.ensures.console
+    c.requires)
+    c.new_boot-boot.ensures c.new_controller-control.ensures c.tables.ensures

@@ -1,0 +1,178 @@
+-- A step acts once on the NVM, queues one write of the DRAM at most, and comes nearer.
+use Rattle.std.proofs.Common.{◌≡◌, ◌≢◌, ℕ, ◌+◌, ◌≤◌, nat_lt, Bool, true, false, if◌then◌else◌, length, Option, Some, None, refl, sym, ◌∙◌, ap, subst, inl, arith}
+use Rattle.std.proofs.lemmas.List.{length-map}
+use Rattle.std.proofs.lemmas.List.FromFn.{length-range_with_len}
+use Rattle.thy_base.specs.declared.config.Parameters.{Parameters}
+use Rattle.thy_base.specs.Device.{Device, newest}
+use Rattle.thy_isa.specs.Step.{State}
+use Rattle.thy_record.specs.declared.bad_image.BadImage.{BadImage}
+use Rattle.thy_view.specs.Action.{Rest, FailsTo, IsBootAction, Asks, Acts}
+use Rattle.thy_view.specs.Dram.{ActsOnDram}
+use Rattle.thy_boot.specs.declared.stage.Stage.{Stage}
+use Rattle.thy_boot.specs.declared.stage.Stage.TheVariants.{Reads, Loads, Over}
+use Rattle.thy_boot.specs.declared.stage.ReadStage.{ReadStage}
+use Rattle.thy_boot.specs.declared.stage.ReadStage.TheVariants.{Unread, Header as ReadsHeader, Slot as ReadsSlot, Fills, Refusing}
+use Rattle.thy_boot.specs.declared.stage.End.TheVariants.{Restored, Loaded}
+use Rattle.thy_boot.specs.declared.stage.Issue.{Issue}
+use Rattle.thy_boot.specs.declared.stage.Issue.TheVariants.{Home, Slot, Header, Settle, Commit, Confirm}
+use Rattle.thy_boot.specs.Boot.{Booting, layout_in, slot_read, at_stage, answer_at, answer_of, JudgesUnless}
+use Rattle.thy_boot.specs.Filling.{FillingOf, First, IsFilling, layout_at}
+use Rattle.thy_boot.specs.Left.{reads_left, loads_left_at, boot_left}
+use Rattle.thy_boot.specs.Loads.{IsIssue, after_issue, issue_action}
+use Rattle.thy_boot.specs.Reads.{read_action, slot_kept, FillsOn}
+use Rattle.thy_boot.specs.Recovers.{HasReadAt, IsNearer}
+use Rattle.thy_boot.specs.Shows.{seen_at, did_of}
+use Rattle.thy_boot.specs.Steps.{CanStepAt, StepsAt, action_at}
+use Rattle.thy_boot.specs.Laws.{StepsAct, FoundStays, failed_answer, FailuresAct, StepsFill, StepsComeNearer}
+use Rattle.thy_protocol.specs.Issuing.{slot_of}
+
+load_asks : (f : First) (issue : Issue) → Asks (did_of (failed_answer (Loads issue))) (issue_action f issue)
+load_asks f (Home b) = tt
+load_asks f (Slot k) = tt
+load_asks f Header = tt
+load_asks f Settle = tt
+load_asks f Commit = tt
+load_asks f Confirm = refl
+
+module _ {C : Type 0} (F : FillingOf C) (laws : IsFilling F) where
+  load_acts : (f : First) (issue : Issue) (d : Booting) → Asks (did_of (answer_at F (after_issue f issue) d)) (issue_action f issue)
+  load_acts f (Home b) d = by_more (nat_lt (b + 1) (length f.parts.memory)) where
+    by_more : (t : Bool) → Asks (did_of (answer_at F (if t then Loads (Home (b + 1)) else Loads (Slot 0)) d)) (issue_action f (Home b))
+    by_more true = tt
+    by_more false = tt
+  load_acts f (Slot k) d = by_more (nat_lt (k + 1) f.parts.slot_blocks) where
+    by_more : (t : Bool) → Asks (did_of (answer_at F (if t then Loads (Slot (k + 1)) else Loads Header) d)) (issue_action f (Slot k))
+    by_more true = tt
+    by_more false = tt
+  load_acts f Header d = tt
+  load_acts f Settle d = tt
+  load_acts f Commit d = tt
+  load_acts f Confirm d = refl
+
+  read_acts : (q : Stage) (m : Device) (d : Booting) (e : C) → HasReadAt F q m d e → Asks (did_of (answer_at F q d)) Rest
+  read_acts (Reads Unread) m d e f = tt
+  read_acts (Reads ReadsHeader) m d e f = tt
+  read_acts (Reads (ReadsSlot next)) m d e f = tt
+  read_acts (Reads (Fills k)) m d e f = tt
+  read_acts (Reads (Refusing bad)) m d e f = tt
+  read_acts (Loads issue) m d e f = tt
+  read_acts (Over Restored) m d e f = tt
+  read_acts (Over Loaded) m d e f = absurd f
+
+  pub steps_act : StepsAct F
+  steps_act s n b c m d e steps = by_stage b.stage steps where
+    by_stage : (q : Stage) → StepsAt F q s n b c m d e → Acts (did_of (answer_of F d)) n m
+    by_stage (Reads r) on = record { action = Rest; asked = read_acts d.stage m d e on.read.so_far; left = on.device }
+    by_stage (Loads issue) l = record {
+      action = issue_action (F.first b.p s) issue;
+      asked = subst (λ (x : Booting). Asks (did_of (answer_of F x)) (issue_action (F.first b.p s) issue)) (sym l.boot)
+          (load_acts (F.first b.p s) issue (at_stage (after_issue (F.first b.p s) issue) b));
+      left = l.device;
+    }
+    by_stage (Over end) l = absurd l
+
+  pub found_stays : FoundStays F
+  found_stays o kept mark n b c m d e done steps = by_stage b.stage done steps where
+    by_stage : (q : Stage) → (seen_at o kept q).done ≡ Some mark → StepsAt F q o.start n b c m d e → m ≡ n
+    by_stage (Reads r) done on = on.device
+    by_stage (Loads issue) done l = let both : None ≡ Some mark = done in absurd (cc)
+    by_stage (Over end) done l = absurd l
+
+  -- a read is asked for by a step of the boot; a refusal that comes again is no read, and does not fail
+  read_asks : (b : Booting) (c : C) (r : ReadStage) (n m : Device) → FailsTo (read_action F b c r) n m → IsBootAction (read_action F b c r)
+  read_asks b c Unread n m f = tt
+  read_asks b c ReadsHeader n m f = tt
+  read_asks b c (ReadsSlot next) n m f = tt
+  read_asks b c (Fills k) n m f = tt
+  read_asks b c (Refusing bad) n m f = absurd f
+
+  pub failures_act : FailuresAct F
+  failures_act s b c n m fails = by_stage b.stage fails where
+    by_stage : (q : Stage) → FailsTo (action_at F q s b c) n m → Asks (did_of (failed_answer q)) (action_at F q s b c)
+    by_stage (Reads r) f = read_asks b c r n m f
+    by_stage (Loads issue) f = load_asks (F.first b.p s) issue
+    by_stage (Over end) f = absurd f
+
+  -- ---- the DRAM
+
+  abbrev Filled : Device → C → C → Type 0
+  Filled n c e = ActsOnDram n n (F.dram c) (F.dram e) × F.keeps c e
+
+  same_fills : (n : Device) (c e : C) → e ≡ c → Filled n c e
+  same_fills n c e h = subst (λ (x : C). Filled n c x) (sym h) (inl refl, laws.same_keeps c)
+
+  judged_fills : (n : Device) (z : Bool) (o : Option BadImage) (b : Booting) (c e : C) → JudgesUnless F z o b c e → Filled n c e
+  judged_fills n true o b c e h = same_fills n c e h
+  judged_fills n false None b c e h = (inl h.same_dram, h.keeps)
+  judged_fills n false (Some bad) b c e h = same_fills n c e h
+
+  reads_fill : (r : ReadStage) (n : Device) (b : Booting) (c e : C) → FillsOn F r n b c e → Filled n c e
+  reads_fill Unread n b c e f = same_fills n c e f
+  reads_fill ReadsHeader n b c e f = same_fills n c e f
+  reads_fill (ReadsSlot next) n b c e f =
+      let w : Booting = slot_kept F next n b in
+      judged_fills n (nat_lt (next + 1) ((layout_in F w).slot_blocks w.commit)) ((layout_in F w).slot_bad w.commit (slot_read F w)) w c e f
+  reads_fill (Fills k) n b c e f =
+      subst (λ (x : C). Filled n c x) (sym f) (laws.fill_acts c n b.commit k, laws.fill_keeps c b.commit k (newest n (F.fill_place c b.commit k)))
+  reads_fill (Refusing bad) n b c e f = same_fills n c e f
+
+  pub steps_fill : StepsFill F
+  steps_fill s n b c m d e steps = by_stage b.stage steps where
+    by_stage : (q : Stage) → StepsAt F q s n b c m d e → ActsOnDram n m (F.dram c) (F.dram e) × F.keeps c e
+    by_stage (Reads r) on =
+        let filled = reads_fill r n b c e on.control in
+        (subst (λ (x : Device). ActsOnDram n x (F.dram c) (F.dram e)) (sym on.device) filled.0, filled.1)
+    by_stage (Loads issue) l = (inl (ap F.dram l.control), subst (λ (x : C). F.keeps c x) (sym l.control) (laws.same_keeps c))
+    by_stage (Over end) l = absurd l
+
+  -- ---- how many are left
+
+  module _ (p : Parameters) (s : State) (starts : F.starts p s) where
+    abbrev f : First
+    f = F.first p s
+
+    -- what is written of memory is as long as memory, and the slot has its room
+    pub memory_long : length f.parts.memory ≡ (layout_at F p).memory_blocks
+    memory_long =
+        ap length (sym (laws.first_parts p s starts).memory) ∙ length-map _ ((layout_at F p).place f.commit (slot_of f.parts))
+        ∙ length-range_with_len 0 (layout_at F p).memory_blocks
+
+    slot_room : f.parts.slot_blocks ≤ F.most_slot p
+    slot_room = subst (λ (k : ℕ). k ≤ F.most_slot p) (laws.first_parts p s starts).slot_blocks (laws.most_room p f.commit)
+
+    load_nearer : (b : Booting) → b.p ≡ p → (issue : Issue) → IsIssue f issue → boot_left F b (after_issue f issue) + 1 ≤ loads_left_at F b.p issue
+    load_nearer b same issue inside =
+        subst (λ (x : Parameters). boot_left F (record b { p = x }) (after_issue f issue) + 1 ≤ loads_left_at F x issue) (sym same) (by_issue issue inside)
+      where
+        by_issue : (issue : Issue) → IsIssue f issue → boot_left F (record b { p = p }) (after_issue f issue) + 1 ≤ loads_left_at F p issue
+        by_issue (Home k) inside = by_more (nat_lt (k + 1) (length f.parts.memory)) where
+          by_more : (t : Bool) → boot_left F (record b { p = p }) (if t then Loads (Home (k + 1)) else Loads (Slot 0)) + 1 ≤ loads_left_at F p (Home k)
+          by_more true = omega (arith, inside, memory_long)
+          by_more false = omega (arith, inside, memory_long)
+        by_issue (Slot k) inside = by_more (nat_lt (k + 1) f.parts.slot_blocks) where
+          by_more : (t : Bool) → boot_left F (record b { p = p }) (if t then Loads (Slot (k + 1)) else Loads Header) + 1 ≤ loads_left_at F p (Slot k)
+          by_more true = omega (arith, inside, slot_room)
+          by_more false = omega (arith, inside, slot_room)
+        by_issue Header inside = omega arith
+        by_issue Settle inside = omega arith
+        by_issue Commit inside = omega arith
+        by_issue Confirm inside = omega arith
+
+  read_nearer : (b : Booting) (r : ReadStage) (d : Booting) → IsNearer F b r d → ((bad : BadImage) → Reads r ≢ Reads (Refusing bad))
+      → boot_left F d d.stage + 1 ≤ reads_left F b r
+  read_nearer b Unread d near other = omega (arith, near)
+  read_nearer b ReadsHeader d near other = omega (arith, near)
+  read_nearer b (ReadsSlot next) d near other = omega (arith, near)
+  read_nearer b (Fills k) d near other = omega (arith, near)
+  read_nearer b (Refusing bad) d near other = absurd (other bad refl)
+
+  pub steps_come_nearer : StepsComeNearer F
+  steps_come_nearer s n b c m d e can steps other = by_stage b.stage can steps other where
+    by_stage : (q : Stage) → CanStepAt F q s n b c → StepsAt F q s n b c m d e → ((bad : BadImage) → q ≢ Reads (Refusing bad))
+        → boot_left F d d.stage + 1 ≤ boot_left F b q
+    by_stage (Reads r) can on other = read_nearer b r d on.nearer other
+    by_stage (Loads issue) can l other =
+        let q : Stage = after_issue (F.first b.p s) issue in
+        subst (λ (x : Booting). boot_left F x x.stage + 1 ≤ loads_left_at F b.p issue) (sym l.boot)
+        (load_nearer b.p s can.start (at_stage q b) refl issue can.there)
+    by_stage (Over end) can l other = absurd l

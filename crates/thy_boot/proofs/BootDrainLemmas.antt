@@ -1,0 +1,118 @@
+-- Drains of both devices keep the boot at its stage.
+use Rattle.std.proofs.Common.{◌≡◌, List, [], take, drop, Option, Some, None, refl, sym, ◌∙◌, ap, subst}
+use Rattle.thy_base.specs.declared.block.Block.{Block}
+use Rattle.thy_base.specs.declared.mark.Mark.{Mark}
+use Rattle.thy_base.specs.declared.nvm.Write.{Write}
+use Rattle.thy_base.specs.Device.{Device, drained, applied}
+use Rattle.thy_crash.specs.Saved.{Kept, guarded, Saved}
+use Rattle.thy_crash.proofs.SparesLemmas.{Spares-drained}
+use Rattle.thy_record.specs.Commit.{epoch_of}
+use Rattle.thy_record.specs.Decoded.{At}
+use Rattle.thy_view.specs.Origin.{Origin}
+use Rattle.thy_protocol.specs.Layout.{looked_by}
+use Rattle.thy_protocol.specs.Moves.{standing, Move, Goes}
+use Rattle.thy_protocol.proofs.KeepsLemmas.{IsKeeping-move}
+use Rattle.thy_boot.specs.declared.stage.Stage.{Stage}
+use Rattle.thy_boot.specs.declared.stage.Stage.TheVariants.{Reads, Loads, Over}
+use Rattle.thy_boot.specs.declared.stage.ReadStage.TheVariants.{Unread, Header, Slot, Fills, Refusing}
+use Rattle.thy_boot.specs.declared.stage.End.TheVariants.{Restored, Loaded}
+use Rattle.thy_boot.specs.Boot.{Booting, layout_in, slot_read}
+use Rattle.thy_boot.specs.Filling.{FillingOf, IsFilling}
+use Rattle.thy_boot.specs.Recovers.{HasReadAt}
+use Rattle.thy_boot.specs.Sound.{BootImages, layout_for, first_of, start_mark, sealed_by, saved_loading, standing_in_boot, IsRecovering, IsSoundAt, IsSound}
+use Rattle.thy_boot.specs.Laws.{DrainsKeepBoot, DrainsMove}
+use Rattle.thy_boot.proofs.WrittenLemmas.{stood-drained}
+
+-- with nothing queued a drain leaves the device as it is
+drained-settled : (n : Device) → n.queue ≡ [] → drained n ≡ n
+drained-settled n h =
+    ap (λ (q : List Write). record n { image = applied n.image (take 1 q); queue = drop 1 q }) h
+    ∙ ap (λ (q : List Write). record n { queue = q }) (sym h)
+
+module _ {C : Type 0} (F : FillingOf C) (laws : IsFilling F) where
+  pub drains_move : DrainsMove F
+  drains_move o g n b = by_stage b.stage where
+    goes : (s : Saved) (kept sealed : Option Mark) → Move o (layout_for F o) (standing n s kept sealed) (standing (drained n) s kept sealed)
+    goes s kept sealed = Goes s kept sealed n (drained n) (Spares-drained (guarded (looked_by (layout_for F o)) s) n (drained n) refl)
+
+    by_stage : (q : Stage) → Move o (layout_for F o) (standing_in_boot o q g n) (standing_in_boot o q g (drained n))
+    by_stage (Reads r) = goes (Kept g.before) g.kept (sealed_by o g.kept)
+    by_stage (Loads issue) = goes (saved_loading issue g) None (Some (start_mark o))
+    by_stage (Over Restored) = goes (Kept g.before) g.kept (sealed_by o g.kept)
+    by_stage (Over Loaded) = goes (Kept g.next) (Some (start_mark o)) None
+
+  nvm_drained : (o : Origin) (g : BootImages) (n : Device) (b : Booting) (c : C) → IsSound F o g n b c → IsSound F o g (drained n) b c
+  nvm_drained o g n b c sound = record {
+    geometry = sound.geometry;
+    same_p = sound.same_p;
+    keeps = IsKeeping-move o (layout_for F o) (standing_in_boot o b.stage g n) (standing_in_boot o b.stage g (drained n)) (drains_move o g n b) sound.keeps;
+    so_far = by_stage b.stage sound.so_far;
+  } where
+    still : (q : Stage) → n.queue ≡ [] → IsSoundAt F o q g n b c → IsSoundAt F o q g (drained n) b c
+    still q settled h = subst (λ (m : Device). IsSoundAt F o q g m b c) (sym (drained-settled n settled)) h
+
+    by_stage : (q : Stage) → IsSoundAt F o q g n b c → IsSoundAt F o q g (drained n) b c
+    by_stage (Reads r) at = still (Reads r) at.read.settled at
+    by_stage (Loads issue) at = record {
+      none = at.none;
+      fresh = at.fresh;
+      there = at.there;
+      made = at.made;
+      stood = stood-drained (layout_for F o).image_blocks (first_of F o) issue n at.stood;
+    }
+    by_stage (Over Restored) at = still (Over Restored) at.read.settled at
+    by_stage (Over Loaded) at = still (Over Loaded) at.settled at
+
+  -- a drain of the DRAM leaves what was read
+  read-drained : (q : Stage) (n : Device) (b : Booting) (c : C) → HasReadAt F q n b c → HasReadAt F q n b (F.drained c)
+  read-drained (Reads Unread) n b c h = laws.drain_fresh c h
+  read-drained (Reads Header) n b c h = (laws.drain_fresh c h.0, h.1)
+  read-drained (Reads (Slot next)) n b c h = (laws.drain_fresh c h.0, h.1, h.2)
+  read-drained (Reads (Fills k)) n b c h = (
+    record {
+      head = h.0.head;
+      slot_is = h.0.slot_is;
+      slot_fits = h.0.slot_fits;
+      lists = laws.drain_lists c b.commit (slot_read F b) h.0.lists;
+      filled = laws.drain_filled c n k h.0.filled;
+    },
+    h.1,
+  )
+  read-drained (Reads (Refusing bad)) n b c h = h
+  read-drained (Loads issue) n b c h = (laws.drain_fresh c h.0, h.1, h.2)
+  read-drained (Over Restored) n b c h = record {
+    lists = laws.drain_lists c b.commit (slot_read F b) h.lists;
+    head = h.head;
+    slot_is = h.slot_is;
+    slot_fits = h.slot_fits;
+    whole = laws.drain_whole c n h.whole;
+    found = h.found ∙ ap (λ (m : List Block). At (epoch_of b.commit) ((layout_in F b).state_from (slot_read F b) m)) (sym (laws.drain_loads c n));
+  }
+  read-drained (Over Loaded) n b c h = absurd h
+
+  dram_drained : (o : Origin) (g : BootImages) (n : Device) (b : Booting) (c : C) → IsSound F o g n b c → IsSound F o g n b (F.drained c)
+  dram_drained o g n b c sound = record {
+    geometry = sound.geometry;
+    same_p = laws.drain_p c ∙ sound.same_p;
+    keeps = sound.keeps;
+    so_far = by_stage b.stage sound.so_far;
+  } where
+    reads : IsRecovering F g n b c → IsRecovering F g n b (F.drained c)
+    reads at = record {
+      before_is = at.before_is;
+      read = record {
+        same_p = laws.drain_p c ∙ at.read.same_p;
+        sized = at.read.sized;
+        settled = at.read.settled;
+        so_far = read-drained b.stage n b c at.read.so_far;
+      };
+    }
+
+    by_stage : (q : Stage) → IsSoundAt F o q g n b c → IsSoundAt F o q g n b (F.drained c)
+    by_stage (Reads r) at = reads at
+    by_stage (Loads issue) at = record { none = at.none; fresh = laws.drain_fresh c at.fresh; there = at.there; made = at.made; stood = at.stood }
+    by_stage (Over Restored) at = reads at
+    by_stage (Over Loaded) at = record { fresh = laws.drain_fresh c at.fresh; settled = at.settled; made = at.made; stood = at.stood }
+
+  pub drains_keep_boot : DrainsKeepBoot F
+  drains_keep_boot o g n b c sound = (nvm_drained o g n b c sound, dram_drained o g n b c sound)

@@ -1,0 +1,168 @@
+-- A boot that reads: what it finds, what it shows, and where it ends.
+use Rattle.std.proofs.Common.{◌≡◌, ℕ, List, Option, Some, None, refl, sym, ◌∙◌, ap, subst, inl, arith}
+use Rattle.thy_base.specs.declared.block.Block.{Block}
+use Rattle.thy_base.specs.declared.config.Parameters.{Parameters}
+use Rattle.thy_base.specs.declared.mark.Mark.{Mark}
+use Rattle.thy_base.specs.Device.{Device}
+use Rattle.thy_crash.specs.Saved.{Kept}
+use Rattle.thy_isa.specs.declared.state.CpuState.{CpuState}
+use Rattle.thy_isa.specs.Step.{State}
+use Rattle.thy_record.specs.declared.bad_image.BadImage.{BadImage}
+use Rattle.thy_record.specs.Commit.{epoch_of}
+use Rattle.thy_record.specs.Decoded.{Decoded, Nothing, Refused as IsRefused, At}
+use Rattle.thy_view.specs.Booting.{boot_view, loading_view, view_of_image}
+use Rattle.thy_view.specs.CoreStep.{CoreStep}
+use Rattle.thy_view.specs.Origin.{Origin, at}
+use Rattle.thy_view.specs.declared.did.Did.TheVariants.{Restarted as HasRestarted}
+use Rattle.thy_view.specs.declared.view.Phase.TheVariants.{Boot as BootPhase}
+use Rattle.thy_protocol.specs.Keeps.{Keeps, Tells, finding_view}
+use Rattle.thy_protocol.specs.Layout.{Layout, decode_by}
+use Rattle.thy_protocol.specs.Moves.{Standing, standing, IsKeeping}
+use Rattle.thy_protocol.proofs.KeepsLemmas.{finding_view-told}
+use Rattle.thy_boot.specs.declared.stage.Stage.{Stage}
+use Rattle.thy_boot.specs.declared.stage.Stage.TheVariants.{Reads, Loads, Over}
+use Rattle.thy_boot.specs.declared.stage.ReadStage.TheVariants.{Unread, Header, Slot, Fills, Refusing}
+use Rattle.thy_boot.specs.declared.stage.End.TheVariants.{Restored, Loaded}
+use Rattle.thy_boot.specs.declared.stage.Issue.{Issue}
+use Rattle.thy_boot.specs.declared.stage.Issue.TheVariants.{Home}
+use Rattle.thy_boot.specs.Boot.{Booting, layout_in, slot_read, answer_at}
+use Rattle.thy_boot.specs.Filling.{FillingOf, IsFilling, layout_at}
+use Rattle.thy_boot.specs.Recovers.{HasReadAt, HasRead, IsRestored}
+use Rattle.thy_boot.specs.Shows.{is_written, restored_view, seen_at, did_of}
+use Rattle.thy_boot.specs.Sound.{BootImages, layout_for, first_of, start_mark, sealed_by, saved_loading, standing_in_boot, HasLoadedBefore, IsRecovering, IsSoundAt}
+use Rattle.thy_boot.specs.Laws.{ShowsImage, RestoredIsKept, NeverRefused}
+
+-- ---- what an image means to a run
+
+found-none : (o : Origin) (l : Layout) (before : List Block) (kept : Option Mark) → Tells o l before kept → decode_by l before ≡ Nothing → kept ≡ None
+found-none o l before None t e = refl
+found-none o l before (Some m) is e = let both : Nothing ≡ At m.epoch (at o m.count) = sym e ∙ is.decodes in absurd (cc)
+
+pub never-bad : (o : Origin) (l : Layout) (before : List Block) (kept : Option Mark) (bad : BadImage) → Tells o l before kept → decode_by l before ≡ IsRefused bad → ⊥
+never-bad o l before None bad t e = let both : Nothing ≡ IsRefused bad = sym t.0 ∙ e in absurd (cc)
+never-bad o l before (Some m) bad is e = let both : At m.epoch (at o m.count) ≡ IsRefused bad = sym is.decodes ∙ e in absurd (cc)
+
+-- a checkpoint that is found is the kept mark's
+pub record IsFoundAt (o : Origin) (kept : Option Mark) (epoch : ℕ) (state : State) : Type 0 where
+  pub m : Mark
+  pub kept_is : kept ≡ Some m
+  pub epoch_is : m.epoch ≡ epoch
+  pub state_is : state ≡ at o m.count
+  pub counted : (at o m.count).count ≡ m.count
+
+found-mark : (o : Origin) (l : Layout) (before : List Block) (kept : Option Mark) (epoch : ℕ) (state : State)
+    → Tells o l before kept → decode_by l before ≡ At epoch state → IsFoundAt o kept epoch state
+found-mark o l before None epoch state t e = let both : Nothing ≡ At epoch state = sym t.0 ∙ e in absurd (cc)
+found-mark o l before (Some m) epoch state is e =
+    let both : At m.epoch (at o m.count) ≡ At epoch state = sym is.decodes ∙ e in
+    record { m = m; kept_is = refl; epoch_is = cc; state_is = cc; counted = is.counted }
+
+-- ---- a boot that reads
+
+abbrev pub reading_of : Origin → BootImages → Device → Standing
+reading_of o g n = standing n (Kept g.before) g.kept (sealed_by o g.kept)
+
+boots : (count : ℕ) (kept : Option Mark) → (finding_view count kept).phase ≡ BootPhase
+boots count None = refl
+boots count (Some m) = refl
+
+restores : (o : Origin) (m : Mark) → CoreStep o (boot_view (Some m) None) (HasRestarted m.epoch m.count) (restored_view o (Some m))
+restores o m = record { phase = refl; done = refl; unsealed = refl; unwritten = refl; becomes = refl }
+
+module _ {C : Type 0} (F : FillingOf C) (laws : IsFilling F) where
+  module _ (o : Origin) (g : BootImages) (m : Device) (d : Booting) (e : C) (before_is : g.before ≡ m.image)
+      (same : d.p ≡ o.geometry) (told : Tells o (layout_for F o) g.before g.kept) (read : HasRead F m d e) where
+    pub decoded : (x : Decoded) → decode_by (layout_in F d) m.image ≡ x → decode_by (layout_for F o) g.before ≡ x
+    decoded x h = ap (decode_by (layout_for F o)) before_is ∙ ap (λ (p : Parameters). decode_by (layout_at F p) m.image) (sym same) ∙ h
+
+    none_kept : decode_by (layout_in F d) m.image ≡ Nothing → g.kept ≡ None
+    none_kept h = found-none o (layout_for F o) g.before g.kept told (decoded Nothing h)
+
+    pub stands : (q : Stage) → HasReadAt F q m d e → reading_of o g m ≡ standing_in_boot o q g m
+    stands (Reads r) f = refl
+    stands (Loads issue) f =
+        ap (λ (k : Option Mark). standing m (Kept g.before) k (sealed_by o k)) (none_kept f.1)
+        ∙ ap (λ (i : Issue). standing m (saved_loading i g) None (Some (start_mark o))) (sym f.2)
+    stands (Over Restored) f = refl
+    stands (Over Loaded) f = absurd f
+
+    recovering : IsRecovering F g m d e
+    recovering = record { before_is = before_is; read = read }
+
+    first : HasLoadedBefore (layout_for F o).image_blocks (first_of F o) (Home 0) m
+    first = record {
+      sized = read.sized ∙ ap (λ (p : Parameters). (layout_at F p).image_blocks) same;
+      memory = λ b l. absurd (omega (arith, l));
+      slot = record { each = λ i l. absurd (omega (arith, l)) };
+    }
+
+    pub found-sound : F.starts o.geometry o.start → (q : Stage) → HasReadAt F q m d e → IsSoundAt F o q g m d e
+    found-sound starts (Reads r) f = recovering
+    found-sound starts (Loads issue) f = subst (λ (i : Issue). IsSoundAt F o (Loads i) g m d e) (sym f.2) (record {
+      none = none_kept f.1;
+      fresh = f.0;
+      there = laws.first_some o.geometry o.start starts;
+      made = tt;
+      stood = first;
+    })
+    found-sound starts (Over Restored) f = recovering
+    found-sound starts (Over Loaded) f = absurd f
+
+    -- what was found at a restart
+    pub found-restored : IsRestored F m d e → IsFoundAt o g.kept (epoch_of d.commit) ((layout_in F d).state_from (slot_read F d) (F.loads e m))
+    found-restored f =
+        let state : State = (layout_in F d).state_from (slot_read F d) (F.loads e m) in
+        found-mark o (layout_for F o) g.before g.kept (epoch_of d.commit) state told (decoded (At (epoch_of d.commit) state) f.found)
+
+    abbrev Shows : Stage → Type 0
+    Shows q = CoreStep o (finding_view o.start.count g.kept) (did_of (answer_at F q d)) (seen_at o g.kept q)
+
+    pub shows : (q : Stage) → HasReadAt F q m d e → Shows q
+    shows (Reads Unread) f = (boots o.start.count g.kept, inl refl)
+    shows (Reads Header) f = (boots o.start.count g.kept, inl refl)
+    shows (Reads (Slot next)) f = (boots o.start.count g.kept, inl refl)
+    shows (Reads (Fills k)) f = (boots o.start.count g.kept, inl refl)
+    shows (Reads (Refusing bad)) f = absurd (never-bad o (layout_for F o) g.before g.kept bad told (decoded (IsRefused bad) f))
+    shows (Loads issue) f =
+        let same_view : record (loading_view o.start.count) { written = is_written issue } ≡ finding_view o.start.count g.kept
+        = ap (λ (i : Issue). record (loading_view o.start.count) { written = is_written i }) f.2 ∙ ap (finding_view o.start.count) (sym (none_kept f.1)) in
+        (boots o.start.count g.kept, inl same_view)
+    shows (Over Restored) f =
+        let found = found-restored f in
+        let epoch : ℕ = epoch_of d.commit in
+        let cpu : CpuState = F.cpu_in (slot_read F d) in
+        let count : found.m.count ≡ cpu.count
+        = sym (ap (λ (s : State). s.count) found.state_is ∙ found.counted) ∙ laws.counts d.p (slot_read F d) (F.loads e m) in
+        subst (λ (k : Option Mark). CoreStep o (finding_view o.start.count k) (HasRestarted epoch cpu.count) (restored_view o k)) (sym found.kept_is)
+        (subst (λ (c : ℕ). CoreStep o (boot_view (Some found.m) None) (HasRestarted epoch c) (restored_view o (Some found.m))) count
+        (subst (λ (x : ℕ). CoreStep o (boot_view (Some found.m) None) (HasRestarted x found.m.count) (restored_view o (Some found.m))) found.epoch_is (restores o found.m)))
+    shows (Over Loaded) f = absurd f
+
+  -- ---- what is seen
+
+  pub shows_image : ShowsImage F
+  shows_image o g n b c r sound is =
+      let rec : IsRecovering F g n b c = subst (λ (q : Stage). IsSoundAt F o q g n b c) is sound.so_far in
+      let k : IsKeeping o (layout_for F o) (reading_of o g n) = subst (λ (q : Stage). IsKeeping o (layout_for F o) (standing_in_boot o q g n)) is sound.keeps in
+      ap (seen_at o g.kept) is
+      ∙ sym (finding_view-told o (layout_for F o) g.before g.kept o.start.count k.told)
+      ∙ ap (λ (h : List Block). view_of_image o.start.count (decode_by (layout_for F o) h)) rec.before_is
+
+  -- ---- where it ends
+
+  pub restored_is_kept : RestoredIsKept F
+  restored_is_kept o g n b c sound is =
+      let rec : IsRecovering F g n b c = subst (λ (q : Stage). IsSoundAt F o q g n b c) is sound.so_far in
+      let k : IsKeeping o (layout_for F o) (reading_of o g n) = subst (λ (q : Stage). IsKeeping o (layout_for F o) (standing_in_boot o q g n)) is sound.keeps in
+      let f : IsRestored F n b c = subst (λ (q : Stage). HasReadAt F q n b c) is rec.read.so_far in
+      let found = found-restored o g n b c rec.before_is sound.geometry k.told rec.read f in
+      let keeps : Keeps o (layout_for F o) n (Kept g.before) (Some found.m) None
+      = subst (λ (x : Option Mark). Keeps o (layout_for F o) n (Kept g.before) x (sealed_by o x)) found.kept_is k in
+      (found.m, found.kept_is, found.epoch_is, keeps, found.state_is, f)
+
+  pub never_refused : NeverRefused F
+  never_refused o g n b c bad sound is =
+      let at : IsRecovering F g n b c = subst (λ (q : Stage). IsSoundAt F o q g n b c) is sound.so_far in
+      let k : IsKeeping o (layout_for F o) (reading_of o g n) = subst (λ (q : Stage). IsKeeping o (layout_for F o) (standing_in_boot o q g n)) is sound.keeps in
+      let f : decode_by (layout_in F b) n.image ≡ IsRefused bad = subst (λ (q : Stage). HasReadAt F q n b c) is at.read.so_far in
+      never-bad o (layout_for F o) g.before g.kept bad k.told (decoded o g n b c at.before_is sound.geometry k.told at.read (IsRefused bad) f)

@@ -1,0 +1,13 @@
+pub mod SlotLemmas
+pub mod ReadLemmas
+pub mod NearerLemmas
+pub mod WrittenLemmas
+pub mod LoadLemmas
+pub mod MoveLemmas
+pub mod FoundLemmas
+pub mod SafeLemmas
+pub mod GoOnLemmas
+pub mod StepMoveLemmas
+pub mod BootDrainLemmas
+pub mod ActLemmas
+pub mod TakesLemmas

@@ -1,0 +1,227 @@
+-- What each read makes of what was read so far, whatever the layout and whatever is filled.
+use Rattle.std.proofs.Common.{◌≡◌, ℕ, ◌+◌, ◌*◌, ◌<◌, ◌≤◌, nat_lt, Bool, true, false, if◌then◌else◌, List, [], length, refl, sym, ◌∙◌, ap, subst, arith, Option, Some, None}
+use Rattle.std.specs.Option.{option_or}
+use Rattle.std.proofs.lemmas.Bool.{eq-eqb, ltb-false}
+use Rattle.thy_base.specs.declared.block.Block.{Block}
+use Rattle.thy_base.specs.declared.config.Parameters.{Parameters}
+use Rattle.thy_base.specs.declared.nvm.Write.{Write}
+use Rattle.thy_base.specs.Device.{Device, block_at, newest, newest_over}
+use Rattle.thy_base.proofs.WrittenLemmas.{length-written}
+use Rattle.thy_record.specs.declared.bad_image.BadImage.{BadImage}
+use Rattle.thy_record.specs.Commit.{is_zero, epoch_of}
+use Rattle.thy_record.specs.Decoded.{Nothing, Refused as IsRefused, At}
+use Rattle.thy_protocol.specs.Layout.{Layout, is_sized, slot_in, memory_in, fault_of, refused_or_at, decode_by}
+use Rattle.thy_protocol.proofs.LayoutLemmas.{decode_by-zero}
+use Rattle.thy_boot.specs.declared.stage.Stage.{Stage}
+use Rattle.thy_boot.specs.declared.stage.Stage.TheVariants.{Reads, Loads, Over}
+use Rattle.thy_boot.specs.declared.stage.ReadStage.TheVariants.{Unread, Header, Slot, Fills, Refusing}
+use Rattle.thy_boot.specs.declared.stage.End.TheVariants.{Restored, Loaded}
+use Rattle.thy_boot.specs.declared.stage.Issue.TheVariants.{Home}
+use Rattle.thy_boot.specs.Boot.{Booting, IsBoot, IsThere, new_boot, layout_in, slot_read, at_stage, refusing_or, after_commit, after_header, after_slot, filling_or, after_fill, gone_on, IsJudged, JudgesUnless, GoesOn}
+use Rattle.thy_boot.specs.Filling.{FillingOf, IsFilling, layout_at}
+use Rattle.thy_boot.specs.Reads.{slot_kept}
+use Rattle.thy_boot.specs.Recovers.{HasCommit, HasHead, HasSlot, HasReadAt, HasRead}
+use Rattle.thy_boot.proofs.SlotLemmas.{HasSlot-more, slot_is_whole}
+
+pub newest-settled : (n : Device) (x : ℕ) → n.queue ≡ [] → newest n x ≡ block_at n.image x
+newest-settled n x h = ap (λ (q : List Write). newest_over (block_at n.image x) q x) h
+
+none_of_two : {X : Type 0} (a b : Option X) → option_or a b ≡ None → (a ≡ None) × (b ≡ None)
+none_of_two None b h = (refl, h)
+none_of_two (Some x) b h = absurd (cc)
+
+first_two : {X : Type 0} (a b c : Option X) (x : X) → option_or a b ≡ Some x → option_or a (option_or b c) ≡ Some x
+first_two None b c x h = ap (λ o. option_or o c) h
+first_two (Some y) b c x h = h
+
+last_one : {X : Type 0} (a b c o : Option X) → a ≡ None → b ≡ None → c ≡ o → option_or a (option_or b c) ≡ o
+last_one a b c o ha hb hc = ap (λ z. option_or z (option_or b c)) ha ∙ ap (λ z. option_or z c) hb ∙ hc
+
+-- an image with a commit block, by its first fault
+decode-fault : (l : Layout) (g : List Block) (commit : Block) (o : Option BadImage) → HasCommit g commit → length g ≡ l.image_blocks
+    → fault_of l true (block_at g 0) commit (slot_in l g) ≡ o
+    → decode_by l g ≡ refused_or_at o (epoch_of commit) (l.state_from (slot_in l g) (memory_in l g))
+unfolding decode_by
+decode-fault l g commit o c long h =
+    ap (λ (b : Block). if is_zero b then Nothing
+    else refused_or_at (fault_of l (is_sized l g) (block_at g 0) b (slot_in l g)) (epoch_of b) (l.state_from (slot_in l g) (memory_in l g))) c.is
+    ∙ ap (λ (t : Bool). if t then Nothing
+    else refused_or_at (fault_of l (is_sized l g) (block_at g 0) commit (slot_in l g)) (epoch_of commit) (l.state_from (slot_in l g) (memory_in l g))) c.committed
+    ∙ ap (λ (t : Bool). refused_or_at (fault_of l t (block_at g 0) commit (slot_in l g)) (epoch_of commit) (l.state_from (slot_in l g) (memory_in l g)))
+    (eq-eqb (length g) l.image_blocks long)
+    ∙ ap (λ (f : Option BadImage). refused_or_at f (epoch_of commit) (l.state_from (slot_in l g) (memory_in l g))) h
+
+module _ {C : Type 0} (F : FillingOf C) where
+  -- the commit block
+  pub commit-found : (n : Device) (b : Booting) (c : C) → b.stage ≡ Reads Unread → HasRead F n b c → HasRead F n (after_commit (newest n 1) b) c
+  commit-found n b c is h = record { same_p = h.same_p; sized = h.sized; settled = h.settled; so_far = by_zero (is_zero (newest n 1)) refl } where
+    fresh : F.fresh c
+    fresh = subst (λ (s : Stage). HasReadAt F s n b c) is h.so_far
+
+    there : newest n 1 ≡ block_at n.image 1
+    there = newest-settled n 1 h.settled
+
+    by_zero : (z : Bool) → is_zero (newest n 1) ≡ z → HasReadAt F (if z then Loads (Home 0) else Reads Header) n (after_commit (newest n 1) b) c
+    by_zero true e = (fresh, decode_by-zero (layout_in F b) n.image (ap is_zero (sym there) ∙ e), refl)
+    by_zero false e = (fresh, record { committed = e; is = sym there })
+
+  -- the header
+  pub header-found : (n : Device) (b : Booting) (c : C) → b.stage ≡ Reads Header → HasRead F n b c
+      → HasRead F n (at_stage (after_header (layout_in F b) (newest n 0) b) b) c
+  header-found n b c is h = record { same_p = h.same_p; sized = h.sized; settled = h.settled; so_far = found } where
+    had : F.fresh c × HasCommit n.image b.commit
+    had = subst (λ (s : Stage). HasReadAt F s n b c) is h.so_far
+
+    by_fault : (o : Option BadImage) → option_or ((layout_in F b).header_bad (block_at n.image 0) true) ((layout_in F b).commit_bad (block_at n.image 0) b.commit) ≡ o
+        → HasReadAt F (refusing_or o (Reads (Slot 0))) n (at_stage (refusing_or o (Reads (Slot 0))) b) c
+    by_fault None e =
+        let both = none_of_two ((layout_in F b).header_bad (block_at n.image 0) true) ((layout_in F b).commit_bad (block_at n.image 0) b.commit) e in
+        (had.0, record { commit_is = had.1; header_fits = both.0; commit_fits = both.1 }, record { each = λ k less. absurd (omega (arith, less)) })
+    by_fault (Some bad) e =
+        decode-fault (layout_in F b) n.image b.commit (Some bad) had.1 h.sized
+        (first_two ((layout_in F b).header_bad (block_at n.image 0) true) ((layout_in F b).commit_bad (block_at n.image 0) b.commit) ((layout_in F b).slot_bad b.commit (slot_in (layout_in F b) n.image)) bad e)
+
+    found : HasReadAt F (after_header (layout_in F b) (newest n 0) b) n (at_stage (after_header (layout_in F b) (newest n 0) b) b) c
+    found =
+        subst (λ (x : Block). HasReadAt F (after_header (layout_in F b) x b) n (at_stage (after_header (layout_in F b) x b) b) c) (sym (newest-settled n 0 h.settled))
+        (by_fault (option_or ((layout_in F b).header_bad (block_at n.image 0) true) ((layout_in F b).commit_bad (block_at n.image 0) b.commit)) refl)
+
+  -- the whole slot, judged: it is refused, or, listed by the controller, filled or restored
+  module _ (n : Device) (b : Booting) (c : C) (laws : IsFilling F) (same : F.p c ≡ b.p) (settled : n.queue ≡ []) (sized : length n.image ≡ (layout_in F b).image_blocks)
+      (head : HasHead (layout_in F b) n.image b.commit) (whole : slot_read F b ≡ slot_in (layout_in F b) n.image) where
+    abbrev l : Layout
+    l = layout_in F b
+
+    abbrev slot : List Block
+    slot = slot_read F b
+
+    meaning : (o : Option BadImage) → l.slot_bad b.commit slot ≡ o
+        → decode_by l n.image ≡ refused_or_at o (epoch_of b.commit) (l.state_from (slot_in l n.image) (memory_in l n.image))
+    meaning o e =
+        decode-fault l n.image b.commit o head.commit_is sized
+        (last_one (l.header_bad (block_at n.image 0) true) (l.commit_bad (block_at n.image 0) b.commit) (l.slot_bad b.commit (slot_in l n.image)) o
+        head.header_fits head.commit_fits (ap (l.slot_bad b.commit) (sym whole) ∙ e))
+
+    pub refused : (bad : BadImage) → l.slot_bad b.commit slot ≡ Some bad → decode_by l n.image ≡ IsRefused bad
+    refused bad e = meaning (Some bad) e
+
+    -- from a position on
+    pub filling-found : (from : ℕ) → l.slot_bad b.commit slot ≡ None → F.lists b.commit slot c → F.filled c n from
+        → HasReadAt F (filling_or (F.next_fill b.p b.commit slot from)) n b c
+    filling-found from fits lists filled = by_next (F.next_fill b.p b.commit slot from) refl where
+      by_next : (o : Option ℕ) → F.next_fill b.p b.commit slot from ≡ o → HasReadAt F (filling_or o) n b c
+      by_next None e =
+          let none : F.next_fill (F.p c) b.commit slot from ≡ None = ap (λ p. F.next_fill p b.commit slot from) same ∙ e in
+          let long : length n.image ≡ (layout_at F (F.p c)).image_blocks = sized ∙ ap (λ p. (layout_at F p).image_blocks) (sym same) in
+          let slot_is : slot_in (layout_at F (F.p c)) n.image ≡ slot = ap (λ p. slot_in (layout_at F p) n.image) same ∙ sym whole in
+          let ended = laws.ends c n b.commit slot from lists filled none settled long slot_is in
+          let memory : F.loads c n ≡ memory_in l n.image = ended.1 ∙ ap (λ p. memory_in (layout_at F p) n.image) same in
+          record {
+            lists = lists;
+            head = head;
+            slot_is = whole;
+            slot_fits = fits;
+            whole = ended.0;
+            found = meaning None fits ∙ ap (λ s. At (epoch_of b.commit) (l.state_from s (memory_in l n.image))) (sym whole)
+                ∙ ap (λ m. At (epoch_of b.commit) (l.state_from slot m)) (sym memory);
+          }
+      by_next (Some k) e =
+          let some : F.next_fill (F.p c) b.commit slot from ≡ Some k = ap (λ p. F.next_fill p b.commit slot from) same ∙ e in
+          let there = laws.next c n b.commit slot from k lists filled some in (
+            record { head = head; slot_is = whole; slot_fits = fits; lists = lists; filled = there.2 },
+            ap (λ p. F.next_fill p b.commit slot k) (sym same) ∙ there.3,
+          )
+
+  -- what was read does not depend on the stage that the boot has
+  pub restage : (q s : Stage) (n : Device) (b : Booting) (c : C) → HasReadAt F q n b c → HasReadAt F q n (at_stage s b) c
+  restage (Reads Unread) s n b c h = h
+  restage (Reads Header) s n b c h = h
+  restage (Reads (Slot next)) s n b c h = h
+  restage (Reads (Fills k)) s n b c h = (
+    record { head = h.0.head; slot_is = h.0.slot_is; slot_fits = h.0.slot_fits; lists = h.0.lists; filled = h.0.filled },
+    h.1,
+  )
+  restage (Reads (Refusing bad)) s n b c h = h
+  restage (Loads issue) s n b c h = h
+  restage (Over Restored) s n b c h = record { lists = h.lists; head = h.head; slot_is = h.slot_is; slot_fits = h.slot_fits; whole = h.whole; found = h.found }
+  restage (Over Loaded) s n b c h = h
+
+  -- a position was filled with what its read gave
+  pub fill-found : (n : Device) (b : Booting) (c : C) (k : ℕ) → IsFilling F → b.stage ≡ Reads (Fills k) → HasRead F n b c
+      → HasRead F n (at_stage (after_fill F k b) b) (F.with_fill b.commit k (newest n (F.fill_place c b.commit k)) c)
+  fill-found n b c k laws is h =
+      let had : HasReadAt F (Reads (Fills k)) n b c = subst (λ (s : Stage). HasReadAt F s n b c) is h.so_far in
+      let listed = had.0 in
+      let some : F.next_fill (F.p c) b.commit (slot_read F b) k ≡ Some k = ap (λ p. F.next_fill p b.commit (slot_read F b) k) h.same_p ∙ had.1 in
+      let long : length n.image ≡ (layout_at F (F.p c)).image_blocks = h.sized ∙ ap (λ p. (layout_at F p).image_blocks) (sym h.same_p) in
+      let filled = laws.fills c n b.commit (slot_read F b) k listed.lists listed.filled some h.settled long in
+      let d : C = F.with_fill b.commit k (newest n (F.fill_place c b.commit k)) c in
+      let same : F.p d ≡ b.p = filled.2 ∙ h.same_p in
+      record {
+        same_p = same;
+        sized = h.sized;
+        settled = h.settled;
+        so_far = restage (after_fill F k b) (after_fill F k b) n b d
+            (filling-found n b d laws same h.settled h.sized listed.head listed.slot_is (k + 1) listed.slot_fits filled.0 filled.1);
+      }
+
+  -- a block of the slot was kept, and the last of them was judged
+  module _ (n : Device) (b : Booting) (c d : C) (k : ℕ) (laws : IsFilling F) (boot : IsBoot F b) (is : b.stage ≡ Reads (Slot k)) (h : HasRead F n b c)
+      (long : length (newest n ((layout_in F b).slot_place b.commit + k)).0 ≡ 64) where
+    abbrev w : Booting
+    w = slot_kept F k n b
+
+    had : F.fresh c × HasHead (layout_in F b) n.image b.commit × HasSlot (layout_in F b) n.image b.commit k b.slot
+    had = subst (λ (s : Stage). HasReadAt F s n b c) is h.so_far
+
+    most : (layout_in F b).slot_blocks b.commit ≤ F.most_slot b.p
+    most = laws.most_room b.p b.commit
+
+    inside : k < (layout_in F b).slot_blocks b.commit
+    inside = subst (λ (s : Stage). IsThere F b s) is boot.there
+
+    size : length w.slot ≡ 64 * F.most_slot b.p
+    size =
+        length-written b.slot (64 * k) (newest n ((layout_in F b).slot_place b.commit + k)).0 (omega (arith, boot.room, inside, most, long))
+        ∙ boot.room
+
+    kept : HasSlot (layout_in F b) n.image b.commit (k + 1) w.slot
+    kept =
+        HasSlot-more (layout_in F b) n.image b.commit k b.slot (newest n ((layout_in F b).slot_place b.commit + k)) (omega (arith, boot.room, inside, most)) long
+        (newest-settled n ((layout_in F b).slot_place b.commit + k) h.settled) had.2
+
+    whole : k + 1 ≡ (layout_in F b).slot_blocks b.commit → slot_read F w ≡ slot_in (layout_in F b) n.image
+    whole last = slot_is_whole F n.image w (k + 1) had.1.commit_is size most last kept
+
+    judged_p : (o : Option BadImage) → IsJudged F o w c d → F.p d ≡ b.p
+    judged_p None j = j.same_p ∙ h.same_p
+    judged_p (Some bad) j = ap F.p j ∙ h.same_p
+
+    judged : (o : Option BadImage) → k + 1 ≡ (layout_in F b).slot_blocks b.commit → (layout_in F w).slot_bad w.commit (slot_read F w) ≡ o → IsJudged F o w c d
+        → HasReadAt F (refusing_or o (filling_or (F.next_fill w.p w.commit (slot_read F w) 0))) n w d
+    judged None last e j =
+        filling-found n w d laws (judged_p None j) h.settled h.sized had.1 (whole last) 0 e j.lists
+        (laws.begins d n w.commit (slot_read F w) j.lists)
+    judged (Some bad) last e j = refused n w d laws (judged_p (Some bad) j) h.settled h.sized had.1 (whole last) bad e
+
+    go_on : (z : Bool) → nat_lt (k + 1) ((layout_in F b).slot_blocks b.commit) ≡ z → JudgesUnless F z ((layout_in F w).slot_bad w.commit (slot_read F w)) w c d
+        → HasReadAt F (if z then Reads (Slot (k + 1)) else after_slot F w) n w d
+    go_on true e j = subst (λ (x : C). HasReadAt F (Reads (Slot (k + 1))) n w x) (sym j) (had.0, had.1, kept)
+    go_on false e j =
+        let past = ltb-false (k + 1) ((layout_in F b).slot_blocks b.commit) e in
+        judged ((layout_in F w).slot_bad w.commit (slot_read F w)) (omega (arith, inside, past)) refl j
+
+    same_after : (z : Bool) → JudgesUnless F z ((layout_in F w).slot_bad w.commit (slot_read F w)) w c d → F.p d ≡ b.p
+    same_after true j = ap F.p j ∙ h.same_p
+    same_after false j = judged_p ((layout_in F w).slot_bad w.commit (slot_read F w)) j
+
+    pub slot-found : GoesOn F k w c d → HasRead F n (gone_on F k w) d
+    slot-found j =
+        let more : Bool = nat_lt (k + 1) ((layout_in F b).slot_blocks b.commit) in
+        let q : Stage = if more then Reads (Slot (k + 1)) else after_slot F w in
+        record { same_p = same_after more j; sized = h.sized; settled = h.settled; so_far = restage q q n w d (go_on more refl j) }
+
+  -- a new boot
+  pub HasRead-new : (p : Parameters) (n : Device) (c : C) → F.fresh c → F.p c ≡ p → length n.image ≡ (layout_in F (new_boot F p)).image_blocks → n.queue ≡ []
+      → HasRead F n (new_boot F p) c
+  HasRead-new p n c fresh same sized settled = record { same_p = same; sized = sized; settled = settled; so_far = fresh }

@@ -1,0 +1,170 @@
+-- Whatever a cut leaves of a boot is safe, behind a step that failed too.
+use Rattle.std.proofs.Common.{◌≡◌, ◌≢◌, ℕ, ◌+◌, ◌==◌, ◌||◌, Bool, false, if◌then◌else◌, Option, Some, None, refl, sym, ap, subst}
+use Rattle.std.proofs.lemmas.Bool.{ne_eqb}
+use Rattle.thy_base.specs.declared.config.Parameters.{Parameters}
+use Rattle.thy_base.specs.declared.mark.Mark.{Mark}
+use Rattle.thy_base.specs.Device.{Device, IsFramed, HasFailed}
+use Rattle.thy_crash.specs.Saved.{Kept, guarded, InDoubt, Saved}
+use Rattle.thy_crash.proofs.SparesLemmas.{Spares-failed}
+use Rattle.thy_view.specs.Action.{Action, FailsTo, is_commit_write, doubt_after_fault}
+use Rattle.thy_view.specs.Booting.{loading_view}
+use Rattle.thy_view.specs.Origin.{Origin}
+use Rattle.thy_view.specs.Safe.{Safe}
+use Rattle.thy_view.specs.Views.{doubt_of}
+use Rattle.thy_protocol.specs.Keeps.{doubt_in, finding_view}
+use Rattle.thy_protocol.specs.Layout.{looked_by, reading}
+use Rattle.thy_protocol.specs.Moves.{Standing, standing, IsKeeping, Move, Goes}
+use Rattle.thy_protocol.proofs.KeepsLemmas.{IsKeeping-move, Safe-kept}
+use Rattle.thy_boot.specs.declared.stage.Stage.{Stage}
+use Rattle.thy_boot.specs.declared.stage.Stage.TheVariants.{Reads, Loads, Over}
+use Rattle.thy_boot.specs.declared.stage.ReadStage.{ReadStage}
+use Rattle.thy_boot.specs.declared.stage.ReadStage.TheVariants.{Unread, Header as ReadsHeader, Slot as ReadsSlot, Fills, Refusing}
+use Rattle.thy_boot.specs.declared.stage.End.TheVariants.{Restored, Loaded}
+use Rattle.thy_boot.specs.declared.stage.Issue.{Issue}
+use Rattle.thy_boot.specs.declared.stage.Issue.TheVariants.{Home, Slot, Header, Settle, Commit, Confirm}
+use Rattle.thy_boot.specs.Boot.{Booting}
+use Rattle.thy_boot.specs.Filling.{FillingOf, First, IsFilling}
+use Rattle.thy_boot.specs.Loads.{IsIssue, issue_action}
+use Rattle.thy_boot.specs.Reads.{read_action}
+use Rattle.thy_boot.specs.Shows.{is_written, restored_view, seen_at}
+use Rattle.thy_boot.specs.Sound.{BootImages, layout_for, first_of, start_mark, sealed_by, saved_loading, standing_in_boot, IsMade, IsSoundAt}
+use Rattle.thy_boot.specs.Steps.{action_at}
+use Rattle.thy_boot.specs.Laws.{SoundIsSafe, IsGoing, standing_after_fault, FailuresMove}
+use Rattle.thy_boot.proofs.FoundLemmas.{reading_of}
+use Rattle.thy_boot.proofs.MoveLemmas.{load_fails, home_elsewhere, slot_elsewhere}
+
+-- by how far loading is, the images that a cut may leave behind a failure
+abbrev failed_saved : Issue → BootImages → Saved
+failed_saved Commit g = InDoubt g.before g.next
+failed_saved issue g = saved_loading issue g
+
+failed_is : (o : Origin) (g : BootImages) (m : Device) (issue : Issue) → standing_after_fault o (Loads issue) g m ≡ standing m (failed_saved issue g) None (Some (start_mark o))
+failed_is o g m (Home b) = refl
+failed_is o g m (Slot k) = refl
+failed_is o g m Header = refl
+failed_is o g m Settle = refl
+failed_is o g m Commit = refl
+failed_is o g m Confirm = refl
+
+-- a write elsewhere is no commit block's
+elsewhere : (o : Origin) (x : ℕ) → x ≢ 1 → None ≡ (if (x == 1) || false then Some (start_mark o) else None)
+elsewhere o x other = sym (ap (λ (b : Bool). if b || false then Some (start_mark o) else None) (ne_eqb x 1 other))
+
+module _ {C : Type 0} (F : FillingOf C) (laws : IsFilling F) where
+  -- ---- what is safe
+
+  module _ (o : Origin) (g : BootImages) (n : Device) where
+    abbrev IsSafe : Option Mark → Option Mark → Type 0
+    IsSafe done doubt = Safe (reading F.layouts) o done doubt n
+
+    reads : (kept : Option Mark) → IsSafe kept None → IsSafe (finding_view o.start.count kept).done (doubt_of (finding_view o.start.count kept))
+    reads None safe = safe
+    reads (Some m) safe = safe
+
+    restored : (kept : Option Mark) → IsSafe kept None → IsSafe (restored_view o kept).done (doubt_of (restored_view o kept))
+    restored None safe = safe
+    restored (Some m) safe = safe
+
+    kept : IsKeeping o (layout_for F o) (reading_of o g n) → IsSafe g.kept None
+    kept k = Safe-kept F.layouts o n (Kept g.before) g.kept (sealed_by o g.kept) k
+
+    loading : (issue : Issue) → IsKeeping o (layout_for F o) (standing_in_boot o (Loads issue) g n) → IsSafe None (doubt_in (saved_loading issue g) (Some (start_mark o)))
+    loading issue k = Safe-kept F.layouts o n (saved_loading issue g) None (Some (start_mark o)) k
+
+    safe_at : (q : Stage) → IsKeeping o (layout_for F o) (standing_in_boot o q g n) → IsSafe (seen_at o g.kept q).done (doubt_of (seen_at o g.kept q))
+    safe_at (Reads r) k = reads g.kept (kept k)
+    safe_at (Loads (Home b)) k = loading (Home b) k
+    safe_at (Loads (Slot j)) k = loading (Slot j) k
+    safe_at (Loads Header) k = loading Header k
+    safe_at (Loads Settle) k = loading Settle k
+    safe_at (Loads Commit) k = loading Commit k
+    safe_at (Loads Confirm) k = loading Confirm k
+    safe_at (Over Restored) k = restored g.kept (kept k)
+    safe_at (Over Loaded) k = Safe-kept F.layouts o n (Kept g.next) (Some (start_mark o)) None k
+
+  pub sound_is_safe : SoundIsSafe F
+  sound_is_safe o g n b c sound = safe_at o g n b.stage sound.keeps
+
+  -- ---- steps that failed
+
+  fails_read : (o : Origin) (g : BootImages) (n m : Device) → HasFailed n m → IsFramed n m → Move o (layout_for F o) (reading_of o g n) (reading_of o g m)
+  fails_read o g n m failed framed =
+      Goes (Kept g.before) g.kept (sealed_by o g.kept) n m (Spares-failed (guarded (looked_by (layout_for F o)) (Kept g.before)) n m failed framed)
+
+  -- a read is no commit block's write
+  reads_no_commit : (b : Booting) (c : C) (r : ReadStage) → is_commit_write (read_action F b c r) ≡ false
+  reads_no_commit b c Unread = refl
+  reads_no_commit b c ReadsHeader = refl
+  reads_no_commit b c (ReadsSlot next) = refl
+  reads_no_commit b c (Fills k) = refl
+  reads_no_commit b c (Refusing bad) = refl
+
+  -- one that failed wrote nothing
+  pub read_failed : (b : Booting) (c : C) (r : ReadStage) (n m : Device) → FailsTo (read_action F b c r) n m → HasFailed n m
+  read_failed b c Unread n m f = f
+  read_failed b c ReadsHeader n m f = f
+  read_failed b c (ReadsSlot next) n m f = f
+  read_failed b c (Fills k) n m f = f
+  read_failed b c (Refusing bad) n m f = absurd f
+
+  -- so behind one what is kept is safe
+  seen_safe : (o : Origin) (m : Device) (a : Action) (kept : Option Mark) → is_commit_write a ≡ false → Safe (reading F.layouts) o kept None m
+      → Safe (reading F.layouts) o (finding_view o.start.count kept).done (doubt_after_fault a (finding_view o.start.count kept)) m
+  seen_safe o m a None spared safe =
+      subst (λ (b : Bool). Safe (reading F.layouts) o None (if b || false then Some (start_mark o) else None) m) (sym spared) safe
+  seen_safe o m a (Some k) spared safe =
+      subst (λ (b : Bool). Safe (reading F.layouts) o (Some k) (if b || false then None else None) m) (sym spared) safe
+
+  abbrev Failure : Origin → BootImages → Device → Stage → Action → Device → Type 0
+  Failure o g n q a m =
+      Move o (layout_for F o) (standing_in_boot o q g n) (standing_after_fault o q g m)
+      × Safe (reading F.layouts) o (seen_at o g.kept q).done (doubt_after_fault a (seen_at o g.kept q)) m
+
+  read_failure : (o : Origin) (g : BootImages) (n m : Device) (a : Action) → is_commit_write a ≡ false → IsKeeping o (layout_for F o) (reading_of o g n) → HasFailed n m → IsFramed n m
+      → Move o (layout_for F o) (reading_of o g n) (reading_of o g m)
+      × Safe (reading F.layouts) o (finding_view o.start.count g.kept).done (doubt_after_fault a (finding_view o.start.count g.kept)) m
+  read_failure o g n m a spared k failed framed =
+      let move = fails_read o g n m failed framed in (
+        move,
+        seen_safe o m a g.kept spared (kept o g m (IsKeeping-move o (layout_for F o) (reading_of o g n) (reading_of o g m) move k)),
+      )
+
+  module _ (o : Origin) (starts : F.starts o.geometry o.start) (g : BootImages) where
+    abbrev f : First
+    f = first_of F o
+
+    -- the mark in doubt then is the start's where the action was its commit block's write, or came after it
+    loading_doubt : (issue : Issue) → IsIssue f issue → doubt_in (failed_saved issue g) (Some (start_mark o))
+        ≡ doubt_after_fault (issue_action f issue) (record (loading_view o.start.count) { written = is_written issue })
+    loading_doubt (Home b) inside = elsewhere o _ (home_elsewhere F laws o starts b inside)
+    loading_doubt (Slot k) inside = elsewhere o (f.parts.slot_place + k) (slot_elsewhere F laws o starts k)
+    loading_doubt Header inside = refl
+    loading_doubt Settle inside = refl
+    loading_doubt Commit inside = refl
+    loading_doubt Confirm inside = refl
+
+    load_failure : (n m : Device) (issue : Issue) → IsIssue f issue → IsKeeping o (layout_for F o) (standing_in_boot o (Loads issue) g n)
+        → IsMade o (layout_for F o) f issue g.next → FailsTo (issue_action f issue) n m → IsFramed n m
+        → Failure o g n (Loads issue) (issue_action f issue) m
+    load_failure n m issue inside k made failed framed =
+        let move = load_fails F laws o starts g n m issue inside k made failed framed in
+        let kept : IsKeeping o (layout_for F o) (standing_after_fault o (Loads issue) g m)
+        = IsKeeping-move o (layout_for F o) (standing_in_boot o (Loads issue) g n) (standing_after_fault o (Loads issue) g m) move k in
+        let safe = Safe-kept F.layouts o m (failed_saved issue g) None (Some (start_mark o))
+        (subst (λ (a : Standing). IsKeeping o (layout_for F o) a) (failed_is o g m issue) kept) in
+        (move, subst (λ (d : Option Mark). Safe (reading F.layouts) o None d m) (loading_doubt issue inside) safe)
+
+  pub failures_move : FailuresMove F
+  failures_move o g n b c m origin sound going fails framed =
+      let r = by_stage b.stage sound.so_far sound.keeps going fails in
+      record { move = r.0; safe = r.1 }
+    where
+      by_stage : (q : Stage) → IsSoundAt F o q g n b c → IsKeeping o (layout_for F o) (standing_in_boot o q g n) → IsGoing q
+          → FailsTo (action_at F q o.start b c) n m → Failure o g n q (action_at F q o.start b c) m
+      by_stage (Reads r) there k going f = read_failure o g n m (read_action F b c r) (reads_no_commit b c r) k (read_failed b c r n m f) framed
+      by_stage (Loads issue) there k going f =
+          let starts : F.starts o.geometry o.start = laws.origin_starts o origin in
+          subst (λ (p : Parameters). Failure o g n (Loads issue) (issue_action (F.first p o.start) issue) m) (sym sound.geometry)
+          (load_failure o starts g n m issue there.there k there.made
+          (subst (λ (p : Parameters). FailsTo (issue_action (F.first p o.start) issue) n m) sound.geometry f) framed)
+      by_stage (Over end) there k going f = absurd going

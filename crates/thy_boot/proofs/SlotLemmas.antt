@@ -1,0 +1,72 @@
+-- The blocks of the slot, as they are read.
+use Rattle.std.proofs.Common.{◌≡◌, ℕ, ◌+◌, ◌*◌, ◌/◌, ◌-◌, ◌<◌, ◌≤◌, List, ◌++◌, length, map, take, drop, refl, sym, ◌∙◌, ap, subst, inl, inr, arith}
+use Rattle.std.specs.List.{range_with_len}
+use Rattle.std.proofs.lemmas.Bool.{cases_eq}
+use Rattle.std.proofs.lemmas.List.{length-map, ext_get_or, length-take, length-drop, drop-append-le, take-append-le, drop-take, take-take, take_at, drop_at, get_or-take}
+use Rattle.std.proofs.lemmas.List.FromFn.{length-range_with_len, get_or-map-range_with_len}
+use Rattle.thy_base.specs.declared.block.Block.{Block}
+use Rattle.thy_base.specs.Bytes.{written}
+use Rattle.thy_base.specs.Device.{block_at, zero_block}
+use Rattle.thy_record.specs.Files.{block_in, blocks_of}
+use Rattle.thy_protocol.specs.Layout.{Layout, slot_in}
+use Rattle.thy_boot.specs.Boot.{Booting, layout_in, slot_read}
+use Rattle.thy_boot.specs.Filling.{FillingOf}
+use Rattle.thy_boot.specs.Recovers.{HasCommit, HasSlot}
+
+-- what stands below what was written
+take_below : (xs ys : List ℕ) (a n b : ℕ) → a + n ≤ b → b ≤ length xs → take n (drop a (take b xs ++ ys)) ≡ take n (drop a xs)
+take_below xs ys a n b l inside =
+    let size : length (take b xs) ≡ b = length-take b xs ∙ omega (arith, inside) in
+    let part : length (drop a (take b xs)) ≡ b - a = length-drop a (take b xs) ∙ ap (λ k. k - a) size in
+    let whole : a + (b - a) ≡ b = omega arith in
+    ap (take n) (drop-append-le a (take b xs) ys (omega (arith, size)))
+    ∙ take-append-le n (drop a (take b xs)) ys (omega (arith, part))
+    ∙ ap (λ k. take n (drop a (take k xs))) (sym whole) ∙ ap (take n) (drop-take a (b - a) xs)
+    ∙ take-take n (b - a) (drop a xs) (omega arith)
+
+-- what was written
+take_here : (xs ys zs : List ℕ) (b n : ℕ) → b ≤ length xs → length ys ≡ n → take n (drop b (take b xs ++ (ys ++ zs))) ≡ ys
+take_here xs ys zs b n inside size =
+    let long : length (take b xs) ≡ b = length-take b xs ∙ omega (arith, inside) in
+    ap (take n) (drop_at (take b xs) (ys ++ zs) b long) ∙ take_at ys zs n size
+
+-- the blocks that were kept, with one more
+pub HasSlot-more : (l : Layout) (g : List Block) (commit : Block) (k : ℕ) (slot : List ℕ) (block : Block) → 64 * k + 64 ≤ length slot → length block.0 ≡ 64
+    → block ≡ block_at g (l.slot_place commit + k) → HasSlot l g commit k slot → HasSlot l g commit (k + 1) (written slot (64 * k) block.0)
+HasSlot-more l g commit k slot block room size is h = record {
+  each = λ m below. elim (cases_eq m k) as (λ _. block_in (written slot (64 * k) block.0) m ≡ block_at g (l.slot_place commit + m)) [
+    | inl e ↦
+        subst (λ (i : ℕ). block_in (written slot (64 * k) block.0) i ≡ block_at g (l.slot_place commit + i)) (sym e)
+        (ap (λ (bytes : List ℕ). record { 0 = bytes }) (take_here slot block.0 (drop (64 * k + length block.0) slot) (64 * k) 64 (omega (arith, room)) size) ∙ is)
+    | inr ne ↦
+        ap (λ (bytes : List ℕ). record { 0 = bytes }) (take_below slot (block.0 ++ drop (64 * k + length block.0) slot) (64 * m) 64 (64 * k) (omega arith) (omega (arith, room)))
+        ∙ h.each m (omega arith)
+  ];
+}
+
+-- the first blocks of the room, where they are those of an image
+whole_blocks : (g : List Block) (slot : List ℕ) (room z first : ℕ) → length slot ≡ 64 * room → z ≤ room
+    → ((i : ℕ) → i < z → block_in slot i ≡ block_at g (first + i)) → take z (blocks_of slot) ≡ map (block_at g) (range_with_len first z)
+whole_blocks g slot room z first size most each =
+    let count : length slot / 64 ≡ room = omega (arith, size) in
+    let blocks : length (blocks_of slot) ≡ room
+    = length-map (range_with_len 0 (length slot / 64)) (block_in slot) ∙ length-range_with_len 0 (length slot / 64) ∙ count in
+    let size_a : length (take z (blocks_of slot)) ≡ z = length-take z (blocks_of slot) ∙ omega (arith, blocks, most) in
+    let size_b : length (map (block_at g) (range_with_len first z)) ≡ z
+    = length-map (range_with_len first z) (block_at g) ∙ length-range_with_len first z in
+    ext_get_or zero_block (take z (blocks_of slot)) (map (block_at g) (range_with_len first z)) (size_a ∙ sym size_b)
+    (λ i below.
+    let inside : i < z = omega (arith, below, size_a) in
+    get_or-take z (blocks_of slot) i zero_block inside
+    ∙ get_or-map-range_with_len (block_in slot) 0 (length slot / 64) i i zero_block (omega (arith, inside, count, most)) (omega arith)
+    ∙ each i inside
+    ∙ sym (get_or-map-range_with_len (block_at g) first z i (first + i) zero_block inside refl))
+
+-- all of them are the slot
+pub slot_is_whole : {C : Type 0} (F : FillingOf C) (g : List Block) (b : Booting) (k : ℕ) → HasCommit g b.commit → length b.slot ≡ 64 * F.most_slot b.p
+    → (layout_in F b).slot_blocks b.commit ≤ F.most_slot b.p → k ≡ (layout_in F b).slot_blocks b.commit → HasSlot (layout_in F b) g b.commit k b.slot
+    → slot_read F b ≡ slot_in (layout_in F b) g
+slot_is_whole F g b k commit room most all h =
+    let l : Layout = layout_in F b in
+    whole_blocks g b.slot (F.most_slot b.p) (l.slot_blocks b.commit) (l.slot_place b.commit) room most (λ i inside. h.each i (omega (arith, inside, all)))
+    ∙ ap (λ (x : Block). map (block_at g) (range_with_len (l.slot_place x) (l.slot_blocks x))) (sym commit.is)

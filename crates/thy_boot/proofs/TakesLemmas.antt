@@ -1,0 +1,208 @@
+-- A step that was taken, put together of what its calls left.
+use Rattle.std.proofs.Common.{◌≡◌, ℕ, ◌+◌, ◌*◌, ◌<◌, ◌≤◌, nat_lt, Bool, true, false, if◌then◌else◌, length, slice_index_or, Option, Some, None, Result, Ok, Err, OnOk, OnErr, refl, sym, ◌∙◌, ap, subst, arith}
+use Rattle.std.specs.Option.{option_or}
+use Rattle.std.proofs.lemmas.Bool.{ltb-true}
+use Rattle.std.proofs.lemmas.List.Elements.{Contains-get_or}
+use Rattle.thy_base.specs.declared.config.Parameters.{Parameters}
+use Rattle.thy_base.specs.declared.nvm.NvmError.{NvmError}
+use Rattle.thy_base.specs.Device.{Device, newest}
+use Rattle.thy_base.proofs.WrittenLemmas.{length-written}
+use Rattle.thy_isa.specs.Step.{State}
+use Rattle.thy_record.specs.declared.bad_image.BadImage.{BadImage}
+use Rattle.thy_record.specs.Commit.{is_zero}
+use Rattle.thy_view.specs.Action.{after, FailsTo}
+use Rattle.thy_boot.specs.declared.stage.Stage.{Stage}
+use Rattle.thy_boot.specs.declared.stage.Stage.TheVariants.{Reads, Loads, Over}
+use Rattle.thy_boot.specs.declared.stage.ReadStage.{ReadStage}
+use Rattle.thy_boot.specs.declared.stage.ReadStage.TheVariants.{Unread, Header, Slot, Fills, Refusing}
+use Rattle.thy_boot.specs.declared.stage.Issue.{Issue}
+use Rattle.thy_boot.specs.declared.stage.Issue.TheVariants.{Home, Slot as SlotBlock, Header as HeaderBlock, Settle, Commit, Confirm}
+use Rattle.thy_boot.specs.Boot.{Booting, IsBoot, IsThere, layout_in, slot_read, at_stage, refusing_or, after_commit, after_header, after_slot, filling_or, after_fill}
+use Rattle.thy_boot.specs.Filling.{FillingOf, First, IsFilling, layout_at}
+use Rattle.thy_boot.specs.Loads.{Takes, after_issue, issue_action}
+use Rattle.thy_boot.specs.Reads.{read_action, read_on, slot_kept, FillsOn, IsBlock}
+use Rattle.thy_boot.specs.Recovers.{HasRead}
+use Rattle.thy_boot.specs.Steps.{ReadsOn, StepsAt, action_at, TakesStep}
+use Rattle.thy_boot.proofs.NearerLemmas.{nearer_commit, nearer_header, nearer_slot, nearer_fill}
+use Rattle.thy_boot.proofs.ReadLemmas.{commit-found, header-found, slot-found, fill-found}
+
+module _ {C : Type 0} (F : FillingOf C) (laws : IsFilling F) where
+  -- what is read next is there
+  next_there : (b : Booting) (from : ℕ) → IsThere F b (filling_or (F.next_fill b.p b.commit (slot_read F b) from))
+  next_there b from = by_next (F.next_fill b.p b.commit (slot_read F b) from) refl where
+    by_next : (o : Option ℕ) → F.next_fill b.p b.commit (slot_read F b) from ≡ o → IsThere F b (filling_or o)
+    by_next None e = tt
+    by_next (Some k) e = let above = laws.above b.p b.commit (slot_read F b) from k e in above.1
+
+  slot_there : (b : Booting) → IsThere F b (after_slot F b)
+  slot_there b = by_fault ((layout_in F b).slot_bad b.commit (slot_read F b)) where
+    by_fault : (o : Option BadImage) → IsThere F b (refusing_or o (filling_or (F.next_fill b.p b.commit (slot_read F b) 0)))
+    by_fault None = next_there b 0
+    by_fault (Some bad) = tt
+
+  same_there : (q : Stage) (b d : Booting) → d.p ≡ b.p → d.commit ≡ b.commit → IsThere F b q → IsThere F d q
+  same_there (Reads Unread) b d same commit h = tt
+  same_there (Reads Header) b d same commit h = tt
+  same_there (Reads (Slot k)) b d same commit h =
+      subst (λ (x : ℕ). k < x) (ap (λ p. (layout_in F (record b { p = p })).slot_blocks b.commit) (sym same) ∙ ap (λ x. (layout_in F d).slot_blocks x) (sym commit)) h
+  same_there (Reads (Fills k)) b d same commit h = subst (λ (x : ℕ). k < x) (ap F.most_fills (sym same)) h
+  same_there (Reads (Refusing bad)) b d same commit h = tt
+  same_there (Loads issue) b d same commit h = tt
+  same_there (Over end) b d same commit h = tt
+
+  inside_of : (b : Booting) (k : ℕ) → b.stage ≡ Reads (Slot k) → IsBoot F b → k < (layout_in F b).slot_blocks b.commit
+  inside_of b k is boot = subst (λ (s : Stage). IsThere F b s) is boot.there
+
+  fits_read : (r : ReadStage) (n : Device) (b : Booting) → b.stage ≡ Reads r → IsBoot F b → IsBlock F r n b → IsBoot F (read_on F r n b)
+  fits_read Unread n b is boot block = record { room = boot.room; there = by_zero (is_zero (newest n 1)) } where
+    by_zero : (z : Bool) → IsThere F (after_commit (newest n 1) b) (if z then Loads (Home 0) else Reads Header)
+    by_zero true = tt
+    by_zero false = tt
+  fits_read Header n b is boot block =
+      record { room = boot.room; there = by_fault (option_or ((layout_in F b).header_bad (newest n 0) true) ((layout_in F b).commit_bad (newest n 0) b.commit)) }
+    where
+      by_fault : (o : Option BadImage) → IsThere F (at_stage (after_header (layout_in F b) (newest n 0) b) b) (refusing_or o (Reads (Slot 0)))
+      by_fault None = laws.some_slot b.p b.commit
+      by_fault (Some bad) = tt
+  fits_read (Slot k) n b is boot block = record { room = size; there = by_more (nat_lt (k + 1) ((layout_in F b).slot_blocks b.commit)) refl } where
+    w : Booting
+    w = slot_kept F k n b
+
+    size : length (slot_kept F k n b).slot ≡ 64 * F.most_slot b.p
+    size =
+        let inside = inside_of b k is boot in
+        let most : (layout_in F b).slot_blocks b.commit ≤ F.most_slot b.p = laws.most_room b.p b.commit in
+        length-written b.slot (64 * k) (newest n ((layout_in F b).slot_place b.commit + k)).0 (omega (arith, boot.room, inside, most, block)) ∙ boot.room
+
+    by_more : (z : Bool) → nat_lt (k + 1) ((layout_in F b).slot_blocks b.commit) ≡ z
+        → IsThere F (read_on F (Slot k) n b) (if z then Reads (Slot (k + 1)) else after_slot F (slot_kept F k n b))
+    by_more true e = ltb-true (k + 1) ((layout_in F b).slot_blocks b.commit) e
+    by_more false e = same_there (after_slot F (slot_kept F k n b)) (slot_kept F k n b) (read_on F (Slot k) n b) refl refl (slot_there (slot_kept F k n b))
+  fits_read (Fills k) n b is boot block = record {
+    room = boot.room;
+    there = same_there (after_fill F k b) b (at_stage (after_fill F k b) b) refl refl (next_there b (k + 1));
+  }
+  fits_read (Refusing bad) n b is boot block = boot
+
+  -- a block was read
+  reads_on : (r : ReadStage) (n : Device) (b : Booting) (c e : C) → b.stage ≡ Reads r → IsBoot F b → HasRead F n b c → IsBlock F r n b → FillsOn F r n b c e
+      → ReadsOn F r n b c n (read_on F r n b) e
+  reads_on Unread n b c e is boot h block f = record {
+    same_p = refl;
+    device = refl;
+    boot = refl;
+    control = f;
+    read = subst (λ (x : C). HasRead F n (after_commit (newest n 1) b) x) (sym f) (commit-found F n b c is h);
+    nearer = nearer_commit F laws b (newest n 1);
+  }
+  reads_on Header n b c e is boot h block f = record {
+    same_p = refl;
+    device = refl;
+    boot = refl;
+    control = f;
+    read = subst (λ (x : C). HasRead F n (at_stage (after_header (layout_in F b) (newest n 0) b) b) x) (sym f) (header-found F n b c is h);
+    nearer = nearer_header F laws b (newest n 0);
+  }
+  reads_on (Slot k) n b c e is boot h block f = record {
+    same_p = refl;
+    device = refl;
+    boot = refl;
+    control = f;
+    read = slot-found F n b c e k laws boot is h block f;
+    nearer = nearer_slot F laws (slot_kept F k n b) k (inside_of b k is boot);
+  }
+  reads_on (Fills k) n b c e is boot h block f = record {
+    same_p = refl;
+    device = refl;
+    boot = refl;
+    control = f;
+    read = subst (λ (x : C). HasRead F n (at_stage (after_fill F k b) b) x) (sym f) (fill-found F n b c k laws is h);
+    nearer = nearer_fill F laws b k (subst (λ (s : Stage). IsThere F b s) is boot.there);
+  }
+  reads_on (Refusing bad) n b c e is boot h block f = record {
+    same_p = refl;
+    device = refl;
+    boot = refl;
+    control = f;
+    read = subst (λ (x : C). HasRead F n b x) (sym f) h;
+    nearer = is;
+  }
+
+  -- a read leaves the device as it was
+  after_read : (r : ReadStage) (n : Device) (b : Booting) (c : C) → after (read_action F b c r) n ≡ n
+  after_read Unread n b c = refl
+  after_read Header n b c = refl
+  after_read (Slot k) n b c = refl
+  after_read (Fills k) n b c = refl
+  after_read (Refusing bad) n b c = refl
+
+  pub takes_read : {T : Type 0} (result : Result T NvmError) (s : State) (r : ReadStage) (n : Device) (b : Booting) (c : C) (m : Device) (d : Booting) (e : C)
+      → b.stage ≡ Reads r → IsBoot F b → HasRead F n b c
+      → OnOk result (d ≡ read_on F r n b) → OnOk result (FillsOn F r n b c e) → OnOk result (IsBlock F r n b) → OnErr result (d ≡ b) → OnErr result (e ≡ c)
+      → Takes (read_action F b c r) result n m → TakesStep F result s n b c m d e
+  takes_read (Ok x) s r n b c m d e is boot h goes fills block same_boot same_control t = record {
+    steps = subst (λ (q : Stage). StepsAt F q s n b c m d e) (sym is)
+        (subst (λ (y : Device). ReadsOn F r n b c y d e) (sym (t.ok ∙ after_read r n b c))
+        (subst (λ (y : Booting). ReadsOn F r n b c n y e) (sym goes) (reads_on r n b c e is boot h block fills)));
+    fits = subst (λ (y : Booting). IsBoot F y) (sym goes) (fits_read r n b is boot block);
+    boot = tt;
+    control = tt;
+    err = tt;
+    frame = t.frame;
+    cause = t.cause;
+  }
+  takes_read (Err x) s r n b c m d e is boot h goes fills block same_boot same_control t = record {
+    steps = tt;
+    fits = subst (λ (y : Booting). IsBoot F y) (sym same_boot) boot;
+    boot = same_boot;
+    control = same_control;
+    err = subst (λ (q : Stage). FailsTo (action_at F q s b c) n m) (sym is) t.err;
+    frame = t.frame;
+    cause = t.cause;
+  }
+
+  -- ---- an action of loading
+
+  -- a block of a start's memory goes into the image
+  pub memory_place : (p : Parameters) (s : State) → F.starts p s → (b : ℕ) → b < length (F.first p s).parts.memory
+      → slice_index_or (F.first p s).parts.memory b 0 < (layout_at F p).image_blocks
+  memory_place p s starts b inside =
+      (laws.first_parts p s starts).placed.memory_inside (slice_index_or (F.first p s).parts.memory b 0)
+      (Contains-get_or (F.first p s).parts.memory b 0 inside)
+
+  load_there : (f : First) (issue : Issue) (b : Booting) → IsThere F b (after_issue f issue)
+  load_there f (Home k) b = by_more (nat_lt (k + 1) (length f.parts.memory)) where
+    by_more : (t : Bool) → IsThere F b (if t then Loads (Home (k + 1)) else Loads (SlotBlock 0))
+    by_more true = tt
+    by_more false = tt
+  load_there f (SlotBlock k) b = by_more (nat_lt (k + 1) f.parts.slot_blocks) where
+    by_more : (t : Bool) → IsThere F b (if t then Loads (SlotBlock (k + 1)) else Loads HeaderBlock)
+    by_more true = tt
+    by_more false = tt
+  load_there f HeaderBlock b = tt
+  load_there f Settle b = tt
+  load_there f Commit b = tt
+  load_there f Confirm b = tt
+
+  pub takes_load : {T : Type 0} (result : Result T NvmError) (s : State) (issue : Issue) (n : Device) (b : Booting) (c : C) (m : Device) (d : Booting)
+      → b.stage ≡ Loads issue → IsBoot F b → OnOk result (d ≡ at_stage (after_issue (F.first b.p s) issue) b) → OnErr result (d ≡ b)
+      → Takes (issue_action (F.first b.p s) issue) result n m → TakesStep F result s n b c m d c
+  takes_load (Ok x) s issue n b c m d is boot goes same_boot t = record {
+    steps = subst (λ (q : Stage). StepsAt F q s n b c m d c) (sym is) (record { device = t.ok; boot = goes; control = refl });
+    fits = subst (λ (y : Booting). IsBoot F y) (sym goes)
+        (record { room = boot.room; there = load_there (F.first b.p s) issue (at_stage (after_issue (F.first b.p s) issue) b) });
+    boot = tt;
+    control = tt;
+    err = tt;
+    frame = t.frame;
+    cause = t.cause;
+  }
+  takes_load (Err x) s issue n b c m d is boot goes same_boot t = record {
+    steps = tt;
+    fits = subst (λ (y : Booting). IsBoot F y) (sym same_boot) boot;
+    boot = same_boot;
+    control = refl;
+    err = subst (λ (q : Stage). FailsTo (action_at F q s b c) n m) (sym is) t.err;
+    frame = t.frame;
+    cause = t.cause;
+  }

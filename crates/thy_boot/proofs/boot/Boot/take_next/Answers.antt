@@ -1,0 +1,20 @@
+use Rattle.std.proofs.Common.{◌≡◌, sym, ◌∙◌, subst}
+use Rattle.thy_base.specs.Device.{Device}
+use Rattle.thy_isa.specs.Step.{State, state_of}
+use Rattle.thy_boot.specs.declared.stage.Stage.{Stage}
+use Rattle.thy_boot.specs.declared.stage.Stage.TheVariants.{Reads}
+use Rattle.thy_boot.specs.Boot.{Booting}
+use Rattle.thy_boot.specs.Steps.{CanStepAt}
+use Rattle.thy_boot.proofs.TakesLemmas.{takes_read}
+use Rattle.thy_boot.proofs.boot.Boot.take_next.Goals as goal
+
+pub returns-in-Reads : goal.returns-in-Reads
+returns-in-Reads g c =
+    let n : Device = g.N.Nvm.device c.args.nvm.now in
+    let b : Booting = c.args.self.now in
+    let s : State = state_of c.args.start.now.state in
+    let is : b.stage ≡ Reads c.in-Reads.at = sym c.stage.ensures ∙ c.in-Reads.is in
+    takes_read g.F.Fills.filling g.met.F.Fills.lawful c.read_next.result s c.in-Reads.at n b c.args.control.now
+    (g.N.Nvm.device c.read_next.new.nvm) c.read_next.new.self c.read_next.new.control is c.requires.fits
+    (subst (λ (q : Stage). CanStepAt g.F.Fills.filling q s n b c.args.control.now) is c.requires.can)
+    c.read_next.ensures.goes c.read_next.ensures.fills c.read_next.ensures.block c.read_next.ensures.boot c.read_next.ensures.control c.read_next.ensures.nvm

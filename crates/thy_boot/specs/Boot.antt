@@ -1,0 +1,125 @@
+-- Part of the claim.
+-- The boot of any layout: how far it is, and what each block that it reads makes of it.
+use Rattle.std.specs.Prelude.{◌≡◌, ℕ, ◌+◌, ◌*◌, ◌<◌, nat_lt, Bool, true, false, if◌then◌else◌, List, length, take, replicate, Option, Some, None}
+use Rattle.std.specs.Option.{option_or}
+use Rattle.thy_base.specs.declared.block.Block.{Block}
+use Rattle.thy_base.specs.declared.config.Parameters.{Parameters}
+use Rattle.thy_base.specs.Bytes.{written}
+use Rattle.thy_base.specs.Device.{zero_block}
+use Rattle.thy_record.specs.declared.bad_image.BadImage.{BadImage}
+use Rattle.thy_record.specs.Commit.{is_zero, epoch_of}
+use Rattle.thy_record.specs.Files.{blocks_of}
+use Rattle.thy_protocol.specs.Layout.{Layout}
+use Rattle.thy_boot.specs.declared.stage.Stage.{Stage}
+use Rattle.thy_boot.specs.declared.stage.Stage.TheVariants.{Reads, Loads, Over}
+use Rattle.thy_boot.specs.declared.stage.ReadStage.TheVariants.{Header, Slot, Fills, Refusing, Unread}
+use Rattle.thy_boot.specs.declared.stage.End.TheVariants.{Restored, Loaded}
+use Rattle.thy_boot.specs.declared.stage.Issue.TheVariants.{Home}
+use Rattle.thy_boot.specs.declared.stage.BootStep.{BootStep}
+use Rattle.thy_boot.specs.declared.stage.BootStep.TheVariants.{Reading, Loading as IsLoading, Loaded as HasLoaded, Restarted, Refused}
+use Rattle.thy_boot.specs.Filling.{FillingOf, ListsOn, layout_at}
+
+-- how far it is, with the commit block, and the bytes of the slot, as far as they were read
+pub record Booting : Type 0 where
+  pub p : Parameters
+  pub commit : Block
+  pub slot : List ℕ
+  pub stage : Stage
+
+-- a new one has read nothing, and has room for so many blocks of a slot
+abbrev pub empty_boot : ℕ → Parameters → Booting
+empty_boot room p = record { p = p; commit = zero_block; slot = replicate (64 * room) 0; stage = Reads Unread }
+
+abbrev pub new_boot : {C : Type 0} → FillingOf C → Parameters → Booting
+new_boot F p = empty_boot (F.most_slot p) p
+
+-- its layout
+abbrev pub layout_in : {C : Type 0} → FillingOf C → Booting → Layout
+layout_in F b = layout_at F b.p
+
+-- the blocks of a commit block's slot, in the room for it: that slot may be shorter
+abbrev pub slot_bytes : {C : Type 0} → FillingOf C → Parameters → Block → List ℕ → List Block
+slot_bytes F p commit bytes = take ((layout_at F p).slot_blocks commit) (blocks_of bytes)
+
+abbrev pub slot_read : {C : Type 0} → FillingOf C → Booting → List Block
+slot_read F b = slot_bytes F b.p b.commit b.slot
+
+-- what is read next is there
+abbrev pub IsThere : {C : Type 0} → FillingOf C → Booting → Stage → Type 0
+IsThere F b (Reads (Slot next)) = next < (layout_in F b).slot_blocks b.commit
+IsThere F b (Reads (Fills k)) = k < F.most_fills b.p
+IsThere F b _ = Unit {0}
+
+pub record IsBoot {C : Type 0} (F : FillingOf C) (b : Booting) : Type 0 where
+  pub room : length b.slot ≡ 64 * F.most_slot b.p
+  pub there : IsThere F b b.stage
+
+-- what a step answers that left the boot so far
+abbrev pub answer_at : {C : Type 0} → FillingOf C → Stage → Booting → BootStep
+answer_at F (Reads (Refusing bad)) b = Refused bad
+answer_at F (Reads r) b = Reading
+answer_at F (Loads issue) b = IsLoading
+answer_at F (Over Restored) b = Restarted (F.cpu_in (slot_read F b)) (epoch_of b.commit)
+answer_at F (Over Loaded) b = HasLoaded
+
+abbrev pub answer_of : {C : Type 0} → FillingOf C → Booting → BootStep
+answer_of F b = answer_at F b.stage b
+
+-- ---- what a block makes of the stage
+
+-- a refusal where there is a fault, else the next stage
+abbrev pub refusing_or : Option BadImage → Stage → Stage
+refusing_or None next = next
+refusing_or (Some bad) next = Reads (Refusing bad)
+
+-- the commit block; where it is zero, the program is loaded from its first block on
+abbrev pub stage_of_commit : Block → Stage
+stage_of_commit block = if is_zero block then Loads (Home 0) else Reads Header
+
+abbrev pub after_commit : Block → Booting → Booting
+after_commit block b = record b { commit = block; stage = stage_of_commit block }
+
+-- the header, behind the commit block
+abbrev pub after_header : Layout → Block → Booting → Stage
+after_header l block b = refusing_or (option_or (l.header_bad block true) (l.commit_bad block b.commit)) (Reads (Slot 0))
+
+-- the next position is filled; if there is none, all is restored
+abbrev pub filling_or : Option ℕ → Stage
+filling_or None = Over Restored
+filling_or (Some k) = Reads (Fills k)
+
+-- the whole slot
+abbrev pub after_slot : {C : Type 0} → FillingOf C → Booting → Stage
+after_slot F b =
+    refusing_or ((layout_in F b).slot_bad b.commit (slot_read F b)) (filling_or (F.next_fill b.p b.commit (slot_read F b) 0))
+
+-- the boot at another stage, and with a block of the slot
+abbrev pub at_stage : Stage → Booting → Booting
+at_stage stage b = record b { stage = stage }
+
+abbrev pub with_slot_block : ℕ → Block → Booting → Booting
+with_slot_block k block b = record b { slot = written b.slot (64 * k) block.0 }
+
+-- the boot after block `next` of the slot was kept, and the last of them was judged
+abbrev pub gone_on : {C : Type 0} → FillingOf C → ℕ → Booting → Booting
+gone_on F next b =
+    record b { stage = if nat_lt (next + 1) ((layout_in F b).slot_blocks b.commit) then Reads (Slot (next + 1)) else after_slot F b }
+
+-- a position
+abbrev pub after_fill : {C : Type 0} → FillingOf C → ℕ → Booting → Stage
+after_fill F k b = filling_or (F.next_fill b.p b.commit (slot_read F b) (k + 1))
+
+-- where the slot has no fault the controller lists it, else it is as before
+abbrev pub IsJudged : {C : Type 0} → FillingOf C → Option BadImage → Booting → C → C → Type 0
+IsJudged F None b old new = ListsOn F b.commit (slot_read F b) old new
+IsJudged F (Some bad) b old new = new ≡ old
+
+-- that is so with the last block
+abbrev pub JudgesUnless : {C : Type 0} → FillingOf C → Bool → Option BadImage → Booting → C → C → Type 0
+JudgesUnless F true fault b old new = new ≡ old
+JudgesUnless F false fault b old new = IsJudged F fault b old new
+
+abbrev pub GoesOn : {C : Type 0} → FillingOf C → ℕ → Booting → C → C → Type 0
+GoesOn F next b old new =
+    JudgesUnless F (nat_lt (next + 1) ((layout_in F b).slot_blocks b.commit))
+    ((layout_in F b).slot_bad b.commit (slot_read F b)) b old new

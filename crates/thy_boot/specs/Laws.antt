@@ -1,0 +1,179 @@
+-- What holds of every boot of a run, whatever the layout and whatever is filled.
+use Rattle.std.specs.Prelude.{◌≡◌, ◌≢◌, ◌+◌, ◌≤◌, false, [], length, Option, Some, None}
+use Rattle.thy_base.specs.declared.config.Parameters.{Parameters}
+use Rattle.thy_base.specs.declared.mark.Mark.{Mark}
+use Rattle.thy_base.specs.Device.{Device, drained, IsFramed}
+use Rattle.thy_crash.specs.Saved.{Kept, InDoubt}
+use Rattle.thy_isa.specs.Step.{State}
+use Rattle.thy_record.specs.declared.bad_image.BadImage.{BadImage}
+use Rattle.thy_record.specs.Commit.{epoch_of}
+use Rattle.thy_view.specs.Action.{Asks, Acts, doubt_after_fault}
+use Rattle.thy_view.specs.Booting.{view_of_image}
+use Rattle.thy_view.specs.CoreStep.{CoreStep}
+use Rattle.thy_view.specs.Dram.{ActsOnDram}
+use Rattle.thy_view.specs.Origin.{Origin, IsOrigin, at}
+use Rattle.thy_view.specs.Safe.{Safe}
+use Rattle.thy_view.specs.Views.{doubt_of}
+use Rattle.thy_protocol.specs.Keeps.{Keeps, Tells}
+use Rattle.thy_protocol.specs.Layout.{decode_by, reading}
+use Rattle.thy_protocol.specs.Moves.{Standing, standing, Move}
+use Rattle.thy_boot.specs.declared.stage.Stage.{Stage}
+use Rattle.thy_boot.specs.declared.stage.Stage.TheVariants.{Reads, Loads, Over}
+use Rattle.thy_boot.specs.declared.stage.ReadStage.{ReadStage}
+use Rattle.thy_boot.specs.declared.stage.ReadStage.TheVariants.{Refusing}
+use Rattle.thy_boot.specs.declared.stage.End.TheVariants.{Restored}
+use Rattle.thy_boot.specs.declared.stage.Issue.TheVariants.{Commit, Confirm}
+use Rattle.thy_boot.specs.declared.stage.BootStep.{BootStep}
+use Rattle.thy_boot.specs.declared.stage.BootStep.TheVariants.{Reading, Loading as IsLoading, Loaded as HasLoaded}
+use Rattle.thy_boot.specs.Boot.{Booting, new_boot, layout_in, slot_read, answer_of}
+use Rattle.thy_boot.specs.Filling.{FillingOf}
+use Rattle.thy_boot.specs.Left.{boot_left}
+use Rattle.thy_boot.specs.Recovers.{HasRead, IsRestored}
+use Rattle.thy_boot.specs.Shows.{seen_at, did_of}
+use Rattle.thy_boot.specs.Sound.{BootImages, start_mark, layout_for, first_of, standing_in_boot, images_after, IsSound}
+use Rattle.thy_boot.specs.Steps.{CanStep, Steps, action_of, Fails}
+
+-- a new boot with a controller that lists nothing has read nothing of the image that stands
+abbrev pub NewHasRead : {C : Type 0} → FillingOf C → Type 0
+NewHasRead {C} F =
+    (p : Parameters) (n : Device) (c : C)
+    → F.fresh c → F.p c ≡ p → length n.image ≡ (layout_in F (new_boot F p)).image_blocks → n.queue ≡ [] → HasRead F n (new_boot F p) c
+
+-- over a device with nothing queued, whose image means the mark that is kept, it is one of a run
+abbrev pub NewIsSound : {C : Type 0} → FillingOf C → Type 0
+NewIsSound {C} F =
+    (o : Origin) (g : BootImages) (n : Device) (c : C)
+    → F.fresh c → F.p c ≡ o.geometry → g.before ≡ n.image → length n.image ≡ (layout_for F o).image_blocks → n.queue ≡ []
+    → Tells o (layout_for F o) n.image g.kept → IsSound F o g n (new_boot F o.geometry) c
+
+-- the boot is not over
+abbrev pub IsGoing : Stage → Type 0
+IsGoing (Reads r) = Unit {0}
+IsGoing (Loads issue) = Unit {0}
+IsGoing (Over end) = ⊥
+
+-- it may take a step then
+abbrev pub SoundMayStep : {C : Type 0} → FillingOf C → Type 0
+SoundMayStep {C} F =
+    (o : Origin) (g : BootImages) (n : Device) (b : Booting) (c : C)
+    → IsOrigin o → IsSound F o g n b c → IsGoing b.stage → n.down ≡ false → CanStep F o.start n b c
+
+-- whatever a cut leaves then is the mark that is done, whole, or, once loading's commit block was written, the start's
+abbrev pub SoundIsSafe : {C : Type 0} → FillingOf C → Type 0
+SoundIsSafe {C} F =
+    (o : Origin) (g : BootImages) (n : Device) (b : Booting) (c : C)
+    → IsSound F o g n b c → Safe (reading F.layouts) o (seen_at o g.kept b.stage).done (doubt_of (seen_at o g.kept b.stage)) n
+
+-- whoever has taken a step may take the next, until the boot is over
+abbrev pub MayGoOn : {C : Type 0} → FillingOf C → Type 0
+MayGoOn {C} F =
+    (s : State) (n : Device) (b : Booting) (c : C) (m : Device) (d : Booting) (e : C)
+    → F.starts b.p s → n.down ≡ false → CanStep F s n b c → Steps F s n b c m d e → IsGoing d.stage
+    → (d.p ≡ b.p) × (m.down ≡ false) × CanStep F s m d e
+
+-- a step is a move of the run's checkpoints
+pub record IsMoved {C : Type 0} (F : FillingOf C) (o : Origin) (g : BootImages) (n : Device) (b : Booting) (m : Device)
+    (d : Booting) (e : C) : Type 0 where
+  pub move : Move o (layout_for F o) (standing_in_boot o b.stage g n)
+      (standing_in_boot o d.stage (images_after (first_of F o) b.stage n g) m)
+  pub sound : IsSound F o (images_after (first_of F o) b.stage n g) m d e
+  pub shows : CoreStep o (seen_at o g.kept b.stage) (did_of (answer_of F d)) (seen_at o g.kept d.stage)
+
+-- every step of a run's boot is one, and the boot is one of the run afterwards
+abbrev pub StepsMove : {C : Type 0} → FillingOf C → Type 0
+StepsMove {C} F =
+    (o : Origin) (g : BootImages) (n : Device) (b : Booting) (c : C) (m : Device) (d : Booting) (e : C)
+    → IsOrigin o → IsSound F o g n b c → Steps F o.start n b c m d e → IsMoved F o g n b m d e
+
+-- and so is a step that failed: the write of the commit block leaves the two in doubt, and every other one what was. So a cut
+-- leaves the mark that is done, whole, or the start's, if its commit block was written before or that was its write
+abbrev pub standing_after_fault : Origin → Stage → BootImages → Device → Standing
+standing_after_fault o (Loads Commit) g n = standing n (InDoubt g.before g.next) None (Some (start_mark o))
+standing_after_fault o stage g n = standing_in_boot o stage g n
+
+pub record IsFailed {C : Type 0} (F : FillingOf C) (o : Origin) (g : BootImages) (n : Device) (b : Booting) (c : C) (m : Device) : Type 0 where
+  pub move : Move o (layout_for F o) (standing_in_boot o b.stage g n) (standing_after_fault o b.stage g m)
+  pub safe : Safe (reading F.layouts) o (seen_at o g.kept b.stage).done
+      (doubt_after_fault (action_of F o.start b c) (seen_at o g.kept b.stage)) m
+
+abbrev pub FailuresMove : {C : Type 0} → FillingOf C → Type 0
+FailuresMove {C} F =
+    (o : Origin) (g : BootImages) (n : Device) (b : Booting) (c : C) (m : Device)
+    → IsOrigin o → IsSound F o g n b c → IsGoing b.stage → Fails F o.start b c n m → IsFramed n m → IsFailed F o g n b c m
+
+-- ---- where it ends
+
+-- a restart has the kept mark's state, and its checkpoint is kept
+abbrev pub RestoredIsKept : {C : Type 0} → FillingOf C → Type 0
+RestoredIsKept {C} F =
+    (o : Origin) (g : BootImages) (n : Device) (b : Booting) (c : C)
+    → IsSound F o g n b c → b.stage ≡ Over Restored
+    → (m : Mark) × (g.kept ≡ Some m) × (m.epoch ≡ epoch_of b.commit) × Keeps o (layout_for F o) n (Kept g.before) (Some m) None
+    × ((layout_in F b).state_from (slot_read F b) (F.loads c n) ≡ at o m.count) × IsRestored F n b c
+
+-- the boot of a run is never refused
+abbrev pub NeverRefused : {C : Type 0} → FillingOf C → Type 0
+NeverRefused {C} F =
+    (o : Origin) (g : BootImages) (n : Device) (b : Booting) (c : C) (bad : BadImage)
+    → IsSound F o g n b c → b.stage ≢ Reads (Refusing bad)
+
+-- ---- drains
+
+abbrev pub DrainsKeepBoot : {C : Type 0} → FillingOf C → Type 0
+DrainsKeepBoot {C} F =
+    (o : Origin) (g : BootImages) (n : Device) (b : Booting) (c : C)
+    → IsSound F o g n b c → IsSound F o g (drained n) b c × IsSound F o g n b (F.drained c)
+
+-- a drain of the NVM is a move
+abbrev pub DrainsMove : {C : Type 0} → FillingOf C → Type 0
+DrainsMove F =
+    (o : Origin) (g : BootImages) (n : Device) (b : Booting)
+    → Move o (layout_for F o) (standing_in_boot o b.stage g n) (standing_in_boot o b.stage g (drained n))
+
+-- ---- what is seen
+
+-- a boot that reads shows what the image means
+abbrev pub ShowsImage : {C : Type 0} → FillingOf C → Type 0
+ShowsImage {C} F =
+    (o : Origin) (g : BootImages) (n : Device) (b : Booting) (c : C) (r : ReadStage)
+    → IsSound F o g n b c → b.stage ≡ Reads r
+    → seen_at o g.kept b.stage ≡ view_of_image o.start.count (decode_by (layout_for F o) n.image)
+
+-- ---- actions
+
+-- a step acts once on the NVM, as it is asked to
+abbrev pub StepsAct : {C : Type 0} → FillingOf C → Type 0
+StepsAct {C} F =
+    (s : State) (n : Device) (b : Booting) (c : C) (m : Device) (d : Booting) (e : C)
+    → Steps F s n b c m d e → Acts (did_of (answer_of F d)) n m
+
+-- where a checkpoint was found, a step leaves the NVM as it was
+abbrev pub FoundStays : {C : Type 0} → FillingOf C → Type 0
+FoundStays {C} F =
+    (o : Origin) (kept : Option Mark) (mark : Mark) (n : Device) (b : Booting) (c : C) (m : Device) (d : Booting) (e : C)
+    → (seen_at o kept b.stage).done ≡ Some mark → Steps F o.start n b c m d e → m ≡ n
+
+-- what a step that failed was to answer: that the program is loaded, where it was loading's last, else that the boot goes on
+abbrev pub failed_answer : Stage → BootStep
+failed_answer (Loads Confirm) = HasLoaded
+failed_answer (Loads issue) = IsLoading
+failed_answer stage = Reading
+
+-- it failed in its one action, which was asked for by that
+abbrev pub FailuresAct : {C : Type 0} → FillingOf C → Type 0
+FailuresAct {C} F =
+    (s : State) (b : Booting) (c : C) (n m : Device)
+    → Fails F s b c n m → Asks (did_of (failed_answer b.stage)) (action_of F s b c)
+
+-- the DRAM has one write more at most, and of the controller is left what listing and filling leave
+abbrev pub StepsFill : {C : Type 0} → FillingOf C → Type 0
+StepsFill {C} F =
+    (s : State) (n : Device) (b : Booting) (c : C) (m : Device) (d : Booting) (e : C)
+    → Steps F s n b c m d e → ActsOnDram n m (F.dram c) (F.dram e) × F.keeps c e
+
+-- an action lowers how many are left by one at least
+abbrev pub StepsComeNearer : {C : Type 0} → FillingOf C → Type 0
+StepsComeNearer {C} F =
+    (s : State) (n : Device) (b : Booting) (c : C) (m : Device) (d : Booting) (e : C)
+    → CanStep F s n b c → Steps F s n b c m d e → ((bad : BadImage) → b.stage ≢ Reads (Refusing bad))
+    → boot_left F d d.stage + 1 ≤ boot_left F b b.stage

@@ -1,0 +1,10 @@
+pub mod Filling
+pub mod Boot
+pub mod Loads
+pub mod Left
+pub mod Reads
+pub mod Recovers
+pub mod Sound
+pub mod Shows
+pub mod Steps
+pub mod Laws

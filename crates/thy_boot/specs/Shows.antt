@@ -1,0 +1,50 @@
+-- Part of the claim.
+-- What is seen of a boot.
+use Rattle.std.specs.Prelude.{◌+◌, true, false, Bool, Option, Some, None}
+use Rattle.thy_base.specs.declared.mark.Mark.{Mark}
+use Rattle.thy_base.specs.Marks.{mark}
+use Rattle.thy_view.specs.declared.did.Did.{Did}
+use Rattle.thy_view.specs.declared.did.Did.TheVariants.{Boot, Loaded as HasLoaded, Restarted as HasRestarted, Refused as HasRefused}
+use Rattle.thy_view.specs.declared.view.Phase.TheVariants.{Run}
+use Rattle.thy_view.specs.declared.view.View.{View}
+use Rattle.thy_view.specs.Booting.{boot_view, loading_view}
+use Rattle.thy_view.specs.CoreStep.{phase_at}
+use Rattle.thy_view.specs.Origin.{Origin}
+use Rattle.thy_protocol.specs.Keeps.{finding_view}
+use Rattle.thy_boot.specs.declared.stage.Stage.{Stage}
+use Rattle.thy_boot.specs.declared.stage.Stage.TheVariants.{Reads, Loads, Over}
+use Rattle.thy_boot.specs.declared.stage.End.TheVariants.{Restored, Loaded}
+use Rattle.thy_boot.specs.declared.stage.Issue.{Issue}
+use Rattle.thy_boot.specs.declared.stage.Issue.TheVariants.{Confirm}
+use Rattle.thy_boot.specs.declared.stage.BootStep.{BootStep}
+use Rattle.thy_boot.specs.declared.stage.BootStep.TheVariants.{Reading, Loading as IsLoading, Loaded as IsLoaded, Restarted, Refused}
+
+-- loading's commit block was written
+abbrev pub is_written : Issue → Bool
+is_written Confirm = true
+is_written issue = false
+
+-- the view behind a restart
+abbrev pub restored_view : Origin → Option Mark → View
+restored_view o None = boot_view None None
+restored_view o (Some m) =
+    record (boot_view (Some m) None) { phase = phase_at o m.count; epoch = m.epoch + 1; count = m.count }
+
+-- and behind loading
+abbrev pub loaded_view : Origin → View
+loaded_view o = record (boot_view (Some (mark 0 o.start.count)) None) { phase = Run; epoch = 1; count = o.start.count }
+
+-- by the stage, and by the mark that is kept
+abbrev pub seen_at : Origin → Option Mark → Stage → View
+seen_at o kept (Reads r) = finding_view o.start.count kept
+seen_at o kept (Loads issue) = record (loading_view o.start.count) { written = is_written issue }
+seen_at o kept (Over Restored) = restored_view o kept
+seen_at o kept (Over Loaded) = loaded_view o
+
+-- what a cycle did that was a step of the boot
+abbrev pub did_of : BootStep → Did
+did_of Reading = Boot
+did_of IsLoading = Boot
+did_of IsLoaded = HasLoaded
+did_of (Restarted cpu epoch) = HasRestarted epoch cpu.count
+did_of (Refused bad) = HasRefused bad

@@ -1,0 +1,75 @@
+-- What a step makes of boot, controller and NVM.
+use Rattle.std.specs.Prelude.{◌≡◌, Result, OnOk, OnErr}
+use Rattle.thy_base.specs.declared.nvm.NvmError.{NvmError}
+use Rattle.thy_base.specs.Device.{Device, IsFramed, CountsFault}
+use Rattle.thy_isa.specs.Step.{State}
+use Rattle.thy_view.specs.Action.{Action, Rest, after, FailsTo}
+use Rattle.thy_boot.specs.declared.stage.Stage.{Stage}
+use Rattle.thy_boot.specs.declared.stage.Stage.TheVariants.{Reads, Loads, Over}
+use Rattle.thy_boot.specs.declared.stage.ReadStage.{ReadStage}
+use Rattle.thy_boot.specs.declared.stage.Issue.{Issue}
+use Rattle.thy_boot.specs.Boot.{Booting, IsBoot, at_stage}
+use Rattle.thy_boot.specs.Filling.{FillingOf}
+use Rattle.thy_boot.specs.Loads.{CanLoad, after_issue, issue_action}
+use Rattle.thy_boot.specs.Reads.{read_action, read_on, FillsOn}
+use Rattle.thy_boot.specs.Recovers.{HasRead, IsNearer}
+
+-- a step may be taken: of reading, from what was read, or of loading
+abbrev pub CanStepAt : {C : Type 0} → FillingOf C → Stage → State → Device → Booting → C → Type 0
+CanStepAt F (Reads r) s n b c = HasRead F n b c
+CanStepAt F (Loads issue) s n b c = CanLoad F s issue n b
+CanStepAt F (Over end) s n b c = ⊥
+
+-- with this start
+abbrev pub CanStep : {C : Type 0} → FillingOf C → State → Device → Booting → C → Type 0
+CanStep F s n b c = CanStepAt F b.stage s n b c
+
+-- the NVM is as it was, and one block more was read, or the refusal comes again; what was read is what the image means
+pub record ReadsOn {C : Type 0} (F : FillingOf C) (r : ReadStage) (n : Device) (b : Booting) (c : C) (m : Device)
+    (d : Booting) (e : C) : Type 0 where
+  pub same_p : d.p ≡ b.p
+  pub device : m ≡ n
+  pub boot : d ≡ read_on F r n b
+  pub control : FillsOn F r n b c e
+  pub read : HasRead F m d e
+  pub nearer : IsNearer F b r d
+
+-- the action of loading was taken
+pub record LoadsOn {C : Type 0} (F : FillingOf C) (s : State) (issue : Issue) (n : Device) (b : Booting) (c : C) (m : Device)
+    (d : Booting) (e : C) : Type 0 where
+  pub device : m ≡ after (issue_action (F.first b.p s) issue) n
+  pub boot : d ≡ at_stage (after_issue (F.first b.p s) issue) b
+  pub control : e ≡ c
+
+-- a step that was taken; behind the boot there is none
+abbrev pub StepsAt : {C : Type 0} → FillingOf C → Stage → State → Device → Booting → C → Device → Booting → C → Type 0
+StepsAt F (Reads r) s n b c m d e = ReadsOn F r n b c m d e
+StepsAt F (Loads issue) s n b c m d e = LoadsOn F s issue n b c m d e
+StepsAt F (Over end) s n b c m d e = ⊥
+
+abbrev pub Steps : {C : Type 0} → FillingOf C → State → Device → Booting → C → Device → Booting → C → Type 0
+Steps F s n b c m d e = StepsAt F b.stage s n b c m d e
+
+-- the action of a step, where it has to read or to write
+abbrev pub action_at : {C : Type 0} → FillingOf C → Stage → State → Booting → C → Action
+action_at F (Reads r) s b c = read_action F b c r
+action_at F (Loads issue) s b c = issue_action (F.first b.p s) issue
+action_at F (Over end) s b c = Rest
+
+abbrev pub action_of : {C : Type 0} → FillingOf C → State → Booting → C → Action
+action_of F s b c = action_at F b.stage s b c
+
+-- what one that failed leaves; a refusal that comes again does not fail
+abbrev pub Fails : {C : Type 0} → FillingOf C → State → Booting → C → Device → Device → Type 0
+Fails F s b c n m = FailsTo (action_of F s b c) n m
+
+-- the one or the other; one that failed leaves boot and controller as they were
+pub record TakesStep {C : Type 0} (F : FillingOf C) {T : Type 0} (result : Result T NvmError) (s : State) (n : Device) (b : Booting) (c : C)
+    (m : Device) (d : Booting) (e : C) : Type 0 where
+  pub steps : OnOk result (Steps F s n b c m d e)
+  pub fits : IsBoot F d
+  pub boot : OnErr result (d ≡ b)
+  pub control : OnErr result (e ≡ c)
+  pub err : OnErr result (Fails F s b c n m)
+  pub frame : IsFramed n m
+  pub cause : CountsFault result n.faults m.faults

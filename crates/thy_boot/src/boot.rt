@@ -1,0 +1,113 @@
+//! The boot.
+ghost use Rattle.std.specs.Prelude.{◌≡◌, ◌+◌, ◌*◌, ◌≤◌, ◌<◌, length, IfOk, OnOk, OnErr};
+ghost use Rattle.thy_isa.specs.Step.{state_of};
+ghost use Rattle.thy_boot.specs.Boot.{IsBoot, new_boot, answer_of};
+ghost use Rattle.thy_boot.specs.Steps.{CanStep, TakesStep};
+
+use crate::fills::Fills;
+use crate::stage::{BootStep, End, ReadStage, Stage};
+use std::alloc::{AllocError, Global};
+use std::marker::Model;
+use thy_base::{BLOCK_SIZE, Block, Geometry, Nvm, NvmError, word};
+use thy_record::Start;
+
+/// A boot, with the commit block and the bytes of the slot, as far as they were read. Only `new` takes memory: room for
+/// the slot.
+#[derive(Drop)]
+pub struct Boot {
+    pub(crate) geometry: Geometry,
+    pub(crate) commit: Block,
+    pub(crate) slot: Vec<u8>,
+    pub(crate) stage: Stage,
+}
+
+impl Model for Boot {
+    ghost use Rattle.thy_boot.specs.Boot.{Booting};
+
+    ghost Value = { Booting };
+
+    ghost view = { λ b. record { p = b.geometry; commit = b.commit; slot = b.slot.items; stage = b.stage } };
+}
+
+impl Boot {
+    /// The boot of a machine whose power came on.
+    #[tactic(auto, unfolding(thy_base::specs::Device::zero_block))]
+    pub fn new<F: Fills>(alloc: Global, geometry: &Geometry) -> Result<Boot, AllocError>
+        ensures { IfOk result (λ boot. boot ≡ new_boot F.filling geometry.now) }
+    {
+        let size = BLOCK_SIZE * F::most_slot(geometry) as usize;
+        let mut slot = Vec::with_capacity(alloc, size)?;
+        slot.resize(size, 0)?;
+        Ok(Boot {
+            geometry: *geometry,
+            commit: Block::ZERO,
+            slot,
+            stage: Stage::Reads(ReadStage::Unread),
+        })
+    }
+
+    /// How far it is.
+    pub fn stage(&self) -> Stage
+        ensures { result ≡ self.now.stage }
+    {
+        self.stage
+    }
+
+    /// Takes one action of the NVM: reads the next block of the checkpoint there, or, where there is none, takes the next
+    /// action of loading the start. Once the image was found at fault, it takes none, and answers the refusal at each step.
+    /// Where the NVM failed, boot and controller are as before.
+    pub fn step<F: Fills, N: Nvm>(
+        &mut self,
+        control: &mut F::Control,
+        start: &Start,
+        nvm: &mut N,
+    ) -> Result<BootStep, NvmError>
+        requires can { CanStep F.filling (state_of start.now.state) (N.device nvm.old) self.old control.old }
+        requires fits { IsBoot F.filling self.old }
+        ensures answer { IfOk result (λ answer. answer ≡ answer_of F.filling self.new) }
+
+        // A read leaves the NVM as it was; what its block makes of boot and controller is exact, and what was read is what
+        // the image means. An action of loading is exact.
+        ensures step { let s = state_of start.now.state in
+            TakesStep F.filling result s (N.device nvm.old) self.old control.old (N.device nvm.new) self.new control.new }
+    {
+        self.take_next::<F, N>(control, start, nvm)?;
+        Ok(self.answer::<F>())
+    }
+
+    /// Takes it.
+    fn take_next<F: Fills, N: Nvm>(
+        &mut self,
+        control: &mut F::Control,
+        start: &Start,
+        nvm: &mut N,
+    ) -> Result<(), NvmError>
+        requires can { CanStep F.filling (state_of start.now.state) (N.device nvm.old) self.old control.old }
+        requires fits { IsBoot F.filling self.old }
+        ensures { let s = state_of start.now.state in
+            TakesStep F.filling result s (N.device nvm.old) self.old control.old (N.device nvm.new) self.new control.new }
+    {
+        match self.stage() {
+            Stage::Reads(at) => self.read_next::<F, N>(at, control, nvm),
+            Stage::Loads(issue) => self.load::<F, N>(issue, &start.state, nvm),
+            Stage::Over(_) => Ok(()),
+        }
+    }
+
+    /// What a step answers that left the boot so far.
+    fn answer<F: Fills>(&self) -> BootStep
+        requires { length self.now.slot ≡ 64 * F.filling.most_slot self.now.p }
+        ensures { result ≡ answer_of F.filling self.now }
+    {
+        match self.stage {
+            Stage::Reads(ReadStage::Refusing(bad)) => BootStep::Refused(bad),
+            Stage::Reads(_) => BootStep::Reading,
+            Stage::Loads(_) => BootStep::Loading,
+            Stage::Over(End::Restored) => {
+                let cpu = F::cpu_in(&self.geometry, &self.commit, &self.slot);
+                BootStep::Restarted(cpu, word(&self.commit, 1))
+            }
+            Stage::Over(End::Loaded) => BootStep::Loaded,
+        }
+    }
+}

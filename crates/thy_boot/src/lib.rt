@@ -1,0 +1,24 @@
+//! The boot of any scheme. After power came on it reads the checkpoint in the NVM, a block a cycle, and gives it to a
+//! controller. Where there is none, it loads the start of a run: that becomes the checkpoint of epoch 0. How images are laid
+//! out, what a slot lists, and which blocks are read into the controller says a scheme's `Fills`. Callers rest on `Boot::step`
+//! and on the laws.
+//!
+//! Open specs/Filling.antt first, then specs/Boot.antt and specs/Recovers.antt, src/fills.rt and src/boot.rt. It stands on
+//! thy_protocol and what that stands on.
+#![tactic(auto)]
+
+mod boot;
+mod fills;
+mod laws;
+mod load;
+mod reading;
+mod stage;
+
+pub use boot::Boot;
+pub use fills::Fills;
+pub use laws::{
+    a_boot_is_safe, a_boot_may_go_on, a_boot_shows_the_image, a_new_boot_is_one_of_the_run,
+    a_restart_is_the_kept_one, drains_keep_the_boot, failed_steps_are_moves, steps_act_once,
+    steps_are_moves, steps_come_nearer, steps_queue_one_write,
+};
+pub use stage::{BootStep, End, Issue, ReadStage, Stage};

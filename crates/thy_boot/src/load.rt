@@ -1,0 +1,103 @@
+//! Loading: where the NVM has no checkpoint, that of the start is written, as epoch 0.
+ghost use Rattle.std.specs.Prelude.{◌≡◌, false, length, OnOk, OnErr};
+ghost use Rattle.thy_isa.specs.Step.{state_of};
+ghost use Rattle.thy_boot.specs.Boot.{at_stage};
+ghost use Rattle.thy_boot.specs.Filling.{layout_at};
+ghost use Rattle.thy_boot.specs.Loads.{IsIssue, CanLoad, Takes, after_issue, issue_action};
+
+use crate::boot::Boot;
+use crate::fills::Fills;
+use crate::stage::{End, Issue, Stage};
+use thy_base::{Geometry, Nvm, NvmError};
+use thy_isa::MachState;
+
+/// How many blocks of memory are written.
+fn blocks_of_memory<F: Fills>(geometry: &Geometry, state: &MachState) -> u64
+    requires { F.filling.starts geometry.now (state_of state.now) }
+    ensures { result ≡ length (F.filling.first geometry.now (state_of state.now)).parts.memory }
+{
+    let _state = state;
+    F::memory_blocks(geometry)
+}
+
+/// How many blocks of the slot.
+fn blocks_of_slot<F: Fills>(geometry: &Geometry, state: &MachState) -> u64
+    requires { F.filling.starts geometry.now (state_of state.now) }
+    ensures { result ≡ (F.filling.first geometry.now (state_of state.now)).parts.slot_blocks }
+{
+    F::slot_blocks(geometry, &F::first_commit(geometry, state))
+}
+
+/// The stage after an action of loading.
+fn stage_after<F: Fills>(geometry: &Geometry, issue: Issue, state: &MachState) -> Stage
+    requires start { F.filling.starts geometry.now (state_of state.now) }
+    requires issue { IsIssue (F.filling.first geometry.now (state_of state.now)) issue }
+    ensures { result ≡ after_issue (F.filling.first geometry.now (state_of state.now)) issue }
+{
+    let memory = blocks_of_memory::<F>(geometry, state);
+    let slot = blocks_of_slot::<F>(geometry, state);
+    match issue {
+        Issue::Home(b) if b + 1 < memory => Stage::Loads(Issue::Home(b + 1)),
+        Issue::Home(_) => Stage::Loads(Issue::Slot(0)),
+        Issue::Slot(k) if k + 1 < slot => Stage::Loads(Issue::Slot(k + 1)),
+        Issue::Slot(_) => Stage::Loads(Issue::Header),
+        Issue::Header => Stage::Loads(Issue::Settle),
+        Issue::Settle => Stage::Loads(Issue::Commit),
+        Issue::Commit => Stage::Loads(Issue::Confirm),
+        Issue::Confirm => Stage::Over(End::Loaded),
+    }
+}
+
+/// Takes an action of loading.
+fn take_issue<F: Fills, N: Nvm>(
+    geometry: &Geometry,
+    issue: Issue,
+    state: &MachState,
+    nvm: &mut N,
+) -> Result<(), NvmError>
+    requires start { F.filling.starts geometry.now (state_of state.now) }
+    requires issue { IsIssue (F.filling.first geometry.now (state_of state.now)) issue }
+    requires sized { length (N.device nvm.old).image ≡ (layout_at F.filling geometry.now).image_blocks }
+    requires up { (N.device nvm.old).down ≡ false }
+    ensures { let f = F.filling.first geometry.now (state_of state.now) in
+        Takes (issue_action f issue) result (N.device nvm.old) (N.device nvm.new) }
+{
+    match issue {
+        Issue::Home(b) => {
+            let (place, block) = F::first_memory(geometry, state, b);
+            nvm.write(place, &block)
+        }
+        Issue::Slot(k) => {
+            let (place, block) = F::first_slot(geometry, state, k);
+            nvm.write(place, &block)
+        }
+        Issue::Header => nvm.write(0, &F::first_header(geometry, state)),
+        Issue::Settle | Issue::Confirm => nvm.barrier(),
+        Issue::Commit => nvm.write(1, &F::first_commit(geometry, state)),
+    }
+}
+
+impl Boot {
+    ghost use Rattle.thy_boot.specs.declared.stage.Stage.TheVariants.{Loads};
+
+    /// Takes the next action of loading: memory's blocks go to their places, then the slot, the header, a barrier, the commit
+    /// block of epoch 0, and a barrier. Where the NVM failed the boot is as before, and only the place of a write may hold more.
+    pub(crate) fn load<F: Fills, N: Nvm>(
+        &mut self,
+        issue: Issue,
+        state: &MachState,
+        nvm: &mut N,
+    ) -> Result<(), NvmError>
+        requires stage { self.old.stage ≡ Loads issue }
+        requires can { CanLoad F.filling (state_of state.now) issue (N.device nvm.old) self.old }
+        ensures boot { let f = F.filling.first self.old.p (state_of state.now) in
+            OnOk result (self.new ≡ at_stage (after_issue f issue) self.old) }
+        ensures kept { OnErr result (self.new ≡ self.old) }
+        ensures nvm { let f = F.filling.first self.old.p (state_of state.now) in
+            Takes (issue_action f issue) result (N.device nvm.old) (N.device nvm.new) }
+    {
+        take_issue::<F, N>(&self.geometry, issue, state, nvm)?;
+        self.stage = stage_after::<F>(&self.geometry, issue, state);
+        Ok(())
+    }
+}

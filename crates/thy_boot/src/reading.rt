@@ -1,0 +1,213 @@
+//! Reading: each step reads one block of the NVM, up to the last that tells what the image means.
+ghost use Rattle.std.specs.Prelude.{◌≡◌, ◌+◌, ◌*◌, ◌<◌, ◌≤◌, length, None, OnOk, OnErr};
+ghost use Rattle.thy_base.specs.Bytes.{written};
+ghost use Rattle.thy_base.specs.Device.{newest};
+ghost use Rattle.thy_view.specs.Action.{ReadAt};
+ghost use Rattle.thy_boot.specs.Boot.{IsBoot, layout_in, slot_read, at_stage, stage_of_commit, after_commit, after_header, after_slot};
+ghost use Rattle.thy_boot.specs.Boot.{refusing_or, filling_or, gone_on, IsJudged, GoesOn};
+ghost use Rattle.thy_boot.specs.Loads.{Takes};
+ghost use Rattle.thy_boot.specs.Reads.{read_action, read_on, slot_kept, FillsOn, IsBlock};
+ghost use Rattle.thy_boot.specs.Recovers.{HasRead};
+
+use crate::boot::Boot;
+use crate::fills::Fills;
+use crate::stage::{End, Issue, ReadStage, Stage};
+use thy_base::{BLOCK_SIZE, Block, Nvm, NvmError};
+use thy_record::{BadImage, is_zero};
+
+/// Writes a block over the bytes of block `k`.
+fn keep_block(bytes: &mut [u8], k: usize, block: &Block)
+    requires { 64 * k + 64 ≤ length bytes.old }
+    ensures { bytes.new ≡ written bytes.old (64 * k) block.now.0 }
+{
+    bytes[BLOCK_SIZE * k..BLOCK_SIZE * k + BLOCK_SIZE].copy_from_slice(&block.0);
+}
+
+/// The stage that a commit block leads to.
+fn stage_of_commit(commit: &Block) -> Stage
+    ensures { result ≡ stage_of_commit commit.now }
+{
+    if is_zero(commit) {
+        return Stage::Loads(Issue::Home(0));
+    }
+    Stage::Reads(ReadStage::Header)
+}
+
+/// A refusal where there is a fault, else the next stage.
+fn refusing_or(fault: Option<BadImage>, next: Stage) -> Stage
+    ensures { result ≡ refusing_or fault next }
+{
+    match fault {
+        Some(bad) => Stage::Reads(ReadStage::Refusing(bad)),
+        None => next,
+    }
+}
+
+impl Boot {
+    ghost use Rattle.thy_boot.specs.declared.stage.Stage.TheVariants.{Reads};
+    ghost use Rattle.thy_boot.specs.declared.stage.ReadStage.TheVariants.{Slot, Fills as FillsAt};
+
+    /// Reads the next block of the checkpoint in the NVM: commit block, header, the slot's blocks, and then what each position
+    /// is filled with. Once header, commit block or slot was found at fault, it reads none.
+    pub(crate) fn read_next<F: Fills, N: Nvm>(
+        &mut self,
+        at: ReadStage,
+        control: &mut F::Control,
+        nvm: &mut N,
+    ) -> Result<(), NvmError>
+        requires stage { self.old.stage ≡ Reads at }
+        requires fits { IsBoot F.filling self.old }
+        requires read { HasRead F.filling (N.device nvm.old) self.old control.old }
+        ensures goes { OnOk result (self.new ≡ read_on F.filling at (N.device nvm.old) self.old) }
+        ensures fills { OnOk result (FillsOn F.filling at (N.device nvm.old) self.old control.old control.new) }
+        ensures block { OnOk result (IsBlock F.filling at (N.device nvm.old) self.old) }
+        ensures boot { OnErr result (self.new ≡ self.old) }
+        ensures control { OnErr result (control.new ≡ control.old) }
+        ensures nvm { Takes (read_action F.filling self.old control.old at) result (N.device nvm.old) (N.device nvm.new) }
+    {
+        match at {
+            ReadStage::Unread => self.read_commit(nvm),
+            ReadStage::Header => self.read_header::<F, N>(nvm),
+            ReadStage::Slot(next) => self.read_slot::<F, N>(next, control, nvm),
+            ReadStage::Fills(k) => self.read_fill::<F, N>(k, control, nvm),
+            ReadStage::Refusing(_) => Ok(()),
+        }
+    }
+
+    /// Reads the commit block.
+    fn read_commit<N: Nvm>(&mut self, nvm: &mut N) -> Result<(), NvmError>
+        requires { 1 < length (N.device nvm.old).image }
+        ensures state { OnOk result (self.new ≡ after_commit (newest (N.device nvm.old) 1) self.old) }
+        ensures kept { OnErr result (self.new ≡ self.old) }
+        ensures reads { Takes (ReadAt 1) result (N.device nvm.old) (N.device nvm.new) }
+    {
+        let commit = nvm.read(1)?;
+        self.commit = commit;
+        self.stage = stage_of_commit(&commit);
+        Ok(())
+    }
+
+    /// Reads the header, and judges it, and then the commit block.
+    fn read_header<F: Fills, N: Nvm>(&mut self, nvm: &mut N) -> Result<(), NvmError>
+        requires { 0 < length (N.device nvm.old).image }
+        ensures state { let next = after_header (layout_in F.filling self.old) (newest (N.device nvm.old) 0) self.old in
+            OnOk result (self.new ≡ at_stage next self.old) }
+        ensures kept { OnErr result (self.new ≡ self.old) }
+        ensures reads { Takes (ReadAt 0) result (N.device nvm.old) (N.device nvm.new) }
+    {
+        let header = nvm.read(0)?;
+        let of_commit = F::commit_fault(&self.geometry, &header, &self.commit);
+        let fault = F::header_fault(&self.geometry, &header).or(of_commit);
+        self.stage = refusing_or(fault, Stage::Reads(ReadStage::Slot(0)));
+        Ok(())
+    }
+
+    /// Reads block `next` of the slot; with the last, the slot is judged.
+    fn read_slot<F: Fills, N: Nvm>(
+        &mut self,
+        next: u64,
+        control: &mut F::Control,
+        nvm: &mut N,
+    ) -> Result<(), NvmError>
+        requires stage { self.old.stage ≡ Reads (Slot next) }
+        requires fits { IsBoot F.filling self.old }
+        requires read { HasRead F.filling (N.device nvm.old) self.old control.old }
+        ensures goes { OnOk result (self.new ≡ read_on F.filling (Slot next) (N.device nvm.old) self.old) }
+        ensures fills { OnOk result (FillsOn F.filling (Slot next) (N.device nvm.old) self.old control.old control.new) }
+        ensures block { OnOk result (IsBlock F.filling (Slot next) (N.device nvm.old) self.old) }
+        ensures boot { OnErr result (self.new ≡ self.old) }
+        ensures control { OnErr result (control.new ≡ control.old) }
+        ensures nvm { Takes (read_action F.filling self.old control.old (Slot next)) result (N.device nvm.old) (N.device nvm.new) }
+    {
+        self.read_block::<F, N>(next, nvm)?;
+        self.go_on::<F>(next, control);
+        Ok(())
+    }
+
+    /// Reads that block, and keeps its bytes.
+    fn read_block<F: Fills, N: Nvm>(&mut self, next: u64, nvm: &mut N) -> Result<(), NvmError>
+        requires inside { next < (layout_in F.filling self.old).slot_blocks self.old.commit }
+        requires image { let l = layout_in F.filling self.old in l.slot_place self.old.commit + next < l.image_blocks }
+        requires room { 64 * next + 64 ≤ length self.old.slot }
+        requires sized { length (N.device nvm.old).image ≡ (layout_in F.filling self.old).image_blocks }
+        ensures state { OnOk result (self.new ≡ slot_kept F.filling next (N.device nvm.old) self.old) }
+        ensures block { OnOk result (IsBlock F.filling (Slot next) (N.device nvm.old) self.old) }
+        ensures kept { OnErr result (self.new ≡ self.old) }
+        ensures reads { let at = (layout_in F.filling self.old).slot_place self.old.commit + next in
+            Takes (ReadAt at) result (N.device nvm.old) (N.device nvm.new) }
+    {
+        let at = F::slot_at(&self.geometry, &self.commit, next);
+        let block = nvm.read(at)?;
+        keep_block(&mut self.slot, next as usize, &block);
+        Ok(())
+    }
+
+    /// Goes on after block `next` of the slot; with the last, the slot is judged.
+    fn go_on<F: Fills>(&mut self, next: u64, control: &mut F::Control)
+        requires inside { next < (layout_in F.filling self.old).slot_blocks self.old.commit }
+        requires room { length self.old.slot ≡ 64 * F.filling.most_slot self.old.p }
+        requires geometry { F.filling.p control.old ≡ self.old.p }
+        requires fresh { F.filling.fresh control.old }
+        ensures boot { self.new ≡ gone_on F.filling next self.old }
+        ensures control { GoesOn F.filling next self.old control.old control.new }
+    {
+        let blocks = F::slot_blocks(&self.geometry, &self.commit);
+        if next + 1 < blocks {
+            self.stage = Stage::Reads(ReadStage::Slot(next + 1));
+        } else {
+            self.judge::<F>(control);
+        }
+    }
+
+    /// Judges the slot: where it has no fault, the controller lists it.
+    fn judge<F: Fills>(&mut self, control: &mut F::Control)
+        requires room { length self.old.slot ≡ 64 * F.filling.most_slot self.old.p }
+        requires geometry { F.filling.p control.old ≡ self.old.p }
+        requires fresh { F.filling.fresh control.old }
+        ensures boot { self.new ≡ at_stage (after_slot F.filling self.old) self.old }
+        ensures control { let fault = (layout_in F.filling self.old).slot_bad self.old.commit (slot_read F.filling self.old) in
+            IsJudged F.filling fault self.old control.old control.new }
+    {
+        match F::slot_fault(&self.geometry, &self.commit, &self.slot) {
+            Some(bad) => self.stage = Stage::Reads(ReadStage::Refusing(bad)),
+            None => {
+                F::list(&self.geometry, &self.commit, &self.slot, control);
+                self.go_to_fill::<F>(0);
+            }
+        }
+    }
+
+    /// Goes to the first position from one on that has to be filled; where there is none, all is restored.
+    fn go_to_fill<F: Fills>(&mut self, from: u64)
+        requires { length self.old.slot ≡ 64 * F.filling.most_slot self.old.p }
+        ensures { let next = F.filling.next_fill self.old.p self.old.commit (slot_read F.filling self.old) from in
+            self.new ≡ at_stage (filling_or next) self.old }
+    {
+        self.stage = match F::next_fill(&self.geometry, &self.commit, &self.slot, from) {
+            Some(k) => Stage::Reads(ReadStage::Fills(k)),
+            None => Stage::Over(End::Restored),
+        };
+    }
+
+    /// Fills position `k`.
+    fn read_fill<F: Fills, N: Nvm>(
+        &mut self,
+        k: u64,
+        control: &mut F::Control,
+        nvm: &mut N,
+    ) -> Result<(), NvmError>
+        requires stage { self.old.stage ≡ Reads (FillsAt k) }
+        requires fits { IsBoot F.filling self.old }
+        requires read { HasRead F.filling (N.device nvm.old) self.old control.old }
+        ensures goes { OnOk result (self.new ≡ read_on F.filling (FillsAt k) (N.device nvm.old) self.old) }
+        ensures fills { OnOk result (FillsOn F.filling (FillsAt k) (N.device nvm.old) self.old control.old control.new) }
+        ensures boot { OnErr result (self.new ≡ self.old) }
+        ensures control { OnErr result (control.new ≡ control.old) }
+        ensures nvm { Takes (read_action F.filling self.old control.old (FillsAt k)) result (N.device nvm.old) (N.device nvm.new) }
+    {
+        let _positions = F::most_fills(&self.geometry);
+        F::fill(control, &self.commit, k, nvm)?;
+        self.go_to_fill::<F>(k + 1);
+        Ok(())
+    }
+}

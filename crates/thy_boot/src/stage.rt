@@ -1,0 +1,70 @@
+//! How far a boot is, and what its steps answer.
+use thy_isa::CpuState;
+use thy_record::BadImage;
+
+/// What loading does next.
+#[derive(Clone, Copy, Debug, PartialEq, Eq)]
+pub enum Issue {
+    /// The write of this block of memory.
+    Home(u64),
+    /// The write of this block of the slot.
+    Slot(u64),
+    /// The write of the header.
+    Header,
+    /// The barrier behind all that comes before the commit block.
+    Settle,
+    /// The write of the commit block.
+    Commit,
+    /// The barrier behind the commit block.
+    Confirm,
+}
+
+/// How far a boot is that reads.
+#[derive(Clone, Copy, Debug, PartialEq, Eq)]
+pub enum ReadStage {
+    /// Nothing was read yet.
+    Unread,
+    /// The commit block was read.
+    Header,
+    /// Header and commit block have no fault, and so many blocks of the slot were read.
+    Slot(u64),
+    /// The slot has no fault, and is listed. This position is filled next.
+    Fills(u64),
+    /// The image is refused.
+    Refusing(BadImage),
+}
+
+/// How a boot ended.
+#[derive(Clone, Copy, Debug, PartialEq, Eq)]
+pub enum End {
+    /// The checkpoint that was found is restored.
+    Restored,
+    /// The program is loaded, as the checkpoint of epoch 0.
+    Loaded,
+}
+
+/// How far a boot is.
+#[derive(Clone, Copy, Debug, PartialEq, Eq)]
+pub enum Stage {
+    /// It reads, and is so far.
+    Reads(ReadStage),
+    /// There is no checkpoint: the program is loaded, and this comes next.
+    Loads(Issue),
+    /// It is over.
+    Over(End),
+}
+
+/// What a step of a boot answers.
+#[derive(Clone, Copy, Debug, PartialEq, Eq)]
+pub enum BootStep {
+    /// A block was read, and more are to be read.
+    Reading,
+    /// There is no checkpoint, and loading goes on.
+    Loading,
+    /// The program is loaded, as the checkpoint of epoch 0.
+    Loaded,
+    /// The checkpoint of this epoch was restored, with this state of the processor.
+    Restarted(CpuState, u64),
+    /// The image is refused. This comes again at each later step.
+    Refused(BadImage),
+}

@@ -1,0 +1,107 @@
+-- What this scheme's boot fills: the controller, with version 1 of images. A position is 64 times an entry of the page table
+-- and a block of its page.
+use Rattle.std.specs.Prelude.{◌≡◌, ℕ, ◌+◌, ◌*◌, ◌/◌, ◌%◌, ◌<◌, ◌≤◌, max, List, map, is_some, Option, Some, None}
+use Rattle.std.specs.List.{range_with_len}
+use Rattle.thy_base.specs.declared.block.Block.{Block}
+use Rattle.thy_base.specs.declared.config.Parameters.{Parameters}
+use Rattle.thy_base.specs.declared.place.Place.TheVariants.{AlternatePage, Frame}
+use Rattle.thy_base.specs.Device.{Device}
+use Rattle.thy_base.specs.Geometry.{IsInRange, memory_blocks}
+use Rattle.thy_base.specs.Places.{number_of, slot_blocks}
+use Rattle.thy_dram.specs.Contents.{written}
+use Rattle.thy_isa.specs.Step.{State as Plain, cpu_of}
+use Rattle.thy_record.specs.Commit.{commit_of}
+use Rattle.thy_record.specs.Cpu.{cpu_of_record, IsRecordable}
+use Rattle.thy_record.specs.Header.{header_of}
+use Rattle.thy_record.specs.Slots.{tables_in}
+use Rattle.thy_record.specs.Tables.{entry_at}
+use Rattle.thy_table.specs.Listing.{first_from}
+use Rattle.thy_cell.specs.Sound.{Holds}
+use Rattle.thy_control.specs.State.{State, AreSoundTables, cell_of, work_of, reads}
+use Rattle.thy_control.specs.Boot.{IsBooting, MayFrame, framed_block}
+use Rattle.thy_control.specs.CheckpointTables.{tables0}
+use Rattle.thy_control.specs.Drains.{after_drain}
+use Rattle.thy_control.specs.Stays.{HoldAll}
+use Rattle.thy_view.specs.Safe.{ceiling}
+use Rattle.thy_protocol.specs.VersionOne.{version_one}
+use Rattle.thy_protocol.specs.VersionOneParts.{parts_by}
+use Rattle.thy_boot.specs.Filling.{FillingOf, First}
+use Rattle.thy_recover.specs.Start.{IsStartFor, start_blocks, no_tables}
+
+-- the position itself, where its entry lists a page, else the first block of the next page that is listed
+abbrev pub position_in : ℕ → Option ℕ → Option ℕ
+position_in from None = None
+position_in from (Some j) = Some (max from (64 * j))
+
+abbrev pub next_position : Parameters → List Block → ℕ → Option ℕ
+next_position p slot from = position_in from (first_from is_some (from / 64) (tables_in p slot).ptt)
+
+-- the places of a position: it is read from the alternate page, into the frame
+abbrev pub page_place : State → ℕ → ℕ
+page_place c k = number_of c.p (AlternatePage (k / 64) (k % 64))
+
+abbrev pub with_filled : ℕ → Block → State → State
+with_filled k block c = record c { dram = written c.dram (number_of c.p (Frame (k / 64) (k % 64))) block }
+
+-- what a load of each block of memory gives
+abbrev pub loads : State → Device → List Block
+loads c n = map (work_of c n) (range_with_len 0 (memory_blocks c.p))
+
+-- the controller lists nothing yet
+pub record IsFresh (c : State) : Type 0 where
+  pub booting : IsBooting c
+  pub no_blocks : (k : ℕ) → entry_at (tables0 c).btt k ≡ None
+  pub no_pages : (k : ℕ) → entry_at (tables0 c).ptt k ≡ None
+
+-- its tables are sound, and it lists nothing, or what those of a slot do
+pub record IsEmpty (c : State) : Type 0 where
+  pub tables : AreSoundTables c
+  pub fresh : IsFresh c
+
+pub record ListsSlot (slot : List Block) (c : State) : Type 0 where
+  pub tables : AreSoundTables c
+  pub booting : IsBooting c
+  pub are : tables0 c ≡ tables_in c.p slot
+
+-- what a start makes of an empty NVM: every block of memory at home, and tables that list nothing
+abbrev pub first_of_start : Parameters → Plain → First
+first_of_start p s = record {
+  header = header_of p;
+  commit = commit_of 0;
+  parts = parts_by p (cpu_of s) (no_tables p) 0;
+  memory = start_blocks p s;
+}
+
+-- a start can be recorded
+pub record CanStart (p : Parameters) (s : Plain) : Type 0 where
+  pub geometry : IsInRange p
+  pub start : IsStartFor p s
+  pub recordable : IsRecordable p ceiling (cpu_of s)
+
+-- listing and filling leave the counts of stores, and the room of the DRAM's queue, which has one write more at most
+pub record HasFilled (c e : State) : Type 0 where
+  pub room : e.dram.room ≡ c.dram.room
+  pub most : e.dram.queued ≤ c.dram.queued + 1
+  pub counts : e.counts ≡ c.counts
+
+abbrev pub filling_one : FillingOf State
+filling_one = record {
+  layouts = version_one;
+  most_slot = slot_blocks;
+  cpu_in = cpu_of_record;
+  p = λ c. c.p;
+  dram = λ c. c.dram;
+  drained = after_drain;
+  fresh = IsEmpty;
+  lists = λ commit slot c. ListsSlot slot c;
+  filled = λ c n k. (i m : ℕ) → MayFrame i m c → 64 * i + m < k → Holds (reads c n) (cell_of c (framed_block i m c));
+  whole = HoldAll;
+  next_fill = λ p commit slot from. next_position p slot from;
+  most_fills = λ p. 64 * p.ptt;
+  fill_place = λ c commit k. page_place c k;
+  with_fill = λ commit k block c. with_filled k block c;
+  keeps = HasFilled;
+  loads = loads;
+  starts = CanStart;
+  first = first_of_start;
+}

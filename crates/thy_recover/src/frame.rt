@@ -1,0 +1,29 @@
+//! A position, filled: a block of a listed page, copied into its frame.
+ghost use Rattle.std.specs.Prelude.{◌≡◌, length, OnOk, OnErr};
+ghost use Rattle.thy_base.specs.Device.{newest};
+ghost use Rattle.thy_base.specs.Places.{image_blocks};
+ghost use Rattle.thy_boot.specs.Filling.{IsNext};
+ghost use Rattle.thy_boot.specs.Loads.{Takes};
+ghost use Rattle.thy_recover.specs.Filling.{page_place, with_filled, filling_one};
+ghost use Rattle.thy_view.specs.Action.{ReadAt};
+
+use thy_base::{Block, Nvm, NvmError};
+use thy_control::Control;
+
+/// Copies the block of a position from the alternate page into the frame. Where the read failed, the controller is as before.
+pub fn fill<N: Nvm>(
+    control: &mut Control,
+    commit: &Block,
+    k: u64,
+    nvm: &mut N,
+) -> Result<(), NvmError>
+    requires next { IsNext filling_one commit.now control.old k }
+    requires sized { length (N.device nvm.old).image ≡ image_blocks control.old.p }
+    ensures ok { let block = newest (N.device nvm.old) (page_place control.old k) in
+        OnOk result (control.new ≡ with_filled k block control.old) }
+    ensures err { OnErr result (control.new ≡ control.old) }
+    ensures nvm { Takes (ReadAt (page_place control.old k)) result (N.device nvm.old) (N.device nvm.new) }
+{
+    let _commit = commit;
+    control.frame_block((k / 64) as usize, k % 64, nvm)
+}
