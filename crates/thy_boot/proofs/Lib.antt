@@ -11,3 +11,6 @@ pub mod StepMoveLemmas
 pub mod BootDrainLemmas
 pub mod ActLemmas
 pub mod TakesLemmas
+pub mod StartLemmas
+pub mod RecordLemmas
+pub mod BlockLemmas

@@ -114,7 +114,7 @@ module _ {C : Type 0} (F : FillingOf C) where
           let none : F.next_fill (F.p c) b.commit slot from ≡ None = ap (λ p. F.next_fill p b.commit slot from) same ∙ e in
           let long : length n.image ≡ (layout_at F (F.p c)).image_blocks = sized ∙ ap (λ p. (layout_at F p).image_blocks) (sym same) in
           let slot_is : slot_in (layout_at F (F.p c)) n.image ≡ slot = ap (λ p. slot_in (layout_at F p) n.image) same ∙ sym whole in
-          let ended = laws.ends c n b.commit slot from lists filled none settled long slot_is in
+          let ended = laws.ends c n b.commit slot from lists filled none settled long head.commit_is.is slot_is in
           let memory : F.loads c n ≡ memory_in l n.image = ended.1 ∙ ap (λ p. memory_in (layout_at F p) n.image) same in
           record {
             lists = lists;
@@ -154,7 +154,7 @@ module _ {C : Type 0} (F : FillingOf C) where
       let listed = had.0 in
       let some : F.next_fill (F.p c) b.commit (slot_read F b) k ≡ Some k = ap (λ p. F.next_fill p b.commit (slot_read F b) k) h.same_p ∙ had.1 in
       let long : length n.image ≡ (layout_at F (F.p c)).image_blocks = h.sized ∙ ap (λ p. (layout_at F p).image_blocks) (sym h.same_p) in
-      let filled = laws.fills c n b.commit (slot_read F b) k listed.lists listed.filled some h.settled long in
+      let filled = laws.fills c n b.commit (slot_read F b) k listed.lists listed.filled some h.settled long listed.head.commit_is.is in
       let d : C = F.with_fill b.commit k (newest n (F.fill_place c b.commit k)) c in
       let same : F.p d ≡ b.p = filled.2 ∙ h.same_p in
       record {

@@ -2,7 +2,7 @@
 use Rattle.std.specs.Prelude.{◌≡◌, ℕ, ◌+◌, ◌<◌, ◌≤◌, true, false, List, [], length, map, slice_index_or, Option, Some, None}
 use Rattle.thy_base.specs.declared.block.Block.{Block}
 use Rattle.thy_base.specs.declared.config.Parameters.{Parameters}
-use Rattle.thy_base.specs.Device.{Device, newest}
+use Rattle.thy_base.specs.Device.{Device, block_at, newest}
 use Rattle.thy_dram.specs.Contents.{Contents}
 use Rattle.thy_isa.specs.declared.state.CpuState.{CpuState}
 use Rattle.thy_isa.specs.Step.{State}
@@ -92,10 +92,10 @@ pub record IsFilling {C : Type 0} (F : FillingOf C) : Type 0 where
   -- positions are numbers below the most, whatever the controller
   pub above : (p : Parameters) (commit : Block) (slot : List Block) (from k : ℕ)
       → F.next_fill p commit slot from ≡ Some k → (from ≤ k) × (k < F.most_fills p)
-  -- filling it lists the same, and fills it
+  -- over the image that has this commit block, filling it lists the same, and fills it
   pub fills : (c : C) (n : Device) (commit : Block) (slot : List Block) (k : ℕ)
       → F.lists commit slot c → F.filled c n k → F.next_fill (F.p c) commit slot k ≡ Some k
-      → n.queue ≡ [] → length n.image ≡ (layout_at F (F.p c)).image_blocks
+      → n.queue ≡ [] → length n.image ≡ (layout_at F (F.p c)).image_blocks → block_at n.image 1 ≡ commit
       → F.lists commit slot (F.with_fill commit k (newest n (F.fill_place c commit k)) c)
       × F.filled (F.with_fill commit k (newest n (F.fill_place c commit k)) c) n (k + 1)
       × (F.p (F.with_fill commit k (newest n (F.fill_place c commit k)) c) ≡ F.p c)
@@ -107,7 +107,8 @@ pub record IsFilling {C : Type 0} (F : FillingOf C) : Type 0 where
   -- with none left, all is filled, and memory is the image's
   pub ends : (c : C) (n : Device) (commit : Block) (slot : List Block) (from : ℕ)
       → F.lists commit slot c → F.filled c n from → F.next_fill (F.p c) commit slot from ≡ None
-      → n.queue ≡ [] → length n.image ≡ (layout_at F (F.p c)).image_blocks → slot_in (layout_at F (F.p c)) n.image ≡ slot
+      → n.queue ≡ [] → length n.image ≡ (layout_at F (F.p c)).image_blocks → block_at n.image 1 ≡ commit
+      → slot_in (layout_at F (F.p c)) n.image ≡ slot
       → F.whole c n × (F.loads c n ≡ memory_in (layout_at F (F.p c)) n.image)
   -- a write of the DRAM that lands changes nothing of it
   pub drain_p : (c : C) → F.p (F.drained c) ≡ F.p c

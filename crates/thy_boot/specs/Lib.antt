@@ -8,3 +8,4 @@ pub mod Sound
 pub mod Shows
 pub mod Steps
 pub mod Laws
+pub mod Start

@@ -13,6 +13,7 @@ mod laws;
 mod load;
 mod reading;
 mod stage;
+mod start;
 
 pub use boot::Boot;
 pub use fills::Fills;
@@ -22,3 +23,4 @@ pub use laws::{
     steps_are_moves, steps_come_nearer, steps_queue_one_write,
 };
 pub use stage::{BootStep, End, Issue, ReadStage, Stage};
+pub use start::{start_block, start_cpu};

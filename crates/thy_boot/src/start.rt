@@ -1,0 +1,68 @@
+//! The blocks that a start makes of memory, and its processor.
+ghost use Rattle.std.specs.Prelude.{◌≡◌, ◌<◌, ◌≤◌, ◌+◌, length, take, drop, ◌++◌, replicate};
+ghost use Rattle.thy_base.specs.Geometry.{memory_blocks};
+ghost use Rattle.thy_isa.specs.Step.{state_of, cpu_of};
+ghost use Rattle.thy_boot.specs.Start.{IsStartFor, start_block};
+
+use thy_base::{Block, Geometry};
+use thy_isa::{CpuState, MachState};
+
+/// Block `b` of a start: its memory, and behind that its console filled up with zeros.
+pub fn start_block(geometry: &Geometry, state: &MachState, b: u64) -> Block
+    requires place { b < memory_blocks geometry.now }
+    requires start { IsStartFor geometry.now (state_of state.now) }
+    ensures { result ≡ start_block geometry.now (state_of state.now) b }
+{
+    let size = geometry.program_size();
+    let from = 64 * b;
+    if from < size {
+        whole_block(state.memory.as_slice(), from as usize)
+    } else {
+        part_block(state.console.as_slice(), (from - size) as usize)
+    }
+}
+
+fn whole_block(bytes: &[u8], from: usize) -> Block
+    requires { from + 64 ≤ length bytes.now }
+    ensures { result.0 ≡ take 64 (drop from bytes.now) }
+{
+    let mut block = [0; 64];
+    block.copy_from_slice(&bytes[from..from + 64]);
+    Block(block)
+}
+
+/// The 64 bytes from `from` on, with zeros past the end.
+fn part_block(bytes: &[u8], from: usize) -> Block
+    ensures { result.0 ≡ take 64 (drop from bytes.now ++ replicate 64 0) }
+{
+    let mut block = [0; 64];
+    let count = bytes.len().saturating_sub(from).min(64);
+    if count > 0 {
+        fill(&mut block, bytes, from, count);
+    }
+    Block(block)
+}
+
+fn fill(block: &mut [u8], bytes: &[u8], from: usize, count: usize)
+    requires block { count ≤ length block.old }
+    requires bytes { from + count ≤ length bytes.now }
+    ensures { block.new ≡ take count (drop from bytes.now) ++ drop count block.old }
+{
+    block[..count].copy_from_slice(&bytes[from..from + count]);
+}
+
+/// A state without its memory and its console's bytes.
+pub fn start_cpu(state: &MachState) -> CpuState
+    ensures { result ≡ cpu_of (state_of state.now) }
+{
+    CpuState {
+        pc: state.pc,
+        regs: state.regs,
+        console_len: state.console.len() as u64,
+        cursor: state.cursor,
+        brk: state.brk,
+        floor: state.floor,
+        count: state.count,
+        status: state.status,
+    }
+}

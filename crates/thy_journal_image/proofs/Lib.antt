@@ -1,0 +1,5 @@
+pub mod HeadLemmas
+pub mod SlotLemmas
+pub mod PartsLemmas
+pub mod FreeLemmas
+pub mod FitLemmas

@@ -1,0 +1,50 @@
+-- Which writes leave a checkpoint of the journal alone.
+use Rattle.std.specs.Prelude.{◌≡◌, ◌≢◌, ℕ, ◌+◌, ◌%◌, ◌<◌, true, List, ◌∷◌, Contains, Option}
+use Rattle.thy_base.specs.declared.block.Block.{Block}
+use Rattle.thy_base.specs.declared.config.Parameters.{Parameters}
+use Rattle.thy_base.specs.Device.{block_at}
+use Rattle.thy_base.specs.Geometry.{memory_blocks}
+use Rattle.thy_record.specs.Commit.{is_zero}
+use Rattle.thy_record.specs.Tables.{Lists}
+use Rattle.thy_protocol.specs.Layout.{looked_by}
+use Rattle.thy_journal_image.specs.Places.{slot_blocks, slot_place, home_place, journal_place}
+use Rattle.thy_journal_image.specs.Layout.{journaled}
+use Rattle.thy_journal_image.specs.Parts.{IsToldBy}
+
+-- what a write is for: block k of slot s, the block of entry i in the journal of slot s, or the home of block b
+pub data Target : Type 0 where
+  SlotBlock : (s k : ℕ) → Target
+  JournalBlock : (s i : ℕ) → Target
+  HomeBlock : (b : ℕ) → Target
+
+-- the number of the block that it writes
+abbrev pub target_place : Parameters → Target → ℕ
+target_place p (SlotBlock s k) = slot_place p s + k
+target_place p (JournalBlock s i) = journal_place p s i
+target_place p (HomeBlock b) = home_place p b
+
+-- the target is there
+abbrev pub IsTarget : Parameters → Target → Type 0
+IsTarget p (SlotBlock s k) = (s < 2) × (k < slot_blocks p)
+IsTarget p (JournalBlock s i) = (s < 2) × (i < p.btt)
+IsTarget p (HomeBlock b) = b < memory_blocks p
+
+-- the checkpoint of an epoch with this table has nothing there: another slot, its journal, or the home of a block that is
+-- listed
+abbrev pub IsFree : ℕ → List (Option ℕ) → Target → Type 0
+IsFree epoch table (SlotBlock s k) = s ≢ epoch % 2
+IsFree epoch table (JournalBlock s i) = s ≢ epoch % 2
+IsFree epoch table (HomeBlock b) = (i : ℕ) × Lists table i b
+
+-- it is none of the blocks that tell what the image of that checkpoint means
+abbrev pub FreeIsNotLooked : Type 0
+FreeIsNotLooked =
+    (p : Parameters) (ceiling : ℕ) (image : List Block) (epoch : ℕ) (table : List (Option ℕ)) (x : Target)
+    → IsToldBy p ceiling image epoch table → IsTarget p x → IsFree epoch table x
+    → ¬ Contains (1 ∷ looked_by (journaled p ceiling) image) (target_place p x)
+
+-- of an image without a checkpoint no block but the commit block is
+abbrev pub NothingIsLooked : Type 0
+NothingIsLooked =
+    (p : Parameters) (ceiling : ℕ) (image : List Block) (x : ℕ) → is_zero (block_at image 1) ≡ true → x ≢ 1
+    → ¬ Contains (1 ∷ looked_by (journaled p ceiling) image) x

@@ -1,0 +1,19 @@
+//! Images of the redo journal: where an image has what, what it means, and what of a checkpoint was written. A checkpoint
+//! has each block of memory at home or, if its table lists the block, in the journal of its slot. Callers rest on
+//! `a_checkpoint_is_issued`, `free_is_not_looked_at`, and the readers and writers of header and commit block.
+//!
+//! Open specs/Places.antt first, then specs/Slots.antt and specs/Layout.antt, and src/laws.rt. It stands on thy_base,
+//! thy_crash, thy_flat, thy_isa, thy_record, thy_view and thy_protocol; on it stand thy_log and the scheme above it.
+#![tactic(auto)]
+
+mod commit;
+mod header;
+mod laws;
+mod places;
+
+pub use commit::{commit_block, commit_fault};
+pub use header::{header_block, header_fault};
+pub use laws::{
+    a_checkpoint_is_issued, a_slot_reads_back, free_is_not_looked_at, header_and_commit_read_back,
+};
+pub use places::{blocks, home, journal, slot, slot_blocks};

@@ -1,0 +1,216 @@
+-- What seals, drains and items of the engine make of the checkpoints.
+use Rattle.std.proofs.Common.{◌≡◌, ◌≢◌, ℕ, ◌+◌, ◌-◌, ◌*◌, ◌%◌, ◌<◌, ◌≤◌, nat_lt, Bool, true, false, if◌then◌else◌, length, length-append, length-drop, Option, Some, None, refl, sym, ◌∙◌, ap, subst, inl, arith, Result, Ok, Err, OnOk, OnErr, IfOk}
+use Rattle.thy_base.specs.declared.block.Block.{Block}
+use Rattle.thy_base.specs.declared.mark.Mark.{Mark}
+use Rattle.thy_base.specs.declared.nvm.NvmError.{NvmError}
+use Rattle.thy_base.specs.Device.{Device, IsFramed, written_to}
+use Rattle.thy_base.specs.Places.{record_blocks}
+use Rattle.thy_isa.specs.declared.state.CpuState.{CpuState}
+use Rattle.thy_record.specs.declared.engine_step.EngineStep.{EngineStep}
+use Rattle.thy_record.specs.declared.engine_step.EngineStep.TheVariants.{Idle, Copied, PageBlock, StateBlock, TableBlock, Barrier as IsBarrier, CommitWritten, Committed}
+use Rattle.thy_view.specs.Action.{Action, Rest, ReadAt, WriteAt, Barrier, Drain, after, FailsTo, Asks}
+use Rattle.thy_view.specs.Origin.{Origin}
+use Rattle.thy_scheme.specs.Marks.{Marks}
+use Rattle.thy_scheme.specs.Scheme.{Stands}
+use Rattle.thy_scheme.specs.Calls.{IsDue, engine_did, Keeps, Drains, Seals, Engines, EngineFails, OwesNoMore, OwesAfter}
+use Rattle.thy_journal_image.specs.Places.{slot_place, home_place, journal_place}
+use Rattle.thy_journal_image.specs.Commit.{commit_of}
+use Rattle.thy_log.specs.declared.next.Next.{Next}
+use Rattle.thy_log.specs.declared.next.Next.TheVariants.{Nothing, Journal, Slot, Settle, Commit, Confirm, Home}
+use Rattle.thy_log.specs.Cycles.{cycles_left}
+use Rattle.thy_log.specs.Items.{Item, NoItem, JournalItem, SlotItem, SettleItem, CommitItem, ConfirmItem, HomeItem, ReleaseItem, item, is_under_way, next_live, journal_or_slot, home_or_release, answer}
+use Rattle.thy_log.specs.Progress.{Progress, item_of, engine_next, state_next, action_next, action_of, state_after, block_listed}
+use Rattle.thy_log.specs.State.{State}
+use Rattle.thy_log.specs.Stores.{after_drain}
+use Rattle.thy_log.proofs.CycleLemmas.{items_count}
+use Rattle.thy_log.proofs.DrainLemmas.{works_drained}
+use Rattle.thy_journal_model.specs.Checkpoints.{is_sealing, is_confirming, IsMadeFor}
+use Rattle.thy_journal_model.specs.Journal.{Journal as Value}
+use Rattle.thy_journal_model.specs.Sound.{IsSound}
+use Rattle.thy_journal_model.specs.Taken.{taken, device_taken, step_of, sealed}
+use Rattle.thy_journal_model.proofs.DramLemmas.{dram_drain_keeps}
+use Rattle.thy_journal_model.proofs.FailLemmas.{failed_items_are_safe}
+use Rattle.thy_journal_model.proofs.SealLemmas.{seal_keeps_sound}
+use Rattle.thy_journal_model.proofs.SoundLemmas.{items_keep_sound}
+use Rattle.thy_journal_model.proofs.StoreLemmas.{items_keep_store, blocks_alike}
+use Rattle.thy_journal_scheme.specs.Scheme.{journal_scheme}
+
+-- ---- one action
+
+pub queue-written : (n : Device) (at : ℕ) (block : Block) → length (written_to n at block).queue ≤ length n.queue + 1
+queue-written n at block = simp (length-append, length-drop) (omega arith)
+
+pub after-queue : (a : Action) (n : Device) → length (after a n).queue ≤ length n.queue + 1
+after-queue Rest n = omega arith
+after-queue (ReadAt place) n = omega arith
+after-queue (WriteAt place block) n = queue-written n place block
+after-queue Barrier n = omega arith
+after-queue Drain n = omega (arith, length-drop 1 n.queue)
+
+-- ---- what an item is
+
+slot_due : (k : Marks) (first : Bool) → IsDue (if first then StateBlock else TableBlock) k
+slot_due k true = tt
+slot_due k false = tt
+
+asks_slot : (lap : ℕ) (first : Bool) (at : ℕ) (block : Block) → at ≢ 1 → Asks (engine_did lap (if first then StateBlock else TableBlock)) (WriteAt at block)
+asks_slot lap true at block other = other
+asks_slot lap false at block other = other
+
+-- it asks what its answer says
+item_asks : (lap : ℕ) (e : Progress) (s : State) (i : Item) → Asks (engine_did lap (answer e.p e.epoch i)) (action_of e i s)
+item_asks lap e s NoItem = tt
+item_asks lap e s (JournalItem i) = λ q. omega (arith, q)
+item_asks lap e s (SlotItem k) =
+    asks_slot lap (nat_lt k (record_blocks e.p)) (slot_place e.p (e.epoch % 2) + k) _ (λ q. omega (arith, q))
+item_asks lap e s SettleItem = refl
+item_asks lap e s CommitItem = (commit_of e.epoch, refl)
+item_asks lap e s ConfirmItem = refl
+item_asks lap e s (HomeItem i) = λ q. omega (arith, q)
+item_asks lap e s ReleaseItem = refl
+
+dram_after : (i : Item) (s : State) → (state_after i s).dram ≡ s.dram
+dram_after NoItem s = refl
+dram_after (JournalItem i) s = refl
+dram_after (SlotItem k) s = refl
+dram_after SettleItem s = refl
+dram_after CommitItem s = refl
+dram_after ConfirmItem s = refl
+dram_after (HomeItem i) s = refl
+dram_after ReleaseItem s = refl
+
+-- no copy is owed
+owes_none : (step : EngineStep) (s : Value) (n : Device) (t : Value) (new : Device) → OwesAfter step journal_scheme s n t new
+owes_none Idle s n t new = omega arith
+owes_none Copied s n t new = omega arith
+owes_none PageBlock s n t new = omega arith
+owes_none StateBlock s n t new = omega arith
+owes_none TableBlock s n t new = omega arith
+owes_none IsBarrier s n t new = omega arith
+owes_none CommitWritten s n t new = omega arith
+owes_none (Committed epoch) s n t new = tt
+
+-- ---- a step of the engine
+
+module _ (o : Origin) (k : Marks) (s : Value) (n : Device) (stands : Stands journal_scheme o k s n) (on : is_under_way s.engine.next ≡ true) where
+  abbrev e : Progress
+  e = s.engine
+
+  abbrev l : State
+  l = s.log
+
+  abbrev sound : IsSound o k s n
+  sound = stands.sound
+
+  due_live : (x : Option ℕ) → IsDue (answer e.p e.epoch (journal_or_slot x)) k
+  due_live None = slot_due k (nat_lt 0 (record_blocks e.p))
+  due_live (Some i) = tt
+
+  due_home : (x : Option ℕ) → IsDue (answer e.p e.epoch (home_or_release x)) k
+  due_home None = tt
+  due_home (Some i) = tt
+
+  due_by : (q : Next) → e.next ≡ q → is_under_way q ≡ true → IsDue (answer e.p e.epoch (item q l)) k
+  due_by Nothing is way = cc
+  due_by (Journal from) is way = due_live (next_live from l)
+  due_by (Slot j) is way = slot_due k (nat_lt j (record_blocks e.p))
+  due_by Settle is way = tt
+  due_by Commit is way =
+      let made = sound.checkpoints.made (ap is_sealing is) in (made.mark, sym sound.checkpoints.sealed ∙ made.sealed)
+  due_by Confirm is way =
+      let made = sound.checkpoints.made (ap is_sealing is) in
+      (sound.doubt ∙ ap is_confirming is, (made.mark, sym sound.checkpoints.sealed ∙ made.sealed, made.of_epoch))
+  due_by (Home from) is way = due_home (next_live from l)
+
+  count : cycles_left (engine_next e l) + 1 ≤ cycles_left e
+  count = items_count e l sound.held.progress sound.held.state sound.held.fits on
+
+  keeps : Keeps journal_scheme s n (taken s) (device_taken s n)
+  keeps =
+      let store = items_keep_store o k s n sound on in
+      record {
+        held = record { blocks = store.blocks; free = store.free; opened = inl refl };
+        left = record { owed = omega arith; engine = omega (arith, count); merges = omega arith; promotions = omega arith };
+        whole = λ h. h;
+        rested = refl;
+        lean = refl;
+      }
+
+  queue : length (device_taken s n).queue + (state_next e l).dram.queued ≤ length n.queue + l.dram.queued + 1
+  queue =
+      let same : (state_next e l).dram.queued ≡ l.dram.queued = ap (λ d. d.queued) (dram_after (item_of e l) l) in
+      omega (arith, after-queue (action_next e l) n, same)
+
+  pub engines : Engines journal_scheme o k (step_of s) s n (taken s) (device_taken s n)
+  engines = record {
+    due = due_by e.next refl on;
+    sound = items_keep_sound o k s n sound on stands.up;
+    keeps = keeps;
+    owes = owes_none (step_of s) s n (taken s) (device_taken s n);
+    acts = λ lap. record { action = action_next e l; asked = item_asks lap e l (item_of e l); left = refl };
+    dram = inl (dram_after (item_of e l) l);
+    queue = queue;
+    nearer = count;
+  }
+
+  pub engine-fails : (new : Device) → FailsTo (action_next e l) n new → IsFramed n new → EngineFails journal_scheme o k n new
+  engine-fails new failed framed = record {
+    step = step_of s;
+    acted = λ lap. record { action = action_next e l; asked = item_asks lap e l (item_of e l); failed = failed };
+    safe = failed_items_are_safe o k s n new sound on failed framed;
+  }
+
+  -- ---- by the engine's answer
+
+  abbrev With : State → Progress → Value
+  With t f = record s { log = t; engine = f }
+
+  pub engines-by : (f : Progress) (t : State) (new : Device) (r : Result EngineStep NvmError)
+      → IfOk r (λ step. step ≡ answer e.p e.epoch (item_of e l)) → OnOk r (f ≡ engine_next e l) → OnOk r (t ≡ state_next e l)
+      → OnOk r (new ≡ after (action_next e l) n) → IfOk r (λ step. Engines journal_scheme o k step s n (With t f) new)
+  engines-by f t new (Ok step) told engine log device =
+      subst (λ (x : EngineStep). Engines journal_scheme o k x s n (With t f) new) (sym told)
+      (subst (λ (x : Progress). Engines journal_scheme o k (step_of s) s n (With t x) new) (sym engine)
+      (subst (λ (x : State). Engines journal_scheme o k (step_of s) s n (With x (engine_next e l)) new) (sym log)
+      (subst (λ (x : Device). Engines journal_scheme o k (step_of s) s n (With (state_next e l) (engine_next e l)) x) (sym device) engines)))
+  engines-by f t new (Err x) told engine log device = tt
+
+  pub fails-by : (new : Device) (r : Result EngineStep NvmError) → OnErr r (FailsTo (action_next e l) n new) → IsFramed n new
+      → OnErr r (EngineFails journal_scheme o k n new)
+  fails-by new (Ok step) failed framed = tt
+  fails-by new (Err x) failed framed = engine-fails new failed framed
+
+-- ---- a seal
+
+pub seals : (o : Origin) (k : Marks) (cpu : CpuState) (epoch : ℕ) (s : Value) (n : Device) → Stands journal_scheme o k s n
+    → is_under_way s.engine.next ≡ false → Seals journal_scheme o k cpu epoch s n (sealed cpu epoch s)
+seals o k cpu epoch s n stands idle = record {
+  sound = λ m t. seal_keeps_sound o k cpu epoch m s n stands.sound stands.up idle t;
+  held = record { blocks = refl; free = omega arith; opened = inl refl };
+  dram = refl;
+  queue = refl;
+  rested = refl;
+  lean = refl;
+}
+
+-- ---- a drain of the DRAM
+
+pub drains : (o : Origin) (k : Marks) (s : Value) (n : Device) → Stands journal_scheme o k s n → 0 < s.log.dram.queued
+    → Drains journal_scheme o k s n (record s { log = after_drain s.log })
+drains o k s n stands some = record {
+  sound = dram_drain_keeps o k s n stands.sound;
+  keeps = record {
+    held = record {
+      blocks = blocks_alike s.log n (after_drain s.log) n refl refl refl (works_drained s.log n);
+      free = omega arith;
+      opened = inl refl;
+    };
+    left = record { owed = omega arith; engine = omega arith; merges = omega arith; promotions = omega arith };
+    whole = λ h. h;
+    rested = refl;
+    lean = refl;
+  };
+  owes = omega arith;
+  dram = refl;
+  queue = omega (arith, some);
+}

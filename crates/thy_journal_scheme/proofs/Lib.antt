@@ -1,0 +1,10 @@
+pub mod PowerLemmas
+pub mod StayLemmas
+pub mod HoldsLemmas
+pub mod CallLemmas
+pub mod EndLemmas
+pub mod BootLemmas
+pub mod StepLemmas
+pub mod StoreLemmas
+pub mod LawfulLemmas
+pub mod LawLemmas

@@ -1,0 +1,52 @@
+-- Power comes on.
+use Rattle.std.proofs.Common.{◌≡◌, ℕ, ◌+◌, ◌-◌, ◌*◌, ◌<◌, ◌≤◌, max, true, false, List, [], length, replicate, get_or, Option, Some, None, refl, sym, ◌∙◌, ap, subst, inl, inr, arith}
+use Rattle.std.proofs.lemmas.Bool.{cases_lt}
+use Rattle.std.proofs.lemmas.List.{get_or-replicate, get_or_past, length-replicate}
+use Rattle.thy_base.specs.declared.block.Block.{Block}
+use Rattle.thy_base.specs.declared.config.Parameters.{Parameters}
+use Rattle.thy_base.specs.declared.nvm.Shape.{Shape}
+use Rattle.thy_base.specs.Device.{Device, block_at, zero_block, fitted}
+use Rattle.thy_record.specs.Commit.{is_zero}
+use Rattle.thy_record.specs.Decoded.{Nothing}
+use Rattle.thy_record.proofs.ReadBackLemmas.{is_zero-zero_block}
+use Rattle.thy_view.specs.Safe.{ceiling}
+use Rattle.thy_protocol.proofs.LayoutLemmas.{decode_by-zero}
+use Rattle.thy_boot.specs.declared.stage.Stage.TheVariants.{Reads}
+use Rattle.thy_boot.specs.declared.stage.ReadStage.TheVariants.{Unread}
+use Rattle.thy_boot.specs.Boot.{Booting, new_boot}
+use Rattle.thy_boot.specs.Left.{boot_left}
+use Rattle.thy_journal_image.specs.Layout.{journaled}
+use Rattle.thy_table.specs.Listing.{entry_at}
+use Rattle.thy_log.specs.declared.entry.Listed.{Listed}
+use Rattle.thy_log.specs.State.{State, IsSoundState, new_state}
+use Rattle.thy_refill.specs.Filling.{filling_journal, IsFresh}
+use Rattle.thy_journal_model.specs.Journal.{Journal as Value}
+use Rattle.thy_journal_scheme.specs.Boots.{IsPowered}
+use Rattle.thy_journal_scheme.specs.Laws.{PowerIsNew, ZerosAreNothing}
+
+-- a new log lists nothing
+pub none_at : (size i : ℕ) → get_or (replicate {A = Option Listed} size None) i None ≡ None
+none_at size i = elim (cases_lt i size) as (λ _. get_or (replicate {A = Option Listed} size None) i None ≡ None) [
+  | inl l ↦ get_or-replicate size i None None l
+  | inr l ↦ get_or_past (replicate {A = Option Listed} size None) i None (omega (arith, l, length-replicate {A = Option Listed} size None))
+]
+
+pub IsFresh-new : (p : Parameters) (s : Value) → IsPowered p s → IsSoundState s.log → IsFresh s.log
+IsFresh-new p s powered state = record {
+  state = state;
+  free = λ i. ap (λ (l : State). entry_at l.table i) powered.log ∙ none_at p.btt i;
+}
+
+pub power_is_new : PowerIsNew
+power_is_new p s powered = record {
+  queued = ap (λ (l : State). l.dram.queued) powered.log ∙ powered.is_dram.empty;
+  boot_left =
+      subst (λ (b : Booting). boot_left filling_journal b b.stage ≤ boot_left filling_journal (new_boot filling_journal p) (Reads Unread))
+      (sym powered.boot) (omega arith);
+}
+
+pub zeros_are_nothing : ZerosAreNothing
+zeros_are_nothing p shape n same =
+    let some : 1 < shape.blocks - 0 = omega (arith, same) in
+    decode_by-zero (journaled p ceiling) (fitted shape [] n).image
+    (ap is_zero (get_or-replicate (shape.blocks - 0) 1 zero_block zero_block some) ∙ is_zero-zero_block)

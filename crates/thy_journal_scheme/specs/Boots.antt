@@ -1,0 +1,101 @@
+-- The boot of a run, and what is seen of it.
+use Rattle.std.specs.Prelude.{◌≡◌, true, false, Bool, Result, Ok, Err}
+use Rattle.thy_base.specs.declared.config.Parameters.{Parameters}
+use Rattle.thy_base.specs.declared.nvm.NvmError.{NvmError}
+use Rattle.thy_base.specs.Device.{Device}
+use Rattle.thy_base.specs.Geometry.{IsInRange}
+use Rattle.thy_dram.specs.Contents.{Contents}
+use Rattle.thy_view.specs.declared.view.View.{View}
+use Rattle.thy_view.specs.Booting.{loading_view, view_of_image}
+use Rattle.thy_view.specs.Kind.{IsDramOf}
+use Rattle.thy_view.specs.Origin.{Origin, IsOrigin}
+use Rattle.thy_view.specs.Safe.{ceiling}
+use Rattle.thy_boot.specs.declared.stage.BootStep.{BootStep}
+use Rattle.thy_boot.specs.declared.stage.BootStep.TheVariants.{Reading, Loading as IsLoading, Loaded as HasLoaded, Restarted, Refused}
+use Rattle.thy_boot.specs.declared.stage.Stage.{Stage}
+use Rattle.thy_boot.specs.declared.stage.Stage.TheVariants.{Reads, Loads, Over}
+use Rattle.thy_boot.specs.declared.stage.ReadStage.TheVariants.{Unread}
+use Rattle.thy_boot.specs.declared.stage.End.TheVariants.{Restored}
+use Rattle.thy_boot.specs.Boot.{Booting, IsBoot, new_boot}
+use Rattle.thy_boot.specs.Laws.{IsGoing}
+use Rattle.thy_boot.specs.Shows.{is_written}
+use Rattle.thy_boot.specs.Sound.{BootImages, IsSound as IsBootOf}
+use Rattle.thy_scheme.specs.declared.boot_step.BootStep.{BootStep as SchemeStep}
+use Rattle.thy_scheme.specs.declared.boot_step.BootStep.TheVariants.{GoesOn, Loaded as SchemeLoaded, Restarted as SchemeRestarted, Refused as SchemeRefused}
+use Rattle.thy_journal_image.specs.Layout.{decode_journal}
+use Rattle.thy_log.specs.Items.{is_under_way}
+use Rattle.thy_log.specs.Progress.{Progress, IsSoundProgress, applying}
+use Rattle.thy_log.specs.State.{State, IsSoundState, new_state}
+use Rattle.thy_refill.specs.Filling.{filling_journal}
+use Rattle.thy_journal_model.specs.Journal.{Journal}
+
+-- log and engine are of the run's geometry, and nothing was sealed yet
+pub record IsUnused (o : Origin) (s : Journal) : Type 0 where
+  pub state : IsSoundState s.log
+  pub log : s.log.p ≡ o.geometry
+  pub engine : s.engine.p ≡ o.geometry
+  pub progress : IsSoundProgress s.engine
+  pub idle : is_under_way s.engine.next ≡ false
+  pub room : s.log.dram.room ≡ o.geometry.dramq
+  pub lean : s.lean ≡ false
+
+-- a boot of a run that is not over, of a scheme in which nothing was sealed or stored; before it has read, nothing is queued in
+-- the DRAM
+pub record Boots (o : Origin) (s : Journal) (n : Device) : Type 0 where
+  pub origin : IsOrigin o
+  pub images : BootImages
+  pub sound : IsBootOf filling_journal o images n s.boot s.log
+  pub going : IsGoing s.boot.stage
+  pub boot : IsBoot filling_journal s.boot
+  pub unused : IsUnused o s
+  pub unread : s.boot.stage ≡ Reads Unread → s.log.dram.queued ≡ 0
+  pub rested : s.rested ≡ true
+
+-- what is seen: while it loads, whether the commit block was written, and before what the image means
+abbrev pub view_at : Origin → Stage → Device → View
+view_at o (Loads issue) n = record (loading_view o.start.count) { written = is_written issue }
+view_at o stage n = view_of_image o.start.count (decode_journal o.geometry ceiling n.image)
+
+-- the commit block was read
+abbrev pub has_read_at : Stage → Bool
+has_read_at (Reads Unread) = false
+has_read_at stage = true
+
+-- there is no checkpoint
+abbrev pub loads_at : Stage → Bool
+loads_at (Loads issue) = true
+loads_at stage = false
+
+-- with a checkpoint restored the engine applies its journal
+abbrev pub engine_at : Stage → Progress → Progress
+engine_at (Over Restored) e = applying e
+engine_at stage e = e
+
+-- the journal after a step of the boot
+abbrev pub booted : Booting → State → Journal → Journal
+booted boot log s = record s { log = log; engine = engine_at boot.stage s.engine; boot = boot }
+
+-- what a step of the boot answers, as a scheme answers it; and so if the NVM may have failed
+abbrev pub step_of : BootStep → SchemeStep
+step_of Reading = GoesOn
+step_of IsLoading = GoesOn
+step_of HasLoaded = SchemeLoaded
+step_of (Restarted cpu epoch) = SchemeRestarted cpu epoch
+step_of (Refused bad) = SchemeRefused bad
+
+abbrev pub result_of : Result BootStep NvmError → Result SchemeStep NvmError
+result_of (Ok step) = Ok (step_of step)
+result_of (Err e) = Err e
+
+-- power has just come on
+pub record IsPowered (p : Parameters) (s : Journal) : Type 0 where
+  pub dram : Contents
+  pub is_dram : IsDramOf p dram
+  pub log : s.log ≡ new_state p dram
+  pub state : IsInRange p → IsSoundState s.log
+  pub boot : s.boot ≡ new_boot filling_journal p
+  pub engine : s.engine.p ≡ p
+  pub progress : IsSoundProgress s.engine
+  pub idle : is_under_way s.engine.next ≡ false
+  pub rested : s.rested ≡ true
+  pub lean : s.lean ≡ false

@@ -1,0 +1,131 @@
+-- What holds of the scheme.
+use Rattle.std.specs.Prelude.{◌≡◌, ℕ, ◌+◌, ◌*◌, ◌<◌, ◌≤◌, true, false, [], length}
+use Rattle.thy_base.specs.declared.config.Parameters.{Parameters}
+use Rattle.thy_base.specs.declared.nvm.Shape.{Shape}
+use Rattle.thy_base.specs.declared.block.Block.{Block}
+use Rattle.thy_base.specs.declared.store.Stored.TheVariants.{Done}
+use Rattle.thy_base.specs.Device.{Device, IsFramed, block_at, fitted}
+use Rattle.thy_base.specs.Geometry.{memory_blocks}
+use Rattle.thy_isa.specs.declared.state.CpuState.{CpuState}
+use Rattle.thy_record.specs.Decoded.{Nothing}
+use Rattle.thy_view.specs.Action.{FailsTo}
+use Rattle.thy_view.specs.Origin.{Origin, IsOrigin}
+use Rattle.thy_view.specs.Safe.{ceiling}
+use Rattle.thy_boot.specs.Boot.{Booting, IsBoot, answer_of}
+use Rattle.thy_boot.specs.Steps.{Steps}
+use Rattle.thy_scheme.specs.Boots.{BootsOn}
+use Rattle.thy_scheme.specs.Calls.{Drains, Engines, EngineFails, IsOneAccess, Seals, Stores}
+use Rattle.thy_scheme.specs.Marks.{Marks}
+use Rattle.thy_scheme.specs.Scheme.{Stands, IsBooting}
+use Rattle.thy_scheme.specs.Laws.{IsFound, IsLawful, IsNew, BootsFound, BootHolds, RunHolds, StaysSound, is_free_to_run}
+use Rattle.thy_journal_image.specs.Places.{image_blocks, slot_blocks}
+use Rattle.thy_log.specs.Progress.{action_next}
+use Rattle.thy_log.specs.State.{State, IsSoundState, work_of}
+use Rattle.thy_log.specs.Stores.{after_drain, after_store}
+use Rattle.thy_refill.specs.Filling.{filling_journal}
+use Rattle.thy_journal_model.specs.Journal.{Journal}
+use Rattle.thy_journal_model.specs.Stays.{StaysJournal}
+use Rattle.thy_journal_model.specs.Taken.{taken, device_taken, step_of, sealed}
+use Rattle.thy_journal_scheme.specs.Boots.{booted, step_of as answered}
+use Rattle.thy_journal_scheme.specs.Scheme.{journal_scheme}
+
+-- blocks are held, and can be stored, only while the NVM is up
+abbrev pub HeldIsUp : Type 0
+HeldIsUp =
+    ((s : Journal) (n : Device) (b : ℕ) → b < length (journal_scheme.holding s n).blocks → n.down ≡ false)
+    × ((s : Journal) (n : Device) → (journal_scheme.holding s n).ready ≡ true → n.down ≡ false)
+
+-- what stays does so if nothing happens, and over one call after another
+abbrev pub StaysOver : Type 0
+StaysOver =
+    ((s : Journal) (n : Device) → StaysJournal s n s n)
+    × ((a : Journal) (m : Device) (b : Journal) (n : Device) (c : Journal) (o : Device)
+    → StaysJournal a m b n → StaysJournal b n c o → StaysJournal a m c o)
+
+-- what stays keeps the checkpoints, whether or not a call failed
+abbrev pub StaysKeep : Type 0
+StaysKeep =
+    (o : Origin) (k : Marks) (s : Journal) (n : Device) (t : Journal) (new : Device)
+    → Stands journal_scheme o k s n → is_free_to_run journal_scheme s ≡ true → StaysJournal s n t new
+    → StaysSound journal_scheme o k s t new
+
+-- what holds behind the boot
+abbrev pub RunIsSound : Type 0
+RunIsSound = (o : Origin) (k : Marks) (s : Journal) (n : Device) → Stands journal_scheme o k s n → RunHolds journal_scheme o k s n
+
+-- nothing is queued in the DRAM of one whose power has just come on, and no more is left to do than there may be
+abbrev pub PowerIsNew : Type 0
+PowerIsNew = (p : Parameters) (s : Journal) → journal_scheme.powered p s → IsNew journal_scheme p s
+
+-- zeros are no checkpoint
+abbrev pub ZerosAreNothing : Type 0
+ZerosAreNothing =
+    (p : Parameters) (shape : Shape) (n : Device)
+    → shape.blocks ≡ journal_scheme.blocks p → journal_scheme.decode p ceiling (fitted shape [] n).image ≡ Nothing
+
+-- what a cut leaves in the boot is what is seen, and drains of the NVM change nothing of it
+abbrev pub BootIsSound : Type 0
+BootIsSound = (o : Origin) (s : Journal) (n : Device) → IsBooting journal_scheme o s n → BootHolds journal_scheme o s n
+
+-- a scheme whose power has just come on boots what the image means
+abbrev pub PowerFinds : Type 0
+PowerFinds =
+    (o : Origin) (s : Journal) (n : Device)
+    → IsOrigin o → journal_scheme.powered o.geometry s → IsFound journal_scheme o n → BootsFound journal_scheme o s n
+
+-- every step of the engine keeps the checkpoints, and one that failed is safe
+abbrev pub ItemsAreSteps : Type 0
+ItemsAreSteps =
+    (o : Origin) (k : Marks) (s : Journal) (n : Device)
+    → Stands journal_scheme o k s n → journal_scheme.under_way s ≡ true
+    → Engines journal_scheme o k (step_of s) s n (taken s) (device_taken s n)
+    × ((new : Device) → FailsTo (action_next s.engine s.log) n new → IsFramed n new → EngineFails journal_scheme o k n new)
+
+-- a seal and a drain of the DRAM keep them
+abbrev pub SealsKeep : Type 0
+SealsKeep =
+    (o : Origin) (k : Marks) (cpu : CpuState) (epoch : ℕ) (s : Journal) (n : Device)
+    → Stands journal_scheme o k s n → journal_scheme.under_way s ≡ false → Seals journal_scheme o k cpu epoch s n (sealed cpu epoch s)
+
+abbrev pub DrainsKeep : Type 0
+DrainsKeep =
+    (o : Origin) (k : Marks) (s : Journal) (n : Device)
+    → Stands journal_scheme o k s n → 0 < journal_scheme.queued s
+    → Drains journal_scheme o k s n (record s { log = after_drain s.log })
+
+-- a boot with a start that can be recorded, which a step made so: it goes on, or it is over and the checkpoint is the committed one
+abbrev pub StepsBoot : Type 0
+StepsBoot =
+    (o : Origin) (s : Journal) (n : Device) (new : Device) (d : Booting) (e : State)
+    → IsBooting journal_scheme o s n → Steps filling_journal o.start n s.boot s.log new d e → IsBoot filling_journal d → IsSoundState e
+    → BootsOn journal_scheme o (answered (answer_of filling_journal d)) s n (booted d e s) new
+
+-- the scheme is lawful
+abbrev pub JournalIsLawful : Type 0
+JournalIsLawful = IsLawful journal_scheme
+
+-- a block that is held is that of a load, over an NVM of its size
+abbrev pub HeldIsWork : Type 0
+HeldIsWork =
+    (s : Journal) (n : Device) (b : ℕ) → b < length (journal_scheme.holding s n).blocks
+    → (length n.image ≡ image_blocks s.log.p) × (b < memory_blocks s.log.p)
+    × (block_at (journal_scheme.holding s n).blocks b ≡ work_of s.log n b)
+
+-- with a block in its buffer, and one stored since the last seal
+abbrev pub stored : ℕ → Block → Journal → Journal
+stored b block s = record s { log = after_store b block s.log; rested = false }
+
+-- a store makes that of the journal, at once and without an action on the NVM
+abbrev pub StoresKeep : Type 0
+StoresKeep =
+    (b : ℕ) (block : Block) (s : Journal) (n : Device)
+    → IsSoundState s.log → b < length (journal_scheme.holding s n).blocks → 0 < (journal_scheme.holding s n).free
+    → Stores journal_scheme Done b block s n (stored b block s) n × IsOneAccess journal_scheme s n (stored b block s) n
+
+-- a boot takes an action for each of memory's blocks, two for each of the slot's, one for each entry of the table, and eight more, at
+-- the most; and so a checkpoint two for each entry, one for each of the slot's blocks, and four more
+abbrev pub BootsAreShort : Type 0
+BootsAreShort =
+    (p : Parameters)
+    → (journal_scheme.most_booting p ≤ memory_blocks p + 2 * slot_blocks p + p.btt + 8)
+    × (journal_scheme.most_engine p ≤ 2 * p.btt + slot_blocks p + 4)

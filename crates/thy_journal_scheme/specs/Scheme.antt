@@ -1,0 +1,55 @@
+-- What is seen of the journal as a scheme.
+use Rattle.std.specs.Prelude.{true, false}
+use Rattle.thy_table.specs.Listing.{free_count}
+use Rattle.thy_boot.specs.declared.stage.Stage.TheVariants.{Reads}
+use Rattle.thy_boot.specs.declared.stage.ReadStage.TheVariants.{Unread}
+use Rattle.thy_boot.specs.Boot.{new_boot}
+use Rattle.thy_boot.specs.Left.{boot_left}
+use Rattle.thy_scheme.specs.Scheme.{SchemeOf}
+use Rattle.thy_journal_image.specs.Places.{image_blocks}
+use Rattle.thy_journal_image.specs.Layout.{decode_journal}
+use Rattle.thy_log.specs.Cycles.{cycles_left, most_cycles}
+use Rattle.thy_log.specs.Holding.{holding_of}
+use Rattle.thy_log.specs.Items.{is_under_way, is_applying}
+use Rattle.thy_refill.specs.Filling.{filling_journal}
+use Rattle.thy_journal_model.specs.Journal.{Journal, IsOf, committed_in}
+use Rattle.thy_journal_model.specs.Sound.{IsSound}
+use Rattle.thy_journal_model.specs.Stays.{StaysJournal}
+use Rattle.thy_journal_scheme.specs.Boots.{Boots, IsPowered, view_at, has_read_at}
+
+abbrev pub journal_scheme : SchemeOf Journal
+journal_scheme = record {
+  decode = decode_journal;
+  blocks = image_blocks;
+  powered = IsPowered;
+  holding = λ s n. holding_of s.log n;
+  committed = λ s n. committed_in s.engine s.log n;
+  stays = StaysJournal;
+  under_way = λ s. is_under_way s.engine.next;
+  applies = λ s. is_applying s.engine.next;
+  overlaid = λ s. false;
+  promoting = λ s. false;
+  rested = λ s. s.rested;
+  lean = λ s. s.lean;
+  overlaps = false;
+  dram = λ s. s.log.dram;
+  is_of = IsOf;
+  queued = λ s. s.log.dram.queued;
+  free = λ s. free_count s.log.table;
+  is_sound = IsSound;
+  boots = Boots;
+  boot_view = λ o s n. view_at o s.boot.stage n;
+  has_read = λ s. has_read_at s.boot.stage;
+  migrates = λ s. false;
+  boot_left = λ s. boot_left filling_journal s.boot s.boot.stage;
+  engine_left = λ s. cycles_left s.engine;
+  merges_left = λ s. 0;
+  promotions_left = λ s. 0;
+  owed_later = λ s. 0;
+  most_booting = λ p. boot_left filling_journal (new_boot filling_journal p) (Reads Unread);
+  most_engine = most_cycles;
+  most_merges = λ p. 0;
+  most_promotions = λ p. 0;
+  most_owed = λ p. 0;
+  most_free = λ p. p.btt;
+}

@@ -1,0 +1,11 @@
+//! The redo journal as a scheme of checkpoints: what is seen of it, and what holds of that.
+//!
+//! Open specs/Scheme.antt first, then specs/Boots.antt, and src/laws.rt. It stands on thy_journal_model, thy_refill and what those
+//! stand on.
+#![tactic(auto)]
+
+mod laws;
+
+pub use laws::{
+    a_boot_is_sound, a_run_is_sound, calls_keep_the_run, the_journal_is_lawful, what_is_held_stays,
+};

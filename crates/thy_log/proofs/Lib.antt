@@ -1,0 +1,4 @@
+pub mod TableLemmas
+pub mod StateLemmas
+pub mod CycleLemmas
+pub mod DrainLemmas

@@ -1,0 +1,17 @@
+use Rattle.std.proofs.Common.{List, Option, ℕ, map, ap, subst, sym, ◌∙◌}
+use Rattle.thy_record.specs.TableBlocks.{entry_word, HaveWords}
+use Rattle.thy_base.specs.Words.{block_of}
+use Rattle.thy_log.specs.State.{State, table_of}
+use Rattle.thy_log.proofs.TableLemmas.{IsTable-table_of, HaveWords-eight, block_of_eight}
+use Rattle.thy_log.proofs.log.Log.table_block.Goals as goal
+
+pub table_block-requires : goal.table_block-requires
+table_block-requires c =
+    let s : State = c.args.self.now in
+    subst (λ (es : List (Option ℕ)). HaveWords es) (sym c.listed_in.ensures)
+    (HaveWords-eight s.p (table_of s) c.args.k c.sound.ensures.range (IsTable-table_of s c.sound.ensures))
+
+pub returns : goal.returns
+returns c =
+    let s : State = c.args.self.now in
+    c.table_block.ensures ∙ ap (λ (es : List (Option ℕ)). block_of (map entry_word es)) c.listed_in.ensures ∙ block_of_eight (table_of s) c.args.k

@@ -1,0 +1,7 @@
+pub mod Keys
+pub mod State
+pub mod Stores
+pub mod Items
+pub mod Progress
+pub mod Holding
+pub mod Cycles

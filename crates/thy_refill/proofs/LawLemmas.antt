@@ -1,0 +1,68 @@
+-- What holds of filling the log.
+use Rattle.std.proofs.Common.{◌≡◌, ℕ, ◌+◌, ◌*◌, ◌%◌, ◌^◌, ◌<◌, ◌≤◌, List, None, refl, inr, arith}
+use Rattle.thy_base.specs.declared.block.Block.{Block}
+use Rattle.thy_base.specs.declared.config.Parameters.{Parameters}
+use Rattle.thy_base.specs.Device.{Device, newest}
+use Rattle.thy_isa.specs.declared.state.CpuState.{CpuState}
+use Rattle.thy_isa.specs.OnBlocks.{state_from}
+use Rattle.thy_record.specs.Commit.{epoch_of}
+use Rattle.thy_record.specs.Cpu.{cpu_of_record}
+use Rattle.thy_record.proofs.IssuingLemmas.{half}
+use Rattle.thy_boot.specs.Filling.{IsFilling}
+use Rattle.thy_boot.proofs.StartLemmas.{CanStart-origin}
+use Rattle.thy_journal_image.specs.Places.{slot_blocks, slot_place, image_blocks, journal_place}
+use Rattle.thy_journal_image.proofs.HeadLemmas.{epoch_of-commit_of, is_zero-commit_of}
+use Rattle.thy_journal_image.proofs.PartsLemmas.{slot_fits}
+use Rattle.thy_log.specs.State.{State}
+use Rattle.thy_log.proofs.DrainLemmas.{works_drained, IsSoundState-drained}
+use Rattle.thy_refill.specs.Filling.{filling_journal, slot_named}
+use Rattle.thy_refill.proofs.FillLemmas.{next_above, next_found, filled_all, listed_put, filled_put, works_are_memory}
+use Rattle.thy_refill.proofs.FirstLemmas.{start_parts, start_faultless, start_state, start_some, start_whole, start_once, fresh_loads}
+
+-- a state has retired what its processor has
+count_of : (p : Parameters) (cpu : CpuState) (memory : List Block) → (state_from p cpu memory).count ≡ cpu.count
+unfolding state_from
+count_of p cpu memory = refl
+
+pub log_is_filled : IsFilling filling_journal
+log_is_filled = record {
+  some_slot = λ p commit. omega arith;
+  most_room = λ p commit. omega arith;
+  head_inside = λ p. omega arith;
+  slot_inside = λ p header commit fits also. slot_fits p (epoch_of commit % 2) (half (epoch_of commit));
+  counts = λ p slot memory. count_of p (cpu_of_record slot) memory;
+  begins = λ s n commit slot lists. record { each = λ i b low listed. absurd (omega (arith, low)) };
+  next = λ s n commit slot from k lists filled found. next_found s n slot lists from filled commit k found;
+  above = λ p commit slot from k found. next_above p slot from k found;
+  fills = λ s n commit slot k lists filled found settled sized is. (
+    listed_put s n slot lists k (newest n (journal_place s.p (slot_named commit) k)),
+    filled_put s n slot lists commit k filled found is,
+    refl,
+  );
+  fill_acts = λ s n commit k. inr (record {
+    at = k;
+    block = newest n (journal_place s.p (slot_named commit) k);
+    left = refl;
+    nvm = refl;
+  });
+  fill_keeps = λ s commit k block. refl;
+  same_keeps = λ s. refl;
+  ends = λ s n commit slot from lists filled none settled long is slot_is.
+      let whole = filled_all s n slot lists from filled none in (whole, works_are_memory s n slot lists settled slot_is whole);
+  drain_p = λ s. refl;
+  drain_fresh = λ s fresh. record { state = IsSoundState-drained s fresh.state; free = fresh.free };
+  drain_lists = λ s commit slot lists. record { state = IsSoundState-drained s lists.state; table = lists.table };
+  drain_filled = λ s n k filled. record { each = filled.each };
+  drain_whole = λ s n filled. record { each = filled.each };
+  drain_loads = λ s n. works_drained s n;
+  origin_starts = CanStart-origin;
+  first_committed = λ p s starts. is_zero-commit_of 0;
+  first_epoch = λ p s starts. epoch_of-commit_of 0 (omega arith);
+  first_parts = start_parts;
+  first_some = start_some;
+  first_once = λ p s i j starts l m same. start_once p s starts i j l m same;
+  first_whole = start_whole;
+  first_faultless = start_faultless;
+  first_state = start_state;
+  first_loads = λ s n start fresh settled. fresh_loads s n start fresh;
+}

@@ -1,0 +1,6 @@
+pub mod FillLemmas
+pub mod FirstLemmas
+pub mod LawLemmas
+pub mod FaultLemmas
+pub mod ListLemmas
+pub mod ZeroLemmas

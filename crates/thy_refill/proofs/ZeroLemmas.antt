@@ -1,0 +1,19 @@
+-- The blocks of a table that lists nothing hold zeros.
+use Rattle.std.proofs.Common.{◌≡◌, ℕ, ◌+◌, ◌-◌, ◌*◌, ◌/◌, ◌%◌, ◌<◌, ◌≤◌, List, map, take, drop, replicate, Option, None, sym, ◌∙◌, ap, arith}
+use Rattle.std.proofs.lemmas.List.{drop-replicate, take-replicate}
+use Rattle.thy_base.specs.declared.config.Parameters.{Parameters}
+use Rattle.thy_base.specs.Geometry.{IsInRange}
+use Rattle.thy_base.specs.Words.{block_of}
+use Rattle.thy_base.proofs.RangeLemmas.{btt_eights}
+use Rattle.thy_record.specs.TableBlocks.{entry_word}
+use Rattle.thy_journal_image.specs.Slots.{table_block_of}
+use Rattle.thy_log.proofs.TableLemmas.{eight_of, block_of_eight}
+use Rattle.thy_refill.specs.Filling.{no_table}
+
+pub table_block-none : (p : Parameters) (k : ℕ) → IsInRange p → k < p.btt / 8 → block_of (replicate 8 0) ≡ table_block_of (no_table p) k
+table_block-none p k range inside =
+    let eights : p.btt % 8 ≡ 0 = btt_eights p range in
+    let enough : 8 ≤ p.btt - 8 * k = omega (arith, inside, eights) in
+    let eight : replicate 8 None ≡ eight_of (no_table p) k
+    = sym (ap (take 8) (drop-replicate (8 * k) p.btt None) ∙ take-replicate 8 (p.btt - 8 * k) None enough) in
+    ap (λ (xs : List (Option ℕ)). block_of (map entry_word xs)) eight ∙ block_of_eight (no_table p) k

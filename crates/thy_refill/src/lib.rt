@@ -1,0 +1,16 @@
+//! What the boot makes of the journal's log: after a restart, the buffers of its table have what the journal of the checkpoint
+//! has. Callers rest on `the_log_is_filled`, and on `slot_fault` and
+//! `next_listed`, which read the bytes of a slot.
+//!
+//! Open specs/Filling.antt first. It stands on thy_boot, thy_log and what those stand on.
+#![tactic(auto)]
+
+mod laws;
+mod listing;
+mod slot;
+mod start;
+
+pub use laws::the_log_is_filled;
+pub use listing::list_all;
+pub use slot::{listed_block, next_listed, slot_fault};
+pub use start::start_slot_block;

@@ -1,0 +1,41 @@
+//! What the table of a slot lists, given to the log.
+ghost use Rattle.std.specs.Prelude.{◌≡◌, ◌+◌, ◌*◌, ◌<◌, length};
+ghost use Rattle.thy_record.specs.Files.{blocks_of};
+ghost use Rattle.thy_journal_image.specs.Places.{slot_blocks};
+ghost use Rattle.thy_journal_image.specs.Slots.{IsTable, table_in};
+ghost use Rattle.thy_refill.specs.Filling.{IsFresh};
+ghost use Rattle.thy_refill.specs.Listed.{ListsAll, ListsUpTo};
+
+use crate::slot::listed_block;
+use thy_base::Geometry;
+use thy_log::Log;
+
+/// Lists in a log that lists nothing what the table of a slot does, each block at the slot's entry.
+pub fn list_all(slot: &[u8], geometry: &Geometry, log: &mut Log)
+    requires slot { length slot.now ≡ 64 * slot_blocks geometry.now }
+    requires geometry { log.old.p ≡ geometry.now }
+    requires table { IsTable geometry.now (table_in geometry.now (blocks_of slot.now)) }
+    requires fresh { IsFresh log.old }
+    ensures { ListsAll (blocks_of slot.now) log.old log.new }
+{
+    let entries = geometry.numbers().btt as usize;
+    for i in 0..entries {
+        list_one(slot, i, geometry, log);
+    }
+}
+
+/// Lists what entry `i` does.
+#[tactic(auto, using(crate::proofs::ListLemmas::lists_some_at, crate::proofs::ListLemmas::lists_none_at))]
+fn list_one(slot: &[u8], i: usize, geometry: &Geometry, log: &mut Log)
+    requires slot { length slot.now ≡ 64 * slot_blocks geometry.now }
+    requires geometry { log.old.p ≡ geometry.now }
+    requires table { IsTable geometry.now (table_in geometry.now (blocks_of slot.now)) }
+    requires entry { i < geometry.now.btt }
+    requires before { ListsUpTo i (blocks_of slot.now) log.old log.old }
+    ensures { ListsUpTo (i + 1) (blocks_of slot.now) log.old log.new }
+{
+    if let Some(block) = listed_block(slot, i, geometry) {
+        log.list_at(i, block);
+    }
+    log.sound();
+}
