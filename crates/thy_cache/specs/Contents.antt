@@ -48,11 +48,11 @@ set_of c b = set_at c (index_of c b)
 abbrev pub line_of : Contents → ℕ → Option Line
 line_of c b = line_in (set_of c b) b
 
--- where a block's line is, where it has one
+-- the place of a block's line, if it has one
 abbrev pub place_of : Contents → ℕ → Option Place
 place_of c b = option_map (λ way. record { set = index_of c b; way = way }) (way_of (set_of c b) b)
 
--- what a block's line holds, where it has one
+-- what a block's line holds, if it has one
 abbrev pub peeked : Contents → ℕ → Option Block
 peeked c b = option_map (λ line. line.block) (line_of c b)
 
@@ -60,7 +60,7 @@ peeked c b = option_map (λ line. line.block) (line_of c b)
 abbrev pub hits : Contents → ℕ → Bool
 hits c b = is_some (line_of c b)
 
--- the line that stands in a block's way, where one does
+-- the line that is in a block's way, if there is one
 abbrev pub victim_line_of : Contents → ℕ → Option Line
 victim_line_of c b = line_at (set_of c b) (victim_way (set_of c b))
 
@@ -125,11 +125,11 @@ dirty_set c = unwrap_or (position has_dirty c.sets) 0
 abbrev pub dirty_way : Contents → ℕ
 dirty_way c = unwrap_or (position is_dirty (set_at c (dirty_set c)).lines) 0
 
--- the first dirty line of a set, where it has one
+-- the first dirty line of a set, if it has one
 abbrev pub dirty_line_in : Ways → Option Line
 dirty_line_in set = option_and_then (line_at set) (position is_dirty set.lines)
 
--- the first dirty line, where there is one
+-- the first dirty line, if there is one
 abbrev pub dirty_line : Contents → Option Line
 dirty_line c = option_and_then (λ s. dirty_line_in (set_at c s)) (position has_dirty c.sets)
 
@@ -171,6 +171,6 @@ CountsFlushed CopiedFirst old new = new ≡ old
 abbrev pub IsOpenForFlush : Contents → Option ℕ → Type 0
 IsOpenForFlush c page = (page ≡ None) ⊎ ((line : Line) × (dirty_line c ≡ Some line) × (page ≡ Some (page_of line.at)))
 
--- and so it is after a step of a flush, where it was before
+-- if that holds before a step of a flush, it holds after it
 abbrev pub KeepsOpen : Contents → Holding → Contents → Holding → Type 0
 KeepsOpen c old d new = IsOpenForFlush c old.open_page → IsOpenForFlush d new.open_page

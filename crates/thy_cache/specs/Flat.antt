@@ -9,7 +9,7 @@ use Rattle.thy_cache.specs.declared.line.Line.{Line}
 use Rattle.thy_cache.specs.Ways.{Ways, line_at, is_dirty}
 use Rattle.thy_cache.specs.Contents.{Contents, set_at, line_of, peeked, hits, dirty_count, KeepsSize}
 
--- a block: its line where it hits, else the store's block
+-- a block: its line if it hits, else the store's block
 abbrev pub flat_at : Contents → List Block → ℕ → Block
 flat_at c blocks b = unwrap_or (peeked c b) (block_at blocks b)
 

@@ -10,7 +10,7 @@ use Rattle.thy_cache.specs.declared.line.Victim.{Victim}
 use Rattle.thy_cache.specs.declared.line.Victim.TheVariants.{Room, Dirty}
 
 pub record Ways : Type 0 where
-  -- the line in each way, where there is one
+  -- the line in each way, if there is one
   pub lines : List (Option Line)
   -- the ways as they were last used, the least recently used first
   pub order : List ℕ
@@ -72,7 +72,7 @@ over_line f w ways = record ways { lines = slice_set ways.lines w (option_map f 
 abbrev pub victim_way : Ways → ℕ
 victim_way ways = unwrap_or (position is_none ways.lines) (slice_index ways.order 0)
 
--- what stands in the way of the next line
+-- what is in the way of the next line
 abbrev pub victim_line : Option Line → Victim
 victim_line None = Room
 victim_line (Some line) = if line.dirty then Dirty line.at else Room

@@ -13,7 +13,7 @@ use std::marker::Model;
 use thy_base::{Block, BlockStore, NvmError, Stored};
 
 /// A write-back cache over a store of blocks. Block `b` belongs to set `b` modulo the number of sets.
-/// Only `new` takes memory.
+/// Only `new` allocates.
 #[derive(Drop)]
 pub struct Cache {
     sets: Vec<WaySet>,
@@ -67,7 +67,7 @@ impl Cache {
         self.sets[set].line_of(b)
     }
 
-    /// Where the line of block `b` is, where the cache has one.
+    /// The place of the line of block `b`, if the cache has one.
     pub fn find(&self, b: u64) -> Option<Place>
         ensures place { result ≡ place_of self.now b }
         ensures hit { is_some result ≡ hits self.now b }
@@ -79,7 +79,7 @@ impl Cache {
         }
     }
 
-    /// What the line of block `b` holds, where there is one. It does not count as a use.
+    /// What the line of block `b` holds, if there is one. It does not count as a use.
     pub fn peek(&self, b: u64) -> Option<Block>
         ensures block { result ≡ peeked self.now b }
         ensures hit { is_some result ≡ hits self.now b }
@@ -97,7 +97,7 @@ impl Cache {
         self.dirty
     }
 
-    /// What has to happen before block `b` can be filled in: nothing where no line is dirty.
+    /// What has to happen before block `b` can be filled in: nothing if no line is dirty.
     pub fn victim(&self, b: u64) -> Victim
         ensures victim { result ≡ victim_of self.now b }
         ensures clean { dirty_count self.now ≡ 0 → result ≡ Victim.Room }
@@ -180,8 +180,8 @@ impl Cache {
         self.sets[set].fill(b, block);
     }
 
-    /// Loads block `b`, which does not hit, into its set, where there is room for it. Where the store
-    /// fails nothing has changed here.
+    /// Loads block `b`, which does not hit, into its set, which has room for it. If the store fails, nothing has
+    /// changed here.
     pub fn fill<N, S: BlockStore<N>>(
         &mut self,
         b: u64,
@@ -239,7 +239,7 @@ impl Cache {
         self.dirty -= 1;
     }
 
-    /// Stores the dirty line in a way of a set, or makes the copy that has to go first.
+    /// Stores the dirty line in a way of a set, or makes the copy that has to come first.
     fn store_line<N, S: BlockStore<N>>(
         &mut self,
         set: usize,
@@ -280,8 +280,8 @@ impl Cache {
         }
     }
 
-    /// Stores the line that stands in the way of block `b`, which is dirty, or makes the copy that has
-    /// to go first. Where the line was stored it is clean then, and stays.
+    /// Stores the dirty line that is in the way of block `b`, or makes the copy that has to come first. If the line
+    /// was stored, it is clean afterwards and stays.
     pub fn evict<N, S: BlockStore<N>>(
         &mut self,
         b: u64,
@@ -326,8 +326,8 @@ impl Cache {
         (set, self.sets[set].victim())
     }
 
-    /// Stores the first dirty line by set, then way, or makes the copy that has to go first, or answers
-    /// that no line is dirty. No line leaves.
+    /// Stores the first dirty line by set, then way, or makes the copy that has to come first, or reports
+    /// that no line is dirty. No line is evicted.
     pub fn flush_one<N, S: BlockStore<N>>(
         &mut self,
         store: &mut S,
@@ -355,10 +355,10 @@ impl Cache {
         ensures dirty { IfOk result (λ flushed. CountsFlushed flushed (dirty_count self.old) (dirty_count self.new)) }
         ensures sized { KeepsSize self.old self.new }
 
-        // Where no page was open but that of the first dirty line, it is so again.
+        // If no page was open, or only that of the first dirty line, this holds afterwards too.
         ensures open { OnOk result (KeepsOpen self.old (S.holding store.old nvm.old) self.new (S.holding store.new nvm.new)) }
 
-        // The store makes one store, or nothing where no line is dirty.
+        // The store makes one store, or nothing if no line is dirty.
         ensures once { result ≢ Ok Flushed.Clean → S.once store.old nvm.old store.new nvm.new }
         ensures untouched { result ≡ Ok Flushed.Clean → (store.new ≡ store.old) × (nvm.new ≡ nvm.old) }
         ensures stays { S.stays store.old nvm.old store.new nvm.new }

@@ -25,7 +25,7 @@ pub struct Place {
 /// What has to happen before a block can be filled into its set.
 #[derive(Clone, Copy, Debug, PartialEq, Eq)]
 pub enum Victim {
-    /// Nothing: a way is empty, or the line that goes is clean.
+    /// Nothing: a way is empty, or the line to be replaced is clean.
     Room,
     /// The line of this block has to be stored.
     Dirty(u64),
@@ -38,6 +38,6 @@ pub enum Flushed {
     Clean,
     /// A dirty line was stored.
     Line,
-    /// A copy went first, and no line was stored.
+    /// A copy came first, and no line was stored.
     CopyFirst,
 }

@@ -34,13 +34,13 @@ alternate_at x = AlternateBlock x.i
 abbrev pub frame_at : Seat → Place
 frame_at x = Frame x.j (x.block % 64)
 
--- where a block stands by what a checkpoint says of it and of its page
+-- the place of a block by what a checkpoint says of it and of its page
 abbrev pub placed : Version → Site → Seat → Place
 placed Alt page x = alternate_at x
 placed Out AtAlternate x = AlternatePage x.j (x.block % 64)
 placed Out AtHome x = Home x.block
 
--- where it stands at the checkpoint under way until that has copied it
+-- its place at the checkpoint under way, until that has copied it
 abbrev pub pending_at : Pending → Version → Site → Seat → Place
 pending_at Settled v page x = placed v page x
 pending_at FromBuffer v page x = buffer_at x
@@ -53,7 +53,7 @@ agree Alt Alt = true
 agree Out Alt = false
 agree Alt Out = false
 
--- where it stands now, by its work, with the frame of its page and its last version
+-- its place now, by its work, with the frame of its page and its last version
 abbrev pub worked_at : Working → Bool → Place → Version → Seat → Place
 worked_at NoWork framed last v x = if framed then frame_at x else last
 worked_at InNvm framed last v x = placed (other_version v) AtHome x
@@ -63,7 +63,7 @@ worked_at InBuffer framed last v x = buffer_at x
 abbrev pub penult : Cell → Place
 penult c = placed c.entry.v0 c.page.place (seat_of c)
 
--- where the checkpoint under way is to have the block; the committed one's place where none is
+-- the place at which the checkpoint under way is to have the block; the committed one's place if none is under way
 abbrev pub target : Cell → Place
 target c = placed c.entry.v1 c.page.target (seat_of c)
 

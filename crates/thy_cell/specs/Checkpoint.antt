@@ -18,7 +18,7 @@ use Rattle.thy_cell.specs.Cells.{penult, last, work}
 use Rattle.thy_cell.specs.Sound.{IsSoundCell, IsWhole, Holds}
 
 -- A seal, of an entry of the block table: by whether its page is framed, its work, whether few entries are free, and
--- where the checkpoint before has the block
+-- the place at which the checkpoint before has the block
 abbrev pub sealed_by : Bool → Working → Bool → Version → BttEntry → BttEntry
 sealed_by true work few v1 e = record e { v1 = Out }
 sealed_by false InNvm few v1 e = record e { v1 = other_version v1; pend = Settled; work = NoWork }
@@ -30,7 +30,7 @@ sealed_by false NoWork false v1 e = e
 abbrev pub sealed_entry : Bool → Bool → BttEntry → BttEntry
 sealed_entry framed few e = sealed_by framed e.work few e.v1 e
 
--- of a framed page: with few stores, whether it was written since it was last, and where it stands
+-- of a framed page: by whether it had few stores, whether it was written since it was last, and its place
 abbrev pub page_sealed_by : Bool → Bool → Site → PttEntry → Option PttEntry
 page_sealed_by true false AtHome page = None
 page_sealed_by true written AtAlternate page =
@@ -45,12 +45,12 @@ sealed_frame low page = page_sealed_by low (page.dirty || page.fresh) page.place
 abbrev pub sealed_page : Bool → PttEntry → Option PttEntry
 sealed_page low page = if is_framed page then sealed_frame low page else Some page
 
--- an entry's place, or 0 where it was cleared
+-- an entry's place, or 0 if it was cleared
 abbrev pub kept_index : {E : Type 0} → ℕ → Option E → ℕ
 kept_index i None = 0
 kept_index i (Some e) = i
 
--- a page's entry, or what stands for it where it was cleared
+-- a page's entry, or the entry of an unlisted page if it was cleared
 abbrev pub page_or_none : ℕ → Option PttEntry → PttEntry
 page_or_none page None = no_page page
 page_or_none page (Some e) = e
@@ -67,7 +67,7 @@ sealed few low c = record c {
 abbrev pub with_listed : ℕ → Cell → Cell
 with_listed j c = record c { j = j; page = promoted_page c.page.page }
 
--- A commit. An entry that lists nothing any more and has no work is cleared
+-- A commit. It clears an entry if the new checkpoint does not have the block there and it has no work
 abbrev pub committed_by : Version → Working → BttEntry → Option BttEntry
 committed_by Out NoWork e = None
 committed_by v1 work e = Some (record e { v0 = v1 })
@@ -82,7 +82,7 @@ page_committed_by false page = Some (record page { place = page.target; issued =
 abbrev pub committed_page : PttEntry → Option PttEntry
 committed_page page = page_committed_by page.leaving page
 
--- a block's entry, or what stands for it where it was cleared
+-- a block's entry, or a new one if it was cleared
 abbrev pub entry_or_new : ℕ → Option BttEntry → BttEntry
 entry_or_new b None = new_entry b
 entry_or_new b (Some e) = e
@@ -124,11 +124,11 @@ pub record Moves (reads : Place → Block) (c d : Cell) (penult_now last_now : B
   pub work_same : reads (work d) ≡ reads (work c)
   pub holds : Holds reads d
 
--- nothing of the block lies over its page's frame
+-- if its page is framed, the block has no work in a buffer
 pub record IsBare (c : Cell) : Type 0 where
   pub no_overlay : is_framed c.page ≡ true → c.entry.work ≢ InBuffer
 
--- nothing of the block is left to copy or to write
+-- the block has nothing left to copy, and its page, if busy, is written out
 pub record IsCopied (c : Cell) : Type 0 where
   pub copied : c.entry.pend ≡ Settled
   pub written : c.page.busy ≡ true → 64 ≤ c.page.issued
@@ -148,7 +148,7 @@ abbrev pub SealTakesWork : Type 0
 SealTakesWork =
     (few low : Bool) (c : Cell) → IsSoundCell false c → IsBare c → (sealed few low c).entry.work ≡ NoWork
 
--- The listing of a page that is to be promoted keeps every version, where the block has no work
+-- The listing of a page that is to be promoted keeps every version, if the block has no work
 pub record ListsPage (under_way : Bool) (c d : Cell) : Type 0 where
   pub sound : IsSoundCell under_way d
   pub moves : (reads : Place → Block) → Moves reads c d (reads (penult c)) (reads (last c))

@@ -1,4 +1,4 @@
--- Where a block is stored, and what that and the copy that may have to go first make of its entries.
+-- Where a block is stored, and what a store, and a copy that may have to come first, make of its entries.
 use Rattle.std.specs.Prelude.{Bool, true, false}
 use Rattle.thy_base.specs.declared.place.Place.{Place}
 use Rattle.thy_tables.specs.declared.block_entry.Pending.{Pending}

@@ -25,7 +25,7 @@ pub record IsWithin (p : Parameters) (x : Seat) : Type 0 where
 pub record IsSoundPage (under_way : Bool) (page : PttEntry) : Type 0 where
   pub filled : page.filled ≤ 64
   pub issued : page.issued ≤ 64
-  -- a page that is not framed stands at home in both checkpoints; it is empty, or being promoted
+  -- a page that is not framed is at home in both checkpoints; it is empty, or being promoted
   pub bare_place : is_framed page ≡ false → page.place ≡ AtHome
   pub bare_target : is_framed page ≡ false → page.target ≡ AtHome
   pub bare_empty : is_framed page ≡ false → page.fresh ≡ false → page.filled ≡ 0
@@ -46,17 +46,17 @@ pub record IsSoundCell (under_way : Bool) (c : Cell) : Type 0 where
   -- in neither checkpoint a page listed in the page table has a block listed in the block table
   pub apart0 : c.entry.v0 ≡ Alt → c.page.place ≡ AtHome
   pub apart1 : c.entry.v1 ≡ Alt → c.page.target ≡ AtHome
-  -- both checkpoints are one where none is under way
+  -- if no checkpoint is under way, both versions are the same
   pub one : under_way ≡ false → c.entry.v0 ≡ c.entry.v1
-  -- work in the NVM stands where no checkpoint has the block, and only without a frame
+  -- work in the NVM is at a place that neither checkpoint has, and only if the page has no frame
   pub in_nvm_free : c.entry.work ≡ InNvm → c.entry.v0 ≡ c.entry.v1
   pub in_nvm_bare : c.entry.work ≡ InNvm → is_framed c.page ≡ false
-  -- what has to be copied moves between the checkpoints, within a page that does not
+  -- a block that has to be copied has two versions in the checkpoints, and its page is at home in both
   pub pending_moves : c.entry.pend ≢ Settled → c.entry.v0 ≢ c.entry.v1
   pub pending_home : c.entry.pend ≢ Settled → c.page.target ≡ AtHome
   pub pending_still : c.entry.pend ≢ Settled → c.page.place ≡ AtHome
   pub one_buffer : c.entry.pend ≡ FromBuffer → c.entry.work ≢ InBuffer
-  -- a page that was promoted since the seal takes every store, and one from before has no listed block
+  -- a page promoted since the seal takes every store; the checkpoint under way lists no block of any other framed page
   pub fresh_idle : c.page.fresh ≡ true → c.entry.work ≡ NoWork
   pub framed_out : is_framed c.page ≡ true → c.page.fresh ≡ false → c.entry.v1 ≡ Out
 
@@ -71,7 +71,7 @@ pub record Holds (reads : Place → Block) (c : Cell) : Type 0 where
       → reads (frame_at (seat_of c)) ≡ reads (last c)
   -- in a promotion what was copied is the working version
   pub copied : c.entry.block % 64 < c.page.filled → c.page.fresh ≡ true → reads (frame_at (seat_of c)) ≡ reads (work c)
-  -- what was written of a busy page stands at its target
+  -- what was written of a busy page is at its target
   pub issued : c.page.busy ≡ true → c.entry.block % 64 < c.page.issued → reads (target c) ≡ reads (frame_at (seat_of c))
 
 -- a place holds this block now, and every other place reads as before

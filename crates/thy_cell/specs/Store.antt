@@ -11,7 +11,7 @@ use Rattle.thy_cell.specs.Cells.{seat_of, buffer_at, penult, target, last, work}
 use Rattle.thy_cell.specs.Sound.{IsWithin, IsSoundCell, IsWhole, Holds, Puts}
 use Rattle.thy_cell.specs.Rules.{store_rule, store_place, after_store}
 
--- both checkpoints have the block where they had it
+-- both checkpoints have the block at the places that they had
 pub record KeepsPlaces (c d : Cell) : Type 0 where
   pub penult_same : penult d ≡ penult c
   pub target_same : target d ≡ target c
@@ -50,7 +50,7 @@ abbrev pub StoreGoesElsewhere : Type 0
 StoreGoesElsewhere =
     (under_way : Bool) (c : Cell) → IsSoundCell under_way c → IsWhole c.page → IsElsewhere (store_place (store_rule c) c) c
 
--- nor that to which the block is to go, unless the copy goes first
+-- nor the place at which the checkpoint under way is to have the block, unless the copy comes first
 abbrev pub StoreLeavesTarget : Type 0
 StoreLeavesTarget =
     (under_way : Bool) (c : Cell) → IsSoundCell under_way c → IsWhole c.page → c.entry.pend ≢ FromBuffer
@@ -60,7 +60,8 @@ StoreLeavesTarget =
 abbrev pub StoreKeepsPlaces : Type 0
 StoreKeepsPlaces = (c : Cell) → KeepsPlaces c (after_store (store_rule c) c)
 
--- so after a store both versions read as before, and a load gives what was stored, or as before where the copy went first
+-- so after a store both versions read as before, and a load gives what was stored; if the copy came first, what it
+-- gave before
 abbrev pub StoreReads : Type 0
 StoreReads =
     (p : Parameters) (under_way : Bool) (c : Cell) (block : Block) (old new : Place → Block)

@@ -26,7 +26,7 @@ pub enum StoreRule {
     ToBuffer,
     /// To that of the block's two places in the NVM that no checkpoint has.
     ToNvm,
-    /// The buffer has still to be copied, and that goes first.
+    /// The buffer has still to be copied, before the store.
     PendingFirst,
 }
 
@@ -42,7 +42,7 @@ fn agree(v: Version, w: Version) -> bool
 impl Cell {
     ghost use Rattle.thy_cell.specs.Cells.{seat_of};
 
-    /// Where the block stands in the frame of its page's entry.
+    /// The place of the block in the frame of its page's entry.
     pub fn frame(&self) -> Place
         ensures { result ≡ frame_at (seat_of self.now) }
     {
@@ -65,7 +65,7 @@ impl Cell {
         Place::AlternateBlock { entry: self.i }
     }
 
-    /// Where the block stands by what a checkpoint says of it and of its page.
+    /// The place of the block by what a checkpoint says of it and of its page.
     fn placed(&self, version: Version, page: Site) -> Place
         ensures { result ≡ placed version page (seat_of self.now) }
     {
@@ -88,14 +88,14 @@ impl Cell {
         self.placed(self.entry.v0, self.page.place)
     }
 
-    /// Where the checkpoint under way is to have it; the committed one's place where none is.
+    /// Where the checkpoint under way is to have it; the committed one's place if none is under way.
     pub fn target(&self) -> Place
         ensures { result ≡ target self.now }
     {
         self.placed(self.entry.v1, self.page.target)
     }
 
-    /// Where the version of the checkpoint under way stands.
+    /// The place of the version of the checkpoint under way.
     pub fn last(&self) -> Place
         ensures { result ≡ last self.now }
     {
@@ -109,14 +109,14 @@ impl Cell {
         }
     }
 
-    /// Where the block stands in the NVM when it is in neither checkpoint's place.
+    /// The place in the NVM at which the committed checkpoint does not have the block.
     fn spare(&self) -> Place
         ensures { result ≡ placed (other_version self.now.entry.v0) Site.AtHome (seat_of self.now) }
     {
         self.placed(self.entry.v0.other(), Site::AtHome)
     }
 
-    /// Where the working version stands: what a load gives.
+    /// The place of the working version, which a load gives.
     pub fn work(&self) -> Place
         ensures { result ≡ work self.now }
     {

@@ -4,9 +4,9 @@ ghost use Rattle.thy_cell.specs.Checkpoint.{sealed_entry, sealed_frame, sealed_p
 
 use thy_tables::{BttEntry, Pending, PttEntry, Site, Version, Working};
 
-/// A block's entry after a seal: by whether its page is framed, and whether few entries are free. What was
-/// stored moves to the version of the next checkpoint, and where few are free an entry that
-/// nothing was stored to gives its block back to its page.
+/// A block's entry after a seal: by whether its page is framed, and whether few entries are free. What was stored
+/// becomes the version of the next checkpoint. If few entries are free, an entry that nothing was stored to gives its
+/// block back to its page.
 pub fn sealed_entry(entry: &BttEntry, framed: bool, few: bool) -> BttEntry
     ensures { result ≡ sealed_entry framed few entry.now }
 {
@@ -40,8 +40,8 @@ pub fn sealed_entry(entry: &BttEntry, framed: bool, few: bool) -> BttEntry
     }
 }
 
-/// A page's entry after a seal, none where it is cleared: by whether it had few stores. A framed page that was
-/// written since it was last belongs to the checkpoint, and one that has few stores leaves.
+/// A page's entry after a seal, None if it is cleared: by whether it had few stores. A framed page that was written
+/// since it was last belongs to the checkpoint, and one that has few stores leaves.
 pub fn sealed_page(page: &PttEntry, low: bool) -> Option<PttEntry>
     ensures { result ≡ sealed_page low page.now }
 {
@@ -83,7 +83,7 @@ fn sealed_frame(page: &PttEntry, low: bool) -> Option<PttEntry>
     }
 }
 
-/// A block's entry after a commit, none where it is cleared: neither checkpoint has the block there, and nothing was
+/// A block's entry after a commit, None if it is cleared: neither checkpoint has the block there, and nothing was
 /// stored since the seal.
 pub fn committed_entry(entry: &BttEntry) -> Option<BttEntry>
     ensures { result ≡ committed_entry entry.now }
@@ -97,7 +97,7 @@ pub fn committed_entry(entry: &BttEntry) -> Option<BttEntry>
     }
 }
 
-/// A page's entry after a commit, none where it leaves.
+/// A page's entry after a commit, None if it leaves.
 pub fn committed_page(page: &PttEntry) -> Option<PttEntry>
     ensures { result ≡ committed_page page.now }
 {

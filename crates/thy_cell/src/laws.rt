@@ -8,13 +8,13 @@ pub fn a_store_keeps_entries_sound()
     ensures { StoreKeepsSound }
 {}
 
-/// A store, and the copy that may go first, write neither the place of the committed version nor that of the version of the
-/// checkpoint under way.
+/// A store, and the copy that may come first, write neither the place of the committed version nor that of the version of
+/// the checkpoint under way.
 pub fn a_store_goes_elsewhere()
     ensures { StoreGoesElsewhere }
 {}
 
-/// Nor the place to which its block is to go, unless the copy goes first.
+/// Nor the place at which the checkpoint under way is to have the block, unless the copy comes first.
 pub fn a_store_leaves_the_target()
     ensures { StoreLeavesTarget }
 {}
@@ -104,7 +104,7 @@ pub fn a_copy_keeps_versions()
     ensures { CopyKeeps }
 {}
 
-/// The write of a page's block keeps every version of it, also where it is the last and frees the frame.
+/// The write of a page's block keeps every version of it, also if it is the last one and frees the frame.
 pub fn a_page_write_keeps_versions()
     ensures { PageWriteKeeps }
 {}

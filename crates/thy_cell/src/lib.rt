@@ -1,6 +1,7 @@
-//! A block of memory as both tables have it: where its versions stand, and what each rule of the controller makes of
-//! that. Callers rest on `Cell::store_rule` and the laws of src/laws.rt: a store goes to no place of either checkpoint,
-//! a seal makes the work the last version, a commit the last the committed one, and nothing else moves a version.
+//! A block of memory as both tables have it: the places of its versions, and what each rule of the controller changes
+//! about them. Callers depend on `Cell::store_rule` and the laws of src/laws.rt: a store writes no place of either
+//! checkpoint, a seal makes the work the last version, a commit makes the last version the committed one, and nothing
+//! else moves a version.
 //!
 //! Open specs/Cells.antt first, then specs/Sound.antt, and src/cell.rt. It stands on thy_base and thy_tables; on it
 //! stand thy_control, and the engine, the boot and the scheme above it.

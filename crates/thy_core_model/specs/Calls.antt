@@ -62,7 +62,7 @@ pub record FlushCall {S : Type 0} (K : SchemeOf S) (m : Machine S) (n : Device) 
 
 -- ---- the machine after a cycle
 
--- an instruction was retired by this answer
+-- an instruction was retired, by the result of the hart's step
 abbrev pub retires_over : EndCause → Bool
 retires_over Length = true
 retires_over (Exhausted free dirty need) = false
@@ -74,7 +74,7 @@ retires_by Retired = true
 retires_by Waiting = false
 retires_by (Over cause) = retires_over cause
 
--- it is hart 0's
+-- the instruction is hart 0's
 abbrev pub hart_did : HartStep → Did
 hart_did step = if retires_by step then DidRetire 0 else DidMove
 
@@ -130,7 +130,7 @@ after_engine step t m = record m {
   spent = m.spent + 1;
 }
 
--- after the boot's last step: the hart begins behind the checkpoint of this epoch
+-- after the boot's last step: the hart begins after the checkpoint of this epoch
 abbrev pub running_from : {S : Type 0} → CpuState → ℕ → S → Machine S → Machine S
 running_from cpu epoch t m = record m {
   hart = new_hart m.hart.geometry cpu (epoch + 1);

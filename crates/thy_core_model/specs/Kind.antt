@@ -14,8 +14,8 @@ use Rattle.thy_core_model.specs.Machine.{Machine, view_of, pressure_of, gauge_of
 use Rattle.thy_core_model.specs.Pace.{most_spent}
 use Rattle.thy_core_model.specs.Sound.{IsAt, SoundStopped, IsPowered}
 
--- epochs that may still go by without an instruction, in cycles: two behind one that retired some, one more unless the
--- epoch before was idle
+-- how many cycles the epochs without an instruction may still take: two such epochs after one that retired some, else
+-- one unless the epoch before was idle
 abbrev pub idle_left : ℕ → ℕ → Bool → ℕ
 idle_left most retired idle = if retired == 0 then (if idle then 0 else most) else 2 * most
 

@@ -37,7 +37,7 @@ pub record Machine (S : Type 0) : Type 0 where
   -- cycles of hart and engine, and instructions, since the latest seal
   pub spent : ℕ
   pub lap : ℕ
-  -- the epoch that was sealed last had retired nothing
+  -- the epoch that was sealed last retired nothing
   pub idle : Bool
   -- a step failed since power came on
   pub failed : Bool
@@ -75,11 +75,11 @@ view_in K o Halt m n = run_view m
 abbrev pub view_of : {S : Type 0} → SchemeOf S → Origin → Machine S → Device → View
 view_of K o m n = view_in K o m.phase m n
 
--- a scheme that lets nothing run beside its checkpoint is at one
+-- a checkpoint is under way, and the scheme lets nothing run meanwhile
 abbrev pub is_barred : {S : Type 0} → SchemeOf S → Machine S → Bool
 is_barred K m = K.under_way m.scheme && not K.overlaps
 
--- an instruction that reserves room is short where fewer entries are free than the dirty lines and its blocks need
+-- an instruction that reserves room is short if fewer entries are free than the dirty lines and its blocks need
 abbrev pub short_of : ℕ → ℕ → Hand → Option Shortage
 short_of free dirty Nothing = None
 short_of free dirty (Reading e from to) = None
@@ -118,7 +118,7 @@ moves_in Boot over m = 0
 moves_in Run over m = moves_while over m
 moves_in Halt over m = 0
 
--- in the boot nothing is owed and nothing is to be promoted
+-- a number that is 0 in the boot, in which nothing is owed or to be promoted
 abbrev pub after_boot_only : Phase → ℕ → ℕ
 after_boot_only Boot number = 0
 after_boot_only Run number = number

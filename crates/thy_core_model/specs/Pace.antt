@@ -10,7 +10,7 @@ use Rattle.thy_scheme.specs.Scheme.{SchemeOf}
 use Rattle.thy_scheme.specs.Calls.{owed_in}
 use Rattle.thy_core_model.specs.Machine.{Machine, moment_of}
 
--- of the instruction in hand, or the next one, and of those that the epoch has behind it: each has 16 moves at the most
+-- of the instruction in hand, or the next one, and of those that the epoch has after it: each has at most 16 moves
 abbrev pub instructions_left : Moment → ℕ
 instructions_left m = moves_left m + 1 + 17 * (m.hart.epoch.span - m.hart.epoch.retired - 1)
 
@@ -18,12 +18,12 @@ instructions_left m = moves_left m + 1 + 17 * (m.hart.epoch.span - m.hart.epoch.
 abbrev pub flushes_left : ℕ → ℕ → ℕ → ℕ
 flushes_left most dirty merges = if dirty == 0 then merges else dirty + most
 
--- of instructions, until the epoch is over, and of flushes and merges behind them
+-- of instructions, until the epoch is over, and of flushes and merges after them
 abbrev pub hart_left : {S : Type 0} → SchemeOf S → Parameters → Option EndCause → Machine S → Device → ℕ
 hart_left K p None m n = instructions_left (moment_of K m n) + K.most_free p + K.most_merges p
 hart_left K p (Some cause) m n = flushes_left (K.most_merges p) (dirty_count m.cache) (K.merges_left m.scheme)
 
--- of the epoch, besides its seal
+-- of the epoch, without its seal
 abbrev pub cycles_left : {S : Type 0} → SchemeOf S → Parameters → Machine S → Device → ℕ
 cycles_left K p m n =
     K.engine_left m.scheme + K.promotions_left m.scheme + owed_in K m.scheme n + hart_left K p m.hart.epoch.over m n

@@ -1,4 +1,5 @@
--- How a run of the machine begins, what a power cut leads to, and that every cycle comes nearer to its end.
+-- How a run of the machine begins, what a power cut leads to, and that every cycle decreases the number of cycles
+-- left.
 use Rattle.std.specs.Prelude.{◌≡◌, ℕ, ◌+◌, ◌*◌, ◌≤◌, true, false, List, length, Option}
 use Rattle.thy_base.specs.declared.block.Block.{Block}
 use Rattle.thy_base.specs.declared.nvm.Shape.{Shape}
@@ -39,8 +40,8 @@ FreshLeads {S} K =
     → IsLawfulScheme K → IsOrigin o → IsPowered K o.geometry m → IsFittedFor (kind_over K) o shape start n
     → IsAt K o 0 m (fitted shape start n) × (view_of K o m (fitted shape start n) ≡ first_view o)
 
--- A power cut leads to a moment of the same run, whose view is what the image means that was left. The turns behind the
--- checkpoint found are gone with it.
+-- A power cut leads to a moment of the same run, whose view is that of the image that was left. The turns after the
+-- checkpoint found are lost with it.
 abbrev pub CutLeads : {S : Type 0} → SchemeOf S → Type 0
 CutLeads {S} K =
     (o : Origin) (cycles : ℕ) (m next : Machine S) (n : Device) (pick : ℕ) (g : List Block)
@@ -48,14 +49,14 @@ CutLeads {S} K =
     → IsAt K o cycles next (cut_to n pick g)
     × (view_of K o next (cut_to n pick g) ≡ view_of_image o.start.count (K.decode o.geometry ceiling g))
 
--- a cycle of a machine that has not halted is one nearer to the next instruction, by view and gauge alone
+-- a cycle of a machine that has not halted decreases the measure by one, and only a retired instruction raises it
 abbrev pub CyclesComeNearer : Type 0
 CyclesComeNearer =
     (most : ℕ) (o : Origin) (v next : View) (did : Did) (old new : Gauge)
     → (v.phase ≡ Boot → v.retired ≡ 0) → CoreStep o v did next → KeepsPace most v next did old new → is_halt v.phase ≡ false
     → left_ahead most next new + 1 ≤ left_ahead most v old + 4 * most * retires did
 
--- a cycle that leads on along all turns that agree so far and have its hart's turn, leads to a moment
+-- a cycle that simulates the run along all turns that agree so far, and has its hart's turn, leads to a moment
 abbrev pub LeadsToMoment : {S : Type 0} → SchemeOf S → Type 0
 LeadsToMoment {S} K =
     (o : Origin) (cycles : ℕ) (did : Did) (m next : Machine S) (n new : Device)
@@ -72,7 +73,7 @@ LeadingIsStep {S} K =
     → Turn o pick (length n.queue) (view_of K o m n) (pressure_of K m) r.did r.stall
     → r.ended ≡ halts (view_of K o m n) (view_of K o next new) → IsStep (kind_over K) o cycles pick m next n new r
 
--- and one that failed so is a cycle that failed, where the hart stands as it did
+-- a cycle whose action failed is a failed cycle of a machine, if the hart is as before
 abbrev pub FailingIsSafe : {S : Type 0} → SchemeOf S → Type 0
 FailingIsSafe {S} K =
     (o : Origin) (cycles : ℕ) (pick : Pick) (m next : Machine S) (n new : Device) (did : Did) (stall : Option Stall)

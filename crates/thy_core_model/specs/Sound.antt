@@ -42,7 +42,7 @@ pub record IsSmall (cycles : ℕ) (v : View) : Type 0 where
   pub done : (m : Mark) → v.done ≡ Some m → IsSmallMark cycles m
   pub sealed : (m : Mark) → v.sealed ≡ Some m → IsSmallMark cycles m
 
--- ---- the parts behind the boot
+-- ---- the parts after the boot
 
 -- between two steps a page may be open for the line in the way of the next block; once the epoch is over, for the first
 -- dirty line
@@ -64,7 +64,7 @@ IsToWrite stored (Reserving e to) = (to ≡ stored) × ((to.len == 0) ≡ false)
 IsToWrite stored (Writing e to done) = Unit {0}
 IsToWrite stored (Retiring e wrote) = Unit {0}
 
--- the hart is where the plain machine is that has retired as many instructions
+-- the hart agrees with the plain machine that has retired as many instructions
 pub record IsCounted {S : Type 0} (o : Origin) (m : Machine S) : Type 0 where
   pub start : o.start.count ≤ m.hart.cpu.count
   pub count : (at o m.hart.cpu.count).count ≡ m.hart.cpu.count
@@ -78,7 +78,7 @@ pub record IsEpoch {S : Type 0} (o : Origin) (m : Machine S) : Type 0 where
   pub retired : HasRetired m.hart.epoch.span m.hart.epoch.retired m.hart.epoch.over
   pub hand : m.hart.epoch.over ≢ None → m.hart.hand ≡ Nothing
 
--- how far the epoch is behind the committed checkpoint: by one, and by one more while another is under way
+-- how far the epoch is ahead of the committed checkpoint: by one, and by one more while another is under way
 abbrev pub epochs_ahead : Option Mark → ℕ
 epochs_ahead None = 1
 epochs_ahead (Some m) = 2
@@ -101,7 +101,7 @@ pub record IsStill {S : Type 0} (count : ℕ) (m : Machine S) : Type 0 where
   pub hand : m.hart.hand ≡ Nothing
   pub over : m.hart.epoch.over ≡ None
 
--- it does once the sealed state has ended, or the machine has halted
+-- the hart stands still once the sealed state has ended, or the machine has halted
 pub record IsEnded {S : Type 0} (o : Origin) (m : Machine S) : Type 0 where
   pub sealed : (s : Mark) → m.marks.sealed ≡ Some s → runs_at o s.count ≡ false → IsStill s.count m
   pub halted : m.phase ≡ Halt → IsStill m.marks.done.count m × (m.marks.sealed ≡ None)
@@ -122,17 +122,17 @@ abbrev pub StartsFresh : Option EndCause → ℕ → Hand → ℕ → Bool → T
 StartsFresh None retired hand dirty rested = retired ≡ 0 → IsFresh hand dirty rested
 StartsFresh (Some cause) retired hand dirty rested = retired ≡ 0 → (dirty ≡ 0) × (rested ≡ true)
 
--- where the cycles go
+-- the bounds on the cycles of an epoch
 pub record IsPaced {S : Type 0} (K : SchemeOf S) (p : Parameters) (m : Machine S) (n : Device) : Type 0 where
   pub spent : m.spent + cycles_left K p m n < most_spent K p
   pub fresh : StartsFresh m.hart.epoch.over m.hart.epoch.retired m.hart.hand (dirty_count m.cache) (K.rested m.scheme)
-  -- an epoch behind one that retired nothing, and so stored nothing, retires an instruction
+  -- an epoch after one that retired nothing, and so stored nothing, retires an instruction
   pub lean : m.idle ≡ true → K.lean m.scheme ≡ true
   pub strides : m.idle ≡ true → m.hart.epoch.over ≢ None → 1 ≤ m.hart.epoch.retired
   -- nothing is promoted once the epoch is over
   pub promoted : m.hart.epoch.over ≢ None → K.promoting m.scheme ≡ false
 
--- behind the boot
+-- after the boot
 pub record SoundRun {S : Type 0} (K : SchemeOf S) (o : Origin) (m : Machine S) (n : Device) : Type 0 where
   pub checkpoints : K.is_sound o m.marks m.scheme n
   pub held : IsHeld K m n
@@ -157,7 +157,7 @@ pub record IsBlank {S : Type 0} (m : Machine S) : Type 0 where
   pub lap : m.lap ≡ 0
   pub idle : m.idle ≡ false
 
--- nothing of the hart's is used while the scheme boots
+-- the hart is not used while the scheme boots
 pub record SoundBoot {S : Type 0} (K : SchemeOf S) (o : Origin) (m : Machine S) (n : Device) : Type 0 where
   pub boots : K.boots o m.scheme n
   pub blank : IsBlank m
@@ -193,8 +193,8 @@ pub record IsPowered {S : Type 0} (K : SchemeOf S) (p : Parameters) (m : Machine
   pub blank : IsBlank m
   pub unfailed : m.failed ≡ false
 
--- after a step that failed, before which this was the view: the scheme is one of the run's geometry still, and the processor
--- stands where it was
+-- after a step that failed, before which this was the view: the scheme is still one of the run's geometry, and the
+-- processor is as before
 pub record SoundStopped {S : Type 0} (K : SchemeOf S) (o : Origin) (before : View) (m : Machine S) : Type 0 where
   pub failed : m.failed ≡ true
   pub of_geometry : K.is_of o.geometry m.scheme

@@ -30,7 +30,8 @@ pub fn a_moment_is_safe<S: Scheme>()
     ensures { MomentIsSafe S.scheme }
 {}
 
-/// A cycle of a machine that has not halted is one nearer to the next instruction, or to the end.
+/// A cycle of a machine that has not halted decreases the measure, the bound on the cycles left until the next instruction
+/// or the end, by one. Only a retired instruction raises it.
 pub fn cycles_come_nearer()
     ensures { CyclesComeNearer }
 {}
@@ -81,7 +82,8 @@ pub fn a_drain_fails_safely<S: Scheme>()
     ensures { DrainFails S.scheme }
 {}
 
-/// A step of the boot leads to the next moment: behind its last one the hart is at the checkpoint that was found or loaded.
+/// A step of the boot leads to the next moment: after its last one the hart is at the checkpoint that was found or
+/// loaded.
 pub fn the_boot_leads_on<S: Scheme>()
     ensures { BootLeads S.scheme }
 {}
@@ -96,12 +98,12 @@ pub fn the_engine_leads_on<S: Scheme>()
     ensures { EngineLeads S.scheme }
 {}
 
-/// A write of the NVM that lands leads to the next moment, in each phase: nothing of the view changes.
+/// A write of the NVM that lands leads to the next moment, in each phase: the view does not change.
 pub fn an_nvm_drain_leads_on<S: Scheme>()
     ensures { NvmDrainLeads S.scheme }
 {}
 
-/// A write of the DRAM that lands behind the boot leads to the next moment.
+/// A write of the DRAM that lands after the boot leads to the next moment.
 pub fn a_dram_drain_leads_on<S: Scheme>()
     ensures { DramDrainLeads S.scheme }
 {}
@@ -116,7 +118,7 @@ pub fn nothing_leads_on<S: Scheme>()
     ensures { NothingLeads S.scheme }
 {}
 
-/// A cycle that leads on along all turns that agree so far leads to a moment, whatever turns are to come.
+/// A cycle that simulates the run along all turns that agree so far leads to a moment, whatever turns are to come.
 pub fn a_cycle_leads_to_a_moment<S: Scheme>()
     ensures { LeadsToMoment S.scheme }
 {}
@@ -126,8 +128,8 @@ pub fn a_cycle_that_leads_on_is_a_step<S: Scheme>()
     ensures { LeadingIsStep S.scheme }
 {}
 
-/// A cycle that fails in its action, at the turn of its pick, leaves the committed checkpoint, whole, or the one in doubt, and a
-/// machine of which power can be cut, with the processor where it was.
+/// A cycle that fails in its action, at the turn of its pick, leaves the committed checkpoint, whole, or the one in
+/// doubt, and a machine of which power can be cut, with the processor where it was.
 pub fn a_cycle_that_fails_is_safe<S: Scheme>()
     ensures { FailingIsSafe S.scheme }
 {}

@@ -13,33 +13,33 @@ abbrev pub CutLeavesCopy : Type 0
 CutLeavesCopy =
     (looked : Looking) (n : Device) (s : Saved) (g : List Block) → IsSaved looked n s → Crash n g → IsLeft looked s g
 
--- and the device then has that image kept
+-- after a cut, the device has the image kept that was left
 abbrev pub CutIsKept : Type 0
 CutIsKept = (looked : Looking) (pick : ℕ) (old new : Device) → IsCut pick old new → IsSaved looked new (Kept new.image)
 
--- so has every device with an empty queue, as one that was fitted
+-- every device with an empty queue, such as one that was just fitted, has its image kept
 abbrev pub EmptyIsKept : Type 0
 EmptyIsKept = (looked : Looking) (n : Device) → n.queue ≡ [] → IsSaved looked n (Kept n.image)
 
 -- ---- what keeps it
 
--- what spares the guarded places keeps what is saved
+-- a change that spares the guarded places keeps what is saved
 abbrev pub SparedStays : Type 0
 SparedStays =
     (looked : Looking) (s : Saved) (old new : Device)
     → IsSaved looked old s → Spares (guarded looked s) old new → IsSaved looked new s
 
--- nothing done, as by a read, spares every place
+-- a call that changes nothing, such as a read, spares every place
 abbrev pub SameSpares : Type 0
 SameSpares = (places : List ℕ) (old new : Device) → new ≡ old → Spares places old new
 
--- what spares places twice spares them
+-- two changes in a row spare the places that each of them spares
 abbrev pub BothSpare : Type 0
 BothSpare =
     (places : List ℕ) (old mid new : Device)
     → Spares places old mid → Spares places mid new → Spares places old new
 
--- and spares each part of them
+-- a change that spares places spares each part of them
 abbrev pub PartIsSpared : Type 0
 PartIsSpared =
     (places part : List ℕ) (old new : Device)
@@ -51,18 +51,18 @@ DrainSpares = (places : List ℕ) (old new : Device) → new ≡ drained old →
 abbrev pub BarrierSpares : Type 0
 BarrierSpares = (places : List ℕ) (old new : Device) → new ≡ settled old → Spares places old new
 
--- a write of another place
+-- a write spares all places but its own
 abbrev pub WriteSpares : Type 0
 WriteSpares =
     (places : List ℕ) (at : ℕ) (block : Block) (old new : Device)
     → ¬ Contains places at → new ≡ written_to old at block → Spares places old new
 
--- a call that failed, unless it was a write
+-- a call that failed spares every place, unless it was a write
 abbrev pub FailureSpares : Type 0
 FailureSpares =
     (places : List ℕ) (old new : Device) → HasFailed old new → IsFramed old new → Spares places old new
 
--- a write of another place that failed
+-- a write that failed spares all places but its own
 abbrev pub FailedWriteSpares : Type 0
 FailedWriteSpares =
     (places : List ℕ) (at : ℕ) (block : Block) (old new : Device)
@@ -70,7 +70,7 @@ FailedWriteSpares =
 
 -- ---- how a checkpoint is made
 
--- a barrier behind all writes of the next image makes it ready
+-- a barrier after all writes of the next image makes it ready
 abbrev pub BarrierMakesReady : Type 0
 BarrierMakesReady =
     (looked : Looking) (before next : List Block) (old new : Device)
@@ -84,14 +84,14 @@ CommitLeavesDoubt =
     → IsSaved looked old (Ready before next) → new ≡ written_to old 1 (block_at next 1)
     → IsSaved looked new (InDoubt before next)
 
--- and so where it fails
+-- also if that write fails
 abbrev pub FailedCommitLeavesDoubt : Type 0
 FailedCommitLeavesDoubt =
     (looked : Looking) (before next : List Block) (old new : Device)
     → IsSaved looked old (Ready before next) → HasFailedToWrite 1 (block_at next 1) old new → IsFramed old new
     → IsSaved looked new (InDoubt before next)
 
--- the barrier behind it ends the doubt: the next image is kept
+-- the barrier after it ends the doubt: the next image is kept
 abbrev pub BarrierEndsDoubt : Type 0
 BarrierEndsDoubt =
     (looked : Looking) (before next : List Block) (old new : Device)
@@ -100,7 +100,7 @@ BarrierEndsDoubt =
 
 -- ---- what is written meanwhile
 
--- the image that all writes make is issued, where its places are on the device
+-- the image that all writes make is issued, if its places are on the device
 abbrev pub NextIsIssued : Type 0
 NextIsIssued =
     (looked : Looking) (commit : Block) (n : Device)
@@ -112,7 +112,7 @@ abbrev pub NextHasReads : Type 0
 NextHasReads =
     (commit : Block) (n : Device) (x : ℕ) → x < length n.image → x ≢ 1 → block_at (next_image n commit) x ≡ newest n x
 
--- but for its commit block
+-- except for its commit block
 abbrev pub NextHasCommit : Type 0
 NextHasCommit = (commit : Block) (n : Device) → 1 < length n.image → block_at (next_image n commit) 1 ≡ commit
 
@@ -122,7 +122,7 @@ WriteIsRead =
     (at : ℕ) (block : Block) (old new : Device)
     → at < length old.image → new ≡ written_to old at block → Reads new at block
 
--- and stays so where another place is written
+-- a read of a place stays as it is if another place is written
 abbrev pub WriteKeepsRead : Type 0
 WriteKeepsRead =
     (x : ℕ) (b : Block) (at : ℕ) (block : Block) (old new : Device)
@@ -134,7 +134,7 @@ DrainKeepsRead = (x : ℕ) (b : Block) (old new : Device) → Reads old x b → 
 abbrev pub BarrierKeepsRead : Type 0
 BarrierKeepsRead = (x : ℕ) (b : Block) (old new : Device) → Reads old x b → new ≡ settled old → Reads new x b
 
--- what a cut leaves for sure is read
+-- a block that every cut leaves at its place is read there
 abbrev pub FixedIsRead : Type 0
 FixedIsRead = (x : ℕ) (b : Block) (n : Device) → IsFixed n x b → x < length n.image → Reads n x b
 
@@ -145,7 +145,7 @@ NextWriteIsRead =
     → ReadsFirst old x blocks k → x + k < length old.image → new ≡ written_to old (x + k) (blocks k)
     → ReadsFirst new x blocks (k + 1)
 
--- and stay so where none of their places is written
+-- these reads stay as they are if none of their places is written
 abbrev pub WriteKeepsFirst : Type 0
 WriteKeepsFirst =
     (x : ℕ) (blocks : ℕ → Block) (k at : ℕ) (block : Block) (old new : Device)

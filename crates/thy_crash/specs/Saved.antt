@@ -1,15 +1,15 @@
--- A checkpoint is a whole image, the one to be found after a power cut. A part of its places, those looked at, tell
--- what it means; the commit block, place 1, tells which image it is.
+-- A checkpoint is a whole image, the one to be found after a power cut. Some of its places, those looked at, determine
+-- what it means; the commit block, place 1, says which image it is.
 use Rattle.std.specs.Prelude.{◌≡◌, ◌≢◌, ◌⊎◌, ℕ, List, ◌∷◌, ◌++◌, Contains, length, slice_set}
 use Rattle.thy_base.specs.declared.block.Block.{Block}
 use Rattle.thy_base.specs.Device.{Device, block_at, applied}
 use Rattle.thy_crash.specs.Fixed.{IsFixed, IsEither, Reads}
 
--- which places of an image tell what it means
+-- which places of an image determine what it means
 abbrev pub Looking : Type 0
 Looking = List Block → List ℕ
 
--- Each place that tells what an image means has its block, whatever a cut leaves. The commit block is apart.
+-- Each place that determines what an image means has its block, whatever a cut leaves. The commit block is apart.
 pub record Stands (looked : Looking) (n : Device) (h : List Block) : Type 0 where
   pub as_long : length n.image ≡ length h
   pub each : (x : ℕ) → Contains (looked h) x → x ≢ 1 → IsFixed n x (block_at h x)
@@ -25,9 +25,9 @@ next_image n commit = slice_set (applied n.image n.queue) 1 commit
 
 -- which images a device may have after a cut
 pub data Saved : Type 0 where
-  -- one
+  -- one image
   Kept : (before : List Block) → Saved
-  -- one, and the next lacks its commit block alone
+  -- one image; the next lacks only its commit block
   Ready : (before : List Block) (next : List Block) → Saved
   -- one or the next: its commit block was written, and no barrier has come since
   InDoubt : (before : List Block) (next : List Block) → Saved
@@ -37,7 +37,7 @@ pub record IsKept (looked : Looking) (n : Device) (before : List Block) : Type 0
   pub stands : Stands looked n before
   pub commit : IsFixed n 1 (block_at before 1)
 
--- and the next one stands, but for the commit block
+-- also the next one stands, except for the commit block
 pub record IsReady (looked : Looking) (n : Device) (before next : List Block) : Type 0 where
   pub kept : IsKept looked n before
   pub next_stands : Stands looked n next
@@ -60,7 +60,7 @@ guarded looked (Kept before) = 1 ∷ looked before
 guarded looked (Ready before next) = 1 ∷ (looked before ++ looked next)
 guarded looked (InDoubt before next) = 1 ∷ (looked before ++ looked next)
 
--- an image is as long as another, and has its commit block and its blocks at all places that tell what that means
+-- an image is as long as another, and has its commit block and its blocks at all places that determine what that means
 pub record IsCopy (looked : Looking) (h g : List Block) : Type 0 where
   pub as_long : length g ≡ length h
   pub commit : block_at g 1 ≡ block_at h 1

@@ -5,10 +5,10 @@ ghost use Rattle.thy_crash.specs.Commit.{committed, Commits, LeavesEither};
 
 use thy_base::{Block, Nvm, NvmError};
 
-/// Commits a checkpoint whose blocks were all written: a barrier, its commit block, a barrier. Then a cut leaves it.
+/// Commits a checkpoint whose blocks were all written: a barrier, its commit block, a barrier. A cut then leaves it.
 ///
 /// # Errors
-/// `Failed` where the device fails. Then a cut leaves it or the one before.
+/// `Failed` if the device fails. A cut then leaves this checkpoint or the one before.
 pub fn commit<N: Nvm>(block: &Block, nvm: &mut N) -> Result<(), NvmError>
     requires place { 1 < length (N.device nvm.old).image }
     requires up { (N.device nvm.old).down ≡ false }

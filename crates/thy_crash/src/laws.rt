@@ -1,18 +1,19 @@
 //! The laws, each the contract of a function that does nothing.
 ghost use Rattle.thy_crash.specs.Laws.{CutLeavesCopy, CutIsKept, EmptyIsKept, SparedStays, SameSpares, BothSpare, PartIsSpared, DrainSpares, BarrierSpares, WriteSpares, FailureSpares, FailedWriteSpares, BarrierMakesReady, CommitLeavesDoubt, FailedCommitLeavesDoubt, BarrierEndsDoubt, NextIsIssued, NextHasReads, NextHasCommit, WriteIsRead, WriteKeepsRead, DrainKeepsRead, BarrierKeepsRead, FixedIsRead, NextWriteIsRead, WriteKeepsFirst, DrainKeepsFirst};
 
-/// A cut leaves a copy of the image that is kept, at all places that tell what it means; in doubt, of one of the two.
+/// A cut leaves a copy of the image that is kept, at all places that determine what it means; in doubt, of one of the
+/// two.
 pub fn a_cut_leaves_a_copy()
     ensures { CutLeavesCopy }
 {}
 
-/// After a cut the image that was left is kept. So it is of every device with an empty queue.
+/// After a cut the image that was left is kept. So is the image of every device with an empty queue.
 pub fn what_is_left_is_kept()
     ensures cut { CutIsKept }
     ensures empty { EmptyIsKept }
 {}
 
-/// What spares the guarded places keeps what is saved.
+/// A change that spares the guarded places keeps what is saved.
 pub fn spared_stays()
     ensures { SparedStays }
 {}
@@ -24,7 +25,7 @@ pub fn sparing_adds_up()
     ensures part { PartIsSpared }
 {}
 
-/// A drain and a barrier spare every place, a write every other place; and so where they fail.
+/// A drain and a barrier spare every place, a write every place but its own. This also holds if they fail.
 pub fn calls_spare()
     ensures drain { DrainSpares }
     ensures barrier { BarrierSpares }
@@ -33,7 +34,7 @@ pub fn calls_spare()
     ensures failed_write { FailedWriteSpares }
 {}
 
-/// A barrier behind all writes of the next image makes it ready: it lacks its commit block alone.
+/// A barrier after all writes of the next image makes it ready: it lacks only its commit block.
 pub fn a_barrier_makes_ready()
     ensures { BarrierMakesReady }
 {}
@@ -44,7 +45,7 @@ pub fn a_commit_leaves_doubt()
     ensures failed { FailedCommitLeavesDoubt }
 {}
 
-/// The barrier behind it ends the doubt: the next image is kept.
+/// The barrier after that write ends the doubt: the next image is kept.
 pub fn a_barrier_ends_the_doubt()
     ensures { BarrierEndsDoubt }
 {}
@@ -57,7 +58,7 @@ pub fn what_is_written_is_issued()
     ensures commit { NextHasCommit }
 {}
 
-/// What was written is read until its place is written again; and what a cut leaves for sure is read.
+/// What was written is read until its place is written again. A block that every cut leaves at its place is read.
 pub fn reads_stay()
     ensures written { WriteIsRead }
     ensures elsewhere { WriteKeepsRead }

@@ -1,8 +1,8 @@
 //! What power cuts leave of a checkpoint, for every layout of the NVM and every way to write it.
 //!
-//! A checkpoint is a whole image, the one to be found. Which of its places tell what it means is a function of the
-//! image, a list. The laws say what each call of a device keeps of it and how the next one takes its place; a
-//! controller owes that its other writes spare the guarded places. `a_cut_leaves_a_copy` is the first of them.
+//! A checkpoint is a whole image, the one to be found. Which of its places determine what it means is a function of
+//! the image, a list. The laws say what each device call keeps of it and how the next image takes its place; a
+//! controller must show that its other writes spare the guarded places. `a_cut_leaves_a_copy` is the first law.
 //!
 //! Open specs/Saved.antt first, then specs/Laws.antt and src/laws.rt. It stands on thy_base alone; on it stand
 //! thy_record, thy_control and thy_protocol, and the engine, the boot and the scheme above them.

@@ -1,5 +1,5 @@
 -- Part of the claim.
--- What a DRAM is to its callers: a list of blocks, and how many writes are on their way.
+-- What a DRAM is to its callers: a list of blocks, and how many writes are queued.
 use Rattle.std.specs.Prelude.{ℕ, ◌+◌, ◌-◌, min, List, length, replicate, slice_set}
 use Rattle.thy_base.specs.declared.block.Block.{Block}
 use Rattle.thy_base.specs.Device.{zero_block, applied}
@@ -14,7 +14,7 @@ pub record Contents : Type 0 where
   -- how many the queue holds
   pub room : ℕ
 
--- what a ring is to them: the queued writes are read as if they had landed
+-- the contents that a ring stands for: the queued writes are read as if they had landed
 abbrev pub contents_in : Held → Contents
 contents_in held = record { blocks = applied held.image held.queue; queued = length held.queue; room = held.room }
 

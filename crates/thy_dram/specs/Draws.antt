@@ -28,6 +28,6 @@ abbrev pub blocks_over : ℕ → List Block → List Block
 blocks_over seed [] = []
 blocks_over seed (b ∷ bs) = drawn_block seed ∷ blocks_over (after_block seed) bs
 
--- a ring whose blocks that stand are written over so
+-- a ring whose image is written over in this way
 abbrev pub filled : ℕ → Held → Held
 filled seed held = record held { image = blocks_over seed held.image }

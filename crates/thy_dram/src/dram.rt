@@ -9,7 +9,7 @@ use std::marker::Model;
 use thy_base::Block;
 use thy_ring::Ring;
 
-/// A volatile memory whose writes are queued before they land. Only `new` takes memory, and no other
+/// A volatile memory whose writes are queued before they land. Only `new` allocates, and no other
 /// call can fail.
 #[derive(Drop)]
 pub struct Dram {
@@ -45,7 +45,7 @@ impl Dram {
         self.ring.read(at)
     }
 
-    /// Writes a block at a place. Where the queue is full, its oldest write lands first.
+    /// Writes a block at a place. If the queue is full, its oldest write lands first.
     pub fn write(&mut self, at: u64, block: &Block)
         requires { at < length self.old.blocks }
         ensures { self.new ≡ written self.old at block.now }

@@ -27,7 +27,7 @@ fn next_block(draws: &mut Lcg) -> Block
     Block(bytes)
 }
 
-/// Writes over each block that stands, in order, drawn bytes. The queue stays.
+/// Writes drawn bytes over each block of the image, in order. The queue stays.
 pub(crate) fn fill_blocks(ring: &mut Ring, seed: u64)
     ensures { ring.new ≡ filled seed ring.old }
 {

@@ -1,5 +1,5 @@
-//! A memory with a queue of writes, which forgets what it holds when its power is cut. To its callers `Dram` reads as a
-//! list of blocks without a queue, and its calls are exact.
+//! A memory with a queue of writes, which forgets what it holds when its power is cut. To its callers `Dram` reads as
+//! a list of blocks without a queue, and each call equals its specification.
 //!
 //! Open specs/Contents.antt first, and src/dram.rt. It stands on thy_base and thy_ring; on it stand thy_place,
 //! thy_control, thy_view and what is above them.

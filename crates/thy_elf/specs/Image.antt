@@ -32,17 +32,17 @@ with_segment file base memory k =
 abbrev pub memory_of : List ℕ → ℕ → ℕ → List ℕ
 memory_of file base size = fold (with_segment file base) (replicate size 0) (indices_of file)
 
--- the end of the segment of program header k, or what was reached before where that is more
+-- the end of the segment of program header k, or the greatest end so far if that is greater
 abbrev pub reached : List ℕ → ℕ → ℕ → ℕ
 reached file end k =
     let p = program_header file k in
     if takes_memory p then max end (p.address + p.memory_size) else end
 
--- the greatest end of a segment, or base where there is none, rounded up to a multiple of 16
+-- the greatest end of a segment, or base if there is none, rounded up to a multiple of 16
 abbrev pub floor_of : List ℕ → ℕ → ℕ
 floor_of file base = (fold (reached file) base (indices_of file) + 15) / 16 * 16
 
--- what an image says: where the run starts, where the heap starts, and memory
+-- the contents of an image: the address at which the run starts, the address at which the heap starts, and memory
 pub record Contents : Type 0 where
   pub entry : ℕ
   pub floor : ℕ
@@ -57,13 +57,13 @@ abbrev pub refused_or : Option ElfError → Contents → Result Contents ElfErro
 refused_or None contents = Ok contents
 refused_or (Some e) contents = Err e
 
--- what a file means where program memory is `size` bytes from `base` on
+-- what a file means if program memory is `size` bytes from `base` on
 abbrev pub read_of : List ℕ → ℕ → ℕ → Result Contents ElfError
 read_of file base size =
     refused_or (first_fault (demands_of file base size))
     (record { entry = (header_of file).entry; floor = floor_of file base; memory = memory_of file base size })
 
--- an error is the file's refusal; want of memory comes only where the file is an image
+-- an error is the file's refusal; out of memory is reported only if the file is an image
 abbrev pub IsCause : Result Contents ElfError → ElfError → Type 0
 IsCause meaning (Memory e) = IsOk meaning
 IsCause meaning e = meaning ≡ Err e

@@ -10,7 +10,7 @@ use Rattle.thy_elf.specs.declared.error.ElfError.TheVariants.{FileOverMemory, Se
 use Rattle.thy_elf.specs.declared.program_header.ProgramHeader.{ProgramHeader}
 use Rattle.thy_elf.specs.Header.{header_of}
 
--- where program header k stands in the file: each has 56 bytes
+-- the place of program header k in the file: each has 56 bytes
 abbrev pub place_of : List ℕ → ℕ → ℕ
 place_of file k = (header_of file).table + 56 * k
 

@@ -5,7 +5,7 @@ use lib.Chars.{codes}
 use Rattle.thy_elf.specs.declared.error.ElfError.{ElfError}
 use Rattle.thy_elf.specs.declared.error.ElfError.TheVariants.{TooShort, NotElf, NotClass64, NotLittle, BadVersion, NotExec, NotRiscv, NeedsCompressed, NeedsFloat, IsRve, BadHeaderSize, TooManyHeaders, HeadersOutside, NeedsLoader, FileOverMemory, SegmentOutsideFile, SegmentOutsideMemory, Memory}
 
--- the error says something of the file
+-- the error is about the file, and not about memory
 abbrev pub IsRefusal : ElfError → Type 0
 IsRefusal (Memory e) = ⊥
 IsRefusal _ = Unit {0}

@@ -5,9 +5,8 @@ ghost use Rattle.thy_elf.specs.Refusal.{index_of, name_of, number_of};
 use std::alloc::AllocError;
 use thiserror::Error;
 
-/// Why a file cannot be loaded, by what is looked for first; a number is the index of the program
-/// header that is at fault, from 0. `Memory` is no refusal: the file is an image, and there is no
-/// memory to hold it.
+/// Why a file cannot be loaded, in the order in which it is checked; a number is the index of the program header at
+/// fault, from 0. `Memory` is not a refusal: the file is an image, but there is not enough memory to hold it.
 #[derive(Clone, Copy, PartialEq, Eq, Debug, Error)]
 pub enum ElfError {
     #[error("the file has fewer than 64 bytes, too few for an ELF header")]
@@ -101,7 +100,7 @@ impl ElfError {
         }
     }
 
-    /// The index of the program header at fault, where the refusal names one.
+    /// The index of the program header at fault, if the refusal names one.
     pub fn index(&self) -> Option<u64>
         ensures { result ≡ index_of self.now }
     {

@@ -58,10 +58,9 @@ fn first_refusal(file: &[u8], base: u64, size: u64) -> Option<ElfError>
     segments_refusal(file, base, size)
 }
 
-/// The image that a file means, where program memory is `size` bytes from `base` on: zeros, with
-/// the file's PT_LOAD segments written over them in the table's order. Where the file gives reason
-/// to refuse it, the first refusal, in the order in which `ElfError` lists them. Takes memory only
-/// for an image, and answers `Memory` only where the file is one.
+/// The image that a file means if program memory is `size` bytes from `base` on: zeros, with the file's PT_LOAD
+/// segments written over them in the table's order. If there are reasons to refuse the file, returns the first, in the
+/// order in which `ElfError` lists them. Allocates only for an image, and returns `Memory` only if the file is one.
 #[tactic(auto, using(crate::proofs::RefusalLemmas::cause_of))]
 pub fn read(alloc: Global, bytes: &[u8], base: u64, size: u64) -> Result<Image, ElfError>
     requires base { base < 2 ^ 62 }

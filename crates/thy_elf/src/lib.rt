@@ -1,5 +1,5 @@
 //! The loader of ELF files: from the bytes of a file to the image that a run starts with, or the first reason why the
-//! file is none. Nothing in a file can make it fail otherwise. That is the contract of `read`.
+//! file is not one. Nothing in a file can make it fail otherwise. That is the contract of `read`.
 //!
 //! Open specs/Image.antt first, and src/image.rt. It stands on thy_base; on it stand thy_plain, thy_make and thy_cli.
 #![tactic(auto)]

@@ -9,8 +9,7 @@ ghost use Rattle.thy_base.specs.Demands.{first_fault};
 
 use crate::program_header::{header_count, read_program_header};
 
-/// The bytes of a file from `offset` on, `len` of them; none of them have a place in the file where
-/// `len` is 0.
+/// The bytes of a file from `offset` on, `len` of them. If `len` is 0, `offset` may lie past the end of the file.
 fn file_part(file: &[u8], offset: u64, len: u64) -> &[u8]
     requires { 0 < len → offset + len ≤ length file.now }
     ensures bytes { result.now ≡ take len (drop offset file.now) }
@@ -69,7 +68,7 @@ pub fn write_segments(memory: &mut [u8], file: &[u8], base: u64, size: u64)
     }
 }
 
-/// The end of the segment of program header `k`, or `end` where that is more.
+/// The end of the segment of program header `k`, or `end` if that is greater.
 #[tactic(auto, using(crate::proofs::SegmentLemmas::segment_fits))]
 fn reached_with(file: &[u8], base: u64, size: u64, end: u64, k: u16) -> u64
     requires headers { HasHeaders file.now }
@@ -88,8 +87,8 @@ fn reached_with(file: &[u8], base: u64, size: u64, end: u64, k: u16) -> u64
     }
 }
 
-/// Where the heap begins: at the greatest end of a segment, or at `base` where there is none,
-/// rounded up to a multiple of 16.
+/// The address at which the heap begins: the greatest end of a segment, or `base` if there is none, rounded up to a
+/// multiple of 16.
 #[tactic(auto, using(crate::proofs::IndexLemmas::fold_start, crate::proofs::IndexLemmas::fold_step, crate::proofs::IndexLemmas::fold_end, crate::proofs::SegmentLemmas::accepted_at))]
 pub fn floor(file: &[u8], base: u64, size: u64) -> u64
     requires accepted { IsAccepted file.now base size }

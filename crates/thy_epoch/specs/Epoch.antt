@@ -16,11 +16,11 @@ pub record Epoch : Type 0 where
 abbrev pub begun : ℕ → ℕ → Epoch
 begun span number = record { span = span; number = number; retired = 0; over = None }
 
--- why an epoch is over when it has retired so many instructions, where the program runs on or not
+-- why an epoch is over after so many retired instructions; the flag says whether the program continues
 abbrev pub over_after : Bool → ℕ → ℕ → Option EndCause
 over_after running span retired = if running then (if retired == span then Some Length else None) else Some Ended
 
--- after an instruction retired, behind which the program runs on or not
+-- after an instruction retired; the flag says whether the program continues after it
 abbrev pub retired_once : Bool → Epoch → Epoch
 retired_once running e = record e { retired = e.retired + 1; over = over_after running e.span (e.retired + 1) }
 

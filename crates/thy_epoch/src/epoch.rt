@@ -54,7 +54,7 @@ impl EpochState {
         self.retired
     }
 
-    /// Why it is over, where it is.
+    /// Why it is over, if it is.
     pub fn over(&self) -> Option<EndCause>
         ensures over { result ≡ self.now.over }
         ensures retired { HasRetired self.now.span self.now.retired result }
@@ -62,8 +62,8 @@ impl EpochState {
         self.over
     }
 
-    /// Counts an instruction that retired. The epoch is over where the program does not run on, and else
-    /// where this was its last instruction.
+    /// Counts an instruction that retired. The epoch is over if the program does not continue, or if this was its last
+    /// instruction.
     pub fn retired_once(&mut self, running: bool)
         requires { self.old.over ≡ None }
         ensures { self.new ≡ retired_once running self.old }
@@ -76,8 +76,8 @@ impl EpochState {
         }
     }
 
-    /// Ends the epoch before an instruction that stores into `need` blocks, where `free` table entries
-    /// are fewer than the `dirty` lines of the cache and these together.
+    /// Ends the epoch before an instruction that stores into `need` blocks, because fewer than `dirty` + `need` table
+    /// entries are free. `dirty` is the number of dirty lines of the cache.
     pub fn exhausted(&mut self, free: u64, dirty: u64, need: u64)
         requires going { self.old.over ≡ None }
         requires short { IsShort free dirty need }
@@ -86,7 +86,7 @@ impl EpochState {
         self.over = Some(EndCause::Exhausted { free, dirty, need });
     }
 
-    /// Begins the next epoch, where this one is over.
+    /// Begins the next epoch, once this one is over.
     pub fn sealed(&mut self)
         requires over { self.old.over ≢ None }
         requires number { self.old.number + 1 < 2 ^ 64 }

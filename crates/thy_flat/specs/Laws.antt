@@ -1,4 +1,4 @@
--- A list of blocks is one list of bytes, also to the spans of it.
+-- A list of blocks is one list of bytes, also for its spans.
 use Rattle.std.specs.Prelude.{◌≡◌, ℕ, ◌*◌, List, length, take, drop}
 use Rattle.thy_base.specs.declared.block.Block.{Block}
 use Rattle.thy_base.specs.Bytes.{written}
@@ -10,13 +10,13 @@ use Rattle.thy_flat.specs.Spans.{IsSpanOf, gathered, scattered}
 abbrev pub FlatLength : Type 0
 FlatLength = (blocks : List Block) → length (flat blocks) ≡ 64 * length blocks
 
--- what is gathered of a span are the bytes that stand there
+-- gathering a span gives the bytes at its place
 abbrev pub SpansAreRead : Type 0
 SpansAreRead =
     (blocks : List Block) (s : Span) → IsSpanOf (length blocks) s
     → gathered blocks s ≡ take s.len (drop s.at (flat blocks))
 
--- bytes that are scattered over a span stand there afterwards, and every other byte is as before
+-- bytes that are scattered over a span are at its place afterwards, and every other byte is as before
 abbrev pub SpansAreWritten : Type 0
 SpansAreWritten =
     (blocks : List Block) (s : Span) (bytes : List ℕ) → IsSpanOf (length blocks) s → length bytes ≡ s.len

@@ -1,6 +1,6 @@
 //! A list of blocks as a list of bytes, and the spans of it that one instruction or call moves, a block at a time.
-//! Callers rest on `take_head` and `Span`'s calls, which are exact, and on `spans_are_bytes`: what is gathered of a
-//! span, block by block, are the bytes that stand there, and what is scattered over one changes those and no other.
+//! Callers depend on `take_head` and `Span`'s calls, which equal their specifications, and on `spans_are_bytes`: gathering
+//! a span, block by block, gives the bytes at its place, and scattering bytes over it changes these and no other.
 //!
 //! Open specs/Spans.antt and src/piece.rt first. It stands on thy_base; on it stand thy_isa, thy_hart, thy_record and
 //! what is above them.

@@ -14,7 +14,8 @@ pub record IsAtRest (r : Registers) (n : Device) : Type 0 where
   pub empty : n.queue ≡ []
   pub in_hand : block_at n.image (r.lines + 1) ≡ registers_block r
 
--- after a move that failed: no line may hold more, and registers that have moved tell of a line that was copied
+-- after a move that failed: no line may hold anything new, and registers that have moved imply that the line was
+-- copied
 pub record HasFailedToMove (r : Registers) (old new : Device) : Type 0 where
   pub down : new.down ≡ true
   pub elsewhere : (x : ℕ) (b : Block) → x ≢ r.gap → x ≢ r.lines + 1

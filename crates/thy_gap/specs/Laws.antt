@@ -28,7 +28,7 @@ MoveMovesOne =
     (r : Registers) (x : ℕ) → IsWhole r → x < r.lines
     → ((place r x ≡ source r) × (place (moved r) x ≡ r.gap)) ⊎ ((place r x ≢ source r) × (place (moved r) x ≡ place r x))
 
--- the gap moves to where that line was
+-- the gap moves to the place that this line had
 abbrev pub GapMoves : Type 0
 GapMoves = (r : Registers) → IsWhole r → (moved r).gap ≡ source r
 
@@ -42,7 +42,7 @@ RoundRotates =
     (r : Registers) → IsWhole r
     → moved_times (r.lines + 1) r ≡ record r { start = (r.start + 1) % r.lines }
 
--- so each line is where the next one was
+-- so each line is at the place that the next one had
 abbrev pub RoundShiftsLines : Type 0
 RoundShiftsLines =
     (r : Registers) (x : ℕ) → IsWhole r → x < r.lines

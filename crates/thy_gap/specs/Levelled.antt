@@ -17,7 +17,7 @@ pub record Levelled (N : Type 0) : Type 0 where
   pub every : ℕ
   -- the registers in hand
   pub registers : Registers
-  -- how many writes succeeded since the last move or fit; it stands at its last value
+  -- how many writes succeeded since the last move or fit; it saturates
   pub since : ℕ
   -- how many cuts there were since the last fit
   pub cuts : ℕ
@@ -56,7 +56,7 @@ HasFitted n old new = new ≡ record old { inner = new.inner; registers = unmove
 abbrev pub HasWritten : {N : Type 0} → ℕ → Levelled N → Levelled N → Type 0
 HasWritten since old new = new ≡ record old { inner = new.inner; since = since }
 
--- after a barrier: one line has moved, exactly where a move was due
+-- after a barrier: one line has moved, exactly if a move was due
 abbrev pub HasMovedIfDue : {N : Type 0} → Levelled N → Levelled N → Type 0
 HasMovedIfDue old new = new ≡ record old {
   inner = new.inner;

@@ -4,11 +4,11 @@ use Rattle.thy_base.specs.declared.block.Block.{Block}
 use Rattle.thy_base.specs.Device.{Device, Crash}
 use Rattle.thy_gap.specs.Seen.{unmapped}
 
--- the inner image means the image that is seen, where one is
+-- the inner image means the image that is seen, if that has any blocks
 abbrev pub ImageMeansSeen : Device → Device → Type 0
 ImageMeansSeen inner shown = 0 < length shown.image → unmapped inner.image ≡ shown.image
 
--- what a cut may leave of it means what a cut may leave of what is seen
+-- what a cut may leave of the inner device means what a cut may leave of what is seen
 abbrev pub CrashMeansSeen : Device → Device → Type 0
 CrashMeansSeen inner shown = 0 < length shown.image → (g : List Block) → Crash inner g → Crash shown (unmapped g)
 

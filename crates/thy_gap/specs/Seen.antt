@@ -16,7 +16,7 @@ unmap r image = map (λ x. block_at image (place r x)) (range_with_len 0 r.lines
 abbrev pub unmapped : List Block → List Block
 unmapped g = unmap (registers_in g) g
 
--- a write of a line, where there is one
+-- a write of a line, if there is one
 abbrev pub write_to : Option ℕ → Block → List Write
 write_to None block = []
 write_to (Some x) block = write_of x block ∷ []

@@ -19,7 +19,7 @@ pub struct Gap<N: Nvm> {
     // After how many writes a barrier moves a line.
     every: u64,
     registers: Registers,
-    // How many writes succeeded since the last move or fit. Stands at the last value.
+    // How many writes succeeded since the last move or fit. Saturates.
     since: u64,
     // How many cuts there were since the last fit.
     cuts: u64,
@@ -36,8 +36,8 @@ impl<N: Nvm> Model for Gap<N> {
 }
 
 impl<N: Nvm> Gap<N> {
-    /// Levels the wear of a device: where `every` writes were made, the next barrier moves a line. It has no blocks until
-    /// it is fitted.
+    /// Levels the wear of a device: once `every` writes were made, the next barrier moves a line. The device has no
+    /// blocks until it is fitted.
     pub fn over(inner: N, every: u64) -> Gap<N>
         requires { 0 < every }
         ensures { result ≡ levelled_over inner every }
@@ -73,8 +73,8 @@ impl<N: Nvm> Gap<N> {
         self.inner
     }
 
-    /// What an inner image means by its own registers is what is seen, after a call that failed too: of the image that
-    /// stands, of each that a cut may leave, and of each that was kept.
+    /// What an inner image means by its own registers is what is seen, also after a call that failed. This holds of the
+    /// current image, of each that a cut may leave, and of each that was kept.
     pub fn means_what_is_seen(&self)
         ensures image { ImageMeansSeen (N.device self.now.inner) (shown N.device self.now) }
         ensures crash { CrashMeansSeen (N.device self.now.inner) (shown N.device self.now) }
@@ -197,7 +197,7 @@ impl<N: Nvm> Nvm for Gap<N> {
         self.inner.drain()
     }
 
-    /// Then moves a line, exactly where `every` writes were made since the last move or fit.
+    /// Then moves a line, exactly if `every` writes or more were made since the last move or fit.
     fn barrier(&mut self) -> Result<(), NvmError>
         requires { (shown N.device self.old).down ≡ false }
         ensures ok { OnOk result (shown N.device self.new ≡ settled (shown N.device self.old)) }

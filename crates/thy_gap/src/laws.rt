@@ -1,7 +1,7 @@
 //! The laws of lines and registers, each the contract of a function that does nothing.
 ghost use Rattle.thy_gap.specs.Laws.{PlaceIsRotated, PlaceIsOneToOne, PlaceIsBesideGap, PlaceIsOnto, MoveMovesOne, GapMoves, MovedIsWhole, RoundRotates, RoundShiftsLines, RoundMovesEach};
 
-/// The lines are at all places but the gap, each at one of its own.
+/// The lines are at all places but the gap, each at a place of its own.
 pub fn places_are_one_to_one()
     ensures rotated { PlaceIsRotated }
     ensures one_to_one { PlaceIsOneToOne }
@@ -16,8 +16,8 @@ pub fn a_move_moves_one_line()
     ensures whole { MovedIsWhole }
 {}
 
-/// One move more than there are lines brings the gap back. The start has grown by 1, so each line is where the next one
-/// was, and has moved.
+/// One move more than there are lines brings the gap back. The start has grown by 1, so each line is at the place that
+/// the next one had, and has moved.
 pub fn a_round_of_moves_rotates_the_lines()
     ensures registers { RoundRotates }
     ensures lines { RoundShiftsLines }

@@ -18,7 +18,7 @@ fn put<N: Nvm>(inner: &mut N, at: u64, block: &Block) -> Result<(), NvmError>
     ensures cause { CountsFault result (N.device inner.old).faults (N.device inner.new).faults }
     ensures no_fewer_writes { N.writes inner.old ≤ N.writes inner.new }
 {
-    // A count that can be read fits its type, so that one more is no less.
+    // A count that can be read fits its type, so that the next one is not smaller.
     let _ = inner.writes();
     inner.write(at, block)?;
     inner.barrier()
@@ -27,7 +27,7 @@ fn put<N: Nvm>(inner: &mut N, at: u64, block: &Block) -> Result<(), NvmError>
 /// Moves one line of a device at rest to the gap. The registers land after its copy.
 ///
 /// # Errors
-/// `Failed` where the device fails. Then a cut leaves the registers as they were, or moved with the line copied.
+/// `Failed` if the device fails. A cut then leaves the registers as they were, or moved with the line copied.
 pub(crate) fn move_line<N: Nvm>(inner: &mut N, registers: &Registers) -> Result<(), NvmError>
     requires { IsAtRest registers.now (N.device inner.old) }
     ensures ok { OnOk result (N.device inner.new ≡ line_moved registers.now (N.device inner.old)) }

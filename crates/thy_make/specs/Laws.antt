@@ -17,8 +17,8 @@ ProgramsHaveOneLength = (n : ℕ) → length (made_program n) ≡ 6007
 abbrev pub FilesHaveOneLength : Type 0
 FilesHaveOneLength = (n : ℕ) → length (made_file n) ≡ 24148
 
--- what a file is an image of: its words from the first byte of memory on, behind them zeros, and a heap that begins at the
--- first multiple of 16 behind the words
+-- what a file is an image of: its words from the first byte of memory on, zeros after them, and a heap that begins at
+-- the first multiple of 16 after the words
 abbrev pub made_contents : ℕ → ℕ → Contents
 made_contents n size = record {
   entry = 65536;
@@ -26,7 +26,7 @@ made_contents n size = record {
   memory = flat_map (number_bytes 4) (made_words n) ++ replicate (size - 24028) 0;
 }
 
--- where program memory begins at 65536 and has room for the words, the file is an image of them
+-- if program memory begins at 65536 and has room for the words, the file is an image of them
 abbrev pub FilesAreImages : Type 0
 FilesAreImages =
     (n size : ℕ) → 24028 ≤ size → read_of (made_file n) 65536 size ≡ Ok (made_contents n size)
@@ -39,11 +39,11 @@ MeansItself instr = instr_of (encoded instr) ≡ Some instr
 abbrev pub WordsMeanTheProgram : Type 0
 WordsMeanTheProgram = (n : ℕ) → All MeansItself (made_program n)
 
--- where the eight bytes begin that the store of a draw writes
+-- the address of the eight bytes that the store of a draw writes
 abbrev pub address_of : ℕ → ℕ
 address_of r = page_of r * 2 ^ 12 + offset_of r
 
--- they are aligned, lie behind the code and within 192 pages from 65536 on
+-- they are aligned, lie after the code and within 192 pages from 65536 on
 pub record IsInReach (r : ℕ) : Type 0 where
   pub aligned : address_of r % 8 ≡ 0
   pub behind : 65536 + 24028 ≤ address_of r

@@ -23,15 +23,15 @@ unfoldable pub draws : ℕ → ℕ → List ℕ
 draws zero state = []
 draws (suc k) state = lcg_draw (lcg_next state) ∷ draws k (lcg_next state)
 
--- the page at which the store of a draw goes: where the draw is odd one of 16, which are stored to often; else one of 128
+-- the page that the store of a draw writes: if the draw is odd, one of 16, which are stored to often; else one of 128
 abbrev pub page_of : ℕ → ℕ
 page_of r = if r % 2 == 1 then 64 + r / 2 % 16 else 80 + r / 2 % 128
 
--- the byte of the page from which it goes on: that of one of the 256 words in its first half
+-- the byte of the page at which the store begins: that of one of the 256 words in its first half
 abbrev pub offset_of : ℕ → ℕ
 offset_of r = 8 * (r / 256 % 256)
 
--- the instructions of a draw: x5 is stored, and counts on
+-- the instructions of a draw: x5 is stored, and then incremented
 abbrev pub store_of : ℕ → List Instr
 store_of r = Lui 6 (page_of r * 2 ^ 12) ∷ Store Double 6 5 (offset_of r) ∷ addi 5 5 1 ∷ []
 
@@ -39,7 +39,7 @@ store_of r = Lui 6 (page_of r * 2 ^ 12) ∷ Store Double 6 5 (offset_of r) ∷ a
 abbrev pub opening : List Instr
 opening = addi 7 0 8 ∷ []
 
--- behind them: back to the first store while a round is left, and then an exit with what x5 counted
+-- after them: back to the first store while a round is left, and then an exit with the count in x5
 abbrev pub closing : List Instr
 closing =
     addi 7 7 (minus 1) ∷ Branch Equal 7 0 8 ∷ Jal 0 (minus 24008) ∷ addi 10 5 0 ∷ addi 17 0 93 ∷ Ecall ∷ []

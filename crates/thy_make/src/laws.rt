@@ -12,13 +12,13 @@ pub fn made_words_decode()
     ensures { WordsMeanTheProgram }
 {}
 
-/// The store of every draw is aligned, behind the program's code, and within 192 pages from its first byte on.
+/// The store of every draw is aligned, after the program's code, and within 192 pages from its first byte on.
 pub fn stores_are_in_reach()
     ensures { StoresAreInReach }
 {}
 
-/// The file of every number is an image, where program memory begins at 65536 and has room for the words: it starts at its first
-/// word, and memory holds the words and behind them zeros.
+/// The file of every number is an image if program memory begins at 65536 and has room for the words. It starts at its
+/// first word, and memory holds the words and zeros after them.
 pub fn made_files_are_images()
     ensures { FilesAreImages }
 {}

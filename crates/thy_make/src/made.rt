@@ -8,7 +8,7 @@ use crate::program::words;
 use std::alloc::{AllocError, Global};
 use thy_base::Bytes;
 
-/// The program file of number n. Takes memory for it, and for its words while it is made.
+/// The program file of number n. Allocates it, and its words while it is made.
 pub fn file(alloc: Global, n: u64) -> Result<Bytes, AllocError>
     ensures file { IfOk result (λ file. bytes_of file ≡ made_file n) }
     ensures len { IfOk result (λ file. length (bytes_of file) ≡ 24148) }

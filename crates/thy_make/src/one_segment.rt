@@ -8,13 +8,13 @@ ghost use Rattle.thy_make.specs.File.{field_bytes, file_header as file_header_of
 use std::alloc::{AllocError, Global};
 use thy_base::Bytes;
 
-/// How many bytes stand before the words.
+/// How many bytes precede the words.
 const HEADERS: usize = 120;
 
-/// Where the segment is loaded.
+/// The address at which the segment is loaded.
 const BASE: u64 = 65536;
 
-/// Where the program starts: at its first word.
+/// The address at which the program starts: its first word.
 const ENTRY: u64 = BASE;
 
 /// A field of a header, of one, two, four or eight bytes, the lowest first.
@@ -100,7 +100,7 @@ fn file_header() -> [HeaderField; 19]
     ]
 }
 
-/// The program header: a segment of `size` bytes behind the headers, to be loaded, read, written and executed.
+/// The program header: a segment of `size` bytes after the headers, to be loaded, read, written and executed.
 fn segment_header(size: u64) -> [HeaderField; 8]
     ensures { result ≡ segment_header_of size }
 {

@@ -15,16 +15,16 @@ const WORDS: usize = 6007;
 /// How many stores a round has.
 const STORES: usize = 2000;
 
-/// What a program counts its stores by, and what it stores.
+/// The register that counts a program's stores, which is also what they store.
 const COUNT: u8 = 5;
 
-/// Where it stores to: the page's address.
+/// The register with the address of the page that is stored to.
 const PAGE: u8 = 6;
 
-/// How many rounds are left.
+/// The register with the number of rounds that are left.
 const ROUNDS: u8 = 7;
 
-/// The argument of an exit, and the number of a call.
+/// The registers with the argument of an exit, and with the number of a call.
 const A0: u8 = 10;
 
 const A7: u8 = 17;
@@ -32,7 +32,7 @@ const A7: u8 = 17;
 /// The number of the call that exits.
 const EXIT: u64 = 93;
 
-/// The words of the program of number n. Takes memory for them.
+/// The words of the program of number n, in newly allocated memory.
 pub(crate) fn words(alloc: Global, n: u64) -> Result<Vec<u32>, AllocError>
     ensures { IfOk result (λ words. words.items ≡ made_words n) }
 {
@@ -71,7 +71,7 @@ fn opening() -> [Instr; 1]
     [addi(ROUNDS, 0, 8)]
 }
 
-/// The instructions of a draw: the count is stored, and goes on.
+/// The instructions of a draw: the count is stored, and then incremented.
 fn store(draw: u64) -> [Instr; 3]
     ensures { result ≡ store_of draw }
 {
@@ -90,7 +90,7 @@ fn store(draw: u64) -> [Instr; 3]
     ]
 }
 
-/// The page to which the store of a draw goes: one of 16 that are stored to often, or one of 128.
+/// The page that the store of a draw writes: one of 16 that are stored to often, or one of 128.
 fn page(draw: u64) -> u64
     ensures { result ≡ page_of draw }
 {
@@ -101,14 +101,14 @@ fn page(draw: u64) -> u64
     }
 }
 
-/// The byte of the page from which it goes on.
+/// The byte of the page at which that store begins.
 fn offset(draw: u64) -> u64
     ensures { result ≡ offset_of draw }
 {
     8 * (draw / 256 % 256)
 }
 
-/// The instructions behind the stores: back to the first of them while a round is left; then an exit, with the count.
+/// The instructions after the stores: back to the first of them while a round is left; then an exit, with the count.
 fn closing() -> [Instr; 6]
     ensures { result ≡ closing_of }
 {

@@ -7,7 +7,7 @@ use Rattle.thy_nvm.specs.declared.call_faults.Fault.TheVariants.{Undone, Late}
 
 -- the reads, writes, drains and barriers of a device, which have numbers from 1 on
 pub record Calls : Type 0 where
-  -- how many were made, which is the number of the latest; it stands at its last value
+  -- how many were made, which is the number of the latest; it saturates
   pub made : ℕ
   -- the numbers of those that fail and do nothing
   pub failing : List ℕ

@@ -26,7 +26,7 @@ device_in held cuts down faults fits = record (device_of held) {
 -- a device in memory, with its counts of writes and calls, and which of the calls fail
 pub record InMemory : Type 0 where
   pub device : Device
-  -- how many writes it has taken since it was fitted; it stands at its last value
+  -- how many writes it has taken since it was fitted; it saturates
   pub writes : ℕ
   pub calls : Calls
 
@@ -41,7 +41,7 @@ fresh_device failing late = in_memory (device_in nothing (no_cuts 0 0) false 0 0
 abbrev pub with_device : InMemory → Device → InMemory
 with_device m n = record m { device = n }
 
--- and after one that changes the device so
+-- and after one that changes the device by this function
 abbrev pub on_device : (Device → Device) → InMemory → InMemory
 on_device call m = with_device m (call m.device)
 
@@ -53,7 +53,7 @@ refitted shape start m = record m { device = fitted shape start m.device; writes
 abbrev pub fit_refused : InMemory → InMemory
 fit_refused m = with_device m (record m.device { fits = next m.device.fits })
 
--- a fit leaves the one or the other
+-- a fit leaves one of these two
 abbrev pub IsFit : Shape → List Block → InMemory → Result ⊤ FitError → InMemory → Type 0
 IsFit shape start old result new = MatchResult result (λ _. new ≡ refitted shape start old) (λ _. new ≡ fit_refused old)
 
@@ -78,7 +78,7 @@ half_settled n = landed (length n.queue / 2) n
 abbrev pub failed : Device → Device
 failed n = record n { down = true; faults = next n.faults }
 
--- what a call with this fault leaves, where this is done if it has none, and that if it fails late
+-- what a call with this fault leaves; the two functions are what it does without a fault, and with a late one
 abbrev pub left_after : Option Fault → (InMemory → InMemory) → (Device → Device) → InMemory → InMemory
 left_after None done late m = done m
 left_after (Some Undone) done late m = with_device m (failed m.device)
@@ -87,7 +87,7 @@ left_after (Some Late) done late m = with_device m (failed (late m.device))
 -- A call that does this, and that if it fails late.
 pub record IsCall {T : Type 0} (done : InMemory → InMemory) (late : Device → Device)
     (old : InMemory) (result : Result T NvmError) (new : InMemory) : Type 0 where
-  -- it fails exactly where its number is listed
+  -- it fails exactly if its number is listed
   pub fails : is_err result ≡ is_some (next_fault old.calls)
   -- and counts in any case
   pub leaves : new ≡ left_after (next_fault old.calls) done late (record old { calls = counted old.calls })

@@ -7,7 +7,7 @@ use Rattle.thy_base.specs.Lcg.{lcg_next, lcg_draw}
 use Rattle.thy_ring.specs.Held.{Held, put_at, unqueued}
 use Rattle.thy_nvm.specs.DeviceInMemory.{InMemory, on_device}
 
--- what a place's draw leaves of the block that stands there and those queued for it, oldest first
+-- what a place's draw leaves of the image's block there and the blocks queued for it, oldest first
 abbrev pub drawn_block : ℕ → Block → List Block → Block
 drawn_block seed block [] = block
 drawn_block seed block (b ∷ bs) = slice_index_or (block ∷ b ∷ bs) (lcg_draw (lcg_next seed) % length (block ∷ b ∷ bs)) block

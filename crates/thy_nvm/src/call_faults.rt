@@ -17,7 +17,7 @@ pub(crate) enum Fault {
 /// How many calls were made, and the numbers of those that fail.
 #[derive(Drop)]
 pub(crate) struct CallFaults {
-    // Stands at the last value.
+    // Saturates.
     made: u64,
     failing: Vec<u64>,
     late: Vec<u64>,
@@ -32,7 +32,7 @@ impl Model for CallFaults {
 }
 
 impl CallFaults {
-    /// No call is made yet, and none will fail. Takes no memory.
+    /// No call is made yet, and none will fail. Allocates nothing.
     pub(crate) fn none(alloc: Global) -> CallFaults
         ensures { result ≡ no_calls [] [] }
     {
@@ -74,7 +74,7 @@ impl CallFaults {
         self.made
     }
 
-    /// Counts a call, and answers how it fails, if it does.
+    /// Counts a call, and returns how it fails, if it does.
     pub(crate) fn next(&mut self) -> Option<Fault>
         ensures fault { result ≡ next_fault self.old }
         ensures counted { self.new ≡ counted self.old }

@@ -8,7 +8,7 @@ use std::marker::Model;
 use thy_base::Block;
 
 /// The images that cuts left, all of one size in blocks, and the picks of the cuts. Only `with_room`
-/// takes memory.
+/// allocates.
 #[derive(Drop)]
 pub(crate) struct Kept {
     size: u64,
@@ -30,7 +30,7 @@ impl Model for Kept {
 }
 
 impl Kept {
-    /// Room for no cut. Takes no memory.
+    /// Room for no cut. Allocates nothing.
     pub(crate) fn new(alloc: Global) -> Kept
         ensures { result ≡ no_cuts 0 0 }
     {
@@ -97,7 +97,7 @@ fn add_pick(picks: &mut Vec<u64>, pick: u64)
     let _ = picks.push(pick);
 }
 
-/// The block at a place of the image `i`, where images of one size lie one after another.
+/// The block at a place of image `i`, if images of one size lie one after another.
 fn block_of(blocks: &[Block], size: usize, i: usize, at: usize) -> Block
     requires { i * size + at < length blocks.now }
     ensures { result ≡ block_at blocks.now (i * size + at) }

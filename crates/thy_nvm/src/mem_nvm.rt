@@ -23,11 +23,11 @@ pub struct MemNvm {
     calls: CallFaults,
     // A call has failed since the last fit or cut.
     down: bool,
-    // How many calls have failed. Stands at the last value.
+    // How many calls have failed. Saturates.
     faults: u64,
-    // How many times it was fitted. Stands at the last value.
+    // How many times it was fitted. Saturates.
     fits: u64,
-    // How many writes it has taken since it was fitted. Stands at the last value.
+    // How many writes it has taken since it was fitted. Saturates.
     writes: u64,
 }
 
@@ -43,7 +43,7 @@ impl Model for MemNvm {
 }
 
 impl MemNvm {
-    /// A device without blocks that never fails. Takes no memory.
+    /// A device without blocks that never fails. Allocates nothing.
     pub fn new(alloc: Global) -> MemNvm
         ensures { result ≡ fresh_device [] [] }
     {
@@ -67,14 +67,14 @@ impl MemNvm {
         Ok(MemNvm::with_calls(alloc, calls))
     }
 
-    /// How many reads, writes, drains and barriers were called. Stands at the last value.
+    /// How many reads, writes, drains and barriers were called. Saturates.
     pub fn calls(&self) -> u64
         ensures { result ≡ self.now.calls.made }
     {
         self.calls.made()
     }
 
-    /// A device without blocks whose calls fail so.
+    /// A device without blocks whose calls fail as listed.
     fn with_calls(alloc: Global, calls: CallFaults) -> MemNvm
         ensures { result ≡ record (fresh_device [] []) { calls = calls } }
     {
@@ -201,7 +201,7 @@ impl Nvm for MemNvm {
 
     ghost writes = { λ m. m.writes };
 
-    /// Never fails but for want of memory, and is none of the calls that are numbered.
+    /// Fails only if memory runs out, and is not one of the calls that are numbered.
     fn fit(&mut self, alloc: Global, shape: &Shape, start: &[Block]) -> Result<(), FitError>
         requires blocks { 0 < shape.now.blocks }
         requires queue { 0 < shape.now.queue }
@@ -275,7 +275,7 @@ impl Nvm for MemNvm {
         self.drain_unless(fault)
     }
 
-    /// Writes nothing of its own accord.
+    /// Makes no write of its own.
     fn barrier(&mut self) -> Result<(), NvmError>
         requires { self.old.device.down ≡ false }
         ensures exact { IsCall (on_device settled) half_settled self.old result self.new }

@@ -6,7 +6,7 @@ ghost use Rattle.thy_nvm.specs.Pick.{drawn_seed, drawn, drawn_at, left_by};
 use thy_base::Lcg;
 use thy_ring::Ring;
 
-/// Lets one place take its draw, where a write is queued for it.
+/// Draws for one place what it keeps, if a write is queued for it.
 fn draw_place(ring: &mut Ring, at: u64, draws: &mut Lcg)
     requires { at < length ring.old.image }
     ensures ring { ring.new ≡ drawn_at draws.old at ring.old }

@@ -17,7 +17,7 @@ abbrev pub found : List (List ℕ × List ℕ) → List ℕ → Option (List ℕ
 found [] name = None
 found (file ∷ files) name = if bytes_eq file.0 name then Some file.1 else found files name
 
--- a rack tells what it holds, and not under which names calls failed, since to note a name may want memory
+-- what is known of a rack: its contents, but not under which names calls failed, since recording a name would allocate
 abbrev pub stock_of : Rack → Stock
 stock_of rack = record { held = Some (found rack.files); failed = None; faults = rack.faults }
 

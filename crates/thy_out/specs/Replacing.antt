@@ -5,7 +5,7 @@ use Rattle.thy_base.specs.Outside.{Stream}
 use Rattle.thy_out.specs.declared.disk.Replaced.{Replaced}
 use Rattle.thy_out.specs.declared.disk.Replaced.TheVariants.{Done, Refused, Failed}
 
--- a file that is written: the bytes that it took, where it tells them; whether all of them were synced; how many of its
+-- a file that is written: the bytes that it took, if they are known; whether all of them were synced; how many of its
 -- calls failed
 pub record Written : Type 0 where
   pub taken : Option (List ℕ)
@@ -27,7 +27,7 @@ one_done tally = record tally { puts = next tally.puts }
 abbrev pub one_failed : Tally → Tally
 one_failed tally = record tally { failures = next tally.failures }
 
--- a put counts as done where it succeeds, and as failed where it does not
+-- a put counts as done if it succeeds, and as failed if it does not
 abbrev pub counted : {E : Type 0} → Tally → Result Unit E → Tally
 counted tally (Ok done) = one_done tally
 counted tally (Err e) = one_failed tally

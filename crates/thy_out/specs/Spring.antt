@@ -6,18 +6,18 @@ use Rattle.thy_base.specs.Counts.{Rose}
 use Rattle.thy_base.specs.declared.outside.FetchError.{FetchError}
 use Rattle.thy_base.specs.declared.outside.FetchError.TheVariants.{Failed}
 
--- the bytes that it has left, where it tells them, and how many of its reads failed
+-- the bytes that it has left, if they are known, and how many of its reads failed
 pub record Spring : Type 0 where
   pub left : Option (List ℕ)
   pub failures : ℕ
 
--- where they are known, it has lost its first bytes, at most n of them
+-- if they are known, it has lost its first bytes, at most n of them
 pub record LosesAtMost (n : ℕ) (old new : Option (List ℕ)) : Type 0 where
   pub bytes : List ℕ
   pub read : Consumes old new bytes
   pub few : length bytes ≤ n
 
--- a failure has a cause, a read that failed; and behind such a read there is no other answer
+-- the answer is `Failed` exactly if a read failed: then the count rose, and otherwise it stayed
 abbrev pub HasCause : Result (Vec ℕ Global) FetchError → ℕ → ℕ → Type 0
 HasCause (Err Failed) old new = Rose old new
 HasCause _ old new = new ≡ old

@@ -12,7 +12,7 @@ pub record Tape : Type 0 where
   pub failing : List ℕ
   pub faults : ℕ
 
--- a tape tells what it took
+-- what a tape took is known
 abbrev pub stream_of : Tape → Stream
 stream_of tape = record { taken = Some tape.taken; faults = tape.faults }
 

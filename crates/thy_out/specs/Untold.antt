@@ -8,17 +8,17 @@ use Rattle.thy_base.specs.declared.outside.FetchError.TheVariants.{Memory}
 use Rattle.thy_base.specs.declared.outside.PutError.{PutError}
 use Rattle.thy_base.specs.declared.outside.PutError.TheVariants.{Memory as PutMemory}
 
--- it does not tell what it holds, since others change it too, nor under which names calls failed
+-- what it holds is unknown, since others change it too; so are the names under which calls failed
 abbrev pub untold : ℕ → Stock
 untold faults = record { held = None; failed = None; faults = faults }
 
--- the count after a fetch: one more with every answer but bytes and want of memory
+-- the count after a fetch: one more unless it returned bytes or ran out of memory
 abbrev pub fetch_faults : ℕ → Result (Vec ℕ Global) FetchError → ℕ
 fetch_faults faults (Ok bytes) = faults
 fetch_faults faults (Err (Memory e)) = faults
 fetch_faults faults (Err _) = next faults
 
--- the count after a put: one more where it failed
+-- the count after a put: one more if it failed, unless it ran out of memory
 abbrev pub put_faults : ℕ → Result Unit PutError → ℕ
 put_faults faults (Ok done) = faults
 put_faults faults (Err (PutMemory e)) = faults

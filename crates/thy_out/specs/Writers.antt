@@ -2,6 +2,6 @@
 use Rattle.std.specs.Prelude.{ℕ, List, Option}
 use Rattle.thy_base.specs.Outside.{Stream}
 
--- it tells what it took where its writer tells what it holds
+-- what it took is known if the contents of its writer are
 abbrev pub stream_with : Option (List ℕ) → ℕ → Stream
 stream_with held faults = record { taken = held; faults = faults }

@@ -1,4 +1,4 @@
-//! The files of the system, and how a put makes a name hold bytes. Where it can, it makes a new file beside the name
+//! The files of the system, and how a put stores bytes under a name. If it can, it makes a new file beside the name
 //! and then renames that over it, so that the name has its old bytes or all of the new ones at each moment.
 ghost use Rattle.std.specs.Prelude.{◌≡◌, ◌≢◌, ◌++◌, codes, IfSome, IfOk, OnOk, OnErr, true};
 ghost use Rattle.thy_out.specs.Replacing.{one_done, one_failed, counted, counted_as};
@@ -40,13 +40,13 @@ impl<R> Model for Disk<R> {
 pub enum Replaced {
     /// The name has the new file.
     Done,
-    /// The system lets no file be made beside the name, or none take its place. The name has what it had.
+    /// The system does not let a file be made beside the name, or take its place. The name has what it had.
     Refused,
     /// A call failed. The name has what it had.
     Failed,
 }
 
-/// What stands under a name.
+/// What a name refers to.
 #[derive(Drop)]
 enum Standing {
     /// Nothing.
@@ -93,7 +93,7 @@ impl<R: Files> Disk<R> {
         }
     }
 
-    /// Opens the file of this name to be read.
+    /// Opens the file of this name for reading.
     pub fn open(&self, name: &str) -> io::Result<R::File> {
         fs::open(&self.rt, name)
     }
@@ -121,7 +121,7 @@ impl<R: Files> Disk<R> {
         self.failures = self.failures.saturating_add(1);
     }
 
-    /// What stands under a name. Whether a file may be written is tried by opening it, because a rename would
+    /// What a name refers to. Whether a file may be written is tried by opening it, because a rename would
     /// replace it in any case.
     fn standing(&self, name: &str) -> Standing {
         match fs::symlink_metadata(&self.rt, name) {
@@ -148,7 +148,7 @@ impl<R: Files> Disk<R> {
         let _removed = fs::remove_file(&self.rt, side);
     }
 
-    /// Makes an empty file, in place of one that a put before was stopped at.
+    /// Makes an empty file, in place of one that an interrupted put left.
     fn make(&self, side: &str, options: &OpenOptions) -> io::Result<R::File> {
         if let Ok(there) = fs::symlink_metadata(&self.rt, side) {
             if there.is_file() {
@@ -225,7 +225,7 @@ impl<R: Files> Disk<R> {
         }
     }
 
-    /// Makes a file beside a name, if nothing stands under the name or a file that can be replaced.
+    /// Makes a file beside a name, if the name refers to nothing or to a file that can be replaced.
     fn make_beside(&self, name: &str, side: &str) -> io::Result<R::File> {
         let mut options = OpenOptions::new();
         options.write(true).create_new(true);
@@ -236,7 +236,7 @@ impl<R: Files> Disk<R> {
         }
     }
 
-    /// Puts bytes under a name by a new file, if that can be.
+    /// Puts bytes under a name by a new file, if that is possible.
     fn replace(&mut self, name: &str, bytes: &[u8]) -> Replaced
         ensures { self.new ≡ counted_as self.old result }
     {
@@ -255,7 +255,7 @@ impl<R: Files> Disk<R> {
         }
     }
 
-    /// Opens the file of this name to be written, with nothing in it.
+    /// Opens the file of this name for writing, and empties it.
     fn create(&mut self, name: &str) -> Result<Target<R::File>, SinkError>
         ensures clean { IfOk result (λ file. file.failures ≡ 0) }
         ensures ok { OnOk result (self.new ≡ self.old) }
@@ -270,7 +270,7 @@ impl<R: Files> Disk<R> {
         }
     }
 
-    /// Writes bytes into what stands under the name itself.
+    /// Writes bytes into what the name itself refers to.
     fn write_over(&mut self, name: &str, bytes: &[u8]) -> Result<(), SinkError>
         ensures { self.new ≡ counted self.old result }
     {
@@ -287,8 +287,8 @@ impl<R: Files> Disk<R> {
         }
     }
 
-    /// Makes the name hold these bytes: by a new file, or, if the system lets none take its place, by writing over
-    /// what stands there.
+    /// Makes the name hold these bytes: by a new file, or, if the system does not let one take its place, by writing over
+    /// what is there.
     pub fn put(&mut self, name: &str, bytes: &[u8]) -> Result<(), SinkError>
         ensures { self.new ≡ counted self.old result }
     {

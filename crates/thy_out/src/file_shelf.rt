@@ -13,9 +13,9 @@ use std::fs::Files;
 use std::io::{ErrorKind, Read};
 use thy_base::{FetchError, PutError, Shelf};
 
-/// The files that the runtime reaches; a name is a path. What it holds it does not tell, since
-/// others change it too, so it counts a fault with every answer but bytes and want of memory. It
-/// does not tell under which names calls failed.
+/// The files that the runtime reaches; a name is a path. Its contents are unknown to contracts, since others change
+/// them too, so it counts a fault with every answer but bytes and out of memory. The names under which calls failed
+/// are unknown too.
 #[derive(Drop)]
 pub struct FileShelf<R> {
     disk: Disk<R>,
@@ -38,8 +38,8 @@ impl<R: Files> FileShelf<R> {
 const PIECE: u64 = 4096;
 
 /// The bytes that a reader has left, if they are at most `limit`, or `TooLong`. It reads to their end,
-/// but no more than one byte past `limit`. It answers `Failed` exactly where a read failed. Where it
-/// gives no bytes, some may have been read.
+/// but no more than one byte past `limit`. It returns `Failed` exactly if a read failed. If it returns no bytes, some
+/// may have been read.
 pub fn read_within<F: Read>(
     file: &mut Source<F>,
     alloc: Global,
@@ -71,7 +71,7 @@ pub fn read_within<F: Read>(
     }
 }
 
-/// What stands at a path, if it is at most `limit` bytes.
+/// The bytes of the file at a path, if they are at most `limit`.
 fn read_file<R: Files>(
     disk: &Disk<R>,
     alloc: Global,
@@ -110,8 +110,8 @@ impl<R: Files> Shelf for FileShelf<R> {
         }
     }
 
-    /// By a new file beside the name, which is synced and renamed over it, if nothing stands under the name or
-    /// a file with no other name, and the system lets a file be made there; otherwise by writing over what stands there.
+    /// By a new file beside the name, which is synced and renamed over it, if the name refers to nothing or to
+    /// a file with no other name, and the system lets a file be made there; otherwise by writing over what is there.
     fn put(&mut self, _alloc: Global, name: &str, bytes: &[u8]) -> Result<(), PutError>
         ensures faults { PutCounts name.now (untold self.old.faults) (untold self.new.faults) result }
         ensures after { self.new.faults ≡ put_faults self.old.faults result }

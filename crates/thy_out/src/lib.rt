@@ -1,5 +1,5 @@
 //! Shelves and sinks: in memory, with calls that can be made to fail, and over files and streams. Each keeps the laws
-//! of the traits `Shelf` and `Sink` of thy_base; `MemShelf` and `MemSink` are exact besides.
+//! of the traits `Shelf` and `Sink` of thy_base; `MemShelf` and `MemSink` also equal their specifications.
 //!
 //! Open src/mem_sink.rt and src/file_shelf.rt first, then specs/Tape.antt; src/disk.rt has how a put reaches the files of
 //! the system. It stands on thy_base. The program and the tests use it; no other crate does, since the top call is proved

@@ -10,8 +10,8 @@ use std::alloc::{AllocError, Global};
 use std::marker::Model;
 use thy_base::{FetchError, PutError, Shelf};
 
-/// Named files in memory, of which it tells; under which names calls failed it does not tell. Of files
-/// with one name only the first is seen.
+/// Named files in memory. Contracts know the contents, but not the names under which calls failed. If files have the
+/// same name, only the first is seen.
 #[derive(Debug, Drop)]
 pub struct MemShelf {
     files: Vec<(String, Vec<u8>)>,
@@ -105,7 +105,7 @@ fn put_first(
 }
 
 impl MemShelf {
-    /// Counts a call, and tells whether it is to fail.
+    /// Counts a call, and returns whether it is to fail.
     fn fails(&mut self) -> bool
         ensures listed { result ≡ is_listed self.old.failing self.old.calls }
         ensures after { self.new ≡ called self.old }
@@ -136,7 +136,7 @@ impl Shelf for MemShelf {
         fetched(self.files.as_slice(), alloc, name, limit)
     }
 
-    /// The file stands in front of older ones of its name.
+    /// The file is found before older ones of its name.
     fn put(&mut self, alloc: Global, name: &str, bytes: &[u8]) -> Result<(), PutError>
         ensures ok { OnOk result (Holds (stock_of self.new) name.now bytes.now) }
         ensures others { KeepsOthers (stock_of self.old) (stock_of self.new) name.now }

@@ -7,8 +7,8 @@ use std::alloc::{AllocError, Global};
 use std::marker::Model;
 use thy_base::{Sink, SinkError};
 
-/// Takes bytes up to a room that is fixed when it is made, and tells what it took. Its writes take
-/// no memory.
+/// Takes bytes up to a capacity that is fixed when it is made. Contracts know what it took. Its writes allocate
+/// nothing.
 #[derive(Debug, Drop)]
 pub struct MemSink {
     taken: Vec<u8>,
@@ -56,7 +56,7 @@ impl MemSink {
 impl Sink for MemSink {
     ghost stream = { stream_of };
 
-    /// A write past the room takes what fits and fails.
+    /// A write beyond the capacity takes what fits and fails.
     fn write(&mut self, piece: &[u8]) -> Result<(), SinkError>
         ensures whole { OnOk result (Took (stream_of self.old) (stream_of self.new) piece.now) }
         ensures failed { OnErr result (TookPart (stream_of self.old) (stream_of self.new) piece.now) }

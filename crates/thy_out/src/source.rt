@@ -9,7 +9,7 @@ use std::io;
 use std::io::{Error, ErrorKind, Read};
 use std::marker::Model;
 
-/// A reader, and how many of its reads failed. Nothing but a read that fails raises the count.
+/// A reader, and how many of its reads failed. Only a read that fails raises the count.
 #[derive(Drop)]
 pub struct Source<F: Read> {
     from: F,
@@ -51,8 +51,8 @@ impl<F: Read> Source<F> {
         Source { from, failures: 0 }
     }
 
-    /// Reads what comes next, and answers how many bytes that is: 0 at the end, or with no room. A read
-    /// that was interrupted is done again, and is no failure.
+    /// Reads what comes next, and returns how many bytes that is: 0 at the end, or with no room. A read that was
+    /// interrupted is repeated, and does not count as a failure.
     pub fn read(&mut self, to: &mut [u8]) -> io::Result<usize>
         ensures bound { ReadsAtMost result to.new }
         ensures bytes { ReadConsumes self.old.left self.new.left result to.new }

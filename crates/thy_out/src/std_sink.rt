@@ -7,8 +7,8 @@ ghost use Rattle.thy_out.specs.Writers.{stream_with};
 use std::io::{ErrorKind, Stderr, Stdout, Write};
 use thy_base::{Sink, SinkError};
 
-/// Writes each piece through at once, so that nothing is left behind when the program ends. It tells
-/// what it took where its writer tells what it holds.
+/// Writes each piece through at once, so that nothing is left unwritten when the program ends. What it took is known
+/// if the contents of its writer are.
 #[derive(Drop)]
 pub struct StdSink<W> {
     to: W,
@@ -42,7 +42,7 @@ impl StdSink<Stderr> {
     }
 }
 
-/// Writes until the piece is taken or the writer fails. Answers how many bytes were taken.
+/// Writes until the piece is taken or the writer fails. Returns how many bytes were taken.
 pub(crate) fn write_on<W: Write>(to: &mut W, piece: &[u8]) -> usize
     ensures within { result ≤ length piece.now }
     ensures taken { Grew (W.contents to.old) (W.contents to.new) (take result piece.now) }

@@ -11,7 +11,7 @@ use std::marker::Model;
 use thy_base::SinkError;
 
 /// A file that is written; whether the system has synced all that it took; and how many of its calls failed.
-/// Nothing but a call that fails raises the count, and only a sync makes it synced.
+/// Only a call that fails raises the count, and only a sync makes it synced.
 #[derive(Drop)]
 pub struct Target<F: Write + OpenFile> {
     to: F,
@@ -40,7 +40,7 @@ impl<F: Write + OpenFile> Target<F> {
     }
 
     /// Takes the whole piece, or fails and has taken only the first part of it, or none. A write that was
-    /// interrupted is done again.
+    /// interrupted is repeated.
     pub fn write(&mut self, piece: &[u8]) -> Result<(), SinkError>
         ensures whole { OnOk result (Took (stream_of self.old) (stream_of self.new) piece.now) }
         ensures failed { OnErr result (TookPart (stream_of self.old) (stream_of self.new) piece.now) }

@@ -1,4 +1,4 @@
--- Laws of places: a write is read where it was made, and moves no other place.
+-- Laws of places: a write is read at its place, and changes no other place.
 use Rattle.std.specs.Prelude.{◌≡◌, ◌≢◌, false}
 use Rattle.thy_base.specs.declared.block.Block.{Block}
 use Rattle.thy_base.specs.declared.config.Parameters.{Parameters}
@@ -28,7 +28,7 @@ OthersHoldNoMore =
     → IsPlace p place → IsPlace p other → in_dram other ≡ false → other ≢ place
     → NoMoreAt (number_of p other) d.nvm (written_at p place block d).nvm
 
--- nor where the write failed
+-- the same if the write failed
 abbrev pub OthersHoldNoMoreOnFailure : Type 0
 OthersHoldNoMoreOnFailure =
     (p : Parameters) (old new : Device) (place other : Place) (block : Block)
@@ -40,7 +40,7 @@ abbrev pub WritesKeepSizes : Type 0
 WritesKeepSizes =
     (p : Parameters) (d : Devices) (place : Place) (block : Block) → AreSized p d → AreSized p (written_at p place block d)
 
--- what lands moves nothing that is read: a drain or a barrier of the NVM, or a drain of the DRAM
+-- a drain or a barrier of the NVM, or a drain of the DRAM, changes nothing that is read
 pub record ReadsTheSame (p : Parameters) (d e : Devices) : Type 0 where
   pub same : (place : Place) → IsPlace p place → read_at p e place ≡ read_at p d place
   pub sized : AreSized p e

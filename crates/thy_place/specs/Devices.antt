@@ -1,5 +1,5 @@
 -- Part of the claim.
--- What stands at the places of both devices, and what a write at one makes of them.
+-- What the places of both devices hold, and what a write at one makes of them.
 use Rattle.std.specs.Prelude.{◌≡◌, ℕ, if◌then◌else◌, length, Contains}
 use Rattle.thy_base.specs.declared.block.Block.{Block}
 use Rattle.thy_base.specs.declared.config.Parameters.{Parameters}
@@ -16,7 +16,7 @@ pub record Devices : Type 0 where
 abbrev pub devices_of : Device → Contents → Devices
 devices_of nvm dram = record { nvm = nvm; dram = dram }
 
--- each device has as many blocks as its places ask for
+-- each device has as many blocks as it has places
 pub record AreSized (p : Parameters) (d : Devices) : Type 0 where
   pub nvm : length d.nvm.image ≡ image_blocks p
   pub dram : length d.dram.blocks ≡ dram_blocks p

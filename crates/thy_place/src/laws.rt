@@ -26,7 +26,7 @@ pub fn writes_keep_sizes()
     ensures { WritesKeepSizes }
 {}
 
-/// A drain or a barrier moves nothing that is read.
+/// A drain or a barrier changes nothing that is read.
 pub fn landing_moves_nothing()
     ensures { LandingMovesNothing }
 {}

@@ -1,5 +1,5 @@
-//! Reads and writes at a place, in whichever device it lies. Callers rest on `write_place` and `read_place`, and on the
-//! laws of src/laws.rt: a written place reads as its block, and every other place of both devices as before.
+//! Reads and writes at a place, in the device in which it lies. Callers depend on `write_place` and `read_place`, and
+//! on the laws of src/laws.rt: a written place reads as its block, and every other place of both devices as before.
 //!
 //! Open specs/Devices.antt first, and src/moves.rt. It stands on thy_base and thy_dram; on it stand thy_control, and
 //! the engine, the boot and the scheme above it.

@@ -25,12 +25,12 @@ stepped m = record m { state = step m.setting m.state }
 abbrev pub after_steps : ℕ → Machine → Machine
 after_steps k m = record m { state = steps m.setting k m.state }
 
--- k is the least number of steps after which the program runs no more, or the limit where that comes first
+-- k is the least number of steps after which the program no longer runs, or the limit if that is reached first
 pub record StopsAt (m : Machine) (limit k : ℕ) : Type 0 where
   pub within : k ≤ limit
   pub ran : (j : ℕ) → j < k → is_running (steps m.setting j m.state).status ≡ true
   pub over : k < limit → is_running (steps m.setting k m.state).status ≡ false
 
--- what the code keeps beside a state
+-- what the code keeps in addition to a state
 abbrev pub setting_of : Setup → Setting
 setting_of w = record { base = w.base; input = bytes_of w.input; room = w.room }

@@ -18,7 +18,7 @@ use thy_isa::{
     fetch_fault, number, within, word, word_effect,
 };
 
-/// The register of an environment call's answer.
+/// The register of an environment call's result.
 const A0: u8 = 10;
 
 /// What the instruction at the program counter does.
@@ -51,7 +51,7 @@ fn write_number(memory: &mut Bytes, at: usize, width: Width, value: u64)
     }
 }
 
-/// What an environment call is decided by.
+/// What decides the result of an environment call.
 fn call_state(state: &MachState, setup: &Setup) -> CallState
     ensures { result ≡ call_state_of (setting_of setup.now) (state_of state.now) }
 {
@@ -90,7 +90,7 @@ fn give(console: &mut Bytes, memory: &Bytes, at: usize, len: usize)
     }
 }
 
-/// The instruction after an environment call, with the call's answer in a0.
+/// The instruction after an environment call, with the call's result in a0.
 fn answer(state: &mut MachState, value: u64)
     requires { state.old.count < 2 ^ 63 }
     ensures { state.new ≡ record state.old {

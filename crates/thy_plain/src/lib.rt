@@ -1,5 +1,5 @@
-//! The plain machine: one flat list of bytes for memory, advanced one whole instruction at a time. It is what every
-//! other machine of this repository is measured by. Callers rest on `Plain::step` and `Plain::run`, which take exactly
+//! The plain machine: one flat list of bytes as memory, advanced one whole instruction at a time. It is the reference
+//! for every other machine of this repository. Callers depend on `Plain::step` and `Plain::run`, which take exactly
 //! the steps that specs/Step.antt of thy_isa defines, and on `start_of`, the state at which a program starts.
 //!
 //! Open specs/Machine.antt first, and src/plain.rt. It stands on thy_base, thy_isa and thy_elf; on it stands thy_cli.

@@ -16,8 +16,8 @@ use thy_base::{Bytes, Geometry};
 use thy_elf::Image;
 use thy_isa::MachState;
 
-/// The plain machine. Contracts see its state, and what stays the same over a run. Only `load` takes
-/// memory, and no other call can fail.
+/// The plain machine. Contracts see its state, and what stays the same over a run. Only `load` allocates,
+/// and no other call can fail.
 #[derive(Debug, Drop)]
 pub struct Plain {
     state: MachState,
@@ -38,8 +38,8 @@ impl Model for Plain {
 }
 
 impl Plain {
-    /// A machine at the start of an image's program, which can read this input. Takes memory for a copy of
-    /// the image's memory, and for the whole console.
+    /// A machine at the start of an image's program, which can read this input. Allocates a copy of
+    /// the image's memory, and the whole console.
     pub fn load(
         alloc: Global,
         image: &Image,
@@ -71,7 +71,7 @@ impl Plain {
         take_step(&mut self.state, &self.setup);
     }
 
-    /// Takes steps until the program runs no more, or `limit` steps are done. Answers how many it took.
+    /// Takes steps until the program no longer runs, or `limit` steps are done. Returns how many it took.
     pub fn run(&mut self, limit: u64) -> u64
         requires { self.old.state.count + limit < 2 ^ 63 }
         ensures stops { StopsAt self.old limit result }
@@ -93,7 +93,7 @@ impl Plain {
         runs(self.state.status)
     }
 
-    /// The state as it stands.
+    /// The current state.
     pub fn state(&self) -> &MachState
         ensures { state_of result.now ≡ self.now.state }
     {

@@ -2,7 +2,7 @@
 
 use thy_base::Bytes;
 
-/// What a step needs besides the state.
+/// What a step needs in addition to the state.
 #[derive(Debug, Drop)]
 pub(crate) struct Setup {
     /// The address of the first byte of program memory.

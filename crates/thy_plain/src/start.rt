@@ -62,8 +62,8 @@ pub(crate) fn state_over(
     }
 }
 
-/// The state at which the program of an image starts, for a machine that keeps memory and console
-/// elsewhere than in the state. It takes the image's memory over, and takes none besides.
+/// The state at which the program of an image starts, for a machine that keeps memory and console outside the state.
+/// It takes the image's memory over, and allocates nothing else.
 pub fn start_of(alloc: Global, image: Image, geometry: &Geometry) -> MachState
     requires { length (bytes_of image.memory) ≡ program_size geometry.now }
     ensures state { state_of result ≡ start_state geometry.now (contents_of image) }

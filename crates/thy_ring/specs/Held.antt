@@ -6,7 +6,7 @@ use Rattle.thy_base.specs.declared.nvm.Write.{Write}
 use Rattle.thy_base.specs.Device.{Device, block_at, possible, surplus, fitted}
 
 pub record Held : Type 0 where
-  -- the blocks that stand
+  -- the blocks without the queued writes
   pub image : List Block
   -- the writes that have not landed yet, oldest first
   pub queue : List Write
@@ -44,7 +44,7 @@ as_device call r = held_by (call (device_of r))
 abbrev pub made : ℕ → ℕ → List Block → Held
 made blocks room start = as_device (fitted (record { blocks = blocks; queue = room; cuts = 0 }) start) nothing
 
--- of the block that stands at a place and those queued for it, oldest first, the one at an index
+-- of the image's block at a place and the blocks queued for it, oldest first, the one at an index
 abbrev pub choice_at : Held → ℕ → ℕ → Block
 choice_at r at index = slice_index_or (possible (device_of r) at) index (block_at r.image at)
 
@@ -56,7 +56,7 @@ put_at r at block = record r { image = slice_set r.image at block }
 abbrev pub unqueued : Held → Held
 unqueued r = record r { queue = [] }
 
--- the writes of a queue, where there is one
+-- the writes of a queue, if there is one
 abbrev pub queued_in : Option (Buffer Write) → List Write
 queued_in None = []
 queued_in (Some queue) = queue.items

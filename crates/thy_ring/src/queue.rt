@@ -7,7 +7,7 @@ ghost use Rattle.thy_ring.specs.Held.{due_in};
 use circular_buffer::HeapCircularBuffer;
 use thy_base::{Block, Write};
 
-/// The newest block queued for a place, else the one that stands there.
+/// The newest block queued for a place, else the image's block there.
 pub(crate) fn newest_queued(queue: &HeapCircularBuffer<Write>, at: u64, standing: Block) -> Block
     ensures { result ≡ newest_over standing queue.now.items at }
 {
@@ -35,7 +35,7 @@ pub(crate) fn count_for(queue: &HeapCircularBuffer<Write>, at: u64) -> usize
     count
 }
 
-/// Of the block that stands at a place and those queued for it, oldest first, the one at an index.
+/// Of the image's block at a place and the blocks queued for it, oldest first, the one at an index.
 pub(crate) fn choice(
     queue: &HeapCircularBuffer<Write>,
     at: u64,
@@ -74,7 +74,7 @@ pub(crate) fn apply_all(image: &mut [Block], queue: &HeapCircularBuffer<Write>)
     }
 }
 
-/// Applies the oldest queued write, where there is one, and takes it from the queue.
+/// Applies the oldest queued write, if there is one, and takes it from the queue.
 pub(crate) fn apply_oldest(image: &mut [Block], queue: &mut HeapCircularBuffer<Write>)
     requires { All (λ w. w.at < length image.old) queue.old.items }
     ensures image { image.new ≡ applied image.old (take 1 queue.old.items) }
@@ -99,7 +99,7 @@ fn make_room(image: &mut [Block], queue: &mut HeapCircularBuffer<Write>)
     }
 }
 
-/// Queues a write. Where the queue is full, its oldest is applied first.
+/// Queues a write. If the queue is full, its oldest write is applied first.
 pub(crate) fn push_write(image: &mut [Block], queue: &mut HeapCircularBuffer<Write>, write: Write)
     requires placed { All (λ w. w.at < length image.old) queue.old.items }
     requires room { 0 < queue.old.capacity }

@@ -12,7 +12,7 @@ use std::marker::Model;
 use thy_base::{Block, Write};
 
 /// An image of blocks, and the writes to it that have not landed yet, oldest first. Places are counted
-/// in blocks. Only `with_blocks` takes memory, and no other call can fail.
+/// in blocks. Only `with_blocks` allocates, and no other call can fail.
 #[derive(Drop)]
 pub struct Ring {
     image: Vec<Block>,
@@ -30,7 +30,7 @@ impl Model for Ring {
 }
 
 impl Ring {
-    /// A ring without blocks and without room for writes. Takes no memory.
+    /// A ring without blocks and without room for writes. Allocates nothing.
     pub fn new(alloc: Global) -> Ring
         ensures { result ≡ nothing }
     {
@@ -59,7 +59,7 @@ impl Ring {
         })
     }
 
-    /// The blocks that stand.
+    /// The blocks, without the queued writes.
     pub fn image(&self) -> &[Block]
         ensures { result.now ≡ self.now.image }
     {
@@ -82,7 +82,7 @@ impl Ring {
         count_in(&self.queue, at) as u64
     }
 
-    /// The newest block queued for a place, else the one that stands there.
+    /// The newest block queued for a place, else the image's block there.
     pub fn read(&self, at: u64) -> Block
         requires { at < length self.now.image }
         ensures { result ≡ newest (device_of self.now) at }
@@ -90,7 +90,7 @@ impl Ring {
         newest_in(&self.queue, at, self.image[at as usize])
     }
 
-    /// Of the block that stands at a place and those queued for it, oldest first, the one at an index.
+    /// Of the image's block at a place and the blocks queued for it, oldest first, the one at an index.
     pub fn choice(&self, at: u64, index: u64) -> Block
         requires place { at < length self.now.image }
         requires index { index ≤ length (queued_for self.now.queue at) }
@@ -99,7 +99,7 @@ impl Ring {
         choice_in(&self.queue, at, self.image[at as usize], index)
     }
 
-    /// Queues a block for a place. Where the queue is full, its oldest write lands first.
+    /// Queues a block for a place. If the queue is full, its oldest write lands first.
     pub fn write(&mut self, at: u64, block: &Block)
         requires { at < length self.old.image }
         ensures held { self.new ≡ as_device (λ n. written_to n at block.now) self.old }
@@ -112,7 +112,7 @@ impl Ring {
         );
     }
 
-    /// Lets the oldest queued write land, where there is one.
+    /// Lets the oldest queued write land, if there is one.
     pub fn drain(&mut self)
         ensures { self.new ≡ as_device drained self.old }
     {

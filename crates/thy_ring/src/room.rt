@@ -1,4 +1,4 @@
-//! The queue of a ring, which has none where it has no room for writes.
+//! The queue of a ring; a ring without room for writes has none.
 ghost use Rattle.std.specs.Prelude.{◌≡◌, ◌<◌, ◌≤◌, ◌^◌, ℕ, ◌++◌, [], ◌∷◌, length, slice_index_or, take, drop, All};
 ghost use Rattle.thy_base.specs.Device.{newest_over, queued_for, applied};
 ghost use Rattle.thy_ring.specs.Held.{queued_in, room_in, due_in};
@@ -29,7 +29,7 @@ pub(crate) fn count_in(queue: &Option<HeapCircularBuffer<Write>>, at: u64) -> us
     }
 }
 
-/// The newest block queued for a place, else the one that stands there.
+/// The newest block queued for a place, else the image's block there.
 pub(crate) fn newest_in(
     queue: &Option<HeapCircularBuffer<Write>>,
     at: u64,
@@ -43,7 +43,7 @@ pub(crate) fn newest_in(
     }
 }
 
-/// Of the block that stands at a place and those queued for it, oldest first, the one at an index.
+/// Of the image's block at a place and the blocks queued for it, oldest first, the one at an index.
 pub(crate) fn choice_in(
     queue: &Option<HeapCircularBuffer<Write>>,
     at: u64,
@@ -59,7 +59,7 @@ pub(crate) fn choice_in(
     }
 }
 
-/// Queues a write. Where the queue is full, its oldest is applied first.
+/// Queues a write. If the queue is full, its oldest write is applied first.
 pub(crate) fn push_in(
     image: &mut [Block],
     queue: &mut Option<HeapCircularBuffer<Write>>,
@@ -77,7 +77,7 @@ pub(crate) fn push_in(
     }
 }
 
-/// Applies the oldest queued write, where there is one, and takes it from the queue.
+/// Applies the oldest queued write, if there is one, and takes it from the queue.
 pub(crate) fn apply_oldest_in(image: &mut [Block], queue: &mut Option<HeapCircularBuffer<Write>>)
     requires { All (λ w. w.at < length image.old) (queued_in queue.old) }
     ensures image { image.new ≡ applied image.old (take 1 (queued_in queue.old)) }

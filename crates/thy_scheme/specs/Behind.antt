@@ -12,7 +12,7 @@ pub record IsOneCall {S : Type 0} (K : SchemeOf S) (s : S) (n : Device) (t : S) 
   pub access : IsOneAccess K s n t new
   pub counted : new.down ≡ true → Rose n.faults new.faults
 
--- how many calls have failed since power came on: none, or the one behind which none is made any more
+-- how many calls have failed since power came on: none, or one, after which no call is made any more
 abbrev pub failed_calls : Device → ℕ
 failed_calls n = if n.down then 1 else 0
 

@@ -29,7 +29,7 @@ IsBootView o v =
     ((m : Mark) × (v ≡ boot_view (Some m) None))
     ⊎ ((o.kept ≡ None) × ((v ≡ loading_view o.start.count) ⊎ (v ≡ record (loading_view o.start.count) { written = true })))
 
--- what a cycle did with an answer of the boot
+-- what a cycle did, by the result of the boot's step
 abbrev pub boot_did : BootStep → Did
 boot_did GoesOn = Boot
 boot_did IsLoaded = Loaded
@@ -57,7 +57,7 @@ pub record Restarts {S : Type 0} (K : SchemeOf S) (o : Origin) (cpu : CpuState) 
   pub view : K.boot_view o s n ≡ boot_view (Some (mark epoch cpu.count)) None
   pub booted : IsBooted K o (mark epoch cpu.count) cpu t new
 
--- by the answer; no image of a run is refused
+-- by the result of the step; no image of a run is refused
 abbrev pub Answers : {S : Type 0} → SchemeOf S → Origin → BootStep → S → Device → S → Device → Type 0
 Answers K o GoesOn s n t new = K.boots o t new × BootsTo (K.boot_view o s n) (K.boot_view o t new)
 Answers K o IsLoaded s n t new = Loads K o s n t new

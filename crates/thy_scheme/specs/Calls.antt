@@ -1,4 +1,4 @@
--- What the calls of a scheme promise behind the boot.
+-- What the calls of a scheme promise after the boot.
 use Rattle.std.specs.Prelude.{◌≡◌, ◌⊎◌, ℕ, ◌+◌, ◌<◌, ◌≤◌, true, false, length, Option, Some, None}
 use Rattle.thy_base.specs.declared.mark.Mark.{Mark}
 use Rattle.thy_base.specs.Device.{Device, IsFramed, HasFailed}
@@ -26,7 +26,7 @@ use Rattle.thy_scheme.specs.Scheme.{SchemeOf}
 abbrev pub queued_in : {S : Type 0} → SchemeOf S → S → Device → ℕ
 queued_in K s n = length n.queue + K.queued s
 
--- after an action that succeeded, which queued one write at most; a copy that is owed no more was written
+-- after an action that succeeded, at most one write was queued; if fewer copies are owed, a block was written
 pub record Succeeds {S : Type 0} (K : SchemeOf S) (action : Action) (s : S) (n : Device) (t : S) (new : Device) : Type 0 where
   pub left : new ≡ after action n
   pub dram : ActsOnDram n new (K.dram s) (K.dram t)
@@ -42,7 +42,7 @@ pub record IsOneAccess {S : Type 0} (K : SchemeOf S) (s : S) (n : Device) (t : S
   pub frame : IsFramed n new
   pub stays : K.stays s n t new
 
--- what a store of a block that succeeds leaves, by its answer
+-- what a successful store of a block leaves, by its result
 abbrev pub Stores : {S : Type 0} → SchemeOf S → Stored → ℕ → Block → S → Device → S → Device → Type 0
 Stores K stored b block s n t new = HasStored stored b block (K.holding s n) (K.holding t new)
 
@@ -77,7 +77,7 @@ pub record Keeps {S : Type 0} (K : SchemeOf S) (s : S) (n : Device) (t : S) (new
   pub rested : K.rested t ≡ K.rested s
   pub lean : K.lean t ≡ K.lean s
 
--- no copy is owed that was not
+-- no more copies are owed than before
 abbrev pub OwesNoMore : {S : Type 0} → SchemeOf S → S → Device → S → Device → Type 0
 OwesNoMore K s n t new = (K.holding t new).owed ≤ (K.holding s n).owed
 
@@ -136,20 +136,20 @@ pub record Seals {S : Type 0} (K : SchemeOf S) (o : Origin) (k : Marks) (cpu : C
   pub rested : K.rested t ≡ true
   pub lean : K.lean t ≡ K.rested s
 
--- a step of the engine is due: only an epoch that is sealed has a commit block written, and is committed after that; the other
--- steps apply too what a committed checkpoint has written
+-- a step of the engine is due: the commit block is written and the epoch committed only while an epoch is sealed, in
+-- this order; the other steps also apply what a committed checkpoint has written
 abbrev pub IsDue : EngineStep → Marks → Type 0
 IsDue Idle k = ⊥
 IsDue CommitWritten k = (m : Mark) × (k.sealed ≡ Some m)
 IsDue (Committed epoch) k = (k.written ≡ true) × ((m : Mark) × (k.sealed ≡ Some m) × (m.epoch ≡ epoch))
 IsDue step k = Unit {0}
 
--- what a cycle did with this step, where so many instructions were retired since the seal
+-- what a cycle did with this step, if so many instructions were retired since the seal
 abbrev pub engine_did : ℕ → EngineStep → Did
 engine_did lap (Committed epoch) = DidCommit epoch lap
 engine_did lap step = Engine step
 
--- only a commit may let copies be owed that were to come
+-- only a commit may raise the number of copies that are owed
 abbrev pub OwesAfter : {S : Type 0} → EngineStep → SchemeOf S → S → Device → S → Device → Type 0
 OwesAfter (Committed epoch) K s n t new = Unit {0}
 OwesAfter step K s n t new = OwesNoMore K s n t new

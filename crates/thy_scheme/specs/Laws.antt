@@ -18,7 +18,7 @@ use Rattle.thy_scheme.specs.Scheme.{SchemeOf, Stands, IsBooting, StaysOf}
 use Rattle.thy_scheme.specs.Calls.{owed_in, Keeps, OwesNoMore}
 use Rattle.thy_scheme.specs.Boots.{IsBootView, BootStays}
 
--- an image is the run's own: it means nothing, where the run began so, or a state of the plain machine
+-- an image is the run's own: it means nothing, if the run began without a checkpoint, or a state of the plain machine
 abbrev pub IsOwn : Origin → Decoded → Type 0
 IsOwn o Nothing = o.kept ≡ None
 IsOwn o (Refused bad) = ⊥
@@ -41,8 +41,8 @@ pub record BootsFound {S : Type 0} (K : SchemeOf S) (o : Origin) (s : S) (n : De
   pub boots : K.boots o s n
   pub view : K.boot_view o s n ≡ view_of_image o.start.count (K.decode o.geometry ceiling n.image)
 
--- what holds in the boot: a cut leaves what is seen, a drain of the NVM changes nothing of it, and if a checkpoint was found
--- nothing is queued there, unless the boot migrates
+-- what holds in the boot: a cut leaves what is seen, a drain of the NVM does not change that, and if a checkpoint was
+-- found nothing is queued there, unless the boot migrates
 pub record BootHolds {S : Type 0} (K : SchemeOf S) (o : Origin) (s : S) (n : Device) : Type 0 where
   pub of_geometry : K.is_of o.geometry s
   pub sized : length n.image ≡ K.blocks o.geometry
@@ -52,7 +52,7 @@ pub record BootHolds {S : Type 0} (K : SchemeOf S) (o : Origin) (s : S) (n : Dev
   pub drains : 0 < length n.queue → BootStays K o s n s (drained n)
   pub settled : (m : Mark) → (K.boot_view o s n).done ≡ Some m → K.migrates s ≡ false → n.queue ≡ []
 
--- no number is above its most
+-- no number is above its maximum
 pub record IsBounded {S : Type 0} (K : SchemeOf S) (p : Parameters) (s : S) (n : Device) : Type 0 where
   pub engine : K.engine_left s ≤ K.most_engine p
   pub merges : K.merges_left s ≤ K.most_merges p
@@ -66,7 +66,7 @@ pub record IsCommitted {S : Type 0} (K : SchemeOf S) (o : Origin) (count : ℕ) 
   pub cpu : CpuState
   pub state : state_from o.geometry cpu (K.committed s n) ≡ at o count
 
--- what holds behind the boot, while the NVM is up
+-- what holds after the boot, while the NVM is up
 pub record RunHolds {S : Type 0} (K : SchemeOf S) (o : Origin) (k : Marks) (s : S) (n : Device) : Type 0 where
   pub of_geometry : K.is_of o.geometry s
   pub sized : length n.image ≡ K.blocks o.geometry
@@ -87,11 +87,11 @@ pub record RunHolds {S : Type 0} (K : SchemeOf S) (o : Origin) (k : Marks) (s : 
   pub drained_keeps : 0 < length n.queue → Keeps K s n s (drained n)
   pub drained_owes : 0 < length n.queue → OwesNoMore K s n s (drained n)
 
--- the hart may store: no checkpoint is under way, or it may run beside it
+-- the hart may store: no checkpoint is under way, or the hart may run meanwhile
 abbrev pub is_free_to_run : {S : Type 0} → SchemeOf S → S → Bool
 is_free_to_run K s = K.overlaps || not (K.under_way s)
 
--- loads and stores keep the checkpoints, and bring the engine no more to do and the next commit no more to add
+-- loads and stores keep the checkpoints, and add nothing to the work of the engine or of the next commit
 pub record StaysSound {S : Type 0} (K : SchemeOf S) (o : Origin) (k : Marks) (s : S) (t : S) (new : Device) : Type 0 where
   pub sound : new.down ≡ false → K.is_sound o k t new
   pub safe : Safe K.decode o (Some k.done) (doubt_in k) new
@@ -104,7 +104,7 @@ pub record IsLawful {S : Type 0} (K : SchemeOf S) : Type 0 where
   -- power can come on
   pub powers : (p : Parameters) → (s : S) × K.powered p s
   pub is_new : (p : Parameters) (s : S) → K.powered p s → IsNew K p s
-  -- zeros are no checkpoint
+  -- an image of zeros has no checkpoint
   pub finds_nothing : (p : Parameters) (shape : Shape) (n : Device)
       → shape.blocks ≡ K.blocks p → K.decode p ceiling (fitted shape [] n).image ≡ Nothing
   -- the boot
@@ -112,9 +112,9 @@ pub record IsLawful {S : Type 0} (K : SchemeOf S) : Type 0 where
   pub boot_holds : (o : Origin) (s : S) (n : Device) → IsBooting K o s n → BootHolds K o s n
   -- what is seen of it is the same with other turns
   pub boot_alike : (o : Origin) (turns : List ℕ) (s : S) (n : Device) → K.boot_view (told o turns) s n ≡ K.boot_view o s n
-  -- behind it
+  -- after the boot
   pub run_holds : (o : Origin) (k : Marks) (s : S) (n : Device) → Stands K o k s n → RunHolds K o k s n
-  -- blocks are held only while the NVM is up, and are stored only where no page is being promoted
+  -- blocks are held only while the NVM is up, and are stored only if no page is being promoted
   pub up : (s : S) (n : Device) (b : ℕ) → b < length (K.holding s n).blocks → n.down ≡ false
   pub ready_up : (s : S) (n : Device) → (K.holding s n).ready ≡ true → n.down ≡ false
   pub ready_whole : (s : S) (n : Device) → (K.holding s n).ready ≡ true → K.promoting s ≡ false

@@ -17,7 +17,7 @@ pub record Marks : Type 0 where
 abbrev pub only : Mark → Marks
 only m = record { done = m; sealed = None; written = false }
 
--- the mark that a cut may leave besides the one done
+-- the mark that a cut may leave instead of the one done
 abbrev pub doubt_in : Marks → Option Mark
 doubt_in k = if k.written then k.sealed else None
 

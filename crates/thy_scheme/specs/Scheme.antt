@@ -12,7 +12,7 @@ use Rattle.thy_view.specs.declared.view.View.{View}
 use Rattle.thy_view.specs.Origin.{Origin, Begins}
 use Rattle.thy_scheme.specs.Marks.{Marks}
 
--- what is seen of schemes of a type, over the NVM behind them
+-- what is seen of schemes of a type, over the NVM below them
 pub record SchemeOf (S : Type 0) : Type 1 where
   -- what an image of the NVM means
   pub decode : Reading
@@ -48,7 +48,7 @@ pub record SchemeOf (S : Type 0) : Type 1 where
   pub free : S → ℕ
   -- copies that the next commit may add to those that are owed
   pub owed_later : S → ℕ
-  -- behind the boot: scheme and NVM have the checkpoints of these marks
+  -- after the boot: scheme and NVM have the checkpoints of these marks
   pub is_sound : Origin → Marks → S → Device → Type 0
   -- in the boot: scheme and NVM have the checkpoint that is found, or load the program
   pub boots : Origin → S → Device → Type 0
@@ -74,7 +74,7 @@ pub record SchemeOf (S : Type 0) : Type 1 where
 abbrev pub StaysOf : {S : Type 0} → SchemeOf S → S → S → Type 0
 StaysOf K s t = (p : Parameters) → K.is_of p s → K.is_of p t
 
--- behind the boot, over an NVM that is up
+-- after the boot, over an NVM that is up
 pub record Stands {S : Type 0} (K : SchemeOf S) (o : Origin) (k : Marks) (s : S) (n : Device) : Type 0 where
   pub sound : K.is_sound o k s n
   pub up : n.down ≡ false

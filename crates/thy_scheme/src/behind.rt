@@ -2,7 +2,7 @@
 use crate::Scheme;
 use thy_base::{Block, BlockStore, Nvm, NvmError, Stored};
 
-/// A scheme as the store of blocks behind cache and hart.
+/// A scheme as the store of blocks below cache and hart.
 #[derive(Drop)]
 pub struct Behind<S> {
     pub scheme: S,

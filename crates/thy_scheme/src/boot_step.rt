@@ -1,8 +1,8 @@
-//! What a step of the boot tells.
+//! What a step of the boot reports.
 use thy_isa::CpuState;
 use thy_record::BadImage;
 
-/// What a step of the boot tells.
+/// What a step of the boot reports.
 #[derive(Clone, Copy, Debug, PartialEq, Eq)]
 pub enum BootStep {
     /// It goes on.

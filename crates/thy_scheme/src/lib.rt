@@ -1,5 +1,6 @@
 //! What a scheme of checkpoints is to the machine: controller, checkpoint engine and boot as one trait, `Scheme`, and
-//! what each call promises for the checkpoints of a run. A store of blocks stands on it, `Behind`, for cache and hart.
+//! what each call promises for the checkpoints of a run. `Behind` makes a scheme the store of blocks for cache and
+//! hart.
 //!
 //! Open specs/Scheme.antt first, then specs/Calls.antt, and src/scheme.rt. It stands on thy_base, thy_flat, thy_isa,
 //! thy_dram, thy_record and thy_view; on it stand thy_core_model and thy_core, thy_dual_model and thy_dual, and

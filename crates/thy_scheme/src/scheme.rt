@@ -23,8 +23,7 @@ use thy_record::{EngineStep, Start};
 /// A scheme of checkpoints: memory over a DRAM and an NVM, of which it keeps a committed version while the next one is
 /// made. It has the boot, which finds the committed version, and the engine, which makes the next.
 ///
-/// Only `new` takes memory. A call answers `NvmError` only where the NVM failed; nothing but `cut` is to be asked of a
-/// scheme then.
+/// Only `new` allocates. A call returns `NvmError` only if the NVM failed; after that only `cut` may be called.
 pub trait Scheme: Drop {
     /// What is seen of it.
     ghost scheme: { SchemeOf Self };
@@ -55,7 +54,7 @@ pub trait Scheme: Drop {
         ensures frame { IsFramed (N.device nvm.old) (N.device nvm.new) }
         ensures cause { CountsFault result (N.device nvm.old).faults (N.device nvm.new).faults };
 
-    /// Stores block `b` of memory, or makes the copy that has to go first.
+    /// Stores block `b` of memory, or makes the copy that has to come first.
     fn store<N: Nvm>(&mut self, b: u64, block: &Block, nvm: &mut N) -> Result<Stored, NvmError>
         requires inside { b < length (scheme.holding self.old (N.device nvm.old)).blocks }
         requires ready { (scheme.holding self.old (N.device nvm.old)).ready ≡ true }

@@ -5,14 +5,14 @@ use Rattle.std.specs.Prelude.{◌≡◌, ℕ, ◌+◌, ◌≤◌, nat_lt, min, B
 pub record Tally : Type 0 where
   -- the stores of each page since the last seal, up to 63
   pub counts : List ℕ
-  -- its count at that seal
+  -- its count in the epoch that this seal ended
   pub lasts : List ℕ
   -- a page counted above this is stored to densely
   pub high : ℕ
-  -- and one below this no longer
+  -- and one below this only rarely
   pub low : ℕ
 
--- no page is counted further
+-- the greatest count of a page
 abbrev pub most : ℕ
 most = 63
 
@@ -32,7 +32,7 @@ last_at c page = slice_index c.lasts page
 abbrev pub counted : ℕ → Tally → Tally
 counted page c = record c { counts = slice_set c.counts page (min (count_at c page + 1) most) }
 
--- the epoch before had so many stores to a page
+-- the same with this many stores to a page in the epoch before
 abbrev pub with_last : ℕ → ℕ → Tally → Tally
 with_last page n c = record c { lasts = slice_set c.lasts page n }
 

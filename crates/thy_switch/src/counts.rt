@@ -9,11 +9,11 @@ use std::alloc::{AllocError, Global};
 use std::marker::Model;
 use thy_base::Block;
 
-/// No page is counted further than this.
+/// The greatest count of a page.
 pub const MOST: u8 = 63;
 
-/// How many stores each page had since the last seal, up to 63; how many it had had at that seal; and two thresholds.
-/// Only `new` takes memory.
+/// How many stores each page received since the last seal, up to 63; how many in the epoch that this seal ended; and
+/// two thresholds. Only `new` allocates.
 #[derive(Drop)]
 pub struct Counts {
     counts: Vec<u8>,
@@ -64,7 +64,7 @@ impl Counts {
         self.counts[page as usize] as u64
     }
 
-    /// The stores that a page had had at the last seal, at most 63.
+    /// How many stores a page received in the epoch that the last seal ended, at most 63.
     pub fn last(&self, page: u64) -> u64
         requires { page < length self.now.counts }
         ensures last { result ≡ last_at self.now page }
@@ -107,7 +107,7 @@ impl Counts {
         self.counts.fill(0);
     }
 
-    /// Sets how many stores a page had had at the last seal, as a checkpoint has it, at most 63.
+    /// Sets how many stores a page received in the epoch that the last seal ended, as a checkpoint has it, at most 63.
     pub fn set_last(&mut self, page: u64, count: u64)
         requires page { page < length self.old.counts }
         requires count { count ≤ most }
@@ -128,7 +128,7 @@ impl Counts {
     }
 }
 
-/// A block that begins with a piece, with zeros behind it.
+/// A block that begins with these bytes, followed by zeros.
 fn over_zeros(piece: &[u8]) -> Block
     requires { length piece.now ≤ 64 }
     ensures { result ≡ overwritten 0 piece.now zero_block }

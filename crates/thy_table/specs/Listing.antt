@@ -5,7 +5,7 @@ use Rattle.std.specs.Option.{option_map}
 use Rattle.std.specs.Coded.{Coded, code_by, coded×, coded_list, coded_option, coded_ℕ}
 
 pub record Listing (E : Type 0) : Type 0 where
-  -- the entries by their places, none where one is free
+  -- the entries by their places, None if a place is free
   pub entries : List (Option E)
   -- the numbers below this one can be listed
   pub numbers : ℕ
@@ -29,7 +29,7 @@ module _ {E : Type 0} where
   abbrev pub empty_table : ℕ → ℕ → Listing E
   empty_table size numbers = listing (replicate size None) numbers
 
-  -- the entry at a place, none where it is free or past the last
+  -- the entry at a place, None if the place is free or past the last
   abbrev pub entry_at : Listing E → ℕ → Option E
   entry_at t i = slice_index_or t.entries i None
 
@@ -58,7 +58,7 @@ module _ {E : Type 0} where
   abbrev pub with_entry : ℕ → Option E → Listing E → Listing E
   with_entry i entry t = record t { entries = slice_set t.entries i entry }
 
-  -- one more entry, where a place is free
+  -- one more entry, if a place is free
   abbrev pub added_at : Option ℕ → E → List (Option E) → List (Option E)
   added_at None e es = es
   added_at (Some i) e es = slice_set es i (Some e)
@@ -67,7 +67,7 @@ module _ {E : Type 0} where
   abbrev pub added : E → Listing E → Listing E
   added e t = record t { entries = added_at (free_place t) e t.entries }
 
-  -- every live entry as a rule has it, which clears those that it gives nothing for
+  -- every live entry after a rule, which clears those for which it gives None
   abbrev pub mapped : (E → Option E) → Listing E → Listing E
   mapped rule t = record t { entries = map (option_and_then rule) t.entries }
 
@@ -84,7 +84,7 @@ module _ {E : Type 0} where
   -- what holds of the parts of a table: its entries, the places by number, a place that no free entry
   -- lies below, and a count
   pub record IsSound (key : E → ℕ) (entries : List (Option E)) (places : List (Option ℕ)) (lowest free : ℕ) : Type 0 where
-    -- the index has a number at a place exactly where the entry there lists it
+    -- the index has a number at a place exactly if the entry there lists it
     pub listed : (i n : ℕ) → lists key n (slice_index_or entries i None) ≡ true → indexed_at places n ≡ Some i
     pub indexed : (i n : ℕ) → indexed_at places n ≡ Some i → lists key n (slice_index_or entries i None) ≡ true
     pub full_below : (i : ℕ) → i < lowest → is_some (slice_index_or entries i None) ≡ true

@@ -1,7 +1,7 @@
 //! What an entry lists.
 ghost use Rattle.std.specs.Prelude.{◌≡◌, ℕ};
 
-/// An entry of a table. It lists one number, as that of a block or of a page.
+/// An entry of a table. It lists one number, such as that of a block or of a page.
 pub trait Keyed: Copy {
     /// The number that an entry lists.
     ghost key: { Self → ℕ };

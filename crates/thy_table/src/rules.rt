@@ -5,10 +5,10 @@ use crate::keyed::Keyed;
 
 /// What becomes of each live entry of a table.
 pub trait Rule<E: Keyed> {
-    /// What it makes of an entry: none where the entry is cleared.
+    /// What it makes of an entry: None if the entry is cleared.
     ghost gives: { Self → E → Option E };
 
-    /// What it makes of an entry: none where the entry is cleared.
+    /// What it makes of an entry: None if the entry is cleared.
     fn apply(&self, entry: &E) -> Option<E>
         ensures { result ≡ gives self.now entry.now };
 

@@ -8,7 +8,7 @@ use std::alloc::{AllocError, Global};
 use std::marker::Model;
 
 /// Entries by their places, some of them free. Each live one lists a number, and no two list the same.
-/// Only `new` takes memory.
+/// Only `new` allocates.
 #[derive(Drop)]
 pub struct Table<E: Keyed> {
     entries: Vec<Option<E>>,
@@ -32,7 +32,7 @@ impl<E: Keyed> Model for Table<E> {
     ghost invariant = { λ t. IsSound E.key t.entries.items t.places.items t.lowest t.free };
 }
 
-/// So many times nothing.
+/// A list of this many `None`.
 fn nothing<X: Copy>(alloc: Global, len: usize) -> Result<Vec<Option<X>>, AllocError>
     ensures { IfOk result (λ v. v.items ≡ replicate len None) }
 {
@@ -65,7 +65,7 @@ fn free_from<E: Keyed>(entries: &[Option<E>], from: usize) -> Option<usize>
     None
 }
 
-/// A place that no free entry lies below, where one entry more is taken.
+/// A place that no free entry lies below, after one more entry is taken.
 fn raised(lowest: usize, taken: usize) -> usize
     requires { taken < 2 ^ 32 }
     ensures { (k : ℕ) → k < result → k ≢ taken → k < lowest }
@@ -113,7 +113,7 @@ impl<E: Keyed> Table<E> {
         indexed(&self.places, number)
     }
 
-    /// The entry at a place, none where it is free.
+    /// The entry at a place, None if it is free.
     pub fn entry(&self, i: usize) -> Option<E>
         requires { i < length self.now.entries }
         ensures { result ≡ entry_at self.now i }
@@ -121,8 +121,8 @@ impl<E: Keyed> Table<E> {
         self.entries[i]
     }
 
-    /// Puts an entry into the lowest free place, and gives that place; none, and nothing is changed,
-    /// exactly where none is free. Its number must not be listed.
+    /// Puts an entry into the lowest free place, and returns that place. If none is free, returns None and changes
+    /// nothing; otherwise it succeeds. Its number must not be listed.
     pub fn add(&mut self, entry: E) -> Option<usize>
         requires unlisted { place_of E.key (E.key entry) self.old ≡ None }
         requires number { E.key entry < self.old.numbers }
@@ -187,7 +187,7 @@ impl<E: Keyed> Table<E> {
         }
     }
 
-    /// Makes of every live entry what a rule gives, which clears those that it gives nothing for.
+    /// Applies a rule to every live entry; it clears those for which it gives None.
     pub fn map_entries<R: Rule<E>>(&mut self, rule: &R)
         ensures { self.new ≡ mapped (R.gives rule.now) self.old }
     {
@@ -196,7 +196,7 @@ impl<E: Keyed> Table<E> {
         }
     }
 
-    /// Makes of an entry, where it is live, what a rule gives.
+    /// Applies a rule to an entry, if that is live.
     fn map_entry<R: Rule<E>>(&mut self, i: usize, rule: &R)
         requires { i < length self.old.entries }
         ensures { self.new ≡ with_entry i (option_and_then (R.gives rule.now) (entry_at self.old i)) self.old }

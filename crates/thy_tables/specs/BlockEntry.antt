@@ -12,7 +12,7 @@ abbrev pub other_version : Version → Version
 other_version Out = Alt
 other_version Alt = Out
 
--- no checkpoint has the block in its entry's place, and nothing is newer
+-- no checkpoint has the block in its entry's place, and it was not stored since
 abbrev pub new_entry : ℕ → BttEntry
 new_entry block = record { block = block; v0 = Out; v1 = Out; pend = Settled; work = NoWork }
 

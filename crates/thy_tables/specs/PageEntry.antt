@@ -14,7 +14,7 @@ abbrev pub other_site : Site → Site
 other_site AtHome = AtAlternate
 other_site AtAlternate = AtHome
 
--- a page at a place, with nothing of it in its frame, and nothing under way
+-- a page at a place, with an empty frame, and no copy or write under way
 abbrev pub page_at : Site → ℕ → PttEntry
 page_at site page = record {
   page = page;

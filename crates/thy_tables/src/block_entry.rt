@@ -24,7 +24,7 @@ pub enum Pending {
     FromAlternate,
 }
 
-/// Where the block is as the program stored it since the last seal.
+/// The place of the block as the program stored it since the last seal.
 #[derive(Clone, Copy, Debug, PartialEq, Eq)]
 pub enum Working {
     /// Nowhere: the program has not stored it, or has stored it into its page's frame.
@@ -42,7 +42,7 @@ pub struct BttEntry {
     pub block: u64,
     /// Where the committed checkpoint has it.
     pub v0: Version,
-    /// Where the checkpoint under way has it: where none is, as the committed one.
+    /// Where the checkpoint under way has it; if none is under way, the same as the committed one.
     pub v1: Version,
     pub pend: Pending,
     pub work: Working,

@@ -23,7 +23,7 @@ pub struct PttEntry {
     pub page: u64,
     /// Where the committed checkpoint has it.
     pub place: Site,
-    /// Where the checkpoint under way has it: where none is, as the committed one.
+    /// Where the checkpoint under way has it; if none is under way, the same as the committed one.
     pub target: Site,
     /// Its frame was stored to since the last seal.
     pub dirty: bool,

@@ -14,13 +14,13 @@ use Rattle.thy_text.specs.declared.closing.Closing.{Closing}
 use Rattle.thy_text.specs.declared.closing.Closing.TheVariants.{Usage, Word, Value, Fetch, Put, File, FileAt, Image, Input, Terminal, Nvm, Limit, Memory}
 use Rattle.thy_text.specs.Lines.{joined, line_feed}
 
--- why bytes were not had
+-- why bytes could not be read
 abbrev pub fault_text : FetchFault → List ℕ
 fault_text Failed = codes " failed"
 fault_text Missing = codes " missing"
 fault_text TooLong = codes " too long"
 
--- the entries of the tables that a refusal of an image tells
+-- the table entries that a refusal of an image names
 abbrev pub entries_of : BadImage → List ℕ
 entries_of (TableIndex i) = i ∷ []
 entries_of (TableTwice i k) = i ∷ k ∷ []
@@ -33,7 +33,7 @@ numbers_of NoEntry = []
 numbers_of (One i) = i ∷ []
 numbers_of (Two i k) = i ∷ k ∷ []
 
--- numbers, each behind a blank, to the line's end
+-- numbers, each after a blank, to the line's end
 abbrev pub number_parts : List ℕ → List (List ℕ)
 number_parts [] = line_feed ∷ []
 number_parts (n ∷ ns) = codes " " ∷ decimal n ∷ number_parts ns

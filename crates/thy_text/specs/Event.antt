@@ -6,8 +6,8 @@ use Rattle.thy_isa.specs.declared.state.Status.{Status}
 use Rattle.thy_isa.specs.Step.{State}
 
 pub data Event : Type 0 where
-  -- this epoch was sealed at this count of instructions, for this cause; its instructions were retired by these harts, which are
-  -- told where there is more than one hart
+  -- this epoch was sealed at this count of instructions, for this cause; the harts that retired its instructions are
+  -- listed if there is more than one hart
   EpochEnd : (epoch count : ℕ) (cause : EndCause) (turns : List ℕ) → Event
   -- the sealed checkpoint of this epoch was committed in this cycle; so many instructions retired meanwhile
   Commit : (epoch cycle overlapped : ℕ) → Event
@@ -15,7 +15,7 @@ pub data Event : Type 0 where
   Cut : (index cycle : ℕ) → Event
   -- the run went on from the checkpoint of this epoch, whose state has this count
   Restart : (epoch count : ℕ) (state : State) → Event
-  -- no checkpoint was there, and the file is loaded again
+  -- there was no checkpoint, and the file is loaded again
   Reload : Event
   -- the program is over, by the committed checkpoint of this count
   Ended : (status : Status) (count cycle : ℕ) (state : State) → Event

@@ -30,17 +30,17 @@ cause_parts EndedCause = codes "end" ∷ line_feed ∷ []
 abbrev pub memory_line : List ℕ → List ℕ
 memory_line memory = joined (codes "memory " ∷ encode_lower (sha256 memory) ∷ line_feed ∷ [])
 
--- the same, where digests are told
+-- the same, if digests are reported
 abbrev pub digest_line : Bool → List ℕ → List ℕ
 digest_line false memory = []
 digest_line true memory = memory_line memory
 
--- a word, a number, and the count of a state; behind it memory's digest, where digests are told
+-- a word, a number, and the count of a state; after it memory's digest, if digests are reported
 abbrev pub state_lines : Bool → List ℕ → ℕ → ℕ → List ℕ → List ℕ
 state_lines digest word number count memory =
     joined (word ∷ decimal number ∷ codes " at " ∷ decimal count ∷ line_feed ∷ []) ++ digest_line digest memory
 
--- how the program ended, after so many instructions; a program that runs on has no line
+-- how the program ended, after so many instructions; a program that still runs has no line
 abbrev pub ended_lines : Bool → Status → ℕ → List ℕ → List ℕ
 ended_lines digest Running count memory = []
 ended_lines digest (Exited value) count memory = state_lines digest (codes "exit ") value count memory
@@ -51,7 +51,7 @@ abbrev pub epoch_end_parts : ℕ → ℕ → EndCause → List (List ℕ)
 epoch_end_parts epoch count cause =
     codes "epoch " ∷ decimal epoch ∷ codes " ends at " ∷ decimal count ∷ codes " by " ∷ cause_parts cause
 
--- the line of what happened, and behind a restart and an end memory's digest, where digests are told
+-- the line of what happened, and after a restart and an end memory's digest, if digests are reported
 abbrev pub line_of : Bool → Event → List ℕ
 line_of digest (EpochEnd epoch count cause turns) = joined (epoch_end_parts epoch count cause)
 line_of digest (Commit epoch cycle overlapped) =

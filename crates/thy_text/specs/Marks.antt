@@ -1,5 +1,5 @@
 -- Part of the claim.
--- The checkpoints that events tell of, and the events that may come after others.
+-- The checkpoints that events report, and the events that may come after others.
 use Rattle.std.specs.Prelude.{◌≡◌, ◌≢◌, ◌⊎◌, ℕ, ◌+◌, ◌-◌, ◌<◌, ◌≤◌, ◌==◌, ◌&&◌, Bool, true, false, if◌then◌else◌, List, [], ◌∷◌, ◌++◌, length, Option, Some, None}
 use Rattle.thy_base.specs.declared.cause.EndCause.{EndCause}
 use Rattle.thy_base.specs.declared.cause.EndCause.TheVariants.{Length, Exhausted, Ended as EndedCause}
@@ -8,8 +8,8 @@ use Rattle.thy_base.specs.declared.mark.Mark.{Mark}
 use Rattle.thy_isa.specs.Step.{State, is_running}
 use Rattle.thy_text.specs.Event.{Event, EpochEnd, Commit, Cut, Restart, Reload, Ended}
 
--- the checkpoint that is committed, and the one that is sealed and may be; and the harts that retired the instructions up to
--- each, where they are told
+-- the checkpoint that is committed, and the one that is sealed and may be; and the harts that retired the instructions
+-- up to each, if they are listed
 pub record Marks : Type 0 where
   pub kept : Option Mark
   pub sealed : Option Mark
@@ -25,7 +25,7 @@ abbrev pub is_mark : Option Mark → ℕ → ℕ → Bool
 is_mark None epoch count = false
 is_mark (Some m) epoch count = m.epoch == epoch && m.count == count
 
--- the turns up to the one of the two that is
+-- the turns up to a checkpoint, which is one of these two
 abbrev pub turns_of : Marks → ℕ → ℕ → List ℕ
 turns_of m epoch count = if is_mark m.sealed epoch count then m.sealed_turns else m.kept_turns
 
@@ -45,26 +45,26 @@ abbrev pub marks_from : ℕ → Marks → List Event → Marks
 marks_from start m [] = m
 marks_from start m (v ∷ vs) = marks_from start (marks_after start m v) vs
 
--- What events are held against: the plain machine's state at each count, to which turns lead, the count at which the run
--- starts, the instructions of an epoch, and how many harts there are.
+-- What events are compared with: the plain machine's state at each count, to which turns lead, the count at which the
+-- run starts, the instructions of an epoch, and how many harts there are.
 pub record Course : Type 0 where
   pub at : ℕ → List ℕ → State
   pub start : ℕ
   pub epoch : ℕ
   pub harts : ℕ
 
--- how many turns are told of so many instructions: with one hart none
+-- how many turns an event lists for so many instructions: with one hart none
 abbrev pub turns_told : ℕ → ℕ → ℕ
 turns_told harts instructions = if harts == 1 then 0 else instructions
 
--- the cause of an epoch's end at a count to which these turns lead, where the epoch began after `last` instructions
+-- the cause of an epoch's end at a count to which these turns lead, if the epoch began after `last` instructions
 abbrev pub FitsCause : Course → ℕ → ℕ → List ℕ → EndCause → Type 0
 FitsCause c last count turns EndedCause = is_running (c.at count turns).status ≡ false
 FitsCause c last count turns Length = (is_running (c.at count turns).status ≡ true) × (count ≡ last + c.epoch)
 FitsCause c last count turns (Exhausted free dirty need) =
     (is_running (c.at count turns).status ≡ true) × (count ≢ last + c.epoch) × (free < dirty + need) × (1 ≤ need) × (need ≤ 2)
 
--- an epoch ends: nothing else is sealed, it follows the committed one, and the turns of its instructions are told
+-- an epoch ends: nothing else is sealed, it follows the committed one, and the turns of its instructions are listed
 pub record EndsEpoch (c : Course) (m : Marks) (epoch count : ℕ) (cause : EndCause) (turns : List ℕ) : Type 0 where
   pub before : ℕ
   pub last : ℕ
@@ -88,7 +88,7 @@ pub record EndsRun (c : Course) (m : Marks) (count : ℕ) (state : State) : Type
   pub whole : state ≡ c.at count m.kept_turns
   pub over : is_running state.status ≡ false
 
--- an event may come where the events before it left these marks
+-- an event may come if the events before it left these marks
 abbrev pub Lawful : Course → Marks → Event → Type 0
 Lawful c m (EpochEnd epoch count cause turns) = EndsEpoch c m epoch count cause turns
 Lawful c m (Commit epoch cycle overlapped) = (count : ℕ) × (m.sealed ≡ Some (mark epoch count))

@@ -1,4 +1,4 @@
--- With one hart no turn is told: which events may come after others, by counts alone.
+-- With one hart no turn is listed: which events may come after others, by counts alone.
 use Rattle.std.specs.Prelude.{◌≡◌, ◌≢◌, ◌⊎◌, ◌↔◌, ℕ, ◌+◌, ◌<◌, ◌≤◌, true, false, List, [], ◌∷◌, Option, Some, None}
 use Rattle.thy_base.specs.declared.cause.EndCause.{EndCause}
 use Rattle.thy_base.specs.declared.cause.EndCause.TheVariants.{Length, Exhausted, Ended as EndedCause}
@@ -8,14 +8,14 @@ use Rattle.thy_isa.specs.Step.{State, is_running}
 use Rattle.thy_text.specs.Event.{Event, EpochEnd, Commit, Cut, Restart, Reload, Ended}
 use Rattle.thy_text.specs.Marks.{Marks, Course, marks_after, AllLawful}
 
--- what events are held against: the plain machine's state at each count, the count at which the run starts, and the
+-- what events are compared with: the plain machine's state at each count, the count at which the run starts, and the
 -- instructions of an epoch
 pub record Counts : Type 0 where
   pub at : ℕ → State
   pub start : ℕ
   pub epoch : ℕ
 
--- the cause of an epoch's end at a count, where the epoch began after `last` instructions
+-- the cause of an epoch's end at a count, if the epoch began after `last` instructions
 abbrev pub FitsCount : Counts → ℕ → ℕ → EndCause → Type 0
 FitsCount c last count EndedCause = is_running (c.at count).status ≡ false
 FitsCount c last count Length = (is_running (c.at count).status ≡ true) × (count ≡ last + c.epoch)
@@ -46,7 +46,7 @@ pub record EndsRunAt (c : Counts) (m : Marks) (count : ℕ) (state : State) : Ty
   pub whole : state ≡ c.at count
   pub over : is_running state.status ≡ false
 
--- an event may come where the events before it left these marks
+-- an event may come if the events before it left these marks
 abbrev pub LawfulAt : Counts → Marks → Event → Type 0
 LawfulAt c m (EpochEnd epoch count cause turns) = EndsAt c m epoch count cause turns
 LawfulAt c m (Commit epoch cycle overlapped) = (count : ℕ) × (m.sealed ≡ Some (mark epoch count))
@@ -60,16 +60,16 @@ abbrev pub AllLawfulAt : Counts → Marks → List Event → Type 0
 AllLawfulAt c m [] = Unit {0}
 AllLawfulAt c m (v ∷ vs) = LawfulAt c m v × AllLawfulAt c (marks_after c.start m v) vs
 
--- no turn is told of either checkpoint
+-- no turn is listed for either checkpoint
 pub record IsUntold (m : Marks) : Type 0 where
   pub kept : m.kept_turns ≡ []
   pub sealed : m.sealed_turns ≡ []
 
--- the course of events where no turn is told
+-- the course of events if no turn is listed
 abbrev pub counts_of : Course → Counts
 counts_of c = record { at = λ k. c.at k []; start = c.start; epoch = c.epoch }
 
--- with one hart events are lawful exactly where they are by counts alone
+-- with one hart events are lawful exactly if they are by counts alone
 abbrev pub OneHartGoesByCounts : Type 0
 OneHartGoesByCounts =
     (c : Course) (m : Marks) (events : List Event) → c.harts ≡ 1 → IsUntold m

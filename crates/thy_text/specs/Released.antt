@@ -21,7 +21,7 @@ console_of console_at (Some m) turns = console_at m.count turns
 abbrev pub console_kept : (ℕ → List ℕ → List ℕ) → Marks → List ℕ
 console_kept console_at m = console_of console_at m.kept m.kept_turns
 
--- the console of the committed state, once an event has told of one
+-- the console of the committed state, once an event has reported one
 abbrev pub released : (ℕ → List ℕ → List ℕ) → ℕ → Marks → List Event → List ℕ
 released console_at start m vs =
     if list_any shows vs then console_kept console_at (marks_from start m vs) else []

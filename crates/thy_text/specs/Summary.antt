@@ -11,12 +11,12 @@ abbrev pub ends_epoch : Event → Bool
 ends_epoch (EpochEnd epoch count cause turns) = true
 ends_epoch event = false
 
--- an epoch was sealed early, for want of free entries
+-- an epoch was sealed early, because too few entries were free
 abbrev pub ends_early : Event → Bool
 ends_early (EpochEnd epoch count (Exhausted free dirty need) turns) = true
 ends_early event = false
 
--- the instructions that retired while the checkpoint was under way that was committed
+-- the instructions that retired while the committed checkpoint was under way
 abbrev pub overlapped_by : Event → ℕ
 overlapped_by (Commit epoch cycle overlapped) = overlapped
 overlapped_by event = 0

@@ -10,26 +10,26 @@ use crate::piece::{Piece, write_pieces};
 use thy_base::{Field, Sink, SinkError};
 use thy_record::BadImage;
 
-/// Why the bytes under a name were not had.
+/// Why the bytes under a name could not be read.
 #[derive(Clone, Copy, Debug, PartialEq, Eq)]
 pub enum FetchFault {
     Failed,
-    /// Nothing is there.
+    /// Nothing is under the name.
     Missing,
-    /// More bytes are there than are taken.
+    /// There are more bytes than are accepted.
     TooLong,
 }
 
 /// How a run's report closes.
 #[derive(Clone, Copy, Debug, PartialEq, Eq)]
 pub enum Closing<'a> {
-    /// The words are no command line.
+    /// Invalid usage.
     Usage,
     /// The value of an option can't be read.
     Word(Field),
     /// The value of an option is out of its range.
     Value(Field, u64),
-    /// The bytes under a name were not had.
+    /// The bytes under a name could not be read.
     Fetch(&'a str, FetchFault),
     /// The bytes could not be put under a name.
     Put(&'a str),
@@ -60,7 +60,7 @@ enum Entries {
 }
 
 /// Writes the closing line: at once, unless it has a name that makes it longer than the lines of events.
-/// On an error the sink has taken only the first part of the line. Takes no memory.
+/// On an error the sink has taken only the first part of the line. Allocates nothing.
 pub fn write_closing<R: Sink>(closing: Closing, report: &mut R) -> Result<(), SinkError>
     ensures { Wrote result (R.stream report.old) (R.stream report.new) (closing_of closing.entry) }
 {
@@ -111,7 +111,7 @@ fn write_value<R: Sink>(field: Field, value: u64, report: &mut R) -> Result<(), 
     write_pieces(&pieces, report)
 }
 
-/// Why bytes were not had, in words.
+/// Why bytes could not be read, in words.
 fn fault_words(fault: FetchFault) -> &'static str
     ensures { result.now ≡ fault_text fault }
 {
@@ -122,7 +122,7 @@ fn fault_words(fault: FetchFault) -> &'static str
     }
 }
 
-/// Writes the line of bytes that were not had.
+/// Writes the line for bytes that could not be read.
 fn write_fetch<R: Sink>(name: &str, fault: FetchFault, report: &mut R) -> Result<(), SinkError>
     ensures { Wrote result (R.stream report.old) (R.stream report.new)
         (joined (codes "fetch " ∷ name.now ∷ fault_text fault ∷ line_feed ∷ [])) }

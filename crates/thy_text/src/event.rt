@@ -30,9 +30,9 @@ pub enum Event {
         count: u64,
         state: MachState,
     },
-    /// No checkpoint was there, so the file is loaded again.
+    /// There was no checkpoint, so the file is loaded again.
     Reload,
-    /// The committed checkpoint has a state that runs no more.
+    /// The committed checkpoint has a state that no longer runs.
     Ended {
         status: Status,
         count: u64,

@@ -23,7 +23,7 @@ impl Model for Events {
 }
 
 impl Events {
-    /// No events. Takes no memory.
+    /// No events. Allocates nothing.
     pub fn new(alloc: Global) -> Events
         ensures { result ≡ [] }
     {

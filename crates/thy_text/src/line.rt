@@ -14,7 +14,7 @@ use thy_isa::{MachState, Status};
 
 /// Writes the line of an event at once. With `digest`, the line of a restart and that of an end are
 /// followed by the line of memory's digest, at once too. On an error the sink has taken only the
-/// first part of these lines. Takes no memory.
+/// first part of these lines. Allocates nothing.
 pub fn write_event<R: Sink>(event: &Event, digest: bool, report: &mut R) -> Result<(), SinkError>
     ensures wrote { Wrote result (R.stream report.old) (R.stream report.new)
         (line_of digest (event_of event.now)) }
@@ -47,7 +47,7 @@ pub fn write_event<R: Sink>(event: &Event, digest: bool, report: &mut R) -> Resu
     }
 }
 
-/// Writes a line of two numbers, each behind a text.
+/// Writes a line of two numbers, each after a text.
 fn write_numbers<R: Sink>(
     first: &'static str,
     one: u64,
@@ -113,9 +113,8 @@ fn write_epoch_end<R: Sink>(
     }
 }
 
-/// Writes the line of a state that has ended, and with `digest` that of its memory's digest behind it;
-/// of a state that runs on, nothing. On an error the sink has taken only the first part of these lines.
-/// Takes no memory.
+/// Writes the line of a state that has ended, and if `digest` is set its memory's digest after it; of a state that
+/// still runs, nothing. On an error the sink has taken only the first part of these lines. Allocates nothing.
 pub fn write_ended<R: Sink>(
     state: &MachState,
     digest: bool,
@@ -148,8 +147,8 @@ fn write_end<R: Sink>(
     }
 }
 
-/// Writes the line of a state, a word and a number before its count, and with `digest` that of its
-/// memory's digest behind it.
+/// Writes the line of a state, a word and a number before its count, and if `digest` is set its memory's digest after
+/// it.
 fn write_state<R: Sink>(
     word: &'static str,
     number: u64,
@@ -166,7 +165,7 @@ fn write_state<R: Sink>(
 }
 
 /// Writes the line of a made program: the number of which it is made, and its length in bytes. On an
-/// error the sink has taken only the first part of the line. Takes no memory.
+/// error the sink has taken only the first part of the line. Allocates nothing.
 pub fn write_made<R: Sink>(number: u64, length: u64, report: &mut R) -> Result<(), SinkError>
     ensures { Wrote result (R.stream report.old) (R.stream report.new) (made_of number length) }
 {

@@ -11,7 +11,7 @@ use sha2::{Digest, Sha256};
 use thy_base::{Sink, SinkError};
 use thy_isa::MachState;
 
-/// The SHA-256 of a state's program memory. Takes no memory.
+/// The SHA-256 of a state's program memory. Allocates nothing.
 pub fn digest(state: &MachState) -> [u8; 32]
     ensures { result ≡ sha256 (bytes_of state.now.memory) }
 {
@@ -43,7 +43,7 @@ fn write_memory<R: Sink>(state: &MachState, report: &mut R) -> Result<(), SinkEr
     write_pieces(&pieces, report)
 }
 
-/// Writes the line of memory's digest, where digests are told.
+/// Writes the line of memory's digest, if digests are reported.
 pub(crate) fn write_digest<R: Sink>(
     state: &MachState,
     told: bool,

@@ -20,7 +20,7 @@ pub(crate) enum Piece<'a> {
     Number(u64),
     /// A sum of numbers, in decimal digits.
     Sum(u128),
-    /// Digits that stand already.
+    /// Digits, as characters.
     Digits(&'a [u8; 64]),
 }
 

@@ -76,7 +76,7 @@ fn sums_of(events: &Events) -> Sums
 
 /// Writes the line that sums a run's events up: how many epochs were sealed, how many of them were
 /// exhausted, and how many instructions retired while a checkpoint was under way. On an error the sink
-/// has taken only the first part of the line. Takes no memory.
+/// has taken only the first part of the line. Allocates nothing.
 pub fn write_summary<R: Sink>(events: &Events, report: &mut R) -> Result<(), SinkError>
     ensures { Wrote result (R.stream report.old) (R.stream report.new) (summary_of events.now) }
 {

@@ -54,8 +54,8 @@ abbrev pub EndsRestart : Bool → Action → Type 0
 EndsRestart true Barrier = Unit {0}
 EndsRestart migrates action = IsRead action
 
--- What a cycle that did this asks, of a machine that migrates or does not: at most one write, which a read may come before. The
--- commit block is written by the engine, and in a boot.
+-- What a cycle that did this asks, of a machine that migrates or does not: at most one write, which a read may
+-- precede. The commit block is written by the engine, and in a boot.
 abbrev pub AsksBy : Bool → Did → Action → Type 0
 AsksBy migrates NvmDrained action = action ≡ Drain
 AsksBy migrates Loaded action = action ≡ Barrier
@@ -98,7 +98,7 @@ abbrev pub is_commit_write : Action → Bool
 is_commit_write (WriteAt place block) = place == 1
 is_commit_write action = false
 
--- The mark that a cut may leave besides the one done, after an action that failed: the sealed one, if the action was the
--- commit block's write, or that block was written before and no barrier has come since.
+-- The mark that a cut may leave instead of the one done, after an action that failed: the sealed one, if the action
+-- was the commit block's write, or that block was written before and no barrier has come since.
 abbrev pub doubt_after_fault : Action → View → Option Mark
 doubt_after_fault action v = if is_commit_write action || v.written then v.sealed else None

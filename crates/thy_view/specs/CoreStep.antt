@@ -97,7 +97,7 @@ pub record Commits (o : Origin) (epoch overlapped : ℕ) (v next : View) : Type 
   pub sealed : v.sealed ≡ Some (mark epoch count)
   pub becomes : next ≡ record (busier v) { phase = phase_at o count; done = v.sealed; sealed = None; written = false }
 
--- what a cycle did makes this of the view; a line flushed, entries merged and a block promoted are a cycle more
+-- what each kind of cycle makes of the view; a line flushed, entries merged and a block promoted count as one cycle more
 abbrev pub CoreStep : Origin → View → Did → View → Type 0
 CoreStep o v Boot next = (v.phase ≡ BootPhase) × BootsTo v next
 CoreStep o v Loaded next = Loads o v next

@@ -112,31 +112,32 @@ pub record IsUnderWay (sealed : Option Mark) (p : Pressure) : Type 0 where
   pub way : p.under_way ≡ (is_some sealed || p.applies)
   pub apart : p.applies ≡ true → sealed ≡ None
 
--- A shortage is real: fewer entries are free than are needed by the lines that are dirty, with the entries that are reserved,
--- and by the blocks of memory and console that the plain machine's next instruction stores to.
+-- A shortage is real: fewer entries are free than are needed by the lines that are dirty, with the entries that are
+-- reserved, and by the blocks of memory and console that the plain machine's next instruction stores to.
 pub record IsShortage (o : Origin) (v : View) (g : Gauge) (s : Shortage) : Type 0 where
   pub free : s.free ≡ g.free
   pub dirty : s.dirty ≡ g.dirty
   pub need : s.need ≡ needs_at o v.count
   pub short : s.free < s.dirty + s.need
 
--- what presses on a machine at a moment is as it says
+-- the pressure on a machine at a moment is as it reports
 pub record IsPressed {M : Type 0} (K : KindOf M) (o : Origin) (m : M) (n : Device) : Type 0 where
   -- after the boot, a checkpoint is under way exactly while a mark is sealed or what one has written is applied
   pub under_way : is_boot (K.view o m n).phase ≡ false → IsUnderWay (K.view o m n).sealed (K.pressure m)
-  -- the hart is barred exactly while one is under way and may not run beside it
+  -- the hart is barred exactly while one is under way and it may not run meanwhile
   pub barred : (K.pressure m).barred ≡ ((K.pressure m).under_way && not K.overlaps)
   -- a shortage is a real one
   pub short : (s : Shortage) → (K.pressure m).short ≡ Some s → IsShortage o (K.view o m n) (K.gauge m n) s
-  -- little is left of an instruction, to be copied and to be promoted
+  -- what is left of an instruction, to be copied and to be promoted is bounded
   pub few : IsWithin (K.most_owed o.geometry) (K.most_promotions o.geometry) (K.gauge m n)
 
 -- A step that succeeded leads to the next moment of the run, by a step of the view, and was its pick's turn. Whatever
--- a power cut then leaves is the committed checkpoint, whole, or the one in doubt. A step that finds an empty queue, as
--- the boot's first does, reads the commit block where that is still to be read. It acts on the device once, or reads it
--- and writes one block of the DRAM, keeps within the bounds, is a cycle nearer to the next instruction, and gets done what it
--- says that it did. What presses on the machine before it, by which its turn goes, is as it says. In a boot that found a
--- checkpoint it leaves the device as it was, unless the machine migrates; and whatever a cut then leaves is that checkpoint.
+-- a power cut then leaves is the committed checkpoint, whole, or the one in doubt. A step that finds an empty queue,
+-- as the boot's first does, reads the commit block if that is still to be read. It acts on the device once, or reads
+-- it and writes one block of the DRAM, keeps within the bounds, decreases the measure `ahead` unless the machine has
+-- halted or an instruction retires, and completes what it reports. The pressure on the machine before it, which decides
+-- its turn, is as reported. In a boot that found a checkpoint it leaves the device as it was, unless the machine
+-- migrates; and whatever a cut then leaves is that checkpoint.
 pub record IsStep {M : Type 0} (K : KindOf M) (o : Origin) (k : ℕ) (pick : Pick) (m next : M) (n new : Device) (r : Stepped) : Type 0 where
   pub at_next : K.is_at o (k + 1) next new
   pub step : CoreStep o (K.view o m n) r.did (K.view o next new)
@@ -154,10 +155,10 @@ pub record IsStep {M : Type 0} (K : KindOf M) (o : Origin) (k : ℕ) (pick : Pic
   pub still : (found : Mark) → IsRestarting (K.view o m n) found → K.migrates m ≡ false → new ≡ n
   pub spares : (found : Mark) → IsRestarting (K.view o m n) found → Safe K.decode o (Some found) None new
 
--- a cycle failed in its action, which fits what the actor whose turn it was may do; in a boot that found a checkpoint it wrote
--- nothing, unless the machine migrates
+-- a cycle failed in its action, which fits what the actor whose turn it was may do; in a boot that found a checkpoint
+-- it wrote nothing, unless the machine migrates
 pub record CycleFailed {M : Type 0} (K : KindOf M) (o : Origin) (pick : Pick) (m : M) (n new : Device) : Type 0 where
-  -- what the cycle would have done, and the stall that it would have told
+  -- what the cycle would have done, and the stall that it would have reported
   pub did : Did
   pub stall : Option Stall
   pub pressed : IsPressed K o m n
@@ -208,21 +209,21 @@ pub record IsProcessor (o : Origin) (before : View) (s : MachState) : Type 0 whe
   pub bare : state_of s ≡ without_memory (state_of s)
   pub processor : is_boot before.phase ≡ false → state_of s ≡ without_memory (at o before.count)
 
--- after a step that failed, what is answered is such a state
+-- after a step that failed, the result is such a state
 abbrev pub SnapshotsStopped : {M : Type 0} → KindOf M → M → Result MachState CoreError → Type 0
 SnapshotsStopped K m result = (o : Origin) (before : View) → K.has_failed o before m → IfOk result (IsProcessor o before)
 
--- at a moment behind the boot, what was read is the console of the committed checkpoint from a byte on
+-- at a moment after the boot, what was read is the console of the committed checkpoint from a byte on
 abbrev pub ShowsConsole : {M : Type 0} → KindOf M → ℕ → M → Device → Result Bytes CoreError → Type 0
 ShowsConsole K from m n result =
     (o : Origin) (k : ℕ) (done : Mark) → K.is_at o k m n → is_boot (K.view o m n).phase ≡ false
     → (K.view o m n).done ≡ Some done → IfOk result (λ b. bytes_of b ≡ drop from (at o done.count).console)
 
--- the device was left alone, and no fault of it is told
+-- the device was left alone, and no fault of it is reported
 abbrev pub ReadsNothing : {T : Type 0} → Device → Device → Result T CoreError → Type 0
 ReadsNothing n new result = (new ≡ n) × (result ≡ Err Nvm → ⊥)
 
--- at a moment behind the boot, where that console has no byte from there on
+-- at a moment after the boot, if that console ends before this byte, the device is left alone
 abbrev pub LeavesAlonePast : {M : Type 0} → KindOf M → ℕ → M → Device → Device → Result Bytes CoreError → Type 0
 LeavesAlonePast K from m n new result =
     (o : Origin) (k : ℕ) (done : Mark) → K.is_at o k m n → is_boot (K.view o m n).phase ≡ false
@@ -262,7 +263,7 @@ pub record IsSeenAlike {M : Type 0} (K : KindOf M) (o : Origin) (turns : List �
 pub record IsLawful {M : Type 0} (K : KindOf M) : Type 0 where
   -- power can come on
   pub powers : (p : Parameters) → (m : M) × K.powered p m
-  -- zeros are no checkpoint
+  -- an image of zeros has no checkpoint
   pub finds_nothing : (p : Parameters) (shape : Shape) (n : Device)
       → shape.blocks ≡ K.blocks p → K.decode p ceiling (fitted shape [] n).image ≡ Nothing
   -- a run begins at a moment
@@ -285,7 +286,7 @@ pub record IsLawful {M : Type 0} (K : KindOf M) : Type 0 where
   -- the gauge counts what is queued in the NVM and in the DRAM
   pub counts_queues : (m : M) (n : Device) → (K.gauge m n).queued ≡ length n.queue + (K.pressure m).dram
   pub counts_dram : (m : M) → (K.pressure m).dram ≡ (K.dram m).queued
-  -- what presses on a machine is as it says
+  -- the pressure on a machine is as it reports
   pub pressed : (o : Origin) (k : ℕ) (m : M) (n : Device) → K.is_at o k m n → IsPressed K o m n
   -- whatever a power cut leaves at a moment is the committed checkpoint, whole, or the one in doubt
   pub is_safe : (o : Origin) (k : ℕ) (m : M) (n : Device)

@@ -26,11 +26,11 @@ abbrev pub HartZeroSteps : Type 0
 HartZeroSteps =
     (o : Origin) (k : ℕ) → ((j : ℕ) → j < k → turn_at o j ≡ 0) → at o k ≡ steps (setting_of o) (k - o.start.count) o.start
 
--- and so with no turn told
+-- also if no turns are listed
 abbrev pub UntoldSteps : Type 0
 UntoldSteps = (o : Origin) (k : ℕ) → at (told o []) k ≡ steps (setting_of o) (k - o.start.count) o.start
 
--- a step reaches no less far than the view before it
+-- the view after a step reaches at least as far as the view before it
 abbrev pub StepsReach : Type 0
 StepsReach = (o : Origin) (v next : View) (did : Did) → CoreStep o v did next → reach v ≤ reach next
 

@@ -1,5 +1,5 @@
 -- Part of the claim.
--- Where a run starts, and the plain machine from there on.
+-- Where a run starts, and how the plain machine runs from there on.
 use Rattle.std.specs.Prelude.{◌≡◌, ℕ, zero, suc, ◌-◌, ◌^◌, ◌<◌, nat_lt, if◌then◌else◌, List, length, get_or, Bool, Option, Some, None}
 use Rattle.thy_base.specs.declared.config.Parameters.{Parameters}
 use Rattle.thy_base.specs.declared.mark.Mark.{Mark}
@@ -17,12 +17,12 @@ pub record Origin : Type 0 where
   pub geometry : Parameters
   pub start : State
   pub input : List ℕ
-  -- the checkpoint that the start was taken from; none where it was made from a file
+  -- the checkpoint that the start was taken from; None if it was made from a file
   pub kept : Option Mark
-  -- the hart that retires each instruction from the start on; behind the last one told it is hart 0
+  -- the hart that retires each instruction from the start on; after the last one listed it is hart 0
   pub turns : List ℕ
 
--- what the plain machine needs besides a state
+-- what the plain machine needs in addition to a state
 abbrev pub setting_of : Origin → Setting
 setting_of o = setting_for o.geometry o.input
 
@@ -30,7 +30,7 @@ setting_of o = setting_for o.geometry o.input
 abbrev pub turn_at : Origin → ℕ → ℕ
 turn_at o k = if nat_lt k o.start.count then 0 else get_or o.turns (k - o.start.count) 0
 
--- a step of a hart: the plain machine has hart 0 alone, and a hart that it has not does nothing
+-- a step of a hart: the plain machine has only hart 0, and any other hart does nothing
 unfoldable pub step_of : Setting → ℕ → State → State
 step_of g zero s = step g s
 step_of g (suc hart) s = s

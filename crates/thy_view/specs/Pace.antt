@@ -1,5 +1,5 @@
 -- Part of the claim.
--- How far a machine is from what it is about, in numbers that it keeps to itself, and how each cycle changes them.
+-- How much a machine has left to do, in numbers that it shows, and how each cycle changes them.
 use Rattle.std.specs.Prelude.{◌≡◌, ℕ, ◌+◌, ◌<◌, ◌≤◌, ◌==◌, Bool, true, false, MatchBool}
 use Rattle.thy_view.specs.declared.did.Did.{Did}
 use Rattle.thy_view.specs.declared.did.Did.TheVariants.{Retired, Sealed, NvmDrained, DramDrained}
@@ -9,7 +9,7 @@ use Rattle.thy_view.specs.declared.view.View.{View}
 pub record Gauge : Type 0 where
   -- actions that the boot has left
   pub boot_left : ℕ
-  -- the epoch that was sealed last had retired nothing
+  -- the epoch that was sealed last retired nothing
   pub idle : Bool
   -- writes queued in the two devices
   pub queued : ℕ
@@ -19,7 +19,7 @@ pub record Gauge : Type 0 where
   pub dirty : ℕ
   -- moves that the instruction in hand, or else the next one, has left in the epoch that executes
   pub moves : ℕ
-  -- copies that may have to go before stores, those that the next commit may add, and blocks that are to be promoted
+  -- copies that may have to come before stores, those that the next commit may add, and blocks that are to be promoted
   pub owed : ℕ
   pub owed_later : ℕ
   pub promotions : ℕ
@@ -39,7 +39,7 @@ retires did = 0
 abbrev pub Queues : Did → ℕ → ℕ → Type 0
 Queues did old new = MatchBool (is_drained did) (new + 1 ≡ old) (new ≤ old + 1)
 
--- a cycle of the boot that is no drain is one of its actions
+-- a cycle of the boot that is not a drain is one of its actions
 abbrev pub Boots : Did → ℕ → ℕ → Type 0
 Boots did old new = MatchBool (is_drained did) (new ≤ old) (new + 1 ≤ old)
 

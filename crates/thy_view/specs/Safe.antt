@@ -12,7 +12,7 @@ use Rattle.thy_view.specs.Origin.{Origin, at}
 abbrev pub ceiling : ℕ
 ceiling = 2 ^ 63
 
--- what an image decodes to is one of two marks, or nothing where none is kept
+-- what an image decodes to is one of two marks, or nothing if none is kept
 abbrev pub IsOneOf : Origin → Option Mark → Option Mark → Decoded → Type 0
 IsOneOf o kept sealed Nothing = kept ≡ None
 IsOneOf o kept sealed (Refused bad) = ⊥

@@ -31,7 +31,8 @@ reach_in Halt v = v.count
 abbrev pub reach : View → ℕ
 reach v = reach_in v.phase v
 
--- A hart that retired an instruction is there: hart 0 alone is. It did so behind the boot, no earlier than at the start's count.
+-- A hart that retired an instruction is hart 0, the only one. It did so after the boot, at a count not below the
+-- start's.
 pub record IsAtWork (o : Origin) (v : View) (hart : ℕ) : Type 0 where
   pub there : hart ≡ 0
   pub runs : v.phase ≡ Run

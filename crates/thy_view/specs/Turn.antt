@@ -32,7 +32,7 @@ pub record Shortage : Type 0 where
   pub dirty : ℕ
   pub need : ℕ
 
--- what decides a turn besides the view and the NVM's queue
+-- what decides a turn in addition to the view and the NVM's queue
 pub record Pressure : Type 0 where
   -- writes queued in the DRAM
   pub dram : ℕ
@@ -41,7 +41,7 @@ pub record Pressure : Type 0 where
   pub applies : Bool
   -- and meanwhile the hart may not run
   pub barred : Bool
-  -- what the instruction in hand is short of, if it is
+  -- the shortage of table entries of the instruction in hand, if it has one
   pub short : Option Shortage
   -- a block of a page is still to be promoted
   pub promotes : Bool
@@ -55,8 +55,8 @@ abbrev pub has_stopped : Origin → Option Mark → Bool
 has_stopped o None = false
 has_stopped o (Some m) = not (runs_at o m.count)
 
--- The hart waits for a checkpoint under way: it may not run beside it, or its own epoch is over, or it is short of entries, or
--- the program has ended and there is nothing to promote. So an epoch is sealed only while none is under way.
+-- The hart waits for a checkpoint under way if it may not run meanwhile, if its own epoch is over, if too few entries are
+-- free, or if the program has ended and there is nothing to promote. So an epoch is sealed only while none is under way.
 abbrev pub waits : Origin → View → Pressure → Bool
 waits o v p = p.under_way && (p.barred || is_some v.over || is_some p.short || (has_stopped o v.sealed && not p.promotes))
 
@@ -70,12 +70,12 @@ stall_in o Run v p = if waits o v p then Some Waiting else (if is_some v.over ||
 abbrev pub hart_turn : Origin → View → Pressure → Actor
 hart_turn o v p = TheHart (stall_in o v.phase v p)
 
--- the engine acts where a checkpoint is under way
+-- the engine acts if a checkpoint is under way
 abbrev pub engine_turn : Origin → Phase → View → Pressure → Actor
 engine_turn o Run v p = if p.under_way then Checkpoint else hart_turn o v p
 engine_turn o phase v p = hart_turn o v p
 
--- whose turn a pick is, where so many writes are queued in the NVM
+-- whose turn a pick is, if so many writes are queued in the NVM
 abbrev pub turn_of : Origin → Pick → ℕ → View → Pressure → Actor
 turn_of o Hart nvm v p = hart_turn o v p
 turn_of o EnginePick nvm v p = engine_turn o v.phase v p
@@ -110,16 +110,16 @@ Prepares Merged p = (p.promotes ≡ false) × (p.dirty ≡ 0) × (p.overlaid ≡
 Prepares (Sealed epoch count cause) p = (p.promotes ≡ false) × (p.dirty ≡ 0) × (p.overlaid ≡ false)
 Prepares did p = Unit {0}
 
--- the stall that is told at an actor's turn
+-- the stall that is reported at an actor's turn
 abbrev pub told_at : Actor → Option Stall
 told_at (TheHart stall) = stall
 told_at actor = None
 
--- a pick was the turn of the actor that did this, which was due, and this stall is told
+-- a pick was the turn of the actor that did this, which was due, and this stall is reported
 abbrev pub Turn : Origin → Pick → ℕ → View → Pressure → Did → Option Stall → Type 0
 Turn o pick nvm v p did stall =
     Does did (turn_of o pick nvm v p) × (stall ≡ told_at (turn_of o pick nvm v p)) × Prepares did p
 
--- why the epoch is over once the hart moved on: an instruction that is short of entries ends it
+-- why the epoch is over once the hart moved on: an instruction for which too few entries are free ends it
 abbrev pub over_by : Option Shortage → Option EndCause
 over_by = option_map (λ (s : Shortage). Exhausted s.free s.dirty s.need)

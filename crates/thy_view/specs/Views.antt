@@ -31,6 +31,6 @@ halts v next = not (is_halt v.phase) && is_halt next.phase
 abbrev pub is_between : View → Bool
 is_between v = is_halt v.phase || (not (is_boot v.phase) && v.spent == 0)
 
--- the mark that a cut may leave besides the one done: the sealed one, while its commit block is written
+-- the mark that a cut may leave instead of the one done: the sealed one, once its commit block is written
 abbrev pub doubt_of : View → Option Mark
 doubt_of v = if v.written then v.sealed else None

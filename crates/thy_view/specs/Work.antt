@@ -1,5 +1,5 @@
 -- Part of the claim.
--- What is left of an instruction, of copies and of promotions, and what each cycle gets done of it.
+-- What is left of an instruction, of copies and of promotions, and what each cycle completes of it.
 use Rattle.std.specs.Prelude.{◌≡◌, ◌⊎◌, ℕ, ◌+◌, ◌≤◌, Bool, true, false}
 use Rattle.thy_base.specs.Device.{Device}
 use Rattle.thy_dram.specs.Contents.{Contents}
@@ -16,23 +16,23 @@ begins_instruction (Retired hart) = true
 begins_instruction (Sealed epoch count cause) = true
 begins_instruction did = false
 
--- after these an epoch begins, and more copies may be owed and more blocks be promoted than before
+-- after these an epoch begins, so more copies may be owed and more blocks be promoted than before
 abbrev pub begins_epoch : Did → Bool
 begins_epoch Loaded = true
 begins_epoch (Restarted epoch count) = true
 begins_epoch (Sealed epoch count cause) = true
 begins_epoch did = false
 
--- after a commit too more copies may be owed, but only those that it was to add
+-- after a commit more copies may be owed too, but only those that it was to add
 abbrev pub adds_copies : Did → Bool
 adds_copies (Committed epoch overlapped) = true
 adds_copies did = begins_epoch did
 
--- a hart that moved has fewer moves left, or it made a copy that goes before its store
+-- a hart that moved has fewer moves left, or it made a copy that comes before its store
 abbrev pub MovesOn : Gauge → Gauge → Type 0 → Type 0
 MovesOn old new Wrote = (new.moves + 1 ≤ old.moves) ⊎ ((new.moves ≡ old.moves) × (new.owed + 1 ≤ old.owed) × Wrote)
 
--- what a cycle that did this got done; the last argument says that it wrote a block
+-- what a cycle that did this completed; the last argument says that it wrote a block
 abbrev pub GetsDone : Did → Gauge → Gauge → Type 0 → Type 0
 GetsDone Moved old new Wrote = MovesOn old new Wrote
 GetsDone Promoted old new Wrote = (new.promotions + 1 ≤ old.promotions) × Wrote
@@ -45,12 +45,12 @@ pub record LeavesNoMore (did : Did) (old new : Gauge) : Type 0 where
   pub owed_in_all : begins_epoch did ≡ false → new.owed + new.owed_later ≤ old.owed + old.owed_later
   pub promotions : begins_epoch did ≡ false → new.promotions ≤ old.promotions
 
--- a cycle did what it says, and left no more to do than before
+-- a cycle did what it reports, and left no more to do than before
 pub record Works (did : Did) (old new : Gauge) (n next : Device) (dram now : Contents) : Type 0 where
   pub done : GetsDone did old new (WritesBlock n next dram now)
   pub left : LeavesNoMore did old new
 
--- little is left at every moment
+-- what is left at every moment is bounded
 pub record IsWithin (most_owed most_promotions : ℕ) (g : Gauge) : Type 0 where
   pub moves : g.moves ≤ 16
   pub owed : g.owed + g.owed_later ≤ most_owed

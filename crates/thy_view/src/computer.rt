@@ -14,7 +14,7 @@ use thy_isa::MachState;
 use thy_record::Start;
 
 /// A machine: hart, memory and checkpoint engine, over an NVM. One step is one cycle. Only `power_on`, `snapshot`
-/// and `console` take memory.
+/// and `console` allocate.
 ///
 /// Its promises are those of a run: a moment of a run leads to the next by each step, and whatever a power cut
 /// leaves at one is the committed checkpoint, whole, or the one in doubt.
@@ -32,10 +32,10 @@ pub trait Computer: Drop {
         ensures powered { IfOk result (λ m. kind.powered geometry.now m) }
         ensures dram { IfOk result (λ m. kind.dram m ≡ dram) };
 
-    /// One cycle: the pick's, or where its actor has nothing to do the hart's. Takes no memory.
+    /// One cycle: the pick's, or the hart's if the pick's actor has nothing to do. Allocates nothing.
     ///
-    /// After an error the device may hold what the failed call left, and the machine is asked for `failed`, `snapshot`
-    /// and `cut` alone.
+    /// After an error the device may hold what the failed call left. Then only `failed`, `snapshot` and `cut` may be
+    /// called.
     fn step<N: Nvm>(&mut self, pick: Pick, start: &Start, nvm: &mut N) -> Result<Stepped, NvmError>
         requires { CanStep kind start.now self.old (N.device nvm.old) }
         ensures steps { LeadsOn kind start.now pick self.old self.new (N.device nvm.old) (N.device nvm.new) result }
@@ -47,12 +47,12 @@ pub trait Computer: Drop {
     fn failed(&self) -> bool
         ensures { result ≡ kind.failed self.now };
 
-    /// The state that the machine executes, where no instruction is under way. After a step that failed, once
-    /// the boot is over, the processor's part of the state before the instruction under way, with no memory and no console,
+    /// The state that the machine executes, if no instruction is under way. After a step that failed, once the boot is
+    /// over, the processor's part of the state before the instruction under way, with no memory and no console,
     /// whatever the device is.
     ///
     /// # Errors
-    /// `Nvm` where the device fails, `Memory` for want of memory.
+    /// `Nvm` if the device fails, `Memory` if memory runs out.
     fn snapshot<N: Nvm>(&self, alloc: Global, nvm: &mut N) -> Result<MachState, CoreError>
         requires { CanSnapshot kind self.now (N.device nvm.old) }
         ensures state { Snapshots kind self.now (N.device nvm.old) result }
@@ -61,11 +61,11 @@ pub trait Computer: Drop {
         ensures err { IfErr result (λ e. HasFailedToRead e (N.device nvm.old) (N.device nvm.new)) }
         ensures frame { IsFramed (N.device nvm.old) (N.device nvm.new) };
 
-    /// Once the boot is over, the console of the committed checkpoint from byte `from` on. It is this also when the
-    /// hart has gone on. Where there is no such byte, the device is left alone.
+    /// Once the boot is over, the console of the committed checkpoint from byte `from` on, also if the hart has gone
+    /// on since. If there is no such byte, the device is left alone.
     ///
     /// # Errors
-    /// `Nvm` where the device fails, `Memory` for want of memory.
+    /// `Nvm` if the device fails, `Memory` if memory runs out.
     fn console<N: Nvm>(&self, alloc: Global, from: u64, nvm: &mut N) -> Result<Bytes, CoreError>
         requires { CanRead kind self.now (N.device nvm.old) }
         ensures console { ShowsConsole kind from self.now (N.device nvm.old) result }

@@ -16,7 +16,7 @@ pub enum Did {
     Refused(BadImage),
     /// The hart moved on within an instruction.
     Moved,
-    /// An instruction was retired, by this hart. There is hart 0 alone.
+    /// An instruction was retired, by this hart. There is only hart 0.
     Retired(u8),
     /// A dirty cache line was stored at the epoch's end.
     Flushed,
@@ -51,11 +51,11 @@ pub enum Stall {
     Halted,
 }
 
-/// What a step tells of its one cycle.
+/// What a step reports of its one cycle.
 #[derive(Clone, Copy, Debug, PartialEq, Eq)]
 pub struct Stepped {
     pub did: Did,
-    /// The hart's stall, where the cycle was its turn and advanced no instruction.
+    /// The hart's stall, if the cycle was its turn and advanced no instruction.
     pub stall: Option<Stall>,
     /// The machine is halted from this cycle on.
     pub ended: bool,

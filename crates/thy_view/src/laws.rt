@@ -3,8 +3,8 @@ ghost use Rattle.thy_view.specs.OneHart.{EachHasItsTurn};
 ghost use Rattle.thy_view.specs.Laws.{TurnsLeadTo, StaysSafe, HartZeroSteps, UntoldSteps, StepsReach, RetiresReach, FindsTurns};
 ghost use Rattle.thy_view.specs.Safe.{SameIsNoDoubt};
 
-/// If the kept checkpoint is also the one in doubt, a power cut leaves that checkpoint. So one that is written anew, in another
-/// form of the image, is never in doubt.
+/// If the kept checkpoint is also the one in doubt, a power cut leaves that checkpoint. So one that is written anew,
+/// in another form of the image, is never in doubt.
 pub fn a_kept_mark_is_never_in_doubt()
     ensures { SameIsNoDoubt }
 {}
@@ -24,17 +24,17 @@ pub fn hart_zero_takes_one_step_after_another()
     ensures { HartZeroSteps }
 {}
 
-/// So it does with no turn told: with one hart nobody need think of turns.
+/// So it does if no turns are listed: with one hart turns do not matter.
 pub fn a_run_without_turns_is_hart_zeros()
     ensures { UntoldSteps }
 {}
 
-/// With no turn told, whatever a cycle did has its turn.
+/// If no turns are listed, whatever a cycle did has its turn.
 pub fn with_one_hart_each_cycle_has_its_turn()
     ensures { EachHasItsTurn }
 {}
 
-/// A step reaches no less far than the view before it.
+/// The view after a step reaches at least as far as the view before it.
 pub fn a_step_reaches_no_less()
     ensures { StepsReach }
 {}

@@ -1,4 +1,4 @@
-//! What the machine tells of itself: where it is in a run, and which checkpoints it has.
+//! What the machine reports of itself: where it is in a run, and which checkpoints it has.
 
 use thy_base::{EndCause, Mark};
 

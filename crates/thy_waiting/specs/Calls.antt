@@ -1,4 +1,4 @@
--- What each call makes of the scheme and of the NVM, and what it answers: what one call of the scheme below does, and the
+-- What each call makes of the scheme and of the NVM, and its result: what one call of the scheme below does, and the
 -- barriers.
 use Rattle.std.specs.Prelude.{◌≡◌, ℕ, ◌<◌, ◌-◌, Result, IfOk, OnOk, OnErr}
 use Rattle.thy_base.specs.declared.block.Block.{Block}
@@ -59,20 +59,20 @@ pub record MakesBarrier (w : Waiting Dual) (n : Device)
   pub kept : OnErr result (t ≡ w)
   pub err : OnErr result (HasFailed n new)
 
--- the item that is due below, behind which barriers are left if it is a commit
+-- the item that is due below; if it is a commit, barriers are left after it
 pub record TakesItemBelow (w : Waiting Dual) (n : Device)
     (result : Result EngineStep NvmError) (t : Waiting Dual) (new : Device) : Type 0 where
   pub below : TakesItem w.below n result t.below new
   pub left : IfOk result (λ step. t.left ≡ left_after step)
   pub kept : OnErr result (t.left ≡ w.left)
 
--- a barrier comes first where one is left
+-- a barrier comes first if one is left
 pub record TakesTurn (w : Waiting Dual) (n : Device)
     (result : Result EngineStep NvmError) (t : Waiting Dual) (new : Device) : Type 0 where
   pub waits : 0 < w.left → MakesBarrier w n result t new
   pub goes : w.left ≡ 0 → TakesItemBelow w n result t new
 
--- a step of the boot is that of the scheme below, behind which barriers are left if it is a restart
+-- a step of the boot is that of the scheme below; if it is a restart, barriers are left after it
 pub record TakesBoot (start : Start) (w : Waiting Dual) (n : Device)
     (result : Result BootStep NvmError) (t : Waiting Dual) (new : Device) : Type 0 where
   pub below : TakesBootStep start w.below n result t.below new

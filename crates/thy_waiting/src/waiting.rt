@@ -32,11 +32,11 @@ use thy_isa::CpuState;
 use thy_record::{EngineStep, Start};
 use thy_scheme::{BootStep, Scheme};
 
-/// How many barriers come behind a commit, and behind a restart.
+/// How many barriers follow a commit or a restart.
 const BARRIERS: u64 = 3;
 
 /// The scheme of both tables, whose checkpoints the hart waits for: it may not run until the epoch that is sealed is
-/// committed and three barriers more are made. So it is behind a restart too.
+/// committed and three more barriers are made. After a restart, too, it waits for three barriers.
 #[derive(Drop)]
 pub struct WaitingScheme {
     below: DualScheme,
@@ -53,7 +53,7 @@ impl Model for WaitingScheme {
     ghost view = { λ w. record { below = w.below; left = w.left } };
 }
 
-/// How many barriers are left behind a step of the engine below.
+/// How many barriers are left after a step of the engine below.
 fn left_after(step: EngineStep) -> u64
     ensures { result ≡ left_after step }
 {
@@ -69,7 +69,7 @@ fn left_after(step: EngineStep) -> u64
     }
 }
 
-/// How many are left behind a step of the boot.
+/// How many are left after a step of the boot.
 fn left_booted(step: &BootStep) -> u64
     ensures { result ≡ left_booted step.now }
 {
@@ -79,7 +79,7 @@ fn left_booted(step: &BootStep) -> u64
     }
 }
 
-/// Makes one of the barriers that are left, and tells how many are left then.
+/// Makes one of the barriers that are left, and returns how many are left then.
 fn make_barrier<N: Nvm>(left: u64, nvm: &mut N) -> Result<u64, NvmError>
     requires some { 0 < left }
     requires up { (N.device nvm.old).down ≡ false }
@@ -93,8 +93,8 @@ fn make_barrier<N: Nvm>(left: u64, nvm: &mut N) -> Result<u64, NvmError>
     Ok(left - 1)
 }
 
-// Each call has the trait's clauses, of this scheme. Those named `made` and `state` stand beside them: they say what the call
-// makes of the scheme below and of the number of barriers (specs/Calls.antt).
+// Each call has the trait's clauses, of this scheme. Those named `made` and `state` are in addition: they say what the
+// call makes of the scheme below and of the number of barriers (specs/Calls.antt).
 impl Scheme for WaitingScheme {
     ghost use Rattle.std.specs.Prelude.{refl};
     ghost use Rattle.thy_dual_model.proofs.LawfulLemmas.{lawful as laws_below};

@@ -17,7 +17,7 @@ pub record Boots {S : Type 0} (K : SchemeOf S) (o : Origin) (w : Waiting S) (n :
   pub below : K.boots o w.below n
   pub none : w.left ≡ 0
 
--- behind it no more are left than come behind a commit, and none while an epoch is sealed
+-- after the boot no more are left than follow a commit, and none while an epoch is sealed
 pub record IsSound {S : Type 0} (K : SchemeOf S) (o : Origin) (k : Marks) (w : Waiting S) (n : Device) : Type 0 where
   pub below : K.is_sound o k w.below n
   pub few : w.left ≤ barriers
@@ -32,7 +32,7 @@ pub record Stays {S : Type 0} (K : SchemeOf S) (v : Waiting S) (m : Device) (w :
 abbrev pub is_under_way : {S : Type 0} → SchemeOf S → Waiting S → Bool
 is_under_way K w = K.under_way w.below || is_waiting w
 
--- the barriers that are to come: those behind the commit that is due, or those that are left
+-- the barriers that are to come: those after the commit that is due, or those that are left
 abbrev pub to_come : {S : Type 0} → SchemeOf S → Waiting S → ℕ
 to_come K w = if K.under_way w.below then barriers else w.left
 

@@ -1,4 +1,4 @@
--- A scheme that waits: one below it, and the barriers that are left of those behind a commit or a restart.
+-- A scheme that waits: one below it, and how many of the barriers after a commit or a restart are left.
 use Rattle.std.specs.Prelude.{ℕ, nat_lt, Bool}
 use Rattle.thy_record.specs.declared.engine_step.EngineStep.{EngineStep}
 use Rattle.thy_record.specs.declared.engine_step.EngineStep.TheVariants.{Committed}
@@ -10,7 +10,7 @@ pub record Waiting (S : Type 0) : Type 0 where
   -- the barriers that are left
   pub left : ℕ
 
--- how many come behind a commit, and behind a restart
+-- how many barriers follow a commit or a restart
 abbrev pub barriers : ℕ
 barriers = 3
 
@@ -18,12 +18,12 @@ barriers = 3
 abbrev pub is_waiting : {S : Type 0} → Waiting S → Bool
 is_waiting w = nat_lt 0 w.left
 
--- how many are left behind a step of the engine below
+-- how many are left after a step of the engine below
 abbrev pub left_after : EngineStep → ℕ
 left_after (Committed epoch) = barriers
 left_after step = 0
 
--- and behind a step of the boot: none behind a load, since the start of a run has no checkpoint before it
+-- and after a step of the boot: none after a load, since the start of a run has no checkpoint before it
 abbrev pub left_booted : BootStep → ℕ
 left_booted (Restarted cpu epoch) = barriers
 left_booted step = 0

@@ -1,5 +1,5 @@
-//! What a scheme that waits is to its contracts: a scheme below, and the barriers that its engine makes behind each commit
-//! and each restart, while the hart may not run. The law is that it is lawful if the scheme below is.
+//! What a scheme that waits is to its contracts: a scheme below, and the barriers that its engine makes after each
+//! commit and each restart, while the hart may not run. The law: over a lawful scheme that applies nothing, it is lawful.
 //!
 //! Open specs/Waiting.antt first, then specs/Scheme.antt, and src/laws.rt. It stands on thy_scheme and on what that stands
 //! on; on it stands thy_waiting.

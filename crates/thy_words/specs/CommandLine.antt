@@ -1,5 +1,5 @@
 -- Part of the claim.
--- The program's command line, as data: what `clap` is told of it.
+-- The program's command line, as data: the description of it that `clap` is given.
 use Rattle.std.specs.Prelude.{◌≡◌, ◌++◌, Some, true, false, List, [], ◌∷◌, codes, fold, map}
 use Rattle.clap.specs.Walk.{Rule, Text, rule_of}
 use Rattle.clap.specs.Simple.{App, app_of, new_app, new_rule, new_shape, with_rule}
@@ -14,19 +14,19 @@ use Rattle.thy_base.specs.declared.config.Field.{Field}
 use Rattle.thy_base.specs.Fields.{field_name}
 use Rattle.thy_words.specs.Fields.{fields, plain_fields}
 
--- a name that has to stand in its place
+-- a name that is required at its position
 abbrev pub operand_rule : Text → Rule
 operand_rule name = record (new_rule name) { required = true }
 
--- an option `--name value` or `--name=value`, which stands at most once
+-- an option `--name value` or `--name=value`, which may be given at most once
 abbrev pub option_rule : Text → Rule
 option_rule name = record (new_rule name) { long = Some name }
 
--- a flag `--name`, which stands at most once and takes no value
+-- a flag `--name`, which may be given at most once and takes no value
 abbrev pub flag_rule : Text → Rule
 flag_rule name = record (new_rule name) { long = Some name; action = Some SetTrue }
 
--- the rule of an argument that `clap` is told of
+-- the rule of an argument, as `clap` is given it
 abbrev pub rule_for : Argument → Rule
 rule_for (Operand name) = operand_rule name.now
 rule_for (Valued name) = option_rule name.now
@@ -59,7 +59,7 @@ commands =
     ∷ command_of (codes "make") (codes "n" ∷ codes "OUT" ∷ []) [] [] []
     ∷ []
 
--- the program: one of its commands has to be named, and no word asks for help
+-- the program: one of its commands has to be named, and no argument asks for help
 abbrev pub bare : App
 bare = record {
   top = record (new_shape (codes "thynvm")) {

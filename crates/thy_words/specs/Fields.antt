@@ -1,5 +1,5 @@
 -- Part of the claim.
--- The fields of a configuration as the words give them.
+-- The fields of a configuration as the arguments give them.
 use Rattle.std.specs.Prelude.{ℕ, Bool, true, false, if◌then◌else◌, List, [], ◌∷◌, Option, find}
 use Rattle.std.specs.Prelude.{not, option_and_then, unwrap_or}
 use Rattle.std.specs.Option.{option_map_or}
@@ -16,7 +16,7 @@ abbrev pub fields : List Field
 fields = Base ∷ Pages ∷ Console ∷ Epoch ∷ Btt ∷ Ptt ∷ Sets ∷ Ways ∷ Nvmq ∷ Dramq ∷ High ∷ Low
     ∷ Mix ∷ Cuts ∷ Tears ∷ Limit ∷ Gap ∷ []
 
--- those that words are read for: the number of a made program comes first
+-- the fields that are read from the arguments: the number of a made program comes first
 abbrev pub all_fields : List Field
 all_fields = N ∷ fields
 
@@ -24,7 +24,7 @@ all_fields = N ∷ fields
 abbrev pub plain_fields : List Field
 plain_fields = Base ∷ Pages ∷ Console ∷ Limit ∷ []
 
--- the text of a field, where the words have its option
+-- the text of a field, if the arguments have its option
 abbrev pub text_of : List Row → Field → Option Text
 text_of rows f = first_of (field_name f) rows
 
@@ -38,19 +38,19 @@ takes_list _ = false
 abbrev pub reads : Field → Text → Bool
 reads f t = if takes_list f then is_list t else is_number t
 
--- the words leave the field out, or give it a value
+-- the arguments leave the field out, or give it a value
 abbrev pub is_readable : List Row → Field → Bool
 is_readable rows f = option_map_or (reads f) (text_of rows f) true
 
--- the first field whose text is no value of it
+-- the first field whose text is not a value of it
 abbrev pub unreadable : List Row → Option Field
 unreadable rows = find (λ f. not (is_readable rows f)) all_fields
 
--- the number of a field, or this one where the words leave it out
+-- the number of a field, or the default given here if the arguments leave it out
 abbrev pub number_at : List Row → Field → ℕ → ℕ
 number_at rows f otherwise = unwrap_or (option_and_then number_in (text_of rows f)) otherwise
 
--- the list of a field, with no item where the words leave it out
+-- the list of a field, empty if the arguments leave it out
 abbrev pub list_at : List Row → Field → List ℕ
 list_at rows f = option_map_or numbers_in (text_of rows f) []
 

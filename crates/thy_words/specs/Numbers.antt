@@ -1,5 +1,5 @@
 -- Part of the claim.
--- Numbers and lists of numbers as words write them.
+-- How numbers and lists of numbers are written in arguments.
 use Rattle.std.specs.Prelude.{◌==◌, ◌&&◌, ℕ, Bool, List, Option, Some, None, if◌then◌else◌}
 use Rattle.std.specs.Prelude.{length, nat_le, nat_lt, map, unwrap_or}
 use Rattle.std.specs.List.{list_all, slice_split}
@@ -15,7 +15,7 @@ is_number t = nat_lt 0 (length t) && (nat_le (length t) 19 && list_all is_ascii_
 unfoldable pub number_in : Text → Option ℕ
 number_in t = if is_number t then Some (digits_value 10 t) else None
 
--- what stands between the commas
+-- the texts between the commas
 abbrev pub pieces : Text → List Text
 pieces = slice_split (λ b. b == 44)
 
@@ -23,7 +23,7 @@ pieces = slice_split (λ b. b == 44)
 abbrev pub is_list : Text → Bool
 is_list t = list_all is_number (pieces t)
 
--- the number that a text writes, or 0 where it writes none
+-- the number that a text writes, or 0 if it does not write one
 unfoldable pub number_or_zero : Text → ℕ
 number_or_zero t = unwrap_or (number_in t) 0
 

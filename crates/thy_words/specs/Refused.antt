@@ -9,6 +9,6 @@ abbrev pub is_out_of_memory : ErrorKind → Bool
 is_out_of_memory OutOfMemory = true
 is_out_of_memory _ = false
 
--- want of memory stays what it is, and every other kind says that the words are no command line
+-- out of memory stays out of memory; every other kind of error means invalid usage
 abbrev pub refused : ErrorKind → WordsError
 refused kind = if is_out_of_memory kind then Memory alloc_error else Usage

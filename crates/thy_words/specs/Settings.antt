@@ -1,5 +1,5 @@
 -- Part of the claim.
--- What the words ask for.
+-- What the arguments ask for.
 use Rattle.std.specs.Prelude.{◌≡◌, ℕ, ◌≤◌, nat_le, Bool, false, List, [], Option, Some, None, Result, Ok, Err, codes, if◌then◌else◌}
 use Rattle.std.specs.Prelude.{option_map, unwrap_or}
 use Rattle.std.specs.Option.{option_map_or, option_or}
@@ -23,17 +23,17 @@ use Rattle.thy_words.specs.declared.words.Command.TheVariants as command
 use Rattle.thy_words.specs.declared.words.WordsError.{WordsError}
 use Rattle.thy_words.specs.declared.words.WordsError.TheVariants.{Usage, Word, Value, Memory}
 
--- How a program is to be run: the configuration, the name of what it reads, the name under which what it leaves is saved,
--- and whether digests of memory are told.
+-- How a program is to be run: the configuration, the name of what it reads, the name under which what it leaves is
+-- saved, and whether digests of memory are reported.
 pub record Job : Type 0 where
   pub config : Config
   pub input : Option Text
   pub save : Option Text
   pub digest : Bool
 
--- What the words ask for: to run the program file of this name, to resume the image of this name, to run the program that
--- is made from this number, to run a program file on the plain machine, or to put the program that is made from this
--- number under this name.
+-- What the arguments ask for: to run the program file of this name, to resume the image of this name, to run the
+-- program that is made from this number, to run a program file on the plain machine, or to put the program that is
+-- made from this number under this name.
 pub data Order : Type 0 where
   run : (file : Text) (job : Job) → Order
   resume : (image : Text) (job : Job) → Order
@@ -41,8 +41,8 @@ pub data Order : Type 0 where
   plain : (file : Text) (job : Job) → Order
   make : (number : ℕ) (name : Text) → Order
 
--- what `clap` makes of the words: the command that they name, and what it finds for its arguments;
--- nothing where it refuses them
+-- what `clap` makes of the arguments: the command that they name, and what it finds for that command; None if it
+-- refuses them
 unfoldable pub named : List Text → Option (Text × List Row)
 named words = if is_empty (parse_fault program words) then subcommand_of program words else None
 
@@ -54,7 +54,7 @@ most_number = 4294967295
 abbrev pub values_at : List Row → Values
 values_at rows = record { number = number_at rows N 0; config = config_at rows }
 
--- the number of a made program, where it is out of range
+-- the error for the number of a made program, if that is out of range
 abbrev pub number_fault : ℕ → Option ConfigError
 number_fault n = if nat_le n most_number then None else Some (record { field = N; value = n })
 
@@ -72,15 +72,15 @@ abbrev pub values_in : List Row → Result Values WordsError
 values_in rows = option_map_or (λ f. Err (Word f))
     (unreadable rows) (ranged (values_at rows) (value_fault (values_at rows)))
 
--- a name that has to stand, so there is one
+-- a name that is required, so there is one
 abbrev pub operand : Text → List Row → Text
 operand name rows = unwrap_or (first_of name rows) []
 
--- a flag stands among the words
+-- a flag is among the arguments
 abbrev pub has_flag : Text → List Row → Bool
 has_flag name rows = option_map_or (λ t. bytes_eq t (codes "true")) (first_of name rows) false
 
--- how a program is to be run. What the command has no option for has its default
+-- how a program is to be run; what the command has no option for has its default
 abbrev pub job_with : List Row → Config → Job
 job_with rows config = record {
   config = config;
@@ -97,7 +97,7 @@ order_with Bench rows v = bench v.number (job_with rows v.config)
 order_with Plain rows v = plain (operand (codes "FILE") rows) (job_with rows v.config)
 order_with Make rows v = make v.number (operand (codes "OUT") rows)
 
--- the same, where there are values
+-- the same, if there are values
 abbrev pub order_from : Verb → List Row → Result Values WordsError → Result Order WordsError
 order_from verb rows (Ok v) = Ok (order_with verb rows v)
 order_from verb rows (Err e) = Err e
@@ -122,18 +122,18 @@ order_in p = option_map_or (λ verb. order_for verb p.1) (verb_of p.0) (Err Usag
 abbrev pub order_named : Option (Text × List Row) → Result Order WordsError
 order_named found = option_map_or order_in found (Err Usage)
 
--- the settings that the words ask for, the program's name first, or why they are refused
+-- the settings that the arguments ask for, the program's name first, or why they are refused
 unfoldable pub settings_of : List Text → Result Order WordsError
 settings_of words = order_named (named words)
 
--- the answer shows exactly what is asked for, or is want of memory
+-- the result shows exactly what is asked for, or is out of memory
 abbrev pub ShowsOrMemory : {A B : Type 0} → (A → B) → Result B WordsError → Result A WordsError
     → Type 0
 ShowsOrMemory shown asked (Ok x) = asked ≡ Ok (shown x)
 ShowsOrMemory shown asked (Err (Memory e)) = Unit {0}
 ShowsOrMemory shown asked (Err e) = asked ≡ Err e
 
--- what the program has in hand of how a program is to be run
+-- the job that a value of the program's type describes
 abbrev pub job_of : JobStruct → Job
 job_of j = record {
   config = j.config;

@@ -1,4 +1,4 @@
-//! The program's command line as `clap` is told of it.
+//! The program's command line, as `clap` is given it.
 ghost use Rattle.std.specs.Prelude.{◌≡◌, IfOk, fold};
 ghost use Rattle.clap.specs.Simple.{app_of, with_subcommand};
 ghost use Rattle.thy_words.specs.CommandLine.{IsArg, IsBuilt, bare, begun, program, rule_for, with_argument};
@@ -9,7 +9,7 @@ use std::alloc::{AllocError, Global};
 /// An argument of a command, by its name.
 #[derive(Clone, Copy)]
 enum Argument {
-    /// A name that has to stand in its place.
+    /// A name that is required at its position.
     Operand(&'static str),
     /// An option `--name value` or `--name=value`.
     Valued(&'static str),
@@ -17,8 +17,8 @@ enum Argument {
     Flag(&'static str),
 }
 
-/// The options of `run`, `resume` and `bench`: every field of a configuration, the names of what is read
-/// and of what is saved, and whether digests of memory are told.
+/// The options of `run`, `resume` and `bench`: every field of a configuration, the names of what is read and of what
+/// is saved, and whether digests of memory are reported.
 static RUN_OPTIONS: [Argument; 20] = [
     Argument::Valued("base"),
     Argument::Valued("pages"),
@@ -52,10 +52,10 @@ static PLAIN_OPTIONS: [Argument; 6] = [
     Argument::Flag("digest"),
 ];
 
-/// What `make` takes besides a number: the name under which the program is put.
+/// What `make` takes in addition to a number: the name under which the program is put.
 static MAKE_NAME: [Argument; 1] = [Argument::Operand("OUT")];
 
-/// An argument as `clap` is told of it.
+/// An argument, as `clap` is given it.
 fn arg<'a>(alloc: Global, argument: Argument) -> Arg<'a>
     ensures { IsArg result (rule_for argument) }
 {
@@ -107,7 +107,7 @@ fn with_command<'a>(
     program.subcommand(command(alloc, name, first, others)?)
 }
 
-/// The program without its commands. It answers no call for help or for a version.
+/// The program without its commands. It has no options for help or for a version.
 fn bare<'a>(alloc: Global) -> Command<'a>
     ensures { app_of result ≡ bare }
 {

@@ -1,4 +1,4 @@
-//! The fields of a configuration as the words give them.
+//! The fields of a configuration as the arguments give them.
 ghost use Rattle.std.specs.Prelude.{◌≡◌, IfOk, option_map};
 ghost use Rattle.clap.specs.Matches.{found_of};
 ghost use Rattle.clap.specs.Walk.{first_of, rows_of};
@@ -32,14 +32,14 @@ static FIELDS: [Field; 18] = [
     Field::Gap,
 ];
 
-/// The text of an argument, where the words have it.
+/// The text of an option or operand, if the arguments have it.
 pub(crate) fn text_of<'a>(matches: &ArgMatches<'a>, name: &str) -> Option<&'a str>
     ensures { option_map (λ s. s.now) result ≡ first_of name.now (rows_of (found_of matches.now)) }
 {
     matches.get_str(name)
 }
 
-/// Whether a flag stands among the words.
+/// Whether a flag is among the arguments.
 pub(crate) fn has_flag(matches: &ArgMatches<'_>, name: &str) -> bool
     ensures { result ≡ has_flag name.now (rows_of (found_of matches.now)) }
 {
@@ -56,7 +56,7 @@ fn takes_list(field: Field) -> bool
     matches!(field, Field::Cuts | Field::Tears)
 }
 
-/// Whether the words leave the field out, or give it a value.
+/// Whether the arguments leave the field out, or give it a value.
 fn is_readable(matches: &ArgMatches<'_>, field: Field) -> bool
     ensures { result ≡ is_readable (rows_of (found_of matches.now)) field }
 {
@@ -72,7 +72,7 @@ fn is_readable(matches: &ArgMatches<'_>, field: Field) -> bool
     }
 }
 
-/// The first field whose text is no value of it.
+/// The first field whose text is not a value of it.
 pub(crate) fn unreadable(matches: &ArgMatches<'_>) -> Option<Field>
     ensures { result ≡ unreadable (rows_of (found_of matches.now)) }
 {
@@ -82,7 +82,7 @@ pub(crate) fn unreadable(matches: &ArgMatches<'_>) -> Option<Field>
         .find(|field| !is_readable(matches, *field))
 }
 
-/// The number of a field, or `otherwise` where the words leave it out.
+/// The number of a field, or `otherwise` if the arguments leave it out.
 pub(crate) fn number_at(matches: &ArgMatches<'_>, field: Field, otherwise: u64) -> u64
     ensures { result ≡ number_at (rows_of (found_of matches.now)) field otherwise }
 {
@@ -92,7 +92,7 @@ pub(crate) fn number_at(matches: &ArgMatches<'_>, field: Field, otherwise: u64) 
     }
 }
 
-/// The list of a field, with no item where the words leave it out.
+/// The list of a field, empty if the arguments leave it out.
 fn list_at(alloc: Global, matches: &ArgMatches<'_>, field: Field) -> Result<Numbers, AllocError>
     ensures { IfOk result (λ v. v ≡ list_at (rows_of (found_of matches.now)) field) }
 {
@@ -103,7 +103,7 @@ fn list_at(alloc: Global, matches: &ArgMatches<'_>, field: Field) -> Result<Numb
     Ok(Numbers::from_vec(items))
 }
 
-/// The configuration that the words give, in which each field is readable.
+/// The configuration that the arguments give, in which each field is readable.
 pub(crate) fn config_at(alloc: Global, matches: &ArgMatches<'_>) -> Result<Config, AllocError>
     ensures { IfOk result (λ c. c ≡ config_at (rows_of (found_of matches.now))) }
 {

@@ -1,5 +1,5 @@
-//! The command line: what the words after the program's name ask for, as a command with its configuration, or why they
-//! are refused. `settings` is exact in both.
+//! The command line: what the arguments ask for, as a command with its configuration, or why they are refused. The
+//! contract of `settings` states the exact result in both cases.
 //!
 //! Open specs/Settings.antt first, and src/words.rt. It stands on thy_base, and on `clap`; on it stands thy_cli.
 #![tactic(auto)]

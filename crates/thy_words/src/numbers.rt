@@ -1,4 +1,4 @@
-//! Numbers and lists of numbers as words write them.
+//! How numbers and lists of numbers are written in arguments.
 ghost use Rattle.std.specs.Prelude.{◌≡◌, IfOk};
 ghost use Rattle.std.specs.Char.{is_ascii_digit};
 ghost use Rattle.std.specs.List.{list_all};
@@ -43,7 +43,7 @@ pub(crate) fn is_list(text: &str) -> bool
     text.split(',').all(|piece| is_number(piece))
 }
 
-/// The number that the text writes, or 0 where it writes none.
+/// The number that the text writes, or 0 if it does not write one.
 #[tactic(auto, unfolding(crate::specs::Numbers::number_or_zero))]
 fn number_or_zero(text: &str) -> u64
     ensures { result ≡ number_or_zero text.now }

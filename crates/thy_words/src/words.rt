@@ -1,4 +1,4 @@
-//! What the words ask for.
+//! What the arguments ask for.
 ghost use Rattle.std.specs.Prelude.{◌≡◌, IfOk, map, option_map};
 ghost use Rattle.std.specs.String.{string_bytes};
 ghost use Rattle.clap.specs.Matches.{found_of};
@@ -28,16 +28,16 @@ pub struct Job {
     pub input: Option<String>,
     /// The name on the shelf under which the image that the run leaves is saved, if it is.
     pub save: Option<String>,
-    /// Whether digests of memory are told.
+    /// Whether digests of memory are reported.
     pub digest: bool,
 }
 
-/// A command that the words ask for. A number is at most 4294967295.
+/// A command that the arguments ask for. A number is at most 4294967295.
 #[derive(Debug, Drop)]
 pub enum Command {
     /// Run the program file on a fresh machine.
     Run { file: String, job: Job },
-    /// Run on from what the image has saved.
+    /// Continue from what the image has saved.
     Resume { image: String, job: Job },
     /// Run the program that is made from the number, and sum the run up.
     Bench { number: u64, job: Job },
@@ -47,12 +47,12 @@ pub enum Command {
     Make { number: u64, name: String },
 }
 
-/// Why the words are refused, or were not read.
+/// Why the arguments are refused, or could not be read.
 #[derive(Clone, Copy, Debug)]
 pub enum WordsError {
-    /// They are no command line.
+    /// Invalid usage.
     Usage,
-    /// The first field whose text is no value of it.
+    /// The first field whose text is not a value of it.
     Word(Field),
     /// The first field that is out of range, and the value that is.
     Value(Field, u64),
@@ -60,15 +60,15 @@ pub enum WordsError {
     Memory(AllocError),
 }
 
-/// What the words give for the fields.
+/// What the arguments give for the fields.
 #[derive(Drop)]
 struct Values {
-    /// The number of a made program, or 0 where the words leave it out.
+    /// The number of a made program, or 0 if the arguments leave it out.
     number: u64,
     config: Config,
 }
 
-/// The number of a made program, where it is out of range.
+/// The error for the number of a made program, if that is out of range.
 fn number_fault(number: u64) -> Option<ConfigError>
     ensures { result ≡ number_fault number }
 {
@@ -135,7 +135,7 @@ fn values_in(alloc: Global, matches: &ArgMatches<'_>) -> Result<Values, WordsErr
     }
 }
 
-/// The name that stands for an operand, as a text of the caller's own.
+/// The name that is given for an operand, as a copy.
 fn operand(alloc: Global, matches: &ArgMatches<'_>, name: &str) -> Result<String, AllocError>
     ensures { IfOk result (λ s.
         string_bytes s ≡ operand name.now (rows_of (found_of matches.now))) }
@@ -143,7 +143,7 @@ fn operand(alloc: Global, matches: &ArgMatches<'_>, name: &str) -> Result<String
     String::from_str(alloc, text_of(matches, name).unwrap_or(""))
 }
 
-/// The name that an option gives, if it stands, as a text of the caller's own.
+/// The name that an option gives, if it is given, as a copy.
 fn optional(
     alloc: Global,
     matches: &ArgMatches<'_>,
@@ -217,7 +217,7 @@ fn order_for(alloc: Global, verb: Verb, matches: &ArgMatches<'_>) -> Result<Comm
     }
 }
 
-/// What the words ask for, of the name and what `clap` found behind it.
+/// What the arguments ask for, by the command's name and what `clap` found after it.
 fn order_in(alloc: Global, name: &str, found: &ArgMatches<'_>) -> Result<Command, WordsError>
     ensures { Answers (order_in (name.now, rows_of (found_of found.now))) result }
 {
@@ -227,7 +227,7 @@ fn order_in(alloc: Global, name: &str, found: &ArgMatches<'_>) -> Result<Command
     }
 }
 
-/// What the words ask for, of what `clap` found in them.
+/// What the arguments ask for, by what `clap` found in them.
 fn order(alloc: Global, matches: &ArgMatches<'_>) -> Result<Command, WordsError>
     ensures { Answers (order_named (subcommand_rows_of matches.now)) result }
 {
@@ -237,14 +237,14 @@ fn order(alloc: Global, matches: &ArgMatches<'_>) -> Result<Command, WordsError>
     }
 }
 
-/// Whether `clap` failed for want of memory.
+/// Whether `clap` failed because memory ran out.
 fn is_out_of_memory(kind: ErrorKind) -> bool
     ensures { result ≡ is_out_of_memory kind }
 {
     matches!(kind, ErrorKind::OutOfMemory)
 }
 
-/// The refusal of words that `clap` refuses.
+/// The error for arguments that `clap` refuses.
 fn refused(error: &clap::Error) -> WordsError
     ensures { result ≡ refused (kind_of error.now) }
 {
@@ -255,11 +255,11 @@ fn refused(error: &clap::Error) -> WordsError
     }
 }
 
-/// The command and the configuration that the words ask for, the program's name first.
+/// The command and the configuration that the arguments ask for, the program's name first.
 ///
-/// Words that are no command line are refused as `Usage`. Else the first field whose text is no
-/// value of it is refused as `Word`, and else the first that is out of range as `Value`. The number of
-/// a made program is the first field, those of the configuration follow in their order.
+/// Invalid usage is refused as `Usage`. Else the first field whose text is not a value of it is refused as `Word`, and
+/// else the first that is out of range as `Value`. The number of a made program is the first field, those of the
+/// configuration follow in their order.
 pub fn settings(alloc: Global, words: &[String]) -> Result<Command, WordsError>
     ensures exact { Answers (settings_of (map string_bytes words.now)) result }
     ensures in_range { IfOk result (λ command. IsInRange (order_of command)) }
