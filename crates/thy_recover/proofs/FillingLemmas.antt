@@ -154,7 +154,7 @@ filling_is_lawful = record {
   above = λ p commit slot from k next.
       let at : IsPosition p slot from k = IsPosition-next p slot from k next in
       (position_above p slot from k at, position_inside p slot from k at);
-  fills = λ c n commit slot k lists filled next settled sized. (
+  fills = λ c n commit slot k lists filled next settled sized at. (
     lists_filled slot c n k lists next sized frame_loads,
     fills_to slot c n k lists next sized frame_loads filled,
     refl,
@@ -163,7 +163,7 @@ filling_is_lawful = record {
       inr (record { at = number_of c.p (Frame _ _); block = newest n (page_place c k); left = refl; nvm = refl });
   fill_keeps = λ c commit k block. record { room = refl; most = omega arith; counts = refl };
   same_keeps = λ c. record { room = refl; most = omega arith; counts = refl };
-  ends = λ c n commit slot from lists filled none settled sized is.
+  ends = λ c n commit slot from lists filled none settled sized at is.
       let holds : HoldAll c n = held c n slot from lists none settled is filled in
       (holds, memory_same c n slot from lists none settled is holds);
   drain_p = λ c. refl;
