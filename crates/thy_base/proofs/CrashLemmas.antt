@@ -6,11 +6,11 @@ use Rattle.thy_base.specs.declared.block.Block.{Block}
 use Rattle.thy_base.specs.Device.{Device, Crash, HoldsNoMore, HasFailed, IsFramed, zero_block, block_at, queued_for, applied, possible, cut_to}
 use Rattle.thy_base.proofs.DeviceLemmas.{same_as_only, length-applied, Contains-applied}
 
--- the block that stands is possible
+-- the block that has landed is possible
 pub Contains-stands : (n : Device) (x : ℕ) → Contains (possible n x) (block_at n.image x)
 Contains-stands n x = Contains-append_left (block_at n.image x ∷ []) (queued_for n.queue x) _ (Contains-push [] (block_at n.image x))
 
--- a cut may leave the image as it stands
+-- a cut may leave the image as it is
 pub Crash-image : (n : Device) → Crash n n.image
 Crash-image n = record { same_length = refl; each = Contains-stands n }
 
@@ -18,14 +18,14 @@ Crash-image n = record { same_length = refl; each = Contains-stands n }
 pub Crash-applied : (n : Device) → Crash n (applied n.image n.queue)
 Crash-applied n = record { same_length = length-applied n.image n.queue; each = Contains-applied n.image n.queue }
 
--- what a cut may leave where no place holds more, it might have left before
+-- what a cut may leave if no place holds more, it might have left before
 pub Crash-no_more : {old new : Device} {g : List Block} → HoldsNoMore old new → length new.image ≡ length old.image → Crash new g → Crash old g
 Crash-no_more {old} {new} {g} no_more same c = record {
   same_length = c.same_length ∙ same;
   each = λ x. no_more x (block_at g x) (c.each x);
 }
 
--- and so where a call failed
+-- and the same if a call failed
 pub Crash-failed : {old new : Device} {g : List Block} → HasFailed old new → IsFramed old new → Crash new g → Crash old g
 Crash-failed failed framed c = Crash-no_more failed.no_more framed.blocks c
 
@@ -37,7 +37,7 @@ block_at-settled n g x none c = sym (same_as_only _ _ (subst (λ (q : List Block
 pub same_images : (g h : List Block) → length g ≡ length h → ((x : ℕ) → block_at g x ≡ block_at h x) → g ≡ h
 same_images g h l each = ext_get_or zero_block g h l (λ x _. each x)
 
--- with an empty queue a cut leaves the image as it stands
+-- with an empty queue a cut leaves the image as it is
 pub Crash-of_empty : (n : Device) (g : List Block) → n.queue ≡ [] → Crash n g → g ≡ n.image
 Crash-of_empty n g e c = same_images g n.image c.same_length
     (λ x. block_at-settled n g x (ap (λ q. queued_for q x) e) c)

@@ -41,7 +41,7 @@ block_at-applied image (w ∷ ws) x l =
 pub same_as_only : (only b : Block) → Contains (only ∷ []) b → only ≡ b
 same_as_only only b h = elim (Contains-push_cases [] only b h) as (λ _. only ≡ b) [ inl none ↦ absurd (omega (arith, none.1)) | inr e ↦ e ]
 
--- the newest is the block that stands, or one of those queued
+-- the newest is the block that has landed, or one of those queued
 pub Contains-newest_over : (block : Block) (ws : List Write) (x : ℕ) → Contains (block ∷ queued_for ws x) (newest_over block ws x)
 Contains-newest_over block [] x = Contains-push [] block
 Contains-newest_over block (w ∷ ws) x =
@@ -60,7 +60,7 @@ Contains-applied image ws x = elim (cases_lt x (length image)) as (λ _. Contain
       rw e (Contains-append_left (block_at image x ∷ []) (queued_for ws x) _ (Contains-push [] (block_at image x)))
 ]
 
--- where the first of two lists of writes has landed, nothing more is possible
+-- if the first of two lists of writes has landed, nothing more is possible
 pub Contains-landed : (image : List Block) (ws vs : List Write) (x : ℕ) (b : Block)
     → Contains (block_at (applied image ws) x ∷ queued_for vs x) b → Contains (block_at image x ∷ queued_for (ws ++ vs) x) b
 Contains-landed image ws vs x b h =
@@ -71,7 +71,7 @@ Contains-landed image ws vs x b h =
       | inr later ↦ Contains-append_right (block_at image x ∷ queued_for ws x) (queued_for vs x) b later
     ])
 
--- where the oldest k writes have landed, nothing more is possible
+-- if the oldest k writes have landed, nothing more is possible
 pub no_more-landed : (k : ℕ) (n : Device) → HoldsNoMore n (landed k n)
 no_more-landed k n x b h =
     subst (λ (q : List Write). Contains (block_at n.image x ∷ queued_for q x) b) (take-append-drop k n.queue)
@@ -121,7 +121,7 @@ no_more-written_to_other n at block x b other h = elim (no_more_but-written_to n
   | inr this ↦ absurd (other this.0)
 ]
 
--- reads are as before where writes have landed
+-- reads are as before if writes have landed
 pub newest-landed : (k : ℕ) (n : Device) (x : ℕ) → x < length n.image → newest (landed k n) x ≡ newest n x
 newest-landed k n x l =
     ap (λ b. newest_over b (drop k n.queue) x) (block_at-applied n.image (take k n.queue) x l)

@@ -1,4 +1,4 @@
--- Places of one device are told apart by their numbers, and those of the NVM lie behind the slots.
+-- Places of one device are distinguished by their numbers, and those of the NVM are after the slots.
 use Rattle.std.proofs.Common.{rules}
 use Rattle.thy_base.specs.Places.{NumbersTellPlaces, PlacesAreBehindSlots}
 

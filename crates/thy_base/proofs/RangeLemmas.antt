@@ -1,4 +1,4 @@
--- A number is in its range exactly where the test says so; so are numbers where the first fault is none.
+-- A number is in its range exactly if the test says so; so are numbers if their first fault is none.
 use Rattle.std.proofs.Common.{◌≡◌, ℕ, ◌%◌, ◌<◌, ◌≤◌, arith, Bool, true, false, ◌&&◌, cond, List, [], ◌∷◌, ◌++◌, Option, Some, None, refl, ap, ◌∙◌, length, ◌+◌, ◌*◌}
 use Rattle.std.proofs.lemmas.Bool.Decides.{nat_tests}
 use Rattle.std.specs.Option.{option_or}
@@ -50,12 +50,12 @@ test_first : (fits : Bool) (a b whole : Option ConfigError) (fault : ConfigError
 test_first true a b whole fault h = h
 test_first false a b whole fault h = refl
 
--- where no row has a fault, each is in its range
+-- if no row has a fault, each is in its range
 pub AreIn-none : (rows : List Row) → fault_in rows ≡ None → AreIn rows
 AreIn-none [] h = tt
 AreIn-none (r ∷ rs) h = let both = none_of _ _ _ h in (in_test r.range r.value both.0, AreIn-none rs both.1)
 
--- and where each is in its range, none has a fault
+-- and if each is in its range, none has a fault
 pub none-AreIn : (rows : List Row) → AreIn rows → fault_in rows ≡ None
 none-AreIn [] h = refl
 none-AreIn (r ∷ rs) h = of_none _ _ _ (test_in r.range r.value h.0) (none-AreIn rs h.1)
@@ -65,7 +65,8 @@ pub fault_in-append : (xs ys : List Row) → fault_in (xs ++ ys) ≡ option_or (
 fault_in-append [] ys = refl
 fault_in-append (x ∷ xs) ys = test_first (is_in x.range x.value) _ _ _ _ (fault_in-append xs ys)
 
--- where they are not too many, the first fault of the cuts is where they rise no more, or else that of their images
+-- if they are not too many, the first fault of the cuts is the place at which they rise no more, or else that of
+-- their images
 pub fault_in-cuts : (c : Config) → length c.cuts ≤ 64
     → fault_in (cut_rows c) ≡ option_or (fault_in (rising_rows 0 c.cuts)) (fault_in (row Cuts (c.pages * (length c.cuts + 1)) (at_most 65536) ∷ []))
 fault_in-cuts c few =
@@ -73,7 +74,7 @@ fault_in-cuts c few =
     (Some (record { field = Cuts; value = length c.cuts }))) (test_in (at_most 64) (length c.cuts) few)
     ∙ fault_in-append (rising_rows 0 c.cuts) (row Cuts (c.pages * (length c.cuts + 1)) (at_most 65536) ∷ [])
 
--- where memory has no fault, the first one is that of the fields behind it
+-- if memory has no fault, the first one is that of the fields after it
 pub fault_of-behind_memory : (c : Config) → fault_in (memory_rows (parameters_of c)) ≡ None
     → fault_of c ≡ option_or (fault_in (table_rows (parameters_of c)))
     (option_or (fault_in (queue_rows (parameters_of c)))

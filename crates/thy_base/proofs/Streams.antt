@@ -4,7 +4,7 @@ use Rattle.std.proofs.lemmas.List.{take-append-drop}
 use Rattle.thy_base.specs.Counts.{Rose}
 use Rattle.thy_base.specs.Outside.{Stream, Grew, Took, TookPart}
 
--- a list that is told grew by what stands behind it now
+-- a known list grew by what is after it now
 pub Grew-some : (had now more : List ℕ) → now ≡ had ++ more → Grew (Some had) (Some now) more
 Grew-some had now more e = λ before same. cc
 

@@ -46,7 +46,7 @@ take-written bytes i s piece l most =
     ∙ ap (take s) (written-left (take s bytes) (drop s bytes) piece i (omega (arith, here)))
     ∙ take_at (written (take s bytes) i piece) (drop s bytes) s (length-written (take s bytes) i piece (omega (arith, here)) ∙ here)
 
--- what stands behind them stays
+-- what is after them stays
 pub drop-written : (bytes : List ℕ) (i s : ℕ) (piece : List ℕ) → i + length piece ≤ s → s ≤ length bytes
     → drop s (written bytes i piece) ≡ drop s bytes
 drop-written bytes i s piece l most =
@@ -55,7 +55,7 @@ drop-written bytes i s piece l most =
     ∙ ap (drop s) (written-left (take s bytes) (drop s bytes) piece i (omega (arith, here)))
     ∙ drop_at (written (take s bytes) i piece) (drop s bytes) s (length-written (take s bytes) i piece (omega (arith, here)) ∙ here)
 
--- a piece written behind the first s bytes leaves those
+-- a piece written after the first s bytes leaves those
 pub take-written_behind : (bytes : List ℕ) (i s : ℕ) (piece : List ℕ) → s ≤ length bytes
     → take s (written bytes (s + i) piece) ≡ take s bytes
 take-written_behind bytes i s piece most =
@@ -64,7 +64,7 @@ take-written_behind bytes i s piece most =
     ∙ ap (take s) (written-right (take s bytes) (drop s bytes) piece s i here)
     ∙ take_at (take s bytes) (written (drop s bytes) i piece) s here
 
--- and is written among what stands behind them
+-- and is written among what is after them
 pub drop-written_behind : (bytes : List ℕ) (i s : ℕ) (piece : List ℕ) → s ≤ length bytes
     → drop s (written bytes (s + i) piece) ≡ written (drop s bytes) i piece
 drop-written_behind bytes i s piece most =
@@ -73,7 +73,7 @@ drop-written_behind bytes i s piece most =
     ∙ ap (drop s) (written-right (take s bytes) (drop s bytes) piece s i here)
     ∙ drop_at (take s bytes) (written (drop s bytes) i piece) s here
 
--- two pieces, one behind the other, are one
+-- two pieces, one after the other, are one
 pub written-written : (bytes : List ℕ) (at : ℕ) (one two : List ℕ) → at + length one ≤ length bytes
     → written (written bytes at one) (at + length one) two ≡ written bytes at (one ++ two)
 written-written bytes at one two l =

@@ -5,7 +5,7 @@ use Rattle.thy_base.specs.declared.block.Block.{Block}
 use Rattle.thy_base.specs.Bytes.{written}
 use Rattle.thy_base.specs.Device.{block_at}
 
--- the 64 bytes of a block: each block that code holds has as many, and any other is seen as if it had
+-- the 64 bytes of a block: the blocks that code holds have 64; any other is filled up with zeros, or cut off
 unfoldable pub block_bytes : Block → List ℕ
 block_bytes block = take 64 (block.0 ++ replicate 64 0)
 

@@ -7,10 +7,10 @@ use Rattle.thy_base.specs.declared.bytes.Bytes.{Bytes}
 abbrev pub bytes_of : Bytes → List ℕ
 bytes_of b = b.items.items
 
--- how many bytes fit before memory has to be taken
+-- how many bytes fit before more has to be allocated
 abbrev pub room_of : Bytes → ℕ
 room_of b = vec_capacity b.items
 
--- a list with a piece written over what stood from `at` on
+-- a list with a piece written over its elements from `at` on
 abbrev pub written : List ℕ → ℕ → List ℕ → List ℕ
 written bytes at piece = take at bytes ++ (piece ++ drop (at + length piece) bytes)

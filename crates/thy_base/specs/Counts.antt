@@ -6,7 +6,7 @@ use Rattle.std.specs.Prelude.{ℕ, ◌+◌, ◌-◌, ◌^◌, ◌≤◌, min}
 abbrev pub next : ℕ → ℕ
 next n = min (n + 1) (2 ^ 64 - 1)
 
--- A count rose. One that stands at the last value stays there.
+-- A count rose. One at its last value saturates there.
 pub record Rose (old new : ℕ) : Type 0 where
   pub no_less : old ≤ new
   pub more : next old ≤ new

@@ -2,7 +2,7 @@
 -- What is asked of something, in order, and the first fault that it has.
 use Rattle.std.specs.Prelude.{Bool, List, [], ◌∷◌, Option, Some, None, if◌then◌else◌}
 
--- a test, and the fault where it fails
+-- a test, and the fault if it fails
 pub record Demand (Fault : Type 0) : Type 0 where
   pub fits : Bool
   pub fault : Fault

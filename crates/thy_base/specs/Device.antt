@@ -15,7 +15,7 @@ zero_block = record { 0 = replicate 64 0 }
 
 -- what a device holds
 pub record Device : Type 0 where
-  -- the blocks that stand
+  -- the blocks that have landed
   pub image : List Block
   -- the writes that have not landed yet, oldest first
   pub queue : List Write
@@ -31,7 +31,7 @@ pub record Device : Type 0 where
   pub down : Bool
   -- how many calls have failed
   pub faults : ℕ
-  -- how many times it was fitted, whatever came of it, but that one which was refused memory may not count; it stands at its last value
+  -- how many times it was fitted, successfully or not; a fit that was out of memory may not count; the count saturates
   pub fits : ℕ
   -- the names of the loans through which it is reached, the outermost first
   pub lent : List GName
@@ -49,7 +49,7 @@ abbrev pub queued_for : List Write → ℕ → List Block
 queued_for [] x = []
 queued_for (w ∷ ws) x = if w.at == x then w.block ∷ queued_for ws x else queued_for ws x
 
--- the newest block queued for a place, or this one where there is none
+-- the newest block queued for a place, or this one if there is none
 abbrev pub newest_over : Block → List Write → ℕ → Block
 newest_over block [] x = block
 newest_over block (w ∷ ws) x = newest_over (if w.at == x then w.block else block) ws x
@@ -143,7 +143,7 @@ pub record IsFramed (old new : Device) : Type 0 where
 abbrev pub HoldsNoMore : Device → Device → Type 0
 HoldsNoMore old new = (x : ℕ) (b : Block) → Contains (possible new x) b → Contains (possible old x) b
 
--- the same, but that one place may hold this block
+-- the same, except that one place may hold this block
 abbrev pub HoldsNoMoreBut : ℕ → Block → Device → Device → Type 0
 HoldsNoMoreBut at block old new =
     (x : ℕ) (b : Block) → Contains (possible new x) b → Contains (possible old x) b ⊎ ((x ≡ at) × (b ≡ block))
@@ -158,15 +158,16 @@ pub record HasFailedToWrite (at : ℕ) (block : Block) (old new : Device) : Type
   pub down : new.down ≡ true
   pub no_more : HoldsNoMoreBut at block old new
 
--- the count stays where a call succeeds, and rose where it fails
+-- the count stays if a call succeeds, and rose if it fails
 abbrev pub CountsFault : {T E : Type 0} → Result T E → ℕ → ℕ → Type 0
 CountsFault result old new = MatchResult result (λ _. new ≡ old) (λ _. Rose old new)
 
--- the count of writes has one more where a write succeeds, and stays where it fails
+-- the count of writes has one more if a write succeeds, and stays if it fails
 abbrev pub CountsWrite : {T E : Type 0} → Result T E → ℕ → ℕ → Type 0
 CountsWrite result old new = MatchResult result (λ _. new ≡ next old) (λ _. new ≡ old)
 
--- after a fit that failed: it was counted; where memory was refused nothing has changed, but that it may have been counted
+-- after a fit that failed: it was counted; if it was out of memory nothing has changed, except that it may have been
+-- counted
 abbrev pub HasFailedToFit : FitError → Device → Device → Type 0
 HasFailedToFit Failed old new =
     HasFailed old new × IsFramed (record old { fits = next old.fits }) new × Rose old.faults new.faults

@@ -6,7 +6,7 @@ use Rattle.thy_base.specs.declared.config.Parameters.{Parameters}
 use Rattle.thy_base.specs.declared.config.Field.TheVariants.{Base, Pages, Console, Epoch, Btt, Ptt, Sets, Ways, Nvmq, Dramq, High, Low, Limit, Harts}
 use Rattle.thy_base.specs.Ranges.{Row, row, AreIn, below, at_most, between, multiple_of, divisor_of, both}
 
--- a configuration without its lists, and without the gap, which is no number of the machine
+-- a configuration without its lists, and without the gap, which is not a number of the machine
 abbrev pub parameters_of : Config → Parameters
 parameters_of c = record {
   base = c.base;
@@ -27,7 +27,7 @@ parameters_of c = record {
   harts = c.harts;
 }
 
--- memory: where it is, and how many pages
+-- memory: its first address, and how many pages it has
 abbrev pub memory_rows : Parameters → List Row
 memory_rows p =
     row Base p.base (both (multiple_of 4096) (below (2 ^ 62)))
@@ -63,7 +63,7 @@ limit_row p = row Limit p.limit (between 1 (10 ^ 12))
 abbrev pub harts_row : Parameters → Row
 harts_row p = row Harts p.harts (between 1 1)
 
--- The numbers that stand before the lists, each with its range. The seed of the schedule may be any.
+-- The numbers that come before the lists, each with its range. The seed of the schedule may be any.
 abbrev pub number_rows : Parameters → List Row
 number_rows p = memory_rows p ++ table_rows p ++ queue_rows p ++ threshold_rows p
 

@@ -1,5 +1,5 @@
 -- Part of the claim.
--- Checkpoints, as they are told of.
+-- Checkpoints, as views and events name them.
 use Rattle.std.specs.Prelude.{ℕ}
 use Rattle.thy_base.specs.declared.mark.Mark.{Mark}
 

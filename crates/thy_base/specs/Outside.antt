@@ -8,12 +8,12 @@ use Rattle.thy_base.specs.declared.outside.PutError.{PutError}
 use Rattle.thy_base.specs.declared.outside.PutError.TheVariants.{Failed as PutFailed, Memory as PutMemory}
 use Rattle.thy_base.specs.Counts.{Rose}
 
--- A sink: the bytes that it took so far, where it tells them, and its count of faults.
+-- A sink: the bytes that it took so far, if they are known, and its count of faults.
 pub record Stream : Type 0 where
   pub taken : Option (List ℕ)
   pub faults : ℕ
 
--- where a sink tells what it took, these bytes came behind those that it had
+-- if it is known what a sink took, these bytes were added after those that it took before
 abbrev pub Grew : Option (List ℕ) → Option (List ℕ) → List ℕ → Type 0
 Grew old new bytes = (had : List ℕ) → old ≡ Some had → new ≡ Some (had ++ bytes)
 
@@ -30,11 +30,11 @@ pub record TookPart (old new : Stream) (bytes : List ℕ) : Type 0 where
   pub taken : Grew old.taken new.taken part
   pub rose : Rose old.faults new.faults
 
--- the bytes that stand under each name, if any do
+-- the bytes under each name, if there are any
 abbrev pub Files : Type 0
 Files = List ℕ → Option (List ℕ)
 
--- A shelf: what stands on it, and the names under which calls failed, in order, where it tells these; and its count of
+-- A shelf: what it holds, and the names under which calls failed, in order, if these are known; and its count of
 -- faults.
 pub record Stock : Type 0 where
   pub held : Option Files
@@ -46,7 +46,7 @@ pub record HasNotFailed (old new : Stock) : Type 0 where
   pub faults : new.faults ≡ old.faults
   pub failed : new.failed ≡ old.failed
 
--- where a shelf tells under which names calls failed, this name came behind those that it had
+-- if it is known under which names calls failed, this name was added after those before
 abbrev pub Noted : List ℕ → Option (List (List ℕ)) → Option (List (List ℕ)) → Type 0
 Noted name old new = (names : List (List ℕ)) → old ≡ Some names → new ≡ Some (names ++ name ∷ [])
 
@@ -59,7 +59,7 @@ pub record HasFailedUnder (name : List ℕ) (old new : Stock) : Type 0 where
 abbrev pub MayHaveFailed : List ℕ → Stock → Stock → Type 0
 MayHaveFailed name old new = HasNotFailed old new ⊎ HasFailedUnder name old new
 
--- A fetch by what stands under the name: these bytes within the limit, or nothing, or bytes past the limit.
+-- A fetch by what is held under the name: these bytes within the limit, or nothing, or bytes past the limit.
 abbrev pub Fetched : Option (List ℕ) → ℕ → Result (Vec ℕ Global) FetchError → Type 0
 Fetched there limit (Ok bytes) = (there ≡ Some bytes.items) × (length bytes.items ≤ limit)
 Fetched there limit (Err NotThere) = there ≡ None
@@ -67,9 +67,9 @@ Fetched there limit (Err TooLong) = (bytes : List ℕ) × (there ≡ Some bytes)
 Fetched there limit (Err Failed) = Unit {0}
 Fetched there limit (Err (Memory e)) = Unit {0}
 
--- Whether a fetch under this name failed: where the answer is Failed, and not where it gave bytes. Where nothing is there
--- or too much, it failed on a shelf that does not tell what it holds, and not on one that does. Where memory was short it
--- may have failed.
+-- Whether a fetch under this name failed: if the result is Failed, and not if it gave bytes. If nothing is there or too
+-- much, it failed if it is not known what the shelf holds, and else not. If it was out of memory, it may have
+-- failed.
 abbrev pub FetchCounts : List ℕ → Stock → Stock → Result (Vec ℕ Global) FetchError → Type 0
 FetchCounts name old new (Ok bytes) = HasNotFailed old new
 FetchCounts name old new (Err Failed) = HasFailedUnder name old new
@@ -77,12 +77,12 @@ FetchCounts name old new (Err NotThere) = MatchOption old.held (HasFailedUnder n
 FetchCounts name old new (Err TooLong) = MatchOption old.held (HasFailedUnder name old new) (λ _. HasNotFailed old new)
 FetchCounts name old new (Err (Memory e)) = MayHaveFailed name old new
 
--- where a shelf tells, it goes on telling, and every other name has what it had
+-- if it is known what a shelf holds, it is so afterwards, and every other name has what it had before
 abbrev pub KeepsOthers : Stock → Stock → List ℕ → Type 0
 KeepsOthers old new name = (files : Files) → old.held ≡ Some files
     → (after : Files) × (new.held ≡ Some after) × ((other : List ℕ) → other ≢ name → after other ≡ files other)
 
--- where a shelf tells, this name has these bytes
+-- if it is known what a shelf holds, this name has these bytes
 abbrev pub Holds : Stock → List ℕ → List ℕ → Type 0
 Holds stock name bytes = (files : Files) → stock.held ≡ Some files → files name ≡ Some bytes
 

@@ -1,6 +1,6 @@
 -- Part of the claim.
 -- The places of both devices, and the numbers of the blocks that they have. The NVM has the header (block 0), the
--- commit block (block 1), two slots, and behind them the places of memory's blocks.
+-- commit block (block 1), two slots, and after them the places of memory's blocks.
 use Rattle.std.specs.Prelude.{◌≡◌, ℕ, ◌+◌, ◌*◌, ◌/◌, ◌<◌, ◌≤◌, Bool, true, false}
 use Rattle.thy_base.specs.declared.config.Parameters.{Parameters}
 use Rattle.thy_base.specs.declared.place.Place.{Place}
@@ -19,7 +19,7 @@ slot_blocks p = record_blocks p + p.btt / 8 + p.ptt / 8
 abbrev pub slot_place : Parameters → ℕ → ℕ
 slot_place p s = 2 + s * slot_blocks p
 
--- where the homes of memory's blocks begin, and behind them the alternate blocks, and the alternate pages
+-- the first of the homes of memory's blocks; after them come the alternate blocks, and then the alternate pages
 abbrev pub first_home : Parameters → ℕ
 first_home p = 2 + 2 * slot_blocks p
 
@@ -33,7 +33,7 @@ first_alternate_page p = first_alternate_block p + p.btt
 abbrev pub image_blocks : Parameters → ℕ
 image_blocks p = first_alternate_page p + 64 * p.ptt
 
--- how many blocks the DRAM has: the buffers, and behind them the frames
+-- how many blocks the DRAM has: the buffers, and after them the frames
 abbrev pub dram_blocks : Parameters → ℕ
 dram_blocks p = p.btt + 64 * p.ptt
 
@@ -67,7 +67,7 @@ NumbersTellPlaces =
     (p : Parameters) (x y : Place) → IsPlace p x → IsPlace p y
     → in_dram x ≡ in_dram y → number_of p x ≡ number_of p y → x ≡ y
 
--- a place of the NVM lies behind header, commit block and both slots, and within the image
+-- a place of the NVM is after header, commit block and both slots, and within the image
 abbrev pub PlacesAreBehindSlots : Type 0
 PlacesAreBehindSlots =
     (p : Parameters) (x : Place) → IsPlace p x → in_dram x ≡ false
@@ -77,7 +77,7 @@ PlacesAreBehindSlots =
 abbrev pub PlacesAreInDram : Type 0
 PlacesAreInDram = (p : Parameters) (x : Place) → IsPlace p x → in_dram x ≡ true → number_of p x < dram_blocks p
 
--- slot 0 lies behind the commit block, slot 1 behind slot 0, and the homes behind slot 1
+-- slot 0 follows the commit block, slot 1 follows slot 0, and the homes follow slot 1
 pub record SlotsFollow (p : Parameters) : Type 0 where
   pub first : slot_place p 0 ≡ 2
   pub second : slot_place p 1 ≡ slot_place p 0 + slot_blocks p

@@ -1,11 +1,11 @@
 -- Part of the claim.
--- What a store of blocks and the device behind it are together, and what a store of a block makes of them.
+-- What a store of blocks and the device below it are together, and what a store of a block makes of them.
 use Rattle.std.specs.Prelude.{◌≡◌, ◌⊎◌, ℕ, ◌+◌, ◌-◌, ◌/◌, ◌^◌, ◌≤◌, Bool, true, List, slice_set, Option, Some, None}
 use Rattle.thy_base.specs.declared.block.Block.{Block}
 use Rattle.thy_base.specs.declared.store.Stored.{Stored}
 use Rattle.thy_base.specs.declared.store.Stored.TheVariants.{Done, CopyFirst}
 
--- what a store and the device behind it hold together
+-- what a store and the device below it hold together
 pub record Holding : Type 0 where
   -- what a load of each block gives
   pub blocks : List Block
@@ -39,11 +39,11 @@ pub record IsStored (b : ℕ) (block : Block) (old new : Holding) : Type 0 where
   pub blocks : new.blocks ≡ slice_set old.blocks b block
   pub free : old.free ≤ new.free + 1
   pub ready : new.ready ≡ old.ready
-  -- where no other page was open none is any more, and no more is owed
+  -- if no other page was open none is any more, and no more is owed
   pub closed : IsOpenFor b old.open_page → new.open_page ≡ None
   pub owed : IsOpenFor b old.open_page → new.owed ≤ old.owed
 
--- a copy went first: no block has changed, no room is taken, and the block's page may be open
+-- a copy came first: no block has changed, no room is taken, and the block's page may be open
 pub record IsCopiedFirst (b : ℕ) (old new : Holding) : Type 0 where
   pub blocks : new.blocks ≡ old.blocks
   pub free : old.free ≤ new.free
@@ -52,7 +52,7 @@ pub record IsCopiedFirst (b : ℕ) (old new : Holding) : Type 0 where
   -- one copy less is owed
   pub owed : IsOpenFor b old.open_page → new.owed + 1 ≤ old.owed
 
--- what a store of a block that succeeds leaves, by its answer
+-- what a store of a block that succeeds leaves, by its result
 abbrev pub HasStored : Stored → ℕ → Block → Holding → Holding → Type 0
 HasStored Done b block old new = IsStored b block old new
 HasStored CopyFirst b block old new = IsCopiedFirst b old new

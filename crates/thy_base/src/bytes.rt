@@ -5,14 +5,14 @@ ghost use Rattle.thy_base.specs.Bytes.{bytes_of, room_of, written};
 use std::alloc::{AllocError, Global};
 
 /// A list of bytes in memory. `bytes_of` is the list, and `room_of` how many bytes it can hold
-/// before it has to take memory.
+/// before it has to allocate.
 #[derive(Debug, Drop)]
 pub struct Bytes {
     items: Vec<u8>,
 }
 
 impl Bytes {
-    /// No bytes. Takes no memory.
+    /// No bytes. Allocates nothing.
     pub fn new(alloc: Global) -> Bytes
         ensures { bytes_of result ≡ [] }
     {
@@ -30,7 +30,7 @@ impl Bytes {
         Ok(Bytes { items })
     }
 
-    /// The bytes of a vector, with its room. Takes no memory.
+    /// The bytes of a vector, with its room. Allocates nothing.
     pub fn from_vec(items: Vec<u8>) -> Bytes
         ensures bytes { bytes_of result ≡ items.items }
         ensures room { room_of result ≡ vec_capacity items }
@@ -85,7 +85,7 @@ impl Bytes {
         put_in(&mut self.items, at, piece);
     }
 
-    /// Adds a piece at the end. Takes memory only where the room does not suffice, and gives none up.
+    /// Adds a piece at the end. Allocates only if there is not enough room, and frees none.
     pub fn extend(&mut self, piece: &[u8]) -> Result<(), AllocError>
         ensures ok { OnOk result (bytes_of self.new ≡ bytes_of self.old ++ piece.now) }
         ensures err { OnErr result (bytes_of self.new ≡ bytes_of self.old) }

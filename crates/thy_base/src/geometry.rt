@@ -35,7 +35,7 @@ impl Geometry {
     pub fn new(config: &Config) -> Result<Geometry, ConfigError>
         ensures geometry { result ≡ geometry_of config.now }
 
-        // So it is one exactly where each field is in its range.
+        // So there is a geometry exactly if each field is in its range.
         ensures in_range { (result ≡ Ok (parameters_of config.now)) ↔ AreIn (rows_of config.now) }
     {
         match first_fault(config) {

@@ -1,10 +1,10 @@
-//! What every other crate stands on: blocks, bytes, the configuration and its sizes, the numbers drawn for schedules,
-//! and the traits of the outside world. Callers rest on `Geometry::new`, which gives a geometry exactly where each
-//! field is in its range, and on the clauses of `Nvm`, `Shelf`, `Sink` and `BlockStore`, all that is known of what is
-//! behind them.
+//! What every other crate depends on: blocks, bytes, the configuration and its sizes, the numbers drawn for schedules,
+//! and the traits of the outside world. Callers rely on `Geometry::new`, which gives a geometry exactly if each
+//! field is in its range, and on the clauses of `Nvm`, `Shelf`, `Sink` and `BlockStore`, all that is known of their
+//! implementations.
 //!
-//! Open specs/Device.antt and src/nvm.rt first, then specs/Geometry.antt. It stands on no crate of this repository;
-//! every other stands on it.
+//! Open specs/Device.antt and src/nvm.rt first, then specs/Geometry.antt. It depends on no crate of this repository;
+//! every other depends on it.
 #![tactic(auto)]
 
 mod block;

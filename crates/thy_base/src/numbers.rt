@@ -16,7 +16,7 @@ impl Model for Numbers {
 }
 
 impl Numbers {
-    /// The numbers of a vector. Takes no memory.
+    /// The numbers of a vector. Allocates nothing.
     pub fn from_vec(items: Vec<u64>) -> Numbers
         ensures { result ≡ items.items }
     {

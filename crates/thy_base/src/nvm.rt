@@ -36,18 +36,18 @@ pub enum NvmError {
 pub enum FitError {
     /// The device failed.
     Failed,
-    /// There was not enough memory. The device is as it was, but that the call may have been counted.
+    /// There was not enough memory. The device is as it was, except that the call may have been counted.
     Memory(AllocError),
 }
 
 /// A block device. A write is queued first, and lands later: by `drain`, by `barrier`, or because
-/// the queue was full. A cut of power leaves at each place the block that stood there or any one
+/// the queue was full. A cut of power leaves at each place the block that had landed there or any one
 /// that was queued for it, each place by itself.
 ///
-/// Only `fit` takes memory, also for what the cuts to come keep. Every `fit` counts, but that one which is
-/// refused memory may not. A call that fails counts a fault, unless it was refused memory, and leaves the device
+/// Only `fit` allocates, also for what the cuts to come keep. Every `fit` counts, except that one which is
+/// out of memory may not. A call that fails counts a fault, unless it was out of memory, and leaves the device
 /// down until it is fitted again or its power is cut. Writes that succeed are counted since the last fit. All these
-/// counts stand still at the last value of a `u64`.
+/// counts saturate at the last value of a `u64`.
 pub trait Nvm {
     /// What the device holds.
     ghost device: { Self → Device };
@@ -56,7 +56,7 @@ pub trait Nvm {
     ghost writes: { Self → ℕ };
 
     /// Makes the device anew: the blocks of `start` and then zeros, an empty queue, no kept images and
-    /// picks, and no writes. The call is counted, also if it fails; only one that is refused memory may go uncounted.
+    /// picks, and no writes. The call is counted, also if it fails; only one that is out of memory may go uncounted.
     fn fit(&mut self, alloc: Global, shape: &Shape, start: &[Block]) -> Result<(), FitError>
         requires blocks { 0 < shape.now.blocks }
         requires queue { 0 < shape.now.queue }
@@ -75,7 +75,7 @@ pub trait Nvm {
     fn writes(&self) -> u64
         ensures { result ≡ writes self.now };
 
-    /// The newest block queued for a place, else the one that stands there.
+    /// The newest block queued for a place, else the one that has landed there.
     fn read(&mut self, at: u64) -> Result<Block, NvmError>
         requires { at < length (device self.old).image }
         ensures ok { IfOk result (λ block. block ≡ newest (device self.old) at) }
@@ -85,7 +85,7 @@ pub trait Nvm {
         ensures cause { CountsFault result (device self.old).faults (device self.new).faults }
         ensures same_writes { writes self.new ≡ writes self.old };
 
-    /// Queues a block for a place. Where the queue is full, its oldest write lands first.
+    /// Queues a block for a place. If the queue is full, its oldest write lands first.
     fn write(&mut self, at: u64, block: &Block) -> Result<(), NvmError>
         requires place { at < length (device self.old).image }
         requires up { (device self.old).down ≡ false }
@@ -128,8 +128,8 @@ pub trait Nvm {
         ensures { result ≡ block_at (slice_index_or (device self.now).left i []) at };
 }
 
-/// A device that is lent. What it holds has the name of the loan, which every call keeps: so whoever lends it
-/// knows after any calls that what they left stands in the device that was lent.
+/// A device that is lent. Every call keeps the name of the loan: so the lender knows after any calls that what they
+/// left is in the device that was lent.
 impl<N: Nvm> Nvm for &mut N {
     ghost use Rattle.thy_base.specs.Device.{lent_by};
 

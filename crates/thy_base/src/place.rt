@@ -1,11 +1,12 @@
 //! The places of both devices.
 
-/// Where a block of memory stands: in the NVM (the first three) or in the DRAM. `Geometry::number` gives the
+/// The place of a block of memory: in the NVM (the first three) or in the DRAM. `Geometry::number` gives the
 /// number of its block in that device. A block is one of memory, in blocks of 64 bytes from its start on, or,
-/// beside an entry of the page table, one of a page's 64. An entry is one of the block table or of the page table.
+/// if given with an entry of the page table, one of a page's 64. An entry is one of the block table or of the page
+/// table.
 #[derive(Clone, Copy, Debug, PartialEq, Eq)]
 pub enum Place {
-    /// Where a block of memory stands unless a table lists it.
+    /// The place of a block of memory that no table lists.
     Home { block: u64 },
     /// The other place of the block that this entry of the block table lists.
     AlternateBlock { entry: usize },

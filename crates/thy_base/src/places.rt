@@ -52,7 +52,7 @@ impl Geometry {
         2 + s * self.slot_blocks()
     }
 
-    /// Where block `b` of memory stands in the NVM unless a table lists it.
+    /// The place in the NVM of block `b` of memory, if no table lists it.
     pub fn home(&self, b: u64) -> u64
         requires { b < memory_blocks self.now }
         ensures place { result ≡ number_of self.now (AtHome b) }
@@ -122,7 +122,7 @@ pub fn numbers_tell_places()
     ensures { NumbersTellPlaces }
 {}
 
-/// A place of the NVM lies behind the header, the commit block and both slots, and within the image.
+/// A place of the NVM is after the header, the commit block and both slots, and within the image.
 pub fn places_are_behind_slots()
     ensures { PlacesAreBehindSlots }
 {}
@@ -132,7 +132,7 @@ pub fn places_are_in_dram()
     ensures { PlacesAreInDram }
 {}
 
-/// The slots, and the homes behind them, follow one upon the other behind the commit block.
+/// The slots follow the commit block one after the other, and the homes follow them.
 pub fn slots_are_apart()
     ensures { SlotsAreApart }
 {}

@@ -1,4 +1,4 @@
-//! Where blocks are kept: what a cache loads from and stores to.
+//! Stores of blocks: what a cache loads from and stores to.
 ghost use Rattle.std.specs.Prelude.{◌≡◌, ◌<◌, true, length, IfOk, OnOk};
 ghost use Rattle.thy_base.specs.Device.{block_at, CountsFault};
 ghost use Rattle.thy_base.specs.Store.{Holding, IsKeptByLoad, HasStored};
@@ -10,20 +10,20 @@ use crate::{Block, NvmError};
 pub enum Stored {
     /// The block was stored.
     Done,
-    /// A copy that had to go first was made in its place. The block was not stored: store it again.
+    /// A copy that had to come first was made in its place. The block was not stored: store it again.
     CopyFirst,
 }
 
-/// A list of blocks that lies in a store and in the device `N` behind it.
+/// A list of blocks that is held by a store and the device `N` below it.
 ///
-/// A call answers `NvmError` only where it raised the count of faults. Whatever it answers, `once`
+/// A call returns `NvmError` only if it raised the count of faults. Whatever it returns, `once`
 /// holds from before it to after it, and so does `stays`.
 pub trait BlockStore<N> {
     /// What the store and the device hold together.
     ghost holding: { Self → N → Holding };
 
     /// From a store and a device before one load or one store to those after it, one that fails too.
-    /// It need hold neither where no call is made nor over two: who promises it has made one call.
+    /// It need not hold if no call is made, nor over two calls: it shows that one call was made.
     ghost once: { Self → N → Self → N → Type 0 };
 
     /// From a store and a device before one load to those after it, one that fails too.
@@ -43,7 +43,7 @@ pub trait BlockStore<N> {
         ensures once { once self.old nvm.old self.new nvm.new }
         ensures cause { CountsFault result (holding self.old nvm.old).faults (holding self.new nvm.new).faults };
 
-    /// Stores block `b`, or makes the copy that has to go first.
+    /// Stores block `b`, or makes the copy that has to come first.
     fn store(&mut self, b: u64, block: &Block, nvm: &mut N) -> Result<Stored, NvmError>
         requires inside { b < length (holding self.old nvm.old).blocks }
         requires ready { (holding self.old nvm.old).ready ≡ true }
@@ -55,14 +55,14 @@ pub trait BlockStore<N> {
     /// What stays does so over one call.
     ghost once_stays: { (a : Self) (m : N) (b : Self) (n : N) → once a m b n → stays a m b n };
 
-    /// What stays is as it was where nothing happens.
+    /// What stays is as it was if nothing happens.
     ghost stays_same: { (store : Self) (nvm : N) → stays store nvm store nvm };
 
     /// What stays from one moment to the next stays over both.
     ghost stays_on: { (a : Self) (m : N) (b : Self) (n : N) (c : Self) (o : N) → stays a m b n → stays b n c o → stays a m c o };
 }
 
-/// A plain list of blocks, with nothing behind it. Every store is done, and no call fails.
+/// A plain list of blocks, with no device below it. Every store is done, and no call fails.
 impl BlockStore<()> for Vec<Block> {
     ghost use Rattle.thy_base.specs.Store.{flat_list, ChangesOne};
 

@@ -78,7 +78,7 @@ module _ {C : Type 0} (F : FillingOf C) (laws : IsFilling F) where
     by_stage (Loads issue) done l = let both : None ≡ Some mark = done in absurd (cc)
     by_stage (Over end) done l = absurd l
 
-  -- a read is asked for by a step of the boot; a refusal that comes again is no read, and does not fail
+  -- a read is asked for by a step of the boot; a refusal that comes again is not a read, and does not fail
   read_asks : (b : Booting) (c : C) (r : ReadStage) (n m : Device) → FailsTo (read_action F b c r) n m → IsBootAction (read_action F b c r)
   read_asks b c Unread n m f = tt
   read_asks b c ReadsHeader n m f = tt

@@ -1,4 +1,4 @@
--- A boot that reads: what it finds, what it shows, and where it ends.
+-- A boot that reads: what it finds, what it shows, and its end.
 use Rattle.std.proofs.Common.{◌≡◌, ℕ, List, Option, Some, None, refl, sym, ◌∙◌, ap, subst, inl, arith}
 use Rattle.thy_base.specs.declared.block.Block.{Block}
 use Rattle.thy_base.specs.declared.config.Parameters.{Parameters}
@@ -148,7 +148,7 @@ module _ {C : Type 0} (F : FillingOf C) (laws : IsFilling F) where
       ∙ sym (finding_view-told o (layout_for F o) g.before g.kept o.start.count k.told)
       ∙ ap (λ (h : List Block). view_of_image o.start.count (decode_by (layout_for F o) h)) rec.before_is
 
-  -- ---- where it ends
+  -- ---- its end
 
   pub restored_is_kept : RestoredIsKept F
   restored_is_kept o g n b c sound is =

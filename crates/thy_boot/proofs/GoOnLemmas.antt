@@ -1,4 +1,4 @@
--- A boot of a run begins, and goes on step by step.
+-- A boot of a run begins, and continues step by step.
 use Rattle.std.proofs.Common.{◌≡◌, ℕ, ◌+◌, ◌<◌, nat_lt, Bool, true, false, if◌then◌else◌, List, length, refl, sym, ◌∙◌, ap, subst}
 use Rattle.std.proofs.lemmas.Bool.{ltb-true}
 use Rattle.thy_base.specs.declared.block.Block.{Block}
@@ -83,7 +83,7 @@ module _ {C : Type 0} (F : FillingOf C) (laws : IsFilling F) where
     }
     by_stage (Over end) at k going = absurd going
 
-  -- a step behind a step
+  -- a step after a step
   pub may_go_on : MayGoOn F
   may_go_on s n b c m d e start up can steps going = by_stage b.stage can steps where
     -- what may be read or loaded next, by the stage

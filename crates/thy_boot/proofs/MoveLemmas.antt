@@ -28,7 +28,7 @@ use Rattle.thy_boot.specs.Laws.{standing_after_fault}
 use Rattle.thy_boot.proofs.LoadLemmas.{first-checkpoint}
 use Rattle.thy_boot.proofs.WrittenLemmas.{place_in, behind, AreIssued-written, StandsAt}
 
--- where there is no checkpoint, the commit block alone tells that
+-- if there is no checkpoint, the commit block alone determines that
 alone : (l : Layout) (before : List Block) (x : ℕ) → decode_by l before ≡ Nothing → x ≢ 1 → ¬ Contains (1 ∷ looked_by l before) x
 alone l before x nothing other inside =
     let only : Contains (1 ∷ 1 ∷ []) x
@@ -134,7 +134,7 @@ module _ {C : Type 0} (F : FillingOf C) (laws : IsFilling F) (o : Origin) (start
     made_on Commit made w = made
     made_on Confirm made w = made
 
-    -- what stands at a stage of loading, or behind it, makes a boot of the run
+    -- what holds at a stage of loading, or after it, makes a boot of the run
     pub sound_at : (b : Booting) (c : C) (h : BootImages) (m : Device) → F.fresh c → h.kept ≡ None → (q : Stage)
         → StandsAt l.image_blocks f placed once q m → MadeAt q h.next → IsSoundAt F o q h m b c
     sound_at b c h m fresh none (Reads r) stands made = absurd stands

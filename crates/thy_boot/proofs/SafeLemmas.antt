@@ -1,4 +1,4 @@
--- Whatever a cut leaves of a boot is safe, behind a step that failed too.
+-- Whatever a cut leaves of a boot is safe, also after a step that failed.
 use Rattle.std.proofs.Common.{◌≡◌, ◌≢◌, ℕ, ◌+◌, ◌==◌, ◌||◌, Bool, false, if◌then◌else◌, Option, Some, None, refl, sym, ap, subst}
 use Rattle.std.proofs.lemmas.Bool.{ne_eqb}
 use Rattle.thy_base.specs.declared.config.Parameters.{Parameters}
@@ -33,7 +33,7 @@ use Rattle.thy_boot.specs.Laws.{SoundIsSafe, IsGoing, standing_after_fault, Fail
 use Rattle.thy_boot.proofs.FoundLemmas.{reading_of}
 use Rattle.thy_boot.proofs.MoveLemmas.{load_fails, home_elsewhere, slot_elsewhere}
 
--- by how far loading is, the images that a cut may leave behind a failure
+-- by the stage of loading, the images that a cut may leave after a failure
 abbrev failed_saved : Issue → BootImages → Saved
 failed_saved Commit g = InDoubt g.before g.next
 failed_saved issue g = saved_loading issue g
@@ -46,7 +46,7 @@ failed_is o g m Settle = refl
 failed_is o g m Commit = refl
 failed_is o g m Confirm = refl
 
--- a write elsewhere is no commit block's
+-- a write elsewhere is not a commit block's
 elsewhere : (o : Origin) (x : ℕ) → x ≢ 1 → None ≡ (if (x == 1) || false then Some (start_mark o) else None)
 elsewhere o x other = sym (ap (λ (b : Bool). if b || false then Some (start_mark o) else None) (ne_eqb x 1 other))
 
@@ -91,7 +91,7 @@ module _ {C : Type 0} (F : FillingOf C) (laws : IsFilling F) where
   fails_read o g n m failed framed =
       Goes (Kept g.before) g.kept (sealed_by o g.kept) n m (Spares-failed (guarded (looked_by (layout_for F o)) (Kept g.before)) n m failed framed)
 
-  -- a read is no commit block's write
+  -- a read is not a commit block's write
   reads_no_commit : (b : Booting) (c : C) (r : ReadStage) → is_commit_write (read_action F b c r) ≡ false
   reads_no_commit b c Unread = refl
   reads_no_commit b c ReadsHeader = refl
@@ -107,7 +107,7 @@ module _ {C : Type 0} (F : FillingOf C) (laws : IsFilling F) where
   read_failed b c (Fills k) n m f = f
   read_failed b c (Refusing bad) n m f = absurd f
 
-  -- so behind one what is kept is safe
+  -- so after one what is kept is safe
   seen_safe : (o : Origin) (m : Device) (a : Action) (kept : Option Mark) → is_commit_write a ≡ false → Safe (reading F.layouts) o kept None m
       → Safe (reading F.layouts) o (finding_view o.start.count kept).done (doubt_after_fault a (finding_view o.start.count kept)) m
   seen_safe o m a None spared safe =
@@ -133,7 +133,7 @@ module _ {C : Type 0} (F : FillingOf C) (laws : IsFilling F) where
     abbrev f : First
     f = first_of F o
 
-    -- the mark in doubt then is the start's where the action was its commit block's write, or came after it
+    -- the mark in doubt then is the start's if the action was its commit block's write, or came after it
     loading_doubt : (issue : Issue) → IsIssue f issue → doubt_in (failed_saved issue g) (Some (start_mark o))
         ≡ doubt_after_fault (issue_action f issue) (record (loading_view o.start.count) { written = is_written issue })
     loading_doubt (Home b) inside = elsewhere o _ (home_elsewhere F laws o starts b inside)

@@ -13,7 +13,7 @@ use Rattle.thy_boot.specs.Boot.{Booting, layout_in, slot_read}
 use Rattle.thy_boot.specs.Filling.{FillingOf}
 use Rattle.thy_boot.specs.Recovers.{HasCommit, HasSlot}
 
--- what stands below what was written
+-- what is below what was written
 take_below : (xs ys : List ℕ) (a n b : ℕ) → a + n ≤ b → b ≤ length xs → take n (drop a (take b xs ++ ys)) ≡ take n (drop a xs)
 take_below xs ys a n b l inside =
     let size : length (take b xs) ≡ b = length-take b xs ∙ omega (arith, inside) in
@@ -44,7 +44,7 @@ HasSlot-more l g commit k slot block room size is h = record {
   ];
 }
 
--- the first blocks of the room, where they are those of an image
+-- the first blocks of the room, if they are those of an image
 whole_blocks : (g : List Block) (slot : List ℕ) (room z first : ℕ) → length slot ≡ 64 * room → z ≤ room
     → ((i : ℕ) → i < z → block_in slot i ≡ block_at g (first + i)) → take z (blocks_of slot) ≡ map (block_at g) (range_with_len first z)
 whole_blocks g slot room z first size most each =

@@ -23,7 +23,7 @@ use Rattle.thy_boot.specs.Sound.{HasWrittenFirst, HasWrittenWholeFirst, HasLoade
 ReadsFirst-settled : (x : ℕ) (blocks : ℕ → Block) (k : ℕ) (n : Device) → ReadsFirst n x blocks k → ReadsFirst (settled n) x blocks k
 ReadsFirst-settled x blocks k n h = record { each = λ i l. Reads-settled (x + i) (blocks i) n (settled n) (h.each i l) refl }
 
--- where a block of memory goes
+-- the place to which a block of memory is written
 abbrev pub place_in : First → ℕ → ℕ
 place_in f b = slice_index_or f.parts.memory b 0
 
@@ -124,13 +124,13 @@ module _ (blocks : ℕ) (f : First) where
           slot = ReadsFirst-more f.parts.slot_place f.parts.slot k n (written_to n x block) w.slot (omega (arith, inside, placed.slot_inside, w.sized)) refl;
         }
 
-    -- what stands at a stage of loading, or behind it
+    -- what holds at a stage of loading, or after it
     abbrev pub StandsAt : Stage → Device → Type 0
     StandsAt (Loads issue) n = IsIssue f issue × HasLoadedBefore blocks f issue n
     StandsAt (Over Loaded) n = HasWrittenWholeFirst blocks f n × (n.queue ≡ [])
     StandsAt q n = ⊥
 
-    -- every action leaves what has to stand before the next one
+    -- every action leaves what has to hold before the next one
     pub stands_on : 0 < f.parts.slot_blocks → (issue : Issue) (n : Device) → IsIssue f issue → HasLoadedBefore blocks f issue n
         → StandsAt (after_issue f issue) (after (issue_action f issue) n)
     stands_on some (Home b) n inside w = by_more (nat_lt (b + 1) (length f.parts.memory)) refl where

@@ -1,5 +1,5 @@
 -- Part of the claim.
--- The boot of any layout: how far it is, and what each block that it reads makes of it.
+-- The boot of any layout: its stage, and what each block that it reads makes of it.
 use Rattle.std.specs.Prelude.{◌≡◌, ℕ, ◌+◌, ◌*◌, ◌<◌, nat_lt, Bool, true, false, if◌then◌else◌, List, length, take, replicate, Option, Some, None}
 use Rattle.std.specs.Option.{option_or}
 use Rattle.thy_base.specs.declared.block.Block.{Block}
@@ -19,7 +19,7 @@ use Rattle.thy_boot.specs.declared.stage.BootStep.{BootStep}
 use Rattle.thy_boot.specs.declared.stage.BootStep.TheVariants.{Reading, Loading as IsLoading, Loaded as HasLoaded, Restarted, Refused}
 use Rattle.thy_boot.specs.Filling.{FillingOf, ListsOn, layout_at}
 
--- how far it is, with the commit block, and the bytes of the slot, as far as they were read
+-- its stage, with the commit block, and the bytes of the slot, as far as they were read
 pub record Booting : Type 0 where
   pub p : Parameters
   pub commit : Block
@@ -54,7 +54,7 @@ pub record IsBoot {C : Type 0} (F : FillingOf C) (b : Booting) : Type 0 where
   pub room : length b.slot ≡ 64 * F.most_slot b.p
   pub there : IsThere F b b.stage
 
--- what a step answers that left the boot so far
+-- what a step returns that left the boot in this state
 abbrev pub answer_at : {C : Type 0} → FillingOf C → Stage → Booting → BootStep
 answer_at F (Reads (Refusing bad)) b = Refused bad
 answer_at F (Reads r) b = Reading
@@ -67,19 +67,19 @@ answer_of F b = answer_at F b.stage b
 
 -- ---- what a block makes of the stage
 
--- a refusal where there is a fault, else the next stage
+-- a refusal if there is a fault, else the next stage
 abbrev pub refusing_or : Option BadImage → Stage → Stage
 refusing_or None next = next
 refusing_or (Some bad) next = Reads (Refusing bad)
 
--- the commit block; where it is zero, the program is loaded from its first block on
+-- the commit block; if it is zero, the program is loaded from its first block on
 abbrev pub stage_of_commit : Block → Stage
 stage_of_commit block = if is_zero block then Loads (Home 0) else Reads Header
 
 abbrev pub after_commit : Block → Booting → Booting
 after_commit block b = record b { commit = block; stage = stage_of_commit block }
 
--- the header, behind the commit block
+-- the header, after the commit block
 abbrev pub after_header : Layout → Block → Booting → Stage
 after_header l block b = refusing_or (option_or (l.header_bad block true) (l.commit_bad block b.commit)) (Reads (Slot 0))
 
@@ -109,12 +109,12 @@ gone_on F next b =
 abbrev pub after_fill : {C : Type 0} → FillingOf C → ℕ → Booting → Stage
 after_fill F k b = filling_or (F.next_fill b.p b.commit (slot_read F b) (k + 1))
 
--- where the slot has no fault the controller lists it, else it is as before
+-- if the slot has no fault the controller lists it, else it is as before
 abbrev pub IsJudged : {C : Type 0} → FillingOf C → Option BadImage → Booting → C → C → Type 0
 IsJudged F None b old new = ListsOn F b.commit (slot_read F b) old new
 IsJudged F (Some bad) b old new = new ≡ old
 
--- that is so with the last block
+-- with the last block, it is judged
 abbrev pub JudgesUnless : {C : Type 0} → FillingOf C → Bool → Option BadImage → Booting → C → C → Type 0
 JudgesUnless F true fault b old new = new ≡ old
 JudgesUnless F false fault b old new = IsJudged F fault b old new

@@ -48,7 +48,7 @@ pub record FillingOf (C : Type 0) : Type 1 where
   pub keeps : C → C → Type 0
   -- what a load of each block of memory gives
   pub loads : C → Device → List Block
-  -- a start can be recorded, and what is written of it where there is no checkpoint
+  -- a start can be recorded, and what is written of it if there is no checkpoint
   pub starts : Parameters → State → Type 0
   pub first : Parameters → State → First
 
@@ -132,6 +132,6 @@ pub record IsFilling {C : Type 0} (F : FillingOf C) : Type 0 where
       → fault_of (layout_at F p) true (F.first p s).header (F.first p s).commit (slot_of (F.first p s).parts) ≡ None
   pub first_state : (p : Parameters) (s : State) → F.starts p s
       → (layout_at F p).state_from (slot_of (F.first p s).parts) (F.first p s).memory ≡ s
-  -- a controller that lists nothing has memory where a start writes it
+  -- a controller that lists nothing has memory in the places to which a start writes it
   pub first_loads : (c : C) (n : Device) (s : State) → F.fresh c → n.queue ≡ []
       → F.loads c n ≡ map (newest n) (F.first (F.p c) s).parts.memory

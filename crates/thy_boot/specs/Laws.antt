@@ -33,7 +33,7 @@ use Rattle.thy_boot.specs.Shows.{seen_at, did_of}
 use Rattle.thy_boot.specs.Sound.{BootImages, start_mark, layout_for, first_of, standing_in_boot, images_after, IsSound}
 use Rattle.thy_boot.specs.Steps.{CanStep, Steps, action_of, Fails}
 
--- a new boot with a controller that lists nothing has read nothing of the image that stands
+-- a new boot with a controller that lists nothing has read nothing of the image in the NVM
 abbrev pub NewHasRead : {C : Type 0} → FillingOf C → Type 0
 NewHasRead {C} F =
     (p : Parameters) (n : Device) (c : C)
@@ -58,13 +58,13 @@ SoundMayStep {C} F =
     (o : Origin) (g : BootImages) (n : Device) (b : Booting) (c : C)
     → IsOrigin o → IsSound F o g n b c → IsGoing b.stage → n.down ≡ false → CanStep F o.start n b c
 
--- whatever a cut leaves then is the mark that is done, whole, or, once loading's commit block was written, the start's
+-- whatever a cut leaves then is the committed mark, whole, or, once loading's commit block was written, the start's
 abbrev pub SoundIsSafe : {C : Type 0} → FillingOf C → Type 0
 SoundIsSafe {C} F =
     (o : Origin) (g : BootImages) (n : Device) (b : Booting) (c : C)
     → IsSound F o g n b c → Safe (reading F.layouts) o (seen_at o g.kept b.stage).done (doubt_of (seen_at o g.kept b.stage)) n
 
--- whoever has taken a step may take the next, until the boot is over
+-- if a step was taken, the next one may be taken, until the boot is over
 abbrev pub MayGoOn : {C : Type 0} → FillingOf C → Type 0
 MayGoOn {C} F =
     (s : State) (n : Device) (b : Booting) (c : C) (m : Device) (d : Booting) (e : C)
@@ -85,8 +85,9 @@ StepsMove {C} F =
     (o : Origin) (g : BootImages) (n : Device) (b : Booting) (c : C) (m : Device) (d : Booting) (e : C)
     → IsOrigin o → IsSound F o g n b c → Steps F o.start n b c m d e → IsMoved F o g n b m d e
 
--- and so is a step that failed: the write of the commit block leaves the two in doubt, and every other one what was. So a cut
--- leaves the mark that is done, whole, or the start's, if its commit block was written before or that was its write
+-- a step that failed is a move too: the write of the commit block leaves the two in doubt, and every other step what
+-- was. So a cut leaves the committed mark, whole, or the start's, if its commit block was written before or that was
+-- its write
 abbrev pub standing_after_fault : Origin → Stage → BootImages → Device → Standing
 standing_after_fault o (Loads Commit) g n = standing n (InDoubt g.before g.next) None (Some (start_mark o))
 standing_after_fault o stage g n = standing_in_boot o stage g n
@@ -101,7 +102,7 @@ FailuresMove {C} F =
     (o : Origin) (g : BootImages) (n : Device) (b : Booting) (c : C) (m : Device)
     → IsOrigin o → IsSound F o g n b c → IsGoing b.stage → Fails F o.start b c n m → IsFramed n m → IsFailed F o g n b c m
 
--- ---- where it ends
+-- ---- its end
 
 -- a restart has the kept mark's state, and its checkpoint is kept
 abbrev pub RestoredIsKept : {C : Type 0} → FillingOf C → Type 0
@@ -147,13 +148,13 @@ StepsAct {C} F =
     (s : State) (n : Device) (b : Booting) (c : C) (m : Device) (d : Booting) (e : C)
     → Steps F s n b c m d e → Acts (did_of (answer_of F d)) n m
 
--- where a checkpoint was found, a step leaves the NVM as it was
+-- if a checkpoint was found, a step leaves the NVM as it was
 abbrev pub FoundStays : {C : Type 0} → FillingOf C → Type 0
 FoundStays {C} F =
     (o : Origin) (kept : Option Mark) (mark : Mark) (n : Device) (b : Booting) (c : C) (m : Device) (d : Booting) (e : C)
     → (seen_at o kept b.stage).done ≡ Some mark → Steps F o.start n b c m d e → m ≡ n
 
--- what a step that failed was to answer: that the program is loaded, where it was loading's last, else that the boot goes on
+-- what a step that failed was to return: that the program is loaded, if it was loading's last, else that the boot continues
 abbrev pub failed_answer : Stage → BootStep
 failed_answer (Loads Confirm) = HasLoaded
 failed_answer (Loads issue) = IsLoading

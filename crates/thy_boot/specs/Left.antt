@@ -11,7 +11,7 @@ use Rattle.thy_boot.specs.declared.stage.Issue.TheVariants.{Home, Slot as SlotBl
 use Rattle.thy_boot.specs.Boot.{Booting, layout_in}
 use Rattle.thy_boot.specs.Filling.{FillingOf, layout_at}
 
--- how many writes and barriers loading has left, where a slot has at most so many blocks
+-- how many writes and barriers loading has left, if a slot has at most so many blocks
 abbrev pub loads_left : ℕ → ℕ → Issue → ℕ
 loads_left memory slot (Home b) = memory - b + slot + 4
 loads_left memory slot (SlotBlock k) = slot - k + 4

@@ -27,7 +27,7 @@ issue_action f Settle = Barrier
 issue_action f Commit = WriteAt 1 f.commit
 issue_action f Confirm = Barrier
 
--- the stage behind it
+-- the stage after it
 abbrev pub after_issue : First → Issue → Stage
 after_issue f (Home b) = if nat_lt (b + 1) (length f.parts.memory) then Loads (Home (b + 1)) else Loads (Slot 0)
 after_issue f (Slot k) = if nat_lt (k + 1) f.parts.slot_blocks then Loads (Slot (k + 1)) else Loads Header

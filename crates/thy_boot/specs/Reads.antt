@@ -19,7 +19,7 @@ read_action F b c (Refusing bad) = Rest
 abbrev pub slot_kept : {C : Type 0} → FillingOf C → ℕ → Device → Booting → Booting
 slot_kept F next n b = with_slot_block next (newest n ((layout_in F b).slot_place b.commit + next)) b
 
--- the boot behind the read
+-- the boot after the read
 abbrev pub read_on : {C : Type 0} → FillingOf C → ReadStage → Device → Booting → Booting
 read_on F Unread n b = after_commit (newest n 1) b
 read_on F Header n b = at_stage (after_header (layout_in F b) (newest n 0) b) b
@@ -27,7 +27,7 @@ read_on F (Slot next) n b = gone_on F next (slot_kept F next n b)
 read_on F (Fills k) n b = at_stage (after_fill F k b) b
 read_on F (Refusing bad) n b = b
 
--- the controller behind it: with the slot's last block it lists the checkpoint, and a position is filled with its block
+-- the controller after it: with the slot's last block it lists the checkpoint, and a position is filled with its block
 abbrev pub FillsOn : {C : Type 0} → FillingOf C → ReadStage → Device → Booting → C → C → Type 0
 FillsOn F (Slot next) n b old new = GoesOn F next (slot_kept F next n b) old new
 FillsOn F (Fills k) n b old new = new ≡ F.with_fill b.commit k (newest n (F.fill_place old b.commit k)) old

@@ -49,7 +49,7 @@ pub record IsRestored {C : Type 0} (F : FillingOf C) (n : Device) (b : Booting) 
   pub found : decode_by (layout_in F b) n.image
       ≡ At (epoch_of b.commit) ((layout_in F b).state_from (slot_read F b) (F.loads c n))
 
--- by the stage, what was read of the image that stands
+-- by the stage, what was read of the image in the NVM
 abbrev pub HasReadAt : {C : Type 0} → FillingOf C → Stage → Device → Booting → C → Type 0
 HasReadAt F (Reads Unread) n b c = F.fresh c
 HasReadAt F (Reads Header) n b c = F.fresh c × HasCommit n.image b.commit
@@ -69,7 +69,7 @@ pub record HasRead {C : Type 0} (F : FillingOf C) (n : Device) (b : Booting) (c 
   pub settled : n.queue ≡ []
   pub so_far : HasReadAt F b.stage n b c
 
--- a step of the recovery is an action nearer to the boot's end; a refusal comes again
+-- a step of the recovery leaves one action less to the boot's end; a refusal comes again
 abbrev pub IsNearer : {C : Type 0} → FillingOf C → Booting → ReadStage → Booting → Type 0
 IsNearer F b (Refusing bad) d = d.stage ≡ Reads (Refusing bad)
 IsNearer F b r d = boot_left F d d.stage < reads_left F b r

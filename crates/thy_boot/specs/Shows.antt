@@ -24,13 +24,13 @@ abbrev pub is_written : Issue → Bool
 is_written Confirm = true
 is_written issue = false
 
--- the view behind a restart
+-- the view after a restart
 abbrev pub restored_view : Origin → Option Mark → View
 restored_view o None = boot_view None None
 restored_view o (Some m) =
     record (boot_view (Some m) None) { phase = phase_at o m.count; epoch = m.epoch + 1; count = m.count }
 
--- and behind loading
+-- and after loading
 abbrev pub loaded_view : Origin → View
 loaded_view o = record (boot_view (Some (mark 0 o.start.count)) None) { phase = Run; epoch = 1; count = o.start.count }
 

@@ -38,12 +38,12 @@ pub record BootImages : Type 0 where
   pub kept : Option Mark
   pub next : List Block
 
--- where none is kept, that of the start is under way
+-- if none is kept, the start's is under way
 abbrev pub sealed_by : Origin → Option Mark → Option Mark
 sealed_by o None = Some (start_mark o)
 sealed_by o (Some m) = None
 
--- before an action of loading: until the first barrier one image is kept, behind it the next one is ready, and with its
+-- before an action of loading: until the first barrier one image is kept, after it the next one is ready, and with its
 -- commit block in doubt
 abbrev pub saved_loading : Issue → BootImages → Saved
 saved_loading Commit g = Ready g.before g.next

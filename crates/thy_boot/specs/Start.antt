@@ -1,4 +1,4 @@
--- The blocks that a start makes of memory: its bytes, and behind them its console's pages.
+-- The blocks that a start makes of memory: its bytes, and after them its console's pages.
 use Rattle.std.specs.Prelude.{◌≡◌, ℕ, ◌-◌, ◌*◌, ◌≤◌, List, ◌++◌, length, map, take, drop, replicate}
 use Rattle.std.specs.List.{range_with_len}
 use Rattle.thy_base.specs.declared.block.Block.{Block}

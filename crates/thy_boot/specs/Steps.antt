@@ -41,7 +41,7 @@ pub record LoadsOn {C : Type 0} (F : FillingOf C) (s : State) (issue : Issue) (n
   pub boot : d ≡ at_stage (after_issue (F.first b.p s) issue) b
   pub control : e ≡ c
 
--- a step that was taken; behind the boot there is none
+-- a step that was taken; after the boot there is none
 abbrev pub StepsAt : {C : Type 0} → FillingOf C → Stage → State → Device → Booting → C → Device → Booting → C → Type 0
 StepsAt F (Reads r) s n b c m d e = ReadsOn F r n b c m d e
 StepsAt F (Loads issue) s n b c m d e = LoadsOn F s issue n b c m d e
@@ -50,7 +50,7 @@ StepsAt F (Over end) s n b c m d e = ⊥
 abbrev pub Steps : {C : Type 0} → FillingOf C → State → Device → Booting → C → Device → Booting → C → Type 0
 Steps F s n b c m d e = StepsAt F b.stage s n b c m d e
 
--- the action of a step, where it has to read or to write
+-- the action of a step, if it has to read or to write
 abbrev pub action_at : {C : Type 0} → FillingOf C → Stage → State → Booting → C → Action
 action_at F (Reads r) s b c = read_action F b c r
 action_at F (Loads issue) s b c = issue_action (F.first b.p s) issue
@@ -63,7 +63,7 @@ action_of F s b c = action_at F b.stage s b c
 abbrev pub Fails : {C : Type 0} → FillingOf C → State → Booting → C → Device → Device → Type 0
 Fails F s b c n m = FailsTo (action_of F s b c) n m
 
--- the one or the other; one that failed leaves boot and controller as they were
+-- a step that was taken, or one that failed, which leaves boot and controller as they were
 pub record TakesStep {C : Type 0} (F : FillingOf C) {T : Type 0} (result : Result T NvmError) (s : State) (n : Device) (b : Booting) (c : C)
     (m : Device) (d : Booting) (e : C) : Type 0 where
   pub steps : OnOk result (Steps F s n b c m d e)

@@ -11,7 +11,7 @@ use std::marker::Model;
 use thy_base::{BLOCK_SIZE, Block, Geometry, Nvm, NvmError, word};
 use thy_record::Start;
 
-/// A boot, with the commit block and the bytes of the slot, as far as they were read. Only `new` takes memory: room for
+/// A boot, with the commit block and the bytes of the slot, as far as they were read. Only `new` allocates: the room for
 /// the slot.
 #[derive(Drop)]
 pub struct Boot {
@@ -46,16 +46,16 @@ impl Boot {
         })
     }
 
-    /// How far it is.
+    /// Its stage.
     pub fn stage(&self) -> Stage
         ensures { result ≡ self.now.stage }
     {
         self.stage
     }
 
-    /// Takes one action of the NVM: reads the next block of the checkpoint there, or, where there is none, takes the next
-    /// action of loading the start. Once the image was found at fault, it takes none, and answers the refusal at each step.
-    /// Where the NVM failed, boot and controller are as before.
+    /// Takes one action of the NVM: reads the next block of the checkpoint there, or, if there is none, takes the next
+    /// action of loading the start. Once the image was found at fault, it takes none, and returns the refusal at each step.
+    /// If the NVM failed, boot and controller are as before.
     pub fn step<F: Fills, N: Nvm>(
         &mut self,
         control: &mut F::Control,
@@ -66,8 +66,8 @@ impl Boot {
         requires fits { IsBoot F.filling self.old }
         ensures answer { IfOk result (λ answer. answer ≡ answer_of F.filling self.new) }
 
-        // A read leaves the NVM as it was; what its block makes of boot and controller is exact, and what was read is what
-        // the image means. An action of loading is exact.
+        // A read leaves the NVM as it was; boot and controller become what the definition makes of its block, and
+        // what was read is what the image means. An action of loading equals its definition.
         ensures step { let s = state_of start.now.state in
             TakesStep F.filling result s (N.device nvm.old) self.old control.old (N.device nvm.new) self.new control.new }
     {
@@ -94,7 +94,7 @@ impl Boot {
         }
     }
 
-    /// What a step answers that left the boot so far.
+    /// What a step returns that left the boot in this state.
     fn answer<F: Fills>(&self) -> BootStep
         requires { length self.now.slot ≡ 64 * F.filling.most_slot self.now.p }
         ensures { result ≡ answer_of F.filling self.now }

@@ -73,7 +73,7 @@ pub trait Fills: Drop {
         ensures { let blocks = slot_bytes filling geometry.now commit.now slot.now in
             result ≡ filling.next_fill geometry.now commit.now blocks from };
 
-    /// Fills a position with the one block that it reads. Where that failed, the controller is as before.
+    /// Fills a position with the one block that it reads. If that failed, the controller is as before.
     fn fill<N: Nvm>(
         control: &mut Self::Control,
         commit: &Block,
@@ -91,14 +91,14 @@ pub trait Fills: Drop {
     fn memory_blocks(geometry: &Geometry) -> u64
         ensures { result ≡ (layout_at filling geometry.now).memory_blocks };
 
-    /// Where block `b` of a start's memory goes, and that block.
+    /// The place that block `b` of a start's memory is written to, and that block.
     fn first_memory(geometry: &Geometry, state: &MachState, b: u64) -> (u64, Block)
         requires start { filling.starts geometry.now (state_of state.now) }
         requires inside { b < length (filling.first geometry.now (state_of state.now)).parts.memory }
         ensures place { result.0 ≡ slice_index_or (filling.first geometry.now (state_of state.now)).parts.memory b 0 }
         ensures block { result.1 ≡ block_at (filling.first geometry.now (state_of state.now)).memory b };
 
-    /// Where block `k` of a start's slot goes, and that block.
+    /// The place that block `k` of a start's slot is written to, and that block.
     fn first_slot(geometry: &Geometry, state: &MachState, k: u64) -> (u64, Block)
         requires start { filling.starts geometry.now (state_of state.now) }
         requires inside { k < (filling.first geometry.now (state_of state.now)).parts.slot_blocks }

@@ -5,12 +5,12 @@ ghost use Rattle.thy_boot.specs.Laws.{FoundStays, FailuresAct, StepsFill, StepsC
 
 use crate::fills::Fills;
 
-/// A new boot is one of a run, where the controller lists nothing, nothing is queued and the image means the mark that is kept.
+/// A new boot is one of a run if the controller lists nothing, nothing is queued and the image means the mark that is kept.
 pub fn a_new_boot_is_one_of_the_run<F: Fills>()
     ensures { NewIsSound F.filling }
 {}
 
-/// While a boot is one of a run and not over, it may take a step; and where one was taken, it may take the next.
+/// While a boot is one of a run and not over, it may take a step; and if a step was taken, it may take the next.
 pub fn a_boot_may_go_on<F: Fills>()
     ensures may { SoundMayStep F.filling }
     ensures on { MayGoOn F.filling }
@@ -21,13 +21,14 @@ pub fn a_boot_is_safe<F: Fills>()
     ensures { SoundIsSafe F.filling }
 {}
 
-/// Every step of a run's boot is a move of the run's checkpoints, and a step of the view; the boot is one of the run afterwards.
+/// Every step of a run's boot is a move of the run's checkpoints, and a step of the view; the boot is one of the run
+/// afterwards.
 pub fn steps_are_moves<F: Fills>()
     ensures { StepsMove F.filling }
 {}
 
-/// A step that failed is a move too, and leaves what is safe: with the start's mark in doubt only where loading's commit block was
-/// written before, or that write failed.
+/// A step that failed is a move too, and leaves what is safe: with the start's mark in doubt only if loading's commit block
+/// was written before, or that write failed.
 pub fn failed_steps_are_moves<F: Fills>()
     ensures { FailuresMove F.filling }
 {}
@@ -49,7 +50,7 @@ pub fn a_boot_shows_the_image<F: Fills>()
     ensures { ShowsImage F.filling }
 {}
 
-/// A step acts once on the NVM, as its answer asks for; where a checkpoint was found it only reads. One that failed did so
+/// A step acts once on the NVM, as its result says; if a checkpoint was found it only reads. A step that failed did so
 /// in the one action of its stage.
 pub fn steps_act_once<F: Fills>()
     ensures acts { StepsAct F.filling }

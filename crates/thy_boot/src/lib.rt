@@ -1,10 +1,10 @@
 //! The boot of any scheme. After power came on it reads the checkpoint in the NVM, a block a cycle, and gives it to a
-//! controller. Where there is none, it loads the start of a run: that becomes the checkpoint of epoch 0. How images are laid
-//! out, what a slot lists, and which blocks are read into the controller says a scheme's `Fills`. Callers rest on `Boot::step`
-//! and on the laws.
+//! controller. If there is none, it loads the start of a run: that becomes the checkpoint of epoch 0. A scheme's
+//! `Fills` says how images are laid out, what a slot lists, and which blocks are read into the controller. Callers
+//! rely on `Boot::step` and on the laws.
 //!
-//! Open specs/Filling.antt first, then specs/Boot.antt and specs/Recovers.antt, src/fills.rt and src/boot.rt. It stands on
-//! thy_protocol and what that stands on.
+//! Open specs/Filling.antt first, then specs/Boot.antt and specs/Recovers.antt, src/fills.rt and src/boot.rt. It depends on
+//! thy_protocol and its dependencies.
 #![tactic(auto)]
 
 mod boot;

@@ -1,4 +1,4 @@
-//! Loading: where the NVM has no checkpoint, that of the start is written, as epoch 0.
+//! Loading: if the NVM has no checkpoint, that of the start is written, as epoch 0.
 ghost use Rattle.std.specs.Prelude.{◌≡◌, false, length, OnOk, OnErr};
 ghost use Rattle.thy_isa.specs.Step.{state_of};
 ghost use Rattle.thy_boot.specs.Boot.{at_stage};
@@ -80,8 +80,9 @@ fn take_issue<F: Fills, N: Nvm>(
 impl Boot {
     ghost use Rattle.thy_boot.specs.declared.stage.Stage.TheVariants.{Loads};
 
-    /// Takes the next action of loading: memory's blocks go to their places, then the slot, the header, a barrier, the commit
-    /// block of epoch 0, and a barrier. Where the NVM failed the boot is as before, and only the place of a write may hold more.
+    /// Takes the next action of loading: memory's blocks are written to their places, then the slot, the header, a
+    /// barrier, the commit block of epoch 0, and a barrier. If the NVM failed the boot is as before, and only the
+    /// place of a write may hold more.
     pub(crate) fn load<F: Fills, N: Nvm>(
         &mut self,
         issue: Issue,

@@ -1,4 +1,4 @@
-//! Reading: each step reads one block of the NVM, up to the last that tells what the image means.
+//! Reading: each step reads one block of the NVM, up to the last that determines what the image means.
 ghost use Rattle.std.specs.Prelude.{◌≡◌, ◌+◌, ◌*◌, ◌<◌, ◌≤◌, length, None, OnOk, OnErr};
 ghost use Rattle.thy_base.specs.Bytes.{written};
 ghost use Rattle.thy_base.specs.Device.{newest};
@@ -23,7 +23,7 @@ fn keep_block(bytes: &mut [u8], k: usize, block: &Block)
     bytes[BLOCK_SIZE * k..BLOCK_SIZE * k + BLOCK_SIZE].copy_from_slice(&block.0);
 }
 
-/// The stage that a commit block leads to.
+/// The stage after a commit block.
 fn stage_of_commit(commit: &Block) -> Stage
     ensures { result ≡ stage_of_commit commit.now }
 {
@@ -33,7 +33,7 @@ fn stage_of_commit(commit: &Block) -> Stage
     Stage::Reads(ReadStage::Header)
 }
 
-/// A refusal where there is a fault, else the next stage.
+/// A refusal if there is a fault, else the next stage.
 fn refusing_or(fault: Option<BadImage>, next: Stage) -> Stage
     ensures { result ≡ refusing_or fault next }
 {
@@ -47,8 +47,8 @@ impl Boot {
     ghost use Rattle.thy_boot.specs.declared.stage.Stage.TheVariants.{Reads};
     ghost use Rattle.thy_boot.specs.declared.stage.ReadStage.TheVariants.{Slot, Fills as FillsAt};
 
-    /// Reads the next block of the checkpoint in the NVM: commit block, header, the slot's blocks, and then what each position
-    /// is filled with. Once header, commit block or slot was found at fault, it reads none.
+    /// Reads the next block of the checkpoint in the NVM: commit block, header, the slot's blocks, and then what each
+    /// position is filled with. Once header, commit block or slot was found at fault, it reads none.
     pub(crate) fn read_next<F: Fills, N: Nvm>(
         &mut self,
         at: ReadStage,
@@ -142,7 +142,7 @@ impl Boot {
         Ok(())
     }
 
-    /// Goes on after block `next` of the slot; with the last, the slot is judged.
+    /// Continues after block `next` of the slot; with the last, the slot is judged.
     fn go_on<F: Fills>(&mut self, next: u64, control: &mut F::Control)
         requires inside { next < (layout_in F.filling self.old).slot_blocks self.old.commit }
         requires room { length self.old.slot ≡ 64 * F.filling.most_slot self.old.p }
@@ -159,7 +159,7 @@ impl Boot {
         }
     }
 
-    /// Judges the slot: where it has no fault, the controller lists it.
+    /// Judges the slot: if it has no fault, the controller lists it.
     fn judge<F: Fills>(&mut self, control: &mut F::Control)
         requires room { length self.old.slot ≡ 64 * F.filling.most_slot self.old.p }
         requires geometry { F.filling.p control.old ≡ self.old.p }
@@ -177,7 +177,7 @@ impl Boot {
         }
     }
 
-    /// Goes to the first position from one on that has to be filled; where there is none, all is restored.
+    /// Goes to the first position from one on that has to be filled; if there is none, all is restored.
     fn go_to_fill<F: Fills>(&mut self, from: u64)
         requires { length self.old.slot ≡ 64 * F.filling.most_slot self.old.p }
         ensures { let next = F.filling.next_fill self.old.p self.old.commit (slot_read F.filling self.old) from in

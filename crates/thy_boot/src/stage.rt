@@ -1,4 +1,4 @@
-//! How far a boot is, and what its steps answer.
+//! The stages of a boot, and what its steps return.
 use thy_isa::CpuState;
 use thy_record::BadImage;
 
@@ -11,15 +11,15 @@ pub enum Issue {
     Slot(u64),
     /// The write of the header.
     Header,
-    /// The barrier behind all that comes before the commit block.
+    /// The barrier after all writes that come before the commit block's.
     Settle,
     /// The write of the commit block.
     Commit,
-    /// The barrier behind the commit block.
+    /// The barrier after the commit block.
     Confirm,
 }
 
-/// How far a boot is that reads.
+/// The stage of a boot that reads.
 #[derive(Clone, Copy, Debug, PartialEq, Eq)]
 pub enum ReadStage {
     /// Nothing was read yet.
@@ -43,10 +43,10 @@ pub enum End {
     Loaded,
 }
 
-/// How far a boot is.
+/// The stage of a boot.
 #[derive(Clone, Copy, Debug, PartialEq, Eq)]
 pub enum Stage {
-    /// It reads, and is so far.
+    /// It reads, and is at this stage.
     Reads(ReadStage),
     /// There is no checkpoint: the program is loaded, and this comes next.
     Loads(Issue),
@@ -54,12 +54,12 @@ pub enum Stage {
     Over(End),
 }
 
-/// What a step of a boot answers.
+/// What a step of a boot returns.
 #[derive(Clone, Copy, Debug, PartialEq, Eq)]
 pub enum BootStep {
     /// A block was read, and more are to be read.
     Reading,
-    /// There is no checkpoint, and loading goes on.
+    /// There is no checkpoint, and loading continues.
     Loading,
     /// The program is loaded, as the checkpoint of epoch 0.
     Loaded,

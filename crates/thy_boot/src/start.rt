@@ -7,7 +7,7 @@ ghost use Rattle.thy_boot.specs.Start.{IsStartFor, start_block};
 use thy_base::{Block, Geometry};
 use thy_isa::{CpuState, MachState};
 
-/// Block `b` of a start: its memory, and behind that its console filled up with zeros.
+/// Block `b` of a start: its memory, and after that its console filled up with zeros.
 pub fn start_block(geometry: &Geometry, state: &MachState, b: u64) -> Block
     requires place { b < memory_blocks geometry.now }
     requires start { IsStartFor geometry.now (state_of state.now) }

@@ -1,4 +1,4 @@
--- What a report takes of lines behind one another.
+-- What a report takes of lines after one another.
 use Rattle.std.proofs.Common.{◌≡◌, ℕ, Bool, true, false, List, [], ◌∷◌, ◌++◌, refl}
 use Rattle.std.specs.Prelude.{◌≢◌}
 use Rattle.thy_base.specs.Outside.{Stream, Took}
@@ -19,12 +19,12 @@ closes_behind : (a b : List ℕ) (old mid new : Stream) → Took old mid a → C
 closes_behind a b old mid new took (false, sent) = (false, Took-append old mid new a b took sent)
 closes_behind a b old mid new took (true, sent) = (true, (TookPart-append old mid new a b took sent.0, nothing_due_behind a b sent.1))
 
--- where the first ones did not fail, the last ones follow
+-- if the first ones did not fail, the last ones follow
 pub closes_both : (failed : Bool) (a b : List ℕ) (old mid new : Stream) → failed ≡ false → Sent failed old mid a → Closes b mid new → Closes (a ++ b) old new
 closes_both false a b old mid new on sent closes = closes_behind a b old mid new sent closes
 closes_both true a b old mid new on sent closes = absurd (cc)
 
--- and where they failed, they do not
+-- and if they failed, they do not
 pub closes_first : (failed : Bool) (a b : List ℕ) (old mid : Stream) → failed ≡ true → Sent failed old mid a → Closes (a ++ b) old mid
 closes_first true a b old mid off sent = (true, (TookPart-more old mid a b sent.0, nothing_due a b sent.1))
 closes_first false a b old mid off sent = absurd (cc)

@@ -1,4 +1,4 @@
--- An answer is complete: where nothing is amiss it is that of the program's own end.
+-- A result is complete: if nothing fails it is that of the program's own end.
 use Rattle.std.proofs.Common.{◌≡◌, ℕ, ◌+◌, ◌-◌, ◌<◌, ◌≤◌, Bool, true, false, Option, Some, None, List, [], ◌∷◌, ◌++◌, length, refl, sym, ◌∙◌, ap, subst, inl, inr, arith}
 use Rattle.std.specs.Prelude.{Result, Ok, Err, MatchOption, ◌⊎◌}
 use Rattle.std.proofs.lemmas.Bool.{cases_order}
@@ -97,13 +97,13 @@ end_lawful c m (v ∷ vs) status count cycle state all = end_lawful c (marks_aft
 
 -- ---- refusals
 
--- what is known of a job's program: its bytes and input stand on a shelf that tells, or are made
+-- what is known of a job's program: its bytes and input are on a shelf with known contents, or are made
 record Stands (source : Source) (job : Job) (stock : Stock) : Type 0 where
   files : Files
   tells : stock.held ≡ Some files
   program : IsProgram source job stock
 
--- a shelf that tells holds the same under a name each time
+-- a shelf with known contents holds the same under a name each time
 held_same : (stock : Stock) (files : Files) (name a b : List ℕ) → stock.held ≡ Some files → IsHeld stock name a → IsHeld stock name b → a ≡ b
 held_same stock files name a b tells g h = let one : files name ≡ Some a = g.1 files tells in let other : files name ≡ Some b = h.1 files tells in cc
 
@@ -134,7 +134,7 @@ begins_same source job stock s f =
     let read : meaning_of source job f.bytes f.input ≡ Ok f.begins = f.means in
     cc
 
--- what is held is had, unless memory is short
+-- what is held can be read, unless memory runs out
 fetch_due : (old new : Stock) (files : Files) (name bytes : List ℕ) (text : _) (e : FetchError) → old.held ≡ Some files → IsHeld old name bytes → Stayed old.faults new.faults → FetchDue old new name e
     → refused_status (Fetch text e) ≡ 9
 fetch_due old new files name bytes text FetchFailed tells held faults due = not_risen old.faults new.faults faults due.rose
@@ -176,7 +176,7 @@ device_due : (e : FitError) (n m : Device) → Stayed n.faults m.faults → HasF
 device_due FitFailed n m faults due = not_risen n.faults m.faults faults due.2
 device_due (FitMemory e) n m faults due = refl
 
--- only for want of memory
+-- only if memory runs out
 program_due : (source : Source) (job : Job) (old new : Stock) (r : Refusal) → Stands source job old → Stayed old.faults new.faults → ProgramDue source job old new r → refused_status r ≡ 9
 program_due source job old new (Words e) s shelf due = absurd due
 program_due source job old new (Fetch name e) s shelf due = wanted_due source job old new name name.now e s shelf due.0 due.1
@@ -202,7 +202,7 @@ order_same words a b e f = cc
 
 -- ---- saves
 
--- a shelf that did not fail took what was put on it, unless memory was short
+-- a shelf that did not fail took what was put on it, unless memory ran out
 put_calm : {A : Type 0} (name : List ℕ) (old new : Stock) → Stayed old.faults new.faults → PutCounted name old new (Some PutFailed) → A
 put_calm name old new faults failed = not_risen old.faults new.faults faults failed.rose
 
@@ -233,7 +233,7 @@ module _ {M : Type 0} (K : KindOf M) (source : Source) (job : Job) (k : ℕ) (be
   abbrev over_at : Origin
   over_at = origin_for job s.program.begins s.program.input
 
-  -- the run is about the program that stands there
+  -- the run is about the program that is there
   same_origin : over_at ≡ o
   same_origin =
       sym (ap (λ b. origin_for job b h.program.input) (begins_same source job before.shelf s h.program)
@@ -274,7 +274,7 @@ module _ {M : Type 0} (K : KindOf M) (source : Source) (job : Job) (k : ℕ) (be
   abbrev lines : List ℕ
   lines = summary_for source h.run.ending.stop h.run.ending.events ++ run_line job.config.limit job.save h.run.ending.stop h.run.why
 
-  -- where it was saved, or was not to be, the stop tells
+  -- if it was saved, or was not to be, the stop determines the status
   by_stop : (stop : Stop) → h.run.ending.stop ≡ stop → h.run.why ≡ None → TellsEnd last a
   by_stop (Ended status) is saved =
       inl (h.run.status ∙ ap (run_status h.run.ending.stop) saved ∙ ap stop_status is ∙ ap (λ x. stop_status (Ended x)) (told_end status (fits (Ended status) is).0))
@@ -314,7 +314,7 @@ module _ (name : List ℕ) (job : Job) (k : ℕ) (before after : Outside) (a : A
   none_before : plain_at.start.count ≡ 0
   none_before = begun_count (parameters_of job.config) (read_of h.program.bytes job.config.base (program_size (parameters_of job.config))) h.program.begins h.program.means
 
-  -- the machine's program is the file's, and its input the one that was had
+  -- the machine's program is the file's, and its input the one that was read
   left_there : left_alone s.program k ≡ at plain_at k
   left_there =
       sym (ap (λ (x : Origin). at x (x.start.count + k)) (ap (λ b. origin_for job b h.program.input) (begins_same (file name) job before.shelf s h.program)
@@ -324,7 +324,7 @@ module _ (name : List ℕ) (job : Job) (k : ℕ) (before after : Outside) (a : A
   by_steps : (j : ℕ) → at plain_at j ≡ steps (setting_of plain_at) j plain_at.start
   by_steps j = at_is plain_at j refl ∙ ap (λ i. steps (setting_of plain_at) i plain_at.start) (let e : j - plain_at.start.count ≡ j = omega (arith, none_before) in e)
 
-  -- the program ends where the machine stopped
+  -- the program ends at the state at which the machine stopped
   over_there : is_running (steps (setting_of plain_at) k plain_at.start).status ≡ false
   over_there = ap (λ (x : State). is_running x.status) (sym (left_there ∙ by_steps k)) ∙ over
 
@@ -367,12 +367,12 @@ module _ (name : List ℕ) (job : Job) (k : ℕ) (before after : Outside) (a : A
       ∙ ended_stop h.last.status (ap is_running last_status ∙ over) in
       inl (h.status ∙ ap stop_status stop ∙ ap (λ x. stop_status (Ended x)) last_status)
 
--- ---- answers
+-- ---- results
 
 abbrev stands_of : {order : Order} {source : Source} {job : Job} {words : List (List ℕ)} {stock : Stock} → IsAsked order source job words stock → Stands source job stock
 stands_of i = record { files = i.files; tells = i.tells; program = i.program }
 
--- where nothing failed, nothing did on the device that the run saw
+-- if nothing failed, nothing did on the device that the run saw
 calm_seen : (gap : ℕ) (before after : Outside) (found left : Device) → IsFoundAs gap before.device found → IsLeftAs gap after.device left → IsCalm before after → IsCalm (with_device found before) (with_device left after)
 calm_seen gap before after found left is_found is_left faults = record {
   shelf = faults.shelf;
@@ -391,13 +391,13 @@ run_completes K words before after a source job i k faults over limit (inr ran) 
     by_save K source job k (with_device ran.found before) (with_device ran.left after) a (stands_of i)
     (calm_seen job.config.gap before after ran.found ran.left ran.is_found ran.is_left faults) over limit ran.seen ran.seen.run.why refl
 
--- the answer to the order of a run is that of its source
+-- the result of the order of a run is that of its source
 order_answered : (c : Choice) (before after : Outside) (a : Answer) (source : Source) (job : Job) → OrderAnswered c (run_of source job) before after a → RunAnswered (c job.config.scheme).kind source job before after a
 order_answered c before after a (file name) job h = h
 order_answered c before after a (made n) job h = h
 order_answered c before after a (image name) job h = h
 
--- an answer completes the run that is asked for
+-- a result completes the run that is asked for
 pub Completes-run : (c : Choice) (words : List (List ℕ)) (before after : Outside) (a : Answer) → Answered c words before after a → RunCompletes c words before after a
 Completes-run c words before after a (inl (e, due, shelf, device, refused)) source job i k faults over limit = inr (refused.status ∙ words_due words (run_of source job) e i.asked due)
 Completes-run c words before after a (inr (order, asked, h)) source job i k faults over limit =
@@ -417,7 +417,7 @@ Completes-plain c words before after a (inr (order, asked, h)) name job i k faul
     plain_completes words before after a name job i k faults over limit
     (subst (λ x. OrderAnswered c x before after a) (order_same words (plain name job) order i.asked asked) h)
 
--- a made program is put, unless memory was short
+-- a made program is put, unless memory ran out
 make_told : (n : ℕ) (name : List ℕ) (before after : Outside) (a : Answer) (why : Option PutError) → IsCalm before after → a.status ≡ (made_told n name why).0 → PutCounted name before.shelf after.shelf why
     → (a.status ≡ 0) ⊎ (a.status ≡ 9)
 make_told n name before after a None faults is counted = inl is
@@ -432,7 +432,7 @@ Completes-make c words before after a (inl (e, due, shelf, device, refused)) n n
 Completes-make c words before after a (inr (order, is, h)) n name asked faults =
     make_completes n name before after a faults (subst (λ x. OrderAnswered c x before after a) (order_same words (make n name) order asked is) h)
 
--- so what is claimed of a call follows from what its answer is
+-- so what is claimed of a call follows from what its result is
 pub Claim-answered : (c : Choice) (words : List (List ℕ)) (before after : Outside) (a : Answer) → Answered c words before after a → Claim c words before after a
 Claim-answered c words before after a h = record {
   answered = h;

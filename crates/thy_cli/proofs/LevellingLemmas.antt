@@ -131,7 +131,7 @@ AllFit-map f read cycles s (Restart epoch count state ∷ vs) left h = (h.0, All
 AllFit-map f read cycles s (Reload ∷ vs) left h = (h.0, AllFit-map f read cycles (found s.means None) vs left h.1)
 AllFit-map f read cycles s (Ended status count cycle state ∷ vs) left h = (h.0, AllFit-map f read cycles (found s.means None) vs left h.1)
 
--- what a save leaves behind the images of a run
+-- what a save leaves after the images of a run
 record AreImages (saved : ℕ) (stood left : Device) : Type 0 where
   first : take (length stood.left) left.left ≡ stood.left
   many : length left.left ≡ length stood.left + saved

@@ -1,4 +1,4 @@
--- What the plain machine answers to a task.
+-- What the plain machine returns for a task.
 use Rattle.std.proofs.Common.{◌≡◌, ℕ, ◌-◌, Bool, List, [], refl, sym, ◌∙◌, ap, subst, arith}
 use Rattle.thy_base.specs.declared.config.Parameters.{Parameters}
 use Rattle.thy_base.specs.Bytes.{bytes_of}
@@ -23,7 +23,7 @@ use Rattle.thy_cli.specs.Planning.{IsProgramOf}
 use Rattle.thy_cli.specs.Sources.{Beginning, file, origin_for}
 use Rattle.thy_run.specs.Sending.{Sent}
 
--- with no turn told the plain machine takes one step after another
+-- with no turn reported the plain machine takes one step after another
 pub at_is : (o : Origin) (k : ℕ) → o.turns ≡ [] → at o k ≡ steps (setting_of o) (k - o.start.count) o.start
 at_is o k none = ap (λ (turns : List ℕ). at (told o turns) k) none ∙ at-untold o k
 
@@ -35,7 +35,7 @@ begun_steps job b input first k is none =
     ∙ ap (λ (s : State). steps (setting_for (parameters_of job.config) input) (k - s.count) s) is
     ∙ ap (λ j. steps (setting_for (parameters_of job.config) input) j first) (let e : k - first.count ≡ k = omega (arith, none) in e)
 
--- it stops where the machine stops that was loaded with it
+-- it stops at the state at which the machine stops that was loaded with it
 stops_at : (job : Job) (b : Beginning) (contents : Contents) (input : List ℕ) (limit k : ℕ) → b.start ≡ start_state (parameters_of job.config) contents → MachineStops (loaded (parameters_of job.config) contents input) limit k
     → StopsAt (origin_for job b input) limit k
 stops_at job b contents input limit k is s = record {

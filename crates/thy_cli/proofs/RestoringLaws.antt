@@ -57,7 +57,7 @@ block_bytes-whole : (bytes : List ℕ) (k : ℕ) → k < length bytes / 64 → b
 block_bytes-whole bytes k l =
     block_bytes-long (block_in bytes k) (length-take-le 64 (drop (64 * k) bytes) (omega (arith, length-drop (64 * k) bytes)))
 
--- and together they are the bytes, where these are whole blocks
+-- and together they are the bytes, if these are whole blocks
 pub flat-blocks_of : (bytes : List ℕ) (n : ℕ) → length bytes ≡ 64 * n → flat (blocks_of bytes) ≡ bytes
 flat-blocks_of bytes n whole =
     let all = length-flat (blocks_of bytes) in

@@ -73,7 +73,7 @@ geometry_is c p none e = ok_is p (parameters_of c) (e ∙ ap (λ f. geometry_or 
 
 -- ---- the start of a run
 
--- an input that was had is not too long for the machine
+-- an input that was read is not too long for the machine
 pub input_size : (stock : Stock) (name : Option (List ℕ)) (input : List ℕ) → IsInput stock name input → length input < 2 ^ 64
 input_size stock None input none = omega (arith, ap length none)
 input_size stock (Some name) input held = omega (arith, held.0)
@@ -104,7 +104,7 @@ IsOrigin-start o contents range is storable readable fresh =
       starts = subst (λ (kept : Option Mark). StartsFrom kept o.start) (sym fresh) status;
     }
 
--- ---- answers
+-- ---- results
 
 -- a device that begins with an image, or with nothing, is fitted for what that means
 fitted_by : {M : Type 0} (K : KindOf M) (laws : IsLawful K) (o : Origin) (reads : ReadsFiles K o.geometry) → (blocks : List Block) (shape : Shape) (n : Device) (kept : Option Mark) → o.kept ≡ kept
@@ -213,7 +213,7 @@ IsRunOf-ran K laws source job save before after plan blocks d stood e a told why
           (subst (λ x. IsRunFrom K x (given_of plan d) source job before after a) p.origin run);
     }
 
--- where there is no program, a job is not run
+-- if there is no program, a job is not run
 pub RunDue-program : (source : Source) (job : Job) (before after : Outside) (r : Refusal) → ProgramDue source job before.shelf after.shelf r → after.device ≡ before.device → RunDue source job before after r
 RunDue-program source job before after (DeviceRefusal e) due device = absurd due
 RunDue-program source job before after r due device = (due, device)

@@ -1,5 +1,5 @@
 -- Part of the claim.
--- What the top call answers.
+-- What the top call returns.
 use Rattle.std.specs.Prelude.{◌≡◌, ◌⊎◌, ℕ, ◌<◌, ◌≤◌, Bool, true, false, List, [], ◌∷◌, ◌++◌, length, codes, Option, Some, None, Ok, Err}
 use Rattle.std.specs.Fmt.{decimal}
 use Rattle.thy_base.specs.declared.outside.FetchError.TheVariants.{Failed as FetchFailed, NotThere, TooLong, Memory as FetchMemory}
@@ -61,7 +61,7 @@ with_device n o = record o { device = n }
 
 -- ---- refusals: what is due when
 
--- why the words are refused: what they mean; want of memory is free
+-- why the arguments are refused: what they mean; out of memory needs no reason
 abbrev pub WordsDue : List (List ℕ) → WordsError → Type 0
 WordsDue words (WordsMemory e) = Unit {0}
 WordsDue words e = settings_of words ≡ Err e
@@ -72,9 +72,9 @@ RunDue source job before after (DeviceRefusal e) =
     IsProgram source job before.shelf × HasNotFailed before.shelf after.shelf × HasFailedToFit e before.device after.device
 RunDue source job before after r = ProgramDue source job before.shelf after.shelf r × (after.device ≡ before.device)
 
--- ---- what is told of a refusal
+-- ---- what is reported of a refusal
 
--- the number of a program header, where it is told, and the line's end
+-- the number of a program header, if it is reported, and the line's end
 abbrev pub index_parts : Option ℕ → List (List ℕ)
 index_parts None = line_feed ∷ []
 index_parts (Some k) = codes " " ∷ decimal k ∷ line_feed ∷ []
@@ -84,7 +84,7 @@ abbrev pub file_line : ElfError → List ℕ
 file_line e =
     joined (codes "file " ∷ decimal (called e).0 ∷ codes " " ∷ (called e).1 ∷ index_parts (index_of e))
 
--- what is told of a refusal: the exit status and the closing line
+-- what is reported of a refusal: the exit status and the closing line
 abbrev pub told_of : Refusal → ℕ × List ℕ
 told_of (Words (WordsMemory e)) = (9, closing_of closing.Memory)
 told_of (Words Usage) = (2, closing_of closing.Usage)
@@ -106,7 +106,7 @@ told_of (MemoryRefusal e) = (9, closing_of closing.Memory)
 abbrev pub Closes : List ℕ → Stream → Stream → Type 0
 Closes line old new = (failed : Bool) × Sent failed old new line
 
--- a call that began no run: a line says why, and what stands on the shelf stays
+-- a call that began no run: a line says why, and what the shelf holds stays
 pub record IsRefused (r : Refusal) (before after : Outside) (a : Answer) : Type 0 where
   pub status : a.status ≡ (told_of r).0
   pub events : a.events ≡ []
@@ -117,11 +117,11 @@ pub record IsRefused (r : Refusal) (before after : Outside) (a : Answer) : Type 
 
 -- ---- runs
 
--- the device that a job's machine is fitted with
+-- the shape that the device of a job's machine is fitted with
 abbrev pub shape_for : {M : Type 0} → KindOf M → Config → Shape
 shape_for K c = record { blocks = K.blocks (parameters_of c); queue = c.nvmq; cuts = length c.cuts }
 
--- what a run is given besides its program, over a device that was fitted with its first blocks
+-- what a run is given in addition to its program, over a device that was fitted with its first blocks
 abbrev pub given_for : {M : Type 0} → KindOf M → Job → Beginning → Device → Given
 given_for K job begins device =
     record { config = job.config; digest = job.digest; fitted = fitted (shape_for K job.config) begins.blocks device }
@@ -136,7 +136,7 @@ stop_status Nvm = 7
 stop_status Limit = 8
 stop_status Memory = 9
 
--- and where the run was not saved, that of the put
+-- and if the run was to be saved and was not, that of the put
 abbrev pub run_status : Stop → Option PutError → ℕ
 run_status stop None = stop_status stop
 run_status stop (Some PutFailed) = 3
@@ -154,7 +154,7 @@ stop_line limit stop = []
 abbrev pub put_line : List ℕ → List ℕ
 put_line name = joined (codes "put " ∷ name ∷ codes " failed" ∷ line_feed ∷ [])
 
--- and where the run was not saved, that of the put
+-- and if the run was to be saved and was not, that of the put
 abbrev pub run_line : ℕ → Option (List ℕ) → Stop → Option PutError → List ℕ
 run_line limit (Some name) stop (Some PutFailed) = put_line name
 run_line limit save stop (Some (PutMemory e)) = closing_of closing.Memory
@@ -174,13 +174,13 @@ ClosesRun true lines old new = new ≡ old
 abbrev pub IsSafeFor : {M : Type 0} → KindOf M → Origin → List Event → Device → Type 0
 IsSafeFor K o events n = IsSafe K.decode o (marks_of o events) n
 
--- A run that is about this, and was given this, was begun and stopped. Its cycles are those of a run, and keep what is
--- promised of every run; the sinks took what its events say. It was saved, where that was asked for, and its device is safe
+-- A run with this origin, which was given this, was begun and stopped. Its cycles are those of a run, and keep what is
+-- promised of every run; the sinks took what its events say. It was saved if that was asked for, and its device is safe
 -- also then.
 pub record IsRunFrom {M : Type 0} (K : KindOf M) (o : Origin) (given : Given) (source : Source) (job : Job) (before after : Outside)
     (a : Answer) : Type 0 where
   pub ending : Ending
-  -- the device where the run stopped, and the report with the lines of its events
+  -- the device when the run stopped, and the report with the lines of its events
   pub stood : Device
   pub told : Stream
   pub ran : HasRun K o given stood ending before.terminal after.terminal before.report told
@@ -201,8 +201,8 @@ pub record IsRunOf {M : Type 0} (K : KindOf M) (source : Source) (job : Job) (be
   pub run : IsRunFrom K (origin_for job program.begins program.input) (given_for K job program.begins before.device)
       source job before after a
 
--- The same over the device that the run sees, which with a gap is not the one that was handed in. Of this one its images are
--- told by themselves.
+-- The same over the device that the run sees, which with a gap is not the one that was handed in. `IsHandedBack` says
+-- which images the latter has.
 pub record IsRunOver {M : Type 0} (K : KindOf M) (source : Source) (job : Job) (before after : Outside) (a : Answer) : Type 0 where
   pub found : Device
   pub left : Device
@@ -222,7 +222,7 @@ plain_stop true false status = Terminal
 plain_stop false false Running = Limit
 plain_stop false false status = Ended status
 
--- k is the least number of steps after which the program runs no more, or the limit where that comes first
+-- k is the least number of steps after which the program runs no more, or the limit if that is reached first
 pub record StopsAt (o : Origin) (limit k : ℕ) : Type 0 where
   pub within : k ≤ limit
   pub ran : (j : ℕ) → j < k → runs_at o j ≡ true
@@ -251,7 +251,7 @@ pub record IsPlainOf (name : List ℕ) (job : Job) (before after : Outside) (a :
 
 -- ---- the made program
 
--- what is told of a put: the made file's number and length, or why it was not put
+-- what is reported of a put: the made file's number and length, or why it was not put
 abbrev pub made_told : ℕ → List ℕ → Option PutError → ℕ × List ℕ
 made_told n name None = (0, made_of n (length (made_file n)))
 made_told n name (Some PutFailed) = (3, put_line name)
@@ -268,9 +268,9 @@ pub record MakeAnswered (n : ℕ) (name : List ℕ) (before after : Outside) (a 
   pub shown_none : after.terminal ≡ before.terminal
   pub device : after.device ≡ before.device
 
--- ---- answers
+-- ---- results
 
--- what the answer to a job is
+-- the result of a job
 abbrev pub RunAnswered : {M : Type 0} → KindOf M → Source → Job → Outside → Outside → Answer → Type 0
 RunAnswered K source job before after a =
     ((r : Refusal) × RunDue source job before after r × IsRefused r before after a)
@@ -283,13 +283,13 @@ PlainAnswered name job before after a =
     × (((r : Refusal) × ProgramDue (file name) job before.shelf after.shelf r × IsRefused r before after a)
     ⊎ IsPlainOf name job before after a)
 
--- the words are refused, and shelf and device are left alone
+-- the arguments are refused, and shelf and device are left alone
 abbrev pub WordsRefused : List (List ℕ) → Outside → Outside → Answer → Type 0
 WordsRefused words before after a =
     (e : WordsError) × WordsDue words e × (after.shelf ≡ before.shelf) × (after.device ≡ before.device)
     × IsRefused (Words e) before after a
 
--- what the answer to an order is: a run of a source on the machine of the job's scheme, one on the plain machine, or a made
+-- the result of an order: a run of a source on the machine of the job's scheme, one on the plain machine, or a made
 -- program
 abbrev pub OrderAnswered : Choice → Order → Outside → Outside → Answer → Type 0
 OrderAnswered c (run name job) before after a = RunAnswered (c job.config.scheme).kind (file name) job before after a
@@ -298,7 +298,7 @@ OrderAnswered c (resume name job) before after a = RunAnswered (c job.config.sch
 OrderAnswered c (plain name job) before after a = PlainAnswered name job before after a
 OrderAnswered c (make n name) before after a = MakeAnswered n name before after a
 
--- What the answer to a call is: the words are refused, or they give an order, and this is answered.
+-- The result of a call: the arguments are refused, or they give an order, and this is its result.
 abbrev pub Answered : Choice → List (List ℕ) → Outside → Outside → Answer → Type 0
 Answered c words before after a =
     WordsRefused words before after a

@@ -1,5 +1,5 @@
 -- Part of the claim.
--- What the answer is where nothing is amiss: that of the program's own end.
+-- The result of a call in which nothing fails: that of the program's own end.
 use Rattle.std.specs.Prelude.{◌≡◌, ◌⊎◌, ℕ, ◌+◌, ◌-◌, ◌^◌, ◌<◌, ◌≤◌, false, List, Some, Ok}
 use Rattle.thy_base.specs.Geometry.{parameters_of}
 use Rattle.thy_base.specs.Outside.{Stock, Files}
@@ -19,15 +19,15 @@ run_of (file name) job = run name job
 run_of (made n) job = bench n job
 run_of (image name) job = resume name job
 
--- the words give this order, on a shelf that tells; and what it asks for stands there, or is made, each within the limit,
--- and means a program
+-- The arguments give this order, on a shelf with known contents; what it asks for is there, or is made, each within
+-- the limit, and means a program.
 pub record IsAsked (order : Order) (source : Source) (job : Job) (words : List (List ℕ)) (stock : Stock) : Type 0 where
   pub asked : settings_of words ≡ Ok order
   pub files : Files
   pub tells : stock.held ≡ Some files
   pub program : IsProgram source job stock
 
--- a count of faults stayed, below the last value, at which it would also stand after a fault
+-- a count of faults stayed, below the last value, at which it would stay after a fault too
 pub record Stayed (old new : ℕ) : Type 0 where
   pub same : new ≡ old
   pub counts : old < 2 ^ 64 - 1
@@ -39,15 +39,15 @@ pub record IsCalm (before after : Outside) : Type 0 where
   pub terminal : Stayed before.terminal.faults after.terminal.faults
   pub report : Stayed before.report.faults after.report.faults
 
--- the state of the program k instructions behind where it begins, left alone
+-- the state of the program k instructions after its beginning, without power cuts
 abbrev pub left_alone : {source : Source} {job : Job} {stock : Stock} → IsProgram source job stock → ℕ → State
 left_alone {job = job} p k = at (origin_for job p.begins p.input) (p.begins.start.count + k)
 
--- the answer is that of this state's end, or memory was short
+-- the status is that of this state's end, or memory ran out
 abbrev pub TellsEnd : State → Answer → Type 0
 TellsEnd s a = (a.status ≡ stop_status (Ended s.status)) ⊎ (a.status ≡ 9)
 
--- A program that ends within k instructions ends so on the machine, in spite of all power cuts, where the limit is not
+-- A program that ends within k instructions ends so on the machine, in spite of all power cuts, if the limit is not
 -- below the cycles that the machine promises for as many.
 abbrev pub RunCompletes : Choice → List (List ℕ) → Outside → Outside → Answer → Type 0
 RunCompletes c words before after a =
@@ -57,7 +57,7 @@ RunCompletes c words before after a =
     → cycles_for (c job.config.scheme).kind (parameters_of job.config) job.config.cuts k ≤ job.config.limit
     → TellsEnd (left_alone i.program k) a
 
--- and on the plain machine, where the limit is not below k
+-- and on the plain machine, if the limit is not below k
 abbrev pub PlainCompletes : List (List ℕ) → Outside → Outside → Answer → Type 0
 PlainCompletes words before after a =
     (name : List ℕ) (job : Job) (i : IsAsked (plain name job) (file name) job words before.shelf) (k : ℕ)
@@ -66,13 +66,13 @@ PlainCompletes words before after a =
     → k ≤ job.config.limit
     → TellsEnd (left_alone i.program k) a
 
--- a file that is to be made is put, unless memory was short
+-- a file that is to be made is put, unless memory ran out
 abbrev pub MakeCompletes : List (List ℕ) → Outside → Outside → Answer → Type 0
 MakeCompletes words before after a =
     (n : ℕ) (name : List ℕ) → settings_of words ≡ Ok (make n name) → IsCalm before after
     → (a.status ≡ 0) ⊎ (a.status ≡ 9)
 
--- What is claimed of a call: what its answer is, and that this is complete.
+-- What is claimed of a call: what its result is, and that this is complete.
 pub record Claim (c : Choice) (words : List (List ℕ)) (before after : Outside) (a : Answer) : Type 0 where
   pub answered : Answered c words before after a
   pub complete_run : RunCompletes c words before after a

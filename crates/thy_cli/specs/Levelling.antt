@@ -1,5 +1,5 @@
 -- Part of the claim.
--- The device that a run sees: the one that is handed in, or with a gap the lines that wander over it.
+-- The device that a run sees: the one that is handed in, or, with a gap, the levelled lines that it holds.
 use Rattle.std.specs.Prelude.{◌≡◌, ℕ, ◌+◌, ◌==◌, if◌then◌else◌, Bool, true, List, map, length, take, Option, Some, None}
 use Rattle.thy_base.specs.declared.block.Block.{Block}
 use Rattle.thy_base.specs.declared.outside.PutError.{PutError}
@@ -40,7 +40,7 @@ pub record IsLeftAs (gap : ℕ) (handed seen : Device) : Type 0 where
   pub faults : seen.faults ≡ handed.faults
   pub fits : seen.fits ≡ handed.fits
 
--- ---- what is so known of the device that is handed back, without the one that the run saw
+-- ---- what follows for the device that is handed back, without the one that the run saw
 
 -- what the images of the device mean
 abbrev pub read_through : ℕ → Reading → Reading

@@ -1,4 +1,4 @@
--- What the program keeps of a job: where its program comes from, and what is planned for the run of it.
+-- What the program keeps of a job: the source of its program, and the plan of its run.
 use Rattle.std.specs.Prelude.{◌≡◌, ℕ, ◌<◌, Bool, List, [], length, Option, Some, None, Result, Ok, Err, IfOk, IfErr}
 use Rattle.thy_base.specs.declared.block.Block.{Block}
 use Rattle.thy_base.specs.declared.config.Config.{Config}
@@ -63,7 +63,7 @@ abbrev pub IsNotHad : List ℕ → Stock → Stock → Refusal → Type 0
 IsNotHad name old new (Fetch text e) = (text.now ≡ name) × FetchDue old new text.now e
 IsNotHad name old new r = ⊥
 
--- bytes and input were had for a job, in the numbers of its configuration
+-- bytes and input were read for a job, in the numbers of its configuration
 pub record IsHadFor (source : Source) (job : Job) (stock : Stock) (p : Parameters) (had : Had) : Type 0 where
   pub numbers : p ≡ parameters_of job.config
   pub in_range : IsInRange p
@@ -95,7 +95,7 @@ pub record IsImageOf (p : Parameters) (epoch : ℕ) (b : Beginning) : Type 0 whe
   pub long : AllLong b.blocks
   pub decodes : decode_image p ceiling b.blocks ≡ At epoch b.start
 
--- what the program has in hand of a beginning: a start, and the first blocks of the device
+-- what the program keeps of a beginning: a start, and the first blocks of the device
 abbrev pub begun_with : Start → List Block → Beginning
 begun_with s blocks = record { start = state_of s.state; kept = s.kept; blocks = blocks }
 
@@ -141,7 +141,7 @@ pub record CanRun (p : Plan) (blocks : List Block) : Type 0 where
   pub planned : IsPlanned p
   pub fits : Fits p.geometry (begun_with p.start blocks)
 
--- after a run the device has room for one more image; its images are those of the cuts that were told, and it has its blocks
+-- after a run the device has room for one more image; its images are those of the cuts reported, and it has its blocks
 pub record HasRoom (n : Device) (events : List Event) (blocks : ℕ) : Type 0 where
   pub room : length n.left < n.left_room
   pub cuts : length n.left ≡ length (cuts_among events)
@@ -155,7 +155,7 @@ pub record IsPlanOf (source : Source) (job : Job) (stock : Stock) (p : Plan) (bl
   pub origin : origin_of p ≡ origin_for job program.begins program.input
   pub over : blocks ≡ program.begins.blocks
 
--- the device that a plan's machine is fitted with
+-- the shape that the device of a plan's machine is fitted with
 abbrev pub shape_of : {M : Type 0} → KindOf M → Plan → Shape
 shape_of K p = record { blocks = K.blocks p.geometry; queue = p.geometry.nvmq; cuts = length p.config.cuts }
 

@@ -24,7 +24,7 @@ pub record IsRestored (p : Parameters) (bytes input : List ℕ) (epoch : ℕ) (b
   pub reads : bytes_of b.start.input ≡ input
   pub blocks : b.blocks.items ≡ blocks_of bytes
 
--- with these parameters the NVM of these machines has the images that stand in files
+-- with these parameters the NVM of these machines has the layout of image files
 pub record ReadsFiles {M : Type 0} (K : KindOf M) (p : Parameters) : Type 0 where
   pub decode : (ceiling : ℕ) (image : List Block) → K.decode p ceiling image ≡ decode_image p ceiling image
   pub blocks : K.blocks p ≡ image_blocks p

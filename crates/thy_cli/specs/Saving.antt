@@ -12,7 +12,7 @@ use Rattle.thy_run.specs.World.{tear}
 use Rattle.thy_run.specs.declared.ending.Stop.{Stop}
 use Rattle.thy_run.specs.declared.ending.Stop.TheVariants.{Ended, Limit, Nvm, Memory, Terminal, Report}
 
--- behind these stops a run is saved: the program has ended, the limit is reached, or the device failed
+-- after these stops a run is saved: the program has ended, the limit is reached, or the device failed
 abbrev pub saves : Stop → Bool
 saves (Ended status) = true
 saves Limit = true
@@ -21,7 +21,7 @@ saves Memory = false
 saves Terminal = false
 saves Report = false
 
--- the pick of a save's cut: the entry of the tears behind those of all listed cuts
+-- the pick of a save's cut: the entry of the tears after those of all listed cuts
 abbrev pub save_pick : Config → ℕ
 save_pick c = tear c.tears (length c.cuts)
 
@@ -35,14 +35,14 @@ PutCounted name old new None = HasNotFailed old new
 PutCounted name old new (Some PutFailed) = HasFailedUnder name old new
 PutCounted name old new (Some (PutMemory e)) = MayHaveFailed name old new
 
--- bytes were put under a name, or were not; where memory was short they may not even have been handed over
+-- bytes were put under a name, or were not; if an allocation failed they may not even have been handed over
 pub record IsPut (name bytes : List ℕ) (old new : Stock) (why : Option PutError) : Type 0 where
   pub holds : why ≡ None → Holds new name bytes
   pub others : KeepsOthers old new name
   pub counted : PutCounted name old new why
 
--- What a save leaves, where a run has a name for it and stops so that it is saved: the power is cut once more, and the
--- bytes of what this cut left are put under the name. Else device and shelf are left alone.
+-- What a save leaves, if a run has a name for it and stops so that it is saved: the power is cut once more, and the
+-- bytes of what this cut left are put under the name. Otherwise device and shelf are left alone.
 abbrev pub SavesUnder : Option (List ℕ) → Bool → Config → Device → Device → Stock → Stock → Option PutError → Type 0
 SavesUnder (Some name) true config stood left old new why =
     IsCut (save_pick config) stood left × IsPut name (flat left.image) old new why

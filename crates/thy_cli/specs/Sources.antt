@@ -1,5 +1,5 @@
 -- Part of the claim.
--- Where the program of a run comes from, and what its bytes mean.
+-- The source of a run's program, and what its bytes mean.
 use Rattle.std.specs.Prelude.{◌≡◌, ◌⊎◌, ℕ, ◌<◌, ◌≤◌, ◌^◌, nat_le, if◌then◌else◌, List, [], length, Option, Some, None, Result, Ok, Err, MatchOption}
 use Rattle.std.specs.List.{All}
 use Rattle.thy_base.specs.declared.block.Block.{Block}
@@ -25,13 +25,13 @@ use Rattle.thy_words.specs.Settings.{Job}
 use Rattle.thy_cli.specs.declared.refusal.Refusal.{Refusal}
 use Rattle.thy_cli.specs.declared.refusal.Refusal.TheVariants.{Words, Fetch, File, Image, Input, Device as DeviceRefusal, Memory as MemoryRefusal}
 
--- ---- what stands on a shelf
+-- ---- what a shelf holds
 
 -- the most bytes that a file may have
 abbrev pub most_bytes : ℕ
 most_bytes = 67108864
 
--- bytes that may be those under a name: they are, where the shelf tells
+-- bytes that may be those under a name: they are, if the shelf's contents are known
 abbrev pub IsHeld : Stock → List ℕ → List ℕ → Type 0
 IsHeld stock name bytes =
     (length bytes ≤ most_bytes) × ((files : Files) → stock.held ≡ Some files → files name ≡ Some bytes)
@@ -40,8 +40,8 @@ IsHeld stock name bytes =
 abbrev pub IsTooLong : Option (List ℕ) → Type 0
 IsTooLong there = (bytes : List ℕ) × (there ≡ Some bytes) × (most_bytes < length bytes)
 
--- why a file was not had: the shelf failed under its name, or one that tells has nothing there, or too much; where memory
--- was short it may have failed under it
+-- why a file could not be read: the shelf failed under its name, or its contents are known and it has nothing there, or
+-- too much; if an allocation failed the shelf may have failed under it
 abbrev pub FetchDue : Stock → Stock → List ℕ → FetchError → Type 0
 FetchDue old new name FetchFailed = HasFailedUnder name old new
 FetchDue old new name NotThere =
@@ -50,7 +50,7 @@ FetchDue old new name TooLong =
     MatchOption old.held (HasFailedUnder name old new) (λ files. IsTooLong (files name) × HasNotFailed old new)
 FetchDue old new name (FetchMemory e) = MayHaveFailed name old new
 
--- the bytes of an input: those under its name, or none where there is no name
+-- the bytes of an input: those under its name, or none if there is no name
 abbrev pub IsInput : Stock → Option (List ℕ) → List ℕ → Type 0
 IsInput stock None bytes = bytes ≡ []
 IsInput stock (Some name) bytes = IsHeld stock name bytes
@@ -63,7 +63,7 @@ pub data Source : Type 0 where
   made : ℕ → Source
   image : List ℕ → Source
 
--- the name that has to be had for a source
+-- the name of the file that has to be read for a source
 abbrev pub name_of : Source → Option (List ℕ)
 name_of (file name) = Some name
 name_of (image name) = Some name
@@ -75,7 +75,7 @@ AreBytesOf (file name) stock bytes = IsHeld stock name bytes
 AreBytesOf (image name) stock bytes = IsHeld stock name bytes
 AreBytesOf (made n) stock bytes = bytes ≡ made_file n
 
--- with what a run begins: a state, the checkpoint that it was taken from if it was, and the first blocks of its device
+-- what a run begins with: a state, the checkpoint that it was taken from if it was, and the first blocks of its device
 pub record Beginning : Type 0 where
   pub start : State
   pub kept : Option Mark
@@ -89,7 +89,7 @@ abbrev pub begun : Parameters → Result Contents ElfError → Result Beginning 
 begun p (Ok contents) = Ok (from_entry p contents)
 begun p (Err e) = Err (File e)
 
--- a checkpoint, over the image that it stands in; what it has read of the input has to be there
+-- a checkpoint, over the image that holds it; what it has read of the input has to be there
 abbrev pub restored : (bytes input : List ℕ) → Decoded → Result Beginning Refusal
 restored bytes input Nothing = Err (Image Empty)
 restored bytes input (Refused bad) = Err (Image bad)
@@ -109,7 +109,7 @@ meaning_of (image name) job bytes input =
 meaning_of source job bytes input =
     begun (parameters_of job.config) (read_of bytes job.config.base (program_size (parameters_of job.config)))
 
--- bytes of a source, and an input, were had
+-- bytes of a source, and an input, were read
 pub record IsHad (source : Source) (job : Job) (stock : Stock) (bytes input : List ℕ) : Type 0 where
   pub are_bytes : All IsByte bytes
   pub had : AreBytesOf source stock bytes
@@ -124,7 +124,7 @@ pub record IsProgram (source : Source) (job : Job) (stock : Stock) : Type 0 wher
   pub begins : Beginning
   pub means : meaning_of source job bytes input ≡ Ok begins
 
--- what a run is about, that begins so; with one hart no turn is told
+-- the origin of a run that begins so; with one hart no turn is reported
 abbrev pub origin_for : Job → Beginning → List ℕ → Origin
 origin_for job begins input =
     record { geometry = parameters_of job.config; start = begins.start; input = input; kept = begins.kept; turns = [] }
@@ -137,14 +137,14 @@ IsWanted source job stock name =
     (name_of source ≡ Some name)
     ⊎ ((job.input ≡ Some name) × (bytes : List ℕ) × AreBytesOf source stock bytes)
 
--- bytes and input were had, and mean this refusal
+-- bytes and input were read, and mean this refusal
 abbrev pub IsMeant : Source → Job → Stock → Refusal → Type 0
 IsMeant source job stock r =
     (bytes : List ℕ) × AreBytesOf source stock bytes × (input : List ℕ) × IsInput stock job.input input
     × (meaning_of source job bytes input ≡ Err r)
 
--- Why a run has no program: bytes or input were not had, or both were and mean none. Want of memory is free, but that the
--- shelf has not failed.
+-- Why a run has no program: bytes or input could not be read, or both were and mean none. Out of memory needs no
+-- reason, but the shelf has not failed.
 abbrev pub ProgramDue : Source → Job → Stock → Stock → Refusal → Type 0
 ProgramDue source job old new (Fetch name e) = IsWanted source job old name.now × FetchDue old new name.now e
 ProgramDue source job old new (File (ElfMemory e)) = HasNotFailed old new

@@ -1,4 +1,4 @@
-//! What the top call answers.
+//! What the top call returns.
 
 ghost use Rattle.std.specs.Prelude.{◌≡◌};
 ghost use Rattle.thy_cli.specs.Answering.{run_status, stop_status};
@@ -8,10 +8,10 @@ use thy_isa::Status;
 use thy_run::Stop;
 use thy_text::Events;
 
-/// The answer of the top call.
+/// The result of the top call.
 #[derive(Drop)]
 pub struct Answer {
-    /// The exit status: 0 where the program exited, 1 where it trapped, 2 to 10 as `docs/FORMATS.md`
+    /// The exit status: 0 if the program exited, 1 if it trapped, 2 to 10 as `docs/FORMATS.md`
     /// lists them.
     pub status: u8,
     /// What happened, in order.
@@ -34,7 +34,7 @@ pub fn status_of(stop: Stop) -> u8
     }
 }
 
-/// The status of a run that stopped; where it was to be saved and was not, that of the put.
+/// The status of a run that stopped; if it was to be saved and was not, that of the put.
 pub fn run_status(stop: Stop, why: Option<PutError>) -> u8
     ensures { result ≡ run_status stop why }
 {

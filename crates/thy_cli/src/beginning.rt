@@ -1,4 +1,4 @@
-//! With what a run begins, by where its program comes from.
+//! What a run begins with, for each source of its program.
 ghost use Rattle.std.specs.Prelude.{List, ℕ};
 ghost use Rattle.thy_base.specs.Geometry.{IsInRange};
 ghost use Rattle.thy_cli.specs.Sources.{Source as SourceValue, image};
@@ -59,7 +59,7 @@ fn from_image<'a>(alloc: Global, geometry: &Geometry, had: Had) -> Result<Beginn
     Ok(beginning)
 }
 
-/// With what a run begins whose bytes and input were had.
+/// What a run begins with once its bytes and its input were read.
 pub fn begin<'a>(
     alloc: Global,
     source: Source<'a>,

@@ -1,4 +1,4 @@
-//! The end of a report, and the answer.
+//! The end of a report, and the result of a run.
 ghost use Rattle.std.specs.Prelude.{◌≡◌, ◌++◌, false, option_map};
 ghost use Rattle.thy_text.specs.Closings.{closing_of};
 ghost use Rattle.thy_cli.specs.Answering.{Closes, ClosesRun, run_line, run_status, stop_line, summary_for};
@@ -12,14 +12,14 @@ use thy_isa::Status;
 use thy_run::{Ending, Stop};
 use thy_text::{Closing, write_closing, write_summary};
 
-/// Writes a closing line, and answers whether the report failed.
+/// Writes a closing line, and returns whether the report failed.
 pub fn close<R: Sink>(closing: Closing, report: &mut R) -> bool
     ensures { Sent result (R.stream report.old) (R.stream report.new) (closing_of closing.entry) }
 {
     write_closing(closing, report).is_err()
 }
 
-/// Writes the summary of a made program that exited, and answers whether the report failed.
+/// Writes the summary of a made program that exited, and returns whether the report failed.
 fn sum_up<R: Sink>(source: Source, ending: &Ending, report: &mut R) -> bool
     ensures { Sent result (R.stream report.old) (R.stream report.new)
         (summary_for (named source.entry) ending.now.stop ending.now.events) }
@@ -53,7 +53,7 @@ fn close_stop<R: Sink>(stop: Stop, limit: u64, report: &mut R)
     }
 }
 
-/// Writes the closing line of a run: where it was to be saved and was not, that of the put.
+/// Writes the closing line of a run: if it was to be saved and was not, that of the put.
 fn close_line<R: Sink>(
     save: Option<&str>,
     stop: Stop,
@@ -75,7 +75,7 @@ fn close_line<R: Sink>(
     }
 }
 
-/// Writes the last lines of a run. Where the report fails in them, the answer stays.
+/// Writes the last lines of a run. If the report fails in them, the result stays.
 fn close_run<R: Sink>(
     source: Source,
     save: Option<&str>,
@@ -93,7 +93,7 @@ fn close_run<R: Sink>(
     }
 }
 
-/// The answer of a run that has stopped. A report that has not failed gets the last lines.
+/// The result of a run that has stopped. A report that has not failed gets the last lines.
 pub fn answer<R: Sink>(
     source: Source,
     save: Option<&str>,

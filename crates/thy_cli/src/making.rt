@@ -14,7 +14,7 @@ use thy_base::{PutError, Shelf, Sink};
 use thy_make::file;
 use thy_text::{Closing, Events, write_made};
 
-/// Puts the program file that is made from a number under a name; and answers its length, or why it was not put.
+/// Puts the program file that is made from a number under a name; and returns its length, or why it was not put.
 fn put_made<H: Shelf>(
     alloc: Global,
     number: u64,
@@ -32,8 +32,8 @@ fn put_made<H: Shelf>(
     Ok(bytes.len() as u64)
 }
 
-/// Says that a program file of this length was put, or why it was not; and answers the exit status. Where the report
-/// fails in the line, the answer stays.
+/// Reports that a program file of this length was put, or why it was not; and returns the exit status. If the report
+/// fails in the line, the status stays.
 fn tell<R: Sink>(number: u64, name: &str, put: Result<u64, PutError>, report: &mut R) -> u8
     requires { IfOk put (λ l. l ≡ length (made_file number)) }
     ensures status { result ≡ (made_told number name.now (err_of put)).0 }

@@ -24,7 +24,7 @@ use thy_run::{Ending, Stop, write_bytes};
 use thy_text::{Events, write_ended};
 use thy_words::{Job, WordsError};
 
-/// Writes how the program has ended, if it has, and answers whether the report failed.
+/// Writes how the program has ended, if it has, and returns whether the report failed.
 fn write_end<R: Sink>(state: &MachState, digest: bool, report: &mut R) -> bool
     ensures { let s = state.now in
         let lines = ended_lines digest s.status s.count (bytes_of s.memory) in

@@ -16,9 +16,9 @@ use thy_words::WordsError;
 /// Why a call begins no run.
 #[derive(Clone, Copy)]
 pub enum Refusal<'a> {
-    /// Because of the words.
+    /// Because of the arguments.
     Words(WordsError),
-    /// The file of this name was not had.
+    /// The file of this name could not be read.
     Fetch(&'a str, FetchError),
     /// The file is refused.
     File(ElfError),
@@ -48,7 +48,7 @@ fn file_closing(error: ElfError) -> Closing<'static>
     }
 }
 
-/// What is told of a refusal: the exit status and the closing line.
+/// What is reported of a refusal: the exit status and the closing line.
 fn told_of(refusal: Refusal<'_>) -> (u8, Closing<'_>)
     ensures status { result.0 ≡ refused_status refusal.entry }
     ensures line { closing_of result.1 ≡ refused_line refusal.entry }
@@ -77,7 +77,7 @@ fn told_of(refusal: Refusal<'_>) -> (u8, Closing<'_>)
     }
 }
 
-/// Says why no run was begun, and answers so.
+/// Reports why no run was begun, and returns the result of such a call.
 pub fn refuse<R: Sink>(alloc: Global, refusal: Refusal, report: &mut R) -> Answer
     ensures status { result.status ≡ refused_status refusal.entry }
     ensures events { result.events ≡ [] }

@@ -1,4 +1,4 @@
-//! With what a run begins that goes on from a saved image.
+//! What a run begins with that resumes from a saved image.
 ghost use Rattle.std.specs.Prelude.{◌≡◌, IfOk};
 ghost use Rattle.thy_base.specs.Bytes.{bytes_of};
 ghost use Rattle.thy_record.specs.Files.{blocks_of};
@@ -8,7 +8,7 @@ use std::alloc::{AllocError, Global};
 use thy_base::{BLOCK_SIZE, Block, Bytes, Geometry, Mark};
 use thy_record::{Start, block_in, state};
 
-/// With what a run begins: a start, and the first blocks of its device.
+/// What a run begins with: a start, and the first blocks of its device.
 #[derive(Drop)]
 pub struct Beginning {
     pub start: Start,
@@ -27,9 +27,9 @@ fn whole_blocks(alloc: Global, bytes: &[u8]) -> Result<Vec<Block>, AllocError>
     Ok(blocks)
 }
 
-/// With what a run begins that goes on from the checkpoint in the bytes of an image: its state, with this input, and the
-/// image's blocks. A `check` of these bytes has found the checkpoint of this epoch, with epochs and counts below `2^62`.
-/// Fails where memory is short.
+/// What a run begins with that resumes from the checkpoint in the bytes of an image: its state, with this input, and
+/// the image's blocks. A `check` of these bytes has found the checkpoint of this epoch, with epochs and counts below
+/// `2^62`. Fails if memory runs out.
 pub fn restore(
     alloc: Global,
     bytes: &[u8],

@@ -28,7 +28,7 @@ use thy_run::{Ending, Plan, run};
 use thy_view::Computer;
 use thy_words::{Job, WordsError};
 
-/// With what a job's run begins; or why there is no run.
+/// What a job's run begins with; or why there is no run.
 fn prepare<'a, H: Shelf>(
     alloc: Global,
     source: Source<'a>,
@@ -50,7 +50,7 @@ fn prepare<'a, H: Shelf>(
     }
 }
 
-/// Saves a run that stopped, if it is to be saved; and answers why it was not, where it was to be and was not.
+/// Saves a run that stopped, if it is to be saved; and returns why it was not, if it was to be and was not.
 fn save_run<H: Shelf, N: Nvm>(
     alloc: Global,
     name: Option<&str>,
@@ -83,7 +83,7 @@ fn save_run<H: Shelf, N: Nvm>(
     }
 }
 
-/// The device that a plan's machine is fitted with.
+/// The shape that the device of a plan's machine is fitted with.
 fn shape_of<M: Computer>(plan: &Plan) -> Shape
     ensures shape { result ≡ shape_of M.kind plan.now }
     ensures queue { 0 < result.queue }
@@ -152,7 +152,8 @@ fn run_direct<M: Computer, H: Shelf, T: Sink, R: Sink, N: Nvm>(
     }
 }
 
-/// Runs a plan over lines that wander over a device. They are made for it, with these first blocks. Saves the run.
+/// Runs a plan with wear levelling, over lines that are moved on the device. They are made for it, with these first blocks.
+/// Saves the run.
 fn run_levelled<M: Computer, H: Shelf, T: Sink, R: Sink, N: Nvm>(
     alloc: Global,
     source: Source,
@@ -222,7 +223,7 @@ fn run_plan<M: Computer, H: Shelf, T: Sink, R: Sink, N: Nvm>(
     }
 }
 
-/// Runs a job on a machine, from where its program comes.
+/// Runs a job on a machine, from the source of its program.
 fn run_source<M: Computer, H: Shelf, T: Sink, R: Sink, N: Nvm>(
     alloc: Global,
     source: Source,

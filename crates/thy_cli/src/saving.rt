@@ -1,4 +1,4 @@
-//! Saving a run: one more cut of power behind it, whose image goes to a shelf.
+//! Saving a run: one more cut of power after it, whose image goes to a shelf.
 ghost use Rattle.std.specs.Prelude.{◌≡◌, ◌<◌, ◌++◌, length, IfOk, OnOk};
 ghost use Rattle.thy_base.specs.Blocks.{block_bytes};
 ghost use Rattle.thy_base.specs.Device.{block_at, IsCut};
@@ -22,7 +22,7 @@ pub fn is_saved(stop: Stop) -> bool
     }
 }
 
-/// The pick of a save's cut: the tear behind those of the listed cuts, or 0 where none is given.
+/// The pick of a save's cut: the tear after those of the listed cuts, or 0 if none is given.
 pub fn save_pick(config: &Config) -> u64
     ensures { result ≡ save_pick config.now }
 {
@@ -41,7 +41,7 @@ fn is_cut(event: &Event) -> bool
     matches!(event, Event::Cut { .. })
 }
 
-/// How many cuts of power the events tell of.
+/// How many cuts of power the events report.
 pub fn cuts_in(events: &Events) -> u64
     ensures { result ≡ length (cuts_among events.now) }
 {
@@ -83,7 +83,7 @@ fn image_bytes<N: Nvm>(alloc: Global, nvm: &N, i: u64, blocks: u64) -> Result<Ve
     Ok(bytes)
 }
 
-/// Puts bytes under a name; or answers why they were not put there.
+/// Puts bytes under a name; or returns why they were not put there.
 fn put_bytes<H: Shelf>(alloc: Global, name: &str, bytes: &[u8], shelf: &mut H) -> Option<PutError>
     ensures { IsPut name.now bytes.now (H.stock shelf.old) (H.stock shelf.new) result }
 {
@@ -93,10 +93,10 @@ fn put_bytes<H: Shelf>(alloc: Global, name: &str, bytes: &[u8], shelf: &mut H) -
     }
 }
 
-/// Cuts the power once more behind a run whose device has kept so many images and has so many blocks, and puts the
+/// Cuts the power once more after a run whose device has kept so many images and has so many blocks, and puts the
 /// bytes of what this cut left under a name.
 ///
-/// The answer is why they were not put there, if they were not.
+/// The result is why they were not put there, if they were not.
 pub fn save<H: Shelf, N: Nvm>(
     alloc: Global,
     name: &str,

@@ -1,4 +1,4 @@
-//! Where the program of a run comes from, and how it is had.
+//! The source of a run's program, and how it is read.
 ghost use Rattle.std.specs.Prelude.{◌≡◌, ℕ, List, length, IfOk, IfErr, OnOk, option_map};
 ghost use Rattle.thy_base.specs.Bytes.{bytes_of};
 ghost use Rattle.thy_base.specs.Geometry.{IsInRange, program_size};
@@ -13,10 +13,10 @@ use thy_base::{Bytes, Geometry, Shelf};
 use thy_elf::{Image, read};
 use thy_plain::are_bytes;
 
-/// The most bytes that a file may have which is fetched.
+/// The most bytes that a fetched file may have.
 const MOST_BYTES: u64 = 67_108_864;
 
-/// Where the program of a run comes from.
+/// The source of a run's program.
 #[derive(Clone, Copy)]
 pub enum Source<'a> {
     /// A program file of this name on the shelf.
@@ -42,7 +42,7 @@ pub struct Program {
     pub input: Bytes,
 }
 
-/// Fetches what stands under a name.
+/// Reads the file under a name.
 fn fetch<'a, H: Shelf>(alloc: Global, name: &'a str, shelf: &mut H) -> Result<Bytes, Refusal<'a>>
     ensures refusal { IfErr result (IsNotHad name.now (H.stock shelf.old) (H.stock shelf.new)) }
     ensures held { (H.stock shelf.new).held ≡ (H.stock shelf.old).held }
@@ -77,7 +77,7 @@ fn source_bytes<'a, H: Shelf>(
     }
 }
 
-/// What a program reads, whose bytes were had; nothing is fetched where it has no input.
+/// The bytes of a program's input, once its own were read; nothing is fetched if it has no input.
 fn input_bytes<'a, H: Shelf>(
     alloc: Global,
     name: Option<&'a str>,

@@ -1,4 +1,4 @@
-//! The top call: from the words to the exit status.
+//! The top call: from the arguments to the exit status.
 ghost use Rattle.std.specs.Prelude.{map};
 ghost use Rattle.std.specs.String.{string_bytes};
 ghost use Rattle.thy_cli.specs.Completing.{Claim};
@@ -18,24 +18,24 @@ use thy_dual::DualScheme;
 use thy_view::Computer;
 use thy_words::{Command, settings};
 
-/// Does what the words after the program's name ask for: `run FILE`, `resume IMAGE`, `bench N`, `plain FILE` or
+/// Does what the arguments after the program's name ask for: `run FILE`, `resume IMAGE`, `bench N`, `plain FILE` or
 /// `make N OUT`, and options.
 ///
-/// `run` runs a program file on the machine, `bench` the one that is made from a number, and `resume` goes on from a
+/// `run` runs a program file on the machine, `bench` the one that is made from a number, and `resume` continues from a
 /// saved image. The console's bytes go to `terminal` when their checkpoint is committed or restored, the events' lines
 /// and a closing line to `report`; with `--save` what the run leaves on its device is put on the shelf. `plain` runs a
 /// file on the plain machine: the console's bytes go to `terminal` when it stops, the line of its end and a closing
 /// line to `report`. `make` puts the program file of a number on the shelf.
 ///
-/// The answer has the events (of runs on the machine), the number of done cycles (of `plain`: steps) and the exit
-/// status: 0 the program exited, or the file was put, 1 it trapped, 2 the words are refused, 3 the file, the image or
-/// the input was not had, or something was not put, 4 the file is refused, 5 the image is refused, 6 a sink failed,
-/// 7 the device failed, 8 the limit is reached, 9 there was not enough memory, 10 the image has read more input than
-/// there is.
+/// The result has the events (of runs on the machine), the number of done cycles (of `plain`: steps) and the exit
+/// status: 0 the program exited, or the file was put, 1 it trapped, 2 the arguments are refused, 3 the file, the
+/// image or the input could not be read, or something was not put, 4 the file is refused, 5 the image is refused, 6 a
+/// sink failed, 7 the device failed, 8 the limit is reached, 9 there was not enough memory, 10 the image has read
+/// more input than there is.
 ///
 /// The contract is the claim of this project, `docs/THEOREM.md`: whatever the device leaves at each cut,
 /// the events are lawful, each restart is what the cut before it left, and the device is safe at the end. It is complete,
-/// too: where the file or the image is a program that ends, the limit is high enough and nothing fails, the status is
+/// too: if the file or the image is a program that ends, the limit is high enough and nothing fails, the status is
 /// that of this end, or 9.
 pub fn thynvm<H: Shelf, T: Sink, R: Sink, N: Nvm>(
     alloc: Global,

@@ -28,7 +28,7 @@ pub written-nvm : (side : Bool) (at : ℕ) (v : Block) (d : Devices) → side �
 written-nvm true at v d e = cc
 written-nvm false at v d e = refl
 
--- each block's place in the checkpoint under way is one of the NVM, behind both slots
+-- each block's place in the checkpoint under way is one of the NVM, after both slots
 pub target-in_nvm : (s : State) (b : ℕ) → in_dram (target (cell_of s b)) ≡ false
 target-in_nvm s b = placed-in_nvm (cell_of s b).entry.v1 (cell_of s b).page.target (seat_of (cell_of s b))
 
@@ -40,7 +40,7 @@ target-not_one s b e =
 slot-not_one : (e : Progress) (k : ℕ) → slot_number e k ≢ 1
 slot-not_one e k same = absurd (omega (arith, same))
 
--- what leaves the commit block alone may be answered as any block of the slot
+-- what leaves the commit block alone may be reported as any block of the slot
 slot-acts : (first : Bool) (at : ℕ) (block : Block) (m : Device) → at ≢ 1 → Acts (Engine (if first then StateBlock else TableBlock)) m (written_to m at block)
 slot-acts true at block m other = record { action = WriteAt at block; asked = other; left = refl }
 slot-acts false at block m other = record { action = WriteAt at block; asked = other; left = refl }

@@ -110,7 +110,7 @@ sound_after e i sound = record { regs = sound.regs; inside = λ k is. inside-nex
 pub items_sound : ItemsSound
 items_sound e s sound = sound_after e (item_of e s) sound
 
--- engine and controller belong together where the engine is the one that an item leaves
+-- engine and controller belong together if the engine is the one that an item leaves
 pub fits_on : (e f : Progress) (s t : State) (m n : Device) (d : Done) → Fits e s → IsTaken (item_of e s) e s m d t n → f ≡ record e { next = d.next } → Fits f t
 fits_on e f s t m n d fits taken is =
     subst (λ (x : State). Fits f x) (sym taken.controller)

@@ -64,7 +64,7 @@ module _ (s : State) (m : Device) where
 pub items_copy : ItemsCopy
 items_copy e s m tables other = copy-next s m tables e.next other
 
--- where only copies were made no entry has work, if none had
+-- if only copies were made no entry has work, if none had
 no_work-copied : (s t : State) → IsButCopied s t → HasNoWork s → HasNoWork t
 no_work-copied s t same none = record { no_work = λ i e was. by_entry i e was (entry_at s.btt i) refl } where
   by_entry : (i : ℕ) (e : BttEntry) → entry_at t.btt i ≡ Some e → (o : Option BttEntry) → entry_at s.btt i ≡ o → e.work ≡ NoWork

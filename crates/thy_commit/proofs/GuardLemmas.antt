@@ -30,7 +30,7 @@ first_or_rest y x xs (suc k, l, is) = inr (k, omega arith, is)
 none_in : (y : ℕ) → Contains [] y → ⊥
 none_in y (k, l, is) = absurd (omega arith)
 
--- a place that tells what an image means lies before the homes, or memory has it
+-- a place that determines what an image means is before the homes, or memory has it
 abbrev pub LowOrMemory : Parameters → Tables → ℕ → Type 0
 LowOrMemory p t x = (x < first_home p) ⊎ ((b : ℕ) × (b < memory_blocks p) × (number_of p (place_of t b) ≡ x))
 

@@ -68,7 +68,7 @@ module _ {X Y : Type 0} (f : X → Y) (p : X → Bool) (q : Y → Bool) (d : X) 
   by_both false b h = omega arith
   by_both true b h = let yes : b ≡ true = h refl in omega (arith, ap one_if yes)
 
-  -- where what passes did so before, no more pass
+  -- if what passes did so before, no more pass
   count-implied : (xs : List X) → ((i : ℕ) → i < length xs → q (f (get_or xs i d)) ≡ true → p (get_or xs i d) ≡ true) → count_by q (map f xs) ≤ count_by p xs
   count-implied [] h = omega arith
   count-implied (x ∷ xs) h = omega (
@@ -79,7 +79,7 @@ module _ {X Y : Type 0} (f : X → Y) (p : X → Bool) (q : Y → Bool) (d : X) 
     by_both (q (f x)) (p x) (h 0 (omega arith)),
   )
 
-  -- and where what passed does so still, no fewer
+  -- and if what passed does so still, no fewer
   count-implies : (xs : List X) → ((i : ℕ) → i < length xs → p (get_or xs i d) ≡ true → q (f (get_or xs i d)) ≡ true) → count_by p xs ≤ count_by q (map f xs)
   count-implies [] h = omega arith
   count-implies (x ∷ xs) h = omega (
@@ -91,7 +91,7 @@ module _ {X Y : Type 0} (f : X → Y) (p : X → Bool) (q : Y → Bool) (d : X) 
   )
 
 module _ {X : Type 0} (f : X → ℕ) (g : X → X) (d : X) where
-  -- where each counts as much as before, so does all
+  -- if each counts as much as before, so does all
   sum-alike : (xs : List X) → ((i : ℕ) → i < length xs → f (g (get_or xs i d)) ≡ f (get_or xs i d)) → sum_by f (map g xs) ≡ sum_by f xs
   sum-alike [] h = refl
   sum-alike (x ∷ xs) h = omega (
@@ -102,15 +102,15 @@ module _ {X : Type 0} (f : X → ℕ) (g : X → X) (d : X) where
     sum_by-cons f x xs,
   )
 
--- as many blocks are left where an entry is put for one that has as many
+-- as many blocks are left if an entry is put for one that has as many
 pub unfilled-set : (es : List (Option PttEntry)) (j : ℕ) (e f : PttEntry) → j < length es → get_or es j None ≡ Some e
     → fills_left (Some f) ≡ fills_left (Some e) → sum_by fills_left (slice_set es j (Some f)) ≡ sum_by fills_left es
 unfilled-set es j e f inside was same = omega (arith, sum_by-set fills_left es j (Some f) None inside, ap fills_left was, same)
 
 -- ---- room, copies owed, promotions and overlays
 
--- no fewer entries are free, no more buffers wait, as many pages are being promoted, with as many blocks left, and the overlays
--- are as the item leaves them
+-- no fewer entries are free, no more buffers wait, as many pages are being promoted, with as many blocks left, and
+-- the overlays are as the item leaves them
 record KeepsCounts (i : Item) (s t : State) : Type 0 where
   free : free_count s.btt ≤ free_count t.btt
   owed : waiting t.btt ≤ waiting s.btt
@@ -161,7 +161,7 @@ counts-issued j b s m busy =
       overlays_are = sym marks.overlaid_is;
     }
 
--- what a commit leaves of an entry waits as it did, and lies over a frame only where it did
+-- what a commit leaves of an entry waits as it did, and lies over a frame only if it did
 committed-waits : (v : Version) (w : Working) (e : BttEntry) → passes (λ (x : BttEntry). waits x.pend) (committed_by v w e) ≡ true → waits e.pend ≡ true
 committed-waits Out NoWork e h = cc
 committed-waits Out InNvm e h = h

@@ -41,7 +41,7 @@ read_by : (side : Bool) (a b c : Block) → (side ≡ false → b ≡ c) → (if
 read_by true a b c h = refl
 read_by false a b c h = h refl
 
--- where a block before the homes was written
+-- if a block before the homes was written
 pub reads-low : (s : State) (m : Device) (at : ℕ) (block : Block) → IsSized s m → at < first_home s.p → ReadsAll s m (written_to m at block)
 reads-low s m at block sized low x there =
     read_by (in_dram x) (block_at s.dram.blocks (number_of s.p x)) (newest (written_to m at block) (number_of s.p x)) (newest m (number_of s.p x)) (λ side.
@@ -50,7 +50,7 @@ reads-low s m at block sized low x there =
     let inside : number_of s.p x < image_blocks s.p = behind.1 in
     newest-written_to_other m at block (number_of s.p x) (λ e. omega (arith, e, low, past)) (omega (arith, inside, sized.nvm)))
 
--- where all writes landed
+-- if all writes landed
 pub reads-settled : (s : State) (m : Device) → AreSoundTables s → IsSized s m → ReadsAll s m (settled m)
 reads-settled s m t sized = (ReadsTheSame-settled s.p (devices_of m s.dram) (record { nvm = sized.nvm; dram = t.dram_size })).same
 

@@ -54,7 +54,7 @@ abbrev pub AreBelow : {E : Type 0} → (E → ℕ) → ℕ → List (Option E) �
 AreBelow {E} key numbers es = (i : ℕ) (e : E) → get_or es i None ≡ Some e → key e < numbers
 
 module _ {E : Type 0} (key : E → ℕ) (weight : Option E → ℕ) (free : weight None ≡ 0) where
-  -- of an entry, where it lists a number
+  -- of an entry, if it lists a number
   abbrev weight_at : ℕ → Option E → ℕ
   weight_at n o = if lists key n o then weight o else 0
 
@@ -124,7 +124,7 @@ module _ {E : Type 0} (key : E → ℕ) (weight : Option E → ℕ) (free : weig
         (λ n l. at_most t once n (all_at s.entries n) (λ i e was same. subst (λ (k : ℕ). weight (Some e) ≤ all_at s.entries k) same (each i e was))),
   )
 
-  -- where an entry is listed, all of it counts
+  -- if an entry is listed, all of it counts
   pub at_least : (es : List (Option E)) (i : ℕ) (e : E) → i < length es → get_or es i None ≡ Some e → weight (Some e) ≤ all_at es (key e)
   at_least es i e inside was =
       let here : weight_at (key e) (get_or es i None) ≡ weight (Some e)

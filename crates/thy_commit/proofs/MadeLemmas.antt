@@ -52,7 +52,7 @@ lasts-same s m t n p same =
     ap (λ (q : Parameters). map (last_of t n) (range_with_len 0 (memory_blocks q))) p ∙ blocks-same (last_of t n) (last_of s m) (memory_blocks s.p) same
 
 module _ (o : Origin) (e : Progress) (s : State) (m : Device) (c : Checkpoints) (made : IsMadeFor o e s m c) where
-  -- with the last versions and the header as before, and the commit block where it has to be
+  -- with the last versions and the header as before, and the commit block as it has to be
   made-on : (next : Next) (t : State) (n : Device) (d : Checkpoints) → d.sealed ≡ c.sealed → lasts t n ≡ lasts s m → newest n 0 ≡ newest m 0
       → (is_settled next ≡ true → block_at d.next 1 ≡ commit_of e.epoch) → IsMadeFor o (record e { next = next }) t n d
   made-on next t n d sealed same header commit = record {
@@ -69,7 +69,7 @@ module _ (o : Origin) (e : Progress) (s : State) (m : Device) (c : Checkpoints) 
 
 -- ---- items
 
--- what is written behind the header leaves it
+-- what is written after the header leaves it
 header-written : (s : State) (m : Device) (at : ℕ) (block : Block) → IsSized s m → at ≢ 0 → newest (written_to m at block) 0 ≡ newest m 0
 header-written s m at block sized other = newest-written_to_other m at block 0 (λ e. other (sym e)) (omega (arith, sized.nvm))
 

@@ -1,4 +1,4 @@
--- With nothing left to copy or to write, every block is read where the tables of the checkpoint under way have it.
+-- With nothing left to copy or to write, every block is read at its place by the tables of the checkpoint under way.
 use Rattle.std.proofs.Common.{◌≡◌, ℕ, ◌%◌, ◌<◌, ◌≤◌, Bool, true, false, if◌then◌else◌, length, refl, sym, ◌∙◌, ap, arith}
 use Rattle.std.proofs.lemmas.List.{length-map, get_or-map, ext_get_or}
 use Rattle.std.proofs.lemmas.List.FromFn.{length-map-range_with_len, get_or-map-range_with_len}

@@ -47,7 +47,7 @@ use Rattle.thy_commit.specs.Moves.{Checkpoints, saved_at, standing_at, checkpoin
 use Rattle.thy_commit.proofs.GuardLemmas.{Spares-stays, Spares-stays_next, Spares-two}
 use Rattle.thy_commit.proofs.DoneLemmas.{AreCopied-done}
 
--- version 1 looks where images of the run look
+-- version 1 looks at the same places as images of the run
 spares-layout : (o : Origin) (before : List Block) (m n : Device) → Spares (1 ∷ looked o.geometry before) m n
     → Spares (1 ∷ looked_by (layout_of o) before) m n
 spares-layout o before m n h = subst (λ (xs : List ℕ). Spares (1 ∷ xs) m n) (sym (looked_by-version_one o.geometry ceiling before)) h

@@ -88,7 +88,7 @@ items_move_tables e s m tables = tables-next s m tables e.next
 
 -- ---- the images
 
--- the image that is kept, where the committed checkpoint has the same tables
+-- the image that is kept, if the committed checkpoint has the same tables
 kept-on : (o : Origin) (e : Progress) (s t : State) (next : Next) (before : List Block) → (is_under_way next ≡ true → is_under_way e.next ≡ true)
     → tables0 t ≡ tables0 s → IsKeptBy o e s before → IsKeptBy o (record e { next = next }) t before
 kept-on o e s t next before way same kept = record {

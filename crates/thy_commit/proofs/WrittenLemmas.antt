@@ -1,4 +1,4 @@
--- What stands on the NVM of the checkpoint under way, from item to item.
+-- What the NVM has of the checkpoint under way, from item to item.
 use Rattle.std.proofs.Common.{◌≡◌, ℕ, ◌+◌, ◌%◌, ◌<◌, ◌≤◌, nat_lt, Bool, true, false, if◌then◌else◌, length, refl, sym, ◌∙◌, ap, subst, arith, Option, Some, None}
 use Rattle.std.proofs.lemmas.Bool.{ltb-false}
 use Rattle.thy_base.specs.declared.block.Block.{Block}
@@ -94,7 +94,7 @@ module _ (e : Progress) (s : State) (m : Device) (t : AreSoundTables s) (sized :
       )
   wrote-next Confirm past inside h = tt
 
--- what stands is told by what is next alone
+-- what has to be there is determined by what is next alone
 stood : (q r : Next) (e : Progress) (s : State) (n : Device) → HasWrittenBefore q e s n → HasWrittenBefore q (record e { next = r }) s n
 stood Nothing r e s n h = tt
 stood Copies r e s n h = tt

@@ -10,7 +10,7 @@ use Rattle.thy_control.specs.State.{State}
 use Rattle.thy_commit.specs.Items.{answer}
 use Rattle.thy_commit.specs.Progress.{Progress, item_of, device_next, FailsNext}
 
--- what a machine makes of the engine's answer; with the last one, how many instructions were retired meanwhile
+-- what a machine makes of the engine's step; with the last one, how many instructions were retired meanwhile
 abbrev pub did_by : ℕ → EngineStep → Did
 did_by overlapped (EngineCommitted epoch) = Committed epoch overlapped
 did_by overlapped step = Engine step
@@ -25,7 +25,7 @@ ItemsAct =
     (overlapped : ℕ) (e : Progress) (s : State) (m : Device)
     → Acts (did_next overlapped e s) m (device_next e s m)
 
--- where it failed, that action did, or the read before it
+-- if it failed, that action did, or the read before it
 abbrev pub FailedItemsAct : Type 0
 FailedItemsAct =
     (overlapped : ℕ) (e : Progress) (s : State) (m n : Device)

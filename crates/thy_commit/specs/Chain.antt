@@ -14,7 +14,7 @@ use Rattle.thy_commit.specs.Progress.{Progress, Fits, begun, item_of, engine_nex
 use Rattle.thy_commit.specs.Written.{Stands}
 use Rattle.thy_commit.specs.Moves.{Checkpoints, standing_at, checkpoints_after, AreTold, IsMadeFor}
 
--- every item leaves the images told; with the last one the image that was made is the one that is kept
+-- every item keeps `AreTold`; with the last one the image that was made is the one that is kept
 abbrev pub ItemsTell : Type 0
 ItemsTell =
     (o : Origin) (e : Progress) (s : State) (m : Device) (c : Checkpoints)
@@ -39,7 +39,7 @@ pub record IsNextSeal (o : Origin) (e : Progress) (n : Device) (c : Checkpoints)
 abbrev pub sealing : Mark → Checkpoints → Checkpoints
 sealing mark c = record c { sealed = Some mark }
 
--- a seal leaves the images told, and is a move
+-- a seal keeps `AreTold`, and is a move
 pub record IsSealed (o : Origin) (n : Device) (e : Progress) (c : Checkpoints) (f : Progress) (t : State) (d : Checkpoints) : Type 0 where
   pub told : AreTold o f t d
   pub move : Move o (layout_of o) (standing_at e n c) (standing_at f n d)

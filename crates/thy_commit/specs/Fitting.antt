@@ -8,7 +8,7 @@ use Rattle.thy_control.specs.Stays.{Stays}
 use Rattle.thy_commit.specs.Items.{is_under_way}
 use Rattle.thy_commit.specs.Progress.{Progress, IsSoundProgress, Fits, begun, engine_next, state_next}
 
--- they do where no checkpoint is under way in either
+-- they do if no checkpoint is under way in either
 abbrev pub IdleFits : Type 0
 IdleFits =
     (e : Progress) (s : State)

@@ -8,20 +8,20 @@ use Rattle.thy_control.specs.Seal.{sealed_state}
 use Rattle.thy_commit.specs.declared.next.Next.TheVariants.{Confirm}
 use Rattle.thy_commit.specs.Progress.{Progress, Fits, state_next}
 
--- the block table is as before, but that copies were made
+-- the block table is as before, except that copies were made
 abbrev pub IsButCopied : State → State → Type 0
 IsButCopied s t = mapped settled t.btt ≡ mapped settled s.btt
 
--- so it is after every item before the commit
+-- this holds after every item before the commit
 abbrev pub ItemsCopy : Type 0
 ItemsCopy =
     (e : Progress) (s : State) (m : Device) → AreSoundTables s → e.next ≢ Confirm → IsButCopied s (state_next e s m)
 
--- where no entry has work, none has after any item
+-- if no entry has work, none has after any item
 abbrev pub ItemsRest : Type 0
 ItemsRest = (e : Progress) (s : State) (m : Device) → AreSoundTables s → HasNoWork s → HasNoWork (state_next e s m)
 
--- and where the seal found no work, at least half of the block table is free after the commit
+-- and if the seal found no work, at least half of the block table is free after the commit
 abbrev pub CommitFrees : Type 0
 CommitFrees =
     (e : Progress) (s t : State) (m : Device)

@@ -1,4 +1,4 @@
--- The checkpoint under way is that of the sealed mark, from the seal to the barrier behind its commit block.
+-- The checkpoint under way is that of the sealed mark, from the seal to the barrier after its commit block.
 use Rattle.std.specs.Prelude.{◌≡◌, ◌≢◌, ◌<◌, true, false, None}
 use Rattle.thy_base.specs.declared.mark.Mark.{Mark}
 use Rattle.thy_base.specs.Device.{Device, newest}

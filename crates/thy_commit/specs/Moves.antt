@@ -36,13 +36,13 @@ is_settled Commit = true
 is_settled Confirm = true
 is_settled next = false
 
--- until the first barrier one image is kept, behind it the next one is ready, and with its commit block in doubt
+-- until the first barrier one image is kept, after it the next one is ready, and with its commit block in doubt
 abbrev pub saved_at : Next → Checkpoints → Saved
 saved_at Commit c = Ready c.before c.next
 saved_at Confirm c = InDoubt c.before c.next
 saved_at next c = Kept c.before
 
--- how the run's checkpoints stand on the NVM; between two of them no mark is sealed
+-- the state of the run's checkpoints on the NVM; between two of them no mark is sealed
 abbrev pub standing_at : Progress → Device → Checkpoints → Standing
 standing_at e n c = standing n (saved_at e.next c) c.kept c.sealed
 
@@ -69,7 +69,7 @@ pub record IsKeptBy (o : Origin) (e : Progress) (s : State) (before : List Block
 abbrev pub IsNextBy : Origin → Progress → State → List Block → Type 0
 IsNextBy o e s next = IsToldBy o.geometry next e.epoch (tables1 s)
 
--- the controller has the tables of the image that is kept, and behind the first barrier of the one that is made
+-- the controller has the tables of the image that is kept, and after the first barrier of the one that is made
 pub record AreTold (o : Origin) (e : Progress) (s : State) (c : Checkpoints) : Type 0 where
   pub kept : IsKeptBy o e s c.before
   pub next : is_settled e.next ≡ true → IsNextBy o e s c.next
@@ -110,7 +110,7 @@ StaysMove =
     → AreSoundTables s → Fits e s → Stays s m t n → AreTold o e s c
     → Move o (layout_of o) (standing_at e m c) (standing_at e n c)
 
--- and so is an item that failed: the write of the commit block leaves the two in doubt, and every other one what was
+-- an item that failed is a move too: the write of the commit block leaves the two in doubt, and every other item what was
 abbrev pub standing_failed : Next → Device → Checkpoints → Standing
 standing_failed Commit n c = standing n (InDoubt c.before c.next) c.kept c.sealed
 standing_failed next n c = standing n (saved_at next c) c.kept c.sealed

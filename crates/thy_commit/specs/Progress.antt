@@ -27,7 +27,7 @@ pub record Progress : Type 0 where
   pub cpu : CpuState
   pub epoch : ℕ
 
--- it has the registers, and a block of the slot comes next only where the slot has it
+-- it has the registers, and a block of the slot comes next only if the slot has it
 pub record IsSoundProgress (e : Progress) : Type 0 where
   pub regs : length e.cpu.regs ≡ 32
   pub inside : (k : ℕ) → e.next ≡ Slot k → k < slot_blocks e.p
@@ -83,7 +83,7 @@ device_after e SettleItem s n = settled n
 device_after e CommitItem s n = written_to n 1 (commit_of e.epoch)
 device_after e ConfirmItem s n = settled n
 
--- and where it failed
+-- and if it failed
 abbrev pub FailsItem : Progress → Item → State → Device → Device → Type 0
 FailsItem e NoItem s m n = ⊥
 FailsItem e (CopyItem i) s m n = FailsCopy (block_listed i s) s m n
@@ -93,7 +93,7 @@ FailsItem e SettleItem s m n = HasFailed m n
 FailsItem e CommitItem s m n = HasFailedToWrite 1 (commit_of e.epoch) m n
 FailsItem e ConfirmItem s m n = HasFailed m n
 
--- an item was taken: what is answered, what comes after it, and what it makes of controller and NVM
+-- an item was taken: what is returned, what comes after it, and what it makes of controller and NVM
 pub record IsTaken (i : Item) (e : Progress) (s : State) (m : Device) (d : Done) (t : State) (n : Device) : Type 0 where
   pub step : d.step ≡ answer e.p e.epoch i
   pub next : d.next ≡ next_after e.p i
@@ -125,6 +125,6 @@ state_next e s n = state_after (item_of e s) s n
 abbrev pub device_next : Progress → State → Device → Device
 device_next e s n = device_after e (item_of e s) s n
 
--- and where it failed
+-- and if it failed
 abbrev pub FailsNext : Progress → State → Device → Device → Type 0
 FailsNext e s m n = FailsItem e (item_of e s) s m n

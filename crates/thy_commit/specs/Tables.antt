@@ -7,7 +7,7 @@ use Rattle.thy_control.specs.Commit.{CommitsTables}
 use Rattle.thy_commit.specs.Items.{Item, ConfirmItem}
 use Rattle.thy_commit.specs.Progress.{Progress, item_of, state_next}
 
--- both checkpoints have the tables that they had, and one is under way as before
+-- both checkpoints have the same tables as before, and one is under way as before
 pub record KeepsTables (s t : State) : Type 0 where
   pub same_p : t.p ≡ s.p
   pub tables0_same : tables0 t ≡ tables0 s
@@ -20,7 +20,7 @@ pub record EndsTables (s t : State) : Type 0 where
   pub commits : CommitsTables s t
   pub idle : t.under_way ≡ false
 
--- so it is after the commit, and after every other item
+-- the second holds after the commit, the first after every other item
 abbrev pub MovesTables : Item → State → State → Type 0
 MovesTables ConfirmItem s t = EndsTables s t
 MovesTables i s t = KeepsTables s t

@@ -18,14 +18,14 @@ pub record KeepsVersions (s : State) (m : Device) (t : State) (n : Device) : Typ
   pub work_same : (b : ℕ) → b < memory_blocks s.p → work_of t n b ≡ work_of s m b
   pub holds : HoldAll t n
 
--- the same, but that the committed checkpoint has what the one under way had
+-- the same, except that the committed checkpoint has what the one under way had
 pub record TakesLast (s : State) (m : Device) (t : State) (n : Device) : Type 0 where
   pub penult_is : (b : ℕ) → b < memory_blocks s.p → penult_of t n b ≡ last_of s m b
   pub last_same : (b : ℕ) → b < memory_blocks s.p → last_of t n b ≡ last_of s m b
   pub work_same : (b : ℕ) → b < memory_blocks s.p → work_of t n b ≡ work_of s m b
   pub holds : HoldAll t n
 
--- so it is after the commit, and after every other item
+-- this holds after the commit, and the one before it after every other item
 abbrev pub MovesVersions : Item → State → Device → State → Device → Type 0
 MovesVersions ConfirmItem s m t n = TakesLast s m t n
 MovesVersions i s m t n = KeepsVersions s m t n
@@ -39,7 +39,7 @@ ItemsMoveVersions =
 abbrev pub lasts : State → Device → List Block
 lasts s n = map (last_of s n) (range_with_len 0 (memory_blocks s.p))
 
--- with nothing left to copy or to write, that is what is read where its tables have memory
+-- with nothing left to copy or to write, that is what is read at the places that its tables give memory
 abbrev pub MemoryIsLast : Type 0
 MemoryIsLast =
     (s : State) (n : Device) → AreSoundTables s → HoldAll s n → IsDone s → memory_read s.p (tables1 s) n ≡ lasts s n

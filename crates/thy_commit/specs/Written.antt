@@ -1,4 +1,4 @@
--- What stands on the NVM of the checkpoint under way, by how far the engine is.
+-- What the NVM has of the checkpoint under way, by the stage of the engine.
 use Rattle.std.specs.Prelude.{◌≡◌, ℕ, false}
 use Rattle.thy_base.specs.Device.{Device}
 use Rattle.thy_base.specs.Places.{slot_blocks}
@@ -13,7 +13,7 @@ use Rattle.thy_commit.specs.declared.next.Next.TheVariants.{Nothing, Copies, Pag
 use Rattle.thy_commit.specs.Progress.{Progress, IsSoundProgress, Fits, engine_next, state_next, device_next}
 use Rattle.thy_commit.specs.Versions.{lasts}
 
--- the first k blocks of the slot are read, and memory where the tables have it: the last version of every block
+-- the first k blocks of the slot are read, and memory at its places by the tables: the last version of every block
 abbrev pub HasWrittenSlot : Progress → State → Device → ℕ → Type 0
 HasWrittenSlot e s n k = IsIssuing e.p n e.cpu (tables1 s) e.epoch (lasts s n) k
 
@@ -30,7 +30,7 @@ HasWrittenBefore Confirm e s n = HasWrittenSlot e s n (slot_blocks e.p) × Reads
 abbrev pub Stands : Progress → State → Device → Type 0
 Stands e s n = HasWrittenBefore e.next e s n
 
--- every item leaves what has to stand before the next one
+-- every item leaves what has to be there before the next one
 abbrev pub ItemsWrite : Type 0
 ItemsWrite =
     (e : Progress) (s : State) (m : Device)

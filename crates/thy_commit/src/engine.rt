@@ -40,7 +40,7 @@ struct Done {
     next: Next,
 }
 
-/// What the engine answers for the write of block `k` of a slot.
+/// What the engine returns for the write of block `k` of a slot.
 fn slot_step(geometry: &Geometry, k: u64) -> EngineStep
     ensures { result ≡ (if nat_lt k (record_blocks geometry.now) then IsStateBlock else IsTableBlock) }
 {
@@ -78,7 +78,7 @@ impl Engine {
         }
     }
 
-    /// It has the registers, and where a block of the slot comes next, the slot has it.
+    /// It has the registers, and if a block of the slot comes next, the slot has it.
     pub fn sound(&self)
         ensures { IsSoundProgress self.now }
     {
@@ -114,11 +114,11 @@ impl Engine {
         }
     }
 
-    /// Takes one action: nothing where no checkpoint is under way. A copy or a page that is not left costs no cycle. Where the
+    /// Takes one action: nothing if no checkpoint is under way. A copy or a page that is not left costs no cycle. If the
     /// NVM failed, engine and controller are as they were, and only the place of a write that failed may hold more.
     ///
-    /// The answer names the item. `Copied`, `PageBlock`, `StateBlock` and `TableBlock` differ in nothing else: each is a write
-    /// that leaves the commit block alone, and no contract above this one tells them apart.
+    /// The result names the item. `Copied`, `PageBlock`, `StateBlock` and `TableBlock` differ in nothing else: each
+    /// is a write that leaves the commit block alone, and no contract above this one distinguishes them.
     pub fn step<N: Nvm>(
         &mut self,
         control: &mut Control,
@@ -129,7 +129,8 @@ impl Engine {
         requires up { (N.device nvm.old).down ≡ false }
         ensures answer { IfOk result (λ step. step ≡ answer self.old.p self.old.epoch (item_of self.old control.old)) }
 
-        // So it is by this item, the next one by how far the checkpoint is.
+        // Engine, controller and NVM are those of the definition: of this item, the next one by the stage of the
+        // checkpoint.
         ensures engine { OnOk result (self.new ≡ engine_next self.old control.old) }
         ensures control { OnOk result (control.new ≡ state_next self.old control.old (N.device nvm.old)) }
         ensures device { OnOk result (N.device nvm.new ≡ device_next self.old control.old (N.device nvm.old)) }
@@ -169,7 +170,7 @@ impl Engine {
         }
     }
 
-    /// Makes the next copy; where none is left, writes the next block of a page or the slot's first.
+    /// Makes the next copy; if none is left, writes the next block of a page or the slot's first.
     fn copy<N: Nvm>(&self, control: &mut Control, nvm: &mut N) -> Result<Done, NvmError>
         requires geometry { control.old.p ≡ self.now.p }
         requires sized { IsSized control.old (N.device nvm.old) }
@@ -186,7 +187,7 @@ impl Engine {
         }
     }
 
-    /// Writes the next block of a page; where none is left, the slot's first block.
+    /// Writes the next block of a page; if none is left, the slot's first block.
     fn write_page<N: Nvm>(&self, control: &mut Control, nvm: &mut N) -> Result<Done, NvmError>
         requires geometry { control.old.p ≡ self.now.p }
         requires sized { IsSized control.old (N.device nvm.old) }
@@ -246,7 +247,7 @@ impl Engine {
         }
     }
 
-    /// The barrier behind all that comes before the commit block.
+    /// The barrier after all writes that come before the commit block's.
     fn settle<N: Nvm>(&self, nvm: &mut N) -> Result<Done, NvmError>
         requires up { (N.device nvm.old).down ≡ false }
         ensures answer { IfOk result (λ done. done.step ≡ answer self.now.p self.now.epoch SettleItem) }
@@ -281,7 +282,7 @@ impl Engine {
         })
     }
 
-    /// The barrier behind the commit block, with which the controller commits.
+    /// The barrier after the commit block, with which the controller commits.
     fn confirm<N: Nvm>(&self, control: &mut Control, nvm: &mut N) -> Result<Done, NvmError>
         requires way { control.old.under_way ≡ true }
         requires done { IsDone control.old }

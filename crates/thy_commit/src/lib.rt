@@ -1,9 +1,9 @@
 //! The checkpoint engine over the controller: copies, pages, the slot's blocks, a barrier, the commit block, a barrier.
-//! Callers rest on `Engine::step`, which is exact, and on `items_are_moves`: each item is a move of the run's
-//! checkpoints.
+//! Callers rely on `Engine::step`, which equals its specification, and on `items_are_moves`: each item is a move of the
+//! run's checkpoints.
 //!
-//! Open specs/Items.antt first, then specs/Progress.antt, and src/engine.rt. It stands on thy_control, thy_protocol and
-//! what those stand on; on it stand thy_dual_model and thy_dual.
+//! Open specs/Items.antt first, then specs/Progress.antt, and src/engine.rt. It depends on thy_control, thy_protocol and
+//! their dependencies; thy_dual_model and thy_dual depend on it.
 #![tactic(auto)]
 
 mod engine;

@@ -62,7 +62,7 @@ at_put P t i e inside here others k f was = elim (cases_eq k i) as (λ _. P f) [
   | inr o ↦ others k f (sym (entry_at-with_other t i k (Some e) o) ∙ was)
 ]
 
--- lists that two rules make of the same entries are one where the rules agree on each
+-- lists that two rules make of the same entries are one if the rules agree on each
 maps_alike : {X Y : Type 0} (f g : X → Option Y) (xs : List (Option X)) → ((k : ℕ) (x : X) → get_or xs k None ≡ Some x → f x ≡ g x)
     → map (option_and_then f) xs ≡ map (option_and_then g) xs
 maps_alike f g xs same =

@@ -1,4 +1,4 @@
--- Whatever the places hold, a seal leaves the committed version of each block, and a commit takes what stands at its target.
+-- Whatever the places hold, a seal leaves the committed version of each block, and a commit takes what its target holds.
 use Rattle.std.proofs.Common.{◌≡◌, ℕ, ◌<◌, sym, ◌∙◌, ap}
 use Rattle.thy_base.specs.declared.place.Place.{Place}
 use Rattle.thy_base.specs.Device.{Device}

@@ -153,7 +153,7 @@ IsNext-entry s t i h = by_entry (entry_at s.btt i) refl (first_from-first (passe
         pending = pending-not_settled (cell_of s x.block).entry.pend (ap needs_copy entry ∙ p);
       })
 
--- where none is next, none is left
+-- if none is next, none is left
 pub none_left : (s : State) → next_copy s ≡ None → copies_left s ≡ 0
 none_left s h = none-passes (passes needs_copy) s.btt.entries None (λ k l. none-first_from (passes needs_copy) None s.btt.entries 0 h k (omega arith) l)
 

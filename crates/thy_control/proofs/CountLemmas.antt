@@ -30,11 +30,11 @@ one_at_most true = omega arith
 one_at_most false = omega arith
 
 module _ {X : Type 0} (test : X → Bool) (xs : List X) (i : ℕ) (y d : X) (inside : i < length xs) where
-  -- where another element passes exactly if the old one did, as many do
+  -- if another element passes exactly if the old one did, as many do
   pub count-set_same : test y ≡ test (get_or xs i d) → count_by test (slice_set xs i y) ≡ count_by test xs
   count-set_same same = omega (arith, sum_by-set (λ x. one_if (test x)) xs i y d inside, ap one_if same)
 
-  -- one less does where only the old one did
+  -- one less does if only the old one did
   pub count-set_less : test y ≡ false → test (get_or xs i d) ≡ true → count_by test (slice_set xs i y) + 1 ≡ count_by test xs
   count-set_less now was = omega (arith, sum_by-set (λ x. one_if (test x)) xs i y d inside, ap one_if now, ap one_if was)
 
@@ -146,7 +146,7 @@ rule_of-first false busy InNvm true pend e = cc
 rule_of-first false busy NoWork false pend e = into_buffer-first pend e
 rule_of-first false busy InNvm false pend e = into_buffer-first pend e
 
--- where no entry passes a test, none does at any place
+-- if no entry passes a test, none does at any place
 pub none-counted : {X : Type 0} (test : X → Bool) (xs : List X) (i : ℕ) (d : X) → count_by test xs ≡ 0 → i < length xs → test (get_or xs i d) ≡ false
 none-counted test xs i d none inside = by_test (test (get_or xs i d)) (omega (arith, none, get_or-le-sum_by (λ x. one_if (test x)) xs i d inside)) where
   by_test : (t : Bool) → one_if t ≤ 0 → t ≡ false

@@ -1,4 +1,4 @@
--- The places where the searches of the tables go on: what is found from there, and that they stay right after each step.
+-- The places at which the searches of the tables start: what is found from there, and that they stay right after each step.
 use Rattle.std.proofs.Common.{◌≡◌, ◌≢◌, ℕ, ◌+◌, ◌<◌, ◌≤◌, Bool, true, false, ◌&&◌, nat_lt, length, unwrap_or, refl, sym, ◌∙◌, ap, subst, inl, inr, arith, Option, Some, None}
 use Rattle.std.proofs.lemmas.Bool.{cases_eq, cases_lt, lt-ltb}
 use Rattle.std.proofs.lemmas.List.{get_or-set_same, get_or-set_other}
@@ -44,14 +44,14 @@ use Rattle.thy_control.proofs.MergeLemmas.{listed-merge, listed_page-merge}
 use Rattle.thy_control.proofs.IssueLemmas.{listed-busy, cell-issued}
 use Rattle.thy_control.proofs.FillLemmas.{listed-fresh, is_now, overlaid-filled_at}
 
--- A search goes on from such a place, and finds what one from the start would
+-- A search starts at such a place, and finds what one from the start would
 module _ {E : Type 0} (test : E → Bool) (t : Listing E) (place : ℕ) (below : NoneBelow test place t) where
   pub next_from-place : next_from test place t ≡ next_from test 0 t
   next_from-place =
       first_from-position (passes test) None t.entries place below
       ∙ sym (first_from-position (passes test) None t.entries 0 (λ k l. absurd (omega (arith, l))))
 
-  -- the next one goes on there, or past the last where there was none
+  -- the next one starts there, or past the last if there was none
   pub NoneBelow-sought : (o : Option ℕ) (n : ℕ) → next_from test place t ≡ o → n ≡ unwrap_or o (length t.entries) → NoneBelow test n t
   NoneBelow-sought (Some i) n found is k l =
       let first = first_from-first (passes test) None t.entries place i found in

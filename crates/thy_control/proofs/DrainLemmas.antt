@@ -1,4 +1,4 @@
--- Writes that land keep what every place reads as, and all that stands on it.
+-- Writes that land keep what every place reads as, and all that depends on it.
 use Rattle.std.proofs.Common.{◌≡◌, ℕ, ◌<◌, length, refl, ◌∙◌, arith}
 use Rattle.thy_base.specs.Device.{Device, drained as nvm_drained, settled}
 use Rattle.thy_base.specs.Places.{number_of, first_home}

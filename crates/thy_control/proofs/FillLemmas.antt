@@ -158,7 +158,7 @@ module _ (law : PromotionKeeps) (other : PromotionKeepsOthers) (b : ℕ) (s : St
   left_as : (k : ℕ) → k < memory_blocks s.p → k ≢ b → Untouched (reads s m) new k (cell_of s k)
   left_as k h ne = untouched s m b (frame_at (seat_of (cell_of s b))) v t sized there_is owns k h ne
 
-  -- where the places hold what they have to, every block is kept
+  -- if the places hold what they have to, every block is kept
   pub Keeps-filled : (k : ℕ) → k < memory_blocks s.p → Holds (reads s m) (cell_of s k)
       → Keeps s.under_way (reads s m) (reads (block_filled b s m) m) (cell_of s k) (cell_of (block_filled b s m) k)
   unfolding block_filled devices_filled

@@ -8,7 +8,7 @@ use Rattle.thy_table.proofs.IndexLemmas.{lists-some, lists-key, None-is_none}
 use Rattle.thy_table.proofs.FirstLemmas.{position-first, position-none, none-position}
 use Rattle.thy_control.specs.Find.{entry_found, entry_for, index_for, with_found, with_entry_for}
 
--- lists that a test cannot tell apart
+-- lists that a test cannot distinguish
 pub position-pointwise : {X : Type 0} (p : X → Bool) (d : X) (xs ys : List X) → length ys ≡ length xs
     → ((k : ℕ) → p (get_or ys k d) ≡ p (get_or xs k d)) → position p ys ≡ position p xs
 position-pointwise p d xs ys same each = by_place (position p xs) refl where
@@ -149,7 +149,7 @@ module _ {E : Type 0} (key : E → ℕ) (new : ℕ → E) where
     by_place (Some i) h = refl
     by_place None h = by_free h (free_place t) refl
 
-  -- where an entry is free, the number is listed then
+  -- if an entry is free, the number is listed then
   pub place_of-with_same : ((n : ℕ) → key (new n) ≡ n) → (t : Listing E) (b : ℕ) → (free_place t ≡ None → ⊥)
       → (i : ℕ) × (place_of key b (with_entry_for key new b t) ≡ Some i)
   place_of-with_same new_key t b some = by_place (place_of key b t) refl where

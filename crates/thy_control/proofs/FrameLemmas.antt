@@ -181,7 +181,7 @@ module _ (j k : ℕ) (s : State) (t : AreSoundTables s) (boot : IsBooting s) (ma
       pub KeepsCheckpoints-frame : KeepsCheckpoints s m (with_frame j k s m) m
       KeepsCheckpoints-frame = subst (λ (x : State). KeepsCheckpoints s m x m) (sym state_is) KeepsCheckpoints-w
 
--- where no entry lists the page of a block, nothing has to be held of the block
+-- if no entry lists the page of a block, nothing has to be held of the block
 pub hold-bare : (reads : Place → Block) (d : Cell) (page : ℕ) → d.page ≡ no_page page → Holds reads d
 hold-bare reads d page bare = record {
   clean = λ f x z. let no : true ≡ false = sym f ∙ ap is_framed bare in absurd (cc);

@@ -30,7 +30,7 @@ clears_all rule t each =
     by_entry i None was = refl
     by_entry i (Some e) was = each i e was
 
--- where few entries are free, one without work is given up
+-- if few entries are free, one without work is given up
 given_up : (framed : Bool) (w : Working) (v : Version) (e : BttEntry) → w ≡ e.work → v ≡ e.v1 → e.work ≡ NoWork
     → option_and_then committed_entry (settled (sealed_by framed w true v e)) ≡ None
 given_up framed w v e is_w is_v none = grind arith

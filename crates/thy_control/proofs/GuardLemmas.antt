@@ -41,7 +41,7 @@ placed-in_nvm Alt s x = refl
 placed-in_nvm Out AtAlternate x = refl
 placed-in_nvm Out AtHome x = refl
 
--- and every place of the NVM lies behind the slots
+-- and every place of the NVM is after the slots
 pub behind_slots : (p : Parameters) (x : Place) → in_dram x ≡ false → first_home p ≤ number_of p x
 behind_slots p (Home b) e = omega arith
 behind_slots p (AlternateBlock i) e = omega arith

@@ -31,7 +31,7 @@ use Rattle.thy_control.proofs.PutLemmas.{has_free, IsWithin-before}
 use Rattle.thy_control.proofs.OwnLemmas.{owner, Owns, Owns-cell_of, owned-target, owned-last, owned-work, owned-store, owned-apart}
 use Rattle.thy_control.proofs.KeepLemmas.{same_start, last-new, work-new, target-new}
 
--- a block whose places read as before, where they matter
+-- a block whose places read as before, if they matter
 pub hold_same : (old new : Place → Block) (c : Cell) → new (target c) ≡ old (target c) → new (last c) ≡ old (last c) → new (work c) ≡ old (work c)
     → (is_framed c.page ≡ true → new (frame_at (seat_of c)) ≡ old (frame_at (seat_of c)))
     → (c.page.fresh ≡ true → new (frame_at (seat_of c)) ≡ old (frame_at (seat_of c)))
@@ -115,7 +115,7 @@ HoldAll-after laws b block s n t sized whole inside room hold m l =
           hold_or_dirty new r (cell_of u m) (cell_of after m) (cell-with_cell_other r b u m listed ne) (subst (λ (x : Cell). Holds new x) (sym same) kept)
     ]
 
--- where a call's state and device are known
+-- if a call's state and device are known
 pub hold_by : (b : ℕ) (block : Block) (s : State) (m : Device) (t u : State) (n k : Device) (r : Result Stored NvmError)
     → OnOk r (t ≡ u) → OnOk r (n ≡ k) → (HoldAll s m → HoldAll u k) → OnOk r (HoldAll s m → HoldAll t n)
 hold_by b block s m t u n k (Ok stored) e f h =

@@ -16,7 +16,7 @@ use Rattle.thy_tables.specs.declared.block_entry.BttEntry.{BttEntry}
 use Rattle.thy_control.specs.State.{State, IsSized, work_of, new_state}
 use Rattle.thy_control.specs.Holding.{AreWorks, IsNew, works, waits, is_promoted, holding_of}
 
--- blocks by a function, where a test holds
+-- blocks by a function, if a test holds
 block_if : (t : Bool) (f : ℕ → Block) (size b : ℕ) → b < length (if t then map f (range_with_len 0 size) else [])
     → (t ≡ true) × (b < size) × (block_at (if t then map f (range_with_len 0 size) else []) b ≡ f b)
 block_if true f size b l =

@@ -67,7 +67,7 @@ busy-under_way : (u : Bool) (page : PttEntry) → IsSoundPage u page → page.bu
 busy-under_way true page s busy = refl
 busy-under_way false page s busy = absurd (s.busy_moves busy (s.one_place refl))
 
--- a framed page's block has its work where it had it, whatever its last version is
+-- a framed page's block has its work at the same place, whatever its last version is
 worked-framed : (w : Working) (f : Bool) (x y : Place) (v : Version) (seat : Seat) → f ≡ true → worked_at w f x v seat ≡ worked_at w f y v seat
 worked-framed NoWork true x y v seat e = refl
 worked-framed NoWork false x y v seat e = cc
@@ -187,7 +187,7 @@ module _ (law : PageWriteKeeps) (other : PageWriteKeepsOthers) (b : ℕ) (s : St
   left_as : (k : ℕ) → k < memory_blocks s.p → k ≢ b → Untouched (reads s m) new k (cell_of s k)
   left_as k h ne = untouched s m b (target (cell_of s b)) v t sized there_is owns k h ne
 
-  -- where the places hold what they have to, every block is kept
+  -- if the places hold what they have to, every block is kept
   pub Keeps-issued : (k : ℕ) → k < memory_blocks s.p → Holds (reads s m) (cell_of s k)
       → Keeps true (reads s m) (reads (issued b s m) (devices_issued b s m).nvm) (cell_of s k) (cell_of (issued b s m) k)
   unfolding issued devices_issued
@@ -358,7 +358,7 @@ pub KeepsNext-write : PageWriteKeeps → PageWriteKeepsOthers → (s : State) (m
     → KeepsNext s m (after_next_write (next_page s) s m) (devices_after_write (next_page s) s m)
 KeepsNext-write law other s m t sized = KeepsNext-by law other s m t sized (next_page s) refl
 
--- where no page is next, no block is left
+-- if no page is next, no block is left
 none_left : (s : State) → next_page s ≡ None → writes_left s ≡ 0
 none_left s h =
     let each : All (λ o. issues_left o ≤ 0) s.ptt.entries = λ k d l.

@@ -38,7 +38,7 @@ use Rattle.thy_control.proofs.StateLemmas.{IsListed, IsListed-with_block, OrDirt
 use Rattle.thy_control.proofs.PutLemmas.{has_free, IsWithin-before}
 use Rattle.thy_control.proofs.OwnLemmas.{owner, Owns-cell_of, owned-penult, owned-last, owned-work, owned-store, owned-apart}
 
--- a block that is out of its entry stands where its page does
+-- a block that is out of its entry is at the place of its page
 placed-out : (s : Site) (j block i k : ℕ) → placed Out s (record { i = i; j = j; block = block }) ≡ placed Out s (record { i = k; j = j; block = block })
 placed-out AtHome j block i k = refl
 placed-out AtAlternate j block i k = refl
@@ -142,14 +142,14 @@ Kept-after laws b block s n t sized whole inside room =
       };
     }
 
--- the same of a state, a device and an answer that are those
+-- the same of a state, a device and a result that are those
 pub Kept-is : (b : ℕ) (block : Block) (s : State) (m : Device) (t u : State) (n k : Device) (answer stored : Stored)
     → t ≡ u → n ≡ k → stored ≡ answer → Kept b block s m u k answer → Kept b block s m t n stored
 Kept-is b block s m t u n k answer stored e f h kept =
     subst (λ (x : State). Kept b block s m x n stored) (sym e)
     (subst (λ (x : Device). Kept b block s m u x stored) (sym f) (subst (λ (x : Stored). Kept b block s m u k x) (sym h) kept))
 
--- where a call's answer, its state and its device are known, so is what it keeps
+-- if a call's result, its state and its device are known, so is what it keeps
 pub kept_by : (b : ℕ) (block : Block) (s : State) (m : Device) (t u : State) (n k : Device) (answer : Stored) (r : Result Stored NvmError)
     → OnOk r (t ≡ u) → OnOk r (n ≡ k) → IfOk r (λ stored. stored ≡ answer) → Kept b block s m u k answer
     → IfOk r (λ stored. Kept b block s m t n stored)

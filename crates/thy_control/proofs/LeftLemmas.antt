@@ -17,7 +17,7 @@ use Rattle.thy_control.proofs.CopyLemmas.{IsNext, IsNext-entry}
 use Rattle.thy_control.proofs.FindLemmas.{found_entry, entry_for-none, entry_for-some}
 use Rattle.thy_control.proofs.IssueLemmas.{IsDue, IsDue-entry}
 
--- where no live entry passes a test, and no new one, the entry of no number does
+-- if no live entry passes a test, and no new one, the entry of no number does
 pub none-entry_for : {E : Type 0} (key : E → ℕ) (new : ℕ → E) (test : E → Bool) (t : Listing E) → next_from test 0 t ≡ None
     → ((n : ℕ) → test (new n) ≡ false) → (n : ℕ) → test (entry_for key new n t) ≡ false
 none-entry_for {E} key new test t none new_fails n = by_place (place_of key n t) refl where

@@ -1,4 +1,4 @@
--- An entry of the block table stays live only where a checkpoint has the block in its place, or it has work.
+-- An entry of the block table stays live only if a checkpoint has the block in its place, or it has work.
 use Rattle.std.proofs.Common.{◌≡◌, ◌≢◌, ℕ, ◌<◌, Bool, true, false, length, refl, sym, ◌∙◌, ap, subst, inl, inr, Option, Some, None, option_and_then}
 use Rattle.std.proofs.lemmas.Bool.{cases_eq}
 use Rattle.std.proofs.lemmas.List.{get_or-set_same, get_or-set_other}
@@ -54,7 +54,7 @@ used-mapped rule t keeps i f h = by_entry (entry_at t i) refl (sym (entry_at-map
   by_entry None was g = absurd (cc)
   by_entry (Some e) was g = keeps i e f was g
 
--- a seal, where both checkpoints are one
+-- a seal, if both checkpoints are one
 pub used-sealed : (framed few : Bool) (w : Working) (v : Version) (e : BttEntry) → e.work ≡ w → e.v1 ≡ v → e.v0 ≡ e.v1 → IsUsed e
     → IsUsed (sealed_by framed w few v e)
 used-sealed true few w v e is at one used = λ v0 v1. used v0 (sym one ∙ v0)

@@ -38,7 +38,7 @@ module _ {E : Type 0} (key : E → ℕ) (new : ℕ → E) (rule : E → Option E
         by_rule i f.0 f.1 f.2 (rule f.0) refl
         ∙ sym (ap (λ o. kept_index (unwrap_or o 0) (rule (entry_for key new n t))) h ∙ ap (λ e. kept_index i (rule e)) (entry_for-some key new t n i f.0 h f.1))
 
-  -- where the rule makes nothing of what stands for a number without an entry
+  -- if the rule makes nothing of the default for a number without an entry
   pub entry_for-mapped : (t : Listing E) → IsListing key t → (n : ℕ) → unwrap_or (rule (new n)) (new n) ≡ new n
       → entry_for key new n (mapped rule t) ≡ unwrap_or (rule (entry_for key new n t)) (new n)
   entry_for-mapped t listing n idle = by_place (place_of key n t) refl where

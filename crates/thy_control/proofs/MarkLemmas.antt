@@ -37,13 +37,13 @@ use Rattle.thy_control.proofs.CountLemmas.{count-set_same, promoted-cell, none-c
 use Rattle.thy_control.proofs.HoldingLemmas.{none_passes}
 use Rattle.thy_control.proofs.StoreLemmas.{whole_page}
 
--- tests that answer alike count alike
+-- tests that agree count alike
 count-alike : {X : Type 0} (p q : X → Bool) → ((x : X) → p x ≡ q x) → (xs : List X) → count_by p xs ≡ count_by q xs
 count-alike p q h [] = refl
 count-alike p q h (x ∷ xs) =
     omega (arith, count-alike p q h xs, sum_by-cons (λ y. one_if (p y)) x xs, sum_by-cons (λ y. one_if (q y)) x xs, ap one_if (h x))
 
--- where some element passes, there is one
+-- if some element passes, there is one
 pub counted-some : {X : Type 0} (test : X → Bool) (d : X) (xs : List X) → 0 < count_by test xs → (i : ℕ) × (i < length xs) × (test (get_or xs i d) ≡ true)
 counted-some test d [] l = absurd (omega (arith, l))
 counted-some {X} test d (x ∷ xs) l = elim (cases_Bool (test x)) as (λ _. (i : ℕ) × (i < length (x ∷ xs)) × (test (get_or (x ∷ xs) i d) ≡ true)) [
@@ -162,7 +162,7 @@ AreMarks-after b block s n m now h some over promoting =
       promoted_is = promoting ∙ h.promoted_is ∙ sym (promoted-cell r b u listed);
     }
 
--- where none is counted, no block has work over its frame
+-- if none is counted, no block has work over its frame
 pub IsBareState-none : (s : State) → overlaid s.ptt s.btt ≡ 0 → IsBareState s
 IsBareState-none s none = record { bare = λ b l. record { no_overlay = λ framed work. by_place b framed work (place_of block_key b s.btt) refl } } where
   by_place : (b : ℕ) → is_framed (cell_of s b).page ≡ true → (cell_of s b).entry.work ≡ InBuffer → (o : Option ℕ) → place_of block_key b s.btt ≡ o → ⊥
@@ -182,7 +182,7 @@ buffered NoWork e = cc
 buffered InNvm e = cc
 buffered InBuffer e = refl
 
--- and where some is, there is such a block
+-- and if some is, there is such a block
 pub IsOverlaid-some : (s : State) → AreSoundTables s → 0 < overlaid s.ptt s.btt → IsOverlaid s
 IsOverlaid-some s t some =
     let f = counted-some (passes (is_overlaid s.ptt)) None s.btt.entries some in

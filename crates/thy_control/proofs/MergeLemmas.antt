@@ -283,7 +283,7 @@ module _ (b : ℕ) (s : State) (framed : is_framed (cell_of s b).page ≡ true) 
       let is : (cell_of s b).entry ≡ there.0 = entry_for-some block_key new_entry s.btt b (cell_of s b).i there.0 listed there.1 in
       map-set_same (option_and_then f) s.btt.entries (cell_of s b).i None None (sym none ∙ ap f is ∙ sym (ap (option_and_then f) there.1)) there.3
 
-  -- where a block that is out stands does not hang on its entry's place
+  -- the place of a block that is out does not depend on its entry's place
   placed_out : (v : Version) (site : Site) (x y : Seat) → v ≡ Out → x.j ≡ y.j → x.block ≡ y.block → placed Out site x ≡ placed v site y
   placed_out Out AtHome x y e j k = ap Home k
   placed_out Out AtAlternate x y e j k = ap (λ (n : ℕ). AlternatePage n (x.block % 64)) j ∙ ap (λ (n : ℕ). AlternatePage y.j (n % 64)) k

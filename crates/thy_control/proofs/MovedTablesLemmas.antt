@@ -25,7 +25,7 @@ use Rattle.thy_control.specs.Commit.{committed_state, CommitsTables}
 use Rattle.thy_control.proofs.FindLemmas.{entry_for-some}
 use Rattle.thy_control.proofs.SealStateLemmas.{lists_sealed}
 
--- what is listed after a rule, where that of each live entry is known
+-- what is listed after a rule, if that of each live entry is known
 module _ {E : Type 0} (rule : E → Option E) (f h : E → Option ℕ) (t : Listing E) (each : (i : ℕ) (e : E) → entry_at t i ≡ Some e → option_and_then f (rule e) ≡ h e) where
   by_entry : (i : ℕ) (o : Option E) → entry_at t i ≡ o → option_and_then f (option_and_then rule o) ≡ option_and_then h o
   by_entry i None was = refl
@@ -53,7 +53,7 @@ block_same Out InNvm e is = refl
 block_same Out InBuffer e is = refl
 block_same Alt w e is = refl
 
--- and of the page table, where a page that leaves goes home
+-- and of the page table, if a page that leaves goes home
 page_committed : (leaving : Bool) (e : PttEntry) → (leaving ≡ true → e.target ≡ AtHome)
     → option_and_then (λ (x : PttEntry). page_lists x.place x.page) (page_committed_by leaving e) ≡ page_lists e.target e.page
 page_committed true e home = sym (ap (λ (x : Site). page_lists x e.page) (home refl))

@@ -43,7 +43,7 @@ pub OnErr-of : {T E P : Type 0} (r : Result T E) → P → OnErr r P
 OnErr-of (Ok x) h = tt
 OnErr-of (Err e) h = h
 
--- where entries are free, a lowest one is
+-- if entries are free, a lowest one is
 pub has_free : (t : Listing BttEntry) → 0 < free_count t → free_place t ≡ None → ⊥
 has_free t room none = omega (arith, count-none t.entries none)
 
@@ -247,7 +247,8 @@ AreSoundTables-after b block s n t sized whole l room btt_once ptt_once =
           (sound-with_cell b u m listed whole_b (sound b l) (sound m k));
     }
 
--- the parts of the code's way: the state as its fields have it, the cell that was found, the rule, and the place of the entry
+-- the parts of the code's way: the state as its fields have it, the cell that was found, the rule, and the place of
+-- the entry
 pub record Way (s v : State) (b : ℕ) (found : Cell) (r : StoreRule) (btt : Listing BttEntry) (i : ℕ) : Type 0 where
   pub view : v ≡ s
   pub found_is : found ≡ cell_of s b
@@ -317,7 +318,7 @@ module _ (s v : State) (b : ℕ) (found : Cell) (r : StoreRule) (btt : Listing B
   way_state block n btt' ptt' counts' d a =
       ap (λ (t : State). state_of t btt' ptt' counts' d.dram) w.view ∙ state_after-is b block s n btt' ptt' counts' d a
 
-  -- where it failed, the state is as it was
+  -- if it failed, the state is as it was
   pub way_failed : (dram : Contents) → dram ≡ v.dram → record v { dram = dram } ≡ s
   way_failed dram e = ap (λ (d : Contents). record v { dram = d }) e ∙ w.view
 

@@ -75,7 +75,7 @@ live_left c e f h live bare = elim (page_left (is_low c e.page) (is_framed e) e 
   frame_fresh : (c : Tally) (e f : PttEntry) → sealed_as_counted c e ≡ Some f → is_framed e ≡ false → f.fresh ≡ e.fresh
   frame_fresh c e f h b = grind (arith, h, b)
 
--- what stands for a block or a page without an entry stays as it is
+-- the default for a block or a page without an entry stays as it is
 block_idle : (few framed : Bool) (b : ℕ) → sealed_entry framed few (new_entry b) ≡ new_entry b
 block_idle few true b = refl
 block_idle true false b = refl

@@ -41,7 +41,7 @@ use Rattle.thy_control.proofs.PutLemmas.{has_free, lasts-counts_after}
 use Rattle.thy_control.proofs.KeepLemmas.{same_start, penult-new, target-new}
 use Rattle.thy_control.proofs.GuardLemmas.{behind_slots}
 
--- where another element maps to the same, so does the list
+-- if another element maps to the same, so does the list
 pub map-set_same : {X Y : Type 0} (f : X → Y) (xs : List X) (i : ℕ) (y d : X) → f y ≡ f (get_or xs i d) → i < length xs → map f (slice_set xs i y) ≡ map f xs
 map-set_same f xs i y d same inside =
     ext_get_or (f d) (map f (slice_set xs i y)) (map f xs) (length-map (slice_set xs i y) f ∙ length-set xs i y ∙ sym (length-map xs f))
@@ -149,7 +149,7 @@ stays-cell r b t k l =
       | inr ne ↦ stays-or_dirty r (cell_of t k) (cell_of u k) (cell-with_cell_other r b t k l ne)
     ]
 
--- what stands before the homes reads as before
+-- every place before the homes reads as before
 pub low-reads : (side : Bool) (at x : ℕ) (block : Block) (d : Devices) → (side ≡ false → x ≢ at) → x < length d.nvm.image
     → newest (if side then record d { dram = written d.dram at block } else record d { nvm = written_to d.nvm at block }).nvm x ≡ newest d.nvm x
 low-reads true at x block d other l = refl

@@ -26,7 +26,7 @@ use Rattle.thy_control.proofs.CellLemmas.{IsPlace-penult, IsPlace-target, IsPlac
 use Rattle.thy_control.proofs.HoldLemmas.{hold_same, IsPlace-frame_of}
 use Rattle.thy_control.proofs.OwnLemmas.{owner, Owns, Owns-cell_of, owned-penult, owned-target, owned-last, owned-work, owned-apart}
 
--- the places of a block read as before: its frame where its page has an entry
+-- the places of a block read as before: its frame if its page has an entry
 pub record Untouched (old new : Place → Block) (b : ℕ) (c : Cell) : Type 0 where
   pub penult_same : new (penult c) ≡ old (penult c)
   pub target_same : new (target c) ≡ old (target c)
@@ -64,7 +64,7 @@ module _ (s : State) (m : Device) (b : ℕ) (y : Place) (v : Block) (t : AreSoun
         frame_same = λ listed. elsewhere k (frame_at (seat_of c)) ne (IsPlace-frame_of s k t l) (o.of_page listed);
       }
 
--- where its page has an entry, all of them
+-- if its page has an entry, all of them
 pub ReadsSame-of : (old new : Place → Block) (b : ℕ) (c : Cell) → Untouched old new b c → c.page ≢ no_page (page_of b) → ReadsSame old new c
 ReadsSame-of old new b c u listed = record {
   penult_same = u.penult_same;
@@ -118,7 +118,7 @@ moved-is s w view m from to a b d from_is to_is d_is =
     ∙ ap (λ (x : Place). moved s.p x to (devices_of m s.dram)) from_is
     ∙ ap (λ (x : Place). moved s.p a x (devices_of m s.dram)) to_is
 
--- where none passes a test, none is counted
+-- if none passes a test, none is counted
 pub none-passes : {X : Type 0} (test : X → Bool) (xs : List X) (d : X) → ((k : ℕ) → k < length xs → test (get_or xs k d) ≡ false) → count_by test xs ≡ 0
 none-passes test xs d none =
     let each : All (λ x. one_if (test x) ≤ 0) xs = λ k other l.
@@ -126,7 +126,7 @@ none-passes test xs d none =
     omega (arith, ap one_if is) in
     omega (arith, sum_by-le (λ x. one_if (test x)) 0 xs each)
 
--- where nothing happens, every block is kept
+-- if nothing happens, every block is kept
 pub KeepsEach-same : (s : State) (m : Device) → AreSoundTables s → KeepsEach s m s m
 KeepsEach-same s m t b l = record {
   sound = t.cells b l;
@@ -134,7 +134,7 @@ KeepsEach-same s m t b l = record {
   holds = λ h. h;
 }
 
--- what holds of the state and the device that a call left, where both are known
+-- what holds of the state and the device that a call left, if both are known
 pub at_result : {T E : Type 0} (P : State → Device → Type 0) (r : Result T E) (t u : State) (n k : Device) → OnOk r (t ≡ u) → OnOk r (n ≡ k) → P u k → OnOk r (P t n)
 at_result P (Ok x) t u n k e f h = subst (λ (y : State). P y n) (sym e) (subst (λ (y : Device). P u y) (sym f) h)
 at_result P (Err x) t u n k e f h = tt

@@ -30,7 +30,7 @@ use Rattle.thy_control.proofs.CopyLemmas.{listed-pending}
 use Rattle.thy_control.proofs.MergeLemmas.{listed_page-merge, overlays-merged}
 use Rattle.thy_control.proofs.IssueLemmas.{listed-busy, cell-issued}
 
--- where each page is framed as it was, each entry lies over a frame as it did
+-- if each page is framed as it was, each entry lies over a frame as it did
 pub overlaid-framed : (now old : Listing PttEntry) (t : Listing BttEntry) → ((b : ℕ) → block_is_framed now b ≡ block_is_framed old b) → overlaid now t ≡ overlaid old t
 overlaid-framed now old t same = count-same (passes (is_overlaid now)) (passes (is_overlaid old)) by_entry t.entries where
   by_entry : (o : Option BttEntry) → passes (is_overlaid now) o ≡ passes (is_overlaid old) o

@@ -1,4 +1,4 @@
--- The tables of both checkpoints: what they list, and where they have each block.
+-- The tables of both checkpoints: what they list, and the places at which they have each block.
 use Rattle.std.proofs.Common.{◌≡◌, ℕ, ◌<◌, List, map, true, Option, Some, None, option_and_then, unwrap_or, refl, sym, ◌∙◌, ap, arith}
 use Rattle.std.specs.Option.{option_map}
 use Rattle.std.proofs.lemmas.List.{length-map}
@@ -26,7 +26,7 @@ use Rattle.thy_control.specs.CheckpointTables.{entry_lists, page_lists, tables_b
 use Rattle.thy_control.proofs.FindLemmas.{found_entry, entry_for-some, entry_for-none}
 use Rattle.thy_control.proofs.CellLemmas.{block-cell_of}
 
--- what a checkpoint lists at each entry of a table, where it lists the entry's own number or nothing
+-- what a checkpoint lists at each entry of a table, if it lists the entry's own number or nothing
 module _ {E : Type 0} (key : E → ℕ) (new : ℕ → E) (listed : E → Option ℕ) (of_key : (e : E) (n : ℕ) → listed e ≡ Some n → key e ≡ n) (t : Listing E) where
   abbrev listed_in : List (Option ℕ)
   listed_in = map (option_and_then listed) t.entries
@@ -54,7 +54,7 @@ module _ {E : Type 0} (key : E → ℕ) (new : ℕ → E) (listed : E → Option
     entry_listed : (i n : ℕ) → Lists listed_in i n → listed (entry_for key new n t) ≡ Some n
     entry_listed i n l = let f = listed_entry i n l in ap listed (entry_for-some key new t n i f.0 (found_at i n l) f.1) ∙ f.2
 
-    -- so a number is found exactly where the table's entry for it is listed
+    -- so a number is found exactly if the table's entry for it is listed
     entry_of-listed_in : ((n : ℕ) → listed (new n) ≡ None) → (n : ℕ)
         → entry_of listed_in n ≡ option_map (λ _. index_for key new n t) (listed (entry_for key new n t))
     entry_of-listed_in new_none n = by_place (place_of key n t) refl where
@@ -95,14 +95,14 @@ page_is : (s : Site) (m n : ℕ) → page_lists s m ≡ Some n → (s ≡ AtAlte
 page_is AtHome m n h = cc
 page_is AtAlternate m n h = let same : m ≡ n = cc in (refl, same)
 
--- where a block stands by its entries in both tables
+-- the place of a block by its entries in both tables
 placed-by : (v : Version) (s : Site) (i j m n b : ℕ)
     → place_by_entries (option_map (λ _. i) (entry_lists v m)) (option_map (λ _. j) (page_lists s n)) b ≡ placed v s (record { i = i; j = j; block = b })
 placed-by Alt s i j m n b = refl
 placed-by Out AtAlternate i j m n b = refl
 placed-by Out AtHome i j m n b = refl
 
--- what is asked of where a checkpoint has the blocks and the pages
+-- what is asked of the places at which a checkpoint has the blocks and the pages
 pub record IsWay (s : State) (version : BttEntry → Version) (site : PttEntry → Site) : Type 0 where
   pub new_out : (b : ℕ) → version (new_entry b) ≡ Out
   pub no_home : (page : ℕ) → site (no_page page) ≡ AtHome

@@ -98,7 +98,7 @@ abbrev pub CopiesFrame : {T : Type 0} → ℕ → ℕ → State → Device → R
 CopiesFrame j k s m result t n = MakesOrFails (with_frame j k s m) m (HasFailed m n) s m result t n
 
 -- the places of that block hold what they have to, and a load gives the committed version of it; every other block whose
--- places held what they had to is as it was
+-- places held what they have to is as it was
 pub record LoadsFrame (j k : ℕ) (s : State) (m : Device) (t : State) (n : Device) : Type 0 where
   pub inside : framed_block j k s < memory_blocks s.p
   pub here : Holds (reads t n) (cell_of t (framed_block j k s))
@@ -116,7 +116,8 @@ DrainKeepsBooting = (s : State) → IsBooting s → IsBooting (after_drain s)
 abbrev pub BootHasTables : Type 0
 BootHasTables = (s : State) → IsBooting s → HaveTables s (tables0 s)
 
--- what is asked of a listing, by the tables alone: the entry is empty, and with it they are tables that a checkpoint may have
+-- what is asked of a listing, by the tables alone: the entry is empty, and with it they are tables that a checkpoint
+-- may have
 abbrev pub TablesMayListBlock : Type 0
 TablesMayListBlock =
     (i b : ℕ) (s : State) → AreSoundTables s → IsBooting s → i < s.p.btt
@@ -127,7 +128,7 @@ TablesMayListPage =
     (j n : ℕ) (s : State) → AreSoundTables s → IsBooting s → j < s.p.ptt
     → table_entry (tables0 s).ptt j ≡ None → IsTables s.p (with_page j n (tables0 s)) → MayListPage j n s
 
--- where those of every block of a listed page hold what they have to, the places of all blocks do
+-- if those of every block of a listed page hold what they have to, the places of all blocks do
 abbrev pub FramedHoldsAll : Type 0
 FramedHoldsAll =
     (s : State) (n : Device) → AreSoundTables s → IsBooting s

@@ -13,7 +13,7 @@ use Rattle.thy_cell.specs.declared.cell.Cell.{Cell}
 use Rattle.thy_cell.specs.Cells.{penult, target}
 use Rattle.thy_control.specs.State.{State, AreSoundTables, cell_of}
 
--- the number that a checkpoint lists at an entry, by where it has the block or the page of that entry
+-- the number that a checkpoint lists at an entry, by the place at which it has the block or the page of that entry
 abbrev pub entry_lists : Version → ℕ → Option ℕ
 entry_lists Out n = None
 entry_lists Alt n = Some n
@@ -32,11 +32,11 @@ tables_by version site s = record {
 abbrev pub tables0 : State → Tables
 tables0 s = tables_by (λ e. e.v0) (λ e. e.place) s
 
--- and those of the one under way; the committed one's where none is
+-- and those of the one under way; the committed one's if none is
 abbrev pub tables1 : State → Tables
 tables1 s = tables_by (λ e. e.v1) (λ e. e.target) s
 
--- they are tables that a checkpoint may have, and have each block of memory where its cell tells
+-- they are tables that a checkpoint may have, and have each block of memory at the place that its cell gives
 pub record AreTablesOf (s : State) (t : Tables) (place : Cell → Place) : Type 0 where
   pub valid : IsTables s.p t
   pub same_place : (b : ℕ) → b < memory_blocks s.p → place_of t b ≡ place (cell_of s b)

@@ -9,8 +9,8 @@ use Rattle.thy_control.specs.State.{State, AreSoundTables, cell_of, reads, penul
 use Rattle.thy_control.specs.CheckpointTables.{tables0, tables1}
 use Rattle.thy_control.specs.Stays.{HoldAll}
 
--- every version of the checkpoint under way is that of the committed one, pages that leave are cleared, and so is what
--- lists nothing any more
+-- every version of the checkpoint under way is that of the committed one, pages that leave are cleared, and so are
+-- entries that list nothing any more
 unfoldable pub committed_state : State → State
 committed_state s = record s {
   btt = mapped committed_entry s.btt;
@@ -23,14 +23,14 @@ abbrev pub CommitMakesCells : Type 0
 CommitMakesCells =
     (s : State) → AreSoundTables s → (b : ℕ) → cell_of (committed_state s) b ≡ committed (cell_of s b)
 
--- where the places hold what they have to, the committed version is what was the last one; a load gives what it gave
+-- if the places hold what they have to, the committed version is what was the last one; a load gives what it gave
 pub record Commits (s t : State) (n : Device) : Type 0 where
   pub penult_is : (b : ℕ) → b < memory_blocks s.p → penult_of t n b ≡ last_of s n b
   pub last_is : (b : ℕ) → b < memory_blocks s.p → last_of t n b ≡ last_of s n b
   pub work_same : (b : ℕ) → b < memory_blocks s.p → work_of t n b ≡ work_of s n b
   pub holds : HoldAll t n
 
--- whatever the places hold, the committed version is what stands where the checkpoint under way was to have the block
+-- whatever the places hold, the committed version is the block at the target of the checkpoint under way
 pub record CommitsTargets (s t : State) (n : Device) : Type 0 where
   pub penult_is : (b : ℕ) → b < memory_blocks s.p → penult_of t n b ≡ reads s n (target (cell_of s b))
 

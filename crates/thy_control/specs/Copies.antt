@@ -47,7 +47,7 @@ copied b s m = record s {
   dram = (devices_copied b s m).dram;
 }
 
--- the same after the copy of what an entry lists, and after none where nothing is left
+-- the same after the copy of what an entry lists; unchanged if nothing is left
 abbrev pub devices_after_copy : Option ℕ → State → Device → Device
 devices_after_copy None s m = m
 devices_after_copy (Some i) s m = (devices_copied (block_listed i s) s m).nvm
@@ -66,7 +66,7 @@ pub record FailsNextCopy (s : State) (m n : Device) : Type 0 where
   pub next : next_copy s ≡ Some entry
   pub fails : FailsCopy (block_listed entry s) s m n
 
--- how the copy of a block ends, and the next copy, or none where nothing is left
+-- how the copy of a block ends, and the next copy, or none if nothing is left
 abbrev pub CopiesBlock : {T : Type 0} → ℕ → State → Device → Result T NvmError → State → Device → Type 0
 CopiesBlock b s m result t n = MakesOrFails (copied b s m) (devices_copied b s m).nvm (FailsCopy b s m n) s m result t n
 

@@ -1,4 +1,4 @@
--- Where the searches of the tables go on: no entry below has what is looked for.
+-- The entries at which the next searches of the tables start: no entry below has what is looked for.
 use Rattle.std.specs.Prelude.{◌≡◌, ℕ, ◌<◌, Bool, false}
 use Rattle.thy_table.specs.Listing.{Listing, entry_at, passes}
 use Rattle.thy_tables.specs.declared.block_entry.BttEntry.{BttEntry}
@@ -15,7 +15,7 @@ use Rattle.thy_control.specs.declared.cursors.Cursors.{Cursors}
 abbrev pub NoneBelow : {E : Type 0} → (E → Bool) → ℕ → Listing E → Type 0
 NoneBelow test place t = (k : ℕ) → k < place → passes test (entry_at t k) ≡ false
 
--- so it is of each place where a search goes on
+-- the same of each place at which a search starts
 pub record AreCursors (pages : Listing PttEntry) (blocks : Listing BttEntry) (c : Cursors) : Type 0 where
   pub copies : NoneBelow needs_copy c.copies blocks
   pub writes : NoneBelow needs_write c.writes pages

@@ -1,4 +1,4 @@
--- Writes that were queued land: by a drain of the DRAM, and by a drain or a barrier of the NVM behind the controller.
+-- Writes that were queued land: by a drain of the DRAM, and by a drain or a barrier of the NVM below the controller.
 use Rattle.std.specs.Prelude.{◌≡◌, ℕ, ◌+◌, ◌<◌, length}
 use Rattle.thy_base.specs.declared.place.Place.{Place}
 use Rattle.thy_base.specs.Device.{Device, newest, HoldsNoMore, drained as nvm_drained, settled}
@@ -11,7 +11,7 @@ use Rattle.thy_control.specs.Stays.{HoldAll, Stays}
 abbrev pub after_drain : State → State
 after_drain s = record s { dram = drained s.dram }
 
--- whatever stands behind the controller, every place of both devices reads as before
+-- whatever NVM is below the controller, every place of both devices reads as before
 abbrev pub ReadsAlike : State → State → Type 0
 ReadsAlike s t = (nvm : Device) (place : Place) → reads t nvm place ≡ reads s nvm place
 
@@ -22,14 +22,14 @@ pub record Lands (m n : Device) : Type 0 where
   pub newest_same : (x : ℕ) → x < length m.image → newest n x ≡ newest m x
   pub no_more : HoldsNoMore m n
 
--- what happened is not seen: every place of both devices reads as before, the places hold what they have to if they did, and
--- both checkpoints stay
+-- what happened is not seen: every place of both devices reads as before, the places hold what they have to if they
+-- did, and both checkpoints stay
 pub record IsUnseen (s : State) (m : Device) (t : State) (n : Device) : Type 0 where
   pub reads_same : (place : Place) → IsPlace s.p place → reads t n place ≡ reads s m place
   pub holds : HoldAll s m → HoldAll t n
   pub stays : Stays s m t n
 
--- so it is where writes of the NVM landed, whether that is up or down: by a drain, by a barrier, or otherwise
+-- the same if writes of the NVM landed, whether that is up or down: by a drain, by a barrier, or otherwise
 abbrev pub LandingIsUnseen : Type 0
 LandingIsUnseen = (s : State) (m n : Device) → AreSoundTables s → IsSized s m → Lands m n → IsUnseen s m s n
 

@@ -13,11 +13,11 @@ module _ {E : Type 0} (key : E → ℕ) (new : ℕ → E) where
   abbrev pub entry_for : ℕ → Listing E → E
   entry_for n t = entry_found (place_of key n t) n t
 
-  -- its place; 0 where there is none
+  -- its place; 0 if there is none
   abbrev pub index_for : ℕ → Listing E → ℕ
   index_for n t = unwrap_or (place_of key n t) 0
 
-  -- a table with an entry for a number, by the place where it was found: a new one where there was none
+  -- a table with an entry for a number, by the place at which it was found: a new one if there was none
   abbrev pub with_found : Option ℕ → ℕ → Listing E → Listing E
   with_found None n t = added (new n) t
   with_found (Some i) n t = t

@@ -1,4 +1,4 @@
--- Why an epoch that ran out of entries can go on: a seal without work frees the block table.
+-- Why an epoch that ran out of entries can continue: a seal without work frees the block table.
 use Rattle.std.specs.Prelude.{◌≡◌, ℕ, ◌*◌, ◌≤◌, Option, Some}
 use Rattle.thy_table.specs.Listing.{entry_at, free_count, mapped}
 use Rattle.thy_tables.specs.declared.block_entry.BttEntry.{BttEntry}
@@ -16,7 +16,7 @@ pub record HasNoWork (s : State) : Type 0 where
 abbrev pub settled : BttEntry → Option BttEntry
 settled e = Some (record e { pend = Settled })
 
--- where a seal finds no work and no store comes before the commit, but only the copies, at least half of the block table
+-- if a seal finds no work and no store comes before the commit, but only the copies, at least half of the block table
 -- is free after it
 abbrev pub SealFrees : Type 0
 SealFrees =

@@ -10,13 +10,13 @@ use Rattle.thy_cell.specs.Cells.{penult, target}
 use Rattle.thy_cell.specs.Checkpoint.{IsCopied}
 use Rattle.thy_control.specs.State.{State, AreSoundTables, cell_of}
 
--- the checkpoint under way has block b at its place already: it is copied, and where its page is busy, it was issued
+-- the checkpoint under way has block b at its place already: it is copied, and if its page is busy, it was issued
 pub record IsPlaced (b : ℕ) (c : Cell) : Type 0 where
   pub copied : c.entry.pend ≡ Settled
   pub issued : c.page.busy ≡ true → b % 64 < c.page.issued
 
--- nothing new is possible before the homes, at the places of the committed checkpoint, and at that of each block which the one
--- under way has at its place already
+-- nothing new is possible before the homes, at the places of the committed checkpoint, and at that of each block
+-- which the one under way has at its place already
 pub record LeavesGuarded (s : State) (m n : Device) : Type 0 where
   pub low : (x : ℕ) → x < first_home s.p → NoMoreAt x m n
   pub old : (b : ℕ) → b < memory_blocks s.p → NoMoreAt (number_of s.p (penult (cell_of s b))) m n
@@ -29,7 +29,7 @@ pub record IsFree (s : State) (x : ℕ) : Type 0 where
   pub old : (b : ℕ) → b < memory_blocks s.p → number_of s.p (penult (cell_of s b)) ≢ x
   pub next : (b : ℕ) → b < memory_blocks s.p → IsPlaced b (cell_of s b) → number_of s.p (target (cell_of s b)) ≢ x
 
--- a block is at its place once nothing is left of it, and where its page is busy once it was issued
+-- a block is at its place once nothing is left of it, and if its page is busy once it was issued
 abbrev pub CopiedIsPlaced : Type 0
 CopiedIsPlaced = (b : ℕ) (c : Cell) → IsCopied c → IsPlaced b c
 

@@ -17,7 +17,7 @@ use Rattle.thy_tables.specs.declared.block_entry.Pending.TheVariants.{Settled, F
 use Rattle.thy_tables.specs.PageEntry.{is_framed}
 use Rattle.thy_control.specs.State.{State, IsSized, work_of, new_state}
 
--- what a load of each block gives; nothing where the NVM has another size, or is down
+-- what a load of each block gives; nothing if the NVM has another size, or is down
 abbrev pub works : State → Device → List Block
 works s n =
     if length n.image == image_blocks s.p && not n.down
@@ -52,7 +52,7 @@ holding_of s n = record {
   owed = waiting s.btt;
 }
 
--- what it holds has a block exactly where memory has, and that block is the work
+-- what it holds has a block exactly if memory has, and that block is the work
 pub record AreWorks (s : State) (n : Device) (b : ℕ) : Type 0 where
   pub sized : IsSized s n
   pub up : n.down ≡ false
@@ -62,11 +62,11 @@ pub record AreWorks (s : State) (n : Device) (b : ℕ) : Type 0 where
 abbrev pub BlocksAreWorks : Type 0
 BlocksAreWorks = (s : State) (n : Device) (b : ℕ) → b < length (holding_of s n).blocks → AreWorks s n b
 
--- and it has every block of memory where the NVM has its size and is up
+-- and it has every block of memory if the NVM has its size and is up
 abbrev pub MemoryIsHeld : Type 0
 MemoryIsHeld = (s : State) (n : Device) → IsSized s n → n.down ≡ false → length (holding_of s n).blocks ≡ memory_blocks s.p
 
--- a new controller has room for as many stores as the block table has entries, and is ready where the NVM is up
+-- a new controller has room for as many stores as the block table has entries, and is ready if the NVM is up
 pub record IsNew (p : Parameters) (n : Device) (h : Holding) : Type 0 where
   pub free : h.free ≡ p.btt
   pub ready : h.ready ≡ not n.down

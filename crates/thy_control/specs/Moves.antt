@@ -25,7 +25,7 @@ pub record FailsMove (p : Parameters) (from to : Place) (old new : Devices) : Ty
   pub dram : new.dram ≡ old.dram
   pub failed : FailsAtRead from old new ⊎ FailsAtWrite p from to old new
 
--- of what is left to move, one less is left where there was more, and else nothing was and is left
+-- of what is left to move, one less is left if any was left, and else none was and none is left
 abbrev pub IsOneLess : Bool → ℕ → ℕ → Type 0
 IsOneLess true old new = new + 1 ≡ old
 IsOneLess false old new = (old ≡ 0) × (new ≡ 0)

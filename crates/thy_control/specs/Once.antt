@@ -39,8 +39,8 @@ pub record FailsWrite (s : State) (old new : Devices) : Type 0 where
 abbrev pub IsOneAction : State → Devices → Devices → Type 0
 IsOneAction s old new = (new ≡ old) ⊎ (Writes s old new ⊎ (FailsRead old new ⊎ FailsWrite s old new))
 
--- of one block, what the checkpoint under way has still to do is left: nothing of it is written, and nothing copied but a buffer
--- that a store has to go into
+-- of one block, what the checkpoint under way has still to do is left: nothing of it is written, and nothing copied
+-- but a buffer that a store has to go into
 pub record KeepsCheckpointWork (c d : Cell) : Type 0 where
   pub busy_same : d.page.busy ≡ c.page.busy
   pub issued_same : d.page.issued ≡ c.page.issued
@@ -53,7 +53,7 @@ pub record Once (s : State) (m : Device) (t : State) (n : Device) : Type 0 where
   pub stays : Stays s m t n
   pub work : (b : ℕ) → b < memory_blocks s.p → KeepsCheckpointWork (cell_of s b) (cell_of t b)
 
--- a place of the NVM behind both slots that no checkpoint has, and a block
+-- a place of the NVM after both slots that no checkpoint has, and a block
 pub record Spot (s : State) : Type 0 where
   pub at : ℕ
   pub block : Block
@@ -72,7 +72,7 @@ FailsOnNvm s old new = HasFailed old new ⊎ ((x : Spot s) × HasFailedToWrite x
 abbrev pub queued : Devices → ℕ
 queued d = length d.nvm.queue + d.dram.queued
 
--- so one action of both devices is one of the NVM at most; where that is up afterwards it did not fail, and one write more
+-- so one action of both devices is one of the NVM at most; if that is up afterwards it did not fail, and one write more
 -- is queued at most
 pub record IsOneOfNvm (s : State) (old new : Devices) : Type 0 where
   pub nvm : AccessesNvm s old.nvm new.nvm ⊎ FailsOnNvm s old.nvm new.nvm

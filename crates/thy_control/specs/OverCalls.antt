@@ -1,4 +1,4 @@
--- What stays does so where nothing happens, and over one call after another.
+-- What stays does so if nothing happens, and over one call after another.
 use Rattle.std.specs.Prelude.{◌≡◌, ℕ, ◌<◌, Bool, true, false, refl}
 use Rattle.std.proofs.Common.{sym, ◌∙◌, ap, subst, arith}
 use Rattle.thy_base.specs.declared.config.Parameters.{Parameters}
@@ -37,7 +37,7 @@ placed_on b c d stays h = record {
   issued = λ busy. omega (arith, h.issued (stays.busy_before busy), stays.issued);
 }
 
--- what stays does so where nothing happens
+-- what stays does so if nothing happens
 pub stays_same : (s : State) (m : Device) → Stays s m s m
 stays_same s m = record {
   as_long = refl;

@@ -16,7 +16,7 @@ use Rattle.thy_control.specs.Holding.{promoted}
 use Rattle.thy_control.specs.Seal.{block_is_framed}
 use Rattle.thy_control.specs.declared.overlay.Marks.{Marks}
 
--- work stands in a buffer
+-- work is held in a buffer
 abbrev pub is_buffered : Working → Bool
 is_buffered NoWork = false
 is_buffered InNvm = false

@@ -52,7 +52,7 @@ issued b s m = record s {
   dram = (devices_issued b s m).dram;
 }
 
--- the same of the next block of an entry's page, and after none where nothing is left
+-- the same of the next block of an entry's page; unchanged if nothing is left
 abbrev pub devices_after_write : Option ℕ → State → Device → Device
 devices_after_write None s m = m
 devices_after_write (Some j) s m = (devices_issued (block_to_write j s) s m).nvm
@@ -72,7 +72,7 @@ pub record FailsNextWrite (s : State) (m n : Device) : Type 0 where
   pub next : next_page s ≡ Some entry
   pub fails : FailsWriteOf (block_to_write entry s) s m n
 
--- how the write of a block ends, and the next write, or none where nothing is left
+-- how the write of a block ends, and the next write, or none if nothing is left
 abbrev pub WritesBlock : {T : Type 0} → ℕ → State → Device → Result T NvmError → State → Device → Type 0
 WritesBlock b s m result t n = MakesOrFails (issued b s m) (devices_issued b s m).nvm (FailsWriteOf b s m n) s m result t n
 

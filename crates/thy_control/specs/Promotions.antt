@@ -35,7 +35,7 @@ unfilled s = sum_by fills_left s.ptt.entries
 abbrev pub block_to_fill : ℕ → State → ℕ
 block_to_fill j s = block_after (λ e. e.filled) (entry_at s.ptt j)
 
--- both devices after a block was copied from where a load reads it into its frame, and the controller
+-- both devices after a block, as a load reads it, was copied into its frame, and the controller
 unfoldable pub devices_filled : ℕ → State → Device → Devices
 devices_filled b s m = moved s.p (work (cell_of s b)) (frame_at (seat_of (cell_of s b))) (devices_of m s.dram)
 

@@ -15,7 +15,7 @@ use Rattle.thy_control.specs.Guarded.{IsFree}
 use Rattle.thy_control.specs.StoredTables.{btt_with, btt_after, ptt_after, counts_after}
 use Rattle.thy_control.specs.State.{State, cell_of, reads}
 
--- the controller with an entry for a block, where the rule of its store names one
+-- the controller with an entry for a block, if the rule of its store names one
 abbrev pub with_block : StoreRule → ℕ → State → State
 with_block rule b s = record s { btt = btt_with rule b s.btt }
 

@@ -42,7 +42,7 @@ abbrev pub with_pages : List ℕ → Listing PttEntry → Listing PttEntry
 with_pages [] t = t
 with_pages (n ∷ ns) t = with_pages ns (with_entry_for page_key promoted_page n t)
 
--- one page, where it was stored to densely
+-- one page, if it was stored to densely
 abbrev pub with_dense : Tally → ℕ → Listing PttEntry → Listing PttEntry
 with_dense c n t = if is_dense c n then with_entry_for page_key promoted_page n t else t
 
@@ -74,7 +74,7 @@ SealMakesCells =
 pub record IsBareState (s : State) : Type 0 where
   pub bare : (b : ℕ) → b < memory_blocks s.p → IsBare (cell_of s b)
 
--- where the places hold what they have to, the last version is what a load gave, and gives; the committed one stays
+-- if the places hold what they have to, the last version is what a load gave, and gives; the committed one stays
 pub record Seals (s t : State) (n : Device) : Type 0 where
   pub penult_same : (b : ℕ) → b < memory_blocks s.p → penult_of t n b ≡ penult_of s n b
   pub last_is : (b : ℕ) → b < memory_blocks s.p → last_of t n b ≡ work_of s n b

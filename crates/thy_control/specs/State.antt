@@ -47,7 +47,7 @@ cell_of s b = record {
   page = entry_for page_key no_page (page_of b) s.ptt;
 }
 
--- what a read of a place gives, with this NVM behind the controller
+-- what a read of a place gives, with this NVM below the controller
 abbrev pub reads : State → Device → Place → Block
 reads s n place = read_at s.p (devices_of n s.dram) place
 
@@ -61,7 +61,7 @@ last_of s n b = reads s n (last (cell_of s b))
 abbrev pub work_of : State → Device → ℕ → Block
 work_of s n b = reads s n (work (cell_of s b))
 
--- an entry whose place neither checkpoint has, has work; and so it is with every live one
+-- an entry whose place neither checkpoint has, has work; and the same holds of every live one
 abbrev pub IsUsed : BttEntry → Type 0
 IsUsed e = e.v0 ≡ Out → e.v1 ≡ Out → e.work ≢ NoWork
 

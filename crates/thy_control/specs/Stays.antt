@@ -29,16 +29,16 @@ pub record CellStays (c d : Cell) : Type 0 where
   pub busy_before : d.page.busy ≡ true → c.page.busy ≡ true
   pub issued : c.page.issued ≤ d.page.issued
 
--- where the places held what they have to, they do so still, and the version of the checkpoint under way reads as before
+-- if the places held what they have to, they do so still, and the version of the checkpoint under way reads as before
 pub record StaysHeld (s : State) (m : Device) (t : State) (n : Device) : Type 0 where
   pub holds : HoldAll t n
   pub last_same : (b : ℕ) → b < memory_blocks s.p → last_of t n b ≡ last_of s m b
 
--- this is kept where the places held what they have to
+-- this is kept if the places held what they have to
 abbrev pub WhereHeld : (State → Device → State → Device → Type 0) → State → Device → State → Device → Type 0
 WhereHeld kept s m t n = HoldAll s m → kept s m t n
 
--- while the NVM is up: all that stands before the homes reads as before, and so does the committed checkpoint
+-- while the NVM is up: every place before the homes reads as before, and so does the committed checkpoint
 pub record StaysUp (s : State) (m : Device) (t : State) (n : Device) : Type 0 where
   pub low_reads : (x : ℕ) → x < first_home s.p → newest n x ≡ newest m x
   pub penult_same : (b : ℕ) → b < memory_blocks s.p → penult_of t n b ≡ penult_of s m b

@@ -13,7 +13,7 @@ use Rattle.thy_cell.specs.declared.cell.StoreRule.TheVariants.{ToFrame, ToBuffer
 use Rattle.thy_control.specs.Find.{with_entry_for}
 use Rattle.thy_control.specs.Keys.{block_key}
 
--- the block table with an entry for a block, where the rule of its store names one
+-- the block table with an entry for a block, if the rule of its store names one
 abbrev pub btt_with : StoreRule → ℕ → Listing BttEntry → Listing BttEntry
 btt_with ToFrame b t = t
 btt_with ToBuffer b t = with_entry_for block_key new_entry b t

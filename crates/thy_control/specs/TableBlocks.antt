@@ -1,4 +1,4 @@
--- What a slot has behind the processor's record: the tables of the checkpoint under way, eight entries a block, and the
+-- What a slot has after the processor's record: the tables of the checkpoint under way, eight entries a block, and the
 -- counts of the epoch before, 64 pages a block.
 use Rattle.std.specs.Prelude.{ℕ, ◌+◌, ◌*◌, ◌/◌, List, ◌++◌, take, drop, Option}
 use Rattle.thy_base.specs.declared.config.Parameters.{Parameters}

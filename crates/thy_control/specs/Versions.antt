@@ -27,7 +27,7 @@ pub record KeepsAll (s : State) (m : Device) (t : State) (n : Device) : Type 0 w
   pub work : KeepsWork s m t n
   pub holds : HoldAll s m → HoldAll t n
 
--- what a load of block b gives after its store: the block that was stored, or as before where a copy went first
+-- what a load of block b gives after its store: the block that was stored, or as before if a copy came first
 abbrev pub work_given : Stored → Block → Block → Block
 work_given Done block before = block
 work_given CopyFirst block before = before

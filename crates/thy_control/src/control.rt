@@ -39,7 +39,7 @@ use thy_switch::Counts;
 use thy_table::Table;
 use thy_tables::{Btt, BttEntry, Ptt, PttEntry};
 
-/// The controller of a hybrid memory. Blocks are numbered from the start of memory; only `new` takes memory.
+/// The controller of a hybrid memory. Blocks are numbered from the start of memory; only `new` allocates.
 #[derive(Drop)]
 pub struct Control {
     geometry: Geometry,
@@ -63,7 +63,7 @@ impl Model for Control {
     ghost invariant = { λ c. IsControl (state_in c.geometry c.btt c.ptt c.counts c.under_way c.dram) c.marks c.cursors };
 }
 
-/// The place of a block's entry, 0 where it has none, and the entry, or one as a new one would be.
+/// The place of a block's entry, 0 if it has none, and the entry, or one as a new one would be.
 fn block_entry(btt: &Btt, b: u64) -> (usize, BttEntry)
     ensures place { result.0 ≡ index_for block_key new_entry b btt.now }
     ensures entry { result.1 ≡ entry_for block_key new_entry b btt.now }
@@ -91,7 +91,7 @@ fn page_entry(ptt: &Ptt, page: u64) -> (usize, PttEntry)
     }
 }
 
-/// The place of a block's entry; where it has none, that of the one which the rule of its store adds.
+/// The place of a block's entry; if it has none, that of the one which the rule of its store adds.
 fn place_for_rule(btt: &Btt, b: u64, rule: StoreRule) -> usize
     requires { 0 < free_count btt.now }
     ensures { result ≡ index_for block_key new_entry b (btt_with rule b btt.now) }
@@ -117,7 +117,7 @@ fn place_to_add(btt: &Btt, b: u64) -> usize
     }
 }
 
-/// Adds an entry of a block without one, where the rule of its store names one.
+/// Adds an entry of a block without one, if the rule of its store names one.
 fn add_for_rule(btt: &mut Btt, b: u64, rule: StoreRule)
     requires { b < btt.old.numbers }
     ensures { btt.new ≡ btt_with rule b btt.old }
@@ -131,7 +131,7 @@ fn add_for_rule(btt: &mut Btt, b: u64, rule: StoreRule)
     }
 }
 
-/// Adds an entry of a block without one, where one is free.
+/// Adds an entry of a block without one, if one is free.
 fn add_entry(btt: &mut Btt, b: u64)
     requires number { b < btt.old.numbers }
     requires unlisted { place_of block_key b btt.old ≡ None }
@@ -275,7 +275,7 @@ impl Control {
         Cell { i, entry, j, page }
     }
 
-    /// What stands at a place of either device.
+    /// The block at a place of either device.
     fn read<N: Nvm>(&self, place: Place, nvm: &mut N) -> Result<Block, NvmError>
         requires place { IsPlace self.now.p place }
         requires sized { IsSized self.now (N.device nvm.old) }
@@ -305,7 +305,7 @@ impl Control {
         self.read(cell.penult(), nvm)
     }
 
-    /// Block `b` as it was stored last. It fails only where that stands in the NVM.
+    /// Block `b` as it was stored last. It fails only if that block is in the NVM.
     pub fn load<N: Nvm>(&self, b: u64, nvm: &mut N) -> Result<Block, NvmError>
         requires block { b < memory_blocks self.now.p }
         requires sized { IsSized self.now (N.device nvm.old) }
@@ -322,8 +322,8 @@ impl Control {
         self.read(cell.work(), nvm)
     }
 
-    /// Stores block `b`, or makes the copy that has to go first: one write at one place. Both checkpoints of every
-    /// block stay. Where the NVM failed, the tables are as they were, and the place, which no checkpoint has, may
+    /// Stores block `b`, or makes the copy that has to come first: one write at one place. Both checkpoints of every
+    /// block stay. If the NVM failed, the tables are as they were, and the place, which no checkpoint has, may
     /// hold the block or not.
     pub fn store<N: Nvm>(&mut self, b: u64, block: &Block, nvm: &mut N) -> Result<Stored, NvmError>
         requires block { b < memory_blocks self.old.p }
@@ -337,7 +337,7 @@ impl Control {
         ensures work { IfOk result (λ stored. PutsWork stored b block.now self.old (N.device nvm.old) self.new (N.device nvm.new)) }
         ensures keeps { OnOk result (KeepsCheckpoints self.old (N.device nvm.old) self.new (N.device nvm.new)) }
 
-        // So it is by these tables and this one write.
+        // Tables and devices are those of the definition: these tables and this one write.
         ensures state { OnOk result (self.new ≡ state_after b block.now self.old (N.device nvm.old)) }
         ensures nvm { OnOk result (N.device nvm.new ≡ (devices_after b block.now self.old (N.device nvm.old)).nvm) }
 
@@ -401,8 +401,8 @@ impl Control {
         2 * self.btt.free() < self.btt.size() as u64
     }
 
-    /// Commits the checkpoint under way: it becomes the committed one. One must be under way, with every copy made and every
-    /// page written. Writes to no device.
+    /// Commits the checkpoint under way: it becomes the committed one. One must be under way, with every copy made
+    /// and every page written. Writes to no device.
     pub fn commit(&mut self)
         requires way { self.old.under_way ≡ true }
         requires copied { AreCopied self.old }
@@ -427,7 +427,7 @@ impl Control {
         self.cursors = Cursors::start();
     }
 
-    /// Stores block `b` by its rule, or makes the copy that has to go first: one write at one place.
+    /// Stores block `b` by its rule, or makes the copy that has to come first: one write at one place.
     fn put<N: Nvm>(&mut self, b: u64, block: &Block, nvm: &mut N) -> Result<Stored, NvmError>
         requires block { b < memory_blocks self.old.p }
         requires sized { IsSized self.old (N.device nvm.old) }

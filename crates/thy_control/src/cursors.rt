@@ -1,4 +1,4 @@
-//! Where the searches of the tables go on.
+//! The entries at which the next searches of the tables start.
 ghost use Rattle.std.specs.Prelude.{◌≡◌, ◌≤◌, true, unwrap_or};
 ghost use Rattle.thy_table.specs.Listing.{Listing};
 ghost use Rattle.thy_tables.specs.declared.block_entry.BttEntry.{BttEntry as BlockEntry};
@@ -9,7 +9,7 @@ ghost use Rattle.thy_control.specs.Cursors.{AreCursors};
 use thy_cell::{Cell, StoreRule};
 
 /// For each kind of work that is looked for in a table, a place below which no entry has any. So from one seal or commit to
-/// the next each search goes over its table once, and again only from where a store set it back.
+/// the next each search goes over its table once, and again only from the place that a store set it back to.
 #[derive(Clone, Copy, Debug)]
 pub struct Cursors {
     /// Of the block table: no entry below has a version to be copied.
@@ -22,7 +22,7 @@ pub struct Cursors {
     pub promotions: usize,
 }
 
-/// Where the next search goes on: at what this one found, past the last entry where it found nothing.
+/// The place at which the next search starts: what this one found, or past the last entry if it found nothing.
 pub fn goes_on(found: Option<usize>, size: usize) -> usize
     ensures { result ≡ unwrap_or found size }
 {

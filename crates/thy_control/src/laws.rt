@@ -11,7 +11,7 @@ ghost use Rattle.thy_control.specs.Guarded.{CopiedIsPlaced, IssuedIsPlaced};
 ghost use Rattle.thy_control.specs.Left.{NoneLeftIsCopied, CopiedHasNoneLeft};
 ghost use Rattle.thy_control.specs.Drains.{LandingIsUnseen, NvmDrainIsUnseen, BarrierIsUnseen, DrainIsUnseen, DrainTakesOne};
 
-/// What stays does so where nothing happens, and over two calls one after the other. Where all blocks of the checkpoint
+/// What stays does so if nothing happens, and over two calls one after the other. If all blocks of the checkpoint
 /// under way are copied and written, they stay so, and each block that it has at its place already stays there.
 pub fn what_stays_does_so_over_calls()
     ensures calls { StaysOverCalls }
@@ -19,14 +19,14 @@ pub fn what_stays_does_so_over_calls()
     ensures placed { PlacedStays }
 {}
 
-/// The tables of either checkpoint, as the controller's tables tell them, are those that a checkpoint may have, and
-/// have each block of memory where the controller has it.
+/// The tables of either checkpoint, as the controller's tables give them, are those that a checkpoint may have, and
+/// have each block of memory at the place at which the controller has it.
 pub fn checkpoints_have_tables()
     ensures committed { CommittedTables }
     ensures under_way { TablesUnderWay }
 {}
 
-/// Seen as a store of blocks, the controller and the NVM hold the work of every block of memory, and no block where
+/// Seen as a store of blocks, the controller and the NVM hold the work of every block of memory, and no block if
 /// the NVM has another size or is down.
 pub fn blocks_are_works()
     ensures works { BlocksAreWorks }
@@ -34,25 +34,25 @@ pub fn blocks_are_works()
 {}
 
 /// Seen so, a new controller has room for as many stores as the block table has entries, owes no copy, and is ready
-/// where the NVM is up.
+/// if the NVM is up.
 pub fn a_new_controller_is_ready()
     ensures { NewIsReady }
 {}
 
-/// What a call does once at both devices is one action of the NVM at most: nothing, one write behind both slots at a place
-/// that no checkpoint has, or a read or such a write that failed. Where the NVM is up afterwards it did not fail, and both devices together
-/// have one write more queued at most.
+/// What a call does once at both devices is one action of the NVM at most: nothing, one write after both slots at a place
+/// that no checkpoint has, or a read or such a write that failed. If the NVM is up afterwards it did not fail, and
+/// both devices together have one write more queued at most.
 pub fn one_action_is_one_of_the_nvm()
     ensures { OneActionIsOneOfNvm }
 {}
 
-/// Where a seal finds no work, and no store comes before its commit, at least half of the block table is free then. So an
-/// epoch that ended for want of entries is followed by one that has them.
+/// If a seal finds no work, and no store comes before its commit, at least half of the block table is free then. So an
+/// epoch that ended because no entry was free is followed by one that has free entries.
 pub fn a_seal_without_work_frees_entries()
     ensures { SealFrees }
 {}
 
-/// After a seal each block has the entries that the seal makes of its own; its page may have been listed besides, to be
+/// After a seal each block has the entries that the seal makes of its own; its page may also have been listed, to be
 /// promoted.
 pub fn a_seal_makes_cells()
     ensures { SealMakesCells }
@@ -70,7 +70,7 @@ pub fn a_new_controller_boots()
     ensures tables { BootHasTables }
 {}
 
-/// A block or a page may be listed where its entry is empty, and with it the tables are those that a checkpoint may have.
+/// A block or a page may be listed if its entry is empty, and with it the tables are those that a checkpoint may have.
 pub fn tables_allow_listing()
     ensures block { TablesMayListBlock }
     ensures page { TablesMayListPage }
@@ -81,7 +81,7 @@ pub fn loaded_frames_hold_all()
     ensures { FramedHoldsAll }
 {}
 
-/// Where writes of the NVM landed, by a drain or by a barrier, every place reads as before, the places hold what they have to
+/// If writes of the NVM landed, by a drain or by a barrier, every place reads as before, the places hold what they have to
 /// if they did, and both checkpoints stay. The NVM may be down.
 pub fn landing_is_unseen()
     ensures landing { LandingIsUnseen }
@@ -89,21 +89,21 @@ pub fn landing_is_unseen()
     ensures barrier { BarrierIsUnseen }
 {}
 
-/// So it is where a write of the DRAM landed, and one less is queued there then, if any was.
+/// The same holds if a write of the DRAM landed, and then one less is queued there, if any was.
 pub fn a_drain_of_the_dram_is_unseen()
     ensures unseen { DrainIsUnseen }
     ensures queued { DrainTakesOne }
 {}
 
-/// Where no copy and no block of a page comes next, every block of the checkpoint under way is copied and written, and the other
-/// way round.
+/// If no copy and no block of a page comes next, every block of the checkpoint under way is copied and written, and
+/// the other way round.
 pub fn nothing_left_is_all_copied()
     ensures copied { NoneLeftIsCopied }
     ensures none { CopiedHasNoneLeft }
 {}
 
-/// The checkpoint under way has a block at its place already once nothing is left of it, and, where its page is busy, once it was
-/// issued.
+/// The checkpoint under way has a block at its place already once nothing is left of it, and, if its page is busy,
+/// once it was issued.
 pub fn copied_and_issued_blocks_are_placed()
     ensures copied { CopiedIsPlaced }
     ensures issued { IssuedIsPlaced }

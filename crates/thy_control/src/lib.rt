@@ -1,10 +1,10 @@
-//! The controller of a hybrid memory: it stores a block where the checkpoints leave room, and keeps two checkpoints of
-//! all blocks beside. Each call of `Control` is exact in tables and devices; both tables are sound in every state; a
-//! store keeps both checkpoints. With the NVM behind it it is a store of blocks, by src/block_store.rt.
+//! The controller of a hybrid memory: it stores a block if the checkpoints leave room, and also keeps two checkpoints of
+//! all blocks. Each call of `Control` equals its specification in tables and devices; both tables are sound in every
+//! state; a store keeps both checkpoints. With the NVM below it, it is a store of blocks, by src/block_store.rt.
 //!
-//! Open specs/State.antt first, then specs/Stays.antt, and src/control.rt; docs/CONTROLLER.md has the rules. It stands
-//! on thy_record, thy_cell, thy_tables, thy_switch, thy_place, thy_dram and what those stand on; on it stand thy_commit
-//! and thy_recover, and the scheme above them.
+//! Open specs/State.antt first, then specs/Stays.antt, and src/control.rt; docs/CONTROLLER.md has the rules. It depends
+//! on thy_record, thy_cell, thy_tables, thy_switch, thy_place, thy_dram and their dependencies; thy_commit
+//! and thy_recover, and the scheme above them, depend on it.
 #![tactic(auto)]
 
 mod block_store;

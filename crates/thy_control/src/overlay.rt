@@ -8,7 +8,7 @@ use crate::seal::block_is_framed;
 use thy_cell::{Cell, StoreRule};
 use thy_tables::{Btt, Ptt, Working};
 
-/// What the controller counts, so that it can tell in one step whether there is any.
+/// What the controller counts, so that it can see in one step whether there is any.
 #[derive(Clone, Copy, Debug)]
 pub struct Marks {
     /// Entries of the block table with work in a buffer over the frame of their page.
@@ -44,7 +44,7 @@ impl Marks {
     }
 }
 
-/// Whether work stands in a buffer.
+/// Whether work is held in a buffer.
 fn is_buffered(work: Working) -> bool
     ensures { result ≡ is_buffered work }
 {

@@ -34,7 +34,7 @@ pub fn seal_blocks(btt: &mut Btt, ptt: &Ptt, few: bool)
     }
 }
 
-/// Seals one entry of the block table, where it is live.
+/// Seals one entry of the block table, if it is live.
 fn seal_block(btt: &mut Btt, i: usize, ptt: &Ptt, few: bool)
     requires { i < length btt.old.entries }
     ensures { btt.new ≡ with_entry i (option_and_then (sealed_in few ptt.now) (entry_at btt.old i)) btt.old }
@@ -64,7 +64,7 @@ fn seal_listed(ptt: &mut Ptt, counts: &Counts)
     }
 }
 
-/// Seals one entry of the page table, where it is live.
+/// Seals one entry of the page table, if it is live.
 fn seal_page(ptt: &mut Ptt, j: usize, counts: &Counts)
     requires inside { j < length ptt.old.entries }
     requires counted { ptt.old.numbers ≡ length counts.now.counts }
@@ -89,7 +89,7 @@ fn list_dense(ptt: &mut Ptt, counts: &Counts)
     }
 }
 
-/// Lists a page where it was stored to densely.
+/// Lists a page if it was stored to densely.
 fn list_if_dense(ptt: &mut Ptt, page: u64, counts: &Counts)
     requires counted { page < length counts.now.counts }
     requires number { page < ptt.old.numbers }
@@ -100,7 +100,7 @@ fn list_if_dense(ptt: &mut Ptt, page: u64, counts: &Counts)
     }
 }
 
-/// Lists a page that is to be promoted, where it is not listed and an entry is free.
+/// Lists a page that is to be promoted, if it is not listed and an entry is free.
 fn list_page(ptt: &mut Ptt, page: u64)
     requires { page < ptt.old.numbers }
     ensures { ptt.new ≡ with_entry_for page_key promoted_page page ptt.old }

@@ -172,7 +172,7 @@ module _ {S : Type 0} (K : SchemeOf S) (o : Origin) (cycles : ℕ) (m : Machine 
   land_failed new failed frame =
       record { did = NvmDrained; does = refl; due = tt; fails = drain_fails K o cycles m n new at failed frame; hart = refl }
 
--- ---- one that leads on
+-- ---- one that is a step of the run
 
 module _ {S : Type 0} (K : SchemeOf S) (o : Origin) (cycles : ℕ) (m : Machine S) (n : Device) (at : At K o cycles m n) where
   -- ---- the DRAM's queue

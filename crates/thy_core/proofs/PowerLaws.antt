@@ -1,4 +1,4 @@
--- What a machine tells in the boot, and what a power cut leaves of it.
+-- What a machine reports in the boot, and what a power cut leaves of it.
 use Rattle.std.proofs.Common.{◌≡◌, ◌⊎◌, ℕ, ◌&&◌, Bool, true, false, inl, inr, Some, is_none, refl, sym, ◌∙◌, ap, subst}
 use Rattle.thy_base.specs.Device.{Device}
 use Rattle.thy_view.specs.declared.view.Phase.{Phase}

@@ -81,7 +81,7 @@ piece_of from len end bs l most within =
     ∙ ap (take (len - from)) (drop-drop (from % 64) (64 * first) (take (64 * end) (flat bs)) ∙ ap (λ k. drop k (take (64 * end) (flat bs))) at)
     ∙ cut_from from len (64 * end) (flat bs) (omega arith) most
 
--- the console from a byte on, out of the blocks behind program memory
+-- the console from a byte on, out of the blocks after program memory
 pub console_piece : (p : Parameters) (base from len end : ℕ) (bs : List Block) → base ≡ program_size p → from < len
     → base + len ≤ 64 * end → end ≤ length bs
     → take (len - from) (drop ((base + from) % 64) (flat (drop ((base + from) / 64) (take end bs)))) ≡ drop from (console_bytes p bs len)

@@ -1,4 +1,4 @@
--- What is read behind the boot: the plain machine's state, and the console of the committed checkpoint.
+-- What is read after the boot: the plain machine's state, and the console of the committed checkpoint.
 use Rattle.std.proofs.Common.{◌≡◌, ◌⊎◌, ℕ, ◌*◌, ◌-◌, ◌≤◌, ◌||◌, ◌&&◌, ◌==◌, not, true, false, Some, Result, Ok, Err, IfOk, List, [], length, take, drop, inl, inr, refl, sym, ◌∙◌, ap, subst, arith}
 use Rattle.std.proofs.lemmas.Bool.{eqb-true}
 use Rattle.std.proofs.lemmas.List.{length-take, length-drop, take_min}
@@ -69,7 +69,7 @@ processor_is K o before m s is stopped = record {
   processor = λ over. is ∙ stopped.processor over;
 }
 
--- ---- behind the boot
+-- ---- after the boot
 
 pub sound-behind : {S : Type 0} (K : SchemeOf S) (o : Origin) (k : ℕ) (m : Machine S) (n : Device) → Sound K o k m n
     → ((m.phase ≡ Run) ⊎ (m.phase ≡ Halt)) → SoundRun K o m n
@@ -128,14 +128,14 @@ unwritten_in K l o k m n Boot s e between = absurd (boot_between K l o k m n s e
 unwritten_in K l o k m n Run s e between = unwritten_behind K o k m n Run s e (inl e) refl between
 unwritten_in K l o k m n Halt s e between = unwritten_behind K o k m n Halt s e (inr e) refl between
 
--- and what is read where none has, is the state there too
+-- and what is read if none has, is the state there too
 pub reads_between : {S : Type 0} (K : SchemeOf S) (l : IsLawful K) (m : Machine S) (n : Device) (r : Result MachState CoreError) → ReadsState K m n r
     → Snapshots (kind_over K) m n r
 reads_between K l m n r reads = λ o k at between.
     let s = sound-here K o k m n at in
     reads o k s (unwritten_in K l o k m n m.phase s refl between)
 
--- where none has written a block, what was read is the plain machine's state
+-- if none has written a block, what was read is the plain machine's state
 pub snapshot_is : {S : Type 0} (K : SchemeOf S) (o : Origin) (k : ℕ) (m : Machine S) (n : Device) (s : MachState) → Sound K o k m n
     → ((m.phase ≡ Run) ⊎ (m.phase ≡ Halt)) → IsUnwritten m → state_of s ≡ current m.hart (memory_of K m n)
     → IsSnapshot o (view_of K o m n) s
@@ -204,7 +204,7 @@ console_is K l o k m n done from bytes s e seen is =
     ∙ ap (drop from) (sym (console_whole o.geometry found.cpu (K.committed m.scheme n) (at o m.marks.done.count) found.state))
     ∙ ap (λ (d : Mark). drop from (at o d.count).console) same
 
--- it has no byte from there on where the committed checkpoint's has none
+-- it has no byte from there on if the committed checkpoint's has none
 pub console_past : {S : Type 0} (K : SchemeOf S) (o : Origin) (k : ℕ) (m : Machine S) (n : Device) (done : Mark) (from : ℕ)
     → Sound K o k m n → ((m.phase ≡ Run) ⊎ (m.phase ≡ Halt)) → (view_of K o m n).done ≡ Some done → length (at o done.count).console ≤ from → m.consoles.done ≤ from
 console_past K o k m n done from s e seen past =

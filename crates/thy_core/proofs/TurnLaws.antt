@@ -31,7 +31,7 @@ barred_is : (way overlaps over short stopped ends : Bool) → stopped ≡ ends
 barred_is false overlaps over short stopped ends same = refl
 barred_is true overlaps over short stopped ends same = ap (λ s. not overlaps || over || short || s) same
 
--- behind the boot a stall is one of two
+-- after the boot a stall is one of two
 no_other : (waits seals : Bool) (stall : Stall) → (Waiting ≡ stall → ⊥) → (Sealing ≡ stall → ⊥)
     → (if waits then Some Waiting else (if seals then Some Sealing else None)) ≡ Some stall → ⊥
 no_other true seals stall w s e = w (cc)

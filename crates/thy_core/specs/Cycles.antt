@@ -15,7 +15,7 @@ use Rattle.thy_core_model.specs.Machine.{Machine, view_of, pressure_of}
 use Rattle.thy_core_model.specs.Rows.{IsMoment, At, HartGoes, IsSealing, Leads}
 use Rattle.thy_core_model.specs.Failures.{Fails}
 
--- a checkpoint is under way, behind the boot
+-- a checkpoint is under way, after the boot
 abbrev pub IsEngineDue : {S : Type 0} → SchemeOf S → Machine S → Type 0
 IsEngineDue K m = (m.phase ≡ Run) × (K.under_way m.scheme ≡ true)
 
@@ -52,7 +52,7 @@ pub record CanTake {S : Type 0} (K : SchemeOf S) (P : Origin → Type 0) (actor 
   pub at_moment : At K o cycles m n
   pub turn : IsTurnOf K o m n actor
 
--- a cycle that did this was the actor's, and leads on where an instruction that it retired has its turn
+-- a cycle that did this was the actor's, and is a step of the run if an instruction that it retired has its turn
 pub record IsCycle {S : Type 0} (K : SchemeOf S) (o : Origin) (cycles : ℕ) (actor : Actor) (did : Did) (m : Machine S) (n : Device) (next : Machine S) (new : Device) : Type 0 where
   pub does : Does did actor
   pub due : Prepares did (pressure_of K m)
@@ -67,7 +67,7 @@ pub record HasFailedAs {S : Type 0} (K : SchemeOf S) (o : Origin) (actor : Actor
   pub fails : Fails K o did m next.scheme n new
   pub hart : next.hart ≡ m.hart
 
--- so it is in whatever run of this kind
+-- this holds in every run of this kind
 abbrev pub LeadsAs : {S : Type 0} → SchemeOf S → (Origin → Type 0) → Actor → Machine S → Device → Machine S → Device → Result Did NvmError → Type 0
 LeadsAs K P actor m n next new result =
     (o : Origin) (cycles : ℕ) → P o → At K o cycles m n → IsTurnOf K o m n actor

@@ -1,4 +1,4 @@
--- What is read of a machine behind its boot.
+-- What is read of a machine after its boot.
 use Rattle.std.specs.Prelude.{◌≡◌, ℕ, ◌≤◌, false, List, length, Result, IfOk}
 use Rattle.thy_base.specs.declared.block.Block.{Block}
 use Rattle.thy_base.specs.declared.config.Parameters.{Parameters}
@@ -32,7 +32,7 @@ pub record IsUnwritten {S : Type 0} (m : Machine S) : Type 0 where
   pub booted : is_boot m.phase ≡ false
   pub unwritten : has_written m.hart.hand ≡ false
 
--- at a moment of a run where that holds, what was read is the plain machine's state
+-- at a moment of a run at which that holds, what was read is the plain machine's state
 abbrev pub ReadsState : {S : Type 0} → SchemeOf S → Machine S → Device → Result MachState CoreError → Type 0
 ReadsState K m n result =
     (o : Origin) (k : ℕ) → Sound K o k m n → IsUnwritten m → IfOk result (λ s. IsSnapshot o (view_of K o m n) s)

@@ -37,7 +37,7 @@ pub(crate) fn boot<N: Nvm, S: Scheme>(
     Ok(boot_on(m, start, step))
 }
 
-/// Notes what the boot did: behind its last step the hart is at the checkpoint that was loaded or restored.
+/// Notes what the boot did: after its last step the hart is at the checkpoint that was loaded or restored.
 fn boot_on<S>(m: &mut Parts<S>, start: &Start, step: BootStep) -> Did
     requires { IsRestartBelow (2 ^ 64 - 1) step }
     ensures parts { (o : Origin) → Begins o start.now → machine_of m.new ≡ after_boot o step m.old.behind.scheme (machine_of m.old) }
@@ -57,7 +57,7 @@ fn boot_on<S>(m: &mut Parts<S>, start: &Start, step: BootStep) -> Did
     }
 }
 
-/// Begins to execute behind the checkpoint of an epoch, with this processor.
+/// Begins to execute after the checkpoint of an epoch, with this processor.
 fn run_from<S>(m: &mut Parts<S>, cpu: &CpuState, epoch: u64)
     requires { epoch + 1 < 2 ^ 64 }
     ensures { machine_of m.new ≡ running_from cpu.now epoch m.old.behind.scheme (machine_of m.old) }

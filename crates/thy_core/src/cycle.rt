@@ -111,7 +111,7 @@ fn wait<N: Nvm, S: Scheme>(m: &mut Parts<S>, nvm: &mut N) -> Result<Did, NvmErro
     checkpoint(m, nvm)
 }
 
-/// Does nothing, where the machine has halted.
+/// Does nothing, if the machine has halted.
 fn rest<N: Nvm, S: Scheme>(m: &Parts<S>, nvm: &N) -> Did
     ensures { LeadsAs S.scheme IsAnyRun (TheHart (Some Halted))
         (machine_of m.now) (N.device nvm.now) (machine_of m.now) (N.device nvm.now) (Ok result) }

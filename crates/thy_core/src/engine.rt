@@ -27,7 +27,7 @@ pub(crate) fn checkpoint<N: Nvm, S: Scheme>(m: &mut Parts<S>, nvm: &mut N) -> Re
     Ok(engine_on(m, step))
 }
 
-/// Notes what the engine did. With a commit the sealed checkpoint is the committed one, and the machine halts where its
+/// Notes what the engine did. With a commit the sealed checkpoint is the committed one, and the machine halts if its
 /// state has ended.
 fn engine_on<S>(m: &mut Parts<S>, step: EngineStep) -> Did
     requires { m.old.spent + 1 < 2 ^ 64 }
@@ -62,7 +62,7 @@ fn engine_on<S>(m: &mut Parts<S>, step: EngineStep) -> Did
     }
 }
 
-/// The phase behind a checkpoint whose state has ended, or goes on.
+/// The phase after a checkpoint: a halt if its state has ended, else the run.
 fn phase_behind(ends: bool) -> Phase
     ensures { result ≡ (if ends then Phase.Halt else Phase.Run) }
 {

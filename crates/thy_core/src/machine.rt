@@ -69,7 +69,7 @@ impl<S: Scheme> Machine<S> {
         power::cut(self.parts, pick)
     }
 
-    /// Whether the boot goes on and has found no checkpoint.
+    /// Whether the boot is not over and has found no checkpoint.
     pub fn loading(&self) -> bool
         ensures { TellsLoading (kind_over S.scheme) self.now result }
     {
@@ -83,10 +83,10 @@ impl<S: Scheme> Machine<S> {
         self.parts.failed
     }
 
-    /// One cycle: the pick's, or where its actor has nothing to do the hart's. Takes no memory.
+    /// One cycle: the pick's, or the hart's if the pick's actor has nothing to do. Allocates nothing.
     ///
-    /// After an error the NVM may hold what the failed call left, and nothing but `failed`, `snapshot` and `cut` is to be
-    /// asked of the machine.
+    /// After an error the NVM may hold what the failed call left, and only `failed`, `snapshot` and `cut` may be called
+    /// on the machine.
     pub fn step<N: Nvm>(
         &mut self,
         pick: Pick,
@@ -103,12 +103,12 @@ impl<S: Scheme> Machine<S> {
         take_step(&mut self.parts, pick, start, nvm)
     }
 
-    /// Once the boot is over, the state that the machine executes, where no instruction that is under way has written a
+    /// Once the boot is over, the state that the machine executes, if no instruction that is under way has written a
     /// block: it is that from before this instruction. After a step that failed, once the boot is over, the processor's
     /// part of the state before the instruction under way, with no memory and no console, and the NVM is not read.
     ///
     /// # Errors
-    /// `Nvm` where the NVM fails, `Memory` for want of memory.
+    /// `Nvm` if the NVM fails, `Memory` if memory runs out.
     pub fn snapshot<N: Nvm>(&self, alloc: Global, nvm: &mut N) -> Result<MachState, CoreError>
         requires { CanSnapshot (kind_over S.scheme) self.now (N.device nvm.old) }
         ensures state { ReadsState S.scheme self.now (N.device nvm.old) result }
@@ -120,11 +120,11 @@ impl<S: Scheme> Machine<S> {
         snapshot::snapshot(alloc, &self.parts, nvm)
     }
 
-    /// Once the boot is over, the console of the committed checkpoint from byte `from` on. It is this also when the
-    /// hart has gone on. Where there is no such byte, the NVM is not read. Not to be asked after a step that failed.
+    /// Once the boot is over, the console of the committed checkpoint from byte `from` on, also if the hart has
+    /// retired more since. If there is no such byte, the NVM is not read. Not to be called after a step that failed.
     ///
     /// # Errors
-    /// `Nvm` where the NVM fails, `Memory` for want of memory.
+    /// `Nvm` if the NVM fails, `Memory` if memory runs out.
     pub fn console<N: Nvm>(&self, alloc: Global, from: u64, nvm: &mut N) -> Result<Bytes, CoreError>
         requires { CanRead (kind_over S.scheme) self.now (N.device nvm.old) }
         ensures console { ShowsConsole (kind_over S.scheme) from self.now (N.device nvm.old) result }

@@ -41,7 +41,7 @@ pub(crate) struct Parts<S> {
     pub spent: u64,
     /// The instructions retired since then.
     pub lap: u64,
-    /// The epoch that was sealed last had retired nothing. Contracts speak of it; no code reads it.
+    /// The epoch that was sealed last retired nothing. Contracts speak of it; no code reads it.
     pub idle: bool,
     /// A step failed since power came on.
     pub failed: bool,

@@ -65,7 +65,7 @@ fn no_cpu() -> CpuState {
     }
 }
 
-/// Whether the boot goes on and has found no checkpoint.
+/// Whether the boot is not over and has found no checkpoint.
 pub(crate) fn is_loading<S: Scheme>(m: &Parts<S>) -> bool
     ensures { TellsLoading (kind_over S.scheme) (machine_of m.now) result }
 {

@@ -25,7 +25,7 @@ pub(crate) enum Version {
     Committed,
 }
 
-/// Block `b` of memory: its line where the cache has one, else the scheme's.
+/// Block `b` of memory: its line if the cache has one, else the scheme's.
 fn executing_block<N: Nvm, S: Scheme>(m: &Parts<S>, b: u64, nvm: &mut N) -> Result<Block, NvmError>
     requires { b < length (memory_of S.scheme (machine_of m.now) (N.device nvm.old)) }
     ensures ok { IfOk result (λ block. block ≡ block_at (memory_of S.scheme (machine_of m.now) (N.device nvm.old)) b) }
@@ -116,7 +116,7 @@ fn part(bytes: &[u8], from: usize, count: usize) -> &[u8]
     &rest[..count.min(rest.len())]
 }
 
-/// The console of a version, of so many bytes, from byte `from` on. Where it has no such byte, nothing is read.
+/// The console of a version, of so many bytes, from byte `from` on. If it has no such byte, nothing is read.
 pub(crate) fn read_console<N: Nvm, S: Scheme>(
     alloc: Global,
     m: &Parts<S>,

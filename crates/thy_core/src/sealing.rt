@@ -52,7 +52,7 @@ fn promote<N: Nvm, S: Scheme>(m: &mut Parts<S>, nvm: &mut N) -> Result<Did, NvmE
     Ok(Did::Promoted)
 }
 
-/// Stores a dirty line, or makes the copy that has to go first.
+/// Stores a dirty line, or makes the copy that has to come first.
 fn flush<N: Nvm, S: Scheme>(m: &mut Parts<S>, nvm: &mut N) -> Result<Did, NvmError>
     requires turn { CanTake S.scheme IsAnyRun (TheHart (Some Sealing)) (machine_of m.old) (N.device nvm.old) }
     requires whole { S.scheme.promoting m.old.behind.scheme ≡ false }

@@ -44,7 +44,7 @@ fn bare(alloc: Global, cpu: &CpuState) -> MachState
     state_with(cpu, Bytes::new(alloc), Bytes::new(alloc))
 }
 
-/// The state of processor and memory, behind the boot.
+/// The state of processor and memory, after the boot.
 fn executing<N: Nvm, S: Scheme>(
     alloc: Global,
     m: &Parts<S>,
@@ -65,7 +65,7 @@ fn executing<N: Nvm, S: Scheme>(
     Ok(state_with(cpu, memory, console))
 }
 
-/// The state that a machine executes, where no instruction that is under way has written a block. In the boot, and after
+/// The state that a machine executes, if no instruction that is under way has written a block. In the boot, and after
 /// a step that failed, it has no memory, and nothing is read.
 pub(crate) fn snapshot<N: Nvm, S: Scheme>(
     alloc: Global,

@@ -15,7 +15,7 @@ use thy_record::Start;
 use thy_scheme::Scheme;
 use thy_view::{Phase, Stall, Stepped};
 
-/// Takes one cycle: the pick's, or where its actor has nothing to do the hart's. Notes where it failed.
+/// Takes one cycle: the pick's, or the hart's if the pick's actor has nothing to do. Notes whether it failed.
 pub(crate) fn take_step<N: Nvm, S: Scheme>(
     m: &mut Parts<S>,
     pick: Pick,
@@ -46,7 +46,7 @@ pub(crate) fn take_step<N: Nvm, S: Scheme>(
     }
 }
 
-/// The stall that is told at an actor's turn.
+/// The stall that is reported at an actor's turn.
 fn told_stall(actor: Actor) -> Option<Stall>
     ensures { result ≡ told_at (actor_seen actor) }
 {

@@ -33,7 +33,7 @@ fn lacks(free: u64, dirty: u64, need: Option<u64>) -> bool
     }
 }
 
-/// Whether entries are short for the room that the hart is to reserve.
+/// Whether too few entries are free for the room that the hart is to reserve.
 fn is_short<S: Scheme>(m: &Parts<S>) -> bool
     ensures { result ≡ is_some (shortage_of S.scheme (machine_of m.now)) }
 {
@@ -79,7 +79,7 @@ fn run_stall<S: Scheme>(m: &Parts<S>) -> Option<Stall>
     }
 }
 
-/// Whose turn a pick is, where so many writes are queued in the NVM: where its actor has nothing to do, the hart's.
+/// Whose turn a pick is, with so many writes queued in the NVM: the hart's if the pick's actor has nothing to do.
 pub(crate) fn turn_now<S: Scheme>(m: &Parts<S>, pick: Pick, nvm: u64) -> Actor
     ensures { actor_seen result ≡ turn_now S.scheme pick nvm (machine_of m.now) }
 {
@@ -96,7 +96,7 @@ pub(crate) fn turn_now<S: Scheme>(m: &Parts<S>, pick: Pick, nvm: u64) -> Actor
     }
 }
 
-/// The engine's turn, where a checkpoint is under way, or else the hart's.
+/// The engine's turn, if a checkpoint is under way, or else the hart's.
 fn engine_turn<S: Scheme>(m: &Parts<S>, hart: Actor) -> Actor
     requires { actor_seen hart ≡ TheHart (stall_now S.scheme m.now.phase (machine_of m.now)) }
     ensures { actor_seen result ≡ engine_now S.scheme m.now.phase (machine_of m.now) }

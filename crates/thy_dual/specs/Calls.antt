@@ -1,4 +1,4 @@
--- What each call makes of the scheme and of the NVM, and what it answers: that of one call of
+-- What each call makes of the scheme and of the NVM, and what it returns: that of one call of
 -- each part that takes part in it, of controller, engine and boot.
 use Rattle.std.specs.Prelude.{◌≡◌, ℕ, true, false, length, Result, IfOk, OnOk, OnErr}
 use Rattle.thy_base.specs.declared.block.Block.{Block}
@@ -81,7 +81,7 @@ stored_since control s = record s { control = control; rested = false }
 abbrev pub block_stored : ℕ → Block → Dual → Device → Dual
 block_stored b block s n = stored_since (state_after b block s.control n) s
 
--- a copy goes first exactly where the rule says so; a write that failed leaves the tables
+-- a copy comes first exactly if the rule says so; a write that failed leaves the tables
 pub record StoresByRule (b : ℕ) (block : Block) (s : Dual) (n : Device)
     (result : Result Stored NvmError) (t : Dual) (new : Device) : Type 0 where
   pub answer : IfOk result (λ stored. stored ≡ answer_by (rule_for b s.control))
@@ -139,7 +139,7 @@ pub record TakesItem (s : Dual) (n : Device)
 
 -- ---- a step of the boot
 
--- what it answers is by how far the boot is then; engine and marks are as they were
+-- the boot's stage afterwards determines the result; engine and marks are as they were
 pub record TakesBootStep (start : Start) (s : Dual) (n : Device)
     (result : Result BootStep NvmError) (t : Dual) (new : Device) : Type 0 where
   pub answer : IfOk result (λ step. step ≡ step_of (answer_of filling_one t.boot))

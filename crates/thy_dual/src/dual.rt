@@ -34,8 +34,8 @@ use thy_isa::CpuState;
 use thy_record::{EngineStep, Start};
 use thy_scheme::{BootStep, Scheme};
 
-/// The scheme of both tables: its controller keeps two checkpoints of all blocks beside the work, and its engine writes
-/// the next one into the NVM while the hart runs.
+/// The scheme of both tables: its controller keeps two checkpoints of all blocks in addition to the work, and its engine
+/// writes the next one into the NVM while the hart runs.
 #[derive(Drop)]
 pub struct DualScheme {
     control: Control,
@@ -58,7 +58,7 @@ impl Model for DualScheme {
     ghost invariant = { λ d. Fits d.engine d.control };
 }
 
-/// Whether a boot that is so far has found that there is no checkpoint.
+/// Whether a boot at this stage has found that there is no checkpoint.
 fn is_loading(stage: Stage) -> bool
     ensures { result ≡ loads_at stage }
 {
@@ -68,7 +68,7 @@ fn is_loading(stage: Stage) -> bool
     }
 }
 
-/// What a step of the boot answers, as a scheme answers it.
+/// What a step of the boot returns, as a scheme returns it.
 fn scheme_step(step: Recovered) -> BootStep
     ensures { result ≡ step_of step }
 {
@@ -80,7 +80,7 @@ fn scheme_step(step: Recovered) -> BootStep
     }
 }
 
-/// So where the NVM may have failed.
+/// The same if the NVM may have failed.
 fn scheme_result(answer: Result<Recovered, NvmError>) -> Result<BootStep, NvmError>
     ensures { result ≡ result_of answer }
 {
@@ -90,7 +90,7 @@ fn scheme_result(answer: Result<Recovered, NvmError>) -> Result<BootStep, NvmErr
     }
 }
 
-// Each call has the trait's clauses, of this scheme. Those named `made` and `state` stand beside them: they say what the call
+// Each call has the trait's clauses, of this scheme. Beside them, those named `made` and `state` say what the call
 // makes of controller, engine, boot and NVM, which is what the calls below do (specs/Calls.antt).
 impl Scheme for DualScheme {
     ghost use Rattle.thy_dual_model.proofs.LawfulLemmas.{lawful as laws_of_parts};

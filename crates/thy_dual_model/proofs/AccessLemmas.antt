@@ -132,7 +132,7 @@ down-written p x block d = by_side (in_dram x) where
   by_side false = refl
 
 module _ (b : ℕ) (block : Block) (s : State) (m : Device) (t : State) (n : Device) where
-  -- where it was ready it is so, or failed, and then no page is being promoted
+  -- if it was ready it is so, or failed, and then no page is being promoted
   pub store-room : (r : Result Stored NvmError) → OnOk r (t ≡ state_after b block s m) → OnErr r (t ≡ s) → t.dram.room ≡ s.dram.room
   unfolding state_after devices_after cell_before
   store-room (Ok x) ok err = ap (λ (u : State). u.dram.room) ok
@@ -145,7 +145,7 @@ module _ (b : ℕ) (block : Block) (s : State) (m : Device) (t : State) (n : Dev
       ∙ down-written s.p (store_place (rule_for b s) (cell_before b s)) (put_by (rule_for b s) block (reads s m) (cell_before b s)) (devices_of m s.dram) ∙ up
   store-up (Err x) up ok = tt
 
-  -- where it did not fail it has written a block
+  -- if it did not fail it has written a block
   pub store-writes : (r : Result Stored NvmError) → OnOk r (t ≡ state_after b block s m) → OnOk r (n ≡ (devices_after b block s m).nvm) → OnErr r (FailsStore b block s m n)
       → n.down ≡ false → WritesBlock m n s.dram t.dram
   unfolding state_after devices_after cell_before

@@ -1,4 +1,4 @@
--- The hart may run beside every checkpoint.
+-- The hart may run during every checkpoint.
 use Rattle.std.proofs.Common.{◌≡◌, ◌&&◌, not, Bool, true, false, refl}
 use Rattle.thy_commit.specs.Items.{is_under_way}
 use Rattle.thy_dual_model.specs.Laws.{NothingIsBarred}

@@ -104,7 +104,7 @@ module _ (o : Origin) (g : BootImages) (n : Device) (b : Booting) (c : State) wh
   none-done : (m : Mark) → None ≡ Some m → ⊥
   none-done m d = cc
 
-  -- where a checkpoint was found nothing is queued
+  -- if a checkpoint was found nothing is queued
   settled-at : (q : Stage) (m : Mark) → IsGoing q → (seen_at o g.kept q).done ≡ Some m → IsSoundAt filling_one o q g n b c → n.queue ≡ []
   settled-at (Reads r) m going found far = far.read.settled
   settled-at (Loads issue) m going found far = absurd (none-done m found)
@@ -291,7 +291,7 @@ kept-some o g n None before tells committed =
     let both : false ≡ true = sym committed ∙ ap (λ (x : List Block). is_zero (block_at x 1)) (sym before) ∙ zero in
     cc
 
--- behind the commit block it is not zero
+-- after the commit block it is not zero
 abbrev HasCommitAt : ReadStage → Device → Type 0
 HasCommitAt ReadsHeader n = is_zero (block_at n.image 1) ≡ false
 HasCommitAt (ReadsSlot next) n = is_zero (block_at n.image 1) ≡ false

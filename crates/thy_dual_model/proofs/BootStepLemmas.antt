@@ -77,7 +77,7 @@ not-true : (t : Bool) → (t ≡ true → ⊥) → t ≡ false
 not-true true h = absurd (h refl)
 not-true false h = refl
 
--- what a step answers is what a cycle did
+-- what a step returns is what a cycle did
 did-answered : (a : BootStep) → boot_did (step_of a) ≡ did_of a
 did-answered Reading = refl
 did-answered IsLoading = refl
@@ -103,7 +103,7 @@ after-queue Drain n = omega (arith, length-drop 1 n.queue)
 
 -- ---- how far it is
 
--- no stage has more left than the first, so behind a step the commit block was read
+-- no stage has more left than the first, so after a step the commit block was read
 read-on : (b d : Booting) → d.p ≡ b.p → (r : Stage) → boot_left filling_one d r + 1 ≤ boot_left filling_one b b.stage → has_read_at r ≡ true
 read-on b d same (Reads Unread) less =
     let most = left_most filling_one filling_is_lawful b b.stage in
@@ -148,7 +148,7 @@ module _ (o : Origin) (g : BootImages) (n : Device) (b : Booting) (c : State) wh
   unwritten None w = no-false w
   unwritten (Some m) w = no-false w
 
-  -- where the commit block of loading was written, the run began without a checkpoint
+  -- if the commit block of loading was written, the run began without a checkpoint
   abbrev WasLoading : Stage → Type 0
   WasLoading q = (o.kept ≡ None) × (seen_at o g.kept q ≡ record (loading_view o.start.count) { written = true })
 
@@ -165,7 +165,7 @@ module _ (o : Origin) (g : BootImages) (n : Device) (b : Booting) (c : State) wh
   none-done : (m : Mark) → None ≡ Some m → ⊥
   none-done m d = cc
 
-  -- where a checkpoint was found, that is all that was seen
+  -- if a checkpoint was found, that is all that was seen
   was-found : (q : Stage) (m : Mark) → IsGoing q → (seen_at o g.kept q).done ≡ Some m → seen_at o g.kept q ≡ boot_view (Some m) None
   was-found (Reads r) m going d = found-mark g.kept m d
   was-found (Loading issue) m going d = absurd (none-done m d)
@@ -259,7 +259,7 @@ module _ (o : Origin) (s : Dual) (n : Device) (booting : IsBooting dual_scheme o
   abbrev v : View
   v = seen_at o g.kept b.stage
 
-  -- ---- it goes on
+  -- ---- it continues
 
   goes-on : (q : Stage) → d.stage ≡ q → IsGoing q → BootsTo v (seen_at o g.kept q) → Boots o t new × BootsTo (view_at o b.stage n) (view_at o d.stage new)
   goes-on q is going to =
@@ -315,7 +315,7 @@ module _ (o : Origin) (s : Dual) (n : Device) (booting : IsBooting dual_scheme o
         booted = subst (λ (x : Mark). IsBooted dual_scheme o x cpu t new) is_mark (booted m cpu h.before r.3 over count);
       }
 
-  -- ---- by the answer
+  -- ---- by the result
 
   answers-at : (q : Stage) → d.stage ≡ q → CoreStep o v (did_of (answer_at filling_one q d)) (seen_at o g.kept q)
       → Answers dual_scheme o (step_of (answer_at filling_one q d)) s n t new
@@ -352,7 +352,7 @@ module _ (o : Origin) (s : Dual) (n : Device) (booting : IsBooting dual_scheme o
 
 -- ---- one that failed
 
--- where a checkpoint was found a step reads, and one that failed wrote nothing
+-- if a checkpoint was found a step reads, and one that failed wrote nothing
 found-reads : (o : Origin) (kept : Option Mark) (m : Mark) (b : Booting) (c : State) (n new : Device) (q : Stage) → (seen_at o kept q).done ≡ Some m
     → FailsTo (action_at filling_one q o.start b c) n new → HasFailed n new
 found-reads o kept m b c n new (Reads r) done f = read_failed filling_one filling_is_lawful b c r n new f
@@ -380,7 +380,7 @@ module _ (o : Origin) (s : Dual) (n : Device) (booting : IsBooting dual_scheme o
             found-reads o boots.images.kept m s.boot s.control n new s.boot.stage (sym (ap (λ (x : View). x.done) (view-is o s n boots)) ∙ found) fails;
       }
 
--- ---- by the boot's answer
+-- ---- by the boot's result
 
 module _ (o : Origin) (s : Dual) (n : Device) (booting : IsBooting dual_scheme o s n) (new : Device) (d : Booting) (e : State) (tables : AreSoundTables e) where
   abbrev Took : Result BootStep NvmError → Type 0

@@ -1,4 +1,4 @@
--- Where a boot ends, the checkpoint that it found or made is the committed one.
+-- At the end of a boot, the checkpoint that it found or made is the committed one.
 use Rattle.std.proofs.Common.{◌≡◌, ℕ, ◌<◌, [], Bool, true, false, if◌then◌else◌, List, length, refl, sym, ◌∙◌, ap, subst, arith, Option, Some, None}
 use Rattle.std.specs.List.{range_with_len}
 use Rattle.std.proofs.lemmas.Bool.{ltb-true}
@@ -53,7 +53,7 @@ use Rattle.thy_dual_model.specs.Sound.{is_confirming, IsSound}
 
 -- ---- memory
 
--- the committed version stands in the NVM
+-- the committed version is in the NVM
 penult_in_nvm : (v : Version) (s : Site) (x : Seat) → in_dram (placed v s x) ≡ false
 penult_in_nvm Alt s x = refl
 penult_in_nvm Out AtAlternate x = refl

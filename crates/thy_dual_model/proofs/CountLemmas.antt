@@ -16,11 +16,11 @@ use Rattle.thy_control.specs.Overlay.{is_overlaid as lies_over}
 use Rattle.thy_control.specs.Promotions.{fills_left, unfilled}
 use Rattle.thy_control.specs.State.{State, AreSoundTables}
 
--- none is counted where the test says so
+-- none is counted if the test says so
 pub none-left : (n : ℕ) → nat_lt 0 n ≡ false → n ≡ 0
 none-left n h = let few : n ≤ 0 = ltb-false 0 n h in omega (arith, few)
 
--- a controller is ready where no page is being promoted and the NVM is up
+-- a controller is ready if no page is being promoted and the NVM is up
 pub ready-of : (n : ℕ) (down : Bool) → n ≡ 0 → down ≡ false → (n == 0 && not down) ≡ true
 ready-of n down none up = ap (λ (k : ℕ). k == 0 && not down) none ∙ not_from_false down up
 
@@ -62,7 +62,7 @@ module _ {X : Type 0} (f : X → ℕ) (p : X → Bool) (none : (x : X) → p x �
     by_test true e z = absurd (omega (arith, z))
     by_test false e z = none x e
 
-  -- where nothing passes, there is no sum
+  -- if nothing passes, there is no sum
   sum-none : (xs : List X) → count_by p xs ≡ 0 → sum_by f xs ≡ 0
   sum-none [] h = refl
   sum-none (x ∷ xs) h =

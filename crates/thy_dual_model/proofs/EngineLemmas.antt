@@ -60,7 +60,7 @@ use Rattle.thy_dual_model.proofs.CountLemmas.{btt_least}
 use Rattle.thy_dual_model.proofs.ItemLemmas.{IsWrite, IsWrite-after, back, back-item, not-confirming}
 use Rattle.thy_dual_model.proofs.SafeLemmas.{Safe-read, Safe-doubt}
 
--- ---- how steps are told
+-- ---- how steps are reported
 
 pub did-same : (lap : ℕ) (step : EngineStep) → did_by lap step ≡ engine_did lap step
 did-same lap Idle = refl
@@ -155,7 +155,7 @@ module _ (o : Origin) (k : Marks) (s : Dual) (n : Device) (stands : Stands dual_
   abbrev nvm_after : Item → Device
   nvm_after i = device_after e i c n
 
-  -- what the item makes of all that stands
+  -- what the item makes of all that holds
   record After (i : Item) : Type 0 where
     tables_now : AreSoundTables (state_after i c n)
     versions : MovesVersions i c n (state_after i c n) (nvm_after i)
@@ -389,7 +389,7 @@ module _ (o : Origin) (k : Marks) (s : Dual) (n : Device) (stands : Stands dual_
 
   -- ---- one that failed
 
-  -- what is kept where the item was not the commit block's write, is safe for the marks as they are
+  -- what is kept if the item was not the commit block's write, is safe for the marks as they are
   safe-other : (q : Next) (new : Device) → e.next ≡ q → IsKeeping o (layout_of o) (standing new (saved_at q images) images.kept images.sealed)
       → marks_after_fault (answer e.p e.epoch (item q c)) k ≡ k → Safe decode_image o (Some k.done) (doubt_in (marks_after_fault (answer e.p e.epoch (item q c)) k)) new
   safe-other q new is keeps same =
@@ -424,7 +424,7 @@ module _ (o : Origin) (k : Marks) (s : Dual) (n : Device) (stands : Stands dual_
         safe = failed-safe e.next new refl keeps;
       }
 
-  -- ---- by the engine's answer
+  -- ---- by the engine's result
 
   pub engines-by : (moves : ItemsMove) (store : ItemsKeepStore) (versions : ItemsMoveVersions) (f : Progress) (t : State) (new : Device) (r : Result EngineStep NvmError)
       → IfOk r (λ step. step ≡ answer e.p e.epoch (item_of e c)) → OnOk r (f ≡ engine_next e c) → OnOk r (t ≡ state_next e c n) → OnOk r (new ≡ device_next e c n)

@@ -1,4 +1,4 @@
--- What holds behind the boot.
+-- What holds after the boot.
 use Rattle.std.proofs.Common.{◌≡◌, ℕ, ◌<◌, ◌≤◌, ◌||◌, Bool, true, false, is_some, refl, sym, ◌∙◌, ap, subst, inl, arith}
 use Rattle.std.proofs.lemmas.List.FromFn.{length-map-range_with_len}
 use Rattle.thy_base.specs.declared.config.Parameters.{Parameters}
@@ -30,7 +30,7 @@ use Rattle.thy_dual_model.proofs.CountLemmas.{none-left, ready-of, free-few, owe
 use Rattle.thy_dual_model.proofs.SafeLemmas.{Safe-doubt}
 use Rattle.thy_dual_model.proofs.StaysLemmas.{sound-on}
 
--- where a load of each block gives what it gave, the same blocks are held
+-- if a load of each block gives what it gave, the same blocks are held
 pub works-agree : (s : State) (m : Device) (t : State) (n : Device) → t.p ≡ s.p → IsSized s m → m.down ≡ false → IsSized t n → n.down ≡ false
     → ((b : ℕ) → b < memory_blocks s.p → work_of t n b ≡ work_of s m b) → works t n ≡ works s m
 works-agree s m t n p sized up sized_now up_now same =

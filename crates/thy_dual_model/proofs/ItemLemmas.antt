@@ -24,8 +24,8 @@ use Rattle.thy_dual_model.specs.Sound.{is_confirming}
 
 -- ---- one write
 
--- a write leaves the room of the DRAM's queue, as many blocks in the NVM, that as up as it was, its header, and one write more
--- in both queues at most; one of the DRAM leaves the NVM alone
+-- a write leaves the room of the DRAM's queue, as many blocks in the NVM, that as up as it was, its header, and one
+-- write more in both queues at most; one of the DRAM leaves the NVM alone
 pub record IsWrite (old new : Devices) : Type 0 where
   pub dram : ActsOnDram old.nvm new.nvm old.dram new.dram
   pub room : new.dram.room ≡ old.dram.room
@@ -57,7 +57,7 @@ IsWrite-dram x block d = record {
   queue = omega arith;
 }
 
--- the places of the NVM lie behind the header
+-- the places of the NVM are after the header
 behind : (p : Parameters) (x : Place) → in_dram x ≡ false → number_of p x ≢ 0
 behind p (Home b) h e = absurd (omega (arith, e))
 behind p (AlternateBlock i) h e = absurd (omega (arith, e))
@@ -102,7 +102,7 @@ IsWrite-after e ConfirmItem s n = IsWrite-settled n s
 
 -- ---- the engine
 
--- an item tells what was next, but for copies, pages and the slot
+-- an item reports what was next, except for copies, pages and the slot
 abbrev pub back : Item → Option Next
 back NoItem = Some Nothing
 back (CopyItem i) = None
@@ -129,7 +129,7 @@ back-item Settle s r h = cc
 back-item Commit s r h = cc
 back-item Confirm s r h = cc
 
--- it waits for the last barrier only where that is the item
+-- it waits for the last barrier only if that is the item
 pub not-confirming : (q : Next) (s : State) → item q s ≢ ConfirmItem → is_confirming q ≡ false
 not-confirming Nothing s h = refl
 not-confirming Copies s h = refl

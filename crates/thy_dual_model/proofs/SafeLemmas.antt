@@ -24,7 +24,7 @@ pub Safe-read : (o : Origin) (kept sealed : Option Mark) (n : Device) → Safe (
 Safe-read o kept sealed n safe g crash =
     subst (λ (d : Decoded). IsOneOf o kept sealed d) (decode_by-version_one o.geometry ceiling g) (safe g crash)
 
--- the mark in doubt is the sealed one, where the engine waits for the last barrier
+-- the mark in doubt is the sealed one, if the engine waits for the last barrier
 doubt-at : (q : Next) (c : Checkpoints) → doubt_in (saved_at q c) c.sealed ≡ (if is_confirming q then c.sealed else None)
 doubt-at Nothing c = refl
 doubt-at Copies c = refl

@@ -1,4 +1,4 @@
--- Where a boot ends.
+-- The end of a boot.
 use Rattle.std.specs.Prelude.{◌≡◌, false, List, Some, None}
 use Rattle.thy_base.specs.declared.block.Block.{Block}
 use Rattle.thy_base.specs.declared.mark.Mark.{Mark}
@@ -26,7 +26,7 @@ pub record IsUnused (o : Origin) (s : Dual) : Type 0 where
   pub room : s.control.dram.room ≡ o.geometry.dramq
   pub lean : s.lean ≡ false
 
--- behind a boot over the checkpoint of a mark, that is the committed one, and none is under way
+-- after a boot over the checkpoint of a mark, that is the committed one, and none is under way
 abbrev pub BootedIsSound : Type 0
 BootedIsSound =
     (o : Origin) (m : Mark) (cpu : CpuState) (image : List Block) (s : Dual) (n : Device)

@@ -31,8 +31,8 @@ use Rattle.thy_scheme.specs.declared.boot_step.BootStep.TheVariants.{GoesOn, Loa
 use Rattle.thy_dual_model.specs.Booted.{IsUnused}
 use Rattle.thy_dual_model.specs.Dual.{Dual}
 
--- a boot of a run that is not over, of a scheme in which nothing was sealed or stored; before it has read, nothing is queued in
--- the DRAM
+-- a boot of a run that is not over, of a scheme in which nothing was sealed or stored; before it has read, nothing is
+-- queued in the DRAM
 pub record Boots (o : Origin) (s : Dual) (n : Device) : Type 0 where
   pub origin : IsOrigin o
   pub images : BootImages
@@ -58,7 +58,7 @@ abbrev pub loads_at : Stage → Bool
 loads_at (Loads issue) = true
 loads_at stage = false
 
--- what a step of the boot answers, as a scheme answers it; and so where the NVM may have failed
+-- what a step of the boot returns, as a scheme returns it; the same if the NVM may have failed
 abbrev pub step_of : BootStep → SchemeStep
 step_of Reading = GoesOn
 step_of IsLoading = GoesOn

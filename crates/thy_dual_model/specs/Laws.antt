@@ -20,20 +20,20 @@ use Rattle.thy_dual_model.specs.Stays.{StaysDual}
 abbrev pub HeldIsUp : Type 0
 HeldIsUp = (s : Dual) (n : Device) (b : ℕ) → b < length (dual_scheme.holding s n).blocks → n.down ≡ false
 
--- blocks can be stored only while it is, and where no page is being promoted
+-- blocks can be stored only while it is, and only if no page is being promoted
 abbrev pub ReadyIsWhole : Type 0
 ReadyIsWhole =
     (s : Dual) (n : Device)
     → (dual_scheme.holding s n).ready ≡ true → (n.down ≡ false) × (dual_scheme.promoting s ≡ false)
 
--- what stays does so where nothing happens, and over one call after another
+-- what stays does so if nothing happens, and over one call after another
 abbrev pub StaysOver : Type 0
 StaysOver =
     ((s : Dual) (n : Device) → StaysDual s n s n)
     × ((a : Dual) (m : Device) (b : Dual) (n : Device) (c : Dual) (o : Device)
     → StaysDual a m b n → StaysDual b n c o → StaysDual a m c o)
 
--- ---- behind the boot
+-- ---- after the boot
 
 -- what stays keeps the checkpoints, whether or not a call failed
 abbrev pub StaysKeep : Type 0
@@ -41,7 +41,7 @@ StaysKeep =
     (o : Origin) (k : Marks) (s : Dual) (n : Device) (t : Dual) (new : Device)
     → Stands dual_scheme o k s n → StaysDual s n t new → StaysSound dual_scheme o k s t new
 
--- what holds behind the boot
+-- what holds after the boot
 abbrev pub RunIsSound : Type 0
 RunIsSound = (o : Origin) (k : Marks) (s : Dual) (n : Device) → Stands dual_scheme o k s n → RunHolds dual_scheme o k s n
 

@@ -1,4 +1,4 @@
--- Behind the boot: scheme and NVM have the checkpoints of a run.
+-- After the boot: scheme and NVM have the checkpoints of a run.
 use Rattle.std.specs.Prelude.{◌≡◌, ◌≤◌, Bool, true, false, is_some, Some, None}
 use Rattle.thy_base.specs.declared.mark.Mark.{Mark}
 use Rattle.thy_base.specs.Device.{Device, newest}
@@ -33,7 +33,7 @@ pub record IsHeld (o : Origin) (s : Dual) (n : Device) : Type 0 where
   pub fits : Fits s.engine s.control
   pub room : s.control.dram.room ≡ o.geometry.dramq
 
--- the engine waits for the barrier behind the commit block
+-- the engine waits for the barrier after the commit block
 abbrev pub is_confirming : Next → Bool
 is_confirming Confirm = true
 is_confirming next = false
@@ -60,12 +60,12 @@ pub record IsOfRest (s : State) : Type 0 where
   pub no_work : HasNoWork before
   pub copied : IsButCopied (sealed_state before) s
 
--- behind an epoch that stored nothing there is room for an instruction, or will be with the commit
+-- after an epoch that stored nothing there is room for an instruction, or will be with the commit
 abbrev pub HasRoom : Bool → State → Type 0
 HasRoom true s = IsOfRest s
 HasRoom false s = 2 ≤ free_count s.btt
 
--- where no block was stored since the last seal there is no work; so it is while a page is being promoted
+-- if no block was stored since the last seal there is no work; the same while a page is being promoted
 pub record IsRest (s : Dual) : Type 0 where
   pub no_work : s.rested ≡ true → HasNoWork s.control
   pub promoting : is_promoting s.control ≡ true → s.rested ≡ true
@@ -75,7 +75,7 @@ pub record IsSound (o : Origin) (k : Marks) (s : Dual) (n : Device) : Type 0 whe
   pub held : IsHeld o s n
   pub images : Checkpoints
   pub checkpoints : HasCheckpoints o k s.engine s.control n images
-  -- a mark is sealed exactly where a checkpoint is under way
+  -- a mark is sealed exactly if a checkpoint is under way
   pub way : is_under_way s.engine.next ≡ is_some k.sealed
   pub written : k.written ≡ is_confirming s.engine.next
   pub header : header_fault (newest n 0) o.geometry true ≡ None

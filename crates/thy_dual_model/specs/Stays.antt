@@ -5,12 +5,12 @@ use Rattle.thy_control.specs.State.{AreSoundTables}
 use Rattle.thy_control.specs.Stays.{Stays}
 use Rattle.thy_dual_model.specs.Dual.{Dual, is_promoting}
 
--- where no block was stored none was before, and the block table is as it was
+-- if no block was stored none was before, and the block table is as it was
 pub record RestsOn (s t : Dual) : Type 0 where
   pub before : s.rested ≡ true
   pub blocks : t.control.btt ≡ s.control.btt
 
--- where a page is being promoted one was before, and no block was stored
+-- if a page is being promoted one was before, and no block was stored
 pub record PromotesOn (s t : Dual) : Type 0 where
   pub before : is_promoting s.control ≡ true
   pub rested : t.rested ≡ s.rested

@@ -10,48 +10,49 @@ pub fn stays_keep_the_checkpoints()
     ensures { StaysKeep }
 {}
 
-/// Behind the boot, while the NVM is up, memory is held whole, what a cut may leave is safe, no number is above its most, and
-/// writes of the NVM may land.
+/// After the boot, while the NVM is up, memory is held whole, what a cut may leave is safe, no number is above its maximum,
+/// and writes of the NVM may land.
 pub fn a_run_is_sound()
     ensures { RunIsSound }
 {}
 
-/// The hart may run on beside every checkpoint.
+/// The hart may run during every checkpoint.
 pub fn a_checkpoint_bars_nothing()
     ensures { NothingIsBarred }
 {}
 
-/// Where a boot ends the scheme is sound: the checkpoint that was found or loaded is the committed one, none is under way, and
-/// nothing was stored.
+/// At the end of a boot the scheme is sound: the checkpoint that was found or loaded is the committed one, none is under
+/// way, and nothing was stored.
 pub fn where_a_boot_ends_is_sound()
     ensures { BootedIsSound }
 {}
 
-/// In the boot, whatever a cut leaves is what is seen: the checkpoint that was found, or what is loaded; writes of the NVM may
-/// land, and before the commit block was read nothing is queued in the DRAM.
+/// In the boot, whatever a cut leaves is what is seen: the checkpoint that was found, or what is loaded; writes of
+/// the NVM may land, and before the commit block was read nothing is queued in the DRAM.
 pub fn a_boot_is_sound()
     ensures { BootIsSound }
 {}
 
-/// A scheme whose power has just come on has nothing queued in its DRAM. Over an NVM of a run that has nothing queued either it
-/// boots what the image means; one of zeros means nothing.
+/// A scheme whose power has just come on has nothing queued in its DRAM. Over an NVM of a run that has nothing queued
+/// either it boots what the image means; one of zeros means nothing.
 pub fn a_boot_finds_the_image()
     ensures finds { PowerFinds }
     ensures new { PowerIsNew }
     ensures zeros { ZerosAreNothing }
 {}
 
-/// As a store of blocks the scheme holds blocks, and is ready, only while the NVM is up, and is ready only where no page is being
-/// promoted. What stays over a call does so where nothing happens, and over one call after another.
+/// As a store of blocks the scheme holds blocks, and is ready, only while the NVM is up, and is ready only if no page
+/// is being promoted. What stays over a call does so if nothing happens, and over one call after another.
 pub fn what_is_held_stays()
     ensures up { HeldIsUp }
     ensures ready { ReadyIsWhole }
     ensures over { StaysOver }
 {}
 
-/// An epoch of a machine over the scheme spends less than 64 cycles for each of its instructions, lines of the cache, entries
-/// of the block table and blocks of the pages that its page table can list, and sixteen more. A boot takes at most an action
-/// for each of memory's blocks, two for each of the slot's, 64 for each entry of the page table, and eight more.
+/// An epoch of a machine over the scheme spends less than 64 cycles for each of its instructions, lines of the cache,
+/// entries of the block table and blocks of the pages that its page table can list, and sixteen more. A boot takes at
+/// most an action for each of memory's blocks, two for each of the slot's, 64 for each entry of the page table, and
+/// eight more.
 pub fn epochs_and_boots_are_short()
     ensures epochs { EpochsAreShort }
     ensures boots { BootsAreShort }

@@ -1,8 +1,8 @@
-//! The scheme of both tables as its contracts see it: what it is, in its boot and behind it, and the laws that hold of
+//! The scheme of both tables as its contracts see it: what it is, in its boot and after it, and the laws that hold of
 //! it, `a_run_is_sound` the first.
 //!
-//! Open specs/Dual.antt first, then specs/Sound.antt, and src/laws.rt. It stands on thy_commit, thy_recover,
-//! thy_scheme, for one bound on thy_core_model, and on what those stand on; on it stands thy_dual.
+//! Open specs/Dual.antt first, then specs/Sound.antt, and src/laws.rt. It depends on thy_commit, thy_recover,
+//! thy_scheme, for one bound on thy_core_model, and on their dependencies; thy_dual depends on it.
 #![tactic(auto)]
 
 mod laws;

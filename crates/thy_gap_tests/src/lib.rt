@@ -1,7 +1,7 @@
-//! Tests of wear levelling over the simulated NVM: where the lines are after each move, and what cuts leave where each call
+//! Tests of wear levelling over the simulated NVM: the lines' places after each move, and what cuts leave if each call
 //! of the inner device has failed in turn. They promise nothing that is proved.
 //!
-//! Open src/lines.rt first. It stands on thy_gap and thy_nvm; nothing stands on it.
+//! Open src/lines.rt first. It depends on thy_gap and thy_nvm; nothing depends on it.
 #![tactic(auto)]
 
 #[cfg(test)]

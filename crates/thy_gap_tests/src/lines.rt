@@ -1,4 +1,4 @@
-//! Where lines are.
+//! The places of lines.
 ghost use Rattle.std.specs.Prelude.{◌≡◌, length};
 
 use crate::expect::{expect, expect_at};

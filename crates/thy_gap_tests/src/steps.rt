@@ -9,7 +9,7 @@ use thy_base::{Block, Nvm, NvmError, Shape};
 use thy_gap::Gap;
 use thy_nvm::MemNvm;
 
-/// A device of four lines over a device in memory. A line moves at each barrier behind a write.
+/// A device of four lines over a device in memory. A line moves at each barrier after a write.
 pub(crate) fn four_lines(rt: &impl Abort, alloc: Global, inner: MemNvm) -> Gap<MemNvm>
     ensures lines { length (⟦<Gap<MemNvm> as Nvm>⟧.device result).image ≡ 4 }
     ensures up { (⟦<Gap<MemNvm> as Nvm>⟧.device result).down ≡ false }

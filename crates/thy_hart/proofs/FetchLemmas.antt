@@ -134,7 +134,7 @@ pub unless_some : (o : Option Cause) (n b : ℕ) → unless_fault o n ≡ Some b
 unless_some None n b h = (refl, cc h)
 unless_some (Some cause) n b h = cc h
 
--- it is touched where there is no fault
+-- it is touched if there is no fault
 pub fetched_some : (p q : Parameters) (size : ℕ) (cpu : CpuState) (fault : Option Cause) → q ≡ p → size ≡ program_size p
     → fault ≡ fetch_fault q.base size cpu.pc → fault ≡ None → fetched_block p cpu ≡ Some (first_block (span (cpu.pc - q.base) 4))
 unfolding fetched_block
@@ -142,7 +142,7 @@ fetched_some p q size cpu fault same size_is fault_is none =
     ap (λ f. unless_fault f (first_block (span (cpu.pc - p.base) 4))) (fetch_none p q size cpu.pc fault same size_is fault_is none)
     ∙ ap (λ (g : Parameters). Some (first_block (span (cpu.pc - g.base) 4))) (sym same)
 
--- and none where there is one
+-- and none if there is one
 pub fetched_not : (p q : Parameters) (size : ℕ) (cpu : CpuState) (fault : Option Cause) (cause : Cause) → q ≡ p → size ≡ program_size p
     → fault ≡ fetch_fault q.base size cpu.pc → fault ≡ Some cause → fetched_block p cpu ≡ None
 unfolding fetched_block

@@ -32,7 +32,7 @@ sized-after g old new s w sized = record {
   console = w.console sized.console;
 }
 
--- the instruction in hand goes on
+-- the instruction in hand continues
 on_the_way : (input : List ℕ) (now : State) (old new : Core) (before after : List Block) → Follows input now old before → IsSized new after → new.geometry ≡ old.geometry
     → IsOnTheWay input old before new after → (has_written new.hand ≡ false → after ≡ before) → (has_written new.hand ≡ false → has_written old.hand ≡ false)
     → Follows input now new after

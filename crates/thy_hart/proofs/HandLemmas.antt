@@ -36,7 +36,7 @@ if_hand : (P : Hand → Type 0) (b : Bool) (x y : Hand) → (b ≡ true → P x)
 if_hand P true x y p q = p refl
 if_hand P false x y p q = q refl
 
--- a fact of what an effect does that begins or goes on
+-- a fact of what an effect does that begins or continues
 pub begun_by : (P : Hand → Type 0) (e : Effect) (from to : Span) → (0 < from.len → P (Reading e from to)) → (from.len ≡ 0 → 0 < to.len → P (Reserving e to))
     → (from.len ≡ 0 → to.len ≡ 0 → P (Retiring e false)) → P (begun e from to)
 unfolding begun
@@ -48,7 +48,7 @@ begun_by P e from to reads writes ends =
     (λ some. writes (test_zero from.len none) (test_some to.len some)))
     (λ some. reads (test_some from.len some))
 
--- and of one that goes on behind a written block
+-- and of one that continues after a written block
 pub written_by : (P : Hand → Type 0) (e : Effect) (to : Span) (done : ℕ) → (0 < to.len → P (Writing e to done)) → (to.len ≡ 0 → P (Retiring e true))
     → P (written_on e to done)
 unfolding written_on
@@ -94,7 +94,7 @@ blocks_of-rest s h = blocks_of-one (rest_of s) (rest_of-rest s h)
 pub begun-unreserved : (e : Effect) (from to : Span) → reserved (begun e from to) ≡ 0
 begun-unreserved e from to = begun_by (λ hand. reserved hand ≡ 0) e from to (λ _. refl) (λ _ _. refl) (λ _ _. refl)
 
--- one block less is reserved behind a written block
+-- one block less is reserved after a written block
 pub written_on-reserved : (e : Effect) (to : Span) (done : ℕ) → to.len ≤ 64 → reserved (written_on e (rest_of to) done) + 1 ≤ blocks_of to
 written_on-reserved e to done short =
     written_by (λ hand. reserved hand + 1 ≤ blocks_of to) e (rest_of to) done
@@ -116,7 +116,7 @@ begun-sound p e from to have h =
     (λ none some. record { span_to = h.span_to; some = some; least = omega (arith, h.least); number = omega (arith, h.number) })
     (λ none end. omega (arith, h.number))
 
--- behind a block that was read
+-- after a block that was read
 pub read-sound : (p : Parameters) (e : Effect) (from to : Span) (block : Block) (old new : List ℕ) (hand : Hand) → IsReading p e from to (length old)
     → new ≡ old ++ head_in block from → hand ≡ begun e (rest_of from) to → IsInHand p hand (length new)
 read-sound p e from to block old new hand h bytes is =
@@ -132,7 +132,7 @@ read-sound p e from to block old new hand h bytes is =
     } in
     subst (λ x. IsInHand p x (length new)) (sym is) (begun-sound p e (rest_of from) to (length new) served)
 
--- behind a block that was written
+-- after a block that was written
 pub write-sound : (p : Parameters) (e : Effect) (to : Span) (done have : ℕ) (hand : Hand) → IsWriting p e to done have
     → hand ≡ written_on e (rest_of to) (done + head_len to) → IsInHand p hand have
 write-sound p e to done have hand h is =
@@ -152,7 +152,7 @@ read_len-enough x input c (Write width pc at v) = omega arith
 read_len-enough x input c Environment = omega arith
 read_len-enough x input c (Trap cause) = omega arith
 
--- behind a fetch
+-- after a fetch
 pub fetch-sound : (p : Parameters) (input : List ℕ) (cpu : CpuState) (e : Effect) (calls : CallState) (bytes : List ℕ) (m : Moves) (hand : Hand)
     → IsInRange p → IsWithin p.base (program_size p) e → calls ≡ calls_in p cpu (length input) → bytes ≡ brings input cpu.regs calls e
     → m ≡ moves_of cpu.regs calls e → hand ≡ begun e m.from m.to → IsInHand p hand (length bytes)
@@ -178,7 +178,7 @@ if_core : (P : Core → Type 0) (b : Bool) (x y : Core) → P x → P y → P (i
 if_core P true x y p q = p
 if_core P false x y p q = q
 
--- behind a reservation, whatever comes of it
+-- after a reservation, whatever comes of it
 pub room_reserved-sound : (free dirty : ℕ) (under_way : Bool) (e : Effect) (to : Span) (old new : Core) → IsSound old → IsWriting old.geometry e to 0 (length old.bytes)
     → new ≡ room_reserved free under_way dirty e to old → IsSound new
 unfolding room_reserved

@@ -1,4 +1,4 @@
--- Each micro-step whose block hits acts as is said, whatever store is behind the cache.
+-- Each micro-step whose block hits acts as is said, whatever store is below the cache.
 use Rattle.std.proofs.Common.{◌≡◌, ℕ, ◌+◌, ◌≤◌, length, drop, sym, ◌∙◌, ap, arith}
 use Rattle.thy_base.specs.Geometry.{memory_blocks}
 use Rattle.thy_cache.specs.Contents.{Contents, dirty_count, read_from, KeepsSize}

@@ -50,7 +50,7 @@ next_block-inside h b s is = block_for-inside h.geometry h.cpu h.hand (length h.
 
 -- ---- a line is brought
 
--- the choice of what a step does, where its line is brought
+-- the choice of what a step does, if its line is brought
 if_true : {A : Type 0} (b : Bool) (x y : A) → b ≡ true → x ≡ (if b then x else y)
 if_true b x y h = sym (ap (λ t. if t then x else y) h)
 
@@ -96,7 +96,7 @@ IsStep-brought g b h c d old new r is miss w =
       console = λ l. l;
     }
 
--- ---- the hart goes on
+-- ---- the hart continues
 
 -- a block that hits is not missing, and no page is open then
 hit_not_missing : (c : Contents) (o : Option ℕ) → HitsNext c o → is_missing c o ≡ false

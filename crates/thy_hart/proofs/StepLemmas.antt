@@ -61,7 +61,7 @@ with_hand hand h = record h { hand = hand }
 
 -- ---- what is to come
 
--- an effect that begins or goes on leads where its bytes do
+-- an effect that begins or continues reaches the same state as its bytes do
 pub begun-coming : (input : List ℕ) (h : Core) (m : List Block) (e : Effect) (from to : Span)
     → coming_by input h m (begun e from to) ≡ led input h e (h.bytes ++ gathered m from) (scattered m to (h.bytes ++ gathered m from))
 begun-coming input h m e from to =
@@ -73,7 +73,7 @@ begun-coming input h m e from to =
     (λ none some. ap (λ bs. led input h e bs (scattered m to bs)) (none_read none))
     (λ none end. ap (λ bs. led input h e bs m) (none_read none) ∙ ap (led input h e all) (sym (scattered-none m to all end)))
 
--- one that goes on behind a written block leads where the rest of its bytes do
+-- one that continues after a written block reaches the same state as the rest of its bytes do
 pub written-coming : (input : List ℕ) (h : Core) (m : List Block) (e : Effect) (to : Span) (done : ℕ)
     → coming_by input h m (written_on e to done) ≡ led input h e h.bytes (scattered m to (drop done h.bytes))
 written-coming input h m e to done =

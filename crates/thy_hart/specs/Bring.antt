@@ -14,7 +14,7 @@ abbrev pub IsNearer : ℕ → Contents → Holding → Contents → Holding → 
 IsNearer b old before new now =
     (touch_steps new b + 1 ≤ touch_steps old b) ⊎ ((touch_steps new b ≡ touch_steps old b) × (now.owed + 1 ≤ before.owed))
 
--- the block is filled in where there is room for it, else the dirty line in its way is stored, or a copy goes first
+-- if there is room for the block it is filled in, else the dirty line in its way is stored, or a copy comes first
 abbrev pub BringsLine : Victim → ℕ → Contents → Holding → Contents → Type 0
 BringsLine Room b old before new = new ≡ filled_with b (block_at before.blocks b) old
 BringsLine (Dirty at) b old before new = (stored : Stored) × (new ≡ evicted_for stored b old)

@@ -35,7 +35,7 @@ blocks_of s = if (rest_of s).len == 0 then 1 else 2
 
 -- ---- the block that is touched next
 
--- no block is touched where the fetch faults
+-- no block is touched if the fetch faults
 abbrev pub unless_fault : Option Cause → ℕ → Option ℕ
 unless_fault None b = Some b
 unless_fault (Some cause) b = None
@@ -91,7 +91,7 @@ read_len (Write width pc at v) = 0
 read_len Environment = 0
 read_len (Trap cause) = 0
 
--- bytes are still to be read: they fit behind those that are there, and all are enough to write and to make a number
+-- bytes are still to be read: they fit after those already read, and all are enough to write and to make a number
 pub record IsReading (p : Parameters) (e : Effect) (from to : Span) (have : ℕ) : Type 0 where
   pub span_from : IsSpanOf (memory_blocks p) from
   pub span_to : IsSpanOf (memory_blocks p) to

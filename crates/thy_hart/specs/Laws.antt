@@ -16,7 +16,7 @@ use Rattle.thy_hart.specs.Outcomes.{Given}
 use Rattle.thy_hart.specs.Moments.{Moment, memory_of, IsReady, moves_left}
 use Rattle.thy_hart.specs.OneStep.{current, coming, IsStep}
 
--- with no page open, a hart is ready where cache and store agree and there is room
+-- with no page open, a hart is ready if cache and store agree and there is room
 abbrev pub ReadyWithNoPageOpen : Type 0
 ReadyWithNoPageOpen =
     (m : Moment) → length m.held.blocks ≡ memory_blocks m.hart.geometry → Agrees m.cache m.held.blocks
@@ -32,20 +32,20 @@ pub record IsSized (h : Core) (memory : List Block) : Type 0 where
   pub blocks : length memory ≡ memory_blocks h.geometry
   pub console : h.cpu.console_len ≤ console_room h.geometry
 
--- with nothing in hand the plain machine's next state is to come
+-- with nothing in hand, the state that is to come is the plain machine's next state
 abbrev pub NextStateIsToCome : Type 0
 NextStateIsToCome =
     (input : List ℕ) (h : Core) (memory : List Block) → IsSized h memory → h.hand ≡ Nothing → is_running h.cpu.status ≡ true
     → coming input h memory ≡ step (setting_for h.geometry input) (current h memory)
 
--- the hart is at this state of the plain machine: it stands there while the instruction in hand has written nothing, and
--- the state that is to come is the next
+-- the hart is at this state of the plain machine: while the instruction in hand has written nothing, this is its current
+-- state, and the state that is to come is the next
 pub record Follows (input : List ℕ) (now : State) (h : Core) (memory : List Block) : Type 0 where
   pub sized : IsSized h memory
   pub current : has_written h.hand ≡ false → current h memory ≡ now
   pub coming : is_running h.cpu.status ≡ true → coming input h memory ≡ step (setting_for h.geometry input) now
 
--- the state of the plain machine where the hart is after a step
+-- the plain machine's state that the hart is at after a step
 abbrev pub state_over : EndCause → State → State → State
 state_over Length now next = next
 state_over (Exhausted free dirty need) now next = now
@@ -57,7 +57,7 @@ state_after Retired now next = next
 state_after Waiting now next = now
 state_after (Over cause) now next = state_over cause now next
 
--- a step of a hart that runs leads on: where an instruction retired, to the plain machine's next state
+-- a step of a hart that runs simulates the plain machine: if an instruction retired, it is at the next state
 abbrev pub StepFollowsOn : Type 0
 StepFollowsOn =
     (g : Given) (old new : Moment) (s : HartStep) (now : State) → is_running old.hart.cpu.status ≡ true

@@ -39,7 +39,7 @@ abbrev pub IsNext : Contents → Option ℕ → Next → Type 0
 IsNext c o (Bring b) = (o ≡ Some b) × (hits c b ≡ false)
 IsNext c o (Act place) = HitsNext c o × IsFound c o place
 
--- whatever store with its block is behind the cache: the number of a span of four bytes
+-- for any store with its block below the cache: the number of a span of four bytes
 abbrev pub ReadsWord : Contents → Span → ℕ → Type 0
 ReadsWord c at word =
     (blocks : List Block) → first_block at < length blocks → word ≡ number_at 4 (gathered (flat c blocks) at) 0

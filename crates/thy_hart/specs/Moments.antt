@@ -1,5 +1,5 @@
 -- Part of the claim.
--- A hart with its cache and what the store behind that holds, between two steps.
+-- A hart with its cache and what the store below that holds, between two steps.
 use Rattle.std.specs.Prelude.{◌≡◌, ◌⊎◌, ℕ, ◌+◌, ◌-◌, ◌*◌, ◌≤◌, Bool, true, false, not, if◌then◌else◌, List, length, Option, Some, None}
 use Rattle.thy_base.specs.declared.block.Block.{Block}
 use Rattle.thy_base.specs.Geometry.{memory_blocks}
@@ -33,7 +33,7 @@ brings_line m = is_missing m.cache (next_block m.hart)
 
 -- ---- what a step asks for
 
--- the dirty line that stands in the way of a missing block has the page that is being copied
+-- the dirty line that is in the way of a missing block has the page that is being copied
 pub record IsOpenInTheWay (c : Contents) (b : ℕ) (page : Option ℕ) : Type 0 where
   pub missing : hits c b ≡ false
   pub line : Line
@@ -64,7 +64,7 @@ abbrev pub touch_left : Contents → Option ℕ → ℕ
 touch_left c None = 0
 touch_left c (Some b) = touch_steps c b
 
--- at most these come behind the block that is touched next, the retirement aside
+-- at most these follow the block that is touched next, the retirement aside
 abbrev pub left_behind : Hand → ℕ
 left_behind Nothing = 13
 left_behind (Reading e from to) = 3 * (blocks_of from - 1) + 7

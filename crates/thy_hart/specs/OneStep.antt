@@ -45,13 +45,13 @@ coming_by input h memory (Reserving e to) = led input h e h.bytes (scattered mem
 coming_by input h memory (Writing e to done) = led input h e h.bytes (scattered memory to (drop done h.bytes))
 coming_by input h memory (Retiring e wrote) = led input h e h.bytes memory
 
--- the state to which the instruction leads that is in hand, or else the next one
+-- the state after the instruction in hand, or else after the next one
 unfoldable pub coming : List ℕ → Core → List Block → State
 coming input h memory = coming_by input h memory h.hand
 
 -- ---- what a step does
 
--- a line is brought, and the hart stays as it is; or else the hart goes on
+-- a line is brought, and the hart stays as it is; or else the hart acts
 abbrev pub hart_after : Given → Moment → Core
 hart_after g m = if brings_line m then m.hart else acted_by g (dirty_count m.cache) (memory_of m) m.hart m.hart.hand
 
@@ -71,7 +71,7 @@ pub record HasCome (input : List ℕ) (old : Core) (before : List Block) (new : 
   pub current : current new now ≡ coming input old before
   pub hand : new.hand ≡ Nothing
 
--- the instruction was dropped, and had written nothing
+-- the instruction was dropped without having written anything
 pub record IsDropped (old : Core) (before : List Block) (new : Core) (now : List Block) : Type 0 where
   pub cpu : new.cpu ≡ old.cpu
   pub hand : new.hand ≡ Nothing
@@ -99,7 +99,7 @@ abbrev pub ComesNearer : Moment → Moment → Type 0
 ComesNearer old new =
     (moves_left new + 1 ≤ moves_left old) ⊎ ((moves_left new ≡ moves_left old) × (new.held.owed + 1 ≤ old.held.owed))
 
--- so it is where the hart moved
+-- the same if the hart moved
 abbrev pub Nears : HartStep → Moment → Moment → Type 0
 Nears Moved old new = ComesNearer old new
 Nears Retired old new = Unit {0}
@@ -113,7 +113,7 @@ StaysWritten Retired old new = Unit {0}
 StaysWritten Waiting old new = Unit {0}
 StaysWritten (Over cause) old new = Unit {0}
 
--- only where the hart moved may a page be open
+-- only if the hart moved may a page be open
 abbrev pub Closes : HartStep → Holding → Type 0
 Closes Moved held = Unit {0}
 Closes Retired held = held.open_page ≡ None
@@ -121,11 +121,11 @@ Closes Waiting held = held.open_page ≡ None
 Closes (Over cause) held = held.open_page ≡ None
 
 pub record IsStep (g : Given) (old new : Moment) (step : HartStep) : Type 0 where
-  -- exactly this hart, this answer and this memory
+  -- exactly this hart, this result and this memory
   pub hart : new.hart ≡ hart_after g old
   pub says : step ≡ answer_to g old
   pub memory : memory_of new ≡ memory_after old
-  -- the plain state to which the instruction leads, and how far that is
+  -- the plain state after the instruction, and how far that is
   pub leads : Leads step g.input old.hart (memory_of old) new.hart (memory_of new)
   pub nears : Nears step old new
   -- no write before its room is reserved, and none but in the block that is touched
@@ -139,7 +139,7 @@ pub record IsStep (g : Given) (old new : Moment) (step : HartStep) : Type 0 wher
   pub used : brings_line old ≡ false → new.cache ≡ cache_by old.cache old.hart old.hart.hand
   -- no line becomes dirty before its room is reserved
   pub tidy : reserved old.hart.hand ≡ 0 → dirty_count new.cache ≤ dirty_count old.cache
-  -- the store is left alone where no line is brought, and the cache where no block is touched
+  -- the store is left alone if no line is brought, and the cache if no block is touched
   pub alone : brings_line old ≡ false → new.held ≡ old.held
   pub untouched : next_block old.hart ≡ None → new.cache ≡ old.cache
   -- what the next step asks for

@@ -1,4 +1,4 @@
--- What each micro-step makes of hart, memory and cache, and what it answers. Its block is in the cache, or it touches none.
+-- What each micro-step makes of hart, memory and cache, and what it returns. Its block is in the cache, or it touches none.
 use Rattle.std.specs.Prelude.{ℕ, ◌+◌, ◌==◌, Bool, true, false, if◌then◌else◌, nat_lt, List, [], ◌++◌, length, take, drop, Option, Some, None}
 use Rattle.thy_base.specs.declared.block.Block.{Block}
 use Rattle.thy_base.specs.declared.cause.EndCause.{EndCause}
@@ -18,8 +18,8 @@ use Rattle.thy_hart.specs.declared.hand.HartStep.{HartStep}
 use Rattle.thy_hart.specs.declared.hand.HartStep.TheVariants.{Moved, Retired, Waiting, Over}
 use Rattle.thy_hart.specs.Core.{Core, blocks_of, fetched_block}
 
--- what a step is handed besides cache and store: the input, how many table entries are free, and whether a checkpoint
--- is under way
+-- what a step is handed in addition to cache and store: the input, how many table entries are free, and whether a
+-- checkpoint is under way
 pub record Given : Type 0 where
   pub input : List ℕ
   pub free : ℕ
@@ -28,13 +28,13 @@ pub record Given : Type 0 where
 abbrev pub given : List ℕ → ℕ → Bool → Given
 given input free under_way = record { input = input; free = free; under_way = under_way }
 
--- an effect begins, or goes on where bytes are still to be read: then it reads, else it reserves room for what it
--- writes, else it retires
+-- An effect begins, or continues after a read: if bytes are still to be read it reads, else it reserves room for what it
+-- writes, else it retires.
 unfoldable pub begun : Effect → Span → Span → Hand
 begun e from to =
     if from.len == 0 then (if to.len == 0 then Retiring e false else Reserving e to) else Reading e from to
 
--- it goes on behind a block that it wrote: there is another, or it retires
+-- it continues after a block that it wrote: there is another, or it retires
 unfoldable pub written_on : Effect → Span → ℕ → Hand
 written_on e to done = if to.len == 0 then Retiring e true else Writing e to done
 
@@ -64,14 +64,14 @@ is_short free dirty to = nat_lt free (dirty + blocks_of to)
 abbrev pub dropped : Epoch → Core → Core
 dropped epoch h = record h { epoch = epoch; hand = Nothing; bytes = [] }
 
--- room is reserved, or waited for where a checkpoint is under way, or else the epoch is over
+-- room is reserved, or waited for if a checkpoint is under way, or else the epoch is over
 unfoldable pub room_reserved : ℕ → Bool → ℕ → Effect → Span → Core → Core
 room_reserved free under_way dirty e to h =
     if is_short free dirty to
     then (if under_way then h else dropped (exhausted free dirty (blocks_of to) h.epoch) h)
     else record h { hand = Writing e to 0 }
 
--- and what the step answers
+-- and what the step returns
 unfoldable pub room_answer : ℕ → Bool → ℕ → Span → HartStep
 room_answer free under_way dirty to =
     if is_short free dirty to then (if under_way then Waiting else Over (Exhausted free dirty (blocks_of to))) else Moved
@@ -106,7 +106,7 @@ acted_by g dirty memory h (Reserving e to) = room_reserved g.free g.under_way di
 acted_by g dirty memory h (Writing e to done) = block_written e to done h
 acted_by g dirty memory h (Retiring e wrote) = retired g.input e h
 
--- the step's answer
+-- what the step returns
 abbrev pub answer_by : Given → ℕ → Core → Hand → HartStep
 answer_by g dirty h Nothing = Moved
 answer_by g dirty h (Reading e from to) = Moved
@@ -122,7 +122,7 @@ memory_by bytes memory (Reserving e to) = memory
 memory_by bytes memory (Writing e to done) = head_put memory to (drop done bytes)
 memory_by bytes memory (Retiring e wrote) = memory
 
--- the cache where a block is read, if one is: its line was used last
+-- the cache if a block is read: its line was used last
 abbrev pub touched : Contents → Option ℕ → Contents
 touched c None = c
 touched c (Some b) = read_from b c
@@ -131,7 +131,7 @@ touched c (Some b) = read_from b c
 abbrev pub written_by : Contents → Span → List ℕ → Contents
 written_by c to bytes = written_at (first_block to) (first_byte to) (take (head_len to) bytes) c
 
--- the cache, where no line is brought
+-- the cache, if no line is brought
 abbrev pub cache_by : Contents → Core → Hand → Contents
 cache_by c h Nothing = touched c (fetched_block h.geometry h.cpu)
 cache_by c h (Reading e from to) = read_from (first_block from) c

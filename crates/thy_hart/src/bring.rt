@@ -10,7 +10,7 @@ use thy_base::{BlockStore, NvmError};
 use thy_cache::{Cache, Victim};
 
 /// Brings the line of block `b`, which does not hit, a step nearer: stores the dirty line in its way, or makes
-/// the copy that has to go first, or fills the block in. Where the store fails nothing has changed here.
+/// the copy that has to come first, or fills the block in. If the store fails nothing has changed here.
 pub(crate) fn bring<N, S: BlockStore<N>>(
     cache: &mut Cache,
     b: u64,

@@ -16,7 +16,7 @@ use thy_isa::Effect;
 pub enum Hand {
     /// No instruction is in hand: the next one is fetched.
     Nothing,
-    /// The effect reads the bytes at `from`, and will write at `to`, where that has bytes.
+    /// The effect reads the bytes at `from`, and will write at `to`, if that has bytes.
     Reading {
         effect: Effect,
         from: Span,
@@ -27,7 +27,7 @@ pub enum Hand {
         effect: Effect,
         to: Span,
     },
-    /// It writes at `to`, behind `done` bytes that it has written.
+    /// It writes at `to`, after `done` bytes that it has written.
     Writing {
         effect: Effect,
         to: Span,
@@ -45,11 +45,11 @@ pub enum Hand {
 pub enum HartStep {
     /// The instruction in hand is a step further, or a line was brought.
     Moved,
-    /// The instruction retired, and the epoch goes on.
+    /// The instruction retired, and the epoch continues.
     Retired,
-    /// Table entries are short until the checkpoint that is under way is committed. Nothing was done.
+    /// Too few table entries are free until the checkpoint that is under way is committed. Nothing was done.
     Waiting,
-    /// The epoch is over: behind the instruction, which retired, or before it where entries are short.
+    /// The epoch is over: after the instruction, which retired, or before it if too few entries are free.
     Over(EndCause),
 }
 
@@ -62,7 +62,7 @@ pub(crate) enum Next {
     Act(Option<Place>),
 }
 
-/// What an effect does that still has to read at `from`, where that has bytes, and to write at `to`.
+/// What an effect does that still has to read at `from`, if that has bytes, and to write at `to`.
 pub(crate) fn begun(effect: Effect, from: Span, to: Span) -> Hand
     ensures { result ≡ begun effect from to }
 {
@@ -78,7 +78,7 @@ pub(crate) fn begun(effect: Effect, from: Span, to: Span) -> Hand
     }
 }
 
-/// What an effect does that has written `done` bytes and still has to write at `to`, where that has bytes.
+/// What an effect does that has written `done` bytes and still has to write at `to`, if that has bytes.
 pub(crate) fn written_on(effect: Effect, to: Span, done: u64) -> Hand
     ensures { result ≡ written_on effect to done }
 {

@@ -75,14 +75,14 @@ impl Hart {
         &self.parts.geometry
     }
 
-    /// How many blocks the instruction in hand is to reserve room for next, 1 or 2, if it is at that.
+    /// How many blocks the instruction in hand is to reserve room for, 1 or 2, if that is its next micro-step.
     pub fn to_reserve(&self) -> Option<u64>
         ensures { result ≡ to_reserve self.now.hand }
     {
         self.parts.to_reserve()
     }
 
-    /// Begins the next epoch, where this one is over.
+    /// Begins the next epoch, if this one is over.
     pub fn sealed(&mut self)
         requires over { self.old.epoch.over ≢ None }
         requires number { self.old.epoch.number + 1 < 2 ^ 64 }
@@ -91,9 +91,9 @@ impl Hart {
         self.parts.epoch.sealed();
     }
 
-    /// Takes one step, a cycle. Where the step touches a block that is not in the cache, it brings the line
+    /// Takes one step, a cycle. If the step touches a block that is not in the cache, it brings the line
     /// nearer and the hart stays; else it fetches, reads a block, reserves room, writes a block, or retires.
-    /// `free` is the store's number of free table entries, and `under_way` tells whether a checkpoint is under
+    /// `free` is the store's number of free table entries, and `under_way` says whether a checkpoint is under
     /// way. A failure is the device's, and leaves hart and cache as they were.
     pub fn step<N, S: BlockStore<N>>(
         &mut self,
@@ -117,7 +117,7 @@ impl Hart {
         ensures hart { OnErr result (self.new ≡ self.old) }
         ensures cache { OnErr result (cache.new ≡ cache.old) }
 
-        // The store is called once at most, not at all where no line is brought, and for a load where no line is dirty.
+        // The store is called once at most, not at all if no line is brought, and for a load if no line is dirty.
         ensures untouched { brings_line (moment self.old cache.old (S.holding store.old nvm.old)) ≡ false
             → (store.new ≡ store.old) × (nvm.new ≡ nvm.old) }
         ensures once { ((store.new ≡ store.old) × (nvm.new ≡ nvm.old)) ⊎ S.once store.old nvm.old store.new nvm.new }

@@ -1,9 +1,9 @@
-//! One hart: an instruction in micro-steps through a write-back cache, over any store of blocks. Callers rest on
-//! `Hart::step`, which is exact, and on `a_step_follows_on`: the step that retires an instruction makes the plain
-//! machine's next state.
+//! One hart: an instruction in micro-steps through a write-back cache, over any store of blocks. Callers rely on
+//! `Hart::step`, which equals its specification, and on `a_step_follows_on`: the step that retires an instruction makes
+//! the plain machine's next state.
 //!
-//! Open specs/Moments.antt first, then specs/OneStep.antt, and src/hart.rt. It stands on thy_base, thy_flat, thy_isa,
-//! thy_cache and thy_epoch; on it stand thy_core_model and thy_core.
+//! Open specs/Moments.antt first, then specs/OneStep.antt, and src/hart.rt. It depends on thy_base, thy_flat, thy_isa,
+//! thy_cache and thy_epoch; thy_core_model and thy_core depend on it.
 #![tactic(auto)]
 
 mod bring;

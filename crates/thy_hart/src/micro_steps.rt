@@ -91,7 +91,7 @@ impl Parts {
         }
     }
 
-    /// How many blocks the instruction in hand is to reserve room for, if it is at that.
+    /// How many blocks the instruction in hand is to reserve room for, if that is its next micro-step.
     pub fn to_reserve(&self) -> Option<u64>
         requires { IsSound (core_of self.now) }
         ensures { result ≡ to_reserve self.now.hand }
@@ -132,7 +132,7 @@ impl Parts {
         }
     }
 
-    /// The effect of the instruction at the program counter. Where that can't be fetched no line is touched.
+    /// The effect of the instruction at the program counter. If that can't be fetched no line is touched.
     fn next_effect<N>(&self, cache: &mut Cache, place: Option<Place>) -> Effect
         requires found { IsFound cache.old (fetched_block self.now.geometry self.now.cpu) place }
         ensures effect { FetchesEffect self.now.geometry self.now.cpu cache.old result }
@@ -155,7 +155,7 @@ impl Parts {
         }
     }
 
-    /// What an environment call is decided by, with an input of so many bytes.
+    /// What an environment call depends on in addition to the registers, with an input of so many bytes.
     fn calls(&self, input_len: u64) -> CallState
         ensures calls { result ≡ calls_in self.now.geometry self.now.cpu input_len }
         ensures fits { AreCallsOf self.now.cpu result }
@@ -201,8 +201,7 @@ impl Parts {
         }
     }
 
-    /// Takes an effect in hand, and the bytes that it brings along. Only an environment call depends on what calls are
-    /// decided by.
+    /// Takes an effect in hand, and the bytes that it brings along. Only an environment call depends on the `CallState`.
     #[tactic(auto, unfolding(thy_isa::specs::Moves::moves_of, thy_isa::specs::Moves::brings))]
     fn begin<N>(&mut self, effect: Effect, input: &[u8])
         requires range { IsInRange self.old.geometry }
@@ -269,7 +268,7 @@ impl Parts {
         }
     }
 
-    /// Reserves room for the blocks that will be written, or waits for it where a checkpoint is under way, or
+    /// Reserves room for the blocks that will be written, or waits for it if a checkpoint is under way, or
     /// else ends the epoch and drops the instruction.
     fn reserve<N>(
         &mut self,
@@ -339,7 +338,7 @@ impl Parts {
         }
     }
 
-    /// Takes an effect that has read and written. Only an environment call depends on what calls are decided by.
+    /// Takes an effect that has read and written. Only an environment call depends on the `CallState`.
     fn finish<N>(&mut self, effect: Effect, input: &[u8])
         requires number { read_len effect ≤ array_vec_len self.old.bytes }
         requires count { self.old.cpu.count + 1 < 2 ^ 64 }

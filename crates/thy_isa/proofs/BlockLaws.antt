@@ -46,7 +46,7 @@ pub fetch_inside : (base size pc : ℕ) → fetch_fault base size pc ≡ None �
 unfolding fetch_fault
 fetch_inside base size pc h = is_inside-true base size pc 4 (fetched_none (pc % 4 == 0) (is_inside base size pc 4) h)
 
--- where the fetch faults the word does not matter
+-- if the fetch faults the word does not matter
 fetched_same : (fault : Option Cause) (e f : Effect) → (fault ≡ None → e ≡ f) → fetched fault e ≡ fetched fault f
 fetched_same None e f h = h refl
 fetched_same (Some cause) e f h = refl
@@ -101,7 +101,7 @@ console_span : (p : Parameters) (blocks : List Block) (n len : ℕ) → IsInRang
     → IsSpanOf (length blocks) (span (program_size p + n) len)
 console_span p blocks n len r whole short l = record { short = short; inside = omega (arith, whole, console_below p r) }
 
--- a piece behind the first n bytes of the console leaves program memory
+-- a piece after the first n bytes of the console leaves program memory
 memory-behind : (p : Parameters) (blocks : List Block) (n : ℕ) (piece : List ℕ) → IsInRange p → length blocks ≡ memory_blocks p → length piece ≤ 64
     → n + length piece ≤ console_room p
     → memory_bytes p (scattered blocks (span (program_size p + n) (length piece)) piece) ≡ memory_bytes p blocks

@@ -85,7 +85,7 @@ pub rows_of-at_most_one : (w : ℕ) → rows_of w ≤ 1
 unfolding rows_of
 rows_of-at_most_one w = at_most_one table w refl
 
--- ---- and some row where it means an instruction
+-- ---- and some row if it means an instruction
 
 counted : (b : Bool) (i : Instr) (o : Option Instr) (n : ℕ) → is_some o ≡ nat_le 1 n → is_some (if b then Some i else o) ≡ nat_le 1 (if b then suc n else n)
 counted true i o n e = sym (le-leb 1 (suc n) (omega arith))

@@ -91,7 +91,7 @@ with_status c s h p = record {
   status = p;
 }
 
--- an answer is a number of 64 bits, an exit's value a byte, and so few bytes are moved
+-- a result is a number of 64 bits, an exit's value a byte, and so few bytes are moved
 abbrev CallNumbers : Call → Type 0
 CallNumbers (Answer v) = IsNumber v
 CallNumbers (Exit v) = v < 256
@@ -357,7 +357,7 @@ served-room c calls (Break at) most e f h = h
 served-room c calls (Take at len) most e f h = h
 served-room c calls (Give at len) most e f h = omega (arith, e, f.1)
 
--- the length of a console stays within a room, where a call is decided by what is left of it
+-- the length of a console stays within a room, if a call depends on what is left of it
 pub finished-room : (c : CpuState) (e : Effect) (n : ℕ) (k : CallState) (most : ℕ) → k.room ≡ most - c.console_len → c.console_len ≤ most → (finished c e n k).console_len ≤ most
 unfolding finished
 finished-room c (Next pc) n k most e h = h

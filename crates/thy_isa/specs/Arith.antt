@@ -1,6 +1,6 @@
 -- Part of the claim.
 -- What the operations compute. A number of 64 bits in two's complement is a number below 2 ^ 64; it is
--- converted to the signed number that it stands for only where an operation is one of signed numbers.
+-- converted to the signed number that it represents only if an operation is one of signed numbers.
 use Rattle.std.specs.Prelude.{ℕ, ℤ, ◌+◌, ◌-◌, ◌*◌, ◌/◌, ◌%◌, ◌^◌, ◌==◌, nat_lt, if◌then◌else◌, pos, ◌*ℤ◌, bit_and, bit_or, bit_xor, int_lt, int_div, int_rem}
 use Rattle.std.specs.Int.{w32, w64, w128, cast_signed, cast_unsigned, int_shr}
 use Rattle.thy_isa.specs.declared.instr.Alu.{Alu}
@@ -23,7 +23,7 @@ sx32 v = sign_extended 32 (low32 v)
 abbrev pub all_ones : ℕ
 all_ones = 2 ^ 64 - 1
 
--- the signed number that a number of 64 bits stands for, and that of its low 32 bits
+-- the signed number that a number of 64 bits represents, and that of its low 32 bits
 abbrev pub signed : ℕ → ℤ
 signed a = cast_signed w64 a
 

@@ -1,5 +1,5 @@
 -- Part of the claim.
--- The environment calls: a7 names the call, a0 to a2 are its arguments, and its answer goes into a0. All numbers are
+-- The environment calls: a7 names the call, a0 to a2 are its arguments, and its result goes into a0. All numbers are
 -- whole: no address or length wraps.
 use Rattle.std.specs.Prelude.{ℕ, ◌+◌, ◌-◌, ◌%◌, ◌^◌, ◌<◌, ◌≤◌, ◌==◌, ◌&&◌, ◌||◌, not, nat_le, min, if◌then◌else◌, List}
 use Rattle.thy_base.specs.Inside.{is_inside}
@@ -22,7 +22,7 @@ a2 x = reg_at x 12
 abbrev pub a7 : List ℕ → ℕ
 a7 x = reg_at x 17
 
--- the answer -n, in two's complement
+-- the result -n, in two's complement
 abbrev pub refusal : ℕ → ℕ
 refusal n = 2 ^ 64 - n
 
@@ -54,7 +54,7 @@ write_of descriptor at count c =
 abbrev pub first_sp : CallState → ℕ
 first_sp c = c.base + c.size - 256
 
--- brk(at): the break moves there, or stays; the answer is the break
+-- brk(at): the break moves there, or stays; the result is the break
 unfoldable pub break_of : ℕ → CallState → Call
 break_of at c = if nat_le c.floor at && nat_le (at + 65536) (first_sp c) then Break at else Answer c.brk
 

@@ -40,11 +40,11 @@ after pc = low64 (pc + 4)
 abbrev pub even : ℕ → ℕ
 even at = at - at % 2
 
--- a jump that leaves the address after it in rd: to a target that is no multiple of four it traps, and rd stays
+-- a jump that leaves the address after it in rd: if the target is not a multiple of four it traps, and rd stays
 abbrev pub linked : ℕ → ℕ → ℕ → Effect
 linked target rd pc = if target % 4 == 0 then Set rd target (after pc) else Trap FetchMisaligned
 
--- a branch: taken to a target that is no multiple of four it traps
+-- a branch: if it is taken and the target is not a multiple of four it traps
 abbrev pub branched : Bool → ℕ → ℕ → Effect
 branched taken target pc =
     if taken then (if target % 4 == 0 then Next target else Trap FetchMisaligned) else Next (after pc)
@@ -71,6 +71,6 @@ effect_of FenceI pc x = Next (after pc)
 effect_of Ecall pc x = Environment
 effect_of Ebreak pc x = Trap Breakpoint
 
--- what a word does: it is illegal where it means no instruction
+-- what a word does: it is illegal if it means no instruction
 abbrev pub word_effect : ℕ → ℕ → List ℕ → Effect
 word_effect w pc x = option_map_or (λ i. effect_of i pc x) (instr_of w) (Trap Illegal)

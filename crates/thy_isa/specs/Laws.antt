@@ -25,7 +25,7 @@ BlocksMakeTheStep =
     → IsInRange p → length blocks ≡ memory_blocks p → cpu.console_len ≤ console_room p → is_running cpu.status ≡ true
     → state_after p input cpu blocks ≡ step (setting_for p input) (state_from p cpu blocks)
 
--- a step of a state that can be stored leads to one
+-- a step from a state that can be stored reaches one that can be stored
 abbrev pub StepKeepsStorable : Type 0
 StepKeepsStorable =
     (g : Setting) (size : ℕ) (s : State) → IsReadable g → IsStorable size s → IsStorable size (step g s)

@@ -25,7 +25,7 @@ reads at len = record no_moves { from = span at len }
 abbrev pub writes : ℕ → ℕ → Moves
 writes at len = record no_moves { to = span at len }
 
--- what a call moves: what is taken is written to memory, what is given is read there and written behind the console's end
+-- what a call moves: what is taken is written to memory, what is given is read there and written after the console's end
 unfoldable pub call_moves : CallState → Call → Moves
 call_moves c (Answer v) = no_moves
 call_moves c (Exit v) = no_moves

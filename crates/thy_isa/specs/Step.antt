@@ -111,7 +111,7 @@ unfoldable pub fetch_fault : ℕ → ℕ → ℕ → Option Cause
 fetch_fault base size pc =
     if pc % 4 == 0 then (if is_inside base size pc 4 then None else Some FetchAccess) else Some FetchMisaligned
 
--- an effect, or the trap where it would read or write outside memory
+-- an effect, or the trap if it would read or write outside memory
 unfoldable pub within : ℕ → ℕ → Effect → Effect
 within base size (Read rd width extend pc at) =
     if is_inside base size at (size_of width) then Read rd width extend pc at else Trap LoadAccess
@@ -165,7 +165,7 @@ unfoldable pub console_by : Setting → State → Effect → List ℕ
 console_by g s Environment = console_served g s (call_at g s)
 console_by g s e = s.console
 
--- the rest of the state at the instruction after a call, with the call's answer in a0, which is x10
+-- the rest of the state at the instruction after a call, with the call's result in a0, which is x10
 abbrev pub answered : CpuState → ℕ → CpuState
 answered c v = record c { pc = after c.pc; regs = regs_with c.regs 10 v; count = c.count + 1 }
 

@@ -13,7 +13,7 @@ use Rattle.thy_isa.specs.declared.instr.Extend.{Extend}
 use Rattle.thy_isa.specs.declared.instr.Extend.TheVariants.{Sign, Zero}
 use Rattle.thy_isa.specs.Words.{opcode_of, rd_of, funct3_of, rs1_of, rs2_of, funct7_of, funct6_of, imm_i, imm_s, imm_b, imm_u, imm_j, shamt_of, shamt_w_of}
 
--- what a row asks of a word besides its opcode
+-- what a row asks of a word in addition to its opcode
 pub data Pattern : Type 0 where
   Any : Pattern
   F3 : (f3 : ℕ) → Pattern

@@ -30,7 +30,7 @@ rs2_of w = bits_of w 20 5
 abbrev pub funct7_of : ℕ → ℕ
 funct7_of w = bits_of w 25 7
 
--- bits 31:26, which tell the shifts by six bits apart
+-- bits 31:26, which distinguish the shifts by six bits
 abbrev pub funct6_of : ℕ → ℕ
 funct6_of w = bits_of w 26 6
 

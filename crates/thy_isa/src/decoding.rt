@@ -8,7 +8,7 @@ ghost use Rattle.thy_isa.specs.Table.{instr_of, rows_of};
 
 use crate::instr::{Alu, Cond, Extend, Instr, Reg, Width};
 
-/// The instruction that a word means; None exactly where it means none.
+/// The instruction that a word means; None exactly if it means none.
 pub fn decode(word: u32) -> Option<Instr>
     ensures { result ≡ instr_of word }
 {
@@ -40,7 +40,7 @@ pub fn decode(word: u32) -> Option<Instr>
 }
 
 /// Whether a word means an instruction. No word has two rows of the table, and some row has it exactly
-/// where `decode` has an instruction for it.
+/// if `decode` has an instruction for it.
 pub fn is_legal(word: u32) -> bool
     ensures decoded { result ≡ is_some (instr_of word) }
     ensures at_most_one { rows_of word ≤ 1 }
@@ -238,7 +238,7 @@ fn decode_op_imm(word: u32) -> Option<Instr>
     })
 }
 
-/// The shifts by an immediate of six bits, which leave bits 31 to 26 to tell them apart.
+/// The shifts by an immediate of six bits, which are distinguished by bits 31 to 26.
 fn decode_shift(word: u32) -> Option<Instr>
     requires opcode { opcode_of word ≡ 0b0010011 }
     requires shift { (funct3_of word ≡ 0b001) ⊎ (funct3_of word ≡ 0b101) }

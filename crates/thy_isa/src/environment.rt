@@ -20,7 +20,7 @@ const EXIT_GROUP: u64 = 94;
 
 const BRK: u64 = 214;
 
-// The answers of a call that is refused: the negative of an error's number, in two's complement.
+// The results of a call that is refused: the negative of an error's number, in two's complement.
 const BAD_DESCRIPTOR: u64 = u64::MAX - 8;
 
 const BAD_ADDRESS: u64 = u64::MAX - 13;

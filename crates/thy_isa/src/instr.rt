@@ -125,7 +125,7 @@ pub enum Instr {
         rs1: Reg,
         imm: u64,
     },
-    /// BEQ to BGEU: to the program counter plus the immediate where the condition holds.
+    /// BEQ to BGEU: to the program counter plus the immediate if the condition holds.
     Branch {
         cond: Cond,
         rs1: Reg,

@@ -7,8 +7,8 @@ pub fn blocks_make_the_step()
     ensures { BlocksMakeTheStep }
 {}
 
-/// A step leads from a state that can be stored to one; the console only grows, and stays within its room; and the cursor
-/// stays inside the input.
+/// A step from a state that can be stored reaches one that can be stored; the console only grows, and stays within its
+/// room; and the cursor stays inside the input.
 pub fn what_a_step_keeps()
     ensures storable { StepKeepsStorable }
     ensures console { ConsoleGrows }

@@ -1,9 +1,10 @@
 //! The instructions of RV64IM with FENCE.I: what each word means, what each instruction computes, and what one step
-//! does to the state of the plain machine. Callers rest on `decode`, `effect`, `call`, `moves` and `finish`, the parts
-//! of a step, all exact, and on `blocks_make_the_step`: done over blocks they are the step over bytes.
+//! does to the state of the plain machine. Callers rely on `decode`, `effect`, `call`, `moves` and `finish`, the parts
+//! of a step, which equal their specifications, and on `blocks_make_the_step`: done over blocks they are the step
+//! over bytes.
 //!
-//! Open specs/Step.antt first, then specs/Table.antt, and src/effects.rt. It stands on thy_base and thy_flat; every
-//! crate that names a processor or a state stands on it: thy_plain, thy_make, thy_hart, thy_record, thy_text and all
+//! Open specs/Step.antt first, then specs/Table.antt, and src/effects.rt. It depends on thy_base and thy_flat; every
+//! crate that names a processor or a state depends on it: thy_plain, thy_make, thy_hart, thy_record, thy_text and all
 //! from thy_control on.
 #![tactic(auto)]
 

@@ -15,7 +15,7 @@ pub enum Status {
     Trapped(u64),
 }
 
-/// Why an instruction traps. The variants stand in the order of their numbers, 0 to 7, which are the
+/// Why an instruction traps. The variants are in the order of their numbers, 0 to 7, which are the
 /// exception codes of the RISC-V privileged architecture. No load or store traps for being misaligned, so
 /// no instruction gives `LoadMisaligned` or `StoreMisaligned`; their numbers are kept.
 #[derive(Clone, Copy, Debug, PartialEq, Eq)]
@@ -65,7 +65,7 @@ pub struct CpuState {
     pub status: Status,
 }
 
-/// What an environment call is decided by besides the registers.
+/// What an environment call depends on in addition to the registers.
 #[derive(Clone, Copy, Debug, PartialEq, Eq)]
 pub struct CallState {
     /// How many bytes of the input were read.
@@ -90,7 +90,7 @@ pub struct CallState {
 /// counter.
 #[derive(Clone, Copy, Debug, PartialEq, Eq)]
 pub enum Effect {
-    /// Nothing but to go on.
+    /// Nothing but to continue at `pc`.
     Next {
         pc: u64,
     },
@@ -121,24 +121,24 @@ pub enum Effect {
     Trap(Cause),
 }
 
-/// What an environment call does. Every call but an exit goes on after it, with its answer in a0.
+/// What an environment call does. After every call but an exit the program continues, with the call's result in a0.
 #[derive(Clone, Copy, Debug, PartialEq, Eq)]
 pub enum Call {
-    /// Nothing but this answer.
+    /// Nothing but return this value.
     Answer(u64),
     /// The program ends with this value of 0 to 255; the program counter and the registers stay.
     Exit(u64),
-    /// The break becomes this address, which is the answer.
+    /// The break becomes this address, which is the result.
     Break(u64),
-    /// The next `len` bytes of the input go to the address `at`. The answer is `len`, 1 to 64.
+    /// The next `len` bytes of the input are copied to the address `at`. The result is `len`, 1 to 64.
     Take { at: u64, len: u64 },
-    /// The `len` bytes at the address `at` go to the end of the console. The answer is `len`, 1 to 64.
+    /// The `len` bytes at the address `at` are added at the end of the console. The result is `len`, 1 to 64.
     Give { at: u64, len: u64 },
 }
 
 /// What an instruction or an environment call moves: the bytes that it reads and those that it writes,
 /// as spans of the blocks of memory, in which the console follows program memory. A span without bytes
-/// stands for none. Every span has at most 64.
+/// means none. Every span has at most 64.
 #[derive(Clone, Copy, Debug, PartialEq, Eq)]
 pub struct Moves {
     pub from: Span,

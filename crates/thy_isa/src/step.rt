@@ -14,7 +14,7 @@ use crate::numbers::extended;
 use crate::state::{Call, CallState, Cause, CpuState, Effect, Status};
 use thy_base::is_inside;
 
-/// Why no word can be fetched at `pc`; None exactly where one can.
+/// Why no word can be fetched at `pc`; None exactly if one can.
 pub fn fetch_fault(base: u64, size: u64, pc: u64) -> Option<Cause>
     ensures { result ≡ fetch_fault base size pc }
 {
@@ -27,7 +27,7 @@ pub fn fetch_fault(base: u64, size: u64, pc: u64) -> Option<Cause>
     }
 }
 
-/// The effect, or the trap where it would read or write outside memory.
+/// The effect, or the trap if it would read or write outside memory.
 pub fn within(base: u64, size: u64, effect: Effect) -> Effect
     ensures { result ≡ within base size effect }
 {
@@ -49,7 +49,7 @@ pub fn cause_number(cause: Cause) -> u64
     cause as u64
 }
 
-/// The instruction after a call, with the call's answer in a0.
+/// The instruction after a call, with the call's result in a0.
 fn answer(cpu: &mut CpuState, value: u64)
     requires { cpu.old.count + 1 < 2 ^ 64 }
     ensures { cpu.new ≡ answered cpu.old value }
@@ -86,7 +86,7 @@ fn serve(cpu: &mut CpuState, calls: &CallState)
     }
 }
 
-/// Takes an effect that is no environment call, memory aside. `number` is what was read where the effect reads.
+/// Takes an effect that is not an environment call, memory aside. `number` is what was read if the effect reads.
 pub fn finish_alone(cpu: &mut CpuState, effect: &Effect, number: u64)
     requires count { cpu.old.count + 1 < 2 ^ 64 }
     requires alone { effect.now ≢ Environment }
@@ -114,8 +114,8 @@ pub fn finish_alone(cpu: &mut CpuState, effect: &Effect, number: u64)
     cpu.count += 1;
 }
 
-/// Takes an effect, memory aside. `number` is what was read where the effect reads, and `calls` what an
-/// environment call is decided by.
+/// Takes an effect, memory aside. `number` is what was read if the effect reads, and `calls` what an
+/// environment call depends on.
 pub fn finish(cpu: &mut CpuState, effect: &Effect, number: u64, calls: &CallState)
     requires count { cpu.old.count + 1 < 2 ^ 64 }
     requires calls { AreCallsOf cpu.old calls.now }

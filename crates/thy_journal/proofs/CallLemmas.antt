@@ -66,7 +66,7 @@ load_stays s n new (Err e) same failed framed = record {
 
 -- ---- the committed version
 
--- it is a load while the journal is applied, else what stands at home
+-- it is a load while the journal is applied, else the block at home
 pub committed_long : (e : Progress) (l : State) (n : Device) (b : ℕ) → b < length (committed_in e l n) → b < memory_blocks l.p
 committed_long e l n b inside = by_way (is_applying e.next) inside where
   by_way : (way : Bool) → b < length (if way then works l n else homes l n) → b < memory_blocks l.p

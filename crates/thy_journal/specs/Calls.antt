@@ -1,5 +1,5 @@
--- What each call makes of the journal and of the NVM, and what it answers: that of one call of each part that takes part in it, of
--- log, engine and boot.
+-- What each call makes of the journal and of the NVM, and what it returns: that of one call of each part that takes
+-- part in it, of log, engine and boot.
 use Rattle.std.specs.Prelude.{◌≡◌, ℕ, true, false, if◌then◌else◌, None, Result, IfOk, OnOk, OnErr}
 use Rattle.thy_base.specs.declared.block.Block.{Block}
 use Rattle.thy_base.specs.declared.config.Parameters.{Parameters}
@@ -48,7 +48,7 @@ pub record LoadsCommitted (b : ℕ) (s : Journal) (n : Device) (result : Result 
 
 -- ---- stores and drains
 
--- one write of the DRAM, into the buffer of the block's entry; the NVM is left alone, and no copy goes first
+-- one write of the DRAM, into the buffer of the block's entry; the NVM is left alone, and no copy comes first
 abbrev pub stored : ℕ → Block → Journal → Journal
 stored b block s = record s { log = after_store b block s.log; rested = false }
 
@@ -75,7 +75,7 @@ pub record TakesItem (s : Journal) (n : Device) (result : Result EngineStep NvmE
 
 -- ---- a step of the boot
 
--- what it answers is by how far the boot is then; behind a restart the engine begins to apply the journal
+-- the boot's stage afterwards determines the result; after a restart the engine begins to apply the journal
 pub record TakesBootStep (start : Start) (s : Journal) (n : Device) (result : Result BootStep NvmError) (t : Journal) (new : Device)
     : Type 0 where
   pub answer : IfOk result (λ step. step ≡ answered (answer_of filling_journal t.boot))

@@ -35,8 +35,8 @@ use thy_log::{Engine, Log};
 use thy_record::{EngineStep, Start};
 use thy_scheme::{BootStep, Scheme};
 
-/// The redo journal: its log holds what was stored since the last checkpoint, and its engine writes that into the NVM while the
-/// hart waits.
+/// The redo journal: its log holds what was stored since the last checkpoint, and its engine writes that into the NVM
+/// while the hart waits.
 #[derive(Drop)]
 pub struct Journal {
     log: Log,
@@ -59,7 +59,7 @@ impl Model for Journal {
     ghost invariant = { λ d. Fits d.engine d.log };
 }
 
-/// Whether a boot that is so far has found that there is no checkpoint.
+/// Whether a boot at this stage has found that there is no checkpoint.
 fn is_loading(stage: Stage) -> bool
     ensures { result ≡ loads_at stage }
 {
@@ -79,7 +79,7 @@ fn begin_to_apply(stage: Stage, engine: &mut Engine)
     }
 }
 
-/// What a step of the boot answers, as a scheme answers it.
+/// What a step of the boot returns, as a scheme returns it.
 fn scheme_step(step: Booted) -> BootStep
     ensures { result ≡ step_of step }
 {
@@ -91,7 +91,7 @@ fn scheme_step(step: Booted) -> BootStep
     }
 }
 
-/// So if the NVM may have failed.
+/// The same if the NVM may have failed.
 fn scheme_result(answer: Result<Booted, NvmError>) -> Result<BootStep, NvmError>
     ensures { result ≡ result_of answer }
 {
@@ -101,7 +101,7 @@ fn scheme_result(answer: Result<Booted, NvmError>) -> Result<BootStep, NvmError>
     }
 }
 
-// Each call has the trait's clauses, of this scheme. Those named `made` and `state` stand beside them: they say what the call makes
+// Each call has the trait's clauses, of this scheme. Beside them, those named `made` and `state` say what the call makes
 // of log, engine, boot and NVM, which is what the calls below do (specs/Calls.antt).
 impl Scheme for Journal {
     ghost use Rattle.thy_journal_scheme.proofs.LawfulLemmas.{lawful as laws_of_parts};

@@ -1,4 +1,4 @@
--- Where the parts of a checkpoint go, and that it is one once they were issued.
+-- The places of the parts of a checkpoint, and that it is one once they were issued.
 use Rattle.std.proofs.Common.{◌≡◌, ℕ, zero, suc, ◌+◌, ◌*◌, ◌%◌, ◌^◌, ◌<◌, ◌≤◌, true, List, length, get_or, Contains, Option, Some, None, refl, sym, ◌∙◌, ap, subst, arith}
 use Rattle.std.specs.List.{range_with_len}
 use Rattle.std.specs.Option.{option_or}
@@ -53,7 +53,7 @@ memory_place_of p s table x (k, l, is) =
     let inside : k < memory_blocks p = omega (arith, length-memory_places p s table) in
     (k, inside, sym (memory_place p s table k x inside) ∙ is)
 
--- the place of a block lies behind the slots, within the image
+-- the place of a block is after the slots, within the image
 place_by_behind : (p : Parameters) (s : ℕ) (table : List (Option ℕ)) (b : ℕ) (found : Option ℕ) → IsTable p table → s < 2 → b < memory_blocks p
     → entry_of table b ≡ found → (first_home p ≤ place_by p s b found) × (place_by p s b found < image_blocks p)
 place_by_behind p s table b None h l m e = (omega arith, omega arith)

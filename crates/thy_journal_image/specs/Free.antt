@@ -36,7 +36,7 @@ IsFree epoch table (SlotBlock s k) = s ≢ epoch % 2
 IsFree epoch table (JournalBlock s i) = s ≢ epoch % 2
 IsFree epoch table (HomeBlock b) = (i : ℕ) × Lists table i b
 
--- it is none of the blocks that tell what the image of that checkpoint means
+-- it is none of the blocks that determine what the image of that checkpoint means
 abbrev pub FreeIsNotLooked : Type 0
 FreeIsNotLooked =
     (p : Parameters) (ceiling : ℕ) (image : List Block) (epoch : ℕ) (table : List (Option ℕ)) (x : Target)

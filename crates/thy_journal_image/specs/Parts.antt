@@ -1,4 +1,4 @@
--- How a checkpoint of the journal is written: where its parts go, and that it is one once they were issued.
+-- How a checkpoint of the journal is written: the places of its parts, and that it is one once they were issued.
 use Rattle.std.specs.Prelude.{◌≡◌, ℕ, ◌+◌, ◌%◌, ◌^◌, ◌<◌, ◌≤◌, true, false, List, length, map, Option, None}
 use Rattle.std.specs.List.{range_with_len}
 use Rattle.thy_base.specs.declared.block.Block.{Block}
@@ -63,7 +63,7 @@ FaultlessIsTable =
 abbrev pub memory_places : Parameters → ℕ → List (Option ℕ) → List ℕ
 memory_places p s table = map (place_of p s table) (range_with_len 0 (memory_blocks p))
 
--- where its parts go, with this table
+-- the places of its parts, with this table
 abbrev pub parts_by : Parameters → CpuState → List (Option ℕ) → ℕ → Parts
 parts_by p cpu table epoch = record {
   slot_place = slot_place p (epoch % 2);
@@ -84,7 +84,7 @@ pub record IsToldBy (p : Parameters) (ceiling : ℕ) (image : List Block) (epoch
   pub table_is : table_in p (slot_in (journaled p ceiling) image) ≡ table
   pub whole : IsTable p table
 
--- the next image, with the commit block of this epoch, is the checkpoint, tells its table, and lacks no other write
+-- the next image, with the commit block of this epoch, is the checkpoint, has its table, and lacks no other write
 pub record IsIssuedCheckpoint (p : Parameters) (ceiling : ℕ) (n : Device) (cpu : CpuState) (table : List (Option ℕ)) (epoch : ℕ)
     (memory : List Block) : Type 0 where
   pub told : IsToldBy p ceiling (next_image n (commit_of epoch)) epoch table

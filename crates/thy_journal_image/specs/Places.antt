@@ -1,4 +1,4 @@
--- The places of an image of the journal: header, commit block, two slots, the homes of memory's blocks, and behind them a
+-- The places of an image of the journal: header, commit block, two slots, the homes of memory's blocks, and after them a
 -- journal for each slot. A journal has a block for each entry of the table.
 use Rattle.std.specs.Prelude.{ℕ, ◌+◌, ◌*◌, ◌/◌, List, Option, Some, None}
 use Rattle.thy_base.specs.declared.config.Parameters.{Parameters}
@@ -14,7 +14,7 @@ slot_blocks p = record_blocks p + p.btt / 8
 abbrev pub slot_place : Parameters → ℕ → ℕ
 slot_place p s = 2 + s * slot_blocks p
 
--- where the homes begin, and behind them the journal of slot s
+-- the first of the homes; after them comes the journal of slot s
 abbrev pub first_home : Parameters → ℕ
 first_home p = 2 + 2 * slot_blocks p
 
@@ -32,7 +32,7 @@ home_place p b = first_home p + b
 abbrev pub journal_place : Parameters → ℕ → ℕ → ℕ
 journal_place p s i = first_journal p s + i
 
--- where block b stands in the checkpoint of slot s, by the entry that lists it
+-- the place of block b in the checkpoint of slot s, by the entry that lists it
 abbrev pub place_by : Parameters → ℕ → ℕ → Option ℕ → ℕ
 place_by p s b None = home_place p b
 place_by p s b (Some i) = journal_place p s i

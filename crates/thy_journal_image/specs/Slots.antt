@@ -1,5 +1,5 @@
--- A slot of the journal: the processor's record, and behind it the table, whose entry i lists the block of memory that
--- stands in block i of the slot's journal.
+-- A slot of the journal: the processor's record, and after it the table, whose entry i lists the block of memory that
+-- block i of the slot's journal holds.
 use Rattle.std.specs.Prelude.{◌≡◌, ℕ, ◌+◌, ◌-◌, ◌*◌, ◌<◌, nat_lt, if◌then◌else◌, List, length, map, take, drop, Option}
 use Rattle.std.specs.Option.{option_or}
 use Rattle.thy_base.specs.declared.block.Block.{Block}

@@ -8,21 +8,21 @@ pub fn header_and_commit_read_back()
     ensures commit { CommitReadsBack }
 {}
 
-/// Processor and table read back from a slot as they were written, without a fault. The table of a slot without a fault lists
-/// blocks of memory, none twice.
+/// Processor and table read back from a slot as they were written, without a fault. The table of a slot without a
+/// fault lists blocks of memory, none twice.
 pub fn a_slot_reads_back()
     ensures slot { SlotReadsBack }
     ensures table { FaultlessIsTable }
 {}
 
-/// With the whole slot issued, and behind a header without a fault, the next image decodes to the checkpoint and names its
-/// table, and all that decides it but the commit block was issued.
+/// With the whole slot issued, and under a header without a fault, the next image decodes to the checkpoint and names its
+/// table, and all blocks that determine it were issued, except the commit block.
 pub fn a_checkpoint_is_issued()
     ensures { IssuedDecodes }
 {}
 
-/// The other slot, its journal, and the homes of blocks that the table lists do not decide what an image means. If it has no
-/// checkpoint, nothing but the commit block does.
+/// The other slot, its journal, and the homes of blocks that the table lists do not decide what an image means. If it
+/// has no checkpoint, nothing but the commit block does.
 pub fn free_is_not_looked_at()
     ensures free { FreeIsNotLooked }
     ensures nothing { NothingIsLooked }

@@ -1,9 +1,9 @@
-//! Images of the redo journal: where an image has what, what it means, and what of a checkpoint was written. A checkpoint
-//! has each block of memory at home or, if its table lists the block, in the journal of its slot. Callers rest on
+//! Images of the redo journal: the places of an image, what it means, and what of a checkpoint was written. A checkpoint
+//! has each block of memory at home or, if its table lists the block, in the journal of its slot. Callers rely on
 //! `a_checkpoint_is_issued`, `free_is_not_looked_at`, and the readers and writers of header and commit block.
 //!
-//! Open specs/Places.antt first, then specs/Slots.antt and specs/Layout.antt, and src/laws.rt. It stands on thy_base,
-//! thy_crash, thy_flat, thy_isa, thy_record, thy_view and thy_protocol; on it stand thy_log and the scheme above it.
+//! Open specs/Places.antt first, then specs/Slots.antt and specs/Layout.antt, and src/laws.rt. It depends on thy_base,
+//! thy_crash, thy_flat, thy_isa, thy_record, thy_view and thy_protocol; thy_log and the scheme above it depend on it.
 #![tactic(auto)]
 
 mod commit;

@@ -25,7 +25,7 @@ use Rattle.thy_journal_model.specs.Checkpoints.{AreHome, HasWrittenBefore, is_se
 use Rattle.thy_journal_model.proofs.WorkLemmas.{works_same, homes_same, home_over, home_settled, works-released}
 
 module _ (e : Progress) (s : State) (m : Device) (sound : IsSoundState s) (sized : IsSized s m) (same : s.p ≡ e.p) where
-  -- a write that is no home leaves homes and works
+  -- a write that is not a home's leaves homes and works
   abbrev Leaves : ℕ → Type 0
   Leaves at = (b : ℕ) → b < memory_blocks s.p → home_place s.p b ≢ at
 

@@ -23,7 +23,7 @@ pub failed_items_move : FailedItemsMove
 failed_items_move o e s m n c held kept way made failed framed =
     fails_next o e s m c held.state held.geometry held.fits.same_p kept n e.next refl held.progress.inside way made failed framed
 
--- what stands is told by what is next alone
+-- what has to be there is determined by what is next alone
 stood : (q r : Next) (e : Progress) (s : State) (n : Device) → HasWrittenBefore q e s n → HasWrittenBefore q (record e { next = r }) s n
 stood Nothing r e s n h = tt
 stood (Journal from) r e s n h = record { each = h.each }

@@ -1,4 +1,4 @@
--- What stands on the NVM of a checkpoint, from item to item.
+-- What the NVM has of a checkpoint, from item to item.
 use Rattle.std.proofs.Common.{◌≡◌, ◌≢◌, ℕ, zero, suc, ◌+◌, ◌%◌, ◌<◌, ◌≤◌, nat_lt, Bool, true, false, if◌then◌else◌, List, length, map, Option, Some, None, refl, sym, ◌∙◌, ap, subst, inl, inr, arith}
 use Rattle.std.specs.List.{range_with_len}
 use Rattle.std.proofs.lemmas.Bool.{cases_lt, ltb-false}
@@ -32,7 +32,7 @@ use Rattle.thy_log.proofs.TableLemmas.{length-table_of, IsTable-table_of, live_l
 use Rattle.thy_journal_model.specs.Checkpoints.{AreJournaled, AreHome, HasWrittenSlot, HasWrittenBefore}
 use Rattle.thy_journal_model.proofs.WorkLemmas.{works_same, homes_same, home_over, home_settled}
 
--- ---- memory, where the new table has it
+-- ---- memory, at its places by the new table
 
 -- every live entry has its buffer in the journal
 abbrev AllJournaled : Progress → State → Device → Type 0
@@ -118,7 +118,7 @@ module _ (e : Progress) (s : State) (m : Device) (sound : IsSoundState s) (sized
         let all : k + 1 ≡ slot_blocks e.p = omega (arith, l, ltb-false (k + 1) (slot_blocks e.p) q) in
         subst (λ (j : ℕ). HasWrittenSlot e s (after (action_of e (SlotItem k) s) m) j) all h
 
-  -- a block of the slot is no home, so memory loads as before
+  -- a block of the slot is not a home, so memory loads as before
   slot_low : (k : ℕ) → k < slot_blocks e.p → (b : ℕ) → home_place s.p b ≢ slot_place e.p (e.epoch % 2) + k
   slot_low k l b = λ q.
       let before = (slot_behind e.p (e.epoch % 2) k (half e.epoch) l).1 in
@@ -154,7 +154,7 @@ module _ (e : Progress) (s : State) (m : Device) (sound : IsSoundState s) (sized
 
   -- ---- barriers and the commit block
 
-  -- what is said of the slot stays where every read gives the same
+  -- what is said of the slot stays if every read gives the same
   pub slot_over : (r : ℕ) (n : Device) → length n.image ≡ length m.image → ((x : ℕ) → 2 ≤ x → x < length m.image → newest n x ≡ newest m x)
       → HasWrittenSlot e s m r → HasWrittenSlot e s n r
   slot_over r n as_long reads h =

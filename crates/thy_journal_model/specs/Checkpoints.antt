@@ -1,4 +1,4 @@
--- A run's checkpoints on the NVM, by how far the engine is.
+-- A run's checkpoints on the NVM, by the stage of the engine.
 use Rattle.std.specs.Prelude.{◌≡◌, ◌≢◌, ℕ, ◌+◌, ◌%◌, ◌<◌, Bool, true, false, List, Option, Some, None}
 use Rattle.thy_base.specs.declared.block.Block.{Block}
 use Rattle.thy_base.specs.declared.mark.Mark.{Mark}
@@ -29,7 +29,7 @@ pub record Checkpoints : Type 0 where
   pub next : List Block
   pub sealed : Option Mark
 
--- a checkpoint is being made; the first barrier came: all but its commit block is written; and that was written
+-- a checkpoint is being made; the first barrier is done: all but its commit block is written; and that was written
 abbrev pub is_sealing : Next → Bool
 is_sealing Nothing = false
 is_sealing (Home from) = false
@@ -44,7 +44,7 @@ abbrev pub is_confirming : Next → Bool
 is_confirming Confirm = true
 is_confirming next = false
 
--- until the first barrier one image is kept, behind it the next one is ready, and with its commit block in doubt
+-- until the first barrier one image is kept, after it the next one is ready, and with its commit block in doubt
 abbrev pub saved_at : Next → Checkpoints → Saved
 saved_at Commit c = Ready c.before c.next
 saved_at Confirm c = InDoubt c.before c.next
@@ -53,14 +53,14 @@ saved_at next c = Kept c.before
 abbrev pub standing_at : Progress → Device → Checkpoints → Standing
 standing_at e n c = standing n (saved_at e.next c) c.kept c.sealed
 
--- after an item: the first barrier makes the image of all that was written, with its commit block; that behind it keeps it
+-- after an item: the first barrier makes the image of all that was written, with its commit block; the next one keeps it
 abbrev pub checkpoints_after : Item → Progress → Device → Checkpoints → Checkpoints
 checkpoints_after SettleItem e m c = record c { next = next_image m (commit_of e.epoch) }
 checkpoints_after ConfirmItem e m c = record c { before = c.next; kept = c.sealed; sealed = None }
 checkpoints_after i e m c = c
 
--- The image that is kept has the checkpoint of an epoch with a table. While the next one is made it is in the other slot; while
--- this one is applied, its table is the log's.
+-- The image that is kept has the checkpoint of an epoch with a table. While the next one is made it is in the other
+-- slot; while this one is applied, its table is the log's.
 pub record IsKeptBy (o : Origin) (e : Progress) (s : State) (before : List Block) : Type 0 where
   pub epoch : ℕ
   pub table : List (Option ℕ)
@@ -82,14 +82,15 @@ pub record IsMadeFor (o : Origin) (e : Progress) (s : State) (n : Device) (c : C
 
 -- ---- what is written before an item
 
--- the live entries below one have their buffers in the journal of the epoch; and they have them at the homes of their blocks
+-- the live entries below one have their buffers in the journal of the epoch; and they have them at the homes of their
+-- blocks
 pub record AreJournaled (e : Progress) (s : State) (n : Device) (from : ℕ) : Type 0 where
   pub each : (i b : ℕ) → i < from → Lists (table_of s) i b → newest n (journal_place e.p (e.epoch % 2) i) ≡ buffer_of s i
 
 pub record AreHome (e : Progress) (s : State) (n : Device) (from : ℕ) : Type 0 where
   pub each : (i b : ℕ) → i < from → Lists (table_of s) i b → newest n (home_place e.p b) ≡ buffer_of s i
 
--- the first k blocks of the slot are read, and memory where the table has it: every block as it was stored last
+-- the first k blocks of the slot are read, and memory at its places by the table: every block as it was stored last
 abbrev pub HasWrittenSlot : Progress → State → Device → ℕ → Type 0
 HasWrittenSlot e s n k = IsIssuing e.p n e.cpu (table_of s) e.epoch (works s n) k
 

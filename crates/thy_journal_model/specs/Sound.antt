@@ -1,4 +1,4 @@
--- Behind the boot: log, engine and NVM have the checkpoints of a run.
+-- After the boot: log, engine and NVM have the checkpoints of a run.
 use Rattle.std.specs.Prelude.{◌≡◌, true, false, is_some, length, Some, None}
 use Rattle.thy_base.specs.declared.mark.Mark.{Mark}
 use Rattle.thy_base.specs.Device.{Device, newest}
@@ -30,7 +30,7 @@ pub record HasState (o : Origin) (m : Mark) (e : Progress) (s : State) (n : Devi
   pub cpu : CpuState
   pub state : state_from o.geometry cpu (committed_in e s n) ≡ at o m.count
 
--- the checkpoints that stand on the NVM are those of these marks
+-- the checkpoints on the NVM are those of these marks
 pub record HasCheckpoints (o : Origin) (k : Marks) (e : Progress) (s : State) (n : Device) (c : Checkpoints) : Type 0 where
   pub kept : c.kept ≡ Some k.done
   pub sealed : c.sealed ≡ k.sealed

@@ -28,7 +28,7 @@ taken s = record s { log = state_next s.engine s.log; engine = engine_next s.eng
 abbrev pub device_taken : Journal → Device → Device
 device_taken s n = after (action_next s.engine s.log) n
 
--- the answer of that item
+-- what the engine returns for that item
 abbrev pub step_of : Journal → EngineStep
 step_of s = answer s.engine.p s.engine.epoch (item_of s.engine s.log)
 
@@ -44,7 +44,7 @@ pub record ReadsSame (m n : Device) : Type 0 where
   pub reads : (x : ℕ) → x < length m.image → newest n x ≡ newest m x
   pub no_more : HoldsNoMore m n
 
--- so it is after a drain of the NVM, and what is said of journal and NVM stays
+-- this holds after a drain of the NVM, and what holds of journal and NVM stays
 abbrev pub SameReadsKeep : Type 0
 SameReadsKeep = (o : Origin) (k : Marks) (s : Journal) (m n : Device) → IsSound o k s m → ReadsSame m n → IsSound o k s n
 
@@ -53,7 +53,7 @@ abbrev pub DramDrainKeeps : Type 0
 DramDrainKeeps =
     (o : Origin) (k : Marks) (s : Journal) (n : Device) → IsSound o k s n → IsSound o k (record s { log = after_drain s.log }) n
 
--- every item leads to the checkpoints of the marks behind it
+-- every item reaches the checkpoints of the marks after it
 abbrev pub ItemsKeepSound : Type 0
 ItemsKeepSound =
     (o : Origin) (k : Marks) (s : Journal) (n : Device)

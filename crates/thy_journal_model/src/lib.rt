@@ -1,8 +1,8 @@
-//! The redo journal as its contracts see it: what holds of it behind the boot, and what the items of its engine make of a run's
-//! checkpoints.
+//! The redo journal as its contracts see it: what holds of it after the boot, and what the items of its engine make
+//! of a run's checkpoints.
 //!
-//! Open specs/Checkpoints.antt first, then specs/Sound.antt, and src/laws.rt. It stands on thy_log, thy_scheme and what those
-//! stand on.
+//! Open specs/Checkpoints.antt first, then specs/Sound.antt, and src/laws.rt. It depends on thy_log, thy_scheme and their
+//! dependencies.
 #![tactic(auto)]
 
 mod laws;

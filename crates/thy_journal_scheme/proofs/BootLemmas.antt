@@ -270,7 +270,7 @@ kept-some o g n None before tells committed =
     let both : false ≡ true = sym committed ∙ ap (λ (x : List Block). is_zero (block_at x 1)) (sym before) ∙ zero in
     cc
 
--- behind the commit block it is not zero
+-- after the commit block it is not zero
 abbrev HasCommitAt : ReadStage → Device → Type 0
 HasCommitAt ReadsHeader n = is_zero (block_at n.image 1) ≡ false
 HasCommitAt (ReadsSlot next) n = is_zero (block_at n.image 1) ≡ false

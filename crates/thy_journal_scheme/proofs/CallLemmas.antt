@@ -57,7 +57,7 @@ asks_slot : (lap : ℕ) (first : Bool) (at : ℕ) (block : Block) → at ≢ 1 �
 asks_slot lap true at block other = other
 asks_slot lap false at block other = other
 
--- it asks what its answer says
+-- it asks for the action that its result names
 item_asks : (lap : ℕ) (e : Progress) (s : State) (i : Item) → Asks (engine_did lap (answer e.p e.epoch i)) (action_of e i s)
 item_asks lap e s NoItem = tt
 item_asks lap e s (JournalItem i) = λ q. omega (arith, q)
@@ -160,7 +160,7 @@ module _ (o : Origin) (k : Marks) (s : Value) (n : Device) (stands : Stands jour
     safe = failed_items_are_safe o k s n new sound on failed framed;
   }
 
-  -- ---- by the engine's answer
+  -- ---- by the engine's result
 
   abbrev With : State → Progress → Value
   With t f = record s { log = t; engine = f }

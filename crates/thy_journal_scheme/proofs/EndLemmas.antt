@@ -1,4 +1,4 @@
--- Where a boot ends: the checkpoint that it found or made is the committed one.
+-- The end of a boot: the checkpoint that it found or made is the committed one.
 use Rattle.std.proofs.Common.{◌≡◌, ◌≢◌, ℕ, suc, ◌+◌, ◌-◌, ◌*◌, ◌%◌, ◌^◌, ◌<◌, ◌≤◌, Bool, true, false, if◌then◌else◌, is_none, List, [], ◌∷◌, length, map, get_or, slice_index_or, Option, Some, None, refl, sym, ◌∙◌, ap, subst, arith}
 use Rattle.std.specs.List.{range_with_len, count_by, sum_by}
 use Rattle.std.specs.Option.{option_map}
@@ -61,7 +61,7 @@ use Rattle.thy_journal_model.specs.Journal.{Journal as Value, committed_in}
 use Rattle.thy_journal_model.specs.Sound.{IsHeld, IsSound}
 use Rattle.thy_journal_model.proofs.SafeLemmas.{idle_next, committed_idle}
 
--- what stands of a scheme in which nothing was sealed, over a device of its size
+-- what holds of a scheme in which nothing was sealed, over a device of its size
 abbrev held_by : (o : Origin) (e : Progress) (l : State) (n : Device) → IsSoundState l → l.p ≡ o.geometry → e.p ≡ o.geometry
     → IsSoundProgress e → l.dram.room ≡ o.geometry.dramq → length n.image ≡ image_blocks o.geometry → IsHeld o e l n
 held_by o e l n state log engine progress room sized = record {
@@ -162,7 +162,7 @@ module _ (o : Origin) (g : BootImages) (n : Device) (b : Booting) (s : Value) (l
   nothing : en.next ≡ Nothing
   nothing = idle_next en.next idle
 
-  -- nothing is queued, so the image that stands is that of the start
+  -- nothing is queued, so the image is that of the start
   copy : IsCopy (looked_by (layout_of o)) g.next n.image
   copy = left_of_saved (looked_by (layout_of o)) n (Kept g.next) n.image keeps.saved (Crash-image n)
 

@@ -95,7 +95,7 @@ pub of-failed : {T : Type 0} (r : Result T NvmError) (s t : Value) → OnErr r (
 of-failed (Ok x) s t same = tt
 of-failed (Err e) s t same = of-same s t same
 
--- ---- behind the boot
+-- ---- after the boot
 
 -- the hart runs only while nothing is under way
 idle_of : (way : Bool) → (false || not way) ≡ true → way ≡ false

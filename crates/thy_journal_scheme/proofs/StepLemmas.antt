@@ -77,7 +77,7 @@ use Rattle.thy_journal_scheme.proofs.StayLemmas.{of-same}
 no-false : false ≡ true → ⊥
 no-false e = cc
 
--- what a step answers is what a cycle did
+-- what a step returns is what a cycle did
 did-answered : (a : BootStep) → boot_did (step_of a) ≡ did_of a
 did-answered Reading = refl
 did-answered IsLoading = refl
@@ -252,7 +252,7 @@ module _ (o : Origin) (s : Value) (n : Device) (booting : IsBooting journal_sche
   abbrev v : View
   v = seen_at o g.kept b.stage
 
-  -- ---- it goes on
+  -- ---- it continues
 
   goes-on : (q : Stage) → d.stage ≡ q → IsGoing q → BootsTo v (seen_at o g.kept q) → Boots o t new × BootsTo (view_at o b.stage n) (view_at o d.stage new)
   goes-on q is going to =
@@ -326,7 +326,7 @@ module _ (o : Origin) (s : Value) (n : Device) (booting : IsBooting journal_sche
         booted = subst (λ (x : Mark). IsBooted journal_scheme o x cpu t new) is_mark over;
       }
 
-  -- ---- by the answer
+  -- ---- by the result
 
   answers-at : (q : Stage) → d.stage ≡ q → CoreStep o v (did_of (answer_at filling_journal q d)) (seen_at o g.kept q)
       → Answers journal_scheme o (step_of (answer_at filling_journal q d)) s n t new
@@ -394,7 +394,7 @@ module _ (o : Origin) (s : Value) (n : Device) (booting : IsBooting journal_sche
             found-reads o boots.images.kept m s.boot s.log n new s.boot.stage (sym (ap (λ (x : View). x.done) (view-is o s n boots)) ∙ found) fails;
       }
 
--- ---- by the boot's answer
+-- ---- by the boot's result
 
 module _ (o : Origin) (s : Value) (n : Device) (booting : IsBooting journal_scheme o s n) (new : Device) (d : Booting) (e : State)
     (boot : IsBoot filling_journal d) (state : IsSoundState e) where

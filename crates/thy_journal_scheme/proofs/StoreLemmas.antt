@@ -33,7 +33,7 @@ use Rattle.thy_journal_scheme.specs.Scheme.{journal_scheme}
 
 -- ---- the table in which a block is listed
 
--- an entry lists the block, and every other block is where it was
+-- an entry lists the block, and every other block is at the place at which it was
 record IsListedAt (s : State) (b i : ℕ) (u : Listing Listed) : Type 0 where
   here : place_of block_key b u ≡ Some i
   others : (c : ℕ) → c ≢ b → place_of block_key c u ≡ place_of block_key c s.table

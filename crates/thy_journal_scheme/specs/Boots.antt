@@ -39,8 +39,8 @@ pub record IsUnused (o : Origin) (s : Journal) : Type 0 where
   pub room : s.log.dram.room ≡ o.geometry.dramq
   pub lean : s.lean ≡ false
 
--- a boot of a run that is not over, of a scheme in which nothing was sealed or stored; before it has read, nothing is queued in
--- the DRAM
+-- a boot of a run that is not over, of a scheme in which nothing was sealed or stored; before it has read, nothing is
+-- queued in the DRAM
 pub record Boots (o : Origin) (s : Journal) (n : Device) : Type 0 where
   pub origin : IsOrigin o
   pub images : BootImages
@@ -75,7 +75,7 @@ engine_at stage e = e
 abbrev pub booted : Booting → State → Journal → Journal
 booted boot log s = record s { log = log; engine = engine_at boot.stage s.engine; boot = boot }
 
--- what a step of the boot answers, as a scheme answers it; and so if the NVM may have failed
+-- what a step of the boot returns, as a scheme returns it; the same if the NVM may have failed
 abbrev pub step_of : BootStep → SchemeStep
 step_of Reading = GoesOn
 step_of IsLoading = GoesOn

@@ -49,7 +49,7 @@ StaysKeep =
     → Stands journal_scheme o k s n → is_free_to_run journal_scheme s ≡ true → StaysJournal s n t new
     → StaysSound journal_scheme o k s t new
 
--- what holds behind the boot
+-- what holds after the boot
 abbrev pub RunIsSound : Type 0
 RunIsSound = (o : Origin) (k : Marks) (s : Journal) (n : Device) → Stands journal_scheme o k s n → RunHolds journal_scheme o k s n
 
@@ -93,7 +93,7 @@ DrainsKeep =
     → Stands journal_scheme o k s n → 0 < journal_scheme.queued s
     → Drains journal_scheme o k s n (record s { log = after_drain s.log })
 
--- a boot with a start that can be recorded, which a step made so: it goes on, or it is over and the checkpoint is the committed one
+-- a boot with a start that can be recorded, after a step: it is not over, or the checkpoint is the committed one
 abbrev pub StepsBoot : Type 0
 StepsBoot =
     (o : Origin) (s : Journal) (n : Device) (new : Device) (d : Booting) (e : State)
@@ -122,8 +122,9 @@ StoresKeep =
     → IsSoundState s.log → b < length (journal_scheme.holding s n).blocks → 0 < (journal_scheme.holding s n).free
     → Stores journal_scheme Done b block s n (stored b block s) n × IsOneAccess journal_scheme s n (stored b block s) n
 
--- a boot takes an action for each of memory's blocks, two for each of the slot's, one for each entry of the table, and eight more, at
--- the most; and so a checkpoint two for each entry, one for each of the slot's blocks, and four more
+-- a boot takes an action for each of memory's blocks, two for each of the slot's, one for each entry of the table,
+-- and eight more, at the most; and so a checkpoint two for each entry, one for each of the slot's blocks, and four
+-- more
 abbrev pub BootsAreShort : Type 0
 BootsAreShort =
     (p : Parameters)

@@ -2,8 +2,8 @@
 ghost use Rattle.thy_journal_scheme.specs.Laws.{BootIsSound, BootsAreShort, DrainsKeep, HeldIsUp, HeldIsWork, ItemsAreSteps, JournalIsLawful, PowerFinds, PowerIsNew};
 ghost use Rattle.thy_journal_scheme.specs.Laws.{RunIsSound, SealsKeep, StaysKeep, StaysOver, StepsBoot, StoresKeep, ZerosAreNothing};
 
-/// Blocks are held and stored only while the NVM is up, and what loads and stores keep they keep over any number of calls. A block
-/// that is held is that of a load; a store changes that block alone, by one write of the DRAM.
+/// Blocks are held and stored only while the NVM is up, and what loads and stores keep they keep over any number of
+/// calls. A block that is held is that of a load; a store changes that block alone, by one write of the DRAM.
 pub fn what_is_held_stays()
     ensures up { HeldIsUp }
     ensures over { StaysOver }
@@ -11,9 +11,10 @@ pub fn what_is_held_stays()
     ensures stores { StoresKeep }
 {}
 
-/// Behind the boot, whatever a cut leaves is the committed checkpoint or, once its commit block was written, the sealed one. A
-/// checkpoint is under way while an epoch is sealed or its journal is applied, never both; every number is bounded; and a write of
-/// the NVM that lands changes nothing. While nothing is under way, loads and stores keep the checkpoints.
+/// After the boot, whatever a cut leaves is the committed checkpoint or, once its commit block was written, the
+/// sealed one. A checkpoint is under way while an epoch is sealed or its journal is applied, never both; every number
+/// is bounded; and a write of the NVM that lands changes nothing. While nothing is under way, loads and stores keep
+/// the checkpoints.
 pub fn a_run_is_sound()
     ensures run { RunIsSound }
     ensures stays { StaysKeep }
@@ -26,8 +27,8 @@ pub fn calls_keep_the_run()
     ensures drains { DrainsKeep }
 {}
 
-/// A new journal boots what the image means; whatever a cut leaves meanwhile is what is seen; and where a step ends the boot, the
-/// checkpoint that was found or made is the committed one. Boots and checkpoints are short.
+/// A new journal boots what the image means; whatever a cut leaves meanwhile is what is seen; and if a step ends the
+/// boot, the checkpoint that was found or made is the committed one. Boots and checkpoints are short.
 pub fn a_boot_is_sound()
     ensures power { PowerIsNew }
     ensures zeros { ZerosAreNothing }

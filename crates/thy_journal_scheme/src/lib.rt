@@ -1,7 +1,7 @@
 //! The redo journal as a scheme of checkpoints: what is seen of it, and what holds of that.
 //!
-//! Open specs/Scheme.antt first, then specs/Boots.antt, and src/laws.rt. It stands on thy_journal_model, thy_refill and what those
-//! stand on.
+//! Open specs/Scheme.antt first, then specs/Boots.antt, and src/laws.rt. It depends on thy_journal_model, thy_refill
+//! and their dependencies.
 #![tactic(auto)]
 
 mod laws;

@@ -24,7 +24,7 @@ few p (Home from) = omega arith
 pub cycles_are_few : CyclesAreFew
 cycles_are_few e = few e.p e.next
 
--- the live entry that is found is at the place where it was looked for, or behind it, within the table
+-- the live entry that is found is at the place from which it was looked for, or after it, within the table
 pub live_at : (s : State) (from i : ℕ) → IsSoundState s → next_live from s ≡ Some i → (from ≤ i) × (i < s.p.btt)
 live_at s from i h found =
     let first = first_from-first (passes is_live) None s.table.entries from i found in

@@ -99,7 +99,7 @@ passes_of (Some e) b h = refl
 pub lists_live : (s : State) (i b : ℕ) → Lists (table_of s) i b → passes is_live (entry_at s.table i) ≡ true
 lists_live s i b l = passes_of (entry_at s.table i) b (sym (listed_at-table_of s i) ∙ l.is)
 
--- where no entry from a place on is live, every block is listed below it
+-- if no entry from a place on is live, every block is listed below it
 pub listed_below : (s : State) (from i b : ℕ) → next_live from s ≡ None → Lists (table_of s) i b → i < from
 listed_below s from i b found l = elim (cases_lt i from) as (λ _. i < from) [
   | inl low ↦ low
@@ -111,7 +111,7 @@ listed_below s from i b found l = elim (cases_lt i from) as (λ _. i < from) [
       cc
 ]
 
--- and where the next one is at a place, those below it are listed below where it was looked for
+-- and if the next one is at a place, those below it are listed below the place from which it was looked for
 pub listed_before : (s : State) (from i j b : ℕ) → next_live from s ≡ Some i → Lists (table_of s) j b → j < i → j < from
 listed_before s from i j b found l less = elim (cases_lt j from) as (λ _. j < from) [
   | inl low ↦ low

@@ -8,8 +8,8 @@ use Rattle.thy_log.specs.Items.{is_under_way}
 use Rattle.thy_log.specs.Progress.{Progress, IsSoundProgress, Fits, engine_next}
 use Rattle.thy_log.specs.State.{State, IsSoundState}
 
--- a write for each entry that may still be live, the blocks of the slot, three more up to the commit, and as many as the
--- table has entries, with a barrier, behind it
+-- a write for each entry that may still be live, the blocks of the slot, three more up to the commit, and after it as many
+-- as the table has entries, with a barrier
 abbrev pub left_after : Parameters → Next → ℕ
 left_after p Nothing = 0
 left_after p (Journal from) = p.btt - from + (slot_blocks p + (4 + p.btt))

@@ -27,11 +27,11 @@ pub data Item : Type 0 where
   JournalItem : (i : ℕ) → Item
   -- the write of a block of the slot
   SlotItem : (k : ℕ) → Item
-  -- the barrier behind all of these, the write of the commit block, and the barrier behind that
+  -- the barrier after all of these, the write of the commit block, and the barrier after that
   SettleItem : Item
   CommitItem : Item
   ConfirmItem : Item
-  -- the write of a live entry's buffer to the home of its block, and the barrier behind these, which frees all entries
+  -- the write of a live entry's buffer to the home of its block, and the barrier after these, which frees all entries
   HomeItem : (i : ℕ) → Item
   ReleaseItem : Item
 
@@ -72,7 +72,7 @@ next_after p ConfirmItem = Home 0
 next_after p (HomeItem i) = Home (i + 1)
 next_after p ReleaseItem = Nothing
 
--- what the engine answers for it; a slot begins with the processor's record
+-- what the engine returns for it; a slot begins with the processor's record
 abbrev pub answer : Parameters → ℕ → Item → EngineStep
 answer p epoch NoItem = Idle
 answer p epoch (JournalItem i) = Copied

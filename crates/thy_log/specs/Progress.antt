@@ -31,7 +31,7 @@ pub record IsSoundProgress (e : Progress) : Type 0 where
   pub regs : length e.cpu.regs ≡ 32
   pub inside : (k : ℕ) → e.next ≡ Slot k → k < slot_blocks e.p
 
--- a checkpoint begins with the lowest live entry; and behind a restart its journal is applied from the lowest on
+-- a checkpoint begins with the lowest live entry; and after a restart its journal is applied from the lowest on
 abbrev pub begun : CpuState → ℕ → Progress → Progress
 begun cpu epoch e = record e { next = Journal 0; cpu = cpu; epoch = epoch }
 
@@ -70,7 +70,7 @@ abbrev pub state_after : Item → State → State
 state_after ReleaseItem s = released s
 state_after i s = s
 
--- an item was taken: what is answered, what comes after it, and what it makes of log and NVM
+-- an item was taken: what is returned, what comes after it, and what it makes of log and NVM
 pub record IsTaken (i : Item) (e : Progress) (s : State) (m : Device) (d : Done) (t : State) (n : Device) : Type 0 where
   pub step : d.step ≡ answer e.p e.epoch i
   pub next : d.next ≡ next_after e.p i

@@ -1,5 +1,5 @@
--- The log: a table of blocks of memory, and for each entry of it a buffer in the DRAM, which holds the block as it was stored
--- last. Every other block is at home in the NVM.
+-- The log: a table of blocks of memory, and for each entry of it a buffer in the DRAM, which holds the block as it
+-- was stored last. Every other block is at home in the NVM.
 use Rattle.std.specs.Prelude.{◌≡◌, ℕ, length, List, map, Option, Some, None}
 use Rattle.std.specs.Option.{option_map}
 use Rattle.thy_base.specs.declared.block.Block.{Block}
@@ -41,7 +41,7 @@ table_of s = map (option_map block_key) s.table.entries
 abbrev pub entry_for : State → ℕ → Option ℕ
 entry_for s b = place_of block_key b s.table
 
--- what a read of a block's home gives, and what stands in the buffer of an entry
+-- what a read of a block's home gives, and what the buffer of an entry holds
 abbrev pub home_of : State → Device → ℕ → Block
 home_of s n b = newest n (home_place s.p b)
 

@@ -26,11 +26,11 @@ listing_for b s = record s { table = with_listing (entry_for s b) b s.table }
 abbrev pub put_into : ℕ → Block → State → State
 put_into i block s = record s { dram = written s.dram i block }
 
--- the block stands in that entry's buffer
+-- that entry's buffer holds the block
 unfoldable pub after_store : ℕ → Block → State → State
 after_store b block s = put_into (store_entry b s) block (listing_for b s)
 
--- in the boot: an entry lists a block; and its buffer has what stands in the journal of a slot
+-- in the boot: an entry lists a block; and its buffer gets the block of a slot's journal
 abbrev pub with_listing_at : ℕ → ℕ → State → State
 with_listing_at i b s = record s { table = with_entry i (Some (listing_of b)) s.table }
 

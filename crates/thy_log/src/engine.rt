@@ -37,7 +37,7 @@ struct Done {
     next: Next,
 }
 
-/// What the engine answers for the write of block `k` of a slot.
+/// What the engine returns for the write of block `k` of a slot.
 fn slot_step(geometry: &Geometry, k: u64) -> EngineStep
     ensures { result ≡ (if nat_lt k (record_blocks geometry.now) then IsStateBlock else IsTableBlock) }
 {
@@ -133,8 +133,8 @@ impl Engine {
         }
     }
 
-    /// Takes one action: nothing if there is nothing to do. Looking for a live entry costs no cycle. If the NVM failed, engine
-    /// and log are as they were, and only the place of a write that failed may hold more.
+    /// Takes one action: nothing if there is nothing to do. Looking for a live entry costs no cycle. If the NVM
+    /// failed, engine and log are as they were, and only the place of a write that failed may hold more.
     pub fn step<N: Nvm>(&mut self, log: &mut Log, nvm: &mut N) -> Result<EngineStep, NvmError>
         requires fits { Fits self.old log.old }
         requires sized { IsSized log.old (N.device nvm.old) }
@@ -239,7 +239,7 @@ impl Engine {
         }
     }
 
-    /// The barrier behind all that comes before the commit block.
+    /// The barrier after all writes that come before the commit block's.
     fn settle<N: Nvm>(&self, nvm: &mut N) -> Result<Done, NvmError>
         requires up { (N.device nvm.old).down ≡ false }
         ensures answer { IfOk result (λ done. done.step ≡ answer self.now.p self.now.epoch SettleItem) }
@@ -274,7 +274,7 @@ impl Engine {
         })
     }
 
-    /// The barrier behind the commit block.
+    /// The barrier after the commit block.
     fn confirm<N: Nvm>(&self, nvm: &mut N) -> Result<Done, NvmError>
         requires up { (N.device nvm.old).down ≡ false }
         ensures answer { IfOk result (λ done. done.step ≡ answer self.now.p self.now.epoch ConfirmItem) }
@@ -321,7 +321,7 @@ impl Engine {
         })
     }
 
-    /// The barrier behind the homes, with which all entries are freed.
+    /// The barrier after the homes, with which all entries are freed.
     fn release<N: Nvm>(&self, log: &mut Log, nvm: &mut N) -> Result<Done, NvmError>
         requires up { (N.device nvm.old).down ≡ false }
         ensures { Ends ReleaseItem self.now log.old (N.device nvm.old) result log.new (N.device nvm.new) }

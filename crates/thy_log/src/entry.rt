@@ -4,7 +4,7 @@ ghost use Rattle.thy_log.specs.Keys.{listing_of};
 
 use thy_table::{Keyed, Rule, Test};
 
-/// A live entry of the table: it lists a block of memory, which stands in the entry's buffer.
+/// A live entry of the table: it lists a block of memory, which the entry's buffer holds.
 #[derive(Clone, Copy, Debug, PartialEq, Eq)]
 pub struct Listed {
     /// The block's number.

@@ -18,8 +18,8 @@ use thy_journal_image::{home as home_number, journal as journal_number};
 use thy_record::table_block;
 use thy_table::Table;
 
-/// Blocks of memory as they were stored last: those that the table lists in the buffers of their entries, all others at home in
-/// the NVM. Only `new` takes memory.
+/// Blocks of memory as they were stored last: those that the table lists in the buffers of their entries, all others
+/// at home in the NVM. Only `new` allocates.
 #[derive(Drop)]
 pub struct Log {
     geometry: Geometry,
@@ -96,7 +96,7 @@ impl Log {
         self.table.free()
     }
 
-    /// Block `b` as it was stored last. It fails only if that stands in the NVM.
+    /// Block `b` as it was stored last. It fails only if that block is in the NVM.
     pub fn load<N: Nvm>(&self, b: u64, nvm: &mut N) -> Result<Block, NvmError>
         requires block { b < memory_blocks self.now.p }
         requires sized { IsSized self.now (N.device nvm.old) }
@@ -114,7 +114,7 @@ impl Log {
         }
     }
 
-    /// Block `b` as it stands at home.
+    /// Block `b` as it is at home.
     pub fn home<N: Nvm>(&self, b: u64, nvm: &mut N) -> Result<Block, NvmError>
         requires block { b < memory_blocks self.now.p }
         requires sized { IsSized self.now (N.device nvm.old) }
@@ -128,7 +128,7 @@ impl Log {
         nvm.read(at)
     }
 
-    /// What stands in the buffer of entry `i`.
+    /// The block in the buffer of entry `i`.
     fn buffer(&self, i: usize) -> Block
         requires { i < self.now.p.btt }
         ensures { result ≡ buffer_of self.now i }
@@ -204,7 +204,8 @@ impl Log {
         self.table.lists_once();
     }
 
-    /// Reads the block of entry `i` in the journal of slot `s`, 0 or 1, into its buffer. If the NVM failed, the log is as it was.
+    /// Reads the block of entry `i` in the journal of slot `s`, 0 or 1, into its buffer. If the NVM failed, the log
+    /// is as it was.
     pub fn fill<N: Nvm>(&mut self, s: u64, i: usize, nvm: &mut N) -> Result<(), NvmError>
         requires slot { s < 2 }
         requires entry { i < self.old.p.btt }

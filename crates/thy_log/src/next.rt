@@ -1,4 +1,4 @@
-//! How far a checkpoint is.
+//! The stage of a checkpoint.
 
 /// What the engine looks for next.
 #[derive(Clone, Copy, Debug, PartialEq, Eq)]
@@ -9,13 +9,13 @@ pub enum Next {
     Journal(usize),
     /// Block `k` of the slot: first the processor's record, and then the table.
     Slot(u64),
-    /// The barrier behind all of these.
+    /// The barrier after all of these.
     Settle,
     /// The commit block.
     Commit,
-    /// The barrier behind the commit block.
+    /// The barrier after the commit block.
     Confirm,
-    /// The first live entry from this one on, whose buffer goes to the home of its block; if there is none, the barrier behind
-    /// these, with which all entries are freed.
+    /// The first live entry from this one on, whose buffer is written to the home of its block; if there is none, the
+    /// barrier after these, with which all entries are freed.
     Home(usize),
 }

@@ -1,4 +1,4 @@
-//! The hart on its cache over stores of blocks, beside the plain machine, state by state.
+//! The hart on its cache over stores of blocks, compared with the plain machine, state by state.
 ghost use Rattle.std.specs.Prelude.{◌≡◌, ◌<◌, ◌≤◌, ◌*◌, ◌^◌, None, length};
 ghost use Rattle.thy_base.specs.Geometry.{memory_blocks};
 ghost use Rattle.thy_hart.specs.Moments.{moment, IsReady};
@@ -22,8 +22,8 @@ const PROGRAM_BLOCKS: usize = 448;
 /// The page of the block at the start's sp, which is the fourth from the end of program memory.
 const STACK_PAGE: u64 = 6;
 
-/// A list of blocks that makes some copies before it stores, and has little room. From the first copy for a block until that
-/// is stored, the block's page is open.
+/// A list of blocks that makes some copies before it stores, and has little room. From the first copy for a block
+/// until that is stored, the block's page is open.
 #[derive(Drop)]
 struct Scarce {
     blocks: Vec<Block>,
@@ -103,7 +103,7 @@ fn cpu_of(state: &MachState) -> CpuState {
     }
 }
 
-/// Begins the next epoch where this one is over.
+/// Begins the next epoch if this one is over.
 fn go_on(rt: &impl Abort, hart: &mut Hart)
     ensures over { hart.new.epoch.over ≡ None }
     ensures rest { hart.new ≡ record hart.old { epoch = hart.new.epoch } }
@@ -117,7 +117,7 @@ fn go_on(rt: &impl Abort, hart: &mut Hart)
     }
 }
 
-/// The hart's next step, behind the start of an epoch where one is over; None where the program has ended.
+/// The hart's next step, after the start of an epoch if one is over; None if the program has ended.
 fn step<S: BlockStore<()>>(
     rt: &impl Abort,
     hart: &mut Hart,
@@ -230,7 +230,7 @@ static ACROSS: [u32; 13] = [
     0x00000073, 0x00100513, 0x00000073, 0x05d00893, 0x00000073,
 ];
 
-/// The hart's answers over a store with so much room, that makes so many copies first, with one line in the cache: to each
+/// The hart's results over a store with so much room, that makes so many copies first, with one line in the cache: of each
 /// step, while a checkpoint is under way or not. After the steps of these numbers, and no others, a page is open: that of
 /// the block at the start's sp.
 fn answers(
@@ -311,8 +311,8 @@ fn a_compiled_program_runs_as_on_the_plain_machine(rt: HostRuntime) {
 
 #[test]
 fn calls_move_bytes_across_blocks(rt: HostRuntime) {
-    // Each of 13 instructions has a fetch and a retirement. Besides, the first call reserves room and writes two blocks,
-    // the second reads two and writes one, the third reads two and writes two. Five lines are filled in.
+    // Each of 13 instructions has a fetch and a retirement. In addition, the first call reserves room and writes two
+    // blocks, the second reads two and writes one, the third reads two and writes two. Five lines are filled in.
     expect(
         &rt,
         runs_beside(&rt, rt.alloc(), &ACROSS, b"0123456789", 16, 4),

@@ -1,8 +1,8 @@
 //! Tests of programs on the plain machine, on the hart alone, and on the whole machine by its steps. They promise nothing
-//! that is proved; they show what no contract says: ends, checkpoints and restarts beside the plain machine's.
+//! that is proved; they show what no contract says: ends, checkpoints and restarts compared with the plain machine's.
 //!
-//! Open src/machine.rt first. specs/ has what is asked of the values that tests pass on. It stands on thy_core, thy_dual,
-//! thy_waiting, thy_hart, thy_make and thy_plain, with what these want; nothing stands on it.
+//! Open src/machine.rt first. specs/ has what is asked of the values that tests pass on. It depends on thy_core, thy_dual,
+//! thy_waiting, thy_hart, thy_make and thy_plain, with their dependencies; nothing depends on it.
 #![tactic(auto)]
 
 #[cfg(test)]

@@ -1,5 +1,5 @@
 //! The whole machine over the simulated NVM, by its steps: two programs by the schedules of the seeds 0 to 8 and 0 to 7,
-//! and cuts of power behind every cycle of each run. What a restart finds is compared with the checkpoints that were
+//! and cuts of power after every cycle of each run. What a restart finds is compared with the checkpoints that were
 //! committed, and the state there and at the end with that of the plain machine.
 ghost use Rattle.std.specs.Prelude.{◌≡◌, None};
 ghost use Rattle.thy_base.specs.Geometry.{program_size};
@@ -25,7 +25,7 @@ use thy_plain::{Plain, are_bytes, start_of};
 use thy_record::{EngineStep, Start};
 use thy_view::{Computer, Did, Stepped};
 
-/// A program, and what its run without cuts comes to.
+/// A program, and the result of its run without cuts.
 struct Row {
     words: &'static [u32],
     /// How many instructions an epoch has.
@@ -232,10 +232,10 @@ impl<M: Computer> Powered<M> {
     }
 }
 
-/// What a boot came to.
+/// The result of a boot.
 #[derive(Clone, Copy, Debug, PartialEq, Eq)]
 struct Booted {
-    /// The checkpoint that was found; none where the program was loaded.
+    /// The checkpoint that was found; none if the program was loaded.
     found: Option<Mark>,
     /// The cycle of its last action but one. Of a load that is the one that wrote the commit block.
     written: u64,
@@ -273,11 +273,11 @@ struct Checkpoint {
     mark: Mark,
     /// The cycle that wrote its commit block.
     written: u64,
-    /// The cycle of the barrier behind that.
+    /// The cycle of the barrier after that.
     committed: u64,
 }
 
-/// What a machine told since its boot was over.
+/// What a machine reported since its boot was over.
 #[derive(Drop)]
 struct Story {
     /// The epoch that executes.
@@ -291,12 +291,12 @@ struct Story {
     /// The cycle that wrote the latest commit block.
     written: u64,
     checkpoints: Vec<Checkpoint>,
-    /// What each commit told of the instructions retired while its checkpoint was under way.
+    /// How many instructions each commit reported as retired while its checkpoint was under way.
     overlapped: Vec<u64>,
 }
 
 impl Story {
-    /// Behind a boot that came to the checkpoint of this epoch.
+    /// After a boot that restored the checkpoint of this epoch.
     fn from(alloc: Global, epoch: u64) -> Story {
         Story {
             epoch: epoch.saturating_add(1),
@@ -350,7 +350,7 @@ impl Story {
     }
 }
 
-/// Takes cycles until the machine halts, behind a boot.
+/// Takes cycles until the machine halts, after a boot.
 fn finished<M: Computer>(rt: &impl Abort, on: &mut Powered<M>, story: &mut Story, ended: bool) {
     let mut halted = ended;
     for _ in 0..MOST {
@@ -452,7 +452,7 @@ fn uncut<M: Computer>(
 }
 
 impl Whole {
-    /// The checkpoint that is committed behind so many cycles.
+    /// The checkpoint that is committed after so many cycles.
     fn committed(&self, cycles: u64) -> Option<Mark> {
         let mut mark = None;
         for checkpoint in self.checkpoints.iter() {
@@ -473,8 +473,8 @@ impl Whole {
         None
     }
 
-    /// Whether a cut behind so many cycles, with this pick, may leave a checkpoint: the committed one, or the one in doubt.
-    /// Where all writes land it is the one in doubt.
+    /// Whether a cut after so many cycles, with this pick, may leave a checkpoint: the committed one, or the one in doubt.
+    /// If all writes land it is the one in doubt.
     fn may_leave(&self, found: Option<Mark>, cycles: u64, pick: u64) -> bool {
         let committed = self.committed(cycles);
         match self.in_doubt(cycles) {
@@ -484,7 +484,7 @@ impl Whole {
     }
 }
 
-/// Cuts the power behind so many cycles, and compares what the machine restarts with, and how it ends.
+/// Cuts the power after so many cycles, and compares what the machine restarts with, and how it ends.
 fn cut<M: Computer>(
     rt: &impl Abort,
     alloc: Global,
@@ -513,9 +513,9 @@ fn cut<M: Computer>(
     stands(rt, alloc, &mut on, plains, last(plains), at);
 }
 
-/// Runs a row's program by the schedule of a seed, without cuts and then with a cut behind each cycle but the last, with
-/// three picks for what it leaves of the queued writes: none, all, and a draw. Each seed has a test of its own, since all of
-/// them would be too long for one.
+/// Runs a row's program by the schedule of a seed, without cuts and then with a cut after each cycle but the last, with
+/// three picks for what it leaves of the queued writes: none, all, and a draw. Each seed has a test of its own, since
+/// all of them would be too long for one.
 fn survives<M: Computer>(rt: &impl Abort, alloc: Global, row: &Row, seed: u64) {
     let plains = plain_machines(rt, alloc, row);
     let whole = uncut::<M>(rt, alloc, row, seed, &plains);

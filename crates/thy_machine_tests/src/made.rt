@@ -39,7 +39,7 @@ fn enough(rt: &impl Abort, alloc: Global) -> Geometry
     geometry_of(rt, alloc, &ENOUGH)
 }
 
-/// Word k of the program in a file, behind 120 bytes of headers.
+/// Word k of the program in a file, after 120 bytes of headers.
 fn word_of(file: &Bytes, k: usize) -> u32
     requires { 124 + 4 * k ≤ length (bytes_of file.now) }
 {

@@ -39,7 +39,7 @@ pub(crate) fn smallest(rt: &impl Abort, alloc: Global) -> Geometry
     geometry_of(rt, alloc, &SMALLEST)
 }
 
-/// An image of words at the base, where it starts.
+/// An image of words at the base, which is also its start.
 pub(crate) fn image_of(rt: &impl Abort, alloc: Global, words: &[u32]) -> Image
     ensures { length (bytes_of result.memory) ≡ 28672 }
 {
@@ -73,7 +73,7 @@ pub(crate) fn start_with(rt: &impl Abort, alloc: Global, words: &[u32], input: &
     Plain::load(alloc, &image, &smallest(rt, alloc), input).expect(rt, "memory")
 }
 
-/// Compares how a state stands.
+/// Compares the status, the count and the pc of a state.
 fn stands(rt: &impl Abort, state: &MachState, status: Status, count: u64, pc: u64) {
     expect(
         rt,

@@ -67,7 +67,7 @@ All-range P a (suc n) each =
     All-cons P a (range_with_len (a + 1) n) (each a (omega arith) (omega arith))
     (All-range P (a + 1) n (λ i low high. each i (omega arith) (omega arith)))
 
--- the blocks behind header and commit block
+-- the blocks after header and commit block
 behind : Parameters → CpuState → List Block → List Block
 behind p cpu memory = record_of cpu 0 ++ (memory ++ replicate (copy_blocks p) zero_block)
 
@@ -98,7 +98,7 @@ module _ (p : Parameters) (cpu : CpuState) (memory : List Block) (long : length 
   unfolding behind
   slot_first = ap (λ a. map (block_at first) (range_with_len a 5)) place_first
 
-  -- block i of memory stands at its place
+  -- block i of memory is at its place
   block_first : (i : ℕ) → i < length memory → block_at first (copy_place p (epoch_of (block_at first 1)) + 5 + i) ≡ block_at memory i
   unfolding behind
   block_first i inside =

@@ -1,4 +1,4 @@
--- A checkpoint in version 1 of images: where its parts go, and that it is one once they were issued.
+-- A checkpoint in version 1 of images: the places of its parts, and that it is one once they were issued.
 use Rattle.std.proofs.Common.{◌≡◌, ℕ, zero, suc, ◌+◌, ◌%◌, ◌^◌, ◌<◌, ◌≤◌, true, List, Option, None, refl, ◌∙◌, ap, arith}
 use Rattle.std.specs.Option.{option_or}
 use Rattle.std.proofs.lemmas.List.FromFn.{get_or-map-range_with_len}
@@ -28,7 +28,7 @@ use Rattle.thy_protocol.specs.VersionOne.{version_one}
 use Rattle.thy_protocol.specs.VersionOneParts.{parts_by, IsIssuing, IsIssuedCheckpoint}
 use Rattle.thy_protocol.proofs.IssuingLemmas.{slot_goes_on, issued_is_checkpoint}
 
--- ---- where the parts go
+-- ---- the places of the parts
 
 slot_fits : (p : Parameters) (s : ℕ) → s < 2 → slot_place p s + slot_blocks p ≤ image_blocks p
 slot_fits p zero l = omega arith

@@ -1,4 +1,4 @@
--- A layout of two copies: each has the processor's record and behind it all of memory, and checkpoints go into them
+-- A layout of two copies: each has the processor's record and after it all of memory, and checkpoints go into them
 -- in turn. It shows that what is asked of layouts can be met.
 use Rattle.std.specs.Prelude.{◌≡◌, ℕ, ◌+◌, ◌*◌, ◌%◌, ◌^◌, ◌<◌, ◌≤◌, ◌&&◌, true, if◌then◌else◌, List, [], length, replicate, Some, None}
 use Rattle.thy_base.specs.declared.block.Block.{Block}
@@ -23,7 +23,7 @@ use Rattle.thy_protocol.specs.Moves.{standing, IsKeeping, Moves}
 abbrev pub copy_blocks : Parameters → ℕ
 copy_blocks p = record_blocks p + memory_blocks p
 
--- where the copy of an epoch begins
+-- the first place of the copy of an epoch
 abbrev pub copy_place : Parameters → ℕ → ℕ
 copy_place p epoch = 2 + epoch % 2 * copy_blocks p
 
@@ -50,7 +50,7 @@ WrittenDecodes =
     → IsRecordOf cpu epoch (slot_in (alternating p ceiling) g)
     → decode_by (alternating p ceiling) g ≡ At epoch (state_from p cpu (memory_in (alternating p ceiling) g))
 
--- from a device some moves lead to the checkpoint of the start, as that of epoch 0
+-- from a device some moves reach the checkpoint of the start, as that of epoch 0
 pub record CommitsStart (o : Origin) (n : Device) : Type 0 where
   pub next : List Block
   pub new : Device

@@ -1,4 +1,4 @@
--- How a checkpoint is written in any layout while another one stands: what of it was issued so far.
+-- How a checkpoint is written in any layout while another one is kept: what of it was issued so far.
 use Rattle.std.specs.Prelude.{◌≡◌, ◌≢◌, ℕ, ◌+◌, ◌<◌, ◌≤◌, true, false, List, length, map, Contains, None}
 use Rattle.std.specs.List.{range_with_len}
 use Rattle.thy_base.specs.declared.block.Block.{Block}
@@ -9,7 +9,8 @@ use Rattle.thy_record.specs.Commit.{is_zero, epoch_of}
 use Rattle.thy_record.specs.Decoded.{At}
 use Rattle.thy_protocol.specs.Layout.{Layout, slot_in, memory_in, memory_places, fault_of, decode_by, looked_by}
 
--- where the parts of a checkpoint go: the blocks of its slot, one behind the other, and those of memory
+-- the places that the parts of a checkpoint are written to: the blocks of its slot, one after the other, and those of
+-- memory
 pub record Parts : Type 0 where
   pub slot_place : ℕ
   pub slot_blocks : ℕ
@@ -20,7 +21,7 @@ pub record Parts : Type 0 where
 abbrev pub slot_of : Parts → List Block
 slot_of parts = map parts.slot (range_with_len 0 parts.slot_blocks)
 
--- they lie behind the commit block, within an image of so many blocks, and no block of memory lies in the slot
+-- they are after the commit block, within an image of so many blocks, and no block of memory is in the slot
 pub record ArePlaced (image_blocks : ℕ) (parts : Parts) : Type 0 where
   pub slot_behind : 2 ≤ parts.slot_place
   pub slot_inside : parts.slot_place + parts.slot_blocks ≤ image_blocks
@@ -47,7 +48,7 @@ SlotGoesOn =
     → ArePlaced image_blocks parts → AreIssued image_blocks parts old memory k → k < parts.slot_blocks
     → new ≡ written_to old (parts.slot_place + k) (parts.slot k) → AreIssued image_blocks parts new memory (k + 1)
 
--- a place where neither a block of the slot nor one of memory goes
+-- a place to which neither a block of the slot nor one of memory is written
 pub record IsElsewhere (parts : Parts) (x : ℕ) : Type 0 where
   pub no_slot : (k : ℕ) → k < parts.slot_blocks → parts.slot_place + k ≢ x
   pub no_memory : ¬ Contains parts.memory x
@@ -68,7 +69,7 @@ DrainKeepsIssued =
 
 -- ---- the whole checkpoint
 
--- the parts go where a layout looks for them behind this commit block
+-- the parts are at the places that a layout gives them with this commit block
 pub record ArePartsOf (l : Layout) (commit : Block) (parts : Parts) : Type 0 where
   pub placed : ArePlaced l.image_blocks parts
   pub slot_place : l.slot_place commit ≡ parts.slot_place
@@ -82,7 +83,7 @@ pub record IsCheckpoint (l : Layout) (n : Device) (commit : Block) (parts : Part
   pub decodes : decode_by l (next_image n commit) ≡ At (epoch_of commit) (l.state_from (slot_of parts) memory)
   pub issued : IsIssued (looked_by l) n (next_image n commit)
 
--- so it is with the whole slot issued, and no fault in header, commit block and slot
+-- this holds with the whole slot issued, and no fault in header, commit block and slot
 abbrev pub IssuedIsCheckpoint : Type 0
 IssuedIsCheckpoint =
     (l : Layout) (n : Device) (commit : Block) (parts : Parts) (memory : List Block)

@@ -15,7 +15,7 @@ pub record IsOf (o : Origin) (l : Layout) (h : List Block) (m : Mark) : Type 0 w
   pub decodes : decode_by l h ≡ At m.epoch (at o m.count)
   pub counted : (at o m.count).count ≡ m.count
 
--- an image is the checkpoint of the mark that is kept; where none is, it has none, and the run began without
+-- an image is the checkpoint of the mark that is kept; if none is, it has none, and the run began without
 abbrev pub Tells : Origin → Layout → List Block → Option Mark → Type 0
 Tells o l h None = (decode_by l h ≡ Nothing) × (o.kept ≡ None)
 Tells o l h (Some m) = IsOf o l h m
@@ -36,13 +36,13 @@ pub record Keeps (o : Origin) (l : Layout) (n : Device) (s : Saved) (kept sealed
   pub saved : IsSaved (looked_by l) n s
   pub told : TellsAll o l s kept sealed
 
--- the mark that a cut may leave besides the one kept
+-- the mark that a cut may leave in place of the one kept
 abbrev pub doubt_in : Saved → Option Mark → Option Mark
 doubt_in (Kept before) sealed = None
 doubt_in (Ready before next) sealed = None
 doubt_in (InDoubt before next) sealed = sealed
 
--- the view of a boot over the checkpoint of a mark, or none, where the program is loaded from this count on
+-- the view of a boot over the checkpoint of a mark, or over none, if the program is loaded from this count on
 abbrev pub finding_view : ℕ → Option Mark → View
 finding_view count None = loading_view count
 finding_view count (Some m) = boot_view (Some m) None

@@ -18,22 +18,22 @@ use Rattle.thy_protocol.specs.Moves.{Standing, IsKeeping, Moves, LeavesAlone}
 
 -- ---- layouts
 
--- a copy of an image, at all places that tell what it means, means the same
+-- a copy of an image, at all places that determine what it means, means the same
 abbrev pub LookedDecides : Type 0
 LookedDecides = (l : Layout) (h g : List Block) → IsCopy (looked_by l) h g → decode_by l g ≡ decode_by l h
 
--- and the same places tell it
+-- and the same places determine it
 abbrev pub CopiesLookAlike : Type 0
 CopiesLookAlike = (l : Layout) (h g : List Block) → IsCopy (looked_by l) h g → looked_by l g ≡ looked_by l h
 
--- an image means nothing exactly where its commit block is zero
+-- an image means nothing exactly if its commit block is zero
 abbrev pub ZeroIsNothing : Type 0
 ZeroIsNothing = (l : Layout) (g : List Block) → is_zero (block_at g 1) ≡ true → decode_by l g ≡ Nothing
 
 abbrev pub NothingIsZero : Type 0
 NothingIsZero = (l : Layout) (g : List Block) → decode_by l g ≡ Nothing → is_zero (block_at g 1) ≡ true
 
--- it means an epoch and a state exactly where it is whole
+-- it means an epoch and a state exactly if it is whole
 abbrev pub WholeDecodes : Type 0
 WholeDecodes =
     (l : Layout) (g : List Block) (epoch : ℕ) (state : State)
@@ -52,7 +52,7 @@ KeptIsSafe =
     (layouts : Layouts) (o : Origin) (n : Device) (s : Saved) (kept sealed : Option Mark)
     → Keeps o (layouts o.geometry ceiling) n s kept sealed → Safe (reading layouts) o kept (doubt_in s sealed) n
 
--- so it is the one kept or the one sealed, which a failed call may leave too
+-- hence it is the one kept or the one sealed, which a failed call may leave too
 abbrev pub KeptIsSafeForBoth : Type 0
 KeptIsSafeForBoth =
     (layouts : Layouts) (o : Origin) (n : Device) (s : Saved) (kept sealed : Option Mark)
@@ -73,7 +73,7 @@ CutKeeps =
     → Keeps o l new (Kept new.image) kept None
     ⊎ ((m : Mark) × (doubt_in s sealed ≡ Some m) × Keeps o l new (Kept new.image) (Some m) None)
 
--- a device with an empty queue keeps the checkpoint of its image, as one that was fitted
+-- a device with an empty queue keeps the checkpoint of its image, such as one that was fitted
 abbrev pub EmptyKeeps : Type 0
 EmptyKeeps =
     (o : Origin) (l : Layout) (n : Device) (kept sealed : Option Mark)

@@ -1,4 +1,4 @@
--- Layouts of the NVM: where an image has its checkpoint, and what that means.
+-- Layouts of the NVM: the places at which an image has its checkpoint, and what that means.
 use Rattle.std.specs.Prelude.{◌≡◌, ◌==◌, ℕ, Bool, false, if◌then◌else◌, List, [], ◌∷◌, ◌++◌, length, map, Option, Some, None}
 use Rattle.std.specs.List.{range_with_len}
 use Rattle.std.specs.Option.{option_or}
@@ -11,17 +11,17 @@ use Rattle.thy_record.specs.Commit.{is_zero, epoch_of}
 use Rattle.thy_record.specs.Decoded.{Decoded, Nothing, Refused, At, Reading}
 use Rattle.thy_crash.specs.Saved.{Looking}
 
--- An image has a header, block 0, and a commit block, block 1. That names a slot, whose blocks tell where memory is.
+-- An image has a header, block 0, and a commit block, block 1. That names a slot, whose blocks give memory's places.
 pub record Layout : Type 0 where
   -- how many blocks an image has, and memory
   pub image_blocks : ℕ
   pub memory_blocks : ℕ
-  -- where the slot of a commit block begins, and how many blocks it has
+  -- the first place of the slot of a commit block, and how many blocks it has
   pub slot_place : Block → ℕ
   pub slot_blocks : Block → ℕ
-  -- where block i of memory stands, by the commit block and the blocks of its slot
+  -- the place of block i of memory, by the commit block and the blocks of its slot
   pub place : Block → List Block → ℕ → ℕ
-  -- the first fault of a header, where the image has that many blocks or not; of a commit block behind a header; and of
+  -- the first fault of a header, of an image that has that many blocks or not; of a commit block under a header; and of
   -- the slot of a commit block
   pub header_bad : Block → Bool → Option BadImage
   pub commit_bad : Block → Block → Option BadImage
@@ -68,7 +68,7 @@ fault_of l sized header commit slot =
 abbrev pub fault_in : Layout → List Block → Option BadImage
 fault_in l g = fault_of l (is_sized l g) (block_at g 0) (block_at g 1) (slot_in l g)
 
--- a refusal where there is a fault, else the state
+-- a refusal if there is a fault, else the state
 abbrev pub refused_or_at : Option BadImage → ℕ → State → Decoded
 refused_or_at None epoch state = At epoch state
 refused_or_at (Some bad) epoch state = Refused bad
@@ -86,11 +86,11 @@ decode_by l g = meaning_of l (is_sized l g) (block_at g 0) (block_at g 1) (slot_
 abbrev pub reading : Layouts → Reading
 reading layouts p ceiling g = decode_by (layouts p ceiling) g
 
--- the places that tell what an image with a checkpoint means
+-- the places that determine what an image with a checkpoint means
 abbrev pub parts_of : Layout → Looking
 parts_of l h = 0 ∷ 1 ∷ (slot_places l (block_at h 1) ++ memory_places l (block_at h 1) (slot_in l h))
 
--- the places that tell what an image means: where there is no checkpoint, the commit block alone
+-- the places that determine what an image means: if there is no checkpoint, the commit block alone
 unfoldable pub looked_by : Layout → Looking
 looked_by l h = if is_zero (block_at h 1) then 1 ∷ [] else parts_of l h
 

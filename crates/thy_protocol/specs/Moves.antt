@@ -37,7 +37,7 @@ pub data Move (o : Origin) (l : Layout) : Standing → Standing → Type 0 where
   -- an epoch is sealed
   Seals : (n : Device) (before : List Block) (kept : Option Mark) (m : Mark)
       → Move o l (standing n (Kept before) kept None) (standing n (Kept before) kept (Some m))
-  -- a barrier, behind all writes of its checkpoint
+  -- a barrier, after all writes of its checkpoint
   Readies : (before next : List Block) (kept : Option Mark) (m : Mark) (old new : Device)
       → IsIssued (looked_by l) old next → IsOf o l next m → new ≡ settled old
       → Move o l (standing old (Kept before) kept (Some m)) (standing new (Ready before next) kept (Some m))
@@ -45,7 +45,7 @@ pub data Move (o : Origin) (l : Layout) : Standing → Standing → Type 0 where
   Commits : (before next : List Block) (kept : Option Mark) (m : Mark) (old new : Device)
       → CommitsTo next old new
       → Move o l (standing old (Ready before next) kept (Some m)) (standing new (InDoubt before next) kept (Some m))
-  -- the barrier behind it
+  -- the barrier after it
   Confirms : (before next : List Block) (kept : Option Mark) (m : Mark) (old new : Device)
       → Reads old 1 (block_at next 1) → new ≡ settled old
       → Move o l (standing old (InDoubt before next) kept (Some m)) (standing new (Kept next) (Some m) None)

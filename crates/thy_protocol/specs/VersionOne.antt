@@ -36,6 +36,6 @@ layout_of o = version_one o.geometry ceiling
 abbrev pub DecodesSame : Type 0
 DecodesSame = (p : Parameters) (ceiling : ℕ) (g : List Block) → decode_by (version_one p ceiling) g ≡ decode_image p ceiling g
 
--- and the places that tell it
+-- and the places that determine it
 abbrev pub LooksSame : Type 0
 LooksSame = (p : Parameters) (ceiling : ℕ) (g : List Block) → looked_by (version_one p ceiling) g ≡ looked p g

@@ -20,7 +20,7 @@ use Rattle.thy_protocol.specs.Issuing.{Parts, AreIssued}
 use Rattle.thy_protocol.specs.Layout.{decode_by, looked_by}
 use Rattle.thy_protocol.specs.VersionOne.{version_one}
 
--- where the parts of a checkpoint of an epoch go, with these tables
+-- the places that the parts of a checkpoint of an epoch are written to, with these tables
 abbrev pub parts_by : Parameters → CpuState → Tables → ℕ → Parts
 parts_by p cpu t epoch = record {
   slot_place = slot_place p (epoch % 2);
@@ -34,7 +34,7 @@ pub record IsIssuing (p : Parameters) (n : Device) (cpu : CpuState) (t : Tables)
   pub tables : IsTables p t
   pub parts : AreIssued (image_blocks p) (parts_by p cpu t epoch) n memory k
 
--- the next image, with the commit block of this epoch, is the checkpoint, tells its tables, and lacks no other write
+-- the next image, with the commit block of this epoch, is the checkpoint, has its tables, and lacks no other write
 pub record IsIssuedCheckpoint (p : Parameters) (ceiling : ℕ) (n : Device) (cpu : CpuState) (t : Tables) (epoch : ℕ)
     (memory : List Block) : Type 0 where
   pub told : IsToldBy p (next_image n (commit_of epoch)) epoch t

@@ -5,13 +5,13 @@ ghost use Rattle.thy_protocol.specs.Laws.{LookedDecides, CopiesLookAlike, ZeroIs
 ghost use Rattle.thy_protocol.specs.VersionOne.{DecodesSame, LooksSame};
 ghost use Rattle.thy_protocol.specs.VersionOneParts.{IssuedDecodes};
 
-/// A copy of an image, at all places that tell what it means, means the same, and the same places tell it.
+/// A copy of an image, at all places that determine what it means, means the same, and the same places determine it.
 pub fn copies_mean_the_same()
     ensures means { LookedDecides }
     ensures looked { CopiesLookAlike }
 {}
 
-/// An image means nothing exactly where its commit block is zero, and an epoch and a state exactly where it is whole.
+/// An image means nothing exactly if its commit block is zero, and an epoch and a state exactly if it is whole.
 pub fn whole_images_decode()
     ensures zero { ZeroIsNothing }
     ensures nothing { NothingIsZero }
@@ -20,7 +20,7 @@ pub fn whole_images_decode()
 {}
 
 /// Whatever a cut leaves is the checkpoint that is kept, whole, or the one in doubt; so it is the one kept or the one
-/// sealed, also where a call failed.
+/// sealed, also after a call that failed.
 pub fn what_is_kept_is_safe()
     ensures doubt { KeptIsSafe }
     ensures both { KeptIsSafeForBoth }
@@ -32,8 +32,8 @@ pub fn a_boot_finds_its_mark()
     ensures shows { BootShows }
 {}
 
-/// So it is after any number of moves: calls that spare the guarded places, a seal, the barrier behind the writes of a
-/// checkpoint, its commit block, and the barrier behind that.
+/// The same holds after any number of moves: calls that spare the guarded places, a seal, the barrier after the writes of a
+/// checkpoint, its commit block, and the barrier after that.
 pub fn moves_are_safe()
     ensures { MovesAreSafe }
 {}
@@ -61,26 +61,26 @@ pub fn issuing_goes_on()
 {}
 
 /// With the whole slot issued, and no fault in header, commit block and slot, the next image is the checkpoint: it
-/// decodes to it, and all that tells it but the commit block was issued.
+/// decodes to it, and all blocks that determine it were issued, except the commit block.
 pub fn what_is_issued_is_a_checkpoint()
     ensures { IssuedIsCheckpoint }
 {}
 
 /// There is such a layout, of two copies in turn: what is written into one decodes to what was written, and from a
-/// device of zeros moves lead to the checkpoint of the start.
+/// device of zeros moves reach the checkpoint of the start.
 pub fn a_layout_of_two_copies_serves()
     ensures decodes { WrittenDecodes }
     ensures commits { StartIsCommitted }
 {}
 
-/// Version 1 of images is such a layout: its images decode to the same, and the same places tell it.
+/// Version 1 of images is such a layout: its images decode to the same, and the same places determine it.
 pub fn version_one_is_a_layout()
     ensures decodes { DecodesSame }
     ensures looks { LooksSame }
 {}
 
-/// In version 1, with the whole slot issued, and behind a header without a fault, whoever wrote it, the next image decodes
-/// to the checkpoint and tells its tables, and all that tells it was issued.
+/// In version 1, with the whole slot issued, and under a header without a fault, however it was written, the next image
+/// decodes to the checkpoint and has its tables, and all blocks that determine it were issued.
 pub fn version_one_is_issued()
     ensures { IssuedDecodes }
 {}

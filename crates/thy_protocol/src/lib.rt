@@ -1,12 +1,12 @@
 //! Checkpoints on a device, for every layout of the NVM: what an image means, which checkpoints a power cut may leave,
 //! and how the next one takes the place of the last.
 //!
-//! A layout says where an image has its checkpoint and what that means; it is a record of functions. The laws of
+//! A layout says at which places an image has its checkpoint and what that means; it is a record of functions. The laws of
 //! thy_crash then say what is left of a run's checkpoints by each call, in the marks that the machine shows:
 //! `moves_are_safe`.
 //!
-//! Open specs/Keeps.antt first, then specs/Moves.antt, and src/laws.rt. It stands on thy_base, thy_crash, thy_flat,
-//! thy_isa, thy_record and thy_view; on it stand thy_commit and thy_recover, and the scheme above them.
+//! Open specs/Keeps.antt first, then specs/Moves.antt, and src/laws.rt. It depends on thy_base, thy_crash, thy_flat,
+//! thy_isa, thy_record and thy_view; thy_commit and thy_recover, and the scheme above them, depend on it.
 #![tactic(auto)]
 
 mod laws;

@@ -11,7 +11,7 @@ use Rattle.thy_record.specs.Cpu.{status_tag, status_value, cpu_words, cpu_block_
 
 -- ---- the forty words
 
--- the words behind the registers
+-- the words after the registers
 abbrev pub rest_words : CpuState → ℕ → List ℕ
 rest_words c epoch = c.count ∷ c.cursor ∷ c.console_len ∷ c.brk ∷ status_tag c.status ∷ status_value c.status ∷ epoch ∷ c.floor ∷ []
 
@@ -27,7 +27,7 @@ cpu_words-reg c epoch (suc r) h some l =
     let e : 1 + r ≡ suc r = omega arith in
     get_or_append_left (drop 1 c.regs) (rest_words c epoch) 0 r within ∙ get_or-drop 1 c.regs r 0 ∙ ap (slice_index c.regs) e
 
--- and the rest stands behind them
+-- and the rest comes after them
 pub cpu_words-rest : (c : CpuState) (epoch i : ℕ) → length c.regs ≡ 32
     → slice_index (cpu_words c epoch) (32 + i) ≡ slice_index (rest_words c epoch) i
 cpu_words-rest c epoch i h =

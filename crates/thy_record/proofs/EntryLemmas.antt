@@ -1,4 +1,4 @@
--- Which entry of a table lists a number, and where that puts a block.
+-- Which entry of a table lists a number, and at which place that puts a block.
 use Rattle.std.proofs.Common.{◌≡◌, ℕ, zero, suc, ◌+◌, ◌%◌, ◌/◌, ◌<◌, ◌≤◌, Bool, true, false, cond, List, [], ◌∷◌, length, take, get_or, Option, Some, None, refl, sym, ◌∙◌, ap, inl, inr, arith}
 use Rattle.std.proofs.lemmas.Bool.{cases_lt, eq-eqb, eqb-true}
 use Rattle.std.proofs.lemmas.List.{get_or-take, get_or_past, length-take}
@@ -41,7 +41,7 @@ none_at t k (x ∷ xs) (suc i) h l =
     let cases : (b : Bool) → cond b (Some k) (position_from t (k + 1) xs) ≡ None → position_from t (k + 1) xs ≡ None = λ b. elim b as (λ b. cond b (Some k) (position_from t (k + 1) xs) ≡ None → position_from t (k + 1) xs ≡ None) [ true ↦ λ e. cc | false ↦ λ e. e ] in
     none_at t (k + 1) xs i (cases (t x) h) (omega arith)
 
--- where none is found, no entry lists the number
+-- if none is found, no entry lists the number
 pub entry_of-None : (table : List (Option ℕ)) (n i : ℕ) → entry_of table n ≡ None → Lists table i n → ⊥
 entry_of-None table n i h l =
     let none : is_entry_of n (entry_at table i) ≡ false
@@ -53,7 +53,7 @@ absent_is : (table : List (Option ℕ)) (n : ℕ) (found : Option ℕ) → entry
 absent_is table n None h none = refl
 absent_is table n (Some i) h none = absurd (none i (entry_of-Some table n i h))
 
--- and where no entry lists it, none is found
+-- and if no entry lists it, none is found
 pub entry_of-absent : (table : List (Option ℕ)) (n : ℕ) → ((i : ℕ) → Lists table i n → ⊥) → entry_of table n ≡ None
 entry_of-absent table n none = absent_is table n (entry_of table n) refl none
 

@@ -143,7 +143,7 @@ IsDecoded-at p ceiling image epoch state h =
 
 -- ---- images that are alike
 
--- alike where a commit block stands
+-- alike if they have a commit block
 alike-zero : (p : Parameters) (ceiling : ℕ) (long : Bool) (g h : List Block) → block_at g 1 ≡ block_at h 1 → is_zero (block_at h 1) ≡ true
     → decode_with p ceiling long g ≡ decode_with p ceiling long h
 unfolding decode_with

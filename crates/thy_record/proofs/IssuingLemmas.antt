@@ -1,4 +1,4 @@
--- Which writes leave a checkpoint alone, and where memory is read.
+-- Which writes leave a checkpoint alone, and at which places memory is read.
 use Rattle.std.proofs.Common.{◌≡◌, ◌≢◌, ℕ, zero, suc, ◌+◌, ◌%◌, ◌<◌, ◌≤◌, Bool, true, false, if◌then◌else◌, List, [], ◌∷◌, ◌++◌, length, get_or, Contains, Option, Some, None, refl, sym, ◌∙◌, ap, subst, inl, inr, arith}
 use Rattle.std.proofs.lemmas.List.{length-map, get_or-map, ext_get_or}
 use Rattle.std.proofs.lemmas.List.Elements.{Contains-append_cases}
@@ -20,7 +20,7 @@ use Rattle.thy_record.specs.Slots.{tables_in}
 use Rattle.thy_record.specs.Tables.{Tables, entry_at, Lists, entry_of, place_by_entries, place_of, IsTables}
 use Rattle.thy_record.proofs.EntryLemmas.{entry_of-Some, entry_of-None, IsPlace-place_of, in_dram-place_of}
 
--- ---- the numbers in which memory stands
+-- ---- the numbers of memory's places
 
 length-memory_numbers : (p : Parameters) (t : Tables) → (let xs : List ℕ = memory_numbers p t in length xs) ≡ memory_blocks p
 length-memory_numbers p t =
@@ -42,7 +42,7 @@ memory_number_of p t x (k, l, is) =
     let inside : k < memory_blocks p = omega (arith, length-memory_numbers p t) in
     (k, inside, sym (memory_number p t k x inside) ∙ is)
 
--- which lies behind the slots, within the image
+-- which is after the slots, within the image
 pub memory_behind : (p : Parameters) (t : Tables) (x : ℕ) → IsTables p t → Contains (memory_numbers p t) x → (first_home p ≤ x) × (x < image_blocks p)
 memory_behind p t x s inside =
     let of = memory_number_of p t x inside in
@@ -191,7 +191,7 @@ nothing_looked p image x z other inside =
     = subst (λ b. Contains (1 ∷ (if b then 1 ∷ [] else 0 ∷ 1 ∷ (slot_numbers p (block_at image 1) ++ memory_numbers p (tables_in p (slot_in p image))))) x) z inside in
     not_in_none x (not_first x 1 [] one (not_first x 1 (1 ∷ []) one only))
 
--- ---- where memory is read
+-- ---- how memory is read
 
 length-memory_read : (p : Parameters) (t : Tables) (n : Device) → length (memory_read p t n) ≡ memory_blocks p
 length-memory_read p t n = length-map (memory_numbers p t) (newest n) ∙ length-memory_numbers p t
@@ -203,7 +203,7 @@ memory_read-at p t n b l =
     get_or-map (newest n) (memory_numbers p t) b 0 zero_block (omega (arith, length-memory_numbers p t))
     ∙ ap (newest n) (memory_number p t b 0 l)
 
--- blocks that stand at their places are what is read through the tables
+-- blocks that are at their places are what is read through the tables
 pub memory_of_places : (p : Parameters) (t : Tables) (n : Device) (memory : List Block) → HasMemory p t n memory → memory_read p t n ≡ memory
 memory_of_places p t n memory has =
     ext_get_or zero_block (memory_read p t n) memory (length-memory_read p t n ∙ sym has.as_long)

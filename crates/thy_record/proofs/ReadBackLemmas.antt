@@ -197,7 +197,7 @@ pub cpu_of_record-back : (p : Parameters) (ceiling : ℕ) (c : CpuState) (epoch 
 cpu_of_record-back p ceiling c epoch blocks r room most l of =
     cpu_back c epoch blocks (FitsRecord-recordable p ceiling c epoch r room most l) (record { each = of.each })
 
--- a record has no fault where each of its tests holds
+-- a record has no fault if each of its tests holds
 no_fault : (tag value count console of epoch room ceiling : ℕ) → of ≡ epoch → is_status tag value ≡ true → count < ceiling → console ≤ room
     → (if of == epoch
     then (if is_status tag value && nat_lt count ceiling then (if nat_le console room then None else Some ConsoleLength) else Some BadStatus)

@@ -1,4 +1,4 @@
--- Tables have no fault exactly where they list blocks and pages of memory, none twice, and no block of a listed page.
+-- Tables have no fault exactly if they list blocks and pages of memory, none twice, and no block of a listed page.
 use Rattle.std.proofs.Common.{◌≡◌, ℕ, zero, suc, ◌+◌, ◌<◌, Bool, true, false, nat_lt, if◌then◌else◌, List, [], ◌∷◌, take, Option, Some, None, refl, sym, ◌∙◌, ap, inl, inr, arith, zero-add}
 use Rattle.std.proofs.lemmas.Bool.{cases_lt, lt-ltb, ltb-true}
 use Rattle.std.proofs.Math.Nat.{add-zero}
@@ -42,7 +42,7 @@ entry_fault-None : (rule : ℕ → ℕ → Option BadImage) (k : ℕ) (e : Optio
 entry_fault-None rule k None h = refl
 entry_fault-None rule k (Some n) h = h n refl
 
--- and where none breaks it, none has a fault
+-- and if none breaks it, none has a fault
 pub first_clash-of_rule : (rule : ℕ → ℕ → Option BadImage) (k : ℕ) (es : List (Option ℕ))
     → ((i n : ℕ) → Lists es i n → rule (k + i) n ≡ None) → first_clash rule k es ≡ None
 first_clash-of_rule rule k [] h = refl

@@ -41,7 +41,7 @@ EntriesReadBack =
     (entries : List (Option ℕ)) (i : ℕ)
     → HaveWords entries → i < length entries → entry_from (word_of (block_of (map entry_word entries)) i) ≡ entry_at entries i
 
--- and both tables from their blocks in a slot, whatever else stands there
+-- and both tables from their blocks in a slot, whatever else the slot holds
 abbrev pub TablesReadBack : Type 0
 TablesReadBack =
     (p : Parameters) (t : Tables) (slot : List Block)

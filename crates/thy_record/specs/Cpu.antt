@@ -27,7 +27,7 @@ status_value (Trapped value) = value
 abbrev pub status_of : ℕ → ℕ → Status
 status_of tag value = if tag == 0 then Running else if tag == 1 then Exited value else Trapped value
 
--- 0 where the program runs, else the exit's or the trap's number
+-- 0 if the program runs, else the exit's or the trap's number
 abbrev pub is_status : ℕ → ℕ → Bool
 is_status tag value =
     if tag == 0 then value == 0 else if tag == 1 then nat_le value 255 else tag == 2 && nat_le value 7

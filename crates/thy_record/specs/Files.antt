@@ -37,7 +37,7 @@ tables_from btt ptt = record { btt = table_in btt; ptt = table_in ptt }
 abbrev pub file_fault : Parameters → ℕ → List ℕ → Option BadImage
 file_fault p ceiling bytes = image_fault p ceiling (length bytes == 64 * image_blocks p) (blocks_of bytes)
 
--- the bytes of n blocks of memory from block `first` on, where the tables of a slot's bytes have them in an image's
+-- the bytes of n blocks of memory from block `first` on, each read at its place in an image by the tables of a slot's bytes
 abbrev pub bytes_from : Parameters → List ℕ → List ℕ → ℕ → ℕ → List ℕ
 bytes_from p image slot first n =
     flat (take n (drop first (memory_in p (tables_in p (blocks_of slot)) (blocks_of image))))

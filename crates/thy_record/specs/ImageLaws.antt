@@ -21,7 +21,7 @@ use Rattle.thy_record.specs.Tables.{Tables, place_of, IsTables}
 use Rattle.thy_base.specs.Words.{block_of}
 use Rattle.thy_record.specs.TableFaults.{tables_fault}
 
--- tables are those that a checkpoint may have exactly where no fault is found in them
+-- tables are those that a checkpoint may have exactly if no fault is found in them
 pub record IsFaultless (p : Parameters) (t : Tables) : Type 0 where
   pub btt_length : length t.btt ≡ p.btt
   pub ptt_length : length t.ptt ≡ p.ptt
@@ -89,7 +89,7 @@ DecodedIsWhole =
     (p : Parameters) (ceiling : ℕ) (image : List Block) (epoch : ℕ) (state : State)
     → decode_image p ceiling image ≡ At epoch state → IsDecoded p ceiling image epoch state
 
--- images that are alike at the blocks that tell what one of them means decode alike
+-- images that agree at the blocks that determine what one of them means decode alike
 pub record IsAlike (p : Parameters) (g h : List Block) : Type 0 where
   pub as_long : length g ≡ length h
   pub each : (x : ℕ) → Contains (looked p h) x → block_at g x ≡ block_at h x

@@ -30,7 +30,7 @@ slot_in p image = map (block_at image) (slot_numbers p (block_at image 1))
 abbrev pub memory_numbers : Parameters → Tables → List ℕ
 memory_numbers p t = map (λ b. number_of p (place_of t b)) (range_with_len 0 (memory_blocks p))
 
--- memory's blocks, where tables have them
+-- memory's blocks, read at their places by tables
 abbrev pub memory_in : Parameters → Tables → List Block → List Block
 memory_in p t image = map (block_at image) (memory_numbers p t)
 
@@ -46,7 +46,7 @@ image_fault p ceiling long image =
     option_or (header_fault (block_at image 0) p long)
     (option_or (commit_fault commit ceiling) (slot_fault p ceiling (epoch_of commit) (slot_in p image)))
 
--- a refusal where there is a fault, else the checkpoint
+-- a refusal if there is a fault, else the checkpoint
 abbrev pub refused_or_at : Option BadImage → ℕ → State → Decoded
 refused_or_at None epoch state = At epoch state
 refused_or_at (Some bad) epoch state = Refused bad
@@ -61,7 +61,7 @@ decode_with p ceiling long image =
 abbrev pub decode_image : Parameters → ℕ → List Block → Decoded
 decode_image p ceiling image = decode_with p ceiling (length image == image_blocks p) image
 
--- the blocks that tell what an image means: of one without a commit block none but that
+-- the blocks that determine what an image means: only the commit block if that is zero
 abbrev pub looked : Parameters → List Block → List ℕ
 looked p image =
     if is_zero (block_at image 1) then 1 ∷ []

@@ -1,4 +1,4 @@
--- Which writes leave a checkpoint alone, and where memory is read.
+-- Which writes leave a checkpoint alone, and at which places memory is read.
 use Rattle.std.specs.Prelude.{◌≡◌, ◌≢◌, ℕ, ◌+◌, ◌%◌, ◌<◌, true, false, List, ◌∷◌, length, map, Contains, None}
 use Rattle.thy_base.specs.declared.block.Block.{Block}
 use Rattle.thy_base.specs.declared.config.Parameters.{Parameters}
@@ -30,7 +30,7 @@ abbrev pub IsTarget : Parameters → Target → Type 0
 IsTarget p (SlotBlock s k) = (s < 2) × (k < slot_blocks p)
 IsTarget p (PlaceBlock x) = IsPlace p x × (in_dram x ≡ false)
 
--- with these tables no block of memory stands in a place
+-- with these tables no block of memory is kept in a place
 pub record IsUnused (p : Parameters) (t : Tables) (x : Place) : Type 0 where
   pub none : (b : ℕ) → b < memory_blocks p → place_of t b ≢ x
 
@@ -59,7 +59,7 @@ pub record IsToldBy (p : Parameters) (image : List Block) (epoch : ℕ) (t : Tab
   pub tables : tables_in p (slot_in p image) ≡ t
   pub whole : IsTables p t
 
--- what is free for an image's checkpoint is none of the blocks that tell what the image means
+-- what is free for an image's checkpoint is none of the blocks that determine what the image means
 abbrev pub FreeIsNotLooked : Type 0
 FreeIsNotLooked =
     (p : Parameters) (image : List Block) (epoch : ℕ) (t : Tables) (x : Target)
@@ -71,13 +71,13 @@ NothingIsLooked =
     (p : Parameters) (image : List Block) (x : ℕ) → is_zero (block_at image 1) ≡ true → x ≢ 1
     → ¬ Contains (1 ∷ looked p image) x
 
--- ---- where memory is read
+-- ---- how memory is read
 
--- memory's blocks as a device's reads give them, where tables have them
+-- memory's blocks as a device's reads give them, at their places by tables
 abbrev pub memory_read : Parameters → Tables → Device → List Block
 memory_read p t n = map (newest n) (memory_numbers p t)
 
--- a device has each of these blocks of memory where tables have it
+-- a device has each of these blocks of memory at its place by tables
 pub record HasMemory (p : Parameters) (t : Tables) (n : Device) (memory : List Block) : Type 0 where
   pub as_long : length memory ≡ memory_blocks p
   pub each : (b : ℕ) → b < memory_blocks p → newest n (number_of p (place_of t b)) ≡ block_at memory b
@@ -87,7 +87,7 @@ abbrev pub PlacedIsMemory : Type 0
 PlacedIsMemory =
     (p : Parameters) (t : Tables) (n : Device) (memory : List Block) → HasMemory p t n memory → memory_read p t n ≡ memory
 
--- and where that is so, each stands there
+-- and if that is so, each is at its place
 abbrev pub MemoryIsPlaced : Type 0
 MemoryIsPlaced =
     (p : Parameters) (t : Tables) (n : Device) (memory : List Block) → memory_read p t n ≡ memory → HasMemory p t n memory

@@ -1,5 +1,5 @@
 -- Part of the claim.
--- A slot: the processor's record, and behind it the two tables.
+-- A slot: the processor's record, and after it the two tables.
 use Rattle.std.specs.Prelude.{◌≡◌, ℕ, ◌+◌, ◌-◌, ◌*◌, ◌<◌, nat_lt, if◌then◌else◌, List, [], ◌∷◌, map, Option}
 use Rattle.std.specs.List.{range_with_len}
 use Rattle.std.specs.Option.{option_or}
@@ -24,15 +24,15 @@ slot_block_of p cpu t epoch k =
 pub record IsSlotOf (p : Parameters) (cpu : CpuState) (t : Tables) (epoch : ℕ) (slot : List Block) : Type 0 where
   pub each : (k : ℕ) → k < slot_blocks p → block_at slot k ≡ slot_block_of p cpu t epoch k
 
--- these blocks have those of tables behind the record
+-- these blocks have those of tables after the record
 pub record HasTableBlocks (p : Parameters) (t : Tables) (slot : List Block) : Type 0 where
   pub each : (k : ℕ) → record_blocks p + k < slot_blocks p → block_at slot (record_blocks p + k) ≡ table_block_of t k
 
--- n entries of a slot, of which the first stands in word `first`
+-- n entries of a slot, the first of them in word `first`
 abbrev pub entries_in : List Block → ℕ → ℕ → List (Option ℕ)
 entries_in slot first n = map (λ i. entry_from (record_word slot (first + i))) (range_with_len 0 n)
 
--- the tables of a slot, eight words a block: the block table behind the record, the page table behind that
+-- the tables of a slot, eight words a block: the block table after the record, the page table after that
 abbrev pub tables_in : Parameters → List Block → Tables
 tables_in p slot = record {
   btt = entries_in slot (8 * record_blocks p) p.btt;

@@ -1,12 +1,12 @@
 -- Part of the claim.
--- The tables as words, eight entries a block: the block table, and behind it the page table.
+-- The tables as words, eight entries a block: the block table, and after it the page table.
 use Rattle.std.specs.Prelude.{◌≡◌, ℕ, ◌+◌, ◌-◌, ◌*◌, ◌^◌, ◌<◌, ◌==◌, if◌then◌else◌, List, ◌++◌, length, map, take, drop, Option, Some, None}
 use Rattle.thy_base.specs.declared.block.Block.{Block}
 use Rattle.thy_base.specs.declared.config.Parameters.{Parameters}
 use Rattle.thy_record.specs.Tables.{Tables, Lists}
 use Rattle.thy_base.specs.Words.{block_of}
 
--- an entry as a word: 0 where it is empty, else one more than the number that it lists
+-- an entry as a word: 0 if it is empty, else one more than the number that it lists
 abbrev pub entry_word : Option ℕ → ℕ
 entry_word None = 0
 entry_word (Some n) = n + 1

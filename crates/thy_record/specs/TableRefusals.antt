@@ -8,7 +8,7 @@ use Rattle.thy_record.specs.declared.bad_image.BadImage.TheVariants.{TableIndex,
 use Rattle.thy_record.specs.Tables.{Tables, Lists}
 use Rattle.thy_record.specs.TableFaults.{tables_fault}
 
--- an entry lists a block or a page that memory has not; the page table's entries are counted behind the block table's
+-- an entry lists a block or a page that memory has not; the page table's entries are counted after the block table's
 pub data ListsBeyond (p : Parameters) (t : Tables) : ℕ → Type 0 where
   BlockBeyond : (i block : ℕ) → Lists t.btt i block → memory_blocks p ≤ block → ListsBeyond p t i
   PageBeyond : (j page : ℕ) → Lists t.ptt j page → p.pages ≤ page → ListsBeyond p t (p.btt + j)
@@ -49,7 +49,7 @@ Says p t (TableTwice i k) = IsFirstTwice p t i k
 Says p t (BlockUnderPage i j) = IsFirstUnder p t i j
 Says p t _ = ⊥
 
--- that is so of the refusal that is found
+-- this holds of the refusal that is found
 abbrev pub FoundIsSo : Type 0
 FoundIsSo =
     (p : Parameters) (t : Tables) (bad : BadImage)

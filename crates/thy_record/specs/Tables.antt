@@ -1,5 +1,5 @@
 -- Part of the claim.
--- The two tables of a checkpoint, and where it has each block of memory.
+-- The two tables of a checkpoint, and the place at which it has each block of memory.
 use Rattle.std.specs.Prelude.{◌≡◌, ℕ, ◌%◌, ◌==◌, ◌<◌, Bool, false, List, length, slice_index_or, Option, Some, None}
 use Rattle.std.specs.List.{position}
 use Rattle.thy_base.specs.declared.config.Parameters.{Parameters}
@@ -10,9 +10,9 @@ use Rattle.thy_base.specs.Store.{page_of}
 
 -- an entry of a table lists a number or is empty
 pub record Tables : Type 0 where
-  -- the block table: the block of memory that stands in each alternate block
+  -- the block table: the block of memory that each alternate block holds
   pub btt : List (Option ℕ)
-  -- the page table: the page of memory that stands in each alternate page
+  -- the page table: the page of memory that each alternate page holds
   pub ptt : List (Option ℕ)
 
 -- entry i of a table, which is empty past its end
@@ -32,7 +32,7 @@ is_entry_of n (Some m) = m == n
 abbrev pub entry_of : List (Option ℕ) → ℕ → Option ℕ
 entry_of table n = position (is_entry_of n) table
 
--- where a block stands, by the entry of the page table that lists its page
+-- the place of a block, by the entry of the page table that lists its page
 abbrev pub place_in_page : Option ℕ → ℕ → Place
 place_in_page None b = Home b
 place_in_page (Some j) b = AlternatePage j (b % 64)
@@ -42,7 +42,7 @@ abbrev pub place_by_entries : Option ℕ → Option ℕ → ℕ → Place
 place_by_entries None page b = place_in_page page b
 place_by_entries (Some i) page b = AlternateBlock i
 
--- where block b of memory stands
+-- the place of block b of memory
 abbrev pub place_of : Tables → ℕ → Place
 place_of t b = place_by_entries (entry_of t.btt b) (entry_of t.ptt (page_of b)) b
 

@@ -2,11 +2,11 @@
 ghost use Rattle.std.specs.Prelude.{◌≡◌};
 ghost use Rattle.thy_record.specs.Refusals.{number_of, name_of};
 
-/// What is wrong with an image. The variants stand in the order in which they are tested. Entries of the page table
-/// are counted behind those of the block table, where a variant may name either.
+/// What is wrong with an image. The variants are in the order in which they are tested. Entries of the page table
+/// are counted after those of the block table, if a variant may name either.
 #[derive(Clone, Copy, Debug, PartialEq, Eq)]
 pub enum BadImage {
-    /// There is no commit block: a file has fewer than 128 bytes. Or it is all zero, where a checkpoint has to be
+    /// There is no commit block: a file has fewer than 128 bytes. Or it is all zero, if a checkpoint has to be
     /// there; `check` says of that `Nothing`.
     Empty,
     /// The header does not begin with its name.
@@ -14,9 +14,9 @@ pub enum BadImage {
     /// The header's version is another.
     Version,
     /// The image was made for another geometry: base, pages, console or the size of a table differs. Or the header's
-    /// last word is not zero, or, where the layout asks for it, the image has another length.
+    /// last word is not zero, or, if the layout asks for it, the image has another length.
     Geometry,
-    /// The commit block does not begin with its name, its epoch is not below the ceiling, or a word behind the epoch
+    /// The commit block does not begin with its name, its epoch is not below the ceiling, or a word after the epoch
     /// is not zero; or the processor's record is of another epoch.
     Commit,
     /// This entry of the tables names a block or a page that is not there.

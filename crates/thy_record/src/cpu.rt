@@ -38,7 +38,7 @@ fn status_from(tag: u64, value: u64) -> Status
     }
 }
 
-// Whether a tag and a value are a status: 0 where the program runs, an exit's value up to 255, a trap's
+// Whether a tag and a value are a status: 0 if the program runs, an exit's value up to 255, a trap's
 // number up to 7.
 pub(crate) fn is_status(tag: u64, value: u64) -> bool
     ensures { result ≡ is_status_of tag value }

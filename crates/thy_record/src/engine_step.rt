@@ -5,7 +5,7 @@
 pub enum EngineStep {
     /// No checkpoint is under way.
     Idle,
-    /// A block of memory was copied to where the checkpoint has it.
+    /// A block of memory was copied to its place by the checkpoint's tables.
     Copied,
     /// A block of a page was written back.
     PageBlock,
@@ -17,6 +17,6 @@ pub enum EngineStep {
     Barrier,
     /// The commit block was written.
     CommitWritten,
-    /// The barrier behind the commit block: the checkpoint of this epoch is committed.
+    /// The barrier after the commit block: the checkpoint of this epoch is committed.
     Committed(u64),
 }

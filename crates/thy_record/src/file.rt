@@ -1,4 +1,4 @@
-//! The check of an image that stands in a file.
+//! The check of an image in a file.
 ghost use Rattle.std.specs.Prelude.{◌≡◌, ◌*◌, ◌≤◌, length};
 ghost use Rattle.thy_base.specs.Device.{block_at};
 ghost use Rattle.thy_base.specs.Places.{slot_blocks, image_blocks};
@@ -49,7 +49,7 @@ fn image_fault(image: &[u8], commit: &Block, geometry: &Geometry, ceiling: u64) 
     slot_fault(slot, word(commit, 1), geometry, ceiling)
 }
 
-/// What the bytes of a file have for a geometry: nothing, where there are 128 of them and the commit block is
+/// What the bytes of a file have for a geometry: nothing, if there are at least 128 of them and the commit block is
 /// all zero; else the first of the refusals; else the checkpoint of an epoch. Epochs and counts have to be
 /// below the ceiling.
 pub fn check(image: &[u8], geometry: &Geometry, ceiling: u64) -> Result<Found, BadImage>

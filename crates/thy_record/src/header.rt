@@ -30,7 +30,7 @@ pub fn header_block(geometry: &Geometry) -> Block
 }
 
 /// The first fault of a header, if it has one: another name, another version, another geometry. `long` says
-/// that the image has as many blocks as the geometry asks for; where it has not, or the last word is not zero, that is
+/// whether the image has as many blocks as the geometry asks for; if it has not, or the last word is not zero, that is
 /// another geometry.
 #[tactic(auto, unfolding(crate::specs::Header::header_fault))]
 pub fn header_fault(block: &Block, geometry: &Geometry, long: bool) -> Option<BadImage>

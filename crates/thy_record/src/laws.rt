@@ -4,13 +4,13 @@ ghost use Rattle.thy_record.specs.ImageLaws.{FaultlessTables, BlocksHavePlaces, 
 ghost use Rattle.thy_record.specs.Issuing.{ListedHomeIsUnused, PagedHomeIsUnused, EmptyEntryIsUnused, EmptyPageIsUnused, FreeIsNotLooked, NothingIsLooked, PlacedIsMemory, MemoryIsPlaced};
 ghost use Rattle.thy_record.specs.TableRefusals.{FoundIsSo, SoIsFound};
 
-/// Tables are those that a checkpoint may have exactly where no fault is found in them.
+/// Tables are those that a checkpoint may have exactly if no fault is found in them.
 pub fn faultless_tables()
     ensures { FaultlessTables }
 {}
 
-/// Tables have a refusal exactly where what it says of the entries that it names is so: they are the first of which it
-/// is, and no fault that is looked for before is there.
+/// Tables have a refusal exactly if what it says of the entries that it names holds: they are the first for which it
+/// holds, and no fault that is tested before is there.
 pub fn refusals_name_the_first_entries()
     ensures found { FoundIsSo }
     ensures so { SoIsFound }
@@ -35,7 +35,7 @@ pub fn record_reads_back()
 {}
 
 /// A block of a table reads back as it was written, entry by entry; and so do both tables from their blocks in a slot,
-/// whatever they list and whatever else stands there.
+/// whatever they list and whatever else the slot holds.
 pub fn tables_read_back()
     ensures entries { EntriesReadBack }
     ensures tables { TablesReadBack }
@@ -62,7 +62,7 @@ pub fn decoded_is_whole()
     ensures { DecodedIsWhole }
 {}
 
-/// What an image means is told by the blocks at the places looked at alone.
+/// What an image means is determined by the blocks at the places looked at alone.
 pub fn looked_decides()
     ensures { LookedDecides }
 {}
@@ -72,7 +72,7 @@ pub fn ceiling_grows()
     ensures { CeilingGrows }
 {}
 
-/// A place that no block of memory stands in: the home of a block that is listed or whose page is, and what an
+/// A place that holds no block of memory: the home of a block that is listed or whose page is, and what an
 /// empty entry owns.
 pub fn unused_places()
     ensures listed_home { ListedHomeIsUnused }
@@ -81,14 +81,14 @@ pub fn unused_places()
     ensures empty_page { EmptyPageIsUnused }
 {}
 
-/// What is free for an image's checkpoint is none of the blocks that tell what the image means; and where it has no
+/// What is free for an image's checkpoint is none of the blocks that determine what the image means; and if it has no
 /// checkpoint, every block but the commit block is free.
 pub fn free_is_not_looked_at()
     ensures free { FreeIsNotLooked }
     ensures nothing { NothingIsLooked }
 {}
 
-/// Memory, read through tables, is a list of blocks exactly where each of these stands at its place by the tables.
+/// Memory, read through tables, is a list of blocks exactly if each of these is at its place by the tables.
 pub fn memory_is_read_at_its_places()
     ensures blocks { PlacedIsMemory }
     ensures memory { MemoryIsPlaced }

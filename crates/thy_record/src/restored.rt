@@ -16,7 +16,7 @@ use std::alloc::{AllocError, Global};
 use thy_base::{BLOCK_SIZE, Bytes, Geometry, Place};
 use thy_isa::MachState;
 
-// Where the tables of a slot have block b of memory.
+// The place of block b of memory by the tables of a slot.
 fn place(slot: &[u8], geometry: &Geometry, b: u64) -> Place
     requires { length slot.now ≡ 64 * slot_blocks geometry.now }
     ensures { result ≡ place_by_tables (tables_in geometry.now (blocks_of slot.now)) b }
@@ -33,7 +33,7 @@ fn place(slot: &[u8], geometry: &Geometry, b: u64) -> Place
     }
 }
 
-// The bytes of so many blocks of memory from block `first` on, from where the tables of a slot have them.
+// The bytes of so many blocks of memory from block `first` on, each read at its place by the tables of a slot.
 fn gathered(
     alloc: Global,
     image: &[u8],

@@ -1,4 +1,4 @@
-//! The bytes of a slot: the processor's record of 320, and behind it the block table and the page table.
+//! The bytes of a slot: the processor's record of 320, and after it the block table and the page table.
 ghost use Rattle.std.specs.Prelude.{◌≡◌, ◌*◌, ◌/◌, ◌<◌, ◌≤◌, length};
 ghost use Rattle.thy_base.specs.Places.{slot_blocks};
 ghost use Rattle.thy_record.specs.Cpu.{record_word, cpu_of_record};
@@ -58,7 +58,7 @@ pub(crate) fn ptt_in<'a>(slot: &'a [u8], geometry: &Geometry) -> &'a [u8]
     &slot[first..first + 8 * p.ptt as usize]
 }
 
-/// The block that entry `i` of the block table in these bytes of a slot lists; none where the entry is empty.
+/// The block that entry `i` of the block table in these bytes of a slot lists; none if the entry is empty.
 pub fn listed_block(slot: &[u8], i: usize, geometry: &Geometry) -> Option<u64>
     requires slot { length slot.now ≡ 64 * slot_blocks geometry.now }
     requires entry { i < geometry.now.btt }
@@ -67,7 +67,7 @@ pub fn listed_block(slot: &[u8], i: usize, geometry: &Geometry) -> Option<u64>
     entry(btt_in(slot, geometry), i)
 }
 
-/// The page that entry `j` of the page table there lists; none where the entry is empty.
+/// The page that entry `j` of the page table there lists; none if the entry is empty.
 pub fn listed_page(slot: &[u8], j: usize, geometry: &Geometry) -> Option<u64>
     requires slot { length slot.now ≡ 64 * slot_blocks geometry.now }
     requires entry { j < geometry.now.ptt }

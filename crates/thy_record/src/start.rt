@@ -1,4 +1,4 @@
-//! Where a run starts.
+//! The start of a run.
 
 use thy_base::{Bytes, Mark};
 use thy_isa::MachState;
@@ -7,7 +7,7 @@ use thy_isa::MachState;
 #[derive(Debug, Drop)]
 pub struct Start {
     pub state: MachState,
-    /// The checkpoint that the state was taken from; none where it was made from a file.
+    /// The checkpoint that the state was taken from; none if it was made from a file.
     pub kept: Option<Mark>,
     pub input: Bytes,
 }

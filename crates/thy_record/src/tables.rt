@@ -5,7 +5,7 @@ ghost use Rattle.thy_base.specs.Words.{block_of};
 
 use thy_base::{Block, block_with};
 
-// An entry as a word: 0 where it is empty, else one more than its number.
+// An entry as a word: 0 if it is empty, else one more than its number.
 fn entry_word(entry: Option<u64>) -> u64
     requires { word_of_entry entry < 2 ^ 64 }
     ensures { result ≡ word_of_entry entry }

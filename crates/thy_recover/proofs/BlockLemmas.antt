@@ -84,7 +84,7 @@ block_of_memory memory rest from inside =
     let most : 64 ≤ length (drop from memory) = omega (arith, length-drop from memory) in
     sym (ap (take 64) (drop-append-le from memory rest start) ∙ take-append-le 64 (drop from memory) rest most)
 
--- a block behind the memory of a start
+-- a block after the memory of a start
 pub block_behind_memory : (memory console : List ℕ) (from k : ℕ) → length memory ≤ from → (from - length memory) + 64 ≤ length console + k
     → take 64 (drop (from - length memory) console ++ replicate 64 0) ≡ take 64 (drop from (memory ++ (console ++ replicate k 0)))
 block_behind_memory memory console from k behind enough =

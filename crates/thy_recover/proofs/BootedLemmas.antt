@@ -1,4 +1,4 @@
--- Where a boot ends: at a restart of the kept mark, or at the start.
+-- The end of a boot: at a restart of the kept mark, or at the start.
 use Rattle.std.proofs.Common.{◌≡◌, ℕ, true, List, length, map, None, sym, ◌∙◌, ap, subst, arith}
 use Rattle.thy_base.specs.declared.block.Block.{Block}
 use Rattle.thy_base.specs.declared.config.Parameters.{Parameters}

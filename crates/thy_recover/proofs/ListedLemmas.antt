@@ -10,7 +10,7 @@ use Rattle.thy_control.specs.CheckpointTables.{tables0}
 use Rattle.thy_control.specs.Boot.{MayListBlock, MayListPage, TablesMayListBlock, TablesMayListPage, with_block, with_page}
 use Rattle.thy_recover.specs.Listed.{HaveFirst, ListsUpTo, AsListed}
 
--- a list that has the first entries of another, and none behind them, lists no more
+-- a list that has the first entries of another, and none after them, lists no more
 lists_first : (xs ys : List (Option ℕ)) (i : ℕ) → ((k : ℕ) → k < i → entry_at ys k ≡ entry_at xs k) → ((k : ℕ) → i ≤ k → entry_at ys k ≡ None)
     → (k n : ℕ) → Lists ys k n → Lists xs k n
 lists_first xs ys i before behind k n l = elim (cases_lt k i) as (λ _. Lists xs k n) [
@@ -87,7 +87,7 @@ module _ (p : Parameters) (i j : ℕ) (t : Tables) (c : State) (same : c.p ≡ p
       law j n c sound l.booting (subst (λ (q : Parameters). j < q.ptt) (sym same) inside) (l.have.no_pages j (omega arith))
       (valid_in (with_page j n (tables0 c)) i (j + 1) (page_more i j t (tables0 c) l.have n (omega (arith, inside, v.ptt_length)) is))
 
--- where none was gone through, and over one call after another
+-- if none was gone through, and over one call after another
 pub AsListed-start : (i j : ℕ) (t : Tables) (c : State) → ListsUpTo i j t c → AsListed i j t c c
 AsListed-start i j t c l = record { lists = l; same = refl }
 

@@ -27,7 +27,7 @@ framed_inside c i m t may = by_entry (live_at c.ptt i) refl may.listed where
       let is : framed_block i m c ≡ 64 * e.page + m = ap (λ (o : Option PttEntry). 64 * page_in o + m) s in
       omega (arith, page, is, t.ptt_numbers, may.inside)
 
--- a page is live in a booting controller exactly where the committed checkpoint lists it
+-- a page is live in a booting controller exactly if the committed checkpoint lists it
 pub live_in_tables : (c : State) → IsBooting c → (j : ℕ) → is_some (live_at c.ptt j) ≡ is_some (entry_at (tables0 c).ptt j)
 live_in_tables c booting j =
     by_entry (live_at c.ptt j) refl

@@ -79,7 +79,7 @@ module _ (p : Parameters) (slot : List Block) (from k : ℕ) (h : IsPosition p s
       let largest : max k (64 * h.j) ≡ k = omega (arith, h.is) in
       ap (position_in k) first ∙ ap Some largest
 
--- where there is none, no page is listed from there on
+-- if there is none, no page is listed from there on
 pub none_listed_from : (p : Parameters) (slot : List Block) (from : ℕ) → next_position p slot from ≡ None
     → (i : ℕ) → from / 64 ≤ i → is_some (entry_at (tables_in p slot).ptt i) ≡ false
 none_listed_from p slot from h i above = by_first (first_from is_some (from / 64) (tables_in p slot).ptt) refl h where
@@ -97,7 +97,7 @@ no_both : true ≡ false → ⊥
 no_both e = cc
 
 module _ (slot : List Block) (c : State) (l : ListsSlot slot c) where
-  -- a page is live exactly where the slot lists it
+  -- a page is live exactly if the slot lists it
   pub live_listed : (j : ℕ) → is_some (live_at c.ptt j) ≡ is_some (entry_at (tables_in c.p slot).ptt j)
   live_listed j = live_in_tables c l.booting j ∙ ap (λ (t : Tables). is_some (entry_at t.ptt j)) l.are
 

@@ -1,4 +1,4 @@
--- What a load gives of a controller that a boot has filled: the blocks of the image, where its tables have them.
+-- What a load gives of a controller that a boot has filled: the blocks of the image, at their places by its tables.
 use Rattle.std.proofs.Common.{◌≡◌, ℕ, [], ◌<◌, Bool, true, false, if◌then◌else◌, length, refl, sym, ◌∙◌, ap, subst, arith, Option, Some, None}
 use Rattle.std.specs.List.{range_with_len}
 use Rattle.std.proofs.lemmas.List.{length-map, get_or-map, ext_get_or}
@@ -65,7 +65,7 @@ still_page c boot n = by_place (place_of page_key n c.ptt) refl where
       let f = found_entry page_key no_page c.ptt n j h in
       subst (λ (e : PttEntry). IsStillPage e) (sym (entry_for-some page_key no_page c.ptt n j f.0 h f.1 ∙ boot.pages j f.0 f.1)) (record { dirty = refl; fresh = refl; busy = refl; same = refl })
 
--- so the last version stands where the committed one does
+-- so the last version is at the place of the committed one
 last_is_penult : (x : Cell) → IsStill x.entry → IsStillPage x.page → last x ≡ penult x
 last_is_penult x e p =
     ap (λ (z : Bool). if z then frame_at (seat_of x) else pending_at x.entry.pend x.entry.v1 x.page.target (seat_of x)) p.busy

@@ -1,4 +1,4 @@
--- Where a boot ends: what the scheme above goes on from.
+-- The end of a boot: the state from which the scheme above continues.
 use Rattle.std.specs.Prelude.{◌≡◌, true, List, [], Some, None}
 use Rattle.thy_base.specs.declared.block.Block.{Block}
 use Rattle.thy_base.specs.declared.mark.Mark.{Mark}

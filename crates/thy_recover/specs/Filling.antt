@@ -1,5 +1,5 @@
--- What this scheme's boot fills: the controller, with version 1 of images. A position is 64 times an entry of the page table
--- and a block of its page.
+-- What this scheme's boot fills: the controller, with version 1 of images. A position is 64 times an entry of the
+-- page table and a block of its page.
 use Rattle.std.specs.Prelude.{◌≡◌, ℕ, ◌+◌, ◌*◌, ◌/◌, ◌%◌, ◌<◌, ◌≤◌, max, List, map, is_some, Option, Some, None}
 use Rattle.std.specs.List.{range_with_len}
 use Rattle.thy_base.specs.declared.block.Block.{Block}
@@ -28,7 +28,7 @@ use Rattle.thy_protocol.specs.VersionOneParts.{parts_by}
 use Rattle.thy_boot.specs.Filling.{FillingOf, First}
 use Rattle.thy_recover.specs.Start.{IsStartFor, start_blocks, no_tables}
 
--- the position itself, where its entry lists a page, else the first block of the next page that is listed
+-- the position itself, if its entry lists a page, else the first block of the next page that is listed
 abbrev pub position_in : ℕ → Option ℕ → Option ℕ
 position_in from None = None
 position_in from (Some j) = Some (max from (64 * j))

@@ -19,7 +19,7 @@ pub record ListsUpTo (i j : ℕ) (t : Tables) (c : State) : Type 0 where
   pub booting : IsBooting c
   pub have : HaveFirst i j t (tables0 c)
 
--- so it is after some were listed, and but for its tables the controller is as before
+-- this holds after some were listed, and except for its tables the controller is as before
 pub record AsListed (i j : ℕ) (t : Tables) (old new : State) : Type 0 where
   pub lists : ListsUpTo i j t new
   pub same : record new { btt = old.btt; ptt = old.ptt } ≡ old

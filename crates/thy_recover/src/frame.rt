@@ -10,7 +10,7 @@ ghost use Rattle.thy_view.specs.Action.{ReadAt};
 use thy_base::{Block, Nvm, NvmError};
 use thy_control::Control;
 
-/// Copies the block of a position from the alternate page into the frame. Where the read failed, the controller is as before.
+/// Copies the block of a position from the alternate page into the frame. If the read failed, the controller is as before.
 pub fn fill<N: Nvm>(
     control: &mut Control,
     commit: &Block,

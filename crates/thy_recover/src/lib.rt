@@ -2,8 +2,8 @@
 //! filled, and what a start makes of an empty NVM. The boot itself is thy_boot's, over `filling_one`; the scheme above says
 //! so (`Fills` in thy_dual).
 //!
-//! Open specs/Filling.antt first, then specs/Booted.antt, and src/listing.rt. It stands on thy_control, thy_boot and what
-//! those stand on; on it stand thy_dual_model and thy_dual.
+//! Open specs/Filling.antt first, then specs/Booted.antt, and src/listing.rt. It depends on thy_control, thy_boot and their
+//! dependencies; thy_dual_model and thy_dual depend on it.
 #![tactic(auto)]
 
 mod frame;

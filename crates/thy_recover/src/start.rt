@@ -11,7 +11,7 @@ use thy_base::{Block, Geometry, block_with};
 use thy_isa::{CpuState, MachState};
 use thy_record::cpu_block;
 
-/// Where block `b` of a start's memory goes, and that block.
+/// The place that block `b` of a start's memory is written to, and that block.
 pub fn first_memory(geometry: &Geometry, state: &MachState, b: u64) -> (u64, Block)
     requires start { CanStart geometry.now (state_of state.now) }
     requires inside { b < length (first_of_start geometry.now (state_of state.now)).parts.memory }
@@ -21,7 +21,7 @@ pub fn first_memory(geometry: &Geometry, state: &MachState, b: u64) -> (u64, Blo
     (geometry.home(b), start_block(geometry, state, b))
 }
 
-/// Where block `k` of its slot goes, and that block.
+/// The place that block `k` of its slot is written to, and that block.
 pub fn first_slot(geometry: &Geometry, state: &MachState, k: u64) -> (u64, Block)
     requires start { CanStart geometry.now (state_of state.now) }
     requires inside { k < (first_of_start geometry.now (state_of state.now)).parts.slot_blocks }
@@ -31,7 +31,7 @@ pub fn first_slot(geometry: &Geometry, state: &MachState, k: u64) -> (u64, Block
     (geometry.slot(0) + k, start_slot_block(geometry, state, k))
 }
 
-/// Block `b` of a start: its memory, and behind that its console filled up with zeros.
+/// Block `b` of a start: its memory, and after that its console filled up with zeros.
 fn start_block(geometry: &Geometry, state: &MachState, b: u64) -> Block
     requires place { b < memory_blocks geometry.now }
     requires start { IsStartFor geometry.now (state_of state.now) }
@@ -75,7 +75,7 @@ fn fill(block: &mut [u8], bytes: &[u8], from: usize, count: usize)
     block[..count].copy_from_slice(&bytes[from..from + count]);
 }
 
-/// Block `k` of a start's slot: the processor's record at epoch 0, and behind it tables that list nothing.
+/// Block `k` of a start's slot: the processor's record at epoch 0, and after it tables that list nothing.
 fn start_slot_block(geometry: &Geometry, state: &MachState, k: u64) -> Block
     requires place { k < slot_blocks geometry.now }
     requires start { IsStartFor geometry.now (state_of state.now) }

@@ -140,7 +140,7 @@ module _ (s : State) (n : Device) (slot : List Block) (listed : HasListed slot s
     abbrev named : ℕ
     named = slot_named (block_at n.image 1)
 
-    -- a block loads as it stands where the slot's table has it
+    -- a block loads as it is at its place by the slot's table
     work_stands : (b : ℕ) (o : Option ℕ) → entry_of (table_of s) b ≡ o → work_by s n b o ≡ block_at n.image (place_by s.p named b o)
     work_stands b None is = newest-settled n (home_place s.p b) settled
     work_stands b (Some i) is =

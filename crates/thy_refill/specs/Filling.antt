@@ -34,7 +34,7 @@ pub record HasListed (slot : List Block) (s : State) : Type 0 where
 abbrev pub slot_named : Block → ℕ
 slot_named commit = epoch_of commit % 2
 
--- the live entries below one have in their buffers what stands in the journal of the image's slot
+-- the buffers of the live entries below one hold what the journal of the image's slot holds for them
 pub record AreFilled (s : State) (n : Device) (from : ℕ) : Type 0 where
   pub each : (i b : ℕ) → i < from → Lists (table_of s) i b
       → buffer_of s i ≡ newest n (journal_place s.p (slot_named (block_at n.image 1)) i)

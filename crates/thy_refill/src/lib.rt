@@ -1,8 +1,8 @@
-//! What the boot makes of the journal's log: after a restart, the buffers of its table have what the journal of the checkpoint
-//! has. Callers rest on `the_log_is_filled`, and on `slot_fault` and
-//! `next_listed`, which read the bytes of a slot.
+//! What the boot makes of the journal's log: after a restart, the buffers of its table have what the journal of the
+//! checkpoint has. Callers rely on `the_log_is_filled`, and on `slot_fault` and `next_listed`, which read the bytes
+//! of a slot.
 //!
-//! Open specs/Filling.antt first. It stands on thy_boot, thy_log and what those stand on.
+//! Open specs/Filling.antt first. It depends on thy_boot, thy_log and their dependencies.
 #![tactic(auto)]
 
 mod laws;

@@ -1,4 +1,4 @@
-//! The bytes of a slot: the processor's record of 320, and behind it the table, eight bytes an entry.
+//! The bytes of a slot: the processor's record of 320, and after it the table, eight bytes an entry.
 ghost use Rattle.std.specs.Prelude.{◌≡◌, ◌*◌, ◌/◌, ◌<◌, length, take, IfSome};
 ghost use Rattle.thy_record.specs.Cpu.{record_word, is_status as is_status_of};
 ghost use Rattle.thy_record.specs.Files.{blocks_of};
@@ -156,9 +156,9 @@ fn table_fault(slot: &[u8], geometry: &Geometry) -> Option<BadImage>
     index_fault(slot, geometry).or(twice_fault(slot, geometry))
 }
 
-/// The first fault of the slot with these bytes under a commit block of this epoch, if it has one: a record of another epoch, a
-/// table that no checkpoint has, a status without meaning or a count that is not below the ceiling, a console longer than its
-/// pages.
+/// The first fault of the slot with these bytes under a commit block of this epoch, if it has one: a record of
+/// another epoch, a table that no checkpoint has, a status without meaning or a count that is not below the ceiling,
+/// a console longer than its pages.
 pub fn slot_fault(slot: &[u8], epoch: u64, geometry: &Geometry, ceiling: u64) -> Option<BadImage>
     requires { length slot.now ≡ 64 * slot_blocks geometry.now }
     ensures { result ≡ fault_of_slot geometry.now ceiling epoch (blocks_of slot.now) }

@@ -11,7 +11,7 @@ use thy_boot::start_cpu;
 use thy_isa::MachState;
 use thy_record::cpu_block;
 
-/// Block `k` of a start's slot: the processor's record at epoch 0, and behind it a table that lists nothing.
+/// Block `k` of a start's slot: the processor's record at epoch 0, and after it a table that lists nothing.
 pub fn start_slot_block(geometry: &Geometry, state: &MachState, k: u64) -> Block
     requires place { k < slot_blocks geometry.now }
     requires start { IsStartFor geometry.now (state_of state.now) }

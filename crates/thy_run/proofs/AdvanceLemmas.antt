@@ -41,7 +41,7 @@ use Rattle.thy_run.specs.Stopping.{stop_of}
 use Rattle.thy_base.proofs.RangeLemmas.{epoch_least}
 use Rattle.thy_run.proofs.StepFrames.{TakesStep-framed}
 
--- with one hart there is no turn to tell
+-- with one hart there is no turn to report
 pub untold_of : (plan : Plan) (v : View) → turns_behind (origin_of plan) v.done ≡ []
 untold_of plan v = drop_all (count_of v.done - (origin_of plan).start.count) [] (omega arith)
 
@@ -50,7 +50,7 @@ pub progress_stepped : {M : Type 0} → (p : Progress M) (m : M) (mix : Mix) →
     → record { machine = m; mix = mix; events = p.events; passed = p.passed; released = p.released; fresh = p.fresh; terminal_failed = p.terminal_failed; report_failed = p.report_failed } ≡ record p { machine = m; mix = mix_next p.mix }
 progress_stepped p m mix is = ap (λ x. record p { machine = m; mix = x }) is
 
--- what holds of a run that goes on
+-- what holds of a run that continues
 pub good_of : {M : Type 0} (K : KindOf M) → (plan : Plan) (fitted : Device) (p : Progress M) (n : Device) (k : ℕ) → IsPlanned plan → GoesOn K plan fitted p n k → Good K (origin_of plan) plan.config.cuts (world_at p n k)
 good_of {M = M} K plan fitted p n k planned g =
     Good-ran K (origin_of plan) (given_of plan fitted) k (world_at p n k) (epoch_least (origin_of plan).geometry planned.origin.geometry) planned.rising g.ran
@@ -78,7 +78,7 @@ halted_due h d e = ap (λ x. not x && d) e
 due_both : (h d : Bool) → h ≡ false → d ≡ true → (not h && d) ≡ true
 due_both h d e f = ap (λ x. not x && d) e ∙ f
 
--- what a cycle that halts tells of the end
+-- what a cycle that halts reports of the end
 end_told-halted : (o : Origin) (v next : View) (cycle : ℕ) → halts v next ≡ true
     → end_told o v next cycle ≡ EndedEvent (at o next.count).status next.count cycle (at o next.count) ∷ []
 end_told-halted o v next cycle halt =
@@ -148,7 +148,7 @@ module _ {M : Type 0} (K : KindOf M) (laws : IsLawful K) (plan : Plan) (p q : Pr
       let end : IsEnd (origin_of plan) v next None = subst (IsEnd (origin_of plan) v next) is noted.is_end in
       going_next (is_halt v.phase) (is_halt next.phase) noted.steps.going end
 
-  -- the run goes on, and no cut is due
+  -- the run continues, and no cut is due
   pub done_going : ended ≡ None → (cycle : ℕ) → cycle ≡ k + 1 → (nat_lt q.passed (length plan.config.cuts) && slice_index plan.config.cuts q.passed == cycle) ≡ false
       → IsDone K plan p q n m k bytes × (is_halt (seen K (origin_of plan) (world_at q m (k + 1))).phase ≡ false)
   done_going is cycle at_cycle due =
@@ -157,7 +157,7 @@ module _ {M : Type 0} (K : KindOf M) (laws : IsLawful K) (plan : Plan) (p q : Pr
       subst (λ c. (nat_lt q.passed (length plan.config.cuts) && slice_index plan.config.cuts q.passed == c) ≡ false) at_cycle due in
       (done_uncut (going_due (is_halt next.phase) _ (going_on is) due_now), going_on is)
 
-  -- the run goes on, and a cut is due
+  -- the run continues, and a cut is due
   pub awaits_cut : ended ≡ None → (cycle : ℕ) → cycle ≡ k + 1 → (nat_lt q.passed (length plan.config.cuts) && slice_index plan.config.cuts q.passed == cycle) ≡ true
       → AwaitsCut K plan p q n m k bytes
   awaits_cut is cycle at_cycle due = record {
@@ -207,7 +207,7 @@ module _ {M : Type 0} (K : KindOf M) (laws : IsLawful K) (plan : Plan) (p q : Pr
         ap (λ v. is_halt v.phase) found ∙ image_going (origin_of plan).start.count (K.decode (origin_of plan).geometry ceiling m'.image),
       )
 
-  -- a cut was due, and memory was short for it
+  -- a cut was due, and memory ran out
   pub broken_cut : (q' : Progress M) (m' : Device) → ended ≡ None
       → (nat_lt q.passed (length plan.config.cuts) && slice_index plan.config.cuts q.passed == k + 1) ≡ true → q' ≡ q → m' ≡ m → IsBroken K plan p q' n m' k bytes × Breaks K plan p q' n m' k bytes Memory
   broken_cut q' m' is due same device =
@@ -302,7 +302,7 @@ IsNoted-made {M = M} K laws plan fitted p q t n m k r ended bytes planned g s ma
     } in
     subst (λ (y : Progress M). IsNoted K plan p y n m k ended bytes) (sym same) now
 
--- only some events were made, for want of memory
+-- only some events were made, as memory ran out
 pub IsBroken-made : {M : Type 0} (K : KindOf M) (laws : IsLawful K) → (plan : Plan) (fitted : Device) (p q t : Progress M) (n m : Device) (k : ℕ) (r : Stepped) → IsPlanned plan → GoesOn K plan fitted p n k → IsStepped K plan p q n m k r
     → MadeSome t.events (events_of (origin_of plan) q.fresh (seen K (origin_of plan) (world_at p n k)) r.did (K.view (origin_of plan) q.machine m) (k + 1)) q.events
     → t ≡ record q { events = t.events } → IsBroken K plan p t n m k [] × Breaks K plan p t n m k [] Memory
@@ -465,7 +465,7 @@ broken_none {M = M} K plan p q n m k bytes stop is none same h =
 
 -- ---- a quiet cycle
 
--- what has no event of its own tells none
+-- what has no event of its own reports none
 told_none : (o : Origin) (v : View) (did : Did) (cycle : ℕ) → is_told did ≡ false → did_told o v did cycle ≡ []
 told_none o v Loaded cycle h = absurd (cc)
 told_none o v (Restarted epoch count) cycle h = absurd (cc)

@@ -53,7 +53,7 @@ pub record Works {M : Type 0} (K : KindOf M) (o : Origin) (cuts : List ℕ) (w :
   pub queued : t.drains + (K.gauge w.machine w.device).queued ≤ t.others
 
 module _ {M : Type 0} (K : KindOf M) (laws : IsLawful K) (o : Origin) (cuts : List ℕ) where
-  -- so many cycles of the boot are done, and while it goes on those that are left fit in
+  -- so many cycles of the boot are done, and while it continues those that are left fit in
   abbrev IsBooting : World M → ℕ → Type 0
   IsBooting w boots =
       (boots ≤ K.most_booting o.geometry)
@@ -72,7 +72,7 @@ module _ {M : Type 0} (K : KindOf M) (laws : IsLawful K) (o : Origin) (cuts : Li
         queued = omega (arith, p.queued);
       }
 
-  -- a step behind the boot is none of its cycles, and the boot does not come again
+  -- a step after the boot is none of its cycles, and the boot does not come again
   behind : (w next : World M) (step : TakesStep K o w next) (t : Tally) → Works K o cuts w t → is_boot (seen K o w).phase ≡ false → IsBooting next (t.boots + 0)
   behind w next step t h up =
       let kind = kind_of (line o next) (seen K o w) (seen K o next) step.r.did (core_of K o w next step) in

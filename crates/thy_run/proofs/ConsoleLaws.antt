@@ -127,7 +127,7 @@ module _ (o : Origin) (v next : View) (m : Marks) (h : Fits o v m) where
 
 -- ---- what is released
 
--- the mark whose console is released: the committed one, once an event has told of one
+-- the mark whose console is released: the committed one, once an event has reported one
 abbrev pub mark_if : Bool → Option Mark → Option Mark
 mark_if shown kept = if shown then kept else None
 
@@ -138,7 +138,7 @@ shown_of o events = mark_if (list_any shows events) (marks_of o events).kept
 abbrev console_by : Origin → ℕ → List ℕ → List ℕ
 console_by o k turns = (at (told o turns) k).console
 
--- that of a mark is the run's own where its turns lead there
+-- that of a mark is the run's own if its turns reach it
 of_mark : (o : Origin) (t turns : List ℕ) (kept : Option Mark) → ((k : Mark) → kept ≡ Some k → LeadsTo (told o t) turns k.count)
     → console_of (console_by o) kept turns ≡ console_shown (told o t) kept
 of_mark o t turns None leads = refl
@@ -225,7 +225,7 @@ module _ {M : Type 0} (K : KindOf M) (o : Origin) (w next : World M) (least : 1 
   marks_more : (part : List Event) → marks_of o (w.events ++ part) ≡ marks_from o.start.count (marks_of o w.events) part
   marks_more part = marks_from-append o.start.count (first_marks o) w.events part
 
-  -- the marks behind the first of a cycle's events are those before it, or those that what was done leaves
+  -- the marks after the first of a cycle's events are those before it, or those that what was done leaves
   behind_part : (P : Marks → Type 0) → P (marks_of o w.events) → P (marks_from o.start.count (marks_of o w.events) (did_told (line o next) (seen K o w) step.r.did (w.cycles + 1)))
       → (part rest : List Event) → part ++ rest ≡ events_of (line o next) w.fresh (seen K o w) step.r.did (seen K o next) (w.cycles + 1) → P (marks_of o (w.events ++ part))
   behind_part P stood done part rest e =
@@ -257,7 +257,7 @@ module _ {M : Type 0} (K : KindOf M) (o : Origin) (w next : World M) (least : 1 
       grows_if (list_any shows w.events) (list_any shows (w.events ++ part)) (marks_of o w.events).kept (marks_of o (w.events ++ part)).kept
       (shown_on o w.events part) (part_grows part rest e)
 
-  -- what was released before is the console along the turns that are told behind the step
+  -- what was released before is the console along the turns that are reported after the step
   before : released_of o w.events ≡ console_shown (line o next) (shown_of o w.events)
   before = released_marks o next.turns w.events leads.kept
 

@@ -1,4 +1,4 @@
--- What a view has committed or in doubt is among the marks that the events tell of, also in the midst of a cycle's events.
+-- What a view has committed or in doubt is among the marks that the events report, also in the midst of a cycle's events.
 use Rattle.std.proofs.Common.{◌≡◌, ◌⊎◌, ℕ, ◌≤◌, Bool, true, false, ◌&&◌, ◌||◌, if◌then◌else◌, Option, Some, None, List, [], ◌∷◌, ◌++◌, refl, sym, ◌∙◌, ap, subst, inl, inr}
 use Rattle.thy_base.specs.declared.cause.EndCause.{EndCause}
 use Rattle.thy_base.specs.declared.mark.Mark.{Mark}
@@ -76,7 +76,7 @@ Covers-fits o v m f = unsealed m.kept m.sealed v.done v.sealed v.written (Covers
 pub Covers-fault : (o : Origin) (v : View) (m : Marks) (a : Action) → Fits o v m → Covers m.kept m.sealed v.done (doubt_after_fault a v)
 Covers-fault o v m a f = unsealed m.kept m.sealed v.done v.sealed (is_commit_write a || v.written) (Covers-sealed o v m f)
 
--- a step's view, before its event is told
+-- a step's view, before its event is reported
 before_commit : (o : Origin) (v next : View) (m : Marks) (s : Mark) → RunFits o v m → v.sealed ≡ Some s → next.done ≡ v.sealed → next.sealed ≡ None
     → Covers m.kept m.sealed next.done next.sealed
 before_commit o v next m s f sealed done none = record {

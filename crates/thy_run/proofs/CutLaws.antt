@@ -183,7 +183,7 @@ leads_cut p t v m (At epoch state) f l one agree =
           (leads_told p t (turns_of m epoch state.count) state.count agree here.leads);
     }
 
--- what the view behind a cut finds is what was left
+-- what the view after a cut finds is what was left
 pub found_cut : (p : Origin) (t : List ℕ) (v : View) (d : Decoded) → IsOneOf p v.done (doubt_of v) d → AgreeBelow p t (reach (view_of_image p.start.count d))
     → IsFound (told p t) (view_of_image p.start.count d) d
 found_cut p t v NothingLeft one agree = refl

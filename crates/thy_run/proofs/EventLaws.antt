@@ -23,7 +23,7 @@ not_boot : (b : Bool) → (if b then Run else Halt) ≡ BootPhase → {A : Type 
 not_boot true e = absurd (cc)
 not_boot false e = absurd (cc)
 
--- a boot that goes on tells nothing but a reload
+-- a boot that continues reports nothing but a reload
 pub told-booting : (o : Origin) (v next : View) (did : Did) (cycle : ℕ) → CoreStep o v did next → next.phase ≡ BootPhase → did_told o v did cycle ≡ []
 told-booting o v next Boot cycle s boot = refl
 told-booting o v next Loaded cycle s boot = absurd (let e : next.phase ≡ Run = ap (λ w. w.phase) s.becomes in cc)

@@ -1,4 +1,4 @@
--- What holds of the machine's view and of the marks that the events tell of, between two cycles.
+-- What holds of the machine's view and of the marks that the events report, between two cycles.
 use Rattle.std.proofs.Common.{◌≡◌, ◌⊎◌, ℕ, ◌+◌, ◌<◌, ◌≤◌, true, false, Option, Some, None}
 use Rattle.thy_base.specs.declared.cause.EndCause.{EndCause}
 use Rattle.thy_base.specs.declared.cause.EndCause.TheVariants.{Length, Exhausted, Ended as EndedCause}

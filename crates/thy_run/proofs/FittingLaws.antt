@@ -50,7 +50,7 @@ module _ (o : Origin) (v next : View) (m : Marks) (least : 1 ≤ o.geometry.epoc
       let now : RunFits o (busier v) m = record { mark = f.mark; done = f.done; kept = f.kept; sealed = f.sealed; follows = f.follows; few = f.few; over = f.over } in
       subst (λ w. Fits o w m) (sym e) (in_phase o (busier v) m Run phase now)
 
-  -- the boot goes on
+  -- the boot continues
   boots : v.phase ≡ BootPhase → BootsTo v next → Fits o next m
   boots phase (inl e) = same e
   boots phase (inr b) =
@@ -63,7 +63,7 @@ module _ (o : Origin) (v next : View) (m : Marks) (least : 1 ≤ o.geometry.epoc
       let now : BootFits o w m = record { retired = f.retired; over = f.over; boots = loading f.boots } in
       subst (λ w. Fits o w m) (sym b.1) (in_phase o w m BootPhase phase now)
 
-  -- the engine goes on
+  -- the engine continues
   engine : v.phase ≡ Run → (step : EngineStep) → EngineTo step v next → Fits o next m
   engine phase Idle e = absurd e
   engine phase Copied e = busy phase e
@@ -210,7 +210,7 @@ module _ (o : Origin) (v next : View) (m : Marks) (least : 1 ≤ o.geometry.epoc
           let still : v.count ≡ count = omega (arith, g.1, g.3 runs) in
           record { mark = mark epoch count; done = sealed; sealed = refl; written = refl; kept = f.sealed ∙ sealed; none = refl; count = still; over = ap (runs_at o) still ∙ runs }
 
-  -- a step that tells nothing
+  -- a step that reports nothing
   quiet : (did : Did) (cycle : ℕ) → did_told o v did cycle ≡ [] → Fits o next m → Fits o next (marks_from o.start.count m (did_told o v did cycle))
   quiet did cycle none fits =
       subst (λ vs. Fits o next (marks_from o.start.count m vs)) (sym none) fits

@@ -25,7 +25,7 @@ between_if : (b : Bool) → (is_halt (if b then Run else Halt) || (not (is_boot 
 between_if true = refl
 between_if false = refl
 
--- a restored epoch is behind the boot, and its state that at its count
+-- a restored epoch is after the boot, and its state that at its count
 pub restores_some : (o : Origin) (v next : View) (did : Did) (epoch count : ℕ) (state : Box MachState Global) → did ≡ Restarted epoch count → CoreStep o v did next
     → (is_between next ≡ true → IsSnapshot o next state.value) → Restores o did (Some state)
 restores_some o v next did epoch count state is step shot =
@@ -33,7 +33,7 @@ restores_some o v next did epoch count state is step shot =
     let faults : is_between next ≡ true = ap is_between s.becomes ∙ between_if (runs_at o count) in
     subst (λ d. Restores o d (Some state)) (sym is) ((shot faults).state ∙ ap (λ w. at o w.count) s.becomes)
 
--- what shows a console is behind the boot, with a committed mark
+-- what shows a console is after the boot, with a committed mark
 pub record Shows (next : View) : Type 0 where
   pub mark : Mark
   pub done : next.done ≡ Some mark
@@ -61,7 +61,7 @@ Shows-step o v next NvmDrained s e = never e
 Shows-step o v next DramDrained s e = never e
 Shows-step o v next Nothing s e = never e
 
--- the console of the committed mark, behind the bytes that were released, is what is due
+-- the console of the committed mark, after the bytes that were released, is what is due
 pub due_shown : (o : Origin) (v next : View) (did : Did) (events : List Event) (from : ℕ) (bytes : List ℕ) → CoreStep o v did next → shows_console did ≡ true
     → from ≡ length (released_of o events) → ((m : Mark) → is_boot next.phase ≡ false → next.done ≡ Some m → bytes ≡ drop from (at o m.count).console)
     → bytes ≡ due_of o events did next

@@ -21,7 +21,7 @@ use Rattle.thy_run.specs.World.{did_told, reload_told, end_told, events_of}
 use Rattle.thy_run.proofs.EventLaws.{told-booting, loads-view}
 use Rattle.thy_run.proofs.ImageLemmas.{AllFit-append}
 
--- ---- steps that tell nothing
+-- ---- steps that report nothing
 
 -- phase and committed mark stay
 pub record Stays (v next : View) : Type 0 where
@@ -154,11 +154,11 @@ shape_of o v next did fresh cycle Told c tells = by_test (fresh && loads next) r
     ]
 
 module _ (read : List Block → Decoded) (o : Origin) (cycles : ℕ) (fresh : Bool) (v next : View) (s : Found) (f : ImagesFit o cycles fresh v s) where
-  -- what stands behind an event that is no cut
+  -- what holds after an event that is not a cut
   abbrev settled : Found
   settled = found s.means None
 
-  -- where nothing is found, something was told since the cut, but for the first cycle behind it
+  -- if nothing is found, some event came since the cut, except for the first cycle after it
   told_since : (fresh ≡ true → ⊥) → s.means ≡ NothingLeft → (d : Option ℕ) → s.just ≡ d → s.just ≡ None
   told_since late none_left None is = is
   told_since late none_left (Some cycle) is = elim (f.just cycle is) as (λ _. s.just ≡ None) [
@@ -166,7 +166,7 @@ module _ (read : List Block → Decoded) (o : Origin) (cycles : ℕ) (fresh : Bo
     | inr before ↦ absurd (f.last cycle is before none_left)
   ]
 
-  -- what a step did tells nothing, or an event that fits
+  -- what a step did has no event, or one that fits
   abbrev ToldFits : Did → ℕ → Type 0
   ToldFits did cycle = AllFit read (λ t. t ≡ settled) s (did_told o v did cycle) []
 
@@ -196,7 +196,7 @@ module _ (read : List Block → Decoded) (o : Origin) (cycles : ℕ) (fresh : Bo
         let stays = Stays-quiet o v next did cycle c (told-booting o v next did cycle c boot) in
         not_found o v next s.means stays.done (f.boot (sym stays.phase ∙ boot))
 
-    -- behind events of which the last is no cut
+    -- after events of which the last is not a cut
     settled_images : ImagesFit o (cycles + 1) false next settled
     settled_images = record {
       last = λ at_cycle e. absurd (cc);
@@ -206,7 +206,7 @@ module _ (read : List Block → Decoded) (o : Origin) (cycles : ℕ) (fresh : Bo
       up = λ e. refl;
     }
 
-    -- behind no event
+    -- after no event
     quiet_images : (fresh && loads next) ≡ false → did_told o v did cycle ≡ [] → ImagesFit o (cycles + 1) false next s
     quiet_images unless none = record {
       last = λ at_cycle e before. elim (f.just at_cycle e) as (λ _. s.means ≢ NothingLeft) [
@@ -226,7 +226,7 @@ module _ (read : List Block → Decoded) (o : Origin) (cycles : ℕ) (fresh : Bo
       up = λ e. f.up (sym (ap is_boot (Stays-quiet o v next did cycle c none).phase) ∙ e);
     }
 
-    -- the end behind an event that is no cut
+    -- the end after an event that is not a cut
     end_fits : (b : Bool) → AllFit read (ImagesFit o (cycles + 1) false next) settled (if b then Ended (at o next.count).status next.count cycle (at o next.count) ∷ [] else []) []
     end_fits true = (refl, (refl, settled_images))
     end_fits false = (refl, settled_images)
@@ -246,6 +246,6 @@ module _ (read : List Block → Decoded) (o : Origin) (cycles : ℕ) (fresh : Bo
         subst Fits (sym is) (AllFit-append read (λ t. t ≡ settled) (ImagesFit o (cycles + 1) false next) s (did_told o v did cycle) (end_told o v next cycle) [] []
         (λ t same. subst (λ x. AllFit read (ImagesFit o (cycles + 1) false next) x (end_told o v next cycle) []) (sym same) (end_fits (halts v next))) fits)
 
-    -- a step's events fit what there is to be found, and so does what stands behind them
+    -- a step's events fit what a restart can find, and so does what holds after them
     pub AllFit-events : Fits (events_of o fresh v did next cycle)
     AllFit-events = by_shape (shape_of o v next did fresh cycle (ToldFits did cycle) c (told_fits did cycle c))

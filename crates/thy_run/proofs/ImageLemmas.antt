@@ -6,7 +6,7 @@ use Rattle.thy_text.specs.Event.{Event, EpochEnd, Commit, Cut, Restart, Reload, 
 use Rattle.thy_run.specs.Cuts.{cuts_among}
 use Rattle.thy_run.specs.Images.{Found, found, HasLeft, AllFit}
 
--- more events behind some, and the images of the cuts among them
+-- more events after some, and the images of the cuts among them
 pub AllFit-append : (read : List Block → Decoded) (P Q : Found → Type 0) (s : Found) (vs ws : List Event) (left more : List (List Block))
     → ((t : Found) → P t → AllFit read Q t ws more) → AllFit read P s vs left → AllFit read Q s (vs ++ ws) (left ++ more)
 AllFit-append read P Q s [] ws [] more next (none, p) = next s p
@@ -20,11 +20,11 @@ AllFit-append read P Q s (Restart epoch count state ∷ vs) ws left more next h 
 AllFit-append read P Q s (Reload ∷ vs) ws left more next h = (h.0, AllFit-append read P Q (found s.means None) vs ws left more next h.1)
 AllFit-append read P Q s (Ended status count cycle state ∷ vs) ws left more next h = (h.0, AllFit-append read P Q (found s.means None) vs ws left more next h.1)
 
--- behind an event that is no cut
+-- after an event that is not a cut
 has_left : (cycles : ℕ) (d : Decoded) → HasLeft cycles (found d None)
 has_left cycles d = λ at e. absurd (cc)
 
--- another thing that stands at the end
+-- another predicate at the end
 pub AllFit-ends : (read : List Block → Decoded) (P Q : Found → Type 0) (s : Found) (vs : List Event) (left : List (List Block))
     → ((t : Found) → P t → Q t) → AllFit read P s vs left → AllFit read Q s vs left
 AllFit-ends read P Q s [] left next (none, p) = (none, next s p)

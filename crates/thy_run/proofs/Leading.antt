@@ -1,4 +1,4 @@
--- The turns that events tell of a checkpoint lead to its state, along the run's own turns.
+-- The turns that events report of a checkpoint reach its state, along the run's own turns.
 use Rattle.std.proofs.Common.{◌≡◌, ◌⊎◌, ℕ, ◌-◌, ◌≤◌, ◌==◌, ◌&&◌, Bool, true, false, if◌then◌else◌, Option, Some, None, List, [], ◌++◌, length, drop, refl, sym, ◌∙◌, ap, ap₂, subst, inl, inr, arith}
 use Rattle.std.proofs.lemmas.Bool.{and_parts, eq-eqb, eqb-true}
 use Rattle.std.proofs.lemmas.List.{length-append, length-drop, drop_all, nil_from_length}
@@ -14,17 +14,17 @@ use Rattle.thy_view.proofs.TurnLaws.{AgreeBelow-same, turn_early, joined-agrees,
 use Rattle.thy_run.specs.World.{hart_count}
 use Rattle.thy_run.proofs.Fitting.{IsEither}
 
--- turns lead to a count: they are as many as are told, and agree with the run's
+-- turns reach a count: they are as many as are reported, and agree with the run's
 pub record LeadsTo (p : Origin) (turns : List ℕ) (count : ℕ) : Type 0 where
   pub late : p.start.count ≤ count
   pub many : length turns ≡ turns_told hart_count (count - p.start.count)
   pub agree : AgreeBelow p turns count
 
--- the run's own are as many as lead to where a view is
+-- the run's own are as many as reach the state of a view
 abbrev pub AreTold : Origin → View → Type 0
 AreTold p v = length p.turns ≡ turns_told hart_count (reach v - p.start.count)
 
--- those of the checkpoint that a boot found; behind the boot those of the sealed one
+-- those of the checkpoint that a boot found; after the boot those of the sealed one
 abbrev pub LeadsIn : Origin → View → Marks → Phase → Type 0
 LeadsIn p v m BootPhase = (k : Mark) → v.done ≡ Some k → LeadsTo p (turns_of m k.epoch k.count) k.count
 LeadsIn p v m Run = (s : Mark) → m.sealed ≡ Some s → LeadsTo p m.sealed_turns s.count
@@ -34,7 +34,7 @@ pub record Leads (p : Origin) (v : View) (m : Marks) : Type 0 where
   pub kept : (k : Mark) → m.kept ≡ Some k → LeadsTo p m.kept_turns k.count
   pub other : LeadsIn p v m v.phase
 
--- ---- how many are told
+-- ---- how many are reported
 
 either_zero : (b : Bool) (n : ℕ) → n ≡ 0 → (if b then 0 else n) ≡ 0
 either_zero true n e = refl
@@ -43,7 +43,7 @@ either_zero false n e = e
 pub told_zero : (harts n : ℕ) → n ≡ 0 → turns_told harts n ≡ 0
 told_zero harts n e = either_zero (harts == 1) n e
 
--- of an epoch's end, those behind the committed checkpoint
+-- of an epoch's end, those after the committed checkpoint
 many_behind : (b : Bool) (own : List ℕ) (start i k : ℕ) → start ≤ i → i ≤ k → length own ≡ (if b then 0 else k - start)
     → length (drop (i - start) own) ≡ (if b then 0 else k - i)
 many_behind true own start i k late le many = omega (arith, length-drop (i - start) own, many)
@@ -60,7 +60,7 @@ many_joined true turns own start i k late le many all =
 many_joined false turns own start i k late le many all =
     omega (arith, length-append turns (drop (i - start) own), length-drop (i - start) own, many, all, late, le)
 
--- with one hart none is told at all
+-- with one hart none is reported at all
 joined_none : (p : Origin) (turns : List ℕ) (n k : ℕ) → length turns ≡ 0 → length p.turns ≡ 0 → AgreeBelow p (turns ++ drop n p.turns) k
 joined_none p turns n k none all =
     let same : turns ++ drop n p.turns ≡ p.turns =
@@ -72,7 +72,7 @@ joined_by : (b : Bool) (p : Origin) (turns : List ℕ) (i k : ℕ) → length tu
 joined_by true p turns i k many all agree = joined_none p turns (i - p.start.count) k many all
 joined_by false p turns i k many all agree = joined-agrees p turns i k many agree
 
--- ---- what leads where
+-- ---- which turns reach which state
 
 -- none lead to the start
 pub start_leads : (p : Origin) → LeadsTo p [] p.start.count
@@ -90,7 +90,7 @@ state_there p turns count l = at-agrees p turns count l.agree
 pub leads_told : (p : Origin) (t turns : List ℕ) (count : ℕ) → AgreeBelow p t count → LeadsTo p turns count → LeadsTo (told p t) turns count
 leads_told p t turns count agree l = record { late = l.late; many = l.many; agree = λ j less. l.agree j less ∙ sym (agree j less) }
 
--- and with the run's own behind them, to where these lead
+-- and with the run's own after them, to the state that these reach
 pub leads_joined : (p : Origin) (turns : List ℕ) (i k : ℕ) → i ≤ k → length p.turns ≡ turns_told hart_count (k - p.start.count) → LeadsTo p turns i
     → LeadsTo p (turns ++ drop (i - p.start.count) p.turns) k
 leads_joined p turns i k le all l = record {
@@ -117,7 +117,7 @@ is_mark-true (Some k) epoch count is =
     let both = and_parts (k.epoch == epoch) (k.count == count) is in
     ap₂ (λ (e c : ℕ). Some (mark e c)) (eqb-true k.epoch epoch both.0) (eqb-true k.count count both.1)
 
--- where those of both lead to their counts, so do those of either
+-- if those of both reach their counts, so do those of either
 pub either_leads : (p : Origin) (m : Marks) → ((k : Mark) → m.kept ≡ Some k → LeadsTo p m.kept_turns k.count)
     → ((s : Mark) → m.sealed ≡ Some s → LeadsTo p m.sealed_turns s.count) → (k : Mark) → IsEither m.kept m.sealed k
     → LeadsTo p (turns_of m k.epoch k.count) k.count

@@ -1,4 +1,4 @@
--- The turns that a cycle's events tell lead to the states of their checkpoints, and so its events are lawful.
+-- The turns that a cycle's events report reach the states of their checkpoints, and so its events are lawful.
 use Rattle.std.proofs.Common.{◌≡◌, ◌≢◌, ℕ, ◌+◌, ◌-◌, ◌≤◌, Bool, true, false, ◌&&◌, if◌then◌else◌, Option, Some, None, List, [], ◌∷◌, ◌++◌, length, drop, refl, sym, ◌∙◌, ap, subst, inl, inr, arith}
 use Rattle.thy_base.specs.declared.cause.EndCause.{EndCause}
 use Rattle.thy_base.specs.declared.cause.EndCause.TheVariants.{Length, Exhausted, Ended as EndedCause}
@@ -39,7 +39,7 @@ runs_or_halts : (b : Bool) → (if b then Run else Halt) ≢ BootPhase
 runs_or_halts true boots = absurd (cc)
 runs_or_halts false boots = absurd (cc)
 
--- behind the boot, with none sealed, nothing more is to lead
+-- after the boot, with none sealed, nothing more is to be reached
 none_sealed : (p : Origin) (v : View) (m : Marks) (ph : Phase) → ph ≢ BootPhase → m.sealed ≡ None → LeadsIn p v m ph
 none_sealed p v m BootPhase behind none = absurd (behind refl)
 none_sealed p v m Run behind none = λ s is. absurd (let both : None ≡ Some s = sym none ∙ is in cc)
@@ -56,7 +56,7 @@ leads_stays p v next m s l = record {
   other = subst (LeadsIn p next m) (sym s.phase) (in_stays p v next m v.phase s.done l.other);
 }
 
--- where the program is loaded, none lead to the start, which is sealed
+-- if the program is loaded, none reach the start, which is sealed
 loading_leads : (p : Origin) (k : Mark) → (loading_marks p.start.count).sealed ≡ Some k → LeadsTo p (loading_marks p.start.count).sealed_turns k.count
 loading_leads p k is = subst (λ (x : Mark). LeadsTo p [] x.count) (one_mark (mark 0 p.start.count) k is) (start_leads p)
 
@@ -142,7 +142,7 @@ module _ (p : Origin) (v next : View) (m : Marks) (h : Fits p v m) (l : Leads p 
 
   -- ---- what was done
 
-  -- what it tells is lawful
+  -- what it reports is lawful
   pub Lawful-told : (did : Did) (cycle : ℕ) → (retires did ≡ 0 → AreTold p v) → CoreStep p v did next → AllLawful (course_of p) m (did_told p v did cycle)
   Lawful-told Boot cycle all s = tt
   Lawful-told Loaded cycle all s = ((p.start.count, ap (λ (x : Marks). x.sealed) (is_loading s.phase s.none)), tt)
@@ -172,7 +172,7 @@ module _ (p : Origin) (v next : View) (m : Marks) (h : Fits p v m) (l : Leads p 
   quiet did cycle none s =
       subst (λ (vs : List Event). Leads p next (marks_from p.start.count m vs)) (sym none) (leads_stays p v next m (Stays-quiet p v next did cycle s none) l)
 
-  -- and what it leaves leads on
+  -- and what it leaves holds for the next cycle
   pub Leads-told : (did : Did) (cycle : ℕ) → (retires did ≡ 0 → AreTold p v) → CoreStep p v did next
       → Leads p next (marks_from p.start.count m (did_told p v did cycle))
   Leads-told Boot cycle all s = quiet Boot cycle refl s

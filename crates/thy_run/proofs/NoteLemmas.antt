@@ -17,7 +17,7 @@ use Rattle.thy_run.proofs.WorldLaws.{told_uncut, reload_uncut}
 use Rattle.thy_run.specs.Due.{shows_console, IsTold}
 use Rattle.thy_run.specs.Going.{MadeSome, IsEnding}
 
--- ---- where an event is due, there is one to make
+-- ---- if an event is due, there is one to make
 
 none_before : (a b : List Event) → a ++ b ≡ [] → a ≡ []
 none_before [] b e = refl
@@ -47,12 +47,12 @@ events_due o fresh v next did cycle (inl h) =
 events_due o fresh v next did cycle (inr h) =
     λ e. end_due o v next cycle h (none_behind (reload_told fresh next ++ did_told o v did cycle) (end_told o v next cycle) e)
 
--- a step that is told of shows a console, or halts
+-- a step with an event shows a console, or halts
 pub told_or_halts : (r : Stepped) (h : Bool) → r.ended ≡ h → IsTold r → (shows_console r.did ≡ true) ⊎ (h ≡ true)
 told_or_halts r h is (inl shown) = inl shown
 told_or_halts r h is (inr ended) = inr (sym is ∙ ended)
 
--- the state of an end is there where the step halts
+-- the state of an end is there if the step halts
 pub ended_halts : (o : Origin) (v next : View) (ended : Option (Box MachState Global)) → IsEnding o v next ended → is_some ended ≡ true → halts v next ≡ true
 ended_halts o v next None ending h = absurd (cc)
 ended_halts o v next (Some state) ending h = ending.0

@@ -63,7 +63,7 @@ pub AllLawful-part : (c : Course) (m : Marks) (vs ws : List Event) → AllLawful
 AllLawful-part c m [] ws all = tt
 AllLawful-part c m (v ∷ vs) ws all = (all.0, AllLawful-part c (marks_after c.start m v) vs ws all.1)
 
--- before any event no turn is told
+-- before any event no turn is reported
 pub first_untold : (start : ℕ) (kept : Option Mark) → IsUntold (marks_at start kept)
 first_untold start None = record { kept = refl; sealed = refl }
 first_untold start (Some m) = record { kept = refl; sealed = refl }
@@ -77,7 +77,7 @@ cuts_fit cuts k w l = (
   ap length l.among ∙ length-numbered 1 (take w.passed cuts) ∙ length-taken w.passed cuts l.few,
 )
 
--- what is left has the room, where it keeps an image for each cut that fell
+-- what is left has the room, if it keeps an image for each cut that fell
 leaves_room : (given : Given) (passed : ℕ) (events : List Event) (n : Device) → StaysFitted given passed n → passed ≤ length given.config.cuts
     → length n.left ≡ passed → length (cuts_among events) ≡ passed → LeavesRoom given events n
 leaves_room given passed events n stays few left cuts = record {
@@ -94,7 +94,7 @@ module _ {M : Type 0} (K : KindOf M) (o : Origin) (given : Given) (w : World M) 
   abbrev read : List Block → Decoded
   read = K.decode o.geometry ceiling
 
-  -- what there is to be found stands so between two cycles
+  -- what a restart can find holds between two cycles
   abbrev stood : Found → Type 0
   stood = ImagesFit (line o w) w.cycles w.fresh (seen K o w)
 

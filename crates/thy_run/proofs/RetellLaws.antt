@@ -23,7 +23,7 @@ one_mark a b e = cc
 
 -- ---- how far marks lie
 
--- behind the boot the machine is at its count, and in a boot at that of the checkpoint found
+-- after the boot the machine is at its count, and in a boot at that of the checkpoint found
 runs_to : (v : View) → v.phase ≡ Run → reach v ≡ v.count
 runs_to v is = reach-count v (λ boots. absurd (let both : Run ≡ BootPhase = sym is ∙ boots in cc))
 

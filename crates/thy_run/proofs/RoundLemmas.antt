@@ -1,4 +1,4 @@
--- A cycle that was told is a round of the loop.
+-- A cycle that was reported is a round of the loop.
 use Rattle.std.proofs.Common.{◌≡◌, ℕ, suc, ◌+◌, ◌<◌, ◌≤◌, Bool, true, false, None, Some, List, [], ◌∷◌, ◌++◌, length, take, refl, sym, ◌∙◌, ap, subst, inr, append-nil, length-append, arith}
 use Rattle.thy_base.specs.Counts.{Rose}
 use Rattle.thy_base.specs.Device.{Device}
@@ -37,7 +37,7 @@ read_on digest failed before after more y z grew two =
     let same : take (length before) after ≡ before = ap (take (length before)) grew ∙ first_same before more in
     subst (λ (l : List Event). Sends (report_of digest l) (report_of digest after) failed y z) same two
 
--- a sink took what was settled, and then what came behind, or a first part
+-- a sink took what was settled, and then what was added, or a first part
 delivered_on : (failed : Bool) (before after : List ℕ) (x y z : Stream) → Took x y before → Sends before after failed y z → Delivered false failed before after x z
 delivered_on failed before after x y z one two = record {
   more = two.more;
@@ -53,7 +53,7 @@ delivered_on failed before after x y z one two = record {
 took_on : (before after : List ℕ) (x y z : Stream) → Took x y before → Sends before after false y z → Took x z after
 took_on before after x y z one two = subst (Took x z) (sym two.grew) (Took-append x y z before two.more one two.sent)
 
--- what was told grew
+-- what was reported grew
 pub told_of : {M : Type 0} (K : KindOf M) → (plan : Plan) (p q : Progress M) (n m : Device) (k : ℕ) (bytes : List ℕ) (outcome : Outcome) → ComesTo K plan p q n m k bytes outcome → (more : List Event) × (q.events ≡ p.events ++ more)
 told_of {M = M} K plan p q n m k bytes Goes c = c.0.grew
 told_of {M = M} K plan p q n m k bytes Cuts c = (_, ap (λ (w : World M). w.events) c.noted.steps.next_is)
@@ -260,7 +260,7 @@ IsTold Cuts = ⊥
 IsTold (Ends status) = Unit {0}
 IsTold (Fails stop) = Unit {0}
 
--- a cycle that was told is a round
+-- a cycle that was reported is a round
 pub IsRound-told : {M : Type 0} (K : KindOf M) → (plan : Plan) (fitted : Device) (p q : Progress M) (n m : Device) (k : ℕ) (bytes : List ℕ) (outcome : Outcome) (terminal_failed report_failed : Bool) (t0 t1 t2 r0 r1 r2 : Stream)
     → Running K plan fitted p n k t0 t1 r0 r1 → k < plan.geometry.limit → Sent terminal_failed t1 t2 bytes
     → Sends (report_of plan.digest (take (length p.events) q.events)) (report_of plan.digest q.events) report_failed r1 r2
@@ -281,7 +281,7 @@ IsTold-not Cuts h = h refl
 IsTold-not (Ends status) h = tt
 IsTold-not (Fails stop) h = tt
 
--- a cycle without an event lets the run go on, and its sinks have taken all
+-- a cycle without an event lets the run continue, and its sinks have taken all
 pub Running-quiet : {M : Type 0} (K : KindOf M) → (plan : Plan) (fitted : Device) (p q : Progress M) (n m : Device) (k : ℕ) (t0 t1 r0 r1 : Stream)
     → Running K plan fitted p n k t0 t1 r0 r1 → q.events ≡ p.events → ComesTo K plan p q n m k [] Goes → Running K plan fitted q m (k + 1) t0 t1 r0 r1
 Running-quiet {M = M} K plan fitted p q n m k t0 t1 r0 r1 running same c = record {
@@ -300,11 +300,11 @@ Running-quiet {M = M} K plan fitted p q n m k t0 t1 r0 r1 running same c = recor
   read_all = subst (λ (l : List Event). Took r0 r1 (report_of plan.digest l)) (sym same) running.read_all;
 }
 
--- ---- a cut behind a cycle
+-- ---- a cut after a cycle
 
 module _ {M : Type 0} (K : KindOf M) (laws : IsLawful K) (plan : Plan) (fitted : Device) (p q : Progress M) (n m : Device) (k : ℕ) (bytes : List ℕ) (terminal_failed report_failed : Bool) (t0 t1 t2 r0 r1 r2 : Stream)
     (running : Running K plan fitted p n k t0 t1 r0 r1) (few : k < plan.geometry.limit) (sent : Sent terminal_failed t1 t2 bytes) (awaits : AwaitsCut K plan p q n m k bytes) where
-  -- power was cut, and the cycle was told
+  -- power was cut, and the cycle was reported
   pub IsRound-cut : (q' : Progress M) (m' : Device) → IsCutOffTo K plan q q' m m' (k + 1)
       → Sends (report_of plan.digest (take (length p.events) q'.events)) (report_of plan.digest q'.events) report_failed r1 r2
       → IsRound K plan fitted p (record q' { terminal_failed = terminal_failed; report_failed = report_failed }) n m' k t0 t1 t2 r0 r1 r2 (round_of Goes terminal_failed report_failed)
@@ -312,7 +312,7 @@ module _ {M : Type 0} (K : KindOf M) (laws : IsLawful K) (plan : Plan) (fitted :
       goes_round K plan fitted p q' n m' k bytes terminal_failed report_failed t0 t1 t2 r0 r1 r2 running few sent lines
       (done_cut K laws plan p q n m k None bytes awaits.noted q' m' refl (k + 1) refl awaits.due cut)
 
-  -- memory was short, and what was made of the cycle was told
+  -- memory ran out, and what was made of the cycle was reported
   pub RunEnds-uncut : (bytes ≡ [] → terminal_failed ≡ false) → (q.events ≡ p.events → report_failed ≡ false)
       → Sends (report_of plan.digest (take (length p.events) q.events)) (report_of plan.digest q.events) report_failed r1 r2
       → RunEnds K plan fitted m (record { stop = Memory; events = q.events; cycles = k; terminal_failed = terminal_failed; report_failed = report_failed }) t0 t2 r0 r2

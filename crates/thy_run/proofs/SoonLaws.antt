@@ -28,7 +28,7 @@ use Rattle.thy_run.proofs.WorldLaws.{untold-ran}
 abbrev IsBetween : Origin → ℕ → ℕ → Type 0
 IsBetween o end count = (o.start.count ≤ count) × (count ≤ end)
 
--- all counts of a view are between these, and behind the boot so many instructions are done
+-- all counts of a view are between these, and after the boot so many instructions are done
 pub record Counts (o : Origin) (end done : ℕ) (v : View) : Type 0 where
   pub kept : (m : Mark) → v.done ≡ Some m → IsBetween o end m.count
   pub sealed : (m : Mark) → v.sealed ≡ Some m → IsBetween o end m.count
@@ -146,7 +146,7 @@ counts_image o t end done v (At epoch state) some h one =
 -- ---- runs
 
 module _ {M : Type 0} (K : KindOf M) (o : Origin) (given : Given) (end : ℕ) (some : o.start.count ≤ end) (over : runs_at (told o []) end ≡ false) where
-  -- with no turn told a step goes along none
+  -- with no turn reported a step goes along none
   counts_stepped : (w x : World M) (step : TakesStep K o w x) (done : ℕ) → x.turns ≡ [] → Counts o end done (seen K o w) → Counts o end (done + retires step.r.did) (seen K o x)
   counts_stepped w x step done none h =
       let core : CoreStep (told o []) (seen K o w) step.r.did (seen K o x) =

@@ -19,7 +19,7 @@ pub events_told : {M : Type 0} (K : KindOf M) → (o : Origin) (w x : World M) (
     → x.events ≡ w.events ++ events_of (line o x) w.fresh (seen K o w) step.r.did (seen K o x) (w.cycles + 1)
 events_told {M = M} K o w x step = ap (λ (y : World M). y.events) step.next_is
 
--- and as many turns are told behind it as lead to where it came
+-- and as many turns are reported after it as reach the state that it came to
 pub told_after : {M : Type 0} (K : KindOf M) → (o : Origin) (w x : World M) (step : TakesStep K o w x) → AreTold (line o w) (seen K o w) → AreTold (line o x) (seen K o x)
 told_after K o w x step all =
     let at_after : CoreStep (told o (turns_after w.turns step.r.did)) (seen K o w) step.r.did (seen K o x) =

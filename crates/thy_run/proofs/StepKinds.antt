@@ -14,7 +14,7 @@ use Rattle.thy_base.specs.Marks.{mark}
 use Rattle.thy_view.specs.Views.{is_boot}
 use Rattle.thy_run.specs.World.{did_told}
 
--- the step leaves phase, marks and counts, tells nothing, and no epoch ends with it
+-- the step leaves phase, marks and counts, reports nothing, and no epoch ends with it
 pub record Keeps (o : Origin) (v next : View) (did : Did) : Type 0 where
   pub phase : next.phase ≡ v.phase
   pub done : next.done ≡ v.done
@@ -138,7 +138,7 @@ kind_of o v next NvmDrained s = keeps_to o v next v NvmDrained s (record { phase
 kind_of o v next DramDrained s = keeps_to o v next v DramDrained s (record { phase = refl; done = refl; sealed = refl; count = refl; retired = refl; none = refl; nothing_told = λ cycle. refl; idle = λ retired old new e. e })
 kind_of o v next Nothing s = keeps_to o v next v Nothing s.1 (record { phase = refl; done = refl; sealed = refl; count = refl; retired = refl; none = refl; nothing_told = λ cycle. refl; idle = λ retired old new e. e })
 
--- behind the boot none comes but by a power cut
+-- after the boot none comes except by a power cut
 pub stays_up : (o : Origin) (v next : View) (did : Did) → Kind o v next did → is_boot v.phase ≡ false → is_boot next.phase ≡ false
 stays_up o v next did (keeps k) up = ap is_boot k.phase ∙ up
 stays_up o v next did (loads k) up = k.up

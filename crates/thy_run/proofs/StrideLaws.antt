@@ -1,4 +1,4 @@
--- Every run strides: the epochs that its events tell of are those of the machine.
+-- Every run strides: the epochs that its events report are those of the machine.
 use Rattle.std.proofs.Common.{◌≡◌, ℕ, zero, suc, ◌+◌, ◌<◌, ◌≤◌, ◌==◌, Bool, true, false, ◌&&◌, if◌then◌else◌, List, [], ◌∷◌, ◌++◌, refl, sym, ◌∙◌, ap, subst, inl, inr, arith}
 use Rattle.std.specs.Prelude.{MatchBool}
 use Rattle.std.proofs.lemmas.Bool.{eq-eqb, eqb-true}
@@ -67,7 +67,7 @@ leaves_all o start e f fresh v did next cycle l =
 
 -- ---- between two cycles
 
--- The epoch that events tell of is the one that a view has. Where they say that the one before it was idle, the machine
+-- The epoch that events report is the one that a view has. If they say that the one before it was idle, the machine
 -- knows it.
 pub record Tells (start : ℕ) (e : Epoch) (v : View) (known : Bool) : Type 0 where
   pub idle : e.idle ≡ true → known ≡ true
@@ -163,7 +163,7 @@ image_boot count (At epoch state) = (refl, refl)
 
 -- ---- runs
 
--- the events of a run so far stride, and the machine is in the epoch that they tell of
+-- the events of a run so far stride, and the machine is in the epoch that they report
 pub record Strode {M : Type 0} (K : KindOf M) (o : Origin) (w : World M) : Type 0 where
   pub all : AllStride o.start.count (first_epoch o.start.count) w.events
   pub tells : Tells o.start.count (epoch_from o.start.count (first_epoch o.start.count) w.events) (seen K o w) (K.gauge w.machine w.device).idle

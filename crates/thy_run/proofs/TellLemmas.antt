@@ -52,7 +52,7 @@ lines_failed digest events i v before a b c is so_far took due =
       );
     }
 
--- what is said of a result, where it is an error, and where it is none
+-- what is said of a result, if it is an error, and if it is none
 pub at_err : {T E : Type 0} (r : Result T E) (P : Type 0) → OnErr r P → is_err r ≡ true → P
 at_err (Ok x) P h is = absurd (cc)
 at_err (Err e) P h is = h

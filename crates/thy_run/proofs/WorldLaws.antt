@@ -121,7 +121,7 @@ and_true true = refl
 and_true false = refl
 
 module _ {M : Type 0} (K : KindOf M) (o : Origin) (w : World M) (least : 1 ≤ o.geometry.epoch) (h : Coheres K o w) where
-  -- what held before a step holds along the turns that are told once it is done
+  -- what held before a step holds along the turns that are reported once it is done
   pub fits_before : (x : World M) → TakesStep K o w x → Fits (line o x) (seen K o w) (marks_of o w.events)
   fits_before x step = fits_told (line o w) x.turns (seen K o w) (marks_of o w.events) step.agree h.fits
 
@@ -191,7 +191,7 @@ listed_stepped {M = M} K o cuts w x cycle step l =
 stepped_cycles : {M : Type 0} (K : KindOf M) → (o : Origin) (w x : World M) → TakesStep K o w x → x.cycles ≡ w.cycles + 1
 stepped_cycles {M = M} K o w x step = ap (λ (y : World M). y.cycles) step.next_is
 
--- a run that goes on: the cuts up to its cycle
+-- a run that continues: the cuts up to its cycle
 pub listed_going : {M : Type 0} (K : KindOf M) → (o : Origin) (cuts : List ℕ) (w : World M) → Good K o cuts w → is_halt (seen K o w).phase ≡ false → Listed cuts w.cycles w
 listed_going {M = M} K o cuts w g going =
     let e : last_cuttable w.events w.cycles ≡ w.cycles = ap (λ b. if b then w.cycles - 1 else w.cycles) (g.stands.ended ∙ going) in
@@ -264,7 +264,7 @@ module _ {M : Type 0} (K : KindOf M) (o : Origin) (x next : World M) (h : Cohere
   cut_marks : marks_of o (x.events ++ Cut (x.passed + 1) x.cycles ∷ []) ≡ marks_of o x.events
   cut_marks = marks_from-append o.start.count (first_marks o) x.events (Cut (x.passed + 1) x.cycles ∷ [])
 
-  -- the turns that are kept agree with those told up to the checkpoint that is found
+  -- the turns that are kept agree with those reported up to the checkpoint that is found
   kept : AgreeBelow (line o x) next.turns (reach (view_of_image o.start.count left_image))
   kept = subst (λ (t : List ℕ). AgreeBelow (line o x) t (reach (view_of_image o.start.count left_image))) (sym cut.kept) (kept_agrees o x.turns left_image)
 
@@ -453,7 +453,7 @@ cycles-ran {M = M} K o given (suc k) w (before, ran, cycle) =
     let f : w.cycles ≡ before.cycles + 1 = cycle_counts K o given.config.cuts before cycle.between w cycle.steps (tear given.config.tears cycle.between.passed) (is_due K o given.config.cuts cycle.between) cycle.cut in
     omega (arith, e, f)
 
--- with one hart no turn is ever told
+-- with one hart no turn is ever reported
 none_due : {M : Type 0} (K : KindOf M) → (o : Origin) (x next : World M) → x.turns ≡ [] → (pick : ℕ) (b : Bool) → MatchBool b (IsCutOff K o pick x next) (next ≡ x) → next.turns ≡ []
 none_due {M = M} K o x next none pick true cut =
     let n : ℕ = reach (view_of_image o.start.count (K.decode o.geometry ceiling next.device.image)) - o.start.count in

@@ -1,4 +1,4 @@
--- What of the console a cycle's end releases to the terminal, and which cycles have nothing to tell.
+-- What of the console is released to the terminal at the end of a cycle, and which cycles have nothing to report.
 use Rattle.std.specs.Prelude.{◌≡◌, ◌⊎◌, ℕ, Bool, true, false, ◌&&◌, ◌==◌, nat_lt, if◌then◌else◌, List, [], length, drop, slice_index, Option, Some, None}
 use Rattle.thy_base.specs.Bytes.{bytes_of}
 use Rattle.thy_text.specs.Event.{Event}
@@ -35,7 +35,7 @@ abbrev pub console_shown : Origin → Option Mark → List ℕ
 console_shown o None = []
 console_shown o (Some m) = console_at o m.count
 
--- the bytes of the console that the terminal has not had yet, along a run's turns
+-- the bytes of the console that the terminal has not taken yet, along a run's turns
 abbrev pub due_of : Origin → List Event → Did → View → List ℕ
 due_of o events did next =
     if shows_console did then drop (length (released_of o events)) (console_shown o next.done) else []
@@ -62,7 +62,7 @@ abbrev pub bytes_due : Advance → List ℕ
 bytes_due Quiet = []
 bytes_due (Noted noted) = bytes_of noted.bytes
 
--- what a cycle came to
+-- the outcome of a cycle
 abbrev pub outcome_of : Advance → Outcome
 outcome_of Quiet = Goes
 outcome_of (Noted noted) = noted.outcome

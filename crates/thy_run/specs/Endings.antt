@@ -1,5 +1,5 @@
 -- Part of the claim.
--- What a run leaves at its end: where it stood, what its sinks took, and why it stopped.
+-- What a run leaves at its end: its last state, what its sinks took, and why it stopped.
 use Rattle.std.specs.Prelude.{◌≡◌, ℕ, ◌<◌, ◌≤◌, Bool, true, false, List, [], ◌∷◌, ◌++◌}
 use Rattle.thy_base.specs.Counts.{Rose}
 use Rattle.thy_base.specs.Device.{Device}
@@ -19,18 +19,18 @@ use Rattle.thy_run.specs.declared.ending.Stop.{Stop}
 use Rattle.thy_run.specs.declared.ending.Stop.TheVariants.{Ended, Nvm, Memory, Terminal, Report, Limit}
 use Rattle.thy_run.specs.declared.ending.Ending.{Ending}
 
--- memory was short
+-- an allocation failed
 abbrev pub is_memory : Stop → Bool
 is_memory Memory = true
 is_memory stop = false
 
--- these events were told before the last cycle
+-- these events were reported before the last cycle
 abbrev pub ToldBefore : {M : Type 0} → KindOf M → Origin → Given → World M → List Event → Type 0
 ToldBefore {M = M} K o given last settled =
     (k : ℕ) × (before : World M) × Ran K o given k before
     × Cycle K o given.config.cuts given.config.tears before last × (settled ≡ before.events)
 
--- the events that were told before the last cycle that was begun; a sink that failed did so in that cycle
+-- the events that were reported before the last cycle that was begun; a sink that failed did so in that cycle
 abbrev pub IsSettled : {M : Type 0} → KindOf M → Origin → Given → World M → List Event → Stop → Type 0
 IsSettled K o given last settled Terminal = ToldBefore K o given last settled
 IsSettled K o given last settled Report = ToldBefore K o given last settled
@@ -51,7 +51,7 @@ pub record EndsWith (events : List Event) (status : Status) : Type 0 where
 abbrev pub IsHeard : Ending → Type 0
 IsHeard e = (e.terminal_failed ≡ false) × (e.report_failed ≡ false)
 
--- what a stop says of a run that may have so many cycles, between the device as it was fitted and the one that is left
+-- what a stop says of a run whose limit is so many cycles, between the device after its fit and the device that is left
 abbrev pub StopFits : ℕ → Device → Device → Ending → Stop → Type 0
 StopFits limit old new e (Ended status) = EndsWith e.events status × IsHeard e × (new.faults ≡ old.faults)
 StopFits limit old new e Nvm = Rose old.faults new.faults × (e.cycles < limit) × IsHeard e
@@ -61,8 +61,8 @@ StopFits limit old new e Report = (e.report_failed ≡ true) × (new.faults ≡ 
 StopFits limit old new e Limit =
     (e.cycles ≡ limit) × (has_ended e.events ≡ false) × IsHeard e × (new.faults ≡ old.faults)
 
--- A run had the cycles of an ending, and left this device; and its terminal and report, which were these, took what its
--- events say.
+-- A run took the cycles of an ending and left this device; its terminal and its report, which are these streams,
+-- took what its events say.
 pub record HasRun {M : Type 0} (K : KindOf M) (o : Origin) (given : Given) (new : Device) (e : Ending)
     (terminal shown report read : Stream) : Type 0 where
   pub stopped : Stopped K o given e.cycles e.events new e.stop

@@ -33,7 +33,7 @@ use Rattle.thy_run.specs.declared.gather.Readings.{Readings}
 use Rattle.thy_run.specs.declared.plan.Plan.{Plan}
 use Rattle.thy_run.specs.declared.progress.Progress.{Progress}
 
--- what the run is about; with one hart no turn is told
+-- what the run is about; with one hart no turn is reported
 abbrev pub origin_of : Plan → Origin
 origin_of plan = record {
   geometry = plan.geometry;
@@ -43,7 +43,7 @@ origin_of plan = record {
   turns = [];
 }
 
--- what it is given besides, over a device that was fitted
+-- what else it is given, over a device that was fitted
 abbrev pub given_of : Plan → Device → Given
 given_of plan fitted = record { config = plan.config; digest = plan.digest; fitted = fitted }
 
@@ -52,7 +52,7 @@ pub record IsPlanned (plan : Plan) : Type 0 where
   pub origin : IsOrigin (origin_of plan)
   pub rising : IsRising 0 plan.config.cuts
 
--- the run between two cycles, of which so many are done, with its device; with one hart no turn is told
+-- the run between two cycles, of which so many are done, with its device; with one hart no turn is reported
 abbrev pub world_at : {M : Type 0} → Progress M → Device → ℕ → World M
 world_at p n cycles = record {
   machine = p.machine;
@@ -65,7 +65,7 @@ world_at p n cycles = record {
   turns = [];
 }
 
--- the run goes on: so many cycles were done since the device was fitted
+-- the run continues: so many cycles were done since the device was fitted
 pub record GoesOn {M : Type 0} (K : KindOf M) (plan : Plan) (fitted : Device) (p : Progress M) (n : Device) (cycles : ℕ)
     : Type 0 where
   pub ran : Ran K (origin_of plan) (given_of plan fitted) cycles (world_at p n cycles)
@@ -86,7 +86,7 @@ pub record IsStepped {M : Type 0} (K : KindOf M) (plan : Plan) (p next : Progres
   pub faults : new.faults ≡ n.faults
   pub same : next ≡ record p { machine = next.machine; mix = mix_next p.mix }
 
--- what reading for a step's events stands on
+-- what the reads for a step's events require
 pub record CanGather {M : Type 0} (K : KindOf M) (o : Origin) (cycles : ℕ) (v : View) (p : Progress M) (n : Device) (r : Stepped)
     : Type 0 where
   pub at_next : K.is_at o cycles p.machine n
@@ -118,7 +118,7 @@ abbrev pub IsEnd : Origin → View → View → Option Status → Type 0
 IsEnd o v next None = halts v next ≡ false
 IsEnd o v next (Some status) = (halts v next ≡ true) × (status ≡ (at o next.count).status)
 
--- some first events of a step were made, and memory was short for the rest, of which there is one
+-- some first events of a step were made, and memory ran out before the rest, of which there is at least one
 pub record MadeSome (made : List Event) (all : List Event) (before : List Event) : Type 0 where
   pub part : List Event
   pub rest : List Event
@@ -161,7 +161,7 @@ pub record IsDone {M : Type 0} (K : KindOf M) (plan : Plan) (p next : Progress M
   pub on_terminal : next.terminal_failed ≡ p.terminal_failed
   pub on_report : next.report_failed ≡ p.report_failed
 
--- a cycle was begun and is not done; where memory was not short, the bytes are all that is due
+-- a cycle was begun and is not done; unless an allocation failed, the bytes are all that is due
 pub record IsBroken {M : Type 0} (K : KindOf M) (plan : Plan) (p next : Progress M) (n new : Device) (cycles : ℕ) (bytes : List ℕ)
     : Type 0 where
   pub rest : List ℕ
@@ -176,7 +176,7 @@ pub record IsFault {M : Type 0} (p next : Progress M) (n new : Device) (bytes : 
   pub none : bytes ≡ []
   pub rose : Rose n.faults new.faults
 
--- why a cycle is not done: a device's fault or want of memory
+-- why a cycle is not done: a fault of the device, or out of memory
 abbrev pub Breaks : {M : Type 0} → KindOf M → Plan → Progress M → Progress M → Device → Device → ℕ → List ℕ
     → Stop → Type 0
 Breaks K plan p next n new cycles bytes Nvm =
@@ -195,7 +195,7 @@ pub record AwaitsCut {M : Type 0} (K : KindOf M) (plan : Plan) (p next : Progres
   pub noted : IsNoted K plan p next n new cycles None bytes
   pub due : (nat_lt next.passed (length plan.config.cuts) && slice_index plan.config.cuts next.passed == cycles + 1) ≡ true
 
--- what a cycle came to
+-- the outcome of a cycle
 abbrev pub ComesTo : {M : Type 0} → KindOf M → Plan → Progress M → Progress M → Device → Device → ℕ → List ℕ
     → Outcome → Type 0
 ComesTo K plan p next n new cycles bytes Goes =

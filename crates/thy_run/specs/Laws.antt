@@ -23,7 +23,7 @@ use Rattle.thy_run.specs.Unfinished.{Stopped}
 use Rattle.thy_run.specs.World.{Given, hart_count, tear}
 use Rattle.thy_run.specs.declared.ending.Stop.{Stop}
 
--- what the events of a run are held against; it does not depend on the turns told so far
+-- what the events of a run are checked against; it does not depend on the turns reported so far
 abbrev pub course_of : Origin → Course
 course_of o = record { at = λ k turns. at (told o turns) k; start = o.start.count; epoch = o.geometry.epoch; harts = hart_count }
 
@@ -39,15 +39,15 @@ first_marks o = marks_at o.start.count o.kept
 abbrev pub marks_of : Origin → List Event → Marks
 marks_of o events = marks_from o.start.count (first_marks o) events
 
--- what there is to be found before any event
+-- what a restart can find before any event
 abbrev pub found_at_start : Origin → Found
 found_at_start o = found (found_first o o.kept) None
 
--- what the terminal has of the console once events were told: that of the committed checkpoint
+-- what the terminal has taken of the console after these events: the console of the committed checkpoint
 abbrev pub released_of : Origin → List Event → List ℕ
 released_of o events = released (λ k turns. (at (told o turns) k).console) o.start.count (first_marks o) events
 
--- What an image means may stand where events left these marks: nothing, if none is kept, or what a restart may have.
+-- What an image may mean after events that left these marks: nothing, if none is kept, or what a restart may restore.
 abbrev pub MayStand : Course → Marks → Decoded → Type 0
 MayStand c m Nothing = m.kept ≡ None
 MayStand c m (Refused bad) = ⊥
@@ -62,9 +62,9 @@ abbrev pub torn : List ℕ → ℕ → List ℕ
 torn tears zero = []
 torn tears (suc k) = torn tears k ++ tear tears k ∷ []
 
--- The device that a run leaves has as many blocks, and as much room in its queue, as it was fitted with, and is reached by the
--- same loans. It has kept an image for each cut, of which there are no more than are listed, and room for as many as it was
--- fitted with.
+-- The device that a run leaves has as many blocks and as much room in its queue as after its fit, and is reached by
+-- the same loans. It has kept an image for each cut, at most as many as are listed, and has the room for images that
+-- it was fitted with.
 pub record LeavesRoom (given : Given) (events : List Event) (n : Device) : Type 0 where
   pub blocks : length n.image ≡ length given.fitted.image
   pub kept : length n.left ≡ length (cuts_among events)
@@ -73,9 +73,10 @@ pub record LeavesRoom (given : Given) (events : List Event) (n : Device) : Type 
   pub queue_room : n.queue_room ≡ given.fitted.queue_room
   pub lent : n.lent ≡ given.fitted.lent
 
--- What is promised of a run: its events are lawful, its restarts are what the cuts left, of which each left one image, its
--- cuts are the listed ones and have the listed picks, the device was fitted no second time, has room for one more cut and is
--- safe for the marks that the events leave, the run is soon over, and of two epochs in a row one retired an instruction.
+-- What is promised of a run. Its events are lawful. Each cut left one image, and the restarts are what these images
+-- mean. Its cuts and their picks are the listed ones. The device was not fitted again, has room for one more cut, and
+-- is safe for the marks that the events leave. The run has a bounded number of cycles, and of two epochs in a row one
+-- retired an instruction.
 pub record Promise {M : Type 0} (K : KindOf M) (o : Origin) (given : Given) (cycles : ℕ) (events : List Event) (n : Device) : Type 0 where
   pub events_lawful : AllLawful (course_of o) (first_marks o) events
   pub restarts_decode : AllFit (K.decode o.geometry ceiling) (HasLeft cycles) (found_at_start o) events n.left
@@ -93,8 +94,8 @@ RunKeepsPromise K =
     (o : Origin) (given : Given) (cycles : ℕ) (events : List Event) (n : Device) (stop : Stop)
     → IsOrigin o → IsRising 0 given.config.cuts → Stopped K o given cycles events n stop → Promise K o given cycles events n
 
--- What one more cut leaves of a device, whatever its pick, is safe for the marks for which the device was safe. So is an image
--- that is taken behind a run.
+-- What one more cut leaves of a device, whatever its pick, is safe for the marks for which the device was safe. So is
+-- an image that is taken after a run.
 abbrev pub OneMoreCutIsSafe : {M : Type 0} → KindOf M → Type 0
 OneMoreCutIsSafe K =
     (o : Origin) (m : Marks) (pick : ℕ) (n new : Device)

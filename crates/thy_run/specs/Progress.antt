@@ -1,5 +1,5 @@
 -- Part of the claim.
--- How a run gets on: it is soon over, it is busy on the way, and no cycle of it rests.
+-- How a run makes progress: its cycles are bounded, and none of them is idle.
 use Rattle.std.specs.Prelude.{◌≡◌, ◌≢◌, ℕ, zero, suc, ◌+◌, ◌*◌, ◌<◌, ◌≤◌, max, Bool, false, ◌&&◌, not, if◌then◌else◌, List, [], ◌∷◌}
 use Rattle.thy_base.specs.declared.config.Parameters.{Parameters}
 use Rattle.thy_view.specs.declared.did.Did.{Did}
@@ -11,19 +11,19 @@ use Rattle.thy_view.specs.Told.{told}
 use Rattle.thy_view.specs.Views.{is_boot}
 use Rattle.thy_run.specs.World.{World, Given, seen, TakesStep, is_due, Ran}
 
--- the greatest of some cycles, 0 where there is none
+-- the greatest of some cycles, 0 if there is none
 abbrev pub last_of : List ℕ → ℕ
 last_of [] = 0
 last_of (cycle ∷ cycles) = max cycle (last_of cycles)
 
 -- A run in which k instructions were retired since its power came on has fewer cycles than these: those up to the last
--- cut, those of the boot behind it, and those of the instructions.
+-- cut, those of the boot after it, and those of the instructions.
 abbrev pub cycles_for : {M : Type 0} → KindOf M → Parameters → List ℕ → ℕ → ℕ
 cycles_for K p cuts k = last_of cuts + K.most_ahead p + K.most_each p * k
 
 -- ---- soon over
 
--- the program ends within k instructions from the start of its run, with no turn told
+-- the program ends within k instructions from the start of its run, with no turn reported
 abbrev pub EndsWithin : Origin → ℕ → Type 0
 EndsWithin o k = runs_at (told o []) (o.start.count + k) ≡ false
 
@@ -43,7 +43,7 @@ RunIsSoonOver {M = M} K =
 pub record Tally : Type 0 where
   -- instructions retired
   pub retired : ℕ
-  -- cycles of the boot, but for drains
+  -- cycles of the boot, without drains
   pub boots : ℕ
   -- cycles that drained a queue, and all others
   pub drains : ℕ
@@ -76,12 +76,12 @@ tally_of K o given (suc k) w (before, ran, cycle) =
 -- what holds of a run of so many cycles that has done this since its power came on
 pub record IsBusy {M : Type 0} (K : KindOf M) (o : Origin) (cuts : List ℕ) (cycles : ℕ) (w : World M) (t : Tally)
     : Type 0 where
-  -- it has had no more cycles than the instructions account for
+  -- it has taken no more cycles than the instructions account for
   pub paced : cycles < cycles_for K o.geometry cuts t.retired
   -- the boot took no more than it may, and neither did the epoch that executes
   pub boots : t.boots ≤ K.most_booting o.geometry
   pub spent : 0 < cycles → (seen K o w).spent < K.most_spent o.geometry
-  -- each drain let a write land that another cycle had queued
+  -- each drain landed a write that another cycle had queued
   pub drains : t.drains ≤ t.others
 
 -- every run is busy
@@ -92,7 +92,7 @@ RunIsBusy {M = M} K =
 
 -- ---- never at rest
 
--- no cycle of a run does nothing: only a machine that has halted rests
+-- no cycle of a run does nothing: only a machine that has halted does
 abbrev pub RunNeverRests : {M : Type 0} → KindOf M → Type 0
 RunNeverRests {M = M} K =
     (o : Origin) (w next : World M) (step : TakesStep K o w next) → step.r.did ≢ Nothing

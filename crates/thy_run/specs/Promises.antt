@@ -90,7 +90,7 @@ NotesRestart epoch count restored old new result =
     (o : Origin) (v : View) → Restores o (Restarted epoch count) restored
     → OnOk result (new ≡ old ++ did_told o v (Restarted epoch count) 0)
 
--- a run tells no turn behind the committed checkpoint: with one hart it has none to tell
+-- a run reports no turn after the committed checkpoint: with one hart it has none to report
 abbrev pub IsUntold : Origin → View → Type 0
 IsUntold o v = turns_behind o v.done ≡ []
 
@@ -99,7 +99,7 @@ abbrev pub NotesSeal : {T E : Type 0} → ℕ → ℕ → EndCause → List Even
 NotesSeal epoch count cause old new result =
     (o : Origin) (v : View) → IsUntold o v → OnOk result (new ≡ old ++ did_told o v (Sealed epoch count cause) 0)
 
--- so is that of what a step did
+-- the same of the events of what a step did
 abbrev pub NotesDid : {T E : Type 0} → Did → Option (Box MachState Global) → ℕ → List Event → List Event
     → Result T E → Type 0
 NotesDid did restored cycle old new result =
@@ -110,7 +110,7 @@ abbrev pub NotesEnd : {T E : Type 0} → Option (Box MachState Global) → ℕ �
 NotesEnd ended cycle old new result =
     (o : Origin) (v next : View) → IsEnding o v next ended → OnOk result (new ≡ old ++ end_told o v next cycle)
 
--- the program's status is answered where it has ended
+-- if the program has ended, its status is returned
 abbrev pub AnswersEnd : {E : Type 0} → Option (Box MachState Global) → Result (Option Status) E → Type 0
 AnswersEnd ended result =
     (o : Origin) (v next : View) → IsEnding o v next ended → IfOk result (λ s. IsEnd o v next s)
@@ -123,7 +123,7 @@ NotesAll did reload restored ended cycle old new result =
     → IsEnding o v next ended
     → OnOk result (new ≡ old ++ events_of o fresh v did next cycle)
 
--- or the first ones, where memory was short
+-- or the first ones, if memory ran out
 abbrev pub NotesSome : {T E : Type 0} → Did → Bool → Option (Box MachState Global) → Option (Box MachState Global) → ℕ
     → List Event → List Event → Result T E → Type 0
 NotesSome did reload restored ended cycle old new result =
@@ -133,7 +133,7 @@ NotesSome did reload restored ended cycle old new result =
 
 -- ---- a cycle
 
--- what a cycle comes to whose events were made
+-- the outcome of a cycle whose events were made
 abbrev pub ConcludesNoted : {M : Type 0} → KindOf M → Plan → Progress M → Option Status → ℕ → Outcome → Type 0
 ConcludesNoted {M = M} K plan next ended cycle outcome =
     (fitted : Device) (p : Progress M) (n m : Device) (k : ℕ) (bytes : List ℕ)
@@ -154,7 +154,7 @@ CanConclude {M = M} K plan q did readings cycle =
     × GoesOn K plan fitted p n k × IsStepped K plan p q n m k r × IsGatheredFor K plan p q n m k did readings
     × (r.did ≡ did) × (cycle ≡ k + 1)
 
--- and then its cycle comes to this
+-- and then its cycle has this outcome
 abbrev pub Concludes : {M : Type 0} → KindOf M → Plan → Progress M → Progress M → Did → Readings → ℕ → List ℕ
     → Outcome → Type 0
 Concludes {M = M} K plan q next did readings cycle bytes outcome =
@@ -162,7 +162,7 @@ Concludes {M = M} K plan q next did readings cycle bytes outcome =
     → GoesOn K plan fitted p n k → IsStepped K plan p q n m k r → IsGatheredFor K plan p q n m k did readings
     → r.did ≡ did → cycle ≡ k + 1 → ComesTo K plan p next n m k bytes outcome
 
--- from where a run goes on, a cycle comes to this
+-- from a run that continues, a cycle has this outcome
 abbrev pub TakesCycle : {M : Type 0} → KindOf M → Plan → Progress M → Progress M → Device → Device → ℕ
     → Advance → Type 0
 TakesCycle K plan p next n new done advance =
@@ -171,19 +171,19 @@ TakesCycle K plan p next n new done advance =
 
 -- ---- a round of the loop
 
--- the run goes on, from where its sinks were at its start
+-- the run continues, and its sinks took all that was due since its start
 abbrev pub IsRunning : {M : Type 0} → KindOf M → Plan → Progress M → Device → ℕ → Sinks → Type 0
 IsRunning K plan p n done now =
     (fitted : Device) × (t : Stream) × (r : Stream) × Running K plan fitted p n done t now.terminal r now.report
 
--- and a round comes to this
+-- and a round has this result
 abbrev pub MakesRound : {M : Type 0} → KindOf M → Plan → Progress M → Progress M → Device → Device → ℕ
     → Sinks → Sinks → Round → Type 0
 MakesRound K plan p next n new done before after round =
     (fitted : Device) (t r : Stream) → Running K plan fitted p n done t before.terminal r before.report
     → IsRound K plan fitted p next n new done t before.terminal after.terminal r before.report after.report round
 
--- a run that went on awaits a cut, with these bytes due to the terminal
+-- a run that continues awaits a cut, with these bytes due to the terminal
 abbrev pub IsAwaiting : {M : Type 0} → KindOf M → Plan → Progress M → Device → ℕ → List ℕ → ℕ → Sinks → Type 0
 IsAwaiting {M = M} K plan next m done bytes first now =
     (fitted : Device) × (p : Progress M) × (n : Device) × (t : Stream) × (r : Stream)
@@ -195,7 +195,7 @@ abbrev pub RunsTo : {M : Type 0} → KindOf M → Plan → Device → Device →
 RunsTo K plan fitted new e before after =
     RunEnds K plan fitted new e before.terminal after.terminal before.report after.report
 
--- after the cut it goes on
+-- after the cut it continues
 abbrev pub CutsOn : {M : Type 0} → KindOf M → Plan → Progress M → Device → Device → ℕ → List ℕ → ℕ → Sinks → Sinks
     → Result (Progress M) Ending → Type 0
 CutsOn {M = M} K plan next m new done bytes first before after result =

@@ -27,7 +27,7 @@ stopped_for terminal true round = Stops Report
 stopped_for true false round = Stops Terminal
 stopped_for false false round = round
 
--- what a cycle comes to once it was told
+-- the outcome of a cycle once it was reported
 abbrev pub round_of : Outcome → (terminal report : Bool) → Round
 round_of (Fails stop) terminal report = BreaksOff stop
 round_of Goes terminal report = stopped_for terminal report RoundGoesOn
@@ -44,7 +44,7 @@ pub record IsFitted {M : Type 0} (K : KindOf M) (plan : Plan) (n : Device) : Typ
   pub cuts : shape.cuts ≡ length plan.config.cuts
   pub is_fitted : n ≡ fitted shape start before
 
--- the run goes on, and the sinks took all that was due so far
+-- the run continues, and the sinks took all that was due so far
 pub record Running {M : Type 0} (K : KindOf M) (plan : Plan) (fitted : Device) (p : Progress M) (n : Device) (cycles : ℕ)
     (terminal shown report read : Stream) : Type 0 where
   pub goes : GoesOn K plan fitted p n cycles
@@ -67,7 +67,7 @@ ending_of stop p cycles = record {
   report_failed = p.report_failed;
 }
 
--- what a round of the loop comes to
+-- the result of a round of the loop
 abbrev pub IsRound : {M : Type 0} → KindOf M → Plan → Device → Progress M → Progress M → Device → Device → ℕ
     → Stream → Stream → Stream → Stream → Stream → Stream → Round → Type 0
 IsRound K plan fitted p next n new cycles terminal showing shown report reading read RoundGoesOn =

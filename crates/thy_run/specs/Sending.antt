@@ -13,24 +13,24 @@ pub record Sinks : Type 0 where
 abbrev pub sinks : Stream → Stream → Sinks
 sinks terminal report = record { terminal = terminal; report = report }
 
--- what a sink took of bytes that were due: all, or where it failed a first part; with none due it can't have failed
+-- what a sink took of bytes that were due: all, or a first part if it failed; with none due it can't have failed
 abbrev pub Sent : Bool → Stream → Stream → List ℕ → Type 0
 Sent false old new bytes = Took old new bytes
 Sent true old new bytes = TookPart old new bytes × (bytes ≢ [])
 
--- a text grew, and the sink took what came behind, or where it failed a first part of that
+-- a text grew, and the sink took what was added, or a first part of that if it failed
 pub record Sends (before after : List ℕ) (failed : Bool) (old new : Stream) : Type 0 where
   pub more : List ℕ
   pub grew : after ≡ before ++ more
   pub sent : Sent failed old new more
 
--- the report took the lines of the events from the first on, or where it failed a first part of them
+-- the report took the lines of the events from the first on, or a first part of them if it failed
 abbrev pub TellsLines : Bool → ℕ → List Event → Bool → Stream → Stream → Type 0
 TellsLines digest first events failed old new =
     Sends (report_of digest (take first events)) (report_of digest events) failed old new
 
--- What a sink took of a whole text: first all that was settled before the last cycle, and then what came behind, or
--- where it failed a first part of that. Where memory was short, less than the whole may have come.
+-- What a sink took of a whole text: first all that was settled before the last cycle, then what was added, or a first
+-- part of that if it failed. If an allocation failed, it may have taken less than the whole.
 pub record Delivered (short failed : Bool) (settled text : List ℕ) (old new : Stream) : Type 0 where
   pub more : List ℕ
   pub unsent : List ℕ

@@ -29,7 +29,7 @@ epoch_after start e (Commit epoch cycle overlapped) = e
 epoch_after start e Reload = e
 epoch_after start e (Ended status count cycle state) = e
 
--- behind an idle epoch none ends at the count at which it began
+-- after an idle epoch no epoch ends at the count at which it began
 abbrev pub Strides : Epoch → Event → Type 0
 Strides e (EpochEnd epoch count cause turns) = e.idle ≡ true → e.began < count
 Strides e (Cut index cycle) = Unit {0}

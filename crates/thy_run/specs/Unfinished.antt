@@ -1,5 +1,5 @@
 -- Part of the claim.
--- A cycle that was begun and is not done, and what stands where a run stopped.
+-- A cycle that was begun and is not done, and what is left by a run that stopped.
 use Rattle.std.specs.Prelude.{◌≡◌, ◌≢◌, ◌⊎◌, ℕ, true, false, List, [], ◌++◌}
 use Rattle.thy_base.specs.Counts.{Rose}
 use Rattle.thy_base.specs.Device.{Device, HasFailed, IsFramed}
@@ -13,8 +13,8 @@ use Rattle.thy_run.specs.World.{World, Given, line, seen, is_due, TakesStep, Ran
 use Rattle.thy_run.specs.declared.ending.Stop.{Stop}
 use Rattle.thy_run.specs.declared.ending.Stop.TheVariants.{Ended, Nvm, Memory, Terminal, Report, Limit}
 
--- the machine's step failed with a fault of the device, whose sealed checkpoint is in doubt only if its commit block was written
--- before, or this was its write
+-- the machine's step failed with a fault of the device, whose sealed checkpoint is in doubt only if its commit block
+-- was written before, or this was its write
 pub record StepFailed {M : Type 0} (K : KindOf M) (o : Origin) (w : World M) (events : List Event) (n : Device) : Type 0 where
   pub going : is_halt (seen K o w).phase ≡ false
   -- the machine that it left
@@ -32,12 +32,12 @@ pub record ReadFailed {M : Type 0} (w : World M) (events : List Event) (n : Devi
   pub framed : IsFramed next.device n
   pub rose : Rose next.device.faults n.faults
 
--- memory was short for an event of a step, or for the cut that is due behind it, and the device was left alone
+-- an allocation failed for an event of a step, or for the cut that is due after it, and the device was left alone
 abbrev pub LeftAlone : {M : Type 0} → KindOf M → Origin → List ℕ → Device → World M → List Event → Type 0
 LeftAlone K o cuts n next rest = (n ≡ next.device) × ((rest ≢ []) ⊎ (is_due K o cuts next ≡ true))
 
--- The step was done, but of its events only the first were made: a read for the others failed, or memory was short; which of
--- these says what the step's device has become, and what was still to be done.
+-- The step was done, but only the first of its events were made: a read for the others failed, or an allocation
+-- failed. `Why` says what became of the step's device, and what was still to be done.
 pub record TellingFailed {M : Type 0} (K : KindOf M) (o : Origin) (w : World M) (events : List Event)
     (Why : World M → List Event → Type 0) : Type 0 where
   pub next : World M
@@ -49,12 +49,12 @@ pub record TellingFailed {M : Type 0} (K : KindOf M) (o : Origin) (w : World M) 
   pub unended : has_ended part ≡ false
   pub why : Why next rest
 
--- the last cycle is done, and nothing was begun behind it
+-- the last cycle is done, and nothing was begun after it
 abbrev pub IsLast : {M : Type 0} → World M → List Event → Device → Type 0
 IsLast w events n = (events ≡ w.events) × (n ≡ w.device)
 
--- What stands where a run stopped, by why it did: only for a device's fault or want of memory one more cycle was begun. Where
--- memory was short before the first one, none was.
+-- What is left by a run that stopped, by the reason: only for a fault of the device or out of memory one more cycle
+-- was begun. If memory ran out before the first cycle, none was.
 abbrev pub AtStop : {M : Type 0} → KindOf M → Origin → List ℕ → World M → List Event → Device → Stop → Type 0
 AtStop K o cuts w events n (Ended status) = IsLast w events n
 AtStop K o cuts w events n Nvm = StepFailed K o w events n ⊎ TellingFailed K o w events (ReadFailed w events n)

@@ -33,10 +33,10 @@ pub record World (M : Type 0) : Type 0 where
   -- no cycle was done since the latest cut
   pub fresh : Bool
   pub events : List Event
-  -- the harts that retired the instructions up to where the machine is, where they are told
+  -- the harts that retired the instructions up to the machine's state, as far as they are reported
   pub turns : List ℕ
 
--- the run with the turns told so far
+-- the run with the turns reported so far
 abbrev pub line : {M : Type 0} → Origin → World M → Origin
 line o w = told o w.turns
 
@@ -50,21 +50,21 @@ seen K o w = K.view (line o w) w.machine w.device
 abbrev pub hart_count : ℕ
 hart_count = 1
 
--- the turns told once a cycle did this; with one hart none is told
+-- the turns reported once a cycle did this; with one hart none is reported
 abbrev pub turns_after : List ℕ → Did → List ℕ
 turns_after turns did = turns
 
--- those that a cut keeps that leaves what means this: those up to the checkpoint that is found
+-- the turns that are kept by a cut whose image means this: those up to the checkpoint that is found
 abbrev pub turns_kept : Origin → List ℕ → Decoded → List ℕ
 turns_kept o turns d = take (reach (view_of_image o.start.count d) - o.start.count) turns
 
--- a run's turns behind a committed checkpoint
+-- a run's turns after a committed checkpoint
 abbrev pub turns_behind : Origin → Option Mark → List ℕ
 turns_behind o done = drop (count_of done - o.start.count) o.turns
 
 -- ---- events
 
--- the event of what a cycle did from this view; an epoch's end tells the turns behind the committed checkpoint
+-- the event of what a cycle did from this view; an epoch's end reports the turns after the committed checkpoint
 abbrev pub did_told : Origin → View → Did → ℕ → List Event
 did_told o v Loaded cycle = Commit 0 cycle 0 ∷ []
 did_told o v (Restarted epoch count) cycle = Restart epoch count (at o count) ∷ []
@@ -72,11 +72,11 @@ did_told o v (Sealed epoch count cause) cycle = EpochEnd epoch count cause (turn
 did_told o v (Committed epoch overlapped) cycle = Commit epoch cycle overlapped ∷ []
 did_told o v did cycle = []
 
--- the first cycle after a cut tells that the file is loaded again
+-- the first cycle after a cut reports that the file is loaded again
 abbrev pub reload_told : Bool → View → List Event
 reload_told fresh next = if fresh && loads next then Reload ∷ [] else []
 
--- a cycle that halts tells the end
+-- a cycle that halts reports the end
 abbrev pub end_told : Origin → View → View → ℕ → List Event
 end_told o v next cycle = if halts v next then Ended (at o next.count).status next.count cycle (at o next.count) ∷ [] else []
 
@@ -86,7 +86,7 @@ events_of o fresh v did next cycle = reload_told fresh next ++ did_told o v did 
 
 -- ---- cycles
 
--- the world after a step, once these turns are told
+-- the world after a step, once these turns are reported
 abbrev pub after_step : {M : Type 0} → KindOf M → Origin → World M → M → Device → List ℕ → Did → World M
 after_step K o w m n turns did = record w {
   machine = m;
@@ -98,8 +98,8 @@ after_step K o w m n turns did = record w {
   turns = turns;
 }
 
--- The machine takes the schedule's next step, along the turns that are told once it is done. They agree with those told before
--- as far as the machine is, and what is seen of it is the same.
+-- The machine takes the schedule's next step, along the turns that are reported once it is done. They agree with
+-- those reported before up to the machine's state, and what is seen of the machine is the same.
 pub record TakesStep {M : Type 0} (K : KindOf M) (o : Origin) (w next : World M) : Type 0 where
   pub r : Stepped
   pub going : is_halt (seen K o w).phase ≡ false
@@ -125,7 +125,7 @@ cut_off w m n turns = record w {
 }
 
 -- Power is cut, and comes on again: a new machine over the DRAM that the pick leaves of the old one's. It has read
--- nothing, and will find what the device's image decodes to. The turns behind the checkpoint found are forgotten.
+-- nothing, and will restore what the device's image decodes to. The turns after that checkpoint are forgotten.
 pub record IsCutOff {M : Type 0} (K : KindOf M) (o : Origin) (pick : ℕ) (w next : World M) : Type 0 where
   pub cut : IsCut pick w.device next.device
   pub powered : K.powered o.geometry next.machine
@@ -135,7 +135,7 @@ pub record IsCutOff {M : Type 0} (K : KindOf M) (o : Origin) (pick : ℕ) (w nex
   pub found : seen K o next ≡ view_of_image o.start.count (K.decode o.geometry ceiling next.device.image)
   pub next_is : next ≡ cut_off w next.machine next.device next.turns
 
--- the pick of a cut: the listed one, or 0 where none is listed
+-- the pick of a cut: the listed one, or 0 if none is listed
 abbrev pub tear : List ℕ → ℕ → ℕ
 tear tears i = slice_index_or tears i 0
 
@@ -145,14 +145,14 @@ pub record Cycle {M : Type 0} (K : KindOf M) (o : Origin) (cuts tears : List ℕ
   pub steps : TakesStep K o w between
   pub cut : MatchBool (is_due K o cuts between) (IsCutOff K o (tear tears between.passed) between next) (next ≡ between)
 
--- What a run is given besides its program: its configuration, which lists the cuts and their picks and has the schedule's
--- seed, whether its report tells digests of memory, and the device as it was fitted.
+-- What a run is given in addition to its program: its configuration, which lists the cuts and their picks and has the
+-- schedule's seed, whether its report has digests of memory, and the device after its fit.
 pub record Given : Type 0 where
   pub config : Config
   pub digest : Bool
   pub fitted : Device
 
--- power comes on for the first time, over a device that was fitted; no turn is told yet
+-- power comes on for the first time, over a device that was fitted; no turn is reported yet
 pub record IsFirst {M : Type 0} (K : KindOf M) (o : Origin) (given : Given) (w : World M) : Type 0 where
   pub untold : w.turns ≡ []
   pub device : w.device ≡ given.fitted

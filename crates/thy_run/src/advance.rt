@@ -18,32 +18,32 @@ use thy_isa::Status;
 use thy_text::{Event, Events};
 use thy_view::{Computer, Did, Stepped};
 
-/// What a cycle came to.
+/// The outcome of a cycle.
 #[derive(Clone, Copy)]
 pub enum Outcome {
-    /// The cycle is done, and the run goes on.
+    /// The cycle is done, and the run continues.
     Goes,
     /// The cycle is done once the power was cut, which is due after it.
     Cuts,
     /// The cycle is done, and the program has ended with this status.
     Ends(Status),
-    /// The cycle is not done, because the device failed or memory was short.
+    /// The cycle is not done, because the device or an allocation failed.
     Fails(Stop),
 }
 
-/// What a cycle came to, and what the terminal is due for it.
+/// The outcome of a cycle, and the bytes that the terminal is due for it.
 #[derive(Drop)]
 pub struct Noted {
     pub bytes: Bytes,
     pub outcome: Outcome,
 }
 
-/// A cycle, and what has to be told of it.
+/// A cycle, and what has to be reported of it.
 #[derive(Drop)]
 pub enum Advance {
     /// It is done, has no event, and no cut is due after it. Most cycles are such.
     Quiet,
-    /// Its events were made, as far as it came.
+    /// The events were made that belong to its outcome.
     Noted(Noted),
 }
 
@@ -92,7 +92,7 @@ fn is_quiet<M>(progress: &Progress<M>, plan: &Plan, stepped: &Stepped, cycle: u6
         && !is_due(&plan.config, progress.passed, cycle)
 }
 
-/// The pick of a cut: that of its place in the list, 0 where the list is shorter.
+/// The pick of a cut: the one at its position in the list, 0 if the list is shorter.
 fn tear(config: &Config, index: usize) -> u64
     ensures { result ≡ slice_index_or config.now.tears index 0 }
 {
@@ -106,7 +106,7 @@ fn tear(config: &Config, index: usize) -> u64
 /// Cuts the power, and lets it come on again: a new machine over the DRAM of the old one.
 ///
 /// # Errors
-/// The events, where memory is short: nothing was cut.
+/// The events, if an allocation fails: nothing was cut.
 pub fn cut<M: Computer, N: Nvm>(
     alloc: Global,
     progress: Progress<M>,
@@ -154,7 +154,7 @@ pub fn cut<M: Computer, N: Nvm>(
     })
 }
 
-/// What a cycle comes to whose events were made.
+/// The outcome of a cycle whose events were made.
 fn come_to_after<M: Computer>(
     progress: &Progress<M>,
     plan: &Plan,
@@ -173,7 +173,7 @@ fn come_to_after<M: Computer>(
     Outcome::Goes
 }
 
-/// Makes the events of a step, and says what the cycle comes to.
+/// Makes the events of a step, and returns the outcome of the cycle.
 fn conclude<M: Computer>(
     alloc: Global,
     progress: &mut Progress<M>,
@@ -207,7 +207,7 @@ fn conclude<M: Computer>(
     }
 }
 
-/// One cycle but for the cut that may be due after it: a step of the machine, what has to be read for its
+/// One cycle without the cut that may be due after it: a step of the machine, what has to be read for its
 /// events, and the events.
 pub fn take_cycle<M: Computer, N: Nvm>(
     alloc: Global,

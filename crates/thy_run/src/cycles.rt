@@ -18,10 +18,10 @@ use thy_dram::Dram;
 use thy_text::Events;
 use thy_view::Computer;
 
-/// What a round of the loop comes to.
+/// The result of a round of the loop.
 #[derive(Drop)]
 pub enum Round {
-    /// The cycle is done, and the run goes on.
+    /// The cycle is done, and the run continues.
     GoesOn,
     /// A cut is due after the cycle, and the terminal is due these bytes.
     Cuts(Bytes),
@@ -31,7 +31,7 @@ pub enum Round {
     Breaks(Stop),
 }
 
-/// What a cycle comes to once it was told: a sink that failed stops the run.
+/// The result of a cycle once it was reported: a sink that failed stops the run.
 fn come_to(outcome: Outcome, failures: Failures) -> Round
     ensures { result ≡ round_of outcome failures.terminal failures.report }
 {
@@ -42,7 +42,7 @@ fn come_to(outcome: Outcome, failures: Failures) -> Round
     }
 }
 
-/// A stop for a sink that failed, else what the cycle came to.
+/// A stop for a sink that failed, else the cycle's own result.
 fn stopped_for(failures: Failures, round: Round) -> Round
     ensures { result ≡ stopped_for failures.terminal failures.report round }
 {
@@ -101,7 +101,7 @@ fn take_round<M: Computer, T: Sink, R: Sink, N: Nvm>(
 /// Cuts the power after a cycle, and then gives the sinks what they are due for it.
 ///
 /// # Errors
-/// How the run ends: where a sink failed, or memory was short. Then nothing was cut, and the cycle is not done.
+/// How the run ends: if a sink failed, or an allocation. Then nothing was cut, and the cycle is not done.
 fn cut_power<M: Computer, T: Sink, R: Sink, N: Nvm>(
     alloc: Global,
     progress: Progress<M>,
@@ -199,7 +199,7 @@ fn first_machine<M: Computer>(alloc: Global, geometry: &Geometry) -> Result<M, A
     Ok(machine)
 }
 
-/// Runs the machine over a device that was fitted, until it ends or stops.
+/// Runs the machine over a device that was fitted, until the program ends or the run stops.
 pub fn run<M: Computer, T: Sink, R: Sink, N: Nvm>(
     alloc: Global,
     plan: &Plan,

@@ -17,11 +17,11 @@ use thy_view::{Computer, CoreError, Did, Stepped};
 pub struct Readings {
     /// The file is loaded again, as the first cycle after a cut found no checkpoint.
     pub reload: bool,
-    /// The state that was restored, where one was.
+    /// The state that was restored, if one was.
     pub restored: Option<Box<MachState>>,
     /// The bytes of the console that the terminal is due.
     pub bytes: Bytes,
-    /// The last state, where this step ended the run.
+    /// The last state, if this step ended the run.
     pub ended: Option<Box<MachState>>,
 }
 
@@ -54,7 +54,7 @@ fn boxed_snapshot<M: Computer, N: Nvm>(
     }
 }
 
-/// The state that was restored, where one was.
+/// The state that was restored, if one was.
 fn restored<M: Computer, N: Nvm>(
     alloc: Global,
     progress: &Progress<M>,
@@ -77,7 +77,7 @@ fn restored<M: Computer, N: Nvm>(
     }
 }
 
-/// What of the console the terminal has not had yet, where a step makes another checkpoint known.
+/// The bytes of the console that the terminal has not taken yet, if a step makes another checkpoint known.
 fn due<M: Computer, N: Nvm>(
     alloc: Global,
     progress: &Progress<M>,
@@ -98,7 +98,7 @@ fn due<M: Computer, N: Nvm>(
     Ok(bytes)
 }
 
-/// The last state, where a step ended the run.
+/// The last state, if a step ended the run.
 fn ending<M: Computer, N: Nvm>(
     alloc: Global,
     progress: &Progress<M>,
@@ -127,7 +127,7 @@ fn reloads<M: Computer>(progress: &Progress<M>) -> bool
     progress.fresh && loads
 }
 
-/// Reads what a step's events and the terminal need. The state of a restart comes before the console. Where no event needs
+/// Reads what a step's events and the terminal need. The state of a restart comes before the console. If no event needs
 /// a state and no console is shown, nothing is read, and nothing fails.
 pub fn gather<M: Computer, N: Nvm>(
     alloc: Global,

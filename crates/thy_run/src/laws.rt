@@ -6,7 +6,7 @@ ghost use Rattle.thy_run.specs.Strides.{RunStrides};
 use thy_view::Computer;
 
 /// Whatever the cuts of a run left, its events are lawful, each restart is what the cut before it left,
-/// the cuts are the listed ones, and the device is safe for the checkpoints that the events tell of and has room
+/// the cuts are the listed ones, and the device is safe for the checkpoints that the events report and has room
 /// for one more cut.
 pub fn every_run_keeps_its_promise<M: Computer>()
     ensures { RunKeepsPromise M.kind }
@@ -17,8 +17,8 @@ pub fn one_more_cut_is_safe<M: Computer>()
     ensures { OneMoreCutIsSafe M.kind }
 {}
 
-/// A run of a program that ends within k instructions has fewer cycles than the last cut, the longest boot and k times
-/// the most for an instruction come to.
+/// A run of a program that ends within k instructions has fewer cycles than the sum of the last cut, the longest boot
+/// and k times the most for an instruction.
 pub fn every_run_is_soon_over<M: Computer>()
     ensures { RunIsSoonOver M.kind }
 {}
@@ -34,7 +34,7 @@ pub fn no_cycle_of_a_run_rests<M: Computer>()
     ensures { RunNeverRests M.kind }
 {}
 
-/// Of two epochs in a row that a run tells of, with no power cut between them, one retired an instruction.
+/// Of two epochs in a row that a run reports, with no power cut between them, one retired an instruction.
 pub fn every_run_strides<M: Computer>()
     ensures { RunStrides M.kind }
 {}

@@ -21,7 +21,7 @@ fn note_load(events: &mut Events) -> Result<(), AllocError>
     events.push(Event::Reload)
 }
 
-/// Notes that the file is loaded again, where it is. Without one nothing fails.
+/// Notes that the file is loaded again, if it is. If there is no such event, nothing fails.
 fn note_reload(events: &mut Events, reload: bool) -> Result<(), AllocError>
     ensures ok { OnOk result (events.new ≡ events.old ++ (if reload then Reload ∷ [] else [])) }
     ensures err { OnErr result (events.new ≡ events.old) }
@@ -82,7 +82,7 @@ fn note_restart(
     }
 }
 
-/// Notes what a step did, where that is an event. Without one nothing fails.
+/// Notes what a step did, if that is an event. If there is no such event, nothing fails.
 fn note_did(
     events: &mut Events,
     did: Did,
@@ -102,7 +102,7 @@ fn note_did(
     }
 }
 
-/// Notes the end of the run, and answers the program's status.
+/// Notes the end of the run, and returns the program's status.
 fn note_last(events: &mut Events, state: Box<MachState>, cycle: u64) -> Result<Status, AllocError>
     ensures ok { let s = state.value in
         OnOk result (events.new ≡ events.old ++ Ended s.status s.count cycle (state_of s) ∷ []) }
@@ -121,7 +121,7 @@ fn note_last(events: &mut Events, state: Box<MachState>, cycle: u64) -> Result<S
     Ok(status)
 }
 
-/// Notes the end of the run, where it has ended, and answers the program's status. Without one nothing fails.
+/// If the run has ended, notes its end and returns the program's status. If it has not, nothing fails.
 fn note_end(
     events: &mut Events,
     ended: Option<Box<MachState>>,
@@ -141,7 +141,7 @@ fn note_end(
     }
 }
 
-/// Makes the events of a step, and answers the program's status where it has ended.
+/// Makes the events of a step, and returns the program's status if it has ended.
 pub fn note(
     events: &mut Events,
     did: Did,

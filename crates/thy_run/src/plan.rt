@@ -9,8 +9,8 @@ pub struct Plan {
     pub config: Config,
     /// The numbers of the configuration, which are in range.
     pub geometry: Geometry,
-    /// Where the program starts.
+    /// The state at which the program starts.
     pub start: Start,
-    /// Whether the report tells digests of memory.
+    /// Whether the report has digests of memory.
     pub digest: bool,
 }

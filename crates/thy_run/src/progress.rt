@@ -1,4 +1,4 @@
-//! How far a run is.
+//! The state of a run between two cycles.
 
 use thy_base::Mix;
 use thy_text::Events;

@@ -1,11 +1,11 @@
-//! Telling what happened: bytes to the terminal, lines to the report.
+//! Reporting what happened: bytes to the terminal, lines to the report.
 ghost use Rattle.std.specs.Prelude.{◌≡◌, ◌≤◌, false, length, []};
 ghost use Rattle.thy_run.specs.Sending.{Sent, TellsLines};
 
 use thy_base::Sink;
 use thy_text::{Events, write_event};
 
-/// Writes the lines of the events from `first` on, and answers whether the report failed.
+/// Writes the lines of the events from `first` on, and returns whether the report failed.
 fn write_lines<R: Sink>(events: &Events, first: usize, digest: bool, report: &mut R) -> bool
     requires { first ≤ length events.now }
     ensures lines { TellsLines digest first events.now result (R.stream report.old) (R.stream report.new) }
@@ -19,7 +19,7 @@ fn write_lines<R: Sink>(events: &Events, first: usize, digest: bool, report: &mu
     false
 }
 
-/// Writes what the terminal is due, if anything, and answers whether it failed.
+/// Writes what the terminal is due, if anything, and returns whether it failed.
 pub fn write_bytes<T: Sink>(bytes: &[u8], terminal: &mut T) -> bool
     ensures bytes { Sent result (T.stream terminal.old) (T.stream terminal.new) bytes.now }
     ensures none { bytes.now ≡ [] → result ≡ false }
@@ -37,8 +37,8 @@ pub struct Failures {
     pub report: bool,
 }
 
-/// Tells a cycle: the terminal's bytes first, and then the lines of the events from `first` on. Where
-/// one of the two fails, the other still gets all that it is due. A sink that is due nothing does not fail.
+/// Reports a cycle: the terminal's bytes first, and then the lines of the events from `first` on. If one of
+/// the two fails, the other still gets all that it is due. A sink that is due nothing does not fail.
 pub fn tell<T: Sink, R: Sink>(
     bytes: &[u8],
     events: &Events,

@@ -1,4 +1,4 @@
--- A shelf in memory that tells also under which names its calls failed.
+-- A shelf in memory that also records under which names its calls failed.
 use Rattle.std.specs.Prelude.{ℕ, List, Some, map, string_bytes, String}
 use Rattle.std.specs.declared.alloc.Global.{Global}
 use Rattle.thy_base.specs.Outside.{Stock}

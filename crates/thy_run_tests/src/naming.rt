@@ -1,4 +1,4 @@
-//! A shelf that tells under which names its calls failed.
+//! A shelf that records under which names its calls failed.
 ghost use Rattle.std.specs.Prelude.{◌≡◌, ◌<◌, ◌++◌, ◌∷◌, [], OnOk, IfOk, vec_len, vec_capacity};
 ghost use Rattle.std.specs.String.{string_bytes};
 ghost use Rattle.thy_run_tests.specs.Naming.{names_of};
@@ -7,7 +7,7 @@ use std::alloc::{AllocError, Global};
 use thy_base::{FetchError, PutError, Shelf};
 use thy_out::MemShelf;
 
-/// A shelf in memory that tells also under which names its calls failed.
+/// A shelf in memory that also records under which names its calls failed.
 #[derive(Drop)]
 pub(crate) struct NamingShelf {
     shelf: MemShelf,
@@ -25,7 +25,7 @@ fn copied(names: &mut Vec<String>, alloc: Global, name: &str) -> Result<String, 
     String::from_str(alloc, name)
 }
 
-/// Puts a name behind these, which have room for it.
+/// Adds a name to these, which have room for it.
 fn note(names: &mut Vec<String>, name: String)
     requires room { vec_len names.old < vec_capacity names.old }
     ensures { names_of names.new.items ≡ names_of names.old.items ++ string_bytes name ∷ [] }

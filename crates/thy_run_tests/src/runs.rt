@@ -46,7 +46,7 @@ static SELF_MODIFYING: [u32; 9] = [
     0x00000073,
 ];
 
-/// One word, which is no instruction.
+/// One word, which is not an instruction.
 static NO_INSTRUCTION: [u32; 1] = [0];
 
 /// What a call gave.
@@ -60,7 +60,7 @@ struct Given {
 }
 
 /// The files of these tests: the program that exits with 7 under the name F, the one that modifies itself
-/// under S, the one that is no program under Z, and 63 bytes of the first under G; the one that prints under P,
+/// under S, the one that is not a program under Z, and 63 bytes of the first under G; the one that prints under P,
 /// and those of several epochs under E, N and D.
 fn files(alloc: Global) -> Result<Vec<(String, Vec<u8>)>, AllocError> {
     let modifying = file_of(alloc, 0, &SELF_MODIFYING)?;
@@ -88,7 +88,7 @@ fn files(alloc: Global) -> Result<Vec<(String, Vec<u8>)>, AllocError> {
     Ok(files)
 }
 
-/// Calls with the words, parted by spaces, over this shelf, and a terminal and a report that fail at these calls.
+/// Calls with the arguments, separated by spaces, over this shelf, and a terminal and a report that fail at these calls.
 fn called(
     alloc: Global,
     line: &str,
@@ -135,7 +135,7 @@ fn called_over<H: Shelf, N: Nvm>(
     })
 }
 
-/// Calls with the words, parted by spaces, over the files of these tests.
+/// Calls with the arguments, separated by spaces, over the files of these tests.
 fn ran(alloc: Global, line: &str) -> Result<Given, AllocError> {
     let shelf = MemShelf::new(files(alloc)?, Vec::new(alloc));
     called(alloc, line, shelf, &[], &[])

@@ -1,4 +1,4 @@
--- A store of blocks and the lists beside it, as a test of random calls has them.
+-- A store of blocks and the lists that a test of random calls compares it with.
 use Rattle.std.specs.Prelude.{◌≡◌, ℕ, Bool, true, List, length}
 use Rattle.thy_base.specs.declared.block.Block.{Block}
 use Rattle.thy_base.specs.Store.{Holding}
@@ -12,7 +12,7 @@ pub record Takes (h : Holding) : Type 0 where
   pub long : length h.blocks ≡ all
   pub ready : h.ready ≡ true
 
--- the lists beside are of as many
+-- these lists are of as many
 pub record AreLong (start blocks : List Block) (stored : List Bool) : Type 0 where
   pub start_long : length start ≡ all
   pub blocks_long : length blocks ≡ all

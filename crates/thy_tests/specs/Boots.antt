@@ -32,7 +32,7 @@ pub record IsLeastStart (s : Plain) : Type 0 where
   pub count : s.count ≡ 5
   pub status : s.status ≡ Running
 
--- what was told says that it goes on
+-- what was returned says that it continues
 abbrev pub goes_on : BootStep → Bool
 goes_on Reading = true
 goes_on Loading = true

@@ -1,4 +1,4 @@
--- A controller of the least memory that a test drives, with the NVM behind it and the lists beside it.
+-- A controller of the least memory that a test drives, with the NVM below it and the lists that it is compared with.
 use Rattle.std.specs.Prelude.{◌≡◌, false, List, length}
 use Rattle.thy_base.specs.declared.block.Block.{Block}
 use Rattle.thy_base.specs.Device.{Device}

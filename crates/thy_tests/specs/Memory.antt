@@ -1,4 +1,4 @@
--- A controller of the least memory with its engine, and the NVM behind both.
+-- A controller of the least memory with its engine, and the NVM below both.
 use Rattle.std.specs.Prelude.{◌≡◌, ℕ, ◌+◌, ◌≤◌, length}
 use Rattle.thy_base.specs.declared.config.Parameters.{Parameters}
 use Rattle.thy_base.specs.Device.{Device}

@@ -50,7 +50,7 @@ pub record IsStarting (m : Starting) : Type 0 where
   pub idle : m.control.under_way ≡ false
   pub room : HasRoom m.nvm m.cuts
 
--- what was told is a refusal
+-- what was returned is a refusal
 abbrev pub is_refused : BootStep → Bool
 is_refused (Refused bad) = true
 is_refused told = false

@@ -77,7 +77,7 @@ fn controller(rt: &impl Abort, alloc: Global, geometry: &Geometry) -> Control
     Control::new(alloc, geometry, dram).expect(rt, "memory")
 }
 
-/// Takes a step, and tells what it told.
+/// Takes a step, and returns what it returned.
 fn step<N: Nvm>(
     rt: &impl Abort,
     boot: &mut Boot,
@@ -95,7 +95,7 @@ fn step<N: Nvm>(
         .expect(rt, "a step")
 }
 
-/// Takes so many steps, or fewer where the boot is over before. Tells how many it took, and what the last one told.
+/// Takes so many steps, or fewer if the boot is over before. Returns how many it took, and what the last one returned.
 fn steps<N: Nvm>(
     rt: &impl Abort,
     boot: &mut Boot,
@@ -121,8 +121,8 @@ fn steps<N: Nvm>(
     (most, step(rt, boot, control, start, nvm))
 }
 
-/// Boots a machine whose power came on, and tells how many steps that took, what the last one told, and which blocks a
-/// load then gives: the first one of memory, and two of the console.
+/// Boots a machine whose power came on, and returns how many steps that took, what the last one returned, and which blocks
+/// a load then gives: the first one of memory, and two of the console.
 fn boot<N: Nvm>(rt: &impl Abort, alloc: Global, nvm: &mut N, most: u64) -> Booted
     requires some { 1 ≤ most }
     requires ready { IsReady (N.device nvm.old) }
@@ -144,7 +144,7 @@ fn boot<N: Nvm>(rt: &impl Abort, alloc: Global, nvm: &mut N, most: u64) -> Boote
     }
 }
 
-/// What a boot came to.
+/// The result of a boot.
 #[derive(Clone, Copy, Debug, PartialEq, Eq)]
 struct Booted {
     taken: u64,
@@ -154,7 +154,7 @@ struct Booted {
     behind: Block,
 }
 
-/// What it comes to once memory is the start's.
+/// Its result once memory is the start's.
 fn with_start(taken: u64, told: BootStep) -> Booted {
     let mut behind = Block::ZERO;
     behind.put(0, &[33; 6]);
@@ -181,8 +181,9 @@ fn processor() -> CpuState {
     }
 }
 
-// A boot reads the commit block, and then loads 512 blocks of memory, 7 of the slot and the header, and has two barriers and
-// the commit block between them. Its recovery reads the commit block, the header and 7 blocks of the slot.
+// A boot reads the commit block, and then loads 512 blocks of memory, 7 of the slot and the header, and has two
+// barriers and the commit block between them. Its recovery reads the commit block, the header and 7 blocks of the
+// slot.
 #[test]
 fn a_start_is_loaded_and_found_again(rt: HostRuntime) {
     let alloc = rt.alloc();

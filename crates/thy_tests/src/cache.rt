@@ -1,4 +1,4 @@
-//! The cache's answers over two stores, worked out by hand.
+//! The cache's results over two stores, worked out by hand.
 ghost use Rattle.std.specs.Prelude.{◌≡◌, ◌≤◌, ◌-◌, ◌^◌, ◌<◌, true, length, OnOk, IfOk};
 ghost use Rattle.thy_cache.specs.Contents.{dirty_count};
 ghost use Rattle.thy_cache.specs.Flat.{Agrees, AgreesStill};
@@ -96,7 +96,7 @@ enum Call {
     Stored(u64, usize),
 }
 
-/// What it answers.
+/// What it returns.
 #[derive(Clone, Copy, PartialEq)]
 enum Answer {
     Is(bool),
@@ -233,7 +233,7 @@ fn make_call<S: BlockStore<()>>(
     }
 }
 
-/// Makes the calls in order and compares what each answers.
+/// Makes the calls in order and compares what each returns.
 fn play<S: BlockStore<()>>(
     rt: &impl Abort,
     cache: &mut Cache,
@@ -266,7 +266,7 @@ static TURNS: [(Call, Answer); 27] = [
     (Call::Victim(4), Answer::Room),
     (Call::Read(0, 0), Answer::Byte(0)),
     (Call::Victim(4), Answer::Must(2)),
-    // A peek is no use.
+    // A peek does not count as a use.
     (Call::Peek(2, 63), Answer::Byte(200)),
     (Call::Peek(2, 62), Answer::Byte(2)),
     (Call::Victim(4), Answer::Must(2)),

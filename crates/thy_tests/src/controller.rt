@@ -1,4 +1,4 @@
-//! The controller over the simulated NVM, beside a plain list of blocks: random loads and stores of one epoch.
+//! The controller over the simulated NVM, compared with a plain list of blocks: random loads and stores of one epoch.
 ghost use Rattle.std.specs.Prelude.{◌≡◌, ◌<◌, true, false, length};
 ghost use Rattle.thy_base.specs.Places.{image_blocks};
 ghost use Rattle.thy_control.specs.Holding.{holding_of};

@@ -1,4 +1,4 @@
-//! The controller over the simulated NVM, beside three lists of blocks: random calls of all kinds, over many epochs.
+//! The controller over the simulated NVM, compared with three lists of blocks: random calls of all kinds, over many epochs.
 ghost use Rattle.std.specs.Prelude.{◌≡◌, ◌<◌, true, false, length, IfSome};
 ghost use Rattle.thy_base.specs.Places.{image_blocks};
 ghost use Rattle.thy_tests.specs.Driven.{Drives, AreVersions};
@@ -71,7 +71,7 @@ struct Seen {
     left: bool,
 }
 
-/// Where stores go for a time.
+/// The blocks that stores go to for a time.
 #[derive(Clone, Copy)]
 enum Habit {
     Nowhere,
@@ -132,7 +132,7 @@ fn drawn_spot(lcg: &mut Lcg) -> u64
     }
 }
 
-/// Stores a drawn block, where there is room and no page is in promotion.
+/// Stores a drawn block, if there is room and no page is in promotion.
 fn store_drawn<N: Nvm>(
     rt: &impl Abort,
     control: &mut Control,
@@ -287,7 +287,7 @@ fn seal_or_commit<N: Nvm>(
     }
 }
 
-/// Goes on with the checkpoint and with promotions, or begins the next checkpoint.
+/// Continues with the checkpoint and with promotions, or begins the next checkpoint.
 fn checkpoint<N: Nvm>(
     rt: &impl Abort,
     control: &mut Control,
@@ -460,7 +460,7 @@ fn play<N: Nvm>(rt: &impl Abort, alloc: Global, nvm: &mut N, seed: u64, seen: &m
     compare_all(rt, &control, nvm, &beside);
 }
 
-// Pages come, stay and leave, entries become free again where few are, and stores owe copies.
+// Pages come, stay and leave, entries become free again if few are, and stores owe copies.
 #[test]
 fn random_epochs_keep_three_versions(rt: HostRuntime) {
     let mut seen = Seen {

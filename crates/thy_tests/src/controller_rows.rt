@@ -250,7 +250,7 @@ fn no_block_is_left<N: Nvm>(rt: &impl Abort, control: &mut Control, nvm: &mut N)
     expect(rt, control.free(), 32);
 }
 
-// A store while one block is left goes into a buffer, and one behind it into the frame.
+// A store while one block is left goes into a buffer, and one after it into the frame.
 #[test]
 fn a_frame_is_free_with_the_last_block_of_its_page(rt: HostRuntime) {
     let mut nvm = MemNvm::new(rt.alloc());

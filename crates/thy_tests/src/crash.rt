@@ -1,4 +1,4 @@
-//! A checkpoint that was committed, and a cut behind it.
+//! A checkpoint that was committed, and a cut after it.
 use crate::expect::expect;
 use thy_base::{Block, Nvm, Shape};
 use thy_crash::commit;

@@ -1,5 +1,5 @@
-//! Controller, engine and boot over the simulated NVM, through cuts of power at every step of a load and of two epochs. Each
-//! restart is compared with what was stored.
+//! Controller, engine and boot over the simulated NVM, through cuts of power at every step of a load and of two
+//! epochs. Each restart is compared with what was stored.
 ghost use Rattle.std.specs.Prelude.{◌≡◌, length};
 ghost use Rattle.thy_isa.specs.Step.{state_of};
 ghost use Rattle.thy_tests.specs.Boots.{IsLeastStart};
@@ -107,7 +107,7 @@ fn count_of(epoch: u64) -> u64 {
 /// What is done with the machine once it is booted.
 #[derive(Clone, Copy, Debug, PartialEq, Eq)]
 enum Action {
-    /// A block of one letter is stored, with the copy that goes first where there is one.
+    /// A block of one letter is stored, with the copy that comes first if there is one.
     Store(u64, u8),
     /// The epoch is sealed.
     Seal(u64),
@@ -124,7 +124,7 @@ enum Action {
 /// How many blocks of the first page are stored first.
 const DENSE: usize = 23;
 
-/// What comes behind these stores: two epochs with stores of one block and of a page, also while their checkpoints are under
+/// What follows these stores: two epochs with stores of one block and of a page, also while their checkpoints are under
 /// way. The page gets a frame in the first one, and is written to its alternate page in the second.
 const ACTIONS: [Action; 33] = [
     Action::Store(100, b'B'),
@@ -162,7 +162,7 @@ const ACTIONS: [Action; 33] = [
     Action::Store(100, b'V'),
 ];
 
-/// The action behind so many, if there is one.
+/// The action after so many, if there is one.
 fn action_of(done: usize) -> Option<Action> {
     if done < DENSE {
         return Some(Action::Store(done as u64, b'A'));
@@ -170,7 +170,7 @@ fn action_of(done: usize) -> Option<Action> {
     ACTIONS.get(done - DENSE).copied()
 }
 
-/// What was done and stored so far, beside the machine.
+/// What was done and stored so far, which the machine is compared with.
 #[derive(Drop)]
 struct Beside {
     /// How many actions were done.
@@ -258,7 +258,7 @@ fn boots(rt: &impl Abort, starting: Starting, beside: &mut Beside) -> Machine {
     }
 }
 
-/// Stores a block, and tells whether that was done.
+/// Stores a block, and returns whether that was done.
 fn store(rt: &impl Abort, memory: &mut Memory, beside: &mut Beside, b: u64, letter: u8) -> bool {
     assert!(rt; b < 512);
     let block = Block([letter; 64]);
@@ -286,7 +286,7 @@ fn step(rt: &impl Abort, memory: &mut Memory, beside: &mut Beside) -> bool {
     }
 }
 
-/// Does a part of an action, and tells whether it is done.
+/// Does a part of an action, and returns whether it is done.
 fn act(rt: &impl Abort, memory: &mut Memory, beside: &mut Beside, action: Action) -> bool {
     match action {
         Action::Store(b, letter) => store(rt, memory, beside, b, letter),
@@ -359,7 +359,7 @@ fn whole(rt: &impl Abort, alloc: Global) -> u64 {
     panic!(rt; "no end")
 }
 
-/// Boots behind a cut, up to the end.
+/// Boots after a cut, up to the end.
 fn booted(rt: &impl Abort, starting: Starting) -> (Memory, BootStep) {
     let mut going = starting;
     for _ in 0..2000 {
@@ -371,7 +371,7 @@ fn booted(rt: &impl Abort, starting: Starting) -> (Memory, BootStep) {
     panic!(rt; "no end")
 }
 
-/// The epoch whose checkpoint was found: the committed one, or the one in doubt. Nothing was committed where the start was
+/// The epoch whose checkpoint was found: the committed one, or the one in doubt. Nothing was committed if the start was
 /// loaded again.
 fn found(rt: &impl Abort, told: BootStep, beside: &Beside, at: u64) -> u64 {
     match told {
@@ -389,7 +389,8 @@ fn found(rt: &impl Abort, told: BootStep, beside: &Beside, at: u64) -> u64 {
     }
 }
 
-/// Cuts the power behind so many ticks, and compares what the machine restarts with. Tells whether a checkpoint was in doubt.
+/// Cuts the power after so many ticks, and compares what the machine restarts with. Returns whether a checkpoint was
+/// in doubt.
 fn cut(rt: &impl Abort, alloc: Global, ticks: u64, pick: u64) -> bool {
     let (mut machine, mut beside) = begun(rt, alloc);
     for at in 0..ticks {
@@ -407,8 +408,8 @@ fn cut(rt: &impl Abort, alloc: Global, ticks: u64, pick: u64) -> bool {
     beside.in_doubt.is_some()
 }
 
-/// Cuts the power behind so many ticks with each of four picks for what that leaves of the queued writes: none, all, and two
-/// draws. Where a checkpoint is in doubt it is cut with 32 more draws, so that its commit block lands without others.
+/// Cuts the power after so many ticks with each of four picks for what that leaves of the queued writes: none, all, and two
+/// draws. If a checkpoint is in doubt it is cut with 32 more draws, so that its commit block lands without others.
 fn cuts(rt: &impl Abort, alloc: Global, ticks: u64) {
     for pick in [0, 1, 7] {
         cut(rt, alloc, ticks, pick);
@@ -420,7 +421,7 @@ fn cuts(rt: &impl Abort, alloc: Global, ticks: u64) {
     }
 }
 
-// The power is cut behind every tick: each step of the boot and of the engine, each store, seal and drain.
+// The power is cut after every tick: each step of the boot and of the engine, each store, seal and drain.
 #[test]
 fn every_cut_restarts_with_what_was_committed(rt: HostRuntime) {
     let ticks = whole(&rt, rt.alloc());

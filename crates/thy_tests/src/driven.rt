@@ -1,5 +1,5 @@
-//! Calls of a controller of the least memory, and of the NVM behind it. Each tests what its call asks for, and stops the
-//! test where that does not hold.
+//! Calls of a controller of the least memory, and of the NVM below it. Each tests what its call requires, and stops the
+//! test if that does not hold.
 ghost use Rattle.std.specs.Prelude.{◌≡◌, ◌<◌, true, false, length, is_some};
 ghost use Rattle.thy_base.specs.Device.{Device};
 ghost use Rattle.thy_base.specs.Places.{image_blocks};
@@ -123,7 +123,7 @@ pub(crate) fn page_next<N: Nvm>(rt: &impl Abort, control: &mut Control, nvm: &mu
     control.page_next(nvm).expect(rt, "a write")
 }
 
-/// Stops the test where a call tells that there was more.
+/// Stops the test if a call returns that there was more.
 fn nothing_left(rt: &impl Abort, more: bool)
     ensures { more ≡ false }
 {

@@ -24,13 +24,13 @@ static GOOD: [u8; 132] = [
     0x73, 0x00, 0x00, 0x00,
 ];
 
-/// Compares what a file is refused for, or None where it is an image, with what it should be. `at` says
+/// Compares what a file is refused for, or None if it is an image, with what it should be. `at` says
 /// where the file was changed, or is the number of a row.
 fn refused(rt: &impl Abort, alloc: Global, file: &[u8], want: Option<ElfError>, at: usize) {
     expect_at(rt, read(alloc, file, BASE, SIZE).err(), want, at);
 }
 
-/// Writes bytes into a file, where they lie within it.
+/// Writes bytes into a file, if they are within it.
 fn put(file: &mut [u8], place: usize, bytes: &[u8]) {
     if place <= file.len() && bytes.len() <= file.len() - place {
         file[place..place + bytes.len()].copy_from_slice(bytes);

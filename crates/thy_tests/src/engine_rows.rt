@@ -76,8 +76,8 @@ fn decodes(rt: &impl Abort, alloc: Global, memory: &mut Memory, epoch: u64, b: u
     expect(rt, decoded, (epoch, of(letter)));
 }
 
-// The third version goes over the second, which the checkpoint under way has still to copy. So there is nothing left to copy,
-// and the slot's 7 blocks, two barriers and the commit block are written.
+// The third version goes over the second, which the checkpoint under way has still to copy. So there is nothing left
+// to copy, and the slot's 7 blocks, two barriers and the commit block are written.
 #[test]
 fn three_versions_of_a_block_are_committed_in_turn(rt: HostRuntime) {
     let mut memory = Memory::power_on(&rt, rt.alloc(), &least(8));
@@ -148,7 +148,7 @@ fn round_trip(rt: &impl Abort, alloc: Global, memory: &mut Memory) {
     loads(rt, memory, 5, b'X');
 }
 
-/// No block stands in a frame: one of the page is stored by an entry of its own.
+/// No block is held in a frame: one of the page is stored by an entry of its own.
 fn no_frame_is_used(rt: &impl Abort, memory: &mut Memory) {
     expect(rt, memory.promoting(), false);
     expect(rt, memory.overlay(), false);
@@ -158,8 +158,8 @@ fn no_frame_is_used(rt: &impl Abort, memory: &mut Memory) {
     expect(rt, memory.free(), 31);
 }
 
-// It comes for its 23 stores of one epoch, its 64 blocks are written to its alternate page, and it leaves by its home, with 64
-// more, for its few stores of another.
+// It comes for its 23 stores of one epoch, its 64 blocks are written to its alternate page, and it leaves by its
+// home, with 64 more, for its few stores of another.
 #[test]
 fn a_page_comes_and_leaves_by_its_home(rt: HostRuntime) {
     let mut memory = Memory::power_on(&rt, rt.alloc(), &least(32));
@@ -190,8 +190,8 @@ fn quiet_epochs(rt: &impl Abort, alloc: Global, memory: &mut Memory) {
     decodes(rt, alloc, memory, 4, 20, b'A');
 }
 
-// With no store in the third epoch the page stays, because the second had 20: nothing but the slot is written. With none in the
-// fourth either it leaves by its home.
+// With no store in the third epoch the page stays, because the second had 20: nothing but the slot is written. With
+// none in the fourth either it leaves by its home.
 #[test]
 fn a_page_stays_for_one_quiet_epoch(rt: HostRuntime) {
     let mut memory = Memory::power_on(&rt, rt.alloc(), &least(32));
@@ -199,7 +199,7 @@ fn a_page_stays_for_one_quiet_epoch(rt: HostRuntime) {
     no_frame_is_used(&rt, &mut memory);
 }
 
-/// Stores a block of the page behind so many of the 77 actions, and commits.
+/// Stores a block of the page after so many of the 77 actions, and commits.
 fn store_behind(rt: &impl Abort, alloc: Global, memory: &mut Memory, many: u64, overlay: bool) {
     frame_page(rt, alloc, memory);
     steps(rt, memory, many);
@@ -211,7 +211,7 @@ fn store_behind(rt: &impl Abort, alloc: Global, memory: &mut Memory, many: u64, 
     loads(rt, memory, 5, b'X');
 }
 
-// A store while one block is left goes into a buffer, and one behind it into the frame.
+// A store while one block is left goes into a buffer, and one after it into the frame.
 #[test]
 fn a_frame_is_free_before_its_page_is_committed(rt: HostRuntime) {
     let mut memory = Memory::power_on(&rt, rt.alloc(), &least(32));
@@ -222,7 +222,7 @@ fn a_frame_is_free_before_its_page_is_committed(rt: HostRuntime) {
     expect(&rt, memory.free(), 32);
 }
 
-/// So many actions that are told alike.
+/// So many actions that are reported alike.
 fn are(rt: &impl Abort, memory: &mut Memory, many: u64, want: EngineStep) {
     for i in 0..many {
         let step = memory.step(rt);

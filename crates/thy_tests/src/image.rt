@@ -57,7 +57,7 @@ fn put_bytes(image: &mut [u8], block: usize, bytes: &[u8]) {
     }
 }
 
-/// The words that are not zero, but for the two names: the header's, the commit block's, of epoch 3, and in slot 1
+/// The words that are not zero, except the two names: the header's, the commit block's, of epoch 3, and in slot 1
 /// pc, x1, count, cursor, length of the console, break, epoch, floor, and the entries: entry 0 of the block table
 /// lists block 5, entry 1 of the page table page 2.
 static WORDS: [(usize, u64); 17] = [
@@ -230,7 +230,7 @@ fn a_record_at_its_bounds_is_accepted(rt: HostRuntime) -> Result<(), Fail> {
     Ok(())
 }
 
-/// The first bytes of others, or all where there are no more.
+/// The first bytes of others, or all if there are no more.
 fn front(bytes: &[u8], len: usize) -> &[u8] {
     if len < bytes.len() {
         &bytes[..len]

@@ -2,7 +2,7 @@
 //!
 //! The tables are the output of `tools/instructions`: the words are from riscv64-linux-gnu-as, and what
 //! is expected is what qemu-riscv64 did. Its help page says what a row means. The reserved words are
-//! those beside the rows of the table that riscv64-linux-gnu-objdump knows no instruction of RV64IM with
+//! those near the rows of the table that riscv64-linux-gnu-objdump knows no instruction of RV64IM with
 //! FENCE.I for.
 
 ghost use Rattle.std.specs.Prelude.{◌≤◌, IfSome};
@@ -45,7 +45,7 @@ fn each_instruction_gives_what_an_emulator_gives(rt: HostRuntime) {
     }
 }
 
-/// How many of the 16 bytes stand before an address, or None where fewer than eight come from it on.
+/// How many of the 16 bytes come before an address, or None if fewer than eight come from it on.
 fn place(at: u64) -> Option<usize>
     ensures { IfSome result (λ from. from ≤ 8) }
 {
@@ -107,7 +107,7 @@ fn loads_and_stores_at_any_address_move_what_an_emulator_moves(rt: HostRuntime) 
     }
 }
 
-/// What an environment call of this number and first argument does, or None where the word is none.
+/// What an environment call of this number and first argument does, or None if the word is not one.
 fn called(word: u32, a7: u64, a0: u64) -> Option<Call> {
     let mut regs = Regs::new();
     regs.set(Reg::new(17), a7);

@@ -2,7 +2,7 @@
 //! from outside, printed text, and rows worked out by hand.
 //!
 //! Open src/lib.rt's list of files first, then the file of the crate in question. specs/ has what is asked of the values
-//! that tests pass on. It stands on the crates that it tests; nothing stands on it.
+//! that tests pass on. It depends on the crates that it tests; nothing depends on it.
 #![tactic(auto)]
 
 #[cfg(test)]

@@ -1,5 +1,5 @@
-//! A controller of the least memory with its engine, and the NVM behind both. Each call tests what it asks for, and stops
-//! the test where that does not hold.
+//! A controller of the least memory with its engine, and the NVM below both. Each call tests what it requires, and stops
+//! the test if that does not hold.
 ghost use Rattle.std.specs.Prelude.{◌≡◌, ◌<◌, length, false};
 ghost use Rattle.thy_base.specs.Places.{image_blocks};
 ghost use Rattle.thy_tests.specs.Driven.{Drives};
@@ -95,7 +95,7 @@ impl Memory {
         }
     }
 
-    /// A boot has filled this controller: an engine with no checkpoint under way stands beside it.
+    /// A boot has filled this controller: it gets an engine with no checkpoint under way.
     pub(crate) fn booted(geometry: Geometry, control: Control, nvm: MemNvm, cuts: u64) -> Memory
         requires same_p { control.p ≡ geometry }
         requires drives { Drives control nvm.device }

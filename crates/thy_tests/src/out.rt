@@ -41,7 +41,7 @@ fn a_shelf_in_memory_gives_and_keeps(rt: HostRuntime) {
 }
 
 /// Paths, how much of each is asked for, and why it is not given. A folder opens and cannot be read; a
-/// path through a file and one with a zero byte cannot be opened, also where the user may do all.
+/// path through a file and one with a zero byte cannot be opened, even if the user may do all.
 static PATHS: [(&str, u64, Option<FetchError>); 7] = [
     ("no such file", 9, Some(FetchError::NotThere)),
     ("no such folder/file", 9, Some(FetchError::NotThere)),

@@ -1,4 +1,4 @@
-//! Puts of the shelf over files: what stands under a name before, and which call of the system fails.
+//! Puts of the shelf over files: what a name holds before, and which call of the system fails.
 use crate::expect::{expect, expect_at};
 use std::alloc::{Allocator, Global};
 use std::fs::{Files, Metadata, OpenFile, OpenOptions, Permissions};
@@ -15,7 +15,7 @@ fn has(rt: &(impl Abort + Files + Alloc<A = Global>), name: &str, bytes: &[u8]) 
     expect_at(rt, there.as_slice(), bytes, name);
 }
 
-/// Whether nothing stands under a name.
+/// Whether a name holds nothing.
 fn is_free(rt: &impl Files, name: &str) -> bool {
     fs::symlink_metadata(rt, name).is_err()
 }
@@ -82,7 +82,7 @@ enum Call {
     Rename,
 }
 
-/// How this call answers, if it is the one that fails.
+/// What this call returns, if it is the one that fails.
 fn answer(call: Call, fails: (Call, ErrorKind)) -> io::Result<()> {
     if call == fails.0 {
         Err(Error::from(fails.1))
@@ -91,14 +91,14 @@ fn answer(call: Call, fails: (Call, ErrorKind)) -> io::Result<()> {
     }
 }
 
-/// The files of the system, of which one call fails where it is made on a new file.
+/// The files of the system, of which one call fails if it is made on a new file.
 #[derive(Drop)]
 struct Failing<'a, R> {
     rt: &'a R,
     fails: (Call, ErrorKind),
 }
 
-/// A file of these; the system's own where none of its calls fail.
+/// A file of these; the system's own if none of its calls fail.
 #[derive(Drop)]
 struct FailingFile<F> {
     file: F,
@@ -219,7 +219,7 @@ impl<F: OpenFile> OpenFile for FailingFile<F> {
     }
 }
 
-/// The call that fails, how, and whether the name then has the new bytes: where the system does not let a file
+/// The call that fails, how, and whether the name then has the new bytes: if the system does not let a file
 /// be made or renamed there, the old one is written over.
 static FAILING: [(Call, ErrorKind, bool); 9] = [
     (Call::Make, ErrorKind::StorageFull, false),

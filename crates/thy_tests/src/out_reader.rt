@@ -6,7 +6,7 @@ use std::io::{Error, ErrorKind, Read};
 use thy_base::FetchError;
 use thy_out::{Source, read_within};
 
-/// Gives its bytes three a call, but for a call that a signal interrupts and one that fails.
+/// Gives its bytes three a call, except for a call that a signal interrupts and one that fails.
 #[derive(Drop)]
 struct Slow {
     bytes: &'static [u8],

@@ -7,7 +7,7 @@ use std::io::{Error, ErrorKind, Write};
 use thy_base::Sink;
 use thy_out::StdSink;
 
-/// Takes two bytes a call, but for a call that a signal interrupts and one that fails.
+/// Takes two bytes a call, except for a call that a signal interrupts and one that fails.
 #[derive(Drop)]
 struct Slow {
     taken: Vec<u8>,
@@ -55,7 +55,7 @@ fn slow_stream(rt: &HostRuntime, failing: u64, flush_fails: bool) -> Slow {
     }
 }
 
-/// Proved where it stands: the sink has counted so many faults.
+/// Proved at each call: the sink has counted so many faults.
 fn has_counted<S: Sink>(sink: &S, faults: u64)
     requires { (S.stream sink.now).faults ≡ faults }
 {}

@@ -135,11 +135,11 @@ impl Model for Starting {
 #[derive(Drop)]
 pub(crate) enum Taken {
     Going(Starting),
-    /// It is over, with what was told.
+    /// It is over, with what was returned.
     Over(Memory, BootStep),
 }
 
-/// Takes a step, and tells what it told.
+/// Takes a step, and returns what it returned.
 fn step<N: Nvm>(
     rt: &impl Abort,
     boot: &mut Boot,

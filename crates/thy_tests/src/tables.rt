@@ -1,4 +1,4 @@
-//! The tables' answers, against a list of three places that was written out by hand.
+//! The tables' results, against a list of three places that was written out by hand.
 ghost use Rattle.std.specs.Prelude.{◌≡◌, ◌∷◌, [], length};
 
 use crate::expect::expect_at;
@@ -58,7 +58,7 @@ enum Call {
     NextBuffered(usize),
 }
 
-/// What it answers.
+/// What it returns.
 #[derive(Clone, Copy, Debug, PartialEq)]
 enum Answer {
     At(usize),
@@ -141,7 +141,7 @@ static CALLS: [(Call, Answer); 30] = [
     (Call::Find(7), Answer::Nowhere),
     (Call::Find(100), Answer::Nowhere),
     (Call::Free, Answer::Count(1)),
-    // The entry behind the lowest live ones, then the lowest.
+    // The entry after the lowest live ones, then the lowest.
     (Call::Clear(0), Answer::Done),
     (Call::Put(2, 7), Answer::Done),
     (Call::Put(2, 6), Answer::Refused),

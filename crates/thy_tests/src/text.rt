@@ -99,7 +99,7 @@ fn the_longest_line_of_an_event_is_written_at_once(rt: HostRuntime) {
     expect(&rt, page.writes, 1);
 }
 
-/// The closings that tell a field, a name or a number.
+/// The closings that report a field, a name or a number.
 static CLOSINGS: [Closing<'static>; 16] = [
     Closing::Word(Field::Pages),
     Closing::Value(Field::Low, 16),

@@ -1,4 +1,4 @@
-//! The command line, row by row. The words of a row stand with a bar between each two, the program's name
+//! The command line, row by row. The arguments of a row have a bar between each two, the program's name
 //! first.
 use crate::expect::{expect, expect_at};
 use std::alloc::Global;
@@ -6,7 +6,7 @@ use std::process::Abort;
 use thy_base::Config;
 use thy_words::{Command, Job, WordsError, settings};
 
-/// Words that are no command line.
+/// Arguments of invalid usage.
 static USAGE: [&str; 44] = [
     "thynvm",
     "thynvm|run",
@@ -54,7 +54,7 @@ static USAGE: [&str; 44] = [
     "thynvm|make|7|O|--save|S",
 ];
 
-/// Words of which one is no value, and the field that it should be of.
+/// Arguments of which one is not a value, and the field that it should be of.
 static WORDS: [(&str, &str); 27] = [
     ("thynvm|run|F|--pages|x", "pages"),
     ("thynvm|run|F|--pages=-5", "pages"),
@@ -129,10 +129,10 @@ const DEFAULTS: [u64; 14] = [
     65536, 256, 1, 10000, 512, 64, 16, 4, 16, 16, 22, 16, 0, 1000000000,
 ];
 
-/// A command's name, the name and the number that it is about, and there `""` or 0 where there is none.
+/// A command's name, the name and the number that it is about, which are `""` or 0 if there is none.
 type Asked<'a> = (&'a str, &'a str, u64);
 
-/// The name of a command's input, the name under which it saves, and whether it tells digests.
+/// The name of a command's input, the name under which it saves, and whether it reports digests.
 type Told<'a> = (Option<&'a str>, Option<&'a str>, bool);
 
 /// What a row says of a command and its configuration: the numbers in the order of the fields, the cuts and
@@ -303,7 +303,7 @@ static MAKES: [(&str, u64, &str); 4] = [
     ("thynvm|make|--|7|--save", 7, "--save"),
 ];
 
-/// The words of a row.
+/// The arguments of a row.
 fn words_of(rt: &impl Abort, alloc: Global, row: &str) -> Vec<String> {
     let mut words = Vec::new(alloc);
     for word in row.split('|') {
@@ -324,7 +324,7 @@ fn refusal(alloc: Global, words: &[String]) -> (&'static str, &'static str, u64)
     }
 }
 
-/// Compares what the words of a row are refused for with what they should be.
+/// Compares what the arguments of a row are refused for with what they should be.
 fn refused(rt: &impl Abort, alloc: Global, row: &str, error: &str, field: &str, value: u64) {
     let words = words_of(rt, alloc, row);
     let found = refusal(alloc, words.as_slice());

@@ -10,7 +10,7 @@ use thy_base::{Block, FitError, Nvm, NvmError, Shape};
 #[derive(Drop)]
 pub(crate) struct Counted<N: Nvm> {
     inner: N,
-    // How many writes each place has taken. A count stands at its last value.
+    // How many writes each place has taken. A count saturates at its last value.
     counts: Vec<u64>,
 }
 

@@ -5,7 +5,7 @@
 //! is a line for each place: its number, how many writes it takes without levelling, and how many with it. The last two
 //! places hold no line at first: the gap, and the registers. `tools/wear` makes lists of stores and draws what is printed.
 //!
-//! Open src/counted.rt first. It stands on thy_gap and thy_nvm; nothing stands on it.
+//! Open src/counted.rt first. It depends on thy_gap and thy_nvm; nothing depends on it.
 #![tactic(auto)]
 
 ghost use Rattle.std.specs.Prelude.{◌≡◌, ◌<◌, ◌≤◌, IfOk};
@@ -43,7 +43,7 @@ fn number(word: &str) -> io::Result<u64> {
     word.parse::<u64>().map_err(|_| unfit())
 }
 
-/// The three numbers among the words.
+/// The three numbers among the arguments.
 fn read_words(words: &[String]) -> io::Result<Asked>
     ensures lines { IfOk result (λ a. 0 < a.lines) }
     ensures few { IfOk result (λ a. a.lines ≤ 1000000) }

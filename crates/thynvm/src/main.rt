@@ -1,7 +1,8 @@
-//! The program: runs a guest program on the machine, cuts its power where the words say so, and reports what happens.
-//! `main` makes the real shelf, sinks and device, calls `thynvm` of thy_cli with the words, and exits with its status.
+//! The program: runs a guest program on the machine, cuts its power as the arguments say, and reports what happens.
+//! `main` makes the real shelf, sinks and device, calls `thynvm` of thy_cli with the arguments, and exits with its
+//! status.
 //!
-//! This is the one file, without a contract of its own. It stands on thy_cli, thy_out and thy_nvm; nothing stands on
+//! This is the one file, without a contract of its own. It depends on thy_cli, thy_out and thy_nvm; nothing depends on
 //! it.
 #![tactic(auto)]
 
@@ -13,7 +14,7 @@ use thy_cli::{Refusal, refuse, thynvm};
 use thy_nvm::MemNvm;
 use thy_out::{FileShelf, StdSink};
 
-/// The words of the command line; none where the system has none to give.
+/// The arguments of the command line; none if the system has none to give.
 fn words(rt: &(impl Env + Alloc<A = Global>)) -> Result<Vec<String>, AllocError> {
     let alloc = rt.alloc();
     match std::env::args(rt) {

@@ -13,8 +13,8 @@ impl Control {
     ghost use Rattle.thy_control.specs.State.{IsSized};
     ghost use Rattle.thy_control.specs.Versions.{KeepsCheckpoints};
 
-    /// Lists block `b` at entry `i` of the block table, as the committed checkpoint has it there. The entry must be free, and
-    /// neither the block nor its page may be listed. Touches no device.
+    /// Lists block `b` at entry `i` of the block table, as the committed checkpoint has it there. The entry must be
+    /// free, and neither the block nor its page may be listed. Touches no device.
     pub fn list_block(&mut self, i: usize, b: u64)
         requires booting { IsBooting self.old }
         requires may { MayListBlock i b self.old }
@@ -39,7 +39,8 @@ impl Control {
     }
 
     /// Lists page `page` at entry `j` of the page table, as the committed checkpoint has it there. The entry must be free,
-    /// and neither the page nor a block of it may be listed. Its frame has then to be loaded, block by block. Touches no device.
+    /// and neither the page nor a block of it may be listed. Its frame has then to be loaded, block by block. Touches
+    /// no device.
     pub fn list_page(&mut self, j: usize, page: u64)
         requires booting { IsBooting self.old }
         requires may { MayListPage j page self.old }
@@ -63,7 +64,8 @@ impl Control {
         self.ptt.lists_once();
     }
 
-    /// Sets how many stores a page had in the epoch before, at most 63, as the committed checkpoint has it. Touches no device.
+    /// Sets how many stores a page had in the epoch before, at most 63, as the committed checkpoint has it. Touches
+    /// no device.
     pub fn list_count(&mut self, page: u64, count: u64)
         requires booting { IsBooting self.old }
         requires may { MayListCount page count self.old }
@@ -75,7 +77,7 @@ impl Control {
     }
 
     /// Copies block `k` of the alternate page of entry `j`, which lists a page, into the frame: one read of the NVM and one
-    /// write of the DRAM. Where the read failed, the controller is as before.
+    /// write of the DRAM. If the read failed, the controller is as before.
     pub fn frame_block<N: Nvm>(&mut self, j: usize, k: u64, nvm: &mut N) -> Result<(), NvmError>
         requires booting { IsBooting self.old }
         requires may { MayFrame j k self.old }

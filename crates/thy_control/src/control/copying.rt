@@ -29,7 +29,7 @@ impl Test<BttEntry> for NeedsCopy {
     }
 }
 
-/// The block that an entry lists, 0 where it is free.
+/// The block that an entry lists, 0 if it is free.
 fn block_in(entry: Option<BttEntry>) -> u64
     ensures { result ≡ block_in entry }
 {
@@ -46,8 +46,8 @@ impl Control {
     ghost use Rattle.thy_control.specs.Versions.{KeepsAll};
     ghost use Rattle.thy_control.specs.Copies.{next_copy, block_listed, copies_left, CopiesBlock, CopiesNext};
 
-    /// Issues the next copy that the checkpoint under way still needs: one write at one place. It tells whether there was
-    /// one; where none is left it touches nothing. Where the NVM failed, the place may hold the version or not.
+    /// Issues the next copy that the checkpoint under way still needs: one write at one place. It returns whether there was
+    /// one; if none is left it touches nothing. If the NVM failed, the place may hold the version or not.
     pub fn copy_next<N: Nvm>(&mut self, nvm: &mut N) -> Result<bool, NvmError>
         requires sized { IsSized self.old (N.device nvm.old) }
         requires up { (N.device nvm.old).down ≡ false }
@@ -57,7 +57,7 @@ impl Control {
         // Both checkpoints have every block as before, and so does a load; the frames and targets hold what they have to.
         ensures keeps { OnOk result (KeepsAll self.old (N.device nvm.old) self.new (N.device nvm.new)) }
 
-        // So it is by this table and this one write.
+        // Tables and devices are those of the definition: this table and this one write.
         ensures copies { CopiesNext self.old (N.device nvm.old) result self.new (N.device nvm.new) }
 
         // Whether or not it failed, nothing new is possible at the checkpoints' places, and both tables are as they were.
@@ -68,7 +68,7 @@ impl Control {
         self.copy_lowest(nvm)
     }
 
-    /// The entry of lowest number that has still to be copied. The next search goes on there.
+    /// The entry of lowest number that has still to be copied. The next search starts there.
     fn seek_copy(&mut self) -> Option<usize>
         ensures same { self.new ≡ self.old }
         ensures place { result ≡ next_copy self.old }
@@ -80,7 +80,7 @@ impl Control {
         next
     }
 
-    /// The block that an entry lists, 0 where it is free.
+    /// The block that an entry lists, 0 if it is free.
     pub(super) fn block_at(&self, i: usize) -> u64
         requires { i < length self.now.btt.entries }
         ensures { result ≡ block_listed i self.now }
@@ -88,7 +88,7 @@ impl Control {
         block_in(self.btt.entry(i))
     }
 
-    /// Copies what the entry of lowest number has still to copy, and tells whether there was one.
+    /// Copies what the entry of lowest number has still to copy, and returns whether there was one.
     fn copy_lowest<N: Nvm>(&mut self, nvm: &mut N) -> Result<bool, NvmError>
         requires sized { IsSized self.old (N.device nvm.old) }
         requires up { (N.device nvm.old).down ≡ false }

@@ -37,7 +37,7 @@ impl Control {
     ghost use Rattle.thy_control.specs.Versions.{KeepsAll};
     ghost use Rattle.thy_control.specs.Merges.{next_merge, overlays, merged_block, after_merge};
 
-    /// The entry of lowest number whose buffer lies over a frame. The next search goes on there.
+    /// The entry of lowest number whose buffer lies over a frame. The next search starts there.
     fn seek_overlay(&mut self) -> Option<usize>
         ensures same { self.new ≡ self.old }
         ensures place { result ≡ next_merge self.old }

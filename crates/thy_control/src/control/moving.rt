@@ -9,7 +9,7 @@ use thy_base::{Geometry, Nvm, NvmError, Place};
 use thy_dram::Dram;
 use thy_place::{read_place, write_place};
 
-/// Reads the block at one place, and writes it at another. Where the read or the write failed, the DRAM is as before.
+/// Reads the block at one place, and writes it at another. If the read or the write failed, the DRAM is as before.
 pub(super) fn move_block<N: Nvm>(
     from: Place,
     to: Place,

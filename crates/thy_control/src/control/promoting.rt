@@ -29,7 +29,7 @@ impl Test<PttEntry> for IsPromoted {
     }
 }
 
-/// The next block to be copied of the page that an entry lists, 0 where the entry is free.
+/// The next block to be copied of the page that an entry lists, 0 if the entry is free.
 fn block_to_fill(entry: Option<PttEntry>) -> u64
     requires { page_in entry < 2 ^ 32 }
     ensures { result ≡ block_after (λ e. e.filled) entry }
@@ -63,9 +63,9 @@ impl Control {
     ghost use Rattle.thy_control.specs.Versions.{KeepsCheckpoints};
     ghost use Rattle.thy_control.specs.Promotions.{next_promotion, block_to_fill as block_filled_next, unfilled, HoldsWork, ReadsNvm, FillsBlock, FillsNext};
 
-    /// Copies the next block of the lowest page in promotion, as a load gives it, into its frame; with the last block the page
-    /// is framed. Some page must be in promotion. Only the DRAM is written. It fails only where the block is read from the
-    /// NVM; then nothing is written.
+    /// Copies the next block of the lowest page in promotion, as a load gives it, into its frame; with the last block
+    /// the page is framed. Some page must be in promotion. Only the DRAM is written. It fails only if the block is
+    /// read from the NVM; then nothing is written.
     pub fn promote_one<N: Nvm>(&mut self, nvm: &mut N) -> Result<(), NvmError>
         requires sized { IsSized self.old (N.device nvm.old) }
         requires promoting { 0 < promoted self.old.ptt }
@@ -73,7 +73,7 @@ impl Control {
         // One block less is left.
         ensures left { OnOk result (unfilled self.new + 1 ≡ unfilled self.old) }
 
-        // Both checkpoints have every block as before. Where the frames and targets held what they have to, they do so still,
+        // Both checkpoints have every block as before. If the frames and targets held what they have to, they do so still,
         // and so a load of every block gives what it gave.
         ensures keeps { OnOk result (KeepsCheckpoints self.old (N.device nvm.old) self.new (N.device nvm.new)) }
         ensures held { OnOk result (WhereHeld HoldsWork self.old (N.device nvm.old) self.new (N.device nvm.new)) }
@@ -89,7 +89,7 @@ impl Control {
         self.fill_lowest(nvm)
     }
 
-    /// The entry of lowest number whose page is being promoted. The next search goes on there.
+    /// The entry of lowest number whose page is being promoted. The next search starts there.
     fn seek_promotion(&mut self) -> Option<usize>
         ensures same { self.new ≡ self.old }
         ensures place { result ≡ next_promotion self.old }
@@ -101,7 +101,7 @@ impl Control {
         next
     }
 
-    /// The next block to be copied of the page that an entry lists, 0 where the entry is free.
+    /// The next block to be copied of the page that an entry lists, 0 if the entry is free.
     fn block_unfilled(&self, j: usize) -> u64
         requires { j < length self.now.ptt.entries }
         ensures { result ≡ block_filled_next j self.now }
@@ -127,7 +127,7 @@ impl Control {
         }
     }
 
-    /// Copies a block of a page in promotion, the next one, from where a load reads it into the frame.
+    /// Copies the next block of a page in promotion, as a load reads it, into the frame.
     fn fill_block<N: Nvm>(&mut self, b: u64, nvm: &mut N) -> Result<(), NvmError>
         requires block { b < memory_blocks self.old.p }
         requires fresh { (cell_of self.old b).page.fresh ≡ true }

@@ -1,4 +1,4 @@
-//! The DRAM behind the controller: what is queued there, and what a loss of power leaves.
+//! The DRAM below the controller: what is queued there, and what a loss of power leaves.
 ghost use Rattle.std.specs.Prelude.{◌≡◌, ◌<◌};
 ghost use Rattle.thy_base.specs.Device.{Device};
 ghost use Rattle.thy_dram.specs.Contents.{lost};

@@ -25,7 +25,7 @@ impl Test<PttEntry> for NeedsWrite {
     }
 }
 
-/// The next block to be written of the page that an entry lists, 0 where the entry is free.
+/// The next block to be written of the page that an entry lists, 0 if the entry is free.
 fn block_to_write(entry: Option<PttEntry>) -> u64
     requires { page_in entry < 2 ^ 32 }
     ensures { result ≡ block_after (λ e. e.issued) entry }
@@ -43,22 +43,22 @@ impl Control {
     ghost use Rattle.thy_control.specs.Versions.{KeepsCommitted, KeepsWork};
     ghost use Rattle.thy_control.specs.Pages.{next_page, block_to_write as block_written_next, writes_left, WritesBlock, WritesNext};
 
-    /// Issues the next block of a page that the checkpoint under way has still to write, from the page's frame: one write at one
-    /// place. It tells whether there was one; where none is left it touches nothing. With its last block a page that does
-    /// not leave is free again. Where the NVM failed, the place may hold the block or not.
+    /// Issues the next block of a page that the checkpoint under way has still to write, from the page's frame: one
+    /// write at one place. It returns whether there was one; if none is left it touches nothing. With its last block
+    /// a page that does not leave is free again. If the NVM failed, the place may hold the block or not.
     pub fn page_next<N: Nvm>(&mut self, nvm: &mut N) -> Result<bool, NvmError>
         requires sized { IsSized self.old (N.device nvm.old) }
         requires up { (N.device nvm.old).down ≡ false }
         ensures more { IfOk result (λ more. more ≡ is_some (next_page self.old)) }
         ensures left { IfOk result (λ more. IsOneLess more (writes_left self.old) (writes_left self.new)) }
 
-        // The committed checkpoint has every block as before, and a load gives it. Where the frames and targets held what they
+        // The committed checkpoint has every block as before, and a load gives it. If the frames and targets held what they
         // have to, they do so still, and so the checkpoint under way has every block as before.
         ensures committed { OnOk result (KeepsCommitted self.old (N.device nvm.old) self.new (N.device nvm.new)) }
         ensures work { OnOk result (KeepsWork self.old (N.device nvm.old) self.new (N.device nvm.new)) }
         ensures held { OnOk result (WhereHeld StaysHeld self.old (N.device nvm.old) self.new (N.device nvm.new)) }
 
-        // So it is by this table and this one write.
+        // Tables and devices are those of the definition: this table and this one write.
         ensures writes { WritesNext self.old (N.device nvm.old) result self.new (N.device nvm.new) }
 
         // Whether or not it failed, nothing new is possible at the checkpoints' places, and both tables are as they were.
@@ -70,7 +70,7 @@ impl Control {
         self.write_lowest(nvm)
     }
 
-    /// The entry of lowest number whose page's blocks are not all issued. The next search goes on there.
+    /// The entry of lowest number whose page's blocks are not all issued. The next search starts there.
     fn seek_page(&mut self) -> Option<usize>
         ensures same { self.new ≡ self.old }
         ensures place { result ≡ next_page self.old }
@@ -82,7 +82,7 @@ impl Control {
         next
     }
 
-    /// The next block to be written of the page that an entry lists, 0 where the entry is free.
+    /// The next block to be written of the page that an entry lists, 0 if the entry is free.
     fn block_due(&self, j: usize) -> u64
         requires { j < length self.now.ptt.entries }
         ensures { result ≡ block_written_next j self.now }
@@ -91,7 +91,7 @@ impl Control {
         block_to_write(self.ptt.entry(j))
     }
 
-    /// Writes the next block of the lowest page whose blocks are not all issued, and tells whether there was one.
+    /// Writes the next block of the lowest page whose blocks are not all issued, and returns whether there was one.
     fn write_lowest<N: Nvm>(&mut self, nvm: &mut N) -> Result<bool, NvmError>
         requires sized { IsSized self.old (N.device nvm.old) }
         requires up { (N.device nvm.old).down ≡ false }

@@ -1,5 +1,5 @@
-//! The machine over the scheme that waits: a program of two epochs, cut behind every cycle, and how many barriers come
-//! before the hart goes on.
+//! The machine over the scheme that waits: a program of two epochs, cut after every cycle, and how many barriers come
+//! before the hart continues.
 use crate::expect::{expect, expect_at};
 use crate::machine::{Booted, MOST, Powered, Row, Whole, boot, cut, plain_machines, uncut};
 use std::alloc::Global;
@@ -24,19 +24,19 @@ static TWO_EPOCHS: Row = Row {
     status: Status::Exited(3),
 };
 
-/// What a machine told of the barriers behind commits and restarts.
+/// What a machine reported of the barriers after commits and restarts.
 #[derive(Drop)]
 struct Waits {
     /// An epoch is sealed, and not committed.
     sealed: bool,
-    /// The barriers so far behind a commit or a restart, until the hart goes on.
+    /// The barriers so far after a commit or a restart, until the hart continues.
     behind: Option<u64>,
     /// How many there were each time that it went on.
     counts: Vec<u64>,
 }
 
 impl Waits {
-    /// Behind a boot that came to this.
+    /// After a boot with this result.
     fn from(alloc: Global, booted: Booted) -> Waits {
         Waits {
             sealed: false,
@@ -49,7 +49,7 @@ impl Waits {
         }
     }
 
-    /// The engine took a step: one of a checkpoint, or a barrier behind one.
+    /// The engine took a step: one of a checkpoint, or a barrier after one.
     fn engine(&mut self, rt: &impl Abort, step: EngineStep) {
         match self.behind {
             Some(count) => {
@@ -60,7 +60,7 @@ impl Waits {
         }
     }
 
-    /// The hart goes on, with no checkpoint under way.
+    /// The hart continues, with no checkpoint under way.
     fn goes_on(&mut self, rt: &impl Abort) {
         expect(rt, self.sealed, false);
         if let Some(count) = self.behind {
@@ -88,7 +88,7 @@ impl Waits {
     }
 }
 
-/// Takes cycles until the machine halts, and counts the barriers before the hart goes on behind the boot and each commit.
+/// Takes cycles until the machine halts, and counts the barriers before the hart continues after the boot and each commit.
 fn barriers(rt: &impl Abort, alloc: Global, on: &mut Powered<Machine<WaitingScheme>>) -> Vec<u64> {
     let booted = boot(rt, on);
     let mut waits = Waits::from(alloc, booted);
@@ -110,7 +110,7 @@ fn committed_in(rt: &impl Abort, whole: &Whole, epoch: usize) -> u64 {
     }
 }
 
-/// Counts them in a run without cuts by the schedule of a seed, and behind a cut in each of its epochs.
+/// Counts them in a run without cuts by the schedule of a seed, and after a cut in each of its epochs.
 fn three_each(rt: &impl Abort, alloc: Global, seed: u64) {
     let plains = plain_machines(rt, alloc, &TWO_EPOCHS);
     let whole = uncut::<Machine<WaitingScheme>>(rt, alloc, &TWO_EPOCHS, seed, &plains);
@@ -128,8 +128,8 @@ fn three_each(rt: &impl Abort, alloc: Global, seed: u64) {
     }
 }
 
-/// Runs the program by the schedule of a seed, without cuts and then with a cut behind each cycle of its epochs but the last,
-/// with three picks.
+/// Runs the program by the schedule of a seed, without cuts and then with a cut after each cycle of its epochs but the
+/// last, with three picks.
 fn survives_each_cut(rt: &impl Abort, alloc: Global, seed: u64) {
     let plains = plain_machines(rt, alloc, &TWO_EPOCHS);
     let whole = uncut::<Machine<WaitingScheme>>(rt, alloc, &TWO_EPOCHS, seed, &plains);

@@ -57,7 +57,7 @@ fn compare(rt: &impl Abort, line: &str, given: &Given, plain: &Given, lines: &st
     assert!(rt; is_told && ends_so, "{line}");
 }
 
-/// A boot behind a cut of power.
+/// A boot after a cut of power.
 struct Boot {
     /// The program, and the run's options.
     program: &'static str,
@@ -66,7 +66,7 @@ struct Boot {
     tear: u64,
     /// How many actions the boot has. It takes no fewer cycles.
     actions: u64,
-    /// What is told with the last of them.
+    /// What is reported with the last of them.
     told: &'static str,
 }
 
@@ -112,7 +112,7 @@ fn line_of(alloc: Global, boot: &Boot, schedule: &str) -> Result<String, AllocEr
     Ok(line)
 }
 
-/// A run that is cut behind a cycle, and once more behind each that the boot takes at least but the last: the next boot
+/// A run that is cut after a cycle, and once more after each that the boot takes at least but the last: the next boot
 /// restarts what that one would have.
 fn cut_again(rt: &impl Abort, alloc: Global, boot: &Boot, cut: u64) -> Result<(), AllocError> {
     let plain = on_plain(rt, alloc, boot.program)?;
@@ -141,7 +141,7 @@ fn a_recovery_that_is_cut_restarts_what_the_first_cut_left(rt: HostRuntime) -> R
     Ok(())
 }
 
-/// The fourth cycle before a run's last, in turn: between the last commit block and the barrier behind it there is one
+/// The fourth cycle before a run's last, in turn: between the last commit block and the barrier after it there is one
 /// drain of each queue at most, so that this commit block is not yet written.
 #[test]
 fn a_recovery_that_is_cut_copies_a_page_again(rt: HostRuntime) -> Result<(), Fail> {
@@ -201,7 +201,7 @@ fn boot_by(
     let run = line_of(alloc, &OF_A_PAGE, schedule)?;
     let run = run.as_str();
     let whole = ran(alloc, run)?;
-    // Between the last commit block and the barrier behind it no more can land than that block and the DRAM's queue.
+    // Between the last commit block and the barrier after it no more can land than that block and the DRAM's queue.
     let cut = whole.cycles.saturating_sub(3).saturating_sub(queue);
     for k in [1, 40, 72] {
         let again = cut.saturating_add(k);

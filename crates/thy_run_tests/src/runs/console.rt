@@ -78,7 +78,7 @@ fn ran(alloc: Global, line: &str) -> Result<Given, AllocError> {
 /// the smallest memory that is cycle 734 for the whole program: 698 for the loading, 21 for the eight instructions
 /// (two for each, and one for the first line, one to read, and three to reserve, fill and write the
 /// console's block), the flush of that block, the seal, and ten actions of the checkpoint with three drains
-/// between them. Two instructions are left behind an epoch of six, and are executed while its checkpoint is written.
+/// between them. Two instructions are left after an epoch of six, and are executed while its checkpoint is written.
 static PRINTED: [(&str, u8, &str, &str); 10] = [
     (
         "thynvm run H",
@@ -136,8 +136,8 @@ fn the_terminal_shows_what_was_committed(rt: HostRuntime) -> Result<(), Fail> {
     Ok(())
 }
 
-/// Runs that read, and how they end: with four bytes at the start's sp, or with none. Of memory is told the
-/// SHA-256, by another program.
+/// Runs that read, and how they end: with four bytes at the start's sp, or with none. Of memory the
+/// SHA-256 is reported, computed by another program.
 static READ: [(&str, &str); 7] = [
     ("thynvm run R --input A", "\nexit 4 at 6\n"),
     ("thynvm run R --input N", "\nexit 0 at 6\n"),
@@ -171,8 +171,8 @@ fn an_input_is_read_also_through_cuts(rt: HostRuntime) -> Result<(), Fail> {
     Ok(())
 }
 
-/// Runs whose power is cut with the commit block of the first checkpoint behind the read queued, which does not
-/// land or lands. Both instructions behind the read are executed while that checkpoint is written.
+/// Runs whose power is cut with the commit block of the first checkpoint after the read queued, which does not
+/// land or lands. Both instructions after the read are executed while that checkpoint is written.
 static READ_AND_CUT: [(&str, &str); 2] = [
     (
         "thynvm run R --input A --pages 8 --btt 8 --ptt 8 --digest --epoch 4 --cuts 729 --tears 0",
@@ -218,7 +218,7 @@ fn ends(given: &Given, printed: &str, last: &str) -> bool {
 }
 
 /// Schedules, caches, pages in the DRAM, cuts and what these leave, for a program whose lines fall into several
-/// epochs; and the cut that is told last.
+/// epochs; and the cut that is reported last.
 static GREETED: [(&str, &str); 8] = [
     ("", ""),
     (" --epoch 50 --mix 7", ""),

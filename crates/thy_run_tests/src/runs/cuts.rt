@@ -89,7 +89,7 @@ static OVERLAPS: Case = Case {
     last: "\nexit 6 at 4\n",
 };
 
-/// Two of its epochs end for want of entries.
+/// Two of its epochs end because no entry is free.
 static EXHAUSTS: Case = Case {
     line: "thynvm run N --pages 8 --btt 8 --ptt 8",
     printed: "",
@@ -103,7 +103,7 @@ static KEEPS_A_PAGE: Case = Case {
     last: "\nexit 0 at 20\n",
 };
 
-/// Runs with a cut behind this cycle, which leaves what the pick says.
+/// Runs with a cut after this cycle, which leaves what the pick says.
 fn cut_at(alloc: Global, case: &Case, cycle: u64, tear: u64) -> Result<Given, AllocError> {
     let run = case.line;
     let line = format!(in alloc; "{run} --cuts {cycle} --tears {tear}")?;
@@ -135,9 +135,9 @@ fn cut_everywhere(
     Ok(())
 }
 
-/// What the first boot behind a cut reports: nothing was committed before the commit block of loading
+/// What the first boot after a cut reports: nothing was committed before the commit block of loading
 /// is written in cycle 697, and it is committed from cycle 698 on; that of the checkpoint is written in
-/// cycle 717. Each is then the only write that is queued, and `lands` tells whether the cut lets it land.
+/// cycle 717. Each is then the only write that is queued, and `lands` says whether the cut lets it land.
 fn comes_after(cycle: u64, lands: bool) -> &'static str {
     if cycle < 697 || (cycle == 697 && !lands) {
         "reload"
@@ -148,7 +148,7 @@ fn comes_after(cycle: u64, lands: bool) -> &'static str {
     }
 }
 
-/// A cut at each cycle of the program that exits with 7, with one pick: what comes behind it, and the same end.
+/// A cut at each cycle of the program that exits with 7, with one pick: what follows it, and the same end.
 fn cut_seven(rt: &impl Abort, alloc: Global, tear: u64, lands: bool) -> Result<(), AllocError> {
     for cycle in 1..718 {
         let given = cut_at(alloc, &EXITS_WITH_SEVEN, cycle, tear)?;

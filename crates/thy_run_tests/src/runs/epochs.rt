@@ -20,7 +20,7 @@ pub(crate) static NINE_STORES_TWICE: [u32; 20] = [
     0xe4013023, 0xe0013023, 0x05d00893, 0x00000073,
 ];
 
-/// What is reported of nine stores where the block table has eight entries and the cache a line for each block:
+/// What is reported of nine stores if the block table has eight entries and the cache a line for each block:
 /// the ninth store finds eight dirty lines and then, with those stored, no free entry.
 const EXHAUSTED: &str = "commit 0 overlapped 0\n\
      epoch 1 ends at 8 by exhausted 8 8 1\n\
@@ -112,8 +112,8 @@ fn each_epoch_ends_for_its_cause(rt: HostRuntime) -> Result<(), Fail> {
     Ok(())
 }
 
-/// Runs whose epochs end alike whatever the schedule; of a commit's line the epoch alone is told here, as how much
-/// is executed meanwhile rests on the schedule.
+/// Runs whose epochs end alike whatever the schedule; of a commit's line the epoch alone is compared here, as how much
+/// is executed meanwhile depends on the schedule.
 static SCHEDULED: [(&str, &str); 3] = [
     (
         "thynvm run F --epoch 1",

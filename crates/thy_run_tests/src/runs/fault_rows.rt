@@ -1,5 +1,5 @@
-//! The program that exits with 7 over an NVM that fails at one call, each in turn: what is told, and what the saved image
-//! goes on with, by a table worked out by hand.
+//! The program that exits with 7 over an NVM that fails at one call, each in turn: what is reported, and how the saved
+//! image resumes, by a table worked out by hand.
 use crate::runs::{called_on, called_over, compare, files};
 use std::alloc::{AllocError, Global};
 use std::process::Abort;
@@ -7,7 +7,7 @@ use std::test::Fail;
 use thy_nvm::MemNvm;
 use thy_out::MemShelf;
 
-/// What is told after loading, until the program has ended, and behind a restart at the start.
+/// What is reported after loading, until the program has ended, and after a restart at the start.
 const LOADED: &str = "commit 0 overlapped 0\n";
 
 const SEALED: &str = "commit 0 overlapped 0\nepoch 1 ends at 3 by end\n";
@@ -18,7 +18,7 @@ const FROM_THE_START: &str =
 const FROM_THE_END: &str = "restart 1 at 3\nexit 7 at 3\n";
 
 /// The calls that write the commit blocks of epochs 0 and 1. Each is then the only write that is queued, and the next call
-/// is the barrier that lets it land. Each cycle up to loading's last barrier, in cycle 698, is one call. Behind it come the
+/// is the barrier that lets it land. Each cycle up to loading's last barrier, in cycle 698, is one call. After it come the
 /// read of the block that has the program, the five blocks of the processor's record and one of each table, with two
 /// drains in between, a barrier, the commit block and its barrier: calls 699 to 711.
 const STARTED: u64 = 697;
@@ -36,14 +36,14 @@ struct Fault {
 }
 
 impl Fault {
-    /// Whether a commit block written by this call is in the image: it was confirmed by the barrier behind it, or it is
+    /// Whether a commit block written by this call is in the image: it was confirmed by the barrier after it, or it is
     /// queued and lands. A barrier that fails late lets half of one write land, rounded down: none.
     fn leaves(self, commit: u64) -> bool {
         let is_queued = commit < self.call || commit == self.call && self.is_late;
         commit.saturating_add(1) < self.call || is_queued && self.lands
     }
 
-    /// The status and the report of the run that goes on.
+    /// The status and the report of the run that resumes.
     fn goes_on(self) -> (u8, &'static str) {
         if self.leaves(ENDED) {
             (0, FROM_THE_END)
@@ -54,7 +54,7 @@ impl Fault {
         }
     }
 
-    /// What the run that fails tells before.
+    /// What the run that fails reports before.
     fn told(self) -> &'static str {
         if self.call <= STARTED + 1 {
             ""
@@ -97,7 +97,7 @@ fn fail_and_go_on(
     Ok(())
 }
 
-/// Faults of the commit block's write and of the last barrier, with what goes on behind them.
+/// Faults of the commit block's write and of the last barrier, with how the run resumes after them.
 static ROWS: [(Fault, &str); 8] = [
     (
         Fault {
@@ -215,7 +215,7 @@ fn any_call_may_fail_late_and_every_write_lands(rt: HostRuntime) -> Result<(), F
     Ok(())
 }
 
-/// A put that fails is told in place of the device.
+/// A put that fails is reported in place of the device.
 #[test]
 fn a_save_behind_a_fault_may_fail_too(rt: HostRuntime) -> Result<(), Fail> {
     let alloc = rt.alloc();

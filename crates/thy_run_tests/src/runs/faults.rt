@@ -1,4 +1,4 @@
-//! Runs whose NVM fails at one call: they stop there, are saved, and go on over a device that does not fail.
+//! Runs whose NVM fails at one call: they stop there, are saved, and resume over a device that does not fail.
 use crate::runs::{Given, called_on, called_over, files, ran};
 use std::alloc::{AllocError, Global};
 use std::process::Abort;
@@ -6,7 +6,7 @@ use std::test::Fail;
 use thy_nvm::MemNvm;
 use thy_out::MemShelf;
 
-/// A run in the smallest memory that exits: its options, those that a run which goes on does not have, what is left by
+/// A run in the smallest memory that exits: its options, those that a run which resumes does not have, what is left by
 /// the cuts among these, and its report.
 struct Case {
     program: &'static str,
@@ -54,7 +54,7 @@ static PRINTS_IN_TWO_EPOCHS: Case = Case {
              exit 3 at 8\n",
 };
 
-/// Two of its epochs end for want of entries, and a page of it is copied to the DRAM and written back whole.
+/// Two of its epochs end because no entry is free, and a page of it is copied to the DRAM and written back whole.
 static KEEPS_A_PAGE: Case = Case {
     program: "D",
     options: " --sets 1 --ways 1 --high 0 --low 0",
@@ -70,13 +70,13 @@ static KEEPS_A_PAGE: Case = Case {
              exit 0 at 20\n",
 };
 
-/// What a report tells before it says that the NVM failed, if it ends so.
+/// What a report has before it says that the NVM failed, if it ends so.
 fn told_before(report: &[u8]) -> Option<&str> {
     let text = std::str::from_utf8(report).ok()?;
     text.strip_suffix("nvm failed\n")
 }
 
-/// How many commits lines tell of.
+/// How many commits lines report.
 fn commits_in(told: &str) -> u64 {
     let mut commits: u64 = 0;
     for line in told.lines() {
@@ -93,8 +93,8 @@ fn restarts_at(alloc: Global, report: &[u8], epoch: u64) -> Result<bool, AllocEr
     Ok(report.starts_with(line.as_bytes()))
 }
 
-/// Whether a resumed run ends as the plain machine, behind a run that told of so many commits: from the last one of
-/// these, or from the one whose checkpoint was under way. Where none was told there may be none.
+/// Whether a resumed run ends as the plain machine, after a run that reported so many commits: from the last one of
+/// these, or from the one whose checkpoint was under way. If none was reported there may be none.
 fn goes_on(
     alloc: Global,
     resumed: &Given,
@@ -132,7 +132,7 @@ fn failing_at(alloc: Global, call: u64, fault: Fault) -> Result<MemNvm, AllocErr
     }
 }
 
-/// Runs a line whose device fails at one call, which must tell and show a first part of what the case does, and resumes
+/// Runs a line whose device fails at one call, which must report and show a first part of what the case does, and resumes
 /// what it saved.
 fn fail_at(
     rt: &impl Abort,

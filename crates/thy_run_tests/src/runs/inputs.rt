@@ -4,7 +4,7 @@ use std::alloc::{AllocError, Global};
 use std::test::Fail;
 use thy_out::MemShelf;
 
-/// The files that are had, or the first that is not; and only then whether the first file is a program.
+/// The files that can be read, or the first that cannot; and only then whether the first file is a program.
 static ORDER: [(&str, u8, &str); 14] = [
     ("thynvm plain F --input S", 0, "exit 7 at 3\n"),
     ("thynvm plain F --input F", 0, "exit 7 at 3\n"),

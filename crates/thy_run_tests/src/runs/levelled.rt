@@ -1,4 +1,4 @@
-//! Runs with levelled wear, beside the same runs without.
+//! Runs with levelled wear, compared with the same runs without.
 use crate::runs::{Given, called_on, called_over, compare, files, ran};
 use std::alloc::{AllocError, Global};
 use std::process::Abort;
@@ -108,7 +108,7 @@ fn compare_runs(rt: &impl Abort, alloc: Global, line: &str, gap: u64) -> Result<
     Ok(())
 }
 
-/// A move copies a line and writes the registers. The program that exits with 7 has four barriers, each behind a write.
+/// A move copies a line and writes the registers. The program that exits with 7 has four barriers, each after a write.
 #[test]
 fn each_barrier_moves_a_line_where_the_gap_is_one(rt: HostRuntime) -> Result<(), Fail> {
     let alloc = rt.alloc();

@@ -62,8 +62,8 @@ fn runs_of_made_programs_are_summed_up(rt: HostRuntime) -> Result<(), Fail> {
     Ok(())
 }
 
-/// What is told where no page is promoted and no entry is short, between its first line and the number of overlapped
-/// instructions.
+/// What is reported if no page is promoted and enough entries are free, between its first line and the number of
+/// overlapped instructions.
 static EPOCHS: [&str; 6] = [
     "\nepoch 1 ends at 10000 by length\n",
     "\nepoch 2 ends at 20000 by length\n",

@@ -21,7 +21,7 @@ const FIVE_STORES: [u32; 7] = [
 ];
 
 /// These programs, with the status of their runs, and what is reported by the machine and by the plain machine. The
-/// fifth of five stores needs two entries where there are eight.
+/// block table has eight entries, and the fifth of five stores needs two more.
 static ROWS: [(&[u32], u8, &str, &str); 3] = [
     (
         &OVER_TWO_BLOCKS,
@@ -82,7 +82,7 @@ fn an_access_over_two_blocks_is_carried_out(rt: HostRuntime) -> Result<(), Fail>
     Ok(())
 }
 
-/// The size of program memory of eight pages in bytes, and where in it the start's sp points.
+/// The size of program memory of eight pages in bytes, and the offset in it of the start's sp.
 const SIZE: usize = 28672;
 
 const SP: usize = SIZE - 256;
@@ -141,7 +141,7 @@ fn put(memory: &mut [u8], at: usize, size: usize, value: u64)
     }
 }
 
-/// The number that these bytes are, the lowest first, extended by its sign where that is asked: then `2^(8 * len)` is
+/// The number that these bytes are, the lowest first, extended by its sign if that is asked: then `2^(8 * len)` is
 /// taken away from one whose highest bit is set. All of this is modulo `2^64`.
 fn number(bytes: &[u8], signed: bool) -> u64 {
     let mut value = 0;
@@ -182,7 +182,7 @@ fn words_of(word: u32, at: usize) -> [u32; 18]
     words
 }
 
-/// The bytes of memory where a program of these words is loaded.
+/// The bytes of memory in which a program of these words is loaded.
 fn memory_of(alloc: Global, words: &[u32]) -> Result<Vec<u8>, AllocError> {
     let mut memory = Vec::new(alloc);
     for word in words {

@@ -1,4 +1,4 @@
-//! Calls on a shelf that tells under which names its calls failed.
+//! Calls on a shelf that records under which names its calls failed.
 use crate::naming::NamingShelf;
 use crate::runs::{called_over, compare, files};
 use std::alloc::{AllocError, Global};
@@ -7,8 +7,8 @@ use std::test::Fail;
 use thy_nvm::MemNvm;
 use thy_out::MemShelf;
 
-/// Calls with the words on a shelf whose call of this number fails, the first being 1; and compares the report, and under
-/// which name the shelf failed.
+/// Calls with the arguments on a shelf whose call of this number fails, the first being 1; and compares the report,
+/// and under which name the shelf failed.
 fn expect_noted(
     rt: &impl Abort,
     alloc: Global,

@@ -17,7 +17,7 @@ pub(crate) fn shelf_of(alloc: Global, files: &[(&str, &[u8])]) -> Result<MemShel
     Ok(MemShelf::new(held, Vec::new(alloc)))
 }
 
-/// A program file of these words, from the address 65536 on, where it starts; `flags` are its `e_flags`.
+/// A program file of these words, from the address 65536 on, at which it starts; `flags` are its `e_flags`.
 pub(crate) fn file_of(alloc: Global, flags: u32, words: &[u32]) -> Result<Vec<u8>, AllocError> {
     let size = (words.len() as u64).saturating_mul(4);
     let mut file = Vec::from_slice(alloc, &EXIT_SEVEN[..48])?;
@@ -65,7 +65,7 @@ fn expect_of(
     Ok(())
 }
 
-/// Where a program with nothing in it starts, and how its first step ends.
+/// The address at which an empty program starts, and how its first step ends.
 static STARTS: [(u64, &str); 3] = [
     (
         65536,
@@ -91,7 +91,7 @@ fn a_program_of_a_header_alone_traps_at_its_entry(rt: HostRuntime) -> Result<(),
     Ok(())
 }
 
-/// `jalr x1, 2(x0)` and `jalr x1, 3(x0)`, whose targets are no multiple of 4, so that the jump traps; `jalr x1, 1(x0)`,
+/// `jalr x1, 2(x0)` and `jalr x1, 3(x0)`, whose targets are not multiples of 4, so that the jump traps; `jalr x1, 1(x0)`,
 /// which jumps to 0, outside memory.
 static ODD_JUMPS: [(u32, &str); 3] = [
     (

@@ -47,7 +47,7 @@ fn held(rt: &impl Abort, alloc: Global, shelf: &mut MemShelf, name: &str) -> Vec
     }
 }
 
-/// Where the second slot's block table begins, and its first entry: block 436.
+/// The offset of the second slot's block table in bytes, and its first entry: block 436.
 const TABLE: usize = 896;
 
 static ENTRY: [u8; 8] = [0xb5, 0x01, 0, 0, 0, 0, 0, 0];

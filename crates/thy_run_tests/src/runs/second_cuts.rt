@@ -1,15 +1,15 @@
 //! The program that exits with 7, cut once in its first cycle or in that which writes the last commit block, and once more
-//! at each cycle of the boot behind that: whole reports.
+//! at each cycle of the boot after that: whole reports.
 use crate::runs::expect;
 use std::alloc::{AllocError, Global};
 use std::process::Abort;
 use std::test::Fail;
 
 /// A boot that finds the checkpoint of epoch 0 has nine actions: the reads of the commit block, of the header and of the
-/// slot's seven blocks. A second cut behind its last, in cycle 726, is behind a restart.
+/// slot's seven blocks. A second cut after its last, in cycle 726, is after a restart.
 const RESTARTED: u64 = 726;
 
-/// Cuts behind cycle 717, which leaves the checkpoint of epoch 0, and behind this one.
+/// Cuts after cycle 717, which leaves the checkpoint of epoch 0, and after this one.
 fn cut_recovery(rt: &impl Abort, alloc: Global, cycle: u64) -> Result<(), AllocError> {
     let line = format!(in alloc;
         "thynvm run F --pages 8 --btt 8 --ptt 8 --cuts 717,{cycle} --tears 0"
@@ -41,7 +41,7 @@ fn a_recovery_is_cut_at_each_of_its_cycles(rt: HostRuntime) -> Result<(), Fail> 
     Ok(())
 }
 
-/// Cuts behind the first cycle and behind this one, before which loading has written no commit block.
+/// Cuts after the first cycle and after this one, before which loading has written no commit block.
 fn cut_loading(rt: &impl Abort, alloc: Global, cycle: u64) -> Result<(), AllocError> {
     let line = format!(in alloc;
         "thynvm run F --pages 8 --btt 8 --ptt 8 --cuts 1,{cycle} --tears 0"

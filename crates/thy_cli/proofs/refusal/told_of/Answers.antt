@@ -6,7 +6,7 @@ use Rattle.thy_cli.specs.declared.refusal.Refusal.TheVariants.{File}
 use Rattle.thy_cli.specs.Answering.{file_line, told_of}
 use Rattle.thy_cli.proofs.refusal.told_of.Goals as goal
 
--- what is told of a file that is refused, where memory was not short
+-- what is reported of a file that is refused, if memory did not run out
 told_of-file : (e : ElfError) → ((x : AllocError) → e ≡ Memory x → ⊥) → told_of (File e) ≡ (4, file_line e)
 told_of-file TooShort not_memory = refl
 told_of-file NotElf not_memory = refl
