@@ -1,9 +1,14 @@
 //! Laws of every boot, each the contract of a function that does nothing.
-ghost use Rattle.thy_boot.specs.Laws.{NewIsSound, SoundMayStep, MayGoOn, SoundIsSafe, StepsMove, FailuresMove};
+ghost use Rattle.thy_boot.specs.Laws.{NewHasRead, NewIsSound, SoundMayStep, MayGoOn, SoundIsSafe, StepsMove, FailuresMove};
 ghost use Rattle.thy_boot.specs.Laws.{RestoredIsKept, NeverRefused, DrainsKeepBoot, DrainsMove, ShowsImage, StepsAct};
 ghost use Rattle.thy_boot.specs.Laws.{FoundStays, FailuresAct, StepsFill, StepsComeNearer};
 
 use crate::fills::Fills;
+
+/// A new boot with a controller that lists nothing has read nothing of the image.
+pub fn a_new_boot_has_read_nothing<F: Fills>()
+    ensures { NewHasRead F.filling }
+{}
 
 /// A new boot is one of a run if the controller lists nothing, nothing is queued and the image means the mark that is kept.
 pub fn a_new_boot_is_one_of_the_run<F: Fills>()

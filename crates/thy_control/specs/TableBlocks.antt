@@ -1,5 +1,5 @@
--- What a slot has after the processor's record: the tables of the checkpoint under way, eight entries a block, and the
--- counts of the epoch before, 64 pages a block.
+-- What a slot has after the processor's record: the tables of the checkpoint under way, eight entries a block, and, if the
+-- layout has them, the counts of the epoch before, 64 pages a block.
 use Rattle.std.specs.Prelude.{ℕ, ◌+◌, ◌*◌, ◌/◌, List, ◌++◌, take, drop, Option}
 use Rattle.thy_base.specs.declared.config.Parameters.{Parameters}
 use Rattle.thy_record.specs.Tables.{Tables}

@@ -12,7 +12,8 @@ use std::marker::Model;
 use thy_base::{Block, FitError, Nvm, NvmError, Shape};
 
 /// A device of n blocks, its lines, over an inner device of n + 2. Whenever a number of writes were made, the next barrier
-/// moves one line by one place, so that no place is written much more often than the others.
+/// moves one line by one place, so that a line that is written often wears each place in turn. The last place, that of the
+/// registers, does not wander: it takes one write with each move.
 #[derive(Drop)]
 pub struct Gap<N: Nvm> {
     inner: N,

@@ -1,5 +1,5 @@
-//! What a boot does: it lists what the committed checkpoint lists, the counts of pages too, and loads the frames of the
-//! listed pages.
+//! What a boot does: it lists what the committed checkpoint lists, and loads the frames of the listed pages. A layout whose
+//! slots have the counts of pages may list these too.
 ghost use Rattle.std.specs.Prelude.{◌≡◌, ◌<◌, OnOk};
 
 use super::Control;
