@@ -6,8 +6,8 @@ use Rattle.thy_isa.specs.Step.{State as Plain, state_of}
 use Rattle.thy_tests.proofs.StartingLemmas.{Boots-of, CanStart-least}
 use Rattle.thy_tests.proofs.boot.boot.Goals as goal
 
-pub steps-requires-clause-boots : goal.steps-requires-clause-boots
-steps-requires-clause-boots g c =
+pub steps-taken-requires-clause-boots : goal.steps-taken-requires-clause-boots
+steps-taken-requires-clause-boots g c =
     let p : Parameters = c.geometry_of-geometry.result in
     let s : Plain = state_of c.start_of-start.result.state in
     let n : Device = g.N.Nvm.device c.args.nvm.now in
