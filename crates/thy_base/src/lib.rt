@@ -12,6 +12,7 @@ mod bytes;
 mod cause;
 mod config;
 mod field;
+mod form;
 mod geometry;
 mod inside;
 mod lcg;
@@ -30,6 +31,7 @@ pub use block::{BLOCK_SIZE, Block};
 pub use bytes::Bytes;
 pub use cause::EndCause;
 pub use config::{Config, ConfigError, Field, Parameters, SchemeName};
+pub use form::Form;
 pub use geometry::Geometry;
 pub use inside::is_inside;
 pub use lcg::Lcg;
@@ -40,7 +42,7 @@ pub use nvm::{FitError, Nvm, NvmError, Shape, Write};
 pub use outside::{FetchError, PutError, Shelf, Sink, SinkError};
 pub use place::Place;
 pub use places::{
-    numbers_tell_places, places_are_behind_slots, places_are_in_dram, slots_are_apart,
+    numbers_tell_places, places_are_between_slots, places_are_in_dram, slots_are_apart,
 };
 pub use store::{BlockStore, Stored};
 pub use words::{block_with, word};

@@ -1,21 +1,29 @@
 //! The numbers of the places' blocks, and the laws of the layout.
 ghost use Rattle.std.specs.Prelude.{◌≡◌, ◌+◌, ◌*◌, ◌<◌};
-ghost use Rattle.thy_base.specs.Places.{NumbersTellPlaces, PlacesAreBehindSlots, PlacesAreInDram, SlotsAreApart};
+ghost use Rattle.thy_base.specs.Places.{NumbersTellPlaces, PlacesAreBetweenSlots, PlacesAreInDram, SlotsAreApart};
 
-use crate::{Geometry, Place};
+use crate::{Form, Geometry, Place};
 
 impl Geometry {
     ghost use Rattle.thy_base.specs.declared.place.Place.TheVariants.{Home as AtHome, AlternateBlock as AtAlternateBlock, AlternatePage as AtAlternatePage, Buffer as AtBuffer, Frame as AtFrame};
     ghost use Rattle.thy_base.specs.Geometry.{IsInRange, memory_blocks};
-    ghost use Rattle.thy_base.specs.Places.{record_blocks, slot_blocks, slot_place, image_blocks, dram_blocks, number_of, IsPlace};
+    ghost use Rattle.thy_base.specs.Places.{record_blocks, table_blocks, count_blocks, blocks_of_slot, place_of_slot, blocks_one, slot_blocks, slot_place, image_blocks, dram_blocks, number_of, IsPlace};
 
     /// How many blocks an image of the NVM has.
     pub fn blocks(&self) -> u64
         ensures blocks { result ≡ image_blocks self.now }
         ensures in_range { IsInRange self.now }
     {
+        self.blocks_one() + 2 * self.slot_blocks()
+    }
+
+    /// How many blocks an image of version 1 has. Behind them are the slots of version 2.
+    pub fn blocks_one(&self) -> u64
+        ensures blocks { result ≡ blocks_one self.now }
+        ensures in_range { IsInRange self.now }
+    {
         let p = self.numbers();
-        2 + 2 * self.slot_blocks() + 64 * p.pages + p.btt + 64 * p.ptt
+        2 + 2 * self.slot_blocks_of(Form::One) + 64 * p.pages + p.btt + 64 * p.ptt
     }
 
     /// How many blocks the DRAM has.
@@ -34,22 +42,62 @@ impl Geometry {
         5
     }
 
-    /// How many blocks each of the two slots has: the processor's record and both tables.
+    /// How many blocks both tables have, eight entries a block.
+    pub fn table_blocks(&self) -> u64
+        ensures blocks { result ≡ table_blocks self.now }
+        ensures in_range { IsInRange self.now }
+    {
+        let p = self.numbers();
+        p.btt / 8 + p.ptt / 8
+    }
+
+    /// How many blocks the counts of pages have, 64 pages a block.
+    pub fn count_blocks(&self) -> u64
+        ensures blocks { result ≡ count_blocks self.now }
+        ensures in_range { IsInRange self.now }
+    {
+        self.numbers().pages.div_ceil(64)
+    }
+
+    /// How many blocks each of the two slots of a version has: the processor's record and both tables, and in version 2 the
+    /// counts.
+    pub fn slot_blocks_of(&self, form: Form) -> u64
+        ensures blocks { result ≡ blocks_of_slot form self.now }
+        ensures in_range { IsInRange self.now }
+    {
+        match form {
+            Form::One => self.record_blocks() + self.table_blocks(),
+            Form::Two => self.record_blocks() + self.table_blocks() + self.count_blocks(),
+        }
+    }
+
+    /// The first block of slot `s` of a version, 0 or 1.
+    pub fn slot_of(&self, form: Form, s: u64) -> u64
+        requires { s < 2 }
+        ensures place { result ≡ place_of_slot form self.now s }
+        ensures in_range { IsInRange self.now }
+    {
+        match form {
+            Form::One => 2 + s * self.slot_blocks_of(Form::One),
+            Form::Two => self.blocks_one() + s * self.slot_blocks(),
+        }
+    }
+
+    /// How many blocks each of the two slots of a run's own checkpoints has, which are of version 2.
     pub fn slot_blocks(&self) -> u64
         ensures blocks { result ≡ slot_blocks self.now }
         ensures in_range { IsInRange self.now }
     {
-        let p = self.numbers();
-        self.record_blocks() + p.btt / 8 + p.ptt / 8
+        self.slot_blocks_of(Form::Two)
     }
 
-    /// The first block of slot `s`, 0 or 1.
+    /// The first block of slot `s` of these, 0 or 1.
     pub fn slot(&self, s: u64) -> u64
         requires { s < 2 }
         ensures place { result ≡ slot_place self.now s }
         ensures in_range { IsInRange self.now }
     {
-        2 + s * self.slot_blocks()
+        self.slot_of(Form::Two, s)
     }
 
     /// The place in the NVM of block `b` of memory, if no table lists it.
@@ -58,7 +106,7 @@ impl Geometry {
         ensures place { result ≡ number_of self.now (AtHome b) }
         ensures in_range { IsInRange self.now }
     {
-        2 + 2 * self.slot_blocks() + b
+        2 + 2 * self.slot_blocks_of(Form::One) + b
     }
 
     /// The block of the NVM that entry `i` of the block table owns.
@@ -67,7 +115,7 @@ impl Geometry {
         ensures place { result ≡ number_of self.now (AtAlternateBlock i) }
         ensures in_range { IsInRange self.now }
     {
-        2 + 2 * self.slot_blocks() + self.memory_blocks() + i as u64
+        2 + 2 * self.slot_blocks_of(Form::One) + self.memory_blocks() + i as u64
     }
 
     /// Block `k` of the page of the NVM that entry `j` of the page table owns.
@@ -78,7 +126,7 @@ impl Geometry {
         ensures in_range { IsInRange self.now }
     {
         let p = self.numbers();
-        2 + 2 * self.slot_blocks() + 64 * p.pages + p.btt + 64 * j as u64 + k
+        2 + 2 * self.slot_blocks_of(Form::One) + 64 * p.pages + p.btt + 64 * j as u64 + k
     }
 
     /// The block of the DRAM that entry `i` of the block table owns.
@@ -122,9 +170,9 @@ pub fn numbers_tell_places()
     ensures { NumbersTellPlaces }
 {}
 
-/// A place of the NVM is after the header, the commit block and both slots, and within the image.
-pub fn places_are_behind_slots()
-    ensures { PlacesAreBehindSlots }
+/// A place of the NVM lies behind the header, the commit block and the slots of version 1, and before those of version 2.
+pub fn places_are_between_slots()
+    ensures { PlacesAreBetweenSlots }
 {}
 
 /// A place of the DRAM lies within it.
@@ -132,7 +180,8 @@ pub fn places_are_in_dram()
     ensures { PlacesAreInDram }
 {}
 
-/// The slots follow the commit block one after the other, and the homes follow them.
+/// The slots of version 1, and the homes behind them, follow one upon the other behind the commit block; those of version 2
+/// follow behind all that version 1 has, and end the image.
 pub fn slots_are_apart()
     ensures { SlotsAreApart }
 {}

@@ -1,15 +1,15 @@
 -- What each item makes of the versions of every block.
-use Rattle.std.proofs.Common.{◌≡◌, ℕ, ◌+◌, ◌%◌, ◌<◌, ◌≤◌, Bool, true, false, if◌then◌else◌, refl, ◌∙◌, ap, subst, arith, zero, suc, Option, Some, None}
+use Rattle.std.proofs.Common.{◌≡◌, ℕ, ◌%◌, ◌<◌, Bool, true, false, if◌then◌else◌, refl, sym, ◌∙◌, ap, subst, inl, inr, arith, Option, Some, None}
 use Rattle.thy_base.specs.declared.block.Block.{Block}
-use Rattle.thy_base.specs.declared.config.Parameters.{Parameters}
 use Rattle.thy_base.specs.declared.place.Place.{Place}
 use Rattle.thy_base.specs.Device.{Device, block_at, newest, written_to, settled}
-use Rattle.thy_base.specs.Places.{IsPlace, in_dram, number_of, slot_blocks, slot_place, first_home, image_blocks}
+use Rattle.thy_base.specs.Places.{IsPlace, in_dram, number_of, slot_blocks, blocks_one, IsApart}
 use Rattle.thy_base.proofs.DeviceLemmas.{newest-written_to_other}
-use Rattle.thy_base.proofs.PlaceLemmas.{behind_slots}
+use Rattle.thy_base.proofs.PlaceLemmas.{between_slots}
 use Rattle.thy_place.specs.Devices.{devices_of}
 use Rattle.thy_place.proofs.PlaceLemmas.{ReadsTheSame-settled}
 use Rattle.thy_record.specs.Commit.{commit_of}
+use Rattle.thy_record.proofs.IssuingLemmas.{slot_behind}
 use Rattle.thy_cell.specs.declared.cell.Cell.{Cell}
 use Rattle.thy_cell.specs.Cells.{seat_of, frame_at, penult, target, last, work}
 use Rattle.thy_cell.specs.Checkpoint.{CommitMoves}
@@ -21,6 +21,7 @@ use Rattle.thy_control.specs.Pages.{next_page, devices_after_write, after_next_w
 use Rattle.thy_control.specs.Stays.{HoldAll, StaysHeld}
 use Rattle.thy_control.specs.Versions.{KeepsAll}
 use Rattle.thy_control.proofs.CellLemmas.{IsPlace-penult, IsPlace-target, IsPlace-last, IsPlace-work, IsWithin-cell_of}
+use Rattle.thy_control.proofs.GuardLemmas.{apart_place}
 use Rattle.thy_control.proofs.HoldLemmas.{IsPlace-frame_of}
 use Rattle.thy_control.proofs.StepLemmas.{KeepsEach, Keeps-untouched, checkpoints-each, work-each, holds-each}
 use Rattle.thy_control.proofs.CopyLemmas.{KeepsAll-next}
@@ -41,14 +42,12 @@ read_by : (side : Bool) (a b c : Block) → (side ≡ false → b ≡ c) → (if
 read_by true a b c h = refl
 read_by false a b c h = h refl
 
--- if a block before the homes was written
-pub reads-low : (s : State) (m : Device) (at : ℕ) (block : Block) → IsSized s m → at < first_home s.p → ReadsAll s m (written_to m at block)
-reads-low s m at block sized low x there =
+-- where a block apart from memory's places was written
+pub reads-apart : (s : State) (m : Device) (at : ℕ) (block : Block) → IsSized s m → IsApart s.p at → ReadsAll s m (written_to m at block)
+reads-apart s m at block sized apart x there =
     read_by (in_dram x) (block_at s.dram.blocks (number_of s.p x)) (newest (written_to m at block) (number_of s.p x)) (newest m (number_of s.p x)) (λ side.
-    let behind = behind_slots s.p x there side in
-    let past : first_home s.p ≤ number_of s.p x = behind.0 in
-    let inside : number_of s.p x < image_blocks s.p = behind.1 in
-    newest-written_to_other m at block (number_of s.p x) (λ e. omega (arith, e, low, past)) (omega (arith, inside, sized.nvm)))
+    let before : number_of s.p x < blocks_one s.p = (between_slots s.p x there side).1 in
+    newest-written_to_other m at block (number_of s.p x) (λ e. apart_place s.p x at there side apart (sym e)) (omega (arith, before, sized.nvm)))
 
 -- if all writes landed
 pub reads-settled : (s : State) (m : Device) → AreSoundTables s → IsSized s m → ReadsAll s m (settled m)
@@ -78,15 +77,9 @@ KeepsVersions-reads s m n t hold same =
       holds = holds-each s m s n refl each hold;
     }
 
--- the slots lie before the homes
-pub low_in_slot : (p : Parameters) (r k : ℕ) → r < 2 → k < slot_blocks p → slot_place p r + k < first_home p
-low_in_slot p zero k l m = omega arith
-low_in_slot p (suc zero) k l m = omega arith
-low_in_slot p (suc (suc r)) k l m = absurd (omega arith)
-
-pub slot-low : (e : Progress) (s : State) (k : ℕ) → s.p ≡ e.p → k < slot_blocks e.p → slot_number e k < first_home s.p
-slot-low e s k same l =
-    let low : slot_number e k < first_home e.p = low_in_slot e.p (e.epoch % 2) k (omega arith) l in omega (arith, low, ap first_home same)
+-- the slots lie behind memory's places
+pub slot-apart : (e : Progress) (s : State) (k : ℕ) → s.p ≡ e.p → IsApart s.p (slot_number e k)
+slot-apart e s k same = let behind = slot_behind e.p (e.epoch % 2) k in inr (omega (arith, behind, ap blocks_one same))
 
 module _ (copy : CopyKeeps) (write : PageWriteKeeps) (others : PageWriteKeepsOthers) (commit : CommitMoves) (e : Progress) (s : State) (m : Device)
     (t : AreSoundTables s) (sized : IsSized s m) (same : s.p ≡ e.p) (hold : HoldAll s m) where
@@ -95,7 +88,7 @@ module _ (copy : CopyKeeps) (write : PageWriteKeeps) (others : PageWriteKeepsOth
 
   moved-slot : (k : ℕ) → k < slot_blocks e.p → Moved (SlotItem k)
   moved-slot k l = KeepsVersions-reads s m (written_to m (slot_number e k) (slot_block e s k)) t hold
-      (reads-low s m (slot_number e k) (slot_block e s k) sized (slot-low e s k same l))
+      (reads-apart s m (slot_number e k) (slot_block e s k) sized (slot-apart e s k same))
 
   moved-page : (o : Option ℕ) → next_page s ≡ o → Moved (page_or_slot o)
   moved-page None h = moved-slot 0 (omega arith)
@@ -124,7 +117,7 @@ module _ (copy : CopyKeeps) (write : PageWriteKeeps) (others : PageWriteKeepsOth
   moved-next (Slot k) past way inside = moved-slot k (inside k refl)
   moved-next Settle past way inside = KeepsVersions-reads s m (settled m) t hold (reads-settled s m t sized)
   moved-next Commit past way inside =
-      KeepsVersions-reads s m (written_to m 1 (commit_of e.epoch)) t hold (reads-low s m 1 (commit_of e.epoch) sized (omega arith))
+      KeepsVersions-reads s m (written_to m 1 (commit_of e.epoch)) t hold (reads-apart s m 1 (commit_of e.epoch) sized (inl (omega arith)))
   moved-next Confirm past way inside =
       let kept : KeepsVersions s m s (settled m) = KeepsVersions-reads s m (settled m) t hold (reads-settled s m t sized) in
       let c : Commits s (committed_state s) (settled m) = Commits-committed s t way (AreCopied-done s past) commit (settled m) kept.holds in

@@ -1,3 +1,4 @@
+pub mod CountLemmas
 pub mod DoneLemmas
 pub mod FitLemmas
 pub mod ListedLemmas

@@ -1,5 +1,5 @@
 -- The checkpoint under way stays that of the sealed mark.
-use Rattle.std.proofs.Common.{◌≡◌, ◌≢◌, ℕ, ◌+◌, ◌<◌, ◌≤◌, nat_lt, Bool, true, false, if◌then◌else◌, length, map, refl, sym, ◌∙◌, ap, arith, Option, Some, None}
+use Rattle.std.proofs.Common.{◌≡◌, ◌≢◌, ℕ, ◌+◌, ◌<◌, ◌≤◌, nat_lt, Bool, true, false, if◌then◌else◌, length, map, refl, sym, ◌∙◌, ap, inl, arith, Option, Some, None}
 use Rattle.std.specs.List.{range_with_len}
 use Rattle.std.proofs.lemmas.List.{ext_get_or}
 use Rattle.std.proofs.lemmas.List.FromFn.{length-map-range_with_len, get_or-map-range_with_len}
@@ -162,7 +162,7 @@ pub stays_made : StaysMade
 stays_made o e s m t n c stays up hold made =
     let now : StaysUp s m t n = stays.up up in
     let held : StaysHeld s m t n = now.held hold in
-    made-on o e s m c made e.next t n c refl (lasts-same s m t n stays.same_p held.last_same) (now.low_reads 0 (omega arith)) made.commit
+    made-on o e s m c made e.next t n c refl (lasts-same s m t n stays.same_p held.last_same) (now.apart_reads 0 (inl (omega arith)) (omega arith)) made.commit
 
 pub seal_makes : SealMakes
 unfolding sealed_state

@@ -1,8 +1,9 @@
 -- Every item of the engine is a move of the run's checkpoints.
-use Rattle.std.proofs.Common.{◌≡◌, ◌≢◌, ℕ, ◌+◌, ◌%◌, ◌<◌, nat_lt, Bool, true, false, if◌then◌else◌, List, ◌∷◌, ◌++◌, Contains, refl, sym, ◌∙◌, ap, subst, inl, arith, Option, Some, None, ◌^◌, inr}
+use Rattle.std.proofs.Common.{◌≡◌, ◌≢◌, ℕ, ◌+◌, ◌%◌, ◌<◌, nat_lt, Bool, true, false, if◌then◌else◌, List, ◌∷◌, ◌++◌, Contains, refl, sym, ◌∙◌, ap, subst, inl, arith, Option, Some, None, inr}
 use Rattle.thy_base.specs.declared.block.Block.{Block}
 use Rattle.thy_base.specs.declared.config.Parameters.{Parameters}
 use Rattle.thy_base.specs.declared.mark.Mark.{Mark}
+use Rattle.thy_base.specs.declared.form.Form.TheVariants.{Two}
 use Rattle.thy_base.specs.Device.{Device, block_at, written_to, settled, IsFramed, HasFailedToWrite}
 use Rattle.thy_base.specs.Places.{slot_blocks, slot_place}
 use Rattle.thy_base.specs.Geometry.{IsInRange}
@@ -10,22 +11,17 @@ use Rattle.thy_crash.specs.Fixed.{Reads}
 use Rattle.thy_crash.specs.Saved.{Saved, Kept, IsIssued, next_image, Ready, InDoubt}
 use Rattle.thy_crash.specs.Spares.{Spares}
 use Rattle.thy_crash.proofs.SparesLemmas.{Spares-written, Spares-failed, Spares-failed_to_write}
-use Rattle.thy_record.specs.Commit.{commit_of, epoch_of}
+use Rattle.thy_record.specs.Commit.{commit_of}
 use Rattle.thy_record.specs.Decoded.{At}
-use Rattle.thy_record.specs.Images.{looked, slot_in}
-use Rattle.thy_record.specs.Slots.{IsSlotOf}
-use Rattle.thy_record.proofs.SlotLemmas.{tables_in-back}
+use Rattle.thy_record.specs.Images.{looked}
 use Rattle.thy_record.specs.Issuing.{SlotBlock, IsToldBy}
-use Rattle.thy_protocol.specs.VersionOneParts.{IsIssuing, IsIssuedCheckpoint}
+use Rattle.thy_protocol.specs.RemappedParts.{IsIssuing, IsIssuedCheckpoint}
 use Rattle.thy_record.proofs.IssuingLemmas.{free_not_looked}
-use Rattle.thy_protocol.proofs.VersionOnePartsLemmas.{issued_decodes}
-use Rattle.thy_record.proofs.ImageLemmas.{block_at-slot_in}
-use Rattle.thy_record.proofs.ReadBackLemmas.{epoch_of-commit_of}
-use Rattle.thy_crash.proofs.SavedLemmas.{next_image-reads, next_image-commit}
+use Rattle.thy_protocol.proofs.RemappedPartsLemmas.{issued_decodes}
 use Rattle.thy_view.specs.Origin.{Origin, at}
 use Rattle.thy_view.specs.Safe.{ceiling}
 use Rattle.thy_cell.specs.BetweenCheckpoints.{CopyKeeps, PageWriteKeeps, PageWriteKeepsOthers}
-use Rattle.thy_control.specs.State.{State, AreSoundTables, IsSized}
+use Rattle.thy_control.specs.State.{State, AreSoundTables, AreCountsOf, IsSized}
 use Rattle.thy_control.specs.CheckpointTables.{tables0, tables1}
 use Rattle.thy_control.specs.Copies.{next_copy, block_listed, devices_after_copy, after_next_copy}
 use Rattle.thy_control.specs.Pages.{next_page, block_to_write, devices_after_write, after_next_write}
@@ -35,8 +31,8 @@ use Rattle.thy_control.proofs.IssueLemmas.{IsDue-entry, Stays-issued, Stays-not_
 use Rattle.thy_protocol.specs.Keeps.{IsOf}
 use Rattle.thy_protocol.specs.Layout.{looked_by}
 use Rattle.thy_protocol.specs.Moves.{standing, Move, Goes, Readies, Commits, Confirms}
-use Rattle.thy_protocol.proofs.VersionOneLemmas.{looked_by-version_one}
-use Rattle.thy_protocol.specs.VersionOne.{layout_of}
+use Rattle.thy_protocol.proofs.RemappedLemmas.{looked_by-remapped}
+use Rattle.thy_protocol.specs.Remapped.{layout_of}
 use Rattle.thy_commit.specs.declared.next.Next.{Next}
 use Rattle.thy_commit.specs.declared.next.Next.TheVariants.{Nothing, Copies, Pages, Slot, Settle, Commit, Confirm}
 use Rattle.thy_commit.specs.Items.{Item, SlotItem, item, is_under_way, copy_or, page_or_slot, page_item, next_after}
@@ -44,13 +40,15 @@ use Rattle.thy_commit.specs.Progress.{Progress, IsDone, IsPast, slot_number, slo
 use Rattle.thy_commit.specs.Versions.{lasts}
 use Rattle.thy_commit.specs.Written.{HasWrittenSlot, HasWrittenBefore}
 use Rattle.thy_commit.specs.Moves.{Checkpoints, saved_at, standing_at, checkpoints_after, standing_failed, is_settled, HasNext, IsKeptBy, IsMadeFor, IsNextBy, ItemsMove, NextIsTold, StaysMove, FailedItemsMove}
+use Rattle.thy_switch.specs.LastBlocks.{last_block_of}
+use Rattle.thy_commit.proofs.CountLemmas.{lasts_read_back, length-lasts}
 use Rattle.thy_commit.proofs.GuardLemmas.{Spares-stays, Spares-stays_next, Spares-two}
 use Rattle.thy_commit.proofs.DoneLemmas.{AreCopied-done}
 
--- version 1 looks at the same places as images of the run
+-- the layout looks where images of the run look
 spares-layout : (o : Origin) (before : List Block) (m n : Device) → Spares (1 ∷ looked o.geometry before) m n
     → Spares (1 ∷ looked_by (layout_of o) before) m n
-spares-layout o before m n h = subst (λ (xs : List ℕ). Spares (1 ∷ xs) m n) (sym (looked_by-version_one o.geometry ceiling before)) h
+spares-layout o before m n h = subst (λ (xs : List ℕ). Spares (1 ∷ xs) m n) (sym (looked_by-remapped o.geometry ceiling before)) h
 
 goes : (o : Origin) (c : Checkpoints) (m n : Device) → Spares (1 ∷ looked o.geometry c.before) m n
     → Move o (layout_of o) (standing m (Kept c.before) c.kept c.sealed) (standing n (Kept c.before) c.kept c.sealed)
@@ -68,7 +66,7 @@ goes-stays : (o : Origin) (e : Progress) (s : State) (m : Device) (t : State) (n
 goes-stays o e s m t n c tables same stays kept =
     let p : s.p ≡ o.geometry = same ∙ kept.geometry in
     goes o c m n (subst (λ (q : Parameters). Spares (1 ∷ looked q c.before) m n) p
-    (Spares-stays s m t n c.before kept.epoch tables stays (subst (λ (q : Parameters). IsToldBy q c.before kept.epoch (tables0 s)) (sym p) kept.told)))
+    (Spares-stays s m t n c.before Two kept.epoch tables stays (subst (λ (q : Parameters). IsToldBy q c.before Two kept.epoch (tables0 s)) (sym p) kept.told)))
 
 module _ (copy : CopyKeeps) (write : PageWriteKeeps) (others : PageWriteKeepsOthers) (o : Origin) (e : Progress) (s : State) (m : Device) (c : Checkpoints)
     (tables : AreSoundTables s) (sized : IsSized s m) (same : s.p ≡ e.p) (up : m.down ≡ false) (kept : IsKeptBy o e s c.before) (way : is_under_way e.next ≡ true) where
@@ -86,7 +84,7 @@ module _ (copy : CopyKeeps) (write : PageWriteKeeps) (others : PageWriteKeepsOth
       let two : e.epoch % 2 < 2 = omega arith in
       goes o c m (device_after e (SlotItem k) s m)
       (Spares-written (1 ∷ looked o.geometry c.before) (slot_number e k) (slot_block e s k) m (device_after e (SlotItem k) s m)
-      (λ there. free_not_looked o.geometry c.before kept.epoch (tables0 s) (SlotBlock (e.epoch % 2) k) kept.told (two, inside) (kept.other_slot way)
+      (λ there. free_not_looked o.geometry c.before Two kept.epoch (tables0 s) (SlotBlock (e.epoch % 2) k) kept.told (two, inside) (kept.other_slot way)
       (subst (λ (x : ℕ). Contains (1 ∷ looked o.geometry c.before) x) (sym number) there)) refl)
 
   goes-slot : (k : ℕ) → k < slot_blocks e.p → Going (SlotItem k)
@@ -115,11 +113,11 @@ module _ (o : Origin) (e : Progress) (s : State) (m : Device) (c : Checkpoints) 
   abbrev made_image : List Block
   made_image = next_image m (commit_of e.epoch)
 
-  decoded : IsIssuedCheckpoint o.geometry ceiling m e.cpu (tables1 s) e.epoch (lasts s m)
+  decoded : IsIssuedCheckpoint o.geometry ceiling m e.cpu (tables1 s) (last_block_of s.counts.lasts) e.epoch (lasts s m)
   decoded =
-      issued_decodes o.geometry ceiling m e.cpu (tables1 s) e.epoch (lasts s m)
+      issued_decodes o.geometry ceiling m e.cpu (tables1 s) (last_block_of s.counts.lasts) e.epoch (lasts s m)
       (subst (λ (q : Parameters). IsInRange q) (same ∙ geometry) tables.range) made.recordable (omega arith) made.small
-      (subst (λ (q : Parameters). IsIssuing q m e.cpu (tables1 s) e.epoch (lasts s m) (slot_blocks q)) geometry written) made.header
+      (subst (λ (q : Parameters). IsIssuing q m e.cpu (tables1 s) (last_block_of s.counts.lasts) e.epoch (lasts s m) (slot_blocks q)) geometry written) made.header
 
   made-issued : IsIssued (looked_by (layout_of o)) m made_image
   made-issued = decoded.issued
@@ -171,24 +169,11 @@ pub next_is_told : NextIsTold
 next_is_told o e s m c tables fits h settle geometry made = by_next e.next settle h where
   told : HasWrittenSlot e s m (slot_blocks e.p) → IsNextBy o e s (next_image m (commit_of e.epoch))
   told written =
-      let p : Parameters = o.geometry in
-      let image : List Block = next_image m (commit_of e.epoch) in
-      let issuing : IsIssuing o.geometry m e.cpu (tables1 s) e.epoch (lasts s m) (slot_blocks o.geometry) =
-      subst (λ (q : Parameters). IsIssuing q m e.cpu (tables1 s) e.epoch (lasts s m) (slot_blocks q)) geometry written in
-      let range : IsInRange o.geometry = subst (λ (q : Parameters). IsInRange q) (fits.same_p ∙ geometry) tables.range in
-      let commit : block_at image 1 ≡ commit_of e.epoch = next_image-commit (commit_of e.epoch) m (let long = issuing.parts.sized in omega (arith, long)) in
-      let small : e.epoch < 2 ^ 64 = let l = made.small in omega (arith, l) in
-      let of_epoch : epoch_of (block_at image 1) ≡ e.epoch = ap epoch_of commit ∙ epoch_of-commit_of e.epoch small in
-      let slot : IsSlotOf o.geometry e.cpu (tables1 s) e.epoch (slot_in o.geometry image) = record {
-        each = λ k l.
-            let read = issuing.parts.slot.each k l in
-            block_at-slot_in o.geometry image k l ∙ ap (λ (r : ℕ). block_at image (slot_place o.geometry (r % 2) + k)) of_epoch
-            ∙ next_image-reads (commit_of e.epoch) m (slot_place o.geometry (e.epoch % 2) + k) read.inside (λ q. omega arith) ∙ read.newest_is;
-      } in
+      let issued = decoded o e s m c tables fits.same_p geometry made written in
+      let counts : AreCountsOf o.geometry s.counts = subst (λ (q : Parameters). AreCountsOf q s.counts) (fits.same_p ∙ geometry) tables.counts in
       record {
-        of_epoch = of_epoch;
-        tables = tables_in-back o.geometry e.cpu (tables1 s) e.epoch (slot_in o.geometry image) range issuing.tables slot;
-        whole = issuing.tables;
+        told = issued.told;
+        counted = issued.counted ∙ lasts_read_back s.counts.lasts o.geometry.pages (length-lasts o.geometry s.counts counts);
       }
 
   by_next : (q : Next) → q ≡ Settle → HasWrittenBefore q e s m → IsNextBy o e s (next_image m (commit_of e.epoch))
@@ -237,10 +222,10 @@ stays_move o e s m t n c tables fits stays told =
     let p : s.p ≡ o.geometry = fits.same_p ∙ told.kept.geometry in
     goes-all o c m n e.next
     (subst (λ (q : Parameters). Spares (1 ∷ looked q c.before) m n) p
-    (Spares-stays s m t n c.before told.kept.epoch tables stays (subst (λ (q : Parameters). IsToldBy q c.before told.kept.epoch (tables0 s)) (sym p) told.kept.told)))
+    (Spares-stays s m t n c.before Two told.kept.epoch tables stays (subst (λ (q : Parameters). IsToldBy q c.before Two told.kept.epoch (tables0 s)) (sym p) told.kept.told)))
     (λ written. subst (λ (q : Parameters). Spares (1 ∷ looked q c.next) m n) p
-    (Spares-stays_next s m t n c.next e.epoch tables stays (AreCopied-done s (written-done e.next s written fits.past))
-    (subst (λ (q : Parameters). IsToldBy q c.next e.epoch (tables1 s)) (sym p) (told.next written))))
+    (Spares-stays_next s m t n c.next Two e.epoch tables stays (AreCopied-done s (written-done e.next s written fits.past))
+    (subst (λ (q : Parameters). IsToldBy q c.next Two e.epoch (tables1 s)) (sym p) (told.next written).told)))
 
 -- ---- items that failed
 
@@ -262,7 +247,7 @@ module _ (o : Origin) (e : Progress) (s : State) (m n : Device) (c : Checkpoints
       let two : e.epoch % 2 < 2 = omega arith in
       goes o c m n
       (Spares-failed_to_write (1 ∷ looked o.geometry c.before) (slot_number e k) (slot_block e s k) m n
-      (λ there. free_not_looked o.geometry c.before kept.epoch (tables0 s) (SlotBlock (e.epoch % 2) k) kept.told (two, inside) other
+      (λ there. free_not_looked o.geometry c.before Two kept.epoch (tables0 s) (SlotBlock (e.epoch % 2) k) kept.told (two, inside) other
       (subst (λ (x : ℕ). Contains (1 ∷ looked o.geometry c.before) x) (sym number) there)) failed framed)
 
   fails-page : (x : Option ℕ) → next_page s ≡ x → HasOther → Failing (page_or_slot x)

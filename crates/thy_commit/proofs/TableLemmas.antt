@@ -1,6 +1,7 @@
 -- What every item makes of the tables of both checkpoints, and so of the images that have them.
 use Rattle.std.proofs.Common.{◌≡◌, ◌≢◌, ℕ, ◌+◌, ◌%◌, nat_lt, Bool, true, false, if◌then◌else◌, List, refl, sym, ◌∙◌, ap, subst, arith, Option, Some, None}
 use Rattle.thy_base.specs.declared.block.Block.{Block}
+use Rattle.thy_base.specs.declared.form.Form.TheVariants.{Two}
 use Rattle.thy_base.specs.Device.{Device}
 use Rattle.thy_base.specs.Places.{slot_blocks}
 use Rattle.thy_crash.specs.Saved.{Saved, Kept}
@@ -24,7 +25,7 @@ use Rattle.thy_control.proofs.StayLemmas.{map-block, map-page}
 use Rattle.thy_protocol.specs.Keeps.{IsOf, Tells, TellsAll}
 use Rattle.thy_protocol.specs.Moves.{Standing, standing, Move, Seals}
 use Rattle.thy_protocol.proofs.LayoutLemmas.{decode_by-whole_back}
-use Rattle.thy_protocol.specs.VersionOne.{layout_of}
+use Rattle.thy_protocol.specs.Remapped.{layout_of}
 use Rattle.thy_base.specs.declared.mark.Mark.{Mark}
 use Rattle.thy_commit.specs.declared.next.Next.{Next}
 use Rattle.thy_commit.specs.declared.next.Next.TheVariants.{Nothing, Copies, Pages, Slot, Settle, Commit, Confirm}
@@ -37,7 +38,7 @@ use Rattle.thy_commit.specs.Chain.{ItemsTell, StaysTell, IsNextSeal, sealing, Se
 use Rattle.thy_commit.proofs.MoveLemmas.{next_is_told}
 
 tables-same : (s : State) → KeepsTables s s
-tables-same s = record { same_p = refl; tables0_same = refl; tables1_same = refl; way_same = refl }
+tables-same s = record { same_p = refl; tables0_same = refl; tables1_same = refl; way_same = refl; lasts_same = refl }
 
 tables-copied : (b : ℕ) (s : State) (m : Device) → (cell_of s b).entry.pend ≢ Settled → KeepsTables s (copied b s m)
 unfolding copied
@@ -48,6 +49,7 @@ tables-copied b s m pending = record {
   tables1_same = ap (λ (x : List (Option ℕ)). record (tables1 s) { btt = x })
       (map-block (λ e. entry_lists e.v1 e.block) s b (after_copy (cell_of s b)).entry (listed-pending b s pending) refl);
   way_same = refl;
+  lasts_same = refl;
 }
 
 tables-issued : (b : ℕ) (s : State) (m : Device) → (cell_of s b).page.busy ≡ true → KeepsTables s (issued b s m)
@@ -59,6 +61,7 @@ tables-issued b s m busy = record {
   tables1_same = ap (λ (x : List (Option ℕ)). record (tables1 s) { ptt = x })
       (map-page (λ e. page_lists e.target e.page) s b (page_issued (cell_of s b).page) (listed-busy b s busy) refl);
   way_same = refl;
+  lasts_same = refl;
 }
 
 module _ (s : State) (m : Device) (tables : AreSoundTables s) where
@@ -81,34 +84,40 @@ module _ (s : State) (m : Device) (tables : AreSoundTables s) where
   tables-next (Slot k) = tables-same s
   tables-next Settle = tables-same s
   tables-next Commit = tables-same s
-  tables-next Confirm = record { same_p = refl; commits = CommitsTables-committed s tables; idle = refl }
+  tables-next Confirm = record { same_p = refl; commits = CommitsTables-committed s tables; idle = refl; lasts_same = refl }
 
 pub items_move_tables : ItemsMoveTables
 items_move_tables e s m tables = tables-next s m tables e.next
 
 -- ---- the images
 
--- the image that is kept, if the committed checkpoint has the same tables
+-- the image that is kept, where the committed checkpoint has the same tables, and the counts of the epoch before are the same
 kept-on : (o : Origin) (e : Progress) (s t : State) (next : Next) (before : List Block) → (is_under_way next ≡ true → is_under_way e.next ≡ true)
-    → tables0 t ≡ tables0 s → IsKeptBy o e s before → IsKeptBy o (record e { next = next }) t before
-kept-on o e s t next before way same kept = record {
+    → (is_under_way next ≡ false → is_under_way e.next ≡ false)
+    → tables0 t ≡ tables0 s → t.counts.lasts ≡ s.counts.lasts → IsKeptBy o e s before → IsKeptBy o (record e { next = next }) t before
+kept-on o e s t next before way idle same lasts kept = record {
   geometry = kept.geometry;
   epoch = kept.epoch;
-  told = subst (λ (x : Tables). IsToldBy o.geometry before kept.epoch x) (sym same) kept.told;
+  told = subst (λ (x : Tables). IsToldBy o.geometry before Two kept.epoch x) (sym same) kept.told;
   other_slot = λ h. kept.other_slot (way h);
+  counted = λ h. kept.counted (idle h) ∙ sym lasts;
 }
 
-next-on : (o : Origin) (e : Progress) (s t : State) (next : Next) (made : List Block) → tables1 t ≡ tables1 s → IsNextBy o e s made → IsNextBy o (record e { next = next }) t made
-next-on o e s t next made same told = subst (λ (x : Tables). IsToldBy o.geometry made e.epoch x) (sym same) told
+next-on : (o : Origin) (e : Progress) (s t : State) (next : Next) (made : List Block) → tables1 t ≡ tables1 s → t.counts.lasts ≡ s.counts.lasts
+    → IsNextBy o e s made → IsNextBy o (record e { next = next }) t made
+next-on o e s t next made same lasts by = record {
+  told = subst (λ (x : Tables). IsToldBy o.geometry made Two e.epoch x) (sym same) by.told;
+  counted = by.counted ∙ sym lasts;
+}
 
 module _ (o : Origin) (e : Progress) (s : State) (m : Device) (c : Checkpoints) (told : AreTold o e s c) (way : is_under_way e.next ≡ true) where
   abbrev Telling : Item → Type 0
   Telling i = AreTold o (record e { next = next_after e.p i }) (state_after i s m) (checkpoints_after i e m c)
 
   -- before the first barrier
-  tells-before : (t : State) (next : Next) → is_settled next ≡ false → KeepsTables s t → AreTold o (record e { next = next }) t c
-  tells-before t next unwritten keeps = record {
-    kept = kept-on o e s t next c.before (λ h. way) keeps.tables0_same told.kept;
+  tells-before : (t : State) (next : Next) → is_settled next ≡ false → is_under_way next ≡ true → KeepsTables s t → AreTold o (record e { next = next }) t c
+  tells-before t next unwritten on keeps = record {
+    kept = kept-on o e s t next c.before (λ h. way) (λ h. absurd (not_both h on)) keeps.tables0_same keeps.lasts_same told.kept;
     next = λ written. absurd (not_both unwritten written);
   }
     where
@@ -116,18 +125,23 @@ module _ (o : Origin) (e : Progress) (s : State) (m : Device) (c : Checkpoints) 
       not_both e f = cc
 
   tells-slot : (k : ℕ) → Telling (SlotItem k)
-  tells-slot k = tells-before s (next_after e.p (SlotItem k)) (by_more (nat_lt (k + 1) (slot_blocks e.p))) (tables-same s) where
-    by_more : (more : Bool) → is_settled (if more then Slot (k + 1) else Settle) ≡ false
-    by_more true = refl
-    by_more false = refl
+  tells-slot k = tells-before s (next_after e.p (SlotItem k)) (by_more (nat_lt (k + 1) (slot_blocks e.p)))
+      (on_by_more (nat_lt (k + 1) (slot_blocks e.p))) (tables-same s) where
+        by_more : (more : Bool) → is_settled (if more then Slot (k + 1) else Settle) ≡ false
+        by_more true = refl
+        by_more false = refl
+
+        on_by_more : (more : Bool) → is_under_way (if more then Slot (k + 1) else Settle) ≡ true
+        on_by_more true = refl
+        on_by_more false = refl
 
   tells-page : AreSoundTables s → (x : Option ℕ) → next_page s ≡ x → Telling (page_or_slot x)
   tells-page tables None h = tells-slot 0
-  tells-page tables (Some j) h = tells-before (state_after (page_or_slot (Some j)) s m) Pages refl (tables-page s m tables (Some j) h)
+  tells-page tables (Some j) h = tells-before (state_after (page_or_slot (Some j)) s m) Pages refl refl (tables-page s m tables (Some j) h)
 
   tells-copy : AreSoundTables s → (x : Option ℕ) → next_copy s ≡ x → Telling (copy_or x (page_item s))
   tells-copy tables None h = tells-page tables (next_page s) refl
-  tells-copy tables (Some i) h = tells-before (state_after (copy_or (Some i) (page_item s)) s m) Copies refl (tables-copy s m tables (Some i) h)
+  tells-copy tables (Some i) h = tells-before (state_after (copy_or (Some i) (page_item s)) s m) Copies refl refl (tables-copy s m tables (Some i) h)
 
   tells-next : (q : Next) → q ≡ e.next → AreSoundTables s → Fits e s → HasWrittenBefore e.next e s m → IsMadeFor o e s m c → Telling (item q s)
   unfolding committed_state
@@ -138,19 +152,22 @@ module _ (o : Origin) (e : Progress) (s : State) (m : Device) (c : Checkpoints) 
   tells-next Pages is tables fits stood made = tells-page tables (next_page s) refl
   tells-next (Slot k) is tables fits stood made = tells-slot k
   tells-next Settle is tables fits stood made = record {
-    kept = kept-on o e s s Commit c.before (λ h. way) refl told.kept;
-    next = λ h. next_is_told o e s m c tables fits stood (sym is) told.kept.geometry made;
+    kept = kept-on o e s s Commit c.before (λ h. way) (λ h. cc) refl refl told.kept;
+    next = λ h.
+        let by = next_is_told o e s m c tables fits stood (sym is) told.kept.geometry made in
+        record { told = by.told; counted = by.counted };
   }
   tells-next Commit is tables fits stood made = record {
-    kept = kept-on o e s s Confirm c.before (λ h. way) refl told.kept;
-    next = λ h. told.next (ap is_settled (sym is));
+    kept = kept-on o e s s Confirm c.before (λ h. way) (λ h. cc) refl refl told.kept;
+    next = λ h. let by = told.next (ap is_settled (sym is)) in record { told = by.told; counted = by.counted };
   }
   tells-next Confirm is tables fits stood made = record {
     kept = record {
       geometry = told.kept.geometry;
       epoch = e.epoch;
-      told = subst (λ (x : Tables). IsToldBy o.geometry c.next e.epoch x) (sym (CommitsTables-committed s tables).tables0_next) (told.next (ap is_settled (sym is)));
+      told = subst (λ (x : Tables). IsToldBy o.geometry c.next Two e.epoch x) (sym (CommitsTables-committed s tables).tables0_next) (told.next (ap is_settled (sym is))).told;
       other_slot = λ h. cc;
+      counted = λ h. (told.next (ap is_settled (sym is))).counted;
     };
     next = λ h. cc;
   }
@@ -160,8 +177,8 @@ items_tell o e s m c tables fits stands way told made = tells-next o e s m c tol
 
 pub stays_tell : StaysTell
 stays_tell o e s m t n c stays told = record {
-  kept = kept-on o e s t e.next c.before (λ h. h) stays.tables0_same told.kept;
-  next = λ h. next-on o e s t e.next c.next stays.tables1_same (told.next h);
+  kept = kept-on o e s t e.next c.before (λ h. h) (λ h. h) stays.tables0_same stays.lasts_same told.kept;
+  next = λ h. next-on o e s t e.next c.next stays.tables1_same stays.lasts_same (told.next h);
 }
 
 -- ---- a seal
@@ -197,7 +214,8 @@ module _ (o : Origin) (e : Progress) (s : State) (n : Device) (c : Checkpoints) 
     kept = record {
       geometry = told.kept.geometry;
       epoch = told.kept.epoch;
-      told = subst (λ (x : Tables). IsToldBy o.geometry c.before told.kept.epoch x) (sym (tables0-sealed s tables)) told.kept.told;
+      told = subst (λ (x : Tables). IsToldBy o.geometry c.before Two told.kept.epoch x) (sym (tables0-sealed s tables)) told.kept.told;
+      counted = λ h. cc;
       other_slot = λ h same.
           let epoch : mark.epoch ≡ told.kept.epoch + 1 = seal.after ∙ ap (λ (k : ℕ). k + 1) (sym of_done) in
           next_slot told.kept.epoch (ap (λ (k : ℕ). k % 2) (sym epoch) ∙ same);

@@ -1,21 +1,24 @@
--- The engine's items as moves of a run's checkpoints on the NVM, in layout version 1.
+-- The engine's items as moves of a run's checkpoints on the NVM, each in layout version 2.
 use Rattle.std.specs.Prelude.{◌≡◌, ◌≢◌, ℕ, ◌%◌, ◌<◌, Bool, true, false, List, Option, Some, None}
 use Rattle.thy_base.specs.declared.block.Block.{Block}
 use Rattle.thy_base.specs.declared.mark.Mark.{Mark}
+use Rattle.thy_base.specs.declared.form.Form.TheVariants.{Two}
 use Rattle.thy_base.specs.Device.{Device, block_at, newest, IsFramed}
 use Rattle.thy_crash.specs.Saved.{Saved, Kept, Ready, InDoubt, next_image}
 use Rattle.thy_isa.specs.OnBlocks.{state_from}
 use Rattle.thy_record.specs.Commit.{commit_of}
 use Rattle.thy_record.specs.Cpu.{IsRecordable}
 use Rattle.thy_record.specs.Header.{header_fault}
+use Rattle.thy_record.specs.Images.{slot_in}
 use Rattle.thy_record.specs.Issuing.{IsToldBy}
+use Rattle.thy_record.specs.Slots.{counts_in}
 use Rattle.thy_view.specs.Origin.{Origin, at}
 use Rattle.thy_view.specs.Safe.{ceiling}
 use Rattle.thy_control.specs.State.{State, AreSoundTables, IsSized}
 use Rattle.thy_control.specs.CheckpointTables.{tables0, tables1}
 use Rattle.thy_control.specs.Stays.{HoldAll, Stays}
 use Rattle.thy_protocol.specs.Moves.{Standing, standing, Move}
-use Rattle.thy_protocol.specs.VersionOne.{layout_of}
+use Rattle.thy_protocol.specs.Remapped.{layout_of}
 use Rattle.thy_commit.specs.declared.next.Next.{Next}
 use Rattle.thy_commit.specs.declared.next.Next.TheVariants.{Settle, Commit, Confirm}
 use Rattle.thy_commit.specs.Items.{Item, SettleItem, ConfirmItem, is_under_way}
@@ -58,16 +61,19 @@ pub record HasNext (e : Progress) (c : Checkpoints) : Type 0 where
   pub sealed : c.sealed ≡ Some mark
   pub commit : block_at c.next 1 ≡ commit_of e.epoch
 
--- the image that is kept has the tables of the committed checkpoint, and while one is under way the other slot
+-- the image that is kept has the tables of the committed checkpoint, and while one is under way the other slot; between two
+-- checkpoints it has the controller's counts
 pub record IsKeptBy (o : Origin) (e : Progress) (s : State) (before : List Block) : Type 0 where
   pub geometry : e.p ≡ o.geometry
   pub epoch : ℕ
-  pub told : IsToldBy o.geometry before epoch (tables0 s)
+  pub told : IsToldBy o.geometry before Two epoch (tables0 s)
   pub other_slot : is_under_way e.next ≡ true → e.epoch % 2 ≢ epoch % 2
+  pub counted : is_under_way e.next ≡ false → counts_in Two o.geometry (slot_in o.geometry before) ≡ s.counts.lasts
 
--- the image that is made has the tables of the checkpoint under way, and names its epoch
-abbrev pub IsNextBy : Origin → Progress → State → List Block → Type 0
-IsNextBy o e s next = IsToldBy o.geometry next e.epoch (tables1 s)
+-- the image that is made has the tables and the counts of the checkpoint under way, and names its epoch
+pub record IsNextBy (o : Origin) (e : Progress) (s : State) (next : List Block) : Type 0 where
+  pub told : IsToldBy o.geometry next Two e.epoch (tables1 s)
+  pub counted : counts_in Two o.geometry (slot_in o.geometry next) ≡ s.counts.lasts
 
 -- the controller has the tables of the image that is kept, and after the first barrier of the one that is made
 pub record AreTold (o : Origin) (e : Progress) (s : State) (c : Checkpoints) : Type 0 where

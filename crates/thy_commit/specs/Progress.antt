@@ -9,6 +9,7 @@ use Rattle.thy_base.specs.Places.{slot_blocks, slot_place}
 use Rattle.thy_isa.specs.declared.state.CpuState.{CpuState}
 use Rattle.thy_record.specs.Commit.{commit_of}
 use Rattle.thy_record.specs.Slots.{slot_block_of}
+use Rattle.thy_switch.specs.LastBlocks.{last_block_of}
 use Rattle.thy_control.specs.State.{State}
 use Rattle.thy_control.specs.CheckpointTables.{tables1}
 use Rattle.thy_control.specs.Commit.{committed_state}
@@ -61,7 +62,7 @@ abbrev pub slot_number : Progress → ℕ → ℕ
 slot_number e k = slot_place e.p (e.epoch % 2) + k
 
 abbrev pub slot_block : Progress → State → ℕ → Block
-slot_block e s k = slot_block_of e.p e.cpu (tables1 s) e.epoch k
+slot_block e s k = slot_block_of e.p e.cpu (tables1 s) (last_block_of s.counts.lasts) e.epoch k
 
 -- the controller after an item
 abbrev pub state_after : Item → State → Device → State

@@ -7,18 +7,20 @@ use Rattle.thy_control.specs.Commit.{CommitsTables}
 use Rattle.thy_commit.specs.Items.{Item, ConfirmItem}
 use Rattle.thy_commit.specs.Progress.{Progress, item_of, state_next}
 
--- both checkpoints have the same tables as before, and one is under way as before
+-- both checkpoints have the tables that they had, one is under way as before, and so are the counts of the epoch before
 pub record KeepsTables (s t : State) : Type 0 where
   pub same_p : t.p ≡ s.p
   pub tables0_same : tables0 t ≡ tables0 s
   pub tables1_same : tables1 t ≡ tables1 s
   pub way_same : t.under_way ≡ s.under_way
+  pub lasts_same : t.counts.lasts ≡ s.counts.lasts
 
--- the committed checkpoint has the tables that were due, and none is under way any more
+-- the committed checkpoint has the tables that were due, none is under way any more, and these counts stay
 pub record EndsTables (s t : State) : Type 0 where
   pub same_p : t.p ≡ s.p
   pub commits : CommitsTables s t
   pub idle : t.under_way ≡ false
+  pub lasts_same : t.counts.lasts ≡ s.counts.lasts
 
 -- the second holds after the commit, the first after every other item
 abbrev pub MovesTables : Item → State → State → Type 0

@@ -4,7 +4,8 @@ use Rattle.thy_base.specs.Device.{Device}
 use Rattle.thy_base.specs.Places.{slot_blocks}
 use Rattle.thy_crash.specs.Fixed.{Reads}
 use Rattle.thy_record.specs.Commit.{commit_of}
-use Rattle.thy_protocol.specs.VersionOneParts.{IsIssuing}
+use Rattle.thy_protocol.specs.RemappedParts.{IsIssuing}
+use Rattle.thy_switch.specs.LastBlocks.{last_block_of}
 use Rattle.thy_control.specs.State.{State, AreSoundTables, IsSized}
 use Rattle.thy_control.specs.CheckpointTables.{tables1}
 use Rattle.thy_control.specs.Stays.{HoldAll, Stays}
@@ -15,7 +16,7 @@ use Rattle.thy_commit.specs.Versions.{lasts}
 
 -- the first k blocks of the slot are read, and memory at its places by the tables: the last version of every block
 abbrev pub HasWrittenSlot : Progress → State → Device → ℕ → Type 0
-HasWrittenSlot e s n k = IsIssuing e.p n e.cpu (tables1 s) e.epoch (lasts s n) k
+HasWrittenSlot e s n k = IsIssuing e.p n e.cpu (tables1 s) (last_block_of s.counts.lasts) e.epoch (lasts s n) k
 
 -- what is written before an item: the blocks of the slot before it, then all of them, and at last the commit block too
 abbrev pub HasWrittenBefore : Next → Progress → State → Device → Type 0

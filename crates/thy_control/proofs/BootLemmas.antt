@@ -24,7 +24,7 @@ use Rattle.thy_control.specs.Find.{entry_for, index_for}
 use Rattle.thy_control.specs.Keys.{block_key, page_key}
 use Rattle.thy_control.specs.State.{State, AreSoundTables, cell_of, new_state}
 use Rattle.thy_control.specs.CheckpointTables.{tables0, tables1, entry_lists, page_lists}
-use Rattle.thy_control.specs.Boot.{IsBooting, MayListBlock, MayListPage, MayListCount, HaveTables, with_listed_block, with_listed_page, with_listed_count, with_block, with_page}
+use Rattle.thy_control.specs.Boot.{IsBooting, MayListBlock, MayListPage, HaveTables, with_listed_block, with_listed_page, with_listed_count, with_block, with_page}
 use Rattle.thy_control.proofs.CountsLemmas.{AreCountsOf-last}
 use Rattle.thy_control.proofs.FindLemmas.{found_entry, entry_for-some, entry_for-none}
 use Rattle.thy_control.proofs.NewLemmas.{entry_at-empty}

@@ -248,7 +248,7 @@ module _ (b : ℕ) (s : State) (m : Device) (pending : (cell_of s b).entry.pend 
     Stays-copied law up framed =
         let c : Cell = cell_of s b in
         let each : KeepsEach s m (copied b s m) (devices_copied b s m).nvm = KeepsEach-copied b s pending m t sized l law in
-        Stays-step s (target c) (reads s m (last c)) m (copied b s m) sized stays_tables (λ d. let no : true ≡ false = sym d ∙ up in cc) framed
+        Stays-step s (target c) (reads s m (last c)) m (copied b s m) (IsPlace-target s.p c (IsWithin-cell_of s b t l)) sized stays_tables (λ d. let no : true ≡ false = sym d ∙ up in cc) framed
         (guarded_by (devices_copied b s m).nvm (inl refl))
         (λ k h. (each k h).reads.penult_same)
         (λ hold. record {

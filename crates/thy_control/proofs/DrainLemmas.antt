@@ -1,7 +1,7 @@
 -- Writes that land keep what every place reads as, and all that depends on it.
 use Rattle.std.proofs.Common.{◌≡◌, ℕ, ◌<◌, length, refl, ◌∙◌, arith}
 use Rattle.thy_base.specs.Device.{Device, drained as nvm_drained, settled}
-use Rattle.thy_base.specs.Places.{number_of, first_home}
+use Rattle.thy_base.specs.Places.{number_of, image_blocks}
 use Rattle.thy_base.proofs.DeviceLemmas.{no_more-drained, no_more-settled, newest-drained, newest-settled, length-drained, length-settled}
 use Rattle.thy_place.specs.Devices.{devices_of}
 use Rattle.thy_place.specs.DeviceLaws.{ReadsTheSame}
@@ -27,8 +27,8 @@ module _ (s : State) (m n : Device) (t : AreSoundTables s) (sized : IsSized s m)
       (alike.same (target c) (IsPlace-target s.p c w)) (alike.same (last c) (IsPlace-last s.p c w)) (alike.same (work c) (IsPlace-work s.p c w))
       (λ f. frame) (λ f. frame) (λ f. frame) (hold b l)
 
-  low_inside : (x : ℕ) → x < first_home s.p → x < length m.image
-  low_inside x l = omega (arith, l, sized.nvm)
+  apart_inside : (x : ℕ) → x < image_blocks s.p → x < length m.image
+  apart_inside x l = omega (arith, l, sized.nvm)
 
   stays_still : Stays s m s n
   stays_still = record {
@@ -41,12 +41,12 @@ module _ (s : State) (m n : Device) (t : AreSoundTables s) (sized : IsSized s m)
     lasts_same = refl;
     cells = λ b l. cell_same (cell_of s b);
     guarded = record {
-      low = λ x l. record { no_more = lands.no_more x };
+      apart = λ x l. record { no_more = lands.no_more x };
       old = λ b l. record { no_more = lands.no_more (number_of s.p (penult (cell_of s b))) };
       next = λ b l placed. record { no_more = lands.no_more (number_of s.p (target (cell_of s b))) };
     };
     up = λ d. record {
-      low_reads = λ x l. lands.newest_same x (low_inside x l);
+      apart_reads = λ x l inside. lands.newest_same x (apart_inside x inside);
       penult_same = λ b l. alike.same (penult (cell_of s b)) (IsPlace-penult s.p (cell_of s b) (IsWithin-cell_of s b t l));
       held = λ hold. record {
         holds = holds_still hold;
@@ -85,9 +85,9 @@ IsUnseen-drained s m =
         tables1_same = refl;
         lasts_same = refl;
         cells = same.cells;
-        guarded = record { low = same.guarded.low; old = same.guarded.old; next = same.guarded.next };
+        guarded = record { apart = same.guarded.apart; old = same.guarded.old; next = same.guarded.next };
         up = λ d. record {
-          low_reads = (same.up d).low_reads;
+          apart_reads = (same.up d).apart_reads;
           penult_same = (same.up d).penult_same;
           held = λ hold. record { holds = hold; last_same = ((same.up d).held hold).last_same };
         };

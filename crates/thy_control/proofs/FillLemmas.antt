@@ -354,7 +354,7 @@ module _ (b : ℕ) (s : State) (fresh : (cell_of s b).page.fresh ≡ true) (m : 
   Stays-filled t sized l due law other =
       let y : Place = frame_at (seat_of (cell_of s b)) in
       let checkpoints = checkpoints-filled law other b s fresh m t sized l due in
-      Stays-step s y zero_block m (block_filled b s m) sized stays_tables (λ d. d)
+      Stays-step s y zero_block m (block_filled b s m) (IsPlace-frame_of s b t l) sized stays_tables (λ d. d)
       (record { blocks = refl; left = refl; picks = refl; queue_room = refl; left_room = refl; fits = refl; lent = refl })
       (LeavesGuarded-step s y zero_block m m b t (IsPlace-frame_of s b t l) ((Owns-cell_of s b).of_page (has_page b s fresh))
       (penult-in_nvm s b y refl) (λ q. target-in_nvm s b y refl) (inl refl))
@@ -394,7 +394,7 @@ stays_by law other s m t n (Ok x) tables sized some e f k g framed =
 stays_by law other s m t n (Err x) tables sized some e f k g framed =
     subst (λ (y : State). Stays s m y n) (sym k)
     (Stays-failed_step s m n framed g.down (record {
-      low = λ y l. record { no_more = λ b h. g.no_more y b h };
+      apart = λ y l. record { no_more = λ b h. g.no_more y b h };
       old = λ b l. record { no_more = λ y h. g.no_more (number_of s.p (penult (cell_of s b))) y h };
       next = λ b l q. record { no_more = λ y h. g.no_more (number_of s.p (target (cell_of s b))) y h };
     }))

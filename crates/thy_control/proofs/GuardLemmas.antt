@@ -9,8 +9,9 @@ use Rattle.thy_base.specs.declared.store.Stored.{Stored}
 use Rattle.thy_base.specs.declared.nvm.NvmError.{NvmError}
 use Rattle.thy_base.specs.Device.{Device, HasFailedToWrite, possible, written_to}
 use Rattle.thy_base.specs.Geometry.{memory_blocks}
-use Rattle.thy_base.specs.Places.{in_dram, number_of, first_home, IsPlace}
+use Rattle.thy_base.specs.Places.{in_dram, number_of, first_home, IsPlace, IsApart}
 use Rattle.thy_base.proofs.DeviceLemmas.{no_more-written_to_other}
+use Rattle.thy_base.proofs.PlaceLemmas.{between_slots}
 use Rattle.thy_dram.specs.Contents.{written}
 use Rattle.thy_place.specs.Devices.{Devices, NoMoreAt, devices_of}
 use Rattle.thy_place.proofs.PlaceLemmas.{numbers_apart, no_more-written_other, no_more-failed_other}
@@ -41,7 +42,7 @@ placed-in_nvm Alt s x = refl
 placed-in_nvm Out AtAlternate x = refl
 placed-in_nvm Out AtHome x = refl
 
--- and every place of the NVM is after the slots
+-- and every place of the NVM lies behind the slots of version 1
 pub behind_slots : (p : Parameters) (x : Place) → in_dram x ≡ false → first_home p ≤ number_of p x
 behind_slots p (Home b) e = omega arith
 behind_slots p (AlternateBlock i) e = omega arith
@@ -49,13 +50,18 @@ behind_slots p (AlternatePage j k) e = omega arith
 behind_slots p (Buffer i) e = cc
 behind_slots p (Frame j k) e = cc
 
-pub low-written : (side : Bool) (at x : ℕ) (block : Block) (d : Devices) → (side ≡ false → x ≢ at)
-    → NoMoreAt x d.nvm (if side then record d { dram = written d.dram at block } else record d { nvm = written_to d.nvm at block }).nvm
-low-written true at x block d other = record { no_more = λ b h. h }
-low-written false at x block d other = record { no_more = λ b h. no_more-written_to_other d.nvm at block x b (other refl) h }
+-- what lies apart from memory's places is none of them
+pub apart_place : (p : Parameters) (place : Place) (x : ℕ) → IsPlace p place → in_dram place ≡ false → IsApart p x → x ≢ number_of p place
+apart_place p place x there side (inl before) = λ same. let low = (between_slots p place there side).0 in omega (arith, low, same, before)
+apart_place p place x there side (inr behind) = λ same. let high = (between_slots p place there side).1 in omega (arith, high, same, behind)
 
-pub low-failed : (at x : ℕ) (block : Block) (m n : Device) → x ≢ at → HasFailedToWrite at block m n → NoMoreAt x m n
-low-failed at x block m n other failed = record {
+pub apart-written : (side : Bool) (at x : ℕ) (block : Block) (d : Devices) → (side ≡ false → x ≢ at)
+    → NoMoreAt x d.nvm (if side then record d { dram = written d.dram at block } else record d { nvm = written_to d.nvm at block }).nvm
+apart-written true at x block d other = record { no_more = λ b h. h }
+apart-written false at x block d other = record { no_more = λ b h. no_more-written_to_other d.nvm at block x b (other refl) h }
+
+pub apart-failed : (at x : ℕ) (block : Block) (m n : Device) → x ≢ at → HasFailedToWrite at block m n → NoMoreAt x m n
+apart-failed at x block m n other failed = record {
   no_more = λ b h. elim (failed.no_more x b h) as (λ _. Contains (possible m x) b) [ inl before ↦ before | inr here ↦ absurd (other here.0) ];
 }
 
@@ -64,17 +70,17 @@ abbrev pub Outcome : ℕ → Block → State → Device → Device → Type 0
 Outcome b block s m n = (n ≡ (devices_after b block s m).nvm) ⊎ FailsStore b block s m n
 
 module _ (b : ℕ) (block : Block) (s : State) (m n : Device) where
-  low_of : Outcome b block s m n → (x : ℕ) → x < first_home s.p → NoMoreAt x m n
+  apart_of : Outcome b block s m n → IsPlace s.p (store_place (rule_for b s) (cell_before b s)) → (x : ℕ) → IsApart s.p x → NoMoreAt x m n
   unfolding devices_after
-  low_of (inl e) x l =
+  apart_of (inl e) there x l =
       let place : Place = store_place (rule_for b s) (cell_before b s) in
       subst (λ (k : Device). NoMoreAt x m k) (sym e)
-      (low-written (in_dram place) (number_of s.p place) x (put_by (rule_for b s) block (reads s m) (cell_before b s)) (devices_of m s.dram)
-      (λ side same. let behind = behind_slots s.p place side in absurd (omega (arith, behind, same, l))))
-  low_of (inr f) x l =
+      (apart-written (in_dram place) (number_of s.p place) x (put_by (rule_for b s) block (reads s m) (cell_before b s)) (devices_of m s.dram)
+      (λ side. apart_place s.p place x there side l))
+  apart_of (inr f) there x l =
       let place : Place = store_place (rule_for b s) (cell_before b s) in
-      low-failed (number_of s.p place) x (put_by (rule_for b s) block (reads s m) (cell_before b s)) m n
-      (λ same. let behind = behind_slots s.p place f.in_nvm in absurd (omega (arith, behind, same, l))) f.failed
+      apart-failed (number_of s.p place) x (put_by (rule_for b s) block (reads s m) (cell_before b s)) m n
+      (apart_place s.p place x there f.in_nvm l) f.failed
 
   -- at every other place of the NVM
   at_other : Outcome b block s m n → (q : Place) → IsPlace s.p (store_place (rule_for b s) (cell_before b s)) → IsPlace s.p q → in_dram q ≡ false
@@ -87,14 +93,14 @@ module _ (b : ℕ) (block : Block) (s : State) (m n : Device) where
       no_more-failed_other s.p m n (store_place (rule_for b s) (cell_before b s)) q (put_by (rule_for b s) block (reads s m) (cell_before b s)) there is f.in_nvm side ne f.failed
 
 -- the place of a store is none that a checkpoint has
-record IsApart (s : State) (place : Place) : Type 0 where
+record IsElsewhere (s : State) (place : Place) : Type 0 where
   not_penult : (k : ℕ) → penult (cell_of s k) ≢ place
   not_target : (k : ℕ) → IsPlaced k (cell_of s k) → target (cell_of s k) ≢ place
 
 module _ (elsewhere : StoreGoesElsewhere) (leaves : StoreLeavesTarget) (b : ℕ) (s : State) (t : AreSoundTables s) (whole : IsWholeState s) (inside : b < memory_blocks s.p) (room : 0 < free_count s.btt) where
-  apart : IsApart s (store_place (rule_for b s) (cell_before b s))
+  elsewhere_of : IsElsewhere s (store_place (rule_for b s) (cell_before b s))
   unfolding cell_before
-  apart =
+  elsewhere_of =
       let r : StoreRule = rule_for b s in
       let u : State = with_block r b s in
       let c : Cell = cell_of u b in
@@ -124,7 +130,7 @@ module _ (elsewhere : StoreGoesElsewhere) (leaves : StoreLeavesTarget) (b : ℕ)
       }
 
   -- it is a place
-  there : IsPlace s.p (store_place (rule_for b s) (cell_before b s))
+  pub there : IsPlace s.p (store_place (rule_for b s) (cell_before b s))
   there = IsPlace-store s.p (rule_for b s) (cell_before b s) (IsWithin-before s b t inside)
 
   -- those of both checkpoints are places of the NVM
@@ -144,16 +150,17 @@ module _ (elsewhere : StoreGoesElsewhere) (leaves : StoreLeavesTarget) (b : ℕ)
   StoresFree-store side =
       let place : Place = store_place (rule_for b s) (cell_before b s) in
       record {
-        low = behind_slots s.p place side;
-        old = λ k l. numbers_apart s.p place (penult (cell_of s k)) there (penult_is k l) (side ∙ sym (penult_in k)) (apart.not_penult k);
-        next = λ k l placed. numbers_apart s.p place (target (cell_of s k)) there (target_is k l) (side ∙ sym (target_in k)) (apart.not_target k placed);
+        inside = (between_slots s.p place there side).0;
+        before = (between_slots s.p place there side).1;
+        old = λ k l. numbers_apart s.p place (penult (cell_of s k)) there (penult_is k l) (side ∙ sym (penult_in k)) (elsewhere_of.not_penult k);
+        next = λ k l placed. numbers_apart s.p place (target (cell_of s k)) there (target_is k l) (side ∙ sym (target_in k)) (elsewhere_of.not_target k placed);
       }
 
   pub LeavesGuarded-after : (block : Block) (m n : Device) → Outcome b block s m n → LeavesGuarded s m n
   LeavesGuarded-after block m n outcome = record {
-    low = low_of b block s m n outcome;
-    old = λ k l. at_other b block s m n outcome (penult (cell_of s k)) there (penult_is k l) (penult_in k) (apart.not_penult k);
-    next = λ k l placed. at_other b block s m n outcome (target (cell_of s k)) there (target_is k l) (target_in k) (apart.not_target k placed);
+    apart = apart_of b block s m n outcome there;
+    old = λ k l. at_other b block s m n outcome (penult (cell_of s k)) there (penult_is k l) (penult_in k) (elsewhere_of.not_penult k);
+    next = λ k l placed. at_other b block s m n outcome (target (cell_of s k)) there (target_is k l) (target_in k) (elsewhere_of.not_target k placed);
   }
 
 -- whichever way a call ended

@@ -323,7 +323,7 @@ module _ (b : ℕ) (s : State) (busy : (cell_of s b).page.busy ≡ true) (m : De
     unfolding devices_issued
     Stays-issued law other up framed =
         let c : Cell = cell_of s b in
-        Stays-step s (target c) (reads s m (frame_at (seat_of c))) m (issued b s m) sized stays_tables (λ d. let no : true ≡ false = sym d ∙ up in cc) framed
+        Stays-step s (target c) (reads s m (frame_at (seat_of c))) m (issued b s m) (IsPlace-target s.p c (IsWithin-cell_of s b t l)) sized stays_tables (λ d. let no : true ≡ false = sym d ∙ up in cc) framed
         (guarded_by (devices_issued b s m).nvm (inl refl))
         (penult-issued law other b s busy m t sized l due) (held-issued law other b s busy m t sized l due)
 

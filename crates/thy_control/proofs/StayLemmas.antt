@@ -10,7 +10,7 @@ use Rattle.thy_base.specs.declared.place.Place.{Place}
 use Rattle.thy_base.specs.declared.store.Stored.{Stored}
 use Rattle.thy_base.specs.declared.nvm.NvmError.{NvmError}
 use Rattle.thy_base.specs.Device.{Device, HasFailed, IsFramed, newest, written_to}
-use Rattle.thy_base.specs.Places.{in_dram, number_of}
+use Rattle.thy_base.specs.Places.{in_dram, number_of, IsPlace}
 use Rattle.thy_base.proofs.DeviceLemmas.{newest-written_to_other}
 use Rattle.thy_dram.specs.Contents.{written}
 use Rattle.thy_place.specs.Devices.{Devices, devices_of}
@@ -39,7 +39,7 @@ use Rattle.thy_control.proofs.FindLemmas.{found_entry, entry_for-some}
 use Rattle.thy_control.proofs.StateLemmas.{IsListed, IsListed-with_block, OrDirty, cell-with_block_other, entry-with_block, cell-with_cell_same, cell-with_cell_other}
 use Rattle.thy_control.proofs.PutLemmas.{has_free, lasts-counts_after}
 use Rattle.thy_control.proofs.KeepLemmas.{same_start, penult-new, target-new}
-use Rattle.thy_control.proofs.GuardLemmas.{behind_slots}
+use Rattle.thy_control.proofs.GuardLemmas.{apart_place}
 
 -- if another element maps to the same, so does the list
 pub map-set_same : {X Y : Type 0} (f : X → Y) (xs : List X) (i : ℕ) (y d : X) → f y ≡ f (get_or xs i d) → i < length xs → map f (slice_set xs i y) ≡ map f xs
@@ -149,20 +149,21 @@ stays-cell r b t k l =
       | inr ne ↦ stays-or_dirty r (cell_of t k) (cell_of u k) (cell-with_cell_other r b t k l ne)
     ]
 
--- every place before the homes reads as before
-pub low-reads : (side : Bool) (at x : ℕ) (block : Block) (d : Devices) → (side ≡ false → x ≢ at) → x < length d.nvm.image
+-- what stands apart from memory's places reads as before
+pub apart-reads : (side : Bool) (at x : ℕ) (block : Block) (d : Devices) → (side ≡ false → x ≢ at) → x < length d.nvm.image
     → newest (if side then record d { dram = written d.dram at block } else record d { nvm = written_to d.nvm at block }).nvm x ≡ newest d.nvm x
-low-reads true at x block d other l = refl
-low-reads false at x block d other l = newest-written_to_other d.nvm at block x (other refl) l
+apart-reads true at x block d other l = refl
+apart-reads false at x block d other l = newest-written_to_other d.nvm at block x (other refl) l
 
 -- the store was done
 pub Stays-done : (b : ℕ) (block : Block) (s : State) (m : Device) → AreSoundTables s → IsSized s m → 0 < free_count s.btt → m.down ≡ false
+    → IsPlace s.p (store_place (rule_for b s) (cell_before b s))
     → IsFramed m (devices_after b block s m).nvm → LeavesGuarded s m (devices_after b block s m).nvm
     → KeepsCheckpoints s m (state_after b block s m) (devices_after b block s m).nvm
     → (HoldAll s m → HoldAll (state_after b block s m) (devices_after b block s m).nvm)
     → Stays s m (state_after b block s m) (devices_after b block s m).nvm
 unfolding state_after devices_after cell_before
-Stays-done b block s m t sized room up framed guarded keeps holds =
+Stays-done b block s m t sized room up there framed guarded keeps holds =
     let r : StoreRule = rule_for b s in
     let u : State = with_block r b s in
     let listed : IsListed r b u = IsListed-with_block r b s refl (has_free s.btt room) in
@@ -178,9 +179,9 @@ Stays-done b block s m t sized room up framed guarded keeps holds =
       cells = λ k l. cell_on (cell_of s k) (cell_of u k) (cell_of (with_cell r (after_store r (cell_of u b)) u) k) (stays-with r b s k) (stays-cell r b u k listed);
       guarded = guarded;
       up = λ d. record {
-        low_reads = λ x l. low-reads (in_dram place) (number_of s.p place) x (put_by r block (reads s m) (cell_of u b)) (devices_of m s.dram)
-            (λ side same. let behind = behind_slots s.p place side in absurd (omega (arith, behind, same, l)))
-            (omega (arith, l, sized.nvm));
+        apart_reads = λ x l inside. apart-reads (in_dram place) (number_of s.p place) x (put_by r block (reads s m) (cell_of u b)) (devices_of m s.dram)
+            (λ side. apart_place s.p place x there side l)
+            (omega (arith, inside, sized.nvm));
         penult_same = keeps.penult_same;
         held = λ h. record { holds = holds h; last_same = keeps.last_same };
       };
@@ -210,13 +211,14 @@ pub stays_by : (b : ℕ) (block : Block) (s : State) (m : Device) (t : State) (n
     → OnOk r (t ≡ state_after b block s m) → OnOk r (n ≡ (devices_after b block s m).nvm)
     → OnErr r (t ≡ s) → OnErr r (FailsStore b block s m n)
     → OnOk r (KeepsCheckpoints s m t n) → OnOk r (HoldAll s m → HoldAll t n)
-    → AreSoundTables s → IsSized s m → 0 < free_count s.btt → m.down ≡ false → IsFramed m n → LeavesGuarded s m n → Stays s m t n
-stays_by b block s m t n (Ok x) e f k g keeps holds tables sized room up framed guarded =
+    → AreSoundTables s → IsSized s m → 0 < free_count s.btt → m.down ≡ false
+    → IsPlace s.p (store_place (rule_for b s) (cell_before b s)) → IsFramed m n → LeavesGuarded s m n → Stays s m t n
+stays_by b block s m t n (Ok x) e f k g keeps holds tables sized room up there framed guarded =
     subst (λ (y : State). Stays s m y n) (sym e) (subst (λ (y : Device). Stays s m (state_after b block s m) y) (sym f)
-    (Stays-done b block s m tables sized room up (subst (λ (y : Device). IsFramed m y) f framed) (subst (λ (y : Device). LeavesGuarded s m y) f guarded)
+    (Stays-done b block s m tables sized room up there (subst (λ (y : Device). IsFramed m y) f framed) (subst (λ (y : Device). LeavesGuarded s m y) f guarded)
     (subst (λ (y : Device). KeepsCheckpoints s m (state_after b block s m) y) f (subst (λ (y : State). KeepsCheckpoints s m y n) e keeps))
     (subst (λ (y : Device). HoldAll s m → HoldAll (state_after b block s m) y) f (subst (λ (y : State). HoldAll s m → HoldAll y n) e holds))))
-stays_by b block s m t n (Err x) e f k g keeps holds tables sized room up framed guarded =
+stays_by b block s m t n (Err x) e f k g keeps holds tables sized room up there framed guarded =
     subst (λ (y : State). Stays s m y n) (sym k) (Stays-failed b block s m n g framed guarded)
 
 -- a read leaves the controller as it is, and the NVM too unless it failed
@@ -232,7 +234,7 @@ stays_read s m n (Err x) same failed framed = record {
   lasts_same = refl;
   cells = λ b l. cell_same (cell_of s b);
   guarded = record {
-    low = λ y l. record { no_more = λ b h. failed.no_more y b h };
+    apart = λ y l. record { no_more = λ b h. failed.no_more y b h };
     old = λ b l. record { no_more = λ y h. failed.no_more (number_of s.p (penult (cell_of s b))) y h };
     next = λ b l placed. record { no_more = λ y h. failed.no_more (number_of s.p (target (cell_of s b))) y h };
   };

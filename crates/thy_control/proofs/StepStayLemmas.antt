@@ -5,7 +5,7 @@ use Rattle.thy_base.specs.declared.block.Block.{Block}
 use Rattle.thy_base.specs.declared.place.Place.{Place}
 use Rattle.thy_base.specs.Device.{Device, HasFailed, HasFailedToWrite, IsFramed}
 use Rattle.thy_base.specs.Geometry.{memory_blocks}
-use Rattle.thy_base.specs.Places.{in_dram, number_of, first_home, IsPlace}
+use Rattle.thy_base.specs.Places.{in_dram, number_of, IsPlace, IsApart}
 use Rattle.thy_place.specs.Devices.{NoMoreAt, devices_of, written_at}
 use Rattle.thy_place.proofs.PlaceLemmas.{no_more-written_other, no_more-failed_other}
 use Rattle.thy_cell.specs.Cells.{seat_of, penult, target}
@@ -16,9 +16,9 @@ use Rattle.thy_control.specs.Moves.{FailsMove}
 use Rattle.thy_control.specs.OverCalls.{cell_same}
 use Rattle.thy_control.specs.Stays.{CellStays, StaysHeld, Stays, HoldAll}
 use Rattle.thy_control.proofs.CellLemmas.{IsPlace-penult, IsPlace-target, IsWithin-cell_of}
-use Rattle.thy_control.proofs.GuardLemmas.{behind_slots, low-written, low-failed, placed-in_nvm}
+use Rattle.thy_control.proofs.GuardLemmas.{apart_place, apart-written, apart-failed, placed-in_nvm}
 use Rattle.thy_control.proofs.OwnLemmas.{owner, Owns-cell_of, owned-penult, owned-target, owned-apart}
-use Rattle.thy_control.proofs.StayLemmas.{low-reads}
+use Rattle.thy_control.proofs.StayLemmas.{apart-reads}
 
 -- what a step leaves of the tables
 pub record StaysTables (s u : State) : Type 0 where
@@ -42,21 +42,21 @@ module _ (s : State) (y : Place) (v : Block) (m n : Device) where
   elsewhere (inr (inl f)) q there is side ne = record { no_more = λ b h. f.no_more (number_of s.p q) b h }
   elsewhere (inr (inr f)) q there is side ne = no_more-failed_other s.p m n y q v there is f.0 side ne f.1
 
-  -- nor before the homes
-  low_of : Outcome s y v m n → (x : ℕ) → x < first_home s.p → NoMoreAt x m n
-  low_of (inl e) x l =
+  -- nor apart from memory's places
+  apart_of : Outcome s y v m n → IsPlace s.p y → (x : ℕ) → IsApart s.p x → NoMoreAt x m n
+  apart_of (inl e) there x l =
       subst (λ (k : Device). NoMoreAt x m k) (sym e)
-      (low-written (in_dram y) (number_of s.p y) x v (devices_of m s.dram)
-      (λ side same. let behind = behind_slots s.p y side in absurd (omega (arith, behind, same, l))))
-  low_of (inr (inl f)) x l = record { no_more = λ b h. f.no_more x b h }
-  low_of (inr (inr f)) x l =
-      low-failed (number_of s.p y) x v m n (λ same. let behind = behind_slots s.p y f.0 in absurd (omega (arith, behind, same, l))) f.1
+      (apart-written (in_dram y) (number_of s.p y) x v (devices_of m s.dram)
+      (λ side. apart_place s.p y x there side l))
+  apart_of (inr (inl f)) there x l = record { no_more = λ b h. f.no_more x b h }
+  apart_of (inr (inr f)) there x l =
+      apart-failed (number_of s.p y) x v m n (apart_place s.p y x there f.0 l) f.1
 
   -- so what a cut may leave of the checkpoints stays
   pub LeavesGuarded-step : (b : ℕ) → AreSoundTables s → IsPlace s.p y → owner s y ≡ Some b
       → penult (cell_of s b) ≢ y → (IsPlaced b (cell_of s b) → target (cell_of s b) ≢ y) → Outcome s y v m n → LeavesGuarded s m n
   LeavesGuarded-step b t there owns not_penult not_target outcome = record {
-    low = low_of outcome;
+    apart = apart_of outcome there;
     old = λ k l. elsewhere outcome (penult (cell_of s k)) there (IsPlace-penult s.p (cell_of s k) (IsWithin-cell_of s k t l))
         (placed-in_nvm (cell_of s k).entry.v0 (cell_of s k).page.place (seat_of (cell_of s k)))
         (elim (cases_eq k b) as (λ _. penult (cell_of s k) ≢ y) [
@@ -84,13 +84,13 @@ module _ (s : State) (b : ℕ) (y : Place) (side : in_dram y ≡ true) where
       let both : true ≡ false = sym side ∙ no in cc
 
 -- the step was done
-pub Stays-step : (s : State) (y : Place) (v : Block) (m : Device) (u : State) → IsSized s m → StaysTables s u
+pub Stays-step : (s : State) (y : Place) (v : Block) (m : Device) (u : State) → IsPlace s.p y → IsSized s m → StaysTables s u
     → (m.down ≡ true → (written_at s.p y v (devices_of m s.dram)).nvm.down ≡ true)
     → IsFramed m (written_at s.p y v (devices_of m s.dram)).nvm → LeavesGuarded s m (written_at s.p y v (devices_of m s.dram)).nvm
     → ((b : ℕ) → b < memory_blocks s.p → penult_of u (written_at s.p y v (devices_of m s.dram)).nvm b ≡ penult_of s m b)
     → (HoldAll s m → StaysHeld s m u (written_at s.p y v (devices_of m s.dram)).nvm)
     → Stays s m u (written_at s.p y v (devices_of m s.dram)).nvm
-Stays-step s y v m u sized tables down framed guarded penult_same held = record {
+Stays-step s y v m u there sized tables down framed guarded penult_same held = record {
   as_long = framed.blocks;
   same_p = tables.same_p;
   same_way = tables.same_way;
@@ -101,9 +101,9 @@ Stays-step s y v m u sized tables down framed guarded penult_same held = record 
   cells = tables.cells;
   guarded = guarded;
   up = λ d. record {
-    low_reads = λ x l. low-reads (in_dram y) (number_of s.p y) x v (devices_of m s.dram)
-        (λ side same. let behind = behind_slots s.p y side in absurd (omega (arith, behind, same, l)))
-        (omega (arith, l, sized.nvm));
+    apart_reads = λ x l inside. apart-reads (in_dram y) (number_of s.p y) x v (devices_of m s.dram)
+        (λ side. apart_place s.p y x there side l)
+        (omega (arith, inside, sized.nvm));
     penult_same = penult_same;
     held = held;
   };

@@ -2,7 +2,7 @@
 use Rattle.std.specs.Prelude.{◌≡◌, ◌≢◌, ℕ, ◌<◌, ◌≤◌, ◌%◌, true}
 use Rattle.thy_base.specs.Device.{Device}
 use Rattle.thy_base.specs.Geometry.{memory_blocks}
-use Rattle.thy_base.specs.Places.{number_of, first_home}
+use Rattle.thy_base.specs.Places.{number_of, first_home, blocks_one, IsApart}
 use Rattle.thy_place.specs.Devices.{NoMoreAt}
 use Rattle.thy_tables.specs.declared.block_entry.Pending.TheVariants.{Settled}
 use Rattle.thy_cell.specs.declared.cell.Cell.{Cell}
@@ -15,17 +15,18 @@ pub record IsPlaced (b : ℕ) (c : Cell) : Type 0 where
   pub copied : c.entry.pend ≡ Settled
   pub issued : c.page.busy ≡ true → b % 64 < c.page.issued
 
--- nothing new is possible before the homes, at the places of the committed checkpoint, and at that of each block
--- which the one under way has at its place already
+-- nothing new is possible apart from memory's places, at the places of the committed checkpoint, and at that of each block which the one
+-- under way has at its place already
 pub record LeavesGuarded (s : State) (m n : Device) : Type 0 where
-  pub low : (x : ℕ) → x < first_home s.p → NoMoreAt x m n
+  pub apart : (x : ℕ) → IsApart s.p x → NoMoreAt x m n
   pub old : (b : ℕ) → b < memory_blocks s.p → NoMoreAt (number_of s.p (penult (cell_of s b))) m n
   pub next : (b : ℕ) → b < memory_blocks s.p → IsPlaced b (cell_of s b)
       → NoMoreAt (number_of s.p (target (cell_of s b))) m n
 
 -- a place of the NVM, by its number, is none of these
 pub record IsFree (s : State) (x : ℕ) : Type 0 where
-  pub low : first_home s.p ≤ x
+  pub inside : first_home s.p ≤ x
+  pub before : x < blocks_one s.p
   pub old : (b : ℕ) → b < memory_blocks s.p → number_of s.p (penult (cell_of s b)) ≢ x
   pub next : (b : ℕ) → b < memory_blocks s.p → IsPlaced b (cell_of s b) → number_of s.p (target (cell_of s b)) ≢ x
 

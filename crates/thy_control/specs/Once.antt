@@ -53,7 +53,7 @@ pub record Once (s : State) (m : Device) (t : State) (n : Device) : Type 0 where
   pub stays : Stays s m t n
   pub work : (b : ℕ) → b < memory_blocks s.p → KeepsCheckpointWork (cell_of s b) (cell_of t b)
 
--- a place of the NVM after both slots that no checkpoint has, and a block
+-- a place of memory in the NVM that no checkpoint has, and a block
 pub record Spot (s : State) : Type 0 where
   pub at : ℕ
   pub block : Block

@@ -4,7 +4,7 @@ use Rattle.std.proofs.Common.{sym, ◌∙◌, ap, subst, arith}
 use Rattle.thy_base.specs.declared.config.Parameters.{Parameters}
 use Rattle.thy_base.specs.Device.{Device}
 use Rattle.thy_base.specs.Geometry.{memory_blocks}
-use Rattle.thy_base.specs.Places.{number_of, first_home}
+use Rattle.thy_base.specs.Places.{number_of, image_blocks, IsApart}
 use Rattle.thy_place.specs.Devices.{NoMoreAt}
 use Rattle.thy_cell.specs.declared.cell.Cell.{Cell}
 use Rattle.thy_cell.specs.Cells.{penult, target}
@@ -49,12 +49,12 @@ stays_same s m = record {
   lasts_same = refl;
   cells = λ b l. cell_same (cell_of s b);
   guarded = record {
-    low = λ x l. record { no_more = λ y h. h };
+    apart = λ x l. record { no_more = λ y h. h };
     old = λ b l. record { no_more = λ y h. h };
     next = λ b l placed. record { no_more = λ y h. h };
   };
   up = λ d. record {
-    low_reads = λ x l. refl;
+    apart_reads = λ x l inside. refl;
     penult_same = λ b l. refl;
     held = λ h. record { holds = h; last_same = λ b l. refl };
   };
@@ -80,8 +80,10 @@ stays_on s m t n u o first second =
     let p : t.p ≡ s.p = first.same_p in
     let in_t : (b : ℕ) → b < memory_blocks s.p → b < memory_blocks t.p =
     λ b l. subst (λ (q : Parameters). b < memory_blocks q) (sym p) l in
-    let low_t : (x : ℕ) → x < first_home s.p → x < first_home t.p =
-    λ x l. subst (λ (q : Parameters). x < first_home q) (sym p) l in
+    let apart_t : (x : ℕ) → IsApart s.p x → IsApart t.p x =
+    λ x l. subst (λ (q : Parameters). IsApart q x) (sym p) l in
+    let inside_t : (x : ℕ) → x < image_blocks s.p → x < image_blocks t.p =
+    λ x l. subst (λ (q : Parameters). x < image_blocks q) (sym p) l in
     record {
       as_long = second.as_long ∙ first.as_long;
       same_p = second.same_p ∙ p;
@@ -92,7 +94,7 @@ stays_on s m t n u o first second =
       lasts_same = second.lasts_same ∙ first.lasts_same;
       cells = λ b l. cell_on (cell_of s b) (cell_of t b) (cell_of u b) (first.cells b l) (second.cells b (in_t b l));
       guarded = record {
-        low = λ x l. no_more_on x x m n o refl (first.guarded.low x l) (second.guarded.low x (low_t x l));
+        apart = λ x l. no_more_on x x m n o refl (first.guarded.apart x l) (second.guarded.apart x (apart_t x l));
         old = λ b l.
             let same =
             ap (λ (q : Parameters). number_of q (penult (cell_of t b))) p
@@ -112,7 +114,7 @@ stays_on s m t n u o first second =
           let one : StaysUp s m t n = first.up before in
           let two : StaysUp t n u o = second.up d in
           record {
-            low_reads = λ x l. two.low_reads x (low_t x l) ∙ one.low_reads x l;
+            apart_reads = λ x l inside. two.apart_reads x (apart_t x l) (inside_t x inside) ∙ one.apart_reads x l inside;
             penult_same = λ b l. two.penult_same b (in_t b l) ∙ one.penult_same b l;
             held = λ h.
                 let then : StaysHeld s m t n = one.held h in

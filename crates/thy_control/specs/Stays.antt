@@ -3,7 +3,7 @@
 use Rattle.std.specs.Prelude.{◌≡◌, ℕ, ◌<◌, ◌≤◌, true, false, length}
 use Rattle.thy_base.specs.Device.{Device, newest}
 use Rattle.thy_base.specs.Geometry.{memory_blocks}
-use Rattle.thy_base.specs.Places.{first_home}
+use Rattle.thy_base.specs.Places.{image_blocks, IsApart}
 use Rattle.thy_tables.specs.declared.block_entry.Pending.TheVariants.{Settled}
 use Rattle.thy_cell.specs.declared.cell.Cell.{Cell}
 use Rattle.thy_cell.specs.Cells.{penult, target}
@@ -38,9 +38,9 @@ pub record StaysHeld (s : State) (m : Device) (t : State) (n : Device) : Type 0 
 abbrev pub WhereHeld : (State → Device → State → Device → Type 0) → State → Device → State → Device → Type 0
 WhereHeld kept s m t n = HoldAll s m → kept s m t n
 
--- while the NVM is up: every place before the homes reads as before, and so does the committed checkpoint
+-- while the NVM is up: all that stands apart from memory's places reads as before, and so does the committed checkpoint
 pub record StaysUp (s : State) (m : Device) (t : State) (n : Device) : Type 0 where
-  pub low_reads : (x : ℕ) → x < first_home s.p → newest n x ≡ newest m x
+  pub apart_reads : (x : ℕ) → IsApart s.p x → x < image_blocks s.p → newest n x ≡ newest m x
   pub penult_same : (b : ℕ) → b < memory_blocks s.p → penult_of t n b ≡ penult_of s m b
   pub held : HoldAll s m → StaysHeld s m t n
 

@@ -1,18 +1,9 @@
--- What a slot has after the processor's record: the tables of the checkpoint under way, eight entries a block, and, if the
--- layout has them, the counts of the epoch before, 64 pages a block.
-use Rattle.std.specs.Prelude.{ℕ, ◌+◌, ◌*◌, ◌/◌, List, ◌++◌, take, drop, Option}
-use Rattle.thy_base.specs.declared.config.Parameters.{Parameters}
+-- The tables of the checkpoint under way, eight entries a block.
+use Rattle.std.specs.Prelude.{ℕ, ◌*◌, List, ◌++◌, take, drop, Option}
 use Rattle.thy_record.specs.Tables.{Tables}
 use Rattle.thy_tables.specs.declared.block_entry.BttEntry.{BttEntry}
 use Rattle.thy_tables.specs.declared.page_entry.PttEntry.{PttEntry}
 use Rattle.thy_control.specs.CheckpointTables.{entry_lists, page_lists}
-
--- how many blocks the tables have, and the counts
-abbrev pub table_blocks : Parameters → ℕ
-table_blocks p = p.btt / 8 + p.ptt / 8
-
-abbrev pub count_blocks : Parameters → ℕ
-count_blocks p = (p.pages + 63) / 64
 
 -- the block that the checkpoint under way lists at an entry of the block table, and the page at one of the page table
 abbrev pub block_due : BttEntry → Option ℕ

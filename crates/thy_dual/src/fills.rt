@@ -1,11 +1,11 @@
-//! This scheme's part of the boot: version 1 of images, read into the controller.
+//! This scheme's part of the boot: images of both versions, read into the controller.
 ghost use Rattle.std.specs.Prelude.{◌≡◌, ◌+◌, ◌*◌, ◌<◌, true, length, None, OnOk, OnErr, slice_index_or};
 
 use thy_base::{Block, Geometry, Nvm, NvmError, word};
 use thy_boot::Fills;
 use thy_control::Control;
 use thy_isa::{CpuState, MachState};
-use thy_record::{BadImage, commit_block, commit_fault, header_block, header_fault};
+use thy_record::{BadImage, commit_block, commit_fault, form_of, header_block, header_fault};
 use thy_recover::{
     CEILING, cpu_of_slot, fault_of_slot, fill, first_memory, first_slot, list_slot, next_fill,
 };
@@ -27,12 +27,11 @@ impl Fills for DualFills {
     }
 
     fn slot_blocks(geometry: &Geometry, commit: &Block) -> u64 {
-        let _commit = commit;
-        geometry.slot_blocks()
+        geometry.slot_blocks_of(form_of(commit))
     }
 
     fn slot_at(geometry: &Geometry, commit: &Block, next: u64) -> u64 {
-        geometry.slot(word(commit, 1) % 2) + next
+        geometry.slot_of(form_of(commit), word(commit, 1) % 2) + next
     }
 
     fn header_fault(geometry: &Geometry, header: &Block) -> Option<BadImage> {
@@ -41,8 +40,7 @@ impl Fills for DualFills {
 
     fn commit_fault(geometry: &Geometry, header: &Block, commit: &Block) -> Option<BadImage> {
         let _geometry = geometry;
-        let _header = header;
-        commit_fault(commit, CEILING)
+        commit_fault(header, commit, CEILING)
     }
 
     fn slot_fault(geometry: &Geometry, commit: &Block, slot: &[u8]) -> Option<BadImage> {

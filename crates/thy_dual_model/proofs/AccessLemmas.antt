@@ -80,7 +80,7 @@ module _ (s : Dual) (m : Device) (t : Dual) (n : Device) (once : Once s.control 
       }
   accessed (inr x) =
       let down : n.down ≡ false = ap (λ (y : Device). y.down) x.1 ∙ up in
-      let behind : first_home s.control.p ≤ x.0.at = x.0.free.low in
+      let behind : first_home s.control.p ≤ x.0.at = x.0.free.inside in
       record {
         action = WriteAt x.0.at x.0.block;
         access = λ e. absurd (omega (arith, e, behind));
@@ -100,7 +100,7 @@ module _ (s : Dual) (m : Device) (t : Dual) (n : Device) (once : Once s.control 
     stays = stays;
   }
   failed-access (inr x) =
-      let behind : first_home s.control.p ≤ x.0.at = x.0.free.low in
+      let behind : first_home s.control.p ≤ x.0.at = x.0.free.inside in
       record {
         action = WriteAt x.0.at x.0.block;
         access = λ e. absurd (omega (arith, e, behind));

@@ -19,7 +19,7 @@ use Rattle.thy_protocol.specs.Keeps.{Tells, TellsAll, finding_view}
 use Rattle.thy_protocol.specs.Layout.{reading}
 use Rattle.thy_protocol.specs.Moves.{IsKeeping}
 use Rattle.thy_protocol.proofs.KeepsLemmas.{finding_view-told}
-use Rattle.thy_protocol.proofs.VersionOneLemmas.{decode_by-version_one}
+use Rattle.thy_protocol.proofs.RemappedLemmas.{decode_by-remapped}
 use Rattle.thy_base.specs.Places.{dram_blocks}
 use Rattle.thy_dram.specs.Contents.{Contents, lost}
 use Rattle.thy_dram.specs.Draws.{blocks_over, after_block}
@@ -50,7 +50,7 @@ use Rattle.thy_recover.proofs.FillingLemmas.{filling_is_lawful}
 use Rattle.thy_recover.proofs.LiveLemmas.{IsFresh-new}
 use Rattle.thy_record.specs.declared.bad_image.BadImage.{BadImage}
 use Rattle.thy_protocol.proofs.LayoutLemmas.{decode_by-nothing_back, decode_by-zero}
-use Rattle.thy_protocol.specs.VersionOne.{layout_of, version_one}
+use Rattle.thy_protocol.specs.Remapped.{layout_of, remapped}
 use Rattle.thy_scheme.specs.Boots.{IsBootView, BootStays, BootDrains}
 use Rattle.thy_scheme.specs.Laws.{IsOwn, IsFound, BootsFound, BootHolds}
 use Rattle.thy_dual_model.specs.Boots.{Boots, IsPowered, view_at, has_read_at, loads_at}
@@ -63,15 +63,15 @@ use Rattle.thy_dual_model.proofs.SafeLemmas.{Safe-read}
 
 module _ (o : Origin) (g : BootImages) (n : Device) (b : Booting) (c : State) where
   -- while it reads, what the image means is the mark that is kept
-  view-reading : IsRecovering filling_one g n b c → Tells o (layout_of o) g.before g.kept
+  view-reading : IsRecovering filling_one g n b c → length n.image ≡ image_blocks o.geometry → Tells o (layout_of o) g.before g.kept
       → view_of_image o.start.count (decode_image o.geometry ceiling n.image) ≡ finding_view o.start.count g.kept
-  view-reading reading tells =
+  view-reading reading sized tells =
       ap (λ (x : List Block). view_of_image o.start.count (decode_image o.geometry ceiling x)) (sym reading.before_is)
-      ∙ ap (view_of_image o.start.count) (sym (decode_by-version_one o.geometry ceiling g.before))
+      ∙ ap (view_of_image o.start.count) (sym (decode_by-remapped o.geometry ceiling g.before (ap length reading.before_is ∙ sized)))
       ∙ finding_view-told o (layout_of o) g.before g.kept o.start.count tells
 
   view-at : (q : Stage) → IsGoing q → IsKeeping o (layout_of o) (standing_in_boot o q g n) → IsSoundAt filling_one o q g n b c → view_at o q n ≡ seen_at o g.kept q
-  view-at (Reads r) going keeps far = view-reading far keeps.told
+  view-at (Reads r) going keeps far = view-reading far keeps.sized keeps.told
   view-at (Loads issue) going keeps far = refl
   view-at (Over end) going keeps far = absurd going
 
@@ -211,14 +211,14 @@ module _ (o : Origin) (s : Dual) (n : Device) (t : State) (boots : Boots o s n) 
 -- ---- power comes on
 
 -- the mark of an image that is the run's own
-own-mark : (o : Origin) (n : Device) (d : Decoded) → decode_image o.geometry ceiling n.image ≡ d → IsOwn o d
+own-mark : (o : Origin) (n : Device) (d : Decoded) → length n.image ≡ image_blocks o.geometry → decode_image o.geometry ceiling n.image ≡ d → IsOwn o d
     → (kept : Option Mark) × Tells o (layout_of o) n.image kept
-own-mark o n Nothing is own = (None, (decode_by-version_one o.geometry ceiling n.image ∙ is, own))
-own-mark o n (Refused bad) is own = absurd own
-own-mark o n (At epoch state) is own = (
+own-mark o n Nothing sized is own = (None, (decode_by-remapped o.geometry ceiling n.image sized ∙ is, own))
+own-mark o n (Refused bad) sized is own = absurd own
+own-mark o n (At epoch state) sized is own = (
   Some (mark epoch state.count),
   record {
-    decodes = decode_by-version_one o.geometry ceiling n.image ∙ is ∙ ap (At epoch) own;
+    decodes = decode_by-remapped o.geometry ceiling n.image sized ∙ is ∙ ap (At epoch) own;
     counted = ap (λ (x : Plain). x.count) (sym own);
   },
 )
@@ -228,7 +228,7 @@ new-is_boot p = record { room = length-replicate (64 * slot_blocks p) 0; there =
 
 module _ (o : Origin) (s : Dual) (n : Device) (origin : IsOrigin o) (powered : IsPowered o.geometry s) (found : IsFound dual_scheme o n) where
   own : (kept : Option Mark) × Tells o (layout_of o) n.image kept
-  own = own-mark o n (decode_image o.geometry ceiling n.image) refl found.own
+  own = own-mark o n (decode_image o.geometry ceiling n.image) found.sized refl found.own
 
   abbrev first : BootImages
   first = record { before = n.image; kept = own.0; next = [] }
@@ -277,8 +277,9 @@ power_is_new p s powered = record {
 pub zeros_are_nothing : ZerosAreNothing
 zeros_are_nothing p shape n same =
     let some : 1 < shape.blocks - 0 = omega (arith, same) in
-    sym (decode_by-version_one p ceiling (fitted shape [] n).image)
-    ∙ decode_by-zero (version_one p ceiling) (fitted shape [] n).image (ap is_zero (get_or-replicate (shape.blocks - 0) 1 zero_block zero_block some) ∙ is_zero-zero_block)
+    let long : length (fitted shape [] n).image ≡ image_blocks p = length-replicate (shape.blocks - 0) zero_block ∙ omega (arith, same) in
+    sym (decode_by-remapped p ceiling (fitted shape [] n).image long)
+    ∙ decode_by-zero (remapped p ceiling) (fitted shape [] n).image (ap is_zero (get_or-replicate (shape.blocks - 0) 1 zero_block zero_block some) ∙ is_zero-zero_block)
 
 -- ---- whether it loads
 

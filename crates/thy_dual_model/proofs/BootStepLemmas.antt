@@ -21,7 +21,7 @@ use Rattle.thy_control.specs.State.{State, AreSoundTables, IsSized}
 use Rattle.thy_control.proofs.HoldingLemmas.{works-sized}
 use Rattle.thy_protocol.specs.Keeps.{Keeps, finding_view}
 use Rattle.thy_protocol.specs.Moves.{IsKeeping}
-use Rattle.thy_protocol.specs.VersionOne.{layout_of}
+use Rattle.thy_protocol.specs.Remapped.{layout_of}
 use Rattle.thy_view.specs.declared.did.Did.{Did}
 use Rattle.thy_view.specs.declared.view.View.{View}
 use Rattle.thy_view.specs.Action.{Action, Rest, ReadAt, WriteAt, Barrier, Drain, after, FailsTo, Asks, Acts, doubt_after_fault}

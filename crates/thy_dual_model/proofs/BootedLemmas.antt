@@ -33,7 +33,7 @@ use Rattle.thy_control.specs.Stays.{HoldAll}
 use Rattle.thy_control.proofs.MarkLemmas.{counted-some}
 use Rattle.thy_control.proofs.TablesLemmas.{AreTablesOf-committed}
 use Rattle.thy_protocol.specs.Keeps.{Keeps}
-use Rattle.thy_protocol.specs.VersionOne.{layout_of}
+use Rattle.thy_protocol.specs.Remapped.{layout_of}
 use Rattle.thy_view.specs.Origin.{Origin}
 use Rattle.thy_commit.specs.declared.next.Next.{Next}
 use Rattle.thy_commit.specs.declared.next.Next.TheVariants.{Nothing, Copies, Pages, Slot, Settle, Commit, Confirm}
@@ -175,6 +175,7 @@ module _ (o : Origin) (m : Mark) (cpu : CpuState) (image : List Block) (s : Dual
           epoch = m.epoch;
           told = booted.told;
           other_slot = λ on. absurd (under-way on);
+          counted = λ off. booted.lasts;
         };
         next = λ w. absurd (idle-unwritten s.engine.next unused.idle w);
       };

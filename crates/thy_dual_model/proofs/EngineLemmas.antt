@@ -22,7 +22,7 @@ use Rattle.thy_control.specs.Pages.{next_page}
 use Rattle.thy_control.specs.State.{State, AreSoundTables, penult_of, last_of}
 use Rattle.thy_control.specs.Stays.{HoldAll}
 use Rattle.thy_protocol.specs.Moves.{standing, IsKeeping, Move}
-use Rattle.thy_protocol.specs.VersionOne.{version_one, layout_of}
+use Rattle.thy_protocol.specs.Remapped.{remapped, layout_of}
 use Rattle.thy_protocol.proofs.KeepsLemmas.{IsKeeping-move, Safe-kept}
 use Rattle.thy_crash.specs.Saved.{InDoubt}
 use Rattle.thy_view.specs.Action.{Acts, ActionFailed}
@@ -408,7 +408,7 @@ module _ (o : Origin) (k : Marks) (s : Dual) (n : Device) (stands : Stands dual_
   failed-safe Confirm new is keeps = safe-other Confirm new is keeps refl
   failed-safe Commit new is keeps =
       let safe : Safe decode_image o images.kept images.sealed new
-      = Safe-read o images.kept images.sealed new (Safe-kept version_one o new (InDoubt images.before images.next) images.kept images.sealed keeps) in
+      = Safe-read o images.kept images.sealed new keeps.sized (Safe-kept remapped o new (InDoubt images.before images.next) images.kept images.sealed keeps) in
       subst (λ (m : Option Mark). Safe decode_image o m k.sealed new) sound.checkpoints.kept
       (subst (λ (m : Option Mark). Safe decode_image o images.kept m new) sound.checkpoints.sealed safe)
 

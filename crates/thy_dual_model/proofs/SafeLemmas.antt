@@ -1,7 +1,8 @@
 -- What the NVM keeps of the checkpoints is safe.
-use Rattle.std.proofs.Common.{◌≡◌, Bool, if◌then◌else◌, refl, sym, ◌∙◌, ap, subst, Option, Some, None}
+use Rattle.std.proofs.Common.{◌≡◌, Bool, length, if◌then◌else◌, refl, sym, ◌∙◌, ap, subst, Option, Some, None}
 use Rattle.thy_base.specs.declared.mark.Mark.{Mark}
 use Rattle.thy_base.specs.Device.{Device}
+use Rattle.thy_base.specs.Places.{image_blocks}
 use Rattle.thy_record.specs.Decoded.{Decoded}
 use Rattle.thy_record.specs.Images.{decode_image}
 use Rattle.thy_view.specs.Origin.{Origin}
@@ -9,9 +10,9 @@ use Rattle.thy_view.specs.Safe.{ceiling, IsOneOf, Safe}
 use Rattle.thy_protocol.specs.Keeps.{doubt_in}
 use Rattle.thy_protocol.specs.Layout.{reading}
 use Rattle.thy_protocol.specs.Moves.{IsKeeping}
-use Rattle.thy_protocol.specs.VersionOne.{version_one, layout_of}
+use Rattle.thy_protocol.specs.Remapped.{remapped, layout_of}
 use Rattle.thy_protocol.proofs.KeepsLemmas.{Safe-kept}
-use Rattle.thy_protocol.proofs.VersionOneLemmas.{decode_by-version_one}
+use Rattle.thy_protocol.proofs.RemappedLemmas.{decode_by-remapped}
 use Rattle.thy_commit.specs.declared.next.Next.{Next}
 use Rattle.thy_commit.specs.declared.next.Next.TheVariants.{Nothing, Copies, Pages, Slot, Settle, Commit, Confirm}
 use Rattle.thy_commit.specs.Moves.{Checkpoints, saved_at, standing_at}
@@ -19,10 +20,11 @@ use Rattle.thy_commit.specs.Progress.{Progress}
 use Rattle.thy_scheme.specs.Marks.{Marks, doubt_in as doubt_of}
 use Rattle.thy_dual_model.specs.Sound.{is_confirming}
 
--- images of version 1 are read by their layout
-pub Safe-read : (o : Origin) (kept sealed : Option Mark) (n : Device) → Safe (reading version_one) o kept sealed n → Safe decode_image o kept sealed n
-Safe-read o kept sealed n safe g crash =
-    subst (λ (d : Decoded). IsOneOf o kept sealed d) (decode_by-version_one o.geometry ceiling g) (safe g crash)
+-- images of the run's length are read by their layout
+pub Safe-read : (o : Origin) (kept sealed : Option Mark) (n : Device) → length n.image ≡ image_blocks o.geometry
+    → Safe (reading remapped) o kept sealed n → Safe decode_image o kept sealed n
+Safe-read o kept sealed n sized safe g crash =
+    subst (λ (d : Decoded). IsOneOf o kept sealed d) (decode_by-remapped o.geometry ceiling g (crash.same_length ∙ sized)) (safe g crash)
 
 -- the mark in doubt is the sealed one, if the engine waits for the last barrier
 doubt-at : (q : Next) (c : Checkpoints) → doubt_in (saved_at q c) c.sealed ≡ (if is_confirming q then c.sealed else None)
@@ -43,4 +45,4 @@ module _ (o : Origin) (k : Marks) (e : Progress) (n : Device) (c : Checkpoints) 
       = doubt-at e.next c ∙ ap (λ (w : Bool). if w then c.sealed else None) (sym written) ∙ ap (λ (m : Option Mark). if k.written then m else None) sealed in
       subst (λ (m : Option Mark). Safe decode_image o m (doubt_of k) n) kept
       (subst (λ (m : Option Mark). Safe decode_image o c.kept m n) doubt
-      (Safe-read o c.kept (doubt_in (saved_at e.next c) c.sealed) n (Safe-kept version_one o n (saved_at e.next c) c.kept c.sealed keeping)))
+      (Safe-read o c.kept (doubt_in (saved_at e.next c) c.sealed) n keeping.sized (Safe-kept remapped o n (saved_at e.next c) c.kept c.sealed keeping)))

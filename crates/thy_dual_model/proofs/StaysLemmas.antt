@@ -1,5 +1,5 @@
 -- What loads and stores keep of the checkpoints, and every other call that stays within it.
-use Rattle.std.proofs.Common.{◌≡◌, ◌≤◌, Bool, true, false, sym, ◌∙◌, ap, subst, arith, Some, None}
+use Rattle.std.proofs.Common.{◌≡◌, ◌≤◌, Bool, true, false, sym, ◌∙◌, ap, subst, inl, arith, Some, None}
 use Rattle.thy_base.specs.declared.block.Block.{Block}
 use Rattle.thy_base.specs.declared.config.Parameters.{Parameters}
 use Rattle.thy_base.specs.Device.{Device, newest}
@@ -14,7 +14,7 @@ use Rattle.thy_control.specs.State.{State, AreSoundTables, IsSized, penult_of, l
 use Rattle.thy_control.specs.Stays.{HoldAll, Stays, StaysUp, StaysHeld}
 use Rattle.thy_protocol.specs.Moves.{IsKeeping}
 use Rattle.thy_protocol.proofs.KeepsLemmas.{IsKeeping-move}
-use Rattle.thy_protocol.specs.VersionOne.{layout_of}
+use Rattle.thy_protocol.specs.Remapped.{layout_of}
 use Rattle.thy_view.specs.Origin.{Origin}
 use Rattle.thy_view.specs.Safe.{Safe}
 use Rattle.thy_commit.specs.Items.{is_under_way}
@@ -51,7 +51,7 @@ module _ (o : Origin) (e : Progress) (s : State) (n : Device) (t : State) (new :
     held = between.held holds
 
     header-on : (p : Parameters) → header_fault (newest n 0) p true ≡ None → header_fault (newest new 0) p true ≡ None
-    header-on p h = ap (λ (b : Block). header_fault b p true) (between.low_reads 0 (omega arith)) ∙ h
+    header-on p h = ap (λ (b : Block). header_fault b p true) (between.apart_reads 0 (inl (omega arith)) (omega arith)) ∙ h
 
     lasts-on : lasts t new ≡ lasts s n
     lasts-on = blocks-agree (last_of t new) (last_of s n) s.p t.p stays.same_p held.last_same

@@ -53,7 +53,7 @@ decode_by-written p ceiling cpu epoch g range r most below sized header commit s
       committed = ap is_zero commit ∙ is_zero-commit_of epoch;
       faultless = all_none _ _ _
           (ap (λ t. if t then None else Some Header) (both (is_zero (block_at g 0)) (is_sized l g) header (eq-eqb (length g) (2 + 2 * copy_blocks p) sized)))
-          (ap (λ b. commit_fault b ceiling) commit ∙ commit_fault-commit_of epoch ceiling below most)
+          (ap (λ b. commit_fault (block_at g 0) b ceiling) commit ∙ commit_fault-commit_of (block_at g 0) epoch ceiling below most)
           (ap (λ x. record_fault (slot_in l g) x p ceiling) e ∙ record_fault-back p ceiling cpu epoch (slot_in l g) r room most small slot);
       of_epoch = e;
       state_is = ap (λ c. state_from p c (memory_in l g)) (cpu_of_record-back p ceiling cpu epoch (slot_in l g) r room most small slot);

@@ -2,5 +2,5 @@ pub mod LayoutLemmas
 pub mod IssuingLemmas
 pub mod KeepsLemmas
 pub mod AlternatingLemmas
-pub mod VersionOneLemmas
-pub mod VersionOnePartsLemmas
+pub mod RemappedLemmas
+pub mod RemappedPartsLemmas

@@ -36,7 +36,7 @@ alternating p ceiling = record {
   slot_blocks = λ commit. record_blocks p;
   place = λ commit slot i. copy_place p (epoch_of commit) + record_blocks p + i;
   header_bad = λ header sized. if is_zero header && sized then None else Some Header;
-  commit_bad = λ header commit. commit_fault commit ceiling;
+  commit_bad = λ header commit. commit_fault header commit ceiling;
   slot_bad = λ commit slot. record_fault slot (epoch_of commit) p ceiling;
   state_from = λ slot memory. state_from p (cpu_of_record slot) memory;
 }

@@ -4,5 +4,5 @@ pub mod Keeps
 pub mod Moves
 pub mod Alternating
 pub mod Laws
-pub mod VersionOne
-pub mod VersionOneParts
+pub mod Remapped
+pub mod RemappedParts

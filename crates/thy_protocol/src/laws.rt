@@ -2,8 +2,8 @@
 ghost use Rattle.thy_protocol.specs.Alternating.{WrittenDecodes, StartIsCommitted};
 ghost use Rattle.thy_protocol.specs.Issuing.{IssuingBegins, SlotGoesOn, ElsewhereKeepsIssued, DrainKeepsIssued, IssuedIsCheckpoint};
 ghost use Rattle.thy_protocol.specs.Laws.{LookedDecides, CopiesLookAlike, ZeroIsNothing, NothingIsZero, WholeDecodes, DecodedIsWhole, KeptIsSafe, KeptIsSafeForBoth, FirstIsTold, BootShows, MovesAreSafe, CutKeeps, EmptyKeeps, ActionSpares, FailedActionSpares};
-ghost use Rattle.thy_protocol.specs.VersionOne.{DecodesSame, LooksSame};
-ghost use Rattle.thy_protocol.specs.VersionOneParts.{IssuedDecodes};
+ghost use Rattle.thy_protocol.specs.Remapped.{DecodesSame, LooksSame};
+ghost use Rattle.thy_protocol.specs.RemappedParts.{IssuedDecodes};
 
 /// A copy of an image, at all places that determine what it means, means the same, and the same places determine it.
 pub fn copies_mean_the_same()
@@ -73,14 +73,15 @@ pub fn a_layout_of_two_copies_serves()
     ensures commits { StartIsCommitted }
 {}
 
-/// Version 1 of images is such a layout: its images decode to the same, and the same places determine it.
-pub fn version_one_is_a_layout()
+/// The images of this program are such a layout, those of both versions: with the length of version 2 they decode to the same,
+/// and the same places tell it.
+pub fn remapped_is_a_layout()
     ensures decodes { DecodesSame }
     ensures looks { LooksSame }
 {}
 
-/// In version 1, with the whole slot issued, and under a header without a fault, however it was written, the next image
-/// decodes to the checkpoint and has its tables, and all blocks that determine it were issued.
-pub fn version_one_is_issued()
+/// In version 2, with the whole slot issued, and behind a header without a fault, whoever wrote it, the next image decodes
+/// to the checkpoint and tells its tables and counts, and all that tells it was issued.
+pub fn remapped_is_issued()
     ensures { IssuedDecodes }
 {}

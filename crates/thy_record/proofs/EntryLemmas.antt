@@ -32,20 +32,22 @@ Lists-inside table i n l = elim (cases_lt i (length table)) as (λ _. i < length
   | inr past ↦ let none : entry_at table i ≡ None = get_or_past table i None past in let is = l.is in cc
 ]
 
-none_at : (t : Option ℕ → Bool) (k : ℕ) (xs : List (Option ℕ)) (i : ℕ) → position_from t k xs ≡ None → i < length xs → t (get_or xs i None) ≡ false
-none_at t k [] i h l = absurd (omega arith)
-none_at t k (x ∷ xs) zero h l =
+-- where no element passes a test, each fails it
+pub none_at : {X : Type 0} (t : X → Bool) (k : ℕ) (xs : List X) (i : ℕ) (d : X)
+    → position_from t k xs ≡ None → i < length xs → t (get_or xs i d) ≡ false
+none_at t k [] i d h l = absurd (omega arith)
+none_at t k (x ∷ xs) zero d h l =
     let cases : (b : Bool) → cond b (Some k) (position_from t (k + 1) xs) ≡ None → b ≡ false = λ b. elim b as (λ b. cond b (Some k) (position_from t (k + 1) xs) ≡ None → b ≡ false) [ true ↦ λ e. cc | false ↦ λ e. refl ] in
     cases (t x) h
-none_at t k (x ∷ xs) (suc i) h l =
+none_at t k (x ∷ xs) (suc i) d h l =
     let cases : (b : Bool) → cond b (Some k) (position_from t (k + 1) xs) ≡ None → position_from t (k + 1) xs ≡ None = λ b. elim b as (λ b. cond b (Some k) (position_from t (k + 1) xs) ≡ None → position_from t (k + 1) xs ≡ None) [ true ↦ λ e. cc | false ↦ λ e. e ] in
-    none_at t (k + 1) xs i (cases (t x) h) (omega arith)
+    none_at t (k + 1) xs i d (cases (t x) h) (omega arith)
 
 -- if none is found, no entry lists the number
 pub entry_of-None : (table : List (Option ℕ)) (n i : ℕ) → entry_of table n ≡ None → Lists table i n → ⊥
 entry_of-None table n i h l =
     let none : is_entry_of n (entry_at table i) ≡ false
-    = none_at (is_entry_of n) 0 table i (sym (position_from-zero (is_entry_of n) table) ∙ h) (Lists-inside table i n l) in
+    = none_at (is_entry_of n) 0 table i None (sym (position_from-zero (is_entry_of n) table) ∙ h) (Lists-inside table i n l) in
     let some : is_entry_of n (entry_at table i) ≡ true = test_of_listed n (entry_at table i) l.is in
     cc
 

@@ -1,15 +1,17 @@
 -- The blocks of bytes: their words, tables in them, and slots of an image.
-use Rattle.std.proofs.Common.{◌≡◌, ℕ, ◌+◌, ◌-◌, ◌*◌, ◌/◌, ◌%◌, ◌<◌, ◌≤◌, List, length, take, drop, None, sym, ◌∙◌, ap, arith, ◌==◌, if◌then◌else◌, inl, inr}
-use Rattle.std.proofs.lemmas.Bool.{cases_eq, eq-eqb, ne_eqb, le-ltb}
-use Rattle.std.proofs.lemmas.List.{take_all, ext_get_or, length-drop, length-take-le, drop-drop, drop-take, take-take, length-map}
+use Rattle.std.proofs.Common.{◌≡◌, ◌⊎◌, ℕ, zero, suc, ◌+◌, ◌-◌, ◌*◌, ◌/◌, ◌%◌, ◌<◌, ◌≤◌, Bool, true, false, ◌&&◌, ◌||◌, List, length, map, take, drop, slice_index_or, None, refl, sym, ◌∙◌, ap, subst, arith, ◌==◌, if◌then◌else◌, inl, inr}
+use Rattle.std.proofs.lemmas.Bool.{eq-eqb, eqb-true, le-ltb}
+use Rattle.std.proofs.lemmas.List.{take_all, ext_get_or, get_or-take, get_or-drop, length-drop, length-take-le, drop-drop, drop-take, take-take, length-map}
 use Rattle.std.proofs.lemmas.List.FromFn.{length-map-range_with_len, get_or-map-range_with_len, length-range_with_len}
 use Rattle.std.specs.List.{range_with_len}
 use Rattle.thy_base.specs.declared.block.Block.{Block}
 use Rattle.thy_base.specs.declared.config.Parameters.{Parameters}
+use Rattle.thy_base.specs.declared.form.Form.{Form}
+use Rattle.thy_base.specs.declared.form.Form.TheVariants.{One, Two}
 use Rattle.thy_base.specs.Blocks.{block_bytes}
 use Rattle.thy_base.specs.Device.{zero_block, block_at}
 use Rattle.thy_base.specs.LittleEndian.{number_at}
-use Rattle.thy_base.specs.Places.{slot_blocks, slot_place, image_blocks}
+use Rattle.thy_base.specs.Places.{record_blocks, table_blocks, count_blocks, blocks_of_slot, place_of_slot, blocks_one, image_blocks}
 use Rattle.thy_base.proofs.BlockLemmas.{length-block_bytes, block_bytes-long}
 use Rattle.thy_base.proofs.LittleEndianLemmas.{number_at-take, number_at-drop}
 use Rattle.thy_flat.specs.Flat.{flat, AllLong}
@@ -17,14 +19,14 @@ use Rattle.thy_flat.proofs.FlatLemmas.{length-flat, flat_part}
 use Rattle.thy_record.specs.declared.bad_image.BadImage.TheVariants.{Empty}
 use Rattle.thy_record.specs.Decoded.{Refused}
 use Rattle.thy_base.specs.Words.{word_of}
-use Rattle.thy_record.specs.Commit.{epoch_of}
+use Rattle.thy_record.specs.Commit.{epoch_of, form_of}
 use Rattle.thy_record.specs.Cpu.{record_word}
 use Rattle.thy_record.specs.TableBlocks.{entry_from}
-use Rattle.thy_record.specs.Files.{block_in, blocks_of, table_in, decode_file}
-use Rattle.thy_record.specs.Images.{slot_in, decode_with, decode_image}
-use Rattle.thy_record.specs.Slots.{entries_in}
+use Rattle.thy_record.specs.Files.{block_in, blocks_of, table_in, is_long_file, decode_file}
+use Rattle.thy_record.specs.Images.{slot_numbers, slot_in, decode_with, is_one, is_long, decode_image}
+use Rattle.thy_record.specs.Slots.{entries_in, count_byte}
 use Rattle.thy_record.proofs.ClashLemmas.{length-table_in, entry_at-table_in}
-use Rattle.thy_record.proofs.ImageLemmas.{block_at-slot_in}
+use Rattle.thy_record.proofs.ImageLemmas.{block_at-numbers}
 use Rattle.thy_record.proofs.SlotLemmas.{length-entries_in, entry_at-entries_in}
 
 pub length-blocks_of : (bytes : List ℕ) → length (blocks_of bytes) ≡ length bytes / 64
@@ -75,32 +77,79 @@ block_in-part bytes s n k l =
     ∙ ap (take 64) (drop-drop (64 * k) (64 * s) bytes ∙ ap (λ m. drop m bytes) at) in
     ap (λ bytes. record { 0 = bytes }) same
 
-half_inside : (p : Parameters) (s : ℕ) → s < 2 → slot_place p s + slot_blocks p ≤ image_blocks p
-half_inside p s l = grind arith
+or_cases : (a b : Bool) → (a || b) ≡ true → (a ≡ true) ⊎ (b ≡ true)
+or_cases true b h = inl refl
+or_cases false b h = inr h
 
--- the slot of an image's checkpoint in its bytes
-pub blocks_of-slot : (p : Parameters) (bytes : List ℕ) → length bytes ≡ 64 * image_blocks p
-    → blocks_of (take (64 * slot_blocks p) (drop (64 * slot_place p (epoch_of (block_at (blocks_of bytes) 1) % 2)) bytes)) ≡ slot_in p (blocks_of bytes)
-blocks_of-slot p bytes long =
-    let s : ℕ = slot_place p (epoch_of (block_at (blocks_of bytes) 1) % 2) in
-    let inside = half_inside p (epoch_of (block_at (blocks_of bytes) 1) % 2) (omega arith) in
-    let n : ℕ = slot_blocks p in
-    let part : length (take (64 * slot_blocks p) (drop (64 * slot_place p (epoch_of (block_at (blocks_of bytes) 1) % 2)) bytes)) ≡ 64 * slot_blocks p
-    = length-take-le (64 * slot_blocks p) (drop (64 * slot_place p (epoch_of (block_at (blocks_of bytes) 1) % 2)) bytes)
-    (omega (arith, length-drop (64 * slot_place p (epoch_of (block_at (blocks_of bytes) 1) % 2)) bytes)) in
-    let left : length (blocks_of (take (64 * slot_blocks p) (drop (64 * slot_place p (epoch_of (block_at (blocks_of bytes) 1) % 2)) bytes))) ≡ slot_blocks p
-    = omega (arith, length-blocks_of (take (64 * slot_blocks p) (drop (64 * slot_place p (epoch_of (block_at (blocks_of bytes) 1) % 2)) bytes)), part) in
-    let right : length (slot_in p (blocks_of bytes)) ≡ slot_blocks p
-    = length-map (range_with_len (slot_place p (epoch_of (block_at (blocks_of bytes) 1) % 2)) (slot_blocks p)) (block_at (blocks_of bytes))
-    ∙ length-range_with_len (slot_place p (epoch_of (block_at (blocks_of bytes) 1) % 2)) (slot_blocks p) in
-    ext_get_or zero_block (blocks_of (take (64 * slot_blocks p) (drop (64 * slot_place p (epoch_of (block_at (blocks_of bytes) 1) % 2)) bytes)))
-    (slot_in p (blocks_of bytes)) (left ∙ sym right)
+and_cases : (a b : Bool) → (a && b) ≡ true → (a ≡ true) × (b ≡ true)
+and_cases true b h = (refl, h)
+and_cases false b h = cc
+
+-- an image has the blocks of version 1 in any case, and behind them those of version 2 unless its commit block is of version 1
+pub long_enough : (p : Parameters) (form : Form) (n : ℕ) → (n == image_blocks p || (is_one form && n == blocks_one p)) ≡ true → blocks_one p ≤ n
+long_enough p form n h = elim (or_cases (n == image_blocks p) (is_one form && n == blocks_one p) h) as (λ _. blocks_one p ≤ n) [
+  | inl whole ↦ let e : n ≡ image_blocks p = eqb-true _ _ whole in omega arith
+  | inr old ↦ let e : n ≡ blocks_one p = eqb-true _ _ (and_cases (is_one form) (n == blocks_one p) old).1 in omega arith
+]
+
+slot_inside : (p : Parameters) (form : Form) (n s : ℕ) → (n == image_blocks p || (is_one form && n == blocks_one p)) ≡ true → s < 2
+    → place_of_slot form p s + blocks_of_slot form p ≤ n
+slot_inside p One n zero h l = let most = long_enough p One n h in omega arith
+slot_inside p One n (suc zero) h l = let most = long_enough p One n h in omega arith
+slot_inside p One n (suc (suc s)) h l = absurd (omega arith)
+slot_inside p Two n zero h l = elim (or_cases (n == image_blocks p) (is_one Two && n == blocks_one p) h) as (λ _. place_of_slot Two p 0 + blocks_of_slot Two p ≤ n) [
+  | inl whole ↦ let e : n ≡ image_blocks p = eqb-true _ _ whole in omega arith
+  | inr old ↦ cc
+]
+slot_inside p Two n (suc zero) h l = elim (or_cases (n == image_blocks p) (is_one Two && n == blocks_one p) h) as (λ _. place_of_slot Two p 1 + blocks_of_slot Two p ≤ n) [
+  | inl whole ↦ let e : n ≡ image_blocks p = eqb-true _ _ whole in omega arith
+  | inr old ↦ cc
+]
+slot_inside p Two n (suc (suc s)) h l = absurd (omega arith)
+
+-- the bytes of a file as long as an image are whole blocks, and so many
+pub record HasLength (p : Parameters) (bytes : List ℕ) : Type 0 where
+  pub whole : length bytes % 64 ≡ 0
+  pub long : is_long p (block_at (blocks_of bytes) 1) (length bytes / 64) ≡ true
+
+pub HasLength-file : (p : Parameters) (bytes : List ℕ) → is_long_file p bytes ≡ true → HasLength p bytes
+HasLength-file p bytes h =
+    let parts = and_cases (length bytes % 64 == 0) (is_long p (block_at (blocks_of bytes) 1) (length bytes / 64)) h in
+    record { whole = eqb-true _ _ parts.0; long = parts.1 }
+
+-- n blocks of bytes from block x on
+pub blocks_of-part : (bytes : List ℕ) (x n : ℕ) → x + n ≤ length bytes / 64
+    → blocks_of (take (64 * n) (drop (64 * x) bytes)) ≡ map (block_at (blocks_of bytes)) (range_with_len x n)
+blocks_of-part bytes x n inside =
+    let part : length (take (64 * n) (drop (64 * x) bytes)) ≡ 64 * n
+    = length-take-le (64 * n) (drop (64 * x) bytes) (omega (arith, length-drop (64 * x) bytes)) in
+    let left : length (blocks_of (take (64 * n) (drop (64 * x) bytes))) ≡ n = omega (arith, length-blocks_of (take (64 * n) (drop (64 * x) bytes)), part) in
+    let right : length (map (block_at (blocks_of bytes)) (range_with_len x n)) ≡ n
+    = length-map (range_with_len x n) (block_at (blocks_of bytes)) ∙ length-range_with_len x n in
+    ext_get_or zero_block (blocks_of (take (64 * n) (drop (64 * x) bytes))) (map (block_at (blocks_of bytes)) (range_with_len x n)) (left ∙ sym right)
     (λ k below.
-    let l : k < slot_blocks p = omega (arith, left) in
-    block_at-blocks_of (take (64 * slot_blocks p) (drop (64 * slot_place p (epoch_of (block_at (blocks_of bytes) 1) % 2)) bytes)) k (omega (arith, part))
-    ∙ block_in-part bytes (slot_place p (epoch_of (block_at (blocks_of bytes) 1) % 2)) (slot_blocks p) k l
-    ∙ sym (block_at-blocks_of bytes (slot_place p (epoch_of (block_at (blocks_of bytes) 1) % 2) + k) (omega arith))
-    ∙ sym (block_at-slot_in p (blocks_of bytes) k l))
+    let l : k < n = omega (arith, left) in
+    block_at-blocks_of (take (64 * n) (drop (64 * x) bytes)) k (omega (arith, part))
+    ∙ block_in-part bytes x n k l
+    ∙ sym (block_at-blocks_of bytes (x + k) (omega arith))
+    ∙ sym (block_at-numbers (block_at (blocks_of bytes)) x n k l))
+
+-- the slot of an image's checkpoint stands in its bytes
+pub slot_in_file : (p : Parameters) (bytes : List ℕ) (commit : Block) (s : ℕ) → is_long_file p bytes ≡ true → commit ≡ block_at (blocks_of bytes) 1
+    → s < 2 → place_of_slot (form_of commit) p s + blocks_of_slot (form_of commit) p ≤ length bytes / 64
+slot_in_file p bytes commit s h is l =
+    subst (λ c. place_of_slot (form_of c) p s + blocks_of_slot (form_of c) p ≤ length bytes / 64) (sym is)
+    (slot_inside p (form_of (block_at (blocks_of bytes) 1)) (length bytes / 64) s (HasLength-file p bytes h).long l)
+
+-- byte i of the counts of a slot
+pub count_byte-blocks_of : (p : Parameters) (bytes : List ℕ) (i x : ℕ) → length bytes ≡ 64 * blocks_of_slot Two p → i < 64 * count_blocks p
+    → x ≡ 64 * (record_blocks p + table_blocks p) + i → slice_index_or bytes x 0 ≡ count_byte p (blocks_of bytes) i
+count_byte-blocks_of p bytes i x long l is =
+    let at : x ≡ 64 * (5 + table_blocks p + i / 64) + i % 64 = omega arith in
+    ap (λ y. slice_index_or bytes y 0) at
+    ∙ sym (ap (λ (b : Block). slice_index_or b.0 (i % 64) 0) (block_at-blocks_of bytes (5 + table_blocks p + i / 64) (omega arith))
+    ∙ get_or-take 64 (drop (64 * (5 + table_blocks p + i / 64)) bytes) (i % 64) 0 (omega arith)
+    ∙ get_or-drop (64 * (5 + table_blocks p + i / 64)) bytes (i % 64) 0)
 
 -- ---- as the code cuts the bytes
 
@@ -109,13 +158,17 @@ pub table_in-slice : (bytes : List ℕ) (m x first n : ℕ) → m ≡ 8 * n → 
 table_in-slice bytes m x first n e f inside =
     ap (λ k. table_in (take k (drop x bytes))) e ∙ ap (λ k. table_in (take (8 * n) (drop k bytes))) f ∙ table_in-part bytes first n inside
 
-pub slot-slice : (p : Parameters) (bytes : List ℕ) (m x s : ℕ) (commit : Block) → length bytes ≡ 64 * image_blocks p
-    → commit ≡ block_at (blocks_of bytes) 1 → s ≡ epoch_of commit → m ≡ 64 * slot_blocks p → x ≡ 64 * slot_place p (s % 2)
+pub slot-slice : (p : Parameters) (bytes : List ℕ) (m x epoch : ℕ) (commit : Block) → is_long_file p bytes ≡ true
+    → commit ≡ block_at (blocks_of bytes) 1 → epoch ≡ epoch_of commit → m ≡ 64 * blocks_of_slot (form_of commit) p
+    → x ≡ 64 * place_of_slot (form_of commit) p (epoch % 2)
     → blocks_of (take m (drop x bytes)) ≡ slot_in p (blocks_of bytes)
-slot-slice p bytes m x s commit long is named e f =
+slot-slice p bytes m x epoch commit long is named e f =
     ap (λ k. blocks_of (take k (drop x bytes))) e
-    ∙ ap (λ k. blocks_of (take (64 * slot_blocks p) (drop k bytes))) (f ∙ ap (λ k. 64 * slot_place p (k % 2)) (named ∙ ap epoch_of is))
-    ∙ blocks_of-slot p bytes long
+    ∙ ap (λ k. blocks_of (take (64 * blocks_of_slot (form_of commit) p) (drop k bytes))) f
+    ∙ blocks_of-part bytes (place_of_slot (form_of commit) p (epoch % 2)) (blocks_of_slot (form_of commit) p)
+    (slot_in_file p bytes commit (epoch % 2) long is (omega arith))
+    ∙ ap (λ k. map (block_at (blocks_of bytes)) (range_with_len (place_of_slot (form_of commit) p (k % 2)) (blocks_of_slot (form_of commit) p))) named
+    ∙ ap (λ c. map (block_at (blocks_of bytes)) (slot_numbers p c)) is
 
 -- ---- a file of an image's bytes
 
@@ -136,18 +189,20 @@ blocks_of-flat image long =
     ∙ block_bytes-long (block_at image k) one in
     block_at-blocks_of (flat image) k (omega (arith, all)) ∙ ap (λ bytes. record { 0 = bytes }) bytes)
 
-same_test : (n m : ℕ) → (64 * n == 64 * m) ≡ (n == m)
-same_test n m = elim (cases_eq n m) as (λ _. (64 * n == 64 * m) ≡ (n == m)) [
-  | inl e ↦ eq-eqb _ _ (ap (λ x. 64 * x) e) ∙ sym (eq-eqb n m e)
-  | inr other ↦ ne_eqb _ _ (λ e. other (omega arith)) ∙ sym (ne_eqb n m other)
-]
+long_flat : (p : Parameters) (image : List Block) → AllLong image → is_long_file p (flat image) ≡ is_long p (block_at image 1) (length image)
+long_flat p image long =
+    let all = length-flat image in
+    let whole : length (flat image) % 64 ≡ 0 = omega (arith, all) in
+    let count : length (flat image) / 64 ≡ length image = omega (arith, all) in
+    ap (λ t. t && is_long p (block_at (blocks_of (flat image)) 1) (length (flat image) / 64)) (eq-eqb _ _ whole)
+    ∙ ap (is_long p (block_at (blocks_of (flat image)) 1)) count
+    ∙ ap (λ g. is_long p (block_at g 1) (length image)) (blocks_of-flat image long)
 
 pub decode_file-flat : (p : Parameters) (ceiling : ℕ) (image : List Block) → AllLong image → 2 ≤ length image
     → decode_file p ceiling (flat image) ≡ decode_image p ceiling image
 decode_file-flat p ceiling image long some =
     let all = length-flat image in
-    ap (λ b. if b then Refused Empty else decode_with p ceiling (length (flat image) == 64 * image_blocks p) (blocks_of (flat image)))
+    ap (λ b. if b then Refused Empty else decode_with p ceiling (is_long_file p (flat image)) (blocks_of (flat image)))
     (le-ltb (length (flat image)) 128 (omega (arith, all)))
-    ∙ ap (λ n. decode_with p ceiling (n == 64 * image_blocks p) (blocks_of (flat image))) all
-    ∙ ap (λ b. decode_with p ceiling b (blocks_of (flat image))) (same_test (length image) (image_blocks p))
-    ∙ ap (decode_with p ceiling (length image == image_blocks p)) (blocks_of-flat image long)
+    ∙ ap (λ b. decode_with p ceiling b (blocks_of (flat image))) (long_flat p image long)
+    ∙ ap (decode_with p ceiling (is_long p (block_at image 1) (length image))) (blocks_of-flat image long)

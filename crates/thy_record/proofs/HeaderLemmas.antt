@@ -30,7 +30,7 @@ pub header_fault-header_of : (p : Parameters) → IsInRange p → header_fault (
 unfolding header_fault
 header_fault-header_of p r =
     taken _ _ _ (eq-eqb _ _ (header_word p 0 header_magic (omega arith) refl (omega arith)))
-    ∙ taken _ _ _ (eq-eqb _ _ (header_word p 1 1 (omega arith) refl (omega arith)))
+    ∙ taken _ _ _ (eq-eqb _ _ (header_word p 1 2 (omega arith) refl (omega arith)))
     ∙ taken _ _ _ (both _ _ (is_of_geometry-header_of p r) refl)
 
 last_asks : (a b c long : Bool)
@@ -44,4 +44,4 @@ last_asks false b c long h = cc
 -- a header without fault is that of an image of its length
 pub header_fault-long : (b : Block) (p : Parameters) (long : Bool) → header_fault b p long ≡ None → long ≡ true
 unfolding header_fault
-header_fault-long b p long h = last_asks (word_of b 0 == header_magic) (word_of b 1 == 1) (is_of_geometry b p) long h
+header_fault-long b p long h = last_asks (word_of b 0 == header_magic) (word_of b 1 == 2) (is_of_geometry b p) long h

@@ -6,14 +6,16 @@ use Rattle.std.proofs.lemmas.List.FromFn.{length-range_with_len, get_or-range_wi
 use Rattle.std.specs.List.{range_with_len}
 use Rattle.thy_base.specs.declared.block.Block.{Block}
 use Rattle.thy_base.specs.declared.config.Parameters.{Parameters}
+use Rattle.thy_base.specs.declared.form.Form.{Form}
+use Rattle.thy_base.specs.declared.form.Form.TheVariants.{One, Two}
 use Rattle.thy_base.specs.declared.place.Place.{Place}
 use Rattle.thy_base.specs.declared.place.Place.TheVariants.{Home, AlternateBlock, AlternatePage}
 use Rattle.thy_base.specs.Device.{Device, zero_block, block_at, newest}
 use Rattle.thy_base.specs.Geometry.{memory_blocks}
-use Rattle.thy_base.specs.Places.{in_dram, number_of, IsPlace, slot_blocks, slot_place, first_home, image_blocks}
+use Rattle.thy_base.specs.Places.{in_dram, number_of, IsPlace, blocks_of_slot, place_of_slot, slot_blocks, slot_place, first_home, blocks_one}
 use Rattle.thy_base.specs.Store.{page_of}
-use Rattle.thy_base.proofs.PlaceLemmas.{numbers_tell, behind_slots}
-use Rattle.thy_record.specs.Commit.{is_zero, epoch_of}
+use Rattle.thy_base.proofs.PlaceLemmas.{numbers_tell, between_slots}
+use Rattle.thy_record.specs.Commit.{is_zero, epoch_of, form_of}
 use Rattle.thy_record.specs.Images.{slot_numbers, slot_in, memory_numbers, looked}
 use Rattle.thy_record.specs.Issuing.{Target, SlotBlock, PlaceBlock, target_number, IsTarget, IsUnused, IsFree, IsToldBy, memory_read, HasMemory}
 use Rattle.thy_record.specs.Slots.{tables_in}
@@ -22,12 +24,12 @@ use Rattle.thy_record.proofs.EntryLemmas.{entry_of-Some, entry_of-None, IsPlace-
 
 -- ---- the numbers of memory's places
 
-length-memory_numbers : (p : Parameters) (t : Tables) → (let xs : List ℕ = memory_numbers p t in length xs) ≡ memory_blocks p
+pub length-memory_numbers : (p : Parameters) (t : Tables) → (let xs : List ℕ = memory_numbers p t in length xs) ≡ memory_blocks p
 length-memory_numbers p t =
     length-map (range_with_len 0 (memory_blocks p)) (λ b. number_of p (place_of t b)) ∙ length-range_with_len 0 (memory_blocks p)
 
 -- the k-th is the number of block k's place
-memory_number : (p : Parameters) (t : Tables) (k otherwise : ℕ) → k < memory_blocks p
+pub memory_number : (p : Parameters) (t : Tables) (k otherwise : ℕ) → k < memory_blocks p
     → (let xs : List ℕ = memory_numbers p t in get_or xs k otherwise) ≡ number_of p (place_of t k)
 memory_number p t k otherwise l =
     let plain : 0 + k ≡ k = omega arith in
@@ -42,15 +44,15 @@ memory_number_of p t x (k, l, is) =
     let inside : k < memory_blocks p = omega (arith, length-memory_numbers p t) in
     (k, inside, sym (memory_number p t k x inside) ∙ is)
 
--- which is after the slots, within the image
-pub memory_behind : (p : Parameters) (t : Tables) (x : ℕ) → IsTables p t → Contains (memory_numbers p t) x → (first_home p ≤ x) × (x < image_blocks p)
-memory_behind p t x s inside =
+-- which lies between the slots of version 1 and those of version 2
+pub memory_between : (p : Parameters) (t : Tables) (x : ℕ) → IsTables p t → Contains (memory_numbers p t) x → (first_home p ≤ x) × (x < blocks_one p)
+memory_between p t x s inside =
     let of = memory_number_of p t x inside in
-    let behind = behind_slots p (place_of t of.0) (IsPlace-place_of p t of.0 s of.1) (in_dram-place_of t of.0) in
-    let low = behind.0 in
-    let high = behind.1 in
+    let between = between_slots p (place_of t of.0) (IsPlace-place_of p t of.0 s of.1) (in_dram-place_of t of.0) in
+    let low = between.0 in
+    let high = between.1 in
     let e = of.2 in
-    (subst (λ y. first_home p ≤ y) e low, subst (λ y. y < image_blocks p) e high)
+    (subst (λ y. first_home p ≤ y) e low, subst (λ y. y < blocks_one p) e high)
 
 -- a place that no block uses is none of them
 unused_apart : (p : Parameters) (t : Tables) (x : Place) → IsTables p t → IsPlace p x → in_dram x ≡ false → IsUnused p t x
@@ -65,10 +67,15 @@ slot_number_of first n x (k, l, is) =
     let inside : k < n = omega (arith, length-range_with_len first n) in
     (k, inside, sym (get_or-range_with_len first n k x inside) ∙ is)
 
-pub slot_behind : (p : Parameters) (s k : ℕ) → s < 2 → k < slot_blocks p → (2 ≤ slot_place p s + k) × (slot_place p s + k < first_home p)
-slot_behind p zero k l m = (omega arith, omega arith)
-slot_behind p (suc zero) k l m = (omega arith, omega arith)
-slot_behind p (suc (suc s)) k l m = absurd (omega arith)
+-- those of version 1 lie before the homes, those of version 2 behind all places
+pub old_slot_before : (p : Parameters) (s k : ℕ) → s < 2 → k < blocks_of_slot One p
+    → (2 ≤ place_of_slot One p s + k) × (place_of_slot One p s + k < first_home p)
+old_slot_before p zero k l m = (omega arith, omega arith)
+old_slot_before p (suc zero) k l m = (omega arith, omega arith)
+old_slot_before p (suc (suc s)) k l m = absurd (omega arith)
+
+pub slot_behind : (p : Parameters) (s k : ℕ) → blocks_one p ≤ slot_place p s + k
+slot_behind p s k = omega arith
 
 slots_apart : (p : Parameters) (s r k i : ℕ) → s < 2 → r < 2 → k < slot_blocks p → i < slot_blocks p → s ≢ r → slot_place p s + k ≢ slot_place p r + i
 slots_apart p zero zero k i l m n o other = λ e. other refl
@@ -130,24 +137,33 @@ pub half : (epoch : ℕ) → epoch % 2 < 2
 half epoch = omega arith
 
 target_behind : (p : Parameters) (x : Target) → IsTarget p x → 2 ≤ target_number p x
-target_behind p (SlotBlock s k) there = (slot_behind p s k there.0 there.1).0
-target_behind p (PlaceBlock x) there = let behind = (behind_slots p x there.0 there.1).0 in omega arith
+target_behind p (SlotBlock s k) there = let behind = slot_behind p s k in omega arith
+target_behind p (PlaceBlock x) there = let between = (between_slots p x there.0 there.1).0 in omega arith
 
-free_of_slot : (p : Parameters) (epoch : ℕ) (t : Tables) (x : Target) → IsTarget p x → IsFree p epoch t x
-    → (k : ℕ) → k < slot_blocks p → slot_place p (epoch % 2) + k ≢ target_number p x
-free_of_slot p epoch t (SlotBlock s i) there free k l = slots_apart p (epoch % 2) s k i (half epoch) there.0 l there.1 (λ e. free (sym e))
-free_of_slot p epoch t (PlaceBlock x) there free k l = λ e.
-    let before = (slot_behind p (epoch % 2) k (half epoch) l).1 in
-    let behind = (behind_slots p x there.0 there.1).0 in
+free_of_slot : (p : Parameters) (form : Form) (epoch : ℕ) (t : Tables) (x : Target) → IsTarget p x → IsFree p form epoch t x
+    → (k : ℕ) → k < blocks_of_slot form p → place_of_slot form p (epoch % 2) + k ≢ target_number p x
+free_of_slot p One epoch t (SlotBlock s i) there free k l = λ e.
+    let before = (old_slot_before p (epoch % 2) k (half epoch) l).1 in
+    let behind = slot_behind p s i in
     omega (arith, before, behind, e)
+free_of_slot p Two epoch t (SlotBlock s i) there free k l = slots_apart p (epoch % 2) s k i (half epoch) there.0 l there.1 (λ e. free (sym e))
+free_of_slot p One epoch t (PlaceBlock x) there free k l = λ e.
+    let before = (old_slot_before p (epoch % 2) k (half epoch) l).1 in
+    let between = (between_slots p x there.0 there.1).0 in
+    omega (arith, before, between, e)
+free_of_slot p Two epoch t (PlaceBlock x) there free k l = λ e.
+    let behind = slot_behind p (epoch % 2) k in
+    let between = (between_slots p x there.0 there.1).1 in
+    omega (arith, behind, between, e)
 
-free_of_memory : (p : Parameters) (epoch : ℕ) (t : Tables) (x : Target) → IsTables p t → IsTarget p x → IsFree p epoch t x
+free_of_memory : (p : Parameters) (form : Form) (epoch : ℕ) (t : Tables) (x : Target) → IsTables p t → IsTarget p x → IsFree p form epoch t x
     → Contains (memory_numbers p t) (target_number p x) → ⊥
-free_of_memory p epoch t (SlotBlock s k) tables there free inside =
-    let before = (slot_behind p s k there.0 there.1).1 in
-    let behind = (memory_behind p t (slot_place p s + k) tables inside).0 in
-    omega (arith, before, behind)
-free_of_memory p epoch t (PlaceBlock x) tables there free inside = unused_apart p t x tables there.0 there.1 free inside
+free_of_memory p form epoch t (SlotBlock s k) tables there free inside =
+    let behind = slot_behind p s k in
+    let between = (memory_between p t (slot_place p s + k) tables inside).1 in
+    omega (arith, behind, between)
+free_of_memory p One epoch t (PlaceBlock x) tables there free inside = unused_apart p t x tables there.0 there.1 free inside
+free_of_memory p Two epoch t (PlaceBlock x) tables there free inside = unused_apart p t x tables there.0 there.1 free inside
 
 not_first : (y x : ℕ) (xs : List ℕ) → x ≢ y → Contains (x ∷ xs) y → Contains xs y
 not_first y x xs other (zero, l, is) = absurd (other is)
@@ -174,14 +190,17 @@ free_looked p image y false far slot memory inside =
       | inr b ↦ memory b
     ]
 
-pub free_not_looked : (p : Parameters) (image : List Block) (epoch : ℕ) (t : Tables) (x : Target)
-    → IsToldBy p image epoch t → IsTarget p x → IsFree p epoch t x → Contains (1 ∷ looked p image) (target_number p x) → ⊥
-free_not_looked p image epoch t x told there free =
+pub free_not_looked : (p : Parameters) (image : List Block) (form : Form) (epoch : ℕ) (t : Tables) (x : Target)
+    → IsToldBy p image form epoch t → IsTarget p x → IsFree p form epoch t x → Contains (1 ∷ looked p image) (target_number p x) → ⊥
+free_not_looked p image form epoch t x told there free =
     free_looked p image (target_number p x) (is_zero (block_at image 1)) (target_behind p x there)
     (λ inside.
-    let of = slot_number_of (slot_place p (epoch_of (block_at image 1) % 2)) (slot_blocks p) (target_number p x) inside in
-    free_of_slot p epoch t x there free of.0 of.1 (sym (ap (λ e. slot_place p (e % 2) + of.0) told.of_epoch) ∙ of.2))
-    (λ inside. free_of_memory p epoch t x told.whole there free (subst (λ u. Contains (memory_numbers p u) (target_number p x)) told.tables inside))
+    let of = slot_number_of (place_of_slot (form_of (block_at image 1)) p (epoch_of (block_at image 1) % 2)) (blocks_of_slot (form_of (block_at image 1)) p)
+    (target_number p x) inside in
+    free_of_slot p form epoch t x there free of.0 (subst (λ f. of.0 < blocks_of_slot f p) told.of_form of.1)
+    (sym (ap (λ f. place_of_slot f p (epoch_of (block_at image 1) % 2) + of.0) told.of_form
+    ∙ ap (λ e. place_of_slot form p (e % 2) + of.0) told.of_epoch) ∙ of.2))
+    (λ inside. free_of_memory p form epoch t x told.whole there free (subst (λ u. Contains (memory_numbers p u) (target_number p x)) told.tables inside))
 
 pub nothing_looked : (p : Parameters) (image : List Block) (x : ℕ) → is_zero (block_at image 1) ≡ true → x ≢ 1 → Contains (1 ∷ looked p image) x → ⊥
 nothing_looked p image x z other inside =
@@ -218,8 +237,8 @@ places_of_memory p t n memory is = record {
 }
 
 -- no block of a slot is one of memory
-pub slot_of_memory : (p : Parameters) (t : Tables) (s k : ℕ) → IsTables p t → s < 2 → k < slot_blocks p → Contains (memory_numbers p t) (slot_place p s + k) → ⊥
-slot_of_memory p t s k tables l m inside =
-    let before = (slot_behind p s k l m).1 in
-    let behind = (memory_behind p t (slot_place p s + k) tables inside).0 in
-    omega (arith, before, behind)
+pub slot_of_memory : (p : Parameters) (t : Tables) (s k : ℕ) → IsTables p t → Contains (memory_numbers p t) (slot_place p s + k) → ⊥
+slot_of_memory p t s k tables inside =
+    let behind = slot_behind p s k in
+    let between = (memory_between p t (slot_place p s + k) tables inside).1 in
+    omega (arith, behind, between)

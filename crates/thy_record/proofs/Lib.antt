@@ -2,6 +2,7 @@ pub mod CpuLemmas
 pub mod ReadBackLemmas
 pub mod TableLemmas
 pub mod EntryLemmas
+pub mod CountLemmas
 pub mod TableFaultLemmas
 pub mod TableRefusalLemmas
 pub mod HeaderLemmas
@@ -11,4 +12,5 @@ pub mod ClashLemmas
 pub mod FileLemmas
 pub mod CheckLemmas
 pub mod IssuingLemmas
+pub mod IndexLemmas
 pub mod RestoredLemmas

@@ -1,9 +1,10 @@
 -- What is written reads back, and has no fault.
-use Rattle.std.proofs.Common.{◌≡◌, ℕ, zero, suc, ◌+◌, ◌-◌, ◌*◌, ◌/◌, ◌%◌, ◌^◌, ◌<◌, ◌≤◌, ◌==◌, ◌&&◌, true, false, Bool, nat_lt, nat_le, if◌then◌else◌, List, ◌∷◌, take, drop, slice_index, Some, None, refl, sym, ◌∙◌, ap, subst, inl, inr, arith}
+use Rattle.std.proofs.Common.{◌≡◌, ℕ, zero, suc, ◌+◌, ◌-◌, ◌*◌, ◌/◌, ◌%◌, ◌^◌, ◌<◌, ◌≤◌, ◌==◌, ◌&&◌, ◌||◌, true, false, Bool, nat_lt, nat_le, if◌then◌else◌, List, ◌∷◌, take, drop, slice_index, Some, None, refl, sym, ◌∙◌, ap, subst, inl, inr, arith}
 use Rattle.std.proofs.lemmas.Bool.{cases_lt, eq-eqb, lt-ltb, le-leb, leb-true}
 use Rattle.std.proofs.lemmas.List.{ext_get_or}
 use Rattle.thy_base.specs.declared.block.Block.{Block}
 use Rattle.thy_base.specs.declared.config.Parameters.{Parameters}
+use Rattle.thy_base.specs.declared.form.Form.TheVariants.{One, Two}
 use Rattle.thy_base.specs.Device.{zero_block, block_at}
 use Rattle.thy_base.specs.LittleEndian.{number_bytes}
 use Rattle.thy_base.specs.Geometry.{console_room}
@@ -12,7 +13,7 @@ use Rattle.thy_isa.specs.declared.state.Status.{Status}
 use Rattle.thy_isa.specs.declared.state.Status.TheVariants.{Running, Exited, Trapped}
 use Rattle.thy_record.specs.declared.bad_image.BadImage.TheVariants.{Commit, Status as BadStatus, ConsoleLength}
 use Rattle.thy_base.specs.Words.{word_of, block_of}
-use Rattle.thy_record.specs.Commit.{commit_magic, commit_words, commit_of, is_zero, epoch_of, has_zero_rest, commit_fault}
+use Rattle.thy_record.specs.Commit.{commit_magic, commit_words, commit_of, is_zero, epoch_of, form_of, is_named, has_zero_rest, commit_fault}
 use Rattle.thy_record.specs.Cpu.{status_tag, status_value, status_of, is_status, cpu_words, cpu_block_of, record_word, record_words, record_of, IsRecordOf, BeginsWithRecord, FitsRecord, cpu_of_record, epoch_of_record, record_fault, IsRecordable}
 use Rattle.thy_base.proofs.WordLemmas.{word_of-block_of}
 use Rattle.thy_record.proofs.CpuLemmas.{rest_words, cpu_words-reg, cpu_words-rest, block_words, length-block_words, record_words-at, length-record_words}
@@ -36,6 +37,17 @@ commit_word epoch i w l is fits = word_of-block_of (commit_words epoch) i l (sub
 pub epoch_of-commit_of : (epoch : ℕ) → epoch < 2 ^ 64 → epoch_of (commit_of epoch) ≡ epoch
 epoch_of-commit_of epoch l = commit_word epoch 1 epoch (omega arith) refl l
 
+-- it names version 2
+pub form_of-commit_of : (epoch : ℕ) → form_of (commit_of epoch) ≡ Two
+form_of-commit_of epoch =
+    let name : word_of (commit_of epoch) 0 ≡ commit_magic Two = commit_word epoch 0 (commit_magic Two) (omega arith) refl (omega arith) in
+    ap (λ w. if w == commit_magic One then One else Two) name
+
+is_named-commit_of : (header : Block) (epoch : ℕ) → is_named header (commit_of epoch) ≡ true
+is_named-commit_of header epoch =
+    ap (λ t. t || (word_of (commit_of epoch) 0 == commit_magic One && word_of header 1 == 1))
+    (eq-eqb _ _ (commit_word epoch 0 (commit_magic Two) (omega arith) refl (omega arith)))
+
 has_zero_rest-commit_of : (epoch : ℕ) → has_zero_rest (commit_of epoch) ≡ true
 has_zero_rest-commit_of epoch =
     both _ _
@@ -48,14 +60,15 @@ has_zero_rest-commit_of epoch =
     (eq-eqb _ _ (commit_word epoch 6 0 (omega arith) refl (omega arith)))
     (eq-eqb _ _ (commit_word epoch 7 0 (omega arith) refl (omega arith))))
 
--- a commit block of an epoch below the ceiling has no fault
-pub commit_fault-commit_of : (epoch ceiling : ℕ) → epoch < ceiling → ceiling ≤ 2 ^ 64 → commit_fault (commit_of epoch) ceiling ≡ None
+-- a commit block of an epoch below the ceiling has no fault behind any header
+pub commit_fault-commit_of : (header : Block) (epoch ceiling : ℕ) → epoch < ceiling → ceiling ≤ 2 ^ 64
+    → commit_fault header (commit_of epoch) ceiling ≡ None
 unfolding commit_fault
-commit_fault-commit_of epoch ceiling l most =
+commit_fault-commit_of header epoch ceiling l most =
     taken _ _ _
     (both _ _
     (both _ _
-    (eq-eqb _ _ (commit_word epoch 0 commit_magic (omega arith) refl (omega arith)))
+    (is_named-commit_of header epoch)
     (ap (λ e. nat_lt e ceiling) (epoch_of-commit_of epoch (omega arith)) ∙ lt-ltb epoch ceiling l))
     (has_zero_rest-commit_of epoch))
 

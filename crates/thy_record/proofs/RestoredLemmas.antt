@@ -1,6 +1,5 @@
 -- The state in a file: its processor, and its memory block by block.
-use Rattle.std.proofs.Common.{◌≡◌, ℕ, ◌+◌, ◌-◌, ◌*◌, ◌/◌, ◌%◌, ◌<◌, ◌≤◌, ◌==◌, Bool, true, false, nat_lt, if◌then◌else◌, List, ◌∷◌, ◌++◌, length, take, drop, Ok, sym, ◌∙◌, ap, arith}
-use Rattle.std.proofs.lemmas.Bool.{eqb-true, eq-eqb}
+use Rattle.std.proofs.Common.{◌≡◌, ℕ, ◌+◌, ◌-◌, ◌*◌, ◌/◌, ◌%◌, ◌<◌, ◌≤◌, Bool, true, false, nat_lt, if◌then◌else◌, List, ◌∷◌, ◌++◌, length, map, take, drop, slice_index_or, Ok, sym, ◌∙◌, ap, arith}
 use Rattle.std.proofs.lemmas.List.{length-map, length-drop, length-take-le, get_or-map, get_or-drop, ext_get_or, take_all}
 use Rattle.std.proofs.lemmas.List.FromFn.{length-range_with_len, get_or-range_with_len}
 use Rattle.std.specs.List.{range_with_len}
@@ -9,9 +8,9 @@ use Rattle.thy_base.specs.declared.config.Parameters.{Parameters}
 use Rattle.thy_base.specs.Blocks.{block_bytes}
 use Rattle.thy_base.specs.Device.{zero_block, block_at}
 use Rattle.thy_base.specs.Geometry.{IsInRange, memory_blocks, program_size}
-use Rattle.thy_base.specs.Places.{number_of, image_blocks}
+use Rattle.thy_base.specs.Places.{number_of, blocks_one}
 use Rattle.thy_base.proofs.BlockLemmas.{block_bytes-long}
-use Rattle.thy_base.proofs.PlaceLemmas.{behind_slots}
+use Rattle.thy_base.proofs.PlaceLemmas.{between_slots}
 use Rattle.thy_flat.specs.Flat.{flat, memory_bytes, console_bytes}
 use Rattle.thy_flat.proofs.FlatLemmas.{flat_more, flat-take, flat-drop}
 use Rattle.thy_isa.specs.declared.state.CpuState.{CpuState}
@@ -20,18 +19,20 @@ use Rattle.thy_isa.specs.Step.{State, state_with}
 use Rattle.thy_record.specs.declared.file.Found.TheVariants.{At as FoundAt}
 use Rattle.thy_record.specs.declared.bad_image.BadImage.TheVariants.{Empty}
 use Rattle.thy_base.specs.Words.{word_of}
-use Rattle.thy_record.specs.Commit.{is_zero, epoch_of}
+use Rattle.thy_record.specs.Commit.{is_zero, epoch_of, form_of}
 use Rattle.thy_record.specs.Cpu.{status_of, cpu_of_record, record_word, record_words}
 use Rattle.thy_record.specs.Decoded.{Decoded, Nothing, Refused, At}
-use Rattle.thy_record.specs.Files.{block_in, blocks_of, decode_file, found_in, HasCheckpointOf}
-use Rattle.thy_record.specs.Images.{slot_in, memory_numbers, memory_in, state_in, image_fault, decode_with, decode_image}
+use Rattle.thy_record.specs.Files.{block_in, blocks_of, is_long_file, decode_file, found_in, HasCheckpointOf}
+use Rattle.thy_record.specs.Images.{slot_in, memory_numbers, memory_in, state_in, image_fault, decode_with, is_long, decode_image}
+use Rattle.thy_record.specs.Index.{AreInside}
 use Rattle.thy_record.specs.Slots.{tables_in}
 use Rattle.thy_record.specs.Tables.{Tables, place_of, IsTables}
 use Rattle.thy_record.proofs.CpuLemmas.{record_words-at, length-record_words}
 use Rattle.thy_record.proofs.EntryLemmas.{IsPlace-place_of, in_dram-place_of}
-use Rattle.thy_record.proofs.FileLemmas.{length-blocks_of, block_at-blocks_of}
+use Rattle.thy_record.proofs.FileLemmas.{length-blocks_of, block_at-blocks_of, long_enough, HasLength-file}
 use Rattle.thy_record.proofs.HeaderLemmas.{header_fault-long}
 use Rattle.thy_record.proofs.ImageLemmas.{IsDecoded-at, at_back}
+use Rattle.thy_record.proofs.IssuingLemmas.{length-memory_numbers, memory_number}
 use Rattle.thy_record.proofs.ReadBackLemmas.{same_cpu}
 use Rattle.thy_record.proofs.TableFaultLemmas.{neither}
 use Rattle.thy_base.proofs.RangeLemmas.{console_below}
@@ -69,8 +70,8 @@ found_at (Refused bad) epoch h = cc
 found_at (At e s) epoch h = (s, let same : e ≡ epoch = cc in ap (λ x. At x s) same)
 
 whole_file : (p : Parameters) (ceiling : ℕ) (bytes : List ℕ) (short : Bool) (epoch : ℕ) (state : State)
-    → (if short then Refused Empty else decode_with p ceiling (length bytes == 64 * image_blocks p) (blocks_of bytes)) ≡ At epoch state
-    → decode_with p ceiling (length bytes == 64 * image_blocks p) (blocks_of bytes) ≡ At epoch state
+    → (if short then Refused Empty else decode_with p ceiling (is_long_file p bytes) (blocks_of bytes)) ≡ At epoch state
+    → decode_with p ceiling (is_long_file p bytes) (blocks_of bytes) ≡ At epoch state
 whole_file p ceiling bytes true epoch state h = cc
 whole_file p ceiling bytes false epoch state h = h
 
@@ -81,22 +82,27 @@ long_file p ceiling long image epoch state h =
     let found = at_back (is_zero (block_at image 1)) (image_fault p ceiling long image) (epoch_of (block_at image 1)) epoch (state_in p image) state h in
     header_fault-long (block_at image 0) p long (neither _ _ found.1).0
 
--- the file has the length of the geometry, and tables that a checkpoint may have
+-- the file has the length of an image, and tables that a checkpoint may have
 pub record IsWholeFile (p : Parameters) (bytes : List ℕ) : Type 0 where
-  pub long : length bytes ≡ 64 * image_blocks p
+  pub long : is_long_file p bytes ≡ true
+  pub places : blocks_one p ≤ length bytes / 64
   pub tables : IsTables p (tables_in p (slot_in p (blocks_of bytes)))
 
 pub IsWholeFile-found : (p : Parameters) (bytes : List ℕ) → HasCheckpointOf p bytes → IsWholeFile p bytes
 IsWholeFile-found p bytes h =
     let at = found_at (decode_file p h.ceiling bytes) h.epoch h.found in
-    let image = blocks_of bytes in
     let decodes = whole_file p h.ceiling bytes (nat_lt (length bytes) 128) h.epoch at.0 at.1 in
-    let is_long : (length bytes == 64 * image_blocks p) ≡ true = long_file p h.ceiling (length bytes == 64 * image_blocks p) (blocks_of bytes) h.epoch at.0 decodes in
-    let long : length bytes ≡ 64 * image_blocks p = eqb-true _ _ is_long in
-    let all : length (blocks_of bytes) ≡ image_blocks p = omega (arith, length-blocks_of bytes, long) in
+    let file : is_long_file p bytes ≡ true = long_file p h.ceiling (is_long_file p bytes) (blocks_of bytes) h.epoch at.0 decodes in
+    let has = HasLength-file p bytes file in
+    let long : is_long p (block_at (blocks_of bytes) 1) (length (blocks_of bytes)) ≡ true
+    = ap (is_long p (block_at (blocks_of bytes) 1)) (length-blocks_of bytes) ∙ has.long in
     let as_image : decode_image p h.ceiling (blocks_of bytes) ≡ At h.epoch at.0 =
-    ap (λ b. decode_with p h.ceiling b (blocks_of bytes)) (eq-eqb _ _ all ∙ sym is_long) ∙ decodes in
-    record { long = long; tables = (IsDecoded-at p h.ceiling (blocks_of bytes) h.epoch at.0 as_image).tables }
+    ap (λ b. decode_with p h.ceiling b (blocks_of bytes)) (long ∙ sym file) ∙ decodes in
+    record {
+      long = file;
+      places = long_enough p (form_of (block_at (blocks_of bytes) 1)) (length bytes / 64) has.long;
+      tables = (IsDecoded-at p h.ceiling (blocks_of bytes) h.epoch at.0 as_image).tables;
+    }
 
 -- ---- memory, block by block
 
@@ -116,9 +122,9 @@ block_at-memory_in p t image b l =
     ∙ ap (block_at image) (get_or-map (λ b. number_of p (place_of t b)) (range_with_len 0 (memory_blocks p)) b 0 0 (omega (arith, length-range_with_len 0 (memory_blocks p)))
     ∙ ap (λ b. number_of p (place_of t b)) (get_or-range_with_len 0 (memory_blocks p) b 0 l ∙ plain))
 
--- the number of a block's place is one of the image's
-pub place_inside_image : (p : Parameters) (t : Tables) (b : ℕ) → IsTables p t → b < memory_blocks p → number_of p (place_of t b) < image_blocks p
-place_inside_image p t b s l = (behind_slots p (place_of t b) (IsPlace-place_of p t b s l) (in_dram-place_of t b)).1
+-- the number of a block's place is one that an image of either version has
+pub place_inside_image : (p : Parameters) (t : Tables) (b : ℕ) → IsTables p t → b < memory_blocks p → number_of p (place_of t b) < blocks_one p
+place_inside_image p t b s l = (between_slots p (place_of t b) (IsPlace-place_of p t b s l) (in_dram-place_of t b)).1
 
 -- the bytes of a whole block
 block_bytes-block_in : (bytes : List ℕ) (k : ℕ) → k < length bytes / 64 → block_bytes (block_in bytes k) ≡ take 64 (drop (64 * k) bytes)
@@ -126,24 +132,35 @@ block_bytes-block_in bytes k l =
     block_bytes-long (block_in bytes k) (length-take-le 64 (drop (64 * k) bytes) (omega (arith, length-drop (64 * k) bytes)))
 
 -- one block more was gathered
-pub gathered_more : (p : Parameters) (t : Tables) (bytes : List ℕ) (first k count : ℕ) (old new : List ℕ) (number : ℕ) → length bytes ≡ 64 * image_blocks p → IsTables p t
-    → first + count ≤ memory_blocks p → k < count → number ≡ number_of p (place_of t (first + k))
-    → old ≡ flat (take k (drop first (memory_in p t (blocks_of bytes))))
+pub gathered_more : (bytes places : List ℕ) (first k count : ℕ) (old new : List ℕ) (number : ℕ) → AreInside (blocks_of bytes) places
+    → first + count ≤ length places → k < count → number ≡ slice_index_or places (first + k) 0
+    → old ≡ flat (take k (drop first (map (block_at (blocks_of bytes)) places)))
     → new ≡ old ++ take 64 (drop (64 * number) bytes)
-    → new ≡ flat (take (k + 1) (drop first (memory_in p t (blocks_of bytes))))
-gathered_more p t bytes first k count old new number long s inside l is before after =
-    let memory = memory_in p t (blocks_of bytes) in
-    let all = length-memory_in p t (blocks_of bytes) in
-    let small = place_inside_image p t (first + k) s (omega arith) in
+    → new ≡ flat (take (k + 1) (drop first (map (block_at (blocks_of bytes)) places)))
+gathered_more bytes places first k count old new number are inside l is before after =
+    let memory = map (block_at (blocks_of bytes)) places in
+    let all = length-map places (block_at (blocks_of bytes)) in
+    let there : slice_index_or places (first + k) 0 < length bytes / 64
+    = omega (arith, are.each (first + k) (omega arith), length-blocks_of bytes) in
     after
     ∙ ap (λ xs. xs ++ take 64 (drop (64 * number) bytes)) before
-    ∙ ap (λ x. flat (take k (drop first (memory_in p t (blocks_of bytes)))) ++ x)
+    ∙ ap (λ x. flat (take k (drop first (map (block_at (blocks_of bytes)) places))) ++ x)
     (ap (λ x. take 64 (drop (64 * x) bytes)) is
-    ∙ sym (block_bytes-block_in bytes (number_of p (place_of t (first + k))) (omega (arith, small, long)))
-    ∙ ap block_bytes (sym (get_or-drop first (memory_in p t (blocks_of bytes)) k zero_block
-    ∙ block_at-memory_in p t (blocks_of bytes) (first + k) (omega arith)
-    ∙ block_at-blocks_of bytes (number_of p (place_of t (first + k))) (omega (arith, small, long)))))
-    ∙ sym (flat_more (drop first (memory_in p t (blocks_of bytes))) k zero_block (omega (arith, length-drop first (memory_in p t (blocks_of bytes)), all)))
+    ∙ sym (block_bytes-block_in bytes (slice_index_or places (first + k) 0) there)
+    ∙ ap block_bytes (sym (get_or-drop first (map (block_at (blocks_of bytes)) places) k zero_block
+    ∙ get_or-map (block_at (blocks_of bytes)) places (first + k) 0 zero_block (omega arith)
+    ∙ block_at-blocks_of bytes (slice_index_or places (first + k) 0) there)))
+    ∙ sym (flat_more (drop first (map (block_at (blocks_of bytes)) places)) k zero_block (omega (arith, length-drop first (map (block_at (blocks_of bytes)) places), all)))
+
+-- the places of memory are blocks of the image
+pub AreInside-memory : (p : Parameters) (t : Tables) (bytes : List ℕ) → blocks_one p ≤ length bytes / 64 → IsTables p t
+    → AreInside (blocks_of bytes) (memory_numbers p t)
+AreInside-memory p t bytes long s = record {
+  each = λ k l.
+      let below : k < memory_blocks p = omega (arith, l, length-memory_numbers p t) in
+      let small = place_inside_image p t k s below in
+      omega (arith, memory_number p t k 0 below, small, length-blocks_of bytes);
+}
 
 -- program memory, and the console, as they were gathered
 pub memory_gathered : (p : Parameters) (blocks : List Block) (n : ℕ) → length blocks ≡ memory_blocks p → IsInRange p → n ≡ 64 * (p.pages - p.console)

@@ -1,38 +1,68 @@
 -- A slot that was written reads back, and has no fault.
-use Rattle.std.proofs.Common.{◌≡◌, ℕ, ◌+◌, ◌-◌, ◌*◌, ◌/◌, ◌%◌, ◌^◌, ◌<◌, ◌≤◌, if◌then◌else◌, List, ◌++◌, length, take, drop, slice_index, Option, None, sym, ◌∙◌, ap, subst, inl, inr, arith}
-use Rattle.std.proofs.lemmas.Bool.{cases_lt, eq-eqb, lt-ltb, le-leb}
+use Rattle.std.proofs.Common.{◌≡◌, ℕ, ◌+◌, ◌-◌, ◌*◌, ◌/◌, ◌%◌, ◌^◌, ◌<◌, ◌≤◌, nat_lt, if◌then◌else◌, List, ◌++◌, length, map, take, drop, slice_index, slice_index_or, Option, None, sym, ◌∙◌, ap, subst, inl, inr, arith}
+use Rattle.std.proofs.lemmas.Bool.{cases_lt, eq-eqb, lt-ltb, le-ltb, le-leb}
 use Rattle.std.proofs.lemmas.List.{length-map, length-append, length-take-le, length-drop, get_or-map, get_or-take, get_or-drop, get_or_append_left, get_or-append-add, ext_get_or}
 use Rattle.std.proofs.lemmas.List.FromFn.{length-map-range_with_len, get_or-map-range_with_len}
+use Rattle.std.specs.List.{range_with_len}
+use Rattle.std.specs.Option.{option_map}
 use Rattle.thy_base.specs.declared.block.Block.{Block}
 use Rattle.thy_base.specs.declared.config.Parameters.{Parameters}
+use Rattle.thy_base.specs.declared.form.Form.TheVariants.{Two}
 use Rattle.thy_base.specs.Device.{block_at}
 use Rattle.thy_base.specs.Geometry.{IsInRange, console_room}
+use Rattle.thy_base.specs.Places.{table_blocks, count_blocks}
 use Rattle.thy_isa.specs.declared.state.CpuState.{CpuState}
+use Rattle.thy_record.specs.declared.bad_image.BadImage.TheVariants.{Count}
 use Rattle.thy_record.specs.ImageLaws.{ReadsBack}
 use Rattle.thy_base.specs.Words.{word_of}
 use Rattle.thy_record.specs.Cpu.{status_tag, cpu_block_of, is_status, record_word, BeginsWithRecord, FitsRecord, IsRecordable}
 use Rattle.thy_record.specs.Tables.{Tables, entry_at, Lists, IsTables}
 use Rattle.thy_record.specs.TableBlocks.{entry_word, entry_from, FitBlocks, table_words, table_block_of}
 use Rattle.thy_record.specs.TableFaults.{tables_fault}
-use Rattle.thy_record.specs.Slots.{slot_block_of, IsSlotOf, HasTableBlocks, entries_in, tables_in, epoch_fault, status_fault, slot_fault}
+use Rattle.thy_record.specs.Slots.{slot_block_of, IsSlotOf, HasTableBlocks, entries_in, tables_in, byte_in, AreCounts, count_byte, counts_in, is_bad_count, count_fault, epoch_fault, status_fault, slot_fault}
 use Rattle.thy_base.proofs.WordLemmas.{word_of-block_of}
 use Rattle.thy_record.proofs.ReadBackLemmas.{taken, both, FitsRecord-recordable, rest_back, cpu_back, epoch_back}
+use Rattle.thy_record.proofs.CountLemmas.{map-alike_numbers, no_position, fine_count}
 use Rattle.thy_record.proofs.TableLemmas.{entry_from-entry_word, entry_word-fits}
 use Rattle.thy_record.proofs.TableFaultLemmas.{both_none, IsFaultless-tables}
 use Rattle.thy_base.proofs.RangeLemmas.{btt_eights, ptt_eights}
 
 -- ---- which block is which
 
-pub slot_block_of-record : (p : Parameters) (cpu : CpuState) (t : Tables) (epoch k : ℕ) → k < 5 → slot_block_of p cpu t epoch k ≡ cpu_block_of cpu epoch k
-slot_block_of-record p cpu t epoch k l = ap (λ b. if b then cpu_block_of cpu epoch k else table_block_of t (k - 5)) (lt-ltb k 5 l)
+pub slot_block_of-record : (p : Parameters) (cpu : CpuState) (t : Tables) (counts : ℕ → Block) (epoch k : ℕ)
+    → k < 5 → slot_block_of p cpu t counts epoch k ≡ cpu_block_of cpu epoch k
+slot_block_of-record p cpu t counts epoch k l =
+    ap (λ b. if b then cpu_block_of cpu epoch k
+    else (if nat_lt k (5 + table_blocks p) then table_block_of t (k - 5) else counts (k - (5 + table_blocks p)))) (lt-ltb k 5 l)
 
-pub slot_block_of-table : (p : Parameters) (cpu : CpuState) (t : Tables) (epoch k : ℕ) → slot_block_of p cpu t epoch (5 + k) ≡ table_block_of t k
-slot_block_of-table p cpu t epoch k = grind arith
+pub slot_block_of-table : (p : Parameters) (cpu : CpuState) (t : Tables) (counts : ℕ → Block) (epoch k : ℕ)
+    → k < table_blocks p → slot_block_of p cpu t counts epoch (5 + k) ≡ table_block_of t k
+slot_block_of-table p cpu t counts epoch k l =
+    let e : 5 + k - 5 ≡ k = omega arith in
+    ap (λ b. if b then cpu_block_of cpu epoch (5 + k)
+    else (if nat_lt (5 + k) (5 + table_blocks p) then table_block_of t (5 + k - 5) else counts (5 + k - (5 + table_blocks p))))
+    (le-ltb (5 + k) 5 (omega arith))
+    ∙ ap (λ b. if b then table_block_of t (5 + k - 5) else counts (5 + k - (5 + table_blocks p)))
+    (lt-ltb (5 + k) (5 + table_blocks p) (omega arith))
+    ∙ ap (table_block_of t) e
 
-pub BeginsWithRecord-slot : (p : Parameters) (cpu : CpuState) (t : Tables) (epoch : ℕ) (slot : List Block)
-    → IsSlotOf p cpu t epoch slot → BeginsWithRecord cpu epoch slot
-BeginsWithRecord-slot p cpu t epoch slot s = record {
-  each = λ k l. s.each k (omega arith) ∙ slot_block_of-record p cpu t epoch k l;
+pub slot_block_of-count : (p : Parameters) (cpu : CpuState) (t : Tables) (counts : ℕ → Block) (epoch k : ℕ)
+    → slot_block_of p cpu t counts epoch (5 + table_blocks p + k) ≡ counts k
+slot_block_of-count p cpu t counts epoch k =
+    let at : ℕ = 5 + table_blocks p + k in
+    let e : 5 + table_blocks p + k - (5 + table_blocks p) ≡ k = omega arith in
+    ap (λ b. if b then cpu_block_of cpu epoch (5 + table_blocks p + k)
+    else (if nat_lt (5 + table_blocks p + k) (5 + table_blocks p) then table_block_of t (5 + table_blocks p + k - 5)
+    else counts (5 + table_blocks p + k - (5 + table_blocks p))))
+    (le-ltb (5 + table_blocks p + k) 5 (omega arith))
+    ∙ ap (λ b. if b then table_block_of t (5 + table_blocks p + k - 5) else counts (5 + table_blocks p + k - (5 + table_blocks p)))
+    (le-ltb (5 + table_blocks p + k) (5 + table_blocks p) (omega arith))
+    ∙ ap counts e
+
+pub BeginsWithRecord-slot : (p : Parameters) (cpu : CpuState) (t : Tables) (counts : ℕ → Block) (epoch : ℕ) (slot : List Block)
+    → IsSlotOf p cpu t counts epoch slot → BeginsWithRecord cpu epoch slot
+BeginsWithRecord-slot p cpu t counts epoch slot s = record {
+  each = λ k l. s.each k (omega arith) ∙ slot_block_of-record p cpu t counts epoch k l;
 }
 
 -- ---- the tables
@@ -125,10 +155,35 @@ FitBlocks-tables p t r s = record {
   ptt = record { each = λ i n l. let small = s.pages i n l in omega arith };
 }
 
-pub tables_in-back : (p : Parameters) (cpu : CpuState) (t : Tables) (epoch : ℕ) (slot : List Block)
-    → IsInRange p → IsTables p t → IsSlotOf p cpu t epoch slot → tables_in p slot ≡ t
-tables_in-back p cpu t epoch slot r s of =
-    tables_back p t slot r (FitBlocks-tables p t r s) (record { each = λ k l. of.each (5 + k) l ∙ slot_block_of-table p cpu t epoch k })
+pub tables_in-back : (p : Parameters) (cpu : CpuState) (t : Tables) (counts : ℕ → Block) (epoch : ℕ) (slot : List Block)
+    → IsInRange p → IsTables p t → IsSlotOf p cpu t counts epoch slot → tables_in p slot ≡ t
+tables_in-back p cpu t counts epoch slot r s of =
+    tables_back p t slot r (FitBlocks-tables p t r s)
+    (record { each = λ k l. of.each (5 + k) (omega arith) ∙ slot_block_of-table p cpu t counts epoch k l })
+
+-- ---- the counts
+
+count_byte-back : (p : Parameters) (cpu : CpuState) (t : Tables) (counts : ℕ → Block) (epoch : ℕ) (slot : List Block) (i : ℕ)
+    → IsSlotOf p cpu t counts epoch slot → i < 64 * count_blocks p → count_byte p slot i ≡ byte_in counts i
+count_byte-back p cpu t counts epoch slot i of l =
+    ap (λ (b : Block). slice_index_or b.0 (i % 64) 0)
+    (of.each (5 + table_blocks p + i / 64) (omega arith) ∙ slot_block_of-count p cpu t counts epoch (i / 64))
+
+-- the counts of the pages read back
+pub counts_back : (p : Parameters) (cpu : CpuState) (t : Tables) (counts : ℕ → Block) (epoch : ℕ) (slot : List Block)
+    → IsSlotOf p cpu t counts epoch slot → counts_in Two p slot ≡ map (byte_in counts) (range_with_len 0 p.pages)
+counts_back p cpu t counts epoch slot of =
+    map-alike_numbers (count_byte p slot) (byte_in counts) p.pages
+    (λ i l. count_byte-back p cpu t counts epoch slot i of (omega arith))
+
+-- and none is at fault
+count_fault-back : (p : Parameters) (cpu : CpuState) (t : Tables) (counts : ℕ → Block) (epoch : ℕ) (slot : List Block)
+    → AreCounts p counts → IsSlotOf p cpu t counts epoch slot → count_fault Two p slot ≡ None
+count_fault-back p cpu t counts epoch slot are of =
+    ap (option_map Count) (no_position (is_bad_count p slot) (64 * count_blocks p)
+    (λ i l. fine_count (count_byte p slot i) p.pages i
+    (λ m. subst (λ x. x ≤ 63) (sym (count_byte-back p cpu t counts epoch slot i of l)) (are.within i m))
+    (λ m. count_byte-back p cpu t counts epoch slot i of l ∙ are.rest i m l)))
 
 -- ---- its faults
 
@@ -146,26 +201,28 @@ status_fault-back p ceiling cpu epoch slot r fits of =
     ∙ taken _ _ _ (le-leb _ _ (subst (λ x. x ≤ console_room p) (sym (rest 2 (omega arith))) r.console))
 
 -- a slot that was written has no fault
-pub slot_fault-back : (p : Parameters) (ceiling : ℕ) (cpu : CpuState) (t : Tables) (epoch : ℕ) (slot : List Block)
-    → IsInRange p → IsRecordable p ceiling cpu → IsTables p t → ceiling ≤ 2 ^ 64 → epoch < 2 ^ 64 → IsSlotOf p cpu t epoch slot
-    → slot_fault p ceiling epoch slot ≡ None
+pub slot_fault-back : (p : Parameters) (ceiling : ℕ) (cpu : CpuState) (t : Tables) (counts : ℕ → Block) (epoch : ℕ) (slot : List Block)
+    → IsInRange p → IsRecordable p ceiling cpu → IsTables p t → AreCounts p counts → ceiling ≤ 2 ^ 64 → epoch < 2 ^ 64
+    → IsSlotOf p cpu t counts epoch slot → slot_fault Two p ceiling epoch slot ≡ None
 unfolding slot_fault
-slot_fault-back p ceiling cpu t epoch slot r recordable s most l of =
+slot_fault-back p ceiling cpu t counts epoch slot r recordable s are most l of =
     let room : console_room p < 2 ^ 64 = omega arith in
     let fits = FitsRecord-recordable p ceiling cpu epoch recordable room most l in
-    let begins = BeginsWithRecord-slot p cpu t epoch slot of in
+    let begins = BeginsWithRecord-slot p cpu t counts epoch slot of in
     both_none _ _ (epoch_fault-back cpu epoch slot fits begins)
-    (both_none _ _ (ap (tables_fault p) (tables_in-back p cpu t epoch slot r s of) ∙ (IsFaultless-tables p t s).none)
-    (status_fault-back p ceiling cpu epoch slot recordable fits begins))
+    (both_none _ _ (ap (tables_fault p) (tables_in-back p cpu t counts epoch slot r s of) ∙ (IsFaultless-tables p t s).none)
+    (both_none _ _ (status_fault-back p ceiling cpu epoch slot recordable fits begins)
+    (count_fault-back p cpu t counts epoch slot are of)))
 
 -- all of it reads back
-pub slot_back : (p : Parameters) (ceiling : ℕ) (cpu : CpuState) (t : Tables) (epoch : ℕ) (slot : List Block)
-    → IsInRange p → IsRecordable p ceiling cpu → IsTables p t → ceiling ≤ 2 ^ 64 → epoch < 2 ^ 64
-    → IsSlotOf p cpu t epoch slot → ReadsBack p ceiling cpu t epoch slot
-slot_back p ceiling cpu t epoch slot r recordable s most l of =
+pub slot_back : (p : Parameters) (ceiling : ℕ) (cpu : CpuState) (t : Tables) (counts : ℕ → Block) (epoch : ℕ) (slot : List Block)
+    → IsInRange p → IsRecordable p ceiling cpu → IsTables p t → AreCounts p counts → ceiling ≤ 2 ^ 64 → epoch < 2 ^ 64
+    → IsSlotOf p cpu t counts epoch slot → ReadsBack p ceiling cpu t counts epoch slot
+slot_back p ceiling cpu t counts epoch slot r recordable s are most l of =
     let room : console_room p < 2 ^ 64 = omega arith in
     record {
-      cpu_back = cpu_back cpu epoch slot (FitsRecord-recordable p ceiling cpu epoch recordable room most l) (BeginsWithRecord-slot p cpu t epoch slot of);
-      tables_back = tables_in-back p cpu t epoch slot r s of;
-      faultless = slot_fault-back p ceiling cpu t epoch slot r recordable s most l of;
+      cpu_back = cpu_back cpu epoch slot (FitsRecord-recordable p ceiling cpu epoch recordable room most l) (BeginsWithRecord-slot p cpu t counts epoch slot of);
+      tables_back = tables_in-back p cpu t counts epoch slot r s of;
+      counts_back = counts_back p cpu t counts epoch slot of;
+      faultless = slot_fault-back p ceiling cpu t counts epoch slot r recordable s are most l of;
     }

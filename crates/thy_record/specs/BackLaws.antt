@@ -4,7 +4,8 @@ use Rattle.thy_base.specs.declared.block.Block.{Block}
 use Rattle.thy_base.specs.declared.config.Parameters.{Parameters}
 use Rattle.thy_base.specs.Geometry.{IsInRange}
 use Rattle.thy_isa.specs.declared.state.CpuState.{CpuState}
-use Rattle.thy_record.specs.Commit.{commit_of, is_zero, epoch_of, commit_fault}
+use Rattle.thy_base.specs.declared.form.Form.TheVariants.{Two}
+use Rattle.thy_record.specs.Commit.{commit_of, is_zero, epoch_of, form_of, commit_fault}
 use Rattle.thy_record.specs.Cpu.{BeginsWithRecord, FitsRecord, cpu_of_record, epoch_of_record}
 use Rattle.thy_record.specs.Header.{header_of, header_fault}
 use Rattle.thy_record.specs.Slots.{HasTableBlocks, tables_in}
@@ -16,11 +17,12 @@ use Rattle.thy_base.specs.Words.{word_of, block_of}
 abbrev pub HeaderReadsBack : Type 0
 HeaderReadsBack = (p : Parameters) → IsInRange p → header_fault (header_of p) p true ≡ None
 
--- a commit block is not zero, names its epoch, and has no fault
+-- a commit block is not zero, names its epoch and version 2, and has no fault behind any header
 pub record CommitIsBack (epoch ceiling : ℕ) : Type 0 where
   pub committed : is_zero (commit_of epoch) ≡ false
   pub of_epoch : epoch_of (commit_of epoch) ≡ epoch
-  pub fits : commit_fault (commit_of epoch) ceiling ≡ None
+  pub of_form : form_of (commit_of epoch) ≡ Two
+  pub fits : (header : Block) → commit_fault header (commit_of epoch) ceiling ≡ None
 
 abbrev pub CommitReadsBack : Type 0
 CommitReadsBack = (epoch ceiling : ℕ) → epoch < ceiling → ceiling ≤ 2 ^ 64 → CommitIsBack epoch ceiling

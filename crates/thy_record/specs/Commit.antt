@@ -1,20 +1,24 @@
 -- Part of the claim.
--- The commit block, block 1 of an image: the epoch of the committed checkpoint.
-use Rattle.std.specs.Prelude.{ℕ, Bool, ◌&&◌, ◌==◌, nat_lt, List, [], ◌∷◌, Option, codes}
+-- The commit block, block 1 of an image: the epoch of the committed checkpoint, and the layout version of its slot.
+use Rattle.std.specs.Prelude.{ℕ, Bool, ◌&&◌, ◌||◌, ◌==◌, nat_lt, if◌then◌else◌, List, [], ◌∷◌, Option, codes}
 use Rattle.std.specs.List.{list_all}
 use Rattle.byteorder.specs.Endian.{little_number}
 use Rattle.thy_base.specs.declared.block.Block.{Block}
+use Rattle.thy_base.specs.declared.form.Form.{Form}
+use Rattle.thy_base.specs.declared.form.Form.TheVariants.{One, Two}
 use Rattle.thy_base.specs.Demands.{asked, first_fault}
 use Rattle.thy_record.specs.declared.bad_image.BadImage.{BadImage}
 use Rattle.thy_record.specs.declared.bad_image.BadImage.TheVariants.{Commit}
 use Rattle.thy_base.specs.Words.{word_of, block_of}
 
--- the bytes THYNCMT1 as a number
-abbrev pub commit_magic : ℕ
-commit_magic = little_number 8 (codes "THYNCMT1")
+-- the bytes THYNCMT1 or THYNCMT2 as a number
+abbrev pub commit_magic : Form → ℕ
+commit_magic One = little_number 8 (codes "THYNCMT1")
+commit_magic Two = little_number 8 (codes "THYNCMT2")
 
+-- those that are written are of version 2
 abbrev pub commit_words : ℕ → List ℕ
-commit_words epoch = commit_magic ∷ epoch ∷ 0 ∷ 0 ∷ 0 ∷ 0 ∷ 0 ∷ 0 ∷ []
+commit_words epoch = commit_magic Two ∷ epoch ∷ 0 ∷ 0 ∷ 0 ∷ 0 ∷ 0 ∷ 0 ∷ []
 
 abbrev pub commit_of : ℕ → Block
 commit_of epoch = block_of (commit_words epoch)
@@ -27,12 +31,20 @@ is_zero b = list_all (λ byte. byte == 0) b.0
 abbrev pub epoch_of : Block → ℕ
 epoch_of b = word_of b 1
 
+-- the version of its slot
+abbrev pub form_of : Block → Form
+form_of b = if word_of b 0 == commit_magic One then One else Two
+
+-- it names a version; version 1 only behind a header of version 1
+abbrev pub is_named : Block → Block → Bool
+is_named header b = word_of b 0 == commit_magic Two || (word_of b 0 == commit_magic One && word_of header 1 == 1)
+
 -- the words after the epoch are zero
 abbrev pub has_zero_rest : Block → Bool
 has_zero_rest b =
     (word_of b 2 == 0 && word_of b 3 == 0 && word_of b 4 == 0) && (word_of b 5 == 0 && word_of b 6 == 0 && word_of b 7 == 0)
 
--- the fault of a commit block; epochs are below the ceiling
-unfoldable pub commit_fault : Block → ℕ → Option BadImage
-commit_fault b ceiling =
-    first_fault (asked ((word_of b 0 == commit_magic && nat_lt (epoch_of b) ceiling) && has_zero_rest b) Commit ∷ [])
+-- the fault of a commit block behind a header; epochs are below the ceiling
+unfoldable pub commit_fault : Block → Block → ℕ → Option BadImage
+commit_fault header b ceiling =
+    first_fault (asked ((is_named header b && nat_lt (epoch_of b) ceiling) && has_zero_rest b) Commit ∷ [])

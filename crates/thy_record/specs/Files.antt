@@ -1,19 +1,17 @@
 -- Part of the claim.
 -- Files that hold an image, block after block.
-use Rattle.std.specs.Prelude.{◌≡◌, ℕ, ◌*◌, ◌/◌, ◌==◌, nat_lt, if◌then◌else◌, List, length, map, take, drop, Option, Result, Ok, Err}
+use Rattle.std.specs.Prelude.{◌≡◌, ℕ, ◌*◌, ◌/◌, ◌%◌, ◌==◌, ◌&&◌, Bool, nat_lt, if◌then◌else◌, List, length, map, take, drop, Option, Result, Ok, Err}
 use Rattle.std.specs.List.{range_with_len}
 use Rattle.thy_base.specs.declared.block.Block.{Block}
 use Rattle.thy_base.specs.declared.config.Parameters.{Parameters}
 use Rattle.thy_base.specs.LittleEndian.{number_at}
-use Rattle.thy_base.specs.Places.{image_blocks}
-use Rattle.thy_flat.specs.Flat.{flat}
+use Rattle.thy_base.specs.Device.{block_at}
 use Rattle.thy_record.specs.declared.file.Found.{Found}
 use Rattle.thy_record.specs.declared.file.Found.TheVariants.{Nothing as FoundNothing, At as FoundAt}
 use Rattle.thy_record.specs.declared.bad_image.BadImage.{BadImage}
 use Rattle.thy_record.specs.declared.bad_image.BadImage.TheVariants.{Empty}
 use Rattle.thy_record.specs.Decoded.{Decoded, Nothing, Refused, At}
-use Rattle.thy_record.specs.Images.{memory_in, image_fault, decode_with}
-use Rattle.thy_record.specs.Slots.{tables_in}
+use Rattle.thy_record.specs.Images.{is_long, image_fault, decode_with}
 use Rattle.thy_record.specs.Tables.{Tables}
 use Rattle.thy_record.specs.TableBlocks.{entry_from}
 
@@ -33,20 +31,19 @@ table_in bytes = map (λ i. entry_from (number_at 8 bytes (8 * i))) (range_with_
 abbrev pub tables_from : List ℕ → List ℕ → Tables
 tables_from btt ptt = record { btt = table_in btt; ptt = table_in ptt }
 
+-- they are whole blocks, as many as an image has
+abbrev pub is_long_file : Parameters → List ℕ → Bool
+is_long_file p bytes = length bytes % 64 == 0 && is_long p (block_at (blocks_of bytes) 1) (length bytes / 64)
+
 -- the first fault of a file that has a commit block
 abbrev pub file_fault : Parameters → ℕ → List ℕ → Option BadImage
-file_fault p ceiling bytes = image_fault p ceiling (length bytes == 64 * image_blocks p) (blocks_of bytes)
-
--- the bytes of n blocks of memory from block `first` on, each read at its place in an image by the tables of a slot's bytes
-abbrev pub bytes_from : Parameters → List ℕ → List ℕ → ℕ → ℕ → List ℕ
-bytes_from p image slot first n =
-    flat (take n (drop first (memory_in p (tables_in p (blocks_of slot)) (blocks_of image))))
+file_fault p ceiling bytes = image_fault p ceiling (is_long_file p bytes) (blocks_of bytes)
 
 -- what the bytes of a file decode to, with epochs and counts below a ceiling
 abbrev pub decode_file : Parameters → ℕ → List ℕ → Decoded
 decode_file p ceiling bytes =
     if nat_lt (length bytes) 128 then Refused Empty
-    else decode_with p ceiling (length bytes == 64 * image_blocks p) (blocks_of bytes)
+    else decode_with p ceiling (is_long_file p bytes) (blocks_of bytes)
 
 -- what a check says of it
 abbrev pub found_in : Decoded → Result Found BadImage

@@ -13,9 +13,9 @@ use Rattle.thy_base.specs.Words.{word_of, block_of}
 abbrev pub header_magic : ℕ
 header_magic = little_number 8 (codes "THYNHDR1")
 
--- the words of the header: its name, version 1, the geometry and a zero
+-- the words of the header: its name, version 2, the geometry and a zero
 abbrev pub header_words : Parameters → List ℕ
-header_words p = header_magic ∷ 1 ∷ p.base ∷ p.pages ∷ p.console ∷ p.btt ∷ p.ptt ∷ 0 ∷ []
+header_words p = header_magic ∷ 2 ∷ p.base ∷ p.pages ∷ p.console ∷ p.btt ∷ p.ptt ∷ 0 ∷ []
 
 abbrev pub header_of : Parameters → Block
 header_of p = block_of (header_words p)
@@ -30,6 +30,6 @@ is_of_geometry b p =
 unfoldable pub header_fault : Block → Parameters → Bool → Option BadImage
 header_fault b p long =
     first_fault (asked (word_of b 0 == header_magic) Header
-    ∷ asked (word_of b 1 == 1) Version
+    ∷ asked (word_of b 1 == 2) Version
     ∷ asked (is_of_geometry b p && long) Geometry
     ∷ [])

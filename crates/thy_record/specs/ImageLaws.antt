@@ -1,8 +1,10 @@
 -- What is written reads back, said of whole images.
-use Rattle.std.specs.Prelude.{◌≡◌, ℕ, ◌+◌, ◌*◌, ◌%◌, ◌^◌, ◌<◌, ◌≤◌, true, false, List, ◌++◌, length, map, take, drop, Contains, Option, None}
+use Rattle.std.specs.Prelude.{◌≡◌, ℕ, ◌+◌, ◌*◌, ◌%◌, ◌^◌, ◌<◌, ◌≤◌, true, false, List, ◌++◌, length, map, take, drop, replicate, Contains, Option, None}
+use Rattle.std.specs.List.{range_with_len}
 use Rattle.thy_base.specs.declared.block.Block.{Block}
 use Rattle.thy_base.specs.declared.config.Parameters.{Parameters}
-use Rattle.thy_base.specs.Device.{block_at}
+use Rattle.thy_base.specs.declared.form.Form.TheVariants.{Two}
+use Rattle.thy_base.specs.Device.{block_at, zero_block}
 use Rattle.thy_base.specs.Geometry.{IsInRange, memory_blocks}
 use Rattle.thy_base.specs.Places.{in_dram, IsPlace, slot_blocks, slot_place, image_blocks}
 use Rattle.thy_flat.specs.Flat.{flat, AllLong}
@@ -15,7 +17,7 @@ use Rattle.thy_isa.specs.OnBlocks.{state_from}
 use Rattle.thy_record.specs.Files.{decode_file}
 use Rattle.thy_record.specs.Header.{header_fault}
 use Rattle.thy_record.specs.Images.{slot_in, memory_in, decode_image, looked, IsWholeImage}
-use Rattle.thy_record.specs.Slots.{slot_block_of, IsSlotOf, tables_in, slot_fault}
+use Rattle.thy_record.specs.Slots.{slot_block_of, byte_in, AreCounts, IsSlotOf, tables_in, counts_in, slot_fault}
 use Rattle.thy_record.specs.TableBlocks.{entry_word, table_block_of}
 use Rattle.thy_record.specs.Tables.{Tables, place_of, IsTables}
 use Rattle.thy_base.specs.Words.{block_of}
@@ -52,31 +54,33 @@ EntriesAreBlock =
     (t : Tables) (k : ℕ) (entries : List (Option ℕ))
     → entries ≡ take 8 (drop (8 * k) (t.btt ++ t.ptt)) → block_of (map entry_word entries) ≡ table_block_of t k
 
--- processor and tables read back from a slot as they were written, and it has no fault
-pub record ReadsBack (p : Parameters) (ceiling : ℕ) (cpu : CpuState) (t : Tables) (epoch : ℕ) (slot : List Block) : Type 0 where
+-- processor, tables and counts read back from a slot as they were written, and it has no fault
+pub record ReadsBack (p : Parameters) (ceiling : ℕ) (cpu : CpuState) (t : Tables) (counts : ℕ → Block) (epoch : ℕ)
+    (slot : List Block) : Type 0 where
   pub cpu_back : cpu_of_record slot ≡ cpu
   pub tables_back : tables_in p slot ≡ t
-  pub faultless : slot_fault p ceiling epoch slot ≡ None
+  pub counts_back : counts_in Two p slot ≡ map (byte_in counts) (range_with_len 0 p.pages)
+  pub faultless : slot_fault Two p ceiling epoch slot ≡ None
 
 abbrev pub SlotReadsBack : Type 0
 SlotReadsBack =
-    (p : Parameters) (ceiling : ℕ) (cpu : CpuState) (t : Tables) (epoch : ℕ) (slot : List Block)
-    → IsInRange p → IsRecordable p ceiling cpu → IsTables p t → ceiling ≤ 2 ^ 64 → epoch < 2 ^ 64
-    → IsSlotOf p cpu t epoch slot → ReadsBack p ceiling cpu t epoch slot
+    (p : Parameters) (ceiling : ℕ) (cpu : CpuState) (t : Tables) (counts : ℕ → Block) (epoch : ℕ) (slot : List Block)
+    → IsInRange p → IsRecordable p ceiling cpu → IsTables p t → AreCounts p counts → ceiling ≤ 2 ^ 64 → epoch < 2 ^ 64
+    → IsSlotOf p cpu t counts epoch slot → ReadsBack p ceiling cpu t counts epoch slot
 
 -- an image has a checkpoint's commit block and slot, and a header without a fault
-pub record HasCheckpoint (p : Parameters) (image : List Block) (cpu : CpuState) (t : Tables) (epoch : ℕ) : Type 0 where
+pub record HasCheckpoint (p : Parameters) (image : List Block) (cpu : CpuState) (t : Tables) (counts : ℕ → Block) (epoch : ℕ) : Type 0 where
   pub long : length image ≡ image_blocks p
   pub header_fits : header_fault (block_at image 0) p true ≡ None
   pub commit : block_at image 1 ≡ commit_of epoch
-  pub slot : (k : ℕ) → k < slot_blocks p → block_at image (slot_place p (epoch % 2) + k) ≡ slot_block_of p cpu t epoch k
+  pub slot : (k : ℕ) → k < slot_blocks p → block_at image (slot_place p (epoch % 2) + k) ≡ slot_block_of p cpu t counts epoch k
 
 -- it decodes to that epoch, that processor and the blocks at the places of those tables
 abbrev pub WrittenDecodes : Type 0
 WrittenDecodes =
-    (p : Parameters) (ceiling : ℕ) (cpu : CpuState) (t : Tables) (epoch : ℕ) (image : List Block)
-    → IsInRange p → IsRecordable p ceiling cpu → IsTables p t → ceiling ≤ 2 ^ 64 → epoch < ceiling
-    → HasCheckpoint p image cpu t epoch
+    (p : Parameters) (ceiling : ℕ) (cpu : CpuState) (t : Tables) (counts : ℕ → Block) (epoch : ℕ) (image : List Block)
+    → IsInRange p → IsRecordable p ceiling cpu → IsTables p t → AreCounts p counts → ceiling ≤ 2 ^ 64 → epoch < ceiling
+    → HasCheckpoint p image cpu t counts epoch
     → decode_image p ceiling image ≡ At epoch (state_from p cpu (memory_in p t image))
 
 -- an image that decodes to a checkpoint is whole, and its tables are
@@ -103,6 +107,13 @@ abbrev pub CeilingGrows : Type 0
 CeilingGrows =
     (p : Parameters) (low high : ℕ) (image : List Block) (epoch : ℕ) (state : State) → low ≤ high
     → decode_image p low image ≡ At epoch state → decode_image p high image ≡ At epoch state
+
+-- an image that is filled up with zeros to the length of version 2 means the same
+abbrev pub FilledUpDecodes : Type 0
+FilledUpDecodes =
+    (p : Parameters) (ceiling k epoch : ℕ) (state : State) (image : List Block)
+    → decode_image p ceiling image ≡ At epoch state → length image + k ≡ image_blocks p
+    → decode_image p ceiling (image ++ replicate k zero_block) ≡ At epoch state
 
 -- a file of an image's bytes means what the image does
 abbrev pub FileDecodes : Type 0

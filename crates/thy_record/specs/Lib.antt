@@ -13,3 +13,4 @@ pub mod BackLaws
 pub mod ImageLaws
 pub mod Files
 pub mod Issuing
+pub mod Index

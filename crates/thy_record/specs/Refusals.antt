@@ -2,7 +2,7 @@
 -- What the refusals of an image are called.
 use Rattle.std.specs.Prelude.{ℕ, List, codes}
 use Rattle.thy_record.specs.declared.bad_image.BadImage.{BadImage}
-use Rattle.thy_record.specs.declared.bad_image.BadImage.TheVariants.{Empty, Header, Version, Geometry, Commit, TableIndex, TableTwice, BlockUnderPage, Status, ConsoleLength}
+use Rattle.thy_record.specs.declared.bad_image.BadImage.TheVariants.{Empty, Header, Version, Geometry, Commit, TableIndex, TableTwice, BlockUnderPage, Status, ConsoleLength, Count}
 
 -- the number and the name of each
 abbrev pub called : BadImage → ℕ × List ℕ
@@ -16,6 +16,7 @@ called (TableTwice i k) = (7, codes "TableTwice")
 called (BlockUnderPage i j) = (8, codes "BlockUnderPage")
 called Status = (9, codes "Status")
 called ConsoleLength = (10, codes "ConsoleLength")
+called (Count p) = (11, codes "Count")
 
 abbrev pub number_of : BadImage → ℕ
 number_of bad = (called bad).0

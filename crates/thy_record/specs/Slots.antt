@@ -1,32 +1,46 @@
 -- Part of the claim.
--- A slot: the processor's record, and after it the two tables.
-use Rattle.std.specs.Prelude.{◌≡◌, ℕ, ◌+◌, ◌-◌, ◌*◌, ◌<◌, nat_lt, if◌then◌else◌, List, [], ◌∷◌, map, Option}
-use Rattle.std.specs.List.{range_with_len}
-use Rattle.std.specs.Option.{option_or}
+-- A slot: the processor's record, behind it the two tables, and in version 2 the counts of pages.
+use Rattle.std.specs.Prelude.{◌≡◌, ℕ, ◌+◌, ◌-◌, ◌*◌, ◌/◌, ◌%◌, ◌<◌, ◌≤◌, ◌==◌, nat_lt, nat_le, Bool, ◌&&◌, ◌||◌, not, if◌then◌else◌, List, [], ◌∷◌, map, replicate, slice_index_or, Option, None}
+use Rattle.std.specs.List.{range_with_len, position}
+use Rattle.std.specs.Option.{option_or, option_map}
 use Rattle.thy_base.specs.declared.block.Block.{Block}
 use Rattle.thy_base.specs.declared.config.Parameters.{Parameters}
+use Rattle.thy_base.specs.declared.form.Form.{Form}
+use Rattle.thy_base.specs.declared.form.Form.TheVariants.{One, Two}
 use Rattle.thy_base.specs.Demands.{first_fault}
 use Rattle.thy_base.specs.Device.{block_at}
-use Rattle.thy_base.specs.Places.{record_blocks, slot_blocks}
+use Rattle.thy_base.specs.Places.{record_blocks, table_blocks, count_blocks, slot_blocks}
 use Rattle.thy_isa.specs.declared.state.CpuState.{CpuState}
 use Rattle.thy_record.specs.declared.bad_image.BadImage.{BadImage}
+use Rattle.thy_record.specs.declared.bad_image.BadImage.TheVariants.{Count}
 use Rattle.thy_record.specs.Cpu.{cpu_block_of, record_word, epoch_demand, status_demands}
 use Rattle.thy_record.specs.Tables.{Tables}
 use Rattle.thy_record.specs.TableBlocks.{entry_from, table_block_of}
 use Rattle.thy_record.specs.TableFaults.{tables_fault}
 
--- block k of the slot of a checkpoint
-abbrev pub slot_block_of : Parameters → CpuState → Tables → ℕ → ℕ → Block
-slot_block_of p cpu t epoch k =
-    if nat_lt k (record_blocks p) then cpu_block_of cpu epoch k else table_block_of t (k - record_blocks p)
+-- block k of the slot of a checkpoint of version 2, with these blocks of counts
+abbrev pub slot_block_of : Parameters → CpuState → Tables → (ℕ → Block) → ℕ → ℕ → Block
+slot_block_of p cpu t counts epoch k =
+    if nat_lt k (record_blocks p) then cpu_block_of cpu epoch k
+    else if nat_lt k (record_blocks p + table_blocks p) then table_block_of t (k - record_blocks p)
+    else counts (k - (record_blocks p + table_blocks p))
 
 -- these blocks are the slot of a checkpoint
-pub record IsSlotOf (p : Parameters) (cpu : CpuState) (t : Tables) (epoch : ℕ) (slot : List Block) : Type 0 where
-  pub each : (k : ℕ) → k < slot_blocks p → block_at slot k ≡ slot_block_of p cpu t epoch k
+pub record IsSlotOf (p : Parameters) (cpu : CpuState) (t : Tables) (counts : ℕ → Block) (epoch : ℕ) (slot : List Block) : Type 0 where
+  pub each : (k : ℕ) → k < slot_blocks p → block_at slot k ≡ slot_block_of p cpu t counts epoch k
 
 -- these blocks have those of tables after the record
 pub record HasTableBlocks (p : Parameters) (t : Tables) (slot : List Block) : Type 0 where
-  pub each : (k : ℕ) → record_blocks p + k < slot_blocks p → block_at slot (record_blocks p + k) ≡ table_block_of t k
+  pub each : (k : ℕ) → k < table_blocks p → block_at slot (record_blocks p + k) ≡ table_block_of t k
+
+-- byte i of blocks
+abbrev pub byte_in : (ℕ → Block) → ℕ → ℕ
+byte_in blocks i = slice_index_or (blocks (i / 64)).0 (i % 64) 0
+
+-- these blocks are counts: none past 63, and zeros past the last page
+pub record AreCounts (p : Parameters) (counts : ℕ → Block) : Type 0 where
+  pub within : (i : ℕ) → i < p.pages → byte_in counts i ≤ 63
+  pub rest : (i : ℕ) → p.pages ≤ i → i < 64 * count_blocks p → byte_in counts i ≡ 0
 
 -- n entries of a slot, the first of them in word `first`
 abbrev pub entries_in : List Block → ℕ → ℕ → List (Option ℕ)
@@ -39,6 +53,23 @@ tables_in p slot = record {
   ptt = entries_in slot (8 * record_blocks p + p.btt) p.ptt;
 }
 
+-- byte i of the counts of a slot of version 2, and the counts of the pages
+abbrev pub count_byte : Parameters → List Block → ℕ → ℕ
+count_byte p slot i = byte_in (λ k. block_at slot (record_blocks p + table_blocks p + k)) i
+
+abbrev pub counts_in : Form → Parameters → List Block → List ℕ
+counts_in One p slot = replicate p.pages 0
+counts_in Two p slot = map (count_byte p slot) (range_with_len 0 p.pages)
+
+-- a byte is past 63, or one past the last page is not 0
+abbrev pub is_bad_count : Parameters → List Block → ℕ → Bool
+is_bad_count p slot i = nat_lt 63 (count_byte p slot i) || (nat_le p.pages i && not (count_byte p slot i == 0))
+
+-- the first such byte; version 1 has none
+abbrev pub count_fault : Form → Parameters → List Block → Option BadImage
+count_fault One p slot = None
+count_fault Two p slot = option_map Count (position (is_bad_count p slot) (range_with_len 0 (64 * count_blocks p)))
+
 -- the record is of another epoch than the commit block
 abbrev pub epoch_fault : ℕ → List Block → Option BadImage
 epoch_fault epoch slot = first_fault (epoch_demand epoch slot ∷ [])
@@ -48,6 +79,7 @@ abbrev pub status_fault : Parameters → ℕ → List Block → Option BadImage
 status_fault p ceiling slot = first_fault (status_demands p ceiling slot)
 
 -- the first fault of a slot under a commit block of this epoch
-unfoldable pub slot_fault : Parameters → ℕ → ℕ → List Block → Option BadImage
-slot_fault p ceiling epoch slot =
-    option_or (epoch_fault epoch slot) (option_or (tables_fault p (tables_in p slot)) (status_fault p ceiling slot))
+unfoldable pub slot_fault : Form → Parameters → ℕ → ℕ → List Block → Option BadImage
+slot_fault form p ceiling epoch slot =
+    option_or (epoch_fault epoch slot)
+    (option_or (tables_fault p (tables_in p slot)) (option_or (status_fault p ceiling slot) (count_fault form p slot)))

@@ -11,13 +11,13 @@ pub enum BadImage {
     Empty,
     /// The header does not begin with its name.
     Header,
-    /// The header's version is another.
+    /// The header's version is none that is read.
     Version,
     /// The image was made for another geometry: base, pages, console or the size of a table differs. Or the header's
     /// last word is not zero, or, if the layout asks for it, the image has another length.
     Geometry,
-    /// The commit block does not begin with its name, its epoch is not below the ceiling, or a word after the epoch
-    /// is not zero; or the processor's record is of another epoch.
+    /// The commit block does not begin with its name, or with that of version 1 behind a header of version 2; its epoch is
+    /// not below the ceiling, or a word behind the epoch is not zero; or the processor's record is of another epoch.
     Commit,
     /// This entry of the tables names a block or a page that is not there.
     TableIndex(u64),
@@ -29,6 +29,8 @@ pub enum BadImage {
     Status,
     /// The console is longer than its pages.
     ConsoleLength,
+    /// This byte of the counts is past 63, or it is past the last page and not zero.
+    Count(u64),
 }
 
 impl BadImage {
@@ -47,6 +49,7 @@ impl BadImage {
             BadImage::BlockUnderPage(_, _) => 8,
             BadImage::Status => 9,
             BadImage::ConsoleLength => 10,
+            BadImage::Count(_) => 11,
         }
     }
 
@@ -65,6 +68,7 @@ impl BadImage {
             BadImage::BlockUnderPage(_, _) => "BlockUnderPage",
             BadImage::Status => "Status",
             BadImage::ConsoleLength => "ConsoleLength",
+            BadImage::Count(_) => "Count",
         }
     }
 }

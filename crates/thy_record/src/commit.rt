@@ -1,14 +1,17 @@
 //! The commit block, block 1 of an image.
 ghost use Rattle.std.specs.Prelude.{◌≡◌};
-ghost use Rattle.thy_record.specs.Commit.{commit_of, commit_fault as fault_of_commit, is_zero as has_zeros, has_zero_rest as zero_rest};
+ghost use Rattle.thy_record.specs.Commit.{commit_of, form_of as form_named, is_named as names_form, commit_fault as fault_of_commit, is_zero as has_zeros, has_zero_rest as zero_rest};
 
 use crate::bad_image::BadImage;
-use thy_base::{Block, block_with, word};
+use thy_base::{Block, Form, block_with, word};
 
-/// The bytes `THYNCMT1`, with which a commit block begins, as a number.
-pub const COMMIT_MAGIC: u64 = 0x3154_4d43_4e59_4854;
+/// The bytes `THYNCMT1`, with which a commit block of version 1 begins, as a number.
+pub const COMMIT_MAGIC_ONE: u64 = 0x3154_4d43_4e59_4854;
 
-/// The commit block of an epoch: its name, the epoch and six zeros.
+/// The bytes `THYNCMT2`, with which one of version 2 does.
+pub const COMMIT_MAGIC: u64 = 0x3254_4d43_4e59_4854;
+
+/// The commit block of an epoch, of version 2: its name, the epoch and six zeros.
 pub fn commit_block(epoch: u64) -> Block
     ensures { result ≡ commit_of epoch }
 {
@@ -23,13 +26,32 @@ pub fn is_zero(block: &Block) -> bool
     block.0.iter().all(|byte| *byte == 0)
 }
 
-/// The fault of a commit block, if it has one: another name, an epoch that is not below the ceiling, or
-/// more than the epoch.
-#[tactic(auto, unfolding(crate::specs::Commit::commit_fault))]
-pub fn commit_fault(block: &Block, ceiling: u64) -> Option<BadImage>
-    ensures { result ≡ fault_of_commit block.now ceiling }
+/// The version of the slot that a commit block names.
+pub fn form_of(block: &Block) -> Form
+    ensures { result ≡ form_named block.now }
 {
-    let named = word(block, 0) == COMMIT_MAGIC && word(block, 1) < ceiling;
+    if word(block, 0) == COMMIT_MAGIC_ONE {
+        Form::One
+    } else {
+        Form::Two
+    }
+}
+
+// Whether a commit block behind this header names a version.
+fn is_named(header: &Block, block: &Block) -> bool
+    ensures { result ≡ names_form header.now block.now }
+{
+    let name = word(block, 0);
+    name == COMMIT_MAGIC || (name == COMMIT_MAGIC_ONE && word(header, 1) == 1)
+}
+
+/// The fault of a commit block behind a header, if it has one: another name, or that of version 1 behind a header of
+/// version 2; an epoch that is not below the ceiling; or more than the epoch.
+#[tactic(auto, unfolding(crate::specs::Commit::commit_fault))]
+pub fn commit_fault(header: &Block, block: &Block, ceiling: u64) -> Option<BadImage>
+    ensures { result ≡ fault_of_commit header.now block.now ceiling }
+{
+    let named = is_named(header, block) && word(block, 1) < ceiling;
     if named && has_zero_rest(block) {
         None
     } else {

@@ -1,16 +1,17 @@
-//! The check of an image in a file.
-ghost use Rattle.std.specs.Prelude.{◌≡◌, ◌*◌, ◌≤◌, length};
+//! The check of an image that stands in a file.
+ghost use Rattle.std.specs.Prelude.{◌≡◌, ◌*◌, ◌≤◌, true, length};
 ghost use Rattle.thy_base.specs.Device.{block_at};
-ghost use Rattle.thy_base.specs.Places.{slot_blocks, image_blocks};
-ghost use Rattle.thy_record.specs.Files.{blocks_of, file_fault, decode_file, found_in};
+ghost use Rattle.thy_base.specs.Places.{blocks_of_slot};
+ghost use Rattle.thy_record.specs.Commit.{form_of as form_named};
+ghost use Rattle.thy_record.specs.Files.{blocks_of, is_long_file, file_fault, decode_file, found_in};
 ghost use Rattle.thy_record.specs.Images.{slot_in as slot_of_image};
 
 use crate::bad_image::BadImage;
-use crate::commit::{commit_fault, is_zero};
+use crate::commit::{commit_fault, form_of, is_zero};
 use crate::file_blocks::block_in;
 use crate::header::header_fault;
 use crate::slot::slot_fault;
-use thy_base::{BLOCK_SIZE, Block, Geometry, word};
+use thy_base::{BLOCK_SIZE, Block, Form, Geometry, word};
 
 /// What an image without a fault has.
 #[derive(Clone, Copy, Debug, PartialEq, Eq)]
@@ -23,13 +24,24 @@ pub enum Found {
 
 // The bytes of the slot that the commit block names.
 pub(crate) fn slot_in<'a>(image: &'a [u8], commit: &Block, geometry: &Geometry) -> &'a [u8]
-    requires long { length image.now ≡ 64 * image_blocks geometry.now }
+    requires long { is_long_file geometry.now image.now ≡ true }
     requires commit { commit.now ≡ block_at (blocks_of image.now) 1 }
-    ensures length { length result.now ≡ 64 * slot_blocks geometry.now }
+    ensures length { length result.now ≡ 64 * blocks_of_slot (form_named commit.now) geometry.now }
     ensures slot { blocks_of result.now ≡ slot_of_image geometry.now (blocks_of image.now) }
 {
-    let first = BLOCK_SIZE * geometry.slot(word(commit, 1) % 2) as usize;
-    &image[first..first + BLOCK_SIZE * geometry.slot_blocks() as usize]
+    let form = form_of(commit);
+    let first = BLOCK_SIZE * geometry.slot_of(form, word(commit, 1) % 2) as usize;
+    &image[first..first + BLOCK_SIZE * geometry.slot_blocks_of(form) as usize]
+}
+
+// Whether a file has the whole blocks of an image: those of version 2, or, with a commit block of version 1, those of that.
+fn is_long(image: &[u8], commit: &Block, geometry: &Geometry) -> bool
+    requires commit { commit.now ≡ block_at (blocks_of image.now) 1 }
+    ensures { result ≡ is_long_file geometry.now image.now }
+{
+    let size = image.len() as u64;
+    let old = form_of(commit) == Form::One && size / 64 == geometry.blocks_one();
+    size.is_multiple_of(64) && (size / 64 == geometry.blocks() || old)
 }
 
 // The first fault of an image that has this commit block.
@@ -38,15 +50,15 @@ fn image_fault(image: &[u8], commit: &Block, geometry: &Geometry, ceiling: u64) 
     requires commit { commit.now ≡ block_at (blocks_of image.now) 1 }
     ensures { result ≡ file_fault geometry.now ceiling image.now }
 {
-    let long = image.len() as u64 == 64 * geometry.blocks();
-    if let Some(bad) = header_fault(&block_in(image, 0), geometry, long) {
+    let header = block_in(image, 0);
+    if let Some(bad) = header_fault(&header, geometry, is_long(image, commit, geometry)) {
         return Some(bad);
     }
-    if let Some(bad) = commit_fault(commit, ceiling) {
+    if let Some(bad) = commit_fault(&header, commit, ceiling) {
         return Some(bad);
     }
     let slot = slot_in(image, commit, geometry);
-    slot_fault(slot, word(commit, 1), geometry, ceiling)
+    slot_fault(slot, form_of(commit), word(commit, 1), geometry, ceiling)
 }
 
 /// What the bytes of a file have for a geometry: nothing, if there are at least 128 of them and the commit block is

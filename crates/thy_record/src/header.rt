@@ -8,8 +8,8 @@ use thy_base::{Block, Geometry, block_with, word};
 /// The bytes `THYNHDR1`, with which a header begins, as a number.
 pub const HEADER_MAGIC: u64 = 0x3152_4448_4e59_4854;
 
-/// The version of the layout.
-pub const VERSION: u64 = 1;
+/// The version of the layout that is written.
+pub const VERSION: u64 = 2;
 
 /// The header of an image of this geometry: eight words, its name, the version, base, pages, console,
 /// the sizes of both tables, and a zero.

@@ -1,6 +1,6 @@
 //! Laws of the tables, of images and of what leaves them alone, each the contract of a function that does nothing.
 ghost use Rattle.thy_record.specs.BackLaws.{HeaderReadsBack, CommitReadsBack, RecordReadsBack, EntriesReadBack, TablesReadBack};
-ghost use Rattle.thy_record.specs.ImageLaws.{FaultlessTables, BlocksHavePlaces, PlacesAreOwn, EntriesAreBlock, SlotReadsBack, FileDecodes, WrittenDecodes, DecodedIsWhole, LookedDecides, CeilingGrows};
+ghost use Rattle.thy_record.specs.ImageLaws.{FaultlessTables, BlocksHavePlaces, PlacesAreOwn, EntriesAreBlock, SlotReadsBack, FileDecodes, WrittenDecodes, DecodedIsWhole, LookedDecides, CeilingGrows, FilledUpDecodes};
 ghost use Rattle.thy_record.specs.Issuing.{ListedHomeIsUnused, PagedHomeIsUnused, EmptyEntryIsUnused, EmptyPageIsUnused, FreeIsNotLooked, NothingIsLooked, PlacedIsMemory, MemoryIsPlaced};
 ghost use Rattle.thy_record.specs.TableRefusals.{FoundIsSo, SoIsFound};
 
@@ -41,7 +41,7 @@ pub fn tables_read_back()
     ensures tables { TablesReadBack }
 {}
 
-/// Eight entries are a block of the tables; and processor and tables read back from a slot as they were written.
+/// Eight entries are a block of the tables; and processor, tables and counts read back from a slot as they were written.
 pub fn slot_reads_back()
     ensures entries { EntriesAreBlock }
     ensures slot { SlotReadsBack }
@@ -72,7 +72,12 @@ pub fn ceiling_grows()
     ensures { CeilingGrows }
 {}
 
-/// A place that holds no block of memory: the home of a block that is listed or whose page is, and what an
+/// An image that is filled up with zeros to the length of version 2 means the same.
+pub fn filled_up_decodes()
+    ensures { FilledUpDecodes }
+{}
+
+/// A place that no block of memory stands in: the home of a block that is listed or whose page is, and what an
 /// empty entry owns.
 pub fn unused_places()
     ensures listed_home { ListedHomeIsUnused }

@@ -1,4 +1,4 @@
-//! Checkpoints in the NVM, of layout version 1. What every layout has: the commit block, the processor's record, and
+//! Checkpoints in the NVM, of layout version 2, and images of version 1 and 2. What every layout has: the commit block, the processor's record, and
 //! the refusals of an image. And what is this layout's own: header, tables, slots, images in files, and laws of which
 //! writes leave a checkpoint alone. Callers rely on `check` and `state`, exactly what the bytes of a file mean, and on
 //! `written_decodes` and `decoded_is_whole`: what was written decodes, and what decodes is whole.
@@ -14,6 +14,7 @@ mod engine_step;
 mod file;
 mod file_blocks;
 mod header;
+mod index;
 mod laws;
 mod restored;
 mod slot;
@@ -22,7 +23,7 @@ mod table_faults;
 mod tables;
 
 pub use bad_image::BadImage;
-pub use commit::{COMMIT_MAGIC, commit_block, commit_fault, is_zero};
+pub use commit::{COMMIT_MAGIC, COMMIT_MAGIC_ONE, commit_block, commit_fault, form_of, is_zero};
 pub use cpu::{cpu_block, cpu_state};
 pub use engine_step::EngineStep;
 pub use file::{Found, check};
@@ -30,11 +31,11 @@ pub use file_blocks::block_in;
 pub use header::{HEADER_MAGIC, VERSION, header_block, header_fault};
 pub use laws::{
     ceiling_grows, decoded_is_whole, each_block_has_its_place, faultless_tables, file_decodes,
-    free_is_not_looked_at, header_and_commit_read_back, looked_decides,
+    filled_up_decodes, free_is_not_looked_at, header_and_commit_read_back, looked_decides,
     memory_is_read_at_its_places, record_reads_back, refusals_name_the_first_entries,
     slot_reads_back, tables_read_back, unused_places, written_decodes,
 };
 pub use restored::state;
-pub use slot::{cpu_in, listed_block, listed_page, slot_fault};
+pub use slot::{cpu_in, listed_block, listed_count, listed_page, slot_fault};
 pub use start::Start;
 pub use tables::table_block;

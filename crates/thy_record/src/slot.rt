@@ -1,17 +1,19 @@
-//! The bytes of a slot: the processor's record of 320, and after it the block table and the page table.
-ghost use Rattle.std.specs.Prelude.{◌≡◌, ◌*◌, ◌/◌, ◌<◌, ◌≤◌, length};
-ghost use Rattle.thy_base.specs.Places.{slot_blocks};
+//! The bytes of a slot: the processor's record of 320, behind it the block table and the page table, and in version 2 the
+//! counts of pages.
+ghost use Rattle.std.specs.Prelude.{◌≡◌, ◌+◌, ◌*◌, ◌/◌, ◌<◌, ◌≤◌, length};
+ghost use Rattle.thy_base.specs.declared.form.Form.TheVariants.{Two};
+ghost use Rattle.thy_base.specs.Places.{record_blocks, table_blocks, count_blocks, blocks_of_slot};
 ghost use Rattle.thy_record.specs.Cpu.{record_word, cpu_of_record};
 ghost use Rattle.thy_record.specs.Files.{blocks_of, table_in};
 ghost use Rattle.thy_record.specs.Tables.{entry_at};
-ghost use Rattle.thy_record.specs.Slots.{tables_in, status_fault as fault_of_status, slot_fault as fault_of_slot};
+ghost use Rattle.thy_record.specs.Slots.{tables_in, count_byte, is_bad_count as is_bad_byte, status_fault as fault_of_status, count_fault as fault_of_counts, slot_fault as fault_of_slot};
 
 use crate::bad_image::BadImage;
 use crate::cpu::{cpu_state, is_status};
 use crate::file_blocks::block_in;
 use crate::table_faults::{entry, tables_fault};
 use byteorder::{ByteOrder, LittleEndian};
-use thy_base::{BLOCK_SIZE, Geometry};
+use thy_base::{BLOCK_SIZE, Form, Geometry};
 use thy_isa::CpuState;
 
 /// How many bytes the processor's record has.
@@ -41,7 +43,7 @@ pub fn cpu_in(slot: &[u8]) -> CpuState
 
 // The block table of a slot.
 pub(crate) fn btt_in<'a>(slot: &'a [u8], geometry: &Geometry) -> &'a [u8]
-    requires { length slot.now ≡ 64 * slot_blocks geometry.now }
+    requires { 64 * (record_blocks geometry.now + table_blocks geometry.now) ≤ length slot.now }
     ensures { table_in result.now ≡ (tables_in geometry.now (blocks_of slot.now)).btt }
 {
     let entries = geometry.numbers().btt as usize;
@@ -50,7 +52,7 @@ pub(crate) fn btt_in<'a>(slot: &'a [u8], geometry: &Geometry) -> &'a [u8]
 
 // The page table of a slot.
 pub(crate) fn ptt_in<'a>(slot: &'a [u8], geometry: &Geometry) -> &'a [u8]
-    requires { length slot.now ≡ 64 * slot_blocks geometry.now }
+    requires { 64 * (record_blocks geometry.now + table_blocks geometry.now) ≤ length slot.now }
     ensures { table_in result.now ≡ (tables_in geometry.now (blocks_of slot.now)).ptt }
 {
     let p = geometry.numbers();
@@ -60,7 +62,7 @@ pub(crate) fn ptt_in<'a>(slot: &'a [u8], geometry: &Geometry) -> &'a [u8]
 
 /// The block that entry `i` of the block table in these bytes of a slot lists; none if the entry is empty.
 pub fn listed_block(slot: &[u8], i: usize, geometry: &Geometry) -> Option<u64>
-    requires slot { length slot.now ≡ 64 * slot_blocks geometry.now }
+    requires slot { 64 * (record_blocks geometry.now + table_blocks geometry.now) ≤ length slot.now }
     requires entry { i < geometry.now.btt }
     ensures { result ≡ entry_at (tables_in geometry.now (blocks_of slot.now)).btt i }
 {
@@ -69,7 +71,7 @@ pub fn listed_block(slot: &[u8], i: usize, geometry: &Geometry) -> Option<u64>
 
 /// The page that entry `j` of the page table there lists; none if the entry is empty.
 pub fn listed_page(slot: &[u8], j: usize, geometry: &Geometry) -> Option<u64>
-    requires slot { length slot.now ≡ 64 * slot_blocks geometry.now }
+    requires slot { 64 * (record_blocks geometry.now + table_blocks geometry.now) ≤ length slot.now }
     requires entry { j < geometry.now.ptt }
     ensures { result ≡ entry_at (tables_in geometry.now (blocks_of slot.now)).ptt j }
 {
@@ -78,7 +80,7 @@ pub fn listed_page(slot: &[u8], j: usize, geometry: &Geometry) -> Option<u64>
 
 // A status or a count without meaning, or a console longer than its pages.
 fn status_fault(slot: &[u8], geometry: &Geometry, ceiling: u64) -> Option<BadImage>
-    requires { length slot.now ≡ 64 * slot_blocks geometry.now }
+    requires { 64 * (record_blocks geometry.now + table_blocks geometry.now) ≤ length slot.now }
     ensures { result ≡ fault_of_status geometry.now ceiling (blocks_of slot.now) }
 {
     let stands = is_status(word_in(slot, 36), word_in(slot, 37)) && word_in(slot, 32) < ceiling;
@@ -91,12 +93,71 @@ fn status_fault(slot: &[u8], geometry: &Geometry, ceiling: u64) -> Option<BadIma
     }
 }
 
-/// The first fault of the slot with these bytes under a commit block of this epoch, if it has one: a record of
-/// another epoch, tables that no checkpoint has, a status without meaning or a count that is not below the
-/// ceiling, a console longer than its pages.
-pub fn slot_fault(slot: &[u8], epoch: u64, geometry: &Geometry, ceiling: u64) -> Option<BadImage>
-    requires { length slot.now ≡ 64 * slot_blocks geometry.now }
-    ensures { result ≡ fault_of_slot geometry.now ceiling epoch (blocks_of slot.now) }
+// Byte i of the counts of a slot.
+fn count_in(slot: &[u8], geometry: &Geometry, i: u64) -> u8
+    requires slot { length slot.now ≡ 64 * blocks_of_slot Two geometry.now }
+    requires inside { i < 64 * count_blocks geometry.now }
+    ensures { result ≡ count_byte geometry.now (blocks_of slot.now) i }
+{
+    let first = BLOCK_SIZE * (geometry.record_blocks() + geometry.table_blocks()) as usize;
+    slot[first + i as usize]
+}
+
+/// The count of a page in these bytes of a slot of version 2.
+pub fn listed_count(slot: &[u8], page: u64, geometry: &Geometry) -> u64
+    requires slot { length slot.now ≡ 64 * blocks_of_slot Two geometry.now }
+    requires page { page < 64 * count_blocks geometry.now }
+    ensures { result ≡ count_byte geometry.now (blocks_of slot.now) page }
+{
+    u64::from(count_in(slot, geometry, page))
+}
+
+// Whether that byte is past 63, or past the last page and not zero.
+fn is_bad_count(slot: &[u8], geometry: &Geometry, i: u64) -> bool
+    requires slot { length slot.now ≡ 64 * blocks_of_slot Two geometry.now }
+    requires inside { i < 64 * count_blocks geometry.now }
+    ensures { result ≡ is_bad_byte geometry.now (blocks_of slot.now) i }
+{
+    let count = count_in(slot, geometry, i);
+    count > 63 || (i >= geometry.numbers().pages && count != 0)
+}
+
+// A count past 63, or a byte past the last page that is not zero; version 1 has no counts.
+fn count_fault(slot: &[u8], form: Form, geometry: &Geometry) -> Option<BadImage>
+    requires { length slot.now ≡ 64 * blocks_of_slot form geometry.now }
+    ensures { result ≡ fault_of_counts form geometry.now (blocks_of slot.now) }
+{
+    match form {
+        Form::One => None,
+        Form::Two => bad_count(slot, geometry),
+    }
+}
+
+// So in version 2.
+fn bad_count(slot: &[u8], geometry: &Geometry) -> Option<BadImage>
+    requires { length slot.now ≡ 64 * blocks_of_slot Two geometry.now }
+    ensures { result ≡ fault_of_counts Two geometry.now (blocks_of slot.now) }
+{
+    for i in 0..64 * geometry.count_blocks() {
+        if is_bad_count(slot, geometry, i) {
+            return Some(BadImage::Count(i));
+        }
+    }
+    None
+}
+
+/// The first fault of the slot of a version with these bytes under a commit block of this epoch, if it has one: a record of
+/// another epoch, tables that no checkpoint has, a status without meaning or a count of instructions that is not below the
+/// ceiling, a console longer than its pages, a count of stores past 63 or past the last page.
+pub fn slot_fault(
+    slot: &[u8],
+    form: Form,
+    epoch: u64,
+    geometry: &Geometry,
+    ceiling: u64,
+) -> Option<BadImage>
+    requires { length slot.now ≡ 64 * blocks_of_slot form geometry.now }
+    ensures { result ≡ fault_of_slot form geometry.now ceiling epoch (blocks_of slot.now) }
 {
     if word_in(slot, 38) != epoch {
         return Some(BadImage::Commit);
@@ -104,5 +165,5 @@ pub fn slot_fault(slot: &[u8], epoch: u64, geometry: &Geometry, ceiling: u64) ->
     if let Some(bad) = tables_fault(btt_in(slot, geometry), ptt_in(slot, geometry), geometry) {
         return Some(bad);
     }
-    status_fault(slot, geometry, ceiling)
+    status_fault(slot, geometry, ceiling).or(count_fault(slot, form, geometry))
 }

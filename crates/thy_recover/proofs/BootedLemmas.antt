@@ -1,27 +1,33 @@
--- The end of a boot: at a restart of the kept mark, or at the start.
-use Rattle.std.proofs.Common.{◌≡◌, ℕ, true, List, length, map, None, sym, ◌∙◌, ap, subst, arith}
+-- Where a boot ends: at a restart of the kept mark, or at the start.
+use Rattle.std.proofs.Common.{◌≡◌, ℕ, ◌+◌, true, List, length, map, replicate, Option, Some, None, sym, ◌∙◌, ap, subst, arith}
 use Rattle.thy_base.specs.declared.block.Block.{Block}
 use Rattle.thy_base.specs.declared.config.Parameters.{Parameters}
+use Rattle.thy_base.specs.declared.form.Form.{Form}
+use Rattle.thy_base.specs.declared.form.Form.TheVariants.{Two}
 use Rattle.thy_base.specs.declared.mark.Mark.{Mark}
 use Rattle.thy_base.specs.Device.{block_at, newest}
 use Rattle.thy_isa.specs.declared.state.CpuState.{CpuState}
 use Rattle.thy_isa.specs.OnBlocks.{state_from}
 use Rattle.thy_isa.specs.Step.{cpu_of}
-use Rattle.thy_record.specs.Commit.{epoch_of}
+use Rattle.thy_record.specs.Commit.{epoch_of, form_of}
 use Rattle.thy_record.specs.Cpu.{cpu_of_record}
 use Rattle.thy_record.specs.Header.{header_fault}
-use Rattle.thy_record.specs.Images.{memory_numbers}
+use Rattle.thy_record.specs.Images.{slot_in, memory_numbers}
 use Rattle.thy_record.specs.Issuing.{IsToldBy}
-use Rattle.thy_record.specs.Slots.{tables_in, slot_fault}
+use Rattle.thy_record.specs.Slots.{tables_in, counts_in, slot_fault}
 use Rattle.thy_record.specs.Tables.{Tables, IsTables}
 use Rattle.thy_record.proofs.HeaderLemmas.{header_fault-header_of}
-use Rattle.thy_record.proofs.ReadBackLemmas.{epoch_of-commit_of}
+use Rattle.thy_record.proofs.ReadBackLemmas.{epoch_of-commit_of, form_of-commit_of}
+use Rattle.thy_record.proofs.SlotLemmas.{counts_back}
 use Rattle.thy_control.specs.CheckpointTables.{tables0}
 use Rattle.thy_control.proofs.TablesLemmas.{AreTablesOf-committed}
 use Rattle.thy_view.specs.Origin.{at}
 use Rattle.thy_view.specs.Safe.{ceiling}
+use Rattle.thy_protocol.specs.Keeps.{Keeps}
+use Rattle.thy_protocol.specs.Remapped.{layout_of}
 use Rattle.thy_protocol.proofs.KeepsLemmas.{at-start}
-use Rattle.thy_protocol.proofs.VersionOnePartsLemmas.{tables_are}
+use Rattle.thy_protocol.proofs.RemappedPartsLemmas.{slot_is, tables_are}
+use Rattle.thy_protocol.specs.Issuing.{slot_of}
 use Rattle.thy_boot.specs.declared.stage.Stage.{Stage}
 use Rattle.thy_boot.specs.Boot.{slot_read}
 use Rattle.thy_boot.specs.Filling.{First}
@@ -31,11 +37,12 @@ use Rattle.thy_boot.proofs.FoundLemmas.{restored_is_kept}
 use Rattle.thy_boot.proofs.ReadLemmas.{newest-settled}
 use Rattle.thy_boot.proofs.WrittenLemmas.{AreIssued-written}
 use Rattle.thy_recover.specs.Booted.{RestoredIsBooted, LoadedIsStarted}
-use Rattle.thy_recover.specs.Filling.{CanStart, loads, filling_one}
-use Rattle.thy_recover.specs.Start.{start_blocks, no_tables}
+use Rattle.thy_recover.specs.Filling.{CanStart, IsEmpty, loads, filling_one}
+use Rattle.thy_recover.specs.Start.{start_blocks, no_tables, no_counts}
 use Rattle.thy_recover.proofs.FillingLemmas.{filling_is_lawful, none_listed, all_hold, loads_first}
+use Rattle.thy_recover.proofs.FormLemmas.{names_two}
 use Rattle.thy_recover.proofs.RecordLemmas.{restored-recordable, start-recordable}
-use Rattle.thy_recover.proofs.StartLemmas.{IsTables-none, state_from-start, CanStart-origin}
+use Rattle.thy_recover.proofs.StartLemmas.{IsTables-none, AreCounts-none, counts-none, length-start_blocks, state_from-start, CanStart-origin}
 
 pub restored_is_booted : RestoredIsBooted
 restored_is_booted o g n b c origin sound is =
@@ -47,22 +54,31 @@ restored_is_booted o g n b c origin sound is =
     let f : IsRestored filling_one n b c = kept.5 in
     let rec : IsRecovering filling_one g n b c = subst (λ (q : Stage). IsSoundAt filling_one o q g n b c) is sound.so_far in
     let cpu : CpuState = cpu_of_record slot in
-    let told : IsToldBy b.p n.image epoch (tables0 c) = record {
+    let named : form_of b.commit ≡ Two = names_two b.p (block_at n.image 0) b.commit f.head.header_fits f.head.commit_fits in
+    let told : IsToldBy b.p n.image Two epoch (tables0 c) = record {
+      of_form = ap form_of f.head.commit_is.is ∙ named;
       of_epoch = ap epoch_of f.head.commit_is.is;
       tables = ap (tables_in b.p) (sym f.slot_is) ∙ ap (λ (q : Parameters). tables_in q slot) (sym rec.read.same_p) ∙ sym f.lists.are;
       whole = subst (λ (q : Parameters). IsTables q (tables0 c)) rec.read.same_p (AreTablesOf-committed c f.lists.tables).valid;
     } in
-    let told_mark : IsToldBy p g.before m.epoch (tables0 c)
-    = subst (λ (q : Parameters). IsToldBy q g.before m.epoch (tables0 c)) sound.geometry
-    (subst (λ (h : List Block). IsToldBy b.p h m.epoch (tables0 c)) (sym rec.before_is)
-    (subst (λ (x : ℕ). IsToldBy b.p n.image x (tables0 c)) (sym kept.2) told)) in
+    let told_mark : IsToldBy p g.before Two m.epoch (tables0 c)
+    = subst (λ (q : Parameters). IsToldBy q g.before Two m.epoch (tables0 c)) sound.geometry
+    (subst (λ (h : List Block). IsToldBy b.p h Two m.epoch (tables0 c)) (sym rec.before_is)
+    (subst (λ (x : ℕ). IsToldBy b.p n.image Two x (tables0 c)) (sym kept.2) told)) in
     let header : header_fault (newest n 0) p true ≡ None
     = ap (λ (x : Block). header_fault x p true) (newest-settled n 0 rec.read.settled)
     ∙ ap (λ (q : Parameters). header_fault (block_at n.image 0) q true) (sym sound.geometry) ∙ f.head.header_fits in
     let state : state_from p cpu (loads c n) ≡ at o m.count
     = ap (λ (q : Parameters). state_from q cpu (loads c n)) (sym sound.geometry) ∙ kept.4 in
-    let fits : slot_fault p ceiling epoch slot ≡ None
-    = ap (λ (q : Parameters). slot_fault q ceiling epoch slot) (sym sound.geometry) ∙ f.slot_fits in (
+    let fits : slot_fault (form_of b.commit) p ceiling epoch slot ≡ None
+    = ap (λ (q : Parameters). slot_fault (form_of b.commit) q ceiling epoch slot) (sym sound.geometry) ∙ f.slot_fits in
+    let lasts : counts_in Two p (slot_in p g.before) ≡ c.counts.lasts
+    = ap (λ (q : Parameters). counts_in Two q (slot_in q g.before)) (sym sound.geometry)
+    ∙ ap (λ (h : List Block). counts_in Two b.p (slot_in b.p h)) rec.before_is
+    ∙ ap (counts_in Two b.p) (sym f.slot_is)
+    ∙ ap (λ (x : Form). counts_in x b.p slot) (sym named)
+    ∙ ap (λ (q : Parameters). counts_in (form_of b.commit) q slot) (sym rec.read.same_p)
+    ∙ sym f.lists.counts in (
       m,
       kept.1,
       kept.2,
@@ -71,11 +87,12 @@ restored_is_booted o g n b c origin sound is =
         settled = rec.read.settled;
         booting = f.lists.booting;
         told = told_mark;
+        lasts = lasts;
         header = header;
         holds = f.whole;
         state = state;
         counted = kept.3.told.counted;
-        recordable = restored-recordable o m.count epoch slot (loads c n) origin fits state;
+        recordable = restored-recordable o (form_of b.commit) m.count epoch slot (loads c n) origin fits state;
       },
     )
 
@@ -93,17 +110,26 @@ loaded_is_started o g n b c origin sound is =
     ∙ (AreIssued-written _ f long n far.stood.parts).memory_is in
     let state : state_from p (cpu_of o.start) (loads c n) ≡ o.start
     = ap (state_from p (cpu_of o.start)) memory ∙ state_from-start p o.start can in
-    let told : IsToldBy p g.next 0 (no_tables p) = record {
+    let slot_same : slot_in p g.next ≡ slot_of f.parts = far.made.slot in
+    let lasts : counts_in Two p (slot_in p g.next) ≡ c.counts.lasts
+    = ap (counts_in Two p) slot_same
+    ∙ counts_back p (cpu_of o.start) (no_tables p) no_counts 0 (slot_of f.parts)
+    (slot_is p ceiling (cpu_of o.start) (no_tables p) no_counts 0 can.geometry can.recordable (omega arith) (omega arith) (IsTables-none p) (AreCounts-none p))
+    ∙ counts-none p.pages
+    ∙ ap (λ (q : Parameters). replicate q.pages 0) (sym sound.same_p) ∙ sym far.fresh.fresh.no_counts in
+    let told : IsToldBy p g.next Two 0 (no_tables p) = record {
+      of_form = ap form_of far.made.commit ∙ form_of-commit_of 0;
       of_epoch = ap epoch_of far.made.commit ∙ epoch_of-commit_of 0 (omega arith);
       tables = ap (tables_in p) far.made.slot
-          ∙ tables_are p ceiling (cpu_of o.start) (no_tables p) 0 can.geometry can.recordable (omega arith) (omega arith) (IsTables-none p);
+          ∙ tables_are p ceiling (cpu_of o.start) (no_tables p) no_counts 0 can.geometry can.recordable (omega arith) (omega arith) (IsTables-none p) (AreCounts-none p);
       whole = IsTables-none p;
     } in
     record {
       over = record {
         settled = far.settled;
         booting = far.fresh.fresh.booting;
-        told = subst (λ (t : Tables). IsToldBy p g.next 0 t) (sym tables) told;
+        told = subst (λ (t : Tables). IsToldBy p g.next Two 0 t) (sym tables) told;
+        lasts = lasts;
         header = ap (λ (x : Block). header_fault x p true) far.stood.header.newest_is ∙ header_fault-header_of p can.geometry;
         holds = all_hold c n far.fresh far.settled;
         state = state ∙ sym (at-start o);

@@ -7,12 +7,15 @@ use Rattle.thy_base.specs.declared.block.Block.{Block}
 use Rattle.thy_base.specs.declared.config.Parameters.{Parameters}
 use Rattle.thy_base.specs.declared.place.Place.TheVariants.{Home, Frame}
 use Rattle.thy_base.specs.Device.{Device, block_at, newest}
-use Rattle.thy_base.specs.Geometry.{memory_blocks}
-use Rattle.thy_base.specs.Places.{number_of, slot_place, slot_blocks, image_blocks}
+use Rattle.thy_base.specs.declared.form.Form.{Form}
+use Rattle.thy_base.specs.declared.form.Form.TheVariants.{One, Two}
+use Rattle.thy_base.specs.Geometry.{IsInRange, memory_blocks}
+use Rattle.thy_base.specs.Places.{number_of, blocks_of_slot, place_of_slot, slot_blocks, image_blocks}
 use Rattle.thy_base.proofs.RangeLemmas.{console_below}
 use Rattle.thy_cell.specs.BetweenCheckpoints.{FrameLoads}
 use Rattle.thy_isa.specs.OnBlocks.{state_from}
 use Rattle.thy_isa.specs.Step.{State as Plain, cpu_of}
+use Rattle.thy_record.specs.Commit.{commit_of, form_of}
 use Rattle.thy_record.specs.Header.{header_of}
 use Rattle.thy_record.specs.Images.{memory_in, memory_numbers}
 use Rattle.thy_record.specs.Slots.{tables_in}
@@ -29,24 +32,28 @@ use Rattle.thy_control.proofs.TablesLemmas.{AreTablesOf-committed}
 use Rattle.thy_table.specs.Listing.{entry_at as live_at}
 use Rattle.thy_view.specs.Safe.{ceiling}
 use Rattle.thy_protocol.specs.Layout.{slot_in, memory_in as memory_of}
-use Rattle.thy_protocol.specs.VersionOne.{version_one}
-use Rattle.thy_protocol.specs.VersionOneParts.{parts_by}
-use Rattle.thy_protocol.proofs.VersionOnePartsLemmas.{parts_of, no_fault, cpu_is}
+use Rattle.thy_protocol.specs.Remapped.{remapped}
+use Rattle.thy_protocol.specs.RemappedParts.{parts_by}
+use Rattle.thy_protocol.proofs.RemappedPartsLemmas.{parts_of, no_fault, cpu_is}
 use Rattle.thy_boot.specs.Filling.{IsFilling}
 use Rattle.thy_boot.proofs.ReadLemmas.{newest-settled}
-use Rattle.thy_recover.specs.Filling.{CanStart, IsEmpty, ListsSlot, loads, next_position, page_place, filling_one}
-use Rattle.thy_recover.specs.Start.{start_blocks, no_tables}
+use Rattle.thy_recover.specs.Filling.{CanStart, IsEmpty, ListsSlot, loads, next_position, page_place, with_filled, filling_one}
+use Rattle.thy_recover.specs.Start.{start_blocks, no_tables, no_counts}
 use Rattle.thy_recover.proofs.PositionLemmas.{IsPosition, IsPosition-next, position_inside, position_above, place_inside, position_again, filled_next, filled_all, AreSoundTables-dram, ListsSlot-dram, lists_filled, fills_to}
 use Rattle.thy_recover.proofs.LiveLemmas.{live_in_tables}
-use Rattle.thy_recover.proofs.StartLemmas.{IsTables-none, place_of-none, length-start_blocks, state_from-start, CanStart-origin}
+use Rattle.thy_recover.proofs.SlotLemmas.{least_slot, most_slot}
+use Rattle.thy_recover.proofs.StartLemmas.{IsTables-none, AreCounts-none, place_of-none, length-start_blocks, state_from-start, CanStart-origin}
 use Rattle.thy_recover.proofs.WorkLemmas.{loads-are}
 
 -- ---- places
 
-inside_image : (p : Parameters) (s : ℕ) → s < 2 → slot_place p s + slot_blocks p ≤ image_blocks p
-inside_image p zero l = omega arith
-inside_image p (suc zero) l = omega arith
-inside_image p (suc (suc s)) l = absurd (omega arith)
+inside_image : (f : Form) (p : Parameters) (s : ℕ) → s < 2 → place_of_slot f p s + blocks_of_slot f p ≤ image_blocks p
+inside_image One p zero l = omega arith
+inside_image One p (suc zero) l = omega arith
+inside_image One p (suc (suc s)) l = absurd (omega arith)
+inside_image Two p zero l = omega arith
+inside_image Two p (suc zero) l = omega arith
+inside_image Two p (suc (suc s)) l = absurd (omega arith)
 
 pub count_is : (p : Parameters) (cpu : _) (memory : List Block) → (state_from p cpu memory).count ≡ cpu.count
 unfolding state_from
@@ -54,12 +61,12 @@ count_is p cpu memory = refl
 
 -- ---- with all filled
 
-module _ (c : State) (n : Device) (slot : List Block) (from : ℕ) (l : ListsSlot slot c) (none : next_position c.p slot from ≡ None)
-    (settled : n.queue ≡ []) (is : slot_in (version_one c.p ceiling) n.image ≡ slot) where
+module _ (c : State) (n : Device) (commit : Block) (slot : List Block) (from : ℕ) (l : ListsSlot commit slot c) (none : next_position c.p slot from ≡ None)
+    (settled : n.queue ≡ []) (is : slot_in (remapped c.p ceiling) n.image ≡ slot) where
   held : filling_one.filled c n from → HoldAll c n
-  held filled = HoldAll-framed c n l.tables l.booting (filled_all slot c l n from none filled)
+  held filled = HoldAll-framed c n l.tables l.booting (filled_all commit slot c l n from none filled)
 
-  memory_same : HoldAll c n → loads c n ≡ memory_of (version_one c.p ceiling) n.image
+  memory_same : HoldAll c n → loads c n ≡ memory_of (remapped c.p ceiling) n.image
   memory_same holds =
       loads-are c n l.tables l.booting holds settled AreTablesOf-committed
       ∙ ap (λ (t : Tables). memory_in c.p t n.image) (l.are ∙ ap (tables_in c.p) (sym is))
@@ -73,6 +80,7 @@ fresh_drained c e = record {
     booting = record { idle = e.fresh.booting.idle; blocks = e.fresh.booting.blocks; pages = e.fresh.booting.pages };
     no_blocks = e.fresh.no_blocks;
     no_pages = e.fresh.no_pages;
+    no_counts = e.fresh.no_counts;
   };
 }
 
@@ -99,10 +107,10 @@ module _ (p : Parameters) (s : Plain) (h : CanStart p s) where
       let two = first_place j (omega (arith, b, numbers_long)) in
       omega (arith, e, one, two)
 
-  state_same : state_from p (filling_one.cpu_in (map (parts_by p (cpu_of s) (no_tables p) 0).slot (range_with_len 0 (slot_blocks p)))) (start_blocks p s) ≡ s
+  state_same : state_from p (filling_one.cpu_in (map (parts_by p (cpu_of s) (no_tables p) no_counts 0).slot (range_with_len 0 (slot_blocks p)))) (start_blocks p s) ≡ s
   state_same =
       ap (λ c. state_from p c (start_blocks p s))
-      (cpu_is p ceiling (cpu_of s) (no_tables p) 0 h.geometry h.recordable (omega arith) (omega arith) (IsTables-none p))
+      (cpu_is p ceiling (cpu_of s) (no_tables p) no_counts 0 h.geometry h.recordable (omega arith) (omega arith) (IsTables-none p) (AreCounts-none p))
       ∙ state_from-start p s h
 
 -- a controller that lists nothing has memory at home
@@ -138,25 +146,25 @@ frame_loads = grind arith
 
 pub filling_is_lawful : IsFilling filling_one
 filling_is_lawful = record {
-  some_slot = λ p commit. omega arith;
-  most_room = λ p commit. omega arith;
+  some_slot = λ p commit. let least = least_slot (form_of commit) p in omega (arith, least);
+  most_room = λ p commit. most_slot (form_of commit) p;
   head_inside = λ p. omega arith;
-  slot_inside = λ p header commit header_fits commit_fits. inside_image p (_ % 2) (half _);
+  slot_inside = λ p header commit header_fits commit_fits. inside_image (form_of commit) p (_ % 2) (half _);
   counts = λ p slot memory. count_is p (filling_one.cpu_in slot) memory;
   begins = λ c n commit slot lists i m may below. absurd (omega (arith, below));
   next = λ c n commit slot from k lists filled next.
       let at : IsPosition c.p slot from k = IsPosition-next c.p slot from k next in (
         position_inside c.p slot from k at,
         place_inside c.p slot from k at c refl,
-        filled_next slot c lists n from k at filled,
+        filled_next commit slot c lists n from k at filled,
         position_again c.p slot from k at,
       );
   above = λ p commit slot from k next.
       let at : IsPosition p slot from k = IsPosition-next p slot from k next in
       (position_above p slot from k at, position_inside p slot from k at);
   fills = λ c n commit slot k lists filled next settled sized at. (
-    lists_filled slot c n k lists next sized frame_loads,
-    fills_to slot c n k lists next sized frame_loads filled,
+    lists_filled commit slot c n k lists next sized frame_loads,
+    fills_to commit slot c n k lists next sized frame_loads filled,
     refl,
   );
   fill_acts = λ c n commit k.
@@ -164,23 +172,23 @@ filling_is_lawful = record {
   fill_keeps = λ c commit k block. record { room = refl; most = omega arith; counts = refl };
   same_keeps = λ c. record { room = refl; most = omega arith; counts = refl };
   ends = λ c n commit slot from lists filled none settled sized at is.
-      let holds : HoldAll c n = held c n slot from lists none settled is filled in
-      (holds, memory_same c n slot from lists none settled is holds);
+      let holds : HoldAll c n = held c n commit slot from lists none settled is filled in
+      (holds, memory_same c n commit slot from lists none settled is holds);
   drain_p = λ c. refl;
   drain_fresh = fresh_drained;
-  drain_lists = λ c commit slot lists. ListsSlot-dram slot c (filling_one.drained c).dram refl lists;
+  drain_lists = λ c commit slot lists. ListsSlot-dram commit slot c (filling_one.drained c).dram refl lists;
   drain_filled = λ c n k filled i m may below. filled i m (record { listed = may.listed; inside = may.inside }) below;
   drain_whole = λ c n holds. holds;
   drain_loads = λ c n. refl;
   origin_starts = CanStart-origin;
   first_committed = λ p s h. is_zero-commit_of 0;
   first_epoch = λ p s h. epoch_of-commit_of 0 (omega arith);
-  first_parts = λ p s h. parts_of p ceiling (cpu_of s) (no_tables p) 0 h.geometry h.recordable (omega arith) (omega arith) (IsTables-none p);
+  first_parts = λ p s h. parts_of p ceiling (cpu_of s) (no_tables p) no_counts 0 h.geometry h.recordable (omega arith) (omega arith) (IsTables-none p) (AreCounts-none p);
   first_some = λ p s h. let some = some_memory p s h in let long = numbers_long p s h in omega (arith, some, long);
   first_once = λ p s i j h a b e. places_once p s h i j a b e;
   first_whole = λ p s h. length-start_blocks p s ∙ sym (numbers_long p s h);
   first_faultless = λ p s h.
-      no_fault p ceiling (cpu_of s) (no_tables p) 0 h.geometry h.recordable (omega arith) (omega arith) (IsTables-none p)
+      no_fault p ceiling (cpu_of s) (no_tables p) no_counts 0 h.geometry h.recordable (omega arith) (omega arith) (IsTables-none p) (AreCounts-none p)
       (header_of p) (header_fault-header_of p h.geometry);
   first_state = λ p s h. state_same p s h;
   first_loads = λ c n s e settled. loads_first c n e settled;

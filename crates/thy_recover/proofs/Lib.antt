@@ -1,7 +1,9 @@
+pub mod CountLemmas
 pub mod ListedLemmas
 pub mod BlockLemmas
 pub mod LiveLemmas
 pub mod WorkLemmas
+pub mod FormLemmas
 pub mod RecordLemmas
 pub mod StartLemmas
 pub mod PositionLemmas

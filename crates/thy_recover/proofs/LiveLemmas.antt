@@ -46,4 +46,5 @@ IsFresh-new p dram = record {
       ∙ ap (option_and_then (λ (e : BttEntry). entry_lists e.v0 e.block)) (entry_at-empty block_key p.btt (memory_blocks p) k);
   no_pages = λ k. get_or-map (option_and_then (λ (e : PttEntry). page_lists e.place e.page)) (new_state p dram).ptt.entries k None
       ∙ ap (option_and_then (λ (e : PttEntry). page_lists e.place e.page)) (entry_at-empty page_key p.ptt p.pages k);
+  no_counts = refl;
 }

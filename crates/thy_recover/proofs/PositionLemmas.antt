@@ -96,8 +96,8 @@ none_listed_from p slot from h i above = by_first (first_from is_some (from / 64
 no_both : true ≡ false → ⊥
 no_both e = cc
 
-module _ (slot : List Block) (c : State) (l : ListsSlot slot c) where
-  -- a page is live exactly if the slot lists it
+module _ (commit : Block) (slot : List Block) (c : State) (l : ListsSlot commit slot c) where
+  -- a page is live exactly where the slot lists it
   pub live_listed : (j : ℕ) → is_some (live_at c.ptt j) ≡ is_some (entry_at (tables_in c.p slot).ptt j)
   live_listed j = live_in_tables c l.booting j ∙ ap (λ (t : Tables). is_some (entry_at t.ptt j)) l.are
 
@@ -143,11 +143,13 @@ AreSoundTables-dram c d long t = record {
   cells = t.cells;
 }
 
-pub ListsSlot-dram : (slot : List Block) (c : State) (d : Contents) → length d.blocks ≡ length c.dram.blocks → ListsSlot slot c → ListsSlot slot (record c { dram = d })
-ListsSlot-dram slot c d long l = record {
+pub ListsSlot-dram : (commit : Block) (slot : List Block) (c : State) (d : Contents) → length d.blocks ≡ length c.dram.blocks
+    → ListsSlot commit slot c → ListsSlot commit slot (record c { dram = d })
+ListsSlot-dram commit slot c d long l = record {
   tables = AreSoundTables-dram c d long l.tables;
   booting = record { idle = l.booting.idle; blocks = l.booting.blocks; pages = l.booting.pages };
   are = l.are;
+  counts = l.counts;
 }
 
 -- ---- a position is filled
@@ -156,7 +158,7 @@ pub filled_is_framed : (k : ℕ) (c : State) (n : Device) → with_frame (k / 64
 unfolding with_frame
 filled_is_framed k c n = refl
 
-module _ (slot : List Block) (c : State) (n : Device) (k : ℕ) (l : ListsSlot slot c) (next : next_position c.p slot k ≡ Some k)
+module _ (commit : Block) (slot : List Block) (c : State) (n : Device) (k : ℕ) (l : ListsSlot commit slot c) (next : next_position c.p slot k ≡ Some k)
     (sized : length n.image ≡ image_blocks c.p) (law : FrameLoads) where
   abbrev d : State
   d = with_filled k (newest n (page_place c k)) c
@@ -166,7 +168,7 @@ module _ (slot : List Block) (c : State) (n : Device) (k : ℕ) (l : ListsSlot s
 
   pub may_fill : MayFrame (k / 64) (k % 64) c
   may_fill = record {
-    listed = live_listed slot c l (k / 64)
+    listed = live_listed commit slot c l (k / 64)
         ∙ ap (λ (j : ℕ). is_some (entry_at (tables_in c.p slot).ptt j)) (entry_is c.p slot k k at) ∙ at.here;
     inside = omega arith;
   }
@@ -182,8 +184,8 @@ module _ (slot : List Block) (c : State) (n : Device) (k : ℕ) (l : ListsSlot s
   long : length d.dram.blocks ≡ length c.dram.blocks
   long = length-set c.dram.blocks (number_of c.p (Frame (k / 64) (k % 64))) (newest n (page_place c k))
 
-  pub lists_filled : ListsSlot slot d
-  lists_filled = ListsSlot-dram slot c d.dram long l
+  pub lists_filled : ListsSlot commit slot d
+  lists_filled = ListsSlot-dram commit slot c d.dram long l
 
   pub fills_to : ((i m : ℕ) → MayFrame i m c → 64 * i + m < k → Holds (reads c n) (cell_of c (framed_block i m c)))
       → (i m : ℕ) → MayFrame i m d → 64 * i + m < k + 1 → Holds (reads d n) (cell_of d (framed_block i m d))

@@ -1,31 +1,58 @@
 -- The slot in its room, and a controller that lists it.
 use Rattle.std.proofs.Common.{◌≡◌, ℕ, ◌+◌, ◌*◌, ◌/◌, List, length, Option, Some, None, refl, sym, ◌∙◌, ap, arith}
 use Rattle.std.specs.Option.{option_or}
-use Rattle.std.proofs.lemmas.List.{length-map, ext_get_or, take_all}
-use Rattle.std.proofs.lemmas.List.FromFn.{length-range_with_len}
-use Rattle.std.specs.List.{range_with_len}
+use Rattle.std.proofs.lemmas.List.{length-map, length-take-le, get_or-take, ext_get_or}
 use Rattle.thy_base.specs.declared.block.Block.{Block}
 use Rattle.thy_base.specs.declared.config.Parameters.{Parameters}
-use Rattle.thy_base.specs.Places.{slot_blocks}
+use Rattle.thy_base.specs.declared.form.Form.{Form}
+use Rattle.thy_base.specs.declared.form.Form.TheVariants.{One, Two}
+use Rattle.thy_base.specs.Device.{zero_block}
+use Rattle.thy_base.specs.Places.{record_blocks, table_blocks, blocks_of_slot, slot_blocks}
+use Rattle.thy_record.specs.Commit.{form_of}
 use Rattle.thy_record.specs.Files.{block_in, blocks_of}
 use Rattle.thy_record.specs.ImageLaws.{FaultlessTables}
-use Rattle.thy_record.specs.Slots.{tables_in, epoch_fault, status_fault, slot_fault}
+use Rattle.thy_record.specs.Slots.{tables_in, counts_in, epoch_fault, status_fault, count_fault, slot_fault}
 use Rattle.thy_record.specs.TableFaults.{tables_fault}
-use Rattle.thy_record.specs.Tables.{Tables, IsTables}
+use Rattle.thy_record.specs.Tables.{Tables, IsTables, entry_at}
+use Rattle.thy_record.proofs.FileLemmas.{length-blocks_of, block_at-blocks_of, block_in-part}
 use Rattle.thy_record.proofs.SlotLemmas.{length-entries_in}
 use Rattle.thy_control.specs.CheckpointTables.{tables0}
 use Rattle.thy_control.specs.State.{State, AreSoundTables}
 use Rattle.thy_boot.specs.Boot.{slot_bytes}
 use Rattle.thy_boot.specs.Filling.{ListsOn}
 use Rattle.thy_recover.specs.Filling.{IsEmpty, filling_one}
-use Rattle.thy_recover.specs.Listed.{HaveFirst, ListsUpTo, AsListed}
+use Rattle.thy_recover.specs.Listed.{HaveFirst, ListsUpTo, AsListed, HasCounts}
 
--- it fills the room
-pub slot_is_all : (p : Parameters) (commit : Block) (bytes : List ℕ) → length bytes ≡ 64 * slot_blocks p → slot_bytes filling_one p commit bytes ≡ blocks_of bytes
-slot_is_all p commit bytes room =
-    let blocks : length (blocks_of bytes) ≡ slot_blocks p
-    = length-map (range_with_len 0 (length bytes / 64)) (block_in bytes) ∙ length-range_with_len 0 (length bytes / 64) ∙ omega (arith, room) in
-    take_all (slot_blocks p) (blocks_of bytes) (omega (arith, blocks))
+-- a slot of either version has the record and the tables, and fits into the room
+pub least_slot : (f : Form) (p : Parameters) → record_blocks p + table_blocks p ≤ blocks_of_slot f p
+least_slot One p = omega arith
+least_slot Two p = omega arith
+
+pub most_slot : (f : Form) (p : Parameters) → blocks_of_slot f p ≤ slot_blocks p
+most_slot One p = omega arith
+most_slot Two p = omega arith
+
+-- the first blocks of bytes
+blocks_of-take : (bytes : List ℕ) (n : ℕ) → n ≤ length bytes / 64 → blocks_of (take (64 * n) bytes) ≡ take n (blocks_of bytes)
+blocks_of-take bytes n inside =
+    let part : length (take (64 * n) bytes) ≡ 64 * n = length-take-le (64 * n) bytes (omega arith) in
+    let left : length (blocks_of (take (64 * n) bytes)) ≡ n = omega (arith, length-blocks_of (take (64 * n) bytes), part) in
+    let right : length (take n (blocks_of bytes)) ≡ n = length-take-le n (blocks_of bytes) (omega (arith, length-blocks_of bytes)) in
+    ext_get_or zero_block (blocks_of (take (64 * n) bytes)) (take n (blocks_of bytes)) (left ∙ sym right)
+    (λ k below.
+    let l : k < n = omega (arith, left) in
+    let plain : 0 + k ≡ k = omega arith in
+    block_at-blocks_of (take (64 * n) bytes) k (omega (arith, part))
+    ∙ block_in-part bytes 0 n k l ∙ ap (block_in bytes) plain
+    ∙ sym (get_or-take n (blocks_of bytes) k zero_block l ∙ block_at-blocks_of bytes k (omega arith)))
+
+-- those of the slot in its room
+pub slot_is_first : (p : Parameters) (commit : Block) (bytes : List ℕ) (size : ℕ) → length bytes ≡ 64 * slot_blocks p
+    → size ≡ 64 * blocks_of_slot (form_of commit) p → blocks_of (take size bytes) ≡ slot_bytes filling_one p commit bytes
+slot_is_first p commit bytes size room is =
+    let most = most_slot (form_of commit) p in
+    ap (λ x. blocks_of (take x bytes)) is
+    ∙ blocks_of-take bytes (blocks_of_slot (form_of commit) p) (omega (arith, most, room))
 
 -- the tables of a slot have as many entries as the geometry
 pub size_of_ptt : (p : Parameters) (slot : List Block) → length (tables_in p slot).ptt ≡ p.ptt
@@ -39,17 +66,27 @@ none_of_two None b h = (refl, h)
 none_of_two (Some x) b h = absurd (cc)
 
 -- those of one without a fault are such that a checkpoint may have
-pub tables_fit : FaultlessTables → (p : Parameters) (ceiling epoch : ℕ) (slot : List Block) → slot_fault p ceiling epoch slot ≡ None
-    → IsTables p (tables_in p slot)
+pub tables_fit : FaultlessTables → (form : Form) (p : Parameters) (ceiling epoch : ℕ) (slot : List Block)
+    → slot_fault form p ceiling epoch slot ≡ None → IsTables p (tables_in p slot)
 unfolding slot_fault
-tables_fit law p ceiling epoch slot h =
+tables_fit law form p ceiling epoch slot h =
     let t : Tables = tables_in p slot in
-    let rest = (none_of_two (epoch_fault epoch slot) (option_or (tables_fault p t) (status_fault p ceiling slot)) h).1 in
+    let rest = (none_of_two (epoch_fault epoch slot) (option_or (tables_fault p t) (option_or (status_fault p ceiling slot) (count_fault form p slot))) h).1 in
     (law p t).found (record {
       btt_length = size_of_btt p slot;
       ptt_length = size_of_ptt p slot;
-      none = (none_of_two (tables_fault p t) (status_fault p ceiling slot) rest).0;
+      none = (none_of_two (tables_fault p t) (option_or (status_fault p ceiling slot) (count_fault form p slot)) rest).0;
     })
+
+-- and so are its counts
+pub counts_fit : (form : Form) (p : Parameters) (ceiling epoch : ℕ) (slot : List Block)
+    → slot_fault form p ceiling epoch slot ≡ None → count_fault form p slot ≡ None
+unfolding slot_fault
+counts_fit form p ceiling epoch slot h =
+    let t : Tables = tables_in p slot in
+    let rest = (none_of_two (epoch_fault epoch slot) (option_or (tables_fault p t) (option_or (status_fault p ceiling slot) (count_fault form p slot))) h).1 in
+    (none_of_two (status_fault p ceiling slot) (count_fault form p slot)
+    (none_of_two (tables_fault p t) (option_or (status_fault p ceiling slot) (count_fault form p slot)) rest).1).1
 
 -- what is empty lists none of any tables
 pub ListsUpTo-empty : (p : Parameters) (slot : List Block) (c : State) → c.p ≡ p → IsEmpty c → ListsUpTo 0 0 (tables_in p slot) c
@@ -71,23 +108,28 @@ all_listed i j t u bi pj h =
     ap (λ (x : List (Option ℕ)). record u { btt = x }) (ext_get_or None u.btt t.btt h.btt_length (λ k l. h.blocks k (omega (arith, l, h.btt_length, bi))))
     ∙ ap (λ (x : List (Option ℕ)). record t { ptt = x }) (ext_get_or None u.ptt t.ptt h.ptt_length (λ k l. h.pages k (omega (arith, l, h.ptt_length, pj))))
 
-pub lists_on : (p : Parameters) (commit : Block) (slot : List Block) (c d : State) → c.p ≡ p → AreSoundTables d → AsListed p.btt p.ptt (tables_in p slot) c d
-    → ListsOn filling_one commit slot c d
-lists_on p commit slot c d same tables l =
+pub lists_on : (p : Parameters) (commit : Block) (slot : List Block) (c d e : State) → c.p ≡ p → AreSoundTables e
+    → AsListed p.btt p.ptt (tables_in p slot) c d → HasCounts (form_of commit) p slot d e → ListsOn filling_one commit slot c e
+lists_on p commit slot c d e same tables l h =
     let same_p : d.p ≡ c.p = ap (λ (x : State). x.p) l.same in
+    let then_p : e.p ≡ d.p = ap (λ (x : State). x.p) h.same in
     let same_dram : d.dram ≡ c.dram = ap (λ (x : State). x.dram) l.same in
+    let then_dram : e.dram ≡ d.dram = ap (λ (x : State). x.dram) h.same in
+    let all_p : e.p ≡ p = then_p ∙ same_p ∙ same in
     record {
       lists = record {
         tables = tables;
-        booting = l.lists.booting;
-        are = all_listed p.btt p.ptt (tables_in p slot) (tables0 d) (size_of_btt p slot) (size_of_ptt p slot) l.lists.have
-            ∙ ap (λ (q : Parameters). tables_in q slot) (sym (same_p ∙ same));
+        booting = h.booting;
+        are = ap tables0 h.same
+            ∙ all_listed p.btt p.ptt (tables_in p slot) (tables0 d) (size_of_btt p slot) (size_of_ptt p slot) l.lists.have
+            ∙ ap (λ (q : Parameters). tables_in q slot) (sym all_p);
+        counts = h.lasts ∙ ap (λ (q : Parameters). counts_in (form_of commit) q slot) (sym all_p);
       };
-      same_p = same_p;
-      same_dram = same_dram;
+      same_p = then_p ∙ same_p;
+      same_dram = then_dram ∙ same_dram;
       keeps = record {
-        room = ap (λ x. x.room) same_dram;
-        most = (let queued = ap (λ x. x.queued) same_dram in omega (arith, queued));
-        counts = ap (λ (x : State). x.counts) l.same;
+        room = ap (λ x. x.room) (then_dram ∙ same_dram);
+        most = (let queued = ap (λ x. x.queued) (then_dram ∙ same_dram) in omega (arith, queued));
+        counts = ap (λ (x : State). x.counts.counts) h.same ∙ ap (λ (x : State). x.counts.counts) l.same;
       };
     }

@@ -1,8 +1,8 @@
 -- The checkpoint of a start: tables that list nothing, and blocks that make its state.
-use Rattle.std.proofs.Common.{◌≡◌, ℕ, suc, ◌+◌, ◌-◌, ◌*◌, ◌%◌, ◌<◌, ◌≤◌, List, [], ◌∷◌, ◌++◌, length, take, drop, replicate, Option, Some, None, refl, sym, ◌∙◌, ap, inl, inr, arith}
+use Rattle.std.proofs.Common.{◌≡◌, ℕ, suc, ◌+◌, ◌-◌, ◌*◌, ◌%◌, ◌<◌, ◌≤◌, List, [], ◌∷◌, ◌++◌, length, map, take, drop, replicate, slice_index_or, Option, Some, None, refl, sym, ◌∙◌, ap, inl, inr, arith}
 use Rattle.std.proofs.Math.Seq.{take-append_seam, drop-append_seam}
 use Rattle.std.proofs.lemmas.Bool.{cases_lt}
-use Rattle.std.proofs.lemmas.List.{drop-drop, drop-replicate, take-replicate, replicate-append-replicate, take-append-drop, length-take-le, length-append, length-drop, length-replicate, get_or-replicate, get_or_past}
+use Rattle.std.proofs.lemmas.List.{drop-drop, drop-replicate, take-replicate, replicate-append-replicate, take-append-drop, length-take-le, length-append, length-drop, length-replicate, get_or-replicate, get_or_past, ext_get_or}
 use Rattle.std.proofs.lemmas.List.FromFn.{length-map-range_with_len, get_or-map-range_with_len}
 use Rattle.thy_base.specs.declared.block.Block.{Block}
 use Rattle.thy_base.specs.declared.config.Parameters.{Parameters}
@@ -10,7 +10,9 @@ use Rattle.thy_base.specs.declared.place.Place.TheVariants.{Home}
 use Rattle.thy_base.specs.Blocks.{block_bytes}
 use Rattle.thy_base.specs.Device.{zero_block, block_at}
 use Rattle.thy_base.specs.Geometry.{IsInRange, memory_blocks, program_size, console_room}
-use Rattle.thy_base.specs.Places.{slot_blocks}
+use Rattle.std.specs.List.{range_with_len}
+use Rattle.thy_base.specs.LittleEndian.{number_bytes}
+use Rattle.thy_base.specs.Places.{table_blocks, slot_blocks}
 use Rattle.thy_base.specs.Store.{page_of}
 use Rattle.thy_base.proofs.BlockLemmas.{block_bytes-long}
 use Rattle.thy_base.proofs.RangeLemmas.{console_below, btt_eights, ptt_eights}
@@ -21,10 +23,12 @@ use Rattle.thy_record.specs.Tables.{Lists, IsTables, entry_of, place_by_entries,
 use Rattle.thy_record.specs.TableBlocks.{table_block_of}
 use Rattle.thy_base.specs.Words.{block_of}
 use Rattle.thy_record.proofs.EntryLemmas.{entry_of-absent}
+use Rattle.thy_record.specs.Slots.{AreCounts, byte_in, slot_block_of}
+use Rattle.thy_record.proofs.SlotLemmas.{slot_block_of-table, slot_block_of-count}
 use Rattle.thy_record.proofs.TableLemmas.{table_block_of-entries}
 use Rattle.thy_view.specs.Origin.{Origin, IsOrigin}
 use Rattle.thy_recover.specs.Filling.{CanStart}
-use Rattle.thy_recover.specs.Start.{start_bytes, start_block, start_blocks, no_tables}
+use Rattle.thy_recover.specs.Start.{start_bytes, start_block, start_blocks, start_slot, no_tables, no_counts}
 use Rattle.thy_recover.proofs.RecordLemmas.{start-recordable}
 
 -- ---- tables that list nothing
@@ -57,7 +61,7 @@ place_of-none p b =
     (entry_of-absent (replicate p.ptt None) (page_of b) (λ i l. lists_none p.ptt i (page_of b) l))
 
 -- and their blocks hold zeros
-pub table_block-none : (p : Parameters) (k : ℕ) → IsInRange p → 5 + k < slot_blocks p → block_of (replicate 8 0) ≡ table_block_of (no_tables p) k
+pub table_block-none : (p : Parameters) (k : ℕ) → IsInRange p → k < table_blocks p → block_of (replicate 8 0) ≡ table_block_of (no_tables p) k
 table_block-none p k r inside =
     let eights : p.btt % 8 ≡ 0 = btt_eights p r in
     let pages : p.ptt % 8 ≡ 0 = ptt_eights p r in
@@ -66,6 +70,46 @@ table_block-none p k r inside =
     = sym (ap (λ (xs : List (Option ℕ)). take 8 (drop (8 * k) xs)) (replicate-append-replicate p.btt p.ptt None)
     ∙ ap (take 8) (drop-replicate (8 * k) (p.btt + p.ptt) None) ∙ take-replicate 8 (p.btt + p.ptt - 8 * k) None enough) in
     table_block_of-entries (no_tables p) k (replicate 8 None) entries
+
+-- so do those of counts of 0
+zeros_at : (j : ℕ) → slice_index_or zero_block.0 j 0 ≡ 0
+unfolding zero_block
+zeros_at j = elim (cases_lt j 64) as (λ _. slice_index_or (replicate {A = ℕ} 64 0) j 0 ≡ 0) [
+  | inl l ↦ get_or-replicate {A = ℕ} 64 j 0 0 l
+  | inr m ↦ get_or_past {X = ℕ} (replicate {A = ℕ} 64 0) j 0 (omega (arith, length-replicate {A = ℕ} 64 0))
+]
+
+pub AreCounts-none : (p : Parameters) → AreCounts p no_counts
+AreCounts-none p = record {
+  within = λ i l. let zero = zeros_at (i % 64) in omega (arith, zero);
+  rest = λ i m l. zeros_at (i % 64);
+}
+
+-- read back they are 0
+pub counts-none : (pages : ℕ) → map (byte_in no_counts) (range_with_len 0 pages) ≡ replicate pages 0
+counts-none pages =
+    let left = length-map-range_with_len (byte_in no_counts) 0 pages in
+    ext_get_or 0 (map (byte_in no_counts) (range_with_len 0 pages)) (replicate pages 0) (left ∙ sym (length-replicate pages 0))
+    (λ i below.
+    let l : i < pages = omega (arith, left) in
+    get_or-map-range_with_len (byte_in no_counts) 0 pages i i 0 l (omega arith) ∙ zeros_at (i % 64) ∙ sym (get_or-replicate {A = ℕ} pages i 0 0 l))
+
+zero_words : block_of (replicate 8 0) ≡ zero_block
+unfolding block_of number_bytes zero_block
+zero_words = refl
+
+-- block k of a start's slot behind the record
+pub start_slot-zeros : (p : Parameters) (s : State) (k : ℕ) → IsInRange p → 5 ≤ k → k < slot_blocks p → block_of (replicate 8 0) ≡ start_slot p s k
+start_slot-zeros p s k r past inside = elim (cases_lt (k - 5) (table_blocks p)) as (λ _. block_of (replicate 8 0) ≡ start_slot p s k) [
+  | inl l ↦
+      let e : 5 + (k - 5) ≡ k = omega arith in
+      table_block-none p (k - 5) r l ∙ sym (slot_block_of-table p (cpu_of s) (no_tables p) no_counts 0 (k - 5) l)
+      ∙ ap (slot_block_of p (cpu_of s) (no_tables p) no_counts 0) e
+  | inr m ↦
+      let e : 5 + table_blocks p + (k - 5 - table_blocks p) ≡ k = omega arith in
+      zero_words ∙ sym (slot_block_of-count p (cpu_of s) (no_tables p) no_counts 0 (k - 5 - table_blocks p))
+      ∙ ap (slot_block_of p (cpu_of s) (no_tables p) no_counts 0) e
+]
 
 -- ---- the state
 

@@ -2,6 +2,7 @@
 use Rattle.std.specs.Prelude.{◌≡◌, true, List, [], Some, None}
 use Rattle.thy_base.specs.declared.block.Block.{Block}
 use Rattle.thy_base.specs.declared.mark.Mark.{Mark}
+use Rattle.thy_base.specs.declared.form.Form.TheVariants.{Two}
 use Rattle.thy_base.specs.Device.{Device, newest}
 use Rattle.thy_crash.specs.Saved.{Kept}
 use Rattle.thy_isa.specs.declared.state.CpuState.{CpuState}
@@ -10,7 +11,9 @@ use Rattle.thy_isa.specs.Step.{cpu_of}
 use Rattle.thy_record.specs.Commit.{epoch_of}
 use Rattle.thy_record.specs.Cpu.{cpu_of_record, IsRecordable}
 use Rattle.thy_record.specs.Header.{header_fault}
+use Rattle.thy_record.specs.Images.{slot_in}
 use Rattle.thy_record.specs.Issuing.{IsToldBy}
+use Rattle.thy_record.specs.Slots.{counts_in}
 use Rattle.thy_control.specs.Boot.{IsBooting}
 use Rattle.thy_control.specs.CheckpointTables.{tables0}
 use Rattle.thy_control.specs.State.{State}
@@ -18,7 +21,7 @@ use Rattle.thy_control.specs.Stays.{HoldAll}
 use Rattle.thy_view.specs.Origin.{Origin, IsOrigin, at}
 use Rattle.thy_view.specs.Safe.{ceiling}
 use Rattle.thy_protocol.specs.Keeps.{Keeps}
-use Rattle.thy_protocol.specs.VersionOne.{layout_of}
+use Rattle.thy_protocol.specs.Remapped.{layout_of}
 use Rattle.thy_boot.specs.declared.stage.Stage.TheVariants.{Over}
 use Rattle.thy_boot.specs.declared.stage.End.TheVariants.{Restored, Loaded}
 use Rattle.thy_boot.specs.Boot.{Booting, slot_read}
@@ -26,12 +29,13 @@ use Rattle.thy_boot.specs.Sound.{BootImages, start_mark, IsSound}
 use Rattle.thy_recover.specs.Filling.{loads, filling_one}
 use Rattle.thy_recover.specs.Start.{start_blocks, no_tables}
 
--- A boot that is over: the image of a mark is kept, the controller has its tables, memory as it loads it and this
+-- A boot that is over: the image of a mark is kept, the controller has its tables and counts, memory as it loads it and this
 -- processor make the state of the mark, and the next checkpoint's record can hold the processor.
 pub record IsBooted (o : Origin) (m : Mark) (cpu : CpuState) (image : List Block) (n : Device) (c : State) : Type 0 where
   pub settled : n.queue ≡ []
   pub booting : IsBooting c
-  pub told : IsToldBy o.geometry image m.epoch (tables0 c)
+  pub told : IsToldBy o.geometry image Two m.epoch (tables0 c)
+  pub lasts : counts_in Two o.geometry (slot_in o.geometry image) ≡ c.counts.lasts
   pub header : header_fault (newest n 0) o.geometry true ≡ None
   pub holds : HoldAll c n
   pub state : state_from o.geometry cpu (loads c n) ≡ at o m.count

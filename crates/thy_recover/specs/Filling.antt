@@ -1,6 +1,6 @@
--- What this scheme's boot fills: the controller, with version 1 of images. A position is 64 times an entry of the
--- page table and a block of its page.
-use Rattle.std.specs.Prelude.{◌≡◌, ℕ, ◌+◌, ◌*◌, ◌/◌, ◌%◌, ◌<◌, ◌≤◌, max, List, map, is_some, Option, Some, None}
+-- What this scheme's boot fills: the controller, from images of both versions. A position is 64 times an entry of the page table
+-- and a block of its page.
+use Rattle.std.specs.Prelude.{◌≡◌, ℕ, ◌+◌, ◌*◌, ◌/◌, ◌%◌, ◌<◌, ◌≤◌, max, List, map, replicate, is_some, Option, Some, None}
 use Rattle.std.specs.List.{range_with_len}
 use Rattle.thy_base.specs.declared.block.Block.{Block}
 use Rattle.thy_base.specs.declared.config.Parameters.{Parameters}
@@ -10,10 +10,10 @@ use Rattle.thy_base.specs.Geometry.{IsInRange, memory_blocks}
 use Rattle.thy_base.specs.Places.{number_of, slot_blocks}
 use Rattle.thy_dram.specs.Contents.{written}
 use Rattle.thy_isa.specs.Step.{State as Plain, cpu_of}
-use Rattle.thy_record.specs.Commit.{commit_of}
+use Rattle.thy_record.specs.Commit.{commit_of, form_of}
 use Rattle.thy_record.specs.Cpu.{cpu_of_record, IsRecordable}
 use Rattle.thy_record.specs.Header.{header_of}
-use Rattle.thy_record.specs.Slots.{tables_in}
+use Rattle.thy_record.specs.Slots.{tables_in, counts_in}
 use Rattle.thy_record.specs.Tables.{entry_at}
 use Rattle.thy_table.specs.Listing.{first_from}
 use Rattle.thy_cell.specs.Sound.{Holds}
@@ -23,10 +23,10 @@ use Rattle.thy_control.specs.CheckpointTables.{tables0}
 use Rattle.thy_control.specs.Drains.{after_drain}
 use Rattle.thy_control.specs.Stays.{HoldAll}
 use Rattle.thy_view.specs.Safe.{ceiling}
-use Rattle.thy_protocol.specs.VersionOne.{version_one}
-use Rattle.thy_protocol.specs.VersionOneParts.{parts_by}
+use Rattle.thy_protocol.specs.Remapped.{remapped}
+use Rattle.thy_protocol.specs.RemappedParts.{parts_by}
 use Rattle.thy_boot.specs.Filling.{FillingOf, First}
-use Rattle.thy_recover.specs.Start.{IsStartFor, start_blocks, no_tables}
+use Rattle.thy_recover.specs.Start.{IsStartFor, start_blocks, no_tables, no_counts}
 
 -- the position itself, if its entry lists a page, else the first block of the next page that is listed
 abbrev pub position_in : ℕ → Option ℕ → Option ℕ
@@ -52,23 +52,25 @@ pub record IsFresh (c : State) : Type 0 where
   pub booting : IsBooting c
   pub no_blocks : (k : ℕ) → entry_at (tables0 c).btt k ≡ None
   pub no_pages : (k : ℕ) → entry_at (tables0 c).ptt k ≡ None
+  pub no_counts : c.counts.lasts ≡ replicate c.p.pages 0
 
--- its tables are sound, and it lists nothing, or what those of a slot do
+-- its tables are sound, and it lists nothing; or what those of a slot do, and it has the slot's counts
 pub record IsEmpty (c : State) : Type 0 where
   pub tables : AreSoundTables c
   pub fresh : IsFresh c
 
-pub record ListsSlot (slot : List Block) (c : State) : Type 0 where
+pub record ListsSlot (commit : Block) (slot : List Block) (c : State) : Type 0 where
   pub tables : AreSoundTables c
   pub booting : IsBooting c
   pub are : tables0 c ≡ tables_in c.p slot
+  pub counts : c.counts.lasts ≡ counts_in (form_of commit) c.p slot
 
 -- what a start makes of an empty NVM: every block of memory at home, and tables that list nothing
 abbrev pub first_of_start : Parameters → Plain → First
 first_of_start p s = record {
   header = header_of p;
   commit = commit_of 0;
-  parts = parts_by p (cpu_of s) (no_tables p) 0;
+  parts = parts_by p (cpu_of s) (no_tables p) no_counts 0;
   memory = start_blocks p s;
 }
 
@@ -78,22 +80,22 @@ pub record CanStart (p : Parameters) (s : Plain) : Type 0 where
   pub start : IsStartFor p s
   pub recordable : IsRecordable p ceiling (cpu_of s)
 
--- listing and filling leave the counts of stores, and the room of the DRAM's queue, which has one write more at most
+-- listing and filling leave the counts of the stores of this epoch, and the room of the DRAM's queue, which has one write more at most
 pub record HasFilled (c e : State) : Type 0 where
   pub room : e.dram.room ≡ c.dram.room
   pub most : e.dram.queued ≤ c.dram.queued + 1
-  pub counts : e.counts ≡ c.counts
+  pub counts : e.counts.counts ≡ c.counts.counts
 
 abbrev pub filling_one : FillingOf State
 filling_one = record {
-  layouts = version_one;
+  layouts = remapped;
   most_slot = slot_blocks;
   cpu_in = cpu_of_record;
   p = λ c. c.p;
   dram = λ c. c.dram;
   drained = after_drain;
   fresh = IsEmpty;
-  lists = λ commit slot c. ListsSlot slot c;
+  lists = ListsSlot;
   filled = λ c n k. (i m : ℕ) → MayFrame i m c → 64 * i + m < k → Holds (reads c n) (cell_of c (framed_block i m c));
   whole = HoldAll;
   next_fill = λ p commit slot from. next_position p slot from;

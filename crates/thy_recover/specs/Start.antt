@@ -1,8 +1,9 @@
--- The checkpoint of a start: epoch 0, with empty tables, every block at home.
+-- The checkpoint of a start: epoch 0, with empty tables and counts of 0, every block at home.
 use Rattle.std.specs.Prelude.{◌≡◌, ℕ, ◌-◌, ◌*◌, ◌≤◌, List, ◌++◌, length, map, take, drop, replicate, None}
 use Rattle.std.specs.List.{range_with_len}
 use Rattle.thy_base.specs.declared.block.Block.{Block}
 use Rattle.thy_base.specs.declared.config.Parameters.{Parameters}
+use Rattle.thy_base.specs.Device.{zero_block}
 use Rattle.thy_base.specs.Geometry.{memory_blocks, program_size, console_room}
 use Rattle.thy_isa.specs.Step.{State, cpu_of}
 use Rattle.thy_record.specs.Slots.{slot_block_of}
@@ -29,6 +30,10 @@ start_blocks p s = map (start_block p s) (range_with_len 0 (memory_blocks p))
 abbrev pub no_tables : Parameters → Tables
 no_tables p = record { btt = replicate p.btt None; ptt = replicate p.ptt None }
 
+-- counts of 0
+abbrev pub no_counts : ℕ → Block
+no_counts k = zero_block
+
 -- block k of the slot
 abbrev pub start_slot : Parameters → State → ℕ → Block
-start_slot p s k = slot_block_of p (cpu_of s) (no_tables p) 0 k
+start_slot p s k = slot_block_of p (cpu_of s) (no_tables p) no_counts 0 k

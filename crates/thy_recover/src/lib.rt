@@ -6,6 +6,7 @@
 //! dependencies; thy_dual_model and thy_dual depend on it.
 #![tactic(auto)]
 
+mod counts;
 mod frame;
 mod laws;
 mod listing;

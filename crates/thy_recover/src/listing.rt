@@ -1,9 +1,9 @@
 //! What a slot says: its fault, its processor, and what its tables list, given to the controller.
-ghost use Rattle.std.specs.Prelude.{◌≡◌, ◌+◌, ◌*◌, ◌<◌, is_some, length, None};
-ghost use Rattle.thy_base.specs.Places.{slot_blocks};
+ghost use Rattle.std.specs.Prelude.{◌≡◌, ◌+◌, ◌*◌, ◌<◌, ◌≤◌, is_some, length, None};
+ghost use Rattle.thy_base.specs.Places.{record_blocks, table_blocks, blocks_of_slot, slot_blocks};
 ghost use Rattle.thy_boot.specs.Boot.{slot_bytes};
 ghost use Rattle.thy_boot.specs.Filling.{ListsOn};
-ghost use Rattle.thy_record.specs.Commit.{epoch_of};
+ghost use Rattle.thy_record.specs.Commit.{epoch_of, form_of as form_named};
 ghost use Rattle.thy_record.specs.Cpu.{cpu_of_record};
 ghost use Rattle.thy_record.specs.Files.{blocks_of};
 ghost use Rattle.thy_record.specs.Slots.{tables_in, slot_fault as fault_of_slot};
@@ -13,21 +13,35 @@ ghost use Rattle.thy_view.specs.Safe.{ceiling};
 ghost use Rattle.thy_recover.specs.Filling.{IsEmpty, next_position, filling_one};
 ghost use Rattle.thy_recover.specs.Listed.{ListsUpTo, AsListed};
 
-use thy_base::{Block, Geometry, word};
+use crate::counts::list_counts;
+use thy_base::{BLOCK_SIZE, Block, Geometry, word};
 use thy_control::{Control, tables_allow_listing};
 use thy_isa::CpuState;
-use thy_record::{BadImage, cpu_in, faultless_tables, listed_block, listed_page, slot_fault};
+use thy_record::{
+    BadImage, cpu_in, faultless_tables, form_of, listed_block, listed_page, slot_fault,
+};
 
 /// Epochs and counts of a run's own images are below this.
 pub const CEILING: u64 = 9_223_372_036_854_775_808;
+
+/// The blocks of a slot in its room: as many as the version has that the commit block names.
+fn slot_of<'a>(geometry: &Geometry, commit: &Block, room: &'a [u8]) -> &'a [u8]
+    requires { length room.now ≡ 64 * slot_blocks geometry.now }
+    ensures length { length result.now ≡ 64 * blocks_of_slot (form_named commit.now) geometry.now }
+    ensures blocks { blocks_of result.now ≡ slot_bytes filling_one geometry.now commit.now room.now }
+{
+    let size = BLOCK_SIZE * geometry.slot_blocks_of(form_of(commit)) as usize;
+    &room[..size]
+}
 
 /// The fault of a slot.
 pub fn fault_of_slot(geometry: &Geometry, commit: &Block, slot: &[u8]) -> Option<BadImage>
     requires { length slot.now ≡ 64 * slot_blocks geometry.now }
     ensures { let blocks = slot_bytes filling_one geometry.now commit.now slot.now in
-        result ≡ fault_of_slot geometry.now ceiling (epoch_of commit.now) blocks }
+        result ≡ fault_of_slot (form_named commit.now) geometry.now ceiling (epoch_of commit.now) blocks }
 {
-    slot_fault(slot, word(commit, 1), geometry, CEILING)
+    let blocks = slot_of(geometry, commit, slot);
+    slot_fault(blocks, form_of(commit), word(commit, 1), geometry, CEILING)
 }
 
 /// The processor of a slot.
@@ -35,9 +49,7 @@ pub fn cpu_of_slot(geometry: &Geometry, commit: &Block, slot: &[u8]) -> CpuState
     requires { length slot.now ≡ 64 * slot_blocks geometry.now }
     ensures { result ≡ cpu_of_record (slot_bytes filling_one geometry.now commit.now slot.now) }
 {
-    let _geometry = geometry;
-    let _commit = commit;
-    cpu_in(slot)
+    cpu_in(slot_of(geometry, commit, slot))
 }
 
 /// The first position from one on that has to be filled: a block of a page that is listed.
@@ -45,9 +57,9 @@ pub fn next_fill(geometry: &Geometry, commit: &Block, slot: &[u8], from: u64) ->
     requires { length slot.now ≡ 64 * slot_blocks geometry.now }
     ensures { result ≡ next_position geometry.now (slot_bytes filling_one geometry.now commit.now slot.now) from }
 {
-    let _commit = commit;
     let _numbers = geometry.numbers();
-    match next_listed(slot, (from / 64) as usize, geometry) {
+    let blocks = slot_of(geometry, commit, slot);
+    match next_listed(blocks, (from / 64) as usize, geometry) {
         Some(entry) => Some(from.max(64 * entry as u64)),
         None => None,
     }
@@ -59,18 +71,19 @@ pub fn list_slot(geometry: &Geometry, commit: &Block, slot: &[u8], control: &mut
     requires geometry { control.old.p ≡ geometry.now }
     requires fresh { IsEmpty control.old }
     requires fits { let blocks = slot_bytes filling_one geometry.now commit.now slot.now in
-        fault_of_slot geometry.now ceiling (epoch_of commit.now) blocks ≡ None }
+        fault_of_slot (form_named commit.now) geometry.now ceiling (epoch_of commit.now) blocks ≡ None }
     ensures { ListsOn filling_one commit.now (slot_bytes filling_one geometry.now commit.now slot.now) control.old control.new }
 {
-    let _commit = commit;
     faultless_tables();
-    list_all(slot, geometry, control);
+    let blocks = slot_of(geometry, commit, slot);
+    list_all(blocks, geometry, control);
+    list_counts(blocks, form_of(commit), geometry, control);
     control.tables();
 }
 
 /// The first entry of the page table from one on that lists a page.
 fn next_listed(slot: &[u8], from: usize, geometry: &Geometry) -> Option<usize>
-    requires { length slot.now ≡ 64 * slot_blocks geometry.now }
+    requires { 64 * (record_blocks geometry.now + table_blocks geometry.now) ≤ length slot.now }
     ensures { result ≡ first_from is_some from (tables_in geometry.now (blocks_of slot.now)).ptt }
 {
     let pages = geometry.numbers().ptt as usize;
@@ -84,7 +97,7 @@ fn next_listed(slot: &[u8], from: usize, geometry: &Geometry) -> Option<usize>
 
 /// Lists in a controller that lists nothing what the tables of a slot list: the blocks, and then the pages.
 fn list_all(slot: &[u8], geometry: &Geometry, control: &mut Control)
-    requires slot { length slot.now ≡ 64 * slot_blocks geometry.now }
+    requires slot { 64 * (record_blocks geometry.now + table_blocks geometry.now) ≤ length slot.now }
     requires geometry { control.old.p ≡ geometry.now }
     requires tables { IsTables geometry.now (tables_in geometry.now (blocks_of slot.now)) }
     requires fresh { ListsUpTo 0 0 (tables_in geometry.now (blocks_of slot.now)) control.old }
@@ -96,7 +109,7 @@ fn list_all(slot: &[u8], geometry: &Geometry, control: &mut Control)
 
 /// Lists the blocks.
 fn list_blocks(slot: &[u8], geometry: &Geometry, control: &mut Control)
-    requires slot { length slot.now ≡ 64 * slot_blocks geometry.now }
+    requires slot { 64 * (record_blocks geometry.now + table_blocks geometry.now) ≤ length slot.now }
     requires geometry { control.old.p ≡ geometry.now }
     requires tables { IsTables geometry.now (tables_in geometry.now (blocks_of slot.now)) }
     requires fresh { ListsUpTo 0 0 (tables_in geometry.now (blocks_of slot.now)) control.old }
@@ -110,7 +123,7 @@ fn list_blocks(slot: &[u8], geometry: &Geometry, control: &mut Control)
 
 /// Lists the pages.
 fn list_pages(slot: &[u8], geometry: &Geometry, control: &mut Control)
-    requires slot { length slot.now ≡ 64 * slot_blocks geometry.now }
+    requires slot { 64 * (record_blocks geometry.now + table_blocks geometry.now) ≤ length slot.now }
     requires geometry { control.old.p ≡ geometry.now }
     requires tables { IsTables geometry.now (tables_in geometry.now (blocks_of slot.now)) }
     requires blocks { ListsUpTo geometry.now.btt 0 (tables_in geometry.now (blocks_of slot.now)) control.old }
@@ -124,7 +137,7 @@ fn list_pages(slot: &[u8], geometry: &Geometry, control: &mut Control)
 
 /// Lists what entry `i` of the block table does.
 fn list_one_block(slot: &[u8], i: usize, geometry: &Geometry, control: &mut Control)
-    requires slot { length slot.now ≡ 64 * slot_blocks geometry.now }
+    requires slot { 64 * (record_blocks geometry.now + table_blocks geometry.now) ≤ length slot.now }
     requires geometry { control.old.p ≡ geometry.now }
     requires tables { IsTables geometry.now (tables_in geometry.now (blocks_of slot.now)) }
     requires entry { i < geometry.now.btt }
@@ -140,7 +153,7 @@ fn list_one_block(slot: &[u8], i: usize, geometry: &Geometry, control: &mut Cont
 
 /// Lists what entry `j` of the page table does.
 fn list_one_page(slot: &[u8], j: usize, geometry: &Geometry, control: &mut Control)
-    requires slot { length slot.now ≡ 64 * slot_blocks geometry.now }
+    requires slot { 64 * (record_blocks geometry.now + table_blocks geometry.now) ≤ length slot.now }
     requires geometry { control.old.p ≡ geometry.now }
     requires tables { IsTables geometry.now (tables_in geometry.now (blocks_of slot.now)) }
     requires entry { j < geometry.now.ptt }

@@ -75,7 +75,7 @@ fn fill(block: &mut [u8], bytes: &[u8], from: usize, count: usize)
     block[..count].copy_from_slice(&bytes[from..from + count]);
 }
 
-/// Block `k` of a start's slot: the processor's record at epoch 0, and after it tables that list nothing.
+/// Block `k` of a start's slot: the processor's record at epoch 0, and behind it tables that list nothing and counts of 0.
 fn start_slot_block(geometry: &Geometry, state: &MachState, k: u64) -> Block
     requires place { k < slot_blocks geometry.now }
     requires start { IsStartFor geometry.now (state_of state.now) }

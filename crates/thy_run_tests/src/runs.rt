@@ -166,19 +166,19 @@ static RUNS: [(&str, u8, u64, &str); 8] = [
     (
         "thynvm run F --pages 8 --btt 8 --ptt 8",
         0,
-        718,
+        722,
         "commit 0 overlapped 0\nepoch 1 ends at 3 by end\ncommit 1 overlapped 0\nexit 7 at 3\n",
     ),
     (
-        "thynvm run F --pages 8 --btt 8 --ptt 8 --limit 717",
+        "thynvm run F --pages 8 --btt 8 --ptt 8 --limit 721",
         8,
-        717,
-        "commit 0 overlapped 0\nepoch 1 ends at 3 by end\nlimit 717\n",
+        721,
+        "commit 0 overlapped 0\nepoch 1 ends at 3 by end\nlimit 721\n",
     ),
     (
-        "thynvm run F --pages 8 --btt 8 --ptt 8 --limit 718",
+        "thynvm run F --pages 8 --btt 8 --ptt 8 --limit 722",
         0,
-        718,
+        722,
         "commit 0 overlapped 0\nepoch 1 ends at 3 by end\ncommit 1 overlapped 0\nexit 7 at 3\n",
     ),
     ("thynvm plain F", 0, 3, "exit 7 at 3\n"),
@@ -286,10 +286,10 @@ fn a_report_that_fails_has_taken_the_lines_before(rt: HostRuntime) -> Result<(),
 /// Runs that exit, with a report that has digests.
 static DIGESTS: [(&str, &str); 2] = [
     (
-        "thynvm run F --pages 8 --btt 8 --ptt 8 --cuts 717 --tears 1 --digest",
+        "thynvm run F --pages 8 --btt 8 --ptt 8 --cuts 721 --tears 1 --digest",
         "commit 0 overlapped 0\n\
          epoch 1 ends at 3 by end\n\
-         cut 1 at cycle 717\n\
+         cut 1 at cycle 721\n\
          restart 1 at 3\n\
          memory 6deb2f4354900ff2a9411931cbbb227b278920c0a05d7246af55f9487e46505f\n\
          exit 7 at 3\n\

@@ -181,25 +181,24 @@ fn processor() -> CpuState {
     }
 }
 
-// A boot reads the commit block, and then loads 512 blocks of memory, 7 of the slot and the header, and has two
-// barriers and the commit block between them. Its recovery reads the commit block, the header and 7 blocks of the
-// slot.
+// A boot reads the commit block, and then loads 512 blocks of memory, 8 of the slot and the header, and has two barriers and
+// the commit block between them. Its recovery reads the commit block, the header and 8 blocks of the slot.
 #[test]
 fn a_start_is_loaded_and_found_again(rt: HostRuntime) {
     let alloc = rt.alloc();
     let mut nvm = MemNvm::new(alloc);
     let shape = Shape {
-        blocks: 1048,
+        blocks: 1064,
         queue: 4,
         cuts: 3,
     };
     nvm.fit(alloc, &shape, &[]).expect(&rt, "a device");
-    expect(&rt, boot(&rt, alloc, &mut nvm, 523).told, BootStep::Loading);
+    expect(&rt, boot(&rt, alloc, &mut nvm, 524).told, BootStep::Loading);
     nvm.cut(7);
     let loaded = boot(&rt, alloc, &mut nvm, 1000);
-    expect(&rt, loaded, with_start(524, BootStep::Loaded));
+    expect(&rt, loaded, with_start(525, BootStep::Loaded));
     nvm.cut(8);
     let found = boot(&rt, alloc, &mut nvm, 1000);
     let restarted = BootStep::Restarted(processor(), 0);
-    expect(&rt, found, with_start(9, restarted));
+    expect(&rt, found, with_start(10, restarted));
 }

@@ -76,8 +76,8 @@ fn decodes(rt: &impl Abort, alloc: Global, memory: &mut Memory, epoch: u64, b: u
     expect(rt, decoded, (epoch, of(letter)));
 }
 
-// The third version goes over the second, which the checkpoint under way has still to copy. So there is nothing left
-// to copy, and the slot's 7 blocks, two barriers and the commit block are written.
+// The third version goes over the second, which the checkpoint under way has still to copy. So there is nothing left to copy,
+// and the slot's 8 blocks, two barriers and the commit block are written.
 #[test]
 fn three_versions_of_a_block_are_committed_in_turn(rt: HostRuntime) {
     let mut memory = Memory::power_on(&rt, rt.alloc(), &least(8));
@@ -88,7 +88,7 @@ fn three_versions(rt: &impl Abort, alloc: Global, memory: &mut Memory) {
     done(rt, memory, 70, b'A');
     memory.seal(rt, 1, 10);
     done(rt, memory, 70, b'B');
-    commits(rt, memory, 10, 1);
+    commits(rt, memory, 11, 1);
     decodes(rt, alloc, memory, 1, 70, b'A');
     memory.seal(rt, 2, 20);
     let stored = memory.store(rt, 70, &of(b'C'));
@@ -97,7 +97,7 @@ fn three_versions(rt: &impl Abort, alloc: Global, memory: &mut Memory) {
     done(rt, memory, 70, b'C');
     done(rt, memory, 70, b'D');
     loads(rt, memory, 70, b'D');
-    commits(rt, memory, 10, 2);
+    commits(rt, memory, 11, 2);
     decodes(rt, alloc, memory, 2, 70, b'B');
     loads(rt, memory, 70, b'D');
 }
@@ -124,7 +124,7 @@ fn frame_page(rt: &impl Abort, alloc: Global, memory: &mut Memory) {
     expect(rt, memory.free(), 9);
     memory.seal(rt, 1, 10);
     promote_page(rt, memory);
-    commits(rt, memory, 13, 1);
+    commits(rt, memory, 14, 1);
     decodes(rt, alloc, memory, 1, 5, b'A');
     done(rt, memory, 5, b'B');
     expect(rt, memory.overlay(), false);
@@ -136,13 +136,13 @@ fn round_trip(rt: &impl Abort, alloc: Global, memory: &mut Memory) {
     done(rt, memory, 5, b'X');
     expect(rt, memory.overlay(), true);
     loads(rt, memory, 5, b'X');
-    commits(rt, memory, 77, 2);
+    commits(rt, memory, 78, 2);
     decodes(rt, alloc, memory, 2, 5, b'B');
     expect(rt, memory.free(), 31);
     memory.merge_one(rt);
     expect(rt, memory.free(), 32);
     memory.seal(rt, 3, 30);
-    commits(rt, memory, 77, 3);
+    commits(rt, memory, 78, 3);
     decodes(rt, alloc, memory, 3, 5, b'X');
     decodes(rt, alloc, memory, 3, 6, b'A');
     loads(rt, memory, 5, b'X');
@@ -172,20 +172,20 @@ fn stay_dense(rt: &impl Abort, memory: &mut Memory) {
     store_page(rt, memory);
     memory.seal(rt, 1, 10);
     promote_page(rt, memory);
-    commits(rt, memory, 13, 1);
+    commits(rt, memory, 14, 1);
     for b in 0..20 {
         done(rt, memory, b, b'B');
     }
     memory.seal(rt, 2, 20);
-    commits(rt, memory, 77, 2);
+    commits(rt, memory, 78, 2);
 }
 
 fn quiet_epochs(rt: &impl Abort, alloc: Global, memory: &mut Memory) {
     stay_dense(rt, memory);
     memory.seal(rt, 3, 30);
-    commits(rt, memory, 13, 3);
+    commits(rt, memory, 14, 3);
     memory.seal(rt, 4, 40);
-    commits(rt, memory, 77, 4);
+    commits(rt, memory, 78, 4);
     decodes(rt, alloc, memory, 4, 19, b'B');
     decodes(rt, alloc, memory, 4, 20, b'A');
 }
@@ -206,7 +206,7 @@ fn store_behind(rt: &impl Abort, alloc: Global, memory: &mut Memory, many: u64, 
     done(rt, memory, 5, b'X');
     expect(rt, memory.overlay(), overlay);
     loads(rt, memory, 5, b'X');
-    commits(rt, memory, 77u64.saturating_sub(many), 2);
+    commits(rt, memory, 78u64.saturating_sub(many), 2);
     decodes(rt, alloc, memory, 2, 5, b'B');
     loads(rt, memory, 5, b'X');
 }
@@ -239,7 +239,7 @@ fn two_blocks_and_a_page(rt: &impl Abort, memory: &mut Memory) {
     promote_page(rt, memory);
     done(rt, memory, 100, b'E');
     done(rt, memory, 200, b'F');
-    commits(rt, memory, 13, 1);
+    commits(rt, memory, 14, 1);
     done(rt, memory, 5, b'B');
     memory.seal(rt, 2, 20);
 }

@@ -11,8 +11,8 @@ use thy_isa::{MachState, Status};
 use thy_record::{BadImage, Found, check, header_block, state, table_block};
 
 /// The smallest machine: 8 pages, one of them the console's, and 8 entries in each table. Its image has the header,
-/// the commit block, slots of 7 blocks from block 2 and block 9 on, 512 homes from block 16 on, 8 alternate blocks
-/// from block 528 on, and 8 alternate pages of 64 blocks from block 536 on: 1048 blocks.
+/// the commit block, 512 homes from block 16 on, 8 alternate blocks from block 528 on, 8 alternate pages of 64 blocks
+/// from block 536 on, and slots of 8 blocks from block 1048 and block 1056 on: 1064 blocks.
 static NUMBERS: Parameters = Parameters {
     base: 65536,
     pages: 8,
@@ -32,12 +32,18 @@ static NUMBERS: Parameters = Parameters {
     harts: 1,
 };
 
-const BLOCKS: usize = 1048;
+const BLOCKS: usize = 1064;
 
 const CEILING: u64 = 1 << 62;
 
-/// The first word of slot 1, block 9.
-const SLOT: usize = 72;
+/// The bytes `THYNCMT1`, with which a commit block of version 1 begins.
+const ONE: u64 = 0x3154_4d43_4e59_4854;
+
+/// The first word of slot 1, block 1056.
+const SLOT: usize = 8448;
+
+/// The first word of its counts, of which each is a byte.
+const COUNTS: usize = SLOT + 56;
 
 fn geometry(rt: &impl Abort, alloc: Global) -> Geometry {
     geometry_of(rt, alloc, &NUMBERS)
@@ -57,11 +63,11 @@ fn put_bytes(image: &mut [u8], block: usize, bytes: &[u8]) {
     }
 }
 
-/// The words that are not zero, except the two names: the header's, the commit block's, of epoch 3, and in slot 1
-/// pc, x1, count, cursor, length of the console, break, epoch, floor, and the entries: entry 0 of the block table
-/// lists block 5, entry 1 of the page table page 2.
-static WORDS: [(usize, u64); 17] = [
-    (1, 1),
+/// The words that are not zero, but for the two names: the header's, the commit block's, of epoch 3, and in slot 1
+/// pc, x1, count, cursor, length of the console, break, epoch, floor, the entries (entry 0 of the block table lists block 5,
+/// entry 1 of the page table page 2), and the counts: page 0 has 63, page 7 has 1.
+static WORDS: [(usize, u64); 18] = [
+    (1, 2),
     (2, 65536),
     (3, 8),
     (4, 1),
@@ -78,6 +84,7 @@ static WORDS: [(usize, u64); 17] = [
     (SLOT + 39, 15),
     (SLOT + 40, 6),
     (SLOT + 49, 3),
+    (COUNTS, 0x0100_0000_0000_003f),
 ];
 
 /// An image with a checkpoint: block 0 at its home, block 5 in alternate block 0 and block 131 in alternate page 1,
@@ -86,7 +93,7 @@ fn image(alloc: Global) -> Result<Vec<u8>, AllocError> {
     let mut image = vec![in alloc; 0u8; BLOCK_SIZE * BLOCKS]?;
     let bytes = image.as_mut_slice();
     put_bytes(bytes, 0, b"THYNHDR1");
-    put_bytes(bytes, 1, b"THYNCMT1");
+    put_bytes(bytes, 1, b"THYNCMT2");
     for (word, value) in &WORDS {
         put(bytes, *word, *value);
     }
@@ -153,10 +160,11 @@ fn a_header_and_a_table_are_their_bytes(rt: HostRuntime) -> Result<(), Fail> {
 }
 
 /// Two words of the image with other values, and what it is refused for then; the second may be the first.
-static REFUSALS: [(usize, u64, usize, u64, BadImage); 33] = [
+static REFUSALS: [(usize, u64, usize, u64, BadImage); 41] = [
     (0, 0, 0, 0, BadImage::Header),
     (1, 0, 1, 0, BadImage::Version),
-    (1, 2, 2, 0, BadImage::Version),
+    (1, 1, 2, 0, BadImage::Version),
+    (1, 3, 2, 0, BadImage::Version),
     (2, 0, 2, 0, BadImage::Geometry),
     (3, 9, 3, 9, BadImage::Geometry),
     (4, 2, 4, 2, BadImage::Geometry),
@@ -164,6 +172,7 @@ static REFUSALS: [(usize, u64, usize, u64, BadImage); 33] = [
     (6, 16, 6, 16, BadImage::Geometry),
     (7, 1, 8, 1, BadImage::Geometry),
     (8, 1, 8, 1, BadImage::Commit),
+    (8, ONE, 8, ONE, BadImage::Commit),
     (9, CEILING, 9, CEILING, BadImage::Commit),
     (9, 5, 9, 5, BadImage::Commit),
     (10, 1, 10, 1, BadImage::Commit),
@@ -193,6 +202,18 @@ static REFUSALS: [(usize, u64, usize, u64, BadImage); 33] = [
     (SLOT + 34, 4097, SLOT + 34, 4097, BadImage::ConsoleLength),
     (SLOT + 34, u64::MAX, SLOT + 33, 0, BadImage::ConsoleLength),
     (0, 0, SLOT + 34, 4097, BadImage::Header),
+    (COUNTS, 64, COUNTS, 64, BadImage::Count(0)),
+    (COUNTS, 0x4000, COUNTS, 0x4000, BadImage::Count(1)),
+    (COUNTS + 1, 1, COUNTS + 1, 1, BadImage::Count(8)),
+    (
+        COUNTS + 7,
+        1 << 56,
+        COUNTS + 7,
+        1 << 56,
+        BadImage::Count(63),
+    ),
+    (COUNTS + 1, 1, COUNTS, 1 << 62, BadImage::Count(7)),
+    (COUNTS, 64, SLOT + 34, 4097, BadImage::ConsoleLength),
 ];
 
 #[test]

@@ -5,7 +5,7 @@ use Rattle.std.specs.Fmt.{decimal}
 use Rattle.thy_base.specs.Fields.{field_name}
 use Rattle.thy_record.specs.Refusals.{number_of, name_of}
 use Rattle.thy_record.specs.declared.bad_image.BadImage.{BadImage}
-use Rattle.thy_record.specs.declared.bad_image.BadImage.TheVariants.{TableIndex, TableTwice, BlockUnderPage}
+use Rattle.thy_record.specs.declared.bad_image.BadImage.TheVariants.{TableIndex, TableTwice, BlockUnderPage, Count}
 use Rattle.thy_text.specs.declared.closing.FetchFault.{FetchFault}
 use Rattle.thy_text.specs.declared.closing.FetchFault.TheVariants.{Failed, Missing, TooLong}
 use Rattle.thy_text.specs.declared.closing.Entries.{Entries}
@@ -20,11 +20,12 @@ fault_text Failed = codes " failed"
 fault_text Missing = codes " missing"
 fault_text TooLong = codes " too long"
 
--- the table entries that a refusal of an image names
+-- the table entries that a refusal of an image names, or the byte of the counts
 abbrev pub entries_of : BadImage → List ℕ
 entries_of (TableIndex i) = i ∷ []
 entries_of (TableTwice i k) = i ∷ k ∷ []
 entries_of (BlockUnderPage i j) = i ∷ j ∷ []
+entries_of (Count p) = p ∷ []
 entries_of bad = []
 
 -- entries as the program has them in hand

@@ -209,7 +209,7 @@ fn entries_of(bad: BadImage) -> Entries
     ensures { numbers_of result ≡ entries_of bad }
 {
     match bad {
-        BadImage::TableIndex(i) => Entries::One(i),
+        BadImage::TableIndex(i) | BadImage::Count(i) => Entries::One(i),
         BadImage::TableTwice(i, k) => Entries::Two(i, k),
         BadImage::BlockUnderPage(i, j) => Entries::Two(i, j),
         _ => Entries::None,

@@ -3,7 +3,8 @@ ghost use Rattle.std.specs.Prelude.{◌≡◌, ◌+◌, ◌-◌, ◌<◌, ◌≤
 ghost use Rattle.thy_record.specs.TableBlocks.{table_block_of};
 ghost use Rattle.thy_record.specs.Tables.{entry_at as listed_at};
 ghost use Rattle.thy_switch.specs.LastBlocks.{last_block_of};
-ghost use Rattle.thy_control.specs.TableBlocks.{table_blocks, count_blocks, block_due, page_due};
+ghost use Rattle.thy_base.specs.Places.{table_blocks, count_blocks};
+ghost use Rattle.thy_control.specs.TableBlocks.{block_due, page_due};
 
 use super::Control;
 use thy_base::Block;
@@ -74,8 +75,7 @@ impl Control {
     fn table_blocks(&self) -> u64
         ensures { result ≡ table_blocks self.now.p }
     {
-        let numbers = self.geometry.numbers();
-        numbers.btt / 8 + numbers.ptt / 8
+        self.geometry.table_blocks()
     }
 
     /// Block `k` of the tables.

@@ -16,8 +16,8 @@ static CUT_RUNS: [(&str, &str); 6] = [
          exit 7 at 3\n",
     ),
     (
-        "thynvm run F --pages 8 --btt 8 --ptt 8 --cuts 697 --tears 0",
-        "cut 1 at cycle 697\n\
+        "thynvm run F --pages 8 --btt 8 --ptt 8 --cuts 698 --tears 0",
+        "cut 1 at cycle 698\n\
          reload\n\
          commit 0 overlapped 0\n\
          epoch 1 ends at 3 by end\n\
@@ -25,28 +25,28 @@ static CUT_RUNS: [(&str, &str); 6] = [
          exit 7 at 3\n",
     ),
     (
-        "thynvm run F --pages 8 --btt 8 --ptt 8 --cuts 697 --tears 1",
-        "cut 1 at cycle 697\nrestart 0 at 0\nepoch 1 ends at 3 by end\ncommit 1 overlapped 0\nexit 7 at 3\n",
+        "thynvm run F --pages 8 --btt 8 --ptt 8 --cuts 698 --tears 1",
+        "cut 1 at cycle 698\nrestart 0 at 0\nepoch 1 ends at 3 by end\ncommit 1 overlapped 0\nexit 7 at 3\n",
     ),
     (
-        "thynvm run F --pages 8 --btt 8 --ptt 8 --cuts 717 --tears 0",
+        "thynvm run F --pages 8 --btt 8 --ptt 8 --cuts 721 --tears 0",
         "commit 0 overlapped 0\n\
          epoch 1 ends at 3 by end\n\
-         cut 1 at cycle 717\n\
+         cut 1 at cycle 721\n\
          restart 0 at 0\n\
          epoch 1 ends at 3 by end\n\
          commit 1 overlapped 0\n\
          exit 7 at 3\n",
     ),
     (
-        "thynvm run F --pages 8 --btt 8 --ptt 8 --cuts 717 --tears 1",
-        "commit 0 overlapped 0\nepoch 1 ends at 3 by end\ncut 1 at cycle 717\nrestart 1 at 3\nexit 7 at 3\n",
+        "thynvm run F --pages 8 --btt 8 --ptt 8 --cuts 721 --tears 1",
+        "commit 0 overlapped 0\nepoch 1 ends at 3 by end\ncut 1 at cycle 721\nrestart 1 at 3\nexit 7 at 3\n",
     ),
     (
-        "thynvm run F --pages 8 --btt 8 --ptt 8 --cuts 698,700",
+        "thynvm run F --pages 8 --btt 8 --ptt 8 --cuts 700,702",
         "commit 0 overlapped 0\n\
-         cut 1 at cycle 698\n\
-         cut 2 at cycle 700\n\
+         cut 1 at cycle 700\n\
+         cut 2 at cycle 702\n\
          restart 0 at 0\n\
          epoch 1 ends at 3 by end\n\
          commit 1 overlapped 0\n\
@@ -135,13 +135,13 @@ fn cut_everywhere(
     Ok(())
 }
 
-/// What the first boot after a cut reports: nothing was committed before the commit block of loading
-/// is written in cycle 697, and it is committed from cycle 698 on; that of the checkpoint is written in
-/// cycle 717. Each is then the only write that is queued, and `lands` says whether the cut lets it land.
+/// What the first boot behind a cut reports: nothing was committed before the commit block of loading
+/// is written in cycle 698, a drain lets it land, and it is committed from cycle 700 on; that of the checkpoint is written in
+/// cycle 721. Each is then the only write that is queued, and `lands` tells whether the cut lets it land.
 fn comes_after(cycle: u64, lands: bool) -> &'static str {
-    if cycle < 697 || (cycle == 697 && !lands) {
+    if cycle < 698 || (cycle == 698 && !lands) {
         "reload"
-    } else if cycle == 717 && lands {
+    } else if cycle == 721 && lands {
         "restart 1 at 3"
     } else {
         "restart 0 at 0"
@@ -150,7 +150,7 @@ fn comes_after(cycle: u64, lands: bool) -> &'static str {
 
 /// A cut at each cycle of the program that exits with 7, with one pick: what follows it, and the same end.
 fn cut_seven(rt: &impl Abort, alloc: Global, tear: u64, lands: bool) -> Result<(), AllocError> {
-    for cycle in 1..718 {
+    for cycle in 1..722 {
         let given = cut_at(alloc, &EXITS_WITH_SEVEN, cycle, tear)?;
         let after = comes_after(cycle, lands);
         let lines = format!(in alloc; "cut 1 at cycle {cycle}\n{after}\n")?;

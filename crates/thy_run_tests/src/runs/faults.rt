@@ -28,11 +28,11 @@ static EXITS_WITH_SEVEN: Case = Case {
 static RESTARTS: Case = Case {
     program: "F",
     options: "",
-    once: " --cuts 717 --digest",
+    once: " --cuts 721 --digest",
     tears: "0,",
     report: "commit 0 overlapped 0\n\
              epoch 1 ends at 3 by end\n\
-             cut 1 at cycle 717\n\
+             cut 1 at cycle 721\n\
              restart 0 at 0\n\
              memory 6deb2f4354900ff2a9411931cbbb227b278920c0a05d7246af55f9487e46505f\n\
              epoch 1 ends at 3 by end\n\

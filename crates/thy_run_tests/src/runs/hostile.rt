@@ -102,9 +102,9 @@ static NUMBERS: Parameters = Parameters {
     harts: 1,
 };
 
-/// An image has 1048 blocks of 64 bytes: header, commit block, two slots of 7, 512 homes, 8 alternate blocks and 8
-/// alternate pages of 64.
-const IMAGE_SIZE: usize = 67_072;
+/// An image has 1064 blocks of 64 bytes: header, commit block, 14 that are unused, 512 homes, 8 alternate blocks, 8
+/// alternate pages of 64, and two slots of 8.
+const IMAGE_SIZE: usize = 68_096;
 
 /// Epochs and counts of an image in a file are below this.
 const CEILING: u64 = 1 << 62;

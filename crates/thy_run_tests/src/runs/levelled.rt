@@ -14,18 +14,18 @@ static ROWS: [(&str, &str); 3] = [
         "commit 0 overlapped 0\nepoch 1 ends at 3 by end\ncommit 1 overlapped 0\nexit 7 at 3\n",
     ),
     (
-        "thynvm run F --pages 8 --btt 8 --ptt 8 --cuts 717 --tears 0 --gap 1",
+        "thynvm run F --pages 8 --btt 8 --ptt 8 --cuts 721 --tears 0 --gap 1",
         "commit 0 overlapped 0\n\
          epoch 1 ends at 3 by end\n\
-         cut 1 at cycle 717\n\
+         cut 1 at cycle 721\n\
          restart 0 at 0\n\
          epoch 1 ends at 3 by end\n\
          commit 1 overlapped 0\n\
          exit 7 at 3\n",
     ),
     (
-        "thynvm run F --pages 8 --btt 8 --ptt 8 --cuts 717 --tears 1 --gap 1",
-        "commit 0 overlapped 0\nepoch 1 ends at 3 by end\ncut 1 at cycle 717\nrestart 1 at 3\nexit 7 at 3\n",
+        "thynvm run F --pages 8 --btt 8 --ptt 8 --cuts 721 --tears 1 --gap 1",
+        "commit 0 overlapped 0\nepoch 1 ends at 3 by end\ncut 1 at cycle 721\nrestart 1 at 3\nexit 7 at 3\n",
     ),
 ];
 
@@ -37,7 +37,7 @@ fn a_run_with_a_gap_has_its_report(rt: HostRuntime) -> Result<(), Fail> {
         compare(&rt, line, &given, 0, "", report.as_bytes());
     }
     let whole = ran(alloc, "thynvm run F --pages 8 --btt 8 --ptt 8 --gap 1")?;
-    assert!(rt; whole.cycles == 718);
+    assert!(rt; whole.cycles == 722);
     Ok(())
 }
 

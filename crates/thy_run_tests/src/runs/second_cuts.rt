@@ -6,13 +6,13 @@ use std::process::Abort;
 use std::test::Fail;
 
 /// A boot that finds the checkpoint of epoch 0 has nine actions: the reads of the commit block, of the header and of the
-/// slot's seven blocks. A second cut after its last, in cycle 726, is after a restart.
-const RESTARTED: u64 = 726;
+/// slot's seven blocks. A second cut behind its last, in cycle 726, is behind a restart.
+const RESTARTED: u64 = 731;
 
-/// Cuts after cycle 717, which leaves the checkpoint of epoch 0, and after this one.
+/// Cuts behind cycle 721, which leaves the checkpoint of epoch 0, and behind this one.
 fn cut_recovery(rt: &impl Abort, alloc: Global, cycle: u64) -> Result<(), AllocError> {
     let line = format!(in alloc;
-        "thynvm run F --pages 8 --btt 8 --ptt 8 --cuts 717,{cycle} --tears 0"
+        "thynvm run F --pages 8 --btt 8 --ptt 8 --cuts 721,{cycle} --tears 0"
     )?;
     let between = if cycle < RESTARTED {
         ""
@@ -22,7 +22,7 @@ fn cut_recovery(rt: &impl Abort, alloc: Global, cycle: u64) -> Result<(), AllocE
     let report = format!(in alloc;
         "commit 0 overlapped 0\n\
          epoch 1 ends at 3 by end\n\
-         cut 1 at cycle 717\n\
+         cut 1 at cycle 721\n\
          {between}\
          cut 2 at cycle {cycle}\n\
          restart 0 at 0\n\
@@ -35,7 +35,7 @@ fn cut_recovery(rt: &impl Abort, alloc: Global, cycle: u64) -> Result<(), AllocE
 
 #[test]
 fn a_recovery_is_cut_at_each_of_its_cycles(rt: HostRuntime) -> Result<(), Fail> {
-    for cycle in 718..RESTARTED + 1 {
+    for cycle in 722..RESTARTED + 1 {
         cut_recovery(&rt, rt.alloc(), cycle)?;
     }
     Ok(())
@@ -61,7 +61,7 @@ fn cut_loading(rt: &impl Abort, alloc: Global, cycle: u64) -> Result<(), AllocEr
 
 #[test]
 fn a_loading_is_cut_at_each_of_its_cycles(rt: HostRuntime) -> Result<(), Fail> {
-    for cycle in 2..698u64 {
+    for cycle in 2..699u64 {
         cut_loading(&rt, rt.alloc(), cycle)?;
     }
     Ok(())

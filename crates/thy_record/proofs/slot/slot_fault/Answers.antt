@@ -1,7 +1,8 @@
 use Rattle.std.proofs.Common.{◌≡◌, ◌∙◌, List, Option, ℕ, ap}
+use Rattle.std.specs.Option.{option_or}
 use Rattle.thy_base.specs.declared.config.Parameters.{Parameters}
 use Rattle.thy_record.specs.Files.{blocks_of}
-use Rattle.thy_record.specs.Slots.{tables_in}
+use Rattle.thy_record.specs.Slots.{tables_in, status_fault}
 use Rattle.thy_record.specs.Tables.{Tables}
 use Rattle.thy_record.specs.TableFaults.{tables_fault}
 use Rattle.thy_record.proofs.CheckLemmas.{slot_epoch, slot_tables, slot_status}
@@ -14,15 +15,17 @@ same_tables p t btt ptt a b = ap (λ x. tables_fault p (record { btt = x; ptt = 
 
 pub returns-then-word_in-epoch : goal.returns-then-word_in-epoch
 returns-then-word_in-epoch c =
-    slot_epoch c.args.geometry.now c.args.ceiling c.args.epoch (blocks_of c.args.slot.now) c.word_in.result c.word_in.ensures c.if-word_in-epoch.true
+    slot_epoch c.args.form c.args.geometry.now c.args.ceiling c.args.epoch (blocks_of c.args.slot.now) c.word_in.result c.word_in.ensures c.if-word_in-epoch.true
 
 pub returns-in-Some : goal.returns-in-Some
 returns-in-Some c =
-    slot_tables c.args.geometry.now c.args.ceiling c.args.epoch (blocks_of c.args.slot.now) c.word_in.result c.in-Some.bad c.word_in.ensures c.if-word_in-epoch.false
+    slot_tables c.args.form c.args.geometry.now c.args.ceiling c.args.epoch (blocks_of c.args.slot.now) c.word_in.result c.in-Some.bad c.word_in.ensures c.if-word_in-epoch.false
     (c.in-Some.ensures ∙ same_tables c.args.geometry.now (tables_in c.args.geometry.now (blocks_of c.args.slot.now)) _ _ c.btt_in.ensures c.ptt_in.ensures)
 
 pub returns : goal.returns
 returns c =
-    slot_status c.args.geometry.now c.args.ceiling c.args.epoch (blocks_of c.args.slot.now) c.word_in.result c.status_fault.result c.word_in.ensures c.if-word_in-epoch.false
+    slot_status c.args.form c.args.geometry.now c.args.ceiling c.args.epoch (blocks_of c.args.slot.now) c.word_in.result _ c.word_in.ensures c.if-word_in-epoch.false
     (c.in_default.ensures ∙ same_tables c.args.geometry.now (tables_in c.args.geometry.now (blocks_of c.args.slot.now)) _ _ c.btt_in.ensures c.ptt_in.ensures)
-    c.status_fault.ensures
+    (c.or.ensures
+    ∙ ap (λ x. option_or x c.count_fault.result) c.status_fault.ensures
+    ∙ ap (option_or (status_fault c.args.geometry.now c.args.ceiling (blocks_of c.args.slot.now))) c.count_fault.ensures)

@@ -1,16 +1,10 @@
-use Rattle.std.proofs.Common.{ℕ, ◌-◌, Bool, if◌then◌else◌, ◌∙◌, sym, ap, arith}
-use Rattle.thy_isa.specs.Step.{state_of, cpu_of}
-use Rattle.thy_record.specs.Cpu.{cpu_block_of}
-use Rattle.thy_record.specs.TableBlocks.{table_block_of}
-use Rattle.thy_recover.specs.Start.{no_tables}
-use Rattle.std.proofs.lemmas.Bool.{le-ltb}
-use Rattle.thy_recover.proofs.StartLemmas.{table_block-none}
+use Rattle.std.proofs.Common.{◌∙◌, arith}
+use Rattle.thy_isa.specs.Step.{state_of}
+use Rattle.thy_recover.proofs.StartLemmas.{start_slot-zeros}
 use Rattle.thy_recover.proofs.start.start_slot_block.Goals as goal
 
 pub returns-else-k-record_blocks : goal.returns-else-k-record_blocks
 returns-else-k-record_blocks c =
-    let k : ℕ = c.args.k in
     c.block_with.ensures
-    ∙ table_block-none c.args.geometry.now (k - 5) c.numbers-numbers.ensures.in_range (omega (arith, c.requires.place, c.if-k-record_blocks.false))
-    ∙ ap (λ (t : Bool). if t then cpu_block_of (cpu_of (state_of c.args.state.now)) 0 k else table_block_of (no_tables c.args.geometry.now) (k - 5))
-    (sym (le-ltb k 5 (omega (arith, c.if-k-record_blocks.false))))
+    ∙ start_slot-zeros c.args.geometry.now (state_of c.args.state.now) c.args.k c.numbers-numbers.ensures.in_range
+    (omega (arith, c.if-k-record_blocks.false)) c.requires.place

@@ -1,5 +1,5 @@
-use Rattle.std.proofs.Common.{ℕ, ◌<◌, ◌≤◌, sym, subst, arith}
-use Rattle.thy_switch.specs.Counts.{Tally, most}
+use Rattle.std.proofs.Common.{◌<◌, sym, subst, arith}
+use Rattle.thy_switch.specs.Counts.{Tally}
 use Rattle.thy_control.specs.State.{State, AreSoundTables}
 use Rattle.thy_control.specs.Boot.{IsBooting, HaveTables}
 use Rattle.thy_control.specs.CheckpointTables.{tables0}

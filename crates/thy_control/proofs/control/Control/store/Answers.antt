@@ -3,7 +3,7 @@ use Rattle.thy_control.specs.State.{State}
 use Rattle.thy_control.specs.Rules.{rule_for, devices_after, state_after}
 use Rattle.thy_control.specs.StoredTables.{answer_of}
 use Rattle.thy_control.proofs.KeepLemmas.{Kept-after, kept_by, checkpoints_by, work_by}
-use Rattle.thy_control.proofs.GuardLemmas.{StoresFree-store, LeavesGuarded-after, guarded_by}
+use Rattle.thy_control.proofs.GuardLemmas.{there, StoresFree-store, LeavesGuarded-after, guarded_by}
 use Rattle.thy_control.proofs.HoldLemmas.{HoldAll-after, hold_by}
 use Rattle.thy_control.proofs.StayLemmas.{stays_by}
 use Rattle.thy_control.proofs.control.Control.store.Goals as goal
@@ -57,7 +57,9 @@ returns-clause-stays g c =
     let guarded = guarded_by b block s m n c.put.result c.put.ensures.nvm c.put.ensures.err
     (LeavesGuarded-after c.a_store_goes_elsewhere.ensures c.a_store_leaves_the_target.ensures b s c.tables.ensures c.requires.whole c.requires.block c.requires.room block m n) in
     stays_by b block s m c.put.new.self n c.put.result c.put.ensures.state c.put.ensures.nvm c.put.ensures.kept c.put.ensures.err keeps holds
-    c.tables.ensures c.requires.sized c.requires.room c.requires.up c.put.ensures.frame guarded
+    c.tables.ensures c.requires.sized c.requires.room c.requires.up
+    (there c.a_store_goes_elsewhere.ensures c.a_store_leaves_the_target.ensures b s c.tables.ensures c.requires.whole c.requires.block c.requires.room)
+    c.put.ensures.frame guarded
 
 pub returns-clause-free : goal.returns-clause-free
 returns-clause-free g c =

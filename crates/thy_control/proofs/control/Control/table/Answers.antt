@@ -1,6 +1,6 @@
-use Rattle.std.proofs.Common.{◌≡◌, ℕ, ◌+◌, ◌<◌, ◌≤◌, sym, subst, arith}
+use Rattle.std.proofs.Common.{◌≡◌, ◌+◌, ◌<◌, sym, subst, arith}
+use Rattle.thy_base.specs.Places.{table_blocks, count_blocks}
 use Rattle.thy_control.specs.State.{State}
-use Rattle.thy_control.specs.TableBlocks.{table_blocks, count_blocks}
 use Rattle.thy_control.proofs.control.Control.table.Goals as goal
 
 pub last_block-requires : goal.last_block-requires

@@ -1,0 +1,101 @@
+-- The counts of a slot: the first that is at fault.
+use Rattle.std.proofs.Common.{◌≡◌, ℕ, ◌+◌, ◌*◌, ◌<◌, ◌≤◌, ◌==◌, ◌&&◌, ◌||◌, not, Bool, true, false, nat_lt, nat_le, List, map, get_or, Option, Some, None, refl, sym, ◌∙◌, ap, inl, inr, arith}
+use Rattle.std.proofs.lemmas.Bool.{cases_lt, le-ltb, lt-leb, ltb-false}
+use Rattle.std.proofs.lemmas.List.{ext_get_or}
+use Rattle.std.proofs.lemmas.List.FromFn.{length-range_with_len, get_or-range_with_len, length-map-range_with_len, get_or-map-range_with_len}
+use Rattle.std.proofs.lemmas.List.Quantifiers.{position-Some}
+use Rattle.std.proofs.lemmas.Iterator.Adapters.{position_from-zero}
+use Rattle.std.specs.List.{range_with_len, position}
+use Rattle.std.specs.Option.{option_map}
+use Rattle.thy_base.specs.declared.block.Block.{Block}
+use Rattle.thy_base.specs.declared.config.Parameters.{Parameters}
+use Rattle.thy_base.specs.declared.form.Form.TheVariants.{Two}
+use Rattle.thy_base.specs.Places.{count_blocks}
+use Rattle.thy_record.specs.declared.bad_image.BadImage.TheVariants.{Count}
+use Rattle.thy_record.specs.Slots.{count_byte, is_bad_count, count_fault}
+use Rattle.thy_record.proofs.EntryLemmas.{none_at}
+
+-- what is alike at each of the first n numbers
+pub map-alike_numbers : (f g : ℕ → ℕ) (n : ℕ) → ((i : ℕ) → i < n → f i ≡ g i) → map f (range_with_len 0 n) ≡ map g (range_with_len 0 n)
+map-alike_numbers f g n each =
+    let left = length-map-range_with_len f 0 n in
+    let right = length-map-range_with_len g 0 n in
+    ext_get_or 0 (map f (range_with_len 0 n)) (map g (range_with_len 0 n)) (left ∙ sym right)
+    (λ i below.
+    let l : i < n = omega (arith, left) in
+    get_or-map-range_with_len f 0 n i i 0 l (omega arith) ∙ each i l ∙ sym (get_or-map-range_with_len g 0 n i i 0 l (omega arith)))
+
+-- a number of the first n, by its place
+numbered : (t : ℕ → Bool) (n i : ℕ) → i < n → t (get_or (range_with_len 0 n) i 0) ≡ t i
+numbered t n i l = let plain : 0 + i ≡ i = omega arith in ap t (get_or-range_with_len 0 n i 0 l ∙ plain)
+
+none_is : (t : ℕ → Bool) (n : ℕ) (found : Option ℕ) → position t (range_with_len 0 n) ≡ found
+    → ((i : ℕ) → i < n → t i ≡ false) → found ≡ None
+none_is t n None h none = refl
+none_is t n (Some i) h none =
+    let at = position-Some t (range_with_len 0 n) i 0 h in
+    let inside : i < n = omega (arith, at.0, length-range_with_len 0 n) in
+    let yes : t i ≡ true = sym (numbered t n i inside) ∙ at.1 in
+    let no = none i inside in
+    cc
+
+-- none of the first n numbers passes a test
+pub no_position : (t : ℕ → Bool) (n : ℕ) → ((i : ℕ) → i < n → t i ≡ false) → position t (range_with_len 0 n) ≡ None
+no_position t n none = none_is t n (position t (range_with_len 0 n)) refl none
+
+first_is : (t : ℕ → Bool) (n i : ℕ) (found : Option ℕ) → position t (range_with_len 0 n) ≡ found
+    → i < n → ((k : ℕ) → k < i → t k ≡ false) → t i ≡ true → found ≡ Some i
+first_is t n i None h l none here =
+    let no : t i ≡ false = sym (numbered t n i l)
+    ∙ none_at t 0 (range_with_len 0 n) i 0 (sym (position_from-zero t (range_with_len 0 n)) ∙ h) (omega (arith, length-range_with_len 0 n)) in
+    cc
+first_is t n i (Some k) h l none here =
+    let at = position-Some t (range_with_len 0 n) k 0 h in
+    let inside : k < n = omega (arith, at.0, length-range_with_len 0 n) in
+    elim (cases_lt k i) as (λ _. (let o : Option ℕ = Some k in o) ≡ Some i) [
+      | inl below ↦
+          let no = none k below in
+          let found : t k ≡ true = sym (numbered t n k inside) ∙ at.1 in
+          cc
+      | inr above ↦ elim (cases_lt i k) as (λ _. (let o : Option ℕ = Some k in o) ≡ Some i) [
+        | inl over ↦ let no : t i ≡ false = sym (numbered t n i l) ∙ at.2 i over in cc
+        | inr level ↦ let same : k ≡ i = omega arith in ap Some same
+      ]
+    ]
+
+none_of : {A B : Type 0} (f : A → B) (o : Option A) → option_map f o ≡ None → o ≡ None
+none_of f None h = refl
+none_of f (Some x) h = cc
+
+not_either : (a b : Bool) → (a || b) ≡ false → a ≡ false
+not_either true b h = cc
+not_either false b h = refl
+
+-- no count of a slot without a fault is past 63
+pub count_within : (p : Parameters) (slot : List Block) (i : ℕ) → count_fault Two p slot ≡ None → i < 64 * count_blocks p → count_byte p slot i ≤ 63
+count_within p slot i h l =
+    let none = none_of Count (position (is_bad_count p slot) (range_with_len 0 (64 * count_blocks p))) h in
+    let fine : is_bad_count p slot i ≡ false = sym (numbered (is_bad_count p slot) (64 * count_blocks p) i l)
+    ∙ none_at (is_bad_count p slot) 0 (range_with_len 0 (64 * count_blocks p)) i 0
+    (sym (position_from-zero (is_bad_count p slot) (range_with_len 0 (64 * count_blocks p))) ∙ none)
+    (omega (arith, length-range_with_len 0 (64 * count_blocks p))) in
+    ltb-false 63 (count_byte p slot i) (not_either (nat_lt 63 (count_byte p slot i)) (nat_le p.pages i && not (count_byte p slot i == 0)) fine)
+
+-- number i is the first of the first n that does
+pub position_is : (t : ℕ → Bool) (n i : ℕ) → i < n → ((k : ℕ) → k < i → t k ≡ false) → t i ≡ true → position t (range_with_len 0 n) ≡ Some i
+position_is t n i l none here = first_is t n i (position t (range_with_len 0 n)) refl l none here
+
+-- a count that is not past 63, and zero past the last page
+pub fine_count : (count pages i : ℕ) → (i < pages → count ≤ 63) → (pages ≤ i → count ≡ 0)
+    → (nat_lt 63 count || (nat_le pages i && not (count == 0))) ≡ false
+fine_count count pages i within rest = elim (cases_lt i pages) as (λ _. (nat_lt 63 count || (nat_le pages i && not (count == 0))) ≡ false) [
+  | inl l ↦
+      ap (λ b. b || (nat_le pages i && not (count == 0))) (le-ltb 63 count (within l))
+      ∙ ap (λ b. b && not (count == 0)) (lt-leb pages i l)
+  | inr m ↦
+      let zero : count ≡ 0 = rest m in
+      ap (λ c. nat_lt 63 c || (nat_le pages i && not (c == 0))) zero ∙ and_false (nat_le pages i)
+] where
+  and_false : (b : Bool) → (b && false) ≡ false
+  and_false true = refl
+  and_false false = refl

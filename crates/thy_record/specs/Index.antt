@@ -1,0 +1,43 @@
+-- Where an image has each block of memory, as one list of numbers: so far as both tables were gone through.
+use Rattle.std.specs.Prelude.{◌≡◌, ◌≢◌, ℕ, ◌+◌, ◌*◌, ◌<◌, List, length, map, take, drop, slice_set, slice_index_or, Option, Some, None}
+use Rattle.thy_base.specs.declared.block.Block.{Block}
+use Rattle.thy_base.specs.declared.config.Parameters.{Parameters}
+use Rattle.thy_base.specs.declared.place.Place.TheVariants.{AlternateBlock, AlternatePage}
+use Rattle.thy_base.specs.Device.{block_at}
+use Rattle.thy_base.specs.Places.{number_of}
+use Rattle.thy_base.specs.Store.{page_of}
+use Rattle.thy_flat.specs.Flat.{flat}
+use Rattle.thy_record.specs.Images.{memory_numbers}
+use Rattle.thy_record.specs.Tables.{Lists}
+
+-- the number of each block's place, by these entries of the block table and of the page table
+abbrev pub index_by : Parameters → List (Option ℕ) → List (Option ℕ) → List ℕ
+index_by p btt ptt = memory_numbers p (record { btt = btt; ptt = ptt })
+
+-- a table lists numbers below a limit, none twice
+pub record ListsOnce (limit : ℕ) (table : List (Option ℕ)) : Type 0 where
+  pub inside : (i n : ℕ) → Lists table i n → n < limit
+  pub once : (i k n : ℕ) → Lists table i n → Lists table k n → i ≡ k
+
+-- the block that entry i of the block table lists stands in its alternate block
+abbrev pub with_block : Parameters → ℕ → Option ℕ → List ℕ → List ℕ
+with_block p i None index = index
+with_block p i (Some b) index = slice_set index b (number_of p (AlternateBlock i))
+
+-- the blocks of a page stand in the alternate page of entry j of the page table, and all others where they stood
+pub record HasPage (p : Parameters) (j page : ℕ) (old new : List ℕ) : Type 0 where
+  pub here : (k : ℕ) → k < 64 → slice_index_or new (64 * page + k) 0 ≡ number_of p (AlternatePage j k)
+  pub others : (b : ℕ) → page_of b ≢ page → slice_index_or new b 0 ≡ slice_index_or old b 0
+
+-- so it is of the page that the entry lists
+abbrev pub HasPageOf : Parameters → ℕ → Option ℕ → List ℕ → List ℕ → Type 0
+HasPageOf p j None old new = new ≡ old
+HasPageOf p j (Some page) old new = HasPage p j page old new
+
+-- these are numbers of an image's blocks
+pub record AreInside (image : List Block) (places : List ℕ) : Type 0 where
+  pub each : (k : ℕ) → k < length places → slice_index_or places k 0 < length image
+
+-- the bytes of n blocks of an image, from the first of these places on
+abbrev pub bytes_at : List Block → List ℕ → ℕ → ℕ → List ℕ
+bytes_at image places first n = flat (take n (drop first (map (block_at image) places)))
