@@ -31,7 +31,7 @@ parameters_of c = record {
 abbrev pub memory_rows : Parameters → List Row
 memory_rows p =
     row Base p.base (both (multiple_of 4096) (below (2 ^ 62)))
-    ∷ row Pages p.pages (between 8 4096)
+    ∷ row Pages p.pages (between 8 65536)
     ∷ row Console p.console (both (between 1 16) (below p.pages))
     ∷ []
 

@@ -7,7 +7,7 @@ use crate::Numbers;
 pub struct Config {
     /// The first address of program memory, in bytes: a multiple of 4096 below `2^62`.
     pub base: u64,
-    /// Memory in pages of 4096 bytes: 8 to 4096.
+    /// Memory in pages of 4096 bytes: 8 to 65536.
     pub pages: u64,
     /// The pages at the end of memory that hold the console's bytes: 1 to 16, below `pages`.
     pub console: u64,

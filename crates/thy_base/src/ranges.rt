@@ -58,10 +58,10 @@ fn or_else(fits: bool, field: Field, value: u64, rest: Option<ConfigError>) -> O
 
 fn memory(c: &Config) -> Option<ConfigError>
     ensures fault { result ≡ fault_in (memory_rows (parameters_of c.now)) }
-    ensures pages { IfNone result (c.now.pages ≤ 4096) }
+    ensures pages { IfNone result (c.now.pages ≤ 65536) }
 {
     let base = c.base.is_multiple_of(4096) && c.base < 1 << 62;
-    let pages = is_within(8, 4096, c.pages);
+    let pages = is_within(8, 65536, c.pages);
     let console = is_within(1, 16, c.console) && c.console < c.pages;
     let rest = or_else(console, Field::Console, c.console, None);
     or_else(
@@ -116,7 +116,7 @@ fn thresholds(c: &Config) -> Option<ConfigError>
 }
 
 fn cuts(c: &Config) -> Option<ConfigError>
-    requires { c.now.pages ≤ 4096 }
+    requires { c.now.pages ≤ 65536 }
     ensures { result ≡ fault_in (cut_rows c.now) }
 {
     let count = c.cuts.len();
@@ -130,7 +130,7 @@ fn cuts(c: &Config) -> Option<ConfigError>
 }
 
 fn product(pages: u64, count: u64) -> Option<ConfigError>
-    requires few_pages { pages ≤ 4096 }
+    requires few_pages { pages ≤ 65536 }
     requires few_cuts { count ≤ 64 }
     ensures { result ≡ fault_in (row Field.Cuts (pages * (count + 1)) (at_most 65536) ∷ []) }
 {
