@@ -1,5 +1,5 @@
 -- A slot of version 1 that is written anew in version 2 means the same.
-use Rattle.std.proofs.Common.{◌≡◌, ℕ, ◌+◌, ◌*◌, ◌/◌, ◌%◌, ◌<◌, ◌≤◌, ◌==◌, ◌&&◌, nat_lt, nat_le, if◌then◌else◌, List, ◌∷◌, length, map, replicate, slice_index, slice_index_or, Option, Some, None, refl, sym, ◌∙◌, ap, inl, inr, arith}
+use Rattle.std.proofs.Common.{◌≡◌, ℕ, ◌+◌, ◌*◌, ◌/◌, ◌%◌, ◌<◌, ◌==◌, ◌&&◌, nat_lt, nat_le, if◌then◌else◌, List, ◌∷◌, map, replicate, slice_index_or, Option, Some, None, sym, ◌∙◌, ap, inl, inr, arith}
 use Rattle.std.proofs.lemmas.Bool.{cases_lt}
 use Rattle.std.proofs.lemmas.List.{length-replicate, get_or-replicate, get_or_past, ext_get_or}
 use Rattle.std.proofs.lemmas.List.FromFn.{length-map-range_with_len, get_or-map-range_with_len}
@@ -15,10 +15,10 @@ use Rattle.thy_base.specs.Words.{word_of}
 use Rattle.thy_record.specs.declared.bad_image.BadImage.{BadImage}
 use Rattle.thy_record.specs.declared.bad_image.BadImage.TheVariants.{Commit, Status as BadStatus, ConsoleLength, Count}
 use Rattle.thy_record.specs.Cpu.{status_of, is_status, record_word, record_words, cpu_of_record}
-use Rattle.thy_record.specs.Migrated.{IsWrittenAnew, MeansTheSame, AnewMeansTheSame}
+use Rattle.thy_record.specs.Migrated.{IsWrittenAnew, AnewMeansTheSame}
 use Rattle.thy_record.specs.Slots.{entries_in, tables_in, count_byte, counts_in, is_bad_count, count_fault, epoch_fault, status_fault, slot_fault}
 use Rattle.thy_record.specs.TableFaults.{tables_fault}
-use Rattle.thy_record.specs.Tables.{Tables, entry_at}
+use Rattle.thy_record.specs.Tables.{Tables}
 use Rattle.thy_record.specs.TableBlocks.{entry_from}
 use Rattle.thy_record.proofs.CountLemmas.{no_position, fine_count}
 use Rattle.thy_record.proofs.CpuLemmas.{record_words-at, length-record_words}
