@@ -1,18 +1,19 @@
 -- What the bytes of a saved image decode to can begin a run, and their blocks are an image of the same meaning.
-use Rattle.std.proofs.Common.{◌≡◌, ℕ, ◌+◌, ◌-◌, ◌*◌, ◌/◌, ◌%◌, ◌^◌, ◌<◌, ◌≤◌, ◌==◌, ◌&&◌, Bool, true, false, nat_le, nat_lt, if◌then◌else◌, List, [], ◌∷◌, ◌++◌, length, take, drop, slice_index, map, replicate, Option, Some, None, Ok, refl, sym, ◌∙◌, ap, subst, inl, inr, lit<, arith}
+use Rattle.std.proofs.Common.{◌≡◌, ◌⊎◌, ℕ, ◌+◌, ◌-◌, ◌*◌, ◌/◌, ◌%◌, ◌^◌, ◌<◌, ◌≤◌, ◌==◌, ◌&&◌, ◌||◌, Bool, true, false, nat_le, nat_lt, if◌then◌else◌, List, [], ◌∷◌, ◌++◌, length, take, drop, slice_index, map, replicate, Option, Some, None, Ok, refl, sym, ◌∙◌, ap, subst, inl, inr, lit<, arith}
 use Rattle.std.specs.List.{All}
 use Rattle.std.specs.Option.{option_or}
-use Rattle.std.proofs.lemmas.Bool.{cases_lt, le-leb, leb-true, ltb-true, and_parts}
+use Rattle.std.proofs.lemmas.Bool.{cases_lt, eqb-true, le-leb, leb-true, ltb-true, and_parts}
 use Rattle.std.proofs.lemmas.List.{length-take, length-take-le, length-drop, length-map, take_all, take_more, get_or_past, get_or-take, get_or-drop, get_or-map, ext_get_or}
 use Rattle.std.proofs.lemmas.List.Elements.{All-cons, All-append, All-replicate, All-take, All-drop, All-from_get_or}
 use Rattle.thy_base.specs.declared.block.Block.{Block}
 use Rattle.thy_base.specs.declared.config.Parameters.{Parameters}
+use Rattle.thy_base.specs.declared.form.Form.{Form}
 use Rattle.thy_base.specs.declared.mark.Mark.{Mark}
 use Rattle.thy_base.specs.Blocks.{block_bytes}
 use Rattle.thy_base.specs.Device.{zero_block, block_at}
 use Rattle.thy_base.specs.Geometry.{IsInRange, program_size, console_room}
 use Rattle.thy_base.specs.Marks.{mark}
-use Rattle.thy_base.specs.Places.{image_blocks}
+use Rattle.thy_base.specs.Places.{blocks_one, image_blocks}
 use Rattle.thy_base.proofs.BlockLemmas.{block_bytes-long}
 use Rattle.thy_flat.specs.Flat.{flat, AllLong}
 use Rattle.thy_flat.proofs.FlatLemmas.{length-flat, flat_at}
@@ -25,17 +26,17 @@ use Rattle.thy_isa.specs.Step.{State, cpu_of}
 use Rattle.thy_isa.specs.Storable.{IsNumber, IsByte, IsStatus, IsStorable, IsReadable}
 use Rattle.thy_isa.proofs.MemoryBounds.{anywhere, number_at-number}
 use Rattle.thy_record.specs.declared.bad_image.BadImage.TheVariants.{Commit, Status as BadStatus, ConsoleLength}
-use Rattle.thy_record.specs.Commit.{commit_magic, epoch_of, has_zero_rest, commit_fault}
+use Rattle.thy_record.specs.Commit.{epoch_of, form_of, is_named, has_zero_rest, commit_fault}
 use Rattle.thy_record.specs.Cpu.{status_tag, status_value, status_of, is_status, record_word, record_words, cpu_of_record, IsRecordable}
 use Rattle.thy_record.specs.declared.file.Found.TheVariants.{At as FoundAt}
 use Rattle.thy_record.specs.Decoded.{Decoded, Nothing, Refused, At}
 use Rattle.thy_record.specs.Files.{block_in, blocks_of, decode_file, found_in}
-use Rattle.thy_record.specs.Images.{slot_numbers, slot_in, memory_numbers, memory_in, state_in, decode_image}
-use Rattle.thy_record.specs.Slots.{tables_in, epoch_fault, status_fault, slot_fault}
+use Rattle.thy_record.specs.Images.{is_one, is_long, slot_numbers, slot_in, memory_numbers, memory_in, state_in, decode_image}
+use Rattle.thy_record.specs.Slots.{tables_in, epoch_fault, status_fault, count_fault, slot_fault}
 use Rattle.thy_record.specs.TableFaults.{tables_fault}
 use Rattle.thy_base.specs.Words.{word_of}
 use Rattle.thy_record.proofs.CpuLemmas.{record_words-at, length-record_words}
-use Rattle.thy_record.proofs.FileLemmas.{length-blocks_of, block_at-blocks_of, decode_file-flat}
+use Rattle.thy_record.proofs.FileLemmas.{length-blocks_of, block_at-blocks_of, HasLength-file, decode_file-flat}
 use Rattle.thy_record.proofs.ImageLemmas.{IsDecoded-at, decode-higher}
 use Rattle.thy_record.proofs.RestoredLemmas.{IsWholeFile-found, length-memory_in}
 use Rattle.thy_record.proofs.TableFaultLemmas.{neither}
@@ -90,25 +91,45 @@ blocks_all bytes k past = take_all k (blocks_of bytes) (omega (arith, length-blo
 
 -- ---- the image of a file
 
--- a file that decodes to a checkpoint has the blocks of an image
-pub length-saved : (p : Parameters) (bytes : List ℕ) (epoch : ℕ) (s : State) → decode_file p (2 ^ 62) bytes ≡ At epoch s
-    → length bytes ≡ 64 * image_blocks p
-length-saved p bytes epoch s h =
-    (IsWholeFile-found p bytes (record { ceiling = 2 ^ 62; epoch = epoch; found = ap found_in h })).long
+-- an image is as long as one of version 2, or shorter
+long_cases : (whole one other : Bool) → (whole || (one && other)) ≡ true → (whole ≡ true) ⊎ (other ≡ true)
+long_cases true one other h = inl refl
+long_cases false true other h = inr h
+long_cases false false other h = cc
 
-pub length-saved_blocks : (p : Parameters) (bytes : List ℕ) (epoch : ℕ) (s : State) → decode_file p (2 ^ 62) bytes ≡ At epoch s
-    → length (blocks_of bytes) ≡ image_blocks p
-length-saved_blocks p bytes epoch s h = omega (arith, length-blocks_of bytes, length-saved p bytes epoch s h)
+long_most : (p : Parameters) (commit : Block) (n : ℕ) → is_long p commit n ≡ true → n ≤ image_blocks p
+long_most p commit n h = elim (long_cases (n == image_blocks p) (is_one (form_of commit)) (n == blocks_one p) h) as (λ _. n ≤ image_blocks p) [
+  | inl whole ↦ let e : n ≡ image_blocks p = eqb-true _ _ whole in omega arith
+  | inr old ↦ let e : n ≡ blocks_one p = eqb-true _ _ old in omega arith
+]
+
+-- a file that decodes to a checkpoint is whole blocks, as many as an image of one of both versions has
+pub record IsSaved (p : Parameters) (bytes : List ℕ) : Type 0 where
+  pub whole : length bytes ≡ 64 * length (blocks_of bytes)
+  pub least : blocks_one p ≤ length (blocks_of bytes)
+  pub most : length (blocks_of bytes) ≤ image_blocks p
+
+pub IsSaved-decoded : (p : Parameters) (bytes : List ℕ) (epoch : ℕ) (s : State) → decode_file p (2 ^ 62) bytes ≡ At epoch s → IsSaved p bytes
+IsSaved-decoded p bytes epoch s h =
+    let file = IsWholeFile-found p bytes (record { ceiling = 2 ^ 62; epoch = epoch; found = ap found_in h }) in
+    let has = HasLength-file p bytes file.long in
+    let all = length-blocks_of bytes in
+    let few = long_most p (block_at (blocks_of bytes) 1) (length bytes / 64) has.long in
+    record {
+      whole = let whole = has.whole in omega (arith, all);
+      least = let least = file.places in omega (arith, all);
+      most = omega (arith, all, few);
+    }
 
 pub flat-saved : (p : Parameters) (bytes : List ℕ) (epoch : ℕ) (s : State) → decode_file p (2 ^ 62) bytes ≡ At epoch s
     → flat (blocks_of bytes) ≡ bytes
-flat-saved p bytes epoch s h = flat-blocks_of bytes (image_blocks p) (length-saved p bytes epoch s h)
+flat-saved p bytes epoch s h = flat-blocks_of bytes (length (blocks_of bytes)) (IsSaved-decoded p bytes epoch s h).whole
 
 -- which decodes to the same
 pub decode-saved : (p : Parameters) (bytes : List ℕ) (epoch : ℕ) (s : State) → decode_file p (2 ^ 62) bytes ≡ At epoch s
     → decode_image p (2 ^ 62) (blocks_of bytes) ≡ At epoch s
 decode-saved p bytes epoch s h =
-    sym (decode_file-flat p (2 ^ 62) (blocks_of bytes) (AllLong-blocks_of bytes) (omega (arith, length-saved_blocks p bytes epoch s h)))
+    sym (decode_file-flat p (2 ^ 62) (blocks_of bytes) (AllLong-blocks_of bytes) (let least = (IsSaved-decoded p bytes epoch s h).least in omega arith))
     ∙ ap (decode_file p (2 ^ 62)) (flat-saved p bytes epoch s h)
     ∙ h
 
@@ -217,13 +238,15 @@ status_tests true true false h = cc
 status_tests true false room h = cc
 status_tests false below room h = cc
 
-FitsSlot-faultless : (p : Parameters) (epoch : ℕ) (slot : List Block) → slot_fault p (2 ^ 62) epoch slot ≡ None → FitsSlot p slot
+FitsSlot-faultless : (form : Form) (p : Parameters) (epoch : ℕ) (slot : List Block) → slot_fault form p (2 ^ 62) epoch slot ≡ None → FitsSlot p slot
 unfolding slot_fault
-FitsSlot-faultless p epoch slot h =
-    let parts = neither (epoch_fault epoch slot) (option_or (tables_fault p (tables_in p slot)) (status_fault p (2 ^ 62) slot)) h in
-    let last = neither (tables_fault p (tables_in p slot)) (status_fault p (2 ^ 62) slot) parts.1 in
+FitsSlot-faultless form p epoch slot h =
+    let parts = neither (epoch_fault epoch slot)
+    (option_or (tables_fault p (tables_in p slot)) (option_or (status_fault p (2 ^ 62) slot) (count_fault form p slot))) h in
+    let tables = neither (tables_fault p (tables_in p slot)) (option_or (status_fault p (2 ^ 62) slot) (count_fault form p slot)) parts.1 in
+    let last = neither (status_fault p (2 ^ 62) slot) (count_fault form p slot) tables.1 in
     let passed = status_tests (is_status (record_word slot 36) (record_word slot 37)) (nat_lt (record_word slot 32) (2 ^ 62))
-    (nat_le (record_word slot 34) (console_room p)) last.1 in
+    (nat_le (record_word slot 34) (console_room p)) last.0 in
     record {
       status = passed.0;
       count = ltb-true (record_word slot 32) (2 ^ 62) passed.1;
@@ -290,10 +313,10 @@ commit_tests true true rest h = refl
 commit_tests true false rest h = cc
 commit_tests false below rest h = cc
 
-epoch-below : (b : Block) → commit_fault b (2 ^ 62) ≡ None → epoch_of b < 2 ^ 62
+epoch-below : (header b : Block) → commit_fault header b (2 ^ 62) ≡ None → epoch_of b < 2 ^ 62
 unfolding commit_fault
-epoch-below b h =
-    ltb-true (epoch_of b) (2 ^ 62) (commit_tests (word_of b 0 == commit_magic) (nat_lt (epoch_of b) (2 ^ 62)) (has_zero_rest b) h)
+epoch-below header b h =
+    ltb-true (epoch_of b) (2 ^ 62) (commit_tests (is_named header b) (nat_lt (epoch_of b) (2 ^ 62)) (has_zero_rest b) h)
 
 -- ---- the beginning of a run
 
@@ -302,12 +325,12 @@ pub IsOrigin-restored : (o : Origin) (bytes : List ℕ) (epoch : ℕ) → IsInRa
     → decode_file o.geometry (2 ^ 62) bytes ≡ At epoch o.start → o.kept ≡ Some (mark epoch o.start.count) → IsOrigin o
 IsOrigin-restored o bytes epoch range are_bytes readable saved kept =
     let whole = (IsDecoded-at o.geometry (2 ^ 62) (blocks_of bytes) epoch o.start (decode-saved o.geometry bytes epoch o.start saved)).whole in
-    let fits = FitsSlot-faultless o.geometry epoch (slot_in o.geometry (blocks_of bytes)) whole.slot_fits in
+    let fits = FitsSlot-faultless (form_of (block_at (blocks_of bytes) 1)) o.geometry epoch (slot_in o.geometry (blocks_of bytes)) whole.slot_fits in
     let storable : IsStorable (program_size o.geometry) o.start = subst (IsStorable (program_size o.geometry)) whole.state_is
     (IsStorable-state_in o.geometry (blocks_of bytes) (AreOfBytes-blocks_of bytes are_bytes) fits) in
     let small : IsSmallState o.geometry o.start = subst (IsSmallState o.geometry) whole.state_is
     (IsSmallState-state_in o.geometry (blocks_of bytes) fits) in
-    let below : epoch < 2 ^ 62 = subst (λ e. e < 2 ^ 62) whole.of_epoch (epoch-below (block_at (blocks_of bytes) 1) whole.commit_fits) in
+    let below : epoch < 2 ^ 62 = subst (λ e. e < 2 ^ 62) whole.of_epoch (epoch-below (block_at (blocks_of bytes) 0) (block_at (blocks_of bytes) 1) whole.commit_fits) in
     record {
       geometry = range;
       recordable = IsRecordable-small o.geometry o.start storable small;

@@ -1,5 +1,5 @@
 -- What the program keeps of a job: the source of its program, and the plan of its run.
-use Rattle.std.specs.Prelude.{◌≡◌, ℕ, ◌<◌, Bool, List, [], length, Option, Some, None, Result, Ok, Err, IfOk, IfErr}
+use Rattle.std.specs.Prelude.{◌≡◌, ℕ, ◌<◌, ◌≤◌, Bool, List, [], length, Option, Some, None, Result, Ok, Err, IfOk, IfErr}
 use Rattle.thy_base.specs.declared.block.Block.{Block}
 use Rattle.thy_base.specs.declared.config.Config.{Config}
 use Rattle.thy_base.specs.declared.config.Parameters.{Parameters}
@@ -91,7 +91,7 @@ RefusesProgram p had result =
 
 -- an image means the checkpoint that a beginning was taken from
 pub record IsImageOf (p : Parameters) (epoch : ℕ) (b : Beginning) : Type 0 where
-  pub many : length b.blocks ≡ image_blocks p
+  pub few : length b.blocks ≤ image_blocks p
   pub long : AllLong b.blocks
   pub decodes : decode_image p ceiling b.blocks ≡ At epoch b.start
 
