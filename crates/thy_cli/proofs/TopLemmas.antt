@@ -127,8 +127,8 @@ fitted_by K laws o reads blocks shape n (Some m) is of many =
       fits = omega (arith, size);
       long = of.long;
       found = reads.decode ceiling (fitted shape blocks n).image
-      ∙ decode-filled_up o.geometry ceiling (shape.blocks - length blocks) m.epoch o.start blocks of.decodes all
-      ∙ ap (found_first o) (sym is);
+          ∙ decode-filled_up o.geometry ceiling (shape.blocks - length blocks) m.epoch o.start blocks of.decodes all
+          ∙ ap (found_first o) (sym is);
     }
 
 pub fitted_for_plan : {M : Type 0} (K : KindOf M) (laws : IsLawful K) (plan : Plan) (reads : ReadsFiles K plan.geometry) → (blocks : List Block) (shape : Shape) (n : Device) → CanRun plan blocks → shape.blocks ≡ K.blocks plan.geometry
