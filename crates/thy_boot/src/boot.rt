@@ -53,6 +53,27 @@ impl Boot {
         self.stage
     }
 
+    /// The geometry that it is of.
+    pub fn geometry(&self) -> &Geometry
+        ensures { result.now ≡ self.now.p }
+    {
+        &self.geometry
+    }
+
+    /// The commit block, once it was read.
+    pub fn commit(&self) -> &Block
+        ensures { result.now ≡ self.now.commit }
+    {
+        &self.commit
+    }
+
+    /// The room of the slot, with the bytes that were read.
+    pub fn slot(&self) -> &[u8]
+        ensures { result.now ≡ self.now.slot }
+    {
+        &self.slot
+    }
+
     /// Takes one action of the NVM: reads the next block of the checkpoint there, or, if there is none, takes the next
     /// action of loading the start. Once the image was found at fault, it takes none, and returns the refusal at each step.
     /// If the NVM failed, boot and controller are as before.

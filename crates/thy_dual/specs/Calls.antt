@@ -22,9 +22,8 @@ use Rattle.thy_control.specs.State.{State, cell_of, work_of, penult_of, new_stat
 use Rattle.thy_control.specs.StoredTables.{answer_of as answer_by}
 use Rattle.thy_commit.specs.Items.{is_under_way, answer}
 use Rattle.thy_commit.specs.Progress.{begun, item_of, engine_next, state_next, device_next, FailsNext}
-use Rattle.thy_boot.specs.Boot.{new_boot, answer_of}
-use Rattle.thy_boot.specs.Steps.{TakesStep}
-use Rattle.thy_recover.specs.Filling.{filling_one}
+use Rattle.thy_migrate.specs.Migrating.{new_recovery, answer_of}
+use Rattle.thy_migrate.specs.Steps.{TakesStep}
 use Rattle.thy_scheme.specs.declared.boot_step.BootStep.{BootStep}
 use Rattle.thy_dual_model.specs.Boots.{step_of}
 use Rattle.thy_dual_model.specs.Dual.{Dual, is_overlaid, is_promoting}
@@ -34,7 +33,7 @@ use Rattle.thy_dual_model.specs.Dual.{Dual, is_overlaid, is_promoting}
 -- its tables list nothing, no store was counted, nothing was read, and no checkpoint is under way
 pub record IsNew (p : Parameters) (dram : Contents) (s : Dual) : Type 0 where
   pub control : s.control ≡ new_state p dram
-  pub boot : s.boot ≡ new_boot filling_one p
+  pub boot : s.boot ≡ new_recovery p
   pub engine : s.engine.p ≡ p
   pub idle : is_under_way s.engine.next ≡ false
   pub rested : s.rested ≡ true
@@ -145,9 +144,9 @@ pub record TakesItem (s : Dual) (n : Device)
 
 -- ---- a step of the boot
 
--- the boot's stage afterwards determines the result; engine and marks are as they were
+-- boot and migration afterwards determine the result; engine and marks are as they were
 pub record TakesBootStep (start : Start) (s : Dual) (n : Device)
     (result : Result BootStep NvmError) (t : Dual) (new : Device) : Type 0 where
-  pub answer : IfOk result (λ step. step ≡ step_of (answer_of filling_one t.boot))
-  pub steps : TakesStep filling_one result (state_of start.state) n s.boot s.control new t.boot t.control
+  pub answer : IfOk result (λ step. step ≡ step_of (answer_of t.boot))
+  pub steps : TakesStep result (state_of start.state) n s.boot s.control new t.boot t.control
   pub others : t ≡ record s { control = t.control; boot = t.boot }

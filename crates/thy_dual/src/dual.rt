@@ -22,15 +22,15 @@ ghost use Rattle.thy_dual_model.specs.Stays.{StaysDual};
 ghost use Rattle.thy_dual.specs.Calls.{IsNew, IsSized, LoadsWork, LoadsCommitted, StoresByRule};
 ghost use Rattle.thy_dual.specs.Calls.{drained, merged, PromotesNext, sealed, TakesItem, TakesBootStep};
 
-use crate::fills::DualFills;
 use std::alloc::{AllocError, Global};
 use std::marker::Model;
 use thy_base::{Block, Geometry, Nvm, NvmError, Stored};
-use thy_boot::{Boot, BootStep as Recovered, Stage};
+use thy_boot::{BootStep as Recovered, Stage};
 use thy_commit::{Engine, items_are_moves, items_keep_the_store, items_move_versions};
 use thy_control::{Control, blocks_are_works};
 use thy_dram::Dram;
 use thy_isa::CpuState;
+use thy_migrate::Recovery;
 use thy_record::{EngineStep, Start};
 use thy_scheme::{BootStep, Scheme};
 
@@ -44,7 +44,7 @@ pub struct DualScheme {
     rested: bool,
     /// No block was stored in the epoch that was sealed last. Contracts speak of it; no code reads it.
     lean: bool,
-    boot: Boot,
+    boot: Recovery,
 }
 
 impl Model for DualScheme {
@@ -110,7 +110,7 @@ impl Scheme for DualScheme {
         ensures powered { IfOk result (λ s. IsPowered geometry.now s) }
         ensures dram { IfOk result (λ s. s.control.dram ≡ dram) }
     {
-        let boot = Boot::new::<DualFills>(alloc, geometry)?;
+        let boot = Recovery::new(alloc, geometry)?;
         let engine = Engine::new(geometry);
         engine.sound();
         let control = Control::new(alloc, geometry, dram)?;
@@ -314,16 +314,14 @@ impl Scheme for DualScheme {
         ensures frame { IsFramed (N.device nvm.old) (N.device nvm.new) }
         ensures cause { CountsFault result (N.device nvm.old).faults (N.device nvm.new).faults }
     {
-        let result = self
-            .boot
-            .step::<DualFills, N>(&mut self.control, start, nvm);
+        let result = self.boot.step(&mut self.control, start, nvm);
         self.control.tables();
         scheme_result(result)
     }
 
     fn loading(&self) -> bool
-        ensures stage { result ≡ loads_at self.now.boot.stage }
-        ensures found { let stage = self.now.boot.stage in
+        ensures stage { result ≡ loads_at self.now.boot.boot.stage }
+        ensures found { let stage = self.now.boot.boot.stage in
             (o : Origin) (n : Device) → Boots o self.now n
             → result ≡ (has_read_at stage && loads (view_at o stage n)) }
     {

@@ -7,7 +7,5 @@
 #![tactic(auto)]
 
 mod dual;
-mod fills;
 
 pub use dual::DualScheme;
-pub use fills::DualFills;

@@ -1,5 +1,5 @@
 -- What holds in the boot.
-use Rattle.std.proofs.Common.{◌≡◌, ◌≢◌, ◌&&◌, ℕ, ◌-◌, ◌*◌, ◌<◌, ◌≤◌, [], ◌∷◌, suc, true, false, List, length, refl, sym, ◌∙◌, ap, subst, inl, inr, arith, Option, Some, None}
+use Rattle.std.proofs.Common.{◌≡◌, ◌≢◌, ◌&&◌, ℕ, ◌-◌, ◌*◌, ◌<◌, ◌≤◌, [], ◌∷◌, suc, true, false, is_some, List, length, refl, sym, ◌∙◌, ap, subst, inl, inr, arith, Option, Some, None}
 use Rattle.std.proofs.lemmas.List.{get_or-replicate, length-replicate}
 use Rattle.thy_base.specs.declared.block.Block.{Block}
 use Rattle.thy_base.specs.declared.config.Parameters.{Parameters}
@@ -7,7 +7,7 @@ use Rattle.thy_base.specs.declared.mark.Mark.{Mark}
 use Rattle.thy_base.specs.Device.{Device, block_at, zero_block, fitted, drained}
 use Rattle.thy_base.specs.Marks.{mark}
 use Rattle.thy_base.specs.Places.{slot_blocks, image_blocks}
-use Rattle.thy_record.specs.Commit.{is_zero, form_of}
+use Rattle.thy_record.specs.Commit.{is_zero}
 use Rattle.thy_record.specs.Decoded.{Decoded, Nothing, Refused, At}
 use Rattle.thy_record.specs.Images.{decode_image}
 use Rattle.thy_record.proofs.ReadBackLemmas.{is_zero-zero_block}
@@ -25,9 +25,9 @@ use Rattle.thy_dram.specs.Contents.{Contents, lost}
 use Rattle.thy_dram.specs.Draws.{blocks_over, after_block}
 use Rattle.thy_view.specs.Kind.{IsDramOf}
 use Rattle.thy_view.specs.declared.view.View.{View}
-use Rattle.thy_view.specs.Booting.{loading_view, view_of_image}
+use Rattle.thy_view.specs.Booting.{boot_view, loading_view, view_of_image}
 use Rattle.thy_view.specs.Origin.{Origin, IsOrigin}
-use Rattle.thy_view.specs.Safe.{ceiling, Safe}
+use Rattle.thy_view.specs.Safe.{ceiling, Safe, IsOneOf}
 use Rattle.thy_view.specs.Views.{doubt_of, loads}
 use Rattle.thy_boot.specs.declared.stage.Stage.{Stage}
 use Rattle.thy_boot.specs.declared.stage.Stage.TheVariants.{Reads, Loads, Over}
@@ -36,7 +36,6 @@ use Rattle.thy_boot.specs.declared.stage.ReadStage.TheVariants.{Unread, Header a
 use Rattle.thy_boot.specs.declared.stage.Issue.{Issue}
 use Rattle.thy_boot.specs.declared.stage.Issue.TheVariants.{Home, Slot, Header, Settle, Commit, Confirm}
 use Rattle.thy_boot.specs.Boot.{Booting, IsBoot, new_boot}
-use Rattle.thy_boot.specs.Left.{stage_left}
 use Rattle.thy_boot.specs.Laws.{IsGoing}
 use Rattle.thy_boot.specs.Shows.{is_written, seen_at}
 use Rattle.thy_boot.specs.Sound.{BootImages, start_mark, saved_loading, standing_in_boot, IsRecovering, IsSoundAt, IsSound as IsBootOf}
@@ -51,12 +50,17 @@ use Rattle.thy_recover.proofs.LiveLemmas.{IsFresh-new}
 use Rattle.thy_record.specs.declared.bad_image.BadImage.{BadImage}
 use Rattle.thy_protocol.proofs.LayoutLemmas.{decode_by-nothing_back, decode_by-zero}
 use Rattle.thy_protocol.specs.Remapped.{layout_of, remapped}
+use Rattle.thy_base.proofs.CrashLemmas.{Crash-image}
+use Rattle.thy_migrate.specs.declared.migration.Migration.{Migration}
+use Rattle.thy_migrate.specs.Left.{left_at}
+use Rattle.thy_migrate.specs.Sound.{IsMigrating}
+use Rattle.thy_migrate.proofs.MigrationLemmas.{migration_is_safe, drains_keep_migration}
 use Rattle.thy_scheme.specs.Boots.{IsBootView, BootStays, BootDrains}
 use Rattle.thy_scheme.specs.Laws.{IsOwn, IsFound, BootsFound, BootHolds}
-use Rattle.thy_dual_model.specs.Boots.{Boots, IsPowered, view_at, has_read_at, loads_at}
+use Rattle.thy_dual_model.specs.Boots.{Boots, IsUnderWay, IsPowered, view_at, has_read_at, loads_at}
 use Rattle.thy_dual_model.specs.Dual.{Dual}
 use Rattle.thy_dual_model.specs.Laws.{BootIsSound, PowerFinds, PowerIsNew, ZerosAreNothing}
-use Rattle.thy_dual_model.specs.Scheme.{boot_numbers, dual_scheme}
+use Rattle.thy_dual_model.specs.Scheme.{dual_scheme}
 use Rattle.thy_dual_model.proofs.SafeLemmas.{Safe-read}
 
 -- ---- what is seen
@@ -115,9 +119,79 @@ module _ (o : Origin) (g : BootImages) (n : Device) (b : Booting) (c : State) wh
   sized-at (Loads issue) going keeps = keeps.sized
   sized-at (Over end) going keeps = absurd going
 
+  -- what is seen of it is what holds of the mark that is kept
+  pub view-reads : IsBootOf filling_one o g n b c → IsGoing b.stage → view_at o b.stage n ≡ seen_at o g.kept b.stage
+  view-reads sound going = view-at b.stage going sound.keeps sound.so_far
+
+-- ---- a migration
+
+-- of an image that a cut may leave the view is that of the mark that is kept
+view-kept : (o : Origin) (m : Mark) (d : Decoded) → IsOneOf o (Some m) None d → view_of_image o.start.count d ≡ boot_view (Some m) None
+view-kept o m Nothing h = absurd (cc)
+view-kept o m (Refused bad) h = absurd h
+view-kept o m (At epoch state) h = elim h.0 as (λ _. boot_view (Some (mark epoch state.count)) None ≡ boot_view (Some m) None) [
+  | inl e ↦ ap (λ (k : Option Mark). boot_view k None) (sym e)
+  | inr e ↦ absurd (cc)
+]
+
+module _ (o : Origin) (m : Mark) (at : Migration) (g : BootImages) (n : Device) (b : Booting) (c : State) (h : IsMigrating o m at g n b c) where
+  pub safe-migrating : Safe decode_image o (Some m) None n
+  safe-migrating = Safe-read o (Some m) None n h.issued.sized (migration_is_safe o m at g n b c h)
+
+  pub view-migrates : view_at o b.stage n ≡ boot_view (Some m) None
+  view-migrates =
+      ap (λ (q : Stage). view_at o q n) h.found.restored
+      ∙ view-kept o m (decode_image o.geometry ceiling n.image) (safe-migrating n.image (Crash-image n))
+
+-- ---- either
+
+-- the view by what is under way
+abbrev pub seen_by : Option Migration → Origin → Option Mark → Stage → View
+seen_by None o kept q = seen_at o kept q
+seen_by (Some at) o kept q = finding_view o.start.count kept
+
+none_under_way : true ≡ false → ⊥
+none_under_way e = cc
+
+module _ (o : Origin) (g : BootImages) (n : Device) (b : Booting) (c : State) where
+  -- the view of a mark that is kept
+  kept-view : (m : Mark) → g.kept ≡ Some m → boot_view (Some m) None ≡ finding_view o.start.count g.kept
+  kept-view m is = ap (finding_view o.start.count) (sym is)
+
+  view-by : (w : Option Migration) → IsUnderWay w o g n b c → view_at o b.stage n ≡ seen_by w o g.kept b.stage
+  view-by None h = view-reads o g n b c h.0 h.1
+  view-by (Some at) h = view-migrates o h.0 at g n b c h.1 ∙ kept-view h.0 h.1.found.kept
+
+  sized-by : (w : Option Migration) → IsUnderWay w o g n b c → length n.image ≡ image_blocks o.geometry
+  sized-by None h = sized-at o g n b c b.stage h.1 h.0.keeps
+  sized-by (Some at) h = h.1.issued.sized
+
+  safe-by : (w : Option Migration) → IsUnderWay w o g n b c → Safe decode_image o (seen_by w o g.kept b.stage).done (doubt_of (seen_by w o g.kept b.stage)) n
+  safe-by None h =
+      let seen : View = seen_at o g.kept b.stage in
+      Safe-read o seen.done (doubt_of seen) n (sized-by None h) (sound_is_safe filling_one filling_is_lawful o g n b c h.0)
+  safe-by (Some at) h =
+      subst (λ (v : View). Safe decode_image o v.done (doubt_of v) n) (kept-view h.0 h.1.found.kept) (safe-migrating o h.0 at g n b c h.1)
+
+  shown-by : (w : Option Migration) → IsUnderWay w o g n b c → IsBootView o (seen_by w o g.kept b.stage)
+  shown-by None h = shown-at o g n b c b.stage h.1 h.0.keeps
+  shown-by (Some at) h = inl (h.0, sym (kept-view h.0 h.1.found.kept))
+
+  settled-by : (w : Option Migration) (m : Mark) → IsUnderWay w o g n b c → (seen_by w o g.kept b.stage).done ≡ Some m → is_some w ≡ false → n.queue ≡ []
+  settled-by None m h found idle = settled-at o g n b c b.stage m h.1 found h.0.so_far
+  settled-by (Some at) m h found idle = absurd (none_under_way idle)
+
+  pub drained-by : (w : Option Migration) → IsUnderWay w o g n b c → IsUnderWay w o g (drained n) b c
+  drained-by None h = ((drains_keep_boot filling_one filling_is_lawful o g n b c h.0).0, h.1)
+  drained-by (Some at) h = (h.0, (drains_keep_migration o h.0 at g n b c h.1).0)
+
+  dram_drained-by : (w : Option Migration) → IsUnderWay w o g n b c → AreSoundTables (after_drain c) → IsUnderWay w o g n b (after_drain c)
+  dram_drained-by None h tables = ((drains_keep_boot filling_one filling_is_lawful o g n b c h.0).1, h.1)
+  dram_drained-by (Some at) h tables = (h.0, (drains_keep_migration o h.0 at g n b c h.1).1 tables)
+
 -- the view of a boot
-pub view-is : (o : Origin) (s : Dual) (n : Device) (boots : Boots o s n) → view_at o s.boot.stage n ≡ seen_at o boots.images.kept s.boot.stage
-view-is o s n boots = view-at o boots.images n s.boot s.control s.boot.stage boots.going boots.sound.keeps boots.sound.so_far
+pub view-is : (o : Origin) (s : Dual) (n : Device) (boots : Boots o s n) → view_at o s.boot.boot.stage n ≡ seen_by s.boot.migration o boots.images.kept s.boot.boot.stage
+view-is o s n boots = view-by o boots.images n s.boot.boot s.control s.boot.migration boots.under_way
 
 unread-at : (q : Stage) → has_read_at q ≡ false → q ≡ Reads Unread
 unread-at (Reads Unread) h = refl
@@ -134,8 +208,7 @@ abbrev pub boots-drained : (o : Origin) (s : Dual) (n : Device) → Boots o s n 
 boots-drained o s n boots = record {
   origin = boots.origin;
   images = boots.images;
-  sound = (drains_keep_boot filling_one filling_is_lawful o boots.images n s.boot s.control boots.sound).0;
-  going = boots.going;
+  under_way = drained-by o boots.images n s.boot.boot s.control s.boot.migration boots.under_way;
   boot_fits = boots.boot_fits;
   unused = boots.unused;
   unread = boots.unread;
@@ -151,25 +224,20 @@ module _ (o : Origin) (s : Dual) (n : Device) (boots : Boots o s n) where
     read = refl;
   }
 
-  safe-seen : Safe decode_image o (view_at o s.boot.stage n).done (doubt_of (view_at o s.boot.stage n)) n
-  safe-seen =
-      let seen : View = seen_at o boots.images.kept s.boot.stage in
-      subst (λ (v : View). Safe decode_image o v.done (doubt_of v) n) (sym (view-is o s n boots))
-      (Safe-read o seen.done (doubt_of seen) n (sized-at o boots.images n s.boot s.control s.boot.stage boots.going boots.sound.keeps)
-      (sound_is_safe filling_one filling_is_lawful o boots.images n s.boot s.control boots.sound))
+  seen : view_at o s.boot.boot.stage n ≡ seen_by s.boot.migration o boots.images.kept s.boot.boot.stage
+  seen = view-is o s n boots
 
   pub boot-holds : BootHolds dual_scheme o s n
   boot-holds = record {
     of_geometry = record { same_p = boots.unused.controller; tables = boots.unused.tables; room = boots.unused.room };
-    sized = sized-at o boots.images n s.boot s.control s.boot.stage boots.going boots.sound.keeps;
-    safe = safe-seen;
-    shown = subst (λ (v : View). IsBootView o v) (sym (view-is o s n boots))
-        (shown-at o boots.images n s.boot s.control s.boot.stage boots.going boots.sound.keeps);
-    unread = λ h. boots.unread (unread-at s.boot.stage h);
+    sized = sized-by o boots.images n s.boot.boot s.control s.boot.migration boots.under_way;
+    safe = subst (λ (v : View). Safe decode_image o v.done (doubt_of v) n) (sym seen)
+        (safe-by o boots.images n s.boot.boot s.control s.boot.migration boots.under_way);
+    shown = subst (λ (v : View). IsBootView o v) (sym seen) (shown-by o boots.images n s.boot.boot s.control s.boot.migration boots.under_way);
+    unread = λ h. boots.unread (unread-at s.boot.boot.stage h);
     drains = λ some. drained-stays;
-    settled = λ m found current.
-        settled-at o boots.images n s.boot s.control s.boot.stage m boots.going (sym (ap (λ (v : View). v.done) (view-is o s n boots)) ∙ found)
-        boots.sound.so_far;
+    settled = λ m found idle.
+        settled-by o boots.images n s.boot.boot s.control s.boot.migration m boots.under_way (sym (ap (λ (v : View). v.done) seen) ∙ found) idle;
   }
 
 pub boot_is_sound : BootIsSound
@@ -185,8 +253,7 @@ module _ (o : Origin) (s : Dual) (n : Device) (t : State) (boots : Boots o s n) 
   boots-after now = record {
     origin = boots.origin;
     images = boots.images;
-    sound = (drains_keep_boot filling_one filling_is_lawful o boots.images n s.boot s.control boots.sound).1;
-    going = boots.going;
+    under_way = dram_drained-by o boots.images n s.boot.boot s.control s.boot.migration boots.under_way now;
     boot_fits = boots.boot_fits;
     unused = record {
       tables = now;
@@ -244,11 +311,12 @@ module _ (o : Origin) (s : Dual) (n : Device) (origin : IsOrigin o) (powered : I
   boots-first = record {
     origin = origin;
     images = first;
-    sound =
-        subst (λ (b : Booting). IsBootOf filling_one o first n b s.control) (sym powered.boot_is)
-        (subst (λ (c : State). IsBootOf filling_one o first n (new_boot filling_one o.geometry) c) (sym powered.controller)
-        (new_is_sound filling_one filling_is_lawful o first n (new_state o.geometry powered.dram) empty refl refl found.sized found.settled own.1));
-    going = subst (λ (b : Booting). IsGoing b.stage) (sym powered.boot_is) tt;
+    under_way = subst (λ (w : Option Migration). IsUnderWay w o first n s.boot.boot s.control) (sym powered.no_migration) (
+      subst (λ (b : Booting). IsBootOf filling_one o first n b s.control) (sym powered.boot_is)
+          (subst (λ (c : State). IsBootOf filling_one o first n (new_boot filling_one o.geometry) c) (sym powered.controller)
+          (new_is_sound filling_one filling_is_lawful o first n (new_state o.geometry powered.dram) empty refl refl found.sized found.settled own.1)),
+      subst (λ (b : Booting). IsGoing b.stage) (sym powered.boot_is) tt,
+    );
     boot_fits = subst (λ (b : Booting). IsBoot filling_one b) (sym powered.boot_is) (new-is_boot o.geometry);
     unused = record {
       tables = powered.tables origin.geometry;
@@ -272,7 +340,8 @@ power_finds o s n origin powered found = boots-found o s n origin powered found
 pub power_is_new : PowerIsNew
 power_is_new p s powered = record {
   queued = ap (λ (c : State). c.dram.queued) powered.controller ∙ powered.is_dram.empty;
-  boot_left = subst (λ (b : Booting). stage_left (boot_numbers (form_of b.commit) b.p) b.stage ≤ dual_scheme.most_booting p) (sym powered.boot_is) (omega arith);
+  boot_left = subst (λ (w : Option Migration). left_at w s.boot.boot ≤ dual_scheme.most_booting p) (sym powered.no_migration)
+      (subst (λ (b : Booting). left_at None b ≤ dual_scheme.most_booting p) (sym powered.boot_is) (omega arith));
 }
 
 pub zeros_are_nothing : ZerosAreNothing
@@ -331,11 +400,18 @@ module _ (o : Origin) (g : BootImages) (n : Device) (b : Booting) (c : State) wh
   loading-at (Loads issue) is going good keeps far = refl
   loading-at (Over end) is going good keeps far = absurd going
 
+loading-by : (o : Origin) (g : BootImages) (n : Device) (b : Booting) (c : State) (w : Option Migration) → IsUnderWay w o g n b c
+    → loads_at b.stage ≡ (has_read_at b.stage && loads (view_at o b.stage n))
+loading-by o g n b c None h =
+    loading-at o g n b c b.stage refl h.1 (λ bad. never_refused filling_one filling_is_lawful o g n b c bad h.0) h.0.keeps h.0.so_far
+loading-by o g n b c (Some at) h =
+    ap loads_at h.1.found.restored
+    ∙ sym (ap (λ (v : View). has_read_at b.stage && loads v) (view-migrates o h.0 at g n b c h.1)
+    ∙ ap (λ (q : Stage). has_read_at q && false) h.1.found.restored)
+
 pub loading-is : (o : Origin) (s : Dual) (n : Device) → Boots o s n
-    → loads_at s.boot.stage ≡ (has_read_at s.boot.stage && loads (view_at o s.boot.stage n))
-loading-is o s n boots =
-    loading-at o boots.images n s.boot s.control s.boot.stage refl boots.going
-    (λ bad. never_refused filling_one filling_is_lawful o boots.images n s.boot s.control bad boots.sound) boots.sound.keeps boots.sound.so_far
+    → loads_at s.boot.boot.stage ≡ (has_read_at s.boot.boot.stage && loads (view_at o s.boot.boot.stage n))
+loading-is o s n boots = loading-by o boots.images n s.boot.boot s.control s.boot.migration boots.under_way
 
 -- ---- a loss of power
 

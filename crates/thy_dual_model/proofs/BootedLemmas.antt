@@ -5,6 +5,7 @@ use Rattle.std.proofs.lemmas.Bool.{ltb-true}
 use Rattle.std.proofs.lemmas.List.{length-map, get_or-map, ext_get_or}
 use Rattle.std.proofs.lemmas.List.FromFn.{length-range_with_len, get_or-map-range_with_len}
 use Rattle.thy_base.specs.declared.block.Block.{Block}
+use Rattle.thy_base.specs.declared.form.Form.TheVariants.{Two}
 use Rattle.thy_base.specs.declared.mark.Mark.{Mark}
 use Rattle.thy_base.specs.declared.place.Place.{Place}
 use Rattle.thy_base.specs.Device.{Device, block_at, newest, zero_block}
@@ -143,7 +144,7 @@ idle-clear Confirm h = h
 -- ---- the whole
 
 module _ (o : Origin) (m : Mark) (cpu : CpuState) (image : List Block) (s : Dual) (n : Device) (unused : IsUnused o s)
-    (keeps : Keeps o (layout_of o) n (Kept image) (Some m) None) (booted : IsBooted o m cpu image n s.control) where
+    (keeps : Keeps o (layout_of o) n (Kept image) (Some m) None) (booted : IsBooted o m cpu Two image n s.control) where
   abbrev images : Checkpoints
   images = record { before = image; kept = Some m; next = []; sealed = None }
 
@@ -151,7 +152,7 @@ module _ (o : Origin) (m : Mark) (cpu : CpuState) (image : List Block) (s : Dual
   under-way on = no-false (sym unused.idle ∙ on)
 
   fits : Fits s.engine s.control
-  fits = idle_fits s.engine s.control (unused.controller ∙ sym unused.engine) unused.idle booted.booting.idle
+  fits = idle_fits s.engine s.control (unused.controller ∙ sym unused.engine) unused.idle booted.has.booting.idle
 
   booted-sound : IsSound o (only m) s n
   booted-sound = record {
@@ -159,7 +160,7 @@ module _ (o : Origin) (m : Mark) (cpu : CpuState) (image : List Block) (s : Dual
       geometry = unused.controller;
       tables = unused.tables;
       sized = record { nvm = keeps.sized ∙ ap image_blocks (sym unused.controller) };
-      holds = booted.holds;
+      holds = booted.has.holds;
       progress = unused.progress;
       fits = fits;
       room = unused.room;
@@ -184,14 +185,14 @@ module _ (o : Origin) (m : Mark) (cpu : CpuState) (image : List Block) (s : Dual
     };
     way = unused.idle;
     written = sym (idle-clear s.engine.next unused.idle);
-    header = booted.header;
+    header = booted.has.header;
     committed = record {
       cpu = cpu;
-      state = ap (state_from o.geometry cpu) (penults-loads s.control n unused.tables booted.settled booted.booting booted.holds) ∙ booted.state;
+      state = ap (state_from o.geometry cpu) (penults-loads s.control n unused.tables booted.settled booted.has.booting booted.has.holds) ∙ booted.has.state;
     };
     rest = record {
-      no_work = λ r. booting-no_work s.control booted.booting;
-      promoting = λ p. absurd (booting-whole s.control booted.booting p);
+      no_work = λ r. booting-no_work s.control booted.has.booting;
+      promoting = λ p. absurd (booting-whole s.control booted.has.booting p);
       room = λ l r. absurd (no-false (sym unused.lean ∙ l));
     };
   }

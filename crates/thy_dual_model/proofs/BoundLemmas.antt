@@ -7,9 +7,12 @@ use Rattle.thy_dual_model.specs.Bounds.{EpochsAreShort, BootsAreShort}
 pub epochs_are_short : EpochsAreShort
 epochs_are_short p = omega arith
 
-max-few : (a b : ℕ) → max a b ≤ a + b
-max-few a b = omega arith
+max-least : (a b c : ℕ) → a ≤ c → b ≤ c → max a b ≤ c
+max-least a b c l m = omega (arith, l, m)
 
 pub boots_are_short : BootsAreShort
 boots_are_short p =
-    omega (arith, max-few (memory_blocks p + slot_blocks p + 4) (1 + slot_blocks p + 64 * p.ptt))
+    let m : ℕ = memory_blocks p in
+    let z : ℕ = slot_blocks p in
+    let most = max-least (m + z + 4) (1 + z + 64 * p.ptt) (m + z + 64 * p.ptt + 4) (omega arith) (omega arith) in
+    omega (arith, most)

@@ -13,8 +13,7 @@ use Rattle.thy_control.proofs.NewLemmas.{AreSoundTables-new}
 use Rattle.thy_commit.specs.declared.next.Next.TheVariants.{Nothing, Slot as SlotNext}
 use Rattle.thy_boot.specs.declared.stage.Stage.{Stage}
 use Rattle.thy_boot.specs.declared.stage.Stage.TheVariants.{Reads, Loads, Over}
-use Rattle.thy_boot.specs.Boot.{new_boot}
-use Rattle.thy_recover.specs.Filling.{filling_one}
+use Rattle.thy_migrate.specs.Migrating.{new_recovery}
 use Rattle.thy_view.specs.Origin.{Origin}
 use Rattle.thy_view.specs.Told.{told}
 use Rattle.thy_scheme.specs.Laws.{IsLawful}
@@ -40,7 +39,7 @@ first p = record {
   engine = record { p = p; next = Nothing; cpu = no_cpu; epoch = 0 };
   rested = true;
   lean = false;
-  boot = new_boot filling_one p;
+  boot = new_recovery p;
 }
 
 new-cells : (i j block page : ℕ) (under_way : Bool) → NewIsSound i j block page under_way
@@ -58,6 +57,7 @@ powered p =
       controller = refl;
       tables = λ range. AreSoundTables-new new-cells p (no_dram p) range size;
       boot_is = refl;
+      no_migration = refl;
       engine = refl;
       progress = record { regs = length-replicate {A = ℕ} 32 0; inside = λ k is. absurd (no-slot k is) };
       idle = refl;
@@ -82,7 +82,7 @@ lawful = record {
   finds_nothing = zeros_are_nothing;
   finds = power_finds;
   boot_holds = boot_is_sound;
-  boot_alike = λ o turns s n. alike_at o turns s.boot.stage n;
+  boot_alike = λ o turns s n. alike_at o turns s.boot.boot.stage n;
   run_holds = run_is_sound;
   up = held_is_up;
   ready_up = λ s n ready. (ready_is_whole s n ready).0;

@@ -1,15 +1,63 @@
--- The scheme never migrates.
-use Rattle.std.proofs.Common.{refl}
-use Rattle.thy_dual_model.specs.Recovery.{StepsLeaveNvm, FailuresWriteNothing}
+-- Without a migration a recovery writes nothing, and what a migration writes.
+use Rattle.std.proofs.Common.{◌≡◌, ◌⊎◌, ℕ, ◌+◌, ◌%◌, ◌<◌, Bool, false, List, Option, Some, None, refl, sym, ◌∙◌, ap, subst, inl, inr}
+use Rattle.thy_base.specs.declared.block.Block.{Block}
+use Rattle.thy_base.specs.declared.config.Parameters.{Parameters}
+use Rattle.thy_base.specs.declared.mark.Mark.{Mark}
+use Rattle.thy_base.specs.Device.{Device}
+use Rattle.thy_record.specs.Commit.{epoch_of}
+use Rattle.thy_control.specs.State.{State}
+use Rattle.thy_view.specs.declared.did.Did.{Did}
+use Rattle.thy_view.specs.declared.view.View.{View}
+use Rattle.thy_view.specs.Action.{ActsBy, ActionFailedBy}
+use Rattle.thy_view.specs.Origin.{Origin}
+use Rattle.thy_boot.specs.Boot.{Booting, slot_read}
+use Rattle.thy_boot.specs.Sound.{BootImages}
+use Rattle.thy_recover.specs.Filling.{filling_one}
+use Rattle.thy_migrate.specs.declared.migration.Migration.{Migration}
+use Rattle.thy_migrate.specs.declared.migration.Migration.TheVariants.{Slot, Settle, Commit, Confirm}
+use Rattle.thy_migrate.specs.Migrating.{action_by}
+use Rattle.thy_migrate.specs.Sound.{IsMigrating}
+use Rattle.thy_migrate.specs.Steps.{IsAction}
+use Rattle.thy_dual_model.specs.Boots.{IsUnderWay}
+use Rattle.thy_dual_model.specs.Recovery.{StepsLeaveNvm, FailuresWriteNothing, IsOfMigration, MigratesFound, MigrationWrites}
+use Rattle.thy_dual_model.proofs.BootLemmas.{view-migrates}
 
 pub steps_leave_nvm : StepsLeaveNvm
-steps_leave_nvm o k pick m next n new r step = record {
-  acts = step.acts;
-  still = λ found boots done. step.still found (record { phase = boots; done = done }) refl;
+steps_leave_nvm o k pick m next n new r none step = record {
+  acts = subst (λ (t : Bool). ActsBy t r.did n new) none step.acts;
+  still = λ found boots done. step.still found (record { phase = boots; done = done }) none;
 }
 
 pub failures_write_nothing : FailuresWriteNothing
-failures_write_nothing o pick m n new c = record {
-  failed = c.failed;
-  still = λ found boots done. c.still found (record { phase = boots; done = done }) refl;
+failures_write_nothing o pick m n new none c = record {
+  failed = subst (λ (t : Bool). ActionFailedBy t c.did n new) none c.failed;
+  still = λ found boots done. c.still found (record { phase = boots; done = done }) none;
 }
+
+own-action : (p : Parameters) (slot : List Block) (epoch : ℕ) (at : Migration) → IsAction p at → IsOfMigration p epoch (action_by p slot epoch at)
+own-action p slot epoch (Slot k) inside = inr (k, inside, refl)
+own-action p slot epoch Settle inside = tt
+own-action p slot epoch Commit inside = inl refl
+own-action p slot epoch Confirm inside = tt
+
+same-mark : (m found : Mark) → Some m ≡ Some found → m ≡ found
+same-mark m found e = cc
+
+migrates-found : (o : Origin) (m found : Mark) (at : Migration) (g : BootImages) (n : Device) (b : Booting) (c : State) → IsMigrating o m at g n b c → m ≡ found
+    → MigratesFound o.geometry found.epoch b at
+migrates-found o m found at g n b c h is =
+    let slot : List Block = slot_read filling_one b in
+    let epoch : epoch_of b.commit ≡ found.epoch = h.found.epoch ∙ ap (λ (x : Mark). x.epoch) is in
+    record {
+      old = h.found.form;
+      own = subst (λ (p : Parameters). IsOfMigration o.geometry found.epoch (action_by p slot (epoch_of b.commit) at)) (sym h.found.geometry)
+          (subst (λ (e : ℕ). IsOfMigration o.geometry found.epoch (action_by o.geometry slot e at)) (sym epoch) (own-action o.geometry slot found.epoch at h.there));
+    }
+
+pub migration_writes : MigrationWrites
+migration_writes o s n at found boots is done =
+    let way : IsUnderWay (Some at) o boots.images n s.boot.boot s.control
+    = subst (λ (w : Option Migration). IsUnderWay w o boots.images n s.boot.boot s.control) is boots.under_way in
+    let same : Some way.0 ≡ Some found
+    = sym (ap (λ (v : View). v.done) (view-migrates o way.0 at boots.images n s.boot.boot s.control way.1)) ∙ done in
+    migrates-found o way.0 found at boots.images n s.boot.boot s.control way.1 (same-mark way.0 found same)

@@ -1,6 +1,7 @@
 -- The end of a boot.
 use Rattle.std.specs.Prelude.{◌≡◌, false, List, Some, None}
 use Rattle.thy_base.specs.declared.block.Block.{Block}
+use Rattle.thy_base.specs.declared.form.Form.TheVariants.{Two}
 use Rattle.thy_base.specs.declared.mark.Mark.{Mark}
 use Rattle.thy_base.specs.Device.{Device}
 use Rattle.thy_crash.specs.Saved.{Kept}
@@ -26,9 +27,9 @@ pub record IsUnused (o : Origin) (s : Dual) : Type 0 where
   pub room : s.control.dram.room ≡ o.geometry.dramq
   pub lean : s.lean ≡ false
 
--- after a boot over the checkpoint of a mark, that is the committed one, and none is under way
+-- after a boot over the checkpoint of a mark, of version 2 by then, that is the committed one, and none is under way
 abbrev pub BootedIsSound : Type 0
 BootedIsSound =
     (o : Origin) (m : Mark) (cpu : CpuState) (image : List Block) (s : Dual) (n : Device)
-    → IsUnused o s → Keeps o (layout_of o) n (Kept image) (Some m) None → IsBooted o m cpu image n s.control
+    → IsUnused o s → Keeps o (layout_of o) n (Kept image) (Some m) None → IsBooted o m cpu Two image n s.control
     → IsSound o (only m) s n

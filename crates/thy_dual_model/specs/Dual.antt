@@ -10,7 +10,7 @@ use Rattle.thy_control.specs.Holding.{promoted}
 use Rattle.thy_control.specs.Merges.{overlays}
 use Rattle.thy_control.specs.State.{State, AreSoundTables, penult_of}
 use Rattle.thy_commit.specs.Progress.{Progress}
-use Rattle.thy_boot.specs.Boot.{Booting}
+use Rattle.thy_migrate.specs.Migrating.{Recovering}
 
 pub record Dual : Type 0 where
   pub control : State
@@ -19,7 +19,8 @@ pub record Dual : Type 0 where
   pub rested : Bool
   -- none was in the epoch that was sealed last
   pub lean : Bool
-  pub boot : Booting
+  -- its boot, and the migration of an image of version 1 after that
+  pub boot : Recovering
 
 -- of a geometry, whatever failed: its tables are sound, and its DRAM has that size
 pub record IsOf (p : Parameters) (s : Dual) : Type 0 where

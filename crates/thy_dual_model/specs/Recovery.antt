@@ -1,16 +1,25 @@
--- A machine over this scheme never migrates: while it restores a checkpoint it writes nothing to the NVM.
-use Rattle.std.specs.Prelude.{◌≡◌, ℕ, Some}
+-- While a machine over this scheme restores a checkpoint it writes nothing to the NVM, unless it migrates an image of version
+-- 1; and then it writes the slot of the checkpoint's epoch in version 2, and block 1, alone.
+use Rattle.std.specs.Prelude.{◌≡◌, ◌⊎◌, ℕ, ◌+◌, ◌%◌, ◌<◌, false, Some}
+use Rattle.thy_base.specs.declared.config.Parameters.{Parameters}
+use Rattle.thy_base.specs.declared.form.Form.TheVariants.{One}
 use Rattle.thy_base.specs.declared.mark.Mark.{Mark}
 use Rattle.thy_base.specs.declared.mix.Pick.{Pick}
 use Rattle.thy_base.specs.Device.{Device, HasFailed}
+use Rattle.thy_base.specs.Places.{slot_blocks, slot_place}
+use Rattle.thy_record.specs.Commit.{form_of}
 use Rattle.thy_view.specs.declared.did.Did.{Did}
 use Rattle.thy_view.specs.declared.did.Stepped.{Stepped}
 use Rattle.thy_view.specs.declared.view.Phase.TheVariants.{Boot}
-use Rattle.thy_view.specs.Action.{Acts, ActionFailed}
+use Rattle.thy_view.specs.Action.{Action, WriteAt, Barrier, Acts, ActionFailed}
 use Rattle.thy_view.specs.Kind.{IsStep, CycleFailed}
 use Rattle.thy_view.specs.Origin.{Origin}
+use Rattle.thy_boot.specs.Boot.{Booting}
+use Rattle.thy_migrate.specs.declared.migration.Migration.{Migration}
+use Rattle.thy_migrate.specs.Migrating.{action_of}
 use Rattle.thy_core_model.specs.Kind.{kind_over}
 use Rattle.thy_core_model.specs.Machine.{Machine, view_of}
+use Rattle.thy_dual_model.specs.Boots.{Boots}
 use Rattle.thy_dual_model.specs.Dual.{Dual}
 use Rattle.thy_dual_model.specs.Scheme.{dual_scheme}
 
@@ -27,9 +36,27 @@ pub record WritesNothing (o : Origin) (m : Machine Dual) (n new : Device) (did :
 abbrev pub StepsLeaveNvm : Type 0
 StepsLeaveNvm =
     (o : Origin) (k : ℕ) (pick : Pick) (m next : Machine Dual) (n new : Device) (r : Stepped)
-    → IsStep (kind_over dual_scheme) o k pick m next n new r → LeavesNvm o m n new r.did
+    → dual_scheme.migrates m.scheme ≡ false → IsStep (kind_over dual_scheme) o k pick m next n new r → LeavesNvm o m n new r.did
 
 abbrev pub FailuresWriteNothing : Type 0
 FailuresWriteNothing =
     (o : Origin) (pick : Pick) (m : Machine Dual) (n new : Device)
-    → (c : CycleFailed (kind_over dual_scheme) o pick m n new) → WritesNothing o m n new c.did
+    → dual_scheme.migrates m.scheme ≡ false → (c : CycleFailed (kind_over dual_scheme) o pick m n new) → WritesNothing o m n new c.did
+
+-- a migration's own action, of the checkpoint of an epoch: a barrier, or a write of a block of that epoch's slot in version 2
+-- or of the commit block
+abbrev pub IsOfMigration : Parameters → ℕ → Action → Type 0
+IsOfMigration p epoch Barrier = Unit {0}
+IsOfMigration p epoch (WriteAt place block) = (place ≡ 1) ⊎ ((k : ℕ) × (k < slot_blocks p) × (place ≡ slot_place p (epoch % 2) + k))
+IsOfMigration p epoch action = ⊥
+
+-- a boot that migrates has found a checkpoint of version 1, and its action is one of these
+pub record MigratesFound (p : Parameters) (epoch : ℕ) (b : Booting) (at : Migration) : Type 0 where
+  pub old : form_of b.commit ≡ One
+  pub own : IsOfMigration p epoch (action_of b at)
+
+abbrev pub MigrationWrites : Type 0
+MigrationWrites =
+    (o : Origin) (s : Dual) (n : Device) (at : Migration) (found : Mark)
+    → Boots o s n → s.boot.migration ≡ Some at → (dual_scheme.boot_view o s n).done ≡ Some found
+    → MigratesFound o.geometry found.epoch s.boot.boot at

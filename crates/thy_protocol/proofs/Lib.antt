@@ -4,3 +4,4 @@ pub mod KeepsLemmas
 pub mod AlternatingLemmas
 pub mod RemappedLemmas
 pub mod RemappedPartsLemmas
+pub mod MigratedLemmas

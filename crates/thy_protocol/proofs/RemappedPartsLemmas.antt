@@ -31,7 +31,7 @@ use Rattle.thy_protocol.proofs.IssuingLemmas.{slot_goes_on, issued_is_checkpoint
 
 -- ---- where the parts go
 
-slot_fits : (p : Parameters) (s : ℕ) → s < 2 → slot_place p s + slot_blocks p ≤ image_blocks p
+pub slot_fits : (p : Parameters) (s : ℕ) → s < 2 → slot_place p s + slot_blocks p ≤ image_blocks p
 slot_fits p zero l = omega arith
 slot_fits p (suc zero) l = omega arith
 slot_fits p (suc (suc s)) l = absurd (omega arith)
@@ -57,7 +57,7 @@ slot_grows p old new cpu t counts epoch memory k h l is = record {
 
 -- ---- the whole checkpoint
 
-all_none : (a b c : Option BadImage) → a ≡ None → b ≡ None → c ≡ None → option_or a (option_or b c) ≡ None
+pub all_none : (a b c : Option BadImage) → a ≡ None → b ≡ None → c ≡ None → option_or a (option_or b c) ≡ None
 all_none a b c h k l = ap (λ x. option_or x (option_or b c)) h ∙ ap (λ x. option_or x c) k ∙ l
 
 module _ (p : Parameters) (ceiling : ℕ) (cpu : CpuState) (t : Tables) (counts : ℕ → Block) (epoch : ℕ) (range : IsInRange p) (recordable : IsRecordable p ceiling cpu)

@@ -6,3 +6,4 @@ pub mod Alternating
 pub mod Laws
 pub mod Remapped
 pub mod RemappedParts
+pub mod Migrated

@@ -2,6 +2,7 @@
 ghost use Rattle.thy_protocol.specs.Alternating.{WrittenDecodes, StartIsCommitted};
 ghost use Rattle.thy_protocol.specs.Issuing.{IssuingBegins, SlotGoesOn, ElsewhereKeepsIssued, DrainKeepsIssued, IssuedIsCheckpoint};
 ghost use Rattle.thy_protocol.specs.Laws.{LookedDecides, CopiesLookAlike, ZeroIsNothing, NothingIsZero, WholeDecodes, DecodedIsWhole, KeptIsSafe, KeptIsSafeForBoth, FirstIsTold, BootShows, MovesAreSafe, CutKeeps, EmptyKeeps, ActionSpares, FailedActionSpares};
+ghost use Rattle.thy_protocol.specs.Migrated.{MigrationDecodes};
 ghost use Rattle.thy_protocol.specs.Remapped.{DecodesSame, LooksSame};
 ghost use Rattle.thy_protocol.specs.RemappedParts.{IssuedDecodes};
 
@@ -84,4 +85,10 @@ pub fn remapped_is_a_layout()
 /// to the checkpoint and tells its tables and counts, and all that tells it was issued.
 pub fn remapped_is_issued()
     ensures { IssuedDecodes }
+{}
+
+/// An image of version 1 is migrated by a slot of version 2 with the blocks of its own slot and zeros behind them: once that
+/// was issued, the next image, with the commit block of the same epoch in version 2, decodes to the same checkpoint.
+pub fn a_migration_decodes()
+    ensures { MigrationDecodes }
 {}

@@ -14,3 +14,4 @@ pub mod CheckLemmas
 pub mod IssuingLemmas
 pub mod IndexLemmas
 pub mod RestoredLemmas
+pub mod MigratedLemmas

@@ -1,6 +1,6 @@
 -- Part of the claim.
 -- The header, block 0 of an image: what the image is, and the geometry that it was made for.
-use Rattle.std.specs.Prelude.{ℕ, Bool, ◌&&◌, ◌==◌, List, [], ◌∷◌, Option, codes}
+use Rattle.std.specs.Prelude.{ℕ, Bool, ◌&&◌, ◌||◌, ◌==◌, List, [], ◌∷◌, Option, codes}
 use Rattle.byteorder.specs.Endian.{little_number}
 use Rattle.thy_base.specs.declared.block.Block.{Block}
 use Rattle.thy_base.specs.declared.config.Parameters.{Parameters}
@@ -13,7 +13,7 @@ use Rattle.thy_base.specs.Words.{word_of, block_of}
 abbrev pub header_magic : ℕ
 header_magic = little_number 8 (codes "THYNHDR1")
 
--- the words of the header: its name, version 2, the geometry and a zero
+-- the words of the header that is written: its name, version 2, the geometry and a zero
 abbrev pub header_words : Parameters → List ℕ
 header_words p = header_magic ∷ 2 ∷ p.base ∷ p.pages ∷ p.console ∷ p.btt ∷ p.ptt ∷ 0 ∷ []
 
@@ -26,10 +26,14 @@ is_of_geometry b p =
     (word_of b 2 == p.base && word_of b 3 == p.pages && word_of b 4 == p.console)
     && (word_of b 5 == p.btt && word_of b 6 == p.ptt && word_of b 7 == 0)
 
+-- its version is 1 or 2
+abbrev pub is_of_version : Block → Bool
+is_of_version b = word_of b 1 == 1 || word_of b 1 == 2
+
 -- the first fault of a header; `long` says that the image has the length of this geometry
 unfoldable pub header_fault : Block → Parameters → Bool → Option BadImage
 header_fault b p long =
     first_fault (asked (word_of b 0 == header_magic) Header
-    ∷ asked (word_of b 1 == 2) Version
+    ∷ asked (is_of_version b) Version
     ∷ asked (is_of_geometry b p && long) Geometry
     ∷ [])

@@ -14,3 +14,4 @@ pub mod ImageLaws
 pub mod Files
 pub mod Issuing
 pub mod Index
+pub mod Migrated

@@ -1,6 +1,6 @@
 //! The header, block 0 of an image.
 ghost use Rattle.std.specs.Prelude.{◌≡◌};
-ghost use Rattle.thy_record.specs.Header.{header_of, header_fault as fault_of_header, is_of_geometry as of_geometry};
+ghost use Rattle.thy_record.specs.Header.{header_of, header_fault as fault_of_header, is_of_geometry as of_geometry, is_of_version as of_version};
 
 use crate::bad_image::BadImage;
 use thy_base::{Block, Geometry, block_with, word};
@@ -29,7 +29,7 @@ pub fn header_block(geometry: &Geometry) -> Block
     ])
 }
 
-/// The first fault of a header, if it has one: another name, another version, another geometry. `long` says
+/// The first fault of a header, if it has one: another name, a version that is neither 1 nor 2, another geometry. `long` says
 /// whether the image has as many blocks as the geometry asks for; if it has not, or the last word is not zero, that is
 /// another geometry.
 #[tactic(auto, unfolding(crate::specs::Header::header_fault))]
@@ -38,13 +38,21 @@ pub fn header_fault(block: &Block, geometry: &Geometry, long: bool) -> Option<Ba
 {
     if word(block, 0) != HEADER_MAGIC {
         Some(BadImage::Header)
-    } else if word(block, 1) != VERSION {
+    } else if !is_of_version(block) {
         Some(BadImage::Version)
     } else if is_of_geometry(block, geometry) && long {
         None
     } else {
         Some(BadImage::Geometry)
     }
+}
+
+// Whether the version of a header is one of those that are read.
+fn is_of_version(block: &Block) -> bool
+    ensures { result ≡ of_version block.now }
+{
+    let version = word(block, 1);
+    version == 1 || version == VERSION
 }
 
 // Whether the numbers of a header are those of the geometry.

@@ -2,6 +2,7 @@
 ghost use Rattle.thy_record.specs.BackLaws.{HeaderReadsBack, CommitReadsBack, RecordReadsBack, EntriesReadBack, TablesReadBack};
 ghost use Rattle.thy_record.specs.ImageLaws.{FaultlessTables, BlocksHavePlaces, PlacesAreOwn, EntriesAreBlock, SlotReadsBack, FileDecodes, WrittenDecodes, DecodedIsWhole, LookedDecides, CeilingGrows, FilledUpDecodes};
 ghost use Rattle.thy_record.specs.Issuing.{ListedHomeIsUnused, PagedHomeIsUnused, EmptyEntryIsUnused, EmptyPageIsUnused, FreeIsNotLooked, NothingIsLooked, PlacedIsMemory, MemoryIsPlaced};
+ghost use Rattle.thy_record.specs.Migrated.{AnewMeansTheSame};
 ghost use Rattle.thy_record.specs.TableRefusals.{FoundIsSo, SoIsFound};
 
 /// Tables are those that a checkpoint may have exactly if no fault is found in them.
@@ -75,6 +76,12 @@ pub fn ceiling_grows()
 /// An image that is filled up with zeros to the length of version 2 means the same.
 pub fn filled_up_decodes()
     ensures { FilledUpDecodes }
+{}
+
+/// A slot of version 1 that is written anew in version 2, with zeros behind it, means the same: it has the same processor and
+/// the same tables, counts of 0, and no fault either.
+pub fn a_slot_anew_means_the_same()
+    ensures { AnewMeansTheSame }
 {}
 
 /// A place that no block of memory stands in: the home of a block that is listed or whose page is, and what an

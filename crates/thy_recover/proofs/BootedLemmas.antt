@@ -40,7 +40,6 @@ use Rattle.thy_recover.specs.Booted.{RestoredIsBooted, LoadedIsStarted}
 use Rattle.thy_recover.specs.Filling.{CanStart, IsEmpty, loads, filling_one}
 use Rattle.thy_recover.specs.Start.{start_blocks, no_tables, no_counts}
 use Rattle.thy_recover.proofs.FillingLemmas.{filling_is_lawful, none_listed, all_hold, loads_first}
-use Rattle.thy_recover.proofs.FormLemmas.{names_two}
 use Rattle.thy_recover.proofs.RecordLemmas.{restored-recordable, start-recordable}
 use Rattle.thy_recover.proofs.StartLemmas.{IsTables-none, AreCounts-none, counts-none, length-start_blocks, state_from-start, CanStart-origin}
 
@@ -54,17 +53,17 @@ restored_is_booted o g n b c origin sound is =
     let f : IsRestored filling_one n b c = kept.5 in
     let rec : IsRecovering filling_one g n b c = subst (λ (q : Stage). IsSoundAt filling_one o q g n b c) is sound.so_far in
     let cpu : CpuState = cpu_of_record slot in
-    let named : form_of b.commit ≡ Two = names_two b.p (block_at n.image 0) b.commit f.head.header_fits f.head.commit_fits in
-    let told : IsToldBy b.p n.image Two epoch (tables0 c) = record {
-      of_form = ap form_of f.head.commit_is.is ∙ named;
+    let form : Form = form_of b.commit in
+    let told : IsToldBy b.p n.image form epoch (tables0 c) = record {
+      of_form = ap form_of f.head.commit_is.is;
       of_epoch = ap epoch_of f.head.commit_is.is;
       tables = ap (tables_in b.p) (sym f.slot_is) ∙ ap (λ (q : Parameters). tables_in q slot) (sym rec.read.same_p) ∙ sym f.lists.are;
       whole = subst (λ (q : Parameters). IsTables q (tables0 c)) rec.read.same_p (AreTablesOf-committed c f.lists.tables).valid;
     } in
-    let told_mark : IsToldBy p g.before Two m.epoch (tables0 c)
-    = subst (λ (q : Parameters). IsToldBy q g.before Two m.epoch (tables0 c)) sound.geometry
-    (subst (λ (h : List Block). IsToldBy b.p h Two m.epoch (tables0 c)) (sym rec.before_is)
-    (subst (λ (x : ℕ). IsToldBy b.p n.image Two x (tables0 c)) (sym kept.2) told)) in
+    let told_mark : IsToldBy p g.before form m.epoch (tables0 c)
+    = subst (λ (q : Parameters). IsToldBy q g.before form m.epoch (tables0 c)) sound.geometry
+    (subst (λ (h : List Block). IsToldBy b.p h form m.epoch (tables0 c)) (sym rec.before_is)
+    (subst (λ (x : ℕ). IsToldBy b.p n.image form x (tables0 c)) (sym kept.2) told)) in
     let header : header_fault (newest n 0) p true ≡ None
     = ap (λ (x : Block). header_fault x p true) (newest-settled n 0 rec.read.settled)
     ∙ ap (λ (q : Parameters). header_fault (block_at n.image 0) q true) (sym sound.geometry) ∙ f.head.header_fits in
@@ -72,12 +71,11 @@ restored_is_booted o g n b c origin sound is =
     = ap (λ (q : Parameters). state_from q cpu (loads c n)) (sym sound.geometry) ∙ kept.4 in
     let fits : slot_fault (form_of b.commit) p ceiling epoch slot ≡ None
     = ap (λ (q : Parameters). slot_fault (form_of b.commit) q ceiling epoch slot) (sym sound.geometry) ∙ f.slot_fits in
-    let lasts : counts_in Two p (slot_in p g.before) ≡ c.counts.lasts
-    = ap (λ (q : Parameters). counts_in Two q (slot_in q g.before)) (sym sound.geometry)
-    ∙ ap (λ (h : List Block). counts_in Two b.p (slot_in b.p h)) rec.before_is
-    ∙ ap (counts_in Two b.p) (sym f.slot_is)
-    ∙ ap (λ (x : Form). counts_in x b.p slot) (sym named)
-    ∙ ap (λ (q : Parameters). counts_in (form_of b.commit) q slot) (sym rec.read.same_p)
+    let lasts : counts_in form p (slot_in p g.before) ≡ c.counts.lasts
+    = ap (λ (q : Parameters). counts_in form q (slot_in q g.before)) (sym sound.geometry)
+    ∙ ap (λ (h : List Block). counts_in form b.p (slot_in b.p h)) rec.before_is
+    ∙ ap (counts_in form b.p) (sym f.slot_is)
+    ∙ ap (λ (q : Parameters). counts_in form q slot) (sym rec.read.same_p)
     ∙ sym f.lists.counts in (
       m,
       kept.1,
@@ -85,14 +83,16 @@ restored_is_booted o g n b c origin sound is =
       kept.3,
       record {
         settled = rec.read.settled;
-        booting = f.lists.booting;
         told = told_mark;
         lasts = lasts;
-        header = header;
-        holds = f.whole;
-        state = state;
-        counted = kept.3.told.counted;
-        recordable = restored-recordable o (form_of b.commit) m.count epoch slot (loads c n) origin fits state;
+        has = record {
+          booting = f.lists.booting;
+          header = header;
+          holds = f.whole;
+          state = state;
+          counted = kept.3.told.counted;
+          recordable = restored-recordable o form m.count epoch slot (loads c n) origin fits state;
+        };
       },
     )
 
@@ -127,14 +127,16 @@ loaded_is_started o g n b c origin sound is =
     record {
       over = record {
         settled = far.settled;
-        booting = far.fresh.fresh.booting;
         told = subst (λ (t : Tables). IsToldBy p g.next Two 0 t) (sym tables) told;
         lasts = lasts;
-        header = ap (λ (x : Block). header_fault x p true) far.stood.header.newest_is ∙ header_fault-header_of p can.geometry;
-        holds = all_hold c n far.fresh far.settled;
-        state = state ∙ sym (at-start o);
-        counted = ap (λ s. s.count) (at-start o);
-        recordable = start-recordable o origin;
+        has = record {
+          booting = far.fresh.fresh.booting;
+          header = ap (λ (x : Block). header_fault x p true) far.stood.header.newest_is ∙ header_fault-header_of p can.geometry;
+          holds = all_hold c n far.fresh far.settled;
+          state = state ∙ sym (at-start o);
+          counted = ap (λ s. s.count) (at-start o);
+          recordable = start-recordable o origin;
+        };
       };
       tables = tables;
       memory = memory;

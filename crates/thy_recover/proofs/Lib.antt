@@ -3,7 +3,6 @@ pub mod ListedLemmas
 pub mod BlockLemmas
 pub mod LiveLemmas
 pub mod WorkLemmas
-pub mod FormLemmas
 pub mod RecordLemmas
 pub mod StartLemmas
 pub mod PositionLemmas

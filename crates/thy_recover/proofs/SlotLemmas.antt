@@ -1,12 +1,12 @@
 -- The slot in its room, and a controller that lists it.
 use Rattle.std.proofs.Common.{◌≡◌, ℕ, ◌+◌, ◌*◌, ◌/◌, ◌<◌, ◌≤◌, List, length, take, Option, Some, None, refl, sym, ◌∙◌, ap, arith}
 use Rattle.std.specs.Option.{option_or}
-use Rattle.std.proofs.lemmas.List.{length-map, length-take-le, get_or-take, ext_get_or}
+use Rattle.std.proofs.lemmas.List.{length-map, length-take-le, get_or-take, get_or_past, ext_get_or}
 use Rattle.thy_base.specs.declared.block.Block.{Block}
 use Rattle.thy_base.specs.declared.config.Parameters.{Parameters}
 use Rattle.thy_base.specs.declared.form.Form.{Form}
 use Rattle.thy_base.specs.declared.form.Form.TheVariants.{One, Two}
-use Rattle.thy_base.specs.Device.{zero_block}
+use Rattle.thy_base.specs.Device.{zero_block, block_at}
 use Rattle.thy_base.specs.Places.{record_blocks, table_blocks, blocks_of_slot, slot_blocks}
 use Rattle.thy_record.specs.Commit.{form_of}
 use Rattle.thy_record.specs.Files.{block_in, blocks_of}
@@ -53,6 +53,14 @@ slot_is_first p commit bytes size room is =
     let most = most_slot (form_of commit) p in
     ap (λ x. blocks_of (take x bytes)) is
     ∙ blocks_of-take bytes (blocks_of_slot (form_of commit) p) (omega (arith, most, room))
+
+-- block k of the slot that these bytes are, inside it and past its end
+pub slot_block_inside : (slot : List Block) (bytes : List ℕ) (k : ℕ) → blocks_of bytes ≡ slot → k < length bytes / 64 → block_in bytes k ≡ block_at slot k
+slot_block_inside slot bytes k is l = sym (block_at-blocks_of bytes k l) ∙ ap (λ (xs : List Block). block_at xs k) is
+
+pub slot_block_past : (slot : List Block) (bytes : List ℕ) (k : ℕ) → blocks_of bytes ≡ slot → length bytes / 64 ≤ k → zero_block ≡ block_at slot k
+slot_block_past slot bytes k is l =
+    sym (get_or_past (blocks_of bytes) k zero_block (omega (arith, length-blocks_of bytes, l))) ∙ ap (λ (xs : List Block). block_at xs k) is
 
 -- the tables of a slot have as many entries as the geometry
 pub size_of_ptt : (p : Parameters) (slot : List Block) → length (tables_in p slot).ptt ≡ p.ptt

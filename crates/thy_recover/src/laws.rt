@@ -8,7 +8,8 @@ pub fn the_filling_is_lawful()
     ensures { IsFilling filling_one }
 {}
 
-/// A restart is that of the mark that is kept, and the controller has its tables and its memory.
+/// A restart is that of the mark that is kept, in the version that the commit block names, and the controller has its
+/// tables, its counts and its memory.
 pub fn a_restart_is_the_kept_one()
     ensures { RestoredIsBooted }
 {}

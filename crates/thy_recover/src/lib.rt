@@ -1,4 +1,4 @@
-//! This scheme's part of the boot: how a slot of version 1 is listed by the controller, how the frames of its pages are
+//! This scheme's part of the boot: how a slot of either version is listed by the controller, how the frames of its pages are
 //! filled, and what a start makes of an empty NVM. The boot itself is thy_boot's, over `filling_one`; the scheme above says
 //! so (`Fills` in thy_dual).
 //!
@@ -14,5 +14,5 @@ mod start;
 
 pub use frame::fill;
 pub use laws::{a_loaded_start_is_the_first, a_restart_is_the_kept_one, the_filling_is_lawful};
-pub use listing::{CEILING, cpu_of_slot, fault_of_slot, list_slot, next_fill};
+pub use listing::{CEILING, cpu_of_slot, fault_of_slot, list_slot, next_fill, slot_block};
 pub use start::{first_memory, first_slot};

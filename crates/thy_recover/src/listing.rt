@@ -1,5 +1,6 @@
 //! What a slot says: its fault, its processor, and what its tables list, given to the controller.
 ghost use Rattle.std.specs.Prelude.{◌≡◌, ◌+◌, ◌*◌, ◌<◌, ◌≤◌, is_some, length, None};
+ghost use Rattle.thy_base.specs.Device.{block_at};
 ghost use Rattle.thy_base.specs.Places.{record_blocks, table_blocks, blocks_of_slot, slot_blocks};
 ghost use Rattle.thy_boot.specs.Boot.{slot_bytes};
 ghost use Rattle.thy_boot.specs.Filling.{ListsOn};
@@ -18,7 +19,7 @@ use thy_base::{BLOCK_SIZE, Block, Geometry, word};
 use thy_control::{Control, tables_allow_listing};
 use thy_isa::CpuState;
 use thy_record::{
-    BadImage, cpu_in, faultless_tables, form_of, listed_block, listed_page, slot_fault,
+    BadImage, block_in, cpu_in, faultless_tables, form_of, listed_block, listed_page, slot_fault,
 };
 
 /// Epochs and counts of a run's own images are below this.
@@ -50,6 +51,19 @@ pub fn cpu_of_slot(geometry: &Geometry, commit: &Block, slot: &[u8]) -> CpuState
     ensures { result ≡ cpu_of_record (slot_bytes filling_one geometry.now commit.now slot.now) }
 {
     cpu_in(slot_of(geometry, commit, slot))
+}
+
+/// Block `k` of a slot; past its end that is a block of zeros.
+pub fn slot_block(geometry: &Geometry, commit: &Block, slot: &[u8], k: u64) -> Block
+    requires { length slot.now ≡ 64 * slot_blocks geometry.now }
+    ensures { result ≡ block_at (slot_bytes filling_one geometry.now commit.now slot.now) k }
+{
+    let blocks = slot_of(geometry, commit, slot);
+    if k < (blocks.len() / BLOCK_SIZE) as u64 {
+        block_in(blocks, k as usize)
+    } else {
+        Block::ZERO
+    }
 }
 
 /// The first position from one on that has to be filled: a block of a page that is listed.

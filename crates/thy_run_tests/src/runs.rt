@@ -9,6 +9,7 @@ mod hostile;
 mod inputs;
 mod levelled;
 mod made;
+mod migrated;
 mod misaligned;
 mod noted;
 mod programs;

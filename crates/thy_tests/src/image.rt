@@ -163,7 +163,7 @@ fn a_header_and_a_table_are_their_bytes(rt: HostRuntime) -> Result<(), Fail> {
 static REFUSALS: [(usize, u64, usize, u64, BadImage); 41] = [
     (0, 0, 0, 0, BadImage::Header),
     (1, 0, 1, 0, BadImage::Version),
-    (1, 1, 2, 0, BadImage::Version),
+    (1, 1, 2, 0, BadImage::Geometry),
     (1, 3, 2, 0, BadImage::Version),
     (2, 0, 2, 0, BadImage::Geometry),
     (3, 9, 3, 9, BadImage::Geometry),

@@ -18,7 +18,7 @@ use thy_base::{Geometry, Nvm, Shape};
 use thy_boot::{Boot, BootStep, Issue, Stage, a_boot_may_go_on};
 use thy_control::Control;
 use thy_dram::Dram;
-use thy_dual::DualFills;
+use thy_migrate::DualFills;
 use thy_nvm::MemNvm;
 use thy_record::Start;
 

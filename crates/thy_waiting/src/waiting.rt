@@ -298,8 +298,8 @@ impl Scheme for WaitingScheme {
     }
 
     fn loading(&self) -> bool
-        ensures stage { result ≡ loads_at self.now.below.boot.stage }
-        ensures found { let stage = self.now.below.boot.stage in
+        ensures stage { result ≡ loads_at self.now.below.boot.boot.stage }
+        ensures found { let stage = self.now.below.boot.boot.stage in
             (o : Origin) (n : Device) → Boots dual_scheme o self.now n
             → result ≡ (has_read_at stage && loads (view_at o stage n)) }
     {

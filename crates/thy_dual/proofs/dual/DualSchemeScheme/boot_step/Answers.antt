@@ -2,9 +2,8 @@ use Rattle.std.proofs.Common.{sym, subst, IfOk, OnErr, Result}
 use Rattle.thy_base.specs.declared.nvm.NvmError.{NvmError}
 use Rattle.thy_base.specs.Device.{Device, CountsFault}
 use Rattle.thy_boot.specs.declared.stage.BootStep.{BootStep}
-use Rattle.thy_boot.specs.Boot.{Booting}
-use Rattle.thy_boot.specs.Steps.{TakesStep}
-use Rattle.thy_recover.specs.Filling.{filling_one}
+use Rattle.thy_migrate.specs.Migrating.{Recovering}
+use Rattle.thy_migrate.specs.Steps.{TakesStep}
 use Rattle.thy_control.specs.State.{State}
 use Rattle.thy_scheme.specs.declared.boot_step.BootStep.{BootStep as SchemeStep}
 use Rattle.thy_scheme.specs.Boots.{BootsOn, BootFails}
@@ -43,12 +42,12 @@ returns-clause-ok g c = λ o begins booting.
     let v : Dual = record { control = c.self.inside.control; engine = c.self.inside.engine; rested = c.self.inside.rested; lean = c.self.inside.lean; boot = c.self.inside.boot } in
     let n : Device = g.N.Nvm.device c.args.nvm.now in
     let new : Device = g.N.Nvm.device c.step-result.new.nvm in
-    let d : Booting = c.step-result.new.self in
+    let d : Recovering = c.step-result.new.self in
     let t : State = c.step-result.new.control in
     let r : Result BootStep NvmError = c.step-result.result in
     let e = c.step-result.ensures in
     let booting_v : IsBooting dual_scheme o v n = subst (λ (s : Dual). IsBooting dual_scheme o s n) (sym c.self.view_is) booting in
-    let took : TakesStep filling_one r o.start n v.boot v.control new d t = took-for o c.args.start.now begins r n v.boot v.control new d t e.step in
+    let took : TakesStep r o.start n v.boot v.control new d t = took-for o c.args.start.now begins r n v.boot v.control new d t e.step in
     subst (λ (s : Dual). IfOk c.scheme_result.result (λ step. BootsOn dual_scheme o step s n (record v { control = t; boot = d }) new)) c.self.view_is
     (subst (λ (x : Result SchemeStep NvmError). IfOk x (λ step. BootsOn dual_scheme o step v n (record v { control = t; boot = d }) new)) (sym c.scheme_result.ensures)
     (boots-by o v n booting_v new d t c.tables.ensures r e.answer took))
@@ -58,11 +57,11 @@ returns-clause-err g c = λ o begins booting.
     let v : Dual = record { control = c.self.inside.control; engine = c.self.inside.engine; rested = c.self.inside.rested; lean = c.self.inside.lean; boot = c.self.inside.boot } in
     let n : Device = g.N.Nvm.device c.args.nvm.now in
     let new : Device = g.N.Nvm.device c.step-result.new.nvm in
-    let d : Booting = c.step-result.new.self in
+    let d : Recovering = c.step-result.new.self in
     let t : State = c.step-result.new.control in
     let r : Result BootStep NvmError = c.step-result.result in
     let booting_v : IsBooting dual_scheme o v n = subst (λ (s : Dual). IsBooting dual_scheme o s n) (sym c.self.view_is) booting in
-    let took : TakesStep filling_one r o.start n v.boot v.control new d t = took-for o c.args.start.now begins r n v.boot v.control new d t c.step-result.ensures.step in
+    let took : TakesStep r o.start n v.boot v.control new d t = took-for o c.args.start.now begins r n v.boot v.control new d t c.step-result.ensures.step in
     subst (λ (s : Dual). OnErr c.scheme_result.result (BootFails dual_scheme o s n new)) c.self.view_is
     (subst (λ (x : Result SchemeStep NvmError). OnErr x (BootFails dual_scheme o v n new)) (sym c.scheme_result.ensures)
     (fails-by o v n booting_v new d t c.tables.ensures r took))
@@ -87,7 +86,7 @@ returns-clause-made g c =
     let v : Dual = record { control = c.self.inside.control; engine = c.self.inside.engine; rested = c.self.inside.rested; lean = c.self.inside.lean; boot = c.self.inside.boot } in
     let n : Device = g.N.Nvm.device c.args.nvm.now in
     let new : Device = g.N.Nvm.device c.step-result.new.nvm in
-    let d : Booting = c.step-result.new.self in
+    let d : Recovering = c.step-result.new.self in
     let t : State = c.step-result.new.control in
     let e = c.step-result.ensures in
     subst (λ (s : Dual). TakesBootStep c.args.start.now s n c.scheme_result.result (record v { control = t; boot = d }) new) c.self.view_is

@@ -1,0 +1,5 @@
+pub mod Migrating
+pub mod Steps
+pub mod Sound
+pub mod Left
+pub mod Laws

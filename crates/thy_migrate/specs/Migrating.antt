@@ -1,0 +1,63 @@
+-- Part of the claim.
+-- The boot of this scheme: after it has restored a checkpoint of version 1 it writes that anew in version 2.
+use Rattle.std.specs.Prelude.{◌≡◌, ℕ, ◌+◌, ◌-◌, ◌%◌, ◌<◌, nat_lt, Bool, true, false, if◌then◌else◌, List, Option, Some, None}
+use Rattle.thy_base.specs.declared.block.Block.{Block}
+use Rattle.thy_base.specs.declared.config.Parameters.{Parameters}
+use Rattle.thy_base.specs.declared.form.Form.{Form}
+use Rattle.thy_base.specs.declared.form.Form.TheVariants.{One, Two}
+use Rattle.thy_base.specs.Device.{block_at}
+use Rattle.thy_base.specs.Places.{slot_blocks, slot_place}
+use Rattle.thy_record.specs.Commit.{commit_of, epoch_of, form_of}
+use Rattle.thy_view.specs.Action.{Action, WriteAt, Barrier}
+use Rattle.thy_boot.specs.declared.stage.Stage.{Stage}
+use Rattle.thy_boot.specs.declared.stage.Stage.TheVariants.{Over}
+use Rattle.thy_boot.specs.declared.stage.End.TheVariants.{Restored}
+use Rattle.thy_boot.specs.declared.stage.BootStep.{BootStep}
+use Rattle.thy_boot.specs.declared.stage.BootStep.TheVariants.{Reading}
+use Rattle.thy_boot.specs.Boot.{Booting, new_boot, slot_read, answer_of as answer_of_boot}
+use Rattle.thy_recover.specs.Filling.{filling_one}
+use Rattle.thy_migrate.specs.declared.migration.Migration.{Migration}
+use Rattle.thy_migrate.specs.declared.migration.Migration.TheVariants.{Slot, Settle, Commit, Confirm}
+
+-- a boot, and what its migration does next, if one is under way
+pub record Recovering : Type 0 where
+  pub boot : Booting
+  pub migration : Option Migration
+
+abbrev pub new_recovery : Parameters → Recovering
+new_recovery p = record { boot = new_boot filling_one p; migration = None }
+
+-- one begins if the boot has restored a checkpoint of version 1
+abbrev pub begun_from : Form → Option Migration
+begun_from One = Some (Slot 0)
+begun_from Two = None
+
+abbrev pub begun_at : Stage → Block → Option Migration
+begun_at (Over Restored) commit = begun_from (form_of commit)
+begun_at stage commit = None
+
+-- block k is written to the slot of this epoch in version 2: block k of the slot that was found, and zeros behind it; the
+-- commit block is of the same epoch
+abbrev pub action_by : Parameters → List Block → ℕ → Migration → Action
+action_by p slot epoch (Slot k) = WriteAt (slot_place p (epoch % 2) + k) (block_at slot k)
+action_by p slot epoch Settle = Barrier
+action_by p slot epoch Commit = WriteAt 1 (commit_of epoch)
+action_by p slot epoch Confirm = Barrier
+
+abbrev pub action_of : Booting → Migration → Action
+action_of b at = action_by b.p (slot_read filling_one b) (epoch_of b.commit) at
+
+-- what comes next: the blocks of the slot, a barrier, the commit block, and a barrier
+abbrev pub after_action : Parameters → Migration → Option Migration
+after_action p (Slot k) = if nat_lt (k + 1) (slot_blocks p) then Some (Slot (k + 1)) else Some Settle
+after_action p Settle = Some Commit
+after_action p Commit = Some Confirm
+after_action p Confirm = None
+
+-- what a step returns: while a migration is under way, that there is more to do
+abbrev pub answer_at : Option Migration → Booting → BootStep
+answer_at None b = answer_of_boot filling_one b
+answer_at (Some at) b = Reading
+
+abbrev pub answer_of : Recovering → BootStep
+answer_of r = answer_at r.migration r.boot

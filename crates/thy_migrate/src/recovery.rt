@@ -1,0 +1,178 @@
+//! The boot, and after it the migration.
+ghost use Rattle.std.specs.Prelude.{◌≡◌, ◌*◌, ◌<◌, length, Some, None, IfOk, OnOk, OnErr};
+ghost use Rattle.thy_base.specs.Device.{block_at};
+ghost use Rattle.thy_base.specs.Places.{slot_blocks};
+ghost use Rattle.thy_boot.specs.declared.stage.Stage.TheVariants.{Over};
+ghost use Rattle.thy_boot.specs.declared.stage.End.TheVariants.{Restored};
+ghost use Rattle.thy_boot.specs.declared.stage.BootStep.TheVariants.{Restarted};
+ghost use Rattle.thy_boot.specs.Boot.{IsBoot, slot_read};
+ghost use Rattle.thy_boot.specs.Loads.{Takes};
+ghost use Rattle.thy_isa.specs.Step.{state_of};
+ghost use Rattle.thy_record.specs.Commit.{epoch_of};
+ghost use Rattle.thy_record.specs.Cpu.{cpu_of_record};
+ghost use Rattle.thy_recover.specs.Filling.{filling_one};
+ghost use Rattle.thy_migrate.specs.Migrating.{new_recovery, begun_at, after_action, action_of, answer_of};
+ghost use Rattle.thy_migrate.specs.Steps.{CanMigrate, CanStep, TakesStep, IsAction};
+
+use crate::fills::DualFills;
+use crate::migration::Migration;
+use std::alloc::{AllocError, Global};
+use std::marker::Model;
+use thy_base::{Block, Form, Geometry, Nvm, NvmError, word};
+use thy_boot::{Boot, BootStep, End, Stage};
+use thy_control::Control;
+use thy_record::{Start, commit_block, form_of};
+use thy_recover::{cpu_of_slot, slot_block};
+
+/// A boot, and what its migration does next, if one is under way.
+#[derive(Drop)]
+pub struct Recovery {
+    boot: Boot,
+    migration: Option<Migration>,
+}
+
+impl Model for Recovery {
+    ghost use Rattle.thy_migrate.specs.Migrating.{Recovering};
+
+    ghost Value = { Recovering };
+
+    ghost view = { λ r. record { boot = r.boot; migration = r.migration } };
+}
+
+// A migration begins if the boot has restored a checkpoint of version 1.
+fn begun(stage: Stage, commit: &Block) -> Option<Migration>
+    ensures { result ≡ begun_at stage commit.now }
+{
+    match stage {
+        Stage::Over(End::Restored) => match form_of(commit) {
+            Form::One => Some(Migration::Slot(0)),
+            Form::Two => None,
+        },
+        Stage::Reads(_) | Stage::Loads(_) | Stage::Over(End::Loaded) => None,
+    }
+}
+
+// What comes after an action.
+fn next_after(geometry: &Geometry, at: Migration) -> Option<Migration>
+    requires { IsAction geometry.now at }
+    ensures { result ≡ after_action geometry.now at }
+{
+    let blocks = geometry.slot_blocks();
+    match at {
+        Migration::Slot(k) if k + 1 < blocks => Some(Migration::Slot(k + 1)),
+        Migration::Slot(_) => Some(Migration::Settle),
+        Migration::Settle => Some(Migration::Commit),
+        Migration::Commit => Some(Migration::Confirm),
+        Migration::Confirm => None,
+    }
+}
+
+// Takes an action.
+fn take_action<N: Nvm>(boot: &Boot, at: Migration, nvm: &mut N) -> Result<(), NvmError>
+    requires can { CanMigrate at (N.device nvm.old) boot.now }
+    requires room { length boot.now.slot ≡ 64 * slot_blocks boot.now.p }
+    ensures { Takes (action_of boot.now at) result (N.device nvm.old) (N.device nvm.new) }
+{
+    let epoch = word(boot.commit(), 1);
+    match at {
+        Migration::Slot(k) => {
+            let place = boot.geometry().slot(epoch % 2) + k;
+            let block = slot_block(boot.geometry(), boot.commit(), boot.slot(), k);
+            nvm.write(place, &block)
+        }
+        Migration::Settle | Migration::Confirm => nvm.barrier(),
+        Migration::Commit => nvm.write(1, &commit_block(epoch)),
+    }
+}
+
+impl Recovery {
+    /// That of a machine whose power came on.
+    pub fn new(alloc: Global, geometry: &Geometry) -> Result<Recovery, AllocError>
+        ensures { IfOk result (λ r. r ≡ new_recovery geometry.now) }
+    {
+        let boot = Boot::new::<DualFills>(alloc, geometry)?;
+        Ok(Recovery {
+            boot,
+            migration: None,
+        })
+    }
+
+    /// The stage of the boot.
+    pub fn stage(&self) -> Stage
+        ensures { result ≡ self.now.boot.stage }
+    {
+        self.boot.stage()
+    }
+
+    /// Takes one action of the NVM: the boot's next, or, while it migrates, the migration's. The boot's end is that of the
+    /// migration, if there is one: until then a step returns `Reading`. If the NVM failed, boot, migration and controller
+    /// are as before.
+    pub fn step<N: Nvm>(
+        &mut self,
+        control: &mut Control,
+        start: &Start,
+        nvm: &mut N,
+    ) -> Result<BootStep, NvmError>
+        requires can { CanStep (state_of start.now.state) (N.device nvm.old) self.old control.old }
+        requires fits { IsBoot filling_one self.old.boot }
+        ensures answer { IfOk result (λ answer. answer ≡ answer_of self.new) }
+        ensures step { let s = state_of start.now.state in
+            TakesStep result s (N.device nvm.old) self.old control.old (N.device nvm.new) self.new control.new }
+    {
+        match self.migration {
+            None => self.boot_next(control, start, nvm),
+            Some(at) => self.migrate_next(at, nvm),
+        }
+    }
+
+    // Takes the boot's next action.
+    fn boot_next<N: Nvm>(
+        &mut self,
+        control: &mut Control,
+        start: &Start,
+        nvm: &mut N,
+    ) -> Result<BootStep, NvmError>
+        requires idle { self.old.migration ≡ None }
+        requires can { CanStep (state_of start.now.state) (N.device nvm.old) self.old control.old }
+        requires fits { IsBoot filling_one self.old.boot }
+        ensures answer { IfOk result (λ answer. answer ≡ answer_of self.new) }
+        ensures step { let s = state_of start.now.state in
+            TakesStep result s (N.device nvm.old) self.old control.old (N.device nvm.new) self.new control.new }
+    {
+        let answer = self.boot.step::<DualFills, N>(control, start, nvm)?;
+        self.migration = begun(self.boot.stage(), self.boot.commit());
+        match self.migration {
+            None => Ok(answer),
+            Some(_) => Ok(BootStep::Reading),
+        }
+    }
+
+    // Takes the migration's.
+    fn migrate_next<N: Nvm>(&mut self, at: Migration, nvm: &mut N) -> Result<BootStep, NvmError>
+        requires under_way { self.old.migration ≡ Some at }
+        requires can { CanMigrate at (N.device nvm.old) self.old.boot }
+        requires fits { IsBoot filling_one self.old.boot }
+        ensures answer { IfOk result (λ answer. answer ≡ answer_of self.new) }
+        ensures state { OnOk result (self.new ≡ record self.old { migration = after_action self.old.boot.p at }) }
+        ensures kept { OnErr result (self.new ≡ self.old) }
+        ensures nvm { Takes (action_of self.old.boot at) result (N.device nvm.old) (N.device nvm.new) }
+    {
+        take_action(&self.boot, at, nvm)?;
+        self.migration = next_after(self.boot.geometry(), at);
+        match self.migration {
+            None => Ok(self.restarted()),
+            Some(_) => Ok(BootStep::Reading),
+        }
+    }
+
+    // The end of both.
+    fn restarted(&self) -> BootStep
+        requires { length self.now.boot.slot ≡ 64 * slot_blocks self.now.boot.p }
+        ensures { let b = self.now.boot in
+            result ≡ Restarted (cpu_of_record (slot_read filling_one b)) (epoch_of b.commit) }
+    {
+        let commit = self.boot.commit();
+        let cpu = cpu_of_slot(self.boot.geometry(), commit, self.boot.slot());
+        BootStep::Restarted(cpu, word(commit, 1))
+    }
+}

@@ -1,0 +1,134 @@
+-- A slot of version 1 that is written anew in version 2 means the same.
+use Rattle.std.proofs.Common.{◌≡◌, ℕ, ◌+◌, ◌*◌, ◌/◌, ◌%◌, ◌<◌, ◌==◌, ◌&&◌, nat_lt, nat_le, if◌then◌else◌, List, ◌∷◌, map, replicate, slice_index_or, Option, Some, None, sym, ◌∙◌, ap, inl, inr, arith}
+use Rattle.std.proofs.lemmas.Bool.{cases_lt}
+use Rattle.std.proofs.lemmas.List.{length-replicate, get_or-replicate, get_or_past, ext_get_or}
+use Rattle.std.proofs.lemmas.List.FromFn.{length-map-range_with_len, get_or-map-range_with_len}
+use Rattle.std.specs.List.{range_with_len}
+use Rattle.std.specs.Option.{option_or, option_map}
+use Rattle.thy_base.specs.declared.block.Block.{Block}
+use Rattle.thy_base.specs.declared.config.Parameters.{Parameters}
+use Rattle.thy_base.specs.declared.form.Form.TheVariants.{One, Two}
+use Rattle.thy_base.specs.Device.{zero_block, block_at}
+use Rattle.thy_base.specs.Geometry.{console_room}
+use Rattle.thy_base.specs.Places.{table_blocks, count_blocks, slot_blocks}
+use Rattle.thy_base.specs.Words.{word_of}
+use Rattle.thy_record.specs.declared.bad_image.BadImage.{BadImage}
+use Rattle.thy_record.specs.declared.bad_image.BadImage.TheVariants.{Commit, Status as BadStatus, ConsoleLength, Count}
+use Rattle.thy_record.specs.Cpu.{status_of, is_status, record_word, record_words, cpu_of_record}
+use Rattle.thy_record.specs.Migrated.{IsWrittenAnew, AnewMeansTheSame}
+use Rattle.thy_record.specs.Slots.{entries_in, tables_in, count_byte, counts_in, is_bad_count, count_fault, epoch_fault, status_fault, slot_fault}
+use Rattle.thy_record.specs.TableFaults.{tables_fault}
+use Rattle.thy_record.specs.Tables.{Tables}
+use Rattle.thy_record.specs.TableBlocks.{entry_from}
+use Rattle.thy_record.proofs.CountLemmas.{no_position, fine_count}
+use Rattle.thy_record.proofs.CpuLemmas.{record_words-at, length-record_words}
+use Rattle.thy_record.proofs.ReadBackLemmas.{same_cpu}
+use Rattle.thy_record.proofs.SlotLemmas.{length-entries_in, entry_at-entries_in}
+use Rattle.thy_record.proofs.TableFaultLemmas.{neither, both_none}
+
+zeros_at : (j : ℕ) → slice_index_or zero_block.0 j 0 ≡ 0
+unfolding zero_block
+zeros_at j = elim (cases_lt j 64) as (λ _. slice_index_or (replicate {A = ℕ} 64 0) j 0 ≡ 0) [
+  | inl l ↦ get_or-replicate {A = ℕ} 64 j 0 0 l
+  | inr m ↦ get_or_past {X = ℕ} (replicate {A = ℕ} 64 0) j 0 (omega (arith, length-replicate {A = ℕ} 64 0))
+]
+
+tables_of : (a b c d : List (Option ℕ)) → a ≡ c → b ≡ d → (let t : Tables = record { btt = a; ptt = b } in t) ≡ (let u : Tables = record { btt = c; ptt = d } in u)
+tables_of a b c d h k = cc
+
+-- the faults of a record's words
+abbrev fault_of_epoch : ℕ → ℕ → Option BadImage
+fault_of_epoch word epoch = if word == epoch then None else Some Commit
+
+abbrev fault_of_status : ℕ → ℕ → ℕ → ℕ → ℕ → ℕ → Option BadImage
+fault_of_status tag value count console ceiling room =
+    if is_status tag value && nat_lt count ceiling then (if nat_le console room then None else Some ConsoleLength) else Some BadStatus
+
+module _ (p : Parameters) (old new : List Block) (h : IsWrittenAnew p old new) where
+  block_same : (k : ℕ) → block_at new k ≡ block_at old k
+  block_same k = elim (cases_lt k (slot_blocks p)) as (λ _. block_at new k ≡ block_at old k) [
+    | inl l ↦ h.each k l
+    | inr m ↦ get_or_past new k zero_block (omega (arith, h.long, m)) ∙ sym (get_or_past old k zero_block (omega (arith, h.short, m)))
+  ]
+
+  word_same : (i : ℕ) → record_word new i ≡ record_word old i
+  unfolding record_word
+  word_same i = ap (λ (b : Block). word_of b (i % 8)) (block_same (i / 8))
+
+  words_same : (i n : ℕ) → record_words new i n ≡ record_words old i n
+  words_same i n =
+      let left = length-record_words new i n in
+      ext_get_or 0 (record_words new i n) (record_words old i n) (left ∙ sym (length-record_words old i n))
+      (λ k below.
+      let l : k < n = omega (arith, left, below) in
+      record_words-at new i n k l ∙ word_same (i + k) ∙ sym (record_words-at old i n k l))
+
+  cpu_same : cpu_of_record new ≡ cpu_of_record old
+  unfolding cpu_of_record
+  cpu_same =
+      same_cpu _ _ _ _ _ _ _ _ _ _ _ _ _ _ _ _ (word_same 0) (ap (λ ws. 0 ∷ ws) (words_same 1 31)) (word_same 34) (word_same 33) (word_same 35)
+      (word_same 39) (word_same 32)
+      (ap (λ t. status_of t (record_word new 37)) (word_same 36) ∙ ap (status_of (record_word old 36)) (word_same 37))
+
+  entries_same : (first n : ℕ) → entries_in new first n ≡ entries_in old first n
+  entries_same first n =
+      let left = length-entries_in new first n in
+      ext_get_or None (entries_in new first n) (entries_in old first n) (left ∙ sym (length-entries_in old first n))
+      (λ i below.
+      let l : i < n = omega (arith, left, below) in
+      entry_at-entries_in new first n i l ∙ ap entry_from (word_same (first + i)) ∙ sym (entry_at-entries_in old first n i l))
+
+  tables_same : tables_in p new ≡ tables_in p old
+  tables_same =
+      tables_of (entries_in new 40 p.btt) (entries_in new (40 + p.btt) p.ptt) (entries_in old 40 p.btt) (entries_in old (40 + p.btt) p.ptt)
+      (entries_same 40 p.btt) (entries_same (40 + p.btt) p.ptt)
+
+  -- every count is 0
+  count_none : (i : ℕ) → count_byte p new i ≡ 0
+  count_none i =
+      ap (λ (b : Block). slice_index_or b.0 (i % 64) 0)
+      (block_same (5 + table_blocks p + i / 64) ∙ get_or_past old (5 + table_blocks p + i / 64) zero_block (omega (arith, h.short)))
+      ∙ zeros_at (i % 64)
+
+  counts_none : counts_in Two p new ≡ replicate p.pages 0
+  counts_none =
+      let left = length-map-range_with_len (count_byte p new) 0 p.pages in
+      ext_get_or 0 (map (count_byte p new) (range_with_len 0 p.pages)) (replicate p.pages 0) (left ∙ sym (length-replicate p.pages 0))
+      (λ i below.
+      let l : i < p.pages = omega (arith, left, below) in
+      get_or-map-range_with_len (count_byte p new) 0 p.pages i i 0 l (omega arith) ∙ count_none i ∙ sym (get_or-replicate {A = ℕ} p.pages i 0 0 l))
+
+  count_fault-none : count_fault Two p new ≡ None
+  count_fault-none =
+      ap (option_map Count) (no_position (is_bad_count p new) (64 * count_blocks p)
+      (λ i l. fine_count (count_byte p new i) p.pages i (λ m. let none = count_none i in omega (arith, none)) (λ m. count_none i)))
+
+  -- each test says the same
+  slot_fault-none : (ceiling epoch : ℕ) → slot_fault One p ceiling epoch old ≡ None → slot_fault Two p ceiling epoch new ≡ None
+  unfolding slot_fault
+  slot_fault-none ceiling epoch none =
+      let parts = neither (epoch_fault epoch old)
+      (option_or (tables_fault p (tables_in p old)) (option_or (status_fault p ceiling old) (count_fault One p old))) none in
+      let tables = neither (tables_fault p (tables_in p old)) (option_or (status_fault p ceiling old) (count_fault One p old)) parts.1 in
+      let status = neither (status_fault p ceiling old) (count_fault One p old) tables.1 in
+      both_none (epoch_fault epoch new) _ (epoch_same epoch ∙ parts.0)
+      (both_none (tables_fault p (tables_in p new)) _ (ap (tables_fault p) tables_same ∙ tables.0)
+      (both_none (status_fault p ceiling new) _ (status_same ceiling ∙ status.0) count_fault-none))
+    where
+      epoch_same : (epoch : ℕ) → epoch_fault epoch new ≡ epoch_fault epoch old
+      epoch_same epoch = ap (λ w. fault_of_epoch w epoch) (word_same 38)
+
+      status_same : (ceiling : ℕ) → status_fault p ceiling new ≡ status_fault p ceiling old
+      status_same ceiling =
+          ap (λ w. fault_of_status w (record_word new 37) (record_word new 32) (record_word new 34) ceiling (console_room p)) (word_same 36)
+          ∙ ap (λ w. fault_of_status (record_word old 36) w (record_word new 32) (record_word new 34) ceiling (console_room p)) (word_same 37)
+          ∙ ap (λ w. fault_of_status (record_word old 36) (record_word old 37) w (record_word new 34) ceiling (console_room p)) (word_same 32)
+          ∙ ap (λ w. fault_of_status (record_word old 36) (record_word old 37) (record_word old 32) w ceiling (console_room p)) (word_same 34)
+
+pub anew_means_the_same : AnewMeansTheSame
+anew_means_the_same p ceiling epoch old new h none = record {
+  cpu_same = cpu_same p old new h;
+  tables_same = tables_same p old new h;
+  no_counts = counts_none p old new h;
+  faultless = slot_fault-none p old new h ceiling epoch none;
+}
