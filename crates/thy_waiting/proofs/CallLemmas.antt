@@ -9,7 +9,7 @@ use Rattle.thy_record.specs.declared.engine_step.EngineStep.TheVariants.{Barrier
 use Rattle.thy_view.specs.Origin.{Origin}
 use Rattle.thy_scheme.specs.declared.boot_step.BootStep.{BootStep}
 use Rattle.thy_scheme.specs.Boots.{BootsOn, BootFails}
-use Rattle.thy_scheme.specs.Calls.{Merges, Promotes, Seals, Engines, EngineFails}
+use Rattle.thy_scheme.specs.Calls.{Merges, Promotes, Drains, Seals, Engines, EngineFails}
 use Rattle.thy_scheme.specs.Marks.{Marks}
 use Rattle.thy_scheme.specs.Scheme.{Stands}
 use Rattle.thy_dual_model.specs.Dual.{Dual}
@@ -18,7 +18,7 @@ use Rattle.thy_dual_model.proofs.LawfulLemmas.{lawful}
 use Rattle.thy_waiting_model.specs.Waiting.{Waiting, is_waiting, left_after, left_booted}
 use Rattle.thy_waiting_model.specs.Scheme.{is_under_way}
 use Rattle.thy_waiting_model.proofs.BootLemmas.{boots-over, boot-fails-over}
-use Rattle.thy_waiting_model.proofs.CallLemmas.{merges-over, promotes-over, seals-over, engines-over, engine-fails-over, waits-on, waiting-fails}
+use Rattle.thy_waiting_model.proofs.CallLemmas.{merges-over, promotes-over, drains-over, seals-over, engines-over, engine-fails-over, waits-on, waiting-fails}
 use Rattle.thy_waiting_model.proofs.RunLemmas.{below-stands}
 use Rattle.thy_waiting.specs.Calls.{waiting_scheme, with_below}
 
@@ -45,6 +45,10 @@ on-ok (Err e) P Q f h = tt
 pub merges : (o : Origin) (k : Marks) (w : Waiting Dual) (n : Device) (t : Dual) → Stands waiting_scheme o k w n
     → Merges dual_scheme o k w.below n t → Merges waiting_scheme o k w n (with_below t w)
 merges o k w n t stands m = merges-over dual_scheme lawful never o k w n stands t m
+
+pub drains : (o : Origin) (k : Marks) (w : Waiting Dual) (n : Device) (t : Dual) → Stands waiting_scheme o k w n
+    → Drains dual_scheme o k w.below n t → Drains waiting_scheme o k w n (with_below t w)
+drains o k w n t stands d = drains-over dual_scheme lawful never o k w n stands t d
 
 pub promotes : {T : Type 0} (r : Result T NvmError) (o : Origin) (k : Marks) (w : Waiting Dual) (n : Device) (t : Dual) (new : Device)
     → Stands waiting_scheme o k w n
