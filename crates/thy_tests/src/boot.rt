@@ -13,8 +13,8 @@ use thy_base::{Block, Bytes, Geometry, Nvm, Parameters, SchemeName, Shape};
 use thy_boot::{Boot, BootStep, a_boot_may_go_on};
 use thy_control::Control;
 use thy_dram::Dram;
-use thy_migrate::DualFills;
 use thy_isa::{CpuState, MachState, Regs, Status};
+use thy_migrate::DualFills;
 use thy_nvm::MemNvm;
 use thy_record::Start;
 

@@ -159,6 +159,54 @@ fn a_header_and_a_table_are_their_bytes(rt: HostRuntime) -> Result<(), Fail> {
     Ok(())
 }
 
+/// The first word of slot 1 of version 1, block 9.
+const SLOT_ONE: usize = 72;
+
+/// The image as one of version 1: header, commit block and slot 1 are of that. Slot 1 of version 2 has another epoch.
+fn image_one(alloc: Global) -> Result<Vec<u8>, AllocError> {
+    let mut image = image(alloc)?;
+    let bytes = image.as_mut_slice();
+    put(bytes, 1, 1);
+    put(bytes, 8, ONE);
+    for (word, value) in &WORDS {
+        if *word >= SLOT && *word < COUNTS {
+            put(bytes, SLOT_ONE + (*word - SLOT), *value);
+        }
+    }
+    put(bytes, SLOT + 38, 7);
+    put(bytes, COUNTS, 64);
+    Ok(image)
+}
+
+/// It has 1048 blocks, or as many as one of version 2, and nothing between. Behind a header of version 2 it is refused.
+#[test]
+fn an_image_of_version_1_is_read_from_its_own_slot(rt: HostRuntime) -> Result<(), Fail> {
+    let geometry = geometry(&rt, rt.alloc());
+    let mut image = image_one(rt.alloc())?;
+    for blocks in [1048, BLOCKS] {
+        let found = check(front(&image, BLOCK_SIZE * blocks), &geometry, CEILING);
+        expect_at(&rt, found, Ok(Found::At(3)), blocks);
+    }
+    for blocks in [1047, 1049, 1063] {
+        let found = check(front(&image, BLOCK_SIZE * blocks), &geometry, CEILING);
+        expect_at(&rt, found, Err(BadImage::Geometry), blocks);
+    }
+    let state = restored(rt.alloc(), &image, &geometry)?.expect(&rt, "a checkpoint");
+    expect(&rt, state.pc, 0x10008);
+    expect(&rt, (state.count, state.cursor), (11, 12));
+    let memory = state.memory.as_slice();
+    expect(&rt, has(memory, 5, b"fifth"), true);
+    expect(&rt, has(memory, 131, b"of page two"), true);
+    put(image.as_mut_slice(), SLOT_ONE + 38, 2);
+    let found = check(&image, &geometry, CEILING);
+    expect(&rt, found, Err(BadImage::Commit));
+    put(image.as_mut_slice(), SLOT_ONE + 38, 3);
+    put(image.as_mut_slice(), 1, 2);
+    let found = check(&image, &geometry, CEILING);
+    expect(&rt, found, Err(BadImage::Commit));
+    Ok(())
+}
+
 /// Two words of the image with other values, and what it is refused for then; the second may be the first.
 static REFUSALS: [(usize, u64, usize, u64, BadImage); 41] = [
     (0, 0, 0, 0, BadImage::Header),

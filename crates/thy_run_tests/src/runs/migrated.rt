@@ -9,6 +9,7 @@ use thy_out::MemShelf;
 
 /// How many bytes an image of version 1 has here, and of version 2.
 const BYTES_ONE: usize = 67_072;
+
 const BYTES_TWO: usize = 68_096;
 
 /// The words that are not zero, by the places of their first bytes, of an image of version 1. The program saved it after
@@ -134,7 +135,9 @@ fn what_is_saved_after_a_migration_is_of_version_2(rt: HostRuntime) -> Result<()
             put(want.as_mut_slice(), SLOT + (*at - 576), *word);
         }
     }
-    let image = shelf.fetch(alloc, "T", 67_108_864).unwrap_or(Vec::new(alloc));
+    let image = shelf
+        .fetch(alloc, "T", 67_108_864)
+        .unwrap_or(Vec::new(alloc));
     assert!(rt; image.as_slice() == want.as_slice());
     let line = "thynvm resume T --pages 8 --btt 8 --ptt 8";
     let given = called_on(alloc, line, &mut shelf, &[], &[])?;
