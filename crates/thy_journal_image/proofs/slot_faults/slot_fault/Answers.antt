@@ -1,6 +1,6 @@
 use Rattle.thy_record.specs.Files.{blocks_of}
-use Rattle.thy_refill.proofs.FaultLemmas.{slot_epoch, slot_table, slot_status}
-use Rattle.thy_refill.proofs.slot.slot_fault.Goals as goal
+use Rattle.thy_journal_image.proofs.FaultLemmas.{slot_epoch, slot_table, slot_status}
+use Rattle.thy_journal_image.proofs.slot_faults.slot_fault.Goals as goal
 
 pub returns-then-word_in-epoch : goal.returns-then-word_in-epoch
 returns-then-word_in-epoch c =
