@@ -1,5 +1,5 @@
--- A slot reads back as it was written. It is that of a checkpoint with two tables whose page table lists nothing, with the
--- blocks of that table left out.
+-- A slot reads back as it was written. Its blocks after the record are those of two tables whose page table lists nothing,
+-- with the blocks of that table left out.
 use Rattle.std.proofs.Common.{◌≡◌, ℕ, ◌+◌, ◌-◌, ◌*◌, ◌/◌, ◌%◌, ◌^◌, ◌<◌, ◌≤◌, nat_lt, if◌then◌else◌, List, ◌++◌, length, map, take, drop, replicate, Option, Some, None, refl, sym, ◌∙◌, ap, inl, inr, arith}
 use Rattle.std.specs.Option.{option_or, option_map}
 use Rattle.std.specs.List.{range_with_len}
@@ -12,18 +12,18 @@ use Rattle.thy_base.specs.declared.config.Parameters.{Parameters}
 use Rattle.thy_base.specs.Device.{zero_block, block_at}
 use Rattle.thy_base.specs.Geometry.{IsInRange, memory_blocks, console_room}
 use Rattle.thy_base.specs.LittleEndian.{number_bytes}
-use Rattle.thy_base.specs.Places.{slot_blocks as full_blocks}
+use Rattle.thy_base.specs.Places.{table_blocks}
 use Rattle.thy_base.specs.Words.{block_of}
 use Rattle.thy_base.proofs.RangeLemmas.{btt_eights, ptt_eights}
 use Rattle.thy_isa.specs.declared.state.CpuState.{CpuState}
 use Rattle.thy_record.specs.declared.bad_image.BadImage.{BadImage}
-use Rattle.thy_record.specs.Cpu.{cpu_block_of, cpu_of_record, IsRecordable}
-use Rattle.thy_record.specs.ImageLaws.{ReadsBack as ReadsBackFull}
-use Rattle.thy_record.specs.Slots.{slot_block_of as full_slot_block, IsSlotOf, tables_in, epoch_fault, status_fault, slot_fault as full_fault}
+use Rattle.thy_record.specs.Cpu.{cpu_block_of, cpu_of_record, BeginsWithRecord, IsRecordable}
+use Rattle.thy_record.specs.Slots.{HasTableBlocks, tables_in, epoch_fault, status_fault}
 use Rattle.thy_record.specs.TableBlocks.{entry_word, table_block_of as full_block_of}
 use Rattle.thy_record.specs.TableFaults.{first_clash, index_rule, twice_rule, under_rule, index_fault as full_index, twice_fault as full_twice, under_fault, tables_fault}
 use Rattle.thy_record.specs.Tables.{Tables, Lists, IsTables}
-use Rattle.thy_record.proofs.SlotLemmas.{slot_block_of-record, slot_block_of-table, length-entries_in, slot_back}
+use Rattle.thy_record.proofs.ReadBackLemmas.{FitsRecord-recordable, cpu_back}
+use Rattle.thy_record.proofs.SlotLemmas.{FitBlocks-tables, length-entries_in, tables_back, epoch_fault-back, status_fault-back}
 use Rattle.thy_record.proofs.TableFaultLemmas.{neither, both_none, none_breaks, IsTables-faultless, IsFaultless-tables}
 use Rattle.thy_record.proofs.TableLemmas.{table_block_of-entries}
 use Rattle.thy_record.proofs.EntryLemmas.{entry_of-absent}
@@ -76,7 +76,7 @@ unfolding block_of number_bytes zero_block
 zeros_are = refl
 
 -- those of the second hold zeros
-block_zero : (p : Parameters) (table : List (Option ℕ)) (k : ℕ) → IsInRange p → length table ≡ p.btt → p.btt ≤ 8 * k → 5 + k < full_blocks p
+block_zero : (p : Parameters) (table : List (Option ℕ)) (k : ℕ) → IsInRange p → length table ≡ p.btt → p.btt ≤ 8 * k → k < table_blocks p
     → full_block_of (full p table) k ≡ zero_block
 block_zero p table k r long past inside =
     let eights : p.btt % 8 ≡ 0 = btt_eights p r in
@@ -109,7 +109,7 @@ module _ (p : Parameters) (cpu : CpuState) (table : List (Option ℕ)) (epoch : 
   table_block : (k : ℕ) → slot_block_of p cpu table epoch (5 + k) ≡ table_block_of table k
   table_block k = grind arith
 
-  pub block_behind : (k : ℕ) → 5 + k < full_blocks p → block_at slot (5 + k) ≡ full_block_of (full p table) k
+  block_behind : (k : ℕ) → k < table_blocks p → block_at slot (5 + k) ≡ full_block_of (full p table) k
   block_behind k l =
       let eights : p.btt % 8 ≡ 0 = btt_eights p range in
       elim (cases_lt (5 + k) (slot_blocks p)) as (λ _. block_at slot (5 + k) ≡ full_block_of (full p table) k) [
@@ -121,24 +121,11 @@ module _ (p : Parameters) (cpu : CpuState) (table : List (Option ℕ)) (epoch : 
             ∙ sym (block_zero p table k range whole.long (omega (arith, past, eights)) l)
       ]
 
-  -- a block of a slot with both tables
-  abbrev full_block : ℕ → Block
-  full_block k = full_slot_block p cpu (full p table) epoch k
+  pub begins_with_record : BeginsWithRecord cpu epoch slot
+  begins_with_record = record { each = λ k l. written k (omega arith) ∙ record_block k l }
 
-  slot_block_full : (k : ℕ) → k < full_blocks p → block_at slot k ≡ full_block k
-  slot_block_full k l = elim (cases_lt k 5) as (λ _. block_at slot k ≡ full_block k) [
-    | inl low ↦ written k (omega arith) ∙ record_block k low ∙ sym (slot_block_of-record p cpu (full p table) epoch k low)
-    | inr high ↦
-        let e : 5 + (k - 5) ≡ k = omega arith in
-        let inside : 5 + (k - 5) < full_blocks p = omega arith in
-        ap (block_at slot) (sym e)
-        ∙ block_behind (k - 5) inside
-        ∙ sym (slot_block_of-table p cpu (full p table) epoch (k - 5))
-        ∙ ap full_block e
-  ]
-
-  pub slot_is_full : IsSlotOf p cpu (full p table) epoch slot
-  slot_is_full = record { each = slot_block_full }
+  pub has_table_blocks : HasTableBlocks p (full p table) slot
+  has_table_blocks = record { each = block_behind }
 
 -- ---- its faults
 
@@ -189,17 +176,20 @@ faultless_table p ceiling epoch slot none =
 pub slot_reads_back : (p : Parameters) (ceiling : ℕ) (cpu : CpuState) (table : List (Option ℕ)) (epoch : ℕ)
     → IsInRange p → IsRecordable p ceiling cpu → IsTable p table → ceiling ≤ 2 ^ 64 → epoch < 2 ^ 64
     → ReadsBack p ceiling cpu table epoch (slot_of_checkpoint p cpu table epoch)
-unfolding slot_fault full_fault
+unfolding slot_fault
 slot_reads_back p ceiling cpu table epoch range recordable whole most l =
     let slot : List Block = slot_of_checkpoint p cpu table epoch in
-    let back : ReadsBackFull p ceiling cpu (full p table) epoch slot
-    = slot_back p ceiling cpu (full p table) epoch slot range recordable (IsTables-full p table whole) most l
-    (slot_is_full p cpu table epoch range whole) in
-    let same : table_in p slot ≡ table = ap (λ (t : Tables). t.btt) back.tables_back in
-    let parts = neither (epoch_fault epoch slot) (option_or (tables_fault p (tables_in p slot)) (status_fault p ceiling slot)) back.faultless in
-    let rest = neither (tables_fault p (tables_in p slot)) (status_fault p ceiling slot) parts.1 in
+    let room : console_room p < 2 ^ 64 = omega arith in
+    let fits = FitsRecord-recordable p ceiling cpu epoch recordable room most l in
+    let begins = begins_with_record p cpu table epoch range whole in
+    let tables : tables_in p slot ≡ full p table
+    = tables_back p (full p table) slot range (FitBlocks-tables p (full p table) range (IsTables-full p table whole))
+    (has_table_blocks p cpu table epoch range whole) in
+    let same : table_in p slot ≡ table = ap (λ (t : Tables). t.btt) tables in
     record {
-      cpu_back = back.cpu_back;
+      cpu_back = cpu_back cpu epoch slot fits begins;
       table_back = same;
-      faultless = both_none _ _ parts.0 (both_none _ _ (ap (table_fault p) same ∙ table_fault-none p table whole) rest.1);
+      faultless = both_none _ _ (epoch_fault-back cpu epoch slot fits begins)
+          (both_none _ _ (ap (table_fault p) same ∙ table_fault-none p table whole)
+          (status_fault-back p ceiling cpu epoch slot recordable fits begins));
     }

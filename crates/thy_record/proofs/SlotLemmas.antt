@@ -187,11 +187,11 @@ count_fault-back p cpu t counts epoch slot are of =
 
 -- ---- its faults
 
-epoch_fault-back : (cpu : CpuState) (epoch : ℕ) (slot : List Block)
+pub epoch_fault-back : (cpu : CpuState) (epoch : ℕ) (slot : List Block)
     → FitsRecord cpu epoch → BeginsWithRecord cpu epoch slot → epoch_fault epoch slot ≡ None
 epoch_fault-back cpu epoch slot fits of = taken _ _ _ (eq-eqb _ _ (epoch_back cpu epoch slot fits of))
 
-status_fault-back : (p : Parameters) (ceiling : ℕ) (cpu : CpuState) (epoch : ℕ) (slot : List Block)
+pub status_fault-back : (p : Parameters) (ceiling : ℕ) (cpu : CpuState) (epoch : ℕ) (slot : List Block)
     → IsRecordable p ceiling cpu → FitsRecord cpu epoch → BeginsWithRecord cpu epoch slot → status_fault p ceiling slot ≡ None
 status_fault-back p ceiling cpu epoch slot r fits of =
     let rest = λ (j : ℕ) (small : j < 8). rest_back cpu epoch slot j fits of small in
