@@ -7,7 +7,7 @@ use Rattle.thy_base.specs.declared.mark.Mark.{Mark}
 use Rattle.thy_base.specs.Device.{Device, block_at, zero_block, fitted, drained}
 use Rattle.thy_base.specs.Marks.{mark}
 use Rattle.thy_base.specs.Places.{slot_blocks, image_blocks}
-use Rattle.thy_record.specs.Commit.{is_zero}
+use Rattle.thy_record.specs.Commit.{is_zero, form_of}
 use Rattle.thy_record.specs.Decoded.{Decoded, Nothing, Refused, At}
 use Rattle.thy_record.specs.Images.{decode_image}
 use Rattle.thy_record.proofs.ReadBackLemmas.{is_zero-zero_block}
@@ -155,7 +155,8 @@ module _ (o : Origin) (s : Dual) (n : Device) (boots : Boots o s n) where
   safe-seen =
       let seen : View = seen_at o boots.images.kept s.boot.stage in
       subst (λ (v : View). Safe decode_image o v.done (doubt_of v) n) (sym (view-is o s n boots))
-      (Safe-read o seen.done (doubt_of seen) n (sound_is_safe filling_one filling_is_lawful o boots.images n s.boot s.control boots.sound))
+      (Safe-read o seen.done (doubt_of seen) n (sized-at o boots.images n s.boot s.control s.boot.stage boots.going boots.sound.keeps)
+      (sound_is_safe filling_one filling_is_lawful o boots.images n s.boot s.control boots.sound))
 
   pub boot-holds : BootHolds dual_scheme o s n
   boot-holds = record {
@@ -271,7 +272,7 @@ power_finds o s n origin powered found = boots-found o s n origin powered found
 pub power_is_new : PowerIsNew
 power_is_new p s powered = record {
   queued = ap (λ (c : State). c.dram.queued) powered.controller ∙ powered.is_dram.empty;
-  boot_left = subst (λ (b : Booting). stage_left (boot_numbers b.p) b.stage ≤ dual_scheme.most_booting p) (sym powered.boot_is) (omega arith);
+  boot_left = subst (λ (b : Booting). stage_left (boot_numbers (form_of b.commit) b.p) b.stage ≤ dual_scheme.most_booting p) (sym powered.boot_is) (omega arith);
 }
 
 pub zeros_are_nothing : ZerosAreNothing
@@ -310,23 +311,23 @@ has-commit (Fills k) n b c h = committed-in n.image b.commit h.0.head.commit_is
 has-commit (Refusing bad) n b c h = tt
 
 module _ (o : Origin) (g : BootImages) (n : Device) (b : Booting) (c : State) where
-  not-loading : IsRecovering filling_one g n b c → Tells o (layout_of o) g.before g.kept → is_zero (block_at n.image 1) ≡ false
-      → loads (view_of_image o.start.count (decode_image o.geometry ceiling n.image)) ≡ false
-  not-loading reading tells committed =
-      ap loads (view-reading o g n b c reading tells) ∙ kept-some o g n g.kept reading.before_is tells committed
+  not-loading : IsRecovering filling_one g n b c → length n.image ≡ image_blocks o.geometry → Tells o (layout_of o) g.before g.kept
+      → is_zero (block_at n.image 1) ≡ false → loads (view_of_image o.start.count (decode_image o.geometry ceiling n.image)) ≡ false
+  not-loading reading sized tells committed =
+      ap loads (view-reading o g n b c reading sized tells) ∙ kept-some o g n g.kept reading.before_is tells committed
 
-  reading-at : (r : ReadStage) → ((bad : BadImage) → Reads r ≢ Reads (Refusing bad)) → Tells o (layout_of o) g.before g.kept → IsRecovering filling_one g n b c
-      → HasCommitAt r n → false ≡ (has_read_at (Reads r) && loads (view_at o (Reads r) n))
-  reading-at Unread good tells far read = refl
-  reading-at ReadsHeader good tells far read = sym (not-loading far tells read)
-  reading-at (ReadsSlot next) good tells far read = sym (not-loading far tells read)
-  reading-at (Fills k) good tells far read = sym (not-loading far tells read)
-  reading-at (Refusing bad) good tells far read = absurd (good bad refl)
+  reading-at : (r : ReadStage) → ((bad : BadImage) → Reads r ≢ Reads (Refusing bad)) → length n.image ≡ image_blocks o.geometry → Tells o (layout_of o) g.before g.kept
+      → IsRecovering filling_one g n b c → HasCommitAt r n → false ≡ (has_read_at (Reads r) && loads (view_at o (Reads r) n))
+  reading-at Unread good sized tells far read = refl
+  reading-at ReadsHeader good sized tells far read = sym (not-loading far sized tells read)
+  reading-at (ReadsSlot next) good sized tells far read = sym (not-loading far sized tells read)
+  reading-at (Fills k) good sized tells far read = sym (not-loading far sized tells read)
+  reading-at (Refusing bad) good sized tells far read = absurd (good bad refl)
 
   loading-at : (q : Stage) → b.stage ≡ q → IsGoing q → ((bad : BadImage) → q ≢ Reads (Refusing bad)) → IsKeeping o (layout_of o) (standing_in_boot o q g n)
       → IsSoundAt filling_one o q g n b c → loads_at q ≡ (has_read_at q && loads (view_at o q n))
   loading-at (Reads r) is going good keeps far =
-      reading-at r good keeps.told far (has-commit r n b c (subst (λ (q : Stage). HasReadAt filling_one q n b c) is far.read.so_far))
+      reading-at r good keeps.sized keeps.told far (has-commit r n b c (subst (λ (q : Stage). HasReadAt filling_one q n b c) is far.read.so_far))
   loading-at (Loads issue) is going good keeps far = refl
   loading-at (Over end) is going good keeps far = absurd going
 

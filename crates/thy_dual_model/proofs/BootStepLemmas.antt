@@ -65,7 +65,7 @@ use Rattle.thy_dual_model.specs.Boots.{Boots, step_of, result_of, view_at, has_r
 use Rattle.thy_dual_model.specs.Booted.{IsUnused}
 use Rattle.thy_dual_model.specs.Dual.{Dual, is_promoting}
 use Rattle.thy_dual_model.specs.Scheme.{dual_scheme}
-use Rattle.thy_dual_model.proofs.BootLemmas.{view-is, loads-first}
+use Rattle.thy_dual_model.proofs.BootLemmas.{view-is, loads-first, boot-holds}
 use Rattle.thy_dual_model.proofs.BootedLemmas.{booted_is_sound, booting-whole}
 use Rattle.thy_dual_model.proofs.ItemLemmas.{queue-written}
 use Rattle.thy_dual_model.proofs.SafeLemmas.{Safe-read}
@@ -366,7 +366,8 @@ module _ (o : Origin) (s : Dual) (n : Device) (booting : IsBooting dual_scheme o
       let seen : View = seen_at o boots.images.kept s.boot.stage in
       let action : Action = action_of filling_one o.start s.boot s.control in
       let safe : Safe decode_image o seen.done (doubt_after_fault action seen) new
-      = Safe-read o seen.done (doubt_after_fault action seen) new (failures_move filling_one filling_is_lawful o boots.images n s.boot s.control new boots.origin boots.sound boots.going fails framed).safe in
+      = Safe-read o seen.done (doubt_after_fault action seen) new (framed.blocks ∙ (boot-holds o s n boots).sized)
+      (failures_move filling_one filling_is_lawful o boots.images n s.boot s.control new boots.origin boots.sound boots.going fails framed).safe in
       let answer : BootStep = failed_answer s.boot.stage in
       record {
         step = step_of answer;

@@ -2,7 +2,10 @@
 -- What is seen of the scheme.
 use Rattle.std.specs.Prelude.{◌*◌, true, false}
 use Rattle.thy_base.specs.Geometry.{memory_blocks}
-use Rattle.thy_base.specs.Places.{slot_blocks, image_blocks}
+use Rattle.thy_base.specs.Places.{slot_blocks, blocks_of_slot, image_blocks}
+use Rattle.thy_base.specs.declared.form.Form.{Form}
+use Rattle.thy_base.specs.declared.form.Form.TheVariants.{Two}
+use Rattle.thy_record.specs.Commit.{form_of}
 use Rattle.thy_record.specs.Images.{decode_image}
 use Rattle.thy_table.specs.Listing.{free_count}
 use Rattle.thy_boot.specs.declared.stage.Stage.TheVariants.{Reads}
@@ -20,9 +23,14 @@ use Rattle.thy_dual_model.specs.Dual.{Dual, IsOf, is_overlaid, is_promoting, pen
 use Rattle.thy_dual_model.specs.Sound.{IsSound}
 use Rattle.thy_dual_model.specs.Stays.{StaysDual}
 
--- the numbers of its boot
-abbrev pub boot_numbers : Parameters → BootNumbers
-boot_numbers p = record { memory = memory_blocks p; slot = slot_blocks p; most_slot = slot_blocks p; fills = 64 * p.ptt }
+-- the numbers of its boot, over an image whose commit block names this version
+abbrev pub boot_numbers : Form → Parameters → BootNumbers
+boot_numbers form p = record {
+  memory = memory_blocks p;
+  slot = blocks_of_slot form p;
+  most_slot = slot_blocks p;
+  fills = 64 * p.ptt;
+}
 
 abbrev pub dual_scheme : SchemeOf Dual
 dual_scheme = record {
@@ -48,12 +56,12 @@ dual_scheme = record {
   boot_view = λ o s n. view_at o s.boot.stage n;
   has_read = λ s. has_read_at s.boot.stage;
   migrates = λ s. false;
-  boot_left = λ s. stage_left (boot_numbers s.boot.p) s.boot.stage;
+  boot_left = λ s. stage_left (boot_numbers (form_of s.boot.commit) s.boot.p) s.boot.stage;
   engine_left = λ s. cycles_left s.engine s.control;
   merges_left = λ s. overlays s.control;
   promotions_left = λ s. unfilled s.control;
   owed_later = λ s. 0;
-  most_booting = λ p. stage_left (boot_numbers p) (Reads Unread);
+  most_booting = λ p. stage_left (boot_numbers Two p) (Reads Unread);
   most_engine = most_cycles;
   most_merges = λ p. p.btt;
   most_promotions = λ p. 64 * p.ptt;

@@ -10,7 +10,7 @@ use thy_base::{Block, Parameters, SchemeName, Stored};
 use thy_record::EngineStep;
 
 /// The least memory, with a block table of so many entries. A page is stored to densely by more than 22 stores of an
-/// epoch, and no longer by fewer than 16. A slot has 6 blocks, and one for each 8 entries of the block table.
+/// epoch, and no longer by fewer than 16. A slot has 7 blocks, and one for each 8 entries of the block table.
 fn least(btt: u64) -> Parameters
     ensures { result.pages ≡ 8 }
 {
@@ -118,7 +118,7 @@ fn promote_page(rt: &impl Abort, memory: &mut Memory) {
 }
 
 /// Stores a page densely in the first epoch, and one of its blocks in the second, into the frame. The page is to be written
-/// then. The slot has 10 blocks.
+/// then. The slot has 11 blocks.
 fn frame_page(rt: &impl Abort, alloc: Global, memory: &mut Memory) {
     store_page(rt, memory);
     expect(rt, memory.free(), 9);

@@ -63,7 +63,7 @@ fn put_bytes(image: &mut [u8], block: usize, bytes: &[u8]) {
     }
 }
 
-/// The words that are not zero, but for the two names: the header's, the commit block's, of epoch 3, and in slot 1
+/// The words that are not zero, except the two names: the header's, the commit block's, of epoch 3, and in slot 1
 /// pc, x1, count, cursor, length of the console, break, epoch, floor, the entries (entry 0 of the block table lists block 5,
 /// entry 1 of the page table page 2), and the counts: page 0 has 63, page 7 has 1.
 static WORDS: [(usize, u64); 18] = [

@@ -175,7 +175,7 @@ fn a_loading_is_cut_anywhere_behind_one_that_was_cut(rt: HostRuntime) -> Result<
     Ok(())
 }
 
-/// No loading is over in fewer than 524 cycles, whatever lands between its actions.
+/// No loading is over in fewer than 525 cycles, whatever lands between its actions.
 const LOADED_ANEW: &str = "cut 1 at cycle 350\n\
      reload\n\
      cut 2 at cycle 700\n\

@@ -75,9 +75,9 @@ fn ran(alloc: Global, line: &str) -> Result<Given, AllocError> {
 }
 
 /// Lines with the status, what the terminal takes, and the report. A checkpoint is shown once it is committed. In
-/// the smallest memory that is cycle 734 for the whole program: 698 for the loading, 21 for the eight instructions
+/// the smallest memory that is cycle 738 for the whole program: 700 for the loading, 21 for the eight instructions
 /// (two for each, and one for the first line, one to read, and three to reserve, fill and write the
-/// console's block), the flush of that block, the seal, and ten actions of the checkpoint with three drains
+/// console's block), the flush of that block, a drain, the seal, and eleven actions of the checkpoint with three drains
 /// between them. Two instructions are left after an epoch of six, and are executed while its checkpoint is written.
 static PRINTED: [(&str, u8, &str, &str); 10] = [
     (
@@ -99,26 +99,26 @@ static PRINTED: [(&str, u8, &str, &str); 10] = [
         "commit 0 overlapped 0\nepoch 1 ends at 8 by end\ncommit 1 overlapped 0\nexit 3 at 8\n",
     ),
     (
-        "thynvm run H --pages 8 --btt 8 --ptt 8 --limit 733",
+        "thynvm run H --pages 8 --btt 8 --ptt 8 --limit 737",
         8,
         "",
-        "commit 0 overlapped 0\nepoch 1 ends at 8 by end\nlimit 733\n",
+        "commit 0 overlapped 0\nepoch 1 ends at 8 by end\nlimit 737\n",
     ),
     (
-        "thynvm run H --pages 8 --btt 8 --ptt 8 --limit 734",
+        "thynvm run H --pages 8 --btt 8 --ptt 8 --limit 738",
         0,
         "Hi\n",
         "commit 0 overlapped 0\nepoch 1 ends at 8 by end\ncommit 1 overlapped 0\nexit 3 at 8\n",
     ),
     (
-        "thynvm run H --pages 8 --btt 8 --ptt 8 --epoch 6 --limit 740",
+        "thynvm run H --pages 8 --btt 8 --ptt 8 --epoch 6 --limit 744",
         8,
         "Hi\n",
         "commit 0 overlapped 0\n\
          epoch 1 ends at 6 by length\n\
          commit 1 overlapped 2\n\
          epoch 2 ends at 8 by end\n\
-         limit 740\n",
+         limit 744\n",
     ),
     ("thynvm plain H", 0, "Hi\n", "exit 3 at 8\n"),
     ("thynvm plain H --limit 5", 8, "", "limit 5\n"),
@@ -175,10 +175,10 @@ fn an_input_is_read_also_through_cuts(rt: HostRuntime) -> Result<(), Fail> {
 /// land or lands. Both instructions after the read are executed while that checkpoint is written.
 static READ_AND_CUT: [(&str, &str); 2] = [
     (
-        "thynvm run R --input A --pages 8 --btt 8 --ptt 8 --digest --epoch 4 --cuts 729 --tears 0",
+        "thynvm run R --input A --pages 8 --btt 8 --ptt 8 --digest --epoch 4 --cuts 733 --tears 0",
         "commit 0 overlapped 0\n\
          epoch 1 ends at 4 by length\n\
-         cut 1 at cycle 729\n\
+         cut 1 at cycle 733\n\
          restart 0 at 0\n\
          memory 20d3aa3a6487303d74badebb39b24850e7259a141f087ba621dfb205afc9af6a\n\
          epoch 1 ends at 4 by length\n\
@@ -189,10 +189,10 @@ static READ_AND_CUT: [(&str, &str); 2] = [
          memory f5d1994aecdd1db5eb815e0e77ab69b7b00a1de9be36087d0d3beb9e74c815c6\n",
     ),
     (
-        "thynvm run R --input A --pages 8 --btt 8 --ptt 8 --digest --epoch 4 --cuts 729 --tears 1",
+        "thynvm run R --input A --pages 8 --btt 8 --ptt 8 --digest --epoch 4 --cuts 733 --tears 1",
         "commit 0 overlapped 0\n\
          epoch 1 ends at 4 by length\n\
-         cut 1 at cycle 729\n\
+         cut 1 at cycle 733\n\
          restart 1 at 4\n\
          memory f5d1994aecdd1db5eb815e0e77ab69b7b00a1de9be36087d0d3beb9e74c815c6\n\
          epoch 2 ends at 6 by end\n\

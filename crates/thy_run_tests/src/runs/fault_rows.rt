@@ -17,13 +17,32 @@ const FROM_THE_START: &str =
 
 const FROM_THE_END: &str = "restart 1 at 3\nexit 7 at 3\n";
 
-/// The calls that write the commit blocks of epochs 0 and 1. Each is then the only write that is queued, and the next call
-/// is the barrier that lets it land. Each cycle up to loading's last barrier, in cycle 698, is one call. After it come the
-/// read of the block that has the program, the five blocks of the processor's record and one of each table, with two
-/// drains in between, a barrier, the commit block and its barrier: calls 699 to 711.
-const STARTED: u64 = 697;
+/// A call that writes a commit block. That is then the only write that is queued, and the next call lets it land: a drain or
+/// a barrier.
+#[derive(Clone, Copy)]
+struct Commit {
+    call: u64,
+    is_drained: bool,
+}
 
-const ENDED: u64 = 710;
+/// Each cycle up to loading's last barrier, in cycle 700, is one call: the commit block of epoch 0 is written in cycle 698,
+/// and a drain lets it land. After the barrier come the read of the block that has the program, the five blocks of the
+/// processor's record, one of each table and one of the counts, with three drains in between, a barrier, the commit block of
+/// epoch 1 and its barrier: calls 701 to 715.
+const STARTED: Commit = Commit {
+    call: 698,
+    is_drained: true,
+};
+
+const ENDED: Commit = Commit {
+    call: 714,
+    is_drained: false,
+};
+
+/// Loading's last barrier, and the call after it.
+const LOADED_BY: u64 = 700;
+
+const FIRST_READ: u64 = 701;
 
 /// A fault, and what the last cut does with the queue.
 #[derive(Clone, Copy, Debug, PartialEq, Eq)]
@@ -36,11 +55,13 @@ struct Fault {
 }
 
 impl Fault {
-    /// Whether a commit block written by this call is in the image: it was confirmed by the barrier after it, or it is
-    /// queued and lands. A barrier that fails late lets half of one write land, rounded down: none.
-    fn leaves(self, commit: u64) -> bool {
-        let is_queued = commit < self.call || commit == self.call && self.is_late;
-        commit.saturating_add(1) < self.call || is_queued && self.lands
+    /// Whether a commit block is in the image: the call after its own let it land, or it is queued and lands. A drain that
+    /// fails late lets its write land; a barrier that does lets half of one write land, rounded down: none.
+    fn leaves(self, commit: Commit) -> bool {
+        let next = commit.call.saturating_add(1);
+        let has_landed = next < self.call || next == self.call && self.is_late && commit.is_drained;
+        let is_queued = commit.call < self.call || commit.call == self.call && self.is_late;
+        has_landed || is_queued && self.lands
     }
 
     /// The status and the report of the run that resumes.
@@ -56,9 +77,9 @@ impl Fault {
 
     /// What the run that fails reports before.
     fn told(self) -> &'static str {
-        if self.call <= STARTED + 1 {
+        if self.call <= LOADED_BY {
             ""
-        } else if self.call == STARTED + 2 {
+        } else if self.call == FIRST_READ {
             LOADED
         } else {
             SEALED
@@ -101,7 +122,7 @@ fn fail_and_go_on(
 static ROWS: [(Fault, &str); 8] = [
     (
         Fault {
-            call: 710,
+            call: 714,
             is_late: false,
             lands: false,
         },
@@ -109,7 +130,7 @@ static ROWS: [(Fault, &str); 8] = [
     ),
     (
         Fault {
-            call: 710,
+            call: 714,
             is_late: false,
             lands: true,
         },
@@ -117,7 +138,7 @@ static ROWS: [(Fault, &str); 8] = [
     ),
     (
         Fault {
-            call: 710,
+            call: 714,
             is_late: true,
             lands: false,
         },
@@ -125,31 +146,31 @@ static ROWS: [(Fault, &str); 8] = [
     ),
     (
         Fault {
-            call: 710,
+            call: 714,
             is_late: true,
-            lands: true,
-        },
-        FROM_THE_END,
-    ),
-    (
-        Fault {
-            call: 711,
-            is_late: false,
-            lands: false,
-        },
-        FROM_THE_START,
-    ),
-    (
-        Fault {
-            call: 711,
-            is_late: false,
             lands: true,
         },
         FROM_THE_END,
     ),
     (
         Fault {
-            call: 711,
+            call: 715,
+            is_late: false,
+            lands: false,
+        },
+        FROM_THE_START,
+    ),
+    (
+        Fault {
+            call: 715,
+            is_late: false,
+            lands: true,
+        },
+        FROM_THE_END,
+    ),
+    (
+        Fault {
+            call: 715,
             is_late: true,
             lands: false,
         },
@@ -157,7 +178,7 @@ static ROWS: [(Fault, &str); 8] = [
     ),
     (
         Fault {
-            call: 711,
+            call: 715,
             is_late: true,
             lands: true,
         },
@@ -180,7 +201,7 @@ fn fail_anywhere(
     is_late: bool,
     lands: bool,
 ) -> Result<(), AllocError> {
-    for call in 1..ENDED + 2 {
+    for call in 1..ENDED.call + 2 {
         let fault = Fault {
             call,
             is_late,
@@ -220,7 +241,7 @@ fn any_call_may_fail_late_and_every_write_lands(rt: HostRuntime) -> Result<(), F
 fn a_save_behind_a_fault_may_fail_too(rt: HostRuntime) -> Result<(), Fail> {
     let alloc = rt.alloc();
     let mut shelf = MemShelf::new(files(alloc)?, Vec::from_slice(alloc, &[2])?);
-    let mut nvm = MemNvm::failing(alloc, &[711])?;
+    let mut nvm = MemNvm::failing(alloc, &[715])?;
     let line = "thynvm run F --pages 8 --btt 8 --ptt 8 --save I";
     let given = called_over(alloc, line, &mut shelf, &[], &[], &mut nvm)?;
     let report = format!(in alloc; "{SEALED}put I failed\n")?;

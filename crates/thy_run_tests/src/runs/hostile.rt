@@ -197,6 +197,28 @@ fn a_commit_block_with_a_byte_of_255_is_none(rt: HostRuntime) -> Result<(), Fail
     Ok(())
 }
 
+/// Slot 1 has a record of five blocks, a block of each table and one of counts, which is the image's last, from byte
+/// 68,032 on. Byte p of it is page p's count, up to 63; those past page 7 are zeros.
+#[test]
+fn a_count_that_no_page_has_is_told_by_its_place(rt: HostRuntime) -> Result<(), Fail> {
+    let alloc = rt.alloc();
+    let image = image(&rt, alloc)?;
+    for (place, count, status, report) in [
+        (68_032, 63, 0, "restart 3 at 11\nexit 0 at 11\n"),
+        (68_032, 64, 5, "image 11 Count 0\n"),
+        (68_039, 255, 5, "image 11 Count 7\n"),
+        (68_040, 1, 5, "image 11 Count 8\n"),
+        (68_095, 1, 5, "image 11 Count 63\n"),
+    ] {
+        let mut image = image.clone()?;
+        if let Some(byte) = image.get_mut(place) {
+            *byte = count;
+        }
+        expect_resumed(&rt, alloc, &image, status, report, place)?;
+    }
+    Ok(())
+}
+
 /// Lines that fetch a file that is too long by a byte, under L.
 static TOO_LONG: [&str; 5] = [
     "thynvm run L",

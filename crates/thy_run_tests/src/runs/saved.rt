@@ -48,7 +48,7 @@ fn held(rt: &impl Abort, alloc: Global, shelf: &mut MemShelf, name: &str) -> Vec
 }
 
 /// The offset of the second slot's block table in bytes, and its first entry: block 436.
-const TABLE: usize = 896;
+const TABLE: usize = 67_904;
 
 static ENTRY: [u8; 8] = [0xb5, 0x01, 0, 0, 0, 0, 0, 0];
 

@@ -5,11 +5,11 @@ use std::alloc::{AllocError, Global};
 use std::process::Abort;
 use std::test::Fail;
 
-/// A boot that finds the checkpoint of epoch 0 has nine actions: the reads of the commit block, of the header and of the
-/// slot's seven blocks. A second cut behind its last, in cycle 726, is behind a restart.
+/// A boot that finds the checkpoint of epoch 0 has ten actions: the reads of the commit block, of the header and of the
+/// slot's eight blocks. A second cut after its last, in cycle 731, is after a restart.
 const RESTARTED: u64 = 731;
 
-/// Cuts behind cycle 721, which leaves the checkpoint of epoch 0, and behind this one.
+/// Cuts after cycle 721, which leaves the checkpoint of epoch 0, and after this one.
 fn cut_recovery(rt: &impl Abort, alloc: Global, cycle: u64) -> Result<(), AllocError> {
     let line = format!(in alloc;
         "thynvm run F --pages 8 --btt 8 --ptt 8 --cuts 721,{cycle} --tears 0"
