@@ -1,6 +1,7 @@
 -- What the calls of a scheme promise after the boot.
-use Rattle.std.specs.Prelude.{◌≡◌, ◌⊎◌, ℕ, ◌+◌, ◌<◌, ◌≤◌, true, false, length, Option, Some, None}
+use Rattle.std.specs.Prelude.{◌≡◌, ◌⊎◌, ℕ, ◌+◌, ◌<◌, ◌≤◌, true, false, length, Option, Some, None, Result, OnErr}
 use Rattle.thy_base.specs.declared.mark.Mark.{Mark}
+use Rattle.thy_base.specs.declared.nvm.NvmError.{NvmError}
 use Rattle.thy_base.specs.Device.{Device, IsFramed, HasFailed}
 use Rattle.thy_base.specs.Store.{Holding, HasStored}
 use Rattle.thy_base.specs.declared.store.Stored.{Stored}
@@ -107,6 +108,12 @@ pub record Promotes {S : Type 0} (K : SchemeOf S) (o : Origin) (k : Marks) (s : 
 pub record PromotionFails (n new : Device) : Type 0 where
   pub failed : HasFailed n new
   pub frame : IsFramed n new
+
+-- no block had to be promoted: no action is taken, and scheme and NVM are as before
+pub record TakesNoAction {S T : Type 0} (result : Result T NvmError) (s : S) (n : Device) (t : S) (new : Device) : Type 0 where
+  pub done : OnErr result ⊥
+  pub scheme : t ≡ s
+  pub nvm : new ≡ n
 
 -- one write of the DRAM lands
 pub record Drains {S : Type 0} (K : SchemeOf S) (o : Origin) (k : Marks) (s : S) (n : Device) (t : S) : Type 0 where

@@ -9,7 +9,7 @@ ghost use Rattle.thy_view.specs.Origin.{Origin, Begins};
 ghost use Rattle.thy_view.specs.Views.{loads};
 ghost use Rattle.thy_scheme.specs.Marks.{Marks};
 ghost use Rattle.thy_scheme.specs.Scheme.{SchemeOf, StaysOf, Stands, CanRun, IsBooting, CanBoot};
-ghost use Rattle.thy_scheme.specs.Calls.{IsOneAccess, Stores, Merges, Promotes, PromotionFails, Drains, Seals, Engines, EngineFails};
+ghost use Rattle.thy_scheme.specs.Calls.{IsOneAccess, Stores, Merges, Promotes, PromotionFails, TakesNoAction, Drains, Seals, Engines, EngineFails};
 ghost use Rattle.thy_scheme.specs.Boots.{BootsOn, BootFails, BootDrains};
 ghost use Rattle.thy_scheme.specs.Laws.{IsLawful};
 
@@ -105,18 +105,22 @@ pub trait Scheme: Drop {
         ensures running { (o : Origin) (k : Marks) (n : Device) → Stands scheme o k self.old n → Drains scheme o k self.old n self.new }
         ensures booting { (o : Origin) (n : Device) → IsBooting scheme o self.old n → BootDrains scheme o self.old n self.new };
 
-    /// Merges a block into its page. Only before a seal, with no checkpoint under way.
+    /// Merges a block into its page. Only before a seal, with no checkpoint under way. If no block has to be merged,
+    /// nothing changes.
     fn merge_one(&mut self)
-        requires overlaid { scheme.overlaid self.old ≡ true }
         requires idle { scheme.under_way self.old ≡ false }
-        ensures { (o : Origin) (k : Marks) (n : Device) → Stands scheme o k self.old n → Merges scheme o k self.old n self.new };
+        ensures some { scheme.overlaid self.old ≡ true
+            → (o : Origin) (k : Marks) (n : Device) → Stands scheme o k self.old n → Merges scheme o k self.old n self.new }
+        ensures none { scheme.overlaid self.old ≡ false → self.new ≡ self.old };
 
-    /// Promotes a block of a page.
+    /// Promotes a block of a page. If no block has to be promoted, it takes no action.
     fn promote_one<N: Nvm>(&mut self, nvm: &mut N) -> Result<(), NvmError>
-        requires promoting { scheme.promoting self.old ≡ true }
         requires stands { CanRun scheme self.old (N.device nvm.old) }
-        ensures ok { (o : Origin) (k : Marks) → Stands scheme o k self.old (N.device nvm.old)
+        ensures ok { scheme.promoting self.old ≡ true
+            → (o : Origin) (k : Marks) → Stands scheme o k self.old (N.device nvm.old)
             → OnOk result (Promotes scheme o k self.old (N.device nvm.old) self.new (N.device nvm.new)) }
+        ensures none { scheme.promoting self.old ≡ false
+            → TakesNoAction result self.old (N.device nvm.old) self.new (N.device nvm.new) }
         ensures err { OnErr result (PromotionFails (N.device nvm.old) (N.device nvm.new)) }
         ensures left { OnErr result (StaysOf scheme self.old self.new) }
         ensures frame { IsFramed (N.device nvm.old) (N.device nvm.new) }

@@ -3,10 +3,12 @@ use Rattle.thy_core.proofs.CycleLaws.{stands_run, merge_cycle}
 use Rattle.thy_core.proofs.sealing.merge.Goals as goal
 use Rattle.thy_core_model.proofs.SealingLaws.{over_at}
 
-pub merge_one-requires-clause-idle : goal.merge_one-requires-clause-idle
-merge_one-requires-clause-idle g c =
+pub merge_one-requires : goal.merge_one-requires
+merge_one-requires g c =
     let turn = c.requires.turn in
-    (over_at g.S.Scheme.scheme turn.o (machine_of c.args.m.now) (g.N.Nvm.device c.args.nvm.now) turn.turn c.requires.whole).idle
+    record {
+      idle = (over_at g.S.Scheme.scheme turn.o (machine_of c.args.m.now) (g.N.Nvm.device c.args.nvm.now) turn.turn c.requires.whole).idle;
+    }
 
 pub returns : goal.returns
 returns g c = λ o cycles _ at sealing.
@@ -14,4 +16,4 @@ returns g c = λ o cycles _ at sealing.
     let m = machine_of c.args.m.now in
     let n = g.N.Nvm.device c.args.nvm.now in
     merge_cycle K o cycles m n at c.merge_one.new.self sealing c.requires.whole c.requires.clean c.requires.overlaid
-    (c.merge_one.ensures o m.marks n (stands_run K o cycles m n at.sound sealing.phase))
+    (c.merge_one.ensures.some c.requires.overlaid o m.marks n (stands_run K o cycles m n at.sound sealing.phase))

@@ -16,4 +16,4 @@ returns-clause-leads g c = λ o cycles _ at sealing.
     let m = machine_of c.args.m.now in
     let n = g.N.Nvm.device c.args.nvm.now in
     promotion_cycle K o cycles m n at c.promote_one.new.self (g.N.Nvm.device c.promote_one.new.nvm) sealing c.requires.promoting
-    (c.in_ok-promote_one.ensures.ok o m.marks (stands_run K o cycles m n at.sound sealing.phase))
+    (c.in_ok-promote_one.ensures.ok c.requires.promoting o m.marks (stands_run K o cycles m n at.sound sealing.phase))

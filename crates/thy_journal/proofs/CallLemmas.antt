@@ -1,0 +1,182 @@
+-- What the calls make of the journal, put together from what its parts say.
+use Rattle.std.proofs.Common.{◌≡◌, ℕ, ◌<◌, ◌≤◌, Bool, true, false, if◌then◌else◌, List, suc, [], ◌∷◌, length, Option, Some, None, Result, Ok, Err, IfOk, OnOk, OnErr, refl, sym, ◌∙◌, ap, subst, inl, inr, arith}
+use Rattle.std.proofs.lemmas.List.FromFn.{length-map-range_with_len, get_or-map-range_with_len}
+use Rattle.thy_base.specs.declared.block.Block.{Block}
+use Rattle.thy_base.specs.declared.config.Parameters.{Parameters}
+use Rattle.thy_base.specs.declared.nvm.NvmError.{NvmError}
+use Rattle.thy_base.specs.Device.{Device, HasFailed, IsFramed, block_at, zero_block}
+use Rattle.thy_base.specs.Geometry.{memory_blocks}
+use Rattle.thy_base.specs.Places.{dram_blocks}
+use Rattle.thy_dram.specs.Contents.{Contents, lost}
+use Rattle.thy_dram.specs.Draws.{blocks_over, after_block}
+use Rattle.thy_isa.specs.Step.{state_of}
+use Rattle.thy_record.specs.declared.engine_step.EngineStep.{EngineStep}
+use Rattle.thy_record.specs.declared.start.Start.{Start}
+use Rattle.thy_view.specs.Action.{after, FailsTo}
+use Rattle.thy_view.specs.Kind.{IsDramOf}
+use Rattle.thy_view.specs.Origin.{Origin}
+use Rattle.thy_boot.specs.declared.stage.BootStep.{BootStep}
+use Rattle.thy_boot.specs.declared.stage.Stage.{Stage}
+use Rattle.thy_boot.specs.declared.stage.Stage.TheVariants.{Reads, Loads, Over}
+use Rattle.thy_boot.specs.declared.stage.End.TheVariants.{Restored, Loaded}
+use Rattle.thy_boot.specs.Boot.{Booting, answer_of}
+use Rattle.thy_boot.specs.Steps.{Steps, TakesStep}
+use Rattle.thy_boot.proofs.StepMoveLemmas.{steps_move}
+use Rattle.thy_scheme.specs.declared.boot_step.BootStep.{BootStep as SchemeStep}
+use Rattle.thy_scheme.specs.Scheme.{CanRun, IsBooting}
+use Rattle.thy_journal_image.specs.Places.{image_blocks}
+use Rattle.thy_log.specs.Holding.{works, homes}
+use Rattle.thy_log.specs.Items.{is_applying}
+use Rattle.thy_log.specs.Progress.{Progress, Fits, action_next, engine_next, state_next, item_of, state_after}
+use Rattle.thy_log.specs.State.{State, IsSoundState, entry_for, home_of, work_of}
+use Rattle.thy_refill.specs.Filling.{filling_journal}
+use Rattle.thy_refill.proofs.LawLemmas.{log_is_filled}
+use Rattle.thy_journal_model.specs.Journal.{Journal as Value, IsOf, committed_in}
+use Rattle.thy_journal_model.specs.Stays.{StaysJournal}
+use Rattle.thy_journal_model.specs.Taken.{taken, device_taken, step_of}
+use Rattle.thy_journal_model.proofs.AfterLemmas.{p_after}
+use Rattle.thy_journal_scheme.specs.Boots.{booted, engine_at, step_of as answered, result_of}
+use Rattle.thy_journal_scheme.specs.Scheme.{journal_scheme}
+use Rattle.thy_journal_scheme.proofs.StayLemmas.{same-stays}
+use Rattle.thy_journal.specs.Calls.{LoadsCommitted, TakesItem, TakesBootStep}
+
+-- ---- a load
+
+pub ok_same : (r : Result Block NvmError) (a b : Block) → IfOk r (λ x. x ≡ a) → a ≡ b → IfOk r (λ x. x ≡ b)
+ok_same (Ok x) a b h e = h ∙ e
+ok_same (Err x) a b h e = tt
+
+-- one that failed is kept by what stays too
+pub load_stays : (s : Value) (n new : Device) (r : Result Block NvmError) → OnOk r (new ≡ n) → OnErr r (HasFailed n new) → IsFramed n new
+    → StaysJournal s n s new
+load_stays s n new (Ok block) same failed framed = subst (λ (x : Device). StaysJournal s n s x) (sym same) (same-stays s n)
+load_stays s n new (Err e) same failed framed = record {
+  same_p = refl;
+  engine = refl;
+  lean = refl;
+  boot = refl;
+  room = refl;
+  sound = λ h. h;
+  rests = λ r. record { before = r; table = refl };
+  as_long = framed.blocks;
+  no_more = failed.no_more;
+  down = λ was. failed.down;
+  same = λ up. let both : true ≡ false = sym failed.down ∙ up in absurd cc;
+}
+
+-- ---- the committed version
+
+-- it is a load while the journal is applied, else the block at home
+pub committed_long : (e : Progress) (l : State) (n : Device) (b : ℕ) → b < length (committed_in e l n) → b < memory_blocks l.p
+committed_long e l n b inside = by_way (is_applying e.next) inside where
+  by_way : (way : Bool) → b < length (if way then works l n else homes l n) → b < memory_blocks l.p
+  by_way true low = omega (arith, low, length-map-range_with_len (work_of l n) 0 (memory_blocks l.p))
+  by_way false low = omega (arith, low, length-map-range_with_len (home_of l n) 0 (memory_blocks l.p))
+
+pub committed_work : (e : Progress) (l : State) (n : Device) (b : ℕ) → is_applying e.next ≡ true → b < memory_blocks l.p
+    → block_at (committed_in e l n) b ≡ work_of l n b
+committed_work e l n b way low =
+    ap (λ (x : Bool). block_at (if x then works l n else homes l n) b) way
+    ∙ get_or-map-range_with_len (work_of l n) 0 (memory_blocks l.p) b b zero_block low (omega arith)
+
+pub committed_home : (e : Progress) (l : State) (n : Device) (b : ℕ) → is_applying e.next ≡ false → b < memory_blocks l.p
+    → block_at (committed_in e l n) b ≡ home_of l n b
+committed_home e l n b way low =
+    ap (λ (x : Bool). block_at (if x then works l n else homes l n) b) way
+    ∙ get_or-map-range_with_len (home_of l n) 0 (memory_blocks l.p) b b zero_block low (omega arith)
+
+pub loads_work : (s : Value) (n : Device) (b : ℕ) (r : Result Block NvmError) → is_applying s.engine.next ≡ true → IfOk r (λ x. x ≡ work_of s.log n b)
+    → OnErr r (entry_for s.log b ≡ None) → LoadsCommitted b s n r
+loads_work s n b (Ok x) way h side = record {
+  block = h ∙ sym (ap (λ (t : Bool). if t then work_of s.log n b else home_of s.log n b) way);
+  side = tt;
+}
+loads_work s n b (Err x) way h side = record { block = tt; side = inr side }
+
+pub loads_home : (s : Value) (n : Device) (b : ℕ) (r : Result Block NvmError) → is_applying s.engine.next ≡ false → IfOk r (λ x. x ≡ home_of s.log n b)
+    → LoadsCommitted b s n r
+loads_home s n b (Ok x) way h = record {
+  block = h ∙ sym (ap (λ (t : Bool). if t then work_of s.log n b else home_of s.log n b) way);
+  side = tt;
+}
+loads_home s n b (Err x) way h = record { block = tt; side = inl way }
+
+-- ---- a step of the engine
+
+pub takes_item : (s : Value) (n : Device) (r : Result EngineStep NvmError) (t : State) (f : Progress) (new : Device)
+    → IfOk r (λ step. step ≡ step_of s) → OnOk r (f ≡ engine_next s.engine s.log) → OnOk r (t ≡ state_next s.engine s.log)
+    → OnOk r (new ≡ after (action_next s.engine s.log) n) → OnErr r (f ≡ s.engine) → OnErr r (t ≡ s.log)
+    → OnErr r (FailsTo (action_next s.engine s.log) n new) → TakesItem s n r (record s { log = t; engine = f }) new
+takes_item s n (Ok step) t f new answer engine log device kept kept_log err = record {
+  answer = answer;
+  journal = ap (λ (x : State). record s { log = x; engine = f }) log ∙ ap (λ (x : Progress). record s { log = state_next s.engine s.log; engine = x }) engine;
+  nvm = device;
+  kept = tt;
+  err = tt;
+}
+takes_item s n (Err e) t f new answer engine log device kept kept_log err = record {
+  answer = tt;
+  journal = tt;
+  nvm = tt;
+  kept = ap (λ (x : State). record s { log = x; engine = f }) kept_log ∙ ap (λ (x : Progress). record s { engine = x }) kept;
+  err = err;
+}
+
+pub fits_by : (e : Progress) (s : State) (f : Progress) (t : State) (r : Result EngineStep NvmError) → OnOk r (f ≡ engine_next e s)
+    → OnOk r (t ≡ state_next e s) → OnErr r (f ≡ e) → OnErr r (t ≡ s) → Fits e s → Fits f t
+fits_by e s f t (Ok step) engine log kept kept_log fits = record {
+  same_p = ap (λ (x : State). x.p) log ∙ p_after (item_of e s) s ∙ fits.same_p ∙ sym (ap (λ (x : Progress). x.p) engine);
+}
+fits_by e s f t (Err x) engine log kept kept_log fits = record {
+  same_p = ap (λ (x : State). x.p) kept_log ∙ fits.same_p ∙ sym (ap (λ (x : Progress). x.p) kept);
+}
+
+-- ---- a step of the boot
+
+pub p_engine_at : (q : Stage) (e : Progress) → (engine_at q e).p ≡ e.p
+p_engine_at (Reads r) e = refl
+p_engine_at (Loads issue) e = refl
+p_engine_at (Over Restored) e = refl
+p_engine_at (Over Loaded) e = refl
+
+pub boot_fits : (o : Origin) (s : Value) (n : Device) → IsBooting journal_scheme o s n → (new : Device) (d : Booting) (t : State) (f : Progress)
+    → f ≡ engine_at d.stage s.engine → (r : Result BootStep NvmError) → TakesStep filling_journal r o.start n s.boot s.log new d t
+    → Fits s.engine s.log → Fits f t
+boot_fits o s n booting new d t f is (Ok a) took fits =
+    let boots = booting.boots in
+    let moved = steps_move filling_journal log_is_filled o boots.images n s.boot s.log new d t boots.origin boots.sound took.steps in
+    record {
+      same_p = moved.sound.same_p ∙ sym boots.unused.engine ∙ sym (p_engine_at d.stage s.engine) ∙ sym (ap (λ (x : Progress). x.p) is);
+    }
+boot_fits o s n booting new d t f is (Err x) took fits = record {
+  same_p = ap (λ (l : State). l.p) took.control ∙ fits.same_p ∙ sym (p_engine_at d.stage s.engine) ∙ sym (ap (λ (x : Progress). x.p) is);
+}
+
+pub takes_boot_step : (start : Start) (s : Value) (n : Device) (r : Result BootStep NvmError) (t : State) (d : Booting) (f : Progress) (new : Device)
+    → f ≡ engine_at d.stage s.engine → IfOk r (λ a. a ≡ answer_of filling_journal d)
+    → TakesStep filling_journal r (state_of start.state) n s.boot s.log new d t
+    → TakesBootStep start s n (result_of r) (record s { log = t; engine = f; boot = d }) new
+takes_boot_step start s n (Ok a) t d f new is answer took = record {
+  answer = ap answered answer;
+  steps = record { steps = took.steps; fits = took.fits; boot = tt; control = tt; err = tt; frame = took.frame; cause = took.cause };
+  others = ap (λ (x : Progress). record s { log = t; engine = x; boot = d }) is;
+}
+takes_boot_step start s n (Err x) t d f new is answer took = record {
+  answer = tt;
+  steps = record { steps = tt; fits = took.fits; boot = took.boot; control = took.control; err = took.err; frame = took.frame; cause = took.cause };
+  others = ap (λ (x : Progress). record s { log = t; engine = x; boot = d }) is;
+}
+
+-- ---- a loss of power
+
+length-over : (seed : ℕ) (xs : List Block) → length (blocks_over seed xs) ≡ length xs
+length-over seed [] = refl
+length-over seed (x ∷ xs) = ap suc (length-over (after_block seed) xs)
+
+-- what is left of a DRAM of its size is one with nothing queued
+pub IsDramOf-lost : (p : Parameters) (l : State) (pick : ℕ) (d : Contents) → IsSoundState l → l.p ≡ p → l.dram.room ≡ p.dramq → d ≡ lost l.dram pick → IsDramOf p d
+IsDramOf-lost p l pick d sound same room is = subst (λ (x : Contents). IsDramOf p x) (sym is) (record {
+  blocks = length-over pick l.dram.blocks ∙ sound.dram_size ∙ ap dram_blocks same;
+  room = room;
+  empty = refl;
+})

@@ -1,0 +1,334 @@
+//! The scheme.
+ghost use Rattle.std.specs.Prelude.{◌≡◌, ◌&&◌, ◌<◌, true, false, if◌then◌else◌, length, IfOk, OnOk, OnErr};
+ghost use Rattle.thy_base.specs.declared.config.Parameters.{Parameters};
+ghost use Rattle.thy_base.specs.Device.{Device, HasFailed, IsFramed, CountsFault, block_at};
+ghost use Rattle.thy_base.specs.Store.{IsKeptByLoad};
+ghost use Rattle.thy_dram.specs.Contents.{lost};
+ghost use Rattle.thy_table.specs.Listing.{free_count};
+ghost use Rattle.thy_view.specs.Kind.{IsDramOf};
+ghost use Rattle.thy_view.specs.Origin.{Origin, Begins};
+ghost use Rattle.thy_view.specs.Views.{loads};
+ghost use Rattle.thy_scheme.specs.Marks.{Marks};
+ghost use Rattle.thy_scheme.specs.Scheme.{StaysOf, Stands, CanRun, IsBooting, CanBoot};
+ghost use Rattle.thy_scheme.specs.Calls.{IsOneAccess, Stores, Merges, Promotes, PromotionFails, TakesNoAction, Drains, Seals, Engines, EngineFails};
+ghost use Rattle.thy_scheme.specs.Boots.{BootsOn, BootFails, BootDrains};
+ghost use Rattle.thy_journal_image.specs.Places.{image_blocks};
+ghost use Rattle.thy_log.specs.Holding.{holding_of};
+ghost use Rattle.thy_log.specs.Items.{is_under_way, is_applying};
+ghost use Rattle.thy_journal_model.specs.Journal.{IsOf, committed_in};
+ghost use Rattle.thy_journal_model.specs.Stays.{StaysJournal};
+ghost use Rattle.thy_journal_model.specs.Taken.{sealed};
+ghost use Rattle.thy_journal_scheme.specs.Boots.{Boots, IsPowered, engine_at, has_read_at, loads_at, step_of, result_of, view_at};
+ghost use Rattle.thy_journal_scheme.specs.Scheme.{journal_scheme};
+ghost use Rattle.thy_journal.specs.Calls.{IsNew, LoadsWork, LoadsCommitted, StoresByRule, drained, TakesItem, TakesBootStep};
+
+use crate::fills::Refill;
+use std::alloc::{AllocError, Global};
+use std::marker::Model;
+use thy_base::{Block, Geometry, Nvm, NvmError, Stored};
+use thy_boot::{Boot, BootStep as Booted, End, Stage};
+use thy_dram::Dram;
+use thy_isa::CpuState;
+use thy_journal_image::blocks;
+use thy_journal_scheme::{calls_keep_the_run, what_is_held_stays};
+use thy_log::{Engine, Log};
+use thy_record::{EngineStep, Start};
+use thy_scheme::{BootStep, Scheme};
+
+/// The redo journal: its log holds what was stored since the last checkpoint, and its engine writes that into the NVM
+/// while the hart waits.
+#[derive(Drop)]
+pub struct Journal {
+    log: Log,
+    engine: Engine,
+    /// No block was stored since the last seal. Contracts speak of it; no code reads it but to set `lean`.
+    rested: bool,
+    /// No block was stored in the epoch that was sealed last. Contracts speak of it; no code reads it.
+    lean: bool,
+    boot: Boot,
+}
+
+impl Model for Journal {
+    ghost use Rattle.thy_log.specs.Progress.{Fits};
+    ghost use Rattle.thy_journal_model.specs.Journal.{Journal as Contents};
+
+    ghost Value = { Contents };
+
+    ghost view = { λ d. record { log = d.log; engine = d.engine; rested = d.rested; lean = d.lean; boot = d.boot } };
+
+    ghost invariant = { λ d. Fits d.engine d.log };
+}
+
+/// Whether a boot at this stage has found that there is no checkpoint.
+fn is_loading(stage: Stage) -> bool
+    ensures { result ≡ loads_at stage }
+{
+    match stage {
+        Stage::Loads(_) => true,
+        Stage::Reads(_) | Stage::Over(_) => false,
+    }
+}
+
+/// With a checkpoint restored, the engine begins to apply its journal.
+fn begin_to_apply(stage: Stage, engine: &mut Engine)
+    ensures { engine.new ≡ engine_at stage engine.old }
+{
+    match stage {
+        Stage::Over(End::Restored) => engine.apply(),
+        Stage::Over(End::Loaded) | Stage::Reads(_) | Stage::Loads(_) => {}
+    }
+}
+
+/// What a step of the boot returns, as a scheme returns it.
+fn scheme_step(step: Booted) -> BootStep
+    ensures { result ≡ step_of step }
+{
+    match step {
+        Booted::Reading | Booted::Loading => BootStep::GoesOn,
+        Booted::Loaded => BootStep::Loaded,
+        Booted::Restarted(cpu, epoch) => BootStep::Restarted(cpu, epoch),
+        Booted::Refused(bad) => BootStep::Refused(bad),
+    }
+}
+
+/// The same if the NVM may have failed.
+fn scheme_result(answer: Result<Booted, NvmError>) -> Result<BootStep, NvmError>
+    ensures { result ≡ result_of answer }
+{
+    match answer {
+        Ok(step) => Ok(scheme_step(step)),
+        Err(error) => Err(error),
+    }
+}
+
+// Each call has the trait's clauses, of this scheme. Beside them, those named `made` and `state` say what the call makes
+// of log, engine, boot and NVM, which is what the calls below do (specs/Calls.antt).
+impl Scheme for Journal {
+    ghost use Rattle.thy_journal_scheme.proofs.LawfulLemmas.{lawful as laws_of_parts};
+
+    ghost scheme = { journal_scheme };
+
+    fn nvm_blocks(geometry: &Geometry) -> u64
+        ensures { result ≡ image_blocks geometry.now }
+    {
+        blocks(geometry)
+    }
+
+    fn new(alloc: Global, geometry: &Geometry, dram: Dram) -> Result<Journal, AllocError>
+        requires { IsDramOf geometry.now dram }
+        ensures made { IfOk result (λ s. IsNew geometry.now dram s) }
+        ensures powered { IfOk result (λ s. IsPowered geometry.now s) }
+        ensures dram { IfOk result (λ s. s.log.dram ≡ dram) }
+    {
+        let boot = Boot::new::<Refill>(alloc, geometry)?;
+        let engine = Engine::new(geometry);
+        engine.sound();
+        let log = Log::new(alloc, geometry, dram)?;
+        log.sound();
+        Ok(Journal {
+            log,
+            engine,
+            rested: true,
+            lean: false,
+            boot,
+        })
+    }
+
+    fn load<N: Nvm>(&self, b: u64, nvm: &mut N) -> Result<Block, NvmError>
+        requires { b < length (holding_of self.now.log (N.device nvm.old)).blocks }
+        ensures made { LoadsWork b self.now (N.device nvm.old) result }
+        ensures ok { let held = (holding_of self.now.log (N.device nvm.old)).blocks in
+            IfOk result (λ block. block ≡ block_at held b) }
+        ensures same { OnOk result (N.device nvm.new ≡ N.device nvm.old) }
+        ensures err { OnErr result (HasFailed (N.device nvm.old) (N.device nvm.new)) }
+        ensures kept { let holding = holding_of self.now.log in
+            IsKeptByLoad (holding (N.device nvm.old)) (holding (N.device nvm.new)) }
+        ensures stays { StaysJournal self.now (N.device nvm.old) self.now (N.device nvm.new) }
+        ensures frame { IsFramed (N.device nvm.old) (N.device nvm.new) }
+        ensures cause { CountsFault result (N.device nvm.old).faults (N.device nvm.new).faults }
+    {
+        what_is_held_stays();
+        self.log.load(b, nvm)
+    }
+
+    fn store<N: Nvm>(&mut self, b: u64, block: &Block, nvm: &mut N) -> Result<Stored, NvmError>
+        requires inside { b < length (holding_of self.old.log (N.device nvm.old)).blocks }
+        requires ready { (holding_of self.old.log (N.device nvm.old)).ready ≡ true }
+        requires room { 0 < (holding_of self.old.log (N.device nvm.old)).free }
+        ensures made { StoresByRule b block.now self.old (N.device nvm.old) result self.new (N.device nvm.new) }
+        ensures ok { let n = N.device nvm.old in let new = N.device nvm.new in
+            IfOk result (λ stored. Stores journal_scheme stored b block.now self.old n self.new new) }
+        ensures up { OnOk result ((N.device nvm.new).down ≡ false) }
+        ensures err { OnErr result ((N.device nvm.new).down ≡ true) }
+        ensures once { let n = N.device nvm.old in let new = N.device nvm.new in
+            IsOneAccess journal_scheme self.old n self.new new }
+        ensures cause { CountsFault result (N.device nvm.old).faults (N.device nvm.new).faults }
+    {
+        let _left_alone = &*nvm;
+        what_is_held_stays();
+        self.log.sound();
+        self.rested = false;
+        self.log.store(b, block);
+        Ok(Stored::Done)
+    }
+
+    fn committed<N: Nvm>(&self, b: u64, nvm: &mut N) -> Result<Block, NvmError>
+        requires block { b < length (committed_in self.now.engine self.now.log (N.device nvm.old)) }
+        requires stands { CanRun journal_scheme self.now (N.device nvm.old) }
+        ensures made { LoadsCommitted b self.now (N.device nvm.old) result }
+        ensures ok { let held = committed_in self.now.engine self.now.log (N.device nvm.old) in
+            IfOk result (λ block. block ≡ block_at held b) }
+        ensures same { OnOk result (N.device nvm.new ≡ N.device nvm.old) }
+        ensures err { OnErr result (HasFailed (N.device nvm.old) (N.device nvm.new)) }
+        ensures frame { IsFramed (N.device nvm.old) (N.device nvm.new) }
+        ensures cause { CountsFault result (N.device nvm.old).faults (N.device nvm.new).faults }
+    {
+        if self.engine.applies() {
+            self.log.load(b, nvm)
+        } else {
+            self.log.home(b, nvm)
+        }
+    }
+
+    fn free(&self) -> u64
+        ensures { result ≡ free_count self.now.log.table }
+    {
+        self.log.free()
+    }
+
+    fn overlay(&self) -> bool
+        ensures { result ≡ false }
+    {
+        false
+    }
+
+    fn promoting(&self) -> bool
+        ensures { result ≡ false }
+    {
+        false
+    }
+
+    fn under_way(&self) -> bool
+        ensures { result ≡ is_under_way self.now.engine.next }
+    {
+        self.engine.under_way()
+    }
+
+    fn overlaps() -> bool
+        ensures { result ≡ false }
+    {
+        false
+    }
+
+    fn queued(&self) -> u64
+        ensures { result ≡ self.now.log.dram.queued }
+    {
+        self.log.queued()
+    }
+
+    fn drain(&mut self)
+        requires { 0 < self.old.log.dram.queued }
+        ensures state { self.new ≡ drained self.old }
+        ensures running { (o : Origin) (k : Marks) (n : Device) → Stands journal_scheme o k self.old n
+            → Drains journal_scheme o k self.old n self.new }
+        ensures booting { (o : Origin) (n : Device) → IsBooting journal_scheme o self.old n
+            → BootDrains journal_scheme o self.old n self.new }
+    {
+        self.log.drain();
+    }
+
+    // No block has ever to be merged or promoted.
+    fn merge_one(&mut self)
+        requires idle { is_under_way self.old.engine.next ≡ false }
+        ensures some { false ≡ true → (o : Origin) (k : Marks) (n : Device) → Stands journal_scheme o k self.old n
+            → Merges journal_scheme o k self.old n self.new }
+        ensures none { false ≡ false → self.new ≡ self.old }
+    {}
+
+    fn promote_one<N: Nvm>(&mut self, nvm: &mut N) -> Result<(), NvmError>
+        requires stands { CanRun journal_scheme self.old (N.device nvm.old) }
+        ensures ok { let n = N.device nvm.old in let new = N.device nvm.new in
+            false ≡ true → (o : Origin) (k : Marks) → Stands journal_scheme o k self.old n
+            → OnOk result (Promotes journal_scheme o k self.old n self.new new) }
+        ensures none { false ≡ false → TakesNoAction result self.old (N.device nvm.old) self.new (N.device nvm.new) }
+        ensures err { OnErr result (PromotionFails (N.device nvm.old) (N.device nvm.new)) }
+        ensures left { OnErr result (StaysOf journal_scheme self.old self.new) }
+        ensures frame { IsFramed (N.device nvm.old) (N.device nvm.new) }
+        ensures cause { CountsFault result (N.device nvm.old).faults (N.device nvm.new).faults }
+    {
+        let _left_alone = &*nvm;
+        Ok(())
+    }
+
+    fn seal(&mut self, cpu: &CpuState, epoch: u64)
+        requires idle { is_under_way self.old.engine.next ≡ false }
+        requires whole { false ≡ false }
+        requires bare { false ≡ false }
+        requires regs { length cpu.now.regs ≡ 32 }
+        ensures state { self.new ≡ sealed cpu.now epoch self.old }
+        ensures seals { (o : Origin) (k : Marks) (n : Device) → Stands journal_scheme o k self.old n
+            → Seals journal_scheme o k cpu.now epoch self.old n self.new }
+    {
+        calls_keep_the_run();
+        self.lean = self.rested;
+        self.rested = true;
+        self.engine.begin(cpu, epoch);
+    }
+
+    fn engine_step<N: Nvm>(&mut self, nvm: &mut N) -> Result<EngineStep, NvmError>
+        requires way { is_under_way self.old.engine.next ≡ true }
+        requires stands { CanRun journal_scheme self.old (N.device nvm.old) }
+        ensures made { TakesItem self.old (N.device nvm.old) result self.new (N.device nvm.new) }
+        ensures ok { let n = N.device nvm.old in let new = N.device nvm.new in
+            (o : Origin) (k : Marks) → Stands journal_scheme o k self.old n
+            → IfOk result (λ step. Engines journal_scheme o k step self.old n self.new new) }
+        ensures err { let n = N.device nvm.old in let new = N.device nvm.new in
+            (o : Origin) (k : Marks) → Stands journal_scheme o k self.old n
+            → OnErr result (EngineFails journal_scheme o k n new) }
+        ensures left { OnErr result (StaysOf journal_scheme self.old self.new) }
+        ensures frame { IsFramed (N.device nvm.old) (N.device nvm.new) }
+        ensures cause { CountsFault result (N.device nvm.old).faults (N.device nvm.new).faults }
+    {
+        calls_keep_the_run();
+        self.engine.step(&mut self.log, nvm)
+    }
+
+    fn boot_step<N: Nvm>(&mut self, start: &Start, nvm: &mut N) -> Result<BootStep, NvmError>
+        requires boots { CanBoot journal_scheme start.now self.old (N.device nvm.old) }
+        ensures made { let n = N.device nvm.old in let new = N.device nvm.new in
+            TakesBootStep start.now self.old n result self.new new }
+        ensures ok { let n = N.device nvm.old in let new = N.device nvm.new in
+            (o : Origin) → Begins o start.now → IsBooting journal_scheme o self.old n
+            → IfOk result (λ step. BootsOn journal_scheme o step self.old n self.new new) }
+        ensures err { let n = N.device nvm.old in let new = N.device nvm.new in
+            (o : Origin) → Begins o start.now → IsBooting journal_scheme o self.old n
+            → OnErr result (BootFails journal_scheme o self.old n new) }
+        ensures left { OnErr result (StaysOf journal_scheme self.old self.new) }
+        ensures frame { IsFramed (N.device nvm.old) (N.device nvm.new) }
+        ensures cause { CountsFault result (N.device nvm.old).faults (N.device nvm.new).faults }
+    {
+        let result = self.boot.step::<Refill, N>(&mut self.log, start, nvm);
+        self.log.sound();
+        let stage = self.boot.stage();
+        begin_to_apply(stage, &mut self.engine);
+        scheme_result(result)
+    }
+
+    fn loading(&self) -> bool
+        ensures stage { result ≡ loads_at self.now.boot.stage }
+        ensures found { let stage = self.now.boot.stage in
+            (o : Origin) (n : Device) → Boots o self.now n
+            → result ≡ (has_read_at stage && loads (view_at o stage n)) }
+    {
+        is_loading(self.boot.stage())
+    }
+
+    fn cut(self, pick: u64) -> Dram
+        ensures drawn { result ≡ lost self.log.dram pick }
+        ensures sized { (p : Parameters) → IsOf p self → IsDramOf p result }
+    {
+        self.log.cut(pick)
+    }
+
+    ghost lawful = { laws_of_parts };
+}
