@@ -1,9 +1,10 @@
--- A run can begin with the checkpoint in the bytes of a saved image.
+-- A run can begin with the checkpoint in the bytes of a saved image, and machines read the files of their scheme.
 use Rattle.std.proofs.Common.{◌≡◌, ℕ, ◌+◌, ◌*◌, ◌/◌, ◌^◌, ◌<◌, ◌≤◌, List, [], ◌∷◌, ◌++◌, length, take, Option, Some, refl, sym, ◌∙◌, ap, subst, arith}
 use Rattle.std.specs.List.{All}
 use Rattle.std.proofs.lemmas.List.{take_all, take_more}
 use Rattle.thy_base.specs.declared.block.Block.{Block}
 use Rattle.thy_base.specs.declared.config.Parameters.{Parameters}
+use Rattle.thy_base.specs.declared.config.SchemeName.{SchemeName}
 use Rattle.thy_base.specs.declared.mark.Mark.{Mark}
 use Rattle.thy_base.specs.Device.{zero_block}
 use Rattle.thy_base.specs.Geometry.{IsInRange}
@@ -12,9 +13,11 @@ use Rattle.thy_isa.specs.Storable.{IsByte, IsReadable}
 use Rattle.thy_record.specs.Decoded.{At}
 use Rattle.thy_record.specs.Files.{block_in, blocks_of}
 use Rattle.thy_record.proofs.FileLemmas.{length-blocks_of, block_at-blocks_of}
-use Rattle.thy_image.specs.Meaning.{decode_bytes}
+use Rattle.thy_image.specs.Meaning.{decode_by_scheme, blocks_by_scheme, decode_bytes}
 use Rattle.thy_image.proofs.LawLemmas.{file_begins}
+use Rattle.thy_view.specs.Kind.{KindOf}
 use Rattle.thy_view.specs.Origin.{Origin, IsOrigin, StartsFrom, setting_of}
+use Rattle.thy_cli.specs.Restoring.{ReadsFiles}
 
 -- ---- the blocks of bytes
 
@@ -45,3 +48,14 @@ IsOrigin-restored o bytes epoch range are_bytes readable saved kept =
       readable = readable;
       starts = subst (λ (kept : Option Mark). StartsFrom kept o.start) (sym kept) (refl, begins.below);
     }
+
+-- ---- the files of a scheme
+
+-- machines whose images mean what those of a scheme do read its files
+pub reads_by : {M : Type 0} (K : KindOf M) (scheme : SchemeName)
+    → ((p : Parameters) (ceiling : ℕ) (image : List Block) → K.decode p ceiling image ≡ decode_by_scheme scheme p ceiling image)
+    → ((p : Parameters) → K.blocks p ≡ blocks_by_scheme scheme p) → (p : Parameters) → p.scheme ≡ scheme → ReadsFiles K p
+reads_by K scheme decodes many p is = record {
+  decode = λ ceiling image. decodes p ceiling image ∙ ap (λ (x : SchemeName). decode_by_scheme x p ceiling image) (sym is);
+  blocks = many p ∙ ap (λ (x : SchemeName). blocks_by_scheme x p) (sym is);
+}
