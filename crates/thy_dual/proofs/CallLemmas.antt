@@ -1,5 +1,5 @@
 -- What the one call of controller, engine or boot makes of the scheme.
-use Rattle.std.proofs.Common.{◌≡◌, ℕ, refl, ◌∙◌, ap, Result, Ok, Err, IfOk, OnOk, OnErr}
+use Rattle.std.proofs.Common.{◌≡◌, ℕ, Bool, true, if◌then◌else◌, refl, sym, ◌∙◌, ap, Result, Ok, Err, IfOk, OnOk, OnErr}
 use Rattle.thy_base.specs.declared.block.Block.{Block}
 use Rattle.thy_base.specs.declared.nvm.NvmError.{NvmError}
 use Rattle.thy_base.specs.declared.store.Stored.{Stored}
@@ -7,7 +7,7 @@ use Rattle.thy_base.specs.Device.{Device}
 use Rattle.thy_isa.specs.Step.{State as Plain, state_of}
 use Rattle.thy_record.specs.declared.engine_step.EngineStep.{EngineStep}
 use Rattle.thy_record.specs.declared.start.Start.{Start}
-use Rattle.thy_control.specs.Promotions.{next_promotion, ReadsNvm, FillsNext}
+use Rattle.thy_control.specs.Promotions.{next_promotion, after_promotion, ReadsNvm, FillsNext}
 use Rattle.thy_control.specs.Rules.{rule_for, state_after, devices_after, FailsStore}
 use Rattle.thy_control.specs.State.{State}
 use Rattle.thy_control.specs.StoredTables.{answer_of as answer_by}
@@ -18,7 +18,7 @@ use Rattle.thy_boot.specs.Boot.{Booting, answer_of}
 use Rattle.thy_boot.specs.Steps.{TakesStep}
 use Rattle.thy_recover.specs.Filling.{filling_one}
 use Rattle.thy_dual_model.specs.Boots.{step_of, result_of}
-use Rattle.thy_dual_model.specs.Dual.{Dual}
+use Rattle.thy_dual_model.specs.Dual.{Dual, is_promoting}
 use Rattle.thy_dual.specs.Calls.{stored_since, StoresByRule, with_control, PromotesNext, TakesItem, TakesBootStep}
 
 -- a store
@@ -37,16 +37,24 @@ stores_by_rule b block s n (Err e) t new said state nvm kept err = record {
 }
 
 -- a promotion
-pub promotes_next : {T : Type 0} (s : Dual) (n : Device) (r : Result T NvmError) (t : State) (new : Device)
+pub promotes_next : {T : Type 0} (s : Dual) (n : Device) (r : Result T NvmError) (t : State) (new : Device) → is_promoting s.control ≡ true
     → FillsNext s.control n r t new → OnErr r (ReadsNvm (next_promotion s.control) s.control)
     → PromotesNext s n r (with_control t s) new
-promotes_next s n (Ok x) t new f side = record {
-  made = record { scheme = ap (λ (c : State). with_control c s) f.state; nvm = f.nvm; kept = f.kept; err = f.err };
+promotes_next s n (Ok x) t new on f side = record {
+  made = record {
+    scheme = ap (λ (c : State). with_control c s) f.state
+        ∙ sym (ap (λ (some : Bool). if some then with_control (after_promotion (next_promotion s.control) s.control n) s else s) on);
+    nvm = f.nvm;
+    kept = f.kept;
+    err = f.err;
+  };
   side = side;
+  some = tt;
 }
-promotes_next s n (Err e) t new f side = record {
+promotes_next s n (Err e) t new on f side = record {
   made = record { scheme = f.state; nvm = f.nvm; kept = ap (λ (c : State). with_control c s) f.kept; err = f.err };
   side = side;
+  some = on;
 }
 
 -- the scheme with this controller and this engine

@@ -1,6 +1,6 @@
 -- What each call makes of the scheme and of the NVM, and what it returns: that of one call of
 -- each part that takes part in it, of controller, engine and boot.
-use Rattle.std.specs.Prelude.{◌≡◌, ℕ, true, false, length, Result, IfOk, OnOk, OnErr}
+use Rattle.std.specs.Prelude.{◌≡◌, ℕ, true, false, if◌then◌else◌, length, Result, IfOk, OnOk, OnErr}
 use Rattle.thy_base.specs.declared.block.Block.{Block}
 use Rattle.thy_base.specs.declared.config.Parameters.{Parameters}
 use Rattle.thy_base.specs.declared.nvm.NvmError.{NvmError}
@@ -27,7 +27,7 @@ use Rattle.thy_boot.specs.Steps.{TakesStep}
 use Rattle.thy_recover.specs.Filling.{filling_one}
 use Rattle.thy_scheme.specs.declared.boot_step.BootStep.{BootStep}
 use Rattle.thy_dual_model.specs.Boots.{step_of}
-use Rattle.thy_dual_model.specs.Dual.{Dual}
+use Rattle.thy_dual_model.specs.Dual.{Dual, is_overlaid, is_promoting}
 
 -- ---- a new scheme
 
@@ -98,19 +98,25 @@ with_control control s = record s { control = control }
 abbrev pub drained : Dual → Dual
 drained s = with_control (after_drain s.control) s
 
--- the first block that lies over the frame of its page was merged into it
+-- the first block that lies over the frame of its page was merged into it, if there is one
 abbrev pub merged : Dual → Dual
-merged s = with_control (after_merge (next_merge s.control) s.control) s
+merged s =
+    if is_overlaid s.control then with_control (after_merge (next_merge s.control) s.control) s
+    else s
 
--- the next block of the first page in promotion was copied into its frame
+-- the next block of the first page in promotion was copied into its frame, if there is such a page
 abbrev pub promoted : Dual → Device → Dual
-promoted s n = with_control (after_promotion (next_promotion s.control) s.control n) s
+promoted s n =
+    if is_promoting s.control
+    then with_control (after_promotion (next_promotion s.control) s.control n) s
+    else s
 
 -- the NVM is not written, and only a read of it fails
 pub record PromotesNext {T : Type 0} (s : Dual) (n : Device)
     (result : Result T NvmError) (t : Dual) (new : Device) : Type 0 where
   pub made : MakesOrFails (promoted s n) n s (HasFailed n new) result t new
   pub side : OnErr result (ReadsNvm (next_promotion s.control) s.control)
+  pub some : OnErr result (is_promoting s.control ≡ true)
 
 -- the tables are sealed, and the engine begins with this processor and this epoch
 abbrev pub sealed : CpuState → ℕ → Dual → Dual

@@ -13,7 +13,7 @@ ghost use Rattle.thy_view.specs.Origin.{Origin, Begins};
 ghost use Rattle.thy_view.specs.Views.{loads};
 ghost use Rattle.thy_scheme.specs.Marks.{Marks};
 ghost use Rattle.thy_scheme.specs.Scheme.{StaysOf, Stands, CanRun, IsBooting, CanBoot};
-ghost use Rattle.thy_scheme.specs.Calls.{IsOneAccess, Stores, Merges, Promotes, PromotionFails, Drains, Seals, Engines, EngineFails};
+ghost use Rattle.thy_scheme.specs.Calls.{IsOneAccess, Stores, Merges, Promotes, PromotionFails, TakesNoAction, Drains, Seals, Engines, EngineFails};
 ghost use Rattle.thy_scheme.specs.Boots.{BootsOn, BootFails, BootDrains};
 ghost use Rattle.thy_dual_model.specs.Boots.{Boots, IsPowered, has_read_at, loads_at, step_of, result_of, view_at};
 ghost use Rattle.thy_dual_model.specs.Dual.{IsOf, is_overlaid, is_promoting, penults};
@@ -226,30 +226,37 @@ impl Scheme for DualScheme {
     }
 
     fn merge_one(&mut self)
-        requires overlaid { is_overlaid self.old.control ≡ true }
         requires idle { is_under_way self.old.engine.next ≡ false }
         ensures state { self.new ≡ merged self.old }
-        ensures merges { (o : Origin) (k : Marks) (n : Device) → Stands dual_scheme o k self.old n
+        ensures some { is_overlaid self.old.control ≡ true
+            → (o : Origin) (k : Marks) (n : Device) → Stands dual_scheme o k self.old n
             → Merges dual_scheme o k self.old n self.new }
+        ensures none { is_overlaid self.old.control ≡ false → self.new ≡ self.old }
     {
-        self.control.merge_one();
-        self.control.tables();
+        if self.control.overlay() {
+            self.control.merge_one();
+            self.control.tables();
+        }
     }
 
     fn promote_one<N: Nvm>(&mut self, nvm: &mut N) -> Result<(), NvmError>
-        requires promoting { is_promoting self.old.control ≡ true }
         requires stands { CanRun dual_scheme self.old (N.device nvm.old) }
         ensures made { PromotesNext self.old (N.device nvm.old) result self.new (N.device nvm.new) }
         ensures ok { let n = N.device nvm.old in let new = N.device nvm.new in
-            (o : Origin) (k : Marks) → Stands dual_scheme o k self.old n
+            is_promoting self.old.control ≡ true
+            → (o : Origin) (k : Marks) → Stands dual_scheme o k self.old n
             → OnOk result (Promotes dual_scheme o k self.old n self.new new) }
+        ensures none { is_promoting self.old.control ≡ false
+            → TakesNoAction result self.old (N.device nvm.old) self.new (N.device nvm.new) }
         ensures err { OnErr result (PromotionFails (N.device nvm.old) (N.device nvm.new)) }
         ensures left { OnErr result (StaysOf dual_scheme self.old self.new) }
         ensures frame { IsFramed (N.device nvm.old) (N.device nvm.new) }
         ensures cause { CountsFault result (N.device nvm.old).faults (N.device nvm.new).faults }
     {
-        self.control.promote_one(nvm)?;
-        self.control.tables();
+        if self.control.promoting() {
+            self.control.promote_one(nvm)?;
+            self.control.tables();
+        }
         Ok(())
     }
 

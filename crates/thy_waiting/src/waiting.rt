@@ -12,7 +12,7 @@ ghost use Rattle.thy_view.specs.Origin.{Origin, Begins};
 ghost use Rattle.thy_view.specs.Views.{loads};
 ghost use Rattle.thy_scheme.specs.Marks.{Marks};
 ghost use Rattle.thy_scheme.specs.Scheme.{StaysOf, Stands, CanRun, IsBooting, CanBoot};
-ghost use Rattle.thy_scheme.specs.Calls.{IsOneAccess, Stores, Merges, Promotes, PromotionFails, Drains, Seals, Engines, EngineFails};
+ghost use Rattle.thy_scheme.specs.Calls.{IsOneAccess, Stores, Merges, Promotes, PromotionFails, TakesNoAction, Drains, Seals, Engines, EngineFails};
 ghost use Rattle.thy_scheme.specs.Boots.{BootsOn, BootFails, BootDrains};
 ghost use Rattle.thy_dual_model.specs.Boots.{has_read_at, loads_at, view_at};
 ghost use Rattle.thy_dual_model.specs.Dual.{IsOf, is_overlaid, is_promoting, penults};
@@ -214,22 +214,25 @@ impl Scheme for WaitingScheme {
     }
 
     fn merge_one(&mut self)
-        requires overlaid { is_overlaid self.old.below.control ≡ true }
         requires idle { is_under_way dual_scheme self.old ≡ false }
         ensures state { self.new ≡ with_below (merged self.old.below) self.old }
-        ensures merges { (o : Origin) (k : Marks) (n : Device) → Stands waiting_scheme o k self.old n
+        ensures some { is_overlaid self.old.below.control ≡ true
+            → (o : Origin) (k : Marks) (n : Device) → Stands waiting_scheme o k self.old n
             → Merges waiting_scheme o k self.old n self.new }
+        ensures none { is_overlaid self.old.below.control ≡ false → self.new ≡ self.old }
     {
         self.below.merge_one();
     }
 
     fn promote_one<N: Nvm>(&mut self, nvm: &mut N) -> Result<(), NvmError>
-        requires promoting { is_promoting self.old.below.control ≡ true }
         requires stands { CanRun waiting_scheme self.old (N.device nvm.old) }
         ensures made { PromotesBelow self.old (N.device nvm.old) result self.new (N.device nvm.new) }
         ensures ok { let n = N.device nvm.old in let new = N.device nvm.new in
-            (o : Origin) (k : Marks) → Stands waiting_scheme o k self.old n
+            is_promoting self.old.below.control ≡ true
+            → (o : Origin) (k : Marks) → Stands waiting_scheme o k self.old n
             → OnOk result (Promotes waiting_scheme o k self.old n self.new new) }
+        ensures none { is_promoting self.old.below.control ≡ false
+            → TakesNoAction result self.old (N.device nvm.old) self.new (N.device nvm.new) }
         ensures err { OnErr result (PromotionFails (N.device nvm.old) (N.device nvm.new)) }
         ensures left { OnErr result (StaysOf waiting_scheme self.old self.new) }
         ensures frame { IsFramed (N.device nvm.old) (N.device nvm.new) }

@@ -1,13 +1,14 @@
-use Rattle.std.proofs.Common.{◌≡◌, false, sym, ap, subst}
+use Rattle.std.proofs.Common.{◌≡◌, Bool, true, false, if◌then◌else◌, sym, ◌∙◌, ap, subst}
 use Rattle.thy_scheme.specs.Scheme.{Stands}
-use Rattle.thy_dual_model.specs.Dual.{Dual}
+use Rattle.thy_dual_model.specs.Dual.{Dual, is_overlaid}
 use Rattle.thy_dual_model.specs.Scheme.{dual_scheme}
 use Rattle.thy_commit.specs.Items.{is_under_way}
 use Rattle.thy_scheme.specs.Calls.{Merges}
 use Rattle.thy_dual_model.proofs.CallLemmas.{merges}
 use Rattle.thy_dual_model.proofs.MergeLemmas.{Fits-merged}
+use Rattle.thy_control.specs.Merges.{next_merge, after_merge}
 use Rattle.thy_control.specs.State.{State}
-use Rattle.thy_dual.specs.Calls.{merged}
+use Rattle.thy_dual.specs.Calls.{merged, with_control}
 use Rattle.thy_dual.proofs.dual.DualSchemeScheme.merge_one.Goals as goal
 
 pub invariant_of-self : goal.invariant_of-self
@@ -15,16 +16,26 @@ invariant_of-self c =
     let idle : is_under_way c.self.inside.engine.next ≡ false = subst (λ (s : Dual). is_under_way s.engine.next ≡ false) (sym c.self.view_is) c.requires.idle in
     Fits-merged c.self.inside.engine c.self.inside.control c.merge_one.new.self c.self.invariant idle c.merge_one.ensures.state
 
-pub returns-clause-merges : goal.returns-clause-merges
-returns-clause-merges c = λ o k n stands.
+pub returns-then-overlay-clause-some : goal.returns-then-overlay-clause-some
+returns-then-overlay-clause-some c = λ some o k n stands.
     let v : Dual = record { control = c.self.inside.control; engine = c.self.inside.engine; rested = c.self.inside.rested; lean = c.self.inside.lean; boot = c.self.inside.boot } in
     let stands_v : Stands dual_scheme o k v n = subst (λ (s : Dual). Stands dual_scheme o k s n) (sym c.self.view_is) stands in
     let m = c.merge_one.ensures in
     subst (λ (s : Dual). Merges dual_scheme o k s n (record v { control = c.merge_one.new.self })) c.self.view_is
     (merges o k v n c.merge_one.new.self stands_v m.left (m.keeps n stands_v.sound.held.sized).work (m.stays n stands_v.sound.held.sized) m.state c.tables.ensures)
 
-pub returns-clause-state : goal.returns-clause-state
-returns-clause-state c =
+pub returns-then-overlay-clause-state : goal.returns-then-overlay-clause-state
+returns-then-overlay-clause-state c =
     let v : Dual = record { control = c.self.inside.control; engine = c.self.inside.engine; rested = c.self.inside.rested; lean = c.self.inside.lean; boot = c.self.inside.boot } in
+    let on : is_overlaid v.control ≡ true = sym c.overlay.ensures.overlay ∙ c.if-overlay.true in
     subst (λ (s : Dual). record v { control = c.merge_one.new.self } ≡ merged s) c.self.view_is
-    (ap (λ (x : State). record v { control = x }) c.merge_one.ensures.state)
+    (ap (λ (x : State). record v { control = x }) c.merge_one.ensures.state
+    ∙ sym (ap (λ (some : Bool). if some then with_control (after_merge (next_merge v.control) v.control) v else v) on))
+
+pub returns-then-overlay-clause-none : goal.returns-then-overlay-clause-none
+returns-then-overlay-clause-none c = λ none.
+    let v : Dual = record { control = c.self.inside.control; engine = c.self.inside.engine; rested = c.self.inside.rested; lean = c.self.inside.lean; boot = c.self.inside.boot } in
+    let on : is_overlaid v.control ≡ true = sym c.overlay.ensures.overlay ∙ c.if-overlay.true in
+    let off : is_overlaid v.control ≡ false = subst (λ (s : Dual). is_overlaid s.control ≡ false) (sym c.self.view_is) none in
+    let both : true ≡ false = sym on ∙ off in
+    absurd cc

@@ -1,4 +1,4 @@
-use Rattle.std.proofs.Common.{◌≡◌, true, sym, subst, Ok, OnErr}
+use Rattle.std.proofs.Common.{◌≡◌, true, sym, ◌∙◌, subst, Ok, OnErr}
 use Rattle.thy_base.specs.Device.{Device}
 use Rattle.thy_scheme.specs.Scheme.{StaysOf, Stands}
 use Rattle.thy_dual_model.specs.Dual.{Dual, is_promoting}
@@ -11,30 +11,31 @@ use Rattle.thy_dual.specs.Calls.{PromotesNext}
 use Rattle.thy_dual.proofs.CallLemmas.{promotes_next}
 use Rattle.thy_dual.proofs.dual.DualSchemeScheme.promote_one.Goals as goal
 
-pub invariant_of-self-2 : goal.invariant_of-self-2
-invariant_of-self-2 g c =
+pub invariant_of-self-then-promoting : goal.invariant_of-self-then-promoting
+invariant_of-self-then-promoting g c =
     stays_fit c.self.inside.engine c.self.inside.control (g.N.Nvm.device c.args.nvm.now) c.promote_one.new.self (g.N.Nvm.device c.promote_one.new.nvm)
     c.tables.ensures c.self.invariant c.promote_one.ensures.stays
 
-pub returns-clause-ok : goal.returns-clause-ok
-returns-clause-ok g c = λ o k stands.
+pub returns-in_ok-promote_one-clause-ok : goal.returns-in_ok-promote_one-clause-ok
+returns-in_ok-promote_one-clause-ok g c = λ promoting o k stands.
     let v : Dual = record { control = c.self.inside.control; engine = c.self.inside.engine; rested = c.self.inside.rested; lean = c.self.inside.lean; boot = c.self.inside.boot } in
     let n : Device = g.N.Nvm.device c.args.nvm.now in
     let new : Device = g.N.Nvm.device c.promote_one.new.nvm in
     let stands_v : Stands dual_scheme o k v n = subst (λ (s : Dual). Stands dual_scheme o k s n) (sym c.self.view_is) stands in
-    let some : is_promoting v.control ≡ true = subst (λ (s : Dual). is_promoting s.control ≡ true) (sym c.self.view_is) c.requires.promoting in
+    let some : is_promoting v.control ≡ true = subst (λ (s : Dual). is_promoting s.control ≡ true) (sym c.self.view_is) promoting in
     let p = c.in_ok-promote_one.ensures in
     subst (λ (s : Dual). Promotes dual_scheme o k s n (record v { control = c.promote_one.new.self }) new) c.self.view_is
     (promotes o k v n c.promote_one.new.self new stands_v some p.left p.held p.fills.state p.fills.nvm p.stays c.tables.ensures)
 
-pub returns-clause-made : goal.returns-clause-made
-returns-clause-made g c =
+pub returns-in_ok-promote_one-clause-made : goal.returns-in_ok-promote_one-clause-made
+returns-in_ok-promote_one-clause-made g c =
     let v : Dual = record { control = c.self.inside.control; engine = c.self.inside.engine; rested = c.self.inside.rested; lean = c.self.inside.lean; boot = c.self.inside.boot } in
     let n : Device = g.N.Nvm.device c.args.nvm.now in
     let new : Device = g.N.Nvm.device c.promote_one.new.nvm in
+    let on : is_promoting v.control ≡ true = sym c.promoting.ensures.promoting ∙ c.if-promoting.true in
     let p = c.in_ok-promote_one.ensures in
     subst (λ (s : Dual). PromotesNext s n (Ok tt) (record v { control = c.promote_one.new.self }) new) c.self.view_is
-    (promotes_next v n (Ok tt) c.promote_one.new.self new p.fills p.side)
+    (promotes_next v n (Ok tt) c.promote_one.new.self new on p.fills p.side)
 
 pub returns-in_err-promote_one-clause-left : goal.returns-in_err-promote_one-clause-left
 returns-in_err-promote_one-clause-left g c =
