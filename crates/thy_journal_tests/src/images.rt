@@ -105,7 +105,11 @@ static PATCHES: [(usize, &[u8], &str); 14] = [
     (80, &[1], "image 5 Commit\n"),
     (432, &[3], "image 5 Commit\n"),
     (456, &[1, 2], "image 6 TableIndex 1\n"),
-    (456, &ENTRY, "image 7 TableTwice 0 1\n"),
+    (
+        456,
+        &[0xb5, 0x01, 0, 0, 0, 0, 0, 0],
+        "image 7 TableTwice 0 1\n",
+    ),
     (416, &[3], "image 9 Status\n"),
     (400, &[1, 16], "image 10 ConsoleLength\n"),
     (448, &[1, 2], "image 6 TableIndex 0\n"),

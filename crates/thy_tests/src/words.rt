@@ -313,7 +313,10 @@ static SCHEMES: [(&str, SchemeName); 6] = [
     ("thynvm|run|F|--scheme|thynvm", SchemeName::Thynvm),
     ("thynvm|run|--scheme=journal|F", SchemeName::Journal),
     ("thynvm|resume|D|--scheme|journal", SchemeName::Journal),
-    ("thynvm|bench|7|--gap|5|--scheme|journal", SchemeName::Journal),
+    (
+        "thynvm|bench|7|--gap|5|--scheme|journal",
+        SchemeName::Journal,
+    ),
     ("thynvm|plain|F", SchemeName::Thynvm),
 ];
 
