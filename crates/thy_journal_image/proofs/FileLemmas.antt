@@ -55,6 +55,9 @@ header_fault-long : (b : Block) (p : Parameters) (long : Bool) → header_fault 
 unfolding header_fault
 header_fault-long b p long h = last_asks (word_of b 0 == header_magic) (word_of b 1 == 2) (is_of_geometry b p) long h
 
+pub header_fault-sized : (b : Block) (p : Parameters) (bytes : List ℕ) → header_fault b p (is_sized_file p bytes) ≡ None → length bytes ≡ 64 * image_blocks p
+header_fault-sized b p bytes h = eqb-true _ _ (header_fault-long b p (is_sized_file p bytes) h)
+
 at_back : (zero : Bool) (fault : Option BadImage) (epoch found : ℕ) (state other : State)
     → (if zero then Nothing else refused_or_at fault epoch state) ≡ At found other
     → (zero ≡ false) × (fault ≡ None) × (epoch ≡ found) × (state ≡ other)
@@ -87,7 +90,7 @@ IsWholeFile-decoded p ceiling bytes epoch state h =
     let header = (neither (header_fault (block_at (blocks_of bytes) 0) p (is_sized_file p bytes))
     (option_or (commit_fault (block_at (blocks_of bytes) 1) ceiling) (slot_fault p ceiling (epoch_of (block_at (blocks_of bytes) 1)) (slot_in (journaled p ceiling) (blocks_of bytes)))) found.1).0 in
     let is : is_sized_file p bytes ≡ true = header_fault-long (block_at (blocks_of bytes) 0) p (is_sized_file p bytes) header in
-    let long : length bytes ≡ 64 * image_blocks p = eqb-true _ _ is in
+    let long = header_fault-sized (block_at (blocks_of bytes) 0) p bytes header in
     let same : is_sized (journaled p ceiling) (blocks_of bytes) ≡ is_sized_file p bytes = sized_blocks p ceiling bytes long ∙ sym is in
     record {
       long = long;

@@ -1,5 +1,6 @@
 -- The state in a file: its processor, and its memory block by block.
-use Rattle.std.proofs.Common.{◌≡◌, ℕ, ◌+◌, ◌-◌, ◌*◌, ◌/◌, ◌%◌, ◌<◌, ◌≤◌, Bool, true, false, nat_lt, if◌then◌else◌, List, ◌∷◌, ◌++◌, length, map, take, drop, slice_index_or, Ok, sym, ◌∙◌, ap, arith}
+use Rattle.std.proofs.Common.{◌≡◌, ℕ, ◌+◌, ◌-◌, ◌*◌, ◌/◌, ◌%◌, ◌<◌, ◌≤◌, Bool, true, false, nat_lt, if◌then◌else◌, List, ◌∷◌, ◌++◌, length, map, take, drop, slice_index_or, Ok, IfOk, sym, ◌∙◌, ap, arith}
+use Rattle.std.specs.Prelude.{Result, Err}
 use Rattle.std.proofs.lemmas.List.{length-map, length-drop, length-take-le, get_or-map, get_or-drop, ext_get_or, take_all}
 use Rattle.std.proofs.lemmas.List.FromFn.{length-range_with_len, get_or-range_with_len}
 use Rattle.std.specs.List.{range_with_len}
@@ -187,3 +188,8 @@ unfolding state_from
 state_gathered p cpu blocks memory console program size r all program_is size_is memory_is console_is =
     ap (λ m. state_with cpu m console) (memory_is ∙ memory_gathered p blocks program all r program_is)
     ∙ ap (state_with cpu (memory_bytes p blocks)) (console_is ∙ console_gathered p blocks program size cpu.console_len all r program_is size_is)
+
+-- what follows from a result follows if there is one
+pub if_ok : {A E : Type 0} {P Q : A → Type 0} (r : Result A E) → ((x : A) → P x → Q x) → IfOk r P → IfOk r Q
+if_ok (Ok x) to h = to x h
+if_ok (Err e) to h = tt

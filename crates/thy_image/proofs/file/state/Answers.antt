@@ -1,17 +1,11 @@
-use Rattle.std.proofs.Common.{◌≡◌, ◌∙◌, ap, sym, IfOk}
-use Rattle.std.specs.Prelude.{Result, Ok, Err}
+use Rattle.std.proofs.Common.{◌≡◌, ◌∙◌, ap, sym}
 use Rattle.thy_base.specs.declared.config.Parameters.{Parameters}
 use Rattle.thy_base.specs.declared.config.SchemeName.TheVariants.{Thynvm, Journal}
 use Rattle.thy_isa.specs.declared.state.MachState.{MachState}
 use Rattle.thy_isa.specs.Step.{state_of}
-use Rattle.thy_image.specs.Saved.{HasState}
+use Rattle.thy_record.proofs.RestoredLemmas.{if_ok}
 use Rattle.thy_image.proofs.LawLemmas.{has_thynvm, has_journal, thynvm_has, journal_has}
 use Rattle.thy_image.proofs.file.state.Goals as goal
-
--- what follows from a result follows where there is one
-if_ok : {A E : Type 0} {P Q : A → Type 0} (r : Result A E) → ((x : A) → P x → Q x) → IfOk r P → IfOk r Q
-if_ok (Ok x) to h = to x h
-if_ok (Err e) to h = tt
 
 pub state-requires : goal.state-requires
 state-requires c =

@@ -4,6 +4,7 @@ use Rattle.thy_base.specs.declared.config.Parameters.{Parameters}
 use Rattle.thy_base.specs.Device.{block_at}
 use Rattle.thy_base.specs.Geometry.{memory_blocks}
 use Rattle.thy_isa.specs.declared.state.CpuState.{CpuState}
+use Rattle.thy_isa.specs.declared.state.MachState.{MachState}
 use Rattle.thy_isa.specs.OnBlocks.{state_from}
 use Rattle.thy_record.specs.Cpu.{cpu_of_record}
 use Rattle.thy_record.specs.Files.{blocks_of, HasCheckpointOf}
@@ -13,7 +14,7 @@ use Rattle.thy_record.specs.Slots.{tables_in}
 use Rattle.thy_record.specs.Tables.{Tables, IsTables}
 use Rattle.thy_record.proofs.FileLemmas.{block_at-blocks_of}
 use Rattle.thy_record.proofs.IssuingLemmas.{length-memory_numbers}
-use Rattle.thy_record.proofs.RestoredLemmas.{IsWholeFile-found, AreInside-memory}
+use Rattle.thy_record.proofs.RestoredLemmas.{IsWholeFile-found, AreInside-memory, if_ok}
 use Rattle.thy_record.proofs.restored.state.Goals as goal
 
 pub slot_in-slot-requires-clause-long : goal.slot_in-slot-requires-clause-long
@@ -61,6 +62,9 @@ state_at-requires-clause-inside c =
 
 pub returns : goal.returns
 returns c =
-    c.in_ok-state_at.ensures
+    if_ok c.state_at.result
+    (λ (m : MachState) made.
+    made
     ∙ state_is c.args.geometry.now (blocks_of c.args.image.now) (blocks_of c.slot_in-slot.result.now) c.cpu_in.result c.deref.result.now
-    c.slot_in-slot.ensures.slot c.cpu_in.ensures (c.deref.ensures.value ∙ c.in_ok-places.ensures)
+    c.slot_in-slot.ensures.slot c.cpu_in.ensures (c.deref.ensures.value ∙ c.in_ok-places.ensures))
+    c.state_at.ensures
