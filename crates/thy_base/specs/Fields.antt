@@ -2,7 +2,7 @@
 -- What the fields of a configuration are called.
 use Rattle.std.specs.Prelude.{ℕ, List, codes}
 use Rattle.thy_base.specs.declared.config.Field.{Field}
-use Rattle.thy_base.specs.declared.config.Field.TheVariants.{Base, Pages, Console, Epoch, Btt, Ptt, Sets, Ways, Nvmq, Dramq, High, Low, Mix, Cuts, Tears, Limit, Harts, Gap, N}
+use Rattle.thy_base.specs.declared.config.Field.TheVariants.{Base, Pages, Console, Epoch, Btt, Ptt, Sets, Ways, Nvmq, Dramq, High, Low, Mix, Cuts, Tears, Limit, Scheme, Harts, Gap, N}
 
 -- the name of a field's option, and of the field in a refusal
 abbrev pub field_name : Field → List ℕ
@@ -22,6 +22,7 @@ field_name Mix = codes "mix"
 field_name Cuts = codes "cuts"
 field_name Tears = codes "tears"
 field_name Limit = codes "limit"
+field_name Scheme = codes "scheme"
 field_name Harts = codes "harts"
 field_name Gap = codes "gap"
 field_name N = codes "n"

@@ -51,6 +51,8 @@ pub struct Config {
 pub enum SchemeName {
     /// Block remapping for sparse writes and page writeback for dense ones, as in ThyNVM.
     Thynvm,
+    /// A redo journal: what an epoch has stored is written to a journal, and home once it is committed.
+    Journal,
 }
 
 /// A field of the configuration, or the number of a made program.
@@ -72,6 +74,7 @@ pub enum Field {
     Cuts,
     Tears,
     Limit,
+    Scheme,
     Harts,
     Gap,
     N,

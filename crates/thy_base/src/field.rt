@@ -26,6 +26,7 @@ impl Field {
             Field::Cuts => "cuts",
             Field::Tears => "tears",
             Field::Limit => "limit",
+            Field::Scheme => "scheme",
             Field::Harts => "harts",
             Field::Gap => "gap",
             Field::N => "n",

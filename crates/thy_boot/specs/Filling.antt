@@ -1,3 +1,4 @@
+-- Part of the claim.
 -- What a boot fills: a controller, with the checkpoint of a layout.
 use Rattle.std.specs.Prelude.{◌≡◌, ℕ, ◌+◌, ◌<◌, ◌≤◌, true, false, List, [], length, map, slice_index_or, Option, Some, None}
 use Rattle.thy_base.specs.declared.block.Block.{Block}

@@ -16,13 +16,13 @@ use Rattle.thy_isa.specs.declared.state.Status.TheVariants.{Running}
 use Rattle.thy_isa.specs.Storable.{IsNumber, IsStorable, IsReadable}
 use Rattle.thy_base.specs.Bytes.{bytes_of}
 use Rattle.thy_base.specs.Marks.{mark}
-use Rattle.thy_base.specs.Places.{image_blocks}
 use Rattle.thy_record.specs.Decoded.{At}
-use Rattle.thy_record.specs.Files.{blocks_of, decode_file}
+use Rattle.thy_record.specs.Files.{blocks_of}
+use Rattle.thy_image.specs.Meaning.{decode_of, blocks_of_image, decode_bytes}
+use Rattle.thy_image.proofs.LawLemmas.{file_is_image}
 use Rattle.thy_isa.specs.Step.{State, state_of}
 use Rattle.thy_isa.proofs.MemoryBounds.{anywhere}
 use Rattle.thy_record.specs.declared.start.Start.{Start}
-use Rattle.thy_record.proofs.ImageLemmas.{decode-filled_up}
 use Rattle.thy_record.specs.Cpu.{is_status, status_tag, status_value}
 use Rattle.thy_elf.specs.declared.error.ElfError.{ElfError}
 use Rattle.thy_elf.specs.declared.image.Image.{Image}
@@ -56,7 +56,7 @@ use Rattle.thy_cli.specs.declared.refusal.Refusal.TheVariants.{Input}
 use Rattle.thy_cli.specs.declared.restoring.Beginning.{Beginning as BeginningValue}
 use Rattle.thy_cli.specs.declared.source.Had.{Had}
 use Rattle.thy_cli.specs.declared.source.Program.{Program}
-use Rattle.thy_cli.proofs.RestoringLaws.{AllLong-blocks_of, IsSaved-decoded, decode-restored, IsOrigin-restored}
+use Rattle.thy_cli.proofs.RestoringLaws.{IsOrigin-restored}
 use Rattle.thy_run.specs.Going.{origin_of, given_of, IsPlanned}
 use Rattle.thy_run.specs.Rounds.{RunEnds}
 
@@ -120,14 +120,14 @@ fitted_by K laws o reads blocks shape n None is none many =
     })
 fitted_by K laws o reads blocks shape n (Some m) is of many =
     let few = of.few in
-    let size : shape.blocks ≡ image_blocks o.geometry = many ∙ reads.blocks in
-    let all : length blocks + (shape.blocks - length blocks) ≡ image_blocks o.geometry = omega (arith, size) in
+    let size : shape.blocks ≡ blocks_of_image o.geometry = many ∙ reads.blocks in
     record {
       blocks = many;
       fits = omega (arith, size);
       long = of.long;
       found = reads.decode ceiling (fitted shape blocks n).image
-          ∙ decode-filled_up o.geometry ceiling (shape.blocks - length blocks) m.epoch o.start blocks of.decodes all
+          ∙ ap (λ k. decode_of o.geometry ceiling (blocks ++ replicate (k - length blocks) zero_block)) size
+          ∙ of.decodes
           ∙ ap (found_first o) (sym is);
     }
 
@@ -294,7 +294,7 @@ Begins-image name job stock p had epoch b h r within =
     let s : State = state_of b.start.state in
     let bytes : List ℕ = bytes_of had.bytes in
     let input : List ℕ = bytes_of had.input in
-    let decodes : decode_file (parameters_of job.config) (2 ^ 62) bytes ≡ At epoch s = ap (λ q. decode_file q (2 ^ 62) bytes) (sym h.numbers) ∙ r.decodes in
+    let decodes : decode_bytes (parameters_of job.config) (2 ^ 62) bytes ≡ At epoch s = ap (λ q. decode_bytes q (2 ^ 62) bytes) (sym h.numbers) ∙ r.decodes in
     let begins : Beginning = record { start = s; kept = Some (mark epoch s.count); blocks = blocks_of bytes } in
     record {
       program = record {
@@ -308,11 +308,7 @@ Begins-image name job stock p had epoch b h r within =
       input = r.reads;
       origin = IsOrigin-restored (origin_for job begins input) bytes epoch (subst IsInRange h.numbers h.in_range) h.both.are_bytes
           (record { bytes = h.both.input_bytes; size = input_size stock job.input input h.both.is_input }) decodes refl;
-      fits = record {
-        few = (IsSaved-decoded (parameters_of job.config) bytes epoch s decodes).most;
-        long = AllLong-blocks_of bytes;
-        decodes = decode-restored (parameters_of job.config) bytes epoch s decodes;
-      };
+      fits = file_is_image (parameters_of job.config) (2 ^ 62) ceiling bytes epoch s (omega arith) decodes;
     }
 
 -- a program is what was read of the bytes of a program file

@@ -1,5 +1,5 @@
 -- What the program keeps of a job: the source of its program, and the plan of its run.
-use Rattle.std.specs.Prelude.{◌≡◌, ℕ, ◌<◌, ◌≤◌, Bool, List, [], length, Option, Some, None, Result, Ok, Err, IfOk, IfErr}
+use Rattle.std.specs.Prelude.{◌≡◌, ℕ, ◌<◌, Bool, List, [], length, Option, Some, None, Result, Ok, Err, IfOk, IfErr}
 use Rattle.thy_base.specs.declared.block.Block.{Block}
 use Rattle.thy_base.specs.declared.config.Config.{Config}
 use Rattle.thy_base.specs.declared.config.Parameters.{Parameters}
@@ -9,13 +9,10 @@ use Rattle.thy_base.specs.Bytes.{bytes_of}
 use Rattle.thy_base.specs.Device.{Device, fitted}
 use Rattle.thy_base.specs.Geometry.{IsInRange, parameters_of, program_size}
 use Rattle.thy_base.specs.Outside.{Stock}
-use Rattle.thy_base.specs.Places.{image_blocks}
 use Rattle.thy_elf.specs.Image.{contents_of}
-use Rattle.thy_flat.specs.Flat.{AllLong}
 use Rattle.thy_isa.specs.Step.{state_of}
 use Rattle.thy_record.specs.declared.start.Start.{Start}
-use Rattle.thy_record.specs.Decoded.{At}
-use Rattle.thy_record.specs.Images.{decode_image}
+use Rattle.thy_image.specs.Saved.{AreOfCheckpoint}
 use Rattle.thy_run.specs.Cuts.{cuts_among}
 use Rattle.thy_run.specs.Going.{origin_of, IsPlanned}
 use Rattle.thy_run.specs.declared.plan.Plan.{Plan}
@@ -89,12 +86,6 @@ RefusesProgram p had result =
     (source : Source) (job : Job) (stock : Stock) → IsElf source → IsHadFor source job stock p had
     → IfErr result (λ r. ProgramDue source job stock stock r)
 
--- an image means the checkpoint that a beginning was taken from
-pub record IsImageOf (p : Parameters) (epoch : ℕ) (b : Beginning) : Type 0 where
-  pub few : length b.blocks ≤ image_blocks p
-  pub long : AllLong b.blocks
-  pub decodes : decode_image p ceiling b.blocks ≡ At epoch b.start
-
 -- what the program keeps of a beginning: a start, and the first blocks of the device
 abbrev pub begun_with : Start → List Block → Beginning
 begun_with s blocks = record { start = state_of s.state; kept = s.kept; blocks = blocks }
@@ -102,7 +93,7 @@ begun_with s blocks = record { start = state_of s.state; kept = s.kept; blocks =
 -- a device's first blocks fit a beginning: they are none, or those of an image that means its checkpoint
 abbrev pub FitsKept : Parameters → Beginning → Option Mark → Type 0
 FitsKept p b None = b.blocks ≡ []
-FitsKept p b (Some m) = IsImageOf p m.epoch b
+FitsKept p b (Some m) = AreOfCheckpoint p ceiling m.epoch b.start b.blocks
 
 abbrev pub Fits : Parameters → Beginning → Type 0
 Fits p b = FitsKept p b b.kept

@@ -19,7 +19,8 @@ use Rattle.thy_make.specs.File.{made_file}
 use Rattle.thy_plain.specs.Start.{start_state}
 use Rattle.thy_record.specs.declared.bad_image.BadImage.TheVariants.{Empty}
 use Rattle.thy_record.specs.Decoded.{Decoded, Nothing, Refused, At}
-use Rattle.thy_record.specs.Files.{blocks_of, decode_file}
+use Rattle.thy_record.specs.Files.{blocks_of}
+use Rattle.thy_image.specs.Meaning.{decode_bytes}
 use Rattle.thy_view.specs.Origin.{Origin}
 use Rattle.thy_words.specs.Settings.{Job}
 use Rattle.thy_cli.specs.declared.refusal.Refusal.{Refusal}
@@ -105,7 +106,7 @@ saved_ceiling = 2 ^ 62
 -- what the bytes of a source mean to a job with this input
 abbrev pub meaning_of : Source → Job → (bytes input : List ℕ) → Result Beginning Refusal
 meaning_of (image name) job bytes input =
-    restored bytes input (decode_file (parameters_of job.config) saved_ceiling bytes)
+    restored bytes input (decode_bytes (parameters_of job.config) saved_ceiling bytes)
 meaning_of source job bytes input =
     begun (parameters_of job.config) (read_of bytes job.config.base (program_size (parameters_of job.config)))
 

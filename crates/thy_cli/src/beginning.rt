@@ -9,8 +9,9 @@ use crate::restoring::{Beginning, restore};
 use crate::source::{Had, Source, program_of};
 use std::alloc::Global;
 use thy_base::Geometry;
+use thy_image::check;
 use thy_plain::start_of;
-use thy_record::{BadImage, Found, Start, check};
+use thy_record::{BadImage, Found, Start};
 
 /// The epochs and counts of a saved image are below this.
 const SAVED_CEILING: u64 = 1 << 62;

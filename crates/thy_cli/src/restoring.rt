@@ -6,7 +6,8 @@ ghost use Rattle.thy_cli.specs.Restoring.{IsFoundAt, IsRestored};
 
 use std::alloc::{AllocError, Global};
 use thy_base::{BLOCK_SIZE, Block, Bytes, Geometry, Mark};
-use thy_record::{Start, block_in, state};
+use thy_image::state;
+use thy_record::{Start, block_in};
 
 /// What a run begins with: a start, and the first blocks of its device.
 #[derive(Drop)]

@@ -283,9 +283,9 @@ fn run_source<M: Computer, H: Shelf, T: Sink, R: Sink, N: Nvm>(
     )
 }
 
-/// Runs a job on the machine of its scheme: `M` for `SchemeName::Thynvm`. A machine has to read the files of its own
-/// scheme alone.
-pub fn run_by_scheme<M: Computer, H: Shelf, T: Sink, R: Sink, N: Nvm>(
+/// Runs a job on the machine of its scheme: `A` for `SchemeName::Thynvm`, `B` for `SchemeName::Journal`. Each machine has
+/// to read the files of its own scheme alone.
+pub fn run_by_scheme<A: Computer, B: Computer, H: Shelf, T: Sink, R: Sink, N: Nvm>(
     alloc: Global,
     source: Source,
     job: Job,
@@ -295,16 +295,21 @@ pub fn run_by_scheme<M: Computer, H: Shelf, T: Sink, R: Sink, N: Nvm>(
     nvm: &mut N,
 ) -> Answer
     requires range { range_fault job.config ≡ None }
-    requires reads { (p : Numbers) → p.scheme ≡ SchemeName.Thynvm → ReadsFiles M.kind p }
+    requires thynvm { (p : Numbers) → p.scheme ≡ SchemeName.Thynvm → ReadsFiles A.kind p }
+    requires journal { (p : Numbers) → p.scheme ≡ SchemeName.Journal → ReadsFiles B.kind p }
     ensures { let before = outside (H.stock shelf.old) (N.device nvm.old)
         (T.stream terminal.old) (R.stream report.old) in
         let after = outside (H.stock shelf.new) (N.device nvm.new)
         (T.stream terminal.new) (R.stream report.new) in
-        RunAnswered (by_scheme M.kind job.config.scheme).kind (named source.entry) (job_of job) before after result }
+        let machines = by_scheme A.kind B.kind in
+        RunAnswered (machines job.config.scheme).kind (named source.entry) (job_of job) before after result }
 {
     match job.config.scheme {
         SchemeName::Thynvm => {
-            run_source::<M, H, T, R, N>(alloc, source, job, shelf, terminal, report, nvm)
+            run_source::<A, H, T, R, N>(alloc, source, job, shelf, terminal, report, nvm)
+        }
+        SchemeName::Journal => {
+            run_source::<B, H, T, R, N>(alloc, source, job, shelf, terminal, report, nvm)
         }
     }
 }

@@ -15,6 +15,7 @@ use std::alloc::Global;
 use thy_base::{Nvm, Shelf, Sink};
 use thy_core::Machine;
 use thy_dual::DualScheme;
+use thy_journal::Journal;
 use thy_view::Computer;
 use thy_words::{Command, settings};
 
@@ -22,7 +23,7 @@ use thy_words::{Command, settings};
 /// `make N OUT`, and options.
 ///
 /// `run` runs a program file on the machine, `bench` the one that is made from a number, and `resume` continues from a
-/// saved image. The console's bytes go to `terminal` when their checkpoint is committed or restored, the events' lines
+/// saved image. With `--scheme` the machine has another scheme of checkpoints. The console's bytes go to `terminal` when their checkpoint is committed or restored, the events' lines
 /// and a closing line to `report`; with `--save` what the run leaves on its device is put on the shelf. `plain` runs a
 /// file on the plain machine: the console's bytes go to `terminal` when it stops, the line of its end and a closing
 /// line to `report`. `make` puts the program file of a number on the shelf.
@@ -33,7 +34,7 @@ use thy_words::{Command, settings};
 /// sink failed, 7 the device failed, 8 the limit is reached, 9 there was not enough memory, 10 the image has read
 /// more input than there is.
 ///
-/// The contract is the claim of this project, `docs/THEOREM.md`: whatever the device leaves at each cut,
+/// The contract is the claim of this project, `docs/THEOREM.md`, with each scheme: whatever the device leaves at each cut,
 /// the events are lawful, each restart is what the cut before it left, and the device is safe at the end. It is complete,
 /// too: if the file or the image is a program that ends, the limit is high enough and nothing fails, the status is
 /// that of this end, or 9.
@@ -49,25 +50,26 @@ pub fn thynvm<H: Shelf, T: Sink, R: Sink, N: Nvm>(
         (T.stream terminal.old) (R.stream report.old) in
         let after = outside (H.stock shelf.new) (N.device nvm.new)
         (T.stream terminal.new) (R.stream report.new) in
-        let machines = by_scheme ⟦<Machine<DualScheme> as Computer>⟧.kind in
+        let machines = by_scheme ⟦<Machine<DualScheme> as Computer>⟧.kind
+        ⟦<Machine<Journal> as Computer>⟧.kind in
         Claim machines (map string_bytes words.now) before after result }
 {
     match settings(alloc, words) {
         Ok(Command::Run { file, job }) => {
             let source = Source::File(file.as_str());
-            run_by_scheme::<Machine<DualScheme>, H, T, R, N>(
+            run_by_scheme::<Machine<DualScheme>, Machine<Journal>, H, T, R, N>(
                 alloc, source, job, shelf, terminal, report, nvm,
             )
         }
         Ok(Command::Resume { image, job }) => {
             let source = Source::Image(image.as_str());
-            run_by_scheme::<Machine<DualScheme>, H, T, R, N>(
+            run_by_scheme::<Machine<DualScheme>, Machine<Journal>, H, T, R, N>(
                 alloc, source, job, shelf, terminal, report, nvm,
             )
         }
         Ok(Command::Bench { number, job }) => {
             let source = Source::Made(number);
-            run_by_scheme::<Machine<DualScheme>, H, T, R, N>(
+            run_by_scheme::<Machine<DualScheme>, Machine<Journal>, H, T, R, N>(
                 alloc, source, job, shelf, terminal, report, nvm,
             )
         }

@@ -54,7 +54,7 @@ memory_place_of p s table x (k, l, is) =
     (k, inside, sym (memory_place p s table k x inside) ∙ is)
 
 -- the place of a block is after the slots, within the image
-place_by_behind : (p : Parameters) (s : ℕ) (table : List (Option ℕ)) (b : ℕ) (found : Option ℕ) → IsTable p table → s < 2 → b < memory_blocks p
+pub place_by_behind : (p : Parameters) (s : ℕ) (table : List (Option ℕ)) (b : ℕ) (found : Option ℕ) → IsTable p table → s < 2 → b < memory_blocks p
     → entry_of table b ≡ found → (first_home p ≤ place_by p s b found) × (place_by p s b found < image_blocks p)
 place_by_behind p s table b None h l m e = (omega arith, omega arith)
 place_by_behind p zero table b (Some i) h l m e =

@@ -1,3 +1,4 @@
+-- Part of the claim.
 -- The commit block of an image of version 2, block 1: the epoch of the committed checkpoint.
 use Rattle.std.specs.Prelude.{ℕ, ◌&&◌, ◌==◌, nat_lt, List, [], ◌∷◌, Option, codes}
 use Rattle.byteorder.specs.Endian.{little_number}

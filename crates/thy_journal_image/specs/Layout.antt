@@ -1,3 +1,4 @@
+-- Part of the claim.
 -- Images of the journal as a layout.
 use Rattle.std.specs.Prelude.{ℕ, ◌%◌}
 use Rattle.thy_base.specs.Geometry.{memory_blocks}

@@ -5,3 +5,5 @@ pub mod Slots
 pub mod Layout
 pub mod Parts
 pub mod Free
+pub mod Files
+pub mod Index

@@ -1,3 +1,4 @@
+-- Part of the claim.
 -- The places of an image of the journal: header, commit block, two slots, the homes of memory's blocks, and after them a
 -- journal for each slot. A journal has a block for each entry of the table.
 use Rattle.std.specs.Prelude.{ℕ, ◌+◌, ◌*◌, ◌/◌, List, Option, Some, None}

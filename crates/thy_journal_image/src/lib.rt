@@ -7,13 +7,20 @@
 #![tactic(auto)]
 
 mod commit;
+mod file;
 mod header;
+mod index;
 mod laws;
 mod places;
+mod restored;
+mod slot_faults;
 
 pub use commit::{commit_block, commit_fault};
+pub use file::check;
 pub use header::{header_block, header_fault};
 pub use laws::{
     a_checkpoint_is_issued, a_slot_reads_back, free_is_not_looked_at, header_and_commit_read_back,
 };
 pub use places::{blocks, home, journal, slot, slot_blocks};
+pub use restored::state;
+pub use slot_faults::slot_fault;

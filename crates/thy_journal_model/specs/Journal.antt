@@ -1,3 +1,4 @@
+-- Part of the claim.
 -- The redo journal: the log, its checkpoint engine, its boot, and whether blocks were stored.
 use Rattle.std.specs.Prelude.{◌≡◌, if◌then◌else◌, Bool, List}
 use Rattle.thy_base.specs.declared.block.Block.{Block}

@@ -1,3 +1,4 @@
+-- Part of the claim.
 -- The boot of a run, and what is seen of it.
 use Rattle.std.specs.Prelude.{◌≡◌, true, false, Bool, Result, Ok, Err}
 use Rattle.thy_base.specs.declared.config.Parameters.{Parameters}

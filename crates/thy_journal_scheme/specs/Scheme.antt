@@ -1,3 +1,4 @@
+-- Part of the claim.
 -- What is seen of the journal as a scheme.
 use Rattle.std.specs.Prelude.{true, false}
 use Rattle.thy_table.specs.Listing.{free_count}

@@ -1,3 +1,4 @@
+-- Part of the claim.
 -- How many cycles of the engine a checkpoint still takes, at most.
 use Rattle.std.specs.Prelude.{◌≡◌, ℕ, ◌+◌, ◌-◌, ◌*◌, ◌≤◌, true}
 use Rattle.thy_base.specs.declared.config.Parameters.{Parameters}

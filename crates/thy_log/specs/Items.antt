@@ -1,3 +1,4 @@
+-- Part of the claim.
 -- The order of a checkpoint: what is done next, by how far the engine is and by which entries are live.
 use Rattle.std.specs.Prelude.{ℕ, ◌+◌, nat_lt, Bool, true, false, if◌then◌else◌, Option, Some, None}
 use Rattle.thy_base.specs.declared.config.Parameters.{Parameters}

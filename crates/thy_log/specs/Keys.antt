@@ -1,3 +1,4 @@
+-- Part of the claim.
 -- What an entry of the table lists, and what is kept of the entries when they are freed.
 use Rattle.std.specs.Prelude.{◌≡◌, ℕ, Option, Some, None}
 use Rattle.thy_log.specs.declared.entry.Listed.{Listed}

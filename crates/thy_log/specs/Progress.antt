@@ -1,3 +1,4 @@
+-- Part of the claim.
 -- The engine's progress, and what one cycle of it makes of the log and of the NVM.
 use Rattle.std.specs.Prelude.{◌≡◌, ℕ, ◌+◌, ◌%◌, ◌<◌, length, Option, Some, None, Result, IfOk, OnErr}
 use Rattle.thy_base.specs.declared.block.Block.{Block}

@@ -1,3 +1,4 @@
+-- Part of the claim.
 -- The log: a table of blocks of memory, and for each entry of it a buffer in the DRAM, which holds the block as it
 -- was stored last. Every other block is at home in the NVM.
 use Rattle.std.specs.Prelude.{◌≡◌, ℕ, length, List, map, Option, Some, None}

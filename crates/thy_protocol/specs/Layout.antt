@@ -1,3 +1,4 @@
+-- Part of the claim.
 -- Layouts of the NVM: the places at which an image has its checkpoint, and what that means.
 use Rattle.std.specs.Prelude.{◌≡◌, ◌==◌, ℕ, Bool, false, if◌then◌else◌, List, [], ◌∷◌, ◌++◌, length, map, Option, Some, None}
 use Rattle.std.specs.List.{range_with_len}

@@ -261,17 +261,17 @@ decode-filled_up p ceiling k epoch state image h all =
 
 -- ---- a higher ceiling
 
-below_higher : (n low high : ℕ) → low ≤ high → nat_lt n low ≡ true → nat_lt n high ≡ true
+pub below_higher : (n low high : ℕ) → low ≤ high → nat_lt n low ≡ true → nat_lt n high ≡ true
 below_higher n low high most h = let l : n < low = ltb-true n low h in lt-ltb n high (omega arith)
 
-commit_asks : (named below rest : Bool) → (if (named && below) && rest then None else Some Commit) ≡ None
+pub commit_asks : (named below rest : Bool) → (if (named && below) && rest then None else Some Commit) ≡ None
     → (named ≡ true) × (below ≡ true) × (rest ≡ true)
 commit_asks true true true h = (refl, refl, refl)
 commit_asks true true false h = cc
 commit_asks true false rest h = cc
 commit_asks false below rest h = cc
 
-commit_gives : (named below rest : Bool) → named ≡ true → below ≡ true → rest ≡ true → (if (named && below) && rest then None else Some Commit) ≡ None
+pub commit_gives : (named below rest : Bool) → named ≡ true → below ≡ true → rest ≡ true → (if (named && below) && rest then None else Some Commit) ≡ None
 commit_gives named below rest a b c = ap (λ x. if (x && below) && rest then None else Some Commit) a ∙ ap (λ x. if x && rest then None else Some Commit) b ∙ ap (λ x. if x then None else Some Commit) c
 
 commit_fault-higher : (header b : Block) (low high : ℕ) → low ≤ high → commit_fault header b low ≡ None → commit_fault header b high ≡ None
@@ -294,7 +294,7 @@ status_gives status below room a b c =
     ∙ ap (λ x. if x then (if room then None else Some ConsoleLength) else Some Status) b
     ∙ ap (λ x. if x then None else Some ConsoleLength) c
 
-status_fault-higher : (p : Parameters) (slot : List Block) (low high : ℕ) → low ≤ high → status_fault p low slot ≡ None → status_fault p high slot ≡ None
+pub status_fault-higher : (p : Parameters) (slot : List Block) (low high : ℕ) → low ≤ high → status_fault p low slot ≡ None → status_fault p high slot ≡ None
 status_fault-higher p slot low high most h =
     let asks = status_asks (is_status (record_word slot 36) (record_word slot 37)) (nat_lt (record_word slot 32) low) (nat_le (record_word slot 34) (console_room p)) h in
     status_gives (is_status (record_word slot 36) (record_word slot 37)) (nat_lt (record_word slot 32) high) (nat_le (record_word slot 34) (console_room p))

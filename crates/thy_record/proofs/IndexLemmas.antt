@@ -15,13 +15,13 @@ use Rattle.thy_record.proofs.IssuingLemmas.{length-memory_numbers, memory_number
 -- ---- one entry more
 
 -- the entry lists a number, and no other does: it is found
-entry_of-take_here : (table : List (Option ℕ)) (i n : ℕ) → Lists table i n → ((k : ℕ) → Lists table k n → k ≡ i)
+pub entry_of-take_here : (table : List (Option ℕ)) (i n : ℕ) → Lists table i n → ((k : ℕ) → Lists table k n → k ≡ i)
     → entry_of (take (i + 1) table) n ≡ Some i
 entry_of-take_here table i n l only =
     entry_of-listed (take (i + 1) table) n i (Lists-take table (i + 1) i n (omega arith) l) (λ k h. only k (Lists-of_take table (i + 1) k n h).1)
 
 -- it does not list the number: what is found stays
-entry_of-take_other : (table : List (Option ℕ)) (i n : ℕ) → (Lists table i n → ⊥) → entry_of (take (i + 1) table) n ≡ entry_of (take i table) n
+pub entry_of-take_other : (table : List (Option ℕ)) (i n : ℕ) → (Lists table i n → ⊥) → entry_of (take (i + 1) table) n ≡ entry_of (take i table) n
 entry_of-take_other table i n not = by_found (entry_of (take i table) n) refl where
   by_found : (o : Option ℕ) → entry_of (take i table) n ≡ o → entry_of (take (i + 1) table) n ≡ entry_of (take i table) n
   by_found None h =

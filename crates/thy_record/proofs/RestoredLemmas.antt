@@ -1,5 +1,6 @@
 -- The state in a file: its processor, and its memory block by block.
-use Rattle.std.proofs.Common.{◌≡◌, ℕ, ◌+◌, ◌-◌, ◌*◌, ◌/◌, ◌%◌, ◌<◌, ◌≤◌, Bool, true, false, nat_lt, if◌then◌else◌, List, ◌∷◌, ◌++◌, length, map, take, drop, slice_index_or, Ok, sym, ◌∙◌, ap, arith}
+use Rattle.std.proofs.Common.{◌≡◌, ℕ, ◌+◌, ◌-◌, ◌*◌, ◌/◌, ◌%◌, ◌<◌, ◌≤◌, Bool, true, false, nat_lt, if◌then◌else◌, List, ◌∷◌, ◌++◌, length, map, take, drop, slice_index_or, Ok, IfOk, sym, ◌∙◌, ap, arith}
+use Rattle.std.specs.Prelude.{Result, Err}
 use Rattle.std.proofs.lemmas.List.{length-map, length-drop, length-take-le, get_or-map, get_or-drop, ext_get_or, take_all}
 use Rattle.std.proofs.lemmas.List.FromFn.{length-range_with_len, get_or-range_with_len}
 use Rattle.std.specs.List.{range_with_len}
@@ -178,19 +179,17 @@ console_gathered p blocks first n len all r is size =
     ap (λ xs. take len (flat xs)) (take_all n (drop first blocks) (omega (arith, length-drop first blocks, all)))
     ∙ ap (take len) (flat-drop first blocks (omega (arith, all)) ∙ ap (λ m. drop m (flat blocks)) at)
 
--- with the processor of a slot they are the state
-pub state_restored : (p : Parameters) (image slot : List Block) (cpu : CpuState) (memory console : List ℕ) (program size : ℕ) → IsInRange p
-    → slot ≡ slot_in p image → cpu ≡ cpu_of_record slot → program ≡ 64 * (p.pages - p.console) → size ≡ 64 * p.console
-    → memory ≡ flat (take program (drop 0 (memory_in p (tables_in p slot) image)))
-    → console ≡ take cpu.console_len (flat (take size (drop program (memory_in p (tables_in p slot) image))))
-    → state_with cpu memory console ≡ state_in p image
+-- with a processor they are the state
+pub state_gathered : (p : Parameters) (cpu : CpuState) (blocks : List Block) (memory console : List ℕ) (program size : ℕ) → IsInRange p
+    → length blocks ≡ memory_blocks p → program ≡ 64 * (p.pages - p.console) → size ≡ 64 * p.console
+    → memory ≡ flat (take program (drop 0 blocks)) → console ≡ take cpu.console_len (flat (take size (drop program blocks)))
+    → state_with cpu memory console ≡ state_from p cpu blocks
 unfolding state_from
-state_restored p image slot cpu memory console program size r slot_is cpu_is program_is size_is memory_is console_is =
-    let blocks = memory_in p (tables_in p slot) image in
-    let all = length-memory_in p (tables_in p slot) image in
-    let from_slot : state_with cpu memory console ≡ state_from p (cpu_of_record slot) (memory_in p (tables_in p slot) image) =
-    ap (λ m. state_with cpu m console) (memory_is ∙ memory_gathered p (memory_in p (tables_in p slot) image) program all r program_is)
-    ∙ ap (state_with cpu (memory_bytes p (memory_in p (tables_in p slot) image)))
-    (console_is ∙ console_gathered p (memory_in p (tables_in p slot) image) program size cpu.console_len all r program_is size_is)
-    ∙ ap (λ c. state_from p c (memory_in p (tables_in p slot) image)) cpu_is in
-    from_slot ∙ ap (λ s. state_from p (cpu_of_record s) (memory_in p (tables_in p s) image)) slot_is
+state_gathered p cpu blocks memory console program size r all program_is size_is memory_is console_is =
+    ap (λ m. state_with cpu m console) (memory_is ∙ memory_gathered p blocks program all r program_is)
+    ∙ ap (state_with cpu (memory_bytes p blocks)) (console_is ∙ console_gathered p blocks program size cpu.console_len all r program_is size_is)
+
+-- what follows from a result follows if there is one
+pub if_ok : {A E : Type 0} {P Q : A → Type 0} (r : Result A E) → ((x : A) → P x → Q x) → IfOk r P → IfOk r Q
+if_ok (Ok x) to h = to x h
+if_ok (Err e) to h = tt

@@ -36,7 +36,10 @@ pub use laws::{
     refusals_name_the_first_entries, slot_reads_back, tables_read_back, unused_places,
     written_decodes,
 };
-pub use restored::state;
-pub use slot::{cpu_in, listed_block, listed_count, listed_page, slot_fault};
+pub use restored::{state, state_at};
+pub use slot::{
+    btt_in, cpu_in, listed_block, listed_count, listed_page, slot_fault, status_fault, word_in,
+};
 pub use start::Start;
+pub use table_faults::{index_fault, twice_fault};
 pub use tables::table_block;

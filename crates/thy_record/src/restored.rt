@@ -1,5 +1,8 @@
 //! The state of the checkpoint in a file.
-ghost use Rattle.std.specs.Prelude.{◌≡◌, ◌+◌, ◌^◌, ◌<◌, ◌≤◌, length, IfOk};
+ghost use Rattle.std.specs.Prelude.{◌≡◌, ◌+◌, ◌^◌, ◌<◌, ◌≤◌, length, map, IfOk};
+ghost use Rattle.thy_base.specs.Device.{block_at};
+ghost use Rattle.thy_base.specs.Geometry.{memory_blocks};
+ghost use Rattle.thy_isa.specs.OnBlocks.{state_from};
 ghost use Rattle.thy_isa.specs.Step.{state_of};
 ghost use Rattle.thy_record.specs.Files.{blocks_of, HasCheckpointOf};
 ghost use Rattle.thy_record.specs.Images.{state_in};
@@ -11,7 +14,7 @@ use crate::index::places;
 use crate::slot::cpu_in;
 use std::alloc::{AllocError, Global};
 use thy_base::{BLOCK_SIZE, Bytes, Geometry};
-use thy_isa::MachState;
+use thy_isa::{CpuState, MachState};
 
 // The bytes of so many blocks from the first of these places of an image on.
 fn gathered(
@@ -34,19 +37,23 @@ fn gathered(
     Ok(bytes)
 }
 
-/// The state of the checkpoint in the bytes of a file. A `check` of these bytes has found one. Both
-/// tables are gone through once, and each block of memory is copied once.
-pub fn state(alloc: Global, image: &[u8], geometry: &Geometry) -> Result<MachState, AllocError>
-    requires { HasCheckpointOf geometry.now image.now }
-    ensures { IfOk result (λ m. state_of m ≡ state_in geometry.now (blocks_of image.now)) }
+/// The state of this processor, with memory's blocks at these places of the bytes of an image. Each block is copied once.
+pub fn state_at(
+    alloc: Global,
+    image: &[u8],
+    cpu: CpuState,
+    places: &[u64],
+    geometry: &Geometry,
+) -> Result<MachState, AllocError>
+    requires all { length places.now ≡ memory_blocks geometry.now }
+    requires inside { AreInside (blocks_of image.now) places.now }
+    ensures { IfOk result (λ m.
+        state_of m ≡ state_from geometry.now cpu (map (block_at (blocks_of image.now)) places.now)) }
 {
     let p = geometry.numbers();
-    let slot = slot_in(image, &block_in(image, 1), geometry);
-    let cpu = cpu_in(slot);
-    let places = places(alloc, slot, geometry)?;
     let program = 64 * (p.pages - p.console) as usize;
-    let memory = gathered(alloc, image, &places, 0, program)?;
-    let mut console = gathered(alloc, image, &places, program, 64 * p.console as usize)?;
+    let memory = gathered(alloc, image, places, 0, program)?;
+    let mut console = gathered(alloc, image, places, program, 64 * p.console as usize)?;
     console.truncate(cpu.console_len as usize);
     Ok(MachState {
         pc: cpu.pc,
@@ -59,4 +66,15 @@ pub fn state(alloc: Global, image: &[u8], geometry: &Geometry) -> Result<MachSta
         count: cpu.count,
         status: cpu.status,
     })
+}
+
+/// The state of the checkpoint in the bytes of a file. A `check` of these bytes has found one. Both
+/// tables are gone through once.
+pub fn state(alloc: Global, image: &[u8], geometry: &Geometry) -> Result<MachState, AllocError>
+    requires { HasCheckpointOf geometry.now image.now }
+    ensures { IfOk result (λ m. state_of m ≡ state_in geometry.now (blocks_of image.now)) }
+{
+    let slot = slot_in(image, &block_in(image, 1), geometry);
+    let places = places(alloc, slot, geometry)?;
+    state_at(alloc, image, cpu_in(slot), &places, geometry)
 }

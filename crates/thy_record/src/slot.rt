@@ -19,8 +19,8 @@ use thy_isa::CpuState;
 /// How many bytes the processor's record has.
 const RECORD_SIZE: usize = 5 * BLOCK_SIZE;
 
-// Word i of a slot.
-fn word_in(slot: &[u8], i: usize) -> u64
+/// Word `i` of a slot.
+pub fn word_in(slot: &[u8], i: usize) -> u64
     requires { i / 8 < length slot.now / 64 }
     ensures { result ≡ record_word (blocks_of slot.now) i }
 {
@@ -41,9 +41,9 @@ pub fn cpu_in(slot: &[u8]) -> CpuState
     ])
 }
 
-// The block table of a slot.
-pub(crate) fn btt_in<'a>(slot: &'a [u8], geometry: &Geometry) -> &'a [u8]
-    requires { 64 * (record_blocks geometry.now + table_blocks geometry.now) ≤ length slot.now }
+/// The block table of a slot, which stands behind the processor's record.
+pub fn btt_in<'a>(slot: &'a [u8], geometry: &Geometry) -> &'a [u8]
+    requires { 64 * (record_blocks geometry.now + geometry.now.btt / 8) ≤ length slot.now }
     ensures { table_in result.now ≡ (tables_in geometry.now (blocks_of slot.now)).btt }
 {
     let entries = geometry.numbers().btt as usize;
@@ -62,7 +62,7 @@ pub(crate) fn ptt_in<'a>(slot: &'a [u8], geometry: &Geometry) -> &'a [u8]
 
 /// The block that entry `i` of the block table in these bytes of a slot lists; none if the entry is empty.
 pub fn listed_block(slot: &[u8], i: usize, geometry: &Geometry) -> Option<u64>
-    requires slot { 64 * (record_blocks geometry.now + table_blocks geometry.now) ≤ length slot.now }
+    requires slot { 64 * (record_blocks geometry.now + geometry.now.btt / 8) ≤ length slot.now }
     requires entry { i < geometry.now.btt }
     ensures { result ≡ entry_at (tables_in geometry.now (blocks_of slot.now)).btt i }
 {
@@ -78,9 +78,9 @@ pub fn listed_page(slot: &[u8], j: usize, geometry: &Geometry) -> Option<u64>
     entry(ptt_in(slot, geometry), j)
 }
 
-// A status or a count without meaning, or a console longer than its pages.
-fn status_fault(slot: &[u8], geometry: &Geometry, ceiling: u64) -> Option<BadImage>
-    requires { 64 * (record_blocks geometry.now + table_blocks geometry.now) ≤ length slot.now }
+/// A status or a count without meaning, or a console longer than its pages.
+pub fn status_fault(slot: &[u8], geometry: &Geometry, ceiling: u64) -> Option<BadImage>
+    requires { 5 ≤ length slot.now / 64 }
     ensures { result ≡ fault_of_status geometry.now ceiling (blocks_of slot.now) }
 {
     let stands = is_status(word_in(slot, 36), word_in(slot, 37)) && word_in(slot, 32) < ceiling;

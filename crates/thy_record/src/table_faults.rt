@@ -31,8 +31,9 @@ pub(crate) fn entry_of(table: &[u8], number: u64) -> Option<usize>
     None
 }
 
-// The first entry that lists a number which is not below the limit.
-fn index_fault(table: &[u8], before: u64, limit: u64) -> Option<BadImage>
+/// The first entry of a table that lists a number which is not below the limit. `before` entries have lower numbers than
+/// the table's.
+pub fn index_fault(table: &[u8], before: u64, limit: u64) -> Option<BadImage>
     requires { before ≤ 4096 }
     ensures { result ≡ first_clash (index_rule before limit) 0 (table_in table.now) }
 {
@@ -58,8 +59,8 @@ fn twin(table: &[u8], k: usize) -> Option<usize>
     }
 }
 
-// The first entry that lists what an earlier one does.
-fn twice_fault(table: &[u8], before: u64) -> Option<BadImage>
+/// The first entry of a table that lists what an earlier one does, counted in the same way.
+pub fn twice_fault(table: &[u8], before: u64) -> Option<BadImage>
     requires { before ≤ 4096 }
     ensures { result ≡ first_clash (twice_rule before (table_in table.now)) 0 (table_in table.now) }
 {

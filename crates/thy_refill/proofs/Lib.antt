@@ -1,6 +1,5 @@
 pub mod FillLemmas
 pub mod FirstLemmas
 pub mod LawLemmas
-pub mod FaultLemmas
 pub mod ListLemmas
 pub mod ZeroLemmas

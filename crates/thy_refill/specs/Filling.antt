@@ -1,3 +1,4 @@
+-- Part of the claim.
 -- What the boot fills: the log, with the checkpoint that an image has in a journal. A position is an entry of the table.
 use Rattle.std.specs.Prelude.{◌≡◌, ℕ, ◌%◌, ◌<◌, List, replicate, is_some, Option, None}
 use Rattle.thy_base.specs.declared.block.Block.{Block}

@@ -6,9 +6,9 @@ ghost use Rattle.thy_journal_image.specs.Slots.{IsTable, table_in};
 ghost use Rattle.thy_refill.specs.Filling.{IsFresh};
 ghost use Rattle.thy_refill.specs.Listed.{ListsAll, ListsUpTo};
 
-use crate::slot::listed_block;
 use thy_base::Geometry;
 use thy_log::Log;
+use thy_record::listed_block;
 
 /// Lists in a log that lists nothing what the table of a slot does, each block at the slot's entry.
 pub fn list_all(slot: &[u8], geometry: &Geometry, log: &mut Log)

@@ -3,11 +3,11 @@
 use crate::expect::{expect, expect_at};
 use std::alloc::Global;
 use std::process::Abort;
-use thy_base::Config;
+use thy_base::{Config, SchemeName};
 use thy_words::{Command, Job, WordsError, settings};
 
 /// Arguments of invalid usage.
-static USAGE: [&str; 44] = [
+static USAGE: [&str; 48] = [
     "thynvm",
     "thynvm|run",
     "thynvm|help",
@@ -52,10 +52,14 @@ static USAGE: [&str; 44] = [
     "thynvm|make|7|O|--digest",
     "thynvm|make|7|O|--pages|9",
     "thynvm|make|7|O|--save|S",
+    "thynvm|run|F|--scheme",
+    "thynvm|run|F|--scheme|journal|--scheme|journal",
+    "thynvm|plain|F|--scheme|journal",
+    "thynvm|make|7|O|--scheme|journal",
 ];
 
 /// Arguments of which one is not a value, and the field that it should be of.
-static WORDS: [(&str, &str); 27] = [
+static WORDS: [(&str, &str); 35] = [
     ("thynvm|run|F|--pages|x", "pages"),
     ("thynvm|run|F|--pages=-5", "pages"),
     ("thynvm|run|F|--pages=+9", "pages"),
@@ -83,6 +87,14 @@ static WORDS: [(&str, &str); 27] = [
     ("thynvm|make|+7|O", "n"),
     ("thynvm|make|10000000000000000000|O", "n"),
     ("thynvm|make|00000000000000000007|O", "n"),
+    ("thynvm|run|F|--scheme|x", "scheme"),
+    ("thynvm|run|F|--scheme|Journal", "scheme"),
+    ("thynvm|run|F|--scheme| thynvm", "scheme"),
+    ("thynvm|run|F|--scheme=", "scheme"),
+    ("thynvm|resume|D|--scheme|1", "scheme"),
+    ("thynvm|bench|7|--scheme|journal,thynvm", "scheme"),
+    ("thynvm|run|F|--scheme|x|--limit|y", "limit"),
+    ("thynvm|run|F|--gap|x|--scheme|y|--pages|7", "scheme"),
 ];
 
 /// Words that give a value out of range, its field, and the value.
@@ -295,6 +307,19 @@ static COMMANDS: [Row; 16] = [
     ),
 ];
 
+/// Words that ask for a run, and the scheme of its configuration.
+static SCHEMES: [(&str, SchemeName); 6] = [
+    ("thynvm|run|F", SchemeName::Thynvm),
+    ("thynvm|run|F|--scheme|thynvm", SchemeName::Thynvm),
+    ("thynvm|run|--scheme=journal|F", SchemeName::Journal),
+    ("thynvm|resume|D|--scheme|journal", SchemeName::Journal),
+    (
+        "thynvm|bench|7|--gap|5|--scheme|journal",
+        SchemeName::Journal,
+    ),
+    ("thynvm|plain|F", SchemeName::Thynvm),
+];
+
 /// Words that ask for a made program, its number, and the name under which it is put.
 static MAKES: [(&str, u64, &str); 4] = [
     ("thynvm|make|0|O", 0, "O"),
@@ -414,6 +439,15 @@ fn words_ask_for_their_settings(rt: HostRuntime) {
     for row in &COMMANDS {
         let command = command_of(&rt, rt.alloc(), row.0);
         compare(&rt, &command, row);
+    }
+}
+
+#[test]
+fn words_name_a_scheme(rt: HostRuntime) {
+    for (row, scheme) in &SCHEMES {
+        let command = command_of(&rt, rt.alloc(), row);
+        let job = job(&command).expect(&rt, "a command that runs");
+        expect_at(&rt, job.config.scheme, *scheme, row);
     }
 }
 

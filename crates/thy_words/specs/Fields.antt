@@ -1,20 +1,22 @@
 -- Part of the claim.
 -- The fields of a configuration as the arguments give them.
-use Rattle.std.specs.Prelude.{ℕ, Bool, true, false, if◌then◌else◌, List, [], ◌∷◌, Option, find}
-use Rattle.std.specs.Prelude.{not, option_and_then, unwrap_or}
+use Rattle.std.specs.Prelude.{ℕ, Bool, true, if◌then◌else◌, List, [], ◌∷◌, Option, Some, None, codes, find}
+use Rattle.std.specs.Prelude.{not, is_some, option_and_then, unwrap_or}
 use Rattle.std.specs.Option.{option_map_or}
+use Rattle.std.specs.Str.{bytes_eq}
 use Rattle.clap.specs.Walk.{Row, Text, first_of}
 use Rattle.thy_base.specs.declared.config.Config.{Config}
 use Rattle.thy_base.specs.declared.config.Field.{Field}
-use Rattle.thy_base.specs.declared.config.Field.TheVariants.{Base, Pages, Console, Epoch, Btt, Ptt, Sets, Ways, Nvmq, Dramq, High, Low, Mix, Cuts, Tears, Limit, Gap, N}
-use Rattle.thy_base.specs.declared.config.SchemeName.TheVariants.{Thynvm}
+use Rattle.thy_base.specs.declared.config.Field.TheVariants.{Base, Pages, Console, Epoch, Btt, Ptt, Sets, Ways, Nvmq, Dramq, High, Low, Mix, Cuts, Tears, Limit, Scheme, Gap, N}
+use Rattle.thy_base.specs.declared.config.SchemeName.{SchemeName}
+use Rattle.thy_base.specs.declared.config.SchemeName.TheVariants.{Thynvm, Journal}
 use Rattle.thy_base.specs.Fields.{field_name}
 use Rattle.thy_words.specs.Numbers.{is_list, is_number, number_in, numbers_in}
 
 -- those of a configuration, in the order in which they are read, and then tested
 abbrev pub fields : List Field
 fields = Base ∷ Pages ∷ Console ∷ Epoch ∷ Btt ∷ Ptt ∷ Sets ∷ Ways ∷ Nvmq ∷ Dramq ∷ High ∷ Low
-    ∷ Mix ∷ Cuts ∷ Tears ∷ Limit ∷ Gap ∷ []
+    ∷ Mix ∷ Cuts ∷ Tears ∷ Limit ∷ Scheme ∷ Gap ∷ []
 
 -- the fields that are read from the arguments: the number of a made program comes first
 abbrev pub all_fields : List Field
@@ -28,15 +30,19 @@ plain_fields = Base ∷ Pages ∷ Console ∷ Limit ∷ []
 abbrev pub text_of : List Row → Field → Option Text
 text_of rows f = first_of (field_name f) rows
 
--- the field's value is a list
-abbrev pub takes_list : Field → Bool
-takes_list Cuts = true
-takes_list Tears = true
-takes_list _ = false
+-- the scheme of a name
+abbrev pub scheme_named : Text → Option SchemeName
+scheme_named name =
+    if bytes_eq name (codes "thynvm") then Some Thynvm
+    else if bytes_eq name (codes "journal") then Some Journal
+    else None
 
--- the text is a value of the field
+-- the text is a value of the field: a list, the name of a scheme, or a number
 abbrev pub reads : Field → Text → Bool
-reads f t = if takes_list f then is_list t else is_number t
+reads Cuts t = is_list t
+reads Tears t = is_list t
+reads Scheme t = is_some (scheme_named t)
+reads _ t = is_number t
 
 -- the arguments leave the field out, or give it a value
 abbrev pub is_readable : List Row → Field → Bool
@@ -54,7 +60,11 @@ number_at rows f otherwise = unwrap_or (option_and_then number_in (text_of rows 
 abbrev pub list_at : List Row → Field → List ℕ
 list_at rows f = option_map_or numbers_in (text_of rows f) []
 
--- the configuration of rows in which each field is readable; no option sets the scheme or the number of harts so far
+-- the scheme, that of ThyNVM if the arguments leave it out
+abbrev pub scheme_at : List Row → SchemeName
+scheme_at rows = unwrap_or (option_and_then scheme_named (text_of rows Scheme)) Thynvm
+
+-- the configuration of rows in which each field is readable; no option sets the number of harts so far
 abbrev pub config_at : List Row → Config
 config_at rows = record {
   base = number_at rows Base 65536;
@@ -73,7 +83,7 @@ config_at rows = record {
   cuts = list_at rows Cuts;
   tears = list_at rows Tears;
   limit = number_at rows Limit 1000000000;
-  scheme = Thynvm;
+  scheme = scheme_at rows;
   harts = 1;
   gap = number_at rows Gap 0;
 }

@@ -19,7 +19,7 @@ enum Argument {
 
 /// The options of `run`, `resume` and `bench`: every field of a configuration, the names of what is read and of what
 /// is saved, and whether digests of memory are reported.
-static RUN_OPTIONS: [Argument; 20] = [
+static RUN_OPTIONS: [Argument; 21] = [
     Argument::Valued("base"),
     Argument::Valued("pages"),
     Argument::Valued("console"),
@@ -36,6 +36,7 @@ static RUN_OPTIONS: [Argument; 20] = [
     Argument::Valued("cuts"),
     Argument::Valued("tears"),
     Argument::Valued("limit"),
+    Argument::Valued("scheme"),
     Argument::Valued("gap"),
     Argument::Valued("input"),
     Argument::Valued("save"),

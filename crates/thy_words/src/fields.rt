@@ -3,7 +3,7 @@ ghost use Rattle.std.specs.Prelude.{◌≡◌, IfOk, option_map};
 ghost use Rattle.clap.specs.Matches.{found_of};
 ghost use Rattle.clap.specs.Walk.{first_of, rows_of};
 ghost use Rattle.thy_words.specs.Settings.{has_flag};
-ghost use Rattle.thy_words.specs.Fields.{config_at, is_readable, list_at, number_at, takes_list, unreadable};
+ghost use Rattle.thy_words.specs.Fields.{config_at, is_readable, list_at, number_at, reads, scheme_at, scheme_named, unreadable};
 
 use crate::numbers::{is_list, is_number, number, numbers};
 use clap::ArgMatches;
@@ -11,7 +11,7 @@ use std::alloc::{AllocError, Global};
 use thy_base::{Config, Field, Numbers, SchemeName};
 
 /// The fields, in the order in which they are read.
-static FIELDS: [Field; 18] = [
+static FIELDS: [Field; 19] = [
     Field::N,
     Field::Base,
     Field::Pages,
@@ -29,6 +29,7 @@ static FIELDS: [Field; 18] = [
     Field::Cuts,
     Field::Tears,
     Field::Limit,
+    Field::Scheme,
     Field::Gap,
 ];
 
@@ -49,11 +50,28 @@ pub(crate) fn has_flag(matches: &ArgMatches<'_>, name: &str) -> bool
     }
 }
 
-/// Whether the field's value is a list.
-fn takes_list(field: Field) -> bool
-    ensures { result ≡ takes_list field }
+/// The scheme of a name.
+fn scheme_named(name: &str) -> Option<SchemeName>
+    ensures { result ≡ scheme_named name.now }
 {
-    matches!(field, Field::Cuts | Field::Tears)
+    if name == "thynvm" {
+        Some(SchemeName::Thynvm)
+    } else if name == "journal" {
+        Some(SchemeName::Journal)
+    } else {
+        None
+    }
+}
+
+/// Whether the text is a value of the field.
+fn reads(field: Field, text: &str) -> bool
+    ensures { result ≡ reads field text.now }
+{
+    match field {
+        Field::Cuts | Field::Tears => is_list(text),
+        Field::Scheme => scheme_named(text).is_some(),
+        _ => is_number(text),
+    }
 }
 
 /// Whether the arguments leave the field out, or give it a value.
@@ -62,13 +80,7 @@ fn is_readable(matches: &ArgMatches<'_>, field: Field) -> bool
 {
     match text_of(matches, field.name()) {
         None => true,
-        Some(text) => {
-            if takes_list(field) {
-                is_list(text)
-            } else {
-                is_number(text)
-            }
-        }
+        Some(text) => reads(field, text),
     }
 }
 
@@ -103,6 +115,16 @@ fn list_at(alloc: Global, matches: &ArgMatches<'_>, field: Field) -> Result<Numb
     Ok(Numbers::from_vec(items))
 }
 
+/// The scheme, `thynvm` if the arguments leave it out.
+fn scheme_at(matches: &ArgMatches<'_>) -> SchemeName
+    ensures { result ≡ scheme_at (rows_of (found_of matches.now)) }
+{
+    match text_of(matches, Field::Scheme.name()) {
+        Some(text) => scheme_named(text).unwrap_or(SchemeName::Thynvm),
+        None => SchemeName::Thynvm,
+    }
+}
+
 /// The configuration that the arguments give, in which each field is readable.
 pub(crate) fn config_at(alloc: Global, matches: &ArgMatches<'_>) -> Result<Config, AllocError>
     ensures { IfOk result (λ c. c ≡ config_at (rows_of (found_of matches.now))) }
@@ -126,7 +148,7 @@ pub(crate) fn config_at(alloc: Global, matches: &ArgMatches<'_>) -> Result<Confi
         cuts,
         tears,
         limit: number_at(matches, Field::Limit, 1_000_000_000),
-        scheme: SchemeName::Thynvm,
+        scheme: scheme_at(matches),
         harts: 1,
         gap: number_at(matches, Field::Gap, 0),
     })

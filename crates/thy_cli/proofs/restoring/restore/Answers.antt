@@ -1,11 +1,12 @@
-use Rattle.std.proofs.Common.{refl}
-use Rattle.thy_isa.specs.Step.{state_of}
-use Rattle.thy_cli.proofs.RestoringLaws.{decodes-found}
+use Rattle.std.proofs.Common.{◌^◌, refl}
 use Rattle.thy_cli.proofs.restoring.restore.Goals as goal
+
+pub state-requires : goal.state-requires
+state-requires c = record { ceiling = 2 ^ 62; epoch = c.args.epoch; found = c.requires.found }
 
 pub returns : goal.returns
 returns c = record {
-  decodes = decodes-found c.args.geometry.now c.args.bytes.now c.args.epoch (state_of c.in_ok-state.state) c.requires c.in_ok-state.ensures;
+  decodes = c.in_ok-state.ensures (2 ^ 62) c.args.epoch c.requires.found;
   kept = refl;
   reads = refl;
   blocks = c.in_ok-blocks.ensures;

@@ -1,13 +1,33 @@
 use Rattle.std.proofs.Common.{◌∙◌, ap, subst, refl, inl, inr, map, Ok}
 use Rattle.std.specs.Prelude.{Result}
 use Rattle.std.specs.String.{string_bytes}
+use Rattle.thy_base.specs.declared.config.SchemeName.TheVariants.{Thynvm, Journal}
 use Rattle.thy_words.specs.declared.words.Command.{Command}
 use Rattle.thy_words.specs.declared.words.WordsError.{WordsError}
 use Rattle.thy_words.specs.Settings.{Order, run, resume, bench, plain, make, job_of, order_of}
 use Rattle.thy_cli.specs.Answering.{Outside, outside, PlainAnswered, MakeAnswered}
 use Rattle.thy_cli.proofs.CompleteLaws.{Claim-answered}
+use Rattle.thy_cli.proofs.RestoringLaws.{reads_by}
 use Rattle.thy_cli.proofs.TopLemmas.{RunAnswered-file, RunAnswered-image, WordsDue-shown}
 use Rattle.thy_cli.proofs.top.thynvm.Goals as goal
+
+pub run_by_scheme-requires-clause-thynvm : goal.run_by_scheme-requires-clause-thynvm
+run_by_scheme-requires-clause-thynvm g c = reads_by _ Thynvm (λ p ceiling image. refl) (λ p. refl)
+
+pub run_by_scheme-requires-clause-journal : goal.run_by_scheme-requires-clause-journal
+run_by_scheme-requires-clause-journal g c = reads_by _ Journal (λ p ceiling image. refl) (λ p. refl)
+
+pub run_by_scheme-in-Ok-Resume-requires-clause-thynvm : goal.run_by_scheme-in-Ok-Resume-requires-clause-thynvm
+run_by_scheme-in-Ok-Resume-requires-clause-thynvm g c = reads_by _ Thynvm (λ p ceiling image. refl) (λ p. refl)
+
+pub run_by_scheme-in-Ok-Resume-requires-clause-journal : goal.run_by_scheme-in-Ok-Resume-requires-clause-journal
+run_by_scheme-in-Ok-Resume-requires-clause-journal g c = reads_by _ Journal (λ p ceiling image. refl) (λ p. refl)
+
+pub run_by_scheme-in-Ok-Bench-requires-clause-thynvm : goal.run_by_scheme-in-Ok-Bench-requires-clause-thynvm
+run_by_scheme-in-Ok-Bench-requires-clause-thynvm g c = reads_by _ Thynvm (λ p ceiling image. refl) (λ p. refl)
+
+pub run_by_scheme-in-Ok-Bench-requires-clause-journal : goal.run_by_scheme-in-Ok-Bench-requires-clause-journal
+run_by_scheme-in-Ok-Bench-requires-clause-journal g c = reads_by _ Journal (λ p ceiling image. refl) (λ p. refl)
 
 pub returns-in-Ok-Run : goal.returns-in-Ok-Run
 returns-in-Ok-Run g c =

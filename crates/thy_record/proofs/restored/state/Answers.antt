@@ -1,17 +1,20 @@
-use Rattle.std.proofs.Common.{◌≡◌, ◌-◌, ◌*◌, ◌∙◌, ℕ, List, length, take, sym, ap, subst, arith}
+use Rattle.std.proofs.Common.{◌≡◌, ◌∙◌, ℕ, List, length, map, sym, ap, subst, arith}
 use Rattle.thy_base.specs.declared.block.Block.{Block}
 use Rattle.thy_base.specs.declared.config.Parameters.{Parameters}
-use Rattle.thy_base.specs.Bytes.{bytes_of}
-use Rattle.thy_base.specs.Geometry.{IsInRange, memory_blocks}
-use Rattle.thy_base.proofs.RangeLemmas.{console_below}
+use Rattle.thy_base.specs.Device.{block_at}
+use Rattle.thy_base.specs.Geometry.{memory_blocks}
+use Rattle.thy_isa.specs.declared.state.CpuState.{CpuState}
+use Rattle.thy_isa.specs.declared.state.MachState.{MachState}
+use Rattle.thy_isa.specs.OnBlocks.{state_from}
+use Rattle.thy_record.specs.Cpu.{cpu_of_record}
 use Rattle.thy_record.specs.Files.{blocks_of, HasCheckpointOf}
-use Rattle.thy_record.specs.Images.{slot_in, memory_numbers}
-use Rattle.thy_record.specs.Index.{AreInside, bytes_at}
+use Rattle.thy_record.specs.Images.{slot_in, memory_numbers, state_in}
+use Rattle.thy_record.specs.Index.{AreInside}
 use Rattle.thy_record.specs.Slots.{tables_in}
 use Rattle.thy_record.specs.Tables.{Tables, IsTables}
 use Rattle.thy_record.proofs.FileLemmas.{block_at-blocks_of}
 use Rattle.thy_record.proofs.IssuingLemmas.{length-memory_numbers}
-use Rattle.thy_record.proofs.RestoredLemmas.{IsWholeFile-found, AreInside-memory, state_restored}
+use Rattle.thy_record.proofs.RestoredLemmas.{IsWholeFile-found, AreInside-memory, if_ok}
 use Rattle.thy_record.proofs.restored.state.Goals as goal
 
 pub slot_in-slot-requires-clause-long : goal.slot_in-slot-requires-clause-long
@@ -39,56 +42,29 @@ are_inside p bytes places slot has of is =
     subst (λ (xs : List ℕ). AreInside (blocks_of bytes) xs) (sym (is ∙ ap (λ (s : List Block). memory_numbers p (tables_in p s)) of))
     (AreInside-memory p (tables_in p (slot_in p (blocks_of bytes))) bytes whole.places whole.tables)
 
-pub gathered-requires-clause-few : goal.gathered-requires-clause-few
-gathered-requires-clause-few c =
-    let pages : c.numbers-p.result.pages ≡ c.args.geometry.now.pages = ap (λ (p : Parameters). p.pages) c.numbers-p.ensures.same in
-    let range : IsInRange c.args.geometry.now = c.numbers-p.ensures.in_range in
-    omega (arith, pages)
+-- with the processor of the slot they make the state
+state_is : (p : Parameters) (image slot : List Block) (cpu : CpuState) (places : List ℕ) → slot ≡ slot_in p image → cpu ≡ cpu_of_record slot
+    → places ≡ memory_numbers p (tables_in p slot) → state_from p cpu (map (block_at image) places) ≡ state_in p image
+state_is p image slot cpu places of cpu_is is =
+    ap (λ (xs : List ℕ). state_from p cpu (map (block_at image) xs)) is
+    ∙ ap (λ (c : CpuState). state_from p c (map (block_at image) (memory_numbers p (tables_in p slot)))) cpu_is
+    ∙ ap (λ (s : List Block). state_from p (cpu_of_record s) (map (block_at image) (memory_numbers p (tables_in p s)))) of
 
-pub gathered-requires-2-clause-few : goal.gathered-requires-2-clause-few
-gathered-requires-2-clause-few c =
-    let console : c.numbers-p.result.console ≡ c.args.geometry.now.console = ap (λ (p : Parameters). p.console) c.numbers-p.ensures.same in
-    let range : IsInRange c.args.geometry.now = c.numbers-p.ensures.in_range in
-    omega (arith, console)
+pub state_at-requires-clause-all : goal.state_at-requires-clause-all
+state_at-requires-clause-all c =
+    as_many c.args.geometry.now (tables_in c.args.geometry.now (blocks_of c.slot_in-slot.result.now)) c.deref.result.now
+    (c.deref.ensures.value ∙ c.in_ok-places.ensures)
 
-pub gathered-requires-clause-inside : goal.gathered-requires-clause-inside
-gathered-requires-clause-inside c =
-    let pages : c.numbers-p.result.pages ≡ c.args.geometry.now.pages = ap (λ (p : Parameters). p.pages) c.numbers-p.ensures.same in
-    let many = as_many c.args.geometry.now (tables_in c.args.geometry.now (blocks_of c.slot_in-slot.result.now)) c.deref.result.now
-    (c.deref.ensures.value ∙ c.in_ok-places.ensures) in
-    omega (arith, many, pages)
-
-pub gathered-requires-2-clause-inside : goal.gathered-requires-2-clause-inside
-gathered-requires-2-clause-inside c =
-    let pages : c.numbers-p.result.pages ≡ c.args.geometry.now.pages = ap (λ (p : Parameters). p.pages) c.numbers-p.ensures.same in
-    let console : c.numbers-p.result.console ≡ c.args.geometry.now.console = ap (λ (p : Parameters). p.console) c.numbers-p.ensures.same in
-    let below = console_below c.args.geometry.now c.numbers-p.ensures.in_range in
-    let many = as_many c.args.geometry.now (tables_in c.args.geometry.now (blocks_of c.slot_in-slot.result.now)) c.deref-2.result.now
-    (c.deref-2.ensures.value ∙ c.in_ok-places.ensures) in
-    omega (arith, many, pages, console, below)
-
-pub gathered-requires-clause-places : goal.gathered-requires-clause-places
-gathered-requires-clause-places c =
+pub state_at-requires-clause-inside : goal.state_at-requires-clause-inside
+state_at-requires-clause-inside c =
     are_inside c.args.geometry.now c.args.image.now c.deref.result.now (blocks_of c.slot_in-slot.result.now) c.requires c.slot_in-slot.ensures.slot
     (c.deref.ensures.value ∙ c.in_ok-places.ensures)
 
-pub gathered-requires-2-clause-places : goal.gathered-requires-2-clause-places
-gathered-requires-2-clause-places c =
-    are_inside c.args.geometry.now c.args.image.now c.deref-2.result.now (blocks_of c.slot_in-slot.result.now) c.requires c.slot_in-slot.ensures.slot
-    (c.deref-2.ensures.value ∙ c.in_ok-places.ensures)
-
 pub returns : goal.returns
 returns c =
-    let pages : c.numbers-p.result.pages ≡ c.args.geometry.now.pages = ap (λ (p : Parameters). p.pages) c.numbers-p.ensures.same in
-    let console : c.numbers-p.result.console ≡ c.args.geometry.now.console = ap (λ (p : Parameters). p.console) c.numbers-p.ensures.same in
-    let program : ℕ = 64 * (c.numbers-p.result.pages - c.numbers-p.result.console) in
-    let image : List Block = blocks_of c.args.image.now in
-    state_restored c.args.geometry.now (blocks_of c.args.image.now) (blocks_of c.slot_in-slot.result.now) c.cpu_in-cpu.result
-    (bytes_of c.from_vec.result) (bytes_of c.from_vec-2.result)
-    (64 * (c.numbers-p.result.pages - c.numbers-p.result.console)) (64 * c.numbers-p.result.console) c.numbers-p.ensures.in_range
-    c.slot_in-slot.ensures.slot c.cpu_in-cpu.ensures (omega arith) (omega arith)
-    (c.from_vec.ensures.bytes ∙ c.in_ok-memory.ensures
-    ∙ ap (λ (xs : List ℕ). bytes_at image xs 0 program) (c.deref.ensures.value ∙ c.in_ok-places.ensures))
-    (c.from_vec-2.ensures.bytes ∙ c.truncate.ensures.items
-    ∙ ap (take c.cpu_in-cpu.result.console_len) (c.in_ok-console.ensures
-    ∙ ap (λ (xs : List ℕ). bytes_at image xs program (64 * c.numbers-p.result.console)) (c.deref-2.ensures.value ∙ c.in_ok-places.ensures)))
+    if_ok c.state_at.result
+    (λ (m : MachState) made.
+    made
+    ∙ state_is c.args.geometry.now (blocks_of c.args.image.now) (blocks_of c.slot_in-slot.result.now) c.cpu_in.result c.deref.result.now
+    c.slot_in-slot.ensures.slot c.cpu_in.ensures (c.deref.ensures.value ∙ c.in_ok-places.ensures))
+    c.state_at.ensures

@@ -1,0 +1,5 @@
+pub mod BlockLemmas
+pub mod StateLemmas
+pub mod ThynvmLemmas
+pub mod JournalLemmas
+pub mod LawLemmas

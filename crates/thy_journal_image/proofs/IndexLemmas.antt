@@ -1,0 +1,70 @@
+-- The numbers of memory's places, entry by entry of the table.
+use Rattle.std.proofs.Common.{◌≡◌, ℕ, ◌+◌, ◌*◌, ◌/◌, ◌<◌, List, [], length, take, slice_set, slice_index_or, Option, Some, None, refl, sym, ◌∙◌, ap, inl, inr, arith}
+use Rattle.std.proofs.lemmas.Bool.{cases_eq}
+use Rattle.std.proofs.lemmas.List.{length-set, get_or-set_same, get_or-set_other, ext_get_or}
+use Rattle.thy_base.specs.declared.config.Parameters.{Parameters}
+use Rattle.thy_base.specs.Geometry.{memory_blocks}
+use Rattle.thy_record.specs.Files.{blocks_of}
+use Rattle.thy_record.specs.Index.{AreInside}
+use Rattle.thy_record.specs.Tables.{entry_at, Lists, entry_of}
+use Rattle.thy_record.proofs.FileLemmas.{length-blocks_of}
+use Rattle.thy_record.proofs.IndexLemmas.{entry_of-take_here, entry_of-take_other}
+use Rattle.thy_journal_image.specs.Index.{with_block}
+use Rattle.thy_journal_image.specs.Parts.{memory_places}
+use Rattle.thy_journal_image.specs.Places.{home_place, journal_place, image_blocks, place_by, place_of}
+use Rattle.thy_journal_image.specs.Slots.{IsTable}
+use Rattle.thy_journal_image.proofs.PartsLemmas.{length-memory_places, memory_place, place_by_behind}
+
+-- a list that has them one by one
+places_are : (p : Parameters) (s : ℕ) (table : List (Option ℕ)) (index : List ℕ) → length index ≡ memory_blocks p
+    → ((b : ℕ) → b < memory_blocks p → slice_index_or index b 0 ≡ place_of p s table b) → index ≡ memory_places p s table
+places_are p s table index long each =
+    ext_get_or 0 index (memory_places p s table) (long ∙ sym (length-memory_places p s table))
+    (λ b below. let l : b < memory_blocks p = omega (arith, long) in each b l ∙ sym (memory_place p s table b 0 l))
+
+-- with nothing listed all of memory is at home
+pub homes_are : (p : Parameters) (s : ℕ) (index : List ℕ) → length index ≡ memory_blocks p
+    → ((b : ℕ) → b < memory_blocks p → slice_index_or index b 0 ≡ home_place p b) → index ≡ memory_places p s []
+homes_are p s index long each = places_are p s [] index long each
+
+-- ---- one entry more
+
+module _ (p : Parameters) (s : ℕ) (table : List (Option ℕ)) (i : ℕ) (t : IsTable p table) where
+  block_by : (o : Option ℕ) → entry_at table i ≡ o → with_block p s i o (memory_places p s (take i table)) ≡ memory_places p s (take (i + 1) table)
+  block_by None h =
+      places_are p s (take (i + 1) table) (memory_places p s (take i table)) (length-memory_places p s (take i table))
+      (λ b l.
+      memory_place p s (take i table) b 0 l
+      ∙ ap (place_by p s b) (sym (entry_of-take_other table i b (λ lists. let is = lists.is in cc))))
+  block_by (Some n) h =
+      let v : ℕ = journal_place p s i in
+      let old : List ℕ = memory_places p s (take i table) in
+      let here : Lists table i n = record { is = h } in
+      let small : n < memory_blocks p = t.blocks i n here in
+      places_are p s (take (i + 1) table) (slice_set old n v) (length-set old n v ∙ length-memory_places p s (take i table))
+      (λ b l. elim (cases_eq b n) as (λ _. slice_index_or (slice_set (memory_places p s (take i table)) n (journal_place p s i)) b 0 ≡ place_of p s (take (i + 1) table) b) [
+        | inl e ↦
+            ap (λ (x : ℕ). slice_index_or (slice_set (memory_places p s (take i table)) n (journal_place p s i)) x 0) e
+            ∙ get_or-set_same (memory_places p s (take i table)) n (journal_place p s i) 0 (omega (arith, small, length-memory_places p s (take i table)))
+            ∙ sym (ap (place_by p s b) (ap (entry_of (take (i + 1) table)) e ∙ entry_of-take_here table i n here (λ k other. t.once k i n other here)))
+        | inr ne ↦
+            get_or-set_other (memory_places p s (take i table)) n b (journal_place p s i) 0 ne
+            ∙ memory_place p s (take i table) b 0 l
+            ∙ ap (place_by p s b) (sym (entry_of-take_other table i b (λ lists. let is = lists.is in ne (let same : b ≡ n = cc in same))))
+      ])
+
+  pub block_listed : (old new : List ℕ) → old ≡ memory_places p s (take i table) → new ≡ with_block p s i (entry_at table i) old
+      → new ≡ memory_places p s (take (i + 1) table)
+  block_listed old new before after = after ∙ ap (with_block p s i (entry_at table i)) before ∙ block_by (entry_at table i) refl
+
+-- ---- in a file
+
+-- each is a block of the image
+pub places_inside : (p : Parameters) (bytes : List ℕ) (s : ℕ) (table : List (Option ℕ)) → length bytes ≡ 64 * image_blocks p → IsTable p table → s < 2
+    → AreInside (blocks_of bytes) (memory_places p s table)
+places_inside p bytes s table long whole l = record {
+  each = λ k below.
+      let small : k < memory_blocks p = omega (arith, below, length-memory_places p s table) in
+      let inside = (place_by_behind p s table k (entry_of table k) whole l small refl).1 in
+      omega (arith, memory_place p s table k 0 small, inside, length-blocks_of bytes, long);
+}

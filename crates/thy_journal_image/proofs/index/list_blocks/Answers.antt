@@ -1,0 +1,28 @@
+use Rattle.std.proofs.Common.{◌∙◌, ℕ, List, Option, length, take, ap, arith}
+use Rattle.std.proofs.lemmas.List.{take_all}
+use Rattle.thy_base.specs.declared.config.Parameters.{Parameters}
+use Rattle.thy_record.specs.Files.{blocks_of}
+use Rattle.thy_journal_image.specs.Index.{with_block}
+use Rattle.thy_journal_image.specs.Parts.{memory_places}
+use Rattle.thy_journal_image.specs.Slots.{table_in}
+use Rattle.thy_journal_image.proofs.IndexLemmas.{block_listed}
+use Rattle.thy_journal_image.proofs.PartsLemmas.{length-memory_places}
+use Rattle.thy_journal_image.proofs.index.list_blocks.Goals as goal
+
+pub list_block-requires-clause-long : goal.list_block-requires-clause-long
+list_block-requires-clause-long c =
+    ap length c.loop-i.invariant
+    ∙ length-memory_places c.args.geometry.now c.args.s (take c.loop-i.i (table_in c.args.geometry.now (blocks_of c.args.slot.now)))
+
+pub loop-i-preserved : goal.loop-i-preserved
+loop-i-preserved c =
+    block_listed c.args.geometry.now c.args.s (table_in c.args.geometry.now (blocks_of c.args.slot.now)) c.loop-i.i c.requires.table c.loop-i.index c.list_block.new.index
+    c.loop-i.invariant
+    (c.list_block.ensures ∙ ap (λ (e : Option ℕ). with_block c.args.geometry.now c.args.s c.loop-i.i e c.loop-i.index) c.listed_block.ensures)
+
+pub returns : goal.returns
+returns c =
+    c.loop-i.invariant
+    ∙ ap (memory_places c.args.geometry.now c.args.s)
+    (take_all c.loop-i.i (table_in c.args.geometry.now (blocks_of c.args.slot.now))
+    (omega (arith, c.requires.table.long, ap (λ (p : Parameters). p.btt) c.numbers-entries.ensures.same)))

@@ -1,0 +1,74 @@
+//! Where an image has each block of memory: one list of numbers, made once from the table of its slot.
+ghost use Rattle.std.specs.Prelude.{◌≡◌, ◌*◌, ◌<◌, ℕ, [], length, IfOk, IfSome};
+ghost use Rattle.thy_base.specs.Geometry.{memory_blocks};
+ghost use Rattle.thy_record.specs.Files.{blocks_of};
+ghost use Rattle.thy_journal_image.specs.Index.{with_block};
+ghost use Rattle.thy_journal_image.specs.Parts.{memory_places};
+ghost use Rattle.thy_journal_image.specs.Places.{slot_blocks};
+ghost use Rattle.thy_journal_image.specs.Slots.{IsTable, table_in};
+
+use crate::places::{home, journal};
+use std::alloc::{AllocError, Global};
+use thy_base::Geometry;
+use thy_record::listed_block;
+
+// All of memory at home.
+fn homes(alloc: Global, geometry: &Geometry) -> Result<Vec<u64>, AllocError>
+    ensures { (s : ℕ) → IfOk result (λ v. v.items ≡ memory_places geometry.now s []) }
+{
+    let blocks = geometry.memory_blocks();
+    let mut index = Vec::with_capacity(alloc, blocks as usize)?;
+    for b in 0..blocks {
+        index.push(home(geometry, b))?;
+    }
+    Ok(index)
+}
+
+// The block that an entry lists, if it lists one, in the journal of slot `s`, 0 or 1.
+fn list_block(index: &mut [u64], s: u64, entry: usize, block: Option<u64>, geometry: &Geometry)
+    requires slot { s < 2 }
+    requires block { IfSome block (λ n. n < memory_blocks geometry.now) }
+    requires entry { entry < geometry.now.btt }
+    requires long { length index.old ≡ memory_blocks geometry.now }
+    ensures { index.new ≡ with_block geometry.now s entry block index.old }
+{
+    match block {
+        Some(block) => {
+            index[block as usize] = journal(geometry, s, entry);
+        }
+        None => {}
+    }
+}
+
+// The blocks that the table of slot `s` lists.
+fn list_blocks(index: &mut [u64], slot: &[u8], s: u64, geometry: &Geometry)
+    requires slot { length slot.now ≡ 64 * slot_blocks geometry.now }
+    requires number { s < 2 }
+    requires table { IsTable geometry.now (table_in geometry.now (blocks_of slot.now)) }
+    requires homes { index.old ≡ memory_places geometry.now s [] }
+    ensures { index.new ≡ memory_places geometry.now s (table_in geometry.now (blocks_of slot.now)) }
+{
+    let entries = geometry.numbers().btt as usize;
+    for i in 0..entries {
+        list_block(index, s, i, listed_block(slot, i, geometry), geometry);
+    }
+}
+
+/// The numbers of the blocks in which the checkpoint of slot `s`, which has these bytes, has memory's blocks, in the order of
+/// these.
+pub(crate) fn places(
+    alloc: Global,
+    slot: &[u8],
+    s: u64,
+    geometry: &Geometry,
+) -> Result<Vec<u64>, AllocError>
+    requires slot { length slot.now ≡ 64 * slot_blocks geometry.now }
+    requires number { s < 2 }
+    requires table { IsTable geometry.now (table_in geometry.now (blocks_of slot.now)) }
+    ensures { IfOk result (λ v.
+        v.items ≡ memory_places geometry.now s (table_in geometry.now (blocks_of slot.now))) }
+{
+    let mut index = homes(alloc, geometry)?;
+    list_blocks(index.as_mut_slice(), slot, s, geometry);
+    Ok(index)
+}

@@ -1,0 +1,173 @@
+//! Saved images of the journal, and refusals of them.
+use crate::calls::{called, expect_on, shelf};
+use std::alloc::{AllocError, Global};
+use std::process::Abort;
+use std::test::Fail;
+use thy_base::Shelf;
+use thy_out::MemShelf;
+
+/// A shelf on which nine stores were run and saved: by the journal under J, by the scheme of both tables under T.
+fn saved(rt: &impl Abort, alloc: Global) -> Result<MemShelf, AllocError> {
+    let mut shelf = shelf(alloc)?;
+    let told = "commit 0 overlapped 0\n\
+         epoch 1 ends at 8 by exhausted 8 8 1\n\
+         commit 1 overlapped 0\n\
+         epoch 2 ends at 11 by end\n\
+         commit 2 overlapped 0\n\
+         exit 0 at 11\n";
+    let line = "thynvm run N --pages 8 --btt 8 --ptt 8 --scheme journal --save J";
+    expect_on(rt, alloc, &mut shelf, line, 0, told)?;
+    let told =
+        "commit 0 overlapped 0\nepoch 1 ends at 11 by end\ncommit 1 overlapped 0\nexit 0 at 11\n";
+    let line = "thynvm run N --pages 8 --btt 16 --ptt 8 --save T";
+    expect_on(rt, alloc, &mut shelf, line, 0, told)?;
+    Ok(shelf)
+}
+
+/// What the shelf has under a name.
+fn held(rt: &impl Abort, alloc: Global, shelf: &mut MemShelf, name: &str) -> Vec<u8> {
+    match shelf.fetch(alloc, name, 67_108_864) {
+        Ok(bytes) => bytes,
+        Err(_) => rt.abort(),
+    }
+}
+
+/// Images that are resumed, with status and report: with the scheme that saved it and with the other, and with other sizes.
+static RESUMES: [(&str, u8, &str); 6] = [
+    (
+        "thynvm resume J --pages 8 --btt 8 --ptt 8 --scheme journal",
+        0,
+        "restart 2 at 11\nexit 0 at 11\n",
+    ),
+    (
+        "thynvm resume J --pages 8 --btt 8 --ptt 8",
+        5,
+        "image 4 Geometry\n",
+    ),
+    (
+        "thynvm resume T --pages 8 --btt 16 --ptt 8",
+        0,
+        "restart 1 at 11\nexit 0 at 11\n",
+    ),
+    (
+        "thynvm resume T --pages 8 --btt 16 --ptt 8 --scheme journal",
+        5,
+        "image 4 Geometry\n",
+    ),
+    (
+        "thynvm resume J --pages 16 --btt 8 --ptt 8 --scheme journal",
+        5,
+        "image 4 Geometry\n",
+    ),
+    (
+        "thynvm resume J --pages 8 --btt 8 --ptt 16 --scheme journal",
+        5,
+        "image 4 Geometry\n",
+    ),
+];
+
+#[test]
+fn an_image_is_resumed_with_its_scheme(rt: HostRuntime) -> Result<(), Fail> {
+    let alloc = rt.alloc();
+    let mut shelf = saved(&rt, alloc)?;
+    for (line, status, report) in &RESUMES {
+        expect_on(&rt, alloc, &mut shelf, line, *status, report)?;
+    }
+    Ok(())
+}
+
+/// The offset of the table of the first slot in bytes, and its first entry: block 436, which the ninth store is to.
+const TABLE: usize = 448;
+
+static ENTRY: [u8; 8] = [0xb5, 0x01, 0, 0, 0, 0, 0, 0];
+
+/// The image with other bytes from one on.
+fn patched(alloc: Global, image: &[u8], at: usize, bytes: &[u8]) -> Result<Vec<u8>, AllocError> {
+    let mut image = Vec::from_slice(alloc, image)?;
+    for (i, byte) in bytes.iter().enumerate() {
+        if let Some(place) = image.get_mut(at.saturating_add(i)) {
+            *place = *byte;
+        }
+    }
+    Ok(image)
+}
+
+/// Bytes of the image that are other ones, with the report: header and its words, commit block, the record of the processor
+/// in the first slot, and the table behind it.
+static PATCHES: [(usize, &[u8], &str); 14] = [
+    (0, b"thyn", "image 2 Header\n"),
+    (8, &[1], "image 3 Version\n"),
+    (8, &[3], "image 3 Version\n"),
+    (40, &[16], "image 4 Geometry\n"),
+    (56, &[0], "image 4 Geometry\n"),
+    (56, &[2], "image 4 Geometry\n"),
+    (64, b"THYNCMT1", "image 5 Commit\n"),
+    (80, &[1], "image 5 Commit\n"),
+    (432, &[3], "image 5 Commit\n"),
+    (456, &[1, 2], "image 6 TableIndex 1\n"),
+    (
+        456,
+        &[0xb5, 0x01, 0, 0, 0, 0, 0, 0],
+        "image 7 TableTwice 0 1\n",
+    ),
+    (416, &[3], "image 9 Status\n"),
+    (400, &[1, 16], "image 10 ConsoleLength\n"),
+    (448, &[1, 2], "image 6 TableIndex 0\n"),
+];
+
+#[test]
+fn each_refusal_of_an_image_has_its_line(rt: HostRuntime) -> Result<(), Fail> {
+    let alloc = rt.alloc();
+    let mut shelf = saved(&rt, alloc)?;
+    let image = held(&rt, alloc, &mut shelf, "J");
+    assert!(rt; image.len() == 64 * 542);
+    assert!(rt; image.get(TABLE..TABLE + 8) == Some(ENTRY.as_slice()));
+    let line = "thynvm resume X --pages 8 --btt 8 --ptt 8 --scheme journal";
+    for (at, bytes, report) in &PATCHES {
+        let other = patched(alloc, image.as_slice(), *at, bytes)?;
+        assert!(rt; shelf.put(alloc, "X", other.as_slice()).is_ok());
+        expect_on(&rt, alloc, &mut shelf, line, 5, report)?;
+    }
+    Ok(())
+}
+
+/// Lengths of an image in bytes that are none of the layout, with the report.
+static LENGTHS: [(usize, &str); 4] = [
+    (0, "image 1 Empty\n"),
+    (127, "image 1 Empty\n"),
+    (34624, "image 4 Geometry\n"),
+    (34687, "image 4 Geometry\n"),
+];
+
+#[test]
+fn an_image_of_another_length_is_refused(rt: HostRuntime) -> Result<(), Fail> {
+    let alloc = rt.alloc();
+    let mut shelf = saved(&rt, alloc)?;
+    let image = held(&rt, alloc, &mut shelf, "J");
+    let line = "thynvm resume X --pages 8 --btt 8 --ptt 8 --scheme journal";
+    for (length, report) in &LENGTHS {
+        let short = image.get(..*length).unwrap_or(&[]);
+        assert!(rt; shelf.put(alloc, "X", short).is_ok());
+        expect_on(&rt, alloc, &mut shelf, line, 5, report)?;
+    }
+    Ok(())
+}
+
+/// A run that is saved at a limit, in cycles of the first commit and of the application behind it, and resumed.
+#[test]
+fn a_run_in_pieces_ends_as_one_run(rt: HostRuntime) -> Result<(), Fail> {
+    let alloc = rt.alloc();
+    for limit in 697..770 {
+        let mut shelf = shelf(alloc)?;
+        let line = format!(in alloc;
+            "thynvm run N --pages 8 --btt 8 --ptt 8 --scheme journal --limit {limit} --tears 7 --save X"
+        )?;
+        let given = called(alloc, line.as_str(), &mut shelf)?;
+        assert!(rt; given.status == 8 || given.status == 0, "{line}");
+        let line = "thynvm resume X --pages 8 --btt 8 --ptt 8 --scheme journal";
+        let given = called(alloc, line, &mut shelf)?;
+        let ends = given.report.as_slice().ends_with(b"\nexit 0 at 11\n");
+        assert!(rt; given.status == 0 && ends, "{limit}");
+    }
+    Ok(())
+}
