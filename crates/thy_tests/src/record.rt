@@ -162,12 +162,36 @@ fn a_header_of_another_machine_is_refused(rt: HostRuntime) {
 
 #[test]
 fn a_commit_block_at_the_ceiling_is_refused(rt: HostRuntime) {
+    let header = header_block(&geometry(&rt, rt.alloc()));
     let commit = commit_block(5);
-    expect(&rt, commit_fault(&commit, 6), None);
-    expect(&rt, commit_fault(&commit, 5), Some(BadImage::Commit));
-    expect(&rt, commit_fault(&Block::ZERO, 6), Some(BadImage::Commit));
+    let bad = Some(BadImage::Commit);
+    expect(&rt, commit_fault(&header, &commit, 6), None);
+    expect(&rt, commit_fault(&header, &commit, 5), bad);
+    expect(&rt, commit_fault(&header, &Block::ZERO, 6), bad);
     for i in 2..8 {
         let other = with_word(commit, i, 1);
-        expect_at(&rt, commit_fault(&other, 6), Some(BadImage::Commit), i);
+        expect_at(&rt, commit_fault(&header, &other, 6), bad, i);
+    }
+}
+
+/// A header's version, the name of a commit block behind it, and whether that is taken: `THYNCMT1` only behind version 1.
+static VERSIONS: [(u64, u64, bool); 7] = [
+    (1, 0x3154_4d43_4e59_4854, true),
+    (1, 0x3254_4d43_4e59_4854, true),
+    (1, 0x3354_4d43_4e59_4854, false),
+    (2, 0x3054_4d43_4e59_4854, false),
+    (2, 0x3154_4d43_4e59_4854, false),
+    (2, 0x3254_4d43_4e59_4854, true),
+    (2, 0x3354_4d43_4e59_4854, false),
+];
+
+#[test]
+fn a_commit_block_is_of_its_headers_version_or_newer(rt: HostRuntime) {
+    let header = header_block(&geometry(&rt, rt.alloc()));
+    for (i, (version, name, is_taken)) in VERSIONS.iter().enumerate() {
+        let header = with_word(header, 1, *version);
+        let commit = with_word(commit_block(5), 0, *name);
+        let fault = commit_fault(&header, &commit, 6);
+        expect_at(&rt, fault.is_none(), *is_taken, i);
     }
 }

@@ -1,5 +1,5 @@
-//! What a boot does: it lists what the committed checkpoint lists, and loads the frames of the listed pages. A layout whose
-//! slots have the counts of pages may list these too.
+//! What a boot does: it lists what the committed checkpoint lists, with the counts of pages if its slot has these, and
+//! loads the frames of the listed pages.
 ghost use Rattle.std.specs.Prelude.{◌≡◌, ◌<◌, OnOk};
 
 use super::Control;

@@ -55,8 +55,8 @@ impl Control {
     ghost use Rattle.thy_control.specs.TableBlocks.{entries_of};
 
     /// Block `k` of what the slot of the checkpoint under way has after the processor's record: the block table and
-    /// after it the page table, eight entries a block. The blocks after them, 64 pages a block, are the counts of the
-    /// epoch before, for a layout whose slots have these.
+    /// after it the page table, eight entries a block, and after them the counts of the epoch before, 64 pages a
+    /// block.
     pub fn table(&self, k: u64) -> Block
         requires { k < table_blocks self.now.p + count_blocks self.now.p }
         ensures tables { k < table_blocks self.now.p → result ≡ table_block_of (tables1 self.now) k }
