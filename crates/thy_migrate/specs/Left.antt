@@ -1,18 +1,18 @@
 -- Part of the claim.
 -- How many actions boot and migration have left, at most.
-use Rattle.std.specs.Prelude.{ℕ, ◌+◌, ◌-◌, if◌then◌else◌, Option, Some, None}
+use Rattle.std.specs.Prelude.{ℕ, ◌+◌, ◌-◌, ◌*◌, Option, Some, None}
 use Rattle.thy_base.specs.declared.block.Block.{Block}
 use Rattle.thy_base.specs.declared.config.Parameters.{Parameters}
 use Rattle.thy_base.specs.declared.form.Form.{Form}
 use Rattle.thy_base.specs.declared.form.Form.TheVariants.{One, Two}
-use Rattle.thy_base.specs.Places.{slot_blocks}
+use Rattle.thy_base.specs.Geometry.{memory_blocks}
+use Rattle.thy_base.specs.Places.{slot_blocks, blocks_of_slot}
 use Rattle.thy_record.specs.Commit.{form_of}
 use Rattle.thy_boot.specs.declared.stage.Stage.{Stage}
 use Rattle.thy_boot.specs.declared.stage.Stage.TheVariants.{Reads, Loads, Over}
 use Rattle.thy_boot.specs.declared.stage.ReadStage.TheVariants.{Unread}
 use Rattle.thy_boot.specs.Boot.{Booting}
-use Rattle.thy_boot.specs.Left.{boot_left}
-use Rattle.thy_recover.specs.Filling.{filling_one}
+use Rattle.thy_boot.specs.Left.{BootNumbers, stage_left}
 use Rattle.thy_migrate.specs.declared.migration.Migration.{Migration}
 use Rattle.thy_migrate.specs.declared.migration.Migration.TheVariants.{Slot, Settle, Commit, Confirm}
 use Rattle.thy_migrate.specs.Migrating.{Recovering}
@@ -27,7 +27,16 @@ migration_left p Settle = 3
 migration_left p Commit = 2
 migration_left p Confirm = 1
 
--- one may follow a boot that has not read the commit block, or has read one of version 1
+-- the numbers of a boot over an image whose commit block names this version
+abbrev pub boot_numbers : Form → Parameters → BootNumbers
+boot_numbers form p = record {
+  memory = memory_blocks p;
+  slot = blocks_of_slot form p;
+  most_slot = slot_blocks p;
+  fills = 64 * p.ptt;
+}
+
+-- a migration may follow a boot that has not read the commit block, or has read one of version 1
 abbrev pub migration_after : Parameters → Form → ℕ
 migration_after p One = most_migration p
 migration_after p Two = 0
@@ -40,7 +49,7 @@ owed_at p commit (Over end) = 0
 
 -- so that many are left
 abbrev pub left_at : Option Migration → Booting → ℕ
-left_at None b = boot_left filling_one b b.stage + owed_at b.p b.commit b.stage
+left_at None b = stage_left (boot_numbers (form_of b.commit) b.p) b.stage + owed_at b.p b.commit b.stage
 left_at (Some at) b = migration_left b.p at
 
 abbrev pub recovery_left : Recovering → ℕ

@@ -14,7 +14,7 @@ use Rattle.thy_boot.specs.declared.stage.Stage.TheVariants.{Over}
 use Rattle.thy_boot.specs.declared.stage.End.TheVariants.{Restored}
 use Rattle.thy_boot.specs.declared.stage.BootStep.{BootStep}
 use Rattle.thy_boot.specs.declared.stage.BootStep.TheVariants.{Reading}
-use Rattle.thy_boot.specs.Boot.{Booting, new_boot, slot_read, answer_of as answer_of_boot}
+use Rattle.thy_boot.specs.Boot.{Booting, empty_boot, slot_read, answer_of as answer_of_boot}
 use Rattle.thy_recover.specs.Filling.{filling_one}
 use Rattle.thy_migrate.specs.declared.migration.Migration.{Migration}
 use Rattle.thy_migrate.specs.declared.migration.Migration.TheVariants.{Slot, Settle, Commit, Confirm}
@@ -24,8 +24,9 @@ pub record Recovering : Type 0 where
   pub boot : Booting
   pub migration : Option Migration
 
+-- of a machine whose power came on
 abbrev pub new_recovery : Parameters → Recovering
-new_recovery p = record { boot = new_boot filling_one p; migration = None }
+new_recovery p = record { boot = empty_boot (slot_blocks p) p; migration = None }
 
 -- one begins if the boot has restored a checkpoint of version 1
 abbrev pub begun_from : Form → Option Migration
