@@ -1,4 +1,4 @@
-//! This scheme's part of the boot: how a slot of version 1 is listed by the controller, how the frames of its pages are
+//! This scheme's part of the boot: how a slot of either version is listed by the controller, how the frames of its pages are
 //! filled, and what a start makes of an empty NVM. The boot itself is thy_boot's, over `filling_one`; the scheme above says
 //! so (`Fills` in thy_dual).
 //!
