@@ -10,8 +10,8 @@ use Rattle.thy_cli.proofs.running.run_by_scheme.Goals as goal
 pub run_source-requires-clause-reads : goal.run_source-requires-clause-reads
 run_source-requires-clause-reads g c = c.requires.thynvm (parameters_of c.args.job.config) c.in-Thynvm.is
 
-pub run_source-in-Journal-requires-clause-reads : goal.run_source-in-Journal-requires-clause-reads
-run_source-in-Journal-requires-clause-reads g c = c.requires.journal (parameters_of c.args.job.config) c.in-Journal.is
+pub run_source-requires-in-Journal-clause-reads : goal.run_source-requires-in-Journal-clause-reads
+run_source-requires-in-Journal-clause-reads g c = c.requires.journal (parameters_of c.args.job.config) c.in-Journal.is
 
 pub returns-in-Thynvm : goal.returns-in-Thynvm
 returns-in-Thynvm g c =

@@ -17,17 +17,17 @@ run_by_scheme-requires-clause-thynvm g c = reads_by _ Thynvm (λ p ceiling image
 pub run_by_scheme-requires-clause-journal : goal.run_by_scheme-requires-clause-journal
 run_by_scheme-requires-clause-journal g c = reads_by _ Journal (λ p ceiling image. refl) (λ p. refl)
 
-pub run_by_scheme-in-Ok-Resume-requires-clause-thynvm : goal.run_by_scheme-in-Ok-Resume-requires-clause-thynvm
-run_by_scheme-in-Ok-Resume-requires-clause-thynvm g c = reads_by _ Thynvm (λ p ceiling image. refl) (λ p. refl)
+pub run_by_scheme-requires-in-Ok-Resume-clause-thynvm : goal.run_by_scheme-requires-in-Ok-Resume-clause-thynvm
+run_by_scheme-requires-in-Ok-Resume-clause-thynvm g c = reads_by _ Thynvm (λ p ceiling image. refl) (λ p. refl)
 
-pub run_by_scheme-in-Ok-Resume-requires-clause-journal : goal.run_by_scheme-in-Ok-Resume-requires-clause-journal
-run_by_scheme-in-Ok-Resume-requires-clause-journal g c = reads_by _ Journal (λ p ceiling image. refl) (λ p. refl)
+pub run_by_scheme-requires-in-Ok-Resume-clause-journal : goal.run_by_scheme-requires-in-Ok-Resume-clause-journal
+run_by_scheme-requires-in-Ok-Resume-clause-journal g c = reads_by _ Journal (λ p ceiling image. refl) (λ p. refl)
 
-pub run_by_scheme-in-Ok-Bench-requires-clause-thynvm : goal.run_by_scheme-in-Ok-Bench-requires-clause-thynvm
-run_by_scheme-in-Ok-Bench-requires-clause-thynvm g c = reads_by _ Thynvm (λ p ceiling image. refl) (λ p. refl)
+pub run_by_scheme-requires-in-Ok-Bench-clause-thynvm : goal.run_by_scheme-requires-in-Ok-Bench-clause-thynvm
+run_by_scheme-requires-in-Ok-Bench-clause-thynvm g c = reads_by _ Thynvm (λ p ceiling image. refl) (λ p. refl)
 
-pub run_by_scheme-in-Ok-Bench-requires-clause-journal : goal.run_by_scheme-in-Ok-Bench-requires-clause-journal
-run_by_scheme-in-Ok-Bench-requires-clause-journal g c = reads_by _ Journal (λ p ceiling image. refl) (λ p. refl)
+pub run_by_scheme-requires-in-Ok-Bench-clause-journal : goal.run_by_scheme-requires-in-Ok-Bench-clause-journal
+run_by_scheme-requires-in-Ok-Bench-clause-journal g c = reads_by _ Journal (λ p ceiling image. refl) (λ p. refl)
 
 pub returns-in-Ok-Run : goal.returns-in-Ok-Run
 returns-in-Ok-Run g c =

@@ -11,8 +11,8 @@ pub state-requires : goal.state-requires
 state-requires c =
     has_thynvm c.args.geometry.now c.args.image.now (sym (ap (λ (p : Parameters). p.scheme) c.numbers.ensures.same) ∙ c.in-Thynvm.is) c.requires
 
-pub state-in-Journal-requires : goal.state-in-Journal-requires
-state-in-Journal-requires c =
+pub state-requires-in-Journal : goal.state-requires-in-Journal
+state-requires-in-Journal c =
     has_journal c.args.geometry.now c.args.image.now (sym (ap (λ (p : Parameters). p.scheme) c.numbers.ensures.same) ∙ c.in-Journal.is) c.requires
 
 pub returns-in-Thynvm : goal.returns-in-Thynvm

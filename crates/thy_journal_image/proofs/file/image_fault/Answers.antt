@@ -30,26 +30,26 @@ pub returns-in-Some : goal.returns-in-Some
 returns-in-Some c =
     file_header c.args.geometry.now c.args.ceiling c.args.image.now c.in-Some.bad
     (c.in-Some.ensures ∙ header_same c.args.geometry.now c.args.image.now c.block_in.result _ c.requires.some c.block_in.ensures
-    (sized_is c.args.geometry.now c.args.image.now c.blocks.result c.blocks.ensures.blocks))
+    (sized_is c.args.geometry.now c.args.image.now c.blocks-2.result c.blocks-2.ensures.blocks))
 
 pub returns-in-Some-commit_fault : goal.returns-in-Some-commit_fault
 returns-in-Some-commit_fault c =
     file_commit c.args.geometry.now c.args.ceiling c.args.image.now c.in-Some-commit_fault.bad
     (c.in_default.ensures ∙ header_same c.args.geometry.now c.args.image.now c.block_in.result _ c.requires.some c.block_in.ensures
-    (sized_is c.args.geometry.now c.args.image.now c.blocks.result c.blocks.ensures.blocks))
+    (sized_is c.args.geometry.now c.args.image.now c.blocks-2.result c.blocks-2.ensures.blocks))
     (c.in-Some-commit_fault.ensures ∙ ap (λ b. commit_fault b c.args.ceiling) c.requires.commit)
 
 pub slot_in-requires : goal.slot_in-requires
 slot_in-requires c =
     header_fault-sized (block_at (blocks_of c.args.image.now) 0) c.args.geometry.now c.args.image.now
     (sym (c.in_default.ensures ∙ header_same c.args.geometry.now c.args.image.now c.block_in.result _ c.requires.some c.block_in.ensures
-    (sized_is c.args.geometry.now c.args.image.now c.blocks.result c.blocks.ensures.blocks)))
+    (sized_is c.args.geometry.now c.args.image.now c.blocks-2.result c.blocks-2.ensures.blocks)))
 
 pub returns : goal.returns
 returns c =
     file_slot c.args.geometry.now c.args.ceiling c.args.image.now c.slot_fault.result
     (c.in_default.ensures ∙ header_same c.args.geometry.now c.args.image.now c.block_in.result _ c.requires.some c.block_in.ensures
-    (sized_is c.args.geometry.now c.args.image.now c.blocks.result c.blocks.ensures.blocks))
+    (sized_is c.args.geometry.now c.args.image.now c.blocks-2.result c.blocks-2.ensures.blocks))
     (c.in_default-commit_fault.ensures ∙ ap (λ b. commit_fault b c.args.ceiling) c.requires.commit)
     (c.slot_fault.ensures
     ∙ ap (slot_fault c.args.geometry.now c.args.ceiling c.word-epoch.result) c.slot_in.ensures.slot
