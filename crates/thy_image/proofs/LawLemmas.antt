@@ -1,5 +1,5 @@
 -- What holds of files, scheme by scheme.
-use Rattle.std.proofs.Common.{◌≡◌, ℕ, ◌-◌, ◌≤◌, List, ◌++◌, length, replicate, Ok, sym, ◌∙◌, ap}
+use Rattle.std.proofs.Common.{◌≡◌, ℕ, ◌-◌, ◌<◌, ◌≤◌, List, ◌++◌, length, replicate, Ok, sym, ◌∙◌, ap, arith}
 use Rattle.std.specs.List.{All}
 use Rattle.thy_base.specs.declared.config.Parameters.{Parameters}
 use Rattle.thy_base.specs.declared.config.SchemeName.{SchemeName}
@@ -17,6 +17,15 @@ use Rattle.thy_image.specs.Saved.{HasCheckpoint, HasState, AreOfCheckpoint, CanB
 use Rattle.thy_image.proofs.BlockLemmas.{AllLong-blocks_of, found_at}
 use Rattle.thy_image.proofs.ThynvmLemmas.{thynvm_few, thynvm_decodes, thynvm_state, thynvm_begins}
 use Rattle.thy_image.proofs.JournalLemmas.{journal_few, journal_decodes, journal_begins}
+
+-- ---- an image has blocks
+
+some_by_scheme : (scheme : SchemeName) (p : Parameters) → 0 < blocks_by_scheme scheme p
+some_by_scheme Thynvm p = omega arith
+some_by_scheme Journal p = omega arith
+
+pub some_blocks : (p : Parameters) → 0 < blocks_by_scheme p.scheme p
+some_blocks p = some_by_scheme p.scheme p
 
 -- ---- the blocks of a file are an image
 

@@ -2,6 +2,7 @@ use Rattle.std.proofs.Common.{◌≡◌, ap, subst, sym, refl, inl, inr, ◌∙�
 use Rattle.thy_base.specs.declared.config.Config.{Config}
 use Rattle.thy_base.specs.declared.nvm.Shape.{Shape}
 use Rattle.thy_base.specs.Device.{Device, fitted}
+use Rattle.thy_image.proofs.LawLemmas.{some_blocks}
 use Rattle.thy_cli.specs.declared.refusal.Refusal.TheVariants.{Device as DeviceRefusal}
 use Rattle.thy_cli.specs.Answering.{Outside, outside, shape_for}
 use Rattle.thy_cli.specs.Planning.{named}
@@ -10,7 +11,9 @@ use Rattle.thy_cli.proofs.TopLemmas.{fitted_for_plan, shape_planned}
 use Rattle.thy_cli.proofs.running.run_direct.Goals as goal
 
 pub fit-requires-clause-blocks : goal.fit-requires-clause-blocks
-fit-requires-clause-blocks g c = omega (arith, ap (λ (s : Shape). s.blocks) c.shape_of-shape.ensures.shape ∙ c.requires.reads.blocks)
+fit-requires-clause-blocks g c =
+    let some = some_blocks c.args.plan.now.geometry in
+    omega (arith, some, ap (λ (s : Shape). s.blocks) c.shape_of-shape.ensures.shape ∙ c.requires.reads.blocks)
 
 pub fit-requires-clause-start : goal.fit-requires-clause-start
 fit-requires-clause-start g c =

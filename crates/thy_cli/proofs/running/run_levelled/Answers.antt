@@ -10,6 +10,7 @@ use Rattle.thy_gap.specs.Levelled.{Levelled, over, inner_fitted}
 use Rattle.thy_gap.specs.Lines.{no_lines}
 use Rattle.thy_gap.specs.Seen.{seen}
 use Rattle.thy_gap.proofs.SeenLemmas.{length-unmap}
+use Rattle.thy_image.proofs.LawLemmas.{some_blocks}
 use Rattle.thy_cli.specs.declared.refusal.Refusal.TheVariants.{Device as DeviceRefusal}
 use Rattle.thy_cli.specs.Answering.{Outside, outside, shape_for}
 use Rattle.thy_cli.specs.Levelling.{IsFoundAs, IsLeftAs}
@@ -19,7 +20,9 @@ use Rattle.thy_cli.proofs.TopLemmas.{fitted_for_plan, shape_planned}
 use Rattle.thy_cli.proofs.running.run_levelled.Goals as goal
 
 pub fit-requires-clause-blocks : goal.fit-requires-clause-blocks
-fit-requires-clause-blocks g c = omega (arith, ap (λ (s : Shape). s.blocks) c.shape_of-shape.ensures.shape ∙ c.requires.reads.blocks)
+fit-requires-clause-blocks g c =
+    let some = some_blocks c.args.plan.now.geometry in
+    omega (arith, some, ap (λ (s : Shape). s.blocks) c.shape_of-shape.ensures.shape ∙ c.requires.reads.blocks)
 
 pub fit-requires-clause-start : goal.fit-requires-clause-start
 fit-requires-clause-start g c =
@@ -79,7 +82,8 @@ returns-in-Ok g c = λ job names p.
     let some : 0 < job.config.gap = subst (λ (x : Config). 0 < x.gap) p.config c.requires.levelled in
     let fit : seen c.fit.new.self.registers (lent_by filled.ghost_name (g.N.Nvm.device filled.now)) ≡ fitted (shape_for K job.config) c.args.blocks.now found =
     c.in-Ok.ensures.ok ∙ ap (λ s. fitted s c.args.blocks.now found) (c.shape_of-shape.ensures.shape ∙ shape_planned K (named c.args.source) job before.shelf c.args.plan.now c.args.blocks.now p) in
-    let blocks : 0 < c.shape_of-shape.result.blocks = omega (arith, ap (λ (s : Shape). s.blocks) c.shape_of-shape.ensures.shape ∙ c.requires.reads.blocks) in
+    let blocks : 0 < c.shape_of-shape.result.blocks =
+    (let has = some_blocks c.args.plan.now.geometry in omega (arith, has, ap (λ (s : Shape). s.blocks) c.shape_of-shape.ensures.shape ∙ c.requires.reads.blocks)) in
     let many : c.fit.new.self.registers.lines ≡ c.shape_of-shape.result.blocks = ap (λ l. l.registers.lines) c.in-Ok.ensures.fitted in
     let lines : 0 < length left.image =
     omega (arith, blocks, many, c.run_fitted-answer.ensures.stays.blocks, length-unmap c.fit.new.self.registers (g.N.Nvm.device filled.now).image) in
