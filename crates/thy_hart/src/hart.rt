@@ -127,7 +127,10 @@ impl Hart {
         ensures cause { CountsFault result (S.holding store.old nvm.old).faults (S.holding store.new nvm.new).faults }
     {
         match self.parts.next(cache) {
-            Next::Act(place) => Ok(self.parts.act::<N>(cache, place, free, under_way, input)),
+            Next::Act(place) => Ok(
+                self.parts
+                    .act::<(N, S)>(cache, place, free, under_way, input),
+            ),
             Next::Bring(b) => match bring(cache, b, store, nvm) {
                 Ok(()) => Ok(HartStep::Moved),
                 Err(fault) => Err(fault),

@@ -76,8 +76,8 @@ fn blocks_of(span: Span) -> u64
     if span.rest().is_empty() { 1 } else { 2 }
 }
 
-// The micro-steps take the device's type `N`, which none of them uses: so the compiler has a copy of them for each device,
-// called from one place, and makes it part of the loop over cycles.
+// The micro-steps take a type `N`, which none of them uses: that of device and store together. So the compiler has a copy of
+// them for each device and scheme, called from one place, and makes it part of the loop over cycles.
 impl Parts {
     /// The block that the next micro-step reads or writes, if it does.
     fn next_block(&self) -> Option<u64>
