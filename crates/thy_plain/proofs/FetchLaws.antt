@@ -1,13 +1,10 @@
--- A word that can be fetched lies within memory, and so does what an effect reads or writes once it is tested.
-use Rattle.std.proofs.Common.{◌≡◌, ℕ, ◌+◌, ◌%◌, ◌≤◌, ◌==◌, Bool, true, false, if◌then◌else◌, Option, Some, None, refl, sym, ap, subst, ◌∙◌}
+-- A word that can be fetched lies within memory.
+use Rattle.std.proofs.Common.{◌≡◌, ℕ, ◌+◌, ◌%◌, ◌≤◌, ◌==◌, Bool, true, false, if◌then◌else◌, Option, Some, None, refl, sym, ◌∙◌}
 use Rattle.thy_base.specs.Inside.{is_inside}
 use Rattle.thy_base.proofs.InsideLemmas.{is_inside-true}
 use Rattle.thy_isa.specs.declared.state.Cause.{Cause}
 use Rattle.thy_isa.specs.declared.state.Cause.TheVariants.{FetchMisaligned, FetchAccess}
-use Rattle.thy_isa.specs.declared.state.Effect.{Effect}
-use Rattle.thy_isa.specs.Access.{IsWithin}
-use Rattle.thy_isa.specs.Step.{fetch_fault, within}
-use Rattle.thy_isa.proofs.AccessLaws.{within-is}
+use Rattle.thy_isa.specs.Step.{fetch_fault}
 
 -- the four bytes from pc on lie within a memory of that base and size
 pub record IsFetched (base size pc : ℕ) : Type 0 where
@@ -25,8 +22,3 @@ unfolding fetch_fault
 no_fault base size pc fault is none =
     let bounds = is_inside-true base size pc 4 (fetched_none (pc % 4 == 0) (is_inside base size pc 4) (sym is ∙ none)) in
     record { low = bounds.0; high = bounds.1 }
-
--- an effect that was tested
-pub tested_within : (base size tested_size : ℕ) (e tested : Effect) → tested_size ≡ size → tested ≡ within base tested_size e → IsWithin base size tested
-tested_within base size tested_size e tested same is =
-    subst (IsWithin base size) (sym (is ∙ ap (λ (n : ℕ). within base n e) same)) (within-is base size e)

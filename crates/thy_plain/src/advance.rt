@@ -1,40 +1,36 @@
 //! One instruction, in place.
-#![tactic(auto, unfolding(thy_isa::specs::Step::performed, thy_isa::specs::Step::effect_at, thy_isa::specs::Step::read_by, thy_isa::specs::Step::memory_by, thy_isa::specs::Step::console_by, thy_isa::specs::Step::memory_served, thy_isa::specs::Step::console_served, thy_isa::specs::Step::served, thy_isa::specs::Step::finished, thy_isa::specs::Step::step, thy_isa::specs::Step::advanced, thy_base::specs::LittleEndian::number_bytes))]
+#![tactic(auto, unfolding(thy_isa::specs::Step::performed, thy_isa::specs::Step::within, thy_isa::specs::Step::effect_at, thy_isa::specs::Step::read_by, thy_isa::specs::Step::memory_by, thy_isa::specs::Step::console_by, thy_isa::specs::Step::memory_served, thy_isa::specs::Step::console_served, thy_isa::specs::Step::served, thy_isa::specs::Step::finished, thy_isa::specs::Step::step, thy_isa::specs::Step::advanced, thy_base::specs::LittleEndian::number_bytes))]
 
 ghost use Rattle.std.specs.Prelude.{◌≡◌, ◌+◌, ◌<◌, ◌≤◌, ◌^◌, ◌++◌, length, take, drop};
 ghost use Rattle.thy_base.specs.Bytes.{bytes_of, room_of, written};
 ghost use Rattle.thy_base.specs.LittleEndian.{number_bytes};
 ghost use Rattle.thy_isa.specs.declared.state.Effect.TheVariants.{Environment};
-ghost use Rattle.thy_isa.specs.Access.{IsWithin};
+ghost use Rattle.thy_isa.specs.declared.state.Status.TheVariants.{Trapped};
 ghost use Rattle.thy_isa.specs.Effects.{size_of, after};
 ghost use Rattle.thy_isa.specs.Regs.{regs_with};
-ghost use Rattle.thy_isa.specs.Step.{state_of, call_state_of, effect_at, performed, is_running, step};
+ghost use Rattle.thy_isa.specs.Step.{state_of, call_state_of, cause_number, within, performed, advanced, is_running, step};
 ghost use Rattle.thy_plain.specs.Machine.{setting_of};
 
 use crate::setup::Setup;
-use thy_base::Bytes;
+use thy_base::{Bytes, is_inside};
 use thy_isa::{
-    Call, CallState, Effect, MachState, Reg, Status, Width, after, call, cause_number, extended,
-    fetch_fault, number, within, word, word_effect,
+    Call, CallState, Cause, Effect, MachState, Reg, Status, Width, after, bytes_in, call,
+    cause_number, extended, fetch_fault, number, word, word_effect,
 };
 
 /// The register of an environment call's result.
 const A0: u8 = 10;
 
-/// What the instruction at the program counter does.
-fn next_effect(state: &MachState, base: u64) -> Effect
-    ensures effect { result ≡ effect_at base (state_of state.now) }
-    ensures inside { IsWithin base (length (bytes_of state.now.memory)) result }
+/// Ends the program by a trap, which changes nothing else.
+fn trap(state: &mut MachState, cause: Cause)
+    requires { state.old.count < 2 ^ 63 }
+    ensures { state.new ≡ record state.old {
+      count = state.old.count + 1;
+      status = Trapped (cause_number cause);
+    } }
 {
-    let size = state.memory.len() as u64;
-    match fetch_fault(base, size, state.pc) {
-        Some(cause) => Effect::Trap(cause),
-        None => {
-            let at = (state.pc - base) as usize;
-            let word = word(state.memory.as_slice(), at);
-            within(base, size, word_effect(word, state.pc, &state.regs))
-        }
-    }
+    state.status = Status::Trapped(cause_number(cause));
+    state.count += 1;
 }
 
 /// Writes the low bytes of a number from index `at` on.
@@ -136,14 +132,16 @@ fn serve(state: &mut MachState, setup: &Setup)
     }
 }
 
-/// Does what an instruction does, to a state that runs.
+/// Does what an instruction does, to a state that runs. A load or a store outside memory traps: this is tested where
+/// each is done, so that an effect is matched only once.
 fn perform(state: &mut MachState, setup: &Setup, effect: Effect)
     requires count { state.old.count < 2 ^ 63 }
     requires room { setup.now.room ≤ room_of state.old.console }
-    requires inside { IsWithin setup.now.base (length (bytes_of state.old.memory)) effect }
-    ensures state { state_of state.new ≡ performed (setting_of setup.now) (state_of state.old) effect }
+    ensures state { state_of state.new ≡ performed (setting_of setup.now) (state_of state.old)
+        (within setup.now.base (length (bytes_of state.old.memory)) effect) }
     ensures room { room_of state.old.console ≤ room_of state.new.console }
 {
+    let size = state.memory.len() as u64;
     match effect {
         Effect::Next { pc } => {
             state.pc = pc;
@@ -161,10 +159,14 @@ fn perform(state: &mut MachState, setup: &Setup, effect: Effect)
             extend,
             rd,
         } => {
-            let value = number(state.memory.as_slice(), (at - setup.base) as usize, width);
-            state.regs.set(rd, extended(width, extend, value));
-            state.pc = pc;
-            state.count += 1;
+            if is_inside(setup.base, size, at, bytes_in(width)) {
+                let value = number(state.memory.as_slice(), (at - setup.base) as usize, width);
+                state.regs.set(rd, extended(width, extend, value));
+                state.pc = pc;
+                state.count += 1;
+            } else {
+                trap(state, Cause::LoadAccess);
+            }
         }
         Effect::Write {
             pc,
@@ -172,14 +174,33 @@ fn perform(state: &mut MachState, setup: &Setup, effect: Effect)
             width,
             value,
         } => {
-            write_number(&mut state.memory, (at - setup.base) as usize, width, value);
-            state.pc = pc;
-            state.count += 1;
+            if is_inside(setup.base, size, at, bytes_in(width)) {
+                write_number(&mut state.memory, (at - setup.base) as usize, width, value);
+                state.pc = pc;
+                state.count += 1;
+            } else {
+                trap(state, Cause::StoreAccess);
+            }
         }
         Effect::Environment => serve(state, setup),
-        Effect::Trap(cause) => {
-            state.status = Status::Trapped(cause_number(cause));
-            state.count += 1;
+        Effect::Trap(cause) => trap(state, cause),
+    }
+}
+
+/// Executes the instruction at the program counter of a state that runs.
+fn advance(state: &mut MachState, setup: &Setup)
+    requires count { state.old.count < 2 ^ 63 }
+    requires room { setup.now.room ≤ room_of state.old.console }
+    ensures state { state_of state.new ≡ advanced (setting_of setup.now) (state_of state.old) }
+    ensures room { room_of state.old.console ≤ room_of state.new.console }
+{
+    match fetch_fault(setup.base, state.memory.len() as u64, state.pc) {
+        Some(cause) => trap(state, cause),
+        None => {
+            let at = (state.pc - setup.base) as usize;
+            let word = word(state.memory.as_slice(), at);
+            let effect = word_effect(word, state.pc, &state.regs);
+            perform(state, setup, effect);
         }
     }
 }
@@ -202,7 +223,6 @@ pub(crate) fn take_step(state: &mut MachState, setup: &Setup)
     ensures room { room_of state.old.console ≤ room_of state.new.console }
 {
     if runs(state.status) {
-        let effect = next_effect(state, setup.base);
-        perform(state, setup, effect);
+        advance(state, setup);
     }
 }
