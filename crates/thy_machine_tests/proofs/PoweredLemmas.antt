@@ -73,14 +73,14 @@ fits K laws o shape n file blocks = record {
 -- power comes on for the first time
 pub IsPowered-first : {M : Type 0} (K : KindOf M) (laws : IsLawful K) → (p : Parameters) (start : Start) (m : M) (shape : Shape) (before n : Device)
     → IsOrigin (origin_from p start) → start.kept ≡ None → K.powered p m
-    → shape.blocks ≡ K.blocks p → shape.cuts ≡ 1 → n ≡ fitted shape [] before
-    → IsPowered K (powered p start m n 0 1)
-IsPowered-first K laws p start m shape before n origin file new blocks cuts is =
+    → shape.blocks ≡ K.blocks p → n ≡ fitted shape [] before
+    → IsPowered K (powered p start m n 0 shape.cuts)
+IsPowered-first K laws p start m shape before n origin file new blocks is =
     let o : Origin = origin_from p start in
-    subst (λ (d : Device). IsPowered K (powered p start m d 0 1)) (sym is) (record {
+    subst (λ (d : Device). IsPowered K (powered p start m d 0 shape.cuts)) (sym is) (record {
       at_moment = (laws.begins o m shape [] before origin new (fits K laws o shape before file blocks)).0;
       few = omega arith;
-      room = omega (arith, cuts);
+      room = omega arith;
     })
 
 -- a cycle is done

@@ -7,6 +7,7 @@ ghost use Rattle.thy_view.specs.Origin.{IsOrigin};
 ghost use Rattle.thy_view.specs.Kind.{IsDramOf};
 ghost use Rattle.thy_machine_tests.specs.Powered.{origin_from};
 
+mod journal;
 mod waiting;
 
 use crate::expect::{expect, expect_at};
@@ -30,6 +31,8 @@ struct Row {
     words: &'static [u32],
     /// How many instructions an epoch has.
     epoch: u64,
+    /// The sets of the cache, and the lines of each.
+    cache: (u64, u64),
     /// The count at the end of each epoch, and why it ends there.
     ends: &'static [(u64, EndCause)],
     /// How many instructions are retired while each checkpoint is under way, by the schedule of seed 0.
@@ -43,6 +46,7 @@ struct Row {
 static EPOCH_OF_ONE: Row = Row {
     words: &[0x00500513, 0x00150513, 0x05d00893, 0x00000073],
     epoch: 1,
+    cache: (16, 4),
     ends: &[
         (1, EndCause::Length),
         (2, EndCause::Length),
@@ -61,6 +65,7 @@ static NINE_STORES: Row = Row {
         0xe4013023, 0xe0013023, 0x05d00893, 0x00000073,
     ],
     epoch: 10000,
+    cache: (16, 4),
     ends: &[
         (
             8,
@@ -87,20 +92,21 @@ static NINE_STORES: Row = Row {
 /// A run has fewer cycles than this between two cuts.
 const MOST: u64 = 5000;
 
-/// The least memory, with the least tables.
-fn numbers_of(epoch: u64, mix: u64) -> Parameters
+/// The least memory, with the least tables, for a row and a schedule.
+fn numbers_of(row: &Row, mix: u64) -> Parameters
     ensures pages { result.pages ≡ 8 }
     ensures console { result.console ≡ 1 }
 {
+    let (sets, ways) = row.cache;
     Parameters {
         base: 65536,
         pages: 8,
         console: 1,
-        epoch,
+        epoch: row.epoch,
         btt: 8,
         ptt: 8,
-        sets: 16,
-        ways: 4,
+        sets,
+        ways,
         nvmq: 16,
         dramq: 16,
         high: 22,
@@ -161,14 +167,19 @@ impl<M: Computer> Model for Powered<M> {
 }
 
 impl<M: Computer> Powered<M> {
-    /// A machine that was never on, at the start of a row's program, with the schedule of a seed.
+    /// A machine that was never on, at the start of a row's program, with the schedule of a seed and one cut to come.
     fn new(rt: &impl Abort, alloc: Global, row: &Row, seed: u64) -> Powered<M> {
-        let geometry = geometry_of(rt, alloc, &numbers_of(row.epoch, seed));
+        Powered::lasting(rt, alloc, row, seed, 1)
+    }
+
+    /// The same with so many cuts to come at most.
+    fn lasting(rt: &impl Abort, alloc: Global, row: &Row, seed: u64, cuts: u64) -> Powered<M> {
+        let geometry = geometry_of(rt, alloc, &numbers_of(row, seed));
         let start = start_for(rt, alloc, &geometry, row.words);
         let shape = Shape {
             blocks: M::nvm_blocks(&geometry),
             queue: geometry.numbers().nvmq,
-            cuts: 1,
+            cuts,
         };
         assert!(rt; shape.blocks > 0);
         let mut nvm = MemNvm::new(alloc);
@@ -182,7 +193,7 @@ impl<M: Computer> Powered<M> {
             nvm,
             mix: Mix::new(seed),
             cycles: 0,
-            cuts: 1,
+            cuts,
         }
     }
 
@@ -504,13 +515,28 @@ fn cut<M: Computer>(
     expect_at(rt, whole.may_leave(booted.found, at, pick), true, at);
     let mark = booted.found.unwrap_or(Mark { epoch: 0, count: 0 });
     stands(rt, alloc, &mut on, plains, mark.count, at);
-    let mut story = Story::from(alloc, mark.epoch);
-    finished(rt, &mut on, &mut story, booted.ended);
-    let epoch = mark.epoch as usize;
-    let inside = epoch <= row.ends.len();
+    ends_from(rt, alloc, row, plains, &mut on, booted, at);
+}
+
+/// Takes cycles to the program's end, after a boot with this result, and compares the ends of the epochs and the last
+/// state with the row's and the plain machine's.
+fn ends_from<M: Computer>(
+    rt: &impl Abort,
+    alloc: Global,
+    row: &Row,
+    plains: &[Plain],
+    on: &mut Powered<M>,
+    booted: Booted,
+    at: u64,
+) {
+    let epoch = booted.found.map_or(0, |mark| mark.epoch);
+    let mut story = Story::from(alloc, epoch);
+    finished(rt, on, &mut story, booted.ended);
+    let done = epoch as usize;
+    let inside = done <= row.ends.len();
     assert!(rt; inside);
-    expect_at(rt, story.ends.as_slice(), &row.ends[epoch..], at);
-    stands(rt, alloc, &mut on, plains, last(plains), at);
+    expect_at(rt, story.ends.as_slice(), &row.ends[done..], at);
+    stands(rt, alloc, on, plains, last(plains), at);
 }
 
 /// Runs a row's program by the schedule of a seed, without cuts and then with a cut after each cycle but the last, with
@@ -522,6 +548,26 @@ fn survives<M: Computer>(rt: &impl Abort, alloc: Global, row: &Row, seed: u64) {
     let mut draws = Lcg::new(seed);
     for at in 0..whole.cycles {
         for pick in [0, 1, draws.next()] {
+            cut::<M>(rt, alloc, row, seed, &plains, &whole, at, pick);
+        }
+    }
+}
+
+/// The cycle in which the checkpoint of this epoch was committed in a run without cuts.
+fn committed_in(rt: &impl Abort, whole: &Whole, epoch: usize) -> u64 {
+    match whole.checkpoints.get(epoch) {
+        Some(checkpoint) => checkpoint.committed,
+        None => panic!(rt; "no checkpoint"),
+    }
+}
+
+/// Runs a row's program by the schedule of a seed, without cuts and then with a cut after each cycle of its epochs but the
+/// last, with three picks.
+fn survives_once_loaded<M: Computer>(rt: &impl Abort, alloc: Global, row: &Row, seed: u64) {
+    let plains = plain_machines(rt, alloc, row);
+    let whole = uncut::<M>(rt, alloc, row, seed, &plains);
+    for at in committed_in(rt, &whole, 0)..whole.cycles {
+        for pick in [0, 1, 7] {
             cut::<M>(rt, alloc, row, seed, &plains, &whole, at, pick);
         }
     }

@@ -1,7 +1,9 @@
 //! The machine over the scheme that waits: a program of two epochs, cut after every cycle, and how many barriers come
 //! before the hart continues.
 use crate::expect::{expect, expect_at};
-use crate::machine::{Booted, MOST, Powered, Row, Whole, boot, cut, plain_machines, uncut};
+use crate::machine::{
+    Booted, MOST, Powered, Row, boot, committed_in, plain_machines, survives_once_loaded, uncut,
+};
 use std::alloc::Global;
 use std::process::Abort;
 use thy_base::EndCause;
@@ -13,12 +15,13 @@ use thy_waiting::WaitingScheme;
 
 /// `auipc a1,0; addi a1,a1,32; addi a0,zero,1; addi a2,zero,3; addi a7,zero,64; ecall`, which prints three bytes;
 /// `addi a7,zero,93; ecall`; and the bytes, `Hi` and a line feed. It prints in its first epoch, and ends in its second.
-static TWO_EPOCHS: Row = Row {
+pub(super) static TWO_EPOCHS: Row = Row {
     words: &[
         0x00000597, 0x02058593, 0x00100513, 0x00300613, 0x04000893, 0x00000073, 0x05d00893,
         0x00000073, 0x000a6948,
     ],
     epoch: 6,
+    cache: (16, 4),
     ends: &[(6, EndCause::Length), (8, EndCause::Ended)],
     overlapped: &[0, 0],
     status: Status::Exited(3),
@@ -102,14 +105,6 @@ fn barriers(rt: &impl Abort, alloc: Global, on: &mut Powered<Machine<WaitingSche
     panic!(rt; "no end")
 }
 
-/// The cycle in which the checkpoint of this epoch was committed in a run without cuts.
-fn committed_in(rt: &impl Abort, whole: &Whole, epoch: usize) -> u64 {
-    match whole.checkpoints.get(epoch) {
-        Some(checkpoint) => checkpoint.committed,
-        None => panic!(rt; "no checkpoint"),
-    }
-}
-
 /// Counts them in a run without cuts by the schedule of a seed, and after a cut in each of its epochs.
 fn three_each(rt: &impl Abort, alloc: Global, seed: u64) {
     let plains = plain_machines(rt, alloc, &TWO_EPOCHS);
@@ -128,18 +123,6 @@ fn three_each(rt: &impl Abort, alloc: Global, seed: u64) {
     }
 }
 
-/// Runs the program by the schedule of a seed, without cuts and then with a cut after each cycle of its epochs but the
-/// last, with three picks.
-fn survives_each_cut(rt: &impl Abort, alloc: Global, seed: u64) {
-    let plains = plain_machines(rt, alloc, &TWO_EPOCHS);
-    let whole = uncut::<Machine<WaitingScheme>>(rt, alloc, &TWO_EPOCHS, seed, &plains);
-    for at in committed_in(rt, &whole, 0)..whole.cycles {
-        for pick in [0, 1, 7] {
-            cut::<Machine<WaitingScheme>>(rt, alloc, &TWO_EPOCHS, seed, &plains, &whole, at, pick);
-        }
-    }
-}
-
 #[test]
 fn three_barriers_come_behind_each_commit_and_restart(rt: HostRuntime) {
     for seed in 0..8 {
@@ -150,6 +133,6 @@ fn three_barriers_come_behind_each_commit_and_restart(rt: HostRuntime) {
 #[test]
 fn two_epochs_over_the_scheme_that_waits_survive_every_cut(rt: HostRuntime) {
     for seed in 0..8 {
-        survives_each_cut(&rt, rt.alloc(), seed);
+        survives_once_loaded::<Machine<WaitingScheme>>(&rt, rt.alloc(), &TWO_EPOCHS, seed);
     }
 }

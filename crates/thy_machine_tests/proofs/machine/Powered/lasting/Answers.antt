@@ -1,17 +1,17 @@
-use Rattle.std.proofs.Common.{◌≡◌, IfOk, OnOk, [], refl, subst}
+use Rattle.std.proofs.Common.{◌≡◌, IfOk, OnOk, [], subst}
 use Rattle.thy_base.specs.declared.config.Parameters.{Parameters}
 use Rattle.thy_base.specs.declared.nvm.Shape.{Shape}
 use Rattle.thy_base.specs.Device.{Device, fitted}
 use Rattle.thy_machine_tests.proofs.PoweredLemmas.{IsPowered-first}
-use Rattle.thy_machine_tests.proofs.machine.Powered.new.Goals as goal
+use Rattle.thy_machine_tests.proofs.machine.Powered.lasting.Goals as goal
 
 pub invariant_of-result : goal.invariant_of-result
 invariant_of-result g c =
     let p : Parameters = c.geometry_of-geometry.result in
-    let shape : Shape = record { blocks = c.nvm_blocks.result; queue = c.numbers.result.nvmq; cuts = 1 } in
+    let shape : Shape = record { blocks = c.nvm_blocks.result; queue = c.numbers.result.nvmq; cuts = c.args.cuts } in
     let before : Device = c.new-nvm.result.device in
     let n : Device = c.fit.new.self.device in
     IsPowered-first g.M.Computer.kind g.met.M.Computer.lawful p c.start_for-start.result c.expect-machine.result shape before n
     c.start_for-start.ensures.origin c.start_for-start.ensures.made
     (subst (λ r. IfOk r (λ m. g.M.Computer.kind.powered p m)) c.expect-machine.ensures c.power_on.ensures.powered)
-    c.nvm_blocks.ensures refl (subst (λ r. OnOk r (n ≡ fitted shape [] before)) c.expect.ensures c.fit.ensures.ok)
+    c.nvm_blocks.ensures (subst (λ r. OnOk r (n ≡ fitted shape [] before)) c.expect.ensures c.fit.ensures.ok)
